@@ -1,0 +1,12 @@
+pub mod RingLaws
+pub mod Ring
+pub mod Combine
+pub mod Powers
+pub mod Lists
+pub mod Values
+pub mod Division
+pub mod Roots
+pub mod Interpolation
+pub mod Digits
+pub mod Points
+pub mod Primes

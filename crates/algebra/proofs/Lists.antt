@@ -1,0 +1,93 @@
+-- Lists of points: each, distinct ones, and lists by index.
+use Rattle.std.proofs.Common.{◌≡◌, ◌≢◌, ℕ, zero, suc, ◌<◌, List, [], ◌∷◌, length, map, refl, sym, ap, ap₂, arith, All, slice_index_or, get_or}
+use Rattle.algebra.specs.Polynomial.{row}
+use Rattle.algebra.specs.Interpolation.{AreDistinct}
+
+-- `P` of each of `xs`, by recursion
+abbrev pub Each : {A : Type 0} → (A → Type 0) → List A → Type 0
+Each P [] = Unit
+Each P (x ∷ xs) = P x × Each P xs
+
+-- `x` is none of `xs`
+abbrev pub Off : {A : Type 0} → A → List A → Type 0
+Off x [] = Unit
+Off x (y ∷ ys) = ¬ (y ≡ x) × Off x ys
+
+-- no two of `xs` are equal, by recursion
+abbrev pub Distinct : {A : Type 0} → List A → Type 0
+Distinct [] = Unit
+Distinct (x ∷ xs) = Off x xs × Distinct xs
+
+pub head_eq : {A : Type 0} {a b : A} {p q : List A} → a ∷ p ≡ b ∷ q → a ≡ b
+head_eq e = cc
+
+pub tail_eq : {A : Type 0} {a b : A} {p q : List A} → a ∷ p ≡ b ∷ q → p ≡ q
+tail_eq e = cc
+
+pub map-each : {A B : Type 0} (f g : A → B) (xs : List A) → map f xs ≡ map g xs → Each (λ x. f x ≡ g x) xs
+map-each f g [] e = tt
+map-each f g (x ∷ xs) e = (head_eq e, map-each f g xs (tail_eq e))
+
+-- std's word gives the recursive one
+pub each_from_All : {A : Type 0} (P : A → Type 0) (xs : List A) → All P xs → Each P xs
+each_from_All P [] h = tt
+each_from_All P (x ∷ xs) h = (h zero x (omega arith), each_from_All P xs (λ k d l. h (suc k) d (omega (arith, l))))
+
+pub All_from_each : {A : Type 0} (P : A → Type 0) (xs : List A) → Each P xs → All P xs
+All_from_each P [] e k d l = absurd (omega (arith, l))
+All_from_each P (x ∷ xs) e zero d l = e.0
+All_from_each P (x ∷ xs) e (suc k) d l = All_from_each P xs e.1 k d (omega (arith, l))
+
+pub distinct_from_AllPairs : {A : Type 0} (xs : List A) → AreDistinct xs → Distinct xs
+distinct_from_AllPairs [] h = tt
+distinct_from_AllPairs (x ∷ xs) h = (off x xs (λ k d l. h zero (suc k) d (omega arith) (omega (arith, l))), distinct_from_AllPairs xs (λ i j d p q. h (suc i) (suc j) d (omega (arith, p)) (omega (arith, q))))
+  where
+    off : {A : Type 0} (a : A) (ys : List A) → ((k : ℕ) (d : A) → k < length ys → a ≢ slice_index_or ys k d) → Off a ys
+    off a [] g = tt
+    off a (y ∷ ys) g = (λ e. g zero y (omega arith) (sym e), off a ys (λ k d l. g (suc k) d (omega (arith, l))))
+
+pub AllPairs_from_distinct : {A : Type 0} (xs : List A) → Distinct xs → AreDistinct xs
+AllPairs_from_distinct [] s i j d p q = absurd (omega (arith, q))
+AllPairs_from_distinct (x ∷ xs) s zero zero d p q = absurd (omega (arith, p))
+AllPairs_from_distinct (x ∷ xs) s zero (suc j) d p q = away x xs s.0 j d (omega (arith, q))
+  where
+    away : {A : Type 0} (a : A) (ys : List A) → Off a ys → (k : ℕ) (d : A) → k < length ys → a ≢ slice_index_or ys k d
+    away a [] o k d l = absurd (omega (arith, l))
+    away a (y ∷ ys) o zero d l = λ e. o.0 (sym e)
+    away a (y ∷ ys) o (suc k) d l = away a ys o.1 k d (omega (arith, l))
+AllPairs_from_distinct (x ∷ xs) s (suc i) zero d p q = absurd (omega (arith, p))
+AllPairs_from_distinct (x ∷ xs) s (suc i) (suc j) d p q = AllPairs_from_distinct xs s.1 i j d (omega (arith, p)) (omega (arith, q))
+
+pub length-row : {A : Type 0} (n : ℕ) (f : ℕ → A) → length (row n f) ≡ n
+length-row zero f = refl
+length-row (suc n) f = ap suc (length-row n (λ j. f (suc j)))
+
+pub get_or-row : {A : Type 0} (n : ℕ) (f : ℕ → A) (i : ℕ) (d : A) → i < n → get_or (row n f) i d ≡ f i
+get_or-row zero f i d l = absurd (omega (arith, l))
+get_or-row (suc n) f zero d l = refl
+get_or-row (suc n) f (suc i) d l = get_or-row n (λ j. f (suc j)) i d (omega (arith, l))
+
+-- a list is the row of its entries
+pub row-get_or : {A : Type 0} (n : ℕ) (xs : List A) (d : A) → length xs ≡ n → row n (λ i. get_or xs i d) ≡ xs
+row-get_or zero [] d e = refl
+row-get_or (suc n) [] d e = absurd (omega (arith, e))
+row-get_or zero (x ∷ xs) d e = absurd (omega (arith, e))
+row-get_or (suc n) (x ∷ xs) d e = ap (λ ys. x ∷ ys) (row-get_or n xs d (omega (arith, e)))
+
+pub map-row : {A B : Type 0} (g : A → B) (n : ℕ) (f : ℕ → A) → map g (row n f) ≡ row n (λ i. g (f i))
+map-row g zero f = refl
+map-row g (suc n) f = ap (λ ys. g (f zero) ∷ ys) (map-row g n (λ i. f (suc i)))
+
+-- rows of equal entries are equal
+pub row-equal : {A : Type 0} (n : ℕ) (f g : ℕ → A) → ((i : ℕ) → i < n → f i ≡ g i) → row n f ≡ row n g
+row-equal zero f g h = refl
+row-equal (suc n) f g h = ap₂ (λ x xs. x ∷ xs) (h zero (omega arith)) (row-equal n (λ i. f (suc i)) (λ i. g (suc i)) (λ i l. h (suc i) (omega (arith, l))))
+
+-- points given by an index are distinct where the index tells them apart
+pub distinct-row : {A : Type 0} (n : ℕ) (f : ℕ → A) → ((i j : ℕ) → i < j → j < n → ¬ (f i ≡ f j)) → Distinct (row n f)
+distinct-row zero f h = tt
+distinct-row (suc n) f h = (off-row (f zero) n (λ j. f (suc j)) (λ j l e. h zero (suc j) (omega arith) (omega (arith, l)) (sym e)), distinct-row n (λ j. f (suc j)) (λ i j p q. h (suc i) (suc j) (omega (arith, p)) (omega (arith, q))))
+  where
+    off-row : {A : Type 0} (x : A) (n : ℕ) (f : ℕ → A) → ((j : ℕ) → j < n → ¬ (f j ≡ x)) → Off x (row n f)
+    off-row x zero f h = tt
+    off-row x (suc n) f h = (h zero (omega arith), off-row x n (λ j. f (suc j)) (λ j l. h (suc j) (omega (arith, l))))

@@ -1,0 +1,98 @@
+-- Arithmetic modulo a prime: inverses, and a test for primes.
+use Rattle.std.specs.Prelude.{ℕ, zero, suc, ◌+◌, ◌-◌, ◌*◌, ◌/◌, ◌%◌, ◌<◌, ◌≤◌, ◌≡◌, ◌≢◌, ◌⊎◌, Bool, true, false, leb, eqb, refl}
+use Rattle.std.proofs.Common.{sym, ◌∙◌, ap, subst, inl, inr, arith}
+use Rattle.std.proofs.Math.Nat.{div-add-mod, mul-mod_left, mul-mod_right, mul-le-mul, mod-lt, mod-eq_of_lt, mul-add-mod_self_right, mul_assoc}
+use Rattle.std.proofs.lemmas.Bool.Decides.{leb_tells, eqb_tells}
+use Rattle.std.proofs.lemmas.Nat.{mul-mod_second}
+use Rattle.algebra.specs.Primes.{IsPrime, inverse_modulo}
+
+descent : (b q r p : ℕ) → suc b * q + r ≡ p → suc b * (p - q) ≡ b * p + r
+descent b q r p e = let k : p - q ≡ b * q + r = omega arith in rw (k, ← e) (omega arith)
+
+pub descend : (p a q r : ℕ) → 0 < a → a * q + r ≡ p → a * (p - q) % p ≡ r % p
+descend p zero q r pos e = absurd (omega arith)
+descend p (suc b) q r pos e = ap (λ x. x % p) (descent b q r p e) ∙ mul-add-mod_self_right b p r
+
+times : (b s r p v : ℕ) → suc b * s ≡ b * p + r → suc b * (s * v) ≡ b * v * p + r * v
+times b s r p v e = sym (mul_assoc (suc b) s v) ∙ ap (λ x. x * v) e ∙ omega arith
+
+down : (p a q r v : ℕ) → 0 < a → a * q + r ≡ p → r * v % p ≡ 1 → a * ((p - q) * v % p) % p ≡ 1
+down p zero q r v pos e h = absurd (omega arith)
+down p (suc b) q r v pos e h =
+    mul-mod_second (suc b) ((p - q) * v) p
+    ∙ ap (λ x. x % p) (times b (p - q) r p v (descent b q r p e))
+    ∙ mul-add-mod_self_right (b * v) p (r * v)
+    ∙ h
+
+if_true : (b : Bool) (x y : ℕ) → b ≡ true → (elim b as (λ _. ℕ) [ true ↦ x | false ↦ y ]) ≡ x
+if_true true x y e = refl
+if_true false x y e = absurd (cc)
+
+if_false : (b : Bool) (x y : ℕ) → b ≡ false → (elim b as (λ _. ℕ) [ true ↦ x | false ↦ y ]) ≡ y
+if_false true x y e = absurd (cc)
+if_false false x y e = refl
+
+pub inverse_modulo-mul : (p : ℕ) → IsPrime p → (n a : ℕ) → 0 < a → a < p → a ≤ n → a * inverse_modulo p n a % p ≡ 1
+inverse_modulo-mul p prime zero a pos less le = absurd (omega arith)
+inverse_modulo-mul p prime (suc n) a pos less le =
+    let t = leb_tells a 1 in
+    elim t [
+      inl y ↦
+        let e : a ≡ 1 = omega (arith, y) in
+        ap (λ v. a * v % p) (if_true (leb a 1) 1 ((p - p / a) * inverse_modulo p n (p % a) % p) y.0)
+        ∙ rw e (mod-eq_of_lt prime.0)
+    | inr y ↦
+        let r_less : p % a < a = mod-lt p pos in
+        let r_pos : 0 < p % a = omega (arith, prime.1 a y.1 less) in
+        ap (λ v. a * v % p) (if_false (leb a 1) 1 ((p - p / a) * inverse_modulo p n (p % a) % p) y.0)
+        ∙ down p a (p / a) (p % a) (inverse_modulo p n (p % a)) pos (div-add-mod p a)
+          (inverse_modulo-mul p prime n (p % a) r_pos (omega arith) (omega arith))
+    ]
+
+-- none of 2 .. n + 1 divides `p`
+abbrev pub no_divisor : ℕ → ℕ → Bool
+no_divisor p zero = true
+no_divisor p (suc k) = elim (eqb (p % suc (suc k)) 0) [ true ↦ false | false ↦ no_divisor p k ]
+
+chosen : (b t : Bool) → (elim b as (λ _. Bool) [ true ↦ false | false ↦ t ]) ≡ true → (b ≡ false) × (t ≡ true)
+chosen true t h = absurd (cc)
+chosen false t h = (refl, h)
+
+no_small_divisor : (p n k : ℕ) → no_divisor p n ≡ true → k < n → p % suc (suc k) ≢ 0
+no_small_divisor p zero k h l = absurd (omega arith)
+no_small_divisor p (suc n) k h l =
+    let c = chosen (eqb (p % suc (suc n)) 0) (no_divisor p n) h in
+    let t = eqb_tells (p % suc (suc n)) 0 in
+    let s : (k < n) ⊎ (k ≡ n) = grind arith in
+    elim s [ inl less ↦ no_small_divisor p n k c.1 less | inr e ↦ rw e (elim t [ inl y ↦ absurd (cc) | inr w ↦ w.1 ]) ]
+
+small_divides_not : (p n d : ℕ) → no_divisor p n ≡ true → 1 < d → d < n + 2 → p % d ≢ 0
+small_divides_not p n d none one l z =
+    let e : d ≡ suc (suc (d - 2)) = omega arith in
+    let P : ℕ → Type 0 = λ x. p % x ≡ 0 in
+    no_small_divisor p n (d - 2) none (omega arith) (subst P e z)
+
+-- of two factors one is small
+one_small : (p b d q : ℕ) → p < b * b → d * q ≡ p → b ≤ d → q < b
+one_small p b d q square e big =
+    let s : (q < b) ⊎ (b ≤ q) = grind arith in
+    elim s [ inl h ↦ h | inr h ↦ let m : b * b ≤ d * q = mul-le-mul big h in absurd (omega arith) ]
+
+above_one : (p d q : ℕ) → d * q ≡ p → 0 < p → d < p → 1 < q
+above_one p d zero e pos l = absurd (omega arith)
+above_one p d (suc zero) e pos l = absurd (omega arith)
+above_one p d (suc (suc q)) e pos l = omega arith
+
+-- a number is prime if nothing up to its square root divides it
+pub prime_by_trial_division : (p n : ℕ) → 1 < p → p < (n + 2) * (n + 2) → no_divisor p n ≡ true → IsPrime p
+prime_by_trial_division p n big square none = (big, λ d one less z. factors d (p / d) (omega (arith, div-add-mod p d)) one less z)
+  where
+    factors : (d q : ℕ) → d * q ≡ p → 1 < d → d < p → p % d ≡ 0 → ⊥
+    factors d q e one less z =
+        let s : (d < n + 2) ⊎ (n + 2 ≤ d) = grind arith in
+        elim s [
+          inl h ↦ small_divides_not p n d none one h z
+        | inr h ↦
+            let zq : p % q ≡ 0 = rw (← e) (mul-mod_left d q) in
+            small_divides_not p n q none (above_one p d q e (omega arith) less) (one_small p (n + 2) d q square e h) zq
+        ]

@@ -1,0 +1,7 @@
+pub mod Field
+pub mod Polynomial
+pub mod Interpolation
+pub mod Digits
+pub mod TwoAdic
+pub mod Primes
+pub mod Laws

@@ -1,0 +1,15 @@
+//! BabyBear, the prime field of `2^31 - 2^27 + 1` elements.
+
+ghost use Rattle.std.specs.Prelude.{◌<◌};
+
+mod arithmetic;
+mod field;
+mod inverse;
+mod two_adic;
+
+/// An element of the prime field of 2013265921 elements, kept as its canonical number.
+#[derive(Clone, Copy, Debug, PartialEq, Eq)]
+pub struct BabyBear {
+    value: u32,
+    ghost canonical: { value < 2013265921 },
+}

@@ -1,0 +1,18 @@
+//! Finite fields and their extensions: the traits that the layers above are generic over, and the field
+//! BabyBear. Each call's contract is stated over the field's operations, a record of mathematics; what holds
+//! of that record (the laws of a commutative field, roots of unity) is a law of the trait, which each
+//! instance proves.
+#![tactic(auto)]
+
+pub mod baby_bear;
+pub mod extension;
+pub mod field;
+pub mod laws;
+pub mod prime_field;
+pub mod two_adic;
+
+pub use crate::baby_bear::BabyBear;
+pub use crate::extension::ExtensionField;
+pub use crate::field::Field;
+pub use crate::prime_field::PrimeField64;
+pub use crate::two_adic::TwoAdicField;
