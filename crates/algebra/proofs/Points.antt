@@ -1,12 +1,12 @@
 -- The points of two-adic domains: their laws, and that they differ.
 use Rattle.std.proofs.Common.{◌≡◌, ◌⊎◌, inl, inr, ℕ, zero, suc, ◌+◌, ◌*◌, ◌^◌, ◌<◌, ◌≤◌, refl, sym, ap, ap₂, ◌∙◌, arith, mul_comm}
 use Rattle.std.proofs.lemmas.Nat.{pow-add, mul-add-lt}
-use Rattle.algebra.specs.Field.{FieldOps, IsField, pow}
+use Rattle.algebra.specs.Field.{FieldOps, IsField, IsHomomorphism, pow}
 use Rattle.algebra.specs.Interpolation.{AreDistinct}
 use Rattle.algebra.specs.Digits.{rev}
 use Rattle.algebra.specs.TwoAdic.{AreRoots, pt, domain_points, row_points}
 use Rattle.algebra.proofs.Ring.{◌:+◌, ◌:*◌, ◌:=◌, ring, o, minus, :1}
-use Rattle.algebra.proofs.RingLaws.{zero_mul}
+use Rattle.algebra.proofs.RingLaws.{zero_mul, neg_unique}
 use Rattle.algebra.proofs.Combine.{combine, cancel_zero}
 use Rattle.algebra.proofs.Powers.{double, pow-one, pow-add as power-add, pow-times, pow-mul, pow-nonzero, pow-one_base}
 use Rattle.algebra.proofs.Digits.{rev-even, rev-odd, rev-lt, rev-rev}
@@ -118,3 +118,11 @@ module _ {A : Type 0} (F : FieldOps A) (L : IsField F) (top : ℕ) (w : ℕ → 
         where
           below : (i n k m : ℕ) → i < n → m < k → i * k + m < n * k
           below i n k m l q = rw (mul_comm n k) (mul-add-lt i k m n l q)
+
+-- a homomorphism carries roots of unity
+pub lifted_roots : {A E : Type 0} (F : FieldOps A) (K : FieldOps E) (h : A → E) → IsField F → IsField K → IsHomomorphism F K h → (top : ℕ) (w : ℕ → A) → AreRoots F top w → AreRoots K top (λ k. h (w k))
+lifted_roots F K h L M H top w W = record {
+  first = ap h W.first ∙ H.one;
+  minus_one = λ b. ap h (W.minus_one b) ∙ neg_unique K M.ring K.one (h (F.neg F.one)) (ap (λ x. K.add x (h (F.neg F.one))) (sym H.one) ∙ sym (H.add F.one (F.neg F.one)) ∙ ap h (L.add_neg F.one) ∙ H.zero);
+  square = λ k b. sym (H.mul (w (suc k)) (w (suc k))) ∙ ap h (W.square k b)
+}

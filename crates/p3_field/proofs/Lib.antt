@@ -1,1 +1,5 @@
+pub mod IndexPowers
+pub mod IndexReversal
+pub mod IndexSteps
+pub mod IndexSwaps
 pub mod Orders

@@ -1,5 +1,5 @@
 -- The field of 2013265921 elements, as operations on canonical numbers.
-use Rattle.std.specs.Prelude.{ℕ, ◌+◌, ◌-◌, ◌*◌, ◌%◌, ◌^◌, ◌≡◌, ◌<◌}
+use Rattle.std.specs.Prelude.{ℕ, ◌+◌, ◌-◌, ◌*◌, ◌%◌, ◌^◌}
 use Rattle.std.proofs.Math.Nat.{mod-lt}
 use Rattle.std.proofs.Common.{lit<}
 use Rattle.p3_field.specs.declared.baby_bear.BabyBear.{BabyBear}
@@ -18,7 +18,7 @@ baby_bear = record {
   add = λ a b. element (a.value + b.value);
   mul = λ a b. element (a.value * b.value);
   neg = λ a. element (2013265921 - a.value);
-  inv = λ a. element (inverse_modulo 2013265921 a.value a.value)
+  inv = λ a. element (inverse_modulo 2013265921 a.value a.value);
 }
 
 -- the root of unity of order `2^k`: since the order of the group is `15 * 2^27`, a power of the generator 31

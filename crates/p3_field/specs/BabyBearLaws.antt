@@ -6,11 +6,11 @@ use Rattle.std.proofs.Common.{lit<, lit≤, sym, ◌∙◌, ap, arith, add_comm,
 use Rattle.std.proofs.Math.Nat.{div-add-mod, mod-lt, mod-eq_of_lt, add-mod-mod, mod-add-mod, mod_self, mul_assoc, add-mod, mod-mod, pow-succ'}
 use Rattle.std.proofs.lemmas.Nat.{mul-mod_first, mul-mod_second}
 use Rattle.std.proofs.lemmas.Bool.Decides.{Decides-eqb, eqb_tells}
-use Rattle.algebra.specs.Field.{FieldOps, IsRing, IsField, multiple, pow, sub}
+use Rattle.algebra.specs.Field.{IsRing, IsField, multiple, pow, sub}
 use Rattle.algebra.specs.TwoAdic.{AreRoots}
 use Rattle.algebra.specs.Primes.{IsPrime, inverse_modulo}
 use Rattle.algebra.proofs.Primes.{inverse_modulo-mul, descend, prime_by_trial_division}
-use Rattle.algebra.proofs.Powers.{pow-add, pow-double, pow-mul, double}
+use Rattle.algebra.proofs.Powers.{pow-add, pow-mul, double}
 use Rattle.algebra.proofs.Combine.{inverse_unique}
 use Rattle.p3_field.specs.declared.baby_bear.BabyBear.{BabyBear}
 use Rattle.p3_field.specs.BabyBear.{element, baby_bear, root}
@@ -18,7 +18,7 @@ use Rattle.p3_field.specs.BabyBear.{element, baby_bear, root}
 pub same_number : (a b : BabyBear) → a.value ≡ b.value → a ≡ b
 same_number a b e = λ i. record {
   value = e i;
-  canonical = is_prop→PathP (λ j. e j < 2013265921) (λ j. le_prop) a.canonical b.canonical i
+  canonical = is_prop→PathP (λ j. e j < 2013265921) (λ j. le_prop) a.canonical b.canonical i;
 }
 
 pub order_is_prime : IsPrime 2013265921
@@ -46,22 +46,22 @@ ring_laws : IsRing baby_bear
 unfolding baby_bear
 ring_laws = record {
   add_assoc = λ a b c. same_number _ _
-    (mod-add-mod (a.value + b.value) 2013265921 c.value
-    ∙ ap (λ x. x % 2013265921) (add_assoc a.value b.value c.value)
-    ∙ sym (add-mod-mod a.value (b.value + c.value) 2013265921));
+      (mod-add-mod (a.value + b.value) 2013265921 c.value
+      ∙ ap (λ x. x % 2013265921) (add_assoc a.value b.value c.value)
+      ∙ sym (add-mod-mod a.value (b.value + c.value) 2013265921));
   add_comm = λ a b. same_number _ _ (ap (λ x. x % 2013265921) (add_comm a.value b.value));
   add_zero = λ a. same_number _ _ (rw add-zero (mod-eq_of_lt a.canonical));
   add_neg = λ a. same_number _ _ (negated 2013265921 a.value a.canonical);
   mul_assoc = λ a b c. same_number _ _
-    (mul-mod_first (a.value * b.value) c.value 2013265921
-    ∙ ap (λ x. x % 2013265921) (mul_assoc a.value b.value c.value)
-    ∙ sym (mul-mod_second a.value (b.value * c.value) 2013265921));
+      (mul-mod_first (a.value * b.value) c.value 2013265921
+      ∙ ap (λ x. x % 2013265921) (mul_assoc a.value b.value c.value)
+      ∙ sym (mul-mod_second a.value (b.value * c.value) 2013265921));
   mul_comm = λ a b. same_number _ _ (ap (λ x. x % 2013265921) (mul_comm a.value b.value));
   mul_one = λ a. same_number _ _ (rw mul-one (mod-eq_of_lt a.canonical));
   mul_add = λ a b c. same_number _ _
-    (mul-mod_second a.value (b.value + c.value) 2013265921
-    ∙ ap (λ x. x % 2013265921) (omega arith)
-    ∙ add-mod (a.value * b.value) (a.value * c.value) 2013265921)
+      (mul-mod_second a.value (b.value + c.value) 2013265921
+      ∙ ap (λ x. x % 2013265921) (omega arith)
+      ∙ add-mod (a.value * b.value) (a.value * c.value) 2013265921);
 }
 
 inverse_law : (a : BabyBear) → ¬ (a ≡ baby_bear.zero) → baby_bear.mul a (baby_bear.inv a) ≡ baby_bear.one
@@ -76,7 +76,7 @@ baby_bear_laws = record {
   one_not_zero = one_is_not_zero;
   two_not_zero = two_is_not_zero;
   mul_inv = inverse_law;
-  decided = decide
+  decided = decide;
 }
 
 pub eq_same : (a b : BabyBear) → IsTrue (a.value == b.value) ↔ (a ≡ b)

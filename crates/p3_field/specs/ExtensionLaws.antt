@@ -1,5 +1,5 @@
 -- A field extends itself: the laws of that extension.
-use Rattle.std.specs.Prelude.{◌≡◌, ℕ, List, [], ◌∷◌, length, slice_index_or, refl}
+use Rattle.std.specs.Prelude.{◌≡◌, [], ◌∷◌, length, refl}
 use Rattle.algebra.specs.Field.{FieldOps, IsHomomorphism}
 
 pub self_homomorphism : {A : Type 0} (F : FieldOps A) → IsHomomorphism F F (λ x. x)

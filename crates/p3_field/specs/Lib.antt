@@ -1,7 +1,10 @@
 pub mod BabyBear
 pub mod BabyBearLaws
 pub mod ExtensionLaws
+pub mod Index
 pub mod Order
+pub use Rattle.algebra.specs.Digits
 pub use Rattle.algebra.specs.Field
-pub use Rattle.algebra.specs.TwoAdic
+pub use Rattle.algebra.specs.Polynomial
 pub use Rattle.algebra.specs.Primes
+pub use Rattle.algebra.specs.TwoAdic

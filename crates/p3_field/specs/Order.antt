@@ -1,5 +1,5 @@
 -- The order of an element, and what the law functions say.
-use Rattle.std.specs.Prelude.{◌≡◌, ◌≢◌, ℕ, ◌<◌, ◌≤◌, ◌^◌}
+use Rattle.std.specs.Prelude.{◌≡◌, ◌≢◌, ℕ, ◌<◌}
 use Rattle.algebra.specs.Field.{FieldOps, pow}
 
 -- `n` is the least positive number for which `x^n` is one

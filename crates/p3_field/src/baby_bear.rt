@@ -5,6 +5,8 @@ ghost use Rattle.std.specs.Prelude.{◌<◌};
 mod arithmetic;
 mod field;
 mod inverse;
+#[cfg(test)]
+mod tests;
 mod two_adic;
 
 /// An element of the prime field of 2013265921 elements, kept as its canonical number.

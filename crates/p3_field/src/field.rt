@@ -6,14 +6,12 @@ ghost use Rattle.algebra.specs.Field.{FieldOps, IsField, sub, multiple, pow};
 use std::ops::{Add, Mul, Neg, Sub};
 
 /// A commutative field in which 2 isn't zero. Every value of the type is an element.
-pub trait Field:
-    Copy
+pub trait Field: Copy
     + Eq
     + Add<Self, Output = Self>
     + Sub<Self, Output = Self>
     + Mul<Self, Output = Self>
-    + Neg<Output = Self>
-{
+    + Neg<Output = Self> {
     ghost ops: { FieldOps Self };
 
     ghost ZERO: { Self };
@@ -106,7 +104,11 @@ pub trait Field:
         ensures nonzero { IsSome result ↔ (self ≢ ops.zero) }
         ensures value { IfSome result (λ x. x ≡ ops.inv self) }
     {
-        if self.is_zero() { None } else { Some(self.inverse()) }
+        if self.is_zero() {
+            None
+        } else {
+            Some(self.inverse())
+        }
     }
 
     ghost laws: { IsField ops };

@@ -7,6 +7,7 @@
 pub mod baby_bear;
 pub mod extension;
 pub mod field;
+pub mod index;
 pub mod laws;
 pub mod prime_field;
 pub mod two_adic;
@@ -14,5 +15,6 @@ pub mod two_adic;
 pub use crate::baby_bear::BabyBear;
 pub use crate::extension::ExtensionField;
 pub use crate::field::Field;
+pub use crate::index::{log2_strict_usize, reverse_bits_len, reverse_slice_index_bits};
 pub use crate::prime_field::PrimeField64;
 pub use crate::two_adic::TwoAdicField;

@@ -1,4 +1,4 @@
-use Rattle.std.proofs.Common.{◌≤◌, ◌^◌, subst, lit≤}
+use Rattle.std.proofs.Common.{◌^◌, subst, lit≤}
 use Rattle.p3_field.specs.BabyBear.{baby_bear, root}
 use Rattle.p3_field.specs.declared.baby_bear.BabyBear.{BabyBear}
 use Rattle.p3_field.specs.BabyBearLaws.{baby_bear_laws, baby_bear_roots, order_is_prime, generator_power, root_first}

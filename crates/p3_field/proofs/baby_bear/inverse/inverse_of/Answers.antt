@@ -8,7 +8,7 @@ pub loop-divisor-init : goal.loop-divisor-init
 loop-divisor-init c = record {
   linked = rw c.from_number-product.ensures (inverse_start c.args.x);
   positive = positive c.args.x c.requires;
-  small = c.args.x.canonical
+  small = c.args.x.canonical;
 }
 
 pub loop-divisor-preserved : goal.loop-divisor-preserved
@@ -19,7 +19,7 @@ loop-divisor-preserved c =
     record {
       linked = rw (c.mul-product.ensures, c.from_number.ensures) (inverse_round c.args.x.value here.product.value here.divisor kept.linked kept.positive kept.small);
       positive = inverse_round_positive here.divisor c.loop-divisor-test.true kept.small;
-      small = (let less : 2013265921 % here.divisor < here.divisor = mod-lt 2013265921 kept.positive in omega arith)
+      small = (let less : 2013265921 % here.divisor < here.divisor = mod-lt 2013265921 kept.positive in omega arith);
     }
 
 pub returns : goal.returns

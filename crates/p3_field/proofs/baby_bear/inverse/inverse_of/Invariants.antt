@@ -6,7 +6,7 @@ abbrev pub invariant-loop-divisor : goal.invariant-loop-divisor
 invariant-loop-divisor l = record {
   linked : l.fn.x.value * l.product.value % 2013265921 ≡ l.divisor;
   positive : 0 < l.divisor;
-  small : l.divisor < 2013265921
+  small : l.divisor < 2013265921;
 }
 
 abbrev pub decreases-loop-divisor : goal.decreases-loop-divisor

@@ -1,4 +1,4 @@
-use Rattle.std.proofs.Common.{◌≡◌, ◌+◌, ◌^◌, suc, ap, ap₂, sym, ◌∙◌, arith, add-one}
+use Rattle.std.proofs.Common.{◌^◌, ap, sym, ◌∙◌, arith, add-one}
 use Rattle.algebra.specs.Field.{pow}
 use Rattle.algebra.proofs.Powers.{pow-one, pow-double}
 use Rattle.p3_field.proofs.field.Field.exp_power_of_2.Goals as goal

@@ -1,4 +1,4 @@
-use Rattle.std.proofs.Common.{◌≡◌, ap, sym, ◌∙◌, arith}
+use Rattle.std.proofs.Common.{ap, sym, ◌∙◌, arith}
 use Rattle.algebra.specs.Field.{pow}
 use Rattle.algebra.proofs.RingLaws.{one_mul}
 use Rattle.algebra.proofs.Powers.{pow-zero, even_step, odd_step}
@@ -16,11 +16,11 @@ loop-remaining-preserved g c =
     let field = g.met.Self.Field in
     let here = c.loop-remaining in
     elim c.if-remaining-eq1.branch [
-      then-remaining-eq1 w ↦
-        rw (w.product-is, field.mul_law here.product here.base w.mul-product.result w.mul-product.ensures, c.square-base.ensures)
+      | then-remaining-eq1 w ↦
+          rw (w.product-is, field.mul_law here.product here.base w.mul-product.result w.mul-product.ensures, c.square-base.ensures)
           (odd_step g.Self.Field.ops field.laws.ring here.product here.base here.remaining w.if-remaining-eq1.true ∙ here.invariant)
-    | else-remaining-eq1 w ↦
-        rw (w.product-is, c.square-base.ensures)
+      | else-remaining-eq1 w ↦
+          rw (w.product-is, c.square-base.ensures)
           (even_step g.Self.Field.ops field.laws.ring here.product here.base here.remaining (omega (arith, w.if-remaining-eq1)) ∙ here.invariant)
     ]
 
