@@ -10,3 +10,4 @@ pub mod Interpolation
 pub mod Digits
 pub mod Points
 pub mod Primes
+pub mod Products

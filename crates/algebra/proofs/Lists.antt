@@ -1,5 +1,5 @@
 -- Lists of points: each, distinct ones, and lists by index.
-use Rattle.std.proofs.Common.{◌≡◌, ◌≢◌, ℕ, zero, suc, ◌<◌, List, [], ◌∷◌, length, map, refl, sym, ap, ap₂, arith, All, slice_index_or, get_or}
+use Rattle.std.proofs.Common.{◌≡◌, ◌≢◌, ℕ, zero, suc, ◌<◌, List, [], ◌∷◌, length, map, refl, sym, ap, ap₂, arith, All, slice_index_or, get_or, ◌++◌, ◌+◌, ◌∙◌, suc-add}
 use Rattle.algebra.specs.Polynomial.{row}
 use Rattle.algebra.specs.Interpolation.{AreDistinct}
 
@@ -77,6 +77,11 @@ row-get_or (suc n) (x ∷ xs) d e = ap (λ ys. x ∷ ys) (row-get_or n xs d (ome
 pub map-row : {A B : Type 0} (g : A → B) (n : ℕ) (f : ℕ → A) → map g (row n f) ≡ row n (λ i. g (f i))
 map-row g zero f = refl
 map-row g (suc n) f = ap (λ ys. g (f zero) ∷ ys) (map-row g n (λ i. f (suc i)))
+
+-- one entry more
+pub row-next : {A : Type 0} (n : ℕ) (f : ℕ → A) → row (n + 1) f ≡ row n f ++ f n ∷ []
+row-next zero f = refl
+row-next (suc n) f = ap (λ k. row k f) (suc-add n 1) ∙ ap (λ ys. f zero ∷ ys) (row-next n (λ i. f (suc i)))
 
 -- rows of equal entries are equal
 pub row-equal : {A : Type 0} (n : ℕ) (f g : ℕ → A) → ((i : ℕ) → i < n → f i ≡ g i) → row n f ≡ row n g

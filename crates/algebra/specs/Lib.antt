@@ -4,4 +4,5 @@ pub mod Interpolation
 pub mod Digits
 pub mod TwoAdic
 pub mod Primes
+pub mod Products
 pub mod Laws

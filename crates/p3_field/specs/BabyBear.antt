@@ -1,5 +1,6 @@
 -- The field of 2013265921 elements, as operations on canonical numbers.
-use Rattle.std.specs.Prelude.{ℕ, ◌+◌, ◌-◌, ◌*◌, ◌%◌, ◌^◌}
+use Rattle.std.specs.Prelude.{ℕ, ◌+◌, ◌-◌, ◌*◌, ◌%◌, ◌^◌, List}
+use Rattle.std.specs.Int.{to_le_bytes, w32}
 use Rattle.std.proofs.Math.Nat.{mod-lt}
 use Rattle.std.proofs.Common.{lit<}
 use Rattle.p3_field.specs.declared.baby_bear.BabyBear.{BabyBear}
@@ -24,3 +25,7 @@ baby_bear = record {
 -- the root of unity of order `2^k`: since the order of the group is `15 * 2^27`, a power of the generator 31
 unfoldable pub root : ℕ → BabyBear
 root k = pow baby_bear (element 31) (15 * 2 ^ (27 - k))
+
+-- the canonical number in four bytes, the lowest first
+abbrev pub number_bytes : BabyBear → List ℕ
+number_bytes x = to_le_bytes w32 x.value

@@ -1,10 +1,11 @@
 -- BabyBear is a field, a prime one, with roots of unity of the orders up to `2^27`.
 use mathlib.Core.HLevel.{is_prop→PathP}
 use Rattle.std.specs.Coded.{le_prop}
-use Rattle.std.specs.Prelude.{ℕ, zero, suc, ◌+◌, ◌-◌, ◌*◌, ◌/◌, ◌%◌, ◌^◌, ◌≡◌, ◌≢◌, ◌<◌, ◌≤◌, ◌⊎◌, refl, IsTrue, ◌==◌, ◌↔◌}
+use Rattle.std.specs.Prelude.{ℕ, zero, suc, ◌+◌, ◌-◌, ◌*◌, ◌/◌, ◌%◌, ◌^◌, ◌≡◌, ◌≢◌, ◌<◌, ◌≤◌, ◌⊎◌, refl, IsTrue, ◌==◌, ◌↔◌, length}
 use Rattle.std.proofs.Common.{lit<, lit≤, sym, ◌∙◌, ap, arith, add_comm, add_assoc, mul_comm, add-zero, mul-one, inl, inr}
 use Rattle.std.proofs.Math.Nat.{div-add-mod, mod-lt, mod-eq_of_lt, add-mod-mod, mod-add-mod, mod_self, mul_assoc, add-mod, mod-mod, pow-succ'}
-use Rattle.std.proofs.lemmas.Nat.{mul-mod_first, mul-mod_second}
+use Rattle.std.specs.Int.{from_le_bytes, to_le_bytes, w32}
+use Rattle.std.proofs.lemmas.Nat.{mul-mod_first, mul-mod_second, from_le_bytes-to_le_bytes_4}
 use Rattle.std.proofs.lemmas.Bool.Decides.{Decides-eqb, eqb_tells}
 use Rattle.algebra.specs.Field.{IsRing, IsField, multiple, pow, sub}
 use Rattle.algebra.specs.TwoAdic.{AreRoots}
@@ -13,7 +14,7 @@ use Rattle.algebra.proofs.Primes.{inverse_modulo-mul, descend, prime_by_trial_di
 use Rattle.algebra.proofs.Powers.{pow-add, pow-mul, double}
 use Rattle.algebra.proofs.Combine.{inverse_unique}
 use Rattle.p3_field.specs.declared.baby_bear.BabyBear.{BabyBear}
-use Rattle.p3_field.specs.BabyBear.{element, baby_bear, root}
+use Rattle.p3_field.specs.BabyBear.{element, baby_bear, root, number_bytes}
 
 pub same_number : (a b : BabyBear) → a.value ≡ b.value → a ≡ b
 same_number a b e = λ i. record {
@@ -218,3 +219,13 @@ root_is k = sym (root_squarings k (27 - k) refl ∙ squarings-pow (27 - k) (elem
 pub difference_is : (a b : BabyBear) (n : ℕ) → n % 2013265921 ≡ (a.value + (2013265921 - b.value)) % 2013265921 → element n ≡ sub baby_bear a b
 unfolding baby_bear
 difference_is a b n e = same_number _ _ (e ∙ sym (add-mod-mod a.value (2013265921 - b.value) 2013265921))
+
+pub bytes_length : (x : BabyBear) → length (number_bytes x) ≡ 4
+bytes_length x = refl
+
+-- equal bytes mean equal numbers
+pub bytes_injective : (x y : BabyBear) → number_bytes x ≡ number_bytes y → x ≡ y
+bytes_injective x y e = same_number x y (sym (from_le_bytes-to_le_bytes_4 x.value (fits x)) ∙ ap (from_le_bytes w32) e ∙ from_le_bytes-to_le_bytes_4 y.value (fits y))
+  where
+    fits : (z : BabyBear) → z.value < 2 ^ 32
+    fits z = omega (arith, z.canonical)

@@ -1,5 +1,6 @@
 pub mod BabyBear
 pub mod BabyBearLaws
+pub mod Coset
 pub mod ExtensionLaws
 pub mod Index
 pub mod Order
@@ -7,4 +8,5 @@ pub use Rattle.algebra.specs.Digits
 pub use Rattle.algebra.specs.Field
 pub use Rattle.algebra.specs.Polynomial
 pub use Rattle.algebra.specs.Primes
+pub use Rattle.algebra.specs.Products
 pub use Rattle.algebra.specs.TwoAdic

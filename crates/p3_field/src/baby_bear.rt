@@ -3,6 +3,7 @@
 ghost use Rattle.std.specs.Prelude.{◌<◌};
 
 mod arithmetic;
+mod bytes;
 mod field;
 mod inverse;
 #[cfg(test)]

@@ -5,6 +5,9 @@
 #![tactic(auto)]
 
 pub mod baby_bear;
+pub mod batch_inverse;
+pub mod coset;
+pub mod element_bytes;
 pub mod extension;
 pub mod field;
 pub mod index;
@@ -13,6 +16,9 @@ pub mod prime_field;
 pub mod two_adic;
 
 pub use crate::baby_bear::BabyBear;
+pub use crate::batch_inverse::batch_multiplicative_inverse;
+pub use crate::coset::TwoAdicMultiplicativeCoset;
+pub use crate::element_bytes::ElementBytes;
 pub use crate::extension::ExtensionField;
 pub use crate::field::Field;
 pub use crate::index::{log2_strict_usize, reverse_bits_len, reverse_slice_index_bits};

@@ -1,6 +1,7 @@
 //! Worked values, and each public call at a concrete type through its bound.
 
 use super::BabyBear;
+use crate::element_bytes::ElementBytes;
 use crate::extension::ExtensionField;
 use crate::field::Field;
 use crate::laws::{baby_bear_law, two_adic_order_law};
@@ -105,4 +106,19 @@ fn extends_itself(rt: HostRuntime) {
         <BabyBear as ExtensionField<BabyBear>>::coefficient(five, 0),
         five
     );
+}
+
+/// The encoding, byte by byte, of a type with four of them.
+fn four_bytes<T: ElementBytes>(value: T) -> Option<[u8; 4]> {
+    if T::LEN == 4 {
+        Some([value.byte(0), value.byte(1), value.byte(2), value.byte(3)])
+    } else {
+        None
+    }
+}
+
+#[test]
+fn bytes_are_little_endian(rt: HostRuntime) {
+    let value = -BabyBear::from_u64(3);
+    assert_eq!(rt; four_bytes(value), Some([0xfe, 0xff, 0xff, 0x77]));
 }

@@ -1,0 +1,14 @@
+-- Products of lists.
+use Rattle.std.specs.Prelude.{ℕ, List, [], ◌∷◌, length, take}
+use Rattle.algebra.specs.Field.{FieldOps}
+use Rattle.algebra.specs.Polynomial.{row}
+
+module _ {A : Type 0} (F : FieldOps A) where
+  -- the product of the entries
+  abbrev pub product : List A → A
+  product [] = F.one
+  product (x ∷ xs) = F.mul x (product xs)
+
+  -- for each entry, the product of those before it
+  abbrev pub running_products : List A → List A
+  running_products xs = row (length xs) (λ i. product (take i xs))

@@ -1,0 +1,25 @@
+//! BabyBear's elements as bytes.
+
+ghost use Rattle.std.specs.Prelude.{◌≡◌};
+ghost use Rattle.p3_field.specs.BabyBear.{number_bytes};
+ghost use Rattle.p3_field.specs.BabyBearLaws.{bytes_length, bytes_injective};
+
+use super::BabyBear;
+use crate::element_bytes::ElementBytes;
+
+/// The canonical number in four bytes, little endian.
+impl ElementBytes for BabyBear {
+    ghost LEN = { 4 };
+
+    const LEN: usize = 4;
+
+    ghost bytes = { number_bytes };
+
+    fn byte(self, index: usize) -> u8 {
+        self.value.to_le_bytes()[index]
+    }
+
+    ghost bytes_length = { bytes_length };
+
+    ghost bytes_injective = { bytes_injective };
+}
