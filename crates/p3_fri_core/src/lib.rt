@@ -1,0 +1,10 @@
+//! The core of FRI: the parameters of an instance, the schedule of its folds, and the fold itself.
+#![tactic(auto)]
+
+pub mod config;
+pub mod folding;
+
+pub use crate::config::{
+    FriParameters, compute_log_arity_for_round, fold_schedule, is_strictly_falling,
+};
+pub use crate::folding::TwoAdicFriFolding;
