@@ -32,6 +32,13 @@ module _ {A : Type 0} (F : FieldOps A) (L : IsField F) where
   cancel_zero a b n h = combine2 F L.ring {k = b} {k' = neg (inv a)} (sym (L.mul_inv a n)) (sym h)
       (ring F L.ring 3 (λ a b i. b :+ (b :* (a :* i) :+ minus i :* (a :* b)) := o :+ (b :* :1 :+ minus i :* o)) refl a b (inv a))
 
+  pub cancel_factor : (s a b : A) → ¬ (s ≡ 𝟘) → s ⊗ a ≡ s ⊗ b → a ≡ b
+  cancel_factor s a b n e = sub-eq F L.ring (cancel_zero s (sub F a b) n (combine F L.ring {k = 𝟙} e (ring F L.ring 3 (λ s a b. s :* (a :- b) :+ :1 :* (s :* b) := o :+ :1 :* (s :* a)) refl s a b)))
+
+  -- halves are equal where doubles are
+  pub equal_from_doubles : (a b : A) → a ⊕ a ≡ b ⊕ b → a ≡ b
+  equal_from_doubles a b e = cancel_factor (𝟙 ⊕ 𝟙) a b L.two_not_zero (combine F L.ring {k = 𝟙} e (ring F L.ring 2 (λ a b. (:1 :+ :1) :* a :+ :1 :* (b :+ b) := (:1 :+ :1) :* b :+ :1 :* (a :+ a)) refl a b))
+
   -- what gives one together with `x` is its inverse
   pub inverse_unique : (x y : A) → ¬ (x ≡ 𝟘) → x ⊗ y ≡ 𝟙 → y ≡ inv x
   inverse_unique x y n e = combine2 F L.ring {k = inv x} {k' = neg y} e (L.mul_inv x n)

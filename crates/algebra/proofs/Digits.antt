@@ -106,6 +106,10 @@ rev-split (suc k) m i =
     sort : (b p q r s : ℕ) → b * (p * q) + (r * q + s) ≡ (b * p + r) * q + s
     sort b p q r s = omega arith
 
+pub rev-of_zero : (k : ℕ) → rev k 0 ≡ 0
+rev-of_zero zero = rev-zero 0
+rev-of_zero (suc k) = rev-suc k 0 ∙ omega (arith, rev-of_zero k)
+
 -- by std's word for 64 digits
 pub by_std : (k i : ℕ) → k ≤ 64 → reverse_bits_onto 64 i 0 / 2 ^ (64 - k) ≡ rev k i
 by_std k i b =

@@ -11,3 +11,5 @@ pub mod Digits
 pub mod Points
 pub mod Primes
 pub mod Products
+pub mod Blocks
+pub mod Words

@@ -1,15 +1,15 @@
 -- The points of two-adic domains: their laws, and that they differ.
-use Rattle.std.proofs.Common.{◌≡◌, ◌⊎◌, inl, inr, ℕ, zero, suc, ◌+◌, ◌*◌, ◌^◌, ◌<◌, ◌≤◌, refl, sym, ap, ap₂, ◌∙◌, arith, mul_comm}
-use Rattle.std.proofs.lemmas.Nat.{pow-add, mul-add-lt}
+use Rattle.std.proofs.Common.{◌≡◌, ◌⊎◌, inl, inr, ℕ, zero, suc, ◌+◌, ◌*◌, ◌^◌, ◌<◌, ◌≤◌, refl, sym, ap, ap₂, ◌∙◌, arith, mul_comm, add_comm, add-suc}
+use Rattle.std.proofs.lemmas.Nat.{pow-add, pow-add as nat-pow-add, mul-add-lt, div-mul-add}
 use Rattle.algebra.specs.Field.{FieldOps, IsField, IsHomomorphism, pow}
 use Rattle.algebra.specs.Interpolation.{AreDistinct}
 use Rattle.algebra.specs.Digits.{rev}
 use Rattle.algebra.specs.TwoAdic.{AreRoots, pt, domain_points, row_points}
 use Rattle.algebra.proofs.Ring.{◌:+◌, ◌:*◌, ◌:=◌, ring, o, minus, :1}
-use Rattle.algebra.proofs.RingLaws.{zero_mul, neg_unique}
+use Rattle.algebra.proofs.RingLaws.{one_mul, zero_mul, neg_unique}
 use Rattle.algebra.proofs.Combine.{combine, cancel_zero}
 use Rattle.algebra.proofs.Powers.{double, pow-one, pow-add as power-add, pow-times, pow-mul, pow-nonzero, pow-one_base}
-use Rattle.algebra.proofs.Digits.{rev-even, rev-odd, rev-lt, rev-rev}
+use Rattle.algebra.proofs.Digits.{rev-even, rev-odd, rev-lt, rev-rev, rev-split}
 use Rattle.algebra.proofs.Lists.{distinct-row, AllPairs_from_distinct}
 
 -- `j` is twice `q`, or one more
@@ -47,6 +47,35 @@ module _ {A : Type 0} (F : FieldOps A) (L : IsField F) (top : ℕ) (w : ℕ → 
   pub full_turn : (k : ℕ) → k ≤ top → pow F (w k) (2 ^ k) ≡ 𝟙
   full_turn zero b = pow-one F L.ring (w zero) ∙ W.first
   full_turn (suc k) b = ap (λ n. pow F (w (suc k)) n) (double k) ∙ power-add F L.ring (w (suc k)) (2 ^ k) (2 ^ k) ∙ ap₂ (λ x y. x ⊗ y) (half_turn k b) (half_turn k b) ∙ ring F L.ring 0 (minus :1 :* minus :1 := :1) refl
+
+  -- `2^a`-th powers lead down the family of roots
+  pub root-power : (a h : ℕ) → h + a ≤ top → pow F (w (h + a)) (2 ^ a) ≡ w h
+  root-power zero h b = pow-one F L.ring (w (h + 0)) ∙ ap w (omega arith)
+  root-power (suc a) h b =
+      ap (λ n. pow F (w (h + suc a)) n) (double a)
+      ∙ power-add F L.ring (w (h + suc a)) (2 ^ a) (2 ^ a)
+      ∙ pow-times F L.ring (w (h + suc a)) (w (h + suc a)) (2 ^ a)
+      ∙ ap (λ x. pow F x (2 ^ a)) (ap (λ n. w n ⊗ w n) (add-suc h a) ∙ W.square (h + a) (omega (arith, b)))
+      ∙ root-power a h (omega (arith, b))
+
+  -- the points of a row are the `2^a`-th roots of the row's point in the folded domain
+  pub row-power : (i j a h : ℕ) → j < 2 ^ a → h + a ≤ top → pow F (pt F w (i * 2 ^ a + j) (h + a)) (2 ^ a) ≡ pt F w i h
+  unfolding pt
+  row-power i j a h l b =
+      sym (pow-mul F L.ring (w (h + a)) (2 ^ a) (rev (h + a) n))
+      ∙ ap (λ m. pow F (w (h + a)) (2 ^ a * m)) (ap (λ k. rev k n) (add_comm h a) ∙ rev-split a h n ∙ ap (λ q. rev a n * 2 ^ h + rev h q) (div-mul-add i (2 ^ a) j l))
+      ∙ ap (λ m. pow F (w (h + a)) m) (sort (2 ^ a) (rev a n) (2 ^ h) (rev h i) ∙ ap (λ p. rev a n * p + rev h i * 2 ^ a) (sym (nat-pow-add 2 h a)))
+      ∙ power-add F L.ring (w (h + a)) (rev a n * 2 ^ (h + a)) (rev h i * 2 ^ a)
+      ∙ ap₂ (λ x y. x ⊗ y)
+        (pow-mul F L.ring (w (h + a)) (rev a n) (2 ^ (h + a)) ∙ ap (λ x. pow F x (rev a n)) (full_turn (h + a) b) ∙ pow-one_base F L.ring (rev a n))
+        (pow-mul F L.ring (w (h + a)) (rev h i) (2 ^ a) ∙ ap (λ x. pow F x (rev h i)) (root-power a h b))
+      ∙ one_mul F L.ring (pow F (w h) (rev h i))
+    where
+      n : ℕ
+      n = i * 2 ^ a + j
+
+      sort : (p r q s : ℕ) → p * (r * q + s) ≡ r * (q * p) + s * p
+      sort p r q s = omega arith
 
   -- the points of one domain are roots of unity
   pub point-full_turn : (i k : ℕ) → k ≤ top → pow F (pt F w i k) (2 ^ k) ≡ 𝟙

@@ -5,4 +5,5 @@ pub mod Digits
 pub mod TwoAdic
 pub mod Primes
 pub mod Products
+pub mod Words
 pub mod Laws

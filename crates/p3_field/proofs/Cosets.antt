@@ -6,7 +6,7 @@ use Rattle.algebra.specs.Field.{FieldOps, IsField, IsHomomorphism, sub, pow}
 use Rattle.algebra.specs.Polynomial.{val, row}
 use Rattle.algebra.specs.TwoAdic.{AreRoots}
 use Rattle.algebra.proofs.Ring.{◌:+◌, ◌:*◌, ◌:-◌, ◌:=◌, ring, o, :1, minus}
-use Rattle.algebra.proofs.Combine.{combine, combine2, cancel_zero, sub-eq, sub-self}
+use Rattle.algebra.proofs.Combine.{combine, cancel_factor, sub-eq, sub-self}
 use Rattle.algebra.proofs.Powers.{pow-suc_is, pow-mul, pow-one_base}
 use Rattle.algebra.proofs.Values.{val-cons, val-append, val-one, val-zeros}
 use Rattle.algebra.proofs.Points.{full_turn, powers_differ}
@@ -23,9 +23,6 @@ module _ {A : Type 0} (F : FieldOps A) (L : IsField F) where
   infixl 65 ◌⊕◌
   infixl 70 ◌⊗◌
   open F use {zero as 𝟘, one as 𝟙, add as ◌⊕◌, mul as ◌⊗◌, neg, inv}
-
-  cancel_factor : (s a b : A) → s ≢ 𝟘 → s ⊗ a ≡ s ⊗ b → a ≡ b
-  cancel_factor s a b n e = sub-eq F L.ring (cancel_zero F L s (sub F a b) n (combine F L.ring {k = 𝟙} e (ring F L.ring 3 (λ s a b. s :* (a :- b) :+ :1 :* (s :* b) := o :+ :1 :* (s :* a)) refl s a b)))
 
   divided : (s a x : A) → s ≢ 𝟘 → x ≡ s ⊗ a → x ⊗ inv s ≡ a
   divided s a x n e = ap (λ y. y ⊗ inv s) e ∙ combine F L.ring {k = neg a} (sym (L.mul_inv s n)) (ring F L.ring 3 (λ s a i. s :* a :* i :+ minus a :* (s :* i) := a :+ minus a :* :1) refl s a (inv s))
@@ -104,7 +101,7 @@ module _ {A : Type 0} (F : FieldOps A) (L : IsField F) where
 
     pub vanishes_exactly : (shift : A) → shift ≢ 𝟘 → VanishesExactlyOn F (w k) shift k
     vanishes_exactly shift n = record {
-      distinct = AllPairs_from_distinct (coset_points F (w k) shift k) (distinct-row (2 ^ k) (coset_point F (w k) shift) (λ i j p q e. not_below i j p (powers_differ F L top w W k i j b (omega (arith, p, q)) q (cancel_factor shift (pow F (w k) i) (pow F (w k) j) n e))));
+      distinct = AllPairs_from_distinct (coset_points F (w k) shift k) (distinct-row (2 ^ k) (coset_point F (w k) shift) (λ i j p q e. not_below i j p (powers_differ F L top w W k i j b (omega (arith, p, q)) q (cancel_factor F L shift (pow F (w k) i) (pow F (w k) j) n e))));
       zeros = λ x. (λ e. is_point x (sub-eq F L.ring e) (found_or_none (2 ^ k) (λ i. pow F (w k) i) (x ⊗ inv shift)), λ h. is_zero x h);
     }
       where

@@ -98,11 +98,6 @@ steps bits zero i le small = absurd (omega (arith, small))
 steps zero (suc k) i le small = absurd (omega (arith, le))
 steps (suc bits) (suc k) i le small = by_lowest bits k i (i % 2) refl (omega (arith, le)) small (λ next. steps bits k (i / 2) (omega (arith, le)) next)
 
--- no digits, or only zeros, reversed
-pub rev-of_zero : (k : ℕ) → rev k 0 ≡ 0
-rev-of_zero zero = rev-zero 0
-rev-of_zero (suc k) = rev-even k 0 ∙ rev-of_zero k
-
 module _ (n i : ℕ) (small : n < 2 ^ 64) (some : 0 < i) (within : i < n) where
   -- the step of a loop over the indices of a list of `n` entries, from `i - 1` to `i`
   pub bit_xor-highest : (k j : ℕ) → n ≡ 2 ^ k → j ≡ rev k (i - 1) → bit_xor j (n - n / 2 ^ (count_trailing_zeros 64 i + 1)) ≡ rev k i

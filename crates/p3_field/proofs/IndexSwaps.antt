@@ -3,10 +3,9 @@ use Rattle.std.proofs.Common.{◌≡◌, ◌≢◌, ℕ, ◌+◌, ◌^◌, ◌<�
 use Rattle.std.specs.List.{SwappedAt}
 use Rattle.std.proofs.lemmas.Bool.{cases_lt}
 use Rattle.algebra.specs.Digits.{rev}
-use Rattle.algebra.proofs.Digits.{rev-lt, rev-rev}
+use Rattle.algebra.proofs.Digits.{rev-lt, rev-rev, rev-of_zero}
 use Rattle.p3_field.specs.Index.{bit_reversed}
 use Rattle.p3_field.proofs.IndexReversal.{bit_reversed_by_entries}
-use Rattle.p3_field.proofs.IndexSteps.{rev-of_zero}
 
 -- `xs` became `ys`: the pairs with an index below `i` have changed places, the others haven't
 pub record SwapsPairsBelow {A : Type 0} (k : ℕ) (xs : List A) (i : ℕ) (ys : List A) : Type 0 where

@@ -5,8 +5,8 @@ use Rattle.algebra.specs.Polynomial.{val}
 use Rattle.algebra.specs.Interpolation.{Interpolates, interpolant}
 use Rattle.algebra.specs.Digits.{rev}
 use Rattle.algebra.specs.TwoAdic.{AreRoots, pt, row_points}
-use Rattle.algebra.proofs.Ring.{◌:+◌, ◌:*◌, ◌:-◌, ◌:=◌, ring, o, :1, minus}
-use Rattle.algebra.proofs.Combine.{cancel_zero, sub-eq, combine}
+use Rattle.algebra.proofs.Ring.{◌:+◌, ◌:*◌, ◌:-◌, ◌:=◌, ring, :1, minus}
+use Rattle.algebra.proofs.Combine.{combine, equal_from_doubles}
 use Rattle.algebra.proofs.Values.{val-two}
 use Rattle.algebra.proofs.Powers.{pow-add, homomorphism-pow, double}
 use Rattle.algebra.proofs.Digits.{rev-even, rev-lt}
@@ -14,11 +14,6 @@ use Rattle.algebra.proofs.Points.{full_turn, point-opposite, row_distinct}
 use Rattle.algebra.proofs.Interpolation.{interpolant_interpolates}
 use Rattle.algebra.proofs.Lists.{distinct_from_AllPairs, head_eq, tail_eq}
 use Rattle.p3_fri_core.specs.Fold.{fold_value}
-
--- halves are equal where doubles are
-pub equal_from_doubles : {A : Type 0} (F : FieldOps A) → IsField F → (a b : A) → F.add a a ≡ F.add b b → a ≡ b
-equal_from_doubles F L a b e = sub-eq F L.ring (cancel_zero F L (F.add F.one F.one) (sub F a b) L.two_not_zero
-    (combine F L.ring {k = F.one} e (ring F L.ring 2 (λ a b. (:1 :+ :1) :* (a :- b) :+ :1 :* (b :+ b) := o :+ :1 :* (a :+ a)) refl a b)))
 
 module _ {A : Type 0} (F : FieldOps A) (L : IsField F) (top : ℕ) (w : ℕ → A) (W : AreRoots F top w) where
   infixl 65 ◌⊕◌

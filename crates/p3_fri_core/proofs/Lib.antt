@@ -1,3 +1,4 @@
 pub mod Fewest
+pub mod FoldDegrees
 pub mod Folds
 pub mod Rounds

@@ -4,8 +4,8 @@ use Rattle.std.specs.Int.Count.{count_trailing_zeros}
 use Rattle.std.specs.List.{SwappedAt}
 use Rattle.std.proofs.lemmas.Nat.{pow_pos}
 use Rattle.algebra.specs.Digits.{rev}
-use Rattle.algebra.proofs.Digits.{rev-lt}
-use Rattle.p3_field.proofs.IndexSteps.{rev-of_zero, bit_xor-highest, shift_fits}
+use Rattle.algebra.proofs.Digits.{rev-lt, rev-of_zero}
+use Rattle.p3_field.proofs.IndexSteps.{bit_xor-highest, shift_fits}
 use Rattle.p3_field.proofs.IndexSwaps.{SwapsPairsBelow, swaps_all, swaps_first, swaps_unpaired, swaps_pair}
 use Rattle.p3_field.proofs.index.reverse_slice_index_bits.Goals as goal
 use Rattle.p3_field.proofs.index.reverse_slice_index_bits.Goals.{then-i-j, else-i-j}

@@ -1,0 +1,72 @@
+-- Words: their restriction to a smaller domain, and the one polynomial behind each.
+use Rattle.std.proofs.Common.{◌≡◌, ℕ, zero, suc, ◌+◌, ◌*◌, ◌-◌, ◌/◌, ◌^◌, ◌<◌, ◌≤◌, List, [], ◌∷◌, length, map, take, drop, refl, sym, ap, ap₂, ◌∙◌, arith, suc-add}
+use Rattle.std.proofs.lemmas.Nat.{pow-add, div-mul-add}
+use Rattle.std.proofs.Math.Nat.{pow-le-pow_right}
+use Rattle.algebra.specs.Field.{FieldOps, IsField, pow}
+use Rattle.algebra.specs.Polynomial.{val, row}
+use Rattle.algebra.specs.Digits.{rev}
+use Rattle.algebra.specs.TwoAdic.{AreRoots, pt}
+use Rattle.algebra.specs.Words.{word, coset_word, IsWord, IsCosetWord}
+use Rattle.algebra.proofs.Ring.{◌:*◌, ◌:=◌, ring}
+use Rattle.algebra.proofs.Combine.{cancel_factor}
+use Rattle.algebra.proofs.Powers.{pow-mul}
+use Rattle.algebra.proofs.Digits.{rev-split, rev-of_zero}
+use Rattle.algebra.proofs.Interpolation.{equal_from_values}
+use Rattle.algebra.proofs.Points.{root-power, points_differ}
+use Rattle.algebra.proofs.Lists.{Each, length-row, map-row, row-equal, head_eq, tail_eq, distinct-row}
+
+pub take-row : {A : Type 0} (m n : ℕ) (f : ℕ → A) → m ≤ n → take m (row n f) ≡ row m f
+take-row zero n f b = refl
+take-row (suc m) zero f b = absurd (omega (arith, b))
+take-row (suc m) (suc n) f b = ap (λ xs. f zero ∷ xs) (take-row m n (λ i. f (suc i)) (omega (arith, b)))
+
+pub drop-row : {A : Type 0} (m n : ℕ) (f : ℕ → A) → drop m (row (m + n) f) ≡ row n (λ i. f (m + i))
+drop-row zero n f = ap (λ k. row k f) (omega arith) ∙ row-equal n f (λ i. f (0 + i)) (λ i _. ap f (omega arith))
+drop-row (suc m) n f = ap (λ k. drop (suc m) (row k f)) (suc-add m n) ∙ drop-row m n (λ i. f (suc i)) ∙ row-equal n (λ i. f (suc (m + i))) (λ i. f (suc m + i)) (λ i _. ap f (omega arith))
+
+-- equal rows have equal entries, one by one
+each-row : {A B : Type 0} (n : ℕ) (f g : A → B) (x : ℕ → A) → row n (λ i. f (x i)) ≡ row n (λ i. g (x i)) → Each (λ y. f y ≡ g y) (row n x)
+each-row zero f g x e = tt
+each-row (suc n) f g x e = (head_eq e, each-row n f g (λ i. x (suc i)) (tail_eq e))
+
+module _ {A : Type 0} (F : FieldOps A) (L : IsField F) (top : ℕ) (w : ℕ → A) (W : AreRoots F top w) where
+  infixl 70 ◌⊗◌
+  open F use {zero as 𝟘, mul as ◌⊗◌}
+
+  -- the first `2^j` points of a domain are the domain of that size
+  pub point-restrict : (i j m : ℕ) → i < 2 ^ j → j + m ≤ top → pt F w i (j + m) ≡ pt F w i j
+  unfolding pt
+  point-restrict i j m l b =
+      ap (λ n. pow F (w (j + m)) n) (rev-split j m i ∙ ap (λ q. rev j i * 2 ^ m + rev m q) (small i (2 ^ j) l) ∙ ap (λ r. rev j i * 2 ^ m + r) (rev-of_zero m) ∙ omega arith)
+      ∙ pow-mul F L.ring (w (j + m)) (rev j i) (2 ^ m)
+      ∙ ap (λ x. pow F x (rev j i)) (root-power F L top w W m j b)
+    where
+      small : (i n : ℕ) → i < n → i / n ≡ 0
+      small i n l = ap (λ t. t / n) (omega arith) ∙ div-mul-add 0 n i l
+
+  -- a word, cut to a smaller domain, is that of the same polynomial
+  pub word-restrict : (j m : ℕ) (c : List A) → j + m ≤ top → take (2 ^ j) (word F w (j + m) c) ≡ word F w j c
+  word-restrict j m c b =
+      take-row (2 ^ j) (2 ^ (j + m)) (λ i. val F c (pt F w i (j + m))) (pow-le-pow_right {n = 2} (omega arith) {i = j} {j = j + m} (omega arith))
+      ∙ row-equal (2 ^ j) (λ i. val F c (pt F w i (j + m))) (λ i. val F c (pt F w i j)) (λ i l. ap (λ x. val F c x) (point-restrict i j m l b))
+
+  pub coset_word-restrict : (shift : A) (j m : ℕ) (c : List A) → j + m ≤ top → take (2 ^ j) (coset_word F w shift (j + m) c) ≡ coset_word F w shift j c
+  coset_word-restrict shift j m c b =
+      take-row (2 ^ j) (2 ^ (j + m)) (λ i. val F c (shift ⊗ pt F w i (j + m))) (pow-le-pow_right {n = 2} (omega arith) {i = j} {j = j + m} (omega arith))
+      ∙ row-equal (2 ^ j) (λ i. val F c (shift ⊗ pt F w i (j + m))) (λ i. val F c (shift ⊗ pt F w i j)) (λ i l. ap (λ x. val F c (shift ⊗ x)) (point-restrict i j m l b))
+
+  not_below : (i j : ℕ) → i < j → i ≡ j → ⊥
+  not_below i j p e = omega (arith, p, e)
+
+  -- a word has one polynomial, where it has at least as many entries as coefficients
+  pub word_injective : (k : ℕ) (c d : List A) → k ≤ top → length c ≡ length d → length c ≤ 2 ^ k → word F w k c ≡ word F w k d → c ≡ d
+  word_injective k c d b e n h =
+      equal_from_values F L c d (row (2 ^ k) (λ i. pt F w i k)) e (omega (arith, n, length-row (2 ^ k) (λ i. pt F w i k)))
+      (distinct-row (2 ^ k) (λ i. pt F w i k) (λ i j p q s. not_below i j p (points_differ F L top w W k i j b (omega (arith, p, q)) q s)))
+      (each-row (2 ^ k) (λ x. val F c x) (λ x. val F d x) (λ i. pt F w i k) h)
+
+  pub coset_word_injective : (shift : A) → ¬ (shift ≡ 𝟘) → (k : ℕ) (c d : List A) → k ≤ top → length c ≡ length d → length c ≤ 2 ^ k → coset_word F w shift k c ≡ coset_word F w shift k d → c ≡ d
+  coset_word_injective shift z k c d b e n h =
+      equal_from_values F L c d (row (2 ^ k) (λ i. shift ⊗ pt F w i k)) e (omega (arith, n, length-row (2 ^ k) (λ i. shift ⊗ pt F w i k)))
+      (distinct-row (2 ^ k) (λ i. shift ⊗ pt F w i k) (λ i j p q s. not_below i j p (points_differ F L top w W k i j b (omega (arith, p, q)) q (cancel_factor F L shift (pt F w i k) (pt F w j k) z s))))
+      (each-row (2 ^ k) (λ x. val F c x) (λ x. val F d x) (λ i. shift ⊗ pt F w i k) h)
