@@ -10,6 +10,10 @@ pub mod Interpolation
 pub mod Digits
 pub mod Points
 pub mod Primes
+pub mod Fermat
+pub mod QuarticExtension
+pub mod PolynomialProduct
+pub mod QuarticProduct
 pub mod Products
 pub mod Blocks
 pub mod Words

@@ -1,5 +1,7 @@
 pub mod Field
 pub mod Polynomial
+pub mod PolynomialProduct
+pub mod QuarticExtension
 pub mod Interpolation
 pub mod Digits
 pub mod TwoAdic

@@ -1,5 +1,7 @@
 pub mod BabyBear
 pub mod BabyBearLaws
+pub mod BabyBear4
+pub mod BabyBear4Laws
 pub mod Coset
 pub mod ExtensionLaws
 pub mod Index
@@ -7,6 +9,8 @@ pub mod Order
 pub use Rattle.algebra.specs.Digits
 pub use Rattle.algebra.specs.Field
 pub use Rattle.algebra.specs.Polynomial
+pub use Rattle.algebra.specs.PolynomialProduct
+pub use Rattle.algebra.specs.QuarticExtension
 pub use Rattle.algebra.specs.Primes
 pub use Rattle.algebra.specs.Products
 pub use Rattle.algebra.specs.TwoAdic

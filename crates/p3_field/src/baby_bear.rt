@@ -4,6 +4,7 @@ ghost use Rattle.std.specs.Prelude.{◌<◌};
 
 mod arithmetic;
 mod bytes;
+pub(crate) mod constants;
 mod field;
 mod inverse;
 #[cfg(test)]

@@ -42,6 +42,7 @@ fn invert_from_products<F: Field>(products: &mut [F], values: &[F], inverse_of_a
 mod tests {
     use super::*;
     use crate::baby_bear::BabyBear;
+    use crate::baby_bear4::BabyBear4;
     use std::test::Fail;
 
     /// Whether the batched inverses of these numbers are the inverses one by one.
@@ -68,9 +69,10 @@ mod tests {
 
     #[test]
     fn inverts_lists_of_length_0_1_and_5(rt: HostRuntime) -> Result<(), Fail> {
-        assert!(rt; agrees::<BabyBear>(rt.alloc(), &[])?);
-        assert!(rt; agrees::<BabyBear>(rt.alloc(), &[7])?);
-        assert!(rt; agrees::<BabyBear>(rt.alloc(), &[1, 2, 3, 4, 2013265920])?);
+        for numbers in [&[][..], &[7], &[1, 2, 3, 4, 2013265920]] {
+            assert!(rt; agrees::<BabyBear>(rt.alloc(), numbers)?);
+            assert!(rt; agrees::<BabyBear4>(rt.alloc(), numbers)?);
+        }
         Ok(())
     }
 }

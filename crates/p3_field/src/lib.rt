@@ -5,6 +5,7 @@
 #![tactic(auto)]
 
 pub mod baby_bear;
+pub mod baby_bear4;
 pub mod batch_inverse;
 pub mod coset;
 pub mod element_bytes;
@@ -16,6 +17,7 @@ pub mod prime_field;
 pub mod two_adic;
 
 pub use crate::baby_bear::BabyBear;
+pub use crate::baby_bear4::BabyBear4;
 pub use crate::batch_inverse::batch_multiplicative_inverse;
 pub use crate::coset::TwoAdicMultiplicativeCoset;
 pub use crate::element_bytes::ElementBytes;

@@ -48,9 +48,9 @@ module _ {A : Type 0} (F : FieldOps A) (L : IsField F) (top : ℕ) (w : ℕ → 
         count = length-block_sum F L.ring (2 ^ a) d c (pt F w i h) e ∙ sym (length-row (2 ^ a) (λ j. pt F w (i * 2 ^ a + j) (h + a)));
         values = map-row (λ x. val F sum_at x) (2 ^ a) (λ j. pt F w (i * 2 ^ a + j) (h + a))
             ∙ row-equal (2 ^ a) (λ j. val F sum_at (pt F w (i * 2 ^ a + j) (h + a))) (λ j. val F c (pt F w (i * 2 ^ a + j) (h + a)))
-              (λ j k. val-block_sum F L.ring (2 ^ a) d c (pt F w i h) (pt F w (i * 2 ^ a + j) (h + a)) e
-              ∙ ap (λ z. val F (block_values F (2 ^ a) d c (pt F w (i * 2 ^ a + j) (h + a))) z) (sym (row-power F L top w W i j a h k b))
-              ∙ sym (val-blocks F L.ring (2 ^ a) d c (pt F w (i * 2 ^ a + j) (h + a)) e))
+            (λ j k. val-block_sum F L.ring (2 ^ a) d c (pt F w i h) (pt F w (i * 2 ^ a + j) (h + a)) e
+            ∙ ap (λ z. val F (block_values F (2 ^ a) d c (pt F w (i * 2 ^ a + j) (h + a))) z) (sym (row-power F L top w W i j a h k b))
+            ∙ sym (val-blocks F L.ring (2 ^ a) d c (pt F w (i * 2 ^ a + j) (h + a)) e));
       }
 
   -- so the word of a polynomial folds to that of the blocks' polynomial
@@ -71,5 +71,5 @@ module _ {A : Type 0} (F : FieldOps A) (L : IsField F) (top : ℕ) (w : ℕ → 
   folded_word-degree h a d beta ys b y = record {
     polynomial = block_values F (2 ^ a) d y.polynomial beta;
     degree = length-block_values F (2 ^ a) d y.polynomial beta;
-    values = ap (λ zs. folded_word F w h a beta zs) y.values ∙ folded_word-word h a d beta y.polynomial b y.degree
+    values = ap (λ zs. folded_word F w h a beta zs) y.values ∙ folded_word-word h a d beta y.polynomial b y.degree;
   }

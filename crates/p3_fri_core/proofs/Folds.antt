@@ -8,12 +8,12 @@ use Rattle.algebra.specs.TwoAdic.{AreRoots, pt, row_points}
 use Rattle.algebra.proofs.Ring.{◌:+◌, ◌:*◌, ◌:-◌, ◌:=◌, ring, :1, minus}
 use Rattle.algebra.proofs.Combine.{combine, equal_from_doubles}
 use Rattle.algebra.proofs.Values.{val-two}
-use Rattle.algebra.proofs.Powers.{pow-add, homomorphism-pow, double}
+use Rattle.algebra.proofs.Powers.{pow-add, pow-times, pow-one_base, homomorphism-pow, double}
 use Rattle.algebra.proofs.Digits.{rev-even, rev-lt}
-use Rattle.algebra.proofs.Points.{full_turn, point-opposite, row_distinct}
+use Rattle.algebra.proofs.Points.{full_turn, root-nonzero, lifted_roots, point-opposite, row_distinct}
 use Rattle.algebra.proofs.Interpolation.{interpolant_interpolates}
 use Rattle.algebra.proofs.Lists.{distinct_from_AllPairs, head_eq, tail_eq}
-use Rattle.p3_fri_core.specs.Fold.{fold_value}
+use Rattle.p3_fri_core.specs.Fold.{fold_value, IsHalfInverse}
 
 module _ {A : Type 0} (F : FieldOps A) (L : IsField F) (top : ℕ) (w : ℕ → A) (W : AreRoots F top w) where
   infixl 65 ◌⊕◌
@@ -50,15 +50,44 @@ module _ {A : Type 0} (F : FieldOps A) (L : IsField F) (top : ℕ) (w : ℕ → 
       values : val F c (pt F w (i + i) (suc h)) ∷ val F c (neg (pt F w (i + i) (suc h))) ∷ [] ≡ y0 ∷ y1 ∷ []
       values = sym (ap (λ xs. map (λ x. val F c x) xs) (row_of_two i h b)) ∙ through.values
 
--- the inverse of a row's first point is a power of the root too, also where the roots are lifted
-module _ {A E : Type 0} (F : FieldOps A) (K : FieldOps E) (lift : A → E) (L : IsField F) (top : ℕ) (w : ℕ → A) (W : AreRoots F top w) (H : IsHomomorphism F K lift) where
-  pub inverse_of_point : (i h n : ℕ) → suc h ≤ top → n ≡ 2 ^ suc h - rev h i → K.mul (pt K (λ k. lift (w k)) (i + i) (suc h)) (lift (pow F (w (suc h)) n)) ≡ K.one
+module _ {A E : Type 0} (F : FieldOps A) (K : FieldOps E) (lift : A → E) (L : IsField F) (M : IsField K) (H : IsHomomorphism F K lift) (top : ℕ) (w : ℕ → A) (W : AreRoots F top w) where
+  infixl 65 ◌⊕◌
+  infixl 70 ◌⊗◌
+  open K use {one as 𝟙, add as ◌⊕◌, mul as ◌⊗◌, neg}
+
+  lifted_point : (n h : ℕ) → pt K (λ k. lift (w k)) n h ≡ lift (pt F w n h)
   unfolding pt
-  inverse_of_point i h n b e =
-      ap (λ x. K.mul x (lift (pow F (w (suc h)) n))) (sym (homomorphism-pow F K lift H (w (suc h)) (rev (suc h) (i + i))))
-      ∙ sym (H.mul (pow F (w (suc h)) (rev (suc h) (i + i))) (pow F (w (suc h)) n))
-      ∙ ap lift (sym (pow-add F L.ring (w (suc h)) (rev (suc h) (i + i)) n) ∙ ap (λ m. pow F (w (suc h)) m) whole ∙ full_turn F L top w W (suc h) b)
-      ∙ H.one
-    where
-      whole : rev (suc h) (i + i) + n ≡ 2 ^ suc h
-      whole = omega (arith, e, rev-even h i, rev-lt h i, double h)
+  lifted_point n h = sym (homomorphism-pow F K lift H (w h) (rev h n))
+
+  -- the fold by half the inverse of the row's first point, which lies in the base field
+  pub fold_by_half_inverse : (i h : ℕ) (half : A) (beta y0 y1 s r : E) → i < 2 ^ h → suc h ≤ top → IsHalfInverse F w i h half
+      → s ⊕ s ≡ y0 ⊕ y1 → r ≡ s ⊕ sub K y0 y1 ⊗ lift half ⊗ beta → r ≡ fold_value K (λ k. lift (w k)) i h 1 beta (y0 ∷ y1 ∷ [])
+  fold_by_half_inverse i h half beta y0 y1 s r l b inverse sum is =
+      fold_of_two K M top (λ k. lift (w k)) (lifted_roots F K lift L M H top w W) i h (lift (F.add half half)) beta y0 y1 r l b
+      (ap (λ x. x ⊗ lift (F.add half half)) (lifted_point (i + i) (suc h)) ∙ sym (H.mul (pt F w (i + i) (suc h)) (F.add half half)) ∙ ap lift inverse ∙ H.one)
+      (ap (λ x. x ⊕ x) is
+      ∙ ring K M.ring 4 (λ s d t x. (s :+ d :* t :* x) :+ (s :+ d :* t :* x) := (s :+ s) :+ d :* (t :+ t) :* x) refl s (sub K y0 y1) (lift half) beta
+      ∙ ap₂ (λ x y. x ⊕ sub K y0 y1 ⊗ y ⊗ beta) sum (sym (H.add half half)))
+
+module _ {A : Type 0} (F : FieldOps A) (L : IsField F) (top : ℕ) (w : ℕ → A) (W : AreRoots F top w) where
+  infixl 65 ◌⊕◌
+  infixl 70 ◌⊗◌
+  open F use {one as 𝟙, add as ◌⊕◌, mul as ◌⊗◌, inv}
+
+  -- the inverse of a row's first point is a power of the root too
+  pub half_inverse_by_power : (i h n : ℕ) (half : A) → suc h ≤ top → n ≡ 2 ^ suc h - rev h i → half ⊕ half ≡ pow F (w (suc h)) n → IsHalfInverse F w i h half
+  unfolding pt
+  half_inverse_by_power i h n half b e is =
+      ap (λ x. pow F (w (suc h)) (rev (suc h) (i + i)) ⊗ x) is
+      ∙ sym (pow-add F L.ring (w (suc h)) (rev (suc h) (i + i)) n)
+      ∙ ap (λ m. pow F (w (suc h)) m) (omega (arith, e, rev-even h i, rev-lt h i, double h))
+      ∙ full_turn F L top w W (suc h) b
+
+  -- and a power of the root's inverse
+  pub half_inverse_by_inverse : (i h n : ℕ) (one_half half : A) → suc h ≤ top → n ≡ rev h i → one_half ⊕ one_half ≡ 𝟙 → half ≡ one_half ⊗ pow F (inv (w (suc h))) n → IsHalfInverse F w i h half
+  unfolding pt
+  half_inverse_by_inverse i h n one_half half b e halved is =
+      ap₂ (λ m x. pow F (w (suc h)) m ⊗ (x ⊕ x)) (rev-even h i ∙ sym e) is
+      ∙ ring F L.ring 3 (λ p q a. p :* (a :* q :+ a :* q) := (a :+ a) :* (p :* q)) refl (pow F (w (suc h)) n) (pow F (inv (w (suc h))) n) one_half
+      ∙ ap₂ (λ x y. x ⊗ y) halved (pow-times F L.ring (w (suc h)) (inv (w (suc h))) n ∙ ap (λ x. pow F x n) (L.mul_inv (w (suc h)) (root-nonzero F L top w W (suc h) b)) ∙ pow-one_base F L.ring n)
+      ∙ L.mul_one 𝟙

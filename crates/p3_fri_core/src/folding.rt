@@ -1,10 +1,12 @@
 //! The fold of rows over two-adic domains.
 
-ghost use Rattle.std.specs.Prelude.{◌≡◌, ◌+◌, ◌<◌, ◌≤◌, ◌^◌, [], ◌∷◌, length};
-ghost use Rattle.p3_fri_core.specs.Fold.{fold_value};
+ghost use Rattle.std.specs.Prelude.{◌≡◌, ◌+◌, ◌<◌, ◌≤◌, ◌^◌, ℕ, [], ◌∷◌, length, IfOk};
+ghost use Rattle.algebra.specs.Field.{pow};
+ghost use Rattle.algebra.specs.Polynomial.{row};
+ghost use Rattle.p3_fri_core.specs.Fold.{fold_value, IsHalfInverse, AreHalfInverses};
 
-use p3_field::index::reverse_bits_len;
-use p3_field::{ExtensionField, Field, TwoAdicField};
+use p3_field::{ExtensionField, Field, TwoAdicField, reverse_bits_len, reverse_slice_index_bits};
+use std::alloc::{AllocError, Global};
 use std::marker::PhantomData;
 
 /// Folding over the two-adic domains of a field, in bit-reversed order. The parameters name the proof and the
@@ -33,28 +35,63 @@ impl<InputProof, InputError> TwoAdicFriFolding<InputProof, InputError> {
         requires within_two_adicity { log_height + log_arity ≤ F.TWO_ADICITY }
         ensures { result ≡ fold_value EF.ops (λ k. EF.lift (F.root k)) index log_height log_arity beta row.now }
     {
-        fold_pair(index, log_height, beta, row[0], row[1])
+        fold_pair::<F, EF>(half_inverse(index, log_height), beta, row[0], row[1])
     }
 }
 
-/// The fold of the two values of row `index`, at `s` and `-s`. Since `s` is a power of a root of unity, so is its
-/// inverse.
+/// The fold of two values at `s` and `-s`, by half the inverse of `s`.
 fn fold_pair<F: TwoAdicField, EF: ExtensionField<F>>(
-    index: usize,
-    log_height: usize,
+    half_inverse: F,
     beta: EF,
     left: EF,
     right: EF,
 ) -> EF
+    ensures { (i h : ℕ) → i < 2 ^ h → h < F.TWO_ADICITY → IsHalfInverse F.ops F.root i h half_inverse →
+        result ≡ fold_value EF.ops (λ k. EF.lift (F.root k)) i h 1 beta (left ∷ right ∷ []) }
+{
+    (left + right).halve() + (left - right).scale(half_inverse) * beta
+}
+
+/// Half the inverse of the first point of a row: since that point is a power of a root of unity, so is its inverse.
+fn half_inverse<F: TwoAdicField>(index: usize, log_height: usize) -> F
     requires within_word { index < 2 ^ log_height }
     requires within_two_adicity { log_height < F.TWO_ADICITY }
-    ensures { result ≡ fold_value EF.ops (λ k. EF.lift (F.root k)) index log_height 1 beta (left ∷ right ∷ []) }
+    ensures { IsHalfInverse F.ops F.root index log_height result }
 {
     let order = 1 << (log_height + 1);
     let power = order - reverse_bits_len(index, log_height);
-    let inverse = F::two_adic_generator(log_height + 1).exp_u64(power as u64);
-    let odd = (left - right).scale(inverse) * beta;
-    (left + right + odd).halve()
+    F::two_adic_generator(log_height + 1)
+        .exp_u64(power as u64)
+        .halve()
+}
+
+/// Half the inverse of the first point of each row, by one inversion and running products.
+fn half_inverses<F: TwoAdicField>(alloc: Global, log_height: usize) -> Result<Vec<F>, AllocError>
+    requires within_two_adicity { log_height < F.TWO_ADICITY }
+    ensures { IfOk result (λ halves. AreHalfInverses F.ops F.root log_height halves.items) }
+{
+    let inverse = F::two_adic_generator(log_height + 1).inverse();
+    let mut halves = shifted_powers(alloc, F::ONE.halve(), inverse, 1 << log_height)?;
+    reverse_slice_index_bits(&mut halves);
+    Ok(halves)
+}
+
+/// The products of `first` with the powers of `base`, from the power 0 on.
+fn shifted_powers<F: Field>(
+    alloc: Global,
+    first: F,
+    base: F,
+    count: usize,
+) -> Result<Vec<F>, AllocError>
+    ensures { IfOk result (λ powers. powers.items ≡ row count (λ i. F.ops.mul first (pow F.ops base i))) }
+{
+    let mut powers = Vec::with_capacity(alloc, count)?;
+    let mut power = first;
+    for _ in 0..count {
+        powers.push(power)?;
+        power = power * base;
+    }
+    Ok(powers)
 }
 
 #[cfg(test)]

@@ -1,0 +1,28 @@
+//! BabyBear4's elements as bytes.
+
+ghost use Rattle.std.specs.Prelude.{◌≡◌};
+ghost use Rattle.p3_field.specs.BabyBear4.{coefficient_bytes};
+ghost use Rattle.p3_field.specs.BabyBear4Laws.{coefficient_bytes_length, coefficient_bytes_injective};
+
+use super::BabyBear4;
+use crate::baby_bear::BabyBear;
+use crate::element_bytes::ElementBytes;
+use crate::extension::ExtensionField;
+
+/// The bytes of the four coefficients one after another, from the constant one.
+impl ElementBytes for BabyBear4 {
+    ghost LEN = { 16 };
+
+    const LEN: usize = 16;
+
+    ghost bytes = { coefficient_bytes };
+
+    fn byte(self, index: usize) -> u8 {
+        let coefficient: BabyBear = self.coefficient(index / 4);
+        coefficient.byte(index % 4)
+    }
+
+    ghost bytes_length = { coefficient_bytes_length };
+
+    ghost bytes_injective = { coefficient_bytes_injective };
+}
