@@ -1,5 +1,5 @@
 -- The fold of a row of two values.
-use Rattle.std.proofs.Common.{◌≡◌, ℕ, suc, ◌+◌, ◌-◌, ◌^◌, ◌<◌, ◌≤◌, List, [], ◌∷◌, length, map, refl, sym, ap, ap₂, ◌∙◌, arith}
+use Rattle.std.proofs.Common.{◌≡◌, ℕ, suc, ◌+◌, ◌-◌, ◌^◌, ◌<◌, ◌≤◌, List, [], ◌∷◌, length, map, get_or, refl, sym, ap, ap₂, ◌∙◌, arith}
 use Rattle.algebra.specs.Field.{FieldOps, IsField, IsHomomorphism, sub, pow}
 use Rattle.algebra.specs.Polynomial.{val}
 use Rattle.algebra.specs.Interpolation.{Interpolates, interpolant}
@@ -91,3 +91,9 @@ module _ {A : Type 0} (F : FieldOps A) (L : IsField F) (top : ℕ) (w : ℕ → 
       ∙ ring F L.ring 3 (λ p q a. p :* (a :* q :+ a :* q) := (a :+ a) :* (p :* q)) refl (pow F (w (suc h)) n) (pow F (inv (w (suc h))) n) one_half
       ∙ ap₂ (λ x y. x ⊗ y) halved (pow-times F L.ring (w (suc h)) (inv (w (suc h))) n ∙ ap (λ x. pow F x n) (L.mul_inv (w (suc h)) (root-nonzero F L top w W (suc h) b)) ∙ pow-one_base F L.ring n)
       ∙ L.mul_one 𝟙
+
+pub two_entries : {A : Type 0} (xs : List A) (a b : A) → length xs ≡ 2 → a ≡ get_or xs 0 a → b ≡ get_or xs 1 b → xs ≡ a ∷ b ∷ []
+two_entries [] a b n e0 e1 = absurd (omega (arith, n))
+two_entries (x ∷ []) a b n e0 e1 = absurd (omega (arith, n))
+two_entries (x ∷ y ∷ []) a b n e0 e1 = ap₂ (λ u v. u ∷ v ∷ []) (sym e0) (sym e1)
+two_entries (x ∷ y ∷ z ∷ xs) a b n e0 e1 = absurd (omega (arith, n))

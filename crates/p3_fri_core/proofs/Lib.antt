@@ -1,4 +1,3 @@
 pub mod Fewest
-pub mod FoldDegrees
 pub mod Folds
 pub mod Rounds

@@ -4,8 +4,14 @@ ghost use Rattle.std.specs.Prelude.{◌≡◌, ◌+◌, ◌<◌, ◌≤◌, ◌^
 ghost use Rattle.algebra.specs.Field.{pow};
 ghost use Rattle.algebra.specs.Polynomial.{row};
 ghost use Rattle.p3_fri_core.specs.Fold.{fold_value, IsHalfInverse, AreHalfInverses};
+ghost use Rattle.p3_fri_core.specs.FoldLaws.{two_adic_lowers_degrees};
 
-use p3_field::{ExtensionField, Field, TwoAdicField, reverse_bits_len, reverse_slice_index_bits};
+use crate::strategy::FriFoldingStrategy;
+use p3_field::{
+    ExtensionField, Field, TwoAdicField, log2_strict_usize, reverse_bits_len,
+    reverse_slice_index_bits,
+};
+use p3_matrix::RowMajorMatrix;
 use std::alloc::{AllocError, Global};
 use std::marker::PhantomData;
 
@@ -14,29 +20,59 @@ use std::marker::PhantomData;
 #[derive(Drop)]
 pub struct TwoAdicFriFolding<InputProof, InputError>(pub PhantomData<(InputProof, InputError)>);
 
-impl<InputProof, InputError> TwoAdicFriFolding<InputProof, InputError> {
-    /// The fold at `beta` of row `index`, of `2^log_arity` values, to a word of log height `log_height`: the value
-    /// at `beta` of the one polynomial with as many coefficients that has the row's values at the row's points
-    /// (the folding step of FRI, ICALP 2018). For two values `y0` and `y1` at the points `s` and `-s` that is
-    /// `(y0 + y1) / 2 + (y0 - y1) * beta / (2 s)`.
-    ///
-    /// The row is that of a word in bit-reversed order: the neighbours from `index * 2^log_arity` on.
-    pub fn fold_row<F: TwoAdicField, EF: ExtensionField<F>>(
+/// The fold of a row is the value at the challenge of the one polynomial with as many coefficients that has the row's
+/// values at the row's points (the folding step of FRI, ICALP 2018). For two values `y0` and `y1` at the points `s`
+/// and `-s` that is `(y0 + y1) / 2 + (y0 - y1) * beta / (2 s)`.
+///
+/// A row is that of a word in bit-reversed order: row `index` holds the neighbours from `index * 2^log_arity` on.
+impl<F: TwoAdicField, EF: ExtensionField<F>, InputProof, InputError> FriFoldingStrategy<F, EF>
+    for TwoAdicFriFolding<InputProof, InputError> {
+    type InputProof = InputProof;
+
+    type InputError = InputError;
+
+    ghost extra_query_index_bits = { λ _. 0 };
+
+    ghost max_log_height = { λ _. F.TWO_ADICITY };
+
+    ghost row_fold = { λ _. fold_value EF.ops (λ k. EF.lift (F.root k)) };
+
+    fn extra_query_index_bits(&self) -> usize {
+        0
+    }
+
+    fn max_log_height(&self) -> usize {
+        F::TWO_ADICITY
+    }
+
+    fn fold_row(
         &self,
         index: usize,
         log_height: usize,
         log_arity: usize,
         beta: EF,
         row: &[EF],
-    ) -> EF
-        requires binary { log_arity ≡ 1 }
-        requires width { length row.now ≡ 2 ^ log_arity }
-        requires within_word { index < 2 ^ log_height }
-        requires within_two_adicity { log_height + log_arity ≤ F.TWO_ADICITY }
-        ensures { result ≡ fold_value EF.ops (λ k. EF.lift (F.root k)) index log_height log_arity beta row.now }
-    {
+    ) -> EF {
         fold_pair::<F, EF>(half_inverse(index, log_height), beta, row[0], row[1])
     }
+
+    fn fold_matrix(
+        &self,
+        alloc: Global,
+        beta: EF,
+        log_arity: usize,
+        matrix: &RowMajorMatrix<EF>,
+    ) -> Result<Vec<EF>, AllocError> {
+        let halves = half_inverses::<F>(alloc, log2_strict_usize(matrix.height()))?;
+        let mut word = Vec::with_capacity(alloc, halves.len())?;
+        for (i, half_inverse) in halves.iter().enumerate() {
+            let row = matrix.row(i);
+            word.push(fold_pair::<F, EF>(*half_inverse, beta, row[0], row[1]))?;
+        }
+        Ok(word)
+    }
+
+    ghost lowers_degrees = { λ _. two_adic_lowers_degrees F.ops EF.ops EF.lift F.Field.laws EF.Field.laws EF.lift_law F.TWO_ADICITY F.root F.roots_law };
 }
 
 /// The fold of two values at `s` and `-s`, by half the inverse of `s`.
@@ -97,7 +133,8 @@ fn shifted_powers<F: Field>(
 #[cfg(test)]
 mod tests {
     use super::*;
-    use p3_field::BabyBear;
+    use p3_field::{BabyBear, BabyBear4};
+    use std::test::Fail;
 
     /// The fold of the row `[5, 3]` at `beta`.
     fn fold_five_three(index: usize, log_height: usize, beta: BabyBear) -> BabyBear
@@ -106,7 +143,76 @@ mod tests {
     {
         let folding: TwoAdicFriFolding<(), ()> = TwoAdicFriFolding(PhantomData);
         let row = [BabyBear::from_u64(5), BabyBear::from_u64(3)];
-        folding.fold_row::<BabyBear, BabyBear>(index, log_height, 1, beta, &row)
+        FriFoldingStrategy::<BabyBear, BabyBear>::fold_row(
+            &folding, index, log_height, 1, beta, &row,
+        )
+    }
+
+    /// Whether each entry of the folded matrix of the numbers from 0 on, two to a row, is the fold of its row.
+    fn rows_agree<EF: ExtensionField<BabyBear>>(
+        alloc: Global,
+        log_height: usize,
+    ) -> Result<bool, AllocError>
+        requires { log_height < 27 }
+    {
+        let folding: TwoAdicFriFolding<(), ()> = TwoAdicFriFolding(PhantomData);
+        let height = 1 << log_height;
+        let mut values = Vec::new(alloc);
+        for n in 0..2 * height {
+            values.push(EF::from_u64(n as u64))?;
+        }
+        let beta = EF::GENERATOR;
+        if values.len() != 2 * height {
+            return Ok(false);
+        }
+        let matrix = RowMajorMatrix::new(values, 2);
+        if matrix.height() != height || matrix.width() != 2 {
+            return Ok(false);
+        }
+        let word = FriFoldingStrategy::<BabyBear, EF>::fold_matrix(
+            &folding, alloc, beta, 1, &matrix,
+        )?;
+        if word.len() != height {
+            return Ok(false);
+        }
+        for (i, value) in word.iter().enumerate() {
+            let row = matrix.row(i);
+            let fold = FriFoldingStrategy::<BabyBear, EF>::fold_row(
+                &folding, i, log_height, 1, beta, row,
+            );
+            if *value != fold {
+                return Ok(false);
+            }
+        }
+        Ok(true)
+    }
+
+    #[test]
+    fn matrices_fold_row_by_row(rt: HostRuntime) -> Result<(), Fail> {
+        for log_height in [0, 1, 4] {
+            assert!(rt;
+                rows_agree::<BabyBear>(rt.alloc(), log_height)?,
+                "to log height {log_height}"
+            );
+            assert!(rt;
+                rows_agree::<BabyBear4>(rt.alloc(), log_height)?,
+                "to log height {log_height}"
+            );
+        }
+        Ok(())
+    }
+
+    #[test]
+    fn offers_the_whole_two_adicity(rt: HostRuntime) {
+        let folding: TwoAdicFriFolding<(), ()> = TwoAdicFriFolding(PhantomData);
+        assert_eq!(rt;
+            FriFoldingStrategy::<BabyBear, BabyBear4>::max_log_height(&folding),
+            27
+        );
+        assert_eq!(rt;
+            FriFoldingStrategy::<BabyBear, BabyBear4>::extra_query_index_bits(&folding),
+            0
+        );
     }
 
     #[test]

@@ -3,8 +3,10 @@
 
 pub mod config;
 pub mod folding;
+pub mod strategy;
 
 pub use crate::config::{
     FriParameters, compute_log_arity_for_round, fold_schedule, is_strictly_falling,
 };
 pub use crate::folding::TwoAdicFriFolding;
+pub use crate::strategy::FriFoldingStrategy;

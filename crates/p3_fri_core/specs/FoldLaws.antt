@@ -1,17 +1,18 @@
 -- The fold of a polynomial's word is the word of the polynomial of its blocks' values.
 use Rattle.std.proofs.Common.{◌≡◌, ℕ, zero, suc, ◌+◌, ◌*◌, ◌-◌, ◌^◌, ◌<◌, ◌≤◌, List, [], ◌∷◌, length, map, take, drop, slice_range, refl, sym, ap, ap₂, ◌∙◌, arith, mul_comm}
 use Rattle.std.proofs.lemmas.Nat.{pow-add, mul-add-lt}
-use Rattle.algebra.specs.Field.{FieldOps, IsField, pow}
+use Rattle.algebra.specs.Field.{FieldOps, IsField, IsHomomorphism, pow}
 use Rattle.algebra.specs.Polynomial.{val, row}
 use Rattle.algebra.specs.Interpolation.{Interpolates, interpolant}
 use Rattle.algebra.specs.TwoAdic.{AreRoots, pt, row_points}
 use Rattle.algebra.specs.Words.{word, IsWord}
 use Rattle.algebra.proofs.Blocks.{block_values, block_sum, length-block_values, length-block_sum, val-blocks, val-block_sum}
 use Rattle.algebra.proofs.Interpolation.{interpolant_interpolates, interpolates_unique}
-use Rattle.algebra.proofs.Points.{row-power, row_distinct}
+use Rattle.algebra.proofs.Points.{lifted_roots, row-power, row_distinct}
 use Rattle.algebra.proofs.Words.{take-row, drop-row}
 use Rattle.algebra.proofs.Lists.{Distinct, length-row, map-row, row-equal, distinct_from_AllPairs}
 use Rattle.p3_fri_core.specs.Fold.{fold_value, folded_word}
+use Rattle.p3_fri_core.specs.Strategy.{LowersDegrees}
 
 -- a part of a row
 slice_range-row : {A : Type 0} (N s n : ℕ) (f : ℕ → A) → s + n ≤ N → slice_range (row N f) s (s + n) ≡ row n (λ j. f (s + j))
@@ -73,3 +74,8 @@ module _ {A : Type 0} (F : FieldOps A) (L : IsField F) (top : ℕ) (w : ℕ → 
     degree = length-block_values F (2 ^ a) d y.polynomial beta;
     values = ap (λ zs. folded_word F w h a beta zs) y.values ∙ folded_word-word h a d beta y.polynomial b y.degree;
   }
+
+-- degrees fall, over an extension of the field that has the roots
+pub two_adic_lowers_degrees : {A E : Type 0} (F : FieldOps A) (K : FieldOps E) (lift : A → E) → IsField F → IsField K → IsHomomorphism F K lift → (top : ℕ) (w : ℕ → A) → AreRoots F top w → LowersDegrees K (λ k. lift (w k)) top (fold_value K (λ k. lift (w k)))
+unfolding folded_word
+two_adic_lowers_degrees F K lift L M H top w W = λ h a d beta ys b y. folded_word-degree K M top (λ k. lift (w k)) (lifted_roots F K lift L M H top w W) h a d beta ys b y
