@@ -1,0 +1,120 @@
+-- What each command prints, or the first fault of its arguments from the left.
+use Rattle.std.specs.Prelude.{◌≡◌, ◌≢◌, ℕ, ◌+◌, ◌^◌, ⊤, ◌==◌, List, [], ◌∷◌, ◌++◌, length, map, find, Option, Some, None, Result, Ok, Err, Bool, true, false, not, ◌&&◌, nat_lt, if◌then◌else◌, codes, string_bytes, String}
+use Rattle.std.specs.Global.{Global}
+use Rattle.std.specs.Str.{bytes_eq}
+use Rattle.algebra.specs.Field.{multiple}
+use Rattle.std.specs.List.{range_with_len}
+use Rattle.p3_field.specs.BabyBear.{baby_bear, root}
+use Rattle.p3_field.specs.declared.baby_bear.BabyBear.{BabyBear}
+use Rattle.p3_fri_core.specs.Schedule.{schedule}
+use Rattle.p3_fri_core.specs.Fold.{folded_rounds}
+use Rattle.fri_run.specs.Texts.{parsed_number, parsed_list, line}
+use Rattle.fri_run.specs.declared.answer.Fault.{Fault}
+use Rattle.fri_run.specs.declared.answer.Fault.TheVariants.{Command, Number, Heights, Cap, Length, BetaCount}
+use Rattle.fri_run.specs.declared.answer.Refusal.{Refusal}
+use Rattle.fri_run.specs.declared.answer.Refusal.TheVariants.{Faulty, OutOfMemory}
+
+-- the greatest height, final height and cap
+abbrev pub greatest_height : ℕ
+greatest_height = 63
+
+-- the greatest canonical number of an element
+abbrev pub greatest_element : ℕ
+greatest_element = 2013265920
+
+-- the greatest log height of a word
+abbrev pub greatest_log_height : ℕ
+greatest_log_height = 27
+
+-- the value, or the fault where there is none
+abbrev pub or_fault : {A : Type 0} → Fault → Option A → Result A Fault
+or_fault fault (Some x) = Ok x
+or_fault fault None = Err fault
+
+-- the fault, unless the test holds
+abbrev pub unless : Fault → Bool → Result (Unit {0}) Fault
+unless fault true = Ok tt
+unless fault false = Err fault
+
+-- the first fault, or what the next step makes of the value
+infixl 10 ◌>>=◌
+abbrev pub ◌>>=◌ : {A B : Type 0} → Result A Fault → (A → Result B Fault) → Result B Fault
+Ok x >>= f = f x
+Err fault >>= f = Err fault
+
+-- whether each height is below the one before it
+abbrev pub is_strictly_falling : List ℕ → Bool
+is_strictly_falling [] = true
+is_strictly_falling (height ∷ []) = true
+is_strictly_falling (height ∷ next ∷ later) = nat_lt next height && is_strictly_falling (next ∷ later)
+
+-- `schedule HEIGHTS FINAL CAP`
+unfoldable pub schedule_answer : List ℕ → List ℕ → List ℕ → Result (List ℕ) Fault
+schedule_answer heights_text final_text cap_text = do
+  heights ← or_fault Number (parsed_list greatest_height heights_text)
+  falling ← unless Heights (is_strictly_falling heights)
+  final ← or_fault Number (parsed_number greatest_height final_text)
+  cap ← or_fault Number (parsed_number greatest_height cap_text)
+  positive ← unless Cap (not (cap == 0))
+  Ok (line (schedule heights final cap))
+
+-- the logarithm, up to `most`, of a power of two
+unfoldable pub exact_log2 : ℕ → ℕ → Option ℕ
+exact_log2 most count = find (λ k. 2 ^ k == count) (range_with_len 0 (most + 1))
+
+-- the canonical number of an element: it is this multiple of one
+abbrev pub canonical_number : BabyBear → ℕ
+canonical_number x = x.value
+
+-- the word folded round by round, as the canonical numbers of its elements
+abbrev pub folded_numbers : ℕ → List ℕ → List ℕ → List ℕ → List ℕ
+folded_numbers log_height log_arities betas word = map canonical_number (folded_rounds baby_bear root log_height log_arities (map (multiple baby_bear) betas) (map (multiple baby_bear) word))
+
+-- `fold FINAL BETAS WORD`
+unfoldable pub fold_answer : List ℕ → List ℕ → List ℕ → Result (List ℕ) Fault
+fold_answer final_text betas_text word_text = do
+  final ← or_fault Number (parsed_number greatest_height final_text)
+  betas ← or_fault Number (parsed_list greatest_element betas_text)
+  word ← or_fault Number (parsed_list greatest_element word_text)
+  log_height ← or_fault Length (exact_log2 greatest_log_height (length word))
+  one_each ← unless BetaCount (length betas == length (schedule (log_height ∷ []) final 1))
+  Ok (line (schedule (log_height ∷ []) final 1) ++ line (folded_numbers log_height (schedule (log_height ∷ []) final 1) betas word))
+
+-- what the program's arguments ask for
+unfoldable pub answer : List (List ℕ) → Result (List ℕ) Fault
+answer (command ∷ first ∷ second ∷ third ∷ []) = if bytes_eq command (codes "schedule") then schedule_answer first second third else (if bytes_eq command (codes "fold") then fold_answer first second third else Err Command)
+answer arguments = Err Command
+
+-- the line that names a fault
+abbrev pub fault_line : Fault → List ℕ
+fault_line Command = codes "fri_run: bad command\n"
+fault_line Number = codes "fri_run: bad number\n"
+fault_line Heights = codes "fri_run: bad heights\n"
+fault_line Cap = codes "fri_run: bad cap\n"
+fault_line Length = codes "fri_run: bad length\n"
+fault_line BetaCount = codes "fri_run: bad number of betas\n"
+
+-- what a run writes to its output
+abbrev pub standard_output : Result (List ℕ) Fault → List ℕ
+standard_output (Ok text) = text
+standard_output (Err fault) = []
+
+-- what a run writes to its error stream
+abbrev pub standard_error : Result (List ℕ) Fault → List ℕ
+standard_error (Ok text) = []
+standard_error (Err fault) = fault_line fault
+
+-- the status with which a run ends
+abbrev pub exit_status : Result (List ℕ) Fault → ℕ
+exit_status (Ok text) = 0
+exit_status (Err fault) = 2
+
+-- by this status, memory wasn't wanting and no write failed
+abbrev pub Completes : ℕ → Type 0
+Completes status = (status ≢ 3) × (status ≢ 4)
+
+-- the call gave this answer, or memory was wanting
+abbrev pub Answers : Result (String Global) Refusal → Result (List ℕ) Fault → Type 0
+Answers (Ok text) expected = expected ≡ Ok (string_bytes text)
+Answers (Err (Faulty fault)) expected = expected ≡ Err fault
+Answers (Err OutOfMemory) expected = ⊤
