@@ -67,8 +67,8 @@ module _ {A : Type 0} (F : FieldOps A) (L : IsField F) (top : ℕ) (w : ℕ → 
       ∙ ap (λ m. pow F (w (h + a)) m) (sort (2 ^ a) (rev a n) (2 ^ h) (rev h i) ∙ ap (λ p. rev a n * p + rev h i * 2 ^ a) (sym (nat-pow-add 2 h a)))
       ∙ power-add F L.ring (w (h + a)) (rev a n * 2 ^ (h + a)) (rev h i * 2 ^ a)
       ∙ ap₂ (λ x y. x ⊗ y)
-        (pow-mul F L.ring (w (h + a)) (rev a n) (2 ^ (h + a)) ∙ ap (λ x. pow F x (rev a n)) (full_turn (h + a) b) ∙ pow-one_base F L.ring (rev a n))
-        (pow-mul F L.ring (w (h + a)) (rev h i) (2 ^ a) ∙ ap (λ x. pow F x (rev h i)) (root-power a h b))
+      (pow-mul F L.ring (w (h + a)) (rev a n) (2 ^ (h + a)) ∙ ap (λ x. pow F x (rev a n)) (full_turn (h + a) b) ∙ pow-one_base F L.ring (rev a n))
+      (pow-mul F L.ring (w (h + a)) (rev h i) (2 ^ a) ∙ ap (λ x. pow F x (rev h i)) (root-power a h b))
       ∙ one_mul F L.ring (pow F (w h) (rev h i))
     where
       n : ℕ
@@ -153,5 +153,5 @@ pub lifted_roots : {A E : Type 0} (F : FieldOps A) (K : FieldOps E) (h : A → E
 lifted_roots F K h L M H top w W = record {
   first = ap h W.first ∙ H.one;
   minus_one = λ b. ap h (W.minus_one b) ∙ neg_unique K M.ring K.one (h (F.neg F.one)) (ap (λ x. K.add x (h (F.neg F.one))) (sym H.one) ∙ sym (H.add F.one (F.neg F.one)) ∙ ap h (L.add_neg F.one) ∙ H.zero);
-  square = λ k b. sym (H.mul (w (suc k)) (w (suc k))) ∙ ap h (W.square k b)
+  square = λ k b. sym (H.mul (w (suc k)) (w (suc k))) ∙ ap h (W.square k b);
 }

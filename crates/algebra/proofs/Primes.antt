@@ -1,7 +1,7 @@
 -- Arithmetic modulo a prime: inverses, and a test for primes.
 use Rattle.std.specs.Prelude.{ℕ, zero, suc, ◌+◌, ◌-◌, ◌*◌, ◌/◌, ◌%◌, ◌<◌, ◌≤◌, ◌≡◌, ◌≢◌, ◌⊎◌, Bool, true, false, leb, eqb, refl}
 use Rattle.std.proofs.Common.{sym, ◌∙◌, ap, subst, inl, inr, arith}
-use Rattle.std.proofs.Math.Nat.{div-add-mod, mul-mod_left, mul-mod_right, mul-le-mul, mod-lt, mod-eq_of_lt, mul-add-mod_self_right, mul_assoc}
+use Rattle.std.proofs.Math.Nat.{div-add-mod, mul-mod_left, mul-le-mul, mod-lt, mod-eq_of_lt, mul-add-mod_self_right, mul_assoc}
 use Rattle.std.proofs.lemmas.Bool.Decides.{leb_tells, eqb_tells}
 use Rattle.std.proofs.lemmas.Nat.{mul-mod_second}
 use Rattle.algebra.specs.Primes.{IsPrime, inverse_modulo}
@@ -37,15 +37,15 @@ inverse_modulo-mul p prime zero a pos less le = absurd (omega arith)
 inverse_modulo-mul p prime (suc n) a pos less le =
     let t = leb_tells a 1 in
     elim t [
-      inl y ↦
-        let e : a ≡ 1 = omega (arith, y) in
-        ap (λ v. a * v % p) (if_true (leb a 1) 1 ((p - p / a) * inverse_modulo p n (p % a) % p) y.0)
-        ∙ rw e (mod-eq_of_lt prime.0)
-    | inr y ↦
-        let r_less : p % a < a = mod-lt p pos in
-        let r_pos : 0 < p % a = omega (arith, prime.1 a y.1 less) in
-        ap (λ v. a * v % p) (if_false (leb a 1) 1 ((p - p / a) * inverse_modulo p n (p % a) % p) y.0)
-        ∙ down p a (p / a) (p % a) (inverse_modulo p n (p % a)) pos (div-add-mod p a)
+      | inl y ↦
+          let e : a ≡ 1 = omega (arith, y) in
+          ap (λ v. a * v % p) (if_true (leb a 1) 1 ((p - p / a) * inverse_modulo p n (p % a) % p) y.0)
+          ∙ rw e (mod-eq_of_lt prime.0)
+      | inr y ↦
+          let r_less : p % a < a = mod-lt p pos in
+          let r_pos : 0 < p % a = omega (arith, prime.1 a y.1 less) in
+          ap (λ v. a * v % p) (if_false (leb a 1) 1 ((p - p / a) * inverse_modulo p n (p % a) % p) y.0)
+          ∙ down p a (p / a) (p % a) (inverse_modulo p n (p % a)) pos (div-add-mod p a)
           (inverse_modulo-mul p prime n (p % a) r_pos (omega arith) (omega arith))
     ]
 
@@ -91,8 +91,8 @@ prime_by_trial_division p n big square none = (big, λ d one less z. factors d (
     factors d q e one less z =
         let s : (d < n + 2) ⊎ (n + 2 ≤ d) = grind arith in
         elim s [
-          inl h ↦ small_divides_not p n d none one h z
-        | inr h ↦
-            let zq : p % q ≡ 0 = rw (← e) (mul-mod_left d q) in
-            small_divides_not p n q none (above_one p d q e (omega arith) less) (one_small p (n + 2) d q square e h) zq
+          | inl h ↦ small_divides_not p n d none one h z
+          | inr h ↦
+              let zq : p % q ≡ 0 = rw (← e) (mul-mod_left d q) in
+              small_divides_not p n q none (above_one p d q e (omega arith) less) (one_small p (n + 2) d q square e h) zq
         ]

@@ -1,19 +1,18 @@
 -- Words: their restriction to a smaller domain, and the one polynomial behind each.
-use Rattle.std.proofs.Common.{◌≡◌, ℕ, zero, suc, ◌+◌, ◌*◌, ◌-◌, ◌/◌, ◌^◌, ◌<◌, ◌≤◌, List, [], ◌∷◌, length, map, take, drop, refl, sym, ap, ap₂, ◌∙◌, arith, suc-add}
-use Rattle.std.proofs.lemmas.Nat.{pow-add, div-mul-add}
+use Rattle.std.proofs.Common.{◌≡◌, ℕ, zero, suc, ◌+◌, ◌*◌, ◌/◌, ◌^◌, ◌<◌, ◌≤◌, List, ◌∷◌, length, take, drop, refl, ap, ◌∙◌, arith, suc-add}
+use Rattle.std.proofs.lemmas.Nat.{div-mul-add}
 use Rattle.std.proofs.Math.Nat.{pow-le-pow_right}
 use Rattle.algebra.specs.Field.{FieldOps, IsField, pow}
 use Rattle.algebra.specs.Polynomial.{val, row}
 use Rattle.algebra.specs.Digits.{rev}
 use Rattle.algebra.specs.TwoAdic.{AreRoots, pt}
-use Rattle.algebra.specs.Words.{word, coset_word, IsWord, IsCosetWord}
-use Rattle.algebra.proofs.Ring.{◌:*◌, ◌:=◌, ring}
+use Rattle.algebra.specs.Words.{word, coset_word}
 use Rattle.algebra.proofs.Combine.{cancel_factor}
 use Rattle.algebra.proofs.Powers.{pow-mul}
 use Rattle.algebra.proofs.Digits.{rev-split, rev-of_zero}
 use Rattle.algebra.proofs.Interpolation.{equal_from_values}
 use Rattle.algebra.proofs.Points.{root-power, points_differ}
-use Rattle.algebra.proofs.Lists.{Each, length-row, map-row, row-equal, head_eq, tail_eq, distinct-row}
+use Rattle.algebra.proofs.Lists.{Each, length-row, row-equal, head_eq, tail_eq, distinct-row}
 
 pub take-row : {A : Type 0} (m n : ℕ) (f : ℕ → A) → m ≤ n → take m (row n f) ≡ row m f
 take-row zero n f b = refl

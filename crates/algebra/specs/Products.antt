@@ -1,5 +1,5 @@
 -- Products of lists.
-use Rattle.std.specs.Prelude.{ℕ, List, [], ◌∷◌, length, take}
+use Rattle.std.specs.Prelude.{List, [], ◌∷◌, length, take}
 use Rattle.algebra.specs.Field.{FieldOps}
 use Rattle.algebra.specs.Polynomial.{row}
 

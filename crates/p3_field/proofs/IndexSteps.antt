@@ -6,7 +6,7 @@ use Rattle.std.specs.Int.Bits.{xor_zero_l, xor_zero_r, xor_self}
 use Rattle.std.proofs.lemmas.Nat.{shr_le, xor_block, pow_pos}
 use Rattle.std.proofs.Math.Nat.{div-div-eq-div-mul, pow-succ'}
 use Rattle.algebra.specs.Digits.{rev}
-use Rattle.algebra.proofs.Digits.{rev-zero, rev-even, rev-odd, rev-lt}
+use Rattle.algebra.proofs.Digits.{rev-even, rev-odd, rev-lt}
 use Rattle.algebra.proofs.Powers.{double}
 use Rattle.p3_field.proofs.IndexPowers.{exponent_below}
 

@@ -4,7 +4,7 @@ use Rattle.std.specs.Coded.{le_prop}
 use Rattle.std.specs.Prelude.{ℕ, zero, suc, ◌+◌, ◌-◌, ◌*◌, ◌/◌, ◌%◌, ◌^◌, ◌≡◌, ◌≢◌, ◌<◌, ◌≤◌, ◌⊎◌, refl, IsTrue, ◌==◌, ◌↔◌, length}
 use Rattle.std.proofs.Common.{lit<, lit≤, sym, ◌∙◌, ap, arith, add_comm, add_assoc, mul_comm, add-zero, mul-one, inl, inr}
 use Rattle.std.proofs.Math.Nat.{div-add-mod, mod-lt, mod-eq_of_lt, add-mod-mod, mod-add-mod, mod_self, mul_assoc, add-mod, mod-mod, pow-succ'}
-use Rattle.std.specs.Int.{from_le_bytes, to_le_bytes, w32}
+use Rattle.std.specs.Int.{from_le_bytes, w32}
 use Rattle.std.proofs.lemmas.Nat.{mul-mod_first, mul-mod_second, from_le_bytes-to_le_bytes_4}
 use Rattle.std.proofs.lemmas.Bool.Decides.{Decides-eqb, eqb_tells}
 use Rattle.algebra.specs.Field.{IsRing, IsField, multiple, pow, sub}

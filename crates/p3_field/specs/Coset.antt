@@ -1,5 +1,5 @@
 -- Cosets of the two-adic subgroups, in natural order.
-use Rattle.std.specs.Prelude.{◌≡◌, ◌≢◌, ℕ, ◌^◌, ◌≤◌, ◌↔◌, List, Contains}
+use Rattle.std.specs.Prelude.{◌≡◌, ℕ, ◌^◌, ◌↔◌, List, Contains}
 use Rattle.algebra.specs.Field.{FieldOps, sub, pow}
 use Rattle.algebra.specs.Polynomial.{row}
 use Rattle.algebra.specs.Interpolation.{AreDistinct}

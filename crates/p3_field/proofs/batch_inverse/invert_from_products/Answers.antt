@@ -1,4 +1,4 @@
-use Rattle.std.proofs.Common.{◌≡◌, ◌-◌, ◌+◌, ◌<◌, length, ap, ap₂, subst, ℕ, sym, ◌∙◌, arith}
+use Rattle.std.proofs.Common.{◌≡◌, ◌-◌, ◌+◌, subst, ℕ, arith}
 use Rattle.p3_field.proofs.Inverses.{IsUndoneFrom, undone_start, undone_step, undone_end}
 use Rattle.p3_field.proofs.batch_inverse.invert_from_products.Goals as goal
 

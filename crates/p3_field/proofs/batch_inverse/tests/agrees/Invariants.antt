@@ -1,4 +1,4 @@
-use Rattle.std.proofs.Common.{◌≡◌, ◌≢◌, All}
+use Rattle.std.proofs.Common.{◌≢◌, All}
 use Rattle.p3_field.proofs.batch_inverse.tests.agrees.Given as goal
 
 abbrev pub invariant-loop-n : goal.invariant-loop-n

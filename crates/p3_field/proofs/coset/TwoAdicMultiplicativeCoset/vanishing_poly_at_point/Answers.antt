@@ -1,4 +1,4 @@
-use Rattle.std.proofs.Common.{◌≡◌, ◌^◌, ap, ap₂, ◌∙◌}
+use Rattle.std.proofs.Common.{◌^◌, ap, ap₂, ◌∙◌}
 use Rattle.algebra.specs.Field.{sub, pow}
 use Rattle.p3_field.proofs.Cosets.{homomorphism-inv}
 use Rattle.p3_field.proofs.coset.TwoAdicMultiplicativeCoset.vanishing_poly_at_point.Goals as goal
