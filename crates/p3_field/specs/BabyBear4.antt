@@ -1,5 +1,5 @@
 -- The extension of BabyBear by a root of `X^4 - 11`.
-use Rattle.std.specs.Prelude.{ℕ, List}
+use Rattle.std.specs.Prelude.{ℕ, List, slice_index_or}
 use Rattle.std.specs.List.{flat_map}
 use Rattle.algebra.specs.Field.{FieldOps}
 use Rattle.algebra.specs.QuarticExtension.{Quartic, quartic, quartic_coefficients, quartic_modulus}
@@ -28,6 +28,15 @@ baby_bear4 = let K = quartic baby_bear (element 11) in record {
 -- the coefficients, that of one first
 abbrev pub coefficients4 : BabyBear4 → List BabyBear
 coefficients4 x = quartic_coefficients (quartic_of x)
+
+-- the element with these coefficients, that of one first, where there are four
+abbrev pub of_coefficients4 : List BabyBear → BabyBear4
+of_coefficients4 xs = record {
+  constant = slice_index_or xs 0 (element 0);
+  linear = slice_index_or xs 1 (element 0);
+  quadratic = slice_index_or xs 2 (element 0);
+  cubic = slice_index_or xs 3 (element 0);
+}
 
 -- an element of BabyBear, as a constant polynomial
 abbrev pub lift4 : BabyBear → BabyBear4

@@ -1,5 +1,5 @@
 -- BabyBear4 is a field that extends BabyBear, since 11 is no square there and -1 is one.
-use Rattle.std.specs.Prelude.{ℕ, zero, suc, ◌*◌, ◌%◌, ◌^◌, ◌<◌, ◌≡◌, ◌≢◌, ◌==◌, ◌&&◌, ◌↔◌, IsTrue, length, take, drop, slice_index_or, refl}
+use Rattle.std.specs.Prelude.{ℕ, zero, suc, ◌*◌, ◌%◌, ◌^◌, ◌<◌, ◌≡◌, ◌≢◌, ◌==◌, ◌&&◌, ◌↔◌, IsTrue, List, [], ◌∷◌, length, take, drop, slice_index_or, refl}
 use Rattle.std.proofs.Common.{sym, ◌∙◌, ap, arith, lit<}
 use Rattle.std.proofs.lemmas.Bool.Decides.{Decides-eqb, Decides-and}
 use Rattle.algebra.specs.Field.{IsField, IsHomomorphism}
@@ -10,7 +10,7 @@ use Rattle.p3_field.specs.declared.baby_bear.BabyBear.{BabyBear}
 use Rattle.p3_field.specs.declared.baby_bear4.BabyBear4.{BabyBear4}
 use Rattle.p3_field.specs.BabyBear.{baby_bear, element, root}
 use Rattle.p3_field.specs.BabyBearLaws.{baby_bear_laws, baby_bear_roots, same_number, order_is_prime, zero_is, one_is, two_is, bytes_injective}
-use Rattle.p3_field.specs.BabyBear4.{baby_bear4, quartic_of, of_quartic, coefficients4, lift4, generator4, coefficient_bytes}
+use Rattle.p3_field.specs.BabyBear4.{baby_bear4, quartic_of, of_quartic, coefficients4, of_coefficients4, lift4, generator4, coefficient_bytes}
 
 -- 11 to half of the order less one is -1; over a variable, so that nothing computes the power outright
 half_power : (w : ℕ) → w ≡ 11 → w ^ 1006632960 % 2013265921 ≡ 2013265920
@@ -99,6 +99,14 @@ coefficients4_length x = refl
 
 pub coefficients4_injective : (x y : BabyBear4) → coefficients4 x ≡ coefficients4 y → x ≡ y
 coefficients4_injective x y e = same_coefficients (cc) (cc) (cc) (cc)
+
+pub of_coefficients4_law : (xs : List BabyBear) → length xs ≡ 4 → coefficients4 (of_coefficients4 xs) ≡ xs
+of_coefficients4_law [] e = absurd (omega arith)
+of_coefficients4_law (a ∷ []) e = absurd (omega arith)
+of_coefficients4_law (a ∷ b ∷ []) e = absurd (omega arith)
+of_coefficients4_law (a ∷ b ∷ c ∷ []) e = absurd (omega arith)
+of_coefficients4_law (a ∷ b ∷ c ∷ d ∷ []) e = refl
+of_coefficients4_law (a ∷ b ∷ c ∷ d ∷ x ∷ xs) e = absurd (omega arith)
 
 pub coefficient_bytes_length : (x : BabyBear4) → length (coefficient_bytes x) ≡ 16
 coefficient_bytes_length x = refl

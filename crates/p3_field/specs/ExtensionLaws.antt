@@ -1,5 +1,6 @@
 -- A field extends itself: the laws of that extension.
-use Rattle.std.specs.Prelude.{◌≡◌, [], ◌∷◌, length, refl}
+use Rattle.std.specs.Prelude.{◌≡◌, List, [], ◌∷◌, length, slice_index_or, refl}
+use Rattle.std.proofs.Common.{arith}
 use Rattle.algebra.specs.Field.{FieldOps, IsHomomorphism}
 
 pub self_homomorphism : {A : Type 0} (F : FieldOps A) → IsHomomorphism F F (λ x. x)
@@ -13,3 +14,8 @@ self_length x = refl
 
 pub self_injective : {A : Type 0} (x y : A) → x ∷ [] ≡ y ∷ [] → x ≡ y
 self_injective x y e = cc
+
+pub self_of_coefficients : {A : Type 0} (z : A) (xs : List A) → length xs ≡ 1 → slice_index_or xs 0 z ∷ [] ≡ xs
+self_of_coefficients z [] e = absurd (omega arith)
+self_of_coefficients z (x ∷ []) e = refl
+self_of_coefficients z (x ∷ y ∷ ys) e = absurd (omega arith)

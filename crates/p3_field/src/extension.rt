@@ -1,8 +1,8 @@
 //! Extensions of a field.
 
-ghost use Rattle.std.specs.Prelude.{◌≡◌, ◌<◌, ℕ, List, [], ◌∷◌, length, slice_index_or};
+ghost use Rattle.std.specs.Prelude.{◌≡◌, ◌<◌, ℕ, List, [], ◌∷◌, length, slice_index_or, slice_set};
 ghost use Rattle.algebra.specs.Field.{IsHomomorphism};
-ghost use Rattle.p3_field.specs.ExtensionLaws.{self_homomorphism, self_lift, self_length, self_injective};
+ghost use Rattle.p3_field.specs.ExtensionLaws.{self_homomorphism, self_lift, self_length, self_injective, self_of_coefficients};
 
 use crate::field::Field;
 
@@ -16,6 +16,8 @@ pub trait ExtensionField<F: Field>: Field {
     ghost lift: { F → Self };
 
     ghost coefficients: { Self → List F };
+
+    ghost of_coefficients: { List F → Self };
 
     /// The element of the base field, as one of the extension.
     fn from_base(base: F) -> Self
@@ -31,6 +33,11 @@ pub trait ExtensionField<F: Field>: Field {
         requires below_dimension { index < DIMENSION }
         ensures { result ≡ slice_index_or (coefficients self) index F.ops.zero };
 
+    /// The element with `value` in the place of its coefficient at `index`.
+    fn with_coefficient(self, index: usize, value: F) -> Self
+        requires below_dimension { index < DIMENSION }
+        ensures { coefficients result ≡ slice_set (coefficients self) index value };
+
     /// The product with an element of the base field.
     fn scale(self, factor: F) -> Self
         ensures { result ≡ Self.ops.mul self (lift factor) };
@@ -42,6 +49,8 @@ pub trait ExtensionField<F: Field>: Field {
     ghost dimension_law: { (x : Self) → length (coefficients x) ≡ DIMENSION };
 
     ghost coefficients_injective: { (x y : Self) → coefficients x ≡ coefficients y → x ≡ y };
+
+    ghost of_coefficients_law: { (xs : List F) → length xs ≡ DIMENSION → coefficients (of_coefficients xs) ≡ xs };
 }
 
 /// Every field extends itself, with one coefficient.
@@ -53,6 +62,8 @@ impl<F: Field> ExtensionField<F> for F {
     ghost lift = { λ x. x };
 
     ghost coefficients = { λ x. x ∷ [] };
+
+    ghost of_coefficients = { λ xs. slice_index_or xs 0 F.ops.zero };
 
     fn from_base(base: F) -> F {
         base
@@ -66,6 +77,10 @@ impl<F: Field> ExtensionField<F> for F {
         self
     }
 
+    fn with_coefficient(self, index: usize, value: F) -> F {
+        value
+    }
+
     fn scale(self, factor: F) -> F {
         self * factor
     }
@@ -77,4 +92,6 @@ impl<F: Field> ExtensionField<F> for F {
     ghost dimension_law = { self_length };
 
     ghost coefficients_injective = { self_injective };
+
+    ghost of_coefficients_law = { self_of_coefficients F.ops.zero };
 }

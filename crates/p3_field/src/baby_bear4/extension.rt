@@ -1,8 +1,8 @@
 //! BabyBear4 is an extension of BabyBear, of dimension 4.
 
-ghost use Rattle.std.specs.Prelude.{◌≡◌, ◌<◌, length, slice_index_or};
-ghost use Rattle.p3_field.specs.BabyBear4.{baby_bear4, lift4, coefficients4};
-ghost use Rattle.p3_field.specs.BabyBear4Laws.{lift4_homomorphism, lift4_constant, coefficients4_length, coefficients4_injective};
+ghost use Rattle.std.specs.Prelude.{◌≡◌, ◌<◌, length, slice_index_or, slice_set};
+ghost use Rattle.p3_field.specs.BabyBear4.{baby_bear4, lift4, coefficients4, of_coefficients4};
+ghost use Rattle.p3_field.specs.BabyBear4Laws.{lift4_homomorphism, lift4_constant, coefficients4_length, coefficients4_injective, of_coefficients4_law};
 
 use super::BabyBear4;
 use crate::baby_bear::BabyBear;
@@ -17,6 +17,8 @@ impl ExtensionField<BabyBear> for BabyBear4 {
     ghost lift = { lift4 };
 
     ghost coefficients = { coefficients4 };
+
+    ghost of_coefficients = { of_coefficients4 };
 
     fn from_base(base: BabyBear) -> BabyBear4 {
         BabyBear4 {
@@ -45,6 +47,17 @@ impl ExtensionField<BabyBear> for BabyBear4 {
         }
     }
 
+    fn with_coefficient(self, index: usize, value: BabyBear) -> BabyBear4 {
+        let mut changed = self;
+        match index {
+            0 => changed.constant = value,
+            1 => changed.linear = value,
+            2 => changed.quadratic = value,
+            _ => changed.cubic = value,
+        }
+        changed
+    }
+
     fn scale(self, factor: BabyBear) -> BabyBear4 {
         BabyBear4 {
             constant: self.constant * factor,
@@ -61,4 +74,6 @@ impl ExtensionField<BabyBear> for BabyBear4 {
     ghost dimension_law = { coefficients4_length };
 
     ghost coefficients_injective = { coefficients4_injective };
+
+    ghost of_coefficients_law = { of_coefficients4_law };
 }

@@ -43,6 +43,9 @@ fn comes_back<F: Field, E: ExtensionField<F>>(coefficients: &[F]) -> bool {
         if element.coefficient(index) != *value {
             return false;
         }
+        if E::ZERO.with_coefficient(index, *value).coefficient(index) != *value {
+            return false;
+        }
     }
     true
 }

@@ -1,0 +1,35 @@
+use Rattle.std.proofs.Common.{◌≡◌, ◌%◌, ap, refl, sym, ◌∙◌, arith}
+use Rattle.p3_field.specs.declared.baby_bear.BabyBear.{BabyBear}
+use Rattle.p3_field.specs.BabyBearLaws.{canonical_multiple}
+use Rattle.p3_challenger.specs.Sha256.{passes}
+use Rattle.p3_challenger.proofs.Grinds.{fails_next, fails_element, least_witness-none, least_witness-found}
+use Rattle.p3_challenger.proofs.sha256_challenger.grind.Sha256ChallengerGrindingChallenger.grind.Goals as goal
+
+pub returns-then-check_witness-clause-value : goal.returns-then-check_witness-clause-value
+returns-then-check_witness-clause-value c =
+    let here = c.loop-number in
+    let w = c.from_canonical-witness in
+    sym (least_witness-found c.args.self.now c.args.bits here.number w.result (omega arith) w.ensures here.invariant.failed (ap (λ s. passes s c.args.bits w.result) (sym here.invariant.same) ∙ sym c.check_witness.ensures.value ∙ c.if-check_witness.true))
+
+pub returns-then-check_witness-clause-least : goal.returns-then-check_witness-clause-least
+returns-then-check_witness-clause-least c v less =
+    let here = c.loop-number in
+    let w = c.from_canonical-witness in
+    let number : w.result.value ≡ here.number % 2013265921 = ap (λ (x : BabyBear). x.value) w.ensures ∙ canonical_multiple here.number in
+    fails_element c.args.self.now c.args.bits here.number here.invariant.failed v (omega arith)
+
+pub loop-number-preserved : goal.loop-number-preserved
+loop-number-preserved c =
+    let here = c.loop-number in
+    let w = c.from_canonical-witness in
+    record {
+      same = refl;
+      kept = refl;
+      failed = fails_next c.args.self.now c.args.bits here.number w.result w.ensures here.invariant.failed (ap (λ s. passes s c.args.bits w.result) (sym here.invariant.same) ∙ sym c.check_witness.ensures.value ∙ c.if-check_witness.false);
+    }
+
+pub returns-clause-value : goal.returns-clause-value
+returns-clause-value c = sym (least_witness-none c.args.self.now c.args.bits (λ k l. c.loop-number.invariant.failed k (omega (arith, l))))
+
+pub returns-clause-none_passes : goal.returns-clause-none_passes
+returns-clause-none_passes c w = fails_element c.args.self.now c.args.bits c.loop-number.number c.loop-number.invariant.failed w (omega (arith, w.canonical))

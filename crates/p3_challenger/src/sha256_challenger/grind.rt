@@ -1,0 +1,38 @@
+//! The search for witnesses.
+
+ghost use Rattle.std.specs.Prelude.{◌≡◌, ◌<◌, ◌≤◌, ℕ, IsTrue, IfSome, IfNone};
+ghost use Rattle.p3_field.specs.declared.baby_bear.BabyBear.{BabyBear};
+ghost use Rattle.p3_challenger.specs.Run.{grind};
+ghost use Rattle.p3_challenger.specs.Sha256.{element_observed, bits_sampled, passes, least_witness};
+
+use super::Sha256Challenger;
+use crate::grinding_challenger::GrindingChallenger;
+use p3_field::{BabyBear, PrimeField64};
+
+/// Witnesses are elements of BabyBear, tried in the order of their canonical numbers.
+impl GrindingChallenger for Sha256Challenger {
+    type Witness = BabyBear;
+
+    ghost solution = { least_witness };
+
+    /// The passing witness of the least canonical number.
+    fn grind(&mut self, bits: usize) -> Option<BabyBear>
+        requires at_most_max { bits ≤ 63 }
+        ensures value { result ≡ least_witness self.old bits }
+        ensures passes { IfSome result (λ w. IsTrue (passes self.old bits w)) }
+        ensures least { IfSome result (λ w. (v : BabyBear) → v.value < w.value → ¬ IsTrue (passes self.old bits v)) }
+        ensures state { IfSome result (λ w. self.new ≡ (grind element_observed bits_sampled self.old bits w).state) }
+        ensures none_passes { IfNone result ((w : BabyBear) → ¬ IsTrue (passes self.old bits w)) }
+        ensures unchanged { IfNone result (self.new ≡ self.old) }
+    {
+        let before = self.state;
+        for number in 0..BabyBear::ORDER_U64 {
+            let witness = BabyBear::from_canonical(number);
+            if self.check_witness(bits, witness) {
+                return Some(witness);
+            }
+            self.state = before;
+        }
+        None
+    }
+}

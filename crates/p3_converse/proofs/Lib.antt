@@ -1,0 +1,4 @@
+pub mod Columns
+pub mod Joined
+pub mod NewtonForm
+pub mod Unfolded

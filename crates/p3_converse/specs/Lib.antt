@@ -1,0 +1,3 @@
+pub mod Columns
+pub mod Newton
+pub mod Unfolding

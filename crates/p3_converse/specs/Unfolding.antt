@@ -1,0 +1,27 @@
+-- The converse of folding.
+use Rattle.std.specs.Prelude.{◌≡◌, ℕ, ◌+◌, ◌*◌, ◌^◌, ◌<◌, ◌≤◌, List, [], ◌∷◌, length, map, vec_len}
+use Rattle.std.specs.declared.vec.Vec.{Vec}
+use Rattle.algebra.specs.Field.{FieldOps}
+use Rattle.algebra.specs.Polynomial.{val, row}
+use Rattle.algebra.specs.TwoAdic.{AreRoots, pt}
+use Rattle.p3_fri_core.specs.Fold.{fold_value}
+
+-- the vectors' elements
+abbrev pub lists : {T Z : Type 0} → List (Vec T Z) → List (List T)
+lists vectors = map (λ v. v.items) vectors
+
+-- the length of the first vector, where all have one length
+abbrev pub common_length : {T Z : Type 0} → List (Vec T Z) → ℕ
+common_length [] = 0
+common_length (v ∷ vs) = vec_len v
+
+module _ {A : Type 0} (F : FieldOps A) where
+  -- row `i`, of the values `ys`, folds to log height `h` at each beta to the value of the polynomial beside it
+  abbrev pub FoldsTo : (w : ℕ → A) (i h k : ℕ) (ys betas : List A) (polys : List (List A)) → Type 0
+  FoldsTo w i h k ys betas polys = map (λ beta. fold_value F w i h k beta ys) betas ≡ map (λ p. val F p (pt F w i h)) polys
+
+  -- over every family of roots of unity, each row of `2^k` values that folds at the betas to the polynomials
+  -- has the values of `unfolded` at its points
+  pub record IsUnfolding (k : ℕ) (betas : List A) (polys : List (List A)) (unfolded : List A) : Type 0 where
+    pub rows : (top : ℕ) (w : ℕ → A) → AreRoots F top w → (i h : ℕ) (ys : List A) → h + k ≤ top → i < 2 ^ h → length ys ≡ 2 ^ k
+        → FoldsTo w i h k ys betas polys → ys ≡ row (2 ^ k) (λ j. val F unfolded (pt F w (i * 2 ^ k + j) (h + k)))

@@ -1,0 +1,9 @@
+//! The converse of folding: the one polynomial behind the rows whose folds, at enough challenges, are the values of
+//! given polynomials. Soundness arguments need it: words whose folds have low degree have low degree themselves.
+#![tactic(auto)]
+
+pub mod laws;
+mod newton;
+pub mod unfolding;
+
+pub use crate::unfolding::unfold;
