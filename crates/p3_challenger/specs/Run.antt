@@ -1,5 +1,5 @@
 -- Runs of a challenger: what it answers, and the state that it is left in.
-use Rattle.std.specs.Prelude.{ℕ, zero, suc, Bool, true, ◌==◌, if◌then◌else◌, List, [], ◌∷◌}
+use Rattle.std.specs.Prelude.{ℕ, zero, suc, Bool, true, IsTrue, ◌==◌, if◌then◌else◌, List, [], ◌∷◌}
 
 -- an answer, and the state after it
 pub record After (C A : Type 0) : Type 0 where
@@ -59,9 +59,13 @@ drawn_element draw of_coefficients n c =
     let coefficients = draws draw c n in
     record { value = of_coefficients coefficients.value; state = coefficients.state }
 
--- a grind of `b` bits with the witness `w`: whether it passes, and the state after it. At no bits it passes and nothing
--- happens; else `w` is observed and `b` bits are drawn, which have to be 0
-abbrev pub grind : {C W : Type 0} → (C → W → C) → (C → ℕ → After C ℕ) → C → ℕ → W → After C Bool
-grind observe draw_bits c b w =
+-- the attempt of a grind of `b` bits with the witness `w`: whether it passes, and the state after it. At no bits it
+-- passes and nothing happens; else `w` is observed and `b` bits are drawn, which have to be 0
+abbrev pub grind_attempt : {C W : Type 0} → (C → W → C) → (C → ℕ → After C ℕ) → C → ℕ → W → After C Bool
+grind_attempt observe draw_bits c b w =
     if b == 0 then record { value = true; state = c }
     else (let drawn = draw_bits (observe c w) b in record { value = drawn.value == 0; state = drawn.state })
+
+-- the witness passes that grind
+abbrev pub Passes : {C W : Type 0} → (C → W → C) → (C → ℕ → After C ℕ) → C → ℕ → W → Type 0
+Passes observe draw_bits c b w = IsTrue (grind_attempt observe draw_bits c b w).value

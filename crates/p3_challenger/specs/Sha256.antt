@@ -5,7 +5,7 @@ use Rattle.std.specs.Option.{option_map}
 use Rattle.sha2.specs.Sha256.{sha256}
 use Rattle.p3_field.specs.declared.baby_bear.BabyBear.{BabyBear}
 use Rattle.p3_field.specs.BabyBear.{element, number_bytes}
-use Rattle.p3_challenger.specs.Run.{After, grind}
+use Rattle.p3_challenger.specs.Run.{After, grind_attempt}
 use Rattle.p3_challenger.specs.declared.sha256_challenger.Sha256Challenger.{Sha256Challenger}
 
 -- 32 zero bytes
@@ -36,10 +36,6 @@ element_sampled c = record { value = element (drawn_number c); state = stepped c
 abbrev pub bits_sampled : Sha256Challenger → ℕ → After Sha256Challenger ℕ
 bits_sampled c bits = record { value = drawn_number c % 2 ^ bits; state = stepped c }
 
--- whether the witness passes a grind of so many bits
-abbrev pub passes : Sha256Challenger → ℕ → BabyBear → Bool
-passes c bits w = (grind element_observed bits_sampled c bits w).value
-
 -- the least number below `n` that passes the test, if any
 unfoldable pub least_below : ℕ → (ℕ → Bool) → Option ℕ
 least_below zero test = None
@@ -47,4 +43,4 @@ least_below (suc n) test = elim (least_below n test) [ Some k ↦ Some k | None 
 
 -- the element of the least canonical number that passes a grind of so many bits, if any
 unfoldable pub least_witness : Sha256Challenger → ℕ → Option BabyBear
-least_witness c bits = option_map element (least_below 2013265921 (λ k. passes c bits (element k)))
+least_witness c bits = option_map element (least_below 2013265921 (λ k. (grind_attempt element_observed bits_sampled c bits (element k)).value))

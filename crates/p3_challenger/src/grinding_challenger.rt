@@ -1,7 +1,7 @@
 //! Proofs of work.
 
-ghost use Rattle.std.specs.Prelude.{◌≡◌, ◌↔◌, ◌≤◌, ℕ, Option, IsTrue, IfSome, IfNone};
-ghost use Rattle.p3_challenger.specs.Run.{grind};
+ghost use Rattle.std.specs.Prelude.{◌≡◌, ◌↔◌, ◌≤◌, ℕ, Option, IfSome, IfNone};
+ghost use Rattle.p3_challenger.specs.Run.{grind_attempt, Passes};
 
 use crate::observe::CanObserve;
 use crate::sample::CanSampleBits;
@@ -20,16 +20,16 @@ pub trait GrindingChallenger: CanObserve<Self::Witness> + CanSampleBits {
     fn grind(&mut self, bits: usize) -> Option<Self::Witness>
         requires at_most_max { bits ≤ Self.MAX_SAMPLE_BITS }
         ensures value { result ≡ solution self.old bits }
-        ensures passes { IfSome result (λ w. IsTrue (grind Self.observed Self.sampled_bits self.old bits w).value) }
-        ensures state { IfSome result (λ w. self.new ≡ (grind Self.observed Self.sampled_bits self.old bits w).state) }
-        ensures none_passes { IfNone result ((w : Self.Witness) → ¬ IsTrue (grind Self.observed Self.sampled_bits self.old bits w).value) }
+        ensures passes { IfSome result (λ w. Passes Self.observed Self.sampled_bits self.old bits w) }
+        ensures state { IfSome result (λ w. self.new ≡ (grind_attempt Self.observed Self.sampled_bits self.old bits w).state) }
+        ensures none_passes { IfNone result ((w : Self.Witness) → ¬ Passes Self.observed Self.sampled_bits self.old bits w) }
         ensures unchanged { IfNone result (self.new ≡ self.old) };
 
     /// Whether the witness passes.
     fn check_witness(&mut self, bits: usize, witness: Self::Witness) -> bool
         requires at_most_max { bits ≤ Self.MAX_SAMPLE_BITS }
-        ensures value { result ≡ (grind Self.observed Self.sampled_bits self.old bits witness).value }
-        ensures state { self.new ≡ (grind Self.observed Self.sampled_bits self.old bits witness).state }
+        ensures value { result ≡ (grind_attempt Self.observed Self.sampled_bits self.old bits witness).value }
+        ensures state { self.new ≡ (grind_attempt Self.observed Self.sampled_bits self.old bits witness).state }
     {
         if bits == 0 {
             return true;

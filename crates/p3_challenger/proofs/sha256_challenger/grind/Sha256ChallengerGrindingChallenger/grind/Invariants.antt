@@ -1,6 +1,6 @@
 use Rattle.std.proofs.Common.{◌≡◌, ◌<◌, ℕ, false}
 use Rattle.p3_field.specs.BabyBear.{element}
-use Rattle.p3_challenger.specs.Sha256.{passes}
+use Rattle.p3_challenger.proofs.Grinds.{passes}
 use Rattle.p3_challenger.proofs.sha256_challenger.grind.Sha256ChallengerGrindingChallenger.grind.Given as goal
 
 abbrev pub invariant-loop-number : goal.invariant-loop-number
