@@ -17,3 +17,4 @@ pub mod QuarticProduct
 pub mod Products
 pub mod Blocks
 pub mod Words
+pub mod Sums

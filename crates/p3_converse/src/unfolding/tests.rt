@@ -4,6 +4,7 @@ ghost use Rattle.std.specs.Prelude.{◌≡◌, ◌+◌, ◌*◌, ◌^◌, ◌<�
 ghost use Rattle.algebra.specs.Interpolation.{AreDistinct};
 
 use super::unfold;
+use crate::laws::lifted_roots_law;
 use p3_field::{BabyBear, BabyBear4, ExtensionField, Field, TwoAdicField, reverse_bits_len};
 use p3_fri_core::{FriFoldingStrategy, TwoAdicFriFolding};
 use std::alloc::{AllocError, Global};
@@ -169,5 +170,6 @@ fn words_come_back_from_their_folds(rt: HostRuntime) -> Result<(), Fail> {
     coefficients.push(BabyBear4::GENERATOR)?;
     let betas = [BabyBear4::GENERATOR, BabyBear4::GENERATOR.square()];
     assert!(rt; comes_back::<BabyBear, BabyBear4>(rt.alloc(), &coefficients[1..], betas)?);
+    lifted_roots_law::<BabyBear, BabyBear4>();
     Ok(())
 }

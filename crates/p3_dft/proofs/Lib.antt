@@ -1,0 +1,13 @@
+pub mod Inversion
+pub mod Halves
+pub mod Sizes
+pub mod Pairs
+pub mod Parts
+pub mod Layers
+pub mod Lifts
+pub mod Coefficients
+pub mod Columns
+pub mod Turns
+pub mod Batches
+pub mod SingleColumns
+pub mod Extensions
