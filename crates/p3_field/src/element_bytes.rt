@@ -16,6 +16,11 @@ pub trait ElementBytes: Copy {
         requires below_len { index < LEN }
         ensures { result ≡ slice_index (bytes self) index };
 
+    /// Writes the encoding over `out`, which has its length.
+    fn write_bytes(self, out: &mut [u8])
+        requires len { length out.old ≡ LEN }
+        ensures { out.new ≡ bytes self };
+
     ghost bytes_length: { (x : Self) → length (bytes x) ≡ LEN };
 
     ghost bytes_injective: { (x y : Self) → bytes x ≡ bytes y → x ≡ y };

@@ -19,6 +19,10 @@ impl ElementBytes for BabyBear {
         self.value.to_le_bytes()[index]
     }
 
+    fn write_bytes(self, out: &mut [u8]) {
+        out.copy_from_slice(&self.value.to_le_bytes());
+    }
+
     ghost bytes_length = { bytes_length };
 
     ghost bytes_injective = { bytes_injective };

@@ -22,6 +22,16 @@ impl ElementBytes for BabyBear4 {
         coefficient.byte(index % 4)
     }
 
+    fn write_bytes(self, out: &mut [u8]) {
+        let (constant, others) = out.split_at_mut(4);
+        let (linear, others) = others.split_at_mut(4);
+        let (quadratic, cubic) = others.split_at_mut(4);
+        self.constant.write_bytes(constant);
+        self.linear.write_bytes(linear);
+        self.quadratic.write_bytes(quadratic);
+        self.cubic.write_bytes(cubic);
+    }
+
     ghost bytes_length = { coefficient_bytes_length };
 
     ghost bytes_injective = { coefficient_bytes_injective };

@@ -1,0 +1,8 @@
+pub mod Lists
+pub mod Batch
+pub mod Tree
+pub mod Buffer
+pub mod Digests
+pub mod TreeLaws
+pub mod HeightLaws
+pub mod Faults

@@ -1,0 +1,17 @@
+//! Merkle's tree over SHA-256.
+
+mod buffer;
+mod digests;
+mod error;
+mod heights;
+mod opening;
+mod prover_data;
+mod scheme;
+#[cfg(test)]
+mod tests;
+mod tree;
+mod verification;
+
+pub use error::Sha256MmcsError;
+pub use prover_data::Sha256ProverData;
+pub use scheme::Sha256Mmcs;
