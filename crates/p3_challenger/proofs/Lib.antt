@@ -1,2 +1,4 @@
 pub mod Grinds
 pub mod Runs
+pub mod Turns
+pub mod Streams

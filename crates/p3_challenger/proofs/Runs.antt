@@ -1,5 +1,5 @@
 -- Observations and draws one at a time, and runs joined.
-use Rattle.std.proofs.Common.{◌≡◌, ℕ, ◌+◌, ◌-◌, ◌<◌, List, [], ◌∷◌, ◌++◌, length, map, take, drop, get_or, slice_set, refl, sym, ap, ◌∙◌, arith, add-one, append_assoc}
+use Rattle.std.proofs.Common.{◌≡◌, ℕ, ◌+◌, ◌-◌, ◌<◌, List, [], ◌∷◌, ◌++◌, length, map, take, drop, get_or, slice_set, refl, sym, ap, ◌∙◌, arith, add-one, append_assoc, append-nil, ◌≤◌}
 use Rattle.std.proofs.Math.Seq.{drop-cons, drop-length}
 use Rattle.std.proofs.lemmas.List.{take_more_set}
 use Rattle.p3_challenger.specs.Run.{After, Moves, Event, run, observed_all, draws}
@@ -69,3 +69,22 @@ runs_join m c (BitsDrawn n ∷ first) second =
     let drawn = m.draw_bits c n in
     let others = runs_join m drawn.state first second in
     record { values = ap (λ vs. Bits drawn.value ∷ vs) others.values; state = others.state }
+
+-- and when it is pushed behind them
+pub draws-pushed : {C F : Type 0} (draw : C → After C F) (c s : C) (xs ys : List F) (v : F) (n i : ℕ) → i < n
+    → ys ≡ xs ++ v ∷ [] → v ≡ (draw c).value → s ≡ (draw c).state
+    → ys ++ (draws draw s (n - (i + 1))).value ≡ xs ++ (draws draw c (n - i)).value
+draws-pushed draw c s xs ys v n i less pushed value state =
+    let left = (draws draw (draw c).state (n - (i + 1))).value in
+    ap (λ t. ys ++ (draws draw t (n - (i + 1))).value) state
+    ∙ ap (λ zs. zs ++ left) pushed
+    ∙ append_assoc xs (v ∷ []) left
+    ∙ ap (λ w. xs ++ w ∷ left) value
+    ∙ ap (λ (a : After _ _). xs ++ a.value) (sym (draws-next draw c n i less))
+
+-- none is left at the end
+pub draws-end : {C F : Type 0} (draw : C → After C F) (c : C) (xs all : List F) (n i : ℕ) → n ≤ i
+    → xs ++ (draws draw c (n - i)).value ≡ all → xs ≡ all
+draws-end draw c xs all n i reached is =
+    let none_left : n - i ≡ 0 = omega arith in
+    sym (append-nil xs) ∙ ap (λ m. xs ++ (draws draw c m).value) (sym none_left) ∙ is

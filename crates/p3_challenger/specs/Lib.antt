@@ -2,3 +2,9 @@ pub mod Laws
 pub mod Run
 pub mod Sha256
 pub mod Sha256Laws
+pub mod Pattern
+pub mod Description
+pub mod Separator
+pub mod Script
+pub mod Turns
+pub mod StreamLaws
