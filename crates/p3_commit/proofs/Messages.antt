@@ -10,9 +10,3 @@ message-push flushed message buffer filled byte l e =
   where
     taken : (buffer : List ℕ) (filled byte : ℕ) → filled < length buffer → take (filled + 1) (slice_set buffer filled byte) ≡ take filled buffer ++ byte ∷ []
     taken buffer filled byte l = grind (arith, common_steps)
-
--- the bytes of an element more
-pub message-append : (flushed message buffer next bytes : List ℕ) (filled end : ℕ) → take end next ≡ take filled buffer ++ bytes → message ≡ flushed ++ take filled buffer
-    → message ++ bytes ≡ flushed ++ take end next
-message-append flushed message buffer next bytes filled end w e =
-    ap (λ m. m ++ bytes) e ∙ append_assoc flushed (take filled buffer) bytes ∙ ap (λ ys. flushed ++ ys) (sym w)

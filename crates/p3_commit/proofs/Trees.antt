@@ -1,8 +1,7 @@
 -- Where the digests of a tree stand in their list.
-use Rattle.std.proofs.Common.{◌≡◌, ℕ, zero, suc, ◌+◌, ◌-◌, ◌*◌, ◌/◌, ◌^◌, ◌<◌, ◌≤◌, List, [], ◌∷◌, ◌++◌, length, slice_index_or, sym, ap, ap₂, ◌∙◌, arith, inl, inr, ◌%◌, cond, eq-eqb}
-use Rattle.std.proofs.lemmas.Bool.{cases_lt, cases_eq, ne_eqb}
+use Rattle.std.proofs.Common.{◌≡◌, ℕ, zero, suc, ◌+◌, ◌-◌, ◌*◌, ◌/◌, ◌^◌, ◌<◌, ◌≤◌, List, [], length, slice_index_or, ap, ap₂, ◌∙◌, arith, inl, inr, ◌%◌, cond, eq-eqb}
+use Rattle.std.proofs.lemmas.Bool.{cases_eq, ne_eqb}
 use Rattle.std.proofs.lemmas.Nat.{pow_pos}
-use Rattle.std.proofs.lemmas.Grind.{common_steps}
 use Rattle.std.proofs.Math.Nat.{pow-le-pow_right}
 use Rattle.std.proofs.Math.Pow.{shr-shr, shr_lt}
 use Rattle.algebra.specs.Polynomial.{row}
@@ -23,33 +22,6 @@ tree_of_leaves leaves count = record {
   leaf = λ i l. get_or-row count leaves i [] l;
   parent = λ k l. absurd (omega (arith, l));
 }
-
-pub tree_more : (leaves : ℕ → List ℕ) (count made : ℕ) (digests : List (List ℕ)) (parent : List ℕ) → made + 1 < count
-    → parent ≡ node (slice_index_or digests (2 * made) []) (slice_index_or digests (2 * made + 1) [])
-    → TreeUpTo leaves count made digests → TreeUpTo leaves count (made + 1) (digests ++ parent ∷ [])
-tree_more leaves count made digests parent room is tree = record {
-  len = grind (arith, common_steps, tree.len);
-  leaf = λ i l. kept i (omega (arith, l, tree.len)) ∙ tree.leaf i l;
-  parent = λ k l. elim (cases_lt k made) [
-    | inl before ↦
-        kept (count + k) (omega (arith, before, tree.len))
-        ∙ tree.parent k before
-        ∙ sym (ap₂ node (kept (2 * k) (omega (arith, before, room, tree.len))) (kept (2 * k + 1) (omega (arith, before, room, tree.len))))
-    | inr after ↦
-        ap (λ i. slice_index_or (digests ++ parent ∷ []) i []) (omega (arith, l, after, tree.len))
-        ∙ last
-        ∙ is
-        ∙ sym (ap₂ node
-        (ap (λ i. slice_index_or (digests ++ parent ∷ []) i []) (omega (arith, l, after)) ∙ kept (2 * made) (omega (arith, room, tree.len)))
-        (ap (λ i. slice_index_or (digests ++ parent ∷ []) i []) (omega (arith, l, after)) ∙ kept (2 * made + 1) (omega (arith, room, tree.len))))
-  ];
-}
-  where
-    kept : (i : ℕ) → i < length digests → slice_index_or (digests ++ parent ∷ []) i [] ≡ slice_index_or digests i []
-    kept i l = grind (arith, common_steps)
-
-    last : slice_index_or (digests ++ parent ∷ []) (length digests) [] ≡ parent
-    last = grind (arith, common_steps)
 
 pub tree_whole : (leaves : ℕ → List ℕ) (count made : ℕ) (digests : List (List ℕ)) → 0 < count → made + 1 ≡ count → TreeUpTo leaves count made digests → IsTree leaves count digests
 tree_whole leaves count made digests some all tree = record {

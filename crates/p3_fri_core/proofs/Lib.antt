@@ -1,3 +1,11 @@
 pub mod Fewest
 pub mod Folds
 pub mod Rounds
+pub mod StepLists
+pub mod SeedLemmas
+pub mod TestSeed
+pub mod OpeningSeed
+pub mod SeedExamples
+pub mod TurnLists
+pub mod Replays
+pub mod Events

@@ -1,7 +1,7 @@
 -- The fold of a polynomial's word is the word of the polynomial of its blocks' values.
-use Rattle.std.proofs.Common.{◌≡◌, ℕ, zero, suc, ◌+◌, ◌*◌, ◌-◌, ◌^◌, ◌<◌, ◌≤◌, List, [], ◌∷◌, length, map, take, drop, slice_range, refl, sym, ap, ap₂, ◌∙◌, arith, mul_comm}
-use Rattle.std.proofs.lemmas.Nat.{pow-add, mul-add-lt}
-use Rattle.algebra.specs.Field.{FieldOps, IsField, IsHomomorphism, pow}
+use Rattle.std.proofs.Common.{◌≡◌, ℕ, ◌+◌, ◌*◌, ◌-◌, ◌^◌, ◌<◌, ◌≤◌, List, length, take, drop, slice_range, sym, ap, ap₂, ◌∙◌, arith}
+use Rattle.std.proofs.lemmas.Nat.{pow-add}
+use Rattle.algebra.specs.Field.{FieldOps, IsField, IsHomomorphism}
 use Rattle.algebra.specs.Polynomial.{val, row}
 use Rattle.algebra.specs.Interpolation.{Interpolates, interpolant}
 use Rattle.algebra.specs.TwoAdic.{AreRoots, pt, row_points}

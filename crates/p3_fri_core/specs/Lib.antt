@@ -2,3 +2,12 @@ pub mod Fold
 pub mod FoldLaws
 pub mod Schedule
 pub mod Strategy
+pub mod Steps
+pub mod Shapes
+pub mod Replay
+pub mod Turns
+pub mod SeedLaws
+pub mod SeedExamples
+pub mod Pow
+pub mod Failures
+pub mod Events

@@ -5,6 +5,10 @@ ghost use Rattle.std.specs.Prelude.{◌≡◌, ◌+◌, ◌*◌, ◌^◌, ◌-�
 ghost use Rattle.std.specs.Option.{ForSome};
 ghost use Rattle.p3_fri_core.specs.Schedule.{IsStrictlyFalling, tallest, schedule, LeadsDown, AreFewest};
 
+mod error;
+
+pub use crate::config::error::FriProverError;
+use p3_commit::{FriRegime, GrindingSites};
 use std::alloc::{AllocError, Global};
 
 /// The parameters of an instance of FRI, over the commitment scheme `M` of its folded words.
@@ -65,6 +69,37 @@ impl<M> FriParameters<M> {
             + self.now.query_proof_of_work_bits }
     {
         self.log_blowup * self.num_queries + self.query_proof_of_work_bits
+    }
+
+    /// The parameters that an estimate of FRI's soundness reads. The proof of work before the batching challenge belongs
+    /// to the scheme around FRI, and stands in `grinding_sites`.
+    pub fn security_regime(&self) -> FriRegime
+        ensures { result ≡ record {
+          log_blowup = self.now.log_blowup;
+          num_queries = self.now.num_queries;
+          log_final_poly_len = self.now.log_final_poly_len;
+          max_log_arity = self.now.max_log_arity;
+          commit_pow_bits = self.now.commit_proof_of_work_bits;
+          query_pow_bits = self.now.query_proof_of_work_bits;
+        } }
+    {
+        FriRegime {
+            log_blowup: self.log_blowup,
+            num_queries: self.num_queries,
+            log_final_poly_len: self.log_final_poly_len,
+            max_log_arity: self.max_log_arity,
+            commit_pow_bits: self.commit_proof_of_work_bits,
+            query_pow_bits: self.query_proof_of_work_bits,
+        }
+    }
+
+    /// The bits of proof of work outside of FRI.
+    pub fn grinding_sites(&self) -> GrindingSites
+        ensures { result ≡ record { batch_combination = self.now.batch_proof_of_work_bits } }
+    {
+        GrindingSites {
+            batch_combination: self.batch_proof_of_work_bits,
+        }
     }
 
     /// Small parameters for tests, with a final polynomial of `2^log_final_poly_len` coefficients.

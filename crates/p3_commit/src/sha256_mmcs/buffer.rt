@@ -77,6 +77,10 @@ impl BufferedHasher {
             let end = self.filled + T::LEN;
             element.write_bytes(&mut self.buffer[self.filled..end]);
             self.filled = end;
+        } else if T::LEN <= BLOCK {
+            let mut encoding = [0; 64];
+            element.write_bytes(&mut encoding[..T::LEN]);
+            self.push_bytes(&encoding[..T::LEN]);
         } else {
             for index in 0..T::LEN {
                 self.push(element.byte(index));

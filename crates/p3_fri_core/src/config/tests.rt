@@ -89,3 +89,56 @@ fn parameters_are_cloned_and_printed(rt: HostRuntime) -> Result<(), Fail> {
     );
     Ok(())
 }
+
+fn regime(
+    log_blowup: usize,
+    num_queries: usize,
+    log_final_poly_len: usize,
+    max_log_arity: usize,
+    pow_bits: (usize, usize),
+) -> FriRegime {
+    FriRegime {
+        log_blowup,
+        num_queries,
+        log_final_poly_len,
+        max_log_arity,
+        commit_pow_bits: pow_bits.0,
+        query_pow_bits: pow_bits.1,
+    }
+}
+
+#[test]
+fn constructors_have_their_regimes(rt: HostRuntime) {
+    let rows = [
+        (FriParameters::new_testing(7, 3), regime(2, 2, 3, 1, (1, 1))),
+        (FriParameters::new_testing_zk(7), regime(2, 2, 0, 1, (1, 1))),
+        (
+            FriParameters::new_benchmark(7),
+            regime(1, 100, 0, 1, (0, 16)),
+        ),
+        (
+            FriParameters::new_benchmark_high_arity(7),
+            regime(1, 100, 0, 3, (0, 16)),
+        ),
+        (
+            FriParameters::new_benchmark_zk(7),
+            regime(2, 100, 0, 1, (0, 16)),
+        ),
+    ];
+    for (parameters, expected) in rows {
+        assert_eq!(rt; parameters.security_regime(), expected);
+    }
+}
+
+#[test]
+fn the_batch_bits_are_a_site_of_their_own(rt: HostRuntime) {
+    let mut parameters = FriParameters::new_testing(7, 0);
+    assert_eq!(rt; parameters.grinding_sites(), GrindingSites::NONE);
+    parameters.batch_proof_of_work_bits = 7;
+    assert_eq!(rt;
+        parameters.grinding_sites(),
+        GrindingSites {
+            batch_combination: 7
+        }
+    );
+}

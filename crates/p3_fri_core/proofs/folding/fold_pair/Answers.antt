@@ -1,5 +1,4 @@
-use Rattle.std.proofs.Common.{◌≡◌, ap, ap₂, ◌∙◌}
-use Rattle.algebra.specs.Field.{sub}
+use Rattle.std.proofs.Common.{ap, ◌∙◌}
 use Rattle.p3_fri_core.proofs.Folds.{fold_by_half_inverse}
 use Rattle.p3_fri_core.proofs.folding.fold_pair.Goals as goal
 

@@ -1,4 +1,4 @@
-use Rattle.std.proofs.Common.{◌≡◌, ◌≢◌, ℕ, ◌+◌, ◌*◌, ◌%◌, ◌^◌, ◌<◌, ◌++◌, suc, length, take, drop, get_or, subst, List, refl, sym, ap, ap₂, ◌∙◌, arith, add-one}
+use Rattle.std.proofs.Common.{◌≡◌, ℕ, ◌*◌, ◌%◌, ◌^◌, ◌++◌, suc, length, take, drop, get_or, subst, List, refl, sym, ap, ◌∙◌, arith, add-one}
 use Rattle.std.proofs.Math.Seq.{take-append_seam}
 use Rattle.std.proofs.lemmas.Nat.{one_shl}
 use Rattle.algebra.specs.Field.{pow}
@@ -8,7 +8,7 @@ use Rattle.algebra.proofs.Lists.{length-row, get_or-row}
 use Rattle.algebra.proofs.Points.{root-nonzero}
 use Rattle.p3_field.specs.Index.{bit_reversed}
 use Rattle.p3_field.proofs.IndexReversal.{bit_reversed-row}
-use Rattle.p3_fri_core.specs.Fold.{AreHalfInverses, IsHalfInverse}
+use Rattle.p3_fri_core.specs.Fold.{AreHalfInverses}
 use Rattle.p3_fri_core.proofs.Folds.{half_inverse_by_inverse}
 use Rattle.p3_fri_core.proofs.folding.half_inverses.Goals as goal
 

@@ -1,4 +1,4 @@
-use Rattle.std.proofs.Common.{◌≡◌, ◌+◌, ◌∷◌, [], ◌++◌, ap, ap₂, sym, ◌∙◌, arith}
+use Rattle.std.proofs.Common.{◌∷◌, [], ◌++◌, ap, ap₂, sym, ◌∙◌}
 use Rattle.algebra.specs.Field.{pow}
 use Rattle.algebra.proofs.Lists.{row-next}
 use Rattle.algebra.proofs.Powers.{pow-zero, pow-next}

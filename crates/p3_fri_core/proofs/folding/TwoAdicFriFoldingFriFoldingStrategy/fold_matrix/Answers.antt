@@ -1,4 +1,4 @@
-use Rattle.std.proofs.Common.{◌≡◌, ◌≤◌, ℕ, ◌+◌, ◌^◌, ◌<◌, List, [], ◌∷◌, ◌++◌, length, slice_index_or, get_or, subst, sym, ap, ap₂, ◌∙◌, arith}
+use Rattle.std.proofs.Common.{◌≡◌, ℕ, ◌^◌, ◌<◌, [], ◌∷◌, ◌++◌, length, slice_index_or, get_or, subst, sym, ap, ap₂, ◌∙◌, arith}
 use Rattle.algebra.specs.Polynomial.{row}
 use Rattle.algebra.proofs.Lists.{row-next}
 use Rattle.p3_field.proofs.IndexPowers.{exponents_agree}

@@ -1,0 +1,11 @@
+use Rattle.p3_fri_core.specs.Steps.{commitment_step, challenge_step}
+use Rattle.p3_fri_core.proofs.StepLists.{pushed, round_pushed}
+use Rattle.p3_fri_core.proofs.steps.push_round.Goals as goal
+
+pub returns : goal.returns
+returns g c =
+    let d = g.EF.ExtensionField.DIMENSION in
+    round_pushed d c.args.pow_bits _ _ _ _
+    (pushed _ _ c.opaque.result commitment_step c.in_ok-push.ensures.items c.opaque.ensures)
+    c.in_ok-push_pow.ensures
+    (pushed _ _ c.algebra.result (challenge_step d _) c.in_ok-push-2.ensures.items c.algebra.ensures)
