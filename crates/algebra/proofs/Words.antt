@@ -1,5 +1,5 @@
 -- Words: their restriction to a smaller domain, and the one polynomial behind each.
-use Rattle.std.proofs.Common.{◌≡◌, ℕ, zero, suc, ◌+◌, ◌*◌, ◌/◌, ◌^◌, ◌<◌, ◌≤◌, List, ◌∷◌, length, take, drop, refl, ap, ◌∙◌, arith, suc-add}
+use Rattle.std.proofs.Common.{◌≡◌, ℕ, zero, suc, ◌+◌, ◌*◌, ◌/◌, ◌^◌, ◌<◌, ◌≤◌, List, ◌∷◌, length, take, drop, get_or, refl, sym, ap, ◌∙◌, arith, suc-add}
 use Rattle.std.proofs.lemmas.Nat.{div-mul-add}
 use Rattle.std.proofs.Math.Nat.{pow-le-pow_right}
 use Rattle.algebra.specs.Field.{FieldOps, IsField, pow}
@@ -7,12 +7,14 @@ use Rattle.algebra.specs.Polynomial.{val, row}
 use Rattle.algebra.specs.Digits.{rev}
 use Rattle.algebra.specs.TwoAdic.{AreRoots, pt}
 use Rattle.algebra.specs.Words.{word, coset_word}
+use Rattle.algebra.specs.Interpolation.{Interpolates, interpolant}
+use Rattle.algebra.specs.Laws.{WordsAreTold}
 use Rattle.algebra.proofs.Combine.{cancel_factor}
 use Rattle.algebra.proofs.Powers.{pow-mul}
-use Rattle.algebra.proofs.Digits.{rev-split, rev-of_zero}
-use Rattle.algebra.proofs.Interpolation.{equal_from_values}
+use Rattle.algebra.proofs.Digits.{rev-split, rev-of_zero, rev-lt}
+use Rattle.algebra.proofs.Interpolation.{equal_from_values, interpolates_unique, interpolant_interpolates}
 use Rattle.algebra.proofs.Points.{root-power, points_differ}
-use Rattle.algebra.proofs.Lists.{Each, length-row, row-equal, head_eq, tail_eq, distinct-row}
+use Rattle.algebra.proofs.Lists.{Each, Distinct, length-row, get_or-row, map-row, row-equal, head_eq, tail_eq, distinct-row}
 
 pub take-row : {A : Type 0} (m n : ℕ) (f : ℕ → A) → m ≤ n → take m (row n f) ≡ row m f
 take-row zero n f b = refl
@@ -69,3 +71,35 @@ module _ {A : Type 0} (F : FieldOps A) (L : IsField F) (top : ℕ) (w : ℕ → 
       equal_from_values F L c d (row (2 ^ k) (λ i. shift ⊗ pt F w i k)) e (omega (arith, n, length-row (2 ^ k) (λ i. shift ⊗ pt F w i k)))
       (distinct-row (2 ^ k) (λ i. shift ⊗ pt F w i k) (λ i j p q s. not_below i j p (points_differ F L top w W k i j b (omega (arith, p, q)) q (cancel_factor F L shift (pt F w i k) (pt F w j k) z s))))
       (each-row (2 ^ k) (λ x. val F c x) (λ x. val F d x) (λ i. shift ⊗ pt F w i k) h)
+
+  coset_points_distinct : (shift : A) → ¬ (shift ≡ 𝟘) → (k : ℕ) → k ≤ top → Distinct (row (2 ^ k) (λ i. shift ⊗ pt F w i k))
+  coset_points_distinct shift z k b =
+      distinct-row (2 ^ k) (λ i. shift ⊗ pt F w i k) (λ i j p q s. not_below i j p (points_differ F L top w W k i j b (omega (arith, p, q)) q (cancel_factor F L shift (pt F w i k) (pt F w j k) z s)))
+
+  coset_interpolates : (shift : A) → ¬ (shift ≡ 𝟘) → (k : ℕ) → k ≤ top → (ys : List A) → length ys ≡ 2 ^ k → Interpolates F (row (2 ^ k) (λ i. shift ⊗ pt F w i k)) ys (interpolant F (row (2 ^ k) (λ i. shift ⊗ pt F w i k)) ys)
+  coset_interpolates shift z k b ys n =
+      interpolant_interpolates F L (row (2 ^ k) (λ i. shift ⊗ pt F w i k)) ys (length-row (2 ^ k) (λ i. shift ⊗ pt F w i k) ∙ sym n) (coset_points_distinct shift z k b)
+
+  pub coset_words : (shift : A) → ¬ (shift ≡ 𝟘) → (k m : ℕ) → k + m ≤ top → WordsAreTold F w shift k m
+  unfolding pt
+  coset_words shift z k m b =
+      let points = row (2 ^ k) (λ i. shift ⊗ pt F w i k) in
+      let small : k ≤ top = omega (arith, b) in
+      record {
+        restricted = λ c. coset_word-restrict shift k m c b;
+        extended = λ c d e n h. ap (λ p. coset_word F w shift (k + m) p) (coset_word_injective shift z k c d small e n h);
+        interpolated = λ ys n.
+            let found = coset_interpolates shift z k small ys n in
+            record {
+              polynomial = interpolant F points ys;
+              degree = found.count ∙ length-row (2 ^ k) (λ i. shift ⊗ pt F w i k);
+              values = sym (sym (map-row (λ x. val F (interpolant F points ys) x) (2 ^ k) (λ i. shift ⊗ pt F w i k)) ∙ found.values);
+            };
+        coefficients = λ c n.
+            interpolates_unique F L points (coset_word F w shift k c) (interpolant F points (coset_word F w shift k c)) c (coset_points_distinct shift z k small)
+            (coset_interpolates shift z k small (coset_word F w shift k c) (length-row (2 ^ k) (λ i. val F c (shift ⊗ pt F w i k))))
+            (record { count = n ∙ sym (length-row (2 ^ k) (λ i. shift ⊗ pt F w i k)); values = map-row (λ x. val F c x) (2 ^ k) (λ i. shift ⊗ pt F w i k) });
+        turned = λ c d.
+            row-equal (2 ^ k) (λ i. get_or (row (2 ^ k) (λ j. val F c (shift ⊗ pow F (w k) j))) (rev k i) d) (λ i. val F c (shift ⊗ pt F w i k))
+            (λ i l. get_or-row (2 ^ k) (λ j. val F c (shift ⊗ pow F (w k) j)) (rev k i) d (rev-lt k i));
+      }
