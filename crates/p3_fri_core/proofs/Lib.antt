@@ -9,3 +9,7 @@ pub mod SeedExamples
 pub mod TurnLists
 pub mod Replays
 pub mod Events
+pub mod OpeningSteps
+pub mod Openings
+pub mod Widths
+pub mod Comparisons

@@ -11,3 +11,7 @@ pub mod SeedExamples
 pub mod Pow
 pub mod Failures
 pub mod Events
+pub mod Counts
+pub mod Claims
+pub mod Cursor
+pub mod Lending

@@ -1,4 +1,4 @@
--- What both sides draw along a low-degree test, and the state that they end in.
+-- What both sides draw along a low-degree test and an opening, and the state that they end in.
 use Rattle.std.specs.Prelude.{ℕ, Bool, true, ◌&&◌, List, [], ◌∷◌, Option, Some}
 use Rattle.std.specs.List.{flat_map}
 use Rattle.algebra.specs.Field.{FieldOps}
@@ -33,6 +33,12 @@ pub record TestReplay (C E : Type 0) : Type 0 where
   pub passes : Bool
   pub betas : List E
   pub indices : List ℕ
+  pub state : C
+
+-- the challenge of an opening: whether its proof of work passes, the challenge, and the state after it
+pub record BatchReplay (C E : Type 0) : Type 0 where
+  pub passes : Bool
+  pub alpha : E
   pub state : C
 
 module _ {C F E Com : Type 0} (m : Moves C F E Com) where
@@ -71,3 +77,20 @@ module _ {C F E Com : Type 0} (m : Moves C F E Com) where
         let rounds = rounds_replay shape.commit_pow_bits (bytes_observed ops m.observe_value c stream) commitments witnesses in
         let queries = shown_queries_replay rounds.state final_poly witness in
         record { passes = rounds.passes && queries.passes; betas = rounds.betas; indices = queries.indices; state = queries.state }
+
+  -- a proof of work is made, whose witness may be missing only at no bits, and the challenge that batches an opening is
+  -- drawn
+  abbrev pub shown_batch_replay : (bits : ℕ) (c : C) (witness : Option F) → BatchReplay C E
+  shown_batch_replay bits c witness =
+      let tried = shown_attempt m.observe_value m.draw_bits c bits witness in
+      let alpha = m.draw_element tried.state in
+      record { passes = tried.value; alpha = alpha.value; state = alpha.state }
+
+  -- the same with a witness
+  abbrev pub batch_replay : (bits : ℕ) (c : C) (witness : F) → BatchReplay C E
+  batch_replay bits c witness = shown_batch_replay bits c (Some witness)
+
+  -- the stream is observed byte by byte, then all values in order, and then come the proof of work and the challenge
+  unfoldable pub opening_replay : (coefficients : E → List F) → FieldOps F → (bits : ℕ) (stream : List ℕ) (c : C) (values : List E) (witness : F) → BatchReplay C E
+  opening_replay coefficients ops bits stream c values witness =
+      batch_replay bits (observed_all m.observe_value (bytes_observed ops m.observe_value c stream) (flat_map coefficients values)) witness

@@ -1,5 +1,20 @@
 //! The transcript of the polynomial commitment scheme.
 
+mod claims;
+mod counts;
+mod described;
+mod description;
+mod failure;
+mod prover;
 mod shape;
+mod state;
+mod verifier;
 
+pub use crate::pcs_transcript::failure::PcsTranscriptFailure;
 pub use crate::pcs_transcript::shape::PcsShape;
+pub use crate::pcs_transcript::state::{
+    OpeningTranscript, PcsProverTranscript, PcsVerifierTranscript,
+};
+
+#[cfg(test)]
+mod tests;

@@ -36,9 +36,9 @@ fn absorb<F: Field, C: FieldChallenger<F>>(challenger: &mut C, bytes: &[u8])
     }
 }
 
-#[tactic(auto, using(crate::proofs::Turns::drop_next), unfolding(crate::specs::Script::remaining, crate::specs::Separator::seed_bytes, crate::specs::Separator::seed_turns))]
+#[tactic(auto, using(crate::proofs::Turns::drop_next), unfolding(crate::specs::Script::remaining, crate::specs::Script::step_played, crate::specs::Separator::seed_bytes, crate::specs::Separator::seed_turns))]
 impl Script {
-    ghost use Rattle.p3_challenger.specs.Script.{remaining};
+    ghost use Rattle.p3_challenger.specs.Script.{remaining, step_played};
     ghost use Rattle.p3_challenger.specs.Separator.{seed_bytes, seed_turns};
 
     /// Absorbs the stream of the seed, each byte as an element of `F`, and stands before the first step.
@@ -148,7 +148,8 @@ impl Script {
     /// Opens a bracket around a protocol that is run on the challenger.
     pub fn begin_protocol(&mut self)
         requires next { IsNext Begin Protocol Marker Scalar (remaining self.old) }
-        ensures { remaining self.new ≡ drop 1 (remaining self.old) }
+        ensures script { self.new ≡ step_played self.old }
+        ensures steps { remaining self.new ≡ drop 1 (remaining self.old) }
     {
         self.played += 1;
     }

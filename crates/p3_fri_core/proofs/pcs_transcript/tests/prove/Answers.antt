@@ -1,0 +1,10 @@
+use Rattle.std.proofs.Common.{◌≡◌, ap, ◌∙◌, arith}
+use Rattle.p3_fri_core.specs.Shapes.{opening_shape}
+use Rattle.p3_fri_core.specs.Steps.{OpeningShape}
+use Rattle.p3_fri_core.proofs.pcs_transcript.tests.prove.Goals as goal
+
+pub batch_phase-requires-clause-at_most_max : goal.batch_phase-requires-clause-at_most_max
+batch_phase-requires-clause-at_most_max c =
+    let none : (opening_shape c.claimed_openings.new.self.shape).batch_pow_bits ≡ 0 =
+    ap (λ (s : OpeningShape). s.batch_pow_bits) (c.claimed_openings.ensures.shape ∙ c.in_ok-transcript.ensures.shape ∙ c.in_ok-shape.ensures) ∙ c.parameters.ensures in
+    omega arith
