@@ -1,5 +1,5 @@
 -- Values of an opening, absorbed list by list, and the steps that are left then.
-use Rattle.std.proofs.Common.{◌≡◌, ℕ, suc, ◌+◌, ◌<◌, List, [], ◌∷◌, ◌++◌, length, map, drop, get_or, codes, sym, ap, ◌∙◌, add-one, append_assoc, append-nil}
+use Rattle.std.proofs.Common.{◌≡◌, ℕ, suc, ◌+◌, ◌<◌, List, [], ◌∷◌, ◌++◌, length, map, drop, get_or, codes, Option, true, sym, ap, ◌∙◌, add-one, append_assoc, append-nil}
 use Rattle.std.proofs.Math.Seq.{drop-cons}
 use Rattle.std.proofs.lemmas.List.{map-append}
 use Rattle.std.proofs.lemmas.Grind.{flat_map-append}
@@ -16,7 +16,7 @@ use Rattle.p3_challenger.specs.Turns.{IsNext, bytes_observed}
 use Rattle.p3_challenger.proofs.Runs.{observed_all-append}
 use Rattle.p3_fri_core.specs.Counts.{joined}
 use Rattle.p3_fri_core.specs.Pow.{pow_turns}
-use Rattle.p3_fri_core.specs.Replay.{batch_replay, opening_replay}
+use Rattle.p3_fri_core.specs.Replay.{BatchReplay, shown_batch_replay, opening_replay}
 use Rattle.p3_fri_core.specs.Steps.{OpeningShape, widths, pow_steps, challenge_step, message_step, bracket_step, opening_steps}
 use Rattle.p3_fri_core.specs.Turns.{OpeningsLeft, claim_turns, bracket_turns}
 use Rattle.p3_fri_core.proofs.TurnLists.{next_of, pow_turns-of}
@@ -99,9 +99,19 @@ after_claims d shape left is =
     is ∙ pow_turns-of (codes "batch_pow") shape.batch_pow_bits (challenge_step d (codes "alpha") ∷ bracket_step Begin ∷ bracket_step End ∷ [])
 
 -- a whole opening, put together from what single calls did
-pub opening_replayed : {C F E Com : Type 0} (m : Moves C F E Com) (coefficients : E → List F) (ops : FieldOps F) (bits : ℕ) (stream : List ℕ) (c started absorbed : C) (values : List E) (witness : F)
+pub opening_replayed : {C F E Com : Type 0} (m : Moves C F E Com) (coefficients : E → List F) (ops : FieldOps F) (bits : ℕ) (stream : List ℕ) (c started absorbed : C) (values : List E) (witness : Option F)
     → started ≡ bytes_observed ops m.observe_value c stream → absorbed ≡ observed_all m.observe_value started (flat_map coefficients values)
-    → opening_replay m coefficients ops bits stream c values witness ≡ batch_replay m bits absorbed witness
+    → opening_replay m coefficients ops bits stream c values witness ≡ shown_batch_replay m bits absorbed witness
 unfolding opening_replay
 opening_replayed m coefficients ops bits stream c started absorbed values witness first second =
-    ap (λ s. batch_replay m bits s witness) (sym (second ∙ ap (λ s. observed_all m.observe_value s (flat_map coefficients values)) first))
+    ap (λ s. shown_batch_replay m bits s witness) (sym (second ∙ ap (λ s. observed_all m.observe_value s (flat_map coefficients values)) first))
+
+-- the same with the last state under another name
+pub opening_ends : {C E : Type 0} (replay : BatchReplay C E) (alpha : E) (last found : C)
+    → replay ≡ record { passes = true; alpha = alpha; state = last } → last ≡ found → replay ≡ record { passes = true; alpha = alpha; state = found }
+opening_ends replay alpha last found is same = is ∙ ap (λ s. record { passes = true; alpha = alpha; state = s }) same
+
+-- all openings are left at the start
+pub all_openings_left : (d : ℕ) (described own : OpeningShape) (left : List Turn) → own ≡ described → left ≡ map turn_of (opening_steps d described)
+    → OpeningsLeft d own (widths own.counts) left
+all_openings_left d described own left same is = is ∙ ap (λ (s : OpeningShape). map turn_of (opening_steps d s)) (sym same) ∙ openings_left d own

@@ -91,6 +91,6 @@ module _ {C F E Com : Type 0} (m : Moves C F E Com) where
   batch_replay bits c witness = shown_batch_replay bits c (Some witness)
 
   -- the stream is observed byte by byte, then all values in order, and then come the proof of work and the challenge
-  unfoldable pub opening_replay : (coefficients : E → List F) → FieldOps F → (bits : ℕ) (stream : List ℕ) (c : C) (values : List E) (witness : F) → BatchReplay C E
+  unfoldable pub opening_replay : (coefficients : E → List F) → FieldOps F → (bits : ℕ) (stream : List ℕ) (c : C) (values : List E) (witness : Option F) → BatchReplay C E
   opening_replay coefficients ops bits stream c values witness =
-      batch_replay bits (observed_all m.observe_value (bytes_observed ops m.observe_value c stream) (flat_map coefficients values)) witness
+      shown_batch_replay bits (observed_all m.observe_value (bytes_observed ops m.observe_value c stream) (flat_map coefficients values)) witness

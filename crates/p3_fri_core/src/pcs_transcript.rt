@@ -5,6 +5,7 @@ mod counts;
 mod described;
 mod description;
 mod failure;
+mod play;
 mod prover;
 mod shape;
 mod state;
@@ -18,3 +19,5 @@ pub use crate::pcs_transcript::state::{
 
 #[cfg(test)]
 mod tests;
+
+pub use crate::pcs_transcript::play::{play_opening, replay_opening};
