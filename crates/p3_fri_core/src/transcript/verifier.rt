@@ -86,6 +86,8 @@ impl<
             (expected ≡ length (test_shape self.old.shape).log_arities) × (got ≡ length commitments.now) × (got ≢ expected) × (self.new.challenger.now ≡ self.old.challenger.now) }
         ensures witnesses { (expected got : ℕ) → result ≡ Err (CommitPowWitnessCount expected got) →
             (expected ≡ length (test_shape self.old.shape).log_arities) × (got ≡ length witnesses.now) × (got ≢ expected) × (length commitments.now ≡ expected) × (self.new.challenger.now ≡ self.old.challenger.now) }
+        ensures wrong_commitments { length commitments.now ≢ length (test_shape self.old.shape).log_arities → result ≡ Err (CommitRoundCount (length (test_shape self.old.shape).log_arities) (length commitments.now)) }
+        ensures wrong_witnesses { length commitments.now ≡ length (test_shape self.old.shape).log_arities → length witnesses.now ≢ length (test_shape self.old.shape).log_arities → result ≡ Err (CommitPowWitnessCount (length (test_shape self.old.shape).log_arities) (length witnesses.now)) }
         ensures failures { IfErr result (λ e. IsRoundsFailure e) }
     {
         let expected = self.shape.log_arities.len();
@@ -138,6 +140,7 @@ impl<
             (expected ≡ (test_shape self.old.shape).final_poly_len) × (got ≡ length final_poly.now) × (got ≢ expected) × (self.new.challenger.now ≡ self.old.challenger.now) }
         ensures missing { result ≡ Err (MissingPowWitness Query) → (witness ≡ None) × ((test_shape self.old.shape).query_pow_bits ≢ 0) }
         ensures wrong { result ≡ Err (PowWitness Query) → witness ≢ None }
+        ensures wrong_length { length final_poly.now ≢ (test_shape self.old.shape).final_poly_len → result ≡ Err (FinalPolyLen (test_shape self.old.shape).final_poly_len (length final_poly.now)) }
         ensures failures { IfErr result (λ e. IsQueryFailure e) }
     {
         let expected = self.shape.final_poly_len;
