@@ -1,4 +1,4 @@
--- A low-degree test is a run over events: runs that begin with a proof of work or with rounds, and those that draw indices.
+-- A low-degree test and an opening are runs over events: runs that begin with a proof of work or with rounds, and those that draw indices.
 use Rattle.std.proofs.Common.{◌≡◌, ℕ, zero, suc, ◌==◌, Bool, true, false, ◌&&◌, IsTrue, if◌then◌else◌, List, [], ◌∷◌, ◌++◌, map, replicate, refl, sym, ap, ap₂, ◌∙◌, append_assoc, eqb-true, eq-eqb}
 use Rattle.std.specs.List.{flat_map}
 use Rattle.algebra.specs.Field.{FieldOps, multiple}
@@ -6,9 +6,9 @@ use Rattle.p3_challenger.specs.Run.{After, Moves, Event, Drawn, run, observed_al
 use Rattle.p3_challenger.specs.Run.Event.{ValueObserved, CommitmentObserved, ElementDrawn, BitsDrawn}
 use Rattle.p3_challenger.specs.Run.Drawn.{Element, Bits}
 use Rattle.p3_challenger.proofs.Runs.{run-observed_all}
-use Rattle.p3_fri_core.specs.Steps.{TestShape}
-use Rattle.p3_fri_core.specs.Replay.{rounds_replay, shown_queries_replay, test_replay}
-use Rattle.p3_fri_core.specs.Events.{grind_events, round_events, rounds_events, rounds_drawn, test_events, test_drawn, test_run, test_replayed, IsRunOfTest}
+use Rattle.p3_fri_core.specs.Steps.{TestShape, OpeningShape, test_stream, opening_stream}
+use Rattle.p3_fri_core.specs.Replay.{rounds_replay, shown_queries_replay, test_replay, opening_replay, scheme_replay}
+use Rattle.p3_fri_core.specs.Events.{grind_events, round_events, rounds_events, rounds_drawn, test_events, test_drawn, test_run, test_replayed, IsRunOfTest, scheme_events, scheme_drawn, scheme_run, scheme_replayed, IsRunOfScheme}
 
 both : (p q : Bool) → p ≡ true → q ≡ true → p && q ≡ true
 both p q left right = ap (λ b. b && q) left ∙ right
@@ -20,6 +20,9 @@ left_of false q e = cc
 right_of : (p q : Bool) → p && q ≡ true → q ≡ true
 right_of true q e = e
 right_of false q e = cc
+
+four_joined : {X : Type 0} (a b c d : List X) → a ++ b ++ c ++ d ≡ a ++ (b ++ (c ++ d))
+four_joined a b c d = append_assoc (a ++ b) c d ∙ append_assoc a b (c ++ d)
 
 five_joined : {X : Type 0} (a b c d e : List X) → a ++ b ++ c ++ d ++ e ≡ a ++ (b ++ (c ++ (d ++ e)))
 five_joined a b c d e =
@@ -173,4 +176,47 @@ module _ {C F E Com : Type 0} (m : Moves C F E Com) (coefficients : E → List F
             let played = rounds-back m commit_bits absorbed commitments witnesses queries_events tail (sym (ap value from_absorbed) ∙ values ∙ regrouped) in
             let queries = grind-back m none ready bits witness indices_events indices (sym (ap value polynomial) ∙ played.1) in
             both rounds.passes ground.value played.0 queries.0;
+      }
+
+module _ {C F E Com : Type 0} (m : Moves C F E Com) (coefficients : E → List F) (ops : FieldOps F) (d : ℕ) (opening : OpeningShape) (test : TestShape) (c : C) (claims : List E) (batch_witness : F) (commitments : List Com) (witnesses : List F) (final_poly : List E) (witness : F) where
+  abbrev claimed : C
+  claimed = observed_all m.observe_value (observed_all m.observe_value c (map (multiple ops) (opening_stream d opening))) (flat_map coefficients claims)
+
+  abbrev events_of_test : List (Event F Com)
+  events_of_test = test_events coefficients test ops (test_stream d test) commitments witnesses final_poly witness
+
+  from_claimed : scheme_run m coefficients ops d opening test c claims batch_witness commitments witnesses final_poly witness
+      ≡ run m claimed (grind_events opening.batch_pow_bits batch_witness ++ (ElementDrawn ∷ events_of_test))
+  unfolding scheme_events
+  from_claimed =
+      let bytes = map (multiple ops) (opening_stream d opening) in
+      let others = grind_events opening.batch_pow_bits batch_witness ++ (ElementDrawn ∷ events_of_test) in
+      ap (run m c) (four_joined (map ValueObserved bytes) (map ValueObserved (flat_map coefficients claims)) (grind_events opening.batch_pow_bits batch_witness) (ElementDrawn ∷ events_of_test))
+      ∙ run-observed_all m c bytes (map ValueObserved (flat_map coefficients claims) ++ others)
+      ∙ run-observed_all m (observed_all m.observe_value c bytes) (flat_map coefficients claims) others
+
+  pub is_run_of_scheme : IsRunOfScheme m coefficients ops d opening test c claims batch_witness commitments witnesses final_poly witness
+  unfolding scheme_replay opening_replay scheme_drawn
+  is_run_of_scheme =
+      let value : After C (List (Drawn E)) → List (Drawn E) = λ a. a.value in
+      let state : After C (List (Drawn E)) → C = λ a. a.state in
+      let replay = scheme_replayed m coefficients ops d opening test c claims batch_witness commitments witnesses final_poly witness in
+      let bits = opening.batch_pow_bits in
+      let none = bits == 0 in
+      let ground = tried m none claimed bits batch_witness in
+      let alpha = m.draw_element ground.state in
+      let tested = is_run_of_test m coefficients test ops (test_stream d test) alpha.state commitments witnesses final_poly witness in
+      let test_passes = (test_replayed m coefficients test ops (test_stream d test) alpha.state commitments witnesses final_poly witness).passes in
+      let drawn = test_drawn test replay.betas replay.indices in
+      record {
+        state = ap state from_claimed ∙ grind-state m none claimed bits batch_witness (ElementDrawn ∷ events_of_test) ∙ tested.state;
+        values = λ passes.
+            ap value from_claimed
+            ∙ grind-values m none claimed bits batch_witness (ElementDrawn ∷ events_of_test) (Element alpha.value ∷ drawn) (left_of ground.value test_passes passes)
+            (ap (λ vs. Element alpha.value ∷ vs) (tested.values (right_of ground.value test_passes passes)));
+        passes = λ is.
+            let after = grind-back m none claimed bits batch_witness (ElementDrawn ∷ events_of_test) (Element alpha.value ∷ drawn) (sym (ap value from_claimed) ∙ is) in
+            let others = after.1 in
+            let same : (test_run m coefficients test ops (test_stream d test) alpha.state commitments witnesses final_poly witness).value ≡ drawn = cc others in
+            both ground.value test_passes after.0 (tested.passes same);
       }

@@ -11,5 +11,6 @@ pub mod Replays
 pub mod Events
 pub mod OpeningSteps
 pub mod Openings
+pub mod Schemes
 pub mod Widths
 pub mod Comparisons

@@ -1,5 +1,7 @@
--- Which failures the calls of a verifier's transcript may answer.
+-- Which failures the calls of a transcript may answer.
 use Rattle.std.specs.Prelude.{⊤}
+use Rattle.p3_fri_core.specs.declared.config.error.FriProverError.{FriProverError}
+use Rattle.p3_fri_core.specs.declared.config.error.FriProverError.TheVariants.{NoPowWitness, OutOfMemory as no_memory}
 use Rattle.p3_fri_core.specs.declared.pow_phase.PowPhase.TheVariants.{CommitPhase, Query}
 use Rattle.p3_fri_core.specs.declared.transcript.failure.TranscriptFailure.{TranscriptFailure}
 use Rattle.p3_fri_core.specs.declared.transcript.failure.TranscriptFailure.TheVariants.{PowWitness, MissingPowWitness, FinalPolyLen, CommitRoundCount, CommitPowWitnessCount, OutOfMemory}
@@ -19,3 +21,9 @@ IsQueryFailure (MissingPowWitness Query) = ⊤
 IsQueryFailure (FinalPolyLen _ _) = ⊤
 IsQueryFailure OutOfMemory = ⊤
 IsQueryFailure _ = ⊥
+
+-- those of a prover
+abbrev pub IsProverFailure : FriProverError → Type 0
+IsProverFailure (NoPowWitness _) = ⊤
+IsProverFailure no_memory = ⊤
+IsProverFailure _ = ⊥

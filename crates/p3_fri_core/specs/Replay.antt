@@ -5,7 +5,7 @@ use Rattle.algebra.specs.Field.{FieldOps}
 use Rattle.p3_challenger.specs.Run.{After, Moves, observed_all, draws, drawn_element, grind_attempt}
 use Rattle.p3_challenger.specs.Turns.{bytes_observed}
 use Rattle.p3_fri_core.specs.Pow.{shown_attempt}
-use Rattle.p3_fri_core.specs.Steps.{TestShape}
+use Rattle.p3_fri_core.specs.Steps.{TestShape, OpeningShape, test_stream, opening_stream}
 
 -- the moves of a challenger that draws elements of an extension coefficient by coefficient
 abbrev pub moves : {C F E Com : Type 0} → (C → F → C) → (C → Com → C) → (C → After C F) → (List F → E) → ℕ → (C → ℕ → After C ℕ) → Moves C F E Com
@@ -39,6 +39,14 @@ pub record TestReplay (C E : Type 0) : Type 0 where
 pub record BatchReplay (C E : Type 0) : Type 0 where
   pub passes : Bool
   pub alpha : E
+  pub state : C
+
+-- a whole opening with the test inside it
+pub record SchemeReplay (C E : Type 0) : Type 0 where
+  pub passes : Bool
+  pub alpha : E
+  pub betas : List E
+  pub indices : List ℕ
   pub state : C
 
 module _ {C F E Com : Type 0} (m : Moves C F E Com) where
@@ -94,3 +102,10 @@ module _ {C F E Com : Type 0} (m : Moves C F E Com) where
   unfoldable pub opening_replay : (coefficients : E → List F) → FieldOps F → (bits : ℕ) (stream : List ℕ) (c : C) (values : List E) (witness : Option F) → BatchReplay C E
   opening_replay coefficients ops bits stream c values witness =
       shown_batch_replay bits (observed_all m.observe_value (bytes_observed ops m.observe_value c stream) (flat_map coefficients values)) witness
+
+  -- an opening from its stream on, and then the test: `d` is the degree of the extension
+  unfoldable pub scheme_replay : (coefficients : E → List F) → FieldOps F → (d : ℕ) (opening : OpeningShape) (test : TestShape) (c : C) (values : List E) (batch_witness : Option F) (commitments : List Com) (witnesses : List F) (final_poly : List E) (witness : Option F) → SchemeReplay C E
+  scheme_replay coefficients ops d opening test c values batch_witness commitments witnesses final_poly witness =
+      let opened = opening_replay coefficients ops opening.batch_pow_bits (opening_stream d opening) c values batch_witness in
+      let tested = test_replay coefficients test ops (test_stream d test) opened.state commitments witnesses final_poly witness in
+      record { passes = opened.passes && tested.passes; alpha = opened.alpha; betas = tested.betas; indices = tested.indices; state = tested.state }

@@ -4,9 +4,9 @@
 ghost use Rattle.std.specs.Prelude.{◌≡◌, ◌↔◌, ℕ, List, [], ◌∷◌};
 ghost use Rattle.algebra.specs.Field.{FieldOps};
 ghost use Rattle.p3_challenger.specs.Run.{Moves};
-ghost use Rattle.p3_fri_core.specs.Events.{IsRunOfTest};
+ghost use Rattle.p3_fri_core.specs.Events.{IsRunOfTest, IsRunOfScheme};
 ghost use Rattle.p3_fri_core.specs.Shapes.{test_shape, opening_shape};
-ghost use Rattle.p3_fri_core.specs.Steps.{TestShape, test_stream, opening_stream};
+ghost use Rattle.p3_fri_core.specs.Steps.{TestShape, OpeningShape, test_stream, opening_stream};
 ghost use Rattle.p3_fri_core.specs.SeedLaws.{SameTest, FitsTest, FitsList, FitsPoints, FitsOpening};
 ghost use Rattle.p3_fri_core.specs.SeedExamples.{without_rounds, stream_without_rounds, with_arities, with_counts, DifferInLabels, DifferInGrouping};
 
@@ -45,6 +45,12 @@ pub fn seed_examples_law()
 /// of work, the queries' indices.
 pub fn test_replay_law<C, F, E, Com>()
     ensures { (m : Moves C F E Com) (coefficients : E → List F) (shape : TestShape) (ops : FieldOps F) (stream : List ℕ) (c : C) (commitments : List Com) (witnesses : List F) (final_poly : List E) (witness : F) → IsRunOfTest m coefficients shape ops stream c commitments witnesses final_poly witness }
+{}
+
+/// The replay of an opening is a run over events: the stream's bytes, all values in order, the proof of work, the
+/// challenge, and then the low-degree test's.
+pub fn scheme_replay_law<C, F, E, Com>()
+    ensures { (m : Moves C F E Com) (coefficients : E → List F) (ops : FieldOps F) (d : ℕ) (opening : OpeningShape) (test : TestShape) (c : C) (values : List E) (batch_witness : F) (commitments : List Com) (witnesses : List F) (final_poly : List E) (witness : F) → IsRunOfScheme m coefficients ops d opening test c values batch_witness commitments witnesses final_poly witness }
 {}
 
 /// Numbers of a shape fit by their types.

@@ -20,4 +20,6 @@ pub use crate::pcs_transcript::state::{
 #[cfg(test)]
 mod tests;
 
-pub use crate::pcs_transcript::play::{play_opening, replay_opening};
+pub use crate::pcs_transcript::play::{
+    OpeningFailure, PlayedOpening, play_opening, replay_opening,
+};

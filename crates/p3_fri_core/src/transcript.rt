@@ -7,10 +7,12 @@ mod prover;
 mod shape;
 mod state;
 #[cfg(test)]
-mod tests;
+pub(crate) mod tests;
 mod verifier;
 
 pub use crate::transcript::failure::TranscriptFailure;
-pub use crate::transcript::play::{Played, Refusal, play_transcript, replay_transcript};
+pub use crate::transcript::play::{
+    Played, Refusal, TestMessages, play_transcript, replay_transcript,
+};
 pub use crate::transcript::shape::FriShape;
 pub use crate::transcript::state::{ProverTranscript, TestTranscript, VerifierTranscript};

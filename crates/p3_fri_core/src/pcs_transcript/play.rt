@@ -1,42 +1,78 @@
-//! Whole transcripts of openings, for a caller that has all values at hand and runs nothing inside the bracket.
+//! Whole transcripts of openings, with the low-degree test inside, for a caller that has all values at hand.
 
-ghost use Rattle.std.specs.Prelude.{◌≡◌, ◌≢◌, ◌≤◌, ◌↔◌, ℕ, true, List, Option, Some, Err, IsTrue, IsOk, IfOk};
+ghost use Rattle.std.specs.Prelude.{◌≡◌, ◌≢◌, ◌≤◌, ◌↔◌, ℕ, true, List, Option, Some, Err, IsTrue, IsOk, IfOk, IfErr, length};
 ghost use Rattle.p3_challenger.specs.Run.{Moves};
-ghost use Rattle.p3_fri_core.specs.declared.transcript.play.Refusal.TheVariants.{Seed};
+ghost use Rattle.p3_fri_core.specs.declared.config.error.FriProverError.{FriProverError};
+ghost use Rattle.p3_fri_core.specs.declared.pcs_transcript.play.OpeningFailure.TheVariants.{Test};
+ghost use Rattle.p3_fri_core.specs.declared.transcript.failure.TranscriptFailure.TheVariants.{OutOfMemory};
+ghost use Rattle.p3_fri_core.specs.declared.transcript.play.Refusal.TheVariants.{Seed, Step};
 ghost use Rattle.p3_fri_core.specs.Counts.{counts_of_values, lists_of_values, counts_of_claims, lists_of_claims, joined};
-ghost use Rattle.p3_fri_core.specs.Replay.{moves, opening_replay};
-ghost use Rattle.p3_fri_core.specs.Shapes.{opening_shape};
-ghost use Rattle.p3_fri_core.specs.Steps.{opening_stream};
+ghost use Rattle.p3_fri_core.specs.Failures.{IsProverFailure};
+ghost use Rattle.p3_fri_core.specs.Replay.{moves, scheme_replay};
+ghost use Rattle.p3_fri_core.specs.Shapes.{opening_shape, test_shape};
 
 use crate::config::FriProverError;
 use crate::pcs_transcript::failure::PcsTranscriptFailure;
 use crate::pcs_transcript::shape::PcsShape;
 use crate::pcs_transcript::state::{PcsProverTranscript, PcsVerifierTranscript};
-use crate::transcript::Refusal;
-use p3_challenger::{FieldChallenger, GrindingChallenger};
+use crate::transcript::{
+    FriShape, Played, Refusal, TestMessages, TranscriptFailure, play_transcript, replay_transcript,
+};
+use p3_challenger::{CanObserve, FieldChallenger, GrindingChallenger};
 use p3_commit::{CommitmentWithOpeningPoints, OpenedValues};
 use p3_field::{ExtensionField, Field};
 use std::alloc::Global;
 
-/// Plays all of an opening's transcript, with nothing inside the bracket, and answers the challenge that batches the
-/// openings with the witness, zero at no bits.
+/// Why a verifier refuses along the transcript of an opening or of the test inside it.
+#[derive(Clone, Copy, Debug, PartialEq, Eq)]
+pub enum OpeningFailure {
+    /// A step of the opening.
+    Opening(PcsTranscriptFailure),
+    /// A step of the low-degree test.
+    Test(TranscriptFailure),
+}
+
+/// What a prover draws and finds along the transcript of an opening and of the test inside it. A witness is zero where
+/// its phase has no bits.
+#[derive(Debug, Drop)]
+pub struct PlayedOpening<F, EF> {
+    /// The challenge that batches the openings.
+    pub alpha: EF,
+    /// The witness before it.
+    pub batch_witness: F,
+    /// What the low-degree test drew and found.
+    pub test: Played<F, EF>,
+}
+
+/// Plays all of an opening's transcript, and inside the bracket all of the low-degree test's.
 pub fn play_opening<
     F: Field,
     EF: ExtensionField<F>,
-    C: FieldChallenger<F> + GrindingChallenger<Witness = F>,
+    Com: Copy,
+    C: FieldChallenger<F> + GrindingChallenger<Witness = F> + CanObserve<Com>,
 >(
     alloc: Global,
     challenger: &mut C,
     shape: PcsShape,
     opened_values: &OpenedValues<EF>,
-) -> Result<(EF, F), Refusal<FriProverError>>
+    test: FriShape,
+    commitments: &[Com],
+    final_poly: &[EF],
+) -> Result<PlayedOpening<F, EF>, Refusal<FriProverError>>
     requires described { counts_of_values opened_values.now.items ≡ (opening_shape shape).counts }
-    requires at_most_max { (opening_shape shape).batch_pow_bits ≤ C.MAX_SAMPLE_BITS }
+    requires rounds { length commitments.now ≡ length (test_shape test).log_arities }
+    requires final_poly { length final_poly.now ≡ (test_shape test).final_poly_len }
+    requires batch_bits_at_most_max { (opening_shape shape).batch_pow_bits ≤ C.MAX_SAMPLE_BITS }
+    requires commit_bits_at_most_max { (test_shape test).commit_pow_bits ≤ C.MAX_SAMPLE_BITS }
+    requires query_bits_at_most_max { (test_shape test).query_pow_bits ≤ C.MAX_SAMPLE_BITS }
+    requires index_bits_at_most_max { (test_shape test).index_bits ≤ C.MAX_SAMPLE_BITS }
     ensures unchanged { result ≡ Err Seed → challenger.new ≡ challenger.old }
-    ensures replay { IfOk result (λ drawn.
-        let m : Moves C F EF F = moves C.observed C.observed C.sampled EF.of_coefficients EF.DIMENSION C.sampled_bits in
-        opening_replay m EF.coefficients F.ops (opening_shape shape).batch_pow_bits (opening_stream EF.DIMENSION (opening_shape shape)) challenger.old (joined (lists_of_values opened_values.now.items)) (Some drawn.1)
-        ≡ record { passes = true; alpha = drawn.0; state = challenger.new }) }
+    ensures replay { IfOk result (λ played.
+        let m : Moves C F EF Com = moves ⟦<C as CanObserve<F>>⟧.observed ⟦<C as CanObserve<Com>>⟧.observed C.sampled EF.of_coefficients EF.DIMENSION C.sampled_bits in
+        scheme_replay m EF.coefficients F.ops EF.DIMENSION (opening_shape shape) (test_shape test) challenger.old (joined (lists_of_values opened_values.now.items)) (Some played.batch_witness) commitments.now played.test.commit_witnesses.items final_poly.now (Some played.test.query_witness)
+        ≡ record { passes = true; alpha = played.alpha; betas = played.test.betas.items; indices = played.test.indices.items; state = challenger.new }) }
+    ensures witnesses { IfOk result (λ played. length played.test.commit_witnesses.items ≡ length commitments.now) }
+    ensures refused { (e : FriProverError) → result ≡ Err (Step e) → IsProverFailure e }
 {
     let seed = match shape.seed::<F, EF>(alloc) {
         Ok(seed) => seed,
@@ -51,36 +87,63 @@ pub fn play_opening<
             return Err(Refusal::Step(refusal));
         },
     };
-    let _lent = transcript.begin_delegate();
-    transcript.end_delegate();
-    transcript.finish();
-    Ok((alpha, witness.unwrap_or(F::ZERO)))
+    let tested = play_transcript::<F, EF, Com, C>(
+        alloc,
+        transcript.begin_delegate(),
+        test,
+        commitments,
+        final_poly,
+    );
+    match tested {
+        Ok(test) => {
+            transcript.end_delegate();
+            transcript.finish();
+            Ok(PlayedOpening {
+                alpha,
+                batch_witness: witness.unwrap_or(F::ZERO),
+                test,
+            })
+        },
+        Err(refusal) => {
+            transcript.abort();
+            Err(Refusal::Step(refusal.of_step(FriProverError::OutOfMemory)))
+        },
+    }
 }
 
-/// Replays all of an opening's transcript, with nothing inside the bracket, and answers the challenge that batches the
-/// openings.
+/// Replays all of an opening's transcript, and inside the bracket all of the low-degree test's. Answers the challenge
+/// that batches the openings, the folding challenges and the queries' indices.
 pub fn replay_opening<
     F: Field,
     EF: ExtensionField<F>,
-    C: FieldChallenger<F> + GrindingChallenger<Witness = F>,
-    Com,
+    Com: Copy,
+    C: FieldChallenger<F> + GrindingChallenger<Witness = F> + CanObserve<Com>,
+    InputCom,
     Domain,
 >(
     alloc: Global,
     challenger: &mut C,
     shape: PcsShape,
-    claims: &[CommitmentWithOpeningPoints<EF, Com, Domain>],
-    witness: Option<F>,
-) -> Result<EF, Refusal<PcsTranscriptFailure>>
+    claims: &[CommitmentWithOpeningPoints<EF, InputCom, Domain>],
+    batch_witness: Option<F>,
+    test: FriShape,
+    messages: TestMessages<'_, F, EF, Com>,
+) -> Result<(EF, Vec<EF>, Vec<usize>), Refusal<OpeningFailure>>
     requires described { counts_of_claims claims.now ≡ (opening_shape shape).counts }
-    requires at_most_max { (opening_shape shape).batch_pow_bits ≤ C.MAX_SAMPLE_BITS }
+    requires batch_bits_at_most_max { (opening_shape shape).batch_pow_bits ≤ C.MAX_SAMPLE_BITS }
+    requires commit_bits_at_most_max { (test_shape test).commit_pow_bits ≤ C.MAX_SAMPLE_BITS }
+    requires query_bits_at_most_max { (test_shape test).query_pow_bits ≤ C.MAX_SAMPLE_BITS }
+    requires index_bits_at_most_max { (test_shape test).index_bits ≤ C.MAX_SAMPLE_BITS }
     ensures unchanged { result ≡ Err Seed → challenger.new ≡ challenger.old }
-    ensures passes { let m : Moves C F EF F = moves C.observed C.observed C.sampled EF.of_coefficients EF.DIMENSION C.sampled_bits in
-        result ≢ Err Seed → (IsOk result ↔ IsTrue (opening_replay m EF.coefficients F.ops (opening_shape shape).batch_pow_bits (opening_stream EF.DIMENSION (opening_shape shape)) challenger.old (joined (lists_of_claims claims.now)) witness).passes) }
-    ensures replay { IfOk result (λ alpha.
-        let m : Moves C F EF F = moves C.observed C.observed C.sampled EF.of_coefficients EF.DIMENSION C.sampled_bits in
-        opening_replay m EF.coefficients F.ops (opening_shape shape).batch_pow_bits (opening_stream EF.DIMENSION (opening_shape shape)) challenger.old (joined (lists_of_claims claims.now)) witness
-        ≡ record { passes = true; alpha = alpha; state = challenger.new }) }
+    ensures passes { let m : Moves C F EF Com = moves ⟦<C as CanObserve<F>>⟧.observed ⟦<C as CanObserve<Com>>⟧.observed C.sampled EF.of_coefficients EF.DIMENSION C.sampled_bits in
+        let tested = test_shape test in
+        result ≢ Err Seed → result ≢ Err (Step (Test OutOfMemory)) → (IsOk result ↔ ((length messages.entry.commitments.now ≡ length tested.log_arities) × (length messages.entry.commit_witnesses.now ≡ length tested.log_arities)
+        × (length messages.entry.final_poly.now ≡ tested.final_poly_len)
+        × IsTrue (scheme_replay m EF.coefficients F.ops EF.DIMENSION (opening_shape shape) tested challenger.old (joined (lists_of_claims claims.now)) batch_witness messages.entry.commitments.now messages.entry.commit_witnesses.now messages.entry.final_poly.now messages.entry.query_witness).passes)) }
+    ensures replay { IfOk result (λ drawn.
+        let m : Moves C F EF Com = moves ⟦<C as CanObserve<F>>⟧.observed ⟦<C as CanObserve<Com>>⟧.observed C.sampled EF.of_coefficients EF.DIMENSION C.sampled_bits in
+        scheme_replay m EF.coefficients F.ops EF.DIMENSION (opening_shape shape) (test_shape test) challenger.old (joined (lists_of_claims claims.now)) batch_witness messages.entry.commitments.now messages.entry.commit_witnesses.now messages.entry.final_poly.now messages.entry.query_witness
+        ≡ record { passes = true; alpha = drawn.0; betas = drawn.1.items; indices = drawn.2.items; state = challenger.new }) }
 {
     let seed = match shape.seed::<F, EF>(alloc) {
         Ok(seed) => seed,
@@ -91,18 +154,32 @@ pub fn replay_opening<
         Ok(()) => {},
         Err(failure) => {
             transcript.abort();
-            return Err(Refusal::Step(failure));
+            return Err(Refusal::Step(OpeningFailure::Opening(failure)));
         },
     }
-    let alpha = match transcript.batch_phase(witness) {
+    let alpha = match transcript.batch_phase(batch_witness) {
         Ok(alpha) => alpha,
         Err(failure) => {
             transcript.abort();
-            return Err(Refusal::Step(failure));
+            return Err(Refusal::Step(OpeningFailure::Opening(failure)));
         },
     };
-    let _lent = transcript.begin_delegate();
-    transcript.end_delegate();
-    transcript.finish();
-    Ok(alpha)
+    let tested = replay_transcript::<F, EF, Com, C>(
+        alloc,
+        transcript.begin_delegate(),
+        test,
+        messages,
+    );
+    match tested {
+        Ok((betas, indices)) => {
+            transcript.end_delegate();
+            transcript.finish();
+            Ok((alpha, betas, indices))
+        },
+        Err(refusal) => {
+            transcript.abort();
+            let failure = refusal.of_step(TranscriptFailure::OutOfMemory);
+            Err(Refusal::Step(OpeningFailure::Test(failure)))
+        },
+    }
 }

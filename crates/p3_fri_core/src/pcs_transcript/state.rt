@@ -101,6 +101,7 @@ impl<'a, Side, F: Field, EF: ExtensionField<F>, C: FieldChallenger<F>> OpeningTr
         requires all_played { remaining self.script ≡ [] }
         ensures { self.exit.0.now ≡ self.entry.challenger.now }
     {
+        // A transcript can't be dropped: it is taken apart by name.
         let OpeningTranscript {
             challenger: _,
             script: _,
@@ -113,6 +114,7 @@ impl<'a, Side, F: Field, EF: ExtensionField<F>, C: FieldChallenger<F>> OpeningTr
     pub fn abort(self)
         ensures { self.exit.0.now ≡ self.entry.challenger.now }
     {
+        // Nothing is undone: what was absorbed and drawn stays so.
         let OpeningTranscript {
             challenger: _,
             script: _,

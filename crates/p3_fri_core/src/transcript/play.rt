@@ -30,6 +30,19 @@ pub enum Refusal<E> {
     Step(E),
 }
 
+impl<E: Copy> Refusal<E> {
+    /// Why the step that ran the whole transcript is refused, where `out_of_memory` says that its seed was.
+    pub(crate) fn of_step(self, out_of_memory: E) -> E
+        ensures seed { self ≡ Seed → result ≡ out_of_memory }
+        ensures step { (e : E) → self ≡ Step e → result ≡ e }
+    {
+        match self {
+            Refusal::Seed => out_of_memory,
+            Refusal::Step(error) => error,
+        }
+    }
+}
+
 /// What a prover draws and finds along a transcript. A witness is zero where its phase has no bits.
 #[derive(Debug, Drop)]
 pub struct Played<F, EF> {
@@ -41,6 +54,19 @@ pub struct Played<F, EF> {
     pub indices: Vec<usize>,
     /// The witness before the queries.
     pub query_witness: F,
+}
+
+/// What a prover sent along a low-degree test.
+#[derive(Clone, Copy, Debug)]
+pub struct TestMessages<'a, F, EF, Com> {
+    /// The commitment of each round.
+    pub commitments: &'a [Com],
+    /// The witness of each round.
+    pub commit_witnesses: &'a [F],
+    /// The coefficients of the final polynomial.
+    pub final_poly: &'a [EF],
+    /// The witness before the queries.
+    pub query_witness: Option<F>,
 }
 
 /// Plays a round for each commitment.
@@ -153,10 +179,7 @@ pub fn replay_transcript<
     alloc: Global,
     challenger: &mut C,
     shape: FriShape,
-    commitments: &[Com],
-    commit_witnesses: &[F],
-    final_poly: &[EF],
-    query_witness: Option<F>,
+    messages: TestMessages<'_, F, EF, Com>,
 ) -> Result<(Vec<EF>, Vec<usize>), Refusal<TranscriptFailure>>
     requires commit_bits_at_most_max { (test_shape shape).commit_pow_bits ≤ C.MAX_SAMPLE_BITS }
     requires query_bits_at_most_max { (test_shape shape).query_pow_bits ≤ C.MAX_SAMPLE_BITS }
@@ -164,15 +187,21 @@ pub fn replay_transcript<
     ensures unchanged { result ≡ Err Seed → challenger.new ≡ challenger.old }
     ensures passes { let m : Moves C F EF Com = moves ⟦<C as CanObserve<F>>⟧.observed ⟦<C as CanObserve<Com>>⟧.observed C.sampled EF.of_coefficients EF.DIMENSION C.sampled_bits in
         let described = test_shape shape in
-        result ≢ Err Seed → result ≢ Err (Step OutOfMemory) → (IsOk result ↔ ((length commitments.now ≡ length described.log_arities) × (length commit_witnesses.now ≡ length described.log_arities)
-        × (length final_poly.now ≡ described.final_poly_len)
-        × IsTrue (test_replay m EF.coefficients described F.ops (test_stream EF.DIMENSION described) challenger.old commitments.now commit_witnesses.now final_poly.now query_witness).passes)) }
+        result ≢ Err Seed → result ≢ Err (Step OutOfMemory) → (IsOk result ↔ ((length messages.entry.commitments.now ≡ length described.log_arities) × (length messages.entry.commit_witnesses.now ≡ length described.log_arities)
+        × (length messages.entry.final_poly.now ≡ described.final_poly_len)
+        × IsTrue (test_replay m EF.coefficients described F.ops (test_stream EF.DIMENSION described) challenger.old messages.entry.commitments.now messages.entry.commit_witnesses.now messages.entry.final_poly.now messages.entry.query_witness).passes)) }
     ensures replay { IfOk result (λ drawn.
         let m : Moves C F EF Com = moves ⟦<C as CanObserve<F>>⟧.observed ⟦<C as CanObserve<Com>>⟧.observed C.sampled EF.of_coefficients EF.DIMENSION C.sampled_bits in
         let described = test_shape shape in
-        test_replay m EF.coefficients described F.ops (test_stream EF.DIMENSION described) challenger.old commitments.now commit_witnesses.now final_poly.now query_witness
+        test_replay m EF.coefficients described F.ops (test_stream EF.DIMENSION described) challenger.old messages.entry.commitments.now messages.entry.commit_witnesses.now messages.entry.final_poly.now messages.entry.query_witness
         ≡ record { passes = true; betas = drawn.0.items; indices = drawn.1.items; state = challenger.new }) }
 {
+    let TestMessages {
+        commitments,
+        commit_witnesses,
+        final_poly,
+        query_witness,
+    } = messages;
     let seed = match shape.seed::<F, EF>(alloc) {
         Ok(seed) => seed,
         Err(_) => return Err(Refusal::Seed),

@@ -19,7 +19,7 @@ type OurVerifier<'a> = VerifierTranscript<'a, Sha256Challenger, BabyBear, BabyBe
 
 /// The shape of rounds of these log arities, with one coefficient and four indices of three bits.
 #[tactic(auto, unfolding(crate::specs::Shapes::test_shape))]
-fn shape_of(
+pub(crate) fn shape_of(
     alloc: Global,
     log_arities: &[usize],
     commit_pow_bits: usize,
@@ -94,7 +94,7 @@ fn answer_to_polynomial(
 
 /// What a side draws, and the prover's witnesses.
 #[derive(Debug, PartialEq, Eq, Drop)]
-struct Played {
+struct Drawn {
     beta: BabyBear4,
     commit_witness: Option<BabyBear>,
     indices: Vec<usize>,
@@ -102,7 +102,7 @@ struct Played {
 }
 
 /// The prover's side of one round and the queries.
-fn prove(alloc: Global, challenger: &mut Sha256Challenger) -> Result<Played, FriProverError> {
+fn prove(alloc: Global, challenger: &mut Sha256Challenger) -> Result<Drawn, FriProverError> {
     let shape = shape_of(alloc, &[3], 2, 3)?;
     let mut transcript = OurProver::new(alloc, challenger, shape)?;
     let (beta, commit_witness) = match transcript.commit_round([7u8; 32]) {
@@ -115,7 +115,7 @@ fn prove(alloc: Global, challenger: &mut Sha256Challenger) -> Result<Played, Fri
     match transcript.query_phase(alloc, &[BabyBear4::from_u64(5)]) {
         Ok((indices, query_witness)) => {
             transcript.finish();
-            Ok(Played {
+            Ok(Drawn {
                 beta,
                 commit_witness,
                 indices,
@@ -130,7 +130,7 @@ fn prove(alloc: Global, challenger: &mut Sha256Challenger) -> Result<Played, Fri
 }
 
 /// The verifier's side of the same, with the witnesses 2 and 19.
-fn verify(alloc: Global, challenger: &mut Sha256Challenger) -> Result<Played, TranscriptFailure> {
+fn verify(alloc: Global, challenger: &mut Sha256Challenger) -> Result<Drawn, TranscriptFailure> {
     let shape = shape_of(alloc, &[3], 2, 3)?;
     let commit_witness = BabyBear::from_u64(2);
     let query_witness = Some(BabyBear::from_u64(19));
@@ -145,7 +145,7 @@ fn verify(alloc: Global, challenger: &mut Sha256Challenger) -> Result<Played, Tr
     match transcript.query_phase(alloc, &[BabyBear4::from_u64(5)], query_witness) {
         Ok(indices) => {
             transcript.finish();
-            Ok(Played {
+            Ok(Drawn {
                 beta: betas.first().copied().unwrap_or(BabyBear4::ZERO),
                 commit_witness: Some(commit_witness),
                 indices,
@@ -231,12 +231,12 @@ fn final_polynomials_and_witnesses_of_the_queries(rt: HostRuntime) -> Result<(),
 fn both_sides_draw_the_same(rt: HostRuntime) -> Result<(), Fail> {
     let mut prover = Sha256Challenger::new();
     let mut verifier = Sha256Challenger::new();
-    let played = prove(rt.alloc(), &mut prover)?;
-    assert_eq!(rt; played, verify(rt.alloc(), &mut verifier)?);
+    let drawn = prove(rt.alloc(), &mut prover)?;
+    assert_eq!(rt; drawn, verify(rt.alloc(), &mut verifier)?);
     assert!(rt; prover == verifier);
-    assert_eq!(rt; played.indices.as_slice(), [2, 4, 4, 5].as_slice());
+    assert_eq!(rt; drawn.indices.as_slice(), [2, 4, 4, 5].as_slice());
     assert_eq!(rt;
-        played.beta,
+        drawn.beta,
         BabyBear4::from_coefficients(&[
             BabyBear::from_u64(854_485_589),
             BabyBear::from_u64(1_124_761_396),
@@ -244,6 +244,62 @@ fn both_sides_draw_the_same(rt: HostRuntime) -> Result<(), Fail> {
             BabyBear::from_u64(916_607_916),
         ])
     );
+    Ok(())
+}
+
+#[test]
+fn whole_transcripts_are_their_steps(rt: HostRuntime) -> Result<(), Fail> {
+    let mut stepped = Sha256Challenger::new();
+    let drawn = prove(rt.alloc(), &mut stepped)?;
+    let commitments = [[7u8; 32]];
+    let final_poly = [BabyBear4::from_u64(5)];
+    let mut prover = Sha256Challenger::new();
+    let shape = shape_of(rt.alloc(), &[3], 2, 3)?;
+    let played = play_transcript::<BabyBear, BabyBear4, [u8; 32], Sha256Challenger>(
+        rt.alloc(),
+        &mut prover,
+        shape,
+        &commitments,
+        &final_poly,
+    )?;
+    assert_eq!(rt; played.betas.as_slice(), [drawn.beta].as_slice());
+    assert_eq!(rt;
+        played.commit_witnesses.as_slice(),
+        [BabyBear::from_u64(2)].as_slice()
+    );
+    assert_eq!(rt; played.indices, drawn.indices);
+    assert_eq!(rt; played.query_witness, BabyBear::from_u64(19));
+    assert!(rt; prover == stepped);
+    let rows = [
+        (Some(played.query_witness), None),
+        (
+            None,
+            Some(Refusal::Step(TranscriptFailure::MissingPowWitness(PowPhase::Query))),
+        ),
+    ];
+    for (witness, refusal) in rows {
+        let mut verifier = Sha256Challenger::new();
+        let shape = shape_of(rt.alloc(), &[3], 2, 3)?;
+        match replay_transcript::<BabyBear, BabyBear4, [u8; 32], Sha256Challenger>(
+            rt.alloc(),
+            &mut verifier,
+            shape,
+            TestMessages {
+                commitments: &commitments,
+                commit_witnesses: &played.commit_witnesses,
+                final_poly: &final_poly,
+                query_witness: witness,
+            },
+        ) {
+            Ok((betas, indices)) => {
+                assert_eq!(rt; refusal, None);
+                assert_eq!(rt; betas, played.betas);
+                assert_eq!(rt; indices, played.indices);
+                assert!(rt; verifier == prover);
+            },
+            Err(refused) => assert_eq!(rt; Some(refused), refusal),
+        }
+    }
     Ok(())
 }
 

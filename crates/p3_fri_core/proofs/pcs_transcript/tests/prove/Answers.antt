@@ -5,6 +5,7 @@ use Rattle.p3_fri_core.proofs.pcs_transcript.tests.prove.Goals as goal
 
 pub batch_phase-requires-clause-at_most_max : goal.batch_phase-requires-clause-at_most_max
 batch_phase-requires-clause-at_most_max c =
-    let none : (opening_shape c.claimed_openings.new.self.shape).batch_pow_bits ≡ 0 =
+    let same : (opening_shape c.claimed_openings.new.self.shape).batch_pow_bits ≡ c.args.bits =
     ap (λ (s : OpeningShape). s.batch_pow_bits) (c.claimed_openings.ensures.shape ∙ c.in_ok-transcript.ensures.shape ∙ c.in_ok-shape.ensures) ∙ c.parameters.ensures in
-    omega arith
+    let within = c.requires in
+    omega (arith, same, within)

@@ -24,7 +24,7 @@ returns-in-Err-commit_rounds-clause-passes g c = λ started remembered.
       (λ ok. cc),
       λ held.
           (exact (λ same. remembered (let failed : c.in-Err-commit_rounds.failure ≡ OutOfMemory = cc in ap (λ f. Err (Step f)) failed))).1
-          (held.0, held.1, test_passes m g.EF.ExtensionField.coefficients described g.F.Field.ops stream c.args.challenger.now _ c.args.commitments.now c.args.commit_witnesses.now c.args.final_poly.now c.args.query_witness (begun.ensures.state ∙ ap (λ bytes. bytes_observed g.F.Field.ops g.C.CanObserve-1.observed c.args.challenger.now bytes) c.in-Ok.ensures.stream) held.3),
+          (held.0, held.1, test_passes m g.EF.ExtensionField.coefficients described g.F.Field.ops stream c.args.challenger.now _ c.args.messages.commitments.now c.args.messages.commit_witnesses.now c.args.messages.final_poly.now c.args.messages.query_witness (begun.ensures.state ∙ ap (λ bytes. bytes_observed g.F.Field.ops g.C.CanObserve-1.observed c.args.challenger.now bytes) c.in-Ok.ensures.stream) held.3),
     )
 
 pub returns-in-Err-query_phase-clause-passes : goal.returns-in-Err-query_phase-clause-passes
@@ -40,8 +40,8 @@ returns-in-Err-query_phase-clause-passes g c = λ started remembered.
       λ held.
           (exact (λ same. remembered (let failed : c.in-Err-query_phase.failure ≡ OutOfMemory = cc in ap (λ f. Err (Step f)) failed))).1 (
             held.2,
-            ap (λ (q : QueriesReplay _). q.passes) (queries_any g.C.CanObserve-1.observed g.C.CanObserve-1.observed g.C.CanObserve-2.observed g.C.CanSample.sampled g.EF.ExtensionField.of_coefficients d g.C.CanSampleBits.sampled_bits g.EF.ExtensionField.coefficients described _ c.args.final_poly.now c.args.query_witness)
-                ∙ test_queries_pass m g.EF.ExtensionField.coefficients described g.F.Field.ops stream c.args.challenger.now _ _ c.args.commitments.now c.args.commit_witnesses.now c.args.final_poly.now c.args.query_witness _ (begun.ensures.state ∙ ap (λ bytes. bytes_observed g.F.Field.ops g.C.CanObserve-1.observed c.args.challenger.now bytes) c.in-Ok.ensures.stream) rounds held.3,
+            ap (λ (q : QueriesReplay _). q.passes) (queries_any g.C.CanObserve-1.observed g.C.CanObserve-1.observed g.C.CanObserve-2.observed g.C.CanSample.sampled g.EF.ExtensionField.of_coefficients d g.C.CanSampleBits.sampled_bits g.EF.ExtensionField.coefficients described _ c.args.messages.final_poly.now c.args.messages.query_witness)
+                ∙ test_queries_pass m g.EF.ExtensionField.coefficients described g.F.Field.ops stream c.args.challenger.now _ _ c.args.messages.commitments.now c.args.messages.commit_witnesses.now c.args.messages.final_poly.now c.args.messages.query_witness _ (begun.ensures.state ∙ ap (λ bytes. bytes_observed g.F.Field.ops g.C.CanObserve-1.observed c.args.challenger.now bytes) c.in-Ok.ensures.stream) rounds held.3,
           ),
     )
 
@@ -56,8 +56,8 @@ returns-clause-passes g c = λ started remembered.
     let counts = (rw begun.ensures.shape at c.in-Ok-commit_rounds.ensures.passes) (λ same. cc) in
     let queries = rw (c.in-Ok-commit_rounds.ensures.shape, begun.ensures.shape) at c.in-Ok-query_phase.ensures.queries in
     let lengths = (rw (c.in-Ok-commit_rounds.ensures.shape, begun.ensures.shape) at c.in-Ok-query_phase.ensures.passes) (λ same. cc) in
-    let whole = test_is m g.EF.ExtensionField.coefficients described g.F.Field.ops stream c.args.challenger.now _ _ _ c.args.commitments.now c.args.commit_witnesses.now c.args.final_poly.now c.args.query_witness _ _ (begun.ensures.state ∙ ap (λ bytes. bytes_observed g.F.Field.ops g.C.CanObserve-1.observed c.args.challenger.now bytes) c.in-Ok.ensures.stream) rounds
-    (queries_any g.C.CanObserve-1.observed g.C.CanObserve-2.observed g.C.CanObserve-1.observed g.C.CanSample.sampled g.EF.ExtensionField.of_coefficients d g.C.CanSampleBits.sampled_bits g.EF.ExtensionField.coefficients described _ c.args.final_poly.now c.args.query_witness ∙ queries) in (
+    let whole = test_is m g.EF.ExtensionField.coefficients described g.F.Field.ops stream c.args.challenger.now _ _ _ c.args.messages.commitments.now c.args.messages.commit_witnesses.now c.args.messages.final_poly.now c.args.messages.query_witness _ _ (begun.ensures.state ∙ ap (λ bytes. bytes_observed g.F.Field.ops g.C.CanObserve-1.observed c.args.challenger.now bytes) c.in-Ok.ensures.stream) rounds
+    (queries_any g.C.CanObserve-1.observed g.C.CanObserve-2.observed g.C.CanObserve-1.observed g.C.CanSample.sampled g.EF.ExtensionField.of_coefficients d g.C.CanSampleBits.sampled_bits g.EF.ExtensionField.coefficients described _ c.args.messages.final_poly.now c.args.messages.query_witness ∙ queries) in (
       (λ ok. ((counts.0 refl).0, (counts.0 refl).1, (lengths.0 refl).0, ap (λ (t : TestReplay _ _). t.passes) whole)),
       λ held. refl,
     )
@@ -71,6 +71,6 @@ returns-clause-replay g c =
     let m = moves g.C.CanObserve-1.observed g.C.CanObserve-2.observed g.C.CanSample.sampled g.EF.ExtensionField.of_coefficients g.EF.ExtensionField.DIMENSION g.C.CanSampleBits.sampled_bits in
     let rounds = rw begun.ensures.shape at c.in-Ok-commit_rounds.ensures.rounds in
     let queries = rw (c.in-Ok-commit_rounds.ensures.shape, begun.ensures.shape) at c.in-Ok-query_phase.ensures.queries in
-    let whole = test_is m g.EF.ExtensionField.coefficients described g.F.Field.ops stream c.args.challenger.now _ _ _ c.args.commitments.now c.args.commit_witnesses.now c.args.final_poly.now c.args.query_witness _ _ (begun.ensures.state ∙ ap (λ bytes. bytes_observed g.F.Field.ops g.C.CanObserve-1.observed c.args.challenger.now bytes) c.in-Ok.ensures.stream) rounds
-    (queries_any g.C.CanObserve-1.observed g.C.CanObserve-2.observed g.C.CanObserve-1.observed g.C.CanSample.sampled g.EF.ExtensionField.of_coefficients d g.C.CanSampleBits.sampled_bits g.EF.ExtensionField.coefficients described _ c.args.final_poly.now c.args.query_witness ∙ queries) in
+    let whole = test_is m g.EF.ExtensionField.coefficients described g.F.Field.ops stream c.args.challenger.now _ _ _ c.args.messages.commitments.now c.args.messages.commit_witnesses.now c.args.messages.final_poly.now c.args.messages.query_witness _ _ (begun.ensures.state ∙ ap (λ bytes. bytes_observed g.F.Field.ops g.C.CanObserve-1.observed c.args.challenger.now bytes) c.in-Ok.ensures.stream) rounds
+    (queries_any g.C.CanObserve-1.observed g.C.CanObserve-2.observed g.C.CanObserve-1.observed g.C.CanSample.sampled g.EF.ExtensionField.of_coefficients d g.C.CanSampleBits.sampled_bits g.EF.ExtensionField.coefficients described _ c.args.messages.final_poly.now c.args.messages.query_witness ∙ queries) in
     test_ends _ _ _ _ _ whole (search rules)
