@@ -15,3 +15,4 @@ pub mod Counts
 pub mod Claims
 pub mod Cursor
 pub mod Lending
+pub mod Phases

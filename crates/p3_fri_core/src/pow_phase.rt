@@ -1,5 +1,7 @@
 //! The phases of a proof that a proof of work stands before.
 
+ghost use Rattle.std.specs.Prelude.{Some};
+
 use std::fmt;
 
 /// What a proof of work guards.
@@ -14,6 +16,10 @@ pub enum PowPhase {
 }
 
 impl fmt::Display for PowPhase {
+    ghost use Rattle.p3_fri_core.specs.Phases.{phase_name};
+
+    ghost output = { λ phase. Some (phase_name phase) };
+
     fn fmt<W: fmt::Write>(&self, f: &mut fmt::Formatter<W>) -> fmt::Result {
         match self {
             PowPhase::Batch => f.write_str("opening-batching"),
