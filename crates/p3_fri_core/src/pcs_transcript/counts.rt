@@ -1,6 +1,6 @@
 //! Numbers of values at points, nested by commitment, matrix and point.
 
-ghost use Rattle.std.specs.Prelude.{◌≡◌, ◌<◌, ◌^◌, IfOk, length};
+ghost use Rattle.std.specs.Prelude.{◌≡◌, ◌-◌, ◌^◌, min, IfOk, length};
 ghost use Rattle.std.specs.List.{flat_map};
 ghost use Rattle.p3_fri_core.specs.Counts.{counts_at_points, counts_in_matrices, counts_of_values, claimed_at_points, claimed_in_matrices, counts_of_claims, point_lists, matrix_lists};
 ghost use Rattle.p3_fri_core.specs.Steps.{widths};
@@ -116,7 +116,7 @@ fn clone_matrices(alloc: Global, matrices: &[Vec<usize>]) -> Result<Vec<Vec<usiz
 
 /// The number of points, or the greatest number where that is greater.
 pub(super) fn number_of_points(commitments: &[Vec<Vec<usize>>]) -> usize
-    ensures { length (widths (matrix_lists commitments.now)) < 2 ^ 64 → result ≡ length (widths (matrix_lists commitments.now)) }
+    ensures { result ≡ min (length (widths (matrix_lists commitments.now))) (2 ^ 64 - 1) }
 {
     let mut total: usize = 0;
     for matrices in commitments {
@@ -127,7 +127,7 @@ pub(super) fn number_of_points(commitments: &[Vec<Vec<usize>>]) -> usize
 
 /// The same of the matrices under a commitment.
 fn points_in_matrices(matrices: &[Vec<usize>]) -> usize
-    ensures { length (flat_map (λ points. points) (point_lists matrices.now)) < 2 ^ 64 → result ≡ length (flat_map (λ points. points) (point_lists matrices.now)) }
+    ensures { result ≡ min (length (flat_map (λ points. points) (point_lists matrices.now))) (2 ^ 64 - 1) }
 {
     let mut total: usize = 0;
     for points in matrices {

@@ -1,6 +1,6 @@
 //! What an opening exchanges.
 
-ghost use Rattle.std.specs.Prelude.{◌≡◌, ◌<◌, ◌^◌, IfOk, length, map, codes};
+ghost use Rattle.std.specs.Prelude.{◌≡◌, ◌-◌, ◌^◌, min, IfOk, length, map, codes};
 ghost use Rattle.p3_challenger.specs.Pattern.{turn_of};
 ghost use Rattle.p3_challenger.specs.Separator.{description, seed_bytes, seed_turns};
 ghost use Rattle.p3_fri_core.specs.Counts.{counts_of_values, counts_of_claims};
@@ -73,10 +73,10 @@ impl PcsShape {
         })
     }
 
-    /// The number of openings, which are triples of a commitment, a matrix and a point.
+    /// The number of openings, which are triples of a commitment, a matrix and a point, or the greatest number where
+    /// that is greater.
     pub fn num_openings(&self) -> usize
-        requires number_of_openings_fits { length (widths (opening_shape self.now).counts) < 2 ^ 64 }
-        ensures { result ≡ length (widths (opening_shape self.now).counts) }
+        ensures { result ≡ min (length (widths (opening_shape self.now).counts)) (2 ^ 64 - 1) }
     {
         number_of_points(&self.claimed_evaluation_counts)
     }

@@ -335,8 +335,11 @@ fn groupings_have_streams_of_their_own(rt: HostRuntime) -> Result<(), Fail> {
 }
 
 #[test]
-fn shapes_are_cloned(rt: HostRuntime) -> Result<(), Fail> {
+fn shapes_have_their_openings(rt: HostRuntime) -> Result<(), Fail> {
     let shape = shape_of(rt.alloc(), &[&[&[3, 1], &[]], &[&[2]]])?;
+    assert_eq!(rt; shape.num_openings(), 3);
+    let pattern = shape.pattern::<BabyBear, BabyBear4>(rt.alloc())?;
+    assert_eq!(rt; pattern.steps().len(), 6);
     assert_eq!(rt; shape.clone(rt.alloc())?, shape);
     Ok(())
 }

@@ -338,6 +338,10 @@ fn shapes_of_parameters(rt: HostRuntime) -> Result<(), Fail> {
     let shape = FriShape::new(rt.alloc(), &parameters, &[10], 12)?;
     assert_eq!(rt; shape.log_arities.as_slice(), [3, 3, 2].as_slice());
     assert_eq!(rt; shape.clone(rt.alloc())?, shape);
+    let rounds = Vec::from_slice(rt.alloc(), &[3, 3, 2])?;
+    assert_eq!(rt; FriShape::with_schedule(&parameters, rounds, 12), shape);
+    let pattern = shape.pattern::<BabyBear, BabyBear4>(rt.alloc())?;
+    assert_eq!(rt; pattern.steps().len(), 12);
     Ok(())
 }
 

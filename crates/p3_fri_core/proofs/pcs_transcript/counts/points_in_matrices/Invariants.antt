@@ -1,9 +1,10 @@
-use Rattle.std.proofs.Common.{◌≡◌, ◌+◌, ◌<◌, ◌^◌, drop, length}
+use Rattle.std.proofs.Common.{◌≡◌, ◌+◌, ◌-◌, ◌≤◌, ◌^◌, min, drop, length}
 use Rattle.std.specs.List.{flat_map}
 use Rattle.p3_fri_core.specs.Counts.{point_lists}
 use Rattle.p3_fri_core.proofs.pcs_transcript.counts.points_in_matrices.Given as goal
 
 abbrev pub invariant-loop-points : goal.invariant-loop-points
 invariant-loop-points l =
-    length (flat_map (λ points. points) (point_lists l.matrices)) < 2 ^ 64
-    → l.total + length (flat_map (λ points. points) (point_lists (drop l.points-index l.matrices))) ≡ length (flat_map (λ points. points) (point_lists l.matrices))
+    (l.total ≤ 2 ^ 64 - 1)
+    × (min (l.total + length (flat_map (λ points. points) (point_lists (drop l.points-index l.matrices)))) (2 ^ 64 - 1)
+    ≡ min (length (flat_map (λ points. points) (point_lists l.matrices))) (2 ^ 64 - 1))
