@@ -323,6 +323,18 @@ fn whole_openings_are_their_steps(rt: HostRuntime) -> Result<(), Fail> {
     Ok(())
 }
 
+/// The branch of the refusal runs where an allocation fails (`rt try --test --fail-alloc N`).
+#[test]
+fn a_refused_new_leaves_the_challenger(rt: HostRuntime) -> Result<(), Fail> {
+    let shape = shape_of(rt.alloc(), &[&[&[3, 1]], &[&[2]]])?;
+    let mut challenger = Sha256Challenger::new();
+    match OurVerifier::new(rt.alloc(), &mut challenger, shape) {
+        Ok(transcript) => transcript.abort(),
+        Err(_) => assert!(rt; challenger == Sha256Challenger::new()),
+    }
+    Ok(())
+}
+
 #[test]
 fn groupings_have_streams_of_their_own(rt: HostRuntime) -> Result<(), Fail> {
     let two_matrices = stream_of(rt.alloc(), &shape_of(rt.alloc(), &[&[&[3], &[3]]])?)?;
