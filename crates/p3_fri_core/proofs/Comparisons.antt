@@ -10,7 +10,7 @@ use Rattle.p3_fri_core.specs.declared.pcs_transcript.failure.PcsTranscriptFailur
 use Rattle.p3_fri_core.specs.declared.pcs_transcript.failure.PcsTranscriptFailure.TheVariants.{ClaimedEvaluationCount, PowWitness, MissingPowWitness, OutOfMemory}
 use Rattle.p3_fri_core.specs.Claims.{BeginsWith, Differs, IsClaimFailure}
 use Rattle.p3_fri_core.specs.Cursor.{counts_left, IsCompared}
-use Rattle.p3_fri_core.proofs.Openings.{next_item}
+use Rattle.p3_fri_core.proofs.Lists.{next_item}
 
 -- what was taken of a list, with one entry more
 taken : {A : Type 0} (xs : List A) (i : ℕ) (x : A) → i < length xs → x ≡ get_or xs i x → take (i + 1) xs ≡ take i xs ++ x ∷ []

@@ -1,14 +1,20 @@
 -- A low-degree test and an opening are runs over events: runs that begin with a proof of work or with rounds, and those that draw indices.
-use Rattle.std.proofs.Common.{◌≡◌, ℕ, zero, suc, ◌==◌, Bool, true, false, ◌&&◌, IsTrue, if◌then◌else◌, List, [], ◌∷◌, ◌++◌, map, replicate, refl, sym, ap, ap₂, ◌∙◌, append_assoc, eqb-true, eq-eqb}
+use Rattle.std.proofs.Common.{◌≡◌, ℕ, zero, suc, ◌==◌, Bool, true, false, ◌&&◌, IsTrue, if◌then◌else◌, List, [], ◌∷◌, ◌++◌, map, replicate, Option, Some, None, refl, sym, ap, ap₂, ◌∙◌, append_assoc, eqb-true, eq-eqb}
 use Rattle.std.specs.List.{flat_map}
 use Rattle.algebra.specs.Field.{FieldOps, multiple}
 use Rattle.p3_challenger.specs.Run.{After, Moves, Event, Drawn, run, observed_all, draws}
 use Rattle.p3_challenger.specs.Run.Event.{ValueObserved, CommitmentObserved, ElementDrawn, BitsDrawn}
 use Rattle.p3_challenger.specs.Run.Drawn.{Element, Bits}
 use Rattle.p3_challenger.proofs.Runs.{run-observed_all}
+use Rattle.p3_fri_core.specs.Pow.{shown_attempt}
 use Rattle.p3_fri_core.specs.Steps.{TestShape, OpeningShape, test_stream, opening_stream}
 use Rattle.p3_fri_core.specs.Replay.{rounds_replay, shown_queries_replay, test_replay, opening_replay, scheme_replay}
 use Rattle.p3_fri_core.specs.Events.{grind_events, round_events, rounds_events, rounds_drawn, test_events, test_drawn, test_run, test_replayed, IsRunOfTest, scheme_events, scheme_drawn, scheme_run, scheme_replayed, IsRunOfScheme}
+
+-- at no bits every witness passes, and a missing one too
+pub no_bits : {C F : Type 0} (observe : C → F → C) (draw_bits : C → ℕ → After C ℕ) (c : C) (witness : Option F) → shown_attempt observe draw_bits c 0 witness ≡ record { value = true; state = c }
+no_bits observe draw_bits c None = refl
+no_bits observe draw_bits c (Some w) = refl
 
 both : (p q : Bool) → p ≡ true → q ≡ true → p && q ≡ true
 both p q left right = ap (λ b. b && q) left ∙ right

@@ -1,3 +1,4 @@
+pub mod Lists
 pub mod Fewest
 pub mod Folds
 pub mod Rounds

@@ -1,6 +1,5 @@
 -- Values of an opening, absorbed list by list, and the steps that are left then.
-use Rattle.std.proofs.Common.{◌≡◌, ℕ, suc, ◌+◌, ◌<◌, List, [], ◌∷◌, ◌++◌, length, map, drop, get_or, codes, Option, true, sym, ap, ◌∙◌, add-one, append_assoc, append-nil}
-use Rattle.std.proofs.Math.Seq.{drop-cons}
+use Rattle.std.proofs.Common.{◌≡◌, ℕ, List, [], ◌∷◌, ◌++◌, length, map, codes, Option, true, sym, ap, ◌∙◌, append_assoc, append-nil}
 use Rattle.std.proofs.lemmas.List.{map-append}
 use Rattle.std.proofs.lemmas.Grind.{flat_map-append}
 use Rattle.std.specs.List.{flat_map}
@@ -20,11 +19,6 @@ use Rattle.p3_fri_core.specs.Replay.{BatchReplay, shown_batch_replay, opening_re
 use Rattle.p3_fri_core.specs.Steps.{OpeningShape, widths, pow_steps, challenge_step, message_step, bracket_step, opening_steps}
 use Rattle.p3_fri_core.specs.Turns.{OpeningsLeft, claim_turns, bracket_turns}
 use Rattle.p3_fri_core.proofs.TurnLists.{next_of, pow_turns-of}
-
--- what is left of a list begins with the entry there
-pub next_item : {A : Type 0} (xs : List A) (i : ℕ) (x : A) → i < length xs → x ≡ get_or xs i x → drop i xs ≡ x ∷ drop (i + 1) xs
-next_item xs i x less is =
-    drop-cons xs i x less ∙ ap (λ y. y ∷ drop (suc i) xs) (sym is) ∙ ap (λ n. x ∷ drop n xs) (sym (add-one i))
 
 -- at first all steps are left
 pub openings_left : (d : ℕ) (s : OpeningShape) → OpeningsLeft d s (widths s.counts) (map turn_of (opening_steps d s))

@@ -1,6 +1,5 @@
 -- Replays, put together from what single calls did.
-use Rattle.std.proofs.Common.{◌≡◌, ℕ, suc, ◌+◌, ◌<◌, ◌≤◌, Bool, true, false, ◌&&◌, IsTrue, List, [], ◌∷◌, ◌++◌, length, take, drop, get_or, Option, Some, refl, sym, ap, ◌∙◌, add-one, append_assoc, append-nil, arith}
-use Rattle.std.proofs.Math.Seq.{drop-cons}
+use Rattle.std.proofs.Common.{◌≡◌, ℕ, ◌+◌, ◌<◌, ◌≤◌, Bool, true, false, ◌&&◌, IsTrue, List, [], ◌∷◌, ◌++◌, length, take, drop, get_or, Option, Some, refl, sym, ap, ◌∙◌, append_assoc, append-nil, arith}
 use Rattle.std.proofs.lemmas.List.{drop_all, take_more, length-take}
 use Rattle.std.specs.List.{flat_map}
 use Rattle.p3_challenger.specs.Run.{After, Moves, observed_all, draws, grind_attempt}
@@ -9,6 +8,7 @@ use Rattle.p3_fri_core.specs.Replay.{moves, RoundsReplay, rounds_replay, round_r
 use Rattle.algebra.specs.Field.{FieldOps}
 use Rattle.p3_challenger.specs.Turns.{bytes_observed}
 use Rattle.p3_fri_core.specs.Pow.{shown_attempt}
+use Rattle.p3_fri_core.proofs.Lists.{next_item}
 
 pub shown_queries_are : {C F E Com : Type 0} (m : Moves C F E Com) (coefficients : E → List F) (shape : TestShape) (c absorbed ground last : C) (final_poly : List E) (witness : Option F) (indices : List ℕ)
     → absorbed ≡ observed_all m.observe_value c (flat_map coefficients final_poly)
@@ -49,11 +49,6 @@ queries_pass m coefficients shape c absorbed final_poly witness is = ap (λ s. (
 take-at : {A : Type 0} (xs : List A) (i : ℕ) (x : A) → i < length xs → x ≡ get_or xs i x → take (i + 1) xs ≡ take i xs ++ x ∷ []
 take-at xs i x less is = take_more xs i x less ∙ ap (λ y. take i xs ++ y ∷ []) (sym is)
 
--- what is left of a list begins with the entry there
-drop-at : {A : Type 0} (xs : List A) (i : ℕ) (x : A) → i < length xs → x ≡ get_or xs i x → drop i xs ≡ x ∷ drop (i + 1) xs
-drop-at xs i x less is =
-    drop-cons xs i x less ∙ ap (λ y. y ∷ drop (suc i) xs) (sym is) ∙ ap (λ n. x ∷ drop n xs) (sym (add-one i))
-
 and-left : (p q : Bool) → p && q ≡ true → p ≡ true
 and-left true q e = refl
 and-left false q e = cc
@@ -66,8 +61,8 @@ rounds-pass : {C F E Com : Type 0} (m : Moves C F E Com) (bits : ℕ) (c : C) (c
 unfolding rounds_replay
 rounds-pass m bits c commitments witnesses i commitment witness some_left witness_left is_commitment is_witness pass =
     and-left (round_replay m bits c commitment witness).passes (rounds_replay m bits (round_replay m bits c commitment witness).state (drop (i + 1) commitments) (drop (i + 1) witnesses)).passes
-    (sym (ap (λ ds. (rounds_replay m bits c ds (drop i witnesses)).passes) (drop-at commitments i commitment some_left is_commitment)
-    ∙ ap (λ ws. (rounds_replay m bits c (commitment ∷ drop (i + 1) commitments) ws).passes) (drop-at witnesses i witness witness_left is_witness)) ∙ pass)
+    (sym (ap (λ ds. (rounds_replay m bits c ds (drop i witnesses)).passes) (next_item commitments i commitment some_left is_commitment)
+    ∙ ap (λ ws. (rounds_replay m bits c (commitment ∷ drop (i + 1) commitments) ws).passes) (next_item witnesses i witness witness_left is_witness)) ∙ pass)
 
 -- none is left at the end
 pub rounds-end : {C F E Com : Type 0} (m : Moves C F E Com) (bits : ℕ) (c : C) (commitments : List Com) (witnesses : List F) (i : ℕ) → length commitments ≤ i
@@ -83,8 +78,8 @@ pub rounds-next : {C F E Com : Type 0} (m : Moves C F E Com) (bits : ℕ) (c aft
     ≡ (let left = rounds_replay m bits after (drop (i + 1) commitments) (drop (i + 1) witnesses) in record { passes = left.passes; betas = beta ∷ left.betas; state = left.state })
 unfolding rounds_replay
 rounds-next m bits c after commitments witnesses i commitment witness beta some_left witness_left is_commitment is_witness played =
-    ap (λ ds. rounds_replay m bits c ds (drop i witnesses)) (drop-at commitments i commitment some_left is_commitment)
-    ∙ ap (λ ws. rounds_replay m bits c (commitment ∷ drop (i + 1) commitments) ws) (drop-at witnesses i witness witness_left is_witness)
+    ap (λ ds. rounds_replay m bits c ds (drop i witnesses)) (next_item commitments i commitment some_left is_commitment)
+    ∙ ap (λ ws. rounds_replay m bits c (commitment ∷ drop (i + 1) commitments) ws) (next_item witnesses i witness witness_left is_witness)
     ∙ ap (λ (r : RoundsReplay _ _).
     let left = rounds_replay m bits r.state (drop (i + 1) commitments) (drop (i + 1) witnesses) in
     record { passes = r.passes && left.passes; betas = r.betas ++ left.betas; state = left.state }) played

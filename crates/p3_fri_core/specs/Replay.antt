@@ -1,5 +1,5 @@
 -- What both sides draw along a low-degree test and an opening, and the state that they end in.
-use Rattle.std.specs.Prelude.{ℕ, Bool, true, ◌&&◌, List, [], ◌∷◌, Option, Some}
+use Rattle.std.specs.Prelude.{ℕ, Bool, true, ◌&&◌, List, [], ◌∷◌, ◌++◌, Option, Some}
 use Rattle.std.specs.List.{flat_map}
 use Rattle.algebra.specs.Field.{FieldOps}
 use Rattle.p3_challenger.specs.Run.{After, Moves, observed_all, draws, drawn_element, grind_attempt}
@@ -60,10 +60,9 @@ module _ {C F E Com : Type 0} (m : Moves C F E Com) where
   -- the rounds of these commitments and witnesses, in order
   unfoldable pub rounds_replay : (bits : ℕ) (c : C) (commitments : List Com) (witnesses : List F) → RoundsReplay C E
   rounds_replay bits c (commitment ∷ commitments) (witness ∷ witnesses) =
-      let tried = grind_attempt m.observe_value m.draw_bits (m.observe_commitment c commitment) bits witness in
-      let beta = m.draw_element tried.state in
-      let others = rounds_replay bits beta.state commitments witnesses in
-      record { passes = tried.value && others.passes; betas = beta.value ∷ others.betas; state = others.state }
+      let first = round_replay bits c commitment witness in
+      let others = rounds_replay bits first.state commitments witnesses in
+      record { passes = first.passes && others.passes; betas = first.betas ++ others.betas; state = others.state }
   rounds_replay bits c _ _ = record { passes = true; betas = []; state = c }
 
   module _ (coefficients : E → List F) (shape : TestShape) where

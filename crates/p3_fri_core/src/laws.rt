@@ -1,10 +1,11 @@
 //! Laws as calls that give nothing and whose contracts are theorems over the definitions. Their bodies only read:
 //! a number that is read is known to fit its type.
 
-ghost use Rattle.std.specs.Prelude.{◌≡◌, ◌↔◌, ℕ, List, [], ◌∷◌};
+ghost use Rattle.std.specs.Prelude.{◌≡◌, ◌↔◌, ℕ, true, List, [], ◌∷◌, Option};
 ghost use Rattle.algebra.specs.Field.{FieldOps};
-ghost use Rattle.p3_challenger.specs.Run.{Moves};
+ghost use Rattle.p3_challenger.specs.Run.{After, Moves};
 ghost use Rattle.p3_fri_core.specs.Events.{IsRunOfTest, IsRunOfScheme};
+ghost use Rattle.p3_fri_core.specs.Pow.{shown_attempt};
 ghost use Rattle.p3_fri_core.specs.Shapes.{test_shape, opening_shape};
 ghost use Rattle.p3_fri_core.specs.Steps.{TestShape, OpeningShape, test_stream, opening_stream};
 ghost use Rattle.p3_fri_core.specs.SeedLaws.{SameTest, FitsTest, FitsList, FitsPoints, FitsOpening};
@@ -51,6 +52,12 @@ pub fn test_replay_law<C, F, E, Com>()
 /// challenge, and then the low-degree test's.
 pub fn scheme_replay_law<C, F, E, Com>()
     ensures { (m : Moves C F E Com) (coefficients : E → List F) (ops : FieldOps F) (d : ℕ) (opening : OpeningShape) (test : TestShape) (c : C) (values : List E) (batch_witness : F) (commitments : List Com) (witnesses : List F) (final_poly : List E) (witness : F) → IsRunOfScheme m coefficients ops d opening test c values batch_witness commitments witnesses final_poly witness }
+{}
+
+/// At no bits a proof of work passes and changes nothing, whether a witness is shown or not. So the replay of a prover,
+/// which has none to show, and that of a verifier are the same.
+pub fn no_bits_law<C, F>()
+    ensures { (observe : C → F → C) (draw_bits : C → ℕ → After C ℕ) (c : C) (witness : Option F) → shown_attempt observe draw_bits c 0 witness ≡ record { value = true; state = c } }
 {}
 
 /// Numbers of a shape fit by their types.

@@ -1,4 +1,5 @@
 use super::*;
+use p3_challenger::Sha256Challenger;
 use p3_field::{BabyBear, BabyBear4};
 use std::alloc::{AllocError, Global};
 use std::test::Fail;
@@ -34,5 +35,8 @@ fn laws_are_called_at_an_extension(rt: HostRuntime) -> Result<(), Fail> {
     let opening = one_commitment(rt.alloc())?;
     pcs_seed_law::<BabyBear, BabyBear4>(&opening, &opening);
     seed_examples_law();
+    no_bits_law::<Sha256Challenger, BabyBear>();
+    test_replay_law::<Sha256Challenger, BabyBear, BabyBear4, [u8; 32]>();
+    scheme_replay_law::<Sha256Challenger, BabyBear, BabyBear4, [u8; 32]>();
     Ok(())
 }

@@ -32,8 +32,8 @@ pub enum OpeningFailure {
     Test(TranscriptFailure),
 }
 
-/// What a prover draws and finds along the transcript of an opening and of the test inside it. A witness is zero where
-/// its phase has no bits.
+/// What a prover draws and finds along the transcript of an opening and of the test inside it. A witness at no bits is
+/// not looked at.
 #[derive(Debug, Drop)]
 pub struct PlayedOpening<F, EF> {
     /// The challenge that batches the openings.
@@ -44,7 +44,9 @@ pub struct PlayedOpening<F, EF> {
     pub test: Played<F, EF>,
 }
 
-/// Plays all of an opening's transcript, and inside the bracket all of the low-degree test's.
+/// Plays all of an opening's transcript, and inside the bracket all of the low-degree test's. There are as many values,
+/// commitments and coefficients as described, and the widths are at most the challenger's greatest. `Refusal::Seed` leaves
+/// the challenger as it was; a step is refused where no element passes its proof of work, or for want of memory.
 pub fn play_opening<
     F: Field,
     EF: ExtensionField<F>,
@@ -111,8 +113,10 @@ pub fn play_opening<
     }
 }
 
-/// Replays all of an opening's transcript, and inside the bracket all of the low-degree test's. Answers the challenge
-/// that batches the openings, the folding challenges and the queries' indices.
+/// Replays all of an opening's transcript, whose shape has the counts of these claims, and inside the bracket all of the
+/// low-degree test's. Answers the challenge that batches the openings, the folding challenges and the queries' indices.
+/// The widths are at most the challenger's greatest. `Refusal::Seed` leaves the challenger as it was; a step is refused
+/// as the transcripts' own calls refuse.
 pub fn replay_opening<
     F: Field,
     EF: ExtensionField<F>,

@@ -45,7 +45,8 @@ impl<'a, Side, F: Field, EF: ExtensionField<F>, C: FieldChallenger<F>> OpeningTr
     ghost use Rattle.p3_fri_core.specs.contracts.pcs_transcript.state.OpeningTranscript.{the_row as opening_row};
     ghost use Rattle.p3_fri_core.specs.Lending.{given_back};
 
-    /// Absorbs the seed, which was made of the shape.
+    /// Absorbs the seed, and stands before its first step. The seed is to be the shape's own: the calls that follow ask for
+    /// the steps of the shape.
     pub fn start(challenger: &'a mut C, seed: Seed, shape: PcsShape) -> Self
         ensures same { result.challenger.ghost_name ≡ challenger.entry.ghost_name }
         ensures state { result.challenger.now ≡ bytes_observed F.ops C.observed challenger.old (seed_bytes seed) }

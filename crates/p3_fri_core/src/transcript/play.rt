@@ -17,9 +17,10 @@ use crate::config::FriProverError;
 use crate::transcript::failure::TranscriptFailure;
 use crate::transcript::shape::FriShape;
 use crate::transcript::state::{ProverTranscript, VerifierTranscript};
+use crate::transcript::verifier::push;
 use p3_challenger::{CanObserve, FieldChallenger, GrindingChallenger};
 use p3_field::{ExtensionField, Field};
-use std::alloc::{AllocError, Global};
+use std::alloc::Global;
 
 /// Why a whole transcript is refused.
 #[derive(Clone, Copy, Debug, PartialEq, Eq)]
@@ -43,7 +44,7 @@ impl<E: Copy> Refusal<E> {
     }
 }
 
-/// What a prover draws and finds along a transcript. A witness is zero where its phase has no bits.
+/// What a prover draws and finds along a transcript. A witness at no bits is not looked at.
 #[derive(Debug, Drop)]
 pub struct Played<F, EF> {
     /// The folding challenge of each round.
@@ -106,7 +107,10 @@ fn play_rounds<
     Ok((betas, witnesses))
 }
 
-/// Plays all of a low-degree test's transcript.
+/// Plays all of a low-degree test's transcript: a round for each commitment, of which there are as many as described, then
+/// the final polynomial, of the described length, and the indices. The widths are at most the challenger's greatest.
+/// `Refusal::Seed` leaves the challenger as it was; a step is refused where no element passes its proof of work, or for
+/// want of memory.
 pub fn play_transcript<
     F: Field,
     EF: ExtensionField<F>,
@@ -161,15 +165,9 @@ pub fn play_transcript<
     })
 }
 
-/// Appends a value.
-fn push<T: Copy>(list: &mut Vec<T>, value: T) -> Result<(), AllocError>
-    ensures { OnOk result (list.new.items ≡ list.old.items ++ value ∷ []) }
-{
-    list.push(value)?;
-    Ok(())
-}
-
-/// Replays all of a low-degree test's transcript, and answers the folding challenges and the queries' indices.
+/// Replays all of a low-degree test's transcript, and answers the folding challenges and the queries' indices. The widths
+/// are at most the challenger's greatest. `Refusal::Seed` leaves the challenger as it was; a step is refused as
+/// `commit_rounds` and `query_phase` refuse.
 pub fn replay_transcript<
     F: Field,
     EF: ExtensionField<F>,

@@ -48,7 +48,8 @@ impl FriShape {
     ghost use Rattle.p3_fri_core.specs.Steps.{test_steps, test_labels, test_stream};
 
     /// The shape of a test of inputs of these log heights, which fall strictly, with indices of `index_bits` bits. Its
-    /// rounds are the schedule's.
+    /// rounds are the schedule's. The cap is positive, the final polynomial's logarithm below 64, and its sum with the
+    /// log blowup is below `2^64`. Refused only for want of memory.
     pub fn new<M>(
         alloc: Global,
         parameters: &FriParameters<M>,
@@ -79,7 +80,7 @@ impl FriShape {
         Ok(FriShape::with_schedule(parameters, log_arities, index_bits))
     }
 
-    /// The shape of a test of these rounds, whatever their schedule.
+    /// The shape of a test of these rounds, whatever their schedule. The final polynomial's logarithm is below 64.
     pub fn with_schedule<M>(
         parameters: &FriParameters<M>,
         log_arities: Vec<usize>,

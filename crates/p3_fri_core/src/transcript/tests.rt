@@ -270,14 +270,20 @@ fn whole_transcripts_are_their_steps(rt: HostRuntime) -> Result<(), Fail> {
     assert_eq!(rt; played.indices, drawn.indices);
     assert_eq!(rt; played.query_witness, BabyBear::from_u64(19));
     assert!(rt; prover == stepped);
+    let commit_witness = BabyBear::from_u64(2);
+    let query_witness = BabyBear::from_u64(19);
+    let missing = TranscriptFailure::MissingPowWitness(PowPhase::Query);
+    let wrong = TranscriptFailure::PowWitness(PowPhase::CommitPhase);
     let rows = [
-        (Some(played.query_witness), None),
+        (commit_witness, Some(query_witness), None),
+        (commit_witness, None, Some(Refusal::Step(missing))),
         (
-            None,
-            Some(Refusal::Step(TranscriptFailure::MissingPowWitness(PowPhase::Query))),
+            BabyBear::ONE,
+            Some(query_witness),
+            Some(Refusal::Step(wrong)),
         ),
     ];
-    for (witness, refusal) in rows {
+    for (commit_witness, query_witness, refusal) in rows {
         let mut verifier = Sha256Challenger::new();
         let shape = shape_of(rt.alloc(), &[3], 2, 3)?;
         match replay_transcript::<BabyBear, BabyBear4, [u8; 32], Sha256Challenger>(
@@ -286,9 +292,9 @@ fn whole_transcripts_are_their_steps(rt: HostRuntime) -> Result<(), Fail> {
             shape,
             TestMessages {
                 commitments: &commitments,
-                commit_witnesses: &played.commit_witnesses,
+                commit_witnesses: &[commit_witness],
                 final_poly: &final_poly,
-                query_witness: witness,
+                query_witness,
             },
         ) {
             Ok((betas, indices)) => {

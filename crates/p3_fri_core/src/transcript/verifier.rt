@@ -57,8 +57,9 @@ impl<
     }
 
     /// Replays all rounds with the commitments and witnesses that a proof carries, one of each for a round, and answers
-    /// the folding challenges. The number of commitments is compared first, then that of witnesses, before anything is
-    /// absorbed. After a refusal only `abort` may follow.
+    /// the folding challenges. The number of commitments is compared first (`CommitRoundCount`), then that of witnesses
+    /// (`CommitPowWitnessCount`), before anything is absorbed; `PowWitness` names a witness that doesn't pass. The bits are
+    /// at most the challenger's greatest width. After a refusal only `abort` may follow.
     pub fn commit_rounds<Com: Copy>(
         &mut self,
         alloc: Global,
@@ -113,8 +114,10 @@ impl<
         Ok(betas)
     }
 
-    /// Replays the final polynomial and the proof of work, whose witness may be missing only at no bits, and answers the
-    /// queries' indices. After a refusal only `abort` may follow.
+    /// Replays the final polynomial and the proof of work, whose witness may be missing only at no bits
+    /// (`MissingPowWitness`, else `PowWitness`), and answers the queries' indices. A polynomial of another length than
+    /// described is refused first (`FinalPolyLen`). Both widths are at most the challenger's greatest. After a refusal only
+    /// `abort` may follow.
     pub fn query_phase(
         &mut self,
         alloc: Global,
@@ -173,7 +176,7 @@ impl<
 }
 
 /// Appends a value.
-fn push<T: Copy>(list: &mut Vec<T>, value: T) -> Result<(), AllocError>
+pub(super) fn push<T: Copy>(list: &mut Vec<T>, value: T) -> Result<(), AllocError>
     ensures { OnOk result (list.new.items ≡ list.old.items ++ value ∷ []) }
 {
     list.push(value)?;

@@ -1,6 +1,7 @@
 use Rattle.std.proofs.Common.{◌≡◌, ◌++◌, ◌+◌, take, drop, sym, ap, ◌∙◌}
 use Rattle.p3_fri_core.specs.Counts.{claimed_lists_at_points, claimed_lists_in_matrices}
-use Rattle.p3_fri_core.proofs.Openings.{next_item, absorbed_next}
+use Rattle.p3_fri_core.proofs.Lists.{next_item}
+use Rattle.p3_fri_core.proofs.Openings.{absorbed_next}
 use Rattle.p3_fri_core.proofs.Comparisons.{taken_lists, about_lists, compared_next, fault_after}
 use Rattle.p3_fri_core.proofs.pcs_transcript.claims.absorb_matrices.Goals as goal
 

@@ -6,7 +6,8 @@ use Rattle.p3_challenger.specs.declared.fs.pattern.Length.TheVariants.{Fixed}
 use Rattle.p3_fri_core.specs.Counts.{claimed_lists_at_points}
 use Rattle.p3_fri_core.specs.Cursor.{counts_left}
 use Rattle.p3_fri_core.specs.Turns.{claim_turns}
-use Rattle.p3_fri_core.proofs.Openings.{next_item, absorbed_next, absorbed_one}
+use Rattle.p3_fri_core.proofs.Lists.{next_item}
+use Rattle.p3_fri_core.proofs.Openings.{absorbed_next, absorbed_one}
 use Rattle.p3_fri_core.proofs.TurnLists.{next_of, rest_of}
 use Rattle.p3_fri_core.proofs.Comparisons.{taken_item, about_item, compared_one, compared_next, fault_after}
 use Rattle.p3_fri_core.proofs.pcs_transcript.claims.absorb_points.Goals as goal

@@ -2,7 +2,8 @@ use Rattle.std.proofs.Common.{◌≡◌, ◌++◌, ◌+◌, length, map, drop, s
 use Rattle.std.proofs.lemmas.List.{drop_all}
 use Rattle.p3_fri_core.specs.Counts.{lists_at_points, lists_in_matrices}
 use Rattle.p3_fri_core.specs.Turns.{claim_turns}
-use Rattle.p3_fri_core.proofs.Openings.{next_item, absorbed_next, claims_first, claims_next}
+use Rattle.p3_fri_core.proofs.Lists.{next_item}
+use Rattle.p3_fri_core.proofs.Openings.{absorbed_next, claims_first, claims_next}
 use Rattle.p3_fri_core.proofs.pcs_transcript.prover.absorb_matrices.Goals as goal
 
 pub absorb_points-requires : goal.absorb_points-requires

@@ -2,7 +2,8 @@ use Rattle.std.proofs.Common.{◌++◌, ◌+◌, length, map, drop, ap, ◌∙�
 use Rattle.std.proofs.lemmas.List.{drop_all}
 use Rattle.p3_fri_core.specs.Counts.{lists_at_points}
 use Rattle.p3_fri_core.specs.Turns.{claim_turns}
-use Rattle.p3_fri_core.proofs.Openings.{next_item, claim_is_next}
+use Rattle.p3_fri_core.proofs.Lists.{next_item}
+use Rattle.p3_fri_core.proofs.Openings.{claim_is_next}
 use Rattle.p3_fri_core.proofs.pcs_transcript.prover.absorb_points.Goals as goal
 
 pub observe_extensions-requires : goal.observe_extensions-requires
