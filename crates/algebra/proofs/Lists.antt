@@ -1,6 +1,6 @@
 -- Lists of points: each, distinct ones, and lists by index.
 use Rattle.std.proofs.Common.{◌≡◌, ◌≢◌, ℕ, zero, suc, ◌<◌, List, [], ◌∷◌, length, map, refl, sym, ap, ap₂, arith, All, slice_index_or, get_or, ◌++◌, ◌+◌, ◌∙◌, suc-add}
-use Rattle.algebra.specs.Polynomial.{row}
+use Rattle.algebra.specs.Polynomial.{tabulate}
 use Rattle.algebra.specs.Interpolation.{AreDistinct}
 
 -- `P` of each of `xs`, by recursion
@@ -58,41 +58,41 @@ AllPairs_from_distinct (x ∷ xs) s zero (suc j) d p q = away x xs s.0 j d (omeg
 AllPairs_from_distinct (x ∷ xs) s (suc i) zero d p q = absurd (omega (arith, p))
 AllPairs_from_distinct (x ∷ xs) s (suc i) (suc j) d p q = AllPairs_from_distinct xs s.1 i j d (omega (arith, p)) (omega (arith, q))
 
-pub length-row : {A : Type 0} (n : ℕ) (f : ℕ → A) → length (row n f) ≡ n
-length-row zero f = refl
-length-row (suc n) f = ap suc (length-row n (λ j. f (suc j)))
+pub length-tabulate : {A : Type 0} (n : ℕ) (f : ℕ → A) → length (tabulate n f) ≡ n
+length-tabulate zero f = refl
+length-tabulate (suc n) f = ap suc (length-tabulate n (λ j. f (suc j)))
 
-pub get_or-row : {A : Type 0} (n : ℕ) (f : ℕ → A) (i : ℕ) (d : A) → i < n → get_or (row n f) i d ≡ f i
-get_or-row zero f i d l = absurd (omega (arith, l))
-get_or-row (suc n) f zero d l = refl
-get_or-row (suc n) f (suc i) d l = get_or-row n (λ j. f (suc j)) i d (omega (arith, l))
+pub get_or-tabulate : {A : Type 0} (n : ℕ) (f : ℕ → A) (i : ℕ) (d : A) → i < n → get_or (tabulate n f) i d ≡ f i
+get_or-tabulate zero f i d l = absurd (omega (arith, l))
+get_or-tabulate (suc n) f zero d l = refl
+get_or-tabulate (suc n) f (suc i) d l = get_or-tabulate n (λ j. f (suc j)) i d (omega (arith, l))
 
 -- a list is the row of its entries
-pub row-get_or : {A : Type 0} (n : ℕ) (xs : List A) (d : A) → length xs ≡ n → row n (λ i. get_or xs i d) ≡ xs
-row-get_or zero [] d e = refl
-row-get_or (suc n) [] d e = absurd (omega (arith, e))
-row-get_or zero (x ∷ xs) d e = absurd (omega (arith, e))
-row-get_or (suc n) (x ∷ xs) d e = ap (λ ys. x ∷ ys) (row-get_or n xs d (omega (arith, e)))
+pub tabulate-get_or : {A : Type 0} (n : ℕ) (xs : List A) (d : A) → length xs ≡ n → tabulate n (λ i. get_or xs i d) ≡ xs
+tabulate-get_or zero [] d e = refl
+tabulate-get_or (suc n) [] d e = absurd (omega (arith, e))
+tabulate-get_or zero (x ∷ xs) d e = absurd (omega (arith, e))
+tabulate-get_or (suc n) (x ∷ xs) d e = ap (λ ys. x ∷ ys) (tabulate-get_or n xs d (omega (arith, e)))
 
-pub map-row : {A B : Type 0} (g : A → B) (n : ℕ) (f : ℕ → A) → map g (row n f) ≡ row n (λ i. g (f i))
-map-row g zero f = refl
-map-row g (suc n) f = ap (λ ys. g (f zero) ∷ ys) (map-row g n (λ i. f (suc i)))
+pub map-tabulate : {A B : Type 0} (g : A → B) (n : ℕ) (f : ℕ → A) → map g (tabulate n f) ≡ tabulate n (λ i. g (f i))
+map-tabulate g zero f = refl
+map-tabulate g (suc n) f = ap (λ ys. g (f zero) ∷ ys) (map-tabulate g n (λ i. f (suc i)))
 
 -- one entry more
-pub row-next : {A : Type 0} (n : ℕ) (f : ℕ → A) → row (n + 1) f ≡ row n f ++ f n ∷ []
-row-next zero f = refl
-row-next (suc n) f = ap (λ k. row k f) (suc-add n 1) ∙ ap (λ ys. f zero ∷ ys) (row-next n (λ i. f (suc i)))
+pub tabulate-next : {A : Type 0} (n : ℕ) (f : ℕ → A) → tabulate (n + 1) f ≡ tabulate n f ++ f n ∷ []
+tabulate-next zero f = refl
+tabulate-next (suc n) f = ap (λ k. tabulate k f) (suc-add n 1) ∙ ap (λ ys. f zero ∷ ys) (tabulate-next n (λ i. f (suc i)))
 
 -- rows of equal entries are equal
-pub row-equal : {A : Type 0} (n : ℕ) (f g : ℕ → A) → ((i : ℕ) → i < n → f i ≡ g i) → row n f ≡ row n g
-row-equal zero f g h = refl
-row-equal (suc n) f g h = ap₂ (λ x xs. x ∷ xs) (h zero (omega arith)) (row-equal n (λ i. f (suc i)) (λ i. g (suc i)) (λ i l. h (suc i) (omega (arith, l))))
+pub tabulate-equal : {A : Type 0} (n : ℕ) (f g : ℕ → A) → ((i : ℕ) → i < n → f i ≡ g i) → tabulate n f ≡ tabulate n g
+tabulate-equal zero f g h = refl
+tabulate-equal (suc n) f g h = ap₂ (λ x xs. x ∷ xs) (h zero (omega arith)) (tabulate-equal n (λ i. f (suc i)) (λ i. g (suc i)) (λ i l. h (suc i) (omega (arith, l))))
 
 -- points given by an index are distinct where the index tells them apart
-pub distinct-row : {A : Type 0} (n : ℕ) (f : ℕ → A) → ((i j : ℕ) → i < j → j < n → ¬ (f i ≡ f j)) → Distinct (row n f)
-distinct-row zero f h = tt
-distinct-row (suc n) f h = (off-row (f zero) n (λ j. f (suc j)) (λ j l e. h zero (suc j) (omega arith) (omega (arith, l)) (sym e)), distinct-row n (λ j. f (suc j)) (λ i j p q. h (suc i) (suc j) (omega (arith, p)) (omega (arith, q))))
+pub distinct-tabulate : {A : Type 0} (n : ℕ) (f : ℕ → A) → ((i j : ℕ) → i < j → j < n → ¬ (f i ≡ f j)) → Distinct (tabulate n f)
+distinct-tabulate zero f h = tt
+distinct-tabulate (suc n) f h = (off-tabulate (f zero) n (λ j. f (suc j)) (λ j l e. h zero (suc j) (omega arith) (omega (arith, l)) (sym e)), distinct-tabulate n (λ j. f (suc j)) (λ i j p q. h (suc i) (suc j) (omega (arith, p)) (omega (arith, q))))
   where
-    off-row : {A : Type 0} (x : A) (n : ℕ) (f : ℕ → A) → ((j : ℕ) → j < n → ¬ (f j ≡ x)) → Off x (row n f)
-    off-row x zero f h = tt
-    off-row x (suc n) f h = (h zero (omega arith), off-row x n (λ j. f (suc j)) (λ j l. h (suc j) (omega (arith, l))))
+    off-tabulate : {A : Type 0} (x : A) (n : ℕ) (f : ℕ → A) → ((j : ℕ) → j < n → ¬ (f j ≡ x)) → Off x (tabulate n f)
+    off-tabulate x zero f h = tt
+    off-tabulate x (suc n) f h = (h zero (omega arith), off-tabulate x n (λ j. f (suc j)) (λ j l. h (suc j) (omega (arith, l))))

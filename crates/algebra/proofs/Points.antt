@@ -10,7 +10,7 @@ use Rattle.algebra.proofs.RingLaws.{one_mul, zero_mul, neg_unique}
 use Rattle.algebra.proofs.Combine.{combine, cancel_zero}
 use Rattle.algebra.proofs.Powers.{double, pow-one, pow-add as power-add, pow-times, pow-mul, pow-nonzero, pow-one_base}
 use Rattle.algebra.proofs.Digits.{rev-even, rev-odd, rev-lt, rev-rev, rev-split}
-use Rattle.algebra.proofs.Lists.{distinct-row, AllPairs_from_distinct}
+use Rattle.algebra.proofs.Lists.{distinct-tabulate, AllPairs_from_distinct}
 
 -- `j` is twice `q`, or one more
 unfoldable pub IsHalf : ℕ → ℕ → Type 0
@@ -131,13 +131,13 @@ module _ {A : Type 0} (F : FieldOps A) (L : IsField F) (top : ℕ) (w : ℕ → 
       sym (rev-rev k i a) ∙ ap (λ n. rev k n) same ∙ rev-rev k j b
 
   pub domain_distinct : (k : ℕ) → k ≤ top → AreDistinct (domain_points F w k)
-  domain_distinct k t = AllPairs_from_distinct (domain_points F w k) (distinct-row (2 ^ k) (λ i. pt F w i k) (λ i j p q e. below_not_equal i j p (points_differ k i j t (omega (arith, p, q)) q e)))
+  domain_distinct k t = AllPairs_from_distinct (domain_points F w k) (distinct-tabulate (2 ^ k) (λ i. pt F w i k) (λ i j p q e. below_not_equal i j p (points_differ k i j t (omega (arith, p, q)) q e)))
     where
       below_not_equal : (i j : ℕ) → i < j → i ≡ j → ⊥
       below_not_equal i j p e = omega (arith, p, e)
 
   pub row_distinct : (i a h : ℕ) → h + a ≤ top → i < 2 ^ h → AreDistinct (row_points F w i a h)
-  row_distinct i a h t l = AllPairs_from_distinct (row_points F w i a h) (distinct-row (2 ^ a) (λ j. pt F w (i * 2 ^ a + j) (h + a)) (λ m n p q e. differ m n p (points_differ (h + a) (i * 2 ^ a + m) (i * 2 ^ a + n) t (inside m (omega (arith, p, q))) (inside n q) e)))
+  row_distinct i a h t l = AllPairs_from_distinct (row_points F w i a h) (distinct-tabulate (2 ^ a) (λ j. pt F w (i * 2 ^ a + j) (h + a)) (λ m n p q e. differ m n p (points_differ (h + a) (i * 2 ^ a + m) (i * 2 ^ a + n) t (inside m (omega (arith, p, q))) (inside n q) e)))
     where
       differ : (m n : ℕ) → m < n → i * 2 ^ a + m ≡ i * 2 ^ a + n → ⊥
       differ m n p e = omega (arith, p, e)

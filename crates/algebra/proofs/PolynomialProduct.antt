@@ -2,10 +2,10 @@
 use Rattle.std.proofs.Common.{◌≡◌, ℕ, zero, suc, ◌+◌, ◌-◌, ◌<◌, ◌≤◌, ◌⊎◌, inl, inr, List, length, refl, sym, ap, ap₂, ◌∙◌, arith}
 use Rattle.std.proofs.lemmas.List.{get_or_past}
 use Rattle.algebra.specs.Field.{FieldOps, IsRing}
-use Rattle.algebra.specs.Polynomial.{row, sum_below}
+use Rattle.algebra.specs.Polynomial.{tabulate, sum_below}
 use Rattle.algebra.specs.PolynomialProduct.{coefficient, product_coefficient, polynomial_product}
 use Rattle.algebra.proofs.RingLaws.{mul_zero, zero_mul}
-use Rattle.algebra.proofs.Lists.{length-row, get_or-row}
+use Rattle.algebra.proofs.Lists.{length-tabulate, get_or-tabulate}
 
 module _ {A : Type 0} (F : FieldOps A) where
   pub sum_below-equal : (n : ℕ) (f g : ℕ → A) → ((i : ℕ) → i < n → f i ≡ g i) → sum_below F n f ≡ sum_below F n g
@@ -42,6 +42,6 @@ module _ {A : Type 0} (F : FieldOps A) (R : IsRing F) where
       let n = length a + length b - 1 in
       let s : (k < length a + length b - 1) ⊎ (length a + length b - 1 ≤ k) = grind arith in
       elim s [
-        | inl h ↦ get_or-row n (λ i. product_coefficient F a b i) k 𝟘 h
-        | inr h ↦ get_or_past (polynomial_product F a b) k 𝟘 (let e : length (row n (λ i. product_coefficient F a b i)) ≡ n = length-row n (λ i. product_coefficient F a b i) in omega (arith, e, h)) ∙ sym (product_coefficient-past a b k h)
+        | inl h ↦ get_or-tabulate n (λ i. product_coefficient F a b i) k 𝟘 h
+        | inr h ↦ get_or_past (polynomial_product F a b) k 𝟘 (let e : length (tabulate n (λ i. product_coefficient F a b i)) ≡ n = length-tabulate n (λ i. product_coefficient F a b i) in omega (arith, e, h)) ∙ sym (product_coefficient-past a b k h)
       ]

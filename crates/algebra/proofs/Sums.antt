@@ -1,20 +1,20 @@
 -- Sums over the numbers below a bound.
 use Rattle.std.proofs.Common.{◌≡◌, ◌≢◌, ℕ, zero, suc, ◌<◌, get_or, refl, sym, ap, ap₂, ◌∙◌, arith}
 use Rattle.algebra.specs.Field.{FieldOps, IsRing, IsField, pow, multiple, sub}
-use Rattle.algebra.specs.Polynomial.{val, row, sum_below}
+use Rattle.algebra.specs.Polynomial.{val, tabulate, sum_below}
 use Rattle.algebra.proofs.Ring.{◌:+◌, ◌:-◌, ◌:*◌, ◌:=◌, ring, o, :1}
 use Rattle.algebra.proofs.RingLaws.{mul_zero, zero_add}
 use Rattle.algebra.proofs.Combine.{sub-self, sub-eq, cancel_zero}
-use Rattle.algebra.proofs.Lists.{length-row, get_or-row}
+use Rattle.algebra.proofs.Lists.{length-tabulate, get_or-tabulate}
 use Rattle.algebra.proofs.PolynomialProduct.{sum_below-equal, sum_below-zero}
 
 -- the value of a polynomial whose coefficients are given by an index
-pub val-row : {A : Type 0} (F : FieldOps A) (n : ℕ) (c : ℕ → A) (x : A) → val F (row n c) x ≡ sum_below F n (λ i. F.mul (c i) (pow F x i))
+pub val-tabulate : {A : Type 0} (F : FieldOps A) (n : ℕ) (c : ℕ → A) (x : A) → val F (tabulate n c) x ≡ sum_below F n (λ i. F.mul (c i) (pow F x i))
 unfolding val
-val-row F n c x =
-    ap (λ m. sum_below F m (λ i. F.mul (get_or (row n c) i F.zero) (pow F x i))) (length-row n c)
-    ∙ sum_below-equal F n (λ i. F.mul (get_or (row n c) i F.zero) (pow F x i)) (λ i. F.mul (c i) (pow F x i))
-    (λ i l. ap (λ a. F.mul a (pow F x i)) (get_or-row n c i F.zero l))
+val-tabulate F n c x =
+    ap (λ m. sum_below F m (λ i. F.mul (get_or (tabulate n c) i F.zero) (pow F x i))) (length-tabulate n c)
+    ∙ sum_below-equal F n (λ i. F.mul (get_or (tabulate n c) i F.zero) (pow F x i)) (λ i. F.mul (c i) (pow F x i))
+    (λ i l. ap (λ a. F.mul a (pow F x i)) (get_or-tabulate n c i F.zero l))
 
 module _ {A : Type 0} (F : FieldOps A) (R : IsRing F) where
   infixl 65 ◌⊕◌

@@ -3,7 +3,7 @@ use Rattle.std.proofs.Common.{◌≡◌, ℕ, zero, suc, ◌+◌, ◌*◌, ◌/�
 use Rattle.std.proofs.lemmas.Nat.{div-mul-add}
 use Rattle.std.proofs.Math.Nat.{pow-le-pow_right}
 use Rattle.algebra.specs.Field.{FieldOps, IsField, pow}
-use Rattle.algebra.specs.Polynomial.{val, row}
+use Rattle.algebra.specs.Polynomial.{val, tabulate}
 use Rattle.algebra.specs.Digits.{rev}
 use Rattle.algebra.specs.TwoAdic.{AreRoots, pt}
 use Rattle.algebra.specs.Words.{word, coset_word}
@@ -14,21 +14,21 @@ use Rattle.algebra.proofs.Powers.{pow-mul}
 use Rattle.algebra.proofs.Digits.{rev-split, rev-of_zero, rev-lt}
 use Rattle.algebra.proofs.Interpolation.{equal_from_values, interpolates_unique, interpolant_interpolates}
 use Rattle.algebra.proofs.Points.{root-power, points_differ}
-use Rattle.algebra.proofs.Lists.{Each, Distinct, length-row, get_or-row, map-row, row-equal, head_eq, tail_eq, distinct-row}
+use Rattle.algebra.proofs.Lists.{Each, Distinct, length-tabulate, get_or-tabulate, map-tabulate, tabulate-equal, head_eq, tail_eq, distinct-tabulate}
 
-pub take-row : {A : Type 0} (m n : ℕ) (f : ℕ → A) → m ≤ n → take m (row n f) ≡ row m f
-take-row zero n f b = refl
-take-row (suc m) zero f b = absurd (omega (arith, b))
-take-row (suc m) (suc n) f b = ap (λ xs. f zero ∷ xs) (take-row m n (λ i. f (suc i)) (omega (arith, b)))
+pub take-tabulate : {A : Type 0} (m n : ℕ) (f : ℕ → A) → m ≤ n → take m (tabulate n f) ≡ tabulate m f
+take-tabulate zero n f b = refl
+take-tabulate (suc m) zero f b = absurd (omega (arith, b))
+take-tabulate (suc m) (suc n) f b = ap (λ xs. f zero ∷ xs) (take-tabulate m n (λ i. f (suc i)) (omega (arith, b)))
 
-pub drop-row : {A : Type 0} (m n : ℕ) (f : ℕ → A) → drop m (row (m + n) f) ≡ row n (λ i. f (m + i))
-drop-row zero n f = ap (λ k. row k f) (omega arith) ∙ row-equal n f (λ i. f (0 + i)) (λ i _. ap f (omega arith))
-drop-row (suc m) n f = ap (λ k. drop (suc m) (row k f)) (suc-add m n) ∙ drop-row m n (λ i. f (suc i)) ∙ row-equal n (λ i. f (suc (m + i))) (λ i. f (suc m + i)) (λ i _. ap f (omega arith))
+pub drop-tabulate : {A : Type 0} (m n : ℕ) (f : ℕ → A) → drop m (tabulate (m + n) f) ≡ tabulate n (λ i. f (m + i))
+drop-tabulate zero n f = ap (λ k. tabulate k f) (omega arith) ∙ tabulate-equal n f (λ i. f (0 + i)) (λ i _. ap f (omega arith))
+drop-tabulate (suc m) n f = ap (λ k. drop (suc m) (tabulate k f)) (suc-add m n) ∙ drop-tabulate m n (λ i. f (suc i)) ∙ tabulate-equal n (λ i. f (suc (m + i))) (λ i. f (suc m + i)) (λ i _. ap f (omega arith))
 
 -- equal rows have equal entries, one by one
-each-row : {A B : Type 0} (n : ℕ) (f g : A → B) (x : ℕ → A) → row n (λ i. f (x i)) ≡ row n (λ i. g (x i)) → Each (λ y. f y ≡ g y) (row n x)
-each-row zero f g x e = tt
-each-row (suc n) f g x e = (head_eq e, each-row n f g (λ i. x (suc i)) (tail_eq e))
+each-tabulate : {A B : Type 0} (n : ℕ) (f g : A → B) (x : ℕ → A) → tabulate n (λ i. f (x i)) ≡ tabulate n (λ i. g (x i)) → Each (λ y. f y ≡ g y) (tabulate n x)
+each-tabulate zero f g x e = tt
+each-tabulate (suc n) f g x e = (head_eq e, each-tabulate n f g (λ i. x (suc i)) (tail_eq e))
 
 module _ {A : Type 0} (F : FieldOps A) (L : IsField F) (top : ℕ) (w : ℕ → A) (W : AreRoots F top w) where
   infixl 70 ◌⊗◌
@@ -48,13 +48,13 @@ module _ {A : Type 0} (F : FieldOps A) (L : IsField F) (top : ℕ) (w : ℕ → 
   -- a word, cut to a smaller domain, is that of the same polynomial
   pub word-restrict : (j m : ℕ) (c : List A) → j + m ≤ top → take (2 ^ j) (word F w (j + m) c) ≡ word F w j c
   word-restrict j m c b =
-      take-row (2 ^ j) (2 ^ (j + m)) (λ i. val F c (pt F w i (j + m))) (pow-le-pow_right {n = 2} (omega arith) {i = j} {j = j + m} (omega arith))
-      ∙ row-equal (2 ^ j) (λ i. val F c (pt F w i (j + m))) (λ i. val F c (pt F w i j)) (λ i l. ap (λ x. val F c x) (point-restrict i j m l b))
+      take-tabulate (2 ^ j) (2 ^ (j + m)) (λ i. val F c (pt F w i (j + m))) (pow-le-pow_right {n = 2} (omega arith) {i = j} {j = j + m} (omega arith))
+      ∙ tabulate-equal (2 ^ j) (λ i. val F c (pt F w i (j + m))) (λ i. val F c (pt F w i j)) (λ i l. ap (λ x. val F c x) (point-restrict i j m l b))
 
   pub coset_word-restrict : (shift : A) (j m : ℕ) (c : List A) → j + m ≤ top → take (2 ^ j) (coset_word F w shift (j + m) c) ≡ coset_word F w shift j c
   coset_word-restrict shift j m c b =
-      take-row (2 ^ j) (2 ^ (j + m)) (λ i. val F c (shift ⊗ pt F w i (j + m))) (pow-le-pow_right {n = 2} (omega arith) {i = j} {j = j + m} (omega arith))
-      ∙ row-equal (2 ^ j) (λ i. val F c (shift ⊗ pt F w i (j + m))) (λ i. val F c (shift ⊗ pt F w i j)) (λ i l. ap (λ x. val F c (shift ⊗ x)) (point-restrict i j m l b))
+      take-tabulate (2 ^ j) (2 ^ (j + m)) (λ i. val F c (shift ⊗ pt F w i (j + m))) (pow-le-pow_right {n = 2} (omega arith) {i = j} {j = j + m} (omega arith))
+      ∙ tabulate-equal (2 ^ j) (λ i. val F c (shift ⊗ pt F w i (j + m))) (λ i. val F c (shift ⊗ pt F w i j)) (λ i l. ap (λ x. val F c (shift ⊗ x)) (point-restrict i j m l b))
 
   not_below : (i j : ℕ) → i < j → i ≡ j → ⊥
   not_below i j p e = omega (arith, p, e)
@@ -62,28 +62,28 @@ module _ {A : Type 0} (F : FieldOps A) (L : IsField F) (top : ℕ) (w : ℕ → 
   -- a word has one polynomial, where it has at least as many entries as coefficients
   pub word_injective : (k : ℕ) (c d : List A) → k ≤ top → length c ≡ length d → length c ≤ 2 ^ k → word F w k c ≡ word F w k d → c ≡ d
   word_injective k c d b e n h =
-      equal_from_values F L c d (row (2 ^ k) (λ i. pt F w i k)) e (omega (arith, n, length-row (2 ^ k) (λ i. pt F w i k)))
-      (distinct-row (2 ^ k) (λ i. pt F w i k) (λ i j p q s. not_below i j p (points_differ F L top w W k i j b (omega (arith, p, q)) q s)))
-      (each-row (2 ^ k) (λ x. val F c x) (λ x. val F d x) (λ i. pt F w i k) h)
+      equal_from_values F L c d (tabulate (2 ^ k) (λ i. pt F w i k)) e (omega (arith, n, length-tabulate (2 ^ k) (λ i. pt F w i k)))
+      (distinct-tabulate (2 ^ k) (λ i. pt F w i k) (λ i j p q s. not_below i j p (points_differ F L top w W k i j b (omega (arith, p, q)) q s)))
+      (each-tabulate (2 ^ k) (λ x. val F c x) (λ x. val F d x) (λ i. pt F w i k) h)
 
   pub coset_word_injective : (shift : A) → ¬ (shift ≡ 𝟘) → (k : ℕ) (c d : List A) → k ≤ top → length c ≡ length d → length c ≤ 2 ^ k → coset_word F w shift k c ≡ coset_word F w shift k d → c ≡ d
   coset_word_injective shift z k c d b e n h =
-      equal_from_values F L c d (row (2 ^ k) (λ i. shift ⊗ pt F w i k)) e (omega (arith, n, length-row (2 ^ k) (λ i. shift ⊗ pt F w i k)))
-      (distinct-row (2 ^ k) (λ i. shift ⊗ pt F w i k) (λ i j p q s. not_below i j p (points_differ F L top w W k i j b (omega (arith, p, q)) q (cancel_factor F L shift (pt F w i k) (pt F w j k) z s))))
-      (each-row (2 ^ k) (λ x. val F c x) (λ x. val F d x) (λ i. shift ⊗ pt F w i k) h)
+      equal_from_values F L c d (tabulate (2 ^ k) (λ i. shift ⊗ pt F w i k)) e (omega (arith, n, length-tabulate (2 ^ k) (λ i. shift ⊗ pt F w i k)))
+      (distinct-tabulate (2 ^ k) (λ i. shift ⊗ pt F w i k) (λ i j p q s. not_below i j p (points_differ F L top w W k i j b (omega (arith, p, q)) q (cancel_factor F L shift (pt F w i k) (pt F w j k) z s))))
+      (each-tabulate (2 ^ k) (λ x. val F c x) (λ x. val F d x) (λ i. shift ⊗ pt F w i k) h)
 
-  coset_points_distinct : (shift : A) → ¬ (shift ≡ 𝟘) → (k : ℕ) → k ≤ top → Distinct (row (2 ^ k) (λ i. shift ⊗ pt F w i k))
+  coset_points_distinct : (shift : A) → ¬ (shift ≡ 𝟘) → (k : ℕ) → k ≤ top → Distinct (tabulate (2 ^ k) (λ i. shift ⊗ pt F w i k))
   coset_points_distinct shift z k b =
-      distinct-row (2 ^ k) (λ i. shift ⊗ pt F w i k) (λ i j p q s. not_below i j p (points_differ F L top w W k i j b (omega (arith, p, q)) q (cancel_factor F L shift (pt F w i k) (pt F w j k) z s)))
+      distinct-tabulate (2 ^ k) (λ i. shift ⊗ pt F w i k) (λ i j p q s. not_below i j p (points_differ F L top w W k i j b (omega (arith, p, q)) q (cancel_factor F L shift (pt F w i k) (pt F w j k) z s)))
 
-  coset_interpolates : (shift : A) → ¬ (shift ≡ 𝟘) → (k : ℕ) → k ≤ top → (ys : List A) → length ys ≡ 2 ^ k → Interpolates F (row (2 ^ k) (λ i. shift ⊗ pt F w i k)) ys (interpolant F (row (2 ^ k) (λ i. shift ⊗ pt F w i k)) ys)
+  coset_interpolates : (shift : A) → ¬ (shift ≡ 𝟘) → (k : ℕ) → k ≤ top → (ys : List A) → length ys ≡ 2 ^ k → Interpolates F (tabulate (2 ^ k) (λ i. shift ⊗ pt F w i k)) ys (interpolant F (tabulate (2 ^ k) (λ i. shift ⊗ pt F w i k)) ys)
   coset_interpolates shift z k b ys n =
-      interpolant_interpolates F L (row (2 ^ k) (λ i. shift ⊗ pt F w i k)) ys (length-row (2 ^ k) (λ i. shift ⊗ pt F w i k) ∙ sym n) (coset_points_distinct shift z k b)
+      interpolant_interpolates F L (tabulate (2 ^ k) (λ i. shift ⊗ pt F w i k)) ys (length-tabulate (2 ^ k) (λ i. shift ⊗ pt F w i k) ∙ sym n) (coset_points_distinct shift z k b)
 
   pub coset_words : (shift : A) → ¬ (shift ≡ 𝟘) → (k m : ℕ) → k + m ≤ top → WordsAreTold F w shift k m
   unfolding pt
   coset_words shift z k m b =
-      let points = row (2 ^ k) (λ i. shift ⊗ pt F w i k) in
+      let points = tabulate (2 ^ k) (λ i. shift ⊗ pt F w i k) in
       let small : k ≤ top = omega (arith, b) in
       record {
         restricted = λ c. coset_word-restrict shift k m c b;
@@ -92,14 +92,14 @@ module _ {A : Type 0} (F : FieldOps A) (L : IsField F) (top : ℕ) (w : ℕ → 
             let found = coset_interpolates shift z k small ys n in
             record {
               polynomial = interpolant F points ys;
-              degree = found.count ∙ length-row (2 ^ k) (λ i. shift ⊗ pt F w i k);
-              values = sym (sym (map-row (λ x. val F (interpolant F points ys) x) (2 ^ k) (λ i. shift ⊗ pt F w i k)) ∙ found.values);
+              degree = found.count ∙ length-tabulate (2 ^ k) (λ i. shift ⊗ pt F w i k);
+              values = sym (sym (map-tabulate (λ x. val F (interpolant F points ys) x) (2 ^ k) (λ i. shift ⊗ pt F w i k)) ∙ found.values);
             };
         coefficients = λ c n.
             interpolates_unique F L points (coset_word F w shift k c) (interpolant F points (coset_word F w shift k c)) c (coset_points_distinct shift z k small)
-            (coset_interpolates shift z k small (coset_word F w shift k c) (length-row (2 ^ k) (λ i. val F c (shift ⊗ pt F w i k))))
-            (record { count = n ∙ sym (length-row (2 ^ k) (λ i. shift ⊗ pt F w i k)); values = map-row (λ x. val F c x) (2 ^ k) (λ i. shift ⊗ pt F w i k) });
+            (coset_interpolates shift z k small (coset_word F w shift k c) (length-tabulate (2 ^ k) (λ i. val F c (shift ⊗ pt F w i k))))
+            (record { count = n ∙ sym (length-tabulate (2 ^ k) (λ i. shift ⊗ pt F w i k)); values = map-tabulate (λ x. val F c x) (2 ^ k) (λ i. shift ⊗ pt F w i k) });
         turned = λ c d.
-            row-equal (2 ^ k) (λ i. get_or (row (2 ^ k) (λ j. val F c (shift ⊗ pow F (w k) j))) (rev k i) d) (λ i. val F c (shift ⊗ pt F w i k))
-            (λ i l. get_or-row (2 ^ k) (λ j. val F c (shift ⊗ pow F (w k) j)) (rev k i) d (rev-lt k i));
+            tabulate-equal (2 ^ k) (λ i. get_or (tabulate (2 ^ k) (λ j. val F c (shift ⊗ pow F (w k) j))) (rev k i) d) (λ i. val F c (shift ⊗ pt F w i k))
+            (λ i l. get_or-tabulate (2 ^ k) (λ j. val F c (shift ⊗ pow F (w k) j)) (rev k i) d (rev-lt k i));
       }

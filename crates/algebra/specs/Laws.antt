@@ -1,7 +1,7 @@
 -- The statements of the law functions, for every field over the type `A`.
 use Rattle.std.specs.Prelude.{◌≡◌, ◌≤◌, ℕ, ◌+◌, ◌^◌, List, length, take, slice_index_or, All}
 use Rattle.algebra.specs.Field.{FieldOps, IsField, pow}
-use Rattle.algebra.specs.Polynomial.{val, row}
+use Rattle.algebra.specs.Polynomial.{val, tabulate}
 use Rattle.algebra.specs.Digits.{rev}
 use Rattle.algebra.specs.TwoAdic.{AreRoots, pt}
 use Rattle.algebra.specs.Words.{coset_word, IsCosetWord}
@@ -28,9 +28,9 @@ pub record WordsAreTold {A : Type 0} (F : FieldOps A) (w : ℕ → A) (shift : A
   -- any values are a word of as many coefficients
   pub interpolated : (ys : List A) → length ys ≡ 2 ^ k → IsCosetWord F w shift k (2 ^ k) ys
   -- and the word gives its coefficients back
-  pub coefficients : (c : List A) → length c ≡ 2 ^ k → interpolant F (row (2 ^ k) (λ i. F.mul shift (pt F w i k))) (coset_word F w shift k c) ≡ c
+  pub coefficients : (c : List A) → length c ≡ 2 ^ k → interpolant F (tabulate (2 ^ k) (λ i. F.mul shift (pt F w i k))) (coset_word F w shift k c) ≡ c
   -- a word is the values in natural order with turned indices
-  pub turned : (c : List A) (d : A) → row (2 ^ k) (λ i. slice_index_or (row (2 ^ k) (λ j. val F c (F.mul shift (pow F (w k) j)))) (rev k i) d) ≡ coset_word F w shift k c
+  pub turned : (c : List A) (d : A) → tabulate (2 ^ k) (λ i. slice_index_or (tabulate (2 ^ k) (λ j. val F c (F.mul shift (pow F (w k) j)))) (rev k i) d) ≡ coset_word F w shift k c
 
 abbrev pub CosetWords : Type 0 → Type 0
 CosetWords A = (F : FieldOps A) → IsField F → (top : ℕ) (w : ℕ → A) → AreRoots F top w → (shift : A) → ¬ (shift ≡ F.zero) → (k m : ℕ) → k + m ≤ top → WordsAreTold F w shift k m

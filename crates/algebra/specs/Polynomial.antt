@@ -3,9 +3,9 @@ use Rattle.std.specs.Prelude.{ℕ, zero, suc, List, [], ◌∷◌, length, slice
 use Rattle.algebra.specs.Field.{FieldOps, pow}
 
 -- the list `f 0, .., f (n - 1)`
-abbrev pub row : {A : Type 0} → ℕ → (ℕ → A) → List A
-row zero f = []
-row (suc n) f = f zero ∷ row n (λ i. f (suc i))
+abbrev pub tabulate : {A : Type 0} → ℕ → (ℕ → A) → List A
+tabulate zero f = []
+tabulate (suc n) f = f zero ∷ tabulate n (λ i. f (suc i))
 
 module _ {A : Type 0} (F : FieldOps A) where
   infixl 65 ◌⊕◌

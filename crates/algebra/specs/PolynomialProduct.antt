@@ -1,7 +1,7 @@
 -- Products of polynomials, given as lists of coefficients, and what is left of them modulo another.
 use Rattle.std.specs.Prelude.{◌≡◌, ℕ, suc, ◌+◌, ◌-◌, ◌<◌, List, length, slice_index_or}
 use Rattle.algebra.specs.Field.{FieldOps}
-use Rattle.algebra.specs.Polynomial.{row, sum_below}
+use Rattle.algebra.specs.Polynomial.{tabulate, sum_below}
 
 module _ {A : Type 0} (F : FieldOps A) where
   -- the coefficient of `X^k` in `c`
@@ -14,7 +14,7 @@ module _ {A : Type 0} (F : FieldOps A) where
 
   -- the product of two polynomials
   abbrev pub polynomial_product : List A → List A → List A
-  polynomial_product a b = row (length a + length b - 1) (λ k. product_coefficient a b k)
+  polynomial_product a b = tabulate (length a + length b - 1) (λ k. product_coefficient a b k)
 
   -- `r` is the remainder of `c` divided by `m`: shorter than `m`, and `c` less `r` is a multiple of `m`
   pub record IsRemainder (m c r : List A) : Type 0 where

@@ -1,7 +1,7 @@
 -- Products of lists.
 use Rattle.std.specs.Prelude.{List, [], ◌∷◌, length, take}
 use Rattle.algebra.specs.Field.{FieldOps}
-use Rattle.algebra.specs.Polynomial.{row}
+use Rattle.algebra.specs.Polynomial.{tabulate}
 
 module _ {A : Type 0} (F : FieldOps A) where
   -- the product of the entries
@@ -11,4 +11,4 @@ module _ {A : Type 0} (F : FieldOps A) where
 
   -- for each entry, the product of those before it
   abbrev pub running_products : List A → List A
-  running_products xs = row (length xs) (λ i. product (take i xs))
+  running_products xs = tabulate (length xs) (λ i. product (take i xs))

@@ -1,7 +1,7 @@
 -- Roots of unity whose order is a power of two, and the points of the domains that they span.
 use Rattle.std.specs.Prelude.{◌≡◌, ℕ, zero, suc, ◌+◌, ◌*◌, ◌^◌, ◌<◌, List}
 use Rattle.algebra.specs.Field.{FieldOps, pow}
-use Rattle.algebra.specs.Polynomial.{row}
+use Rattle.algebra.specs.Polynomial.{tabulate}
 use Rattle.algebra.specs.Digits.{rev}
 
 -- `w 0, .., w top` are roots of unity of the orders `1, 2, .., 2^top`, each the square of the next
@@ -17,8 +17,8 @@ module _ {A : Type 0} (F : FieldOps A) (w : ℕ → A) where
 
   -- the domain of `2^k` points, in bit-reversed order
   abbrev pub domain_points : ℕ → List A
-  domain_points k = row (2 ^ k) (λ i. pt i k)
+  domain_points k = tabulate (2 ^ k) (λ i. pt i k)
 
   -- the points of row `i` of `2^a` neighbours in the domain of `2^(h + a)` points
   abbrev pub row_points : ℕ → ℕ → ℕ → List A
-  row_points i a h = row (2 ^ a) (λ j. pt (i * 2 ^ a + j) (h + a))
+  row_points i a h = tabulate (2 ^ a) (λ j. pt (i * 2 ^ a + j) (h + a))

@@ -6,15 +6,15 @@ use Rattle.std.proofs.Math.Nat.{div-one, mod-one}
 use Rattle.std.proofs.lemmas.Bool.Decides.{nat_tests, leb_tells}
 use Rattle.std.proofs.lemmas.List.{take_more_set, drop-set-lt, drop-drop, append-nil, length-replicate}
 use Rattle.algebra.specs.Field.{FieldOps}
-use Rattle.algebra.specs.Polynomial.{row}
-use Rattle.algebra.proofs.Lists.{length-row}
+use Rattle.algebra.specs.Polynomial.{tabulate}
+use Rattle.algebra.proofs.Lists.{length-tabulate}
 use Rattle.p3_fri_core.specs.Fold.{fold_value, folded_word, folded_rounds}
 use Rattle.p3_fri_core.specs.Schedule.{schedule, stops, rounds_through, rounds_over}
 
 -- a row of one more entry
-row-suc : {A : Type 0} (n : ℕ) (f : ℕ → A) → row (suc n) f ≡ row n f ++ f n ∷ []
-row-suc zero f = refl
-row-suc (suc n) f = ap (λ (rest : List _). f zero ∷ rest) (row-suc n (λ i. f (suc i)))
+tabulate-suc : {A : Type 0} (n : ℕ) (f : ℕ → A) → tabulate (suc n) f ≡ tabulate n f ++ f n ∷ []
+tabulate-suc zero f = refl
+tabulate-suc (suc n) f = ap (λ (rest : List _). f zero ∷ rest) (tabulate-suc n (λ i. f (suc i)))
 
 -- a part of what two lists share
 pub slice_range-shared : {A : Type 0} (i from to : ℕ) (xs ys : List A) → i ≤ from → drop i xs ≡ drop i ys → slice_range xs from to ≡ slice_range ys from to
@@ -26,14 +26,14 @@ slice_range-shared i from to xs ys before shared =
 
 -- the first `i` entries of a word are done, and the others are as they were
 pub record IsDoneBelow {A : Type 0} (f : ℕ → A) (old now : List A) (i : ℕ) : Type 0 where
-  pub done : take i now ≡ row i f
+  pub done : take i now ≡ tabulate i f
   pub rest : drop i now ≡ drop i old
   pub size : length now ≡ length old
 
 -- one entry more is done
 pub done-more : {A : Type 0} (f : ℕ → A) (old now : List A) (i : ℕ) (v : A) → i < length now → IsDoneBelow f old now i → v ≡ f i → IsDoneBelow f old (set now i v) (i + 1)
 done-more f old now i v inside so_far e = record {
-  done = take_more_set now i v inside ∙ rw (so_far.done, e, add-one i) (sym (row-suc i f));
+  done = take_more_set now i v inside ∙ rw (so_far.done, e, add-one i) (sym (tabulate-suc i f));
   rest = drop-set-lt (i + 1) now i v (omega arith) ∙ sym (drop-drop 1 i now) ∙ ap (drop 1) so_far.rest ∙ drop-drop 1 i old;
   size = length-set now i v ∙ so_far.size;
 }
@@ -62,7 +62,7 @@ module _ {A : Type 0} (F : FieldOps A) (w : ℕ → A) where
   -- a folded word has the length of its log height
   pub length-folded_word : (h a : ℕ) (beta : A) (ys : List A) → length (folded_word F w h a beta ys) ≡ 2 ^ h
   unfolding folded_word
-  length-folded_word h a beta ys = length-row (2 ^ h) (λ i. fold_value F w i h a beta (slice_range ys (i * 2 ^ a) (i * 2 ^ a + 2 ^ a)))
+  length-folded_word h a beta ys = length-tabulate (2 ^ h) (λ i. fold_value F w i h a beta (slice_range ys (i * 2 ^ a) (i * 2 ^ a + 2 ^ a)))
 
   -- the first of the rounds
   folded_rounds-next : (k n : ℕ) (beta : A) (betas ys : List A) → 0 < n → folded_rounds F w k (replicate n 1) (beta ∷ betas) ys ≡ folded_rounds F w (k - 1) (replicate (n - 1) 1) betas (folded_word F w (k - 1) 1 beta ys)

@@ -1,6 +1,6 @@
 -- What is opened belongs to the commitment.
 use Rattle.std.proofs.Common.{◌≡◌, ℕ, ◌/◌, ◌^◌, ◌<◌, List, [], ◌∷◌, length, map, get_or, ap, sym, ◌∙◌, arith, All}
-use Rattle.algebra.proofs.Lists.{Each, each_from_All, length-row}
+use Rattle.algebra.proofs.Lists.{Each, each_from_All, length-tabulate}
 use Rattle.p3_matrix.specs.declared.dense.RowMajorMatrix.{RowMajorMatrix}
 use Rattle.p3_matrix.specs.Matrix.{rows, matrix_width}
 use Rattle.p3_matrix.proofs.Rows.{length-rows_of, get_or-rows_of, length-row_of}
@@ -27,7 +27,7 @@ module _ {T : Type 0} where
         → OpensAt bytes (root_of (leaf_at bytes matrices) m) (dimensions_of matrices) index (opened_rows matrices index) (path_of (leaf_at bytes matrices) m index)
     opens_at index l = record {
       widths = rows_opened (max_height (dimensions_of matrices)) index (omega (arith, l, greatest)) matrices (each_from_All (λ matrix. Quotient (max_height (dimensions_of matrices)) (length (rows matrix))) matrices (quotient_at matrices powers));
-      levels = ap (λ n. 2 ^ n) (length-row m (λ level. digest_at (leaf_at bytes matrices) level (sibling_of (index / 2 ^ level)))) ∙ sym greatest;
+      levels = ap (λ n. 2 ^ n) (length-tabulate m (λ level. digest_at (leaf_at bytes matrices) level (sibling_of (index / 2 ^ level)))) ∙ sym greatest;
       root = climb-path_of (leaf_at bytes matrices) m index l;
     }
 

@@ -3,7 +3,7 @@ use Rattle.std.proofs.Common.{◌≡◌, ℕ, zero, suc, ◌+◌, ◌-◌, ◌*�
 use Rattle.std.proofs.lemmas.Bool.{eqb-false}
 use Rattle.std.proofs.Math.Pow.{shr-shr}
 use Rattle.std.proofs.lemmas.Nat.{div-mul-add}
-use Rattle.algebra.specs.Polynomial.{row}
+use Rattle.algebra.specs.Polynomial.{tabulate}
 use Rattle.p3_commit.specs.Tree.{node, climb, digest_at, root_of, sibling_of, path_of}
 
 -- a digest and its sibling are the children of their parent, in order
@@ -26,14 +26,14 @@ module _ (leaves : ℕ → List ℕ) where
   parent level index = children (digest_at leaves level) index (index % 2 == 0) refl
 
   -- from any layer, by the siblings in the layers above it
-  climb-row : (n level index : ℕ) (siblings : ℕ → List ℕ)
+  climb-tabulate : (n level index : ℕ) (siblings : ℕ → List ℕ)
       → ((k : ℕ) → k < n → siblings k ≡ digest_at leaves (level + k) (sibling_of (index / 2 ^ k)))
-      → climb index (digest_at leaves level index) (row n siblings) ≡ digest_at leaves (level + n) (index / 2 ^ n)
-  climb-row zero level index siblings h = ap₂ (digest_at leaves) (omega arith) (omega arith)
-  climb-row (suc n) level index siblings h =
-      ap (λ s. climb (index / 2) (cond (index % 2 == 0) (node (digest_at leaves level index) s) (node s (digest_at leaves level index))) (row n (λ k. siblings (suc k)))) first
-      ∙ ap (λ d. climb (index / 2) d (row n (λ k. siblings (suc k)))) (parent level index)
-      ∙ climb-row n (suc level) (index / 2) (λ k. siblings (suc k))
+      → climb index (digest_at leaves level index) (tabulate n siblings) ≡ digest_at leaves (level + n) (index / 2 ^ n)
+  climb-tabulate zero level index siblings h = ap₂ (digest_at leaves) (omega arith) (omega arith)
+  climb-tabulate (suc n) level index siblings h =
+      ap (λ s. climb (index / 2) (cond (index % 2 == 0) (node (digest_at leaves level index) s) (node s (digest_at leaves level index))) (tabulate n (λ k. siblings (suc k)))) first
+      ∙ ap (λ d. climb (index / 2) d (tabulate n (λ k. siblings (suc k)))) (parent level index)
+      ∙ climb-tabulate n (suc level) (index / 2) (λ k. siblings (suc k))
       (λ k l. h (suc k) (omega (arith, l)) ∙ ap₂ (λ i j. digest_at leaves i (sibling_of j)) (omega arith) (sym (halved k)))
       ∙ ap₂ (digest_at leaves) (omega arith) (halved n)
     where
@@ -47,6 +47,6 @@ module _ (leaves : ℕ → List ℕ) where
   pub climb-path_of : (height index : ℕ) → index < 2 ^ height → climb index (leaves index) (path_of leaves height index) ≡ root_of leaves height
   unfolding digest_at
   climb-path_of height index below =
-      climb-row height 0 index (λ level. digest_at leaves level (sibling_of (index / 2 ^ level)))
+      climb-tabulate height 0 index (λ level. digest_at leaves level (sibling_of (index / 2 ^ level)))
       (λ k l. ap (λ i. digest_at leaves i (sibling_of (index / 2 ^ k))) (omega arith))
       ∙ ap₂ (digest_at leaves) (omega arith) (ap (λ i. i / 2 ^ height) (omega arith) ∙ div-mul-add 0 (2 ^ height) index below)

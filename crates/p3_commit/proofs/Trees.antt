@@ -4,8 +4,8 @@ use Rattle.std.proofs.lemmas.Bool.{cases_eq, ne_eqb}
 use Rattle.std.proofs.lemmas.Nat.{pow_pos}
 use Rattle.std.proofs.Math.Nat.{pow-le-pow_right}
 use Rattle.std.proofs.Math.Pow.{shr-shr, shr_lt}
-use Rattle.algebra.specs.Polynomial.{row}
-use Rattle.algebra.proofs.Lists.{length-row, get_or-row}
+use Rattle.algebra.specs.Polynomial.{tabulate}
+use Rattle.algebra.proofs.Lists.{length-tabulate, get_or-tabulate}
 use Rattle.algebra.proofs.Powers.{double}
 use Rattle.p3_commit.specs.Tree.{node, digest_at, root_of, sibling_of}
 use Rattle.p3_commit.specs.Digests.{IsTree}
@@ -16,10 +16,10 @@ pub record TreeUpTo (leaves : ℕ → List ℕ) (count made : ℕ) (digests : Li
   pub leaf : (i : ℕ) → i < count → slice_index_or digests i [] ≡ leaves i
   pub parent : (k : ℕ) → k < made → slice_index_or digests (count + k) [] ≡ node (slice_index_or digests (2 * k) []) (slice_index_or digests (2 * k + 1) [])
 
-pub tree_of_leaves : (leaves : ℕ → List ℕ) (count : ℕ) → TreeUpTo leaves count 0 (row count leaves)
+pub tree_of_leaves : (leaves : ℕ → List ℕ) (count : ℕ) → TreeUpTo leaves count 0 (tabulate count leaves)
 tree_of_leaves leaves count = record {
-  len = length-row count leaves ∙ omega arith;
-  leaf = λ i l. get_or-row count leaves i [] l;
+  len = length-tabulate count leaves ∙ omega arith;
+  leaf = λ i l. get_or-tabulate count leaves i [] l;
   parent = λ k l. absurd (omega (arith, l));
 }
 

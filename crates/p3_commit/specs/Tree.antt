@@ -3,7 +3,7 @@ use Rattle.std.specs.Prelude.{◌≡◌, ℕ, zero, suc, ◌+◌, ◌-◌, ◌*�
 use Rattle.std.specs.List.{flat_map}
 use Rattle.std.specs.Int.{w64, to_le_bytes}
 use Rattle.sha2.specs.Sha256.{sha256}
-use Rattle.algebra.specs.Polynomial.{row}
+use Rattle.algebra.specs.Polynomial.{tabulate}
 use Rattle.p3_matrix.specs.declared.Dimensions.{Dimensions}
 use Rattle.p3_matrix.specs.declared.dense.RowMajorMatrix.{RowMajorMatrix}
 use Rattle.p3_commit.specs.Batch.{max_height, HasRows, opened_rows}
@@ -68,4 +68,4 @@ sibling_of index = if index % 2 == 0 then index + 1 else index - 1
 
 -- the siblings on the way from the leaf at `index` to the root
 abbrev pub path_of : (ℕ → List ℕ) → ℕ → ℕ → List (List ℕ)
-path_of leaves height index = row height (λ level. digest_at leaves level (sibling_of (index / 2 ^ level)))
+path_of leaves height index = tabulate height (λ level. digest_at leaves level (sibling_of (index / 2 ^ level)))

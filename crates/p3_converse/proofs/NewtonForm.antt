@@ -4,7 +4,7 @@ use borrow.Rule.Slice.PartMut.{put_mid}
 use Rattle.std.proofs.Math.ListN.{set}
 use Rattle.std.proofs.lemmas.List.{get_or-map, get_or-take, get_or_default, length-map, length-set, map-append, take_more, take_more_set, drop-set-lt, drop_more, length-take-le, take_at, drop_at, append_assoc, take_all, drop_all, drop-drop}
 use Rattle.algebra.specs.Field.{FieldOps, IsRing, IsField, sub}
-use Rattle.algebra.specs.Polynomial.{val, row}
+use Rattle.algebra.specs.Polynomial.{val, tabulate}
 use Rattle.algebra.specs.Interpolation.{AreDistinct, Interpolates, interpolant, plus_multiple}
 use Rattle.algebra.specs.Products.{product}
 use Rattle.algebra.proofs.RingLaws.{mul_zero}
@@ -14,7 +14,7 @@ use Rattle.algebra.proofs.Values.{val-nil}
 use Rattle.algebra.proofs.Division.{length-plus_multiple, val-plus_multiple}
 use Rattle.algebra.proofs.Interpolation.{interpolant_interpolates, interpolates_unique}
 use Rattle.algebra.proofs.Products.{product-append, product-nonzero}
-use Rattle.algebra.proofs.Lists.{each_from_All, distinct_from_AllPairs, get_or-row, length-row, head_eq}
+use Rattle.algebra.proofs.Lists.{each_from_All, distinct_from_AllPairs, get_or-tabulate, length-tabulate, head_eq}
 use Rattle.p3_converse.specs.Newton.{difference_product, weights_of, newton_val, expanded}
 
 -- functions that agree at each entry
@@ -27,7 +27,7 @@ abbrev pub product_before : {A : Type 0} → FieldOps A → List A → ℕ → A
 product_before F points t = difference_product F (get_or points t F.zero) (take t points)
 
 pub length-weights_of : {A : Type 0} (F : FieldOps A) (points : List A) → length (weights_of F points) ≡ length points
-length-weights_of F points = length-row (length points) (λ t. F.inv (product_before F points t))
+length-weights_of F points = length-tabulate (length points) (λ t. F.inv (product_before F points t))
 
 -- a list whose entries from `j` on were written
 pub put_rest : {A : Type 0} (xs ys : List A) (j : ℕ) → put_mid j (length xs - j) xs ys ≡ take j xs ++ ys
@@ -126,14 +126,14 @@ module _ {A : Type 0} (F : FieldOps A) (L : IsField F) (ps : List A) (distinct :
           let below : k < t = omega (arith, shorter, length-take t ps) in
           distinct k t d below l (sym (sub-eq F L.ring (ap (λ p. sub F (get_or ps t d) p) (sym (get_or-take t ps k d below)) ∙ sym (get_or-map (λ p. sub F (get_or ps t d) p) (take t ps) k d e shorter) ∙ z)))
 
-  pub products-nonzero : (xs : List A) → xs ≡ row (length ps) (product_before F ps) → All (λ x. x ≢ 𝟘) xs
+  pub products-nonzero : (xs : List A) → xs ≡ tabulate (length ps) (product_before F ps) → All (λ x. x ≢ 𝟘) xs
   products-nonzero xs e k d l z =
-      let below : k < length ps = omega (arith, l, ap length e, length-row (length ps) (product_before F ps)) in
-      difference_product-nonzero k 𝟘 below (sym (get_or-row (length ps) (product_before F ps) k d below) ∙ sym (ap (λ ys. get_or ys k d) e) ∙ z)
+      let below : k < length ps = omega (arith, l, ap length e, length-tabulate (length ps) (product_before F ps)) in
+      difference_product-nonzero k 𝟘 below (sym (get_or-tabulate (length ps) (product_before F ps) k d below) ∙ sym (ap (λ ys. get_or ys k d) e) ∙ z)
 
   pub weights-entry : (t : ℕ) (w p : A) → t < length ps → w ≡ get_or (weights_of F ps) t w → p ≡ get_or ps t p → w ≡ inv (difference_product F p (take t ps))
   weights-entry t w p l ew ep =
-      ew ∙ get_or-row (length ps) (λ t. inv (product_before F ps t)) t w l
+      ew ∙ get_or-tabulate (length ps) (λ t. inv (product_before F ps t)) t w l
       ∙ ap (λ q. inv (difference_product F q (take t ps))) (get_or_default ps t 𝟘 p l ∙ sym ep)
 
   pub newton_start : (ys : List A) → length ys ≡ length ps → IsNewtonUpTo F ps ys 1 ys

@@ -2,10 +2,10 @@
 use Rattle.std.proofs.Common.{◌≡◌, ℕ, zero, suc, ◌+◌, ◌*◌, ◌^◌, ◌<◌, ◌≤◌, List, [], ◌∷◌, length, get_or, map, refl, sym, ap, ap₂, subst, ◌∙◌, arith}
 use Rattle.std.proofs.lemmas.List.{take_at, drop_at}
 use Rattle.algebra.specs.Field.{FieldOps, IsField}
-use Rattle.algebra.specs.Polynomial.{val, row}
+use Rattle.algebra.specs.Polynomial.{val, tabulate}
 use Rattle.algebra.specs.Interpolation.{AreDistinct, Interpolates, interpolant}
 use Rattle.algebra.specs.TwoAdic.{AreRoots, pt, row_points}
-use Rattle.algebra.proofs.Lists.{Each, length-row, map-row, row-get_or, row-equal, map-each, head_eq, tail_eq, distinct_from_AllPairs}
+use Rattle.algebra.proofs.Lists.{Each, length-tabulate, map-tabulate, tabulate-get_or, tabulate-equal, map-each, head_eq, tail_eq, distinct_from_AllPairs}
 use Rattle.algebra.proofs.Interpolation.{interpolant_interpolates, equal_from_values}
 use Rattle.algebra.proofs.Points.{row-power, row_distinct}
 use Rattle.algebra.proofs.Blocks.{block_values, block_sum, length-block_sum, val-blocks, val-block_sum}
@@ -17,7 +17,7 @@ use Rattle.p3_converse.proofs.Joined.{length-joined, joined-equal, part-of_joine
 use Rattle.p3_converse.proofs.NewtonForm.{map-equal}
 
 -- the values of the blocks, one after the other
-pub block_values-joined : {A : Type 0} (F : FieldOps A) (n d : ℕ) (f : ℕ → List A) (x : A) → ((m : ℕ) → m < d → length (f m) ≡ n) → block_values F n d (joined d f) x ≡ row d (λ m. val F (f m) x)
+pub block_values-joined : {A : Type 0} (F : FieldOps A) (n d : ℕ) (f : ℕ → List A) (x : A) → ((m : ℕ) → m < d → length (f m) ≡ n) → block_values F n d (joined d f) x ≡ tabulate d (λ m. val F (f m) x)
 block_values-joined F n zero f x h = refl
 block_values-joined F n (suc d) f x h = ap₂ (λ v vs. v ∷ vs)
     (ap (λ c. val F c x) (take_at (f zero) (joined d (λ m. f (suc m))) n (h zero (omega arith))))
@@ -25,12 +25,12 @@ block_values-joined F n (suc d) f x h = ap₂ (λ v vs. v ∷ vs)
 
 -- polynomials whose values at the betas are the columns give, at each beta, the polynomial beside it
 transposed : {A : Type 0} (F : FieldOps A) (d : ℕ) (f : ℕ → List A) (betas : List A) (polys : List (List A)) → length betas ≡ length polys
-    → ((m : ℕ) → m < d → map (λ b. val F (f m) b) betas ≡ column F polys m) → Each (λ p. length p ≡ d) polys → map (λ b. row d (λ m. val F (f m) b)) betas ≡ polys
+    → ((m : ℕ) → m < d → map (λ b. val F (f m) b) betas ≡ column F polys m) → Each (λ p. length p ≡ d) polys → map (λ b. tabulate d (λ m. val F (f m) b)) betas ≡ polys
 transposed F d f [] [] e h n = refl
 transposed F d f [] (p ∷ ps) e h n = absurd (omega (arith, e))
 transposed F d f (b ∷ bs) [] e h n = absurd (omega (arith, e))
 transposed F d f (b ∷ bs) (p ∷ ps) e h n = ap₂ (λ q qs. q ∷ qs)
-    (row-equal d (λ m. val F (f m) b) (λ m. get_or p m F.zero) (λ m l. head_eq (h m l)) ∙ row-get_or d p F.zero n.0)
+    (tabulate-equal d (λ m. val F (f m) b) (λ m. get_or p m F.zero) (λ m l. head_eq (h m l)) ∙ tabulate-get_or d p F.zero n.0)
     (transposed F d f bs ps (omega (arith, e)) (λ m l. tail_eq (h m l)) n.1)
 
 map-map : {A B C : Type 0} (f : A → B) (g : B → C) (xs : List A) → map (λ x. g (f x)) xs ≡ map g (map f xs)
@@ -59,9 +59,9 @@ module _ {A : Type 0} (F : FieldOps A) (L : IsField F) (k d : ℕ) (betas : List
   blocks_at_betas : (y : A) → map (λ b. val F (block_sum F (2 ^ k) d unfolded y) b) betas ≡ map (λ p. val F p y) polys
   unfolding unfolded
   blocks_at_betas y =
-      map-equal (λ b. val F (block_sum F (2 ^ k) d unfolded y) b) (λ b. val F (row d (λ m. val F (through_columns m) b)) y) betas
+      map-equal (λ b. val F (block_sum F (2 ^ k) d unfolded y) b) (λ b. val F (tabulate d (λ m. val F (through_columns m) b)) y) betas
       (λ t z l. val-block_sum F L.ring (2 ^ k) d unfolded y (get_or betas t z) length-unfolded ∙ ap (λ c. val F c y) (block_values-joined F (2 ^ k) d through_columns (get_or betas t z) (λ m _. length-through_columns m)))
-      ∙ map-map (λ b. row d (λ m. val F (through_columns m) b)) (λ c. val F c y) betas
+      ∙ map-map (λ b. tabulate d (λ m. val F (through_columns m) b)) (λ c. val F c y) betas
       ∙ ap (λ ps. map (λ p. val F p y) ps) (transposed F d through_columns betas polys (arity ∙ sym as_many) (λ m l. (interpolates_column m).values) one_length)
 
   module _ (top : ℕ) (w : ℕ → A) (W : AreRoots F top w) (i h : ℕ) (ys : List A) (within : h + k ≤ top) (below : i < 2 ^ h) (long : length ys ≡ 2 ^ k) (folds : FoldsTo F w i h k ys betas polys) where
@@ -73,7 +73,7 @@ module _ {A : Type 0} (F : FieldOps A) (L : IsField F) (k d : ℕ) (betas : List
 
     through : Interpolates F (row_points F w i k h) ys of_row
     unfolding of_row
-    through = interpolant_interpolates F L (row_points F w i k h) ys (length-row (2 ^ k) (λ j. pt F w (i * 2 ^ k + j) (h + k)) ∙ sym long) (distinct_from_AllPairs (row_points F w i k h) (row_distinct F L top w W i k h within below))
+    through = interpolant_interpolates F L (row_points F w i k h) ys (length-tabulate (2 ^ k) (λ j. pt F w (i * 2 ^ k + j) (h + k)) ∙ sym long) (distinct_from_AllPairs (row_points F w i k h) (row_distinct F L top w W i k h within below))
 
     same : of_row ≡ block_sum F (2 ^ k) d unfolded (pt F w i h)
     unfolding of_row fold_value
@@ -83,7 +83,7 @@ module _ {A : Type 0} (F : FieldOps A) (L : IsField F) (k d : ℕ) (betas : List
         (map-each (λ b. val F of_row b) (λ b. val F (block_sum F (2 ^ k) d unfolded (pt F w i h)) b) betas (folds ∙ sym (blocks_at_betas (pt F w i h))))
       where
         count : length of_row ≡ 2 ^ k
-        count = through.count ∙ length-row (2 ^ k) (λ j. pt F w (i * 2 ^ k + j) (h + k))
+        count = through.count ∙ length-tabulate (2 ^ k) (λ j. pt F w (i * 2 ^ k + j) (h + k))
 
     at_point : (j : ℕ) → j < 2 ^ k → val F of_row (pt F w (i * 2 ^ k + j) (h + k)) ≡ val F unfolded (pt F w (i * 2 ^ k + j) (h + k))
     at_point j l =
@@ -95,11 +95,11 @@ module _ {A : Type 0} (F : FieldOps A) (L : IsField F) (k d : ℕ) (betas : List
         x : A
         x = pt F w (i * 2 ^ k + j) (h + k)
 
-    row_of_values : ys ≡ row (2 ^ k) (λ j. val F unfolded (pt F w (i * 2 ^ k + j) (h + k)))
+    row_of_values : ys ≡ tabulate (2 ^ k) (λ j. val F unfolded (pt F w (i * 2 ^ k + j) (h + k)))
     row_of_values =
         sym through.values
-        ∙ map-row (λ x. val F of_row x) (2 ^ k) (λ j. pt F w (i * 2 ^ k + j) (h + k))
-        ∙ row-equal (2 ^ k) (λ j. val F of_row (pt F w (i * 2 ^ k + j) (h + k))) (λ j. val F unfolded (pt F w (i * 2 ^ k + j) (h + k))) at_point
+        ∙ map-tabulate (λ x. val F of_row x) (2 ^ k) (λ j. pt F w (i * 2 ^ k + j) (h + k))
+        ∙ tabulate-equal (2 ^ k) (λ j. val F of_row (pt F w (i * 2 ^ k + j) (h + k))) (λ j. val F unfolded (pt F w (i * 2 ^ k + j) (h + k))) at_point
 
   pub is_unfolding : IsUnfolding F k betas polys (joined d through_columns)
   unfolding unfolded

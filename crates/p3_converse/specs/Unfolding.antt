@@ -2,7 +2,7 @@
 use Rattle.std.specs.Prelude.{◌≡◌, ℕ, ◌+◌, ◌*◌, ◌^◌, ◌<◌, ◌≤◌, List, [], ◌∷◌, length, map, vec_len}
 use Rattle.std.specs.declared.vec.Vec.{Vec}
 use Rattle.algebra.specs.Field.{FieldOps}
-use Rattle.algebra.specs.Polynomial.{val, row}
+use Rattle.algebra.specs.Polynomial.{val, tabulate}
 use Rattle.algebra.specs.TwoAdic.{AreRoots, pt}
 use Rattle.p3_fri_core.specs.Fold.{fold_value}
 
@@ -24,4 +24,4 @@ module _ {A : Type 0} (F : FieldOps A) where
   -- has the values of `unfolded` at its points
   pub record IsUnfolding (k : ℕ) (betas : List A) (polys : List (List A)) (unfolded : List A) : Type 0 where
     pub rows : (top : ℕ) (w : ℕ → A) → AreRoots F top w → (i h : ℕ) (ys : List A) → h + k ≤ top → i < 2 ^ h → length ys ≡ 2 ^ k
-        → FoldsTo w i h k ys betas polys → ys ≡ row (2 ^ k) (λ j. val F unfolded (pt F w (i * 2 ^ k + j) (h + k)))
+        → FoldsTo w i h k ys betas polys → ys ≡ tabulate (2 ^ k) (λ j. val F unfolded (pt F w (i * 2 ^ k + j) (h + k)))

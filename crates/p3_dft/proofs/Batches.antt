@@ -5,14 +5,14 @@ use Rattle.std.proofs.lemmas.Nat.{pow_pos}
 use Rattle.algebra.specs.Field.{FieldOps, IsRing, IsField, pow}
 use Rattle.algebra.specs.Polynomial.{val}
 use Rattle.algebra.proofs.Powers.{double}
-use Rattle.algebra.proofs.Lists.{row-equal}
+use Rattle.algebra.proofs.Lists.{tabulate-equal}
 use Rattle.p3_field.proofs.IndexPowers.{exponent_below}
 use Rattle.p3_matrix.specs.declared.dense.RowMajorMatrix.{RowMajorMatrix}
 use Rattle.p3_matrix.specs.Matrix.{rows, matrix_width}
 use Rattle.p3_matrix.specs.Rows.{rows_of}
 use Rattle.p3_dft.specs.Strided.{strided, HoldsValues}
 use Rattle.p3_dft.proofs.Columns.{Holds}
-use Rattle.p3_dft.proofs.Coefficients.{val-row_stretched}
+use Rattle.p3_dft.proofs.Coefficients.{val-tabulate_stretched}
 
 pub exponent_within : (j k n : ℕ) → 2 ^ j ≡ n → n ≤ 2 ^ k → j ≤ k
 exponent_within j k n e b = omega (arith, exponent_below j (suc k) (omega (arith, e, b, double k, pow_pos k)))
@@ -54,9 +54,9 @@ module _ {A : Type 0} (F : FieldOps A) where
       → (i j : ℕ) → i < height → j < width → get_or ys (i * width + j) F.zero ≡ val F (strided F width height xs j) (F.mul shift (pow F root i))
   coset_values R one root shift width height xs ss ys unit scaled known i j l q =
       known i j l q
-      ∙ ap (λ c. val F c (pow F root i)) (row-equal height (λ i. get_or ss (i * width + j) F.zero) (λ i. F.mul (get_or xs (i * width + j) F.zero) (pow F shift i))
+      ∙ ap (λ c. val F c (pow F root i)) (tabulate-equal height (λ i. get_or ss (i * width + j) F.zero) (λ i. F.mul (get_or xs (i * width + j) F.zero) (pow F shift i))
       (λ i b. scaled i j b q ∙ ap (λ p. F.mul (get_or xs (i * width + j) F.zero) p) (ap (λ o. F.mul o (pow F shift i)) unit ∙ R.mul_comm F.one (pow F shift i) ∙ R.mul_one (pow F shift i))))
-      ∙ val-row_stretched F R height (λ i. get_or xs (i * width + j) F.zero) shift (pow F root i)
+      ∙ val-tabulate_stretched F R height (λ i. get_or xs (i * width + j) F.zero) shift (pow F root i)
 
   -- the inverse of a shift takes a point of its coset back to the subgroup
   pub shifted_back : IsField F → (shift inverse x : A) → ¬ (shift ≡ F.zero) → inverse ≡ F.inv shift → F.mul inverse (F.mul shift x) ≡ x

@@ -5,13 +5,13 @@ use Rattle.std.proofs.lemmas.List.{get_or_append_left, get_or-append_right, get_
 use Rattle.std.proofs.lemmas.Nat.{mul-le, pow-add, one_shl}
 use Rattle.std.proofs.Math.Nat.{pow-le-pow_right}
 use Rattle.algebra.specs.Field.{FieldOps, IsRing}
-use Rattle.algebra.specs.Polynomial.{val, row}
+use Rattle.algebra.specs.Polynomial.{val, tabulate}
 use Rattle.algebra.specs.Interpolation.{interpolant}
-use Rattle.algebra.proofs.Lists.{length-row, map-row, row-equal}
+use Rattle.algebra.proofs.Lists.{length-tabulate, map-tabulate, tabulate-equal}
 use Rattle.p3_matrix.specs.declared.dense.RowMajorMatrix.{RowMajorMatrix}
 use Rattle.p3_dft.specs.Evaluations.{AreExtensions}
 use Rattle.p3_dft.specs.Strided.{strided}
-use Rattle.p3_dft.proofs.Columns.{Holds, column-strided, length-held, val-row_padded}
+use Rattle.p3_dft.proofs.Columns.{Holds, column-strided, length-held, val-tabulate_padded}
 use Rattle.p3_dft.proofs.Batches.{exponent_within}
 
 get_or-same : {A : Type 0} (m n : ℕ) (d : A) → get_or (replicate m d) n d ≡ d
@@ -44,22 +44,22 @@ module _ {A : Type 0} (F : FieldOps A) where
   pub padded_column : IsRing F → (k added width : ℕ) (cs ps : List A) → length cs ≡ 2 ^ k * width → ((n : ℕ) → get_or ps n F.zero ≡ get_or cs n F.zero)
       → (j : ℕ) (x : A) → val F (strided F width (2 ^ (k + added)) ps j) x ≡ val F (strided F width (2 ^ k) cs j) x
   padded_column R k added width cs ps size same j x =
-      ap (λ c. val F c x) (row-equal (2 ^ (k + added)) (λ i. get_or ps (i * width + j) F.zero) (λ i. get_or cs (i * width + j) F.zero) (λ i l. same (i * width + j)))
-      ∙ ap (λ n. val F (row n (λ i. get_or cs (i * width + j) F.zero)) x) (let e : 2 ^ (k + added) ≡ 2 ^ k + (2 ^ (k + added) - 2 ^ k) = omega (arith, pow-le-pow_right {n = 2} (omega arith) {i = k} {j = k + added} (omega arith)) in e)
-      ∙ val-row_padded F R (2 ^ k) (2 ^ (k + added) - 2 ^ k) (λ i. get_or cs (i * width + j) F.zero) x
+      ap (λ c. val F c x) (tabulate-equal (2 ^ (k + added)) (λ i. get_or ps (i * width + j) F.zero) (λ i. get_or cs (i * width + j) F.zero) (λ i l. same (i * width + j)))
+      ∙ ap (λ n. val F (tabulate n (λ i. get_or cs (i * width + j) F.zero)) x) (let e : 2 ^ (k + added) ≡ 2 ^ k + (2 ^ (k + added) - 2 ^ k) = omega (arith, pow-le-pow_right {n = 2} (omega arith) {i = k} {j = k + added} (omega arith)) in e)
+      ∙ val-tabulate_padded F R (2 ^ k) (2 ^ (k + added) - 2 ^ k) (λ i. get_or cs (i * width + j) F.zero) x
       (λ i l. get_or_past cs (i * width + j) F.zero (omega (arith, size, mul-le (2 ^ k) width i width l (omega arith))))
 
   pub extensions_by_entries : (values extended : RowMajorMatrix A) (width height count : ℕ) (ys es points : List A) (point : ℕ → A)
       → Holds values width height ys → Holds extended width count es
       → ((i j : ℕ) → i < count → j < width → get_or es (i * width + j) F.zero ≡ val F (interpolant F points (strided F width height ys j)) (point i))
-      → AreExtensions F points (row count point) values extended
+      → AreExtensions F points (tabulate count point) values extended
   extensions_by_entries values extended width height count ys es points point given made entry = record {
     width = made.columns ∙ sym given.columns;
-    height = length-held F extended width count es made ∙ sym (length-row count point);
+    height = length-held F extended width count es made ∙ sym (length-tabulate count point);
     columns = λ j l.
         let below : j < width = omega (arith, l, given.columns) in
         column-strided F extended width count es made j below
-        ∙ row-equal count (λ i. get_or es (i * width + j) F.zero) (λ i. val F (interpolant F points (strided F width height ys j)) (point i)) (λ i b. entry i j b below)
-        ∙ sym (map-row (λ x. val F (interpolant F points (strided F width height ys j)) x) count point)
-        ∙ ap (λ c. map (λ x. val F (interpolant F points c) x) (row count point)) (sym (column-strided F values width height ys given j below));
+        ∙ tabulate-equal count (λ i. get_or es (i * width + j) F.zero) (λ i. val F (interpolant F points (strided F width height ys j)) (point i)) (λ i b. entry i j b below)
+        ∙ sym (map-tabulate (λ x. val F (interpolant F points (strided F width height ys j)) x) count point)
+        ∙ ap (λ c. map (λ x. val F (interpolant F points c) x) (tabulate count point)) (sym (column-strided F values width height ys given j below));
   }

@@ -2,12 +2,12 @@
 -- coefficients, each `n` times.
 use Rattle.std.proofs.Common.{◌≡◌, ◌≢◌, ℕ, ◌<◌, refl, sym, ap, ap₂, ◌∙◌, mul_comm}
 use Rattle.algebra.specs.Field.{FieldOps, IsField, pow, multiple}
-use Rattle.algebra.specs.Polynomial.{val, row, sum_below}
+use Rattle.algebra.specs.Polynomial.{val, tabulate, sum_below}
 use Rattle.algebra.proofs.Ring.{◌:*◌, ◌:=◌, ring}
 use Rattle.algebra.proofs.RingLaws.{mul_zero, one_mul}
 use Rattle.algebra.proofs.Powers.{pow-times, pow-mul, pow-one_base}
 use Rattle.algebra.proofs.PolynomialProduct.{sum_below-equal}
-use Rattle.algebra.proofs.Sums.{val-row, sum_below-factor, sum_below-swap, sum_below-single, sum_below-ones, sum_below-turn}
+use Rattle.algebra.proofs.Sums.{val-tabulate, sum_below-factor, sum_below-swap, sum_below-single, sum_below-ones, sum_below-turn}
 
 module _ {A : Type 0} (F : FieldOps A) (L : IsField F) (n : ℕ) (w u size_inverse : A)
     (inverse : F.mul w u ≡ F.one) (turn : pow F w n ≡ F.one)
@@ -67,12 +67,12 @@ module _ {A : Type 0} (F : FieldOps A) (L : IsField F) (n : ℕ) (w u size_inver
   module _ (y : ℕ → A) where
     -- the coefficients, from the values `y`
     coefficient_of : ℕ → A
-    coefficient_of i = size_inverse ⊗ val F (row n y) (pow F u i)
+    coefficient_of i = size_inverse ⊗ val F (tabulate n y) (pow F u i)
 
     term : (i l : ℕ) → coefficient_of i ⊗ pow F (pow F w l) i ≡ size_inverse ⊗ sum_below F n (λ t. y t ⊗ pow F (quotient_of t l) i)
     unfolding coefficient_of quotient_of
     term i l =
-        ap (λ v. size_inverse ⊗ v ⊗ pow F (pow F w l) i) (val-row F n y (pow F u i))
+        ap (λ v. size_inverse ⊗ v ⊗ pow F (pow F w l) i) (val-tabulate F n y (pow F u i))
         ∙ ring F L.ring 3 (λ s v p. s :* v :* p := s :* (p :* v)) refl size_inverse (sum_below F n (λ t. y t ⊗ pow F (pow F u i) t)) (pow F (pow F w l) i)
         ∙ ap (λ v. size_inverse ⊗ v) (
         sym (sum_below-factor F L.ring (pow F (pow F w l) i) n (λ t. y t ⊗ pow F (pow F u i) t))
@@ -89,10 +89,10 @@ module _ {A : Type 0} (F : FieldOps A) (L : IsField F) (n : ℕ) (w u size_inver
             ∙ ap (λ p. y t ⊗ p) (pow-times F L.ring (pow F u t) (pow F w l) i)
 
     -- the polynomial of these coefficients has the values `y`
-    pub inverted : (l : ℕ) → l < n → val F (row n (λ i. size_inverse ⊗ val F (row n y) (pow F u i))) (pow F w l) ≡ y l
+    pub inverted : (l : ℕ) → l < n → val F (tabulate n (λ i. size_inverse ⊗ val F (tabulate n y) (pow F u i))) (pow F w l) ≡ y l
     unfolding coefficient_of sum_of
     inverted l b =
-        val-row F n coefficient_of (pow F w l)
+        val-tabulate F n coefficient_of (pow F w l)
         ∙ sum_below-equal F n (λ i. coefficient_of i ⊗ pow F (pow F w l) i) (λ i. size_inverse ⊗ sum_below F n (λ t. y t ⊗ pow F (quotient_of t l) i)) (λ i _. term i l)
         ∙ sum_below-factor F L.ring size_inverse n (λ i. sum_below F n (λ t. y t ⊗ pow F (quotient_of t l) i))
         ∙ ap (λ s. size_inverse ⊗ s) (

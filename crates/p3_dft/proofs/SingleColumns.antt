@@ -5,7 +5,7 @@ use Rattle.algebra.specs.Polynomial.{val}
 use Rattle.algebra.specs.Interpolation.{Interpolates, interpolant}
 use Rattle.algebra.specs.TwoAdic.{AreRoots}
 use Rattle.algebra.proofs.RingLaws.{one_mul}
-use Rattle.algebra.proofs.Lists.{length-row, map-row, row-equal, row-get_or}
+use Rattle.algebra.proofs.Lists.{length-tabulate, map-tabulate, tabulate-equal, tabulate-get_or}
 use Rattle.p3_matrix.specs.declared.dense.RowMajorMatrix.{RowMajorMatrix}
 use Rattle.p3_dft.specs.Evaluations.{subgroup_points, column, AreExtensions}
 use Rattle.p3_dft.specs.Strided.{strided}
@@ -14,8 +14,8 @@ use Rattle.p3_dft.proofs.Coefficients.{val-interpolant}
 
 pub strided-one : {A : Type 0} (F : FieldOps A) (n : ℕ) (xs : List A) → length xs ≡ n → strided F 1 n xs 0 ≡ xs
 strided-one F n xs e =
-    row-equal n (λ i. get_or xs (i * 1 + 0) F.zero) (λ i. get_or xs i F.zero) (λ i l. ap (λ m. get_or xs m F.zero) (omega arith))
-    ∙ row-get_or n xs F.zero e
+    tabulate-equal n (λ i. get_or xs (i * 1 + 0) F.zero) (λ i. get_or xs i F.zero) (λ i l. ap (λ m. get_or xs m F.zero) (omega arith))
+    ∙ tabulate-get_or n xs F.zero e
 
 module _ {A : Type 0} (F : FieldOps A) (L : IsField F) (top : ℕ) (w : ℕ → A) (W : AreRoots F top w) (k : ℕ) (b : k ≤ top) where
   -- coefficients whose polynomial is the interpolant
@@ -23,16 +23,16 @@ module _ {A : Type 0} (F : FieldOps A) (L : IsField F) (top : ℕ) (w : ℕ → 
       → ((j : ℕ) (x : A) → j < 1 → val F (strided F 1 (2 ^ k) cs j) x ≡ val F (interpolant F (subgroup_points F (w k) k) (strided F 1 (2 ^ k) ys j)) (F.mul one x))
       → Interpolates F (subgroup_points F (w k) k) ys cs
   interpolates_from_values one cs ys unit size count known = record {
-    count = size ∙ sym (length-row (2 ^ k) (λ i. pow F (w k) i));
+    count = size ∙ sym (length-tabulate (2 ^ k) (λ i. pow F (w k) i));
     values =
-        map-row (λ x. val F cs x) (2 ^ k) (λ i. pow F (w k) i)
-        ∙ row-equal (2 ^ k) (λ i. val F cs (pow F (w k) i)) (λ i. get_or ys i F.zero) (λ i l.
+        map-tabulate (λ x. val F cs x) (2 ^ k) (λ i. pow F (w k) i)
+        ∙ tabulate-equal (2 ^ k) (λ i. val F cs (pow F (w k) i)) (λ i. get_or ys i F.zero) (λ i l.
         ap (λ c. val F c (pow F (w k) i)) (sym (strided-one F (2 ^ k) cs size))
         ∙ known 0 (pow F (w k) i) (omega arith)
         ∙ ap (λ x. val F (interpolant F (subgroup_points F (w k) k) (strided F 1 (2 ^ k) ys 0)) x) (ap (λ o. F.mul o (pow F (w k) i)) unit ∙ one_mul F L.ring (pow F (w k) i))
         ∙ val-interpolant F L top w W k b (λ i. get_or ys (i * 1 + 0) F.zero) i l
         ∙ ap (λ m. get_or ys m F.zero) (omega arith))
-        ∙ row-get_or (2 ^ k) ys F.zero count;
+        ∙ tabulate-get_or (2 ^ k) ys F.zero count;
   }
 
 module _ {A : Type 0} (F : FieldOps A) (matrix : RowMajorMatrix A) (n : ℕ) (xs : List A) (held : Holds matrix 1 n xs) where

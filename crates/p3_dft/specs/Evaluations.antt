@@ -1,7 +1,7 @@
 -- Polynomials in the columns of matrices: their coefficients, and their values.
 use Rattle.std.specs.Prelude.{◌≡◌, ℕ, ◌^◌, ◌<◌, List, length, map, slice_index_or}
 use Rattle.algebra.specs.Field.{FieldOps, pow}
-use Rattle.algebra.specs.Polynomial.{val, row}
+use Rattle.algebra.specs.Polynomial.{val, tabulate}
 use Rattle.algebra.specs.Interpolation.{Interpolates, interpolant}
 use Rattle.p3_matrix.specs.declared.dense.RowMajorMatrix.{RowMajorMatrix}
 use Rattle.p3_matrix.specs.Matrix.{rows, matrix_width}
@@ -9,7 +9,7 @@ use Rattle.p3_matrix.specs.Matrix.{rows, matrix_width}
 module _ {A : Type 0} (F : FieldOps A) where
   -- the powers of `w`, from one on: the subgroup of order `2^k` that a root of unity of that order generates
   abbrev pub subgroup_points : (w : A) (k : ℕ) → List A
-  subgroup_points w k = row (2 ^ k) (λ i. pow F w i)
+  subgroup_points w k = tabulate (2 ^ k) (λ i. pow F w i)
 
   -- column `j` of the matrix (zero is the default of that look-up, which no column within the width needs)
   abbrev pub column : (matrix : RowMajorMatrix A) (j : ℕ) → List A

@@ -1,12 +1,12 @@
 -- The same columns where the rows lie one after another in one list.
 use Rattle.std.specs.Prelude.{◌≡◌, ℕ, ◌+◌, ◌*◌, ◌<◌, List, slice_index_or}
 use Rattle.algebra.specs.Field.{FieldOps, pow}
-use Rattle.algebra.specs.Polynomial.{val, row}
+use Rattle.algebra.specs.Polynomial.{val, tabulate}
 
 module _ {A : Type 0} (F : FieldOps A) where
   -- every `width`-th entry from place `j` on, `height` of them
   abbrev pub strided : (width height : ℕ) (xs : List A) (j : ℕ) → List A
-  strided width height xs j = row height (λ i. slice_index_or xs (i * width + j) F.zero)
+  strided width height xs j = tabulate height (λ i. slice_index_or xs (i * width + j) F.zero)
 
   -- row `i` of `ys`, of `width` entries, holds the values at `x^i` of the polynomials in the columns of `xs`
   abbrev pub HoldsValues : (x : A) (width height : ℕ) (xs ys : List A) → Type 0

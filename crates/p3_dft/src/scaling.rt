@@ -2,14 +2,14 @@
 
 ghost use Rattle.std.specs.Prelude.{◌≡◌, ◌<◌, ◌+◌, ◌*◌, ◌^◌, ℕ, length, slice_index_or, IfOk};
 ghost use Rattle.algebra.specs.Field.{pow, multiple};
-ghost use Rattle.algebra.specs.Polynomial.{row};
+ghost use Rattle.algebra.specs.Polynomial.{tabulate};
 
 use p3_field::{ExtensionField, Field};
 use std::alloc::{AllocError, Global};
 
 /// The first `count` powers of the base, from one on.
 pub(crate) fn powers<F: Field>(alloc: Global, base: F, count: usize) -> Result<Vec<F>, AllocError>
-    ensures { IfOk result (λ powers. powers.items ≡ row count (λ i. pow F.ops base i)) }
+    ensures { IfOk result (λ powers. powers.items ≡ tabulate count (λ i. pow F.ops base i)) }
 {
     let mut powers = Vec::with_capacity(alloc, count)?;
     let mut power = F::ONE;

@@ -3,7 +3,7 @@ use Rattle.std.proofs.Common.{◌≡◌, ◌≢◌, ◌⊎◌, inl, inr, ℕ, ze
 use Rattle.std.proofs.lemmas.List.{length-replicate}
 use Rattle.std.proofs.lemmas.Nat.{pow_pos}
 use Rattle.algebra.specs.Field.{FieldOps, IsField, IsHomomorphism, sub, pow}
-use Rattle.algebra.specs.Polynomial.{val, row}
+use Rattle.algebra.specs.Polynomial.{val, tabulate}
 use Rattle.algebra.specs.TwoAdic.{AreRoots}
 use Rattle.algebra.proofs.Ring.{◌:+◌, ◌:*◌, ◌:-◌, ◌:=◌, ring, o, :1, minus}
 use Rattle.algebra.proofs.Combine.{combine, cancel_factor, sub-eq, sub-self}
@@ -12,7 +12,7 @@ use Rattle.algebra.proofs.Values.{val-cons, val-append, val-one, val-zeros}
 use Rattle.algebra.proofs.Points.{full_turn, powers_differ}
 use Rattle.algebra.proofs.Products.{inverse_from_product}
 use Rattle.algebra.proofs.Roots.{zero_from_roots}
-use Rattle.algebra.proofs.Lists.{Each, Off, Distinct, distinct-row, length-row, get_or-row, AllPairs_from_distinct}
+use Rattle.algebra.proofs.Lists.{Each, Off, Distinct, distinct-tabulate, length-tabulate, get_or-tabulate, AllPairs_from_distinct}
 use Rattle.p3_field.specs.Coset.{coset_point, coset_points, vanishing, VanishesExactlyOn}
 
 -- a homomorphism carries inverses
@@ -75,17 +75,17 @@ module _ {A : Type 0} (F : FieldOps A) (L : IsField F) where
     power_turns : (i : ℕ) → pow F (pow F (w k) i) (2 ^ k) ≡ 𝟙
     power_turns i = sym (pow-mul F L.ring (w k) (2 ^ k) i) ∙ ap (λ n. pow F (w k) n) (omega arith) ∙ pow-mul F L.ring (w k) i (2 ^ k) ∙ ap (λ x. pow F x i) (full_turn F L top w W k b) ∙ pow-one_base F L.ring i
 
-    subgroup_distinct : Distinct (row (2 ^ k) (λ i. pow F (w k) i))
-    subgroup_distinct = distinct-row (2 ^ k) (λ i. pow F (w k) i) (λ i j p q e. not_below i j p (powers_differ F L top w W k i j b (omega (arith, p, q)) q e))
+    subgroup_distinct : Distinct (tabulate (2 ^ k) (λ i. pow F (w k) i))
+    subgroup_distinct = distinct-tabulate (2 ^ k) (λ i. pow F (w k) i) (λ i j p q e. not_below i j p (powers_differ F L top w W k i j b (omega (arith, p, q)) q e))
       where
         not_below : (i j : ℕ) → i < j → i ≡ j → ⊥
         not_below i j p e = omega (arith, p, e)
 
-    roots : (n : ℕ) (f : ℕ → A) (m : ℕ) → ((i : ℕ) → i < n → pow F (f i) (suc m) ≡ 𝟙) → Each (λ x. val F (turns_less_one m) x ≡ 𝟘) (row n f)
+    roots : (n : ℕ) (f : ℕ → A) (m : ℕ) → ((i : ℕ) → i < n → pow F (f i) (suc m) ≡ 𝟙) → Each (λ x. val F (turns_less_one m) x ≡ 𝟘) (tabulate n f)
     roots zero f m h = tt
     roots (suc n) f m h = (val-turns_less_one m (f zero) ∙ ap (λ p. sub F p 𝟙) (h zero (omega arith)) ∙ sub-self F L.ring 𝟙, roots n (λ i. f (suc i)) m (λ i l. h (suc i) (omega (arith, l))))
 
-    off : (n : ℕ) (f : ℕ → A) (y : A) → ((i : ℕ) → i < n → ¬ (f i ≡ y)) → Off y (row n f)
+    off : (n : ℕ) (f : ℕ → A) (y : A) → ((i : ℕ) → i < n → ¬ (f i ≡ y)) → Off y (tabulate n f)
     off zero f y h = tt
     off (suc n) f y h = (h zero (omega arith), off n (λ i. f (suc i)) y (λ i l. h (suc i) (omega (arith, l))))
 
@@ -93,15 +93,15 @@ module _ {A : Type 0} (F : FieldOps A) (L : IsField F) where
     no_other : (m : ℕ) (y : A) → 2 ^ k ≡ suc m → pow F y (2 ^ k) ≡ 𝟙 → ((i : ℕ) → i < 2 ^ k → ¬ (pow F (w k) i ≡ y)) → ⊥
     unfolding turns_less_one
     no_other m y n turns none =
-        L.one_not_zero (last_zero m (zero_from_roots F L (turns_less_one m) (y ∷ row (2 ^ k) (λ i. pow F (w k) i)) enough (off (2 ^ k) (λ i. pow F (w k) i) y none, subgroup_distinct)
+        L.one_not_zero (last_zero m (zero_from_roots F L (turns_less_one m) (y ∷ tabulate (2 ^ k) (λ i. pow F (w k) i)) enough (off (2 ^ k) (λ i. pow F (w k) i) y none, subgroup_distinct)
         (val-turns_less_one m y ∙ ap (λ p. sub F p 𝟙) (ap (λ j. pow F y j) (sym n) ∙ turns) ∙ sub-self F L.ring 𝟙, roots (2 ^ k) (λ i. pow F (w k) i) m (λ i l. ap (λ j. pow F (pow F (w k) i) j) (sym n) ∙ power_turns i))).1)
       where
-        enough : length (turns_less_one m) ≤ suc (length (row (2 ^ k) (λ i. pow F (w k) i)))
-        enough = omega (arith, length-turns_less_one m, length-row (2 ^ k) (λ i. pow F (w k) i), n)
+        enough : length (turns_less_one m) ≤ suc (length (tabulate (2 ^ k) (λ i. pow F (w k) i)))
+        enough = omega (arith, length-turns_less_one m, length-tabulate (2 ^ k) (λ i. pow F (w k) i), n)
 
     pub vanishes_exactly : (shift : A) → shift ≢ 𝟘 → VanishesExactlyOn F (w k) shift k
     vanishes_exactly shift n = record {
-      distinct = AllPairs_from_distinct (coset_points F (w k) shift k) (distinct-row (2 ^ k) (coset_point F (w k) shift) (λ i j p q e. not_below i j p (powers_differ F L top w W k i j b (omega (arith, p, q)) q (cancel_factor F L shift (pow F (w k) i) (pow F (w k) j) n e))));
+      distinct = AllPairs_from_distinct (coset_points F (w k) shift k) (distinct-tabulate (2 ^ k) (coset_point F (w k) shift) (λ i j p q e. not_below i j p (powers_differ F L top w W k i j b (omega (arith, p, q)) q (cancel_factor F L shift (pow F (w k) i) (pow F (w k) j) n e))));
       zeros = λ x. (λ e. is_point x (sub-eq F L.ring e) (found_or_none (2 ^ k) (λ i. pow F (w k) i) (x ⊗ inv shift)), λ h. is_zero x h);
     }
       where
@@ -113,12 +113,12 @@ module _ {A : Type 0} (F : FieldOps A) (L : IsField F) where
         positive (suc m) l = (m, refl)
 
         is_point : (x : A) → pow F (x ⊗ inv shift) (2 ^ k) ≡ 𝟙 → ((i : ℕ) × (i < 2 ^ k) × (pow F (w k) i ≡ x ⊗ inv shift)) ⊎ ((i : ℕ) → i < 2 ^ k → ¬ (pow F (w k) i ≡ x ⊗ inv shift)) → Contains (coset_points F (w k) shift k) x
-        is_point x turns (inl h) = (h.0, omega (arith, h.1, length-row (2 ^ k) (coset_point F (w k) shift)), get_or-row (2 ^ k) (coset_point F (w k) shift) h.0 x h.1 ∙ multiplied shift (pow F (w k) h.0) x n h.2)
+        is_point x turns (inl h) = (h.0, omega (arith, h.1, length-tabulate (2 ^ k) (coset_point F (w k) shift)), get_or-tabulate (2 ^ k) (coset_point F (w k) shift) h.0 x h.1 ∙ multiplied shift (pow F (w k) h.0) x n h.2)
         is_point x turns (inr none) = let m = positive (2 ^ k) (pow_pos k) in absurd (no_other m.0 (x ⊗ inv shift) m.1 turns none)
 
         is_zero : (x : A) → Contains (coset_points F (w k) shift k) x → vanishing F shift k x ≡ 𝟘
         is_zero x h =
-            let below : h.0 < 2 ^ k = omega (arith, h.1, length-row (2 ^ k) (coset_point F (w k) shift)) in
-            ap (λ y. sub F (pow F y (2 ^ k)) 𝟙) (divided shift (pow F (w k) h.0) x n (sym h.2 ∙ get_or-row (2 ^ k) (coset_point F (w k) shift) h.0 x below))
+            let below : h.0 < 2 ^ k = omega (arith, h.1, length-tabulate (2 ^ k) (coset_point F (w k) shift)) in
+            ap (λ y. sub F (pow F y (2 ^ k)) 𝟙) (divided shift (pow F (w k) h.0) x n (sym h.2 ∙ get_or-tabulate (2 ^ k) (coset_point F (w k) shift) h.0 x below))
             ∙ ap (λ p. sub F p 𝟙) (power_turns h.0)
             ∙ sub-self F L.ring 𝟙

@@ -6,7 +6,7 @@ use Rattle.std.proofs.lemmas.List.{get_or_default, get_or-set_same, get_or-map, 
 use Rattle.std.proofs.Common.{get_or-set_other, length-set}
 use Rattle.algebra.specs.Field.{FieldOps, IsField}
 use Rattle.algebra.specs.Products.{product, running_products}
-use Rattle.algebra.proofs.Lists.{length-row, get_or-row}
+use Rattle.algebra.proofs.Lists.{length-tabulate, get_or-tabulate}
 use Rattle.algebra.proofs.Products.{product-take_next, undo_inverse, undo_rest}
 
 module _ {A : Type 0} (F : FieldOps A) (values : List A) where
@@ -27,9 +27,9 @@ module _ {A : Type 0} (F : FieldOps A) (L : IsField F) (values : List A) where
 
   pub undone_start : (entries : List A) (inverse : A) → entries ≡ running_products F values → product F values ⊗ inverse ≡ 𝟙 → IsUndoneFrom F values (length values) entries inverse
   undone_start entries inverse e h = record {
-    lengths = ap length e ∙ length-row (length values) (λ i. product F (take i values));
+    lengths = ap length e ∙ length-tabulate (length values) (λ i. product F (take i values));
     done = λ k d b l. absurd (omega (arith, b, l));
-    rest = λ k d l. ap (λ xs. get_or xs k d) e ∙ get_or-row (length values) (λ i. product F (take i values)) k d l;
+    rest = λ k d l. ap (λ xs. get_or xs k d) e ∙ get_or-tabulate (length values) (λ i. product F (take i values)) k d l;
     inverse_of_rest = ap (λ xs. product F xs ⊗ inverse) (take-length values) ∙ h;
   }
 

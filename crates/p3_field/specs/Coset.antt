@@ -1,7 +1,7 @@
 -- Cosets of the two-adic subgroups, in natural order.
 use Rattle.std.specs.Prelude.{◌≡◌, ℕ, ◌^◌, ◌↔◌, List, Contains}
 use Rattle.algebra.specs.Field.{FieldOps, sub, pow}
-use Rattle.algebra.specs.Polynomial.{row}
+use Rattle.algebra.specs.Polynomial.{tabulate}
 use Rattle.algebra.specs.Interpolation.{AreDistinct}
 
 module _ {A : Type 0} (F : FieldOps A) where
@@ -11,7 +11,7 @@ module _ {A : Type 0} (F : FieldOps A) where
 
   -- the coset of `2^k` points, where `w` is the root of unity of order `2^k`
   abbrev pub coset_points : (w shift : A) → ℕ → List A
-  coset_points w shift k = row (2 ^ k) (coset_point w shift)
+  coset_points w shift k = tabulate (2 ^ k) (coset_point w shift)
 
   -- the value at `x` of the polynomial `(X / shift)^(2^k) - 1`
   abbrev pub vanishing : (shift : A) (k : ℕ) (x : A) → A

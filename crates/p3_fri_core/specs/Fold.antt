@@ -1,7 +1,7 @@
 -- The fold of a row and of a word, over any field with a family of roots of unity.
 use Rattle.std.specs.Prelude.{◌≡◌, ℕ, suc, ◌+◌, ◌*◌, ◌-◌, ◌^◌, ◌<◌, List, [], ◌∷◌, length, slice_range, slice_index_or}
 use Rattle.algebra.specs.Field.{FieldOps}
-use Rattle.algebra.specs.Polynomial.{val, row}
+use Rattle.algebra.specs.Polynomial.{val, tabulate}
 use Rattle.algebra.specs.Interpolation.{interpolant}
 use Rattle.algebra.specs.TwoAdic.{pt, row_points}
 
@@ -13,7 +13,7 @@ module _ {A : Type 0} (F : FieldOps A) (w : ℕ → A) where
 
   -- the word of log height `h` to which a word of log height `h + a` folds at `beta`, row by row
   unfoldable pub folded_word : (h a : ℕ) (beta : A) (ys : List A) → List A
-  folded_word h a beta ys = row (2 ^ h) (λ i. fold_value i h a beta (slice_range ys (i * 2 ^ a) (i * 2 ^ a + 2 ^ a)))
+  folded_word h a beta ys = tabulate (2 ^ h) (λ i. fold_value i h a beta (slice_range ys (i * 2 ^ a) (i * 2 ^ a + 2 ^ a)))
 
   -- a word of log height `k`, folded round by round by the log arities, each at its challenge
   abbrev pub folded_rounds : (k : ℕ) (log_arities : List ℕ) (betas ys : List A) → List A

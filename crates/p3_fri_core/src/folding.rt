@@ -2,7 +2,7 @@
 
 ghost use Rattle.std.specs.Prelude.{◌≡◌, ◌+◌, ◌<◌, ◌≤◌, ◌^◌, ℕ, [], ◌∷◌, length, IfOk};
 ghost use Rattle.algebra.specs.Field.{pow};
-ghost use Rattle.algebra.specs.Polynomial.{row};
+ghost use Rattle.algebra.specs.Polynomial.{tabulate};
 ghost use Rattle.p3_fri_core.specs.Fold.{fold_value, IsHalfInverse, AreHalfInverses};
 ghost use Rattle.p3_fri_core.specs.FoldLaws.{two_adic_lowers_degrees};
 
@@ -119,7 +119,7 @@ fn shifted_powers<F: Field>(
     base: F,
     count: usize,
 ) -> Result<Vec<F>, AllocError>
-    ensures { IfOk result (λ powers. powers.items ≡ row count (λ i. F.ops.mul first (pow F.ops base i))) }
+    ensures { IfOk result (λ powers. powers.items ≡ tabulate count (λ i. F.ops.mul first (pow F.ops base i))) }
 {
     let mut powers = Vec::with_capacity(alloc, count)?;
     let mut power = first;

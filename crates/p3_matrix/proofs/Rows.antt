@@ -4,13 +4,13 @@ use Rattle.std.specs.List.{between}
 use Rattle.std.proofs.lemmas.List.{same_lists}
 use Rattle.std.proofs.lemmas.List.Edits.{get_or-between, length-between}
 use Rattle.std.proofs.lemmas.Nat.{row_fits, div-add-mod'}
-use Rattle.algebra.proofs.Lists.{length-row, get_or-row}
+use Rattle.algebra.proofs.Lists.{length-tabulate, get_or-tabulate}
 use Rattle.p3_matrix.specs.Rows.{rows_of}
 
 module _ {A : Type 0} (w : ℕ) (xs : List A) where
   pub length-rows_of : length (rows_of w xs) ≡ length xs / w
   unfolding rows_of
-  length-rows_of = length-row (length xs / w) (λ i. between (i * w) (i * w + w) xs)
+  length-rows_of = length-tabulate (length xs / w) (λ i. between (i * w) (i * w + w) xs)
 
   -- each row lies within the list
   pub row_within : (i : ℕ) → i < length xs / w → i * w + w ≤ length xs
@@ -21,7 +21,7 @@ module _ {A : Type 0} (w : ℕ) (xs : List A) where
 
   pub get_or-rows_of : (i : ℕ) (d : List A) → i < length xs / w → get_or (rows_of w xs) i d ≡ between (i * w) (i * w + w) xs
   unfolding rows_of
-  get_or-rows_of i d l = get_or-row (length xs / w) (λ i. between (i * w) (i * w + w) xs) i d l
+  get_or-rows_of i d l = get_or-tabulate (length xs / w) (λ i. between (i * w) (i * w + w) xs) i d l
 
   pub length-row_of : (i : ℕ) → i < length xs / w → length (between (i * w) (i * w + w) xs) ≡ w
   length-row_of i l = length-between xs (i * w) (i * w + w) (row_within i l) ∙ omega arith

@@ -1,6 +1,6 @@
 use Rattle.std.proofs.Common.{◌∷◌, [], ◌++◌, ap, ap₂, sym, ◌∙◌}
 use Rattle.algebra.specs.Field.{pow}
-use Rattle.algebra.proofs.Lists.{row-next}
+use Rattle.algebra.proofs.Lists.{tabulate-next}
 use Rattle.algebra.proofs.Powers.{pow-zero, pow-next}
 use Rattle.p3_dft.proofs.scaling.powers.Goals as goal
 
@@ -16,6 +16,6 @@ loop-preserved g c =
     let base = c.args.base in
     let here = c.loop in
     record {
-      powers = c.in_ok-push.ensures.items ∙ ap₂ (λ xs x. xs ++ x ∷ []) here.invariant.powers here.invariant.power ∙ sym (row-next here.counter (λ i. pow F base i));
+      powers = c.in_ok-push.ensures.items ∙ ap₂ (λ xs x. xs ++ x ∷ []) here.invariant.powers here.invariant.power ∙ sym (tabulate-next here.counter (λ i. pow F base i));
       power = g.met.F.Field.mul_law base here.power c.mul-power.result c.mul-power.ensures ∙ ap (λ x. F.mul base x) here.invariant.power ∙ sym (pow-next F base here.counter);
     }

@@ -2,7 +2,7 @@
 use Rattle.std.proofs.Common.{rules, ◌≡◌, ◌+◌, ◌-◌, ◌*◌, ◌/◌, ◌%◌, ◌^◌, ℕ, length, get_or, arith, ap, subst, refl, sym, ◌∙◌}
 use Rattle.std.proofs.lemmas.Nat.{one_shl}
 use Rattle.std.proofs.lemmas.List.{with_items_is}
-use Rattle.algebra.proofs.Lists.{length-row}
+use Rattle.algebra.proofs.Lists.{length-tabulate}
 use Rattle.algebra.specs.Field.{pow}
 use Rattle.p3_dft.specs.Strided.{HoldsValues}
 use Rattle.p3_dft.proofs.Sizes.{whole_size, stride_halved, block_halved, block_twice, twiddle_below, pairs_of_blocks, power_fits, double_next}
@@ -51,7 +51,7 @@ layer-requires-clause-twiddles g c m l =
     let s = c.loop.counter in
     let table : length c.deref-in-loop.result.now ≡ 2 ^ k / 2 =
     ap length (c.deref-in-loop.ensures.value ∙ c.in_ok-twiddles.ensures)
-    ∙ length-row (1 * 2 ^ k % 2 ^ 64 / 2) (λ i. pow g.F.Field.ops c.args.root i)
+    ∙ length-tabulate (1 * 2 ^ k % 2 ^ 64 / 2) (λ i. pow g.F.Field.ops c.args.root i)
     ∙ ap (λ n. n / 2) (one_shl k 64 c.requires.log_height) in
     let stride : m * (c.loop.stride / 2) ≡ m * 2 ^ (k - (s + 1)) = ap (λ n. m * n) (stride_halved k s c.loop-test.true c.loop.stride c.loop.invariant.stride) in
     omega (arith, table, stride, twiddle_below k s c.loop-test.true m (omega (arith, l, c.loop.invariant.pairs)))

@@ -1,6 +1,6 @@
 use Rattle.std.proofs.Common.{◌∷◌, [], ◌++◌, ap, ap₂, sym, ◌∙◌}
 use Rattle.algebra.specs.Field.{pow}
-use Rattle.algebra.proofs.Lists.{row-next}
+use Rattle.algebra.proofs.Lists.{tabulate-next}
 use Rattle.algebra.proofs.Powers.{pow-zero, pow-next}
 use Rattle.p3_fri_core.proofs.folding.shifted_powers.Goals as goal
 
@@ -17,7 +17,7 @@ loop-preserved g c =
     let first = c.args.first in
     let base = c.args.base in
     record {
-      powers = c.in_ok-push.ensures.items ∙ ap₂ (λ xs y. xs ++ y ∷ []) here.invariant.powers here.invariant.next ∙ sym (row-next here.counter (λ i. F.mul first (pow F base i)));
+      powers = c.in_ok-push.ensures.items ∙ ap₂ (λ xs y. xs ++ y ∷ []) here.invariant.powers here.invariant.next ∙ sym (tabulate-next here.counter (λ i. F.mul first (pow F base i)));
       next = field.mul_law here.power base c.mul-power.result c.mul-power.ensures
           ∙ ap (λ x. F.mul x base) here.invariant.next
           ∙ field.laws.mul_assoc first (pow F base here.counter) base

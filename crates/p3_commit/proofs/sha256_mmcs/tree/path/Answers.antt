@@ -1,6 +1,6 @@
 use Rattle.std.proofs.Common.{◌≡◌, ◌+◌, ◌-◌, ◌*◌, ◌/◌, ◌^◌, ℕ, List, arith, sym, ap, ◌∙◌, length, ◌++◌, ◌∷◌, [], slice_index_or}
-use Rattle.algebra.specs.Polynomial.{row}
-use Rattle.algebra.proofs.Lists.{row-next}
+use Rattle.algebra.specs.Polynomial.{tabulate}
+use Rattle.algebra.proofs.Lists.{tabulate-next}
 use Rattle.p3_commit.specs.Tree.{digest_at, sibling_of}
 use Rattle.p3_commit.proofs.Trees.{at_below, at_next, sibling_is, sibling_le}
 use Rattle.p3_commit.proofs.sha256_mmcs.tree.path.Goals as goal
@@ -28,14 +28,14 @@ loop-level-preserved c = record {
       let siblings : ℕ → List ℕ = λ level. digest_at leaves level (sibling_of (c.args.index / 2 ^ level)) in
       c.in_ok-push.ensures.items
       ∙ ap (λ ds. ds ++ slice_index_or c.args.digests.now c.sibling.result [] ∷ []) (c.loop-level.invariant.siblings leaves tree)
-      ∙ ap (λ d. row c.loop-level._level siblings ++ d ∷ [])
+      ∙ ap (λ d. tabulate c.loop-level._level siblings ++ d ∷ [])
       (ap (λ k. slice_index_or c.args.digests.now k []) c.sibling.ensures
       ∙ sibling_is c.args.log_height c.loop-level._level c.args.index c.loop-level.at c.loop-level-test.true c.requires.below c.loop-level.invariant.place leaves c.args.digests.now tree)
-      ∙ sym (row-next c.loop-level._level siblings);
+      ∙ sym (tabulate-next c.loop-level._level siblings);
 }
 
 pub returns : goal.returns
 returns c leaves tree =
     let all : c.loop-level._level ≡ c.args.log_height = omega (arith, c.loop-level-test.false, c.loop-level.auto._level-end) in
     c.loop-level.invariant.siblings leaves tree
-    ∙ ap (λ n. row n (λ level. digest_at leaves level (sibling_of (c.args.index / 2 ^ level)))) all
+    ∙ ap (λ n. tabulate n (λ level. digest_at leaves level (sibling_of (c.args.index / 2 ^ level)))) all

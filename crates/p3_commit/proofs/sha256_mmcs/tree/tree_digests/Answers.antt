@@ -1,6 +1,6 @@
 use Rattle.std.proofs.Common.{◌≡◌, ◌<◌, ◌^◌, arith, sym, ap, ◌∙◌, subst, ◌++◌, ◌∷◌, []}
-use Rattle.algebra.specs.Polynomial.{row}
-use Rattle.algebra.proofs.Lists.{row-next}
+use Rattle.algebra.specs.Polynomial.{tabulate}
+use Rattle.algebra.proofs.Lists.{tabulate-next}
 use Rattle.p3_commit.specs.Batch.{max_height, dimensions_of}
 use Rattle.p3_commit.specs.Tree.{leaf_at}
 use Rattle.p3_commit.proofs.Heights.{max_height-power, power_half, power_some}
@@ -24,14 +24,14 @@ pub loop-index-preserved : goal.loop-index-preserved
 loop-index-preserved g c =
     c.in_ok-push.ensures.items
     ∙ ap (λ ds. ds ++ c.leaf_digest_at.result ∷ []) c.loop-index.invariant
-    ∙ ap (λ d. row c.loop-index.index (leaf_at g.T.ElementBytes.bytes c.args.matrices.now) ++ d ∷ []) c.leaf_digest_at.ensures
-    ∙ sym (row-next c.loop-index.index (leaf_at g.T.ElementBytes.bytes c.args.matrices.now))
+    ∙ ap (λ d. tabulate c.loop-index.index (leaf_at g.T.ElementBytes.bytes c.args.matrices.now) ++ d ∷ []) c.leaf_digest_at.ensures
+    ∙ sym (tabulate-next c.loop-index.index (leaf_at g.T.ElementBytes.bytes c.args.matrices.now))
 
 pub loop-pair-init : goal.loop-pair-init
 loop-pair-init g c =
     let leaves = leaf_at g.T.ElementBytes.bytes c.args.matrices.now in
     let all : c.loop-index.index ≡ c.args.height = omega (arith, c.loop-index-test.false, c.loop-index.auto.index-end) in
-    subst (TreeUpTo leaves c.args.height 0) (sym (c.loop-index.invariant ∙ ap (λ n. row n leaves) all)) (tree_of_leaves leaves c.args.height)
+    subst (TreeUpTo leaves c.args.height 0) (sym (c.loop-index.invariant ∙ ap (λ n. tabulate n leaves) all)) (tree_of_leaves leaves c.args.height)
 
 pub returns : goal.returns
 returns g c =

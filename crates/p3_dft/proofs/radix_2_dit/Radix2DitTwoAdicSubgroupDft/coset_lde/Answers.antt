@@ -1,6 +1,6 @@
 -- One column is a matrix of width one.
 use Rattle.std.proofs.Common.{◌+◌, ◌*◌, ◌^◌, arith, ap, sym, ◌∙◌}
-use Rattle.algebra.proofs.Lists.{length-row}
+use Rattle.algebra.proofs.Lists.{length-tabulate}
 use Rattle.p3_field.specs.Coset.{coset_point, coset_points}
 use Rattle.p3_dft.specs.Evaluations.{subgroup_points}
 use Rattle.p3_dft.proofs.Columns.{Holds, length-held}
@@ -33,4 +33,4 @@ returns g c k size =
     let known = c.in_ok-extended.ensures k (length-held F matrix 1 (2 ^ k) given.items held) in
     single_extension F (subgroup_points F (root k) k) (coset_points F (root n) c.args.shift n) matrix extended (2 ^ k) (2 ^ n) given.items made.items known held
     (held_by_values extended 1 (2 ^ n) made.len made.items (omega arith) made.ok.0 (sym (known.width ∙ c.new-matrix.ensures.width))
-    (sym (known.height ∙ length-row (2 ^ n) (coset_point F (root n) c.args.shift))) c.into_values.ensures.rows c.into_values.ensures.len)
+    (sym (known.height ∙ length-tabulate (2 ^ n) (coset_point F (root n) c.args.shift))) c.into_values.ensures.rows c.into_values.ensures.len)

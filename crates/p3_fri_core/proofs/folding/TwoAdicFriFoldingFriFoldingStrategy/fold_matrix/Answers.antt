@@ -1,6 +1,6 @@
 use Rattle.std.proofs.Common.{◌≡◌, ℕ, ◌^◌, ◌<◌, [], ◌∷◌, ◌++◌, length, slice_index_or, get_or, subst, sym, ap, ap₂, ◌∙◌, arith}
-use Rattle.algebra.specs.Polynomial.{row}
-use Rattle.algebra.proofs.Lists.{row-next}
+use Rattle.algebra.specs.Polynomial.{tabulate}
+use Rattle.algebra.proofs.Lists.{tabulate-next}
 use Rattle.p3_field.proofs.IndexPowers.{exponents_agree}
 use Rattle.p3_matrix.specs.Matrix.{rows}
 use Rattle.p3_fri_core.specs.Fold.{fold_value, IsHalfInverse, AreHalfInverses}
@@ -31,7 +31,7 @@ loop-i-preserved g c h e =
     c.in_ok-push.ensures.items
     ∙ ap₂ (λ xs y. xs ++ y ∷ []) (c.loop-i.invariant h e)
     (c.fold_pair.ensures i h within below inverse ∙ ap (λ ys. fold_value K (λ k. g.EF.ExtensionField.lift (w k)) i h 1 c.args.beta ys) (sym two))
-    ∙ sym (row-next i fold)
+    ∙ sym (tabulate-next i fold)
 
 pub returns : goal.returns
 returns g c h e =
@@ -41,4 +41,4 @@ returns g c h e =
     let log_height : c.log2_strict_usize.result ≡ h = exponents_agree c.log2_strict_usize.result h (c.log2_strict_usize.ensures.power ∙ c.height.ensures ∙ e) in
     let tables : AreHalfInverses g.F.Field.ops w h c.in_ok-halves.halves.items = (let P : ℕ → Type 0 = λ n. AreHalfInverses g.F.Field.ops w n c.in_ok-halves.halves.items in subst P log_height c.in_ok-halves.ensures) in
     let whole : c.loop-i.i ≡ 2 ^ h = omega (arith, ap length c.deref-half_inverse-items.ensures.value, tables.count) in
-    c.loop-i.invariant h e ∙ ap₂ (λ n a. row n (λ i. fold_value K (λ k. g.EF.ExtensionField.lift (w k)) i h a c.args.beta (slice_index_or (rows matrix) i []))) whole (sym c.requires.binary)
+    c.loop-i.invariant h e ∙ ap₂ (λ n a. tabulate n (λ i. fold_value K (λ k. g.EF.ExtensionField.lift (w k)) i h a c.args.beta (slice_index_or (rows matrix) i []))) whole (sym c.requires.binary)
