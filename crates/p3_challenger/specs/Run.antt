@@ -69,3 +69,13 @@ grind_attempt observe draw_bits c b w =
 -- the witness passes that grind
 abbrev pub Passes : {C W : Type 0} → (C → W → C) → (C → ℕ → After C ℕ) → C → ℕ → W → Type 0
 Passes observe draw_bits c b w = IsTrue (grind_attempt observe draw_bits c b w).value
+
+-- the moves of a challenger that draws elements of an extension coefficient by coefficient
+abbrev pub moves : {C F E Com : Type 0} → (C → F → C) → (C → Com → C) → (C → After C F)
+    → (List F → E) → ℕ → (C → ℕ → After C ℕ) → Moves C F E Com
+moves observe observe_commitment draw of_coefficients dimension draw_bits = record {
+  observe_value = observe;
+  observe_commitment = observe_commitment;
+  draw_element = drawn_element draw of_coefficients dimension;
+  draw_bits = draw_bits;
+}

@@ -1,5 +1,5 @@
 -- Where a script stands.
-use Rattle.std.specs.Prelude.{ℕ, ◌+◌, List, drop}
+use Rattle.std.specs.Prelude.{◌+◌, List, drop}
 use Rattle.p3_challenger.specs.declared.fs.pattern.Turn.{Turn}
 use Rattle.p3_challenger.specs.declared.fs.script.Script.{Script}
 
