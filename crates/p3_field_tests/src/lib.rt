@@ -11,3 +11,5 @@ mod batch_inverse;
 mod coset;
 #[cfg(test)]
 mod index;
+#[cfg(test)]
+mod prepared;
