@@ -1,7 +1,7 @@
 use Rattle.std.proofs.Common.{arith, ◌∙◌}
 use Rattle.std.proofs.lemmas.Nat.{one_shl}
 use Rattle.p3_dft.proofs.Sizes.{extended_power_within}
-use Rattle.p3_dft.proofs.radix_2_dit.tests.columns_agree.Goals as goal
+use Rattle.p3_dft_tests.proofs.transform.columns_agree.Goals as goal
 
 pub coset_lde_batch-requires-clause-within_two_adicity : goal.coset_lde_batch-requires-clause-within_two_adicity
 coset_lde_batch-requires-clause-within_two_adicity g c = extended_power_within _ c.args.log_height 1 g.F.TwoAdicField.TWO_ADICITY c.in_ok-values.ensures.height c.requires.within_two_adicity

@@ -3,8 +3,7 @@
 ghost use Rattle.std.specs.Prelude.{◌≡◌, ◌<◌, ◌≤◌, ◌+◌, ◌*◌, ◌^◌, IfOk, length, vec_len};
 ghost use Rattle.p3_matrix.specs.Matrix.{rows, matrix_width};
 
-use super::Radix2Dit;
-use crate::traits::TwoAdicSubgroupDft;
+use p3_dft::{Radix2Dit, TwoAdicSubgroupDft};
 use p3_field::{BabyBear, BabyBear4, ExtensionField, Field, PrimeField64, TwoAdicField};
 use p3_matrix::RowMajorMatrix;
 use std::alloc::{AllocError, Global};
@@ -56,7 +55,8 @@ fn value<EF: Field>(coefficients: &RowMajorMatrix<EF>, column: usize, x: EF) -> 
     value
 }
 
-/// Whether each row `i` of `values`, of which there are `2^log_height`, holds the values at `shift * root^i`.
+/// Whether each row `i` of `values`, of which there are `2^log_height`, holds the values at
+/// `shift * root^i`.
 fn holds_values<F: Field>(
     coefficients: &RowMajorMatrix<F>,
     values: &RowMajorMatrix<F>,
@@ -81,7 +81,8 @@ fn holds_values<F: Field>(
     true
 }
 
-/// Whether the calls on matrices answer the values by Horner's rule, and the coefficients come back.
+/// Whether the calls on matrices answer the values by Horner's rule, and give back the
+/// coefficients.
 fn matrices_agree<F: TwoAdicField, D: TwoAdicSubgroupDft<F>>(
     alloc: Global,
     dft: &D,

@@ -1,7 +1,7 @@
 use Rattle.std.proofs.Common.{arith, ◌∙◌}
 use Rattle.std.proofs.lemmas.Nat.{one_shl}
 use Rattle.p3_dft.proofs.Sizes.{power_within}
-use Rattle.p3_dft.proofs.radix_2_dit.tests.algebra_comes_back.Goals as goal
+use Rattle.p3_dft_tests.proofs.transform.algebra_comes_back.Goals as goal
 
 pub idft_algebra-requires-clause-within_two_adicity : goal.idft_algebra-requires-clause-within_two_adicity
 idft_algebra-requires-clause-within_two_adicity g c =

@@ -1,7 +1,7 @@
 use Rattle.std.proofs.Common.{◌≡◌, ◌^◌, length, arith, ap, ◌∙◌}
 use Rattle.p3_matrix.specs.Matrix.{rows}
 use Rattle.p3_dft.proofs.Sizes.{power_within, extended_power_within}
-use Rattle.p3_dft.proofs.radix_2_dit.tests.matrices_agree.Goals as goal
+use Rattle.p3_dft_tests.proofs.transform.matrices_agree.Goals as goal
 
 pub dft_batch-requires-clause-within_two_adicity : goal.dft_batch-requires-clause-within_two_adicity
 dft_batch-requires-clause-within_two_adicity g c =
