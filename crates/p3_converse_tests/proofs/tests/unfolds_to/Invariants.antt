@@ -1,5 +1,5 @@
 use Rattle.std.proofs.Common.{◌≡◌, All, vec_len}
-use Rattle.p3_converse.proofs.unfolding.tests.unfolds_to.Given as goal
+use Rattle.p3_converse_tests.proofs.tests.unfolds_to.Given as goal
 
 abbrev pub invariant-loop-poly : goal.invariant-loop-poly
 invariant-loop-poly g l = record {

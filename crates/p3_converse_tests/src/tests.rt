@@ -3,8 +3,8 @@
 ghost use Rattle.std.specs.Prelude.{◌≡◌, ◌+◌, ◌*◌, ◌^◌, ◌<◌, ◌≤◌, IsTrue, IfOk, length, vec_len};
 ghost use Rattle.algebra.specs.Interpolation.{AreDistinct};
 
-use super::unfold;
-use crate::laws::lifted_roots_law;
+use p3_converse::laws::lifted_roots_law;
+use p3_converse::unfold;
 use p3_field::{BabyBear, BabyBear4, ExtensionField, Field, TwoAdicField, reverse_bits_len};
 use p3_fri_core::{FriFoldingStrategy, TwoAdicFriFolding};
 use std::alloc::{AllocError, Global};
@@ -98,8 +98,9 @@ fn value<EF: Field>(coefficients: &[EF], x: EF) -> EF {
     value
 }
 
-/// The first four coefficients of the polynomial whose word of log height 3 are the eight values: since the eighth
-/// power of each point `x` is one, coefficient `m` is an eighth of the sum of the values times `x^(8 - m)`.
+/// The first four coefficients of the polynomial whose word of log height 3 are the eight values:
+/// since the eighth power of each point `x` is one, coefficient `m` is an eighth of the sum of
+/// the values times `x^(8 - m)`.
 fn four_coefficients<F: TwoAdicField, EF: ExtensionField<F>>(
     alloc: Global,
     values: &[EF],
@@ -140,7 +141,8 @@ fn eight_folds<F: TwoAdicField, EF: ExtensionField<F>>(
     Ok(folds)
 }
 
-/// Whether the polynomial of eight coefficients comes back from the folds, at two betas, of its word.
+/// Whether the polynomial of eight coefficients comes back from the folds, at two betas, of its
+/// word.
 fn comes_back<F: TwoAdicField, EF: ExtensionField<F>>(
     alloc: Global,
     coefficients: &[EF],
