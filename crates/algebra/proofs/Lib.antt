@@ -18,3 +18,6 @@ pub mod Products
 pub mod Blocks
 pub mod Words
 pub mod Sums
+pub mod Lifting
+pub mod CosetWords
+pub mod Quotients

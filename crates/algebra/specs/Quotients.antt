@@ -1,0 +1,29 @@
+-- Quotients of opened columns, and batches by powers of one element.
+use Rattle.std.specs.Prelude.{ℕ, List, [], ◌∷◌, map, flat_map, slice_index_or}
+use Rattle.algebra.specs.Field.{FieldOps, sub}
+use Rattle.algebra.specs.Polynomial.{val, tabulate}
+
+module _ {A : Type 0} (F : FieldOps A) where
+  -- `(y - v) / (z - x)` for each value `y` at `z` and the value `v` at `x` beside it, as far as both go
+  abbrev pub quotients : (z x : A) (ys vs : List A) → List A
+  quotients z x [] vs = []
+  quotients z x (y ∷ ys) [] = []
+  quotients z x (y ∷ ys) (v ∷ vs) = F.mul (sub F y v) (F.inv (sub F z x)) ∷ quotients z x ys vs
+
+  -- the batch of words of `n` entries: place by place, the `t`-th word's entry times `alpha^t`, together
+  abbrev pub batch : (n : ℕ) (alpha : A) (words : List (List A)) → List A
+  batch n alpha words = tabulate n (λ i. val F (map (λ ys. slice_index_or ys i F.zero) words) alpha)
+
+-- a matrix, by the polynomials of its columns, and the points at which it is opened
+pub record Opened (A E : Type 0) : Type 0 where
+  pub columns : List (List A)
+  pub points : List E
+
+module _ {A E : Type 0} (F : FieldOps A) (K : FieldOps E) (lift : A → E) where
+  -- the columns' values at `z`
+  abbrev pub values_at : (columns : List (List A)) (z : E) → List E
+  values_at columns z = map (λ c. val K (map lift c) z) columns
+
+  -- their quotients at `x`, a point of the base field, point by point
+  abbrev pub opened_quotients : (x : A) → Opened A E → List E
+  opened_quotients x m = flat_map (λ z. quotients K z (lift x) (values_at m.columns z) (map (λ c. lift (val F c x)) m.columns)) m.points
