@@ -21,3 +21,4 @@ pub mod Sums
 pub mod Lifting
 pub mod CosetWords
 pub mod Quotients
+pub mod Batches

@@ -1,7 +1,8 @@
 -- Quotients of opened columns, and batches by powers of one element.
-use Rattle.std.specs.Prelude.{ℕ, List, [], ◌∷◌, map, flat_map, slice_index_or}
+use Rattle.std.specs.Prelude.{◌≡◌, ℕ, ◌^◌, List, [], ◌∷◌, length, map, flat_map, slice_index_or, All}
 use Rattle.algebra.specs.Field.{FieldOps, sub}
 use Rattle.algebra.specs.Polynomial.{val, tabulate}
+use Rattle.algebra.specs.Cosets.{coset_pt, IsOffCoset}
 
 module _ {A : Type 0} (F : FieldOps A) where
   -- `(y - v) / (z - x)` for each value `y` at `z` and the value `v` at `x` beside it, as far as both go
@@ -24,6 +25,22 @@ module _ {A E : Type 0} (F : FieldOps A) (K : FieldOps E) (lift : A → E) where
   abbrev pub values_at : (columns : List (List A)) (z : E) → List E
   values_at columns z = map (λ c. val K (map lift c) z) columns
 
-  -- their quotients at `x`, a point of the base field, point by point
+  -- the columns' entries at the point `x` of the base field
+  abbrev pub row_at : (columns : List (List A)) (x : A) → List E
+  row_at columns x = map (λ c. lift (val F c x)) columns
+
+  -- a matrix's quotients at `x`, point by point
   abbrev pub opened_quotients : (x : A) → Opened A E → List E
-  opened_quotients x m = flat_map (λ z. quotients K z (lift x) (values_at m.columns z) (map (λ c. lift (val F c x)) m.columns)) m.points
+  opened_quotients x m =
+      flat_map (λ z. quotients K z (lift x) (values_at m.columns z) (row_at m.columns x)) m.points
+
+  module _ (w : ℕ → A) (shift : A) (k : ℕ) where
+    -- the columns have degrees below `d`, and no point lies on the coset
+    pub record IsOpenedOff (d : ℕ) (m : Opened A E) : Type 0 where
+      pub degrees : All (λ c. length c ≡ d) m.columns
+      pub off : All (λ z. IsOffCoset K (λ j. lift (w j)) (lift shift) k z) m.points
+
+    -- the word of the matrices' quotients, by powers of `alpha` that go on from one matrix to the next
+    abbrev pub quotient_word : (alpha : E) (ms : List (Opened A E)) → List E
+    quotient_word alpha ms =
+        tabulate (2 ^ k) (λ i. val K (flat_map (opened_quotients (coset_pt F w shift i k)) ms) alpha)
