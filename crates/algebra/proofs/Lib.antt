@@ -22,3 +22,4 @@ pub mod Lifting
 pub mod CosetWords
 pub mod Quotients
 pub mod Batches
+pub mod PointTest
