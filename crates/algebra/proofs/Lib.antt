@@ -23,3 +23,4 @@ pub mod CosetWords
 pub mod Quotients
 pub mod Batches
 pub mod PointTest
+pub mod Barycentric

@@ -10,4 +10,5 @@ pub mod Products
 pub mod Words
 pub mod Cosets
 pub mod Quotients
+pub mod Barycentric
 pub mod Laws
