@@ -20,7 +20,7 @@ use Rattle.algebra.proofs.Sums.{sum_below-factor, sum_below-add}
 use Rattle.algebra.proofs.Points.{point-square, point-opposite, lifted_roots}
 use Rattle.algebra.proofs.PointTest.{coset_power, power_of_quotient}
 use Rattle.algebra.proofs.CosetWords.{length-stretched}
-use Rattle.algebra.proofs.Lifting.{homomorphism-nonzero, lifted_coset_pt, lifted_value}
+use Rattle.algebra.proofs.Lifting.{homomorphism-nonzero, lifted_coset_pt, lifted_value, lifted_off_coset}
 use Rattle.algebra.proofs.Words.{point-restrict}
 use Rattle.algebra.proofs.Lists.{get_or-tabulate}
 
@@ -164,7 +164,7 @@ module _ {A : Type 0} (F : FieldOps A) (L : IsField F) where
           ∙ sum_of_coset_values (𝟘 ∷ q) e
           ∙ ring F L.ring 1 (λ n. n :* (:1 :* o) := o) refl (multiple F (2 ^ k))
 
-      module _ (off : IsOffCoset F w shift k z) where
+      module _ (off : IsOffCoset F (λ x. x) w shift k z) where
         unit : (i : ℕ) → i < 2 ^ k → (z ⊖ x i) ⊗ inv (z ⊖ x i) ≡ 𝟙
         unfolding x
         unit i l = L.mul_inv (z ⊖ x i) (λ e. off i l (sym (sub-eq F L.ring e)))
@@ -253,7 +253,7 @@ module _ {A E : Type 0} (F : FieldOps A) (K : FieldOps E) (lift : A → E) (L : 
     (H : IsHomomorphism F K lift) (top : ℕ) (w : ℕ → A) (W : AreRoots F top w) where
   -- from the values of a polynomial of the base field: the first of a longer word are enough
   pub barycentric_value : (shift : A) → shift ≢ F.zero → (k m : ℕ) → k + m ≤ top → (c : List A) → length c ≤ 2 ^ k
-      → (z : E) → IsOffCoset K (λ j. lift (w j)) (lift shift) k z
+      → (z : E) → IsOffCoset F lift w shift k z
       → barycentric F K lift w shift k (coset_word F w shift (k + m) c) z ≡ val K (map lift c) z
   barycentric_value shift nonzero k m b c n z off =
       ap (λ s. K.mul (barycentric_factor F K lift w shift k z) s)
@@ -264,7 +264,8 @@ module _ {A E : Type 0} (F : FieldOps A) (K : FieldOps E) (lift : A → E) (L : 
       (ap lift (entry i l)
       ∙ lifted_value F K lift L.ring M.ring H w c shift i k
       ∙ sym (val-padded K M.ring (map lift c) (2 ^ k - length c) (x i)))))
-      ∙ value_from_weights K M top (λ j. lift (w j)) (lifted_roots F K lift L M H top w W) (lift shift) z k (omega (arith, b)) off
+      ∙ value_from_weights K M top (λ j. lift (w j)) (lifted_roots F K lift L M H top w W) (lift shift) z k (omega (arith, b))
+      (lifted_off_coset F K lift H w shift k z off)
       (homomorphism-nonzero F K lift L M H shift nonzero) padded
       (length-append (map lift c) (replicate (2 ^ k - length c) K.zero)
       ∙ ap₂ (λ i j. i + j) (length-map c lift) (length-replicate (2 ^ k - length c) K.zero)

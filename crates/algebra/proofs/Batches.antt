@@ -9,7 +9,7 @@ use Rattle.algebra.specs.Quotients.{quotients, batch, Opened, values_at, row_at,
 use Rattle.algebra.proofs.Powers.{pow-add}
 use Rattle.algebra.proofs.Division.{length-quotient}
 use Rattle.algebra.proofs.Values.{add_lists, length-add_lists, val-nil, val-cons, val-add, val-scale, val-padded}
-use Rattle.algebra.proofs.Lifting.{lifted_coset_pt, lifted_value}
+use Rattle.algebra.proofs.Lifting.{lifted_coset_pt, lifted_value, lifted_off_coset}
 use Rattle.algebra.proofs.CosetWords.{coset_word-degree}
 use Rattle.algebra.proofs.Quotients.{quotient_values}
 use Rattle.algebra.proofs.Lists.{Each, each_from_All, get_or-tabulate, tabulate-equal}
@@ -116,7 +116,7 @@ module _ {A E : Type 0} (F : FieldOps A) (K : FieldOps E) (lift : A → E) (L : 
       each-append (λ q. length q ≡ pred d) (column_quotients F K lift cs z) (point_quotients F K lift cs zs)
       (columns-length cs z h) (points-length cs zs h)
 
-  matrices-length : (ms : List (Opened A E)) → Each (IsOpenedOff F K lift w shift k d) ms
+  matrices-length : (ms : List (Opened A E)) → Each (IsOpenedOff F lift w shift k d) ms
       → Each (λ q. length q ≡ pred d) (quotient_polynomials F K lift ms)
   matrices-length [] h = tt
   matrices-length (m ∷ ms) h =
@@ -154,29 +154,33 @@ module _ {A E : Type 0} (F : FieldOps A) (K : FieldOps E) (lift : A → E) (L : 
       ∙ quotient_values K M (map (λ c. map lift c) cs) z (x i) n
       ∙ composed (map (λ c. map lift c) cs) z (x i)
 
+  away : (z : E) (i : ℕ) → i < 2 ^ k → IsOffCoset F lift w shift k z → x i ≢ z
+  unfolding x
+  away z i l off = lifted_off_coset F K lift H w shift k z off i l
+
   point-terms : (cs : List (List A)) (zs : List E) (i : ℕ) → i < 2 ^ k
-      → Each (λ z. IsOffCoset K (λ j. lift (w j)) (lift shift) k z) zs
+      → Each (λ z. IsOffCoset F lift w shift k z) zs
       → opened_quotients F K lift (coset_pt F w shift i k) (record { columns = cs; points = zs })
           ≡ map (λ q. val K q (x i)) (point_quotients F K lift cs zs)
   unfolding x
   point-terms cs [] i l h = refl
   point-terms cs (z ∷ zs) i l h =
-      ap₂ (λ ts us. ts ++ us) (column-terms cs z i (h.0 i l)) (point-terms cs zs i l h.1)
+      ap₂ (λ ts us. ts ++ us) (column-terms cs z i (away z i l h.0)) (point-terms cs zs i l h.1)
       ∙ sym (map-append (λ q. val K q (x i)) (column_quotients F K lift cs z) (point_quotients F K lift cs zs))
 
-  matrix-terms : (ms : List (Opened A E)) (i : ℕ) → i < 2 ^ k → Each (IsOpenedOff F K lift w shift k d) ms
+  matrix-terms : (ms : List (Opened A E)) (i : ℕ) → i < 2 ^ k → Each (IsOpenedOff F lift w shift k d) ms
       → flat_map (opened_quotients F K lift (coset_pt F w shift i k)) ms
           ≡ map (λ q. val K q (x i)) (quotient_polynomials F K lift ms)
   matrix-terms [] i l h = refl
   matrix-terms (m ∷ ms) i l h =
       ap₂ (λ ts us. ts ++ us)
       (point-terms m.columns m.points i l
-      (each_from_All (λ z. IsOffCoset K (λ j. lift (w j)) (lift shift) k z) m.points h.0.off))
+      (each_from_All (λ z. IsOffCoset F lift w shift k z) m.points h.0.off))
       (matrix-terms ms i l h.1)
       ∙ sym (map-append (λ q. val K q (x i)) (point_quotients F K lift m.columns m.points) (quotient_polynomials F K lift ms))
 
   -- the quotients of matrices opened off the coset, in one batch, are a word whose degree is one less
-  pub quotient_word_below : (alpha : E) (ms : List (Opened A E)) → Each (IsOpenedOff F K lift w shift k d) ms
+  pub quotient_word_below : (alpha : E) (ms : List (Opened A E)) → Each (IsOpenedOff F lift w shift k d) ms
       → IsCosetWord K (λ j. lift (w j)) (lift shift) k (pred d) (quotient_word F K lift w shift k alpha ms)
   unfolding x
   quotient_word_below alpha ms h =

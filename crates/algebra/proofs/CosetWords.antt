@@ -8,7 +8,7 @@ use Rattle.algebra.specs.Cosets.{coset_pt}
 use Rattle.algebra.specs.Words.{word, coset_word, IsWord, IsCosetWord}
 use Rattle.algebra.proofs.Ring.{◌:*◌, ◌:=◌, ring}
 use Rattle.algebra.proofs.RingLaws.{one_mul}
-use Rattle.algebra.proofs.Values.{stretched, val-stretched, val-padded}
+use Rattle.algebra.proofs.Values.{stretched, val-nil, val-stretched, val-padded}
 use Rattle.algebra.proofs.Words.{coset_word-restrict}
 use Rattle.algebra.proofs.Lists.{tabulate-equal}
 
@@ -47,6 +47,15 @@ module _ {A : Type 0} (F : FieldOps A) (R : IsRing F) (w : ℕ → A) where
         (λ i. val F (y.polynomial ++ replicate (e - d) F.zero) (coset_pt F w shift i k))
         (λ i _. sym (val-padded F R y.polynomial (e - d) (coset_pt F w shift i k)));
   }
+
+  -- of a degree below zero it is zero
+  pub coset_word-none : (shift : A) (k : ℕ) (ys : List A) → IsCosetWord F w shift k 0 ys
+      → ys ≡ tabulate (2 ^ k) (λ i. F.zero)
+  coset_word-none shift k ys y = y.values ∙ zeros y.polynomial y.degree
+    where
+      zeros : (c : List A) → length c ≡ 0 → coset_word F w shift k c ≡ tabulate (2 ^ k) (λ i. F.zero)
+      zeros [] e = tabulate-equal (2 ^ k) (λ i. val F [] (coset_pt F w shift i k)) (λ i. F.zero) (λ i _. val-nil F R (coset_pt F w shift i k))
+      zeros (c ∷ cs) e = absurd (omega (arith, e))
 
 module _ {A : Type 0} (F : FieldOps A) (L : IsField F) (w : ℕ → A) where
   open F use {one as 𝟙, mul as ◌⊗◌, inv}

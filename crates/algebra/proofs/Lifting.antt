@@ -5,7 +5,7 @@ use Rattle.algebra.specs.Field.{FieldOps, IsRing, IsField, IsHomomorphism, sub, 
 use Rattle.algebra.specs.Polynomial.{val, tabulate}
 use Rattle.algebra.specs.Digits.{rev}
 use Rattle.algebra.specs.TwoAdic.{pt}
-use Rattle.algebra.specs.Cosets.{coset_pt}
+use Rattle.algebra.specs.Cosets.{coset_pt, IsOffCoset}
 use Rattle.algebra.specs.Words.{word, coset_word, IsWord, IsCosetWord}
 use Rattle.algebra.proofs.RingLaws.{neg_unique, zero_mul}
 use Rattle.algebra.proofs.Combine.{sub-eq}
@@ -62,6 +62,11 @@ module _ {A E : Type 0} (F : FieldOps A) (K : FieldOps E) (h : A → E) (H : IsH
   pub lifted_coset_pt : (shift : A) (i k : ℕ)
       → h (coset_pt F w shift i k) ≡ coset_pt K (λ j. h (w j)) (h shift) i k
   lifted_coset_pt shift i k = H.mul shift (pt F w i k) ∙ ap (λ x. K.mul (h shift) x) (lifted_pt i k)
+
+  -- a point off the coset is off the coset of the images
+  pub lifted_off_coset : (shift : A) (k : ℕ) (z : E) → IsOffCoset F h w shift k z
+      → IsOffCoset K (λ x. x) (λ j. h (w j)) (h shift) k z
+  lifted_off_coset shift k z off = λ i l e. off i l (lifted_coset_pt shift i k ∙ e)
 
 module _ {A E : Type 0} (F : FieldOps A) (K : FieldOps E) (h : A → E) (R : IsRing F) (S : IsRing K)
     (H : IsHomomorphism F K h) (w : ℕ → A) where

@@ -1,15 +1,17 @@
 -- Which points lie on a coset: those whose `2^k`-th power is the shift's. So disjoint cosets, and vanishing polynomials.
-use Rattle.std.proofs.Common.{◌≡◌, ◌≢◌, ℕ, zero, suc, ◌+◌, ◌-◌, ◌^◌, ◌<◌, ◌≤◌, refl, sym, ap, ap₂, ◌∙◌, arith}
+use Rattle.std.proofs.Common.{◌≡◌, ◌≢◌, ℕ, zero, suc, ◌+◌, ◌-◌, ◌^◌, ◌<◌, ◌≤◌, ◌↔◌, refl, sym, ap, ap₂, ◌∙◌, arith}
 use Rattle.std.proofs.Math.Nat.{pow-le-pow_right}
 use Rattle.algebra.specs.Field.{FieldOps, IsField, IsHomomorphism, sub, pow}
 use Rattle.algebra.specs.TwoAdic.{AreRoots, pt}
 use Rattle.algebra.specs.Cosets.{coset_pt, IsOnCoset, IsOffCoset, vanishing}
+use Rattle.algebra.specs.CosetLaws.{IsTested, AreApart}
 use Rattle.algebra.proofs.Ring.{◌:+◌, ◌:*◌, ◌:-◌, ◌:=◌, ring, minus, :1, o}
 use Rattle.algebra.proofs.RingLaws.{neg_unique, one_mul}
 use Rattle.algebra.proofs.Combine.{combine2, sub-eq, sub-self, cancel_zero}
-use Rattle.algebra.proofs.Powers.{double, pow-zero, pow-one, pow-times, pow-square, pow-one_base}
+use Rattle.algebra.proofs.Powers.{double, pow-zero, pow-one, pow-times, pow-square, pow-one_base, homomorphism-pow}
 use Rattle.algebra.proofs.Digits.{rev-zero}
-use Rattle.algebra.proofs.Points.{point-full_turn, point-square, point-opposite}
+use Rattle.algebra.proofs.Points.{point-full_turn, point-square, point-opposite, lifted_roots}
+use Rattle.algebra.proofs.Lifting.{identity_homomorphism, homomorphism-nonzero, lifted_coset_pt}
 use Rattle.algebra.proofs.Words.{point-restrict}
 
 module _ {A : Type 0} (F : FieldOps A) (L : IsField F) where
@@ -86,39 +88,15 @@ module _ {A : Type 0} (F : FieldOps A) (L : IsField F) where
         ∙ ap (λ p. pow F shift (2 ^ k) ⊗ p) (point-full_turn F L top w W i k b)
         ∙ L.mul_one (pow F shift (2 ^ k))
 
-    pub power_on_coset : (shift : A) (k : ℕ) (z : A) → k ≤ top → IsOnCoset F w shift k z
-        → pow F z (2 ^ k) ≡ pow F shift (2 ^ k)
-    power_on_coset shift k z b h = ap (λ x. pow F x (2 ^ k)) (sym h.2) ∙ coset_power shift h.0 k b
-
     -- and no other points have it
-    pub on_coset_from_power : (shift : A) → shift ≢ 𝟘 → (k : ℕ) (z : A) → k ≤ top
-        → pow F z (2 ^ k) ≡ pow F shift (2 ^ k) → IsOnCoset F w shift k z
-    on_coset_from_power shift n k z b e =
+    pub point_from_power : (shift : A) → shift ≢ 𝟘 → (k : ℕ) (z : A) → k ≤ top
+        → pow F z (2 ^ k) ≡ pow F shift (2 ^ k) → (i : ℕ) × (i < 2 ^ k) × (coset_pt F w shift i k ≡ z)
+    point_from_power shift n k z b e =
         let h = turn_is_point k (z ⊗ inv shift) b (sub-eq F L.ring (vanishing_where_powers_agree shift z k n e)) in
         (h.0, h.1, ap (λ p. shift ⊗ p) h.2
         ∙ ring F L.ring 3 (λ s z i. s :* (z :* i) := s :* i :* z) refl shift z (inv shift)
         ∙ ap (λ u. u ⊗ z) (L.mul_inv shift n)
         ∙ one_mul F L.ring z)
-
-    pub off_coset_from_power : (shift : A) (k : ℕ) (z : A) → k ≤ top → pow F z (2 ^ k) ≢ pow F shift (2 ^ k)
-        → IsOffCoset F w shift k z
-    off_coset_from_power shift k z b n = λ i l e. n (power_on_coset shift k z b (i, l, e))
-
-    -- the coset of a smaller size is a part
-    pub off_smaller_coset : (shift : A) (j m : ℕ) (z : A) → j + m ≤ top → IsOffCoset F w shift (j + m) z
-        → IsOffCoset F w shift j z
-    off_smaller_coset shift j m z b off = λ i l e.
-        off i (below i l) (ap (λ x. shift ⊗ x) (point-restrict F L top w W i j m l b) ∙ e)
-      where
-        below : (i : ℕ) → i < 2 ^ j → i < 2 ^ (j + m)
-        below i l =
-            let more : 2 ^ j ≤ 2 ^ (j + m) = pow-le-pow_right {n = 2} (omega arith) {i = j} {j = j + m} (omega arith) in
-            omega (arith, l, more)
-
-    -- off it, no difference is zero
-    pub off_coset_difference : (shift : A) (k : ℕ) (z : A) → IsOffCoset F w shift k z
-        → (i : ℕ) → i < 2 ^ k → sub F z (coset_pt F w shift i k) ≢ 𝟘
-    off_coset_difference shift k z off i l e = off i l (sym (sub-eq F L.ring e))
 
     -- a vanishing polynomial is one constant on another coset of the size
     pub vanishing_on_coset : (s t : A) (i k : ℕ) → k ≤ top → vanishing F s k (coset_pt F w t i k) ≡ vanishing F s k t
@@ -128,10 +106,71 @@ module _ {A : Type 0} (F : FieldOps A) (L : IsField F) where
         ∙ ap (λ p. p ⊗ pow F (inv s) (2 ^ k)) (coset_power t i k b)
         ∙ pow-times F L.ring t (inv s) (2 ^ k))
 
-    -- so cosets whose shifts' quotient isn't a root of that order have no point in common
-    pub disjoint_cosets : (s t : A) → s ≢ 𝟘 → (k : ℕ) → k ≤ top → pow F (t ⊗ inv s) (2 ^ k) ≢ 𝟙
-        → (i : ℕ) → IsOffCoset F w s k (coset_pt F w t i k)
-    disjoint_cosets s t n k b other i =
-        off_coset_from_power s k (coset_pt F w t i k) b
-        (λ e. vanishing_nonzero s t k other
-        (sym (vanishing_on_coset s t i k b) ∙ vanishing_where_powers_agree s (coset_pt F w t i k) k n e))
+-- the test, for points of an extension
+module _ {A E : Type 0} (F : FieldOps A) (K : FieldOps E) (lift : A → E) (L : IsField F) (M : IsField K)
+    (H : IsHomomorphism F K lift) (top : ℕ) (w : ℕ → A) (W : AreRoots F top w) (shift : A) where
+  pub power_on_coset : (k : ℕ) (z : E) → k ≤ top → IsOnCoset F lift w shift k z
+      → pow K z (2 ^ k) ≡ lift (pow F shift (2 ^ k))
+  power_on_coset k z b h =
+      ap (λ x. pow K x (2 ^ k)) (sym h.2)
+      ∙ sym (homomorphism-pow F K lift H (coset_pt F w shift h.0 k) (2 ^ k))
+      ∙ ap lift (coset_power F L top w W shift h.0 k b)
+
+  pub on_coset_from_power : shift ≢ F.zero → (k : ℕ) (z : E) → k ≤ top
+      → pow K z (2 ^ k) ≡ lift (pow F shift (2 ^ k)) → IsOnCoset F lift w shift k z
+  on_coset_from_power n k z b e =
+      let h = point_from_power K M top (λ j. lift (w j)) (lifted_roots F K lift L M H top w W) (lift shift) (homomorphism-nonzero F K lift L M H shift n) k z b (e ∙ homomorphism-pow F K lift H shift (2 ^ k)) in
+      (h.0, h.1, lifted_coset_pt F K lift H w shift h.0 k ∙ h.2)
+
+  pub off_coset_from_power : (k : ℕ) (z : E) → k ≤ top → pow K z (2 ^ k) ≢ lift (pow F shift (2 ^ k))
+      → IsOffCoset F lift w shift k z
+  off_coset_from_power k z b n = λ i l e. n (power_on_coset k z b (i, l, e))
+
+  -- the coset of a smaller size is a part
+  pub off_smaller_coset : (j k : ℕ) (z : E) → j ≤ k → k ≤ top → IsOffCoset F lift w shift k z
+      → IsOffCoset F lift w shift j z
+  off_smaller_coset j k z s b off = λ i l e.
+      off i (below i l)
+      (ap (λ n. lift (coset_pt F w shift i n)) (let sum : k ≡ j + (k - j) = omega (arith, s) in sum)
+      ∙ ap (λ x. lift (F.mul shift x)) (point-restrict F L top w W i j (k - j) l (omega (arith, s, b)))
+      ∙ e)
+    where
+      below : (i : ℕ) → i < 2 ^ j → i < 2 ^ k
+      below i l =
+          let more : 2 ^ j ≤ 2 ^ k = pow-le-pow_right {n = 2} (omega arith) {i = j} {j = k} s in
+          omega (arith, l, more)
+
+  -- off it, no difference is zero
+  pub off_coset_difference : (k : ℕ) (z : E) → IsOffCoset F lift w shift k z
+      → (i : ℕ) → i < 2 ^ k → sub K z (lift (coset_pt F w shift i k)) ≢ K.zero
+  off_coset_difference k z off i l e = off i l (sym (sub-eq K M.ring e))
+
+  pub point_test : shift ≢ F.zero → (k : ℕ) → k ≤ top → (z : E) → IsTested F K lift w shift k z
+  point_test n k b z = record {
+    point = (on_coset_from_power n k z b, power_on_coset k z b);
+    differences = λ other j i s l.
+        off_coset_difference j z (off_smaller_coset j k z s b (off_coset_from_power k z b other)) i l;
+  }
+
+module _ {A : Type 0} (F : FieldOps A) (L : IsField F) (top : ℕ) (w : ℕ → A) (W : AreRoots F top w) where
+  pub vanishing_exactly : (shift : A) → shift ≢ F.zero → (k : ℕ) → k ≤ top → (x : A)
+      → (vanishing F shift k x ≡ F.zero) ↔ IsOnCoset F (λ y. y) w shift k x
+  vanishing_exactly shift n k b x = (
+    λ e. point_from_power F L top w W shift n k x b (powers_agree_where_vanishing F L shift x k n e),
+    λ h. vanishing_where_powers_agree F L shift x k n (power_on_coset F F (λ y. y) L L (identity_homomorphism F) top w W shift k x b h),
+  )
+
+  -- cosets whose shifts' quotient isn't a root of unity of that order have no point in common
+  pub cosets_apart : (s t : A) → s ≢ F.zero → (k : ℕ) → k ≤ top → pow F (F.mul t (F.inv s)) (2 ^ k) ≢ F.one
+      → AreApart F w s t k
+  cosets_apart s t n k b other = record {
+    disjoint = λ i j l e.
+        vanishing_nonzero F L s t k other
+        (sym (vanishing_on_coset F L top w W s t i k b)
+        ∙ proof_of_zero (coset_pt F w t i k) (j, l, e));
+    constant = λ i. vanishing_on_coset F L top w W s t i k b;
+    nonzero = vanishing_nonzero F L s t k other;
+  }
+    where
+      proof_of_zero : (x : A) → IsOnCoset F (λ y. y) w s k x → vanishing F s k x ≡ F.zero
+      proof_of_zero x h = let is = vanishing_exactly s n k b x in is.1 h

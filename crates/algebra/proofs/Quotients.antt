@@ -10,7 +10,7 @@ use Rattle.algebra.proofs.Ring.{◌:+◌, ◌:*◌, ◌:-◌, ◌:=◌, ring, o,
 use Rattle.algebra.proofs.Combine.{combine, sub-eq}
 use Rattle.algebra.proofs.Division.{divide, length-quotient}
 use Rattle.algebra.proofs.Values.{val-nil, val-cons, val-append, homomorphism-val}
-use Rattle.algebra.proofs.Lifting.{lifted_coset_pt, lifted_value}
+use Rattle.algebra.proofs.Lifting.{lifted_coset_pt, lifted_value, lifted_off_coset}
 use Rattle.algebra.proofs.Lists.{Each, get_or-tabulate, tabulate-equal}
 
 module _ {A : Type 0} (F : FieldOps A) (L : IsField F) where
@@ -59,7 +59,7 @@ module _ {A : Type 0} (F : FieldOps A) (L : IsField F) where
       ∙ ap (λ v. val F ts alpha ⊕ pow F alpha (length ts) ⊗ v) (quotients_compressed z x alpha ys vs e)
 
   module _ (w : ℕ → A) (shift : A) (k : ℕ) where
-    pub coset_word-quotient : (c : List A) (z : A) → IsOffCoset F w shift k z
+    pub coset_word-quotient : (c : List A) (z : A) → IsOffCoset F (λ x. x) w shift k z
         → tabulate (2 ^ k) (λ i. (val F c z ⊖ val F c (coset_pt F w shift i k)) ⊗ inv (z ⊖ coset_pt F w shift i k))
             ≡ coset_word F w shift k (quotient F c z)
     coset_word-quotient c z off =
@@ -75,7 +75,7 @@ module _ {A E : Type 0} (F : FieldOps A) (K : FieldOps E) (lift : A → E) (L : 
 
   -- the quotients of a word over the base field by a point of the extension
   pub quotient_coset_word : (d : ℕ) (ys : List A) (y : IsCosetWord F w shift k d ys) (z : E)
-      → IsOffCoset K (λ j. lift (w j)) (lift shift) k z
+      → IsOffCoset F lift w shift k z
       → IsCosetWord K (λ j. lift (w j)) (lift shift) k (pred d)
       (tabulate (2 ^ k) (λ i. K.mul (sub K (val K (map lift y.polynomial) z) (lift (get_or ys i F.zero)))
       (K.inv (sub K z (lift (coset_pt F w shift i k))))))
@@ -93,5 +93,5 @@ module _ {A E : Type 0} (F : FieldOps A) (K : FieldOps E) (lift : A → E) (L : 
             ∙ ap lift (get_or-tabulate (2 ^ k) (λ j. val F y.polynomial (coset_pt F w shift j k)) i F.zero l)
             ∙ lifted_value F K lift L.ring M.ring H w y.polynomial shift i k)
             (lifted_coset_pt F K lift H w shift i k))
-            ∙ coset_word-quotient K M roots (lift shift) k c z off;
+            ∙ coset_word-quotient K M roots (lift shift) k c z (lifted_off_coset F K lift H w shift k z off);
       }

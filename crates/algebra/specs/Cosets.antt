@@ -8,14 +8,15 @@ module _ {A : Type 0} (F : FieldOps A) where
   abbrev pub coset_pt : (w : ℕ → A) (shift : A) (i k : ℕ) → A
   coset_pt w shift i k = F.mul shift (pt F w i k)
 
-  -- `z` is one of its points
-  abbrev pub IsOnCoset : (w : ℕ → A) (shift : A) (k : ℕ) (z : A) → Type 0
-  IsOnCoset w shift k z = (i : ℕ) × (i < 2 ^ k) × (coset_pt w shift i k ≡ z)
-
-  -- `z` is none of its points
-  abbrev pub IsOffCoset : (w : ℕ → A) (shift : A) (k : ℕ) (z : A) → Type 0
-  IsOffCoset w shift k z = (i : ℕ) → i < 2 ^ k → coset_pt w shift i k ≢ z
-
   -- the value at `x` of the polynomial `(X / shift)^(2^k) - 1`
   abbrev pub vanishing : (shift : A) (k : ℕ) (x : A) → A
   vanishing shift k x = sub F (pow F (F.mul x (F.inv shift)) (2 ^ k)) F.one
+
+module _ {A E : Type 0} (F : FieldOps A) (lift : A → E) (w : ℕ → A) (shift : A) (k : ℕ) where
+  -- `z` is one of the coset's points, in an extension of the field
+  abbrev pub IsOnCoset : (z : E) → Type 0
+  IsOnCoset z = (i : ℕ) × (i < 2 ^ k) × (lift (coset_pt F w shift i k) ≡ z)
+
+  -- `z` is none of them
+  abbrev pub IsOffCoset : (z : E) → Type 0
+  IsOffCoset z = (i : ℕ) → i < 2 ^ k → lift (coset_pt F w shift i k) ≢ z

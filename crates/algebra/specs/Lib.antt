@@ -12,3 +12,4 @@ pub mod Cosets
 pub mod Quotients
 pub mod Barycentric
 pub mod Laws
+pub mod CosetLaws

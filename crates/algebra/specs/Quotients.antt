@@ -20,6 +20,12 @@ pub record Opened (A E : Type 0) : Type 0 where
   pub columns : List (List A)
   pub points : List E
 
+-- its columns have degrees below `d`, and none of its points lies on the coset
+pub record IsOpenedOff {A E : Type 0} (F : FieldOps A) (lift : A → E) (w : ℕ → A) (shift : A) (k d : ℕ) (m : Opened A E)
+    : Type 0 where
+  pub degrees : All (λ c. length c ≡ d) m.columns
+  pub off : All (λ z. IsOffCoset F lift w shift k z) m.points
+
 module _ {A E : Type 0} (F : FieldOps A) (K : FieldOps E) (lift : A → E) where
   -- the columns' values at `z`
   abbrev pub values_at : (columns : List (List A)) (z : E) → List E
@@ -34,13 +40,7 @@ module _ {A E : Type 0} (F : FieldOps A) (K : FieldOps E) (lift : A → E) where
   opened_quotients x m =
       flat_map (λ z. quotients K z (lift x) (values_at m.columns z) (row_at m.columns x)) m.points
 
-  module _ (w : ℕ → A) (shift : A) (k : ℕ) where
-    -- the columns have degrees below `d`, and no point lies on the coset
-    pub record IsOpenedOff (d : ℕ) (m : Opened A E) : Type 0 where
-      pub degrees : All (λ c. length c ≡ d) m.columns
-      pub off : All (λ z. IsOffCoset K (λ j. lift (w j)) (lift shift) k z) m.points
-
-    -- the word of the matrices' quotients, by powers of `alpha` that go on from one matrix to the next
-    abbrev pub quotient_word : (alpha : E) (ms : List (Opened A E)) → List E
-    quotient_word alpha ms =
-        tabulate (2 ^ k) (λ i. val K (flat_map (opened_quotients (coset_pt F w shift i k)) ms) alpha)
+  -- the word of the matrices' quotients over the coset, by powers of `alpha` that go on from one matrix to the next
+  abbrev pub quotient_word : (w : ℕ → A) (shift : A) (k : ℕ) (alpha : E) (ms : List (Opened A E)) → List E
+  quotient_word w shift k alpha ms =
+      tabulate (2 ^ k) (λ i. val K (flat_map (opened_quotients (coset_pt F w shift i k)) ms) alpha)
