@@ -18,3 +18,9 @@ pub mod Products
 pub mod Blocks
 pub mod Words
 pub mod Sums
+pub mod Lifting
+pub mod CosetWords
+pub mod Quotients
+pub mod Batches
+pub mod PointTest
+pub mod Barycentric

@@ -8,4 +8,8 @@ pub mod TwoAdic
 pub mod Primes
 pub mod Products
 pub mod Words
+pub mod Cosets
+pub mod Quotients
+pub mod Barycentric
 pub mod Laws
+pub mod CosetLaws
