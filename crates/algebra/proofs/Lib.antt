@@ -17,4 +17,6 @@ pub mod QuarticProduct
 pub mod Products
 pub mod Blocks
 pub mod Words
+pub mod FoldedWords
+pub mod PairFolds
 pub mod Sums
