@@ -19,4 +19,5 @@ pub mod Blocks
 pub mod Words
 pub mod FoldedWords
 pub mod PairFolds
+pub mod BinaryFolds
 pub mod Sums
