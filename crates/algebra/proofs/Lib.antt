@@ -19,5 +19,6 @@ pub mod Blocks
 pub mod Words
 pub mod FoldedWords
 pub mod PairFolds
+pub mod RowPoints
 pub mod BinaryFolds
 pub mod Sums
