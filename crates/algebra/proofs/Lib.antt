@@ -20,5 +20,6 @@ pub mod Words
 pub mod FoldedWords
 pub mod PairFolds
 pub mod RowPoints
+pub mod Rounds
 pub mod BinaryFolds
 pub mod Sums

@@ -9,4 +9,5 @@ pub mod Primes
 pub mod Products
 pub mod Words
 pub mod Folds
+pub mod Rounds
 pub mod Laws
