@@ -21,5 +21,6 @@ pub mod FoldedWords
 pub mod PairFolds
 pub mod RowPoints
 pub mod Rounds
+pub mod Chains
 pub mod BinaryFolds
 pub mod Sums

@@ -26,17 +26,17 @@ module _ {A : Type 0} (F : FieldOps A) (fold : ℕ → ℕ → ℕ → A → Lis
 
   pub length-after_round : (h : ℕ) (r : Round A) (ys : List A) → length (after_round F fold inputs h r ys) ≡ 2 ^ h
   unfolding after_round
-  length-after_round h r ys = length-tabulate (2 ^ h) (λ i. rolled_in F r (entry_of F (inputs h) i) (folded_entry F fold h r ys i))
+  length-after_round h r ys = length-tabulate (2 ^ h) (λ i. rolled_in F r (entry_of F (inputs h) i) (folded_entry fold h r ys i))
 
   pub after_round-entry : (h : ℕ) (r : Round A) (ys : List A) (i : ℕ) (d : A) → i < 2 ^ h
-      → get_or (after_round F fold inputs h r ys) i d ≡ rolled_in F r (entry_of F (inputs h) i) (folded_entry F fold h r ys i)
+      → get_or (after_round F fold inputs h r ys) i d ≡ rolled_in F r (entry_of F (inputs h) i) (folded_entry fold h r ys i)
   unfolding after_round
-  after_round-entry h r ys i d l = get_or-tabulate (2 ^ h) (λ i. rolled_in F r (entry_of F (inputs h) i) (folded_entry F fold h r ys i)) i d l
+  after_round-entry h r ys i d l = get_or-tabulate (2 ^ h) (λ i. rolled_in F r (entry_of F (inputs h) i) (folded_entry fold h r ys i)) i d l
 
   -- without an input of that log height the word is the folded one
   pub after_round-alone : (h : ℕ) (r : Round A) (ys : List A) → inputs h ≡ None → after_round F fold inputs h r ys ≡ folded_by fold h r.log_arity r.beta ys
   unfolding after_round
-  after_round-alone h r ys e = ap (λ u. tabulate (2 ^ h) (λ i. rolled_in F r (entry_of F u i) (folded_entry F fold h r ys i))) e
+  after_round-alone h r ys e = ap (λ u. tabulate (2 ^ h) (λ i. rolled_in F r (entry_of F u i) (folded_entry fold h r ys i))) e
 
   -- with one, each entry has the input's added, times a power of the challenge
   pub after_round-with : (h : ℕ) (r : Round A) (ys us : List A) → inputs h ≡ Some us
@@ -44,10 +44,10 @@ module _ {A : Type 0} (F : FieldOps A) (fold : ℕ → ℕ → ℕ → A → Lis
       ≡ tabulate (2 ^ h) (λ i. F.add (get_or (folded_by fold h r.log_arity r.beta ys) i 𝟘) (F.mul (pow F r.beta (2 ^ r.log_arity)) (get_or us i 𝟘)))
   unfolding after_round
   after_round-with h r ys us e =
-      ap (λ u. tabulate (2 ^ h) (λ i. rolled_in F r (entry_of F u i) (folded_entry F fold h r ys i))) e
-      ∙ tabulate-equal (2 ^ h) (λ i. F.add (folded_entry F fold h r ys i) (F.mul (pow F r.beta (2 ^ r.log_arity)) (get_or us i 𝟘)))
+      ap (λ u. tabulate (2 ^ h) (λ i. rolled_in F r (entry_of F u i) (folded_entry fold h r ys i))) e
+      ∙ tabulate-equal (2 ^ h) (λ i. F.add (folded_entry fold h r ys i) (F.mul (pow F r.beta (2 ^ r.log_arity)) (get_or us i 𝟘)))
       (λ i. F.add (get_or (folded_by fold h r.log_arity r.beta ys) i 𝟘) (F.mul (pow F r.beta (2 ^ r.log_arity)) (get_or us i 𝟘)))
-      (λ i l. ap (λ v. F.add v (F.mul (pow F r.beta (2 ^ r.log_arity)) (get_or us i 𝟘))) (sym (get_or-tabulate (2 ^ h) (folded_entry F fold h r ys) i 𝟘 l)))
+      (λ i l. ap (λ v. F.add v (F.mul (pow F r.beta (2 ^ r.log_arity)) (get_or us i 𝟘))) (sym (get_or-tabulate (2 ^ h) (folded_entry fold h r ys) i 𝟘 l)))
 
   -- one round more
   pub after_rounds-next : (k : ℕ) (rounds : List (Round A)) (r : Round A) (ys : List A)
@@ -99,10 +99,10 @@ module _ {A : Type 0} (F : FieldOps A) (R : IsRing F) (w : ℕ → A) where
   module _ (top : ℕ) (fold : ℕ → ℕ → ℕ → A → List A → A) (falls : LowersDegrees F w top fold) where
     with_input : (h d : ℕ) (r : Round A) (ys : List A) (input : Option (List A)) → IsWord F w h d (folded_by fold h r.log_arity r.beta ys)
         → ((us : List A) → input ≡ Some us → IsWord F w h d us)
-        → IsWord F w h d (tabulate (2 ^ h) (λ i. rolled_in F r (entry_of F input i) (folded_entry F fold h r ys i)))
+        → IsWord F w h d (tabulate (2 ^ h) (λ i. rolled_in F r (entry_of F input i) (folded_entry fold h r ys i)))
     with_input h d r ys None y low = y
     with_input h d r ys (Some us) y low =
-        word_with_multiple h d (pow F r.beta (2 ^ r.log_arity)) (folded_entry F fold h r ys) us y (low us refl)
+        word_with_multiple h d (pow F r.beta (2 ^ r.log_arity)) (folded_entry fold h r ys) us y (low us refl)
 
     module _ (inputs : ℕ → Option (List A)) (log_blowup : ℕ) (low : AreLowDegreeWords F w log_blowup inputs) where
       round_lowers_degree : (k : ℕ) (r : Round A) (ys : List A) → k ≤ top → r.log_arity + log_blowup ≤ k

@@ -25,6 +25,17 @@ module _ {A : Type 0} where
   unfoldable pub total_log_arity : (rounds : List (Round A)) → ℕ
   total_log_arity rounds = sum (map (λ r. r.log_arity) rounds)
 
+  -- the row that a query folds in a round: the link's value at its place, the siblings, in order,
+  -- elsewhere
+  abbrev pub row_of_link : (round : Round A) (siblings : List A) (link : Link A) → List A
+  row_of_link round siblings link = insert siblings (link.index % 2 ^ round.log_arity) link.value
+
+  -- the fold of row `i` of a word to log height `h`, where `fold` gives the fold of a row
+  abbrev pub folded_entry : (fold : ℕ → ℕ → ℕ → A → List A → A) (h : ℕ) (round : Round A)
+      (ys : List A) (i : ℕ) → A
+  folded_entry fold h round ys i =
+      fold i h round.log_arity round.beta (neighbours ys i round.log_arity)
+
 module _ {A : Type 0} (F : FieldOps A) where
   -- a folded value, with the value of an input, if there is one, rolled in: times the challenge's
   -- `2^a`-th power after a round of log arity `a`
@@ -40,16 +51,12 @@ module _ {A : Type 0} (F : FieldOps A) where
 
 -- rounds where `fold` gives the fold of a row
 module _ {A : Type 0} (F : FieldOps A) (fold : ℕ → ℕ → ℕ → A → List A → A) where
-  -- the fold of row `i` of a word to log height `h`
-  abbrev pub folded_entry : (h : ℕ) (round : Round A) (ys : List A) (i : ℕ) → A
-  folded_entry h round ys i = fold i h round.log_arity round.beta (neighbours ys i round.log_arity)
-
   -- the word of log height `h` after a round: the folded word, with the input of that log height,
   -- if there is one, rolled in
   unfoldable pub after_round :
       (inputs : ℕ → Option (List A)) (h : ℕ) (round : Round A) (ys : List A) → List A
   after_round inputs h round ys = tabulate (2 ^ h)
-      (λ i. rolled_in F round (entry_of F (inputs h) i) (folded_entry h round ys i))
+      (λ i. rolled_in F round (entry_of F (inputs h) i) (folded_entry fold h round ys i))
 
   -- the word to which the rounds lead from one of log height `k`
   abbrev pub after_rounds :
@@ -57,11 +64,6 @@ module _ {A : Type 0} (F : FieldOps A) (fold : ℕ → ℕ → ℕ → A → Lis
   after_rounds inputs k [] ys = ys
   after_rounds inputs k (r ∷ rounds) ys =
       after_rounds inputs (k - r.log_arity) rounds (after_round inputs (k - r.log_arity) r ys)
-
-  -- the row that a query folds in a round: the link's value at its place, the siblings, in order,
-  -- elsewhere
-  abbrev pub row_of_link : (round : Round A) (siblings : List A) (link : Link A) → List A
-  row_of_link round siblings link = insert siblings (link.index % 2 ^ round.log_arity) link.value
 
   -- the link after a round: the fold of that row at the row's index, with the value of the input
   -- of that log height, if there is one, rolled in
