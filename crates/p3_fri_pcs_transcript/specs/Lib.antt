@@ -7,5 +7,8 @@ pub mod SeedExamples
 pub mod Events
 pub mod Counts
 pub mod Claims
+pub mod Failures
 pub mod Cursor
+pub mod Absorption
 pub mod Lending
+pub mod Views
