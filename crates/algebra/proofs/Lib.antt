@@ -18,3 +18,4 @@ pub mod Products
 pub mod Blocks
 pub mod Words
 pub mod Sums
+pub mod Nested

@@ -8,4 +8,5 @@ pub mod TwoAdic
 pub mod Primes
 pub mod Products
 pub mod Words
+pub mod Nested
 pub mod Laws
