@@ -30,3 +30,4 @@ pub mod Quotients
 pub mod Batches
 pub mod PointTest
 pub mod Barycentric
+pub mod Nested

@@ -13,5 +13,6 @@ pub mod Quotients
 pub mod Barycentric
 pub mod Folds
 pub mod Rounds
+pub mod Nested
 pub mod Laws
 pub mod CosetLaws
