@@ -17,6 +17,12 @@ pub mod QuarticProduct
 pub mod Products
 pub mod Blocks
 pub mod Words
+pub mod FoldedWords
+pub mod PairFolds
+pub mod RowPoints
+pub mod Rounds
+pub mod Chains
+pub mod BinaryFolds
 pub mod Sums
 pub mod Lifting
 pub mod CosetWords

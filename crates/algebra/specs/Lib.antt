@@ -11,5 +11,7 @@ pub mod Words
 pub mod Cosets
 pub mod Quotients
 pub mod Barycentric
+pub mod Folds
+pub mod Rounds
 pub mod Laws
 pub mod CosetLaws
