@@ -1,5 +1,5 @@
 -- Quotients by `X - z` at the points of a coset that doesn't hold `z`.
-use Rattle.std.proofs.Common.{◌≡◌, ◌≢◌, ℕ, ◌^◌, pred, List, [], ◌∷◌, ◌++◌, length, map, get_or, refl, sym, ap, ap₂, ◌∙◌}
+use Rattle.std.proofs.Common.{◌≡◌, ◌≢◌, ℕ, suc, ◌^◌, pred, List, [], ◌∷◌, ◌++◌, length, map, get_or, refl, sym, ap, ap₂, ◌∙◌}
 use Rattle.std.proofs.lemmas.List.{length-map}
 use Rattle.algebra.specs.Field.{FieldOps, IsField, IsHomomorphism, sub, pow}
 use Rattle.algebra.specs.Polynomial.{val, tabulate, quotient}
@@ -12,6 +12,12 @@ use Rattle.algebra.proofs.Division.{divide, length-quotient}
 use Rattle.algebra.proofs.Values.{val-nil, val-cons, val-append}
 use Rattle.algebra.proofs.Lifting.{lifted_coset_pt, lifted_value, lifted_off_coset}
 use Rattle.algebra.proofs.Lists.{get_or-tabulate, tabulate-equal}
+
+pub length-quotients : {A : Type 0} (F : FieldOps A) (z x : A) (ys vs : List A) → length ys ≡ length vs
+    → length (quotients F z x ys vs) ≡ length ys
+length-quotients F z x [] vs e = refl
+length-quotients F z x (y ∷ ys) [] e = absurd cc
+length-quotients F z x (y ∷ ys) (v ∷ vs) e = ap suc (length-quotients F z x ys vs cc)
 
 module _ {A : Type 0} (F : FieldOps A) (L : IsField F) where
   infixl 65 ◌⊕◌
