@@ -22,5 +22,6 @@ pub mod PairFolds
 pub mod RowPoints
 pub mod Rounds
 pub mod Chains
+pub mod FinalPolynomials
 pub mod BinaryFolds
 pub mod Sums

@@ -71,7 +71,7 @@ module _ {A : Type 0} (F : FieldOps A) (R : IsRing F) (w : ℕ → A) where
   infixl 70 ◌⊗◌
   open F use {zero as 𝟘, add as ◌⊕◌, mul as ◌⊗◌}
 
-  word_as : (k m d n : ℕ) (ys : List A) → k ≡ m → d ≡ n → IsWord F w k d ys → IsWord F w m n ys
+  pub word_as : (k m d n : ℕ) (ys : List A) → k ≡ m → d ≡ n → IsWord F w k d ys → IsWord F w m n ys
   word_as k m d n ys e f y = record {
     polynomial = y.polynomial;
     degree = y.degree ∙ f;
