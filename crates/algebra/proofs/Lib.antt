@@ -23,5 +23,7 @@ pub mod RowPoints
 pub mod Rounds
 pub mod Chains
 pub mod FinalPolynomials
+pub mod Reduction
+pub mod Periodic
 pub mod BinaryFolds
 pub mod Sums

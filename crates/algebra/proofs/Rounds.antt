@@ -8,7 +8,7 @@ use Rattle.algebra.specs.Polynomial.{val, tabulate}
 use Rattle.algebra.specs.TwoAdic.{pt}
 use Rattle.algebra.specs.Words.{word, IsWord}
 use Rattle.algebra.specs.Folds.{folded_by, LowersDegrees}
-use Rattle.algebra.specs.Rounds.{Round, total_log_arity, rolled_in, entry_of, folded_entry, after_round, after_rounds, AreLowDegreeWords}
+use Rattle.algebra.specs.Rounds.{Round, total_log_arity, rolled_in, entry_of, folded_entry, after_round, after_rounds, words_folded, AreLowDegreeWords}
 use Rattle.algebra.proofs.Values.{add_lists, length-add_lists, val-add, val-scale}
 use Rattle.algebra.proofs.Lists.{length-tabulate, get_or-tabulate, tabulate-equal}
 
@@ -58,6 +58,12 @@ module _ {A : Type 0} (F : FieldOps A) (fold : ℕ → ℕ → ℕ → A → Lis
       after_rounds-next (k - s.log_arity) rounds r (after_round F fold inputs (k - s.log_arity) s ys)
       ∙ ap (λ n. after_round F fold inputs (n - r.log_arity) r (after_rounds F fold inputs (k - s.log_arity) rounds (after_round F fold inputs (k - s.log_arity) s ys)))
       (let e : k - s.log_arity - total_log_arity rounds ≡ k - total_log_arity (s ∷ rounds) = omega (arith, total-cons s rounds) in e)
+
+  pub words_folded-next : (k : ℕ) (rounds : List (Round A)) (r : Round A) (ys : List A)
+      → words_folded F fold inputs k (rounds ++ r ∷ []) ys ≡ words_folded F fold inputs k rounds ys ++ after_rounds F fold inputs k rounds ys ∷ []
+  words_folded-next k [] r ys = refl
+  words_folded-next k (s ∷ rounds) r ys =
+      ap (λ words. ys ∷ words) (words_folded-next (k - s.log_arity) rounds r (after_round F fold inputs (k - s.log_arity) s ys))
 
   pub length-after_rounds : (k : ℕ) (rounds : List (Round A)) (ys : List A) → length ys ≡ 2 ^ k
       → length (after_rounds F fold inputs k rounds ys) ≡ 2 ^ (k - total_log_arity rounds)

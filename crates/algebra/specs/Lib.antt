@@ -10,4 +10,6 @@ pub mod Products
 pub mod Words
 pub mod Folds
 pub mod Rounds
+pub mod Reduction
+pub mod Periodic
 pub mod Laws

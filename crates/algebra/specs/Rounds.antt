@@ -65,6 +65,14 @@ module _ {A : Type 0} (F : FieldOps A) (fold : ℕ → ℕ → ℕ → A → Lis
   after_rounds inputs k (r ∷ rounds) ys =
       after_rounds inputs (k - r.log_arity) rounds (after_round inputs (k - r.log_arity) r ys)
 
+  -- the words that the rounds fold, one for each
+  abbrev pub words_folded : (inputs : ℕ → Option (List A)) (k : ℕ) (rounds : List (Round A))
+      (ys : List A) → List (List A)
+  words_folded inputs k [] ys = []
+  words_folded inputs k (r ∷ rounds) ys =
+      let height = k - r.log_arity in
+      ys ∷ words_folded inputs height rounds (after_round inputs height r ys)
+
   -- the link after a round: the fold of that row at the row's index, with the value of the input
   -- of that log height, if there is one, rolled in
   abbrev pub next_link :
