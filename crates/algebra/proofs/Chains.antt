@@ -4,7 +4,7 @@ use Rattle.std.proofs.lemmas.Nat.{pow-add, div-add-mod'}
 use Rattle.std.proofs.Math.Nat.{mod-lt, div-lt_iff_lt-mul, div-div-eq-div-mul}
 use Rattle.algebra.specs.Field.{FieldOps}
 use Rattle.algebra.specs.Folds.{neighbours}
-use Rattle.algebra.specs.Rounds.{Round, Link, total_log_arity, rolled_in, entry_of, after_round, after_rounds, row_of_link, next_link, chain, chain_rows, rows_met, siblings_met, link_in, AreValuesMet}
+use Rattle.algebra.specs.Rounds.{Round, Link, total_log_arity, rolled_in, entry_of, after_round, after_rounds, words_folded, row_of_link, next_link, chain, chain_rows, rows_met, siblings_met, link_in, AreValuesMet}
 use Rattle.algebra.proofs.Rounds.{total-nil, total-cons, length-after_round, after_round-entry}
 
 -- an entry that was taken out, put back
@@ -93,7 +93,7 @@ module _ {A : Type 0} (F : FieldOps A) (fold : ℕ → ℕ → ℕ → A → Lis
   -- the chain leads from an entry of the first word to that of the last in whose row it lies
   pub chain_through_words : (values : ℕ → Option A) (k : ℕ) (rounds : List (Round A)) (ys : List A) (i : ℕ)
       → length ys ≡ 2 ^ k → total_log_arity rounds ≤ k → i < 2 ^ k → AreValuesMet F inputs k i values
-      → chain F fold values rounds (siblings_met F fold inputs k rounds ys i) (link_in F k ys i)
+      → chain F fold values rounds (siblings_met rounds (words_folded F fold inputs k rounds ys) i) (link_in F k ys i)
       ≡ link_in F (k - total_log_arity rounds) (after_rounds F fold inputs k rounds ys) (i / 2 ^ total_log_arity rounds)
   chain_through_words values k [] ys i n b l met =
       ap₂ (λ m j. link_in F m ys j) (let e : k ≡ k - total_log_arity {A = A} [] = omega (arith, total-nil A) in e)
@@ -102,7 +102,7 @@ module _ {A : Type 0} (F : FieldOps A) (fold : ℕ → ℕ → ℕ → A → Lis
       let small : r.log_arity ≤ k = omega (arith, b, total-cons r rounds) in
       let h = k - r.log_arity in
       let next = after_round F fold inputs h r ys in
-      ap (λ link. chain F fold values rounds (siblings_met F fold inputs h rounds next (i / 2 ^ r.log_arity)) link) (link_after values k r ys i n small l met)
+      ap (λ link. chain F fold values rounds (siblings_met rounds (words_folded F fold inputs h rounds next) (i / 2 ^ r.log_arity)) link) (link_after values k r ys i n small l met)
       ∙ chain_through_words values h rounds next (i / 2 ^ r.log_arity) (length-after_round F fold inputs h r ys) (omega (arith, b, total-cons r rounds))
       (below_after k r ys i n small l) (values_after values k r i small met)
       ∙ ap₂ (λ m j. link_in F m (after_rounds F fold inputs h rounds next) j)
@@ -113,13 +113,13 @@ module _ {A : Type 0} (F : FieldOps A) (fold : ℕ → ℕ → ℕ → A → Lis
   -- and its rows are the words' rows
   pub chain_rows_through_words : (values : ℕ → Option A) (k : ℕ) (rounds : List (Round A)) (ys : List A) (i : ℕ)
       → length ys ≡ 2 ^ k → total_log_arity rounds ≤ k → i < 2 ^ k → AreValuesMet F inputs k i values
-      → chain_rows F fold values rounds (siblings_met F fold inputs k rounds ys i) (link_in F k ys i) ≡ rows_met F fold inputs k rounds ys i
+      → chain_rows F fold values rounds (siblings_met rounds (words_folded F fold inputs k rounds ys) i) (link_in F k ys i) ≡ rows_met rounds (words_folded F fold inputs k rounds ys) i
   chain_rows_through_words values k [] ys i n b l met = refl
   chain_rows_through_words values k (r ∷ rounds) ys i n b l met =
       let small : r.log_arity ≤ k = omega (arith, b, total-cons r rounds) in
       let h = k - r.log_arity in
       let next = after_round F fold inputs h r ys in
       ap₂ (λ row rows. row ∷ rows) (row_at k r ys i n small l)
-      (ap (λ link. chain_rows F fold values rounds (siblings_met F fold inputs h rounds next (i / 2 ^ r.log_arity)) link) (link_after values k r ys i n small l met)
+      (ap (λ link. chain_rows F fold values rounds (siblings_met rounds (words_folded F fold inputs h rounds next) (i / 2 ^ r.log_arity)) link) (link_after values k r ys i n small l met)
       ∙ chain_rows_through_words values h rounds next (i / 2 ^ r.log_arity) (length-after_round F fold inputs h r ys) (omega (arith, b, total-cons r rounds))
       (below_after k r ys i n small l) (values_after values k r i small met))

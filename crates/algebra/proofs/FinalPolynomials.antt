@@ -10,7 +10,7 @@ use Rattle.algebra.specs.Digits.{rev}
 use Rattle.algebra.specs.TwoAdic.{AreRoots, pt, domain_points}
 use Rattle.algebra.specs.Words.{word, IsWord}
 use Rattle.algebra.specs.Folds.{LowersDegrees}
-use Rattle.algebra.specs.Rounds.{Round, Link, total_log_arity, after_rounds, chain, siblings_met, link_in, AreValuesMet, AreLowDegreeWords, final_polynomial}
+use Rattle.algebra.specs.Rounds.{Round, Link, total_log_arity, after_rounds, words_folded, chain, siblings_met, link_in, AreValuesMet, AreLowDegreeWords, final_polynomial}
 use Rattle.algebra.proofs.Digits.{rev-lt, rev-rev}
 use Rattle.algebra.proofs.Interpolation.{interpolant_interpolates, interpolates_unique}
 use Rattle.algebra.proofs.Points.{domain_distinct, powers_differ}
@@ -78,7 +78,7 @@ module _ {A : Type 0} (F : FieldOps A) (L : IsField F) (top : ℕ) (w : ℕ → 
       → (inputs : ℕ → Option (List A)) (values : ℕ → Option A) (k l log_blowup : ℕ) (rounds : List (Round A)) (ys : List A) (q : ℕ)
       → AreLowDegreeWords F w log_blowup inputs → IsWord F w k (2 ^ (k - log_blowup)) ys
       → k ≤ top → total_log_arity rounds + (l + log_blowup) ≡ k → q < 2 ^ k → AreValuesMet F inputs k q values
-      → chain F fold values rounds (siblings_met F fold inputs k rounds ys q) (link_in F k ys q)
+      → chain F fold values rounds (siblings_met rounds (words_folded F fold inputs k rounds ys) q) (link_in F k ys q)
       ≡ record {
           index = q / 2 ^ total_log_arity rounds;
           log_height = l + log_blowup;
