@@ -80,10 +80,10 @@ module _ {A : Type 0} (F : FieldOps A) (L : IsField F) (top : ℕ) (w : ℕ → 
       → k ≤ top → total_log_arity rounds + (l + log_blowup) ≡ k → q < 2 ^ k → AreValuesMet F inputs k q values
       → chain F fold values rounds (siblings_met rounds (words_folded F fold inputs k rounds ys) q) (link_in F k ys q)
       ≡ record {
-          index = q / 2 ^ total_log_arity rounds;
-          log_height = l + log_blowup;
-          value = val F (final_polynomial F w l (after_rounds F fold inputs k rounds ys)) (pt F w (q / 2 ^ total_log_arity rounds) (l + log_blowup));
-        }
+        index = q / 2 ^ total_log_arity rounds;
+        log_height = l + log_blowup;
+        value = val F (final_polynomial F w l (after_rounds F fold inputs k rounds ys)) (pt F w (q / 2 ^ total_log_arity rounds) (l + log_blowup));
+      }
   chain_ends_at_final_polynomial fold falls inputs values k l b rounds ys q low y t s i met =
       chain_through_words F fold inputs values k rounds ys q count (omega (arith, s)) i met
       ∙ ap₂ (λ h v. record { index = end; log_height = h; value = v }) height

@@ -53,7 +53,7 @@ module _ {A : Type 0} where
   siblings_met (r ∷ rounds) (ys ∷ words) index =
       let row = index / 2 ^ r.log_arity in
       remove (neighbours ys row r.log_arity) (index % 2 ^ r.log_arity)
-          ∷ siblings_met rounds words row
+      ∷ siblings_met rounds words row
 
 module _ {A : Type 0} (F : FieldOps A) where
   -- a folded value, with the value of an input, if there is one, rolled in: times the challenge's
