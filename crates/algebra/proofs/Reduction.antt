@@ -1,5 +1,7 @@
--- On a coset of `2^k` points a polynomial has the values of what it is modulo `X^(2^k) - shift^(2^k)`.
-use Rattle.std.proofs.Common.{◌≡◌, ℕ, zero, suc, ◌+◌, ◌-◌, ◌*◌, ◌^◌, ◌<◌, ◌≤◌, List, [], ◌∷◌, length, get_or, refl, sym, ap, ap₂, ◌∙◌, arith, mul_comm, pow_pos}
+-- On a coset of `2^k` points a polynomial has the values of what it is modulo `X^(2^k) -
+-- shift^(2^k)`.
+use Rattle.std.proofs.Common.{◌≡◌, ℕ, zero, suc, ◌+◌, ◌-◌, ◌*◌, ◌^◌, ◌<◌, ◌≤◌, List, [], ◌∷◌}
+use Rattle.std.proofs.Common.{length, get_or, refl, sym, ap, ap₂, ◌∙◌, arith, mul_comm, pow_pos}
 use Rattle.algebra.specs.Field.{FieldOps, IsRing, IsField, pow}
 use Rattle.algebra.specs.Polynomial.{val, tabulate, sum_below}
 use Rattle.algebra.specs.PolynomialProduct.{coefficient}
@@ -26,7 +28,8 @@ module _ {A : Type 0} (F : FieldOps A) (R : IsRing F) where
   infixl 70 ◌⊗◌
   open F use {zero as 𝟘, add as ◌⊕◌, mul as ◌⊗◌}
 
-  sum_below-append : (m n : ℕ) (f : ℕ → A) → sum_below F (m + n) f ≡ sum_below F m f ⊕ sum_below F n (λ i. f (m + i))
+  sum_below-append : (m n : ℕ) (f : ℕ → A)
+      → sum_below F (m + n) f ≡ sum_below F m f ⊕ sum_below F n (λ i. f (m + i))
   unfolding sum_below
   sum_below-append zero n f =
       ap (λ k. sum_below F k f) (let e : 0 + n ≡ n = omega arith in e)
@@ -35,46 +38,60 @@ module _ {A : Type 0} (F : FieldOps A) (R : IsRing F) where
   sum_below-append (suc m) n f =
       ap (λ k. sum_below F k f) (let e : suc m + n ≡ suc (m + n) = omega arith in e)
       ∙ ap (λ s. f zero ⊕ s) (sum_below-append m n (λ i. f (suc i)))
-      ∙ sym (R.add_assoc (f zero) (sum_below F m (λ i. f (suc i))) (sum_below F n (λ i. f (suc (m + i)))))
+      ∙ sym (R.add_assoc (f zero) (sum_below F m (λ i. f (suc i)))
+      (sum_below F n (λ i. f (suc (m + i)))))
       ∙ ap (λ s. f zero ⊕ sum_below F m (λ i. f (suc i)) ⊕ s)
-      (sum_below-equal F n (λ i. f (suc (m + i))) (λ i. f (suc m + i)) (λ i _. ap f (let e : suc (m + i) ≡ suc m + i = omega arith in e)))
+      (sum_below-equal F n (λ i. f (suc (m + i))) (λ i. f (suc m + i))
+      (λ i _. ap f (let e : suc (m + i) ≡ suc m + i = omega arith in e)))
 
   -- a sum block by block
-  sum_below-blocks : (d n : ℕ) (f : ℕ → A) → sum_below F (d * n) f ≡ sum_below F d (λ j. sum_below F n (λ i. f (i + j * n)))
+  sum_below-blocks : (d n : ℕ) (f : ℕ → A)
+      → sum_below F (d * n) f ≡ sum_below F d (λ j. sum_below F n (λ i. f (i + j * n)))
   unfolding sum_below
   sum_below-blocks zero n f = ap (λ k. sum_below F k f) (let e : 0 * n ≡ 0 = omega arith in e)
   sum_below-blocks (suc d) n f =
       ap (λ k. sum_below F k f) (let e : suc d * n ≡ n + d * n = omega arith in e)
       ∙ sum_below-append n (d * n) f
-      ∙ ap₂ (λ s t. s ⊕ t) (sum_below-equal F n f (λ i. f (i + 0 * n)) (λ i _. ap f (let e : i ≡ i + 0 * n = omega arith in e)))
+      ∙ ap₂ (λ s t. s ⊕ t) (sum_below-equal F n f (λ i. f (i + 0 * n))
+      (λ i _. ap f (let e : i ≡ i + 0 * n = omega arith in e)))
       (sum_below-blocks d n (λ i. f (n + i))
-      ∙ sum_below-equal F d (λ j. sum_below F n (λ i. f (n + (i + j * n)))) (λ j. sum_below F n (λ i. f (i + suc j * n)))
-      (λ j _. sum_below-equal F n (λ i. f (n + (i + j * n))) (λ i. f (i + suc j * n)) (λ i _. ap f (let e : n + (i + j * n) ≡ i + suc j * n = omega arith in e))))
+      ∙ sum_below-equal F d (λ j. sum_below F n (λ i. f (n + (i + j * n))))
+      (λ j. sum_below F n (λ i. f (i + suc j * n)))
+      (λ j _. sum_below-equal F n (λ i. f (n + (i + j * n))) (λ i. f (i + suc j * n))
+      (λ i _. ap f (let e : n + (i + j * n) ≡ i + suc j * n = omega arith in e))))
 
   -- more terms, all zero
-  sum_below-padded : (m n : ℕ) (f : ℕ → A) → m ≤ n → ((i : ℕ) → m ≤ i → f i ≡ 𝟘) → sum_below F n f ≡ sum_below F m f
+  sum_below-padded : (m n : ℕ) (f : ℕ → A) → m ≤ n → ((i : ℕ) → m ≤ i → f i ≡ 𝟘)
+      → sum_below F n f ≡ sum_below F m f
   sum_below-padded m n f l h =
       ap (λ k. sum_below F k f) (let e : n ≡ m + (n - m) = omega (arith, l) in e)
       ∙ sum_below-append m (n - m) f
-      ∙ ap (λ s. sum_below F m f ⊕ s) (sum_below-zero F R (n - m) (λ i. f (m + i)) (λ i _. h (m + i) (omega arith)))
+      ∙ ap (λ s. sum_below F m f ⊕ s)
+      (sum_below-zero F R (n - m) (λ i. f (m + i)) (λ i _. h (m + i) (omega arith)))
       ∙ R.add_zero (sum_below F m f)
 
   pub length-reduced : (n : ℕ) (z : A) (c : List A) → length (reduced F n z c) ≡ n
   unfolding reduced
-  length-reduced n z c = length-tabulate n (λ i. sum_below F (length c) (λ j. coefficient F c (i + j * n) ⊗ pow F z j))
+  length-reduced n z c =
+      length-tabulate n (λ i. sum_below F (length c) (λ j. coefficient F c (i + j * n) ⊗ pow F z j))
 
   -- where `x^n` is `z`, the polynomial has there the value of what it is modulo `X^n - z`
-  pub val-reduced : (n : ℕ) (z : A) (c : List A) (x : A) → 0 < n → pow F x n ≡ z → val F (reduced F n z c) x ≡ val F c x
+  pub val-reduced : (n : ℕ) (z : A) (c : List A) (x : A) → 0 < n → pow F x n ≡ z
+      → val F (reduced F n z c) x ≡ val F c x
   unfolding reduced val
   val-reduced n z c x p e =
       val-tabulate F n (λ i. sum_below F d (λ j. coefficient F c (i + j * n) ⊗ pow F z j)) x
-      ∙ sum_below-equal F n (λ i. sum_below F d (λ j. coefficient F c (i + j * n) ⊗ pow F z j) ⊗ pow F x i) (λ i. sum_below F d (λ j. term (i + j * n)))
+      ∙ sum_below-equal F n
+      (λ i. sum_below F d (λ j. coefficient F c (i + j * n) ⊗ pow F z j) ⊗ pow F x i)
+      (λ i. sum_below F d (λ j. term (i + j * n)))
       (λ i _. R.mul_comm (sum_below F d (λ j. coefficient F c (i + j * n) ⊗ pow F z j)) (pow F x i)
       ∙ sym (sum_below-factor F R (pow F x i) d (λ j. coefficient F c (i + j * n) ⊗ pow F z j))
-      ∙ sum_below-equal F d (λ j. pow F x i ⊗ (coefficient F c (i + j * n) ⊗ pow F z j)) (λ j. term (i + j * n)) (λ j _. power i j))
+      ∙ sum_below-equal F d (λ j. pow F x i ⊗ (coefficient F c (i + j * n) ⊗ pow F z j))
+      (λ j. term (i + j * n)) (λ j _. power i j))
       ∙ sum_below-swap F R n d (λ i j. term (i + j * n))
       ∙ sym (sum_below-blocks d n term)
-      ∙ sum_below-padded d (d * n) term (enough d n p) (λ i l. ap (λ a. a ⊗ pow F x i) (past_end c i 𝟘 l) ∙ zero_mul F R (pow F x i))
+      ∙ sum_below-padded d (d * n) term (enough d n p)
+      (λ i l. ap (λ a. a ⊗ pow F x i) (past_end c i 𝟘 l) ∙ zero_mul F R (pow F x i))
     where
       d : ℕ
       d = length c
@@ -84,36 +101,46 @@ module _ {A : Type 0} (F : FieldOps A) (R : IsRing F) where
 
       power : (i j : ℕ) → pow F x i ⊗ (coefficient F c (i + j * n) ⊗ pow F z j) ≡ term (i + j * n)
       power i j =
-          ap (λ y. pow F x i ⊗ (coefficient F c (i + j * n) ⊗ y)) (ap (λ y. pow F y j) (sym e) ∙ sym (pow-mul F R x j n))
-          ∙ ring F R 3 (λ p c q. p :* (c :* q) := c :* (p :* q)) refl (pow F x i) (coefficient F c (i + j * n)) (pow F x (j * n))
+          ap (λ y. pow F x i ⊗ (coefficient F c (i + j * n) ⊗ y))
+          (ap (λ y. pow F y j) (sym e) ∙ sym (pow-mul F R x j n))
+          ∙ ring F R 3 (λ p c q. p :* (c :* q) := c :* (p :* q)) refl (pow F x i)
+          (coefficient F c (i + j * n)) (pow F x (j * n))
           ∙ ap (λ y. coefficient F c (i + j * n) ⊗ y) (sym (pow-add F R x i (j * n)))
 
       enough : (d n : ℕ) → 0 < n → d ≤ d * n
       enough d n p = grind arith
 
-module _ {A : Type 0} (F : FieldOps A) (L : IsField F) (top : ℕ) (w : ℕ → A) (W : AreRoots F top w) where
+module _ {A : Type 0} (F : FieldOps A) (L : IsField F) (top : ℕ) (w : ℕ → A)
+    (W : AreRoots F top w) where
   infixl 70 ◌⊗◌
   open F use {one as 𝟙, mul as ◌⊗◌}
 
   -- all points of a coset have one power
-  point_power : (shift : A) (k i : ℕ) → k ≤ top → pow F (shift ⊗ pow F (w k) i) (2 ^ k) ≡ pow F shift (2 ^ k)
+  point_power : (shift : A) (k i : ℕ) → k ≤ top
+      → pow F (shift ⊗ pow F (w k) i) (2 ^ k) ≡ pow F shift (2 ^ k)
   point_power shift k i b =
       sym (pow-times F L.ring shift (pow F (w k) i) (2 ^ k))
       ∙ ap (λ x. pow F shift (2 ^ k) ⊗ x)
-      (sym (pow-mul F L.ring (w k) (2 ^ k) i) ∙ ap (λ n. pow F (w k) n) (mul_comm (2 ^ k) i) ∙ pow-mul F L.ring (w k) i (2 ^ k)
+      (sym (pow-mul F L.ring (w k) (2 ^ k) i) ∙ ap (λ n. pow F (w k) n) (mul_comm (2 ^ k) i)
+      ∙ pow-mul F L.ring (w k) i (2 ^ k)
       ∙ ap (λ x. pow F x i) (full_turn F L top w W k b) ∙ pow-one_base F L.ring i)
       ∙ L.mul_one (pow F shift (2 ^ k))
 
   -- in natural order
   pub reduced_at_coset_point : (shift : A) (k : ℕ) (c : List A) (i : ℕ) → k ≤ top
-      → val F (reduced F (2 ^ k) (pow F shift (2 ^ k)) c) (shift ⊗ pow F (w k) i) ≡ val F c (shift ⊗ pow F (w k) i)
+      → val F (reduced F (2 ^ k) (pow F shift (2 ^ k)) c) (shift ⊗ pow F (w k) i)
+      ≡ val F c (shift ⊗ pow F (w k) i)
   reduced_at_coset_point shift k c i b =
-      val-reduced F L.ring (2 ^ k) (pow F shift (2 ^ k)) c (shift ⊗ pow F (w k) i) (pow_pos k) (point_power shift k i b)
+      val-reduced F L.ring (2 ^ k) (pow F shift (2 ^ k)) c (shift ⊗ pow F (w k) i) (pow_pos k)
+      (point_power shift k i b)
 
   -- in bit-reversed order
   pub coset_word-reduced : (shift : A) (k : ℕ) (c : List A) → k ≤ top
-      → coset_word F w shift k (reduced F (2 ^ k) (pow F shift (2 ^ k)) c) ≡ coset_word F w shift k c
+      → coset_word F w shift k (reduced F (2 ^ k) (pow F shift (2 ^ k)) c)
+      ≡ coset_word F w shift k c
   unfolding pt
   coset_word-reduced shift k c b =
-      tabulate-equal (2 ^ k) (λ i. val F (reduced F (2 ^ k) (pow F shift (2 ^ k)) c) (shift ⊗ pt F w i k)) (λ i. val F c (shift ⊗ pt F w i k))
+      tabulate-equal (2 ^ k)
+      (λ i. val F (reduced F (2 ^ k) (pow F shift (2 ^ k)) c) (shift ⊗ pt F w i k))
+      (λ i. val F c (shift ⊗ pt F w i k))
       (λ i _. reduced_at_coset_point shift k c (rev k i) b)
