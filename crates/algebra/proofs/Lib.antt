@@ -27,3 +27,9 @@ pub mod Reduction
 pub mod Periodic
 pub mod BinaryFolds
 pub mod Sums
+pub mod Lifting
+pub mod CosetWords
+pub mod Quotients
+pub mod Batches
+pub mod PointTest
+pub mod Barycentric

@@ -26,7 +26,7 @@ module _ {A : Type 0} (F : FieldOps A) (R : IsRing F) where
   sum_below-factor k zero f = sym (mul_zero F R k)
   sum_below-factor k (suc n) f = ap (λ s. k ⊗ f zero ⊕ s) (sum_below-factor k n (λ i. f (suc i))) ∙ sym (R.mul_add k (f zero) (sum_below F n (λ i. f (suc i))))
 
-  sum_below-add : (n : ℕ) (f g : ℕ → A) → sum_below F n (λ i. f i ⊕ g i) ≡ sum_below F n f ⊕ sum_below F n g
+  pub sum_below-add : (n : ℕ) (f g : ℕ → A) → sum_below F n (λ i. f i ⊕ g i) ≡ sum_below F n f ⊕ sum_below F n g
   unfolding sum_below
   sum_below-add zero f g = sym (R.add_zero 𝟘)
   sum_below-add (suc n) f g =

@@ -8,8 +8,12 @@ pub mod TwoAdic
 pub mod Primes
 pub mod Products
 pub mod Words
+pub mod Cosets
+pub mod Quotients
+pub mod Barycentric
 pub mod Folds
 pub mod Rounds
 pub mod Reduction
 pub mod Periodic
 pub mod Laws
+pub mod CosetLaws

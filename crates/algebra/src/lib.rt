@@ -4,6 +4,7 @@
 #![tactic(auto)]
 
 ghost use Rattle.algebra.specs.Laws.{InterpolantExists, InterpolantIsUnique, RootsMakeZero, CosetWords};
+ghost use Rattle.algebra.specs.CosetLaws.{QuotientsAreValues, QuotientsCompress, BatchesAreWords, OpeningsAreWords, ValuesFromCosets, PointsAreTested, CosetsVanish, CosetsAreApart};
 
 /// Interpolation over any field: through distinct points goes one polynomial with as many coefficients, and
 /// `interpolant` is it.
@@ -21,4 +22,36 @@ pub fn roots_law<A>()
 /// values in natural order tell each other.
 pub fn words_law<A>()
     ensures { CosetWords A }
+{}
+
+/// Quotients over any field: those of the values over a coset by a point `z` off it are the values of the quotient by
+/// `X - z`, and the quotients of many columns by powers of one element are that of the columns compressed first.
+pub fn quotients_law<A>()
+    ensures values { QuotientsAreValues A }
+    ensures compressed { QuotientsCompress A }
+{}
+
+/// Batches by powers of one element: of words of one height and of degree below `d`; and of the quotients of the columns
+/// of matrices of one height, opened at points of an extension off their coset. Both are words of the columns' degree,
+/// the second of one less.
+pub fn batches_law<A, E>()
+    ensures words { BatchesAreWords A }
+    ensures openings { OpeningsAreWords A E }
+{}
+
+/// The value of a polynomial at a point of an extension off a coset, by the barycentric sum of its values over the coset.
+pub fn barycentric_law<A, E>()
+    ensures { ValuesFromCosets A E }
+{}
+
+/// Points of an extension on a coset of `2^k` points: those whose `2^k`-th power is the shift's.
+pub fn point_test_law<A, E>()
+    ensures { PointsAreTested A E }
+{}
+
+/// The vanishing polynomial of a coset is zero exactly there; and two cosets of one size whose shifts' quotient, to the
+/// power of the size, isn't one are disjoint.
+pub fn cosets_law<A>()
+    ensures vanishing { CosetsVanish A }
+    ensures apart { CosetsAreApart A }
 {}

@@ -5,7 +5,7 @@ use Rattle.std.specs.List.{flat_map}
 use Rattle.std.proofs.lemmas.Grind.{flat_map-append}
 use Rattle.std.proofs.lemmas.List.{append-nil, drop-map}
 use Rattle.std.specs.Fmt.{decimal}
-use Rattle.fri_run.specs.Texts.{parsed_number, parsed_each, joined}
+use Rattle.fri_run.specs.Texts.{parsed_number, parsed_each, spaced}
 
 -- the numbers so far, and then each number of the rest
 abbrev pub with_rest : List ℕ → Option (List ℕ) → Option (List ℕ)
@@ -24,13 +24,13 @@ each-some f most ns xs i d n h e = rw (drop-map f i xs, drop-map f (i + 1) xs, d
     step (Some rest) = ap Some (append_assoc ns (n ∷ []) rest)
 
 -- one number
-pub joined-first : (x : ℕ) → joined (x ∷ []) ≡ decimal x
-joined-first x = simp append-nil
+pub spaced-first : (x : ℕ) → spaced (x ∷ []) ≡ decimal x
+spaced-first x = simp append-nil
 
 -- one number more
-pub joined-more : (xs : List ℕ) (x : ℕ) → 0 < length xs → joined (xs ++ x ∷ []) ≡ joined xs ++ (32 ∷ decimal x)
-joined-more [] x h = absurd (omega arith)
-joined-more (y ∷ ys) x h =
+pub spaced-more : (xs : List ℕ) (x : ℕ) → 0 < length xs → spaced (xs ++ x ∷ []) ≡ spaced xs ++ (32 ∷ decimal x)
+spaced-more [] x h = absurd (omega arith)
+spaced-more (y ∷ ys) x h =
     let f : ℕ → List ℕ = λ n. (32 ∷ []) ++ decimal n in
     ap (λ (t : List ℕ). decimal y ++ t) (flat_map-append f ys (x ∷ []) ∙ ap (λ (t : List ℕ). flat_map f ys ++ t) (append-nil (32 ∷ decimal x)))
     ∙ sym (append_assoc (decimal y) (flat_map f ys) (32 ∷ decimal x))

@@ -1,16 +1,20 @@
 -- What each command prints, or the first fault of its arguments from the left.
-use Rattle.std.specs.Prelude.{◌≡◌, ◌≢◌, ℕ, ◌+◌, ◌^◌, ⊤, ◌==◌, List, [], ◌∷◌, ◌++◌, length, map, find, Option, Some, None, Result, Ok, Err, Bool, true, false, not, ◌&&◌, nat_lt, if◌then◌else◌, codes, string_bytes, String}
+use Rattle.std.specs.Prelude.{◌≡◌, ◌≢◌, ℕ, ◌+◌, ◌^◌, ⊤, ◌==◌, List, [], ◌∷◌, ◌++◌}
+use Rattle.std.specs.Prelude.{length, map, find, replicate, Option, Some, None, Result, Ok, Err}
+use Rattle.std.specs.Prelude.{Bool, true, false, not, ◌&&◌, nat_lt, if◌then◌else◌, codes}
+use Rattle.std.specs.Prelude.{string_bytes, String}
 use Rattle.std.specs.Global.{Global}
 use Rattle.std.specs.Str.{bytes_eq}
 use Rattle.algebra.specs.Field.{multiple}
 use Rattle.std.specs.List.{range_with_len}
 use Rattle.p3_field.specs.BabyBear.{baby_bear, root}
-use Rattle.p3_field.specs.declared.baby_bear.BabyBear.{BabyBear}
+use Rattle.p3_field.specs.baby_bear.BabyBear.{BabyBear}
 use Rattle.p3_fri_core.specs.Schedule.{schedule}
 use Rattle.p3_fri_core.specs.Fold.{folded_rounds}
 use Rattle.fri_run.specs.Texts.{parsed_number, parsed_list, line}
 use Rattle.fri_run.specs.declared.answer.Fault.{Fault}
-use Rattle.fri_run.specs.declared.answer.Fault.TheVariants.{Command, Number, Heights, Cap, Length, BetaCount}
+use Rattle.fri_run.specs.declared.answer.Fault.TheVariants.{Command, Number, Heights, Cap}
+use Rattle.fri_run.specs.declared.answer.Fault.TheVariants.{Length, BetaCount}
 use Rattle.fri_run.specs.declared.answer.Refusal.{Refusal}
 use Rattle.fri_run.specs.declared.answer.Refusal.TheVariants.{Faulty, OutOfMemory}
 
@@ -46,7 +50,8 @@ Err fault >>= f = Err fault
 abbrev pub is_strictly_falling : List ℕ → Bool
 is_strictly_falling [] = true
 is_strictly_falling (height ∷ []) = true
-is_strictly_falling (height ∷ next ∷ later) = nat_lt next height && is_strictly_falling (next ∷ later)
+is_strictly_falling (height ∷ next ∷ later) =
+    nat_lt next height && is_strictly_falling (next ∷ later)
 
 -- `schedule HEIGHTS FINAL CAP`
 unfoldable pub schedule_answer : List ℕ → List ℕ → List ℕ → Result (List ℕ) Fault
@@ -66,9 +71,18 @@ exact_log2 most count = find (λ k. 2 ^ k == count) (range_with_len 0 (most + 1)
 abbrev pub canonical_number : BabyBear → ℕ
 canonical_number x = x.value
 
+-- the elements of these numbers
+abbrev pub elements : List ℕ → List BabyBear
+elements numbers = map (multiple baby_bear) numbers
+
+-- the log arities of a round by two for each of the challenges
+abbrev pub binary_rounds : {A : Type 0} → List A → List ℕ
+binary_rounds betas = replicate (length betas) 1
+
 -- the word folded round by round, as the canonical numbers of its elements
 abbrev pub folded_numbers : ℕ → List ℕ → List ℕ → List ℕ → List ℕ
-folded_numbers log_height log_arities betas word = map canonical_number (folded_rounds baby_bear root log_height log_arities (map (multiple baby_bear) betas) (map (multiple baby_bear) word))
+folded_numbers log_height log_arities betas word = map canonical_number
+    (folded_rounds baby_bear root log_height log_arities (elements betas) (elements word))
 
 -- `fold FINAL BETAS WORD`
 unfoldable pub fold_answer : List ℕ → List ℕ → List ℕ → Result (List ℕ) Fault
@@ -78,12 +92,23 @@ fold_answer final_text betas_text word_text = do
   word ← or_fault Number (parsed_list greatest_element word_text)
   log_height ← or_fault Length (exact_log2 greatest_log_height (length word))
   one_each ← unless BetaCount (length betas == length (schedule (log_height ∷ []) final 1))
-  Ok (line (schedule (log_height ∷ []) final 1) ++ line (folded_numbers log_height (schedule (log_height ∷ []) final 1) betas word))
+  Ok (line (schedule (log_height ∷ []) final 1)
+      ++ line (folded_numbers log_height (schedule (log_height ∷ []) final 1) betas word))
 
 -- what the program's arguments ask for
 unfoldable pub answer : List (List ℕ) → Result (List ℕ) Fault
-answer (command ∷ first ∷ second ∷ third ∷ []) = if bytes_eq command (codes "schedule") then schedule_answer first second third else (if bytes_eq command (codes "fold") then fold_answer first second third else Err Command)
+answer (command ∷ first ∷ second ∷ third ∷ []) =
+    if bytes_eq command (codes "schedule") then schedule_answer first second third
+    else (if bytes_eq command (codes "fold") then fold_answer first second third else Err Command)
 answer arguments = Err Command
+
+-- what arguments in strings ask for
+abbrev pub answer_of : List (String Global) → Result (List ℕ) Fault
+answer_of args = answer (map string_bytes args)
+
+-- the line that names want of memory
+abbrev pub out_of_memory_line : List ℕ
+out_of_memory_line = codes "fri_run: out of memory\n"
 
 -- the line that names a fault
 abbrev pub fault_line : Fault → List ℕ

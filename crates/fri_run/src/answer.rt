@@ -2,7 +2,8 @@
 
 ghost use Rattle.std.specs.Prelude.{◌≡◌, IsTrue, ◌<◌, map, string_bytes};
 ghost use Rattle.p3_fri_core.specs.Schedule.{IsStrictlyFalling};
-ghost use Rattle.fri_run.specs.Commands.{Answers, is_strictly_falling, answer, schedule_answer, fold_answer, exact_log2, fault_line};
+ghost use Rattle.fri_run.specs.Commands.{Answers, is_strictly_falling, answer, schedule_answer};
+ghost use Rattle.fri_run.specs.Commands.{fold_answer, exact_log2, fault_line};
 ghost use Rattle.fri_run.specs.declared.answer.Refusal.TheVariants.{OutOfMemory};
 
 use crate::fold::folded_numbers;

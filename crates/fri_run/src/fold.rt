@@ -1,10 +1,10 @@
 //! Words of field elements, folded round by round in place.
 
-ghost use Rattle.std.specs.Prelude.{◌≡◌, ◌+◌, ◌-◌, ◌^◌, ◌<◌, ◌≤◌, length, take, vec_len, replicate, map, IfOk};
+ghost use Rattle.std.specs.Prelude.{◌≡◌, ◌+◌, ◌-◌, ◌^◌, ◌<◌, ◌≤◌, length, take, vec_len, map, IfOk};
 ghost use Rattle.algebra.specs.Field.{multiple};
 ghost use Rattle.p3_field.specs.BabyBear.{baby_bear, root};
 ghost use Rattle.p3_fri_core.specs.Fold.{folded_word, folded_rounds};
-ghost use Rattle.fri_run.specs.Commands.{canonical_number, folded_numbers};
+ghost use Rattle.fri_run.specs.Commands.{canonical_number, binary_rounds, folded_numbers};
 
 use p3_field::{BabyBear, Field, PrimeField64};
 use p3_fri_core::{FriFoldingStrategy, TwoAdicFriFolding};
@@ -53,7 +53,8 @@ fn fold_rounds(word: &mut Vec<BabyBear>, log_height: usize, betas: &[BabyBear])
     requires height { log_height ≤ 27 }
     requires size { vec_len word.old ≡ 2 ^ log_height }
     requires rounds { length betas.now ≤ log_height }
-    ensures { word.new.items ≡ folded_rounds baby_bear root log_height (replicate (length betas.now) 1) betas.now word.old.items }
+    ensures { word.new.items ≡ folded_rounds baby_bear root log_height
+        (binary_rounds betas.now) betas.now word.old.items }
 {
     let mut log_height = log_height;
     for beta in betas {
@@ -72,7 +73,8 @@ pub fn folded_numbers(
     requires height { log_height ≤ 27 }
     requires size { length word.now ≡ 2 ^ log_height }
     requires rounds { length betas.now ≤ log_height }
-    ensures { IfOk result (λ v. v.items ≡ folded_numbers log_height (replicate (length betas.now) 1) betas.now word.now) }
+    ensures { IfOk result (λ v. v.items
+        ≡ folded_numbers log_height (binary_rounds betas.now) betas.now word.now) }
 {
     let betas = elements(alloc, betas)?;
     let mut word = elements(alloc, word)?;

@@ -1,6 +1,7 @@
 //! Decimal numbers, and lists of them, as texts.
 
-ghost use Rattle.std.specs.Prelude.{◌≡◌, ◌↔◌, ◌^◌, ◌≢◌, ◌<◌, IsTrue, length, slice_index, ◌≤◌, ◌==◌, ◌++◌, ℕ, IfOk, OnOk, IfSome, Some, string_bytes, map};
+ghost use Rattle.std.specs.Prelude.{◌≡◌, ◌↔◌, ◌^◌, ◌≢◌, ◌<◌, ◌≤◌, ◌==◌, ◌++◌, ℕ, IsTrue, length};
+ghost use Rattle.std.specs.Prelude.{slice_index, IfOk, OnOk, IfSome, Some, string_bytes, map};
 ghost use Rattle.std.specs.Fmt.{decimal};
 ghost use Rattle.std.specs.List.{slice_split};
 ghost use Rattle.std.specs.Option.{option_map};
@@ -10,7 +11,8 @@ use std::alloc::{AllocError, Global};
 
 /// Whether no sign comes first, and no zero before further digits. (`parse` takes both.)
 fn is_plain(text: &[u8]) -> bool
-    ensures { IsTrue result ↔ ((slice_index text.now 0 ≢ 43) × (1 < length text.now → slice_index text.now 0 ≢ 48)) }
+    ensures { IsTrue result
+        ↔ ((slice_index text.now 0 ≢ 43) × (1 < length text.now → slice_index text.now 0 ≢ 48)) }
 {
     text.is_empty() || (text[0] != b'+' && (text.len() == 1 || text[0] != b'0'))
 }
@@ -46,7 +48,8 @@ fn fields(alloc: Global, text: &str) -> Result<Vec<&str>, AllocError>
 
 /// Each text's number, or `None` where a text writes no number up to `most`.
 fn each_number(alloc: Global, texts: &[&str], most: usize) -> Result<Option<Vec<usize>>, AllocError>
-    ensures { IfOk result (λ found. option_map (λ v. v.items) found ≡ parsed_each most (map (λ x. x.now) texts.now)) }
+    ensures { IfOk result (λ found. option_map (λ v. v.items) found
+        ≡ parsed_each most (map (λ x. x.now) texts.now)) }
 {
     let mut values = Vec::new(alloc);
     for text in texts {

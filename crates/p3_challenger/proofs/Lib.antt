@@ -1,4 +1,2 @@
-pub mod Grinds
-pub mod Runs
-pub mod Turns
-pub mod Streams
+pub use Rattle.p3_challenger_core.proofs.Runs
+pub use Rattle.p3_challenger_fs.proofs.Streams

@@ -1,18 +1,16 @@
-//! Challengers: where both sides of a protocol absorb what was sent and draw their challenges from. What a
-//! challenger answers, and the state that a call leaves it in, are functions of its state, which its traits
-//! name as ghost members; contracts above speak of whole runs in these words. Only `fs` takes memory.
+//! Challengers: where both sides of a protocol absorb what was sent and draw their challenges from, and
+//! `fs`, transcripts by description. All of it stands in two crates below, and has its names here.
 #![tactic(auto)]
 
-pub mod field_challenger;
-pub mod fs;
-pub mod grinding_challenger;
-pub mod laws;
-pub mod observe;
-pub mod sample;
-pub mod sha256_challenger;
+pub use p3_challenger_core::{
+    CanObserve, CanSample, CanSampleBits, FieldChallenger, GrindingChallenger, Plays,
+    Sha256Challenger, field_challenger, grinding_challenger, observe, plays, sample,
+    sha256_challenger,
+};
+pub use p3_challenger_fs as fs;
 
-pub use crate::field_challenger::FieldChallenger;
-pub use crate::grinding_challenger::GrindingChallenger;
-pub use crate::observe::CanObserve;
-pub use crate::sample::{CanSample, CanSampleBits};
-pub use crate::sha256_challenger::Sha256Challenger;
+/// Laws of runs, of the SHA-256 challenger and of streams.
+pub mod laws {
+    pub use p3_challenger_core::laws::{run_law, sha256_challenger_law};
+    pub use p3_challenger_fs::laws::seed_stream_law;
+}

@@ -1,4 +1,4 @@
-pub mod Columns
-pub mod Joined
+pub mod Positions
+pub mod Concatenated
 pub mod NewtonForm
 pub mod Unfolded

@@ -35,16 +35,12 @@ put_rest xs ys j = ap (λ zs. take j xs ++ (ys ++ zs)) (drop_all (length xs - j)
 
 module _ {A : Type 0} (F : FieldOps A) (R : IsRing F) where
   infixl 65 ◌⊕◌
-  infixl 65 ◌⊖◌
   infixl 70 ◌⊗◌
-  open F use {zero as 𝟘, one as 𝟙, add as ◌⊕◌, mul as ◌⊗◌, neg}
-
-  abbrev ◌⊖◌ : A → A → A
-  a ⊖ b = sub F a b
+  open F use {zero as 𝟘, add as ◌⊕◌, mul as ◌⊗◌}
 
   -- from a coefficient on, by those after it
   pub newton_val-drop : (ps cs : List A) (j : ℕ) (x c p : A) → j < length cs → length cs ≤ length ps → c ≡ get_or cs j c → p ≡ get_or ps j p
-      → newton_val F (drop j ps) (drop j cs) x ≡ c ⊕ (x ⊖ p) ⊗ newton_val F (drop (j + 1) ps) (drop (j + 1) cs) x
+      → newton_val F (drop j ps) (drop j cs) x ≡ c ⊕ sub F x p ⊗ newton_val F (drop (j + 1) ps) (drop (j + 1) cs) x
   newton_val-drop ps cs j x c p l m ec ep =
       ap₂ (λ qs bs. newton_val F qs bs x) (drop_more ps j p (omega (arith, l, m)) ∙ ap (λ q. q ∷ drop (j + 1) ps) (sym ep)) (drop_more cs j c l ∙ ap (λ b. b ∷ drop (j + 1) cs) (sym ec))
 
@@ -56,26 +52,26 @@ module _ {A : Type 0} (F : FieldOps A) (R : IsRing F) where
   newton_val-append [] cs c x l = absurd (omega (arith, l))
   newton_val-append (p ∷ ps) [] c x l = ring F R 3 (λ c x p. c :+ (x :- p) :* o := o :+ :1 :* c) refl c x p
   newton_val-append (p ∷ ps) (b ∷ bs) c x l =
-      ap (λ v. b ⊕ (x ⊖ p) ⊗ v) (newton_val-append ps bs c x (omega (arith, l)))
+      ap (λ v. b ⊕ sub F x p ⊗ v) (newton_val-append ps bs c x (omega (arith, l)))
       ∙ ring F R 6 (λ b x p v d c. b :+ (x :- p) :* (v :+ d :* c) := b :+ (x :- p) :* v :+ (x :- p) :* d :* c) refl b x p (newton_val F ps bs x) (difference_product F x (take (length bs) ps)) c
 
   -- the product vanishes at each of the points
   pub difference_product-zero : (qs : List A) (k : ℕ) (d : A) → k < length qs → difference_product F (get_or qs k d) qs ≡ 𝟘
   difference_product-zero [] k d l = absurd (omega (arith, l))
   difference_product-zero (q ∷ qs) zero d l = ring F R 2 (λ q v. (q :- q) :* v := o) refl q (difference_product F q qs)
-  difference_product-zero (q ∷ qs) (suc k) d l = ap (λ v. (get_or qs k d ⊖ q) ⊗ v) (difference_product-zero qs k d (omega (arith, l))) ∙ mul_zero F R (get_or qs k d ⊖ q)
+  difference_product-zero (q ∷ qs) (suc k) d l = ap (λ v. (sub F (get_or qs k d) q) ⊗ v) (difference_product-zero qs k d (omega (arith, l))) ∙ mul_zero F R (sub F (get_or qs k d) q)
 
-  pub difference_product-take_next : (x : A) (ps : List A) (i : ℕ) (d : A) → i < length ps → difference_product F x (take (i + 1) ps) ≡ difference_product F x (take i ps) ⊗ (x ⊖ get_or ps i d)
+  pub difference_product-take_next : (x : A) (ps : List A) (i : ℕ) (d : A) → i < length ps → difference_product F x (take (i + 1) ps) ≡ difference_product F x (take i ps) ⊗ (sub F x (get_or ps i d))
   difference_product-take_next x ps i d l =
       ap (λ qs. difference_product F x qs) (take_more ps i d l)
-      ∙ ap (λ xs. product F xs) (map-append (λ p. x ⊖ p) (take i ps) (get_or ps i d ∷ []))
-      ∙ product-append F R (map (λ p. x ⊖ p) (take i ps)) ((x ⊖ get_or ps i d) ∷ [])
-      ∙ ap (λ v. difference_product F x (take i ps) ⊗ v) (R.mul_one (x ⊖ get_or ps i d))
+      ∙ ap (λ xs. product F xs) (map-append (λ p. sub F x p) (take i ps) (get_or ps i d ∷ []))
+      ∙ product-append F R (map (λ p. sub F x p) (take i ps)) ((sub F x (get_or ps i d)) ∷ [])
+      ∙ ap (λ v. difference_product F x (take i ps) ⊗ v) (R.mul_one (sub F x (get_or ps i d)))
 
   pub val-expanded : (ps cs : List A) (x : A) → val F (expanded F ps cs) x ≡ newton_val F ps cs x
   val-expanded ps [] x = val-nil F R x
   val-expanded [] (c ∷ cs) x = val-nil F R x
-  val-expanded (p ∷ ps) (c ∷ cs) x = val-plus_multiple F R p c (expanded F ps cs) x ∙ ap (λ v. c ⊕ (x ⊖ p) ⊗ v) (val-expanded ps cs x)
+  val-expanded (p ∷ ps) (c ∷ cs) x = val-plus_multiple F R p c (expanded F ps cs) x ∙ ap (λ v. c ⊕ sub F x p ⊗ v) (val-expanded ps cs x)
 
   pub length-expanded : (ps cs : List A) → length cs ≤ length ps → length (expanded F ps cs) ≡ length cs
   length-expanded ps [] l = refl

@@ -1,3 +1,3 @@
-pub mod Columns
+pub mod Positions
 pub mod Newton
 pub mod Unfolding

@@ -12,7 +12,8 @@ module _ {A : Type 0} (F : FieldOps A) where
 
   -- for each point, the inverse of the product of its differences from the points before it
   abbrev pub weights_of : List A → List A
-  weights_of points = tabulate (length points) (λ t. F.inv (difference_product (slice_index_or points t F.zero) (take t points)))
+  weights_of points = tabulate (length points)
+      (λ t. F.inv (difference_product (slice_index_or points t F.zero) (take t points)))
 
   -- the value at `x` of `c_0 + (X - p_0) * (c_1 + (X - p_1) * (c_2 + ..))`
   abbrev pub newton_val : (points coefficients : List A) → A → A

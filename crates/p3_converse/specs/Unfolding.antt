@@ -15,13 +15,22 @@ abbrev pub common_length : {T Z : Type 0} → List (Vec T Z) → ℕ
 common_length [] = 0
 common_length (v ∷ vs) = vec_len v
 
-module _ {A : Type 0} (F : FieldOps A) where
-  -- row `i`, of the values `ys`, folds to log height `h` at each beta to the value of the polynomial beside it
-  abbrev pub FoldsTo : (w : ℕ → A) (i h k : ℕ) (ys betas : List A) (polys : List (List A)) → Type 0
-  FoldsTo w i h k ys betas polys = map (λ beta. fold_value F w i h k beta ys) betas ≡ map (λ p. val F p (pt F w i h)) polys
+module _ {A : Type 0} (F : FieldOps A) (w : ℕ → A) (i h : ℕ) where
+  -- the values of the polynomial at the `2^k` points of row `i` over log height `h`
+  abbrev pub row_values : (k : ℕ) → List A → List A
+  row_values k c = tabulate (2 ^ k) (λ j. val F c (pt F w (i * 2 ^ k + j) (h + k)))
 
-  -- over every family of roots of unity, each row of `2^k` values that folds at the betas to the polynomials
-  -- has the values of `unfolded` at its points
-  pub record IsUnfolding (k : ℕ) (betas : List A) (polys : List (List A)) (unfolded : List A) : Type 0 where
-    pub rows : (top : ℕ) (w : ℕ → A) → AreRoots F top w → (i h : ℕ) (ys : List A) → h + k ≤ top → i < 2 ^ h → length ys ≡ 2 ^ k
-        → FoldsTo w i h k ys betas polys → ys ≡ tabulate (2 ^ k) (λ j. val F unfolded (pt F w (i * 2 ^ k + j) (h + k)))
+  -- row `i`, of the values `ys`, folds to log height `h` at each beta to the value of the
+  -- polynomial beside it
+  abbrev pub FoldsTo : (k : ℕ) (ys betas : List A) (polys : List (List A)) → Type 0
+  FoldsTo k ys betas polys =
+      map (λ beta. fold_value F w i h k beta ys) betas ≡ map (λ p. val F p (pt F w i h)) polys
+
+module _ {A : Type 0} (F : FieldOps A) where
+  -- over every family of roots of unity, each row of `2^k` values that folds at the betas to the
+  -- polynomials has the values of `unfolded` at its points
+  pub record IsUnfolding (k : ℕ) (betas : List A) (polys : List (List A)) (unfolded : List A)
+      : Type 0 where
+    pub rows : (top : ℕ) (w : ℕ → A) → AreRoots F top w
+        → (i h : ℕ) (ys : List A) → h + k ≤ top → i < 2 ^ h → length ys ≡ 2 ^ k
+        → FoldsTo F w i h k ys betas polys → ys ≡ row_values F w i h k unfolded

@@ -1,5 +1,6 @@
-//! The converse of folding: the one polynomial behind the rows whose folds, at enough challenges, are the values of
-//! given polynomials. Soundness arguments need it: words whose folds have low degree have low degree themselves.
+//! The converse of folding: the one polynomial behind the rows whose folds, at enough challenges,
+//! are the values of given polynomials. Soundness arguments need it: words whose folds have low
+//! degree have low degree themselves.
 #![tactic(auto)]
 
 pub mod laws;

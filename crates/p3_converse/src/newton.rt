@@ -1,16 +1,16 @@
-//! Interpolation in place by Newton's form, which divides by differences of the points alone: these are inverted
-//! once, however many lists of values follow.
+//! Interpolation in place by Newton's form, which divides by differences of the points alone: these
+//! are inverted once, however many lists of values follow.
 
 ghost use Rattle.std.specs.Prelude.{◌≡◌, ◌*◌, ◌≤◌, List, [], ◌∷◌, length, map, IfOk, OnOk};
 ghost use Rattle.algebra.specs.Interpolation.{AreDistinct, interpolant, plus_multiple};
-ghost use Rattle.p3_converse.specs.Columns.{part, joined};
+ghost use Rattle.p3_converse.specs.Positions.{part, concatenated};
 ghost use Rattle.p3_converse.specs.Newton.{difference_product, weights_of, newton_val, expanded};
 
 use p3_field::{Field, batch_multiplicative_inverse};
 use std::alloc::{AllocError, Global};
 
-/// For each point, the inverse of the product of its differences from the points before it, by one inversion. The
-/// products stand in `scratch` meanwhile, which is empty before and after.
+/// For each point, the inverse of the product of its differences from the points before it, by one
+/// inversion. The products stand in `scratch` meanwhile, which is empty before and after.
 pub fn newton_weights<F: Field>(
     alloc: Global,
     points: &[F],
@@ -40,13 +40,14 @@ fn product_of_differences<F: Field>(point: F, others: &[F]) -> F
     product
 }
 
-/// Turns each of the `count` lists of values at the points, which stand one after the other, into the coefficients
-/// of the one polynomial that has them, as many.
+/// Turns each of the `count` lists of values at the points, which stand one after another, into the
+/// coefficients of the one polynomial that has them, as many.
 pub fn interpolate_each<F: Field>(points: &[F], weights: &[F], count: usize, values: &mut [F])
     requires distinct { AreDistinct points.now }
     requires weights { weights.now ≡ weights_of F.ops points.now }
     requires count { length values.old ≡ count * length points.now }
-    ensures { values.new ≡ joined count (λ m. interpolant F.ops points.now (part values.old m (length points.now))) }
+    ensures { values.new ≡ concatenated count
+        (λ m. interpolant F.ops points.now (part values.old m (length points.now))) }
 {
     let len = points.len();
     for m in 0..count {
@@ -66,8 +67,8 @@ fn interpolate<F: Field>(points: &[F], weights: &[F], values: &mut [F])
     to_coefficients(points, values);
 }
 
-/// Turns values at the points into coefficients of Newton's form: each is what the form so far lacks at its point,
-/// divided by the product of that point's differences from the points before.
+/// Turns values at the points into coefficients of Newton's form: each is what the form so far
+/// lacks at its point, divided by the product of that point's differences from the points before.
 fn to_newton_form<F: Field>(points: &[F], weights: &[F], values: &mut [F])
     requires distinct { AreDistinct points.now }
     requires weights { weights.now ≡ weights_of F.ops points.now }
@@ -102,9 +103,11 @@ fn to_coefficients<F: Field>(points: &[F], coefficients: &mut [F])
     }
 }
 
-/// Turns the number `y` and, behind it, the coefficients of a polynomial `q` into those of `y + (X - root) * q`.
+/// Turns the number `y` and, behind it, the coefficients of a polynomial `q` into those of
+/// `y + (X - root) * q`.
 fn add_multiple<F: Field>(root: F, coefficients: &mut [F])
-    ensures { (y : F) (q : List F) → coefficients.old ≡ y ∷ q → coefficients.new ≡ plus_multiple F.ops root y q }
+    ensures { (y : F) (q : List F) → coefficients.old ≡ y ∷ q
+        → coefficients.new ≡ plus_multiple F.ops root y q }
 {
     for j in 1..coefficients.len() {
         coefficients[j - 1] = coefficients[j - 1] - root * coefficients[j];

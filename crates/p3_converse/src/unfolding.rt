@@ -2,24 +2,26 @@
 
 ghost use Rattle.std.specs.Prelude.{◌≡◌, ◌<◌, ◌*◌, ◌^◌, [], ◌++◌, length, vec_len, All, IfOk, OnOk};
 ghost use Rattle.algebra.specs.Interpolation.{AreDistinct};
-ghost use Rattle.p3_converse.specs.Columns.{column, columns};
+ghost use Rattle.p3_converse.specs.Positions.{coefficients_at, interleaved};
 ghost use Rattle.p3_converse.specs.Unfolding.{lists, common_length, IsUnfolding};
 
 use crate::newton::{interpolate_each, newton_weights};
 use p3_field::Field;
 use std::alloc::{AllocError, Global};
 
-/// The polynomial that folds to `polys[t]` at each `betas[t]`: the converse of folding (of FRI's folding step, ICALP
-/// 2018, at arity `2^log_arity`). Wherever a row of `2^log_arity` values folds at each of the betas to the value of
-/// the polynomial beside it at the row's point in the folded domain, the row has this polynomial's values at its own
-/// points. It depends on the betas and the polynomials alone, so one serves the rows of a word all together.
+/// The polynomial that folds to `polys[t]` at each `betas[t]`: the converse of folding (of FRI's
+/// folding step, ICALP 2018, at arity `2^log_arity`). Wherever a row of `2^log_arity` values
+/// folds at each of the betas to the value of the polynomial beside it at the row's point in the
+/// folded domain, the row has this polynomial's values at its own points. It depends on the betas
+/// and the polynomials alone, so one serves the rows of a word all together.
 ///
-/// There are `2^log_arity` betas, no two of them equal, and as many polynomials of one length `d`, as coefficients,
-/// the constant first; the answer has `d * 2^log_arity` coefficients. `Err` means that memory was wanting.
+/// There are `2^log_arity` betas, no two of them equal, and as many polynomials of one length
+/// `d`, as coefficients, the constant first; the answer has `d * 2^log_arity` coefficients. `Err`
+/// means that memory was wanting.
 ///
-/// Coefficient `j` of the polynomial through the points `(betas[t], polys[t][m])` becomes coefficient
-/// `m * 2^log_arity + j`. That takes some `d * 4^log_arity` multiplications and one inversion, and besides the answer
-/// one list of a weight for each beta.
+/// Coefficient `j` of the polynomial through the points `(betas[t], polys[t][m])` becomes
+/// coefficient `m * 2^log_arity + j`. That takes some `d * 4^log_arity` multiplications and one
+/// inversion, and besides the answer one list of a weight for each beta.
 pub fn unfold<EF: Field>(
     alloc: Global,
     log_arity: usize,
@@ -32,7 +34,8 @@ pub fn unfold<EF: Field>(
     requires one_length { All (λ p. vec_len p ≡ common_length polys.now) polys.now }
     requires fits { common_length polys.now * 2 ^ log_arity < 2 ^ 64 }
     ensures length { IfOk result (λ p. vec_len p ≡ common_length polys.now * 2 ^ log_arity) }
-    ensures rows { IfOk result (λ p. IsUnfolding EF.ops log_arity betas.now (lists polys.now) p.items) }
+    ensures rows { IfOk result
+        (λ p. IsUnfolding EF.ops log_arity betas.now (lists polys.now) p.items) }
 {
     let arity = 1 << log_arity;
     let degree_bound = polys[0].len();
@@ -43,9 +46,9 @@ pub fn unfold<EF: Field>(
     Ok(unfolded)
 }
 
-/// Appends what the polynomials, of `degree_bound` coefficients each, have at position 0, then what they have at
-/// position 1, and so on.
-#[tactic(auto, using(crate::proofs::Joined::joined_next))]
+/// Appends what the polynomials, of `degree_bound` coefficients each, have at position 0, then what
+/// they have at position 1, and so on.
+#[tactic(auto, using(crate::proofs::Concatenated::concatenated_next))]
 fn interleave<F: Field>(
     polys: &[Vec<F>],
     degree_bound: usize,
@@ -53,28 +56,26 @@ fn interleave<F: Field>(
 ) -> Result<(), AllocError>
     requires one_length { All (λ p. vec_len p ≡ degree_bound) polys.now }
     requires empty { entries.old.items ≡ [] }
-    ensures { OnOk result (entries.new.items ≡ columns F.ops (lists polys.now) degree_bound) }
+    ensures { OnOk result (entries.new.items ≡ interleaved F.ops (lists polys.now) degree_bound) }
 {
     for position in 0..degree_bound {
-        push_column(polys, position, entries)?;
+        push_coefficients_at(polys, position, entries)?;
     }
     Ok(())
 }
 
 /// Appends what each of the polynomials has at this position.
-fn push_column<F: Field>(
+fn push_coefficients_at<F: Field>(
     polys: &[Vec<F>],
     position: usize,
     entries: &mut Vec<F>,
 ) -> Result<(), AllocError>
     requires { All (λ p. position < vec_len p) polys.now }
-    ensures { OnOk result (entries.new.items ≡ entries.old.items ++ column F.ops (lists polys.now) position) }
+    ensures { OnOk result (entries.new.items
+        ≡ entries.old.items ++ coefficients_at F.ops (lists polys.now) position) }
 {
     for poly in polys {
         entries.push(poly[position])?;
     }
     Ok(())
 }
-
-#[cfg(test)]
-mod tests;

@@ -1,5 +1,7 @@
--- What the calls on matrices share: the logarithm of the height, and what a matrix and its values hold.
-use Rattle.std.proofs.Common.{◌≡◌, ℕ, suc, ◌+◌, ◌*◌, ◌/◌, ◌%◌, ◌^◌, ◌<◌, ◌≤◌, List, length, get_or, subst, sym, ap, ap₂, ◌∙◌, arith}
+-- What the calls on matrices share: the logarithm of the height, and what a matrix and its values
+-- hold.
+use Rattle.std.proofs.Common.{◌≡◌, ℕ, suc, ◌+◌, ◌*◌, ◌/◌, ◌%◌, ◌^◌, ◌<◌, ◌≤◌, List, length, get_or}
+use Rattle.std.proofs.Common.{subst, sym, ap, ap₂, ◌∙◌, arith}
 use Rattle.std.proofs.Math.Nat.{mul-mod_left, mul-mod_right, mul-div_cancel_left}
 use Rattle.std.proofs.lemmas.Nat.{pow_pos}
 use Rattle.algebra.specs.Field.{FieldOps, IsRing, IsField, pow}

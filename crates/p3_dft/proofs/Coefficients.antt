@@ -1,5 +1,7 @@
--- The coefficients of the one polynomial with given values at the powers of a root of unity, each times a power.
-use Rattle.std.proofs.Common.{◌≡◌, ℕ, ◌+◌, ◌*◌, ◌^◌, ◌<◌, ◌≤◌, List, get_or, refl, sym, ap, ◌∙◌, arith}
+-- The coefficients of the one polynomial with given values at the powers of a root of unity, each
+-- times a power.
+use Rattle.std.proofs.Common.{◌≡◌, ℕ, ◌+◌, ◌*◌, ◌^◌, ◌<◌, ◌≤◌, List, get_or, refl, sym, ap, ◌∙◌}
+use Rattle.std.proofs.Common.{arith}
 use Rattle.algebra.specs.Field.{FieldOps, IsRing, IsField, pow, multiple}
 use Rattle.algebra.specs.Polynomial.{val, tabulate}
 use Rattle.algebra.specs.Interpolation.{Interpolates, interpolant}
@@ -10,7 +12,8 @@ use Rattle.algebra.proofs.PolynomialProduct.{sum_below-equal}
 use Rattle.algebra.proofs.Sums.{val-tabulate}
 use Rattle.algebra.proofs.Points.{full_turn, powers_differ}
 use Rattle.algebra.proofs.Interpolation.{interpolant_interpolates, interpolates_unique}
-use Rattle.algebra.proofs.Lists.{Distinct, distinct-tabulate, length-tabulate, map-tabulate, get_or-tabulate, tabulate-equal}
+use Rattle.algebra.proofs.Lists.{Distinct, distinct-tabulate, length-tabulate, map-tabulate}
+use Rattle.algebra.proofs.Lists.{get_or-tabulate, tabulate-equal}
 use Rattle.p3_dft.specs.Evaluations.{subgroup_points}
 use Rattle.p3_dft.specs.Strided.{strided, HoldsValues}
 use Rattle.p3_dft.proofs.Inversion.{inverted}

@@ -1,4 +1,5 @@
--- The value of a polynomial from those of its even and of its odd coefficients, and so the two results of a butterfly.
+-- The value of a polynomial from those of its even and of its odd coefficients, and so the two
+-- results of a butterfly.
 use Rattle.std.proofs.Common.{◌≡◌, ℕ, zero, suc, ◌+◌, ◌^◌, ◌∷◌, refl, sym, ap, ap₂, ◌∙◌, arith}
 use Rattle.algebra.specs.Field.{FieldOps, IsRing, pow, sub}
 use Rattle.algebra.specs.Polynomial.{val, tabulate}
@@ -41,7 +42,8 @@ module _ {A : Type 0} (F : FieldOps A) (R : IsRing F) where
     squared : (m : ℕ) → pow F r m ⊗ pow F r m ≡ pow F v m
     squared m = pow-times F R r r m ∙ ap (λ x. pow F x m) square
 
-    -- the values at `r^m` and at `r^(2^s + m)`, where `r` has the order `2^(s + 1)`, from those at the square's power
+    -- the values at `r^m` and at `r^(2^s + m)`, where `r` has the order `2^(s + 1)`, from those at
+    -- the square's power
     pub butterfly_sum : (m : ℕ) → val F (tabulate (2 ^ s) g) (pow F v m) ⊕ val F (tabulate (2 ^ s) h) (pow F v m) ⊗ pow F r m ≡ val F (tabulate (2 ^ suc s) f) (pow F r m)
     butterfly_sum m = ap (λ t. val F (tabulate (2 ^ s) g) (pow F v m) ⊕ t) (R.mul_comm (val F (tabulate (2 ^ s) h) (pow F v m)) (pow F r m)) ∙ sym (halves_at (pow F r m) (pow F v m) (squared m))
 

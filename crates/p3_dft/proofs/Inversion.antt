@@ -1,4 +1,5 @@
--- The values at the inverse powers of a root of unity, of the polynomial of the values at its powers, are the
+-- The values at the inverse powers of a root of unity, of the polynomial of the values at its
+-- powers, are the
 -- coefficients, each `n` times.
 use Rattle.std.proofs.Common.{◌≡◌, ◌≢◌, ℕ, ◌<◌, refl, sym, ap, ap₂, ◌∙◌, mul_comm}
 use Rattle.algebra.specs.Field.{FieldOps, IsField, pow, multiple}
@@ -7,7 +8,8 @@ use Rattle.algebra.proofs.Ring.{◌:*◌, ◌:=◌, ring}
 use Rattle.algebra.proofs.RingLaws.{mul_zero, one_mul}
 use Rattle.algebra.proofs.Powers.{pow-times, pow-mul, pow-one_base}
 use Rattle.algebra.proofs.PolynomialProduct.{sum_below-equal}
-use Rattle.algebra.proofs.Sums.{val-tabulate, sum_below-factor, sum_below-swap, sum_below-single, sum_below-ones, sum_below-turn}
+use Rattle.algebra.proofs.Sums.{val-tabulate, sum_below-factor, sum_below-swap, sum_below-single}
+use Rattle.algebra.proofs.Sums.{sum_below-ones, sum_below-turn}
 
 module _ {A : Type 0} (F : FieldOps A) (L : IsField F) (n : ℕ) (w u size_inverse : A)
     (inverse : F.mul w u ≡ F.one) (turn : pow F w n ≡ F.one)

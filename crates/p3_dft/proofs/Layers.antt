@@ -1,6 +1,8 @@
--- The layers of the transform: after `s` of them, rows of `2^s` values of the polynomials of every `2^s`-th
+-- The layers of the transform: after `s` of them, rows of `2^s` values of the polynomials of every
+-- `2^s`-th
 -- coefficients.
-use Rattle.std.proofs.Common.{◌≡◌, inl, inr, ℕ, zero, suc, ◌+◌, ◌-◌, ◌*◌, ◌/◌, ◌^◌, ◌<◌, List, get_or, subst, sym, ap, ap₂, ◌∙◌, arith}
+use Rattle.std.proofs.Common.{◌≡◌, inl, inr, ℕ, zero, suc, ◌+◌, ◌-◌, ◌*◌, ◌/◌, ◌^◌, ◌<◌, List}
+use Rattle.std.proofs.Common.{get_or, subst, sym, ap, ap₂, ◌∙◌, arith}
 use Rattle.std.proofs.lemmas.Bool.{cases_lt}
 use Rattle.algebra.specs.Field.{FieldOps, IsRing, pow, sub}
 use Rattle.algebra.specs.Polynomial.{val}

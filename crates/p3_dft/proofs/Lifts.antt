@@ -1,4 +1,5 @@
--- What an embedding of a field into another carries over: negatives, half turns, tables of powers, inverses.
+-- What an embedding of a field into another carries over: negatives, half turns, tables of powers,
+-- inverses.
 use Rattle.std.proofs.Common.{◌≡◌, ℕ, ◌<◌, List, get_or, sym, ap, ◌∙◌}
 use Rattle.algebra.specs.Field.{FieldOps, IsRing, IsHomomorphism, pow, multiple}
 use Rattle.algebra.specs.Polynomial.{tabulate}

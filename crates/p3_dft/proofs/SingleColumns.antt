@@ -1,5 +1,6 @@
 -- Rows of one entry: the column is the list.
-use Rattle.std.proofs.Common.{◌≡◌, ℕ, ◌+◌, ◌*◌, ◌^◌, ◌<◌, ◌≤◌, List, length, get_or, map, sym, ap, ◌∙◌, arith}
+use Rattle.std.proofs.Common.{◌≡◌, ℕ, ◌+◌, ◌*◌, ◌^◌, ◌<◌, ◌≤◌, List, length, get_or, map, sym, ap}
+use Rattle.std.proofs.Common.{◌∙◌, arith}
 use Rattle.algebra.specs.Field.{FieldOps, IsField, pow}
 use Rattle.algebra.specs.Polynomial.{val}
 use Rattle.algebra.specs.Interpolation.{Interpolates, interpolant}

@@ -1,5 +1,7 @@
--- The sizes of a transform: of its blocks, of its strides, and powers of two as elements of a field.
-use Rattle.std.proofs.Common.{◌≡◌, ℕ, suc, ◌+◌, ◌-◌, ◌*◌, ◌/◌, ◌%◌, ◌^◌, ◌<◌, ◌≤◌, refl, sym, ap, ap₂, ◌∙◌, arith, Fits, w64}
+-- The sizes of a transform: of its blocks, of its strides, and powers of two as elements of a
+-- field.
+use Rattle.std.proofs.Common.{◌≡◌, ℕ, suc, ◌+◌, ◌-◌, ◌*◌, ◌/◌, ◌%◌, ◌^◌, ◌<◌, ◌≤◌, refl, sym, ap}
+use Rattle.std.proofs.Common.{ap₂, ◌∙◌, arith, Fits, w64}
 use Rattle.std.proofs.Math.Nat.{mul_assoc, pow-le-pow_right}
 use Rattle.std.proofs.Math.Facts.{Fits-of_lt}
 use Rattle.std.proofs.lemmas.Nat.{pow-add, pow_pos, div-add-mod', row_fits}

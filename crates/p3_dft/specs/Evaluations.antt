@@ -7,22 +7,26 @@ use Rattle.p3_matrix.specs.declared.dense.RowMajorMatrix.{RowMajorMatrix}
 use Rattle.p3_matrix.specs.Matrix.{rows, matrix_width}
 
 module _ {A : Type 0} (F : FieldOps A) where
-  -- the powers of `w`, from one on: the subgroup of order `2^k` that a root of unity of that order generates
+  -- the powers of `w`, from one on: the subgroup of order `2^k` that a root of unity of that order
+  -- generates
   abbrev pub subgroup_points : (w : A) (k : ℕ) → List A
   subgroup_points w k = tabulate (2 ^ k) (λ i. pow F w i)
 
-  -- column `j` of the matrix (zero is the default of that look-up, which no column within the width needs)
+  -- column `j` of the matrix (zero is the default of that look-up, which no column within the width
+  -- needs)
   abbrev pub column : (matrix : RowMajorMatrix A) (j : ℕ) → List A
   column matrix j = map (λ entries. slice_index_or entries j F.zero) (rows matrix)
 
-  -- each column of `values` holds the values at `points` of the polynomial whose coefficients, as many as points,
+  -- each column of `values` holds the values at `points` of the polynomial whose coefficients, as
+  -- many as points,
   -- stand in that column of `coefficients`
   pub record AreEvaluations (points : List A) (coefficients values : RowMajorMatrix A) : Type 0 where
     pub width : matrix_width values ≡ matrix_width coefficients
     pub height : length (rows values) ≡ length (rows coefficients)
     pub columns : (j : ℕ) → j < matrix_width coefficients → Interpolates F points (column values j) (column coefficients j)
 
-  -- each column of `extended` holds the values at `others` of the one polynomial of as many coefficients as there are
+  -- each column of `extended` holds the values at `others` of the one polynomial of as many
+  -- coefficients as there are
   -- `points` that has there the values in that column of `values`
   pub record AreExtensions (points others : List A) (values extended : RowMajorMatrix A) : Type 0 where
     pub width : matrix_width extended ≡ matrix_width values

@@ -8,6 +8,7 @@ module _ {A : Type 0} (F : FieldOps A) where
   abbrev pub strided : (width height : ℕ) (xs : List A) (j : ℕ) → List A
   strided width height xs j = tabulate height (λ i. slice_index_or xs (i * width + j) F.zero)
 
-  -- row `i` of `ys`, of `width` entries, holds the values at `x^i` of the polynomials in the columns of `xs`
+  -- row `i` of `ys`, of `width` entries, holds the values at `x^i` of the polynomials in the
+  -- columns of `xs`
   abbrev pub HoldsValues : (x : A) (width height : ℕ) (xs ys : List A) → Type 0
   HoldsValues x width height xs ys = (i j : ℕ) → i < height → j < width → slice_index_or ys (i * width + j) F.zero ≡ val F (strided width height xs j) (pow F x i)

@@ -140,6 +140,3 @@ impl<F: TwoAdicField> TwoAdicSubgroupDft<F> for Radix2Dit<F> {
         interpolate(alloc, values, 1, log_height, F::ONE)
     }
 }
-
-#[cfg(test)]
-mod tests;

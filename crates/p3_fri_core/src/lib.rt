@@ -1,22 +1,16 @@
-//! The core of FRI: the parameters of an instance, the schedule of its folds, the fold itself, and the transcript that
-//! both sides of the low-degree test draw their challenges from.
+//! The core of FRI: the parameters of an instance, the schedule of its folds, the fold itself, and the transcripts that
+//! both sides of the low-degree test, and of the polynomial commitment scheme around it, draw their challenges from.
+//!
+//! This crate has no code of its own: it shows the crates below under the Rust crate's modules and names.
 #![tactic(auto)]
 
 pub mod config;
-pub mod folding;
 pub mod laws;
-pub mod pcs_transcript;
-mod pow;
-pub mod pow_phase;
-mod steps;
-pub mod strategy;
-pub mod transcript;
 
-pub use crate::config::{
-    FriParameters, FriProverError, compute_log_arity_for_round, fold_schedule, is_strictly_falling,
+pub use p3_fri_folding::{
+    FriFoldingStrategy, FriParameters, TwoAdicFriFolding, compute_log_arity_for_round,
+    fold_schedule, folding, is_strictly_falling, strategy,
 };
-pub use crate::folding::TwoAdicFriFolding;
-pub use crate::pcs_transcript::PcsShape;
-pub use crate::pow_phase::PowPhase;
-pub use crate::strategy::FriFoldingStrategy;
-pub use crate::transcript::FriShape;
+pub use p3_fri_pcs_transcript::{PcsShape, pcs_transcript};
+pub use p3_fri_steps::{FriProverError, PowPhase, pow_phase};
+pub use p3_fri_transcript::{FriShape, transcript};

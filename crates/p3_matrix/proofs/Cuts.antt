@@ -1,7 +1,9 @@
 -- The rows of a list that is cut between two rows.
-use Rattle.std.proofs.Common.{◌≡◌, ℕ, ◌+◌, ◌-◌, ◌*◌, ◌/◌, ◌%◌, ◌<◌, ◌≤◌, List, length, sym, ap, ◌∙◌, arith, take, drop, length-drop}
+use Rattle.std.proofs.Common.{◌≡◌, ℕ, ◌+◌, ◌-◌, ◌*◌, ◌/◌, ◌%◌, ◌<◌, ◌≤◌, List, length, sym, ap, ◌∙◌}
+use Rattle.std.proofs.Common.{arith, take, drop, length-drop}
 use Rattle.std.specs.List.{between}
-use Rattle.std.proofs.lemmas.List.{same_lists, take-take, drop-drop, length-take-le, get_or-take, get_or-drop}
+use Rattle.std.proofs.lemmas.List.{same_lists, take-take, drop-drop, length-take-le, get_or-take}
+use Rattle.std.proofs.lemmas.List.{get_or-drop}
 use Rattle.std.proofs.lemmas.Slice.{between_is}
 use Rattle.std.proofs.lemmas.Nat.{row_fits, div-add-mod', div-mul-add, mod-mul-add, mul-le}
 use Rattle.p3_matrix.specs.Rows.{rows_of}

@@ -1,13 +1,14 @@
 //! Matrices whose rows lie one after another in one list.
 
-ghost use Rattle.std.specs.Prelude.{◌≡◌, ◌<◌, ◌≤◌, ◌+◌, ◌*◌, ◌/◌, ◌%◌, ◌^◌, ◌↔◌, ⊤, ℕ, IsSome, IfSome, IfOk, [], length, take, drop, slice_index_or, vec_len};
+ghost use Rattle.std.specs.Prelude.{◌≡◌, ◌<◌, ◌≤◌, ◌+◌, ◌*◌, ◌/◌, ◌%◌, ◌^◌, ◌↔◌, ⊤, ℕ};
+ghost use Rattle.std.specs.Prelude.{IsSome, IfSome, IfOk, [], length, take, drop};
+ghost use Rattle.std.specs.Prelude.{slice_index_or, vec_len};
 ghost use Rattle.std.specs.Int.{IsPowerOfTwo};
 ghost use Rattle.std.specs.List.{SwappedAt};
 ghost use Rattle.p3_field.specs.Index.{bit_reversed};
 ghost use Rattle.p3_matrix.specs.Rows.{rows_of};
 
 use crate::Dimensions;
-use p3_field::{log2_strict_usize, reverse_bits_len};
 use std::alloc::{AllocError, Global};
 
 /// A matrix of at least one column, kept as its rows one after another.
@@ -40,7 +41,7 @@ impl<'a, T> Clone for RowMajorMatrixView<'a, T> {
 
 impl<'a, T> Copy for RowMajorMatrixView<'a, T> {}
 
-#[tactic(auto, unfolding(crate::specs::Matrix::rows, crate::specs::Matrix::matrix_width, crate::specs::Matrix::view_rows, crate::specs::Matrix::view_width))]
+#[tactic(auto, unfolding(crate::specs::Matrix::view_rows, crate::specs::Matrix::view_width))]
 impl<'a, T: Copy> RowMajorMatrixView<'a, T> {
     ghost use Rattle.p3_matrix.specs.Matrix.{rows, matrix_width, view_rows, view_width};
 
@@ -104,12 +105,12 @@ impl<'a, T: Copy> RowMajorMatrixView<'a, T> {
     }
 }
 
-#[tactic(auto, unfolding(crate::specs::Matrix::rows, crate::specs::Matrix::matrix_width, crate::specs::Matrix::view_rows, crate::specs::Matrix::view_width))]
+#[tactic(auto, unfolding(crate::specs::Matrix::rows, crate::specs::Matrix::matrix_width))]
 impl<T: Copy> RowMajorMatrix<T> {
     ghost use Rattle.p3_matrix.specs.Matrix.{rows, matrix_width, view_rows, view_width};
 
-    /// The matrix of these values, row after row, `width` to a row. There is at least one column, and the last row
-    /// is whole.
+    /// The matrix of these values, row after row, `width` to a row. There is at least one column,
+    /// and the last row is whole.
     pub fn new(values: Vec<T>, width: usize) -> Self
         requires has_columns { 0 < width }
         requires whole_rows { vec_len values % width ≡ 0 }
@@ -175,8 +176,10 @@ impl<T: Copy> RowMajorMatrix<T> {
 
     /// The entry at this row and column, or `None` outside the matrix.
     pub fn get(&self, row: usize, column: usize) -> Option<T>
-        ensures inside { IsSome result ↔ ((row < length (rows self.now)) × (column < matrix_width self.now)) }
-        ensures value { IfSome result (λ x. x ≡ slice_index_or (slice_index_or (rows self.now) row []) column x) }
+        ensures inside { IsSome result
+            ↔ ((row < length (rows self.now)) × (column < matrix_width self.now)) }
+        ensures value { IfSome result (λ x.
+            x ≡ slice_index_or (slice_index_or (rows self.now) row []) column x) }
     {
         if row < self.height() && column < self.width() {
             Some(self.row(row)[column])
@@ -199,7 +202,8 @@ impl<T: Copy> RowMajorMatrix<T> {
     /// The matrix with its rows in bit-reversed order. Their number is a power of two.
     pub fn bit_reverse_rows(self) -> Self
         requires power_of_two { IsPowerOfTwo (length (rows self)) }
-        ensures rows { (k : ℕ) → length (rows self) ≡ 2 ^ k → rows result ≡ bit_reversed k (rows self) }
+        ensures rows { (k : ℕ) → length (rows self) ≡ 2 ^ k
+            → rows result ≡ bit_reversed k (rows self) }
         ensures width { matrix_width result ≡ matrix_width self }
     {
         let width = self.width;
@@ -213,12 +217,14 @@ impl<T: Copy> RowMajorMatrix<T> {
 fn reverse_row_index_bits<T>(values: &mut [T], width: usize)
     requires has_columns { 0 < width }
     requires power_of_two { IsPowerOfTwo (length values.old / width) }
-    ensures { (k : ℕ) → length values.old / width ≡ 2 ^ k → rows_of width values.new ≡ bit_reversed k (rows_of width values.old) }
+    ensures { (k : ℕ) → length values.old / width ≡ 2 ^ k
+        → rows_of width values.new ≡ bit_reversed k (rows_of width values.old) }
 {
     let height = values.len() / width;
-    let log_height = log2_strict_usize(height);
+    let mut j = 0;
     for i in 1..height {
-        let j = reverse_bits_len(i, log_height);
+        // `j` is `i` with its digits reversed: the step is `reverse_slice_index_bits`'s.
+        j ^= height - (height >> (i.trailing_zeros() + 1));
         if i < j {
             swap_rows(values, width, i, j);
         }
@@ -234,81 +240,4 @@ fn swap_rows<T>(values: &mut [T], width: usize, upper: usize, lower: usize)
     let (front, back) = values.split_at_mut(lower * width);
     let start = upper * width;
     front[start..start + width].swap_with_slice(&mut back[..width]);
-}
-
-#[cfg(test)]
-mod tests {
-    use super::*;
-    use crate::laws::rows_law;
-    use std::test::Fail;
-
-    #[test]
-    fn reads_rows_and_entries(rt: HostRuntime) -> Result<(), Fail> {
-        let values = vec![in rt.alloc(); 1u32, 2, 3, 4, 5, 6]?;
-        let matrix = RowMajorMatrix::new(values, 3);
-        assert_eq!(rt;
-            matrix.dimensions(),
-            Dimensions {
-                width: 3,
-                height: 2
-            }
-        );
-        assert_eq!(rt; matrix.width(), 3);
-        assert_eq!(rt; matrix.height(), 2);
-        assert_eq!(rt; matrix.row(0), [1, 2, 3].as_slice());
-        assert_eq!(rt; matrix.row(1), [4, 5, 6].as_slice());
-        assert_eq!(rt; matrix.get(1, 0), Some(4));
-        assert_eq!(rt; matrix.get(1, 3), None);
-        assert_eq!(rt; matrix.get(2, 0), None);
-        rows_law(&matrix);
-        assert_eq!(rt;
-            matrix.into_values().as_slice(),
-            [1, 2, 3, 4, 5, 6].as_slice()
-        );
-        Ok(())
-    }
-
-    #[test]
-    fn splits_rows(rt: HostRuntime) -> Result<(), Fail> {
-        let values = vec![in rt.alloc(); 1u8, 2, 3, 4, 5, 6]?;
-        let matrix = RowMajorMatrix::new(values, 2);
-        assert_eq!(rt; matrix.height(), 3);
-        let (first, others) = matrix.split_rows(1);
-        assert_eq!(rt; first.width(), 2);
-        assert_eq!(rt; first.height(), 1);
-        assert_eq!(rt; others.height(), 2);
-        let others = others.to_row_major_matrix(rt.alloc())?;
-        assert_eq!(rt; others.into_values().as_slice(), [3, 4, 5, 6].as_slice());
-        let (all, none) = matrix.split_rows(3);
-        assert_eq!(rt; all.row(2), [5, 6].as_slice());
-        assert_eq!(rt; none.height(), 0);
-        Ok(())
-    }
-
-    #[test]
-    fn reverses_row_indices(rt: HostRuntime) -> Result<(), Fail> {
-        let values = vec![in rt.alloc(); 0u64, 1, 10, 11, 20, 21, 30, 31]?;
-        let matrix = RowMajorMatrix::new(values, 2);
-        assert_eq!(rt; matrix.height(), 4);
-        let reversed = matrix.bit_reverse_rows();
-        assert_eq!(rt; reversed.width(), 2);
-        assert_eq!(rt;
-            reversed.into_values().as_slice(),
-            [0, 1, 20, 21, 10, 11, 30, 31].as_slice()
-        );
-        let values = vec![in rt.alloc(); 0u32, 1, 2, 3, 4, 5, 6, 7]?;
-        let matrix = RowMajorMatrix::new(values, 1);
-        assert_eq!(rt; matrix.height(), 8);
-        let reversed = matrix.bit_reverse_rows();
-        assert_eq!(rt;
-            reversed.into_values().as_slice(),
-            [0, 4, 2, 6, 1, 5, 3, 7].as_slice()
-        );
-        let values = vec![in rt.alloc(); 7u32, 9]?;
-        let matrix = RowMajorMatrix::new(values, 2);
-        assert_eq!(rt; matrix.height(), 1);
-        let one = matrix.bit_reverse_rows();
-        assert_eq!(rt; one.into_values().as_slice(), [7, 9].as_slice());
-        Ok(())
-    }
 }

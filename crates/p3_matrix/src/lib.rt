@@ -1,4 +1,5 @@
-//! Matrices of field elements, row after row. Contracts see a matrix as the list of its rows, which have one width.
+//! Matrices of field elements, row after row. Contracts see a matrix as the list of its rows,
+//! which have one width.
 #![tactic(auto)]
 
 pub mod dense;

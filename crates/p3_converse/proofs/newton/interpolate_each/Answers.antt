@@ -1,7 +1,7 @@
 use Rattle.std.proofs.Common.{◌≡◌, ◌+◌, ◌-◌, ◌*◌, ℕ, List, length, ap, ◌∙◌, arith}
 use Rattle.algebra.specs.Interpolation.{interpolant}
-use Rattle.p3_converse.specs.Columns.{part}
-use Rattle.p3_converse.proofs.Joined.{written_part, written_step, length-part}
+use Rattle.p3_converse.specs.Positions.{part}
+use Rattle.p3_converse.proofs.Concatenated.{written_part, written_step, length-part}
 use Rattle.p3_converse.proofs.newton.interpolate_each.Goals as goal
 
 pub loop-m-preserved : goal.loop-m-preserved

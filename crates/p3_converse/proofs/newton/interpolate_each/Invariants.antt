@@ -1,7 +1,7 @@
 use Rattle.std.proofs.Common.{length}
 use Rattle.algebra.specs.Interpolation.{interpolant}
-use Rattle.p3_converse.specs.Columns.{part}
-use Rattle.p3_converse.proofs.Joined.{IsWrittenUpTo}
+use Rattle.p3_converse.specs.Positions.{part}
+use Rattle.p3_converse.proofs.Concatenated.{IsWrittenUpTo}
 use Rattle.p3_converse.proofs.newton.interpolate_each.Given as goal
 
 abbrev pub invariant-loop-m : goal.invariant-loop-m

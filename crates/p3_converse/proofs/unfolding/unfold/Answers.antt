@@ -2,10 +2,10 @@ use Rattle.std.proofs.Common.{◌≡◌, ◌*◌, ◌^◌, ◌<◌, length, sym,
 use Rattle.std.proofs.lemmas.List.{with_items_is}
 use Rattle.std.proofs.lemmas.Nat.{pow_pos}
 use Rattle.algebra.proofs.Lists.{each_from_All}
-use Rattle.p3_converse.specs.Columns.{column}
+use Rattle.p3_converse.specs.Positions.{coefficients_at}
 use Rattle.p3_converse.specs.Unfolding.{lists, common_length}
-use Rattle.p3_converse.proofs.Columns.{length-column, length-lists, common_length-first, one_length-lists, log_small}
-use Rattle.p3_converse.proofs.Joined.{length-joined}
+use Rattle.p3_converse.proofs.Positions.{length-coefficients_at, length-lists, common_length-first, one_length-lists, log_small}
+use Rattle.p3_converse.proofs.Concatenated.{length-concatenated}
 use Rattle.p3_converse.proofs.Unfolded.{is_unfolding_of_parts}
 use Rattle.p3_converse.proofs.unfolding.unfold.Goals as goal
 
@@ -18,7 +18,7 @@ interpolate_each-requires-clause-count g c =
     let polys = c.args.polys.now in
     let betas = c.args.betas.now in
     ap length (c.deref_mut.ensures.value ∙ c.in_ok-interleave.ensures)
-    ∙ length-joined (length betas) c.len-degree_bound.result (column F (lists polys)) (λ m l. length-column F (lists polys) m ∙ length-lists polys ∙ c.requires.as_many ∙ sym c.requires.arity)
+    ∙ length-concatenated (length betas) c.len-degree_bound.result (coefficients_at F (lists polys)) (λ m l. length-coefficients_at F (lists polys) m ∙ length-lists polys ∙ c.requires.as_many ∙ sym c.requires.arity)
 
 pub returns-clause-length : goal.returns-clause-length
 returns-clause-length g c =
@@ -27,7 +27,7 @@ returns-clause-length g c =
     let some : 0 < length polys = omega (arith, c.requires.as_many, pow_pos c.args.log_arity) in
     c.interleave.new.entries.ok.0
     ∙ ap length c.in_ok-interleave.ensures
-    ∙ length-joined (2 ^ c.args.log_arity) c.len-degree_bound.result (column F (lists polys)) (λ m l. length-column F (lists polys) m ∙ length-lists polys ∙ c.requires.as_many)
+    ∙ length-concatenated (2 ^ c.args.log_arity) c.len-degree_bound.result (coefficients_at F (lists polys)) (λ m l. length-coefficients_at F (lists polys) m ∙ length-lists polys ∙ c.requires.as_many)
     ∙ ap (λ d. d * 2 ^ c.args.log_arity) (c.len-degree_bound.ensures ∙ common_length-first polys c.index-polys-0.result some c.index-polys-0.is)
 
 pub returns-clause-rows : goal.returns-clause-rows

@@ -1,11 +1,13 @@
 -- Each layer keeps what the loop knows of the rows; the sizes are powers of two times the width.
-use Rattle.std.proofs.Common.{rules, ◌≡◌, ◌+◌, ◌-◌, ◌*◌, ◌/◌, ◌%◌, ◌^◌, ℕ, length, get_or, arith, ap, subst, refl, sym, ◌∙◌}
+use Rattle.std.proofs.Common.{rules, ◌≡◌, ◌+◌, ◌-◌, ◌*◌, ◌/◌, ◌%◌, ◌^◌, ℕ, length, get_or, arith}
+use Rattle.std.proofs.Common.{ap, subst, refl, sym, ◌∙◌}
 use Rattle.std.proofs.lemmas.Nat.{one_shl}
 use Rattle.std.proofs.lemmas.List.{with_items_is}
 use Rattle.algebra.proofs.Lists.{length-tabulate}
 use Rattle.algebra.specs.Field.{pow}
 use Rattle.p3_dft.specs.Strided.{HoldsValues}
-use Rattle.p3_dft.proofs.Sizes.{whole_size, stride_halved, block_halved, block_twice, twiddle_below, pairs_of_blocks, power_fits, double_next}
+use Rattle.p3_dft.proofs.Sizes.{whole_size, stride_halved, block_halved, block_twice, twiddle_below}
+use Rattle.p3_dft.proofs.Sizes.{pairs_of_blocks, power_fits, double_next}
 use Rattle.p3_dft.proofs.Layers.{first_layer, layer_step, last_layer}
 use Rattle.p3_dft.proofs.Lifts.{lifted_turn, lifted_power}
 use Rattle.p3_dft.proofs.transform.transform.Goals as goal

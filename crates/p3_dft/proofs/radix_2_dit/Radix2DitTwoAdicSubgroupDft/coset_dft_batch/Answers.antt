@@ -1,4 +1,5 @@
-use Rattle.std.proofs.Common.{◌≡◌, ◌*◌, ◌^◌, ◌-◌, ◌/◌, ◌+◌, ℕ, length, get_or, arith, ap, subst, sym, ◌∙◌}
+use Rattle.std.proofs.Common.{◌≡◌, ◌*◌, ◌^◌, ◌-◌, ◌/◌, ◌+◌, ℕ, length, get_or, arith, ap, subst}
+use Rattle.std.proofs.Common.{sym, ◌∙◌}
 use Rattle.std.proofs.lemmas.List.{with_items_is}
 use Rattle.algebra.specs.Field.{pow}
 use Rattle.p3_field.proofs.IndexPowers.{exponents_agree}
@@ -7,7 +8,8 @@ use Rattle.p3_field.specs.Coset.{coset_point, coset_points}
 use Rattle.p3_dft.specs.Evaluations.{AreEvaluations}
 use Rattle.p3_dft.proofs.Turns.{root_turn}
 use Rattle.p3_dft.proofs.Columns.{Holds, evaluations_by_entries}
-use Rattle.p3_dft.proofs.Batches.{exponent_within, whole_columns, whole_heights, width_of_size, held_by_values, held_by_new, values_at, coset_values}
+use Rattle.p3_dft.proofs.Batches.{exponent_within, whole_columns, whole_heights, width_of_size}
+use Rattle.p3_dft.proofs.Batches.{held_by_values, held_by_new, values_at, coset_values}
 use Rattle.p3_dft.proofs.radix_2_dit.Radix2DitTwoAdicSubgroupDft.coset_dft_batch.Goals as goal
 
 pub two_adic_generator-root-requires : goal.two_adic_generator-root-requires

@@ -9,7 +9,8 @@ use Rattle.p3_dft.specs.Evaluations.{subgroup_points, AreEvaluations}
 use Rattle.p3_dft.specs.Strided.{strided}
 use Rattle.p3_dft.proofs.Columns.{Holds, evaluations_by_entries}
 use Rattle.p3_dft.proofs.Coefficients.{val-interpolant}
-use Rattle.p3_dft.proofs.Batches.{exponent_within, whole_columns, held_by_values, held_by_new, shifted_back}
+use Rattle.p3_dft.proofs.Batches.{exponent_within, whole_columns, held_by_values, held_by_new}
+use Rattle.p3_dft.proofs.Batches.{shifted_back}
 use Rattle.p3_dft.proofs.radix_2_dit.Radix2DitTwoAdicSubgroupDft.coset_idft_batch.Goals as goal
 
 pub interpolate-requires-clause-within_two_adicity : goal.interpolate-requires-clause-within_two_adicity

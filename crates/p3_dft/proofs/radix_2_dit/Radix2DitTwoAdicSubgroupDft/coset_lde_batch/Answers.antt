@@ -1,14 +1,18 @@
--- The coefficients, each times a power of the shift, with zeros below them, and their values at the powers of the
+-- The coefficients, each times a power of the shift, with zeros below them, and their values at the
+-- powers of the
 -- greater root.
-use Rattle.std.proofs.Common.{◌≡◌, ◌≤◌, ◌<◌, ◌+◌, ◌-◌, ◌*◌, ◌/◌, ◌^◌, ◌++◌, take, replicate, ℕ, length, get_or, arith, ap, subst, sym, ◌∙◌}
+use Rattle.std.proofs.Common.{◌≡◌, ◌≤◌, ◌<◌, ◌+◌, ◌-◌, ◌*◌, ◌/◌, ◌^◌, ◌++◌, take, replicate, ℕ}
+use Rattle.std.proofs.Common.{length, get_or, arith, ap, subst, sym, ◌∙◌}
 use Rattle.algebra.specs.Field.{pow}
 use Rattle.p3_field.specs.Coset.{coset_point, coset_points}
 use Rattle.p3_field.proofs.IndexPowers.{exponents_agree}
 use Rattle.p3_dft.specs.Evaluations.{subgroup_points, AreExtensions}
 use Rattle.p3_dft.proofs.Turns.{root_turn}
 use Rattle.p3_dft.proofs.Columns.{Holds}
-use Rattle.p3_dft.proofs.Batches.{whole_columns, whole_heights, width_of_size, held_by_values, held_by_new, values_at}
-use Rattle.p3_dft.proofs.Extensions.{extended_within, extended_size, size_of_product, get_or-filled, padded_column, extensions_by_entries}
+use Rattle.p3_dft.proofs.Batches.{whole_columns, whole_heights, width_of_size, held_by_values}
+use Rattle.p3_dft.proofs.Batches.{held_by_new, values_at}
+use Rattle.p3_dft.proofs.Extensions.{extended_within, extended_size, size_of_product, get_or-filled}
+use Rattle.p3_dft.proofs.Extensions.{padded_column, extensions_by_entries}
 use Rattle.p3_dft.proofs.radix_2_dit.Radix2DitTwoAdicSubgroupDft.coset_lde_batch.Goals as goal
 
 pub overflow_add-log_extended : goal.overflow_add-log_extended

@@ -5,7 +5,8 @@ use Rattle.p3_matrix.specs.Matrix.{rows, matrix_width}
 use Rattle.p3_dft.specs.Evaluations.{subgroup_points, AreEvaluations}
 use Rattle.p3_dft.proofs.Turns.{root_turn}
 use Rattle.p3_dft.proofs.Columns.{Holds, evaluations_by_entries}
-use Rattle.p3_dft.proofs.Batches.{exponent_within, whole_columns, whole_heights, width_of_size, held_by_values, held_by_new, values_at}
+use Rattle.p3_dft.proofs.Batches.{exponent_within, whole_columns, whole_heights, width_of_size}
+use Rattle.p3_dft.proofs.Batches.{held_by_values, held_by_new, values_at}
 use Rattle.p3_dft.proofs.radix_2_dit.Radix2DitTwoAdicSubgroupDft.dft_batch.Goals as goal
 
 pub two_adic_generator-root-requires : goal.two_adic_generator-root-requires

@@ -1,9 +1,0 @@
-use Rattle.std.proofs.Common.{◌≡◌, ◌++◌, map, drop}
-use Rattle.std.specs.List.{flat_map}
-use Rattle.p3_challenger.specs.Pattern.{step_of, step_bytes}
-use Rattle.p3_challenger.proofs.fs.domain_separator.push_steps.Given as goal
-
-abbrev pub invariant-loop-step : goal.invariant-loop-step
-invariant-loop-step l =
-    l.stream.items ++ flat_map step_bytes (map step_of (drop l.step-index l.steps))
-    ≡ l.initial.stream.items ++ flat_map step_bytes (map step_of l.steps)

@@ -1,6 +1,0 @@
-use Rattle.std.proofs.Common.{rules}
-use Rattle.p3_challenger.proofs.Runs.{run-observed_all}
-use Rattle.p3_challenger.proofs.sha256_challenger.tests.draws_after.Goals as goal
-
-pub returns : goal.returns
-returns g c = rw (run-observed_all, ← c.observe_slice.ensures) (search rules)

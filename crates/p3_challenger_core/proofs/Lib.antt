@@ -1,0 +1,2 @@
+pub mod Grinds
+pub mod Runs

@@ -1,0 +1,13 @@
+use Rattle.std.proofs.Common.{◌≡◌, ◌-◌, ◌++◌}
+use Rattle.p3_challenger_core.specs.Run.{draws}
+use Rattle.p3_challenger_fs.proofs.script.draw_numbers.Given as goal
+
+abbrev pub invariant-loop : goal.invariant-loop
+invariant-loop g l =
+    let draw = λ (c : g.row.C.Denot). g.C.CanSampleBits.sampled_bits c l.width in
+    let left = draws draw l.challenger (l.count - l.counter) in
+    let all = draws draw l.fn.challenger l.count in
+    record {
+      values : l.numbers.items ++ left.value ≡ all.value;
+      state : left.state ≡ all.state;
+    }

@@ -1,0 +1,6 @@
+pub mod Pattern
+pub mod Description
+pub mod Separator
+pub mod Script
+pub mod Turns
+pub mod StreamLaws

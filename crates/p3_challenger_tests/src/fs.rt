@@ -1,0 +1,283 @@
+//! The bytes of a description, worked out by hand from the rule, and both sides of a transcript of every kind of step,
+//! whose draws were computed with the hashlib module of Python's standard library from the rules of the formats.
+
+ghost use Rattle.std.specs.Prelude.{◌≡◌, ◌∷◌, [], map};
+ghost use Rattle.p3_challenger.specs.pattern.Hierarchy.TheVariants.{Atomic, Begin, End};
+ghost use Rattle.p3_challenger.specs.pattern.Kind.TheVariants.{Message, Challenge, Pow, Protocol};
+ghost use Rattle.p3_challenger.specs.pattern.TypeTag.TheVariants.{Opaque, Algebra, Bits, Marker};
+ghost use Rattle.p3_challenger.specs.pattern.Length.TheVariants.{Scalar, Fixed};
+ghost use Rattle.p3_challenger.specs.Pattern.{turn_of};
+ghost use Rattle.p3_challenger.specs.Separator.{description};
+
+use p3_challenger::fs::{
+    DomainSeparator, Hierarchy, Interaction, InteractionPattern, Kind, Length, ProverState,
+    VerifierState,
+};
+use p3_challenger::laws::seed_stream_law;
+use p3_challenger::{CanObserve, Sha256Challenger};
+use p3_field::{BabyBear, BabyBear4, ExtensionField, Field, PrimeField64};
+use std::alloc::{AllocError, Global};
+use std::test::Fail;
+
+/// The stream of the example, part by part.
+const STREAM: [u8; 221] = [
+    // the version
+    0x02,
+    // the name
+    0x00, 0x00, 0x00, 0x00, 0x00, 0x00, 0x00, 0x04, 0x64, 0x65, 0x6d, 0x6f,
+    // the number of steps
+    0x00, 0x00, 0x00, 0x00, 0x00, 0x00, 0x00, 0x07,
+    // atomic, message, opaque
+    0x00, 0x00, 0x00,
+    // `root`
+    0x00, 0x00, 0x00, 0x00, 0x00, 0x00, 0x00, 0x04, 0x72, 0x6f, 0x6f, 0x74,
+    // scalar
+    0x00,
+    // atomic, message, algebra of degree 4
+    0x00, 0x00, 0x01, 0x00, 0x00, 0x00, 0x00, 0x00, 0x00, 0x00, 0x04,
+    // `values`
+    0x00, 0x00, 0x00, 0x00, 0x00, 0x00, 0x00, 0x06, 0x76, 0x61, 0x6c, 0x75, 0x65, 0x73,
+    // 2 values
+    0x01, 0x00, 0x00, 0x00, 0x00, 0x00, 0x00, 0x00, 0x02,
+    // atomic, proof of work, algebra of degree 1
+    0x00, 0x02, 0x01, 0x00, 0x00, 0x00, 0x00, 0x00, 0x00, 0x00, 0x01,
+    // `work`
+    0x00, 0x00, 0x00, 0x00, 0x00, 0x00, 0x00, 0x04, 0x77, 0x6f, 0x72, 0x6b,
+    // 3 bits
+    0x01, 0x00, 0x00, 0x00, 0x00, 0x00, 0x00, 0x00, 0x03,
+    // atomic, challenge, algebra of degree 4
+    0x00, 0x01, 0x01, 0x00, 0x00, 0x00, 0x00, 0x00, 0x00, 0x00, 0x04,
+    // `beta`
+    0x00, 0x00, 0x00, 0x00, 0x00, 0x00, 0x00, 0x04, 0x62, 0x65, 0x74, 0x61,
+    // scalar
+    0x00,
+    // atomic, challenge, bits of width 5
+    0x00, 0x01, 0x02, 0x00, 0x00, 0x00, 0x00, 0x00, 0x00, 0x00, 0x05,
+    // `rows`
+    0x00, 0x00, 0x00, 0x00, 0x00, 0x00, 0x00, 0x04, 0x72, 0x6f, 0x77, 0x73,
+    // 2 values
+    0x01, 0x00, 0x00, 0x00, 0x00, 0x00, 0x00, 0x00, 0x02,
+    // begin, protocol, marker
+    0x01, 0x03, 0x03,
+    // `inner`
+    0x00, 0x00, 0x00, 0x00, 0x00, 0x00, 0x00, 0x05, 0x69, 0x6e, 0x6e, 0x65, 0x72,
+    // scalar
+    0x00,
+    // end, protocol, marker
+    0x02, 0x03, 0x03,
+    // `inner`
+    0x00, 0x00, 0x00, 0x00, 0x00, 0x00, 0x00, 0x05, 0x69, 0x6e, 0x6e, 0x65, 0x72,
+    // scalar
+    0x00,
+    // the number of labels
+    0x00, 0x00, 0x00, 0x00, 0x00, 0x00, 0x00, 0x02,
+    // the first label
+    0x00, 0x00, 0x00, 0x00, 0x00, 0x00, 0x00, 0x03, 0x01, 0x02, 0x03,
+    // the second label
+    0x00, 0x00, 0x00, 0x00, 0x00, 0x00, 0x00, 0x01, 0x04,
+];
+
+/// A commitment that is sent.
+const ROOT: [u8; 32] = [7; 32];
+
+/// A separator of these steps.
+#[derive(Debug, Drop)]
+struct Example {
+    separator: DomainSeparator,
+    ghost turns: { map turn_of (description separator).steps ≡
+        record { hierarchy = Atomic; kind = Message; type_tag = Opaque; length = Scalar }
+        ∷ record { hierarchy = Atomic; kind = Message; type_tag = Algebra 4; length = Fixed 2 }
+        ∷ record { hierarchy = Atomic; kind = Pow; type_tag = Algebra 1; length = Fixed 3 }
+        ∷ record { hierarchy = Atomic; kind = Challenge; type_tag = Algebra 4; length = Scalar }
+        ∷ record { hierarchy = Atomic; kind = Challenge; type_tag = Bits 5; length = Fixed 2 }
+        ∷ record { hierarchy = Begin; kind = Protocol; type_tag = Marker; length = Scalar }
+        ∷ record { hierarchy = End; kind = Protocol; type_tag = Marker; length = Scalar }
+        ∷ [] },
+}
+
+/// What one side draws, with the witness that it found or was sent.
+#[derive(Debug, PartialEq, Eq, Drop)]
+struct Played {
+    witness: BabyBear,
+    beta: BabyBear4,
+    rows: Vec<usize>,
+}
+
+/// The separator of the stream above.
+fn make_example(alloc: Global) -> Result<Example, AllocError> {
+    let root = Interaction::opaque(Hierarchy::Atomic, Kind::Message, "root", Length::Scalar);
+    let values = Interaction::algebra::<BabyBear, BabyBear4>(
+        Hierarchy::Atomic,
+        Kind::Message,
+        "values",
+        Length::Fixed(2),
+    );
+    let work = Interaction::algebra::<BabyBear, BabyBear>(
+        Hierarchy::Atomic,
+        Kind::Pow,
+        "work",
+        Length::Fixed(3),
+    );
+    let beta = Interaction::algebra::<BabyBear, BabyBear4>(
+        Hierarchy::Atomic,
+        Kind::Challenge,
+        "beta",
+        Length::Scalar,
+    );
+    let rows = Interaction::bits(
+        Hierarchy::Atomic,
+        Kind::Challenge,
+        "rows",
+        5,
+        Length::Fixed(2),
+    );
+    let begin = Interaction::marker(Hierarchy::Begin, Kind::Protocol, "inner");
+    let end = Interaction::marker(Hierarchy::End, Kind::Protocol, "inner");
+    let steps = vec![in alloc; root, values, work, beta, rows, begin, end]?;
+    let mut separator = DomainSeparator::new(alloc, 2, b"demo", InteractionPattern::new(steps));
+    separator.instance(alloc, &[1, 2, 3])?;
+    separator.instance(alloc, &[4])?;
+    Ok(Example { separator })
+}
+
+/// A challenger that has observed each byte of the stream.
+fn stream_observed() -> Sha256Challenger {
+    let mut challenger = Sha256Challenger::new();
+    for byte in STREAM {
+        challenger.observe(BabyBear::from_u64(u64::from(byte)));
+    }
+    challenger
+}
+
+/// The values that are sent.
+fn values() -> [BabyBear4; 2] {
+    [BabyBear4::TWO, BabyBear4::GENERATOR]
+}
+
+/// The prover's side.
+fn prove(
+    alloc: Global,
+    challenger: &mut Sha256Challenger,
+    example: &Example,
+) -> Result<Option<Played>, AllocError> {
+    let mut transcript = ProverState::new(alloc, challenger, &example.separator)?;
+    transcript.observe_opaque(ROOT);
+    transcript.observe_extensions(&values());
+    let Some(witness) = transcript.observe_pow(3) else {
+        transcript.abort();
+        return Ok(None);
+    };
+    let beta: BabyBear4 = transcript.challenge_extension();
+    let rows = match transcript.challenge_bits(alloc, 5, 2) {
+        Ok(rows) => rows,
+        Err(refused) => {
+            transcript.abort();
+            return Err(refused);
+        },
+    };
+    transcript.begin_protocol();
+    transcript.end_protocol();
+    transcript.finalize();
+    Ok(Some(Played {
+        witness,
+        beta,
+        rows,
+    }))
+}
+
+/// The verifier's side, `None` where the witness doesn't pass.
+fn verify(
+    alloc: Global,
+    challenger: &mut Sha256Challenger,
+    example: &Example,
+    witness: BabyBear,
+) -> Result<Option<Played>, AllocError> {
+    let mut transcript = VerifierState::new(alloc, challenger, &example.separator)?;
+    transcript.observe_opaque(ROOT);
+    transcript.observe_extensions(&values());
+    if !transcript.observe_pow(3, witness) {
+        transcript.abort();
+        return Ok(None);
+    }
+    let beta: BabyBear4 = transcript.challenge_extension();
+    let rows = match transcript.challenge_bits(alloc, 5, 2) {
+        Ok(rows) => rows,
+        Err(refused) => {
+            transcript.abort();
+            return Err(refused);
+        },
+    };
+    transcript.begin_protocol();
+    transcript.end_protocol();
+    transcript.finalize();
+    Ok(Some(Played {
+        witness,
+        beta,
+        rows,
+    }))
+}
+
+#[test]
+fn bytes_of_a_description(rt: HostRuntime) -> Result<(), Fail> {
+    let example = make_example(rt.alloc())?;
+    let stream = example.separator.seed_stream(rt.alloc())?;
+    assert_eq!(rt; stream.as_slice(), STREAM.as_slice());
+    seed_stream_law();
+    Ok(())
+}
+
+#[test]
+fn both_sides_draw_the_same(rt: HostRuntime) -> Result<(), Fail> {
+    let example = make_example(rt.alloc())?;
+    let mut first = Sha256Challenger::new();
+    let mut second = Sha256Challenger::new();
+    let proved = prove(rt.alloc(), &mut first, &example)?.ok_or("no witness")?;
+    assert_eq!(rt; proved.witness, BabyBear::from_u64(3));
+    let last: BabyBear = proved.beta.coefficient(3);
+    assert_eq!(rt; last.as_canonical_u64(), 352_189_782);
+    assert_eq!(rt; proved.rows.as_slice(), [31, 30].as_slice());
+    let verified = verify(rt.alloc(), &mut second, &example, proved.witness)?;
+    assert_eq!(rt; verified, Some(proved));
+    assert!(rt; first == second);
+    Ok(())
+}
+
+#[test]
+fn wrong_witness_is_false(rt: HostRuntime) -> Result<(), Fail> {
+    let example = make_example(rt.alloc())?;
+    let mut challenger = Sha256Challenger::new();
+    assert_eq!(rt;
+        verify(rt.alloc(), &mut challenger, &example, BabyBear::TWO)?,
+        None
+    );
+    Ok(())
+}
+
+#[test]
+fn abort_leaves_the_challenger(rt: HostRuntime) -> Result<(), Fail> {
+    let example = make_example(rt.alloc())?;
+    let seed = example.separator.seed(rt.alloc())?;
+    let mut challenger = Sha256Challenger::new();
+    ProverState::<Sha256Challenger, BabyBear>::start(&mut challenger, seed).abort();
+    assert!(rt; challenger == stream_observed());
+    Ok(())
+}
+
+/// The second arm runs where an allocation of `new` is made to fail, as by `rt try --test --fail-alloc N`.
+#[test]
+fn refused_new_absorbs_nothing(rt: HostRuntime) -> Result<(), Fail> {
+    let example = make_example(rt.alloc())?;
+    let mut challenger = Sha256Challenger::new();
+    match VerifierState::<Sha256Challenger, BabyBear>::new(
+        rt.alloc(),
+        &mut challenger,
+        &example.separator,
+    ) {
+        Ok(transcript) => {
+            transcript.abort();
+            assert!(rt; challenger == stream_observed());
+        },
+        Err(_) => assert!(rt; challenger == Sha256Challenger::new()),
+    }
+    Ok(())
+}

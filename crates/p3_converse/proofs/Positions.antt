@@ -1,0 +1,36 @@
+-- The interleaved of polynomials that stand in vectors.
+use Rattle.std.proofs.Common.{◌≡◌, ℕ, zero, suc, ◌+◌, ◌^◌, ◌<◌, List, [], ◌∷◌, ◌++◌, Vec, All, vec_len, length, get_or, take, sym, ap, ◌∙◌, arith, inl, inr}
+use Rattle.std.proofs.lemmas.List.{length-map, map-append, take_more}
+use Rattle.std.proofs.lemmas.Bool.{cases_lt}
+use Rattle.std.proofs.Math.Nat.{pow-le-pow_right}
+use Rattle.algebra.specs.Field.{FieldOps}
+use Rattle.p3_converse.specs.Positions.{coefficients_at}
+use Rattle.p3_converse.specs.Unfolding.{lists, common_length}
+
+pub length-coefficients_at : {A : Type 0} (F : FieldOps A) (polys : List (List A)) (m : ℕ) → length (coefficients_at F polys m) ≡ length polys
+length-coefficients_at F polys m = length-map polys (λ p. get_or p m F.zero)
+
+pub length-lists : {T Z : Type 0} (vectors : List (Vec T Z)) → length (lists vectors) ≡ length vectors
+length-lists vectors = length-map vectors (λ v. v.items)
+
+pub common_length-first : {T Z : Type 0} (vectors : List (Vec T Z)) (v : Vec T Z) → 0 < length vectors → v ≡ get_or vectors 0 v → vec_len v ≡ common_length vectors
+common_length-first [] v l e = absurd (omega (arith, l))
+common_length-first (u ∷ us) v l e = ap (λ w. vec_len w) e
+
+-- one polynomial more
+pub coefficients_at-next : {T Z : Type 0} (F : FieldOps T) (vectors : List (Vec T Z)) (k m : ℕ) (v : Vec T Z) (x : T) → k < length vectors → v ≡ get_or vectors k v → x ≡ get_or v.items m F.zero
+    → coefficients_at F (lists (take (k + 1) vectors)) m ≡ coefficients_at F (lists (take k vectors)) m ++ x ∷ []
+coefficients_at-next F vectors k m v x l e ex =
+    ap (λ vs. coefficients_at F (lists vs) m) (take_more vectors k v l ∙ ap (λ u. take k vectors ++ u ∷ []) (sym e))
+    ∙ ap (λ ps. coefficients_at F ps m) (map-append (λ u. u.items) (take k vectors) (v ∷ []))
+    ∙ map-append (λ p. get_or p m F.zero) (lists (take k vectors)) (v.items ∷ [])
+    ∙ ap (λ y. coefficients_at F (lists (take k vectors)) m ++ y ∷ []) (sym ex)
+
+pub log_small : (k : ℕ) → 2 ^ k < 2 ^ 64 → k < 64
+log_small k l = elim (cases_lt k 64) [ inl b ↦ b | inr b ↦ absurd (omega (arith, l, pow-le-pow_right {n = 2} (omega arith) {i = 64} {j = k} b)) ]
+
+-- vectors of one length, as lists
+pub one_length-lists : {T Z : Type 0} (vectors : List (Vec T Z)) (d : ℕ) → All (λ v. vec_len v ≡ d) vectors → All (λ p. length p ≡ d) (lists vectors)
+one_length-lists [] d h k e l = absurd (omega (arith, l))
+one_length-lists (v ∷ vs) d h zero e l = sym v.ok.0 ∙ h 0 v (omega arith)
+one_length-lists (v ∷ vs) d h (suc k) e l = one_length-lists vs d (λ j u m. h (suc j) u (omega (arith, m))) k e (omega (arith, l))

@@ -1,7 +1,0 @@
-use Rattle.std.proofs.Common.{◌≡◌, ◌++◌, take}
-use Rattle.p3_converse.specs.Columns.{column}
-use Rattle.p3_converse.specs.Unfolding.{lists}
-use Rattle.p3_converse.proofs.unfolding.push_column.Given as goal
-
-abbrev pub invariant-loop-poly : goal.invariant-loop-poly
-invariant-loop-poly g l = l.entries.items ≡ l.initial.entries.items ++ column g.F.Field.ops (lists (take l.poly-index l.polys)) l.position

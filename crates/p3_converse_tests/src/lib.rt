@@ -1,0 +1,5 @@
+//! Tests of `p3_converse`.
+#![tactic(auto)]
+
+#[cfg(test)]
+mod tests;

@@ -1,0 +1,7 @@
+//! Tests of `p3_matrix` and of `p3_dft`.
+#![tactic(auto)]
+
+#[cfg(test)]
+mod matrix;
+#[cfg(test)]
+mod transform;

@@ -1,0 +1,198 @@
+//! Worked values, and each call against the values by Horner's rule.
+
+ghost use Rattle.std.specs.Prelude.{◌≡◌, ◌<◌, ◌≤◌, ◌+◌, ◌*◌, ◌^◌, IfOk, length, vec_len};
+ghost use Rattle.p3_matrix.specs.Matrix.{rows, matrix_width};
+
+use p3_dft::{Radix2Dit, TwoAdicSubgroupDft};
+use p3_field::{BabyBear, BabyBear4, ExtensionField, Field, PrimeField64, TwoAdicField};
+use p3_matrix::RowMajorMatrix;
+use std::alloc::{AllocError, Global};
+use std::test::Fail;
+
+/// Elements in no regular order.
+fn elements<EF: Field>(alloc: Global, count: usize) -> Result<Vec<EF>, AllocError>
+    ensures { IfOk result (λ elements. vec_len elements ≡ count) }
+{
+    let mut elements = vec![in alloc; EF::ZERO; count]?;
+    let mut next = EF::GENERATOR;
+    for element in elements.iter_mut() {
+        *element = next;
+        next = next.square() + EF::GENERATOR;
+    }
+    Ok(elements)
+}
+
+/// A matrix of elements in no regular order.
+fn matrix<EF: Field>(
+    alloc: Global,
+    log_height: usize,
+    width: usize,
+) -> Result<RowMajorMatrix<EF>, AllocError>
+    requires low { log_height < 10 }
+    requires some { 0 < width }
+    requires narrow { width < 10 }
+    ensures height { IfOk result (λ matrix. length (rows matrix) ≡ 2 ^ log_height) }
+    ensures width { IfOk result (λ matrix. matrix_width matrix ≡ width) }
+{
+    let height = 1 << log_height;
+    let elements = elements::<EF>(alloc, height * width)?;
+    if elements.len() % width != 0 {
+        return Err(AllocError);
+    }
+    let matrix = RowMajorMatrix::new(elements, width);
+    if matrix.height() != height {
+        return Err(AllocError);
+    }
+    Ok(matrix)
+}
+
+/// The value at `x` of the polynomial whose coefficients stand in a column.
+fn value<EF: Field>(coefficients: &RowMajorMatrix<EF>, column: usize, x: EF) -> EF {
+    let mut value = EF::ZERO;
+    for i in (0..coefficients.height()).rev() {
+        value = value * x + coefficients.get(i, column).unwrap_or(EF::ZERO);
+    }
+    value
+}
+
+/// Whether each row `i` of `values`, of which there are `2^log_height`, holds the values at
+/// `shift * root^i`.
+fn holds_values<F: Field>(
+    coefficients: &RowMajorMatrix<F>,
+    values: &RowMajorMatrix<F>,
+    log_height: usize,
+    shift: F,
+    root: F,
+) -> bool
+    requires { log_height < 12 }
+{
+    if values.height() != 1 << log_height || values.width() != coefficients.width() {
+        return false;
+    }
+    let mut point = shift;
+    for i in 0..values.height() {
+        for j in 0..values.width() {
+            if values.get(i, j) != Some(value(coefficients, j, point)) {
+                return false;
+            }
+        }
+        point = point * root;
+    }
+    true
+}
+
+/// Whether the calls on matrices answer the values by Horner's rule, and give back the
+/// coefficients.
+fn matrices_agree<F: TwoAdicField, D: TwoAdicSubgroupDft<F>>(
+    alloc: Global,
+    dft: &D,
+    log_height: usize,
+    width: usize,
+) -> Result<bool, AllocError>
+    requires low { log_height < 10 }
+    requires some { 0 < width }
+    requires narrow { width < 10 }
+    requires within_two_adicity { log_height + 2 ≤ F.TWO_ADICITY }
+{
+    let shift = F::GENERATOR;
+    let root = F::two_adic_generator(log_height);
+    let extended_root = F::two_adic_generator(log_height + 2);
+    let coefficients = matrix::<F>(alloc, log_height, width)?;
+
+    let copy = coefficients.as_view().to_row_major_matrix(alloc)?;
+    let values = dft.dft_batch(alloc, copy)?;
+    let transformed = holds_values(&coefficients, &values, log_height, F::ONE, root);
+    let extended = dft.coset_lde_batch(alloc, values, 2, shift)?;
+    let stretched = holds_values(
+        &coefficients,
+        &extended,
+        log_height + 2,
+        shift,
+        extended_root,
+    );
+
+    let copy = coefficients.as_view().to_row_major_matrix(alloc)?;
+    let coset_values = dft.coset_dft_batch(alloc, copy, shift)?;
+    let shifted = holds_values(&coefficients, &coset_values, log_height, shift, root);
+    let back = dft.coset_idft_batch(alloc, coset_values, shift)?;
+    Ok(transformed && stretched && shifted && back == coefficients)
+}
+
+/// Whether the extension of one column is that of the matrix of this column alone.
+fn columns_agree<F: TwoAdicField, D: TwoAdicSubgroupDft<F>>(
+    alloc: Global,
+    dft: &D,
+    log_height: usize,
+) -> Result<bool, AllocError>
+    requires low { log_height < 10 }
+    requires within_two_adicity { log_height + 1 ≤ F.TWO_ADICITY }
+{
+    let values = matrix::<F>(alloc, log_height, 1)?;
+    let column = elements::<F>(alloc, 1 << log_height)?;
+    let extended = dft.coset_lde_batch(alloc, values, 1, F::GENERATOR)?;
+    let extended_column = dft.coset_lde(alloc, column, 1, F::GENERATOR)?;
+    Ok(extended.into_values().as_slice() == extended_column.as_slice())
+}
+
+/// Whether the coefficients come back from the values of a polynomial over an extension.
+fn algebra_comes_back<F: TwoAdicField, EF: ExtensionField<F>, D: TwoAdicSubgroupDft<F>>(
+    alloc: Global,
+    dft: &D,
+    log_height: usize,
+) -> Result<bool, AllocError>
+    requires low { log_height < 10 }
+    requires within_two_adicity { log_height ≤ F.TWO_ADICITY }
+{
+    let coefficients = matrix::<EF>(alloc, log_height, 1)?;
+    let root = EF::from_base(F::two_adic_generator(log_height));
+    let mut values = vec![in alloc; EF::ZERO; 1 << log_height]?;
+    let mut point = EF::ONE;
+    for entry in values.iter_mut() {
+        *entry = value(&coefficients, 0, point);
+        point = point * root;
+    }
+    let back = dft.idft_algebra(alloc, values)?;
+    Ok(back.as_slice() == coefficients.into_values().as_slice())
+}
+
+#[test]
+fn two_coefficients(rt: HostRuntime) -> Result<(), Fail> {
+    let dft = Radix2Dit::<BabyBear>::default();
+    let numbers = [2, 2013265920].map(BabyBear::from_u64);
+    let coefficients = RowMajorMatrix::new(numbers.to_vec(rt.alloc())?, 1);
+    assert_eq!(rt; coefficients.height(), 2);
+    let values = dft.dft_batch(rt.alloc(), coefficients)?;
+    assert_eq!(rt; values.height(), 2);
+    assert_eq!(rt; values.get(0, 0).map(|x| x.as_canonical_u64()), Some(1));
+    assert_eq!(rt; values.get(1, 0).map(|x| x.as_canonical_u64()), Some(3));
+    let extended = dft.coset_lde_batch(rt.alloc(), values, 1, BabyBear::GENERATOR)?;
+    assert_eq!(rt; extended.height(), 4);
+    assert_eq!(rt;
+        extended.get(0, 0).map(|x| x.as_canonical_u64()),
+        Some(2013265892)
+    );
+    assert_eq!(rt; extended.get(2, 0).map(|x| x.as_canonical_u64()), Some(33));
+    Ok(())
+}
+
+#[test]
+fn calls_agree_with_horner(rt: HostRuntime) -> Result<(), Fail> {
+    let dft = Radix2Dit::<BabyBear>::default();
+    for log_height in [0, 1, 3] {
+        for width in [1, 3] {
+            assert!(rt;
+                matrices_agree(rt.alloc(), &dft, log_height, width)?,
+                "2^{log_height} rows of {width}"
+            );
+        }
+        assert!(rt;
+            columns_agree(rt.alloc(), &dft, log_height)?,
+            "2^{log_height} values"
+        );
+        assert!(rt;
+            algebra_comes_back::<BabyBear, BabyBear4, _>(rt.alloc(), &dft, log_height)?,
+            "2^{log_height} values"
+        );
+    }
+    Ok(())
+}

@@ -1,6 +1,0 @@
-use Rattle.std.specs.List.{AllWithin}
-use Rattle.p3_fri_core.specs.SeedLaws.{FitsList, FitsPoints}
-use Rattle.p3_fri_core.proofs.laws.commitments_fit.Given as goal
-
-abbrev pub invariant-loop-matrices : goal.invariant-loop-matrices
-invariant-loop-matrices l = AllWithin (λ matrices. FitsList (λ points. FitsPoints points.items) matrices.items) l.commitments 0 l.matrices-index

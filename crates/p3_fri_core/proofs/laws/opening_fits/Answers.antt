@@ -1,6 +1,0 @@
-use Rattle.std.proofs.Common.{arith}
-use Rattle.p3_fri_core.proofs.OpeningSeed.{shape_fits}
-use Rattle.p3_fri_core.proofs.laws.opening_fits.Goals as goal
-
-pub returns : goal.returns
-returns c = shape_fits c.args.shape.now c.as_slice.result.now c.as_slice.ensures.value c.commitments_fit.ensures (omega arith)

@@ -1,8 +1,0 @@
-use Rattle.std.proofs.Common.{arith}
-use Rattle.p3_fri_core.proofs.TestSeed.{shape_fits}
-use Rattle.p3_fri_core.proofs.laws.test_fits.Goals as goal
-
-pub returns : goal.returns
-returns c =
-    shape_fits c.args.shape.now c.as_slice.result.now c.as_slice.ensures.value c.points_fit.ensures.1
-    (omega arith) (omega arith) (omega arith) (omega arith) (omega arith) (omega arith) (omega arith)

@@ -1,6 +1,0 @@
-use Rattle.std.proofs.Common.{◌≡◌, take}
-use Rattle.p3_fri_core.specs.Counts.{claimed_in_matrices, point_lists}
-use Rattle.p3_fri_core.proofs.pcs_transcript.counts.claims_in_matrices.Given as goal
-
-abbrev pub invariant-loop-matrix : goal.invariant-loop-matrix
-invariant-loop-matrix g l = point_lists l.counts.items ≡ claimed_in_matrices (take l.matrix-index l.matrices)

@@ -1,6 +1,0 @@
-use Rattle.std.proofs.Common.{◌≡◌, take}
-use Rattle.p3_fri_core.specs.Counts.{counts_of_values, matrix_lists}
-use Rattle.p3_fri_core.proofs.pcs_transcript.counts.count_values.Given as goal
-
-abbrev pub invariant-loop-matrices : goal.invariant-loop-matrices
-invariant-loop-matrices g l = matrix_lists l.counts.items ≡ counts_of_values (take l.matrices-index l.commitments)

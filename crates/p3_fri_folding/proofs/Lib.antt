@@ -1,0 +1,3 @@
+pub mod Fewest
+pub mod Folds
+pub mod Rounds

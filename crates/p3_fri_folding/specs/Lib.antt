@@ -1,0 +1,4 @@
+pub mod Fold
+pub mod FoldLaws
+pub mod Schedule
+pub mod Strategy

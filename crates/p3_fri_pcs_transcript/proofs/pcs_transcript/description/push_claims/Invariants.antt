@@ -1,0 +1,12 @@
+use Rattle.std.proofs.Common.{◌≡◌, ◌++◌, map, drop, codes}
+use Rattle.p3_fri_pcs_transcript.specs.Counts.{matrix_lists}
+use Rattle.p3_challenger.specs.Pattern.{step_of}
+use Rattle.p3_fri_pcs_transcript.specs.Steps.{widths}
+use Rattle.p3_fri_steps.specs.Steps.{message_step}
+use Rattle.p3_fri_pcs_transcript.proofs.pcs_transcript.description.push_claims.Given as goal
+
+abbrev pub invariant-loop-matrices : goal.invariant-loop-matrices
+invariant-loop-matrices g l =
+    let claim = message_step g.EF.ExtensionField.DIMENSION (codes "claimed_evaluations") in
+    map step_of l.steps.items ++ map claim (widths (matrix_lists (drop l.matrices-index l.commitments)))
+    ≡ map step_of l.initial.steps.items ++ map claim (widths (matrix_lists l.commitments))

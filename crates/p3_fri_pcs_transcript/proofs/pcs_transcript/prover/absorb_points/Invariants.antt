@@ -1,0 +1,19 @@
+use Rattle.std.proofs.Common.{◌≡◌, ◌++◌, List, length, map, drop}
+use Rattle.std.specs.List.{flat_map}
+use Rattle.p3_challenger.specs.declared.fs.pattern.Turn.{Turn}
+use Rattle.p3_challenger.specs.Run.{observed_all}
+use Rattle.p3_challenger.specs.Script.{remaining}
+use Rattle.p3_fri_pcs_transcript.specs.Counts.{lists_at_points, joined}
+use Rattle.p3_fri_pcs_transcript.specs.Turns.{claim_turns}
+use Rattle.p3_fri_pcs_transcript.proofs.pcs_transcript.prover.absorb_points.Given as goal
+
+abbrev pub invariant-loop-values : goal.invariant-loop-values
+invariant-loop-values g l =
+    let d = g.EF.ExtensionField.DIMENSION in
+    let left = lists_at_points (drop l.values-index l.points) in
+    let all = lists_at_points l.points in
+    record {
+      state : observed_all g.C.CanObserve.observed l.challenger (flat_map g.EF.ExtensionField.coefficients (joined left))
+          ≡ observed_all g.C.CanObserve.observed l.initial.challenger (flat_map g.EF.ExtensionField.coefficients (joined all));
+      steps : (rest : List Turn) → remaining l.initial.script ≡ claim_turns d (map length all) ++ rest → remaining l.script ≡ claim_turns d (map length left) ++ rest;
+    }

@@ -1,0 +1,21 @@
+use Rattle.std.proofs.Common.{map, ap, ◌∙◌, codes}
+use Rattle.p3_challenger.specs.Pattern.{step_of}
+use Rattle.p3_challenger.specs.declared.fs.pattern.Hierarchy.TheVariants.{Begin, End}
+use Rattle.p3_fri_pcs_transcript.specs.Shapes.{pcs_shape}
+use Rattle.p3_fri_steps.specs.Steps.{challenge_step}
+use Rattle.p3_fri_pcs_transcript.specs.Steps.{bracket_step}
+use Rattle.p3_fri_pcs_transcript.proofs.PcsSteps.{pcs_pushed}
+use Rattle.p3_fri_steps.proofs.Pushed.{pushed}
+use Rattle.p3_fri_pcs_transcript.proofs.pcs_transcript.shape.PcsShape.pattern.Goals as goal
+
+pub returns : goal.returns
+unfolding pcs_shape
+returns g c =
+    let d = g.EF.ExtensionField.DIMENSION in
+    c.new.ensures ∙ pcs_pushed d (pcs_shape c.args.self.now) _ _ _ _ _ _
+    (ap (map step_of) c.in_ok-steps.ensures.items)
+    (rw c.deref-2.ensures.value at c.in_ok-push_claims.ensures)
+    c.in_ok-push_pow.ensures
+    (pushed _ _ c.algebra.result (challenge_step d (codes "alpha")) c.in_ok-push.ensures.items c.algebra.ensures)
+    (pushed _ _ c.marker.result (bracket_step Begin) c.in_ok-push-2.ensures.items c.marker.ensures)
+    (pushed _ _ c.marker-2.result (bracket_step End) c.in_ok-push-3.ensures.items c.marker-2.ensures)

@@ -1,0 +1,11 @@
+pub mod Steps
+pub mod Shapes
+pub mod Replay
+pub mod Turns
+pub mod SeedLaws
+pub mod SeedExamples
+pub mod Events
+pub mod Counts
+pub mod Claims
+pub mod Cursor
+pub mod Lending

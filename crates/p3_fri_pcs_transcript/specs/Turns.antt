@@ -1,0 +1,25 @@
+-- Where the transcript of an opening stands.
+use Rattle.std.specs.Prelude.{◌≡◌, ℕ, ◌++◌, List, [], ◌∷◌, map, codes}
+use Rattle.p3_challenger.specs.declared.fs.pattern.Hierarchy.TheVariants.{Begin, End}
+use Rattle.p3_challenger.specs.declared.fs.pattern.Turn.{Turn}
+use Rattle.p3_challenger.specs.Pattern.{turn_of}
+use Rattle.p3_fri_pcs_transcript.specs.Steps.{PcsNumbers, bracket_step}
+use Rattle.p3_fri_steps.specs.Steps.{message_step, pow_steps, challenge_step}
+
+-- claims of so many values each
+abbrev pub claim_turns : (d : ℕ) (counts : List ℕ) → List Turn
+claim_turns d counts = map turn_of (map (message_step d (codes "claimed_evaluations")) counts)
+
+-- the bracket around the low-degree test
+abbrev pub bracket_turns : List Turn
+bracket_turns = map turn_of (bracket_step Begin ∷ bracket_step End ∷ [])
+
+-- its end
+abbrev pub bracket_end_turns : List Turn
+bracket_end_turns = map turn_of (bracket_step End ∷ [])
+
+-- what is left to play of an opening are claims of so many values each, and then the proof of work, the challenge and
+-- the bracket
+abbrev pub ClaimsLeft : (d : ℕ) (shape : PcsNumbers) (counts : List ℕ) (left : List Turn) → Type 0
+ClaimsLeft d shape counts left =
+    left ≡ claim_turns d counts ++ map turn_of (pow_steps (codes "batch_pow") shape.batch_pow_bits ++ (challenge_step d (codes "alpha") ∷ bracket_step Begin ∷ bracket_step End ∷ []))

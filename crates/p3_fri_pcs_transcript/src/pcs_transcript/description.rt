@@ -1,0 +1,89 @@
+//! The steps and the labels of an opening.
+
+ghost use Rattle.std.specs.Prelude.{◌≡◌, ◌++◌, ◌∷◌, OnOk, map, codes, length};
+ghost use Rattle.std.specs.List.{flat_map};
+ghost use Rattle.p3_challenger.specs.Pattern.{step_of, number};
+ghost use Rattle.p3_challenger.specs.Separator.{description};
+ghost use Rattle.p3_fri_pcs_transcript.specs.Counts.{point_lists, matrix_lists};
+ghost use Rattle.p3_fri_pcs_transcript.specs.Steps.{widths, grouping};
+ghost use Rattle.p3_fri_steps.specs.Steps.{message_step};
+
+use p3_challenger::fs::{DomainSeparator, Hierarchy, Interaction, Kind, Length};
+use p3_field::{ExtensionField, Field};
+use p3_fri_steps::steps::push_label;
+use std::alloc::{AllocError, Global};
+
+/// Appends a step for each point, in order.
+pub(super) fn push_claims<F: Field, EF: ExtensionField<F>>(
+    steps: &mut Vec<Interaction>,
+    commitments: &[Vec<Vec<usize>>],
+) -> Result<(), AllocError>
+    ensures { OnOk result (map step_of steps.new.items ≡ map step_of steps.old.items ++ map (message_step EF.DIMENSION (codes "claimed_evaluations")) (widths (matrix_lists commitments.now))) }
+{
+    for matrices in commitments {
+        push_claims_of_matrices::<F, EF>(steps, matrices)?;
+    }
+    Ok(())
+}
+
+/// Appends a step for each point of the matrices under a commitment.
+fn push_claims_of_matrices<F: Field, EF: ExtensionField<F>>(
+    steps: &mut Vec<Interaction>,
+    matrices: &[Vec<usize>],
+) -> Result<(), AllocError>
+    ensures { OnOk result (map step_of steps.new.items ≡ map step_of steps.old.items ++ map (message_step EF.DIMENSION (codes "claimed_evaluations")) (flat_map (λ points. points) (point_lists matrices.now))) }
+{
+    for points in matrices {
+        push_claims_at_points::<F, EF>(steps, points)?;
+    }
+    Ok(())
+}
+
+/// Appends a step for each point of a matrix.
+fn push_claims_at_points<F: Field, EF: ExtensionField<F>>(
+    steps: &mut Vec<Interaction>,
+    counts: &[usize],
+) -> Result<(), AllocError>
+    ensures { OnOk result (map step_of steps.new.items ≡ map step_of steps.old.items ++ map (message_step EF.DIMENSION (codes "claimed_evaluations")) counts.now) }
+{
+    for count in counts {
+        steps.push(Interaction::algebra::<F, EF>(
+            Hierarchy::Atomic,
+            Kind::Message,
+            "claimed_evaluations",
+            Length::Fixed(*count),
+        ))?;
+    }
+    Ok(())
+}
+
+/// Adds as labels how the points are grouped: the number of commitments, then of each its number of matrices, and of each
+/// of these its number of points.
+pub(super) fn push_grouping(
+    separator: &mut DomainSeparator,
+    alloc: Global,
+    commitments: &[Vec<Vec<usize>>],
+) -> Result<(), AllocError>
+    ensures { OnOk result (description separator.new ≡ record (description separator.old) { labels = (description separator.old).labels ++ map number (grouping (matrix_lists commitments.now)) }) }
+{
+    push_label(separator, alloc, commitments.len())?;
+    for matrices in commitments {
+        push_group(separator, alloc, matrices)?;
+    }
+    Ok(())
+}
+
+/// Adds the labels of a commitment.
+fn push_group(
+    separator: &mut DomainSeparator,
+    alloc: Global,
+    matrices: &[Vec<usize>],
+) -> Result<(), AllocError>
+    ensures { OnOk result (description separator.new ≡ record (description separator.old) { labels = (description separator.old).labels ++ map number (length (point_lists matrices.now) ∷ map length (point_lists matrices.now)) }) }
+{
+    push_label(separator, alloc, matrices.len())?;
+    for points in matrices {
+        push_label(separator, alloc, points.as_slice().len())?;
+    }
+    Ok(())
+}

@@ -1,0 +1,5 @@
+pub mod Lists
+pub mod SeedLemmas
+pub mod Turns
+pub mod Pushed
+pub mod NoBits

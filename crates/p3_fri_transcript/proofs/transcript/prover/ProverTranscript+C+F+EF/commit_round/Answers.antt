@@ -1,0 +1,33 @@
+use Rattle.p3_challenger.specs.declared.fs.pattern.Hierarchy.TheVariants.{Atomic}
+use Rattle.p3_challenger.specs.declared.fs.pattern.Kind.TheVariants.{Challenge}
+use Rattle.p3_challenger.specs.declared.fs.pattern.TypeTag.TheVariants.{Algebra}
+use Rattle.p3_challenger.specs.declared.fs.pattern.Length.TheVariants.{Scalar}
+use Rattle.p3_fri_transcript.specs.Shapes.{fri_shape}
+use Rattle.p3_fri_steps.proofs.Turns.{next_of, rest_of}
+use Rattle.p3_fri_transcript.proofs.TurnLists.{challenge_left, after_commitment}
+use Rattle.p3_fri_transcript.proofs.transcript.prover.ProverTranscript+C+F+EF.commit_round.Goals as goal
+
+pub grind-requires-clause-next : goal.grind-requires-clause-next
+unfolding fri_shape
+grind-requires-clause-next g c =
+    let d = g.EF.ExtensionField.DIMENSION in
+    let shape = fri_shape c.args.self.now.shape in
+    let some = c.requires.some_round_left in
+    (challenge_left d shape some.0, after_commitment d shape some.0 _ _ some.1 c.observe_opaque.ensures.steps)
+
+pub challenge_extension-challenge-requires : goal.challenge_extension-challenge-requires
+unfolding fri_shape
+challenge_extension-challenge-requires g c =
+    let d = g.EF.ExtensionField.DIMENSION in
+    let shape = fri_shape c.args.self.now.shape in
+    let some = c.requires.some_round_left in
+    record {
+      next = next_of Atomic Challenge (Algebra d) Scalar _ _ (c.in_ok-witness.ensures.steps (challenge_left d shape some.0) (after_commitment d shape some.0 _ _ some.1 c.observe_opaque.ensures.steps));
+    }
+
+pub returns-clause-steps : goal.returns-clause-steps
+unfolding fri_shape
+returns-clause-steps g c = λ n left.
+    let d = g.EF.ExtensionField.DIMENSION in
+    let shape = fri_shape c.args.self.now.shape in
+    rest_of _ _ _ _ (c.in_ok-witness.ensures.steps (challenge_left d shape n) (after_commitment d shape n _ _ left c.observe_opaque.ensures.steps)) c.challenge_extension-challenge.ensures.steps

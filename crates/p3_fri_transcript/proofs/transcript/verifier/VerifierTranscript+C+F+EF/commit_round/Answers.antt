@@ -1,0 +1,33 @@
+use Rattle.p3_challenger.specs.declared.fs.pattern.Hierarchy.TheVariants.{Atomic}
+use Rattle.p3_challenger.specs.declared.fs.pattern.Kind.TheVariants.{Challenge}
+use Rattle.p3_challenger.specs.declared.fs.pattern.TypeTag.TheVariants.{Algebra}
+use Rattle.p3_challenger.specs.declared.fs.pattern.Length.TheVariants.{Scalar}
+use Rattle.p3_fri_transcript.specs.Shapes.{fri_shape}
+use Rattle.p3_fri_steps.proofs.Turns.{next_of, rest_of}
+use Rattle.p3_fri_transcript.proofs.TurnLists.{challenge_left, after_commitment}
+use Rattle.p3_fri_transcript.proofs.transcript.verifier.VerifierTranscript+C+F+EF.commit_round.Goals as goal
+
+pub check-requires-clause-next : goal.check-requires-clause-next
+unfolding fri_shape
+check-requires-clause-next g c =
+    let d = g.EF.ExtensionField.DIMENSION in
+    let shape = fri_shape c.args.self.now.shape in
+    let some = c.requires.some_round_left in
+    (challenge_left d shape some.0, after_commitment d shape some.0 _ _ some.1 c.observe_opaque.ensures.steps)
+
+pub challenge_extension-requires : goal.challenge_extension-requires
+unfolding fri_shape
+challenge_extension-requires g c =
+    let d = g.EF.ExtensionField.DIMENSION in
+    let shape = fri_shape c.args.self.now.shape in
+    let some = c.requires.some_round_left in
+    record {
+      next = next_of Atomic Challenge (Algebra d) Scalar _ _ (c.in-Ok.ensures.steps (challenge_left d shape some.0) (after_commitment d shape some.0 _ _ some.1 c.observe_opaque.ensures.steps));
+    }
+
+pub returns-in-Ok-clause-steps : goal.returns-in-Ok-clause-steps
+unfolding fri_shape
+returns-in-Ok-clause-steps g c = λ n left.
+    let d = g.EF.ExtensionField.DIMENSION in
+    let shape = fri_shape c.args.self.now.shape in
+    rest_of _ _ _ _ (c.in-Ok.ensures.steps (challenge_left d shape n) (after_commitment d shape n _ _ left c.observe_opaque.ensures.steps)) c.challenge_extension.ensures.steps

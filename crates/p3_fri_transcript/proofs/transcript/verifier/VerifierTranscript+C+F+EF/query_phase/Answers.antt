@@ -1,0 +1,60 @@
+use Rattle.std.proofs.Common.{[], refl, sym, ◌∙◌}
+use Rattle.p3_challenger.specs.declared.fs.pattern.Hierarchy.TheVariants.{Atomic}
+use Rattle.p3_challenger.specs.declared.fs.pattern.Kind.TheVariants.{Challenge}
+use Rattle.p3_challenger.specs.declared.fs.pattern.TypeTag.TheVariants.{Bits}
+use Rattle.p3_challenger.specs.declared.fs.pattern.Length.TheVariants.{Fixed}
+use Rattle.p3_fri_transcript.specs.Replay.{moves}
+use Rattle.p3_fri_transcript.specs.Shapes.{fri_shape}
+use Rattle.p3_fri_transcript.proofs.Replays.{shown_queries_are, queries_pass}
+use Rattle.p3_fri_steps.proofs.Turns.{next_of, rest_of}
+use Rattle.p3_fri_transcript.proofs.TurnLists.{indices_left, after_final_poly}
+use Rattle.p3_fri_transcript.proofs.transcript.verifier.VerifierTranscript+C+F+EF.query_phase.Goals as goal
+
+pub check-requires-clause-next : goal.check-requires-clause-next
+unfolding fri_shape
+check-requires-clause-next g c =
+    let shape = fri_shape c.args.self.now.shape in
+    (indices_left shape, after_final_poly g.EF.ExtensionField.DIMENSION shape _ _ c.requires.all_rounds_played c.observe_extensions.ensures.steps)
+
+pub challenge_bits-requires-clause-next : goal.challenge_bits-requires-clause-next
+unfolding fri_shape
+challenge_bits-requires-clause-next g c =
+    let shape = fri_shape c.args.self.now.shape in
+    next_of Atomic Challenge (Bits shape.index_bits) (Fixed shape.num_queries) _ []
+    (c.in-Ok.ensures.steps (indices_left shape) (after_final_poly g.EF.ExtensionField.DIMENSION shape _ _ c.requires.all_rounds_played c.observe_extensions.ensures.steps))
+
+pub returns-in-Err-Missing-clause-passes : goal.returns-in-Err-Missing-clause-passes
+unfolding fri_shape
+returns-in-Err-Missing-clause-passes g c = λ known. (
+  (λ none. cc),
+  λ held. c.in-Err-Missing.ensures.passes.1 (sym (queries_pass (moves g.C.CanObserve.observed g.C.CanObserve.observed g.C.CanSample.sampled g.EF.ExtensionField.of_coefficients g.EF.ExtensionField.DIMENSION g.C.CanSampleBits.sampled_bits) g.EF.ExtensionField.coefficients (fri_shape c.args.self.now.shape) c.args.self.now.challenger.now _ c.args.final_poly.now c.args.witness c.observe_extensions.ensures.state) ∙ held.1),
+)
+
+pub returns-in-Err-Wrong-clause-passes : goal.returns-in-Err-Wrong-clause-passes
+unfolding fri_shape
+returns-in-Err-Wrong-clause-passes g c = λ known. (
+  (λ none. cc),
+  λ held. c.in-Err-Wrong.ensures.passes.1 (sym (queries_pass (moves g.C.CanObserve.observed g.C.CanObserve.observed g.C.CanSample.sampled g.EF.ExtensionField.of_coefficients g.EF.ExtensionField.DIMENSION g.C.CanSampleBits.sampled_bits) g.EF.ExtensionField.coefficients (fri_shape c.args.self.now.shape) c.args.self.now.challenger.now _ c.args.final_poly.now c.args.witness c.observe_extensions.ensures.state) ∙ held.1),
+)
+
+pub returns-clause-passes : goal.returns-clause-passes
+unfolding fri_shape
+returns-clause-passes g c = λ known. (
+  (λ ok. (c.if-final_poly-expected.false, queries_pass (moves g.C.CanObserve.observed g.C.CanObserve.observed g.C.CanSample.sampled g.EF.ExtensionField.of_coefficients g.EF.ExtensionField.DIMENSION g.C.CanSampleBits.sampled_bits) g.EF.ExtensionField.coefficients (fri_shape c.args.self.now.shape) c.args.self.now.challenger.now _ c.args.final_poly.now c.args.witness c.observe_extensions.ensures.state ∙ c.in-Ok.ensures.passes.0 refl)),
+  λ held. refl,
+)
+
+pub returns-clause-queries : goal.returns-clause-queries
+unfolding fri_shape
+returns-clause-queries g c =
+    shown_queries_are (moves g.C.CanObserve.observed g.C.CanObserve.observed g.C.CanSample.sampled g.EF.ExtensionField.of_coefficients g.EF.ExtensionField.DIMENSION g.C.CanSampleBits.sampled_bits)
+    g.EF.ExtensionField.coefficients (fri_shape c.args.self.now.shape) c.args.self.now.challenger.now c.observe_extensions.new.challenger c.check.new.challenger c.challenge_bits.new.challenger _ _ _
+    c.observe_extensions.ensures.state (c.in-Ok.ensures.passes.0 refl) c.in-Ok.ensures.state c.in_ok-indices.ensures.values c.in_ok-indices.ensures.state
+
+pub returns-clause-steps : goal.returns-clause-steps
+unfolding fri_shape
+returns-clause-steps g c =
+    let shape = fri_shape c.args.self.now.shape in
+    rest_of _ _ [] _
+    (c.in-Ok.ensures.steps (indices_left shape) (after_final_poly g.EF.ExtensionField.DIMENSION shape _ _ c.requires.all_rounds_played c.observe_extensions.ensures.steps))
+    c.in_ok-indices.ensures.steps

@@ -1,0 +1,8 @@
+//! The transcript that both sides of the low-degree test draw their challenges from.
+#![tactic(auto)]
+
+pub mod laws;
+mod rounds;
+pub mod transcript;
+
+pub use crate::transcript::FriShape;

@@ -1,0 +1,47 @@
+//! Steps of rounds.
+
+ghost use Rattle.std.specs.Prelude.{◌≡◌, ◌++◌, OnOk, map};
+ghost use Rattle.p3_challenger.specs.Pattern.{step_of};
+ghost use Rattle.p3_fri_transcript.specs.Steps.{round_steps, rounds_steps};
+
+use p3_challenger::fs::{Hierarchy, Interaction, Kind, Length};
+use p3_field::{ExtensionField, Field};
+use p3_fri_steps::steps::push_pow;
+use std::alloc::AllocError;
+
+/// Appends the steps of a round.
+fn push_round<F: Field, EF: ExtensionField<F>>(
+    steps: &mut Vec<Interaction>,
+    pow_bits: usize,
+) -> Result<(), AllocError>
+    ensures { OnOk result (map step_of steps.new.items ≡ map step_of steps.old.items ++ round_steps EF.DIMENSION pow_bits) }
+{
+    steps.push(Interaction::opaque(
+        Hierarchy::Atomic,
+        Kind::Message,
+        "commit_phase_commitment",
+        Length::Scalar,
+    ))?;
+    push_pow::<F>(steps, "commit_pow", pow_bits)?;
+    steps.push(Interaction::algebra::<F, EF>(
+        Hierarchy::Atomic,
+        Kind::Challenge,
+        "fold_challenge",
+        Length::Scalar,
+    ))?;
+    Ok(())
+}
+
+/// Appends the steps of so many rounds.
+pub(crate) fn push_rounds<F: Field, EF: ExtensionField<F>>(
+    steps: &mut Vec<Interaction>,
+    pow_bits: usize,
+    rounds: usize,
+) -> Result<(), AllocError>
+    ensures { OnOk result (map step_of steps.new.items ≡ map step_of steps.old.items ++ rounds_steps EF.DIMENSION pow_bits rounds) }
+{
+    for _ in 0..rounds {
+        push_round::<F, EF>(steps, pow_bits)?;
+    }
+    Ok(())
+}
