@@ -11,6 +11,7 @@ use Rattle.algebra.specs.Folds.{neighbours}
 use Rattle.algebra.specs.Rounds.{Round, Link, total_log_arity, rolled_in, entry_of, after_round}
 use Rattle.algebra.specs.Rounds.{after_rounds, words_folded, row_of_link, next_link, chain}
 use Rattle.algebra.specs.Rounds.{chain_rows, rows_met, siblings_met, link_in, AreValuesMet}
+use Rattle.algebra.proofs.FoldedWords.{row_within}
 use Rattle.algebra.proofs.Rounds.{total-nil, total-cons, length-after_round, after_round-entry}
 
 -- an entry that was taken out, put back
@@ -29,10 +30,7 @@ module _ {A : Type 0} (ys : List A) (h a i : ℕ) (n : length ys ≡ 2 ^ (h + a)
   row_below = (div-lt_iff_lt-mul (pow_pos a)).1 (rw (← pow-add 2 h a) l)
 
   within : i / 2 ^ a * 2 ^ a + 2 ^ a ≤ length ys
-  within = rw (n, pow-add 2 h a) (fits (i / 2 ^ a) (2 ^ h) (2 ^ a) row_below)
-    where
-      fits : (i n k : ℕ) → i < n → i * k + k ≤ n * k
-      fits i n k l = grind arith
+  within = rw (n, pow-add 2 h a) (row_within (i / 2 ^ a) (2 ^ h) (2 ^ a) row_below)
 
   count : i / 2 ^ a * 2 ^ a + 2 ^ a - i / 2 ^ a * 2 ^ a ≡ 2 ^ a
   count = omega arith

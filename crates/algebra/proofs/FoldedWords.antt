@@ -26,7 +26,7 @@ slice_range-tabulate N s n f b =
     ∙ take-tabulate n (N - s) (λ i. f (s + i)) (omega (arith, b))
 
 -- rows lie within a list of as many
-row_within : (i n k : ℕ) → i < n → i * k + k ≤ n * k
+pub row_within : (i n k : ℕ) → i < n → i * k + k ≤ n * k
 row_within i n k l = grind arith
 
 -- a row of a list by index

@@ -10,6 +10,7 @@ use Rattle.algebra.proofs.Ring.{◌:+◌, ◌:*◌, ◌:-◌, ◌:=◌, ring, :1
 use Rattle.algebra.proofs.Combine.{combine, equal_from_doubles}
 use Rattle.algebra.proofs.Values.{val-two}
 use Rattle.algebra.proofs.Powers.{pow-add, pow-times, pow-one_base, homomorphism-pow, double}
+use Rattle.algebra.proofs.Lifting.{lifted_pt}
 use Rattle.algebra.proofs.Digits.{rev-even, rev-lt}
 use Rattle.algebra.proofs.Points.{full_turn, root-nonzero, lifted_roots, point-opposite}
 use Rattle.algebra.proofs.Points.{row_distinct}
@@ -77,10 +78,6 @@ module _ {A E : Type 0} (F : FieldOps A) (K : FieldOps E) (lift : A → E) (L : 
   infixl 70 ◌⊗◌
   open K use {one as 𝟙, add as ◌⊕◌, mul as ◌⊗◌, neg}
 
-  lifted_point : (n h : ℕ) → pt K (λ k. lift (w k)) n h ≡ lift (pt F w n h)
-  unfolding pt
-  lifted_point n h = sym (homomorphism-pow F K lift H (w h) (rev h n))
-
   -- the fold by half the inverse of the row's first point, which lies in the base field
   pub fold_by_half_inverse : (i h : ℕ) (half : A) (beta y0 y1 s r : E) → i < 2 ^ h → suc h ≤ top
       → IsHalfInverse F w i h half
@@ -89,7 +86,7 @@ module _ {A E : Type 0} (F : FieldOps A) (K : FieldOps E) (lift : A → E) (L : 
   fold_by_half_inverse i h half beta y0 y1 s r l b inverse sum is =
       fold_of_two K M top (λ k. lift (w k)) (lifted_roots F K lift L M H top w W) i h
       (lift (F.add half half)) beta y0 y1 r l b
-      (ap (λ x. x ⊗ lift (F.add half half)) (lifted_point (i + i) (suc h))
+      (ap (λ x. x ⊗ lift (F.add half half)) (sym (lifted_pt F K lift H w (i + i) (suc h)))
       ∙ sym (H.mul (pt F w (i + i) (suc h)) (F.add half half)) ∙ ap lift inverse ∙ H.one)
       (ap (λ x. x ⊕ x) is
       ∙ ring K M.ring 4 (λ s d t x. (s :+ d :* t :* x) :+ (s :+ d :* t :* x) := (s :+ s) :+ d :*

@@ -2,26 +2,23 @@
 -- shift^(2^k)`.
 use Rattle.std.proofs.Common.{◌≡◌, ℕ, zero, suc, ◌+◌, ◌-◌, ◌*◌, ◌^◌, ◌<◌, ◌≤◌, List, [], ◌∷◌}
 use Rattle.std.proofs.Common.{length, get_or, refl, sym, ap, ap₂, ◌∙◌, arith, mul_comm, pow_pos}
+use Rattle.std.proofs.lemmas.List.{get_or_past}
 use Rattle.algebra.specs.Field.{FieldOps, IsRing, IsField, pow}
 use Rattle.algebra.specs.Polynomial.{val, tabulate, sum_below}
 use Rattle.algebra.specs.PolynomialProduct.{coefficient}
 use Rattle.algebra.specs.TwoAdic.{AreRoots, pt}
 use Rattle.algebra.specs.Digits.{rev}
+use Rattle.algebra.specs.Cosets.{coset_pt}
 use Rattle.algebra.specs.Words.{coset_word}
 use Rattle.algebra.specs.Reduction.{reduced}
 use Rattle.algebra.proofs.RingLaws.{zero_add, zero_mul}
 use Rattle.algebra.proofs.Ring.{◌:+◌, ◌:*◌, ◌:=◌, ring, o}
-use Rattle.algebra.proofs.Powers.{pow-add, pow-mul, pow-times, pow-one_base}
-use Rattle.algebra.proofs.Points.{full_turn}
+use Rattle.algebra.proofs.Powers.{pow-add, pow-mul}
+use Rattle.algebra.proofs.Digits.{rev-rev}
+use Rattle.algebra.proofs.PointTest.{coset_power}
 use Rattle.algebra.proofs.PolynomialProduct.{sum_below-equal, sum_below-zero}
 use Rattle.algebra.proofs.Sums.{val-tabulate, sum_below-factor, sum_below-swap}
 use Rattle.algebra.proofs.Lists.{length-tabulate, tabulate-equal}
-
--- past the end there is the default
-past_end : {A : Type 0} (xs : List A) (i : ℕ) (d : A) → length xs ≤ i → get_or xs i d ≡ d
-past_end [] i d l = refl
-past_end (x ∷ xs) zero d l = absurd (omega (arith, l))
-past_end (x ∷ xs) (suc i) d l = past_end xs i d (omega (arith, l))
 
 module _ {A : Type 0} (F : FieldOps A) (R : IsRing F) where
   infixl 65 ◌⊕◌
@@ -91,7 +88,7 @@ module _ {A : Type 0} (F : FieldOps A) (R : IsRing F) where
       ∙ sum_below-swap F R n d (λ i j. term (i + j * n))
       ∙ sym (sum_below-blocks d n term)
       ∙ sum_below-padded d (d * n) term (enough d n p)
-      (λ i l. ap (λ a. a ⊗ pow F x i) (past_end c i 𝟘 l) ∙ zero_mul F R (pow F x i))
+      (λ i l. ap (λ a. a ⊗ pow F x i) (get_or_past c i 𝟘 l) ∙ zero_mul F R (pow F x i))
     where
       d : ℕ
       d = length c
@@ -113,34 +110,32 @@ module _ {A : Type 0} (F : FieldOps A) (R : IsRing F) where
 module _ {A : Type 0} (F : FieldOps A) (L : IsField F) (top : ℕ) (w : ℕ → A)
     (W : AreRoots F top w) where
   infixl 70 ◌⊗◌
-  open F use {one as 𝟙, mul as ◌⊗◌}
+  open F use {mul as ◌⊗◌}
 
-  -- all points of a coset have one power
-  point_power : (shift : A) (k i : ℕ) → k ≤ top
-      → pow F (shift ⊗ pow F (w k) i) (2 ^ k) ≡ pow F shift (2 ^ k)
-  point_power shift k i b =
-      sym (pow-times F L.ring shift (pow F (w k) i) (2 ^ k))
-      ∙ ap (λ x. pow F shift (2 ^ k) ⊗ x)
-      (sym (pow-mul F L.ring (w k) (2 ^ k) i) ∙ ap (λ n. pow F (w k) n) (mul_comm (2 ^ k) i)
-      ∙ pow-mul F L.ring (w k) i (2 ^ k)
-      ∙ ap (λ x. pow F x i) (full_turn F L top w W k b) ∙ pow-one_base F L.ring i)
-      ∙ L.mul_one (pow F shift (2 ^ k))
-
-  -- in natural order
-  pub reduced_at_coset_point : (shift : A) (k : ℕ) (c : List A) (i : ℕ) → k ≤ top
-      → val F (reduced F (2 ^ k) (pow F shift (2 ^ k)) c) (shift ⊗ pow F (w k) i)
-      ≡ val F c (shift ⊗ pow F (w k) i)
-  reduced_at_coset_point shift k c i b =
-      val-reduced F L.ring (2 ^ k) (pow F shift (2 ^ k)) c (shift ⊗ pow F (w k) i) (pow_pos k)
-      (point_power shift k i b)
+  at_point : (shift : A) (k i : ℕ) (c : List A) → k ≤ top
+      → val F (reduced F (2 ^ k) (pow F shift (2 ^ k)) c) (coset_pt F w shift i k)
+      ≡ val F c (coset_pt F w shift i k)
+  at_point shift k i c b =
+      val-reduced F L.ring (2 ^ k) (pow F shift (2 ^ k)) c (coset_pt F w shift i k) (pow_pos k)
+      (coset_power F L top w W shift i k b)
 
   -- in bit-reversed order
   pub coset_word-reduced : (shift : A) (k : ℕ) (c : List A) → k ≤ top
       → coset_word F w shift k (reduced F (2 ^ k) (pow F shift (2 ^ k)) c)
       ≡ coset_word F w shift k c
-  unfolding pt
   coset_word-reduced shift k c b =
       tabulate-equal (2 ^ k)
-      (λ i. val F (reduced F (2 ^ k) (pow F shift (2 ^ k)) c) (shift ⊗ pt F w i k))
-      (λ i. val F c (shift ⊗ pt F w i k))
-      (λ i _. reduced_at_coset_point shift k c (rev k i) b)
+      (λ i. val F (reduced F (2 ^ k) (pow F shift (2 ^ k)) c) (coset_pt F w shift i k))
+      (λ i. val F c (coset_pt F w shift i k))
+      (λ i _. at_point shift k i c b)
+
+  -- in natural order
+  pub reduced_in_natural_order : (shift : A) (k i : ℕ) (c : List A) → k ≤ top → i < 2 ^ k
+      → val F (reduced F (2 ^ k) (pow F shift (2 ^ k)) c) (shift ⊗ pow F (w k) i)
+      ≡ val F c (shift ⊗ pow F (w k) i)
+  unfolding pt
+  reduced_in_natural_order shift k i c b l =
+      ap (λ n. val F (reduced F (2 ^ k) (pow F shift (2 ^ k)) c) (shift ⊗ pow F (w k) n))
+      (sym (rev-rev k i l))
+      ∙ at_point shift k (rev k i) c b
+      ∙ ap (λ n. val F c (shift ⊗ pow F (w k) n)) (rev-rev k i l)
