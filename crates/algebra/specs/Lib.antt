@@ -17,3 +17,4 @@ pub mod Reduction
 pub mod Periodic
 pub mod Laws
 pub mod CosetLaws
+pub mod FoldLaws
