@@ -8,7 +8,7 @@ use Rattle.algebra.specs.Field.{FieldOps, IsField, pow}
 use Rattle.algebra.specs.Polynomial.{val, tabulate}
 use Rattle.algebra.specs.Interpolation.{Interpolates, interpolant}
 use Rattle.algebra.specs.TwoAdic.{AreRoots, pt, row_points}
-use Rattle.algebra.specs.Folds.{neighbours, fold_value, partly_folded, binary_folds}
+use Rattle.algebra.specs.Folds.{neighbours, fold_value, partly_folded}
 use Rattle.algebra.specs.Folds.{IsFoldOfBinaryFolds}
 use Rattle.algebra.proofs.Powers.{double, pow-two}
 use Rattle.algebra.proofs.Values.{val-one}
@@ -17,7 +17,7 @@ use Rattle.algebra.proofs.Interpolation.{interpolant_interpolates, interpolates_
 use Rattle.algebra.proofs.Points.{row_distinct}
 use Rattle.algebra.proofs.FoldedWords.{neighbours-tabulate, fold-values}
 use Rattle.algebra.proofs.Lists.{Distinct, length-tabulate, map-tabulate, tabulate-equal}
-use Rattle.algebra.proofs.Lists.{tabulate-get_or, get_or-tabulate, distinct_from_AllPairs, head_eq}
+use Rattle.algebra.proofs.Lists.{tabulate-get_or, distinct_from_AllPairs}
 
 -- the two entries from a place on
 drop_two : {A : Type 0} (xs : List A) (k : ℕ) (d : A) → suc k < length xs

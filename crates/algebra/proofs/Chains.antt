@@ -8,7 +8,7 @@ use Rattle.std.proofs.lemmas.Nat.{pow-add, div-add-mod'}
 use Rattle.std.proofs.Math.Nat.{mod-lt, div-lt_iff_lt-mul, div-div-eq-div-mul}
 use Rattle.algebra.specs.Field.{FieldOps}
 use Rattle.algebra.specs.Folds.{neighbours}
-use Rattle.algebra.specs.Rounds.{Round, Link, total_log_arity, rolled_in, entry_of, after_round}
+use Rattle.algebra.specs.Rounds.{Round, total_log_arity, rolled_in, entry_of, after_round}
 use Rattle.algebra.specs.Rounds.{after_rounds, words_folded, row_of_link, next_link, chain}
 use Rattle.algebra.specs.Rounds.{chain_rows, rows_met, siblings_met, link_in, AreValuesMet}
 use Rattle.algebra.proofs.FoldedWords.{row_within}

@@ -1,7 +1,7 @@
 -- The final polynomial: it is the last word's where that is of low degree, the inverse transform of
 -- the turned entries
 -- gives it, and the chain of each query ends at its value.
-use Rattle.std.proofs.Common.{◌≡◌, ℕ, ◌+◌, ◌-◌, ◌*◌, ◌/◌, ◌^◌, ◌<◌, ◌≤◌, List, Option, length, take}
+use Rattle.std.proofs.Common.{◌≡◌, ℕ, ◌+◌, ◌-◌, ◌/◌, ◌^◌, ◌<◌, ◌≤◌, List, Option, length, take}
 use Rattle.std.proofs.Common.{get_or, sym, ap, ap₂, ◌∙◌, arith, pow_pos, length-take-le}
 use Rattle.std.proofs.Math.Nat.{div-lt_iff_lt-mul}
 use Rattle.std.proofs.lemmas.Nat.{pow-add}
@@ -12,7 +12,7 @@ use Rattle.algebra.specs.Digits.{rev}
 use Rattle.algebra.specs.TwoAdic.{AreRoots, pt, domain_points}
 use Rattle.algebra.specs.Words.{word, IsWord}
 use Rattle.algebra.specs.Folds.{LowersDegrees}
-use Rattle.algebra.specs.Rounds.{Round, Link, total_log_arity, after_rounds, words_folded, chain}
+use Rattle.algebra.specs.Rounds.{Round, total_log_arity, after_rounds, words_folded, chain}
 use Rattle.algebra.specs.Rounds.{siblings_met, link_in, AreValuesMet, AreLowDegreeWords}
 use Rattle.algebra.specs.Rounds.{final_polynomial}
 use Rattle.algebra.proofs.Digits.{rev-lt, rev-rev}

@@ -7,7 +7,7 @@ use Rattle.algebra.specs.Polynomial.{val, tabulate}
 use Rattle.algebra.specs.Interpolation.{Interpolates, interpolant}
 use Rattle.algebra.specs.TwoAdic.{AreRoots, pt, row_points}
 use Rattle.algebra.specs.Words.{word, IsWord}
-use Rattle.algebra.specs.Folds.{neighbours, folded_by, fold_value, folded_word, LowersDegrees}
+use Rattle.algebra.specs.Folds.{neighbours, fold_value, folded_word, LowersDegrees}
 use Rattle.algebra.proofs.Blocks.{block_values, block_sum, length-block_values, length-block_sum}
 use Rattle.algebra.proofs.Blocks.{val-blocks, val-block_sum}
 use Rattle.algebra.proofs.Interpolation.{interpolant_interpolates, interpolates_unique}

@@ -9,7 +9,7 @@ use Rattle.algebra.specs.TwoAdic.{AreRoots, pt, row_points}
 use Rattle.algebra.proofs.Ring.{◌:+◌, ◌:*◌, ◌:-◌, ◌:=◌, ring, :1, minus}
 use Rattle.algebra.proofs.Combine.{combine, equal_from_doubles}
 use Rattle.algebra.proofs.Values.{val-two}
-use Rattle.algebra.proofs.Powers.{pow-add, pow-times, pow-one_base, homomorphism-pow, double}
+use Rattle.algebra.proofs.Powers.{pow-add, pow-times, pow-one_base, double}
 use Rattle.algebra.proofs.Lifting.{lifted_pt}
 use Rattle.algebra.proofs.Digits.{rev-even, rev-lt}
 use Rattle.algebra.proofs.Points.{full_turn, root-nonzero, lifted_roots, point-opposite}

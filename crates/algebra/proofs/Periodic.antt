@@ -1,12 +1,12 @@
 -- The value of a periodic column at a point of a domain as large as its rows, or larger, depends on
 -- the point's index
 -- modulo the period's share of the domain alone.
-use Rattle.std.proofs.Common.{◌≡◌, ℕ, ◌+◌, ◌-◌, ◌*◌, ◌/◌, ◌%◌, ◌^◌, ◌<◌, ◌≤◌, List, length, get_or}
-use Rattle.std.proofs.Common.{refl, sym, ap, ap₂, ◌∙◌, arith, mul_comm, pow_pos}
+use Rattle.std.proofs.Common.{◌≡◌, ℕ, ◌+◌, ◌-◌, ◌*◌, ◌/◌, ◌%◌, ◌^◌, ◌≤◌, List}
+use Rattle.std.proofs.Common.{sym, ap, ◌∙◌, arith, mul_comm, pow_pos}
 use Rattle.std.proofs.lemmas.Nat.{mod-pow-add, mod-mul-add}
 use Rattle.std.proofs.Math.Nat.{div-add-mod, mod-lt}
 use Rattle.algebra.specs.Field.{FieldOps, IsField, pow}
-use Rattle.algebra.specs.Polynomial.{val, tabulate}
+use Rattle.algebra.specs.Polynomial.{val}
 use Rattle.algebra.specs.TwoAdic.{AreRoots}
 use Rattle.algebra.specs.Periodic.{column_polynomial, periodic_value}
 use Rattle.algebra.proofs.RingLaws.{one_mul}

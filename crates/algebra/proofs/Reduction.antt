@@ -1,10 +1,10 @@
 -- On a coset of `2^k` points a polynomial has the values of what it is modulo `X^(2^k) -
 -- shift^(2^k)`.
-use Rattle.std.proofs.Common.{◌≡◌, ℕ, zero, suc, ◌+◌, ◌-◌, ◌*◌, ◌^◌, ◌<◌, ◌≤◌, List, [], ◌∷◌}
-use Rattle.std.proofs.Common.{length, get_or, refl, sym, ap, ap₂, ◌∙◌, arith, mul_comm, pow_pos}
+use Rattle.std.proofs.Common.{◌≡◌, ℕ, zero, suc, ◌+◌, ◌-◌, ◌*◌, ◌^◌, ◌<◌, ◌≤◌, List}
+use Rattle.std.proofs.Common.{length, refl, sym, ap, ap₂, ◌∙◌, arith, pow_pos}
 use Rattle.std.proofs.lemmas.List.{get_or_past}
 use Rattle.algebra.specs.Field.{FieldOps, IsRing, IsField, pow}
-use Rattle.algebra.specs.Polynomial.{val, tabulate, sum_below}
+use Rattle.algebra.specs.Polynomial.{val, sum_below}
 use Rattle.algebra.specs.PolynomialProduct.{coefficient}
 use Rattle.algebra.specs.TwoAdic.{AreRoots, pt}
 use Rattle.algebra.specs.Digits.{rev}
@@ -12,7 +12,7 @@ use Rattle.algebra.specs.Cosets.{coset_pt}
 use Rattle.algebra.specs.Words.{coset_word}
 use Rattle.algebra.specs.Reduction.{reduced}
 use Rattle.algebra.proofs.RingLaws.{zero_add, zero_mul}
-use Rattle.algebra.proofs.Ring.{◌:+◌, ◌:*◌, ◌:=◌, ring, o}
+use Rattle.algebra.proofs.Ring.{◌:*◌, ◌:=◌, ring}
 use Rattle.algebra.proofs.Powers.{pow-add, pow-mul}
 use Rattle.algebra.proofs.Digits.{rev-rev}
 use Rattle.algebra.proofs.PointTest.{coset_power}

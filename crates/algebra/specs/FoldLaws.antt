@@ -1,12 +1,12 @@
 -- The statements of the law functions on folds, rounds of folding, smaller domains and periodic
 -- columns, for every field over the type `A` with a family of roots of unity.
-use Rattle.std.specs.Prelude.{◌≡◌, ℕ, ◌+◌, ◌-◌, ◌*◌, ◌/◌, ◌%◌, ◌^◌, ◌<◌, ◌≤◌, List, Option, length}
+use Rattle.std.specs.Prelude.{◌≡◌, ℕ, ◌+◌, ◌-◌, ◌/◌, ◌%◌, ◌^◌, ◌<◌, ◌≤◌, List, Option, length}
 use Rattle.algebra.specs.Field.{FieldOps, IsField, pow}
 use Rattle.algebra.specs.Polynomial.{val}
 use Rattle.algebra.specs.TwoAdic.{AreRoots, pt}
 use Rattle.algebra.specs.Words.{coset_word, IsWord}
 use Rattle.algebra.specs.Folds.{fold_value, partly_folded, IsFoldOfBinaryFolds, LowersDegrees}
-use Rattle.algebra.specs.Rounds.{Round, Link, total_log_arity, after_rounds, words_folded}
+use Rattle.algebra.specs.Rounds.{Round, total_log_arity, after_rounds, words_folded}
 use Rattle.algebra.specs.Rounds.{siblings_met, rows_met, chain, chain_rows, link_in}
 use Rattle.algebra.specs.Rounds.{AreValuesMet, AreLowDegreeWords, final_polynomial}
 use Rattle.algebra.specs.Reduction.{reduced}
@@ -60,7 +60,7 @@ RoundsLowerDegrees A = (F : FieldOps A) → IsField F → (top : ℕ) (w : ℕ �
     → (k : ℕ) (rounds : List (Round A)) (ys : List A) → k ≤ top
     → total_log_arity rounds + log_blowup ≤ k → IsWord F w k (2 ^ (k - log_blowup)) ys
     → IsWord F w (k - total_log_arity rounds) (2 ^ (k - total_log_arity rounds - log_blowup))
-        (after_rounds F fold inputs k rounds ys)
+    (after_rounds F fold inputs k rounds ys)
 
 -- and where the rounds lead to the log height `l + log_blowup`, the chain of each query ends at the
 -- value of the final polynomial
