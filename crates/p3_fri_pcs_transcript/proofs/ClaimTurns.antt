@@ -3,16 +3,16 @@ use Rattle.std.proofs.Common.{◌≡◌, ℕ, List, [], ◌∷◌, ◌++◌, len
 use Rattle.std.proofs.lemmas.List.{map-append}
 use Rattle.std.proofs.lemmas.Grind.{flat_map-append}
 use Rattle.std.specs.List.{flat_map}
-use Rattle.p3_challenger.specs.declared.fs.pattern.Hierarchy.TheVariants.{Atomic, Begin, End}
-use Rattle.p3_challenger.specs.declared.fs.pattern.Kind.TheVariants.{Message}
-use Rattle.p3_challenger.specs.declared.fs.pattern.TypeTag.TheVariants.{Algebra}
-use Rattle.p3_challenger.specs.declared.fs.pattern.Length.TheVariants.{Fixed}
-use Rattle.p3_challenger.specs.declared.fs.pattern.Turn.{Turn}
+use Rattle.p3_challenger_fs.specs.declared.pattern.Hierarchy.TheVariants.{Atomic, Begin, End}
+use Rattle.p3_challenger_fs.specs.declared.pattern.Kind.TheVariants.{Message}
+use Rattle.p3_challenger_fs.specs.declared.pattern.TypeTag.TheVariants.{Algebra}
+use Rattle.p3_challenger_fs.specs.declared.pattern.Length.TheVariants.{Fixed}
+use Rattle.p3_challenger_fs.specs.declared.pattern.Turn.{Turn}
 use Rattle.p3_challenger.specs.Pattern.{turn_of}
 use Rattle.algebra.specs.Field.{FieldOps}
 use Rattle.p3_challenger.specs.Run.{Moves, observed_all}
 use Rattle.p3_challenger.specs.Turns.{IsNext, bytes_observed}
-use Rattle.p3_challenger.proofs.Runs.{observed_all-append}
+use Rattle.p3_challenger_core.proofs.Runs.{observed_all-append}
 use Rattle.p3_fri_pcs_transcript.specs.Counts.{joined}
 use Rattle.p3_fri_steps.specs.Pow.{pow_turns}
 use Rattle.p3_fri_pcs_transcript.specs.Replay.{BatchReplay, shown_batch_replay, claims_replay}

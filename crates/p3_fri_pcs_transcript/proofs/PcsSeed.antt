@@ -3,47 +3,47 @@ use Rattle.std.proofs.Common.{◌≡◌, ℕ, zero, suc, List, [], ◌∷◌, �
 use Rattle.std.specs.List.{All, flat_map}
 use Rattle.std.proofs.lemmas.List.{length-map}
 use Rattle.std.proofs.lemmas.List.Elements.{All-nil, All-cons, All-head, All-tail, All-append, All-map}
-use Rattle.p3_challenger.specs.declared.fs.pattern.Hierarchy.TheVariants.{Begin, End}
-use Rattle.p3_challenger.specs.declared.fs.pattern.Kind.TheVariants.{Challenge}
-use Rattle.p3_challenger.specs.Pattern.{Step, number}
+use Rattle.p3_challenger_fs.specs.declared.pattern.Hierarchy.TheVariants.{Begin, End}
+use Rattle.p3_challenger_fs.specs.declared.pattern.Kind.TheVariants.{Challenge}
+use Rattle.p3_challenger.specs.Pattern.{Step, number_bytes}
 use Rattle.p3_challenger.specs.StreamLaws.{FitsNumber}
-use Rattle.p3_challenger.proofs.Streams.{FitsWhole, head_equal, tail_equal, cons_equal, split_front, stream_told}
+use Rattle.p3_challenger_fs.proofs.Streams.{FitsWhole, head_equal, tail_equal, cons_equal, split_front, stream_determined}
 use Rattle.p3_fri_pcs_transcript.specs.Shapes.{pcs_shape}
 use Rattle.p3_fri_pcs_transcript.specs.Steps.{PcsNumbers, bracket_step, widths, grouping, pcs_steps, pcs_stream, pcs_labels}
 use Rattle.p3_fri_steps.specs.Steps.{pow_steps, challenge_step, message_step}
 use Rattle.p3_fri_pcs_transcript.specs.declared.pcs_transcript.shape.PcsShape.{PcsShape}
 use Rattle.p3_fri_steps.specs.Fits.{FitsList, FitsPoints}
 use Rattle.p3_fri_pcs_transcript.specs.SeedLaws.{FitsMatrices, FitsCounts, FitsPcs}
-use Rattle.p3_fri_steps.proofs.SeedLemmas.{count_equal, kind_equal, pow_step, pow_told, pow_fits, labels_fit, labels_told}
+use Rattle.p3_fri_steps.proofs.SeedLemmas.{count_equal, kind_equal, pow_step, pow_determined, pow_fits, labels_fit, labels_determined}
 
 -- the numbers of claimed values and how they are grouped give back the counts
-points_told : (xs ys : List (List ℕ)) (s t : List ℕ) → map length xs ≡ map length ys → flat_map (λ points. points) xs ++ s ≡ flat_map (λ points. points) ys ++ t → (xs ≡ ys) × (s ≡ t)
-points_told [] [] s t l e = (refl, e)
-points_told [] (y ∷ ys) s t l e = absurd cc
-points_told (x ∷ xs) [] s t l e = absurd cc
-points_told (x ∷ xs) (y ∷ ys) s t l e =
+points_determined : (xs ys : List (List ℕ)) (s t : List ℕ) → map length xs ≡ map length ys → flat_map (λ points. points) xs ++ s ≡ flat_map (λ points. points) ys ++ t → (xs ≡ ys) × (s ≡ t)
+points_determined [] [] s t l e = (refl, e)
+points_determined [] (y ∷ ys) s t l e = absurd cc
+points_determined (x ∷ xs) [] s t l e = absurd cc
+points_determined (x ∷ xs) (y ∷ ys) s t l e =
     let rest = λ (z : List (List ℕ)). flat_map (λ points. points) z in
     let first = split_front x y (rest xs ++ s) (rest ys ++ t) (head_equal (length x) (length y) (map length xs) (map length ys) l) (sym (append_assoc x (rest xs) s) ∙ e ∙ append_assoc y (rest ys) t) in
-    let others = points_told xs ys s t (tail_equal (length x) (length y) (map length xs) (map length ys) l) first.1 in
+    let others = points_determined xs ys s t (tail_equal (length x) (length y) (map length xs) (map length ys) l) first.1 in
     (cons_equal x y xs ys first.0 others.0, others.1)
 
 abbrev group : List (List ℕ) → List ℕ
 group matrices = length matrices ∷ map length matrices
 
-groups_told : (xs ys : List (List (List ℕ))) → length xs ≡ length ys → flat_map group xs ≡ flat_map group ys → widths xs ≡ widths ys → xs ≡ ys
-groups_told [] [] l g w = refl
-groups_told [] (y ∷ ys) l g w = absurd (omega arith)
-groups_told (x ∷ xs) [] l g w = absurd (omega arith)
-groups_told (x ∷ xs) (y ∷ ys) l g w =
+groups_determined : (xs ys : List (List (List ℕ))) → length xs ≡ length ys → flat_map group xs ≡ flat_map group ys → widths xs ≡ widths ys → xs ≡ ys
+groups_determined [] [] l g w = refl
+groups_determined [] (y ∷ ys) l g w = absurd (omega arith)
+groups_determined (x ∷ xs) [] l g w = absurd (omega arith)
+groups_determined (x ∷ xs) (y ∷ ys) l g w =
     let count = head_equal (length x) (length y) (map length x ++ flat_map group xs) (map length y ++ flat_map group ys) g in
     let lengths = split_front (map length x) (map length y) (flat_map group xs) (flat_map group ys) (length-map x length ∙ count ∙ sym (length-map y length))
     (tail_equal (length x) (length y) (map length x ++ flat_map group xs) (map length y ++ flat_map group ys) g) in
-    let first = points_told x y (widths xs) (widths ys) lengths.0 w in
-    cons_equal x y xs ys first.0 (groups_told xs ys (omega arith) lengths.1 first.1)
+    let first = points_determined x y (widths xs) (widths ys) lengths.0 w in
+    cons_equal x y xs ys first.0 (groups_determined xs ys (omega arith) lengths.1 first.1)
 
-pub counts_told : (xs ys : List (List (List ℕ))) → grouping xs ≡ grouping ys → widths xs ≡ widths ys → xs ≡ ys
-counts_told xs ys g w =
-    groups_told xs ys (head_equal (length xs) (length ys) (flat_map group xs) (flat_map group ys) g) (tail_equal (length xs) (length ys) (flat_map group xs) (flat_map group ys) g) w
+pub counts_determined : (xs ys : List (List (List ℕ))) → grouping xs ≡ grouping ys → widths xs ≡ widths ys → xs ≡ ys
+counts_determined xs ys g w =
+    groups_determined xs ys (head_equal (length xs) (length ys) (flat_map group xs) (flat_map group ys) g) (tail_equal (length xs) (length ys) (flat_map group xs) (flat_map group ys) g) w
 
 grouping_fits : (xs : List (List (List ℕ))) → FitsCounts xs → All FitsNumber (grouping xs)
 grouping_fits xs f = All-cons FitsNumber (length xs) (flat_map group xs) f.0 (groups_fit xs f.1)
@@ -75,16 +75,16 @@ module _ (d : ℕ) where
   no_message label other zero n x u v k e = let h = kind_equal x (message_step d other n) (head_equal x (message_step d other n) u v e) in absurd cc
   no_message label other (suc bits) n x u v k e = let h = kind_equal (pow_step label (suc bits)) (message_step d other n) (head_equal _ _ (x ∷ u) v e) in absurd cc
 
-  messages_told : (label other : List ℕ) (ms ns : List ℕ) (bits bits' : ℕ) (x y : Step) (u v : List Step) → x.kind ≡ Challenge → y.kind ≡ Challenge
+  messages_determined : (label other : List ℕ) (ms ns : List ℕ) (bits bits' : ℕ) (x y : Step) (u v : List Step) → x.kind ≡ Challenge → y.kind ≡ Challenge
       → map (message_step d other) ms ++ (pow_steps label bits ++ x ∷ u) ≡ map (message_step d other) ns ++ (pow_steps label bits' ++ y ∷ v)
       → (ms ≡ ns) × (bits ≡ bits') × (u ≡ v)
-  messages_told label other [] [] bits bits' x y u v k l e = let p = pow_told label bits bits' x y u v k l e in (refl, p.0, p.2)
-  messages_told label other [] (n ∷ ns) bits bits' x y u v k l e = absurd (no_message label other bits n x u (map (message_step d other) ns ++ (pow_steps label bits' ++ y ∷ v)) k e)
-  messages_told label other (m ∷ ms) [] bits bits' x y u v k l e = absurd (no_message label other bits' m y v (map (message_step d other) ms ++ (pow_steps label bits ++ x ∷ u)) l (sym e))
-  messages_told label other (m ∷ ms) (n ∷ ns) bits bits' x y u v k l e =
+  messages_determined label other [] [] bits bits' x y u v k l e = let p = pow_determined label bits bits' x y u v k l e in (refl, p.0, p.2)
+  messages_determined label other [] (n ∷ ns) bits bits' x y u v k l e = absurd (no_message label other bits n x u (map (message_step d other) ns ++ (pow_steps label bits' ++ y ∷ v)) k e)
+  messages_determined label other (m ∷ ms) [] bits bits' x y u v k l e = absurd (no_message label other bits' m y v (map (message_step d other) ms ++ (pow_steps label bits ++ x ∷ u)) l (sym e))
+  messages_determined label other (m ∷ ms) (n ∷ ns) bits bits' x y u v k l e =
       let step = message_step d other in
       let after = λ (zs : List ℕ) (b : ℕ) (z : Step) (w : List Step). map (message_step d other) zs ++ (pow_steps label b ++ z ∷ w) in
-      let rest = messages_told label other ms ns bits bits' x y u v k l (tail_equal (step m) (step n) (after ms bits x u) (after ns bits' y v) e) in
+      let rest = messages_determined label other ms ns bits bits' x y u v k l (tail_equal (step m) (step n) (after ms bits x u) (after ns bits' y v) e) in
       (cons_equal m n ms ns (count_equal (step m) (step n) m n (head_equal (step m) (step n) (after ms bits x u) (after ns bits' y v) e) refl refl) rest.0, rest.1, rest.2)
 
   -- what the steps tell
@@ -94,13 +94,13 @@ module _ (d : ℕ) where
   regroup : (a b : List Step) (x y z : Step) (u : List Step) → (a ++ b ++ (x ∷ y ∷ z ∷ [])) ++ u ≡ a ++ (b ++ x ∷ y ∷ z ∷ u)
   regroup a b x y z u = simp append_assoc
 
-  pcs_told : (s t : PcsNumbers) (u v : List Step) → pcs_steps d s ++ u ≡ pcs_steps d t ++ v → StepsAgree s t × (u ≡ v)
+  pcs_determined : (s t : PcsNumbers) (u v : List Step) → pcs_steps d s ++ u ≡ pcs_steps d t ++ v → StepsAgree s t × (u ≡ v)
   unfolding pcs_steps
-  pcs_told s t u v e =
+  pcs_determined s t u v e =
       let messages = λ (x : PcsNumbers). map (message_step d (codes "claimed_evaluations")) (widths x.counts) in
       let pow = λ (x : PcsNumbers). pow_steps (codes "batch_pow") x.batch_pow_bits in
       let alpha = challenge_step d (codes "alpha") in
-      let p = messages_told (codes "batch_pow") (codes "claimed_evaluations") (widths s.counts) (widths t.counts) s.batch_pow_bits t.batch_pow_bits alpha alpha
+      let p = messages_determined (codes "batch_pow") (codes "claimed_evaluations") (widths s.counts) (widths t.counts) s.batch_pow_bits t.batch_pow_bits alpha alpha
       (bracket_step Begin ∷ bracket_step End ∷ u) (bracket_step Begin ∷ bracket_step End ∷ v) refl refl
       (sym (regroup (messages s) (pow s) alpha (bracket_step Begin) (bracket_step End) u) ∙ e ∙ regroup (messages t) (pow t) alpha (bracket_step Begin) (bracket_step End) v) in
       ((p.0, p.1), tail_equal (bracket_step End) (bracket_step End) u v (tail_equal (bracket_step Begin) (bracket_step Begin) (bracket_step End ∷ u) (bracket_step End ∷ v) p.2))
@@ -122,13 +122,13 @@ module _ (d : ℕ) where
   same_pcs : (c c' : List (List (List ℕ))) (b b' : ℕ) → c ≡ c' → b ≡ b' → opening c b ≡ opening c' b'
   same_pcs c c' b b' e f = cc
 
-  pub opening_stream_told : (s t : PcsNumbers) → FitsNumber d → FitsPcs s → FitsPcs t → pcs_stream d s ≡ pcs_stream d t → s ≡ t
+  pub opening_stream_determined : (s t : PcsNumbers) → FitsNumber d → FitsPcs s → FitsPcs t → pcs_stream d s ≡ pcs_stream d t → s ≡ t
   unfolding pcs_stream pcs_labels
-  opening_stream_told s t p f g e =
-      let parts = stream_told 1 1 (codes "p3-fri-pcs") (codes "p3-fri-pcs") (pcs_steps d s) (pcs_steps d t) (map number (grouping s.counts)) (map number (grouping t.counts)) (StepsAgree s t) (omega arith) (omega arith)
-      (pcs_fits s p f) (pcs_fits t p g) (λ _ u v h. pcs_told s t u v h) (labels_fit (grouping s.counts)) (labels_fit (grouping t.counts)) e in
-      let groups = labels_told (grouping s.counts) (grouping t.counts) (grouping_fits s.counts f.counts) (grouping_fits t.counts g.counts) parts.3 in
-      same_pcs s.counts t.counts s.batch_pow_bits t.batch_pow_bits (counts_told s.counts t.counts groups parts.2.0) parts.2.1
+  opening_stream_determined s t p f g e =
+      let parts = stream_determined 1 1 (codes "p3-fri-pcs") (codes "p3-fri-pcs") (pcs_steps d s) (pcs_steps d t) (map number_bytes (grouping s.counts)) (map number_bytes (grouping t.counts)) (StepsAgree s t) (omega arith) (omega arith)
+      (pcs_fits s p f) (pcs_fits t p g) (λ _ u v h. pcs_determined s t u v h) (labels_fit (grouping s.counts)) (labels_fit (grouping t.counts)) e in
+      let groups = labels_determined (grouping s.counts) (grouping t.counts) (grouping_fits s.counts f.counts) (grouping_fits t.counts g.counts) parts.3 in
+      same_pcs s.counts t.counts s.batch_pow_bits t.batch_pow_bits (counts_determined s.counts t.counts groups parts.2.0) parts.2.1
 
 -- a list behind another view of its items fits as the list does
 list_fits : {A B : Type 0} (P : B → Type 0) (f : A → B) (xs : List A) → FitsList (λ x. P (f x)) xs → FitsList P (map f xs)

@@ -1,7 +1,7 @@
 -- The steps and labels of an opening, pushed one after another.
 use Rattle.std.proofs.Common.{◌≡◌, ℕ, ◌+◌, ◌<◌, List, [], ◌∷◌, ◌++◌, length, map, drop, get_or, codes, sym, ap, ◌∙◌, add-one, append_assoc}
 use Rattle.std.proofs.Math.Seq.{drop-cons}
-use Rattle.p3_challenger.specs.declared.fs.pattern.Hierarchy.TheVariants.{Begin, End}
+use Rattle.p3_challenger_fs.specs.declared.pattern.Hierarchy.TheVariants.{Begin, End}
 use Rattle.p3_challenger.specs.Pattern.{Step}
 use Rattle.p3_challenger.specs.Description.{Description}
 use Rattle.p3_fri_pcs_transcript.specs.Steps.{PcsNumbers, widths, bracket_step, pcs_steps}

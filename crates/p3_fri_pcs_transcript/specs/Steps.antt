@@ -1,12 +1,12 @@
 -- What the protocol around a low-degree test exchanges: the steps, and the numbers that they don't determine.
 use Rattle.std.specs.Prelude.{ℕ, List, [], ◌∷◌, ◌++◌, length, map, codes}
 use Rattle.std.specs.List.{flat_map}
-use Rattle.p3_challenger.specs.declared.fs.pattern.Hierarchy.{Hierarchy}
-use Rattle.p3_challenger.specs.declared.fs.pattern.Hierarchy.TheVariants.{Begin, End}
-use Rattle.p3_challenger.specs.declared.fs.pattern.Kind.TheVariants.{Protocol}
-use Rattle.p3_challenger.specs.declared.fs.pattern.TypeTag.TheVariants.{Marker}
-use Rattle.p3_challenger.specs.declared.fs.pattern.Length.TheVariants.{Scalar}
-use Rattle.p3_challenger.specs.Pattern.{Step, number, seed_stream}
+use Rattle.p3_challenger_fs.specs.declared.pattern.Hierarchy.{Hierarchy}
+use Rattle.p3_challenger_fs.specs.declared.pattern.Hierarchy.TheVariants.{Begin, End}
+use Rattle.p3_challenger_fs.specs.declared.pattern.Kind.TheVariants.{Protocol}
+use Rattle.p3_challenger_fs.specs.declared.pattern.TypeTag.TheVariants.{Marker}
+use Rattle.p3_challenger_fs.specs.declared.pattern.Length.TheVariants.{Scalar}
+use Rattle.p3_challenger.specs.Pattern.{Step, number_bytes, seed_stream}
 use Rattle.p3_fri_steps.specs.Steps.{pow_steps, challenge_step, message_step}
 
 -- what a shape of an opening says: the numbers of claimed values by commitment, matrix and point
@@ -28,7 +28,7 @@ bracket_step hierarchy = record { hierarchy = hierarchy; kind = Protocol; type_t
 
 -- the numbers that the steps of an opening don't tell
 unfoldable pub pcs_labels : PcsNumbers → List (List ℕ)
-pcs_labels s = map number (grouping s.counts)
+pcs_labels s = map number_bytes (grouping s.counts)
 
 module _ (d : ℕ) where
   unfoldable pub pcs_steps : PcsNumbers → List Step

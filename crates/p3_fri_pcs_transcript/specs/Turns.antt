@@ -1,7 +1,7 @@
 -- Where the transcript of an opening stands.
 use Rattle.std.specs.Prelude.{◌≡◌, ℕ, ◌++◌, List, [], ◌∷◌, map, codes}
-use Rattle.p3_challenger.specs.declared.fs.pattern.Hierarchy.TheVariants.{Begin, End}
-use Rattle.p3_challenger.specs.declared.fs.pattern.Turn.{Turn}
+use Rattle.p3_challenger_fs.specs.declared.pattern.Hierarchy.TheVariants.{Begin, End}
+use Rattle.p3_challenger_fs.specs.declared.pattern.Turn.{Turn}
 use Rattle.p3_challenger.specs.Pattern.{turn_of}
 use Rattle.p3_fri_pcs_transcript.specs.Steps.{PcsNumbers, bracket_step}
 use Rattle.p3_fri_steps.specs.Steps.{message_step, pow_steps, challenge_step}

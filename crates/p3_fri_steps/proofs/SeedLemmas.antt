@@ -2,13 +2,13 @@
 use Rattle.std.proofs.Common.{◌≡◌, ℕ, zero, suc, List, [], ◌∷◌, ◌++◌, map, refl, ap, arith}
 use Rattle.std.specs.List.{All}
 use Rattle.std.proofs.lemmas.List.Elements.{All-nil, All-cons, All-head, All-tail}
-use Rattle.p3_challenger.specs.declared.fs.pattern.Hierarchy.TheVariants.{Atomic}
-use Rattle.p3_challenger.specs.declared.fs.pattern.Kind.TheVariants.{Challenge, Pow}
-use Rattle.p3_challenger.specs.declared.fs.pattern.TypeTag.TheVariants.{Algebra}
-use Rattle.p3_challenger.specs.declared.fs.pattern.Length.TheVariants.{Fixed}
-use Rattle.p3_challenger.specs.Pattern.{Step, number}
+use Rattle.p3_challenger_fs.specs.declared.pattern.Hierarchy.TheVariants.{Atomic}
+use Rattle.p3_challenger_fs.specs.declared.pattern.Kind.TheVariants.{Challenge, Pow}
+use Rattle.p3_challenger_fs.specs.declared.pattern.TypeTag.TheVariants.{Algebra}
+use Rattle.p3_challenger_fs.specs.declared.pattern.Length.TheVariants.{Fixed}
+use Rattle.p3_challenger.specs.Pattern.{Step, number_bytes}
 use Rattle.p3_challenger.specs.StreamLaws.{FitsNumber, FitsText}
-use Rattle.p3_challenger.proofs.Streams.{FitsWhole, head_equal, tail_equal, cons_equal, number_injective}
+use Rattle.p3_challenger_fs.proofs.Streams.{FitsWhole, head_equal, tail_equal, cons_equal, number_injective}
 use Rattle.p3_fri_steps.specs.Steps.{pow_steps}
 
 abbrev pub pow_step : List ℕ → ℕ → Step
@@ -23,12 +23,12 @@ pub kind_equal : (s t : Step) → s ≡ t → s.kind ≡ t.kind
 kind_equal s t e = ap (λ (x : Step). x.kind) e
 
 -- a challenge behind a proof of work that may be there
-pub pow_told : (label : List ℕ) (m n : ℕ) (x y : Step) (u v : List Step) → x.kind ≡ Challenge → y.kind ≡ Challenge
+pub pow_determined : (label : List ℕ) (m n : ℕ) (x y : Step) (u v : List Step) → x.kind ≡ Challenge → y.kind ≡ Challenge
     → pow_steps label m ++ x ∷ u ≡ pow_steps label n ++ y ∷ v → (m ≡ n) × (x ≡ y) × (u ≡ v)
-pow_told label zero zero x y u v k l e = (refl, head_equal x y u v e, tail_equal x y u v e)
-pow_told label zero (suc n) x y u v k l e = let h = kind_equal x (pow_step label (suc n)) (head_equal _ _ u (y ∷ v) e) in absurd cc
-pow_told label (suc m) zero x y u v k l e = let h = kind_equal (pow_step label (suc m)) y (head_equal _ _ (x ∷ u) v e) in absurd cc
-pow_told label (suc m) (suc n) x y u v k l e =
+pow_determined label zero zero x y u v k l e = (refl, head_equal x y u v e, tail_equal x y u v e)
+pow_determined label zero (suc n) x y u v k l e = let h = kind_equal x (pow_step label (suc n)) (head_equal _ _ u (y ∷ v) e) in absurd cc
+pow_determined label (suc m) zero x y u v k l e = let h = kind_equal (pow_step label (suc m)) y (head_equal _ _ (x ∷ u) v e) in absurd cc
+pow_determined label (suc m) (suc n) x y u v k l e =
     let rest = tail_equal (pow_step label (suc m)) (pow_step label (suc n)) (x ∷ u) (y ∷ v) e in
     (count_equal (pow_step label (suc m)) (pow_step label (suc n)) (suc m) (suc n) (head_equal _ _ (x ∷ u) (y ∷ v) e) refl refl, head_equal x y u v rest, tail_equal x y u v rest)
 
@@ -38,14 +38,14 @@ pow_fits label (suc n) l b =
     All-cons FitsWhole (pow_step label (suc n)) [] (record { numbers = record { type_tag = omega arith; length = b }; label = l }) (All-nil FitsWhole)
 
 -- numbers as labels
-pub labels_fit : (xs : List ℕ) → All FitsText (map number xs)
+pub labels_fit : (xs : List ℕ) → All FitsText (map number_bytes xs)
 labels_fit [] = All-nil FitsText
-labels_fit (x ∷ xs) = All-cons FitsText (number x) (map number xs) (omega arith) (labels_fit xs)
+labels_fit (x ∷ xs) = All-cons FitsText (number_bytes x) (map number_bytes xs) (omega arith) (labels_fit xs)
 
-pub labels_told : (xs ys : List ℕ) → All FitsNumber xs → All FitsNumber ys → map number xs ≡ map number ys → xs ≡ ys
-labels_told [] [] p q e = refl
-labels_told [] (y ∷ ys) p q e = absurd cc
-labels_told (x ∷ xs) [] p q e = absurd cc
-labels_told (x ∷ xs) (y ∷ ys) p q e =
-    cons_equal x y xs ys (number_injective x y (All-head FitsNumber x xs p) (All-head FitsNumber y ys q) (head_equal (number x) (number y) (map number xs) (map number ys) e))
-    (labels_told xs ys (All-tail FitsNumber x xs p) (All-tail FitsNumber y ys q) (tail_equal (number x) (number y) (map number xs) (map number ys) e))
+pub labels_determined : (xs ys : List ℕ) → All FitsNumber xs → All FitsNumber ys → map number_bytes xs ≡ map number_bytes ys → xs ≡ ys
+labels_determined [] [] p q e = refl
+labels_determined [] (y ∷ ys) p q e = absurd cc
+labels_determined (x ∷ xs) [] p q e = absurd cc
+labels_determined (x ∷ xs) (y ∷ ys) p q e =
+    cons_equal x y xs ys (number_injective x y (All-head FitsNumber x xs p) (All-head FitsNumber y ys q) (head_equal (number_bytes x) (number_bytes y) (map number_bytes xs) (map number_bytes ys) e))
+    (labels_determined xs ys (All-tail FitsNumber x xs p) (All-tail FitsNumber y ys q) (tail_equal (number_bytes x) (number_bytes y) (map number_bytes xs) (map number_bytes ys) e))

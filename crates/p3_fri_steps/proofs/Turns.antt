@@ -1,15 +1,15 @@
 -- Steps without their labels, taken one after another.
 use Rattle.std.proofs.Common.{◌≡◌, ℕ, zero, suc, ◌==◌, false, if◌then◌else◌, rules, List, [], ◌∷◌, ◌++◌, length, map, drop, ◌+◌, ◌-◌, refl, sym, ap, ◌∙◌, subst}
 use Rattle.std.proofs.lemmas.Bool.Decides.{nat_tests}
-use Rattle.p3_challenger.specs.declared.fs.pattern.Hierarchy.{Hierarchy}
-use Rattle.p3_challenger.specs.declared.fs.pattern.Hierarchy.TheVariants.{Atomic}
-use Rattle.p3_challenger.specs.declared.fs.pattern.Kind.{Kind}
-use Rattle.p3_challenger.specs.declared.fs.pattern.Kind.TheVariants.{Pow}
-use Rattle.p3_challenger.specs.declared.fs.pattern.TypeTag.{TypeTag}
-use Rattle.p3_challenger.specs.declared.fs.pattern.TypeTag.TheVariants.{Algebra}
-use Rattle.p3_challenger.specs.declared.fs.pattern.Length.{Length}
-use Rattle.p3_challenger.specs.declared.fs.pattern.Length.TheVariants.{Fixed}
-use Rattle.p3_challenger.specs.declared.fs.pattern.Turn.{Turn}
+use Rattle.p3_challenger_fs.specs.declared.pattern.Hierarchy.{Hierarchy}
+use Rattle.p3_challenger_fs.specs.declared.pattern.Hierarchy.TheVariants.{Atomic}
+use Rattle.p3_challenger_fs.specs.declared.pattern.Kind.{Kind}
+use Rattle.p3_challenger_fs.specs.declared.pattern.Kind.TheVariants.{Pow}
+use Rattle.p3_challenger_fs.specs.declared.pattern.TypeTag.{TypeTag}
+use Rattle.p3_challenger_fs.specs.declared.pattern.TypeTag.TheVariants.{Algebra}
+use Rattle.p3_challenger_fs.specs.declared.pattern.Length.{Length}
+use Rattle.p3_challenger_fs.specs.declared.pattern.Length.TheVariants.{Fixed}
+use Rattle.p3_challenger_fs.specs.declared.pattern.Turn.{Turn}
 use Rattle.p3_challenger.specs.Pattern.{Step, turn_of}
 use Rattle.p3_challenger.specs.Turns.{IsNext}
 use Rattle.p3_fri_steps.specs.Steps.{pow_steps}

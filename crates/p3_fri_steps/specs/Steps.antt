@@ -1,9 +1,9 @@
 -- Steps that both protocols share.
 use Rattle.std.specs.Prelude.{ℕ, zero, suc, List, [], ◌∷◌, length}
-use Rattle.p3_challenger.specs.declared.fs.pattern.Hierarchy.TheVariants.{Atomic}
-use Rattle.p3_challenger.specs.declared.fs.pattern.Kind.TheVariants.{Message, Challenge, Pow}
-use Rattle.p3_challenger.specs.declared.fs.pattern.TypeTag.TheVariants.{Algebra}
-use Rattle.p3_challenger.specs.declared.fs.pattern.Length.TheVariants.{Scalar, Fixed}
+use Rattle.p3_challenger_fs.specs.declared.pattern.Hierarchy.TheVariants.{Atomic}
+use Rattle.p3_challenger_fs.specs.declared.pattern.Kind.TheVariants.{Message, Challenge, Pow}
+use Rattle.p3_challenger_fs.specs.declared.pattern.TypeTag.TheVariants.{Algebra}
+use Rattle.p3_challenger_fs.specs.declared.pattern.Length.TheVariants.{Scalar, Fixed}
 use Rattle.p3_challenger.specs.Pattern.{Step}
 
 -- a step of proof of work, where there are bits

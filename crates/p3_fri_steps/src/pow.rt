@@ -1,7 +1,7 @@
 //! Proofs of work that are asked for only where there are bits.
 
 ghost use Rattle.std.specs.Prelude.{◌≡◌, ◌≢◌, ◌≤◌, ◌<◌, ◌↔◌, ◌==◌, ◌++◌, if◌then◌else◌, ℕ, List, None, Err, IsTrue, IsOk, IfOk, IfErr, OnOk, OnErr, unwrap_or};
-ghost use Rattle.p3_challenger.specs.declared.fs.pattern.Turn.{Turn};
+ghost use Rattle.p3_challenger_fs.specs.declared.pattern.Turn.{Turn};
 ghost use Rattle.p3_challenger.specs.Run.{grind_attempt, Passes};
 ghost use Rattle.p3_challenger.specs.Script.{remaining};
 ghost use Rattle.p3_fri_steps.specs.declared.error.FriProverError.TheVariants.{NoPowWitness};

@@ -1,7 +1,7 @@
 //! Steps and labels that both transcripts describe.
 
 ghost use Rattle.std.specs.Prelude.{◌≡◌, ◌++◌, ◌∷◌, [], OnOk, map};
-ghost use Rattle.p3_challenger.specs.Pattern.{step_of, number};
+ghost use Rattle.p3_challenger.specs.Pattern.{step_of, number_bytes};
 ghost use Rattle.p3_challenger.specs.Separator.{description};
 ghost use Rattle.p3_fri_steps.specs.Steps.{pow_steps};
 
@@ -34,7 +34,7 @@ pub fn push_label(
     alloc: Global,
     value: usize,
 ) -> Result<(), AllocError>
-    ensures { OnOk result (description separator.new ≡ record (description separator.old) { labels = (description separator.old).labels ++ number value ∷ [] }) }
+    ensures { OnOk result (description separator.new ≡ record (description separator.old) { labels = (description separator.old).labels ++ number_bytes value ∷ [] }) }
 {
     separator.instance(alloc, &(value as u64).to_be_bytes())
 }
@@ -45,7 +45,7 @@ pub fn push_labels(
     alloc: Global,
     values: &[usize],
 ) -> Result<(), AllocError>
-    ensures { OnOk result (description separator.new ≡ record (description separator.old) { labels = (description separator.old).labels ++ map number values.now }) }
+    ensures { OnOk result (description separator.new ≡ record (description separator.old) { labels = (description separator.old).labels ++ map number_bytes values.now }) }
 {
     for value in values {
         push_label(separator, alloc, *value)?;

@@ -5,7 +5,7 @@ use Rattle.algebra.specs.Field.{FieldOps, multiple}
 use Rattle.p3_challenger.specs.Run.{After, Moves, Event, Drawn, run, observed_all, draws}
 use Rattle.p3_challenger.specs.Run.Event.{ValueObserved, CommitmentObserved, ElementDrawn, BitsDrawn}
 use Rattle.p3_challenger.specs.Run.Drawn.{Element, Bits}
-use Rattle.p3_challenger.proofs.Runs.{run-observed_all}
+use Rattle.p3_challenger_core.proofs.Runs.{run-observed_all}
 use Rattle.p3_fri_transcript.specs.Steps.{FriNumbers}
 use Rattle.p3_fri_transcript.specs.Replay.{rounds_replay, shown_queries_replay, fri_replay}
 use Rattle.p3_fri_transcript.specs.Events.{grind_events, round_events, rounds_events, rounds_drawn, fri_events, fri_drawn, fri_events_run, fri_replayed, IsRunOfFri}

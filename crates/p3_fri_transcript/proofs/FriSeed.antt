@@ -2,19 +2,19 @@
 use Rattle.std.proofs.Common.{◌≡◌, ℕ, zero, suc, ◌<◌, List, [], ◌∷◌, ◌++◌, length, map, codes, refl, sym, ap, ap₂, ◌∙◌, arith, append_assoc}
 use Rattle.std.specs.List.{All}
 use Rattle.std.proofs.lemmas.List.Elements.{All-nil, All-cons, All-append, All-same}
-use Rattle.p3_challenger.specs.declared.fs.pattern.Hierarchy.TheVariants.{Atomic}
-use Rattle.p3_challenger.specs.declared.fs.pattern.Kind.TheVariants.{Challenge}
-use Rattle.p3_challenger.specs.declared.fs.pattern.TypeTag.TheVariants.{Bits}
-use Rattle.p3_challenger.specs.declared.fs.pattern.Length.TheVariants.{Fixed}
-use Rattle.p3_challenger.specs.Pattern.{Step, number, seed_stream}
+use Rattle.p3_challenger_fs.specs.declared.pattern.Hierarchy.TheVariants.{Atomic}
+use Rattle.p3_challenger_fs.specs.declared.pattern.Kind.TheVariants.{Challenge}
+use Rattle.p3_challenger_fs.specs.declared.pattern.TypeTag.TheVariants.{Bits}
+use Rattle.p3_challenger_fs.specs.declared.pattern.Length.TheVariants.{Fixed}
+use Rattle.p3_challenger.specs.Pattern.{Step, number_bytes, seed_stream}
 use Rattle.p3_challenger.specs.StreamLaws.{FitsNumber}
-use Rattle.p3_challenger.proofs.Streams.{FitsWhole, head_equal, tail_equal, stream_told}
+use Rattle.p3_challenger_fs.proofs.Streams.{FitsWhole, head_equal, tail_equal, stream_determined}
 use Rattle.p3_fri_transcript.specs.Shapes.{fri_shape}
 use Rattle.p3_fri_transcript.specs.Steps.{FriNumbers, commitment_step, round_steps, rounds_steps, query_steps, fri_steps, fri_stream, fri_labels}
 use Rattle.p3_fri_steps.specs.Steps.{pow_steps, challenge_step, message_step}
 use Rattle.p3_fri_transcript.specs.declared.transcript.shape.FriShape.{FriShape}
 use Rattle.p3_fri_transcript.specs.SeedLaws.{SameFriShape, FitsFri}
-use Rattle.p3_fri_steps.proofs.SeedLemmas.{count_equal, pow_told, pow_fits, labels_fit, labels_told}
+use Rattle.p3_fri_steps.proofs.SeedLemmas.{count_equal, pow_determined, pow_fits, labels_fit, labels_determined}
 
 -- what the steps tell
 record StepsAgree (s t : FriNumbers) : Type 0 where
@@ -42,31 +42,31 @@ regroup_query r m p x u = simp append_assoc
 
 module _ (d : ℕ) where
   -- rounds in front of a message of the extension
-  rounds_told : (label : List ℕ) (bits bits' n n' a a' : ℕ) (u v : List Step)
+  rounds_determined : (label : List ℕ) (bits bits' n n' a a' : ℕ) (u v : List Step)
       → rounds_steps d bits n ++ message_step d label a ∷ u ≡ rounds_steps d bits' n' ++ message_step d label a' ∷ v
       → (n ≡ n') × (0 < n → bits ≡ bits') × (a ≡ a') × (u ≡ v)
-  rounds_told label bits bits' zero zero a a' u v e =
+  rounds_determined label bits bits' zero zero a a' u v e =
       (refl, (λ h. absurd (omega (arith, h))), count_equal (message_step d label a) (message_step d label a') a a' (head_equal _ _ u v e) refl refl, tail_equal (message_step d label a) (message_step d label a') u v e)
-  rounds_told label bits bits' zero (suc n) a a' u v e = let h = type_equal (message_step d label a) commitment_step (head_equal _ _ _ _ e) in absurd cc
-  rounds_told label bits bits' (suc n) zero a a' u v e = let h = type_equal commitment_step (message_step d label a') (head_equal _ _ _ _ e) in absurd cc
-  rounds_told label bits bits' (suc n) (suc n') a a' u v e =
+  rounds_determined label bits bits' zero (suc n) a a' u v e = let h = type_equal (message_step d label a) commitment_step (head_equal _ _ _ _ e) in absurd cc
+  rounds_determined label bits bits' (suc n) zero a a' u v e = let h = type_equal commitment_step (message_step d label a') (head_equal _ _ _ _ e) in absurd cc
+  rounds_determined label bits bits' (suc n) (suc n') a a' u v e =
       let fold = challenge_step d (codes "fold_challenge") in
-      let first = pow_told (codes "commit_pow") bits bits' fold fold (rounds_steps d bits n ++ message_step d label a ∷ u) (rounds_steps d bits' n' ++ message_step d label a' ∷ v) refl refl
+      let first = pow_determined (codes "commit_pow") bits bits' fold fold (rounds_steps d bits n ++ message_step d label a ∷ u) (rounds_steps d bits' n' ++ message_step d label a' ∷ v) refl refl
       (sym (regroup_round (pow_steps (codes "commit_pow") bits) fold (rounds_steps d bits n) (message_step d label a ∷ u))
       ∙ tail_equal commitment_step commitment_step _ _ e ∙ regroup_round (pow_steps (codes "commit_pow") bits') fold (rounds_steps d bits' n') (message_step d label a' ∷ v)) in
-      let rest = rounds_told label bits bits' n n' a a' u v first.2 in
+      let rest = rounds_determined label bits bits' n n' a a' u v first.2 in
       (ap (λ k. suc k) rest.0, (λ _. first.0), rest.2, rest.3)
 
-  fri_told : (s t : FriNumbers) (u v : List Step) → fri_steps d s ++ u ≡ fri_steps d t ++ v → StepsAgree s t × (u ≡ v)
+  fri_determined : (s t : FriNumbers) (u v : List Step) → fri_steps d s ++ u ≡ fri_steps d t ++ v → StepsAgree s t × (u ≡ v)
   unfolding fri_steps
-  fri_told s t u v e =
+  fri_determined s t u v e =
       let pow = λ (x : FriNumbers). pow_steps (codes "query_pow") x.query_pow_bits in
       let index = λ (x : FriNumbers). index_step x.index_bits x.num_queries in
       let rounds = λ (x : FriNumbers). rounds_steps d x.commit_pow_bits (length x.log_arities) in
       let message = λ (x : FriNumbers). message_step d (codes "final_poly") x.final_poly_len in
-      let first = rounds_told (codes "final_poly") s.commit_pow_bits t.commit_pow_bits (length s.log_arities) (length t.log_arities) s.final_poly_len t.final_poly_len (pow s ++ index s ∷ u) (pow t ++ index t ∷ v)
+      let first = rounds_determined (codes "final_poly") s.commit_pow_bits t.commit_pow_bits (length s.log_arities) (length t.log_arities) s.final_poly_len t.final_poly_len (pow s ++ index s ∷ u) (pow t ++ index t ∷ v)
       (sym (regroup_query (rounds s) (message s) (pow s) (index s) u) ∙ e ∙ regroup_query (rounds t) (message t) (pow t) (index t) v) in
-      let second = pow_told (codes "query_pow") s.query_pow_bits t.query_pow_bits (index s) (index t) u v refl refl first.3 in (
+      let second = pow_determined (codes "query_pow") s.query_pow_bits t.query_pow_bits (index s) (index t) u v refl refl first.3 in (
         record {
           rounds = first.0;
           commit_pow_bits = first.1;
@@ -99,13 +99,13 @@ module _ (d : ℕ) where
   unfolding fri_steps
   fri_fits s p f = All-append FitsWhole (rounds_steps d s.commit_pow_bits (length s.log_arities)) (query_steps d s) (rounds_fit s.commit_pow_bits (length s.log_arities) p f.commit_pow_bits) (query_fits s p f)
 
-  pub test_stream_told : (s t : FriNumbers) → FitsNumber d → FitsFri s → FitsFri t → fri_stream d s ≡ fri_stream d t → SameFriShape s t
+  pub test_stream_determined : (s t : FriNumbers) → FitsNumber d → FitsFri s → FitsFri t → fri_stream d s ≡ fri_stream d t → SameFriShape s t
   unfolding fri_stream fri_labels
-  test_stream_told s t p f g e =
+  test_stream_determined s t p f g e =
       let list = λ (x : FriNumbers). x.log_blowup ∷ x.max_log_arity ∷ x.log_arities in
-      let parts = stream_told 1 1 (codes "p3-fri") (codes "p3-fri") (fri_steps d s) (fri_steps d t) (map number (list s)) (map number (list t)) (StepsAgree s t) (omega arith) (omega arith)
-      (fri_fits s p f) (fri_fits t p g) (λ _ u v h. fri_told s t u v h) (labels_fit (list s)) (labels_fit (list t)) e in
-      let numbers = labels_told (list s) (list t) (list_fits s f) (list_fits t g) parts.3 in
+      let parts = stream_determined 1 1 (codes "p3-fri") (codes "p3-fri") (fri_steps d s) (fri_steps d t) (map number_bytes (list s)) (map number_bytes (list t)) (StepsAgree s t) (omega arith) (omega arith)
+      (fri_fits s p f) (fri_fits t p g) (λ _ u v h. fri_determined s t u v h) (labels_fit (list s)) (labels_fit (list t)) e in
+      let numbers = labels_determined (list s) (list t) (list_fits s f) (list_fits t g) parts.3 in
       let first = tail_equal s.log_blowup t.log_blowup (s.max_log_arity ∷ s.log_arities) (t.max_log_arity ∷ t.log_arities) numbers in
       let agree : StepsAgree s t = parts.2 in
       record {
@@ -145,7 +145,7 @@ module _ (d : ℕ) where
   pub test_stream_same : (s t : FriNumbers) → SameFriShape s t → fri_stream d s ≡ fri_stream d t
   unfolding fri_stream fri_labels
   test_stream_same s t h =
-      ap₂ (λ (x : List Step) (y : List ℕ). seed_stream 1 (codes "p3-fri") x (map number y)) (steps_same s t h) (list_same s.log_blowup t.log_blowup s.max_log_arity t.max_log_arity s.log_arities t.log_arities h.log_blowup h.max_log_arity h.log_arities)
+      ap₂ (λ (x : List Step) (y : List ℕ). seed_stream 1 (codes "p3-fri") x (map number_bytes y)) (steps_same s t h) (list_same s.log_blowup t.log_blowup s.max_log_arity t.max_log_arity s.log_arities t.log_arities h.log_blowup h.max_log_arity h.log_arities)
     where
       list_same : (a a' b b' : ℕ) (xs xs' : List ℕ) → a ≡ a' → b ≡ b' → xs ≡ xs' → a ∷ b ∷ xs ≡ a' ∷ b' ∷ xs'
       list_same a a' b b' xs xs' e f g = cc

@@ -4,7 +4,8 @@ use Rattle.std.proofs.lemmas.List.{drop_all, take_more, length-take}
 use Rattle.std.specs.List.{flat_map}
 use Rattle.p3_challenger.specs.Run.{After, Moves, observed_all, draws, grind_attempt}
 use Rattle.p3_fri_transcript.specs.Steps.{FriNumbers}
-use Rattle.p3_fri_transcript.specs.Replay.{moves, RoundsReplay, rounds_replay, round_replay, QueriesReplay, queries_replay, shown_queries_replay, FriReplay, fri_replay}
+use Rattle.p3_fri_transcript.specs.Replay.{RoundsReplay, rounds_replay, round_replay, QueriesReplay, queries_replay, shown_queries_replay, FriReplay, fri_replay}
+use Rattle.p3_challenger.specs.Run.{moves}
 use Rattle.algebra.specs.Field.{FieldOps}
 use Rattle.p3_challenger.specs.Turns.{bytes_observed}
 use Rattle.p3_fri_steps.specs.Pow.{shown_attempt}

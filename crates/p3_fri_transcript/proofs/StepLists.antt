@@ -1,10 +1,10 @@
 -- Steps and labels of a low-degree test, pushed one after another.
 use Rattle.std.proofs.Common.{◌≡◌, ℕ, ◌+◌, ◌-◌, ◌<◌, ◌≤◌, List, [], ◌∷◌, ◌++◌, length, map, codes, sym, ap, ◌∙◌, arith, add-one, append_assoc, append-nil}
-use Rattle.p3_challenger.specs.declared.fs.pattern.Hierarchy.TheVariants.{Atomic}
-use Rattle.p3_challenger.specs.declared.fs.pattern.Kind.TheVariants.{Challenge}
-use Rattle.p3_challenger.specs.declared.fs.pattern.TypeTag.TheVariants.{Bits}
-use Rattle.p3_challenger.specs.declared.fs.pattern.Length.TheVariants.{Fixed}
-use Rattle.p3_challenger.specs.Pattern.{Step, number}
+use Rattle.p3_challenger_fs.specs.declared.pattern.Hierarchy.TheVariants.{Atomic}
+use Rattle.p3_challenger_fs.specs.declared.pattern.Kind.TheVariants.{Challenge}
+use Rattle.p3_challenger_fs.specs.declared.pattern.TypeTag.TheVariants.{Bits}
+use Rattle.p3_challenger_fs.specs.declared.pattern.Length.TheVariants.{Fixed}
+use Rattle.p3_challenger.specs.Pattern.{Step, number_bytes}
 use Rattle.p3_challenger.specs.Description.{Description}
 use Rattle.p3_fri_transcript.specs.Steps.{FriNumbers, commitment_step, round_steps, rounds_steps, fri_steps}
 use Rattle.p3_fri_steps.specs.Steps.{challenge_step, message_step, pow_steps}
@@ -55,10 +55,10 @@ fri_pushed d s n none rounds message pow all poly indices at_first played len wi
 -- a separator with two labels and then others
 pub labelled : (a b c e : Description) (version : ℕ) (name : List ℕ) (steps : List Step) (x y : ℕ) (zs : List ℕ)
     → a ≡ record { version = version; name = name; steps = steps; labels = [] }
-    → b ≡ record a { labels = a.labels ++ number x ∷ [] } → c ≡ record b { labels = b.labels ++ number y ∷ [] }
-    → e ≡ record c { labels = c.labels ++ map number zs }
-    → e ≡ record { version = version; name = name; steps = steps; labels = map number (x ∷ y ∷ zs) }
+    → b ≡ record a { labels = a.labels ++ number_bytes x ∷ [] } → c ≡ record b { labels = b.labels ++ number_bytes y ∷ [] }
+    → e ≡ record c { labels = c.labels ++ map number_bytes zs }
+    → e ≡ record { version = version; name = name; steps = steps; labels = map number_bytes (x ∷ y ∷ zs) }
 labelled a b c e version name steps x y zs first second third last =
-    let two : c ≡ record { version = version; name = name; steps = steps; labels = number x ∷ number y ∷ [] } =
-    third ∙ ap (λ (t : Description). record t { labels = t.labels ++ number y ∷ [] }) (second ∙ ap (λ (t : Description). record t { labels = t.labels ++ number x ∷ [] }) first) in
-    last ∙ ap (λ (t : Description). record t { labels = t.labels ++ map number zs }) two
+    let two : c ≡ record { version = version; name = name; steps = steps; labels = number_bytes x ∷ number_bytes y ∷ [] } =
+    third ∙ ap (λ (t : Description). record t { labels = t.labels ++ number_bytes y ∷ [] }) (second ∙ ap (λ (t : Description). record t { labels = t.labels ++ number_bytes x ∷ [] }) first) in
+    last ∙ ap (λ (t : Description). record t { labels = t.labels ++ map number_bytes zs }) two

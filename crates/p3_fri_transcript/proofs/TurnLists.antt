@@ -1,10 +1,10 @@
 -- The steps of a low-degree test, taken one after another.
 use Rattle.std.proofs.Common.{◌≡◌, ℕ, suc, List, [], ◌∷◌, ◌++◌, length, map, drop, codes, ◌+◌, ◌-◌, ◌<◌, arith, add-one, sym, ap, ◌∙◌, append_assoc}
-use Rattle.p3_challenger.specs.declared.fs.pattern.Hierarchy.TheVariants.{Atomic}
-use Rattle.p3_challenger.specs.declared.fs.pattern.Kind.TheVariants.{Challenge}
-use Rattle.p3_challenger.specs.declared.fs.pattern.TypeTag.TheVariants.{Bits}
-use Rattle.p3_challenger.specs.declared.fs.pattern.Length.TheVariants.{Fixed}
-use Rattle.p3_challenger.specs.declared.fs.pattern.Turn.{Turn}
+use Rattle.p3_challenger_fs.specs.declared.pattern.Hierarchy.TheVariants.{Atomic}
+use Rattle.p3_challenger_fs.specs.declared.pattern.Kind.TheVariants.{Challenge}
+use Rattle.p3_challenger_fs.specs.declared.pattern.TypeTag.TheVariants.{Bits}
+use Rattle.p3_challenger_fs.specs.declared.pattern.Length.TheVariants.{Fixed}
+use Rattle.p3_challenger_fs.specs.declared.pattern.Turn.{Turn}
 use Rattle.p3_challenger.specs.Pattern.{turn_of}
 use Rattle.p3_fri_transcript.specs.Steps.{FriNumbers, commitment_step, rounds_steps, query_steps, fri_steps}
 use Rattle.p3_fri_steps.specs.Steps.{challenge_step, message_step, pow_steps}

@@ -2,19 +2,10 @@
 use Rattle.std.specs.Prelude.{ℕ, Bool, true, ◌&&◌, List, [], ◌∷◌, ◌++◌, Option, Some}
 use Rattle.std.specs.List.{flat_map}
 use Rattle.algebra.specs.Field.{FieldOps}
-use Rattle.p3_challenger.specs.Run.{After, Moves, observed_all, draws, drawn_element, grind_attempt}
+use Rattle.p3_challenger.specs.Run.{After, Moves, observed_all, draws, grind_attempt}
 use Rattle.p3_challenger.specs.Turns.{bytes_observed}
 use Rattle.p3_fri_steps.specs.Pow.{shown_attempt}
 use Rattle.p3_fri_transcript.specs.Steps.{FriNumbers}
-
--- the moves of a challenger that draws elements of an extension coefficient by coefficient
-abbrev pub moves : {C F E Com : Type 0} → (C → F → C) → (C → Com → C) → (C → After C F) → (List F → E) → ℕ → (C → ℕ → After C ℕ) → Moves C F E Com
-moves observe observe_commitment draw of_coefficients dimension draw_bits = record {
-  observe_value = observe;
-  observe_commitment = observe_commitment;
-  draw_element = drawn_element draw of_coefficients dimension;
-  draw_bits = draw_bits;
-}
 
 -- the rounds of a test: whether each proof of work passes, the challenges, and the state after them
 pub record RoundsReplay (C E : Type 0) : Type 0 where

@@ -1,10 +1,10 @@
 -- What a low-degree test exchanges: the steps, and the numbers that they don't determine.
 use Rattle.std.specs.Prelude.{ℕ, zero, suc, List, [], ◌∷◌, ◌++◌, length, map, codes}
-use Rattle.p3_challenger.specs.declared.fs.pattern.Hierarchy.TheVariants.{Atomic}
-use Rattle.p3_challenger.specs.declared.fs.pattern.Kind.TheVariants.{Message, Challenge}
-use Rattle.p3_challenger.specs.declared.fs.pattern.TypeTag.TheVariants.{Opaque, Bits}
-use Rattle.p3_challenger.specs.declared.fs.pattern.Length.TheVariants.{Scalar, Fixed}
-use Rattle.p3_challenger.specs.Pattern.{Step, number, seed_stream}
+use Rattle.p3_challenger_fs.specs.declared.pattern.Hierarchy.TheVariants.{Atomic}
+use Rattle.p3_challenger_fs.specs.declared.pattern.Kind.TheVariants.{Message, Challenge}
+use Rattle.p3_challenger_fs.specs.declared.pattern.TypeTag.TheVariants.{Opaque, Bits}
+use Rattle.p3_challenger_fs.specs.declared.pattern.Length.TheVariants.{Scalar, Fixed}
+use Rattle.p3_challenger.specs.Pattern.{Step, number_bytes, seed_stream}
 use Rattle.p3_fri_steps.specs.Steps.{pow_steps, challenge_step, message_step}
 
 -- what a shape of a low-degree test says
@@ -23,7 +23,7 @@ commitment_step = record { hierarchy = Atomic; kind = Message; type_tag = Opaque
 
 -- the numbers that the steps of a low-degree test don't tell
 unfoldable pub fri_labels : FriNumbers → List (List ℕ)
-fri_labels s = map number (s.log_blowup ∷ s.max_log_arity ∷ s.log_arities)
+fri_labels s = map number_bytes (s.log_blowup ∷ s.max_log_arity ∷ s.log_arities)
 
 module _ (d : ℕ) where
   -- a round: its commitment, its proof of work, its challenge

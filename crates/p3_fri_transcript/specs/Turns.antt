@@ -1,6 +1,6 @@
 -- Where the transcript of a low-degree test stands.
 use Rattle.std.specs.Prelude.{◌≡◌, ℕ, ◌++◌, List, map}
-use Rattle.p3_challenger.specs.declared.fs.pattern.Turn.{Turn}
+use Rattle.p3_challenger_fs.specs.declared.pattern.Turn.{Turn}
 use Rattle.p3_challenger.specs.Pattern.{turn_of}
 use Rattle.p3_fri_transcript.specs.Steps.{FriNumbers, rounds_steps, query_steps}
 

@@ -2,7 +2,7 @@
 
 ghost use Rattle.std.specs.Prelude.{◌≡◌, ◌-◌, ◌^◌, ◌++◌, ℕ, List, min, IfErr, OnOk, map, length};
 ghost use Rattle.std.specs.List.{flat_map};
-ghost use Rattle.p3_challenger.specs.declared.fs.pattern.Turn.{Turn};
+ghost use Rattle.p3_challenger_fs.specs.declared.pattern.Turn.{Turn};
 ghost use Rattle.p3_challenger.specs.Run.{observed_all};
 ghost use Rattle.p3_challenger.specs.Script.{remaining};
 ghost use Rattle.p3_fri_pcs_transcript.specs.Claims.{IsClaimFailure};

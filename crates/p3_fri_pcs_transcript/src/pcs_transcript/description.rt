@@ -2,7 +2,7 @@
 
 ghost use Rattle.std.specs.Prelude.{◌≡◌, ◌++◌, ◌∷◌, OnOk, map, codes, length};
 ghost use Rattle.std.specs.List.{flat_map};
-ghost use Rattle.p3_challenger.specs.Pattern.{step_of, number};
+ghost use Rattle.p3_challenger.specs.Pattern.{step_of, number_bytes};
 ghost use Rattle.p3_challenger.specs.Separator.{description};
 ghost use Rattle.p3_fri_pcs_transcript.specs.Counts.{point_lists, matrix_lists};
 ghost use Rattle.p3_fri_pcs_transcript.specs.Steps.{widths, grouping};
@@ -64,7 +64,7 @@ pub(super) fn push_grouping(
     alloc: Global,
     commitments: &[Vec<Vec<usize>>],
 ) -> Result<(), AllocError>
-    ensures { OnOk result (description separator.new ≡ record (description separator.old) { labels = (description separator.old).labels ++ map number (grouping (matrix_lists commitments.now)) }) }
+    ensures { OnOk result (description separator.new ≡ record (description separator.old) { labels = (description separator.old).labels ++ map number_bytes (grouping (matrix_lists commitments.now)) }) }
 {
     push_label(separator, alloc, commitments.len())?;
     for matrices in commitments {
@@ -79,7 +79,7 @@ fn push_group(
     alloc: Global,
     matrices: &[Vec<usize>],
 ) -> Result<(), AllocError>
-    ensures { OnOk result (description separator.new ≡ record (description separator.old) { labels = (description separator.old).labels ++ map number (length (point_lists matrices.now) ∷ map length (point_lists matrices.now)) }) }
+    ensures { OnOk result (description separator.new ≡ record (description separator.old) { labels = (description separator.old).labels ++ map number_bytes (length (point_lists matrices.now) ∷ map length (point_lists matrices.now)) }) }
 {
     push_label(separator, alloc, matrices.len())?;
     for points in matrices {

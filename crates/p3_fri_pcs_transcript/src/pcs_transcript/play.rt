@@ -8,7 +8,7 @@ ghost use Rattle.p3_fri_transcript.specs.declared.transcript.failure.TranscriptF
 ghost use Rattle.p3_fri_transcript.specs.declared.transcript.play.Refusal.TheVariants.{Seed, Step};
 ghost use Rattle.p3_fri_pcs_transcript.specs.Counts.{counts_of_values, lists_of_values, counts_of_claims, lists_of_claims, joined};
 ghost use Rattle.p3_fri_steps.specs.Failures.{IsProverFailure};
-ghost use Rattle.p3_fri_transcript.specs.Replay.{moves};
+ghost use Rattle.p3_challenger.specs.Run.{moves};
 ghost use Rattle.p3_fri_pcs_transcript.specs.Replay.{pcs_replay};
 ghost use Rattle.p3_fri_pcs_transcript.specs.Shapes.{pcs_shape};
 ghost use Rattle.p3_fri_transcript.specs.Shapes.{fri_shape};

@@ -2,13 +2,13 @@
 
 ghost use Rattle.std.specs.Prelude.{◌≡◌, ◌≤◌, ◌==◌, ◌++◌, if◌then◌else◌, ℕ, true, List, [], ◌∷◌, None, IfOk, IfErr, OnOk, OnErr, length, map, unwrap_or};
 ghost use Rattle.std.specs.List.{flat_map};
-ghost use Rattle.p3_challenger.specs.declared.fs.pattern.Turn.{Turn};
+ghost use Rattle.p3_challenger_fs.specs.declared.pattern.Turn.{Turn};
 ghost use Rattle.p3_challenger.specs.Run.{observed_all, Passes, Moves};
 ghost use Rattle.p3_challenger.specs.Script.{remaining};
 ghost use Rattle.p3_fri_steps.specs.declared.error.FriProverError.TheVariants.{NoPowWitness};
 ghost use Rattle.p3_fri_steps.specs.declared.pow_phase.PowPhase.TheVariants.{Batch};
 ghost use Rattle.p3_fri_pcs_transcript.specs.Counts.{counts_of_values, lists_at_points, lists_in_matrices, lists_of_values, joined};
-ghost use Rattle.p3_fri_transcript.specs.Replay.{moves};
+ghost use Rattle.p3_challenger.specs.Run.{moves};
 ghost use Rattle.p3_fri_pcs_transcript.specs.Replay.{batch_replay};
 ghost use Rattle.p3_fri_pcs_transcript.specs.Shapes.{pcs_shape};
 ghost use Rattle.p3_fri_pcs_transcript.specs.Steps.{widths};

@@ -40,7 +40,7 @@ impl<'a, Side, F: Field, EF: ExtensionField<F>, C: FieldChallenger<F>> PcsTransc
     F,
     EF,
 > {
-    ghost use Rattle.p3_challenger.specs.contracts.fs.script.Script.{the_row as script_row};
+    ghost use Rattle.p3_challenger_fs.specs.contracts.script.Script.{the_row as script_row};
     ghost use Rattle.p3_fri_pcs_transcript.specs.contracts.pcs_transcript.shape.PcsShape.{the_row as shape_row};
     ghost use Rattle.p3_fri_pcs_transcript.specs.contracts.pcs_transcript.state.PcsTranscript.{the_row as pcs_row};
     ghost use Rattle.p3_fri_pcs_transcript.specs.Lending.{given_back};

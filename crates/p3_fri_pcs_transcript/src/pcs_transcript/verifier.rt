@@ -7,7 +7,7 @@ ghost use Rattle.p3_challenger.specs.Script.{remaining};
 ghost use Rattle.p3_fri_pcs_transcript.specs.declared.pcs_transcript.failure.PcsTranscriptFailure.TheVariants.{PowWitness, MissingPowWitness};
 ghost use Rattle.p3_fri_pcs_transcript.specs.Claims.{BeginsWith, IsClaimFailure, IsBatchFailure};
 ghost use Rattle.p3_fri_pcs_transcript.specs.Counts.{counts_of_claims, lists_of_claims, joined};
-ghost use Rattle.p3_fri_transcript.specs.Replay.{moves};
+ghost use Rattle.p3_challenger.specs.Run.{moves};
 ghost use Rattle.p3_fri_pcs_transcript.specs.Replay.{shown_batch_replay};
 ghost use Rattle.p3_fri_pcs_transcript.specs.Shapes.{pcs_shape};
 ghost use Rattle.p3_fri_pcs_transcript.specs.Steps.{widths};

@@ -8,7 +8,8 @@ ghost use Rattle.p3_fri_transcript.specs.declared.transcript.play.Refusal.TheVar
 ghost use Rattle.p3_challenger.specs.Script.{remaining};
 ghost use Rattle.p3_fri_steps.specs.declared.error.FriProverError.TheVariants.{NoPowWitness};
 ghost use Rattle.p3_fri_steps.specs.declared.pow_phase.PowPhase.TheVariants.{CommitPhase, Query};
-ghost use Rattle.p3_fri_transcript.specs.Replay.{moves, rounds_replay, fri_replay};
+ghost use Rattle.p3_fri_transcript.specs.Replay.{rounds_replay, fri_replay};
+ghost use Rattle.p3_challenger.specs.Run.{moves};
 ghost use Rattle.p3_fri_transcript.specs.Turns.{RoundsLeft};
 ghost use Rattle.p3_fri_transcript.specs.Shapes.{fri_shape};
 ghost use Rattle.p3_fri_transcript.specs.Steps.{fri_stream};

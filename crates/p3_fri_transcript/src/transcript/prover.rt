@@ -6,7 +6,8 @@ ghost use Rattle.p3_challenger.specs.Run.{observed_all, Passes, Moves};
 ghost use Rattle.p3_challenger.specs.Script.{remaining};
 ghost use Rattle.p3_fri_steps.specs.declared.error.FriProverError.TheVariants.{NoPowWitness, OutOfMemory};
 ghost use Rattle.p3_fri_steps.specs.declared.pow_phase.PowPhase.TheVariants.{CommitPhase, Query};
-ghost use Rattle.p3_fri_transcript.specs.Replay.{moves, round_replay, queries_replay};
+ghost use Rattle.p3_fri_transcript.specs.Replay.{round_replay, queries_replay};
+ghost use Rattle.p3_challenger.specs.Run.{moves};
 ghost use Rattle.p3_fri_transcript.specs.Shapes.{fri_shape};
 ghost use Rattle.p3_fri_transcript.specs.Turns.{RoundsLeft};
 

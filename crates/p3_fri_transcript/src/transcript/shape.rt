@@ -1,7 +1,7 @@
 //! What a low-degree test exchanges.
 
 ghost use Rattle.std.specs.Prelude.{◌≡◌, ◌<◌, ◌+◌, ◌^◌, ◌++◌, ◌∷◌, [], IfOk, OnOk, map, codes};
-ghost use Rattle.p3_challenger.specs.Pattern.{step_of, turn_of, number};
+ghost use Rattle.p3_challenger.specs.Pattern.{step_of, turn_of, number_bytes};
 ghost use Rattle.p3_challenger.specs.Separator.{description, seed_bytes, seed_turns};
 ghost use Rattle.p3_fri_folding.specs.Schedule.{IsStrictlyFalling, schedule};
 ghost use Rattle.p3_fri_steps.specs.Steps.{pow_steps};

@@ -7,7 +7,8 @@ ghost use Rattle.p3_fri_steps.specs.declared.pow_phase.PowPhase.TheVariants.{Com
 ghost use Rattle.p3_fri_transcript.specs.declared.transcript.failure.TranscriptFailure.{TranscriptFailure};
 ghost use Rattle.p3_fri_transcript.specs.declared.transcript.failure.TranscriptFailure.TheVariants.{PowWitness, MissingPowWitness, FinalPolyLen, CommitRoundCount, CommitPowWitnessCount, OutOfMemory};
 ghost use Rattle.p3_fri_transcript.specs.Failures.{IsRoundsFailure, IsQueryFailure};
-ghost use Rattle.p3_fri_transcript.specs.Replay.{moves, round_replay, rounds_replay, shown_queries_replay};
+ghost use Rattle.p3_fri_transcript.specs.Replay.{round_replay, rounds_replay, shown_queries_replay};
+ghost use Rattle.p3_challenger.specs.Run.{moves};
 ghost use Rattle.p3_fri_transcript.specs.Shapes.{fri_shape};
 ghost use Rattle.p3_fri_transcript.specs.Turns.{RoundsLeft};
 

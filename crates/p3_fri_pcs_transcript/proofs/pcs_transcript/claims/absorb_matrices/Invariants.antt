@@ -1,6 +1,6 @@
 use Rattle.std.proofs.Common.{◌≡◌, ◌++◌, List, take, drop}
 use Rattle.std.specs.List.{flat_map}
-use Rattle.p3_challenger.specs.declared.fs.pattern.Turn.{Turn}
+use Rattle.p3_challenger_fs.specs.declared.pattern.Turn.{Turn}
 use Rattle.p3_challenger.specs.Run.{observed_all}
 use Rattle.p3_challenger.specs.Script.{remaining}
 use Rattle.p3_fri_pcs_transcript.specs.Counts.{claimed_lists_in_matrices, joined}

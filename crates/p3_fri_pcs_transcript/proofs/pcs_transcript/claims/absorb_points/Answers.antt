@@ -1,8 +1,8 @@
 use Rattle.std.proofs.Common.{◌≡◌, ◌++◌, ◌+◌, ◌∷◌, [], length, take, drop, sym, ap, ◌∙◌}
-use Rattle.p3_challenger.specs.declared.fs.pattern.Hierarchy.TheVariants.{Atomic}
-use Rattle.p3_challenger.specs.declared.fs.pattern.Kind.TheVariants.{Message}
-use Rattle.p3_challenger.specs.declared.fs.pattern.TypeTag.TheVariants.{Algebra}
-use Rattle.p3_challenger.specs.declared.fs.pattern.Length.TheVariants.{Fixed}
+use Rattle.p3_challenger_fs.specs.declared.pattern.Hierarchy.TheVariants.{Atomic}
+use Rattle.p3_challenger_fs.specs.declared.pattern.Kind.TheVariants.{Message}
+use Rattle.p3_challenger_fs.specs.declared.pattern.TypeTag.TheVariants.{Algebra}
+use Rattle.p3_challenger_fs.specs.declared.pattern.Length.TheVariants.{Fixed}
 use Rattle.p3_fri_pcs_transcript.specs.Counts.{claimed_lists_at_points}
 use Rattle.p3_fri_pcs_transcript.specs.Cursor.{counts_left}
 use Rattle.p3_fri_pcs_transcript.specs.Turns.{claim_turns}

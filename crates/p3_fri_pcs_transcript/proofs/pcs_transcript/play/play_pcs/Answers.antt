@@ -1,7 +1,7 @@
 use Rattle.std.proofs.Common.{◌≡◌, Some, unwrap_or, sym, ap, ◌∙◌, rules}
 use Rattle.p3_challenger.specs.Turns.{bytes_observed}
 use Rattle.p3_fri_pcs_transcript.specs.Counts.{lists_of_values, joined}
-use Rattle.p3_fri_transcript.specs.Replay.{moves}
+use Rattle.p3_challenger.specs.Run.{moves}
 use Rattle.p3_fri_pcs_transcript.specs.Replay.{claims_replay}
 use Rattle.p3_fri_pcs_transcript.specs.Shapes.{pcs_shape}
 use Rattle.p3_fri_transcript.specs.Shapes.{fri_shape}

@@ -6,7 +6,7 @@ use Rattle.p3_fri_transcript.specs.declared.transcript.failure.TranscriptFailure
 use Rattle.p3_fri_transcript.specs.declared.transcript.play.Refusal.TheVariants.{Seed, Step}
 use Rattle.p3_fri_pcs_transcript.specs.Counts.{counts_of_claims, lists_of_claims, joined}
 use Rattle.p3_fri_pcs_transcript.specs.Replay.{BatchReplay, PcsReplay}
-use Rattle.p3_fri_transcript.specs.Replay.{moves}
+use Rattle.p3_challenger.specs.Run.{moves}
 use Rattle.p3_fri_pcs_transcript.specs.Shapes.{pcs_shape}
 use Rattle.p3_fri_transcript.specs.Shapes.{fri_shape}
 use Rattle.p3_fri_pcs_transcript.specs.Steps.{PcsNumbers, widths, pcs_stream}

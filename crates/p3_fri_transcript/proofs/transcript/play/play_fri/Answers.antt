@@ -1,6 +1,7 @@
 use Rattle.std.proofs.Common.{◌≡◌, Some, unwrap_or, ap, ◌∙◌, rules}
 use Rattle.p3_challenger.specs.Turns.{bytes_observed}
-use Rattle.p3_fri_transcript.specs.Replay.{moves, shown_queries_replay}
+use Rattle.p3_fri_transcript.specs.Replay.{shown_queries_replay}
+use Rattle.p3_challenger.specs.Run.{moves}
 use Rattle.p3_fri_transcript.specs.Shapes.{fri_shape}
 use Rattle.p3_fri_transcript.specs.Steps.{fri_stream}
 use Rattle.p3_fri_transcript.proofs.Replays.{fri_is, fri_ends, queries_any}

@@ -1,6 +1,7 @@
 use Rattle.std.proofs.Common.{◌≡◌, ◌+◌, ◌-◌, length, unwrap_or, refl, ap, ◌∙◌, arith, rules}
 use Rattle.std.proofs.lemmas.List.{length-append}
-use Rattle.p3_fri_transcript.specs.Replay.{moves, round_replay}
+use Rattle.p3_fri_transcript.specs.Replay.{round_replay}
+use Rattle.p3_challenger.specs.Run.{moves}
 use Rattle.p3_fri_transcript.specs.Shapes.{fri_shape}
 use Rattle.p3_fri_transcript.proofs.Replays.{rounds_more, rounds-none}
 use Rattle.p3_fri_transcript.proofs.TurnLists.{one_round_left, other_rounds_left, no_round_taken}

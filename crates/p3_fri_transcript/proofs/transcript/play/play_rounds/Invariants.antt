@@ -1,6 +1,7 @@
 use Rattle.std.proofs.Common.{◌≡◌, ◌-◌, true, length, take}
 use Rattle.p3_challenger.specs.Script.{remaining}
-use Rattle.p3_fri_transcript.specs.Replay.{moves, rounds_replay}
+use Rattle.p3_fri_transcript.specs.Replay.{rounds_replay}
+use Rattle.p3_challenger.specs.Run.{moves}
 use Rattle.p3_fri_transcript.specs.Shapes.{fri_shape}
 use Rattle.p3_fri_transcript.specs.Turns.{RoundsLeft}
 use Rattle.p3_fri_transcript.proofs.transcript.play.play_rounds.Given as goal

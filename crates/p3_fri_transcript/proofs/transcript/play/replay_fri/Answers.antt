@@ -2,7 +2,8 @@ use Rattle.std.proofs.Common.{◌≡◌, Err, rules, refl, ap, ◌∙◌}
 use Rattle.p3_challenger.specs.Turns.{bytes_observed}
 use Rattle.p3_fri_transcript.specs.declared.transcript.failure.TranscriptFailure.TheVariants.{OutOfMemory}
 use Rattle.p3_fri_transcript.specs.declared.transcript.play.Refusal.TheVariants.{Step}
-use Rattle.p3_fri_transcript.specs.Replay.{moves, QueriesReplay, FriReplay}
+use Rattle.p3_fri_transcript.specs.Replay.{QueriesReplay, FriReplay}
+use Rattle.p3_challenger.specs.Run.{moves}
 use Rattle.p3_fri_transcript.specs.Shapes.{fri_shape}
 use Rattle.p3_fri_transcript.specs.Steps.{fri_stream}
 use Rattle.p3_fri_transcript.proofs.Replays.{fri_is, fri_ends, fri_passes, fri_queries_pass, queries_any}

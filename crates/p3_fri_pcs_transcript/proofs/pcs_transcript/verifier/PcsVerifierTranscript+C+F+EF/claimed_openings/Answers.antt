@@ -1,5 +1,5 @@
 use Rattle.std.proofs.Common.{◌++◌, ℕ, List, length, map, refl, sym, ap, ◌∙◌, subst}
-use Rattle.p3_challenger.proofs.Streams.{split_front}
+use Rattle.p3_challenger_fs.proofs.Streams.{split_front}
 use Rattle.p3_fri_pcs_transcript.specs.Claims.{IsClaimFailure}
 use Rattle.p3_fri_pcs_transcript.specs.Counts.{matrix_lists, lists_of_claims}
 use Rattle.p3_fri_pcs_transcript.specs.Cursor.{counts_left}

@@ -1,7 +1,7 @@
-use Rattle.p3_challenger.specs.declared.fs.pattern.Hierarchy.TheVariants.{Atomic}
-use Rattle.p3_challenger.specs.declared.fs.pattern.Kind.TheVariants.{Challenge}
-use Rattle.p3_challenger.specs.declared.fs.pattern.TypeTag.TheVariants.{Algebra}
-use Rattle.p3_challenger.specs.declared.fs.pattern.Length.TheVariants.{Scalar}
+use Rattle.p3_challenger_fs.specs.declared.pattern.Hierarchy.TheVariants.{Atomic}
+use Rattle.p3_challenger_fs.specs.declared.pattern.Kind.TheVariants.{Challenge}
+use Rattle.p3_challenger_fs.specs.declared.pattern.TypeTag.TheVariants.{Algebra}
+use Rattle.p3_challenger_fs.specs.declared.pattern.Length.TheVariants.{Scalar}
 use Rattle.p3_fri_transcript.specs.Shapes.{fri_shape}
 use Rattle.p3_fri_steps.proofs.Turns.{next_of, rest_of}
 use Rattle.p3_fri_transcript.proofs.TurnLists.{challenge_left, after_commitment}

@@ -1,5 +1,6 @@
 use Rattle.std.proofs.Common.{◌+◌, ◌-◌, refl, ap, ◌∙◌, arith}
-use Rattle.p3_fri_transcript.specs.Replay.{moves, RoundsReplay}
+use Rattle.p3_fri_transcript.specs.Replay.{RoundsReplay}
+use Rattle.p3_challenger.specs.Run.{moves}
 use Rattle.p3_fri_transcript.specs.Shapes.{fri_shape}
 use Rattle.p3_fri_transcript.proofs.Replays.{along-next, along-passes, along-end}
 use Rattle.p3_fri_transcript.proofs.TurnLists.{one_round_left, other_rounds_left}

@@ -1,6 +1,6 @@
 use Rattle.std.proofs.Common.{◌≡◌, ◌-◌}
 use Rattle.p3_challenger.specs.Script.{remaining}
-use Rattle.p3_fri_transcript.specs.Replay.{moves}
+use Rattle.p3_challenger.specs.Run.{moves}
 use Rattle.p3_fri_transcript.specs.Shapes.{fri_shape}
 use Rattle.p3_fri_transcript.specs.Turns.{RoundsLeft}
 use Rattle.p3_fri_transcript.proofs.Replays.{IsAlong}
