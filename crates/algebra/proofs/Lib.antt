@@ -22,6 +22,9 @@ pub mod PairFolds
 pub mod RowPoints
 pub mod Rounds
 pub mod Chains
+pub mod FinalPolynomials
+pub mod Reduction
+pub mod Periodic
 pub mod BinaryFolds
 pub mod Sums
 pub mod Lifting

@@ -14,5 +14,8 @@ pub mod Barycentric
 pub mod Folds
 pub mod Rounds
 pub mod Nested
+pub mod Reduction
+pub mod Periodic
 pub mod Laws
 pub mod CosetLaws
+pub mod FoldLaws
