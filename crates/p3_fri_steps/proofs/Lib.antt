@@ -3,3 +3,6 @@ pub mod SeedLemmas
 pub mod Turns
 pub mod Pushed
 pub mod NoBits
+pub mod Reached
+pub mod Indices
+pub mod Found

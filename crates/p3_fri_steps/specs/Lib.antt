@@ -1,5 +1,8 @@
 pub mod Steps
 pub mod Fits
 pub mod Failures
+pub mod Indices
+pub mod Labels
 pub mod Phases
 pub mod Pow
+pub mod Reached
