@@ -22,6 +22,9 @@ pub mod PairFolds
 pub mod RowPoints
 pub mod Rounds
 pub mod Chains
+pub mod FinalPolynomials
+pub mod Reduction
+pub mod Periodic
 pub mod BinaryFolds
 pub mod Sums
 pub mod Lifting
@@ -30,3 +33,4 @@ pub mod Quotients
 pub mod Batches
 pub mod PointTest
 pub mod Barycentric
+pub mod Nested

@@ -36,6 +36,25 @@ module _ {A : Type 0} where
   folded_entry fold h round ys i =
       fold i h round.log_arity round.beta (neighbours ys i round.log_arity)
 
+  -- the rows, of the words that the rounds fold, in which a query's index lies
+  abbrev pub rows_met :
+      (rounds : List (Round A)) (words : List (List A)) (index : ℕ) → List (List A)
+  rows_met [] words index = []
+  rows_met (r ∷ rounds) [] index = []
+  rows_met (r ∷ rounds) (ys ∷ words) index =
+      let row = index / 2 ^ r.log_arity in
+      neighbours ys row r.log_arity ∷ rows_met rounds words row
+
+  -- each without the entry at the query's own place
+  abbrev pub siblings_met :
+      (rounds : List (Round A)) (words : List (List A)) (index : ℕ) → List (List A)
+  siblings_met [] words index = []
+  siblings_met (r ∷ rounds) [] index = []
+  siblings_met (r ∷ rounds) (ys ∷ words) index =
+      let row = index / 2 ^ r.log_arity in
+      remove (neighbours ys row r.log_arity) (index % 2 ^ r.log_arity)
+      ∷ siblings_met rounds words row
+
 module _ {A : Type 0} (F : FieldOps A) where
   -- a folded value, with the value of an input, if there is one, rolled in: times the challenge's
   -- `2^a`-th power after a round of log arity `a`
@@ -65,8 +84,16 @@ module _ {A : Type 0} (F : FieldOps A) (fold : ℕ → ℕ → ℕ → A → Lis
   after_rounds inputs k (r ∷ rounds) ys =
       after_rounds inputs (k - r.log_arity) rounds (after_round inputs (k - r.log_arity) r ys)
 
-  -- the link after a round: the fold of that row at the row's index, with the value of the input
-  -- of that log height, if there is one, rolled in
+  -- the words that the rounds fold, one for each
+  abbrev pub words_folded : (inputs : ℕ → Option (List A)) (k : ℕ) (rounds : List (Round A))
+      (ys : List A) → List (List A)
+  words_folded inputs k [] ys = []
+  words_folded inputs k (r ∷ rounds) ys =
+      let height = k - r.log_arity in
+      ys ∷ words_folded inputs height rounds (after_round inputs height r ys)
+
+  -- the link after a round: the fold of the query's row at that row's index, with the value of the
+  -- input of that log height, if there is one, rolled in
   abbrev pub next_link :
       (values : ℕ → Option A) (round : Round A) (siblings : List A) (link : Link A) → Link A
   next_link values round siblings link =
@@ -94,26 +121,6 @@ module _ {A : Type 0} (F : FieldOps A) (fold : ℕ → ℕ → ℕ → A → Lis
   chain_rows values (r ∷ rounds) [] link = []
   chain_rows values (r ∷ rounds) (s ∷ siblings) link =
       row_of_link r s link ∷ chain_rows values rounds siblings (next_link values r s link)
-
-  -- the rows of the words after each round but the last in which a query's index lies
-  abbrev pub rows_met : (inputs : ℕ → Option (List A)) (k : ℕ) (rounds : List (Round A))
-      (ys : List A) (index : ℕ) → List (List A)
-  rows_met inputs k [] ys index = []
-  rows_met inputs k (r ∷ rounds) ys index =
-      let row = index / 2 ^ r.log_arity in
-      let height = k - r.log_arity in
-      neighbours ys row r.log_arity
-          ∷ rows_met inputs height rounds (after_round inputs height r ys) row
-
-  -- each without the entry at the query's own place
-  abbrev pub siblings_met : (inputs : ℕ → Option (List A)) (k : ℕ) (rounds : List (Round A))
-      (ys : List A) (index : ℕ) → List (List A)
-  siblings_met inputs k [] ys index = []
-  siblings_met inputs k (r ∷ rounds) ys index =
-      let row = index / 2 ^ r.log_arity in
-      let height = k - r.log_arity in
-      remove (neighbours ys row r.log_arity) (index % 2 ^ r.log_arity)
-          ∷ siblings_met inputs height rounds (after_round inputs height r ys) row
 
 module _ {A : Type 0} (F : FieldOps A) where
   -- the link at an index of a word of log height `k`

@@ -9,6 +9,8 @@ ghost use Rattle.algebra.specs.Laws.{CosetWords};
 ghost use Rattle.algebra.specs.CosetLaws.{QuotientsAreValues, QuotientsCompress, BatchesAreWords};
 ghost use Rattle.algebra.specs.CosetLaws.{OpeningsAreWords, ValuesFromCosets, PointsAreTested};
 ghost use Rattle.algebra.specs.CosetLaws.{CosetsVanish, CosetsAreApart};
+ghost use Rattle.algebra.specs.FoldLaws.{Folds, ChainsMeetWords, RoundsLowerDegrees};
+ghost use Rattle.algebra.specs.FoldLaws.{ChainsEndAtFinalPolynomials, WordsReduce, PeriodicValuesRepeat};
 
 /// Interpolation over any field: through distinct points goes one polynomial with as many
 /// coefficients, and `interpolant` is it.
@@ -62,4 +64,29 @@ pub fn point_test_law<A, E>()
 pub fn cosets_law<A>()
     ensures vanishing { CosetsVanish A }
     ensures apart { CosetsAreApart A }
+{}
+
+/// Folds over two-adic domains: in steps, so by two as often as the log arity says; and degrees fall.
+pub fn folds_law<A>()
+    ensures { Folds A }
+{}
+
+/// Rounds of folding while inputs are rolled in. By any fold of rows, the chain of a query goes through the words of
+/// the rounds, and folds their rows. By one that lowers degrees, words of low degree lead to one of low degree, and each
+/// chain ends at the value of the final polynomial.
+pub fn rounds_law<A>()
+    ensures chains { ChainsMeetWords A }
+    ensures degrees { RoundsLowerDegrees A }
+    ensures ends { ChainsEndAtFinalPolynomials A }
+{}
+
+/// Smaller domains: on a coset of `2^k` points a polynomial has the values of its remainder modulo the `k`-th vanishing
+/// polynomial.
+pub fn reduction_law<A>()
+    ensures { WordsReduce A }
+{}
+
+/// Periodic columns: their values at the points of a domain that extends their rows repeat after the period's share of it.
+pub fn periodic_law<A>()
+    ensures { PeriodicValuesRepeat A }
 {}
