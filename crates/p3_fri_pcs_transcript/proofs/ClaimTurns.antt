@@ -3,6 +3,7 @@ use Rattle.std.proofs.Common.{◌≡◌, ℕ, List, [], ◌∷◌, ◌++◌, len
 use Rattle.std.proofs.lemmas.List.{map-append}
 use Rattle.std.proofs.lemmas.Grind.{flat_map-append}
 use Rattle.std.specs.List.{flat_map}
+use Rattle.algebra.specs.Nested.{lists, joined}
 use Rattle.p3_challenger_fs.specs.declared.pattern.Hierarchy.TheVariants.{Atomic, Begin, End}
 use Rattle.p3_challenger_fs.specs.declared.pattern.Kind.TheVariants.{Message}
 use Rattle.p3_challenger_fs.specs.declared.pattern.TypeTag.TheVariants.{Algebra}
@@ -13,7 +14,6 @@ use Rattle.algebra.specs.Field.{FieldOps}
 use Rattle.p3_challenger.specs.Run.{Moves, observed_all}
 use Rattle.p3_challenger.specs.Turns.{IsNext, bytes_observed}
 use Rattle.p3_challenger_core.proofs.Runs.{observed_all-append}
-use Rattle.p3_fri_pcs_transcript.specs.Counts.{joined}
 use Rattle.p3_fri_steps.specs.Pow.{pow_turns}
 use Rattle.p3_fri_pcs_transcript.specs.Replay.{BatchReplay, shown_batch_replay, claims_replay}
 use Rattle.p3_fri_pcs_transcript.specs.Steps.{PcsNumbers, widths, bracket_step, batch_steps, pcs_steps}

@@ -1,6 +1,7 @@
 -- What the protocol around a low-degree test exchanges: the steps, and the numbers that they don't determine.
 use Rattle.std.specs.Prelude.{ℕ, List, [], ◌∷◌, ◌++◌, length, map, codes}
 use Rattle.std.specs.List.{flat_map}
+use Rattle.algebra.specs.Nested.{joined}
 use Rattle.p3_challenger_fs.specs.declared.pattern.Hierarchy.{Hierarchy}
 use Rattle.p3_challenger_fs.specs.declared.pattern.Hierarchy.TheVariants.{Begin, End}
 use Rattle.p3_challenger_fs.specs.declared.pattern.Kind.TheVariants.{Protocol}
@@ -16,7 +17,7 @@ pub record PcsNumbers : Type 0 where
 
 -- the numbers of claimed values, in order
 abbrev pub widths : List (List (List ℕ)) → List ℕ
-widths counts = flat_map (flat_map (λ points. points)) counts
+widths counts = flat_map joined counts
 
 -- how they are grouped: the number of commitments, then of each its number of matrices, and of each
 -- of these its number of points

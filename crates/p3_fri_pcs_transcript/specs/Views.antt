@@ -1,4 +1,4 @@
--- What a transcript shows: its challenger's state, the turns that are left, its shape.
+-- What contracts see of a transcript: its challenger's state, the turns left, its shape.
 use Rattle.std.specs.Prelude.{◌≡◌, ℕ, List, []}
 use Rattle.std.specs.Borrow.{MutBor}
 use Rattle.algebra.specs.Field.{FieldOps}
@@ -17,7 +17,7 @@ module _ {Side C F E : Type 0} where
   abbrev pub state_of : PcsTranscript Side C F E PcsShape Script → C
   state_of t = t.challenger.now
 
-  -- the turns that are left
+  -- the turns that aren't played yet, in order
   abbrev pub left_of : PcsTranscript Side C F E PcsShape Script → List Turn
   left_of t = remaining t.script
 
@@ -33,17 +33,15 @@ module _ {Side C F E : Type 0} where
   abbrev pub NoClaimsLeft : (d : ℕ) → PcsTranscript Side C F E PcsShape Script → Type 0
   NoClaimsLeft d t = ClaimsLeft d (shape_of t) [] (left_of t)
 
-  -- it borrows the same challenger, and describes the same
+  -- what each call keeps: the challenger that is borrowed, and the shape
   pub record Kept (before after : PcsTranscript Side C F E PcsShape Script) : Type 0 where
     pub same : after.challenger.ghost_name ≡ before.challenger.ghost_name
     pub shape : shape_of after ≡ shape_of before
 
-  -- it borrows this challenger, which has absorbed the stream, is before these turns, and describes this
-  pub record Starts
-      (ops : FieldOps F) (observe : C → F → C) (challenger : MutBor C)
-      (stream : List ℕ) (turns : List Turn) (described : PcsNumbers)
+  -- it borrows this challenger, which has absorbed the stream, and has this shape
+  pub record Starts (ops : FieldOps F) (observe : C → F → C) (challenger : MutBor C)
+      (stream : List ℕ) (described : PcsShape)
       (t : PcsTranscript Side C F E PcsShape Script) : Type 0 where
     pub same : t.challenger.ghost_name ≡ challenger.ghost_name
     pub state : state_of t ≡ bytes_observed ops observe challenger.now stream
-    pub left : left_of t ≡ turns
-    pub shape : shape_of t ≡ described
+    pub shape : shape_of t ≡ pcs_shape described

@@ -1,12 +1,13 @@
 //! Whole transcripts of openings, with the low-degree test inside, for a caller that has all values at hand.
 
 ghost use Rattle.std.specs.Prelude.{◌≡◌, ◌≢◌, ◌≤◌, ◌↔◌, ℕ, true, List, Option, Some, Err, IsTrue, IsOk, IfOk, IfErr, length};
+ghost use Rattle.algebra.specs.Nested.{joined};
 ghost use Rattle.p3_challenger.specs.Run.{Moves};
 ghost use Rattle.p3_fri_steps.specs.declared.error.FriProverError.{FriProverError};
 ghost use Rattle.p3_fri_pcs_transcript.specs.declared.pcs_transcript.play.PcsFailure.TheVariants.{Fri};
 ghost use Rattle.p3_fri_transcript.specs.declared.transcript.failure.TranscriptFailure.TheVariants.{OutOfMemory};
 ghost use Rattle.p3_fri_transcript.specs.declared.transcript.play.Refusal.TheVariants.{Seed, Step};
-ghost use Rattle.p3_fri_pcs_transcript.specs.Counts.{counts_of_values, lists_of_values, counts_of_claims, lists_of_claims, joined};
+ghost use Rattle.p3_fri_pcs_transcript.specs.Counts.{counts_of_values, lists_of_values, counts_of_claims, lists_of_claims};
 ghost use Rattle.p3_fri_steps.specs.Failures.{IsProverFailure};
 ghost use Rattle.p3_challenger.specs.Run.{moves};
 ghost use Rattle.p3_fri_pcs_transcript.specs.Replay.{pcs_replay};

@@ -1,16 +1,19 @@
 //! The prover's calls.
 
-ghost use Rattle.std.specs.Prelude.{◌≡◌, ◌≤◌, ◌==◌, if◌then◌else◌, ℕ, true, None, IfOk, IfErr, OnOk, OnErr, length, map, unwrap_or};
+ghost use Rattle.std.specs.Prelude.{◌≡◌, ◌≢◌, ◌≤◌, true, IsSome, IfOk, IfErr, OnOk, OnErr};
+ghost use Rattle.std.specs.Prelude.{length, map, unwrap_or};
 ghost use Rattle.std.specs.List.{flat_map};
-ghost use Rattle.p3_challenger.specs.Run.{observed_all, Passes};
+ghost use Rattle.p3_challenger.specs.Run.{observed_all};
 ghost use Rattle.p3_challenger.specs.Script.{remaining};
 ghost use Rattle.p3_fri_steps.specs.declared.error.FriProverError.TheVariants.{NoPowWitness};
 ghost use Rattle.p3_fri_steps.specs.declared.pow_phase.PowPhase.TheVariants.{Batch};
+ghost use Rattle.p3_fri_steps.specs.Pow.{found_witness, NonePasses};
 ghost use Rattle.p3_fri_pcs_transcript.specs.Absorption.{ClaimsThen, Absorbs};
-ghost use Rattle.p3_fri_pcs_transcript.specs.Counts.{counts_of_values, lists_of_values, joined};
+ghost use Rattle.p3_fri_pcs_transcript.specs.Counts.{counts_of_values, lists_of_values, all_values};
 ghost use Rattle.p3_fri_pcs_transcript.specs.Replay.{batch_replay};
 ghost use Rattle.p3_fri_pcs_transcript.specs.Turns.{bracket_turns};
-ghost use Rattle.p3_fri_pcs_transcript.specs.Views.{state_of, left_of, shape_of, AllClaimsLeft, NoClaimsLeft, Kept};
+ghost use Rattle.p3_fri_pcs_transcript.specs.Views.{state_of, left_of, shape_of, Kept};
+ghost use Rattle.p3_fri_pcs_transcript.specs.Views.{AllClaimsLeft, NoClaimsLeft};
 
 use crate::pcs_transcript::state::PcsProverTranscript;
 use p3_challenger::fs::Script;
@@ -34,7 +37,7 @@ impl<
         requires described { counts_of_values opened_values.now.items ≡ (shape_of self.old).counts }
         ensures kept { Kept self.old self.new }
         ensures state { state_of self.new ≡ observed_all C.observed (state_of self.old)
-            (flat_map EF.coefficients (joined (lists_of_values opened_values.now.items))) }
+            (flat_map EF.coefficients (all_values opened_values.now.items)) }
         ensures steps { NoClaimsLeft EF.DIMENSION self.new }
     {
         absorb_values(&mut self.script, &mut *self.challenger, opened_values);
@@ -47,17 +50,18 @@ impl<
         requires all_claims_played { NoClaimsLeft EF.DIMENSION self.old }
         requires at_most_max { (shape_of self.old).batch_pow_bits ≤ C.MAX_SAMPLE_BITS }
         ensures kept { Kept self.old self.new }
-        ensures witness { IfOk result (λ answer. answer.1 ≡
-            (if (shape_of self.old).batch_pow_bits == 0 then None
-            else C.solution (state_of self.old) (shape_of self.old).batch_pow_bits)) }
+        ensures witness { IfOk result (λ answer. answer.1
+            ≡ found_witness C.solution (state_of self.old) (shape_of self.old).batch_pow_bits) }
+        ensures found { (shape_of self.old).batch_pow_bits ≢ 0
+            → IfOk result (λ answer. IsSome answer.1) }
         ensures batch { IfOk result (λ answer.
             batch_replay ⟦<C as Plays<F, EF, F>>⟧.moves (shape_of self.old).batch_pow_bits
                 (state_of self.old) (unwrap_or answer.1 F.ops.zero)
             ≡ record { passes = true; alpha = answer.0; state = state_of self.new }) }
         ensures steps { OnOk result (left_of self.new ≡ bracket_turns) }
         ensures refused { IfErr result (λ e. e ≡ NoPowWitness Batch) }
-        ensures none_passes { OnErr result ((w : F) → ¬ Passes C.observed C.sampled_bits
-            (state_of self.old) (shape_of self.old).batch_pow_bits w) }
+        ensures none_passes { OnErr result (NonePasses C.observed C.sampled_bits
+            (state_of self.old) (shape_of self.old).batch_pow_bits) }
         ensures unchanged { OnErr result (state_of self.new ≡ state_of self.old) }
     {
         let witness = grind(

@@ -5,8 +5,8 @@ ghost use Rattle.std.specs.Prelude.{◌≡◌, [], IfOk};
 ghost use Rattle.std.specs.Borrow.{sem, Lends};
 ghost use Rattle.p3_challenger.specs.Separator.{seed_bytes, seed_turns};
 ghost use Rattle.p3_fri_pcs_transcript.specs.Shapes.{pcs_shape};
-ghost use Rattle.p3_fri_pcs_transcript.specs.Steps.{widths, pcs_stream};
-ghost use Rattle.p3_fri_pcs_transcript.specs.Turns.{pcs_turns, bracket_turns, bracket_end_turns};
+ghost use Rattle.p3_fri_pcs_transcript.specs.Steps.{pcs_stream};
+ghost use Rattle.p3_fri_pcs_transcript.specs.Turns.{bracket_turns, bracket_end_turns};
 
 use crate::pcs_transcript::PcsShape;
 use p3_challenger::FieldChallenger;
@@ -41,13 +41,13 @@ impl<'a, Side, F: Field, EF: ExtensionField<F>, C: FieldChallenger<F>> PcsTransc
     ghost use Rattle.p3_fri_pcs_transcript.specs.contracts.pcs_transcript.shape.PcsShape.{the_row as shape_row};
     ghost use Rattle.p3_fri_pcs_transcript.specs.contracts.pcs_transcript.state.PcsTranscript.{the_row as pcs_row};
     ghost use Rattle.p3_fri_pcs_transcript.specs.Lending.{given_back};
-    ghost use Rattle.p3_fri_pcs_transcript.specs.Views.{state_of, left_of, Kept, Starts};
+    ghost use Rattle.p3_fri_pcs_transcript.specs.Views.{state_of, left_of, AllClaimsLeft, Kept, Starts};
 
     /// Absorbs the seed, and stands before its first step. The seed is to be the shape's own: the
     /// calls that follow ask for the steps of the shape.
     pub fn start(challenger: &'a mut C, seed: Seed, shape: PcsShape) -> Self
-        ensures { Starts F.ops C.observed challenger.entry (seed_bytes seed) (seed_turns seed)
-            (pcs_shape shape) result }
+        ensures starts { Starts F.ops C.observed challenger.entry (seed_bytes seed) shape result }
+        ensures steps { left_of result ≡ seed_turns seed }
     {
         let script = Script::start(&mut *challenger, seed);
         PcsTranscript {
@@ -61,10 +61,9 @@ impl<'a, Side, F: Field, EF: ExtensionField<F>, C: FieldChallenger<F>> PcsTransc
     /// Makes the seed of the shape, and starts with it. A refusal leaves the challenger as it was:
     /// the seed is made before it is touched.
     pub fn new(alloc: Global, challenger: &'a mut C, shape: PcsShape) -> Result<Self, AllocError>
-        ensures { IfOk result (λ t. Starts F.ops C.observed challenger.entry
-            (pcs_stream EF.DIMENSION (pcs_shape shape))
-            (pcs_turns EF.DIMENSION (pcs_shape shape) (widths (pcs_shape shape).counts))
-            (pcs_shape shape) t) }
+        ensures starts { IfOk result (λ t. Starts F.ops C.observed challenger.entry
+            (pcs_stream EF.DIMENSION (pcs_shape shape)) shape t) }
+        ensures claims { IfOk result (λ t. AllClaimsLeft EF.DIMENSION t) }
     {
         let seed = shape.seed::<F, EF>(alloc)?;
         Ok(Self::start(challenger, seed, shape))

@@ -1,15 +1,18 @@
 //! The verifier's calls.
 
-ghost use Rattle.std.specs.Prelude.{◌≡◌, ◌≤◌, ◌↔◌, ◌++◌, ℕ, true, List, IsTrue, IsOk, IfOk, IfErr, IsOkAnd, OnOk};
+ghost use Rattle.std.specs.Prelude.{◌≡◌, ◌≤◌, ◌↔◌, ◌++◌, ℕ, true, List, IsTrue};
+ghost use Rattle.std.specs.Prelude.{IsOk, IfOk, IfErr, IsOkAnd, OnOk, OnErr};
 ghost use Rattle.std.specs.List.{flat_map};
 ghost use Rattle.p3_challenger.specs.Run.{observed_all};
+ghost use Rattle.p3_fri_steps.specs.Pow.{shown_attempt};
 ghost use Rattle.p3_fri_pcs_transcript.specs.Claims.{BeginsWith, IsClaimFailure};
-ghost use Rattle.p3_fri_pcs_transcript.specs.Counts.{counts_of_claims, lists_of_claims, joined};
+ghost use Rattle.p3_fri_pcs_transcript.specs.Counts.{counts_of_claims, all_claimed};
 ghost use Rattle.p3_fri_pcs_transcript.specs.Failures.{IsBatchFailure};
 ghost use Rattle.p3_fri_pcs_transcript.specs.Replay.{shown_batch_replay};
 ghost use Rattle.p3_fri_pcs_transcript.specs.Steps.{widths};
 ghost use Rattle.p3_fri_pcs_transcript.specs.Turns.{ClaimsLeft, bracket_turns};
-ghost use Rattle.p3_fri_pcs_transcript.specs.Views.{state_of, left_of, shape_of, AllClaimsLeft, NoClaimsLeft, Kept};
+ghost use Rattle.p3_fri_pcs_transcript.specs.Views.{state_of, left_of, shape_of, Kept};
+ghost use Rattle.p3_fri_pcs_transcript.specs.Views.{AllClaimsLeft, NoClaimsLeft};
 
 use crate::pcs_transcript::claims::absorb_claims;
 use crate::pcs_transcript::described::DescribedCounts;
@@ -40,7 +43,7 @@ impl<
         ensures passes { IsOk result ↔
             BeginsWith (widths (shape_of self.old).counts) (widths (counts_of_claims claims.now)) }
         ensures state { OnOk result (state_of self.new ≡ observed_all C.observed (state_of self.old)
-            (flat_map EF.coefficients (joined (lists_of_claims claims.now)))) }
+            (flat_map EF.coefficients (all_claimed claims.now))) }
         ensures steps { OnOk result ((left : List ℕ) →
             widths (shape_of self.old).counts ≡ widths (counts_of_claims claims.now) ++ left →
             ClaimsLeft EF.DIMENSION (shape_of self.new) left (left_of self.new)) }
@@ -75,6 +78,8 @@ impl<
                 (state_of self.old) witness
             ≡ record { passes = true; alpha = alpha; state = state_of self.new }) }
         ensures steps { OnOk result (left_of self.new ≡ bracket_turns) }
+        ensures refused { OnErr result (state_of self.new ≡ (shown_attempt C.observed C.sampled_bits
+            (state_of self.old) (shape_of self.old).batch_pow_bits witness).state) }
         ensures failure { IfErr result (λ e.
             IsBatchFailure ⟦<C as Plays<F, EF, F>>⟧.moves (shape_of self.old).batch_pow_bits
                 (state_of self.old) witness e) }

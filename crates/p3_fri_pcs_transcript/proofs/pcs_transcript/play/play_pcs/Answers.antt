@@ -1,6 +1,7 @@
 use Rattle.std.proofs.Common.{◌≡◌, Some, unwrap_or, sym, ap, ◌∙◌, rules}
+use Rattle.algebra.specs.Nested.{joined}
 use Rattle.p3_challenger.specs.Turns.{bytes_observed}
-use Rattle.p3_fri_pcs_transcript.specs.Counts.{lists_of_values, joined}
+use Rattle.p3_fri_pcs_transcript.specs.Counts.{lists_of_values}
 use Rattle.p3_challenger.specs.Run.{moves}
 use Rattle.p3_fri_pcs_transcript.specs.Replay.{claims_replay}
 use Rattle.p3_fri_pcs_transcript.specs.Shapes.{pcs_shape}

@@ -1,10 +1,11 @@
 use Rattle.std.proofs.Common.{◌≡◌, [], Err, refl, sym, ap, ◌∙◌, subst, rules, append-nil}
+use Rattle.algebra.specs.Nested.{joined}
 use Rattle.p3_challenger.specs.Script.{remaining}
 use Rattle.p3_challenger.specs.Turns.{bytes_observed}
 use Rattle.p3_fri_pcs_transcript.specs.declared.pcs_transcript.play.PcsFailure.TheVariants.{Fri}
 use Rattle.p3_fri_transcript.specs.declared.transcript.failure.TranscriptFailure.TheVariants.{OutOfMemory}
 use Rattle.p3_fri_transcript.specs.declared.transcript.play.Refusal.TheVariants.{Seed, Step}
-use Rattle.p3_fri_pcs_transcript.specs.Counts.{counts_of_claims, lists_of_claims, joined}
+use Rattle.p3_fri_pcs_transcript.specs.Counts.{counts_of_claims, lists_of_claims}
 use Rattle.p3_fri_pcs_transcript.specs.Replay.{BatchReplay, PcsReplay}
 use Rattle.p3_challenger.specs.Run.{moves}
 use Rattle.p3_fri_pcs_transcript.specs.Shapes.{pcs_shape}

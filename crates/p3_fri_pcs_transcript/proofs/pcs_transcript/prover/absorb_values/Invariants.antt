@@ -1,6 +1,7 @@
 use Rattle.std.proofs.Common.{◌++◌, take}
+use Rattle.algebra.specs.Nested.{lists}
 use Rattle.p3_fri_pcs_transcript.specs.Absorption.{Absorbs}
-use Rattle.p3_fri_pcs_transcript.specs.Counts.{lists_at_points, lists_in_matrices, lists_of_values}
+use Rattle.p3_fri_pcs_transcript.specs.Counts.{lists_in_matrices, lists_of_values}
 use Rattle.p3_fri_pcs_transcript.proofs.pcs_transcript.prover.absorb_values.Given as goal
 
 abbrev pub invariant-loop-matrices : goal.invariant-loop-matrices
@@ -22,4 +23,4 @@ invariant-loop-values g l =
     l.fn.script l.script l.fn.challenger l.challenger
     (lists_of_values (take l.matrices-index l.commitments)
     ++ lists_in_matrices (take l.points-index l.points-items)
-    ++ lists_at_points (take l.values-index l.values-items))
+    ++ lists (take l.values-index l.values-items))
