@@ -68,20 +68,7 @@ pub after_claims : (d : ℕ) (shape : PcsNumbers) (left : List Turn) → ClaimsL
 after_claims d shape left is =
     is ∙ pow_turns-of (codes "batch_pow") shape.batch_pow_bits (challenge_step d (codes "alpha") ∷ bracket_step Begin ∷ bracket_step End ∷ [])
 
--- a whole opening, put together from what single calls did
-pub claims_replayed : {C F E Com : Type 0} (m : Moves C F E Com) (coefficients : E → List F) (ops : FieldOps F) (bits : ℕ) (stream : List ℕ) (c started absorbed : C) (values : List E) (witness : Option F)
-    → started ≡ bytes_observed ops m.observe_value c stream → absorbed ≡ observed_all m.observe_value started (flat_map coefficients values)
-    → claims_replay m coefficients ops bits stream c values witness ≡ shown_batch_replay m bits absorbed witness
-unfolding claims_replay
-claims_replayed m coefficients ops bits stream c started absorbed values witness first second =
-    ap (λ s. shown_batch_replay m bits s witness) (sym (second ∙ ap (λ s. observed_all m.observe_value s (flat_map coefficients values)) first))
-
--- the same with the last state under another name
-pub claims_end : {C E : Type 0} (replay : BatchReplay C E) (alpha : E) (last found : C)
-    → replay ≡ record { passes = true; alpha = alpha; state = last } → last ≡ found → replay ≡ record { passes = true; alpha = alpha; state = found }
-claims_end replay alpha last found is same = is ∙ ap (λ s. record { passes = true; alpha = alpha; state = s }) same
-
--- all openings are left at the start
+-- all claims are left at the start
 pub all_claims_left : (d : ℕ) (described own : PcsNumbers) (left : List Turn) → own ≡ described → left ≡ map turn_of (pcs_steps d described)
     → ClaimsLeft d own (widths own.counts) left
 all_claims_left d described own left same is = is ∙ ap (λ (s : PcsNumbers). map turn_of (pcs_steps d s)) (sym same) ∙ claims_left d own

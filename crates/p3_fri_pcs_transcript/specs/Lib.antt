@@ -1,6 +1,7 @@
 pub mod Steps
 pub mod Shapes
 pub mod Replay
+pub mod Shown
 pub mod Turns
 pub mod SeedLaws
 pub mod SeedExamples

@@ -7,7 +7,7 @@ ghost use Rattle.p3_challenger.specs.Run.{observed_all};
 ghost use Rattle.p3_fri_steps.specs.Pow.{shown_attempt};
 ghost use Rattle.p3_fri_pcs_transcript.specs.Claims.{BeginsWith, IsClaimFailure};
 ghost use Rattle.p3_fri_pcs_transcript.specs.Counts.{counts_of_claims, all_claimed};
-ghost use Rattle.p3_fri_pcs_transcript.specs.Failures.{IsBatchFailure};
+ghost use Rattle.p3_fri_pcs_transcript.specs.Failures.{BatchFailure};
 ghost use Rattle.p3_fri_pcs_transcript.specs.Replay.{shown_batch_replay};
 ghost use Rattle.p3_fri_pcs_transcript.specs.Steps.{widths};
 ghost use Rattle.p3_fri_pcs_transcript.specs.Turns.{ClaimsLeft, bracket_turns};
@@ -81,7 +81,7 @@ impl<
         ensures refused { OnErr result (state_of self.new ≡ (shown_attempt C.observed C.sampled_bits
             (state_of self.old) (shape_of self.old).batch_pow_bits witness).state) }
         ensures failure { IfErr result (λ e.
-            IsBatchFailure ⟦<C as Plays<F, EF, F>>⟧.moves (shape_of self.old).batch_pow_bits
+            BatchFailure ⟦<C as Plays<F, EF, F>>⟧.moves (shape_of self.old).batch_pow_bits
                 (state_of self.old) witness e) }
     {
         let bits = self.shape.batch_pow_bits;
