@@ -65,28 +65,35 @@ module _ {A : Type 0} (F : FieldOps A) (L : IsField F) where
       ∙ e))
 
   -- the values at `s` and `-s`, together
-  both_signs : (c : List A) (s : A) → val F c s ⊕ val F c (neg s) ≡ (𝟙 ⊕ 𝟙) ⊗ val F (evens c) (s ⊗ s)
+  both_signs : (c : List A) (s : A)
+      → val F c s ⊕ val F c (neg s) ≡ (𝟙 ⊕ 𝟙) ⊗ val F (evens c) (s ⊗ s)
   both_signs c s =
       ap₂ (λ u v. u ⊕ v) (val-halves F L.ring c s) (val-halves F L.ring c (neg s)
-      ∙ ap (λ t. val F (evens c) t ⊕ neg s ⊗ val F (odds c) t) (ring F L.ring 1 (λ s. minus s :* minus s := s :* s) refl s))
+      ∙ ap (λ t. val F (evens c) t ⊕ neg s ⊗ val F (odds c) t)
+      (ring F L.ring 1 (λ s. minus s :* minus s := s :* s) refl s))
       ∙ ring F L.ring 3 (λ s u v. u :+ s :* v :+ (u :+ minus s :* v) := (:1 :+ :1) :* u) refl
       s (val F (evens c) (s ⊗ s)) (val F (odds c) (s ⊗ s))
 
   -- a sum in pairs of neighbours
-  sum_below-pairs : (n : ℕ) (f : ℕ → A) → sum_below F (n + n) f ≡ sum_below F n (λ m. f (m + m) ⊕ f (suc (m + m)))
+  sum_below-pairs : (n : ℕ) (f : ℕ → A)
+      → sum_below F (n + n) f ≡ sum_below F n (λ m. f (m + m) ⊕ f (suc (m + m)))
   unfolding sum_below
   sum_below-pairs zero f = refl
   sum_below-pairs (suc n) f =
       ap (λ k. sum_below F k f) (let e : suc n + suc n ≡ suc (suc (n + n)) = omega arith in e)
       ∙ ap (λ s. f zero ⊕ (f 1 ⊕ s))
       (sum_below-pairs n (λ m. f (suc (suc m)))
-      ∙ sum_below-equal F n (λ m. f (suc (suc (m + m))) ⊕ f (suc (suc (suc (m + m))))) (λ m. f (suc m + suc m) ⊕ f (suc (suc m + suc m)))
-      (λ m _. ap (λ k. f k ⊕ f (suc k)) (let e : suc (suc (m + m)) ≡ suc m + suc m = omega arith in e)))
-      ∙ sym (L.add_assoc (f zero) (f 1) (sum_below F n (λ m. f (suc m + suc m) ⊕ f (suc (suc m + suc m)))))
+      ∙ sum_below-equal F n (λ m. f (suc (suc (m + m))) ⊕ f (suc (suc (suc (m + m)))))
+      (λ m. f (suc m + suc m) ⊕ f (suc (suc m + suc m)))
+      (λ m _. ap (λ k. f k ⊕ f (suc k))
+      (let e : suc (suc (m + m)) ≡ suc m + suc m = omega arith in e)))
+      ∙ sym (L.add_assoc (f zero) (f 1)
+      (sum_below F n (λ m. f (suc m + suc m) ⊕ f (suc (suc m + suc m)))))
 
   sum_below-constant : (n : ℕ) (c : A) → sum_below F n (λ i. c) ≡ multiple F n ⊗ c
   unfolding sum_below
-  sum_below-constant zero c = rw (multiple-zero F L.ring) (ring F L.ring 1 (λ c. o := o :* c) refl c)
+  sum_below-constant zero c =
+      rw (multiple-zero F L.ring) (ring F L.ring 1 (λ c. o := o :* c) refl c)
   sum_below-constant (suc n) c =
       ap (λ s. c ⊕ s) (sum_below-constant n c)
       ∙ ring F L.ring 2 (λ n c. c :+ n :* c := (n :+ :1) :* c) refl (multiple F n) c
@@ -96,18 +103,21 @@ module _ {A : Type 0} (F : FieldOps A) (L : IsField F) where
   val-geometric : (n : ℕ) (z x : A)
       → x ⊗ val F (geometric F n z) x ≡ z ⊗ val F (geometric F n z) x ⊕ (pow F x n ⊖ pow F z n)
   val-geometric zero z x =
-      rw (val-nil F L.ring x, pow-zero F x, pow-zero F z) (ring F L.ring 2 (λ z x. x :* o := z :* o :+ (:1 :- :1)) refl z x)
+      rw (val-nil F L.ring x, pow-zero F x, pow-zero F z)
+      (ring F L.ring 2 (λ z x. x :* o := z :* o :+ (:1 :- :1)) refl z x)
   val-geometric (suc n) z x =
       rw (val-cons F L.ring (pow F z n) (geometric F n z) x, pow-suc_is F x n, pow-suc_is F z n)
       (combine F L.ring {k = x} (val-geometric n z x)
       (ring F L.ring 5
-      (λ x z u v g. x :* (u :+ x :* g) :+ x :* (z :* g :+ (v :- u)) := z :* (u :+ x :* g) :+ (x :* v :- z :* u) :+ x :* (x :* g)) refl
+      (λ x z u v g. x :* (u :+ x :* g) :+ x :* (z :* g :+ (v :- u))
+      := z :* (u :+ x :* g) :+ (x :* v :- z :* u) :+ x :* (x :* g)) refl
       x z (pow F z n) (pow F x n) (val F (geometric F n z) x)))
 
   first-geometric : (shift z : A) (n : ℕ) → 0 < n
       → z ⊗ get_or (stretched F 𝟙 shift (geometric F n z)) 0 𝟘 ≡ pow F z n
   first-geometric shift z zero p = absurd (omega (arith, p))
-  first-geometric shift z (suc n) p = ap (λ t. z ⊗ t) (one_mul F L.ring (pow F z n)) ∙ sym (pow-suc_is F z n)
+  first-geometric shift z (suc n) p =
+      ap (λ t. z ⊗ t) (one_mul F L.ring (pow F z n)) ∙ sym (pow-suc_is F z n)
 
   module _ (top : ℕ) (w : ℕ → A) (W : AreRoots F top w) where
     -- the values over a domain of a polynomial of as many coefficients, together
@@ -126,15 +136,18 @@ module _ {A : Type 0} (F : FieldOps A) (L : IsField F) where
         ∙ sum_below-equal F (2 ^ k)
         (λ m. val F c (pt F w (m + m) (suc k)) ⊕ val F c (pt F w (suc (m + m)) (suc k)))
         (λ m. (𝟙 ⊕ 𝟙) ⊗ val F (evens c) (pt F w m k))
-        (λ m _. ap (λ x. val F c (pt F w (m + m) (suc k)) ⊕ val F c x) (point-opposite F L top w W m k b)
+        (λ m _. ap (λ x. val F c (pt F w (m + m) (suc k)) ⊕ val F c x)
+        (point-opposite F L top w W m k b)
         ∙ both_signs c (pt F w (m + m) (suc k))
         ∙ ap (λ x. (𝟙 ⊕ 𝟙) ⊗ val F (evens c) x) (point-square F L top w W m k b))
         ∙ sum_below-factor F L.ring (𝟙 ⊕ 𝟙) (2 ^ k) (λ m. val F (evens c) (pt F w m k))
         ∙ ap (λ v. (𝟙 ⊕ 𝟙) ⊗ v)
         (sum_of_values k (evens c) (omega (arith, b)) (length-evens (2 ^ k) c (e ∙ double k))
         ∙ ap (λ a. multiple F (2 ^ k) ⊗ a) (first-evens c 𝟘))
-        ∙ ring F L.ring 2 (λ n a. (:1 :+ :1) :* (n :* a) := (n :+ n) :* a) refl (multiple F (2 ^ k)) (get_or c 0 𝟘)
-        ∙ ap (λ n. n ⊗ get_or c 0 𝟘) (sym (multiple-add F L.ring (2 ^ k) (2 ^ k)) ∙ ap (λ n. multiple F n) (sym (double k)))
+        ∙ ring F L.ring 2 (λ n a. (:1 :+ :1) :* (n :* a) := (n :+ n) :* a) refl (multiple F (2 ^ k))
+        (get_or c 0 𝟘)
+        ∙ ap (λ n. n ⊗ get_or c 0 𝟘)
+        (sym (multiple-add F L.ring (2 ^ k) (2 ^ k)) ∙ ap (λ n. multiple F n) (sym (double k)))
 
     module _ (shift z : A) (k : ℕ) (b : k ≤ top) where
       x : ℕ → A
@@ -149,15 +162,19 @@ module _ {A : Type 0} (F : FieldOps A) (L : IsField F) where
 
       -- over the coset, the constant coefficient alone is left too
       sum_of_coset_values : (c : List A) → length c ≡ 2 ^ k
-          → sum_below F (2 ^ k) (λ i. val F c (x i)) ≡ multiple F (2 ^ k) ⊗ get_or (stretched F 𝟙 shift c) 0 𝟘
+          → sum_below F (2 ^ k) (λ i. val F c (x i))
+          ≡ multiple F (2 ^ k) ⊗ get_or (stretched F 𝟙 shift c) 0 𝟘
       unfolding x
       sum_of_coset_values c e =
-          sum_below-equal F (2 ^ k) (λ i. val F c (x i)) (λ i. val F (stretched F 𝟙 shift c) (pt F w i k))
-          (λ i _. sym (val-stretched F L.ring 𝟙 shift c (pt F w i k) ∙ one_mul F L.ring (val F c (coset_pt F w shift i k))))
+          sum_below-equal F (2 ^ k) (λ i. val F c (x i))
+          (λ i. val F (stretched F 𝟙 shift c) (pt F w i k))
+          (λ i _. sym (val-stretched F L.ring 𝟙 shift c (pt F w i k)
+          ∙ one_mul F L.ring (val F c (coset_pt F w shift i k))))
           ∙ sum_of_values k (stretched F 𝟙 shift c) b (length-stretched F 𝟙 shift c ∙ e)
 
       -- `x q(x)` has the sum zero, where `q` has a coefficient less
-      sum_of_shifted : (q : List A) → suc (length q) ≡ 2 ^ k → sum_below F (2 ^ k) (λ i. x i ⊗ val F q (x i)) ≡ 𝟘
+      sum_of_shifted : (q : List A) → suc (length q) ≡ 2 ^ k
+          → sum_below F (2 ^ k) (λ i. x i ⊗ val F q (x i)) ≡ 𝟘
       sum_of_shifted q e =
           sum_below-equal F (2 ^ k) (λ i. x i ⊗ val F q (x i)) (λ i. val F (𝟘 ∷ q) (x i))
           (λ i _. sym (val-shift F L.ring q (x i)))
@@ -171,14 +188,18 @@ module _ {A : Type 0} (F : FieldOps A) (L : IsField F) where
 
         -- the weighted values make up the value at `z` times the weights, together
         weighted_values : (c : List A) → length c ≡ 2 ^ k
-            → sum_below F (2 ^ k) (λ i. weight i ⊗ val F c (x i)) ≡ val F c z ⊗ sum_below F (2 ^ k) weight
+            → sum_below F (2 ^ k) (λ i. weight i ⊗ val F c (x i))
+            ≡ val F c z ⊗ sum_below F (2 ^ k) weight
         unfolding weight
         weighted_values c e =
             sym (
             sym (sum_below-factor F L.ring (val F c z) (2 ^ k) weight)
-            ∙ sum_below-equal F (2 ^ k) (λ i. val F c z ⊗ weight i) (λ i. weight i ⊗ val F c (x i) ⊕ x i ⊗ val F (quotient F c z) (x i)) each
-            ∙ sum_below-add F L.ring (2 ^ k) (λ i. weight i ⊗ val F c (x i)) (λ i. x i ⊗ val F (quotient F c z) (x i))
-            ∙ ap (λ v. sum_below F (2 ^ k) (λ i. weight i ⊗ val F c (x i)) ⊕ v) (sum_of_shifted (quotient F c z) count)
+            ∙ sum_below-equal F (2 ^ k) (λ i. val F c z ⊗ weight i)
+            (λ i. weight i ⊗ val F c (x i) ⊕ x i ⊗ val F (quotient F c z) (x i)) each
+            ∙ sum_below-add F L.ring (2 ^ k) (λ i. weight i ⊗ val F c (x i))
+            (λ i. x i ⊗ val F (quotient F c z) (x i))
+            ∙ ap (λ v. sum_below F (2 ^ k) (λ i. weight i ⊗ val F c (x i)) ⊕ v)
+            (sum_of_shifted (quotient F c z) count)
             ∙ L.add_zero (sum_below F (2 ^ k) (λ i. weight i ⊗ val F c (x i)))
             )
           where
@@ -189,12 +210,16 @@ module _ {A : Type 0} (F : FieldOps A) (L : IsField F) where
                 up zero p = absurd (omega (arith, p))
                 up (suc n) p = refl
 
-            each : (i : ℕ) → i < 2 ^ k → val F c z ⊗ weight i ≡ weight i ⊗ val F c (x i) ⊕ x i ⊗ val F (quotient F c z) (x i)
+            each : (i : ℕ) → i < 2 ^ k
+                → val F c z ⊗ weight i
+                ≡ weight i ⊗ val F c (x i) ⊕ x i ⊗ val F (quotient F c z) (x i)
             each i l =
-                combine2 F L.ring {k = neg (weight i)} {k' = neg (x i ⊗ val F (quotient F c z) (x i))}
+                combine2 F L.ring {k = neg (weight i)}
+                {k' = neg (x i ⊗ val F (quotient F c z) (x i))}
                 (divide F L.ring c z (x i)) (sym (unit i l))
                 (ring F L.ring 6
-                (λ x z u v q n. v :* (x :* n) :+ (minus (x :* n) :* (v :+ (x :- z) :* q) :+ minus (x :* q) :* ((z :- x) :* n))
+                (λ x z u v q n. v :* (x :* n)
+                :+ (minus (x :* n) :* (v :+ (x :- z) :* q) :+ minus (x :* q) :* ((z :- x) :* n))
                 := x :* n :* u :+ x :* q :+ (minus (x :* n) :* u :+ minus (x :* q) :* :1)) refl
                 (x i) z (val F c (x i)) (val F c z) (val F (quotient F c z) (x i)) (inv (z ⊖ x i)))
 
@@ -207,23 +232,30 @@ module _ {A : Type 0} (F : FieldOps A) (L : IsField F) where
             let g = geometric F n z in
             let first = get_or (stretched F 𝟙 shift g) 0 𝟘 in
             sym (sum_below-factor F L.ring (pow F z n ⊖ pow F shift n) n weight)
-            ∙ sum_below-equal F n (λ i. (pow F z n ⊖ pow F shift n) ⊗ weight i) (λ i. z ⊗ val F g (x i) ⊕ (pow F shift n ⊖ pow F z n)) each
+            ∙ sum_below-equal F n (λ i. (pow F z n ⊖ pow F shift n) ⊗ weight i)
+            (λ i. z ⊗ val F g (x i) ⊕ (pow F shift n ⊖ pow F z n)) each
             ∙ sum_below-add F L.ring n (λ i. z ⊗ val F g (x i)) (λ i. pow F shift n ⊖ pow F z n)
             ∙ ap₂ (λ u v. u ⊕ v)
-            (sum_below-factor F L.ring z n (λ i. val F g (x i)) ∙ ap (λ v. z ⊗ v) (sum_of_coset_values g (length-geometric F n z)))
+            (sum_below-factor F L.ring z n (λ i. val F g (x i))
+            ∙ ap (λ v. z ⊗ v) (sum_of_coset_values g (length-geometric F n z)))
             (sum_below-constant n (pow F shift n ⊖ pow F z n))
             ∙ combine F L.ring {k = multiple F n} (first-geometric shift z n (pow_pos k))
-            (ring F L.ring 5 (λ z n f u v. z :* (n :* f) :+ n :* (u :- v) :+ n :* v := n :* u :+ n :* (z :* f)) refl
+            (ring F L.ring 5 (λ z n f u v. z :* (n :* f) :+ n :* (u :- v) :+ n :* v
+            := n :* u :+ n :* (z :* f)) refl
             z (multiple F n) first (pow F shift n) (pow F z n))
           where
-            each : (i : ℕ) → i < 2 ^ k → (pow F z (2 ^ k) ⊖ pow F shift (2 ^ k)) ⊗ (x i ⊗ inv (z ⊖ x i))
+            each : (i : ℕ) → i < 2 ^ k
+                → (pow F z (2 ^ k) ⊖ pow F shift (2 ^ k)) ⊗ (x i ⊗ inv (z ⊖ x i))
                 ≡ z ⊗ val F (geometric F (2 ^ k) z) (x i) ⊕ (pow F shift (2 ^ k) ⊖ pow F z (2 ^ k))
             each i l =
                 let g = val F (geometric F (2 ^ k) z) (x i) in
-                let turned : x i ⊗ g ≡ z ⊗ g ⊕ (pow F shift (2 ^ k) ⊖ pow F z (2 ^ k)) = val-geometric (2 ^ k) z (x i) ∙ ap (λ v. z ⊗ g ⊕ (v ⊖ pow F z (2 ^ k))) (power i) in
+                let turned : x i ⊗ g ≡ z ⊗ g ⊕ (pow F shift (2 ^ k) ⊖ pow F z (2 ^ k)) =
+                val-geometric (2 ^ k) z (x i)
+                ∙ ap (λ v. z ⊗ g ⊕ (v ⊖ pow F z (2 ^ k))) (power i) in
                 combine2 F L.ring {k = x i ⊗ inv (z ⊖ x i)} {k' = x i ⊗ g} turned (unit i l)
                 (ring F L.ring 6
-                (λ x z n v u g. (v :- u) :* (x :* n) :+ (x :* n :* (z :* g :+ (u :- v)) :+ x :* g :* :1)
+                (λ x z n v u g. (v :- u) :* (x :* n)
+                :+ (x :* n :* (z :* g :+ (u :- v)) :+ x :* g :* :1)
                 := x :* g :+ (x :* n :* (x :* g) :+ x :* g :* ((z :- x) :* n))) refl
                 (x i) z (inv (z ⊖ x i)) (pow F z (2 ^ k)) (pow F shift (2 ^ k)) g)
                 ∙ turned
@@ -231,7 +263,9 @@ module _ {A : Type 0} (F : FieldOps A) (L : IsField F) where
         -- so the factor makes the weighted values the value at `z`
         pub value_from_weights : shift ≢ 𝟘 → (c : List A) → length c ≡ 2 ^ k
             → vanishing F shift k z ⊗ inv (multiple F (2 ^ k))
-            ⊗ sum_below F (2 ^ k) (λ i. coset_pt F w shift i k ⊗ inv (z ⊖ coset_pt F w shift i k) ⊗ val F c (coset_pt F w shift i k))
+            ⊗ sum_below F (2 ^ k) (λ i.
+            coset_pt F w shift i k ⊗ inv (z ⊖ coset_pt F w shift i k)
+            ⊗ val F c (coset_pt F w shift i k))
             ≡ val F c z
         unfolding x weight
         value_from_weights nonzero c e =
@@ -240,31 +274,41 @@ module _ {A : Type 0} (F : FieldOps A) (L : IsField F) where
             let n = multiple F (2 ^ k) in
             let values = sum_below F (2 ^ k) (λ i. weight i ⊗ val F c (x i)) in
             let weights = sum_below F (2 ^ k) weight in
-            cancel_factor F L p (vanishing F shift k z ⊗ inv n ⊗ values) (val F c z) (pow-nonzero F L shift (2 ^ k) nonzero)
-            (ring F L.ring 4 (λ p q i s. p :* ((q :- :1) :* i :* s) := (q :* p :- p) :* (i :* s)) refl p q (inv n) values
-            ∙ ap₂ (λ d s. (d ⊖ p) ⊗ (inv n ⊗ s)) (power_of_quotient F L z shift (2 ^ k) nonzero) (weighted_values c e)
-            ∙ ring F L.ring 4 (λ d i f t. d :* (i :* (f :* t)) := d :* t :* (i :* f)) refl (pow F z (2 ^ k) ⊖ p) (inv n) (val F c z) weights
+            cancel_factor F L p (vanishing F shift k z ⊗ inv n ⊗ values) (val F c z)
+            (pow-nonzero F L shift (2 ^ k) nonzero)
+            (ring F L.ring 4 (λ p q i s. p :* ((q :- :1) :* i :* s)
+            := (q :* p :- p) :* (i :* s)) refl p q (inv n) values
+            ∙ ap₂ (λ d s. (d ⊖ p) ⊗ (inv n ⊗ s)) (power_of_quotient F L z shift (2 ^ k) nonzero)
+            (weighted_values c e)
+            ∙ ring F L.ring 4 (λ d i f t. d :* (i :* (f :* t)) := d :* t :* (i :* f)) refl
+            (pow F z (2 ^ k) ⊖ p) (inv n) (val F c z) weights
             ∙ ap (λ t. t ⊗ (inv n ⊗ val F c z)) weights_together
-            ∙ ring F L.ring 4 (λ n p i f. n :* p :* (i :* f) := n :* i :* (p :* f)) refl n p (inv n) (val F c z)
+            ∙ ring F L.ring 4 (λ n p i f. n :* p :* (i :* f) := n :* i :* (p :* f)) refl n p (inv n)
+            (val F c z)
             ∙ ap (λ t. t ⊗ (p ⊗ val F c z)) (L.mul_inv n (two_power_nonzero k))
             ∙ one_mul F L.ring (p ⊗ val F c z))
 
-module _ {A E : Type 0} (F : FieldOps A) (K : FieldOps E) (lift : A → E) (L : IsField F) (M : IsField K)
+module _ {A E : Type 0} (F : FieldOps A) (K : FieldOps E) (lift : A → E) (L : IsField F)
+    (M : IsField K)
     (H : IsHomomorphism F K lift) (top : ℕ) (w : ℕ → A) (W : AreRoots F top w) where
   -- from the values of a polynomial of the base field: the first of a longer word are enough
-  pub barycentric_value : (shift : A) → shift ≢ F.zero → (k m : ℕ) → k + m ≤ top → (c : List A) → length c ≤ 2 ^ k
+  pub barycentric_value : (shift : A) → shift ≢ F.zero → (k m : ℕ) → k + m ≤ top → (c : List A)
+      → length c ≤ 2 ^ k
       → (z : E) → IsOffCoset F lift w shift k z
       → barycentric F K lift w shift k (coset_word F w shift (k + m) c) z ≡ val K (map lift c) z
   barycentric_value shift nonzero k m b c n z off =
       ap (λ s. K.mul (barycentric_factor F K lift w shift k z) s)
       (sum_below-equal K (2 ^ k)
-      (λ i. K.mul (barycentric_weight F K lift w shift k z i) (lift (get_or (coset_word F w shift (k + m) c) i F.zero)))
+      (λ i. K.mul (barycentric_weight F K lift w shift k z i)
+      (lift (get_or (coset_word F w shift (k + m) c) i F.zero)))
       (λ i. K.mul (K.mul (x i) (K.inv (sub K z (x i)))) (val K padded (x i)))
-      (λ i l. ap₂ (λ t v. K.mul (K.mul t (K.inv (sub K z t))) v) (lifted_coset_pt F K lift H w shift i k)
+      (λ i l. ap₂ (λ t v. K.mul (K.mul t (K.inv (sub K z t))) v)
+      (lifted_coset_pt F K lift H w shift i k)
       (ap lift (entry i l)
       ∙ lifted_value F K lift L.ring M.ring H w c shift i k
       ∙ sym (val-padded K M.ring (map lift c) (2 ^ k - length c) (x i)))))
-      ∙ value_from_weights K M top (λ j. lift (w j)) (lifted_roots F K lift L M H top w W) (lift shift) z k (omega (arith, b))
+      ∙ value_from_weights K M top (λ j. lift (w j)) (lifted_roots F K lift L M H top w W)
+      (lift shift) z k (omega (arith, b))
       (lifted_off_coset F K lift H w shift k z off)
       (homomorphism-nonzero F K lift L M H shift nonzero) padded
       (length-append (map lift c) (replicate (2 ^ k - length c) K.zero)
@@ -278,12 +322,15 @@ module _ {A E : Type 0} (F : FieldOps A) (K : FieldOps E) (lift : A → E) (L : 
       padded : List E
       padded = map lift c ++ replicate (2 ^ k - length c) K.zero
 
-      entry : (i : ℕ) → i < 2 ^ k → get_or (coset_word F w shift (k + m) c) i F.zero ≡ val F c (coset_pt F w shift i k)
+      entry : (i : ℕ) → i < 2 ^ k
+          → get_or (coset_word F w shift (k + m) c) i F.zero ≡ val F c (coset_pt F w shift i k)
       entry i l =
-          get_or-tabulate (2 ^ (k + m)) (λ j. val F c (coset_pt F w shift j (k + m))) i F.zero (below i l)
+          get_or-tabulate (2 ^ (k + m)) (λ j. val F c (coset_pt F w shift j (k + m))) i F.zero
+          (below i l)
           ∙ ap (λ y. val F c (F.mul shift y)) (point-restrict F L top w W i k m l b)
         where
           below : (i : ℕ) → i < 2 ^ k → i < 2 ^ (k + m)
           below i l =
-              let more : 2 ^ k ≤ 2 ^ (k + m) = pow-le-pow_right {n = 2} (omega arith) {i = k} {j = k + m} (omega arith) in
+              let more : 2 ^ k ≤ 2 ^ (k + m) =
+              pow-le-pow_right {n = 2} (omega arith) {i = k} {j = k + m} (omega arith) in
               omega (arith, l, more)

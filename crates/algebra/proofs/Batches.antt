@@ -1,4 +1,5 @@
--- Batches by powers of one element: of polynomials, of words of one height, and of the quotients of opened matrices.
+-- Batches by powers of one element: of polynomials, of words of one height, and of the quotients of
+-- opened matrices.
 use Rattle.std.proofs.Common.{◌≡◌, ◌≢◌, ℕ, ◌^◌, ◌<◌, pred, List, [], ◌∷◌, ◌++◌, length, map, flat_map, get_or, replicate, refl, sym, ap, ap₂, ◌∙◌, length-append}
 use Rattle.std.proofs.lemmas.List.{length-map, length-replicate, map-append}
 use Rattle.algebra.specs.Field.{FieldOps, IsRing, IsField, IsHomomorphism, pow}
@@ -23,7 +24,8 @@ module _ {A : Type 0} (F : FieldOps A) (d : ℕ) (alpha : A) where
       → length (map (λ a. F.mul alpha a) (combination cs)) ≡ d
   scaled-length cs e = length-map (combination cs) (λ a. F.mul alpha a) ∙ e
 
-  pub length-combination : (cs : List (List A)) → Each (λ c. length c ≡ d) cs → length (combination cs) ≡ d
+  pub length-combination : (cs : List (List A)) → Each (λ c. length c ≡ d) cs
+      → length (combination cs) ≡ d
   length-combination [] h = length-replicate d F.zero
   length-combination (c ∷ cs) h =
       length-add_lists F c (map (λ a. F.mul alpha a) (combination cs))
@@ -35,14 +37,16 @@ module _ {A : Type 0} (F : FieldOps A) (R : IsRing F) where
 
   infixl 65 ◌⊕◌
   infixl 70 ◌⊗◌
-  pub val-combination : (d : ℕ) (alpha : A) (cs : List (List A)) (x : A) → Each (λ c. length c ≡ d) cs
+  pub val-combination : (d : ℕ) (alpha : A) (cs : List (List A)) (x : A)
+      → Each (λ c. length c ≡ d) cs
       → val F (combination F d alpha cs) x ≡ val F (map (λ c. val F c x) cs) alpha
   val-combination d alpha [] x h = val-padded F R [] d x ∙ val-nil F R x ∙ sym (val-nil F R alpha)
   val-combination d alpha (c ∷ cs) x h =
       val-add F R c (map (λ a. alpha ⊗ a) (combination F d alpha cs)) x
       (h.0 ∙ sym (scaled-length F d alpha cs (length-combination F d alpha cs h.1)))
       ∙ ap (λ v. val F c x ⊕ v)
-      (val-scale F R alpha (combination F d alpha cs) x ∙ ap (λ v. alpha ⊗ v) (val-combination d alpha cs x h.1))
+      (val-scale F R alpha (combination F d alpha cs) x
+      ∙ ap (λ v. alpha ⊗ v) (val-combination d alpha cs x h.1))
       ∙ sym (val-cons F R (val F c x) (map (λ c. val F c x) cs) alpha)
 
   -- where the powers stand after both of two lists of terms
@@ -63,7 +67,8 @@ module _ {A : Type 0} (F : FieldOps A) (R : IsRing F) where
     degrees (ys ∷ yss) h = (h.0.degree, degrees yss h.1)
 
     entries : (yss : List (List A)) (h : Each (IsCosetWord F w shift k d) yss) (i : ℕ) → i < 2 ^ k
-        → map (λ ys. get_or ys i F.zero) yss ≡ map (λ c. val F c (coset_pt F w shift i k)) (polynomials yss h)
+        → map (λ ys. get_or ys i F.zero) yss
+        ≡ map (λ c. val F c (coset_pt F w shift i k)) (polynomials yss h)
     unfolding polynomials
     entries [] h i l = refl
     entries (ys ∷ yss) h i l =
@@ -82,7 +87,8 @@ module _ {A : Type 0} (F : FieldOps A) (R : IsRing F) where
           tabulate-equal (2 ^ k) (λ i. val F (map (λ ys. get_or ys i F.zero) yss) alpha)
           (λ i. val F (combination F d alpha (polynomials yss h)) (coset_pt F w shift i k))
           (λ i l. ap (λ vs. val F vs alpha) (entries yss h i l)
-          ∙ sym (val-combination d alpha (polynomials yss h) (coset_pt F w shift i k) (degrees yss h)));
+          ∙ sym (val-combination d alpha (polynomials yss h) (coset_pt F w shift i k)
+          (degrees yss h)));
     }
 
 module _ {A E : Type 0} (F : FieldOps A) (K : FieldOps E) (lift : A → E) where
@@ -96,30 +102,36 @@ module _ {A E : Type 0} (F : FieldOps A) (K : FieldOps E) (lift : A → E) where
   abbrev quotient_polynomials : List (Opened A E) → List (List E)
   quotient_polynomials ms = flat_map (λ m. point_quotients m.columns m.points) ms
 
-each-append : {A : Type 0} (P : A → Type 0) (xs ys : List A) → Each P xs → Each P ys → Each P (xs ++ ys)
+each-append : {A : Type 0} (P : A → Type 0) (xs ys : List A) → Each P xs → Each P ys
+    → Each P (xs ++ ys)
 each-append P [] ys h g = g
 each-append P (x ∷ xs) ys h g = (h.0, each-append P xs ys h.1 g)
 
-module _ {A E : Type 0} (F : FieldOps A) (K : FieldOps E) (lift : A → E) (L : IsField F) (M : IsField K)
+module _ {A E : Type 0} (F : FieldOps A) (K : FieldOps E) (lift : A → E) (L : IsField F)
+    (M : IsField K)
     (H : IsHomomorphism F K lift) (w : ℕ → A) (shift : A) (k d : ℕ) where
   columns-length : (cs : List (List A)) (z : E) → Each (λ c. length c ≡ d) cs
       → Each (λ q. length q ≡ pred d) (column_quotients F K lift cs z)
   columns-length [] z h = tt
-  columns-length (c ∷ cs) z h =
-      (length-quotient K (map lift c) z ∙ ap pred (length-map c lift ∙ h.0), columns-length cs z h.1)
+  columns-length (c ∷ cs) z h = (
+    length-quotient K (map lift c) z ∙ ap pred (length-map c lift ∙ h.0),
+    columns-length cs z h.1,
+  )
 
   points-length : (cs : List (List A)) (zs : List E) → Each (λ c. length c ≡ d) cs
       → Each (λ q. length q ≡ pred d) (point_quotients F K lift cs zs)
   points-length cs [] h = tt
   points-length cs (z ∷ zs) h =
-      each-append (λ q. length q ≡ pred d) (column_quotients F K lift cs z) (point_quotients F K lift cs zs)
+      each-append (λ q. length q ≡ pred d) (column_quotients F K lift cs z)
+      (point_quotients F K lift cs zs)
       (columns-length cs z h) (points-length cs zs h)
 
   matrices-length : (ms : List (Opened A E)) → Each (IsOpenedOff F lift w shift k d) ms
       → Each (λ q. length q ≡ pred d) (quotient_polynomials F K lift ms)
   matrices-length [] h = tt
   matrices-length (m ∷ ms) h =
-      each-append (λ q. length q ≡ pred d) (point_quotients F K lift m.columns m.points) (quotient_polynomials F K lift ms)
+      each-append (λ q. length q ≡ pred d) (point_quotients F K lift m.columns m.points)
+      (quotient_polynomials F K lift ms)
       (points-length m.columns m.points (each_from_All (λ c. length c ≡ d) m.columns h.0.degrees))
       (matrices-length ms h.1)
 
@@ -128,12 +140,15 @@ module _ {A E : Type 0} (F : FieldOps A) (K : FieldOps E) (lift : A → E) (L : 
   x i = coset_pt K (λ j. lift (w j)) (lift shift) i k
 
   row-is : (cs : List (List A)) (i : ℕ)
-      → row_at F K lift cs (coset_pt F w shift i k) ≡ map (λ c. val K c (x i)) (map (λ c. map lift c) cs)
+      → row_at F K lift cs (coset_pt F w shift i k)
+      ≡ map (λ c. val K c (x i)) (map (λ c. map lift c) cs)
   unfolding x
   row-is [] i = refl
-  row-is (c ∷ cs) i = ap₂ (λ v vs. v ∷ vs) (lifted_value F K lift L.ring M.ring H w c shift i k) (row-is cs i)
+  row-is (c ∷ cs) i =
+      ap₂ (λ v vs. v ∷ vs) (lifted_value F K lift L.ring M.ring H w c shift i k) (row-is cs i)
 
-  values-are : (cs : List (List A)) (z : E) → values_at F K lift cs z ≡ map (λ c. val K c z) (map (λ c. map lift c) cs)
+  values-are : (cs : List (List A)) (z : E)
+      → values_at F K lift cs z ≡ map (λ c. val K c z) (map (λ c. map lift c) cs)
   values-are [] z = refl
   values-are (c ∷ cs) z = ap (λ vs. val K (map lift c) z ∷ vs) (values-are cs z)
 
@@ -143,11 +158,13 @@ module _ {A E : Type 0} (F : FieldOps A) (K : FieldOps E) (lift : A → E) (L : 
   composed (c ∷ cs) z y = ap (λ vs. val K (quotient K c z) y ∷ vs) (composed cs z y)
 
   column-terms : (cs : List (List A)) (z : E) (i : ℕ) → x i ≢ z
-      → quotients K z (lift (coset_pt F w shift i k)) (values_at F K lift cs z) (row_at F K lift cs (coset_pt F w shift i k))
+      → quotients K z (lift (coset_pt F w shift i k)) (values_at F K lift cs z)
+      (row_at F K lift cs (coset_pt F w shift i k))
       ≡ map (λ q. val K q (x i)) (column_quotients F K lift cs z)
   unfolding x
   column-terms cs z i n =
-      ap (λ y. quotients K z y (values_at F K lift cs z) (row_at F K lift cs (coset_pt F w shift i k)))
+      ap (λ y. quotients K z y (values_at F K lift cs z)
+      (row_at F K lift cs (coset_pt F w shift i k)))
       (lifted_coset_pt F K lift H w shift i k)
       ∙ ap₂ (λ ys vs. quotients K z (x i) ys vs) (values-are cs z) (row-is cs i)
       ∙ quotient_values K M (map (λ c. map lift c) cs) z (x i) n
@@ -165,9 +182,11 @@ module _ {A E : Type 0} (F : FieldOps A) (K : FieldOps E) (lift : A → E) (L : 
   point-terms cs [] i l h = refl
   point-terms cs (z ∷ zs) i l h =
       ap₂ (λ ts us. ts ++ us) (column-terms cs z i (away z i l h.0)) (point-terms cs zs i l h.1)
-      ∙ sym (map-append (λ q. val K q (x i)) (column_quotients F K lift cs z) (point_quotients F K lift cs zs))
+      ∙ sym (map-append (λ q. val K q (x i)) (column_quotients F K lift cs z)
+      (point_quotients F K lift cs zs))
 
-  matrix-terms : (ms : List (Opened A E)) (i : ℕ) → i < 2 ^ k → Each (IsOpenedOff F lift w shift k d) ms
+  matrix-terms : (ms : List (Opened A E)) (i : ℕ) → i < 2 ^ k
+      → Each (IsOpenedOff F lift w shift k d) ms
       → flat_map (opened_quotients F K lift (coset_pt F w shift i k)) ms
       ≡ map (λ q. val K q (x i)) (quotient_polynomials F K lift ms)
   matrix-terms [] i l h = refl
@@ -176,11 +195,15 @@ module _ {A E : Type 0} (F : FieldOps A) (K : FieldOps E) (lift : A → E) (L : 
       (point-terms m.columns m.points i l
       (each_from_All (λ z. IsOffCoset F lift w shift k z) m.points h.0.off))
       (matrix-terms ms i l h.1)
-      ∙ sym (map-append (λ q. val K q (x i)) (point_quotients F K lift m.columns m.points) (quotient_polynomials F K lift ms))
+      ∙ sym (map-append (λ q. val K q (x i)) (point_quotients F K lift m.columns m.points)
+      (quotient_polynomials F K lift ms))
 
-  -- the quotients of matrices opened off the coset, in one batch, are a word whose degree is one less
-  pub quotient_word_below : (alpha : E) (ms : List (Opened A E)) → Each (IsOpenedOff F lift w shift k d) ms
-      → IsCosetWord K (λ j. lift (w j)) (lift shift) k (pred d) (quotient_word F K lift w shift k alpha ms)
+  -- the quotients of matrices opened off the coset, in one batch, are a word whose degree is one
+  -- less
+  pub quotient_word_below : (alpha : E) (ms : List (Opened A E))
+      → Each (IsOpenedOff F lift w shift k d) ms
+      → IsCosetWord K (λ j. lift (w j)) (lift shift) k (pred d)
+      (quotient_word F K lift w shift k alpha ms)
   unfolding x
   quotient_word_below alpha ms h =
       let qs = quotient_polynomials F K lift ms in

@@ -12,7 +12,8 @@ use Rattle.algebra.proofs.Values.{stretched, val-nil, val-stretched, val-padded}
 use Rattle.algebra.proofs.Words.{coset_word-restrict}
 use Rattle.algebra.proofs.Lists.{tabulate-equal}
 
-pub length-stretched : {A : Type 0} (F : FieldOps A) (k s : A) (c : List A) → length (stretched F k s c) ≡ length c
+pub length-stretched : {A : Type 0} (F : FieldOps A) (k s : A) (c : List A)
+    → length (stretched F k s c) ≡ length c
 length-stretched F k s [] = refl
 length-stretched F k s (c ∷ cs) = ap suc (length-stretched F (F.mul k s) s cs)
 
@@ -24,10 +25,13 @@ module _ {A : Type 0} (F : FieldOps A) (R : IsRing F) (w : ℕ → A) where
   pub coset_word-stretched : (shift : A) (k : ℕ) (c : List A)
       → coset_word F w shift k c ≡ word F w k (stretched F 𝟙 shift c)
   coset_word-stretched shift k c =
-      tabulate-equal (2 ^ k) (λ i. val F c (coset_pt F w shift i k)) (λ i. val F (stretched F 𝟙 shift c) (pt F w i k))
-      (λ i _. sym (val-stretched F R 𝟙 shift c (pt F w i k) ∙ one_mul F R (val F c (coset_pt F w shift i k))))
+      tabulate-equal (2 ^ k) (λ i. val F c (coset_pt F w shift i k))
+      (λ i. val F (stretched F 𝟙 shift c) (pt F w i k))
+      (λ i _. sym (val-stretched F R 𝟙 shift c (pt F w i k)
+      ∙ one_mul F R (val F c (coset_pt F w shift i k))))
 
-  pub word_from_coset_word : (shift : A) (k d : ℕ) (ys : List A) → IsCosetWord F w shift k d ys → IsWord F w k d ys
+  pub word_from_coset_word : (shift : A) (k d : ℕ) (ys : List A) → IsCosetWord F w shift k d ys
+      → IsWord F w k d ys
   word_from_coset_word shift k d ys y = record {
     polynomial = stretched F 𝟙 shift y.polynomial;
     degree = length-stretched F 𝟙 shift y.polynomial ∙ y.degree;
@@ -35,7 +39,8 @@ module _ {A : Type 0} (F : FieldOps A) (R : IsRing F) (w : ℕ → A) where
   }
 
   -- of a degree below `d` is of a degree below each larger number
-  pub coset_word-degree : (shift : A) (k d e : ℕ) (ys : List A) → d ≤ e → IsCosetWord F w shift k d ys
+  pub coset_word-degree : (shift : A) (k d e : ℕ) (ys : List A) → d ≤ e
+      → IsCosetWord F w shift k d ys
       → IsCosetWord F w shift k e ys
   coset_word-degree shift k d e ys l y = record {
     polynomial = y.polynomial ++ replicate (e - d) F.zero;
@@ -53,8 +58,10 @@ module _ {A : Type 0} (F : FieldOps A) (R : IsRing F) (w : ℕ → A) where
       → ys ≡ tabulate (2 ^ k) (λ i. F.zero)
   coset_word-none shift k ys y = y.values ∙ zeros y.polynomial y.degree
     where
-      zeros : (c : List A) → length c ≡ 0 → coset_word F w shift k c ≡ tabulate (2 ^ k) (λ i. F.zero)
-      zeros [] e = tabulate-equal (2 ^ k) (λ i. val F [] (coset_pt F w shift i k)) (λ i. F.zero) (λ i _. val-nil F R (coset_pt F w shift i k))
+      zeros : (c : List A) → length c ≡ 0
+          → coset_word F w shift k c ≡ tabulate (2 ^ k) (λ i. F.zero)
+      zeros [] e = tabulate-equal (2 ^ k) (λ i. val F [] (coset_pt F w shift i k)) (λ i. F.zero)
+          (λ i _. val-nil F R (coset_pt F w shift i k))
       zeros (c ∷ cs) e = absurd (omega (arith, e))
 
 module _ {A : Type 0} (F : FieldOps A) (L : IsField F) (w : ℕ → A) where
@@ -62,7 +69,8 @@ module _ {A : Type 0} (F : FieldOps A) (L : IsField F) (w : ℕ → A) where
 
   infixl 70 ◌⊗◌
   -- and back, by the inverse of a shift that isn't zero
-  pub coset_word_from_word : (shift : A) → shift ≢ F.zero → (k d : ℕ) (ys : List A) → IsWord F w k d ys
+  pub coset_word_from_word : (shift : A) → shift ≢ F.zero → (k d : ℕ) (ys : List A)
+      → IsWord F w k d ys
       → IsCosetWord F w shift k d ys
   coset_word_from_word shift n k d ys y = record {
     polynomial = stretched F 𝟙 (inv shift) y.polynomial;
@@ -82,10 +90,12 @@ module _ {A : Type 0} (F : FieldOps A) (L : IsField F) (w : ℕ → A) where
           ∙ one_mul F L.ring x
 
   -- the first entries are a word of the same degree
-  pub coset_word-take : (top : ℕ) → AreRoots F top w → (shift : A) (k m d : ℕ) (ys : List A) → k + m ≤ top
+  pub coset_word-take : (top : ℕ) → AreRoots F top w → (shift : A) (k m d : ℕ) (ys : List A)
+      → k + m ≤ top
       → IsCosetWord F w shift (k + m) d ys → IsCosetWord F w shift k d (take (2 ^ k) ys)
   coset_word-take top W shift k m d ys b y = record {
     polynomial = y.polynomial;
     degree = y.degree;
-    values = ap (λ xs. take (2 ^ k) xs) y.values ∙ coset_word-restrict F L top w W shift k m y.polynomial b;
+    values = ap (λ xs. take (2 ^ k) xs) y.values
+        ∙ coset_word-restrict F L top w W shift k m y.polynomial b;
   }

@@ -1,4 +1,5 @@
--- What a homomorphism of fields carries over: negatives, differences, inverses, points, words. It is injective.
+-- What a homomorphism of fields carries over: negatives, differences, inverses, points, words. It
+-- is injective.
 use Rattle.std.proofs.Common.{◌≡◌, ◌≢◌, ℕ, ◌^◌, List, map, refl, sym, ap, ◌∙◌}
 use Rattle.std.proofs.lemmas.List.{length-map}
 use Rattle.algebra.specs.Field.{FieldOps, IsRing, IsField, IsHomomorphism, sub}
@@ -27,11 +28,13 @@ module _ {A E : Type 0} (F : FieldOps A) (K : FieldOps E) (h : A → E) (R : IsR
   pub homomorphism-sub : (a b : A) → h (sub F a b) ≡ sub K (h a) (h b)
   homomorphism-sub a b = H.add a (F.neg b) ∙ ap (λ x. K.add (h a) x) (homomorphism-neg b)
 
-module _ {A E : Type 0} (F : FieldOps A) (K : FieldOps E) (h : A → E) (L : IsField F) (M : IsField K)
+module _ {A E : Type 0} (F : FieldOps A) (K : FieldOps E) (h : A → E) (L : IsField F)
+    (M : IsField K)
     (H : IsHomomorphism F K h) where
   pub homomorphism-inv : (x : A) → x ≢ F.zero → h (F.inv x) ≡ K.inv (h x)
   homomorphism-inv x n =
-      inverse_from_product K M (h x) (h (F.inv x)) (sym (H.mul x (F.inv x)) ∙ ap h (L.mul_inv x n) ∙ H.one)
+      inverse_from_product K M (h x) (h (F.inv x))
+      (sym (H.mul x (F.inv x)) ∙ ap h (L.mul_inv x n) ∙ H.one)
 
   -- what isn't zero has an inverse, whose image is an inverse of the image
   pub homomorphism-nonzero : (x : A) → x ≢ F.zero → h x ≢ K.zero
@@ -54,7 +57,8 @@ module _ {A E : Type 0} (F : FieldOps A) (K : FieldOps E) (h : A → E) (L : IsF
       (homomorphism-sub F K h L.ring M.ring H x y ∙ ap (λ a. sub K a (h y)) e ∙ M.add_neg (h y)))
 
 -- points over the extension, by the images of the roots
-module _ {A E : Type 0} (F : FieldOps A) (K : FieldOps E) (h : A → E) (H : IsHomomorphism F K h) (w : ℕ → A) where
+module _ {A E : Type 0} (F : FieldOps A) (K : FieldOps E) (h : A → E) (H : IsHomomorphism F K h)
+    (w : ℕ → A) where
   pub lifted_pt : (i k : ℕ) → h (pt F w i k) ≡ pt K (λ j. h (w j)) i k
   unfolding pt
   lifted_pt i k = homomorphism-pow F K h H (w k) (rev k i)
@@ -72,7 +76,8 @@ module _ {A E : Type 0} (F : FieldOps A) (K : FieldOps E) (h : A → E) (R : IsR
     (H : IsHomomorphism F K h) (w : ℕ → A) where
   -- values and words over it
   pub lifted_value : (c : List A) (shift : A) (i k : ℕ)
-      → h (val F c (coset_pt F w shift i k)) ≡ val K (map h c) (coset_pt K (λ j. h (w j)) (h shift) i k)
+      → h (val F c (coset_pt F w shift i k))
+      ≡ val K (map h c) (coset_pt K (λ j. h (w j)) (h shift) i k)
   lifted_value c shift i k =
       homomorphism-val F K h R S H c (coset_pt F w shift i k)
       ∙ ap (λ x. val K (map h c) x) (lifted_coset_pt F K h H w shift i k)
@@ -80,7 +85,8 @@ module _ {A E : Type 0} (F : FieldOps A) (K : FieldOps E) (h : A → E) (R : IsR
   pub lifted_word : (k : ℕ) (c : List A) → map h (word F w k c) ≡ word K (λ j. h (w j)) k (map h c)
   lifted_word k c =
       map-tabulate h (2 ^ k) (λ i. val F c (pt F w i k))
-      ∙ tabulate-equal (2 ^ k) (λ i. h (val F c (pt F w i k))) (λ i. val K (map h c) (pt K (λ j. h (w j)) i k))
+      ∙ tabulate-equal (2 ^ k) (λ i. h (val F c (pt F w i k)))
+      (λ i. val K (map h c) (pt K (λ j. h (w j)) i k))
       (λ i _. homomorphism-val F K h R S H c (pt F w i k)
       ∙ ap (λ x. val K (map h c) x) (lifted_pt F K h H w i k))
 
@@ -89,7 +95,8 @@ module _ {A E : Type 0} (F : FieldOps A) (K : FieldOps E) (h : A → E) (R : IsR
   lifted_coset_word shift k c =
       map-tabulate h (2 ^ k) (λ i. val F c (coset_pt F w shift i k))
       ∙ tabulate-equal (2 ^ k) (λ i. h (val F c (coset_pt F w shift i k)))
-      (λ i. val K (map h c) (coset_pt K (λ j. h (w j)) (h shift) i k)) (λ i _. lifted_value c shift i k)
+      (λ i. val K (map h c) (coset_pt K (λ j. h (w j)) (h shift) i k))
+      (λ i _. lifted_value c shift i k)
 
   pub lifted_IsCosetWord : (shift : A) (k d : ℕ) (ys : List A) → IsCosetWord F w shift k d ys
       → IsCosetWord K (λ j. h (w j)) (h shift) k d (map h ys)

@@ -1,4 +1,5 @@
--- Which points lie on a coset: those whose `2^k`-th power is the shift's. So disjoint cosets, and vanishing polynomials.
+-- Which points lie on a coset: those whose `2^k`-th power is the shift's. So disjoint cosets, and
+-- vanishing polynomials.
 use Rattle.std.proofs.Common.{◌≡◌, ◌≢◌, ℕ, zero, suc, ◌+◌, ◌-◌, ◌^◌, ◌<◌, ◌≤◌, ◌↔◌, refl, sym, ap, ◌∙◌, arith}
 use Rattle.std.proofs.Math.Nat.{pow-le-pow_right}
 use Rattle.algebra.specs.Field.{FieldOps, IsField, IsHomomorphism, sub, pow}
@@ -59,10 +60,15 @@ module _ {A : Type 0} (F : FieldOps A) (L : IsField F) where
 
   module _ (top : ℕ) (w : ℕ → A) (W : AreRoots F top w) where
     -- a root of unity of order dividing `2^k` is a point of the domain
-    pub turn_is_point : (k : ℕ) (y : A) → k ≤ top → pow F y (2 ^ k) ≡ 𝟙 → (i : ℕ) × (i < 2 ^ k) × (pt F w i k ≡ y)
+    pub turn_is_point : (k : ℕ) (y : A) → k ≤ top → pow F y (2 ^ k) ≡ 𝟙
+        → (i : ℕ) × (i < 2 ^ k) × (pt F w i k ≡ y)
     unfolding pt
-    turn_is_point zero y b e =
-        (zero, omega arith, ap (λ n. pow F (w zero) n) (rev-zero 0) ∙ pow-zero F (w zero) ∙ sym e ∙ pow-one F L.ring y)
+    turn_is_point zero y b e = (
+      zero,
+      omega arith,
+      ap (λ n. pow F (w zero) n) (rev-zero 0) ∙ pow-zero F (w zero) ∙ sym e
+          ∙ pow-one F L.ring y,
+    )
     turn_is_point (suc k) y b e =
         let h = turn_is_point k (y ⊗ y) (omega (arith, b)) squared in
         next h.0 h.1 (point-square F L top w W h.0 k b ∙ h.2)
@@ -77,12 +83,14 @@ module _ {A : Type 0} (F : FieldOps A) (L : IsField F) where
           | no other ↦ (
             suc (i + i),
             rw (double k) (omega (arith, l)),
-            point-opposite F L top w W i k b ∙ root_of_square (pt F w (i + i) (suc k)) y squares other,
+            point-opposite F L top w W i k b
+                ∙ root_of_square (pt F w (i + i) (suc k)) y squares other,
           )
         ]
 
     -- the points of a coset have the shift's power
-    pub coset_power : (shift : A) (i k : ℕ) → k ≤ top → pow F (coset_pt F w shift i k) (2 ^ k) ≡ pow F shift (2 ^ k)
+    pub coset_power : (shift : A) (i k : ℕ) → k ≤ top
+        → pow F (coset_pt F w shift i k) (2 ^ k) ≡ pow F shift (2 ^ k)
     coset_power shift i k b =
         sym (pow-times F L.ring shift (pt F w i k) (2 ^ k))
         ∙ ap (λ p. pow F shift (2 ^ k) ⊗ p) (point-full_turn F L top w W i k b)
@@ -90,9 +98,11 @@ module _ {A : Type 0} (F : FieldOps A) (L : IsField F) where
 
     -- and no other points have it
     pub point_from_power : (shift : A) → shift ≢ 𝟘 → (k : ℕ) (z : A) → k ≤ top
-        → pow F z (2 ^ k) ≡ pow F shift (2 ^ k) → (i : ℕ) × (i < 2 ^ k) × (coset_pt F w shift i k ≡ z)
+        → pow F z (2 ^ k) ≡ pow F shift (2 ^ k)
+        → (i : ℕ) × (i < 2 ^ k) × (coset_pt F w shift i k ≡ z)
     point_from_power shift n k z b e =
-        let h = turn_is_point k (z ⊗ inv shift) b (sub-eq F L.ring (vanishing_where_powers_agree shift z k n e)) in (
+        let h = turn_is_point k (z ⊗ inv shift) b
+        (sub-eq F L.ring (vanishing_where_powers_agree shift z k n e)) in (
           h.0,
           h.1,
           ap (λ p. shift ⊗ p) h.2
@@ -102,7 +112,8 @@ module _ {A : Type 0} (F : FieldOps A) (L : IsField F) where
         )
 
     -- a vanishing polynomial is one constant on another coset of the size
-    pub vanishing_on_coset : (s t : A) (i k : ℕ) → k ≤ top → vanishing F s k (coset_pt F w t i k) ≡ vanishing F s k t
+    pub vanishing_on_coset : (s t : A) (i k : ℕ) → k ≤ top
+        → vanishing F s k (coset_pt F w t i k) ≡ vanishing F s k t
     vanishing_on_coset s t i k b =
         ap (λ p. sub F p 𝟙)
         (sym (pow-times F L.ring (coset_pt F w t i k) (inv s) (2 ^ k))
@@ -110,7 +121,8 @@ module _ {A : Type 0} (F : FieldOps A) (L : IsField F) where
         ∙ pow-times F L.ring t (inv s) (2 ^ k))
 
 -- the test, for points of an extension
-module _ {A E : Type 0} (F : FieldOps A) (K : FieldOps E) (lift : A → E) (L : IsField F) (M : IsField K)
+module _ {A E : Type 0} (F : FieldOps A) (K : FieldOps E) (lift : A → E) (L : IsField F)
+    (M : IsField K)
     (H : IsHomomorphism F K lift) (top : ℕ) (w : ℕ → A) (W : AreRoots F top w) (shift : A) where
   pub power_on_coset : (k : ℕ) (z : E) → k ≤ top → IsOnCoset F lift w shift k z
       → pow K z (2 ^ k) ≡ lift (pow F shift (2 ^ k))
@@ -122,10 +134,13 @@ module _ {A E : Type 0} (F : FieldOps A) (K : FieldOps E) (lift : A → E) (L : 
   pub on_coset_from_power : shift ≢ F.zero → (k : ℕ) (z : E) → k ≤ top
       → pow K z (2 ^ k) ≡ lift (pow F shift (2 ^ k)) → IsOnCoset F lift w shift k z
   on_coset_from_power n k z b e =
-      let h = point_from_power K M top (λ j. lift (w j)) (lifted_roots F K lift L M H top w W) (lift shift) (homomorphism-nonzero F K lift L M H shift n) k z b (e ∙ homomorphism-pow F K lift H shift (2 ^ k)) in
+      let h = point_from_power K M top (λ j. lift (w j)) (lifted_roots F K lift L M H top w W)
+      (lift shift) (homomorphism-nonzero F K lift L M H shift n) k z b
+      (e ∙ homomorphism-pow F K lift H shift (2 ^ k)) in
       (h.0, h.1, lifted_coset_pt F K lift H w shift h.0 k ∙ h.2)
 
-  pub off_coset_from_power : (k : ℕ) (z : E) → k ≤ top → pow K z (2 ^ k) ≢ lift (pow F shift (2 ^ k))
+  pub off_coset_from_power : (k : ℕ) (z : E) → k ≤ top
+      → pow K z (2 ^ k) ≢ lift (pow F shift (2 ^ k))
       → IsOffCoset F lift w shift k z
   off_coset_from_power k z b n = λ i l e. n (power_on_coset k z b (i, l, e))
 
@@ -135,7 +150,8 @@ module _ {A E : Type 0} (F : FieldOps A) (K : FieldOps E) (lift : A → E) (L : 
   off_smaller_coset j k z s b off = λ i l e.
       off i (below i l)
       (ap (λ n. lift (coset_pt F w shift i n)) (let sum : k ≡ j + (k - j) = omega (arith, s) in sum)
-      ∙ ap (λ x. lift (F.mul shift x)) (point-restrict F L top w W i j (k - j) l (omega (arith, s, b)))
+      ∙ ap (λ x. lift (F.mul shift x))
+      (point-restrict F L top w W i j (k - j) l (omega (arith, s, b)))
       ∙ e)
     where
       below : (i : ℕ) → i < 2 ^ j → i < 2 ^ k
@@ -152,19 +168,24 @@ module _ {A E : Type 0} (F : FieldOps A) (K : FieldOps E) (lift : A → E) (L : 
   point_test n k b z = record {
     point = (on_coset_from_power n k z b, power_on_coset k z b);
     differences = λ other j i s l.
-        off_coset_difference j z (off_smaller_coset j k z s b (off_coset_from_power k z b other)) i l;
+        off_coset_difference j z (off_smaller_coset j k z s b
+        (off_coset_from_power k z b other)) i l;
   }
 
-module _ {A : Type 0} (F : FieldOps A) (L : IsField F) (top : ℕ) (w : ℕ → A) (W : AreRoots F top w) where
+module _ {A : Type 0} (F : FieldOps A) (L : IsField F) (top : ℕ) (w : ℕ → A)
+    (W : AreRoots F top w) where
   pub vanishing_exactly : (shift : A) → shift ≢ F.zero → (k : ℕ) → k ≤ top → (x : A)
       → (vanishing F shift k x ≡ F.zero) ↔ IsOnCoset F (λ y. y) w shift k x
   vanishing_exactly shift n k b x = (
-    λ e. point_from_power F L top w W shift n k x b (powers_agree_where_vanishing F L shift x k n e),
-    λ h. vanishing_where_powers_agree F L shift x k n (power_on_coset F F (λ y. y) L L (identity_homomorphism F) top w W shift k x b h),
+    λ e. point_from_power F L top w W shift n k x b
+        (powers_agree_where_vanishing F L shift x k n e),
+    λ h. vanishing_where_powers_agree F L shift x k n
+        (power_on_coset F F (λ y. y) L L (identity_homomorphism F) top w W shift k x b h),
   )
 
   -- cosets whose shifts' quotient isn't a root of unity of that order have no point in common
-  pub cosets_apart : (s t : A) → s ≢ F.zero → (k : ℕ) → k ≤ top → pow F (F.mul t (F.inv s)) (2 ^ k) ≢ F.one
+  pub cosets_apart : (s t : A) → s ≢ F.zero → (k : ℕ) → k ≤ top
+      → pow F (F.mul t (F.inv s)) (2 ^ k) ≢ F.one
       → AreApart F w s t k
   cosets_apart s t n k b other = record {
     disjoint = λ i j l e.

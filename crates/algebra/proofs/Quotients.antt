@@ -13,7 +13,8 @@ use Rattle.algebra.proofs.Values.{val-nil, val-cons, val-append}
 use Rattle.algebra.proofs.Lifting.{lifted_coset_pt, lifted_value, lifted_off_coset}
 use Rattle.algebra.proofs.Lists.{get_or-tabulate, tabulate-equal}
 
-pub length-quotients : {A : Type 0} (F : FieldOps A) (z x : A) (ys vs : List A) → length ys ≡ length vs
+pub length-quotients : {A : Type 0} (F : FieldOps A) (z x : A) (ys vs : List A)
+    → length ys ≡ length vs
     → length (quotients F z x ys vs) ≡ length ys
 length-quotients F z x [] vs e = refl
 length-quotients F z x (y ∷ ys) [] e = absurd cc
@@ -33,15 +34,19 @@ module _ {A : Type 0} (F : FieldOps A) (L : IsField F) where
       → (val F c z ⊖ val F c x) ⊗ inv (z ⊖ x) ≡ val F (quotient F c z) x
   quotient_value c z x n =
       ap (λ v. (val F c z ⊖ v) ⊗ inv (z ⊖ x)) (divide F L.ring c z x)
-      ∙ combine F L.ring {k = val F (quotient F c z) x} (L.mul_inv (z ⊖ x) (λ e. n (sym (sub-eq F L.ring e))))
-      (ring F L.ring 5 (λ z x y q i. (y :- (y :+ (x :- z) :* q)) :* i :+ q :* :1 := q :+ q :* ((z :- x) :* i)) refl
+      ∙ combine F L.ring {k = val F (quotient F c z) x}
+      (L.mul_inv (z ⊖ x) (λ e. n (sym (sub-eq F L.ring e))))
+      (ring F L.ring 5 (λ z x y q i. (y :- (y :+ (x :- z) :* q)) :* i :+ q :* :1
+      := q :+ q :* ((z :- x) :* i)) refl
       z x (val F c z) (val F (quotient F c z) x) (inv (z ⊖ x)))
 
   -- column by column
   pub quotient_values : (cs : List (List A)) (z x : A) → x ≢ z
-      → quotients F z x (map (λ c. val F c z) cs) (map (λ c. val F c x) cs) ≡ map (λ c. val F (quotient F c z) x) cs
+      → quotients F z x (map (λ c. val F c z) cs) (map (λ c. val F c x) cs)
+      ≡ map (λ c. val F (quotient F c z) x) cs
   quotient_values [] z x n = refl
-  quotient_values (c ∷ cs) z x n = ap₂ (λ v vs. v ∷ vs) (quotient_value c z x n) (quotient_values cs z x n)
+  quotient_values (c ∷ cs) z x n =
+      ap₂ (λ v vs. v ∷ vs) (quotient_value c z x n) (quotient_values cs z x n)
 
   -- the quotients by powers of `alpha`, together, are the quotient of the compressed values
   pub quotients_compressed : (z x alpha : A) (ys vs : List A) → length ys ≡ length vs
@@ -57,7 +62,8 @@ module _ {A : Type 0} (F : FieldOps A) (L : IsField F) where
         val-cons F L.ring v vs alpha,
         quotients_compressed z x alpha ys vs cc,
       )
-      (ring F L.ring 6 (λ y v i a p q. (y :- v) :* i :+ a :* ((p :- q) :* i) := (y :+ a :* p :- (v :+ a :* q)) :* i) refl
+      (ring F L.ring 6 (λ y v i a p q. (y :- v) :* i :+ a :* ((p :- q) :* i)
+      := (y :+ a :* p :- (v :+ a :* q)) :* i) refl
       y v (inv (z ⊖ x)) alpha (val F ys alpha) (val F vs alpha))
 
   -- after other terms, by the powers that follow theirs
@@ -66,11 +72,13 @@ module _ {A : Type 0} (F : FieldOps A) (L : IsField F) where
       ≡ val F ts alpha ⊕ pow F alpha (length ts) ⊗ ((val F ys alpha ⊖ val F vs alpha) ⊗ inv (z ⊖ x))
   quotients_joined z x alpha ts ys vs e =
       val-append F L.ring ts (quotients F z x ys vs) alpha
-      ∙ ap (λ v. val F ts alpha ⊕ pow F alpha (length ts) ⊗ v) (quotients_compressed z x alpha ys vs e)
+      ∙ ap (λ v. val F ts alpha ⊕ pow F alpha (length ts) ⊗ v)
+      (quotients_compressed z x alpha ys vs e)
 
   module _ (w : ℕ → A) (shift : A) (k : ℕ) where
     pub coset_word-quotient : (c : List A) (z : A) → IsOffCoset F (λ x. x) w shift k z
-        → tabulate (2 ^ k) (λ i. (val F c z ⊖ val F c (coset_pt F w shift i k)) ⊗ inv (z ⊖ coset_pt F w shift i k))
+        → tabulate (2 ^ k) (λ i. (val F c z ⊖ val F c (coset_pt F w shift i k)) ⊗ inv
+        (z ⊖ coset_pt F w shift i k))
         ≡ coset_word F w shift k (quotient F c z)
     coset_word-quotient c z off =
         tabulate-equal (2 ^ k)
@@ -78,7 +86,8 @@ module _ {A : Type 0} (F : FieldOps A) (L : IsField F) where
         (λ i. val F (quotient F c z) (coset_pt F w shift i k))
         (λ i l. quotient_value c z (coset_pt F w shift i k) (off i l))
 
-module _ {A E : Type 0} (F : FieldOps A) (K : FieldOps E) (lift : A → E) (L : IsField F) (M : IsField K)
+module _ {A E : Type 0} (F : FieldOps A) (K : FieldOps E) (lift : A → E) (L : IsField F)
+    (M : IsField K)
     (H : IsHomomorphism F K lift) (w : ℕ → A) (shift : A) (k : ℕ) where
   abbrev roots : ℕ → E
   roots j = lift (w j)
@@ -87,7 +96,8 @@ module _ {A E : Type 0} (F : FieldOps A) (K : FieldOps E) (lift : A → E) (L : 
   pub quotient_coset_word : (d : ℕ) (ys : List A) (y : IsCosetWord F w shift k d ys) (z : E)
       → IsOffCoset F lift w shift k z
       → IsCosetWord K (λ j. lift (w j)) (lift shift) k (pred d)
-      (tabulate (2 ^ k) (λ i. K.mul (sub K (val K (map lift y.polynomial) z) (lift (get_or ys i F.zero)))
+      (tabulate (2 ^ k) (λ i. K.mul
+      (sub K (val K (map lift y.polynomial) z) (lift (get_or ys i F.zero)))
       (K.inv (sub K z (lift (coset_pt F w shift i k))))))
   quotient_coset_word d ys y z off =
       let c = map lift y.polynomial in
@@ -96,12 +106,16 @@ module _ {A E : Type 0} (F : FieldOps A) (K : FieldOps E) (lift : A → E) (L : 
         degree = length-quotient K c z ∙ ap pred (length-map y.polynomial lift ∙ y.degree);
         values =
             tabulate-equal (2 ^ k)
-            (λ i. K.mul (sub K (val K c z) (lift (get_or ys i F.zero))) (K.inv (sub K z (lift (coset_pt F w shift i k)))))
-            (λ i. K.mul (sub K (val K c z) (val K c (coset_pt K roots (lift shift) i k))) (K.inv (sub K z (coset_pt K roots (lift shift) i k))))
+            (λ i. K.mul (sub K (val K c z) (lift (get_or ys i F.zero)))
+            (K.inv (sub K z (lift (coset_pt F w shift i k)))))
+            (λ i. K.mul (sub K (val K c z) (val K c (coset_pt K roots (lift shift) i k)))
+            (K.inv (sub K z (coset_pt K roots (lift shift) i k))))
             (λ i l. ap₂ (λ v x. K.mul (sub K (val K c z) v) (K.inv (sub K z x)))
             (ap (λ zs. lift (get_or zs i F.zero)) y.values
-            ∙ ap lift (get_or-tabulate (2 ^ k) (λ j. val F y.polynomial (coset_pt F w shift j k)) i F.zero l)
+            ∙ ap lift (get_or-tabulate (2 ^ k)
+            (λ j. val F y.polynomial (coset_pt F w shift j k)) i F.zero l)
             ∙ lifted_value F K lift L.ring M.ring H w y.polynomial shift i k)
             (lifted_coset_pt F K lift H w shift i k))
-            ∙ coset_word-quotient K M roots (lift shift) k c z (lifted_off_coset F K lift H w shift k z off);
+            ∙ coset_word-quotient K M roots (lift shift) k c z
+            (lifted_off_coset F K lift H w shift k z off);
       }

@@ -1,5 +1,6 @@
 //! Two polynomials over BabyBear: their values over a coset, and the first's off it by its values.
 
+use crate::laws::value_at_zero_law;
 use algebra::{barycentric_law, interpolation_law, roots_law, words_law};
 use p3_field::{BabyBear, BabyBear4, ExtensionField, Field, TwoAdicMultiplicativeCoset};
 
@@ -61,6 +62,7 @@ fn values_off_a_coset(rt: HostRuntime) {
     let value = barycentric(2, BabyBear4::from_u64(POINTS[5]));
     assert_eq!(rt; value, Some(BabyBear4::from_u64(FIRST_COLUMN[5])));
     barycentric_law::<BabyBear, BabyBear4>();
+    value_at_zero_law::<BabyBear, BabyBear4>();
     interpolation_law::<BabyBear4>();
     roots_law::<BabyBear4>();
     words_law::<BabyBear>();

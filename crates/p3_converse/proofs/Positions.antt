@@ -1,6 +1,8 @@
 -- The interleaved of polynomials that stand in vectors.
 use Rattle.std.proofs.Common.{◌≡◌, ℕ, zero, suc, ◌+◌, ◌^◌, ◌<◌, List, [], ◌∷◌, ◌++◌, Vec, All, vec_len, length, get_or, take, subst, sym, ap, ◌∙◌, arith, inl, inr}
-use Rattle.std.proofs.lemmas.List.{length-map, map-append, take_more}
+use Rattle.std.proofs.Common.{length-append}
+use Rattle.std.proofs.Math.Seq.{get_or-append_seam}
+use Rattle.std.proofs.lemmas.List.{get_or_append_left, length-map, map-append, take_more}
 use Rattle.std.proofs.lemmas.Bool.{cases_lt}
 use Rattle.std.proofs.Math.Nat.{pow-le-pow_right}
 use Rattle.algebra.specs.Field.{FieldOps}
@@ -46,3 +48,10 @@ one_length-vectors (v ∷ vs) d h (suc k) e l = one_length-vectors vs d (λ j p 
 -- a fact of each value of a function
 pub all-tabulate : {A : Type 0} (P : A → Type 0) (n : ℕ) (f : ℕ → A) → ((s : ℕ) → P (f s)) → All P (tabulate n f)
 all-tabulate P n f h k e l = subst P (sym (get_or-tabulate n f k e (omega (arith, l, length-tabulate n f)))) (h k)
+
+-- of each but the last, and of the last
+pub all-front : {A : Type 0} (P : A → Type 0) (xs : List A) (y : A) → All P (xs ++ y ∷ []) → All P xs
+all-front P xs y h k e l = subst P (get_or_append_left xs (y ∷ []) e k l) (h k e (omega (arith, l, length-append xs (y ∷ []))))
+
+pub all-last : {A : Type 0} (P : A → Type 0) (xs : List A) (y : A) → All P (xs ++ y ∷ []) → P y
+all-last P xs y h = subst P (get_or-append_seam xs y [] y) (h (length xs) y (omega (arith, length-append xs (y ∷ []))))

@@ -1,7 +1,7 @@
 -- The converse of folding.
 use Rattle.std.specs.Prelude.{◌≡◌, ℕ, ◌+◌, ◌*◌, ◌^◌, ◌<◌, ◌≤◌, List, [], ◌∷◌, length, map, vec_len}
 use Rattle.std.specs.declared.vec.Vec.{Vec}
-use Rattle.algebra.specs.Field.{FieldOps}
+use Rattle.algebra.specs.Field.{FieldOps, pow}
 use Rattle.algebra.specs.Polynomial.{val, tabulate}
 use Rattle.algebra.specs.TwoAdic.{AreRoots, pt}
 use Rattle.p3_fri_core.specs.Fold.{fold_value}
@@ -26,6 +26,13 @@ module _ {A : Type 0} (F : FieldOps A) (w : ℕ → A) (i h : ℕ) where
   FoldsTo k ys betas polys =
       map (λ beta. fold_value F w i h k beta ys) betas ≡ map (λ p. val F p (pt F w i h)) polys
 
+  -- the same with the value `u` of an input that is rolled in: `beta^(2^k) * u` comes to each fold
+  abbrev pub FoldsWithInput : (k : ℕ) (ys : List A) (u : A) (betas : List A) (polys : List (List A))
+      → Type 0
+  FoldsWithInput k ys u betas polys =
+      map (λ beta. F.add (fold_value F w i h k beta ys) (F.mul (pow F beta (2 ^ k)) u)) betas
+      ≡ map (λ p. val F p (pt F w i h)) polys
+
 module _ {A : Type 0} (F : FieldOps A) where
   -- over every family of roots of unity, each row of `2^k` values that folds at the betas to the
   -- polynomials has the values of `unfolded` at its points
@@ -34,3 +41,12 @@ module _ {A : Type 0} (F : FieldOps A) where
     pub rows : (top : ℕ) (w : ℕ → A) → AreRoots F top w
         → (i h : ℕ) (ys : List A) → h + k ≤ top → i < 2 ^ h → length ys ≡ 2 ^ k
         → FoldsTo F w i h k ys betas polys → ys ≡ row_values F w i h k unfolded
+
+  -- the same with an input: the row has the values of `word` at its points, and the input that of
+  -- `input` at the point of the folded domain
+  pub record IsUnfoldingWithInput (k : ℕ) (betas : List A) (polys : List (List A)) (word : List A)
+      (input : List A) : Type 0 where
+    pub rows : (top : ℕ) (w : ℕ → A) → AreRoots F top w
+        → (i h : ℕ) (ys : List A) (u : A) → h + k ≤ top → i < 2 ^ h → length ys ≡ 2 ^ k
+        → FoldsWithInput F w i h k ys u betas polys
+        → (ys ≡ row_values F w i h k word) × (u ≡ val F input (pt F w i h))

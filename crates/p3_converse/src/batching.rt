@@ -10,9 +10,9 @@ use p3_field::Field;
 use std::alloc::{AllocError, Global};
 
 /// The polynomials that sum, with the powers of each `alphas[t]`, to `polys[t]`: the converse of
-/// batching with the powers of one challenge. Wherever values at a point sum, with the powers of each
-/// alpha, to the value of the polynomial beside it, they are these polynomials' values there, the one
-/// without a factor first.
+/// batching with the powers of one challenge. Wherever values at a point sum, with the powers of
+/// each alpha, to the value of the polynomial beside it, they are these polynomials' values
+/// there, the one without a factor first.
 ///
 /// There is at least one alpha, no two of them are equal, and there are as many polynomials of one
 /// length, as coefficients, the constant first; the answer has as many polynomials of that length.

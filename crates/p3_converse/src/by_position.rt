@@ -9,9 +9,9 @@ use crate::newton::{interpolate_each, newton_weights};
 use p3_field::Field;
 use std::alloc::{AllocError, Global};
 
-/// For each position of the polynomials, of `degree_bound` coefficients each, the coefficients of the
-/// one polynomial through the points and what the polynomials have there, one position after another.
-/// `capacity` is how many that are.
+/// For each position of the polynomials, of `degree_bound` coefficients each, the coefficients of
+/// the one polynomial through the points and what the polynomials have there, one position after
+/// another. `capacity` is how many that are.
 pub fn interpolate_positions<F: Field>(
     alloc: Global,
     points: &[F],

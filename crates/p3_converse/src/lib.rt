@@ -12,4 +12,4 @@ pub mod unfolding;
 
 pub use crate::batching::unbatch;
 pub use crate::quotient::unquotient;
-pub use crate::unfolding::unfold;
+pub use crate::unfolding::{UnfoldedWithInput, unfold, unfold_with_input};

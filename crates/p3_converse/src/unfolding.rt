@@ -1,10 +1,12 @@
 //! Undoing the fold of rows.
 
-ghost use Rattle.std.specs.Prelude.{◌≡◌, ◌<◌, ◌*◌, ◌^◌, length, vec_len, All, IfOk};
+ghost use Rattle.std.specs.Prelude.{◌≡◌, ◌<◌, ◌+◌, ◌*◌, ◌^◌, length, vec_len, All, IfOk};
 ghost use Rattle.algebra.specs.Interpolation.{AreDistinct};
-ghost use Rattle.p3_converse.specs.Unfolding.{lists, common_length, IsUnfolding};
+ghost use Rattle.p3_converse.specs.Unfolding.{lists, common_length};
+ghost use Rattle.p3_converse.specs.Unfolding.{IsUnfolding, IsUnfoldingWithInput};
 
-use crate::by_position::interpolate_positions;
+use crate::batching::unbatch;
+use crate::by_position::{interleave, interpolate_positions};
 use p3_field::Field;
 use std::alloc::{AllocError, Global};
 
@@ -39,4 +41,51 @@ pub fn unfold<EF: Field>(
     let arity = 1 << log_arity;
     let degree_bound = polys[0].len();
     interpolate_positions(alloc, betas, polys, degree_bound, degree_bound * arity)
+}
+
+/// The polynomials behind a word and an input that is rolled in where the word is folded.
+#[derive(Debug, Drop)]
+pub struct UnfoldedWithInput<EF> {
+    /// The word's polynomial.
+    pub word: Vec<EF>,
+    /// The input's polynomial.
+    pub input: Vec<EF>,
+}
+
+/// The same with an input that is rolled in after the fold: wherever a row of `2^log_arity`
+/// values and the value `u` of an input are such that the row's fold at each beta plus
+/// `beta^(2^log_arity) * u` is the value of the polynomial beside it at the row's point in the
+/// folded domain, the row has the values of one polynomial at its own points, and `u` is that of
+/// another at the folded point.
+///
+/// There are `2^log_arity + 1` betas, no two of them equal, and as many polynomials of one length
+/// `d`, as coefficients, the constant first; the word's polynomial has `d * 2^log_arity`
+/// coefficients, the input's `d`. `Err` means that memory was wanting.
+///
+/// The input's polynomial is the part of `unbatch` that stands beside the highest power of a beta.
+/// That takes some `d * 4^log_arity` multiplications and one inversion.
+pub fn unfold_with_input<EF: Field>(
+    alloc: Global,
+    log_arity: usize,
+    betas: &[EF],
+    polys: &[Vec<EF>],
+) -> Result<UnfoldedWithInput<EF>, AllocError>
+    requires arity { length betas.now ≡ 2 ^ log_arity + 1 }
+    requires distinct { AreDistinct betas.now }
+    requires as_many { length polys.now ≡ 2 ^ log_arity + 1 }
+    requires one_length { All (λ p. vec_len p ≡ common_length polys.now) polys.now }
+    requires fits { common_length polys.now * 2 ^ log_arity < 2 ^ 64 }
+    ensures word_length { IfOk result
+        (λ u. vec_len u.word ≡ common_length polys.now * 2 ^ log_arity) }
+    ensures input_length { IfOk result (λ u. vec_len u.input ≡ common_length polys.now) }
+    ensures rows { IfOk result (λ u. IsUnfoldingWithInput EF.ops log_arity betas.now
+        (lists polys.now) u.word.items u.input.items) }
+{
+    let arity = 1 << log_arity;
+    let degree_bound = polys[0].len();
+    let mut parts = unbatch(alloc, betas, polys)?;
+    let input = parts.pop().unwrap();
+    let mut word = Vec::with_capacity(alloc, degree_bound * arity)?;
+    interleave(&parts, degree_bound, &mut word)?;
+    Ok(UnfoldedWithInput { word, input })
 }

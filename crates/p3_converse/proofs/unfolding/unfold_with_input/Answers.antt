@@ -1,0 +1,70 @@
+use Rattle.std.proofs.Common.{◌≡◌, ◌<◌, ◌*◌, ◌^◌, [], ◌∷◌, ◌++◌, All, length, vec_len, subst, sym, ap, ◌∙◌, arith, length-append}
+use Rattle.std.proofs.lemmas.List.{map-append}
+use Rattle.std.specs.Option.{option_to_list}
+use Rattle.p3_converse.specs.Positions.{coefficients_at, interleaved}
+use Rattle.p3_converse.specs.Batching.{IsUnbatching}
+use Rattle.p3_converse.specs.Unfolding.{lists, common_length, IsUnfoldingWithInput}
+use Rattle.p3_converse.proofs.Positions.{length-coefficients_at, length-lists, common_length-first, one_length-lists, log_small, all-front, all-last}
+use Rattle.p3_converse.proofs.Concatenated.{length-concatenated}
+use Rattle.p3_converse.proofs.Unfolded.{is_unfolding_with_input}
+use Rattle.p3_converse.proofs.unfolding.unfold_with_input.Goals as goal
+
+pub overflow_shl-arity : goal.overflow_shl-arity
+overflow_shl-arity g c = log_small c.args.log_arity (omega (arith, c.requires.arity))
+
+pub interleave-requires-clause-one_length : goal.interleave-requires-clause-one_length
+interleave-requires-clause-one_length g c =
+    let polys = c.args.polys.now in
+    let parts = c.pop.new.self.items in
+    let input = c.unwrap-input.result in
+    let some : 0 < length polys = omega (arith, c.requires.as_many) in
+    let degree : c.len-degree_bound.result ≡ common_length polys = c.len-degree_bound.ensures ∙ common_length-first polys c.index-polys-0.result some c.index-polys-0.is in
+    let all : c.in_ok-parts.parts.items ≡ parts ++ input ∷ [] = c.pop.ensures.items ∙ ap (λ o. parts ++ option_to_list o) c.unwrap-input.ensures in
+    subst (λ vs. All (λ p. vec_len p ≡ c.len-degree_bound.result) vs) (sym c.deref.ensures.value)
+    (all-front (λ p. vec_len p ≡ c.len-degree_bound.result) parts input
+    (subst (λ vs. All (λ p. vec_len p ≡ c.len-degree_bound.result) vs) all (λ k e l. c.in_ok-parts.ensures.lengths k e l ∙ sym degree)))
+
+pub returns-clause-word_length : goal.returns-clause-word_length
+returns-clause-word_length g c =
+    let F = g.EF.Field.ops in
+    let polys = c.args.polys.now in
+    let parts = c.pop.new.self.items in
+    let input = c.unwrap-input.result in
+    let some : 0 < length polys = omega (arith, c.requires.as_many) in
+    let degree : c.len-degree_bound.result ≡ common_length polys = c.len-degree_bound.ensures ∙ common_length-first polys c.index-polys-0.result some c.index-polys-0.is in
+    let all : c.in_ok-parts.parts.items ≡ parts ++ input ∷ [] = c.pop.ensures.items ∙ ap (λ o. parts ++ option_to_list o) c.unwrap-input.ensures in
+    let count : length parts ≡ 2 ^ c.args.log_arity = omega (arith, c.in_ok-parts.parts.ok.0, c.in_ok-parts.ensures.count, ap length all, length-append parts (input ∷ []), c.requires.arity) in
+    c.interleave.new.entries.ok.0
+    ∙ ap length c.in_ok-interleave.ensures
+    ∙ length-concatenated (2 ^ c.args.log_arity) c.len-degree_bound.result (coefficients_at F (lists c.deref.result.now))
+    (λ m l. length-coefficients_at F (lists c.deref.result.now) m ∙ length-lists c.deref.result.now ∙ ap length c.deref.ensures.value ∙ count)
+    ∙ ap (λ d. d * 2 ^ c.args.log_arity) degree
+
+pub returns-clause-input_length : goal.returns-clause-input_length
+returns-clause-input_length g c =
+    let polys = c.args.polys.now in
+    let parts = c.pop.new.self.items in
+    let input = c.unwrap-input.result in
+    let all : c.in_ok-parts.parts.items ≡ parts ++ input ∷ [] = c.pop.ensures.items ∙ ap (λ o. parts ++ option_to_list o) c.unwrap-input.ensures in
+    all-last (λ p. vec_len p ≡ common_length polys) parts input (subst (λ vs. All (λ p. vec_len p ≡ common_length polys) vs) all c.in_ok-parts.ensures.lengths)
+
+pub returns-clause-rows : goal.returns-clause-rows
+returns-clause-rows g c =
+    let F = g.EF.Field.ops in
+    let k = c.args.log_arity in
+    let betas = c.args.betas.now in
+    let polys = c.args.polys.now in
+    let parts = c.pop.new.self.items in
+    let input = c.unwrap-input.result in
+    let d = c.len-degree_bound.result in
+    let some : 0 < length polys = omega (arith, c.requires.as_many) in
+    let degree : d ≡ common_length polys = c.len-degree_bound.ensures ∙ common_length-first polys c.index-polys-0.result some c.index-polys-0.is in
+    let all : c.in_ok-parts.parts.items ≡ parts ++ input ∷ [] = c.pop.ensures.items ∙ ap (λ o. parts ++ option_to_list o) c.unwrap-input.ensures in
+    let count : length parts ≡ 2 ^ k = omega (arith, c.in_ok-parts.parts.ok.0, c.in_ok-parts.ensures.count, ap length all, length-append parts (input ∷ []), c.requires.arity) in
+    let lengths : All (λ p. vec_len p ≡ d) parts =
+    all-front (λ p. vec_len p ≡ d) parts input (subst (λ vs. All (λ p. vec_len p ≡ d) vs) all (λ k e l. c.in_ok-parts.ensures.lengths k e l ∙ sym degree)) in
+    subst (λ word. IsUnfoldingWithInput F k betas (lists polys) word input.items)
+    (sym (c.in_ok-interleave.ensures ∙ ap (λ vs. interleaved F (lists vs) d) c.deref.ensures.value))
+    (is_unfolding_with_input F g.met.EF.Field.laws k d betas (lists polys) (lists parts) input.items c.requires.arity (length-lists parts ∙ count)
+    (λ s e l. one_length-lists parts d lengths s e l)
+    (subst (λ ps. IsUnbatching F betas (lists polys) ps) (ap (λ vs. lists vs) all ∙ map-append (λ v. v.items) parts (input ∷ [])) c.in_ok-parts.ensures.values))
