@@ -4,5 +4,4 @@ pub mod Turns
 pub mod Pushed
 pub mod NoBits
 pub mod Reached
-pub mod Indices
 pub mod Found

@@ -1,7 +1,6 @@
 pub mod Steps
 pub mod Fits
 pub mod Failures
-pub mod Indices
 pub mod Labels
 pub mod Phases
 pub mod Pow
