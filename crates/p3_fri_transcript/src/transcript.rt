@@ -1,6 +1,6 @@
-//! The transcript of the low-degree test: what is exchanged (the shape), what is absorbed first (its
-//! seed), and the calls of both sides, each of which plays some steps and says by the replay what
-//! was drawn.
+//! The transcript of the low-degree test: what is exchanged (the shape), what is absorbed first
+//! (its seed), and the calls of both sides, each of which plays some steps and says by the replay
+//! what was drawn.
 //!
 //! The steps, with the label of each, for `r` rounds:
 //!

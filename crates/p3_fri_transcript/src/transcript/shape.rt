@@ -57,7 +57,8 @@ impl FriShape {
         requires falling { IsStrictlyFalling log_heights.now }
         requires positive_cap { 0 < parameters.now.max_log_arity }
         requires log_final_poly_len_below_64 { parameters.now.log_final_poly_len < 64 }
-        requires final_height_fits { parameters.now.log_blowup + parameters.now.log_final_poly_len < 2 ^ 64 }
+        requires final_height_fits { parameters.now.log_blowup + parameters.now.log_final_poly_len
+            < 2 ^ 64 }
         ensures { IfOk result (λ shape.
             let final_height = parameters.now.log_blowup + parameters.now.log_final_poly_len in
             fri_shape shape ≡ record {
