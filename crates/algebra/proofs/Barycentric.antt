@@ -10,7 +10,7 @@ use Rattle.algebra.specs.Cosets.{coset_pt, IsOffCoset, vanishing}
 use Rattle.algebra.specs.Words.{coset_word}
 use Rattle.algebra.specs.Barycentric.{barycentric, barycentric_weight, barycentric_factor}
 use Rattle.algebra.proofs.Ring.{◌:+◌, ◌:*◌, ◌:-◌, ◌:=◌, ring, minus, :1, o}
-use Rattle.algebra.proofs.RingLaws.{mul_zero, one_mul, multiple-suc, multiple-zero, multiple-one, multiple-add}
+use Rattle.algebra.proofs.RingLaws.{one_mul, multiple-suc, multiple-zero, multiple-one, multiple-add}
 use Rattle.algebra.proofs.Combine.{combine, combine2, cancel_zero, cancel_factor, sub-eq}
 use Rattle.algebra.proofs.Powers.{double, pow-zero, pow-suc_is, pow-nonzero}
 use Rattle.algebra.proofs.Values.{evens, odds, stretched, val-nil, val-cons, val-one, val-halves, val-stretched, val-padded, val-shift}
@@ -231,8 +231,8 @@ module _ {A : Type 0} (F : FieldOps A) (L : IsField F) where
         -- so the factor makes the weighted values the value at `z`
         pub value_from_weights : shift ≢ 𝟘 → (c : List A) → length c ≡ 2 ^ k
             → vanishing F shift k z ⊗ inv (multiple F (2 ^ k))
-                ⊗ sum_below F (2 ^ k) (λ i. coset_pt F w shift i k ⊗ inv (z ⊖ coset_pt F w shift i k) ⊗ val F c (coset_pt F w shift i k))
-                ≡ val F c z
+            ⊗ sum_below F (2 ^ k) (λ i. coset_pt F w shift i k ⊗ inv (z ⊖ coset_pt F w shift i k) ⊗ val F c (coset_pt F w shift i k))
+            ≡ val F c z
         unfolding x weight
         value_from_weights nonzero c e =
             let p = pow F shift (2 ^ k) in

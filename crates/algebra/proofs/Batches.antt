@@ -1,16 +1,15 @@
 -- Batches by powers of one element: of polynomials, of words of one height, and of the quotients of opened matrices.
-use Rattle.std.proofs.Common.{◌≡◌, ◌≢◌, ℕ, ◌+◌, ◌^◌, ◌<◌, pred, List, [], ◌∷◌, ◌++◌, length, map, flat_map, get_or, replicate, All, refl, sym, ap, ap₂, ◌∙◌, length-append}
+use Rattle.std.proofs.Common.{◌≡◌, ◌≢◌, ℕ, ◌^◌, ◌<◌, pred, List, [], ◌∷◌, ◌++◌, length, map, flat_map, get_or, replicate, refl, sym, ap, ap₂, ◌∙◌, length-append}
 use Rattle.std.proofs.lemmas.List.{length-map, length-replicate, map-append}
 use Rattle.algebra.specs.Field.{FieldOps, IsRing, IsField, IsHomomorphism, pow}
-use Rattle.algebra.specs.Polynomial.{val, tabulate, quotient}
+use Rattle.algebra.specs.Polynomial.{val, quotient}
 use Rattle.algebra.specs.Cosets.{coset_pt, IsOffCoset}
-use Rattle.algebra.specs.Words.{coset_word, IsCosetWord}
+use Rattle.algebra.specs.Words.{IsCosetWord}
 use Rattle.algebra.specs.Quotients.{quotients, batch, Opened, values_at, row_at, opened_quotients, IsOpenedOff, quotient_word}
 use Rattle.algebra.proofs.Powers.{pow-add}
 use Rattle.algebra.proofs.Division.{length-quotient}
 use Rattle.algebra.proofs.Values.{add_lists, length-add_lists, val-nil, val-cons, val-add, val-scale, val-padded}
 use Rattle.algebra.proofs.Lifting.{lifted_coset_pt, lifted_value, lifted_off_coset}
-use Rattle.algebra.proofs.CosetWords.{coset_word-degree}
 use Rattle.algebra.proofs.Quotients.{quotient_values}
 use Rattle.algebra.proofs.Lists.{Each, each_from_All, get_or-tabulate, tabulate-equal}
 
@@ -33,9 +32,9 @@ module _ {A : Type 0} (F : FieldOps A) (d : ℕ) (alpha : A) where
 
 module _ {A : Type 0} (F : FieldOps A) (R : IsRing F) where
   open F use {add as ◌⊕◌, mul as ◌⊗◌}
+
   infixl 65 ◌⊕◌
   infixl 70 ◌⊗◌
-
   pub val-combination : (d : ℕ) (alpha : A) (cs : List (List A)) (x : A) → Each (λ c. length c ≡ d) cs
       → val F (combination F d alpha cs) x ≡ val F (map (λ c. val F c x) cs) alpha
   val-combination d alpha [] x h = val-padded F R [] d x ∙ val-nil F R x ∙ sym (val-nil F R alpha)
@@ -145,7 +144,7 @@ module _ {A E : Type 0} (F : FieldOps A) (K : FieldOps E) (lift : A → E) (L : 
 
   column-terms : (cs : List (List A)) (z : E) (i : ℕ) → x i ≢ z
       → quotients K z (lift (coset_pt F w shift i k)) (values_at F K lift cs z) (row_at F K lift cs (coset_pt F w shift i k))
-          ≡ map (λ q. val K q (x i)) (column_quotients F K lift cs z)
+      ≡ map (λ q. val K q (x i)) (column_quotients F K lift cs z)
   unfolding x
   column-terms cs z i n =
       ap (λ y. quotients K z y (values_at F K lift cs z) (row_at F K lift cs (coset_pt F w shift i k)))
@@ -161,7 +160,7 @@ module _ {A E : Type 0} (F : FieldOps A) (K : FieldOps E) (lift : A → E) (L : 
   point-terms : (cs : List (List A)) (zs : List E) (i : ℕ) → i < 2 ^ k
       → Each (λ z. IsOffCoset F lift w shift k z) zs
       → opened_quotients F K lift (coset_pt F w shift i k) (record { columns = cs; points = zs })
-          ≡ map (λ q. val K q (x i)) (point_quotients F K lift cs zs)
+      ≡ map (λ q. val K q (x i)) (point_quotients F K lift cs zs)
   unfolding x
   point-terms cs [] i l h = refl
   point-terms cs (z ∷ zs) i l h =
@@ -170,7 +169,7 @@ module _ {A E : Type 0} (F : FieldOps A) (K : FieldOps E) (lift : A → E) (L : 
 
   matrix-terms : (ms : List (Opened A E)) (i : ℕ) → i < 2 ^ k → Each (IsOpenedOff F lift w shift k d) ms
       → flat_map (opened_quotients F K lift (coset_pt F w shift i k)) ms
-          ≡ map (λ q. val K q (x i)) (quotient_polynomials F K lift ms)
+      ≡ map (λ q. val K q (x i)) (quotient_polynomials F K lift ms)
   matrix-terms [] i l h = refl
   matrix-terms (m ∷ ms) i l h =
       ap₂ (λ ts us. ts ++ us)

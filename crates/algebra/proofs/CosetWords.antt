@@ -1,5 +1,5 @@
 -- Words over a coset and over the domain itself, of larger degrees, and of fewer entries.
-use Rattle.std.proofs.Common.{◌≡◌, ◌≢◌, ℕ, suc, ◌+◌, ◌-◌, ◌^◌, ◌<◌, ◌≤◌, List, [], ◌∷◌, ◌++◌, length, replicate, take, refl, sym, ap, ap₂, ◌∙◌, arith, length-append}
+use Rattle.std.proofs.Common.{◌≡◌, ◌≢◌, ℕ, suc, ◌+◌, ◌-◌, ◌^◌, ◌≤◌, List, [], ◌∷◌, ◌++◌, length, replicate, take, refl, sym, ap, ap₂, ◌∙◌, arith, length-append}
 use Rattle.std.proofs.lemmas.List.{length-replicate}
 use Rattle.algebra.specs.Field.{FieldOps, IsRing, IsField}
 use Rattle.algebra.specs.Polynomial.{val, tabulate}
@@ -18,8 +18,8 @@ length-stretched F k s (c ∷ cs) = ap suc (length-stretched F (F.mul k s) s cs)
 
 module _ {A : Type 0} (F : FieldOps A) (R : IsRing F) (w : ℕ → A) where
   open F use {one as 𝟙, mul as ◌⊗◌, inv}
-  infixl 70 ◌⊗◌
 
+  infixl 70 ◌⊗◌
   -- a coset word is the word of the polynomial stretched by the shift
   pub coset_word-stretched : (shift : A) (k : ℕ) (c : List A)
       → coset_word F w shift k c ≡ word F w k (stretched F 𝟙 shift c)
@@ -59,8 +59,8 @@ module _ {A : Type 0} (F : FieldOps A) (R : IsRing F) (w : ℕ → A) where
 
 module _ {A : Type 0} (F : FieldOps A) (L : IsField F) (w : ℕ → A) where
   open F use {one as 𝟙, mul as ◌⊗◌, inv}
-  infixl 70 ◌⊗◌
 
+  infixl 70 ◌⊗◌
   -- and back, by the inverse of a shift that isn't zero
   pub coset_word_from_word : (shift : A) → shift ≢ F.zero → (k d : ℕ) (ys : List A) → IsWord F w k d ys
       → IsCosetWord F w shift k d ys

@@ -1,12 +1,12 @@
 -- What a homomorphism of fields carries over: negatives, differences, inverses, points, words. It is injective.
-use Rattle.std.proofs.Common.{◌≡◌, ◌≢◌, ℕ, ◌^◌, ◌<◌, List, length, map, refl, sym, ap, ap₂, ◌∙◌}
+use Rattle.std.proofs.Common.{◌≡◌, ◌≢◌, ℕ, ◌^◌, List, map, refl, sym, ap, ◌∙◌}
 use Rattle.std.proofs.lemmas.List.{length-map}
-use Rattle.algebra.specs.Field.{FieldOps, IsRing, IsField, IsHomomorphism, sub, pow}
-use Rattle.algebra.specs.Polynomial.{val, tabulate}
+use Rattle.algebra.specs.Field.{FieldOps, IsRing, IsField, IsHomomorphism, sub}
+use Rattle.algebra.specs.Polynomial.{val}
 use Rattle.algebra.specs.Digits.{rev}
 use Rattle.algebra.specs.TwoAdic.{pt}
 use Rattle.algebra.specs.Cosets.{coset_pt, IsOffCoset}
-use Rattle.algebra.specs.Words.{word, coset_word, IsWord, IsCosetWord}
+use Rattle.algebra.specs.Words.{word, coset_word, IsCosetWord}
 use Rattle.algebra.proofs.RingLaws.{neg_unique, zero_mul}
 use Rattle.algebra.proofs.Combine.{sub-eq}
 use Rattle.algebra.proofs.Powers.{homomorphism-pow}

@@ -1,13 +1,13 @@
 -- Which points lie on a coset: those whose `2^k`-th power is the shift's. So disjoint cosets, and vanishing polynomials.
-use Rattle.std.proofs.Common.{◌≡◌, ◌≢◌, ℕ, zero, suc, ◌+◌, ◌-◌, ◌^◌, ◌<◌, ◌≤◌, ◌↔◌, refl, sym, ap, ap₂, ◌∙◌, arith}
+use Rattle.std.proofs.Common.{◌≡◌, ◌≢◌, ℕ, zero, suc, ◌+◌, ◌-◌, ◌^◌, ◌<◌, ◌≤◌, ◌↔◌, refl, sym, ap, ◌∙◌, arith}
 use Rattle.std.proofs.Math.Nat.{pow-le-pow_right}
 use Rattle.algebra.specs.Field.{FieldOps, IsField, IsHomomorphism, sub, pow}
 use Rattle.algebra.specs.TwoAdic.{AreRoots, pt}
 use Rattle.algebra.specs.Cosets.{coset_pt, IsOnCoset, IsOffCoset, vanishing}
 use Rattle.algebra.specs.CosetLaws.{IsTested, AreApart}
-use Rattle.algebra.proofs.Ring.{◌:+◌, ◌:*◌, ◌:-◌, ◌:=◌, ring, minus, :1, o}
+use Rattle.algebra.proofs.Ring.{◌:+◌, ◌:*◌, ◌:-◌, ◌:=◌, ring}
 use Rattle.algebra.proofs.RingLaws.{neg_unique, one_mul}
-use Rattle.algebra.proofs.Combine.{combine2, sub-eq, sub-self, cancel_zero}
+use Rattle.algebra.proofs.Combine.{sub-eq, sub-self, cancel_zero}
 use Rattle.algebra.proofs.Powers.{double, pow-zero, pow-one, pow-times, pow-square, pow-one_base, homomorphism-pow}
 use Rattle.algebra.proofs.Digits.{rev-zero}
 use Rattle.algebra.proofs.Points.{point-full_turn, point-square, point-opposite, lifted_roots}
@@ -92,11 +92,14 @@ module _ {A : Type 0} (F : FieldOps A) (L : IsField F) where
     pub point_from_power : (shift : A) → shift ≢ 𝟘 → (k : ℕ) (z : A) → k ≤ top
         → pow F z (2 ^ k) ≡ pow F shift (2 ^ k) → (i : ℕ) × (i < 2 ^ k) × (coset_pt F w shift i k ≡ z)
     point_from_power shift n k z b e =
-        let h = turn_is_point k (z ⊗ inv shift) b (sub-eq F L.ring (vanishing_where_powers_agree shift z k n e)) in
-        (h.0, h.1, ap (λ p. shift ⊗ p) h.2
-        ∙ ring F L.ring 3 (λ s z i. s :* (z :* i) := s :* i :* z) refl shift z (inv shift)
-        ∙ ap (λ u. u ⊗ z) (L.mul_inv shift n)
-        ∙ one_mul F L.ring z)
+        let h = turn_is_point k (z ⊗ inv shift) b (sub-eq F L.ring (vanishing_where_powers_agree shift z k n e)) in (
+          h.0,
+          h.1,
+          ap (λ p. shift ⊗ p) h.2
+              ∙ ring F L.ring 3 (λ s z i. s :* (z :* i) := s :* i :* z) refl shift z (inv shift)
+              ∙ ap (λ u. u ⊗ z) (L.mul_inv shift n)
+              ∙ one_mul F L.ring z,
+        )
 
     -- a vanishing polynomial is one constant on another coset of the size
     pub vanishing_on_coset : (s t : A) (i k : ℕ) → k ≤ top → vanishing F s k (coset_pt F w t i k) ≡ vanishing F s k t

@@ -1,17 +1,23 @@
 -- Quotients by `X - z` at the points of a coset that doesn't hold `z`.
-use Rattle.std.proofs.Common.{◌≡◌, ◌≢◌, ℕ, ◌^◌, ◌<◌, ◌≤◌, pred, List, [], ◌∷◌, ◌++◌, length, map, flat_map, get_or, refl, sym, ap, ap₂, ◌∙◌, arith}
-use Rattle.std.proofs.lemmas.List.{length-map, map-append}
-use Rattle.algebra.specs.Field.{FieldOps, IsRing, IsField, IsHomomorphism, sub, pow}
+use Rattle.std.proofs.Common.{◌≡◌, ◌≢◌, ℕ, suc, ◌^◌, pred, List, [], ◌∷◌, ◌++◌, length, map, get_or, refl, sym, ap, ap₂, ◌∙◌}
+use Rattle.std.proofs.lemmas.List.{length-map}
+use Rattle.algebra.specs.Field.{FieldOps, IsField, IsHomomorphism, sub, pow}
 use Rattle.algebra.specs.Polynomial.{val, tabulate, quotient}
 use Rattle.algebra.specs.Cosets.{coset_pt, IsOffCoset}
 use Rattle.algebra.specs.Words.{coset_word, IsCosetWord}
-use Rattle.algebra.specs.Quotients.{quotients, Opened, values_at, opened_quotients}
+use Rattle.algebra.specs.Quotients.{quotients}
 use Rattle.algebra.proofs.Ring.{◌:+◌, ◌:*◌, ◌:-◌, ◌:=◌, ring, o, :1}
 use Rattle.algebra.proofs.Combine.{combine, sub-eq}
 use Rattle.algebra.proofs.Division.{divide, length-quotient}
-use Rattle.algebra.proofs.Values.{val-nil, val-cons, val-append, homomorphism-val}
+use Rattle.algebra.proofs.Values.{val-nil, val-cons, val-append}
 use Rattle.algebra.proofs.Lifting.{lifted_coset_pt, lifted_value, lifted_off_coset}
-use Rattle.algebra.proofs.Lists.{Each, get_or-tabulate, tabulate-equal}
+use Rattle.algebra.proofs.Lists.{get_or-tabulate, tabulate-equal}
+
+pub length-quotients : {A : Type 0} (F : FieldOps A) (z x : A) (ys vs : List A) → length ys ≡ length vs
+    → length (quotients F z x ys vs) ≡ length ys
+length-quotients F z x [] vs e = refl
+length-quotients F z x (y ∷ ys) [] e = absurd cc
+length-quotients F z x (y ∷ ys) (v ∷ vs) e = ap suc (length-quotients F z x ys vs cc)
 
 module _ {A : Type 0} (F : FieldOps A) (L : IsField F) where
   infixl 65 ◌⊕◌
@@ -45,15 +51,19 @@ module _ {A : Type 0} (F : FieldOps A) (L : IsField F) where
   quotients_compressed z x alpha [] (v ∷ vs) e = absurd cc
   quotients_compressed z x alpha (y ∷ ys) [] e = absurd cc
   quotients_compressed z x alpha (y ∷ ys) (v ∷ vs) e =
-      rw (val-cons F L.ring ((y ⊖ v) ⊗ inv (z ⊖ x)) (quotients F z x ys vs) alpha, val-cons F L.ring y ys alpha,
-      val-cons F L.ring v vs alpha, quotients_compressed z x alpha ys vs cc)
+      rw (
+        val-cons F L.ring ((y ⊖ v) ⊗ inv (z ⊖ x)) (quotients F z x ys vs) alpha,
+        val-cons F L.ring y ys alpha,
+        val-cons F L.ring v vs alpha,
+        quotients_compressed z x alpha ys vs cc,
+      )
       (ring F L.ring 6 (λ y v i a p q. (y :- v) :* i :+ a :* ((p :- q) :* i) := (y :+ a :* p :- (v :+ a :* q)) :* i) refl
       y v (inv (z ⊖ x)) alpha (val F ys alpha) (val F vs alpha))
 
   -- after other terms, by the powers that follow theirs
   pub quotients_joined : (z x alpha : A) (ts ys vs : List A) → length ys ≡ length vs
       → val F (ts ++ quotients F z x ys vs) alpha
-          ≡ val F ts alpha ⊕ pow F alpha (length ts) ⊗ ((val F ys alpha ⊖ val F vs alpha) ⊗ inv (z ⊖ x))
+      ≡ val F ts alpha ⊕ pow F alpha (length ts) ⊗ ((val F ys alpha ⊖ val F vs alpha) ⊗ inv (z ⊖ x))
   quotients_joined z x alpha ts ys vs e =
       val-append F L.ring ts (quotients F z x ys vs) alpha
       ∙ ap (λ v. val F ts alpha ⊕ pow F alpha (length ts) ⊗ v) (quotients_compressed z x alpha ys vs e)
@@ -61,7 +71,7 @@ module _ {A : Type 0} (F : FieldOps A) (L : IsField F) where
   module _ (w : ℕ → A) (shift : A) (k : ℕ) where
     pub coset_word-quotient : (c : List A) (z : A) → IsOffCoset F (λ x. x) w shift k z
         → tabulate (2 ^ k) (λ i. (val F c z ⊖ val F c (coset_pt F w shift i k)) ⊗ inv (z ⊖ coset_pt F w shift i k))
-            ≡ coset_word F w shift k (quotient F c z)
+        ≡ coset_word F w shift k (quotient F c z)
     coset_word-quotient c z off =
         tabulate-equal (2 ^ k)
         (λ i. (val F c z ⊖ val F c (coset_pt F w shift i k)) ⊗ inv (z ⊖ coset_pt F w shift i k))

@@ -1,18 +1,15 @@
--- What an embedding of a field into another carries over: negatives, half turns, tables of powers,
+-- What an embedding of a field into another carries over: half turns, tables of powers,
 -- inverses.
 use Rattle.std.proofs.Common.{◌≡◌, ℕ, ◌<◌, List, get_or, sym, ap, ◌∙◌}
 use Rattle.algebra.specs.Field.{FieldOps, IsRing, IsHomomorphism, pow, multiple}
 use Rattle.algebra.specs.Polynomial.{tabulate}
-use Rattle.algebra.proofs.RingLaws.{neg_unique}
 use Rattle.algebra.proofs.Powers.{homomorphism-pow, homomorphism-multiple}
+use Rattle.algebra.proofs.Lifting.{homomorphism-neg}
 use Rattle.algebra.proofs.Lists.{get_or-tabulate}
 
 module _ {A E : Type 0} (F : FieldOps A) (K : FieldOps E) (h : A → E) (R : IsRing F) (S : IsRing K) (H : IsHomomorphism F K h) where
-  pub homomorphism-neg : (a : A) → h (F.neg a) ≡ K.neg (h a)
-  homomorphism-neg a = neg_unique K S (h a) (h (F.neg a)) (sym (H.add a (F.neg a)) ∙ ap h (R.add_neg a) ∙ H.zero)
-
   pub lifted_turn : (x : A) (n : ℕ) → pow F x n ≡ F.neg F.one → pow K (h x) n ≡ K.neg K.one
-  lifted_turn x n e = sym (homomorphism-pow F K h H x n) ∙ ap h e ∙ homomorphism-neg F.one ∙ ap K.neg H.one
+  lifted_turn x n e = sym (homomorphism-pow F K h H x n) ∙ ap h e ∙ homomorphism-neg F K h R S H F.one ∙ ap K.neg H.one
 
   pub lifted_power : (x : A) (n i : ℕ) (table : List A) (d : A) → table ≡ tabulate n (λ i. pow F x i) → i < n → h (get_or table i d) ≡ pow K (h x) i
   lifted_power x n i table d e l = ap (λ t. h (get_or t i d)) e ∙ ap h (get_or-tabulate n (λ i. pow F x i) i d l) ∙ homomorphism-pow F K h H x i

@@ -1,8 +1,9 @@
 -- Cosets of the two-adic subgroups, in natural order.
 use Rattle.std.specs.Prelude.{◌≡◌, ℕ, ◌^◌, ◌↔◌, List, Contains}
-use Rattle.algebra.specs.Field.{FieldOps, sub, pow}
+use Rattle.algebra.specs.Field.{FieldOps, pow}
 use Rattle.algebra.specs.Polynomial.{tabulate}
 use Rattle.algebra.specs.Interpolation.{AreDistinct}
+pub use Rattle.algebra.specs.Cosets.{vanishing}
 
 module _ {A : Type 0} (F : FieldOps A) where
   -- the point `i` of the coset of `shift` by the powers of `w`: `shift * w^i`
@@ -13,11 +14,7 @@ module _ {A : Type 0} (F : FieldOps A) where
   abbrev pub coset_points : (w shift : A) → ℕ → List A
   coset_points w shift k = tabulate (2 ^ k) (coset_point w shift)
 
-  -- the value at `x` of the polynomial `(X / shift)^(2^k) - 1`
-  abbrev pub vanishing : (shift : A) (k : ℕ) (x : A) → A
-  vanishing shift k x = sub F (pow F (F.mul x (F.inv shift)) (2 ^ k)) F.one
-
   -- the points of the coset are distinct, and are exactly the zeros of that polynomial
   pub record VanishesExactlyOn (w shift : A) (k : ℕ) : Type 0 where
     pub distinct : AreDistinct (coset_points w shift k)
-    pub zeros : (x : A) → (vanishing shift k x ≡ F.zero) ↔ Contains (coset_points w shift k) x
+    pub zeros : (x : A) → (vanishing F shift k x ≡ F.zero) ↔ Contains (coset_points w shift k) x

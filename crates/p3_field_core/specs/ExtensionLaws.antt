@@ -1,10 +1,6 @@
 -- A field extends itself: the laws of that extension.
 use Rattle.std.specs.Prelude.{◌≡◌, List, [], ◌∷◌, length, slice_index_or, refl}
 use Rattle.std.proofs.Common.{arith}
-use Rattle.algebra.specs.Field.{FieldOps, IsHomomorphism}
-
-pub self_homomorphism : {A : Type 0} (F : FieldOps A) → IsHomomorphism F F (λ x. x)
-self_homomorphism F = record { zero = refl; one = refl; add = λ _ _. refl; mul = λ _ _. refl }
 
 pub self_lift : {A : Type 0} (x : A) → x ≡ x
 self_lift x = refl

@@ -2,7 +2,8 @@
 
 ghost use Rattle.std.specs.Prelude.{◌≡◌, ◌<◌, ℕ, List, [], ◌∷◌, length, slice_index_or, slice_set};
 ghost use Rattle.algebra.specs.Field.{IsHomomorphism};
-ghost use Rattle.p3_field_core.specs.ExtensionLaws.{self_homomorphism, self_lift, self_length, self_injective, self_of_coefficients};
+ghost use Rattle.algebra.proofs.Lifting.{identity_homomorphism};
+ghost use Rattle.p3_field_core.specs.ExtensionLaws.{self_lift, self_length, self_injective, self_of_coefficients};
 
 use crate::field::Field;
 
@@ -93,7 +94,7 @@ impl<F: Field> ExtensionField<F> for F {
         self.times(factor)
     }
 
-    ghost lift_law = { self_homomorphism F.ops };
+    ghost lift_law = { identity_homomorphism F.ops };
 
     ghost coefficient_of_lift = { self_lift };
 

@@ -1,6 +1,6 @@
 use Rattle.std.proofs.Common.{◌^◌, ap, ap₂, ◌∙◌}
 use Rattle.algebra.specs.Field.{sub, pow}
-use Rattle.p3_field_core.proofs.Cosets.{homomorphism-inv}
+use Rattle.algebra.proofs.Lifting.{homomorphism-inv}
 use Rattle.p3_field_core.proofs.coset.TwoAdicMultiplicativeCoset.vanishing_poly_at_point.Goals as goal
 
 pub returns : goal.returns

@@ -1,0 +1,67 @@
+//! Two polynomials over BabyBear: their values over a coset, and the first's off it by its values.
+
+use algebra::{barycentric_law, interpolation_law, roots_law, words_law};
+use p3_field::{BabyBear, BabyBear4, ExtensionField, Field, TwoAdicMultiplicativeCoset};
+
+/// The coset of eight points whose shift is the generator 31, in bit-reversed order.
+pub const POINTS: [u64; 8] = [
+    31, 2013265890, 1235625957, 777639964, 1044970530, 968295391, 523621251, 1489644670,
+];
+
+/// The values there of `3 + X + 4 X^2 + X^3`.
+pub const FIRST_COLUMN: [u64; 8] = [
+    33669, 2013239946, 1625970829, 387287410, 1137921166, 1294162105, 1924463254, 1683251250,
+];
+
+/// The values there of `5 + 9 X + 2 X^2 + 6 X^3`.
+pub const SECOND_COLUMN: [u64; 8] = [
+    180952, 2013088823, 1383128448, 630133639, 757627193, 1465047410, 176529513, 1627327746,
+];
+
+/// The element of these coefficients, that of one first.
+pub fn element(coefficients: [u64; 4]) -> BabyBear4 {
+    let [constant, linear, quadratic, cubic] = coefficients;
+    BabyBear4::from_coefficients(&[
+        BabyBear::from_u64(constant),
+        BabyBear::from_u64(linear),
+        BabyBear::from_u64(quadratic),
+        BabyBear::from_u64(cubic),
+    ])
+}
+
+/// The barycentric sum at `z` of the first column's values over the coset of `2^log_size` points;
+/// `None` on the coset or at another size than 1, 2, 4 and 8.
+fn barycentric(log_size: usize, z: BabyBear4) -> Option<BabyBear4> {
+    if log_size > 3 {
+        return None;
+    }
+    let coset = TwoAdicMultiplicativeCoset::new(BabyBear::GENERATOR, log_size)?;
+    let size_inverse = BabyBear4::from_u64(1 << log_size).try_inverse()?;
+    let mut sum = BabyBear4::ZERO;
+    for index in 0..1 << log_size {
+        let x = BabyBear4::from_u64(*POINTS.get(index)?);
+        let y = BabyBear4::from_u64(*FIRST_COLUMN.get(index)?);
+        sum = sum + x * (z - x).try_inverse()? * y;
+    }
+    Some(coset.vanishing_poly_at_point(z) * size_inverse * sum)
+}
+
+#[test]
+fn values_off_a_coset(rt: HostRuntime) {
+    // at zero, the constant coefficient
+    for log_size in 2..4 {
+        let value = barycentric(log_size, BabyBear4::ZERO);
+        assert_eq!(rt; value, Some(BabyBear4::from_u64(3)));
+        let value = barycentric(log_size, BabyBear4::from_u64(7));
+        assert_eq!(rt; value, Some(BabyBear4::from_u64(549)));
+        let value = barycentric(log_size, element([8, 1, 0, 0]));
+        assert_eq!(rt; value, Some(element([779, 257, 28, 1])));
+    }
+    // a point of the coset of eight, off that of four
+    let value = barycentric(2, BabyBear4::from_u64(POINTS[5]));
+    assert_eq!(rt; value, Some(BabyBear4::from_u64(FIRST_COLUMN[5])));
+    barycentric_law::<BabyBear, BabyBear4>();
+    interpolation_law::<BabyBear4>();
+    roots_law::<BabyBear4>();
+    words_law::<BabyBear>();
+}
