@@ -4,6 +4,8 @@
 #[cfg(test)]
 mod batches;
 #[cfg(test)]
+mod folds;
+#[cfg(test)]
 mod points;
 #[cfg(test)]
 mod values;
