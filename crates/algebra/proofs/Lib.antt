@@ -33,3 +33,4 @@ pub mod Quotients
 pub mod Batches
 pub mod PointTest
 pub mod Barycentric
+pub mod Nested

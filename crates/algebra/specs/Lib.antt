@@ -13,6 +13,7 @@ pub mod Quotients
 pub mod Barycentric
 pub mod Folds
 pub mod Rounds
+pub mod Nested
 pub mod Reduction
 pub mod Periodic
 pub mod Laws

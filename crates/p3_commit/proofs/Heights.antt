@@ -5,7 +5,10 @@ use Rattle.std.specs.Int.{IsPowerOfTwo}
 use Rattle.std.proofs.Math.Nat.{div-lt_iff_lt-mul, pow-le-pow_right}
 use Rattle.std.proofs.lemmas.Nat.{pow_pos, pow-add, div-mul-add, pow_below}
 use Rattle.std.proofs.lemmas.List.{length-map, get_or-map, take-map, take_more}
-use Rattle.p3_field.proofs.IndexPowers.{exponent_below}
+use Rattle.std.specs.Int.{is_power_of_two}
+use Rattle.std.specs.Prelude.{IsTrue, false}
+use Rattle.std.proofs.lemmas.List.Elements.{All-append}
+use Rattle.p3_field.proofs.IndexPowers.{exponent_below, IsPowerOfTwo_test}
 use Rattle.p3_matrix.specs.declared.Dimensions.{Dimensions}
 use Rattle.p3_matrix.specs.declared.dense.RowMajorMatrix.{RowMajorMatrix}
 use Rattle.p3_matrix.specs.Matrix.{rows}
@@ -99,3 +102,19 @@ module _ {T : Type 0} (matrices : List (RowMajorMatrix T)) (powers : HavePowerHe
 pub quotient_of : {T : Type 0} (matrices : List (RowMajorMatrix T)) → HavePowerHeights (dimensions_of matrices) → (k : ℕ) (matrix : RowMajorMatrix T) → k < length matrices
     → matrix ≡ get_or matrices k matrix → Quotient (max_height (dimensions_of matrices)) (length (rows matrix))
 quotient_of matrices powers k matrix l is = subst (λ m. Quotient (max_height (dimensions_of matrices)) (length (rows m))) (sym is) (quotient_at matrices powers k matrix l)
+
+-- one height more that passes the test
+pub heights_take_more : (dims : List Dimensions) (k : ℕ) (d : Dimensions) → k < length dims
+    → IsTrue (is_power_of_two (get_or dims k d).height) → HavePowerHeights (take k dims)
+    → HavePowerHeights (take (k + 1) dims)
+heights_take_more dims k d l passed h =
+    subst HavePowerHeights (sym (take_more dims k d l))
+    (All-append (λ (e : Dimensions). IsPowerOfTwo e.height) (take k dims) (get_or dims k d ∷ []) h
+    (heights_more (get_or dims k d) [] ((IsPowerOfTwo_test (get_or dims k d).height).0 passed) heights_none))
+
+-- one that fails it
+pub heights_refused : (dims : List Dimensions) (k : ℕ) (d : Dimensions) → k < length dims
+    → is_power_of_two (get_or dims k d).height ≡ false → HavePowerHeights dims → ⊥
+heights_refused dims k d l failed h =
+    let passed = (IsPowerOfTwo_test (get_or dims k d).height).1 (h k d l) in
+    cc

@@ -1,9 +1,6 @@
 -- Rows and their widths, by place.
-use Rattle.std.proofs.Common.{◌≡◌, ◌≢◌, ℕ, zero, suc, ◌<◌, List, [], ◌∷◌, length, get_or, refl, ap, sym, ◌∙◌, arith, inl, inr}
-use Rattle.std.proofs.lemmas.List.{length-map, get_or-map}
-use Rattle.std.specs.declared.vec.Vec.{Vec}
+use Rattle.std.proofs.Common.{◌≡◌, ◌≢◌, ℕ, zero, suc, ◌<◌, List, [], ◌∷◌, length, get_or, refl, ap, arith, inl, inr}
 use Rattle.p3_matrix.specs.declared.Dimensions.{Dimensions}
-use Rattle.p3_commit.specs.Lists.{lists, nested}
 use Rattle.p3_commit.specs.Batch.{HasRows, HasShape, SomeWidthDiffers}
 
 module _ {T : Type 0} where
@@ -47,21 +44,3 @@ module _ {T : Type 0} where
   set_at dims (index ∷ indices) [] h k l = absurd h
   set_at dims (index ∷ indices) (set ∷ sets) h zero l = h.0
   set_at dims (index ∷ indices) (set ∷ sets) h (suc k) l = set_at dims indices sets h.1 k (omega (arith, l))
-
-module _ {T A : Type 0} where
-  pub length-lists : (vectors : List (Vec T A)) → length (lists vectors) ≡ length vectors
-  length-lists vectors = length-map vectors (λ vector. vector.items)
-
-  pub lists_at : (vectors : List (Vec T A)) (k : ℕ) (d : Vec T A) → k < length vectors → get_or (lists vectors) k [] ≡ (get_or vectors k d).items
-  lists_at vectors k d l = get_or-map (λ vector. vector.items) vectors k d [] l
-
-  -- a set of rows in vectors has as many as there are matrices
-  pub rows_vectors_count : (dims : List Dimensions) (vectors : List (Vec T A)) → HasRows dims (lists vectors) → length vectors ≡ length dims
-  rows_vectors_count dims vectors h = sym (length-lists vectors) ∙ rows_count dims (lists vectors) h
-
-module _ {T A B : Type 0} where
-  pub length-nested : (vectors : List (Vec (Vec T A) B)) → length (nested vectors) ≡ length vectors
-  length-nested vectors = length-map vectors (λ vector. lists vector.items)
-
-  pub nested_at : (vectors : List (Vec (Vec T A) B)) (k : ℕ) (d : Vec (Vec T A) B) → k < length vectors → get_or (nested vectors) k [] ≡ lists (get_or vectors k d).items
-  nested_at vectors k d l = get_or-map (λ vector. lists vector.items) vectors k d [] l

@@ -1,4 +1,3 @@
-pub mod Lists
 pub mod Batch
 pub mod Tree
 pub mod Buffer

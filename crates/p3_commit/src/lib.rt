@@ -2,12 +2,14 @@
 //! reads of a scheme's parameters.
 #![tactic(auto)]
 
+pub mod conditions;
 pub mod laws;
 pub mod mmcs;
 pub mod openings;
 pub mod security;
 pub mod sha256_mmcs;
 
+pub use crate::conditions::{have_power_heights, indices_are_below, max_height};
 pub use crate::mmcs::Mmcs;
 pub use crate::openings::{
     CommitmentOpening, CommitmentWithOpeningPoints, MatrixOpening, OpenedValues, PointOpening,

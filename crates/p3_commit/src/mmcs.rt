@@ -3,7 +3,7 @@
 ghost use Rattle.std.specs.Prelude.{◌≡◌, ◌<◌, ◌↔◌, ℕ, List, [], ◌∷◌, map, All, IsOk, IfOk};
 ghost use Rattle.p3_matrix.specs.declared.Dimensions.{Dimensions};
 ghost use Rattle.p3_matrix.specs.declared.dense.RowMajorMatrix.{RowMajorMatrix};
-ghost use Rattle.p3_commit.specs.Lists.{nested};
+ghost use Rattle.algebra.specs.Nested.{nested};
 ghost use Rattle.p3_commit.specs.Batch.{max_height, HavePowerHeights, HasShape, dimensions_of, opened_rows};
 
 use p3_matrix::{Dimensions, RowMajorMatrix};

@@ -7,8 +7,6 @@ mod heights;
 mod opening;
 mod prover_data;
 mod scheme;
-#[cfg(test)]
-mod tests;
 mod tree;
 mod verification;
 

@@ -1,4 +1,7 @@
 pub mod Positions
 pub mod Concatenated
 pub mod NewtonForm
+pub mod Blocks
+pub mod Interpolated
 pub mod Unfolded
+pub mod Quotients

@@ -1,9 +1,11 @@
 -- The interleaved of polynomials that stand in vectors.
-use Rattle.std.proofs.Common.{◌≡◌, ℕ, zero, suc, ◌+◌, ◌^◌, ◌<◌, List, [], ◌∷◌, ◌++◌, Vec, All, vec_len, length, get_or, take, sym, ap, ◌∙◌, arith, inl, inr}
+use Rattle.std.proofs.Common.{◌≡◌, ℕ, zero, suc, ◌+◌, ◌^◌, ◌<◌, List, [], ◌∷◌, ◌++◌, Vec, All, vec_len, length, get_or, take, subst, sym, ap, ◌∙◌, arith, inl, inr}
 use Rattle.std.proofs.lemmas.List.{length-map, map-append, take_more}
 use Rattle.std.proofs.lemmas.Bool.{cases_lt}
 use Rattle.std.proofs.Math.Nat.{pow-le-pow_right}
 use Rattle.algebra.specs.Field.{FieldOps}
+use Rattle.algebra.specs.Polynomial.{tabulate}
+use Rattle.algebra.proofs.Lists.{get_or-tabulate, length-tabulate}
 use Rattle.p3_converse.specs.Positions.{coefficients_at}
 use Rattle.p3_converse.specs.Unfolding.{lists, common_length}
 
@@ -34,3 +36,13 @@ pub one_length-lists : {T Z : Type 0} (vectors : List (Vec T Z)) (d : ℕ) → A
 one_length-lists [] d h k e l = absurd (omega (arith, l))
 one_length-lists (v ∷ vs) d h zero e l = sym v.ok.0 ∙ h 0 v (omega arith)
 one_length-lists (v ∷ vs) d h (suc k) e l = one_length-lists vs d (λ j u m. h (suc j) u (omega (arith, m))) k e (omega (arith, l))
+
+-- vectors that hold lists of one length
+pub one_length-vectors : {T Z : Type 0} (vectors : List (Vec T Z)) (d : ℕ) → All (λ p. length p ≡ d) (lists vectors) → All (λ v. vec_len v ≡ d) vectors
+one_length-vectors [] d h k e l = absurd (omega (arith, l))
+one_length-vectors (v ∷ vs) d h zero e l = v.ok.0 ∙ h 0 v.items (omega arith)
+one_length-vectors (v ∷ vs) d h (suc k) e l = one_length-vectors vs d (λ j p m. h (suc j) p (omega (arith, m))) k e (omega (arith, l))
+
+-- a fact of each value of a function
+pub all-tabulate : {A : Type 0} (P : A → Type 0) (n : ℕ) (f : ℕ → A) → ((s : ℕ) → P (f s)) → All P (tabulate n f)
+all-tabulate P n f h k e l = subst P (sym (get_or-tabulate n f k e (omega (arith, l, length-tabulate n f)))) (h k)

@@ -1,3 +1,5 @@
 pub mod Positions
 pub mod Newton
 pub mod Unfolding
+pub mod Batching
+pub mod Quotients

@@ -2,6 +2,8 @@
 use Rattle.std.specs.Prelude.{ℕ, zero, suc, ◌+◌, ◌*◌, List, [], ◌++◌, map}
 use Rattle.std.specs.Prelude.{slice_index_or, slice_range}
 use Rattle.algebra.specs.Field.{FieldOps}
+use Rattle.algebra.specs.Polynomial.{tabulate}
+use Rattle.algebra.specs.Interpolation.{interpolant}
 
 -- the lists `f 0, .., f (n - 1)`, one after another
 abbrev pub concatenated : {A : Type 0} → ℕ → (ℕ → List A) → List A
@@ -20,3 +22,14 @@ module _ {A : Type 0} (F : FieldOps A) where
   -- those at position 0, then those at position 1, and so on, `d` times
   abbrev pub interleaved : (polys : List (List A)) → ℕ → List A
   interleaved polys d = concatenated d (coefficients_at polys)
+
+  -- position by position, the coefficients of the polynomial through the points and what the
+  -- polynomials have at that position
+  abbrev pub interpolated : (points : List A) (polys : List (List A)) → ℕ → List A
+  interpolated points polys d =
+      concatenated d (λ m. interpolant F points (coefficients_at polys m))
+
+  -- the entries at `start`, `start + step` and so on, `count` of them
+  abbrev pub stepped : (entries : List A) (start step count : ℕ) → List A
+  stepped entries start step count =
+      tabulate count (λ m. slice_index_or entries (m * step + start) F.zero)

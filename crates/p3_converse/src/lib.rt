@@ -3,8 +3,13 @@
 //! degree have low degree themselves.
 #![tactic(auto)]
 
+pub mod batching;
+mod by_position;
 pub mod laws;
 mod newton;
+pub mod quotient;
 pub mod unfolding;
 
+pub use crate::batching::unbatch;
+pub use crate::quotient::unquotient;
 pub use crate::unfolding::unfold;

@@ -105,7 +105,7 @@ fn to_coefficients<F: Field>(points: &[F], coefficients: &mut [F])
 
 /// Turns the number `y` and, behind it, the coefficients of a polynomial `q` into those of
 /// `y + (X - root) * q`.
-fn add_multiple<F: Field>(root: F, coefficients: &mut [F])
+pub fn add_multiple<F: Field>(root: F, coefficients: &mut [F])
     ensures { (y : F) (q : List F) → coefficients.old ≡ y ∷ q
         → coefficients.new ≡ plus_multiple F.ops root y q }
 {

@@ -1,11 +1,10 @@
 //! Undoing the fold of rows.
 
-ghost use Rattle.std.specs.Prelude.{◌≡◌, ◌<◌, ◌*◌, ◌^◌, [], ◌++◌, length, vec_len, All, IfOk, OnOk};
+ghost use Rattle.std.specs.Prelude.{◌≡◌, ◌<◌, ◌*◌, ◌^◌, length, vec_len, All, IfOk};
 ghost use Rattle.algebra.specs.Interpolation.{AreDistinct};
-ghost use Rattle.p3_converse.specs.Positions.{coefficients_at, interleaved};
 ghost use Rattle.p3_converse.specs.Unfolding.{lists, common_length, IsUnfolding};
 
-use crate::newton::{interpolate_each, newton_weights};
+use crate::by_position::interpolate_positions;
 use p3_field::Field;
 use std::alloc::{AllocError, Global};
 
@@ -39,43 +38,5 @@ pub fn unfold<EF: Field>(
 {
     let arity = 1 << log_arity;
     let degree_bound = polys[0].len();
-    let mut unfolded = Vec::with_capacity(alloc, degree_bound * arity)?;
-    let weights = newton_weights(alloc, betas, &mut unfolded)?;
-    interleave(polys, degree_bound, &mut unfolded)?;
-    interpolate_each(betas, &weights, degree_bound, &mut unfolded);
-    Ok(unfolded)
-}
-
-/// Appends what the polynomials, of `degree_bound` coefficients each, have at position 0, then what
-/// they have at position 1, and so on.
-#[tactic(auto, using(crate::proofs::Concatenated::concatenated_next))]
-fn interleave<F: Field>(
-    polys: &[Vec<F>],
-    degree_bound: usize,
-    entries: &mut Vec<F>,
-) -> Result<(), AllocError>
-    requires one_length { All (λ p. vec_len p ≡ degree_bound) polys.now }
-    requires empty { entries.old.items ≡ [] }
-    ensures { OnOk result (entries.new.items ≡ interleaved F.ops (lists polys.now) degree_bound) }
-{
-    for position in 0..degree_bound {
-        push_coefficients_at(polys, position, entries)?;
-    }
-    Ok(())
-}
-
-/// Appends what each of the polynomials has at this position.
-fn push_coefficients_at<F: Field>(
-    polys: &[Vec<F>],
-    position: usize,
-    entries: &mut Vec<F>,
-) -> Result<(), AllocError>
-    requires { All (λ p. position < vec_len p) polys.now }
-    ensures { OnOk result (entries.new.items
-        ≡ entries.old.items ++ coefficients_at F.ops (lists polys.now) position) }
-{
-    for poly in polys {
-        entries.push(poly[position])?;
-    }
-    Ok(())
+    interpolate_positions(alloc, betas, polys, degree_bound, degree_bound * arity)
 }

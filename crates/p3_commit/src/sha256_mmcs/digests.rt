@@ -1,7 +1,7 @@
 //! The digests of the tree.
 
 ghost use Rattle.std.specs.Prelude.{◌≡◌, ◌<◌, ℕ};
-ghost use Rattle.p3_commit.specs.Lists.{lists};
+ghost use Rattle.algebra.specs.Nested.{lists};
 ghost use Rattle.p3_commit.specs.Batch.{max_height, HavePowerHeights, dimensions_of};
 ghost use Rattle.p3_commit.specs.Tree.{leaf, leaf_at, node};
 

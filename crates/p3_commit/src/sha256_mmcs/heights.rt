@@ -1,21 +1,9 @@
-//! Greatest heights.
+//! The greatest height of matrices.
 
 ghost use Rattle.std.specs.Prelude.{◌≡◌};
 ghost use Rattle.p3_commit.specs.Batch.{max_height, dimensions_of};
 
-use p3_matrix::{Dimensions, RowMajorMatrix};
-
-/// The greatest height, 1 where there is none.
-#[tactic(auto, using(crate::proofs::Heights::max_height_take))]
-pub(super) fn greatest_height(dimensions: &[Dimensions]) -> usize
-    ensures { result ≡ max_height dimensions.now }
-{
-    let mut greatest: usize = 1;
-    for d in dimensions {
-        greatest = greatest.max(d.height);
-    }
-    greatest
-}
+use p3_matrix::RowMajorMatrix;
 
 /// The greatest height of these matrices, 1 where there is none.
 #[tactic(auto, using(crate::proofs::Heights::max_height_of_take))]

@@ -1,7 +1,7 @@
 //! What an opening consists of.
 
 ghost use Rattle.std.specs.Prelude.{◌≡◌, ◌<◌, ◌+◌, ◌*◌, ◌^◌, ℕ, List, length, map, All, IfOk};
-ghost use Rattle.p3_commit.specs.Lists.{lists, nested};
+ghost use Rattle.algebra.specs.Nested.{lists, nested};
 ghost use Rattle.p3_commit.specs.Batch.{max_height, HavePowerHeights, dimensions_of, opened_rows};
 ghost use Rattle.p3_commit.specs.Tree.{path_of};
 ghost use Rattle.p3_commit.specs.Digests.{IsTree};

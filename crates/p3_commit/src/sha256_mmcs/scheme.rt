@@ -1,17 +1,18 @@
 //! The scheme.
 
 ghost use Rattle.std.specs.Prelude.{◌≡◌, ◌≢◌, ◌^◌, ◌<◌, ◌↔◌, ◌⊎◌, ℕ, All, map, length, IsOk, IfOk, slice_index_or};
-ghost use Rattle.p3_commit.specs.Lists.{lists, nested};
+ghost use Rattle.algebra.specs.Nested.{lists, nested};
 ghost use Rattle.p3_commit.specs.Batch.{max_height, HavePowerHeights, SomeWidthDiffers, dimensions_of, opened_rows};
 ghost use Rattle.p3_commit.specs.Tree.{leaf, climb, SomeQuery, Opens, leaf_at, root_of, path_of};
 ghost use Rattle.p3_commit.specs.TreeLaws.{opens_shape};
 
 use super::error::Sha256MmcsError;
-use super::heights::{greatest_height, greatest_height_of};
+use super::heights::greatest_height_of;
 use super::opening::{paths_at_each, rows_at_each};
 use super::prover_data::Sha256ProverData;
 use super::tree::tree_digests;
 use super::verification::verify_each;
+use crate::conditions::max_height;
 use crate::mmcs::Mmcs;
 use p3_field::{ElementBytes, log2_strict_usize};
 use p3_matrix::{Dimensions, RowMajorMatrix};
@@ -136,7 +137,7 @@ impl<T: ElementBytes> Mmcs<T> for Sha256Mmcs<T> {
         if opened_values.len() != indices.len() || proof.len() != indices.len() {
             return Err(Sha256MmcsError::QueryCount);
         }
-        let log_height = log2_strict_usize(greatest_height(dimensions));
+        let log_height = log2_strict_usize(max_height(dimensions));
         let paths = proof.as_slice();
         verify_each(
             commitment,

@@ -1,7 +1,7 @@
 //! Verification, index by index.
 
 ghost use Rattle.std.specs.Prelude.{◌≡◌, ◌^◌, ◌↔◌, length, IsTrue, MatchBool, MatchResult};
-ghost use Rattle.p3_commit.specs.Lists.{lists, nested};
+ghost use Rattle.algebra.specs.Nested.{lists, nested};
 ghost use Rattle.p3_commit.specs.Batch.{max_height, HasRows, SomeWidthDiffers};
 ghost use Rattle.p3_commit.specs.Tree.{climb, OpensAt, Opens, SomeQuery};
 ghost use Rattle.p3_commit.specs.Faults.{HasFault};

@@ -1,7 +1,7 @@
 use Rattle.std.proofs.Common.{◌∷◌, take}
 use Rattle.std.specs.List.{flat_map}
 use Rattle.p3_commit.specs.Buffer.{HoldsMessage}
-use Rattle.p3_commit.specs.Lists.{lists}
+use Rattle.algebra.specs.Nested.{lists}
 use Rattle.p3_commit.specs.Tree.{row_bytes}
 use Rattle.p3_commit.proofs.sha256_mmcs.digests.leaf_digest.Given as goal
 

@@ -1,5 +1,5 @@
 use Rattle.std.proofs.Common.{◌≡◌, ◌^◌, ℕ, List, take, map}
-use Rattle.p3_commit.specs.Lists.{lists}
+use Rattle.algebra.specs.Nested.{lists}
 use Rattle.p3_commit.specs.Tree.{path_of}
 use Rattle.p3_commit.specs.Digests.{IsTree}
 use Rattle.p3_commit.proofs.sha256_mmcs.opening.paths_at_each.Given as goal

@@ -1,5 +1,5 @@
 use Rattle.std.proofs.Common.{◌≡◌, take, map}
-use Rattle.p3_commit.specs.Lists.{lists}
+use Rattle.algebra.specs.Nested.{lists}
 use Rattle.p3_commit.specs.Batch.{opened_row}
 use Rattle.p3_commit.proofs.sha256_mmcs.opening.rows_at.Given as goal
 

@@ -1,5 +1,5 @@
 use Rattle.std.proofs.Common.{◌≡◌, take, map}
-use Rattle.p3_commit.specs.Lists.{nested}
+use Rattle.algebra.specs.Nested.{nested}
 use Rattle.p3_commit.specs.Batch.{opened_rows}
 use Rattle.p3_commit.proofs.sha256_mmcs.opening.rows_at_each.Given as goal
 

@@ -1,6 +1,7 @@
 use Rattle.std.proofs.Common.{◌≡◌, length, arith, sym, ap, ◌∙◌, slice_index_or, []}
-use Rattle.p3_commit.specs.Lists.{lists}
-use Rattle.p3_commit.proofs.Shapes.{widths_all, width_some, lists_at, length-lists}
+use Rattle.algebra.specs.Nested.{lists}
+use Rattle.algebra.proofs.Nested.{lists_at, length-lists}
+use Rattle.p3_commit.proofs.Shapes.{widths_all, width_some}
 use Rattle.p3_commit.proofs.sha256_mmcs.verification.have_widths.Goals as goal
 
 pub returns-then-len-dimensions : goal.returns-then-len-dimensions

@@ -1,6 +1,6 @@
 use Rattle.std.proofs.Common.{◌≡◌, ◌<◌, ℕ, [], length, slice_index_or}
 use Rattle.p3_matrix.specs.declared.Dimensions.{Dimensions}
-use Rattle.p3_commit.specs.Lists.{lists}
+use Rattle.algebra.specs.Nested.{lists}
 use Rattle.p3_commit.proofs.sha256_mmcs.verification.have_widths.Given as goal
 
 abbrev pub invariant-loop-i : goal.invariant-loop-i

@@ -1,8 +1,8 @@
 use Rattle.std.proofs.Common.{◌≡◌, arith, sym, ap, ◌∙◌, subst, slice_index_or, [], below_more}
-use Rattle.p3_commit.specs.Lists.{lists, nested}
+use Rattle.algebra.specs.Nested.{lists, nested}
 use Rattle.p3_commit.specs.Tree.{OpensAt}
 use Rattle.p3_commit.specs.Faults.{HasFault}
-use Rattle.p3_commit.proofs.Shapes.{length-lists, lists_at, length-nested, nested_at}
+use Rattle.algebra.proofs.Nested.{length-lists, lists_at, length-nested, nested_at}
 use Rattle.p3_commit.proofs.Queries.{each_from, some_at}
 use Rattle.p3_commit.proofs.sha256_mmcs.verification.verify_each.Goals as goal
 

@@ -1,5 +1,5 @@
 use Rattle.std.proofs.Common.{◌<◌, ℕ, [], slice_index_or}
-use Rattle.p3_commit.specs.Lists.{lists, nested}
+use Rattle.algebra.specs.Nested.{lists, nested}
 use Rattle.p3_commit.specs.Tree.{OpensAt}
 use Rattle.p3_commit.proofs.sha256_mmcs.verification.verify_each.Given as goal
 

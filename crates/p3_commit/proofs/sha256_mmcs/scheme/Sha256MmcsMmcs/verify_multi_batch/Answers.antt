@@ -1,11 +1,11 @@
 use Rattle.std.proofs.Common.{◌≡◌, ◌↔◌, sym, ◌∙◌, subst, length, inl, inr, IsOk, refl}
 use Rattle.std.specs.Prelude.{MatchResult, Result, Ok, Err}
 use Rattle.std.specs.Int.{IsPowerOfTwo}
-use Rattle.p3_commit.specs.Lists.{lists, nested}
+use Rattle.algebra.specs.Nested.{lists, nested}
 use Rattle.p3_commit.specs.Tree.{OpensAt, Opens, SomeQuery}
 use Rattle.p3_commit.specs.Faults.{HasFault}
 use Rattle.p3_commit.proofs.Heights.{max_height-power}
-use Rattle.p3_commit.proofs.Shapes.{length-lists, length-nested}
+use Rattle.algebra.proofs.Nested.{length-lists, length-nested}
 use Rattle.p3_commit.proofs.Queries.{each_counts, some_impossible}
 use Rattle.p3_commit.proofs.Refusals.{some_fault_refutes}
 use Rattle.p3_commit.proofs.sha256_mmcs.scheme.Sha256MmcsMmcs.verify_multi_batch.Goals as goal
@@ -13,7 +13,7 @@ use Rattle.p3_commit.proofs.sha256_mmcs.scheme.Sha256MmcsMmcs.verify_multi_batch
 
 pub log2_strict_usize-log_height-requires : goal.log2_strict_usize-log_height-requires
 log2_strict_usize-log_height-requires g c =
-    record { power_of_two = subst IsPowerOfTwo (sym c.greatest_height.ensures) (max_height-power c.args.dimensions.now c.requires.heights) }
+    record { power_of_two = subst IsPowerOfTwo (sym c.max_height.ensures) (max_height-power c.args.dimensions.now c.requires.heights) }
 
 pub returns-then-opened_values-indices-clause-opens : goal.returns-then-opened_values-indices-clause-opens
 returns-then-opened_values-indices-clause-opens g c = (

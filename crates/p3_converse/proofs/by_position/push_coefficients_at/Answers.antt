@@ -3,7 +3,7 @@ use Rattle.std.proofs.lemmas.List.{get_or_default}
 use Rattle.p3_converse.specs.Positions.{coefficients_at}
 use Rattle.p3_converse.specs.Unfolding.{lists}
 use Rattle.p3_converse.proofs.Positions.{coefficients_at-next}
-use Rattle.p3_converse.proofs.unfolding.push_coefficients_at.Goals as goal
+use Rattle.p3_converse.proofs.by_position.push_coefficients_at.Goals as goal
 
 pub loop-poly-preserved : goal.loop-poly-preserved
 loop-poly-preserved g c =

@@ -1,38 +1,18 @@
 //! Worked values, computed with the hashlib module of Python's standard library from the rules of the format, and
 //! each call at a concrete type through its bound.
 
-ghost use Rattle.std.specs.Prelude.{◌≡◌, ◌<◌, All, IsTrue, IfOk};
-ghost use Rattle.p3_commit.specs.Batch.{max_height, HavePowerHeights, dimensions_of};
+ghost use Rattle.std.specs.Prelude.{◌≡◌, IfOk};
+ghost use Rattle.p3_commit.specs.Batch.{dimensions_of};
 
-use super::heights::greatest_height;
-use super::{Sha256Mmcs, Sha256MmcsError};
-use crate::laws::{opens_law, path_law};
-use crate::mmcs::Mmcs;
-use crate::security::GrindingSites;
-use p3_field::{BabyBear, BabyBear4, ElementBytes, ExtensionField, Field};
+use p3_commit::laws::{opens_law, path_law, shape_law};
+use p3_commit::{
+    GrindingSites, Mmcs, Sha256Mmcs, Sha256MmcsError, have_power_heights, indices_are_below,
+    max_height,
+};
+use p3_field::{BabyBear, BabyBear4, ExtensionField, Field};
 use p3_matrix::{Dimensions, RowMajorMatrix};
 use std::alloc::{AllocError, Global};
 use std::test::Fail;
-
-/// Whether each height is a power of two.
-#[tactic(auto, using(p3_field::proofs::IndexPowers::IsPowerOfTwo_test))]
-fn have_power_heights(dimensions: &[Dimensions]) -> bool
-    ensures { IsTrue result → HavePowerHeights dimensions.now }
-{
-    for d in dimensions {
-        if !d.height.is_power_of_two() {
-            return false;
-        }
-    }
-    true
-}
-
-/// Whether each index is below `bound`.
-fn are_below(indices: &[usize], bound: usize) -> bool
-    ensures { IsTrue result → All (λ i. i < bound) indices.now }
-{
-    indices.iter().all(|i| *i < bound)
-}
 
 /// The dimensions of these matrices.
 fn dimensions<T: Copy>(
@@ -70,7 +50,7 @@ fn opening_at<T: Copy, M: Mmcs<T>>(
     indices: &[usize],
 ) -> Result<Option<(Vec<Vec<Vec<T>>>, M::MultiProof)>, AllocError> {
     let greatest = scheme.get_max_height(data);
-    Ok(if are_below(indices, greatest) {
+    Ok(if indices_are_below(indices, greatest) {
         Some(scheme.open_multi_batch(alloc, indices, data)?)
     } else {
         None
@@ -86,7 +66,7 @@ fn verdict_on<T: Copy, M: Mmcs<T>>(
     opened_values: &[Vec<Vec<T>>],
     proof: &M::MultiProof,
 ) -> Option<Result<(), M::Error>> {
-    if have_power_heights(dimensions) && are_below(indices, greatest_height(dimensions)) {
+    if have_power_heights(dimensions) && indices_are_below(indices, max_height(dimensions)) {
         Some(scheme.verify_multi_batch(commitment, dimensions, indices, opened_values, proof))
     } else {
         None
@@ -170,6 +150,42 @@ fn commits_to_none(rt: HostRuntime) -> Result<(), Fail> {
     Ok(())
 }
 
+/// The two matrices opened at the indices 3, 0 and 3.
+#[derive(Drop)]
+struct Opened {
+    root: [u8; 32],
+    rows: Vec<Vec<Vec<BabyBear>>>,
+    paths: Vec<Vec<[u8; 32]>>,
+}
+
+impl Opened {
+    fn new(alloc: Global) -> Result<Self, Fail> {
+        let scheme = Sha256Mmcs::new();
+        let matrices = two_matrices(alloc)?;
+        let (root, data) = commitment_to(alloc, &scheme, matrices)?.ok_or("heights")?;
+        let (rows, paths) = opening_at(alloc, &scheme, &data, &[3, 0, 3])?.ok_or("indices")?;
+        Ok(Opened { root, rows, paths })
+    }
+
+    /// What verification at these indices answers.
+    fn verdict_at(&self, indices: &[usize]) -> Option<Result<(), Sha256MmcsError>> {
+        let rows = self.rows.as_slice();
+        let scheme = Sha256Mmcs::new();
+        verdict_on(
+            &scheme,
+            &self.root,
+            &TWO_DIMENSIONS,
+            indices,
+            rows,
+            &self.paths,
+        )
+    }
+
+    fn verdict(&self) -> Option<Result<(), Sha256MmcsError>> {
+        self.verdict_at(&[3, 0, 3])
+    }
+}
+
 #[test]
 fn opens_rows_of_two_heights(rt: HostRuntime) -> Result<(), Fail> {
     let scheme = Sha256Mmcs::new();
@@ -178,129 +194,73 @@ fn opens_rows_of_two_heights(rt: HostRuntime) -> Result<(), Fail> {
     assert_eq!(rt; root, ROOT_OF_TWO);
     assert_eq!(rt; scheme.get_max_height(&data), 4);
     assert_eq!(rt; scheme.get_matrices(&data).len(), 2);
-    let (rows, proof) = opening_at(rt.alloc(), &scheme, &data, &[3, 0, 3])?.ok_or("indices")?;
+    let opened = Opened::new(rt.alloc())?;
+    let rows = opened.rows.as_slice();
     assert_eq!(rt; rows.len(), 3);
     assert_eq!(rt; rows[0].len(), 2);
     assert_eq!(rt; rows[0][0].as_slice(), [element(7), element(8)].as_slice());
     assert_eq!(rt; rows[0][1].as_slice(), [element(2_013_265_920)].as_slice());
     assert_eq!(rt; rows[1].len(), 2);
     assert_eq!(rt; rows[1][1].as_slice(), [element(9)].as_slice());
+    assert_eq!(rt; opened.verdict(), Some(Ok(())));
     assert_eq!(rt;
-        verdict_on(
-            &scheme,
-            &root,
-            &TWO_DIMENSIONS,
-            &[3, 0, 3],
-            rows.as_slice(),
-            &proof
-        ),
-        Some(Ok(()))
-    );
-    assert_eq!(rt;
-        verdict_on(
-            &scheme,
-            &root,
-            &TWO_DIMENSIONS,
-            &[3, 1, 3],
-            rows.as_slice(),
-            &proof
-        ),
+        opened.verdict_at(&[3, 1, 3]),
         Some(Err(Sha256MmcsError::RootMismatch))
     );
     path_law();
     opens_law::<BabyBear>();
+    shape_law::<BabyBear>();
     Ok(())
 }
 
 #[test]
-fn refuses_altered_openings(rt: HostRuntime) -> Result<(), Fail> {
-    let scheme = Sha256Mmcs::new();
-    let matrices = two_matrices(rt.alloc())?;
-    let (root, data) = commitment_to(rt.alloc(), &scheme, matrices)?.ok_or("heights")?;
-    let indices = [3, 0, 3];
-    let (mut rows, mut proof) = opening_at(rt.alloc(), &scheme, &data, &indices)?.ok_or("indices")?;
-    assert_eq!(rt; rows.len(), 3);
-    assert_eq!(rt; proof.len(), 3);
-
-    let digest = proof[1].pop().ok_or("a path of two")?;
-    assert_eq!(rt;
-        verdict_on(
-            &scheme,
-            &root,
-            &TWO_DIMENSIONS,
-            &indices,
-            rows.as_slice(),
-            &proof
-        ),
-        Some(Err(Sha256MmcsError::PathLength))
-    );
-    proof[1].push(digest)?;
-
-    assert_eq!(rt; rows[1].len(), 2);
-    rows[1][1].push(element(5))?;
-    assert_eq!(rt;
-        verdict_on(
-            &scheme,
-            &root,
-            &TWO_DIMENSIONS,
-            &indices,
-            rows.as_slice(),
-            &proof
-        ),
-        Some(Err(Sha256MmcsError::RowWidth))
-    );
-    rows[1][1].clear();
-    rows[1][1].push(element(10))?;
-    assert_eq!(rt;
-        verdict_on(
-            &scheme,
-            &root,
-            &TWO_DIMENSIONS,
-            &indices,
-            rows.as_slice(),
-            &proof
-        ),
-        Some(Err(Sha256MmcsError::RootMismatch))
-    );
-    rows[1][1].clear();
-    rows[1][1].push(element(9))?;
-    assert_eq!(rt;
-        verdict_on(
-            &scheme,
-            &root,
-            &TWO_DIMENSIONS,
-            &indices,
-            rows.as_slice(),
-            &proof
-        ),
-        Some(Ok(()))
-    );
-
-    let _row = rows[2].pop();
-    assert_eq!(rt;
-        verdict_on(
-            &scheme,
-            &root,
-            &TWO_DIMENSIONS,
-            &indices,
-            rows.as_slice(),
-            &proof
-        ),
-        Some(Err(Sha256MmcsError::MatrixCount))
-    );
-    let _set = rows.pop();
-    assert_eq!(rt;
-        verdict_on(
-            &scheme,
-            &root,
-            &TWO_DIMENSIONS,
-            &indices,
-            rows.as_slice(),
-            &proof
-        ),
-        Some(Err(Sha256MmcsError::QueryCount))
-    );
+fn refuses_altered_paths(rt: HostRuntime) -> Result<(), Fail> {
+    let mut opened = Opened::new(rt.alloc())?;
+    assert_eq!(rt; opened.paths.len(), 3);
+    let digest = opened.paths[1].pop().ok_or("a path of two")?;
+    assert_eq!(rt; opened.verdict(), Some(Err(Sha256MmcsError::PathLength)));
+    opened.paths[1].push(digest)?;
+    assert_eq!(rt; opened.verdict(), Some(Ok(())));
     Ok(())
+}
+
+#[test]
+fn refuses_altered_rows(rt: HostRuntime) -> Result<(), Fail> {
+    let mut opened = Opened::new(rt.alloc())?;
+    assert_eq!(rt; opened.rows.len(), 3);
+    assert_eq!(rt; opened.rows[1].len(), 2);
+    opened.rows[1][1].push(element(5))?;
+    assert_eq!(rt; opened.verdict(), Some(Err(Sha256MmcsError::RowWidth)));
+    opened.rows[1][1].clear();
+    opened.rows[1][1].push(element(10))?;
+    assert_eq!(rt; opened.verdict(), Some(Err(Sha256MmcsError::RootMismatch)));
+    let _row = opened.rows[2].pop();
+    opened.rows[1][1].clear();
+    opened.rows[1][1].push(element(9))?;
+    assert_eq!(rt; opened.verdict(), Some(Err(Sha256MmcsError::MatrixCount)));
+    let _set = opened.rows.pop();
+    assert_eq!(rt; opened.verdict(), Some(Err(Sha256MmcsError::QueryCount)));
+    Ok(())
+}
+
+#[test]
+fn conditions_of_outside_values(rt: HostRuntime) {
+    let odd = [Dimensions {
+        width: 1,
+        height: 3,
+    }];
+    let empty = [Dimensions {
+        width: 1,
+        height: 0,
+    }];
+    assert!(rt; have_power_heights(&[]));
+    assert!(rt; have_power_heights(&TWO_DIMENSIONS));
+    assert!(rt; !have_power_heights(&odd));
+    assert!(rt; !have_power_heights(&empty));
+    assert_eq!(rt; max_height(&[]), 1);
+    assert_eq!(rt; max_height(&TWO_DIMENSIONS), 4);
+    assert!(rt; indices_are_below(&[3, 0, 3], 4));
+    assert!(rt; !indices_are_below(&[3, 4, 0], 4));
 }
 
 #[test]

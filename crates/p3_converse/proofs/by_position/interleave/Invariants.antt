@@ -1,7 +1,7 @@
 use Rattle.std.proofs.Common.{◌≡◌}
 use Rattle.p3_converse.specs.Positions.{interleaved}
 use Rattle.p3_converse.specs.Unfolding.{lists}
-use Rattle.p3_converse.proofs.unfolding.interleave.Given as goal
+use Rattle.p3_converse.proofs.by_position.interleave.Given as goal
 
 abbrev pub invariant-loop-position : goal.invariant-loop-position
 invariant-loop-position g l = l.entries.items ≡ interleaved g.F.Field.ops (lists l.polys) l.position

@@ -1,0 +1,5 @@
+//! Tests of commitments.
+#![tactic(auto)]
+
+#[cfg(test)]
+mod sha256_mmcs;
