@@ -1,5 +1,5 @@
 //! Definitions and lemmas of algebra: commutative fields, polynomials, interpolation, the points of
-//! two-adic domains and their cosets, words, quotients and batches. It has no program code:
+//! two-adic domains and their cosets, words, quotients, batches and folds. It has no program code:
 //! contracts of the crates above cite `specs/`, their proofs cite `proofs/`, and each function here
 //! is a law, whose contract is a theorem on those definitions.
 #![tactic(auto)]
