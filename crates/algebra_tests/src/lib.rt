@@ -6,6 +6,8 @@
 mod batches;
 pub mod laws;
 #[cfg(test)]
+mod folds;
+#[cfg(test)]
 mod points;
 #[cfg(test)]
 mod values;
