@@ -1,4 +1,5 @@
 pub mod Cosets
+pub mod IndexBlocks
 pub mod IndexPowers
 pub mod IndexReversal
 pub mod IndexSteps
