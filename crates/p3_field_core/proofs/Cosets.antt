@@ -2,18 +2,21 @@
 use Rattle.std.proofs.Common.{◌≡◌, ◌≢◌, ◌⊎◌, inl, inr, ℕ, zero, suc, ◌+◌, ◌^◌, ◌<◌, ◌≤◌, List, [], ◌∷◌, ◌++◌, length, replicate, refl, sym, ap, ap₂, ◌∙◌, arith, Contains, length-append}
 use Rattle.std.proofs.lemmas.List.{length-replicate}
 use Rattle.std.proofs.lemmas.Nat.{pow_pos}
+use Rattle.algebra.specs.Digits.{rev}
+use Rattle.algebra.specs.Interpolation.{AreDistinct}
 use Rattle.algebra.specs.Field.{FieldOps, IsField, IsHomomorphism, sub, pow}
 use Rattle.algebra.specs.Polynomial.{val, tabulate}
 use Rattle.algebra.specs.TwoAdic.{AreRoots}
 use Rattle.algebra.proofs.Ring.{◌:+◌, ◌:*◌, ◌:-◌, ◌:=◌, ring, o, :1, minus}
 use Rattle.algebra.proofs.Combine.{combine, cancel_factor, sub-eq, sub-self}
+use Rattle.algebra.proofs.Digits.{rev-lt, rev-rev}
 use Rattle.algebra.proofs.Powers.{pow-suc_is, pow-mul, pow-one_base}
 use Rattle.algebra.proofs.Values.{val-cons, val-append, val-one, val-zeros}
 use Rattle.algebra.proofs.Points.{full_turn, powers_differ}
 use Rattle.algebra.proofs.Products.{inverse_from_product}
 use Rattle.algebra.proofs.Roots.{zero_from_roots}
 use Rattle.algebra.proofs.Lists.{Each, Off, Distinct, distinct-tabulate, length-tabulate, get_or-tabulate, AllPairs_from_distinct}
-use Rattle.p3_field_core.specs.Coset.{coset_point, coset_points, vanishing, VanishesExactlyOn}
+use Rattle.p3_field_core.specs.Coset.{coset_point, coset_points, bit_reversed_points, vanishing, VanishesExactlyOn}
 
 -- a homomorphism carries inverses
 pub homomorphism-inv : {A E : Type 0} (F : FieldOps A) (K : FieldOps E) (h : A → E) → IsField F → IsField K → IsHomomorphism F K h → (x : A) → x ≢ F.zero → h (F.inv x) ≡ K.inv (h x)
@@ -99,15 +102,32 @@ module _ {A : Type 0} (F : FieldOps A) (L : IsField F) where
         enough : length (turns_less_one m) ≤ suc (length (tabulate (2 ^ k) (λ i. pow F (w k) i)))
         enough = omega (arith, length-turns_less_one m, length-tabulate (2 ^ k) (λ i. pow F (w k) i), n)
 
-    pub vanishes_exactly : (shift : A) → shift ≢ 𝟘 → VanishesExactlyOn F (w k) shift k
-    vanishes_exactly shift n = record {
-      distinct = AllPairs_from_distinct (coset_points F (w k) shift k) (distinct-tabulate (2 ^ k) (coset_point F (w k) shift) (λ i j p q e. not_below i j p (powers_differ F L top w W k i j b (omega (arith, p, q)) q (cancel_factor F L shift (pow F (w k) i) (pow F (w k) j) n e))));
-      zeros = λ x. (λ e. is_point x (sub-eq F L.ring e) (found_or_none (2 ^ k) (λ i. pow F (w k) i) (x ⊗ inv shift)), λ h. is_zero x h);
-    }
+    -- points at different indices differ
+    indexed_distinct : (f : ℕ → ℕ) → ((i : ℕ) → i < 2 ^ k → f i < 2 ^ k)
+        → ((i j : ℕ) → i < 2 ^ k → j < 2 ^ k → f i ≡ f j → i ≡ j)
+        → (shift : A) → shift ≢ 𝟘 → AreDistinct (tabulate (2 ^ k) (λ i. coset_point F (w k) shift (f i)))
+    indexed_distinct f within apart shift n =
+        AllPairs_from_distinct (tabulate (2 ^ k) (λ i. coset_point F (w k) shift (f i)))
+        (distinct-tabulate (2 ^ k) (λ i. coset_point F (w k) shift (f i)) (λ i j p q e. not_below i j p (equal i j (omega (arith, p, q)) q e)))
       where
         not_below : (i j : ℕ) → i < j → i ≡ j → ⊥
         not_below i j p e = omega (arith, p, e)
 
+        equal : (i j : ℕ) → i < 2 ^ k → j < 2 ^ k → coset_point F (w k) shift (f i) ≡ coset_point F (w k) shift (f j) → i ≡ j
+        equal i j l m e = apart i j l m (powers_differ F L top w W k (f i) (f j) b (within i l) (within j m) (cancel_factor F L shift (pow F (w k) (f i)) (pow F (w k) (f j)) n e))
+
+    pub natural_distinct : (shift : A) → shift ≢ 𝟘 → AreDistinct (coset_points F (w k) shift k)
+    natural_distinct = indexed_distinct (λ i. i) (λ i l. l) (λ i j l m e. e)
+
+    pub reversed_distinct : (shift : A) → shift ≢ 𝟘 → AreDistinct (bit_reversed_points F (w k) shift k)
+    reversed_distinct = indexed_distinct (rev k) (λ i l. rev-lt k i) (λ i j l m e. sym (rev-rev k i l) ∙ ap (rev k) e ∙ rev-rev k j m)
+
+    pub vanishes_exactly : (shift : A) → shift ≢ 𝟘 → VanishesExactlyOn F (w k) shift k
+    vanishes_exactly shift n = record {
+      distinct = natural_distinct shift n;
+      zeros = λ x. (λ e. is_point x (sub-eq F L.ring e) (found_or_none (2 ^ k) (λ i. pow F (w k) i) (x ⊗ inv shift)), λ h. is_zero x h);
+    }
+      where
         positive : (n : ℕ) → 0 < n → (m : ℕ) × (n ≡ suc m)
         positive zero l = absurd (omega (arith, l))
         positive (suc m) l = (m, refl)

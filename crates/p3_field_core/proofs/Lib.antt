@@ -1,4 +1,5 @@
 pub mod Cosets
+pub mod Halving
 pub mod IndexBlocks
 pub mod IndexPowers
 pub mod IndexReversal

@@ -76,6 +76,17 @@ pub trait Field: Copy
     fn halve(self) -> Self
         ensures { ops.add result result ≡ self };
 
+    /// The element divided by `2^exponent`, by halving.
+    fn div_2exp_u64(self, exponent: u64) -> Self
+        ensures { ops.mul (multiple ops (2 ^ exponent)) result ≡ self }
+    {
+        let mut quotient = self;
+        for _ in 0..exponent {
+            quotient = quotient.halve();
+        }
+        quotient
+    }
+
     /// The element to a power, by squaring and multiplying.
     fn exp_u64(self, power: u64) -> Self
         ensures { result ≡ pow ops self power }

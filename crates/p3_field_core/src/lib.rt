@@ -11,6 +11,7 @@ pub mod extension;
 pub mod field;
 pub mod index;
 pub mod laws;
+pub mod powers;
 pub mod prime_field;
 pub mod two_adic;
 
@@ -20,5 +21,6 @@ pub use crate::element_bytes::ElementBytes;
 pub use crate::extension::ExtensionField;
 pub use crate::field::Field;
 pub use crate::index::{log2_strict_usize, reverse_bits_len, reverse_slice_index_bits};
+pub use crate::powers::{bit_reversed_powers, shifted_powers};
 pub use crate::prime_field::PrimeField64;
 pub use crate::two_adic::TwoAdicField;
