@@ -1,5 +1,5 @@
--- Products modulo 2013265921 by an estimate `h` of their quotient: `q` is the quotient of `2^32 w`, and `h`
--- that of `x q` by `2^32`.
+-- Products modulo 2013265921 by an estimate `h` of their quotient: `q` is the quotient of `2^32 w`,
+-- and `h` that of `x q` by `2^32`.
 use Rattle.std.proofs.Common.{◌≡◌, ℕ, ◌+◌, ◌-◌, ◌*◌, ◌/◌, ◌%◌, ◌<◌, ◌≤◌, ap, sym, ◌∙◌, arith, lit<}
 use Rattle.std.proofs.Math.Nat.{div-add-mod, mod-lt, add-mul-mod_self_right, mul-le-mul_left}
 
@@ -35,5 +35,8 @@ module _ (x w q h : ℕ) (is_quotient : q ≡ w * 4294967296 / 2013265921)
   -- what is left counts as the product
   pub rest_is : (x * w - h * 2013265921) % 2013265921 ≡ x * w % 2013265921
   rest_is = sym (ap (λ n. n % 2013265921)
-      (let e : x * w ≡ (x * w - h * 2013265921) + h * 2013265921 = omega (arith, estimate_below) in e)
+      (let e : x * w ≡ (x * w - h * 2013265921) + h * 2013265921 = omega (arith, estimate_below) in
+      e)
       ∙ add-mul-mod_self_right (x * w - h * 2013265921) h 2013265921)
+
+pub ruleset estimates = (estimate_below, rest_below)

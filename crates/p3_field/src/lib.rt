@@ -1,5 +1,6 @@
-//! Finite fields and their extensions: the traits that the layers above are generic over, and the field
-//! BabyBear with its extension of degree 4. A facade: `p3_field_core` and `p3_baby_bear` hold the code.
+//! Finite fields and their extensions: the traits that the layers above are generic over, and the
+//! field BabyBear with its extension of degree 4. A facade: `p3_field_core` and `p3_baby_bear` hold
+//! the code.
 #![tactic(auto)]
 
 pub mod laws;

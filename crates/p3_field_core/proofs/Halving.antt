@@ -12,7 +12,8 @@ module _ {A : Type 0} (F : FieldOps A) (R : IsRing F) where
   pub halved_once_more : (k : ℕ) (x quotient half : A) → F.add half half ≡ quotient
       → F.mul (multiple F (2 ^ k)) quotient ≡ x → F.mul (multiple F (2 ^ (k + 1))) half ≡ x
   halved_once_more k x quotient half twice e =
-      ap (λ n. F.mul n half) (ap (λ n. multiple F (2 ^ n)) (add-one k) ∙ ap (multiple F) (double k) ∙ multiple-add F R (2 ^ k) (2 ^ k))
+      ap (λ n. F.mul n half) (ap (λ n. multiple F (2 ^ n)) (add-one k) ∙ ap (multiple F) (double k)
+      ∙ multiple-add F R (2 ^ k) (2 ^ k))
       ∙ ring F R 2 (λ m h. (m :+ m) :* h := m :* (h :+ h)) refl (multiple F (2 ^ k)) half
       ∙ ap (λ y. F.mul (multiple F (2 ^ k)) y) twice
       ∙ e

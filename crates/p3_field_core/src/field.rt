@@ -63,8 +63,8 @@ pub trait Field: Copy
         self * self
     }
 
-    /// The element made ready as the factor of many products. This costs a product or more: `times` gains it
-    /// back where a field has a faster way.
+    /// The element made ready as the factor of many products. This costs a product or more: `times`
+    /// gains it back where a field has a faster way.
     fn prepare(self) -> Self::Prepared
         ensures { factor_of result ≡ self };
 
@@ -119,7 +119,8 @@ pub trait Field: Copy
     fn from_u64(n: u64) -> Self
         ensures { result ≡ multiple ops n };
 
-    /// The multiplicative inverse. The caller knows that the element isn't zero; `try_inverse` tests it.
+    /// The multiplicative inverse. The caller knows that the element isn't zero; `try_inverse`
+    /// tests it.
     fn inverse(self) -> Self
         requires nonzero { self ≢ ops.zero }
         ensures { result ≡ ops.inv self };

@@ -13,7 +13,8 @@ pub fn log2_strict_usize(n: usize) -> usize
     n.trailing_zeros() as usize
 }
 
-/// Each two neighbours of `width` digits in exchanged places, where `lower` has ones at the lower of each two.
+/// Each two neighbours of `width` digits in exchanged places, where `lower` has ones at the lower
+/// of each two.
 fn exchange_neighbors(x: usize, width: u32, lower: usize) -> usize
     requires width { width < 64 }
     requires fits { lower * 2 ^ width + lower < 2 ^ 64 }
@@ -34,7 +35,8 @@ fn reverse_bits(x: usize) -> usize
     exchange_neighbors(halves, 32, 0x0000_0000_ffff_ffff)
 }
 
-/// The number whose `bit_len` binary digits are the lowest `bit_len` of `x` in reverse order, for a `bit_len` up to
+/// The number whose `bit_len` binary digits are the lowest `bit_len` of `x` in reverse order, for a
+/// `bit_len` up to
 /// 64. The digits of `x` above them aren't read.
 pub fn reverse_bits_len(x: usize, bit_len: usize) -> usize
     requires bit_len { bit_len ≤ 64 }
@@ -47,8 +49,9 @@ pub fn reverse_bits_len(x: usize, bit_len: usize) -> usize
     }
 }
 
-/// Puts the `2^k` entries of `vals` into bit-reversed order, in place: the new entry `i` is the old one at the index
-/// whose `k` binary digits are those of `i` in reverse order. A second call puts them back.
+/// Puts the `2^k` entries of `vals` into bit-reversed order, in place: the new entry `i` is the old
+/// one at the index whose `k` binary digits are those of `i` in reverse order. A second call puts
+/// them back.
 pub fn reverse_slice_index_bits<F>(vals: &mut [F])
     requires power_of_two { IsPowerOfTwo (length vals.old) }
     ensures { (k : ℕ) → length vals.old ≡ 2 ^ k → vals.new ≡ bit_reversed k vals.old }
@@ -56,8 +59,8 @@ pub fn reverse_slice_index_bits<F>(vals: &mut [F])
     let len = vals.len();
     let mut j = 0;
     for i in 1..len {
-        // `j` is `i` with its digits reversed. Counting up flips the digits through the lowest 1 of `i`: in `j` they
-        // are the highest. So no index is reversed anew.
+        // `j` is `i` with its digits reversed. Counting up flips the digits through the lowest 1 of
+        // `i`: in `j` they are the highest. So no index is reversed anew.
         j ^= len - (len >> (i.trailing_zeros() + 1));
         if i < j {
             vals.swap(i, j);

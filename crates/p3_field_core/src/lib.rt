@@ -1,7 +1,8 @@
-//! The traits of finite fields and their extensions that the layers above are generic over, and what is
-//! computed from these alone: cosets, batched inverses, bit-reversed order. Each call's contract is stated
-//! over the field's operations, a record of mathematics; what holds of that record (the laws of a commutative
-//! field, roots of unity) is a law of the trait, which each instance proves.
+//! The traits of finite fields and their extensions that the layers above are generic over, and
+//! what is computed from these alone: cosets, batched inverses, bit-reversed order. Each call's
+//! contract is stated over the field's operations, a record of mathematics; what holds of that
+//! record (the laws of a commutative field, roots of unity) is a law of the trait, which each
+//! instance proves.
 #![tactic(auto)]
 
 pub mod batch_inverse;

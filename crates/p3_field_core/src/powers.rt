@@ -16,15 +16,16 @@ pub fn powers<F: Field>(alloc: Global, base: F, count: usize) -> Result<Vec<F>, 
     shifted_powers(alloc, F::ONE, base, count)
 }
 
-/// The products of `first` with the first `count` powers of `base`: `first`, `first * base` and so on.
+/// The products of `first` with the first `count` powers of `base`: `first`, `first * base` and so
+/// on.
 pub fn shifted_powers<F: Field>(
     alloc: Global,
     first: F,
     base: F,
     count: usize,
 ) -> Result<Vec<F>, AllocError>
-    ensures { IfOk result (λ powers.
-        powers.items ≡ tabulate count (λ i. F.ops.mul first (pow F.ops base i))) }
+    ensures { IfOk result (λ powers. powers.items
+        ≡ tabulate count (λ i. F.ops.mul first (pow F.ops base i))) }
 {
     let mut powers = Vec::with_capacity(alloc, count)?;
     let mut power = first;
@@ -43,8 +44,8 @@ pub fn bit_reversed_powers<F: Field>(
     log_count: usize,
 ) -> Result<Vec<F>, AllocError>
     requires count_fits { log_count < 64 }
-    ensures { IfOk result (λ powers.
-        powers.items ≡ tabulate (2 ^ log_count) (λ i. F.ops.mul first (pow F.ops base (rev log_count i)))) }
+    ensures { IfOk result (λ powers. powers.items
+        ≡ tabulate (2 ^ log_count) (λ i. F.ops.mul first (pow F.ops base (rev log_count i)))) }
 {
     let mut powers = shifted_powers(alloc, first, base, 1 << log_count)?;
     reverse_slice_index_bits(&mut powers);

@@ -46,7 +46,8 @@ impl Sub for BabyBear {
 
     #[tactic(auto, unfolding(crate::specs::BabyBear::baby_bear))]
     fn sub(self, rhs: BabyBear) -> BabyBear {
-        // a difference below 0 wraps, and comes back by the order; one that doesn't is the lesser of the two
+        // a difference below 0 wraps, and comes back by the order; one that doesn't is the lesser
+        // of the two
         let difference = self.value.wrapping_sub(rhs.value);
         BabyBear {
             value: difference.min(difference.wrapping_add(P)),

@@ -26,9 +26,9 @@ impl BabyBearFactor {
         }
     }
 
-    /// The product, by V. Shoup's method: the quotient of the product by the order is estimated by the prepared
-    /// one, at most one too small, so that less than twice the order is left.
-    #[tactic(auto, using(crate::proofs::Factors::estimate_below, crate::proofs::Factors::rest_below))]
+    /// The product, by V. Shoup's method: the quotient of the product by the order is estimated by
+    /// the prepared one, at most one too small, so that less than twice the order is left.
+    #[tactic(auto, using(crate::proofs::Factors::estimates))]
     pub(super) fn times(self, x: BabyBear) -> BabyBear
         ensures { result ≡ baby_bear.mul x self.factor }
     {
