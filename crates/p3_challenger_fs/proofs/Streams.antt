@@ -13,7 +13,7 @@ use Rattle.p3_challenger_fs.specs.declared.pattern.TypeTag.{TypeTag}
 use Rattle.p3_challenger_fs.specs.declared.pattern.TypeTag.TheVariants.{Opaque, Algebra, Bits, Marker}
 use Rattle.p3_challenger_fs.specs.declared.pattern.Length.{Length}
 use Rattle.p3_challenger_fs.specs.declared.pattern.Length.TheVariants.{Scalar, Fixed}
-use Rattle.p3_challenger_fs.specs.Pattern.{Step, number_bytes, text_bytes, hierarchy_byte, kind_byte, type_bytes, length_bytes, step_bytes, seed_stream}
+use Rattle.p3_challenger_fs.specs.Pattern.{Step, step, number_bytes, text_bytes, hierarchy_byte, kind_byte, type_bytes, length_bytes, step_bytes, seed_stream}
 use Rattle.p3_challenger_fs.specs.Description.{Description, stream_of}
 use Rattle.p3_challenger_fs.specs.StreamLaws.{FitsNumber, FitsText, FitsType, FitsLength, FitsStep, FitsStream}
 
@@ -103,9 +103,6 @@ three_determined {A} {B} {C} {P} {Q} {R} {f} {g} {h} D E G x x' y y' z z' s t px
 pub record FitsWhole (s : Step) : Type 0 where
   pub numbers : FitsStep s
   pub label : FitsText s.label
-
-abbrev step : Hierarchy → Kind → TypeTag → List ℕ → Length → Step
-step h k a l n = record { hierarchy = h; kind = k; type_tag = a; label = l; length = n }
 
 same_step : (h h' : Hierarchy) (k k' : Kind) (a a' : TypeTag) (l l' : List ℕ) (n n' : Length) → h ≡ h' → k ≡ k' → a ≡ a' → l ≡ l' → n ≡ n'
     → step h k a l n ≡ step h' k' a' l' n'
