@@ -3,8 +3,8 @@
 ghost use Rattle.std.specs.Prelude.{◌≡◌, ◌+◌, ◌<◌, ◌≤◌, ◌^◌, ℕ, [], ◌∷◌, length, IfOk};
 ghost use Rattle.algebra.specs.Field.{pow};
 ghost use Rattle.algebra.specs.Polynomial.{tabulate};
-ghost use Rattle.p3_fri_folding.specs.Fold.{fold_value, IsHalfInverse, AreHalfInverses};
-ghost use Rattle.p3_fri_folding.specs.FoldLaws.{two_adic_lowers_degrees};
+ghost use Rattle.algebra.specs.Folds.{fold_value, IsHalfInverse, AreHalfInverses};
+ghost use Rattle.algebra.proofs.FoldedWords.{two_adic_lowers_degrees};
 
 use crate::strategy::FriFoldingStrategy;
 use p3_field::{

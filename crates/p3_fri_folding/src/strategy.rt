@@ -4,7 +4,8 @@ ghost use Rattle.std.specs.Prelude.{◌≡◌, ◌+◌, ◌*◌, ◌<◌, ◌≤
 ghost use Rattle.std.specs.Int.{IsPowerOfTwo};
 ghost use Rattle.algebra.specs.Words.{IsWord};
 ghost use Rattle.p3_matrix.specs.Matrix.{rows, matrix_width};
-ghost use Rattle.p3_fri_folding.specs.Strategy.{folded_rows, LowersDegrees};
+ghost use Rattle.algebra.specs.Folds.{LowersDegrees};
+ghost use Rattle.p3_fri_folding.specs.Strategy.{folded_rows};
 
 use p3_field::{ExtensionField, TwoAdicField};
 use p3_matrix::RowMajorMatrix;
