@@ -4,7 +4,7 @@ use Rattle.std.specs.Coded.{Coded-set, coded_ℕ, Π_prop}
 use Rattle.std.specs.Prelude.{ℕ, ◌^◌, List}
 use Rattle.std.proofs.Common.{sym, ◌∙◌}
 use Rattle.std.specs.Int.{IsPowerOfTwo}
-use Rattle.p3_field.proofs.IndexPowers.{exponents_agree}
+use Rattle.p3_field_core.proofs.IndexPowers.{exponents_agree}
 use Rattle.p3_matrix.specs.declared.Dimensions.{Dimensions}
 use Rattle.p3_commit.specs.Batch.{HavePowerHeights}
 

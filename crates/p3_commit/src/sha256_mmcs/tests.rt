@@ -15,7 +15,7 @@ use std::alloc::{AllocError, Global};
 use std::test::Fail;
 
 /// Whether each height is a power of two.
-#[tactic(auto, using(p3_field::proofs::IndexPowers::IsPowerOfTwo_test))]
+#[tactic(auto, using(p3_field_core::proofs::IndexPowers::IsPowerOfTwo_test))]
 fn have_power_heights(dimensions: &[Dimensions]) -> bool
     ensures { IsTrue result → HavePowerHeights dimensions.now }
 {
