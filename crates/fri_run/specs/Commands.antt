@@ -5,7 +5,7 @@ use Rattle.std.specs.Str.{bytes_eq}
 use Rattle.algebra.specs.Field.{multiple}
 use Rattle.std.specs.List.{range_with_len}
 use Rattle.p3_field.specs.BabyBear.{baby_bear, root}
-use Rattle.p3_field.specs.declared.baby_bear.BabyBear.{BabyBear}
+use Rattle.p3_field.specs.baby_bear.BabyBear.{BabyBear}
 use Rattle.p3_fri_core.specs.Schedule.{schedule}
 use Rattle.p3_fri_core.specs.Fold.{folded_rounds}
 use Rattle.fri_run.specs.Texts.{parsed_number, parsed_list, line}

@@ -1,7 +1,7 @@
 -- The least number that passes a test, and the search for it.
 use Rattle.std.proofs.Common.{◌≡◌, ℕ, zero, suc, ◌+◌, ◌<◌, ◌⊎◌, inl, inr, Bool, true, false, Some, None, refl, ap, sym, ◌∙◌, arith}
 use Rattle.std.specs.Option.{option_map}
-use Rattle.p3_field.specs.declared.baby_bear.BabyBear.{BabyBear}
+use Rattle.p3_field.specs.baby_bear.BabyBear.{BabyBear}
 use Rattle.p3_field.specs.BabyBear.{baby_bear, element}
 use Rattle.p3_field.specs.BabyBearLaws.{multiple_is, multiple_canonical}
 use Rattle.algebra.specs.Field.{multiple}

@@ -3,7 +3,7 @@ use Rattle.std.specs.Prelude.{ℕ, zero, suc, ◌%◌, ◌^◌, Bool, if◌then�
 use Rattle.std.specs.Int.{w64, from_le_bytes}
 use Rattle.std.specs.Option.{option_map}
 use Rattle.sha2.specs.Sha256.{sha256}
-use Rattle.p3_field.specs.declared.baby_bear.BabyBear.{BabyBear}
+use Rattle.p3_field.specs.baby_bear.BabyBear.{BabyBear}
 use Rattle.p3_field.specs.BabyBear.{element, number_bytes}
 use Rattle.p3_challenger.specs.Run.{After, grind_attempt}
 use Rattle.p3_challenger.specs.declared.sha256_challenger.Sha256Challenger.{Sha256Challenger}

@@ -1,8 +1,3 @@
-pub mod Cosets
-pub mod IndexPowers
-pub mod IndexReversal
-pub mod IndexSteps
-pub mod IndexSwaps
-pub mod Inverses
-pub mod Orders
-pub mod QuarticSteps
+pub use Rattle.p3_field_core.proofs.IndexPowers
+pub use Rattle.p3_field_core.proofs.IndexReversal
+pub use Rattle.p3_field_core.proofs.IndexSwaps

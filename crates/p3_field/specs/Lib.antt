@@ -1,11 +1,11 @@
-pub mod BabyBear
-pub mod BabyBearLaws
-pub mod BabyBear4
-pub mod BabyBear4Laws
-pub mod Coset
-pub mod ExtensionLaws
-pub mod Index
-pub mod Order
+pub use Rattle.p3_field_core.specs.Coset
+pub use Rattle.p3_field_core.specs.ExtensionLaws
+pub use Rattle.p3_field_core.specs.Index
+pub use Rattle.p3_field_core.specs.Order
+pub use Rattle.p3_baby_bear.specs.BabyBear
+pub use Rattle.p3_baby_bear.specs.BabyBearLaws
+pub use Rattle.p3_baby_bear.specs.BabyBear4
+pub use Rattle.p3_baby_bear.specs.BabyBear4Laws
 pub use Rattle.algebra.specs.Digits
 pub use Rattle.algebra.specs.Field
 pub use Rattle.algebra.specs.Polynomial
@@ -14,3 +14,5 @@ pub use Rattle.algebra.specs.QuarticExtension
 pub use Rattle.algebra.specs.Primes
 pub use Rattle.algebra.specs.Products
 pub use Rattle.algebra.specs.TwoAdic
+pub use Rattle.p3_baby_bear.specs.declared.baby_bear
+pub use Rattle.p3_baby_bear.specs.declared.baby_bear4

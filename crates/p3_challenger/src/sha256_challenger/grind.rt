@@ -1,7 +1,7 @@
 //! The search for witnesses.
 
 ghost use Rattle.std.specs.Prelude.{◌≡◌, ◌<◌, ◌≤◌, ℕ, IfSome, IfNone};
-ghost use Rattle.p3_field.specs.declared.baby_bear.BabyBear.{BabyBear};
+ghost use Rattle.p3_field.specs.baby_bear.BabyBear.{BabyBear};
 ghost use Rattle.p3_field.specs.BabyBear.{element};
 ghost use Rattle.p3_challenger.specs.Run.{grind_attempt, Passes};
 ghost use Rattle.p3_challenger.specs.Sha256.{element_observed, bits_sampled, least_witness};

@@ -1,5 +1,5 @@
 use Rattle.std.proofs.Common.{◌≡◌, ◌%◌, Some, ap, refl, sym, ◌∙◌, arith}
-use Rattle.p3_field.specs.declared.baby_bear.BabyBear.{BabyBear}
+use Rattle.p3_field.specs.baby_bear.BabyBear.{BabyBear}
 use Rattle.p3_field.specs.BabyBearLaws.{canonical_multiple}
 use Rattle.p3_challenger.proofs.Grinds.{passes, fails_next, fails_element, first_at_no_bits, first_element, state_at_no_bits, least_witness-none, least_witness-found}
 use Rattle.p3_challenger.proofs.sha256_challenger.grind.Sha256ChallengerGrindingChallenger.grind.Goals as goal

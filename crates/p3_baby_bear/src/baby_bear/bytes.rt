@@ -1,0 +1,29 @@
+//! BabyBear's elements as bytes.
+
+ghost use Rattle.std.specs.Prelude.{◌≡◌};
+ghost use Rattle.p3_baby_bear.specs.BabyBear.{number_bytes};
+ghost use Rattle.p3_baby_bear.specs.BabyBearLaws.{bytes_length, bytes_injective};
+
+use super::BabyBear;
+use p3_field_core::element_bytes::ElementBytes;
+
+/// The canonical number in four bytes, little endian.
+impl ElementBytes for BabyBear {
+    ghost LEN = { 4 };
+
+    const LEN: usize = 4;
+
+    ghost bytes = { number_bytes };
+
+    fn byte(self, index: usize) -> u8 {
+        self.value.to_le_bytes()[index]
+    }
+
+    fn write_bytes(self, out: &mut [u8]) {
+        out.copy_from_slice(&self.value.to_le_bytes());
+    }
+
+    ghost bytes_length = { bytes_length };
+
+    ghost bytes_injective = { bytes_injective };
+}

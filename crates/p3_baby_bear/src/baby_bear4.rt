@@ -1,0 +1,18 @@
+//! BabyBear4, the extension of BabyBear by a root of `X^4 - 11`.
+
+mod arithmetic;
+mod bytes;
+mod extension;
+mod field;
+pub mod laws;
+
+use crate::baby_bear::BabyBear;
+
+/// An element of the extension of degree 4: a polynomial of degree below 4 over BabyBear, modulo `X^4 - 11`.
+#[derive(Clone, Copy, Debug, PartialEq, Eq)]
+pub struct BabyBear4 {
+    constant: BabyBear,
+    linear: BabyBear,
+    quadratic: BabyBear,
+    cubic: BabyBear,
+}

@@ -1,7 +1,0 @@
-use Rattle.std.proofs.Common.{◌/◌, arith}
-use Rattle.std.proofs.lemmas.Nat.{and_mask}
-use Rattle.p3_field.proofs.QuarticSteps.{eleven_times_is}
-use Rattle.p3_field.proofs.baby_bear4.arithmetic.eleven_times.Goals as goal
-
-pub returns-clause-value : goal.returns-clause-value
-returns-clause-value c = eleven_times_is c.args.sum (c.args.sum / 4294967296) _ (let low = and_mask c.args.sum 32 in omega (arith, low))

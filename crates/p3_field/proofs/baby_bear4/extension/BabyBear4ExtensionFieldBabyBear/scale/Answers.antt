@@ -1,7 +1,0 @@
-use Rattle.std.proofs.Common.{◌∙◌}
-use Rattle.p3_field.specs.BabyBear4Laws.{same_coefficients}
-use Rattle.p3_field.proofs.QuarticSteps.{scaled_is}
-use Rattle.p3_field.proofs.baby_bear4.extension.BabyBear4ExtensionFieldBabyBear.scale.Goals as goal
-
-pub returns : goal.returns
-returns c = same_coefficients c.mul.ensures c.mul-2.ensures c.mul-3.ensures c.mul-4.ensures ∙ scaled_is c.args.self c.args.factor

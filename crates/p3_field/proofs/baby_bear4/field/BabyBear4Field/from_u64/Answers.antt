@@ -1,8 +1,0 @@
-use Rattle.std.proofs.Common.{refl, ◌∙◌}
-use Rattle.p3_field.specs.BabyBearLaws.{same_number}
-use Rattle.p3_field.specs.BabyBear4Laws.{same_coefficients}
-use Rattle.p3_field.proofs.QuarticSteps.{multiple4_is}
-use Rattle.p3_field.proofs.baby_bear4.field.BabyBear4Field.from_u64.Goals as goal
-
-pub returns : goal.returns
-returns c = same_coefficients c.from_u64.ensures (same_number _ _ refl) (same_number _ _ refl) (same_number _ _ refl) ∙ multiple4_is c.args.n

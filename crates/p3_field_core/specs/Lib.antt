@@ -1,0 +1,10 @@
+pub mod Coset
+pub mod ExtensionLaws
+pub mod Index
+pub mod Order
+pub use Rattle.algebra.specs.Digits
+pub use Rattle.algebra.specs.Field
+pub use Rattle.algebra.specs.Interpolation
+pub use Rattle.algebra.specs.Polynomial
+pub use Rattle.algebra.specs.Products
+pub use Rattle.algebra.specs.TwoAdic

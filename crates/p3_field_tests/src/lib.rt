@@ -1,0 +1,15 @@
+//! Tests of `p3_field`: worked values, and each public call at a concrete type through its bound.
+#![tactic(auto)]
+
+#[cfg(test)]
+mod baby_bear;
+#[cfg(test)]
+mod baby_bear4;
+#[cfg(test)]
+mod batch_inverse;
+#[cfg(test)]
+mod coset;
+#[cfg(test)]
+mod index;
+#[cfg(test)]
+mod prepared;
