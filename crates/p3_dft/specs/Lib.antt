@@ -1,5 +1,6 @@
 pub mod Evaluations
 pub mod Strided
+pub mod Butterflies
 pub use Rattle.algebra.specs.Field
 pub use Rattle.algebra.specs.Polynomial
 pub use Rattle.algebra.specs.Interpolation
