@@ -95,8 +95,8 @@ fn a_remainder_has_the_values_on_a_coset(rt: HostRuntime) {
 
 #[test]
 fn a_periodic_column_repeats(rt: HostRuntime) {
-    // the column 1, 3 is 2 - X at 1 and -1; over eight rows it has at x the value 2 - x^4, on sixteen
-    // points of shift 31 four values in turn
+    // the column 1, 3 is 2 - X at 1 and -1; over eight rows it has at x the value 2 - x^4, on
+    // sixteen points of shift 31 four values in turn
     let table = [2012342402, 21214579, 923523, 1992051346];
     for index in 0..16 {
         let root = BabyBear::two_adic_generator(4);

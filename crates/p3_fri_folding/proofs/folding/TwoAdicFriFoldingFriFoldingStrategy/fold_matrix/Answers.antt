@@ -1,4 +1,5 @@
-use Rattle.std.proofs.Common.{◌≡◌, ℕ, ◌^◌, ◌<◌, [], ◌∷◌, ◌++◌, length, slice_index_or, get_or, subst, sym, ap, ap₂, ◌∙◌, arith}
+use Rattle.std.proofs.Common.{◌≡◌, ℕ, ◌^◌, ◌<◌, [], ◌∷◌, ◌++◌, length, slice_index_or, get_or}
+use Rattle.std.proofs.Common.{subst, sym, ap, ap₂, ◌∙◌, arith}
 use Rattle.algebra.specs.Polynomial.{tabulate}
 use Rattle.algebra.proofs.Lists.{tabulate-next}
 use Rattle.p3_field.proofs.IndexPowers.{exponents_agree}
