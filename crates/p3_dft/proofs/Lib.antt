@@ -12,3 +12,4 @@ pub mod Turns
 pub mod Batches
 pub mod SingleColumns
 pub mod Extensions
+pub mod ReversedColumns

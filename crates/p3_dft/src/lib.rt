@@ -3,6 +3,7 @@
 #![tactic(auto)]
 
 mod butterflies;
+pub mod laws;
 mod layers;
 mod radix_2_dit;
 mod scaling;

@@ -41,7 +41,8 @@ pub(crate) fn transform<F: Field, EF: ExtensionField<F>>(
     Ok(current)
 }
 
-/// From the values at the powers of the root of unity to the coefficients, coefficient `i` times `ratio^i`.
+/// From the values at the powers of the root of unity to the coefficients, coefficient `i` times
+/// `ratio^i`.
 pub(crate) fn interpolate<F: TwoAdicField, EF: ExtensionField<F>>(
     alloc: Global,
     values: Vec<EF>,
