@@ -1,6 +1,6 @@
 //! Playing the steps of a description, one after another.
 
-ghost use Rattle.std.specs.Prelude.{◌≡◌, ◌≤◌, IfOk, IfSome, IfNone, drop, length};
+ghost use Rattle.std.specs.Prelude.{◌≡◌, ◌≤◌, IfOk, IfSome, IfNone, OnErr, drop, length};
 ghost use Rattle.std.specs.Bool.{OnTrue};
 ghost use Rattle.std.specs.List.{flat_map};
 ghost use Rattle.p3_challenger_fs.specs.declared.pattern.Hierarchy.TheVariants.{Atomic, Begin, End};
@@ -140,8 +140,8 @@ impl Script {
         challenger.sample_algebra_element()
     }
 
-    /// Draws `count` numbers of `width` bits. After a refusal the challenger may have moved, and no
-    /// step may follow.
+    /// Draws `count` numbers of `width` bits. Room for all is taken first, so a refusal leaves the
+    /// challenger as it was; no step may follow it.
     pub fn challenge_bits<C: CanSampleBits>(
         &mut self,
         alloc: Global,
@@ -156,6 +156,7 @@ impl Script {
         ensures state { IfOk result (λ _.
             challenger.new ≡ (draws (λ c. C.sampled_bits c width) challenger.old count).state) }
         ensures steps { IfOk result (λ _. remaining self.new ≡ drop 1 (remaining self.old)) }
+        ensures unchanged { OnErr result (challenger.new ≡ challenger.old) }
     {
         self.played += 1;
         draw_numbers(alloc, challenger, width, count)
@@ -179,7 +180,7 @@ impl Script {
     }
 }
 
-/// Draws `count` numbers of `width` bits.
+/// Draws `count` numbers of `width` bits, once there is room for all.
 fn draw_numbers<C: CanSampleBits>(
     alloc: Global,
     challenger: &mut C,
@@ -191,6 +192,7 @@ fn draw_numbers<C: CanSampleBits>(
         numbers.items ≡ (draws (λ c. C.sampled_bits c width) challenger.old count).value) }
     ensures state { IfOk result (λ _.
         challenger.new ≡ (draws (λ c. C.sampled_bits c width) challenger.old count).state) }
+    ensures unchanged { OnErr result (challenger.new ≡ challenger.old) }
 {
     let mut numbers = Vec::with_capacity(alloc, count)?;
     for _ in 0..count {

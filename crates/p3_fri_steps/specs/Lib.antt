@@ -1,5 +1,7 @@
 pub mod Steps
 pub mod Fits
 pub mod Failures
+pub mod Labels
 pub mod Phases
 pub mod Pow
+pub mod Reached

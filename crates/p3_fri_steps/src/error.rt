@@ -11,7 +11,8 @@ use thiserror::Error;
 #[derive(Clone, Copy, Debug, PartialEq, Eq, Error)]
 pub enum FriProverError {
     /// A polynomial is sent in full only if every input is taller than its word.
-    #[error("the input's log height {log_input_height} is not above the final log height {log_final_height}")]
+    #[error("the input's log height {log_input_height} is not above the final log height \
+         {log_final_height}")]
     InputHeightTooSmall {
         log_input_height: usize,
         log_final_height: usize,

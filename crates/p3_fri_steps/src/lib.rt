@@ -1,4 +1,5 @@
-//! What both protocols' transcripts share: proofs of work, steps and labels, and why a prover refuses.
+//! What both protocols' transcripts share: proofs of work, steps and labels, and why a prover
+//! refuses.
 #![tactic(auto)]
 
 pub mod error;

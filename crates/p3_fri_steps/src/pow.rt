@@ -1,11 +1,12 @@
 //! Proofs of work that are asked for only where there are bits.
 
-ghost use Rattle.std.specs.Prelude.{◌≡◌, ◌≢◌, ◌≤◌, ◌<◌, ◌↔◌, ◌==◌, ◌++◌, if◌then◌else◌, ℕ, List, None, Err, IsTrue, IsOk, IfOk, IfErr, OnOk, OnErr, unwrap_or};
-ghost use Rattle.p3_challenger_fs.specs.declared.pattern.Turn.{Turn};
+ghost use Rattle.std.specs.Prelude.{◌≡◌, ◌≢◌, ◌≤◌, ◌↔◌, Err, IsTrue, IsOk, IfOk, IfErr};
+ghost use Rattle.std.specs.Prelude.{OnOk, OnErr, IsSome, unwrap_or};
 ghost use Rattle.p3_challenger.specs.Run.{grind_attempt, Passes};
 ghost use Rattle.p3_challenger.specs.Script.{remaining};
 ghost use Rattle.p3_fri_steps.specs.declared.error.FriProverError.TheVariants.{NoPowWitness};
-ghost use Rattle.p3_fri_steps.specs.Pow.{pow_turns, shown_attempt};
+ghost use Rattle.p3_fri_steps.specs.Pow.{IsPowNext, PowPlayed, found_witness, shown_attempt};
+ghost use Rattle.p3_fri_steps.specs.Pow.{NonePasses, IsMissing, IsWrong};
 
 use crate::error::FriProverError;
 use crate::pow_phase::PowPhase;
@@ -13,21 +14,26 @@ use p3_challenger::fs::Script;
 use p3_challenger::{FieldChallenger, GrindingChallenger};
 use p3_field::Field;
 
-/// Makes the proof of work, of which there is none at no bits.
+/// Makes the proof of work, of which there is none at no bits: answers what the challenger's search
+/// gives. Where no element passes it is refused, with the challenger unchanged.
 pub fn grind<F: Field, C: FieldChallenger<F> + GrindingChallenger<Witness = F>>(
     script: &mut Script,
     challenger: &mut C,
     bits: usize,
     phase: PowPhase,
 ) -> Result<Option<F>, FriProverError>
-    requires next { (rest : List Turn) × (remaining script.old ≡ pow_turns bits ++ rest) }
+    requires next { IsPowNext bits (remaining script.old) }
     requires at_most_max { bits ≤ C.MAX_SAMPLE_BITS }
-    ensures witness { IfOk result (λ w. w ≡ (if bits == 0 then None else C.solution challenger.old bits)) }
-    ensures passes { IfOk result (λ w. Passes C.observed C.sampled_bits challenger.old bits (unwrap_or w F.ops.zero)) }
-    ensures state { IfOk result (λ w. challenger.new ≡ (grind_attempt C.observed C.sampled_bits challenger.old bits (unwrap_or w F.ops.zero)).state) }
-    ensures steps { OnOk result ((rest : List Turn) → remaining script.old ≡ pow_turns bits ++ rest → remaining script.new ≡ rest) }
+    ensures witness { IfOk result (λ w. w ≡ found_witness C.solution challenger.old bits) }
+    ensures found { bits ≢ 0 → IfOk result (λ w. IsSome w) }
+    ensures passes { IfOk result (λ w.
+        Passes C.observed C.sampled_bits challenger.old bits (unwrap_or w F.ops.zero)) }
+    ensures state { IfOk result (λ w.
+        let attempt = grind_attempt C.observed C.sampled_bits challenger.old bits in
+        challenger.new ≡ (attempt (unwrap_or w F.ops.zero)).state) }
+    ensures steps { OnOk result (PowPlayed bits (remaining script.old) (remaining script.new)) }
     ensures refused { IfErr result (λ e. e ≡ NoPowWitness phase) }
-    ensures none_passes { OnErr result ((w : F) → ¬ Passes C.observed C.sampled_bits challenger.old bits w) }
+    ensures none_passes { OnErr result (NonePasses C.observed C.sampled_bits challenger.old bits) }
     ensures unchanged { OnErr result (challenger.new ≡ challenger.old) }
 {
     if bits == 0 {
@@ -48,20 +54,24 @@ pub enum PowFailure {
     Wrong,
 }
 
-/// Checks the proof of work, of which there is none at no bits.
+/// Checks the proof of work, of which there is none at no bits. A witness is `Missing` only where
+/// there are bits, and `Wrong` only where it doesn't pass; it has been absorbed then.
 pub fn check<F: Field, C: FieldChallenger<F> + GrindingChallenger<Witness = F>>(
     script: &mut Script,
     challenger: &mut C,
     bits: usize,
     witness: Option<F>,
 ) -> Result<(), PowFailure>
-    requires next { (rest : List Turn) × (remaining script.old ≡ pow_turns bits ++ rest) }
+    requires next { IsPowNext bits (remaining script.old) }
     requires at_most_max { bits ≤ C.MAX_SAMPLE_BITS }
-    ensures passes { IsOk result ↔ IsTrue (shown_attempt C.observed C.sampled_bits challenger.old bits witness).value }
-    ensures state { OnOk result (challenger.new ≡ (shown_attempt C.observed C.sampled_bits challenger.old bits witness).state) }
-    ensures steps { OnOk result ((rest : List Turn) → remaining script.old ≡ pow_turns bits ++ rest → remaining script.new ≡ rest) }
-    ensures missing { result ≡ Err PowFailure.Missing → witness ≡ None }
-    ensures wrong { result ≡ Err PowFailure.Wrong → witness ≢ None }
+    ensures passes { IsOk result
+        ↔ IsTrue (shown_attempt C.observed C.sampled_bits challenger.old bits witness).value }
+    ensures state { challenger.new
+        ≡ (shown_attempt C.observed C.sampled_bits challenger.old bits witness).state }
+    ensures steps { OnOk result (PowPlayed bits (remaining script.old) (remaining script.new)) }
+    ensures missing { result ≡ Err PowFailure.Missing → IsMissing bits witness }
+    ensures wrong { result ≡ Err PowFailure.Wrong
+        → IsWrong C.observed C.sampled_bits challenger.old bits witness }
 {
     if bits == 0 {
         return Ok(());

@@ -3,6 +3,7 @@
 ghost use Rattle.std.specs.Prelude.{◌≡◌, ◌++◌, ◌∷◌, [], OnOk, map};
 ghost use Rattle.p3_challenger.specs.Pattern.{step_of, number_bytes};
 ghost use Rattle.p3_challenger.specs.Separator.{description};
+ghost use Rattle.p3_fri_steps.specs.Labels.{labels_added};
 ghost use Rattle.p3_fri_steps.specs.Steps.{pow_steps};
 
 use p3_challenger::fs::{DomainSeparator, Hierarchy, Interaction, Kind, Length};
@@ -15,7 +16,8 @@ pub fn push_pow<F: Field>(
     label: &'static str,
     bits: usize,
 ) -> Result<(), AllocError>
-    ensures { OnOk result (map step_of steps.new.items ≡ map step_of steps.old.items ++ pow_steps label.now bits) }
+    ensures { OnOk result (map step_of steps.new.items
+        ≡ map step_of steps.old.items ++ pow_steps label.now bits) }
 {
     if bits > 0 {
         steps.push(Interaction::algebra::<F, F>(
@@ -34,7 +36,8 @@ pub fn push_label(
     alloc: Global,
     value: usize,
 ) -> Result<(), AllocError>
-    ensures { OnOk result (description separator.new ≡ record (description separator.old) { labels = (description separator.old).labels ++ number_bytes value ∷ [] }) }
+    ensures { OnOk result (description separator.new
+        ≡ labels_added (number_bytes value ∷ []) (description separator.old)) }
 {
     separator.instance(alloc, &(value as u64).to_be_bytes())
 }
@@ -45,7 +48,8 @@ pub fn push_labels(
     alloc: Global,
     values: &[usize],
 ) -> Result<(), AllocError>
-    ensures { OnOk result (description separator.new ≡ record (description separator.old) { labels = (description separator.old).labels ++ map number_bytes values.now }) }
+    ensures { OnOk result (description separator.new
+        ≡ labels_added (map number_bytes values.now) (description separator.old)) }
 {
     for value in values {
         push_label(separator, alloc, *value)?;

@@ -1,6 +1,10 @@
+pub mod Joining
 pub mod Replays
+pub mod Refusals
 pub mod FriSeed
 pub mod SeedExamples
 pub mod TurnLists
 pub mod StepLists
 pub mod Events
+pub mod Indices
+pub mod Reached

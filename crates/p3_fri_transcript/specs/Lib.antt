@@ -6,3 +6,6 @@ pub mod SeedLaws
 pub mod SeedExamples
 pub mod Events
 pub mod Failures
+pub mod Found
+pub mod Indices
+pub mod Views

@@ -26,28 +26,43 @@ pub record FriReplay (C E : Type 0) : Type 0 where
   pub indices : List ℕ
   pub state : C
 
+-- the state after the polynomial's coefficients are observed
+abbrev pub polynomial_observed : {C F E : Type 0} → (C → F → C) → (E → List F) → C → List E → C
+polynomial_observed observe coefficients c final_poly =
+    observed_all observe c (flat_map coefficients final_poly)
+
 module _ {C F E Com : Type 0} (m : Moves C F E Com) where
-  -- one round: its commitment is observed, its proof of work made with the witness, its challenge drawn
+  -- one round: its commitment is observed, its proof of work made with the witness, its challenge
+  -- drawn
   abbrev pub round_replay : (bits : ℕ) (c : C) (commitment : Com) (witness : F) → RoundsReplay C E
   round_replay bits c commitment witness =
-      let tried = grind_attempt m.observe_value m.draw_bits (m.observe_commitment c commitment) bits witness in
+      let observed = m.observe_commitment c commitment in
+      let tried = grind_attempt m.observe_value m.draw_bits observed bits witness in
       let beta = m.draw_element tried.state in
       record { passes = tried.value; betas = beta.value ∷ []; state = beta.state }
 
   -- the rounds of these commitments and witnesses, in order
-  unfoldable pub rounds_replay : (bits : ℕ) (c : C) (commitments : List Com) (witnesses : List F) → RoundsReplay C E
+  unfoldable pub rounds_replay : (bits : ℕ) (c : C) (commitments : List Com) (witnesses : List F)
+      → RoundsReplay C E
   rounds_replay bits c (commitment ∷ commitments) (witness ∷ witnesses) =
       let first = round_replay bits c commitment witness in
       let others = rounds_replay bits first.state commitments witnesses in
-      record { passes = first.passes && others.passes; betas = first.betas ++ others.betas; state = others.state }
+      record {
+        passes = first.passes && others.passes;
+        betas = first.betas ++ others.betas;
+        state = others.state;
+      }
   rounds_replay bits c _ _ = record { passes = true; betas = []; state = c }
 
   module _ (coefficients : E → List F) (shape : FriNumbers) where
-    -- the final polynomial is observed, a proof of work made, whose witness may be missing only at no bits, and the
-    -- indices are drawn
-    unfoldable pub shown_queries_replay : (c : C) (final_poly : List E) (witness : Option F) → QueriesReplay C
+    -- the final polynomial is observed, a proof of work made, whose witness may be missing only at
+    -- no bits, and the indices are drawn
+    unfoldable pub shown_queries_replay : (c : C) (final_poly : List E) (witness : Option F)
+        → QueriesReplay C
     shown_queries_replay c final_poly witness =
-        let tried = shown_attempt m.observe_value m.draw_bits (observed_all m.observe_value c (flat_map coefficients final_poly)) shape.query_pow_bits witness in
+        let observed = polynomial_observed m.observe_value coefficients c final_poly in
+        let bits = shape.query_pow_bits in
+        let tried = shown_attempt m.observe_value m.draw_bits observed bits witness in
         let drawn = draws (λ s. m.draw_bits s shape.index_bits) tried.state shape.num_queries in
         record { passes = tried.value; indices = drawn.value; state = drawn.state }
 
@@ -56,8 +71,15 @@ module _ {C F E Com : Type 0} (m : Moves C F E Com) where
     queries_replay c final_poly witness = shown_queries_replay c final_poly (Some witness)
 
     -- the stream is observed byte by byte, then come the rounds and the queries
-    unfoldable pub fri_replay : FieldOps F → (stream : List ℕ) (c : C) (commitments : List Com) (witnesses : List F) (final_poly : List E) (witness : Option F) → FriReplay C E
+    unfoldable pub fri_replay : FieldOps F → (stream : List ℕ) (c : C) (commitments : List Com)
+        (witnesses : List F) (final_poly : List E) (witness : Option F) → FriReplay C E
     fri_replay ops stream c commitments witnesses final_poly witness =
-        let rounds = rounds_replay shape.commit_pow_bits (bytes_observed ops m.observe_value c stream) commitments witnesses in
+        let seeded = bytes_observed ops m.observe_value c stream in
+        let rounds = rounds_replay shape.commit_pow_bits seeded commitments witnesses in
         let queries = shown_queries_replay rounds.state final_poly witness in
-        record { passes = rounds.passes && queries.passes; betas = rounds.betas; indices = queries.indices; state = queries.state }
+        record {
+          passes = rounds.passes && queries.passes;
+          betas = rounds.betas;
+          indices = queries.indices;
+          state = queries.state;
+        }

@@ -4,7 +4,16 @@ use Rattle.p3_fri_transcript.specs.Steps.{FriNumbers, fri_steps, fri_stream}
 
 -- a test of no rounds over an extension of degree 4: version, name, two steps, and two labels
 abbrev pub without_rounds : FriNumbers
-without_rounds = record { log_arities = []; final_poly_len = 1; commit_pow_bits = 0; query_pow_bits = 0; num_queries = 2; index_bits = 1; log_blowup = 1; max_log_arity = 1 }
+without_rounds = record {
+  log_arities = [];
+  final_poly_len = 1;
+  commit_pow_bits = 0;
+  query_pow_bits = 0;
+  num_queries = 2;
+  index_bits = 1;
+  log_blowup = 1;
+  max_log_arity = 1;
+}
 
 abbrev pub stream_without_rounds : List ℕ
 stream_without_rounds =
@@ -30,7 +39,7 @@ stream_without_rounds =
     0x00 ∷ 0x00 ∷ 0x00 ∷ 0x00 ∷ 0x00 ∷ 0x00 ∷ 0x00 ∷ 0x08 ∷
     0x00 ∷ 0x00 ∷ 0x00 ∷ 0x00 ∷ 0x00 ∷ 0x00 ∷ 0x00 ∷ 0x01 ∷ []
 
--- a test that folds by these arities, and an opening of these counts
+-- a test that folds by these arities
 abbrev pub with_arities : List ℕ → FriNumbers
 with_arities arities = record without_rounds { log_arities = arities; max_log_arity = 3 }
 

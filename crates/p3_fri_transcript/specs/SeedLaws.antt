@@ -4,7 +4,8 @@ use Rattle.std.specs.List.{All}
 use Rattle.p3_challenger.specs.StreamLaws.{FitsNumber}
 use Rattle.p3_fri_transcript.specs.Steps.{FriNumbers}
 
--- two shapes of one transcript: all numbers agree, the bits of a round's proof of work only if there is a round
+-- two shapes of one transcript: all numbers agree, the bits of a round's proof of work only if
+-- there is a round
 pub record SameFriShape (s t : FriNumbers) : Type 0 where
   pub log_arities : s.log_arities ≡ t.log_arities
   pub final_poly_len : s.final_poly_len ≡ t.final_poly_len

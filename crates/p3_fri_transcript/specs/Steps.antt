@@ -19,16 +19,33 @@ pub record FriNumbers : Type 0 where
   pub max_log_arity : ℕ
 
 abbrev pub commitment_step : Step
-commitment_step = record { hierarchy = Atomic; kind = Message; type_tag = Opaque; label = codes "commit_phase_commitment"; length = Scalar }
+commitment_step = record {
+  hierarchy = Atomic;
+  kind = Message;
+  type_tag = Opaque;
+  label = codes "commit_phase_commitment";
+  length = Scalar;
+}
 
--- the numbers that the steps of a low-degree test don't tell
+abbrev pub indices_step : FriNumbers → Step
+indices_step s = record {
+  hierarchy = Atomic;
+  kind = Challenge;
+  type_tag = Bits s.index_bits;
+  label = codes "query_indices";
+  length = Fixed s.num_queries;
+}
+
+-- the numbers that the steps of a low-degree test don't determine
 unfoldable pub fri_labels : FriNumbers → List (List ℕ)
 fri_labels s = map number_bytes (s.log_blowup ∷ s.max_log_arity ∷ s.log_arities)
 
 module _ (d : ℕ) where
   -- a round: its commitment, its proof of work, its challenge
   abbrev pub round_steps : (bits : ℕ) → List Step
-  round_steps bits = commitment_step ∷ (pow_steps (codes "commit_pow") bits ++ challenge_step d (codes "fold_challenge") ∷ [])
+  round_steps bits =
+      commitment_step
+      ∷ (pow_steps (codes "commit_pow") bits ++ challenge_step d (codes "fold_challenge") ∷ [])
 
   -- so many rounds
   abbrev pub rounds_steps : (bits n : ℕ) → List Step
@@ -38,8 +55,8 @@ module _ (d : ℕ) where
   -- the final polynomial, its proof of work, the queries' indices
   abbrev pub query_steps : FriNumbers → List Step
   query_steps s =
-      message_step d (codes "final_poly") s.final_poly_len ∷ (pow_steps (codes "query_pow") s.query_pow_bits
-      ++ record { hierarchy = Atomic; kind = Challenge; type_tag = Bits s.index_bits; label = codes "query_indices"; length = Fixed s.num_queries } ∷ [])
+      message_step d (codes "final_poly") s.final_poly_len
+      ∷ (pow_steps (codes "query_pow") s.query_pow_bits ++ indices_step s ∷ [])
 
   unfoldable pub fri_steps : FriNumbers → List Step
   fri_steps s = rounds_steps s.commit_pow_bits (length s.log_arities) ++ query_steps s

@@ -14,7 +14,8 @@ fn push_round<F: Field, EF: ExtensionField<F>>(
     steps: &mut Vec<Interaction>,
     pow_bits: usize,
 ) -> Result<(), AllocError>
-    ensures { OnOk result (map step_of steps.new.items ≡ map step_of steps.old.items ++ round_steps EF.DIMENSION pow_bits) }
+    ensures { OnOk result (map step_of steps.new.items
+        ≡ map step_of steps.old.items ++ round_steps EF.DIMENSION pow_bits) }
 {
     steps.push(Interaction::opaque(
         Hierarchy::Atomic,
@@ -38,7 +39,8 @@ pub(crate) fn push_rounds<F: Field, EF: ExtensionField<F>>(
     pow_bits: usize,
     rounds: usize,
 ) -> Result<(), AllocError>
-    ensures { OnOk result (map step_of steps.new.items ≡ map step_of steps.old.items ++ rounds_steps EF.DIMENSION pow_bits rounds) }
+    ensures { OnOk result (map step_of steps.new.items
+        ≡ map step_of steps.old.items ++ rounds_steps EF.DIMENSION pow_bits rounds) }
 {
     for _ in 0..rounds {
         push_round::<F, EF>(steps, pow_bits)?;

@@ -9,6 +9,8 @@ mod state;
 mod verifier;
 
 pub use crate::transcript::failure::TranscriptFailure;
-pub use crate::transcript::play::{FriMessages, PlayedFri, Refusal, play_fri, replay_fri};
+pub use crate::transcript::play::{
+    FriMessages, PlayedFri, Refusal, ReplayedFri, play_fri, replay_fri,
+};
 pub use crate::transcript::shape::FriShape;
 pub use crate::transcript::state::{FriTranscript, ProverTranscript, VerifierTranscript};

@@ -1,7 +1,9 @@
 //! Why a verifier refuses along the transcript.
 
 ghost use Rattle.std.specs.Prelude.{◌≡◌};
-ghost use Rattle.p3_fri_transcript.specs.declared.transcript.failure.TranscriptFailure.TheVariants.{OutOfMemory};
+ghost use Rattle.p3_fri_transcript.specs.declared.transcript.failure.TranscriptFailure.TheVariants.{
+  OutOfMemory,
+};
 
 use p3_fri_steps::PowPhase;
 use std::alloc::AllocError;

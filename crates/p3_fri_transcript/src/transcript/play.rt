@@ -1,24 +1,24 @@
 //! Whole transcripts, for a caller that has all values at hand.
 
-ghost use Rattle.std.specs.Prelude.{◌≡◌, ◌≢◌, ◌≤◌, ◌↔◌, ℕ, Bool, true, List, [], ◌∷◌, ◌++◌, ◌⊎◌, Option, Some, Err, IsTrue, IsOk, IfOk, IfErr, OnOk, length};
-ghost use Rattle.p3_challenger.specs.Run.{Moves};
+ghost use Rattle.std.specs.Prelude.{◌≡◌, ◌≢◌, ◌≤◌, ◌↔◌, ◌++◌, [], ◌∷◌, true, Some, Err};
+ghost use Rattle.std.specs.Prelude.{IsOk, IfOk, IfErr, OnOk, length};
 ghost use Rattle.p3_challenger.specs.Turns.{bytes_observed};
-ghost use Rattle.p3_fri_transcript.specs.declared.transcript.failure.TranscriptFailure.TheVariants.{OutOfMemory};
+ghost use Rattle.p3_fri_transcript.specs.Indices.{AreIndices};
+ghost use Rattle.p3_fri_steps.specs.Reached.{Reaches};
 ghost use Rattle.p3_fri_transcript.specs.declared.transcript.play.Refusal.TheVariants.{Seed, Step};
-ghost use Rattle.p3_challenger.specs.Script.{remaining};
-ghost use Rattle.p3_fri_steps.specs.declared.error.FriProverError.TheVariants.{NoPowWitness};
-ghost use Rattle.p3_fri_steps.specs.declared.pow_phase.PowPhase.TheVariants.{CommitPhase, Query};
+ghost use Rattle.p3_fri_transcript.specs.Failures.{FriPasses, FriFailure};
+ghost use Rattle.p3_fri_transcript.specs.Found.{RoundsFound, FriFound, RoundsRefused, PlayRefused};
 ghost use Rattle.p3_fri_transcript.specs.Replay.{rounds_replay, fri_replay};
-ghost use Rattle.p3_challenger.specs.Run.{moves};
-ghost use Rattle.p3_fri_transcript.specs.Turns.{RoundsLeft};
 ghost use Rattle.p3_fri_transcript.specs.Shapes.{fri_shape};
 ghost use Rattle.p3_fri_transcript.specs.Steps.{fri_stream};
+ghost use Rattle.p3_fri_transcript.specs.Turns.{RoundsLeft};
+ghost use Rattle.p3_fri_transcript.specs.Views.{state_of, left_of, shape_of, Kept};
 
 use crate::transcript::failure::TranscriptFailure;
 use crate::transcript::shape::FriShape;
 use crate::transcript::state::{ProverTranscript, VerifierTranscript};
 use crate::transcript::verifier::push;
-use p3_challenger::{CanObserve, FieldChallenger, GrindingChallenger};
+use p3_challenger::{CanObserve, FieldChallenger, GrindingChallenger, Plays};
 use p3_field::{ExtensionField, Field};
 use p3_fri_steps::FriProverError;
 use std::alloc::Global;
@@ -33,7 +33,8 @@ pub enum Refusal<E> {
 }
 
 impl<E: Copy> Refusal<E> {
-    /// Why the step that ran the whole transcript is refused, where `out_of_memory` says that its seed was.
+    /// Why the step that ran the whole transcript is refused, where `out_of_memory` says that its
+    /// seed was.
     pub fn of_step(self, out_of_memory: E) -> E
         ensures seed { self ≡ Seed → result ≡ out_of_memory }
         ensures step { (e : E) → self ≡ Step e → result ≡ e }
@@ -45,7 +46,8 @@ impl<E: Copy> Refusal<E> {
     }
 }
 
-/// What a prover draws and finds along a transcript. A witness at no bits is not looked at.
+/// What a prover draws and finds along a transcript. A witness at no bits is zero, and not looked
+/// at.
 #[derive(Debug, Drop)]
 pub struct PlayedFri<F, EF> {
     /// The folding challenge of each round.
@@ -56,6 +58,15 @@ pub struct PlayedFri<F, EF> {
     pub indices: Vec<usize>,
     /// The witness before the queries.
     pub query_witness: F,
+}
+
+/// What a verifier draws along a transcript.
+#[derive(Debug, Drop)]
+pub struct ReplayedFri<EF> {
+    /// The folding challenge of each round.
+    pub betas: Vec<EF>,
+    /// The queries' indices.
+    pub indices: Vec<usize>,
 }
 
 /// What a prover sent along a low-degree test.
@@ -71,6 +82,13 @@ pub struct FriMessages<'a, F, EF, Com> {
     pub query_witness: Option<F>,
 }
 
+/// What a prover draws and finds along the rounds.
+#[derive(Drop)]
+struct PlayedRounds<F, EF> {
+    betas: Vec<EF>,
+    commit_witnesses: Vec<F>,
+}
+
 /// Plays a round for each commitment.
 fn play_rounds<
     F: Field,
@@ -81,37 +99,52 @@ fn play_rounds<
     alloc: Global,
     transcript: &mut ProverTranscript<'_, C, F, EF>,
     commitments: &[Com],
-) -> Result<(Vec<EF>, Vec<F>), FriProverError>
-    requires rounds_left { RoundsLeft EF.DIMENSION (fri_shape transcript.old.shape) (length commitments.now) (remaining transcript.old.script) }
-    requires at_most_max { (fri_shape transcript.old.shape).commit_pow_bits ≤ C.MAX_SAMPLE_BITS }
-    ensures same { transcript.new.challenger.ghost_name ≡ transcript.old.challenger.ghost_name }
-    ensures shape { fri_shape transcript.new.shape ≡ fri_shape transcript.old.shape }
-    ensures rounds { IfOk result (λ drawn.
-        let m : Moves C F EF Com = moves ⟦<C as CanObserve<F>>⟧.observed ⟦<C as CanObserve<Com>>⟧.observed C.sampled EF.of_coefficients EF.DIMENSION C.sampled_bits in
-        rounds_replay m (fri_shape transcript.old.shape).commit_pow_bits transcript.old.challenger.now commitments.now drawn.1.items
-        ≡ record { passes = true; betas = drawn.0.items; state = transcript.new.challenger.now }) }
-    ensures witnesses { IfOk result (λ drawn. length drawn.1.items ≡ length commitments.now) }
-    ensures steps { OnOk result (RoundsLeft EF.DIMENSION (fri_shape transcript.old.shape) 0 (remaining transcript.new.script)) }
-    ensures refused { IfErr result (λ e. (e ≡ NoPowWitness CommitPhase) ⊎ (e ≡ FriProverError.OutOfMemory)) }
+) -> Result<PlayedRounds<F, EF>, FriProverError>
+    requires rounds_left { RoundsLeft EF.DIMENSION (shape_of transcript.old) (length commitments.now)
+        (left_of transcript.old) }
+    requires at_most_max { (shape_of transcript.old).commit_pow_bits ≤ C.MAX_SAMPLE_BITS }
+    ensures kept { Kept transcript.old transcript.new }
+    ensures rounds { IfOk result (λ played.
+        rounds_replay ⟦<C as Plays<F, EF, Com>>⟧.moves (shape_of transcript.old).commit_pow_bits
+        (state_of transcript.old) commitments.now played.commit_witnesses.items
+        ≡ record { passes = true; betas = played.betas.items; state = state_of transcript.new }) }
+    ensures betas { IfOk result (λ played. length played.betas.items ≡ length commitments.now) }
+    ensures witnesses { IfOk result (λ played.
+        length played.commit_witnesses.items ≡ length commitments.now) }
+    ensures found { IfOk result (λ played.
+        RoundsFound ⟦<C as Plays<F, EF, Com>>⟧.moves F.ops.zero C.solution
+        (shape_of transcript.old).commit_pow_bits (state_of transcript.old)
+        commitments.now played.commit_witnesses.items) }
+    ensures steps { OnOk result
+        (RoundsLeft EF.DIMENSION (shape_of transcript.old) 0 (left_of transcript.new)) }
+    ensures refused { IfErr result (λ e.
+        RoundsRefused ⟦<C as Plays<F, EF, Com>>⟧.moves (shape_of transcript.old).commit_pow_bits
+        (state_of transcript.old) commitments.now e) }
+    ensures reached { Reaches ⟦<C as Plays<F, EF, Com>>⟧.moves (state_of transcript.old)
+        (state_of transcript.new) }
 {
     let mut betas = Vec::with_capacity(alloc, commitments.len())?;
-    let mut witnesses = Vec::with_capacity(alloc, commitments.len())?;
+    let mut commit_witnesses = Vec::with_capacity(alloc, commitments.len())?;
     for round in 0..commitments.len() {
         match transcript.commit_round(commitments[round]) {
             Ok(drawn) => {
                 push(&mut betas, drawn.0)?;
-                push(&mut witnesses, drawn.1.unwrap_or(F::ZERO))?;
+                push(&mut commit_witnesses, drawn.1.unwrap_or(F::ZERO))?;
             },
             Err(refusal) => return Err(refusal),
         }
     }
-    Ok((betas, witnesses))
+    Ok(PlayedRounds {
+        betas,
+        commit_witnesses,
+    })
 }
 
-/// Plays all of a low-degree test's transcript: a round for each commitment, of which there are as many as described, then
-/// the final polynomial, of the described length, and the indices. The widths are at most the challenger's greatest.
-/// `Refusal::Seed` leaves the challenger as it was; a step is refused where no element passes its proof of work, or for
-/// want of memory.
+/// Plays all of a low-degree test's transcript: a round for each commitment, of which there are as
+/// many as described, then the final polynomial, of the described length, and the indices. The
+/// widths are at most the challenger's greatest. `Refusal::Seed` leaves the challenger as it was;
+/// at any other answer it has absorbed the seed. A step is refused where no element passes its
+/// proof of work, or for want of memory.
 pub fn play_fri<
     F: Field,
     EF: ExtensionField<F>,
@@ -129,22 +162,47 @@ pub fn play_fri<
     requires commit_bits_at_most_max { (fri_shape shape).commit_pow_bits ≤ C.MAX_SAMPLE_BITS }
     requires query_bits_at_most_max { (fri_shape shape).query_pow_bits ≤ C.MAX_SAMPLE_BITS }
     requires index_bits_at_most_max { (fri_shape shape).index_bits ≤ C.MAX_SAMPLE_BITS }
-    ensures unchanged { result ≡ Err Seed → challenger.new ≡ challenger.old }
     ensures replay { IfOk result (λ played.
-        let m : Moves C F EF Com = moves ⟦<C as CanObserve<F>>⟧.observed ⟦<C as CanObserve<Com>>⟧.observed C.sampled EF.of_coefficients EF.DIMENSION C.sampled_bits in
-        let described = fri_shape shape in
-        fri_replay m EF.coefficients described F.ops (fri_stream EF.DIMENSION described) challenger.old commitments.now played.commit_witnesses.items final_poly.now (Some played.query_witness)
-        ≡ record { passes = true; betas = played.betas.items; indices = played.indices.items; state = challenger.new }) }
-    ensures witnesses { IfOk result (λ played. length played.commit_witnesses.items ≡ length commitments.now) }
-    ensures refused { IfErr result (λ r. (r ≡ Seed) ⊎ ((r ≡ Step (NoPowWitness CommitPhase)) ⊎ ((r ≡ Step (NoPowWitness Query)) ⊎ (r ≡ Step FriProverError.OutOfMemory)))) }
+        fri_replay ⟦<C as Plays<F, EF, Com>>⟧.moves EF.coefficients (fri_shape shape) F.ops
+        (fri_stream EF.DIMENSION (fri_shape shape)) challenger.old commitments.now
+        played.commit_witnesses.items final_poly.now (Some played.query_witness)
+        ≡ record {
+          passes = true;
+          betas = played.betas.items;
+          indices = played.indices.items;
+          state = challenger.new;
+        }) }
+    ensures betas { IfOk result (λ played. length played.betas.items ≡ length commitments.now) }
+    ensures witnesses { IfOk result (λ played.
+        length played.commit_witnesses.items ≡ length commitments.now) }
+    ensures indices { IfOk result (λ played. AreIndices (fri_shape shape) played.indices.items) }
+    ensures found { IfOk result (λ played.
+        let stream = fri_stream EF.DIMENSION (fri_shape shape) in
+        FriFound ⟦<C as Plays<F, EF, Com>>⟧.moves F.ops.zero C.solution EF.coefficients
+        (fri_shape shape)
+        (bytes_observed F.ops ⟦<C as CanObserve<F>>⟧.observed challenger.old stream)
+        commitments.now played.commit_witnesses.items final_poly.now played.query_witness) }
+
+    // A refused seed leaves the challenger as it was; a step is refused after the seed.
+    ensures unchanged { result ≡ Err Seed → challenger.new ≡ challenger.old }
+    ensures refused { (e : _) → result ≡ Err (Step e) →
+        let stream = fri_stream EF.DIMENSION (fri_shape shape) in
+        PlayRefused ⟦<C as Plays<F, EF, Com>>⟧.moves EF.coefficients (fri_shape shape)
+        (bytes_observed F.ops ⟦<C as CanObserve<F>>⟧.observed challenger.old stream)
+        commitments.now final_poly.now e }
+    ensures absorbed { result ≢ Err Seed →
+        let stream = fri_stream EF.DIMENSION (fri_shape shape) in
+        Reaches ⟦<C as Plays<F, EF, Com>>⟧.moves
+        (bytes_observed F.ops ⟦<C as CanObserve<F>>⟧.observed challenger.old stream)
+        challenger.new }
 {
     let seed = match shape.seed::<F, EF>(alloc) {
         Ok(seed) => seed,
         Err(_) => return Err(Refusal::Seed),
     };
     let mut transcript = ProverTranscript::<C, F, EF>::start(challenger, seed, shape);
-    let (betas, commit_witnesses) = match play_rounds(alloc, &mut transcript, commitments) {
-        Ok(drawn) => drawn,
+    let rounds = match play_rounds(alloc, &mut transcript, commitments) {
+        Ok(rounds) => rounds,
         Err(refusal) => {
             transcript.abort();
             return Err(Refusal::Step(refusal));
@@ -158,6 +216,10 @@ pub fn play_fri<
         },
     };
     transcript.finish();
+    let PlayedRounds {
+        betas,
+        commit_witnesses,
+    } = rounds;
     Ok(PlayedFri {
         betas,
         commit_witnesses,
@@ -166,9 +228,10 @@ pub fn play_fri<
     })
 }
 
-/// Replays all of a low-degree test's transcript, and answers the folding challenges and the queries' indices. The widths
-/// are at most the challenger's greatest. `Refusal::Seed` leaves the challenger as it was; a step is refused as
-/// `commit_rounds` and `query_phase` refuse.
+/// Replays all of a low-degree test's transcript with what a proof carries, and answers the folding
+/// challenges and the queries' indices. The widths are at most the challenger's greatest.
+/// `Refusal::Seed` leaves the challenger as it was; at any other answer it has absorbed the seed. A
+/// step is refused as `commit_rounds` and `query_phase` refuse.
 pub fn replay_fri<
     F: Field,
     EF: ExtensionField<F>,
@@ -179,21 +242,45 @@ pub fn replay_fri<
     challenger: &mut C,
     shape: FriShape,
     messages: FriMessages<'_, F, EF, Com>,
-) -> Result<(Vec<EF>, Vec<usize>), Refusal<TranscriptFailure>>
+) -> Result<ReplayedFri<EF>, Refusal<TranscriptFailure>>
     requires commit_bits_at_most_max { (fri_shape shape).commit_pow_bits ≤ C.MAX_SAMPLE_BITS }
     requires query_bits_at_most_max { (fri_shape shape).query_pow_bits ≤ C.MAX_SAMPLE_BITS }
     requires index_bits_at_most_max { (fri_shape shape).index_bits ≤ C.MAX_SAMPLE_BITS }
+    ensures passes { let sent = messages.entry in
+        result ≢ Err Seed → result ≢ Err (Step TranscriptFailure.OutOfMemory) → (IsOk result
+        ↔ FriPasses ⟦<C as Plays<F, EF, Com>>⟧.moves EF.coefficients (fri_shape shape)
+        challenger.old sent.commitments.now sent.commit_witnesses.now sent.final_poly.now
+        sent.query_witness F.ops (fri_stream EF.DIMENSION (fri_shape shape))) }
+    ensures replay { IfOk result (λ replayed.
+        let sent = messages.entry in
+        fri_replay ⟦<C as Plays<F, EF, Com>>⟧.moves EF.coefficients (fri_shape shape) F.ops
+        (fri_stream EF.DIMENSION (fri_shape shape)) challenger.old sent.commitments.now
+        sent.commit_witnesses.now sent.final_poly.now sent.query_witness
+        ≡ record {
+          passes = true;
+          betas = replayed.betas.items;
+          indices = replayed.indices.items;
+          state = challenger.new;
+        }) }
+    ensures betas { IfOk result (λ replayed.
+        length replayed.betas.items ≡ length (fri_shape shape).log_arities) }
+    ensures indices { IfOk result (λ replayed.
+        AreIndices (fri_shape shape) replayed.indices.items) }
+
+    // A refused seed leaves the challenger as it was; a step is refused after the seed.
     ensures unchanged { result ≡ Err Seed → challenger.new ≡ challenger.old }
-    ensures passes { let m : Moves C F EF Com = moves ⟦<C as CanObserve<F>>⟧.observed ⟦<C as CanObserve<Com>>⟧.observed C.sampled EF.of_coefficients EF.DIMENSION C.sampled_bits in
-        let described = fri_shape shape in
-        result ≢ Err Seed → result ≢ Err (Step OutOfMemory) → (IsOk result ↔ ((length messages.entry.commitments.now ≡ length described.log_arities) × (length messages.entry.commit_witnesses.now ≡ length described.log_arities)
-        × (length messages.entry.final_poly.now ≡ described.final_poly_len)
-        × IsTrue (fri_replay m EF.coefficients described F.ops (fri_stream EF.DIMENSION described) challenger.old messages.entry.commitments.now messages.entry.commit_witnesses.now messages.entry.final_poly.now messages.entry.query_witness).passes)) }
-    ensures replay { IfOk result (λ drawn.
-        let m : Moves C F EF Com = moves ⟦<C as CanObserve<F>>⟧.observed ⟦<C as CanObserve<Com>>⟧.observed C.sampled EF.of_coefficients EF.DIMENSION C.sampled_bits in
-        let described = fri_shape shape in
-        fri_replay m EF.coefficients described F.ops (fri_stream EF.DIMENSION described) challenger.old messages.entry.commitments.now messages.entry.commit_witnesses.now messages.entry.final_poly.now messages.entry.query_witness
-        ≡ record { passes = true; betas = drawn.0.items; indices = drawn.1.items; state = challenger.new }) }
+    ensures failure { (e : _) → result ≡ Err (Step e) →
+        let sent = messages.entry in
+        let stream = fri_stream EF.DIMENSION (fri_shape shape) in
+        FriFailure ⟦<C as Plays<F, EF, Com>>⟧.moves EF.coefficients (fri_shape shape)
+        (bytes_observed F.ops ⟦<C as CanObserve<F>>⟧.observed challenger.old stream)
+        sent.commitments.now sent.commit_witnesses.now sent.final_poly.now sent.query_witness
+        challenger.new e }
+    ensures absorbed { result ≢ Err Seed →
+        let stream = fri_stream EF.DIMENSION (fri_shape shape) in
+        Reaches ⟦<C as Plays<F, EF, Com>>⟧.moves
+        (bytes_observed F.ops ⟦<C as CanObserve<F>>⟧.observed challenger.old stream)
+        challenger.new }
 {
     let FriMessages {
         commitments,
@@ -221,5 +308,5 @@ pub fn replay_fri<
         },
     };
     transcript.finish();
-    Ok((betas, indices))
+    Ok(ReplayedFri { betas, indices })
 }

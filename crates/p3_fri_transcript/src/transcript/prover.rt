@@ -1,18 +1,19 @@
 //! The prover's calls.
 
-ghost use Rattle.std.specs.Prelude.{◌≡◌, ◌≤◌, ◌==◌, if◌then◌else◌, suc, ℕ, ◌⊎◌, Bool, true, List, [], ◌∷◌, None, Err, IfOk, IfErr, OnOk, OnErr, length, unwrap_or};
-ghost use Rattle.std.specs.List.{flat_map};
-ghost use Rattle.p3_challenger.specs.Run.{observed_all, Passes, Moves};
-ghost use Rattle.p3_challenger.specs.Script.{remaining};
-ghost use Rattle.p3_fri_steps.specs.declared.error.FriProverError.TheVariants.{NoPowWitness, OutOfMemory};
+ghost use Rattle.std.specs.Prelude.{◌≡◌, ◌≢◌, ◌≤◌, ◌⊎◌, [], ◌∷◌, true, Err};
+ghost use Rattle.std.specs.Prelude.{IfOk, IfErr, OnOk, OnErr, IsSome, length, unwrap_or};
+ghost use Rattle.p3_fri_steps.specs.declared.error.FriProverError.TheVariants.{NoPowWitness};
+ghost use Rattle.p3_fri_steps.specs.declared.error.FriProverError.TheVariants.{OutOfMemory};
 ghost use Rattle.p3_fri_steps.specs.declared.pow_phase.PowPhase.TheVariants.{CommitPhase, Query};
-ghost use Rattle.p3_fri_transcript.specs.Replay.{round_replay, queries_replay};
-ghost use Rattle.p3_challenger.specs.Run.{moves};
-ghost use Rattle.p3_fri_transcript.specs.Shapes.{fri_shape};
-ghost use Rattle.p3_fri_transcript.specs.Turns.{RoundsLeft};
+ghost use Rattle.p3_fri_transcript.specs.Indices.{AreIndices};
+ghost use Rattle.p3_fri_steps.specs.Pow.{found_witness, NonePasses};
+ghost use Rattle.p3_fri_steps.specs.Reached.{Reaches};
+ghost use Rattle.p3_fri_transcript.specs.Replay.{round_replay, queries_replay, polynomial_observed};
+ghost use Rattle.p3_fri_transcript.specs.Turns.{RoundsLeft, SomeRoundLeft, RoundPlayed};
+ghost use Rattle.p3_fri_transcript.specs.Views.{state_of, left_of, shape_of, Kept};
 
 use crate::transcript::state::ProverTranscript;
-use p3_challenger::{CanObserve, FieldChallenger, GrindingChallenger};
+use p3_challenger::{CanObserve, FieldChallenger, GrindingChallenger, Plays};
 use p3_field::{ExtensionField, Field};
 use p3_fri_steps::pow::grind;
 use p3_fri_steps::{FriProverError, PowPhase};
@@ -25,26 +26,38 @@ impl<
     EF: ExtensionField<F>,
     C: FieldChallenger<F> + GrindingChallenger<Witness = F>,
 > ProverTranscript<'a, C, F, EF> {
-    /// Plays a round: absorbs its commitment, makes the proof of work, and draws the folding challenge, which it
-    /// answers with the witness, if there are bits. Refused only where no element passes; then only `abort` may follow.
+    /// Plays a round: absorbs its commitment, makes the proof of work, and draws the folding
+    /// challenge, which it answers with the witness, if there are bits. Refused only where no
+    /// element passes; then only `abort` may follow.
     pub fn commit_round<Com: Copy>(
         &mut self,
         commitment: Com,
     ) -> Result<(EF, Option<F>), FriProverError>
     where
         C: CanObserve<Com>,
-        requires some_round_left { (n : ℕ) × RoundsLeft EF.DIMENSION (fri_shape self.old.shape) (suc n) (remaining self.old.script) }
-        requires at_most_max { (fri_shape self.old.shape).commit_pow_bits ≤ C.MAX_SAMPLE_BITS }
-        ensures same { self.new.challenger.ghost_name ≡ self.old.challenger.ghost_name }
-        ensures shape { fri_shape self.new.shape ≡ fri_shape self.old.shape }
-        ensures witness { IfOk result (λ answer. answer.1 ≡ (if (fri_shape self.old.shape).commit_pow_bits == 0 then None else C.solution (⟦<C as CanObserve<Com>>⟧.observed self.old.challenger.now commitment) (fri_shape self.old.shape).commit_pow_bits)) }
-        ensures round { IfOk result (λ answer.
-            let m : Moves C F EF Com = moves ⟦<C as CanObserve<F>>⟧.observed ⟦<C as CanObserve<Com>>⟧.observed C.sampled EF.of_coefficients EF.DIMENSION C.sampled_bits in
-            round_replay m (fri_shape self.old.shape).commit_pow_bits self.old.challenger.now commitment (unwrap_or answer.1 F.ops.zero)
-            ≡ record { passes = true; betas = answer.0 ∷ []; state = self.new.challenger.now }) }
-        ensures steps { OnOk result ((n : ℕ) → RoundsLeft EF.DIMENSION (fri_shape self.old.shape) (suc n) (remaining self.old.script) → RoundsLeft EF.DIMENSION (fri_shape self.old.shape) n (remaining self.new.script)) }
+        requires some_round_left { SomeRoundLeft EF.DIMENSION (shape_of self.old) (left_of self.old) }
+        requires at_most_max { (shape_of self.old).commit_pow_bits ≤ C.MAX_SAMPLE_BITS }
+        ensures kept { Kept self.old self.new }
+        ensures round { IfOk result (λ drawn.
+            let bits = (shape_of self.old).commit_pow_bits in
+            round_replay ⟦<C as Plays<F, EF, Com>>⟧.moves bits (state_of self.old) commitment
+            (unwrap_or drawn.1 F.ops.zero)
+            ≡ record { passes = true; betas = drawn.0 ∷ []; state = state_of self.new }) }
+        ensures steps { OnOk result
+            (RoundPlayed EF.DIMENSION (shape_of self.old) (left_of self.old) (left_of self.new)) }
+
+        // The witness is the search's, and the round is refused only where none passes.
+        ensures witness { IfOk result (λ drawn.
+            let observed = ⟦<C as CanObserve<Com>>⟧.observed (state_of self.old) commitment in
+            drawn.1 ≡ found_witness C.solution observed (shape_of self.old).commit_pow_bits) }
+        ensures found { (shape_of self.old).commit_pow_bits ≢ 0
+            → IfOk result (λ drawn. IsSome drawn.1) }
         ensures refused { IfErr result (λ e. e ≡ NoPowWitness CommitPhase) }
-        ensures none_passes { OnErr result ((w : F) → ¬ Passes ⟦<C as CanObserve<F>>⟧.observed C.sampled_bits (⟦<C as CanObserve<Com>>⟧.observed self.old.challenger.now commitment) (fri_shape self.old.shape).commit_pow_bits w) }
+        ensures none_passes { OnErr result (
+            let observed = ⟦<C as CanObserve<Com>>⟧.observed (state_of self.old) commitment in
+            NonePasses ⟦<C as CanObserve<F>>⟧.observed C.sampled_bits observed
+            (shape_of self.old).commit_pow_bits) }
+        ensures reached { Reaches ⟦<C as Plays<F, EF, Com>>⟧.moves (state_of self.old) (state_of self.new) }
     {
         self.script
             .observe_opaque(&mut *self.challenger, commitment);
@@ -58,27 +71,41 @@ impl<
         Ok((challenge, witness))
     }
 
-    /// Absorbs the final polynomial, which has as many coefficients as described, makes the proof of work, and draws the
-    /// queries' indices, which it answers with the witness, if there are bits. After a refusal only `abort` may follow.
+    /// Absorbs the final polynomial, which has as many coefficients as described, makes the proof
+    /// of work, and draws the queries' indices, as many as described, each below `2^index_bits`,
+    /// which it answers with the witness, if there are bits. Refused where no element passes, or
+    /// for want of memory; then only `abort` may follow.
     pub fn query_phase(
         &mut self,
         alloc: Global,
         final_poly: &[EF],
     ) -> Result<(Vec<usize>, Option<F>), FriProverError>
-        requires all_rounds_played { RoundsLeft EF.DIMENSION (fri_shape self.old.shape) 0 (remaining self.old.script) }
-        requires described { length final_poly.now ≡ (fri_shape self.old.shape).final_poly_len }
-        requires pow_at_most_max { (fri_shape self.old.shape).query_pow_bits ≤ C.MAX_SAMPLE_BITS }
-        requires index_at_most_max { (fri_shape self.old.shape).index_bits ≤ C.MAX_SAMPLE_BITS }
-        ensures same { self.new.challenger.ghost_name ≡ self.old.challenger.ghost_name }
-        ensures shape { fri_shape self.new.shape ≡ fri_shape self.old.shape }
-        ensures witness { IfOk result (λ answer. answer.1 ≡ (if (fri_shape self.old.shape).query_pow_bits == 0 then None else C.solution (observed_all C.observed self.old.challenger.now (flat_map EF.coefficients final_poly.now)) (fri_shape self.old.shape).query_pow_bits)) }
-        ensures queries { IfOk result (λ answer.
-            let m : Moves C F EF F = moves C.observed C.observed C.sampled EF.of_coefficients EF.DIMENSION C.sampled_bits in
-            queries_replay m EF.coefficients (fri_shape self.old.shape) self.old.challenger.now final_poly.now (unwrap_or answer.1 F.ops.zero)
-            ≡ record { passes = true; indices = answer.0.items; state = self.new.challenger.now }) }
-        ensures steps { OnOk result (remaining self.new.script ≡ []) }
+        requires all_rounds_played { RoundsLeft EF.DIMENSION (shape_of self.old) 0 (left_of self.old) }
+        requires described { length final_poly.now ≡ (shape_of self.old).final_poly_len }
+        requires pow_at_most_max { (shape_of self.old).query_pow_bits ≤ C.MAX_SAMPLE_BITS }
+        requires index_at_most_max { (shape_of self.old).index_bits ≤ C.MAX_SAMPLE_BITS }
+        ensures kept { Kept self.old self.new }
+        ensures queries { IfOk result (λ drawn.
+            queries_replay ⟦<C as Plays<F, EF, F>>⟧.moves EF.coefficients (shape_of self.old)
+            (state_of self.old) final_poly.now (unwrap_or drawn.1 F.ops.zero)
+            ≡ record { passes = true; indices = drawn.0.items; state = state_of self.new }) }
+        ensures indices { IfOk result (λ drawn. AreIndices (shape_of self.old) drawn.0.items) }
+        ensures steps { OnOk result (left_of self.new ≡ []) }
+
+        // The witness is the search's, and the queries are refused only where none passes, or for
+        // want of memory.
+        ensures witness { IfOk result (λ drawn.
+            let before = state_of self.old in
+            let observed = polynomial_observed C.observed EF.coefficients before final_poly.now in
+            drawn.1 ≡ found_witness C.solution observed (shape_of self.old).query_pow_bits) }
+        ensures found { (shape_of self.old).query_pow_bits ≢ 0
+            → IfOk result (λ drawn. IsSome drawn.1) }
         ensures refused { IfErr result (λ e. (e ≡ NoPowWitness Query) ⊎ (e ≡ OutOfMemory)) }
-        ensures none_passes { result ≡ Err (NoPowWitness Query) → (w : F) → ¬ Passes C.observed C.sampled_bits (observed_all C.observed self.old.challenger.now (flat_map EF.coefficients final_poly.now)) (fri_shape self.old.shape).query_pow_bits w }
+        ensures none_passes { result ≡ Err (NoPowWitness Query) →
+            let before = state_of self.old in
+            let observed = polynomial_observed C.observed EF.coefficients before final_poly.now in
+            NonePasses C.observed C.sampled_bits observed (shape_of self.old).query_pow_bits }
+        ensures reached { Reaches ⟦<C as Plays<F, EF, F>>⟧.moves (state_of self.old) (state_of self.new) }
     {
         self.script
             .observe_extensions(&mut *self.challenger, final_poly);

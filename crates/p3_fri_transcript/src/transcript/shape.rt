@@ -20,8 +20,8 @@ const VERSION: u8 = 1;
 
 const NAME: &[u8] = b"p3-fri";
 
-/// The numbers that fix the transcript of a low-degree test. Both sides make it from their own parameters, and never
-/// from a proof.
+/// The numbers that fix the transcript of a low-degree test. Both sides make it from their own
+/// parameters, and never from a proof.
 #[derive(Debug, PartialEq, Eq, Drop)]
 pub struct FriShape {
     /// The logarithm of each round's arity, in order.
@@ -48,9 +48,10 @@ impl FriShape {
     ghost use Rattle.p3_fri_transcript.specs.Shapes.{fri_shape};
     ghost use Rattle.p3_fri_transcript.specs.Steps.{fri_steps, fri_labels, fri_stream};
 
-    /// The shape of a test of inputs of these log heights, which fall strictly, with indices of `index_bits` bits. Its
-    /// rounds are the schedule's. The cap is positive, the final polynomial's logarithm below 64, and its sum with the
-    /// log blowup is below `2^64`. Refused only for want of memory.
+    /// The shape of a test of inputs of these log heights, which fall strictly, with indices of
+    /// `index_bits` bits. Its rounds are the schedule's. The cap is positive, the final polynomial's
+    /// logarithm below 64, and its sum with the log blowup is below `2^64`. Refused only for want of
+    /// memory.
     pub fn new<M>(
         alloc: Global,
         parameters: &FriParameters<M>,
@@ -61,16 +62,18 @@ impl FriShape {
         requires positive_cap { 0 < parameters.now.max_log_arity }
         requires log_final_poly_len_below_64 { parameters.now.log_final_poly_len < 64 }
         requires final_height_fits { parameters.now.log_blowup + parameters.now.log_final_poly_len < 2 ^ 64 }
-        ensures { IfOk result (λ shape. fri_shape shape ≡ record {
-          log_arities = schedule log_heights.now (parameters.now.log_blowup + parameters.now.log_final_poly_len) parameters.now.max_log_arity;
-          final_poly_len = 2 ^ parameters.now.log_final_poly_len;
-          commit_pow_bits = parameters.now.commit_proof_of_work_bits;
-          query_pow_bits = parameters.now.query_proof_of_work_bits;
-          num_queries = parameters.now.num_queries;
-          index_bits = index_bits;
-          log_blowup = parameters.now.log_blowup;
-          max_log_arity = parameters.now.max_log_arity;
-        }) }
+        ensures { IfOk result (λ shape.
+            let final_height = parameters.now.log_blowup + parameters.now.log_final_poly_len in
+            fri_shape shape ≡ record {
+              log_arities = schedule log_heights.now final_height parameters.now.max_log_arity;
+              final_poly_len = 2 ^ parameters.now.log_final_poly_len;
+              commit_pow_bits = parameters.now.commit_proof_of_work_bits;
+              query_pow_bits = parameters.now.query_proof_of_work_bits;
+              num_queries = parameters.now.num_queries;
+              index_bits = index_bits;
+              log_blowup = parameters.now.log_blowup;
+              max_log_arity = parameters.now.max_log_arity;
+            }) }
     {
         let log_arities = fold_schedule(
             alloc,
@@ -81,7 +84,8 @@ impl FriShape {
         Ok(FriShape::with_schedule(parameters, log_arities, index_bits))
     }
 
-    /// The shape of a test of these rounds, whatever their schedule. The final polynomial's logarithm is below 64.
+    /// The shape of a test of these rounds, whatever their schedule. The final polynomial's
+    /// logarithm is below 64.
     pub fn with_schedule<M>(
         parameters: &FriParameters<M>,
         log_arities: Vec<usize>,
@@ -132,7 +136,8 @@ impl FriShape {
         &self,
         alloc: Global,
     ) -> Result<InteractionPattern, AllocError>
-        ensures { IfOk result (λ pattern. pattern_steps pattern ≡ fri_steps EF.DIMENSION (fri_shape self.now)) }
+        ensures { IfOk result (λ pattern.
+            pattern_steps pattern ≡ fri_steps EF.DIMENSION (fri_shape self.now)) }
     {
         let rounds = self.log_arities.len();
         let mut steps = Vec::with_capacity(alloc, rounds.saturating_mul(3).saturating_add(3))?;
@@ -154,7 +159,8 @@ impl FriShape {
         Ok(InteractionPattern::new(steps))
     }
 
-    /// What the transcript is bound to: the protocol, its steps, and the numbers of the shape that they don't tell.
+    /// What the transcript is bound to: the protocol, its steps, and the numbers of the shape that
+    /// they don't determine.
     pub fn domain_separator<F: Field, EF: ExtensionField<F>>(
         &self,
         alloc: Global,
@@ -174,10 +180,13 @@ impl FriShape {
         Ok(separator)
     }
 
-    /// What both sides absorb first, and the steps that they play then. It is made before a challenger is touched.
+    /// What both sides absorb first, and the steps that they play then. It is made before a
+    /// challenger is touched.
     pub fn seed<F: Field, EF: ExtensionField<F>>(&self, alloc: Global) -> Result<Seed, AllocError>
-        ensures stream { IfOk result (λ seed. seed_bytes seed ≡ fri_stream EF.DIMENSION (fri_shape self.now)) }
-        ensures turns { IfOk result (λ seed. seed_turns seed ≡ map turn_of (fri_steps EF.DIMENSION (fri_shape self.now))) }
+        ensures stream { IfOk result (λ seed.
+            seed_bytes seed ≡ fri_stream EF.DIMENSION (fri_shape self.now)) }
+        ensures turns { IfOk result (λ seed.
+            seed_turns seed ≡ map turn_of (fri_steps EF.DIMENSION (fri_shape self.now))) }
     {
         let separator = self.domain_separator::<F, EF>(alloc)?;
         separator.seed(alloc)

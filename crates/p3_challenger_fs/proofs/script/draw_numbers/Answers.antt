@@ -15,6 +15,8 @@ loop-preserved g c =
           drawn.ensures.value drawn.ensures.state ∙ here.invariant.values;
       state = draws-state draw here.challenger after c.args.count here.counter below
           drawn.ensures.state ∙ here.invariant.state;
+      room = omega (arith, here.invariant.room, c.push.ensures.capacity);
+      len = omega (arith, here.invariant.len, c.in_ok-push.ensures.len);
     }
 
 pub returns-clause-values : goal.returns-clause-values

@@ -1,4 +1,4 @@
-use Rattle.std.proofs.Common.{◌≡◌, ◌-◌, ◌++◌}
+use Rattle.std.proofs.Common.{◌≡◌, ◌≤◌, ◌-◌, ◌++◌, vec_len, vec_capacity}
 use Rattle.p3_challenger_core.specs.Run.{draws}
 use Rattle.p3_challenger_fs.proofs.script.draw_numbers.Given as goal
 
@@ -10,4 +10,6 @@ invariant-loop g l =
     record {
       values : l.numbers.items ++ left.value ≡ all.value;
       state : left.state ≡ all.state;
+      room : l.count ≤ vec_capacity l.numbers;
+      len : vec_len l.numbers ≡ l.counter;
     }

@@ -1,44 +1,128 @@
-use Rattle.std.proofs.Common.{◌≡◌, ◌+◌, ◌-◌, length, unwrap_or, refl, ap, ◌∙◌, arith, rules}
+use Rattle.std.proofs.Common.{◌≡◌, ◌+◌, ◌-◌, length, unwrap_or, Some, refl, sym, ap, ◌∙◌, arith}
+use Rattle.std.proofs.Common.{rules, subst}
 use Rattle.std.proofs.lemmas.List.{length-append}
-use Rattle.p3_fri_transcript.specs.Replay.{round_replay}
 use Rattle.p3_challenger.specs.Run.{moves}
+use Rattle.p3_fri_steps.specs.declared.error.FriProverError.{FriProverError}
+use Rattle.p3_fri_steps.specs.Pow.{sent_witness}
+use Rattle.p3_fri_steps.proofs.Found.{sent_is}
+use Rattle.p3_fri_steps.proofs.Reached.{reaches_itself, reaches_join}
+use Rattle.p3_fri_transcript.specs.Found.{RoundsRefused}
+use Rattle.p3_fri_transcript.specs.Replay.{round_replay}
 use Rattle.p3_fri_transcript.specs.Shapes.{fri_shape}
-use Rattle.p3_fri_transcript.proofs.Replays.{rounds_more, rounds-none}
+use Rattle.p3_fri_transcript.specs.Steps.{FriNumbers}
+use Rattle.p3_fri_transcript.proofs.Refusals.{round_not_found}
+use Rattle.p3_fri_transcript.proofs.Replays.{rounds_more, found_more, rounds-none}
 use Rattle.p3_fri_transcript.proofs.TurnLists.{one_round_left, other_rounds_left, no_round_taken}
 use Rattle.p3_fri_transcript.proofs.transcript.play.play_rounds.Goals as goal
 
 pub loop-round-init : goal.loop-round-init
-loop-round-init g c = record {
-  rounds = rounds-none (moves g.C.CanObserve-1.observed g.C.CanObserve-2.observed g.C.CanSample.sampled g.EF.ExtensionField.of_coefficients g.EF.ExtensionField.DIMENSION g.C.CanSampleBits.sampled_bits) (fri_shape c.args.transcript.now.shape).commit_pow_bits c.args.transcript.now.challenger.now _ _ c.in_ok-betas.ensures.items;
-  count = ap length c.in_ok-witnesses.ensures.items;
-  same = refl;
-  shape = refl;
-  steps = no_round_taken g.EF.ExtensionField.DIMENSION (fri_shape c.args.transcript.now.shape) (length c.args.commitments.now) _ c.requires.rounds_left;
-}
+loop-round-init g c =
+    let d = g.EF.ExtensionField.DIMENSION in
+    let m =
+    moves g.C.CanObserve-1.observed g.C.CanObserve-2.observed g.C.CanSample.sampled
+    g.EF.ExtensionField.of_coefficients d g.C.CanSampleBits.sampled_bits in
+    let described = fri_shape c.args.transcript.now.shape in
+    let start = c.args.transcript.now.challenger.now in
+    record {
+      rounds = rounds-none m described.commit_pow_bits start _ _ c.in_ok-betas.ensures.items;
+      drawn = ap length c.in_ok-betas.ensures.items;
+      count = ap length c.in_ok-commit_witnesses.ensures.items;
+      found = tt;
+      kept = record { same = refl; shape = refl };
+      steps = no_round_taken d described (length c.args.commitments.now) _ c.requires.rounds_left;
+      reached = reaches_itself m start start refl;
+    }
 
 pub commit_round-requires-clause-some_round_left : goal.commit_round-requires-clause-some_round_left
 commit_round-requires-clause-some_round_left g c =
-    let here = c.loop-round in (
-      length c.args.commitments.now - (here.round + 1),
-      one_round_left g.EF.ExtensionField.DIMENSION (fri_shape c.args.transcript.now.shape) (fri_shape here.transcript.shape) (length c.args.commitments.now) here.round _ (omega arith) here.invariant.shape here.invariant.steps,
+    let here = c.loop-round in
+    let rounds = length c.args.commitments.now in (
+      rounds - (here.round + 1),
+      one_round_left g.EF.ExtensionField.DIMENSION (fri_shape c.args.transcript.now.shape)
+          (fri_shape here.transcript.shape) rounds here.round _ (omega arith)
+          here.invariant.kept.shape here.invariant.steps,
     )
+
+pub returns-in-Err-clause-refused : goal.returns-in-Err-clause-refused
+returns-in-Err-clause-refused g c =
+    let here = c.loop-round in
+    let d = g.EF.ExtensionField.DIMENSION in
+    let m =
+    moves g.C.CanObserve-1.observed g.C.CanObserve-2.observed g.C.CanSample.sampled
+    g.EF.ExtensionField.of_coefficients d g.C.CanSampleBits.sampled_bits in
+    let described = fri_shape c.args.transcript.now.shape in
+    let own = fri_shape here.transcript.shape in
+    let start = c.args.transcript.now.challenger.now in
+    let P : FriProverError → Type 0 =
+    λ e. RoundsRefused m described.commit_pow_bits start c.args.commitments.now e in
+    subst P (sym c.in-Err.ensures.refused)
+    (round_not_found m described.commit_pow_bits own.commit_pow_bits start
+    here.transcript.challenger.now c.args.commitments.now here.commit_witnesses.items
+    here.betas.items here.round c.index-commitments-round.result (omega arith)
+    c.index-commitments-round.is here.invariant.count here.invariant.rounds
+    (ap (λ (s : FriNumbers). s.commit_pow_bits) here.invariant.kept.shape)
+    c.in-Err.ensures.none_passes)
+
+pub returns-in-Err-clause-reached : goal.returns-in-Err-clause-reached
+returns-in-Err-clause-reached g c =
+    reaches_join _ _ _ _ c.loop-round.invariant.reached c.in-Err.ensures.reached
 
 pub loop-round-preserved : goal.loop-round-preserved
 loop-round-preserved g c =
     let here = c.loop-round in
     let d = g.EF.ExtensionField.DIMENSION in
+    let m =
+    moves g.C.CanObserve-1.observed g.C.CanObserve-2.observed g.C.CanSample.sampled
+    g.EF.ExtensionField.of_coefficients d g.C.CanSampleBits.sampled_bits in
     let described = fri_shape c.args.transcript.now.shape in
+    let own = fri_shape here.transcript.shape in
     let bits = described.commit_pow_bits in
-    let m = moves g.C.CanObserve-1.observed g.C.CanObserve-2.observed g.C.CanSample.sampled g.EF.ExtensionField.of_coefficients g.EF.ExtensionField.DIMENSION g.C.CanSampleBits.sampled_bits in
-    let found : c.unwrap_or.result ≡ unwrap_or c.in-Ok.drawn.1 g.F.Field.ops.zero = search rules in
+    let start = c.args.transcript.now.challenger.now in
+    let now = here.transcript.challenger.now in
+    let after = c.commit_round.new.self.challenger.now in
+    let commitments = c.args.commitments.now in
+    let commitment = c.index-commitments-round.result in
+    let rounds = length commitments in
+    let zero = g.F.Field.ops.zero in
+    let solution = g.C.GrindingChallenger.solution in
+    let found : c.unwrap_or.result ≡ unwrap_or c.in-Ok.drawn.1 zero = search rules in
+    let same : own.commit_pow_bits ≡ bits =
+    ap (λ (s : FriNumbers). s.commit_pow_bits) here.invariant.kept.shape in
+    let observed = m.observe_commitment now commitment in
+    let sent : sent_witness zero solution observed bits ≡ Some c.unwrap_or.result =
+    subst (λ b. sent_witness zero solution observed b ≡ Some c.unwrap_or.result) same
+    (sent_is zero solution observed own.commit_pow_bits c.in-Ok.drawn.1 c.in-Ok.ensures.witness
+    c.in-Ok.ensures.found ∙ ap Some (sym found)) in
+    let left =
+    one_round_left d described own rounds here.round _ (omega arith) here.invariant.kept.shape
+    here.invariant.steps in
     record {
-      rounds = rounds_more m bits c.args.transcript.now.challenger.now here.transcript.challenger.now c.commit_round.new.self.challenger.now c.args.commitments.now here.witnesses.items c.push-in-Ok.new.list.items here.betas.items c.push.new.list.items here.round
-          c.index-commitments-round.result c.unwrap_or.result c.in-Ok.drawn.0 (omega arith) c.index-commitments-round.is here.invariant.count here.invariant.rounds
-          (ap (λ w. round_replay m bits here.transcript.challenger.now c.index-commitments-round.result w) found ∙ (rw here.invariant.shape at c.in-Ok.ensures.round))
+      rounds = rounds_more m bits start now after commitments here.commit_witnesses.items
+          c.push-in-Ok.new.list.items here.betas.items c.push.new.list.items here.round commitment
+          c.unwrap_or.result c.in-Ok.drawn.0 (omega arith) c.index-commitments-round.is
+          here.invariant.count here.invariant.rounds
+          (ap (λ w. round_replay m bits now commitment w) found
+          ∙ (rw here.invariant.kept.shape at c.in-Ok.ensures.round))
           c.in_ok-push-in-Ok-2.ensures c.in_ok-push-in-Ok.ensures;
+      drawn = omega (arith, simp length-append at (ap length c.in_ok-push-in-Ok.ensures));
       count = omega (arith, simp length-append at (ap length c.in_ok-push-in-Ok-2.ensures));
-      same = c.in-Ok.ensures.same ∙ here.invariant.same;
-      shape = c.in-Ok.ensures.shape ∙ here.invariant.shape;
-      steps = other_rounds_left d described (fri_shape here.transcript.shape) _ _ here.invariant.shape
-          (c.in-Ok.ensures.steps (length c.args.commitments.now - (here.round + 1)) (one_round_left d described (fri_shape here.transcript.shape) (length c.args.commitments.now) here.round _ (omega arith) here.invariant.shape here.invariant.steps));
+      found = found_more m bits zero solution start now commitments here.commit_witnesses.items
+          c.push-in-Ok.new.list.items here.betas.items here.round commitment c.unwrap_or.result
+          (omega arith) c.index-commitments-round.is here.invariant.count here.invariant.rounds
+          here.invariant.found sent c.in_ok-push-in-Ok-2.ensures;
+      kept = record {
+        same = c.in-Ok.ensures.kept.same ∙ here.invariant.kept.same;
+        shape = c.in-Ok.ensures.kept.shape ∙ here.invariant.kept.shape;
+      };
+      steps = other_rounds_left d described own _ _ here.invariant.kept.shape
+          (c.in-Ok.ensures.steps (rounds - (here.round + 1)) left);
+      reached = reaches_join m start now after here.invariant.reached c.in-Ok.ensures.reached;
     }
+
+pub returns-in_err-push-in-Ok-clause-reached : goal.returns-in_err-push-in-Ok-clause-reached
+returns-in_err-push-in-Ok-clause-reached g c =
+    reaches_join _ _ _ _ c.loop-round.invariant.reached c.in-Ok.ensures.reached
+
+pub returns-in_err-push-in-Ok-2-clause-reached : goal.returns-in_err-push-in-Ok-2-clause-reached
+returns-in_err-push-in-Ok-2-clause-reached g c =
+    reaches_join _ _ _ _ c.loop-round.invariant.reached c.in-Ok.ensures.reached

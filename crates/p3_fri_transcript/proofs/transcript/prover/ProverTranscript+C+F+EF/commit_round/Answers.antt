@@ -5,6 +5,9 @@ use Rattle.p3_challenger_fs.specs.declared.pattern.Length.TheVariants.{Scalar}
 use Rattle.p3_fri_transcript.specs.Shapes.{fri_shape}
 use Rattle.p3_fri_steps.proofs.Turns.{next_of, rest_of}
 use Rattle.p3_fri_transcript.proofs.TurnLists.{challenge_left, after_commitment}
+use Rattle.std.proofs.Common.{unwrap_or, sym, ◌∙◌}
+use Rattle.p3_fri_steps.proofs.Reached.{reaches_same, reaches_observed}
+use Rattle.p3_fri_transcript.proofs.Reached.{reaches_round}
 use Rattle.p3_fri_transcript.proofs.transcript.prover.ProverTranscript+C+F+EF.commit_round.Goals as goal
 
 pub grind-requires-clause-next : goal.grind-requires-clause-next
@@ -31,3 +34,16 @@ returns-clause-steps g c = λ n left.
     let d = g.EF.ExtensionField.DIMENSION in
     let shape = fri_shape c.args.self.now.shape in
     rest_of _ _ _ _ (c.in_ok-witness.ensures.steps (challenge_left d shape n) (after_commitment d shape n _ _ left c.observe_opaque.ensures.steps)) c.challenge_extension-challenge.ensures.steps
+
+pub returns-in_err-witness-clause-reached : goal.returns-in_err-witness-clause-reached
+returns-in_err-witness-clause-reached g c =
+    reaches_same _ _ _ _ (reaches_observed _ c.args.self.now.challenger.now c.args.commitment)
+    (sym c.observe_opaque.ensures.state ∙ sym c.in_err-witness.ensures.unchanged)
+
+pub returns-clause-reached : goal.returns-clause-reached
+unfolding fri_shape
+returns-clause-reached g c =
+    reaches_round _ (fri_shape c.args.self.now.shape).commit_pow_bits c.args.self.now.challenger.now
+    c.observe_opaque.new.challenger c.grind.new.challenger _ c.args.commitment _
+    c.observe_opaque.ensures.state c.in_ok-witness.ensures.state
+    c.challenge_extension-challenge.ensures.state
