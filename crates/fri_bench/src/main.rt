@@ -1,4 +1,5 @@
-//! Times the extension of a matrix of BabyBear elements, as a commitment takes it.
+//! Times the extension of a matrix of BabyBear elements and its bit reversal, as a commitment takes
+//! them, in microseconds, the least of several.
 #![tactic(auto)]
 
 ghost use Rattle.std.specs.Prelude.{◌<◌};
@@ -11,8 +12,7 @@ use std::time::Instant;
 use std::{env, io};
 
 /// What the program takes.
-const USAGE: &str =
-    "fri_bench LOG_HEIGHT WIDTH ADDED_BITS [REPEATS]: the least times of a matrix's extension and bit reversal";
+const USAGE: &str = "fri_bench LOG_HEIGHT WIDTH ADDED_BITS [REPEATS]";
 
 /// Elements in no regular order.
 fn elements(alloc: Global, count: usize) -> Result<Vec<BabyBear>, AllocError> {
