@@ -299,10 +299,10 @@ fn whole_transcripts_are_their_steps(rt: HostRuntime) -> Result<(), Fail> {
                 query_witness,
             },
         ) {
-            Ok((betas, indices)) => {
+            Ok(replayed) => {
                 assert_eq!(rt; refusal, None);
-                assert_eq!(rt; betas, played.betas);
-                assert_eq!(rt; indices, played.indices);
+                assert_eq!(rt; replayed.betas, played.betas);
+                assert_eq!(rt; replayed.indices, played.indices);
                 assert!(rt; verifier == prover);
             },
             Err(refused) => assert_eq!(rt; Some(refused), refusal),

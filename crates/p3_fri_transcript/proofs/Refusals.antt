@@ -63,7 +63,7 @@ module _ {C F E Com : Type 0} (m : Moves C F E Com) where
 
     module _ (witnesses : List F) (betas : List E)
         (rounds : rounds_replay m shape.commit_pow_bits seeded commitments witnesses
-            ≡ record { passes = true; betas = betas; state = after }) where
+        ≡ record { passes = true; betas = betas; state = after }) where
       reached : after ≡ (rounds_replay m shape.commit_pow_bits seeded commitments witnesses).state
       reached = sym (ap (λ (r : RoundsReplay _ _). r.state) rounds)
 
@@ -71,15 +71,15 @@ module _ {C F E Com : Type 0} (m : Moves C F E Com) where
       pub query_refused : (e : FriProverError) → length witnesses ≡ length commitments
           → (e ≡ Why.NoPowWitness Query) ⊎ (e ≡ Why.OutOfMemory)
           → (e ≡ Why.NoPowWitness Query → NonePasses m.observe_value m.draw_bits
-              (polynomial_observed m.observe_value coefficients after final_poly)
-              shape.query_pow_bits)
+          (polynomial_observed m.observe_value coefficients after final_poly)
+          shape.query_pow_bits)
           → PlayRefused m coefficients shape seeded commitments final_poly e
       query_refused e count (inl is) none =
           let P : FriProverError → Type 0 =
           λ x. PlayRefused m coefficients shape seeded commitments final_poly x in
           let N : C → Type 0 =
           λ s. NonePasses m.observe_value m.draw_bits
-              (polynomial_observed m.observe_value coefficients s final_poly) shape.query_pow_bits in
+          (polynomial_observed m.observe_value coefficients s final_poly) shape.query_pow_bits in
           subst P (sym is) (record {
             witnesses = witnesses;
             count = count;
@@ -95,16 +95,16 @@ module _ {C F E Com : Type 0} (m : Moves C F E Com) where
       pub fri_found : (zero : F) (solution : C → ℕ → Option F) (w : Option F) (witness : F)
           → RoundsFound m zero solution shape.commit_pow_bits seeded commitments witnesses
           → w ≡ found_witness solution
-              (polynomial_observed m.observe_value coefficients after final_poly) shape.query_pow_bits
+          (polynomial_observed m.observe_value coefficients after final_poly) shape.query_pow_bits
           → (shape.query_pow_bits ≢ 0 → IsSome w)
           → witness ≡ unwrap_or w zero
           → FriFound m zero solution coefficients shape seeded commitments witnesses final_poly
-              witness
+          witness
       fri_found zero solution w witness found is some sent =
           let P : C → Type 0 =
           λ s. sent_witness zero solution
-              (polynomial_observed m.observe_value coefficients s final_poly) shape.query_pow_bits
-              ≡ Some witness in
+          (polynomial_observed m.observe_value coefficients s final_poly) shape.query_pow_bits
+          ≡ Some witness in
           let observed = polynomial_observed m.observe_value coefficients after final_poly in
           record {
             rounds = found;
@@ -130,8 +130,8 @@ module _ {C F E Com : Type 0} (m : Moves C F E Com) where
         → (rounds_replay m shape.commit_pow_bits start commitments witnesses).state ≡ before
         → failure ≡ e → last ≡ after
         → QueriesFailure m coefficients shape
-            (rounds_replay m shape.commit_pow_bits start commitments witnesses).state final_poly
-            witness after e
+        (rounds_replay m shape.commit_pow_bits start commitments witnesses).state final_poly
+        witness after e
     queries_failure_is coefficients final_poly witness before last after failure e stands reached
         named same =
         let P : C → C → TranscriptFailure → Type 0 =

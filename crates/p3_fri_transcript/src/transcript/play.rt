@@ -21,7 +21,7 @@ use crate::transcript::verifier::push;
 use p3_challenger::{CanObserve, FieldChallenger, GrindingChallenger, Plays};
 use p3_field::{ExtensionField, Field};
 use p3_fri_steps::FriProverError;
-use std::alloc::Global;
+use std::alloc::{AllocError, Global};
 
 /// Why a whole transcript is refused.
 #[derive(Clone, Copy, Debug, PartialEq, Eq)]
@@ -290,7 +290,7 @@ pub fn replay_fri<
     } = messages;
     let seed = match shape.seed::<F, EF>(alloc) {
         Ok(seed) => seed,
-        Err(_) => return Err(Refusal::Seed),
+        Err(AllocError) => return Err(Refusal::Seed),
     };
     let mut transcript = VerifierTranscript::<C, F, EF>::start(challenger, seed, shape);
     let betas = match transcript.commit_rounds(alloc, commitments, commit_witnesses) {

@@ -39,7 +39,7 @@ returns-in-Err-play_rounds-clause-refused g c = λ e is.
     let named : c.in-Err-play_rounds.refusal ≡ e = cc in
     let P : FriProverError → Type 0 =
     λ x. PlayRefused m g.EF.ExtensionField.coefficients described start c.args.commitments.now
-        c.args.final_poly.now x in
+    c.args.final_poly.now x in
     subst P named
     (rounds_refused m g.EF.ExtensionField.coefficients described start start c.args.commitments.now
     c.args.final_poly.now _ (rw (begun.ensures.starts.shape, seeded) at c.in-Err-play_rounds.ensures.refused))
@@ -84,7 +84,7 @@ returns-in-Err-query_phase-clause-refused g c = λ e is.
     let rounds = rw (begun.ensures.starts.shape, seeded) at c.in-Ok-play_rounds.ensures.rounds in
     let P : FriProverError → Type 0 =
     λ x. PlayRefused m g.EF.ExtensionField.coefficients described start c.args.commitments.now
-        c.args.final_poly.now x in
+    c.args.final_poly.now x in
     subst P named
     (query_refused m g.EF.ExtensionField.coefficients described start
     c.play_rounds.new.transcript.challenger.now c.args.commitments.now c.args.final_poly.now

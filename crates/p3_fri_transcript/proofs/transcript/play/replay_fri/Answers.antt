@@ -43,8 +43,8 @@ returns-in-Err-commit_rounds-clause-passes g c = λ started remembered.
       (λ ok. cc),
       λ held.
           (exact (λ same. remembered (
-            let failed : c.in-Err-commit_rounds.failure ≡ Why.OutOfMemory = cc in
-            ap (λ f. Err (Step f)) failed
+          let failed : c.in-Err-commit_rounds.failure ≡ Why.OutOfMemory = cc in
+          ap (λ f. Err (Step f)) failed
           ))).1 (record {
             commitment_count = held.commitment_count;
             witness_count = held.witness_count;
@@ -123,14 +123,14 @@ returns-in-Err-query_phase-clause-passes g c = λ started remembered.
       (λ ok. cc),
       λ held.
           (exact (λ same. remembered (
-            let failed : c.in-Err-query_phase.failure ≡ Why.OutOfMemory = cc in
-            ap (λ f. Err (Step f)) failed
+          let failed : c.in-Err-query_phase.failure ≡ Why.OutOfMemory = cc in
+          ap (λ f. Err (Step f)) failed
           ))).1 (record {
             coefficient_count = held.coefficient_count;
             pow =
                 ap (λ (q : QueriesReplay _). q.passes) (queries_any g.C.CanObserve-1.observed g.C.CanObserve-1.observed g.C.CanObserve-2.observed
-    g.C.CanSample.sampled g.EF.ExtensionField.of_coefficients d g.C.CanSampleBits.sampled_bits
-    coefficients described _ poly sent.query_witness)
+                g.C.CanSample.sampled g.EF.ExtensionField.of_coefficients d g.C.CanSampleBits.sampled_bits
+                coefficients described _ poly sent.query_witness)
                 ∙ fri_queries_pass m coefficients described g.F.Field.ops (fri_stream d described)
                 c.args.challenger.now _ commitments witnesses poly sent.query_witness seeded held.pow
                 _ _ rounds;
@@ -170,10 +170,10 @@ returns-in-Err-query_phase-clause-failure g c = λ e is.
     inr (
       counts.0 refl,
       queries_failure_is m described start commitments witnesses coefficients poly
-      sent.query_witness c.commit_rounds.new.self.challenger.now
-      c.query_phase.new.self.challenger.now _ c.in-Err-query_phase.failure e
-      (rw (c.in-Ok-commit_rounds.ensures.kept.shape, begun.ensures.starts.shape)
-      at c.in-Err-query_phase.ensures.failure) reached named (search rules),
+          sent.query_witness c.commit_rounds.new.self.challenger.now
+          c.query_phase.new.self.challenger.now _ c.in-Err-query_phase.failure e
+          (rw (c.in-Ok-commit_rounds.ensures.kept.shape, begun.ensures.starts.shape)
+          at c.in-Err-query_phase.ensures.failure) reached named (search rules),
     )
 
 pub returns-in-Err-query_phase-clause-absorbed : goal.returns-in-Err-query_phase-clause-absorbed
