@@ -1,8 +1,9 @@
--- Values of an opening, absorbed list by list, and the steps that are left then.
+-- Claimed values, absorbed list by list, and the turns that are left then.
 use Rattle.std.proofs.Common.{◌≡◌, ℕ, List, [], ◌∷◌, ◌++◌, length, map, codes, Option, true, sym, ap, ◌∙◌, append_assoc, append-nil}
 use Rattle.std.proofs.lemmas.List.{map-append}
 use Rattle.std.proofs.lemmas.Grind.{flat_map-append}
 use Rattle.std.specs.List.{flat_map}
+use Rattle.algebra.specs.Nested.{lists, joined}
 use Rattle.p3_challenger_fs.specs.declared.pattern.Hierarchy.TheVariants.{Atomic, Begin, End}
 use Rattle.p3_challenger_fs.specs.declared.pattern.Kind.TheVariants.{Message}
 use Rattle.p3_challenger_fs.specs.declared.pattern.TypeTag.TheVariants.{Algebra}
@@ -13,10 +14,9 @@ use Rattle.algebra.specs.Field.{FieldOps}
 use Rattle.p3_challenger.specs.Run.{Moves, observed_all}
 use Rattle.p3_challenger.specs.Turns.{IsNext, bytes_observed}
 use Rattle.p3_challenger_core.proofs.Runs.{observed_all-append}
-use Rattle.p3_fri_pcs_transcript.specs.Counts.{joined}
 use Rattle.p3_fri_steps.specs.Pow.{pow_turns}
 use Rattle.p3_fri_pcs_transcript.specs.Replay.{BatchReplay, shown_batch_replay, claims_replay}
-use Rattle.p3_fri_pcs_transcript.specs.Steps.{PcsNumbers, widths, bracket_step, pcs_steps}
+use Rattle.p3_fri_pcs_transcript.specs.Steps.{PcsNumbers, widths, bracket_step, batch_steps, pcs_steps}
 use Rattle.p3_fri_steps.specs.Steps.{pow_steps, challenge_step, message_step}
 use Rattle.p3_fri_pcs_transcript.specs.Turns.{ClaimsLeft, claim_turns, bracket_turns}
 use Rattle.p3_fri_steps.proofs.Turns.{next_of, pow_turns-of}
@@ -25,28 +25,16 @@ use Rattle.p3_fri_steps.proofs.Turns.{next_of, pow_turns-of}
 pub claims_left : (d : ℕ) (s : PcsNumbers) → ClaimsLeft d s (widths s.counts) (map turn_of (pcs_steps d s))
 unfolding pcs_steps
 claims_left d s =
-    let messages = map (message_step d (codes "claimed_evaluations")) (widths s.counts) in
-    let pow = pow_steps (codes "batch_pow") s.batch_pow_bits in
-    let others = challenge_step d (codes "alpha") ∷ bracket_step Begin ∷ bracket_step End ∷ [] in
-    ap (map turn_of) (append_assoc messages pow others) ∙ map-append turn_of messages (pow ++ others)
+    map-append turn_of (map (message_step d (codes "claimed_evaluations")) (widths s.counts)) (batch_steps d s.batch_pow_bits)
 
 module _ {C F E : Type 0} (observe : C → F → C) (coefficients : E → List F) where
-  absorbed_both : (c : C) (first left : List (List E))
+  pub absorbed_both : (c : C) (first left : List (List E))
       → observed_all observe c (flat_map coefficients (joined (first ++ left)))
       ≡ observed_all observe (observed_all observe c (flat_map coefficients (joined first))) (flat_map coefficients (joined left))
   absorbed_both c first left =
       ap (λ values. observed_all observe c (flat_map coefficients values)) (flat_map-append (λ values. values) first left)
       ∙ ap (observed_all observe c) (flat_map-append coefficients (joined first) (joined left))
       ∙ observed_all-append observe c (flat_map coefficients (joined first)) (flat_map coefficients (joined left))
-
-  -- after these lists, what is left leads where it led before
-  pub absorbed_next : (c after last : C) (before first left : List (List E)) → before ≡ first ++ left
-      → after ≡ observed_all observe c (flat_map coefficients (joined first))
-      → observed_all observe c (flat_map coefficients (joined before)) ≡ last
-      → observed_all observe after (flat_map coefficients (joined left)) ≡ last
-  absorbed_next c after last before first left is played was =
-      ap (λ s. observed_all observe s (flat_map coefficients (joined left))) played ∙ sym (absorbed_both c first left)
-      ∙ ap (λ lists. observed_all observe c (flat_map coefficients (joined lists))) (sym is) ∙ was
 
   -- one list
   pub absorbed_one : (c after : C) (values : List E) → after ≡ observed_all observe c (flat_map coefficients values)
@@ -61,30 +49,17 @@ claims_both d first left rest =
     ∙ ap (λ turns. turns ++ rest) (map-append turn_of (map claim first) (map claim left))
     ∙ append_assoc (claim_turns d first) (claim_turns d left) rest
 
--- the claims of these lists come first
-pub claims_first : (d : ℕ) {E : Type 0} (now : List Turn) (before first left : List (List E)) (rest : List Turn) → before ≡ first ++ left
-    → now ≡ claim_turns d (map length before) ++ rest → now ≡ claim_turns d (map length first) ++ (claim_turns d (map length left) ++ rest)
-claims_first d now before first left rest is was =
-    was ∙ ap (λ lists. claim_turns d (map length lists) ++ rest) is ∙ ap (λ counts. claim_turns d counts ++ rest) (map-append length first left)
+-- the claims of these lists, and then of others
+pub claims_first : (d : ℕ) {E : Type 0} {now : List Turn} (first left : List (List E)) (rest : List Turn)
+    → now ≡ claim_turns d (map length (first ++ left)) ++ rest
+    → now ≡ claim_turns d (map length first) ++ (claim_turns d (map length left) ++ rest)
+claims_first d first left rest was =
+    was ∙ ap (λ counts. claim_turns d counts ++ rest) (map-append length first left)
     ∙ claims_both d (map length first) (map length left) rest
-
--- the steps that are left after them
-pub claims_next : (d : ℕ) {E : Type 0} (now after : List Turn) (before first left : List (List E)) (rest : List Turn) → before ≡ first ++ left
-    → ((others : List Turn) → now ≡ claim_turns d (map length first) ++ others → after ≡ others)
-    → now ≡ claim_turns d (map length before) ++ rest → after ≡ claim_turns d (map length left) ++ rest
-claims_next d now after before first left rest is played was = played (claim_turns d (map length left) ++ rest) (claims_first d now before first left rest is was)
-
--- the claim of one list
-pub claim_is_next : (d : ℕ) {E : Type 0} (now : List Turn) (slice values : List E) (before left : List (List E)) (rest : List Turn) → slice ≡ values → before ≡ values ∷ left
-    → now ≡ claim_turns d (map length before) ++ rest → IsNext Atomic Message (Algebra d) (Fixed (length slice)) now
-claim_is_next d {E} now slice values before left rest same is was =
-    next_of Atomic Message (Algebra d) (Fixed (length slice)) now (claim_turns d (map length left) ++ rest)
-    (was ∙ ap (λ lists. claim_turns d (map length lists) ++ rest) is
-    ∙ ap (λ (xs : List E). turn_of (message_step d (codes "claimed_evaluations") (length xs)) ∷ (claim_turns d (map length left) ++ rest)) (sym same))
 
 -- what is left after the claims, and after the proof of work
 abbrev pub batch_left : (d : ℕ) → PcsNumbers → List Turn
-batch_left d shape = map turn_of (pow_steps (codes "batch_pow") shape.batch_pow_bits ++ (challenge_step d (codes "alpha") ∷ bracket_step Begin ∷ bracket_step End ∷ []))
+batch_left d shape = map turn_of (batch_steps d shape.batch_pow_bits)
 
 abbrev pub alpha_left : (d : ℕ) → List Turn
 alpha_left d = turn_of (challenge_step d (codes "alpha")) ∷ bracket_turns
@@ -93,20 +68,7 @@ pub after_claims : (d : ℕ) (shape : PcsNumbers) (left : List Turn) → ClaimsL
 after_claims d shape left is =
     is ∙ pow_turns-of (codes "batch_pow") shape.batch_pow_bits (challenge_step d (codes "alpha") ∷ bracket_step Begin ∷ bracket_step End ∷ [])
 
--- a whole opening, put together from what single calls did
-pub claims_replayed : {C F E Com : Type 0} (m : Moves C F E Com) (coefficients : E → List F) (ops : FieldOps F) (bits : ℕ) (stream : List ℕ) (c started absorbed : C) (values : List E) (witness : Option F)
-    → started ≡ bytes_observed ops m.observe_value c stream → absorbed ≡ observed_all m.observe_value started (flat_map coefficients values)
-    → claims_replay m coefficients ops bits stream c values witness ≡ shown_batch_replay m bits absorbed witness
-unfolding claims_replay
-claims_replayed m coefficients ops bits stream c started absorbed values witness first second =
-    ap (λ s. shown_batch_replay m bits s witness) (sym (second ∙ ap (λ s. observed_all m.observe_value s (flat_map coefficients values)) first))
-
--- the same with the last state under another name
-pub claims_end : {C E : Type 0} (replay : BatchReplay C E) (alpha : E) (last found : C)
-    → replay ≡ record { passes = true; alpha = alpha; state = last } → last ≡ found → replay ≡ record { passes = true; alpha = alpha; state = found }
-claims_end replay alpha last found is same = is ∙ ap (λ s. record { passes = true; alpha = alpha; state = s }) same
-
--- all openings are left at the start
+-- all claims are left at the start
 pub all_claims_left : (d : ℕ) (described own : PcsNumbers) (left : List Turn) → own ≡ described → left ≡ map turn_of (pcs_steps d described)
     → ClaimsLeft d own (widths own.counts) left
 all_claims_left d described own left same is = is ∙ ap (λ (s : PcsNumbers). map turn_of (pcs_steps d s)) (sym same) ∙ claims_left d own

@@ -37,9 +37,20 @@ pub about_lists : {A B : Type 0} (f : A → List B) (xs : List A) (i : ℕ) (x :
 about_lists f xs i x less is =
     ap (flat_map f) (about xs i x less is) ∙ flat_map-append f (take i xs) (x ∷ drop (i + 1) xs) ∙ sym (append_assoc (flat_map f (take i xs)) (f x) (flat_map f (drop (i + 1) xs)))
 
+-- a part of a part
+pub part_within : {A : Type 0} (all first part others before inner after : List A) → all ≡ first ++ part ++ others → part ≡ before ++ inner ++ after
+    → all ≡ (first ++ before) ++ inner ++ (after ++ others)
+part_within all first part others before inner after is holds =
+    is ∙ ap (λ xs. first ++ xs ++ others) holds
+    ∙ simp append_assoc
+
 -- a place one further on
 one_place_more : (n m : ℕ) → n ≡ min m (2 ^ 64 - 1) → min (n + 1) (2 ^ 64 - 1) ≡ min (m + 1) (2 ^ 64 - 1)
 one_place_more n m at = omega arith
+
+-- none was compared
+pub compared_none : {E : Type 0} (a : DescribedCounts) → IsCompared {E = E} a a []
+compared_none a = record { counts = refl; place = λ from at. omega (arith, at) }
 
 -- one list was compared
 pub compared_one : {E : Type 0} (a b : DescribedCounts) (values : List E) → counts_left a ≡ length values ∷ counts_left b → b.opening ≡ min (a.opening + 1) (2 ^ 64 - 1)

@@ -2,6 +2,7 @@ pub mod Comparisons
 pub mod PcsSeed
 pub mod PcsSteps
 pub mod ClaimTurns
+pub mod Progress
 pub mod PcsReplays
 pub mod Widths
 pub mod SeedExamples

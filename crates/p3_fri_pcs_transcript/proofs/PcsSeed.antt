@@ -1,4 +1,4 @@
--- The stream of an opening tells its shape.
+-- The stream of a PCS transcript determines its shape.
 use Rattle.std.proofs.Common.{◌≡◌, ℕ, zero, suc, List, [], ◌∷◌, ◌++◌, length, map, codes, refl, sym, ◌∙◌, arith, append_assoc, subst, Vec, Global}
 use Rattle.std.specs.List.{All, flat_map}
 use Rattle.std.proofs.lemmas.List.{length-map}
@@ -66,8 +66,8 @@ widths_fit (x ∷ xs) p =
     All-append FitsNumber (flat_map (λ points. points) x) (widths xs) (points_fit x (All-head FitsMatrices x xs p).1)
     (widths_fit xs (All-tail FitsMatrices x xs p))
 
-abbrev opening : List (List (List ℕ)) → ℕ → PcsNumbers
-opening counts bits = record { counts = counts; batch_pow_bits = bits }
+abbrev shape_with : List (List (List ℕ)) → ℕ → PcsNumbers
+shape_with counts bits = record { counts = counts; batch_pow_bits = bits }
 
 module _ (d : ℕ) where
   -- neither a proof of work nor a challenge is a message
@@ -87,11 +87,11 @@ module _ (d : ℕ) where
       let rest = messages_determined label other ms ns bits bits' x y u v k l (tail_equal (step m) (step n) (after ms bits x u) (after ns bits' y v) e) in
       (cons_equal m n ms ns (count_equal (step m) (step n) m n (head_equal (step m) (step n) (after ms bits x u) (after ns bits' y v) e) refl refl) rest.0, rest.1, rest.2)
 
-  -- what the steps tell
+  -- what the steps determine
   abbrev StepsAgree : PcsNumbers → PcsNumbers → Type 0
   StepsAgree s t = (widths s.counts ≡ widths t.counts) × (s.batch_pow_bits ≡ t.batch_pow_bits)
 
-  regroup : (a b : List Step) (x y z : Step) (u : List Step) → (a ++ b ++ (x ∷ y ∷ z ∷ [])) ++ u ≡ a ++ (b ++ x ∷ y ∷ z ∷ u)
+  regroup : (a b : List Step) (x y z : Step) (u : List Step) → (a ++ (b ++ (x ∷ y ∷ z ∷ []))) ++ u ≡ a ++ (b ++ x ∷ y ∷ z ∷ u)
   regroup a b x y z u = simp append_assoc
 
   pcs_determined : (s t : PcsNumbers) (u v : List Step) → pcs_steps d s ++ u ≡ pcs_steps d t ++ v → StepsAgree s t × (u ≡ v)
@@ -111,20 +111,25 @@ module _ (d : ℕ) where
       let messages = map (message_step d (codes "claimed_evaluations")) (widths s.counts) in
       let pow = pow_steps (codes "batch_pow") s.batch_pow_bits in
       let numbers = widths_fit s.counts f.counts.1 in
-      All-append FitsWhole (messages ++ pow) (challenge_step d (codes "alpha") ∷ bracket_step Begin ∷ bracket_step End ∷ [])
-      (All-append FitsWhole messages pow
-      (All-map FitsWhole (message_step d (codes "claimed_evaluations")) (widths s.counts) (λ k e l. record { numbers = record { type_tag = p; length = numbers k e l }; label = omega arith }))
-      (pow_fits (codes "batch_pow") s.batch_pow_bits (omega arith) f.batch_pow_bits))
-      (All-cons FitsWhole (challenge_step d (codes "alpha")) (bracket_step Begin ∷ bracket_step End ∷ []) (record { numbers = record { type_tag = p; length = tt }; label = omega arith })
-      (All-cons FitsWhole (bracket_step Begin) (bracket_step End ∷ []) (record { numbers = record { type_tag = tt; length = tt }; label = omega arith })
-      (All-cons FitsWhole (bracket_step End) [] (record { numbers = record { type_tag = tt; length = tt }; label = omega arith }) (All-nil FitsWhole))))
+      let others = challenge_step d (codes "alpha") ∷ bracket_step Begin ∷ bracket_step End ∷ [] in
+      All-append FitsWhole messages (pow ++ others)
+      (All-map FitsWhole (message_step d (codes "claimed_evaluations")) (widths s.counts)
+      (λ k e l. record { numbers = record { type_tag = p; length = numbers k e l }; label = omega arith }))
+      (All-append FitsWhole pow others
+      (pow_fits (codes "batch_pow") s.batch_pow_bits (omega arith) f.batch_pow_bits)
+      (All-cons FitsWhole (challenge_step d (codes "alpha")) (bracket_step Begin ∷ bracket_step End ∷ [])
+      (record { numbers = record { type_tag = p; length = tt }; label = omega arith })
+      (All-cons FitsWhole (bracket_step Begin) (bracket_step End ∷ [])
+      (record { numbers = record { type_tag = tt; length = tt }; label = omega arith })
+      (All-cons FitsWhole (bracket_step End) []
+      (record { numbers = record { type_tag = tt; length = tt }; label = omega arith }) (All-nil FitsWhole)))))
 
-  same_pcs : (c c' : List (List (List ℕ))) (b b' : ℕ) → c ≡ c' → b ≡ b' → opening c b ≡ opening c' b'
+  same_pcs : (c c' : List (List (List ℕ))) (b b' : ℕ) → c ≡ c' → b ≡ b' → shape_with c b ≡ shape_with c' b'
   same_pcs c c' b b' e f = cc
 
-  pub opening_stream_determined : (s t : PcsNumbers) → FitsNumber d → FitsPcs s → FitsPcs t → pcs_stream d s ≡ pcs_stream d t → s ≡ t
+  pub pcs_stream_determined : (s t : PcsNumbers) → FitsNumber d → FitsPcs s → FitsPcs t → pcs_stream d s ≡ pcs_stream d t → s ≡ t
   unfolding pcs_stream pcs_labels
-  opening_stream_determined s t p f g e =
+  pcs_stream_determined s t p f g e =
       let parts = stream_determined 1 1 (codes "p3-fri-pcs") (codes "p3-fri-pcs") (pcs_steps d s) (pcs_steps d t) (map number_bytes (grouping s.counts)) (map number_bytes (grouping t.counts)) (StepsAgree s t) (omega arith) (omega arith)
       (pcs_fits s p f) (pcs_fits t p g) (λ _ u v h. pcs_determined s t u v h) (labels_fit (grouping s.counts)) (labels_fit (grouping t.counts)) e in
       let groups = labels_determined (grouping s.counts) (grouping t.counts) (grouping_fits s.counts f.counts) (grouping_fits t.counts g.counts) parts.3 in

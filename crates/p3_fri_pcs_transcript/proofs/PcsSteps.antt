@@ -1,4 +1,4 @@
--- The steps and labels of an opening, pushed one after another.
+-- The steps and labels of a PCS transcript, pushed one after another.
 use Rattle.std.proofs.Common.{◌≡◌, ℕ, ◌+◌, ◌<◌, List, [], ◌∷◌, ◌++◌, length, map, drop, get_or, codes, sym, ap, ◌∙◌, add-one, append_assoc}
 use Rattle.std.proofs.Math.Seq.{drop-cons}
 use Rattle.p3_challenger_fs.specs.declared.pattern.Hierarchy.TheVariants.{Begin, End}
@@ -15,7 +15,7 @@ claim_pushed f a b counts i less is =
     ap (λ xs. xs ++ left) is ∙ append_assoc a (f (get_or counts i 0) ∷ []) left
     ∙ ap (λ xs. a ++ map f xs) (sym (drop-cons counts i 0 less ∙ ap (λ n. get_or counts i 0 ∷ drop n counts) (sym (add-one i))))
 
--- a whole opening: its claims, a proof of work, a challenge, and a bracket
+-- all of them: the claims, a proof of work, a challenge, and a bracket
 pub pcs_pushed : (d : ℕ) (s : PcsNumbers) (none claims pow alpha begun all : List Step)
     → none ≡ [] → claims ≡ none ++ map (message_step d (codes "claimed_evaluations")) (widths s.counts)
     → pow ≡ claims ++ pow_steps (codes "batch_pow") s.batch_pow_bits
@@ -30,6 +30,7 @@ pcs_pushed d s none claims pow alpha begun all at_first with_claims with_pow wit
     with_end ∙ ap (λ xs. xs ++ bracket_step End ∷ []) (with_begin ∙ ap (λ xs. xs ++ bracket_step Begin ∷ []) (with_alpha ∙ ap (λ xs. xs ++ drawn ∷ []) till_pow))
     ∙ append_assoc ((messages ++ ground) ++ drawn ∷ []) (bracket_step Begin ∷ []) (bracket_step End ∷ [])
     ∙ append_assoc (messages ++ ground) (drawn ∷ []) (bracket_step Begin ∷ bracket_step End ∷ [])
+    ∙ append_assoc messages ground (drawn ∷ bracket_step Begin ∷ bracket_step End ∷ [])
 
 -- a separator without labels, and then with these
 pub grouped : (a e : Description) (version : ℕ) (name : List ℕ) (steps : List Step) (labels : List (List ℕ))

@@ -1,21 +1,23 @@
--- Which claims a verifier's transcript of an opening takes.
+-- Which claims a verifier's transcript takes.
 use Rattle.std.specs.Prelude.{◌≡◌, ◌≢◌, ℕ, ◌+◌, ◌-◌, ◌^◌, min, List, [], ◌∷◌, ◌++◌, length}
 use Rattle.p3_fri_pcs_transcript.specs.declared.pcs_transcript.failure.PcsTranscriptFailure.{PcsTranscriptFailure}
-use Rattle.p3_fri_pcs_transcript.specs.declared.pcs_transcript.failure.PcsTranscriptFailure.TheVariants.{ClaimedEvaluationCount, PowWitness, MissingPowWitness}
+use Rattle.p3_fri_pcs_transcript.specs.declared.pcs_transcript.failure.PcsTranscriptFailure.TheVariants.{ClaimedEvaluationCount}
 
 -- the counts begin with these
 abbrev pub BeginsWith : (counts first : List ℕ) → Type 0
 BeginsWith counts first = (left : List ℕ) × (counts ≡ first ++ left)
 
--- the described counts that are left don't begin with `got`: there are none, and `expected` is 0, or `expected` is the
--- first of them and another
+-- the described counts that are left don't begin with `got`: there are none, and `expected` is 0,
+-- or `expected` is the first of them and another
 abbrev pub Differs : (left : List ℕ) (expected got : ℕ) → Type 0
 Differs [] expected got = expected ≡ 0
 Differs (described ∷ _) expected got = (expected ≡ described) × (got ≢ described)
 
--- the first of the claimed counts that isn't as described: those before it are, and it stands as many places after the
--- place `from` as there are before it (at the greatest number, where its place is past that)
-pub record IsCountFault (from : ℕ) (described claimed : List ℕ) (opening expected got : ℕ) : Type 0 where
+-- the first of the claimed counts that isn't as described: those before it are, and it stands as
+-- many places after the place `from` as there are before it (at the greatest number, where its place
+-- is past that)
+pub record IsCountFault
+    (from : ℕ) (described claimed : List ℕ) (opening expected got : ℕ) : Type 0 where
   pub before : List ℕ
   pub left : List ℕ
   pub more : List ℕ
@@ -26,11 +28,6 @@ pub record IsCountFault (from : ℕ) (described claimed : List ℕ) (opening exp
 
 -- the failure names that count
 abbrev pub IsClaimFailure : (from : ℕ) (described claimed : List ℕ) → PcsTranscriptFailure → Type 0
-IsClaimFailure from described claimed (ClaimedEvaluationCount opening expected got) = IsCountFault from described claimed opening expected got
+IsClaimFailure from described claimed (ClaimedEvaluationCount opening expected got) =
+    IsCountFault from described claimed opening expected got
 IsClaimFailure from described claimed _ = ⊥
-
--- the failures of the proof of work
-abbrev pub IsBatchFailure : (bits : ℕ) → PcsTranscriptFailure → Type 0
-IsBatchFailure bits (PowWitness named) = named ≡ bits
-IsBatchFailure bits (MissingPowWitness named) = named ≡ bits
-IsBatchFailure bits _ = ⊥

@@ -2,6 +2,7 @@
 use Rattle.std.specs.Prelude.{ℕ, List, length, map, Vec}
 use Rattle.std.specs.Global.{Global}
 use Rattle.std.specs.List.{flat_map}
+use Rattle.algebra.specs.Nested.{lists, joined}
 use Rattle.p3_commit.specs.declared.openings.PointOpening.{PointOpening}
 use Rattle.p3_commit.specs.declared.openings.MatrixOpening.{MatrixOpening}
 use Rattle.p3_commit.specs.declared.openings.CommitmentOpening.{CommitmentOpening}
@@ -18,15 +19,16 @@ module _ {E : Type 0} where
   abbrev pub counts_of_values : List (Vec (Vec (Vec E Global) Global) Global) → List (List (List ℕ))
   counts_of_values commitments = map (λ matrices. counts_in_matrices matrices.items) commitments
 
-  abbrev pub lists_at_points : List (Vec E Global) → List (List E)
-  lists_at_points points = map (λ values. values.items) points
-
   abbrev pub lists_in_matrices : List (Vec (Vec E Global) Global) → List (List E)
-  lists_in_matrices matrices = flat_map (λ points. lists_at_points points.items) matrices
+  lists_in_matrices matrices = flat_map (λ points. lists points.items) matrices
 
   -- the list of values at each point, in order
   abbrev pub lists_of_values : List (Vec (Vec (Vec E Global) Global) Global) → List (List E)
   lists_of_values commitments = flat_map (λ matrices. lists_in_matrices matrices.items) commitments
+
+  -- all values, in order
+  abbrev pub all_values : List (Vec (Vec (Vec E Global) Global) Global) → List E
+  all_values commitments = joined (lists_of_values commitments)
 
 -- claims that a verifier is handed
 module _ {E : Type 0} where
@@ -41,7 +43,8 @@ module _ {E : Type 0} where
     claimed_in_matrices matrices = map (λ m. claimed_at_points m.points.items) matrices
 
     abbrev pub claimed_lists_in_matrices : List (MatrixOpening E Domain) → List (List E)
-    claimed_lists_in_matrices matrices = flat_map (λ m. claimed_lists_at_points m.points.items) matrices
+    claimed_lists_in_matrices matrices =
+        flat_map (λ m. claimed_lists_at_points m.points.items) matrices
 
     module _ {Com : Type 0} where
       -- how many values are claimed, by commitment, matrix and point
@@ -52,13 +55,6 @@ module _ {E : Type 0} where
       abbrev pub lists_of_claims : List (CommitmentOpening E Com Domain) → List (List E)
       lists_of_claims claims = flat_map (λ c. claimed_lists_in_matrices c.matrices.items) claims
 
--- all values of these lists, in order
-abbrev pub joined : {E : Type 0} → List (List E) → List E
-joined lists = flat_map (λ values. values) lists
-
--- counts that a shape holds, by matrix and point, and by commitment
-abbrev pub point_lists : List (Vec ℕ Global) → List (List ℕ)
-point_lists matrices = map (λ points. points.items) matrices
-
-abbrev pub matrix_lists : List (Vec (Vec ℕ Global) Global) → List (List (List ℕ))
-matrix_lists commitments = map (λ matrices. point_lists matrices.items) commitments
+      -- all claimed values, in order
+      abbrev pub all_claimed : List (CommitmentOpening E Com Domain) → List E
+      all_claimed claims = joined (lists_of_claims claims)

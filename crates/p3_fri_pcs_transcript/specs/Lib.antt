@@ -1,11 +1,15 @@
 pub mod Steps
 pub mod Shapes
 pub mod Replay
+pub mod Shown
 pub mod Turns
 pub mod SeedLaws
 pub mod SeedExamples
 pub mod Events
 pub mod Counts
 pub mod Claims
+pub mod Failures
 pub mod Cursor
+pub mod Absorption
 pub mod Lending
+pub mod Views

@@ -1,7 +1,10 @@
 -- What contracts see of a shape.
-use Rattle.std.specs.Prelude.{map}
+use Rattle.algebra.specs.Nested.{nested}
 use Rattle.p3_fri_pcs_transcript.specs.declared.pcs_transcript.shape.PcsShape.{PcsShape}
 use Rattle.p3_fri_pcs_transcript.specs.Steps.{PcsNumbers}
 
 unfoldable pub pcs_shape : PcsShape → PcsNumbers
-pcs_shape s = record { counts = map (λ c. map (λ m. m.items) c.items) s.claimed_evaluation_counts.items; batch_pow_bits = s.batch_pow_bits }
+pcs_shape s = record {
+  counts = nested s.claimed_evaluation_counts.items;
+  batch_pow_bits = s.batch_pow_bits;
+}

@@ -3,8 +3,8 @@ use Rattle.std.specs.Prelude.{◌≡◌, ℕ, ◌++◌, List, [], ◌∷◌, map
 use Rattle.p3_challenger_fs.specs.declared.pattern.Hierarchy.TheVariants.{Begin, End}
 use Rattle.p3_challenger_fs.specs.declared.pattern.Turn.{Turn}
 use Rattle.p3_challenger.specs.Pattern.{turn_of}
-use Rattle.p3_fri_pcs_transcript.specs.Steps.{PcsNumbers, bracket_step}
-use Rattle.p3_fri_steps.specs.Steps.{message_step, pow_steps, challenge_step}
+use Rattle.p3_fri_pcs_transcript.specs.Steps.{PcsNumbers, bracket_step, batch_steps}
+use Rattle.p3_fri_steps.specs.Steps.{message_step}
 
 -- claims of so many values each
 abbrev pub claim_turns : (d : ℕ) (counts : List ℕ) → List Turn
@@ -18,8 +18,11 @@ bracket_turns = map turn_of (bracket_step Begin ∷ bracket_step End ∷ [])
 abbrev pub bracket_end_turns : List Turn
 bracket_end_turns = map turn_of (bracket_step End ∷ [])
 
--- what is left to play of an opening are claims of so many values each, and then the proof of work, the challenge and
--- the bracket
+-- claims of so many values each, and what follows the claims
+abbrev pub pcs_turns : (d : ℕ) (shape : PcsNumbers) (counts : List ℕ) → List Turn
+pcs_turns d shape counts =
+    claim_turns d counts ++ map turn_of (batch_steps d shape.batch_pow_bits)
+
+-- these are left to play
 abbrev pub ClaimsLeft : (d : ℕ) (shape : PcsNumbers) (counts : List ℕ) (left : List Turn) → Type 0
-ClaimsLeft d shape counts left =
-    left ≡ claim_turns d counts ++ map turn_of (pow_steps (codes "batch_pow") shape.batch_pow_bits ++ (challenge_step d (codes "alpha") ∷ bracket_step Begin ∷ bracket_step End ∷ []))
+ClaimsLeft d shape counts left = left ≡ pcs_turns d shape counts

@@ -12,6 +12,6 @@ mod state;
 mod verifier;
 
 pub use crate::pcs_transcript::failure::PcsTranscriptFailure;
-pub use crate::pcs_transcript::play::{PcsFailure, PlayedPcs, play_pcs, replay_pcs};
+pub use crate::pcs_transcript::play::{PcsFailure, PlayedPcs, ReplayedPcs, play_pcs, replay_pcs};
 pub use crate::pcs_transcript::shape::PcsShape;
 pub use crate::pcs_transcript::state::{PcsProverTranscript, PcsTranscript, PcsVerifierTranscript};

@@ -1,8 +1,10 @@
 //! Numbers of values at points, nested by commitment, matrix and point.
 
 ghost use Rattle.std.specs.Prelude.{◌≡◌, ◌-◌, ◌^◌, min, IfOk, length};
-ghost use Rattle.std.specs.List.{flat_map};
-ghost use Rattle.p3_fri_pcs_transcript.specs.Counts.{counts_at_points, counts_in_matrices, counts_of_values, claimed_at_points, claimed_in_matrices, counts_of_claims, point_lists, matrix_lists};
+ghost use Rattle.algebra.specs.Nested.{lists, nested, joined};
+ghost use Rattle.p3_fri_pcs_transcript.specs.Counts.{counts_at_points, counts_in_matrices};
+ghost use Rattle.p3_fri_pcs_transcript.specs.Counts.{counts_of_values, counts_of_claims};
+ghost use Rattle.p3_fri_pcs_transcript.specs.Counts.{claimed_at_points, claimed_in_matrices};
 ghost use Rattle.p3_fri_pcs_transcript.specs.Steps.{widths};
 
 use p3_commit::{CommitmentOpening, MatrixOpening, PointOpening};
@@ -13,7 +15,7 @@ pub(super) fn count_values<EF>(
     alloc: Global,
     commitments: &[Vec<Vec<Vec<EF>>>],
 ) -> Result<Vec<Vec<Vec<usize>>>, AllocError>
-    ensures { IfOk result (λ counts. matrix_lists counts.items ≡ counts_of_values commitments.now) }
+    ensures { IfOk result (λ counts. nested counts.items ≡ counts_of_values commitments.now) }
 {
     let mut counts = Vec::with_capacity(alloc, commitments.len())?;
     for matrices in commitments {
@@ -27,7 +29,7 @@ fn count_in_matrices<EF>(
     alloc: Global,
     matrices: &[Vec<Vec<EF>>],
 ) -> Result<Vec<Vec<usize>>, AllocError>
-    ensures { IfOk result (λ counts. point_lists counts.items ≡ counts_in_matrices matrices.now) }
+    ensures { IfOk result (λ counts. lists counts.items ≡ counts_in_matrices matrices.now) }
 {
     let mut counts = Vec::with_capacity(alloc, matrices.len())?;
     for points in matrices {
@@ -52,7 +54,7 @@ pub(super) fn count_claims<EF, Com, Domain>(
     alloc: Global,
     claims: &[CommitmentOpening<EF, Com, Domain>],
 ) -> Result<Vec<Vec<Vec<usize>>>, AllocError>
-    ensures { IfOk result (λ counts. matrix_lists counts.items ≡ counts_of_claims claims.now) }
+    ensures { IfOk result (λ counts. nested counts.items ≡ counts_of_claims claims.now) }
 {
     let mut counts = Vec::with_capacity(alloc, claims.len())?;
     for claim in claims {
@@ -66,7 +68,7 @@ fn claims_in_matrices<EF, Domain>(
     alloc: Global,
     matrices: &[MatrixOpening<EF, Domain>],
 ) -> Result<Vec<Vec<usize>>, AllocError>
-    ensures { IfOk result (λ counts. point_lists counts.items ≡ claimed_in_matrices matrices.now) }
+    ensures { IfOk result (λ counts. lists counts.items ≡ claimed_in_matrices matrices.now) }
 {
     let mut counts = Vec::with_capacity(alloc, matrices.len())?;
     for matrix in matrices {
@@ -94,7 +96,7 @@ pub(super) fn clone_counts(
     alloc: Global,
     commitments: &[Vec<Vec<usize>>],
 ) -> Result<Vec<Vec<Vec<usize>>>, AllocError>
-    ensures { IfOk result (λ counts. matrix_lists counts.items ≡ matrix_lists commitments.now) }
+    ensures { IfOk result (λ counts. nested counts.items ≡ nested commitments.now) }
 {
     let mut counts = Vec::with_capacity(alloc, commitments.len())?;
     for matrices in commitments {
@@ -105,7 +107,7 @@ pub(super) fn clone_counts(
 
 /// The same counts of the matrices under a commitment.
 fn clone_matrices(alloc: Global, matrices: &[Vec<usize>]) -> Result<Vec<Vec<usize>>, AllocError>
-    ensures { IfOk result (λ counts. point_lists counts.items ≡ point_lists matrices.now) }
+    ensures { IfOk result (λ counts. lists counts.items ≡ lists matrices.now) }
 {
     let mut counts = Vec::with_capacity(alloc, matrices.len())?;
     for points in matrices {
@@ -116,7 +118,7 @@ fn clone_matrices(alloc: Global, matrices: &[Vec<usize>]) -> Result<Vec<Vec<usiz
 
 /// The number of points, or the greatest number where that is greater.
 pub(super) fn number_of_points(commitments: &[Vec<Vec<usize>>]) -> usize
-    ensures { result ≡ min (length (widths (matrix_lists commitments.now))) (2 ^ 64 - 1) }
+    ensures { result ≡ min (length (widths (nested commitments.now))) (2 ^ 64 - 1) }
 {
     let mut total: usize = 0;
     for matrices in commitments {
@@ -127,7 +129,7 @@ pub(super) fn number_of_points(commitments: &[Vec<Vec<usize>>]) -> usize
 
 /// The same of the matrices under a commitment.
 fn points_in_matrices(matrices: &[Vec<usize>]) -> usize
-    ensures { result ≡ min (length (flat_map (λ points. points) (point_lists matrices.now))) (2 ^ 64 - 1) }
+    ensures { result ≡ min (length (joined (lists matrices.now))) (2 ^ 64 - 1) }
 {
     let mut total: usize = 0;
     for points in matrices {

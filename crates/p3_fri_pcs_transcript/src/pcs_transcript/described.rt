@@ -1,13 +1,14 @@
 //! The described counts, one after another.
 
 ghost use Rattle.std.specs.Prelude.{◌≡◌, ◌+◌, ◌-◌, ◌^◌, ℕ, ◌∷◌, [], min, MatchOption, OnOk, IfErr};
+ghost use Rattle.algebra.specs.Nested.{nested};
 ghost use Rattle.p3_fri_pcs_transcript.specs.Claims.{IsClaimFailure};
-ghost use Rattle.p3_fri_pcs_transcript.specs.Counts.{matrix_lists};
 ghost use Rattle.p3_fri_pcs_transcript.specs.Steps.{widths};
 
 use crate::pcs_transcript::failure::PcsTranscriptFailure;
 
-/// The counts of a shape that no claim was compared with yet, in order, and how many claims were compared.
+/// The counts of a shape that no claim was compared with yet, in order, and how many claims were
+/// compared.
 #[derive(Clone, Copy)]
 pub(super) struct DescribedCounts<'a> {
     points: &'a [usize],
@@ -21,7 +22,7 @@ impl<'a> DescribedCounts<'a> {
 
     /// All counts of a shape.
     pub(super) fn new(commitments: &'a [Vec<Vec<usize>>]) -> DescribedCounts<'a>
-        ensures counts { counts_left result ≡ widths (matrix_lists commitments.now) }
+        ensures counts { counts_left result ≡ widths (nested commitments.now) }
         ensures place { result.opening ≡ 0 }
     {
         DescribedCounts {
@@ -34,7 +35,8 @@ impl<'a> DescribedCounts<'a> {
 
     /// The next count.
     fn next(&mut self) -> Option<usize>
-        ensures counts { MatchOption result (counts_left self.old ≡ []) (λ count. counts_left self.old ≡ count ∷ counts_left self.new) }
+        ensures counts { MatchOption result (counts_left self.old ≡ [])
+            (λ count. counts_left self.old ≡ count ∷ counts_left self.new) }
         ensures place { self.new.opening ≡ self.old.opening }
     {
         loop {
@@ -54,11 +56,14 @@ impl<'a> DescribedCounts<'a> {
         }
     }
 
-    /// Compares a claim of `got` values with the next count. A place past the greatest number is given as that.
+    /// Compares a claim of `got` values with the next count. A place past the greatest number is given
+    /// as that.
     pub(super) fn compare(&mut self, got: usize) -> Result<(), PcsTranscriptFailure>
         ensures counts { OnOk result (counts_left self.old ≡ got ∷ counts_left self.new) }
         ensures place { OnOk result (self.new.opening ≡ min (self.old.opening + 1) (2 ^ 64 - 1)) }
-        ensures fault { IfErr result (λ e. (from : ℕ) → self.old.opening ≡ min from (2 ^ 64 - 1) → IsClaimFailure from (counts_left self.old) (got ∷ []) e) }
+        ensures fault { IfErr result (λ e.
+            (from : ℕ) → self.old.opening ≡ min from (2 ^ 64 - 1) →
+                IsClaimFailure from (counts_left self.old) (got ∷ []) e) }
     {
         let opening = self.opening;
         self.opening = opening.saturating_add(1);

@@ -1,11 +1,11 @@
-//! The steps and the labels of an opening.
+//! The steps and the labels.
 
 ghost use Rattle.std.specs.Prelude.{◌≡◌, ◌++◌, ◌∷◌, OnOk, map, codes, length};
-ghost use Rattle.std.specs.List.{flat_map};
+ghost use Rattle.algebra.specs.Nested.{lists, nested, joined};
 ghost use Rattle.p3_challenger.specs.Pattern.{step_of, number_bytes};
 ghost use Rattle.p3_challenger.specs.Separator.{description};
-ghost use Rattle.p3_fri_pcs_transcript.specs.Counts.{point_lists, matrix_lists};
 ghost use Rattle.p3_fri_pcs_transcript.specs.Steps.{widths, grouping};
+ghost use Rattle.p3_fri_steps.specs.Labels.{labels_added};
 ghost use Rattle.p3_fri_steps.specs.Steps.{message_step};
 
 use p3_challenger::fs::{DomainSeparator, Hierarchy, Interaction, Kind, Length};
@@ -18,7 +18,8 @@ pub(super) fn push_claims<F: Field, EF: ExtensionField<F>>(
     steps: &mut Vec<Interaction>,
     commitments: &[Vec<Vec<usize>>],
 ) -> Result<(), AllocError>
-    ensures { OnOk result (map step_of steps.new.items ≡ map step_of steps.old.items ++ map (message_step EF.DIMENSION (codes "claimed_evaluations")) (widths (matrix_lists commitments.now))) }
+    ensures { OnOk result (map step_of steps.new.items ≡ map step_of steps.old.items
+        ++ map (message_step EF.DIMENSION (codes "claimed_evaluations")) (widths (nested commitments.now))) }
 {
     for matrices in commitments {
         push_claims_of_matrices::<F, EF>(steps, matrices)?;
@@ -31,7 +32,8 @@ fn push_claims_of_matrices<F: Field, EF: ExtensionField<F>>(
     steps: &mut Vec<Interaction>,
     matrices: &[Vec<usize>],
 ) -> Result<(), AllocError>
-    ensures { OnOk result (map step_of steps.new.items ≡ map step_of steps.old.items ++ map (message_step EF.DIMENSION (codes "claimed_evaluations")) (flat_map (λ points. points) (point_lists matrices.now))) }
+    ensures { OnOk result (map step_of steps.new.items ≡ map step_of steps.old.items
+        ++ map (message_step EF.DIMENSION (codes "claimed_evaluations")) (joined (lists matrices.now))) }
 {
     for points in matrices {
         push_claims_at_points::<F, EF>(steps, points)?;
@@ -44,7 +46,8 @@ fn push_claims_at_points<F: Field, EF: ExtensionField<F>>(
     steps: &mut Vec<Interaction>,
     counts: &[usize],
 ) -> Result<(), AllocError>
-    ensures { OnOk result (map step_of steps.new.items ≡ map step_of steps.old.items ++ map (message_step EF.DIMENSION (codes "claimed_evaluations")) counts.now) }
+    ensures { OnOk result (map step_of steps.new.items ≡ map step_of steps.old.items
+        ++ map (message_step EF.DIMENSION (codes "claimed_evaluations")) counts.now) }
 {
     for count in counts {
         steps.push(Interaction::algebra::<F, EF>(
@@ -57,14 +60,15 @@ fn push_claims_at_points<F: Field, EF: ExtensionField<F>>(
     Ok(())
 }
 
-/// Adds as labels how the points are grouped: the number of commitments, then of each its number of matrices, and of each
-/// of these its number of points.
+/// Adds as labels how the points are grouped: the number of commitments, then of each its number of
+/// matrices, and of each of these its number of points.
 pub(super) fn push_grouping(
     separator: &mut DomainSeparator,
     alloc: Global,
     commitments: &[Vec<Vec<usize>>],
 ) -> Result<(), AllocError>
-    ensures { OnOk result (description separator.new ≡ record (description separator.old) { labels = (description separator.old).labels ++ map number_bytes (grouping (matrix_lists commitments.now)) }) }
+    ensures { OnOk result (description separator.new ≡ labels_added
+        (map number_bytes (grouping (nested commitments.now))) (description separator.old)) }
 {
     push_label(separator, alloc, commitments.len())?;
     for matrices in commitments {
@@ -79,7 +83,9 @@ fn push_group(
     alloc: Global,
     matrices: &[Vec<usize>],
 ) -> Result<(), AllocError>
-    ensures { OnOk result (description separator.new ≡ record (description separator.old) { labels = (description separator.old).labels ++ map number_bytes (length (point_lists matrices.now) ∷ map length (point_lists matrices.now)) }) }
+    ensures { OnOk result (description separator.new ≡ labels_added
+        (map number_bytes (length (lists matrices.now) ∷ map length (lists matrices.now)))
+        (description separator.old)) }
 {
     push_label(separator, alloc, matrices.len())?;
     for points in matrices {

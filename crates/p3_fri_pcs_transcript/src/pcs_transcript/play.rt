@@ -1,22 +1,20 @@
-//! Whole transcripts of openings, with the low-degree test inside, for a caller that has all values at hand.
+//! Whole transcripts, with the low-degree test inside, for a caller that has all values at hand.
 
-ghost use Rattle.std.specs.Prelude.{◌≡◌, ◌≢◌, ◌≤◌, ◌↔◌, ℕ, true, List, Option, Some, Err, IsTrue, IsOk, IfOk, IfErr, length};
-ghost use Rattle.p3_challenger.specs.Run.{Moves};
-ghost use Rattle.p3_fri_steps.specs.declared.error.FriProverError.{FriProverError};
-ghost use Rattle.p3_fri_pcs_transcript.specs.declared.pcs_transcript.play.PcsFailure.TheVariants.{Fri};
-ghost use Rattle.p3_fri_transcript.specs.declared.transcript.failure.TranscriptFailure.TheVariants.{OutOfMemory};
+ghost use Rattle.std.specs.Prelude.{◌≡◌, ◌≢◌, ◌↔◌, true, Some, Err, IsOk, IfOk, length};
 ghost use Rattle.p3_fri_transcript.specs.declared.transcript.play.Refusal.TheVariants.{Seed, Step};
-ghost use Rattle.p3_fri_pcs_transcript.specs.Counts.{counts_of_values, lists_of_values, counts_of_claims, lists_of_claims, joined};
+ghost use Rattle.p3_fri_steps.specs.declared.error.FriProverError.{FriProverError};
 ghost use Rattle.p3_fri_steps.specs.Failures.{IsProverFailure};
-ghost use Rattle.p3_challenger.specs.Run.{moves};
+ghost use Rattle.p3_fri_transcript.specs.Shapes.{fri_shape};
+ghost use Rattle.p3_fri_pcs_transcript.specs.Counts.{counts_of_values, all_values};
+ghost use Rattle.p3_fri_pcs_transcript.specs.Counts.{counts_of_claims, all_claimed};
+ghost use Rattle.p3_fri_pcs_transcript.specs.Failures.{WidthsWithin, PcsPasses};
 ghost use Rattle.p3_fri_pcs_transcript.specs.Replay.{pcs_replay};
 ghost use Rattle.p3_fri_pcs_transcript.specs.Shapes.{pcs_shape};
-ghost use Rattle.p3_fri_transcript.specs.Shapes.{fri_shape};
 
 use crate::pcs_transcript::failure::PcsTranscriptFailure;
 use crate::pcs_transcript::shape::PcsShape;
 use crate::pcs_transcript::state::{PcsProverTranscript, PcsVerifierTranscript};
-use p3_challenger::{CanObserve, FieldChallenger, GrindingChallenger};
+use p3_challenger::{CanObserve, FieldChallenger, GrindingChallenger, Plays};
 use p3_commit::{CommitmentWithOpeningPoints, OpenedValues};
 use p3_field::{ExtensionField, Field};
 use p3_fri_steps::FriProverError;
@@ -25,17 +23,17 @@ use p3_fri_transcript::transcript::{
 };
 use std::alloc::Global;
 
-/// Why a verifier refuses along the transcript of an opening or of the test inside it.
+/// Why a verifier refuses along the transcript or along the test inside it.
 #[derive(Clone, Copy, Debug, PartialEq, Eq)]
 pub enum PcsFailure {
-    /// A step of the opening.
+    /// A step around the test.
     Pcs(PcsTranscriptFailure),
-    /// A step of the low-degree test.
+    /// A step of the low-degree test, or want of memory for its seed.
     Fri(TranscriptFailure),
 }
 
-/// What a prover draws and finds along the transcript of an opening and of the test inside it. A witness at no bits is
-/// not looked at.
+/// What a prover draws and finds along the transcript and the test inside it. A witness at no bits
+/// is zero, and not looked at.
 #[derive(Debug, Drop)]
 pub struct PlayedPcs<F, EF> {
     /// The challenge that batches the openings.
@@ -46,9 +44,22 @@ pub struct PlayedPcs<F, EF> {
     pub test: PlayedFri<F, EF>,
 }
 
-/// Plays all of an opening's transcript, and inside the bracket all of the low-degree test's. There are as many values,
-/// commitments and coefficients as described, and the widths are at most the challenger's greatest. `Refusal::Seed` leaves
-/// the challenger as it was; a step is refused where no element passes its proof of work, or for want of memory.
+/// What a verifier draws along the transcript and the test inside it.
+#[derive(Debug, Drop)]
+pub struct ReplayedPcs<EF> {
+    /// The challenge that batches the openings.
+    pub alpha: EF,
+    /// The folding challenge of each round.
+    pub betas: Vec<EF>,
+    /// The queries' indices.
+    pub indices: Vec<usize>,
+}
+
+/// Plays all of the transcript, and inside the bracket all of the low-degree test's. There are as
+/// many values, commitments and coefficients as described, and the widths are at most the
+/// challenger's greatest. `Refusal::Seed` leaves the challenger as it was; at any other answer it
+/// has absorbed the seed. A step is refused where no element passes its proof of work, or for want
+/// of memory.
 pub fn play_pcs<
     F: Field,
     EF: ExtensionField<F>,
@@ -66,17 +77,25 @@ pub fn play_pcs<
     requires described { counts_of_values opened_values.now.items ≡ (pcs_shape shape).counts }
     requires rounds { length commitments.now ≡ length (fri_shape test).log_arities }
     requires final_poly { length final_poly.now ≡ (fri_shape test).final_poly_len }
-    requires batch_bits_at_most_max { (pcs_shape shape).batch_pow_bits ≤ C.MAX_SAMPLE_BITS }
-    requires commit_bits_at_most_max { (fri_shape test).commit_pow_bits ≤ C.MAX_SAMPLE_BITS }
-    requires query_bits_at_most_max { (fri_shape test).query_pow_bits ≤ C.MAX_SAMPLE_BITS }
-    requires index_bits_at_most_max { (fri_shape test).index_bits ≤ C.MAX_SAMPLE_BITS }
-    ensures unchanged { result ≡ Err Seed → challenger.new ≡ challenger.old }
+    requires widths { WidthsWithin C.MAX_SAMPLE_BITS (pcs_shape shape) (fri_shape test) }
     ensures replay { IfOk result (λ played.
-        let m : Moves C F EF Com = moves ⟦<C as CanObserve<F>>⟧.observed ⟦<C as CanObserve<Com>>⟧.observed C.sampled EF.of_coefficients EF.DIMENSION C.sampled_bits in
-        pcs_replay m EF.coefficients F.ops EF.DIMENSION (pcs_shape shape) (fri_shape test) challenger.old (joined (lists_of_values opened_values.now.items)) (Some played.batch_witness) commitments.now played.test.commit_witnesses.items final_poly.now (Some played.test.query_witness)
-        ≡ record { passes = true; alpha = played.alpha; betas = played.test.betas.items; indices = played.test.indices.items; state = challenger.new }) }
-    ensures witnesses { IfOk result (λ played. length played.test.commit_witnesses.items ≡ length commitments.now) }
+        pcs_replay ⟦<C as Plays<F, EF, Com>>⟧.moves EF.coefficients F.ops EF.DIMENSION
+        (pcs_shape shape) (fri_shape test) challenger.old (all_values opened_values.now.items)
+        (Some played.batch_witness) commitments.now played.test.commit_witnesses.items
+        final_poly.now (Some played.test.query_witness)
+        ≡ record {
+          passes = true;
+          alpha = played.alpha;
+          betas = played.test.betas.items;
+          indices = played.test.indices.items;
+          state = challenger.new;
+        }) }
+    ensures witnesses { IfOk result (λ played.
+        length played.test.commit_witnesses.items ≡ length commitments.now) }
+
+    // A refused seed leaves the challenger as it was; a step is refused after the seed.
     ensures refused { (e : FriProverError) → result ≡ Err (Step e) → IsProverFailure e }
+    ensures unchanged { result ≡ Err Seed → challenger.new ≡ challenger.old }
 {
     let seed = match shape.seed::<F, EF>(alloc) {
         Ok(seed) => seed,
@@ -115,10 +134,11 @@ pub fn play_pcs<
     }
 }
 
-/// Replays all of an opening's transcript, whose shape has the counts of these claims, and inside the bracket all of the
-/// low-degree test's. Answers the challenge that batches the openings, the folding challenges and the queries' indices.
-/// The widths are at most the challenger's greatest. `Refusal::Seed` leaves the challenger as it was; a step is refused
-/// as the transcripts' own calls refuse.
+/// Replays all of the transcript, whose shape has the counts of these claims, and inside the bracket
+/// all of the low-degree test's. Answers the challenge that batches the openings, the folding
+/// challenges and the queries' indices. The widths are at most the challenger's greatest.
+/// `Refusal::Seed` leaves the challenger as it was; at any other answer it has absorbed the seed. A
+/// step is refused as the transcripts' own calls refuse.
 pub fn replay_pcs<
     F: Field,
     EF: ExtensionField<F>,
@@ -134,22 +154,30 @@ pub fn replay_pcs<
     batch_witness: Option<F>,
     test: FriShape,
     messages: FriMessages<'_, F, EF, Com>,
-) -> Result<(EF, Vec<EF>, Vec<usize>), Refusal<PcsFailure>>
+) -> Result<ReplayedPcs<EF>, Refusal<PcsFailure>>
     requires described { counts_of_claims claims.now ≡ (pcs_shape shape).counts }
-    requires batch_bits_at_most_max { (pcs_shape shape).batch_pow_bits ≤ C.MAX_SAMPLE_BITS }
-    requires commit_bits_at_most_max { (fri_shape test).commit_pow_bits ≤ C.MAX_SAMPLE_BITS }
-    requires query_bits_at_most_max { (fri_shape test).query_pow_bits ≤ C.MAX_SAMPLE_BITS }
-    requires index_bits_at_most_max { (fri_shape test).index_bits ≤ C.MAX_SAMPLE_BITS }
+    requires widths { WidthsWithin C.MAX_SAMPLE_BITS (pcs_shape shape) (fri_shape test) }
+    ensures passes { let sent = messages.entry in
+        result ≢ Err Seed → result ≢ Err (Step (PcsFailure.Fri TranscriptFailure.OutOfMemory))
+        → (IsOk result ↔ PcsPasses ⟦<C as Plays<F, EF, Com>>⟧.moves EF.coefficients F.ops
+        EF.DIMENSION (pcs_shape shape) (fri_shape test) challenger.old (all_claimed claims.now)
+        batch_witness sent.commitments.now sent.commit_witnesses.now sent.final_poly.now
+        sent.query_witness) }
+    ensures replay { IfOk result (λ replayed.
+        let sent = messages.entry in
+        pcs_replay ⟦<C as Plays<F, EF, Com>>⟧.moves EF.coefficients F.ops EF.DIMENSION
+        (pcs_shape shape) (fri_shape test) challenger.old (all_claimed claims.now) batch_witness
+        sent.commitments.now sent.commit_witnesses.now sent.final_poly.now sent.query_witness
+        ≡ record {
+          passes = true;
+          alpha = replayed.alpha;
+          betas = replayed.betas.items;
+          indices = replayed.indices.items;
+          state = challenger.new;
+        }) }
+
+    // A refused seed leaves the challenger as it was; a step is refused after the seed.
     ensures unchanged { result ≡ Err Seed → challenger.new ≡ challenger.old }
-    ensures passes { let m : Moves C F EF Com = moves ⟦<C as CanObserve<F>>⟧.observed ⟦<C as CanObserve<Com>>⟧.observed C.sampled EF.of_coefficients EF.DIMENSION C.sampled_bits in
-        let tested = fri_shape test in
-        result ≢ Err Seed → result ≢ Err (Step (Fri OutOfMemory)) → (IsOk result ↔ ((length messages.entry.commitments.now ≡ length tested.log_arities) × (length messages.entry.commit_witnesses.now ≡ length tested.log_arities)
-        × (length messages.entry.final_poly.now ≡ tested.final_poly_len)
-        × IsTrue (pcs_replay m EF.coefficients F.ops EF.DIMENSION (pcs_shape shape) tested challenger.old (joined (lists_of_claims claims.now)) batch_witness messages.entry.commitments.now messages.entry.commit_witnesses.now messages.entry.final_poly.now messages.entry.query_witness).passes)) }
-    ensures replay { IfOk result (λ drawn.
-        let m : Moves C F EF Com = moves ⟦<C as CanObserve<F>>⟧.observed ⟦<C as CanObserve<Com>>⟧.observed C.sampled EF.of_coefficients EF.DIMENSION C.sampled_bits in
-        pcs_replay m EF.coefficients F.ops EF.DIMENSION (pcs_shape shape) (fri_shape test) challenger.old (joined (lists_of_claims claims.now)) batch_witness messages.entry.commitments.now messages.entry.commit_witnesses.now messages.entry.final_poly.now messages.entry.query_witness
-        ≡ record { passes = true; alpha = drawn.0; betas = drawn.1.items; indices = drawn.2.items; state = challenger.new }) }
 {
     let seed = match shape.seed::<F, EF>(alloc) {
         Ok(seed) => seed,
@@ -175,7 +203,11 @@ pub fn replay_pcs<
         Ok((betas, indices)) => {
             transcript.end_delegate();
             transcript.finish();
-            Ok((alpha, betas, indices))
+            Ok(ReplayedPcs {
+                alpha,
+                betas,
+                indices,
+            })
         },
         Err(refusal) => {
             transcript.abort();

@@ -1,41 +1,47 @@
-use Rattle.std.proofs.Common.{◌≡◌, ◌++◌, ◌+◌, take, drop, sym, ap, ◌∙◌}
-use Rattle.p3_fri_pcs_transcript.specs.Counts.{claimed_lists_in_matrices, lists_of_claims}
-use Rattle.p3_fri_steps.proofs.Lists.{next_item}
-use Rattle.p3_fri_pcs_transcript.proofs.ClaimTurns.{absorbed_next}
-use Rattle.p3_fri_pcs_transcript.proofs.Comparisons.{taken_lists, about_lists, compared_next, fault_after}
+use Rattle.std.proofs.Common.{◌++◌, ◌∷◌, [], ◌+◌, take, drop, sym, ap, ◌∙◌, append_assoc}
+use Rattle.p3_fri_pcs_transcript.specs.Counts.{claimed_lists_at_points, claimed_lists_in_matrices, lists_of_claims}
+use Rattle.p3_fri_pcs_transcript.proofs.Comparisons.{taken_item, about_item, about_lists, part_within, fault_after}
+use Rattle.p3_fri_pcs_transcript.proofs.Progress.{progress_more}
 use Rattle.p3_fri_pcs_transcript.proofs.pcs_transcript.claims.absorb_claims.Goals as goal
-
-pub absorb_matrices-requires : goal.absorb_matrices-requires
-absorb_matrices-requires g c =
-    let some = c.requires.next in
-    record { next = (some.0, c.loop-claim.invariant.steps some.0 some.1) }
 
 pub returns-in-Err-clause-fault : goal.returns-in-Err-clause-fault
 returns-in-Err-clause-fault g c =
-    let here = c.loop-claim in
-    let all = c.args.claims.now in
-    let before = lists_of_claims (take here.claim-index all) in
-    let more = lists_of_claims (drop (here.claim-index + 1) all) in
-    fault_after c.args.described.now here.described before (claimed_lists_in_matrices c.deref.result.now) more (lists_of_claims all) c.in-Err.failure
-    (about_lists (λ item. claimed_lists_in_matrices item.matrices.items) all here.claim-index c.claim-item.result c.loop-claim-test.true c.claim-item.is
-    ∙ ap (λ items. before ++ claimed_lists_in_matrices items ++ more) (sym c.deref.ensures.value))
-    here.invariant.compared c.in-Err.ensures.fault
+    let k = c.loop-claim.claim-index in
+    let i = c.loop-matrix.matrix-index in
+    let j = c.loop-point.point-index in
+    let claims = c.args.claims.now in
+    let matrices = c.deref-matrix-items.result.now in
+    let points = c.deref-point-items.result.now in
+    let values = c.as_slice-values.result.now in
+    let first = lists_of_claims (take k claims) in
+    let second = claimed_lists_in_matrices (take i matrices) in
+    let third = claimed_lists_at_points (take j points) in
+    let after_claim = lists_of_claims (drop (k + 1) claims) in
+    let after_matrix = claimed_lists_in_matrices (drop (i + 1) matrices) in
+    let after_point = claimed_lists_at_points (drop (j + 1) points) in
+    let claim = about_lists (λ item. claimed_lists_in_matrices item.matrices.items) claims k c.claim-item.result c.loop-claim-test.true c.claim-item.is
+        ∙ ap (λ items. first ++ claimed_lists_in_matrices items ++ after_claim) (sym c.deref-matrix-items.ensures.value) in
+    let matrix = about_lists (λ item. claimed_lists_at_points item.points.items) matrices i c.matrix-item.result c.loop-matrix-test.true c.matrix-item.is
+        ∙ ap (λ items. second ++ claimed_lists_at_points items ++ after_matrix) (sym c.deref-point-items.ensures.value) in
+    let point = about_item (λ item. item.values.items) points j c.point-item.result c.loop-point-test.true c.point-item.is
+        ∙ ap (λ list. third ++ (list ∷ []) ++ after_point) (sym c.as_slice-values.ensures.value) in
+    fault_after c.args.described.now c.loop-point.described (first ++ second ++ third) (values ∷ []) (after_point ++ (after_matrix ++ after_claim)) (lists_of_claims claims) c.in-Err.failure
+    (part_within _ (first ++ second) (claimed_lists_at_points points) (after_matrix ++ after_claim) third (values ∷ []) after_point
+    (part_within _ first (claimed_lists_in_matrices matrices) after_claim second (claimed_lists_at_points points) after_matrix claim matrix) point)
+    c.loop-point.invariant.compared c.in-Err.ensures.fault
 
-pub loop-claim-preserved : goal.loop-claim-preserved
-loop-claim-preserved g c =
-    let here = c.loop-claim in
-    let all = c.args.claims.now in
-    let taken = lists_of_claims (take here.claim-index all) in
-    let before = lists_of_claims (drop here.claim-index all) in
-    let left = lists_of_claims (drop (here.claim-index + 1) all) in
-    let first = claimed_lists_in_matrices c.deref.result.now in
-    let is : before ≡ first ++ left =
-    ap lists_of_claims (next_item all here.claim-index c.claim-item.result c.loop-claim-test.true c.claim-item.is) ∙ ap (λ items. claimed_lists_in_matrices items ++ left) (sym c.deref.ensures.value) in
-    record {
-      compared = compared_next c.args.described.now here.described c.absorb_matrices.new.described taken first (lists_of_claims (take (here.claim-index + 1) all))
-          (taken_lists (λ item. claimed_lists_in_matrices item.matrices.items) all here.claim-index c.claim-item.result c.loop-claim-test.true c.claim-item.is
-          ∙ ap (λ items. taken ++ claimed_lists_in_matrices items) (sym c.deref.ensures.value))
-          here.invariant.compared c.in-Ok.ensures.compared;
-      state = absorbed_next g.C.CanObserve.observed g.EF.ExtensionField.coefficients here.challenger c.absorb_matrices.new.challenger _ before first left is c.in-Ok.ensures.state here.invariant.state;
-      steps = λ rest was. c.in-Ok.ensures.steps rest (here.invariant.steps rest was);
-    }
+pub loop-point-preserved : goal.loop-point-preserved
+loop-point-preserved g c =
+    let here = c.loop-point in
+    let points = c.deref-point-items.result.now in
+    let values = c.as_slice-values.result.now in
+    let before = lists_of_claims (take c.loop-claim.claim-index c.args.claims.now) ++ claimed_lists_in_matrices (take c.loop-matrix.matrix-index c.deref-matrix-items.result.now) in
+    let taken = claimed_lists_at_points (take here.point-index points) in
+    progress_more g.C.CanObserve.observed g.EF.ExtensionField.coefficients g.EF.ExtensionField.DIMENSION
+    c.args.described.now here.described c.compare.new.self c.args.script.now here.script c.observe_extensions.new.self c.args.challenger.now here.challenger c.observe_extensions.new.challenger
+    (before ++ taken) (before ++ claimed_lists_at_points (take (here.point-index + 1) points)) values here.invariant
+    c.in-Ok.ensures.counts c.in-Ok.ensures.place c.observe_extensions.ensures.state c.observe_extensions.ensures.steps
+    (ap (λ lists. before ++ lists)
+    (taken_item (λ item. item.values.items) points here.point-index c.point-item.result c.loop-point-test.true c.point-item.is
+    ∙ ap (λ list. taken ++ list ∷ []) (sym c.as_slice-values.ensures.value))
+    ∙ sym (append_assoc before taken (values ∷ [])))

@@ -1,19 +1,25 @@
-use Rattle.std.proofs.Common.{◌≡◌, ◌++◌, List, take, drop}
-use Rattle.std.specs.List.{flat_map}
-use Rattle.p3_challenger_fs.specs.declared.pattern.Turn.{Turn}
-use Rattle.p3_challenger.specs.Run.{observed_all}
-use Rattle.p3_challenger.specs.Script.{remaining}
-use Rattle.p3_fri_pcs_transcript.specs.Counts.{lists_of_claims, joined}
-use Rattle.p3_fri_pcs_transcript.specs.Cursor.{counts_left, IsCompared}
-use Rattle.p3_fri_pcs_transcript.specs.Turns.{claim_turns}
+use Rattle.std.proofs.Common.{◌++◌, take}
+use Rattle.p3_fri_pcs_transcript.specs.Counts.{claimed_lists_at_points, claimed_lists_in_matrices, lists_of_claims}
+use Rattle.p3_fri_pcs_transcript.proofs.Progress.{Progress}
 use Rattle.p3_fri_pcs_transcript.proofs.pcs_transcript.claims.absorb_claims.Given as goal
 
 abbrev pub invariant-loop-claim : goal.invariant-loop-claim
 invariant-loop-claim g l =
-    let d = g.EF.ExtensionField.DIMENSION in
-    record {
-      compared : IsCompared l.initial.described l.described (lists_of_claims (take l.claim-index l.claims));
-      state : observed_all g.C.CanObserve.observed l.challenger (flat_map g.EF.ExtensionField.coefficients (joined (lists_of_claims (drop l.claim-index l.claims))))
-          ≡ observed_all g.C.CanObserve.observed l.initial.challenger (flat_map g.EF.ExtensionField.coefficients (joined (lists_of_claims l.claims)));
-      steps : (rest : List Turn) → remaining l.initial.script ≡ claim_turns d (counts_left l.initial.described) ++ rest → remaining l.script ≡ claim_turns d (counts_left l.described) ++ rest;
-    }
+    Progress g.C.CanObserve.observed g.EF.ExtensionField.coefficients g.EF.ExtensionField.DIMENSION
+    l.fn.described l.described l.fn.script l.script l.fn.challenger l.challenger
+    (lists_of_claims (take l.claim-index l.claims))
+
+abbrev pub invariant-loop-matrix : goal.invariant-loop-matrix
+invariant-loop-matrix g l =
+    Progress g.C.CanObserve.observed g.EF.ExtensionField.coefficients g.EF.ExtensionField.DIMENSION
+    l.fn.described l.described l.fn.script l.script l.fn.challenger l.challenger
+    (lists_of_claims (take l.claim-index l.claims)
+    ++ claimed_lists_in_matrices (take l.matrix-index l.matrix-items))
+
+abbrev pub invariant-loop-point : goal.invariant-loop-point
+invariant-loop-point g l =
+    Progress g.C.CanObserve.observed g.EF.ExtensionField.coefficients g.EF.ExtensionField.DIMENSION
+    l.fn.described l.described l.fn.script l.script l.fn.challenger l.challenger
+    (lists_of_claims (take l.claim-index l.claims)
+    ++ claimed_lists_in_matrices (take l.matrix-index l.matrix-items)
+    ++ claimed_lists_at_points (take l.point-index l.point-items))

@@ -1,10 +1,10 @@
 use Rattle.std.proofs.Common.{◌≡◌, ◌+◌, ◌-◌, ◌≤◌, ◌^◌, min, drop, length}
 use Rattle.std.specs.List.{flat_map}
-use Rattle.p3_fri_pcs_transcript.specs.Counts.{point_lists}
+use Rattle.algebra.specs.Nested.{lists, joined}
 use Rattle.p3_fri_pcs_transcript.proofs.pcs_transcript.counts.points_in_matrices.Given as goal
 
 abbrev pub invariant-loop-points : goal.invariant-loop-points
 invariant-loop-points l =
     (l.total ≤ 2 ^ 64 - 1)
-    × (min (l.total + length (flat_map (λ points. points) (point_lists (drop l.points-index l.matrices)))) (2 ^ 64 - 1)
-    ≡ min (length (flat_map (λ points. points) (point_lists l.matrices))) (2 ^ 64 - 1))
+    × (min (l.total + length (joined (lists (drop l.points-index l.matrices)))) (2 ^ 64 - 1)
+    ≡ min (length (joined (lists l.matrices))) (2 ^ 64 - 1))

@@ -1,5 +1,5 @@
 use Rattle.std.proofs.Common.{◌≡◌, ◌++◌, map, drop, codes}
-use Rattle.p3_fri_pcs_transcript.specs.Counts.{matrix_lists}
+use Rattle.algebra.specs.Nested.{nested}
 use Rattle.p3_challenger.specs.Pattern.{step_of}
 use Rattle.p3_fri_pcs_transcript.specs.Steps.{widths}
 use Rattle.p3_fri_steps.specs.Steps.{message_step}
@@ -8,5 +8,5 @@ use Rattle.p3_fri_pcs_transcript.proofs.pcs_transcript.description.push_claims.G
 abbrev pub invariant-loop-matrices : goal.invariant-loop-matrices
 invariant-loop-matrices g l =
     let claim = message_step g.EF.ExtensionField.DIMENSION (codes "claimed_evaluations") in
-    map step_of l.steps.items ++ map claim (widths (matrix_lists (drop l.matrices-index l.commitments)))
-    ≡ map step_of l.initial.steps.items ++ map claim (widths (matrix_lists l.commitments))
+    map step_of l.steps.items ++ map claim (widths (nested (drop l.matrices-index l.commitments)))
+    ≡ map step_of l.initial.steps.items ++ map claim (widths (nested l.commitments))

@@ -1,6 +1,6 @@
 use Rattle.std.proofs.Common.{◌≡◌, ◌++◌, map, drop, codes}
 use Rattle.std.specs.List.{flat_map}
-use Rattle.p3_fri_pcs_transcript.specs.Counts.{point_lists}
+use Rattle.algebra.specs.Nested.{lists, joined}
 use Rattle.p3_challenger.specs.Pattern.{step_of}
 use Rattle.p3_fri_steps.specs.Steps.{message_step}
 use Rattle.p3_fri_pcs_transcript.proofs.pcs_transcript.description.push_claims_of_matrices.Given as goal
@@ -8,5 +8,5 @@ use Rattle.p3_fri_pcs_transcript.proofs.pcs_transcript.description.push_claims_o
 abbrev pub invariant-loop-points : goal.invariant-loop-points
 invariant-loop-points g l =
     let claim = message_step g.EF.ExtensionField.DIMENSION (codes "claimed_evaluations") in
-    map step_of l.steps.items ++ map claim (flat_map (λ points. points) (point_lists (drop l.points-index l.matrices)))
-    ≡ map step_of l.initial.steps.items ++ map claim (flat_map (λ points. points) (point_lists l.matrices))
+    map step_of l.steps.items ++ map claim (joined (lists (drop l.points-index l.matrices)))
+    ≡ map step_of l.initial.steps.items ++ map claim (joined (lists l.matrices))

@@ -1,11 +1,11 @@
 use Rattle.std.proofs.Common.{◌≡◌, ◌++◌, ◌∷◌, map, drop, length}
 use Rattle.std.specs.List.{flat_map}
-use Rattle.p3_fri_pcs_transcript.specs.Counts.{matrix_lists}
+use Rattle.algebra.specs.Nested.{nested}
 use Rattle.p3_challenger.specs.Pattern.{number_bytes}
 use Rattle.p3_challenger.specs.Separator.{description}
 use Rattle.p3_fri_pcs_transcript.proofs.pcs_transcript.description.push_grouping.Given as goal
 
 abbrev pub invariant-loop-matrices : goal.invariant-loop-matrices
 invariant-loop-matrices l =
-    record (description l.separator) { labels = (description l.separator).labels ++ map number_bytes (flat_map (λ m. length m ∷ map length m) (matrix_lists (drop l.matrices-index l.commitments))) }
-    ≡ record (description l.initial.separator) { labels = (description l.initial.separator).labels ++ map number_bytes (flat_map (λ m. length m ∷ map length m) (matrix_lists l.commitments)) }
+    record (description l.separator) { labels = (description l.separator).labels ++ map number_bytes (flat_map (λ m. length m ∷ map length m) (nested (drop l.matrices-index l.commitments))) }
+    ≡ record (description l.initial.separator) { labels = (description l.initial.separator).labels ++ map number_bytes (flat_map (λ m. length m ∷ map length m) (nested l.commitments)) }

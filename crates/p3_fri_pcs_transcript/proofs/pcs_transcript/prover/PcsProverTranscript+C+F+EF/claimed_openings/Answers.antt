@@ -7,8 +7,8 @@ use Rattle.p3_fri_pcs_transcript.proofs.ClaimTurns.{batch_left}
 use Rattle.p3_fri_pcs_transcript.proofs.Widths.{values_counted}
 use Rattle.p3_fri_pcs_transcript.proofs.pcs_transcript.prover.PcsProverTranscript+C+F+EF.claimed_openings.Goals as goal
 
-pub absorb_commitments-requires : goal.absorb_commitments-requires
-absorb_commitments-requires g c =
+pub absorb_values-requires : goal.absorb_values-requires
+absorb_values-requires g c =
     let d = g.EF.ExtensionField.DIMENSION in
     let others = batch_left d (pcs_shape c.args.self.now.shape) in
     record {
@@ -22,10 +22,11 @@ absorb_commitments-requires g c =
     }
 
 pub returns-clause-steps : goal.returns-clause-steps
+unfolding pcs_shape
 returns-clause-steps g c =
     let d = g.EF.ExtensionField.DIMENSION in
     let others = batch_left d (pcs_shape c.args.self.now.shape) in
-    c.absorb_commitments.ensures.steps others
+    c.absorb_values.ensures.turns others
     (c.requires.no_step_played
     ∙ ap (λ counts. claim_turns d (widths counts) ++ others) (sym c.requires.described)
     ∙ ap (λ counts. claim_turns d counts ++ others) (values_counted c.args.opened_values.now.items)

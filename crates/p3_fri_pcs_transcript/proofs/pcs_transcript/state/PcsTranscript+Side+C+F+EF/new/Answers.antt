@@ -1,7 +1,9 @@
 use Rattle.std.proofs.Common.{◌∙◌}
 use Rattle.p3_fri_pcs_transcript.specs.Shapes.{pcs_shape}
-use Rattle.p3_fri_pcs_transcript.proofs.ClaimTurns.{claims_left}
+use Rattle.p3_fri_pcs_transcript.proofs.ClaimTurns.{all_claims_left}
 use Rattle.p3_fri_pcs_transcript.proofs.pcs_transcript.state.PcsTranscript+Side+C+F+EF.new.Goals as goal
 
-pub returns-clause-openings : goal.returns-clause-openings
-returns-clause-openings g c = c.start.ensures.steps ∙ c.in_ok-seed.ensures.turns ∙ claims_left g.EF.ExtensionField.DIMENSION (pcs_shape c.args.shape)
+pub returns-clause-claims : goal.returns-clause-claims
+returns-clause-claims g c =
+    all_claims_left g.EF.ExtensionField.DIMENSION (pcs_shape c.args.shape) (pcs_shape c.start.result.shape) _
+    c.start.ensures.starts.shape (c.start.ensures.steps ∙ c.in_ok-seed.ensures.turns)

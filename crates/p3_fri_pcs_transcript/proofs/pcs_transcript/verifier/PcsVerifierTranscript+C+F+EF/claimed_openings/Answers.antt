@@ -1,12 +1,13 @@
-use Rattle.std.proofs.Common.{◌++◌, ℕ, List, length, map, refl, sym, ap, ◌∙◌, subst}
+use Rattle.std.proofs.Common.{◌++◌, ℕ, List, [], append-nil, length, map, refl, sym, ap, ◌∙◌, subst}
+use Rattle.algebra.specs.Nested.{nested}
 use Rattle.p3_challenger_fs.proofs.Streams.{split_front}
 use Rattle.p3_fri_pcs_transcript.specs.Claims.{IsClaimFailure}
-use Rattle.p3_fri_pcs_transcript.specs.Counts.{matrix_lists, lists_of_claims}
+use Rattle.p3_fri_pcs_transcript.specs.Counts.{counts_of_claims, lists_of_claims}
 use Rattle.p3_fri_pcs_transcript.specs.Cursor.{counts_left}
 use Rattle.p3_fri_pcs_transcript.specs.Shapes.{pcs_shape}
 use Rattle.p3_fri_pcs_transcript.specs.Steps.{widths}
 use Rattle.p3_fri_pcs_transcript.specs.Turns.{claim_turns}
-use Rattle.p3_fri_pcs_transcript.proofs.ClaimTurns.{batch_left}
+use Rattle.p3_fri_pcs_transcript.proofs.ClaimTurns.{batch_left, claims_both}
 use Rattle.p3_fri_pcs_transcript.proofs.Comparisons.{fault_refused}
 use Rattle.p3_fri_pcs_transcript.proofs.Widths.{claims_counted}
 use Rattle.p3_fri_pcs_transcript.proofs.pcs_transcript.verifier.PcsVerifierTranscript+C+F+EF.claimed_openings.Goals as goal
@@ -20,7 +21,7 @@ absorb_claims-requires g c =
       next = (
         others,
         c.requires.no_step_played
-            ∙ ap (λ counts. claim_turns d counts ++ others) (sym (c.new-described.ensures.counts ∙ ap (λ commitments. widths (matrix_lists commitments)) c.deref.ensures.value)),
+            ∙ ap (λ counts. claim_turns d counts ++ others) (sym (c.new-described.ensures.counts ∙ ap (λ commitments. widths (nested commitments)) c.deref.ensures.value)),
       );
     }
 
@@ -30,7 +31,7 @@ returns-in-Ok-clause-passes g c =
     let left = counts_left c.absorb_claims.new.described in (
       (λ ok. (
         left,
-        sym (c.new-described.ensures.counts ∙ ap (λ commitments. widths (matrix_lists commitments)) c.deref.ensures.value)
+        sym (c.new-described.ensures.counts ∙ ap (λ commitments. widths (nested commitments)) c.deref.ensures.value)
             ∙ c.in-Ok.ensures.compared.counts ∙ ap (λ counts. counts ++ left) (sym (claims_counted c.args.claims.now)),
       )),
       λ begins. refl,
@@ -42,11 +43,10 @@ returns-in-Ok-clause-steps g c = λ left same.
     let d = g.EF.ExtensionField.DIMENSION in
     let others = batch_left d (pcs_shape c.args.self.now.shape) in
     let claimed = map length (lists_of_claims c.args.claims.now) in
-    let counted = c.new-described.ensures.counts ∙ ap (λ commitments. widths (matrix_lists commitments)) c.deref.ensures.value in
-    c.in-Ok.ensures.steps others (c.requires.no_step_played ∙ ap (λ counts. claim_turns d counts ++ others) (sym counted))
-    ∙ ap (λ counts. claim_turns d counts ++ others)
-    (split_front claimed claimed (counts_left c.absorb_claims.new.described) left refl
-    (sym c.in-Ok.ensures.compared.counts ∙ counted ∙ same ∙ ap (λ counts. counts ++ left) (claims_counted c.args.claims.now))).1
+    c.in-Ok.ensures.absorbed.turns (claim_turns d left ++ others)
+    (c.requires.no_step_played
+    ∙ ap (λ counts. claim_turns d counts ++ others) (same ∙ ap (λ counts. counts ++ left) (claims_counted c.args.claims.now))
+    ∙ claims_both d claimed left others)
 
 pub returns-in-Err-clause-fault : goal.returns-in-Err-clause-fault
 unfolding pcs_shape
@@ -54,7 +54,7 @@ returns-in-Err-clause-fault g c =
     let claimed = map length (lists_of_claims c.args.claims.now) in
     subst (λ (counts : List ℕ). IsClaimFailure 0 (widths (pcs_shape c.args.self.now.shape).counts) counts c.in-Err.failure) (sym (claims_counted c.args.claims.now))
     (subst (λ (counts : List ℕ). IsClaimFailure 0 counts claimed c.in-Err.failure)
-    (c.new-described.ensures.counts ∙ ap (λ commitments. widths (matrix_lists commitments)) c.deref.ensures.value)
+    (c.new-described.ensures.counts ∙ ap (λ commitments. widths (nested commitments)) c.deref.ensures.value)
     (c.in-Err.ensures.fault 0 c.new-described.ensures.place))
 
 pub returns-in-Err-clause-passes : goal.returns-in-Err-clause-passes
@@ -63,3 +63,14 @@ returns-in-Err-clause-passes g c = (
   (λ none. cc),
   λ begins. absurd (fault_refused 0 _ _ c.in-Err.failure (returns-in-Err-clause-fault g c) begins),
 )
+
+pub returns-in-Ok-clause-whole : goal.returns-in-Ok-clause-whole
+unfolding pcs_shape
+returns-in-Ok-clause-whole g c = λ same.
+    returns-in-Ok-clause-steps g c [] (ap widths (sym same) ∙ sym (append-nil (widths (counts_of_claims c.args.claims.now))))
+
+pub returns-in-Err-clause-whole : goal.returns-in-Err-clause-whole
+unfolding pcs_shape
+returns-in-Err-clause-whole g c = λ same.
+    absurd (fault_refused 0 _ _ c.in-Err.failure (returns-in-Err-clause-fault g c)
+    ([], ap widths (sym same) ∙ sym (append-nil (widths (counts_of_claims c.args.claims.now)))))
