@@ -1,5 +1,7 @@
 -- The value at a point off a coset is the barycentric sum of the values over the coset.
-use Rattle.std.proofs.Common.{◌≡◌, ◌≢◌, ℕ, zero, suc, ◌+◌, ◌-◌, ◌^◌, ◌<◌, ◌≤◌, pred, List, [], ◌∷◌, ◌++◌, length, map, get_or, replicate, refl, sym, ap, ap₂, ◌∙◌, arith, length-append}
+use Rattle.std.proofs.Common.{◌≡◌, ◌≢◌, ℕ, zero, suc, ◌+◌, ◌-◌, ◌^◌, ◌<◌, ◌≤◌, pred, List, [], ◌∷◌}
+use Rattle.std.proofs.Common.{◌++◌, length, map, get_or, replicate, refl, sym, ap, ap₂, ◌∙◌, arith}
+use Rattle.std.proofs.Common.{length-append}
 use Rattle.std.proofs.lemmas.List.{length-replicate, length-map}
 use Rattle.std.proofs.lemmas.Nat.{pow_pos}
 use Rattle.std.proofs.Math.Nat.{pow-le-pow_right}
@@ -10,17 +12,20 @@ use Rattle.algebra.specs.Cosets.{coset_pt, IsOffCoset, vanishing}
 use Rattle.algebra.specs.Words.{coset_word}
 use Rattle.algebra.specs.Barycentric.{barycentric, barycentric_weight, barycentric_factor}
 use Rattle.algebra.proofs.Ring.{◌:+◌, ◌:*◌, ◌:-◌, ◌:=◌, ring, minus, :1, o}
-use Rattle.algebra.proofs.RingLaws.{one_mul, multiple-suc, multiple-zero, multiple-one, multiple-add}
+use Rattle.algebra.proofs.RingLaws.{one_mul, multiple-suc, multiple-zero, multiple-one}
+use Rattle.algebra.proofs.RingLaws.{multiple-add}
 use Rattle.algebra.proofs.Combine.{combine, combine2, cancel_zero, cancel_factor, sub-eq}
 use Rattle.algebra.proofs.Powers.{double, pow-zero, pow-suc_is, pow-nonzero}
-use Rattle.algebra.proofs.Values.{evens, odds, stretched, val-nil, val-cons, val-one, val-halves, val-stretched, val-padded, val-shift}
+use Rattle.algebra.proofs.Values.{evens, odds, stretched, val-nil, val-cons, val-one, val-halves}
+use Rattle.algebra.proofs.Values.{val-stretched, val-padded, val-shift}
 use Rattle.algebra.proofs.Division.{divide, length-quotient}
 use Rattle.algebra.proofs.PolynomialProduct.{sum_below-equal}
 use Rattle.algebra.proofs.Sums.{sum_below-factor, sum_below-add}
 use Rattle.algebra.proofs.Points.{point-square, point-opposite, lifted_roots}
 use Rattle.algebra.proofs.PointTest.{coset_power, power_of_quotient}
 use Rattle.algebra.proofs.CosetWords.{length-stretched}
-use Rattle.algebra.proofs.Lifting.{homomorphism-nonzero, lifted_coset_pt, lifted_value, lifted_off_coset}
+use Rattle.algebra.proofs.Lifting.{homomorphism-nonzero, lifted_coset_pt, lifted_value}
+use Rattle.algebra.proofs.Lifting.{lifted_off_coset}
 use Rattle.algebra.proofs.Words.{point-restrict}
 use Rattle.algebra.proofs.Lists.{get_or-tabulate}
 

@@ -1,15 +1,18 @@
 -- Batches by powers of one element: of polynomials, of words of one height, and of the quotients of
 -- opened matrices.
-use Rattle.std.proofs.Common.{◌≡◌, ◌≢◌, ℕ, ◌^◌, ◌<◌, pred, List, [], ◌∷◌, ◌++◌, length, map, flat_map, get_or, replicate, refl, sym, ap, ap₂, ◌∙◌, length-append}
+use Rattle.std.proofs.Common.{◌≡◌, ◌≢◌, ℕ, ◌^◌, ◌<◌, pred, List, [], ◌∷◌, ◌++◌, length, map}
+use Rattle.std.proofs.Common.{flat_map, get_or, replicate, refl, sym, ap, ap₂, ◌∙◌, length-append}
 use Rattle.std.proofs.lemmas.List.{length-map, length-replicate, map-append}
 use Rattle.algebra.specs.Field.{FieldOps, IsRing, IsField, IsHomomorphism, pow}
 use Rattle.algebra.specs.Polynomial.{val, quotient}
 use Rattle.algebra.specs.Cosets.{coset_pt, IsOffCoset}
 use Rattle.algebra.specs.Words.{IsCosetWord}
-use Rattle.algebra.specs.Quotients.{quotients, batch, Opened, values_at, row_at, opened_quotients, IsOpenedOff, quotient_word}
+use Rattle.algebra.specs.Quotients.{quotients, batch, Opened, values_at, row_at, opened_quotients}
+use Rattle.algebra.specs.Quotients.{IsOpenedOff, quotient_word}
 use Rattle.algebra.proofs.Powers.{pow-add}
 use Rattle.algebra.proofs.Division.{length-quotient}
-use Rattle.algebra.proofs.Values.{add_lists, length-add_lists, val-nil, val-cons, val-add, val-scale, val-padded}
+use Rattle.algebra.proofs.Values.{add_lists, length-add_lists, val-nil, val-cons, val-add}
+use Rattle.algebra.proofs.Values.{val-scale, val-padded}
 use Rattle.algebra.proofs.Lifting.{lifted_coset_pt, lifted_value, lifted_off_coset}
 use Rattle.algebra.proofs.Quotients.{quotient_values}
 use Rattle.algebra.proofs.Lists.{Each, each_from_All, get_or-tabulate, tabulate-equal}

@@ -66,8 +66,7 @@ module _ {A : Type 0} (F : FieldOps A) (L : IsField F) (top : ℕ) (w : ℕ → 
       ∙ map-tabulate (λ x. val F (through_row i h a ys) x) (2 ^ a)
       (λ j. pt F w (i * 2 ^ a + j) (h + a))
 
-  -- the fold of a row of values of a polynomial with as many coefficients is that polynomial's
-  -- value
+  -- the fold of a row of values of a polynomial with as many coefficients is that one's value
   pub fold_value-values : (i h a : ℕ) (beta : A) (c : List A) → i < 2 ^ h → h + a ≤ top
       → length c ≡ 2 ^ a
       → fold_value F w i h a beta
@@ -176,8 +175,7 @@ module _ {A : Type 0} (F : FieldOps A) (L : IsField F) (top : ℕ) (w : ℕ → 
       ∙ fold_by_pairs i h a beta ys l t n
 
   -- and the other way round: the row's halves, folded, fold by two at a power of the challenge, as
-  -- code
-  -- that calls itself on halves has them
+  -- code that calls itself on halves has them
   pub fold_by_halves : (i h a : ℕ) (beta : A) (ys : List A) → i < 2 ^ h → h + suc a ≤ top
       → length ys ≡ 2 ^ suc a
       → fold_value F w i h 1 (pow F beta (2 ^ a))

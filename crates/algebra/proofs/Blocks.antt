@@ -1,10 +1,13 @@
--- A polynomial by blocks of `n` coefficients: its value at `x` is that, at `x^n`, of the polynomial of the
--- blocks' values at `x`; and the blocks summed with the powers of `z` have at `x` that polynomial's value at `z`.
-use Rattle.std.proofs.Common.{◌≡◌, ℕ, zero, suc, ◌*◌, ◌≤◌, List, [], ◌∷◌, length, map, take, drop, replicate, refl, sym, ap, ap₂, ◌∙◌, arith, length-drop}
+-- A polynomial by blocks of `n` coefficients: its value at `x` is that, at `x^n`, of the polynomial
+-- of the blocks' values at `x`; and the blocks summed with the powers of `z` have at `x` that
+-- polynomial's value at `z`.
+use Rattle.std.proofs.Common.{◌≡◌, ℕ, zero, suc, ◌*◌, ◌≤◌, List, [], ◌∷◌, length, map, take, drop}
+use Rattle.std.proofs.Common.{replicate, refl, sym, ap, ap₂, ◌∙◌, arith, length-drop}
 use Rattle.std.proofs.lemmas.List.{take-append-drop, length-take-le, length-map, length-replicate}
 use Rattle.algebra.specs.Field.{FieldOps, IsRing, pow}
 use Rattle.algebra.specs.Polynomial.{val}
-use Rattle.algebra.proofs.Values.{add_lists, length-add_lists, val-nil, val-cons, val-append, val-add, val-scale, val-zeros}
+use Rattle.algebra.proofs.Values.{add_lists, length-add_lists, val-nil, val-cons, val-append}
+use Rattle.algebra.proofs.Values.{val-add, val-scale, val-zeros}
 use Rattle.algebra.proofs.Lists.{Each}
 
 module _ {A : Type 0} (F : FieldOps A) (n : ℕ) where

@@ -1,7 +1,8 @@
 -- Fermat's little theorem, and what it says of squares.
 use Rattle.std.specs.Prelude.{ℕ, zero, suc, ◌+◌, ◌*◌, ◌%◌, ◌^◌, ◌<◌, ◌≡◌, refl}
 use Rattle.std.proofs.Common.{sym, ◌∙◌, ap, arith}
-use Rattle.std.proofs.Math.Nat.{mod-eq_of_lt, add-mod-mod, mul-mod_right, mul_assoc, mul-one, pow-zero, pow-suc, pow-succ', add-mod}
+use Rattle.std.proofs.Math.Nat.{mod-eq_of_lt, add-mod-mod, mul-mod_right, mul_assoc, mul-one}
+use Rattle.std.proofs.Math.Nat.{pow-zero, pow-suc, pow-succ', add-mod}
 use Rattle.std.proofs.lemmas.Nat.{mul-mod_first, mul-mod_second, pow-add, mul-pow, pow-mod}
 use Rattle.algebra.specs.Primes.{IsPrime, inverse_modulo}
 use Rattle.algebra.proofs.Primes.{inverse_modulo-mul}

@@ -1,6 +1,5 @@
 -- The final polynomial: it is the last word's where that is of low degree, the inverse transform of
--- the turned entries
--- gives it, and the chain of each query ends at its value.
+-- the turned entries gives it, and the chain of each query ends at its value.
 use Rattle.std.proofs.Common.{◌≡◌, ℕ, ◌+◌, ◌-◌, ◌/◌, ◌^◌, ◌<◌, ◌≤◌, List, Option, length, take}
 use Rattle.std.proofs.Common.{get_or, sym, ap, ap₂, ◌∙◌, arith, pow_pos, length-take-le}
 use Rattle.std.proofs.Math.Nat.{div-lt_iff_lt-mul}
@@ -103,8 +102,7 @@ module _ {A : Type 0} (F : FieldOps A) (L : IsField F) (top : ℕ) (w : ℕ → 
           (λ j. pt F w j l)) ∙ (through_entries l ys t n).values)
 
   -- From a word of low degree, with inputs of low degrees rolled in, the chain of each query ends
-  -- at the value of the
-  -- final polynomial.
+  -- at the value of the final polynomial.
   pub chain_ends_at_final_polynomial : (fold : ℕ → ℕ → ℕ → A → List A → A)
       → LowersDegrees F w top fold
       → (inputs : ℕ → Option (List A)) (values : ℕ → Option A) (k l log_blowup : ℕ)

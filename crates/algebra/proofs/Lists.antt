@@ -1,5 +1,6 @@
 -- Lists of points: each, distinct ones, and lists by index.
-use Rattle.std.proofs.Common.{◌≡◌, ◌≢◌, ℕ, zero, suc, ◌<◌, List, [], ◌∷◌, length, map, refl, sym, ap, ap₂, arith, All, slice_index_or, get_or, ◌++◌, ◌+◌, ◌∙◌, suc-add}
+use Rattle.std.proofs.Common.{◌≡◌, ◌≢◌, ℕ, zero, suc, ◌<◌, List, [], ◌∷◌, length, map, refl, sym}
+use Rattle.std.proofs.Common.{ap, ap₂, arith, All, slice_index_or, get_or, ◌++◌, ◌+◌, ◌∙◌, suc-add}
 use Rattle.algebra.specs.Polynomial.{tabulate}
 use Rattle.algebra.specs.Interpolation.{AreDistinct}
 

@@ -1,6 +1,5 @@
 -- The value of a periodic column at a point of a domain as large as its rows, or larger, depends on
--- the point's index
--- modulo the period's share of the domain alone.
+-- the point's index modulo the period's share of the domain alone.
 use Rattle.std.proofs.Common.{◌≡◌, ℕ, ◌+◌, ◌-◌, ◌*◌, ◌/◌, ◌%◌, ◌^◌, ◌≤◌, List}
 use Rattle.std.proofs.Common.{sym, ap, ◌∙◌, arith, mul_comm, pow_pos}
 use Rattle.std.proofs.lemmas.Nat.{mod-pow-add, mod-mul-add}
@@ -42,8 +41,7 @@ module _ {A : Type 0} (F : FieldOps A) (L : IsField F) (top : ℕ) (w : ℕ → 
       ∙ ap (λ x. pow F x i) (root-power F L top w W m k b) ∙ power_repeats k i (omega (arith, b)))
 
   -- The value at the `i`-th point of a domain of `2^(n + b)` points is that of the column's
-  -- polynomial at the point of
-  -- index `i` modulo `2^(a + b)` of the domain of as many points.
+  -- polynomial at the point of index `i` modulo `2^(a + b)` of the domain of as many points.
   pub periodic_value_at_point : (a n b i : ℕ) (shift : A) (column : List A) → a ≤ n → n + b ≤ top
       → periodic_value F w a n column (shift ⊗ pow F (w (n + b)) i)
       ≡ val F (column_polynomial F w a column)

@@ -1,6 +1,7 @@
 -- Which points lie on a coset: those whose `2^k`-th power is the shift's. So disjoint cosets, and
 -- vanishing polynomials.
-use Rattle.std.proofs.Common.{◌≡◌, ◌≢◌, ℕ, zero, suc, ◌+◌, ◌-◌, ◌^◌, ◌<◌, ◌≤◌, ◌↔◌, refl, sym, ap, ◌∙◌, arith}
+use Rattle.std.proofs.Common.{◌≡◌, ◌≢◌, ℕ, zero, suc, ◌+◌, ◌-◌, ◌^◌, ◌<◌, ◌≤◌, ◌↔◌, refl, sym, ap}
+use Rattle.std.proofs.Common.{◌∙◌, arith}
 use Rattle.std.proofs.Math.Nat.{pow-le-pow_right}
 use Rattle.algebra.specs.Field.{FieldOps, IsField, IsHomomorphism, sub, pow}
 use Rattle.algebra.specs.TwoAdic.{AreRoots, pt}
@@ -9,7 +10,8 @@ use Rattle.algebra.specs.CosetLaws.{IsTested, AreApart}
 use Rattle.algebra.proofs.Ring.{◌:+◌, ◌:*◌, ◌:-◌, ◌:=◌, ring}
 use Rattle.algebra.proofs.RingLaws.{neg_unique, one_mul}
 use Rattle.algebra.proofs.Combine.{sub-eq, sub-self, cancel_zero}
-use Rattle.algebra.proofs.Powers.{double, pow-zero, pow-one, pow-times, pow-square, pow-one_base, homomorphism-pow}
+use Rattle.algebra.proofs.Powers.{double, pow-zero, pow-one, pow-times, pow-square, pow-one_base}
+use Rattle.algebra.proofs.Powers.{homomorphism-pow}
 use Rattle.algebra.proofs.Digits.{rev-zero}
 use Rattle.algebra.proofs.Points.{point-full_turn, point-square, point-opposite, lifted_roots}
 use Rattle.algebra.proofs.Lifting.{identity_homomorphism, homomorphism-nonzero, lifted_coset_pt}

@@ -1,5 +1,6 @@
 -- The points of two-adic domains: their laws, and that they differ.
-use Rattle.std.proofs.Common.{◌≡◌, ◌⊎◌, inl, inr, ℕ, zero, suc, ◌+◌, ◌*◌, ◌^◌, ◌<◌, ◌≤◌, refl, sym, ap, ap₂, ◌∙◌, arith, mul_comm, add_comm, add-suc}
+use Rattle.std.proofs.Common.{◌≡◌, ◌⊎◌, inl, inr, ℕ, zero, suc, ◌+◌, ◌*◌, ◌^◌, ◌<◌, ◌≤◌, refl, sym}
+use Rattle.std.proofs.Common.{ap, ap₂, ◌∙◌, arith, mul_comm, add_comm, add-suc}
 use Rattle.std.proofs.lemmas.Nat.{pow-add, pow-add as nat-pow-add, mul-add-lt, div-mul-add}
 use Rattle.algebra.specs.Field.{FieldOps, IsField, IsHomomorphism, pow}
 use Rattle.algebra.specs.Interpolation.{AreDistinct}
@@ -8,7 +9,8 @@ use Rattle.algebra.specs.TwoAdic.{AreRoots, pt, domain_points, row_points}
 use Rattle.algebra.proofs.Ring.{◌:+◌, ◌:*◌, ◌:=◌, ring, o, minus, :1}
 use Rattle.algebra.proofs.RingLaws.{one_mul, zero_mul, neg_unique}
 use Rattle.algebra.proofs.Combine.{combine, cancel_zero}
-use Rattle.algebra.proofs.Powers.{double, pow-one, pow-add as power-add, pow-times, pow-mul, pow-nonzero, pow-one_base}
+use Rattle.algebra.proofs.Powers.{double, pow-one, pow-add as power-add, pow-times, pow-mul}
+use Rattle.algebra.proofs.Powers.{pow-nonzero, pow-one_base}
 use Rattle.algebra.proofs.Digits.{rev-even, rev-odd, rev-lt, rev-rev, rev-split}
 use Rattle.algebra.proofs.Lists.{distinct-tabulate, AllPairs_from_distinct}
 

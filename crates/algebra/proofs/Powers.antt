@@ -1,5 +1,6 @@
 -- Laws of powers and of multiples of one.
-use Rattle.std.proofs.Common.{◌≡◌, ℕ, zero, suc, ◌+◌, ◌*◌, ◌/◌, ◌%◌, ◌^◌, refl, sym, ap, ap₂, ◌∙◌, arith, suc-add, zero-add, suc-mul, zero-mul, pow-suc}
+use Rattle.std.proofs.Common.{◌≡◌, ℕ, zero, suc, ◌+◌, ◌*◌, ◌/◌, ◌%◌, ◌^◌, refl, sym, ap, ap₂, ◌∙◌}
+use Rattle.std.proofs.Common.{arith, suc-add, zero-add, suc-mul, zero-mul, pow-suc}
 use Rattle.algebra.specs.Field.{FieldOps, IsRing, IsField, IsHomomorphism, multiple, pow}
 use Rattle.algebra.proofs.RingLaws.{one_mul}
 use Rattle.algebra.proofs.Ring.{◌:*◌, ◌:=◌, ring}

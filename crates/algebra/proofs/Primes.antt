@@ -1,7 +1,9 @@
 -- Arithmetic modulo a prime: inverses, and a test for primes.
-use Rattle.std.specs.Prelude.{ℕ, zero, suc, ◌+◌, ◌-◌, ◌*◌, ◌/◌, ◌%◌, ◌<◌, ◌≤◌, ◌≡◌, ◌≢◌, ◌⊎◌, Bool, true, false, leb, eqb, refl}
+use Rattle.std.specs.Prelude.{ℕ, zero, suc, ◌+◌, ◌-◌, ◌*◌, ◌/◌, ◌%◌, ◌<◌, ◌≤◌, ◌≡◌, ◌≢◌, ◌⊎◌, Bool}
+use Rattle.std.specs.Prelude.{true, false, leb, eqb, refl}
 use Rattle.std.proofs.Common.{sym, ◌∙◌, ap, subst, inl, inr, arith}
-use Rattle.std.proofs.Math.Nat.{div-add-mod, mul-mod_left, mul-le-mul, mod-lt, mod-eq_of_lt, mul-add-mod_self_right, mul_assoc}
+use Rattle.std.proofs.Math.Nat.{div-add-mod, mul-mod_left, mul-le-mul, mod-lt, mod-eq_of_lt}
+use Rattle.std.proofs.Math.Nat.{mul-add-mod_self_right, mul_assoc}
 use Rattle.std.proofs.lemmas.Bool.Decides.{leb_tells, eqb_tells}
 use Rattle.std.proofs.lemmas.Nat.{mul-mod_second}
 use Rattle.algebra.specs.Primes.{IsPrime, inverse_modulo}

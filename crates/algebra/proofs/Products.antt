@@ -1,5 +1,6 @@
 -- Products of lists: one entry more, and what isn't zero.
-use Rattle.std.proofs.Common.{◌≡◌, ◌≢◌, ℕ, ◌+◌, ◌<◌, List, [], ◌∷◌, ◌++◌, get_or, take, length, refl, sym, ap, ◌∙◌, add-one}
+use Rattle.std.proofs.Common.{◌≡◌, ◌≢◌, ℕ, ◌+◌, ◌<◌, List, [], ◌∷◌, ◌++◌, get_or, take, length}
+use Rattle.std.proofs.Common.{refl, sym, ap, ◌∙◌, add-one}
 use Rattle.std.proofs.Math.Seq.{take-suc}
 use Rattle.algebra.specs.Field.{FieldOps, IsRing, IsField}
 use Rattle.algebra.specs.Products.{product}
@@ -35,7 +36,8 @@ module _ {A : Type 0} (F : FieldOps A) (L : IsField F) where
   pub inverse_from_product : (x y : A) → x ⊗ y ≡ 𝟙 → y ≡ inv x
   inverse_from_product x y e = inverse_unique F L x y (λ z. L.one_not_zero (sym e ∙ ap (λ t. t ⊗ y) z ∙ zero_mul F L.ring y)) e
 
-  -- a step of undoing running products: `p` is the product of the entries before `x`, and `t` the inverse of that with `x`
+  -- a step of undoing running products: `p` is the product of the entries before `x`, and `t` the
+  -- inverse of that with `x`
   pub undo_inverse : (p x t : A) → p ⊗ x ⊗ t ≡ 𝟙 → p ⊗ t ≡ inv x
   undo_inverse p x t e = inverse_from_product x (p ⊗ t) (ring F L.ring 3 (λ p x t. x :* (p :* t) := p :* x :* t) refl p x t ∙ e)
 

@@ -1,8 +1,10 @@
 -- The extension by a fourth root of `w` is a field where `w` is no square and -1 is one.
 use Rattle.std.proofs.Common.{◌≡◌, List, [], ◌∷◌, ◌++◌, refl, sym, ap, ◌∙◌}
 use Rattle.algebra.specs.Field.{FieldOps, IsRing, IsField, IsHomomorphism, sub}
-use Rattle.algebra.specs.QuarticExtension.{Quartic, quartic, quartic_mul, conjugate, even_norm, base_norm, quartic_inv, quartic_coefficients}
-use Rattle.algebra.proofs.Ring.{Expr, var, lit, ◌:+◌, ◌:*◌, ◌:-◌, ◌:=◌, norm, eval, solve, ring, terms, o, :1, minus}
+use Rattle.algebra.specs.QuarticExtension.{Quartic, quartic, quartic_mul, conjugate, even_norm}
+use Rattle.algebra.specs.QuarticExtension.{base_norm, quartic_inv, quartic_coefficients}
+use Rattle.algebra.proofs.Ring.{Expr, var, lit, ◌:+◌, ◌:*◌, ◌:-◌, ◌:=◌, norm, eval, solve, ring}
+use Rattle.algebra.proofs.Ring.{terms, o, :1, minus}
 use Rattle.algebra.proofs.Combine.{combine2, sub-eq, cancel_zero}
 
 -- the element of four coefficients
@@ -25,8 +27,8 @@ second = four (var 5) (var 6) (var 7) (var 8)
 abbrev third : Quartic Expr
 third = four (var 9) (var 10) (var 11) (var 12)
 
--- the even norm of `first`, the norms of its even and of its odd part, and what the sum of their squares, the
--- second `w` times, is of the coefficients of the even norm
+-- the even norm of `first`, the norms of its even and of its odd part, and what the sum of their
+-- squares, the second `w` times, is of the coefficients of the even norm
 abbrev squared : Quartic Expr
 squared = even_norm terms (var 0) first
 

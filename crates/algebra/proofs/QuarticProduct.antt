@@ -1,13 +1,18 @@
--- The product of the quartic extension is that of polynomials modulo `X^4 - w`, which has no factors.
-use Rattle.std.proofs.Common.{◌≡◌, ℕ, zero, suc, ◌<◌, List, [], ◌∷◌, length, refl, sym, ap, ap₂, ◌∙◌, arith, lit<}
+-- The product of the quartic extension is that of polynomials modulo `X^4 - w`, which has no
+-- factors.
+use Rattle.std.proofs.Common.{◌≡◌, ℕ, zero, suc, ◌<◌, List, [], ◌∷◌, length, refl, sym, ap, ap₂}
+use Rattle.std.proofs.Common.{◌∙◌, arith, lit<}
 use Rattle.std.proofs.lemmas.List.{get_or_past}
 use Rattle.algebra.specs.Field.{FieldOps, IsRing, IsField}
 use Rattle.algebra.specs.Polynomial.{sum_below}
-use Rattle.algebra.specs.PolynomialProduct.{coefficient, product_coefficient, polynomial_product, IsRemainder, HasNoFactors}
-use Rattle.algebra.specs.QuarticExtension.{Quartic, quartic, quartic_mul, quartic_coefficients, quartic_modulus}
+use Rattle.algebra.specs.PolynomialProduct.{coefficient, product_coefficient, polynomial_product}
+use Rattle.algebra.specs.PolynomialProduct.{IsRemainder, HasNoFactors}
+use Rattle.algebra.specs.QuarticExtension.{Quartic, quartic, quartic_mul, quartic_coefficients}
+use Rattle.algebra.specs.QuarticExtension.{quartic_modulus}
 use Rattle.algebra.proofs.Ring.{Expr, var, ◌:+◌, ◌:*◌, ◌:=◌, solve, ring, terms, o, :1, minus}
 use Rattle.algebra.proofs.Combine.{cancel_zero}
-use Rattle.algebra.proofs.PolynomialProduct.{coefficient-polynomial_product, product_coefficient-equal}
+use Rattle.algebra.proofs.PolynomialProduct.{coefficient-polynomial_product}
+use Rattle.algebra.proofs.PolynomialProduct.{product_coefficient-equal}
 use Rattle.algebra.proofs.QuarticExtension.{four, quartic_equal, first, second, values}
 
 -- the coefficient of `X^k` in the product of two elements of variables, as polynomials

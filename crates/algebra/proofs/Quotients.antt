@@ -1,5 +1,6 @@
 -- Quotients by `X - z` at the points of a coset that doesn't hold `z`.
-use Rattle.std.proofs.Common.{◌≡◌, ◌≢◌, ℕ, suc, ◌^◌, pred, List, [], ◌∷◌, ◌++◌, length, map, get_or, refl, sym, ap, ap₂, ◌∙◌}
+use Rattle.std.proofs.Common.{◌≡◌, ◌≢◌, ℕ, suc, ◌^◌, pred, List, [], ◌∷◌, ◌++◌, length, map, get_or}
+use Rattle.std.proofs.Common.{refl, sym, ap, ap₂, ◌∙◌}
 use Rattle.std.proofs.lemmas.List.{length-map}
 use Rattle.algebra.specs.Field.{FieldOps, IsField, IsHomomorphism, sub, pow}
 use Rattle.algebra.specs.Polynomial.{val, tabulate, quotient}

@@ -1,5 +1,5 @@
--- On a coset of `2^k` points a polynomial has the values of what it is modulo `X^(2^k) -
--- shift^(2^k)`.
+-- On a coset of `2^k` points a polynomial has the values of what it is modulo
+-- `X^(2^k) - shift^(2^k)`.
 use Rattle.std.proofs.Common.{◌≡◌, ℕ, zero, suc, ◌+◌, ◌-◌, ◌*◌, ◌^◌, ◌<◌, ◌≤◌, List}
 use Rattle.std.proofs.Common.{length, refl, sym, ap, ap₂, ◌∙◌, arith, pow_pos}
 use Rattle.std.proofs.lemmas.List.{get_or_past}

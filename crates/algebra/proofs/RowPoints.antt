@@ -1,7 +1,6 @@
 -- The points of a row from one root, and half their inverses from that of the row's first point: so
--- a row of any arity
--- is folded layer by layer with no inversion but one, and none where that one is a power of the
--- root.
+-- a row of any arity is folded layer by layer with no inversion but one, and none where that one is
+-- a power of the root.
 use Rattle.std.proofs.Common.{◌≡◌, ℕ, zero, suc, ◌+◌, ◌*◌, ◌/◌, ◌%◌, ◌^◌, ◌<◌, ◌≤◌, refl, sym, ap}
 use Rattle.std.proofs.Common.{ap₂, ◌∙◌, arith, add_comm, add-suc, pow_pos}
 use Rattle.std.proofs.lemmas.Nat.{div-mul-add}

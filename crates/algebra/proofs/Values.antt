@@ -1,5 +1,6 @@
 -- The value of a polynomial, and what operations on its coefficients do to it.
-use Rattle.std.proofs.Common.{◌≡◌, ℕ, zero, suc, List, [], ◌∷◌, ◌++◌, length, map, get_or, replicate, refl, sym, ap, ap₂, ◌∙◌}
+use Rattle.std.proofs.Common.{◌≡◌, ℕ, zero, suc, List, [], ◌∷◌, ◌++◌, length, map, get_or}
+use Rattle.std.proofs.Common.{replicate, refl, sym, ap, ap₂, ◌∙◌}
 use Rattle.algebra.specs.Field.{FieldOps, IsRing, IsHomomorphism, pow, sub}
 use Rattle.algebra.specs.Polynomial.{sum_below, val}
 use Rattle.algebra.proofs.RingLaws.{mul_zero, mul_left_comm}

@@ -1,5 +1,6 @@
 -- Words: their restriction to a smaller domain, and the one polynomial behind each.
-use Rattle.std.proofs.Common.{◌≡◌, ℕ, zero, suc, ◌+◌, ◌*◌, ◌/◌, ◌^◌, ◌<◌, ◌≤◌, List, ◌∷◌, length, take, drop, get_or, refl, sym, ap, ◌∙◌, arith, suc-add}
+use Rattle.std.proofs.Common.{◌≡◌, ℕ, zero, suc, ◌+◌, ◌*◌, ◌/◌, ◌^◌, ◌<◌, ◌≤◌, List, ◌∷◌, length}
+use Rattle.std.proofs.Common.{take, drop, get_or, refl, sym, ap, ◌∙◌, arith, suc-add}
 use Rattle.std.proofs.lemmas.Nat.{div-mul-add}
 use Rattle.std.proofs.Math.Nat.{pow-le-pow_right}
 use Rattle.algebra.specs.Field.{FieldOps, IsField, pow}
@@ -8,13 +9,15 @@ use Rattle.algebra.specs.Digits.{rev}
 use Rattle.algebra.specs.TwoAdic.{AreRoots, pt}
 use Rattle.algebra.specs.Words.{word, coset_word}
 use Rattle.algebra.specs.Interpolation.{Interpolates, interpolant}
-use Rattle.algebra.specs.Laws.{WordsAreTold}
+use Rattle.algebra.specs.Laws.{WordsAreDetermined}
 use Rattle.algebra.proofs.Combine.{cancel_factor}
 use Rattle.algebra.proofs.Powers.{pow-mul}
 use Rattle.algebra.proofs.Digits.{rev-split, rev-of_zero, rev-lt}
-use Rattle.algebra.proofs.Interpolation.{equal_from_values, interpolates_unique, interpolant_interpolates}
+use Rattle.algebra.proofs.Interpolation.{equal_from_values, interpolates_unique}
+use Rattle.algebra.proofs.Interpolation.{interpolant_interpolates}
 use Rattle.algebra.proofs.Points.{root-power, points_differ}
-use Rattle.algebra.proofs.Lists.{Each, Distinct, length-tabulate, get_or-tabulate, map-tabulate, tabulate-equal, head_eq, tail_eq, distinct-tabulate}
+use Rattle.algebra.proofs.Lists.{Each, Distinct, length-tabulate, get_or-tabulate, map-tabulate}
+use Rattle.algebra.proofs.Lists.{tabulate-equal, head_eq, tail_eq, distinct-tabulate}
 
 pub take-tabulate : {A : Type 0} (m n : ℕ) (f : ℕ → A) → m ≤ n → take m (tabulate n f) ≡ tabulate m f
 take-tabulate zero n f b = refl
@@ -80,7 +83,7 @@ module _ {A : Type 0} (F : FieldOps A) (L : IsField F) (top : ℕ) (w : ℕ → 
   coset_interpolates shift z k b ys n =
       interpolant_interpolates F L (tabulate (2 ^ k) (λ i. shift ⊗ pt F w i k)) ys (length-tabulate (2 ^ k) (λ i. shift ⊗ pt F w i k) ∙ sym n) (coset_points_distinct shift z k b)
 
-  pub coset_words : (shift : A) → ¬ (shift ≡ 𝟘) → (k m : ℕ) → k + m ≤ top → WordsAreTold F w shift k m
+  pub coset_words : (shift : A) → ¬ (shift ≡ 𝟘) → (k m : ℕ) → k + m ≤ top → WordsAreDetermined F w shift k m
   unfolding pt
   coset_words shift z k m b =
       let points = tabulate (2 ^ k) (λ i. shift ⊗ pt F w i k) in

@@ -11,7 +11,12 @@ pub record Quartic (A : Type 0) : Type 0 where
 
 -- `-X` in the place of `X`
 abbrev pub conjugate : {A : Type 0} → FieldOps A → Quartic A → Quartic A
-conjugate F a = record { constant = a.constant; linear = F.neg a.linear; quadratic = a.quadratic; cubic = F.neg a.cubic }
+conjugate F a = record {
+  constant = a.constant;
+  linear = F.neg a.linear;
+  quadratic = a.quadratic;
+  cubic = F.neg a.cubic;
+}
 
 module _ {A : Type 0} (F : FieldOps A) (w : A) where
   infixl 65 ◌⊕◌
@@ -21,10 +26,14 @@ module _ {A : Type 0} (F : FieldOps A) (w : A) where
   -- the product modulo `X^4 - w`: what passes `X^3` begins at 1 again, `w` times
   abbrev pub quartic_mul : Quartic A → Quartic A → Quartic A
   quartic_mul a b = record {
-    constant = a.constant ⊗ b.constant ⊕ w ⊗ (a.linear ⊗ b.cubic ⊕ a.quadratic ⊗ b.quadratic ⊕ a.cubic ⊗ b.linear);
-    linear = a.constant ⊗ b.linear ⊕ a.linear ⊗ b.constant ⊕ w ⊗ (a.quadratic ⊗ b.cubic ⊕ a.cubic ⊗ b.quadratic);
-    quadratic = a.constant ⊗ b.quadratic ⊕ a.linear ⊗ b.linear ⊕ a.quadratic ⊗ b.constant ⊕ w ⊗ (a.cubic ⊗ b.cubic);
-    cubic = a.constant ⊗ b.cubic ⊕ a.linear ⊗ b.quadratic ⊕ a.quadratic ⊗ b.linear ⊕ a.cubic ⊗ b.constant;
+    constant = a.constant ⊗ b.constant
+        ⊕ w ⊗ (a.linear ⊗ b.cubic ⊕ a.quadratic ⊗ b.quadratic ⊕ a.cubic ⊗ b.linear);
+    linear = a.constant ⊗ b.linear ⊕ a.linear ⊗ b.constant
+        ⊕ w ⊗ (a.quadratic ⊗ b.cubic ⊕ a.cubic ⊗ b.quadratic);
+    quadratic = a.constant ⊗ b.quadratic ⊕ a.linear ⊗ b.linear ⊕ a.quadratic ⊗ b.constant
+        ⊕ w ⊗ (a.cubic ⊗ b.cubic);
+    cubic = a.constant ⊗ b.cubic ⊕ a.linear ⊗ b.quadratic ⊕ a.quadratic ⊗ b.linear
+        ⊕ a.cubic ⊗ b.constant;
   }
 
   -- an element times its conjugate, in which only even powers of `X` are left
@@ -40,16 +49,31 @@ module _ {A : Type 0} (F : FieldOps A) (w : A) where
   quartic_inv a =
       let e = even_norm a in
       let i = inv (base_norm e) in
-      quartic_mul (conjugate F a) (record { constant = e.constant ⊗ i; linear = 𝟘; quadratic = neg (e.quadratic ⊗ i); cubic = 𝟘 })
+      quartic_mul (conjugate F a) (record {
+        constant = e.constant ⊗ i;
+        linear = 𝟘;
+        quadratic = neg (e.quadratic ⊗ i);
+        cubic = 𝟘;
+      })
 
   -- the operations modulo `X^4 - w`
   abbrev pub quartic : FieldOps (Quartic A)
   quartic = record {
     zero = record { constant = 𝟘; linear = 𝟘; quadratic = 𝟘; cubic = 𝟘 };
     one = record { constant = 𝟙; linear = 𝟘; quadratic = 𝟘; cubic = 𝟘 };
-    add = λ a b. record { constant = a.constant ⊕ b.constant; linear = a.linear ⊕ b.linear; quadratic = a.quadratic ⊕ b.quadratic; cubic = a.cubic ⊕ b.cubic };
+    add = λ a b. record {
+      constant = a.constant ⊕ b.constant;
+      linear = a.linear ⊕ b.linear;
+      quadratic = a.quadratic ⊕ b.quadratic;
+      cubic = a.cubic ⊕ b.cubic;
+    };
     mul = quartic_mul;
-    neg = λ a. record { constant = neg a.constant; linear = neg a.linear; quadratic = neg a.quadratic; cubic = neg a.cubic };
+    neg = λ a. record {
+      constant = neg a.constant;
+      linear = neg a.linear;
+      quadratic = neg a.quadratic;
+      cubic = neg a.cubic;
+    };
     inv = quartic_inv;
   }
 

@@ -1,4 +1,5 @@
--- Words: the values of a polynomial over a two-adic domain or a coset of one, in bit-reversed order.
+-- Words: the values of a polynomial over a two-adic domain or a coset of one, in bit-reversed
+-- order.
 use Rattle.std.specs.Prelude.{◌≡◌, ℕ, ◌^◌, List, length}
 use Rattle.algebra.specs.Field.{FieldOps}
 use Rattle.algebra.specs.Polynomial.{val, tabulate}

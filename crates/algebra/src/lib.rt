@@ -1,5 +1,5 @@
 //! Definitions and lemmas of algebra: commutative fields, polynomials, interpolation, the points of
-//! two-adic domains and their cosets, words, quotients and batches. It has no program code:
+//! two-adic domains and their cosets, words, quotients, batches and folds. It has no program code:
 //! contracts of the crates above cite `specs/`, their proofs cite `proofs/`, and each function here
 //! is a law, whose contract is a theorem on those definitions.
 #![tactic(auto)]
@@ -10,7 +10,8 @@ ghost use Rattle.algebra.specs.CosetLaws.{QuotientsAreValues, QuotientsCompress,
 ghost use Rattle.algebra.specs.CosetLaws.{OpeningsAreWords, ValuesFromCosets, PointsAreTested};
 ghost use Rattle.algebra.specs.CosetLaws.{CosetsVanish, CosetsAreApart};
 ghost use Rattle.algebra.specs.FoldLaws.{Folds, ChainsMeetWords, RoundsLowerDegrees};
-ghost use Rattle.algebra.specs.FoldLaws.{ChainsEndAtFinalPolynomials, WordsReduce, PeriodicValuesRepeat};
+ghost use Rattle.algebra.specs.FoldLaws.{ChainsEndAtFinalPolynomials, WordsReduce};
+ghost use Rattle.algebra.specs.FoldLaws.{PeriodicValuesRepeat};
 
 /// Interpolation over any field: through distinct points goes one polynomial with as many
 /// coefficients, and `interpolant` is it.
@@ -66,27 +67,29 @@ pub fn cosets_law<A>()
     ensures apart { CosetsAreApart A }
 {}
 
-/// Folds over two-adic domains: in steps, so by two as often as the log arity says; and degrees fall.
+/// Folds over two-adic domains: in steps, so by two as often as the log arity says; and degrees
+/// fall.
 pub fn folds_law<A>()
     ensures { Folds A }
 {}
 
-/// Rounds of folding while inputs are rolled in. By any fold of rows, the chain of a query goes through the words of
-/// the rounds, and folds their rows. By one that lowers degrees, words of low degree lead to one of low degree, and each
-/// chain ends at the value of the final polynomial.
+/// Rounds of folding while inputs are rolled in. By any fold of rows, the chain of a query goes
+/// through the words of the rounds, and folds their rows. By one that lowers degrees, words of low
+/// degree lead to one of low degree, and each chain ends at the value of the final polynomial.
 pub fn rounds_law<A>()
     ensures chains { ChainsMeetWords A }
     ensures degrees { RoundsLowerDegrees A }
     ensures ends { ChainsEndAtFinalPolynomials A }
 {}
 
-/// Smaller domains: on a coset of `2^k` points a polynomial has the values of its remainder modulo the `k`-th vanishing
-/// polynomial.
+/// Smaller domains: on a coset of `2^k` points a polynomial of any degree has the values of what it
+/// is modulo `X^(2^k) - shift^(2^k)`.
 pub fn reduction_law<A>()
     ensures { WordsReduce A }
 {}
 
-/// Periodic columns: their values at the points of a domain that extends their rows repeat after the period's share of it.
+/// Periodic columns: their values at the points of a domain that may be larger than their rows'
+/// repeat after the period's share of it.
 pub fn periodic_law<A>()
     ensures { PeriodicValuesRepeat A }
 {}

@@ -1,4 +1,5 @@
--- Zero is off each coset, so the barycentric sum there is the value, which is the coefficient of one.
+-- Zero is off each coset, so the barycentric sum there is the value, which is the coefficient of
+-- one.
 use Rattle.std.proofs.Common.{◌≡◌, ℕ, ◌+◌, List, [], ◌∷◌, map, get_or, refl, sym, ap, ◌∙◌, arith}
 use Rattle.algebra.specs.Field.{FieldOps, IsField, IsHomomorphism}
 use Rattle.algebra.specs.Polynomial.{val}

@@ -1,10 +1,12 @@
-//! Instances of the laws of `algebra`: tests at the field BabyBear and its extension of degree 4, and a
-//! law whose premises hold of every field with roots of unity and each of its extensions.
+//! Instances of the laws of `algebra`: tests at the field BabyBear and its extension of degree 4,
+//! and a law whose premises hold of every field with roots of unity and each of its extensions.
 #![tactic(auto)]
 
 #[cfg(test)]
 mod batches;
 pub mod laws;
+#[cfg(test)]
+mod folds;
 #[cfg(test)]
 mod points;
 #[cfg(test)]

@@ -8,7 +8,7 @@ use Rattle.std.proofs.lemmas.List.{take_more_set, drop-set-lt, drop-drop, append
 use Rattle.algebra.specs.Field.{FieldOps}
 use Rattle.algebra.specs.Polynomial.{tabulate}
 use Rattle.algebra.proofs.Lists.{length-tabulate}
-use Rattle.p3_fri_core.specs.Fold.{fold_value, folded_word, folded_rounds}
+use Rattle.p3_fri_core.specs.Folds.{fold_value, folded_word, folded_rounds}
 use Rattle.p3_fri_core.specs.Schedule.{schedule, stops, rounds_through, rounds_over}
 
 -- a row of one more entry

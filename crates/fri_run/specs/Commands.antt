@@ -10,7 +10,7 @@ use Rattle.std.specs.List.{range_with_len}
 use Rattle.p3_field.specs.BabyBear.{baby_bear, root}
 use Rattle.p3_field.specs.baby_bear.BabyBear.{BabyBear}
 use Rattle.p3_fri_core.specs.Schedule.{schedule}
-use Rattle.p3_fri_core.specs.Fold.{folded_rounds}
+use Rattle.p3_fri_core.specs.Folds.{folded_rounds}
 use Rattle.fri_run.specs.Texts.{parsed_number, parsed_list, line}
 use Rattle.fri_run.specs.declared.answer.Fault.{Fault}
 use Rattle.fri_run.specs.declared.answer.Fault.TheVariants.{Command, Number, Heights, Cap}

@@ -3,7 +3,7 @@
 ghost use Rattle.std.specs.Prelude.{◌≡◌, ◌+◌, ◌-◌, ◌^◌, ◌<◌, ◌≤◌, length, take, vec_len, map, IfOk};
 ghost use Rattle.algebra.specs.Field.{multiple};
 ghost use Rattle.p3_field.specs.BabyBear.{baby_bear, root};
-ghost use Rattle.p3_fri_core.specs.Fold.{folded_word, folded_rounds};
+ghost use Rattle.p3_fri_core.specs.Folds.{folded_word, folded_rounds};
 ghost use Rattle.fri_run.specs.Commands.{canonical_number, binary_rounds, folded_numbers};
 
 use p3_field::{BabyBear, Field, PrimeField64};

@@ -1,8 +1,10 @@
--- Products modulo 2013265921 by an estimate `h` of their quotient: `q` is the quotient of `2^32 w`, and `h` that of `x q` by `2^32`.
-use Rattle.std.proofs.Common.{◌≡◌, ℕ, ◌+◌, ◌-◌, ◌*◌, ◌/◌, ◌%◌, ◌<◌, ◌≤◌, ◌⊎◌, inl, inr, ap, sym, ◌∙◌, arith, lit<}
-use Rattle.std.proofs.Math.Nat.{div-add-mod, mod-lt, mod-eq_of_lt, add-mul-mod_self_right, mul-le-mul_left}
+-- Products modulo 2013265921 by an estimate `h` of their quotient: `q` is the quotient of `2^32 w`,
+-- and `h` that of `x q` by `2^32`.
+use Rattle.std.proofs.Common.{◌≡◌, ℕ, ◌+◌, ◌-◌, ◌*◌, ◌/◌, ◌%◌, ◌<◌, ◌≤◌, ap, sym, ◌∙◌, arith, lit<}
+use Rattle.std.proofs.Math.Nat.{div-add-mod, mod-lt, add-mul-mod_self_right, mul-le-mul_left}
 
-module _ (x w q h : ℕ) (is_quotient : q ≡ w * 4294967296 / 2013265921) (is_estimate : h ≡ x * q / 4294967296) where
+module _ (x w q h : ℕ) (is_quotient : q ≡ w * 4294967296 / 2013265921)
+    (is_estimate : h ≡ x * q / 4294967296) where
   -- what both divisions leave
   s : ℕ
   s = w * 4294967296 % 2013265921
@@ -13,7 +15,8 @@ module _ (x w q h : ℕ) (is_quotient : q ≡ w * 4294967296 / 2013265921) (is_e
   left_by_both : 4294967296 * (x * w) ≡ 4294967296 * (h * 2013265921) + (2013265921 * t + x * s)
   unfolding s t
   left_by_both =
-      let a : 2013265921 * q + s ≡ w * 4294967296 = rw is_quotient (div-add-mod (w * 4294967296) 2013265921) in
+      let a : 2013265921 * q + s ≡ w * 4294967296 =
+      rw is_quotient (div-add-mod (w * 4294967296) 2013265921) in
       let b : 4294967296 * h + t ≡ x * q = rw is_estimate (div-add-mod (x * q) 4294967296) in
       let m : x * (2013265921 * q + s) ≡ x * (w * 4294967296) = ap (λ n. x * n) a in
       omega (arith, m, b)
@@ -29,10 +32,11 @@ module _ (x w q h : ℕ) (is_quotient : q ≡ w * 4294967296 / 2013265921) (is_e
       let m : x * s ≤ x * 2013265921 = mul-le-mul_left x (omega (arith, v)) in
       omega (arith, left_by_both, u, m, less)
 
-reduced : (n m h : ℕ) → n ≡ m + h * 2013265921 → n % 2013265921 ≡ m % 2013265921
-reduced n m h e = ap (λ k. k % 2013265921) e ∙ add-mul-mod_self_right m h 2013265921
+  -- what is left counts as the product
+  pub rest_is : (x * w - h * 2013265921) % 2013265921 ≡ x * w % 2013265921
+  rest_is = sym (ap (λ n. n % 2013265921)
+      (let e : x * w ≡ (x * w - h * 2013265921) + h * 2013265921 = omega (arith, estimate_below) in
+      e)
+      ∙ add-mul-mod_self_right (x * w - h * 2013265921) h 2013265921)
 
--- the rest, or what lies above the order of it, is the remainder
-pub reduced_once : (n v h : ℕ) → h * 2013265921 ≤ n → (v ≡ n - h * 2013265921) ⊎ (v + 2013265921 ≡ n - h * 2013265921) → v < 2013265921 → v ≡ n % 2013265921
-reduced_once n v h b (inl e) less = sym (reduced n v h (omega (arith, b, e)) ∙ mod-eq_of_lt less)
-reduced_once n v h b (inr e) less = sym (reduced n v (h + 1) (omega (arith, b, e)) ∙ mod-eq_of_lt less)
+pub ruleset estimates = (estimate_below, rest_below)

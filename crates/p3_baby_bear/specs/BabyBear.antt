@@ -22,7 +22,8 @@ baby_bear = record {
   inv = λ a. element (inverse_modulo 2013265921 a.value a.value);
 }
 
--- the root of unity of order `2^k`: since the order of the group is `15 * 2^27`, a power of the generator 31
+-- the root of unity of order `2^k`: since the order of the group is `15 * 2^27`, a power of the
+-- generator 31
 unfoldable pub root : ℕ → BabyBear
 root k = pow baby_bear (element 31) (15 * 2 ^ (27 - k))
 

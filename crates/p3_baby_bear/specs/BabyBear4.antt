@@ -9,10 +9,12 @@ use Rattle.p3_baby_bear.specs.BabyBear.{baby_bear, element, number_bytes}
 
 -- an element as one of the quartic extension of a field, and back
 abbrev pub quartic_of : BabyBear4 → Quartic BabyBear
-quartic_of x = record { constant = x.constant; linear = x.linear; quadratic = x.quadratic; cubic = x.cubic }
+quartic_of x =
+    record { constant = x.constant; linear = x.linear; quadratic = x.quadratic; cubic = x.cubic }
 
 abbrev pub of_quartic : Quartic BabyBear → BabyBear4
-of_quartic x = record { constant = x.constant; linear = x.linear; quadratic = x.quadratic; cubic = x.cubic }
+of_quartic x =
+    record { constant = x.constant; linear = x.linear; quadratic = x.quadratic; cubic = x.cubic }
 
 -- the operations modulo `X^4 - 11`
 unfoldable pub baby_bear4 : FieldOps BabyBear4
@@ -44,7 +46,8 @@ lift4 x = record { constant = x; linear = element 0; quadratic = element 0; cubi
 
 -- `8 + X`
 abbrev pub generator4 : BabyBear4
-generator4 = record { constant = element 8; linear = element 1; quadratic = element 0; cubic = element 0 }
+generator4 =
+    record { constant = element 8; linear = element 1; quadratic = element 0; cubic = element 0 }
 
 -- `X^4 - 11`
 abbrev pub modulus4 : List BabyBear

@@ -1,5 +1,6 @@
 -- BabyBear4 is a field that extends BabyBear, since 11 is no square there and -1 is one.
-use Rattle.std.specs.Prelude.{ℕ, zero, suc, ◌*◌, ◌%◌, ◌^◌, ◌<◌, ◌≡◌, ◌≢◌, ◌==◌, ◌&&◌, ◌↔◌, IsTrue, List, [], ◌∷◌, length, take, drop, slice_index_or, refl}
+use Rattle.std.specs.Prelude.{ℕ, zero, suc, ◌*◌, ◌%◌, ◌^◌, ◌<◌, ◌≡◌, ◌≢◌, ◌==◌, ◌&&◌, ◌↔◌, IsTrue}
+use Rattle.std.specs.Prelude.{List, [], ◌∷◌, length, take, drop, slice_index_or, refl}
 use Rattle.std.proofs.Common.{sym, ◌∙◌, ap, arith, lit<}
 use Rattle.std.proofs.lemmas.Bool.Decides.{Decides-eqb, Decides-and}
 use Rattle.algebra.specs.Field.{IsField, IsHomomorphism}
@@ -9,17 +10,24 @@ use Rattle.algebra.proofs.QuarticExtension.{quartic_field, constants_homomorphis
 use Rattle.p3_baby_bear.specs.declared.baby_bear.BabyBear.{BabyBear}
 use Rattle.p3_baby_bear.specs.declared.baby_bear4.BabyBear4.{BabyBear4}
 use Rattle.p3_baby_bear.specs.BabyBear.{baby_bear, element, root}
-use Rattle.p3_baby_bear.specs.BabyBearLaws.{baby_bear_laws, baby_bear_roots, same_number, order_is_prime, zero_is, one_is, two_is, bytes_injective}
-use Rattle.p3_baby_bear.specs.BabyBear4.{baby_bear4, quartic_of, of_quartic, coefficients4, of_coefficients4, lift4, generator4, coefficient_bytes}
+use Rattle.p3_baby_bear.specs.BabyBearLaws.{baby_bear_laws, baby_bear_roots, same_number}
+use Rattle.p3_baby_bear.specs.BabyBearLaws.{order_is_prime, zero_is, one_is, two_is}
+use Rattle.p3_baby_bear.specs.BabyBearLaws.{bytes_injective}
+use Rattle.p3_baby_bear.specs.BabyBear4.{baby_bear4, quartic_of, of_quartic, coefficients4}
+use Rattle.p3_baby_bear.specs.BabyBear4.{of_coefficients4, lift4, generator4, coefficient_bytes}
 
--- 11 to half of the order less one is -1; over a variable, so that nothing computes the power outright
+-- 11 to half of the order less one is -1; over a variable, so that nothing computes the power
+-- outright
 half_power : (w : ℕ) → w ≡ 11 → w ^ 1006632960 % 2013265921 ≡ 2013265920
-half_power w e = pow-squared_modulo 2013265921 w 26 15 ∙ ap (λ t. squared_modulo 2013265921 26 (t ^ 15 % 2013265921)) e
+half_power w e =
+    pow-squared_modulo 2013265921 w 26 15
+    ∙ ap (λ t. squared_modulo 2013265921 26 (t ^ 15 % 2013265921)) e
 
 no_square_number : (s : ℕ) → s < 2013265921 → s * s % 2013265921 ≢ 11
 no_square_number zero less e = absurd (let o : 0 ≡ 11 = e in omega arith)
 no_square_number (suc s) less e =
-    let one = square_half_power 2013265921 order_is_prime 1006632960 (suc s) refl (omega arith) less in
+    let one =
+    square_half_power 2013265921 order_is_prime 1006632960 (suc s) refl (omega arith) less in
     let other = half_power (suc s * suc s % 2013265921) e in
     absurd (let o : 1 ≡ 2013265920 = sym one ∙ other in omega arith)
 
@@ -32,7 +40,9 @@ pub minus_one_is_square : baby_bear.mul (root 2) (root 2) ≡ baby_bear.neg baby
 minus_one_is_square = baby_bear_roots.square 1 (lit< tt) ∙ baby_bear_roots.minus_one (lit< tt)
 
 pub quartic_laws : IsField (quartic baby_bear (element 11))
-quartic_laws = quartic_field baby_bear baby_bear_laws (element 11) eleven_is_no_square (root 2) minus_one_is_square
+quartic_laws =
+    quartic_field baby_bear baby_bear_laws (element 11) eleven_is_no_square
+    (root 2) minus_one_is_square
 
 pub baby_bear4_laws : IsField baby_bear4
 unfolding baby_bear4
@@ -50,17 +60,36 @@ baby_bear4_laws = let K = quartic_laws in record {
   one_not_zero = λ e. K.one_not_zero (ap quartic_of e);
   two_not_zero = λ e. K.two_not_zero (ap quartic_of e);
   mul_inv = λ a n. ap of_quartic (K.mul_inv (quartic_of a) (λ e. n (ap of_quartic e)));
-  decided = λ a b. elim (K.decided (quartic_of a) (quartic_of b)) [ yes e ↦ yes (ap of_quartic e) | no n ↦ no (λ e. n (ap quartic_of e)) ];
+  decided =
+      λ a b. elim (K.decided (quartic_of a) (quartic_of b))
+      [ yes e ↦ yes (ap of_quartic e) | no n ↦ no (λ e. n (ap quartic_of e)) ];
 }
 
-pub same_coefficients : {x y : BabyBear4} → x.constant ≡ y.constant → x.linear ≡ y.linear → x.quadratic ≡ y.quadratic → x.cubic ≡ y.cubic → x ≡ y
-same_coefficients p q r s = λ i. record { constant = p i; linear = q i; quadratic = r i; cubic = s i }
+pub same_coefficients : {x y : BabyBear4} → x.constant ≡ y.constant → x.linear ≡ y.linear
+    → x.quadratic ≡ y.quadratic → x.cubic ≡ y.cubic → x ≡ y
+same_coefficients p q r s =
+    λ i. record { constant = p i; linear = q i; quadratic = r i; cubic = s i }
 
-pub eq4_same : (x y : BabyBear4) → IsTrue (x.constant.value == y.constant.value && (x.linear.value == y.linear.value && (x.quadratic.value == y.quadratic.value && x.cubic.value == y.cubic.value))) ↔ (x ≡ y)
+pub eq4_same : (x y : BabyBear4)
+    → IsTrue (x.constant.value == y.constant.value &&
+    (x.linear.value == y.linear.value &&
+    (x.quadratic.value == y.quadratic.value && x.cubic.value == y.cubic.value))) ↔ (x ≡ y)
 eq4_same x y =
-    let agree = Decides-and _ _ (Decides-eqb x.constant.value y.constant.value) (Decides-and _ _ (Decides-eqb x.linear.value y.linear.value) (Decides-and _ _ (Decides-eqb x.quadratic.value y.quadratic.value) (Decides-eqb x.cubic.value y.cubic.value))) in (
-      (λ t. let e = agree.0 t in same_coefficients (same_number _ _ e.0) (same_number _ _ e.1.0) (same_number _ _ e.1.1.0) (same_number _ _ e.1.1.1)),
-      (λ e. agree.1 (ap (λ (z : BabyBear4). z.constant.value) e, (ap (λ (z : BabyBear4). z.linear.value) e, (ap (λ (z : BabyBear4). z.quadratic.value) e, ap (λ (z : BabyBear4). z.cubic.value) e)))),
+    let agree =
+    Decides-and _ _ (Decides-eqb x.constant.value y.constant.value)
+    (Decides-and _ _ (Decides-eqb x.linear.value y.linear.value)
+    (Decides-and _ _ (Decides-eqb x.quadratic.value y.quadratic.value)
+    (Decides-eqb x.cubic.value y.cubic.value))) in (
+      (λ t. let e = agree.0 t in
+          same_coefficients (same_number _ _ e.0) (same_number _ _ e.1.0) (same_number _ _ e.1.1.0)
+          (same_number _ _ e.1.1.1)),
+      (λ e. agree.1 (
+        ap (λ (z : BabyBear4). z.constant.value) e,
+        (
+          ap (λ (z : BabyBear4). z.linear.value) e,
+          (ap (λ (z : BabyBear4). z.quadratic.value) e, ap (λ (z : BabyBear4). z.cubic.value) e),
+        ),
+      )),
     )
 
 pub zero4_is : lift4 (element 0) ≡ baby_bear4.zero
@@ -84,12 +113,13 @@ generator4_is e = baby_bear_laws.one_not_zero (sym one_is ∙ ap (λ (x : BabyBe
 
 pub lift4_homomorphism : IsHomomorphism baby_bear baby_bear4 lift4
 unfolding baby_bear4
-lift4_homomorphism = let H = constants_homomorphism baby_bear baby_bear_laws.ring (element 11) in record {
-  zero = rw zero_is (ap of_quartic H.zero);
-  one = rw zero_is (ap of_quartic H.one);
-  add = λ x y. rw zero_is (ap of_quartic (H.add x y));
-  mul = λ x y. rw zero_is (ap of_quartic (H.mul x y));
-}
+lift4_homomorphism =
+    let H = constants_homomorphism baby_bear baby_bear_laws.ring (element 11) in record {
+      zero = rw zero_is (ap of_quartic H.zero);
+      one = rw zero_is (ap of_quartic H.one);
+      add = λ x y. rw zero_is (ap of_quartic (H.add x y));
+      mul = λ x y. rw zero_is (ap of_quartic (H.mul x y));
+    }
 
 pub lift4_constant : (x : BabyBear) → slice_index_or (coefficients4 (lift4 x)) 0 baby_bear.zero ≡ x
 lift4_constant x = refl
@@ -100,7 +130,8 @@ coefficients4_length x = refl
 pub coefficients4_injective : (x y : BabyBear4) → coefficients4 x ≡ coefficients4 y → x ≡ y
 coefficients4_injective x y e = same_coefficients (cc) (cc) (cc) (cc)
 
-pub of_coefficients4_law : (xs : List BabyBear) → length xs ≡ 4 → coefficients4 (of_coefficients4 xs) ≡ xs
+pub of_coefficients4_law : (xs : List BabyBear) → length xs ≡ 4
+    → coefficients4 (of_coefficients4 xs) ≡ xs
 of_coefficients4_law [] e = absurd (omega arith)
 of_coefficients4_law (a ∷ []) e = absurd (omega arith)
 of_coefficients4_law (a ∷ b ∷ []) e = absurd (omega arith)
@@ -112,7 +143,8 @@ pub coefficient_bytes_length : (x : BabyBear4) → length (coefficient_bytes x) 
 coefficient_bytes_length x = refl
 
 -- equal bytes mean equal coefficients
-pub coefficient_bytes_injective : (x y : BabyBear4) → coefficient_bytes x ≡ coefficient_bytes y → x ≡ y
+pub coefficient_bytes_injective : (x y : BabyBear4) → coefficient_bytes x ≡ coefficient_bytes y
+    → x ≡ y
 coefficient_bytes_injective x y e = same_coefficients
     (bytes_injective x.constant y.constant (ap (λ l. take 4 l) e))
     (bytes_injective x.linear y.linear (ap (λ l. take 4 (drop 4 l)) e))

@@ -1,13 +1,16 @@
 -- BabyBear is a field, a prime one, with roots of unity of the orders up to `2^27`.
 use mathlib.Core.HLevel.{is_prop→PathP}
 use Rattle.std.specs.Coded.{le_prop}
-use Rattle.std.specs.Prelude.{ℕ, zero, suc, ◌+◌, ◌-◌, ◌*◌, ◌/◌, ◌%◌, ◌^◌, ◌≡◌, ◌≢◌, ◌<◌, ◌≤◌, ◌⊎◌, refl, IsTrue, ◌==◌, ◌↔◌, length}
-use Rattle.std.proofs.Common.{lit<, lit≤, sym, ◌∙◌, ap, arith, add_comm, add_assoc, mul_comm, add-zero, mul-one, inl, inr}
-use Rattle.std.proofs.Math.Nat.{div-add-mod, mod-lt, mod-eq_of_lt, add-mod-mod, mod-add-mod, mod_self, mul_assoc, add-mod, mod-mod, pow-succ'}
+use Rattle.std.specs.Prelude.{ℕ, zero, suc, ◌+◌, ◌-◌, ◌*◌, ◌/◌, ◌%◌, ◌^◌, ◌≡◌, ◌≢◌, ◌<◌, ◌≤◌, ◌⊎◌}
+use Rattle.std.specs.Prelude.{refl, IsTrue, ◌==◌, ◌↔◌, length}
+use Rattle.std.proofs.Common.{lit<, lit≤, sym, ◌∙◌, ap, arith, add_comm, add_assoc, mul_comm}
+use Rattle.std.proofs.Common.{add-zero, mul-one, inl, inr}
+use Rattle.std.proofs.Math.Nat.{div-add-mod, mod-lt, mod-eq_of_lt, add-mod-mod, mod-add-mod}
+use Rattle.std.proofs.Math.Nat.{mod_self, mul_assoc, add-mod, mod-mod, pow-succ'}
 use Rattle.std.specs.Int.{from_le_bytes, w32}
 use Rattle.std.proofs.lemmas.Nat.{mul-mod_first, mul-mod_second, from_le_bytes-to_le_bytes_4}
 use Rattle.std.proofs.lemmas.Bool.Decides.{Decides-eqb, eqb_tells}
-use Rattle.algebra.specs.Field.{IsRing, IsField, multiple, pow, sub}
+use Rattle.algebra.specs.Field.{IsRing, IsField, multiple, pow}
 use Rattle.algebra.specs.TwoAdic.{AreRoots}
 use Rattle.algebra.specs.Primes.{IsPrime, inverse_modulo}
 use Rattle.algebra.proofs.Primes.{inverse_modulo-mul, descend, prime_by_trial_division}
@@ -26,11 +29,14 @@ pub order_is_prime : IsPrime 2013265921
 order_is_prime = prime_by_trial_division 2013265921 44868 (lit< tt) (lit< tt) refl
 
 negated : (p a : ℕ) → a < p → (a + (p - a) % p) % p ≡ 0
-negated p a l = add-mod-mod a (p - a) p ∙ (let e : a + (p - a) ≡ p = omega arith in rw e (mod_self p))
+negated p a l =
+    add-mod-mod a (p - a) p ∙ (let e : a + (p - a) ≡ p = omega arith in rw e (mod_self p))
 
 pub positive : (a : BabyBear) → a ≢ baby_bear.zero → 0 < a.value
 unfolding baby_bear
-positive a h = let s : (0 < a.value) ⊎ (a.value ≡ 0) = grind arith in elim s [ inl l ↦ l | inr e ↦ absurd (h (same_number _ _ e)) ]
+positive a h =
+    let s : (0 < a.value) ⊎ (a.value ≡ 0) = grind arith in
+    elim s [ inl l ↦ l | inr e ↦ absurd (h (same_number _ _ e)) ]
 
 one_is_not_zero : ¬ (baby_bear.one ≡ baby_bear.zero)
 unfolding baby_bear
@@ -41,7 +47,9 @@ unfolding baby_bear
 two_is_not_zero e = let v : 2 ≡ 0 = ap (λ (x : BabyBear). x.value) e in omega (arith, v)
 
 decide : (a b : BabyBear) → Dec (a ≡ b)
-decide a b = elim (eqb_tells a.value b.value) [ inl y ↦ yes (same_number a b y.1) | inr y ↦ no (λ e. y.1 (ap (λ (x : BabyBear). x.value) e)) ]
+decide a b =
+    elim (eqb_tells a.value b.value)
+    [ inl y ↦ yes (same_number a b y.1) | inr y ↦ no (λ e. y.1 (ap (λ (x : BabyBear). x.value) e)) ]
 
 ring_laws : IsRing baby_bear
 unfolding baby_bear
@@ -65,11 +73,13 @@ ring_laws = record {
       ∙ add-mod (a.value * b.value) (a.value * c.value) 2013265921);
 }
 
-inverse_law : (a : BabyBear) → ¬ (a ≡ baby_bear.zero) → baby_bear.mul a (baby_bear.inv a) ≡ baby_bear.one
+inverse_law : (a : BabyBear) → ¬ (a ≡ baby_bear.zero)
+    → baby_bear.mul a (baby_bear.inv a) ≡ baby_bear.one
 unfolding baby_bear
 inverse_law a h = same_number _ _
     (mul-mod_second a.value (inverse_modulo 2013265921 a.value a.value) 2013265921
-    ∙ inverse_modulo-mul 2013265921 order_is_prime a.value a.value (positive a h) a.canonical (omega arith))
+    ∙ inverse_modulo-mul 2013265921 order_is_prime a.value a.value (positive a h) a.canonical
+    (omega arith))
 
 pub baby_bear_laws : IsField baby_bear
 baby_bear_laws = record {
@@ -81,7 +91,10 @@ baby_bear_laws = record {
 }
 
 pub eq_same : (a b : BabyBear) → IsTrue (a.value == b.value) ↔ (a ≡ b)
-eq_same a b = (λ t. same_number a b ((Decides-eqb a.value b.value).0 t), λ e. (Decides-eqb a.value b.value).1 (ap (λ (x : BabyBear). x.value) e))
+eq_same a b = (
+  λ t. same_number a b ((Decides-eqb a.value b.value).0 t),
+  λ e. (Decides-eqb a.value b.value).1 (ap (λ (x : BabyBear). x.value) e),
+)
 
 pub zero_is : element 0 ≡ baby_bear.zero
 unfolding baby_bear
@@ -103,7 +116,9 @@ generator_is e = let v : 31 ≡ 0 = ap (λ (x : BabyBear). x.value) e in omega (
 pub multiple_is : (n : ℕ) → multiple baby_bear n ≡ element n
 unfolding baby_bear multiple
 multiple_is zero = refl
-multiple_is (suc n) = ap (λ x. element (x.value + 1)) (multiple_is n) ∙ same_number _ _ (mod-add-mod n 2013265921 1 ∙ ap (λ x. x % 2013265921) (omega arith))
+multiple_is (suc n) =
+    ap (λ x. element (x.value + 1)) (multiple_is n)
+    ∙ same_number _ _ (mod-add-mod n 2013265921 1 ∙ ap (λ x. x % 2013265921) (omega arith))
 
 pub canonical_multiple : (n : ℕ) → (multiple baby_bear n).value ≡ n % 2013265921
 canonical_multiple n = ap (λ (x : BabyBear). x.value) (multiple_is n)
@@ -119,7 +134,12 @@ squarings (suc n) x = squarings n (baby_bear.mul x x)
 squarings-pow : (n : ℕ) (x : BabyBear) → squarings n x ≡ pow baby_bear x (2 ^ n)
 unfolding squarings pow
 squarings-pow zero x = sym (baby_bear_laws.mul_one x)
-squarings-pow (suc n) x = squarings-pow n (baby_bear.mul x x) ∙ ap (λ y. pow baby_bear y (2 ^ n)) (ap (λ y. baby_bear.mul x y) (sym (baby_bear_laws.mul_one x))) ∙ sym (pow-mul baby_bear ring_laws x (2 ^ n) 2) ∙ ap (λ m. pow baby_bear x m) (mul_comm (2 ^ n) 2 ∙ sym (pow-succ' 2 n))
+squarings-pow (suc n) x =
+    squarings-pow n (baby_bear.mul x x)
+    ∙ ap (λ y. pow baby_bear y (2 ^ n))
+    (ap (λ y. baby_bear.mul x y) (sym (baby_bear_laws.mul_one x)))
+    ∙ sym (pow-mul baby_bear ring_laws x (2 ^ n) 2)
+    ∙ ap (λ m. pow baby_bear x m) (mul_comm (2 ^ n) 2 ∙ sym (pow-succ' 2 n))
 
 pub generator_power : pow baby_bear (element 31) 15 ≡ element 440564289
 unfolding baby_bear pow
@@ -174,7 +194,8 @@ bits_at_least = lit≤ tt
 pub bits_at_most : 2013265921 < 2 ^ 31
 bits_at_most = lit< tt
 
-round_modulo : (p x v a s : ℕ) → x * v % p ≡ a → 0 < a → a < p → s ≡ p - p / a → x * (v * (s % p) % p) % p ≡ p % a
+round_modulo : (p x v a s : ℕ) → x * v % p ≡ a → 0 < a → a < p → s ≡ p - p / a
+    → x * (v * (s % p) % p) % p ≡ p % a
 round_modulo p x v a s e pos less is =
     ap (λ t. x * t % p) (mul-mod_second v s p)
     ∙ mul-mod_second x (v * s) p
@@ -187,14 +208,17 @@ round_modulo p x v a s e pos less is =
 
 -- what a round of the inverse's loop keeps
 pub inverse_round : (x v a : ℕ) → x * v % 2013265921 ≡ a → 0 < a → a < 2013265921
-    → x * (v * ((2013265921 - 2013265921 / a) % 2013265921) % 2013265921) % 2013265921 ≡ 2013265921 % a
-inverse_round x v a e pos less = round_modulo 2013265921 x v a (2013265921 - 2013265921 / a) e pos less refl
+    → x * (v * ((2013265921 - 2013265921 / a) % 2013265921) % 2013265921) % 2013265921
+    ≡ 2013265921 % a
+inverse_round x v a e pos less =
+    round_modulo 2013265921 x v a (2013265921 - 2013265921 / a) e pos less refl
 
 pub inverse_round_positive : (a : ℕ) → 1 < a → a < 2013265921 → 0 < 2013265921 % a
 inverse_round_positive a one less = omega (arith, order_is_prime.1 a one less)
 
 -- the only inverse
-pub inverse_is : (x y : BabyBear) → x ≢ baby_bear.zero → baby_bear.mul x y ≡ baby_bear.one → y ≡ baby_bear.inv x
+pub inverse_is : (x y : BabyBear) → x ≢ baby_bear.zero → baby_bear.mul x y ≡ baby_bear.one
+    → y ≡ baby_bear.inv x
 inverse_is x y h e = inverse_unique baby_bear baby_bear_laws x y h e
 
 pub inverse_start : (x : BabyBear) → x.value * 1 % 2013265921 ≡ x.value
@@ -202,30 +226,31 @@ inverse_start x = rw mul-one (mod-eq_of_lt x.canonical)
 
 -- the number may be reduced
 pub reduced_is : (n m : ℕ) → m ≡ n % 2013265921 → element m ≡ multiple baby_bear n
-reduced_is n m e = same_number _ _ (ap (λ x. x % 2013265921) e ∙ mod-mod n 2013265921) ∙ sym (multiple_is n)
+reduced_is n m e =
+    same_number _ _ (ap (λ x. x % 2013265921) e ∙ mod-mod n 2013265921) ∙ sym (multiple_is n)
 
 -- half of an even number that counts as `a`, doubled, is `a`
-half_number : (a n : ℕ) → a < 2013265921 → n % 2 ≡ 0 → (n ≡ a) ⊎ (n ≡ a + 2013265921) → (n / 2 % 2013265921 + n / 2 % 2013265921) % 2013265921 ≡ a
+half_number : (a n : ℕ) → a < 2013265921 → n % 2 ≡ 0 → (n ≡ a) ⊎ (n ≡ a + 2013265921)
+    → (n / 2 % 2013265921 + n / 2 % 2013265921) % 2013265921 ≡ a
 half_number a n less even (inl e) = omega (arith, less, even, e)
 half_number a n less even (inr e) = omega (arith, less, even, e)
 
-pub half_is : (a r : BabyBear) (n : ℕ) → r ≡ element (n / 2) → n % 2 ≡ 0 → (n ≡ a.value) ⊎ (n ≡ a.value + 2013265921) → baby_bear.add r r ≡ a
+pub half_is : (a r : BabyBear) (n : ℕ) → r ≡ element (n / 2) → n % 2 ≡ 0
+    → (n ≡ a.value) ⊎ (n ≡ a.value + 2013265921) → baby_bear.add r r ≡ a
 unfolding baby_bear
 half_is a r n e even known = rw e (same_number _ _ (half_number a.value n a.canonical even known))
 
 pub root_is : (k : ℕ) → pow baby_bear (element 440564289) (2 ^ (27 - k)) ≡ root k
 root_is k = sym (root_squarings k (27 - k) refl ∙ squarings-pow (27 - k) (element 440564289))
 
-pub difference_is : (a b : BabyBear) (n : ℕ) → n % 2013265921 ≡ (a.value + (2013265921 - b.value)) % 2013265921 → element n ≡ sub baby_bear a b
-unfolding baby_bear
-difference_is a b n e = same_number _ _ (e ∙ sym (add-mod-mod a.value (2013265921 - b.value) 2013265921))
-
 pub bytes_length : (x : BabyBear) → length (number_bytes x) ≡ 4
 bytes_length x = refl
 
 -- equal bytes mean equal numbers
 pub bytes_injective : (x y : BabyBear) → number_bytes x ≡ number_bytes y → x ≡ y
-bytes_injective x y e = same_number x y (sym (from_le_bytes-to_le_bytes_4 x.value (fits x)) ∙ ap (from_le_bytes w32) e ∙ from_le_bytes-to_le_bytes_4 y.value (fits y))
+bytes_injective x y e =
+    same_number x y (sym (from_le_bytes-to_le_bytes_4 x.value (fits x)) ∙ ap (from_le_bytes w32) e
+    ∙ from_le_bytes-to_le_bytes_4 y.value (fits y))
   where
     fits : (z : BabyBear) → z.value < 2 ^ 32
     fits z = omega (arith, z.canonical)

@@ -8,7 +8,8 @@ pub mod laws;
 
 use crate::baby_bear::BabyBear;
 
-/// An element of the extension of degree 4: a polynomial of degree below 4 over BabyBear, modulo `X^4 - 11`.
+/// An element of the extension of degree 4: a polynomial of degree below 4 over BabyBear, modulo
+/// `X^4 - 11`.
 #[derive(Clone, Copy, Debug, PartialEq, Eq)]
 pub struct BabyBear4 {
     constant: BabyBear,

@@ -1,4 +1,5 @@
-//! BabyBear, the prime field of `2^31 - 2^27 + 1` elements, and BabyBear4, its extension of degree 4.
+//! BabyBear, the prime field of `2^31 - 2^27 + 1` elements, and BabyBear4, its extension of degree
+//! 4.
 #![tactic(auto)]
 
 pub mod baby_bear;

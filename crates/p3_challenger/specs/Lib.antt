@@ -4,6 +4,7 @@ pub use Rattle.p3_challenger_core.specs.Sha256
 pub use Rattle.p3_challenger_core.specs.Sha256Laws
 pub use Rattle.p3_challenger_core.specs.declared.sha256_challenger
 pub use Rattle.p3_challenger_fs.specs.Description
+pub use Rattle.p3_challenger_fs.specs.Driver
 pub use Rattle.p3_challenger_fs.specs.Pattern
 pub use Rattle.p3_challenger_fs.specs.Script
 pub use Rattle.p3_challenger_fs.specs.Separator

@@ -1,5 +1,6 @@
-//! Challengers: where both sides of a protocol absorb what was sent and draw their challenges from, and
-//! `fs`, transcripts by description. All of it stands in two crates below, and has its names here.
+//! Challengers: where both sides of a protocol absorb what was sent and draw their challenges from,
+//! and `fs`, transcripts by description. All of it stands in two crates below, and has its names
+//! here.
 #![tactic(auto)]
 
 pub use p3_challenger_core::{

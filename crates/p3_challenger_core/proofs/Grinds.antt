@@ -1,5 +1,6 @@
 -- The least number that passes a test, and the search for it.
-use Rattle.std.proofs.Common.{◌≡◌, ℕ, zero, suc, ◌+◌, ◌<◌, ◌⊎◌, inl, inr, Bool, true, false, Some, None, refl, ap, sym, ◌∙◌, arith}
+use Rattle.std.proofs.Common.{◌≡◌, ℕ, zero, suc, ◌+◌, ◌<◌, ◌⊎◌, inl, inr, Bool, true, false, Some}
+use Rattle.std.proofs.Common.{None, refl, ap, sym, ◌∙◌, arith}
 use Rattle.std.specs.Option.{option_map}
 use Rattle.p3_field.specs.baby_bear.BabyBear.{BabyBear}
 use Rattle.p3_field.specs.BabyBear.{baby_bear, element}
@@ -7,21 +8,29 @@ use Rattle.p3_field.specs.BabyBearLaws.{multiple_is, multiple_canonical}
 use Rattle.algebra.specs.Field.{multiple}
 use Rattle.p3_challenger_core.specs.declared.sha256_challenger.Sha256Challenger.{Sha256Challenger}
 use Rattle.p3_challenger_core.specs.Run.{grind_attempt, Passes}
-use Rattle.p3_challenger_core.specs.Sha256.{element_observed, bits_sampled, least_below, least_witness}
+use Rattle.p3_challenger_core.specs.Sha256.{element_observed, bits_sampled, least_below}
+use Rattle.p3_challenger_core.specs.Sha256.{least_witness}
 
-pub least_below-none : (n : ℕ) (test : ℕ → Bool) → ((k : ℕ) → k < n → test k ≡ false) → least_below n test ≡ None
+pub least_below-none : (n : ℕ) (test : ℕ → Bool) → ((k : ℕ) → k < n → test k ≡ false)
+    → least_below n test ≡ None
 unfolding least_below
 least_below-none zero test fails = refl
-least_below-none (suc n) test fails = rw (least_below-none n test (λ k l. fails k (omega (arith, l))), fails n (omega arith)) refl
+least_below-none (suc n) test fails =
+    rw (least_below-none n test (λ k l. fails k (omega (arith, l))), fails n (omega arith)) refl
 
-pub least_below-found : (n : ℕ) (test : ℕ → Bool) (i : ℕ) → i < n → ((k : ℕ) → k < i → test k ≡ false) → test i ≡ true → least_below n test ≡ Some i
+pub least_below-found : (n : ℕ) (test : ℕ → Bool) (i : ℕ) → i < n
+    → ((k : ℕ) → k < i → test k ≡ false) → test i ≡ true → least_below n test ≡ Some i
 unfolding least_below
 least_below-found zero test i less fails passed = absurd (omega (arith, less))
 least_below-found (suc n) test i less fails passed =
     let cases : (i < n) ⊎ (i ≡ n) = grind (arith, less) in
     elim cases [
       | inl below ↦ rw (least_below-found n test i below fails passed) refl
-      | inr e ↦ rw (least_below-none n test (λ k l. fails k (omega (arith, l, e))), ap test (sym e) ∙ passed) (ap Some (sym e))
+      | inr e ↦ rw (
+        least_below-none n test (λ k l.
+            fails k (omega (arith, l, e))),
+        ap test (sym e) ∙ passed,
+      ) (ap Some (sym e))
     ]
 
 -- whether the witness passes
@@ -33,15 +42,18 @@ abbrev pub FailsBelow : Sha256Challenger → ℕ → ℕ → Type 0
 FailsBelow c bits n = (k : ℕ) → k < n → passes c bits (element k) ≡ false
 
 -- the next element fails too
-pub fails_next : (c : Sha256Challenger) (bits n : ℕ) (w : BabyBear) → w ≡ multiple baby_bear n → FailsBelow c bits n → passes c bits w ≡ false → FailsBelow c bits (n + 1)
+pub fails_next : (c : Sha256Challenger) (bits n : ℕ) (w : BabyBear) → w ≡ multiple baby_bear n
+    → FailsBelow c bits n → passes c bits w ≡ false → FailsBelow c bits (n + 1)
 fails_next c bits n w is fails failed k less =
     let cases : (k < n) ⊎ (k ≡ n) = grind (arith, less) in
     elim cases [
       | inl below ↦ fails k below
-      | inr e ↦ ap (λ i. passes c bits (element i)) e ∙ ap (passes c bits) (sym (is ∙ multiple_is n)) ∙ failed
+      | inr e ↦ ap (λ i. passes c bits (element i)) e
+          ∙ ap (passes c bits) (sym (is ∙ multiple_is n)) ∙ failed
     ]
 
-pub fails_element : (c : Sha256Challenger) (bits n : ℕ) → FailsBelow c bits n → (v : BabyBear) → v.value < n → ¬ Passes element_observed bits_sampled c bits v
+pub fails_element : (c : Sha256Challenger) (bits n : ℕ) → FailsBelow c bits n → (v : BabyBear)
+    → v.value < n → ¬ Passes element_observed bits_sampled c bits v
 fails_element c bits n fails v less passed =
     let e : element v.value ≡ v = sym (multiple_is v.value) ∙ multiple_canonical v in
     let f : false ≡ true = sym (fails v.value less) ∙ ap (passes c bits) e ∙ passed in
@@ -55,18 +67,25 @@ first_at_no_bits c bits (suc n) e fails =
     cc
 
 -- and the state stays
-pub state_at_no_bits : (c : Sha256Challenger) (bits : ℕ) (w : BabyBear) → bits ≡ 0 → (grind_attempt element_observed bits_sampled c bits w).state ≡ c
+pub state_at_no_bits : (c : Sha256Challenger) (bits : ℕ) (w : BabyBear) → bits ≡ 0
+    → (grind_attempt element_observed bits_sampled c bits w).state ≡ c
 state_at_no_bits c bits w e = ap (λ b. (grind_attempt element_observed bits_sampled c b w).state) e
 
 pub first_element : (n : ℕ) (w : BabyBear) → w ≡ multiple baby_bear n → n ≡ 0 → w ≡ element 0
 first_element n w is e = is ∙ ap (multiple baby_bear) e ∙ multiple_is 0
 
-pub least_witness-none : (c : Sha256Challenger) (bits : ℕ) → FailsBelow c bits 2013265921 → least_witness c bits ≡ None
+pub least_witness-none : (c : Sha256Challenger) (bits : ℕ) → FailsBelow c bits 2013265921
+    → least_witness c bits ≡ None
 unfolding least_witness
-least_witness-none c bits fails = ap (λ o. option_map element o) (least_below-none 2013265921 (λ k. passes c bits (element k)) fails)
+least_witness-none c bits fails = ap (λ o.
+    option_map element o) (least_below-none 2013265921 (λ k. passes c bits (element k)) fails)
 
-pub least_witness-found : (c : Sha256Challenger) (bits n : ℕ) (w : BabyBear) → n < 2013265921 → w ≡ multiple baby_bear n → FailsBelow c bits n → passes c bits w ≡ true → least_witness c bits ≡ Some w
+pub least_witness-found : (c : Sha256Challenger) (bits n : ℕ) (w : BabyBear) → n < 2013265921
+    → w ≡ multiple baby_bear n → FailsBelow c bits n → passes c bits w ≡ true
+    → least_witness c bits ≡ Some w
 unfolding least_witness
 least_witness-found c bits n w less is fails passed =
     let e : w ≡ element n = is ∙ multiple_is n in
-    ap (λ o. option_map element o) (least_below-found 2013265921 (λ k. passes c bits (element k)) n less fails (ap (passes c bits) (sym e) ∙ passed)) ∙ ap Some (sym e)
+    ap (λ o. option_map element o)
+    (least_below-found 2013265921 (λ k.
+    passes c bits (element k)) n less fails (ap (passes c bits) (sym e) ∙ passed)) ∙ ap Some (sym e)

@@ -6,15 +6,16 @@ pub record After (C A : Type 0) : Type 0 where
   pub value : A
   pub state : C
 
--- what a challenger does, as functions of its state: values of `F` and commitments of `Com` are observed,
--- elements of `E` and numbers of a width in bits are drawn
+-- what a challenger does, as functions of its state: values of `F` and commitments of `Com` are
+-- observed, elements of `E` and numbers of a width in bits are drawn
 pub record Moves (C F E Com : Type 0) : Type 0 where
   pub observe_value : C → F → C
   pub observe_commitment : C → Com → C
   pub draw_element : C → After C E
   pub draw_bits : C → ℕ → After C ℕ
 
--- an event of a run: a value or a commitment is observed, an element or a number of so many bits is drawn
+-- an event of a run: a value or a commitment is observed, an element or a number of so many bits is
+-- drawn
 pub data Event (F Com : Type 0) : Type 0 where
   ValueObserved : F → Event F Com
   CommitmentObserved : Com → Event F Com
@@ -27,7 +28,8 @@ pub data Drawn (E : Type 0) : Type 0 where
   Bits : ℕ → Drawn E
 
 -- the values drawn along the events from the state `c`, in order, and the last state
-abbrev pub run : {C F E Com : Type 0} → Moves C F E Com → C → List (Event F Com) → After C (List (Drawn E))
+abbrev pub run : {C F E Com : Type 0} → Moves C F E Com → C → List (Event F Com)
+    → After C (List (Drawn E))
 run m c [] = record { value = []; state = c }
 run m c (ValueObserved x ∷ events) = run m (m.observe_value c x) events
 run m c (CommitmentObserved d ∷ events) = run m (m.observe_commitment c d) events
@@ -53,18 +55,22 @@ draws draw c (suc n) =
     let others = draws draw first.state n in
     record { value = first.value ∷ others.value; state = others.state }
 
--- the element of an extension of dimension `n` whose coefficients are drawn one after another, that of one first
+-- the element of an extension of dimension `n` whose coefficients are drawn one after another, that
+-- of one first
 abbrev pub drawn_element : {C F E : Type 0} → (C → After C F) → (List F → E) → ℕ → C → After C E
 drawn_element draw of_coefficients n c =
     let coefficients = draws draw c n in
     record { value = of_coefficients coefficients.value; state = coefficients.state }
 
--- the attempt of a grind of `b` bits with the witness `w`: whether it passes, and the state after it. At no bits it
--- passes and nothing happens; else `w` is observed and `b` bits are drawn, which have to be 0
-abbrev pub grind_attempt : {C W : Type 0} → (C → W → C) → (C → ℕ → After C ℕ) → C → ℕ → W → After C Bool
+-- the attempt of a grind of `b` bits with the witness `w`: whether it passes, and the state after
+-- it. At no bits it passes and nothing happens; else `w` is observed and `b` bits are drawn, which
+-- have to be 0
+abbrev pub grind_attempt : {C W : Type 0} → (C → W → C) → (C → ℕ → After C ℕ) → C → ℕ → W
+    → After C Bool
 grind_attempt observe draw_bits c b w =
     if b == 0 then record { value = true; state = c }
-    else (let drawn = draw_bits (observe c w) b in record { value = drawn.value == 0; state = drawn.state })
+    else (let drawn = draw_bits
+    (observe c w) b in record { value = drawn.value == 0; state = drawn.state })
 
 -- the witness passes that grind
 abbrev pub Passes : {C W : Type 0} → (C → W → C) → (C → ℕ → After C ℕ) → C → ℕ → W → Type 0

@@ -1,5 +1,6 @@
 -- The SHA-256 challenger, as a format.
-use Rattle.std.specs.Prelude.{ℕ, zero, suc, ◌%◌, ◌^◌, Bool, if◌then◌else◌, List, [], ◌∷◌, ◌++◌, Option, Some, None, replicate, take}
+use Rattle.std.specs.Prelude.{ℕ, zero, suc, ◌%◌, ◌^◌, Bool, if◌then◌else◌, List, [], ◌∷◌, ◌++◌}
+use Rattle.std.specs.Prelude.{Option, Some, None, replicate, take}
 use Rattle.std.specs.Int.{w64, from_le_bytes}
 use Rattle.std.specs.Option.{option_map}
 use Rattle.sha2.specs.Sha256.{sha256}
@@ -39,8 +40,11 @@ bits_sampled c bits = record { value = drawn_number c % 2 ^ bits; state = steppe
 -- the least number below `n` that passes the test, if any
 unfoldable pub least_below : ℕ → (ℕ → Bool) → Option ℕ
 least_below zero test = None
-least_below (suc n) test = elim (least_below n test) [ Some k ↦ Some k | None ↦ if test n then Some n else None ]
+least_below (suc n) test =
+    elim (least_below n test) [ Some k ↦ Some k | None ↦ if test n then Some n else None ]
 
 -- the element of the least canonical number that passes a grind of so many bits, if any
 unfoldable pub least_witness : Sha256Challenger → ℕ → Option BabyBear
-least_witness c bits = option_map element (least_below 2013265921 (λ k. (grind_attempt element_observed bits_sampled c bits (element k)).value))
+least_witness c bits = option_map element
+    (least_below 2013265921 (λ k.
+    (grind_attempt element_observed bits_sampled c bits (element k)).value))

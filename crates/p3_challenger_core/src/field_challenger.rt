@@ -8,8 +8,8 @@ use crate::observe::CanObserve;
 use crate::sample::{CanSample, CanSampleBits};
 use p3_field::{ExtensionField, Field};
 
-/// A challenger that absorbs and draws elements of the field `F`, and so those of its extensions, which are
-/// their coefficients, that of one first.
+/// A challenger that absorbs and draws elements of the field `F`, and so those of its extensions,
+/// which are their coefficients, that of one first.
 pub trait FieldChallenger<F: Field>: CanObserve<F> + CanSample<F> + CanSampleBits {
     /// Absorbs an element of an extension: its coefficients, each as by `observe`.
     fn observe_algebra_element<EF: ExtensionField<F>>(&mut self, element: EF)
@@ -22,7 +22,8 @@ pub trait FieldChallenger<F: Field>: CanObserve<F> + CanSample<F> + CanSampleBit
 
     /// Absorbs elements of an extension in order.
     fn observe_algebra_slice<EF: ExtensionField<F>>(&mut self, elements: &[EF])
-        ensures { self.new ≡ observed_all Self.observed self.old (flat_map EF.coefficients elements.now) }
+        ensures { self.new ≡ observed_all Self.observed self.old
+            (flat_map EF.coefficients elements.now) }
     {
         for element in elements {
             self.observe_algebra_element(*element);
@@ -31,8 +32,10 @@ pub trait FieldChallenger<F: Field>: CanObserve<F> + CanSample<F> + CanSampleBit
 
     /// Draws an element of an extension: as many draws as its dimension, each a coefficient.
     fn sample_algebra_element<EF: ExtensionField<F>>(&mut self) -> EF
-        ensures value { result ≡ (drawn_element Self.sampled EF.of_coefficients EF.DIMENSION self.old).value }
-        ensures state { self.new ≡ (drawn_element Self.sampled EF.of_coefficients EF.DIMENSION self.old).state }
+        ensures value { result ≡ (drawn_element Self.sampled EF.of_coefficients EF.DIMENSION
+            self.old).value }
+        ensures state { self.new ≡ (drawn_element Self.sampled EF.of_coefficients EF.DIMENSION
+            self.old).state }
     {
         let mut element = EF::ZERO;
         for index in 0..EF::DIMENSION {

@@ -1,6 +1,7 @@
-//! Challengers: where both sides of a protocol absorb what was sent and draw their challenges from. What a
-//! challenger answers, and the state that a call leaves it in, are functions of its state, which its traits
-//! name as ghost members; contracts above speak of whole runs in these words. No call takes memory.
+//! Challengers: where both sides of a protocol absorb what was sent and draw their challenges from.
+//! What a challenger answers, and the state that a call leaves it in, are functions of its state,
+//! which its traits name as ghost members; contracts above speak of whole runs in these words. No
+//! call takes memory.
 #![tactic(auto)]
 
 pub mod field_challenger;

@@ -30,5 +30,6 @@ pub trait CanSampleBits {
 
     ghost max_law: { MAX_SAMPLE_BITS < 64 };
 
-    ghost width_law: { (c : Self) (bits : ℕ) → bits ≤ MAX_SAMPLE_BITS → (sampled_bits c bits).value < 2 ^ bits };
+    ghost width_law: { (c : Self) (bits : ℕ) → bits ≤ MAX_SAMPLE_BITS
+        → (sampled_bits c bits).value < 2 ^ bits };
 }

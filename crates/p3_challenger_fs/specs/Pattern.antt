@@ -5,9 +5,11 @@ use Rattle.std.specs.Int.{to_be_bytes, w64}
 use Rattle.p3_challenger_fs.specs.declared.pattern.Hierarchy.{Hierarchy}
 use Rattle.p3_challenger_fs.specs.declared.pattern.Hierarchy.TheVariants.{Atomic, Begin, End}
 use Rattle.p3_challenger_fs.specs.declared.pattern.Kind.{Kind}
-use Rattle.p3_challenger_fs.specs.declared.pattern.Kind.TheVariants.{Message, Challenge, Pow, Protocol}
+use Rattle.p3_challenger_fs.specs.declared.pattern.Kind.TheVariants.{Message, Challenge, Pow}
+use Rattle.p3_challenger_fs.specs.declared.pattern.Kind.TheVariants.{Protocol}
 use Rattle.p3_challenger_fs.specs.declared.pattern.TypeTag.{TypeTag}
-use Rattle.p3_challenger_fs.specs.declared.pattern.TypeTag.TheVariants.{Opaque, Algebra, Bits, Marker}
+use Rattle.p3_challenger_fs.specs.declared.pattern.TypeTag.TheVariants.{Opaque, Algebra, Bits}
+use Rattle.p3_challenger_fs.specs.declared.pattern.TypeTag.TheVariants.{Marker}
 use Rattle.p3_challenger_fs.specs.declared.pattern.Length.{Length}
 use Rattle.p3_challenger_fs.specs.declared.pattern.Length.TheVariants.{Scalar, Fixed}
 use Rattle.p3_challenger_fs.specs.declared.pattern.Interaction.{Interaction}
@@ -22,13 +24,26 @@ pub record Step : Type 0 where
   pub label : List ℕ
   pub length : Length
 
+abbrev pub step : Hierarchy → Kind → TypeTag → List ℕ → Length → Step
+step hierarchy kind type_tag label length = record {
+  hierarchy = hierarchy;
+  kind = kind;
+  type_tag = type_tag;
+  label = label;
+  length = length;
+}
+
 -- the step that an interaction describes
 abbrev pub step_of : Interaction → Step
-step_of i = record { hierarchy = i.hierarchy; kind = i.kind; type_tag = i.type_tag; label = i.label.now; length = i.length }
+step_of i = step i.hierarchy i.kind i.type_tag i.label.now i.length
 
 -- a step without its label
+abbrev pub turn : Hierarchy → Kind → TypeTag → Length → Turn
+turn hierarchy kind type_tag length =
+    record { hierarchy = hierarchy; kind = kind; type_tag = type_tag; length = length }
+
 abbrev pub turn_of : Step → Turn
-turn_of s = record { hierarchy = s.hierarchy; kind = s.kind; type_tag = s.type_tag; length = s.length }
+turn_of s = turn s.hierarchy s.kind s.type_tag s.length
 
 -- the steps of a pattern, in order
 unfoldable pub pattern_steps : InteractionPattern → List Step
@@ -64,9 +79,14 @@ length_bytes Scalar = 0x00 ∷ []
 length_bytes (Fixed n) = 0x01 ∷ number_bytes n
 
 abbrev pub step_bytes : Step → List ℕ
-step_bytes s = hierarchy_byte s.hierarchy ∷ kind_byte s.kind ∷ (type_bytes s.type_tag ++ text_bytes s.label ++ length_bytes s.length)
+step_bytes s =
+    hierarchy_byte s.hierarchy ∷ kind_byte s.kind
+    ∷ (type_bytes s.type_tag ++ text_bytes s.label ++ length_bytes s.length)
 
--- the stream: the version, the name, the number of steps and the steps, the number of labels and the labels
+-- the stream: the version, the name, the number of steps and the steps, the number of labels and
+-- the labels
 unfoldable pub seed_stream : ℕ → List ℕ → List Step → List (List ℕ) → List ℕ
 seed_stream version name steps labels =
-    version ∷ (text_bytes name ++ number_bytes (length steps) ++ flat_map step_bytes steps ++ number_bytes (length labels) ++ flat_map text_bytes labels)
+    version ∷ (text_bytes name
+    ++ number_bytes (length steps) ++ flat_map step_bytes steps
+    ++ number_bytes (length labels) ++ flat_map text_bytes labels)

@@ -8,5 +8,5 @@ unfoldable pub remaining : Script → List Turn
 remaining script = drop script.played script.turns.items
 
 -- the script when one more step is played
-unfoldable pub step_played : Script → Script
+abbrev pub step_played : Script → Script
 step_played script = record script { played = script.played + 1 }

@@ -1,5 +1,6 @@
 -- What a separator binds.
-use Rattle.std.specs.Prelude.{ℕ, List, map}
+use Rattle.std.specs.Prelude.{ℕ, List}
+use Rattle.algebra.specs.Nested.{lists}
 use Rattle.p3_challenger_fs.specs.declared.domain_separator.DomainSeparator.{DomainSeparator}
 use Rattle.p3_challenger_fs.specs.declared.domain_separator.Seed.{Seed}
 use Rattle.p3_challenger_fs.specs.declared.pattern.Turn.{Turn}
@@ -8,11 +9,16 @@ use Rattle.p3_challenger_fs.specs.Pattern.{pattern_steps}
 
 -- what a separator describes
 unfoldable pub description : DomainSeparator → Description
-description s = record { version = s.version; name = s.name.now; steps = pattern_steps s.pattern; labels = map (λ label. label.items) s.labels.items }
+description s = record {
+  version = s.version;
+  name = s.name.now;
+  steps = pattern_steps s.pattern;
+  labels = lists s.labels.items;
+}
 
 -- the stream of a seed, and the steps that are played after it, without their labels
-unfoldable pub seed_bytes : Seed → List ℕ
+abbrev pub seed_bytes : Seed → List ℕ
 seed_bytes seed = seed.stream.items
 
-unfoldable pub seed_turns : Seed → List Turn
+abbrev pub seed_turns : Seed → List Turn
 seed_turns seed = seed.turns.items

@@ -2,7 +2,8 @@
 use Rattle.std.specs.Prelude.{◌≡◌, ℕ, ◌<◌, ◌^◌, List, length}
 use Rattle.std.specs.List.{All}
 use Rattle.p3_challenger_fs.specs.declared.pattern.TypeTag.{TypeTag}
-use Rattle.p3_challenger_fs.specs.declared.pattern.TypeTag.TheVariants.{Opaque, Algebra, Bits, Marker}
+use Rattle.p3_challenger_fs.specs.declared.pattern.TypeTag.TheVariants.{Opaque, Algebra, Bits}
+use Rattle.p3_challenger_fs.specs.declared.pattern.TypeTag.TheVariants.{Marker}
 use Rattle.p3_challenger_fs.specs.declared.pattern.Length.{Length}
 use Rattle.p3_challenger_fs.specs.declared.pattern.Length.TheVariants.{Scalar, Fixed}
 use Rattle.p3_challenger_fs.specs.Description.{Description, stream_of}
@@ -30,7 +31,8 @@ pub record FitsStep (s : Step) : Type 0 where
   pub type_tag : FitsType s.type_tag
   pub length : FitsLength s.length
 
--- eight bytes hold each number that the stream has, the number of labels aside: the labels end where the stream does
+-- eight bytes hold each number that the stream has, the number of labels aside: the labels end
+-- where the stream does
 pub record FitsStream (d : Description) : Type 0 where
   pub name : FitsText d.name
   pub step_count : FitsNumber (length d.steps)

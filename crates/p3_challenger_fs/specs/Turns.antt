@@ -7,11 +7,12 @@ use Rattle.p3_challenger_fs.specs.declared.pattern.TypeTag.{TypeTag}
 use Rattle.p3_challenger_fs.specs.declared.pattern.Length.{Length}
 use Rattle.p3_challenger_fs.specs.declared.pattern.Turn.{Turn}
 use Rattle.p3_challenger_core.specs.Run.{observed_all}
+use Rattle.p3_challenger_fs.specs.Pattern.{turn}
 
 -- the first of these steps is this one
 abbrev pub IsNext : Hierarchy → Kind → TypeTag → Length → List Turn → Type 0
 IsNext hierarchy kind type_tag length [] = ⊥
-IsNext hierarchy kind type_tag length (turn ∷ _) = turn ≡ record { hierarchy = hierarchy; kind = kind; type_tag = type_tag; length = length }
+IsNext hierarchy kind type_tag length (first ∷ _) = first ≡ turn hierarchy kind type_tag length
 
 -- the state after each byte is observed, in order, as an element of the field
 abbrev pub bytes_observed : {C F : Type 0} → FieldOps F → (C → F → C) → C → List ℕ → C

@@ -2,14 +2,16 @@
 
 ghost use Rattle.std.specs.Prelude.{◌≡◌, ◌++◌, ◌∷◌, [], IfOk, OnOk, OnErr, map};
 ghost use Rattle.std.specs.List.{flat_map};
+ghost use Rattle.algebra.specs.Nested.{lists};
 ghost use Rattle.p3_challenger_fs.specs.Description.{stream_of};
-ghost use Rattle.p3_challenger_fs.specs.Pattern.{step_of, turn_of, step_bytes, number_bytes, text_bytes, type_bytes, length_bytes};
+ghost use Rattle.p3_challenger_fs.specs.Pattern.{step_of, turn_of, step_bytes, number_bytes};
+ghost use Rattle.p3_challenger_fs.specs.Pattern.{text_bytes, type_bytes, length_bytes};
 
 use crate::pattern::{Hierarchy, Interaction, InteractionPattern, Kind, Length, Turn, TypeTag};
 use std::alloc::{AllocError, Global};
 
-/// A protocol's version and name, the steps of its transcript, and the labels of an instance, which bind what the
-/// steps don't determine.
+/// A protocol's version and name, the steps of its transcript, and the labels of an instance, which
+/// bind what the steps don't determine.
 #[derive(Debug, Drop)]
 pub struct DomainSeparator {
     version: u8,
@@ -31,14 +33,19 @@ const STEP_ROOM: usize = 64;
 /// Room for a label of one number, in bytes.
 const LABEL_ROOM: usize = 16;
 
-#[tactic(auto, unfolding(crate::specs::Pattern::pattern_steps, crate::specs::Separator::description, crate::specs::Separator::seed_bytes, crate::specs::Separator::seed_turns, crate::specs::Pattern::seed_stream))]
+#[tactic(auto, unfolding(crate::specs::Separator::description))]
 impl DomainSeparator {
-    ghost use Rattle.p3_challenger_fs.specs.Pattern.{pattern_steps, seed_stream};
+    ghost use Rattle.p3_challenger_fs.specs.Pattern.{pattern_steps};
     ghost use Rattle.p3_challenger_fs.specs.Separator.{description, seed_bytes, seed_turns};
 
     /// The separator of a protocol, without labels.
     pub fn new(alloc: Global, version: u8, name: &'static [u8], pattern: InteractionPattern) -> Self
-        ensures { description result ≡ record { version = version; name = name.now; steps = pattern_steps pattern; labels = [] } }
+        ensures { description result ≡ record {
+          version = version;
+          name = name.now;
+          steps = pattern_steps pattern;
+          labels = [];
+        } }
     {
         Self {
             version,
@@ -60,6 +67,22 @@ impl DomainSeparator {
         Ok(())
     }
 
+    /// The stream, and the steps that a driver plays after it.
+    pub fn seed(&self, alloc: Global) -> Result<Seed, AllocError>
+        ensures stream { IfOk result (λ seed. seed_bytes seed ≡ stream_of (description self.now)) }
+        ensures turns { IfOk result (λ seed.
+            seed_turns seed ≡ map turn_of (description self.now).steps) }
+    {
+        let stream = self.seed_stream(alloc)?;
+        let turns = turns_of(alloc, self.pattern.steps())?;
+        Ok(Seed { stream, turns })
+    }
+}
+
+#[tactic(auto, unfolding(crate::specs::Separator::description, crate::specs::Pattern::seed_stream))]
+impl DomainSeparator {
+    ghost use Rattle.p3_challenger_fs.specs.Separator.{description};
+
     /// The stream of bytes that binds the description, and determines it.
     pub fn seed_stream(&self, alloc: Global) -> Result<Vec<u8>, AllocError>
         ensures { IfOk result (λ bytes. bytes.items ≡ stream_of (description self.now)) }
@@ -76,16 +99,6 @@ impl DomainSeparator {
         push_number(&mut stream, self.labels.len())?;
         push_labels(&mut stream, &self.labels)?;
         Ok(stream)
-    }
-
-    /// The stream, and the steps that a driver plays after it.
-    pub fn seed(&self, alloc: Global) -> Result<Seed, AllocError>
-        ensures stream { IfOk result (λ seed. seed_bytes seed ≡ stream_of (description self.now)) }
-        ensures turns { IfOk result (λ seed. seed_turns seed ≡ map turn_of (description self.now).steps) }
-    {
-        let stream = self.seed_stream(alloc)?;
-        let turns = turns_of(alloc, self.pattern.steps())?;
-        Ok(Seed { stream, turns })
     }
 }
 
@@ -170,7 +183,8 @@ fn push_length(stream: &mut Vec<u8>, length: Length) -> Result<(), AllocError>
 
 /// Appends steps in order.
 fn push_steps(stream: &mut Vec<u8>, steps: &[Interaction]) -> Result<(), AllocError>
-    ensures { OnOk result (stream.new.items ≡ stream.old.items ++ flat_map step_bytes (map step_of steps.now)) }
+    ensures { OnOk result (stream.new.items ≡ stream.old.items
+        ++ flat_map step_bytes (map step_of steps.now)) }
 {
     for step in steps {
         push_step(stream, step)?;
@@ -180,7 +194,8 @@ fn push_steps(stream: &mut Vec<u8>, steps: &[Interaction]) -> Result<(), AllocEr
 
 /// Appends labels in order.
 fn push_labels(stream: &mut Vec<u8>, labels: &[Vec<u8>]) -> Result<(), AllocError>
-    ensures { OnOk result (stream.new.items ≡ stream.old.items ++ flat_map text_bytes (map (λ label. label.items) labels.now)) }
+    ensures { OnOk result (stream.new.items ≡ stream.old.items
+        ++ flat_map text_bytes (lists labels.now)) }
 {
     for label in labels {
         push_text(stream, label)?;

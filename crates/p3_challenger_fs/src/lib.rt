@@ -1,6 +1,7 @@
-//! Transcripts by description: a pattern lists the steps that both sides will take, a separator binds it and the
-//! numbers of an instance to a stream of bytes, and drivers, one for each side, absorb that stream and then play
-//! the steps (the Fiat-Shamir transform of an interactive protocol).
+//! Transcripts by description: a pattern lists the steps that both sides will take, a separator
+//! binds it and the numbers of an instance to a stream of bytes, and drivers, one for each side,
+//! absorb that stream and then play the steps (the Fiat-Shamir transform of an interactive
+//! protocol).
 #![tactic(auto)]
 
 pub mod domain_separator;

@@ -2,7 +2,8 @@
 
 ghost use Rattle.std.specs.Prelude.{◌≡◌};
 ghost use Rattle.p3_challenger_fs.specs.declared.pattern.Length.TheVariants.{Scalar};
-ghost use Rattle.p3_challenger_fs.specs.declared.pattern.TypeTag.TheVariants.{Opaque, Algebra, Bits, Marker};
+ghost use Rattle.p3_challenger_fs.specs.declared.pattern.TypeTag.TheVariants.{Opaque, Algebra};
+ghost use Rattle.p3_challenger_fs.specs.declared.pattern.TypeTag.TheVariants.{Bits, Marker};
 
 use p3_field::{ExtensionField, Field};
 
@@ -14,7 +15,8 @@ pub enum Hierarchy {
     End,
 }
 
-/// What a step does: a value is absorbed, one is drawn, a proof of work is given, or a protocol is bracketed.
+/// What a step does: a value is absorbed, one is drawn, a proof of work is given, or a protocol is
+/// bracketed.
 #[derive(Clone, Copy, Debug, PartialEq, Eq)]
 pub enum Kind {
     Message,
@@ -65,7 +67,7 @@ pub struct Turn {
 }
 
 impl Interaction {
-    ghost use Rattle.p3_challenger_fs.specs.Pattern.{step_of, turn_of};
+    ghost use Rattle.p3_challenger_fs.specs.Pattern.{step, step_of, turn_of};
 
     /// The step without its label.
     pub fn turn(&self) -> Turn
@@ -81,7 +83,7 @@ impl Interaction {
 
     /// A step of values whose encoding belongs to another layer.
     pub fn opaque(hierarchy: Hierarchy, kind: Kind, label: &'static str, length: Length) -> Self
-        ensures { step_of result ≡ record { hierarchy = hierarchy; kind = kind; type_tag = Opaque; label = label.now; length = length } }
+        ensures { step_of result ≡ step hierarchy kind Opaque label.now length }
     {
         Self {
             hierarchy,
@@ -99,7 +101,7 @@ impl Interaction {
         label: &'static str,
         length: Length,
     ) -> Self
-        ensures { step_of result ≡ record { hierarchy = hierarchy; kind = kind; type_tag = Algebra EF.DIMENSION; label = label.now; length = length } }
+        ensures { step_of result ≡ step hierarchy kind (Algebra EF.DIMENSION) label.now length }
     {
         Self {
             hierarchy,
@@ -120,7 +122,7 @@ impl Interaction {
         width: usize,
         length: Length,
     ) -> Self
-        ensures { step_of result ≡ record { hierarchy = hierarchy; kind = kind; type_tag = Bits width; label = label.now; length = length } }
+        ensures { step_of result ≡ step hierarchy kind (Bits width) label.now length }
     {
         Self {
             hierarchy,
@@ -133,7 +135,7 @@ impl Interaction {
 
     /// A step without a value.
     pub fn marker(hierarchy: Hierarchy, kind: Kind, label: &'static str) -> Self
-        ensures { step_of result ≡ record { hierarchy = hierarchy; kind = kind; type_tag = Marker; label = label.now; length = Scalar } }
+        ensures { step_of result ≡ step hierarchy kind Marker label.now Scalar }
     {
         Self {
             hierarchy,

@@ -4,10 +4,13 @@ ghost use Rattle.std.specs.Prelude.{◌≡◌, ◌≤◌, IfOk, IfSome, IfNone, 
 ghost use Rattle.std.specs.Bool.{OnTrue};
 ghost use Rattle.std.specs.List.{flat_map};
 ghost use Rattle.p3_challenger_fs.specs.declared.pattern.Hierarchy.TheVariants.{Atomic, Begin, End};
-ghost use Rattle.p3_challenger_fs.specs.declared.pattern.Kind.TheVariants.{Message, Challenge, Pow, Protocol};
-ghost use Rattle.p3_challenger_fs.specs.declared.pattern.TypeTag.TheVariants.{Opaque, Algebra, Bits, Marker};
+ghost use Rattle.p3_challenger_fs.specs.declared.pattern.Kind.TheVariants.{Message, Challenge, Pow};
+ghost use Rattle.p3_challenger_fs.specs.declared.pattern.Kind.TheVariants.{Protocol};
+ghost use Rattle.p3_challenger_fs.specs.declared.pattern.TypeTag.TheVariants.{Opaque, Algebra};
+ghost use Rattle.p3_challenger_fs.specs.declared.pattern.TypeTag.TheVariants.{Bits, Marker};
 ghost use Rattle.p3_challenger_fs.specs.declared.pattern.Length.TheVariants.{Scalar, Fixed};
-ghost use Rattle.p3_challenger_core.specs.Run.{observed_all, drawn_element, draws, grind_attempt, Passes};
+ghost use Rattle.p3_challenger_core.specs.Run.{observed_all, drawn_element, draws, grind_attempt};
+ghost use Rattle.p3_challenger_core.specs.Run.{Passes};
 ghost use Rattle.p3_challenger_fs.specs.Turns.{IsNext, bytes_observed};
 
 use crate::domain_separator::Seed;
@@ -16,8 +19,8 @@ use p3_challenger_core::{CanObserve, CanSampleBits, FieldChallenger, GrindingCha
 use p3_field::{ExtensionField, Field};
 use std::alloc::{AllocError, Global};
 
-/// The steps of a description, and how many of them were played. Each call plays the next one on a challenger; that it
-/// is the next is a condition of the call, which the caller proves.
+/// The steps of a description, and how many of them were played. Each call plays the next one on a
+/// challenger; that it is the next is a condition of the call, which the caller proves.
 #[derive(Debug, Drop)]
 pub struct Script {
     turns: Vec<Turn>,
@@ -33,14 +36,16 @@ fn absorb<F: Field, C: FieldChallenger<F>>(challenger: &mut C, bytes: &[u8])
     }
 }
 
-#[tactic(auto, using(crate::proofs::Turns::drop_next), unfolding(crate::specs::Script::remaining, crate::specs::Script::step_played, crate::specs::Separator::seed_bytes, crate::specs::Separator::seed_turns))]
+#[tactic(auto, using(crate::proofs::Turns::drop_next), unfolding(crate::specs::Script::remaining))]
 impl Script {
     ghost use Rattle.p3_challenger_fs.specs.Script.{remaining, step_played};
     ghost use Rattle.p3_challenger_fs.specs.Separator.{seed_bytes, seed_turns};
 
-    /// Absorbs the stream of the seed, each byte as an element of `F`, and stands before the first step.
+    /// Absorbs the stream of the seed, each byte as an element of `F`, and stands before the first
+    /// step.
     pub fn start<F: Field, C: FieldChallenger<F>>(challenger: &mut C, seed: Seed) -> Script
-        ensures state { challenger.new ≡ bytes_observed F.ops C.observed challenger.old (seed_bytes seed) }
+        ensures state { challenger.new
+            ≡ bytes_observed F.ops C.observed challenger.old (seed_bytes seed) }
         ensures steps { remaining result ≡ seed_turns seed }
     {
         let Seed { stream, turns } = seed;
@@ -64,16 +69,18 @@ impl Script {
         challenger: &mut C,
         values: &[EF],
     )
-        requires next { IsNext Atomic Message (Algebra EF.DIMENSION) (Fixed (length values.now)) (remaining self.old) }
-        ensures state { challenger.new ≡ observed_all C.observed challenger.old (flat_map EF.coefficients values.now) }
+        requires next { IsNext Atomic Message (Algebra EF.DIMENSION) (Fixed (length values.now))
+            (remaining self.old) }
+        ensures state { challenger.new
+            ≡ observed_all C.observed challenger.old (flat_map EF.coefficients values.now) }
         ensures steps { remaining self.new ≡ drop 1 (remaining self.old) }
     {
         challenger.observe_algebra_slice(values);
         self.played += 1;
     }
 
-    /// Searches a witness of a proof of work, and absorbs it. `None`, with the challenger unchanged, where no element
-    /// passes; then no step may follow.
+    /// Searches a witness of a proof of work, and absorbs it. `None`, with the challenger
+    /// unchanged, where no element passes; then no step may follow.
     pub fn grind<F: Field, C: FieldChallenger<F> + GrindingChallenger<Witness = F>>(
         &mut self,
         challenger: &mut C,
@@ -82,9 +89,13 @@ impl Script {
         requires next { IsNext Atomic Pow (Algebra 1) (Fixed bits) (remaining self.old) }
         requires at_most_max { bits ≤ C.MAX_SAMPLE_BITS }
         ensures value { result ≡ C.solution challenger.old bits }
-        ensures state { IfSome result (λ w. challenger.new ≡ (grind_attempt C.observed C.sampled_bits challenger.old bits w).state) }
-        ensures passes { IfSome result (λ w. Passes C.observed C.sampled_bits challenger.old bits w) }
-        ensures none_passes { IfNone result ((w : F) → ¬ Passes C.observed C.sampled_bits challenger.old bits w) }
+        ensures state { IfSome result (λ w.
+            challenger.new
+            ≡ (grind_attempt C.observed C.sampled_bits challenger.old bits w).state) }
+        ensures passes { IfSome result (λ w.
+            Passes C.observed C.sampled_bits challenger.old bits w) }
+        ensures none_passes { IfNone result
+            ((w : F) → ¬ Passes C.observed C.sampled_bits challenger.old bits w) }
         ensures unchanged { IfNone result (challenger.new ≡ challenger.old) }
         ensures steps { IfSome result (λ _. remaining self.new ≡ drop 1 (remaining self.old)) }
     {
@@ -93,7 +104,8 @@ impl Script {
         witness
     }
 
-    /// Absorbs the witness of a proof of work, and answers whether it passes. If it doesn't, no step may follow.
+    /// Absorbs the witness of a proof of work, and answers whether it passes. If it doesn't, no
+    /// step may follow.
     pub fn check_witness<F: Field, C: FieldChallenger<F> + GrindingChallenger<Witness = F>>(
         &mut self,
         challenger: &mut C,
@@ -102,8 +114,10 @@ impl Script {
     ) -> bool
         requires next { IsNext Atomic Pow (Algebra 1) (Fixed bits) (remaining self.old) }
         requires at_most_max { bits ≤ C.MAX_SAMPLE_BITS }
-        ensures value { result ≡ (grind_attempt C.observed C.sampled_bits challenger.old bits witness).value }
-        ensures state { challenger.new ≡ (grind_attempt C.observed C.sampled_bits challenger.old bits witness).state }
+        ensures value { result ≡ (grind_attempt C.observed C.sampled_bits challenger.old bits
+            witness).value }
+        ensures state { challenger.new
+            ≡ (grind_attempt C.observed C.sampled_bits challenger.old bits witness).state }
         ensures steps { OnTrue result (remaining self.new ≡ drop 1 (remaining self.old)) }
     {
         self.played += 1;
@@ -116,16 +130,18 @@ impl Script {
         challenger: &mut C,
     ) -> EF
         requires next { IsNext Atomic Challenge (Algebra EF.DIMENSION) Scalar (remaining self.old) }
-        ensures value { result ≡ (drawn_element C.sampled EF.of_coefficients EF.DIMENSION challenger.old).value }
-        ensures state { challenger.new ≡ (drawn_element C.sampled EF.of_coefficients EF.DIMENSION challenger.old).state }
+        ensures value { result ≡ (drawn_element C.sampled EF.of_coefficients EF.DIMENSION
+            challenger.old).value }
+        ensures state { challenger.new
+            ≡ (drawn_element C.sampled EF.of_coefficients EF.DIMENSION challenger.old).state }
         ensures steps { remaining self.new ≡ drop 1 (remaining self.old) }
     {
         self.played += 1;
         challenger.sample_algebra_element()
     }
 
-    /// Draws `count` numbers of `width` bits. Room for all is taken first, so a refusal leaves the challenger as it
-    /// was; no step may follow it.
+    /// Draws `count` numbers of `width` bits. Room for all is taken first, so a refusal leaves the
+    /// challenger as it was; no step may follow it.
     pub fn challenge_bits<C: CanSampleBits>(
         &mut self,
         alloc: Global,
@@ -135,8 +151,10 @@ impl Script {
     ) -> Result<Vec<usize>, AllocError>
         requires next { IsNext Atomic Challenge (Bits width) (Fixed count) (remaining self.old) }
         requires at_most_max { width ≤ C.MAX_SAMPLE_BITS }
-        ensures values { IfOk result (λ numbers. numbers.items ≡ (draws (λ c. C.sampled_bits c width) challenger.old count).value) }
-        ensures state { IfOk result (λ _. challenger.new ≡ (draws (λ c. C.sampled_bits c width) challenger.old count).state) }
+        ensures values { IfOk result (λ numbers.
+            numbers.items ≡ (draws (λ c. C.sampled_bits c width) challenger.old count).value) }
+        ensures state { IfOk result (λ _.
+            challenger.new ≡ (draws (λ c. C.sampled_bits c width) challenger.old count).state) }
         ensures steps { IfOk result (λ _. remaining self.new ≡ drop 1 (remaining self.old)) }
         ensures unchanged { OnErr result (challenger.new ≡ challenger.old) }
     {
@@ -170,8 +188,10 @@ fn draw_numbers<C: CanSampleBits>(
     count: usize,
 ) -> Result<Vec<usize>, AllocError>
     requires at_most_max { width ≤ C.MAX_SAMPLE_BITS }
-    ensures values { IfOk result (λ numbers. numbers.items ≡ (draws (λ c. C.sampled_bits c width) challenger.old count).value) }
-    ensures state { IfOk result (λ _. challenger.new ≡ (draws (λ c. C.sampled_bits c width) challenger.old count).state) }
+    ensures values { IfOk result (λ numbers.
+        numbers.items ≡ (draws (λ c. C.sampled_bits c width) challenger.old count).value) }
+    ensures state { IfOk result (λ _.
+        challenger.new ≡ (draws (λ c. C.sampled_bits c width) challenger.old count).state) }
     ensures unchanged { OnErr result (challenger.new ≡ challenger.old) }
 {
     let mut numbers = Vec::with_capacity(alloc, count)?;

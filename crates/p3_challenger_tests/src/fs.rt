@@ -1,5 +1,6 @@
-//! The bytes of a description, worked out by hand from the rule, and both sides of a transcript of every kind of step,
-//! whose draws were computed with the hashlib module of Python's standard library from the rules of the formats.
+//! The bytes of a description, worked out by hand from the rule, and both sides of a transcript of
+//! every kind of step, whose draws were computed with the hashlib module of Python's standard
+//! library from the rules of the formats.
 
 ghost use Rattle.std.specs.Prelude.{◌≡◌, ◌∷◌, [], map};
 ghost use Rattle.p3_challenger.specs.pattern.Hierarchy.TheVariants.{Atomic, Begin, End};
@@ -263,7 +264,8 @@ fn abort_leaves_the_challenger(rt: HostRuntime) -> Result<(), Fail> {
     Ok(())
 }
 
-/// The second arm runs where an allocation of `new` is made to fail, as by `rt try --test --fail-alloc N`.
+/// The second arm runs where an allocation of `new` is made to fail, as by `rt try --test
+/// --fail-alloc N`.
 #[test]
 fn refused_new_absorbs_nothing(rt: HostRuntime) -> Result<(), Fail> {
     let example = make_example(rt.alloc())?;

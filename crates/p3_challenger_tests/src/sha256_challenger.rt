@@ -1,9 +1,11 @@
-//! Worked values, computed with the hashlib module of Python's standard library from the rules of the format,
-//! and each call at a concrete type through its bound. A state is seen by the number that it answers next.
+//! Worked values, computed with the hashlib module of Python's standard library from the rules of
+//! the format, and each call at a concrete type through its bound. A state is seen by the number
+//! that it answers next.
 
 ghost use Rattle.std.specs.Prelude.{◌≡◌, ◌≤◌, ◌++◌, ◌∷◌, [], List, map};
 ghost use Rattle.p3_challenger.specs.Run.{Event, run};
-ghost use Rattle.p3_challenger.specs.Run.Event.{ValueObserved, CommitmentObserved, ElementDrawn, BitsDrawn};
+ghost use Rattle.p3_challenger.specs.Run.Event.{ValueObserved, CommitmentObserved, ElementDrawn};
+ghost use Rattle.p3_challenger.specs.Run.Event.{BitsDrawn};
 ghost use Rattle.p3_challenger.specs.Run.Drawn.{Element, Bits};
 
 use p3_challenger::laws::{run_law, sha256_challenger_law};
@@ -15,7 +17,8 @@ use p3_field::{BabyBear, BabyBear4, ExtensionField, Field, PrimeField64};
 use std::alloc::AllocError;
 use std::test::Fail;
 
-/// Observes the values and the commitment, and draws an element of an extension and a number of `bits` bits.
+/// Observes the values and the commitment, and draws an element of an extension and a number of
+/// `bits` bits.
 fn draws_after<F: Field, EF: ExtensionField<F>, Com: Copy, C>(
     challenger: &mut C,
     values: &[F],
@@ -26,10 +29,12 @@ where
     C: FieldChallenger<F> + GrindingChallenger<Witness = F> + CanObserve<Com>,
     requires { bits ≤ C.MAX_SAMPLE_BITS }
     ensures values { (run ⟦<C as Plays<F, EF, Com>>⟧.moves challenger.old
-        (map ValueObserved values.now ++ CommitmentObserved commitment ∷ ElementDrawn ∷ BitsDrawn bits ∷ [])).value
+        (map ValueObserved values.now
+        ++ CommitmentObserved commitment ∷ ElementDrawn ∷ BitsDrawn bits ∷ [])).value
         ≡ Element result.0 ∷ Bits result.1 ∷ [] }
     ensures state { (run ⟦<C as Plays<F, EF, Com>>⟧.moves challenger.old
-        (map ValueObserved values.now ++ CommitmentObserved commitment ∷ ElementDrawn ∷ BitsDrawn bits ∷ [])).state
+        (map ValueObserved values.now
+        ++ CommitmentObserved commitment ∷ ElementDrawn ∷ BitsDrawn bits ∷ [])).state
         ≡ challenger.new }
 {
     challenger.observe_slice(values);
@@ -39,7 +44,8 @@ where
     (drawn, index)
 }
 
-/// Whether a search for a witness on one copy leaves the state that checking what it found leaves on another.
+/// Whether a search for a witness on one copy leaves the state that checking what it found leaves
+/// on another.
 fn leaves_what_its_check_leaves<C>(challenger: &C, bits: usize) -> Result<bool, AllocError>
 where
     C: GrindingChallenger + Clone + Eq + Drop,

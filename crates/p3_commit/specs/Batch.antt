@@ -1,5 +1,6 @@
 -- Matrices that are committed together, and the rows of them that an index opens.
-use Rattle.std.specs.Prelude.{◌≡◌, ◌≢◌, ◌⊎◌, ℕ, ◌/◌, max, List, [], ◌∷◌, length, map, slice_index_or, All, ⊤}
+use Rattle.std.specs.Prelude.{◌≡◌, ◌≢◌, ◌⊎◌, ◌<◌, ℕ, ◌/◌, max, List, [], ◌∷◌, length, map}
+use Rattle.std.specs.Prelude.{slice_index_or, All, ⊤}
 use Rattle.std.specs.Int.{IsPowerOfTwo}
 use Rattle.p3_matrix.specs.declared.Dimensions.{Dimensions}
 use Rattle.p3_matrix.specs.declared.dense.RowMajorMatrix.{RowMajorMatrix}
@@ -9,6 +10,10 @@ use Rattle.p3_matrix.specs.Matrix.{rows, matrix_width}
 abbrev pub max_height : List Dimensions → ℕ
 max_height [] = 1
 max_height (d ∷ dims) = max d.height (max_height dims)
+
+-- each of these indices lies below the bound
+abbrev pub AreBelow : ℕ → List ℕ → Type 0
+AreBelow bound indices = All (λ i. i < bound) indices
 
 -- each height is a power of two
 abbrev pub HavePowerHeights : List Dimensions → Type 0
@@ -39,10 +44,11 @@ module _ {T : Type 0} where
   abbrev pub dimensions_of : List (RowMajorMatrix T) → List Dimensions
   dimensions_of matrices = map dimensions matrices
 
-  -- the row of a matrix that `index`, below the greatest height, opens: `index` itself at that height, and at a
-  -- height `2^j` times smaller the quotient by `2^j`
+  -- the row of a matrix that `index`, below the greatest height, opens: `index` itself at that
+  -- height, and at a height `2^j` times smaller the quotient by `2^j`
   abbrev pub opened_row : ℕ → ℕ → RowMajorMatrix T → List T
-  opened_row greatest index matrix = slice_index_or (rows matrix) (index / (greatest / length (rows matrix))) []
+  opened_row greatest index matrix =
+      slice_index_or (rows matrix) (index / (greatest / length (rows matrix))) []
 
   -- the row of each matrix that `index` opens
   abbrev pub opened_rows : List (RowMajorMatrix T) → ℕ → List (List T)

@@ -6,4 +6,5 @@ use Rattle.p3_commit.specs.Tree.{node}
 pub record IsTree (leaves : ℕ → List ℕ) (count : ℕ) (digests : List (List ℕ)) : Type 0 where
   pub len : length digests + 1 ≡ 2 * count
   pub leaf : (i : ℕ) → i < count → slice_index_or digests i [] ≡ leaves i
-  pub parent : (k : ℕ) → k + 1 < count → slice_index_or digests (count + k) [] ≡ node (slice_index_or digests (2 * k) []) (slice_index_or digests (2 * k + 1) [])
+  pub parent : (k : ℕ) → k + 1 < count → slice_index_or digests (count + k) []
+      ≡ node (slice_index_or digests (2 * k) []) (slice_index_or digests (2 * k + 1) [])

@@ -2,14 +2,20 @@
 use Rattle.std.specs.Prelude.{◌≢◌, ℕ, ◌^◌, List, length}
 use Rattle.p3_matrix.specs.declared.Dimensions.{Dimensions}
 use Rattle.p3_commit.specs.declared.sha256_mmcs.error.Sha256MmcsError.{Sha256MmcsError}
-use Rattle.p3_commit.specs.declared.sha256_mmcs.error.Sha256MmcsError.TheVariants.{QueryCount, MatrixCount, RowWidth, PathLength, RootMismatch}
+use Rattle.p3_commit.specs.declared.sha256_mmcs.error.Sha256MmcsError.TheVariants.{QueryCount}
+use Rattle.p3_commit.specs.declared.sha256_mmcs.error.Sha256MmcsError.TheVariants.{MatrixCount}
+use Rattle.p3_commit.specs.declared.sha256_mmcs.error.Sha256MmcsError.TheVariants.{RowWidth}
+use Rattle.p3_commit.specs.declared.sha256_mmcs.error.Sha256MmcsError.TheVariants.{PathLength}
+use Rattle.p3_commit.specs.declared.sha256_mmcs.error.Sha256MmcsError.TheVariants.{RootMismatch}
 use Rattle.p3_commit.specs.Batch.{max_height, SomeWidthDiffers}
 use Rattle.p3_commit.specs.Tree.{leaf, climb}
 
 -- the fault stands at this index (the number of queries is no fault of one of them)
-abbrev pub HasFault : {T : Type 0} → (T → List ℕ) → List ℕ → List Dimensions → Sha256MmcsError → ℕ → List (List T) → List (List ℕ) → Type 0
+abbrev pub HasFault : {T : Type 0} → (T → List ℕ) → List ℕ → List Dimensions → Sha256MmcsError → ℕ
+    → List (List T) → List (List ℕ) → Type 0
 HasFault bytes commitment dims QueryCount index set path = ⊥
 HasFault bytes commitment dims MatrixCount index set path = length set ≢ length dims
 HasFault bytes commitment dims RowWidth index set path = SomeWidthDiffers dims set
 HasFault bytes commitment dims PathLength index set path = 2 ^ length path ≢ max_height dims
-HasFault bytes commitment dims RootMismatch index set path = climb index (leaf bytes set) path ≢ commitment
+HasFault bytes commitment dims RootMismatch index set path =
+    climb index (leaf bytes set) path ≢ commitment

@@ -9,7 +9,8 @@ use Rattle.p3_matrix.specs.declared.Dimensions.{Dimensions}
 use Rattle.p3_commit.specs.Batch.{HavePowerHeights}
 
 power_prop : (n : ℕ) → IsProp (IsPowerOfTwo n)
-power_prop n p q = Σ_prop_path (λ k. Coded-set coded_ℕ n (2 ^ k)) (exponents_agree p.0 q.0 (sym p.1 ∙ q.1))
+power_prop n p q =
+    Σ_prop_path (λ k. Coded-set coded_ℕ n (2 ^ k)) (exponents_agree p.0 q.0 (sym p.1 ∙ q.1))
 
 pub heights_prop : (dims : List Dimensions) → IsProp (HavePowerHeights dims)
 heights_prop dims = Π_prop (λ k. Π_prop (λ d. Π_prop (λ l. power_prop _)))

@@ -5,3 +5,4 @@ pub mod Digests
 pub mod TreeLaws
 pub mod HeightLaws
 pub mod Faults
+pub mod ProverData

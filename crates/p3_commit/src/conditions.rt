@@ -1,12 +1,12 @@
 //! Tests of the conditions of commitments and openings, for values that come from outside.
 
-ghost use Rattle.std.specs.Prelude.{◌≡◌, ◌<◌, ◌↔◌, All, IsTrue};
-ghost use Rattle.p3_commit.specs.Batch.{max_height, HavePowerHeights};
+ghost use Rattle.std.specs.Prelude.{◌≡◌, ◌↔◌, IsTrue};
+ghost use Rattle.p3_commit.specs.Batch.{max_height, AreBelow, HavePowerHeights};
 
 use p3_matrix::Dimensions;
 
 /// Whether each height is a power of two, as matrices that are committed together have them.
-#[tactic(auto, using(crate::proofs::Heights::heights_take_more, crate::proofs::Heights::heights_refused))]
+#[tactic(auto, using(crate::proofs::Heights::heights_refused))]
 pub fn have_power_heights(dimensions: &[Dimensions]) -> bool
     ensures { IsTrue result ↔ HavePowerHeights dimensions.now }
 {
@@ -32,7 +32,7 @@ pub fn max_height(dimensions: &[Dimensions]) -> usize
 
 /// Whether each index lies below `height`.
 pub fn indices_are_below(indices: &[usize], height: usize) -> bool
-    ensures { IsTrue result ↔ All (λ i. i < height) indices.now }
+    ensures { IsTrue result ↔ AreBelow height indices.now }
 {
     indices.iter().all(|i| *i < height)
 }

@@ -1,6 +1,7 @@
 //! What holds of every tree, as calls that do nothing and whose contracts are theorems.
 
-ghost use Rattle.std.specs.Prelude.{◌≡◌, ◌<◌, ◌^◌, ℕ, List, [], length, slice_index, slice_index_or};
+ghost use Rattle.std.specs.Prelude.{◌≡◌, ◌<◌, ◌^◌, ℕ, List, [], length, slice_index};
+ghost use Rattle.std.specs.Prelude.{slice_index_or};
 ghost use Rattle.p3_commit.specs.Batch.{HasRows, HasShape};
 ghost use Rattle.p3_matrix.specs.declared.Dimensions.{Dimensions};
 ghost use Rattle.p3_commit.specs.Tree.{climb, path_of, root_of, OpensAt, Opens};
@@ -13,12 +14,13 @@ pub fn path_law()
         climb index (leaves index) (path_of leaves m index) ≡ root_of leaves m }
 {}
 
-/// What has the shape of an opening has as many sets of rows as indices, and each of these one row of each
-/// matrix.
+/// What has the shape of an opening has as many sets of rows as indices, and each of these one row
+/// of each matrix.
 pub fn shape_law<T>()
     ensures sets { (dims : List Dimensions) (indices : List ℕ) (sets : List (List (List T))) →
         HasShape dims indices sets → length sets ≡ length indices }
-    ensures each { (dims : List Dimensions) (indices : List ℕ) (sets : List (List (List T))) (k : ℕ) →
+    ensures each { (dims : List Dimensions) (indices : List ℕ) (sets : List (List (List T)))
+        (k : ℕ) →
         HasShape dims indices sets → k < length sets → HasRows dims (slice_index_or sets k []) }
     ensures rows { (dims : List Dimensions) (rows : List (List T)) →
         HasRows dims rows → length rows ≡ length dims }

@@ -1,5 +1,5 @@
-//! Commitments to batches of matrices, what is claimed of committed matrices, and what an estimate of soundness
-//! reads of a scheme's parameters.
+//! Commitments to batches of matrices, what is claimed of committed matrices, and what an estimate
+//! of soundness reads of a scheme's parameters.
 #![tactic(auto)]
 
 pub mod conditions;

@@ -1,17 +1,19 @@
 //! Commitments to batches of matrices, of which rows are opened by index.
 
-ghost use Rattle.std.specs.Prelude.{◌≡◌, ◌<◌, ◌↔◌, ℕ, List, [], ◌∷◌, map, All, IsOk, IfOk};
+ghost use Rattle.std.specs.Prelude.{◌≡◌, ◌↔◌, ℕ, List, [], ◌∷◌, map, IsOk, IfOk};
+ghost use Rattle.algebra.specs.Nested.{nested};
 ghost use Rattle.p3_matrix.specs.declared.Dimensions.{Dimensions};
 ghost use Rattle.p3_matrix.specs.declared.dense.RowMajorMatrix.{RowMajorMatrix};
-ghost use Rattle.algebra.specs.Nested.{nested};
-ghost use Rattle.p3_commit.specs.Batch.{max_height, HavePowerHeights, HasShape, dimensions_of, opened_rows};
+ghost use Rattle.p3_commit.specs.Batch.{AreBelow, HavePowerHeights, HasShape};
+ghost use Rattle.p3_commit.specs.Batch.{max_height, dimensions_of, opened_rows};
 
 use p3_matrix::{Dimensions, RowMajorMatrix};
 use std::alloc::{AllocError, Global};
 
-/// A mixed matrix commitment scheme: one commitment to a batch of matrices, whose heights are powers of two, and
-/// proofs that rows are theirs. An index below the greatest height, which is 1 for an empty batch, opens one row of
-/// each matrix: in a matrix `2^j` times less high, the row at the index divided by `2^j`, rounded down.
+/// A mixed matrix commitment scheme: one commitment to a batch of matrices, whose heights are
+/// powers of two, and proofs that rows are theirs. An index below the greatest height, which is 1
+/// for an empty batch, opens one row of each matrix: in a matrix `2^j` times less high, the row at
+/// the index divided by `2^j`, rounded down.
 pub trait Mmcs<T: Copy> {
     /// What stands for the batch.
     type Commitment: Copy;
@@ -25,7 +27,8 @@ pub trait Mmcs<T: Copy> {
     /// Why an opening is refused.
     type Error: Drop;
 
-    ghost opens: { Self → Self.Commitment → List Dimensions → List ℕ → List (List (List T)) → Self.MultiProof → Type 0 };
+    ghost opens: { Self → Self.Commitment → List Dimensions → List ℕ → List (List (List T))
+        → Self.MultiProof → Type 0 };
 
     ghost committed: { Self.ProverData → List (RowMajorMatrix T) };
 
@@ -64,21 +67,26 @@ pub trait Mmcs<T: Copy> {
     fn get_matrices<'a>(&self, prover_data: &'a Self::ProverData) -> &'a [RowMajorMatrix<T>]
         ensures { result.now ≡ committed prover_data.now };
 
-    /// For each index the rows that it opens, and a proof that they are the committed ones. The indices lie below
-    /// the greatest height.
+    /// For each index the rows that it opens, and a proof that they are the committed ones. The
+    /// indices lie below the greatest height.
     fn open_multi_batch(
         &self,
         alloc: Global,
         indices: &[usize],
         prover_data: &Self::ProverData,
     ) -> Result<(Vec<Vec<Vec<T>>>, Self::MultiProof), AllocError>
-        requires below { All (λ i. i < max_height (dimensions_of (committed prover_data.now))) indices.now }
-        ensures rows { IfOk result (λ opening. nested opening.0.items ≡ map (opened_rows (committed prover_data.now)) indices.now) }
+        requires below { AreBelow (max_height (dimensions_of (committed prover_data.now)))
+            indices.now }
+        ensures rows { IfOk result (λ opening.
+            nested opening.0.items ≡ map (opened_rows (committed prover_data.now)) indices.now) }
         ensures opens { IfOk result (λ opening.
-            opens self.now (commitment_of prover_data.now) (dimensions_of (committed prover_data.now)) indices.now (nested opening.0.items) opening.1) };
+            opens self.now (commitment_of prover_data.now)
+            (dimensions_of (committed prover_data.now)) indices.now
+            (nested opening.0.items) opening.1) };
 
-    /// Whether the rows opened at these indices are those of the committed matrices, which have these dimensions:
-    /// their heights are powers of two, and the indices lie below the greatest, or are 0 where there is no matrix.
+    /// Whether the rows opened at these indices are those of the committed matrices, which have
+    /// these dimensions: their heights are powers of two, and the indices lie below the greatest,
+    /// or are 0 where there is no matrix.
     fn verify_multi_batch(
         &self,
         commitment: &Self::Commitment,
@@ -88,11 +96,14 @@ pub trait Mmcs<T: Copy> {
         proof: &Self::MultiProof,
     ) -> Result<(), Self::Error>
         requires heights { HavePowerHeights dimensions.now }
-        requires below { All (λ i. i < max_height dimensions.now) indices.now }
-        ensures opens { IsOk result ↔ opens self.now commitment.now dimensions.now indices.now (nested opened_values.now) proof.now };
+        requires below { AreBelow (max_height dimensions.now) indices.now }
+        ensures opens { IsOk result ↔
+            opens self.now commitment.now dimensions.now
+            indices.now (nested opened_values.now) proof.now };
 
     ghost heights_law: { (d : Self.ProverData) → HavePowerHeights (dimensions_of (committed d)) };
 
-    ghost shape_law: { (m : Self) (c : Self.Commitment) (dims : List Dimensions) (indices : List ℕ) (sets : List (List (List T))) (proof : Self.MultiProof) →
+    ghost shape_law: { (m : Self) (c : Self.Commitment) (dims : List Dimensions) (indices : List ℕ)
+        (sets : List (List (List T))) (proof : Self.MultiProof) →
         opens m c dims indices sets proof → HasShape dims indices sets };
 }

@@ -1,5 +1,5 @@
-//! Worked values, computed with the hashlib module of Python's standard library from the rules of the format, and
-//! each call at a concrete type through its bound.
+//! Worked values, computed with the hashlib module of Python's standard library from the rules of
+//! the format, and each call at a concrete type through its bound.
 
 ghost use Rattle.std.specs.Prelude.{◌≡◌, IfOk};
 ghost use Rattle.p3_commit.specs.Batch.{dimensions_of};

@@ -20,7 +20,7 @@ pub concatenated-equal : {A : Type 0} (n : ℕ) (f g : ℕ → List A) → ((i :
 concatenated-equal zero f g h = refl
 concatenated-equal (suc n) f g h = ap₂ (λ xs ys. xs ++ ys) (h zero (omega arith)) (concatenated-equal n (λ i. f (suc i)) (λ i. g (suc i)) (λ i l. h (suc i) (omega (arith, l))))
 
-range_take : {A : Type 0} (xs : List A) (j a : ℕ) → slice_range xs j (j + a) ≡ take a (drop j xs)
+pub range_take : {A : Type 0} (xs : List A) (j a : ℕ) → slice_range xs j (j + a) ≡ take a (drop j xs)
 range_take xs j a = ap (λ k. take k (drop j xs)) (let long : (j + a) - j ≡ a = omega arith in long)
 
 -- the `m`-th of the lists

@@ -5,3 +5,6 @@ pub mod Blocks
 pub mod Interpolated
 pub mod Unfolded
 pub mod Quotients
+pub mod Trees
+pub mod Branches
+pub mod Nodes

@@ -9,7 +9,7 @@ use Rattle.algebra.proofs.Lists.{Each, length-tabulate, map-tabulate, tabulate-e
 use Rattle.algebra.proofs.Interpolation.{interpolant_interpolates}
 use Rattle.algebra.proofs.Points.{row-power, row_distinct}
 use Rattle.algebra.proofs.Blocks.{block_values, val-blocks, val-block_sum}
-use Rattle.p3_fri_core.specs.Fold.{fold_value}
+use Rattle.p3_fri_core.specs.Folds.{fold_value}
 use Rattle.p3_converse.specs.Positions.{interleaved, interpolated}
 use Rattle.p3_converse.specs.Unfolding.{row_values, IsUnfolding, FoldsWithInput, IsUnfoldingWithInput}
 use Rattle.p3_converse.specs.Batching.{IsUnbatching}

@@ -3,3 +3,5 @@ pub mod Newton
 pub mod Unfolding
 pub mod Batching
 pub mod Quotients
+pub mod Trees
+pub mod Branches

@@ -4,7 +4,7 @@ use Rattle.std.specs.declared.vec.Vec.{Vec}
 use Rattle.algebra.specs.Field.{FieldOps, pow}
 use Rattle.algebra.specs.Polynomial.{val, tabulate}
 use Rattle.algebra.specs.TwoAdic.{AreRoots, pt}
-use Rattle.p3_fri_core.specs.Fold.{fold_value}
+use Rattle.p3_fri_core.specs.Folds.{fold_value}
 
 -- the vectors' elements
 abbrev pub lists : {T Z : Type 0} → List (Vec T Z) → List (List T)

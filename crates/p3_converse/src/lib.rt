@@ -8,8 +8,10 @@ mod by_position;
 pub mod laws;
 mod newton;
 pub mod quotient;
+pub mod tree;
 pub mod unfolding;
 
 pub use crate::batching::unbatch;
 pub use crate::quotient::unquotient;
+pub use crate::tree::{FoldTree, UnfoldedTree, unfold_tree};
 pub use crate::unfolding::{UnfoldedWithInput, unfold, unfold_with_input};

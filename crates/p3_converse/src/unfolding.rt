@@ -1,7 +1,10 @@
 //! Undoing the fold of rows.
 
-ghost use Rattle.std.specs.Prelude.{◌≡◌, ◌<◌, ◌+◌, ◌*◌, ◌^◌, length, vec_len, All, IfOk};
+ghost use Rattle.std.specs.Prelude.{◌≡◌, ◌<◌, ◌+◌, ◌*◌, ◌^◌, [], ◌∷◌, length, vec_len, All, IfOk};
+ghost use Rattle.std.specs.Prelude.{true, false};
 ghost use Rattle.algebra.specs.Interpolation.{AreDistinct};
+ghost use Rattle.p3_converse.specs.Branches.{IsTreeUnfolding};
+ghost use Rattle.p3_converse.specs.Trees.{one_round};
 ghost use Rattle.p3_converse.specs.Unfolding.{lists, common_length};
 ghost use Rattle.p3_converse.specs.Unfolding.{IsUnfolding, IsUnfoldingWithInput};
 
@@ -37,6 +40,8 @@ pub fn unfold<EF: Field>(
     ensures length { IfOk result (λ p. vec_len p ≡ common_length polys.now * 2 ^ log_arity) }
     ensures rows { IfOk result
         (λ p. IsUnfolding EF.ops log_arity betas.now (lists polys.now) p.items) }
+    ensures one_round { IfOk result (λ p. IsTreeUnfolding EF.ops ((log_arity, false) ∷ [])
+        (one_round betas.now (lists polys.now)) p.items []) }
 {
     let arity = 1 << log_arity;
     let degree_bound = polys[0].len();
@@ -80,6 +85,8 @@ pub fn unfold_with_input<EF: Field>(
     ensures input_length { IfOk result (λ u. vec_len u.input ≡ common_length polys.now) }
     ensures rows { IfOk result (λ u. IsUnfoldingWithInput EF.ops log_arity betas.now
         (lists polys.now) u.word.items u.input.items) }
+    ensures one_round { IfOk result (λ u. IsTreeUnfolding EF.ops ((log_arity, true) ∷ [])
+        (one_round betas.now (lists polys.now)) u.word.items (u.input.items ∷ [])) }
 {
     let arity = 1 << log_arity;
     let degree_bound = polys[0].len();

@@ -1,8 +1,8 @@
 -- What the calls on matrices share: the logarithm of the height, and what a matrix and its values
 -- hold.
-use Rattle.std.proofs.Common.{◌≡◌, ℕ, suc, ◌+◌, ◌*◌, ◌/◌, ◌%◌, ◌^◌, ◌<◌, ◌≤◌, List, length, get_or}
+use Rattle.std.proofs.Common.{◌≡◌, ℕ, suc, ◌+◌, ◌*◌, ◌%◌, ◌^◌, ◌<◌, ◌≤◌, List, length, get_or}
 use Rattle.std.proofs.Common.{subst, sym, ap, ap₂, ◌∙◌, arith}
-use Rattle.std.proofs.Math.Nat.{mul-mod_left, mul-mod_right, mul-div_cancel_left}
+use Rattle.std.proofs.Math.Nat.{mul-mod_left}
 use Rattle.std.proofs.lemmas.Nat.{pow_pos}
 use Rattle.algebra.specs.Field.{FieldOps, IsRing, IsField, pow}
 use Rattle.algebra.specs.Polynomial.{val}
@@ -22,12 +22,6 @@ exponent_within j k n e b = omega (arith, exponent_below j (suc k) (omega (arith
 pub whole_columns : (n height width : ℕ) → n ≡ height * width → n % width ≡ 0
 whole_columns n height width e = ap (λ m. m % width) e ∙ mul-mod_left height width
 
-pub whole_heights : (n height width : ℕ) → n ≡ height * width → n % height ≡ 0
-whole_heights n height width e = ap (λ m. m % height) e ∙ mul-mod_right height width
-
-pub width_of_size : (n k width : ℕ) → n ≡ 2 ^ k * width → n / 2 ^ k ≡ width
-width_of_size n k width e = ap (λ m. m / 2 ^ k) e ∙ mul-div_cancel_left width (pow_pos k)
-
 module _ {A : Type 0} (matrix : RowMajorMatrix A) (width height len : ℕ) (xs : List A) (some : 0 < width) (long : len ≡ length xs) where
   -- a matrix and its values
   pub held_by_values : width ≡ matrix_width matrix → height ≡ length (rows matrix) → rows_of (matrix_width matrix) xs ≡ rows matrix → len ≡ length (rows matrix) * matrix_width matrix → Holds matrix width height xs
@@ -43,11 +37,12 @@ module _ {A : Type 0} (matrix : RowMajorMatrix A) (width height len : ℕ) (xs :
   held_by_new entries columns size = record { some = some; entries = entries; columns = columns; size = sym long ∙ size }
 
 module _ {A : Type 0} (F : FieldOps A) where
-  -- the root and the width by other names
-  pub values_at : (x y : A) (m n height : ℕ) (xs ys : List A) → x ≡ y → m ≡ n → HoldsValues F x m height xs ys → HoldsValues F y n height xs ys
-  values_at x y m n height xs ys e d known =
-      let Known : A → ℕ → Type 0 = λ x m. HoldsValues F x m height xs ys in
-      subst (λ m. Known y m) d (subst (λ x. Known x m) e known)
+  -- the root by another name
+  pub values_at : (x y : A) (width height : ℕ) (xs ys : List A) → x ≡ y → HoldsValues F x width height xs ys
+      → HoldsValues F y width height xs ys
+  values_at x y width height xs ys e known =
+      let Known : A → Type 0 = λ x. HoldsValues F x width height xs ys in
+      subst Known e known
 
   -- rows scaled by powers of the shift move the points to its coset
   pub coset_values : IsRing F → (one root shift : A) (width height : ℕ) (xs ss ys : List A) → one ≡ F.one

@@ -33,7 +33,7 @@ module _ {A : Type 0} (F : FieldOps A) (L : IsField F) (top : ℕ) (w : ℕ → 
   not_below : (i j : ℕ) → i < j → i ≡ j → ⊥
   not_below i j l e = omega (arith, l, e)
 
-  points_distinct : Distinct (subgroup_points F (w k) k)
+  pub points_distinct : Distinct (subgroup_points F (w k) k)
   points_distinct = distinct-tabulate (2 ^ k) (λ i. pow F (w k) i) (λ i j l m e. not_below i j l (powers_differ F L top w W k i j b (omega (arith, l, m)) m e))
 
   interpolates : (y : ℕ → A) → Interpolates F (subgroup_points F (w k) k) (tabulate (2 ^ k) y) (interpolant F (subgroup_points F (w k) k) (tabulate (2 ^ k) y))

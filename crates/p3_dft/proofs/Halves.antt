@@ -44,11 +44,11 @@ module _ {A : Type 0} (F : FieldOps A) (R : IsRing F) where
 
     -- the values at `r^m` and at `r^(2^s + m)`, where `r` has the order `2^(s + 1)`, from those at
     -- the square's power
-    pub butterfly_sum : (m : ℕ) → val F (tabulate (2 ^ s) g) (pow F v m) ⊕ val F (tabulate (2 ^ s) h) (pow F v m) ⊗ pow F r m ≡ val F (tabulate (2 ^ suc s) f) (pow F r m)
-    butterfly_sum m = ap (λ t. val F (tabulate (2 ^ s) g) (pow F v m) ⊕ t) (R.mul_comm (val F (tabulate (2 ^ s) h) (pow F v m)) (pow F r m)) ∙ sym (halves_at (pow F r m) (pow F v m) (squared m))
+    pub sum_is_value : (m : ℕ) → val F (tabulate (2 ^ s) g) (pow F v m) ⊕ val F (tabulate (2 ^ s) h) (pow F v m) ⊗ pow F r m ≡ val F (tabulate (2 ^ suc s) f) (pow F r m)
+    sum_is_value m = ap (λ t. val F (tabulate (2 ^ s) g) (pow F v m) ⊕ t) (R.mul_comm (val F (tabulate (2 ^ s) h) (pow F v m)) (pow F r m)) ∙ sym (halves_at (pow F r m) (pow F v m) (squared m))
 
-    pub butterfly_difference : (m : ℕ) → sub F (val F (tabulate (2 ^ s) g) (pow F v m)) (val F (tabulate (2 ^ s) h) (pow F v m) ⊗ pow F r m) ≡ val F (tabulate (2 ^ suc s) f) (pow F r (2 ^ s + m))
-    butterfly_difference m =
+    pub difference_is_value : (m : ℕ) → sub F (val F (tabulate (2 ^ s) g) (pow F v m)) (val F (tabulate (2 ^ s) h) (pow F v m) ⊗ pow F r m) ≡ val F (tabulate (2 ^ suc s) f) (pow F r (2 ^ s + m))
+    difference_is_value m =
         ring F R 3 (λ a p b. a :- b :* p := a :+ minus p :* b) refl (val F (tabulate (2 ^ s) g) (pow F v m)) (pow F r m) (val F (tabulate (2 ^ s) h) (pow F v m))
         ∙ sym (halves_at (neg (pow F r m)) (pow F v m) (ring F R 1 (λ x. minus x :* minus x := x :* x) refl (pow F r m) ∙ squared m))
         ∙ ap (λ x. val F (tabulate (2 ^ suc s) f) x) (sym (pow-add F R r (2 ^ s) m ∙ ap (λ x. x ⊗ pow F r m) half_turn ∙ ring F R 1 (λ x. minus :1 :* x := minus x) refl (pow F r m)))

@@ -3,7 +3,8 @@ pub mod Halves
 pub mod Sizes
 pub mod Pairs
 pub mod Parts
-pub mod Layers
+pub mod SameBlocks
+pub mod LayerSteps
 pub mod Lifts
 pub mod Coefficients
 pub mod Columns
@@ -11,3 +12,4 @@ pub mod Turns
 pub mod Batches
 pub mod SingleColumns
 pub mod Extensions
+pub mod ReversedColumns

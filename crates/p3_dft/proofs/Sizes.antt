@@ -1,10 +1,9 @@
 -- The sizes of a transform: of its blocks, of its strides, and powers of two as elements of a
 -- field.
 use Rattle.std.proofs.Common.{◌≡◌, ℕ, suc, ◌+◌, ◌-◌, ◌*◌, ◌/◌, ◌%◌, ◌^◌, ◌<◌, ◌≤◌, refl, sym, ap}
-use Rattle.std.proofs.Common.{ap₂, ◌∙◌, arith, Fits, w64}
+use Rattle.std.proofs.Common.{◌∙◌, arith}
 use Rattle.std.proofs.Math.Nat.{mul_assoc, pow-le-pow_right}
-use Rattle.std.proofs.Math.Facts.{Fits-of_lt}
-use Rattle.std.proofs.lemmas.Nat.{pow-add, pow_pos, div-add-mod', row_fits}
+use Rattle.std.proofs.lemmas.Nat.{pow-add, pow_pos, row_fits, mul-le, one_shl}
 use Rattle.algebra.specs.Field.{FieldOps, IsRing, multiple, pow}
 use Rattle.algebra.proofs.Ring.{◌:+◌, ◌:*◌, ◌:=◌, ring}
 use Rattle.algebra.proofs.RingLaws.{multiple-one, multiple-add}
@@ -16,30 +15,7 @@ double_next k = ap (λ n. 2 ^ n) (let e : k + 1 ≡ suc k = omega arith in e) �
 pub half_power : (k s : ℕ) → s < k → 2 ^ (k - s) ≡ 2 ^ (k - (s + 1)) + 2 ^ (k - (s + 1))
 half_power k s l = ap (λ n. 2 ^ n) (let e : k - s ≡ suc (k - (s + 1)) = omega (arith, l) in e) ∙ double (k - (s + 1))
 
--- a multiple of `p` is `p` times its quotient
-pub whole_size : (n p : ℕ) → n % p ≡ 0 → n ≡ p * (n / p)
-whole_size n p e = omega (arith, e, div-add-mod' n p)
-
 module _ (k s : ℕ) (below : s < k) where
-  pub stride_halved : (stride : ℕ) → stride ≡ 2 ^ (k - s) → stride / 2 ≡ 2 ^ (k - (s + 1))
-  stride_halved stride e = omega (arith, e, half_power k s below)
-
-  pub block_halved : (width block : ℕ) → block ≡ 2 ^ (k - s) * width → block / 2 ≡ 2 ^ (k - (s + 1)) * width
-  block_halved width block e = ap (λ n. n / 2) (e ∙ ap (λ n. n * width) (half_power k s below)) ∙ half_of (2 ^ (k - (s + 1))) width
-    where
-      half_of : (p w : ℕ) → (p + p) * w / 2 ≡ p * w
-      half_of p w = let e : (p + p) * w ≡ p * w + p * w = omega arith in omega (arith, e)
-
-  pub block_twice : (width block : ℕ) → block ≡ 2 ^ (k - s) * width → block / 2 + block / 2 ≡ block
-  block_twice width block e =
-      ap (λ n. n + n) (block_halved width block e)
-      ∙ sum_of (2 ^ (k - (s + 1))) width
-      ∙ ap (λ n. n * width) (sym (half_power k s below))
-      ∙ sym e
-    where
-      sum_of : (p w : ℕ) → p * w + p * w ≡ (p + p) * w
-      sum_of p w = omega arith
-
   -- the twiddles of a layer span half a turn
   pub half_of_all : 2 ^ s * 2 ^ (k - (s + 1)) ≡ 2 ^ (k - 1)
   half_of_all = sym (pow-add 2 s (k - (s + 1))) ∙ ap (λ n. 2 ^ n) (let e : s + (k - (s + 1)) ≡ k - 1 = omega (arith, below) in e)
@@ -65,14 +41,52 @@ all_blocks k s width block n l e all =
     ∙ mul_assoc (2 ^ s) (2 ^ (k - s)) width
     ∙ ap (λ t. 2 ^ s * t) (sym e)
 
--- so many pairs of half blocks are there
-pub pairs_of_blocks : (k s : ℕ) → s < k → (n block pairs : ℕ) → n % 2 ^ k ≡ 0 → block ≡ 2 ^ (k - s) * (n / 2 ^ k) → pairs ≡ 2 ^ s → n ≡ pairs * (block / 2 + block / 2)
-pairs_of_blocks k s below n block pairs whole e count =
-    all_blocks k s (n / 2 ^ k) block n (omega (arith, below)) e (whole_size n (2 ^ k) whole)
-    ∙ ap₂ (λ p b. p * b) (sym count) (sym (block_twice k s below (n / 2 ^ k) block e))
+-- what a call on the next layers computes: `blocks`, `stride` and the parts of the blocks
+module _ (k s : ℕ) (bound : k < 64) where
+  pub blocks_is : s < k → 1 * 2 ^ s % 2 ^ 64 ≡ 2 ^ s
+  blocks_is below = one_shl s 64 (omega (arith, below, bound))
 
-pub power_fits : (s k : ℕ) → s < k → k < 64 → Fits w64 (2 ^ s + 2 ^ s)
-power_fits s k below bound = Fits-of_lt {w = w64} {n = 2 ^ s + 2 ^ s} (omega (arith, double_next s, pow-le-pow_right {n = 2} (omega arith) {i = s + 1} {j = 63} (omega (arith, below, bound))))
+  pub stride_of_one : 1 * 2 ^ (k - s - 1) % 2 ^ 64 ≡ 2 ^ (k - (s + 1))
+  stride_of_one =
+      one_shl (k - s - 1) 64 (omega (arith, bound))
+      ∙ ap (λ n. 2 ^ n) (let e : k - s - 1 ≡ k - (s + 1) = omega arith in e)
+
+  pub stride_of_two : 1 * 2 ^ (k - s - 2) % 2 ^ 64 ≡ 2 ^ (k - (s + 1 + 1))
+  stride_of_two =
+      one_shl (k - s - 2) 64 (omega (arith, bound))
+      ∙ ap (λ n. 2 ^ n) (let e : k - s - 2 ≡ k - (s + 1 + 1) = omega arith in e)
+
+module _ (k s width : ℕ) where
+  halves_of : (part : ℕ) → s < k → part ≡ 2 ^ (k - (s + 1)) * width → part + part ≡ 2 ^ (k - s) * width
+  halves_of part below e =
+      ap (λ n. n + n) e ∙ sum_times (2 ^ (k - (s + 1))) width ∙ ap (λ n. n * width) (sym (half_power k s below))
+    where
+      sum_times : (p w : ℕ) → p * w + p * w ≡ (p + p) * w
+      sum_times p w = omega arith
+
+  blocks_of : (blocks size : ℕ) → s ≤ k → blocks ≡ 2 ^ s → size ≡ 2 ^ (k - s) * width → 2 ^ k * width ≡ blocks * size
+  blocks_of blocks size l count e =
+      all_blocks k s width size (2 ^ k * width) l e refl ∙ ap (λ n. n * size) (sym count)
+
+  pub size_of_halves : (blocks stride : ℕ) → s < k → blocks ≡ 2 ^ s → stride ≡ 2 ^ (k - (s + 1))
+      → 2 ^ k * width ≡ blocks * (stride * width + stride * width)
+  size_of_halves blocks stride below count e =
+      blocks_of blocks (stride * width + stride * width) (omega (arith, below)) count
+      (halves_of (stride * width) below (ap (λ n. n * width) e))
+
+  pub part_within : (n : ℕ) → 2 ^ (k - n) * width ≤ 2 ^ k * width
+  part_within n = mul-le (2 ^ (k - n)) width (2 ^ k) width (pow-le-pow_right {n = 2} (omega arith) {i = k - n} {j = k} (omega arith)) (omega arith)
+
+pub size_of_quarters : (k s width blocks stride : ℕ) → s + 1 < k → blocks ≡ 2 ^ s → stride ≡ 2 ^ (k - (s + 1 + 1))
+    → 2 ^ k * width ≡ blocks * (stride * width + stride * width + (stride * width + stride * width))
+size_of_quarters k s width blocks stride below count e =
+    blocks_of k s width blocks (stride * width + stride * width + (stride * width + stride * width))
+    (omega (arith, below)) count
+    (halves_of k s width (stride * width + stride * width) (omega (arith, below))
+    (halves_of k (s + 1) width (stride * width) below (ap (λ n. n * width) e)))
+
+pub power_below : (s : ℕ) → s < 62 → 2 ^ s < 2 ^ 63
+power_below s l = omega (arith, pow-le-pow_right {n = 2} (omega arith) {i = s} {j = 62} (omega (arith, l)))
 
 module _ {A : Type 0} (F : FieldOps A) (R : IsRing F) where
   pub size_of_none : F.mul (multiple F (2 ^ 0)) F.one ≡ F.one

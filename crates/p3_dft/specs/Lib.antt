@@ -1,7 +1,11 @@
 pub mod Evaluations
 pub mod Strided
+pub mod Butterflies
+pub mod CosetWords
 pub use Rattle.algebra.specs.Field
 pub use Rattle.algebra.specs.Polynomial
 pub use Rattle.algebra.specs.Interpolation
+pub use Rattle.algebra.specs.Words
 pub use Rattle.p3_field.specs.Coset
+pub use Rattle.p3_field.specs.Index
 pub use Rattle.p3_matrix.specs.Matrix

@@ -1,57 +1,75 @@
-//! One layer of a transform.
+//! Butterflies: what layers of a transform make of a block of entries.
 
-ghost use Rattle.std.specs.Prelude.{◌≡◌, ◌<◌, ◌≤◌, ◌+◌, ◌*◌, ℕ, length, slice_index_or};
-ghost use Rattle.algebra.specs.Field.{sub};
+ghost use Rattle.std.specs.Prelude.{◌≡◌, ◌<◌, ◌+◌, ℕ, length};
+ghost use Rattle.p3_dft.specs.Butterflies.{entry, sum_at, difference_at};
+ghost use Rattle.p3_dft.specs.Butterflies.{sum_of_sums, difference_of_sums};
+ghost use Rattle.p3_dft.specs.Butterflies.{sum_of_differences, difference_of_differences};
 
 use p3_field::{ExtensionField, Field};
 
-/// The sums and the differences of the entries of two rows, those of the second one times `twiddle`.
-fn butterflies<F: Field, EF: ExtensionField<F>>(
-    low: &[EF],
-    high: &[EF],
+/// One layer: the sums and the differences of the two halves of a block, the second one times
+/// `twiddle`.
+pub(crate) fn butterflies<F: Field, EF: ExtensionField<F>>(
+    block: &[EF],
     twiddle: F,
     sums: &mut [EF],
     differences: &mut [EF],
 )
-    requires high { length high.now ≡ length low.now }
-    requires sums { length sums.old ≡ length low.now }
-    requires differences { length differences.old ≡ length low.now }
-    ensures sums { (k : ℕ) (d : EF) → k < length low.now → slice_index_or sums.new k d ≡ EF.ops.add (slice_index_or low.now k d) (EF.ops.mul (slice_index_or high.now k d) (EF.lift twiddle)) }
-    ensures differences { (k : ℕ) (d : EF) → k < length low.now → slice_index_or differences.new k d ≡ sub EF.ops (slice_index_or low.now k d) (EF.ops.mul (slice_index_or high.now k d) (EF.lift twiddle)) }
+    requires block { length block.now ≡ length sums.old + length sums.old }
+    requires differences { length differences.old ≡ length sums.old }
+    ensures sums { (j : ℕ) (d : EF) → j < length sums.old → entry sums.new d j
+        ≡ sum_at EF.ops (entry block.now d) (EF.lift twiddle) (length sums.old) j }
+    ensures differences { (j : ℕ) (d : EF) → j < length sums.old → entry differences.new d j
+        ≡ difference_at EF.ops (entry block.now d) (EF.lift twiddle) (length sums.old) j }
 {
-    for k in 0..low.len() {
-        let product = high[k].scale(twiddle);
-        sums[k] = low[k] + product;
-        differences[k] = low[k] - product;
+    let half = sums.len();
+    let factor = twiddle.prepare();
+    for j in 0..half {
+        let product = block[j + half].scale_prepared(factor);
+        sums[j] = block[j] + product;
+        differences[j] = block[j] - product;
     }
 }
 
-/// Each pair of neighbouring blocks of `half` entries in the source, pair `m` with the twiddle at `m * stride`, gives
-/// a block of sums in the first half of the target and a block of differences in the second.
-pub(crate) fn layer<F: Field, EF: ExtensionField<F>>(
-    source: &[EF],
-    target: &mut [EF],
-    twiddles: &[F],
-    stride: usize,
-    pairs: usize,
-    half: usize,
+/// Two layers in one pass: the first with `twiddle`, and then on its sums with `even`, which gives
+/// `first` and `third`, and on its differences with `odd`, which gives `second` and `fourth`.
+pub(crate) fn double_butterflies<F: Field, EF: ExtensionField<F>>(
+    block: &[EF],
+    twiddle: F,
+    even: F,
+    odd: F,
+    first: &mut [EF],
+    second: &mut [EF],
+    third: &mut [EF],
+    fourth: &mut [EF],
 )
-    requires source { length source.now ≡ pairs * (half + half) }
-    requires target { length target.old ≡ pairs * (half + half) }
-    requires twiddles { (m : ℕ) → m < pairs → m * stride < length twiddles.now }
-    ensures sums { (m j : ℕ) (d : EF) (e : F) → m < pairs → j < half → slice_index_or target.new (m * half + j) d ≡ EF.ops.add (slice_index_or source.now (m * (half + half) + j) d) (EF.ops.mul (slice_index_or source.now (m * (half + half) + (j + half)) d) (EF.lift (slice_index_or twiddles.now (m * stride) e))) }
-    ensures differences { (m j : ℕ) (d : EF) (e : F) → m < pairs → j < half → slice_index_or target.new ((pairs + m) * half + j) d ≡ sub EF.ops (slice_index_or source.now (m * (half + half) + j) d) (EF.ops.mul (slice_index_or source.now (m * (half + half) + (j + half)) d) (EF.lift (slice_index_or twiddles.now (m * stride) e))) }
+    requires block { length block.now
+        ≡ length first.old + length first.old + (length first.old + length first.old) }
+    requires second { length second.old ≡ length first.old }
+    requires third { length third.old ≡ length first.old }
+    requires fourth { length fourth.old ≡ length first.old }
+    ensures first { (j : ℕ) (d : EF) → j < length first.old → entry first.new d j
+        ≡ sum_of_sums EF.ops (entry block.now d) (EF.lift twiddle) (EF.lift even) (length first.old) j }
+    ensures second { (j : ℕ) (d : EF) → j < length first.old → entry second.new d j
+        ≡ sum_of_differences EF.ops (entry block.now d) (EF.lift twiddle) (EF.lift odd) (length first.old) j }
+    ensures third { (j : ℕ) (d : EF) → j < length first.old → entry third.new d j
+        ≡ difference_of_sums EF.ops (entry block.now d) (EF.lift twiddle) (EF.lift even) (length first.old) j }
+    ensures fourth { (j : ℕ) (d : EF) → j < length first.old → entry fourth.new d j
+        ≡ difference_of_differences EF.ops (entry block.now d) (EF.lift twiddle) (EF.lift odd) (length first.old) j }
 {
-    let (sums, differences) = target.split_at_mut(pairs * half);
-    for m in 0..pairs {
-        let to = m * half;
-        let from = to + to;
-        butterflies(
-            &source[from..from + half],
-            &source[from + half..from + half + half],
-            twiddles[m * stride],
-            &mut sums[to..to + half],
-            &mut differences[to..to + half],
-        );
+    let quarter = first.len();
+    let half = quarter + quarter;
+    let (twiddle, even, odd) = (twiddle.prepare(), even.prepare(), odd.prepare());
+    for j in 0..quarter {
+        let product = block[j + half].scale_prepared(twiddle);
+        let next_product = block[j + quarter + half].scale_prepared(twiddle);
+        let sum = block[j] + product;
+        let difference = block[j] - product;
+        let even_product = (block[j + quarter] + next_product).scale_prepared(even);
+        let odd_product = (block[j + quarter] - next_product).scale_prepared(odd);
+        first[j] = sum + even_product;
+        second[j] = difference + odd_product;
+        third[j] = sum - even_product;
+        fourth[j] = difference - odd_product;
     }
 }

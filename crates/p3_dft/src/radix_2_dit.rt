@@ -1,12 +1,12 @@
 //! The transform by layers of butterflies.
 
-ghost use Rattle.std.specs.Prelude.{◌≡◌, ◌≢◌, ◌≤◌, ◌+◌, ◌*◌, ◌^◌, ℕ, IfOk, length, map, vec_len};
+ghost use Rattle.std.specs.Prelude.{◌≡◌, ◌≢◌, ◌≤◌, ◌+◌, ◌*◌, ◌^◌, ℕ, IfOk, length, vec_len};
 ghost use Rattle.std.specs.Int.{IsPowerOfTwo};
-ghost use Rattle.algebra.specs.Polynomial.{val};
-ghost use Rattle.algebra.specs.Interpolation.{Interpolates, interpolant};
+ghost use Rattle.algebra.specs.Interpolation.{Interpolates};
 ghost use Rattle.p3_field.specs.Coset.{coset_points};
 ghost use Rattle.p3_matrix.specs.Matrix.{rows};
-ghost use Rattle.p3_dft.specs.Evaluations.{subgroup_points, AreEvaluations, AreExtensions};
+ghost use Rattle.p3_dft.specs.Evaluations.{subgroup_points, AreEvaluations};
+ghost use Rattle.p3_dft.specs.Evaluations.{extension, AreCosetExtensions};
 
 use crate::scaling::scale_rows;
 use crate::traits::TwoAdicSubgroupDft;
@@ -35,12 +35,13 @@ impl<F: TwoAdicField> TwoAdicSubgroupDft<F> for Radix2Dit<F> {
     ) -> Result<RowMajorMatrix<F>, AllocError>
         requires power_of_two { IsPowerOfTwo (length (rows coefficients)) }
         requires within_two_adicity { length (rows coefficients) ≤ 2 ^ F.TWO_ADICITY }
-        ensures { (k : ℕ) → length (rows coefficients) ≡ 2 ^ k → IfOk result (λ values. AreEvaluations F.ops (subgroup_points F.ops (F.root k) k) coefficients values) }
+        ensures { (k : ℕ) → length (rows coefficients) ≡ 2 ^ k → IfOk result (λ values.
+            AreEvaluations F.ops (subgroup_points F.ops (F.root k) k) coefficients values) }
     {
         let width = coefficients.width();
         let log_height = log2_strict_usize(coefficients.height());
         let root = F::two_adic_generator(log_height);
-        let values = transform(alloc, coefficients.into_values(), log_height, root)?;
+        let values = transform(alloc, coefficients.into_values(), width, log_height, root)?;
         Ok(RowMajorMatrix::new(values, width))
     }
 
@@ -52,7 +53,8 @@ impl<F: TwoAdicField> TwoAdicSubgroupDft<F> for Radix2Dit<F> {
     ) -> Result<RowMajorMatrix<F>, AllocError>
         requires power_of_two { IsPowerOfTwo (length (rows coefficients)) }
         requires within_two_adicity { length (rows coefficients) ≤ 2 ^ F.TWO_ADICITY }
-        ensures { (k : ℕ) → length (rows coefficients) ≡ 2 ^ k → IfOk result (λ values. AreEvaluations F.ops (coset_points F.ops (F.root k) shift k) coefficients values) }
+        ensures { (k : ℕ) → length (rows coefficients) ≡ 2 ^ k → IfOk result (λ values.
+            AreEvaluations F.ops (coset_points F.ops (F.root k) shift k) coefficients values) }
     {
         let width = coefficients.width();
         let height = coefficients.height();
@@ -60,7 +62,7 @@ impl<F: TwoAdicField> TwoAdicSubgroupDft<F> for Radix2Dit<F> {
         let root = F::two_adic_generator(log_height);
         let mut scaled = coefficients.into_values();
         scale_rows(&mut scaled, width, height, F::ONE, shift);
-        let values = transform(alloc, scaled, log_height, root)?;
+        let values = transform(alloc, scaled, width, log_height, root)?;
         Ok(RowMajorMatrix::new(values, width))
     }
 
@@ -73,7 +75,8 @@ impl<F: TwoAdicField> TwoAdicSubgroupDft<F> for Radix2Dit<F> {
         requires power_of_two { IsPowerOfTwo (length (rows values)) }
         requires within_two_adicity { length (rows values) ≤ 2 ^ F.TWO_ADICITY }
         requires nonzero { shift ≢ F.ops.zero }
-        ensures { (k : ℕ) → length (rows values) ≡ 2 ^ k → IfOk result (λ coefficients. AreEvaluations F.ops (coset_points F.ops (F.root k) shift k) coefficients values) }
+        ensures { (k : ℕ) → length (rows values) ≡ 2 ^ k → IfOk result (λ coefficients.
+            AreEvaluations F.ops (coset_points F.ops (F.root k) shift k) coefficients values) }
     {
         let width = values.width();
         let log_height = log2_strict_usize(values.height());
@@ -96,7 +99,8 @@ impl<F: TwoAdicField> TwoAdicSubgroupDft<F> for Radix2Dit<F> {
     ) -> Result<RowMajorMatrix<F>, AllocError>
         requires power_of_two { IsPowerOfTwo (length (rows values)) }
         requires within_two_adicity { length (rows values) * 2 ^ added_bits ≤ 2 ^ F.TWO_ADICITY }
-        ensures { (k : ℕ) → length (rows values) ≡ 2 ^ k → IfOk result (λ extended. AreExtensions F.ops (subgroup_points F.ops (F.root k) k) (coset_points F.ops (F.root (k + added_bits)) shift (k + added_bits)) values extended) }
+        ensures { (k : ℕ) → length (rows values) ≡ 2 ^ k → IfOk result (λ extended.
+            AreCosetExtensions F.ops F.root shift k added_bits values extended) }
     {
         let width = values.width();
         let log_height = log2_strict_usize(values.height());
@@ -107,7 +111,7 @@ impl<F: TwoAdicField> TwoAdicSubgroupDft<F> for Radix2Dit<F> {
         let mut coefficients = interpolate(alloc, values.into_values(), width, log_height, shift)?;
         coefficients.resize(size, F::ZERO)?;
         let root = F::two_adic_generator(log_extended);
-        let extended = transform(alloc, coefficients, log_extended, root)?;
+        let extended = transform(alloc, coefficients, width, log_extended, root)?;
         Ok(RowMajorMatrix::new(extended, width))
     }
 
@@ -120,7 +124,9 @@ impl<F: TwoAdicField> TwoAdicSubgroupDft<F> for Radix2Dit<F> {
     ) -> Result<Vec<F>, AllocError>
         requires power_of_two { IsPowerOfTwo (vec_len column) }
         requires within_two_adicity { vec_len column * 2 ^ added_bits ≤ 2 ^ F.TWO_ADICITY }
-        ensures { (k : ℕ) → vec_len column ≡ 2 ^ k → IfOk result (λ extended. extended.items ≡ map (λ x. val F.ops (interpolant F.ops (subgroup_points F.ops (F.root k) k) column.items) x) (coset_points F.ops (F.root (k + added_bits)) shift (k + added_bits))) }
+        ensures { (k : ℕ) → vec_len column ≡ 2 ^ k → IfOk result (λ extended.
+            extended.items ≡ extension F.ops (subgroup_points F.ops (F.root k) k)
+            (coset_points F.ops (F.root (k + added_bits)) shift (k + added_bits)) column.items) }
     {
         let matrix = RowMajorMatrix::new(column, 1);
         let extended = self.coset_lde_batch(alloc, matrix, added_bits, shift)?;
@@ -134,7 +140,9 @@ impl<F: TwoAdicField> TwoAdicSubgroupDft<F> for Radix2Dit<F> {
     ) -> Result<Vec<EF>, AllocError>
         requires power_of_two { IsPowerOfTwo (vec_len values) }
         requires within_two_adicity { vec_len values ≤ 2 ^ F.TWO_ADICITY }
-        ensures { (k : ℕ) → vec_len values ≡ 2 ^ k → IfOk result (λ coefficients. Interpolates EF.ops (subgroup_points EF.ops (EF.lift (F.root k)) k) values.items coefficients.items) }
+        ensures { (k : ℕ) → vec_len values ≡ 2 ^ k → IfOk result (λ coefficients.
+            Interpolates EF.ops (subgroup_points EF.ops (EF.lift (F.root k)) k)
+            values.items coefficients.items) }
     {
         let log_height = log2_strict_usize(values.len());
         interpolate(alloc, values, 1, log_height, F::ONE)

@@ -33,10 +33,13 @@ pub(crate) fn inverse_of_size<F: Field>(log_size: usize) -> F
 
 /// Each entry times the factor.
 fn scale_row<F: Field, EF: ExtensionField<F>>(entries: &mut [EF], factor: F)
-    ensures { (k : ℕ) (d : EF) → k < length entries.old → slice_index_or entries.new k d ≡ EF.ops.mul (slice_index_or entries.old k d) (EF.lift factor) }
+    ensures { (k : ℕ) (d : EF) → k < length entries.old
+        → slice_index_or entries.new k d
+        ≡ EF.ops.mul (slice_index_or entries.old k d) (EF.lift factor) }
 {
+    let prepared = factor.prepare();
     for k in 0..entries.len() {
-        entries[k] = entries[k].scale(factor);
+        entries[k] = entries[k].scale_prepared(prepared);
     }
 }
 
@@ -49,7 +52,10 @@ pub(crate) fn scale_rows<F: Field, EF: ExtensionField<F>>(
     ratio: F,
 )
     requires { length values.old ≡ height * width }
-    ensures { (i j : ℕ) (d : EF) → i < height → j < width → slice_index_or values.new (i * width + j) d ≡ EF.ops.mul (slice_index_or values.old (i * width + j) d) (EF.lift (F.ops.mul first (pow F.ops ratio i))) }
+    ensures { (i j : ℕ) (d : EF) → i < height → j < width
+        → slice_index_or values.new (i * width + j) d
+        ≡ EF.ops.mul (slice_index_or values.old (i * width + j) d)
+        (EF.lift (F.ops.mul first (pow F.ops ratio i))) }
 {
     let mut factor = first;
     for i in 0..height {

@@ -1,12 +1,12 @@
 //! What a transform does.
 
-ghost use Rattle.std.specs.Prelude.{◌≡◌, ◌≢◌, ◌≤◌, ◌+◌, ◌*◌, ◌^◌, ℕ, IfOk, length, map, vec_len};
+ghost use Rattle.std.specs.Prelude.{◌≡◌, ◌≢◌, ◌≤◌, ◌+◌, ◌*◌, ◌^◌, ℕ, IfOk, length, vec_len};
 ghost use Rattle.std.specs.Int.{IsPowerOfTwo};
-ghost use Rattle.algebra.specs.Polynomial.{val};
-ghost use Rattle.algebra.specs.Interpolation.{Interpolates, interpolant};
+ghost use Rattle.algebra.specs.Interpolation.{Interpolates};
 ghost use Rattle.p3_field.specs.Coset.{coset_points};
 ghost use Rattle.p3_matrix.specs.Matrix.{rows};
-ghost use Rattle.p3_dft.specs.Evaluations.{subgroup_points, AreEvaluations, AreExtensions};
+ghost use Rattle.p3_dft.specs.Evaluations.{subgroup_points, AreEvaluations};
+ghost use Rattle.p3_dft.specs.Evaluations.{extension, AreCosetExtensions};
 
 use p3_field::{ExtensionField, TwoAdicField};
 use p3_matrix::RowMajorMatrix;
@@ -24,7 +24,8 @@ pub trait TwoAdicSubgroupDft<F: TwoAdicField> {
     ) -> Result<RowMajorMatrix<F>, AllocError>
         requires power_of_two { IsPowerOfTwo (length (rows coefficients)) }
         requires within_two_adicity { length (rows coefficients) ≤ 2 ^ F.TWO_ADICITY }
-        ensures { (k : ℕ) → length (rows coefficients) ≡ 2 ^ k → IfOk result (λ values. AreEvaluations F.ops (subgroup_points F.ops (F.root k) k) coefficients values) };
+        ensures { (k : ℕ) → length (rows coefficients) ≡ 2 ^ k → IfOk result (λ values.
+            AreEvaluations F.ops (subgroup_points F.ops (F.root k) k) coefficients values) };
 
     /// From coefficients to the values at `shift * w^i`.
     fn coset_dft_batch(
@@ -35,7 +36,8 @@ pub trait TwoAdicSubgroupDft<F: TwoAdicField> {
     ) -> Result<RowMajorMatrix<F>, AllocError>
         requires power_of_two { IsPowerOfTwo (length (rows coefficients)) }
         requires within_two_adicity { length (rows coefficients) ≤ 2 ^ F.TWO_ADICITY }
-        ensures { (k : ℕ) → length (rows coefficients) ≡ 2 ^ k → IfOk result (λ values. AreEvaluations F.ops (coset_points F.ops (F.root k) shift k) coefficients values) };
+        ensures { (k : ℕ) → length (rows coefficients) ≡ 2 ^ k → IfOk result (λ values.
+            AreEvaluations F.ops (coset_points F.ops (F.root k) shift k) coefficients values) };
 
     /// From the values at `shift * w^i` to the coefficients. The shift isn't zero.
     fn coset_idft_batch(
@@ -47,7 +49,8 @@ pub trait TwoAdicSubgroupDft<F: TwoAdicField> {
         requires power_of_two { IsPowerOfTwo (length (rows values)) }
         requires within_two_adicity { length (rows values) ≤ 2 ^ F.TWO_ADICITY }
         requires nonzero { shift ≢ F.ops.zero }
-        ensures { (k : ℕ) → length (rows values) ≡ 2 ^ k → IfOk result (λ coefficients. AreEvaluations F.ops (coset_points F.ops (F.root k) shift k) coefficients values) };
+        ensures { (k : ℕ) → length (rows values) ≡ 2 ^ k → IfOk result (λ coefficients.
+            AreEvaluations F.ops (coset_points F.ops (F.root k) shift k) coefficients values) };
 
     /// From the values at `w^i` to those at `shift * v^i`, where `v` is the root of unity of an order `2^added_bits`
     /// times as large: for each column the values of the one polynomial with as many coefficients as values were
@@ -61,7 +64,8 @@ pub trait TwoAdicSubgroupDft<F: TwoAdicField> {
     ) -> Result<RowMajorMatrix<F>, AllocError>
         requires power_of_two { IsPowerOfTwo (length (rows values)) }
         requires within_two_adicity { length (rows values) * 2 ^ added_bits ≤ 2 ^ F.TWO_ADICITY }
-        ensures { (k : ℕ) → length (rows values) ≡ 2 ^ k → IfOk result (λ extended. AreExtensions F.ops (subgroup_points F.ops (F.root k) k) (coset_points F.ops (F.root (k + added_bits)) shift (k + added_bits)) values extended) };
+        ensures { (k : ℕ) → length (rows values) ≡ 2 ^ k → IfOk result (λ extended.
+            AreCosetExtensions F.ops F.root shift k added_bits values extended) };
 
     /// The same for one column.
     fn coset_lde(
@@ -73,7 +77,9 @@ pub trait TwoAdicSubgroupDft<F: TwoAdicField> {
     ) -> Result<Vec<F>, AllocError>
         requires power_of_two { IsPowerOfTwo (vec_len column) }
         requires within_two_adicity { vec_len column * 2 ^ added_bits ≤ 2 ^ F.TWO_ADICITY }
-        ensures { (k : ℕ) → vec_len column ≡ 2 ^ k → IfOk result (λ extended. extended.items ≡ map (λ x. val F.ops (interpolant F.ops (subgroup_points F.ops (F.root k) k) column.items) x) (coset_points F.ops (F.root (k + added_bits)) shift (k + added_bits))) };
+        ensures { (k : ℕ) → vec_len column ≡ 2 ^ k → IfOk result (λ extended.
+            extended.items ≡ extension F.ops (subgroup_points F.ops (F.root k) k)
+            (coset_points F.ops (F.root (k + added_bits)) shift (k + added_bits)) column.items) };
 
     /// From the values at `w^i` of a polynomial over an extension field to its coefficients.
     fn idft_algebra<EF: ExtensionField<F>>(
@@ -83,5 +89,7 @@ pub trait TwoAdicSubgroupDft<F: TwoAdicField> {
     ) -> Result<Vec<EF>, AllocError>
         requires power_of_two { IsPowerOfTwo (vec_len values) }
         requires within_two_adicity { vec_len values ≤ 2 ^ F.TWO_ADICITY }
-        ensures { (k : ℕ) → vec_len values ≡ 2 ^ k → IfOk result (λ coefficients. Interpolates EF.ops (subgroup_points EF.ops (EF.lift (F.root k)) k) values.items coefficients.items) };
+        ensures { (k : ℕ) → vec_len values ≡ 2 ^ k → IfOk result (λ coefficients.
+            Interpolates EF.ops (subgroup_points EF.ops (EF.lift (F.root k)) k)
+            values.items coefficients.items) };
 }

@@ -1,5 +1,6 @@
-//! Finite fields and their extensions: the traits that the layers above are generic over, and the field
-//! BabyBear with its extension of degree 4. A facade: `p3_field_core` and `p3_baby_bear` hold the code.
+//! Finite fields and their extensions: the traits that the layers above are generic over, and the
+//! field BabyBear with its extension of degree 4. A facade: `p3_field_core` and `p3_baby_bear` hold
+//! the code.
 #![tactic(auto)]
 
 pub mod laws;
@@ -13,8 +14,9 @@ pub use p3_field_core::element_bytes::ElementBytes;
 pub use p3_field_core::extension::ExtensionField;
 pub use p3_field_core::field::Field;
 pub use p3_field_core::index::{log2_strict_usize, reverse_bits_len, reverse_slice_index_bits};
+pub use p3_field_core::powers::{bit_reversed_powers, shifted_powers};
 pub use p3_field_core::prime_field::PrimeField64;
 pub use p3_field_core::two_adic::TwoAdicField;
 pub use p3_field_core::{
-    batch_inverse, coset, element_bytes, extension, field, index, prime_field, two_adic,
+    batch_inverse, coset, element_bytes, extension, field, index, powers, prime_field, two_adic,
 };

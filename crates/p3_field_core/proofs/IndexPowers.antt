@@ -1,5 +1,6 @@
 -- Powers of two: their exponent, std's test of them, and the zeros below their one.
-use Rattle.std.proofs.Common.{◌≡◌, ℕ, zero, suc, ◌+◌, ◌/◌, ◌%◌, ◌^◌, ◌<◌, ◌≤◌, refl, sym, ap, ap₂, ◌∙◌, arith, ◌↔◌, IsTrue, count_ones, eq-eqb, eqb-true}
+use Rattle.std.proofs.Common.{◌≡◌, ℕ, zero, suc, ◌+◌, ◌/◌, ◌%◌, ◌^◌, ◌<◌, ◌≤◌, refl, sym, ap, ap₂}
+use Rattle.std.proofs.Common.{◌∙◌, arith, ◌↔◌, IsTrue, count_ones, eq-eqb, eqb-true}
 use Rattle.std.specs.Int.{IsPowerOfTwo, is_power_of_two}
 use Rattle.std.specs.Int.Count.{count_trailing_zeros, under, ones_step}
 use Rattle.std.proofs.lemmas.Nat.{pow_below, zero_from_ones, ones_le_self}
@@ -28,18 +29,23 @@ count_trailing_zeros-pow (suc bits) (suc k) l =
     ap₂ (λ d n. under d (count_trailing_zeros bits n)) (double_even k) (double_halved k)
     ∙ ap suc (count_trailing_zeros-pow bits k (omega (arith, l)))
 
-pub pow-count_trailing_zeros : (bits n : ℕ) → IsPowerOfTwo n → n < 2 ^ bits → 2 ^ count_trailing_zeros bits n ≡ n
+pub pow-count_trailing_zeros : (bits n : ℕ) → IsPowerOfTwo n → n < 2 ^ bits
+    → 2 ^ count_trailing_zeros bits n ≡ n
 pow-count_trailing_zeros bits n (k, e) l =
     ap (λ m. 2 ^ count_trailing_zeros bits m) e
-    ∙ ap (λ j. 2 ^ j) (count_trailing_zeros-pow bits k (exponent_below k bits (omega (arith, e, l))))
+    ∙ ap (λ j. 2 ^ j) (count_trailing_zeros-pow bits k
+    (exponent_below k bits (omega (arith, e, l))))
     ∙ sym e
 
 count_ones-pow : (k : ℕ) → count_ones (2 ^ k) ≡ 1
 count_ones-pow zero = ones_step 1 ∙ omega (arith, ones_le_self 0)
-count_ones-pow (suc k) = ones_step (2 ^ suc k) ∙ ap₂ (λ d n. d + count_ones n) (double_even k) (double_halved k) ∙ omega (arith, count_ones-pow k)
+count_ones-pow (suc k) =
+    ones_step (2 ^ suc k) ∙ ap₂ (λ d n. d + count_ones n) (double_even k) (double_halved k)
+    ∙ omega (arith, count_ones-pow k)
 
 -- by the lowest digit `digit` of `n`: 1 with no others set, or 0 over one more
-from_lowest : (n digit : ℕ) → n % 2 ≡ digit → count_ones n ≡ 1 → (count_ones (n / 2) ≡ 1 → IsPowerOfTwo (n / 2)) → IsPowerOfTwo n
+from_lowest : (n digit : ℕ) → n % 2 ≡ digit → count_ones n ≡ 1
+    → (count_ones (n / 2) ≡ 1 → IsPowerOfTwo (n / 2)) → IsPowerOfTwo n
 from_lowest n zero even one half =
     let h = half (omega (arith, even, one, ones_step n)) in
     (suc h.0, omega (arith, even, h.1, double h.0))
@@ -49,7 +55,8 @@ from_lowest n (suc digit) odd one half =
 
 from_one_one : (most n : ℕ) → n ≤ most → count_ones n ≡ 1 → IsPowerOfTwo n
 from_one_one zero n le one = absurd (omega (arith, le, one, ones_le_self n))
-from_one_one (suc most) n le one = from_lowest n (n % 2) refl one (from_one_one most (n / 2) (omega (arith, le)))
+from_one_one (suc most) n le one =
+    from_lowest n (n % 2) refl one (from_one_one most (n / 2) (omega (arith, le)))
 
 -- the test `n.is_power_of_two()` passes the powers of two, and no other number
 pub IsPowerOfTwo_test : (n : ℕ) → IsTrue (is_power_of_two n) ↔ IsPowerOfTwo n

@@ -1,5 +1,6 @@
 -- Counting up with the digits reversed: from `rev k i` to `rev k (suc i)` by one exclusive or.
-use Rattle.std.proofs.Common.{◌≡◌, ℕ, zero, suc, ◌+◌, ◌-◌, ◌*◌, ◌/◌, ◌%◌, ◌^◌, ◌<◌, ◌≤◌, refl, sym, ap, ap₂, ◌∙◌, subst, arith, bit_xor}
+use Rattle.std.proofs.Common.{◌≡◌, ℕ, zero, suc, ◌+◌, ◌-◌, ◌*◌, ◌/◌, ◌%◌, ◌^◌, ◌<◌, ◌≤◌, refl, sym}
+use Rattle.std.proofs.Common.{ap, ap₂, ◌∙◌, subst, arith, bit_xor}
 use Rattle.std.specs.Int.{IsPowerOfTwo}
 use Rattle.std.specs.Int.Count.{count_trailing_zeros, under}
 use Rattle.std.specs.Int.Bits.{xor_zero_l, xor_zero_r, xor_self}
@@ -18,13 +19,15 @@ below_digit zero t k h = omega (arith, h refl)
 below_digit (suc digit) t k h = omega arith
 
 -- a number of `k` digits, not 0, has fewer than `k` zeros at its end
-pub count_trailing_zeros-lt : (bits k i : ℕ) → k ≤ bits → 0 < i → i < 2 ^ k → count_trailing_zeros bits i < k
+pub count_trailing_zeros-lt : (bits k i : ℕ) → k ≤ bits → 0 < i → i < 2 ^ k
+    → count_trailing_zeros bits i < k
 unfolding count_trailing_zeros
 count_trailing_zeros-lt bits zero i le some small = absurd (omega (arith, some, small))
 count_trailing_zeros-lt zero (suc k) i le some small = absurd (omega (arith, le))
 count_trailing_zeros-lt (suc bits) (suc k) i le some small =
     below_digit (i % 2) (count_trailing_zeros bits (i / 2)) k
-    (λ even. count_trailing_zeros-lt bits k (i / 2) (omega (arith, le)) (omega (arith, even, some)) (halved k i small))
+    (λ even. count_trailing_zeros-lt bits k (i / 2) (omega (arith, le)) (omega (arith, even, some))
+    (halved k i small))
 
 -- the number of `k` digits of which the `t + 1` highest are ones
 abbrev highest : ℕ → ℕ → ℕ
@@ -46,19 +49,22 @@ highest-suc k t = omega (arith, shifted, double k, shr_le (2 ^ k) (t + 1))
 highest-lt : (k t : ℕ) → t < k → highest k t < 2 ^ k
 highest-lt zero t l = absurd (omega (arith, l))
 highest-lt (suc k) zero l = omega (arith, highest-zero k, double k, pow_pos k)
-highest-lt (suc k) (suc t) l = omega (arith, highest-suc k t, double k, highest-lt k t (omega (arith, l)))
+highest-lt (suc k) (suc t) l =
+    omega (arith, highest-suc k t, double k, highest-lt k t (omega (arith, l)))
 
 -- of two numbers of `k` digits, the digit above them taken on
 xor_above : (k r : ℕ) → r < 2 ^ k → bit_xor r (2 ^ k) ≡ 2 ^ k + r
 xor_above k r l =
-    ap₂ (λ a b. bit_xor a b) (let e : r ≡ 0 * 2 ^ k + r = omega arith in e) (let e : 2 ^ k ≡ 1 * 2 ^ k + 0 = omega arith in e)
+    ap₂ (λ a b. bit_xor a b) (let e : r ≡ 0 * 2 ^ k + r = omega arith in e)
+    (let e : 2 ^ k ≡ 1 * 2 ^ k + 0 = omega arith in e)
     ∙ xor_block k 0 1 r 0 l (pow_pos k)
     ∙ ap₂ (λ a b. a * 2 ^ k + b) (xor_zero_l 1) (xor_zero_r r)
     ∙ omega arith
 
 xor_both_above : (k r s : ℕ) → r < 2 ^ k → s < 2 ^ k → bit_xor (2 ^ k + r) (2 ^ k + s) ≡ bit_xor r s
 xor_both_above k r s l m =
-    ap₂ (λ a b. bit_xor a b) (let e : 2 ^ k + r ≡ 1 * 2 ^ k + r = omega arith in e) (let e : 2 ^ k + s ≡ 1 * 2 ^ k + s = omega arith in e)
+    ap₂ (λ a b. bit_xor a b) (let e : 2 ^ k + r ≡ 1 * 2 ^ k + r = omega arith in e)
+    (let e : 2 ^ k + s ≡ 1 * 2 ^ k + s = omega arith in e)
     ∙ xor_block k 1 1 r s l m
     ∙ ap (λ a. a * 2 ^ k + bit_xor r s) (xor_self 1)
     ∙ omega arith
@@ -71,36 +77,48 @@ from_even : (bits k m : ℕ) → Steps (suc bits) (suc k) (m + m)
 unfolding Steps count_trailing_zeros
 from_even bits k m =
     ap₂ (λ r s. bit_xor r s) (rev-even k m)
-    (ap (λ d. highest (suc k) (under d (count_trailing_zeros bits (suc (m + m) / 2)))) (let e : suc (m + m) % 2 ≡ 1 = omega arith in e) ∙ highest-zero k)
+    (ap (λ d. highest (suc k) (under d (count_trailing_zeros bits (suc (m + m) / 2))))
+    (let e : suc (m + m) % 2 ≡ 1 = omega arith in e) ∙ highest-zero k)
     ∙ xor_above k (rev k m) (rev-lt k m)
     ∙ sym (rev-odd k m)
 
-from_odd : (bits k m : ℕ) → k ≤ bits → suc m < 2 ^ k → Steps bits k m → Steps (suc bits) (suc k) (suc (m + m))
+from_odd : (bits k m : ℕ) → k ≤ bits → suc m < 2 ^ k → Steps bits k m
+    → Steps (suc bits) (suc k) (suc (m + m))
 unfolding Steps count_trailing_zeros
 from_odd bits k m le small half =
     ap₂ (λ r s. bit_xor r s) (rev-odd k m)
-    (ap₂ (λ d n. highest (suc k) (under d (count_trailing_zeros bits n))) (let e : suc (suc (m + m)) % 2 ≡ 0 = omega arith in e) (let e : suc (suc (m + m)) / 2 ≡ suc m = omega arith in e) ∙ highest-suc k t)
-    ∙ xor_both_above k (rev k m) (highest k t) (rev-lt k m) (highest-lt k t (count_trailing_zeros-lt bits k (suc m) le (omega arith) small))
+    (ap₂ (λ d n. highest (suc k) (under d (count_trailing_zeros bits n)))
+    (let e : suc (suc (m + m)) % 2 ≡ 0 = omega arith in e)
+    (let e : suc (suc (m + m)) / 2 ≡ suc m = omega arith in e) ∙ highest-suc k t)
+    ∙ xor_both_above k (rev k m) (highest k t) (rev-lt k m)
+    (highest-lt k t (count_trailing_zeros-lt bits k (suc m) le (omega arith) small))
     ∙ half
-    ∙ sym (ap (λ n. rev (suc k) n) (let e : suc (suc (m + m)) ≡ suc m + suc m = omega arith in e) ∙ rev-even k (suc m))
+    ∙ sym (ap (λ n. rev (suc k) n) (let e : suc (suc (m + m)) ≡ suc m + suc m = omega arith in e)
+    ∙ rev-even k (suc m))
   where
     t : ℕ
     t = count_trailing_zeros bits (suc m)
 
-by_lowest : (bits k i digit : ℕ) → i % 2 ≡ digit → k ≤ bits → suc i < 2 ^ suc k → (suc (i / 2) < 2 ^ k → Steps bits k (i / 2)) → Steps (suc bits) (suc k) i
-by_lowest bits k i zero even le small half = subst (λ n. Steps (suc bits) (suc k) n) (omega (arith, even)) (from_even bits k (i / 2))
+by_lowest : (bits k i digit : ℕ) → i % 2 ≡ digit → k ≤ bits → suc i < 2 ^ suc k
+    → (suc (i / 2) < 2 ^ k → Steps bits k (i / 2)) → Steps (suc bits) (suc k) i
+by_lowest bits k i zero even le small half =
+    subst (λ n. Steps (suc bits) (suc k) n) (omega (arith, even)) (from_even bits k (i / 2))
 by_lowest bits k i (suc digit) odd le small half =
     let next : suc (i / 2) < 2 ^ k = omega (arith, odd, small, double k) in
-    subst (λ n. Steps (suc bits) (suc k) n) (omega (arith, odd)) (from_odd bits k (i / 2) le next (half next))
+    subst (λ n. Steps (suc bits) (suc k) n) (omega (arith, odd))
+    (from_odd bits k (i / 2) le next (half next))
 
 steps : (bits k i : ℕ) → k ≤ bits → suc i < 2 ^ k → Steps bits k i
 steps bits zero i le small = absurd (omega (arith, small))
 steps zero (suc k) i le small = absurd (omega (arith, le))
-steps (suc bits) (suc k) i le small = by_lowest bits k i (i % 2) refl (omega (arith, le)) small (λ next. steps bits k (i / 2) (omega (arith, le)) next)
+steps (suc bits) (suc k) i le small =
+    by_lowest bits k i (i % 2) refl (omega (arith, le)) small
+    (λ next. steps bits k (i / 2) (omega (arith, le)) next)
 
 module _ (n i : ℕ) (small : n < 2 ^ 64) (some : 0 < i) (within : i < n) where
   -- the step of a loop over the indices of a list of `n` entries, from `i - 1` to `i`
-  pub bit_xor-highest : (k j : ℕ) → n ≡ 2 ^ k → j ≡ rev k (i - 1) → bit_xor j (n - n / 2 ^ (count_trailing_zeros 64 i + 1)) ≡ rev k i
+  pub bit_xor-highest : (k j : ℕ) → n ≡ 2 ^ k → j ≡ rev k (i - 1)
+      → bit_xor j (n - n / 2 ^ (count_trailing_zeros 64 i + 1)) ≡ rev k i
   unfolding Steps
   bit_xor-highest k j e reversed =
       let next : suc (i - 1) ≡ i = omega (arith, some) in
@@ -113,4 +131,9 @@ module _ (n i : ℕ) (small : n < 2 ^ 64) (some : 0 < i) (within : i < n) where
   pub shift_fits : IsPowerOfTwo n → count_trailing_zeros 64 i + 1 < 64
   shift_fits (k, e) =
       let digits : k < 64 = exponent_below k 64 (omega (arith, small, e)) in
-      omega (arith, digits, count_trailing_zeros-lt 64 k i (omega (arith, digits)) some (omega (arith, within, e)))
+      omega (
+        arith,
+        digits,
+        count_trailing_zeros-lt 64 k i (omega (arith, digits)) some
+            (omega (arith, within, e)),
+      )

@@ -1,4 +1,6 @@
 pub mod Cosets
+pub mod Halving
+pub mod IndexBlocks
 pub mod IndexPowers
 pub mod IndexReversal
 pub mod IndexSteps

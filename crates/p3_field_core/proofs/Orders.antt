@@ -6,10 +6,13 @@ use Rattle.algebra.proofs.Powers.{pow-zero}
 use Rattle.algebra.proofs.Points.{full_turn, powers_differ}
 use Rattle.p3_field_core.specs.Order.{HasOrder}
 
-pub root_order : {A : Type 0} (F : FieldOps A) → IsField F → (top : ℕ) (w : ℕ → A) → AreRoots F top w → (k : ℕ) → k ≤ top → HasOrder F (w k) (2 ^ k)
+pub root_order : {A : Type 0} (F : FieldOps A) → IsField F → (top : ℕ) (w : ℕ → A)
+    → AreRoots F top w → (k : ℕ) → k ≤ top → HasOrder F (w k) (2 ^ k)
 root_order F L top w W k b = record {
   turns = full_turn F L top w W k b;
-  least = λ m pos less e. zero_not_below m pos (sym (powers_differ F L top w W k 0 m b (omega (arith, pos, less)) less (pow-zero F (w k) ∙ sym e)));
+  least = λ m pos less e. zero_not_below m pos
+      (sym (powers_differ F L top w W k 0 m b (omega (arith, pos, less)) less
+      (pow-zero F (w k) ∙ sym e)));
 }
   where
     zero_not_below : (m : ℕ) → 0 < m → m ≡ 0 → ⊥

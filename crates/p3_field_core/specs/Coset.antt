@@ -1,5 +1,6 @@
 -- Cosets of the two-adic subgroups, in natural order.
 use Rattle.std.specs.Prelude.{◌≡◌, ℕ, ◌^◌, ◌↔◌, List, Contains}
+use Rattle.algebra.specs.Digits.{rev}
 use Rattle.algebra.specs.Field.{FieldOps, pow}
 use Rattle.algebra.specs.Polynomial.{tabulate}
 use Rattle.algebra.specs.Interpolation.{AreDistinct}
@@ -13,6 +14,10 @@ module _ {A : Type 0} (F : FieldOps A) where
   -- the coset of `2^k` points, where `w` is the root of unity of order `2^k`
   abbrev pub coset_points : (w shift : A) → ℕ → List A
   coset_points w shift k = tabulate (2 ^ k) (coset_point w shift)
+
+  -- the same in bit-reversed order: at `i` the point `rev k i`
+  abbrev pub bit_reversed_points : (w shift : A) → ℕ → List A
+  bit_reversed_points w shift k = tabulate (2 ^ k) (λ i. coset_point w shift (rev k i))
 
   -- the points of the coset are distinct, and are exactly the zeros of that polynomial
   pub record VanishesExactlyOn (w shift : A) (k : ℕ) : Type 0 where

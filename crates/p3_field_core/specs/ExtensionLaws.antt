@@ -11,7 +11,8 @@ self_length x = refl
 pub self_injective : {A : Type 0} (x y : A) → x ∷ [] ≡ y ∷ [] → x ≡ y
 self_injective x y e = cc
 
-pub self_of_coefficients : {A : Type 0} (z : A) (xs : List A) → length xs ≡ 1 → slice_index_or xs 0 z ∷ [] ≡ xs
+pub self_of_coefficients : {A : Type 0} (z : A) (xs : List A) → length xs ≡ 1
+    → slice_index_or xs 0 z ∷ [] ≡ xs
 self_of_coefficients z [] e = absurd (omega arith)
 self_of_coefficients z (x ∷ []) e = refl
 self_of_coefficients z (x ∷ y ∷ ys) e = absurd (omega arith)

@@ -6,8 +6,8 @@ ghost use Rattle.algebra.specs.Products.{product, running_products};
 use crate::field::Field;
 use std::alloc::{AllocError, Global};
 
-/// The inverse of each entry, in order, by one inversion of the product of them all (Montgomery's trick): three
-/// multiplications an entry, and one list. The caller knows that no entry is zero.
+/// The inverse of each entry, in order, by one inversion of the product of them all (Montgomery's
+/// trick): three multiplications an entry, and one list. The caller knows that no entry is zero.
 pub fn batch_multiplicative_inverse<F: Field>(
     alloc: Global,
     values: &[F],
@@ -25,7 +25,8 @@ pub fn batch_multiplicative_inverse<F: Field>(
     Ok(inverses)
 }
 
-/// Turns the product of the entries before each one into the inverse of that entry, from the last entry down.
+/// Turns the product of the entries before each one into the inverse of that entry, from the last
+/// entry down.
 fn invert_from_products<F: Field>(products: &mut [F], values: &[F], inverse_of_all: F)
     requires running { products.old ≡ running_products F.ops values.now }
     requires inverse { F.ops.mul (product F.ops values.now) inverse_of_all ≡ F.ops.one }

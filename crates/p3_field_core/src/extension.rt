@@ -3,7 +3,8 @@
 ghost use Rattle.std.specs.Prelude.{◌≡◌, ◌<◌, ℕ, List, [], ◌∷◌, length, slice_index_or, slice_set};
 ghost use Rattle.algebra.specs.Field.{IsHomomorphism};
 ghost use Rattle.algebra.proofs.Lifting.{identity_homomorphism};
-ghost use Rattle.p3_field_core.specs.ExtensionLaws.{self_lift, self_length, self_injective, self_of_coefficients};
+ghost use Rattle.p3_field_core.specs.ExtensionLaws.{self_lift, self_length, self_injective};
+ghost use Rattle.p3_field_core.specs.ExtensionLaws.{self_of_coefficients};
 
 use crate::field::Field;
 
@@ -49,13 +50,15 @@ pub trait ExtensionField<F: Field>: Field {
 
     ghost lift_law: { IsHomomorphism F.ops Self.ops lift };
 
-    ghost coefficient_of_lift: { (x : F) → slice_index_or (coefficients (lift x)) 0 F.ops.zero ≡ x };
+    ghost coefficient_of_lift: { (x : F) →
+        slice_index_or (coefficients (lift x)) 0 F.ops.zero ≡ x };
 
     ghost dimension_law: { (x : Self) → length (coefficients x) ≡ DIMENSION };
 
     ghost coefficients_injective: { (x y : Self) → coefficients x ≡ coefficients y → x ≡ y };
 
-    ghost of_coefficients_law: { (xs : List F) → length xs ≡ DIMENSION → coefficients (of_coefficients xs) ≡ xs };
+    ghost of_coefficients_law: { (xs : List F) → length xs ≡ DIMENSION →
+        coefficients (of_coefficients xs) ≡ xs };
 }
 
 /// Every field extends itself, with one coefficient.

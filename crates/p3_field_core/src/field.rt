@@ -63,8 +63,8 @@ pub trait Field: Copy
         self * self
     }
 
-    /// The element made ready as the factor of many products. This costs a product or more: `times` gains it
-    /// back where a field has a faster way.
+    /// The element made ready as the factor of many products. This costs a product or more: `times`
+    /// gains it back where a field has a faster way.
     fn prepare(self) -> Self::Prepared
         ensures { factor_of result ≡ self };
 
@@ -75,6 +75,17 @@ pub trait Field: Copy
     /// The element whose double is this one.
     fn halve(self) -> Self
         ensures { ops.add result result ≡ self };
+
+    /// The element divided by `2^exponent`, by halving.
+    fn div_2exp_u64(self, exponent: u64) -> Self
+        ensures { ops.mul (multiple ops (2 ^ exponent)) result ≡ self }
+    {
+        let mut quotient = self;
+        for _ in 0..exponent {
+            quotient = quotient.halve();
+        }
+        quotient
+    }
 
     /// The element to a power, by squaring and multiplying.
     fn exp_u64(self, power: u64) -> Self
@@ -108,7 +119,8 @@ pub trait Field: Copy
     fn from_u64(n: u64) -> Self
         ensures { result ≡ multiple ops n };
 
-    /// The multiplicative inverse. The caller knows that the element isn't zero; `try_inverse` tests it.
+    /// The multiplicative inverse. The caller knows that the element isn't zero; `try_inverse`
+    /// tests it.
     fn inverse(self) -> Self
         requires nonzero { self ≢ ops.zero }
         ensures { result ≡ ops.inv self };

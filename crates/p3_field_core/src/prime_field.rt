@@ -5,7 +5,8 @@ ghost use Rattle.algebra.specs.Field.{multiple};
 
 use crate::field::Field;
 
-/// A field whose elements are the multiples of one, `from_canonical(n)` for exactly one `n` below the order.
+/// A field whose elements are the multiples of one, `from_canonical(n)` for exactly one `n` below
+/// the order.
 pub trait PrimeField64: Field {
     ghost ORDER_U64: { ℕ };
 

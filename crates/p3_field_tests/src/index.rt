@@ -1,5 +1,6 @@
 //! Logarithms and bit-reversed order.
 
+use p3_field::laws::bit_reversal_law;
 use p3_field::{log2_strict_usize, reverse_bits_len, reverse_slice_index_bits};
 
 #[test]
@@ -36,4 +37,5 @@ fn reverses_slices(rt: HostRuntime) {
     let mut eight = [0u32, 1, 2, 3, 4, 5, 6, 7];
     reverse_slice_index_bits(&mut eight);
     assert_eq!(rt; eight, [0, 4, 2, 6, 1, 5, 3, 7]);
+    bit_reversal_law::<u32>();
 }

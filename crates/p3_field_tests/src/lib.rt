@@ -12,4 +12,6 @@ mod coset;
 #[cfg(test)]
 mod index;
 #[cfg(test)]
+mod powers;
+#[cfg(test)]
 mod prepared;

@@ -7,8 +7,8 @@ fn agree<F: Field>(x: F, factor: F) -> bool {
     x.times(factor.prepare()) == x * factor
 }
 
-/// Whether both products with the factor are one at zero, at one and its negative, and at a hundred powers of the
-/// extension's generator, each scaled and, as its first coefficient, multiplied.
+/// Whether both products with the factor are one at zero, at one and its negative, and at a hundred
+/// powers of the extension's generator, each scaled and, as its first coefficient, multiplied.
 fn agree_throughout<F: Field, E: ExtensionField<F>>(factor: F) -> bool {
     let mut powers_agree = true;
     let prepared = factor.prepare();

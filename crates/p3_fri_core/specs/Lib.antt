@@ -1,3 +1,3 @@
-pub use Rattle.p3_fri_folding.specs.Fold
+pub use Rattle.algebra.specs.Folds
 pub use Rattle.p3_fri_folding.specs.Schedule
 pub use Rattle.p3_fri_folding.specs.Strategy

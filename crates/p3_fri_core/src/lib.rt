@@ -1,7 +1,9 @@
-//! The core of FRI: the parameters of an instance, the schedule of its folds, the fold itself, and the transcripts that
-//! both sides of the low-degree test, and of the polynomial commitment scheme around it, draw their challenges from.
+//! The core of FRI: the parameters of an instance, the schedule of its folds, the fold itself, and
+//! the transcripts that both sides of the low-degree test, and of the polynomial commitment scheme
+//! around it, draw their challenges from.
 //!
-//! This crate has no code of its own: it shows the crates below under the Rust crate's modules and names.
+//! This crate has no code of its own: it shows the crates below under the Rust crate's modules and
+//! names.
 #![tactic(auto)]
 
 pub mod config;

@@ -89,7 +89,9 @@ fn parameters_are_cloned_and_printed(rt: HostRuntime) -> Result<(), Fail> {
     let text = format!(in rt.alloc(); "{parameters:?}")?;
     assert_eq!(rt;
         text.as_str(),
-        "FriParameters { log_blowup: 2, log_final_poly_len: 0, max_log_arity: 1, num_queries: 100, batch_proof_of_work_bits: 10, commit_proof_of_work_bits: 0, query_proof_of_work_bits: 16, mmcs: 7 }"
+        "FriParameters { log_blowup: 2, log_final_poly_len: 0, max_log_arity: 1, num_queries: 100, \
+         batch_proof_of_work_bits: 10, commit_proof_of_work_bits: 0, query_proof_of_work_bits: 16, \
+         mmcs: 7 }"
     );
     Ok(())
 }

@@ -19,7 +19,8 @@ fn fold_five_three(index: usize, log_height: usize, beta: BabyBear) -> BabyBear
     FriFoldingStrategy::<BabyBear, BabyBear>::fold_row(&folding, index, log_height, 1, beta, &row)
 }
 
-/// Whether each entry of the folded matrix of the numbers from 0 on, two to a row, is the fold of its row.
+/// Whether each entry of the folded matrix of the numbers from 0 on, two to a row, is the fold of
+/// its row.
 fn rows_agree<EF: ExtensionField<BabyBear>>(
     alloc: Global,
     log_height: usize,

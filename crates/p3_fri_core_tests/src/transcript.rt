@@ -1,5 +1,6 @@
-//! Counts and refusals, one stream byte for byte, and a run of both sides. The bytes are those of the format; the
-//! drawn values were computed from the rules of the formats with the hashlib module of Python's standard library.
+//! Counts and refusals, one stream byte for byte, and a run of both sides. The bytes are those of
+//! the format; the drawn values were computed from the rules of the formats with the hashlib module
+//! of Python's standard library.
 
 ghost use Rattle.std.specs.Prelude.{◌≡◌, ◌≤◌, IfOk};
 ghost use Rattle.p3_fri_transcript.specs.Shapes.{fri_shape};
@@ -58,8 +59,8 @@ fn seeded(alloc: Global, shape: &FriShape) -> Result<Sha256Challenger, AllocErro
     Ok(challenger)
 }
 
-/// What `commit_rounds` answers to so many commitments and witnesses at the schedule [3, 3, 2], and whether it leaves the
-/// challenger as the seed left it.
+/// What `commit_rounds` answers to so many commitments and witnesses at the schedule [3, 3, 2], and
+/// whether it leaves the challenger as the seed left it.
 fn answer_to_counts(
     alloc: Global,
     commitments: usize,
@@ -76,7 +77,8 @@ fn answer_to_counts(
     Ok((answer.err(), challenger == before))
 }
 
-/// What the verifier's `query_phase` answers without rounds, and whether it leaves the challenger as the seed left it.
+/// What the verifier's `query_phase` answers without rounds, and whether it leaves the challenger
+/// as the seed left it.
 fn answer_to_polynomial(
     alloc: Global,
     query_pow_bits: usize,

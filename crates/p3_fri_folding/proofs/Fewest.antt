@@ -1,16 +1,23 @@
 -- The schedule leads down through every stop, and no list of rounds that does is shorter.
-use Rattle.std.proofs.Common.{◌≡◌, ℕ, zero, suc, ◌+◌, ◌-◌, ◌*◌, ◌/◌, ◌%◌, ◌<◌, ◌≤◌, inl, inr, List, [], ◌∷◌, ◌++◌, length, take, drop, replicate, refl, ap, ◌∙◌, arith, eqb, zero-add, length-append, if◌then◌else◌}
-use Rattle.std.proofs.Math.Nat.{div-add-mod, mod-lt, mul-le-mul_left, le_of_mul-le-mul_left, mul_comm}
+use Rattle.std.proofs.Common.{◌≡◌, ℕ, zero, suc, ◌+◌, ◌-◌, ◌*◌, ◌/◌, ◌%◌, ◌<◌, ◌≤◌, inl, inr, List}
+use Rattle.std.proofs.Common.{[], ◌∷◌, ◌++◌, length, take, drop, replicate, refl, ap, ◌∙◌, arith}
+use Rattle.std.proofs.Common.{eqb, zero-add, length-append, if◌then◌else◌}
+use Rattle.std.proofs.Math.Nat.{div-add-mod, mod-lt, mul-le-mul_left, le_of_mul-le-mul_left}
+use Rattle.std.proofs.Math.Nat.{mul_comm}
 use Rattle.std.proofs.Math.Seq.{take-add, take-append-add, take-append_seam}
 use Rattle.std.proofs.lemmas.List.{take-append-drop, length-replicate}
 use Rattle.std.proofs.Math.Dec.{eqb-suc-zero}
 use Rattle.std.proofs.lemmas.Bool.Decides.{leb_tells}
 use Rattle.std.proofs.lemmas.List.Sums.{sum_by-append, sum_by-le}
 use Rattle.std.proofs.lemmas.List.Folds.{sum_by-replicate}
-use Rattle.std.proofs.lemmas.List.Elements.{All-take, All-drop, All-append, All-cons, All-nil, All-tail, All-replicate}
+use Rattle.std.proofs.lemmas.List.Elements.{All-take, All-drop, All-append, All-cons, All-nil}
+use Rattle.std.proofs.lemmas.List.Elements.{All-tail, All-replicate}
 use Rattle.std.specs.List.{All, sum}
-use Rattle.p3_fri_folding.specs.Schedule.{IsStrictlyFalling, tallest, stops, rounds_over, rounds_through, schedule, Reaches, LeadsDown, AreFewest}
-use Rattle.p3_fri_folding.proofs.Rounds.{FallsFrom, falls_from, stops_below, stops_below-low, stops_below-above, schedule-nil, schedule-low, schedule-above}
+use Rattle.p3_fri_folding.specs.Schedule.{IsStrictlyFalling, tallest, stops, rounds_over}
+use Rattle.p3_fri_folding.specs.Schedule.{rounds_through, schedule, Reaches, LeadsDown, AreFewest}
+use Rattle.p3_fri_folding.proofs.Rounds.{FallsFrom, falls_from, stops_below, stops_below-low}
+use Rattle.p3_fri_folding.proofs.Rounds.{stops_below-above, schedule-nil, schedule-low}
+use Rattle.p3_fri_folding.proofs.Rounds.{schedule-above}
 
 -- each stop is below the one before it, and the last is the final height
 abbrev Down : (top : ℕ) (later : List ℕ) (final : ℕ) → Type 0

@@ -1,3 +1,2 @@
 pub mod Fewest
-pub mod Folds
 pub mod Rounds

@@ -1,9 +1,13 @@
 -- One round, of the least of the cap and the distances to the stops, is the head of the schedule.
-use Rattle.std.proofs.Common.{◌≡◌, ◌≢◌, ℕ, suc, ◌+◌, ◌-◌, ◌/◌, ◌<◌, ◌≤◌, inl, inr, min, List, [], ◌∷◌, ◌++◌, Option, Some, None, IfSome, IfNone, slice_get, drop, filter, nat_lt, refl, sym, ap, ◌∙◌, subst, arith, add-one}
-use Rattle.std.proofs.Math.Nat.{div-eq-sub-div, mod-eq-sub-mod, div-eq_of_lt, mod-eq_of_lt, zero-div, zero-mod, min-eq_left}
+use Rattle.std.proofs.Common.{◌≡◌, ◌≢◌, ℕ, suc, ◌+◌, ◌-◌, ◌/◌, ◌<◌, ◌≤◌, inl, inr, min, List, []}
+use Rattle.std.proofs.Common.{◌∷◌, ◌++◌, Option, Some, None, IfSome, IfNone, slice_get, drop}
+use Rattle.std.proofs.Common.{filter, nat_lt, refl, sym, ap, ◌∙◌, subst, arith, add-one}
+use Rattle.std.proofs.Math.Nat.{div-eq-sub-div, mod-eq-sub-mod, div-eq_of_lt, mod-eq_of_lt}
+use Rattle.std.proofs.Math.Nat.{zero-div, zero-mod, min-eq_left}
 use Rattle.std.proofs.lemmas.Bool.Decides.{nat_tests, leb_tells}
 use Rattle.std.proofs.lemmas.Bool.{ne_eqb}
-use Rattle.p3_fri_folding.specs.Schedule.{IsStrictlyFalling, stops, rounds_over, rounds_through, schedule}
+use Rattle.p3_fri_folding.specs.Schedule.{IsStrictlyFalling, stops, rounds_over, rounds_through}
+use Rattle.p3_fri_folding.specs.Schedule.{schedule}
 
 -- each height is below the one before it, and the first below `top`
 abbrev pub FallsFrom : (top : ℕ) (further : List ℕ) → Type 0
@@ -149,7 +153,8 @@ rounds_through-least top (h ∷ hs) final cap a positive far falls is_least = el
     to_next : final < h → rounds_through (top ∷ stops_below (h ∷ hs) final) cap ≡ a ∷ rounds_through ((top - a) ∷ stops_below (h ∷ hs) final) cap
     to_next above = rw (stops_below-above h hs final above) (rounds_through-step top h (stops_below hs final) cap a positive falls.0 (omega arith))
 
--- a round of log arity `a` from the height `top` leads to `top - a`, where the inputs `left` are still to come
+-- a round of log arity `a` from the height `top` leads to `top - a`, where the inputs `left` are
+-- still to come
 pub record Steps (top : ℕ) (further : List ℕ) (final cap a : ℕ) (left : List ℕ) : Type 0 where
   pub rounds : schedule (top ∷ further) final cap ≡ a ∷ schedule ((top - a) ∷ left) final cap
   pub falls : FallsFrom (top - a) left

@@ -1,4 +1,3 @@
-pub mod Fold
-pub mod FoldLaws
+pub use Rattle.algebra.specs.Folds
 pub mod Schedule
 pub mod Strategy

@@ -1,9 +1,11 @@
-//! Parameters of FRI (Ben-Sasson, Bentov, Horesh, Riabzev, ICALP 2018), and the schedule of its folds, in
-//! the names of the Rust crate p3-fri.
+//! Parameters of FRI (Ben-Sasson, Bentov, Horesh, Riabzev, ICALP 2018), and the schedule of its
+//! folds, in the names of the Rust crate p3-fri.
 
-ghost use Rattle.std.specs.Prelude.{◌≡◌, ◌+◌, ◌*◌, ◌^◌, ◌-◌, ◌<◌, ◌≤◌, ◌↔◌, min, All, IsTrue, IfSome, IfNone, IfOk};
+ghost use Rattle.std.specs.Prelude.{◌≡◌, ◌+◌, ◌*◌, ◌^◌, ◌-◌, ◌<◌, ◌≤◌, ◌↔◌, min, All, IsTrue};
+ghost use Rattle.std.specs.Prelude.{IfSome, IfNone, IfOk};
 ghost use Rattle.std.specs.Option.{ForSome};
-ghost use Rattle.p3_fri_folding.specs.Schedule.{IsStrictlyFalling, tallest, schedule, LeadsDown, AreFewest};
+ghost use Rattle.p3_fri_folding.specs.Schedule.{IsStrictlyFalling, tallest, schedule, LeadsDown};
+ghost use Rattle.p3_fri_folding.specs.Schedule.{AreFewest};
 
 use p3_commit::{FriRegime, GrindingSites};
 use std::alloc::{AllocError, Global};
@@ -17,7 +19,8 @@ pub struct FriParameters<M> {
     pub log_blowup: usize,
     /// The logarithm of the length of the final polynomial, which is sent in full.
     pub log_final_poly_len: usize,
-    /// The logarithm of the greatest arity of a round. The last before an input may have a smaller one.
+    /// The logarithm of the greatest arity of a round. The last before an input may have a smaller
+    /// one.
     pub max_log_arity: usize,
     /// How many times the verifier queries.
     pub num_queries: usize,
@@ -56,9 +59,9 @@ impl<M> FriParameters<M> {
         1 << self.max_log_arity
     }
 
-    /// The bits of soundness by the conjecture of [ethSTARK](https://eprint.iacr.org/2021/582): those
-    /// of the queries, and those of the proof of work before them. Only the sum is proved here, and
-    /// not what it says of soundness.
+    /// The bits of soundness by the conjecture of [ethSTARK](https://eprint.iacr.org/2021/582):
+    /// those of the queries, and those of the proof of work before them. Only the sum is proved
+    /// here, and not what it says of soundness.
     pub fn conjectured_soundness_bits(&self) -> usize
         requires fits { self.now.log_blowup * self.now.num_queries
             + self.now.query_proof_of_work_bits < 2 ^ 64 }
@@ -68,8 +71,8 @@ impl<M> FriParameters<M> {
         self.log_blowup * self.num_queries + self.query_proof_of_work_bits
     }
 
-    /// The parameters that an estimate of FRI's soundness reads. The proof of work before the batching challenge belongs
-    /// to the scheme around FRI, and stands in `grinding_sites`.
+    /// The parameters that an estimate of FRI's soundness reads. The proof of work before the
+    /// batching challenge belongs to the scheme around FRI, and stands in `grinding_sites`.
     pub fn security_regime(&self) -> FriRegime
         ensures { result ≡ record {
           log_blowup = self.now.log_blowup;
@@ -204,8 +207,9 @@ impl<M> FriParameters<M> {
     }
 }
 
-/// The log arity of a round that begins at `log_current_height`: as much as the cap allows, but past
-/// neither the final height nor the next input's. So each input meets a folded word of its height.
+/// The log arity of a round that begins at `log_current_height`: as much as the cap allows, but
+/// past neither the final height nor the next input's. So each input meets a folded word of its
+/// height.
 ///
 /// All heights are logarithms. The cap is positive, and the current height above both others.
 pub fn compute_log_arity_for_round(
@@ -220,7 +224,8 @@ pub fn compute_log_arity_for_round(
     ensures without_next { IfNone next_log_height
         (result ≡ min max_log_arity (log_current_height - log_final_height)) }
     ensures with_next { IfSome next_log_height (λ next. result ≡
-        min max_log_arity (min (log_current_height - log_final_height) (log_current_height - next))) }
+        min max_log_arity
+        (min (log_current_height - log_final_height) (log_current_height - next))) }
 {
     let to_final = log_current_height - log_final_height;
     let distance = match next_log_height {
@@ -240,9 +245,9 @@ pub fn is_strictly_falling(heights: &[usize]) -> bool
 /// The schedule of folds, one log arity for each round: from the tallest of the inputs' log heights
 /// down to `log_final_height`, with a round's end at each further input's height above it.
 ///
-/// The heights fall strictly, which `is_strictly_falling` tells, and the cap `max_log_arity` is positive.
-/// The schedule is empty without inputs, and where the tallest height isn't above the final one. The
-/// only error is want of memory.
+/// The heights fall strictly, which `is_strictly_falling` tells, and the cap `max_log_arity` is
+/// positive. The schedule is empty without inputs, and where the tallest height isn't above the
+/// final one. The only error is want of memory.
 pub fn fold_schedule(
     alloc: Global,
     heights: &[usize],

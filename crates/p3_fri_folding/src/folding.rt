@@ -3,8 +3,8 @@
 ghost use Rattle.std.specs.Prelude.{◌≡◌, ◌+◌, ◌<◌, ◌≤◌, ◌^◌, ℕ, [], ◌∷◌, length, IfOk};
 ghost use Rattle.algebra.specs.Field.{pow};
 ghost use Rattle.algebra.specs.Polynomial.{tabulate};
-ghost use Rattle.p3_fri_folding.specs.Fold.{fold_value, IsHalfInverse, AreHalfInverses};
-ghost use Rattle.p3_fri_folding.specs.FoldLaws.{two_adic_lowers_degrees};
+ghost use Rattle.algebra.specs.Folds.{fold_value, IsHalfInverse, AreHalfInverses};
+ghost use Rattle.algebra.proofs.FoldedWords.{two_adic_lowers_degrees};
 
 use crate::strategy::FriFoldingStrategy;
 use p3_field::{
@@ -15,16 +15,18 @@ use p3_matrix::RowMajorMatrix;
 use std::alloc::{AllocError, Global};
 use std::marker::PhantomData;
 
-/// Folding over the two-adic domains of a field, in bit-reversed order. The parameters name the proof and the
-/// error of the input openings that the protocol around it has.
+/// Folding over the two-adic domains of a field, in bit-reversed order. The parameters name the
+/// proof and the error of the input openings that the protocol around it has.
 #[derive(Drop)]
 pub struct TwoAdicFriFolding<InputProof, InputError>(pub PhantomData<(InputProof, InputError)>);
 
-/// The fold of a row is the value at the challenge of the one polynomial with as many coefficients that has the row's
-/// values at the row's points (the folding step of FRI, ICALP 2018). For two values `y0` and `y1` at the points `s`
-/// and `-s` that is `(y0 + y1) / 2 + (y0 - y1) * beta / (2 s)`.
+/// The fold of a row is the value at the challenge of the one polynomial with as many coefficients
+/// that has the row's values at the row's points (the folding step of FRI, ICALP 2018). For two
+/// values `y0` and `y1` at the points `s` and `-s` that is `(y0 + y1) / 2 + (y0 - y1) * beta / (2
+/// s)`.
 ///
-/// A row is that of a word in bit-reversed order: row `index` holds the neighbours from `index * 2^log_arity` on.
+/// A row is that of a word in bit-reversed order: row `index` holds the neighbours from `index *
+/// 2^log_arity` on.
 impl<F: TwoAdicField, EF: ExtensionField<F>, InputProof, InputError> FriFoldingStrategy<F, EF>
     for TwoAdicFriFolding<InputProof, InputError> {
     type InputProof = InputProof;
@@ -72,7 +74,8 @@ impl<F: TwoAdicField, EF: ExtensionField<F>, InputProof, InputError> FriFoldingS
         Ok(word)
     }
 
-    ghost lowers_degrees = { λ _. two_adic_lowers_degrees F.ops EF.ops EF.lift F.Field.laws EF.Field.laws EF.lift_law F.TWO_ADICITY F.root F.roots_law };
+    ghost lowers_degrees = { λ _. two_adic_lowers_degrees F.ops EF.ops EF.lift F.Field.laws
+        EF.Field.laws EF.lift_law F.TWO_ADICITY F.root F.roots_law };
 }
 
 /// The fold of two values at `s` and `-s`, by half the inverse of `s`.
@@ -82,13 +85,15 @@ fn fold_pair<F: TwoAdicField, EF: ExtensionField<F>>(
     left: EF,
     right: EF,
 ) -> EF
-    ensures { (i h : ℕ) → i < 2 ^ h → h < F.TWO_ADICITY → IsHalfInverse F.ops F.root i h half_inverse →
+    ensures { (i h : ℕ) → i < 2 ^ h → h < F.TWO_ADICITY →
+        IsHalfInverse F.ops F.root i h half_inverse →
         result ≡ fold_value EF.ops (λ k. EF.lift (F.root k)) i h 1 beta (left ∷ right ∷ []) }
 {
     (left + right).halve() + (left - right).scale(half_inverse) * beta
 }
 
-/// Half the inverse of the first point of a row: since that point is a power of a root of unity, so is its inverse.
+/// Half the inverse of the first point of a row: since that point is a power of a root of unity, so
+/// is its inverse.
 fn half_inverse<F: TwoAdicField>(index: usize, log_height: usize) -> F
     requires within_word { index < 2 ^ log_height }
     requires within_two_adicity { log_height < F.TWO_ADICITY }
@@ -119,7 +124,8 @@ fn shifted_powers<F: Field>(
     base: F,
     count: usize,
 ) -> Result<Vec<F>, AllocError>
-    ensures { IfOk result (λ powers. powers.items ≡ tabulate count (λ i. F.ops.mul first (pow F.ops base i))) }
+    ensures { IfOk result (λ powers.
+        powers.items ≡ tabulate count (λ i. F.ops.mul first (pow F.ops base i))) }
 {
     let mut powers = Vec::with_capacity(alloc, count)?;
     let mut power = first;

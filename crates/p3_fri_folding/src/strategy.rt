@@ -4,14 +4,15 @@ ghost use Rattle.std.specs.Prelude.{◌≡◌, ◌+◌, ◌*◌, ◌<◌, ◌≤
 ghost use Rattle.std.specs.Int.{IsPowerOfTwo};
 ghost use Rattle.algebra.specs.Words.{IsWord};
 ghost use Rattle.p3_matrix.specs.Matrix.{rows, matrix_width};
-ghost use Rattle.p3_fri_folding.specs.Strategy.{folded_rows, LowersDegrees};
+ghost use Rattle.algebra.specs.Folds.{LowersDegrees};
+ghost use Rattle.p3_fri_folding.specs.Strategy.{folded_rows};
 
 use p3_field::{ExtensionField, TwoAdicField};
 use p3_matrix::RowMajorMatrix;
 use std::alloc::{AllocError, Global};
 
-/// A strategy of folding, over a two-adic field and the extension of the challenges. The commitment scheme around
-/// FRI chooses it.
+/// A strategy of folding, over a two-adic field and the extension of the challenges. The commitment
+/// scheme around FRI chooses it.
 pub trait FriFoldingStrategy<F: TwoAdicField, EF: ExtensionField<F>> {
     /// The proof of the input openings, in the protocol around FRI.
     type InputProof;
@@ -33,7 +34,8 @@ pub trait FriFoldingStrategy<F: TwoAdicField, EF: ExtensionField<F>> {
     fn max_log_height(&self) -> usize
         ensures { result ≡ max_log_height self.now };
 
-    /// The fold at `beta` of row `index`, of `2^log_arity` values, to a word of log height `log_height`.
+    /// The fold at `beta` of row `index`, of `2^log_arity` values, to a word of log height
+    /// `log_height`.
     fn fold_row(
         &self,
         index: usize,
@@ -48,7 +50,8 @@ pub trait FriFoldingStrategy<F: TwoAdicField, EF: ExtensionField<F>> {
         requires within_max_height { log_height + log_arity ≤ max_log_height self.now }
         ensures { result ≡ row_fold self.now index log_height log_arity beta row.now };
 
-    /// The fold at `beta` of each row of a matrix of `2^log_arity` columns, whose height is a power of two.
+    /// The fold at `beta` of each row of a matrix of `2^log_arity` columns, whose height is a power
+    /// of two.
     fn fold_matrix(
         &self,
         alloc: Global,
@@ -59,9 +62,12 @@ pub trait FriFoldingStrategy<F: TwoAdicField, EF: ExtensionField<F>> {
         requires binary { log_arity ≡ 1 }
         requires width { matrix_width matrix.now ≡ 2 ^ log_arity }
         requires power_of_two { IsPowerOfTwo (length (rows matrix.now)) }
-        requires within_max_height { (log_height : ℕ) → length (rows matrix.now) ≡ 2 ^ log_height → log_height + log_arity ≤ max_log_height self.now }
-        ensures { IfOk result (λ word. (log_height : ℕ) → length (rows matrix.now) ≡ 2 ^ log_height →
-            word.items ≡ folded_rows (row_fold self.now) log_height log_arity beta (rows matrix.now)) };
+        requires within_max_height { (log_height : ℕ) → length (rows matrix.now) ≡ 2 ^ log_height →
+            log_height + log_arity ≤ max_log_height self.now }
+        ensures { IfOk result (λ word.
+            (log_height : ℕ) → length (rows matrix.now) ≡ 2 ^ log_height → word.items
+            ≡ folded_rows (row_fold self.now) log_height log_arity beta (rows matrix.now)) };
 
-    ghost lowers_degrees: { (strategy : Self) → LowersDegrees EF.ops (λ k. EF.lift (F.root k)) (max_log_height strategy) (row_fold strategy) };
+    ghost lowers_degrees: { (strategy : Self) → LowersDegrees EF.ops (λ k. EF.lift (F.root k))
+        (max_log_height strategy) (row_fold strategy) };
 }

@@ -1,6 +1,6 @@
 -- Witnesses that a search gives.
 use Rattle.std.proofs.Common.{◌≡◌, ◌≢◌, ℕ, ◌==◌, Bool, true, false, if◌then◌else◌, Option, Some}
-use Rattle.std.proofs.Common.{None, IsSome, unwrap_or, refl, sym, ap, ◌∙◌, rules, subst}
+use Rattle.std.proofs.Common.{None, IsSome, unwrap_or, refl, sym, ap, ◌∙◌, rules}
 use Rattle.std.proofs.lemmas.Bool.Decides.{nat_tests}
 use Rattle.p3_fri_steps.specs.Pow.{found_witness, sent_witness}
 

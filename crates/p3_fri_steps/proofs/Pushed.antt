@@ -1,5 +1,5 @@
 -- Steps, pushed one after another.
-use Rattle.std.proofs.Common.{◌≡◌, ◌+◌, ◌-◌, List, [], ◌∷◌, ◌++◌, map, ap, ◌∙◌}
+use Rattle.std.proofs.Common.{◌≡◌, List, [], ◌∷◌, ◌++◌, map, ap, ◌∙◌}
 use Rattle.std.proofs.lemmas.List.{map-append}
 use Rattle.p3_challenger_fs.specs.declared.pattern.Interaction.{Interaction}
 use Rattle.p3_challenger.specs.Pattern.{Step, step_of}

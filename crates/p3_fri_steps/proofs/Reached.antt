@@ -1,6 +1,6 @@
 -- States that a challenger reaches, put together from what single calls do.
 use Rattle.std.proofs.Common.{◌≡◌, ℕ, zero, suc, ◌==◌, Bool, true, false, if◌then◌else◌}
-use Rattle.std.proofs.Common.{List, [], ◌∷◌, ◌++◌, map, Option, Some, None, refl, sym, ap, ◌∙◌}
+use Rattle.std.proofs.Common.{List, [], ◌∷◌, ◌++◌, Option, Some, None, refl, ap, ◌∙◌}
 use Rattle.p3_challenger.specs.Run.{After, Moves, Event, run, observed_all, draws, grind_attempt}
 use Rattle.p3_challenger.specs.Run.{moves}
 use Rattle.p3_challenger.specs.Run.Event.{ValueObserved, CommitmentObserved}

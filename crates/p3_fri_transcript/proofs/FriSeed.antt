@@ -1,4 +1,4 @@
--- The stream of a low-degree test tells its shape.
+-- The stream of a low-degree test determines its shape.
 use Rattle.std.proofs.Common.{◌≡◌, ℕ, zero, suc, ◌<◌, List, [], ◌∷◌, ◌++◌, length, map, codes, refl, sym, ap, ap₂, ◌∙◌, arith, append_assoc}
 use Rattle.std.specs.List.{All}
 use Rattle.std.proofs.lemmas.List.Elements.{All-nil, All-cons, All-append, All-same}
@@ -99,9 +99,9 @@ module _ (d : ℕ) where
   unfolding fri_steps
   fri_fits s p f = All-append FitsWhole (rounds_steps d s.commit_pow_bits (length s.log_arities)) (query_steps d s) (rounds_fit s.commit_pow_bits (length s.log_arities) p f.commit_pow_bits) (query_fits s p f)
 
-  pub test_stream_determined : (s t : FriNumbers) → FitsNumber d → FitsFri s → FitsFri t → fri_stream d s ≡ fri_stream d t → SameFriShape s t
+  pub fri_stream_determined : (s t : FriNumbers) → FitsNumber d → FitsFri s → FitsFri t → fri_stream d s ≡ fri_stream d t → SameFriShape s t
   unfolding fri_stream fri_labels
-  test_stream_determined s t p f g e =
+  fri_stream_determined s t p f g e =
       let list = λ (x : FriNumbers). x.log_blowup ∷ x.max_log_arity ∷ x.log_arities in
       let parts = stream_determined 1 1 (codes "p3-fri") (codes "p3-fri") (fri_steps d s) (fri_steps d t) (map number_bytes (list s)) (map number_bytes (list t)) (StepsAgree s t) (omega arith) (omega arith)
       (fri_fits s p f) (fri_fits t p g) (λ _ u v h. fri_determined s t u v h) (labels_fit (list s)) (labels_fit (list t)) e in
@@ -142,9 +142,9 @@ module _ (d : ℕ) where
       (rounds_same (length s.log_arities) s.commit_pow_bits t.commit_pow_bits h.commit_pow_bits ∙ ap (λ (xs : List ℕ). rounds_steps d t.commit_pow_bits (length xs)) h.log_arities)
       (query_same s.final_poly_len t.final_poly_len s.query_pow_bits t.query_pow_bits s.index_bits t.index_bits s.num_queries t.num_queries h.final_poly_len h.query_pow_bits h.index_bits h.num_queries)
 
-  pub test_stream_same : (s t : FriNumbers) → SameFriShape s t → fri_stream d s ≡ fri_stream d t
+  pub fri_stream_same : (s t : FriNumbers) → SameFriShape s t → fri_stream d s ≡ fri_stream d t
   unfolding fri_stream fri_labels
-  test_stream_same s t h =
+  fri_stream_same s t h =
       ap₂ (λ (x : List Step) (y : List ℕ). seed_stream 1 (codes "p3-fri") x (map number_bytes y)) (steps_same s t h) (list_same s.log_blowup t.log_blowup s.max_log_arity t.max_log_arity s.log_arities t.log_arities h.log_blowup h.max_log_arity h.log_arities)
     where
       list_same : (a a' b b' : ℕ) (xs xs' : List ℕ) → a ≡ a' → b ≡ b' → xs ≡ xs' → a ∷ b ∷ xs ≡ a' ∷ b' ∷ xs'

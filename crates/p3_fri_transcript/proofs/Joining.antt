@@ -1,6 +1,6 @@
 -- Replays joined, for a prover that plays its rounds one by one: the rounds so far and the next one
 -- are all rounds up to it, and all rounds and the queries are the whole test.
-use Rattle.std.proofs.Common.{◌≡◌, ℕ, ◌+◌, Bool, true, false, ◌&&◌, List, [], ◌∷◌, ◌++◌, length}
+use Rattle.std.proofs.Common.{◌≡◌, ℕ, Bool, true, false, ◌&&◌, List, [], ◌∷◌, ◌++◌, length}
 use Rattle.std.proofs.Common.{Option, Some, refl, sym, ap, ◌∙◌, arith}
 use Rattle.algebra.specs.Field.{FieldOps}
 use Rattle.p3_challenger.specs.Run.{Moves}

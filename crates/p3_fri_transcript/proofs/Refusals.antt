@@ -1,5 +1,5 @@
 -- Why whole transcripts are refused, and what a prover found, put together from their calls.
-use Rattle.std.proofs.Common.{◌≡◌, ◌≢◌, ◌⊎◌, inl, inr, ℕ, ◌+◌, ◌<◌, true, List, ◌∷◌, ◌++◌, length}
+use Rattle.std.proofs.Common.{◌≡◌, ◌≢◌, ◌⊎◌, inl, inr, ℕ, ◌+◌, ◌<◌, true, List, ◌++◌, length}
 use Rattle.std.proofs.Common.{take, drop, get_or, Option, Some, IsSome, unwrap_or, sym, ap, ◌∙◌}
 use Rattle.std.proofs.Common.{subst, arith}
 use Rattle.std.proofs.lemmas.List.{length-take, take-append-drop}

@@ -1,6 +1,7 @@
 //! The transcript that both sides of the low-degree test draw their challenges from.
 #![tactic(auto)]
 
+pub mod labels;
 pub mod laws;
 mod rounds;
 pub mod transcript;

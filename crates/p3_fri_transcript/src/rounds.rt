@@ -4,6 +4,7 @@ ghost use Rattle.std.specs.Prelude.{◌≡◌, ◌++◌, OnOk, map};
 ghost use Rattle.p3_challenger.specs.Pattern.{step_of};
 ghost use Rattle.p3_fri_transcript.specs.Steps.{round_steps, rounds_steps};
 
+use crate::labels;
 use p3_challenger::fs::{Hierarchy, Interaction, Kind, Length};
 use p3_field::{ExtensionField, Field};
 use p3_fri_steps::steps::push_pow;
@@ -20,14 +21,14 @@ fn push_round<F: Field, EF: ExtensionField<F>>(
     steps.push(Interaction::opaque(
         Hierarchy::Atomic,
         Kind::Message,
-        "commit_phase_commitment",
+        labels::COMMITMENT,
         Length::Scalar,
     ))?;
-    push_pow::<F>(steps, "commit_pow", pow_bits)?;
+    push_pow::<F>(steps, labels::COMMIT_POW, pow_bits)?;
     steps.push(Interaction::algebra::<F, EF>(
         Hierarchy::Atomic,
         Kind::Challenge,
-        "fold_challenge",
+        labels::FOLD_CHALLENGE,
         Length::Scalar,
     ))?;
     Ok(())

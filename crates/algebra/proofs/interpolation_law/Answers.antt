@@ -1,6 +1,7 @@
 use Rattle.std.proofs.Common.{sym}
 use Rattle.algebra.specs.Interpolation.{interpolant}
-use Rattle.algebra.proofs.Interpolation.{interpolant_interpolates, interpolates_unique, interpolated-length}
+use Rattle.algebra.proofs.Interpolation.{interpolant_interpolates, interpolates_unique}
+use Rattle.algebra.proofs.Interpolation.{interpolated-length}
 use Rattle.algebra.proofs.Lists.{distinct_from_AllPairs}
 use Rattle.algebra.proofs.interpolation_law.Goals as goal
 

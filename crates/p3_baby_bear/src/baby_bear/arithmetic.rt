@@ -1,6 +1,6 @@
 //! Arithmetic modulo 2013265921.
 
-ghost use Rattle.std.specs.Prelude.{◌≡◌, ◌<◌};
+ghost use Rattle.std.specs.Prelude.{◌≡◌, ◌<◌, ◌*◌};
 ghost use Rattle.algebra.specs.Field.{sub};
 ghost use Rattle.p3_baby_bear.specs.BabyBear.{baby_bear, element};
 
@@ -18,6 +18,16 @@ pub(super) fn from_number(value: u32) -> BabyBear
     BabyBear { value }
 }
 
+/// The element of a number below twice the order.
+pub(super) fn reduced_once(number: u32) -> BabyBear
+    requires { number < 2 * 2013265921 }
+    ensures { result ≡ element number }
+{
+    BabyBear {
+        value: if number >= P { number - P } else { number },
+    }
+}
+
 impl Add for BabyBear {
     type Output = BabyBear;
 
@@ -25,10 +35,7 @@ impl Add for BabyBear {
 
     #[tactic(auto, unfolding(crate::specs::BabyBear::baby_bear))]
     fn add(self, rhs: BabyBear) -> BabyBear {
-        let sum = self.value + rhs.value;
-        BabyBear {
-            value: if sum >= P { sum - P } else { sum },
-        }
+        reduced_once(self.value + rhs.value)
     }
 }
 
@@ -39,12 +46,12 @@ impl Sub for BabyBear {
 
     #[tactic(auto, unfolding(crate::specs::BabyBear::baby_bear))]
     fn sub(self, rhs: BabyBear) -> BabyBear {
-        let value = if self.value >= rhs.value {
-            self.value - rhs.value
-        } else {
-            self.value + (P - rhs.value)
-        };
-        BabyBear { value }
+        // a difference below 0 wraps, and comes back by the order; one that doesn't is the lesser
+        // of the two
+        let difference = self.value.wrapping_sub(rhs.value);
+        BabyBear {
+            value: difference.min(difference.wrapping_add(P)),
+        }
     }
 }
 

@@ -4,7 +4,7 @@ ghost use Rattle.std.specs.Prelude.{◌≡◌, ◌*◌, ◌/◌};
 ghost use Rattle.p3_baby_bear.specs.BabyBear.{baby_bear};
 
 use super::BabyBear;
-use super::arithmetic::P;
+use super::arithmetic::{P, reduced_once};
 
 /// A factor beside the quotient of `2^32` times its number by the order.
 #[derive(Clone, Copy, Debug, PartialEq, Eq)]
@@ -26,17 +26,14 @@ impl BabyBearFactor {
         }
     }
 
-    /// The product, by V. Shoup's method: the quotient of the product by the order is estimated by the prepared
-    /// one, at most one too small, so that less than twice the order is left.
-    #[tactic(auto, using(crate::proofs::Factors::estimate_below, crate::proofs::Factors::rest_below))]
+    /// The product, by V. Shoup's method: the quotient of the product by the order is estimated by
+    /// the prepared one, at most one too small, so that less than twice the order is left.
+    #[tactic(auto, using(crate::proofs::Factors::estimates))]
     pub(super) fn times(self, x: BabyBear) -> BabyBear
         ensures { result ≡ baby_bear.mul x self.factor }
     {
         let estimate = u64::from(x.value) * u64::from(self.quotient) / 4_294_967_296;
         let product = u64::from(x.value) * u64::from(self.factor.value);
-        let rest = (product - estimate * u64::from(P)) as u32;
-        BabyBear {
-            value: if rest >= P { rest - P } else { rest },
-        }
+        reduced_once((product - estimate * u64::from(P)) as u32)
     }
 }

@@ -2,7 +2,9 @@
 
 ghost use Rattle.std.specs.Prelude.{◌≡◌, ◌≢◌};
 ghost use Rattle.p3_baby_bear.specs.BabyBear.{baby_bear, element};
-ghost use Rattle.p3_baby_bear.specs.BabyBearLaws.{baby_bear_laws, eq_same, zero_is, one_is, two_is, generator_is, canonical_multiple, multiple_canonical, bits_at_least, bits_at_most};
+ghost use Rattle.p3_baby_bear.specs.BabyBearLaws.{baby_bear_laws, eq_same, zero_is, one_is, two_is};
+ghost use Rattle.p3_baby_bear.specs.BabyBearLaws.{generator_is, canonical_multiple};
+ghost use Rattle.p3_baby_bear.specs.BabyBearLaws.{multiple_canonical, bits_at_least, bits_at_most};
 
 use super::BabyBear;
 use super::arithmetic::{P, from_number};

@@ -6,8 +6,8 @@ ghost use Rattle.p3_baby_bear.specs.BabyBear.{baby_bear};
 use super::BabyBear;
 use super::arithmetic::{P, from_number};
 
-/// The inverse of an element that isn't zero: since `P = a * (P / a) + P % a`, the inverse of `a` is
-/// `-(P / a)` times that of `P % a`, and the remainders fall to 1 because `P` is prime.
+/// The inverse of an element that isn't zero: since `P = a * (P / a) + P % a`, the inverse of `a`
+/// is `-(P / a)` times that of `P % a`, and the remainders fall to 1 because `P` is prime.
 pub(super) fn inverse_of(x: BabyBear) -> BabyBear
     requires { x ≢ baby_bear.zero }
     ensures { result ≡ baby_bear.inv x }

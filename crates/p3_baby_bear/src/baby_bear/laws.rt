@@ -6,7 +6,8 @@ ghost use Rattle.algebra.specs.Primes.{IsPrime};
 ghost use Rattle.p3_field_core.specs.Order.{HasOrder};
 ghost use Rattle.p3_baby_bear.specs.BabyBear.{baby_bear, element};
 
-/// The order of BabyBear is prime, and the 15th power of its generator 31 is 440564289, of order `2^27`.
+/// The order of BabyBear is prime, and the 15th power of its generator 31 is 440564289, of order
+/// `2^27`.
 pub fn baby_bear_law()
     ensures prime { IsPrime 2013265921 }
     ensures generator_power { pow baby_bear (element 31) 15 ≡ element 440564289 }

@@ -14,7 +14,8 @@ use std::ops::{Add, Mul, Neg, Sub};
 /// `11 * 2^32` modulo the order.
 const HIGH_HALF: u64 = 939_524_073;
 
-/// The product of the canonical numbers. Four of these fit 64 bits, so that a sum of four is reduced once.
+/// The product of the canonical numbers. Four of these fit 64 bits, so that a sum of four is
+/// reduced once.
 fn product(a: BabyBear, b: BabyBear) -> u64
     ensures value { multiple baby_bear result ≡ baby_bear.mul a b }
     ensures small { result ≤ 2013265920 * 2013265920 }
@@ -25,7 +26,8 @@ fn product(a: BabyBear, b: BabyBear) -> u64
 /// 11 times a sum of up to three products, reduced so far that it is no greater than one product.
 fn eleven_times(sum: u64) -> u64
     requires { sum ≤ 3 * (2013265920 * 2013265920) }
-    ensures value { multiple baby_bear result ≡ baby_bear.mul (element 11) (multiple baby_bear sum) }
+    ensures value { multiple baby_bear result
+        ≡ baby_bear.mul (element 11) (multiple baby_bear sum) }
     ensures small { result ≤ 2013265920 * 2013265920 }
 {
     (sum >> 32) * HIGH_HALF + (sum & 0xffff_ffff) * 11

@@ -2,7 +2,8 @@
 
 ghost use Rattle.std.specs.Prelude.{◌≡◌};
 ghost use Rattle.p3_baby_bear.specs.BabyBear4.{coefficient_bytes};
-ghost use Rattle.p3_baby_bear.specs.BabyBear4Laws.{coefficient_bytes_length, coefficient_bytes_injective};
+ghost use Rattle.p3_baby_bear.specs.BabyBear4Laws.{coefficient_bytes_length};
+ghost use Rattle.p3_baby_bear.specs.BabyBear4Laws.{coefficient_bytes_injective};
 
 use super::BabyBear4;
 use crate::baby_bear::BabyBear;

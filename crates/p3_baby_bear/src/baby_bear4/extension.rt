@@ -2,7 +2,9 @@
 
 ghost use Rattle.std.specs.Prelude.{◌≡◌, ◌<◌, length, slice_index_or, slice_set};
 ghost use Rattle.p3_baby_bear.specs.BabyBear4.{baby_bear4, lift4, coefficients4, of_coefficients4};
-ghost use Rattle.p3_baby_bear.specs.BabyBear4Laws.{lift4_homomorphism, lift4_constant, coefficients4_length, coefficients4_injective, of_coefficients4_law};
+ghost use Rattle.p3_baby_bear.specs.BabyBear4Laws.{lift4_homomorphism, lift4_constant};
+ghost use Rattle.p3_baby_bear.specs.BabyBear4Laws.{coefficients4_length, coefficients4_injective};
+ghost use Rattle.p3_baby_bear.specs.BabyBear4Laws.{of_coefficients4_law};
 
 use super::BabyBear4;
 use crate::baby_bear::constants::ZERO;

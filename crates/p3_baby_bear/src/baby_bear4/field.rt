@@ -3,8 +3,10 @@
 ghost use Rattle.std.specs.Prelude.{◌≡◌, ◌≢◌};
 ghost use Rattle.algebra.specs.QuarticExtension.{conjugate, base_norm};
 ghost use Rattle.p3_baby_bear.specs.BabyBear.{baby_bear, element};
-ghost use Rattle.p3_baby_bear.specs.BabyBear4.{baby_bear4, lift4, generator4, quartic_of, of_quartic};
-ghost use Rattle.p3_baby_bear.specs.BabyBear4Laws.{baby_bear4_laws, eq4_same, zero4_is, one4_is, two4_is, generator4_is};
+ghost use Rattle.p3_baby_bear.specs.BabyBear4.{baby_bear4, lift4, generator4, quartic_of};
+ghost use Rattle.p3_baby_bear.specs.BabyBear4.{of_quartic};
+ghost use Rattle.p3_baby_bear.specs.BabyBear4Laws.{baby_bear4_laws, eq4_same, zero4_is, one4_is};
+ghost use Rattle.p3_baby_bear.specs.BabyBear4Laws.{two4_is, generator4_is};
 
 use super::BabyBear4;
 use crate::baby_bear::BabyBear;
@@ -106,8 +108,8 @@ impl Field for BabyBear4 {
 
     #[tactic(auto, unfolding(crate::specs::BabyBear4::baby_bear4))]
     fn inverse(self) -> BabyBear4 {
-        // The conjugate makes the product even, and the conjugate of that, `-X^2` in the place of `X^2`, makes
-        // it an element of BabyBear, the only one that is inverted.
+        // The conjugate makes the product even, and the conjugate of that, `-X^2` in the place of
+        // `X^2`, makes it an element of BabyBear, the only one that is inverted.
         let conjugate = conjugate_of(self);
         let even = self * conjugate;
         let scale = even_norm_of(even).inverse();

@@ -16,14 +16,19 @@ impl GrindingChallenger for Sha256Challenger {
 
     ghost solution = { least_witness };
 
-    /// The passing witness of the least canonical number, so zero at no bits, where nothing changes.
+    /// The passing witness of the least canonical number, so zero at no bits, where nothing
+    /// changes.
     fn grind(&mut self, bits: usize) -> Option<BabyBear>
         requires at_most_max { bits ≤ 63 }
         ensures value { result ≡ least_witness self.old bits }
         ensures passes { IfSome result (λ w. Passes element_observed bits_sampled self.old bits w) }
-        ensures least { IfSome result (λ w. (v : BabyBear) → v.value < w.value → ¬ Passes element_observed bits_sampled self.old bits v) }
-        ensures state { IfSome result (λ w. self.new ≡ (grind_attempt element_observed bits_sampled self.old bits w).state) }
-        ensures none_passes { IfNone result ((w : BabyBear) → ¬ Passes element_observed bits_sampled self.old bits w) }
+        ensures least { IfSome result (λ w.
+            (v : BabyBear) → v.value < w.value
+            → ¬ Passes element_observed bits_sampled self.old bits v) }
+        ensures state { IfSome result (λ w.
+            self.new ≡ (grind_attempt element_observed bits_sampled self.old bits w).state) }
+        ensures none_passes { IfNone result
+            ((w : BabyBear) → ¬ Passes element_observed bits_sampled self.old bits w) }
         ensures unchanged { IfNone result (self.new ≡ self.old) }
         ensures zero_at_no_bits { bits ≡ 0 → result ≡ Some (element 0) }
         ensures same_at_no_bits { bits ≡ 0 → self.new ≡ self.old }

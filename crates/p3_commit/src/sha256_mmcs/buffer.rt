@@ -36,7 +36,8 @@ impl BufferedHasher {
     /// Hands the buffer over to the hasher where it is full.
     fn flush_if_full(&mut self)
         ensures room { self.new.filled < 64 }
-        ensures message { (message : List ℕ) → HoldsMessage self.old message → HoldsMessage self.new message }
+        ensures message { (message : List ℕ) → HoldsMessage self.old message
+            → HoldsMessage self.new message }
     {
         if self.filled == BLOCK {
             let block = self.buffer;
@@ -47,7 +48,8 @@ impl BufferedHasher {
 
     /// Feeds a byte.
     pub(super) fn push(&mut self, byte: u8)
-        ensures { (message : List ℕ) → HoldsMessage self.old message → HoldsMessage self.new (message ++ byte ∷ []) }
+        ensures { (message : List ℕ) → HoldsMessage self.old message
+            → HoldsMessage self.new (message ++ byte ∷ []) }
     {
         self.flush_if_full();
         self.buffer[self.filled] = byte;
@@ -56,7 +58,8 @@ impl BufferedHasher {
 
     /// Feeds bytes.
     pub(super) fn push_bytes(&mut self, bytes: &[u8])
-        ensures { (message : List ℕ) → HoldsMessage self.old message → HoldsMessage self.new (message ++ bytes.now) }
+        ensures { (message : List ℕ) → HoldsMessage self.old message
+            → HoldsMessage self.new (message ++ bytes.now) }
     {
         if bytes.len() <= BLOCK - self.filled {
             let end = self.filled + bytes.len();
@@ -71,7 +74,8 @@ impl BufferedHasher {
 
     /// Feeds the bytes of an element.
     fn push_element<T: ElementBytes>(&mut self, element: T)
-        ensures { (message : List ℕ) → HoldsMessage self.old message → HoldsMessage self.new (message ++ T.bytes element) }
+        ensures { (message : List ℕ) → HoldsMessage self.old message
+            → HoldsMessage self.new (message ++ T.bytes element) }
     {
         if T::LEN <= BLOCK - self.filled {
             let end = self.filled + T::LEN;
@@ -90,7 +94,8 @@ impl BufferedHasher {
 
     /// Feeds a row: its length in eight bytes, little endian, and the bytes of its elements.
     pub(super) fn push_row<T: ElementBytes>(&mut self, row: &[T])
-        ensures { (message : List ℕ) → HoldsMessage self.old message → HoldsMessage self.new (message ++ row_bytes T.bytes row.now) }
+        ensures { (message : List ℕ) → HoldsMessage self.old message
+            → HoldsMessage self.new (message ++ row_bytes T.bytes row.now) }
     {
         self.push_bytes(&(row.len() as u64).to_le_bytes());
         for element in row {

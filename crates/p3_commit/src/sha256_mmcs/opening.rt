@@ -59,7 +59,9 @@ pub(super) fn paths_at_each(
 ) -> Result<Vec<Vec<[u8; 32]>>, AllocError>
     requires len { length digests.now + 1 ≡ 2 * 2 ^ log_height }
     requires below { All (λ i. i < 2 ^ log_height) indices.now }
-    ensures { IfOk result (λ paths. (leaves : ℕ → List ℕ) → IsTree leaves (2 ^ log_height) digests.now → lists paths.items ≡ map (path_of leaves log_height) indices.now) }
+    ensures { IfOk result (λ paths.
+        (leaves : ℕ → List ℕ) → IsTree leaves (2 ^ log_height) digests.now →
+        lists paths.items ≡ map (path_of leaves log_height) indices.now) }
 {
     let mut paths = Vec::with_capacity(alloc, indices.len())?;
     for index in indices {

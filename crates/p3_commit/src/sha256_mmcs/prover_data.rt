@@ -15,7 +15,7 @@ pub struct Sha256ProverData<T: ElementBytes> {
     pub(super) matrices: Vec<RowMajorMatrix<T>>,
     pub(super) log_height: usize,
     pub(super) digests: Vec<[u8; 32]>,
-    ghost heights: { HavePowerHeights (dimensions_of matrices.items) } by { heights_prop (dimensions_of matrices.items) },
+    ghost heights: { HavePowerHeights (dimensions_of matrices.items) } by { heights_prop _ },
     ghost greatest: { max_height (dimensions_of matrices.items) ≡ 2 ^ log_height },
     ghost tree: { IsTree (leaf_at T.bytes matrices.items) (2 ^ log_height) digests.items },
 }

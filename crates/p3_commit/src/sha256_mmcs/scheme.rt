@@ -1,8 +1,10 @@
 //! The scheme.
 
-ghost use Rattle.std.specs.Prelude.{◌≡◌, ◌≢◌, ◌^◌, ◌<◌, ◌↔◌, ◌⊎◌, ℕ, All, map, length, IsOk, IfOk, slice_index_or};
+ghost use Rattle.std.specs.Prelude.{◌≡◌, ◌≢◌, ◌^◌, ◌↔◌, ◌⊎◌, ℕ, map, length, IsOk, IfOk};
 ghost use Rattle.algebra.specs.Nested.{lists, nested};
-ghost use Rattle.p3_commit.specs.Batch.{max_height, HavePowerHeights, SomeWidthDiffers, dimensions_of, opened_rows};
+ghost use Rattle.p3_commit.specs.Batch.{AreBelow, HavePowerHeights, SomeWidthDiffers};
+ghost use Rattle.p3_commit.specs.Batch.{max_height, dimensions_of, opened_rows};
+ghost use Rattle.p3_commit.specs.ProverData.{matrices_of, root_over, sizes_of};
 ghost use Rattle.p3_commit.specs.Tree.{leaf, climb, SomeQuery, Opens, leaf_at, root_of, path_of};
 ghost use Rattle.p3_commit.specs.TreeLaws.{opens_shape};
 
@@ -19,10 +21,11 @@ use p3_matrix::{Dimensions, RowMajorMatrix};
 use std::alloc::{AllocError, Global};
 use std::marker::PhantomData;
 
-/// Merkle's tree over SHA-256, for matrices whose elements have bytes. With `2^m` the greatest height, it has `2^m`
-/// leaves: leaf `i` is the digest of a byte 0 and then, for each matrix in order, its width in eight bytes, little
-/// endian, and the bytes of the row that `i` opens. A node is the digest of a byte 1 and its two children. The
-/// commitment is the root, and a proof is one path for each index: the siblings from the leaf up.
+/// Merkle's tree over SHA-256, for matrices whose elements have bytes. With `2^m` the greatest
+/// height, it has `2^m` leaves: leaf `i` is the digest of a byte 0 and then, for each matrix in
+/// order, its width in eight bytes, little endian, and the bytes of the row that `i` opens. A node
+/// is the digest of a byte 1 and its two children. The commitment is the root, and a proof is one
+/// path for each index: the siblings from the leaf up.
 #[derive(Clone, Copy, Debug, Default)]
 pub struct Sha256Mmcs<T> {
     elements: PhantomData<T>,
@@ -46,11 +49,12 @@ impl<T: ElementBytes> Mmcs<T> for Sha256Mmcs<T> {
 
     type Error = Sha256MmcsError;
 
-    ghost opens = { λ _ commitment dims indices sets proof. Opens T.bytes commitment dims indices sets (lists proof.items) };
+    ghost opens = { λ _ commitment dims indices sets proof.
+        Opens T.bytes commitment dims indices sets (lists proof.items) };
 
-    ghost committed = { λ d. d.matrices.items };
+    ghost committed = { matrices_of };
 
-    ghost commitment_of = { λ d. root_of (leaf_at T.bytes d.matrices.items) d.log_height };
+    ghost commitment_of = { root_over };
 
     /// Besides, the commitment is the root of the tree over the matrices' leaves.
     fn commit(
@@ -59,9 +63,11 @@ impl<T: ElementBytes> Mmcs<T> for Sha256Mmcs<T> {
         matrices: Vec<RowMajorMatrix<T>>,
     ) -> Result<([u8; 32], Sha256ProverData<T>), AllocError>
         requires heights { HavePowerHeights (dimensions_of matrices.items) }
-        ensures matrices { IfOk result (λ pair. ⟦<Sha256Mmcs<T> as Mmcs<T>>⟧.committed pair.1 ≡ matrices.items) }
-        ensures commitment { IfOk result (λ pair. ⟦<Sha256Mmcs<T> as Mmcs<T>>⟧.commitment_of pair.1 ≡ pair.0) }
-        ensures root { IfOk result (λ pair. (m : ℕ) → max_height (dimensions_of matrices.items) ≡ 2 ^ m → pair.0 ≡ root_of (leaf_at T.bytes matrices.items) m) }
+        ensures matrices { IfOk result (λ pair. matrices_of pair.1 ≡ matrices.items) }
+        ensures commitment { IfOk result (λ pair. root_over pair.1 ≡ pair.0) }
+        ensures root { IfOk result (λ pair.
+            (m : ℕ) → max_height (dimensions_of matrices.items) ≡ 2 ^ m →
+            pair.0 ≡ root_of (leaf_at T.bytes matrices.items) m) }
     {
         let height = greatest_height_of(matrices.as_slice());
         let log_height = log2_strict_usize(height);
@@ -92,13 +98,16 @@ impl<T: ElementBytes> Mmcs<T> for Sha256Mmcs<T> {
         indices: &[usize],
         prover_data: &Sha256ProverData<T>,
     ) -> Result<(Vec<Vec<Vec<T>>>, Vec<Vec<[u8; 32]>>), AllocError>
-        requires below { All (λ i. i < max_height (dimensions_of (⟦<Sha256Mmcs<T> as Mmcs<T>>⟧.committed prover_data.now))) indices.now }
-        ensures rows { IfOk result (λ opening. nested opening.0.items ≡ map (opened_rows (⟦<Sha256Mmcs<T> as Mmcs<T>>⟧.committed prover_data.now)) indices.now) }
+        requires below { AreBelow (max_height (sizes_of prover_data.now)) indices.now }
+        ensures rows { IfOk result (λ opening.
+            nested opening.0.items ≡ map (opened_rows (matrices_of prover_data.now)) indices.now) }
         ensures opens { IfOk result (λ opening.
-            Opens T.bytes (⟦<Sha256Mmcs<T> as Mmcs<T>>⟧.commitment_of prover_data.now)
-            (dimensions_of (⟦<Sha256Mmcs<T> as Mmcs<T>>⟧.committed prover_data.now)) indices.now (nested opening.0.items) (lists opening.1.items)) }
-        ensures paths { IfOk result (λ opening. (m : ℕ) → max_height (dimensions_of (⟦<Sha256Mmcs<T> as Mmcs<T>>⟧.committed prover_data.now)) ≡ 2 ^ m →
-            lists opening.1.items ≡ map (path_of (leaf_at T.bytes (⟦<Sha256Mmcs<T> as Mmcs<T>>⟧.committed prover_data.now)) m) indices.now) }
+            Opens T.bytes (root_over prover_data.now) (sizes_of prover_data.now)
+            indices.now (nested opening.0.items) (lists opening.1.items)) }
+        ensures paths { IfOk result (λ opening.
+            (m : ℕ) → max_height (sizes_of prover_data.now) ≡ 2 ^ m →
+            lists opening.1.items
+            ≡ map (path_of (leaf_at T.bytes (matrices_of prover_data.now)) m) indices.now) }
     {
         let height = self.get_max_height(prover_data);
         let rows = rows_at_each(alloc, prover_data.matrices.as_slice(), height, indices)?;
@@ -121,18 +130,25 @@ impl<T: ElementBytes> Mmcs<T> for Sha256Mmcs<T> {
         proof: &Vec<Vec<[u8; 32]>>,
     ) -> Result<(), Sha256MmcsError>
         requires heights { HavePowerHeights dimensions.now }
-        requires below { All (λ i. i < max_height dimensions.now) indices.now }
-        ensures opens { IsOk result ↔ Opens T.bytes commitment.now dimensions.now indices.now (nested opened_values.now) (lists proof.now.items) }
+        requires below { AreBelow (max_height dimensions.now) indices.now }
+        ensures opens { IsOk result ↔
+            Opens T.bytes commitment.now dimensions.now
+            indices.now (nested opened_values.now) (lists proof.now.items) }
         ensures query_count { (result ≡ Err Sha256MmcsError.QueryCount)
-            ↔ ((length opened_values.now ≢ length indices.now) ⊎ (length proof.now.items ≢ length indices.now)) }
+            ↔ ((length opened_values.now ≢ length indices.now)
+            ⊎ (length proof.now.items ≢ length indices.now)) }
         ensures matrix_count { result ≡ Err Sha256MmcsError.MatrixCount →
-            SomeQuery (λ _ set _. length set ≢ length dimensions.now) indices.now (nested opened_values.now) (lists proof.now.items) }
+            SomeQuery (λ _ set _. length set ≢ length dimensions.now)
+            indices.now (nested opened_values.now) (lists proof.now.items) }
         ensures row_width { result ≡ Err Sha256MmcsError.RowWidth →
-            SomeQuery (λ _ set _. SomeWidthDiffers dimensions.now set) indices.now (nested opened_values.now) (lists proof.now.items) }
+            SomeQuery (λ _ set _. SomeWidthDiffers dimensions.now set)
+            indices.now (nested opened_values.now) (lists proof.now.items) }
         ensures path_length { result ≡ Err Sha256MmcsError.PathLength →
-            SomeQuery (λ _ _ path. 2 ^ length path ≢ max_height dimensions.now) indices.now (nested opened_values.now) (lists proof.now.items) }
+            SomeQuery (λ _ _ path. 2 ^ length path ≢ max_height dimensions.now)
+            indices.now (nested opened_values.now) (lists proof.now.items) }
         ensures root_mismatch { result ≡ Err Sha256MmcsError.RootMismatch →
-            SomeQuery (λ index set path. climb index (leaf T.bytes set) path ≢ commitment.now) indices.now (nested opened_values.now) (lists proof.now.items) }
+            SomeQuery (λ index set path. climb index (leaf T.bytes set) path ≢ commitment.now)
+            indices.now (nested opened_values.now) (lists proof.now.items) }
     {
         if opened_values.len() != indices.len() || proof.len() != indices.len() {
             return Err(Sha256MmcsError::QueryCount);
@@ -151,5 +167,6 @@ impl<T: ElementBytes> Mmcs<T> for Sha256Mmcs<T> {
 
     ghost heights_law = { λ d. d.heights };
 
-    ghost shape_law = { λ _ commitment dims indices sets proof opens. opens_shape T.bytes commitment dims indices sets (lists proof.items) opens };
+    ghost shape_law = { λ _ commitment dims indices sets proof opens.
+        opens_shape T.bytes commitment dims indices sets (lists proof.items) opens };
 }

@@ -10,8 +10,8 @@ use p3_field::ElementBytes;
 use p3_matrix::RowMajorMatrix;
 use std::alloc::{AllocError, Global};
 
-/// The digests of the tree over these matrices, of which `height` is the greatest height: the leaves, then each layer
-/// above them, down to the root.
+/// The digests of the tree over these matrices, of which `height` is the greatest height: the
+/// leaves, then each layer above them, down to the root.
 pub(super) fn tree_digests<T: ElementBytes>(
     alloc: Global,
     matrices: &[RowMajorMatrix<T>],
@@ -32,7 +32,8 @@ pub(super) fn tree_digests<T: ElementBytes>(
     Ok(digests)
 }
 
-/// The siblings on the way from the leaf at `index` to the root, of a tree of `2^log_height` leaves.
+/// The siblings on the way from the leaf at `index` to the root, of a tree of `2^log_height`
+/// leaves.
 pub(super) fn path(
     alloc: Global,
     digests: &[[u8; 32]],
@@ -41,7 +42,9 @@ pub(super) fn path(
 ) -> Result<Vec<[u8; 32]>, AllocError>
     requires len { length digests.now + 1 ≡ 2 * 2 ^ log_height }
     requires below { index < 2 ^ log_height }
-    ensures { IfOk result (λ path. (leaves : ℕ → List ℕ) → IsTree leaves (2 ^ log_height) digests.now → path.items ≡ path_of leaves log_height index) }
+    ensures { IfOk result (λ path.
+        (leaves : ℕ → List ℕ) → IsTree leaves (2 ^ log_height) digests.now →
+        path.items ≡ path_of leaves log_height index) }
 {
     let height = digests.len() / 2 + 1;
     let mut path = Vec::with_capacity(alloc, log_height)?;

@@ -11,7 +11,8 @@ use super::digests::{leaf_digest, node_digest};
 use p3_field::ElementBytes;
 use p3_matrix::Dimensions;
 
-/// The digest that `digest`, at `index` among its layer, leads to with these siblings from the lowest up.
+/// The digest that `digest`, at `index` among its layer, leads to with these siblings from the
+/// lowest up.
 fn root_over(digest: [u8; 32], index: usize, path: &[[u8; 32]]) -> [u8; 32]
     ensures { result ≡ climb index digest path.now }
 {
@@ -38,7 +39,8 @@ fn is_same(left: &[u8; 32], right: &[u8; 32]) -> bool
 /// Whether each row has its matrix's width. There are as many rows as matrices.
 fn have_widths<T>(dimensions: &[Dimensions], rows: &[Vec<T>]) -> bool
     requires { length rows.now ≡ length dimensions.now }
-    ensures { MatchBool result (HasRows dimensions.now (lists rows.now)) (SomeWidthDiffers dimensions.now (lists rows.now)) }
+    ensures { MatchBool result (HasRows dimensions.now (lists rows.now))
+        (SomeWidthDiffers dimensions.now (lists rows.now)) }
 {
     for i in 0..dimensions.len() {
         if rows[i].len() != dimensions[i].width {
@@ -48,7 +50,8 @@ fn have_widths<T>(dimensions: &[Dimensions], rows: &[Vec<T>]) -> bool
     true
 }
 
-/// Whether these rows and this path at `index` belong to the commitment. `2^log_height` is the greatest height.
+/// Whether these rows and this path at `index` belong to the commitment. `2^log_height` is the
+/// greatest height.
 fn verify_at<T: ElementBytes>(
     commitment: &[u8; 32],
     dimensions: &[Dimensions],
@@ -60,7 +63,8 @@ fn verify_at<T: ElementBytes>(
     requires greatest { 2 ^ log_height ≡ max_height dimensions.now }
     ensures { MatchResult result
         (λ _. OpensAt T.bytes commitment.now dimensions.now index (lists rows.now) path.now)
-        (λ fault. HasFault T.bytes commitment.now dimensions.now fault index (lists rows.now) path.now) }
+        (λ fault. HasFault T.bytes commitment.now dimensions.now fault index
+        (lists rows.now) path.now) }
 {
     if rows.len() != dimensions.len() {
         return Err(Sha256MmcsError::MatrixCount);
@@ -77,8 +81,8 @@ fn verify_at<T: ElementBytes>(
     Ok(())
 }
 
-/// Whether the rows and the path at each of these indices belong to the commitment. There are as many sets of rows and
-/// as many paths as indices.
+/// Whether the rows and the path at each of these indices belong to the commitment. There are as
+/// many sets of rows and as many paths as indices.
 pub(super) fn verify_each<T: ElementBytes>(
     commitment: &[u8; 32],
     dimensions: &[Dimensions],
@@ -91,8 +95,10 @@ pub(super) fn verify_each<T: ElementBytes>(
     requires sets { length opened_values.now ≡ length indices.now }
     requires paths { length paths.now ≡ length indices.now }
     ensures { MatchResult result
-        (λ _. Opens T.bytes commitment.now dimensions.now indices.now (nested opened_values.now) (lists paths.now))
-        (λ fault. SomeQuery (HasFault T.bytes commitment.now dimensions.now fault) indices.now (nested opened_values.now) (lists paths.now)) }
+        (λ _. Opens T.bytes commitment.now dimensions.now indices.now (nested opened_values.now)
+        (lists paths.now))
+        (λ fault. SomeQuery (HasFault T.bytes commitment.now dimensions.now fault) indices.now
+        (nested opened_values.now) (lists paths.now)) }
 {
     for i in 0..indices.len() {
         let rows = opened_values[i].as_slice();

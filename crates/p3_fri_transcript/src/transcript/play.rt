@@ -100,8 +100,8 @@ fn play_rounds<
     transcript: &mut ProverTranscript<'_, C, F, EF>,
     commitments: &[Com],
 ) -> Result<PlayedRounds<F, EF>, FriProverError>
-    requires rounds_left { RoundsLeft EF.DIMENSION (shape_of transcript.old) (length commitments.now)
-        (left_of transcript.old) }
+    requires rounds_left { RoundsLeft EF.DIMENSION (shape_of transcript.old)
+        (length commitments.now) (left_of transcript.old) }
     requires at_most_max { (shape_of transcript.old).commit_pow_bits ≤ C.MAX_SAMPLE_BITS }
     ensures kept { Kept transcript.old transcript.new }
     ensures rounds { IfOk result (λ played.

@@ -35,7 +35,8 @@ impl<
     ) -> Result<(EF, Option<F>), FriProverError>
     where
         C: CanObserve<Com>,
-        requires some_round_left { SomeRoundLeft EF.DIMENSION (shape_of self.old) (left_of self.old) }
+        requires some_round_left { SomeRoundLeft EF.DIMENSION (shape_of self.old)
+            (left_of self.old) }
         requires at_most_max { (shape_of self.old).commit_pow_bits ≤ C.MAX_SAMPLE_BITS }
         ensures kept { Kept self.old self.new }
         ensures round { IfOk result (λ drawn.
@@ -57,7 +58,8 @@ impl<
             let observed = ⟦<C as CanObserve<Com>>⟧.observed (state_of self.old) commitment in
             NonePasses ⟦<C as CanObserve<F>>⟧.observed C.sampled_bits observed
             (shape_of self.old).commit_pow_bits) }
-        ensures reached { Reaches ⟦<C as Plays<F, EF, Com>>⟧.moves (state_of self.old) (state_of self.new) }
+        ensures reached { Reaches ⟦<C as Plays<F, EF, Com>>⟧.moves (state_of self.old)
+            (state_of self.new) }
     {
         self.script
             .observe_opaque(&mut *self.challenger, commitment);
@@ -80,7 +82,8 @@ impl<
         alloc: Global,
         final_poly: &[EF],
     ) -> Result<(Vec<usize>, Option<F>), FriProverError>
-        requires all_rounds_played { RoundsLeft EF.DIMENSION (shape_of self.old) 0 (left_of self.old) }
+        requires all_rounds_played { RoundsLeft EF.DIMENSION (shape_of self.old) 0
+            (left_of self.old) }
         requires described { length final_poly.now ≡ (shape_of self.old).final_poly_len }
         requires pow_at_most_max { (shape_of self.old).query_pow_bits ≤ C.MAX_SAMPLE_BITS }
         requires index_at_most_max { (shape_of self.old).index_bits ≤ C.MAX_SAMPLE_BITS }
@@ -105,7 +108,8 @@ impl<
             let before = state_of self.old in
             let observed = polynomial_observed C.observed EF.coefficients before final_poly.now in
             NonePasses C.observed C.sampled_bits observed (shape_of self.old).query_pow_bits }
-        ensures reached { Reaches ⟦<C as Plays<F, EF, F>>⟧.moves (state_of self.old) (state_of self.new) }
+        ensures reached { Reaches ⟦<C as Plays<F, EF, F>>⟧.moves (state_of self.old)
+            (state_of self.new) }
     {
         self.script
             .observe_extensions(&mut *self.challenger, final_poly);

@@ -6,6 +6,7 @@ ghost use Rattle.p3_challenger.specs.Separator.{description, seed_bytes, seed_tu
 ghost use Rattle.p3_fri_folding.specs.Schedule.{IsStrictlyFalling, schedule};
 ghost use Rattle.p3_fri_steps.specs.Steps.{pow_steps};
 
+use crate::labels;
 use crate::rounds::push_rounds;
 use p3_challenger::fs::{
     DomainSeparator, Hierarchy, Interaction, InteractionPattern, Kind, Length, Seed,
@@ -14,11 +15,6 @@ use p3_field::{ExtensionField, Field};
 use p3_fri_folding::{FriParameters, fold_schedule};
 use p3_fri_steps::steps::{push_label, push_labels, push_pow};
 use std::alloc::{AllocError, Global};
-
-/// The version and the name that the transcript is bound to.
-const VERSION: u8 = 1;
-
-const NAME: &[u8] = b"p3-fri";
 
 /// The numbers that fix the transcript of a low-degree test. Both sides make it from their own
 /// parameters, and never from a proof.
@@ -49,9 +45,9 @@ impl FriShape {
     ghost use Rattle.p3_fri_transcript.specs.Steps.{fri_steps, fri_labels, fri_stream};
 
     /// The shape of a test of inputs of these log heights, which fall strictly, with indices of
-    /// `index_bits` bits. Its rounds are the schedule's. The cap is positive, the final polynomial's
-    /// logarithm below 64, and its sum with the log blowup is below `2^64`. Refused only for want of
-    /// memory.
+    /// `index_bits` bits. Its rounds are the schedule's. The cap is positive, the final
+    /// polynomial's logarithm below 64, and its sum with the log blowup is below `2^64`. Refused
+    /// only for want of memory.
     pub fn new<M>(
         alloc: Global,
         parameters: &FriParameters<M>,
@@ -61,7 +57,8 @@ impl FriShape {
         requires falling { IsStrictlyFalling log_heights.now }
         requires positive_cap { 0 < parameters.now.max_log_arity }
         requires log_final_poly_len_below_64 { parameters.now.log_final_poly_len < 64 }
-        requires final_height_fits { parameters.now.log_blowup + parameters.now.log_final_poly_len < 2 ^ 64 }
+        requires final_height_fits { parameters.now.log_blowup + parameters.now.log_final_poly_len
+            < 2 ^ 64 }
         ensures { IfOk result (λ shape.
             let final_height = parameters.now.log_blowup + parameters.now.log_final_poly_len in
             fri_shape shape ≡ record {
@@ -145,14 +142,14 @@ impl FriShape {
         steps.push(Interaction::algebra::<F, EF>(
             Hierarchy::Atomic,
             Kind::Message,
-            "final_poly",
+            labels::FINAL_POLY,
             Length::Fixed(self.final_poly_len),
         ))?;
-        push_pow::<F>(&mut steps, "query_pow", self.query_pow_bits)?;
+        push_pow::<F>(&mut steps, labels::QUERY_POW, self.query_pow_bits)?;
         steps.push(Interaction::bits(
             Hierarchy::Atomic,
             Kind::Challenge,
-            "query_indices",
+            labels::QUERY_INDICES,
             self.index_bits,
             Length::Fixed(self.num_queries),
         ))?;
@@ -173,7 +170,7 @@ impl FriShape {
         }) }
     {
         let pattern = self.pattern::<F, EF>(alloc)?;
-        let mut separator = DomainSeparator::new(alloc, VERSION, NAME, pattern);
+        let mut separator = DomainSeparator::new(alloc, labels::VERSION, labels::NAME, pattern);
         push_label(&mut separator, alloc, self.log_blowup)?;
         push_label(&mut separator, alloc, self.max_log_arity)?;
         push_labels(&mut separator, alloc, &self.log_arities)?;

@@ -34,7 +34,8 @@ impl<
     ) -> Result<EF, TranscriptFailure>
     where
         C: CanObserve<Com>,
-        requires some_round_left { SomeRoundLeft EF.DIMENSION (shape_of self.old) (left_of self.old) }
+        requires some_round_left { SomeRoundLeft EF.DIMENSION (shape_of self.old)
+            (left_of self.old) }
         requires at_most_max { (shape_of self.old).commit_pow_bits ≤ C.MAX_SAMPLE_BITS }
         ensures kept { Kept self.old self.new }
         ensures passes { IsOk result
@@ -47,7 +48,8 @@ impl<
         ensures steps { OnOk result
             (RoundPlayed EF.DIMENSION (shape_of self.old) (left_of self.old) (left_of self.new)) }
         ensures refused { IfErr result (λ e. e ≡ TranscriptFailure.PowWitness CommitPhase) }
-        ensures reached { Reaches ⟦<C as Plays<F, EF, Com>>⟧.moves (state_of self.old) (state_of self.new) }
+        ensures reached { Reaches ⟦<C as Plays<F, EF, Com>>⟧.moves (state_of self.old)
+            (state_of self.new) }
     {
         self.script
             .observe_opaque(&mut *self.challenger, commitment);
@@ -97,7 +99,8 @@ impl<
         ensures wrong_witnesses { let rounds = length (shape_of self.old).log_arities in
             length commitments.now ≡ rounds → length witnesses.now ≢ rounds
             → result ≡ Err (TranscriptFailure.CommitPowWitnessCount rounds (length witnesses.now)) }
-        ensures reached { Reaches ⟦<C as Plays<F, EF, Com>>⟧.moves (state_of self.old) (state_of self.new) }
+        ensures reached { Reaches ⟦<C as Plays<F, EF, Com>>⟧.moves (state_of self.old)
+            (state_of self.new) }
     {
         let expected = self.shape.log_arities.len();
         if commitments.len() != expected {
@@ -133,7 +136,8 @@ impl<
         final_poly: &[EF],
         witness: Option<F>,
     ) -> Result<Vec<usize>, TranscriptFailure>
-        requires all_rounds_played { RoundsLeft EF.DIMENSION (shape_of self.old) 0 (left_of self.old) }
+        requires all_rounds_played { RoundsLeft EF.DIMENSION (shape_of self.old) 0
+            (left_of self.old) }
         requires pow_at_most_max { (shape_of self.old).query_pow_bits ≤ C.MAX_SAMPLE_BITS }
         requires index_at_most_max { (shape_of self.old).index_bits ≤ C.MAX_SAMPLE_BITS }
         ensures kept { Kept self.old self.new }
@@ -154,7 +158,8 @@ impl<
         ensures wrong_length { let expected = (shape_of self.old).final_poly_len in
             length final_poly.now ≢ expected
             → result ≡ Err (TranscriptFailure.FinalPolyLen expected (length final_poly.now)) }
-        ensures reached { Reaches ⟦<C as Plays<F, EF, F>>⟧.moves (state_of self.old) (state_of self.new) }
+        ensures reached { Reaches ⟦<C as Plays<F, EF, F>>⟧.moves (state_of self.old)
+            (state_of self.new) }
     {
         let expected = self.shape.final_poly_len;
         if final_poly.len() != expected {

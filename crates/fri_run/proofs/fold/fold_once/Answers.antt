@@ -2,7 +2,7 @@ use Rattle.std.proofs.Common.{arith, ◌≡◌, ◌+◌, ◌*◌, ◌^◌, ap, �
 use Rattle.std.proofs.Math.Nat.{pow-suc}
 use Rattle.std.proofs.lemmas.Nat.{one_shl}
 use Rattle.p3_field.specs.BabyBear.{baby_bear, root}
-use Rattle.p3_fri_core.specs.Fold.{fold_value, folded_word}
+use Rattle.p3_fri_core.specs.Folds.{fold_value, folded_word}
 use Rattle.fri_run.proofs.Words.{slice_range-shared, done-more}
 use Rattle.fri_run.proofs.fold.fold_once.Goals as goal
 

@@ -1,7 +1,7 @@
 use Rattle.std.proofs.Common.{◌+◌, ◌*◌}
 use Rattle.std.specs.List.{slice_range}
 use Rattle.p3_field.specs.BabyBear.{baby_bear, root}
-use Rattle.p3_fri_core.specs.Fold.{fold_value}
+use Rattle.p3_fri_core.specs.Folds.{fold_value}
 use Rattle.fri_run.proofs.Words.{IsDoneBelow}
 use Rattle.fri_run.proofs.fold.fold_once.Given as goal
 

@@ -1,7 +1,7 @@
 use Rattle.std.proofs.Common.{◌≡◌, ◌+◌, ◌-◌, ◌^◌, drop, length, vec_len}
 use Rattle.std.specs.Prelude.{replicate}
 use Rattle.p3_field.specs.BabyBear.{baby_bear, root}
-use Rattle.p3_fri_core.specs.Fold.{folded_rounds}
+use Rattle.p3_fri_core.specs.Folds.{folded_rounds}
 use Rattle.fri_run.proofs.fold.fold_rounds.Given as goal
 
 abbrev pub invariant-loop-beta : goal.invariant-loop-beta

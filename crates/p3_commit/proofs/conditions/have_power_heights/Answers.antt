@@ -15,5 +15,7 @@ loop-d-preserved c =
 
 pub returns : goal.returns
 returns c =
-    let dims = c.args.dimensions.now in
-    (λ _. subst HavePowerHeights (take_all c.loop-d.d-index dims (omega arith)) c.loop-d.invariant, λ _. refl)
+    let dims = c.args.dimensions.now in (
+      λ _. subst HavePowerHeights (take_all c.loop-d.d-index dims (omega arith)) c.loop-d.invariant,
+      λ _. refl,
+    )

@@ -4,4 +4,8 @@ use Rattle.p3_commit_tests.proofs.sha256_mmcs.commitment_to.Goals as goal
 
 pub commit-requires : goal.commit-requires
 commit-requires g c =
-    record { heights = subst HavePowerHeights (c.as_slice-2.ensures.value ∙ c.in_ok-all.ensures ∙ ap dimensions_of c.as_slice.ensures.value) (c.if-have_power_heights.ensures.0 refl) }
+    record {
+      heights = subst HavePowerHeights
+          (c.as_slice-2.ensures.value ∙ c.in_ok-all.ensures
+          ∙ ap dimensions_of c.as_slice.ensures.value) (c.if-have_power_heights.ensures.0 refl);
+    }

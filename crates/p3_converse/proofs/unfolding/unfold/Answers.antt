@@ -7,6 +7,10 @@ use Rattle.p3_converse.specs.Unfolding.{lists, common_length, IsUnfolding}
 use Rattle.p3_converse.proofs.Positions.{length-lists, common_length-first, one_length-lists, log_small}
 use Rattle.p3_converse.proofs.Interpolated.{length-interpolated}
 use Rattle.p3_converse.proofs.Unfolded.{is_unfolding}
+use Rattle.std.proofs.Common.{[], ◌∷◌, refl, false}
+use Rattle.p3_converse.specs.Branches.{IsTreeUnfolding}
+use Rattle.p3_converse.specs.Trees.{one_round}
+use Rattle.p3_converse.proofs.Branches.{is_one_round}
 use Rattle.p3_converse.proofs.unfolding.unfold.Goals as goal
 
 pub overflow_shl-arity : goal.overflow_shl-arity
@@ -41,4 +45,22 @@ returns-clause-rows g c =
     (λ v e. subst (λ p. IsUnfolding F k betas (lists polys) p) (sym e)
     (is_unfolding F g.met.EF.Field.laws k d betas (lists polys) c.requires.distinct c.requires.arity (length-lists polys ∙ c.requires.as_many)
     (each_from_All (λ p. length p ≡ d) (lists polys) (one_length-lists polys d (λ t z l. c.requires.one_length t z l ∙ sym degree)))))
+    c.interpolate_positions.ensures
+
+pub returns-clause-one_round : goal.returns-clause-one_round
+returns-clause-one_round g c =
+    let F = g.EF.Field.ops in
+    let k = c.args.log_arity in
+    let betas = c.args.betas.now in
+    let polys = c.args.polys.now in
+    let d = c.len-degree_bound.result in
+    let some : 0 < length polys = omega (arith, c.requires.as_many, pow_pos k) in
+    let degree : d ≡ common_length polys = c.len-degree_bound.ensures ∙ common_length-first polys c.index-polys-0.result some c.index-polys-0.is in
+    IfOk-weaker c.interpolate_positions.result (λ v. v.items ≡ interpolated F betas (lists polys) d) (λ v. IsTreeUnfolding F ((k, false) ∷ []) (one_round betas (lists polys)) v.items [])
+    (λ v e. is_one_round F (k, false) betas (lists polys) v.items [] (c.requires.arity ∙ sym (length-lists polys ∙ c.requires.as_many)) (omega (arith, c.requires.arity, pow_pos k)) (
+      subst (λ p. IsUnfolding F k betas (lists polys) p) (sym e)
+          (is_unfolding F g.met.EF.Field.laws k d betas (lists polys) c.requires.distinct c.requires.arity (length-lists polys ∙ c.requires.as_many)
+          (each_from_All (λ p. length p ≡ d) (lists polys) (one_length-lists polys d (λ t z l. c.requires.one_length t z l ∙ sym degree)))),
+      refl,
+    ))
     c.interpolate_positions.ensures

@@ -7,6 +7,8 @@ use Rattle.p3_converse.specs.Unfolding.{lists, common_length, IsUnfoldingWithInp
 use Rattle.p3_converse.proofs.Positions.{length-coefficients_at, length-lists, common_length-first, one_length-lists, log_small, all-front, all-last}
 use Rattle.p3_converse.proofs.Concatenated.{length-concatenated}
 use Rattle.p3_converse.proofs.Unfolded.{is_unfolding_with_input}
+use Rattle.std.proofs.Common.{refl, true}
+use Rattle.p3_converse.proofs.Branches.{is_one_round}
 use Rattle.p3_converse.proofs.unfolding.unfold_with_input.Goals as goal
 
 pub overflow_shl-arity : goal.overflow_shl-arity
@@ -68,3 +70,28 @@ returns-clause-rows g c =
     (is_unfolding_with_input F g.met.EF.Field.laws k d betas (lists polys) (lists parts) input.items c.requires.arity (length-lists parts ∙ count)
     (λ s e l. one_length-lists parts d lengths s e l)
     (subst (λ ps. IsUnbatching F betas (lists polys) ps) (ap (λ vs. lists vs) all ∙ map-append (λ v. v.items) parts (input ∷ [])) c.in_ok-parts.ensures.values))
+
+pub returns-clause-one_round : goal.returns-clause-one_round
+returns-clause-one_round g c =
+    let F = g.EF.Field.ops in
+    let k = c.args.log_arity in
+    let betas = c.args.betas.now in
+    let polys = c.args.polys.now in
+    let parts = c.pop.new.self.items in
+    let input = c.unwrap-input.result in
+    let d = c.len-degree_bound.result in
+    let some : 0 < length polys = omega (arith, c.requires.as_many) in
+    let degree : d ≡ common_length polys = c.len-degree_bound.ensures ∙ common_length-first polys c.index-polys-0.result some c.index-polys-0.is in
+    let all : c.in_ok-parts.parts.items ≡ parts ++ input ∷ [] = c.pop.ensures.items ∙ ap (λ o. parts ++ option_to_list o) c.unwrap-input.ensures in
+    let count : length parts ≡ 2 ^ k = omega (arith, c.in_ok-parts.parts.ok.0, c.in_ok-parts.ensures.count, ap length all, length-append parts (input ∷ []), c.requires.arity) in
+    let lengths : All (λ p. vec_len p ≡ d) parts =
+    all-front (λ p. vec_len p ≡ d) parts input (subst (λ vs. All (λ p. vec_len p ≡ d) vs) all (λ k e l. c.in_ok-parts.ensures.lengths k e l ∙ sym degree)) in
+    is_one_round F (k, true) betas (lists polys) c.interleave.new.entries.items (input.items ∷ []) (c.requires.arity ∙ sym (length-lists polys ∙ c.requires.as_many)) (omega (arith, c.requires.arity)) (
+      input.items,
+      subst (λ word. IsUnfoldingWithInput F k betas (lists polys) word input.items)
+          (sym (c.in_ok-interleave.ensures ∙ ap (λ vs. interleaved F (lists vs) d) c.deref.ensures.value))
+          (is_unfolding_with_input F g.met.EF.Field.laws k d betas (lists polys) (lists parts) input.items c.requires.arity (length-lists parts ∙ count)
+          (λ s e l. one_length-lists parts d lengths s e l)
+          (subst (λ ps. IsUnbatching F betas (lists polys) ps) (ap (λ vs. lists vs) all ∙ map-append (λ v. v.items) parts (input ∷ [])) c.in_ok-parts.ensures.values)),
+      refl,
+    )

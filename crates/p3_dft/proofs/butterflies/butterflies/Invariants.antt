@@ -1,9 +1,12 @@
-use Rattle.std.proofs.Common.{◌≡◌, ◌<◌, ℕ, get_or}
-use Rattle.algebra.specs.Field.{sub}
+use Rattle.std.proofs.Common.{◌≡◌, ◌<◌, ℕ}
+use Rattle.p3_dft.specs.Butterflies.{entry, sum_at, difference_at}
 use Rattle.p3_dft.proofs.butterflies.butterflies.Given as goal
 
-abbrev pub invariant-loop-k : goal.invariant-loop-k
-invariant-loop-k g l = record {
-  sums : (k : ℕ) (d : g.row.EF.Denot) → k < l.k → get_or l.sums k d ≡ g.EF.Field.ops.add (get_or l.low k d) (g.EF.Field.ops.mul (get_or l.high k d) (g.EF.ExtensionField.lift l.twiddle));
-  differences : (k : ℕ) (d : g.row.EF.Denot) → k < l.k → get_or l.differences k d ≡ sub g.EF.Field.ops (get_or l.low k d) (g.EF.Field.ops.mul (get_or l.high k d) (g.EF.ExtensionField.lift l.twiddle));
-}
+abbrev pub invariant-loop-j : goal.invariant-loop-j
+invariant-loop-j g l =
+    let K = g.EF.Field.ops in
+    let t = g.EF.ExtensionField.lift l.fn.twiddle in
+    record {
+      sums : (j : ℕ) (d : g.row.EF.Denot) → j < l.j → entry l.sums d j ≡ sum_at K (entry l.block d) t l.half j;
+      differences : (j : ℕ) (d : g.row.EF.Denot) → j < l.j → entry l.differences d j ≡ difference_at K (entry l.block d) t l.half j;
+    }

@@ -1,11 +1,9 @@
 -- The transform by the inverse root, divided by the size, gives the coefficients.
-use Rattle.std.proofs.Common.{◌≡◌, ◌-◌, ◌+◌, ◌*◌, ◌/◌, ◌%◌, ◌^◌, ℕ, get_or, arith, ap, ap₂, subst}
+use Rattle.std.proofs.Common.{◌-◌, ◌+◌, ◌*◌, ◌^◌, get_or, arith, ap, ap₂}
 use Rattle.std.proofs.Common.{sym, ◌∙◌}
-use Rattle.std.proofs.lemmas.Nat.{one_shl, pow_pos}
+use Rattle.std.proofs.lemmas.Nat.{one_shl}
 use Rattle.std.proofs.lemmas.List.{with_items_is}
-use Rattle.std.proofs.Math.Nat.{mul-div_cancel_left, mul-mod_right}
 use Rattle.algebra.proofs.Points.{root-nonzero, lifted_roots}
-use Rattle.p3_dft.specs.Strided.{HoldsValues}
 use Rattle.p3_dft.proofs.Turns.{inverse_turn, root_turn, inverse_of_root}
 use Rattle.p3_dft.proofs.Lifts.{lifted_inverse, lifted_size, lifted_factor}
 use Rattle.p3_dft.proofs.Coefficients.{recovered}
@@ -15,9 +13,6 @@ pub inverse-root-requires : goal.inverse-root-requires
 inverse-root-requires g c =
     let field = g.F.TwoAdicField in
     record { nonzero = λ e. root-nonzero g.F.Field.ops g.met.F.Field.laws field.TWO_ADICITY field.root g.met.F.TwoAdicField.roots_law c.args.log_height c.requires.within_two_adicity (sym c.two_adic_generator.ensures ∙ e) }
-
-pub transform-requires-clause-whole_rows : goal.transform-requires-clause-whole_rows
-transform-requires-clause-whole_rows g c = ap (λ n. n % 2 ^ c.args.log_height) c.requires.size ∙ mul-mod_right (2 ^ c.args.log_height) c.args.width
 
 pub transform-requires-clause-half_turn : goal.transform-requires-clause-half_turn
 transform-requires-clause-half_turn g c some =
@@ -47,11 +42,9 @@ returns-clause-coefficients g c j x q =
     let first = c.inverse_of_size.result in
     let shift = one_shl k 64 (omega (arith, c.requires.within_two_adicity, g.met.F.TwoAdicField.two_adicity_law)) in
     let made = with_items_is c.in_ok-coefficients.coefficients c.scale_rows.new.values (omega arith) in
-    let columns : c.args.values.len / 2 ^ k ≡ width = ap (λ n. n / 2 ^ k) c.requires.size ∙ mul-div_cancel_left width (pow_pos k) in
-    let Known : ℕ → Type 0 = λ n. HoldsValues K (lift c.inverse-root.result) n (2 ^ k) ys ts in
     recovered K g.met.EF.Field.laws field.TWO_ADICITY (λ n. lift (field.root n)) (lifted_roots F K lift g.met.F.Field.laws g.met.EF.Field.laws H field.TWO_ADICITY field.root g.met.F.TwoAdicField.roots_law)
     k c.requires.within_two_adicity (lift c.inverse-root.result) (lift first) (lifted_inverse F K lift R S H (field.root k) c.inverse-root.result inverse) (lifted_size F K lift R S H (2 ^ k) first c.inverse_of_size.ensures)
-    (lift c.args.ratio) width ys ts _ (subst Known columns c.in_ok-coefficients.ensures.values)
+    (lift c.args.ratio) width ys ts _ c.in_ok-coefficients.ensures.values
     (λ i j l q.
     ap (λ xs. get_or xs (i * width + j) K.zero) made
     ∙ c.scale_rows.ensures i j K.zero (omega (arith, l, shift)) q

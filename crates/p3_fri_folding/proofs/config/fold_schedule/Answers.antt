@@ -2,7 +2,8 @@ use Rattle.std.proofs.Common.{ℕ, List, ◌++◌, All, ◌≤◌, refl, sym, ap
 use Rattle.std.proofs.lemmas.Grind.{common_steps}
 use Rattle.std.proofs.lemmas.List.{append-nil, nil_from_length, take_rest}
 use Rattle.p3_fri_folding.specs.Schedule.{IsStrictlyFalling, LeadsDown, AreFewest}
-use Rattle.p3_fri_folding.proofs.Rounds.{falls_from, schedule-nil, schedule-low, schedule-between, schedule-there}
+use Rattle.p3_fri_folding.proofs.Rounds.{falls_from, schedule-nil, schedule-low, schedule-between}
+use Rattle.p3_fri_folding.proofs.Rounds.{schedule-there}
 use Rattle.p3_fri_folding.proofs.Fewest.{schedule-in_range, schedule-leads_down, schedule-fewest}
 use Rattle.p3_fri_folding.proofs.config.fold_schedule.Goals as goal
 

@@ -1,5 +1,5 @@
 use Rattle.std.proofs.Common.{ap, ◌∙◌}
-use Rattle.p3_fri_folding.proofs.Folds.{fold_by_half_inverse}
+use Rattle.algebra.proofs.PairFolds.{fold_by_half_inverse}
 use Rattle.p3_fri_folding.proofs.folding.fold_pair.Goals as goal
 
 pub returns : goal.returns

@@ -3,7 +3,7 @@ use Rattle.std.proofs.lemmas.Nat.{one_shl}
 use Rattle.algebra.specs.Field.{pow}
 use Rattle.algebra.proofs.Digits.{rev-lt}
 use Rattle.algebra.proofs.Powers.{double}
-use Rattle.p3_fri_folding.proofs.Folds.{half_inverse_by_power}
+use Rattle.algebra.proofs.PairFolds.{half_inverse_by_power}
 use Rattle.p3_fri_folding.proofs.folding.half_inverse.Goals as goal
 
 pub overflow_sub-power : goal.overflow_sub-power

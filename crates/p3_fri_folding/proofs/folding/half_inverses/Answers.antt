@@ -1,4 +1,5 @@
-use Rattle.std.proofs.Common.{◌≡◌, ℕ, ◌*◌, ◌%◌, ◌^◌, ◌++◌, suc, length, take, drop, get_or, subst, List, refl, sym, ap, ◌∙◌, arith, add-one}
+use Rattle.std.proofs.Common.{◌≡◌, ℕ, ◌*◌, ◌%◌, ◌^◌, ◌++◌, suc, length, take, drop, get_or, subst}
+use Rattle.std.proofs.Common.{List, refl, sym, ap, ◌∙◌, arith, add-one}
 use Rattle.std.proofs.Math.Seq.{take-append_seam}
 use Rattle.std.proofs.lemmas.Nat.{one_shl}
 use Rattle.algebra.specs.Field.{pow}
@@ -8,8 +9,8 @@ use Rattle.algebra.proofs.Lists.{length-tabulate, get_or-tabulate}
 use Rattle.algebra.proofs.Points.{root-nonzero}
 use Rattle.p3_field.specs.Index.{bit_reversed}
 use Rattle.p3_field.proofs.IndexReversal.{bit_reversed-tabulate}
-use Rattle.p3_fri_folding.specs.Fold.{AreHalfInverses}
-use Rattle.p3_fri_folding.proofs.Folds.{half_inverse_by_inverse}
+use Rattle.algebra.specs.Folds.{AreHalfInverses}
+use Rattle.algebra.proofs.PairFolds.{half_inverse_by_inverse}
 use Rattle.p3_fri_folding.proofs.folding.half_inverses.Goals as goal
 
 pub inverse-inverse-requires : goal.inverse-inverse-requires

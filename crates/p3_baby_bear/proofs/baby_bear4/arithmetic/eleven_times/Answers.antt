@@ -4,4 +4,6 @@ use Rattle.p3_baby_bear.proofs.QuarticSteps.{eleven_times_is}
 use Rattle.p3_baby_bear.proofs.baby_bear4.arithmetic.eleven_times.Goals as goal
 
 pub returns-clause-value : goal.returns-clause-value
-returns-clause-value c = eleven_times_is c.args.sum (c.args.sum / 4294967296) _ (let low = and_mask c.args.sum 32 in omega (arith, low))
+returns-clause-value c =
+    eleven_times_is c.args.sum (c.args.sum / 4294967296) _
+    (let low = and_mask c.args.sum 32 in omega (arith, low))

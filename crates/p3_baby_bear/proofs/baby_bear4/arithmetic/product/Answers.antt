@@ -5,4 +5,7 @@ use Rattle.p3_baby_bear.proofs.QuarticSteps.{product_is}
 use Rattle.p3_baby_bear.proofs.baby_bear4.arithmetic.product.Goals as goal
 
 pub returns-clause-value : goal.returns-clause-value
-returns-clause-value c = ap (λ n. multiple baby_bear n) (ap₂ (λ m n. m * n) c.as_canonical_u64.ensures c.as_canonical_u64-2.ensures) ∙ product_is c.args.a c.args.b
+returns-clause-value c =
+    ap (λ n. multiple baby_bear n)
+    (ap₂ (λ m n. m * n) c.as_canonical_u64.ensures c.as_canonical_u64-2.ensures)
+    ∙ product_is c.args.a c.args.b

@@ -16,10 +16,13 @@ returns-clause-sum c x y (suc (suc (suc (suc k)))) = sym (baby_bear_laws.add_zer
 
 pub returns-clause-product : goal.returns-clause-product
 unfolding baby_bear4
-returns-clause-product c x y = quartic_remainder baby_bear baby_bear_laws.ring (element 11) (quartic_of x) (quartic_of y)
+returns-clause-product c x y =
+    quartic_remainder baby_bear baby_bear_laws.ring (element 11) (quartic_of x) (quartic_of y)
 
 pub returns-clause-no_factors : goal.returns-clause-no_factors
-returns-clause-no_factors c = quartic_modulus_no_factors baby_bear baby_bear_laws.ring (element 11) baby_bear_laws.one_not_zero quartic_laws
+returns-clause-no_factors c =
+    quartic_modulus_no_factors baby_bear baby_bear_laws.ring
+    (element 11) baby_bear_laws.one_not_zero quartic_laws
 
 pub returns-clause-lifted : goal.returns-clause-lifted
 returns-clause-lifted c x = rw zero_is refl

@@ -1,6 +1,7 @@
 use Rattle.std.proofs.Common.{◌≡◌, ◌-◌, ◌++◌, take}
 use Rattle.p3_challenger_core.specs.Run.{draws}
-use Rattle.p3_challenger_core.proofs.field_challenger.FieldChallenger.sample_algebra_element.Given as goal
+use Rattle.p3_challenger_core.proofs.field_challenger.FieldChallenger.sample_algebra_element.Given
+    as goal
 
 abbrev pub invariant-loop-index : goal.invariant-loop-index
 invariant-loop-index g l =

@@ -7,4 +7,5 @@ use Rattle.p3_commit.proofs.sha256_mmcs.digests.leaf_digest.Given as goal
 
 abbrev pub invariant-loop-row : goal.invariant-loop-row
 invariant-loop-row g l =
-    HoldsMessage l.hasher (0 ∷ flat_map (row_bytes g.T.ElementBytes.bytes) (lists (take l.row-index l.rows)))
+    HoldsMessage l.hasher (0 ∷ flat_map (row_bytes g.T.ElementBytes.bytes)
+    (lists (take l.row-index l.rows)))

@@ -7,4 +7,5 @@ use Rattle.p3_commit.proofs.sha256_mmcs.digests.leaf_digest_at.Given as goal
 
 abbrev pub invariant-loop-matrix : goal.invariant-loop-matrix
 invariant-loop-matrix g l =
-    HoldsMessage l.hasher (0 ∷ flat_map (row_bytes g.T.ElementBytes.bytes) (map (opened_row l.height l.index) (take l.matrix-index l.matrices)))
+    HoldsMessage l.hasher (0 ∷ flat_map (row_bytes g.T.ElementBytes.bytes)
+    (map (opened_row l.height l.index) (take l.matrix-index l.matrices)))

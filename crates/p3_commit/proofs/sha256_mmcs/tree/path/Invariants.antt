@@ -8,5 +8,6 @@ abbrev pub invariant-loop-level : goal.invariant-loop-level
 invariant-loop-level l = record {
   place : l.at + 2 * 2 ^ (l.log_height - l._level) ≡ 2 * 2 ^ l.log_height + l.index / 2 ^ l._level;
   siblings : (leaves : ℕ → List ℕ) → IsTree leaves (2 ^ l.log_height) l.digests
-      → l.path.items ≡ tabulate l._level (λ level. digest_at leaves level (sibling_of (l.index / 2 ^ level)));
+      → l.path.items ≡ tabulate l._level (λ level.
+      digest_at leaves level (sibling_of (l.index / 2 ^ level)));
 }

@@ -5,7 +5,9 @@ use Rattle.p3_commit.proofs.Trees.{TreeUpTo}
 use Rattle.p3_commit.proofs.sha256_mmcs.tree.tree_digests.Given as goal
 
 abbrev pub invariant-loop-index : goal.invariant-loop-index
-invariant-loop-index g l = l.digests.items ≡ tabulate l.index (leaf_at g.T.ElementBytes.bytes l.matrices)
+invariant-loop-index g l = l.digests.items
+    ≡ tabulate l.index (leaf_at g.T.ElementBytes.bytes l.matrices)
 
 abbrev pub invariant-loop-pair : goal.invariant-loop-pair
-invariant-loop-pair g l = TreeUpTo (leaf_at g.T.ElementBytes.bytes l.matrices) l.height l.pair l.digests.items
+invariant-loop-pair g l =
+    TreeUpTo (leaf_at g.T.ElementBytes.bytes l.matrices) l.height l.pair l.digests.items

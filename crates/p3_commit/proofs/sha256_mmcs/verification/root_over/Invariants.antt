@@ -3,4 +3,5 @@ use Rattle.p3_commit.specs.Tree.{climb}
 use Rattle.p3_commit.proofs.sha256_mmcs.verification.root_over.Given as goal
 
 abbrev pub invariant-loop-sibling : goal.invariant-loop-sibling
-invariant-loop-sibling l = climb l.at l.top (drop l.sibling-index l.path) ≡ climb l.fn.index l.fn.digest l.path
+invariant-loop-sibling l = climb l.at l.top (drop l.sibling-index l.path)
+    ≡ climb l.fn.index l.fn.digest l.path

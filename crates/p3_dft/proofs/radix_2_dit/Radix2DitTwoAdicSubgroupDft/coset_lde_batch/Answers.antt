@@ -1,7 +1,7 @@
 -- The coefficients, each times a power of the shift, with zeros below them, and their values at the
 -- powers of the
 -- greater root.
-use Rattle.std.proofs.Common.{◌≡◌, ◌≤◌, ◌<◌, ◌+◌, ◌-◌, ◌*◌, ◌/◌, ◌^◌, ◌++◌, take, replicate, ℕ}
+use Rattle.std.proofs.Common.{◌≡◌, ◌≤◌, ◌<◌, ◌+◌, ◌-◌, ◌*◌, ◌^◌, ◌++◌, take, replicate, ℕ}
 use Rattle.std.proofs.Common.{length, get_or, arith, ap, subst, sym, ◌∙◌}
 use Rattle.algebra.specs.Field.{pow}
 use Rattle.p3_field.specs.Coset.{coset_point, coset_points}
@@ -9,10 +9,9 @@ use Rattle.p3_field.proofs.IndexPowers.{exponents_agree}
 use Rattle.p3_dft.specs.Evaluations.{subgroup_points, AreExtensions}
 use Rattle.p3_dft.proofs.Turns.{root_turn}
 use Rattle.p3_dft.proofs.Columns.{Holds}
-use Rattle.p3_dft.proofs.Batches.{whole_columns, whole_heights, width_of_size, held_by_values}
-use Rattle.p3_dft.proofs.Batches.{held_by_new, values_at}
 use Rattle.p3_dft.proofs.Extensions.{extended_within, extended_size, size_of_product, get_or-filled}
 use Rattle.p3_dft.proofs.Extensions.{padded_column, extensions_by_entries}
+use Rattle.p3_dft.proofs.Batches.{whole_columns, held_by_values, held_by_new, values_at}
 use Rattle.p3_dft.proofs.radix_2_dit.Radix2DitTwoAdicSubgroupDft.coset_lde_batch.Goals as goal
 
 pub overflow_add-log_extended : goal.overflow_add-log_extended
@@ -40,12 +39,12 @@ transform-requires-clause-log_height g c =
     let k = c.log2_strict_usize-log_height in
     omega (arith, g.met.F.TwoAdicField.two_adicity_law, extended_within k.result c.args.added_bits g.F.TwoAdicField.TWO_ADICITY _ (k.ensures.power ∙ c.height.ensures) c.requires.within_two_adicity)
 
-pub transform-requires-clause-whole_rows : goal.transform-requires-clause-whole_rows
-transform-requires-clause-whole_rows g c =
+pub transform-requires-clause-size : goal.transform-requires-clause-size
+transform-requires-clause-size g c =
     let k = c.log2_strict_usize-log_height in
     let n = k.result + c.args.added_bits in
     let bound : n < 64 = omega (arith, g.met.F.TwoAdicField.two_adicity_law, extended_within k.result c.args.added_bits g.F.TwoAdicField.TWO_ADICITY _ (k.ensures.power ∙ c.height.ensures) c.requires.within_two_adicity) in
-    whole_heights c.resize.new.self.len (2 ^ n) c.width-width.result (c.in_ok-resize.ensures.len ∙ size_of_product n c.width-width.result c.in-Some.size bound c.in-Some.ensures.1)
+    c.in_ok-resize.ensures.len ∙ size_of_product n c.width-width.result c.in-Some.size bound c.in-Some.ensures.1
 
 pub transform-requires-clause-half_turn : goal.transform-requires-clause-half_turn
 transform-requires-clause-half_turn g c some =
@@ -101,6 +100,6 @@ returns g c k size =
     (extensions_by_entries F given c.new.result width (2 ^ log.result) (2 ^ n) ys es.items (subgroup_points F (root log.result) log.result) (coset_point F (root n) shift) held
     (held_by_new c.new.result width (2 ^ n) es.len es.items some es.ok.0 c.new.ensures.rows c.new.ensures.width (made.ensures.len ∙ filled.len ∙ product))
     (λ i j l q.
-    values_at F c.two_adic_generator-root.result (root n) (ps.len / 2 ^ n) width (2 ^ n) ps.items es.items c.two_adic_generator-root.ensures (width_of_size ps.len n width (filled.len ∙ product)) made.ensures.values i j l q
+    values_at F c.two_adic_generator-root.result (root n) width (2 ^ n) _ es.items c.two_adic_generator-root.ensures made.ensures.values i j l q
     ∙ padded_column F g.met.F.Field.laws.ring log.result c.args.added_bits width cs ps.items count same j (pow F (root n) i)
     ∙ coefficients.ensures.coefficients j (pow F (root n) i) q))

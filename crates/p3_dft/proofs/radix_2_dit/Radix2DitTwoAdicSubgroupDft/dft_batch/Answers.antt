@@ -1,22 +1,22 @@
-use Rattle.std.proofs.Common.{◌≡◌, ◌*◌, ◌^◌, ◌-◌, ◌/◌, ℕ, length, ap, subst, sym, ◌∙◌}
+use Rattle.std.proofs.Common.{◌≡◌, ◌*◌, ◌^◌, ◌-◌, ℕ, length, ap, ap₂, subst, sym, ◌∙◌}
 use Rattle.algebra.specs.Field.{pow}
 use Rattle.p3_field.proofs.IndexPowers.{exponents_agree}
-use Rattle.p3_matrix.specs.Matrix.{rows, matrix_width}
+use Rattle.p3_matrix.specs.Matrix.{rows}
 use Rattle.p3_dft.specs.Evaluations.{subgroup_points, AreEvaluations}
 use Rattle.p3_dft.proofs.Turns.{root_turn}
 use Rattle.p3_dft.proofs.Columns.{Holds, evaluations_by_entries}
-use Rattle.p3_dft.proofs.Batches.{exponent_within, whole_columns, whole_heights, width_of_size}
-use Rattle.p3_dft.proofs.Batches.{held_by_values, held_by_new, values_at}
+use Rattle.p3_dft.proofs.Batches.{exponent_within, whole_columns, held_by_values, held_by_new}
+use Rattle.p3_dft.proofs.Batches.{values_at}
 use Rattle.p3_dft.proofs.radix_2_dit.Radix2DitTwoAdicSubgroupDft.dft_batch.Goals as goal
 
 pub two_adic_generator-root-requires : goal.two_adic_generator-root-requires
 two_adic_generator-root-requires g c = record { within_two_adicity = exponent_within c.log2_strict_usize-log_height.result g.F.TwoAdicField.TWO_ADICITY _ (c.log2_strict_usize-log_height.ensures.power ∙ c.height.ensures) c.requires.within_two_adicity }
 
-pub transform-requires-clause-whole_rows : goal.transform-requires-clause-whole_rows
-transform-requires-clause-whole_rows g c =
+pub transform-requires-clause-size : goal.transform-requires-clause-size
+transform-requires-clause-size g c =
     let k = c.log2_strict_usize-log_height in
-    let width = matrix_width c.args.coefficients in
-    whole_heights c.into_values.result.len (2 ^ k.result) width (c.into_values.ensures.len ∙ ap (λ n. n * width) (sym (k.ensures.power ∙ c.height.ensures)))
+    c.into_values.ensures.len
+    ∙ ap₂ (λ m n. m * n) (sym (k.ensures.power ∙ c.height.ensures)) (sym c.width-width.ensures.columns)
 
 pub transform-requires-clause-half_turn : goal.transform-requires-clause-half_turn
 transform-requires-clause-half_turn g c some =
@@ -48,4 +48,4 @@ returns g c k size =
     subst Result (exponents_agree log.result k (height ∙ size))
     (evaluations_by_entries F given c.new.result width.result (2 ^ log.result) values.result.items made.values.items (λ i. pow F (root log.result) i) held
     (held_by_new c.new.result width.result (2 ^ log.result) made.values.len made.values.items width.ensures.some made.values.ok.0 c.new.ensures.rows c.new.ensures.width (made.ensures.len ∙ all))
-    (values_at F c.two_adic_generator-root.result (root log.result) (values.result.len / 2 ^ log.result) width.result (2 ^ log.result) values.result.items made.values.items c.two_adic_generator-root.ensures (width_of_size values.result.len log.result width.result all) made.ensures.values))
+    (values_at F c.two_adic_generator-root.result (root log.result) width.result (2 ^ log.result) _ made.values.items c.two_adic_generator-root.ensures made.ensures.values))

@@ -1,10 +1,11 @@
-use Rattle.std.proofs.Common.{◌≡◌, ℕ, ◌^◌, ◌<◌, [], ◌∷◌, ◌++◌, length, slice_index_or, get_or, subst, sym, ap, ap₂, ◌∙◌, arith}
+use Rattle.std.proofs.Common.{◌≡◌, ℕ, ◌^◌, ◌<◌, [], ◌∷◌, ◌++◌, length, slice_index_or, get_or}
+use Rattle.std.proofs.Common.{subst, sym, ap, ap₂, ◌∙◌, arith}
 use Rattle.algebra.specs.Polynomial.{tabulate}
 use Rattle.algebra.proofs.Lists.{tabulate-next}
 use Rattle.p3_field.proofs.IndexPowers.{exponents_agree}
 use Rattle.p3_matrix.specs.Matrix.{rows}
-use Rattle.p3_fri_folding.specs.Fold.{fold_value, IsHalfInverse, AreHalfInverses}
-use Rattle.p3_fri_folding.proofs.Folds.{two_entries}
+use Rattle.algebra.specs.Folds.{fold_value, IsHalfInverse, AreHalfInverses}
+use Rattle.algebra.proofs.PairFolds.{two_entries}
 use Rattle.p3_fri_folding.proofs.folding.TwoAdicFriFoldingFriFoldingStrategy.fold_matrix.Goals as goal
 
 pub loop-i-init : goal.loop-i-init

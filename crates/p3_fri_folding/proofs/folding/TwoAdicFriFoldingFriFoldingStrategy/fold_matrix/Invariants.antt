@@ -1,7 +1,7 @@
 use Rattle.std.proofs.Common.{◌≡◌, ℕ, ◌^◌, [], length, slice_index_or}
 use Rattle.algebra.specs.Polynomial.{tabulate}
 use Rattle.p3_matrix.specs.Matrix.{rows}
-use Rattle.p3_fri_folding.specs.Fold.{fold_value}
+use Rattle.algebra.specs.Folds.{fold_value}
 use Rattle.p3_fri_folding.proofs.folding.TwoAdicFriFoldingFriFoldingStrategy.fold_matrix.Given as goal
 
 -- the rows so far are folded

@@ -1,10 +1,9 @@
-use Rattle.std.proofs.Common.{◌≡◌, Some, Err, unwrap_or, length, sym, ap, ◌∙◌, rules, subst}
+use Rattle.std.proofs.Common.{◌≡◌, Some, Err, unwrap_or, ap, ◌∙◌, rules, subst}
 use Rattle.p3_challenger.specs.Run.{moves}
 use Rattle.p3_challenger.specs.Turns.{bytes_observed}
 use Rattle.p3_fri_steps.specs.declared.error.FriProverError.{FriProverError}
-use Rattle.p3_fri_steps.specs.Reached.{Reaches}
 use Rattle.p3_fri_steps.proofs.Reached.{reaches_same, reaches_join, reaches_by_values}
-use Rattle.p3_fri_transcript.specs.Found.{FriFound, PlayRefused}
+use Rattle.p3_fri_transcript.specs.Found.{PlayRefused}
 use Rattle.p3_fri_transcript.specs.Replay.{shown_queries_replay}
 use Rattle.p3_fri_transcript.specs.Shapes.{fri_shape}
 use Rattle.p3_fri_transcript.specs.Steps.{fri_stream}

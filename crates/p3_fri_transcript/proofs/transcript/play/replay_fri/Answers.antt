@@ -1,12 +1,9 @@
-use Rattle.std.proofs.Common.{◌≡◌, Err, inl, inr, rules, refl, sym, ap, ◌∙◌, subst}
+use Rattle.std.proofs.Common.{◌≡◌, Err, inl, inr, rules, refl, ap, ◌∙◌}
 use Rattle.p3_challenger.specs.Run.{moves}
 use Rattle.p3_challenger.specs.Turns.{bytes_observed}
-use Rattle.p3_fri_steps.specs.Reached.{Reaches}
 use Rattle.p3_fri_steps.proofs.Reached.{reaches_same, reaches_join, reaches_by_values}
-use Rattle.p3_fri_transcript.specs.declared.transcript.failure.TranscriptFailure.{TranscriptFailure}
 use Rattle.p3_fri_transcript.specs.declared.transcript.failure.TranscriptFailure.TheVariants as Why
 use Rattle.p3_fri_transcript.specs.declared.transcript.play.Refusal.TheVariants.{Step}
-use Rattle.p3_fri_transcript.specs.Failures.{FriFailure, RoundsFailure, RoundsPass, QueriesFailure}
 use Rattle.p3_fri_transcript.specs.Replay.{RoundsReplay, rounds_replay, QueriesReplay, FriReplay}
 use Rattle.p3_fri_transcript.specs.Shapes.{fri_shape}
 use Rattle.p3_fri_transcript.specs.Steps.{fri_stream}

@@ -3,4 +3,6 @@ use Rattle.p3_baby_bear.specs.BabyBearLaws.{reduced_is}
 use Rattle.p3_baby_bear.proofs.baby_bear.field.BabyBearField.from_u64.Goals as goal
 
 pub returns : goal.returns
-returns c = c.from_number.ensures ∙ reduced_is c.args.n (c.args.n % c.from.result) (ap (λ p. c.args.n % p) c.from.ensures)
+returns c =
+    c.from_number.ensures ∙ reduced_is c.args.n (c.args.n % c.from.result)
+    (ap (λ p. c.args.n % p) c.from.ensures)

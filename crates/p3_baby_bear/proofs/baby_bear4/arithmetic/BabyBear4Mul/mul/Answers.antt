@@ -10,7 +10,38 @@ unfolding baby_bear4
 returns c =
     let sum = multiple-add baby_bear baby_bear_laws.ring in
     same_coefficients
-    (simp (c.from_u64.ensures, sum, c.eleven_times.ensures.value, c.product.ensures.value, c.product-2.ensures.value, c.product-3.ensures.value, c.product-4.ensures.value))
-    (simp (c.from_u64-2.ensures, sum, c.eleven_times-2.ensures.value, c.product-5.ensures.value, c.product-6.ensures.value, c.product-7.ensures.value, c.product-8.ensures.value))
-    (simp (c.from_u64-3.ensures, sum, c.eleven_times-3.ensures.value, c.product-9.ensures.value, c.product-10.ensures.value, c.product-11.ensures.value, c.product-12.ensures.value))
-    (simp (c.from_u64-4.ensures, sum, c.product-13.ensures.value, c.product-14.ensures.value, c.product-15.ensures.value, c.product-16.ensures.value))
+    (simp (
+      c.from_u64.ensures,
+      sum,
+      c.eleven_times.ensures.value,
+      c.product.ensures.value,
+      c.product-2.ensures.value,
+      c.product-3.ensures.value,
+      c.product-4.ensures.value,
+    ))
+    (simp (
+      c.from_u64-2.ensures,
+      sum,
+      c.eleven_times-2.ensures.value,
+      c.product-5.ensures.value,
+      c.product-6.ensures.value,
+      c.product-7.ensures.value,
+      c.product-8.ensures.value,
+    ))
+    (simp (
+      c.from_u64-3.ensures,
+      sum,
+      c.eleven_times-3.ensures.value,
+      c.product-9.ensures.value,
+      c.product-10.ensures.value,
+      c.product-11.ensures.value,
+      c.product-12.ensures.value,
+    ))
+    (simp (
+      c.from_u64-4.ensures,
+      sum,
+      c.product-13.ensures.value,
+      c.product-14.ensures.value,
+      c.product-15.ensures.value,
+      c.product-16.ensures.value,
+    ))

@@ -4,4 +4,6 @@ use Rattle.p3_baby_bear.proofs.QuarticSteps.{scaled_is}
 use Rattle.p3_baby_bear.proofs.baby_bear4.extension.BabyBear4ExtensionFieldBabyBear.scale.Goals as goal
 
 pub returns : goal.returns
-returns c = same_coefficients c.mul.ensures c.mul-2.ensures c.mul-3.ensures c.mul-4.ensures ∙ scaled_is c.args.self c.args.factor
+returns c =
+    same_coefficients c.mul.ensures c.mul-2.ensures c.mul-3.ensures c.mul-4.ensures
+    ∙ scaled_is c.args.self c.args.factor

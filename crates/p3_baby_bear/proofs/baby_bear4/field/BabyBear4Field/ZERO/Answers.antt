@@ -4,4 +4,6 @@ use Rattle.p3_baby_bear.specs.BabyBear4Laws.{same_coefficients}
 use Rattle.p3_baby_bear.proofs.baby_bear4.field.BabyBear4Field.ZERO.Goals as goal
 
 pub returns : goal.returns
-returns c = same_coefficients (same_number _ _ refl) (same_number _ _ refl) (same_number _ _ refl) (same_number _ _ refl)
+returns c =
+    same_coefficients (same_number _ _ refl) (same_number _ _ refl) (same_number _ _ refl)
+    (same_number _ _ refl)

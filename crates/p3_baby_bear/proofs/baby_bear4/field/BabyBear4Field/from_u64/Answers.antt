@@ -5,4 +5,6 @@ use Rattle.p3_baby_bear.proofs.QuarticSteps.{multiple4_is}
 use Rattle.p3_baby_bear.proofs.baby_bear4.field.BabyBear4Field.from_u64.Goals as goal
 
 pub returns : goal.returns
-returns c = same_coefficients c.from_u64.ensures (same_number _ _ refl) (same_number _ _ refl) (same_number _ _ refl) ∙ multiple4_is c.args.n
+returns c =
+    same_coefficients c.from_u64.ensures (same_number _ _ refl) (same_number _ _ refl)
+    (same_number _ _ refl) ∙ multiple4_is c.args.n

@@ -5,4 +5,5 @@ use Rattle.p3_field.specs.BabyBearLaws.{multiple_is}
 use Rattle.p3_challenger_core.proofs.sha256_challenger.sample.Sha256ChallengerCanSampleBabyBear.sample.Goals as goal
 
 pub returns-clause-value : goal.returns-clause-value
-returns-clause-value c = c.from_u64.ensures ∙ multiple_is c.draw.result ∙ ap element c.draw.ensures.value
+returns-clause-value c = c.from_u64.ensures ∙ multiple_is c.draw.result
+    ∙ ap element c.draw.ensures.value

@@ -9,5 +9,6 @@ returns c message given =
     record {
       flushed = kept.flushed;
       held = kept.held;
-      rest = message-push kept.flushed message h.buffer h.filled c.args.byte (omega arith) kept.rest;
+      rest = message-push kept.flushed message h.buffer h.filled c.args.byte
+          (omega arith) kept.rest;
     }

@@ -4,4 +4,5 @@ use Rattle.p3_commit.proofs.sha256_mmcs.buffer.BufferedHasher.push_element.Given
 
 abbrev pub invariant-loop-index : goal.invariant-loop-index
 invariant-loop-index g l =
-    (message : List ℕ) → HoldsMessage l.fn.self message → HoldsMessage l.self (message ++ take l.index (g.T.ElementBytes.bytes l.element))
+    (message : List ℕ) → HoldsMessage l.fn.self message
+    → HoldsMessage l.self (message ++ take l.index (g.T.ElementBytes.bytes l.element))

@@ -7,4 +7,5 @@ use Rattle.p3_commit.proofs.sha256_mmcs.buffer.BufferedHasher.push_row.Given as 
 abbrev pub invariant-loop-element : goal.invariant-loop-element
 invariant-loop-element g l =
     (message : List ℕ) → HoldsMessage l.fn.self message
-    → HoldsMessage l.self ((message ++ to_le_bytes w64 (length l.row)) ++ flat_map g.T.ElementBytes.bytes (take l.element-index l.row))
+    → HoldsMessage l.self ((message ++ to_le_bytes w64 (length l.row))
+    ++ flat_map g.T.ElementBytes.bytes (take l.element-index l.row))

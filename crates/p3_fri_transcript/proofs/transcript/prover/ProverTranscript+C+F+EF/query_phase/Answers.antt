@@ -8,7 +8,7 @@ use Rattle.p3_fri_transcript.specs.Shapes.{fri_shape}
 use Rattle.p3_fri_transcript.proofs.Replays.{queries_are}
 use Rattle.p3_fri_steps.proofs.Turns.{next_of, rest_of}
 use Rattle.p3_fri_transcript.proofs.TurnLists.{indices_left, after_final_poly}
-use Rattle.std.proofs.Common.{Some, sym, ◌∙◌}
+use Rattle.std.proofs.Common.{Some, sym}
 use Rattle.p3_fri_steps.proofs.Reached.{reaches_same}
 use Rattle.p3_fri_transcript.proofs.Indices.{draws_are_indices}
 use Rattle.p3_fri_transcript.proofs.Reached.{reaches_polynomial, reaches_tried, reaches_queries}

@@ -1,0 +1,118 @@
+//! Times the extension of a matrix of BabyBear elements and its bit reversal, as a commitment takes
+//! them, in microseconds, the least of several.
+#![tactic(auto)]
+
+ghost use Rattle.std.specs.Prelude.{◌<◌};
+
+use p3_dft::{Radix2Dit, TwoAdicSubgroupDft};
+use p3_field::{BabyBear, Field, PrimeField64};
+use p3_matrix::RowMajorMatrix;
+use std::alloc::{AllocError, Global};
+use std::time::Instant;
+use std::{env, io};
+
+/// What the program takes.
+const USAGE: &str = "fri_bench LOG_HEIGHT WIDTH ADDED_BITS [REPEATS]";
+
+/// Elements in no regular order.
+fn elements(alloc: Global, count: usize) -> Result<Vec<BabyBear>, AllocError> {
+    let mut elements = Vec::with_capacity(alloc, count)?;
+    let mut state: u64 = 1;
+    for _ in 0..count {
+        state = state
+            .wrapping_mul(6364136223846793005)
+            .wrapping_add(1442695040888963407);
+        elements.push(BabyBear::from_u64(state >> 33))?;
+    }
+    Ok(elements)
+}
+
+/// The sizes of a run.
+#[derive(Clone, Copy)]
+struct Sizes {
+    log_height: usize,
+    width: usize,
+    added_bits: usize,
+    repeats: usize,
+    ghost some: { 0 < width },
+    ghost low: { log_height < 25 },
+    ghost few: { added_bits < 3 },
+}
+
+/// The nanoseconds of one extension, of its bit reversal, and an entry of the result.
+fn timed(rt: &HostRuntime, sizes: Sizes) -> io::Result<Option<(u128, u128, u64)>> {
+    let alloc = rt.alloc();
+    let height = 1usize << sizes.log_height;
+    let Some(size) = sizes.width.checked_mul(height) else {
+        return Ok(None);
+    };
+    let values = elements(alloc, size)?;
+    if values.len() % sizes.width != 0 {
+        return Ok(None);
+    }
+    let matrix = RowMajorMatrix::new(values, sizes.width);
+    if matrix.height() != height {
+        return Ok(None);
+    }
+    let dft: Radix2Dit<BabyBear> = Radix2Dit::default();
+    let start = Instant::now(rt)?;
+    let extended = dft.coset_lde_batch(alloc, matrix, sizes.added_bits, BabyBear::GENERATOR)?;
+    let extension = start.elapsed(rt)?.as_nanos();
+    let start = Instant::now(rt)?;
+    let reversed = extended.bit_reverse_rows();
+    let reversal = start.elapsed(rt)?.as_nanos();
+    let entry = reversed.get(1, 0).map_or(0, |x| x.as_canonical_u64());
+    Ok(Some((extension, reversal, entry)))
+}
+
+/// Prints the least times of all repeats.
+fn least(rt: &HostRuntime, sizes: Sizes) -> io::Result<()> {
+    let mut extension = u128::MAX;
+    let mut both = u128::MAX;
+    let mut last = 0;
+    for _ in 0..sizes.repeats {
+        if let Some((first, second, entry)) = timed(rt, sizes)? {
+            extension = extension.min(first);
+            both = both.min(first.saturating_add(second));
+            last = entry;
+        }
+    }
+    println!(rt;
+        "extension {} us, with bit reversal {} us ({})",
+        extension / 1000,
+        both / 1000,
+        last
+    )?;
+    Ok(())
+}
+
+/// The sizes that the arguments name.
+fn read(args: &[String]) -> Option<Sizes> {
+    let log_height = args.get(0)?.as_str().parse::<usize>().ok()?;
+    let width = args.get(1)?.as_str().parse::<usize>().ok()?;
+    let added_bits = args.get(2)?.as_str().parse::<usize>().ok()?;
+    let repeats = match args.get(3) {
+        Some(text) => text.as_str().parse::<usize>().ok()?,
+        None => 5,
+    };
+    if width == 0 || log_height > 24 || added_bits > 2 {
+        return None;
+    }
+    Some(Sizes {
+        log_height,
+        width,
+        added_bits,
+        repeats,
+    })
+}
+
+fn main(rt: HostRuntime) -> io::Result<()> {
+    let args: Vec<String> = env::args(&rt)?.skip(1).collect(rt.alloc())?;
+    match read(&args) {
+        Some(sizes) => least(&rt, sizes),
+        None => {
+            println!(rt; "{USAGE}")?;
+            Ok(())
+        }
+    }
+}

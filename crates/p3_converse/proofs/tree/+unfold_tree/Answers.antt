@@ -1,0 +1,288 @@
+use Rattle.std.proofs.Common.{rules, ◌≡◌, ◌+◌, ◌*◌, ◌^◌, ◌<◌, [], All, length, get_or, take, vec_len, map, refl, subst, sym, ap, ap₂, ◌∙◌, arith}
+use Rattle.std.specs.Prelude.{slice_range}
+use Rattle.std.specs.List.{AllZip}
+use Rattle.std.proofs.lemmas.List.{take_all, length-map}
+use Rattle.std.proofs.lemmas.Result.{IfOk-weaker}
+use Rattle.algebra.specs.Interpolation.{AreDistinct}
+use Rattle.p3_converse.specs.Branches.{log_sum, input_logs, with_input, IsTreeUnfolding, IsRoundUnfolding}
+use Rattle.p3_converse.specs.Trees.{tree_of, leaf_length, leaf}
+use Rattle.p3_converse.specs.Unfolding.{lists, common_length}
+use Rattle.p3_converse.proofs.Positions.{length-lists}
+use Rattle.p3_converse.proofs.Trees.{views, tree_of-Leaf, beta_count-positive}
+use Rattle.p3_converse.proofs.Branches.{UnfoldsTo, HasInputsOf, is_leaf_unfolding}
+use Rattle.p3_converse.proofs.Nodes.{first_round, IsNodeOf, is_node_of, IsFit, subtree_fits, conditions, no_rounds, one_tree_more, its_inputs, all-push, all_zip-length, common_length-is, with_input-map, scaled, node_unfolds}
+use Rattle.p3_converse.proofs.tree.+unfold_tree.Goals as goal
+
+pub unfold_tree-requires : goal.unfold_tree-requires
+unfold_tree-requires g t c =
+    let rounds = c.args.rounds.now in
+    let later = slice_range rounds 1 (length rounds) in
+    let d = leaf_length (tree_of c.args.tree.now) in
+    let x = c.subtree-item.result in
+    let k = c.loop-subtree.subtree-index in
+    let is : IsNodeOf rounds later c.in-Node.subtrees.items d = is_node_of rounds later c.args.tree.now c.in-Node.subtrees d c.in-Node.is refl c.requires.paths c.requires.betas c.requires.leaves in
+    let fewer : length rounds ≡ length later + 1 = ap length is.split ∙ omega arith in
+    λ κs b. (
+      omega (arith, fewer, c.decreases),
+      (
+        search rules,
+        conditions later (tree_of x.1) d
+            (subtree_fits rounds later c.in-Node.subtrees.items d is c.requires.log_arities c.requires.log_sum c.requires.fits k x
+            (omega (arith, c.loop-subtree-test.true, ap length c.deref-subtree-items.ensures.value))
+            (c.subtree-item.is ∙ ap (λ us. get_or us k x) c.deref-subtree-items.ensures.value)),
+      ),
+    )
+
+pub loop-subtree-preserved : goal.loop-subtree-preserved
+loop-subtree-preserved g t c =
+    let F = g.EF.Field.ops in
+    let rounds = c.args.rounds.now in
+    let later = slice_range rounds 1 (length rounds) in
+    let tree = c.args.tree.now in
+    let trees = c.in-Node.subtrees.items in
+    let d = leaf_length (tree_of tree) in
+    let is : IsNodeOf rounds later trees d = is_node_of rounds later tree c.in-Node.subtrees d c.in-Node.is refl c.requires.paths c.requires.betas c.requires.leaves in
+    let here = c.loop-subtree in
+    let ts = c.deref-subtree-items.result.now in
+    let k = here.subtree-index in
+    let x = c.subtree-item.result in
+    let same : ts ≡ trees = c.deref-subtree-items.ensures.value in
+    let fit : IsFit later (tree_of x.1) d = subtree_fits rounds later trees d is c.requires.log_arities c.requires.log_sum c.requires.fits k x (omega (arith, c.loop-subtree-test.true, ap length same)) (c.subtree-item.is ∙ ap (λ us. get_or us k x) same) in
+    let u = c.in_ok-unfolded-in-Node.unfolded in
+    let found = c.in_ok-unfolded-in-Node.ensures in
+    let pushed = c.in_ok-push-in-Node.ensures.items in
+    record {
+      words = subst (λ ps. AllZip (λ t p. UnfoldsTo F later t.1 p) (views (take (k + 1) ts)) (lists ps)) (sym pushed)
+          (one_tree_more F later ts k x here.polys.items u.word (lists u.inputs.items) c.loop-subtree-test.true c.subtree-item.is found.values here.invariant.words);
+      lengths = subst (λ ps. All (λ p. vec_len p ≡ d * 2 ^ log_sum later) ps) (sym pushed)
+          (all-push (λ p. vec_len p ≡ d * 2 ^ log_sum later) here.polys.items u.word here.invariant.lengths (found.word_length ∙ ap (λ n. n * 2 ^ log_sum later) fit.leaf));
+      inputs = λ _. its_inputs F later ts k x u.word.items (lists u.inputs.items) c.loop-subtree-test.true c.subtree-item.is found.values;
+      input_lengths = λ _. found.input_lengths ∙ ap (λ n. map (λ s. n * 2 ^ s) (input_logs later)) fit.leaf;
+    }
+
+pub undo_round-requires-clause-betas : goal.undo_round-requires-clause-betas
+undo_round-requires-clause-betas g t c =
+    let F = g.EF.Field.ops in
+    let rounds = c.args.rounds.now in
+    let later = slice_range rounds 1 (length rounds) in
+    let tree = c.args.tree.now in
+    let trees = c.in-Node.subtrees.items in
+    let d = leaf_length (tree_of tree) in
+    let is : IsNodeOf rounds later trees d = is_node_of rounds later tree c.in-Node.subtrees d c.in-Node.is refl c.requires.paths c.requires.betas c.requires.leaves in
+    let here = c.loop-subtree in
+    let ts = c.deref-subtree-items.result.now in
+    let same : ts ≡ trees = c.deref-subtree-items.ensures.value in
+    let whole : take here.subtree-index ts ≡ ts = take_all here.subtree-index ts (omega (arith, c.loop-subtree-test.false)) in
+    let polys = here.polys.items in
+    let betas : c.deref-in-Node-2.result.now ≡ map (λ t. t.0) trees = c.deref-in-Node-2.ensures.value ∙ c.in_ok-betas-in-Node.ensures ∙ ap (λ us. map (λ t. t.0) us) c.deref-in-Node.ensures.value in
+    let some : 0 < length trees = omega (arith, is.count, beta_count-positive (first_round rounds)) in
+    let words : AllZip (λ t p. UnfoldsTo F later t.1 p) (views ts) (lists polys) = subst (λ us. AllZip (λ t p. UnfoldsTo F later t.1 p) (views us) (lists polys)) whole here.invariant.words in
+    let count : length polys ≡ length trees = sym (length-lists polys) ∙ all_zip-length (λ t p. UnfoldsTo F later t.1 p) (views ts) (lists polys) words ∙ length-map ts (λ t. (t.0, tree_of t.1)) ∙ ap length same in
+    ap length betas ∙ length-map trees (λ t. t.0) ∙ is.count
+
+pub undo_round-requires-clause-distinct : goal.undo_round-requires-clause-distinct
+undo_round-requires-clause-distinct g t c =
+    let F = g.EF.Field.ops in
+    let rounds = c.args.rounds.now in
+    let later = slice_range rounds 1 (length rounds) in
+    let tree = c.args.tree.now in
+    let trees = c.in-Node.subtrees.items in
+    let d = leaf_length (tree_of tree) in
+    let is : IsNodeOf rounds later trees d = is_node_of rounds later tree c.in-Node.subtrees d c.in-Node.is refl c.requires.paths c.requires.betas c.requires.leaves in
+    let here = c.loop-subtree in
+    let ts = c.deref-subtree-items.result.now in
+    let same : ts ≡ trees = c.deref-subtree-items.ensures.value in
+    let whole : take here.subtree-index ts ≡ ts = take_all here.subtree-index ts (omega (arith, c.loop-subtree-test.false)) in
+    let polys = here.polys.items in
+    let betas : c.deref-in-Node-2.result.now ≡ map (λ t. t.0) trees = c.deref-in-Node-2.ensures.value ∙ c.in_ok-betas-in-Node.ensures ∙ ap (λ us. map (λ t. t.0) us) c.deref-in-Node.ensures.value in
+    let some : 0 < length trees = omega (arith, is.count, beta_count-positive (first_round rounds)) in
+    let words : AllZip (λ t p. UnfoldsTo F later t.1 p) (views ts) (lists polys) = subst (λ us. AllZip (λ t p. UnfoldsTo F later t.1 p) (views us) (lists polys)) whole here.invariant.words in
+    let count : length polys ≡ length trees = sym (length-lists polys) ∙ all_zip-length (λ t p. UnfoldsTo F later t.1 p) (views ts) (lists polys) words ∙ length-map ts (λ t. (t.0, tree_of t.1)) ∙ ap length same in
+    subst AreDistinct (sym betas) is.distinct
+
+pub undo_round-requires-clause-as_many : goal.undo_round-requires-clause-as_many
+undo_round-requires-clause-as_many g t c =
+    let F = g.EF.Field.ops in
+    let rounds = c.args.rounds.now in
+    let later = slice_range rounds 1 (length rounds) in
+    let tree = c.args.tree.now in
+    let trees = c.in-Node.subtrees.items in
+    let d = leaf_length (tree_of tree) in
+    let is : IsNodeOf rounds later trees d = is_node_of rounds later tree c.in-Node.subtrees d c.in-Node.is refl c.requires.paths c.requires.betas c.requires.leaves in
+    let here = c.loop-subtree in
+    let ts = c.deref-subtree-items.result.now in
+    let same : ts ≡ trees = c.deref-subtree-items.ensures.value in
+    let whole : take here.subtree-index ts ≡ ts = take_all here.subtree-index ts (omega (arith, c.loop-subtree-test.false)) in
+    let polys = here.polys.items in
+    let betas : c.deref-in-Node-2.result.now ≡ map (λ t. t.0) trees = c.deref-in-Node-2.ensures.value ∙ c.in_ok-betas-in-Node.ensures ∙ ap (λ us. map (λ t. t.0) us) c.deref-in-Node.ensures.value in
+    let some : 0 < length trees = omega (arith, is.count, beta_count-positive (first_round rounds)) in
+    let words : AllZip (λ t p. UnfoldsTo F later t.1 p) (views ts) (lists polys) = subst (λ us. AllZip (λ t p. UnfoldsTo F later t.1 p) (views us) (lists polys)) whole here.invariant.words in
+    let count : length polys ≡ length trees = sym (length-lists polys) ∙ all_zip-length (λ t p. UnfoldsTo F later t.1 p) (views ts) (lists polys) words ∙ length-map ts (λ t. (t.0, tree_of t.1)) ∙ ap length same in
+    ap length c.deref-in-Node-3.ensures.value ∙ count ∙ sym (ap length betas ∙ length-map trees (λ t. t.0))
+
+pub undo_round-requires-clause-one_length : goal.undo_round-requires-clause-one_length
+undo_round-requires-clause-one_length g t c =
+    let F = g.EF.Field.ops in
+    let rounds = c.args.rounds.now in
+    let later = slice_range rounds 1 (length rounds) in
+    let tree = c.args.tree.now in
+    let trees = c.in-Node.subtrees.items in
+    let d = leaf_length (tree_of tree) in
+    let is : IsNodeOf rounds later trees d = is_node_of rounds later tree c.in-Node.subtrees d c.in-Node.is refl c.requires.paths c.requires.betas c.requires.leaves in
+    let here = c.loop-subtree in
+    let ts = c.deref-subtree-items.result.now in
+    let same : ts ≡ trees = c.deref-subtree-items.ensures.value in
+    let whole : take here.subtree-index ts ≡ ts = take_all here.subtree-index ts (omega (arith, c.loop-subtree-test.false)) in
+    let polys = here.polys.items in
+    let betas : c.deref-in-Node-2.result.now ≡ map (λ t. t.0) trees = c.deref-in-Node-2.ensures.value ∙ c.in_ok-betas-in-Node.ensures ∙ ap (λ us. map (λ t. t.0) us) c.deref-in-Node.ensures.value in
+    let some : 0 < length trees = omega (arith, is.count, beta_count-positive (first_round rounds)) in
+    let words : AllZip (λ t p. UnfoldsTo F later t.1 p) (views ts) (lists polys) = subst (λ us. AllZip (λ t p. UnfoldsTo F later t.1 p) (views us) (lists polys)) whole here.invariant.words in
+    let count : length polys ≡ length trees = sym (length-lists polys) ∙ all_zip-length (λ t p. UnfoldsTo F later t.1 p) (views ts) (lists polys) words ∙ length-map ts (λ t. (t.0, tree_of t.1)) ∙ ap length same in
+    let common : common_length c.deref-in-Node-3.result.now ≡ d * 2 ^ log_sum later =
+    ap (λ vs. common_length vs) c.deref-in-Node-3.ensures.value ∙ common_length-is polys (d * 2 ^ log_sum later) here.invariant.lengths (omega (arith, count, some)) in
+    let product : common_length c.deref-in-Node-3.result.now * 2 ^ (first_round rounds).0 ≡ d * 2 ^ log_sum rounds =
+    ap (λ n. n * 2 ^ (first_round rounds).0) common ∙ scaled d (first_round rounds).0 (log_sum later) ∙ ap (λ n. d * 2 ^ n) (sym (ap log_sum is.split)) in
+    subst (λ vs. All (λ p. vec_len p ≡ common_length c.deref-in-Node-3.result.now) vs) (sym c.deref-in-Node-3.ensures.value)
+    (λ j p l. here.invariant.lengths j p l ∙ sym common)
+
+pub undo_round-requires-clause-fits : goal.undo_round-requires-clause-fits
+undo_round-requires-clause-fits g t c =
+    let F = g.EF.Field.ops in
+    let rounds = c.args.rounds.now in
+    let later = slice_range rounds 1 (length rounds) in
+    let tree = c.args.tree.now in
+    let trees = c.in-Node.subtrees.items in
+    let d = leaf_length (tree_of tree) in
+    let is : IsNodeOf rounds later trees d = is_node_of rounds later tree c.in-Node.subtrees d c.in-Node.is refl c.requires.paths c.requires.betas c.requires.leaves in
+    let here = c.loop-subtree in
+    let ts = c.deref-subtree-items.result.now in
+    let same : ts ≡ trees = c.deref-subtree-items.ensures.value in
+    let whole : take here.subtree-index ts ≡ ts = take_all here.subtree-index ts (omega (arith, c.loop-subtree-test.false)) in
+    let polys = here.polys.items in
+    let betas : c.deref-in-Node-2.result.now ≡ map (λ t. t.0) trees = c.deref-in-Node-2.ensures.value ∙ c.in_ok-betas-in-Node.ensures ∙ ap (λ us. map (λ t. t.0) us) c.deref-in-Node.ensures.value in
+    let some : 0 < length trees = omega (arith, is.count, beta_count-positive (first_round rounds)) in
+    let words : AllZip (λ t p. UnfoldsTo F later t.1 p) (views ts) (lists polys) = subst (λ us. AllZip (λ t p. UnfoldsTo F later t.1 p) (views us) (lists polys)) whole here.invariant.words in
+    let count : length polys ≡ length trees = sym (length-lists polys) ∙ all_zip-length (λ t p. UnfoldsTo F later t.1 p) (views ts) (lists polys) words ∙ length-map ts (λ t. (t.0, tree_of t.1)) ∙ ap length same in
+    let common : common_length c.deref-in-Node-3.result.now ≡ d * 2 ^ log_sum later =
+    ap (λ vs. common_length vs) c.deref-in-Node-3.ensures.value ∙ common_length-is polys (d * 2 ^ log_sum later) here.invariant.lengths (omega (arith, count, some)) in
+    let product : common_length c.deref-in-Node-3.result.now * 2 ^ (first_round rounds).0 ≡ d * 2 ^ log_sum rounds =
+    ap (λ n. n * 2 ^ (first_round rounds).0) common ∙ scaled d (first_round rounds).0 (log_sum later) ∙ ap (λ n. d * 2 ^ n) (sym (ap log_sum is.split)) in
+    omega (arith, product, c.requires.fits)
+
+pub returns-after-loop-subtree-clause-word_length : goal.returns-after-loop-subtree-clause-word_length
+returns-after-loop-subtree-clause-word_length g t c =
+    let F = g.EF.Field.ops in
+    let rounds = c.args.rounds.now in
+    let later = slice_range rounds 1 (length rounds) in
+    let tree = c.args.tree.now in
+    let trees = c.in-Node.subtrees.items in
+    let d = leaf_length (tree_of tree) in
+    let is : IsNodeOf rounds later trees d = is_node_of rounds later tree c.in-Node.subtrees d c.in-Node.is refl c.requires.paths c.requires.betas c.requires.leaves in
+    let here = c.loop-subtree in
+    let ts = c.deref-subtree-items.result.now in
+    let same : ts ≡ trees = c.deref-subtree-items.ensures.value in
+    let whole : take here.subtree-index ts ≡ ts = take_all here.subtree-index ts (omega (arith, c.loop-subtree-test.false)) in
+    let polys = here.polys.items in
+    let betas : c.deref-in-Node-2.result.now ≡ map (λ t. t.0) trees = c.deref-in-Node-2.ensures.value ∙ c.in_ok-betas-in-Node.ensures ∙ ap (λ us. map (λ t. t.0) us) c.deref-in-Node.ensures.value in
+    let some : 0 < length trees = omega (arith, is.count, beta_count-positive (first_round rounds)) in
+    let words : AllZip (λ t p. UnfoldsTo F later t.1 p) (views ts) (lists polys) = subst (λ us. AllZip (λ t p. UnfoldsTo F later t.1 p) (views us) (lists polys)) whole here.invariant.words in
+    let count : length polys ≡ length trees = sym (length-lists polys) ∙ all_zip-length (λ t p. UnfoldsTo F later t.1 p) (views ts) (lists polys) words ∙ length-map ts (λ t. (t.0, tree_of t.1)) ∙ ap length same in
+    let common : common_length c.deref-in-Node-3.result.now ≡ d * 2 ^ log_sum later =
+    ap (λ vs. common_length vs) c.deref-in-Node-3.ensures.value ∙ common_length-is polys (d * 2 ^ log_sum later) here.invariant.lengths (omega (arith, count, some)) in
+    let product : common_length c.deref-in-Node-3.result.now * 2 ^ (first_round rounds).0 ≡ d * 2 ^ log_sum rounds =
+    ap (λ n. n * 2 ^ (first_round rounds).0) common ∙ scaled d (first_round rounds).0 (log_sum later) ∙ ap (λ n. d * 2 ^ n) (sym (ap log_sum is.split)) in
+    IfOk-weaker c.undo_round.result (λ u. vec_len u.word ≡ common_length c.deref-in-Node-3.result.now * 2 ^ (first_round rounds).0) (λ u. vec_len u.word ≡ d * 2 ^ log_sum rounds)
+    (λ u e. e ∙ product) c.undo_round.ensures.word_length
+
+pub returns-after-loop-subtree-clause-input_lengths : goal.returns-after-loop-subtree-clause-input_lengths
+returns-after-loop-subtree-clause-input_lengths g t c =
+    let F = g.EF.Field.ops in
+    let rounds = c.args.rounds.now in
+    let later = slice_range rounds 1 (length rounds) in
+    let tree = c.args.tree.now in
+    let trees = c.in-Node.subtrees.items in
+    let d = leaf_length (tree_of tree) in
+    let is : IsNodeOf rounds later trees d = is_node_of rounds later tree c.in-Node.subtrees d c.in-Node.is refl c.requires.paths c.requires.betas c.requires.leaves in
+    let here = c.loop-subtree in
+    let ts = c.deref-subtree-items.result.now in
+    let same : ts ≡ trees = c.deref-subtree-items.ensures.value in
+    let whole : take here.subtree-index ts ≡ ts = take_all here.subtree-index ts (omega (arith, c.loop-subtree-test.false)) in
+    let polys = here.polys.items in
+    let betas : c.deref-in-Node-2.result.now ≡ map (λ t. t.0) trees = c.deref-in-Node-2.ensures.value ∙ c.in_ok-betas-in-Node.ensures ∙ ap (λ us. map (λ t. t.0) us) c.deref-in-Node.ensures.value in
+    let some : 0 < length trees = omega (arith, is.count, beta_count-positive (first_round rounds)) in
+    let words : AllZip (λ t p. UnfoldsTo F later t.1 p) (views ts) (lists polys) = subst (λ us. AllZip (λ t p. UnfoldsTo F later t.1 p) (views us) (lists polys)) whole here.invariant.words in
+    let count : length polys ≡ length trees = sym (length-lists polys) ∙ all_zip-length (λ t p. UnfoldsTo F later t.1 p) (views ts) (lists polys) words ∙ length-map ts (λ t. (t.0, tree_of t.1)) ∙ ap length same in
+    let common : common_length c.deref-in-Node-3.result.now ≡ d * 2 ^ log_sum later =
+    ap (λ vs. common_length vs) c.deref-in-Node-3.ensures.value ∙ common_length-is polys (d * 2 ^ log_sum later) here.invariant.lengths (omega (arith, count, some)) in
+    let product : common_length c.deref-in-Node-3.result.now * 2 ^ (first_round rounds).0 ≡ d * 2 ^ log_sum rounds =
+    ap (λ n. n * 2 ^ (first_round rounds).0) common ∙ scaled d (first_round rounds).0 (log_sum later) ∙ ap (λ n. d * 2 ^ n) (sym (ap log_sum is.split)) in
+    let has_input = (first_round rounds).1 in
+    IfOk-weaker c.undo_round.result
+    (λ u. map (λ v. vec_len v) u.inputs.items ≡ with_input has_input (common_length c.deref-in-Node-3.result.now) (map (λ v. vec_len v) here.inputs.items))
+    (λ u. map (λ v. vec_len v) u.inputs.items ≡ map (λ s. d * 2 ^ s) (input_logs rounds))
+    (λ u e. e ∙ ap₂ (λ n ns. with_input has_input n ns) common (here.invariant.input_lengths (omega (arith, c.loop-subtree-test.false, ap length same, some)))
+    ∙ sym (with_input-map (λ s. d * 2 ^ s) has_input (log_sum later) (input_logs later))
+    ∙ ap (λ rs. map (λ s. d * 2 ^ s) (input_logs rs)) (sym is.split))
+    c.undo_round.ensures.input_lengths
+
+pub returns-after-loop-subtree-clause-values : goal.returns-after-loop-subtree-clause-values
+returns-after-loop-subtree-clause-values g t c =
+    let F = g.EF.Field.ops in
+    let rounds = c.args.rounds.now in
+    let later = slice_range rounds 1 (length rounds) in
+    let tree = c.args.tree.now in
+    let trees = c.in-Node.subtrees.items in
+    let d = leaf_length (tree_of tree) in
+    let is : IsNodeOf rounds later trees d = is_node_of rounds later tree c.in-Node.subtrees d c.in-Node.is refl c.requires.paths c.requires.betas c.requires.leaves in
+    let here = c.loop-subtree in
+    let ts = c.deref-subtree-items.result.now in
+    let same : ts ≡ trees = c.deref-subtree-items.ensures.value in
+    let whole : take here.subtree-index ts ≡ ts = take_all here.subtree-index ts (omega (arith, c.loop-subtree-test.false)) in
+    let polys = here.polys.items in
+    let betas : c.deref-in-Node-2.result.now ≡ map (λ t. t.0) trees = c.deref-in-Node-2.ensures.value ∙ c.in_ok-betas-in-Node.ensures ∙ ap (λ us. map (λ t. t.0) us) c.deref-in-Node.ensures.value in
+    let some : 0 < length trees = omega (arith, is.count, beta_count-positive (first_round rounds)) in
+    let words : AllZip (λ t p. UnfoldsTo F later t.1 p) (views ts) (lists polys) = subst (λ us. AllZip (λ t p. UnfoldsTo F later t.1 p) (views us) (lists polys)) whole here.invariant.words in
+    let count : length polys ≡ length trees = sym (length-lists polys) ∙ all_zip-length (λ t p. UnfoldsTo F later t.1 p) (views ts) (lists polys) words ∙ length-map ts (λ t. (t.0, tree_of t.1)) ∙ ap length same in
+    let behind : HasInputsOf F later (views ts) (lists here.inputs.items) = subst (λ us. HasInputsOf F later (views us) (lists here.inputs.items)) whole
+    (here.invariant.inputs (omega (arith, c.loop-subtree-test.false, ap length same, some))) in
+    IfOk-weaker c.undo_round.result
+    (λ u. IsRoundUnfolding F (first_round rounds) c.deref-in-Node-2.result.now (lists c.deref-in-Node-3.result.now) u.word.items (lists here.inputs.items) (lists u.inputs.items))
+    (λ u. IsTreeUnfolding F rounds (tree_of tree) u.word.items (lists u.inputs.items))
+    (λ u e. node_unfolds F rounds later tree c.in-Node.subtrees ts c.deref-in-Node-2.result.now polys c.deref-in-Node-3.result.now (lists here.inputs.items) u.word.items (lists u.inputs.items)
+    c.in-Node.is same is.split (betas ∙ ap (λ us. map (λ t. t.0) us) (sym same)) c.deref-in-Node-3.ensures.value words behind e)
+    c.undo_round.ensures.undone
+
+pub returns-in_ok-from_slice-in-Leaf-clause-word_length : goal.returns-in_ok-from_slice-in-Leaf-clause-word_length
+returns-in_ok-from_slice-in-Leaf-clause-word_length g t c =
+    let rounds = c.args.rounds.now in
+    let tree = c.args.tree.now in
+    let none : rounds ≡ [] = no_rounds rounds tree c.in-Leaf.poly c.in-Leaf.is c.requires.paths in
+    let seen : tree_of tree ≡ leaf c.in-Leaf.poly.items = ap tree_of c.in-Leaf.is ∙ tree_of-Leaf c.in-Leaf.poly in
+    let copied = c.in_ok-from_slice-in-Leaf.field-0 in
+    let same : copied.items ≡ c.in-Leaf.poly.items = c.in_ok-from_slice-in-Leaf.ensures.items ∙ c.deref.ensures.value in
+    let sizes : leaf_length (tree_of tree) * 2 ^ log_sum rounds ≡ length c.in-Leaf.poly.items * 2 ^ 0 = ap₂ (λ t rs. leaf_length t * 2 ^ log_sum rs) seen none in
+    omega (arith, copied.ok.0, ap length same, sizes)
+
+pub returns-in_ok-from_slice-in-Leaf-clause-input_lengths : goal.returns-in_ok-from_slice-in-Leaf-clause-input_lengths
+returns-in_ok-from_slice-in-Leaf-clause-input_lengths g t c =
+    let rounds = c.args.rounds.now in
+    let tree = c.args.tree.now in
+    let none : rounds ≡ [] = no_rounds rounds tree c.in-Leaf.poly c.in-Leaf.is c.requires.paths in
+    let seen : tree_of tree ≡ leaf c.in-Leaf.poly.items = ap tree_of c.in-Leaf.is ∙ tree_of-Leaf c.in-Leaf.poly in
+    let copied = c.in_ok-from_slice-in-Leaf.field-0 in
+    let same : copied.items ≡ c.in-Leaf.poly.items = c.in_ok-from_slice-in-Leaf.ensures.items ∙ c.deref.ensures.value in
+    ap (λ vs. map (λ v. vec_len v) vs) c.new.ensures.items ∙ ap (λ rs. map (λ s. leaf_length (tree_of tree) * 2 ^ s) (input_logs rs)) (sym none)
+
+pub returns-in_ok-from_slice-in-Leaf-clause-values : goal.returns-in_ok-from_slice-in-Leaf-clause-values
+returns-in_ok-from_slice-in-Leaf-clause-values g t c =
+    let rounds = c.args.rounds.now in
+    let tree = c.args.tree.now in
+    let none : rounds ≡ [] = no_rounds rounds tree c.in-Leaf.poly c.in-Leaf.is c.requires.paths in
+    let seen : tree_of tree ≡ leaf c.in-Leaf.poly.items = ap tree_of c.in-Leaf.is ∙ tree_of-Leaf c.in-Leaf.poly in
+    let copied = c.in_ok-from_slice-in-Leaf.field-0 in
+    let same : copied.items ≡ c.in-Leaf.poly.items = c.in_ok-from_slice-in-Leaf.ensures.items ∙ c.deref.ensures.value in
+    let F = g.EF.Field.ops in
+    subst (λ rs. IsTreeUnfolding F rs (tree_of tree) copied.items (lists c.new.result.items)) (sym none)
+    (subst (λ u. IsTreeUnfolding F [] u copied.items (lists c.new.result.items)) (sym seen)
+    (subst (λ vs. IsTreeUnfolding F [] (leaf c.in-Leaf.poly.items) copied.items (lists vs)) (sym c.new.ensures.items)
+    (subst (λ p. IsTreeUnfolding F [] (leaf p) copied.items []) same (is_leaf_unfolding F copied.items))))

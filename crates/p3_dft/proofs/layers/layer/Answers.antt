@@ -1,0 +1,56 @@
+use Rattle.std.proofs.Common.{◌≡◌, ◌≤◌, ◌<◌, ◌+◌, ◌*◌, ℕ, length, get_or, arith, ap, ◌∙◌}
+use Rattle.std.specs.List.{between}
+use Rattle.std.proofs.lemmas.Nat.{row_fits}
+use Rattle.std.proofs.lemmas.List.{get_or_append_left, get_or_read}
+use Rattle.std.proofs.lemmas.List.Edits.{get_or-between}
+use Rattle.p3_dft.specs.Butterflies.{entry, block_entry, sum_at, difference_at}
+use Rattle.p3_dft.proofs.Parts.{block_written, block_before}
+use Rattle.p3_dft.proofs.Pairs.{length-block}
+use Rattle.p3_dft.proofs.SameBlocks.{same_sum, same_difference}
+use Rattle.p3_dft.proofs.layers.layer.Goals as goal
+
+pub loop-m-preserved : goal.loop-m-preserved
+loop-m-preserved g c =
+    let A = g.row.EF.Denot in
+    let B = g.row.F.Denot in
+    let K = g.EF.Field.ops in
+    let lift = g.EF.ExtensionField.lift in
+    let i = c.loop-m.m in
+    let h = c.args.half in
+    let xs = c.args.source.now in
+    let ts = c.args.twiddles.now in
+    let block = between (i * (h + h)) (i * (h + h) + (h + h)) xs in
+    let here = c.loop-m.invariant in
+    let below : i < c.args.blocks = omega arith in
+    let room : i * h + h ≤ c.args.blocks * h = row_fits i h c.args.blocks h below (omega arith) in
+    let front : length c.loop-m.sums ≡ c.args.blocks * h = omega arith in
+    let back : length c.loop-m.differences ≡ c.args.blocks * h = omega arith in
+    let count = length-block c.loop-m.sums i h (omega (arith, room, front)) in
+    let count_back = length-block c.loop-m.differences i h (omega (arith, room, back)) in
+    let made = c.butterflies.ensures in
+    let twiddle : (e : B) → lift c.index-twiddles-m.result ≡ lift (entry ts e (i * c.args.stride)) =
+    λ e. ap lift (get_or_read ts (i * c.args.stride) c.index-twiddles-m.result (c.requires.twiddles i below) c.index-twiddles-m.is e) in
+    let source : (d : A) (j : ℕ) → j < h + h → get_or block j d ≡ block_entry xs (h + h) d i j =
+    λ d j l. get_or-between xs (i * (h + h)) (i * (h + h) + (h + h)) j d (omega (arith, l)) in
+    record {
+      sums = λ m j d e. block_written (λ m j d. sum_at K (block_entry xs (h + h) d m) (lift (entry ts e (m * c.args.stride))) h j)
+          c.loop-m.sums c.butterflies.new.sums i h _ (omega (arith, room, front)) (c.butterflies.auto.sums ∙ count)
+          (λ m j d l q. here.sums m j d e l q)
+          (λ j d q. made.sums j d (omega (arith, q, count))
+          ∙ same_sum K (entry block d) (block_entry xs (h + h) d i) _ _ (twiddle e) h (source d) _ j count q)
+          m j d;
+      differences = λ m j d e. block_written (λ m j d. difference_at K (block_entry xs (h + h) d m) (lift (entry ts e (m * c.args.stride))) h j)
+          c.loop-m.differences c.butterflies.new.differences i h _ (omega (arith, room, back)) (c.butterflies.auto.differences ∙ count_back)
+          (λ m j d l q. here.differences m j d e l q)
+          (λ j d q. made.differences j d (omega (arith, q, count))
+          ∙ same_difference K (entry block d) (block_entry xs (h + h) d i) _ _ (twiddle e) h (source d) _ j count q)
+          m j d;
+    }
+
+pub returns-clause-sums : goal.returns-clause-sums
+returns-clause-sums g c m j d e l q =
+    let sums = c.loop-m.sums in
+    let here : m < c.loop-m.m = omega (arith, l) in
+    let front : length sums ≡ c.args.blocks * c.args.half = omega arith in
+    get_or_append_left sums c.loop-m.differences d (m * c.args.half + j) (omega (arith, front, block_before m c.args.blocks c.args.half j l q))
+    ∙ c.loop-m.invariant.sums m j d e here q
