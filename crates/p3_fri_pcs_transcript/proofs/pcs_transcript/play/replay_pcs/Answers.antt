@@ -91,11 +91,11 @@ returns-in-Err-tested-clause-passes g c = λ started remembered.
             witness_count = held.witness_count;
             coefficient_count = held.coefficient_count;
             pow = test_passes _ g.EF.ExtensionField.coefficients g.F.Field.ops g.EF.ExtensionField.DIMENSION (pcs_shape c.args.shape) (fri_shape c.args.test)
-              c.args.challenger.now (all_claimed c.args.claims.now) c.args.batch_witness sent.commitments.now sent.commit_witnesses.now sent.final_poly.now sent.query_witness
-              begun.result.challenger.now c.claimed_openings.new.self.challenger.now _ c.begin_delegate.result.now _
-              (begun.ensures.starts.state ∙ ap (λ bytes. bytes_observed g.F.Field.ops g.C.CanObserve-1.observed c.args.challenger.now bytes) c.in-Ok.ensures.stream)
-              claimed.state (rw (claimed.kept.shape, begun.ensures.starts.shape) at c.in-Ok-batch_phase.ensures.batch)
-              c.begin_delegate.ensures.value held.pow;
+                c.args.challenger.now (all_claimed c.args.claims.now) c.args.batch_witness sent.commitments.now sent.commit_witnesses.now sent.final_poly.now sent.query_witness
+                begun.result.challenger.now c.claimed_openings.new.self.challenger.now _ c.begin_delegate.result.now _
+                (begun.ensures.starts.state ∙ ap (λ bytes. bytes_observed g.F.Field.ops g.C.CanObserve-1.observed c.args.challenger.now bytes) c.in-Ok.ensures.stream)
+                claimed.state (rw (claimed.kept.shape, begun.ensures.starts.shape) at c.in-Ok-batch_phase.ensures.batch)
+                c.begin_delegate.ensures.value held.pow;
           }),
     )
 
@@ -141,8 +141,8 @@ returns-in-Err-tested-clause-failure g c = λ error is_error.
     let sent = c.args.messages in
     let same : error ≡ Fri c.of_step-failure.result = cc in
     let batch = batch_lent (moves_of g) g.EF.ExtensionField.coefficients ops g.EF.ExtensionField.DIMENSION shape (fri_shape c.args.test) c.args.challenger.now values c.args.batch_witness sent.commitments.now sent.commit_witnesses.now sent.final_poly.now sent.query_witness
-        begun.result.challenger.now observed _ c.begin_delegate.result.now _ seeded claimed.state
-        (rw (claimed.kept.shape, begun.ensures.starts.shape) at c.in-Ok-batch_phase.ensures.batch) c.begin_delegate.ensures.value in
+    begun.result.challenger.now observed _ c.begin_delegate.result.now _ seeded claimed.state
+    (rw (claimed.kept.shape, begun.ensures.starts.shape) at c.in-Ok-batch_phase.ensures.batch) c.begin_delegate.ensures.value in
     run_failed (moves_of g) g.EF.ExtensionField.coefficients ops g.EF.ExtensionField.DIMENSION shape (fri_shape c.args.test) c.args.challenger.now values c.args.batch_witness sent.commitments.now sent.commit_witnesses.now sent.final_poly.now sent.query_witness
     error c.of_step-failure.result c.replay_fri-tested.new.challenger _ same (search rules)
     (test_failed (moves_of g) g.EF.ExtensionField.coefficients ops g.EF.ExtensionField.DIMENSION shape (fri_shape c.args.test) c.args.challenger.now values c.args.batch_witness sent.commitments.now sent.commit_witnesses.now sent.final_poly.now sent.query_witness
