@@ -4,6 +4,7 @@ pub mod PcsSteps
 pub mod ClaimTurns
 pub mod Progress
 pub mod PcsReplays
+pub mod PcsRuns
 pub mod Widths
 pub mod SeedExamples
 pub mod Events

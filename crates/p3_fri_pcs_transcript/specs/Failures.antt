@@ -3,9 +3,14 @@ use Rattle.std.specs.Prelude.{◌≡◌, ◌≤◌, ℕ, IsTrue, List, length, O
 use Rattle.algebra.specs.Field.{FieldOps}
 use Rattle.p3_challenger.specs.Run.{Moves}
 use Rattle.p3_fri_steps.specs.Pow.{IsMissing, IsWrong}
+use Rattle.p3_fri_transcript.specs.declared.transcript.failure.TranscriptFailure.{TranscriptFailure}
+use Rattle.p3_fri_transcript.specs.Failures.{FriFailure}
 use Rattle.p3_fri_transcript.specs.Steps.{FriNumbers}
 use Rattle.p3_fri_pcs_transcript.specs.declared.pcs_transcript.failure.PcsTranscriptFailure.{PcsTranscriptFailure}
 use Rattle.p3_fri_pcs_transcript.specs.declared.pcs_transcript.failure.PcsTranscriptFailure.TheVariants as Why
+use Rattle.p3_fri_pcs_transcript.specs.declared.pcs_transcript.play.PcsFailure.{PcsFailure}
+use Rattle.p3_fri_pcs_transcript.specs.declared.pcs_transcript.play.PcsFailure.TheVariants as Of
+use Rattle.p3_fri_pcs_transcript.specs.Found.{test_begun}
 use Rattle.p3_fri_pcs_transcript.specs.Replay.{claims_observed, claims_replay, pcs_replay}
 use Rattle.p3_fri_pcs_transcript.specs.Steps.{PcsNumbers, pcs_stream}
 
@@ -36,3 +41,20 @@ module _ {C F E Com : Type 0} (m : Moves C F E Com) where
       pub coefficient_count : length final_poly ≡ test.final_poly_len
       pub pow : IsTrue (pcs_replay m coefficients ops d shape test c values batch_witness
           commitments witnesses final_poly witness).passes
+
+    -- the proof of work passes, and then the test is refused
+    pub record TestFailure (after : C) (named : TranscriptFailure) : Type 0 where
+      pub passes :
+          let stream = pcs_stream d shape in
+          IsTrue (claims_replay m coefficients ops shape.batch_pow_bits stream c values
+          batch_witness).passes
+      pub failure : FriFailure m coefficients test
+          (test_begun m coefficients ops d shape test c values batch_witness) commitments
+          witnesses final_poly witness after named
+
+    -- why a run is refused whose seed was absorbed and whose claims have the described counts
+    abbrev pub PcsRunFailure : (after : C) → PcsFailure → Type 0
+    PcsRunFailure after (Of.Pcs failure) =
+        let observed = claims_observed m coefficients ops (pcs_stream d shape) c values in
+        BatchFailure shape.batch_pow_bits observed batch_witness failure
+    PcsRunFailure after (Of.Fri failure) = TestFailure after failure

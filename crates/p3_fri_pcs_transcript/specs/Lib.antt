@@ -8,6 +8,7 @@ pub mod SeedExamples
 pub mod Events
 pub mod Counts
 pub mod Claims
+pub mod Found
 pub mod Failures
 pub mod Cursor
 pub mod Absorption

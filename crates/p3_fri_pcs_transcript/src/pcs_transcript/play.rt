@@ -1,15 +1,18 @@
 //! Whole transcripts, with the low-degree test inside, for a caller that has all values at hand.
 
 ghost use Rattle.std.specs.Prelude.{◌≡◌, ◌≢◌, ◌↔◌, true, Some, Err, IsOk, IfOk, length};
+ghost use Rattle.p3_challenger.specs.Turns.{bytes_observed};
+ghost use Rattle.p3_fri_steps.specs.Reached.{Reaches};
 ghost use Rattle.p3_fri_transcript.specs.declared.transcript.play.Refusal.TheVariants.{Seed, Step};
-ghost use Rattle.p3_fri_steps.specs.declared.error.FriProverError.{FriProverError};
-ghost use Rattle.p3_fri_steps.specs.Failures.{IsProverFailure};
+ghost use Rattle.p3_fri_transcript.specs.Indices.{AreIndices};
 ghost use Rattle.p3_fri_transcript.specs.Shapes.{fri_shape};
 ghost use Rattle.p3_fri_pcs_transcript.specs.Counts.{counts_of_values, all_values};
 ghost use Rattle.p3_fri_pcs_transcript.specs.Counts.{counts_of_claims, all_claimed};
-ghost use Rattle.p3_fri_pcs_transcript.specs.Failures.{WidthsWithin, PcsPasses};
+ghost use Rattle.p3_fri_pcs_transcript.specs.Failures.{WidthsWithin, PcsPasses, PcsRunFailure};
+ghost use Rattle.p3_fri_pcs_transcript.specs.Found.{PcsFound, PcsPlayRefused};
 ghost use Rattle.p3_fri_pcs_transcript.specs.Replay.{pcs_replay};
 ghost use Rattle.p3_fri_pcs_transcript.specs.Shapes.{pcs_shape};
+ghost use Rattle.p3_fri_pcs_transcript.specs.Steps.{pcs_stream};
 
 use crate::pcs_transcript::failure::PcsTranscriptFailure;
 use crate::pcs_transcript::shape::PcsShape;
@@ -19,7 +22,7 @@ use p3_commit::{CommitmentWithOpeningPoints, OpenedValues};
 use p3_field::{ExtensionField, Field};
 use p3_fri_steps::FriProverError;
 use p3_fri_transcript::transcript::{
-    FriMessages, FriShape, PlayedFri, Refusal, TranscriptFailure, play_fri, replay_fri,
+    FriMessages, FriShape, PlayedFri, Refusal, ReplayedFri, TranscriptFailure, play_fri, replay_fri,
 };
 use std::alloc::Global;
 
@@ -90,12 +93,27 @@ pub fn play_pcs<
           indices = played.test.indices.items;
           state = challenger.new;
         }) }
+    ensures betas { IfOk result (λ played. length played.test.betas.items ≡ length commitments.now) }
     ensures witnesses { IfOk result (λ played.
         length played.test.commit_witnesses.items ≡ length commitments.now) }
+    ensures indices { IfOk result (λ played. AreIndices (fri_shape test) played.test.indices.items) }
+    ensures found { IfOk result (λ played.
+        PcsFound ⟦<C as Plays<F, EF, Com>>⟧.moves EF.coefficients F.ops EF.DIMENSION
+        (pcs_shape shape) (fri_shape test) challenger.old (all_values opened_values.now.items)
+        C.solution played.batch_witness commitments.now played.test.commit_witnesses.items
+        final_poly.now played.test.query_witness) }
 
     // A refused seed leaves the challenger as it was; a step is refused after the seed.
-    ensures refused { (e : FriProverError) → result ≡ Err (Step e) → IsProverFailure e }
     ensures unchanged { result ≡ Err Seed → challenger.new ≡ challenger.old }
+    ensures refused { (e : _) → result ≡ Err (Step e) →
+        PcsPlayRefused ⟦<C as Plays<F, EF, Com>>⟧.moves EF.coefficients F.ops EF.DIMENSION
+        (pcs_shape shape) (fri_shape test) challenger.old (all_values opened_values.now.items)
+        commitments.now final_poly.now e }
+    ensures absorbed { result ≢ Err Seed →
+        let stream = pcs_stream EF.DIMENSION (pcs_shape shape) in
+        Reaches ⟦<C as Plays<F, EF, Com>>⟧.moves
+        (bytes_observed F.ops ⟦<C as CanObserve<F>>⟧.observed challenger.old stream)
+        challenger.new }
 {
     let seed = match shape.seed::<F, EF>(alloc) {
         Ok(seed) => seed,
@@ -175,9 +193,23 @@ pub fn replay_pcs<
           indices = replayed.indices.items;
           state = challenger.new;
         }) }
+    ensures betas { IfOk result (λ replayed.
+        length replayed.betas.items ≡ length (fri_shape test).log_arities) }
+    ensures indices { IfOk result (λ replayed. AreIndices (fri_shape test) replayed.indices.items) }
 
     // A refused seed leaves the challenger as it was; a step is refused after the seed.
     ensures unchanged { result ≡ Err Seed → challenger.new ≡ challenger.old }
+    ensures failure { (e : _) → result ≡ Err (Step e) →
+        let sent = messages.entry in
+        PcsRunFailure ⟦<C as Plays<F, EF, Com>>⟧.moves EF.coefficients F.ops EF.DIMENSION
+        (pcs_shape shape) (fri_shape test) challenger.old (all_claimed claims.now) batch_witness
+        sent.commitments.now sent.commit_witnesses.now sent.final_poly.now sent.query_witness
+        challenger.new e }
+    ensures absorbed { result ≢ Err Seed →
+        let stream = pcs_stream EF.DIMENSION (pcs_shape shape) in
+        Reaches ⟦<C as Plays<F, EF, Com>>⟧.moves
+        (bytes_observed F.ops ⟦<C as CanObserve<F>>⟧.observed challenger.old stream)
+        challenger.new }
 {
     let seed = match shape.seed::<F, EF>(alloc) {
         Ok(seed) => seed,
@@ -200,9 +232,10 @@ pub fn replay_pcs<
     };
     let tested = replay_fri::<F, EF, Com, C>(alloc, transcript.begin_delegate(), test, messages);
     match tested {
-        Ok((betas, indices)) => {
+        Ok(replayed) => {
             transcript.end_delegate();
             transcript.finish();
+            let ReplayedFri { betas, indices } = replayed;
             Ok(ReplayedPcs {
                 alpha,
                 betas,

@@ -1,0 +1,142 @@
+-- What whole runs find, and why they are refused, put together from what single calls did.
+use Rattle.std.proofs.Common.{◌≡◌, ◌≢◌, ℕ, ◌==◌, Bool, true, false, List, Option, Some, IsSome, IsTrue, unwrap_or, ◌⊎◌, refl, sym, ap, ◌∙◌, subst, inl, map}
+use Rattle.std.specs.List.{flat_map}
+use Rattle.algebra.specs.Field.{FieldOps, multiple}
+use Rattle.p3_challenger.specs.Run.{Moves, observed_all}
+use Rattle.p3_challenger.specs.Turns.{bytes_observed}
+use Rattle.p3_fri_steps.specs.declared.error.FriProverError.{FriProverError}
+use Rattle.p3_fri_steps.specs.declared.error.FriProverError.TheVariants as Error
+use Rattle.p3_fri_steps.specs.declared.pow_phase.PowPhase.TheVariants.{Batch, CommitPhase, Query}
+use Rattle.p3_fri_steps.specs.Pow.{found_witness, sent_witness, NonePasses}
+use Rattle.p3_fri_steps.specs.Reached.{Reaches}
+use Rattle.p3_fri_steps.proofs.Found.{sent_is}
+use Rattle.p3_fri_steps.proofs.Reached.{reaches_itself, reaches_same, reaches_join, reaches_all_observed}
+use Rattle.p3_fri_transcript.specs.declared.transcript.failure.TranscriptFailure.{TranscriptFailure}
+use Rattle.p3_fri_transcript.specs.declared.transcript.failure.TranscriptFailure.TheVariants as Why
+use Rattle.p3_fri_transcript.specs.declared.transcript.play.Refusal.{Refusal}
+use Rattle.p3_fri_transcript.specs.declared.transcript.play.Refusal.TheVariants.{Seed, Step}
+use Rattle.p3_fri_transcript.specs.Failures.{FriFailure}
+use Rattle.p3_fri_transcript.specs.Found.{FriFound, PlayRefused}
+use Rattle.p3_fri_transcript.specs.Steps.{FriNumbers, fri_stream}
+use Rattle.p3_fri_pcs_transcript.specs.declared.pcs_transcript.play.PcsFailure.{PcsFailure}
+use Rattle.p3_fri_pcs_transcript.specs.declared.pcs_transcript.play.PcsFailure.TheVariants as Of
+use Rattle.p3_fri_pcs_transcript.specs.Failures.{TestFailure, PcsRunFailure}
+use Rattle.p3_fri_pcs_transcript.specs.Found.{test_begun, PcsFound, TestRefused, PcsPlayRefused}
+use Rattle.p3_fri_pcs_transcript.specs.Replay.{BatchReplay, shown_batch_replay, claims_observed, claims_replay}
+use Rattle.p3_fri_pcs_transcript.specs.Steps.{PcsNumbers, pcs_stream}
+use Rattle.p3_fri_pcs_transcript.proofs.PcsReplays.{reaches_batch}
+
+module _ {C F E Com : Type 0} (m : Moves C F E Com) (coefficients : E → List F) (ops : FieldOps F) (d : ℕ) (shape : PcsNumbers) (test : FriNumbers) (c : C) (values : List E) where
+  abbrev pub claimed : C
+  claimed = claims_observed m coefficients ops (pcs_stream d shape) c values
+
+  abbrev pub batch_of : Option F → BatchReplay C E
+  batch_of witness = claims_replay m coefficients ops shape.batch_pow_bits (pcs_stream d shape) c values witness
+
+  abbrev pub begun_from : C → C
+  begun_from lent = bytes_observed ops m.observe_value lent (fri_stream d test)
+
+  -- the state before the proof of work
+  pub claimed_is : (started observed : C) → started ≡ bytes_observed ops m.observe_value c (pcs_stream d shape)
+      → observed ≡ observed_all m.observe_value started (flat_map coefficients values) → observed ≡ claimed
+  claimed_is started observed first second =
+      second ∙ ap (λ s. observed_all m.observe_value s (flat_map coefficients values)) first
+
+  -- it is reached once the stream is absorbed
+  pub reaches_claimed : (observed : C) → observed ≡ claimed
+      → Reaches m (bytes_observed ops m.observe_value c (pcs_stream d shape)) observed
+  reaches_claimed observed is = reaches_same m _ _ _ (reaches_all_observed m _ (flat_map coefficients values)) (sym is)
+
+  -- what is reached on the challenger that was lent
+  pub reaches_tested : (lent last : C) → Reaches m (begun_from lent) last → Reaches m lent last
+  reaches_tested lent last absorbed =
+      let bytes = map (multiple ops) (fri_stream d test) in
+      reaches_join m lent (observed_all m.observe_value lent bytes) last (reaches_all_observed m lent bytes) absorbed
+
+  pub reaches_lent : {A : Type 0} (lent last : C) (refusal : Refusal A) → (refusal ≡ Seed → last ≡ lent)
+      → (refusal ≢ Seed → Reaches m (begun_from lent) last) → Reaches m lent last
+  reaches_lent lent last Seed unchanged absorbed = reaches_itself m lent last (sym (unchanged refl))
+  reaches_lent lent last (Step e) unchanged absorbed = reaches_tested lent last (absorbed (λ same. cc))
+
+  -- and then from the seed on
+  pub reaches_inside : (observed inside lent last : C) (alpha : E) (witness : Option F) → observed ≡ claimed
+      → shown_batch_replay m shape.batch_pow_bits observed witness ≡ record { passes = true; alpha = alpha; state = inside }
+      → lent ≡ inside → Reaches m lent last
+      → Reaches m (bytes_observed ops m.observe_value c (pcs_stream d shape)) last
+  reaches_inside observed inside lent last alpha witness is batch same then =
+      reaches_join m _ observed last (reaches_claimed observed is)
+      (reaches_join m observed lent last
+      (reaches_same m _ _ _ (reaches_batch m shape.batch_pow_bits observed witness)
+      (ap (λ (r : BatchReplay C E). r.state) batch ∙ sym same))
+      then)
+
+  -- the witnesses
+  pub pcs_found : (solution : C → ℕ → Option F) (batch_witness : F) (commitments : List Com) (witnesses : List F) (final_poly : List E) (witness : F)
+      (observed lent : C) (found : Option F) → observed ≡ claimed → found ≡ found_witness solution observed shape.batch_pow_bits
+      → (shape.batch_pow_bits ≢ 0 → IsSome found) → batch_witness ≡ unwrap_or found ops.zero
+      → (batch_of (Some batch_witness)).state ≡ lent
+      → FriFound m ops.zero solution coefficients test (begun_from lent) commitments witnesses final_poly witness
+      → PcsFound m coefficients ops d shape test c values solution batch_witness commitments witnesses final_poly witness
+  pcs_found solution batch_witness commitments witnesses final_poly witness observed lent found is found_is some sent inside tested = record {
+    batch = ap (λ s. sent_witness ops.zero solution s shape.batch_pow_bits) (sym is)
+        ∙ sent_is ops.zero solution observed shape.batch_pow_bits found found_is some ∙ ap Some (sym sent);
+    fri = subst (λ s. FriFound m ops.zero solution coefficients test (begun_from s) commitments witnesses final_poly witness) (sym inside) tested;
+  }
+
+  module _ (commitments : List Com) (final_poly : List E) where
+    abbrev pub Refused : FriProverError → Type 0
+    Refused error = PcsPlayRefused m coefficients ops d shape test c values commitments final_poly error
+
+    -- no witness passes before the challenge
+    pub batch_refused : (observed : C) (error : FriProverError) → observed ≡ claimed → error ≡ Error.NoPowWitness Batch
+        → NonePasses m.observe_value m.draw_bits observed shape.batch_pow_bits → Refused error
+    batch_refused observed error is named none =
+        subst Refused (sym named) (subst (λ s. NonePasses m.observe_value m.draw_bits s shape.batch_pow_bits) is none)
+
+    -- a refusal of the test, after a witness that passes
+    of_test : (error : FriProverError) (witness : F) → IsTrue (batch_of (Some witness)).passes
+        → PlayRefused m coefficients test (test_begun m coefficients ops d shape test c values (Some witness)) commitments final_poly error → Refused error
+    of_test (Error.NoPowWitness Batch) witness passes refused = absurd refused
+    of_test (Error.NoPowWitness CommitPhase) witness passes refused = record { witness = witness; passes = passes; refused = refused }
+    of_test (Error.NoPowWitness Query) witness passes refused = record { witness = witness; passes = passes; refused = refused }
+    of_test Error.OutOfMemory witness passes refused = refused
+    of_test (Error.InputHeightTooSmall input final) witness passes refused = absurd refused
+    of_test Error.FinalHeightOverflow witness passes refused = absurd refused
+    of_test (Error.PointInEvaluationDomain round matrix point) witness passes refused = absurd refused
+
+    pub test_refused : (refusal : Refusal FriProverError) (error : FriProverError) (witness : F) (lent : C)
+        → IsTrue (batch_of (Some witness)).passes → (batch_of (Some witness)).state ≡ lent
+        → (refusal ≡ Seed → error ≡ Error.OutOfMemory) → ((e : FriProverError) → refusal ≡ Step e → error ≡ e)
+        → ((e : FriProverError) → refusal ≡ Step e → PlayRefused m coefficients test (begun_from lent) commitments final_poly e)
+        → Refused error
+    test_refused Seed error witness lent passes inside seed step refused = subst Refused (sym (seed refl)) tt
+    test_refused (Step e) error witness lent passes inside seed step refused =
+        subst Refused (sym (step e refl))
+        (of_test e witness passes
+        (subst (λ s. PlayRefused m coefficients test (begun_from s) commitments final_poly e) (sym inside) (refused e refl)))
+
+  module _ (batch_witness : Option F) (commitments : List Com) (witnesses : List F) (final_poly : List E) (witness : Option F) where
+    abbrev pub Failed : C → TranscriptFailure → Type 0
+    Failed after named = TestFailure m coefficients ops d shape test c values batch_witness commitments witnesses final_poly witness after named
+
+    -- a failure of the test, after a batch that passes
+    pub test_failed : (refusal : Refusal TranscriptFailure) (named : TranscriptFailure) (lent last : C)
+        → IsTrue (batch_of batch_witness).passes → (batch_of batch_witness).state ≡ lent
+        → (refusal ≡ Seed → named ≡ Why.OutOfMemory) → ((e : TranscriptFailure) → refusal ≡ Step e → named ≡ e)
+        → ((e : TranscriptFailure) → refusal ≡ Step e → FriFailure m coefficients test (begun_from lent) commitments witnesses final_poly witness last e)
+        → Failed last named
+    test_failed Seed named lent last passes inside seed step failure =
+        subst (Failed last) (sym (seed refl)) (record { passes = passes; failure = inl tt })
+    test_failed (Step e) named lent last passes inside seed step failure =
+        subst (Failed last) (sym (step e refl))
+        (record {
+          passes = passes;
+          failure = subst (λ s. FriFailure m coefficients test (begun_from s) commitments witnesses final_poly witness last e) (sym inside) (failure e refl);
+        })
+
+    -- named as the run's, in its last state
+    pub run_failed : (error : PcsFailure) (named : TranscriptFailure) (last after : C) → error ≡ Of.Fri named → last ≡ after → Failed last named
+        → PcsRunFailure m coefficients ops d shape test c values batch_witness commitments witnesses final_poly witness after error
+    run_failed error named last after is same failed =
+        subst (PcsRunFailure m coefficients ops d shape test c values batch_witness commitments witnesses final_poly witness after) (sym is)
+        (subst (λ s. Failed s named) same failed)
