@@ -8,3 +8,4 @@ pub mod Quotients
 pub mod Trees
 pub mod Branches
 pub mod Nodes
+pub mod EachTree

@@ -1,5 +1,7 @@
 -- Trees in vectors, seen as trees.
 use Rattle.std.proofs.Common.{◌≡◌, ℕ, zero, suc, ◌<◌, List, [], ◌∷◌, Vec, Global, length, get_or, map, Bool, true, false, refl, ap, arith, rules}
+use Rattle.std.proofs.Common.{◌≤◌, ◌^◌}
+use Rattle.std.proofs.Math.Nat.{pow-le-pow_right}
 use Rattle.std.proofs.lemmas.Nat.{pow_pos}
 use Rattle.p3_converse.specs.Trees.{Tree, leaf, node, Subtrees, no_subtrees, subtree, subtrees, tree_of, betas_of, leaf_length, first_leaf_length}
 use Rattle.p3_converse.specs.Trees.{HasPaths, EachHasPaths, HasLeaves, EachHasLeaves, beta_count, HasBetas, EachHasBetas}
@@ -50,3 +52,7 @@ mutual
   pub first_leaf_length-is : {A : Type 0} (d : ℕ) (rounds : List (ℕ × Bool)) (ts : Subtrees A) → EachHasLeaves d ts → EachHasBetas rounds ts → 0 < length (betas_of ts) → first_leaf_length ts ≡ d
   first_leaf_length-is d rounds no_subtrees h b l = absurd (omega (arith, l))
   first_leaf_length-is d rounds (subtree beta t ts) h b l = leaf_length-is d rounds t h.0 b.0
+
+pub beta_count-large : (a : ℕ) (b : Bool) → 64 ≤ a → 2 ^ 64 ≤ beta_count (a, b)
+beta_count-large a false l = pow-le-pow_right {n = 2} (omega arith) {i = 64} {j = a} l
+beta_count-large a true l = omega (arith, pow-le-pow_right {n = 2} (omega arith) {i = 64} {j = a} l)

@@ -5,6 +5,7 @@
 
 pub mod batching;
 mod by_position;
+pub mod conditions;
 pub mod laws;
 mod newton;
 pub mod quotient;
@@ -12,6 +13,10 @@ pub mod tree;
 pub mod unfolding;
 
 pub use crate::batching::unbatch;
+pub use crate::conditions::{
+    are_distinct, challenges_fit, have_one_length, leaf_length, leaves_fit, log_arities_fit,
+    log_arity_sum, paths_fit, unfolds_within_range,
+};
 pub use crate::quotient::unquotient;
 pub use crate::tree::{FoldTree, UnfoldedTree, unfold_tree};
 pub use crate::unfolding::{UnfoldedWithInput, unfold, unfold_with_input};

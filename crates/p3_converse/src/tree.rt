@@ -126,7 +126,7 @@ fn undo_round<EF: Field>(
 }
 
 /// The challenges of a node.
-fn challenges<EF: Field>(
+pub fn challenges<EF: Field>(
     alloc: Global,
     subtrees: &[(EF, FoldTree<EF>)],
 ) -> Result<Vec<EF>, AllocError>

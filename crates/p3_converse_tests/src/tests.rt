@@ -1,29 +1,18 @@
 //! Worked values, and words that are folded and unfolded again.
 
-ghost use Rattle.std.specs.Prelude.{◌≡◌, ◌+◌, ◌*◌, ◌^◌, ◌<◌, ◌≤◌, IsTrue, IfOk, length, vec_len};
-ghost use Rattle.algebra.specs.Interpolation.{AreDistinct};
+ghost use Rattle.std.specs.Prelude.{◌≡◌, ◌+◌, ◌*◌, ◌^◌, ◌<◌, ◌≤◌, All, IfOk, length, vec_len};
 
 use p3_converse::laws::lifted_roots_law;
-use p3_converse::unfold;
+use p3_converse::{
+    FoldTree, UnfoldedTree, are_distinct, challenges_fit, leaf_length, leaves_fit, log_arities_fit,
+    log_arity_sum, paths_fit, unbatch, unfold, unfold_tree, unfold_with_input,
+    unfolds_within_range, unquotient,
+};
 use p3_field::{BabyBear, BabyBear4, ExtensionField, Field, TwoAdicField, reverse_bits_len};
 use p3_fri_core::{FriFoldingStrategy, TwoAdicFriFolding};
 use std::alloc::{AllocError, Global};
 use std::marker::PhantomData;
 use std::test::Fail;
-
-/// Whether no two of the points are equal; true only then.
-fn are_distinct<F: Field>(points: &[F]) -> bool
-    ensures { IsTrue result → AreDistinct points.now }
-{
-    for later in 0..points.len() {
-        for earlier in 0..later {
-            if points[earlier] == points[later] {
-                return false;
-            }
-        }
-    }
-    true
-}
 
 /// The elements of these numbers.
 fn elements<F: Field>(alloc: Global, numbers: &[u64]) -> Result<Vec<F>, AllocError>
@@ -34,6 +23,21 @@ fn elements<F: Field>(alloc: Global, numbers: &[u64]) -> Result<Vec<F>, AllocErr
         elements.push(F::from_u64(*number))?;
     }
     Ok(elements)
+}
+
+/// The polynomials with these coefficients.
+fn polynomials<F: Field, const D: usize>(
+    alloc: Global,
+    numbers: &[[u64; D]],
+) -> Result<Vec<Vec<F>>, AllocError>
+    ensures count { IfOk result (λ polys. vec_len polys ≡ length numbers.now) }
+    ensures lengths { IfOk result (λ polys. All (λ p. vec_len p ≡ D) polys.items) }
+{
+    let mut polys = Vec::with_capacity(alloc, numbers.len())?;
+    for coefficients in numbers {
+        polys.push(elements::<F>(alloc, coefficients)?)?;
+    }
+    Ok(polys)
 }
 
 /// Whether the polynomials unfold to this one.
@@ -52,11 +56,8 @@ fn unfolds_to<F: Field, const D: usize>(
     if !are_distinct(&betas) {
         return Ok(false);
     }
-    let mut lists = Vec::with_capacity(alloc, polys.len())?;
-    for poly in polys {
-        lists.push(elements::<F>(alloc, poly)?)?;
-    }
-    let unfolded = unfold(alloc, log_arity, &betas, &lists)?;
+    let polys = polynomials::<F, D>(alloc, polys)?;
+    let unfolded = unfold(alloc, log_arity, &betas, &polys)?;
     let wanted = elements::<F>(alloc, wanted)?;
     Ok(unfolded.as_slice() == wanted.as_slice())
 }
@@ -78,6 +79,212 @@ fn unfolds_two_lines(rt: HostRuntime) -> Result<(), Fail> {
 fn unfolds_four_constants(rt: HostRuntime) -> Result<(), Fail> {
     let polys = [[1], [4], [15], [40]];
     assert!(rt; unfolds_to::<BabyBear, 1>(rt.alloc(), 2, &[0, 1, 2, 3], &polys, &[1, 1, 1, 1])?);
+    Ok(())
+}
+
+/// Whether the polynomials are these.
+fn are_polynomials<F: Field, const D: usize>(
+    alloc: Global,
+    polys: &[Vec<F>],
+    wanted: &[[u64; D]],
+) -> Result<bool, AllocError> {
+    if polys.len() != wanted.len() {
+        return Ok(false);
+    }
+    for (poly, numbers) in polys.iter().zip(wanted) {
+        let wanted = elements::<F>(alloc, numbers)?;
+        if poly.as_slice() != wanted.as_slice() {
+            return Ok(false);
+        }
+    }
+    Ok(true)
+}
+
+/// Whether the batches unbatch to these polynomials.
+fn unbatches_to<F: Field, const D: usize>(
+    alloc: Global,
+    alphas: &[u64],
+    polys: &[[u64; D]],
+    wanted: &[[u64; D]],
+) -> Result<bool, AllocError>
+    requires some { 0 < length alphas.now }
+    requires as_many { length polys.now ≡ length alphas.now }
+{
+    let alphas = elements::<F>(alloc, alphas)?;
+    if !are_distinct(&alphas) {
+        return Ok(false);
+    }
+    let batches = polynomials::<F, D>(alloc, polys)?;
+    let unbatched = unbatch(alloc, &alphas, &batches)?;
+    are_polynomials(alloc, &unbatched, wanted)
+}
+
+#[test]
+fn unbatches_two_lines(rt: HostRuntime) -> Result<(), Fail> {
+    let batches = [[5, 1], [8, 1]];
+    assert!(rt; unbatches_to::<BabyBear, 2>(rt.alloc(), &[1, 2], &batches, &[[2, 1], [3, 0]])?);
+    Ok(())
+}
+
+#[test]
+fn unbatches_one_constant(rt: HostRuntime) -> Result<(), Fail> {
+    assert!(rt; unbatches_to::<BabyBear4, 1>(rt.alloc(), &[9], &[[4]], &[[4]])?);
+    Ok(())
+}
+
+/// Whether the quotient is undone to this polynomial.
+fn unquotients_to(
+    alloc: Global,
+    shift: BabyBear,
+    claim: (u64, u64),
+    quotient: &[u64],
+    wanted: &[u64],
+) -> Result<bool, AllocError>
+    requires fits { length quotient.now + 1 < 2 ^ 64 }
+{
+    if shift.is_zero() {
+        return Ok(false);
+    }
+    let (z, y) = (BabyBear::from_u64(claim.0), BabyBear::from_u64(claim.1));
+    let quotient = elements::<BabyBear>(alloc, quotient)?;
+    let polynomial = unquotient(alloc, shift, z, y, &quotient)?;
+    let wanted = elements::<BabyBear>(alloc, wanted)?;
+    Ok(polynomial.as_slice() == wanted.as_slice())
+}
+
+#[test]
+fn undoes_quotients(rt: HostRuntime) -> Result<(), Fail> {
+    let shift = BabyBear::GENERATOR;
+    assert!(rt; unquotients_to(rt.alloc(), shift, (5, 25), &[5, 31], &[0, 0, 1])?);
+    let (claim, line) = ((5, 2013265918), [2, 2013265920]);
+    assert!(rt; unquotients_to(rt.alloc(), shift, claim, &[2013265920], &line)?);
+    assert!(rt; !unquotients_to(rt.alloc(), BabyBear::ZERO, claim, &[2013265920], &line)?);
+    Ok(())
+}
+
+#[test]
+fn unfolds_a_constant_with_its_input(rt: HostRuntime) -> Result<(), Fail> {
+    let betas = elements::<BabyBear>(rt.alloc(), &[0, 1, 2])?;
+    let polys = polynomials::<BabyBear, 1>(rt.alloc(), &[[4], [13], [26]])?;
+    if are_distinct(&betas) {
+        let unfolded = unfold_with_input(rt.alloc(), 1, &betas, &polys)?;
+        let word = elements::<BabyBear>(rt.alloc(), &[4, 7])?;
+        let input = elements::<BabyBear>(rt.alloc(), &[2])?;
+        assert!(rt; unfolded.word.as_slice() == word.as_slice());
+        assert!(rt; unfolded.input.as_slice() == input.as_slice());
+    }
+    assert!(rt; are_distinct(&betas));
+    Ok(())
+}
+
+/// A leaf with these coefficients.
+fn leaf(alloc: Global, numbers: &[u64]) -> Result<FoldTree<BabyBear>, AllocError> {
+    Ok(FoldTree::Leaf(elements::<BabyBear>(alloc, numbers)?))
+}
+
+/// A node over these challenges, as many as there are trees.
+fn node(
+    alloc: Global,
+    betas: &[u64],
+    trees: Vec<FoldTree<BabyBear>>,
+) -> Result<FoldTree<BabyBear>, AllocError> {
+    let mut subtrees = Vec::with_capacity(alloc, trees.len())?;
+    for (beta, tree) in betas.iter().zip(trees) {
+        subtrees.push((BabyBear::from_u64(*beta), tree))?;
+    }
+    Ok(FoldTree::Node(subtrees))
+}
+
+/// A node over 0 and 1 with these constants at its leaves.
+fn pair(alloc: Global, constants: [u64; 2]) -> Result<FoldTree<BabyBear>, AllocError> {
+    let mut trees = Vec::with_capacity(alloc, 2)?;
+    for number in constants {
+        trees.push(leaf(alloc, &[number])?)?;
+    }
+    node(alloc, &[0, 1], trees)
+}
+
+/// What the tree unfolds to, unless a condition fails.
+fn unfolded(
+    alloc: Global,
+    rounds: &[(usize, bool)],
+    tree: &FoldTree<BabyBear>,
+) -> Result<Option<UnfoldedTree<BabyBear>>, AllocError> {
+    if !log_arities_fit(rounds) || !paths_fit(rounds, tree) {
+        return Ok(None);
+    }
+    let length = leaf_length(tree);
+    if !leaves_fit(length, tree) || !unfolds_within_range(length, log_arity_sum(rounds)) {
+        return Ok(None);
+    }
+    if !challenges_fit(alloc, rounds, tree)? {
+        return Ok(None);
+    }
+    Ok(Some(unfold_tree(alloc, rounds, tree)?))
+}
+
+#[test]
+fn unfolds_two_rounds(rt: HostRuntime) -> Result<(), Fail> {
+    let mut trees = Vec::new(rt.alloc());
+    trees.push(pair(rt.alloc(), [1, 3])?)?;
+    trees.push(pair(rt.alloc(), [4, 10])?)?;
+    let tree = node(rt.alloc(), &[0, 1], trees)?;
+    let found = unfolded(rt.alloc(), &[(1, false), (1, false)], &tree)?;
+    assert!(rt; matches!(&found, Some(unfolded) if unfolded.inputs.is_empty()));
+    if let Some(unfolded) = found {
+        let word = elements::<BabyBear>(rt.alloc(), &[1, 3, 2, 4])?;
+        assert!(rt; unfolded.word.as_slice() == word.as_slice());
+    }
+    Ok(())
+}
+
+#[test]
+fn unfolds_two_rounds_with_an_input(rt: HostRuntime) -> Result<(), Fail> {
+    let mut trees = Vec::new(rt.alloc());
+    for number in [5, 35, 63] {
+        trees.push(pair(rt.alloc(), [number, number])?)?;
+    }
+    let tree = node(rt.alloc(), &[0, 1, 2], trees)?;
+    let found = unfolded(rt.alloc(), &[(1, true), (1, false)], &tree)?;
+    assert!(rt; found.is_some());
+    if let Some(unfolded) = found {
+        let word = elements::<BabyBear>(rt.alloc(), &[5, 31, 0, 0])?;
+        assert!(rt; unfolded.word.as_slice() == word.as_slice());
+        let inputs = [[2013265920, 0]];
+        assert!(rt; are_polynomials::<BabyBear, 2>(rt.alloc(), &unfolded.inputs, &inputs)?);
+    }
+    Ok(())
+}
+
+#[test]
+fn trees_that_do_not_fit_are_caught(rt: HostRuntime) -> Result<(), Fail> {
+    // An uneven path.
+    let mut trees = Vec::new(rt.alloc());
+    trees.push(pair(rt.alloc(), [1, 3])?)?;
+    trees.push(leaf(rt.alloc(), &[4])?)?;
+    let tree = node(rt.alloc(), &[0, 1], trees)?;
+    assert!(rt; !paths_fit(&[(1, false), (1, false)], &tree));
+
+    // A repeated challenge.
+    let mut trees = Vec::new(rt.alloc());
+    trees.push(leaf(rt.alloc(), &[1])?)?;
+    trees.push(leaf(rt.alloc(), &[2])?)?;
+    let tree = node(rt.alloc(), &[7, 7], trees)?;
+    assert!(rt; paths_fit(&[(1, false)], &tree));
+    assert!(rt; !challenges_fit(rt.alloc(), &[(1, false)], &tree)?);
+
+    // Leaves of two lengths.
+    let mut trees = Vec::new(rt.alloc());
+    trees.push(leaf(rt.alloc(), &[1])?)?;
+    trees.push(leaf(rt.alloc(), &[2, 3])?)?;
+    let tree = node(rt.alloc(), &[0, 1], trees)?;
+    assert!(rt; challenges_fit(rt.alloc(), &[(1, false)], &tree)?);
+    assert!(rt; !leaves_fit(leaf_length(&tree), &tree));
+
+    assert!(rt; !log_arities_fit(&[(1, false), (0, true)]));
+    assert!(rt; !log_arities_fit(&[(60, false), (4, true)]));
+    assert!(rt; log_arities_fit(&[(60, false), (3, true)]));
+    assert!(rt; unfolds_within_range(1, 63) && !unfolds_within_range(2, 63));
     Ok(())
 }
 

@@ -16,13 +16,15 @@ module _ {A : Type 0} (F : FieldOps A) (w : ℕ → A) where
 
   -- column by column, `words` holds the coset words of log height `k + added` of the polynomials
   -- of `2^k` coefficients that have the columns of `values` on the subgroup
-  pub record HoldsCosetWords (shift : A) (k added : ℕ) (values words : RowMajorMatrix A) : Type 0 where
+  pub record HoldsCosetWords (shift : A) (k added : ℕ)
+      (values words : RowMajorMatrix A) : Type 0 where
     pub width : matrix_width words ≡ matrix_width values
     pub height : length (rows words) ≡ 2 ^ (k + added)
     pub columns : (j : ℕ) → j < matrix_width values
         → column F words j ≡ coset_word F w shift (k + added) (column_polynomial k values j)
     pub values_on_subgroup : (j : ℕ) → j < matrix_width values
-        → Interpolates F (subgroup_points F (w k) k) (column F values j) (column_polynomial k values j)
+        → Interpolates F (subgroup_points F (w k) k) (column F values j)
+        (column_polynomial k values j)
 
   -- extensions whose rows are put into bit-reversed order are coset words
   abbrev pub ExtensionsAreWords : (top : ℕ) → Type 0

@@ -20,7 +20,8 @@ module _ {A : Type 0} (F : FieldOps A) where
 
   -- each column of `values` holds the values at `points` of the polynomial whose coefficients, as
   -- many as points, stand in that column of `coefficients`
-  pub record AreEvaluations (points : List A) (coefficients values : RowMajorMatrix A) : Type 0 where
+  pub record AreEvaluations (points : List A)
+      (coefficients values : RowMajorMatrix A) : Type 0 where
     pub width : matrix_width values ≡ matrix_width coefficients
     pub height : length (rows values) ≡ length (rows coefficients)
     pub columns : (j : ℕ) → j < matrix_width coefficients
@@ -32,7 +33,8 @@ module _ {A : Type 0} (F : FieldOps A) where
   extension points others ys = map (λ x. val F (interpolant F points ys) x) others
 
   -- each column of `extended` is the extension of that column of `values`
-  pub record AreExtensions (points others : List A) (values extended : RowMajorMatrix A) : Type 0 where
+  pub record AreExtensions (points others : List A)
+      (values extended : RowMajorMatrix A) : Type 0 where
     pub width : matrix_width extended ≡ matrix_width values
     pub height : length (rows extended) ≡ length others
     pub columns : (j : ℕ) → j < matrix_width values

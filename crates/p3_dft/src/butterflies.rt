@@ -49,13 +49,17 @@ pub(crate) fn double_butterflies<F: Field, EF: ExtensionField<F>>(
     requires third { length third.old ≡ length first.old }
     requires fourth { length fourth.old ≡ length first.old }
     ensures first { (j : ℕ) (d : EF) → j < length first.old → entry first.new d j
-        ≡ sum_of_sums EF.ops (entry block.now d) (EF.lift twiddle) (EF.lift even) (length first.old) j }
+        ≡ sum_of_sums EF.ops (entry block.now d) (EF.lift twiddle) (EF.lift even)
+        (length first.old) j }
     ensures second { (j : ℕ) (d : EF) → j < length first.old → entry second.new d j
-        ≡ sum_of_differences EF.ops (entry block.now d) (EF.lift twiddle) (EF.lift odd) (length first.old) j }
+        ≡ sum_of_differences EF.ops (entry block.now d) (EF.lift twiddle) (EF.lift odd)
+        (length first.old) j }
     ensures third { (j : ℕ) (d : EF) → j < length first.old → entry third.new d j
-        ≡ difference_of_sums EF.ops (entry block.now d) (EF.lift twiddle) (EF.lift even) (length first.old) j }
+        ≡ difference_of_sums EF.ops (entry block.now d) (EF.lift twiddle) (EF.lift even)
+        (length first.old) j }
     ensures fourth { (j : ℕ) (d : EF) → j < length first.old → entry fourth.new d j
-        ≡ difference_of_differences EF.ops (entry block.now d) (EF.lift twiddle) (EF.lift odd) (length first.old) j }
+        ≡ difference_of_differences EF.ops (entry block.now d) (EF.lift twiddle) (EF.lift odd)
+        (length first.old) j }
 {
     let quarter = first.len();
     let half = quarter + quarter;

@@ -16,8 +16,8 @@ use p3_matrix::RowMajorMatrix;
 use std::alloc::{AllocError, Global};
 use std::marker::PhantomData;
 
-/// A transform of radix 2 by decimation in time. It works on whole rows, and takes a second buffer of the result's
-/// size and a table of roots of unity, one for every two rows.
+/// A transform of radix 2 by decimation in time, two layers in a pass. It works on whole rows, and
+/// takes a second buffer of the result's size and a table of roots of unity, one for two rows.
 #[derive(Clone, Copy, Debug)]
 pub struct Radix2Dit<F>(PhantomData<F>);
 

@@ -1,5 +1,5 @@
 -- Lists of values, absorbed and compared one after another.
-use Rattle.std.proofs.Common.{◌≡◌, ℕ, ◌+◌, ◌-◌, ◌^◌, ◌<◌, ◌≤◌, min, List, [], ◌∷◌, ◌++◌, length, map, take, drop, get_or, refl, sym, ap, ◌∙◌, subst, arith, append_assoc, append-nil}
+use Rattle.std.proofs.Common.{◌≡◌, ℕ, ◌+◌, ◌-◌, ◌^◌, min, List, [], ◌∷◌, ◌++◌, length, map, drop, sym, ap, ◌∙◌, append_assoc}
 use Rattle.std.specs.List.{flat_map}
 use Rattle.p3_challenger_fs.specs.declared.pattern.Hierarchy.TheVariants.{Atomic}
 use Rattle.p3_challenger_fs.specs.declared.pattern.Kind.TheVariants.{Message}
@@ -15,7 +15,7 @@ use Rattle.p3_fri_pcs_transcript.specs.declared.pcs_transcript.described.Describ
 use Rattle.p3_fri_pcs_transcript.specs.Absorption.{Absorbs}
 use Rattle.p3_fri_pcs_transcript.specs.Cursor.{counts_left, IsCompared}
 use Rattle.p3_fri_pcs_transcript.specs.Turns.{claim_turns}
-use Rattle.p3_fri_pcs_transcript.proofs.ClaimTurns.{absorbed_both, absorbed_one, claims_both, claims_first}
+use Rattle.p3_fri_pcs_transcript.proofs.ClaimTurns.{absorbed_both, absorbed_one, claims_first}
 use Rattle.p3_fri_pcs_transcript.proofs.Comparisons.{compared_one, compared_next}
 
 module _ {C F E : Type 0} (observe : C → F → C) (coefficients : E → List F) (d : ℕ) where

@@ -1,14 +1,19 @@
 -- A low-degree test is a run over events.
-use Rattle.std.proofs.Common.{◌≡◌, ℕ, zero, suc, ◌==◌, Bool, true, false, ◌&&◌, IsTrue, if◌then◌else◌, List, [], ◌∷◌, ◌++◌, map, replicate, refl, sym, ap, ap₂, ◌∙◌, append_assoc, eqb-true, eq-eqb}
+use Rattle.std.proofs.Common.{◌≡◌, ℕ, zero, suc, ◌==◌, Bool, true, false, ◌&&◌, IsTrue}
+use Rattle.std.proofs.Common.{if◌then◌else◌, List, [], ◌∷◌, ◌++◌, map, replicate, refl, sym, ap}
+use Rattle.std.proofs.Common.{ap₂, ◌∙◌, append_assoc, eqb-true, eq-eqb}
 use Rattle.std.specs.List.{flat_map}
 use Rattle.algebra.specs.Field.{FieldOps, multiple}
 use Rattle.p3_challenger.specs.Run.{After, Moves, Event, Drawn, run, observed_all, draws}
-use Rattle.p3_challenger.specs.Run.Event.{ValueObserved, CommitmentObserved, ElementDrawn, BitsDrawn}
+use Rattle.p3_challenger.specs.Run.Event.{ValueObserved, CommitmentObserved, ElementDrawn}
+use Rattle.p3_challenger.specs.Run.Event.{BitsDrawn}
 use Rattle.p3_challenger.specs.Run.Drawn.{Element, Bits}
 use Rattle.p3_challenger_core.proofs.Runs.{run-observed_all}
 use Rattle.p3_fri_transcript.specs.Steps.{FriNumbers}
 use Rattle.p3_fri_transcript.specs.Replay.{rounds_replay, shown_queries_replay, fri_replay}
-use Rattle.p3_fri_transcript.specs.Events.{grind_events, round_events, rounds_events, rounds_drawn, fri_events, fri_drawn, fri_events_run, fri_replayed, IsRunOfFri}
+use Rattle.p3_fri_transcript.specs.Events.{grind_events, round_events, rounds_events, rounds_drawn}
+use Rattle.p3_fri_transcript.specs.Events.{fri_events, fri_drawn, fri_events_run, fri_replayed}
+use Rattle.p3_fri_transcript.specs.Events.{IsRunOfFri}
 
 pub both : (p q : Bool) → p ≡ true → q ≡ true → p && q ≡ true
 both p q left right = ap (λ b. b && q) left ∙ right
@@ -21,7 +26,8 @@ pub right_of : (p q : Bool) → p && q ≡ true → q ≡ true
 right_of true q e = e
 right_of false q e = cc
 
-five_joined : {X : Type 0} (a b c d e : List X) → a ++ b ++ c ++ d ++ e ≡ a ++ (b ++ (c ++ (d ++ e)))
+five_joined : {X : Type 0} (a b c d e : List X)
+    → a ++ b ++ c ++ d ++ e ≡ a ++ (b ++ (c ++ (d ++ e)))
 five_joined a b c d e =
     append_assoc (a ++ b ++ c) d e ∙ append_assoc (a ++ b) c (d ++ e) ∙ append_assoc a b (c ++ (d ++ e))
 

@@ -1,5 +1,6 @@
 -- The stream of a low-degree test determines its shape.
-use Rattle.std.proofs.Common.{◌≡◌, ℕ, zero, suc, ◌<◌, List, [], ◌∷◌, ◌++◌, length, map, codes, refl, sym, ap, ap₂, ◌∙◌, arith, append_assoc}
+use Rattle.std.proofs.Common.{◌≡◌, ℕ, zero, suc, ◌<◌, List, [], ◌∷◌, ◌++◌, length, map, codes, refl}
+use Rattle.std.proofs.Common.{sym, ap, ap₂, ◌∙◌, arith, append_assoc}
 use Rattle.std.specs.List.{All}
 use Rattle.std.proofs.lemmas.List.Elements.{All-nil, All-cons, All-append, All-same}
 use Rattle.p3_challenger_fs.specs.declared.pattern.Hierarchy.TheVariants.{Atomic}
@@ -10,11 +11,13 @@ use Rattle.p3_challenger.specs.Pattern.{Step, number_bytes, seed_stream}
 use Rattle.p3_challenger.specs.StreamLaws.{FitsNumber}
 use Rattle.p3_challenger_fs.proofs.Streams.{FitsWhole, head_equal, tail_equal, stream_determined}
 use Rattle.p3_fri_transcript.specs.Shapes.{fri_shape}
-use Rattle.p3_fri_transcript.specs.Steps.{FriNumbers, commitment_step, round_steps, rounds_steps, query_steps, fri_steps, fri_stream, fri_labels}
+use Rattle.p3_fri_transcript.specs.Steps.{FriNumbers, commitment_step, round_steps, rounds_steps}
+use Rattle.p3_fri_transcript.specs.Steps.{query_steps, fri_steps, fri_stream, fri_labels}
 use Rattle.p3_fri_steps.specs.Steps.{pow_steps, challenge_step, message_step}
 use Rattle.p3_fri_transcript.specs.declared.transcript.shape.FriShape.{FriShape}
 use Rattle.p3_fri_transcript.specs.SeedLaws.{SameFriShape, FitsFri}
-use Rattle.p3_fri_steps.proofs.SeedLemmas.{count_equal, pow_determined, pow_fits, labels_fit, labels_determined}
+use Rattle.p3_fri_steps.proofs.SeedLemmas.{count_equal, pow_determined, pow_fits, labels_fit}
+use Rattle.p3_fri_steps.proofs.SeedLemmas.{labels_determined}
 
 -- what the steps tell
 record StepsAgree (s t : FriNumbers) : Type 0 where
@@ -34,10 +37,12 @@ type_equal s t e = ap (λ (x : Step). x.type_tag) e
 width_equal : (a b m n : ℕ) → index_step a m ≡ index_step b n → a ≡ b
 width_equal a b m n e = let h = type_equal (index_step a m) (index_step b n) e in cc
 
-regroup_round : (p : List Step) (x : Step) (q w : List Step) → ((p ++ x ∷ []) ++ q) ++ w ≡ p ++ x ∷ (q ++ w)
+regroup_round : (p : List Step) (x : Step) (q w : List Step)
+    → ((p ++ x ∷ []) ++ q) ++ w ≡ p ++ x ∷ (q ++ w)
 regroup_round p x q w = simp append_assoc
 
-regroup_query : (r : List Step) (m : Step) (p : List Step) (x : Step) (u : List Step) → (r ++ m ∷ (p ++ x ∷ [])) ++ u ≡ r ++ m ∷ (p ++ x ∷ u)
+regroup_query : (r : List Step) (m : Step) (p : List Step) (x : Step) (u : List Step)
+    → (r ++ m ∷ (p ++ x ∷ [])) ++ u ≡ r ++ m ∷ (p ++ x ∷ u)
 regroup_query r m p x u = simp append_assoc
 
 module _ (d : ℕ) where
@@ -57,7 +62,8 @@ module _ (d : ℕ) where
       let rest = rounds_determined label bits bits' n n' a a' u v first.2 in
       (ap (λ k. suc k) rest.0, (λ _. first.0), rest.2, rest.3)
 
-  fri_determined : (s t : FriNumbers) (u v : List Step) → fri_steps d s ++ u ≡ fri_steps d t ++ v → StepsAgree s t × (u ≡ v)
+  fri_determined : (s t : FriNumbers) (u v : List Step) → fri_steps d s ++ u ≡ fri_steps d t ++ v
+      → StepsAgree s t × (u ≡ v)
   unfolding fri_steps
   fri_determined s t u v e =
       let pow = λ (x : FriNumbers). pow_steps (codes "query_pow") x.query_pow_bits in
@@ -99,7 +105,8 @@ module _ (d : ℕ) where
   unfolding fri_steps
   fri_fits s p f = All-append FitsWhole (rounds_steps d s.commit_pow_bits (length s.log_arities)) (query_steps d s) (rounds_fit s.commit_pow_bits (length s.log_arities) p f.commit_pow_bits) (query_fits s p f)
 
-  pub fri_stream_determined : (s t : FriNumbers) → FitsNumber d → FitsFri s → FitsFri t → fri_stream d s ≡ fri_stream d t → SameFriShape s t
+  pub fri_stream_determined : (s t : FriNumbers) → FitsNumber d → FitsFri s → FitsFri t
+      → fri_stream d s ≡ fri_stream d t → SameFriShape s t
   unfolding fri_stream fri_labels
   fri_stream_determined s t p f g e =
       let list = λ (x : FriNumbers). x.log_blowup ∷ x.max_log_arity ∷ x.log_arities in
@@ -119,11 +126,13 @@ module _ (d : ℕ) where
         max_log_arity = head_equal s.max_log_arity t.max_log_arity s.log_arities t.log_arities first;
       }
     where
-      list_fits : (x : FriNumbers) → FitsFri x → All FitsNumber (x.log_blowup ∷ x.max_log_arity ∷ x.log_arities)
+      list_fits : (x : FriNumbers) → FitsFri x
+          → All FitsNumber (x.log_blowup ∷ x.max_log_arity ∷ x.log_arities)
       list_fits x f = All-cons FitsNumber x.log_blowup (x.max_log_arity ∷ x.log_arities) f.log_blowup (All-cons FitsNumber x.max_log_arity x.log_arities f.max_log_arity f.log_arities)
 
   -- and tells no more
-  rounds_same : (n bits bits' : ℕ) → (0 < n → bits ≡ bits') → rounds_steps d bits n ≡ rounds_steps d bits' n
+  rounds_same : (n bits bits' : ℕ) → (0 < n → bits ≡ bits')
+      → rounds_steps d bits n ≡ rounds_steps d bits' n
   rounds_same zero bits bits' h = refl
   rounds_same (suc n) bits bits' h = ap (λ b. rounds_steps d b (suc n)) (h (omega arith))
 
@@ -147,10 +156,13 @@ module _ (d : ℕ) where
   fri_stream_same s t h =
       ap₂ (λ (x : List Step) (y : List ℕ). seed_stream 1 (codes "p3-fri") x (map number_bytes y)) (steps_same s t h) (list_same s.log_blowup t.log_blowup s.max_log_arity t.max_log_arity s.log_arities t.log_arities h.log_blowup h.max_log_arity h.log_arities)
     where
-      list_same : (a a' b b' : ℕ) (xs xs' : List ℕ) → a ≡ a' → b ≡ b' → xs ≡ xs' → a ∷ b ∷ xs ≡ a' ∷ b' ∷ xs'
+      list_same : (a a' b b' : ℕ) (xs xs' : List ℕ) → a ≡ a' → b ≡ b' → xs ≡ xs'
+          → a ∷ b ∷ xs ≡ a' ∷ b' ∷ xs'
       list_same a a' b b' xs xs' e f g = cc
 
-pub shape_fits : (s : FriShape) (numbers : List ℕ) → numbers ≡ s.log_arities.items → All FitsNumber numbers → FitsNumber s.final_poly_len → FitsNumber s.commit_pow_bits → FitsNumber s.query_pow_bits
+pub shape_fits : (s : FriShape) (numbers : List ℕ) → numbers ≡ s.log_arities.items
+    → All FitsNumber numbers → FitsNumber s.final_poly_len → FitsNumber s.commit_pow_bits
+    → FitsNumber s.query_pow_bits
     → FitsNumber s.num_queries → FitsNumber s.index_bits → FitsNumber s.log_blowup → FitsNumber s.max_log_arity → FitsFri (fri_shape s)
 unfolding fri_shape
 shape_fits s numbers e l f c q n i b m = record {

@@ -1,12 +1,14 @@
 -- Steps and labels of a low-degree test, pushed one after another.
-use Rattle.std.proofs.Common.{◌≡◌, ℕ, ◌+◌, ◌-◌, ◌<◌, ◌≤◌, List, [], ◌∷◌, ◌++◌, length, map, codes, sym, ap, ◌∙◌, arith, add-one, append_assoc, append-nil}
+use Rattle.std.proofs.Common.{◌≡◌, ℕ, ◌+◌, ◌-◌, ◌<◌, ◌≤◌, List, [], ◌∷◌, ◌++◌, length, map, codes}
+use Rattle.std.proofs.Common.{sym, ap, ◌∙◌, arith, add-one, append_assoc, append-nil}
 use Rattle.p3_challenger_fs.specs.declared.pattern.Hierarchy.TheVariants.{Atomic}
 use Rattle.p3_challenger_fs.specs.declared.pattern.Kind.TheVariants.{Challenge}
 use Rattle.p3_challenger_fs.specs.declared.pattern.TypeTag.TheVariants.{Bits}
 use Rattle.p3_challenger_fs.specs.declared.pattern.Length.TheVariants.{Fixed}
 use Rattle.p3_challenger.specs.Pattern.{Step, number_bytes}
 use Rattle.p3_challenger.specs.Description.{Description}
-use Rattle.p3_fri_transcript.specs.Steps.{FriNumbers, commitment_step, round_steps, rounds_steps, fri_steps}
+use Rattle.p3_fri_transcript.specs.Steps.{FriNumbers, commitment_step, round_steps, rounds_steps}
+use Rattle.p3_fri_transcript.specs.Steps.{fri_steps}
 use Rattle.p3_fri_steps.specs.Steps.{challenge_step, message_step, pow_steps}
 
 -- a round: a commitment, a proof of work, a challenge
@@ -20,7 +22,8 @@ round_pushed d bits a b c e first second third =
     ∙ append_assoc (a ++ commitment_step ∷ []) pow last ∙ append_assoc a (commitment_step ∷ []) (pow ++ last)
 
 -- one of the rounds that are left
-pub rounds_pushed : (d bits : ℕ) (a b all : List Step) (n i : ℕ) → i < n → b ≡ a ++ round_steps d bits
+pub rounds_pushed : (d bits : ℕ) (a b all : List Step) (n i : ℕ) → i < n
+    → b ≡ a ++ round_steps d bits
     → a ++ rounds_steps d bits (n - i) ≡ all → b ++ rounds_steps d bits (n - (i + 1)) ≡ all
 rounds_pushed d bits a b all n i less is before =
     let left = rounds_steps d bits (n - (i + 1)) in
@@ -29,7 +32,8 @@ rounds_pushed d bits a b all n i less is before =
     ∙ ap (λ k. a ++ rounds_steps d bits k) (sym (one_more ∙ add-one (n - (i + 1)))) ∙ before
 
 -- none is left at the end
-pub rounds_end : (d bits : ℕ) (a all : List Step) (n i : ℕ) → n ≤ i → a ++ rounds_steps d bits (n - i) ≡ all → a ≡ all
+pub rounds_end : (d bits : ℕ) (a all : List Step) (n i : ℕ) → n ≤ i
+    → a ++ rounds_steps d bits (n - i) ≡ all → a ≡ all
 rounds_end d bits a all n i reached is =
     let none_left : n - i ≡ 0 = omega arith in
     sym (append-nil a) ∙ ap (λ k. a ++ rounds_steps d bits k) (sym none_left) ∙ is

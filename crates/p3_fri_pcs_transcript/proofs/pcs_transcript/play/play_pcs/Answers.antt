@@ -1,4 +1,4 @@
-use Rattle.std.proofs.Common.{◌≡◌, Some, None, Err, [], unwrap_or, refl, sym, ap, ◌∙◌, rules}
+use Rattle.std.proofs.Common.{◌≡◌, Some, None, Err, [], unwrap_or, sym, ap, ◌∙◌, rules}
 use Rattle.p3_challenger.specs.Turns.{bytes_observed}
 use Rattle.p3_challenger.specs.Run.{Moves, moves}
 use Rattle.p3_fri_steps.proofs.Reached.{reaches_same}

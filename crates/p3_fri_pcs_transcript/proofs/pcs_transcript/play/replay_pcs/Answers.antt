@@ -1,18 +1,18 @@
-use Rattle.std.proofs.Common.{◌≡◌, [], Err, refl, sym, ap, ◌∙◌, rules}
+use Rattle.std.proofs.Common.{◌≡◌, Err, refl, sym, ap, ◌∙◌, rules}
 use Rattle.p3_challenger.specs.Turns.{bytes_observed}
 use Rattle.p3_challenger.specs.Run.{Moves, moves}
 use Rattle.p3_fri_pcs_transcript.specs.declared.pcs_transcript.play.PcsFailure.TheVariants.{Fri}
 use Rattle.p3_fri_transcript.specs.declared.transcript.failure.TranscriptFailure.TheVariants.{OutOfMemory}
 use Rattle.p3_fri_transcript.specs.declared.transcript.play.Refusal.TheVariants.{Seed, Step}
-use Rattle.p3_fri_pcs_transcript.specs.Counts.{counts_of_claims, all_claimed}
+use Rattle.p3_fri_pcs_transcript.specs.Counts.{all_claimed}
 use Rattle.p3_fri_pcs_transcript.specs.Replay.{BatchReplay, PcsReplay}
 use Rattle.p3_fri_transcript.specs.Shapes.{fri_shape}
 use Rattle.p3_fri_pcs_transcript.specs.Shapes.{pcs_shape}
-use Rattle.p3_fri_pcs_transcript.specs.Steps.{PcsNumbers, widths, pcs_stream}
+use Rattle.p3_fri_pcs_transcript.specs.Steps.{PcsNumbers}
 use Rattle.p3_fri_pcs_transcript.proofs.ClaimTurns.{all_claims_left}
 use Rattle.p3_fri_steps.proofs.Reached.{reaches_same, reaches_join, reaches_shown}
 use Rattle.p3_fri_pcs_transcript.proofs.PcsRuns.{claimed_is, reaches_claimed, reaches_tested, reaches_lent, reaches_inside, test_failed, run_failed}
-use Rattle.p3_fri_pcs_transcript.proofs.PcsReplays.{batch_lent, batch_joined, pcs_joined, batch_passes, test_passes, pcs_ends}
+use Rattle.p3_fri_pcs_transcript.proofs.PcsReplays.{batch_lent, pcs_joined, batch_passes, test_passes, pcs_ends}
 use Rattle.p3_fri_pcs_transcript.proofs.pcs_transcript.play.replay_pcs.Given.{Over}
 use Rattle.p3_fri_pcs_transcript.proofs.pcs_transcript.play.replay_pcs.Goals as goal
 

@@ -1,5 +1,5 @@
 use Rattle.std.proofs.Common.{◌≢◌, ℕ, ◌<◌, get_or}
-use Rattle.p3_converse_tests.proofs.tests.are_distinct.Given as goal
+use Rattle.p3_converse.proofs.conditions.are_distinct.Given as goal
 
 abbrev pub invariant-loop-later : goal.invariant-loop-later
 invariant-loop-later g l = (i j : ℕ) (d : g.row.F.Denot) → i < j → j < l.later → get_or l.points i d ≢ get_or l.points j d
