@@ -1,4 +1,4 @@
--- The streams of shapes that only their labels tell apart.
+-- The streams of shapes that differ only in their labels.
 use Rattle.std.proofs.Common.{◌≡◌, ℕ, List, [], ◌∷◌, get_or, refl, ap, arith}
 use Rattle.p3_challenger.specs.Pattern.{seed_stream}
 use Rattle.p3_fri_pcs_transcript.specs.Steps.{pcs_steps, pcs_stream, pcs_labels}

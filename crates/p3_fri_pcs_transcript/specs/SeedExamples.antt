@@ -1,4 +1,4 @@
--- Shapes that only the labels of their streams tell apart.
+-- Shapes that differ only in the labels of their streams.
 use Rattle.std.specs.Prelude.{◌≡◌, ◌≢◌, ℕ, List}
 use Rattle.p3_fri_pcs_transcript.specs.Steps.{PcsNumbers, pcs_steps, pcs_stream}
 

@@ -11,7 +11,7 @@ use Rattle.p3_challenger_fs.specs.declared.pattern.Length.TheVariants.{Scalar}
 use Rattle.p3_challenger.specs.Pattern.{Step, number_bytes, seed_stream}
 use Rattle.p3_fri_steps.specs.Steps.{pow_steps, challenge_step, message_step}
 
--- what a shape of an opening says: the numbers of claimed values by commitment, matrix and point
+-- what a shape says: the numbers of claimed values by commitment, matrix and point
 pub record PcsNumbers : Type 0 where
   pub counts : List (List (List ℕ))
   pub batch_pow_bits : ℕ
@@ -35,7 +35,7 @@ bracket_step hierarchy = record {
   length = Scalar;
 }
 
--- the numbers that the steps of an opening don't determine
+-- the numbers that the steps don't determine
 unfoldable pub pcs_labels : PcsNumbers → List (List ℕ)
 pcs_labels s = map number_bytes (grouping s.counts)
 
@@ -51,6 +51,6 @@ module _ (d : ℕ) where
       map (message_step d (codes "claimed_evaluations")) (widths s.counts)
       ++ batch_steps s.batch_pow_bits
 
-  -- the stream of an opening
+  -- the stream that binds the shape
   unfoldable pub pcs_stream : PcsNumbers → List ℕ
   pcs_stream s = seed_stream 0x01 (codes "p3-fri-pcs") (pcs_steps s) (pcs_labels s)

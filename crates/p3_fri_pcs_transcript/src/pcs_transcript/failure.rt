@@ -1,7 +1,9 @@
 //! Why a verifier refuses along the transcript.
 
 ghost use Rattle.std.specs.Prelude.{◌≡◌};
-ghost use Rattle.p3_fri_pcs_transcript.specs.declared.pcs_transcript.failure.PcsTranscriptFailure.TheVariants.{OutOfMemory};
+ghost use Rattle.p3_fri_pcs_transcript.specs.declared.pcs_transcript.failure.PcsTranscriptFailure.TheVariants.{
+  OutOfMemory,
+};
 
 use std::alloc::AllocError;
 use thiserror::Error;

@@ -33,7 +33,7 @@ impl PcsShape {
     ghost use Rattle.p3_fri_pcs_transcript.specs.Shapes.{pcs_shape};
     ghost use Rattle.p3_fri_pcs_transcript.specs.Steps.{widths, pcs_steps, pcs_labels, pcs_stream};
 
-    /// The shape of an opening to these values.
+    /// The shape with the numbers of these values.
     pub fn from_opened_values<EF, M>(
         alloc: Global,
         parameters: &FriParameters<M>,
@@ -51,7 +51,7 @@ impl PcsShape {
         })
     }
 
-    /// The shape of an opening with these claims.
+    /// The shape with the numbers of values of these claims.
     pub fn from_claims<EF, Com, Domain, M>(
         alloc: Global,
         parameters: &FriParameters<M>,

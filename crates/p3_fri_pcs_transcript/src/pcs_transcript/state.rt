@@ -83,7 +83,7 @@ impl<'a, Side, F: Field, EF: ExtensionField<F>, C: FieldChallenger<F>> PcsTransc
             Side.row C.row F.row EF.row shape_row script_row)
             C.row self.entry result (given_back self.old)) }
         ensures value { result.now ≡ state_of self.old }
-        ensures steps { (now : C) → left_of (given_back self.old now) ≡ bracket_end_turns }
+        ensures steps { left_of (given_back self.old result.now) ≡ bracket_end_turns }
     {
         self.script.begin_protocol();
         &mut *self.challenger
