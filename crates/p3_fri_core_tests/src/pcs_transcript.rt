@@ -312,11 +312,11 @@ fn whole_openings_are_their_steps(rt: HostRuntime) -> Result<(), Fail> {
                 query_witness,
             },
         ) {
-            Ok((drawn, betas, indices)) => {
+            Ok(replayed) => {
                 assert_eq!(rt; failure, None);
-                assert_eq!(rt; drawn, alpha);
-                assert_eq!(rt; betas, test.betas);
-                assert_eq!(rt; indices, test.indices);
+                assert_eq!(rt; replayed.alpha, alpha);
+                assert_eq!(rt; replayed.betas, test.betas);
+                assert_eq!(rt; replayed.indices, test.indices);
                 assert!(rt; verifier == prover);
             },
             Err(refusal) => assert_eq!(rt; Some(refusal), failure.map(Refusal::Step)),
