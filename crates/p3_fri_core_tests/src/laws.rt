@@ -2,7 +2,7 @@ use p3_challenger::Sha256Challenger;
 use p3_field::{BabyBear, BabyBear4};
 use p3_fri_core::laws::{
     fri_replay_law, fri_seed_examples_law, fri_seed_law, no_bits_law, pcs_replay_law,
-    pcs_seed_examples_law, pcs_seed_law,
+    pcs_seed_examples_law, pcs_seed_law, pcs_shown_law,
 };
 use p3_fri_core::{FriShape, PcsShape};
 use std::alloc::{AllocError, Global};
@@ -43,5 +43,6 @@ fn laws_are_called_at_an_extension(rt: HostRuntime) -> Result<(), Fail> {
     no_bits_law::<Sha256Challenger, BabyBear>();
     fri_replay_law::<Sha256Challenger, BabyBear, BabyBear4, [u8; 32]>();
     pcs_replay_law::<Sha256Challenger, BabyBear, BabyBear4, [u8; 32]>();
+    pcs_shown_law::<Sha256Challenger, BabyBear, BabyBear4, [u8; 32]>();
     Ok(())
 }

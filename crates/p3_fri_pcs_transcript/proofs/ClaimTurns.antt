@@ -1,25 +1,19 @@
 -- Claimed values, absorbed list by list, and the turns that are left then.
-use Rattle.std.proofs.Common.{◌≡◌, ℕ, List, [], ◌∷◌, ◌++◌, length, map, codes, Option, true, sym, ap, ◌∙◌, append_assoc, append-nil}
+use Rattle.std.proofs.Common.{◌≡◌, ℕ, List, [], ◌∷◌, ◌++◌, length, map, codes, sym, ap, ◌∙◌, append_assoc, append-nil}
 use Rattle.std.proofs.lemmas.List.{map-append}
 use Rattle.std.proofs.lemmas.Grind.{flat_map-append}
 use Rattle.std.specs.List.{flat_map}
-use Rattle.algebra.specs.Nested.{lists, joined}
-use Rattle.p3_challenger_fs.specs.declared.pattern.Hierarchy.TheVariants.{Atomic, Begin, End}
-use Rattle.p3_challenger_fs.specs.declared.pattern.Kind.TheVariants.{Message}
-use Rattle.p3_challenger_fs.specs.declared.pattern.TypeTag.TheVariants.{Algebra}
-use Rattle.p3_challenger_fs.specs.declared.pattern.Length.TheVariants.{Fixed}
+use Rattle.algebra.specs.Nested.{joined}
+use Rattle.p3_challenger_fs.specs.declared.pattern.Hierarchy.TheVariants.{Begin, End}
 use Rattle.p3_challenger_fs.specs.declared.pattern.Turn.{Turn}
 use Rattle.p3_challenger.specs.Pattern.{turn_of}
-use Rattle.algebra.specs.Field.{FieldOps}
-use Rattle.p3_challenger.specs.Run.{Moves, observed_all}
-use Rattle.p3_challenger.specs.Turns.{IsNext, bytes_observed}
+use Rattle.p3_challenger.specs.Run.{observed_all}
 use Rattle.p3_challenger_core.proofs.Runs.{observed_all-append}
 use Rattle.p3_fri_steps.specs.Pow.{pow_turns}
-use Rattle.p3_fri_pcs_transcript.specs.Replay.{BatchReplay, shown_batch_replay, claims_replay}
 use Rattle.p3_fri_pcs_transcript.specs.Steps.{PcsNumbers, widths, bracket_step, batch_steps, pcs_steps}
-use Rattle.p3_fri_steps.specs.Steps.{pow_steps, challenge_step, message_step}
+use Rattle.p3_fri_steps.specs.Steps.{challenge_step, message_step}
 use Rattle.p3_fri_pcs_transcript.specs.Turns.{ClaimsLeft, claim_turns, bracket_turns}
-use Rattle.p3_fri_steps.proofs.Turns.{next_of, pow_turns-of}
+use Rattle.p3_fri_steps.proofs.Turns.{pow_turns-of}
 
 -- at first all steps are left
 pub claims_left : (d : ℕ) (s : PcsNumbers) → ClaimsLeft d s (widths s.counts) (map turn_of (pcs_steps d s))

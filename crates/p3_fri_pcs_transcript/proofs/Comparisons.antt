@@ -1,5 +1,5 @@
 -- Claims, compared one after another with the described counts.
-use Rattle.std.proofs.Common.{◌≡◌, ℕ, ◌+◌, ◌-◌, ◌^◌, ◌<◌, min, List, [], ◌∷◌, ◌++◌, length, map, take, drop, get_or, refl, sym, ap, ◌∙◌, add-one, add_assoc, arith, append_assoc, append-nil, length-append}
+use Rattle.std.proofs.Common.{◌≡◌, ℕ, ◌+◌, ◌-◌, ◌^◌, ◌<◌, min, List, [], ◌∷◌, ◌++◌, length, map, take, drop, get_or, refl, sym, ap, ◌∙◌, add-one, add_assoc, arith, append_assoc, length-append}
 use Rattle.std.proofs.Math.Seq.{take-suc}
 use Rattle.std.proofs.lemmas.List.{map-append, length-map, take-append-drop}
 use Rattle.std.proofs.lemmas.Grind.{flat_map-append}
@@ -29,10 +29,6 @@ about_item f xs i x less is =
     ap (map f) (about xs i x less is) ∙ map-append f (take i xs) (x ∷ drop (i + 1) xs) ∙ sym (append_assoc (map f (take i xs)) (f x ∷ []) (map f (drop (i + 1) xs)))
 
 -- and of the lists that are made of each
-pub taken_lists : {A B : Type 0} (f : A → List B) (xs : List A) (i : ℕ) (x : A) → i < length xs → x ≡ get_or xs i x → flat_map f (take (i + 1) xs) ≡ flat_map f (take i xs) ++ f x
-taken_lists f xs i x less is =
-    ap (flat_map f) (taken xs i x less is) ∙ flat_map-append f (take i xs) (x ∷ []) ∙ ap (λ ys. flat_map f (take i xs) ++ ys) (append-nil (f x))
-
 pub about_lists : {A B : Type 0} (f : A → List B) (xs : List A) (i : ℕ) (x : A) → i < length xs → x ≡ get_or xs i x → flat_map f xs ≡ flat_map f (take i xs) ++ f x ++ flat_map f (drop (i + 1) xs)
 about_lists f xs i x less is =
     ap (flat_map f) (about xs i x less is) ∙ flat_map-append f (take i xs) (x ∷ drop (i + 1) xs) ∙ sym (append_assoc (flat_map f (take i xs)) (f x) (flat_map f (drop (i + 1) xs)))
@@ -47,10 +43,6 @@ part_within all first part others before inner after is holds =
 -- a place one further on
 one_place_more : (n m : ℕ) → n ≡ min m (2 ^ 64 - 1) → min (n + 1) (2 ^ 64 - 1) ≡ min (m + 1) (2 ^ 64 - 1)
 one_place_more n m at = omega arith
-
--- none was compared
-pub compared_none : {E : Type 0} (a : DescribedCounts) → IsCompared {E = E} a a []
-compared_none a = record { counts = refl; place = λ from at. omega (arith, at) }
 
 -- one list was compared
 pub compared_one : {E : Type 0} (a b : DescribedCounts) (values : List E) → counts_left a ≡ length values ∷ counts_left b → b.opening ≡ min (a.opening + 1) (2 ^ 64 - 1)

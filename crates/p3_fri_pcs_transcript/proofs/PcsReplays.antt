@@ -1,5 +1,5 @@
 -- A PCS transcript and the test inside it, put together from what single calls did.
-use Rattle.std.proofs.Common.{◌≡◌, ◌≢◌, ℕ, zero, suc, ◌==◌, Bool, true, false, ◌&&◌, List, Option, Some, None, refl, sym, ap, ◌∙◌}
+use Rattle.std.proofs.Common.{◌≡◌, ℕ, zero, suc, Bool, true, false, ◌&&◌, List, Option, Some, refl, sym, ap, ◌∙◌}
 use Rattle.std.specs.List.{flat_map}
 use Rattle.algebra.specs.Field.{FieldOps}
 use Rattle.p3_challenger.specs.Run.{After, Moves, observed_all, draws}
@@ -7,7 +7,7 @@ use Rattle.p3_challenger.specs.Turns.{bytes_observed}
 use Rattle.p3_fri_steps.specs.Pow.{shown_attempt}
 use Rattle.p3_fri_steps.specs.Reached.{Reaches}
 use Rattle.p3_fri_steps.proofs.NoBits.{no_bits}
-use Rattle.p3_fri_steps.proofs.Reached.{reaches_same, reaches_join, reaches_all_observed, reaches_drawn, reaches_shown}
+use Rattle.p3_fri_steps.proofs.Reached.{reaches_join, reaches_drawn, reaches_shown}
 use Rattle.p3_fri_transcript.specs.Steps.{FriNumbers, fri_stream}
 use Rattle.p3_fri_pcs_transcript.specs.Steps.{PcsNumbers, pcs_stream}
 use Rattle.p3_fri_pcs_transcript.specs.Replay.{BatchReplay, shown_batch_replay, claims_observed, claims_replay, PcsReplay, pcs_replay}

@@ -1,5 +1,5 @@
 -- What whole runs find, and why they are refused, put together from what single calls did.
-use Rattle.std.proofs.Common.{◌≡◌, ◌≢◌, ℕ, ◌==◌, Bool, true, false, List, Option, Some, IsSome, IsTrue, unwrap_or, ◌⊎◌, refl, sym, ap, ◌∙◌, subst, inl, map}
+use Rattle.std.proofs.Common.{◌≡◌, ◌≢◌, ℕ, true, List, Option, Some, IsSome, IsTrue, unwrap_or, refl, sym, ap, ◌∙◌, subst, inl, map}
 use Rattle.std.specs.List.{flat_map}
 use Rattle.algebra.specs.Field.{FieldOps, multiple}
 use Rattle.p3_challenger.specs.Run.{Moves, observed_all}
@@ -21,7 +21,7 @@ use Rattle.p3_fri_transcript.specs.Steps.{FriNumbers, fri_stream}
 use Rattle.p3_fri_pcs_transcript.specs.declared.pcs_transcript.play.PcsFailure.{PcsFailure}
 use Rattle.p3_fri_pcs_transcript.specs.declared.pcs_transcript.play.PcsFailure.TheVariants as Of
 use Rattle.p3_fri_pcs_transcript.specs.Failures.{TestFailure, PcsRunFailure}
-use Rattle.p3_fri_pcs_transcript.specs.Found.{test_begun, PcsFound, TestRefused, PcsPlayRefused}
+use Rattle.p3_fri_pcs_transcript.specs.Found.{test_begun, PcsFound, PcsPlayRefused}
 use Rattle.p3_fri_pcs_transcript.specs.Replay.{BatchReplay, shown_batch_replay, claims_observed, claims_replay}
 use Rattle.p3_fri_pcs_transcript.specs.Steps.{PcsNumbers, pcs_stream}
 use Rattle.p3_fri_pcs_transcript.proofs.PcsReplays.{reaches_batch}

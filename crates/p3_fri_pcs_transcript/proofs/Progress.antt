@@ -1,5 +1,5 @@
 -- Lists of values, absorbed and compared one after another.
-use Rattle.std.proofs.Common.{◌≡◌, ℕ, ◌+◌, ◌-◌, ◌^◌, ◌<◌, ◌≤◌, min, List, [], ◌∷◌, ◌++◌, length, map, take, drop, get_or, refl, sym, ap, ◌∙◌, subst, arith, append_assoc, append-nil}
+use Rattle.std.proofs.Common.{◌≡◌, ℕ, ◌+◌, ◌-◌, ◌^◌, min, List, [], ◌∷◌, ◌++◌, length, map, drop, sym, ap, ◌∙◌, append_assoc}
 use Rattle.std.specs.List.{flat_map}
 use Rattle.p3_challenger_fs.specs.declared.pattern.Hierarchy.TheVariants.{Atomic}
 use Rattle.p3_challenger_fs.specs.declared.pattern.Kind.TheVariants.{Message}
@@ -15,14 +15,10 @@ use Rattle.p3_fri_pcs_transcript.specs.declared.pcs_transcript.described.Describ
 use Rattle.p3_fri_pcs_transcript.specs.Absorption.{Absorbs}
 use Rattle.p3_fri_pcs_transcript.specs.Cursor.{counts_left, IsCompared}
 use Rattle.p3_fri_pcs_transcript.specs.Turns.{claim_turns}
-use Rattle.p3_fri_pcs_transcript.proofs.ClaimTurns.{absorbed_both, absorbed_one, claims_both, claims_first}
-use Rattle.p3_fri_pcs_transcript.proofs.Comparisons.{compared_none, compared_one, compared_next}
+use Rattle.p3_fri_pcs_transcript.proofs.ClaimTurns.{absorbed_both, absorbed_one, claims_first}
+use Rattle.p3_fri_pcs_transcript.proofs.Comparisons.{compared_one, compared_next}
 
 module _ {C F E : Type 0} (observe : C → F → C) (coefficients : E → List F) (d : ℕ) where
-  -- no list
-  pub absorbs_none : (script : Script) (c : C) → Absorbs observe coefficients d script script c c []
-  absorbs_none script c = record { state = refl; turns = λ rest was. was }
-
   -- one more, whose turn was the next
   pub absorbs_more : (start before after : Script) (c now last : C) (lists all : List (List E)) (values : List E)
       → Absorbs observe coefficients d start before c now lists
@@ -38,12 +34,6 @@ module _ {C F E : Type 0} (observe : C → F → C) (coefficients : E → List F
         (claims_first d lists (values ∷ []) rest (was ∙ ap (λ ls. claim_turns d (map length ls) ++ rest) is)))
         turns;
   }
-
-  -- the lists under another name
-  pub absorbs_same : (start after : Script) (c last : C) (lists all : List (List E)) → lists ≡ all
-      → Absorbs observe coefficients d start after c last lists → Absorbs observe coefficients d start after c last all
-  absorbs_same start after c last lists all is =
-      subst (λ (ls : List (List E)). Absorbs observe coefficients d start after c last ls) is
 
   -- the turn of the next list is the next
   pub claim_is_next : (start now : Script) (c s : C) (lists all more : List (List E)) (slice values : List E) (rest : List Turn)
@@ -61,23 +51,6 @@ module _ {C F E : Type 0} (observe : C → F → C) (coefficients : E → List F
   pub record Progress (start now : DescribedCounts) (before after : Script) (c last : C) (lists : List (List E)) : Type 0 where
     pub compared : IsCompared start now lists
     pub absorbed : Absorbs observe coefficients d before after c last lists
-
-  pub progress_none : (now : DescribedCounts) (script : Script) (c : C) → Progress now now script script c c []
-  progress_none now script c = record { compared = compared_none now; absorbed = absorbs_none script c }
-
-  pub progress_same : (start now : DescribedCounts) (before after : Script) (c last : C) (lists all : List (List E)) → lists ≡ all
-      → Progress start now before after c last lists → Progress start now before after c last all
-  progress_same start now before after c last lists all is =
-      subst (λ (ls : List (List E)). Progress start now before after c last ls) is
-
-  -- the turns that are left are those of the counts that are left
-  pub counts_then : (start now : DescribedCounts) (before after : Script) (c last : C) (lists : List (List E)) (rest : List Turn)
-      → Progress start now before after c last lists → remaining before ≡ claim_turns d (counts_left start) ++ rest
-      → remaining after ≡ claim_turns d (counts_left now) ++ rest
-  counts_then start now before after c last lists rest till was =
-      till.absorbed.turns (claim_turns d (counts_left now) ++ rest)
-      (was ∙ ap (λ counts. claim_turns d counts ++ rest) till.compared.counts
-      ∙ claims_both d (map length lists) (counts_left now) rest)
 
   -- one more list
   pub progress_more : (start now next : DescribedCounts) (before at after : Script) (c s last : C) (lists all : List (List E)) (values : List E)

@@ -1,7 +1,9 @@
 -- Where a comparison with the described counts stands.
 use Rattle.std.specs.Prelude.{◌≡◌, ℕ, ◌+◌, ◌-◌, ◌^◌, min, List, ◌++◌, length, map}
 use Rattle.algebra.specs.Nested.{lists, nested, joined}
-use Rattle.p3_fri_pcs_transcript.specs.declared.pcs_transcript.described.DescribedCounts.{DescribedCounts}
+use Rattle.p3_fri_pcs_transcript.specs.declared.pcs_transcript.described.DescribedCounts.{
+  DescribedCounts,
+}
 use Rattle.p3_fri_pcs_transcript.specs.Steps.{widths}
 
 -- the counts that are left, in order

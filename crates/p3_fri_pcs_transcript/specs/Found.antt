@@ -19,7 +19,8 @@ module _ {C F E Com : Type 0} (m : Moves C F E Com) (coefficients : E → List F
   abbrev pub test_begun : (batch_witness : Option F) → C
   test_begun batch_witness =
       let stream = pcs_stream d shape in
-      let batch = claims_replay m coefficients ops shape.batch_pow_bits stream c values batch_witness in
+      let bits = shape.batch_pow_bits in
+      let batch = claims_replay m coefficients ops bits stream c values batch_witness in
       bytes_observed ops m.observe_value batch.state (fri_stream d test)
 
   -- each witness is what the challenger's search gives in the state that the run reaches, and zero

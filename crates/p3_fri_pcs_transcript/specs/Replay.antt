@@ -60,7 +60,7 @@ module _ {C F E Com : Type 0} (m : Moves C F E Com) where
         let stream = pcs_stream d shape in
         let batch = claims_replay shape.batch_pow_bits stream c values batch_witness in
         let tested = fri_replay m coefficients test ops (fri_stream d test) batch.state commitments
-            witnesses final_poly witness in
+        witnesses final_poly witness in
         record {
           passes = batch.passes && tested.passes;
           alpha = batch.alpha;

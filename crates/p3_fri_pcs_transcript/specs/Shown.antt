@@ -21,6 +21,6 @@ ReplaysAsShown {F = F} m coefficients ops d shape test c values batch_witness co
     → IsShown shape.batch_pow_bits batch_witness shown_batch
     → IsShown test.query_pow_bits witness shown
     → pcs_replay m coefficients ops d shape test c values shown_batch commitments witnesses
-      final_poly shown
+    final_poly shown
     ≡ pcs_replay m coefficients ops d shape test c values (Some batch_witness) commitments witnesses
-      final_poly (Some witness)
+    final_poly (Some witness)

@@ -1,4 +1,5 @@
--- What the protocol around a low-degree test exchanges: the steps, and the numbers that they don't determine.
+-- What the protocol around a low-degree test exchanges: the steps, and the numbers that they don't
+-- determine.
 use Rattle.std.specs.Prelude.{ℕ, List, [], ◌∷◌, ◌++◌, length, map, codes}
 use Rattle.std.specs.List.{flat_map}
 use Rattle.algebra.specs.Nested.{joined}
@@ -22,7 +23,8 @@ widths counts = flat_map joined counts
 -- how they are grouped: the number of commitments, then of each its number of matrices, and of each
 -- of these its number of points
 abbrev pub grouping : List (List (List ℕ)) → List ℕ
-grouping counts = length counts ∷ flat_map (λ matrices. length matrices ∷ map length matrices) counts
+grouping counts =
+    length counts ∷ flat_map (λ matrices. length matrices ∷ map length matrices) counts
 
 abbrev pub bracket_step : Hierarchy → Step
 bracket_step hierarchy = record {

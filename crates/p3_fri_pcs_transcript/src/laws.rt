@@ -1,5 +1,5 @@
-//! Laws as calls that give nothing and whose contracts are theorems over the definitions. Their bodies
-//! only read: a number that is read is known to fit its type.
+//! Laws as calls that give nothing and whose contracts are theorems over the definitions. Their
+//! bodies only read: a number that is read is known to fit its type.
 
 ghost use Rattle.std.specs.Prelude.{◌≡◌, ℕ, List, [], ◌∷◌};
 ghost use Rattle.algebra.specs.Field.{FieldOps};
@@ -44,17 +44,18 @@ pub fn pcs_replay_law<C, F, E, Com>()
         (shape : PcsNumbers) (test : FriNumbers) (c : C) (values : List E) (batch_witness : F)
         (commitments : List Com) (witnesses : List F) (final_poly : List E) (witness : F)
         → IsRunOfPcs m coefficients ops d shape test c values batch_witness commitments witnesses
-          final_poly witness }
+        final_poly witness }
 {}
 
-/// What `play_pcs` gives, `replay_pcs` passes, from the same state to the same last state: a witness
-/// that is shown where there are bits, and may be missing at no bits, is replayed as the prover's.
+/// What `play_pcs` gives, `replay_pcs` passes, from the same state to the same last state: a
+/// witness that is shown where there are bits, and may be missing at no bits, is replayed as the
+/// prover's.
 pub fn pcs_shown_law<C, F, E, Com>()
     ensures { (m : Moves C F E Com) (coefficients : E → List F) (ops : FieldOps F) (d : ℕ)
         (shape : PcsNumbers) (test : FriNumbers) (c : C) (values : List E) (batch_witness : F)
         (commitments : List Com) (witnesses : List F) (final_poly : List E) (witness : F)
-        → ReplaysAsShown m coefficients ops d shape test c values batch_witness commitments witnesses
-          final_poly witness }
+        → ReplaysAsShown m coefficients ops d shape test c values batch_witness commitments
+        witnesses final_poly witness }
 {}
 
 fn pcs_fits(shape: &PcsShape)

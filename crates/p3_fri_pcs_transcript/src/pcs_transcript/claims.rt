@@ -27,11 +27,11 @@ pub(super) fn absorb_claims<F: Field, EF: ExtensionField<F>, C: FieldChallenger<
         (IsCompared described.old described.new (lists_of_claims claims.now)) }
     ensures absorbed { OnOk result
         (Absorbs C.observed EF.coefficients EF.DIMENSION script.old script.new
-            challenger.old challenger.new (lists_of_claims claims.now)) }
+        challenger.old challenger.new (lists_of_claims claims.now)) }
     ensures fault { IfErr result (λ e.
         (from : ℕ) → described.old.opening ≡ min from (2 ^ 64 - 1) →
-            IsClaimFailure from (counts_left described.old)
-                (map length (lists_of_claims claims.now)) e) }
+        IsClaimFailure from (counts_left described.old)
+        (map length (lists_of_claims claims.now)) e) }
 {
     for claim in claims {
         for matrix in &claim.matrices {

@@ -56,14 +56,14 @@ impl<'a> DescribedCounts<'a> {
         }
     }
 
-    /// Compares a claim of `got` values with the next count. A place past the greatest number is given
-    /// as that.
+    /// Compares a claim of `got` values with the next count. A place past the greatest number is
+    /// given as that.
     pub(super) fn compare(&mut self, got: usize) -> Result<(), PcsTranscriptFailure>
         ensures counts { OnOk result (counts_left self.old ≡ got ∷ counts_left self.new) }
         ensures place { OnOk result (self.new.opening ≡ min (self.old.opening + 1) (2 ^ 64 - 1)) }
         ensures fault { IfErr result (λ e.
             (from : ℕ) → self.old.opening ≡ min from (2 ^ 64 - 1) →
-                IsClaimFailure from (counts_left self.old) (got ∷ []) e) }
+            IsClaimFailure from (counts_left self.old) (got ∷ []) e) }
     {
         let opening = self.opening;
         self.opening = opening.saturating_add(1);

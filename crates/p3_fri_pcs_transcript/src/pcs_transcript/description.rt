@@ -8,6 +8,7 @@ ghost use Rattle.p3_fri_pcs_transcript.specs.Steps.{widths, grouping};
 ghost use Rattle.p3_fri_steps.specs.Labels.{labels_added};
 ghost use Rattle.p3_fri_steps.specs.Steps.{message_step};
 
+use crate::labels::CLAIMED_EVALUATIONS;
 use p3_challenger::fs::{DomainSeparator, Hierarchy, Interaction, Kind, Length};
 use p3_field::{ExtensionField, Field};
 use p3_fri_steps::steps::push_label;
@@ -19,7 +20,8 @@ pub(super) fn push_claims<F: Field, EF: ExtensionField<F>>(
     commitments: &[Vec<Vec<usize>>],
 ) -> Result<(), AllocError>
     ensures { OnOk result (map step_of steps.new.items ≡ map step_of steps.old.items
-        ++ map (message_step EF.DIMENSION (codes "claimed_evaluations")) (widths (nested commitments.now))) }
+        ++ map (message_step EF.DIMENSION (codes "claimed_evaluations"))
+        (widths (nested commitments.now))) }
 {
     for matrices in commitments {
         push_claims_of_matrices::<F, EF>(steps, matrices)?;
@@ -33,7 +35,8 @@ fn push_claims_of_matrices<F: Field, EF: ExtensionField<F>>(
     matrices: &[Vec<usize>],
 ) -> Result<(), AllocError>
     ensures { OnOk result (map step_of steps.new.items ≡ map step_of steps.old.items
-        ++ map (message_step EF.DIMENSION (codes "claimed_evaluations")) (joined (lists matrices.now))) }
+        ++ map (message_step EF.DIMENSION (codes "claimed_evaluations"))
+        (joined (lists matrices.now))) }
 {
     for points in matrices {
         push_claims_at_points::<F, EF>(steps, points)?;
@@ -53,7 +56,7 @@ fn push_claims_at_points<F: Field, EF: ExtensionField<F>>(
         steps.push(Interaction::algebra::<F, EF>(
             Hierarchy::Atomic,
             Kind::Message,
-            "claimed_evaluations",
+            CLAIMED_EVALUATIONS,
             Length::Fixed(*count),
         ))?;
     }

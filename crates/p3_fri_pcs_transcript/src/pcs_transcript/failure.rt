@@ -6,11 +6,11 @@ ghost use Rattle.p3_fri_pcs_transcript.specs.declared.pcs_transcript.failure.Pcs
 use std::alloc::AllocError;
 use thiserror::Error;
 
-/// A step of an opening's transcript that the proof or its claims failed.
+/// A step of the transcript that the proof or its claims failed.
 #[derive(Clone, Copy, Debug, PartialEq, Eq, Error)]
 pub enum PcsTranscriptFailure {
-    /// A claim doesn't have as many values as described at its place. `opening` is that place in the order of
-    /// commitments, matrices and points, and `expected` is 0 where none is described.
+    /// A claim doesn't have as many values as described at its place. `opening` is that place in
+    /// the order of commitments, matrices and points, and `expected` is 0 where none is described.
     #[error("opening {opening} has {got} claimed values for {expected}")]
     ClaimedEvaluationCount {
         opening: usize,

@@ -24,7 +24,7 @@ use p3_fri_steps::FriProverError;
 use p3_fri_transcript::transcript::{
     FriMessages, FriShape, PlayedFri, Refusal, ReplayedFri, TranscriptFailure, play_fri, replay_fri,
 };
-use std::alloc::Global;
+use std::alloc::{AllocError, Global};
 
 /// Why a verifier refuses along the transcript or along the test inside it.
 #[derive(Clone, Copy, Debug, PartialEq, Eq)]
@@ -93,10 +93,12 @@ pub fn play_pcs<
           indices = played.test.indices.items;
           state = challenger.new;
         }) }
-    ensures betas { IfOk result (λ played. length played.test.betas.items ≡ length commitments.now) }
+    ensures betas { IfOk result (λ played.
+        length played.test.betas.items ≡ length commitments.now) }
     ensures witnesses { IfOk result (λ played.
         length played.test.commit_witnesses.items ≡ length commitments.now) }
-    ensures indices { IfOk result (λ played. AreIndices (fri_shape test) played.test.indices.items) }
+    ensures indices { IfOk result (λ played.
+        AreIndices (fri_shape test) played.test.indices.items) }
     ensures found { IfOk result (λ played.
         PcsFound ⟦<C as Plays<F, EF, Com>>⟧.moves EF.coefficients F.ops EF.DIMENSION
         (pcs_shape shape) (fri_shape test) challenger.old (all_values opened_values.now.items)
@@ -152,11 +154,11 @@ pub fn play_pcs<
     }
 }
 
-/// Replays all of the transcript, whose shape has the counts of these claims, and inside the bracket
-/// all of the low-degree test's. Answers the challenge that batches the openings, the folding
-/// challenges and the queries' indices. The widths are at most the challenger's greatest.
-/// `Refusal::Seed` leaves the challenger as it was; at any other answer it has absorbed the seed. A
-/// step is refused as the transcripts' own calls refuse.
+/// Replays all of the transcript, whose shape has the counts of these claims, and inside the
+/// bracket all of the low-degree test's. Answers the challenge that batches the openings, the
+/// folding challenges and the queries' indices. The widths are at most the challenger's greatest.
+/// `Refusal::Seed` leaves the challenger as it was; at any other answer it has absorbed the seed.
+/// A step is refused as the transcripts' own calls refuse.
 pub fn replay_pcs<
     F: Field,
     EF: ExtensionField<F>,
@@ -213,7 +215,7 @@ pub fn replay_pcs<
 {
     let seed = match shape.seed::<F, EF>(alloc) {
         Ok(seed) => seed,
-        Err(_) => return Err(Refusal::Seed),
+        Err(AllocError) => return Err(Refusal::Seed),
     };
     let mut transcript = PcsVerifierTranscript::<C, F, EF>::start(challenger, seed, shape);
     match transcript.claimed_openings(claims) {

@@ -56,7 +56,7 @@ impl<
             → IfOk result (λ answer. IsSome answer.1) }
         ensures batch { IfOk result (λ answer.
             batch_replay ⟦<C as Plays<F, EF, F>>⟧.moves (shape_of self.old).batch_pow_bits
-                (state_of self.old) (unwrap_or answer.1 F.ops.zero)
+            (state_of self.old) (unwrap_or answer.1 F.ops.zero)
             ≡ record { passes = true; alpha = answer.0; state = state_of self.new }) }
         ensures steps { OnOk result (left_of self.new ≡ bracket_turns) }
         ensures refused { IfErr result (λ e. e ≡ NoPowWitness Batch) }

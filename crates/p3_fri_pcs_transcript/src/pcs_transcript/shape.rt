@@ -1,10 +1,11 @@
-//! What an opening exchanges.
+//! What the transcript exchanges.
 
 ghost use Rattle.std.specs.Prelude.{◌≡◌, ◌-◌, ◌^◌, min, IfOk, length, map, codes};
 ghost use Rattle.p3_challenger.specs.Pattern.{turn_of};
 ghost use Rattle.p3_challenger.specs.Separator.{description, seed_bytes, seed_turns};
 ghost use Rattle.p3_fri_pcs_transcript.specs.Counts.{counts_of_values, counts_of_claims};
 
+use crate::labels::{ALPHA, BATCH_POW, LOW_DEGREE_TEST, NAME, VERSION};
 use crate::pcs_transcript::counts::{clone_counts, count_claims, count_values, number_of_points};
 use crate::pcs_transcript::description::{push_claims, push_grouping};
 use p3_challenger::fs::{
@@ -16,12 +17,7 @@ use p3_fri_folding::FriParameters;
 use p3_fri_steps::steps::push_pow;
 use std::alloc::{AllocError, Global};
 
-/// The version and the name that the transcript is bound to.
-const VERSION: u8 = 1;
-
-const NAME: &[u8] = b"p3-fri-pcs";
-
-/// The numbers that fix the transcript of an opening. Both sides make it from what they hold: the prover from the
+/// The numbers that fix the transcript. Both sides make it from what they hold: the prover from the
 /// values that it opens, the verifier from the claims that it was handed.
 #[derive(Debug, PartialEq, Eq, Drop)]
 pub struct PcsShape {
@@ -73,8 +69,8 @@ impl PcsShape {
         })
     }
 
-    /// The number of openings, which are triples of a commitment, a matrix and a point, or the greatest number where
-    /// that is greater.
+    /// The number of openings, which are triples of a commitment, a matrix and a point, or the
+    /// greatest number where that is greater.
     pub fn num_openings(&self) -> usize
         ensures { result ≡ min (length (widths (pcs_shape self.now).counts)) (2 ^ 64 - 1) }
     {
@@ -97,20 +93,21 @@ impl PcsShape {
         &self,
         alloc: Global,
     ) -> Result<InteractionPattern, AllocError>
-        ensures { IfOk result (λ pattern. pattern_steps pattern ≡ pcs_steps EF.DIMENSION (pcs_shape self.now)) }
+        ensures { IfOk result (λ pattern.
+            pattern_steps pattern ≡ pcs_steps EF.DIMENSION (pcs_shape self.now)) }
     {
         let openings = number_of_points(&self.claimed_evaluation_counts);
         let mut steps = Vec::with_capacity(alloc, openings.saturating_add(4))?;
         push_claims::<F, EF>(&mut steps, &self.claimed_evaluation_counts)?;
-        push_pow::<F>(&mut steps, "batch_pow", self.batch_pow_bits)?;
+        push_pow::<F>(&mut steps, BATCH_POW, self.batch_pow_bits)?;
         steps.push(Interaction::algebra::<F, EF>(
             Hierarchy::Atomic,
             Kind::Challenge,
-            "alpha",
+            ALPHA,
             Length::Scalar,
         ))?;
-        steps.push(Interaction::marker(Hierarchy::Begin, Kind::Protocol, "low_degree_test"))?;
-        steps.push(Interaction::marker(Hierarchy::End, Kind::Protocol, "low_degree_test"))?;
+        steps.push(Interaction::marker(Hierarchy::Begin, Kind::Protocol, LOW_DEGREE_TEST))?;
+        steps.push(Interaction::marker(Hierarchy::End, Kind::Protocol, LOW_DEGREE_TEST))?;
         Ok(InteractionPattern::new(steps))
     }
 
@@ -132,10 +129,13 @@ impl PcsShape {
         Ok(separator)
     }
 
-    /// What both sides absorb first, and the steps that they play then. It is made before a challenger is touched.
+    /// What both sides absorb first, and the steps that they play then. It is made before a
+    /// challenger is touched.
     pub fn seed<F: Field, EF: ExtensionField<F>>(&self, alloc: Global) -> Result<Seed, AllocError>
-        ensures stream { IfOk result (λ seed. seed_bytes seed ≡ pcs_stream EF.DIMENSION (pcs_shape self.now)) }
-        ensures turns { IfOk result (λ seed. seed_turns seed ≡ map turn_of (pcs_steps EF.DIMENSION (pcs_shape self.now))) }
+        ensures stream { IfOk result (λ seed.
+            seed_bytes seed ≡ pcs_stream EF.DIMENSION (pcs_shape self.now)) }
+        ensures turns { IfOk result (λ seed.
+            seed_turns seed ≡ map turn_of (pcs_steps EF.DIMENSION (pcs_shape self.now))) }
     {
         let separator = self.domain_separator::<F, EF>(alloc)?;
         separator.seed(alloc)

@@ -38,10 +38,15 @@ impl<'a, Side, F: Field, EF: ExtensionField<F>, C: FieldChallenger<F>> PcsTransc
     EF,
 > {
     ghost use Rattle.p3_challenger_fs.specs.contracts.script.Script.{the_row as script_row};
-    ghost use Rattle.p3_fri_pcs_transcript.specs.contracts.pcs_transcript.shape.PcsShape.{the_row as shape_row};
-    ghost use Rattle.p3_fri_pcs_transcript.specs.contracts.pcs_transcript.state.PcsTranscript.{the_row as pcs_row};
+    ghost use Rattle.p3_fri_pcs_transcript.specs.contracts.pcs_transcript.shape.PcsShape.{
+      the_row as shape_row,
+    };
+    ghost use Rattle.p3_fri_pcs_transcript.specs.contracts.pcs_transcript.state.PcsTranscript.{
+      the_row as pcs_row,
+    };
     ghost use Rattle.p3_fri_pcs_transcript.specs.Lending.{given_back};
-    ghost use Rattle.p3_fri_pcs_transcript.specs.Views.{state_of, left_of, AllClaimsLeft, Kept, Starts};
+    ghost use Rattle.p3_fri_pcs_transcript.specs.Views.{state_of, left_of, AllClaimsLeft};
+    ghost use Rattle.p3_fri_pcs_transcript.specs.Views.{Kept, Starts};
 
     /// Absorbs the seed, and stands before its first step. The seed is to be the shape's own: the
     /// calls that follow ask for the steps of the shape.
@@ -75,7 +80,7 @@ impl<'a, Side, F: Field, EF: ExtensionField<F>, C: FieldChallenger<F>> PcsTransc
         requires bracket_left { left_of self.old ≡ bracket_turns }
         ensures* writes_back { sem 𝓛 (Lends
             (pcs_row (record { mir = named 1; lft = [] })
-                Side.row C.row F.row EF.row shape_row script_row)
+            Side.row C.row F.row EF.row shape_row script_row)
             C.row self.entry result (given_back self.old)) }
         ensures value { result.now ≡ state_of self.old }
         ensures steps { (now : C) → left_of (given_back self.old now) ≡ bracket_end_turns }

@@ -30,10 +30,10 @@ impl<
     EF: ExtensionField<F>,
     C: FieldChallenger<F> + GrindingChallenger<Witness = F>,
 > PcsVerifierTranscript<'a, C, F, EF> {
-    /// Absorbs all claimed values, in the order of commitments, matrices and points, and compares how
-    /// many there are at each with the described count at its place. A claim past the last described
-    /// one is refused. Where there are fewer claims than described, the others are left to play.
-    /// After a refusal only `abort` may follow.
+    /// Absorbs all claimed values, in the order of commitments, matrices and points, and compares
+    /// how many there are at each with the described count at its place. A claim past the last
+    /// described one is refused. Where there are fewer claims than described, the others are left
+    /// to play. After a refusal only `abort` may follow.
     pub fn claimed_openings<Com, Domain>(
         &mut self,
         claims: &[CommitmentWithOpeningPoints<EF, Com, Domain>],
@@ -64,25 +64,25 @@ impl<
         }
     }
 
-    /// Checks the proof of work, whose witness may be missing only at no bits, and draws the challenge
-    /// that batches the openings. After a refusal only `abort` may follow.
+    /// Checks the proof of work, whose witness may be missing only at no bits, and draws the
+    /// challenge that batches the openings. After a refusal only `abort` may follow.
     pub fn batch_phase(&mut self, witness: Option<F>) -> Result<EF, PcsTranscriptFailure>
         requires all_claims_played { NoClaimsLeft EF.DIMENSION self.old }
         requires at_most_max { (shape_of self.old).batch_pow_bits ≤ C.MAX_SAMPLE_BITS }
         ensures kept { Kept self.old self.new }
         ensures passes { IsOk result ↔
             IsTrue (shown_batch_replay ⟦<C as Plays<F, EF, F>>⟧.moves
-                (shape_of self.old).batch_pow_bits (state_of self.old) witness).passes }
+            (shape_of self.old).batch_pow_bits (state_of self.old) witness).passes }
         ensures batch { IfOk result (λ alpha.
             shown_batch_replay ⟦<C as Plays<F, EF, F>>⟧.moves (shape_of self.old).batch_pow_bits
-                (state_of self.old) witness
+            (state_of self.old) witness
             ≡ record { passes = true; alpha = alpha; state = state_of self.new }) }
         ensures steps { OnOk result (left_of self.new ≡ bracket_turns) }
         ensures refused { OnErr result (state_of self.new ≡ (shown_attempt C.observed C.sampled_bits
             (state_of self.old) (shape_of self.old).batch_pow_bits witness).state) }
         ensures failure { IfErr result (λ e.
             BatchFailure ⟦<C as Plays<F, EF, F>>⟧.moves (shape_of self.old).batch_pow_bits
-                (state_of self.old) witness e) }
+            (state_of self.old) witness e) }
     {
         let bits = self.shape.batch_pow_bits;
         match check(&mut self.script, &mut *self.challenger, bits, witness) {

@@ -6,6 +6,8 @@ use Rattle.p3_fri_core_tests.proofs.pcs_transcript.prove.Goals as goal
 pub batch_phase-requires-clause-at_most_max : goal.batch_phase-requires-clause-at_most_max
 batch_phase-requires-clause-at_most_max c =
     let same : (pcs_shape c.claimed_openings.new.self.shape).batch_pow_bits ≡ c.args.bits =
-    ap (λ (s : PcsNumbers). s.batch_pow_bits) (c.claimed_openings.ensures.shape ∙ c.in_ok-transcript.ensures.shape ∙ c.in_ok-shape.ensures) ∙ c.parameters.ensures in
+    ap (λ (s : PcsNumbers). s.batch_pow_bits)
+    (c.claimed_openings.ensures.kept.shape ∙ c.in_ok-transcript.ensures.starts.shape ∙ c.in_ok-shape.ensures)
+    ∙ c.parameters.ensures in
     let within = c.requires in
     omega (arith, same, within)

@@ -20,11 +20,11 @@ returns-in-Err-clause-fault g c =
     let after_matrix = claimed_lists_in_matrices (drop (i + 1) matrices) in
     let after_point = claimed_lists_at_points (drop (j + 1) points) in
     let claim = about_lists (λ item. claimed_lists_in_matrices item.matrices.items) claims k c.claim-item.result c.loop-claim-test.true c.claim-item.is
-        ∙ ap (λ items. first ++ claimed_lists_in_matrices items ++ after_claim) (sym c.deref-matrix-items.ensures.value) in
+    ∙ ap (λ items. first ++ claimed_lists_in_matrices items ++ after_claim) (sym c.deref-matrix-items.ensures.value) in
     let matrix = about_lists (λ item. claimed_lists_at_points item.points.items) matrices i c.matrix-item.result c.loop-matrix-test.true c.matrix-item.is
-        ∙ ap (λ items. second ++ claimed_lists_at_points items ++ after_matrix) (sym c.deref-point-items.ensures.value) in
+    ∙ ap (λ items. second ++ claimed_lists_at_points items ++ after_matrix) (sym c.deref-point-items.ensures.value) in
     let point = about_item (λ item. item.values.items) points j c.point-item.result c.loop-point-test.true c.point-item.is
-        ∙ ap (λ list. third ++ (list ∷ []) ++ after_point) (sym c.as_slice-values.ensures.value) in
+    ∙ ap (λ list. third ++ (list ∷ []) ++ after_point) (sym c.as_slice-values.ensures.value) in
     fault_after c.args.described.now c.loop-point.described (first ++ second ++ third) (values ∷ []) (after_point ++ (after_matrix ++ after_claim)) (lists_of_claims claims) c.in-Err.failure
     (part_within _ (first ++ second) (claimed_lists_at_points points) (after_matrix ++ after_claim) third (values ∷ []) after_point
     (part_within _ first (claimed_lists_in_matrices matrices) after_claim second (claimed_lists_at_points points) after_matrix claim matrix) point)

@@ -1,5 +1,4 @@
 use Rattle.std.proofs.Common.{◌≡◌, ◌+◌, ◌-◌, ◌≤◌, ◌^◌, min, drop, length}
-use Rattle.std.specs.List.{flat_map}
 use Rattle.algebra.specs.Nested.{lists, joined}
 use Rattle.p3_fri_pcs_transcript.proofs.pcs_transcript.counts.points_in_matrices.Given as goal
 

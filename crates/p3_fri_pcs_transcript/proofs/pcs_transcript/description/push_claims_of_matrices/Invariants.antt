@@ -1,5 +1,4 @@
 use Rattle.std.proofs.Common.{◌≡◌, ◌++◌, map, drop, codes}
-use Rattle.std.specs.List.{flat_map}
 use Rattle.algebra.specs.Nested.{lists, joined}
 use Rattle.p3_challenger.specs.Pattern.{step_of}
 use Rattle.p3_fri_steps.specs.Steps.{message_step}

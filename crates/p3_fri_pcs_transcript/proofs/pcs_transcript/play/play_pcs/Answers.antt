@@ -1,4 +1,4 @@
-use Rattle.std.proofs.Common.{◌≡◌, Some, None, Err, [], unwrap_or, refl, sym, ap, ◌∙◌, rules}
+use Rattle.std.proofs.Common.{◌≡◌, Some, None, Err, [], unwrap_or, sym, ap, ◌∙◌, rules}
 use Rattle.p3_challenger.specs.Turns.{bytes_observed}
 use Rattle.p3_challenger.specs.Run.{Moves, moves}
 use Rattle.p3_fri_steps.proofs.Reached.{reaches_same}
@@ -52,9 +52,9 @@ returns-in-Ok-tested-clause-found g c =
     let sent = unwrap_or c.in-Ok-batch_phase.drawn.1 ops.zero in
     let found : c.unwrap_or.result ≡ sent = search rules in
     let batch = batch_lent (moves_of g) g.EF.ExtensionField.coefficients ops g.EF.ExtensionField.DIMENSION shape (fri_shape c.args.test) c.args.challenger.now values (Some c.unwrap_or.result) c.args.commitments.now [] c.args.final_poly.now None
-        begun.result.challenger.now observed _ c.begin_delegate.result.now _ seeded c.claimed_openings.ensures.state
-        (ap (λ w. shown_batch_replay (moves_of g) shape.batch_pow_bits observed (Some w)) found ∙ rw (c.claimed_openings.ensures.kept.shape, begun.ensures.starts.shape) at c.in-Ok-batch_phase.ensures.batch)
-        c.begin_delegate.ensures.value in
+    begun.result.challenger.now observed _ c.begin_delegate.result.now _ seeded c.claimed_openings.ensures.state
+    (ap (λ w. shown_batch_replay (moves_of g) shape.batch_pow_bits observed (Some w)) found ∙ rw (c.claimed_openings.ensures.kept.shape, begun.ensures.starts.shape) at c.in-Ok-batch_phase.ensures.batch)
+    c.begin_delegate.ensures.value in
     pcs_found (moves_of g) g.EF.ExtensionField.coefficients ops g.EF.ExtensionField.DIMENSION shape (fri_shape c.args.test) c.args.challenger.now values _ c.unwrap_or.result c.args.commitments.now c.in-Ok-tested.test.commit_witnesses.items
     c.args.final_poly.now c.in-Ok-tested.test.query_witness observed c.begin_delegate.result.now c.in-Ok-batch_phase.drawn.1 is
     (rw (c.claimed_openings.ensures.kept.shape, begun.ensures.starts.shape) at c.in-Ok-batch_phase.ensures.witness) (rw (c.claimed_openings.ensures.kept.shape, begun.ensures.starts.shape) at c.in-Ok-batch_phase.ensures.found) found
@@ -112,8 +112,8 @@ returns-in-Err-tested-clause-refused g c = λ error is_error.
     let same : error ≡ c.of_step.result = cc in
     let sent = unwrap_or c.in-Ok-batch_phase.drawn.1 ops.zero in
     let batch = batch_lent (moves_of g) g.EF.ExtensionField.coefficients ops g.EF.ExtensionField.DIMENSION shape (fri_shape c.args.test) c.args.challenger.now values (Some sent) c.args.commitments.now [] c.args.final_poly.now None
-        begun.result.challenger.now observed _ c.begin_delegate.result.now _ seeded c.claimed_openings.ensures.state
-        (rw (c.claimed_openings.ensures.kept.shape, begun.ensures.starts.shape) at c.in-Ok-batch_phase.ensures.batch) c.begin_delegate.ensures.value in
+    begun.result.challenger.now observed _ c.begin_delegate.result.now _ seeded c.claimed_openings.ensures.state
+    (rw (c.claimed_openings.ensures.kept.shape, begun.ensures.starts.shape) at c.in-Ok-batch_phase.ensures.batch) c.begin_delegate.ensures.value in
     test_refused (moves_of g) g.EF.ExtensionField.coefficients ops g.EF.ExtensionField.DIMENSION shape (fri_shape c.args.test) c.args.challenger.now values c.args.commitments.now c.args.final_poly.now c.in-Err-tested.refusal error sent c.begin_delegate.result.now
     (ap (λ (r : BatchReplay _ _). r.passes) batch) (ap (λ (r : BatchReplay _ _). r.state) batch)
     (λ s. same ∙ c.of_step.ensures.seed s) (λ e s. same ∙ c.of_step.ensures.step e s)

@@ -1,18 +1,18 @@
-use Rattle.std.proofs.Common.{◌≡◌, [], Err, refl, sym, ap, ◌∙◌, rules}
+use Rattle.std.proofs.Common.{◌≡◌, Err, refl, sym, ap, ◌∙◌, rules}
 use Rattle.p3_challenger.specs.Turns.{bytes_observed}
 use Rattle.p3_challenger.specs.Run.{Moves, moves}
 use Rattle.p3_fri_pcs_transcript.specs.declared.pcs_transcript.play.PcsFailure.TheVariants.{Fri}
 use Rattle.p3_fri_transcript.specs.declared.transcript.failure.TranscriptFailure.TheVariants.{OutOfMemory}
 use Rattle.p3_fri_transcript.specs.declared.transcript.play.Refusal.TheVariants.{Seed, Step}
-use Rattle.p3_fri_pcs_transcript.specs.Counts.{counts_of_claims, all_claimed}
+use Rattle.p3_fri_pcs_transcript.specs.Counts.{all_claimed}
 use Rattle.p3_fri_pcs_transcript.specs.Replay.{BatchReplay, PcsReplay}
 use Rattle.p3_fri_transcript.specs.Shapes.{fri_shape}
 use Rattle.p3_fri_pcs_transcript.specs.Shapes.{pcs_shape}
-use Rattle.p3_fri_pcs_transcript.specs.Steps.{PcsNumbers, widths, pcs_stream}
+use Rattle.p3_fri_pcs_transcript.specs.Steps.{PcsNumbers}
 use Rattle.p3_fri_pcs_transcript.proofs.ClaimTurns.{all_claims_left}
 use Rattle.p3_fri_steps.proofs.Reached.{reaches_same, reaches_join, reaches_shown}
 use Rattle.p3_fri_pcs_transcript.proofs.PcsRuns.{claimed_is, reaches_claimed, reaches_tested, reaches_lent, reaches_inside, test_failed, run_failed}
-use Rattle.p3_fri_pcs_transcript.proofs.PcsReplays.{batch_lent, batch_joined, pcs_joined, batch_passes, test_passes, pcs_ends}
+use Rattle.p3_fri_pcs_transcript.proofs.PcsReplays.{batch_lent, pcs_joined, batch_passes, test_passes, pcs_ends}
 use Rattle.p3_fri_pcs_transcript.proofs.pcs_transcript.play.replay_pcs.Given.{Over}
 use Rattle.p3_fri_pcs_transcript.proofs.pcs_transcript.play.replay_pcs.Goals as goal
 
@@ -91,11 +91,11 @@ returns-in-Err-tested-clause-passes g c = λ started remembered.
             witness_count = held.witness_count;
             coefficient_count = held.coefficient_count;
             pow = test_passes _ g.EF.ExtensionField.coefficients g.F.Field.ops g.EF.ExtensionField.DIMENSION (pcs_shape c.args.shape) (fri_shape c.args.test)
-              c.args.challenger.now (all_claimed c.args.claims.now) c.args.batch_witness sent.commitments.now sent.commit_witnesses.now sent.final_poly.now sent.query_witness
-              begun.result.challenger.now c.claimed_openings.new.self.challenger.now _ c.begin_delegate.result.now _
-              (begun.ensures.starts.state ∙ ap (λ bytes. bytes_observed g.F.Field.ops g.C.CanObserve-1.observed c.args.challenger.now bytes) c.in-Ok.ensures.stream)
-              claimed.state (rw (claimed.kept.shape, begun.ensures.starts.shape) at c.in-Ok-batch_phase.ensures.batch)
-              c.begin_delegate.ensures.value held.pow;
+                c.args.challenger.now (all_claimed c.args.claims.now) c.args.batch_witness sent.commitments.now sent.commit_witnesses.now sent.final_poly.now sent.query_witness
+                begun.result.challenger.now c.claimed_openings.new.self.challenger.now _ c.begin_delegate.result.now _
+                (begun.ensures.starts.state ∙ ap (λ bytes. bytes_observed g.F.Field.ops g.C.CanObserve-1.observed c.args.challenger.now bytes) c.in-Ok.ensures.stream)
+                claimed.state (rw (claimed.kept.shape, begun.ensures.starts.shape) at c.in-Ok-batch_phase.ensures.batch)
+                c.begin_delegate.ensures.value held.pow;
           }),
     )
 
@@ -141,8 +141,8 @@ returns-in-Err-tested-clause-failure g c = λ error is_error.
     let sent = c.args.messages in
     let same : error ≡ Fri c.of_step-failure.result = cc in
     let batch = batch_lent (moves_of g) g.EF.ExtensionField.coefficients ops g.EF.ExtensionField.DIMENSION shape (fri_shape c.args.test) c.args.challenger.now values c.args.batch_witness sent.commitments.now sent.commit_witnesses.now sent.final_poly.now sent.query_witness
-        begun.result.challenger.now observed _ c.begin_delegate.result.now _ seeded claimed.state
-        (rw (claimed.kept.shape, begun.ensures.starts.shape) at c.in-Ok-batch_phase.ensures.batch) c.begin_delegate.ensures.value in
+    begun.result.challenger.now observed _ c.begin_delegate.result.now _ seeded claimed.state
+    (rw (claimed.kept.shape, begun.ensures.starts.shape) at c.in-Ok-batch_phase.ensures.batch) c.begin_delegate.ensures.value in
     run_failed (moves_of g) g.EF.ExtensionField.coefficients ops g.EF.ExtensionField.DIMENSION shape (fri_shape c.args.test) c.args.challenger.now values c.args.batch_witness sent.commitments.now sent.commit_witnesses.now sent.final_poly.now sent.query_witness
     error c.of_step-failure.result c.replay_fri-tested.new.challenger _ same (search rules)
     (test_failed (moves_of g) g.EF.ExtensionField.coefficients ops g.EF.ExtensionField.DIMENSION shape (fri_shape c.args.test) c.args.challenger.now values c.args.batch_witness sent.commitments.now sent.commit_witnesses.now sent.final_poly.now sent.query_witness

@@ -21,9 +21,9 @@ observe_extensions-requires g c =
     let after_matrix = lists_in_matrices (drop (i + 1) matrices) in
     let after_point = lists (drop (j + 1) points) in
     let commitment = about_lists (λ item. lists_in_matrices item.items) commitments k c.matrices-item.result c.loop-matrices-test.true c.matrices-item.is
-        ∙ ap (λ items. first ++ lists_in_matrices items ++ after_commitment) (sym c.deref-points-items.ensures.value) in
+    ∙ ap (λ items. first ++ lists_in_matrices items ++ after_commitment) (sym c.deref-points-items.ensures.value) in
     let matrix = about_lists (λ item. lists item.items) matrices i c.points-item.result c.loop-points-test.true c.points-item.is
-        ∙ ap (λ items. second ++ lists items ++ after_matrix) (sym c.deref-values-items.ensures.value) in
+    ∙ ap (λ items. second ++ lists items ++ after_matrix) (sym c.deref-values-items.ensures.value) in
     let point = about_item (λ item. item.items) points j c.values-item.result c.loop-values-test.true c.values-item.is in
     record {
       next = claim_is_next g.C.CanObserve.observed g.EF.ExtensionField.coefficients g.EF.ExtensionField.DIMENSION

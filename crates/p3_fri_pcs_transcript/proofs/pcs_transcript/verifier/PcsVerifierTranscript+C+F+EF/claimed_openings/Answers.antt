@@ -1,6 +1,5 @@
 use Rattle.std.proofs.Common.{◌++◌, ℕ, List, [], append-nil, length, map, refl, sym, ap, ◌∙◌, subst}
 use Rattle.algebra.specs.Nested.{nested}
-use Rattle.p3_challenger_fs.proofs.Streams.{split_front}
 use Rattle.p3_fri_pcs_transcript.specs.Claims.{IsClaimFailure}
 use Rattle.p3_fri_pcs_transcript.specs.Counts.{counts_of_claims, lists_of_claims}
 use Rattle.p3_fri_pcs_transcript.specs.Cursor.{counts_left}
