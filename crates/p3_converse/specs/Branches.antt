@@ -4,7 +4,7 @@ use Rattle.std.specs.Prelude.{slice_index_or, Bool, true, false}
 use Rattle.algebra.specs.Field.{FieldOps, pow}
 use Rattle.algebra.specs.Polynomial.{val, tabulate}
 use Rattle.algebra.specs.TwoAdic.{AreRoots, pt}
-use Rattle.p3_fri_core.specs.Fold.{fold_value}
+use Rattle.p3_fri_core.specs.Folds.{fold_value}
 use Rattle.p3_converse.specs.Positions.{part}
 use Rattle.p3_converse.specs.Trees.{Tree, leaf, node, Subtrees, no_subtrees, subtree}
 use Rattle.p3_converse.specs.Unfolding.{row_values, IsUnfolding, IsUnfoldingWithInput}

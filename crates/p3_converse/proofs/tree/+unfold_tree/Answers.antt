@@ -26,10 +26,13 @@ unfold_tree-requires g t c =
       omega (arith, fewer, c.decreases),
       (
         search rules,
-        conditions later (tree_of x.1) d
-            (subtree_fits rounds later c.in-Node.subtrees.items d is c.requires.log_arities c.requires.log_sum c.requires.fits k x
-            (omega (arith, c.loop-subtree-test.true, ap length c.deref-subtree-items.ensures.value))
-            (c.subtree-item.is ∙ ap (λ us. get_or us k x) c.deref-subtree-items.ensures.value)),
+        (
+          search rules,
+          conditions later (tree_of x.1) d
+              (subtree_fits rounds later c.in-Node.subtrees.items d is c.requires.log_arities c.requires.log_sum c.requires.fits k x
+              (omega (arith, c.loop-subtree-test.true, ap length c.deref-subtree-items.ensures.value))
+              (c.subtree-item.is ∙ ap (λ us. get_or us k x) c.deref-subtree-items.ensures.value)),
+        ),
       ),
     )
 
