@@ -4,9 +4,9 @@
 
 #[cfg(test)]
 mod batches;
-pub mod laws;
 #[cfg(test)]
 mod folds;
+pub mod laws;
 #[cfg(test)]
 mod points;
 #[cfg(test)]
