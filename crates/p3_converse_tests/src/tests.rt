@@ -1,11 +1,12 @@
 //! Worked values, and words that are folded and unfolded again.
 
 ghost use Rattle.std.specs.Prelude.{◌≡◌, ◌+◌, ◌*◌, ◌^◌, ◌<◌, ◌≤◌, All, IfOk, length, vec_len};
+ghost use Rattle.p3_converse.specs.Unfolding.{common_length};
 
 use p3_converse::laws::lifted_roots_law;
 use p3_converse::{
-    FoldTree, UnfoldedTree, are_distinct, challenges_fit, leaf_length, leaves_fit, log_arities_fit,
-    log_arity_sum, paths_fit, unbatch, unfold, unfold_tree, unfold_with_input,
+    FoldTree, UnfoldedTree, are_distinct, challenges_fit, have_one_length, leaf_length, leaves_fit,
+    log_arities_fit, log_arity_sum, paths_fit, unbatch, unfold, unfold_tree, unfold_with_input,
     unfolds_within_range, unquotient,
 };
 use p3_field::{BabyBear, BabyBear4, ExtensionField, Field, TwoAdicField, reverse_bits_len};
@@ -40,6 +41,16 @@ fn polynomials<F: Field, const D: usize>(
     Ok(polys)
 }
 
+/// The length of the first polynomial, which is that of all.
+fn first_length<F: Field>(polys: &[Vec<F>]) -> usize
+    ensures { result ≡ common_length polys.now }
+{
+    match polys {
+        [] => 0,
+        [first, ..] => first.len(),
+    }
+}
+
 /// Whether the polynomials unfold to this one.
 fn unfolds_to<F: Field, const D: usize>(
     alloc: Global,
@@ -57,6 +68,12 @@ fn unfolds_to<F: Field, const D: usize>(
         return Ok(false);
     }
     let polys = polynomials::<F, D>(alloc, polys)?;
+    if !have_one_length(&polys) {
+        return Ok(false);
+    }
+    if log_arity >= 64 || !unfolds_within_range(first_length(&polys), log_arity) {
+        return Ok(false);
+    }
     let unfolded = unfold(alloc, log_arity, &betas, &polys)?;
     let wanted = elements::<F>(alloc, wanted)?;
     Ok(unfolded.as_slice() == wanted.as_slice())
@@ -364,6 +381,9 @@ fn comes_back<F: TwoAdicField, EF: ExtensionField<F>>(
     for beta in &betas {
         let folds = eight_folds::<F, EF>(alloc, coefficients, *beta)?;
         polys.push(four_coefficients::<F, EF>(alloc, &folds)?)?;
+    }
+    if !have_one_length(&polys) {
+        return Ok(false);
     }
     let unfolded = unfold(alloc, 1, &betas, &polys)?;
     Ok(unfolded.as_slice() == coefficients)
