@@ -1,0 +1,209 @@
+-- What of the input makes each refusal a true one.
+use Rattle.std.specs.Prelude.{◌≡◌, ◌≢◌, ◌⊎◌, ℕ, suc, ◌+◌, ◌-◌, ◌^◌, ◌<◌, ◌≤◌, min, Bool, false}
+use Rattle.std.specs.Prelude.{IsTrue, List, [], ◌∷◌, map, length, sum, ⊤, EachIndex, SomeIndex}
+use Rattle.std.specs.Prelude.{slice_index, slice_index_or}
+use Rattle.std.specs.List.{Any, zip, range_with_len}
+use Rattle.p3_fri_steps.specs.declared.pow_phase.PowPhase.{PowPhase}
+use Rattle.p3_fri_steps.specs.declared.pow_phase.PowPhase.TheVariants.{Batch, CommitPhase, Query}
+use Rattle.p3_fri_relation.specs.declared.error.FriError.{FriError}
+use Rattle.p3_fri_relation.specs.declared.error.FriError.TheVariants.{CommitPhaseOpeningsCountMismatch}
+use Rattle.p3_fri_relation.specs.declared.error.FriError.TheVariants.{CommitRoundCountMismatch}
+use Rattle.p3_fri_relation.specs.declared.error.FriError.TheVariants.{CommitPhaseQueryCountMismatch}
+use Rattle.p3_fri_relation.specs.declared.error.FriError.TheVariants.{InputOpeningsQueryCountMismatch}
+use Rattle.p3_fri_relation.specs.declared.error.FriError.TheVariants.{CommitPowWitnessCountMismatch}
+use Rattle.p3_fri_relation.specs.declared.error.FriError.TheVariants.{FinalPolyLengthMismatch}
+use Rattle.p3_fri_relation.specs.declared.error.FriError.TheVariants.{ZeroQueries}
+use Rattle.p3_fri_relation.specs.declared.error.FriError.TheVariants.{NoCommittedMatrices}
+use Rattle.p3_fri_relation.specs.declared.error.FriError.TheVariants.{ZeroFoldingArity, ZeroBlowup}
+use Rattle.p3_fri_relation.specs.declared.error.FriError.TheVariants.{MissingInitialReducedOpening}
+use Rattle.p3_fri_relation.specs.declared.error.FriError.TheVariants.{InitialReducedOpeningHeightMismatch}
+use Rattle.p3_fri_relation.specs.declared.error.FriError.TheVariants.{GlobalMaxHeightTooLarge}
+use Rattle.p3_fri_relation.specs.declared.error.FriError.TheVariants.{SiblingValuesLengthMismatch}
+use Rattle.p3_fri_relation.specs.declared.error.FriError.TheVariants.{FinalFoldHeightMismatch}
+use Rattle.p3_fri_relation.specs.declared.error.FriError.TheVariants.{FoldScheduleArityOutOfRange}
+use Rattle.p3_fri_relation.specs.declared.error.FriError.TheVariants.{FoldScheduleTooLong}
+use Rattle.p3_fri_relation.specs.declared.error.FriError.TheVariants.{UnconsumedReducedOpenings}
+use Rattle.p3_fri_relation.specs.declared.error.FriError.TheVariants.{InputProofBatchCountMismatch}
+use Rattle.p3_fri_relation.specs.declared.error.FriError.TheVariants.{BatchOpenedValuesCountMismatch}
+use Rattle.p3_fri_relation.specs.declared.error.FriError.TheVariants.{MatrixWithoutOpeningPoints}
+use Rattle.p3_fri_relation.specs.declared.error.FriError.TheVariants.{PointEvaluationCountMismatch}
+use Rattle.p3_fri_relation.specs.declared.error.FriError.TheVariants.{CommitPhaseMmcsError}
+use Rattle.p3_fri_relation.specs.declared.error.FriError.TheVariants.{InputError, FinalPolyMismatch}
+use Rattle.p3_fri_relation.specs.declared.error.FriError.TheVariants.{InvalidPowWitness}
+use Rattle.p3_fri_relation.specs.declared.error.FriError.TheVariants.{NonCanonicalPowWitness}
+use Rattle.p3_fri_relation.specs.declared.error.FriError.TheVariants.{OpeningPointMatchesQueryPoint}
+use Rattle.p3_fri_relation.specs.declared.error.FriError.TheVariants.{OutOfMemory}
+use Rattle.p3_fri_relation.specs.Setting.{Fields, Opening, Setting, Parameters, MatrixClaim}
+use Rattle.p3_fri_relation.specs.Setting.{CommitmentClaim, InputOpening, RoundOpening, Proof}
+use Rattle.p3_fri_relation.specs.Setting.{final_height}
+use Rattle.p3_fri_relation.specs.Heights.{matrices_of, width, log_height, has_height, heights_of}
+use Rattle.p3_fri_relation.specs.QuotientSums.{point_read}
+use Rattle.p3_fri_relation.specs.Inputs.{OpensInput, sum_at}
+use Rattle.p3_fri_relation.specs.Queries.{final_value}
+use Rattle.p3_fri_relation.specs.FoldedQuery.{QueryInput, folded, last_height, reaches}
+use Rattle.p3_fri_relation.specs.Acceptance.{top_height, log_arities, positions, last_of_query}
+use Rattle.p3_fri_relation.specs.Acceptance.{OpensRound, rounds_replayed, queries_replayed}
+use Rattle.p3_fri_relation.specs.Acceptance.{batch_replayed}
+
+-- the `i`-th element is there, and `P` holds of it
+abbrev pub At : {A : Type 0} → (i : ℕ) (P : A → Type 0) → List A → Type 0
+At {A} i P xs = (x : A) × (i < length xs) × (slice_index_or xs i x ≡ x) × P x
+
+-- a wrong count: `expected` is what is asked for, and `got`, which is another, what is found
+pub record IsWrong (asked found expected got : ℕ) : Type 0 where
+  pub expected_is : expected ≡ asked
+  pub got_is : got ≡ found
+  pub differ : expected ≢ got
+
+-- of log heights after `h`, the first that isn't below the one before it or isn't met is `next`,
+-- and `remaining` are left from it on
+abbrev pub IsUnmet : (met : ℕ → Bool) (next remaining h : ℕ) → List ℕ → Type 0
+IsUnmet met next remaining h [] = ⊥
+IsUnmet met next remaining h (k ∷ heights) =
+    ((next ≡ k) × (remaining ≡ suc (length heights)) × ((h ≤ k) ⊎ (met k ≡ false)))
+    ⊎ IsUnmet met next remaining k heights
+
+abbrev pub IsUnconsumed : (met : ℕ → Bool) (next remaining : ℕ) → List ℕ → Type 0
+IsUnconsumed met next remaining [] = ⊥
+IsUnconsumed met next remaining (h ∷ heights) = IsUnmet met next remaining h heights
+
+module _ {A B E : Type 0} (q : QueryInput E) where
+  -- of a query that is folded by itself
+  abbrev pub QueryFault : FriError A B → Type 0
+  QueryFault (FoldScheduleArityOutOfRange round log_arity) =
+      (round < length q.log_arities) × (log_arity ≡ slice_index q.log_arities round)
+      × ((log_arity ≡ 0) ⊎ (64 ≤ log_arity))
+  QueryFault (CommitPhaseQueryCountMismatch round expected got) =
+      (round < length q.log_arities) × (round < length q.siblings)
+      × (expected ≡ q.query + 1) × (got ≡ length (slice_index_or q.siblings round []))
+      × (got < expected)
+  QueryFault (SiblingValuesLengthMismatch round expected got) =
+      (round < length q.log_arities) × (round < length q.siblings)
+      × (q.query < length (slice_index_or q.siblings round []))
+      × IsWrong (2 ^ slice_index q.log_arities round - 1)
+      (length (slice_index_or (slice_index_or q.siblings round []) q.query [])) expected got
+  QueryFault (FoldScheduleTooLong total top final) =
+      (total ≡ min (sum q.log_arities) (2 ^ 64 - 1)) × (top ≡ q.log_height)
+      × (final ≡ q.final_height) × (top - final < sum q.log_arities)
+  QueryFault (MissingInitialReducedOpening expected) = (q.inputs ≡ []) × (expected ≡ q.log_height)
+  QueryFault (InitialReducedOpeningHeightMismatch expected got) =
+      (0 < length q.inputs)
+      × IsWrong q.log_height (slice_index (map (λ input. input.0) q.inputs) 0) expected got
+  QueryFault (FinalFoldHeightMismatch expected got) =
+      IsWrong q.final_height (last_height q) expected got
+  QueryFault (UnconsumedReducedOpenings next remaining) =
+      IsUnconsumed (reaches (folded q) q.log_height) next remaining
+      (map (λ input. input.0) q.inputs)
+  QueryFault _ = ⊥
+
+-- at some position the quotient sum of the log height `log_blowup` isn't zero
+abbrev pub IsConstantWrong : {F E InCom InPath : Type 0} → Fields F E → (log_blowup : ℕ) (alpha : E)
+    (top : ℕ) → List (CommitmentClaim E InCom) → List (InputOpening F InPath) → (positions : List ℕ)
+    → Type 0
+IsConstantWrong f log_blowup alpha top claims inputs positions =
+    IsTrue (has_height log_blowup (matrices_of claims) log_blowup)
+    × SomeIndex positions (λ j. sum_at f log_blowup alpha top claims inputs j
+    (slice_index positions j) log_blowup ≢ f.ext.zero)
+
+module _ {A B F E InCom InPath : Type 0} (f : Fields F E) (log_blowup : ℕ) (alpha : E) (top : ℕ)
+    (claims : List (CommitmentClaim E InCom)) (inputs : List (InputOpening F InPath))
+    (opens : Opening F InCom InPath) (positions : List ℕ) where
+  -- of the openings of the inputs
+  abbrev pub InputFault : FriError A B → Type 0
+  InputFault (InputProofBatchCountMismatch expected got) =
+      IsWrong (length claims) (length inputs) expected got
+  InputFault (InputOpeningsQueryCountMismatch batch expected got) =
+      At batch (λ o. IsWrong (length positions) (length o.rows) expected got) inputs
+  InputFault (BatchOpenedValuesCountMismatch batch expected got) =
+      At batch (λ (claim, o). Any (λ rows.
+      IsWrong (length claim.matrices) (length rows) expected got)
+      o.rows) (zip claims inputs)
+  InputFault (MatrixWithoutOpeningPoints batch matrix) =
+      At batch (λ claim. At matrix (λ m. m.points ≡ []) claim.matrices) claims
+  InputFault (PointEvaluationCountMismatch batch matrix point expected got) =
+      At batch (λ claim. At matrix (λ m. At point (λ z.
+      IsWrong (width m) (length z.values) expected got)
+      m.points) claim.matrices) claims
+  InputFault (InputError _) =
+      Any (λ (claim, o). ¬ OpensInput opens log_blowup top positions claim o) (zip claims inputs)
+  InputFault (OpeningPointMatchesQueryPoint batch matrix point) =
+      At batch (λ claim. At matrix (λ m. At point (λ z. Any (λ position.
+      z.point ≡ point_read f top position (log_height log_blowup m)) positions)
+      m.points) claim.matrices) claims
+  InputFault FinalPolyMismatch =
+      IsConstantWrong f log_blowup alpha top claims inputs positions
+  InputFault _ = ⊥
+
+module _ {F E C Com Path InCom InPath : Type 0} (s : Setting F E C Com Path InCom InPath)
+    (p : Parameters) (claims : List (CommitmentClaim E InCom)) (proof : Proof F E Com Path InPath)
+  where
+    -- the proofs of work of a phase of the test, from the challenger's state `c`, don't all pass
+    abbrev pub DoNotPass : (c : C) → PowPhase → Type 0
+    DoNotPass c Batch = ⊥
+    DoNotPass c CommitPhase = (rounds_replayed s p claims proof c).passes ≡ false
+    DoNotPass c Query = (queries_replayed s p claims proof c).passes ≡ false
+
+    -- a witness of a phase at no bits isn't zero
+    abbrev pub IsNotCanonical : PowPhase → Type 0
+    IsNotCanonical Batch = (p.batch_pow_bits ≡ 0) × (proof.batch_witness ≢ s.fields.base.zero)
+    IsNotCanonical CommitPhase =
+        (p.commit_pow_bits ≡ 0) × Any (λ w. w ≢ s.fields.base.zero) proof.commit_witnesses
+    IsNotCanonical Query = (p.query_pow_bits ≡ 0) × (proof.query_witness ≢ s.fields.base.zero)
+
+    -- query `j` doesn't end at the final polynomial
+    abbrev pub EndsElsewhere : (c : C) (alpha : E) (j : ℕ) → Type 0
+    EndsElsewhere c alpha j =
+        let last = last_of_query s p claims proof c alpha j in
+        last.value ≢ final_value s p proof last
+
+module _ {A B F E C Com Path InCom InPath : Type 0} (s : Setting F E C Com Path InCom InPath)
+    (p : Parameters) (claims : List (CommitmentClaim E InCom)) (proof : Proof F E Com Path InPath)
+  where
+    -- of the low-degree test, from the challenger's state `c` and with the batching challenge
+    -- `alpha`
+    abbrev pub Stands : (c : C) (alpha : E) → FriError A B → Type 0
+    Stands c alpha (CommitPhaseOpeningsCountMismatch expected got) =
+        IsWrong (length (log_arities p claims)) (length proof.rounds) expected got
+    Stands c alpha (CommitRoundCountMismatch expected got) =
+        IsWrong (length (log_arities p claims)) (length proof.commitments) expected got
+    Stands c alpha (CommitPhaseQueryCountMismatch round expected got) =
+        At round (λ r. IsWrong p.num_queries (length r.siblings) expected got) proof.rounds
+    Stands c alpha (CommitPowWitnessCountMismatch expected got) =
+        IsWrong (length (log_arities p claims)) (length proof.commit_witnesses) expected got
+    Stands c alpha (FinalPolyLengthMismatch expected got) =
+        IsWrong (2 ^ p.log_final_poly_len) (length proof.final_poly) expected got
+    Stands c alpha ZeroQueries = p.num_queries ≡ 0
+    Stands c alpha NoCommittedMatrices = matrices_of claims ≡ []
+    Stands c alpha ZeroFoldingArity = p.max_log_arity ≡ 0
+    Stands c alpha ZeroBlowup = p.log_blowup ≡ 0
+    Stands c alpha (GlobalMaxHeightTooLarge log_height two_adicity) =
+        (log_height ≡ top_height p claims) × (two_adicity ≡ s.fields.two_adicity)
+        × (two_adicity < log_height)
+    Stands c alpha (SiblingValuesLengthMismatch round expected got) =
+        At round (λ r. Any (λ row. IsWrong (2 ^ slice_index (log_arities p claims) round - 1)
+        (length row) expected got) r.siblings) proof.rounds
+    Stands c alpha (FinalFoldHeightMismatch expected got) =
+        IsWrong (final_height p) (top_height p claims - sum (log_arities p claims)) expected got
+    Stands c alpha (UnconsumedReducedOpenings next remaining) =
+        IsUnconsumed (reaches (log_arities p claims) (top_height p claims)) next remaining
+        (heights_of p.log_blowup (matrices_of claims))
+    Stands c alpha (CommitPhaseMmcsError _) =
+        Any (λ (k, opening). ¬ OpensRound s p claims proof c alpha k opening)
+        (zip (range_with_len 0 (length (log_arities p claims)))
+        (zip proof.commitments proof.rounds))
+    Stands c alpha (InvalidPowWitness phase) = DoNotPass s p claims proof c phase
+    Stands c alpha (NonCanonicalPowWitness phase) = IsNotCanonical s p claims proof phase
+    Stands c alpha FinalPolyMismatch =
+        SomeIndex (positions s p claims proof c) (EndsElsewhere s p claims proof c alpha)
+        ⊎ IsConstantWrong s.fields p.log_blowup alpha (top_height p claims) claims proof.inputs
+        (positions s p claims proof c)
+    Stands c alpha OutOfMemory = ⊤
+    Stands c alpha e =
+        InputFault s.fields p.log_blowup alpha (top_height p claims) claims proof.inputs
+        s.opens_input (positions s p claims proof c) e
+
+    -- of the scheme around the test, from the state in which it begins
+    abbrev pub StandsInScheme : (c : C) → FriError A B → Type 0
+    StandsInScheme c e =
+        let batch = batch_replayed s p claims proof c in
+        ((e ≡ InvalidPowWitness Batch) × (batch.passes ≡ false)) ⊎ Stands batch.state batch.alpha e

@@ -1,0 +1,10 @@
+pub mod Setting
+pub mod Heights
+pub mod QuotientSums
+pub mod Inputs
+pub mod Queries
+pub mod FoldedQuery
+pub mod Acceptance
+pub mod Views
+pub mod Failures
+pub mod Faults

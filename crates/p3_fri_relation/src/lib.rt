@@ -1,0 +1,7 @@
+//! Proofs of the low-degree test and of the scheme around it, why a verifier refuses one, and what
+//! is accepted.
+#![tactic(auto)]
+
+pub mod error;
+pub mod proof;
+pub mod setting;
