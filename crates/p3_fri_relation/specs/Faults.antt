@@ -134,6 +134,40 @@ module _ {A B F E InCom InPath : Type 0} (f : Fields F E) (log_blowup : ℕ) (al
       IsConstantWrong f log_blowup alpha top claims inputs positions
   InputFault _ = ⊥
 
+module _ {A B E InCom : Type 0} (p : Parameters) (claims : List (CommitmentClaim E InCom)) where
+  -- of the parameters and the claims, in a field of this two-adicity
+  abbrev pub InstanceFault : (two_adicity : ℕ) → FriError A B → Type 0
+  InstanceFault two_adicity ZeroQueries = p.num_queries ≡ 0
+  InstanceFault two_adicity NoCommittedMatrices = matrices_of claims ≡ []
+  InstanceFault two_adicity ZeroFoldingArity = p.max_log_arity ≡ 0
+  InstanceFault two_adicity ZeroBlowup = p.log_blowup ≡ 0
+  InstanceFault two_adicity (GlobalMaxHeightTooLarge top greatest) =
+      (top ≡ top_height p claims) × (greatest ≡ two_adicity) × (greatest < top)
+  InstanceFault two_adicity (FinalFoldHeightMismatch expected got) =
+      IsWrong (final_height p) (top_height p claims - sum (log_arities p claims)) expected got
+  InstanceFault two_adicity (UnconsumedReducedOpenings next remaining) =
+      IsUnconsumed (reaches (log_arities p claims) (top_height p claims)) next remaining
+      (heights_of p.log_blowup (matrices_of claims))
+  InstanceFault two_adicity _ = ⊥
+
+  -- of the lengths of a proof's lists
+  abbrev pub CountFault : {F Com Path InPath : Type 0} → Proof F E Com Path InPath → FriError A B
+      → Type 0
+  CountFault proof (CommitPhaseOpeningsCountMismatch expected got) =
+      IsWrong (length (log_arities p claims)) (length proof.rounds) expected got
+  CountFault proof (CommitRoundCountMismatch expected got) =
+      IsWrong (length (log_arities p claims)) (length proof.commitments) expected got
+  CountFault proof (CommitPowWitnessCountMismatch expected got) =
+      IsWrong (length (log_arities p claims)) (length proof.commit_witnesses) expected got
+  CountFault proof (CommitPhaseQueryCountMismatch round expected got) =
+      At round (λ r. IsWrong p.num_queries (length r.siblings) expected got) proof.rounds
+  CountFault proof (SiblingValuesLengthMismatch round expected got) =
+      At round (λ r. Any (λ row. IsWrong (2 ^ slice_index (log_arities p claims) round - 1)
+      (length row) expected got) r.siblings) proof.rounds
+  CountFault proof (FinalPolyLengthMismatch expected got) =
+      IsWrong (2 ^ p.log_final_poly_len) (length proof.final_poly) expected got
+  CountFault proof _ = ⊥
+
 module _ {F E C Com Path InCom InPath : Type 0} (s : Setting F E C Com Path InCom InPath)
     (p : Parameters) (claims : List (CommitmentClaim E InCom)) (proof : Proof F E Com Path InPath)
   where
@@ -159,48 +193,34 @@ module _ {F E C Com Path InCom InPath : Type 0} (s : Setting F E C Com Path InCo
 module _ {A B F E C Com Path InCom InPath : Type 0} (s : Setting F E C Com Path InCom InPath)
     (p : Parameters) (claims : List (CommitmentClaim E InCom)) (proof : Proof F E Com Path InPath)
   where
-    -- of the low-degree test, from the challenger's state `c` and with the batching challenge
-    -- `alpha`
-    abbrev pub Stands : (c : C) (alpha : E) → FriError A B → Type 0
-    Stands c alpha (CommitPhaseOpeningsCountMismatch expected got) =
-        IsWrong (length (log_arities p claims)) (length proof.rounds) expected got
-    Stands c alpha (CommitRoundCountMismatch expected got) =
-        IsWrong (length (log_arities p claims)) (length proof.commitments) expected got
-    Stands c alpha (CommitPhaseQueryCountMismatch round expected got) =
-        At round (λ r. IsWrong p.num_queries (length r.siblings) expected got) proof.rounds
-    Stands c alpha (CommitPowWitnessCountMismatch expected got) =
-        IsWrong (length (log_arities p claims)) (length proof.commit_witnesses) expected got
-    Stands c alpha (FinalPolyLengthMismatch expected got) =
-        IsWrong (2 ^ p.log_final_poly_len) (length proof.final_poly) expected got
-    Stands c alpha ZeroQueries = p.num_queries ≡ 0
-    Stands c alpha NoCommittedMatrices = matrices_of claims ≡ []
-    Stands c alpha ZeroFoldingArity = p.max_log_arity ≡ 0
-    Stands c alpha ZeroBlowup = p.log_blowup ≡ 0
-    Stands c alpha (GlobalMaxHeightTooLarge log_height two_adicity) =
-        (log_height ≡ top_height p claims) × (two_adicity ≡ s.fields.two_adicity)
-        × (two_adicity < log_height)
-    Stands c alpha (SiblingValuesLengthMismatch round expected got) =
-        At round (λ r. Any (λ row. IsWrong (2 ^ slice_index (log_arities p claims) round - 1)
-        (length row) expected got) r.siblings) proof.rounds
-    Stands c alpha (FinalFoldHeightMismatch expected got) =
-        IsWrong (final_height p) (top_height p claims - sum (log_arities p claims)) expected got
-    Stands c alpha (UnconsumedReducedOpenings next remaining) =
-        IsUnconsumed (reaches (log_arities p claims) (top_height p claims)) next remaining
-        (heights_of p.log_blowup (matrices_of claims))
-    Stands c alpha (CommitPhaseMmcsError _) =
+    -- of the proofs of work, from the challenger's state `c`
+    abbrev pub WorkFault : (c : C) → FriError A B → Type 0
+    WorkFault c (InvalidPowWitness phase) = DoNotPass s p claims proof c phase
+    WorkFault c (NonCanonicalPowWitness phase) = IsNotCanonical s p claims proof phase
+    WorkFault c _ = ⊥
+
+    -- of the way of the queries through the rounds
+    abbrev pub RoundsFault : (c : C) (alpha : E) → FriError A B → Type 0
+    RoundsFault c alpha (CommitPhaseMmcsError _) =
         Any (λ (k, opening). ¬ OpensRound s p claims proof c alpha k opening)
         (zip (range_with_len 0 (length (log_arities p claims)))
         (zip proof.commitments proof.rounds))
-    Stands c alpha (InvalidPowWitness phase) = DoNotPass s p claims proof c phase
-    Stands c alpha (NonCanonicalPowWitness phase) = IsNotCanonical s p claims proof phase
-    Stands c alpha FinalPolyMismatch =
+    RoundsFault c alpha FinalPolyMismatch =
         SomeIndex (positions s p claims proof c) (EndsElsewhere s p claims proof c alpha)
-        ⊎ IsConstantWrong s.fields p.log_blowup alpha (top_height p claims) claims proof.inputs
-        (positions s p claims proof c)
-    Stands c alpha OutOfMemory = ⊤
+    RoundsFault c alpha _ = ⊥
+
+    -- of the low-degree test, from the challenger's state `c` and with the batching challenge
+    -- `alpha`: a fault of what is asked for, of the proof's lengths, of its proofs of work, of the
+    -- openings of the inputs, of the rounds, or want of memory
+    abbrev pub Stands : (c : C) (alpha : E) → FriError A B → Type 0
     Stands c alpha e =
-        InputFault s.fields p.log_blowup alpha (top_height p claims) claims proof.inputs
+        InstanceFault p claims s.fields.two_adicity e
+        ⊎ CountFault p claims proof e
+        ⊎ WorkFault c e
+        ⊎ InputFault s.fields p.log_blowup alpha (top_height p claims) claims proof.inputs
         s.opens_input (positions s p claims proof c) e
+        ⊎ RoundsFault c alpha e
+        ⊎ (e ≡ OutOfMemory)
 
     -- of the scheme around the test, from the state in which it begins
     abbrev pub StandsInScheme : (c : C) → FriError A B → Type 0
