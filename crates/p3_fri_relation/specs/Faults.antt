@@ -61,7 +61,7 @@ abbrev pub IsUnmet : (met : ℕ → Bool) (next remaining h : ℕ) → List ℕ 
 IsUnmet met next remaining h [] = ⊥
 IsUnmet met next remaining h (k ∷ heights) =
     ((next ≡ k) × (remaining ≡ suc (length heights)) × ((h ≤ k) ⊎ (met k ≡ false)))
-    ⊎ IsUnmet met next remaining k heights
+    ⊎ ((k < h) × IsTrue (met k) × IsUnmet met next remaining k heights)
 
 abbrev pub IsUnconsumed : (met : ℕ → Bool) (next remaining : ℕ) → List ℕ → Type 0
 IsUnconsumed met next remaining [] = ⊥
@@ -94,6 +94,7 @@ module _ {A B E : Type 0} (q : QueryInput E) where
   QueryFault (UnconsumedReducedOpenings next remaining) =
       IsUnconsumed (reaches (folded q) q.log_height) next remaining
       (map (λ input. input.0) q.inputs)
+  QueryFault OutOfMemory = ⊤
   QueryFault _ = ⊥
 
 -- at some position the quotient sum of the log height `log_blowup` isn't zero
@@ -132,6 +133,7 @@ module _ {A B F E InCom InPath : Type 0} (f : Fields F E) (log_blowup : ℕ) (al
       m.points) claim.matrices) claims
   InputFault FinalPolyMismatch =
       IsConstantWrong f log_blowup alpha top claims inputs positions
+  InputFault OutOfMemory = ⊤
   InputFault _ = ⊥
 
 module _ {A B E InCom : Type 0} (p : Parameters) (claims : List (CommitmentClaim E InCom)) where
@@ -162,8 +164,9 @@ module _ {A B E InCom : Type 0} (p : Parameters) (claims : List (CommitmentClaim
   CountFault proof (CommitPhaseQueryCountMismatch round expected got) =
       At round (λ r. IsWrong p.num_queries (length r.siblings) expected got) proof.rounds
   CountFault proof (SiblingValuesLengthMismatch round expected got) =
-      At round (λ r. Any (λ row. IsWrong (2 ^ slice_index (log_arities p claims) round - 1)
-      (length row) expected got) r.siblings) proof.rounds
+      At round (λ (log_arity, r). Any (λ row.
+      IsWrong (2 ^ log_arity - 1) (length row) expected got) r.siblings)
+      (zip (log_arities p claims) proof.rounds)
   CountFault proof (FinalPolyLengthMismatch expected got) =
       IsWrong (2 ^ p.log_final_poly_len) (length proof.final_poly) expected got
   CountFault proof _ = ⊥
