@@ -63,28 +63,30 @@ module _ {E InCom : Type 0} (p : Parameters) (claims : List (CommitmentClaim E I
 abbrev pub values_claimed : {E InCom : Type 0} → List (CommitmentClaim E InCom) → List E
 values_claimed claims = flat_map (λ m. flat_map (λ z. z.values) m.points) (matrices_of claims)
 
+-- one row for each query, of one value less than the round's arity
+abbrev pub HasSiblings : {E Path : Type 0} → (num_queries log_arity : ℕ) → RoundOpening E Path
+    → Type 0
+HasSiblings num_queries log_arity r = (length r.siblings ≡ num_queries)
+    × All (λ row. suc (length row) ≡ 2 ^ log_arity) r.siblings
+
+module _ {F E Com Path InPath : Type 0} (p : Parameters) (proof : Proof F E Com Path InPath) where
+  -- the lengths of the proof's lists
+  pub record HasCounts {InCom : Type 0} (claims : List (CommitmentClaim E InCom)) : Type 0 where
+    pub commitments : length proof.commitments ≡ length (log_arities p claims)
+    pub commit_witnesses : length proof.commit_witnesses ≡ length (log_arities p claims)
+    pub rounds : AllZip (HasSiblings p.num_queries) (log_arities p claims) proof.rounds
+    pub inputs : length proof.inputs ≡ length claims
+    pub final_poly : length proof.final_poly ≡ 2 ^ p.log_final_poly_len
+
+  -- a witness at no bits is zero
+  pub record AreCanonical (zero : F) : Type 0 where
+    pub batch : p.batch_pow_bits ≡ 0 → proof.batch_witness ≡ zero
+    pub commit : p.commit_pow_bits ≡ 0 → All (λ w. w ≡ zero) proof.commit_witnesses
+    pub query : p.query_pow_bits ≡ 0 → proof.query_witness ≡ zero
+
 module _ {F E C Com Path InCom InPath : Type 0} (s : Setting F E C Com Path InCom InPath)
     (p : Parameters) (claims : List (CommitmentClaim E InCom)) (proof : Proof F E Com Path InPath)
   where
-    -- one row for each query, of one value less than the round's arity
-    abbrev pub HasSiblings : (log_arity : ℕ) → RoundOpening E Path → Type 0
-    HasSiblings log_arity r = (length r.siblings ≡ p.num_queries)
-        × All (λ row. suc (length row) ≡ 2 ^ log_arity) r.siblings
-
-    -- the lengths of the proof's lists
-    pub record HasCounts : Type 0 where
-      pub commitments : length proof.commitments ≡ length (log_arities p claims)
-      pub commit_witnesses : length proof.commit_witnesses ≡ length (log_arities p claims)
-      pub rounds : AllZip HasSiblings (log_arities p claims) proof.rounds
-      pub inputs : length proof.inputs ≡ length claims
-      pub final_poly : length proof.final_poly ≡ 2 ^ p.log_final_poly_len
-
-    -- a witness at no bits is zero
-    pub record AreCanonical : Type 0 where
-      pub batch : p.batch_pow_bits ≡ 0 → proof.batch_witness ≡ s.fields.base.zero
-      pub commit : p.commit_pow_bits ≡ 0 → All (λ w. w ≡ s.fields.base.zero) proof.commit_witnesses
-      pub query : p.query_pow_bits ≡ 0 → proof.query_witness ≡ s.fields.base.zero
-
     module _ (c : C) where
       -- what is drawn along the test, from the challenger's state `c`
       abbrev pub test_replay : FriReplay C E
@@ -157,8 +159,8 @@ module _ {F E C Com Path InCom InPath : Type 0} (s : Setting F E C Com Path InCo
         -- the low-degree test accepts, from the state `c` and with the batching challenge `alpha`
         pub record FriAccepts : Type 0 where
           pub instance_of : IsInstance p claims s.fields.two_adicity
-          pub counts : HasCounts
-          pub canonical : AreCanonical
+          pub counts : HasCounts p proof claims
+          pub canonical : AreCanonical p proof s.fields.base.zero
           pub passes : IsTrue test_replay.passes
           pub inputs_open : InputsOpen
           pub rounds_open : RoundsOpen

@@ -171,6 +171,15 @@ module _ {A B E InCom : Type 0} (p : Parameters) (claims : List (CommitmentClaim
       IsWrong (2 ^ p.log_final_poly_len) (length proof.final_poly) expected got
   CountFault proof _ = ⊥
 
+-- a witness of a phase at no bits isn't zero
+module _ {F E Com Path InPath : Type 0} (p : Parameters) (proof : Proof F E Com Path InPath)
+    (zero : F) where
+  abbrev pub IsNotCanonical : PowPhase → Type 0
+  IsNotCanonical Batch = (p.batch_pow_bits ≡ 0) × (proof.batch_witness ≢ zero)
+  IsNotCanonical CommitPhase =
+      (p.commit_pow_bits ≡ 0) × Any (λ w. w ≢ zero) proof.commit_witnesses
+  IsNotCanonical Query = (p.query_pow_bits ≡ 0) × (proof.query_witness ≢ zero)
+
 module _ {F E C Com Path InCom InPath : Type 0} (s : Setting F E C Com Path InCom InPath)
     (p : Parameters) (claims : List (CommitmentClaim E InCom)) (proof : Proof F E Com Path InPath)
   where
@@ -179,13 +188,6 @@ module _ {F E C Com Path InCom InPath : Type 0} (s : Setting F E C Com Path InCo
     DoNotPass c Batch = ⊥
     DoNotPass c CommitPhase = (rounds_replayed s p claims proof c).passes ≡ false
     DoNotPass c Query = (queries_replayed s p claims proof c).passes ≡ false
-
-    -- a witness of a phase at no bits isn't zero
-    abbrev pub IsNotCanonical : PowPhase → Type 0
-    IsNotCanonical Batch = (p.batch_pow_bits ≡ 0) × (proof.batch_witness ≢ s.fields.base.zero)
-    IsNotCanonical CommitPhase =
-        (p.commit_pow_bits ≡ 0) × Any (λ w. w ≢ s.fields.base.zero) proof.commit_witnesses
-    IsNotCanonical Query = (p.query_pow_bits ≡ 0) × (proof.query_witness ≢ s.fields.base.zero)
 
     -- query `j` doesn't end at the final polynomial
     abbrev pub EndsElsewhere : (c : C) (alpha : E) (j : ℕ) → Type 0
@@ -199,7 +201,8 @@ module _ {A B F E C Com Path InCom InPath : Type 0} (s : Setting F E C Com Path 
     -- of the proofs of work, from the challenger's state `c`
     abbrev pub WorkFault : (c : C) → FriError A B → Type 0
     WorkFault c (InvalidPowWitness phase) = DoNotPass s p claims proof c phase
-    WorkFault c (NonCanonicalPowWitness phase) = IsNotCanonical s p claims proof phase
+    WorkFault c (NonCanonicalPowWitness phase) =
+        IsNotCanonical p proof s.fields.base.zero phase
     WorkFault c _ = ⊥
 
     -- of the way of the queries through the rounds
