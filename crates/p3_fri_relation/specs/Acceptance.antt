@@ -70,12 +70,12 @@ HasSiblings num_queries log_arity r = (length r.siblings ≡ num_queries)
     × All (λ row. suc (length row) ≡ 2 ^ log_arity) r.siblings
 
 module _ {F E Com Path InPath : Type 0} (p : Parameters) (proof : Proof F E Com Path InPath) where
-  -- the lengths of the proof's lists
-  pub record HasCounts {InCom : Type 0} (claims : List (CommitmentClaim E InCom)) : Type 0 where
-    pub commitments : length proof.commitments ≡ length (log_arities p claims)
-    pub commit_witnesses : length proof.commit_witnesses ≡ length (log_arities p claims)
-    pub rounds : AllZip (HasSiblings p.num_queries) (log_arities p claims) proof.rounds
-    pub inputs : length proof.inputs ≡ length claims
+  -- the lengths of the proof's lists, where the rounds have these log arities
+  pub record HasCounts (log_arities : List ℕ) (num_commitments : ℕ) : Type 0 where
+    pub commitments : length proof.commitments ≡ length log_arities
+    pub commit_witnesses : length proof.commit_witnesses ≡ length log_arities
+    pub rounds : AllZip (HasSiblings p.num_queries) log_arities proof.rounds
+    pub inputs : length proof.inputs ≡ num_commitments
     pub final_poly : length proof.final_poly ≡ 2 ^ p.log_final_poly_len
 
   -- a witness at no bits is zero
@@ -159,7 +159,7 @@ module _ {F E C Com Path InCom InPath : Type 0} (s : Setting F E C Com Path InCo
         -- the low-degree test accepts, from the state `c` and with the batching challenge `alpha`
         pub record FriAccepts : Type 0 where
           pub instance_of : IsInstance p claims s.fields.two_adicity
-          pub counts : HasCounts p proof claims
+          pub counts : HasCounts p proof (log_arities p claims) (length claims)
           pub canonical : AreCanonical p proof s.fields.base.zero
           pub passes : IsTrue test_replay.passes
           pub inputs_open : InputsOpen

@@ -152,24 +152,25 @@ module _ {A B E InCom : Type 0} (p : Parameters) (claims : List (CommitmentClaim
       (heights_of p.log_blowup (matrices_of claims))
   InstanceFault two_adicity _ = ⊥
 
-  -- of the lengths of a proof's lists
-  abbrev pub CountFault : {F Com Path InPath : Type 0} → Proof F E Com Path InPath → FriError A B
-      → Type 0
-  CountFault proof (CommitPhaseOpeningsCountMismatch expected got) =
-      IsWrong (length (log_arities p claims)) (length proof.rounds) expected got
-  CountFault proof (CommitRoundCountMismatch expected got) =
-      IsWrong (length (log_arities p claims)) (length proof.commitments) expected got
-  CountFault proof (CommitPowWitnessCountMismatch expected got) =
-      IsWrong (length (log_arities p claims)) (length proof.commit_witnesses) expected got
-  CountFault proof (CommitPhaseQueryCountMismatch round expected got) =
+-- of the lengths of a proof's lists, where the rounds have these log arities
+module _ {A B F E Com Path InPath : Type 0} (p : Parameters) (log_arities : List ℕ)
+    (proof : Proof F E Com Path InPath) where
+  abbrev pub CountFault : FriError A B → Type 0
+  CountFault (CommitPhaseOpeningsCountMismatch expected got) =
+      IsWrong (length log_arities) (length proof.rounds) expected got
+  CountFault (CommitRoundCountMismatch expected got) =
+      IsWrong (length log_arities) (length proof.commitments) expected got
+  CountFault (CommitPowWitnessCountMismatch expected got) =
+      IsWrong (length log_arities) (length proof.commit_witnesses) expected got
+  CountFault (CommitPhaseQueryCountMismatch round expected got) =
       At round (λ r. IsWrong p.num_queries (length r.siblings) expected got) proof.rounds
-  CountFault proof (SiblingValuesLengthMismatch round expected got) =
+  CountFault (SiblingValuesLengthMismatch round expected got) =
       At round (λ (log_arity, r). Any (λ row.
       IsWrong (2 ^ log_arity - 1) (length row) expected got) r.siblings)
-      (zip (log_arities p claims) proof.rounds)
-  CountFault proof (FinalPolyLengthMismatch expected got) =
+      (zip log_arities proof.rounds)
+  CountFault (FinalPolyLengthMismatch expected got) =
       IsWrong (2 ^ p.log_final_poly_len) (length proof.final_poly) expected got
-  CountFault proof _ = ⊥
+  CountFault _ = ⊥
 
 -- a witness of a phase at no bits isn't zero
 module _ {F E Com Path InPath : Type 0} (p : Parameters) (proof : Proof F E Com Path InPath)
@@ -221,7 +222,7 @@ module _ {A B F E C Com Path InCom InPath : Type 0} (s : Setting F E C Com Path 
     abbrev pub Stands : (c : C) (alpha : E) → FriError A B → Type 0
     Stands c alpha e =
         InstanceFault p claims s.fields.two_adicity e
-        ⊎ CountFault p claims proof e
+        ⊎ CountFault p (log_arities p claims) proof e
         ⊎ WorkFault c e
         ⊎ InputFault s.fields p.log_blowup alpha (top_height p claims) claims proof.inputs
         s.opens_input (positions s p claims proof c) e
