@@ -165,9 +165,9 @@ module _ {A B F E Com Path InPath : Type 0} (p : Parameters) (log_arities : List
   CountFault (CommitPhaseQueryCountMismatch round expected got) =
       At round (λ r. IsWrong p.num_queries (length r.siblings) expected got) proof.rounds
   CountFault (SiblingValuesLengthMismatch round expected got) =
-      At round (λ (log_arity, r). Any (λ row.
-      IsWrong (2 ^ log_arity - 1) (length row) expected got) r.siblings)
-      (zip log_arities proof.rounds)
+      (round < length log_arities) × At round (λ r. Any (λ row.
+      IsWrong (2 ^ slice_index log_arities round - 1) (length row) expected got) r.siblings)
+      proof.rounds
   CountFault (FinalPolyLengthMismatch expected got) =
       IsWrong (2 ^ p.log_final_poly_len) (length proof.final_poly) expected got
   CountFault _ = ⊥
