@@ -29,15 +29,20 @@ module _ {E InCom : Type 0} (p : Parameters) (claims : List (CommitmentClaim E I
   log_arities =
       schedule (heights_of p.log_blowup (matrices_of claims)) (final_height p) p.max_log_arity
 
-  -- the parameters and the claims are those of an instance, in a field of this two-adicity
-  pub record IsInstance (two_adicity : ℕ) : Type 0 where
+  -- the parameters are positive, there is a matrix, and in a field of this two-adicity the log
+  -- heights reach from the final one to those of cosets
+  pub record IsInRange (two_adicity : ℕ) : Type 0 where
     pub queries : 0 < p.num_queries
     pub blowup : 0 < p.log_blowup
     pub cap : 0 < p.max_log_arity
     pub some_matrix : matrices_of claims ≢ []
-    pub points : All HasPoints (matrices_of claims)
     pub tall_enough : All (λ m. final_height p ≤ log_height p.log_blowup m) (matrices_of claims)
     pub within_two_adicity : All (λ m. log_height p.log_blowup m ≤ two_adicity) (matrices_of claims)
+
+  -- the parameters and the claims are those of an instance
+  pub record IsInstance (two_adicity : ℕ) : Type 0 where
+    pub in_range : IsInRange two_adicity
+    pub points : All HasPoints (matrices_of claims)
 
   -- what the test's transcript is bound to
   abbrev pub fri_numbers : (extra_bits : ℕ) → FriNumbers
