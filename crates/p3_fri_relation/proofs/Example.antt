@@ -18,7 +18,7 @@ use Rattle.p3_fri_relation.specs.Setting.{PointClaim, MatrixClaim}
 use Rattle.p3_fri_relation.specs.Heights.{log_height}
 use Rattle.p3_fri_relation.specs.QuotientSums.{point_read}
 use Rattle.p3_fri_relation.specs.Inputs.{HasPoints}
-use Rattle.p3_fri_relation.specs.Acceptance.{Accepts, HoldsAtQuery, batch_replayed}
+use Rattle.p3_fri_relation.specs.Acceptance.{test_replay, positions, Accepts, HoldsAtQuery, batch_replayed}
 use Rattle.p3_fri_relation.specs.Example.{small_setting, small_parameters, small_claims}
 use Rattle.p3_fri_relation.specs.Example.{small_proof, IsExample}
 
@@ -43,7 +43,9 @@ abbrev batch : BatchReplay ℕ ℕ
 batch = batch_replayed small_setting small_parameters small_claims (small_proof 82) 0
 
 abbrev holds_at : ℕ → Type 0
-holds_at = HoldsAtQuery small_setting small_parameters small_claims (small_proof 82) batch.state batch.alpha
+holds_at = HoldsAtQuery small_setting small_parameters small_claims (small_proof 82) batch.alpha
+    (test_replay small_setting small_parameters small_claims (small_proof 82) batch.state).betas
+    (positions small_setting small_parameters small_claims (small_proof 82) batch.state)
 
 abbrev claims : (width : ℕ) → PointClaim ℕ → Type 0
 claims width z = length z.values ≡ width
@@ -64,16 +66,18 @@ accepted = record {
   passes = refl;
   accepts = record {
     instance_of = record {
-      queries = lit< tt;
-      blowup = lit< tt;
-      cap = lit< tt;
-      some_matrix = λ e. cc;
+      in_range = record {
+        queries = lit< tt;
+        blowup = lit< tt;
+        cap = lit< tt;
+        some_matrix = λ e. cc;
+        tall_enough = all_3 (λ m. 2 ≤ log_height 1 m) _ _ _ (lit≤ tt) (lit≤ tt) (lit≤ tt);
+        within_two_adicity = all_3 (λ m. log_height 1 m ≤ 5) _ _ _ (lit≤ tt) (lit≤ tt) (lit≤ tt);
+      };
       points = all_3 HasPoints _ _ _
           (record { some_point = λ e. cc; counts = all_2 (claims 2) _ _ refl refl })
           (record { some_point = λ e. cc; counts = all_1 (claims 1) _ refl })
           (record { some_point = λ e. cc; counts = all_1 (claims 1) _ refl });
-      tall_enough = all_3 (λ m. 2 ≤ log_height 1 m) _ _ _ (lit≤ tt) (lit≤ tt) (lit≤ tt);
-      within_two_adicity = all_3 (λ m. log_height 1 m ≤ 5) _ _ _ (lit≤ tt) (lit≤ tt) (lit≤ tt);
     };
     counts = record {
       commitments = refl;
@@ -84,29 +88,31 @@ accepted = record {
     };
     canonical = record { batch = λ _. refl; commit = λ e. absurd (omega (arith, e)); query = λ _. refl };
     passes = refl;
-    inputs_open = (
-      record { sizes = refl; rows = refl },
-      (record { sizes = refl; rows = refl }, (record { sizes = refl; rows = refl }, tt)),
-    );
-    rounds_open = (
-      record { sizes = refl; rows = refl },
-      (record { sizes = refl; rows = refl }, tt),
-    );
-    queries_hold = two_indices {X = ℕ} holds_at 30 3
-        (record {
-          sums = record {
-            defined = all_3 (is_off 30) _ _ _ (all_2 (reads 30 5) _ _ (λ e. omega (arith, e)) (λ e. omega (arith, e))) (all_1 (reads 30 3) _ (λ e. omega (arith, e))) (all_1 (reads 30 5) _ (λ e. omega (arith, e)));
-            constants = λ h. cc;
-          };
-          ends = refl;
-        })
-        (record {
-          sums = record {
-            defined = all_3 (is_off 3) _ _ _ (all_2 (reads 3 5) _ _ (λ e. omega (arith, e)) (λ e. omega (arith, e))) (all_1 (reads 3 3) _ (λ e. omega (arith, e))) (all_1 (reads 3 5) _ (λ e. omega (arith, e)));
-            constants = λ h. cc;
-          };
-          ends = refl;
-        });
+    openings = record {
+      inputs_open = (
+        record { sizes = refl; rows = refl },
+        (record { sizes = refl; rows = refl }, (record { sizes = refl; rows = refl }, tt)),
+      );
+      rounds_open = (
+        record { sizes = refl; rows = refl },
+        (record { sizes = refl; rows = refl }, tt),
+      );
+      queries_hold = two_indices {X = ℕ} holds_at 30 3
+          (record {
+            sums = record {
+              defined = all_3 (is_off 30) _ _ _ (all_2 (reads 30 5) _ _ (λ e. omega (arith, e)) (λ e. omega (arith, e))) (all_1 (reads 30 3) _ (λ e. omega (arith, e))) (all_1 (reads 30 5) _ (λ e. omega (arith, e)));
+              constants = λ h. cc;
+            };
+            ends = refl;
+          })
+          (record {
+            sums = record {
+              defined = all_3 (is_off 3) _ _ _ (all_2 (reads 3 5) _ _ (λ e. omega (arith, e)) (λ e. omega (arith, e))) (all_1 (reads 3 3) _ (λ e. omega (arith, e))) (all_1 (reads 3 5) _ (λ e. omega (arith, e)));
+              constants = λ h. cc;
+            };
+            ends = refl;
+          });
+    };
   };
 }
 
@@ -115,6 +121,6 @@ unfolding schedule stops rounds_over rounds_through fri_stream fri_steps fri_lab
 is_example = record {
   accepted = accepted;
   refused = λ sibling a.
-      ap (λ (sets : List (List (List ℕ))). get_or (get_or (get_or sets 0 []) 0 []) 0 0) a.accepts.rounds_open.1.0.rows;
+      ap (λ (sets : List (List (List ℕ))). get_or (get_or (get_or sets 0 []) 0 []) 0 0) a.accepts.openings.rounds_open.1.0.rows;
   state = refl;
 }
