@@ -1,5 +1,5 @@
 -- The relation holds of the small proof, and of none with another sibling.
-use Rattle.std.proofs.Common.{◌≡◌, ◌≢◌, ℕ, zero, suc, ◌<◌, ◌≤◌, List, [], ◌∷◌, length, get_or, refl, ap}
+use Rattle.std.proofs.Common.{◌≡◌, ◌≢◌, ℕ, zero, suc, ◌≤◌, List, [], ◌∷◌, length, get_or, refl, ap}
 use Rattle.std.proofs.Common.{arith, lit<, lit≤}
 use Rattle.std.specs.Prelude.{All, EachIndex}
 use Rattle.algebra.specs.Field.{pow, multiple}

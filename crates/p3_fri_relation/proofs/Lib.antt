@@ -1,1 +1,4 @@
+pub mod ClaimedHeights
 mod Example
+pub mod Instances
+pub mod ScheduledRounds

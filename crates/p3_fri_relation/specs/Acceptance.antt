@@ -11,8 +11,8 @@ use Rattle.p3_fri_transcript.specs.Replay.{RoundsReplay, QueriesReplay, FriRepla
 use Rattle.p3_fri_transcript.specs.Replay.{rounds_replay, shown_queries_replay, fri_replay}
 use Rattle.p3_fri_pcs_transcript.specs.Steps.{PcsNumbers, pcs_stream}
 use Rattle.p3_fri_pcs_transcript.specs.Replay.{BatchReplay, claims_replay}
-use Rattle.p3_fri_relation.specs.Setting.{Setting, Parameters, PointClaim, MatrixClaim}
-use Rattle.p3_fri_relation.specs.Setting.{CommitmentClaim, InputOpening, RoundOpening, Proof}
+use Rattle.p3_fri_relation.specs.Setting.{Setting, Parameters}
+use Rattle.p3_fri_relation.specs.Setting.{CommitmentClaim, RoundOpening, Proof}
 use Rattle.p3_fri_relation.specs.Setting.{final_height}
 use Rattle.p3_fri_relation.specs.Heights.{matrices_of, log_height, greatest_height, heights_of}
 use Rattle.p3_fri_relation.specs.Inputs.{HasPoints, OpensInput}

@@ -7,7 +7,7 @@ use Rattle.algebra.specs.Field.{FieldOps}
 use Rattle.algebra.specs.Folds.{fold_value}
 use Rattle.p3_matrix.specs.declared.Dimensions.{Dimensions}
 use Rattle.p3_commit.specs.Batch.{max_height}
-use Rattle.p3_fri_relation.specs.Setting.{Opening, Setting, Parameters, CommitmentClaim, Proof}
+use Rattle.p3_fri_relation.specs.Setting.{Setting, Parameters, CommitmentClaim, Proof}
 use Rattle.p3_fri_relation.specs.Acceptance.{Accepts, batch_replayed, test_replay}
 
 -- the integers modulo 97

@@ -1,6 +1,6 @@
 -- What of the input makes each refusal a true one.
 use Rattle.std.specs.Prelude.{◌≡◌, ◌≢◌, ◌⊎◌, ℕ, suc, ◌+◌, ◌-◌, ◌^◌, ◌<◌, ◌≤◌, min, Bool, false}
-use Rattle.std.specs.Prelude.{IsTrue, List, [], ◌∷◌, map, length, sum, ⊤, EachIndex, SomeIndex}
+use Rattle.std.specs.Prelude.{IsTrue, List, [], ◌∷◌, map, length, sum, ⊤, SomeIndex}
 use Rattle.std.specs.Prelude.{slice_index, slice_index_or}
 use Rattle.std.specs.List.{Any, zip, range_with_len}
 use Rattle.p3_fri_steps.specs.declared.pow_phase.PowPhase.{PowPhase}
@@ -33,8 +33,8 @@ use Rattle.p3_fri_relation.specs.declared.error.FriError.TheVariants.{InvalidPow
 use Rattle.p3_fri_relation.specs.declared.error.FriError.TheVariants.{NonCanonicalPowWitness}
 use Rattle.p3_fri_relation.specs.declared.error.FriError.TheVariants.{OpeningPointMatchesQueryPoint}
 use Rattle.p3_fri_relation.specs.declared.error.FriError.TheVariants.{OutOfMemory}
-use Rattle.p3_fri_relation.specs.Setting.{Fields, Opening, Setting, Parameters, MatrixClaim}
-use Rattle.p3_fri_relation.specs.Setting.{CommitmentClaim, InputOpening, RoundOpening, Proof}
+use Rattle.p3_fri_relation.specs.Setting.{Fields, Opening, Setting, Parameters}
+use Rattle.p3_fri_relation.specs.Setting.{CommitmentClaim, InputOpening, Proof}
 use Rattle.p3_fri_relation.specs.Setting.{final_height}
 use Rattle.p3_fri_relation.specs.Heights.{matrices_of, width, log_height, has_height, heights_of}
 use Rattle.p3_fri_relation.specs.QuotientSums.{point_read}
