@@ -1,4 +1,5 @@
 pub mod ClaimedHeights
 mod Example
+pub mod InstanceQueries
 pub mod Instances
 pub mod ScheduledRounds
