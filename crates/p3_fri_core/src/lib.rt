@@ -10,8 +10,8 @@ pub mod config;
 pub mod laws;
 
 pub use p3_fri_folding::{
-    FriFoldingStrategy, FriParameters, TwoAdicFriFolding, compute_log_arity_for_round,
-    fold_schedule, folding, is_strictly_falling, strategy,
+    FriFoldingStrategy, FriParameters, TwoAdicFriFolding, WithExtraBits,
+    compute_log_arity_for_round, fold_schedule, folding, is_strictly_falling, strategy,
 };
 pub use p3_fri_pcs_transcript::{PcsShape, pcs_transcript};
 pub use p3_fri_relation::proof;
