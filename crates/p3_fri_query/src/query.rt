@@ -200,7 +200,8 @@ pub fn fold_query<
     ensures indices { let q = query_input query start_index.old betas.now log_arities.now
         commit_phase_openings.now reduced_openings.items log_global_max_height log_final_height in
         IsOk result → lists group_indices_by_round.new
-        ≡ gains (lists group_indices_by_round.old) (group_indices q EF.ops (S.row_fold folding.now)) }
+        ≡ gains (lists group_indices_by_round.old)
+        (group_indices q EF.ops (S.row_fold folding.now)) }
     ensures rows { let q = query_input query start_index.old betas.now log_arities.now
         commit_phase_openings.now reduced_openings.items log_global_max_height log_final_height in
         IsOk result → rows_collected rows_by_round.new ≡ gains (rows_collected rows_by_round.old)
