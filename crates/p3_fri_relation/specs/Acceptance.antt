@@ -29,15 +29,20 @@ module _ {E InCom : Type 0} (p : Parameters) (claims : List (CommitmentClaim E I
   log_arities =
       schedule (heights_of p.log_blowup (matrices_of claims)) (final_height p) p.max_log_arity
 
-  -- the parameters and the claims are those of an instance, in a field of this two-adicity
-  pub record IsInstance (two_adicity : ℕ) : Type 0 where
+  -- the parameters are positive, there is a matrix, and in a field of this two-adicity the log
+  -- heights reach from the final one to those of cosets
+  pub record IsInRange (two_adicity : ℕ) : Type 0 where
     pub queries : 0 < p.num_queries
     pub blowup : 0 < p.log_blowup
     pub cap : 0 < p.max_log_arity
     pub some_matrix : matrices_of claims ≢ []
-    pub points : All HasPoints (matrices_of claims)
     pub tall_enough : All (λ m. final_height p ≤ log_height p.log_blowup m) (matrices_of claims)
     pub within_two_adicity : All (λ m. log_height p.log_blowup m ≤ two_adicity) (matrices_of claims)
+
+  -- the parameters and the claims are those of an instance
+  pub record IsInstance (two_adicity : ℕ) : Type 0 where
+    pub in_range : IsInRange two_adicity
+    pub points : All HasPoints (matrices_of claims)
 
   -- what the test's transcript is bound to
   abbrev pub fri_numbers : (extra_bits : ℕ) → FriNumbers
@@ -63,27 +68,76 @@ module _ {E InCom : Type 0} (p : Parameters) (claims : List (CommitmentClaim E I
 abbrev pub values_claimed : {E InCom : Type 0} → List (CommitmentClaim E InCom) → List E
 values_claimed claims = flat_map (λ m. flat_map (λ z. z.values) m.points) (matrices_of claims)
 
+-- one row for each query, of one value less than the round's arity
+abbrev pub HasSiblings : {E Path : Type 0} → (num_queries log_arity : ℕ) → RoundOpening E Path
+    → Type 0
+HasSiblings num_queries log_arity r = (length r.siblings ≡ num_queries)
+    × All (λ row. suc (length row) ≡ 2 ^ log_arity) r.siblings
+
+module _ {F E Com Path InPath : Type 0} (p : Parameters) (proof : Proof F E Com Path InPath) where
+  -- the lengths of the proof's lists, where the rounds have these log arities
+  pub record HasCounts (log_arities : List ℕ) (num_commitments : ℕ) : Type 0 where
+    pub commitments : length proof.commitments ≡ length log_arities
+    pub commit_witnesses : length proof.commit_witnesses ≡ length log_arities
+    pub rounds : AllZip (HasSiblings p.num_queries) log_arities proof.rounds
+    pub inputs : length proof.inputs ≡ num_commitments
+    pub final_poly : length proof.final_poly ≡ 2 ^ p.log_final_poly_len
+
+  -- a witness at no bits is zero
+  pub record AreCanonical (zero : F) : Type 0 where
+    pub batch : p.batch_pow_bits ≡ 0 → proof.batch_witness ≡ zero
+    pub commit : p.commit_pow_bits ≡ 0 → All (λ w. w ≡ zero) proof.commit_witnesses
+    pub query : p.query_pow_bits ≡ 0 → proof.query_witness ≡ zero
+
 module _ {F E C Com Path InCom InPath : Type 0} (s : Setting F E C Com Path InCom InPath)
     (p : Parameters) (claims : List (CommitmentClaim E InCom)) (proof : Proof F E Com Path InPath)
   where
-    -- one row for each query, of one value less than the round's arity
-    abbrev pub HasSiblings : (log_arity : ℕ) → RoundOpening E Path → Type 0
-    HasSiblings log_arity r = (length r.siblings ≡ p.num_queries)
-        × All (λ row. suc (length row) ≡ 2 ^ log_arity) r.siblings
+    -- at these positions, and with these folding challenges
+    module _ (alpha : E) (betas : List E) (positions : List ℕ) where
+      -- the rows opened of each commitment are those of its matrices
+      abbrev pub InputsOpen : Type 0
+      InputsOpen = AllZip
+          (OpensInput s.opens_input p.log_blowup (top_height p claims) positions)
+          claims proof.inputs
 
-    -- the lengths of the proof's lists
-    pub record HasCounts : Type 0 where
-      pub commitments : length proof.commitments ≡ length (log_arities p claims)
-      pub commit_witnesses : length proof.commit_witnesses ≡ length (log_arities p claims)
-      pub rounds : AllZip HasSiblings (log_arities p claims) proof.rounds
-      pub inputs : length proof.inputs ≡ length claims
-      pub final_poly : length proof.final_poly ≡ 2 ^ p.log_final_poly_len
+      abbrev pub rounds : List (Round E)
+      rounds = rounds_of (log_arities p claims) betas
 
-    -- a witness at no bits is zero
-    pub record AreCanonical : Type 0 where
-      pub batch : p.batch_pow_bits ≡ 0 → proof.batch_witness ≡ s.fields.base.zero
-      pub commit : p.commit_pow_bits ≡ 0 → All (λ w. w ≡ s.fields.base.zero) proof.commit_witnesses
-      pub query : p.query_pow_bits ≡ 0 → proof.query_witness ≡ s.fields.base.zero
+      -- the row that query `j` folds in round `k`
+      abbrev pub row_folded : (j k : ℕ) → List E
+      row_folded j k = slice_index_or (rows_folded s p alpha (top_height p claims) claims proof
+          rounds j (slice_index positions j)) k []
+
+      -- the word that round `k` folds, in rows of its arity, opens to the queries' rows
+      abbrev pub OpensRound : (k : ℕ) → Com × RoundOpening E Path → Type 0
+      OpensRound k (commitment, r) = s.opens_round commitment
+          (record {
+            width = 2 ^ slice_index (log_arities p claims) k;
+            height = 2 ^ slice_index (heights_after (log_arities p claims) (top_height p claims)) k;
+          } ∷ [])
+          (map (λ q. slice_index (row_indices (log_arities p claims) q) k) positions)
+          (tabulate p.num_queries (λ j. row_folded j k ∷ []))
+          r.path
+
+      abbrev pub RoundsOpen : Type 0
+      RoundsOpen = AllZip OpensRound (range_with_len 0 (length (log_arities p claims)))
+          (zip proof.commitments proof.rounds)
+
+      -- the last link of query `j`'s chain
+      abbrev pub last_of_query : (j : ℕ) → Link E
+      last_of_query j = last_link s p alpha (top_height p claims) claims proof rounds j
+          (slice_index positions j)
+
+      -- query `j` goes its way
+      abbrev pub HoldsAtQuery : (j : ℕ) → Type 0
+      HoldsAtQuery j = QueryHolds s p alpha (top_height p claims) claims proof rounds j
+          (slice_index positions j)
+
+      -- all that the openings have to be
+      pub record AreOpeningsGood : Type 0 where
+        pub inputs_open : InputsOpen
+        pub rounds_open : RoundsOpen
+        pub queries_hold : EachIndex positions HoldsAtQuery
 
     module _ (c : C) where
       -- what is drawn along the test, from the challenger's state `c`
@@ -110,59 +164,13 @@ module _ {F E C Com Path InCom InPath : Type 0} (s : Setting F E C Com Path InCo
       abbrev pub positions : List ℕ
       positions = map (λ index. index / 2 ^ s.extra_bits) test_replay.indices
 
-      abbrev pub position : (j : ℕ) → ℕ
-      position j = slice_index positions j
-
-      -- the rows opened of each commitment at the queries' positions are those of its matrices
-      abbrev pub InputsOpen : Type 0
-      InputsOpen = AllZip
-          (OpensInput s.opens_input p.log_blowup (top_height p claims) positions)
-          claims proof.inputs
-
-      module _ (alpha : E) where
-        abbrev pub rounds : List (Round E)
-        rounds = rounds_of (log_arities p claims) test_replay.betas
-
-        -- the row that query `j` folds in round `k`
-        abbrev pub row_folded : (j k : ℕ) → List E
-        row_folded j k = slice_index_or
-            (rows_folded s p alpha (top_height p claims) claims proof rounds j (position j)) k []
-
-        -- the word that round `k` folds, in rows of its arity, opens to the queries' rows
-        abbrev pub OpensRound : (k : ℕ) → Com × RoundOpening E Path → Type 0
-        OpensRound k (commitment, r) = s.opens_round commitment
-            (record {
-              width = 2 ^ slice_index (log_arities p claims) k;
-              height =
-                  2 ^ slice_index (heights_after (log_arities p claims) (top_height p claims)) k;
-            } ∷ [])
-            (map (λ q. slice_index (row_indices (log_arities p claims) q) k) positions)
-            (tabulate p.num_queries (λ j. row_folded j k ∷ []))
-            r.path
-
-        abbrev pub RoundsOpen : Type 0
-        RoundsOpen = AllZip OpensRound (range_with_len 0 (length (log_arities p claims)))
-            (zip proof.commitments proof.rounds)
-
-        -- the last link of query `j`'s chain
-        abbrev pub last_of_query : (j : ℕ) → Link E
-        last_of_query j =
-            last_link s p alpha (top_height p claims) claims proof rounds j (position j)
-
-        -- query `j` goes its way
-        abbrev pub HoldsAtQuery : (j : ℕ) → Type 0
-        HoldsAtQuery j =
-            QueryHolds s p alpha (top_height p claims) claims proof rounds j (position j)
-
-        -- the low-degree test accepts, from the state `c` and with the batching challenge `alpha`
-        pub record FriAccepts : Type 0 where
-          pub instance_of : IsInstance p claims s.fields.two_adicity
-          pub counts : HasCounts
-          pub canonical : AreCanonical
-          pub passes : IsTrue test_replay.passes
-          pub inputs_open : InputsOpen
-          pub rounds_open : RoundsOpen
-          pub queries_hold : EachIndex positions HoldsAtQuery
+      -- the low-degree test accepts, from the state `c` and with the batching challenge `alpha`
+      pub record FriAccepts (alpha : E) : Type 0 where
+        pub instance_of : IsInstance p claims s.fields.two_adicity
+        pub counts : HasCounts p proof (log_arities p claims) (length claims)
+        pub canonical : AreCanonical p proof s.fields.base.zero
+        pub passes : IsTrue test_replay.passes
+        pub openings : AreOpeningsGood alpha test_replay.betas positions
 
       -- what is drawn before the test
       abbrev pub batch_replayed : BatchReplay C E

@@ -43,6 +43,7 @@ use Rattle.p3_fri_relation.specs.Queries.{final_value}
 use Rattle.p3_fri_relation.specs.FoldedQuery.{QueryInput, folded, last_height, reaches}
 use Rattle.p3_fri_relation.specs.Acceptance.{top_height, log_arities, positions, last_of_query}
 use Rattle.p3_fri_relation.specs.Acceptance.{OpensRound, rounds_replayed, queries_replayed}
+use Rattle.p3_fri_relation.specs.Acceptance.{test_replay}
 use Rattle.p3_fri_relation.specs.Acceptance.{batch_replayed}
 
 -- the `i`-th element is there, and `P` holds of it
@@ -61,7 +62,7 @@ abbrev pub IsUnmet : (met : ℕ → Bool) (next remaining h : ℕ) → List ℕ 
 IsUnmet met next remaining h [] = ⊥
 IsUnmet met next remaining h (k ∷ heights) =
     ((next ≡ k) × (remaining ≡ suc (length heights)) × ((h ≤ k) ⊎ (met k ≡ false)))
-    ⊎ IsUnmet met next remaining k heights
+    ⊎ ((k < h) × IsTrue (met k) × IsUnmet met next remaining k heights)
 
 abbrev pub IsUnconsumed : (met : ℕ → Bool) (next remaining : ℕ) → List ℕ → Type 0
 IsUnconsumed met next remaining [] = ⊥
@@ -94,6 +95,7 @@ module _ {A B E : Type 0} (q : QueryInput E) where
   QueryFault (UnconsumedReducedOpenings next remaining) =
       IsUnconsumed (reaches (folded q) q.log_height) next remaining
       (map (λ input. input.0) q.inputs)
+  QueryFault OutOfMemory = ⊤
   QueryFault _ = ⊥
 
 -- at some position the quotient sum of the log height `log_blowup` isn't zero
@@ -132,7 +134,53 @@ module _ {A B F E InCom InPath : Type 0} (f : Fields F E) (log_blowup : ℕ) (al
       m.points) claim.matrices) claims
   InputFault FinalPolyMismatch =
       IsConstantWrong f log_blowup alpha top claims inputs positions
+  InputFault OutOfMemory = ⊤
   InputFault _ = ⊥
+
+module _ {A B E InCom : Type 0} (p : Parameters) (claims : List (CommitmentClaim E InCom)) where
+  -- of the parameters and the claims, in a field of this two-adicity
+  abbrev pub InstanceFault : (two_adicity : ℕ) → FriError A B → Type 0
+  InstanceFault two_adicity ZeroQueries = p.num_queries ≡ 0
+  InstanceFault two_adicity NoCommittedMatrices = matrices_of claims ≡ []
+  InstanceFault two_adicity ZeroFoldingArity = p.max_log_arity ≡ 0
+  InstanceFault two_adicity ZeroBlowup = p.log_blowup ≡ 0
+  InstanceFault two_adicity (GlobalMaxHeightTooLarge top greatest) =
+      (top ≡ top_height p claims) × (greatest ≡ two_adicity) × (greatest < top)
+  InstanceFault two_adicity (FinalFoldHeightMismatch expected got) =
+      IsWrong (final_height p) (top_height p claims - sum (log_arities p claims)) expected got
+  InstanceFault two_adicity (UnconsumedReducedOpenings next remaining) =
+      IsUnconsumed (reaches (log_arities p claims) (top_height p claims)) next remaining
+      (heights_of p.log_blowup (matrices_of claims))
+  InstanceFault two_adicity _ = ⊥
+
+-- of the lengths of a proof's lists, where the rounds have these log arities
+module _ {A B F E Com Path InPath : Type 0} (p : Parameters) (log_arities : List ℕ)
+    (proof : Proof F E Com Path InPath) where
+  abbrev pub CountFault : FriError A B → Type 0
+  CountFault (CommitPhaseOpeningsCountMismatch expected got) =
+      IsWrong (length log_arities) (length proof.rounds) expected got
+  CountFault (CommitRoundCountMismatch expected got) =
+      IsWrong (length log_arities) (length proof.commitments) expected got
+  CountFault (CommitPowWitnessCountMismatch expected got) =
+      IsWrong (length log_arities) (length proof.commit_witnesses) expected got
+  CountFault (CommitPhaseQueryCountMismatch round expected got) =
+      At round (λ r. IsWrong p.num_queries (length r.siblings) expected got) proof.rounds
+  CountFault (SiblingValuesLengthMismatch round expected got) =
+      (round < length log_arities) × At round (λ r. Any (λ row.
+      IsWrong (2 ^ slice_index log_arities round - 1) (length row) expected got) r.siblings)
+      proof.rounds
+  CountFault (FinalPolyLengthMismatch expected got) =
+      IsWrong (2 ^ p.log_final_poly_len) (length proof.final_poly) expected got
+  CountFault _ = ⊥
+
+-- a witness of a phase at no bits isn't zero
+module _ {F E Com Path InPath : Type 0} (p : Parameters) (proof : Proof F E Com Path InPath)
+    (zero : F) where
+  abbrev pub IsNotCanonical : PowPhase → Type 0
+  IsNotCanonical Batch = (p.batch_pow_bits ≡ 0) × (proof.batch_witness ≢ zero)
+  IsNotCanonical CommitPhase =
+      (p.commit_pow_bits ≡ 0) × Any (λ w. w ≢ zero) proof.commit_witnesses
+  IsNotCanonical Query = (p.query_pow_bits ≡ 0) × (proof.query_witness ≢ zero)
 
 module _ {F E C Com Path InCom InPath : Type 0} (s : Setting F E C Com Path InCom InPath)
     (p : Parameters) (claims : List (CommitmentClaim E InCom)) (proof : Proof F E Com Path InPath)
@@ -143,64 +191,51 @@ module _ {F E C Com Path InCom InPath : Type 0} (s : Setting F E C Com Path InCo
     DoNotPass c CommitPhase = (rounds_replayed s p claims proof c).passes ≡ false
     DoNotPass c Query = (queries_replayed s p claims proof c).passes ≡ false
 
-    -- a witness of a phase at no bits isn't zero
-    abbrev pub IsNotCanonical : PowPhase → Type 0
-    IsNotCanonical Batch = (p.batch_pow_bits ≡ 0) × (proof.batch_witness ≢ s.fields.base.zero)
-    IsNotCanonical CommitPhase =
-        (p.commit_pow_bits ≡ 0) × Any (λ w. w ≢ s.fields.base.zero) proof.commit_witnesses
-    IsNotCanonical Query = (p.query_pow_bits ≡ 0) × (proof.query_witness ≢ s.fields.base.zero)
-
     -- query `j` doesn't end at the final polynomial
-    abbrev pub EndsElsewhere : (c : C) (alpha : E) (j : ℕ) → Type 0
-    EndsElsewhere c alpha j =
-        let last = last_of_query s p claims proof c alpha j in
+    abbrev pub EndsElsewhere :
+        (alpha : E) (betas : List E) (positions : List ℕ) (j : ℕ) → Type 0
+    EndsElsewhere alpha betas positions j =
+        let last = last_of_query s p claims proof alpha betas positions j in
         last.value ≢ final_value s p proof last
 
 module _ {A B F E C Com Path InCom InPath : Type 0} (s : Setting F E C Com Path InCom InPath)
     (p : Parameters) (claims : List (CommitmentClaim E InCom)) (proof : Proof F E Com Path InPath)
   where
+    -- of the proofs of work, from the challenger's state `c`
+    abbrev pub WorkFault : (c : C) → FriError A B → Type 0
+    WorkFault c (InvalidPowWitness phase) = DoNotPass s p claims proof c phase
+    WorkFault c (NonCanonicalPowWitness phase) =
+        IsNotCanonical p proof s.fields.base.zero phase
+    WorkFault c _ = ⊥
+
+    -- of the openings, at these positions and with these folding challenges
+    module _ (alpha : E) (betas : List E) (positions : List ℕ) where
+      abbrev pub RoundsFault : FriError A B → Type 0
+      RoundsFault (CommitPhaseMmcsError _) =
+          Any (λ (k, opening). ¬ OpensRound s p claims proof alpha betas positions k opening)
+          (zip (range_with_len 0 (length (log_arities p claims)))
+          (zip proof.commitments proof.rounds))
+      RoundsFault FinalPolyMismatch =
+          SomeIndex positions (EndsElsewhere s p claims proof alpha betas positions)
+      RoundsFault _ = ⊥
+
+      abbrev pub OpeningsFault : FriError A B → Type 0
+      OpeningsFault e =
+          InputFault s.fields p.log_blowup alpha (top_height p claims) claims proof.inputs
+          s.opens_input positions e
+          ⊎ RoundsFault e
+
     -- of the low-degree test, from the challenger's state `c` and with the batching challenge
-    -- `alpha`
+    -- `alpha`: a fault of what is asked for, of the proof's lengths, of its proofs of work, of the
+    -- openings, or want of memory
     abbrev pub Stands : (c : C) (alpha : E) → FriError A B → Type 0
-    Stands c alpha (CommitPhaseOpeningsCountMismatch expected got) =
-        IsWrong (length (log_arities p claims)) (length proof.rounds) expected got
-    Stands c alpha (CommitRoundCountMismatch expected got) =
-        IsWrong (length (log_arities p claims)) (length proof.commitments) expected got
-    Stands c alpha (CommitPhaseQueryCountMismatch round expected got) =
-        At round (λ r. IsWrong p.num_queries (length r.siblings) expected got) proof.rounds
-    Stands c alpha (CommitPowWitnessCountMismatch expected got) =
-        IsWrong (length (log_arities p claims)) (length proof.commit_witnesses) expected got
-    Stands c alpha (FinalPolyLengthMismatch expected got) =
-        IsWrong (2 ^ p.log_final_poly_len) (length proof.final_poly) expected got
-    Stands c alpha ZeroQueries = p.num_queries ≡ 0
-    Stands c alpha NoCommittedMatrices = matrices_of claims ≡ []
-    Stands c alpha ZeroFoldingArity = p.max_log_arity ≡ 0
-    Stands c alpha ZeroBlowup = p.log_blowup ≡ 0
-    Stands c alpha (GlobalMaxHeightTooLarge log_height two_adicity) =
-        (log_height ≡ top_height p claims) × (two_adicity ≡ s.fields.two_adicity)
-        × (two_adicity < log_height)
-    Stands c alpha (SiblingValuesLengthMismatch round expected got) =
-        At round (λ r. Any (λ row. IsWrong (2 ^ slice_index (log_arities p claims) round - 1)
-        (length row) expected got) r.siblings) proof.rounds
-    Stands c alpha (FinalFoldHeightMismatch expected got) =
-        IsWrong (final_height p) (top_height p claims - sum (log_arities p claims)) expected got
-    Stands c alpha (UnconsumedReducedOpenings next remaining) =
-        IsUnconsumed (reaches (log_arities p claims) (top_height p claims)) next remaining
-        (heights_of p.log_blowup (matrices_of claims))
-    Stands c alpha (CommitPhaseMmcsError _) =
-        Any (λ (k, opening). ¬ OpensRound s p claims proof c alpha k opening)
-        (zip (range_with_len 0 (length (log_arities p claims)))
-        (zip proof.commitments proof.rounds))
-    Stands c alpha (InvalidPowWitness phase) = DoNotPass s p claims proof c phase
-    Stands c alpha (NonCanonicalPowWitness phase) = IsNotCanonical s p claims proof phase
-    Stands c alpha FinalPolyMismatch =
-        SomeIndex (positions s p claims proof c) (EndsElsewhere s p claims proof c alpha)
-        ⊎ IsConstantWrong s.fields p.log_blowup alpha (top_height p claims) claims proof.inputs
-        (positions s p claims proof c)
-    Stands c alpha OutOfMemory = ⊤
     Stands c alpha e =
-        InputFault s.fields p.log_blowup alpha (top_height p claims) claims proof.inputs
-        s.opens_input (positions s p claims proof c) e
+        InstanceFault p claims s.fields.two_adicity e
+        ⊎ CountFault p (log_arities p claims) proof e
+        ⊎ WorkFault c e
+        ⊎ OpeningsFault alpha (test_replay s p claims proof c).betas
+        (positions s p claims proof c) e
+        ⊎ (e ≡ OutOfMemory)
 
     -- of the scheme around the test, from the state in which it begins
     abbrev pub StandsInScheme : (c : C) → FriError A B → Type 0

@@ -42,10 +42,12 @@ module _ {E InCom Domain : Type 0} (log_size : Domain → ℕ) where
 
 -- what the rounds open, of a scheme `M` of commitments `Com` and proofs `Path`
 module _ {E M Com Data Path Err : Type 0} where
+  abbrev pub round_opened : CommitPhaseMultiStep E M Com Data Path Err → RoundOpening E Path
+  round_opened o = record { siblings = lists o.sibling_values.items; path = o.opening_proof }
+
   abbrev pub rounds_opened : List (CommitPhaseMultiStep E M Com Data Path Err)
       → List (RoundOpening E Path)
-  rounds_opened openings =
-      map (λ o. record { siblings = lists o.sibling_values.items; path = o.opening_proof }) openings
+  rounds_opened openings = map round_opened openings
 
   -- the siblings alone, by round and query
   abbrev pub siblings_opened : List (CommitPhaseMultiStep E M Com Data Path Err)
