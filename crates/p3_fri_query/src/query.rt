@@ -147,20 +147,30 @@ fn check_inputs<E: Copy, A, B>(
     }
 }
 
-/// Folds one query through the rounds that have a challenge, a log arity and an opening, from the
-/// first of the reduced openings on, and answers the value that it ends at. `start_index` is its
-/// position, which is shifted right by their log arities, and each round's collectors gain the row
-/// that it folds: its index, and its values.
+/// Folds one query through the rounds that have a challenge, a log arity and an opening, and
+/// answers the value at which it ends (the query phase of FRI, ICALP 2018; further words are rolled
+/// in as in the crate p3-fri).
 ///
-/// A refusal names what isn't in order: a log arity that isn't from 1 to 63, a round that doesn't
-/// open the query's row of one value less than its arity, log arities that sum to more than the
-/// distance between the two heights, rounds that don't end at the final one, and reduced openings
-/// whose log heights aren't the greatest and then falling ones to which the rounds fold. After a
-/// refusal the index and the collectors are of no use.
+/// The reduced openings are the values of the query's words, by log height. The way begins with the
+/// first, at the position `start_index` of a word of log height `log_global_max_height`. A round of
+/// log arity `a` folds the row that has the value at its place `start_index % 2^a` and the query's
+/// siblings, in order, elsewhere. It shifts `start_index` right by `a`, and where there is a reduced
+/// opening of the log height that it reaches, adds that times the challenge to the power `2^a`. Its
+/// collectors gain the row: its index, and its values as those of the only matrix.
+///
+/// Refused are a log arity that isn't from 1 to 63 (`FoldScheduleArityOutOfRange`), a round that
+/// doesn't open a row of the query (`CommitPhaseQueryCountMismatch`) or one of other than `2^a - 1`
+/// values (`SiblingValuesLengthMismatch`), log arities whose sum is more than the distance between
+/// the two log heights (`FoldScheduleTooLong`), no reduced opening (`MissingInitialReducedOpening`)
+/// or a first one of another than the greatest log height (`InitialReducedOpeningHeightMismatch`),
+/// rounds that don't end at the final log height (`FinalFoldHeightMismatch`), and further reduced
+/// openings whose log heights don't fall or to which no round folds (`UnconsumedReducedOpenings`).
+/// `OutOfMemory` says that memory was refused. After a refusal `start_index` and the collectors are
+/// of no use.
 ///
 /// There is an entry for each log arity in both collectors, the query's number is below the
-/// greatest `usize`, the greatest height is at most the strategy's, and the position is below 2 to
-/// it.
+/// greatest `usize`, the greatest log height is at most the strategy's, and the position is below 2
+/// to it.
 pub fn fold_query<
     F: TwoAdicField,
     EF: ExtensionField<F>,
@@ -190,7 +200,7 @@ pub fn fold_query<
         result ≢ Err OutOfMemory → (IsOk result ↔ IsInOrder q) }
     ensures refusal { let q = query_input query start_index.old betas.now log_arities.now
         commit_phase_openings.now reduced_openings.items log_global_max_height log_final_height in
-        IfErr result (λ e. (e ≡ OutOfMemory) ⊎ QueryFault q e) }
+        IfErr result (QueryFault q) }
     ensures value { let q = query_input query start_index.old betas.now log_arities.now
         commit_phase_openings.now reduced_openings.items log_global_max_height log_final_height in
         IfOk result (λ value. value ≡ folded_value q EF.ops (S.row_fold folding.now)) }

@@ -1,4 +1,4 @@
-use Rattle.std.proofs.Common.{inr, List, refl, sym, ap, ◌∙◌, map, [], ◌∷◌}
+use Rattle.std.proofs.Common.{List, refl, sym, ap, ◌∙◌, map, [], ◌∷◌}
 use Rattle.p3_fri_relation.specs.FoldedQuery.{gains}
 use Rattle.p3_fri_relation.specs.Views.{query_input, rows_collected}
 use Rattle.p3_fri_query.proofs.Lists.{range_take, have_take}
@@ -8,7 +8,7 @@ use Rattle.p3_fri_query.proofs.query.fold_query.Goals as goal
 pub returns-in_err-check_rounds-clause-refusal : goal.returns-in_err-check_rounds-clause-refusal
 returns-in_err-check_rounds-clause-refusal g c =
     handed_on _ c.from_residual.result c.in_err-check_rounds.field-0.0 c.from_residual.ensures
-    (inr (c.in_err-check_rounds.ensures.fault c.args.start_index.now c.args.betas.now c.args.reduced_openings.items))
+    (c.in_err-check_rounds.ensures.fault c.args.start_index.now c.args.betas.now c.args.reduced_openings.items)
 
 pub returns-in_err-first-clause-exact : goal.returns-in_err-first-clause-exact
 returns-in_err-first-clause-exact g c =
@@ -24,8 +24,8 @@ returns-in_err-first-clause-refusal g c =
     let q = query_input c.args.query c.args.start_index.now c.args.betas.now c.args.log_arities.now
     c.args.commit_phase_openings.now c.args.reduced_openings.items c.args.log_global_max_height c.args.log_final_height in
     handed_on _ c.from_residual-in_err-first.result c.in_err-first.field-0.0 c.from_residual-in_err-first.ensures
-    (inr (c.in_err-first.ensures.fault q (sym c.folded_arities-folded.ensures)
-    (sym c.as_slice-inputs.ensures.value) refl refl))
+    (c.in_err-first.ensures.fault q (sym c.folded_arities-folded.ensures)
+    (sym c.as_slice-inputs.ensures.value) refl refl)
 
 pub fold_rounds-requires-clause-range : goal.fold_rounds-requires-clause-range
 fold_rounds-requires-clause-range g c =
