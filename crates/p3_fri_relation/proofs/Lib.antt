@@ -2,5 +2,8 @@ pub mod ClaimedHeights
 mod Example
 pub mod InstanceQueries
 pub mod Instances
+pub mod LowHeights
 pub mod QueryLinks
 pub mod ScheduledRounds
+pub mod TestReplays
+pub mod ZippedLists
