@@ -16,8 +16,12 @@ use Rattle.p3_fri_relation.specs.Queries.{rounds_of, row_indices, siblings_at, l
 use Rattle.algebra.specs.Nested.{lists}
 use Rattle.p3_fri_relation.specs.declared.proof.CommitPhaseMultiStep.{CommitPhaseMultiStep}
 use Rattle.p3_fri_relation.specs.Views.{siblings_opened, rounds_opened, query_input}
+use Rattle.std.specs.List.{sum}
+use Rattle.std.proofs.Common.{◌/◌, ◌-◌}
+use Rattle.std.proofs.lemmas.List.{length-map}
+use Rattle.p3_fri_relation.proofs.QueryLinks.{chain-index, chain-log_height, row_fits}
 use Rattle.p3_fri_relation.specs.Queries.{inputs_of, first_link}
-use Rattle.algebra.specs.Rounds.{Round, chain, chain_rows}
+use Rattle.algebra.specs.Rounds.{Round, Link, chain, chain_rows}
 use Rattle.p3_fri_relation.specs.FoldedQuery.{QueryInput, HaveRows, AreMet, reaches}
 use Rattle.p3_fri_relation.specs.FoldedQuery.{value_at, folded, AreInputsMet, IsInOrder, folded_value}
 use Rattle.p3_fri_relation.specs.FoldedQuery.{group_indices, group_rows, siblings_of_query, start}
@@ -220,3 +224,32 @@ module _ {E M Com Data Path Err : Type 0} where
       ∙ ap (λ sums. make (log_arities p claims) (map (λ r. r.siblings) proof.rounds) sums log_height final) same_inputs
       ∙ ap (λ h. make (log_arities p claims) (map (λ r. r.siblings) proof.rounds) (sums_at s.fields p.log_blowup alpha (top_height p claims) claims proof.inputs j position) h final) same_height
       ∙ ap (λ f. make (log_arities p claims) (map (λ r. r.siblings) proof.rounds) (sums_at s.fields p.log_blowup alpha (top_height p claims) claims proof.inputs j position) (top_height p claims) f) same_final
+
+-- where the query of an instance ends
+module _ {F E C Com Path InCom InPath : Type 0} (s : Setting F E C Com Path InCom InPath)
+    (p : Parameters) (claims : List (CommitmentClaim E InCom)) (proof : Proof F E Com Path InPath)
+    (alpha : E) (betas : List E) (j position two_adicity : ℕ) (ranged : IsInRange p claims two_adicity)
+    (counts : AllZip (HasSiblings p.num_queries) (log_arities p claims) proof.rounds) (drawn : length betas ≡ length (log_arities p claims)) where
+  abbrev last : Link E
+  last = last_link s p alpha (top_height p claims) claims proof (rounds_of (log_arities p claims) betas) j position
+
+  opened_each : length (siblings_at j proof.rounds) ≡ length (log_arities p claims)
+  opened_each = length-map proof.rounds (λ r. get_or r.siblings j []) ∙ length_zipped (HasSiblings p.num_queries) (log_arities p claims) proof.rounds counts
+
+  pub last-index : last.index ≡ position / 2 ^ sum (log_arities p claims)
+  last-index = chain-index s.fields.ext s.fold (inputs_of s p alpha (top_height p claims) claims proof (rounds_of (log_arities p claims) betas) j position)
+      (log_arities p claims) betas (siblings_at j proof.rounds) (first_link s p alpha (top_height p claims) claims proof (rounds_of (log_arities p claims) betas) j position) drawn opened_each
+
+  pub last-log_height : last.log_height ≡ final_height p
+  last-log_height =
+      chain-log_height s.fields.ext s.fold (inputs_of s p alpha (top_height p claims) claims proof (rounds_of (log_arities p claims) betas) j position)
+      (log_arities p claims) betas (siblings_at j proof.rounds) (first_link s p alpha (top_height p claims) claims proof (rounds_of (log_arities p claims) betas) j position) drawn opened_each
+      ∙ (let whole = instance_sum p claims two_adicity ranged in omega arith)
+
+  -- at an index of the word of the final log height
+  pub last-below : position < 2 ^ top_height p claims → last.index < 2 ^ final_height p
+  last-below below =
+      let whole = instance_sum p claims two_adicity ranged in
+      let left : top_height p claims - sum (log_arities p claims) ≡ final_height p = omega arith in
+      let fits = row_fits (top_height p claims) (sum (log_arities p claims)) position (omega arith) below in
+      rw last-index (rw left at fits)

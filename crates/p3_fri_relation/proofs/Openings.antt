@@ -11,8 +11,11 @@ use Rattle.p3_fri_relation.specs.Heights.{matrices_of}
 use Rattle.p3_fri_relation.specs.Inputs.{HasPoints, AreInputsGood}
 use Rattle.p3_fri_relation.specs.Queries.{inputs_of, first_link, last_link, rows_folded, siblings_at}
 use Rattle.p3_fri_relation.specs.Queries.{final_value, row_indices}
-use Rattle.p3_fri_relation.specs.Acceptance.{top_height, RoundsOpen}
-use Rattle.p3_fri_relation.specs.Acceptance.{last_of_query, AreOpeningsGood}
+use Rattle.p3_fri_relation.specs.Acceptance.{top_height, log_arities, RoundsOpen}
+use Rattle.p3_fri_relation.specs.Acceptance.{OpensRound, last_of_query, AreOpeningsGood}
+use Rattle.p3_fri_relation.specs.Setting.{RoundOpening}
+use Rattle.std.proofs.Common.{◌<◌, zero-add, subst}
+use Rattle.p3_fri_relation.proofs.ZippedLists.{numbered-from, numbered-at}
 
 module _ {F E C Com Path InCom InPath : Type 0} (s : Setting F E C Com Path InCom InPath)
     (p : Parameters) (claims : List (CommitmentClaim E InCom)) (proof : Proof F E Com Path InPath)
@@ -86,3 +89,25 @@ gathered_row [] zero = refl
 gathered_row [] (suc k) = refl
 gathered_row (row ∷ rows) zero = refl
 gathered_row (row ∷ rows) (suc k) = gathered_row rows k
+
+-- the rounds' openings, by place
+module _ {F E C Com Path InCom InPath : Type 0} (s : Setting F E C Com Path InCom InPath)
+    (p : Parameters) (claims : List (CommitmentClaim E InCom)) (proof : Proof F E Com Path InPath)
+    (alpha : E) (betas : List E) (positions : List ℕ) where
+  abbrev round_count : ℕ
+  round_count = length (log_arities p claims)
+
+  pub rounds_open-from : length proof.commitments ≡ round_count → length proof.rounds ≡ round_count
+      → ((k : ℕ) (commitment : Com) (r : RoundOpening E Path) → k < round_count → get_or proof.commitments k commitment ≡ commitment
+      → get_or proof.rounds k r ≡ r → OpensRound s p claims proof alpha betas positions k (commitment, r))
+      → RoundsOpen s p claims proof alpha betas positions
+  rounds_open-from committed opened each =
+      numbered-from (OpensRound s p claims proof alpha betas positions) 0 round_count proof.commitments proof.rounds committed opened
+      (λ k commitment r inside is_commitment is_r. rw (zero-add k) (each k commitment r inside is_commitment is_r))
+
+  pub rounds_open-at : RoundsOpen s p claims proof alpha betas positions
+      → (k : ℕ) (commitment : Com) (r : RoundOpening E Path) → k < round_count → get_or proof.commitments k commitment ≡ commitment
+      → get_or proof.rounds k r ≡ r → OpensRound s p claims proof alpha betas positions k (commitment, r)
+  rounds_open-at opened k commitment r inside is_commitment is_r =
+      let P : ℕ → Type 0 = λ i. OpensRound s p claims proof alpha betas positions i (commitment, r) in
+      subst P (zero-add k) (numbered-at (OpensRound s p claims proof alpha betas positions) 0 round_count proof.commitments proof.rounds k commitment r opened inside is_commitment is_r)
