@@ -1,22 +1,28 @@
 -- A query of a proof whose lengths are right, as one that is folded by itself: it is in order, and
 -- its value and rows are those of the query's way.
-use Rattle.std.proofs.Common.{◌≡◌, ℕ, zero, suc, ◌+◌, ◌-◌, ◌^◌, ◌<◌, ◌≤◌, min, inl, inr, List, [], ◌∷◌}
-use Rattle.std.proofs.Common.{◌++◌, length, take, map, get_or, Bool, true, false, Option, Some, None}
-use Rattle.std.proofs.Common.{eqb, if◌then◌else◌, refl, sym, ap, ◌∙◌, subst, arith}
+use Rattle.std.proofs.Common.{◌≡◌, ℕ, zero, suc, ◌^◌, ◌<◌, ◌≤◌, min, inl, inr, List, [], ◌∷◌}
+use Rattle.std.proofs.Common.{◌++◌, length, map, get_or, Bool, true, false, Option, Some, None}
+use Rattle.std.proofs.Common.{if◌then◌else◌, refl, sym, ap, ◌∙◌, subst, arith}
 use mathlib.Core.Path.{fun_ext}
-use Rattle.std.specs.List.{All, AllZip, sum}
-use Rattle.std.proofs.lemmas.Bool.{eqb-true, eq-eqb, ne_eqb}
+use Rattle.std.specs.List.{All, AllZip}
+use Rattle.std.proofs.lemmas.Bool.{eq-eqb, ne_eqb}
 use Rattle.std.proofs.lemmas.Bool.Decides.{leb_tells}
-use Rattle.std.proofs.lemmas.List.{take_all, length-map}
-use Rattle.std.proofs.lemmas.List.Elements.{All-head}
+use Rattle.std.proofs.lemmas.List.{take_all}
 use Rattle.p3_fri_relation.specs.Setting.{Setting, Parameters, MatrixClaim, CommitmentClaim, Proof}
 use Rattle.p3_fri_relation.specs.Setting.{RoundOpening, final_height}
 use Rattle.p3_fri_relation.specs.Heights.{matrices_of, greatest_height, heights_below, heights_of, has_height}
-use Rattle.p3_fri_relation.specs.Inputs.{sum_at, input_met, sums_at}
+use Rattle.p3_fri_relation.specs.Inputs.{sum_at, sums_at}
 use Rattle.p3_fri_relation.specs.Queries.{rounds_of, row_indices, siblings_at, last_link, rows_folded}
+use Rattle.algebra.specs.Nested.{lists}
+use Rattle.p3_fri_relation.specs.declared.proof.CommitPhaseMultiStep.{CommitPhaseMultiStep}
+use Rattle.p3_fri_relation.specs.Views.{siblings_opened, rounds_opened, query_input}
+use Rattle.std.specs.List.{sum}
+use Rattle.std.proofs.Common.{◌/◌, ◌-◌}
+use Rattle.std.proofs.lemmas.List.{length-map}
+use Rattle.p3_fri_relation.proofs.QueryLinks.{chain-index, chain-log_height, row_fits}
 use Rattle.p3_fri_relation.specs.Queries.{inputs_of, first_link}
 use Rattle.algebra.specs.Rounds.{Round, Link, chain, chain_rows}
-use Rattle.p3_fri_relation.specs.FoldedQuery.{QueryInput, AreInRange, HaveRows, AreMet, reaches}
+use Rattle.p3_fri_relation.specs.FoldedQuery.{QueryInput, HaveRows, AreMet, reaches}
 use Rattle.p3_fri_relation.specs.FoldedQuery.{value_at, folded, AreInputsMet, IsInOrder, folded_value}
 use Rattle.p3_fri_relation.specs.FoldedQuery.{group_indices, group_rows, siblings_of_query, start}
 use Rattle.p3_fri_relation.specs.Acceptance.{IsInRange, HasSiblings, top_height, log_arities}
@@ -183,3 +189,67 @@ module _ {F E C Com Path InCom InPath : Type 0} (s : Setting F E C Com Path InCo
           ∙ ap (λ arities. chain_rows s.fields.ext s.fold met (rounds_of arities betas) (siblings_of_query query_of s.fields.ext s.fold) (start query_of s.fields.ext s.fold)) (query-folded counts drawn)
           ∙ ap (λ siblings. chain_rows s.fields.ext s.fold met query_rounds siblings (start query_of s.fields.ext s.fold)) (siblings_same j proof.rounds)
           ∙ ap (λ link. chain_rows s.fields.ext s.fold met query_rounds (siblings_at j proof.rounds) link) query-start
+
+-- a query as the call sees it, whose siblings stand in vectors
+module _ {E M Com Data Path Err : Type 0} where
+  pub siblings-of_rounds : (openings : List (CommitPhaseMultiStep E M Com Data Path Err))
+      → siblings_opened openings ≡ map (λ r. r.siblings) (rounds_opened openings)
+  siblings-of_rounds [] = refl
+  siblings-of_rounds (o ∷ openings) = ap (λ rest. lists o.sibling_values.items ∷ rest) (siblings-of_rounds openings)
+
+  -- where its rounds are those of the proof, its log arities the schedule's and its inputs the
+  -- quotient sums, it is the proof's query
+  pub query_input-is : {F C InCom InPath : Type 0} (s : Setting F E C Com Path InCom InPath)
+      (p : Parameters) (claims : List (CommitmentClaim E InCom)) (proof : Proof F E Com Path InPath)
+      (alpha : E) (betas : List E) (j position : ℕ)
+      (openings : List (CommitPhaseMultiStep E M Com Data Path Err)) (arities : List ℕ) (inputs : List (ℕ × E)) (log_height final : ℕ)
+      → proof.rounds ≡ rounds_opened openings → arities ≡ log_arities p claims
+      → inputs ≡ sums_at s.fields p.log_blowup alpha (top_height p claims) claims proof.inputs j position
+      → log_height ≡ top_height p claims → final ≡ final_height p
+      → query_input j position betas arities openings inputs log_height final ≡ query_of s p claims proof alpha betas j position
+  query_input-is s p claims proof alpha betas j position openings arities inputs log_height final same_rounds same_arities same_inputs same_height same_final =
+      let siblings = siblings-of_rounds openings ∙ ap (λ rs. map (λ r. r.siblings) rs) (sym same_rounds) in
+      let make : List ℕ → List (List (List E)) → List (ℕ × E) → ℕ → ℕ → QueryInput E = λ ars rows sums h f. record {
+        query = j;
+        index = position;
+        betas = betas;
+        log_arities = ars;
+        siblings = rows;
+        inputs = sums;
+        log_height = h;
+        final_height = f;
+      } in
+      ap (λ ars. make ars (siblings_opened openings) inputs log_height final) same_arities
+      ∙ ap (λ rows. make (log_arities p claims) rows inputs log_height final) siblings
+      ∙ ap (λ sums. make (log_arities p claims) (map (λ r. r.siblings) proof.rounds) sums log_height final) same_inputs
+      ∙ ap (λ h. make (log_arities p claims) (map (λ r. r.siblings) proof.rounds) (sums_at s.fields p.log_blowup alpha (top_height p claims) claims proof.inputs j position) h final) same_height
+      ∙ ap (λ f. make (log_arities p claims) (map (λ r. r.siblings) proof.rounds) (sums_at s.fields p.log_blowup alpha (top_height p claims) claims proof.inputs j position) (top_height p claims) f) same_final
+
+-- where the query of an instance ends
+module _ {F E C Com Path InCom InPath : Type 0} (s : Setting F E C Com Path InCom InPath)
+    (p : Parameters) (claims : List (CommitmentClaim E InCom)) (proof : Proof F E Com Path InPath)
+    (alpha : E) (betas : List E) (j position two_adicity : ℕ) (ranged : IsInRange p claims two_adicity)
+    (counts : AllZip (HasSiblings p.num_queries) (log_arities p claims) proof.rounds) (drawn : length betas ≡ length (log_arities p claims)) where
+  abbrev last : Link E
+  last = last_link s p alpha (top_height p claims) claims proof (rounds_of (log_arities p claims) betas) j position
+
+  opened_each : length (siblings_at j proof.rounds) ≡ length (log_arities p claims)
+  opened_each = length-map proof.rounds (λ r. get_or r.siblings j []) ∙ length_zipped (HasSiblings p.num_queries) (log_arities p claims) proof.rounds counts
+
+  pub last-index : last.index ≡ position / 2 ^ sum (log_arities p claims)
+  last-index = chain-index s.fields.ext s.fold (inputs_of s p alpha (top_height p claims) claims proof (rounds_of (log_arities p claims) betas) j position)
+      (log_arities p claims) betas (siblings_at j proof.rounds) (first_link s p alpha (top_height p claims) claims proof (rounds_of (log_arities p claims) betas) j position) drawn opened_each
+
+  pub last-log_height : last.log_height ≡ final_height p
+  last-log_height =
+      chain-log_height s.fields.ext s.fold (inputs_of s p alpha (top_height p claims) claims proof (rounds_of (log_arities p claims) betas) j position)
+      (log_arities p claims) betas (siblings_at j proof.rounds) (first_link s p alpha (top_height p claims) claims proof (rounds_of (log_arities p claims) betas) j position) drawn opened_each
+      ∙ (let whole = instance_sum p claims two_adicity ranged in omega arith)
+
+  -- at an index of the word of the final log height
+  pub last-below : position < 2 ^ top_height p claims → last.index < 2 ^ final_height p
+  last-below below =
+      let whole = instance_sum p claims two_adicity ranged in
+      let left : top_height p claims - sum (log_arities p claims) ≡ final_height p = omega arith in
+      let fits = row_fits (top_height p claims) (sum (log_arities p claims)) position (omega arith) below in
+      rw last-index (rw left at fits)

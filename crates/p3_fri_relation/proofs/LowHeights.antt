@@ -1,9 +1,8 @@
 -- An input below the final log height isn't met by the rounds: which of them is left, and how many.
-use Rattle.std.proofs.Common.{◌≡◌, ℕ, zero, suc, ◌+◌, ◌-◌, ◌<◌, ◌≤◌, inl, inr, List, [], ◌∷◌, ◌++◌}
-use Rattle.std.proofs.Common.{length, take, drop, get_or, Bool, true, false, nat_lt, refl, sym, ap, ◌∙◌, subst, arith}
-use Rattle.std.specs.List.{All, sum, filter}
+use Rattle.std.proofs.Common.{◌≡◌, ℕ, suc, ◌+◌, ◌-◌, ◌<◌, ◌≤◌, inl, inr, List, [], ◌∷◌, ◌++◌}
+use Rattle.std.proofs.Common.{length, take, drop, get_or, Bool, false, refl, sym, ap, ◌∙◌, subst, arith}
+use Rattle.std.specs.List.{All, sum}
 use Rattle.std.proofs.lemmas.Bool.{ne_eqb}
-use Rattle.std.proofs.lemmas.List.Elements.{All-nil, All-cons, All-head, All-tail, All-same}
 use Rattle.std.proofs.lemmas.List.Sums.{sum_by-cons}
 use Rattle.p3_fri_folding.specs.Schedule.{IsStrictlyFalling, schedule, rounds_through}
 use Rattle.p3_fri_folding.proofs.Rounds.{FallsFrom, stops_below, stops_below-above, stops_below-low}

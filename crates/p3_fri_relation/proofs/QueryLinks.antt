@@ -1,5 +1,5 @@
 -- Where a chain stands after its rounds, and that each round's row lies in the word that it folds.
-use Rattle.std.proofs.Common.{◌≡◌, ℕ, zero, suc, ◌+◌, ◌-◌, ◌*◌, ◌/◌, ◌^◌, ◌<◌, ◌≤◌, List, [], ◌∷◌}
+use Rattle.std.proofs.Common.{◌≡◌, ℕ, zero, suc, ◌+◌, ◌-◌, ◌/◌, ◌^◌, ◌<◌, ◌≤◌, List, [], ◌∷◌}
 use Rattle.std.proofs.Common.{length, get_or, Option, refl, sym, ap, ◌∙◌, arith}
 use Rattle.std.specs.List.{sum}
 use Rattle.std.proofs.Common.{pow_pos}
@@ -7,7 +7,7 @@ use Rattle.std.proofs.Math.Nat.{div-one, div-lt_iff_lt-mul, div-div-eq-div-mul}
 use Rattle.std.proofs.lemmas.Nat.{pow-add}
 use Rattle.std.proofs.lemmas.List.Sums.{sum_by-cons}
 use Rattle.algebra.specs.Field.{FieldOps}
-use Rattle.algebra.specs.Rounds.{Round, Link, next_link, chain, chain_rows}
+use Rattle.algebra.specs.Rounds.{Link, next_link, chain, chain_rows}
 use Rattle.p3_fri_relation.specs.Queries.{rounds_of, heights_after, row_indices}
 
 -- shifting by one number of bits and then by another

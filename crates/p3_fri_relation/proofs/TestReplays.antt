@@ -1,7 +1,7 @@
 -- The replay of a test by its rounds and its queries: what is drawn, how many, and where positions
 -- lie.
-use Rattle.std.proofs.Common.{◌≡◌, ℕ, zero, suc, ◌+◌, ◌/◌, ◌^◌, ◌<◌, Bool, ◌&&◌, List, [], ◌∷◌, length}
-use Rattle.std.proofs.Common.{map, refl, sym, ap, ◌∙◌, arith, pow_pos}
+use Rattle.std.proofs.Common.{◌≡◌, ℕ, zero, suc, ◌+◌, ◌/◌, ◌^◌, ◌<◌, ◌&&◌, List, [], ◌∷◌, length}
+use Rattle.std.proofs.Common.{refl, ap, ◌∙◌, arith, pow_pos}
 use Rattle.std.specs.List.{All}
 use Rattle.std.proofs.Math.Nat.{div-lt_iff_lt-mul}
 use Rattle.std.proofs.lemmas.Nat.{pow-add}
@@ -9,9 +9,8 @@ use Rattle.std.proofs.lemmas.List.{length-map}
 use Rattle.std.proofs.lemmas.List.Elements.{All-map, All-weaker}
 use Rattle.p3_challenger.specs.Run.{Moves, After, draws}
 use Rattle.p3_fri_transcript.specs.Replay.{rounds_replay, round_replay, shown_queries_replay, fri_replay}
-use Rattle.p3_fri_transcript.specs.Indices.{AreIndices}
 use Rattle.p3_fri_relation.specs.Setting.{Setting, Parameters, CommitmentClaim, Proof}
-use Rattle.p3_fri_relation.specs.Acceptance.{top_height, fri_numbers, test_replay, rounds_replayed}
+use Rattle.p3_fri_relation.specs.Acceptance.{top_height, test_replay, rounds_replayed}
 use Rattle.p3_fri_relation.specs.Acceptance.{queries_replayed, positions}
 
 module _ {C F E Com : Type 0} (m : Moves C F E Com) where

@@ -1,9 +1,9 @@
 -- What holds of each two elements that stand beside each other, by their place.
-use Rattle.std.proofs.Common.{◌≡◌, ℕ, zero, suc, ◌+◌, ◌<◌, List, [], ◌∷◌, ◌++◌, length, map, get_or}
+use Rattle.std.proofs.Common.{◌≡◌, ℕ, zero, suc, ◌+◌, ◌<◌, List, [], ◌∷◌, ◌++◌, length, get_or}
 use Rattle.std.proofs.Common.{refl, sym, ap, ◌∙◌, arith}
 use Rattle.std.specs.List.{AllZip, zip, range_with_len}
 use Rattle.algebra.specs.Polynomial.{tabulate}
-use Rattle.algebra.proofs.Lists.{tabulate-equal, tabulate-next, tabulate-get_or, map-tabulate}
+use Rattle.algebra.proofs.Lists.{tabulate-equal, tabulate-next}
 use Rattle.p3_fri_relation.specs.FoldedQuery.{gains}
 
 module _ {A B : Type 0} (R : A → B → Type 0) where

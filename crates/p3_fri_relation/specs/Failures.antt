@@ -7,18 +7,16 @@ use test_failure.TheVariants.{FinalPolyLen}
 use test_failure.TheVariants.{CommitRoundCount}
 use test_failure.TheVariants.{CommitPowWitnessCount}
 use test_failure.TheVariants.{OutOfMemory as no_memory}
-use Rattle.p3_fri_pcs_transcript.specs.declared.pcs_transcript.failure.PcsTranscriptFailure as pcs_failure
-use pcs_failure.TheVariants.{ClaimedEvaluationCount}
-use pcs_failure.TheVariants.{PowWitness as wrong_witness}
-use pcs_failure.TheVariants.{MissingPowWitness as no_witness}
-use pcs_failure.TheVariants.{OutOfMemory as no_memory_left}
+use Rattle.p3_fri_pcs_transcript.specs.declared.pcs_transcript.failure.PcsTranscriptFailure as Why
+use Why.TheVariants.{ClaimedEvaluationCount}
+use Why.TheVariants.{PowWitness as wrong_witness}
+use Why.TheVariants.{MissingPowWitness as no_witness}
+use Why.TheVariants.{OutOfMemory as no_memory_left}
 use Rattle.p3_fri_relation.specs.declared.error.FriError.{FriError}
-use Rattle.p3_fri_relation.specs.declared.error.FriError.TheVariants.{CommitRoundCountMismatch}
-use Rattle.p3_fri_relation.specs.declared.error.FriError.TheVariants.{CommitPowWitnessCountMismatch}
-use Rattle.p3_fri_relation.specs.declared.error.FriError.TheVariants.{ClaimedEvaluationCountMismatch}
-use Rattle.p3_fri_relation.specs.declared.error.FriError.TheVariants.{FinalPolyLengthMismatch}
-use Rattle.p3_fri_relation.specs.declared.error.FriError.TheVariants.{InvalidPowWitness}
-use Rattle.p3_fri_relation.specs.declared.error.FriError.TheVariants.{OutOfMemory}
+use Rattle.p3_fri_relation.specs.declared.error.FriError as refusal
+use refusal.TheVariants.{CommitRoundCountMismatch, CommitPowWitnessCountMismatch}
+use refusal.TheVariants.{ClaimedEvaluationCountMismatch, FinalPolyLengthMismatch, InvalidPowWitness}
+use refusal.TheVariants.{OutOfMemory}
 
 module _ {A B : Type 0} where
   -- of the low-degree test's transcript
@@ -31,7 +29,7 @@ module _ {A B : Type 0} where
   of_transcript no_memory = OutOfMemory
 
   -- of the transcript around it
-  abbrev pub of_pcs_transcript : pcs_failure.PcsTranscriptFailure → FriError A B
+  abbrev pub of_pcs_transcript : Why.PcsTranscriptFailure → FriError A B
   of_pcs_transcript (ClaimedEvaluationCount opening expected got) =
       ClaimedEvaluationCountMismatch opening expected got
   of_pcs_transcript (wrong_witness bits) = InvalidPowWitness Batch

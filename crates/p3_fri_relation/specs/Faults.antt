@@ -6,33 +6,19 @@ use Rattle.std.specs.List.{Any, zip, range_with_len}
 use Rattle.p3_fri_steps.specs.declared.pow_phase.PowPhase.{PowPhase}
 use Rattle.p3_fri_steps.specs.declared.pow_phase.PowPhase.TheVariants.{Batch, CommitPhase, Query}
 use Rattle.p3_fri_relation.specs.declared.error.FriError.{FriError}
-use Rattle.p3_fri_relation.specs.declared.error.FriError.TheVariants.{CommitPhaseOpeningsCountMismatch}
-use Rattle.p3_fri_relation.specs.declared.error.FriError.TheVariants.{CommitRoundCountMismatch}
-use Rattle.p3_fri_relation.specs.declared.error.FriError.TheVariants.{CommitPhaseQueryCountMismatch}
-use Rattle.p3_fri_relation.specs.declared.error.FriError.TheVariants.{InputOpeningsQueryCountMismatch}
-use Rattle.p3_fri_relation.specs.declared.error.FriError.TheVariants.{CommitPowWitnessCountMismatch}
-use Rattle.p3_fri_relation.specs.declared.error.FriError.TheVariants.{FinalPolyLengthMismatch}
-use Rattle.p3_fri_relation.specs.declared.error.FriError.TheVariants.{ZeroQueries}
-use Rattle.p3_fri_relation.specs.declared.error.FriError.TheVariants.{NoCommittedMatrices}
-use Rattle.p3_fri_relation.specs.declared.error.FriError.TheVariants.{ZeroFoldingArity, ZeroBlowup}
-use Rattle.p3_fri_relation.specs.declared.error.FriError.TheVariants.{MissingInitialReducedOpening}
-use Rattle.p3_fri_relation.specs.declared.error.FriError.TheVariants.{InitialReducedOpeningHeightMismatch}
-use Rattle.p3_fri_relation.specs.declared.error.FriError.TheVariants.{GlobalMaxHeightTooLarge}
-use Rattle.p3_fri_relation.specs.declared.error.FriError.TheVariants.{SiblingValuesLengthMismatch}
-use Rattle.p3_fri_relation.specs.declared.error.FriError.TheVariants.{FinalFoldHeightMismatch}
-use Rattle.p3_fri_relation.specs.declared.error.FriError.TheVariants.{FoldScheduleArityOutOfRange}
-use Rattle.p3_fri_relation.specs.declared.error.FriError.TheVariants.{FoldScheduleTooLong}
-use Rattle.p3_fri_relation.specs.declared.error.FriError.TheVariants.{UnconsumedReducedOpenings}
-use Rattle.p3_fri_relation.specs.declared.error.FriError.TheVariants.{InputProofBatchCountMismatch}
-use Rattle.p3_fri_relation.specs.declared.error.FriError.TheVariants.{BatchOpenedValuesCountMismatch}
-use Rattle.p3_fri_relation.specs.declared.error.FriError.TheVariants.{MatrixWithoutOpeningPoints}
-use Rattle.p3_fri_relation.specs.declared.error.FriError.TheVariants.{PointEvaluationCountMismatch}
-use Rattle.p3_fri_relation.specs.declared.error.FriError.TheVariants.{CommitPhaseMmcsError}
-use Rattle.p3_fri_relation.specs.declared.error.FriError.TheVariants.{InputError, FinalPolyMismatch}
-use Rattle.p3_fri_relation.specs.declared.error.FriError.TheVariants.{InvalidPowWitness}
-use Rattle.p3_fri_relation.specs.declared.error.FriError.TheVariants.{NonCanonicalPowWitness}
-use Rattle.p3_fri_relation.specs.declared.error.FriError.TheVariants.{OpeningPointMatchesQueryPoint}
-use Rattle.p3_fri_relation.specs.declared.error.FriError.TheVariants.{OutOfMemory}
+use Rattle.p3_fri_relation.specs.declared.error.FriError as refusal
+use refusal.TheVariants.{CommitPhaseOpeningsCountMismatch, CommitRoundCountMismatch}
+use refusal.TheVariants.{CommitPhaseQueryCountMismatch, InputOpeningsQueryCountMismatch}
+use refusal.TheVariants.{CommitPowWitnessCountMismatch, FinalPolyLengthMismatch, ZeroQueries}
+use refusal.TheVariants.{NoCommittedMatrices, ZeroFoldingArity, ZeroBlowup}
+use refusal.TheVariants.{MissingInitialReducedOpening, InitialReducedOpeningHeightMismatch}
+use refusal.TheVariants.{GlobalMaxHeightTooLarge, SiblingValuesLengthMismatch}
+use refusal.TheVariants.{FinalFoldHeightMismatch, FoldScheduleArityOutOfRange, FoldScheduleTooLong}
+use refusal.TheVariants.{UnconsumedReducedOpenings, InputProofBatchCountMismatch}
+use refusal.TheVariants.{BatchOpenedValuesCountMismatch, MatrixWithoutOpeningPoints}
+use refusal.TheVariants.{PointEvaluationCountMismatch, CommitPhaseMmcsError, InputError}
+use refusal.TheVariants.{FinalPolyMismatch, InvalidPowWitness, NonCanonicalPowWitness}
+use refusal.TheVariants.{OpeningPointMatchesQueryPoint, OutOfMemory}
 use Rattle.p3_fri_relation.specs.Setting.{Fields, Opening, Setting, Parameters}
 use Rattle.p3_fri_relation.specs.Setting.{CommitmentClaim, InputOpening, Proof}
 use Rattle.p3_fri_relation.specs.Setting.{final_height}
@@ -43,8 +29,7 @@ use Rattle.p3_fri_relation.specs.Queries.{final_value}
 use Rattle.p3_fri_relation.specs.FoldedQuery.{QueryInput, folded, last_height, reaches}
 use Rattle.p3_fri_relation.specs.Acceptance.{top_height, log_arities, positions, last_of_query}
 use Rattle.p3_fri_relation.specs.Acceptance.{OpensRound, rounds_replayed, queries_replayed}
-use Rattle.p3_fri_relation.specs.Acceptance.{test_replay}
-use Rattle.p3_fri_relation.specs.Acceptance.{batch_replayed}
+use Rattle.p3_fri_relation.specs.Acceptance.{test_replay, batch_replayed}
 
 -- the `i`-th element is there, and `P` holds of it
 abbrev pub At : {A : Type 0} → (i : ℕ) (P : A → Type 0) → List A → Type 0
