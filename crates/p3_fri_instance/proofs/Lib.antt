@@ -1,3 +1,6 @@
 pub mod Heights
+pub mod Instances
 pub mod Lists
+pub mod LowHeights
 pub mod Openings
+pub mod Sizes

@@ -1,4 +1,5 @@
--- The lengths of a proof's lists, without those of its rows, and what is wrong with one round's rows.
+-- The lengths of a proof's lists, without those of its rows, and what is wrong with one round's
+-- rows.
 use Rattle.std.specs.Prelude.{◌≡◌, ℕ, ◌-◌, ◌^◌, List, length}
 use Rattle.std.specs.List.{Any}
 use Rattle.p3_fri_relation.specs.declared.error.FriError.{FriError}

@@ -37,7 +37,7 @@ fn are_canonical<F: Field>(bits: usize, witnesses: &[F]) -> bool
     true
 }
 
-/// Whether each witness of a proof, whose proof of work has no bits by the parameters, is zero: only
+/// Whether each witness of a proof whose proof of work has no bits by the parameters is zero: only
 /// then a proof isn't one of many that differ in witnesses that nobody reads.
 ///
 /// # Errors

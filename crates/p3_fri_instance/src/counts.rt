@@ -47,8 +47,9 @@ fn check_lengths<F: Copy, EF: Copy, M: Mmcs<EF>, InputMmcs: Mmcs<F>>(
 }
 
 /// Whether a proof's lists have the lengths that its parameters and rounds of these log arities ask
-/// for: an opening, a commitment and a witness for each round, in each opening a row for each query,
-/// of one value less than the round's arity, and as many final coefficients as the parameters say.
+/// for: an opening, a commitment and a witness for each round, in each opening a row for each query
+/// that has one value less than the round's arity, and as many final coefficients as the parameters
+/// say.
 ///
 /// # Errors
 ///

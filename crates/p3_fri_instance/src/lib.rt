@@ -4,8 +4,11 @@
 #![tactic(auto)]
 
 mod canonical;
+mod claimed;
 mod counts;
+mod instance;
 mod siblings;
 
 pub use crate::canonical::check_canonical;
 pub use crate::counts::check_counts;
+pub use crate::instance::check_instance;
