@@ -1,6 +1,6 @@
 //! The way of one query.
 
-ghost use Rattle.std.specs.Prelude.{◌≡◌, ◌≢◌, ℕ, ◌+◌, ◌-◌, ◌/◌, ◌^◌, ◌<◌, ◌≤◌, ◌↔◌, ◌⊎◌};
+ghost use Rattle.std.specs.Prelude.{◌≡◌, ◌≢◌, ℕ, ◌+◌, ◌-◌, ◌/◌, ◌^◌, ◌<◌, ◌≤◌, ◌↔◌};
 ghost use Rattle.std.specs.Prelude.{List, [], ◌∷◌, map, sum, length, min, take};
 ghost use Rattle.std.specs.Prelude.{Err, IsOk, IfOk, IfErr, slice_index, slice_index_or};
 ghost use Rattle.algebra.specs.Nested.{lists};
@@ -154,9 +154,9 @@ fn check_inputs<E: Copy, A, B>(
 /// The reduced openings are the values of the query's words, by log height. The way begins with the
 /// first, at the position `start_index` of a word of log height `log_global_max_height`. A round of
 /// log arity `a` folds the row that has the value at its place `start_index % 2^a` and the query's
-/// siblings, in order, elsewhere. It shifts `start_index` right by `a`, and where there is a reduced
-/// opening of the log height that it reaches, adds that times the challenge to the power `2^a`. Its
-/// collectors gain the row: its index, and its values as those of the only matrix.
+/// siblings, in order, elsewhere. It shifts `start_index` right by `a`, and where there is a
+/// reduced opening of the log height that it reaches, adds that times the challenge to the power
+/// `2^a`. Its collectors gain the row: its index, and its values as those of the only matrix.
 ///
 /// Refused are a log arity that isn't from 1 to 63 (`FoldScheduleArityOutOfRange`), a round that
 /// doesn't open a row of the query (`CommitPhaseQueryCountMismatch`) or one of other than `2^a - 1`

@@ -1,0 +1,8 @@
+pub mod Gains
+pub mod Horner
+pub mod Lengths
+pub mod Queries
+pub mod Turns
+pub mod Heights
+pub mod Openings
+pub mod Refusals

@@ -1,0 +1,36 @@
+-- A loop over a vector's elements, each with its number.
+use Rattle.std.proofs.Common.{◌≡◌, ℕ, ◌<◌, List, length, get_or, Option, Some, None}
+use Rattle.std.specs.declared.vec.IntoIter.{IntoIter}
+use Rattle.std.specs.declared.iter.Enumerate.{Enumerate}
+use Rattle.std.specs.Iterator.{Yields}
+use Rattle.std.specs.Iterator.Adapters.{enumerate_source, enumerate_count, enumerate_steps}
+use Rattle.std.specs.Vec.Iter.{into_iter_items, into_iter_len, into_iter_steps}
+use Rattle.std.specs.List.{enumerate_from}
+use Rattle.std.proofs.lemmas.List.FromFn.{length-enumerate_from}
+use Rattle.std.proofs.lemmas.Iterator.{YieldsList}
+use Rattle.std.proofs.lemmas.Iterator.Adapters.{YieldsList-from_vec}
+use Rattle.std.proofs.lemmas.Iterator.Consumers.{YieldsList-from_enumerate, YieldsList-turn, YieldsList-end}
+use Rattle.std.proofs.Common.{◌∙◌}
+use Rattle.p3_fri_queries.proofs.Queries.{counted}
+
+module _ {X Z : Type 0} (xs : List X) (s t u : Enumerate (IntoIter X Z)) (yielded : List (ℕ × X))
+    (r : Option (ℕ × X)) where
+  pub record IsTurn : Type 0 where
+    pub items : into_iter_items (enumerate_source s) ≡ xs
+    pub len : into_iter_len (enumerate_source s) ≡ length xs
+    pub count : enumerate_count s ≡ 0
+    pub so_far : Yields (enumerate_steps (into_iter_steps {X = X} {Z = Z})) s yielded t
+    pub step : enumerate_steps (into_iter_steps {X = X} {Z = Z}) t r u
+
+  road : IsTurn → YieldsList (enumerate_steps (into_iter_steps {X = X} {Z = Z})) (λ p. (p.0, p.1)) s (enumerate_from 0 xs)
+  road turn = YieldsList-from_enumerate (YieldsList-from_vec xs turn.items turn.len) turn.count
+
+  -- the element of this turn
+  pub read : (query : ℕ) (x : X) → IsTurn → r ≡ Some (query, x)
+      → (length yielded < length xs) × (query ≡ length yielded) × (x ≡ get_or xs (length yielded) x)
+  read query x turn is = counted xs (length yielded) query x
+      (YieldsList-turn (road turn) yielded t turn.so_far r u (query, x) is turn.step)
+
+  -- at the end all were read
+  pub read_all : IsTurn → r ≡ None → length yielded ≡ length xs
+  read_all turn is = (YieldsList-end (road turn) yielded t turn.so_far r u is turn.step).1 ∙ length-enumerate_from 0 xs

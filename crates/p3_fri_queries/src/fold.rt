@@ -1,0 +1,177 @@
+//! The queries, folded one after another.
+
+ghost use Rattle.std.specs.Prelude.{◌≡◌, ◌≢◌, ℕ, ◌/◌, ◌^◌, ◌<◌, ◌≤◌, ◌↔◌, ◌⊎◌, List, [], ◌∷◌};
+ghost use Rattle.std.specs.Prelude.{map, sum, length, All, EachIndex, SomeIndex};
+ghost use Rattle.std.specs.Prelude.{Err, IsOk, IfOk, IfErr};
+ghost use Rattle.algebra.specs.Nested.{lists};
+ghost use Rattle.algebra.specs.Polynomial.{tabulate};
+ghost use Rattle.p3_fri_relation.specs.declared.error.FriError.TheVariants.{FinalPolyMismatch};
+ghost use Rattle.p3_fri_relation.specs.declared.error.FriError.TheVariants.{OutOfMemory};
+ghost use Rattle.p3_fri_relation.specs.Queries.{row_indices};
+ghost use Rattle.p3_fri_relation.specs.FoldedQuery.{IsInOrder, group_rows, gains};
+ghost use Rattle.p3_fri_relation.specs.Views.{query_input, rows_collected};
+ghost use Rattle.p3_fri_queries.specs.Folded.{query_at, EndsAtFinal, indices_folded, rows_folded};
+
+use crate::final_value::ends_at_final;
+use crate::folded::FoldedQueries;
+use p3_commit::Mmcs;
+use p3_field::{ExtensionField, TwoAdicField};
+use p3_fri_folding::FriFoldingStrategy;
+use p3_fri_query::fold_query;
+use p3_fri_relation::error::{FriError, FriOpenings};
+use p3_fri_relation::proof::CommitPhaseMultiStep;
+use p3_fri_relation::setting::ChallengeField;
+use std::alloc::{AllocError, Global};
+
+/// That many lists, each without an element.
+fn empty_lists<T: Drop>(alloc: Global, count: usize) -> Result<Vec<Vec<T>>, AllocError>
+    ensures { IfOk result (λ vectors. lists vectors.items ≡ tabulate count (λ _. [])) }
+{
+    let mut vectors = Vec::with_capacity(alloc, count)?;
+    for _ in 0..count {
+        vectors.push(Vec::new(alloc))?;
+    }
+    Ok(vectors)
+}
+
+/// Folds a query that is in order, and compares the value that it ends at with the final
+/// polynomial's. What is folded gains its rows.
+fn fold_to_final<F: TwoAdicField, EF: ExtensionField<F>, M: Mmcs<EF>, S: FriFoldingStrategy<F, EF>>(
+    alloc: Global,
+    folding: &S,
+    query: usize,
+    position: usize,
+    betas: &[EF],
+    log_arities: &[usize],
+    openings: &[CommitPhaseMultiStep<EF, M>],
+    reduced_openings: FriOpenings<EF>,
+    log_global_max_height: usize,
+    log_final_height: usize,
+    final_poly: &[EF],
+    folded: &mut FoldedQueries<EF>,
+) -> Result<(), FriError<M::Error, S::InputError>>
+    requires query { query < usize.MAX }
+    requires in_order { IsInOrder (query_input query position betas.now log_arities.now
+        openings.now reduced_openings.items log_global_max_height log_final_height) }
+    requires betas { length betas.now ≡ length log_arities.now }
+    requires openings { length openings.now ≡ length log_arities.now }
+    requires within_max_height { log_global_max_height ≤ S.max_log_height folding.now }
+    requires within_two_adicity { log_global_max_height ≤ F.TWO_ADICITY }
+    requires within_word { position < 2 ^ log_global_max_height }
+    requires indices { length folded.old.group_indices_by_round.items ≡ length log_arities.now }
+    requires rows { length folded.old.rows_by_round.items ≡ length log_arities.now }
+    ensures exact { let q = query_input query position betas.now log_arities.now
+        openings.now reduced_openings.items log_global_max_height log_final_height in
+        result ≢ Err OutOfMemory → (IsOk result ↔ EndsAtFinal ⟦<EF as ChallengeField<F>>⟧.fields
+        (S.row_fold folding.now) final_poly.now q) }
+    ensures refusal { let q = query_input query position betas.now log_arities.now
+        openings.now reduced_openings.items log_global_max_height log_final_height in
+        IfErr result (λ e. (e ≡ OutOfMemory) ⊎ ((e ≡ FinalPolyMismatch)
+        × (¬ EndsAtFinal ⟦<EF as ChallengeField<F>>⟧.fields
+        (S.row_fold folding.now) final_poly.now q))) }
+    ensures indices { IsOk result → lists folded.new.group_indices_by_round.items
+        ≡ gains (lists folded.old.group_indices_by_round.items)
+        (row_indices log_arities.now position) }
+    ensures rows { let q = query_input query position betas.now log_arities.now
+        openings.now reduced_openings.items log_global_max_height log_final_height in
+        IsOk result → rows_collected folded.new.rows_by_round.items
+        ≡ gains (rows_collected folded.old.rows_by_round.items)
+        (map (λ row. row ∷ []) (group_rows q EF.ops (S.row_fold folding.now))) }
+{
+    let mut index = position;
+    let value = fold_query(
+        alloc,
+        folding,
+        query,
+        &mut index,
+        betas,
+        log_arities,
+        openings,
+        reduced_openings,
+        log_global_max_height,
+        log_final_height,
+        &mut folded.group_indices_by_round,
+        &mut folded.rows_by_round,
+    )?;
+    if ends_at_final::<F, EF>(value, final_poly, index, log_final_height) {
+        Ok(())
+    } else {
+        Err(FriError::FinalPolyMismatch)
+    }
+}
+
+/// Folds the queries, which are in order, one after another, and compares the value that each ends
+/// at with the final polynomial's. `reduced_openings` has what each meets.
+///
+/// There is a challenge and an opening for each log arity. The greatest log height is at most the
+/// strategy's and the two-adicity, and the positions are below 2 to it.
+///
+/// # Errors
+///
+/// `FinalPolyMismatch` where some query ends elsewhere, and `OutOfMemory`.
+pub fn fold_queries<
+    F: TwoAdicField,
+    EF: ExtensionField<F>,
+    M: Mmcs<EF>,
+    S: FriFoldingStrategy<F, EF>,
+>(
+    alloc: Global,
+    folding: &S,
+    positions: &[usize],
+    betas: &[EF],
+    log_arities: &[usize],
+    openings: &[CommitPhaseMultiStep<EF, M>],
+    reduced_openings: Vec<FriOpenings<EF>>,
+    log_global_max_height: usize,
+    log_final_height: usize,
+    final_poly: &[EF],
+) -> Result<FoldedQueries<EF>, FriError<M::Error, S::InputError>>
+    requires count { length reduced_openings.items ≡ length positions.now }
+    requires in_order { let q = query_at positions.now betas.now log_arities.now openings.now
+        (lists reduced_openings.items) log_global_max_height log_final_height in
+        EachIndex positions.now (λ j. IsInOrder (q j)) }
+    requires betas { length betas.now ≡ length log_arities.now }
+    requires openings { length openings.now ≡ length log_arities.now }
+    requires within_max_height { log_global_max_height ≤ S.max_log_height folding.now }
+    requires within_two_adicity { log_global_max_height ≤ F.TWO_ADICITY }
+    requires positions { All (λ position. position < 2 ^ log_global_max_height) positions.now }
+    ensures exact { let q = query_at positions.now betas.now log_arities.now openings.now
+        (lists reduced_openings.items) log_global_max_height log_final_height in
+        result ≢ Err OutOfMemory → (IsOk result ↔ EachIndex positions.now (λ j.
+        EndsAtFinal ⟦<EF as ChallengeField<F>>⟧.fields
+        (S.row_fold folding.now) final_poly.now (q j))) }
+    ensures refusal { let q = query_at positions.now betas.now log_arities.now openings.now
+        (lists reduced_openings.items) log_global_max_height log_final_height in
+        IfErr result (λ e. (e ≡ OutOfMemory) ⊎ ((e ≡ FinalPolyMismatch)
+        × SomeIndex positions.now (λ j. ¬ EndsAtFinal ⟦<EF as ChallengeField<F>>⟧.fields
+        (S.row_fold folding.now) final_poly.now (q j)))) }
+    ensures indices { IfOk result (λ folded. lists folded.group_indices_by_round.items
+        ≡ indices_folded log_arities.now positions.now) }
+    ensures rows { let q = query_at positions.now betas.now log_arities.now openings.now
+        (lists reduced_openings.items) log_global_max_height log_final_height in
+        IfOk result (λ folded. rows_collected folded.rows_by_round.items
+        ≡ rows_folded EF.ops (S.row_fold folding.now)
+        (length log_arities.now) (length positions.now) q) }
+{
+    let mut folded = FoldedQueries {
+        group_indices_by_round: empty_lists(alloc, log_arities.len())?,
+        rows_by_round: empty_lists(alloc, log_arities.len())?,
+    };
+    for (query, inputs) in reduced_openings.into_iter().enumerate() {
+        fold_to_final(
+            alloc,
+            folding,
+            query,
+            positions[query],
+            betas,
+            log_arities,
+            openings,
+            inputs,
+            log_global_max_height,
+            log_final_height,
+            final_poly,
+            &mut folded,
+        )?;
+    }
+    Ok(folded)
+}
