@@ -1,8 +1,10 @@
 //! Times the extension of a matrix of BabyBear elements and its bit reversal, as a commitment takes
-//! them, in microseconds, the least of several.
+//! them, or folds of a word, in microseconds, the least of several.
 #![tactic(auto)]
 
 ghost use Rattle.std.specs.Prelude.{◌<◌};
+
+mod fold;
 
 use p3_dft::{Radix2Dit, TwoAdicSubgroupDft};
 use p3_field::{BabyBear, Field, PrimeField64};
@@ -12,7 +14,8 @@ use std::time::Instant;
 use std::{env, io};
 
 /// What the program takes.
-const USAGE: &str = "fri_bench LOG_HEIGHT WIDTH ADDED_BITS [REPEATS]";
+const USAGE: &str =
+    "fri_bench LOG_HEIGHT WIDTH ADDED_BITS [REPEATS]\nfri_bench fold LOG_SIZE [REPEATS]";
 
 /// Elements in no regular order.
 fn elements(alloc: Global, count: usize) -> Result<Vec<BabyBear>, AllocError> {
@@ -108,6 +111,9 @@ fn read(args: &[String]) -> Option<Sizes> {
 
 fn main(rt: HostRuntime) -> io::Result<()> {
     let args: Vec<String> = env::args(&rt)?.skip(1).collect(rt.alloc())?;
+    if let Some(sizes) = fold::read(&args) {
+        return fold::least(&rt, sizes);
+    }
     match read(&args) {
         Some(sizes) => least(&rt, sizes),
         None => {
