@@ -1,6 +1,6 @@
-//! The core of FRI: the parameters of an instance, the schedule of its folds, the fold itself, and
-//! the transcripts that both sides of the low-degree test, and of the polynomial commitment scheme
-//! around it, draw their challenges from.
+//! The core of FRI: the parameters of an instance, the schedule of its folds, the fold itself, its
+//! proofs, and the transcripts that both sides of the low-degree test, and of the polynomial
+//! commitment scheme around it, draw their challenges from.
 //!
 //! This crate has no code of its own: it shows the crates below under the Rust crate's modules and
 //! names.
@@ -10,9 +10,11 @@ pub mod config;
 pub mod laws;
 
 pub use p3_fri_folding::{
-    FriFoldingStrategy, FriParameters, TwoAdicFriFolding, compute_log_arity_for_round,
-    fold_schedule, folding, is_strictly_falling, strategy,
+    FriFoldingStrategy, FriParameters, TwoAdicFriFolding, WithExtraBits,
+    compute_log_arity_for_round, fold_schedule, folding, is_strictly_falling, strategy,
 };
 pub use p3_fri_pcs_transcript::{PcsShape, pcs_transcript};
+pub use p3_fri_relation::proof;
+pub use p3_fri_relation::proof::{BatchMultiOpening, CommitPhaseMultiStep, FriProof};
 pub use p3_fri_steps::{FriProverError, PowPhase, pow_phase};
 pub use p3_fri_transcript::{FriShape, transcript};

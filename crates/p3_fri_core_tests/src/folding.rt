@@ -1,9 +1,12 @@
-//! Folds of rows of two values.
+//! Folds of rows.
 
-ghost use Rattle.std.specs.Prelude.{◌<◌, ◌^◌};
+ghost use Rattle.std.specs.Prelude.{◌≡◌, ◌+◌, ◌<◌, ◌≤◌, ◌^◌, length, IfSome};
+ghost use Rattle.p3_matrix.specs.Matrix.{rows, matrix_width};
 
-use p3_field::{BabyBear, BabyBear4, ExtensionField, Field, TwoAdicField};
-use p3_fri_core::{FriFoldingStrategy, TwoAdicFriFolding};
+use p3_field::{
+    BabyBear, BabyBear4, ExtensionField, Field, TwoAdicField, TwoAdicMultiplicativeCoset,
+};
+use p3_fri_core::{FriFoldingStrategy, TwoAdicFriFolding, WithExtraBits};
 use p3_matrix::RowMajorMatrix;
 use std::alloc::{AllocError, Global};
 use std::marker::PhantomData;
@@ -19,36 +22,66 @@ fn fold_five_three(index: usize, log_height: usize, beta: BabyBear) -> BabyBear
     FriFoldingStrategy::<BabyBear, BabyBear>::fold_row(&folding, index, log_height, 1, beta, &row)
 }
 
-/// Whether each entry of the folded matrix of the numbers from 0 on, two to a row, is the fold of
-/// its row.
+/// The fold of the only row `[1, 1, -1, -1]` of log arity 2 at `beta`.
+fn fold_four(beta: BabyBear) -> BabyBear {
+    let folding: TwoAdicFriFolding<(), ()> = TwoAdicFriFolding(PhantomData);
+    let minus_one = -BabyBear::ONE;
+    let row = [BabyBear::ONE, BabyBear::ONE, minus_one, minus_one];
+    FriFoldingStrategy::<BabyBear, BabyBear>::fold_row(&folding, 0, 0, 2, beta, &row)
+}
+
+/// The values as `2^log_height` rows of `2^log_arity`, if there are as many.
+fn as_rows<EF: ExtensionField<BabyBear>>(
+    values: Vec<EF>,
+    log_height: usize,
+    log_arity: usize,
+) -> Option<RowMajorMatrix<EF>>
+    requires arity { log_arity ≤ 3 }
+    requires height { log_height < 24 }
+    ensures height { IfSome result (λ matrix. length (rows matrix) ≡ 2 ^ log_height) }
+    ensures width { IfSome result (λ matrix. matrix_width matrix ≡ 2 ^ log_arity) }
+{
+    let width = 1 << log_arity;
+    if values.len() % width != 0 {
+        return None;
+    }
+    let matrix = RowMajorMatrix::new(values, width);
+    if matrix.height() != 1 << log_height {
+        return None;
+    }
+    Some(matrix)
+}
+
+/// Whether each entry of the folded matrix of the numbers from 0 on, `2^log_arity` to a row, is the
+/// fold of its row.
 fn rows_agree<EF: ExtensionField<BabyBear>>(
     alloc: Global,
     log_height: usize,
+    log_arity: usize,
 ) -> Result<bool, AllocError>
-    requires { log_height < 27 }
+    requires positive { 1 ≤ log_arity }
+    requires arity { log_arity ≤ 3 }
+    requires height { log_height < 24 }
 {
     let folding: TwoAdicFriFolding<(), ()> = TwoAdicFriFolding(PhantomData);
-    let height = 1 << log_height;
     let mut values = Vec::new(alloc);
-    for n in 0..2 * height {
-        values.push(EF::from_u64(n as u64))?;
+    for n in 0..1u64 << (log_height + log_arity) {
+        values.push(EF::from_u64(n))?;
     }
+    let Some(matrix) = as_rows(values, log_height, log_arity) else {
+        return Ok(false);
+    };
     let beta = EF::GENERATOR;
-    if values.len() != 2 * height {
-        return Ok(false);
-    }
-    let matrix = RowMajorMatrix::new(values, 2);
-    if matrix.height() != height || matrix.width() != 2 {
-        return Ok(false);
-    }
-    let word = FriFoldingStrategy::<BabyBear, EF>::fold_matrix(&folding, alloc, beta, 1, &matrix)?;
-    if word.len() != height {
+    let word = FriFoldingStrategy::<BabyBear, EF>::fold_matrix(
+        &folding, alloc, beta, log_arity, &matrix,
+    )?;
+    if word.len() != 1 << log_height {
         return Ok(false);
     }
     for (i, value) in word.iter().enumerate() {
         let row = matrix.row(i);
         let fold = FriFoldingStrategy::<BabyBear, EF>::fold_row(
-            &folding, i, log_height, 1, beta, row,
+            &folding, i, log_height, log_arity, beta, row,
         );
         if *value != fold {
             return Ok(false);
@@ -57,18 +90,82 @@ fn rows_agree<EF: ExtensionField<BabyBear>>(
     Ok(true)
 }
 
+/// The points of the subgroup of order `2^log_size`, in bit-reversed order, each to a power.
+fn powers_of_points(
+    alloc: Global,
+    log_size: usize,
+    power: u64,
+) -> Result<Vec<BabyBear>, AllocError> {
+    let Some(subgroup) = TwoAdicMultiplicativeCoset::new(BabyBear::ONE, log_size) else {
+        return Ok(Vec::new(alloc));
+    };
+    let mut powers = subgroup.bit_reversed_points(alloc)?;
+    for value in &mut powers {
+        *value = value.exp_u64(power);
+    }
+    Ok(powers)
+}
+
+/// The fold at 7 of the values as `2^log_height` rows of `2^log_arity`, if there are as many.
+fn folded<S: FriFoldingStrategy<BabyBear, BabyBear>>(
+    alloc: Global,
+    folding: &S,
+    values: Vec<BabyBear>,
+    log_height: usize,
+    log_arity: usize,
+) -> Result<Option<Vec<BabyBear>>, AllocError>
+    requires positive { 1 ≤ log_arity }
+    requires arity { log_arity ≤ 3 }
+    requires height { log_height < 24 }
+    requires within_max_height { log_height + log_arity ≤ S.max_log_height folding.now }
+{
+    let Some(matrix) = as_rows(values, log_height, log_arity) else {
+        return Ok(None);
+    };
+    let beta = BabyBear::from_u64(7);
+    let word = folding.fold_matrix(alloc, beta, log_arity, &matrix)?;
+    Ok(Some(word))
+}
+
 #[test]
 fn matrices_fold_row_by_row(rt: HostRuntime) -> Result<(), Fail> {
-    for log_height in [0, 1, 4] {
-        assert!(rt;
-            rows_agree::<BabyBear>(rt.alloc(), log_height)?,
-            "to log height {log_height}"
-        );
-        assert!(rt;
-            rows_agree::<BabyBear4>(rt.alloc(), log_height)?,
-            "to log height {log_height}"
-        );
+    for log_height in [0, 2, 3, 4, 6] {
+        for log_arity in 1..4 {
+            assert!(rt;
+                rows_agree::<BabyBear>(rt.alloc(), log_height, log_arity)?,
+                "to log height {log_height} by {log_arity}"
+            );
+            assert!(rt;
+                rows_agree::<BabyBear4>(rt.alloc(), log_height, log_arity)?,
+                "to log height {log_height} by {log_arity}"
+            );
+        }
     }
+    Ok(())
+}
+
+#[test]
+fn folds_the_fifth_power_to_multiples_of_points(rt: HostRuntime) -> Result<(), Fail> {
+    // in a row whose points have the fourth power s, X^5 is s X
+    let mut multiples = powers_of_points(rt.alloc(), 4, 1)?;
+    for value in &mut multiples {
+        *value = *value * BabyBear::from_u64(7);
+    }
+    assert_eq!(rt; multiples.len(), 16);
+    let folding: TwoAdicFriFolding<(), ()> = TwoAdicFriFolding(PhantomData);
+    let word = powers_of_points(rt.alloc(), 6, 5)?;
+    let folded = folded(rt.alloc(), &folding, word, 4, 2)?;
+    assert_eq!(rt; folded, Some(multiples));
+    Ok(())
+}
+
+#[test]
+fn folds_the_first_power_to_the_challenge(rt: HostRuntime) -> Result<(), Fail> {
+    let sevens = vec![in rt.alloc(); BabyBear::from_u64(7); 16]?;
+    let folding: TwoAdicFriFolding<(), ()> = TwoAdicFriFolding(PhantomData);
+    let word = powers_of_points(rt.alloc(), 5, 1)?;
+    let folded = folded(rt.alloc(), &folding, word, 4, 1)?;
+    assert_eq!(rt; folded, Some(sevens));
     Ok(())
 }
 
@@ -99,4 +196,36 @@ fn folds_the_second_row_of_height_2(rt: HostRuntime) {
     // at the points w and -w, for the root w of order 4, the line is 4 + X / w
     let beta = BabyBear::from_u64(7) * BabyBear::two_adic_generator(2);
     assert_eq!(rt; fold_five_three(1, 1, beta), BabyBear::from_u64(11));
+}
+
+#[test]
+fn folds_a_row_of_four(rt: HostRuntime) {
+    // at the points 1, -1, i and -i the polynomial is X^2
+    assert_eq!(rt; fold_four(BabyBear::from_u64(3)), BabyBear::from_u64(9));
+    assert_eq!(rt; fold_four(BabyBear::ONE), BabyBear::ONE);
+}
+
+#[test]
+fn extra_bits_leave_the_fold_as_it_is(rt: HostRuntime) -> Result<(), Fail> {
+    let inner: TwoAdicFriFolding<(), ()> = TwoAdicFriFolding(PhantomData);
+    let folding = WithExtraBits::new(inner, 3);
+    assert_eq!(rt;
+        FriFoldingStrategy::<BabyBear, BabyBear>::extra_query_index_bits(&folding),
+        3
+    );
+    assert_eq!(rt;
+        FriFoldingStrategy::<BabyBear, BabyBear>::max_log_height(&folding),
+        27
+    );
+    let row = [BabyBear::from_u64(5), BabyBear::from_u64(3)];
+    let beta = BabyBear::from_u64(7);
+    assert_eq!(rt;
+        FriFoldingStrategy::<BabyBear, BabyBear>::fold_row(&folding, 0, 0, 1, beta, &row),
+        BabyBear::from_u64(11)
+    );
+    let values = Vec::from_slice(rt.alloc(), &row)?;
+    let eleven = vec![in rt.alloc(); BabyBear::from_u64(11)]?;
+    let folded = folded(rt.alloc(), &folding, values, 0, 1)?;
+    assert_eq!(rt; folded, Some(eleven));
+    Ok(())
 }

@@ -1,8 +1,8 @@
 use p3_challenger::Sha256Challenger;
-use p3_field::{BabyBear, BabyBear4};
+use p3_field::{BabyBear, BabyBear4, Field};
 use p3_fri_core::laws::{
-    fri_replay_law, fri_seed_examples_law, fri_seed_law, no_bits_law, pcs_replay_law,
-    pcs_seed_examples_law, pcs_seed_law, pcs_shown_law,
+    binary_folds_law, fri_replay_law, fri_seed_examples_law, fri_seed_law, no_bits_law,
+    pcs_replay_law, pcs_seed_examples_law, pcs_seed_law, pcs_shown_law,
 };
 use p3_fri_core::{FriShape, PcsShape};
 use std::alloc::{AllocError, Global};
@@ -38,6 +38,13 @@ fn laws_are_called_at_an_extension(rt: HostRuntime) -> Result<(), Fail> {
     fri_seed_law::<BabyBear, BabyBear4>(&test, &test);
     let opening = one_commitment(rt.alloc())?;
     pcs_seed_law::<BabyBear, BabyBear4>(&opening, &opening);
+    let row = [
+        BabyBear4::ONE,
+        BabyBear4::ONE,
+        BabyBear4::ZERO,
+        BabyBear4::ZERO,
+    ];
+    binary_folds_law::<BabyBear, BabyBear4>(0, 0, 2, BabyBear4::GENERATOR, &row);
     fri_seed_examples_law();
     pcs_seed_examples_law();
     no_bits_law::<Sha256Challenger, BabyBear>();

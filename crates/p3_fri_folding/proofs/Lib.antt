@@ -1,2 +1,3 @@
 pub mod Fewest
+pub mod Halves
 pub mod Rounds

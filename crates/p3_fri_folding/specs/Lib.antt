@@ -1,3 +1,4 @@
 pub use Rattle.algebra.specs.Folds
+pub mod Rows
 pub mod Schedule
 pub mod Strategy

@@ -1,15 +1,14 @@
 //! The fold of rows over two-adic domains.
 
-ghost use Rattle.std.specs.Prelude.{◌≡◌, ◌+◌, ◌<◌, ◌≤◌, ◌^◌, ℕ, [], ◌∷◌, length, IfOk};
-ghost use Rattle.algebra.specs.Field.{pow};
-ghost use Rattle.algebra.specs.Polynomial.{tabulate};
-ghost use Rattle.algebra.specs.Folds.{fold_value, IsHalfInverse, AreHalfInverses};
+ghost use Rattle.std.specs.Prelude.{◌≡◌, ◌+◌, ◌*◌, ◌<◌, ◌≤◌, ◌^◌, ℕ, suc, [], ◌∷◌, length, IfOk};
+ghost use Rattle.algebra.specs.Folds.{fold_value, IsHalfInverse};
 ghost use Rattle.algebra.proofs.FoldedWords.{two_adic_lowers_degrees};
+ghost use Rattle.p3_fri_folding.specs.Rows.{StartsRow, AreFirstHalfInverses};
 
+use crate::challenges::Challenges;
 use crate::strategy::FriFoldingStrategy;
 use p3_field::{
-    ExtensionField, Field, TwoAdicField, log2_strict_usize, reverse_bits_len,
-    reverse_slice_index_bits,
+    ExtensionField, Field, TwoAdicField, bit_reversed_powers, log2_strict_usize, reverse_bits_len,
 };
 use p3_matrix::RowMajorMatrix;
 use std::alloc::{AllocError, Global};
@@ -55,7 +54,18 @@ impl<F: TwoAdicField, EF: ExtensionField<F>, InputProof, InputError> FriFoldingS
         beta: EF,
         row: &[EF],
     ) -> EF {
-        fold_pair::<F, EF>(half_inverse(index, log_height), beta, row[0], row[1])
+        let challenges = Challenges::new(beta, log_arity);
+        let root = F::two_adic_generator(log_height + log_arity);
+        let half_inverse = half_inverse(root, index, log_height, log_arity);
+        let root_inverse = root_inverse(root, log_height, log_arity);
+        let (fold, _) = fold_halves::<F, EF>(
+            row,
+            log_arity,
+            half_inverse,
+            root_inverse,
+            &challenges,
+        );
+        fold
     }
 
     fn fold_matrix(
@@ -65,11 +75,22 @@ impl<F: TwoAdicField, EF: ExtensionField<F>, InputProof, InputError> FriFoldingS
         log_arity: usize,
         matrix: &RowMajorMatrix<EF>,
     ) -> Result<Vec<EF>, AllocError> {
-        let halves = half_inverses::<F>(alloc, log2_strict_usize(matrix.height()))?;
+        let log_height = log2_strict_usize(matrix.height());
+        let challenges = Challenges::new(beta, log_arity);
+        let root = F::two_adic_generator(log_height + log_arity);
+        let root_inverse = root_inverse(root, log_height, log_arity);
+        let halves = half_inverses(alloc, root, log_height, log_arity)?;
         let mut word = Vec::with_capacity(alloc, halves.len())?;
         for (i, half_inverse) in halves.iter().enumerate() {
             let row = matrix.row(i);
-            word.push(fold_pair::<F, EF>(*half_inverse, beta, row[0], row[1]))?;
+            let (fold, _) = fold_halves::<F, EF>(
+                row,
+                log_arity,
+                *half_inverse,
+                root_inverse,
+                &challenges,
+            );
+            word.push(fold)?;
         }
         Ok(word)
     }
@@ -81,57 +102,98 @@ impl<F: TwoAdicField, EF: ExtensionField<F>, InputProof, InputError> FriFoldingS
 /// The fold of two values at `s` and `-s`, by half the inverse of `s`.
 fn fold_pair<F: TwoAdicField, EF: ExtensionField<F>>(
     half_inverse: F,
-    beta: EF,
+    beta: EF::Prepared,
     left: EF,
     right: EF,
 ) -> EF
     ensures { (i h : ℕ) → i < 2 ^ h → h < F.TWO_ADICITY →
-        IsHalfInverse F.ops F.root i h half_inverse →
-        result ≡ fold_value EF.ops (λ k. EF.lift (F.root k)) i h 1 beta (left ∷ right ∷ []) }
+        IsHalfInverse F.ops F.root i h half_inverse → result
+        ≡ fold_value EF.ops (λ k. EF.lift (F.root k)) i h 1 (EF.factor_of beta)
+        (left ∷ right ∷ []) }
 {
-    (left + right).halve() + (left - right).scale(half_inverse) * beta
+    (left + right).halve() + (left - right).scale(half_inverse).times(beta)
 }
 
-/// Half the inverse of the first point of a row: since that point is a power of a root of unity, so
-/// is its inverse.
-fn half_inverse<F: TwoAdicField>(index: usize, log_height: usize) -> F
-    requires within_word { index < 2 ^ log_height }
-    requires within_two_adicity { log_height < F.TWO_ADICITY }
-    ensures { IsHalfInverse F.ops F.root index log_height result }
+/// The fold of a row half by half, and half the inverse of the row's point, by which the halves'
+/// folds are folded.
+///
+/// It takes half the inverse of the first point of the row's first pair, and the inverse of the
+/// root whose order is the row's length. Later layers' inverses are squares of the first's.
+fn fold_halves<F: TwoAdicField, EF: ExtensionField<F>>(
+    row: &[EF],
+    log_arity: usize,
+    half_inverse: F,
+    root_inverse: F,
+    challenges: &Challenges<EF>,
+) -> (EF, F)
+    requires positive { 1 ≤ log_arity }
+    requires width { length row.now ≡ 2 ^ log_arity }
+    requires rounds { log_arity ≤ challenges.now.rounds }
+    ensures value { (i h a : ℕ) → log_arity ≡ suc a → i < 2 ^ h → h + suc a ≤ F.TWO_ADICITY →
+        StartsRow F.ops F.root i h a half_inverse root_inverse → result.0
+        ≡ fold_value EF.ops (λ k. EF.lift (F.root k)) i h (suc a) challenges.now.beta row.now }
+    ensures half_inverse { (i h a : ℕ) → log_arity ≡ suc a → h + suc a ≤ F.TWO_ADICITY →
+        StartsRow F.ops F.root i h a half_inverse root_inverse →
+        IsHalfInverse F.ops F.root i h result.1 }
 {
-    let order = 1 << (log_height + 1);
-    let power = order - reverse_bits_len(index, log_height);
-    F::two_adic_generator(log_height + 1)
-        .exp_u64(power as u64)
-        .halve()
-}
-
-/// Half the inverse of the first point of each row, by one inversion and running products.
-fn half_inverses<F: TwoAdicField>(alloc: Global, log_height: usize) -> Result<Vec<F>, AllocError>
-    requires within_two_adicity { log_height < F.TWO_ADICITY }
-    ensures { IfOk result (λ halves. AreHalfInverses F.ops F.root log_height halves.items) }
-{
-    let inverse = F::two_adic_generator(log_height + 1).inverse();
-    let mut halves = shifted_powers(alloc, F::ONE.halve(), inverse, 1 << log_height)?;
-    reverse_slice_index_bits(&mut halves);
-    Ok(halves)
-}
-
-/// The products of `first` with the powers of `base`, from the power 0 on.
-fn shifted_powers<F: Field>(
-    alloc: Global,
-    first: F,
-    base: F,
-    count: usize,
-) -> Result<Vec<F>, AllocError>
-    ensures { IfOk result (λ powers.
-        powers.items ≡ tabulate count (λ i. F.ops.mul first (pow F.ops base i))) }
-{
-    let mut powers = Vec::with_capacity(alloc, count)?;
-    let mut power = first;
-    for _ in 0..count {
-        powers.push(power)?;
-        power = power * base;
+    let round = log_arity - 1;
+    let beta = challenges.of_round(round);
+    if round == 0 {
+        let fold = fold_pair::<F, EF>(half_inverse, beta, row[0], row[1]);
+        return (fold, half_inverse);
     }
-    Ok(powers)
+    let (first, second) = row.split_at(row.len() / 2);
+    let square = root_inverse.square();
+    let middle = half_inverse * root_inverse;
+    let (left, first_half) = fold_halves::<F, EF>(first, round, half_inverse, square, challenges);
+    let (right, _) = fold_halves::<F, EF>(second, round, middle, square, challenges);
+    let half = first_half.double() * first_half;
+    (fold_pair::<F, EF>(half, beta, left, right), half)
+}
+
+/// The inverse of the root of unity of order `2^log_arity`, from the root of order `2^(log_height +
+/// log_arity)`: a power of it.
+fn root_inverse<F: TwoAdicField>(root: F, log_height: usize, log_arity: usize) -> F
+    requires positive { 1 ≤ log_arity }
+    requires within_two_adicity { log_height + log_arity ≤ F.TWO_ADICITY }
+    requires is_root { root ≡ F.root (log_height + log_arity) }
+    ensures { F.ops.mul (F.root log_arity) result ≡ F.ops.one }
+{
+    if log_arity == 1 {
+        return -F::ONE;
+    }
+    let order = 1u64 << log_arity;
+    root.exp_power_of_2(log_height).exp_u64(order - 1)
+}
+
+/// Half the inverse of the first point of a row's first pair: since that point is a power of a root
+/// of unity, so is its inverse.
+fn half_inverse<F: TwoAdicField>(root: F, index: usize, log_height: usize, log_arity: usize) -> F
+    requires positive { 1 ≤ log_arity }
+    requires within_word { index < 2 ^ log_height }
+    requires within_two_adicity { log_height + log_arity ≤ F.TWO_ADICITY }
+    requires is_root { root ≡ F.root (log_height + log_arity) }
+    ensures { (a : ℕ) → log_arity ≡ suc a →
+        IsHalfInverse F.ops F.root (index * 2 ^ a) (log_height + a) result }
+{
+    let order = 1 << (log_height + log_arity);
+    let power = order - reverse_bits_len(index, log_height);
+    root.exp_u64(power as u64).halve()
+}
+
+/// Half the inverse of the first point of each row's first pair, by one inversion and running
+/// products.
+fn half_inverses<F: TwoAdicField>(
+    alloc: Global,
+    root: F,
+    log_height: usize,
+    log_arity: usize,
+) -> Result<Vec<F>, AllocError>
+    requires positive { 1 ≤ log_arity }
+    requires within_two_adicity { log_height + log_arity ≤ F.TWO_ADICITY }
+    requires is_root { root ≡ F.root (log_height + log_arity) }
+    ensures { IfOk result (λ halves. (a : ℕ) → log_arity ≡ suc a →
+        AreFirstHalfInverses F.ops F.root log_height a halves.items) }
+{
+    bit_reversed_powers(alloc, F::ONE.halve(), root.inverse(), log_height)
 }

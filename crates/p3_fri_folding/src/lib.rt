@@ -1,12 +1,14 @@
 //! The parameters of FRI, the schedule of its folds, and the fold itself.
 #![tactic(auto)]
 
+mod challenges;
 pub mod config;
 pub mod folding;
+pub mod laws;
 pub mod strategy;
 
 pub use crate::config::{
     FriParameters, compute_log_arity_for_round, fold_schedule, is_strictly_falling,
 };
 pub use crate::folding::TwoAdicFriFolding;
-pub use crate::strategy::FriFoldingStrategy;
+pub use crate::strategy::{FriFoldingStrategy, WithExtraBits};

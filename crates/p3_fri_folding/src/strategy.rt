@@ -44,7 +44,7 @@ pub trait FriFoldingStrategy<F: TwoAdicField, EF: ExtensionField<F>> {
         beta: EF,
         row: &[EF],
     ) -> EF
-        requires binary { log_arity ≡ 1 }
+        requires positive { 1 ≤ log_arity }
         requires width { length row.now ≡ 2 ^ log_arity }
         requires within_word { index < 2 ^ log_height }
         requires within_max_height { log_height + log_arity ≤ max_log_height self.now }
@@ -59,7 +59,7 @@ pub trait FriFoldingStrategy<F: TwoAdicField, EF: ExtensionField<F>> {
         log_arity: usize,
         matrix: &RowMajorMatrix<EF>,
     ) -> Result<Vec<EF>, AllocError>
-        requires binary { log_arity ≡ 1 }
+        requires positive { 1 ≤ log_arity }
         requires width { matrix_width matrix.now ≡ 2 ^ log_arity }
         requires power_of_two { IsPowerOfTwo (length (rows matrix.now)) }
         requires within_max_height { (log_height : ℕ) → length (rows matrix.now) ≡ 2 ^ log_height →
@@ -70,4 +70,67 @@ pub trait FriFoldingStrategy<F: TwoAdicField, EF: ExtensionField<F>> {
 
     ghost lowers_degrees: { (strategy : Self) → LowersDegrees EF.ops (λ k. EF.lift (F.root k))
         (max_log_height strategy) (row_fold strategy) };
+}
+
+/// Another strategy, with lowest bits of a query's index that are for the input openings alone.
+#[derive(Drop)]
+pub struct WithExtraBits<S> {
+    inner: S,
+    bits: usize,
+    ghost within_index: { bits ≤ 63 },
+}
+
+impl<S> WithExtraBits<S> {
+    /// The strategy `inner` with that many such bits, at most 63.
+    pub fn new(inner: S, bits: usize) -> WithExtraBits<S>
+        requires within_index { bits ≤ 63 }
+        ensures inner { result.inner ≡ inner }
+        ensures bits { result.bits ≡ bits }
+    {
+        WithExtraBits { inner, bits }
+    }
+}
+
+impl<F: TwoAdicField, EF: ExtensionField<F>, S: FriFoldingStrategy<F, EF>> FriFoldingStrategy<F, EF>
+    for WithExtraBits<S> {
+    type InputProof = S::InputProof;
+
+    type InputError = S::InputError;
+
+    ghost extra_query_index_bits = { λ strategy. strategy.bits };
+
+    ghost max_log_height = { λ strategy. S.max_log_height strategy.inner };
+
+    ghost row_fold = { λ strategy. S.row_fold strategy.inner };
+
+    fn extra_query_index_bits(&self) -> usize {
+        self.bits
+    }
+
+    fn max_log_height(&self) -> usize {
+        self.inner.max_log_height()
+    }
+
+    fn fold_row(
+        &self,
+        index: usize,
+        log_height: usize,
+        log_arity: usize,
+        beta: EF,
+        row: &[EF],
+    ) -> EF {
+        self.inner.fold_row(index, log_height, log_arity, beta, row)
+    }
+
+    fn fold_matrix(
+        &self,
+        alloc: Global,
+        beta: EF,
+        log_arity: usize,
+        matrix: &RowMajorMatrix<EF>,
+    ) -> Result<Vec<EF>, AllocError> {
+        self.inner.fold_matrix(alloc, beta, log_arity, matrix)
+    }
+
+    ghost lowers_degrees = { λ strategy. S.lowers_degrees strategy.inner };
 }

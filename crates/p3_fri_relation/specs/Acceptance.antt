@@ -11,8 +11,8 @@ use Rattle.p3_fri_transcript.specs.Replay.{RoundsReplay, QueriesReplay, FriRepla
 use Rattle.p3_fri_transcript.specs.Replay.{rounds_replay, shown_queries_replay, fri_replay}
 use Rattle.p3_fri_pcs_transcript.specs.Steps.{PcsNumbers, pcs_stream}
 use Rattle.p3_fri_pcs_transcript.specs.Replay.{BatchReplay, claims_replay}
-use Rattle.p3_fri_relation.specs.Setting.{Setting, Parameters, PointClaim, MatrixClaim}
-use Rattle.p3_fri_relation.specs.Setting.{CommitmentClaim, InputOpening, RoundOpening, Proof}
+use Rattle.p3_fri_relation.specs.Setting.{Setting, Parameters}
+use Rattle.p3_fri_relation.specs.Setting.{CommitmentClaim, RoundOpening, Proof}
 use Rattle.p3_fri_relation.specs.Setting.{final_height}
 use Rattle.p3_fri_relation.specs.Heights.{matrices_of, log_height, greatest_height, heights_of}
 use Rattle.p3_fri_relation.specs.Inputs.{HasPoints, OpensInput}
@@ -29,15 +29,20 @@ module _ {E InCom : Type 0} (p : Parameters) (claims : List (CommitmentClaim E I
   log_arities =
       schedule (heights_of p.log_blowup (matrices_of claims)) (final_height p) p.max_log_arity
 
-  -- the parameters and the claims are those of an instance, in a field of this two-adicity
-  pub record IsInstance (two_adicity : ℕ) : Type 0 where
+  -- the parameters are positive, there is a matrix, and in a field of this two-adicity the log
+  -- heights reach from the final one to those of cosets
+  pub record IsInRange (two_adicity : ℕ) : Type 0 where
     pub queries : 0 < p.num_queries
     pub blowup : 0 < p.log_blowup
     pub cap : 0 < p.max_log_arity
     pub some_matrix : matrices_of claims ≢ []
-    pub points : All HasPoints (matrices_of claims)
     pub tall_enough : All (λ m. final_height p ≤ log_height p.log_blowup m) (matrices_of claims)
     pub within_two_adicity : All (λ m. log_height p.log_blowup m ≤ two_adicity) (matrices_of claims)
+
+  -- the parameters and the claims are those of an instance
+  pub record IsInstance (two_adicity : ℕ) : Type 0 where
+    pub in_range : IsInRange two_adicity
+    pub points : All HasPoints (matrices_of claims)
 
   -- what the test's transcript is bound to
   abbrev pub fri_numbers : (extra_bits : ℕ) → FriNumbers
@@ -87,6 +92,53 @@ module _ {F E Com Path InPath : Type 0} (p : Parameters) (proof : Proof F E Com 
 module _ {F E C Com Path InCom InPath : Type 0} (s : Setting F E C Com Path InCom InPath)
     (p : Parameters) (claims : List (CommitmentClaim E InCom)) (proof : Proof F E Com Path InPath)
   where
+    -- at these positions, and with these folding challenges
+    module _ (alpha : E) (betas : List E) (positions : List ℕ) where
+      -- the rows opened of each commitment are those of its matrices
+      abbrev pub InputsOpen : Type 0
+      InputsOpen = AllZip
+          (OpensInput s.opens_input p.log_blowup (top_height p claims) positions)
+          claims proof.inputs
+
+      abbrev pub rounds : List (Round E)
+      rounds = rounds_of (log_arities p claims) betas
+
+      -- the row that query `j` folds in round `k`
+      abbrev pub row_folded : (j k : ℕ) → List E
+      row_folded j k = slice_index_or (rows_folded s p alpha (top_height p claims) claims proof
+          rounds j (slice_index positions j)) k []
+
+      -- the word that round `k` folds, in rows of its arity, opens to the queries' rows
+      abbrev pub OpensRound : (k : ℕ) → Com × RoundOpening E Path → Type 0
+      OpensRound k (commitment, r) = s.opens_round commitment
+          (record {
+            width = 2 ^ slice_index (log_arities p claims) k;
+            height = 2 ^ slice_index (heights_after (log_arities p claims) (top_height p claims)) k;
+          } ∷ [])
+          (map (λ q. slice_index (row_indices (log_arities p claims) q) k) positions)
+          (tabulate p.num_queries (λ j. row_folded j k ∷ []))
+          r.path
+
+      abbrev pub RoundsOpen : Type 0
+      RoundsOpen = AllZip OpensRound (range_with_len 0 (length (log_arities p claims)))
+          (zip proof.commitments proof.rounds)
+
+      -- the last link of query `j`'s chain
+      abbrev pub last_of_query : (j : ℕ) → Link E
+      last_of_query j = last_link s p alpha (top_height p claims) claims proof rounds j
+          (slice_index positions j)
+
+      -- query `j` goes its way
+      abbrev pub HoldsAtQuery : (j : ℕ) → Type 0
+      HoldsAtQuery j = QueryHolds s p alpha (top_height p claims) claims proof rounds j
+          (slice_index positions j)
+
+      -- all that the openings have to be
+      pub record AreOpeningsGood : Type 0 where
+        pub inputs_open : InputsOpen
+        pub rounds_open : RoundsOpen
+        pub queries_hold : EachIndex positions HoldsAtQuery
+
     module _ (c : C) where
       -- what is drawn along the test, from the challenger's state `c`
       abbrev pub test_replay : FriReplay C E
@@ -112,59 +164,13 @@ module _ {F E C Com Path InCom InPath : Type 0} (s : Setting F E C Com Path InCo
       abbrev pub positions : List ℕ
       positions = map (λ index. index / 2 ^ s.extra_bits) test_replay.indices
 
-      abbrev pub position : (j : ℕ) → ℕ
-      position j = slice_index positions j
-
-      -- the rows opened of each commitment at the queries' positions are those of its matrices
-      abbrev pub InputsOpen : Type 0
-      InputsOpen = AllZip
-          (OpensInput s.opens_input p.log_blowup (top_height p claims) positions)
-          claims proof.inputs
-
-      module _ (alpha : E) where
-        abbrev pub rounds : List (Round E)
-        rounds = rounds_of (log_arities p claims) test_replay.betas
-
-        -- the row that query `j` folds in round `k`
-        abbrev pub row_folded : (j k : ℕ) → List E
-        row_folded j k = slice_index_or
-            (rows_folded s p alpha (top_height p claims) claims proof rounds j (position j)) k []
-
-        -- the word that round `k` folds, in rows of its arity, opens to the queries' rows
-        abbrev pub OpensRound : (k : ℕ) → Com × RoundOpening E Path → Type 0
-        OpensRound k (commitment, r) = s.opens_round commitment
-            (record {
-              width = 2 ^ slice_index (log_arities p claims) k;
-              height =
-                  2 ^ slice_index (heights_after (log_arities p claims) (top_height p claims)) k;
-            } ∷ [])
-            (map (λ q. slice_index (row_indices (log_arities p claims) q) k) positions)
-            (tabulate p.num_queries (λ j. row_folded j k ∷ []))
-            r.path
-
-        abbrev pub RoundsOpen : Type 0
-        RoundsOpen = AllZip OpensRound (range_with_len 0 (length (log_arities p claims)))
-            (zip proof.commitments proof.rounds)
-
-        -- the last link of query `j`'s chain
-        abbrev pub last_of_query : (j : ℕ) → Link E
-        last_of_query j =
-            last_link s p alpha (top_height p claims) claims proof rounds j (position j)
-
-        -- query `j` goes its way
-        abbrev pub HoldsAtQuery : (j : ℕ) → Type 0
-        HoldsAtQuery j =
-            QueryHolds s p alpha (top_height p claims) claims proof rounds j (position j)
-
-        -- the low-degree test accepts, from the state `c` and with the batching challenge `alpha`
-        pub record FriAccepts : Type 0 where
-          pub instance_of : IsInstance p claims s.fields.two_adicity
-          pub counts : HasCounts p proof (log_arities p claims) (length claims)
-          pub canonical : AreCanonical p proof s.fields.base.zero
-          pub passes : IsTrue test_replay.passes
-          pub inputs_open : InputsOpen
-          pub rounds_open : RoundsOpen
-          pub queries_hold : EachIndex positions HoldsAtQuery
+      -- the low-degree test accepts, from the state `c` and with the batching challenge `alpha`
+      pub record FriAccepts (alpha : E) : Type 0 where
+        pub instance_of : IsInstance p claims s.fields.two_adicity
+        pub counts : HasCounts p proof (log_arities p claims) (length claims)
+        pub canonical : AreCanonical p proof s.fields.base.zero
+        pub passes : IsTrue test_replay.passes
+        pub openings : AreOpeningsGood alpha test_replay.betas positions
 
       -- what is drawn before the test
       abbrev pub batch_replayed : BatchReplay C E

@@ -1,17 +1,17 @@
 -- Which refusal a failure along a transcript becomes.
 use Rattle.p3_fri_steps.specs.declared.pow_phase.PowPhase.TheVariants.{Batch}
-use Rattle.p3_fri_transcript.specs.declared.transcript.failure.TranscriptFailure.{TranscriptFailure}
-use Rattle.p3_fri_transcript.specs.declared.transcript.failure.TranscriptFailure.TheVariants.{PowWitness}
-use Rattle.p3_fri_transcript.specs.declared.transcript.failure.TranscriptFailure.TheVariants.{MissingPowWitness}
-use Rattle.p3_fri_transcript.specs.declared.transcript.failure.TranscriptFailure.TheVariants.{FinalPolyLen}
-use Rattle.p3_fri_transcript.specs.declared.transcript.failure.TranscriptFailure.TheVariants.{CommitRoundCount}
-use Rattle.p3_fri_transcript.specs.declared.transcript.failure.TranscriptFailure.TheVariants.{CommitPowWitnessCount}
-use Rattle.p3_fri_transcript.specs.declared.transcript.failure.TranscriptFailure.TheVariants.{OutOfMemory as no_memory}
-use Rattle.p3_fri_pcs_transcript.specs.declared.pcs_transcript.failure.PcsTranscriptFailure.{PcsTranscriptFailure}
-use Rattle.p3_fri_pcs_transcript.specs.declared.pcs_transcript.failure.PcsTranscriptFailure.TheVariants.{ClaimedEvaluationCount}
-use Rattle.p3_fri_pcs_transcript.specs.declared.pcs_transcript.failure.PcsTranscriptFailure.TheVariants.{PowWitness as wrong_witness}
-use Rattle.p3_fri_pcs_transcript.specs.declared.pcs_transcript.failure.PcsTranscriptFailure.TheVariants.{MissingPowWitness as no_witness}
-use Rattle.p3_fri_pcs_transcript.specs.declared.pcs_transcript.failure.PcsTranscriptFailure.TheVariants.{OutOfMemory as no_memory_left}
+use Rattle.p3_fri_transcript.specs.declared.transcript.failure.TranscriptFailure as test_failure
+use test_failure.TheVariants.{PowWitness}
+use test_failure.TheVariants.{MissingPowWitness}
+use test_failure.TheVariants.{FinalPolyLen}
+use test_failure.TheVariants.{CommitRoundCount}
+use test_failure.TheVariants.{CommitPowWitnessCount}
+use test_failure.TheVariants.{OutOfMemory as no_memory}
+use Rattle.p3_fri_pcs_transcript.specs.declared.pcs_transcript.failure.PcsTranscriptFailure as pcs_failure
+use pcs_failure.TheVariants.{ClaimedEvaluationCount}
+use pcs_failure.TheVariants.{PowWitness as wrong_witness}
+use pcs_failure.TheVariants.{MissingPowWitness as no_witness}
+use pcs_failure.TheVariants.{OutOfMemory as no_memory_left}
 use Rattle.p3_fri_relation.specs.declared.error.FriError.{FriError}
 use Rattle.p3_fri_relation.specs.declared.error.FriError.TheVariants.{CommitRoundCountMismatch}
 use Rattle.p3_fri_relation.specs.declared.error.FriError.TheVariants.{CommitPowWitnessCountMismatch}
@@ -22,7 +22,7 @@ use Rattle.p3_fri_relation.specs.declared.error.FriError.TheVariants.{OutOfMemor
 
 module _ {A B : Type 0} where
   -- of the low-degree test's transcript
-  abbrev pub of_transcript : TranscriptFailure → FriError A B
+  abbrev pub of_transcript : test_failure.TranscriptFailure → FriError A B
   of_transcript (PowWitness phase) = InvalidPowWitness phase
   of_transcript (MissingPowWitness phase) = InvalidPowWitness phase
   of_transcript (FinalPolyLen expected got) = FinalPolyLengthMismatch expected got
@@ -31,7 +31,7 @@ module _ {A B : Type 0} where
   of_transcript no_memory = OutOfMemory
 
   -- of the transcript around it
-  abbrev pub of_pcs_transcript : PcsTranscriptFailure → FriError A B
+  abbrev pub of_pcs_transcript : pcs_failure.PcsTranscriptFailure → FriError A B
   of_pcs_transcript (ClaimedEvaluationCount opening expected got) =
       ClaimedEvaluationCountMismatch opening expected got
   of_pcs_transcript (wrong_witness bits) = InvalidPowWitness Batch

@@ -1,6 +1,6 @@
 -- What of the input makes each refusal a true one.
 use Rattle.std.specs.Prelude.{◌≡◌, ◌≢◌, ◌⊎◌, ℕ, suc, ◌+◌, ◌-◌, ◌^◌, ◌<◌, ◌≤◌, min, Bool, false}
-use Rattle.std.specs.Prelude.{IsTrue, List, [], ◌∷◌, map, length, sum, ⊤, EachIndex, SomeIndex}
+use Rattle.std.specs.Prelude.{IsTrue, List, [], ◌∷◌, map, length, sum, ⊤, SomeIndex}
 use Rattle.std.specs.Prelude.{slice_index, slice_index_or}
 use Rattle.std.specs.List.{Any, zip, range_with_len}
 use Rattle.p3_fri_steps.specs.declared.pow_phase.PowPhase.{PowPhase}
@@ -33,8 +33,8 @@ use Rattle.p3_fri_relation.specs.declared.error.FriError.TheVariants.{InvalidPow
 use Rattle.p3_fri_relation.specs.declared.error.FriError.TheVariants.{NonCanonicalPowWitness}
 use Rattle.p3_fri_relation.specs.declared.error.FriError.TheVariants.{OpeningPointMatchesQueryPoint}
 use Rattle.p3_fri_relation.specs.declared.error.FriError.TheVariants.{OutOfMemory}
-use Rattle.p3_fri_relation.specs.Setting.{Fields, Opening, Setting, Parameters, MatrixClaim}
-use Rattle.p3_fri_relation.specs.Setting.{CommitmentClaim, InputOpening, RoundOpening, Proof}
+use Rattle.p3_fri_relation.specs.Setting.{Fields, Opening, Setting, Parameters}
+use Rattle.p3_fri_relation.specs.Setting.{CommitmentClaim, InputOpening, Proof}
 use Rattle.p3_fri_relation.specs.Setting.{final_height}
 use Rattle.p3_fri_relation.specs.Heights.{matrices_of, width, log_height, has_height, heights_of}
 use Rattle.p3_fri_relation.specs.QuotientSums.{point_read}
@@ -43,6 +43,7 @@ use Rattle.p3_fri_relation.specs.Queries.{final_value}
 use Rattle.p3_fri_relation.specs.FoldedQuery.{QueryInput, folded, last_height, reaches}
 use Rattle.p3_fri_relation.specs.Acceptance.{top_height, log_arities, positions, last_of_query}
 use Rattle.p3_fri_relation.specs.Acceptance.{OpensRound, rounds_replayed, queries_replayed}
+use Rattle.p3_fri_relation.specs.Acceptance.{test_replay}
 use Rattle.p3_fri_relation.specs.Acceptance.{batch_replayed}
 
 -- the `i`-th element is there, and `P` holds of it
@@ -191,9 +192,10 @@ module _ {F E C Com Path InCom InPath : Type 0} (s : Setting F E C Com Path InCo
     DoNotPass c Query = (queries_replayed s p claims proof c).passes ≡ false
 
     -- query `j` doesn't end at the final polynomial
-    abbrev pub EndsElsewhere : (c : C) (alpha : E) (j : ℕ) → Type 0
-    EndsElsewhere c alpha j =
-        let last = last_of_query s p claims proof c alpha j in
+    abbrev pub EndsElsewhere :
+        (alpha : E) (betas : List E) (positions : List ℕ) (j : ℕ) → Type 0
+    EndsElsewhere alpha betas positions j =
+        let last = last_of_query s p claims proof alpha betas positions j in
         last.value ≢ final_value s p proof last
 
 module _ {A B F E C Com Path InCom InPath : Type 0} (s : Setting F E C Com Path InCom InPath)
@@ -206,27 +208,33 @@ module _ {A B F E C Com Path InCom InPath : Type 0} (s : Setting F E C Com Path 
         IsNotCanonical p proof s.fields.base.zero phase
     WorkFault c _ = ⊥
 
-    -- of the way of the queries through the rounds
-    abbrev pub RoundsFault : (c : C) (alpha : E) → FriError A B → Type 0
-    RoundsFault c alpha (CommitPhaseMmcsError _) =
-        Any (λ (k, opening). ¬ OpensRound s p claims proof c alpha k opening)
-        (zip (range_with_len 0 (length (log_arities p claims)))
-        (zip proof.commitments proof.rounds))
-    RoundsFault c alpha FinalPolyMismatch =
-        SomeIndex (positions s p claims proof c) (EndsElsewhere s p claims proof c alpha)
-    RoundsFault c alpha _ = ⊥
+    -- of the openings, at these positions and with these folding challenges
+    module _ (alpha : E) (betas : List E) (positions : List ℕ) where
+      abbrev pub RoundsFault : FriError A B → Type 0
+      RoundsFault (CommitPhaseMmcsError _) =
+          Any (λ (k, opening). ¬ OpensRound s p claims proof alpha betas positions k opening)
+          (zip (range_with_len 0 (length (log_arities p claims)))
+          (zip proof.commitments proof.rounds))
+      RoundsFault FinalPolyMismatch =
+          SomeIndex positions (EndsElsewhere s p claims proof alpha betas positions)
+      RoundsFault _ = ⊥
+
+      abbrev pub OpeningsFault : FriError A B → Type 0
+      OpeningsFault e =
+          InputFault s.fields p.log_blowup alpha (top_height p claims) claims proof.inputs
+          s.opens_input positions e
+          ⊎ RoundsFault e
 
     -- of the low-degree test, from the challenger's state `c` and with the batching challenge
     -- `alpha`: a fault of what is asked for, of the proof's lengths, of its proofs of work, of the
-    -- openings of the inputs, of the rounds, or want of memory
+    -- openings, or want of memory
     abbrev pub Stands : (c : C) (alpha : E) → FriError A B → Type 0
     Stands c alpha e =
         InstanceFault p claims s.fields.two_adicity e
         ⊎ CountFault p (log_arities p claims) proof e
         ⊎ WorkFault c e
-        ⊎ InputFault s.fields p.log_blowup alpha (top_height p claims) claims proof.inputs
-        s.opens_input (positions s p claims proof c) e
-        ⊎ RoundsFault c alpha e
+        ⊎ OpeningsFault alpha (test_replay s p claims proof c).betas
+        (positions s p claims proof c) e
         ⊎ (e ≡ OutOfMemory)
 
     -- of the scheme around the test, from the state in which it begins

@@ -4,7 +4,7 @@ use Rattle.std.specs.Prelude.{◌≡◌, ℕ, suc, ◌+◌, ◌-◌, ◌^◌, �
 use Rattle.std.specs.Prelude.{IsTrue, if◌then◌else◌, List, [], ◌∷◌, ◌++◌, map, take, sum, length}
 use Rattle.std.specs.Prelude.{slice_index_or, Option, Some, None, ⊤}
 use Rattle.algebra.specs.Field.{FieldOps}
-use Rattle.algebra.specs.Rounds.{Round, Link, chain, chain_rows}
+use Rattle.algebra.specs.Rounds.{Link, chain, chain_rows}
 use Rattle.p3_fri_relation.specs.Queries.{rounds_of, row_indices}
 
 pub record QueryInput (E : Type 0) : Type 0 where

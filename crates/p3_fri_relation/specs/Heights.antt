@@ -1,5 +1,5 @@
 -- The log heights of claimed matrices.
-use Rattle.std.specs.Prelude.{◌≡◌, ◌==◌, ℕ, zero, suc, ◌+◌, ◌-◌, ◌/◌, ◌^◌, max, Bool, if◌then◌else◌}
+use Rattle.std.specs.Prelude.{◌==◌, ℕ, zero, suc, ◌+◌, ◌-◌, ◌/◌, ◌^◌, max, Bool, if◌then◌else◌}
 use Rattle.std.specs.Prelude.{List, [], ◌∷◌, ◌++◌, map, fold, length, slice_index}
 use Rattle.std.specs.List.{flat_map, list_any}
 use Rattle.p3_matrix.specs.declared.Dimensions.{Dimensions}

@@ -8,3 +8,4 @@ pub mod Acceptance
 pub mod Views
 pub mod Failures
 pub mod Faults
+pub mod Example

@@ -1,6 +1,6 @@
 -- The quotient sum of a log height at a query's position: what the opened rows and the claimed
 -- values together make of the batch of quotients.
-use Rattle.std.specs.Prelude.{◌≡◌, ◌≢◌, ◌==◌, if◌then◌else◌, ℕ, ◌-◌, ◌/◌, ◌^◌}
+use Rattle.std.specs.Prelude.{◌≢◌, ◌==◌, if◌then◌else◌, ℕ, ◌-◌, ◌/◌, ◌^◌}
 use Rattle.std.specs.Prelude.{List, [], map, All, Option, Some, None}
 use Rattle.std.specs.List.{flat_map, zip}
 use Rattle.algebra.specs.Polynomial.{val}

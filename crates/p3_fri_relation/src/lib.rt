@@ -3,5 +3,6 @@
 #![tactic(auto)]
 
 pub mod error;
+pub mod laws;
 pub mod proof;
 pub mod setting;

@@ -1,0 +1,50 @@
+//! The challenges of the rounds in which a row is folded by two.
+
+ghost use Rattle.std.specs.Prelude.{◌≡◌, ◌<◌, ◌^◌, ℕ};
+ghost use Rattle.algebra.specs.Field.{pow};
+
+use p3_field::Field;
+
+/// The challenges `beta`, `beta^2`, `beta^4` and so on, one for each round. The first three are
+/// kept, since only one pair of values of fifteen or more meets a later one.
+#[derive(Drop)]
+pub(crate) struct Challenges<EF: Field> {
+    beta: EF,
+    rounds: usize,
+    first: EF::Prepared,
+    second: EF::Prepared,
+    third: EF,
+    ghost first_is: { EF.factor_of first ≡ beta },
+    ghost second_is: { 1 < rounds → EF.factor_of second ≡ pow EF.ops beta 2 },
+    ghost third_is: { 2 < rounds → third ≡ pow EF.ops beta 4 },
+}
+
+impl<EF: Field> Challenges<EF> {
+    /// Those of so many rounds, from `beta` on.
+    pub(crate) fn new(beta: EF, rounds: usize) -> Self
+        ensures beta { result.beta ≡ beta }
+        ensures rounds { result.rounds ≡ rounds }
+    {
+        let second = if rounds > 1 { beta.square() } else { beta };
+        let third = if rounds > 2 { second.square() } else { second };
+        Self {
+            beta,
+            rounds,
+            first: beta.prepare(),
+            second: second.prepare(),
+            third,
+        }
+    }
+
+    /// That of a round, the first of which is 0, as a factor.
+    pub(crate) fn of_round(&self, round: usize) -> EF::Prepared
+        requires { round < self.now.rounds }
+        ensures { EF.factor_of result ≡ pow EF.ops self.now.beta (2 ^ round) }
+    {
+        match round {
+            0 => self.first,
+            1 => self.second,
+            _ => self.third.exp_power_of_2(round - 2).prepare(),
+        }
+    }
+}

@@ -1,0 +1,11 @@
+//! What the verifier of the low-degree test compares before its transcript begins: the parameters
+//! and the claimed log heights, the lengths of the proof's lists, and its witnesses of proofs of
+//! work that have no bits.
+#![tactic(auto)]
+
+mod canonical;
+mod counts;
+mod siblings;
+
+pub use crate::canonical::check_canonical;
+pub use crate::counts::check_counts;

@@ -1,0 +1,4 @@
+pub mod Powers
+pub mod Lists
+pub mod Ways
+pub mod Orders

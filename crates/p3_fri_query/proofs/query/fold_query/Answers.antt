@@ -1,0 +1,71 @@
+use Rattle.std.proofs.Common.{List, refl, sym, ap, ◌∙◌, map, [], ◌∷◌}
+use Rattle.p3_fri_relation.specs.FoldedQuery.{gains}
+use Rattle.p3_fri_relation.specs.Views.{query_input, rows_collected}
+use Rattle.p3_fri_query.proofs.Lists.{range_take, have_take}
+use Rattle.p3_fri_query.proofs.Orders.{inputs_fit, in_order, refused, value_of, rows_of, handed_on}
+use Rattle.p3_fri_query.proofs.query.fold_query.Goals as goal
+
+pub returns-in_err-check_rounds-clause-refusal : goal.returns-in_err-check_rounds-clause-refusal
+returns-in_err-check_rounds-clause-refusal g c =
+    handed_on _ c.from_residual.result c.in_err-check_rounds.field-0.0 c.from_residual.ensures
+    (c.in_err-check_rounds.ensures.fault c.args.start_index.now c.args.betas.now c.args.reduced_openings.items)
+
+pub returns-in_err-first-clause-exact : goal.returns-in_err-first-clause-exact
+returns-in_err-first-clause-exact g c =
+    let q = query_input c.args.query c.args.start_index.now c.args.betas.now c.args.log_arities.now
+    c.args.commit_phase_openings.now c.args.reduced_openings.items c.args.log_global_max_height c.args.log_final_height in
+    let exact = (c.in_err-first.ensures.exact q (sym c.folded_arities-folded.ensures)
+    (sym c.as_slice-inputs.ensures.value) refl).1 in
+    let is_err = c.from_residual-in_err-first.ensures.0 in
+    λ _. (λ is_ok. absurd (refused c.from_residual-in_err-first.result is_err is_ok), λ o. absurd (cc (exact (inputs_fit q _ _ (sym c.folded_arities-folded.ensures) (sym c.as_slice-inputs.ensures.value) o))))
+
+pub returns-in_err-first-clause-refusal : goal.returns-in_err-first-clause-refusal
+returns-in_err-first-clause-refusal g c =
+    let q = query_input c.args.query c.args.start_index.now c.args.betas.now c.args.log_arities.now
+    c.args.commit_phase_openings.now c.args.reduced_openings.items c.args.log_global_max_height c.args.log_final_height in
+    handed_on _ c.from_residual-in_err-first.result c.in_err-first.field-0.0 c.from_residual-in_err-first.ensures
+    (c.in_err-first.ensures.fault q (sym c.folded_arities-folded.ensures)
+    (sym c.as_slice-inputs.ensures.value) refl refl)
+
+pub fold_rounds-requires-clause-range : goal.fold_rounds-requires-clause-range
+fold_rounds-requires-clause-range g c =
+    rw c.folded_arities-folded.ensures (range_take _ _ (c.in_ok-check_rounds.ensures.exact.0 refl).0)
+
+pub fold_rounds-requires-clause-have_rows : goal.fold_rounds-requires-clause-have_rows
+fold_rounds-requires-clause-have_rows g c =
+    rw c.folded_arities-folded.ensures (have_take c.args.query _ _ _ (c.in_ok-check_rounds.ensures.exact.0 refl).1)
+
+pub returns-clause-exact : goal.returns-clause-exact
+returns-clause-exact g c =
+    let q = query_input c.args.query c.args.start_index.now c.args.betas.now c.args.log_arities.now
+    c.args.commit_phase_openings.now c.args.reduced_openings.items c.args.log_global_max_height c.args.log_final_height in
+    λ _. (
+      λ _. in_order q c.folded_arities-folded.result.now c.as_slice-inputs.result.now
+          (sym c.folded_arities-folded.ensures) (sym c.as_slice-inputs.ensures.value)
+          (c.in_ok-check_rounds.ensures.exact.0 refl)
+          ((c.in_ok-first.ensures.exact q (sym c.folded_arities-folded.ensures)
+          (sym c.as_slice-inputs.ensures.value) refl).0 refl),
+      λ _. refl,
+    )
+
+pub returns-clause-value : goal.returns-clause-value
+returns-clause-value g c =
+    let q = query_input c.args.query c.args.start_index.now c.args.betas.now c.args.log_arities.now
+    c.args.commit_phase_openings.now c.args.reduced_openings.items c.args.log_global_max_height c.args.log_final_height in
+    c.in_ok-fold_rounds.ensures.value
+    ∙ value_of q g.EF.Field.ops (g.S.FriFoldingStrategy.row_fold c.args.folding.now)
+    c.folded_arities-folded.result.now c.as_slice-inputs.result.now c.in_ok-first.first
+    (sym c.folded_arities-folded.ensures) (sym c.as_slice-inputs.ensures.value)
+    (c.in_ok-first.ensures.value g.EF.Field.ops.zero)
+
+pub returns-clause-rows : goal.returns-clause-rows
+returns-clause-rows g c =
+    let q = query_input c.args.query c.args.start_index.now c.args.betas.now c.args.log_arities.now
+    c.args.commit_phase_openings.now c.args.reduced_openings.items c.args.log_global_max_height c.args.log_final_height in
+    let E = g.row.EF.Denot in
+    λ _. c.in_ok-fold_rounds.ensures.rows refl
+    ∙ ap (λ (rows : List (List E)). gains (rows_collected c.args.rows_by_round.now) (map {A = List E} {B = List (List E)} (λ row. row ∷ []) rows))
+    (rows_of q g.EF.Field.ops (g.S.FriFoldingStrategy.row_fold c.args.folding.now)
+    c.folded_arities-folded.result.now c.as_slice-inputs.result.now c.in_ok-first.first
+    (sym c.folded_arities-folded.ensures) (sym c.as_slice-inputs.ensures.value)
+    (c.in_ok-first.ensures.value g.EF.Field.ops.zero))

@@ -1,0 +1,5 @@
+//! Tests of a query that is folded by itself.
+#![tactic(auto)]
+
+#[cfg(test)]
+mod fold_query;

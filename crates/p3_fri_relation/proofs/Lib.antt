@@ -1,0 +1,9 @@
+pub mod ClaimedHeights
+mod Example
+pub mod InstanceQueries
+pub mod Instances
+pub mod LowHeights
+pub mod QueryLinks
+pub mod ScheduledRounds
+pub mod TestReplays
+pub mod ZippedLists
