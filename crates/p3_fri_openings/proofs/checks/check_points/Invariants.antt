@@ -1,0 +1,18 @@
+use Rattle.std.proofs.Common.{All, take}
+use Rattle.p3_fri_relation.specs.Setting.{Fields}
+use Rattle.p3_fri_openings.specs.Refusals.{ArePointsOff}
+use Rattle.p3_fri_openings.proofs.checks.check_points.Given as goal
+
+abbrev pub invariant-loop-index : goal.invariant-loop-index
+invariant-loop-index g l =
+    let f : Fields g.row.F.Denot g.row.EF.Denot = record {
+      base = g.F.Field.ops;
+      ext = g.EF.Field.ops;
+      lift = g.EF.ExtensionField.lift;
+      coefficients = g.EF.ExtensionField.coefficients;
+      degree = g.EF.ExtensionField.DIMENSION;
+      root = g.F.TwoAdicField.root;
+      two_adicity = g.F.TwoAdicField.TWO_ADICITY;
+      shift = g.F.Field.GENERATOR;
+    } in
+    All (ArePointsOff f) (take l.index l.rounds)
