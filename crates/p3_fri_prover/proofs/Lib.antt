@@ -1,0 +1,10 @@
+pub mod Ways
+pub mod Queries
+pub mod Committed
+pub mod Pushes
+pub mod Folding
+pub mod Openings
+pub mod Batches
+pub mod Finals
+pub mod Lists
+pub mod Inputs

@@ -1,0 +1,101 @@
+use Rattle.std.proofs.Common.{◌≡◌, ◌∷◌, [], ◌^◌, length, sym, ap, ◌∙◌, arith, subst, get_or, refl, rules, unwrap_or}
+use Rattle.p3_matrix.specs.declared.dense.RowMajorMatrix.{RowMajorMatrix}
+use Rattle.p3_challenger.specs.Run.{moves}
+use Rattle.p3_fri_steps.specs.declared.error.FriProverError.{FriProverError}
+use Rattle.p3_fri_steps.specs.Pow.{found_witness}
+use Rattle.p3_fri_transcript.specs.Replay.{round_replay}
+use Rattle.p3_fri_transcript.specs.Views.{state_of, shape_of}
+use Rattle.p3_fri_prover.specs.Refusals.{RoundRefusal}
+use Rattle.p3_matrix.specs.Matrix.{rows, matrix_width}
+use Rattle.p3_matrix.specs.Rows.{rows_of}
+use Rattle.p3_fri_prover.proofs.Folding.{whole_rows, height_of_rows, one_power_height, foldable_rows}
+use Rattle.p3_fri_prover.proofs.prover.commit_phase.commit_round.Goals as goal
+
+pub new-leaves-requires-clause-whole_rows : goal.new-leaves-requires-clause-whole_rows
+new-leaves-requires-clause-whole_rows g c =
+    let f = c.requires.foldable in
+    rw c.arity_of.ensures (whole_rows c.args.word.len f.height c.args.log_arity f.length_of_word)
+
+pub commit_matrix-requires : goal.commit_matrix-requires
+commit_matrix-requires g c =
+    let f = c.requires.foldable in
+    let a = c.args.log_arity in
+    let ys = c.args.word.items in
+    let height : length (rows c.new-leaves.result) ≡ 2 ^ f.height =
+    ap length (c.new-leaves.ensures.rows ∙ ap (λ w. rows_of w ys) c.arity_of.ensures)
+    ∙ height_of_rows a f.height ys (sym c.args.word.ok.0 ∙ f.length_of_word) in
+    record { height = one_power_height c.new-leaves.result f.height height }
+
+pub returns-in-Err-clause-refused : goal.returns-in-Err-clause-refused
+returns-in-Err-clause-refused g c =
+    let m = moves g.C.CanObserve-1.observed g.C.CanObserve-2.observed g.C.CanSample.sampled
+    g.EF.ExtensionField.of_coefficients g.EF.ExtensionField.DIMENSION g.C.CanSampleBits.sampled_bits in
+    let a = c.args.log_arity in
+    let ys = c.args.word.items in
+    let made = c.in_ok-commitment in
+    let P : FriProverError → Type 0 = λ e. RoundRefusal g.M.Mmcs.committed g.M.Mmcs.commitment_of m
+    (shape_of c.args.transcript.now).commit_pow_bits a ys (state_of c.args.transcript.now) e in
+    subst P (sym c.in-Err.ensures.refused) (record {
+      commitment = made.commitment;
+      datum = made.prover_data;
+      keeps = record {
+        matrix = c.new-leaves.result;
+        only = made.ensures.matrices;
+        rows_of_word = c.new-leaves.ensures.rows ∙ ap (λ w. rows_of w ys) c.arity_of.ensures;
+        width = c.new-leaves.ensures.width ∙ c.arity_of.ensures;
+        same = made.ensures.commitment;
+      };
+      none_passes = c.in-Err.ensures.none_passes;
+    })
+
+pub fold_leaves-requires-clause-foldable : goal.fold_leaves-requires-clause-foldable
+fold_leaves-requires-clause-foldable g c =
+    let f = c.requires.foldable in
+    let a = c.args.log_arity in
+    let ys = c.args.word.items in
+    let leaves = c.index-get_matrices-0.result in
+    let same : leaves ≡ c.new-leaves.result =
+    c.index-get_matrices-0.is ∙ ap (λ xs. get_or xs 0 leaves)
+    (c.get_matrices.ensures ∙ c.in_ok-commitment.ensures.matrices) in
+    let height : length (rows leaves) ≡ 2 ^ f.height =
+    ap (λ (x : RowMajorMatrix _). length (rows x)) same
+    ∙ ap length (c.new-leaves.ensures.rows ∙ ap (λ w. rows_of w ys) c.arity_of.ensures)
+    ∙ height_of_rows a f.height ys (sym c.args.word.ok.0 ∙ f.length_of_word) in
+    foldable_rows (length (rows leaves)) f.height a
+    (g.S.FriFoldingStrategy.max_log_height c.args.folding.now) height f.within
+
+pub returns-clause-round : goal.returns-clause-round
+returns-clause-round g c = λ h whole.
+    let m = moves g.C.CanObserve-1.observed g.C.CanObserve-2.observed g.C.CanSample.sampled
+    g.EF.ExtensionField.of_coefficients g.EF.ExtensionField.DIMENSION g.C.CanSampleBits.sampled_bits in
+    let a = c.args.log_arity in
+    let ys = c.args.word.items in
+    let made = c.in_ok-commitment in
+    let bits = (shape_of c.args.transcript.now).commit_pow_bits in
+    let before = state_of c.args.transcript.now in
+    let zero = g.F.Field.ops.zero in
+    let drawn = c.in-Ok.drawn in
+    let found : c.unwrap_or.result ≡ unwrap_or drawn.1 zero = search rules in
+    let solution = g.C.GrindingChallenger.solution in
+    let observed = m.observe_commitment before made.commitment in
+    let leaves = c.index-get_matrices-0.result in
+    let same : leaves ≡ c.new-leaves.result =
+    c.index-get_matrices-0.is ∙ ap (λ xs. get_or xs 0 leaves)
+    (c.get_matrices.ensures ∙ made.ensures.matrices) in
+    let is_rows : rows c.new-leaves.result ≡ rows_of (2 ^ a) ys =
+    c.new-leaves.ensures.rows ∙ ap (λ w. rows_of w ys) c.arity_of.ensures in
+    record {
+      beta = drawn.0;
+      replay = ap (λ w. round_replay m bits before made.commitment w) found ∙ c.in-Ok.ensures.round;
+      canonical = λ e. found ∙ ap (λ w. unwrap_or w zero)
+          (c.in-Ok.ensures.witness ∙ ap (λ b. found_witness solution observed b) e);
+      keeps = record {
+        matrix = c.new-leaves.result;
+        only = made.ensures.matrices;
+        rows_of_word = is_rows;
+        width = c.new-leaves.ensures.width ∙ c.arity_of.ensures;
+        same = made.ensures.commitment;
+      };
+      word_after = c.in_ok-word.ensures h ys (sym c.args.word.ok.0 ∙ whole)
+          (ap (λ (x : RowMajorMatrix _). rows x) same ∙ is_rows);
+    }

@@ -1,0 +1,4 @@
+//! The prover of the low-degree test.
+#![tactic(auto)]
+
+pub mod prover;
