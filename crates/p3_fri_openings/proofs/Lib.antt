@@ -6,3 +6,4 @@ pub mod Sizes
 pub mod Writes
 pub mod Sums
 pub mod ValueSums
+pub mod Tables

@@ -4,3 +4,4 @@ pub mod Rounds
 pub mod Refusals
 pub mod Committed
 pub mod Sums
+pub mod Denominators

@@ -3,9 +3,11 @@
 #![tactic(auto)]
 
 pub mod checks;
+pub mod denominators;
 pub mod round;
 pub mod values;
 
 pub use crate::checks::{check_heights, check_points, is_in_evaluation_domain};
+pub use crate::denominators::{PointDenominators, denominators_of_point, inverses_at};
 pub use crate::round::OpeningRound;
 pub use crate::values::values_at_point;
