@@ -7,3 +7,4 @@ pub mod Writes
 pub mod Sums
 pub mod ValueSums
 pub mod Tables
+pub mod Example

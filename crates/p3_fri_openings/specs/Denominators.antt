@@ -13,7 +13,8 @@ module _ {F E : Type 0} (f : Fields F E) where
     pub inverses_are : entry.inverses.items ≡ inverse_differences f entry.point (2 ^ log_height)
 
 -- some entry is of the point `z`, for a coset of at least `n` points
-pub record IsCovered {E : Type 0} (n : ℕ) (table : List (PointDenominators E)) (z : E) : Type 0 where
+pub record IsCovered {E : Type 0} (n : ℕ) (table : List (PointDenominators E)) (z : E)
+    : Type 0 where
   pub place : ℕ
   pub within : place < length table
   pub tall : HoldsAt (λ entry. n ≤ vec_len entry.inverses) table place

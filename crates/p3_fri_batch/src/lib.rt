@@ -1,0 +1,9 @@
+//! The batch of an opening: for each log height the word of the quotients of all matrices of that
+//! height, by powers of the batching challenge.
+#![tactic(auto)]
+
+pub mod compression;
+pub mod points;
+
+pub use crate::compression::compress;
+pub use crate::points::{add_matrix, add_opened_points};

@@ -1,0 +1,58 @@
+-- Sums of a row's values times powers, value by value.
+use Rattle.std.proofs.Common.{◌≡◌, ℕ, suc, ◌+◌, ◌-◌, ◌<◌, ◌≤◌, List, [], ◌∷◌, ◌++◌, take, length}
+use Rattle.std.proofs.Common.{map, get_or, sym, ap, ap₂, ◌∙◌, arith}
+use Rattle.std.proofs.lemmas.List.{take_more, take-map, get_or_read, get_or-map, length-map}
+use Rattle.std.proofs.lemmas.List.{length-take-le}
+use Rattle.algebra.specs.Field.{FieldOps, IsRing, pow}
+use Rattle.algebra.specs.Polynomial.{val, tabulate}
+use Rattle.algebra.proofs.Lists.{get_or-tabulate, length-tabulate}
+use Rattle.algebra.proofs.Powers.{pow-next}
+use Rattle.algebra.proofs.Values.{val-append, val-one}
+
+module _ {E : Type 0} (K : FieldOps E) (R : IsRing K) (alpha : E) where
+  open K use {add as ◌⊕◌, mul as ◌⊗◌}
+
+  infixl 65 ◌⊕◌
+  infixl 70 ◌⊗◌
+  -- an entry of the table
+  pub power_read : (n : ℕ) (powers : List E) (k : ℕ) (p : E)
+      → powers ≡ tabulate n (λ i. pow K alpha i) → k < n → p ≡ get_or powers k p → p ≡ pow K alpha k
+  power_read n powers k p e l r =
+      r ∙ ap (λ ps. get_or ps k p) e ∙ get_or-tabulate n (λ i. pow K alpha i) k p l
+
+  -- the power after one of the table
+  pub power_after : (n k : ℕ) (powers : List E) (p : E)
+      → powers ≡ tabulate n (λ i. pow K alpha i) → k < n → p ≡ get_or powers k p
+      → p ⊗ alpha ≡ pow K alpha (k + 1)
+  power_after n k powers p e l r =
+      ap (λ x. x ⊗ alpha) (power_read n powers k p e l r) ∙ R.mul_comm (pow K alpha k) alpha
+      ∙ sym (pow-next K alpha k)
+
+  -- one value more
+  pub combined_next : (n k : ℕ) (powers values : List E) (p v s : E)
+      → powers ≡ tabulate n (λ i. pow K alpha i) → k < n → p ≡ get_or powers k p
+      → k < length values → v ≡ get_or values k v
+      → s ≡ val K (take k values) alpha
+      → s ⊕ p ⊗ v ≡ val K (take (k + 1) values) alpha
+  combined_next n k powers values p v s e l r below is so_far =
+      ap₂ (λ x y. x ⊕ y ⊗ v) so_far
+      (power_read n powers k p e l r ∙ ap (λ m. pow K alpha m)
+      (sym (length-take-le k values (omega (arith, below)))))
+      ∙ ap (λ y. val K (take k values) alpha ⊕ pow K alpha (length (take k values)) ⊗ y)
+      (sym (val-one K R v alpha))
+      ∙ sym (val-append K R (take k values) (v ∷ []) alpha)
+      ∙ ap (λ y. val K (take k values ++ y ∷ []) alpha) is
+      ∙ sym (ap (λ xs. val K xs alpha) (take_more values k v below))
+
+  -- one value of the base field more
+  pub lifted_next : {F : Type 0} (lift : F → E) (n k : ℕ) (powers : List E) (row : List F) (p s : E)
+      (v : F) → powers ≡ tabulate n (λ i. pow K alpha i) → k < n → p ≡ get_or powers k p
+      → k < length row → v ≡ get_or row k v
+      → s ≡ val K (map lift (take k row)) alpha
+      → s ⊕ p ⊗ lift v ≡ val K (map lift (take (k + 1) row)) alpha
+  lifted_next lift n k powers row p s v e l r below is so_far =
+      combined_next n k powers (map lift row) p (lift v) s e l r
+      (omega (arith, below, length-map row lift))
+      (ap lift is ∙ sym (get_or-map lift row k v (lift v) below))
+      (so_far ∙ ap (λ xs. val K xs alpha) (sym (take-map lift k row)))
+      ∙ ap (λ xs. val K xs alpha) (take-map lift (k + 1) row)

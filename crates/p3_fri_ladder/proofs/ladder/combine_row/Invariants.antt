@@ -1,0 +1,7 @@
+use Rattle.std.proofs.Common.{◌≡◌, take, map}
+use Rattle.algebra.specs.Polynomial.{val}
+use Rattle.p3_fri_ladder.proofs.ladder.combine_row.Given as goal
+
+abbrev pub invariant-loop-k : goal.invariant-loop-k
+invariant-loop-k g l =
+    l.sum ≡ val g.EF.Field.ops (map g.EF.ExtensionField.lift (take l.k l.row)) l.ladder.alpha
