@@ -5,4 +5,5 @@ pub mod Queries
 pub mod Turns
 pub mod Heights
 pub mod Openings
+pub mod RoundsFolded
 pub mod Refusals

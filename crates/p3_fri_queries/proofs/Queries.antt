@@ -22,9 +22,10 @@ use Rattle.p3_fri_relation.specs.FoldedQuery.{QueryInput, folded, folded_value, 
 use Rattle.p3_fri_relation.specs.Views.{query_input, rows_collected}
 use Rattle.p3_fri_queries.specs.Folded.{query_at, EndsAtFinal, indices_folded, rows_folded}
 use Rattle.p3_fri_relation.proofs.ZippedLists.{gathered, gathered-next}
+use Rattle.p3_fri_relation.proofs.QueryLinks.{length-row_indices}
 use Rattle.p3_fri_queries.proofs.Gains.{tabulated}
 use Rattle.p3_fri_queries.proofs.Refusals.{handed_on, handed_on_as, refused}
-use Rattle.p3_fri_queries.proofs.Lengths.{length_row_indices, folded_all}
+use Rattle.p3_fri_queries.proofs.Lengths.{folded_all}
 
 -- collectors without a row
 pub rows_none : {T A B D : Type 0} (r : ℕ) (vectors : List (Vec (Vec (Vec T A) B) D))
@@ -73,7 +74,7 @@ module _ {F E : Type 0} (f : Fields F E) (fold : ℕ → ℕ → ℕ → E → L
         let more : FoldedUpTo (n + 1) indices' rows' = record {
           indices_are = i ∙ ap (λ lists. gains lists (row_indices log_arities (slice_index positions n))) so_far.indices_are
               ∙ gathered-next (length log_arities) n (λ j. row_indices log_arities (slice_index positions j)) 0
-              (length_row_indices log_arities (slice_index positions n));
+              (length-row_indices log_arities (slice_index positions n));
           rows_are = r ∙ ap (λ lists. gains lists (map (λ row. row ∷ []) (group_rows (q n) f.ext fold))) so_far.rows_are
               ∙ gathered-next (length log_arities) n (λ j. map (λ row. row ∷ []) (group_rows (q j) f.ext fold)) ([] ∷ [])
               (length-map (group_rows (q n) f.ext fold) (λ row. row ∷ []) ∙ l);

@@ -17,8 +17,8 @@ fn evaluate<F: Field>(coefficients: &[F], point: F) -> F
     value
 }
 
-/// Whether the value is the final polynomial's at the point of that index, in bit-reversed order, of
-/// the domain of `2^log_height` points.
+/// Whether the value is the final polynomial's at the point of that index in the domain of
+/// `2^log_height` points, which are in bit-reversed order.
 #[tactic(auto, unfolding(algebra::specs::TwoAdic::pt))]
 pub(crate) fn ends_at_final<F: TwoAdicField, EF: ExtensionField<F>>(
     value: EF,

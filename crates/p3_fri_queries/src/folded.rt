@@ -18,7 +18,8 @@ impl<EF: Copy> FoldedQueries<EF> {
     #[tactic(auto, using(algebra::proofs::Nested::lists_at))]
     pub(crate) fn group_indices(&self, round: usize) -> &[usize]
         requires { round < length self.now.group_indices_by_round.items }
-        ensures { result.now ≡ slice_index_or (lists self.now.group_indices_by_round.items) round [] }
+        ensures { result.now
+            ≡ slice_index_or (lists self.now.group_indices_by_round.items) round [] }
     {
         &self.group_indices_by_round[round]
     }
