@@ -1,5 +1,7 @@
 pub mod Ways
 pub mod Queries
+pub mod Proofs
+pub mod Assembly
 pub mod Committed
 pub mod Pushes
 pub mod Folding

@@ -2,3 +2,4 @@ pub mod Inputs
 pub mod Refusals
 pub mod Rounds
 pub mod Openings
+pub mod Proved

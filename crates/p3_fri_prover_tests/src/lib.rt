@@ -1,0 +1,5 @@
+//! Tests of the prover.
+#![tactic(auto)]
+
+#[cfg(test)]
+mod heights;
