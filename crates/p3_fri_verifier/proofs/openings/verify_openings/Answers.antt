@@ -1,0 +1,203 @@
+use Rattle.std.proofs.Common.{◌≡◌, ◌≢◌, ℕ, ◌<◌, ◌∙◌, sym, ap, arith, subst, inl, inr, length, Err, refl, List, map}
+use Rattle.std.specs.List.{AllZip}
+use Rattle.p3_fri_relation.specs.Acceptance.{HasSiblings}
+use Rattle.std.specs.Prelude.{slice_index, slice_index_or, IsOk, sum}
+use Rattle.std.proofs.lemmas.List.{length-map}
+use Rattle.algebra.specs.Nested.{lists, nested}
+use Rattle.algebra.proofs.Lists.{length-tabulate}
+use Rattle.algebra.proofs.Nested.{length-lists}
+use Rattle.p3_fri_relation.specs.Heights.{matrices_of, log_height}
+use Rattle.p3_fri_relation.specs.Views.{claims_of, parameters_of, proof_of, round_opened, rounds_opened, inputs_opened, rows_collected}
+use Rattle.p3_fri_relation.specs.declared.error.FriError.TheVariants.{OutOfMemory}
+use Rattle.p3_fri_relation.proofs.ClaimedHeights.{greatest_height-bounds}
+use Rattle.p3_fri_relation.proofs.Instances.{instance_top, instance_sum}
+use Rattle.p3_fri_verifier.proofs.Replays.{false_true, same_err, ok_err, refused_as}
+use Rattle.p3_fri_verifier.proofs.Opened.{inputs_good_at, input_fault_at, in_order_at, ends_at, ends_of, way_fault_at}
+use Rattle.p3_fri_verifier.proofs.Opened.{opened_at, rounds_open_at, open_rounds_at, rounds_fault_at, length_zipped, indices_below}
+use Rattle.p3_challenger.specs.Run.{moves}
+use Rattle.p3_fri_relation.specs.Setting.{Setting}
+use Rattle.p3_fri_verifier.proofs.openings.verify_openings.Given.{Over}
+use Rattle.p3_fri_verifier.proofs.openings.verify_openings.Goals as goal
+
+-- what the layers below compute and accept, named once
+abbrev setting_at : (g : Over) → g.row.S.Denot → g.row.M.Denot → g.row.InputMmcs.Denot
+    → Setting g.row.F.Denot g.row.EF.Denot g.row.C.Denot g.row.M-Commitment.Denot g.row.M-MultiProof.Denot
+    g.row.InputMmcs-Commitment.Denot g.row.InputMmcs-MultiProof.Denot
+setting_at g folding mmcs input_mmcs = record {
+  fields = record {
+    base = g.F.Field.ops;
+    ext = g.EF.Field.ops;
+    lift = g.EF.ExtensionField.lift;
+    coefficients = g.EF.ExtensionField.coefficients;
+    degree = g.EF.ExtensionField.DIMENSION;
+    root = g.F.TwoAdicField.root;
+    two_adicity = g.F.TwoAdicField.TWO_ADICITY;
+    shift = g.F.Field.GENERATOR;
+  };
+  fold = g.S.FriFoldingStrategy.row_fold folding;
+  extra_bits = g.S.FriFoldingStrategy.extra_query_index_bits folding;
+  moves = moves g.C.CanObserve-1.observed g.C.CanObserve-2.observed g.C.CanSample.sampled
+      g.EF.ExtensionField.of_coefficients g.EF.ExtensionField.DIMENSION g.C.CanSampleBits.sampled_bits;
+  opens_input = g.InputMmcs.Mmcs.opens input_mmcs;
+  opens_round = g.M.Mmcs.opens mmcs;
+}
+
+pub open_inputs-opened-requires-clause-within_two_adicity : goal.open_inputs-opened-requires-clause-within_two_adicity
+open_inputs-opened-requires-clause-within_two_adicity g c =
+    let bounds = instance_top (parameters_of c.args.params.now) (claims_of (λ d. d.log_size) c.args.claims.now)
+    g.F.TwoAdicField.TWO_ADICITY c.requires.in_range in
+    omega (arith, bounds.1, c.requires.top)
+
+pub open_inputs-opened-requires-clause-heights : goal.open_inputs-opened-requires-clause-heights
+open_inputs-opened-requires-clause-heights g c k d l =
+    let h = greatest_height-bounds c.args.params.now.log_blowup (matrices_of (claims_of (λ d. d.log_size) c.args.claims.now)) k d l in
+    omega (arith, h, c.requires.top)
+
+pub returns-in-Err-clause-exact : goal.returns-in-Err-clause-exact
+returns-in-Err-clause-exact g c other = (
+  (λ e. absurd (false_true e)),
+  (λ o. (c.in-Err.ensures.exact (λ e. other (ap Err (same_err _ _ e)))).1
+      (inputs_good_at _ _ _ _ _ _ _ _ c.requires.top _ (ap inputs_opened c.deref.ensures.value) o)),
+)
+
+pub returns-in-Err-clause-refusal : goal.returns-in-Err-clause-refusal
+returns-in-Err-clause-refusal g c =
+    input_fault_at (setting_at g c.args.folding.now c.args.params.now.mmcs c.args.input_mmcs.now) (parameters_of c.args.params.now) (claims_of (λ d. d.log_size) c.args.claims.now)
+    (proof_of c.args.proof.now) c.args.alpha c.args.betas.now c.args.positions.now c.args.log_global_max_height c.requires.top
+    (inputs_opened c.deref.result.now) (ap inputs_opened c.deref.ensures.value) c.in-Err.refusal c.in-Err.ensures.fault
+
+pub fold_queries-way-requires-clause-count : goal.fold_queries-way-requires-clause-count
+fold_queries-way-requires-clause-count g c = sym (length-lists c.in-Ok.reduced_openings.items)
+    ∙ ap length c.in-Ok.ensures.sums ∙ length-tabulate _ _
+
+pub fold_queries-way-requires-clause-in_order : goal.fold_queries-way-requires-clause-in_order
+fold_queries-way-requires-clause-in_order g c = in_order_at (setting_at g c.args.folding.now c.args.params.now.mmcs c.args.input_mmcs.now) (parameters_of c.args.params.now) (claims_of (λ d. d.log_size) c.args.claims.now)
+    (proof_of c.args.proof.now) c.args.alpha c.args.betas.now c.args.positions.now c.args.log_global_max_height c.requires.top
+    (inputs_opened c.deref.result.now) (ap inputs_opened c.deref.ensures.value)
+    c.args.log_arities.now c.as_slice-openings.result.now (lists c.in-Ok.reduced_openings.items)
+    c.requires.schedule (ap rounds_opened (sym c.as_slice-openings.ensures.value)) c.requires.positions
+    (subst (λ la. AllZip (HasSiblings c.args.params.now.num_queries) la (rounds_opened c.args.proof.now.commit_phase_openings.items)) c.requires.schedule c.requires.counts.rounds)
+    (c.requires.betas ∙ ap length c.requires.schedule) g.F.TwoAdicField.TWO_ADICITY c.requires.in_range c.in-Ok.ensures.sums
+    c.deref-2.result.now c.deref-2.ensures.value g.met.F.TwoAdicField.two_adicity_law
+
+pub fold_queries-way-requires-clause-openings : goal.fold_queries-way-requires-clause-openings
+fold_queries-way-requires-clause-openings g c =
+    ap length c.as_slice-openings.ensures.value
+    ∙ sym (length-map c.args.proof.now.commit_phase_openings.items round_opened)
+    ∙ length_zipped _ _ _ c.requires.counts.rounds
+
+pub fold_queries-way-requires-clause-within_max_height : goal.fold_queries-way-requires-clause-within_max_height
+fold_queries-way-requires-clause-within_max_height g c =
+    let bounds = instance_top (parameters_of c.args.params.now) (claims_of (λ d. d.log_size) c.args.claims.now)
+    g.F.TwoAdicField.TWO_ADICITY c.requires.in_range in
+    omega (arith, bounds.1, c.requires.top, c.requires.max_log_height)
+
+pub fold_queries-way-requires-clause-within_two_adicity : goal.fold_queries-way-requires-clause-within_two_adicity
+fold_queries-way-requires-clause-within_two_adicity g c =
+    let bounds = instance_top (parameters_of c.args.params.now) (claims_of (λ d. d.log_size) c.args.claims.now)
+    g.F.TwoAdicField.TWO_ADICITY c.requires.in_range in
+    omega (arith, bounds.1, c.requires.top)
+
+pub returns-in-Err-way-clause-exact : goal.returns-in-Err-way-clause-exact
+returns-in-Err-way-clause-exact g c other = (
+  (λ e. absurd (false_true e)),
+  (λ o. (c.in-Err-way.ensures.exact (λ e. other (ap Err (same_err _ _ e)))).1 (λ j l. ends_at (setting_at g c.args.folding.now c.args.params.now.mmcs c.args.input_mmcs.now) (parameters_of c.args.params.now) (claims_of (λ d. d.log_size) c.args.claims.now)
+      (proof_of c.args.proof.now) c.args.alpha c.args.betas.now c.args.positions.now c.args.log_global_max_height c.requires.top
+      (inputs_opened c.deref.result.now) (ap inputs_opened c.deref.ensures.value)
+      c.args.log_arities.now c.as_slice-openings.result.now (lists c.in-Ok.reduced_openings.items)
+      c.requires.schedule (ap rounds_opened (sym c.as_slice-openings.ensures.value)) c.requires.positions
+      (subst (λ la. AllZip (HasSiblings c.args.params.now.num_queries) la (rounds_opened c.args.proof.now.commit_phase_openings.items)) c.requires.schedule c.requires.counts.rounds)
+      (c.requires.betas ∙ ap length c.requires.schedule) g.F.TwoAdicField.TWO_ADICITY c.requires.in_range c.in-Ok.ensures.sums
+      c.deref-2.result.now c.deref-2.ensures.value j l (o.good.queries_hold j l).ends)),
+)
+
+pub returns-in-Err-way-clause-refusal : goal.returns-in-Err-way-clause-refusal
+returns-in-Err-way-clause-refusal g c = way_fault_at (setting_at g c.args.folding.now c.args.params.now.mmcs c.args.input_mmcs.now) (parameters_of c.args.params.now) (claims_of (λ d. d.log_size) c.args.claims.now)
+    (proof_of c.args.proof.now) c.args.alpha c.args.betas.now c.args.positions.now c.args.log_global_max_height c.requires.top
+    (inputs_opened c.deref.result.now) (ap inputs_opened c.deref.ensures.value)
+    c.args.log_arities.now c.as_slice-openings.result.now (lists c.in-Ok.reduced_openings.items)
+    c.requires.schedule (ap rounds_opened (sym c.as_slice-openings.ensures.value)) c.requires.positions
+    (subst (λ la. AllZip (HasSiblings c.args.params.now.num_queries) la (rounds_opened c.args.proof.now.commit_phase_openings.items)) c.requires.schedule c.requires.counts.rounds)
+    (c.requires.betas ∙ ap length c.requires.schedule) g.F.TwoAdicField.TWO_ADICITY c.requires.in_range c.in-Ok.ensures.sums
+    c.deref-2.result.now c.deref-2.ensures.value c.in-Err-way.refusal c.in-Err-way.ensures.refusal
+
+pub verify_rounds-requires-clause-openings : goal.verify_rounds-requires-clause-openings
+verify_rounds-requires-clause-openings g c =
+    ap length c.as_slice-openings.ensures.value
+    ∙ sym (length-map c.args.proof.now.commit_phase_openings.items round_opened)
+    ∙ length_zipped _ _ _ c.requires.counts.rounds
+
+pub verify_rounds-requires-clause-indices : goal.verify_rounds-requires-clause-indices
+verify_rounds-requires-clause-indices g c =
+    sym (length-lists c.in-Ok-way.folded.group_indices_by_round.items)
+    ∙ ap length c.in-Ok-way.ensures.indices ∙ length-tabulate _ _
+
+pub verify_rounds-requires-clause-rows : goal.verify_rounds-requires-clause-rows
+verify_rounds-requires-clause-rows g c =
+    sym (length-map c.in-Ok-way.folded.rows_by_round.items (λ round. nested round.items))
+    ∙ ap length c.in-Ok-way.ensures.rows ∙ length-tabulate _ _
+
+pub verify_rounds-requires-clause-within : goal.verify_rounds-requires-clause-within
+verify_rounds-requires-clause-within g c =
+    let whole = instance_sum (parameters_of c.args.params.now) (claims_of (λ d. d.log_size) c.args.claims.now)
+    g.F.TwoAdicField.TWO_ADICITY c.requires.in_range in
+    omega (arith, whole, ap sum c.requires.schedule, c.requires.top)
+
+pub verify_rounds-requires-clause-small : goal.verify_rounds-requires-clause-small
+verify_rounds-requires-clause-small g c =
+    let bounds = instance_top (parameters_of c.args.params.now) (claims_of (λ d. d.log_size) c.args.claims.now)
+    g.F.TwoAdicField.TWO_ADICITY c.requires.in_range in
+    omega (arith, bounds.1, c.requires.top, g.met.F.TwoAdicField.two_adicity_law)
+
+pub verify_rounds-requires-clause-below : goal.verify_rounds-requires-clause-below
+verify_rounds-requires-clause-below g c =
+    let whole = instance_sum (parameters_of c.args.params.now) (claims_of (λ d. d.log_size) c.args.claims.now)
+    g.F.TwoAdicField.TWO_ADICITY c.requires.in_range in
+    indices_below c.args.log_arities.now c.args.log_global_max_height c.args.positions.now
+    (lists c.in-Ok-way.folded.group_indices_by_round.items) c.in-Ok-way.ensures.indices
+    (omega (arith, whole, ap sum c.requires.schedule, c.requires.top)) c.requires.within_word
+
+pub returns-clause-exact : goal.returns-clause-exact
+returns-clause-exact g c _ = (
+  (λ ok. opened_at (setting_at g c.args.folding.now c.args.params.now.mmcs c.args.input_mmcs.now) (parameters_of c.args.params.now) (claims_of (λ d. d.log_size) c.args.claims.now)
+      (proof_of c.args.proof.now) c.args.alpha c.args.betas.now c.args.positions.now c.args.log_global_max_height c.requires.top
+      (inputs_opened c.deref.result.now) (ap inputs_opened c.deref.ensures.value)
+      ((c.in-Ok.ensures.exact (λ e. ok_err _ _ e)).0 refl)
+      (λ j l. ends_of (setting_at g c.args.folding.now c.args.params.now.mmcs c.args.input_mmcs.now) (parameters_of c.args.params.now) (claims_of (λ d. d.log_size) c.args.claims.now)
+      (proof_of c.args.proof.now) c.args.alpha c.args.betas.now c.args.positions.now c.args.log_global_max_height c.requires.top
+      (inputs_opened c.deref.result.now) (ap inputs_opened c.deref.ensures.value)
+      c.args.log_arities.now c.as_slice-openings.result.now (lists c.in-Ok.reduced_openings.items)
+      c.requires.schedule (ap rounds_opened (sym c.as_slice-openings.ensures.value)) c.requires.positions
+      (subst (λ la. AllZip (HasSiblings c.args.params.now.num_queries) la (rounds_opened c.args.proof.now.commit_phase_openings.items)) c.requires.schedule c.requires.counts.rounds)
+      (c.requires.betas ∙ ap length c.requires.schedule) g.F.TwoAdicField.TWO_ADICITY c.requires.in_range c.in-Ok.ensures.sums
+      c.deref-2.result.now c.deref-2.ensures.value j l ((c.in-Ok-way.ensures.exact (λ e. ok_err _ _ e)).0 refl j l))
+      (rounds_open_at (setting_at g c.args.folding.now c.args.params.now.mmcs c.args.input_mmcs.now) (parameters_of c.args.params.now) (claims_of (λ d. d.log_size) c.args.claims.now)
+      (proof_of c.args.proof.now) c.args.alpha c.args.betas.now c.args.positions.now c.args.log_global_max_height c.requires.top
+      (inputs_opened c.deref.result.now) (ap inputs_opened c.deref.ensures.value)
+      c.args.log_arities.now c.as_slice-openings.result.now (lists c.in-Ok.reduced_openings.items)
+      c.requires.schedule (ap rounds_opened (sym c.as_slice-openings.ensures.value)) c.requires.positions
+      (subst (λ la. AllZip (HasSiblings c.args.params.now.num_queries) la (rounds_opened c.args.proof.now.commit_phase_openings.items)) c.requires.schedule c.requires.counts.rounds)
+      (c.requires.betas ∙ ap length c.requires.schedule) g.F.TwoAdicField.TWO_ADICITY c.requires.in_range c.in-Ok.ensures.sums
+      c.deref-2.result.now c.deref-2.ensures.value (lists c.in-Ok-way.folded.group_indices_by_round.items) (rows_collected c.in-Ok-way.folded.rows_by_round.items)
+      c.in-Ok-way.ensures.indices c.in-Ok-way.ensures.rows c.deref-3.result.now c.deref-3.ensures.value (c.verify_rounds.ensures.exact.0 ok))),
+  (λ o. c.verify_rounds.ensures.exact.1 (open_rounds_at (setting_at g c.args.folding.now c.args.params.now.mmcs c.args.input_mmcs.now) (parameters_of c.args.params.now) (claims_of (λ d. d.log_size) c.args.claims.now)
+      (proof_of c.args.proof.now) c.args.alpha c.args.betas.now c.args.positions.now c.args.log_global_max_height c.requires.top
+      (inputs_opened c.deref.result.now) (ap inputs_opened c.deref.ensures.value)
+      c.args.log_arities.now c.as_slice-openings.result.now (lists c.in-Ok.reduced_openings.items)
+      c.requires.schedule (ap rounds_opened (sym c.as_slice-openings.ensures.value)) c.requires.positions
+      (subst (λ la. AllZip (HasSiblings c.args.params.now.num_queries) la (rounds_opened c.args.proof.now.commit_phase_openings.items)) c.requires.schedule c.requires.counts.rounds)
+      (c.requires.betas ∙ ap length c.requires.schedule) g.F.TwoAdicField.TWO_ADICITY c.requires.in_range c.in-Ok.ensures.sums
+      c.deref-2.result.now c.deref-2.ensures.value (lists c.in-Ok-way.folded.group_indices_by_round.items) (rows_collected c.in-Ok-way.folded.rows_by_round.items)
+      c.in-Ok-way.ensures.indices c.in-Ok-way.ensures.rows c.deref-3.result.now c.deref-3.ensures.value o.good.rounds_open)),
+)
+
+pub returns-clause-refusal : goal.returns-clause-refusal
+returns-clause-refusal g c = refused_as _ _ c.verify_rounds.result (λ e h. rounds_fault_at (setting_at g c.args.folding.now c.args.params.now.mmcs c.args.input_mmcs.now) (parameters_of c.args.params.now) (claims_of (λ d. d.log_size) c.args.claims.now)
+    (proof_of c.args.proof.now) c.args.alpha c.args.betas.now c.args.positions.now c.args.log_global_max_height c.requires.top
+    (inputs_opened c.deref.result.now) (ap inputs_opened c.deref.ensures.value)
+    c.args.log_arities.now c.as_slice-openings.result.now (lists c.in-Ok.reduced_openings.items)
+    c.requires.schedule (ap rounds_opened (sym c.as_slice-openings.ensures.value)) c.requires.positions
+    (subst (λ la. AllZip (HasSiblings c.args.params.now.num_queries) la (rounds_opened c.args.proof.now.commit_phase_openings.items)) c.requires.schedule c.requires.counts.rounds)
+    (c.requires.betas ∙ ap length c.requires.schedule) g.F.TwoAdicField.TWO_ADICITY c.requires.in_range c.in-Ok.ensures.sums
+    c.deref-2.result.now c.deref-2.ensures.value (lists c.in-Ok-way.folded.group_indices_by_round.items) (rows_collected c.in-Ok-way.folded.rows_by_round.items)
+    c.in-Ok-way.ensures.indices c.in-Ok-way.ensures.rows c.deref-3.result.now c.deref-3.ensures.value e h.0 h.1 h.2) c.verify_rounds.ensures.refusal

@@ -1,0 +1,46 @@
+use Rattle.std.proofs.Common.{◌≡◌, ℕ, ◌<◌, ◌+◌, ◌∷◌, ◌∙◌, sym, ap, refl, arith, subst, length, List, get_or}
+use Rattle.p3_fri_folding.specs.Schedule.{IsStrictlyFalling, schedule}
+use Rattle.p3_fri_relation.specs.Heights.{matrices_of, heights_of}
+use Rattle.std.specs.Prelude.{All}
+use Rattle.p3_fri_relation.specs.Acceptance.{IsInRange, top_height, log_arities}
+use Rattle.p3_fri_relation.specs.Views.{claims_of, parameters_of}
+use Rattle.p3_fri_relation.proofs.ClaimedHeights.{heights_of-falling}
+use Rattle.p3_fri_relation.proofs.Instances.{instance_heights, instance_range, further_heights}
+use Rattle.p3_fri_verifier.proofs.Plans.{all_small}
+use Rattle.p3_fri_verifier.proofs.Replays.{ok_err}
+use Rattle.p3_fri_verifier.proofs.plan.make_plan.Goals as goal
+
+pub fold_schedule-requires-clause-falling : goal.fold_schedule-requires-clause-falling
+fold_schedule-requires-clause-falling g c =
+    subst (λ hs. IsStrictlyFalling hs) (sym (c.deref.ensures.value ∙ c.in-Ok.ensures.heights))
+    (heights_of-falling c.args.params.now.log_blowup (matrices_of (claims_of (λ d. d.log_size) c.args.claims.now)))
+
+pub check_counts-requires-clause-small : goal.check_counts-requires-clause-small
+check_counts-requires-clause-small g c =
+    let p = parameters_of c.args.params.now in
+    let claims = claims_of (λ d. d.log_size) c.args.claims.now in
+    let two_adicity = g.F.TwoAdicField.TWO_ADICITY in
+    let ranged : IsInRange p claims two_adicity = (c.in-Ok.ensures.exact (λ e. ok_err _ _ e)).0 refl in
+    subst (λ xs. All (λ a. a < 64) xs) (sym (c.deref-2.ensures.value ∙ c.in-Ok-fold_schedule.ensures.value
+    ∙ ap (λ hs. schedule hs (c.args.params.now.log_blowup + c.args.params.now.log_final_poly_len) c.args.params.now.max_log_arity)
+    (c.deref.ensures.value ∙ c.in-Ok.ensures.heights)))
+    (all_small (log_arities p claims) (instance_range p claims two_adicity ranged g.met.F.TwoAdicField.two_adicity_law))
+
+pub index-requires : goal.index-requires
+index-requires g c =
+    let p = parameters_of c.args.params.now in
+    let claims = claims_of (λ d. d.log_size) c.args.claims.now in
+    let two_adicity = g.F.TwoAdicField.TWO_ADICITY in
+    let ranged : IsInRange p claims two_adicity = (c.in-Ok.ensures.exact (λ e. ok_err _ _ e)).0 refl in
+    let whole : c.in-Ok.heights.items ≡ top_height p claims ∷ further_heights p claims =
+    c.in-Ok.ensures.heights ∙ instance_heights p claims two_adicity ranged in
+    omega (arith, c.in-Ok.heights.ok.0, ap length whole)
+
+pub returns-in-Ok-check_canonical-clause-top : goal.returns-in-Ok-check_canonical-clause-top
+returns-in-Ok-check_canonical-clause-top g c =
+    let p = parameters_of c.args.params.now in
+    let claims = claims_of (λ d. d.log_size) c.args.claims.now in
+    let two_adicity = g.F.TwoAdicField.TWO_ADICITY in
+    let ranged : IsInRange p claims two_adicity = (c.in-Ok.ensures.exact (λ e. ok_err _ _ e)).0 refl in
+    c.index.ensures ∙ ap (λ hs. get_or hs 0 c.index.result.now)
+    (c.in-Ok.ensures.heights ∙ instance_heights p claims two_adicity ranged)

@@ -1,0 +1,26 @@
+-- What can be told before the transcript of a test begins.
+use Rattle.std.specs.Prelude.{◌≡◌, ◌⊎◌, ℕ, List, length}
+use Rattle.p3_fri_steps.specs.declared.pow_phase.PowPhase.{PowPhase}
+use Rattle.p3_fri_relation.specs.declared.error.FriError.{FriError}
+use Rattle.p3_fri_relation.specs.declared.error.FriError.TheVariants.{NonCanonicalPowWitness}
+use Rattle.p3_fri_relation.specs.declared.error.FriError.TheVariants.{OutOfMemory}
+use Rattle.p3_fri_relation.specs.Setting.{Parameters, CommitmentClaim, Proof}
+use Rattle.p3_fri_relation.specs.Acceptance.{IsInRange, HasCounts, AreCanonical, log_arities}
+use Rattle.p3_fri_relation.specs.Faults.{InstanceFault, CountFault, IsNotCanonical}
+
+module _ {F E Com Path InCom InPath : Type 0} (p : Parameters)
+    (claims : List (CommitmentClaim E InCom)) (proof : Proof F E Com Path InPath) (zero : F)
+    (two_adicity : ℕ) where
+  -- the parameters and claims are in range, the proof's lists have their lengths (but for the number
+  -- of openings of inputs, which aren't compared yet), and its witnesses at no bits are zero
+  pub record CanBegin : Type 0 where
+    pub in_range : IsInRange p claims two_adicity
+    pub counts : HasCounts p proof (log_arities p claims) (length proof.inputs)
+    pub canonical : AreCanonical p proof zero
+
+  -- why it can't
+  abbrev pub BeginningFault : {A B : Type 0} → FriError A B → Type 0
+  BeginningFault e = InstanceFault p claims two_adicity e
+      ⊎ CountFault p (log_arities p claims) proof e
+      ⊎ ((phase : PowPhase) × (e ≡ NonCanonicalPowWitness phase)
+      × IsNotCanonical p proof zero phase)

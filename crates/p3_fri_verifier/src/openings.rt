@@ -1,0 +1,109 @@
+//! The openings of a proof, once its positions and challenges are drawn.
+
+ghost use Rattle.std.specs.Prelude.{◌≡◌, ◌≢◌, ◌+◌, ◌^◌, ◌<◌, ◌≤◌, ◌↔◌, ◌⊎◌, All, length};
+ghost use Rattle.std.specs.Prelude.{Err, IsOk, IfErr};
+ghost use Rattle.p3_fri_relation.specs.declared.error.FriError.TheVariants.{OutOfMemory};
+ghost use Rattle.p3_fri_relation.specs.Acceptance.{IsInRange, HasCounts, top_height};
+ghost use Rattle.p3_fri_relation.specs.Acceptance.{log_arities as scheduled};
+ghost use Rattle.p3_fri_relation.specs.Faults.{OpeningsFault};
+ghost use Rattle.p3_fri_relation.specs.Views.{parameters_of, claims_of, proof_of};
+ghost use Rattle.p3_fri_verifier.specs.Openings.{AreOpened};
+
+use p3_challenger::{CanObserve, FieldChallenger};
+use p3_commit::{CommitmentOpening, Mmcs};
+use p3_field::{ExtensionField, TwoAdicField, TwoAdicMultiplicativeCoset};
+use p3_fri_folding::{FriFoldingStrategy, FriParameters};
+use p3_fri_inputs::open_inputs;
+use p3_fri_queries::{fold_queries, verify_rounds};
+use p3_fri_relation::error::FriError;
+use p3_fri_relation::proof::{BatchMultiOpening, FriProof};
+use p3_fri_relation::setting::PlaysFri;
+use std::alloc::Global;
+
+/// Verifies all that a proof opens at the queries' positions, with these folding challenges: the
+/// openings of the inputs, each query's way to the final polynomial, and the openings of the
+/// rounds.
+pub(crate) fn verify_openings<
+    F: TwoAdicField,
+    EF: ExtensionField<F>,
+    M: Mmcs<EF>,
+    InputMmcs: Mmcs<F>,
+    S: FriFoldingStrategy<F, EF, InputError = InputMmcs::Error>,
+    C: FieldChallenger<F> + CanObserve<M::Commitment>,
+>(
+    alloc: Global,
+    folding: &S,
+    params: &FriParameters<M>,
+    proof: &FriProof<EF, M, F, Vec<BatchMultiOpening<F, InputMmcs>>>,
+    claims: &[CommitmentOpening<EF, InputMmcs::Commitment, TwoAdicMultiplicativeCoset<F>>],
+    input_mmcs: &InputMmcs,
+    alpha: EF,
+    log_arities: &[usize],
+    log_global_max_height: usize,
+    betas: &[EF],
+    positions: &[usize],
+) -> Result<(), FriError<M::Error, InputMmcs::Error>>
+    requires final_height_below_64 { params.now.log_blowup + params.now.log_final_poly_len < 64 }
+    requires max_log_height { F.TWO_ADICITY ≤ S.max_log_height folding.now }
+    requires in_range { IsInRange (parameters_of params.now) (claims_of (λ d. d.log_size) claims.now)
+        F.TWO_ADICITY }
+    requires counts { HasCounts (parameters_of params.now) (proof_of proof.now) log_arities.now
+        (length (proof_of proof.now).inputs) }
+    requires schedule { log_arities.now
+        ≡ scheduled (parameters_of params.now) (claims_of (λ d. d.log_size) claims.now) }
+    requires top { log_global_max_height
+        ≡ top_height (parameters_of params.now) (claims_of (λ d. d.log_size) claims.now) }
+    requires betas { length betas.now ≡ length log_arities.now }
+    requires positions { length positions.now ≡ params.now.num_queries }
+    requires within_word { All (λ position. position < 2 ^ log_global_max_height) positions.now }
+    ensures exact { let s = ⟦<C as PlaysFri<F, EF, S, M, InputMmcs>>⟧.setting folding.now
+        params.now.mmcs input_mmcs.now in
+        result ≢ Err OutOfMemory → (IsOk result
+        ↔ AreOpened s (parameters_of params.now) (claims_of (λ d. d.log_size) claims.now)
+        (proof_of proof.now) alpha betas.now positions.now) }
+    ensures refusal { let s = ⟦<C as PlaysFri<F, EF, S, M, InputMmcs>>⟧.setting folding.now
+        params.now.mmcs input_mmcs.now in
+        IfErr result (λ e. OpeningsFault s (parameters_of params.now)
+        (claims_of (λ d. d.log_size) claims.now) (proof_of proof.now) alpha betas.now positions.now e
+        ⊎ (e ≡ OutOfMemory)) }
+{
+    let openings = proof.commit_phase_openings.as_slice();
+    let opened = open_inputs(
+        alloc,
+        params,
+        log_global_max_height,
+        positions,
+        &proof.input_openings,
+        alpha,
+        input_mmcs,
+        claims,
+    );
+    let reduced_openings = match opened {
+        Ok(reduced_openings) => reduced_openings,
+        Err(refusal) => return Err(refusal),
+    };
+    let way = fold_queries(
+        alloc,
+        folding,
+        positions,
+        betas,
+        log_arities,
+        openings,
+        reduced_openings,
+        log_global_max_height,
+        params.log_blowup + params.log_final_poly_len,
+        &proof.final_poly,
+    );
+    let folded = match way {
+        Ok(folded) => folded,
+        Err(refusal) => return Err(refusal),
+    };
+    verify_rounds(
+        &params.mmcs,
+        &proof.commit_phase_commits,
+        log_arities,
+        log_global_max_height,
+        openings,
+        &folded,
+    )
+}

@@ -1,0 +1,118 @@
+//! The verifier of the low-degree test.
+
+ghost use Rattle.std.specs.Prelude.{◌≡◌, ◌≢◌, ◌+◌, ◌<◌, ◌≤◌, ◌↔◌, Err, IsOk, IfErr};
+ghost use Rattle.p3_fri_steps.specs.declared.pow_phase.PowPhase.{PowPhase};
+ghost use Rattle.p3_fri_relation.specs.declared.error.FriError.TheVariants.{OutOfMemory};
+ghost use Rattle.p3_fri_relation.specs.declared.error.FriError.TheVariants.{NonCanonicalPowWitness};
+ghost use Rattle.p3_fri_relation.specs.Acceptance.{FriAccepts, test_replay};
+ghost use Rattle.p3_fri_relation.specs.Faults.{Stands};
+ghost use Rattle.p3_fri_relation.specs.Views.{parameters_of, claims_of, proof_of};
+
+use crate::openings::verify_openings;
+use crate::plan::make_plan;
+use crate::positions::{index_bits, positions_of};
+use crate::replay::replay;
+use p3_challenger::{CanObserve, FieldChallenger, GrindingChallenger};
+use p3_commit::{CommitmentOpening, Mmcs};
+use p3_field::{ExtensionField, TwoAdicField, TwoAdicMultiplicativeCoset};
+use p3_fri_folding::{FriFoldingStrategy, FriParameters};
+use p3_fri_relation::error::FriError;
+use p3_fri_relation::proof::{BatchMultiOpening, FriProof};
+use p3_fri_relation::setting::PlaysFri;
+use p3_fri_transcript::transcript::FriShape;
+use std::alloc::{AllocError, Global};
+
+/// Verifies a proof of the low-degree test (FRI, ICALP 2018) of what is claimed of committed
+/// matrices, where `alpha` is the challenge that batches the claims' quotients.
+///
+/// Memory aside it is `Ok` exactly where the test accepts, and then the challenger is left in the
+/// last state of the test's transcript. No index, sum or size is taken from the proof before it was
+/// compared with what the parameters and the claims ask for.
+///
+/// The final height is below 64. The challenger draws as many bits at once as the two-adicity and the
+/// strategy's extra bits together, and as each difficulty. The strategy folds words of each log
+/// height up to the two-adicity.
+///
+/// # Errors
+///
+/// A refusal names a fault that stands: of the parameters and the claims, of the lengths of the
+/// proof's lists, of its proofs of work, of the openings of the inputs or of the rounds. Want of
+/// memory is `OutOfMemory`. `NonCanonicalPowWitness` leaves the challenger as it was; after another
+/// refusal it is of no use.
+pub fn verify_fri<
+    F: TwoAdicField,
+    EF: ExtensionField<F>,
+    M: Mmcs<EF>,
+    InputMmcs: Mmcs<F>,
+    S: FriFoldingStrategy<F, EF, InputError = InputMmcs::Error>,
+    C: FieldChallenger<F> + GrindingChallenger<Witness = F> + CanObserve<M::Commitment>,
+>(
+    alloc: Global,
+    folding: &S,
+    params: &FriParameters<M>,
+    proof: &FriProof<EF, M, F, Vec<BatchMultiOpening<F, InputMmcs>>>,
+    challenger: &mut C,
+    claims: &[CommitmentOpening<EF, InputMmcs::Commitment, TwoAdicMultiplicativeCoset<F>>],
+    input_mmcs: &InputMmcs,
+    alpha: EF,
+) -> Result<(), FriError<M::Error, InputMmcs::Error>>
+    requires final_height_below_64 { params.now.log_blowup + params.now.log_final_poly_len < 64 }
+    requires index_bits_at_most_max { F.TWO_ADICITY + S.extra_query_index_bits folding.now
+        ≤ C.MAX_SAMPLE_BITS }
+    requires commit_bits_at_most_max { params.now.commit_proof_of_work_bits ≤ C.MAX_SAMPLE_BITS }
+    requires query_bits_at_most_max { params.now.query_proof_of_work_bits ≤ C.MAX_SAMPLE_BITS }
+    requires max_log_height { F.TWO_ADICITY ≤ S.max_log_height folding.now }
+    ensures exact { let s = ⟦<C as PlaysFri<F, EF, S, M, InputMmcs>>⟧.setting folding.now
+        params.now.mmcs input_mmcs.now in
+        result ≢ Err OutOfMemory → (IsOk result
+        ↔ FriAccepts s (parameters_of params.now) (claims_of (λ d. d.log_size) claims.now)
+        (proof_of proof.now) challenger.old alpha) }
+    ensures state { let s = ⟦<C as PlaysFri<F, EF, S, M, InputMmcs>>⟧.setting folding.now
+        params.now.mmcs input_mmcs.now in
+        IsOk result → challenger.new
+        ≡ (test_replay s (parameters_of params.now) (claims_of (λ d. d.log_size) claims.now)
+        (proof_of proof.now) challenger.old).state }
+    ensures refusal { let s = ⟦<C as PlaysFri<F, EF, S, M, InputMmcs>>⟧.setting folding.now
+        params.now.mmcs input_mmcs.now in
+        IfErr result (Stands s (parameters_of params.now) (claims_of (λ d. d.log_size) claims.now)
+        (proof_of proof.now) challenger.old alpha) }
+    ensures unchanged { (phase : PowPhase) → result ≡ Err (NonCanonicalPowWitness phase)
+        → challenger.new ≡ challenger.old }
+{
+    let plan = match make_plan::<F, EF, M, InputMmcs>(alloc, params, claims, proof) {
+        Ok(plan) => plan,
+        Err(refusal) => return Err(refusal),
+    };
+    let extra_bits = folding.extra_query_index_bits();
+    let log_arities = match Vec::from_slice(alloc, &plan.log_arities) {
+        Ok(log_arities) => log_arities,
+        Err(AllocError) => return Err(FriError::OutOfMemory),
+    };
+    let width = index_bits(plan.log_global_max_height, extra_bits);
+    let replayed = match replay::<F, EF, M::Commitment, C, M::Error, InputMmcs::Error>(
+        alloc,
+        &mut *challenger,
+        FriShape::with_schedule(params, log_arities, width),
+        &proof.commit_phase_commits,
+        &proof.commit_pow_witnesses,
+        &proof.final_poly,
+        proof.query_pow_witness,
+    ) {
+        Ok(replayed) => replayed,
+        Err(refusal) => return Err(refusal),
+    };
+    let positions = positions_of(replayed.indices, extra_bits);
+    verify_openings::<F, EF, M, InputMmcs, S, C>(
+        alloc,
+        folding,
+        params,
+        proof,
+        claims,
+        input_mmcs,
+        alpha,
+        &plan.log_arities,
+        plan.log_global_max_height,
+        &replayed.betas,
+        &positions,
+    )
+}

@@ -1,0 +1,5 @@
+//! Tests of the verifier.
+#![tactic(auto)]
+
+#[cfg(test)]
+mod verify_fri;
