@@ -1,0 +1,5 @@
+//! Tests of all queries together.
+#![tactic(auto)]
+
+#[cfg(test)]
+mod queries;
