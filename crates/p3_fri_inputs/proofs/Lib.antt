@@ -1,0 +1,12 @@
+pub mod Horner
+pub mod Joined
+pub mod Commitments
+pub mod Openings
+pub mod Reading
+pub mod Places
+pub mod LogHeights
+pub mod Refutations
+pub mod Steps
+pub mod Assembly
+pub mod Opened
+pub mod Queries

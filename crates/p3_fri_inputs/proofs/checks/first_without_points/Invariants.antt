@@ -1,0 +1,9 @@
+use Rattle.std.proofs.Common.{◌≢◌, [], All}
+use Rattle.p3_fri_inputs.specs.Claims.{claim_of}
+use Rattle.p3_fri_inputs.proofs.Places.{HoldsBelow}
+use Rattle.p3_fri_inputs.proofs.checks.first_without_points.Given as goal
+
+abbrev pub invariant-loop-batch : goal.invariant-loop-batch
+invariant-loop-batch g l =
+    HoldsBelow (claim_of (λ domain. domain.log_size)) (λ c. All (λ m. m.points ≢ []) c.matrices)
+    l.claims l.batch

@@ -1,0 +1,46 @@
+use Rattle.std.proofs.Common.{◌++◌, ◌∷◌, ◌<◌, ◌∙◌, [], length, ap, arith}
+use Rattle.std.proofs.lemmas.List.{length-map, map-append}
+use Rattle.algebra.specs.Nested.{lists}
+use Rattle.p3_field.specs.declared.TwoAdicMultiplicativeCoset.{TwoAdicMultiplicativeCoset as Coset}
+use Rattle.p3_fri_relation.specs.Setting.{CommitmentClaim}
+use Rattle.p3_fri_relation.specs.Views.{claims_of}
+use Rattle.p3_fri_inputs.specs.Claims.{claim_of, combined_values, IsWithin}
+use Rattle.p3_fri_inputs.proofs.Steps.{mapped_more}
+use Rattle.p3_fri_inputs.proofs.Openings.{all_of_one}
+use Rattle.p3_fri_inputs.proofs.Places.{mapped_is}
+use Rattle.p3_fri_inputs.proofs.claims.combine_claims.Goals as goal
+
+pub combine_claim-requires : goal.combine_claim-requires
+combine_claim-requires g c =
+    let size = λ (domain : Coset g.row.F.Denot g.row.F-Prepared.Denot g.F.TwoAdicField g.F.Field g.F.PartialEq g.F.Add g.F.Sub g.F.Mul g.F.Neg). domain.log_size in
+    let claims = c.args.claims.now in
+    let i = c.loop-batch.batch in
+    let cs = claims_of size claims in
+    let it = c.index-claims-batch.result in
+    let is = c.index-claims-batch.is in
+    let below : i < length claims = omega arith in
+    let here : i < length cs = omega (arith, below, length-map claims (claim_of size)) in
+    let e = claim_of size it in
+    let is_c = mapped_is (claim_of size) claims i it below is in
+    all_of_one (IsWithin c.args.ladder.now.powers.len) cs c.requires i e here is_c
+
+pub loop-batch-preserved : goal.loop-batch-preserved
+loop-batch-preserved g c =
+    let size = λ (domain : Coset g.row.F.Denot g.row.F-Prepared.Denot g.F.TwoAdicField g.F.Field g.F.PartialEq g.F.Add g.F.Sub g.F.Mul g.F.Neg). domain.log_size in
+    let claims = c.args.claims.now in
+    let i = c.loop-batch.batch in
+    let cs = claims_of size claims in
+    let it = c.index-claims-batch.result in
+    let is = c.index-claims-batch.is in
+    let below : i < length claims = omega arith in
+    let here : i < length cs = omega (arith, below, length-map claims (claim_of size)) in
+    let e = claim_of size it in
+    let is_c = mapped_is (claim_of size) claims i it below is in
+    let under = λ (d : CommitmentClaim g.row.EF.Denot g.row.Com.Denot).
+    combined_values g.EF.Field.ops c.args.ladder.now.alpha d.matrices in
+    let old = c.loop-batch.combined.items in
+    let new = c.in_ok-combine_claim.field-0 in
+    mapped_more under cs i e (lists old) (lists c.push.new.self.items) here is_c
+    c.loop-batch.invariant
+    (ap lists c.in_ok-push.ensures.items ∙ map-append (λ v. v.items) old (new ∷ [])
+    ∙ ap (λ v. lists old ++ v ∷ []) c.in_ok-combine_claim.ensures)

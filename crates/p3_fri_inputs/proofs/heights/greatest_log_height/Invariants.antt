@@ -1,0 +1,8 @@
+use Rattle.std.proofs.Common.{◌≡◌, map, take}
+use Rattle.p3_fri_relation.specs.Heights.{greatest_height}
+use Rattle.p3_fri_relation.specs.Views.{matrix_claim}
+use Rattle.p3_fri_inputs.proofs.heights.greatest_log_height.Given as goal
+
+abbrev pub invariant-loop-k : goal.invariant-loop-k
+invariant-loop-k g l = l.greatest ≡ greatest_height l.log_blowup
+    (take l.k (map (matrix_claim (λ domain. domain.log_size)) l.matrices))

@@ -1,0 +1,298 @@
+//! The call that opens the inputs.
+
+ghost use Rattle.std.specs.Prelude.{◌≡◌, ◌≢◌, ◌<◌, ◌≤◌, ◌+◌, ◌^◌, ◌↔◌, ℕ, length, map, All, IsTrue};
+ghost use Rattle.std.specs.Prelude.{IsOk, IfOk, IfErr, Err, MatchOption, slice_index, vec_len};
+ghost use Rattle.std.specs.Prelude.{SomeIndex, slice_index_or};
+ghost use Rattle.std.specs.List.{AllZip, flat_map};
+ghost use Rattle.algebra.specs.Nested.{lists};
+ghost use Rattle.algebra.specs.Polynomial.{tabulate};
+ghost use Rattle.p3_commit.specs.Batch.{AreBelow};
+ghost use Rattle.p3_fri_relation.specs.declared.error.FriError.TheVariants.{OutOfMemory};
+ghost use Rattle.p3_fri_relation.specs.Faults.{InputFault};
+ghost use Rattle.p3_fri_relation.specs.Heights.{matrices_of, log_height, has_height, heights_of};
+ghost use Rattle.p3_fri_relation.specs.Inputs.{HasPoints, sum_at, sums_at, AreInputsGood};
+ghost use Rattle.p3_fri_relation.specs.QuotientSums.{point_read};
+ghost use Rattle.p3_fri_relation.specs.Views.{claims_of, inputs_opened};
+ghost use Rattle.p3_fri_inputs.specs.Claims.{distances, combined_values, HasRowsAt, IsReadable};
+
+use crate::checks::{first_uneven, first_without_points};
+use crate::claims::{combine_claims, greatest_width};
+use crate::heights::{falling_heights, has_height};
+use crate::opening::verify_commitments;
+use crate::points::push_queries;
+use crate::sums::query_sums;
+use p3_commit::{CommitmentOpening, Mmcs};
+use p3_field::{
+    ExtensionField, Field, TwoAdicField, TwoAdicMultiplicativeCoset, batch_multiplicative_inverse,
+};
+use p3_fri_folding::FriParameters;
+use p3_fri_ladder::Ladder;
+use p3_fri_relation::error::{FriError, FriOpenings};
+use p3_fri_relation::proof::BatchMultiOpening;
+use p3_fri_relation::setting::ChallengeField;
+use std::alloc::{AllocError, Global};
+
+/// The sums of these log heights, each beside its log height.
+fn list_sums<EF: Field>(
+    alloc: Global,
+    heights: &[usize],
+    sums: &[EF],
+) -> Result<FriOpenings<EF>, AllocError>
+    requires { All (λ h. h < length sums.now) heights.now }
+    ensures { IfOk result (λ openings. openings.items
+        ≡ map (λ h. (h, slice_index_or sums.now h EF.ops.zero)) heights.now) }
+{
+    let mut openings = Vec::with_capacity(alloc, heights.len())?;
+    for k in 0..heights.len() {
+        let h = heights[k];
+        openings.push((h, sums[h]))?;
+    }
+    Ok(openings)
+}
+
+/// Whether the sum of the constants' log height, if a matrix has it, is zero.
+fn is_constant_zero<EF: Field>(has_constants: bool, sums: &[EF], log_blowup: usize) -> bool
+    requires { IsTrue has_constants → log_blowup < length sums.now }
+    ensures { IsTrue result ↔ (IsTrue has_constants →
+        slice_index_or sums.now log_blowup EF.ops.zero ≡ EF.ops.zero) }
+{
+    !has_constants || sums[log_blowup].is_zero()
+}
+
+/// What one query meets, or `None` if its quotient sum of the constants isn't zero.
+fn query_openings<F: TwoAdicField, EF: ExtensionField<F>, InputMmcs: Mmcs<F>>(
+    alloc: Global,
+    ladder: &Ladder<EF>,
+    log_blowup: usize,
+    log_global_max_height: usize,
+    claims: &[CommitmentOpening<EF, InputMmcs::Commitment, TwoAdicMultiplicativeCoset<F>>],
+    openings: &[BatchMultiOpening<F, InputMmcs>],
+    query: usize,
+    combined: &[Vec<EF>],
+    inverses: &[EF],
+    heights: &[usize],
+) -> Result<Option<FriOpenings<EF>>, AllocError>
+    requires within_two_adicity { log_global_max_height ≤ F.TWO_ADICITY }
+    requires readable { All
+        (IsReadable log_blowup (log_global_max_height + 1) (vec_len ladder.now.powers))
+        (matrices_of (claims_of (λ domain. domain.log_size) claims.now)) }
+    requires rows { AllZip (HasRowsAt log_blowup query)
+        (claims_of (λ domain. domain.log_size) claims.now) (inputs_opened openings.now) }
+    requires combined { lists combined.now
+        ≡ map (λ c. combined_values EF.ops ladder.now.alpha c.matrices)
+        (claims_of (λ domain. domain.log_size) claims.now) }
+    requires inverses { length inverses.now ≡ length (combined_values EF.ops ladder.now.alpha
+        (matrices_of (claims_of (λ domain. domain.log_size) claims.now))) }
+    requires heights { heights.now ≡ heights_of log_blowup
+        (matrices_of (claims_of (λ domain. domain.log_size) claims.now)) }
+    ensures { let f = ⟦<EF as ChallengeField<F>>⟧.fields in
+        let cs = claims_of (λ domain. domain.log_size) claims.now in
+        let inputs = inputs_opened openings.now in
+        IfOk result (λ found. (position : ℕ) →
+        inverses.now ≡ map EF.ops.inv (distances EF.ops log_blowup
+        (point_read f log_global_max_height position) (matrices_of cs)) →
+        MatchOption found
+        (IsTrue (has_height log_blowup (matrices_of cs) log_blowup) × (sum_at f log_blowup
+        ladder.now.alpha log_global_max_height cs inputs query position log_blowup
+        ≢ EF.ops.zero))
+        (λ answer. (answer.items ≡ sums_at f log_blowup ladder.now.alpha log_global_max_height cs
+        inputs query position)
+        × (IsTrue (has_height log_blowup (matrices_of cs) log_blowup) → sum_at f log_blowup
+        ladder.now.alpha log_global_max_height cs inputs query position log_blowup
+        ≡ EF.ops.zero))) }
+{
+    let sums = query_sums(
+        alloc,
+        ladder,
+        log_blowup,
+        log_global_max_height,
+        claims,
+        openings,
+        query,
+        combined,
+        inverses,
+    )?;
+    let has_constants = has_height(claims, log_blowup, log_blowup);
+    if !is_constant_zero(has_constants, &sums, log_blowup) {
+        return Ok(None);
+    }
+    Ok(Some(list_sums(alloc, heights, &sums)?))
+}
+
+/// What each query meets, or `None` if some quotient sum of the constants isn't zero. `inverses`
+/// are those of the claimed points' distances from the points read, query by query.
+fn all_openings<F: TwoAdicField, EF: ExtensionField<F>, InputMmcs: Mmcs<F>>(
+    alloc: Global,
+    log_blowup: usize,
+    log_global_max_height: usize,
+    indices: &[usize],
+    alpha: EF,
+    claims: &[CommitmentOpening<EF, InputMmcs::Commitment, TwoAdicMultiplicativeCoset<F>>],
+    openings: &[BatchMultiOpening<F, InputMmcs>],
+    inverses: &[EF],
+) -> Result<Option<Vec<FriOpenings<EF>>>, AllocError>
+    requires some_index { 0 < length indices.now }
+    requires within_two_adicity { log_global_max_height ≤ F.TWO_ADICITY }
+    requires heights { All (λ m. log_height log_blowup m ≤ log_global_max_height)
+        (matrices_of (claims_of (λ domain. domain.log_size) claims.now)) }
+    requires points { All HasPoints
+        (matrices_of (claims_of (λ domain. domain.log_size) claims.now)) }
+    requires rows { (j : ℕ) → j < length indices.now → AllZip (HasRowsAt log_blowup j)
+        (claims_of (λ domain. domain.log_size) claims.now) (inputs_opened openings.now) }
+    requires inverses { let f = ⟦<EF as ChallengeField<F>>⟧.fields in
+        inverses.now ≡ map EF.ops.inv (flat_map (λ q. distances EF.ops log_blowup
+        (point_read f log_global_max_height q)
+        (matrices_of (claims_of (λ domain. domain.log_size) claims.now))) indices.now) }
+    ensures { let f = ⟦<EF as ChallengeField<F>>⟧.fields in
+        let cs = claims_of (λ domain. domain.log_size) claims.now in
+        let inputs = inputs_opened openings.now in
+        let sum = λ (j h : ℕ). sum_at f log_blowup alpha log_global_max_height cs inputs j
+        (slice_index indices.now j) h in
+        IfOk result (λ found. MatchOption found
+        (IsTrue (has_height log_blowup (matrices_of cs) log_blowup)
+        × SomeIndex indices.now (λ j. sum j log_blowup ≢ EF.ops.zero))
+        (λ answers. (lists answers.items ≡ tabulate (length indices.now) (λ j. sums_at f log_blowup
+        alpha log_global_max_height cs inputs j (slice_index indices.now j)))
+        × ((j : ℕ) → j < length indices.now →
+        IsTrue (has_height log_blowup (matrices_of cs) log_blowup) →
+        sum j log_blowup ≡ EF.ops.zero))) }
+{
+    let ladder = Ladder::new(alloc, alpha, greatest_width(claims))?;
+    let combined = combine_claims(alloc, &ladder, claims)?;
+    let heights = falling_heights(alloc, claims, log_blowup, log_global_max_height)?;
+    let count = inverses.len() / indices.len();
+    let mut answers = Vec::with_capacity(alloc, indices.len())?;
+    let mut start = 0;
+    for j in 0..indices.len() {
+        let end = start + count;
+        let found = query_openings(
+            alloc,
+            &ladder,
+            log_blowup,
+            log_global_max_height,
+            claims,
+            openings,
+            j,
+            &combined,
+            &inverses[start..end],
+            &heights,
+        )?;
+        let Some(answer) = found else {
+            return Ok(None);
+        };
+        answers.push(answer)?;
+        start = end;
+    }
+    Ok(Some(answers))
+}
+
+/// Opens the committed inputs at the queries' positions, and gives for each the quotient sums that
+/// it meets: for the log height of each claimed matrix, the greatest first, the sum over
+/// commitments, matrices of that log height, points and columns, in this order, of `alpha^t` times
+/// `(y - f(x)) / (z - x)`, where `t` counts the terms, `y` is claimed of a column at the point `z`,
+/// and `f(x)` is opened of it at the point `x` that the position reads.
+///
+/// `indices` are the positions, already without the strategy's extra bits; `input_openings` open
+/// each commitment, in the order of `claims`. The claimed domains' shifts aren't read. All inverses
+/// are found by one inversion.
+///
+/// Refused, with what is wrong: openings that aren't one for each commitment
+/// (`InputProofBatchCountMismatch`), nor one set of rows for each index
+/// (`InputOpeningsQueryCountMismatch`) and one row for each matrix
+/// (`BatchOpenedValuesCountMismatch`), or that the scheme refuses (`InputError`); a matrix that is
+/// claimed at no point (`MatrixWithoutOpeningPoints`), or of another number of values at a point
+/// than at its first (`PointEvaluationCountMismatch`); a claimed point that is the one read
+/// (`OpeningPointMatchesQueryPoint`); a quotient sum of the log height `log_blowup`, where columns
+/// are constant, that isn't zero (`FinalPolyMismatch`); and want of memory (`OutOfMemory`).
+pub fn open_inputs<F: TwoAdicField, EF: ExtensionField<F>, M: Mmcs<EF>, InputMmcs: Mmcs<F>>(
+    alloc: Global,
+    params: &FriParameters<M>,
+    log_global_max_height: usize,
+    indices: &[usize],
+    input_openings: &[BatchMultiOpening<F, InputMmcs>],
+    alpha: EF,
+    input_mmcs: &InputMmcs,
+    claims: &[CommitmentOpening<EF, InputMmcs::Commitment, TwoAdicMultiplicativeCoset<F>>],
+) -> Result<Vec<FriOpenings<EF>>, FriError<M::Error, InputMmcs::Error>>
+    requires some_index { 0 < length indices.now }
+    requires within_two_adicity { log_global_max_height ≤ F.TWO_ADICITY }
+    requires heights { All (λ m. log_height params.now.log_blowup m ≤ log_global_max_height)
+        (matrices_of (claims_of (λ domain. domain.log_size) claims.now)) }
+    requires below { AreBelow (2 ^ log_global_max_height) indices.now }
+    ensures exact { let f = ⟦<EF as ChallengeField<F>>⟧.fields in
+        result ≢ Err OutOfMemory → (IsOk result ↔ AreInputsGood f params.now.log_blowup alpha
+        log_global_max_height (claims_of (λ domain. domain.log_size) claims.now)
+        (inputs_opened input_openings.now) (InputMmcs.opens input_mmcs.now) indices.now) }
+    ensures sums { let f = ⟦<EF as ChallengeField<F>>⟧.fields in
+        IfOk result (λ openings. lists openings.items ≡ tabulate (length indices.now)
+        (λ j. sums_at f params.now.log_blowup alpha log_global_max_height
+        (claims_of (λ domain. domain.log_size) claims.now) (inputs_opened input_openings.now) j
+        (slice_index indices.now j))) }
+    ensures fault { let f = ⟦<EF as ChallengeField<F>>⟧.fields in
+        IfErr result (InputFault f params.now.log_blowup alpha log_global_max_height
+        (claims_of (λ domain. domain.log_size) claims.now)
+        (inputs_opened input_openings.now) (InputMmcs.opens input_mmcs.now) indices.now) }
+{
+    let log_blowup = params.log_blowup;
+    if input_openings.len() != claims.len() {
+        return Err(FriError::InputProofBatchCountMismatch {
+            expected: claims.len(),
+            got: input_openings.len(),
+        });
+    }
+    if let Some((batch, matrix)) = first_without_points(claims) {
+        return Err(FriError::MatrixWithoutOpeningPoints { batch, matrix });
+    }
+    if let Some(found) = first_uneven(claims) {
+        return Err(FriError::PointEvaluationCountMismatch {
+            batch: found.batch,
+            matrix: found.matrix,
+            point: found.point,
+            expected: found.expected,
+            got: found.got,
+        });
+    }
+    if let Err(error) = verify_commitments(
+        alloc,
+        input_mmcs,
+        log_blowup,
+        log_global_max_height,
+        indices,
+        claims,
+        input_openings,
+    ) {
+        return Err(error);
+    }
+    let mut differences = Vec::new(alloc);
+    let mut read = vec![in alloc; F::ZERO; log_global_max_height + 1]?;
+    let met = push_queries(
+        &mut differences,
+        &mut read,
+        log_blowup,
+        log_global_max_height,
+        indices,
+        claims,
+    )?;
+    if let Some((batch, matrix, point)) = met {
+        return Err(FriError::OpeningPointMatchesQueryPoint {
+            batch,
+            matrix,
+            point,
+        });
+    }
+    let inverses = batch_multiplicative_inverse(alloc, &differences)?;
+    let found = all_openings(
+        alloc,
+        log_blowup,
+        log_global_max_height,
+        indices,
+        alpha,
+        claims,
+        input_openings,
+        &inverses,
+    )?;
+    match found {
+        Some(openings) => Ok(openings),
+        None => Err(FriError::FinalPolyMismatch),
+    }
+}

@@ -1,0 +1,188 @@
+//! The openings of the committed matrices' rows at the queries' positions.
+
+ghost use Rattle.std.specs.Prelude.{◌≡◌, ◌≢◌, ◌⊎◌, ◌<◌, ◌≤◌, ◌+◌, ◌^◌, length, map, All, IfOk};
+ghost use Rattle.std.specs.Prelude.{MatchOption, MatchResult};
+ghost use Rattle.std.specs.List.{Any, AllZip, zip};
+ghost use Rattle.algebra.specs.Nested.{nested};
+ghost use Rattle.p3_commit.specs.Batch.{AreBelow};
+ghost use Rattle.p3_fri_relation.specs.declared.error.FriError.TheVariants.{OutOfMemory};
+ghost use Rattle.p3_fri_relation.specs.Faults.{At, InputFault};
+ghost use Rattle.p3_fri_relation.specs.Heights.{matrices_of, width, log_height, dimensions};
+ghost use Rattle.p3_fri_relation.specs.Heights.{opened_index};
+ghost use Rattle.p3_fri_relation.specs.Inputs.{OpensInput};
+ghost use Rattle.p3_fri_relation.specs.Views.{claims_of, matrix_claim, inputs_opened};
+
+use crate::checks::claimed_width;
+use crate::heights::greatest_log_height;
+use p3_commit::{CommitmentOpening, MatrixOpening, Mmcs};
+use p3_field::{ExtensionField, Field, TwoAdicField, TwoAdicMultiplicativeCoset};
+use p3_fri_relation::error::FriError;
+use p3_fri_relation::proof::BatchMultiOpening;
+use p3_fri_relation::setting::ChallengeField;
+use p3_matrix::Dimensions;
+use std::alloc::{AllocError, Global};
+
+/// The number of rows in the first set that doesn't have `matrices` of them.
+fn wrong_count<T>(sets: &[Vec<Vec<T>>], matrices: usize) -> Option<usize>
+    ensures { MatchOption result
+        (All (λ rows. length rows ≡ matrices) (nested sets.now))
+        (λ got. (got ≢ matrices) × Any (λ rows. length rows ≡ got) (nested sets.now)) }
+{
+    for k in 0..sets.len() {
+        let got = sets[k].len();
+        if got != matrices {
+            return Some(got);
+        }
+    }
+    None
+}
+
+/// The dimensions that the claims give the matrices: no width is taken from a proof.
+fn claimed_dimensions<F: TwoAdicField, EF: Field>(
+    alloc: Global,
+    matrices: &[MatrixOpening<EF, TwoAdicMultiplicativeCoset<F>>],
+    log_blowup: usize,
+) -> Result<Vec<Dimensions>, AllocError>
+    requires { All (λ m. log_height log_blowup m < 64)
+        (map (matrix_claim (λ domain. domain.log_size)) matrices.now) }
+    ensures { IfOk result (λ dims. dims.items ≡ map (dimensions log_blowup)
+        (map (matrix_claim (λ domain. domain.log_size)) matrices.now)) }
+{
+    let mut dims = Vec::with_capacity(alloc, matrices.len())?;
+    for k in 0..matrices.len() {
+        let width = claimed_width(&matrices[k]);
+        let height = 1 << (matrices[k].domain.log_size + log_blowup);
+        dims.push(Dimensions { width, height })?;
+    }
+    Ok(dims)
+}
+
+/// The index that each position opens of these matrices. Where there is no matrix, the greatest log
+/// height is 0, and the shift leaves the index 0.
+fn opened_indices<F: TwoAdicField, EF: Field>(
+    alloc: Global,
+    matrices: &[MatrixOpening<EF, TwoAdicMultiplicativeCoset<F>>],
+    log_blowup: usize,
+    log_global_max_height: usize,
+    indices: &[usize],
+) -> Result<Vec<usize>, AllocError>
+    requires within_two_adicity { log_global_max_height ≤ F.TWO_ADICITY }
+    requires heights { All (λ m. log_height log_blowup m ≤ log_global_max_height)
+        (map (matrix_claim (λ domain. domain.log_size)) matrices.now) }
+    requires below { AreBelow (2 ^ log_global_max_height) indices.now }
+    ensures { IfOk result (λ opened. opened.items ≡ map (opened_index log_blowup
+        log_global_max_height (map (matrix_claim (λ domain. domain.log_size)) matrices.now))
+        indices.now) }
+{
+    let shift = log_global_max_height - greatest_log_height(matrices, log_blowup);
+    let mut opened = Vec::with_capacity(alloc, indices.len())?;
+    for j in 0..indices.len() {
+        opened.push(indices[j] >> shift)?;
+    }
+    Ok(opened)
+}
+
+/// Whether the openings of one commitment are those of its matrices: one set of rows for each
+/// index, of one row for each matrix, that the scheme takes for the commitment's.
+fn verify_commitment<F: TwoAdicField, EF: ExtensionField<F>, InputMmcs: Mmcs<F>, RoundErr>(
+    alloc: Global,
+    input_mmcs: &InputMmcs,
+    log_blowup: usize,
+    log_global_max_height: usize,
+    indices: &[usize],
+    claims: &[CommitmentOpening<EF, InputMmcs::Commitment, TwoAdicMultiplicativeCoset<F>>],
+    openings: &[BatchMultiOpening<F, InputMmcs>],
+    batch: usize,
+) -> Result<(), FriError<RoundErr, InputMmcs::Error>>
+    requires within_two_adicity { log_global_max_height ≤ F.TWO_ADICITY }
+    requires heights { All (λ m. log_height log_blowup m ≤ log_global_max_height)
+        (matrices_of (claims_of (λ domain. domain.log_size) claims.now)) }
+    requires below { AreBelow (2 ^ log_global_max_height) indices.now }
+    requires count { length openings.now ≡ length claims.now }
+    requires batch { batch < length claims.now }
+    ensures { let f = ⟦<EF as ChallengeField<F>>⟧.fields in
+        let cs = claims_of (λ domain. domain.log_size) claims.now in
+        let inputs = inputs_opened openings.now in
+        let opens = InputMmcs.opens input_mmcs.now in
+        MatchResult result
+        (λ _. At batch (λ pair. OpensInput opens log_blowup log_global_max_height indices.now pair.0
+        pair.1) (zip cs inputs))
+        (λ e. (e ≡ OutOfMemory) ⊎ ((alpha : EF) → InputFault f log_blowup alpha
+        log_global_max_height cs inputs opens indices.now e)) }
+{
+    let claim = &claims[batch];
+    let opening = &openings[batch];
+    let got = opening.opened_values.len();
+    if got != indices.len() {
+        return Err(FriError::InputOpeningsQueryCountMismatch {
+            batch,
+            expected: indices.len(),
+            got,
+        });
+    }
+    let expected = claim.matrices.len();
+    if let Some(got) = wrong_count(&opening.opened_values, expected) {
+        return Err(FriError::BatchOpenedValuesCountMismatch {
+            batch,
+            expected,
+            got,
+        });
+    }
+    let dims = claimed_dimensions(alloc, &claim.matrices, log_blowup)?;
+    let opened = opened_indices(
+        alloc,
+        &claim.matrices,
+        log_blowup,
+        log_global_max_height,
+        indices,
+    )?;
+    match input_mmcs.verify_multi_batch(
+        &claim.commitment,
+        &dims,
+        &opened,
+        &opening.opened_values,
+        &opening.opening_proof,
+    ) {
+        Ok(()) => Ok(()),
+        Err(error) => Err(FriError::InputError(error)),
+    }
+}
+
+/// Whether the openings of all commitments are.
+pub fn verify_commitments<F: TwoAdicField, EF: ExtensionField<F>, InputMmcs: Mmcs<F>, RoundErr>(
+    alloc: Global,
+    input_mmcs: &InputMmcs,
+    log_blowup: usize,
+    log_global_max_height: usize,
+    indices: &[usize],
+    claims: &[CommitmentOpening<EF, InputMmcs::Commitment, TwoAdicMultiplicativeCoset<F>>],
+    openings: &[BatchMultiOpening<F, InputMmcs>],
+) -> Result<(), FriError<RoundErr, InputMmcs::Error>>
+    requires within_two_adicity { log_global_max_height ≤ F.TWO_ADICITY }
+    requires heights { All (λ m. log_height log_blowup m ≤ log_global_max_height)
+        (matrices_of (claims_of (λ domain. domain.log_size) claims.now)) }
+    requires below { AreBelow (2 ^ log_global_max_height) indices.now }
+    requires count { length openings.now ≡ length claims.now }
+    ensures { let f = ⟦<EF as ChallengeField<F>>⟧.fields in
+        let cs = claims_of (λ domain. domain.log_size) claims.now in
+        let inputs = inputs_opened openings.now in
+        let opens = InputMmcs.opens input_mmcs.now in
+        MatchResult result
+        (λ _. AllZip (OpensInput opens log_blowup log_global_max_height indices.now) cs inputs)
+        (λ e. (e ≡ OutOfMemory) ⊎ ((alpha : EF) → InputFault f log_blowup alpha
+        log_global_max_height cs inputs opens indices.now e)) }
+{
+    for batch in 0..claims.len() {
+        verify_commitment(
+            alloc,
+            input_mmcs,
+            log_blowup,
+            log_global_max_height,
+            indices,
+            claims,
+            openings,
+            batch,
+        )?;
+    }
+    Ok(())
+}
