@@ -1,6 +1,6 @@
 -- From what is checked one by one to the conditions of what comes after it.
-use Rattle.std.proofs.Common.{◌≡◌, ◌≢◌, ℕ, zero, suc, ◌+◌, ◌-◌, ◌*◌, ◌/◌, ◌<◌, ◌≤◌, List, [], ◌∷◌, ◌++◌}
-use Rattle.std.proofs.Common.{length, map, take, All, EachIndex, IsTrue, get_or, subst, refl, sym, ap, ap₂}
+use Rattle.std.proofs.Common.{◌≡◌, ◌≢◌, ℕ, ◌+◌, ◌*◌, ◌<◌, ◌≤◌, List, [], ◌∷◌}
+use Rattle.std.proofs.Common.{length, map, All, IsTrue, get_or, sym, ap₂}
 use Rattle.std.proofs.Common.{◌∙◌, arith, length-append}
 use Rattle.std.specs.List.{flat_map, AllZip}
 use Rattle.std.proofs.lemmas.List.{length-map, get_or-map}
@@ -14,9 +14,8 @@ use Rattle.p3_fri_relation.specs.Setting.{InputOpening}
 use Rattle.p3_fri_relation.specs.Heights.{matrices_of, width, log_height, has_height, dimensions, opened_index}
 use Rattle.p3_fri_relation.specs.QuotientSums.{point_read}
 use Rattle.p3_fri_relation.specs.Inputs.{HasPoints, OpensInput, AreInputsGood, sum_at}
-use Rattle.p3_fri_inputs.specs.Claims.{combined_values, distances, IsApart, IsEven, IsWithin, IsReadable}
+use Rattle.p3_fri_inputs.specs.Claims.{distances, IsApart, IsEven, IsWithin, IsReadable}
 use Rattle.p3_fri_inputs.specs.Claims.{HasRowsAt}
-use Rattle.p3_fri_inputs.proofs.Openings.{same_count}
 use Rattle.p3_fri_inputs.proofs.Places.{all_joined}
 
 module _ {E : Type 0} where

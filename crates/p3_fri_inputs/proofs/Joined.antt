@@ -1,5 +1,5 @@
 -- Lists joined of the parts that a function makes, cut between the parts.
-use Rattle.std.proofs.Common.{◌≡◌, ℕ, zero, suc, ◌+◌, ◌-◌, ◌<◌, ◌≤◌, List, [], ◌∷◌, ◌++◌, take, drop}
+use Rattle.std.proofs.Common.{◌≡◌, ℕ, suc, ◌+◌, ◌<◌, ◌≤◌, List, [], ◌∷◌, ◌++◌, take, drop}
 use Rattle.std.proofs.Common.{length, map, get_or, refl, sym, ap, ap₂, ◌∙◌, arith, add-one, length-append}
 use Rattle.std.specs.List.{flat_map, between}
 use Rattle.std.proofs.Math.Seq.{drop-cons}

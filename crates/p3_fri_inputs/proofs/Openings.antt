@@ -1,17 +1,16 @@
 -- The quotients of all commitments' matrices, from some commitment on.
-use Rattle.std.proofs.Common.{◌≡◌, ℕ, zero, suc, ◌+◌, ◌-◌, ◌<◌, ◌≤◌, List, [], ◌∷◌, ◌++◌, take, drop}
+use Rattle.std.proofs.Common.{◌≡◌, ℕ, zero, suc, ◌+◌, ◌<◌, List, [], ◌∷◌, ◌++◌, take, drop}
 use Rattle.std.proofs.Common.{length, map, All, get_or, subst, refl, sym, ap, ap₂, ◌∙◌, arith, add-one}
 use Rattle.std.proofs.Common.{length-append}
 use Rattle.std.specs.List.{flat_map, zip, between, AllZip}
 use Rattle.std.proofs.lemmas.Grind.{flat_map-append}
-use Rattle.std.proofs.lemmas.List.{length-map, get_or-map, map-append}
+use Rattle.std.proofs.lemmas.List.{length-map}
 use Rattle.std.proofs.lemmas.List.Concat.{get_or-flat_map}
 use Rattle.algebra.specs.Field.{FieldOps, sub}
 use Rattle.algebra.specs.Polynomial.{val}
-use Rattle.p3_fri_relation.specs.Setting.{MatrixClaim, CommitmentClaim, InputOpening}
-use Rattle.p3_fri_relation.specs.Heights.{matrices_of, log_height, width}
-use Rattle.p3_fri_relation.specs.Inputs.{HasPoints}
-use Rattle.p3_fri_inputs.specs.Claims.{combined_values, distances, HasRowsAt}
+use Rattle.p3_fri_relation.specs.Setting.{MatrixClaim, CommitmentClaim}
+use Rattle.p3_fri_relation.specs.Heights.{matrices_of, log_height}
+use Rattle.p3_fri_inputs.specs.Claims.{combined_values, distances}
 use Rattle.p3_fri_inputs.proofs.Joined.{length-joined_next, length-joined_at, joined_part, map-joined}
 use Rattle.p3_fri_inputs.proofs.Commitments.{terms_of}
 

@@ -1,21 +1,19 @@
 -- What one query reads, and what follows for the sums that it meets.
-use Rattle.std.proofs.Common.{◌≡◌, ◌≢◌, ℕ, zero, suc, ◌+◌, ◌-◌, ◌*◌, ◌/◌, ◌<◌, ◌≤◌, Bool, true, false, cond}
-use Rattle.std.proofs.Common.{eqb, List, [], ◌∷◌, ◌++◌, length, map, take, All, get_or, subst, refl, sym, ap}
+use Rattle.std.proofs.Common.{◌≡◌, ◌≢◌, ℕ, zero, suc, ◌+◌, ◌*◌, ◌/◌, ◌<◌, ◌≤◌, Bool, true, false, cond}
+use Rattle.std.proofs.Common.{eqb, List, [], ◌∷◌, ◌++◌, length, map, All, get_or, subst, refl, sym, ap}
 use Rattle.std.proofs.Common.{ap₂, ◌∙◌, arith}
-use Rattle.std.specs.List.{flat_map, between}
 use Rattle.std.proofs.Math.Nat.{mul-div_cancel_left}
 use Rattle.std.proofs.lemmas.Bool.{eqb-true}
-use Rattle.std.proofs.lemmas.List.{length-map, get_or-map}
+use Rattle.std.proofs.lemmas.List.{length-map}
 use Rattle.std.proofs.lemmas.List.Elements.{All-append, All-nil}
 use Rattle.std.proofs.lemmas.List.Folds.{Any-from_list_any}
 use Rattle.algebra.specs.Field.{FieldOps, sub}
-use Rattle.p3_fri_relation.specs.Setting.{PointClaim, MatrixClaim}
+use Rattle.p3_fri_relation.specs.Setting.{MatrixClaim}
 use Rattle.p3_fri_relation.specs.Heights.{log_height, has_height, heights_below, heights_of}
 use Rattle.p3_fri_relation.specs.Heights.{greatest_height}
 use Rattle.p3_fri_inputs.specs.Claims.{combined_values, distances, IsApart}
 use Rattle.p3_fri_inputs.proofs.LogHeights.{greatest_within}
 use Rattle.p3_fri_inputs.proofs.Openings.{same_count}
-use Rattle.p3_fri_inputs.proofs.Joined.{map-joined}
 
 pub map_agree : {A B : Type 0} (f g : A → B) (xs : List A) → All (λ x. f x ≡ g x) xs
     → map f xs ≡ map g xs

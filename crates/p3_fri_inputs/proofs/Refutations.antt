@@ -1,10 +1,10 @@
 -- Openings that are good have none of the faults.
-use Rattle.std.proofs.Common.{◌≡◌, ◌≢◌, ℕ, zero, suc, ◌+◌, ◌<◌, ◌≤◌, List, [], ◌∷◌, length, map, All}
-use Rattle.std.proofs.Common.{get_or, subst, refl, sym, ap, ap₂, ◌∙◌, arith}
-use Rattle.std.specs.List.{flat_map, zip, Any, AllZip}
+use Rattle.std.proofs.Common.{◌≡◌, ◌≢◌, ℕ, zero, suc, ◌<◌, List, [], ◌∷◌, length, map, All}
+use Rattle.std.proofs.Common.{get_or, subst, refl, sym, ap, ◌∙◌, arith}
+use Rattle.std.specs.List.{zip, AllZip}
 use Rattle.std.proofs.lemmas.List.{length-map, get_or_default}
 use Rattle.p3_matrix.specs.declared.Dimensions.{Dimensions}
-use Rattle.p3_commit.specs.Batch.{HasRows, HasShape}
+use Rattle.p3_commit.specs.Batch.{HasShape}
 use Rattle.p3_commit.proofs.Shapes.{rows_count, sets_count, set_at}
 use Rattle.p3_fri_relation.specs.declared.error.FriError.{FriError}
 use Rattle.p3_fri_relation.specs.declared.error.FriError.TheVariants.{InputProofBatchCountMismatch}
@@ -15,10 +15,10 @@ use Rattle.p3_fri_relation.specs.declared.error.FriError.TheVariants.{PointEvalu
 use Rattle.p3_fri_relation.specs.declared.error.FriError.TheVariants.{InputError, FinalPolyMismatch}
 use Rattle.p3_fri_relation.specs.declared.error.FriError.TheVariants.{OpeningPointMatchesQueryPoint, OutOfMemory}
 use Rattle.p3_fri_relation.specs.Setting.{Fields, Opening, MatrixClaim, CommitmentClaim, InputOpening}
-use Rattle.p3_fri_relation.specs.Heights.{matrices_of, width, log_height, dimensions, opened_index}
+use Rattle.p3_fri_relation.specs.Heights.{matrices_of, log_height, dimensions, opened_index}
 use Rattle.p3_fri_relation.specs.QuotientSums.{point_read}
 use Rattle.p3_fri_relation.specs.Inputs.{HasPoints, OpensInput, AreInputsGood}
-use Rattle.p3_fri_relation.specs.Faults.{At, IsWrong, InputFault}
+use Rattle.p3_fri_relation.specs.Faults.{IsWrong, InputFault}
 use Rattle.p3_fri_inputs.proofs.Openings.{all_of_one, all_zip_at, all_zip_counts}
 
 pub wrong_differs : (asked found expected got : ℕ) → IsWrong asked found expected got → asked ≢ found
@@ -129,3 +129,11 @@ module _ {F E InCom InPath A B : Type 0} (f : Fields F E) (log_blowup : ℕ) (al
     fault_refutes FinalPolyMismatch n (has, (j, l, wrong)) = wrong ((good.sums j l).constants has)
     fault_refutes OutOfMemory n h = n refl
     fault_refutes _ n h = absurd h
+
+-- want of memory is never a wrong answer
+pub memory_stands : {F E InCom InPath A B : Type 0} (f : Fields F E) (log_blowup : ℕ) (alpha : E)
+    (top : ℕ) (cs : List (CommitmentClaim E InCom)) (inputs : List (InputOpening F InPath))
+    (opens : Opening F InCom InPath) (positions : List ℕ) (e : FriError A B) → e ≡ OutOfMemory
+    → InputFault f log_blowup alpha top cs inputs opens positions e
+memory_stands f log_blowup alpha top cs inputs opens positions e is =
+    subst (InputFault f log_blowup alpha top cs inputs opens positions) (sym is) tt

@@ -1,8 +1,8 @@
 -- Lists that grow by an element or by a part at each step.
-use Rattle.std.proofs.Common.{◌≡◌, ℕ, ◌+◌, ◌<◌, ◌≤◌, List, [], ◌∷◌, ◌++◌, take, drop, length, map, get_or}
-use Rattle.std.proofs.Common.{refl, sym, ap, ap₂, ◌∙◌, arith, append_assoc}
+use Rattle.std.proofs.Common.{◌≡◌, ℕ, ◌+◌, ◌<◌, ◌≤◌, List, [], ◌∷◌, ◌++◌, take, length, map, get_or}
+use Rattle.std.proofs.Common.{sym, ap, ◌∙◌, append_assoc}
 use Rattle.std.specs.List.{flat_map}
-use Rattle.std.proofs.lemmas.List.{take_more, map-append, take_all, get_or-map}
+use Rattle.std.proofs.lemmas.List.{take_more, map-append, take_all}
 use Rattle.p3_fri_inputs.proofs.Joined.{joined_next}
 
 module _ {A B : Type 0} (f : A → B) (ys : List A) where

@@ -1,6 +1,6 @@
 //! What is claimed of each matrix: at some point, and as many values at each.
 
-ghost use Rattle.std.specs.Prelude.{◌≡◌, ◌≢◌, ◌<◌, ◌≤◌, ◌+◌, ℕ, [], length, map, All, MatchOption};
+ghost use Rattle.std.specs.Prelude.{◌≡◌, ◌≢◌, ◌<◌, ℕ, [], length, map, All, MatchOption};
 ghost use Rattle.std.specs.Prelude.{slice_index_or};
 ghost use Rattle.p3_fri_relation.specs.Faults.{At, IsWrong};
 ghost use Rattle.p3_fri_relation.specs.Heights.{matrices_of, width};

@@ -1,11 +1,9 @@
 //! What all queries share: the claimed values, combined point by point.
 
-ghost use Rattle.std.specs.Prelude.{◌≡◌, ◌≤◌, length, map, All, ◌++◌, IfOk, max, vec_len};
-ghost use Rattle.std.specs.List.{flat_map};
+ghost use Rattle.std.specs.Prelude.{◌≡◌, ◌≤◌, map, All, ◌++◌, IfOk, vec_len};
 ghost use Rattle.algebra.specs.Nested.{lists};
 ghost use Rattle.algebra.specs.Polynomial.{val};
 ghost use Rattle.p3_fri_relation.specs.Heights.{matrices_of, width};
-ghost use Rattle.p3_fri_relation.specs.Inputs.{HasPoints};
 ghost use Rattle.p3_fri_relation.specs.Views.{claims_of, matrix_claim};
 ghost use Rattle.p3_fri_inputs.specs.Claims.{claim_of, combined_values, IsWithin};
 
@@ -49,7 +47,8 @@ fn push_combined<F: TwoAdicField, EF: Field>(
     ladder: &Ladder<EF>,
     matrix: &MatrixOpening<EF, TwoAdicMultiplicativeCoset<F>>,
 ) -> Result<(), AllocError>
-    requires { IsWithin (vec_len ladder.now.powers) (matrix_claim (λ domain. domain.log_size) matrix.now) }
+    requires { IsWithin (vec_len ladder.now.powers)
+        (matrix_claim (λ domain. domain.log_size) matrix.now) }
     ensures { IfOk result (λ _. combined.new.items ≡ combined.old.items
         ++ map (λ z. val EF.ops z.values ladder.now.alpha)
         (matrix_claim (λ domain. domain.log_size) matrix.now).points) }

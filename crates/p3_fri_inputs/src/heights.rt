@@ -1,7 +1,7 @@
 //! The log heights of the claimed matrices.
 
-ghost use Rattle.std.specs.Prelude.{◌≡◌, ◌++◌, ◌∷◌, [], if◌then◌else◌, ◌≤◌, ◌<◌, ◌+◌, ◌==◌, ◌↔◌, map, All, IfOk, IsTrue};
-ghost use Rattle.std.specs.List.{list_any};
+ghost use Rattle.std.specs.Prelude.{◌≡◌, ◌++◌, ◌∷◌, [], if◌then◌else◌, ◌≤◌, ◌<◌, ◌+◌, ◌==◌, ◌↔◌};
+ghost use Rattle.std.specs.Prelude.{map, All, IfOk, IsTrue};
 ghost use Rattle.p3_fri_relation.specs.Heights.{matrices_of, log_height, has_height, heights_of};
 ghost use Rattle.p3_fri_relation.specs.Heights.{greatest_height};
 ghost use Rattle.p3_fri_relation.specs.Views.{claims_of, matrix_claim};

@@ -1,9 +1,8 @@
 //! The call that opens the inputs.
 
-ghost use Rattle.std.specs.Prelude.{◌≡◌, ◌≢◌, ◌⊎◌, ◌<◌, ◌≤◌, ◌+◌, ◌^◌, ◌↔◌, ℕ, length, map, All};
-ghost use Rattle.std.specs.Prelude.{IsTrue, IsOk, IfOk, IfErr, Err, MatchOption, slice_index};
-ghost use Rattle.std.specs.Prelude.{vec_len, SomeIndex};
-ghost use Rattle.std.specs.Prelude.{slice_index_or};
+ghost use Rattle.std.specs.Prelude.{◌≡◌, ◌≢◌, ◌<◌, ◌≤◌, ◌+◌, ◌^◌, ◌↔◌, ℕ, length, map, All, IsTrue};
+ghost use Rattle.std.specs.Prelude.{IsOk, IfOk, IfErr, Err, MatchOption, slice_index, vec_len};
+ghost use Rattle.std.specs.Prelude.{SomeIndex, slice_index_or};
 ghost use Rattle.std.specs.List.{AllZip, flat_map};
 ghost use Rattle.algebra.specs.Nested.{lists};
 ghost use Rattle.algebra.specs.Polynomial.{tabulate};
@@ -15,9 +14,8 @@ ghost use Rattle.p3_fri_relation.specs.Inputs.{HasPoints, sum_at, sums_at, AreIn
 ghost use Rattle.p3_fri_relation.specs.QuotientSums.{point_read};
 ghost use Rattle.p3_fri_relation.specs.Views.{claims_of, inputs_opened};
 ghost use Rattle.p3_fri_inputs.specs.Claims.{distances, combined_values, HasRowsAt, IsReadable};
-ghost use Rattle.p3_fri_inputs.specs.Claims.{IsWithin};
 
-use crate::checks::{Uneven, first_uneven, first_without_points};
+use crate::checks::{first_uneven, first_without_points};
 use crate::claims::{combine_claims, greatest_width};
 use crate::heights::{falling_heights, has_height};
 use crate::opening::verify_commitments;
@@ -75,8 +73,9 @@ fn query_openings<F: TwoAdicField, EF: ExtensionField<F>, InputMmcs: Mmcs<F>>(
     heights: &[usize],
 ) -> Result<Option<FriOpenings<EF>>, AllocError>
     requires within_two_adicity { log_global_max_height ≤ F.TWO_ADICITY }
-    requires readable { All (IsReadable log_blowup (log_global_max_height + 1)
-        (vec_len ladder.now.powers)) (matrices_of (claims_of (λ domain. domain.log_size) claims.now)) }
+    requires readable { All
+        (IsReadable log_blowup (log_global_max_height + 1) (vec_len ladder.now.powers))
+        (matrices_of (claims_of (λ domain. domain.log_size) claims.now)) }
     requires rows { AllZip (HasRowsAt log_blowup query)
         (claims_of (λ domain. domain.log_size) claims.now) (inputs_opened openings.now) }
     requires combined { lists combined.now
@@ -120,8 +119,8 @@ fn query_openings<F: TwoAdicField, EF: ExtensionField<F>, InputMmcs: Mmcs<F>>(
     Ok(Some(list_sums(alloc, heights, &sums)?))
 }
 
-/// What each query meets, or `None` if some quotient sum of the constants isn't zero. `inverses` are
-/// those of the claimed points' distances from the points read, query by query.
+/// What each query meets, or `None` if some quotient sum of the constants isn't zero. `inverses`
+/// are those of the claimed points' distances from the points read, query by query.
 fn all_openings<F: TwoAdicField, EF: ExtensionField<F>, InputMmcs: Mmcs<F>>(
     alloc: Global,
     log_blowup: usize,
@@ -230,9 +229,9 @@ pub fn open_inputs<F: TwoAdicField, EF: ExtensionField<F>, M: Mmcs<EF>, InputMmc
         (claims_of (λ domain. domain.log_size) claims.now) (inputs_opened input_openings.now) j
         (slice_index indices.now j))) }
     ensures fault { let f = ⟦<EF as ChallengeField<F>>⟧.fields in
-        IfErr result (λ e. (e ≡ OutOfMemory) ⊎ InputFault f params.now.log_blowup alpha
-        log_global_max_height (claims_of (λ domain. domain.log_size) claims.now)
-        (inputs_opened input_openings.now) (InputMmcs.opens input_mmcs.now) indices.now e) }
+        IfErr result (InputFault f params.now.log_blowup alpha log_global_max_height
+        (claims_of (λ domain. domain.log_size) claims.now)
+        (inputs_opened input_openings.now) (InputMmcs.opens input_mmcs.now) indices.now) }
 {
     let log_blowup = params.log_blowup;
     if input_openings.len() != claims.len() {

@@ -1,7 +1,7 @@
 //! The points that queries read, and how far the claimed points are from them.
 
-ghost use Rattle.std.specs.Prelude.{◌≡◌, ◌≢◌, ◌<◌, ◌≤◌, ◌+◌, ◌-◌, ◌/◌, ◌^◌, ℕ, List, length, map};
-ghost use Rattle.std.specs.Prelude.{◌++◌, All, IfOk, MatchOption, slice_index_or};
+ghost use Rattle.std.specs.Prelude.{◌≡◌, ◌≢◌, ◌<◌, ◌≤◌, ◌+◌, ◌-◌, ◌/◌, ◌^◌, ℕ, length, map, ◌++◌};
+ghost use Rattle.std.specs.Prelude.{All, IfOk, MatchOption, slice_index_or};
 ghost use Rattle.std.specs.List.{flat_map, Any};
 ghost use Rattle.algebra.specs.Cosets.{coset_pt};
 ghost use Rattle.algebra.specs.Field.{sub};
@@ -14,7 +14,7 @@ ghost use Rattle.p3_fri_inputs.specs.Claims.{claim_of, distances, IsApart};
 use p3_commit::{CommitmentOpening, PointOpening};
 use p3_field::{ExtensionField, TwoAdicField, TwoAdicMultiplicativeCoset, reverse_bits_len};
 use p3_fri_relation::setting::ChallengeField;
-use std::alloc::{AllocError, Global};
+use std::alloc::AllocError;
 
 /// Puts into `read`, for each log height up to `log_global_max_height`, the point of the coset of
 /// that log height at which `position` reads. Each is the square of the next higher one, apart from

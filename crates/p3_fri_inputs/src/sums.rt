@@ -1,21 +1,20 @@
 //! Quotient sums at a query, by Horner's rule: from the last term to the first.
 
-ghost use Rattle.std.specs.Prelude.{◌≡◌, ◌<◌, ◌≤◌, ◌+◌, ℕ, List, [], length, map, ◌++◌, All, vec_len};
-ghost use Rattle.std.specs.Prelude.{IfOk};
-ghost use Rattle.std.specs.Prelude.{slice_index_or, slice_set};
+ghost use Rattle.std.specs.Prelude.{◌≡◌, ◌<◌, ◌≤◌, ◌+◌, ℕ, List, [], length, map, ◌++◌, All};
+ghost use Rattle.std.specs.Prelude.{vec_len, IfOk, slice_index_or, slice_set};
 ghost use Rattle.std.specs.List.{flat_map, slice_range, AllZip};
 ghost use Rattle.algebra.specs.Field.{pow};
-ghost use Rattle.algebra.specs.Nested.{lists, nested};
+ghost use Rattle.algebra.specs.Nested.{lists};
 ghost use Rattle.algebra.specs.Polynomial.{val, tabulate};
 ghost use Rattle.algebra.specs.Quotients.{quotients};
 ghost use Rattle.p3_commit.specs.Batch.{HasRows};
-ghost use Rattle.p3_fri_relation.specs.Heights.{matrices_of, width, log_height, dimensions};
-ghost use Rattle.p3_fri_relation.specs.Inputs.{HasPoints, rows_at};
+ghost use Rattle.p3_fri_relation.specs.Heights.{matrices_of, width, dimensions};
+ghost use Rattle.p3_fri_relation.specs.Inputs.{rows_at};
 ghost use Rattle.p3_fri_relation.specs.QuotientSums.{matrix_terms, commitment_terms, terms};
 ghost use Rattle.p3_fri_relation.specs.Setting.{PointClaim, MatrixClaim};
 ghost use Rattle.p3_fri_relation.specs.Views.{claims_of, inputs_opened};
-ghost use Rattle.p3_fri_inputs.specs.Claims.{claim_of, combined_values, distances};
-ghost use Rattle.p3_fri_inputs.specs.Claims.{input_of, IsReadable, HasRowsAt};
+ghost use Rattle.p3_fri_inputs.specs.Claims.{claim_of, combined_values, distances, input_of};
+ghost use Rattle.p3_fri_inputs.specs.Claims.{IsReadable, HasRowsAt};
 ghost use Rattle.p3_fri_inputs.specs.Points.{AreCombined};
 
 use p3_commit::{CommitmentOpening, MatrixOpening, Mmcs};
@@ -270,8 +269,9 @@ pub fn query_sums<F: TwoAdicField, EF: ExtensionField<F>, InputMmcs: Mmcs<F>>(
     inverses: &[EF],
 ) -> Result<Vec<EF>, AllocError>
     requires within_two_adicity { log_global_max_height ≤ F.TWO_ADICITY }
-    requires readable { All (IsReadable log_blowup (log_global_max_height + 1)
-        (vec_len ladder.now.powers)) (matrices_of (claims_of (λ domain. domain.log_size) claims.now)) }
+    requires readable { All
+        (IsReadable log_blowup (log_global_max_height + 1) (vec_len ladder.now.powers))
+        (matrices_of (claims_of (λ domain. domain.log_size) claims.now)) }
     requires rows { AllZip (HasRowsAt log_blowup query)
         (claims_of (λ domain. domain.log_size) claims.now) (inputs_opened openings.now) }
     requires claimed { lists claimed.now

@@ -8,7 +8,7 @@ use Rattle.p3_fri_relation.specs.Heights.{matrices_of}
 use Rattle.p3_fri_relation.specs.QuotientSums.{point_read}
 use Rattle.p3_fri_relation.specs.Views.{claims_of, inputs_opened}
 use Rattle.p3_fri_inputs.specs.Claims.{claim_of, distances, input_of}
-use Rattle.p3_fri_inputs.proofs.Refutations.{fault_refutes}
+use Rattle.p3_fri_inputs.proofs.Refutations.{fault_refutes, memory_stands}
 use Rattle.p3_fri_inputs.proofs.Assembly.{with_points, rows_of_opened, all_nonzero, good_openings}
 use Rattle.p3_fri_inputs.proofs.Places.{of_some, of_none}
 use Rattle.std.proofs.lemmas.Bool.{false≢true}
@@ -131,7 +131,10 @@ returns-in-Err-clause-fault g c =
     let indices = c.args.indices.now in
     let opens = g.InputMmcs.Mmcs.opens c.args.input_mmcs.now in
     let shape = g.met.InputMmcs.Mmcs.shape_law c.args.input_mmcs.now in
-    elim c.in-Err.ensures [ inl e ↦ inl e | inr w ↦ inr (w alpha) ]
+    elim c.in-Err.ensures [
+      | inl e ↦ memory_stands f b alpha top cs inputs opens indices c.in-Err.error e
+      | inr w ↦ w alpha
+    ]
 
 pub returns-in-Some-met-clause-exact : goal.returns-in-Some-met-clause-exact
 returns-in-Some-met-clause-exact g c =
@@ -191,7 +194,7 @@ returns-in-Some-met-clause-fault g c =
     let met = of_some c.in_ok-met.met
     (c.in-Some-met.batch, c.in-Some-met.matrix, c.in-Some-met.point) _ _ c.in-Some-met.is
     c.in_ok-met.ensures in
-    inr met
+    met
 
 pub batch_multiplicative_inverse-requires : goal.batch_multiplicative_inverse-requires
 batch_multiplicative_inverse-requires g c =

@@ -8,7 +8,6 @@ use Rattle.p3_fri_relation.specs.Inputs.{sum_at}
 use Rattle.p3_fri_relation.specs.QuotientSums.{point_read}
 use Rattle.p3_fri_relation.specs.Views.{claims_of, inputs_opened}
 use Rattle.p3_fri_inputs.specs.Claims.{distances}
-use Rattle.p3_fri_inputs.proofs.Assembly.{readable}
 use Rattle.p3_fri_inputs.proofs.Queries.{map_agree, has_below, heights_within}
 use Rattle.p3_fri_inputs.proofs.inputs.query_openings.Goals as goal
 

@@ -1,4 +1,4 @@
-use Rattle.std.proofs.Common.{◌≡◌, ◌<◌, ◌∙◌, length, set, sym, arith, Vec, Global}
+use Rattle.std.proofs.Common.{◌≡◌, ◌<◌, ◌∙◌, length, sym, arith, Vec, Global}
 use Rattle.algebra.specs.Nested.{lists}
 use Rattle.algebra.proofs.Nested.{length-lists}
 use Rattle.p3_fri_inputs.proofs.Places.{at_mapped, holds_next, holds_of_all}

@@ -1,8 +1,7 @@
-use Rattle.std.proofs.Common.{◌≡◌, ℕ, drop, ◌++◌, ◌+◌, ◌-◌, ◌<◌, ◌≤◌, List, [], take, length, map, get_or, subst, sym, ap, ◌∙◌}
+use Rattle.std.proofs.Common.{◌≡◌, ℕ, drop, ◌++◌, ◌+◌, ◌-◌, ◌<◌, [], take, length, get_or, subst, sym, ap, ◌∙◌}
 use Rattle.std.proofs.Common.{arith}
 use Rattle.std.proofs.lemmas.List.{length-map, get_or-map, get_or_default}
 use Rattle.algebra.specs.Polynomial.{val}
-use Rattle.p3_fri_relation.specs.Inputs.{HasPoints}
 use Rattle.algebra.specs.Nested.{lists}
 use Rattle.algebra.proofs.Nested.{length-lists, lists_at}
 use Rattle.p3_field.specs.declared.TwoAdicMultiplicativeCoset.{TwoAdicMultiplicativeCoset as Coset}

@@ -1,8 +1,8 @@
-use Rattle.std.proofs.Common.{◌≡◌, ℕ, ◌+◌, ◌-◌, ◌<◌, ◌≤◌, List, [], ◌++◌, take, drop, length, map, get_or, subst, sym, ap}
+use Rattle.std.proofs.Common.{◌≡◌, ℕ, ◌+◌, ◌-◌, ◌<◌, ◌≤◌, [], take, drop, length, map, get_or, subst, sym, ap}
 use Rattle.std.proofs.Common.{◌∙◌, refl, arith}
 use Rattle.std.proofs.lemmas.List.{length-map, get_or-map, take_all, drop_all}
 use Rattle.std.specs.List.{flat_map}
-use Rattle.algebra.specs.Nested.{lists, nested}
+use Rattle.algebra.specs.Nested.{lists}
 use Rattle.algebra.specs.Polynomial.{val}
 use Rattle.algebra.proofs.Nested.{length-lists, lists_at}
 use Rattle.algebra.proofs.Values.{val-nil}
@@ -11,9 +11,9 @@ use Rattle.p3_fri_relation.specs.Setting.{MatrixClaim}
 use Rattle.p3_fri_relation.specs.Heights.{matrices_of}
 use Rattle.p3_fri_relation.specs.Inputs.{rows_at}
 use Rattle.p3_fri_relation.specs.Views.{claims_of, inputs_opened}
-use Rattle.p3_fri_inputs.specs.Claims.{claim_of, combined_values, input_of, IsReadable, HasRowsAt}
+use Rattle.p3_fri_inputs.specs.Claims.{claim_of, input_of, IsReadable, HasRowsAt}
 use Rattle.p3_fri_inputs.proofs.Joined.{length-joined_at, length-joined_next}
-use Rattle.p3_fri_inputs.proofs.Openings.{AreSummedAfter, all_terms, values_under, all_of_one, all_zip_at}
+use Rattle.p3_fri_inputs.proofs.Openings.{all_terms, values_under, all_of_one, all_zip_at}
 use Rattle.p3_fri_inputs.proofs.Openings.{all_zip_counts, joined_twice, opening_next}
 use Rattle.p3_fri_inputs.proofs.sums.add_openings.Goals as goal
 

@@ -1,8 +1,5 @@
-use Rattle.std.proofs.Common.{◌≡◌, ℕ, ◌+◌, ◌-◌, ◌<◌, length, map, drop, [], ◌∷◌, ◌++◌, get_or, ap, ap₂, sym, ◌∙◌, arith}
-use Rattle.std.proofs.lemmas.List.{length-map, get_or-map}
-use Rattle.algebra.specs.Field.{pow, sub}
+use Rattle.std.proofs.Common.{◌≡◌, ℕ, ◌+◌, ◌-◌, drop, ◌++◌, ap, ap₂, ◌∙◌, arith}
 use Rattle.algebra.specs.Polynomial.{val}
-use Rattle.algebra.proofs.Values.{val-nil}
 use Rattle.p3_fri_inputs.proofs.Horner.{at_points, points_step, points_end}
 use Rattle.p3_fri_inputs.proofs.sums.add_points.Goals as goal
 

@@ -1,5 +1,5 @@
 use Rattle.std.proofs.Common.{◌≡◌, ◌++◌, ◌+◌, ◌∙◌, ℕ, take, drop, length, get_or, subst, sym, ap}
-use Rattle.std.proofs.Common.{arith, zero, All}
+use Rattle.std.proofs.Common.{arith, All}
 use Rattle.std.proofs.Math.Seq.{take-append_seam}
 use Rattle.algebra.specs.Polynomial.{tabulate}
 use Rattle.p3_field.specs.declared.TwoAdicMultiplicativeCoset.{TwoAdicMultiplicativeCoset as Coset}

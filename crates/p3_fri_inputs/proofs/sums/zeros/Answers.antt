@@ -1,4 +1,4 @@
-use Rattle.std.proofs.Common.{◌≡◌, ◌++◌, ◌∷◌, ◌∙◌, ℕ, [], length, sym, ap, ap₂, arith, zero}
+use Rattle.std.proofs.Common.{◌≡◌, ◌++◌, ◌∷◌, ◌∙◌, ℕ, [], length, sym, ap, ap₂, arith}
 use Rattle.algebra.proofs.Lists.{tabulate-next, length-tabulate}
 use Rattle.p3_fri_inputs.proofs.sums.zeros.Goals as goal
 
