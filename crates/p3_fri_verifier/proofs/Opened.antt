@@ -252,10 +252,10 @@ module _ {F E C Com Path InCom InPath : Type 0} (s : Setting F E C Com Path InCo
   Faulty e t i = InputFault s.fields p.log_blowup alpha t claims i s.opens_input positions e
 
   pub input_fault_at : {A B : Type 0} (e : FriError A B)
-      → (e ≡ OutOfMemory) ⊎ InputFault s.fields p.log_blowup alpha top claims inputs s.opens_input positions e
+      → InputFault s.fields p.log_blowup alpha top claims inputs s.opens_input positions e
       → OpeningsFault s p claims proof alpha betas positions e ⊎ (e ≡ OutOfMemory)
-  input_fault_at e (inl is) = inr is
-  input_fault_at e (inr h) = inl (inl (subst (λ t. Faulty e t proof.inputs) tallest (subst (λ x. Faulty e top x) inputs_are h)))
+  input_fault_at e h =
+      inl (inl (subst (λ t. Faulty e t proof.inputs) tallest (subst (λ x. Faulty e top x) inputs_are h)))
 
   module _ {M Data Err : Type 0} (arities : List ℕ) (openings : List (CommitPhaseMultiStep E M Com Data Path Err)) (reduced : List (List (ℕ × E)))
       (scheduled : arities ≡ log_arities p claims) (opened : proof.rounds ≡ rounds_opened openings)

@@ -45,8 +45,8 @@ pub(crate) fn verify_openings<
 ) -> Result<(), FriError<M::Error, InputMmcs::Error>>
     requires final_height_below_64 { params.now.log_blowup + params.now.log_final_poly_len < 64 }
     requires max_log_height { F.TWO_ADICITY ≤ S.max_log_height folding.now }
-    requires in_range { IsInRange (parameters_of params.now) (claims_of (λ d. d.log_size) claims.now)
-        F.TWO_ADICITY }
+    requires in_range { IsInRange (parameters_of params.now)
+        (claims_of (λ d. d.log_size) claims.now) F.TWO_ADICITY }
     requires counts { HasCounts (parameters_of params.now) (proof_of proof.now) log_arities.now
         (length (proof_of proof.now).inputs) }
     requires schedule { log_arities.now

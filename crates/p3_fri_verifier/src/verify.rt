@@ -29,8 +29,8 @@ use std::alloc::{AllocError, Global};
 /// last state of the test's transcript. No index, sum or size is taken from the proof before it was
 /// compared with what the parameters and the claims ask for.
 ///
-/// The final height is below 64. The challenger draws as many bits at once as the two-adicity and the
-/// strategy's extra bits together, and as each difficulty. The strategy folds words of each log
+/// The final height is below 64. The challenger draws as many bits at once as the two-adicity and
+/// the strategy's extra bits together, and as each difficulty. The strategy folds words of each log
 /// height up to the two-adicity.
 ///
 /// # Errors
