@@ -1,5 +1,0 @@
-//! Tests of the verifier.
-#![tactic(auto)]
-
-#[cfg(test)]
-mod verify_fri;
