@@ -16,3 +16,5 @@ pub mod Replayed
 pub mod Heights
 pub mod PlayedRounds
 pub mod Assembled
+pub mod Planned
+pub mod Concluded
