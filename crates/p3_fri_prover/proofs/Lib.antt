@@ -10,3 +10,11 @@ pub mod Batches
 pub mod Finals
 pub mod Lists
 pub mod Inputs
+pub mod Schedules
+pub mod Opened
+pub mod Replayed
+pub mod Heights
+pub mod PlayedRounds
+pub mod Assembled
+pub mod Planned
+pub mod Concluded
