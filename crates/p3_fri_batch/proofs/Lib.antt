@@ -1,3 +1,6 @@
 pub mod Terms
 pub mod Rows
 pub mod LowDegree
+pub mod LowWords
+pub mod Heights
+pub mod Bridge

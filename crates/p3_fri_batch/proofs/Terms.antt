@@ -1,8 +1,7 @@
 -- One point more in the quotients of a row.
-use Rattle.std.proofs.Common.{◌≡◌, ◌≤◌, ◌<◌, ℕ, zero, suc, ◌+◌, ◌*◌, List, [], ◌∷◌, ◌++◌, length, map, take, get_or, refl, sym, ap, ap₂, ◌∙◌, append_assoc, length-append, arith, zero-mul, suc-mul}
+use Rattle.std.proofs.Common.{◌≡◌, ◌<◌, ℕ, zero, suc, ◌+◌, ◌*◌, List, [], ◌∷◌, ◌++◌, length, take, get_or, sym, ap, ap₂, ◌∙◌, append_assoc, length-append, arith, zero-mul, suc-mul}
 use Rattle.std.proofs.lemmas.Grind.{flat_map-append}
 use Rattle.std.proofs.lemmas.List.{take_more, append-nil}
-use Rattle.std.specs.List.{flat_map}
 use Rattle.algebra.specs.Field.{FieldOps, IsField, IsRing, sub, pow}
 use Rattle.algebra.specs.Polynomial.{val}
 use Rattle.algebra.specs.Quotients.{quotients}
