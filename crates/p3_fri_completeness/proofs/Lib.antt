@@ -1,0 +1,4 @@
+pub mod Claims
+pub mod Inputs
+pub mod Sums
+pub mod Accepted
