@@ -18,7 +18,9 @@ use Rattle.p3_fri_relation.specs.Queries.{inputs_of, final_value, rounds_of, row
 use Rattle.p3_fri_relation.specs.Queries.{row_indices}
 use Rattle.p3_fri_relation.specs.FoldedQuery.{value_at}
 use Rattle.p3_fri_pcs_transcript.specs.Replay.{BatchReplay}
-use Rattle.p3_fri_relation.proofs.TestReplays.{length-positions}
+use Rattle.p3_fri_transcript.specs.Replay.{fri_replay, shown_queries_replay}
+use Rattle.p3_fri_transcript.proofs.Indices.{draws_are_indices}
+use Rattle.p3_fri_relation.proofs.TestReplays.{length-positions, positions-below}
 use Rattle.p3_fri_relation.proofs.WholeReplays.{whole_replay, whole-state}
 use Rattle.p3_fri_relation.specs.Acceptance.{IsInRange, IsInstance, top_height, test_replay, FriAccepts}
 use Rattle.p3_fri_relation.specs.Acceptance.{Accepts, batch_replayed, AreOpeningsGood}
@@ -34,7 +36,7 @@ use Rattle.p3_fri_batch.proofs.Bridge.{entry_is_quotient_sum, entry_is_input}
 use Rattle.p3_fri_batch.proofs.LowWords.{words_low}
 use Rattle.p3_fri_prover.specs.Proved.{AreLow, entries_at, OpensRound}
 use Rattle.p3_fri_prover.specs.Proved as proved
-use Rattle.p3_fri_completeness.specs.Honest.{AreTwoAdic, IsHonest, IsHonestlyOpened, heights_claimed}
+use Rattle.p3_fri_completeness.specs.Honest.{AreTwoAdic, IsHonest, IsHonestlyOpened, heights_claimed, DrawsFit}
 use Rattle.p3_fri_completeness.specs.Honest.{words_claimed}
 use Rattle.p3_fri_completeness.proofs.Claims.{each_claimed, some_claimed, points_claimed}
 use Rattle.p3_fri_completeness.proofs.Inputs.{inputs_opened}
@@ -50,7 +52,8 @@ all_zip_weaker R S f (x ∷ xs) (y ∷ ys) h = (f x y h.0, all_zip_weaker R S f 
 module _ {F E C Com Path InCom InPath : Type 0} (s : Setting F E C Com Path InCom InPath)
     (p : Parameters) (claims : List (CommitmentClaim E InCom)) (rounds : List (List (Opened F E)))
     (alpha : E) (c : C) (proof : Proof F E Com Path InPath) (last : C)
-    (laws : AreTwoAdic s.fields) (o : IsHonestlyOpened s p claims rounds alpha c proof last) where
+    (laws : AreTwoAdic s.fields) (fit : DrawsFit s.moves (top_height p claims + s.extra_bits))
+    (o : IsHonestlyOpened s p claims rounds alpha c proof last) where
   abbrev b : ℕ
   b = p.log_blowup
 
@@ -68,6 +71,13 @@ module _ {F E C Com Path InCom InPath : Type 0} (s : Setting F E C Com Path InCo
 
   abbrev betas : List E
   betas = (test_replay s p claims proof c).betas
+
+  -- they lie in the greatest word
+  within_word : All (λ q. q < 2 ^ top) positions
+  unfolding fri_replay shown_queries_replay
+  within_word = positions-below s p claims proof c
+      (draws_are_indices (λ d. s.moves.draw_bits d (top + s.extra_bits)) (test.fri_numbers p claims s.extra_bits) fit
+      _ (test_replay s p claims proof c).indices refl).below
 
   honest : Each (IsHonest s.fields p) (joined rounds)
   honest = each_from_All (IsHonest s.fields p) (joined rounds) o.honest
@@ -129,7 +139,7 @@ module _ {F E C Com Path InCom InPath : Type 0} (s : Setting F E C Com Path InCo
     q = slice_index positions j
 
     below : q < 2 ^ top
-    below = o.within_word j 0 inside
+    below = within_word j 0 inside
 
     rows_here : rows_at j proof.inputs ≡ map (rows_opened top q) rounds
     rows_here = rows_are s.opens_input b top positions j inside claims rounds proof.inputs o.claimed o.inputs
@@ -194,7 +204,7 @@ module _ {F E C Com Path InCom InPath : Type 0} (s : Setting F E C Com Path InCo
 
   good : AreOpeningsGood s p claims proof alpha betas positions
   good = record {
-    inputs_open = inputs_opened s.fields p top s.opens_input positions o.within_word claims rounds proof.inputs
+    inputs_open = inputs_opened s.fields p top s.opens_input positions within_word claims rounds proof.inputs
         o.claimed honest up_to o.inputs;
     rounds_open = all_zip_weaker (OpensRound s p heights top words c proof)
         (test.OpensRound s p claims proof alpha betas positions) round_opens
@@ -225,7 +235,8 @@ module _ {F E C Com Path InCom InPath : Type 0} (s : Setting F E C Com Path InCo
 -- state that come of it
 module _ {F E C Com Path InCom InPath : Type 0} (s : Setting F E C Com Path InCom InPath)
     (p : Parameters) (claims : List (CommitmentClaim E InCom)) (rounds : List (List (Opened F E)))
-    (c : C) (proof : Proof F E Com Path InPath) (last : C) (laws : AreTwoAdic s.fields) where
+    (c : C) (proof : Proof F E Com Path InPath) (last : C) (laws : AreTwoAdic s.fields)
+    (fit : DrawsFit s.moves (top_height p claims + s.extra_bits)) where
   abbrev before : BatchReplay C E
   before = batch_replayed s p claims proof c
 
@@ -235,10 +246,10 @@ module _ {F E C Com Path InCom InPath : Type 0} (s : Setting F E C Com Path InCo
     pub honest_opening_accepted : Accepts s p claims proof c
     honest_opening_accepted = record {
       passes = passes;
-      accepts = honest_accepted s p claims rounds before.alpha before.state proof last laws o;
+      accepts = honest_accepted s p claims rounds before.alpha before.state proof last laws fit o;
     }
 
     -- and the whole replay ends in the prover's last state
     pub honest_last_state : (whole_replay s p claims proof c).state ≡ last
     honest_last_state = whole-state s p claims proof c
-        ∙ honest_state s p claims rounds before.alpha before.state proof last laws o
+        ∙ honest_state s p claims rounds before.alpha before.state proof last laws fit o

@@ -78,7 +78,7 @@ module _ {F E : Type 0} (f : Fields F E) (p : Parameters) where
       omega (arith, some, whole)
 
   -- no matrix is above a bound, and so isn't the greatest
-  greatest_within : (bound n : ℕ) (claims : List (MatrixClaim E)) → n ≤ bound
+  pub greatest_within : (bound n : ℕ) (claims : List (MatrixClaim E)) → n ≤ bound
       → Each (λ m. log_height p.log_blowup m ≤ bound) claims → greatest_from n claims ≤ bound
   greatest_within bound n [] l h = l
   greatest_within bound n (m ∷ claims) l h =

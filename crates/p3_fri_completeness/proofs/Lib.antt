@@ -2,3 +2,5 @@ pub mod Claims
 pub mod Inputs
 pub mod Sums
 pub mod Accepted
+pub mod Requests
+pub mod Scheme

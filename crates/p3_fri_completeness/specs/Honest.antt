@@ -4,6 +4,7 @@ use Rattle.std.specs.List.{AllZip, zip}
 use Rattle.algebra.specs.Field.{IsField, IsHomomorphism}
 use Rattle.algebra.specs.TwoAdic.{AreRoots}
 use Rattle.algebra.specs.Nested.{joined}
+use Rattle.p3_challenger.specs.Run.{Moves}
 use Rattle.p3_fri_relation.specs.Setting.{Fields, Setting, Parameters, Proof, final_height}
 use Rattle.p3_fri_relation.specs.Setting.{CommitmentClaim, InputOpening}
 use Rattle.p3_fri_relation.specs.Heights.{matrices_of, heights_of}
@@ -32,6 +33,10 @@ pub record IsHonest {F E : Type 0} (f : Fields F E) (p : Parameters) (m : Opened
     pub some_point : m.claims ≢ []
     pub word : IsOpenedWord f p.log_blowup (log_height m.matrix)
         (log_height m.matrix - p.log_blowup) m
+
+-- numbers that are drawn of this width have it
+abbrev pub DrawsFit : {C F E Com : Type 0} → Moves C F E Com → (bits : ℕ) → Type 0
+DrawsFit {C} m bits = (c : C) → (m.draw_bits c bits).value < 2 ^ bits
 
 -- of claims on matrices, which `rounds` has by commitment
 module _ {F E InCom : Type 0} (p : Parameters) (claims : List (CommitmentClaim E InCom))
@@ -73,6 +78,5 @@ module _ {F E C Com Path InCom InPath : Type 0} (s : Setting F E C Com Path InCo
     pub claimed : AreClaimsOf p.log_blowup claims rounds
     pub proved : IsProved s p (heights_claimed p claims rounds) (top_height p claims) words c proof
         (length claims) last
-    pub within_word : All (λ q. q < 2 ^ top_height p claims) queried
     pub inputs : AllZip OpensThere (zip claims rounds) proof.inputs
     pub batch_canonical : p.batch_pow_bits ≡ 0 → proof.batch_witness ≡ s.fields.base.zero
