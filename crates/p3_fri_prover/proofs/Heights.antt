@@ -1,7 +1,7 @@
 -- The words that are handed in, by log height: what their heights are, and rounds over them.
-use Rattle.std.proofs.Common.{◌≡◌, ◌≢◌, ℕ, ◌^◌, ◌<◌, ◌≤◌, List, [], ◌∷◌, length, get_or, sum, Option}
-use Rattle.std.proofs.Common.{Some, refl, sym, ap, ◌∙◌, arith, subst, remove}
-use Rattle.std.specs.Prelude.{All, ◌==◌, if◌then◌else◌}
+use Rattle.std.proofs.Common.{◌≡◌, ◌≢◌, ℕ, ◌^◌, ◌<◌, ◌≤◌, List, [], ◌∷◌, length, get_or, sum}
+use Rattle.std.proofs.Common.{Some, refl, sym, ap, ◌∙◌, subst, remove}
+use Rattle.std.specs.Prelude.{All, if◌then◌else◌}
 use Rattle.std.proofs.lemmas.Bool.{eq-eqb}
 use Rattle.algebra.specs.Field.{FieldOps}
 use Rattle.p3_matrix.specs.declared.dense.RowMajorMatrix.{RowMajorMatrix}

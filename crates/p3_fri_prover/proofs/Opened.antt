@@ -1,7 +1,7 @@
 -- What is opened of the rounds that were played: that it may be, that it is as much as a proof has,
 -- and that it is of the words that the rounds fold.
-use Rattle.std.proofs.Common.{◌≡◌, ℕ, zero, suc, ◌+◌, ◌-◌, ◌*◌, ◌/◌, ◌%◌, ◌^◌, ◌<◌, ◌≤◌, List, []}
-use Rattle.std.proofs.Common.{◌∷◌, Option, length, get_or, map, max, sum, refl, sym, ap, ◌∙◌, arith}
+use Rattle.std.proofs.Common.{◌≡◌, ℕ, suc, ◌^◌, ◌<◌, ◌≤◌, List, []}
+use Rattle.std.proofs.Common.{◌∷◌, Option, length, get_or, map, max, sum, sym, ap, ◌∙◌, arith}
 use Rattle.std.proofs.Common.{subst, pow_pos}
 use Rattle.std.specs.Prelude.{All}
 use Rattle.std.specs.List.{AllZip}
