@@ -12,6 +12,7 @@ use Rattle.p3_pcs.specs.Claims.{both}
 use Rattle.p3_fri_relation.specs.Setting.{Fields}
 use Rattle.p3_fri_openings.specs.declared.round.OpeningRound.{OpeningRound}
 use Rattle.p3_fri_openings.specs.Committed.{committed_column, committed, committed_values}
+use Rattle.p3_fri_openings.specs.Opened.{values_asked}
 use Rattle.p3_fri_openings.specs.Rounds.{ask}
 use Rattle.p3_fri_batch.specs.Words.{Opened, claim_at, claims_of}
 use Rattle.p3_fri_batch.specs.Rounds.{HasValues, HaveValues, opened_at, opened_by_round}
@@ -43,7 +44,7 @@ module _ {F E : Type 0} (f : Fields F E) (log_blowup : ℕ) where
 
   -- by round
   pub rounds_opened : (rounds : List (OpeningRound F E))
-      → opened_by_round rounds (map (λ r. both values_there r.matrices.now (lists r.points.now)) rounds)
+      → opened_by_round rounds (map (values_asked f log_blowup) rounds)
       ≡ map (λ r. both opened_there r.matrices.now (lists r.points.now)) rounds
   rounds_opened [] = refl
   rounds_opened (r ∷ rounds) =
@@ -74,7 +75,7 @@ module _ {F E : Type 0} (f : Fields F E) (log_blowup : ℕ) where
 
   -- there are values for each point of each matrix
   pub rounds_have_values : (rounds : List (OpeningRound F E))
-      → AllZip HaveValues rounds (map (λ r. both values_there r.matrices.now (lists r.points.now)) rounds)
+      → AllZip HaveValues rounds (map (values_asked f log_blowup) rounds)
   rounds_have_values [] = tt
   rounds_have_values (r ∷ rounds) =
       (round_has_values r.matrices.now (lists r.points.now), rounds_have_values rounds)

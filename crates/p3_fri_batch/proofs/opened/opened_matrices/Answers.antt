@@ -3,8 +3,9 @@ use Rattle.std.proofs.lemmas.List.{length-map, take_all}
 use Rattle.algebra.specs.Nested.{nested, joined}
 use Rattle.p3_pcs.specs.Claims.{opened_values}
 use Rattle.p3_pcs.proofs.Zipped.{entry_of_map, entry_of_both, within_both, length_of_both}
+use Rattle.p3_fri_openings.specs.Denominators.{ArePointsCovered}
 use Rattle.p3_fri_openings.proofs.First.{at_item}
-use Rattle.p3_fri_batch.specs.Rounds.{HaveValues, ArePointsCovered, opened_in, opened_by_round}
+use Rattle.p3_fri_batch.specs.Rounds.{HaveValues, opened_in, opened_by_round}
 use Rattle.p3_fri_batch.proofs.Collected.{all_zip_at, all_zip_length, joined_more}
 use Rattle.p3_fri_batch.proofs.opened.opened_matrices.Goals as goal
 

@@ -1,8 +1,9 @@
 use Rattle.std.proofs.Common.{◌≡◌, List, All, map, take}
 use Rattle.algebra.specs.Nested.{joined}
 use Rattle.p3_pcs.specs.Claims.{opened_values}
+use Rattle.p3_fri_openings.specs.Denominators.{ArePointsCovered}
 use Rattle.p3_fri_openings.specs.declared.denominators.PointDenominators.{PointDenominators}
-use Rattle.p3_fri_batch.specs.Rounds.{ArePointsCovered, IsReady, as_opened, opened_by_round}
+use Rattle.p3_fri_batch.specs.Rounds.{IsReady, as_opened, opened_by_round}
 use Rattle.p3_fri_batch.proofs.opened.opened_matrices.Given as goal
 
 abbrev pub invariant-loop-index : goal.invariant-loop-index

@@ -1,7 +1,8 @@
 use Rattle.std.proofs.Common.{◌≡◌, ◌++◌, List, All, map, take}
 use Rattle.algebra.specs.Nested.{nested}
+use Rattle.p3_fri_openings.specs.Denominators.{ArePointsCovered}
 use Rattle.p3_fri_openings.specs.declared.denominators.PointDenominators.{PointDenominators}
-use Rattle.p3_fri_batch.specs.Rounds.{ArePointsCovered, IsReady, as_opened, opened_in}
+use Rattle.p3_fri_batch.specs.Rounds.{IsReady, as_opened, opened_in}
 use Rattle.p3_fri_batch.proofs.opened.push_round.Given as goal
 
 abbrev pub invariant-loop-index : goal.invariant-loop-index
