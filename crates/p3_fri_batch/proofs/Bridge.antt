@@ -54,7 +54,7 @@ each_split : {X : Type 0} (P : X → Type 0) (xs ys : List X) → Each P (xs ++ 
 each_split P [] ys h = (tt, h)
 each_split P (x ∷ xs) ys h = let r = each_split P xs ys h.1 in ((h.0, r.0), r.1)
 
-height_is : {F : Type 0} (top : ℕ) (m : RowMajorMatrix F) → HasCoset top m → length (rows m) ≡ 2 ^ log_height m
+pub height_is : {F : Type 0} (top : ℕ) (m : RowMajorMatrix F) → HasCoset top m → length (rows m) ≡ 2 ^ log_height m
 height_is top m c = sym (pow-log2 (length (rows m)) c.power.0 c.power.1)
 
 module _ {F E : Type 0} (top q : ℕ) where

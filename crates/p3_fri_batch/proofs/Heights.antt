@@ -1,6 +1,7 @@
 -- The log heights of opened matrices: what stands in a list beside them, and that they are those of
 -- the claims.
-use Rattle.std.proofs.Common.{◌≡◌, ◌≤◌, ◌<◌, ◌==◌, ◌||◌, cond, true, false, Bool, inl, inr, ℕ, zero, suc, ◌+◌, ◌-◌, List, [], ◌∷◌, ◌++◌, map, get_or, All, Some, None, refl, sym, ap, ap₂, ◌∙◌, arith}
+use Rattle.std.proofs.Common.{◌≡◌, ◌≤◌, ◌<◌, ◌==◌, ◌||◌, cond, true, false, Bool, inl, inr, ℕ, zero, suc, ◌+◌, ◌-◌, List, [], ◌∷◌, ◌++◌, map, get_or, All, Some, None, append_assoc, refl, sym, ap, ap₂, ◌∙◌, arith}
+use Rattle.std.proofs.lemmas.List.{map-append}
 use Rattle.std.proofs.lemmas.Bool.{eqb-true, eq-eqb, ne_eqb, cases_eq, cases_lt}
 use Rattle.std.proofs.lemmas.List.Folds.{list_any-append, list_any_none, list_any_at, Any-from_list_any}
 use Rattle.std.specs.List.{AllZip, zip}
@@ -89,6 +90,19 @@ module _ {F E : Type 0} (ms : List (Opened F E)) where
       none : has_height ms (k + n) ≡ false
       none = list_any_none (λ m. log_height m.matrix == (k + n)) ms
           (λ i d l. let b = below i d l in other (log_height (get_or ms i d).matrix) (k + n) (omega (arith, b)))
+
+  -- words from the tallest down, with the next height's, if there is one
+  pub words_more : {A : Type 0} (w : ℕ → A) (k : ℕ) (old new whole : List A) → 0 < k
+      → new ≡ old ++ map w (cond (has_height ms (k - 1)) ((k - 1) ∷ []) [])
+      → old ++ map w (heights_below ms k) ≡ whole → new ++ map w (heights_below ms (k - 1)) ≡ whole
+  words_more w k old new whole some n e =
+      let next : k ≡ suc (k - 1) = omega (arith, some) in
+      let more = cond (has_height ms (k - 1)) ((k - 1) ∷ []) [] in
+      ap (λ xs. xs ++ map w (heights_below ms (k - 1))) n
+      ∙ append_assoc old (map w more) (map w (heights_below ms (k - 1)))
+      ∙ ap (λ xs. old ++ xs) (sym (map-append w more (heights_below ms (k - 1))))
+      ∙ ap (λ j. old ++ map w (heights_below ms j)) (sym next)
+      ∙ e
 
 -- they are the claims' log heights
 module _ {F E : Type 0} (log_blowup : ℕ) where

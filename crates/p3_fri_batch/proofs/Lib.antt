@@ -4,3 +4,5 @@ pub mod LowDegree
 pub mod LowWords
 pub mod Heights
 pub mod Bridge
+pub mod Summed
+pub mod Collected
