@@ -143,7 +143,7 @@ pub fn batch_words<F: TwoAdicField, EF: ExtensionField<F>>(
         ≡ map (λ h. batch_word ⟦<EF as ChallengeField<F>>⟧.fields alpha h ms)
         (heights_below ms (suc F.TWO_ADICITY))) }
 {
-    let matrices = opened_matrices(alloc, table, rounds, values)?;
+    let matrices = opened_matrices(alloc, rounds, values)?;
     let ladder = Ladder::new(alloc, alpha, greatest_width(&matrices))?;
     let mut words = Vec::new(alloc);
     for log_height in (0..F::TWO_ADICITY + 1).rev() {

@@ -35,12 +35,6 @@ push_round-requires-clause-values g c =
     c.requires.values one c.index-rounds-index.is
     (entry_of_map (λ v. nested v.items) c.args.values.now i vs two c.index-values-index.is))
 
-pub push_round-requires-clause-covered : goal.push_round-requires-clause-covered
-push_round-requires-clause-covered g c =
-    let one : c.loop-index.index < length c.args.rounds.now = omega arith in
-    at_item (ArePointsCovered c.args.table.now) c.args.rounds.now c.loop-index.index c.index-rounds-index.result
-    one c.index-rounds-index.is c.requires.covered
-
 pub loop-index-preserved : goal.loop-index-preserved
 loop-index-preserved g c =
     let i = c.loop-index.index in
@@ -58,7 +52,9 @@ loop-index-preserved g c =
           ∙ sym (joined_more (opened_by_round rounds values) i part (within_both opened_in rounds values i one three)
           (entry_of_both opened_in rounds values i round (nested vs.items) one three c.index-rounds-index.is
           (entry_of_map (λ v. nested v.items) c.args.values.now i vs two c.index-values-index.is)));
-      ready = c.in_ok-push_round.ensures.ready;
+      ready = λ table covered. c.in_ok-push_round.ensures.ready table
+          (at_item (ArePointsCovered table) rounds i round one c.index-rounds-index.is covered)
+          (c.loop-index.invariant.ready table covered);
     }
 
 pub returns-clause-opened : goal.returns-clause-opened
