@@ -3,3 +3,5 @@
 
 #[cfg(test)]
 mod heights;
+#[cfg(test)]
+mod proofs;
