@@ -1,6 +1,6 @@
 //! What is proved of words, and what the verifier answers to it.
 
-ghost use Rattle.std.specs.Prelude.{◌≡◌, IfOk};
+ghost use Rattle.std.specs.Prelude.{◌≡◌, ◌≤◌, IfOk};
 ghost use Rattle.algebra.specs.Nested.{lists};
 ghost use Rattle.p3_fri_prover.specs.Inputs.{AreInputs};
 
@@ -12,6 +12,7 @@ use p3_commit::{
 use p3_field::{BabyBear, BabyBear4, ExtensionField, Field, TwoAdicMultiplicativeCoset};
 use p3_fri_folding::{FriParameters, TwoAdicFriFolding, WithExtraBits};
 use p3_fri_prover::prover::{ProverDataWithOpeningPoints, prove_fri};
+use p3_fri_relation::error::FriError;
 use p3_fri_relation::proof::{BatchMultiOpening, FriProof};
 use p3_fri_steps::FriProverError;
 use p3_fri_verifier::verify_fri;
@@ -102,17 +103,22 @@ fn word(alloc: Global) -> Result<Vec<Vec<BabyBear4>>, Fail>
     Ok(words)
 }
 
-/// The proof of that word, with what is opened of the data.
-fn proof_of_word(
+/// What the prover answers of that word, with what is opened of the data.
+fn prove(
     alloc: Global,
+    parameters: &Parameters,
     data: &InputData,
     challenger: &mut Sha256Challenger,
-) -> Result<Proof, Fail> {
+) -> Result<Result<Proof, FriProverError>, Fail>
+    requires log_blowup { parameters.now.log_blowup ≡ 1 }
+    requires cap { parameters.now.max_log_arity ≡ 1 }
+    requires commit_bits { parameters.now.commit_proof_of_work_bits ≤ 3 }
+    requires query_bits { parameters.now.query_proof_of_work_bits ≤ 3 }
+{
     let input_mmcs = Inputs::new();
     if input_mmcs.get_max_height(data) > 4 {
         return Err(Fail::new("a tall matrix"));
     }
-    let parameters = plain_parameters();
     let plain: Plain = TwoAdicFriFolding(PhantomData);
     let folding = WithExtraBits::new(plain, 3);
     let points = Vec::new(alloc);
@@ -123,7 +129,7 @@ fn proof_of_word(
     let proved = prove_fri::<BabyBear, BabyBear4, Folding, Rounds, Inputs, Sha256Challenger>(
         alloc,
         &folding,
-        &parameters,
+        parameters,
         word(alloc)?,
         challenger,
         2,
@@ -132,41 +138,105 @@ fn proof_of_word(
         BabyBear::ZERO,
     );
     match proved {
-        Ok(proof) => Ok(proof),
         Err(FriProverError::OutOfMemory) => Err(Fail::new("memory was refused")),
-        Err(_) => Err(Fail::new("a refusal")),
+        answer => Ok(answer),
     }
+}
+
+/// Whether the verifier accepts that proof.
+fn is_accepted(
+    alloc: Global,
+    parameters: &Parameters,
+    commitment: [u8; 32],
+    proof: &Proof,
+    challenger: &mut Sha256Challenger,
+) -> Result<bool, Fail>
+    requires log_blowup { parameters.now.log_blowup ≡ 1 }
+    requires log_final_poly_len { parameters.now.log_final_poly_len ≡ 0 }
+    requires commit_bits { parameters.now.commit_proof_of_work_bits ≤ 3 }
+    requires query_bits { parameters.now.query_proof_of_work_bits ≤ 3 }
+{
+    let plain: Plain = TwoAdicFriFolding(PhantomData);
+    let folding = WithExtraBits::new(plain, 3);
+    let mut claims = Vec::new(alloc);
+    claims.push(claim(alloc, commitment)?)?;
+    let input_mmcs = Inputs::new();
+    let verified = verify_fri::<BabyBear, BabyBear4, Rounds, Inputs, Folding, Sha256Challenger>(
+        alloc,
+        &folding,
+        parameters,
+        proof,
+        challenger,
+        &claims,
+        &input_mmcs,
+        constant(1),
+    );
+    match verified {
+        Err(FriError::OutOfMemory) => Err(Fail::new("memory was refused")),
+        answer => Ok(answer.is_ok()),
+    }
+}
+
+/// The commitment to that column, and its data.
+fn committed_column(alloc: Global) -> Result<([u8; 32], InputData), Fail> {
+    let matrix = column(alloc)?;
+    if !have_power_heights(&[matrix.dimensions()]) {
+        return Err(Fail::new("heights"));
+    }
+    Ok(Inputs::new().commit_matrix(alloc, matrix)?)
 }
 
 #[test]
 fn two_minus_the_point_is_proved_and_verified(rt: HostRuntime) -> Result<(), Fail> {
     let alloc = rt.alloc();
-    let input_mmcs = Inputs::new();
-    let matrix = column(alloc)?;
-    if !have_power_heights(&[matrix.dimensions()]) {
-        return Err(Fail::new("heights"));
-    }
-    let (commitment, data) = input_mmcs.commit_matrix(alloc, matrix)?;
-    let mut prover = Sha256Challenger::new();
-    let proof = proof_of_word(alloc, &data, &mut prover)?;
-    assert_eq!(rt; proof.final_poly.as_slice(), &[constant(2013265920)][..]);
-    let mut claims = Vec::new(alloc);
-    claims.push(claim(alloc, commitment)?)?;
     let parameters = plain_parameters();
-    let plain: Plain = TwoAdicFriFolding(PhantomData);
-    let folding = WithExtraBits::new(plain, 3);
+    let (commitment, data) = committed_column(alloc)?;
+    let mut prover = Sha256Challenger::new();
+    let mut proof = prove(alloc, &parameters, &data, &mut prover)?.or(Err("a refusal"))?;
+    assert_eq!(rt; proof.final_poly.as_slice(), &[constant(2013265920)][..]);
     let mut verifier = Sha256Challenger::new();
-    let verified = verify_fri::<BabyBear, BabyBear4, Rounds, Inputs, Folding, Sha256Challenger>(
-        alloc,
-        &folding,
-        &parameters,
-        &proof,
-        &mut verifier,
-        &claims,
-        &input_mmcs,
-        constant(1),
-    );
-    assert!(rt; verified.is_ok());
+    assert!(rt; is_accepted(alloc, &parameters, commitment, &proof, &mut verifier)?);
     assert!(rt; prover == verifier);
+    proof.final_poly[0] = constant(1);
+    let mut verifier = Sha256Challenger::new();
+    assert!(rt; !is_accepted(alloc, &parameters, commitment, &proof, &mut verifier)?);
+    Ok(())
+}
+
+#[test]
+fn a_word_is_proved_with_work(rt: HostRuntime) -> Result<(), Fail> {
+    let alloc = rt.alloc();
+    let mut parameters = plain_parameters();
+    parameters.commit_proof_of_work_bits = 3;
+    parameters.query_proof_of_work_bits = 3;
+    let (commitment, data) = committed_column(alloc)?;
+    let mut prover = Sha256Challenger::new();
+    let mut proof = prove(alloc, &parameters, &data, &mut prover)?.or(Err("a refusal"))?;
+    assert_eq!(rt; proof.commit_pow_witnesses.len(), 1);
+    let mut verifier = Sha256Challenger::new();
+    assert!(rt; is_accepted(alloc, &parameters, commitment, &proof, &mut verifier)?);
+    assert!(rt; prover == verifier);
+    proof.query_pow_witness = proof.query_pow_witness + BabyBear::ONE;
+    let mut verifier = Sha256Challenger::new();
+    assert!(rt; !is_accepted(alloc, &parameters, commitment, &proof, &mut verifier)?);
+    Ok(())
+}
+
+#[test]
+fn a_low_word_is_refused_before_the_challenger_is_touched(rt: HostRuntime) -> Result<(), Fail> {
+    let alloc = rt.alloc();
+    let mut parameters = plain_parameters();
+    parameters.log_final_poly_len = 2;
+    let (_commitment, data) = committed_column(alloc)?;
+    let mut challenger = Sha256Challenger::new();
+    let refusal = prove(alloc, &parameters, &data, &mut challenger)?.err();
+    assert!(rt;
+        refusal
+            == Some(FriProverError::InputHeightTooSmall {
+                log_input_height: 2,
+                log_final_height: 3,
+            })
+    );
+    assert!(rt; challenger == Sha256Challenger::new());
     Ok(())
 }
