@@ -4,4 +4,6 @@
 #[cfg(test)]
 mod heights;
 #[cfg(test)]
+mod heights_joined;
+#[cfg(test)]
 mod proofs;

@@ -1,6 +1,6 @@
 //! What is proved of words, and what the verifier answers to it.
 
-ghost use Rattle.std.specs.Prelude.{◌≡◌, ◌≤◌, IfOk};
+ghost use Rattle.std.specs.Prelude.{◌≡◌, ◌<◌, ◌≤◌, IfOk};
 ghost use Rattle.algebra.specs.Nested.{lists};
 ghost use Rattle.p3_fri_prover.specs.Inputs.{AreInputs};
 
@@ -21,28 +21,28 @@ use std::alloc::Global;
 use std::marker::PhantomData;
 use std::test::Fail;
 
-type Inputs = Sha256Mmcs<BabyBear>;
+pub(crate) type Inputs = Sha256Mmcs<BabyBear>;
 
-type InputData = <Inputs as Mmcs<BabyBear>>::ProverData;
+pub(crate) type InputData = <Inputs as Mmcs<BabyBear>>::ProverData;
 
-type Rounds = Sha256Mmcs<BabyBear4>;
+pub(crate) type Rounds = Sha256Mmcs<BabyBear4>;
 
-type Parameters = FriParameters<Rounds>;
+pub(crate) type Parameters = FriParameters<Rounds>;
 
 type InputOpening = BatchMultiOpening<BabyBear, Inputs>;
 
-type Proof = FriProof<BabyBear4, Rounds, BabyBear, Vec<InputOpening>>;
+pub(crate) type Proof = FriProof<BabyBear4, Rounds, BabyBear, Vec<InputOpening>>;
 
-type Domain = TwoAdicMultiplicativeCoset<BabyBear>;
+pub(crate) type Domain = TwoAdicMultiplicativeCoset<BabyBear>;
 
-type Claim = CommitmentOpening<BabyBear4, [u8; 32], Domain>;
+pub(crate) type Claim = CommitmentOpening<BabyBear4, [u8; 32], Domain>;
 
 type Plain = TwoAdicFriFolding<(), Sha256MmcsError>;
 
 type Folding = WithExtraBits<Plain>;
 
 /// A blowup and a cap of 2, a constant as final polynomial, two queries, no proof of work.
-fn plain_parameters() -> Parameters
+pub(crate) fn plain_parameters() -> Parameters
     ensures log_blowup { result.log_blowup ≡ 1 }
     ensures log_final_poly_len { result.log_final_poly_len ≡ 0 }
     ensures cap { result.max_log_arity ≡ 1 }
@@ -62,7 +62,7 @@ fn plain_parameters() -> Parameters
 }
 
 /// An element of the extension that is a number.
-fn constant(number: u64) -> BabyBear4 {
+pub(crate) fn constant(number: u64) -> BabyBear4 {
     BabyBear4::from_base(BabyBear::from_u64(number))
 }
 
@@ -103,20 +103,24 @@ fn word(alloc: Global) -> Result<Vec<Vec<BabyBear4>>, Fail>
     Ok(words)
 }
 
-/// What the prover answers of that word, with what is opened of the data.
-fn prove(
+/// What the prover answers of these words, with what is opened of the data.
+pub(crate) fn prove(
     alloc: Global,
     parameters: &Parameters,
+    words: Vec<Vec<BabyBear4>>,
+    log_height: usize,
     data: &InputData,
     challenger: &mut Sha256Challenger,
 ) -> Result<Result<Proof, FriProverError>, Fail>
     requires log_blowup { parameters.now.log_blowup ≡ 1 }
-    requires cap { parameters.now.max_log_arity ≡ 1 }
+    requires cap { 0 < parameters.now.max_log_arity }
+    requires words { AreInputs log_height (lists words.items) }
+    requires small { log_height ≤ 6 }
     requires commit_bits { parameters.now.commit_proof_of_work_bits ≤ 3 }
     requires query_bits { parameters.now.query_proof_of_work_bits ≤ 3 }
 {
     let input_mmcs = Inputs::new();
-    if input_mmcs.get_max_height(data) > 4 {
+    if input_mmcs.get_max_height(data) > 1 << log_height {
         return Err(Fail::new("a tall matrix"));
     }
     let plain: Plain = TwoAdicFriFolding(PhantomData);
@@ -130,9 +134,9 @@ fn prove(
         alloc,
         &folding,
         parameters,
-        word(alloc)?,
+        words,
         challenger,
-        2,
+        log_height,
         &data_with_points,
         &input_mmcs,
         BabyBear::ZERO,
@@ -143,23 +147,23 @@ fn prove(
     }
 }
 
-/// Whether the verifier accepts that proof.
-fn is_accepted(
+/// Whether the verifier accepts that proof, at the batching challenge 1.
+pub(crate) fn is_accepted(
     alloc: Global,
     parameters: &Parameters,
-    commitment: [u8; 32],
+    claim: Claim,
     proof: &Proof,
     challenger: &mut Sha256Challenger,
 ) -> Result<bool, Fail>
     requires log_blowup { parameters.now.log_blowup ≡ 1 }
-    requires log_final_poly_len { parameters.now.log_final_poly_len ≡ 0 }
+    requires log_final_poly_len { parameters.now.log_final_poly_len ≤ 2 }
     requires commit_bits { parameters.now.commit_proof_of_work_bits ≤ 3 }
     requires query_bits { parameters.now.query_proof_of_work_bits ≤ 3 }
 {
     let plain: Plain = TwoAdicFriFolding(PhantomData);
     let folding = WithExtraBits::new(plain, 3);
     let mut claims = Vec::new(alloc);
-    claims.push(claim(alloc, commitment)?)?;
+    claims.push(claim)?;
     let input_mmcs = Inputs::new();
     let verified = verify_fri::<BabyBear, BabyBear4, Rounds, Inputs, Folding, Sha256Challenger>(
         alloc,
@@ -192,14 +196,32 @@ fn two_minus_the_point_is_proved_and_verified(rt: HostRuntime) -> Result<(), Fai
     let parameters = plain_parameters();
     let (commitment, data) = committed_column(alloc)?;
     let mut prover = Sha256Challenger::new();
-    let mut proof = prove(alloc, &parameters, &data, &mut prover)?.or(Err("a refusal"))?;
+    let mut proof = prove(alloc, &parameters, word(alloc)?, 2, &data, &mut prover)?.or(Err(
+        "a refusal",
+    ))?;
     assert_eq!(rt; proof.final_poly.as_slice(), &[constant(2013265920)][..]);
     let mut verifier = Sha256Challenger::new();
-    assert!(rt; is_accepted(alloc, &parameters, commitment, &proof, &mut verifier)?);
+    assert!(rt;
+        is_accepted(
+            alloc,
+            &parameters,
+            claim(alloc, commitment)?,
+            &proof,
+            &mut verifier
+        )?
+    );
     assert!(rt; prover == verifier);
     proof.final_poly[0] = constant(1);
     let mut verifier = Sha256Challenger::new();
-    assert!(rt; !is_accepted(alloc, &parameters, commitment, &proof, &mut verifier)?);
+    assert!(rt;
+        !is_accepted(
+            alloc,
+            &parameters,
+            claim(alloc, commitment)?,
+            &proof,
+            &mut verifier
+        )?
+    );
     Ok(())
 }
 
@@ -211,14 +233,32 @@ fn a_word_is_proved_with_work(rt: HostRuntime) -> Result<(), Fail> {
     parameters.query_proof_of_work_bits = 3;
     let (commitment, data) = committed_column(alloc)?;
     let mut prover = Sha256Challenger::new();
-    let mut proof = prove(alloc, &parameters, &data, &mut prover)?.or(Err("a refusal"))?;
+    let mut proof = prove(alloc, &parameters, word(alloc)?, 2, &data, &mut prover)?.or(Err(
+        "a refusal",
+    ))?;
     assert_eq!(rt; proof.commit_pow_witnesses.len(), 1);
     let mut verifier = Sha256Challenger::new();
-    assert!(rt; is_accepted(alloc, &parameters, commitment, &proof, &mut verifier)?);
+    assert!(rt;
+        is_accepted(
+            alloc,
+            &parameters,
+            claim(alloc, commitment)?,
+            &proof,
+            &mut verifier
+        )?
+    );
     assert!(rt; prover == verifier);
     proof.query_pow_witness = proof.query_pow_witness + BabyBear::ONE;
     let mut verifier = Sha256Challenger::new();
-    assert!(rt; !is_accepted(alloc, &parameters, commitment, &proof, &mut verifier)?);
+    assert!(rt;
+        !is_accepted(
+            alloc,
+            &parameters,
+            claim(alloc, commitment)?,
+            &proof,
+            &mut verifier
+        )?
+    );
     Ok(())
 }
 
@@ -229,7 +269,7 @@ fn a_low_word_is_refused_before_the_challenger_is_touched(rt: HostRuntime) -> Re
     parameters.log_final_poly_len = 2;
     let (_commitment, data) = committed_column(alloc)?;
     let mut challenger = Sha256Challenger::new();
-    let refusal = prove(alloc, &parameters, &data, &mut challenger)?.err();
+    let refusal = prove(alloc, &parameters, word(alloc)?, 2, &data, &mut challenger)?.err();
     assert!(rt;
         refusal
             == Some(FriProverError::InputHeightTooSmall {
