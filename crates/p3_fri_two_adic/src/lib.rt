@@ -1,0 +1,6 @@
+//! The polynomial commitment scheme over two-adic fields.
+#![tactic(auto)]
+
+pub mod two_adic_pcs;
+
+pub use crate::two_adic_pcs::{TwoAdicFriFoldingForMmcs, TwoAdicFriPcs};
