@@ -1,4 +1,6 @@
 pub mod Ways
+pub mod Plays
+pub mod Refused
 pub mod Queries
 pub mod Proofs
 pub mod Assembly
@@ -10,3 +12,11 @@ pub mod Batches
 pub mod Finals
 pub mod Lists
 pub mod Inputs
+pub mod Schedules
+pub mod Opened
+pub mod Replayed
+pub mod Heights
+pub mod PlayedRounds
+pub mod Assembled
+pub mod Planned
+pub mod Concluded
