@@ -1,21 +1,20 @@
 -- The committed polynomials are the only ones, and their values are barycentric sums.
-use Rattle.std.proofs.Common.{◌≡◌, ◌≢◌, ◌≤◌, ◌<◌, ℕ, zero, suc, ◌+◌, ◌-◌, ◌*◌, ◌/◌, ◌^◌, List, [], ◌∷◌, length, map, take, get_or, refl, sym, ap, ap₂, ◌∙◌, subst, arith}
-use Rattle.std.proofs.lemmas.List.{length-map, get_or-take, length-take-le}
+use Rattle.std.proofs.Common.{◌≡◌, ◌≢◌, ◌≤◌, ◌<◌, ℕ, ◌+◌, ◌/◌, ◌^◌, List, length, map, take, get_or, sym, ap, ap₂, ◌∙◌, arith}
+use Rattle.std.proofs.lemmas.List.{get_or-take, length-take-le}
 use Rattle.std.proofs.Math.Nat.{pow-le-pow_right}
-use Rattle.algebra.specs.Field.{FieldOps, IsField, IsRing, IsHomomorphism, sub, pow}
+use Rattle.algebra.specs.Field.{IsField, IsHomomorphism, sub}
 use Rattle.algebra.specs.Polynomial.{val, tabulate, sum_below}
-use Rattle.algebra.specs.TwoAdic.{AreRoots, pt}
+use Rattle.algebra.specs.TwoAdic.{AreRoots}
 use Rattle.algebra.specs.Cosets.{coset_pt, IsOffCoset}
 use Rattle.algebra.specs.Words.{coset_word, IsCosetWord}
 use Rattle.algebra.specs.Interpolation.{interpolant}
-use Rattle.algebra.specs.Barycentric.{barycentric, barycentric_weight, barycentric_factor}
-use Rattle.algebra.proofs.Lists.{get_or-tabulate, length-tabulate, tabulate-equal}
+use Rattle.algebra.specs.Barycentric.{barycentric_weight, barycentric_factor}
+use Rattle.algebra.proofs.Lists.{length-tabulate}
 use Rattle.algebra.proofs.PolynomialProduct.{sum_below-equal}
-use Rattle.algebra.proofs.Words.{coset_words, coset_word-restrict, point-restrict}
+use Rattle.algebra.proofs.Words.{coset_words}
 use Rattle.algebra.proofs.PointTest.{off_smaller_coset}
 use Rattle.algebra.proofs.Barycentric.{barycentric_value}
 use Rattle.p3_fri_relation.specs.Setting.{Fields}
-use Rattle.p3_fri_openings.specs.Log2.{log2}
 use Rattle.p3_fri_openings.specs.Committed.{coset_of, committed_column}
 use Rattle.p3_fri_openings.proofs.Log2.{log2-pow, pow-divided}
 

@@ -1,6 +1,6 @@
 -- The definitions on a small case: the column of `2 - X` over the coset of 3 in the field of 17
 -- elements, extended by a factor of two.
-use Rattle.std.proofs.Common.{◌≡◌, ℕ, ◌+◌, ◌-◌, ◌*◌, ◌%◌, ◌^◌, List, [], ◌∷◌, map, refl}
+use Rattle.std.proofs.Common.{◌≡◌, ℕ, ◌+◌, ◌-◌, ◌*◌, ◌%◌, ◌^◌, [], ◌∷◌, refl}
 use Rattle.std.specs.Prelude.{slice_index}
 use Rattle.algebra.specs.Field.{FieldOps, pow}
 use Rattle.algebra.specs.Polynomial.{val, sum_below}

@@ -7,4 +7,8 @@ pub mod Writes
 pub mod Sums
 pub mod ValueSums
 pub mod Tables
+pub mod Pushed
+pub mod AskedPoints
+pub mod RoundTables
+pub mod RequestRounds
 pub mod Example

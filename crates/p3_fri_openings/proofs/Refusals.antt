@@ -7,7 +7,6 @@ use Rattle.p3_fri_steps.specs.declared.error.FriProverError.TheVariants.{PointIn
 use Rattle.p3_fri_steps.specs.declared.error.FriProverError.{FriProverError}
 use Rattle.p3_fri_relation.specs.Setting.{Fields}
 use Rattle.p3_fri_openings.specs.declared.round.OpeningRound.{OpeningRound}
-use Rattle.p3_fri_openings.specs.First.{FirstAt}
 use Rattle.p3_fri_openings.specs.Refusals.{ArePointsOff, IsFirstInRound, IsFirstOfAll, RoundPointRefusal, PointRefusal}
 use Rattle.p3_fri_openings.proofs.First.{first_at}
 

@@ -1,5 +1,5 @@
 -- A power of two isn't zero in the field, and sums with one more term.
-use Rattle.std.proofs.Common.{◌≡◌, ◌≢◌, ℕ, zero, suc, ◌+◌, ◌^◌, refl, sym, ap, ap₂, ◌∙◌, arith, add-one}
+use Rattle.std.proofs.Common.{◌≡◌, ◌≢◌, ℕ, zero, suc, ◌+◌, ◌^◌, sym, ap, ◌∙◌, add-one}
 use Rattle.algebra.specs.Field.{FieldOps, IsField, IsRing, multiple}
 use Rattle.algebra.specs.Polynomial.{sum_below}
 use Rattle.algebra.proofs.Powers.{double}

@@ -1,5 +1,5 @@
 -- One more row in the sums over rows.
-use Rattle.std.proofs.Common.{◌≡◌, ℕ, ◌+◌, List, [], get_or, refl, sym, ap, ap₂, ◌∙◌}
+use Rattle.std.proofs.Common.{◌≡◌, ℕ, ◌+◌, List, [], get_or, sym, ap, ap₂, ◌∙◌}
 use Rattle.algebra.specs.Field.{FieldOps, IsRing}
 use Rattle.algebra.specs.Polynomial.{sum_below}
 use Rattle.p3_fri_openings.specs.Sums.{weighted_sum}

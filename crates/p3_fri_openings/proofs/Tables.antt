@@ -1,12 +1,12 @@
 -- Tables of inverse differences: each entry serves all smaller cosets.
-use Rattle.std.proofs.Common.{◌≡◌, ◌≢◌, ◌≤◌, ◌<◌, ℕ, zero, suc, ◌+◌, ◌-◌, ◌^◌, List, [], ◌∷◌, length, map, take, get_or, All, refl, sym, ap, ap₂, ◌∙◌, subst, inl, inr, arith}
+use Rattle.std.proofs.Common.{◌≡◌, ◌≢◌, ◌≤◌, ◌<◌, ℕ, zero, suc, ◌+◌, ◌-◌, ◌^◌, List, [], ◌∷◌, length, map, take, All, refl, sym, ap, ◌∙◌, subst, inl, inr, arith}
 use Rattle.std.specs.Vec.{vec_len}
 use Rattle.std.specs.List.{take-map}
 use Rattle.std.proofs.Math.Pow.{pow-lt}
 use Rattle.std.proofs.Math.Nat.{pow-le-pow_right}
 use Rattle.std.proofs.lemmas.Bool.{cases_lt}
 use Rattle.std.proofs.lemmas.List.{length-map}
-use Rattle.algebra.specs.Field.{FieldOps, IsField, IsRing, sub}
+use Rattle.algebra.specs.Field.{IsField, IsRing, sub}
 use Rattle.algebra.specs.Polynomial.{tabulate}
 use Rattle.algebra.specs.TwoAdic.{AreRoots, pt}
 use Rattle.algebra.specs.Cosets.{coset_pt, IsOffCoset}

@@ -1,5 +1,5 @@
 -- Scaled sums over the first rows are the values of the committed polynomials.
-use Rattle.std.proofs.Common.{◌≡◌, ◌≢◌, ◌≤◌, ◌<◌, ℕ, zero, suc, ◌+◌, ◌-◌, ◌*◌, ◌/◌, ◌^◌, List, [], ◌∷◌, length, map, take, get_or, refl, sym, ap, ap₂, ◌∙◌, subst, arith, Result, Ok, Err, IfOk}
+use Rattle.std.proofs.Common.{◌≡◌, ◌≢◌, ◌≤◌, ◌<◌, ℕ, ◌+◌, ◌/◌, ◌^◌, List, [], length, map, take, get_or, sym, ap, ◌∙◌, arith, Result, Ok, Err, IfOk}
 use Rattle.std.proofs.Math.ListN.{get_or-map}
 use Rattle.std.proofs.Math.Nat.{pow-le-pow_right}
 use Rattle.std.proofs.lemmas.List.{length-map, get_or-take, length-take}
@@ -7,9 +7,9 @@ use Rattle.std.proofs.Math.Nat.{div-eq_of_lt}
 use Rattle.std.proofs.Math.Pow.{pow-lt}
 use Rattle.algebra.specs.Interpolation.{interpolant}
 use Rattle.algebra.proofs.Values.{val-nil}
-use Rattle.algebra.specs.Field.{FieldOps, IsField, IsRing, IsHomomorphism, sub}
+use Rattle.algebra.specs.Field.{IsField, IsRing, IsHomomorphism, sub}
 use Rattle.algebra.specs.Polynomial.{val, tabulate, sum_below}
-use Rattle.algebra.specs.TwoAdic.{AreRoots, pt}
+use Rattle.algebra.specs.TwoAdic.{AreRoots}
 use Rattle.algebra.specs.Cosets.{coset_pt, IsOffCoset}
 use Rattle.algebra.specs.Barycentric.{barycentric_factor}
 use Rattle.algebra.proofs.RingLaws.{zero_add}
@@ -22,8 +22,8 @@ use Rattle.p3_dft.specs.Evaluations.{column}
 use Rattle.p3_fri_relation.specs.Setting.{Fields}
 use Rattle.p3_fri_openings.specs.Log2.{log2}
 use Rattle.p3_fri_openings.specs.Sums.{StartsWith, weighted_sum}
-use Rattle.p3_fri_openings.specs.Committed.{coset_of, inverse_differences, committed_column, committed, committed_values}
-use Rattle.p3_fri_openings.proofs.Log2.{log2-pow, log2_is}
+use Rattle.p3_fri_openings.specs.Committed.{coset_of, inverse_differences, committed_column, committed_values}
+use Rattle.p3_fri_openings.proofs.Log2.{log2_is}
 use Rattle.p3_fri_openings.proofs.Committed.{column_value}
 
 pub starts_at : {X : Type 0} (xs start : List X) (i : ℕ) (d : X) → StartsWith xs start → i < length start

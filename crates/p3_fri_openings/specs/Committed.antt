@@ -1,5 +1,5 @@
 -- The polynomials that committed matrices stand for, and their values.
-use Rattle.std.specs.Prelude.{◌≡◌, ℕ, ◌/◌, ◌^◌, ◌<◌, List, length, map, take, slice_index_or}
+use Rattle.std.specs.Prelude.{ℕ, ◌/◌, ◌^◌, List, length, map, take}
 use Rattle.algebra.specs.Field.{sub}
 use Rattle.algebra.specs.Polynomial.{tabulate}
 use Rattle.algebra.specs.Cosets.{coset_pt}

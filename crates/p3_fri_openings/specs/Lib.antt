@@ -4,4 +4,7 @@ pub mod Rounds
 pub mod Refusals
 pub mod Committed
 pub mod Sums
+pub mod Points
 pub mod Denominators
+pub mod Opened
+pub mod Requests

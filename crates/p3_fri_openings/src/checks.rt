@@ -76,7 +76,7 @@ pub fn check_heights<M, F: TwoAdicField, EF: ExtensionField<F>>(
     Ok(())
 }
 
-fn are_equal<F: Field>(a: F, b: F) -> bool
+pub(crate) fn are_equal<F: Field>(a: F, b: F) -> bool
     ensures { IsTrue result ↔ (a ≡ b) }
 {
     a == b

@@ -1,8 +1,6 @@
-use Rattle.p3_fri_openings.proofs.First.{first_at, one_more, to_the_end, at_item}
-use Rattle.p3_fri_steps.specs.declared.error.FriProverError.TheVariants.{InputHeightTooSmall, FinalHeightOverflow, OutOfMemory, NoPowWitness, PointInEvaluationDomain}
-use Rattle.p3_fri_steps.specs.declared.error.FriProverError.{FriProverError}
+use Rattle.p3_fri_openings.proofs.First.{one_more, to_the_end}
 use Rattle.p3_fri_relation.specs.Setting.{Fields}
-use Rattle.p3_fri_openings.specs.Refusals.{ArePointsOff, IsFirstInRound, RoundPointRefusal, PointRefusal}
+use Rattle.p3_fri_openings.specs.Refusals.{ArePointsOff}
 use Rattle.p3_fri_openings.proofs.Refusals.{refused_here}
 use Rattle.p3_fri_openings.proofs.checks.check_points.Goals as goal
 

@@ -1,6 +1,5 @@
-use Rattle.p3_fri_openings.proofs.First.{first_at, one_more, to_the_end, at_item}
-use Rattle.std.proofs.Common.{sym, subst, ◌∙◌}
-use Rattle.p3_matrix.specs.Matrix.{rows}
+use Rattle.p3_fri_openings.proofs.First.{first_at, one_more, to_the_end}
+use Rattle.std.proofs.Common.{subst, ◌∙◌}
 use Rattle.p3_fri_relation.specs.Views.{parameters_of}
 use Rattle.p3_fri_openings.specs.Rounds.{log_height}
 use Rattle.p3_fri_openings.specs.Refusals.{IsTallEnough, HeightRefusal}

@@ -1,5 +1,5 @@
 use Rattle.p3_fri_openings.proofs.First.{first_at, one_more, to_the_end, at_item}
-use Rattle.std.proofs.Common.{◌≡◌, ◌<◌, length, arith, get_or, All, refl, sym, ap, subst, ◌∙◌}
+use Rattle.std.proofs.Common.{◌<◌, length, arith, All, refl, sym, ap, subst, ◌∙◌}
 use Rattle.std.proofs.lemmas.List.{length-map}
 use Rattle.algebra.specs.Nested.{lists}
 use Rattle.p3_matrix.specs.Matrix.{rows}

@@ -1,5 +1,4 @@
-use Rattle.p3_fri_openings.proofs.First.{first_at, one_more, to_the_end, at_item}
-use Rattle.std.proofs.Common.{◌≡◌, true, false}
+use Rattle.p3_fri_openings.proofs.First.{first_at, one_more, to_the_end}
 use Rattle.p3_fri_relation.specs.Setting.{Fields}
 use Rattle.p3_fri_openings.specs.Refusals.{IsOn, IsOff}
 use Rattle.p3_fri_openings.proofs.checks.first_in_evaluation_domain.Goals as goal

@@ -1,6 +1,5 @@
-use Rattle.std.proofs.Common.{◌≡◌, ◌↔◌, ◌^◌, IsTrue, ap, ◌∙◌, sym}
+use Rattle.std.proofs.Common.{◌^◌, ap, ◌∙◌, sym}
 use Rattle.algebra.specs.Field.{pow}
-use Rattle.algebra.specs.CosetLaws.{IsTested}
 use Rattle.algebra.proofs.PointTest.{point_test}
 use Rattle.p3_fri_openings.proofs.checks.is_in_evaluation_domain.Goals as goal
 

@@ -1,4 +1,4 @@
-use Rattle.std.proofs.Common.{◌≡◌, ◌≢◌, ◌≤◌, ◌^◌, All, map, take, length, sym, subst, ap, ◌∙◌, arith}
+use Rattle.std.proofs.Common.{◌≡◌, ◌≢◌, All, map, take, length, sym, subst, ap, ◌∙◌, arith}
 use Rattle.std.proofs.lemmas.List.{length-take-le}
 use Rattle.algebra.specs.Field.{sub}
 use Rattle.algebra.specs.Cosets.{coset_pt}
@@ -6,7 +6,7 @@ use Rattle.algebra.proofs.Lists.{length-tabulate}
 use Rattle.p3_fri_relation.specs.Setting.{Fields}
 use Rattle.p3_fri_openings.specs.Log2.{log2}
 use Rattle.p3_fri_openings.specs.Refusals.{IsOff}
-use Rattle.p3_fri_openings.specs.Committed.{coset_of, inverse_differences}
+use Rattle.p3_fri_openings.specs.Committed.{coset_of}
 use Rattle.p3_fri_openings.proofs.Log2.{log2_is}
 use Rattle.p3_fri_openings.proofs.ValueSums.{starts_long}
 use Rattle.p3_fri_openings.proofs.Tables.{differences_nonzero, map_twice}

@@ -1,4 +1,4 @@
-use Rattle.std.proofs.Common.{◌≡◌, ◌++◌, ◌∷◌, [], map, take, ap, ap₂, sym, ◌∙◌}
+use Rattle.std.proofs.Common.{◌++◌, ◌∷◌, [], map, take, ap, ap₂, sym, ◌∙◌}
 use Rattle.std.proofs.lemmas.List.{take_more, map-append, take_all}
 use Rattle.algebra.specs.Field.{sub}
 use Rattle.p3_fri_openings.proofs.denominators.differences.Goals as goal

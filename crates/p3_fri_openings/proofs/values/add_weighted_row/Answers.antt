@@ -1,4 +1,4 @@
-use Rattle.std.proofs.Common.{◌≡◌, ◌<◌, get_or, length, arith, ap, ap₂, ◌∙◌}
+use Rattle.std.proofs.Common.{◌<◌, get_or, length, arith, ap, ap₂, ◌∙◌}
 use Rattle.p3_fri_openings.proofs.Writes.{item, written, unwritten}
 use Rattle.p3_fri_openings.proofs.values.add_weighted_row.Goals as goal
 

@@ -1,4 +1,4 @@
-use Rattle.std.proofs.Common.{◌≡◌, ◌<◌, get_or, length, arith, ap, ap₂, ◌∙◌}
+use Rattle.std.proofs.Common.{◌≡◌, ◌<◌, get_or, length, arith, ap₂, ◌∙◌}
 use Rattle.p3_matrix.specs.Matrix.{rows}
 use Rattle.p3_fri_openings.proofs.Writes.{item}
 use Rattle.p3_fri_openings.proofs.Sums.{weighted_none, weighted_next}

@@ -1,4 +1,4 @@
-use Rattle.std.proofs.Common.{◌≡◌, ◌^◌, ap, ap₂, sym, ◌∙◌, ◌*◌}
+use Rattle.std.proofs.Common.{ap, ap₂, sym, ◌∙◌}
 use Rattle.algebra.specs.Field.{multiple}
 use Rattle.algebra.specs.Cosets.{vanishing}
 use Rattle.p3_fri_openings.proofs.Sizes.{size_nonzero}

@@ -1,4 +1,4 @@
-use Rattle.std.proofs.Common.{◌≡◌, ◌<◌, get_or, length, arith, ap, ◌∙◌}
+use Rattle.std.proofs.Common.{◌<◌, get_or, length, arith, ap, ◌∙◌}
 use Rattle.p3_fri_openings.proofs.Writes.{item, written, unwritten}
 use Rattle.p3_fri_openings.proofs.values.scale_all.Goals as goal
 

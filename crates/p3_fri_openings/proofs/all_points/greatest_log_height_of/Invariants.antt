@@ -1,0 +1,9 @@
+use Rattle.std.proofs.Common.{◌≤◌, All, take}
+use Rattle.p3_fri_openings.specs.Rounds.{log_height}
+use Rattle.p3_fri_openings.proofs.all_points.greatest_log_height_of.Given as goal
+
+abbrev pub invariant-loop-matrix : goal.invariant-loop-matrix
+invariant-loop-matrix g l = record {
+  greatest : All (λ m. log_height m ≤ l.greatest) (take l.matrix-index l.matrices);
+  within : l.greatest ≤ g.F.TwoAdicField.TWO_ADICITY;
+}

@@ -1,0 +1,111 @@
+use Rattle.std.proofs.Common.{◌<◌, All, length, map, get_or, sym, ap, ap₂, subst, ◌∙◌, arith}
+use Rattle.std.proofs.lemmas.List.{length-map}
+use Rattle.algebra.specs.Nested.{lists}
+use Rattle.p3_matrix.specs.Matrix.{rows}
+use Rattle.p3_pcs.proofs.Zipped.{entry_of_both, entry_of_map, within_both, step, done}
+use Rattle.p3_fri_relation.specs.Setting.{Fields}
+use Rattle.p3_fri_openings.specs.Committed.{committed_values}
+use Rattle.p3_fri_openings.specs.Denominators.{IsCovered, HasPointsCovered}
+use Rattle.p3_fri_openings.specs.Refusals.{IsOff, HasPointsOff}
+use Rattle.p3_fri_openings.specs.Rounds.{ask, asked_in, log_height}
+use Rattle.p3_fri_openings.proofs.First.{at_item}
+use Rattle.p3_fri_openings.proofs.opened.values_of_round.Goals as goal
+
+pub values_at_points-requires : goal.values_at_points-requires
+values_at_points-requires g c =
+    let f : Fields g.row.F.Denot g.row.EF.Denot = record {
+      base = g.F.Field.ops;
+      ext = g.EF.Field.ops;
+      lift = g.EF.ExtensionField.lift;
+      coefficients = g.EF.ExtensionField.coefficients;
+      degree = g.EF.ExtensionField.DIMENSION;
+      root = g.F.TwoAdicField.root;
+      two_adicity = g.F.TwoAdicField.TWO_ADICITY;
+      shift = g.F.Field.GENERATOR;
+    } in
+    let round = c.args.round.now in
+    let matrices = round.matrices.now in
+    let i = c.loop-index.index in
+    let m = c.index-round-index.result in
+    let v = c.index-round-index-in-loop-index.result in
+    let d = c.args.denominators.now in
+    let n = length-map round.points.now (λ v. v.items) in
+    let same = c.requires.round.lists_of_points in
+    let one : i < length matrices = omega arith in
+    let two : i < length round.points.now = omega arith in
+    let three : i < length (lists round.points.now) = omega arith in
+    let slice = c.as_slice-points.ensures.value
+    ∙ ap (λ v. v.items) (sym c.index-round-index-in-loop-index.is) in
+    let within = within_both ask matrices (lists round.points.now) i one three in
+    let entry = entry_of_both ask matrices
+    (lists round.points.now) i m v.items one three c.index-round-index.is
+    (entry_of_map (λ v. v.items) round.points.now i v two c.index-round-index-in-loop-index.is) in
+    let off = at_item (HasPointsOff f) (asked_in round) i
+    (ask m v.items) within entry c.requires.off in
+    let covered = at_item (HasPointsCovered d.entries.items) (asked_in round) i
+    (ask m v.items) within entry
+    c.requires.covered in
+    let is = c.index-round-index.is in
+    let here = get_or matrices i m in
+    record {
+      height = c.requires.round.cosets i m one;
+      off = subst (λ zs. All (IsOff f (log_height here)) zs) (sym slice)
+          (subst (λ m. All (IsOff f (log_height m)) v.items) is off);
+      coset = c.requires.coset i m one;
+      inverses = c.requires.inverses;
+      covered = subst (λ zs. All (IsCovered (length (rows here)) d.entries.items) zs) (sym slice)
+          (subst (λ m. All (IsCovered (length (rows m)) d.entries.items) v.items) is covered);
+    }
+
+pub loop-index-preserved : goal.loop-index-preserved
+loop-index-preserved g c =
+    let f : Fields g.row.F.Denot g.row.EF.Denot = record {
+      base = g.F.Field.ops;
+      ext = g.EF.Field.ops;
+      lift = g.EF.ExtensionField.lift;
+      coefficients = g.EF.ExtensionField.coefficients;
+      degree = g.EF.ExtensionField.DIMENSION;
+      root = g.F.TwoAdicField.root;
+      two_adicity = g.F.TwoAdicField.TWO_ADICITY;
+      shift = g.F.Field.GENERATOR;
+    } in
+    let round = c.args.round.now in
+    let matrices = round.matrices.now in
+    let i = c.loop-index.index in
+    let m = c.index-round-index.result in
+    let v = c.index-round-index-in-loop-index.result in
+    let b = c.args.log_blowup in
+    let n = length-map round.points.now (λ v. v.items) in
+    let same = c.requires.round.lists_of_points in
+    let one : i < length matrices = omega arith in
+    let two : i < length round.points.now = omega arith in
+    let three : i < length (lists round.points.now) = omega arith in
+    let slice = c.as_slice-points.ensures.value
+    ∙ ap (λ v. v.items) (sym c.index-round-index-in-loop-index.is) in
+    step (λ matrix points. map (committed_values f b matrix) points) (λ v. lists v.items) matrices
+    (lists round.points.now) i m v.items c.loop-index.values.items c.push.new.self.items
+    c.in_ok-values_at_points.field-0 one three c.index-round-index.is
+    (entry_of_map (λ v. v.items) round.points.now i v two c.index-round-index-in-loop-index.is)
+    c.in_ok-push.ensures.items
+    (c.in_ok-values_at_points.ensures
+    ∙ ap₂ (λ m zs. map (committed_values f b m) zs) (sym c.index-round-index.is) slice)
+    c.loop-index.invariant
+
+pub returns : goal.returns
+returns g c =
+    let f : Fields g.row.F.Denot g.row.EF.Denot = record {
+      base = g.F.Field.ops;
+      ext = g.EF.Field.ops;
+      lift = g.EF.ExtensionField.lift;
+      coefficients = g.EF.ExtensionField.coefficients;
+      degree = g.EF.ExtensionField.DIMENSION;
+      root = g.F.TwoAdicField.root;
+      two_adicity = g.F.TwoAdicField.TWO_ADICITY;
+      shift = g.F.Field.GENERATOR;
+    } in
+    let round = c.args.round.now in
+    let n = length-map round.points.now (λ v. v.items) in
+    let same = c.requires.round.lists_of_points in
+    done (λ matrix points. map (committed_values f c.args.log_blowup matrix) points)
+    round.matrices.now
+    (lists round.points.now) c.loop-index.index _ (omega arith) c.loop-index.invariant
