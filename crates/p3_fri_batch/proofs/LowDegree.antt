@@ -1,16 +1,15 @@
 -- The batch of honest openings is a word of low degree.
 use Rattle.std.proofs.Common.{◌≡◌, ◌≢◌, ◌≤◌, ◌<◌, ◌==◌, cond, true, false, Bool, ℕ, zero, suc, pred, ◌+◌, ◌^◌, List, [], ◌∷◌, ◌++◌, length, map, get_or, All, refl, sym, ap, ap₂, ◌∙◌, subst, arith}
 use Rattle.std.proofs.Math.ListN.{get_or-map}
-use Rattle.std.proofs.lemmas.List.{length-map}
 use Rattle.std.proofs.lemmas.List.Elements.{All-head, All-tail}
 use Rattle.std.proofs.lemmas.Bool.{eqb-true}
 use Rattle.std.specs.List.{flat_map}
-use Rattle.algebra.specs.Field.{FieldOps, IsField, IsHomomorphism}
-use Rattle.algebra.specs.Polynomial.{val, tabulate}
+use Rattle.algebra.specs.Field.{IsField, IsHomomorphism}
+use Rattle.algebra.specs.Polynomial.{val}
 use Rattle.algebra.specs.TwoAdic.{AreRoots}
 use Rattle.algebra.specs.Cosets.{coset_pt}
 use Rattle.algebra.specs.Words.{IsCosetWord}
-use Rattle.algebra.specs.Quotients.{quotients, values_at, row_at, opened_quotients, quotient_word, IsOpenedOff}
+use Rattle.algebra.specs.Quotients.{quotients, values_at, row_at, opened_quotients, IsOpenedOff}
 use Rattle.algebra.specs.Quotients.{Opened as OpenedColumns}
 use Rattle.algebra.proofs.Lists.{Each, All_from_each, each_from_All, tabulate-equal, get_or-tabulate, map-tabulate, tabulate-get_or, length-tabulate}
 use Rattle.algebra.proofs.Batches.{quotient_word_below}
@@ -133,19 +132,25 @@ module _ {F E : Type 0} (f : Fields F E) (L : IsField f.base) (W : AreRoots f.ba
           )
       more rest false e = rest
 
-  -- the batch of the log height `k + b` is a word of degree below `2^k`
+  -- the batch of the log height `k + b` is a word of degree below `2^k - 1`
+  pub batch_below : (M : IsField f.ext) (H : IsHomomorphism f.base f.ext f.lift) (alpha : E) (ms : List (Opened F E))
+      → All (λ m. log_height m.matrix ≡ k + b → IsOpenedWord f b (k + b) k m) ms
+      → IsCosetWord f.ext (λ j. f.lift (f.root j)) (f.lift f.shift) (k + b) (pred (2 ^ k)) (batch_word f alpha (k + b) ms)
+  batch_below M H alpha ms h =
+      let each = each_from_All (λ m. log_height m.matrix ≡ k + b → IsOpenedWord f b (k + b) k m) ms h in
+      subst (λ ys. IsCosetWord f.ext (λ j. f.lift (f.root j)) (f.lift f.shift) (k + b) (pred (2 ^ k)) ys)
+      (sym (tabulate-equal (2 ^ (k + b)) (λ i. val f.ext (flat_map (opened_terms f (k + b) i) ms) alpha)
+      (λ i. val f.ext (flat_map (opened_quotients f.base f.ext f.lift (coset_pt f.base f.root f.shift i (k + b))) (taken ms)) alpha)
+      (λ i l. ap (λ ts. val f.ext ts alpha) (all_terms ms each i l))))
+      (quotient_word_below f.base f.ext f.lift L M H f.root f.shift (k + b) (2 ^ k) alpha (taken ms) (all_off ms each))
+
+  -- and so of one below `2^k`
   pub batch_low : (M : IsField f.ext) (H : IsHomomorphism f.base f.ext f.lift) (alpha : E) (ms : List (Opened F E))
       → All (λ m. log_height m.matrix ≡ k + b → IsOpenedWord f b (k + b) k m) ms
       → IsCosetWord f.ext (λ j. f.lift (f.root j)) (f.lift f.shift) (k + b) (2 ^ k) (batch_word f alpha (k + b) ms)
   batch_low M H alpha ms h =
-      let each = each_from_All (λ m. log_height m.matrix ≡ k + b → IsOpenedWord f b (k + b) k m) ms h in
-      subst (λ ys. IsCosetWord f.ext (λ j. f.lift (f.root j)) (f.lift f.shift) (k + b) (2 ^ k) ys)
-      (sym (tabulate-equal (2 ^ (k + b)) (λ i. val f.ext (flat_map (opened_terms f (k + b) i) ms) alpha)
-      (λ i. val f.ext (flat_map (opened_quotients f.base f.ext f.lift (coset_pt f.base f.root f.shift i (k + b))) (taken ms)) alpha)
-      (λ i l. ap (λ ts. val f.ext ts alpha) (all_terms ms each i l))))
-      (coset_word-degree f.ext M.ring (λ j. f.lift (f.root j)) (f.lift f.shift) (k + b) (pred (2 ^ k)) (2 ^ k)
-      (quotient_word f.base f.ext f.lift f.root f.shift (k + b) alpha (taken ms)) (pred_le (2 ^ k))
-      (quotient_word_below f.base f.ext f.lift L M H f.root f.shift (k + b) (2 ^ k) alpha (taken ms) (all_off ms each)))
+      coset_word-degree f.ext M.ring (λ j. f.lift (f.root j)) (f.lift f.shift) (k + b) (pred (2 ^ k)) (2 ^ k)
+      (batch_word f alpha (k + b) ms) (pred_le (2 ^ k)) (batch_below M H alpha ms h)
     where
       pred_le : (n : ℕ) → pred n ≤ n
       pred_le zero = omega arith

@@ -1,8 +1,7 @@
 -- One point more in the quotients of a row.
-use Rattle.std.proofs.Common.{◌≡◌, ◌≤◌, ◌<◌, ℕ, zero, suc, ◌+◌, ◌*◌, List, [], ◌∷◌, ◌++◌, length, map, take, get_or, refl, sym, ap, ap₂, ◌∙◌, append_assoc, length-append, arith, zero-mul, suc-mul}
+use Rattle.std.proofs.Common.{◌≡◌, ◌<◌, ℕ, zero, suc, ◌+◌, ◌*◌, List, [], ◌∷◌, ◌++◌, length, take, get_or, refl, sym, ap, ap₂, ◌∙◌, append_assoc, length-append, arith, zero-mul, suc-mul}
 use Rattle.std.proofs.lemmas.Grind.{flat_map-append}
 use Rattle.std.proofs.lemmas.List.{take_more, append-nil}
-use Rattle.std.specs.List.{flat_map}
 use Rattle.algebra.specs.Field.{FieldOps, IsField, IsRing, sub, pow}
 use Rattle.algebra.specs.Polynomial.{val}
 use Rattle.algebra.specs.Quotients.{quotients}
@@ -71,3 +70,9 @@ pub step_more : {E : Type 0} (K : FieldOps E) (R : IsRing K) (alpha step after n
 step_more K R alpha step after new n p width s a e =
     e ∙ ap₂ (λ x y. K.mul x y) s a ∙ sym (pow-add K R alpha (n + p * width) width)
     ∙ ap (λ m. pow K alpha m) (omega (arith, add-mul p 1 width))
+
+pub claims_count : {E : Type 0} (points : List E) (values : List (List E))
+    → length values ≡ length points → length (claims_of points values) ≡ length points
+claims_count [] values e = refl
+claims_count (z ∷ points) [] e = absurd (omega (arith, e))
+claims_count (z ∷ points) (ys ∷ values) e = ap suc (claims_count points values (omega (arith, e)))

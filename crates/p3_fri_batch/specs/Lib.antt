@@ -1,1 +1,4 @@
 pub mod Words
+pub mod Heights
+pub mod Claimed
+pub mod Rounds

@@ -2,7 +2,7 @@
 use Rattle.std.specs.Prelude.{◌≡◌, ◌==◌, ◌<◌, if◌then◌else◌, ℕ, ◌^◌, List, [], map, length, All}
 use Rattle.std.specs.Prelude.{slice_index_or}
 use Rattle.std.specs.List.{flat_map}
-use Rattle.algebra.specs.Field.{FieldOps}
+use Rattle.algebra.specs.Field.{FieldOps, pow}
 use Rattle.algebra.specs.Polynomial.{val, tabulate}
 use Rattle.algebra.specs.Cosets.{coset_pt}
 use Rattle.algebra.specs.Quotients.{quotients}
@@ -51,6 +51,14 @@ module _ {F E : Type 0} (f : Fields F E) where
   abbrev pub batch_word : (alpha : E) (h : ℕ) → List (Opened F E) → List E
   batch_word alpha h ms =
       tabulate (2 ^ h) (λ i. val f.ext (flat_map (opened_terms h i) ms) alpha)
+
+  -- the word is that of these matrices, and `step` the power of `alpha` at which further quotients
+  -- go on
+  pub record IsSummed (alpha : E) (h : ℕ) (ms : List (Opened F E)) (word : List E) (step : E)
+      : Type 0 where
+    pub word_is : word ≡ batch_word alpha h ms
+    pub step_is : (i : ℕ) → i < 2 ^ h
+        → step ≡ pow f.ext alpha (length (flat_map (opened_terms h i) ms))
 
 -- of a matrix of log height `h`: its columns are words of polynomials of `2^k` coefficients, and
 -- what is claimed are their values, at points off the coset

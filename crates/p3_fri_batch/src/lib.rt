@@ -3,7 +3,10 @@
 #![tactic(auto)]
 
 pub mod compression;
+pub mod opened;
 pub mod points;
+pub mod words;
 
 pub use crate::compression::compress;
 pub use crate::points::{add_matrix, add_opened_points};
+pub use crate::words::batch_words;

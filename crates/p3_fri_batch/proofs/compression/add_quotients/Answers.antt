@@ -1,4 +1,4 @@
-use Rattle.std.proofs.Common.{◌≡◌, ◌<◌, get_or, length, arith, ap, ap₂, ◌∙◌}
+use Rattle.std.proofs.Common.{◌<◌, get_or, length, arith, ap, ap₂, ◌∙◌}
 use Rattle.algebra.specs.Field.{sub}
 use Rattle.p3_fri_openings.proofs.Writes.{item, written, unwritten}
 use Rattle.p3_fri_batch.proofs.compression.add_quotients.Goals as goal

@@ -1,4 +1,4 @@
-use Rattle.std.proofs.Common.{◌≡◌, ◌<◌, List, ◌++◌, ◌∷◌, [], length, map, take, get_or, ap, ap₂, sym, ◌∙◌, arith}
+use Rattle.std.proofs.Common.{◌<◌, List, ◌++◌, ◌∷◌, [], length, map, take, ap, ap₂, sym, ◌∙◌, arith}
 use Rattle.std.proofs.lemmas.List.{take_more, map-append, take_all}
 use Rattle.algebra.specs.Polynomial.{val}
 use Rattle.p3_matrix.specs.Matrix.{rows}

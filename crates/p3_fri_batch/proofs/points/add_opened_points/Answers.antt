@@ -1,12 +1,12 @@
-use Rattle.std.proofs.Common.{◌≡◌, ◌≤◌, ◌<◌, ◌+◌, ◌*◌, ◌++◌, [], List, length, map, take, get_or, refl, sym, ap, ap₂, ◌∙◌, length-append, zero-mul, subst, arith}
+use Rattle.std.proofs.Common.{◌≡◌, ◌≤◌, ◌<◌, ◌+◌, ◌*◌, ◌++◌, length, take, get_or, sym, ap, ◌∙◌, length-append, zero-mul, arith}
 use Rattle.std.proofs.lemmas.List.{length-map, append-nil, take_all, length-take-le}
 use Rattle.algebra.specs.Field.{sub, pow}
-use Rattle.algebra.specs.Polynomial.{val, tabulate}
+use Rattle.algebra.specs.Polynomial.{val}
 use Rattle.algebra.specs.Cosets.{coset_pt}
 use Rattle.algebra.specs.Nested.{lists}
-use Rattle.algebra.proofs.Lists.{Each, each_from_All, get_or-tabulate, map-tabulate, length-tabulate}
+use Rattle.algebra.proofs.Lists.{each_from_All, get_or-tabulate, map-tabulate, length-tabulate}
 use Rattle.p3_pcs.proofs.Zipped.{entry_of_both, entry_of_map, within_both, length_of_both}
-use Rattle.p3_fri_relation.specs.Setting.{Fields, PointClaim}
+use Rattle.p3_fri_relation.specs.Setting.{Fields}
 use Rattle.p3_fri_openings.specs.Log2.{log2}
 use Rattle.p3_fri_openings.specs.Committed.{coset_of}
 use Rattle.p3_fri_openings.specs.Denominators.{IsCovered}

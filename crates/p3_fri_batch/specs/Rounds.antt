@@ -1,0 +1,60 @@
+-- The matrices of rounds with the values claimed at their points.
+use Rattle.std.specs.Prelude.{◌≡◌, ℕ, List, length, All}
+use Rattle.std.specs.List.{AllZip}
+use Rattle.algebra.specs.Nested.{lists, joined}
+use Rattle.p3_matrix.specs.Matrix.{rows, matrix_width}
+use Rattle.p3_pcs.specs.Claims.{both}
+use Rattle.p3_fri_openings.specs.declared.denominators.PointDenominators.{PointDenominators}
+use Rattle.p3_fri_openings.specs.declared.round.OpeningRound.{OpeningRound}
+use Rattle.p3_fri_openings.specs.Denominators.{IsCovered}
+use Rattle.p3_fri_openings.specs.Rounds.{Asked, HasCoset, asked_in}
+use Rattle.p3_fri_batch.specs.declared.opened.OpenedMatrix.{OpenedMatrix}
+use Rattle.p3_fri_batch.specs.Words.{Opened, claims_of}
+
+module _ {F E : Type 0} where
+  abbrev pub opened_at : Asked F E → (values : List (List E)) → Opened F E
+  opened_at a values = record { matrix = a.matrix; claims = claims_of a.points values }
+
+  -- the matrices of a round with these values, by matrix, point and column
+  abbrev pub opened_in : OpeningRound F E → (values : List (List (List E))) → List (Opened F E)
+  opened_in round values = both opened_at (asked_in round) values
+
+  -- by round
+  abbrev pub opened_by_round : List (OpeningRound F E) → (values : List (List (List (List E))))
+      → List (List (Opened F E))
+  opened_by_round rounds values = both opened_in rounds values
+
+  -- those of all rounds, in order
+  abbrev pub opened_of : List (OpeningRound F E) → (values : List (List (List (List E))))
+      → List (Opened F E)
+  opened_of rounds values = joined (opened_by_round rounds values)
+
+  -- there are values for each point of a matrix, and at each one for each column
+  pub record HasValues (a : Asked F E) (values : List (List E)) : Type 0 where
+    pub counts : length values ≡ length a.points
+    pub widths : All (λ ys. length ys ≡ matrix_width a.matrix) values
+
+  abbrev pub HaveValues : OpeningRound F E → (values : List (List (List E))) → Type 0
+  HaveValues round values = AllZip HasValues (asked_in round) values
+
+  -- the table has the inverse differences of the points of a matrix; or of a round's matrices
+  abbrev pub HasPointsCovered : List (PointDenominators E) → Asked F E → Type 0
+  HasPointsCovered table a = All (IsCovered (length (rows a.matrix)) table) a.points
+
+  abbrev pub ArePointsCovered : List (PointDenominators E) → OpeningRound F E → Type 0
+  ArePointsCovered table round = All (HasPointsCovered table) (asked_in round)
+
+  -- a matrix that is lent together with its points and values
+  abbrev pub asked_of : OpenedMatrix F E → Asked F E
+  asked_of m = record { matrix = m.matrix.now; points = m.points.now }
+
+  abbrev pub as_opened : OpenedMatrix F E → Opened F E
+  as_opened m = opened_at (asked_of m) (lists m.values.now)
+
+  -- its quotients can be taken: it stands on a coset, and its values and inverse differences are at
+  -- hand
+  pub record IsReady (two_adicity : ℕ) (table : List (PointDenominators E)) (m : OpenedMatrix F E)
+      : Type 0 where
+    pub coset : HasCoset two_adicity m.matrix.now
+    pub values : HasValues (asked_of m) (lists m.values.now)
+    pub covered : HasPointsCovered table (asked_of m)

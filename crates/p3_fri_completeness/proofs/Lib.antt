@@ -1,0 +1,6 @@
+pub mod Claims
+pub mod Inputs
+pub mod Sums
+pub mod Accepted
+pub mod Requests
+pub mod Scheme
