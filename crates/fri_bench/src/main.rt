@@ -1,34 +1,25 @@
 //! Times the extension of a matrix of BabyBear elements and its bit reversal, as a commitment takes
-//! them, or folds of a word, in microseconds, the least of several.
+//! them, the transform and the tree by themselves, or folds of a word, in microseconds, the least of
+//! several.
 #![tactic(auto)]
 
 ghost use Rattle.std.specs.Prelude.{◌<◌};
 
 mod fold;
+mod matrices;
+mod stages;
 
+use crate::matrices::matrix_of;
 use p3_dft::{Radix2Dit, TwoAdicSubgroupDft};
 use p3_field::{BabyBear, Field, PrimeField64};
-use p3_matrix::RowMajorMatrix;
-use std::alloc::{AllocError, Global};
 use std::time::Instant;
 use std::{env, io};
 
 /// What the program takes.
-const USAGE: &str =
-    "fri_bench LOG_HEIGHT WIDTH ADDED_BITS [REPEATS]\nfri_bench fold LOG_SIZE [REPEATS]";
-
-/// Elements in no regular order.
-fn elements(alloc: Global, count: usize) -> Result<Vec<BabyBear>, AllocError> {
-    let mut elements = Vec::with_capacity(alloc, count)?;
-    let mut state: u64 = 1;
-    for _ in 0..count {
-        state = state
-            .wrapping_mul(6364136223846793005)
-            .wrapping_add(1442695040888963407);
-        elements.push(BabyBear::from_u64(state >> 33))?;
-    }
-    Ok(elements)
-}
+const USAGE: &str = "fri_bench LOG_HEIGHT WIDTH ADDED_BITS [REPEATS]
+fri_bench transform LOG_HEIGHT WIDTH [REPEATS]
+fri_bench tree LOG_HEIGHT WIDTH [REPEATS]
+fri_bench fold LOG_SIZE [REPEATS]";
 
 /// The sizes of a run.
 #[derive(Clone, Copy)]
@@ -45,18 +36,9 @@ struct Sizes {
 /// The nanoseconds of one extension, of its bit reversal, and an entry of the result.
 fn timed(rt: &HostRuntime, sizes: Sizes) -> io::Result<Option<(u128, u128, u64)>> {
     let alloc = rt.alloc();
-    let height = 1usize << sizes.log_height;
-    let Some(size) = sizes.width.checked_mul(height) else {
+    let Some(matrix) = matrix_of(alloc, sizes.log_height, sizes.width)? else {
         return Ok(None);
     };
-    let values = elements(alloc, size)?;
-    if values.len() % sizes.width != 0 {
-        return Ok(None);
-    }
-    let matrix = RowMajorMatrix::new(values, sizes.width);
-    if matrix.height() != height {
-        return Ok(None);
-    }
     let dft: Radix2Dit<BabyBear> = Radix2Dit::default();
     let start = Instant::now(rt)?;
     let extended = dft.coset_lde_batch(alloc, matrix, sizes.added_bits, BabyBear::GENERATOR)?;
@@ -113,6 +95,9 @@ fn main(rt: HostRuntime) -> io::Result<()> {
     let args: Vec<String> = env::args(&rt)?.skip(1).collect(rt.alloc())?;
     if let Some(sizes) = fold::read(&args) {
         return fold::least(&rt, sizes);
+    }
+    if let Some(sizes) = stages::read(&args) {
+        return stages::least(&rt, sizes);
     }
     match read(&args) {
         Some(sizes) => least(&rt, sizes),

@@ -5,10 +5,11 @@ ghost use Rattle.std.specs.List.{AllZip};
 ghost use Rattle.algebra.specs.Nested.{nested};
 ghost use Rattle.p3_matrix.specs.Matrix.{matrix_width};
 ghost use Rattle.p3_pcs.specs.Claims.{opened_values};
+ghost use Rattle.p3_fri_openings.specs.Denominators.{ArePointsCovered};
 ghost use Rattle.p3_fri_openings.specs.declared.denominators.PointDenominators.{PointDenominators};
 ghost use Rattle.p3_fri_openings.specs.Rounds.{HasCoset, IsRound, log_height};
 ghost use Rattle.p3_fri_batch.specs.Heights.{has_height};
-ghost use Rattle.p3_fri_batch.specs.Rounds.{HaveValues, ArePointsCovered, IsReady};
+ghost use Rattle.p3_fri_batch.specs.Rounds.{HaveValues, IsReady};
 ghost use Rattle.p3_fri_batch.specs.Rounds.{as_opened, opened_in, opened_of};
 
 use p3_field::{ExtensionField, TwoAdicField, log2_strict_usize};

@@ -1,0 +1,16 @@
+//! FRI: the low-degree test and the polynomial commitment schemes that stand on it.
+//!
+//! This crate has no code of its own: it shows the crates below under the Rust crate's modules and
+//! names. `prover` and `verifier` are the two sides of the low-degree test; all other names stand
+//! at the root.
+#![tactic(auto)]
+
+pub mod prover;
+pub mod verifier;
+
+pub use p3_fri_core::{
+    BatchMultiOpening, CommitPhaseMultiStep, FriFoldingStrategy, FriParameters, FriProof,
+    FriProverError, FriShape, PcsShape, TwoAdicFriFolding, WithExtraBits,
+    compute_log_arity_for_round, config, fold_schedule, folding, is_strictly_falling, laws,
+    pcs_transcript, pow_phase, proof, strategy, transcript,
+};

@@ -1,0 +1,143 @@
+//! What the verifier answers.
+
+ghost use Rattle.std.specs.Prelude.{◌≡◌, ◌≤◌};
+
+use p3_challenger::{CanObserve, Sha256Challenger};
+use p3_commit::{CommitmentOpening, Sha256Mmcs, Sha256MmcsError};
+use p3_field::{BabyBear, BabyBear4, ExtensionField, Field, TwoAdicMultiplicativeCoset};
+use p3_fri_folding::{FriParameters, TwoAdicFriFolding, WithExtraBits};
+use p3_fri_relation::error::FriError;
+use p3_fri_relation::proof::{BatchMultiOpening, CommitPhaseMultiStep, FriProof};
+use p3_fri_verifier::verify_fri;
+use std::alloc::Global;
+use std::marker::PhantomData;
+use std::test::Fail;
+
+pub(crate) type Inputs = Sha256Mmcs<BabyBear>;
+
+pub(crate) type Rounds = Sha256Mmcs<BabyBear4>;
+
+pub(crate) type Parameters = FriParameters<Rounds>;
+
+pub(crate) type InputOpening = BatchMultiOpening<BabyBear, Inputs>;
+
+pub(crate) type RoundOpening = CommitPhaseMultiStep<BabyBear4, Rounds>;
+
+pub(crate) type Proof = FriProof<BabyBear4, Rounds, BabyBear, Vec<InputOpening>>;
+
+pub(crate) type Domain = TwoAdicMultiplicativeCoset<BabyBear>;
+
+pub(crate) type Claims = Vec<CommitmentOpening<BabyBear4, [u8; 32], Domain>>;
+
+type Folding = TwoAdicFriFolding<(), Sha256MmcsError>;
+
+/// A blowup and a cap of 2, a constant as final polynomial, two queries, no proof of work.
+pub(crate) fn plain_parameters() -> Parameters
+    ensures { result.log_final_poly_len ≡ 0 }
+{
+    FriParameters {
+        log_blowup: 1,
+        log_final_poly_len: 0,
+        max_log_arity: 1,
+        num_queries: 2,
+        batch_proof_of_work_bits: 0,
+        commit_proof_of_work_bits: 0,
+        query_proof_of_work_bits: 0,
+        mmcs: Sha256Mmcs::new(),
+    }
+}
+
+/// An element of the extension that is a number.
+pub(crate) fn constant(number: u64) -> BabyBear4 {
+    BabyBear4::from_base(BabyBear::from_u64(number))
+}
+
+/// A challenger that has absorbed this number.
+pub(crate) fn challenger_after(number: u64) -> Sha256Challenger {
+    let mut challenger = Sha256Challenger::new();
+    challenger.observe(BabyBear::from_u64(number));
+    challenger
+}
+
+/// The answer to a proof as text.
+pub(crate) fn answer(
+    alloc: Global,
+    parameters: &Parameters,
+    proof: &Proof,
+    challenger: &mut Sha256Challenger,
+    claims: &Claims,
+) -> Result<String, Fail> {
+    if parameters.log_blowup > 31
+        || parameters.log_final_poly_len > 31
+        || parameters.commit_proof_of_work_bits > 63
+        || parameters.query_proof_of_work_bits > 63
+    {
+        return Err(Fail::new("not conditions of the call"));
+    }
+    let folding: Folding = TwoAdicFriFolding(PhantomData);
+    let input_mmcs = Inputs::new();
+    let verified = verify_fri::<BabyBear, BabyBear4, Rounds, Inputs, Folding, Sha256Challenger>(
+        alloc,
+        &folding,
+        parameters,
+        proof,
+        challenger,
+        claims,
+        &input_mmcs,
+        constant(7),
+    );
+    text_of(alloc, verified)
+}
+
+/// The same where the strategy draws extra bits with each index.
+pub(crate) fn answer_at_extra_bits(
+    alloc: Global,
+    parameters: &Parameters,
+    extra_bits: usize,
+    proof: &Proof,
+    challenger: &mut Sha256Challenger,
+    claims: &Claims,
+) -> Result<String, Fail>
+    requires { extra_bits ≤ 3 }
+{
+    if parameters.log_blowup > 31
+        || parameters.log_final_poly_len > 31
+        || parameters.commit_proof_of_work_bits > 63
+        || parameters.query_proof_of_work_bits > 63
+    {
+        return Err(Fail::new("not conditions of the call"));
+    }
+    let plain: Folding = TwoAdicFriFolding(PhantomData);
+    let folding = WithExtraBits::new(plain, extra_bits);
+    let input_mmcs = Inputs::new();
+    let verified = verify_fri::<
+        BabyBear,
+        BabyBear4,
+        Rounds,
+        Inputs,
+        WithExtraBits<Folding>,
+        Sha256Challenger,
+    >(
+        alloc,
+        &folding,
+        parameters,
+        proof,
+        challenger,
+        claims,
+        &input_mmcs,
+        constant(7),
+    );
+    text_of(alloc, verified)
+}
+
+/// An answer as text.
+fn text_of(
+    alloc: Global,
+    verified: Result<(), FriError<Sha256MmcsError, Sha256MmcsError>>,
+) -> Result<String, Fail> {
+    match verified {
+        Ok(()) => Ok(format!(in alloc; "accepted")?),
+        Err(FriError::OutOfMemory) => Err(Fail::new("memory was refused")),
+        Err(refusal) => Ok(format!(in alloc; "{refusal:?}")?),
+    }
+}
