@@ -1,5 +1,5 @@
 -- For which parameters the scheme is used.
-use Rattle.std.specs.Prelude.{ℕ, ◌+◌, ◌<◌, ◌≤◌}
+use Rattle.std.specs.Prelude.{ℕ, ◌<◌, ◌≤◌}
 use Rattle.p3_fri_relation.specs.Setting.{Parameters, final_height}
 
 -- where `two_adicity` is the field's, and `most` how many bits the challenger draws at once

@@ -3,4 +3,7 @@
 
 pub mod two_adic_pcs;
 
-pub use crate::two_adic_pcs::{TwoAdicFriFoldingForMmcs, TwoAdicFriPcs};
+pub use crate::two_adic_pcs::{
+    CommitmentWithOpeningPoints, ProverDataWithOpeningPoints, TwoAdicFriFolding,
+    TwoAdicFriFoldingForMmcs, TwoAdicFriPcs,
+};

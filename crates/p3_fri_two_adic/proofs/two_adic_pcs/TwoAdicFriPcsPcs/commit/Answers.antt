@@ -17,18 +17,24 @@ fields_of g = record {
 
 pub returns-in-Ok-clause-openable : goal.returns-in-Ok-clause-openable
 returns-in-Ok-clause-openable g c =
-    have_cosets (fields_of g) g.met.F.Field.laws g.met.F.TwoAdicField.roots_law g.met.F.Field.generator_law c.args.self.now.fri.log_blowup
-    (λ d. d.shift) (λ d. d.log_size) (λ d. d.nonzero) (g.InputMmcs.Mmcs.committed c.in-Ok.committed.1) c.args.evaluations.items
+    have_cosets (fields_of g) g.met.F.Field.laws g.met.F.TwoAdicField.roots_law
+    g.met.F.Field.generator_law c.args.self.now.fri.log_blowup
+    (λ d. d.shift) (λ d. d.log_size) (λ d. d.nonzero)
+    (g.InputMmcs.Mmcs.committed c.in-Ok.committed.1) c.args.evaluations.items
     c.requires.evaluations c.in-Ok.ensures.words
 
 pub returns-in-Ok-clause-honest : goal.returns-in-Ok-clause-honest
 returns-in-Ok-clause-honest g c =
-    hold_words (fields_of g) g.met.F.Field.laws g.met.F.TwoAdicField.roots_law g.met.F.Field.generator_law c.args.self.now.fri.log_blowup
-    (λ d. d.shift) (λ d. d.log_size) (λ d. d.nonzero) (g.InputMmcs.Mmcs.committed c.in-Ok.committed.1) c.args.evaluations.items
+    hold_words (fields_of g) g.met.F.Field.laws g.met.F.TwoAdicField.roots_law
+    g.met.F.Field.generator_law c.args.self.now.fri.log_blowup
+    (λ d. d.shift) (λ d. d.log_size) (λ d. d.nonzero)
+    (g.InputMmcs.Mmcs.committed c.in-Ok.committed.1) c.args.evaluations.items
     c.requires.evaluations c.in-Ok.ensures.words
 
 pub returns-in-Ok-clause-extends : goal.returns-in-Ok-clause-extends
 returns-in-Ok-clause-extends g c =
-    all_extend (fields_of g) g.met.F.Field.laws g.met.F.TwoAdicField.roots_law g.met.F.Field.generator_law c.args.self.now.fri.log_blowup
-    (λ d. d.shift) (λ d. d.log_size) (λ d. d.nonzero) (g.InputMmcs.Mmcs.committed c.in-Ok.committed.1) c.args.evaluations.items
+    all_extend (fields_of g) g.met.F.Field.laws g.met.F.TwoAdicField.roots_law
+    g.met.F.Field.generator_law c.args.self.now.fri.log_blowup
+    (λ d. d.shift) (λ d. d.log_size) (λ d. d.nonzero)
+    (g.InputMmcs.Mmcs.committed c.in-Ok.committed.1) c.args.evaluations.items
     c.requires.evaluations c.in-Ok.ensures.words
