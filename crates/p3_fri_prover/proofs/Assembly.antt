@@ -1,18 +1,13 @@
 -- A proof put together from the rounds that were played and what was opened of them.
-use Rattle.std.proofs.Common.{◌≡◌, ℕ, zero, suc, ◌+◌, ◌-◌, ◌*◌, ◌/◌, ◌%◌, ◌^◌, ◌<◌, ◌≤◌, List, []}
+use Rattle.std.proofs.Common.{◌≡◌, ℕ, suc, ◌+◌, ◌-◌, ◌/◌, ◌%◌, ◌^◌, ◌<◌, ◌≤◌, List, []}
 use Rattle.std.proofs.Common.{◌∷◌, Option, length, get_or, map, remove, sum, refl, sym, ap, ap₂, ◌∙◌, arith, subst}
-use Rattle.std.specs.Prelude.{All, EachIndex, IsTrue}
-use Rattle.std.specs.List.{AllZip, zip, range_with_len}
-use Rattle.std.proofs.lemmas.List.{length-map, get_or-map}
 use Rattle.algebra.specs.Field.{FieldOps}
 use Rattle.algebra.specs.Folds.{neighbours}
-use Rattle.algebra.specs.Polynomial.{tabulate}
 use Rattle.p3_matrix.specs.declared.dense.RowMajorMatrix.{RowMajorMatrix}
-use Rattle.p3_matrix.specs.Matrix.{rows, matrix_width}
-use Rattle.p3_matrix.specs.Rows.{rows_of}
+use Rattle.p3_matrix.specs.Matrix.{rows}
 use Rattle.p3_commit.specs.Batch.{dimensions}
-use Rattle.p3_fri_relation.specs.Setting.{Opening, RoundOpening}
-use Rattle.p3_fri_relation.specs.Queries.{rounds_of, heights_after, row_indices}
+use Rattle.p3_fri_relation.specs.Setting.{Opening}
+use Rattle.p3_fri_relation.specs.Queries.{heights_after, row_indices}
 use Rattle.p3_fri_prover.specs.Openings.{index_into, row_of, OpensRows}
 use Rattle.p3_fri_prover.specs.Rounds.{KeepsWord}
 use Rattle.p3_fri_prover.proofs.Ways.{height_before, height_lowered, index_below, row_below, words}

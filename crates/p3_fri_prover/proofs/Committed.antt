@@ -1,15 +1,14 @@
 -- Rounds that were played, and one more.
-use Rattle.std.proofs.Common.{◌≡◌, ℕ, zero, suc, ◌+◌, ◌-◌, ◌^◌, ◌<◌, ◌≤◌, true, List, [], ◌∷◌, ◌++◌}
+use Rattle.std.proofs.Common.{◌≡◌, ℕ, zero, suc, ◌+◌, ◌-◌, ◌^◌, ◌<◌, ◌≤◌, List, [], ◌∷◌, ◌++◌}
 use Rattle.std.proofs.Common.{length, get_or, take, sum, Option, refl, sym, ap, ap₂, ◌∙◌, arith, subst, below_more}
-use Rattle.std.specs.Prelude.{All}
 use Rattle.std.proofs.lemmas.List.Sums.{sum_by-append}
-use Rattle.std.proofs.lemmas.List.{take_more, length-append, length-take}
+use Rattle.std.proofs.lemmas.List.{take_more, length-append}
 use Rattle.algebra.specs.Field.{FieldOps}
 use Rattle.algebra.specs.Rounds.{Round, total_log_arity, after_round, after_rounds, words_folded}
 use Rattle.algebra.proofs.Rounds.{after_rounds-next, words_folded-next, length-after_rounds}
 use Rattle.p3_matrix.specs.declared.dense.RowMajorMatrix.{RowMajorMatrix}
 use Rattle.p3_challenger.specs.Run.{Moves}
-use Rattle.p3_fri_transcript.specs.Replay.{round_replay, rounds_replay}
+use Rattle.p3_fri_transcript.specs.Replay.{rounds_replay}
 use Rattle.p3_fri_transcript.proofs.Joining.{no_rounds, round_joined}
 use Rattle.p3_fri_relation.specs.Queries.{rounds_of}
 use Rattle.p3_fri_steps.specs.declared.error.FriProverError.{FriProverError}
@@ -18,7 +17,7 @@ use Rattle.p3_fri_steps.specs.declared.error.FriProverError.TheVariants.{FinalHe
 use Rattle.p3_fri_steps.specs.declared.error.FriProverError.TheVariants.{OutOfMemory, NoPowWitness}
 use Rattle.p3_fri_steps.specs.declared.error.FriProverError.TheVariants.{PointInEvaluationDomain}
 use Rattle.p3_fri_steps.specs.declared.pow_phase.PowPhase.TheVariants.{Batch, CommitPhase, Query}
-use Rattle.p3_fri_prover.specs.Rounds.{CanFold, KeepsWord, KeepWords, IsRound, AreCommitted}
+use Rattle.p3_fri_prover.specs.Rounds.{CanFold, KeepsWord, IsRound, AreCommitted}
 use Rattle.p3_fri_prover.specs.Rounds.{IsRoundRefused, NoRoundWitness}
 use Rattle.p3_fri_prover.specs.Refusals.{RoundRefusal, RoundsRefusal}
 use Rattle.p3_fri_prover.proofs.Ways.{total_of_rounds, sum-cons}

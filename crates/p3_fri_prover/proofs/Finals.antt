@@ -1,6 +1,6 @@
 -- The final polynomial, from the entries that are cut off.
-use Rattle.std.proofs.Common.{◌≡◌, ℕ, ◌^◌, ◌<◌, ◌≤◌, List, [], ◌∷◌, length, take, get_or, arith, sym}
-use Rattle.std.proofs.Common.{ap, ◌∙◌, subst, refl, pow_pos, length-take-le}
+use Rattle.std.proofs.Common.{◌≡◌, ℕ, ◌^◌, ◌≤◌, List, [], ◌∷◌, length, take, get_or, arith}
+use Rattle.std.proofs.Common.{ap, subst, pow_pos, length-take-le}
 use Rattle.algebra.specs.Field.{FieldOps, IsField, pow}
 use Rattle.algebra.specs.Polynomial.{tabulate}
 use Rattle.algebra.specs.Interpolation.{Interpolates}

@@ -1,7 +1,6 @@
 -- A word as the rows of a round, and the word after the round.
 use Rattle.std.proofs.Common.{◌≡◌, ℕ, zero, suc, ◌+◌, ◌*◌, ◌/◌, ◌%◌, ◌^◌, ◌<◌, ◌≤◌, List, [], ◌∷◌}
-use Rattle.std.proofs.Common.{length, get_or, take, drop, ◌++◌, refl, sym, ap, ◌∙◌, arith, subst, pow_pos}
-use Rattle.std.specs.Int.{IsPowerOfTwo}
+use Rattle.std.proofs.Common.{length, get_or, take, drop, ◌++◌, sym, ap, ◌∙◌, arith, pow_pos}
 use Rattle.std.proofs.lemmas.Nat.{pow-add}
 use Rattle.std.proofs.Math.Nat.{mul-div_cancel, mul-mod_left}
 use Rattle.std.proofs.Math.Seq.{take-append_seam}
@@ -18,7 +17,6 @@ use Rattle.p3_commit.specs.Batch.{HavePowerHeights, dimensions_of}
 use Rattle.p3_fri_folding.specs.Strategy.{folded_rows}
 use Rattle.p3_fri_prover.specs.Inputs.{of_length, rolled_word}
 use Rattle.p3_fri_prover.specs.Rounds.{CanFold}
-use Rattle.p3_fri_prover.proofs.Inputs.{same_power}
 
 -- how many rows a word has
 rows_in_word : (n h a : ℕ) → n ≡ 2 ^ (h + a) → n / 2 ^ a ≡ 2 ^ h

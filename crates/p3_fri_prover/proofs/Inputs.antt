@@ -1,10 +1,8 @@
 -- The words that are handed in, by log height and by length.
-use Rattle.std.proofs.Common.{◌≡◌, ◌≢◌, ◌⊎◌, inl, inr, ℕ, zero, suc, ◌+◌, ◌-◌, ◌^◌, ◌<◌, ◌≤◌}
-use Rattle.std.proofs.Common.{Bool, true, false, List, [], ◌∷◌, length, get_or, sum, Option}
-use Rattle.std.proofs.Common.{Some, None, refl, sym, ap, ap₂, ◌∙◌, arith, subst, remove}
+use Rattle.std.proofs.Common.{◌≡◌, ◌≢◌, inl, inr, ℕ, zero, suc, ◌+◌, ◌-◌, ◌^◌, ◌<◌, ◌≤◌}
+use Rattle.std.proofs.Common.{List, [], ◌∷◌, length, get_or, sum, Option}
+use Rattle.std.proofs.Common.{Some, refl, sym, ap, ap₂, ◌∙◌, arith, remove}
 use Rattle.std.specs.Prelude.{All, ◌==◌, if◌then◌else◌}
-use Rattle.std.specs.List.{AllZip, zip}
-use Rattle.std.specs.Int.{IsPowerOfTwo}
 use Rattle.std.proofs.lemmas.Bool.Decides.{eqb_tells}
 use Rattle.std.proofs.lemmas.Bool.{eq-eqb, ne_eqb, cases_order}
 use Rattle.std.proofs.Math.Pow.{pow-lt}
@@ -12,10 +10,9 @@ use Rattle.algebra.specs.Field.{FieldOps}
 use Rattle.algebra.specs.Polynomial.{tabulate}
 use Rattle.algebra.specs.Rounds.{Round, after_round, after_rounds, words_folded, rolled_in, entry_of}
 use Rattle.algebra.specs.Rounds.{folded_entry}
-use Rattle.p3_fri_folding.specs.Schedule.{IsStrictlyFalling, tallest}
-use Rattle.p3_fri_relation.specs.FoldedQuery.{value_at}
+use Rattle.p3_fri_folding.specs.Schedule.{tallest}
 use Rattle.p3_fri_relation.specs.Queries.{rounds_of}
-use Rattle.p3_fri_prover.specs.Inputs.{HaveHeights, input_of, of_length, HavePowerLengths, AreInputs}
+use Rattle.p3_fri_prover.specs.Inputs.{HaveHeights, input_of, of_length, HavePowerLengths}
 use Rattle.p3_fri_prover.proofs.Ways.{sum-cons}
 
 pub same_power : (a b : ℕ) → 2 ^ a ≡ 2 ^ b → a ≡ b

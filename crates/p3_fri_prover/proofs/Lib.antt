@@ -1,4 +1,6 @@
 pub mod Ways
+pub mod Plays
+pub mod Refused
 pub mod Queries
 pub mod Proofs
 pub mod Assembly

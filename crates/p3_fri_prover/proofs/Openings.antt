@@ -1,5 +1,5 @@
 -- The siblings that a round opens, taken out row by row.
-use Rattle.std.proofs.Common.{◌≡◌, ℕ, suc, ◌+◌, ◌*◌, ◌/◌, ◌%◌, ◌^◌, ◌<◌, ◌≤◌, ◌≢◌, List, [], ◌∷◌, ◌++◌}
+use Rattle.std.proofs.Common.{◌≡◌, ℕ, ◌+◌, ◌/◌, ◌%◌, ◌^◌, ◌<◌, ◌≤◌, ◌≢◌, List, [], ◌∷◌, ◌++◌}
 use Rattle.std.proofs.Common.{length, get_or, map, set, max, remove, refl, sym, ap, ap₂, ◌∙◌, arith, subst, pow_pos}
 use Rattle.std.proofs.Common.{get_or-set_other}
 use Rattle.std.proofs.lemmas.List.{map-append, map-set, length-map, get_or-map}
@@ -7,11 +7,11 @@ use Rattle.std.proofs.Math.Nat.{div_self, div-one, mod-lt}
 use Rattle.std.specs.declared.vec.Vec.{Vec}
 use Rattle.algebra.specs.Nested.{lists, nested}
 use Rattle.algebra.specs.Polynomial.{tabulate}
-use Rattle.algebra.proofs.Nested.{length-nested, nested_at}
-use Rattle.algebra.proofs.Lists.{tabulate-next, length-tabulate, tabulate-equal, head_eq}
+use Rattle.algebra.proofs.Nested.{nested_at}
+use Rattle.algebra.proofs.Lists.{tabulate-next, tabulate-equal, head_eq}
 use Rattle.p3_matrix.specs.declared.dense.RowMajorMatrix.{RowMajorMatrix}
 use Rattle.p3_matrix.specs.Matrix.{rows, matrix_width}
-use Rattle.p3_commit.specs.Batch.{AreBelow, HavePowerHeights, max_height, dimensions, dimensions_of, opened_rows, opened_row}
+use Rattle.p3_commit.specs.Batch.{AreBelow, HavePowerHeights, max_height, dimensions, dimensions_of, opened_rows}
 use Rattle.p3_fri_relation.specs.Setting.{Opening}
 use Rattle.p3_fri_prover.specs.Openings.{row_of, OpensRows}
 use Rattle.p3_fri_prover.proofs.Queries.{tabulate-map}

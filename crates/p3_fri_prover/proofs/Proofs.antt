@@ -1,23 +1,22 @@
 -- A whole proof: its rounds open to the rows of the queries' chains, and these end at the final
 -- polynomial's value.
-use Rattle.std.proofs.Common.{◌≡◌, ℕ, zero, suc, ◌+◌, ◌-◌, ◌*◌, ◌/◌, ◌%◌, ◌^◌, ◌<◌, ◌≤◌, List, []}
-use Rattle.std.proofs.Common.{◌∷◌, Option, Some, length, get_or, map, sum, refl, sym, ap, ap₂, ◌∙◌, arith, subst}
-use Rattle.std.specs.Prelude.{All, EachIndex, IsTrue}
+use Rattle.std.proofs.Common.{◌≡◌, ℕ, ◌+◌, ◌/◌, ◌^◌, ◌<◌, ◌≤◌, List, []}
+use Rattle.std.proofs.Common.{◌∷◌, Some, length, get_or, map, sum, refl, sym, ap, ap₂, ◌∙◌, arith, subst}
+use Rattle.std.specs.Prelude.{EachIndex}
 use Rattle.std.specs.List.{AllZip, zip, range_with_len}
-use Rattle.std.proofs.lemmas.List.{length-map, get_or-map}
-use Rattle.algebra.specs.Field.{FieldOps, IsField, IsHomomorphism}
+use Rattle.algebra.specs.Field.{IsField, IsHomomorphism}
 use Rattle.algebra.specs.Folds.{neighbours, LowersDegrees}
-use Rattle.algebra.specs.Polynomial.{val, tabulate}
+use Rattle.algebra.specs.Polynomial.{val}
 use Rattle.algebra.specs.TwoAdic.{AreRoots, pt}
-use Rattle.algebra.specs.Rounds.{Link, link_in, after_rounds, final_polynomial, total_log_arity}
+use Rattle.algebra.specs.Rounds.{after_rounds, final_polynomial, total_log_arity}
 use Rattle.algebra.proofs.FinalPolynomials.{chain_ends_at_final_polynomial}
 use Rattle.algebra.proofs.Lifting.{lifted_pt}
 use Rattle.algebra.proofs.Points.{lifted_roots}
 use Rattle.p3_fri_relation.specs.Setting.{Setting, Parameters, RoundOpening, Proof, final_height}
 use Rattle.p3_fri_relation.specs.Queries.{rounds_of, heights_after, row_indices, final_value}
-use Rattle.p3_fri_prover.specs.Inputs.{HaveHeights, input_of}
-use Rattle.p3_fri_prover.specs.Proved.{log_arities, positions, rounds, OpensRound, EndsAtFinalValue}
-use Rattle.p3_fri_prover.specs.Proved.{entries_at, replayed, AreLow, last_link}
+use Rattle.p3_fri_prover.specs.Inputs.{input_of}
+use Rattle.p3_fri_prover.specs.Proved.{log_arities, positions, OpensRound, EndsAtFinalValue}
+use Rattle.p3_fri_prover.specs.Proved.{entries_at, replayed, AreLow}
 use Rattle.p3_fri_prover.proofs.Ways.{words, siblings_in, total_of_rounds}
 use Rattle.p3_fri_prover.proofs.Queries.{by_place, rows_by_query, link_of_query}
 

@@ -1,15 +1,15 @@
 -- The chains of the queries, where each round opens the siblings that they meet.
 use Rattle.std.proofs.Common.{◌≡◌, ℕ, zero, suc, ◌+◌, ◌-◌, ◌*◌, ◌/◌, ◌%◌, ◌^◌, ◌<◌, ◌≤◌, List, []}
 use Rattle.std.proofs.Common.{◌∷◌, Option, length, get_or, map, take, drop, remove, sum, refl, sym, ap}
-use Rattle.std.proofs.Common.{ap₂, ◌∙◌, arith, pow_pos, subst, length-drop, length-take-le}
+use Rattle.std.proofs.Common.{◌∙◌, arith, pow_pos, subst, length-drop, length-take-le}
 use Rattle.std.specs.List.{AllZip, zip, range_with_len}
 use Rattle.std.proofs.Math.Nat.{mod-lt}
 use Rattle.std.proofs.lemmas.Nat.{pow-add}
-use Rattle.std.proofs.lemmas.List.{length-map, get_or-map}
+use Rattle.std.proofs.lemmas.List.{get_or-map}
 use Rattle.algebra.specs.Field.{FieldOps}
 use Rattle.algebra.specs.Polynomial.{tabulate}
 use Rattle.algebra.specs.Folds.{neighbours}
-use Rattle.algebra.specs.Rounds.{Round, Link, chain, chain_rows, rows_met, siblings_met, link_in}
+use Rattle.algebra.specs.Rounds.{Link, chain, chain_rows, rows_met, siblings_met, link_in}
 use Rattle.algebra.specs.Rounds.{AreValuesMet}
 use Rattle.algebra.proofs.Chains.{chain_rows_through_words}
 use Rattle.algebra.proofs.FoldedWords.{row_within}

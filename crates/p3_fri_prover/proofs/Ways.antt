@@ -1,6 +1,6 @@
 -- The way of an index through the rounds: the words, their heights and the rows in which it lies,
 -- round by round.
-use Rattle.std.proofs.Common.{◌≡◌, ℕ, zero, suc, ◌+◌, ◌-◌, ◌*◌, ◌/◌, ◌%◌, ◌^◌, ◌<◌, ◌≤◌, List, []}
+use Rattle.std.proofs.Common.{◌≡◌, ℕ, zero, suc, ◌+◌, ◌-◌, ◌/◌, ◌%◌, ◌^◌, ◌<◌, ◌≤◌, List, []}
 use Rattle.std.proofs.Common.{◌∷◌, Option, length, get_or, remove, sum, refl, sym, ap, ap₂, ◌∙◌}
 use Rattle.std.proofs.Common.{arith, pow_pos}
 use Rattle.std.proofs.lemmas.Nat.{pow-add}
@@ -8,7 +8,7 @@ use Rattle.std.proofs.lemmas.List.Sums.{sum_by-cons}
 use Rattle.std.proofs.Math.Nat.{div-lt_iff_lt-mul}
 use Rattle.algebra.specs.Field.{FieldOps}
 use Rattle.algebra.specs.Folds.{neighbours}
-use Rattle.algebra.specs.Rounds.{Round, total_log_arity, after_round, words_folded}
+use Rattle.algebra.specs.Rounds.{total_log_arity, after_round, words_folded}
 use Rattle.algebra.specs.Rounds.{rows_met, siblings_met}
 use Rattle.algebra.proofs.Rounds.{length-after_round, total-nil, total-cons}
 use Rattle.p3_fri_relation.specs.Setting.{RoundOpening}

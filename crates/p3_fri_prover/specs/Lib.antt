@@ -4,3 +4,4 @@ pub mod Rounds
 pub mod Played
 pub mod Openings
 pub mod Proved
+pub mod Prover

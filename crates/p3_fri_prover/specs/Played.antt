@@ -42,8 +42,8 @@ module _ {F E C Com Data : Type 0} (committed : Data → List (RowMajorMatrix E)
   abbrev pub AllCommitted : (commitments : List Com) (witnesses : List F) (kept : List Data)
       (word : List E) (reached : C) → Type 0
   AllCommitted commitments witnesses kept word reached =
-      AreCommitted committed commitment_of m numbers.commit_pow_bits fields.base.zero fields.ext fold
-      further_words top first_word seeded numbers.log_arities commitments witnesses kept word
+      AreCommitted committed commitment_of m numbers.commit_pow_bits fields.base.zero fields.ext
+      fold further_words top first_word seeded numbers.log_arities commitments witnesses kept word
       reached
 
   abbrev pub polynomial_of : (word : List E) → List E

@@ -2,7 +2,7 @@
 use Rattle.std.specs.Prelude.{◌≡◌, ℕ, ◌+◌, ◌-◌, ◌/◌, ◌^◌, ◌≤◌, IsTrue, EachIndex, List, []}
 use Rattle.std.specs.Prelude.{◌∷◌, map, length, All, Option, Some, slice_index, slice_index_or}
 use Rattle.std.specs.List.{AllZip, zip, range_with_len}
-use Rattle.algebra.specs.Polynomial.{tabulate, val}
+use Rattle.algebra.specs.Polynomial.{tabulate}
 use Rattle.algebra.specs.Rounds.{Round, Link, chain, chain_rows, entry_of, link_in}
 use Rattle.algebra.specs.Rounds.{AreLowDegreeWords}
 use Rattle.p3_fri_folding.specs.Schedule.{schedule}

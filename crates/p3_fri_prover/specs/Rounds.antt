@@ -2,7 +2,7 @@
 use Rattle.std.specs.Prelude.{◌≡◌, ℕ, ◌+◌, ◌^◌, ◌<◌, ◌≤◌, true, List, [], ◌∷◌, length, take, All}
 use Rattle.std.specs.Prelude.{Option, slice_index, slice_index_or}
 use Rattle.algebra.specs.Field.{FieldOps}
-use Rattle.algebra.specs.Rounds.{Round, after_round, after_rounds, words_folded}
+use Rattle.algebra.specs.Rounds.{after_round, after_rounds, words_folded}
 use Rattle.p3_matrix.specs.declared.dense.RowMajorMatrix.{RowMajorMatrix}
 use Rattle.p3_matrix.specs.Matrix.{rows, matrix_width}
 use Rattle.p3_matrix.specs.Rows.{rows_of}

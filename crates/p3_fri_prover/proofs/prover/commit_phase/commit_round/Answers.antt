@@ -1,4 +1,4 @@
-use Rattle.std.proofs.Common.{◌≡◌, ◌∷◌, [], ◌^◌, length, sym, ap, ◌∙◌, arith, subst, get_or, refl, rules, unwrap_or}
+use Rattle.std.proofs.Common.{◌≡◌, ◌^◌, length, sym, ap, ◌∙◌, subst, get_or, rules, unwrap_or}
 use Rattle.p3_matrix.specs.declared.dense.RowMajorMatrix.{RowMajorMatrix}
 use Rattle.p3_challenger.specs.Run.{moves}
 use Rattle.p3_fri_steps.specs.declared.error.FriProverError.{FriProverError}
@@ -6,7 +6,7 @@ use Rattle.p3_fri_steps.specs.Pow.{found_witness}
 use Rattle.p3_fri_transcript.specs.Replay.{round_replay}
 use Rattle.p3_fri_transcript.specs.Views.{state_of, shape_of}
 use Rattle.p3_fri_prover.specs.Refusals.{RoundRefusal}
-use Rattle.p3_matrix.specs.Matrix.{rows, matrix_width}
+use Rattle.p3_matrix.specs.Matrix.{rows}
 use Rattle.p3_matrix.specs.Rows.{rows_of}
 use Rattle.p3_fri_prover.proofs.Folding.{whole_rows, height_of_rows, one_power_height, foldable_rows}
 use Rattle.p3_fri_prover.proofs.prover.commit_phase.commit_round.Goals as goal

@@ -1,4 +1,4 @@
-use Rattle.std.proofs.Common.{◌<◌, ◌∙◌, ℕ, subst, sym, get_or, arith, below_more, refl, length}
+use Rattle.std.proofs.Common.{◌∙◌, subst, sym, get_or, arith, below_more, refl}
 use Rattle.std.proofs.lemmas.Grind.{get_or_default_zero}
 use Rattle.algebra.specs.Nested.{lists}
 use Rattle.algebra.proofs.Nested.{length-lists}

@@ -1,4 +1,4 @@
-use Rattle.std.proofs.Common.{arith, subst, sym, ◌∙◌}
+use Rattle.std.proofs.Common.{arith, ◌∙◌}
 use Rattle.p3_fri_prover.proofs.Lists.{power_of_item, heights_more}
 use Rattle.p3_fri_prover.proofs.prover.heights.log_heights.Goals as goal
 

@@ -1,4 +1,4 @@
-use Rattle.std.proofs.Common.{◌≡◌, ◌^◌, ◌≤◌, arith, sym, ◌∙◌, ◌++◌, length, take, drop, refl, ap}
+use Rattle.std.proofs.Common.{◌≡◌, ◌^◌, ◌≤◌, arith, sym, ◌∙◌, ◌++◌, length, take, drop, ap}
 use Rattle.std.proofs.Math.Seq.{take-append_seam}
 use Rattle.p3_field.specs.Index.{bit_reversed}
 use Rattle.std.proofs.Math.Pow.{pow_mono}

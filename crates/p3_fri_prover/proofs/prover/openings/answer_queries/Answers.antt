@@ -1,4 +1,4 @@
-use Rattle.std.proofs.Common.{◌≡◌, ◌∷◌, [], ◌++◌, ◌<◌, ◌/◌, ◌^◌, ◌+◌, ℕ, List, length, map, get_or}
+use Rattle.std.proofs.Common.{◌≡◌, ◌∷◌, [], ◌/◌, ◌^◌, length, map, get_or}
 use Rattle.std.proofs.Common.{sym, ap, ◌∙◌, arith, subst}
 use Rattle.std.proofs.lemmas.List.{get_or_default, length-append}
 use Rattle.algebra.specs.Nested.{lists}

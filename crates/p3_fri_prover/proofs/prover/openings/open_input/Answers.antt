@@ -1,4 +1,4 @@
-use Rattle.std.proofs.Common.{◌≡◌, ◌^◌, sym, ap, ◌∙◌, arith, subst, rules}
+use Rattle.std.proofs.Common.{◌≡◌, ◌^◌, sym, ◌∙◌, arith, subst}
 use Rattle.p3_commit.specs.Batch.{max_height, dimensions_of, AreBelow}
 use Rattle.p3_commit.proofs.Heights.{max_height-power}
 use Rattle.algebra.specs.Nested.{nested}

@@ -1,8 +1,6 @@
-use Rattle.std.proofs.Common.{◌≡◌, ◌^◌, ◌∷◌, [], ◌<◌, length, sym, ap, ◌∙◌, arith, subst, pow_pos, List}
+use Rattle.std.proofs.Common.{◌≡◌, ◌^◌, sym, ap, ◌∙◌}
 use Rattle.algebra.specs.Nested.{lists, nested}
-use Rattle.p3_matrix.specs.declared.dense.RowMajorMatrix.{RowMajorMatrix}
-use Rattle.p3_matrix.specs.Matrix.{rows, matrix_width}
-use Rattle.p3_commit.specs.Batch.{HavePowerHeights, dimensions_of}
+use Rattle.p3_matrix.specs.Matrix.{matrix_width}
 use Rattle.p3_fri_prover.proofs.Openings.{some_row_at, place_within, opens_rows, some_rows, same_only}
 use Rattle.p3_fri_prover.proofs.prover.openings.open_round.Goals as goal
 

@@ -1,4 +1,4 @@
-use Rattle.std.proofs.Common.{◌≡◌, sym, ap, ◌∙◌, arith, length, refl, get_or, remove, ◌%◌, [], Vec}
+use Rattle.std.proofs.Common.{sym, ap, ◌∙◌, arith, get_or, remove, ◌%◌, [], Vec}
 use Rattle.algebra.specs.Nested.{lists}
 use Rattle.p3_fri_prover.proofs.Openings.{siblings_more, others_kept}
 use Rattle.p3_fri_prover.proofs.prover.openings.siblings_of_each.Goals as goal

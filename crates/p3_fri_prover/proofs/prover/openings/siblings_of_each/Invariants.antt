@@ -1,7 +1,6 @@
 use Rattle.std.proofs.Common.{◌≡◌, ◌%◌, ◌≤◌, ℕ, [], get_or, remove}
 use Rattle.algebra.specs.Nested.{lists, nested}
 use Rattle.algebra.specs.Polynomial.{tabulate}
-use Rattle.std.specs.declared.vec.Vec.{Vec}
 use Rattle.p3_fri_prover.proofs.prover.openings.siblings_of_each.Given as goal
 
 abbrev pub invariant-loop-j : goal.invariant-loop-j

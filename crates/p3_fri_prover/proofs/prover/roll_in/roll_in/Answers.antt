@@ -1,4 +1,4 @@
-use Rattle.std.proofs.Common.{length, get_or, sym, ap, ◌∙◌, refl}
+use Rattle.std.proofs.Common.{length, sym, ap, ◌∙◌, refl}
 use Rattle.algebra.specs.Nested.{lists}
 use Rattle.algebra.proofs.Lists.{tabulate-get_or}
 use Rattle.p3_fri_prover.specs.Inputs.{rolled_word}

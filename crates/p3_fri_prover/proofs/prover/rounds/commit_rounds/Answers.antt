@@ -1,16 +1,15 @@
-use Rattle.std.proofs.Common.{◌≡◌, ◌+◌, ◌-◌, ◌^◌, ◌<◌, ◌≤◌, ◌++◌, ◌∷◌, [], ℕ, length, take, sum, get_or}
+use Rattle.std.proofs.Common.{◌≡◌, ◌+◌, ◌-◌, ◌^◌, ◌++◌, ◌∷◌, [], ℕ, length, take, sum, get_or}
 use Rattle.std.proofs.Common.{sym, ap, ◌∙◌, arith, subst, refl, Vec}
-use Rattle.std.proofs.lemmas.List.{take_more, length-take}
+use Rattle.std.proofs.lemmas.List.{take_more}
 use Rattle.algebra.specs.Nested.{lists}
 use Rattle.p3_challenger.specs.Run.{moves}
-use Rattle.p3_fri_steps.specs.declared.error.FriProverError.{FriProverError}
 use Rattle.p3_fri_transcript.specs.Shapes.{fri_shape}
 use Rattle.p3_fri_transcript.specs.Steps.{FriNumbers}
-use Rattle.p3_fri_transcript.specs.Views.{state_of, left_of, shape_of}
+use Rattle.p3_fri_transcript.specs.Views.{state_of}
 use Rattle.p3_fri_transcript.proofs.TurnLists.{one_round_left, other_rounds_left, no_round_taken}
 use Rattle.p3_fri_prover.specs.Inputs.{of_length}
-use Rattle.p3_fri_prover.specs.Rounds.{CanFold, AreCommitted, IsRound}
-use Rattle.p3_fri_prover.proofs.Committed.{none_committed, one_committed_more, sum_next, sum_taken}
+use Rattle.p3_fri_prover.specs.Rounds.{AreCommitted, IsRound}
+use Rattle.p3_fri_prover.proofs.Committed.{none_committed, one_committed_more}
 use Rattle.p3_fri_prover.specs.Refusals.{RoundRefusal}
 use Rattle.p3_fri_prover.proofs.Inputs.{same_power}
 use Rattle.p3_fri_prover.proofs.Committed.{word_so_far, can_fold_next, next_size, rounds_refused}

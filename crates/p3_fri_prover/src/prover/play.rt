@@ -1,0 +1,177 @@
+//! All of a test's transcript, from its first round to the queries' indices.
+
+ghost use Rattle.std.specs.Prelude.{◌≡◌, ◌<◌, ◌≤◌, ◌^◌, [], ℕ, All};
+ghost use Rattle.std.specs.Prelude.{IfOk, IfErr, OnOk, map, length, vec_len, slice_index_or};
+ghost use Rattle.algebra.specs.Nested.{lists};
+ghost use Rattle.p3_challenger.specs.Pattern.{turn_of};
+ghost use Rattle.p3_challenger.specs.Separator.{seed_bytes, seed_turns};
+ghost use Rattle.p3_challenger.specs.Turns.{bytes_observed};
+ghost use Rattle.p3_fri_transcript.specs.Shapes.{fri_shape};
+ghost use Rattle.p3_fri_transcript.specs.Steps.{fri_steps};
+ghost use Rattle.p3_fri_transcript.specs.Turns.{RoundsLeft};
+ghost use Rattle.p3_fri_transcript.specs.Views.{state_of, left_of, shape_of, Kept};
+ghost use Rattle.p3_fri_prover.specs.Played.{CanPlay, IsPlayed, PlayRefusal};
+
+use crate::prover::last_word::final_polynomial;
+use crate::prover::rounds::{CommittedRounds, commit_rounds};
+use p3_challenger::fs::Seed;
+use p3_challenger::{CanObserve, FieldChallenger, GrindingChallenger, Plays};
+use p3_commit::Mmcs;
+use p3_field::{ExtensionField, TwoAdicField};
+use p3_fri_folding::{FriFoldingStrategy, FriParameters};
+use p3_fri_relation::setting::ChallengeField;
+use p3_fri_steps::FriProverError;
+use p3_fri_transcript::transcript::{FriShape, ProverTranscript};
+use std::alloc::Global;
+
+/// What was played.
+#[derive(Drop)]
+pub(crate) struct Played<F, EF: Copy, M: Mmcs<EF>> {
+    /// The rounds.
+    pub rounds: CommittedRounds<F, EF, M>,
+    /// The coefficients of the final polynomial.
+    pub final_poly: Vec<EF>,
+    /// The witness before the queries, zero at no bits.
+    pub query_witness: F,
+    /// The queries' indices.
+    pub indices: Vec<usize>,
+}
+
+/// Plays all rounds from the first input on, into which the others are rolled, then the final
+/// polynomial of the word after them and the queries.
+pub(crate) fn play<
+    F: TwoAdicField,
+    EF: ExtensionField<F>,
+    S: FriFoldingStrategy<F, EF>,
+    M: Mmcs<EF>,
+    C: FieldChallenger<F> + GrindingChallenger<Witness = F> + CanObserve<M::Commitment>,
+>(
+    alloc: Global,
+    folding: &S,
+    params: &FriParameters<M>,
+    inputs: Vec<Vec<EF>>,
+    log_arities: &[usize],
+    transcript: &mut ProverTranscript<'_, C, F, EF>,
+) -> Result<Played<F, EF, M>, FriProverError>
+    requires some_input { 0 < vec_len inputs }
+    requires positive { All (λ a. 0 < a) log_arities.now }
+    requires below_64 { All (λ a. a < 64) log_arities.now }
+    requires can_play { CanPlay log_arities.now params.now.log_final_poly_len
+        (S.max_log_height folding.now) (length (slice_index_or (lists inputs.items) 0 [])) }
+    requires log_final_poly_len_below_64 { params.now.log_final_poly_len < 64 }
+    requires within_two_adicity { params.now.log_final_poly_len ≤ F.TWO_ADICITY }
+    requires schedule { log_arities.now ≡ (shape_of transcript.old).log_arities }
+    requires described { (shape_of transcript.old).final_poly_len
+        ≡ 2 ^ params.now.log_final_poly_len }
+    requires rounds_left { RoundsLeft EF.DIMENSION (shape_of transcript.old)
+        (length log_arities.now) (left_of transcript.old) }
+    requires commit_bits_at_most_max { (shape_of transcript.old).commit_pow_bits
+        ≤ C.MAX_SAMPLE_BITS }
+    requires query_bits_at_most_max { (shape_of transcript.old).query_pow_bits
+        ≤ C.MAX_SAMPLE_BITS }
+    requires index_bits_at_most_max { (shape_of transcript.old).index_bits ≤ C.MAX_SAMPLE_BITS }
+    ensures kept { Kept transcript.old transcript.new }
+    ensures steps { OnOk result (left_of transcript.new ≡ []) }
+    ensures played { IfOk result (λ played. (top : ℕ) →
+        length (slice_index_or (lists inputs.items) 0 []) ≡ 2 ^ top →
+        IsPlayed M.committed M.commitment_of ⟦<EF as ChallengeField<F>>⟧.fields
+        (S.row_fold folding.now) ⟦<C as Plays<F, EF, M::Commitment>>⟧.moves
+        params.now.log_final_poly_len (shape_of transcript.old) top (lists inputs.items)
+        (state_of transcript.old) played.rounds.commitments.items played.rounds.witnesses.items
+        played.rounds.data.items played.final_poly.items played.query_witness
+        played.indices.items (state_of transcript.new)) }
+    ensures refused { IfErr result (λ e. (top : ℕ) →
+        length (slice_index_or (lists inputs.items) 0 []) ≡ 2 ^ top →
+        PlayRefusal M.committed M.commitment_of ⟦<EF as ChallengeField<F>>⟧.fields
+        (S.row_fold folding.now) ⟦<C as Plays<F, EF, M::Commitment>>⟧.moves
+        params.now.log_final_poly_len (shape_of transcript.old) top (lists inputs.items)
+        (state_of transcript.old) e) }
+{
+    let mut others = inputs;
+    let first = others.remove(0);
+    let committed = commit_rounds(
+        alloc,
+        folding,
+        &params.mmcs,
+        &others,
+        log_arities,
+        first,
+        &mut *transcript,
+    );
+    let (rounds, word) = match committed {
+        Ok(committed) => committed,
+        Err(refusal) => return Err(refusal),
+    };
+    let final_poly = final_polynomial::<F, EF, M>(alloc, params, word)?;
+    let (indices, witness) = match transcript.query_phase(alloc, &final_poly) {
+        Ok(drawn) => drawn,
+        Err(refusal) => return Err(refusal),
+    };
+    Ok(Played {
+        rounds,
+        final_poly,
+        query_witness: witness.unwrap_or(F::ZERO),
+        indices,
+    })
+}
+
+/// Plays the transcript of this shape, of which this is the seed, over the challenger. A refusal
+/// leaves the challenger where it was reached.
+pub(crate) fn play_test<
+    F: TwoAdicField,
+    EF: ExtensionField<F>,
+    S: FriFoldingStrategy<F, EF>,
+    M: Mmcs<EF>,
+    C: FieldChallenger<F> + GrindingChallenger<Witness = F> + CanObserve<M::Commitment>,
+>(
+    alloc: Global,
+    folding: &S,
+    params: &FriParameters<M>,
+    inputs: Vec<Vec<EF>>,
+    log_arities: &[usize],
+    challenger: &mut C,
+    seed: Seed,
+    shape: FriShape,
+) -> Result<Played<F, EF, M>, FriProverError>
+    requires some_input { 0 < vec_len inputs }
+    requires positive { All (λ a. 0 < a) log_arities.now }
+    requires below_64 { All (λ a. a < 64) log_arities.now }
+    requires can_play { CanPlay log_arities.now params.now.log_final_poly_len
+        (S.max_log_height folding.now) (length (slice_index_or (lists inputs.items) 0 [])) }
+    requires log_final_poly_len_below_64 { params.now.log_final_poly_len < 64 }
+    requires within_two_adicity { params.now.log_final_poly_len ≤ F.TWO_ADICITY }
+    requires schedule { log_arities.now ≡ (fri_shape shape).log_arities }
+    requires described { (fri_shape shape).final_poly_len ≡ 2 ^ params.now.log_final_poly_len }
+    requires turns { seed_turns seed ≡ map turn_of (fri_steps EF.DIMENSION (fri_shape shape)) }
+    requires commit_bits_at_most_max { (fri_shape shape).commit_pow_bits ≤ C.MAX_SAMPLE_BITS }
+    requires query_bits_at_most_max { (fri_shape shape).query_pow_bits ≤ C.MAX_SAMPLE_BITS }
+    requires index_bits_at_most_max { (fri_shape shape).index_bits ≤ C.MAX_SAMPLE_BITS }
+    ensures played { IfOk result (λ played. (top : ℕ) →
+        length (slice_index_or (lists inputs.items) 0 []) ≡ 2 ^ top →
+        IsPlayed M.committed M.commitment_of ⟦<EF as ChallengeField<F>>⟧.fields
+        (S.row_fold folding.now) ⟦<C as Plays<F, EF, M::Commitment>>⟧.moves
+        params.now.log_final_poly_len (fri_shape shape) top (lists inputs.items)
+        (bytes_observed F.ops ⟦<C as CanObserve<F>>⟧.observed challenger.old (seed_bytes seed))
+        played.rounds.commitments.items played.rounds.witnesses.items
+        played.rounds.data.items played.final_poly.items played.query_witness
+        played.indices.items challenger.new) }
+    ensures refused { IfErr result (λ e. (top : ℕ) →
+        length (slice_index_or (lists inputs.items) 0 []) ≡ 2 ^ top →
+        PlayRefusal M.committed M.commitment_of ⟦<EF as ChallengeField<F>>⟧.fields
+        (S.row_fold folding.now) ⟦<C as Plays<F, EF, M::Commitment>>⟧.moves
+        params.now.log_final_poly_len (fri_shape shape) top (lists inputs.items)
+        (bytes_observed F.ops ⟦<C as CanObserve<F>>⟧.observed challenger.old (seed_bytes seed))
+        e) }
+{
+    let mut transcript = ProverTranscript::<C, F, EF>::start(challenger, seed, shape);
+    match play(alloc, folding, params, inputs, log_arities, &mut transcript) {
+        Ok(played) => {
+            transcript.finish();
+            Ok(played)
+        },
+        Err(refusal) => {
+            transcript.abort();
+            Err(refusal)
+        },
+    }
+}
