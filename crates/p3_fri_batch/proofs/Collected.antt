@@ -8,12 +8,13 @@ use Rattle.algebra.specs.Nested.{lists, joined}
 use Rattle.p3_matrix.specs.declared.dense.RowMajorMatrix.{RowMajorMatrix}
 use Rattle.p3_pcs.specs.Claims.{both}
 use Rattle.p3_pcs.proofs.Zipped.{entry_of_both, within_both, length_of_both}
+use Rattle.p3_fri_openings.specs.Denominators.{HasPointsCovered}
 use Rattle.p3_fri_openings.specs.declared.denominators.PointDenominators.{PointDenominators}
 use Rattle.p3_fri_openings.specs.Rounds.{Asked, HasCoset, ask}
 use Rattle.p3_fri_openings.proofs.First.{at_item}
 use Rattle.p3_fri_batch.specs.declared.opened.OpenedMatrix.{OpenedMatrix}
 use Rattle.p3_fri_batch.specs.Words.{Opened}
-use Rattle.p3_fri_batch.specs.Rounds.{HasValues, HasPointsCovered, IsReady, as_opened, asked_of, opened_at}
+use Rattle.p3_fri_batch.specs.Rounds.{HasValues, IsReady, as_opened, asked_of, opened_at}
 
 -- the same place of two lists
 pub all_zip_at : {A B : Type 0} (R : A → B → Type 0) (xs : List A) (ys : List B) (i : ℕ) (x : A) (y : B)

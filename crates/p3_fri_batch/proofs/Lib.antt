@@ -6,3 +6,4 @@ pub mod Heights
 pub mod Bridge
 pub mod Summed
 pub mod Collected
+pub mod Honest

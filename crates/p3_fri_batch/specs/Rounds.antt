@@ -2,11 +2,11 @@
 use Rattle.std.specs.Prelude.{◌≡◌, ℕ, List, length, All}
 use Rattle.std.specs.List.{AllZip}
 use Rattle.algebra.specs.Nested.{lists, joined}
-use Rattle.p3_matrix.specs.Matrix.{rows, matrix_width}
+use Rattle.p3_matrix.specs.Matrix.{matrix_width}
 use Rattle.p3_pcs.specs.Claims.{both}
 use Rattle.p3_fri_openings.specs.declared.denominators.PointDenominators.{PointDenominators}
 use Rattle.p3_fri_openings.specs.declared.round.OpeningRound.{OpeningRound}
-use Rattle.p3_fri_openings.specs.Denominators.{IsCovered}
+use Rattle.p3_fri_openings.specs.Denominators.{HasPointsCovered}
 use Rattle.p3_fri_openings.specs.Rounds.{Asked, HasCoset, asked_in}
 use Rattle.p3_fri_batch.specs.declared.opened.OpenedMatrix.{OpenedMatrix}
 use Rattle.p3_fri_batch.specs.Words.{Opened, claims_of}
@@ -36,13 +36,6 @@ module _ {F E : Type 0} where
 
   abbrev pub HaveValues : OpeningRound F E → (values : List (List (List E))) → Type 0
   HaveValues round values = AllZip HasValues (asked_in round) values
-
-  -- the table has the inverse differences of the points of a matrix; or of a round's matrices
-  abbrev pub HasPointsCovered : List (PointDenominators E) → Asked F E → Type 0
-  HasPointsCovered table a = All (IsCovered (length (rows a.matrix)) table) a.points
-
-  abbrev pub ArePointsCovered : List (PointDenominators E) → OpeningRound F E → Type 0
-  ArePointsCovered table round = All (HasPointsCovered table) (asked_in round)
 
   -- a matrix that is lent together with its points and values
   abbrev pub asked_of : OpenedMatrix F E → Asked F E

@@ -1,17 +1,19 @@
 //! The matrices of all rounds, each with its points and the values there.
 
-ghost use Rattle.std.specs.Prelude.{◌≡◌, ◌≤◌, ◌==◌, ◌++◌, All, IfOk, map};
+ghost use Rattle.std.specs.Prelude.{◌≡◌, ◌≤◌, ◌==◌, ◌++◌, List, All, IfOk, map};
 ghost use Rattle.std.specs.List.{AllZip};
 ghost use Rattle.algebra.specs.Nested.{nested};
 ghost use Rattle.p3_matrix.specs.Matrix.{matrix_width};
 ghost use Rattle.p3_pcs.specs.Claims.{opened_values};
+ghost use Rattle.p3_fri_openings.specs.Denominators.{ArePointsCovered};
+ghost use Rattle.p3_fri_openings.specs.declared.denominators.PointDenominators.{PointDenominators};
 ghost use Rattle.p3_fri_openings.specs.Rounds.{HasCoset, IsRound, log_height};
 ghost use Rattle.p3_fri_batch.specs.Heights.{has_height};
-ghost use Rattle.p3_fri_batch.specs.Rounds.{HaveValues, ArePointsCovered, IsReady};
+ghost use Rattle.p3_fri_batch.specs.Rounds.{HaveValues, IsReady};
 ghost use Rattle.p3_fri_batch.specs.Rounds.{as_opened, opened_in, opened_of};
 
 use p3_field::{ExtensionField, TwoAdicField, log2_strict_usize};
-use p3_fri_openings::{OpeningRound, PointDenominators};
+use p3_fri_openings::OpeningRound;
 use p3_matrix::RowMajorMatrix;
 use std::alloc::{AllocError, Global};
 
@@ -26,17 +28,16 @@ pub struct OpenedMatrix<'a, F, EF> {
 /// Adds the matrices of a round.
 fn push_round<'a, F: TwoAdicField, EF: ExtensionField<F>>(
     opened: &mut Vec<OpenedMatrix<'a, F, EF>>,
-    table: &[PointDenominators<EF>],
     round: &OpeningRound<'a, F, EF>,
     values: &'a [Vec<Vec<EF>>],
 ) -> Result<(), AllocError>
     requires round { IsRound F.TWO_ADICITY round.now }
     requires values { HaveValues round.now (nested values.now) }
-    requires covered { ArePointsCovered table.now round.now }
-    requires ready { All (IsReady F.TWO_ADICITY table.now) opened.old.items }
     ensures opened { IfOk result (λ _. map as_opened opened.new.items
         ≡ map as_opened opened.old.items ++ opened_in round.now (nested values.now)) }
-    ensures ready { IfOk result (λ _. All (IsReady F.TWO_ADICITY table.now) opened.new.items) }
+    ensures ready { IfOk result (λ _. (table : List (PointDenominators EF))
+        → ArePointsCovered table round.now → All (IsReady F.TWO_ADICITY table) opened.old.items
+        → All (IsReady F.TWO_ADICITY table) opened.new.items) }
 {
     for index in 0..round.matrices.len() {
         opened.push(OpenedMatrix {
@@ -51,21 +52,20 @@ fn push_round<'a, F: TwoAdicField, EF: ExtensionField<F>>(
 /// The matrices of all rounds, in order.
 pub(crate) fn opened_matrices<'a, F: TwoAdicField, EF: ExtensionField<F>>(
     alloc: Global,
-    table: &[PointDenominators<EF>],
     rounds: &[OpeningRound<'a, F, EF>],
     values: &'a [Vec<Vec<Vec<EF>>>],
 ) -> Result<Vec<OpenedMatrix<'a, F, EF>>, AllocError>
     requires rounds { All (IsRound F.TWO_ADICITY) rounds.now }
     requires values { AllZip HaveValues rounds.now (opened_values values.now) }
-    requires covered { All (ArePointsCovered table.now) rounds.now }
     ensures opened { IfOk result (λ matrices. map as_opened matrices.items
         ≡ opened_of rounds.now (opened_values values.now)) }
-    ensures ready { IfOk result (λ matrices.
-        All (IsReady F.TWO_ADICITY table.now) matrices.items) }
+    ensures ready { IfOk result (λ matrices. (table : List (PointDenominators EF))
+        → All (ArePointsCovered table) rounds.now
+        → All (IsReady F.TWO_ADICITY table) matrices.items) }
 {
     let mut opened = Vec::new(alloc);
     for index in 0..rounds.len() {
-        push_round(&mut opened, table, &rounds[index], &values[index])?;
+        push_round(&mut opened, &rounds[index], &values[index])?;
     }
     Ok(opened)
 }

@@ -7,11 +7,11 @@ ghost use Rattle.algebra.specs.Nested.{lists};
 ghost use Rattle.algebra.specs.Polynomial.{tabulate};
 ghost use Rattle.p3_matrix.specs.Matrix.{matrix_width};
 ghost use Rattle.p3_pcs.specs.Claims.{opened_values};
-ghost use Rattle.p3_fri_openings.specs.Denominators.{AreInverses};
+ghost use Rattle.p3_fri_openings.specs.Denominators.{AreInverses, ArePointsCovered};
 ghost use Rattle.p3_fri_openings.specs.Rounds.{IsRound};
 ghost use Rattle.p3_fri_batch.specs.Heights.{has_height, heights_below};
 ghost use Rattle.p3_fri_batch.specs.Words.{Opened, IsSummed, batch_word};
-ghost use Rattle.p3_fri_batch.specs.Rounds.{HaveValues, ArePointsCovered, IsReady};
+ghost use Rattle.p3_fri_batch.specs.Rounds.{HaveValues, IsReady};
 ghost use Rattle.p3_fri_batch.specs.Rounds.{as_opened, opened_of};
 
 use crate::opened::{
@@ -26,13 +26,13 @@ use std::alloc::{AllocError, Global};
 
 /// So many zeros.
 fn zeros<EF: Field>(alloc: Global, count: usize) -> Result<Vec<EF>, AllocError>
-    ensures { IfOk result (λ word. word.items ≡ tabulate count (λ _. EF.ops.zero)) }
+    ensures { IfOk result (λ values. values.items ≡ tabulate count (λ _. EF.ops.zero)) }
 {
-    let mut word = Vec::with_capacity(alloc, count)?;
+    let mut values = Vec::with_capacity(alloc, count)?;
     for _ in 0..count {
-        word.push(EF::ZERO)?;
+        values.push(EF::ZERO)?;
     }
-    Ok(word)
+    Ok(values)
 }
 
 /// Adds a matrix's quotients to the word of its log height, and leaves each other word as it is.
@@ -143,7 +143,7 @@ pub fn batch_words<F: TwoAdicField, EF: ExtensionField<F>>(
         ≡ map (λ h. batch_word ⟦<EF as ChallengeField<F>>⟧.fields alpha h ms)
         (heights_below ms (suc F.TWO_ADICITY))) }
 {
-    let matrices = opened_matrices(alloc, table, rounds, values)?;
+    let matrices = opened_matrices(alloc, rounds, values)?;
     let ladder = Ladder::new(alloc, alpha, greatest_width(&matrices))?;
     let mut words = Vec::new(alloc);
     for log_height in (0..F::TWO_ADICITY + 1).rev() {

@@ -1,20 +1,20 @@
 -- What an honest prover opens is accepted, and the test ends in the state that it leaves.
-use Rattle.std.proofs.Common.{◌≡◌, ◌≢◌, ℕ, suc, ◌+◌, ◌-◌, ◌/◌, ◌^◌, ◌<◌, ◌≤◌, List, [], ◌∷◌, map}
-use Rattle.std.proofs.Common.{length, get_or, true, Option, refl, sym, ap, ap₂, ◌∙◌, arith, subst}
-use Rattle.std.specs.Prelude.{IsTrue, EachIndex, slice_index, slice_index_or}
+use Rattle.std.proofs.Common.{◌≡◌, ℕ, suc, ◌+◌, ◌-◌, ◌/◌, ◌^◌, ◌<◌, ◌≤◌, List, [], ◌∷◌, map}
+use Rattle.std.proofs.Common.{length, get_or, true, refl, sym, ap, ◌∙◌, arith, subst}
+use Rattle.std.specs.Prelude.{IsTrue, slice_index, slice_index_or}
 use Rattle.std.specs.List.{All, AllZip, zip, range_with_len}
 use Rattle.std.proofs.Math.Nat.{div-one}
 use Rattle.std.proofs.lemmas.List.Elements.{All-weaker}
-use Rattle.algebra.specs.Polynomial.{tabulate}
 use Rattle.algebra.specs.Nested.{joined}
-use Rattle.algebra.specs.Rounds.{Link, entry_of, AreLowDegreeWords}
+use Rattle.algebra.specs.Rounds.{Round, AreLowDegreeWords}
 use Rattle.algebra.proofs.Lists.{Each, each_from_All, All_from_each, tabulate-equal}
 use Rattle.p3_fri_relation.specs.Setting.{Setting, Parameters, CommitmentClaim, RoundOpening, Proof}
 use Rattle.p3_fri_relation.specs.Setting.{final_height}
-use Rattle.p3_fri_relation.specs.Heights.{matrices_of, has_height, heights_of}
+use Rattle.p3_fri_relation.specs.Heights.{matrices_of, has_height}
 use Rattle.p3_fri_relation.specs.Heights.{log_height as claimed_height}
-use Rattle.p3_fri_relation.specs.Inputs.{HasPoints, HasSums, OpensInput, rows_at, sum_at}
-use Rattle.p3_fri_relation.specs.Queries.{inputs_of, final_value, rounds_of, rows_folded, heights_after}
+use Rattle.p3_fri_relation.specs.Inputs.{HasPoints, HasSums, rows_at, sum_at}
+use Rattle.p3_fri_relation.specs.Queries.{inputs_of, final_value, rounds_of, rows_folded}
+use Rattle.p3_fri_relation.specs.Queries.{heights_after}
 use Rattle.p3_fri_relation.specs.Queries.{row_indices}
 use Rattle.p3_fri_relation.specs.FoldedQuery.{value_at}
 use Rattle.p3_fri_pcs_transcript.specs.Replay.{BatchReplay}
@@ -22,7 +22,8 @@ use Rattle.p3_fri_transcript.specs.Replay.{fri_replay, shown_queries_replay}
 use Rattle.p3_fri_transcript.proofs.Indices.{draws_are_indices}
 use Rattle.p3_fri_relation.proofs.TestReplays.{length-positions, positions-below}
 use Rattle.p3_fri_relation.proofs.WholeReplays.{whole_replay, whole-state}
-use Rattle.p3_fri_relation.specs.Acceptance.{IsInRange, IsInstance, top_height, test_replay, FriAccepts}
+use Rattle.p3_fri_relation.specs.Acceptance.{IsInRange, IsInstance, top_height, test_replay}
+use Rattle.p3_fri_relation.specs.Acceptance.{FriAccepts}
 use Rattle.p3_fri_relation.specs.Acceptance.{Accepts, batch_replayed, AreOpeningsGood}
 use Rattle.p3_fri_relation.specs.Acceptance as test
 use Rattle.p3_fri_relation.proofs.ClaimedHeights.{greatest_height-bounds, heights_below-had}
@@ -36,7 +37,8 @@ use Rattle.p3_fri_batch.proofs.Bridge.{entry_is_quotient_sum, entry_is_input}
 use Rattle.p3_fri_batch.proofs.LowWords.{words_low}
 use Rattle.p3_fri_prover.specs.Proved.{AreLow, entries_at, OpensRound}
 use Rattle.p3_fri_prover.specs.Proved as proved
-use Rattle.p3_fri_completeness.specs.Honest.{AreTwoAdic, IsHonest, IsHonestlyOpened, heights_claimed, DrawsFit}
+use Rattle.p3_fri_completeness.specs.Honest.{AreTwoAdic, IsHonest, IsHonestlyOpened}
+use Rattle.p3_fri_completeness.specs.Honest.{heights_claimed, DrawsFit}
 use Rattle.p3_fri_completeness.specs.Honest.{words_claimed}
 use Rattle.p3_fri_completeness.proofs.Claims.{each_claimed, some_claimed, points_claimed}
 use Rattle.p3_fri_completeness.proofs.Inputs.{inputs_opened}
@@ -72,12 +74,16 @@ module _ {F E C Com Path InCom InPath : Type 0} (s : Setting F E C Com Path InCo
   abbrev betas : List E
   betas = (test_replay s p claims proof c).betas
 
+  abbrev played : List (Round E)
+  played = rounds_of (test.log_arities p claims) betas
+
   -- they lie in the greatest word
   within_word : All (λ q. q < 2 ^ top) positions
   unfolding fri_replay shown_queries_replay
   within_word = positions-below s p claims proof c
-      (draws_are_indices (λ d. s.moves.draw_bits d (top + s.extra_bits)) (test.fri_numbers p claims s.extra_bits) fit
-      _ (test_replay s p claims proof c).indices refl).below
+      (draws_are_indices (λ d. s.moves.draw_bits d (top + s.extra_bits))
+      (test.fri_numbers p claims s.extra_bits) fit _ (test_replay s p claims proof c).indices
+      refl).below
 
   honest : Each (IsHonest s.fields p) (joined rounds)
   honest = each_from_All (IsHonest s.fields p) (joined rounds) o.honest
@@ -95,15 +101,19 @@ module _ {F E C Com Path InCom InPath : Type 0} (s : Setting F E C Com Path InCo
     some_matrix = some_claimed b claims rounds o.claimed o.some_matrix;
     tall_enough = All_from_each (λ m. final_height p ≤ claimed_height b m) (matrices_of claims)
         (each_claimed b (IsHonest s.fields p) (λ m. final_height p ≤ claimed_height b m)
-        (λ claim m is h. subst (λ n. final_height p ≤ n) (sym is.height) h.tall_enough) claims rounds o.claimed honest);
-    within_two_adicity = All_from_each (λ m. claimed_height b m ≤ s.fields.two_adicity) (matrices_of claims)
+        (λ claim m is h. subst (λ n. final_height p ≤ n) (sym is.height) h.tall_enough) claims
+            rounds o.claimed honest);
+    within_two_adicity = All_from_each (λ m. claimed_height b m ≤ s.fields.two_adicity)
+        (matrices_of claims)
         (each_claimed b (IsHonest s.fields p) (λ m. claimed_height b m ≤ s.fields.two_adicity)
-        (λ claim m is h. subst (λ n. n ≤ s.fields.two_adicity) (sym is.height) h.within_two_adicity) claims rounds o.claimed honest);
+        (λ claim m is h. subst (λ n. n ≤ s.fields.two_adicity) (sym is.height) h.within_two_adicity)
+            claims rounds o.claimed honest);
   }
 
   points : All HasPoints (matrices_of claims)
   points = All_from_each HasPoints (matrices_of claims)
-      (each_claimed b (IsHonest s.fields p) HasPoints (points_claimed s.fields p) claims rounds o.claimed honest)
+      (each_claimed b (IsHonest s.fields p) HasPoints (points_claimed s.fields p) claims rounds
+          o.claimed honest)
 
   is_instance : IsInstance p claims s.fields.two_adicity
   is_instance = record { in_range = in_range; points = points }
@@ -120,14 +130,16 @@ module _ {F E C Com Path InCom InPath : Type 0} (s : Setting F E C Com Path InCo
 
   words_are_low : AreLow s p heights top words c proof
   words_are_low = record {
-    tall_enough = All-weaker (λ h. has_height b (matrices_of claims) h ≡ true) (λ h. final_height p ≤ h)
+    tall_enough = All-weaker (λ h. has_height b (matrices_of claims) h ≡ true)
+        (λ h. final_height p ≤ h)
         (λ h is. (instance_height-bounds p claims s.fields.two_adicity in_range h is).0)
         heights (heights_below-had b (matrices_of claims) (suc top));
     degrees =
         subst (λ hs. AreLowDegreeWords s.fields.ext (λ k. s.fields.lift (s.fields.root k)) b
         (λ h. value_at (zip hs (map (λ h. batch_word s.fields alpha h (joined rounds)) hs)) h))
         (sym (claimed_heights b claims rounds o.claimed (suc top) below_top))
-        (words_low s.fields laws.base laws.roots laws.shift laws.ext laws.lifts b alpha (joined rounds) (suc top) below_top
+        (words_low s.fields laws.base laws.roots laws.shift laws.ext laws.lifts b alpha
+            (joined rounds) (suc top) below_top
         (λ k d l. let m = o.honest k d l in omega (arith, m.tall_enough))
         (λ k d l. (o.honest k d l).within_two_adicity)
         (λ k d l. (o.honest k d l).word));
@@ -142,11 +154,13 @@ module _ {F E C Com Path InCom InPath : Type 0} (s : Setting F E C Com Path InCo
     below = within_word j 0 inside
 
     rows_here : rows_at j proof.inputs ≡ map (rows_opened top q) rounds
-    rows_here = rows_are s.opens_input b top positions j inside claims rounds proof.inputs o.claimed o.inputs
+    rows_here = rows_are s.opens_input b top positions j inside claims rounds proof.inputs o.claimed
+        o.inputs
 
-    met : (h : ℕ) → inputs_of s p alpha top claims proof (rounds_of (test.log_arities p claims) betas) j q h
+    met : (h : ℕ) → inputs_of s p alpha top claims proof played j q h
         ≡ entries_at s p heights top words c proof q h
-    met h = sym (entry_is_input s.fields b alpha top q claims rounds (rows_at j proof.inputs) heights words h
+    met h = sym (entry_is_input s.fields b alpha top q claims rounds
+        (rows_at j proof.inputs) heights words h
         o.claimed rows_here on_cosets refl refl below)
 
     own_place : q / 2 ^ (top - top) ≡ q
@@ -155,27 +169,33 @@ module _ {F E C Com Path InCom InPath : Type 0} (s : Setting F E C Com Path InCo
     begins : sum_at s.fields b alpha top claims proof.inputs j q top
         ≡ get_or (get_or words 0 []) q s.fields.ext.zero
     begins =
-        sym (entry_is_quotient_sum s.fields b alpha top q top claims rounds (rows_at j proof.inputs) s.fields.ext.zero
+        sym (entry_is_quotient_sum s.fields b alpha top q top claims rounds
+            (rows_at j proof.inputs) s.fields.ext.zero
         o.claimed rows_here on_cosets (omega arith) below)
-        ∙ ap (λ i. get_or (batch_word s.fields alpha top (joined rounds)) i s.fields.ext.zero) own_place
-        ∙ ap (λ hs. get_or (get_or (map (λ h. batch_word s.fields alpha h (joined rounds)) hs) 0 []) q s.fields.ext.zero)
+        ∙ ap (λ i. get_or (batch_word s.fields alpha top (joined rounds)) i s.fields.ext.zero)
+            own_place
+        ∙ ap (λ hs. get_or (get_or (map (λ h. batch_word s.fields alpha h (joined rounds)) hs) 0 [])
+            q s.fields.ext.zero)
         (sym (instance_heights p claims s.fields.two_adicity in_range))
 
     last_same : test.last_of_query s p claims proof alpha betas positions j
         ≡ proved.last_link s p heights top words c proof j q
-    last_same = last_link-given s p alpha top claims proof (rounds_of (test.log_arities p claims) betas) j q
-        (entries_at s p heights top words c proof q) (get_or (get_or words 0 []) q s.fields.ext.zero) met begins
+    last_same = last_link-given s p alpha top claims proof played j q
+        (entries_at s p heights top words c proof q)
+        (get_or (get_or words 0 []) q s.fields.ext.zero) met begins
 
-    rows_same : rows_folded s p alpha top claims proof (rounds_of (test.log_arities p claims) betas) j q
+    rows_same : rows_folded s p alpha top claims proof played j q
         ≡ proved.rows_folded s p heights top words c proof j q
-    rows_same = rows_folded-given s p alpha top claims proof (rounds_of (test.log_arities p claims) betas) j q
-        (entries_at s p heights top words c proof q) (get_or (get_or words 0 []) q s.fields.ext.zero) met begins
+    rows_same = rows_folded-given s p alpha top claims proof played j q
+        (entries_at s p heights top words c proof q)
+        (get_or (get_or words 0 []) q s.fields.ext.zero) met begins
 
     sums_here : HasSums s.fields b alpha top claims proof.inputs j q
     sums_here = record {
       defined = sums_defined s.fields p top claims rounds o.claimed honest up_to q below;
-      constants = λ some. sums_vanish s.fields p top claims rounds o.claimed honest up_to q below laws alpha
-          (rows_at j proof.inputs) rows_here (omega (arith, top_bounds.0)) (omega (arith, top_bounds.0, top_bounds.1));
+      constants = λ some. sums_vanish s.fields p top claims rounds o.claimed honest up_to q below
+          laws alpha (rows_at j proof.inputs) rows_here (omega (arith, top_bounds.0))
+          (omega (arith, top_bounds.0, top_bounds.1));
     }
 
     holds_here : test.HoldsAtQuery s p claims proof alpha betas positions j
@@ -186,7 +206,8 @@ module _ {F E C Com Path InCom InPath : Type 0} (s : Setting F E C Com Path InCo
     }
 
   -- a round opens to the rows that the queries fold
-  round_opens : (k : ℕ) (x : Com × RoundOpening E Path) → OpensRound s p heights top words c proof k x
+  round_opens : (k : ℕ) (x : Com × RoundOpening E Path)
+      → OpensRound s p heights top words c proof k x
       → test.OpensRound s p claims proof alpha betas positions k x
   round_opens k x held =
       subst (λ sets. s.opens_round x.0
@@ -194,9 +215,11 @@ module _ {F E C Com Path InCom InPath : Type 0} (s : Setting F E C Com Path InCo
         width = 2 ^ slice_index (test.log_arities p claims) k;
         height = 2 ^ slice_index (heights_after (test.log_arities p claims) top) k;
       } ∷ [])
-      (map (λ q. slice_index (row_indices (test.log_arities p claims) q) k) positions) sets x.1.path)
+      (map (λ q. slice_index (row_indices (test.log_arities p claims) q) k) positions)
+      sets x.1.path)
       (tabulate-equal p.num_queries
-      (λ j. slice_index_or (proved.rows_folded s p heights top words c proof j (slice_index positions j)) k [] ∷ [])
+      (λ j. slice_index_or (proved.rows_folded s p heights top words c proof j
+          (slice_index positions j)) k [] ∷ [])
       (λ j. test.row_folded s p claims proof alpha betas positions j k ∷ [])
       (λ j l. ap (λ rows. slice_index_or rows k [] ∷ [])
       (sym (rows_same j (omega (arith, l, length-positions s p claims proof c))))))
@@ -204,7 +227,8 @@ module _ {F E C Com Path InCom InPath : Type 0} (s : Setting F E C Com Path InCo
 
   good : AreOpeningsGood s p claims proof alpha betas positions
   good = record {
-    inputs_open = inputs_opened s.fields p top s.opens_input positions within_word claims rounds proof.inputs
+    inputs_open = inputs_opened s.fields p top s.opens_input positions within_word claims rounds
+        proof.inputs
         o.claimed honest up_to o.inputs;
     rounds_open = all_zip_weaker (OpensRound s p heights top words c proof)
         (test.OpensRound s p claims proof alpha betas positions) round_opens

@@ -1,28 +1,23 @@
 -- Honest claims: their log heights, dimensions and numbers of values are those of the matrices.
-use Rattle.std.proofs.Common.{◌≡◌, ◌≢◌, ℕ, suc, ◌+◌, ◌-◌, ◌^◌, ◌<◌, ◌≤◌, max, List, [], ◌∷◌, ◌++◌}
-use Rattle.std.proofs.Common.{length, map, fold, get_or, refl, sym, ap, ap₂, ◌∙◌, arith}
+use Rattle.std.proofs.Common.{◌≡◌, ◌≢◌, ℕ, suc, ◌+◌, ◌^◌, List, [], ◌∷◌, ◌++◌}
+use Rattle.std.proofs.Common.{length, map, get_or, refl, sym, ap, ap₂, ◌∙◌}
 use Rattle.std.specs.List.{All, AllZip}
-use Rattle.std.proofs.Math.Nat.{pow-le-pow_right}
-use Rattle.std.proofs.lemmas.Bool.Decides.{leb_tells}
 use Rattle.std.proofs.lemmas.List.{length-map, length-append, nil_from_length}
-use Rattle.std.proofs.lemmas.List.Elements.{All-head, All-tail}
+use Rattle.std.proofs.lemmas.List.Elements.{All-head}
 use Rattle.algebra.specs.Polynomial.{val}
 use Rattle.algebra.specs.Nested.{joined}
 use Rattle.algebra.proofs.Lists.{Each, length-tabulate}
-use Rattle.p3_matrix.specs.declared.Dimensions.{Dimensions}
 use Rattle.p3_matrix.specs.declared.dense.RowMajorMatrix.{RowMajorMatrix}
-use Rattle.p3_matrix.specs.Matrix.{rows, matrix_width}
+use Rattle.p3_matrix.specs.Matrix.{matrix_width}
 use Rattle.p3_dft.specs.Evaluations.{column}
 use Rattle.p3_commit.specs.Batch.{max_height, dimensions_of}
 use Rattle.p3_commit.specs.Batch as batch
-use Rattle.p3_fri_relation.specs.Setting.{Fields, Parameters, PointClaim, MatrixClaim, CommitmentClaim}
-use Rattle.p3_fri_relation.specs.Setting.{final_height}
-use Rattle.p3_fri_relation.specs.Heights.{matrices_of, width, greatest_height, dimensions, log_height}
+use Rattle.p3_fri_relation.specs.Setting.{Fields, Parameters, PointClaim, MatrixClaim}
+use Rattle.p3_fri_relation.specs.Setting.{CommitmentClaim}
+use Rattle.p3_fri_relation.specs.Heights.{matrices_of, width, dimensions}
 use Rattle.p3_fri_relation.specs.Inputs.{HasPoints}
-use Rattle.p3_fri_relation.specs.Acceptance.{IsInRange, IsInstance}
 use Rattle.p3_fri_openings.specs.Committed.{committed_column, committed, committed_values}
-use Rattle.p3_fri_openings.specs.Rounds as committed_matrix
-use Rattle.p3_fri_batch.specs.Words.{Opened, IsOpenedWord}
+use Rattle.p3_fri_batch.specs.Words.{Opened}
 use Rattle.p3_fri_batch.specs.Claimed.{IsClaimOf, AreClaimsOf, matrices_in}
 use Rattle.p3_fri_completeness.specs.Honest.{IsHonest}
 
@@ -51,7 +46,8 @@ module _ (b : ℕ) {F E : Type 0} (P : Opened F E → Type 0) (Q : MatrixClaim E
   each_alike (claim ∷ claims) (m ∷ ms) are h =
       (tells claim m are.0 h.0, each_alike claims ms are.1 h.1)
 
-  pub each_claimed : {InCom : Type 0} (claims : List (CommitmentClaim E InCom)) (rounds : List (List (Opened F E)))
+  pub each_claimed : {InCom : Type 0} (claims : List (CommitmentClaim E InCom))
+      (rounds : List (List (Opened F E)))
       → AreClaimsOf b claims rounds → Each P (joined rounds) → Each Q (matrices_of claims)
   each_claimed [] [] are h = tt
   each_claimed [] (ms ∷ rounds) are h = absurd are
@@ -70,7 +66,8 @@ module _ (b : ℕ) {F E : Type 0} where
   count_alike (claim ∷ claims) [] are = absurd are
   count_alike (claim ∷ claims) (m ∷ ms) are = ap (λ n. suc n) (count_alike claims ms are.1)
 
-  count_claimed : {InCom : Type 0} (claims : List (CommitmentClaim E InCom)) (rounds : List (List (Opened F E)))
+  count_claimed : {InCom : Type 0} (claims : List (CommitmentClaim E InCom))
+      (rounds : List (List (Opened F E)))
       → AreClaimsOf b claims rounds → length (matrices_of claims) ≡ length (joined rounds)
   count_claimed [] [] are = refl
   count_claimed [] (ms ∷ rounds) are = absurd are
@@ -80,7 +77,8 @@ module _ (b : ℕ) {F E : Type 0} where
       ∙ ap₂ (λ m n. m + n) (count_alike claim.matrices ms are.0) (count_claimed claims rounds are.1)
       ∙ sym (length-append ms (joined rounds))
 
-  pub some_claimed : {InCom : Type 0} (claims : List (CommitmentClaim E InCom)) (rounds : List (List (Opened F E)))
+  pub some_claimed : {InCom : Type 0} (claims : List (CommitmentClaim E InCom))
+      (rounds : List (List (Opened F E)))
       → AreClaimsOf b claims rounds → joined rounds ≢ [] → matrices_of claims ≢ []
   some_claimed claims rounds are some none =
       some (nil_from_length (joined rounds)
@@ -106,7 +104,8 @@ module _ {F E : Type 0} (f : Fields F E) (p : Parameters) where
   abbrev b : ℕ
   b = p.log_blowup
 
-  module _ (claim : MatrixClaim E) (m : Opened F E) (is : IsClaimOf p.log_blowup claim m) (h : IsHonest f p m) where
+  module _ (claim : MatrixClaim E) (m : Opened F E) (is : IsClaimOf p.log_blowup claim m)
+      (h : IsHonest f p m) where
     pub width_claimed : width claim ≡ matrix_width m.matrix
     width_claimed = ap (λ points. get_or (map (λ z. length z.values) points) 0 0) is.points
         ∙ first_width f p.log_blowup m.matrix m.claims h.some_point h.word.honest
@@ -115,9 +114,11 @@ module _ {F E : Type 0} (f : Fields F E) (p : Parameters) where
     dimensions_claimed = ap₂ (λ w n. record { width = w; height = n }) width_claimed
         (ap (λ k. 2 ^ k) is.height ∙ sym h.word.height)
 
-    points_made : (points : List (PointClaim E)) → points ≡ m.claims → All (λ z. length z.values ≡ matrix_width m.matrix) points
+    points_made : (points : List (PointClaim E)) → points ≡ m.claims → All
+        (λ z. length z.values ≡ matrix_width m.matrix) points
     points_made points same =
-        rw same (λ k d l. ap length (h.word.honest k d l) ∙ committed_width f p.log_blowup m.matrix (get_or m.claims k d).point)
+        rw same (λ k d l. ap length (h.word.honest k d l) ∙ committed_width f p.log_blowup m.matrix
+            (get_or m.claims k d).point)
 
     pub points_claimed : HasPoints claim
     points_claimed = record {
@@ -132,7 +133,8 @@ module _ {F E : Type 0} (f : Fields F E) (p : Parameters) where
   all_dimensions [] (m ∷ ms) are h = absurd are
   all_dimensions (claim ∷ claims) [] are h = absurd are
   all_dimensions (claim ∷ claims) (m ∷ ms) are h =
-      ap₂ (λ d ds. d ∷ ds) (dimensions_claimed claim m are.0 h.0) (all_dimensions claims ms are.1 h.1)
+      ap₂ (λ d ds. d ∷ ds) (dimensions_claimed claim m are.0 h.0)
+          (all_dimensions claims ms are.1 h.1)
 
 -- and the other way round
 module _ (b : ℕ) {F E : Type 0} (P : MatrixClaim E → Type 0) (Q : Opened F E → Type 0)
@@ -145,7 +147,8 @@ module _ (b : ℕ) {F E : Type 0} (P : MatrixClaim E → Type 0) (Q : Opened F E
   alike_each (claim ∷ claims) (m ∷ ms) are h =
       (tells claim m are.0 h.0, alike_each claims ms are.1 h.1)
 
-  pub claimed_each : {InCom : Type 0} (claims : List (CommitmentClaim E InCom)) (rounds : List (List (Opened F E)))
+  pub claimed_each : {InCom : Type 0} (claims : List (CommitmentClaim E InCom))
+      (rounds : List (List (Opened F E)))
       → AreClaimsOf b claims rounds → Each P (matrices_of claims) → Each Q (joined rounds)
   claimed_each [] [] are h = tt
   claimed_each [] (ms ∷ rounds) are h = absurd are

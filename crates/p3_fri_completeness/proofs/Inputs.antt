@@ -1,5 +1,5 @@
 -- What a prover opens of honest batches is what the relation asks of the claims.
-use Rattle.std.proofs.Common.{◌≡◌, ℕ, suc, ◌+◌, ◌-◌, ◌/◌, ◌^◌, ◌<◌, ◌≤◌, max, List, [], ◌∷◌, map, fold}
+use Rattle.std.proofs.Common.{◌≡◌, ℕ, ◌+◌, ◌-◌, ◌/◌, ◌^◌, ◌<◌, ◌≤◌, max, List, [], ◌∷◌, map, fold}
 use Rattle.std.proofs.Common.{length, refl, sym, ap, ap₂, ◌∙◌, arith, subst, inl, inr}
 use Rattle.std.specs.List.{All, AllZip, zip}
 use Rattle.std.proofs.Math.Nat.{div-one, div-eq_of_lt, mul-div_cancel, pow-le-pow_right}
@@ -13,7 +13,7 @@ use Rattle.p3_matrix.specs.Matrix.{rows}
 use Rattle.p3_commit.specs.Batch.{max_height, dimensions_of}
 use Rattle.p3_fri_relation.specs.Setting.{Fields, Parameters, MatrixClaim, CommitmentClaim}
 use Rattle.p3_fri_relation.specs.Setting.{Opening, InputOpening}
-use Rattle.p3_fri_relation.specs.Heights.{dimensions, greatest_height, log_height, opened_index, matrices_of}
+use Rattle.p3_fri_relation.specs.Heights.{greatest_height, log_height, opened_index, matrices_of}
 use Rattle.p3_fri_relation.specs.Inputs.{OpensInput}
 use Rattle.p3_fri_batch.specs.Words.{Opened}
 use Rattle.p3_fri_batch.specs.Claimed.{IsClaimOf, AreClaimsOf, matrices_in}
@@ -24,7 +24,8 @@ use Rattle.p3_fri_completeness.proofs.Claims.{each_left, each_right, all_dimensi
 -- powers of two grow
 greater_power : (h k : ℕ) → 2 ^ max h k ≡ max (2 ^ h) (2 ^ k)
 greater_power h k = elim (leb_tells h k) [
-  | inl w ↦ (let more : 2 ^ h ≤ 2 ^ k = pow-le-pow_right {n = 2} (omega arith) {i = h} {j = k} w.1 in
+  | inl w ↦ (let more : 2 ^ h ≤ 2 ^ k = pow-le-pow_right {n = 2}
+      (omega arith) {i = h} {j = k} w.1 in
       let most : max h k ≡ k = omega (arith, w.1) in ap (λ n. 2 ^ n) most ∙ omega (arith, more))
   | inr w ↦ (let low : k ≤ h = omega (arith, w.1) in
       let more : 2 ^ k ≤ 2 ^ h = pow-le-pow_right {n = 2} (omega arith) {i = k} {j = h} low in
@@ -61,11 +62,14 @@ module _ {F E : Type 0} (f : Fields F E) (p : Parameters) where
   greatest_more a (claim ∷ claims) [] are h = absurd are
   greatest_more a (claim ∷ claims) (m ∷ ms) are h =
       let n : ℕ = log_height p.log_blowup claim in
-      let tall : length (rows m.matrix) ≡ 2 ^ n = h.0.word.height ∙ ap (λ k. 2 ^ k) (sym are.0.height) in
-      either_way (2 ^ a) (length (rows m.matrix)) (2 ^ n) (2 ^ max a n) (max_height (dimensions_of (matrices_in ms)))
+      let tall : length (rows m.matrix) ≡ 2 ^ n = h.0.word.height ∙ ap (λ k. 2 ^ k)
+          (sym are.0.height) in
+      either_way (2 ^ a) (length (rows m.matrix)) (2 ^ n) (2 ^ max a n)
+          (max_height (dimensions_of (matrices_in ms)))
       tall (greater_power a n) ∙ greatest_more (max a n) claims ms are.1 h.1
     where
-      either_way : (x y z w greatest : ℕ) → y ≡ z → w ≡ max x z → max x (max y greatest) ≡ max w greatest
+      either_way : (x y z w greatest : ℕ) → y ≡ z → w ≡ max x z → max x (max y greatest)
+          ≡ max w greatest
       either_way x y z w greatest e d = omega (arith, e, d)
 
   greatest_claimed : (claims : List (MatrixClaim E)) (ms : List (Opened F E))
@@ -73,7 +77,8 @@ module _ {F E : Type 0} (f : Fields F E) (p : Parameters) where
       → max_height (dimensions_of (matrices_in ms)) ≡ 2 ^ greatest_height p.log_blowup claims
   greatest_claimed claims ms are h =
       let some = at_least_one (dimensions_of (matrices_in ms)) in
-      let whole : max 1 (max_height (dimensions_of (matrices_in ms))) ≡ 2 ^ greatest_height p.log_blowup claims =
+      let whole : max 1 (max_height (dimensions_of (matrices_in ms)))
+          ≡ 2 ^ greatest_height p.log_blowup claims =
       greatest_more 0 claims ms are h in
       omega (arith, some, whole)
 
@@ -102,7 +107,8 @@ module _ {F E : Type 0} (f : Fields F E) (p : Parameters) where
 
     module _ {InCom InPath : Type 0} (opens : Opening F InCom InPath) (positions : List ℕ)
         (within : All (λ q. q < 2 ^ top) positions) where
-      batch_opened : (claim : CommitmentClaim E InCom) (ms : List (Opened F E)) (o : InputOpening F InPath)
+      batch_opened : (claim : CommitmentClaim E InCom) (ms : List (Opened F E))
+          (o : InputOpening F InPath)
           → AllZip (IsClaimOf p.log_blowup) claim.matrices ms → Each (IsHonest f p) ms
           → Each (λ m. log_height p.log_blowup m ≤ top) claim.matrices
           → OpensBatch opens top positions (matrices_in ms) claim.commitment o
@@ -113,17 +119,20 @@ module _ {F E : Type 0} (f : Fields F E) (p : Parameters) where
           (sym (all_dimensions f p claim.matrices ms are h))
           (subst (λ is. opens claim.commitment (dimensions_of (matrices_in ms)) is o.rows o.path)
           (sym (map_within (2 ^ top) (opened_index p.log_blowup top claim.matrices)
-          (batch_index top (matrices_in ms)) (index_opened claim.matrices ms are h t) positions within))
+          (batch_index top (matrices_in ms)) (index_opened claim.matrices ms are h t) positions
+              within))
           opened.opened)
 
       -- so each commitment opens to the rows of its claimed matrices
-      abbrev OpensThere : CommitmentClaim E InCom × List (Opened F E) → InputOpening F InPath → Type 0
+      abbrev OpensThere : CommitmentClaim E InCom × List (Opened F E) → InputOpening F InPath
+          → Type 0
       OpensThere (claim, ms) o = OpensBatch opens top positions (matrices_in ms) claim.commitment o
 
       abbrev AreClaims : CommitmentClaim E InCom → List (Opened F E) → Type 0
       AreClaims claim ms = AllZip (IsClaimOf p.log_blowup) claim.matrices ms
 
-      pub inputs_opened : (claims : List (CommitmentClaim E InCom)) (rounds : List (List (Opened F E)))
+      pub inputs_opened : (claims : List (CommitmentClaim E InCom))
+          (rounds : List (List (Opened F E)))
           (inputs : List (InputOpening F InPath))
           → AreClaimsOf p.log_blowup claims rounds → Each (IsHonest f p) (joined rounds)
           → Each (λ m. log_height p.log_blowup m ≤ top) (matrices_of claims)
@@ -136,7 +145,9 @@ module _ {F E : Type 0} (f : Fields F E) (p : Parameters) where
       inputs_opened (claim ∷ claims) (ms ∷ rounds) [] are h t opened = absurd opened
       inputs_opened (claim ∷ claims) (ms ∷ rounds) (o ∷ os) are h t opened = (
         batch_opened claim ms o are.0 (each_left (IsHonest f p) ms (joined rounds) h)
-            (each_left (λ m. log_height p.log_blowup m ≤ top) claim.matrices (matrices_of claims) t) opened.0,
+            (each_left (λ m. log_height p.log_blowup m ≤ top) claim.matrices (matrices_of claims) t)
+                opened.0,
         inputs_opened claims rounds os are.1 (each_right (IsHonest f p) ms (joined rounds) h)
-            (each_right (λ m. log_height p.log_blowup m ≤ top) claim.matrices (matrices_of claims) t) opened.1,
+            (each_right (λ m. log_height p.log_blowup m ≤ top) claim.matrices
+                (matrices_of claims) t) opened.1,
       )

@@ -1,7 +1,8 @@
--- The claims of honest requests are those of honest matrices, and what is opened of the data is what
+-- The claims of honest requests are those of honest matrices, and what is opened of the data is
+-- what
 -- is opened of them.
-use Rattle.std.proofs.Common.{◌≡◌, ◌≢◌, ℕ, suc, ◌+◌, ◌-◌, ◌/◌, ◌^◌, ◌<◌, ◌≤◌, List, [], ◌∷◌, ◌++◌, map}
-use Rattle.std.proofs.Common.{length, get_or, refl, sym, ap, ap₂, ◌∙◌, arith, subst, inl, inr}
+use Rattle.std.proofs.Common.{◌≡◌, ◌≢◌, ℕ, suc, ◌+◌, ◌-◌, ◌/◌, ◌^◌, List, [], ◌∷◌, map}
+use Rattle.std.proofs.Common.{length, refl, sym, ap, ap₂, ◌∙◌, arith, subst, inl, inr}
 use Rattle.std.specs.List.{All, AllZip, flat_map, zip}
 use Rattle.std.proofs.lemmas.Bool.Decides.{leb_tells}
 use Rattle.std.proofs.lemmas.List.{length-map, length-append, nil_from_length}
@@ -13,9 +14,9 @@ use Rattle.p3_matrix.specs.declared.dense.RowMajorMatrix.{RowMajorMatrix}
 use Rattle.p3_matrix.specs.Matrix.{rows}
 use Rattle.p3_dft.specs.Evaluations.{column}
 use Rattle.p3_pcs.specs.Claims.{both, matrix_claims}
-use Rattle.p3_pcs.specs.Requests.{Request, honest_claim, honest_claims, FitDomains}
-use Rattle.p3_fri_relation.specs.Setting.{Fields, Parameters, CommitmentClaim, Opening, InputOpening}
-use Rattle.p3_fri_relation.specs.Setting.{final_height}
+use Rattle.p3_pcs.specs.Requests.{Request, honest_claims, FitDomains}
+use Rattle.p3_fri_relation.specs.Setting.{Fields, Parameters, CommitmentClaim, Opening}
+use Rattle.p3_fri_relation.specs.Setting.{InputOpening}
 use Rattle.p3_fri_openings.specs.Rounds.{log_height, HasCoset, ask}
 use Rattle.p3_fri_openings.specs.Refusals.{IsTallEnough, IsOff, HasPointsOff}
 use Rattle.p3_fri_openings.specs.Committed.{committed_values}
@@ -39,20 +40,24 @@ module _ {F E : Type 0} (f : Fields F E) (p : Parameters) where
     log_is = sym (log2_is (length (rows matrix)) (held.log_size + p.log_blowup) (sym held.height))
 
     -- a domain of the size that is held is that of the claim
-    claimed_size : (n : ℕ) → 2 ^ n ≡ length (rows matrix) / 2 ^ p.log_blowup → n + p.log_blowup ≡ log_height matrix
+    claimed_size : (n : ℕ) → 2 ^ n ≡ length (rows matrix) / 2 ^ p.log_blowup → n + p.log_blowup
+        ≡ log_height matrix
     claimed_size n e =
         let same = same_power n held.log_size
         (e ∙ ap (λ m. m / 2 ^ p.log_blowup) held.height ∙ pow-divided held.log_size p.log_blowup) in
         omega (arith, same, log_is)
 
     opened_word : (points : List E) → All (IsOff f (log_height matrix)) points
-        → IsOpenedWord f p.log_blowup (log_height matrix) (log_height matrix - p.log_blowup) (opened_honestly f p.log_blowup matrix points)
+        → IsOpenedWord f p.log_blowup (log_height matrix) (log_height matrix - p.log_blowup)
+            (opened_honestly f p.log_blowup matrix points)
     opened_word points off = record {
       height = held.height ∙ ap (λ n. 2 ^ n) (sym log_is);
       columns = λ j l.
           let e : held.log_size ≡ held.log_size + p.log_blowup - p.log_blowup = omega arith in
-          subst (λ n. IsCosetWord f.base f.root f.shift n (2 ^ (n - p.log_blowup)) (column f.base matrix j)) (sym log_is)
-          (subst (λ k. IsCosetWord f.base f.root f.shift (held.log_size + p.log_blowup) (2 ^ k) (column f.base matrix j)) e
+          subst (λ n. IsCosetWord f.base f.root f.shift n (2 ^ (n - p.log_blowup))
+              (column f.base matrix j)) (sym log_is)
+          (subst (λ k. IsCosetWord f.base f.root f.shift (held.log_size + p.log_blowup) (2 ^ k)
+              (column f.base matrix j)) e
           (held.columns j l));
       honest = All-map (λ z. z.values ≡ committed_values f p.log_blowup matrix z.point)
           (λ z. claim_at z (committed_values f p.log_blowup matrix z)) points (λ k d l. refl);
@@ -61,7 +66,8 @@ module _ {F E : Type 0} (f : Fields F E) (p : Parameters) where
     }
 
     -- it is opened honestly
-    honest_matrix : (points : List E) → HasCoset f.two_adicity matrix → IsTallEnough p (log_height matrix)
+    honest_matrix : (points : List E) → HasCoset f.two_adicity matrix → IsTallEnough p
+        (log_height matrix)
         → points ≢ [] → All (IsOff f (log_height matrix)) points
         → IsHonest f p (opened_honestly f p.log_blowup matrix points)
     honest_matrix points coset tall some off = record {
@@ -71,7 +77,8 @@ module _ {F E : Type 0} (f : Fields F E) (p : Parameters) where
       ];
       within_two_adicity = coset.within;
       some_point = λ none. some (nil_from_length points
-          (sym (length-map points (λ z. claim_at z (committed_values f p.log_blowup matrix z))) ∙ ap length none));
+          (sym (length-map points (λ z. claim_at z (committed_values f p.log_blowup matrix z)))
+              ∙ ap length none));
       word = opened_word points off;
     }
 
@@ -92,13 +99,15 @@ module _ {F E : Type 0} (f : Fields F E) (p : Parameters) where
       → length (both (opened_honestly f p.log_blowup) ms lists) ≡ length ms
   count_in [] lists count = refl
   count_in (m ∷ ms) [] count = omega (arith, count)
-  count_in (m ∷ ms) (points ∷ lists) count = ap (λ n. suc n) (count_in ms lists (omega (arith, count)))
+  count_in (m ∷ ms) (points ∷ lists) count = ap (λ n. suc n)
+      (count_in ms lists (omega (arith, count)))
 
   matrices_same : (ms : List (RowMajorMatrix F)) (lists : List (List E)) → length lists ≡ length ms
       → matrices_in (both (opened_honestly f p.log_blowup) ms lists) ≡ ms
   matrices_same [] lists count = refl
   matrices_same (m ∷ ms) [] count = absurd (omega (arith, count))
-  matrices_same (m ∷ ms) (points ∷ lists) count = ap (λ rest. m ∷ rest) (matrices_same ms lists (omega (arith, count)))
+  matrices_same (m ∷ ms) (points ∷ lists) count = ap (λ rest. m ∷ rest)
+      (matrices_same ms lists (omega (arith, count)))
 
   -- the claims at the points of a matrix
   points_same : (matrix : RowMajorMatrix F) (points : List E)
@@ -107,7 +116,8 @@ module _ {F E : Type 0} (f : Fields F E) (p : Parameters) where
       ≡ map (λ z. claim_at z (committed_values f p.log_blowup matrix z)) points
   points_same matrix [] = refl
   points_same matrix (z ∷ points) =
-      ap (λ rest. claim_at z (committed_values f p.log_blowup matrix z) ∷ rest) (points_same matrix points)
+      ap (λ rest. claim_at z (committed_values f p.log_blowup matrix z) ∷ rest)
+          (points_same matrix points)
 
   module _ {Domain : Type 0} (log_size : Domain → ℕ) where
     -- those of a request's matrices are claims of them
@@ -123,11 +133,13 @@ module _ {F E : Type 0} (f : Fields F E) (p : Parameters) where
     claims_in (d ∷ domains) [] lists fit count held = absurd cc
     claims_in (d ∷ domains) (m ∷ ms) [] fit count held = absurd (omega (arith, count))
     claims_in (d ∷ domains) (m ∷ ms) (points ∷ lists) fit count held = (
-      record { height = claimed_size m held.0 (log_size d) (head_eq fit); points = points_same m points },
+      record { height = claimed_size m held.0 (log_size d) (head_eq fit); points = points_same m
+          points },
       claims_in domains ms lists (tail_eq fit) (omega (arith, count)) held.1,
     )
 
-module _ {F E D Com Domain : Type 0} (f : Fields F E) (p : Parameters) (committed : D → List (RowMajorMatrix F))
+module _ {F E D Com Domain : Type 0} (f : Fields F E) (p : Parameters)
+    (committed : D → List (RowMajorMatrix F))
     (commitment_of : D → Com) (log_size : Domain → ℕ) where
   abbrev Honest : Request D E → Type 0
   Honest = IsHonestRequest f committed p
@@ -137,10 +149,12 @@ module _ {F E D Com Domain : Type 0} (f : Fields F E) (p : Parameters) (committe
 
   abbrev claims_of : List (List Domain) → List (Request D E) → List (CommitmentClaim E Com)
   claims_of domains requests =
-      relation_claims log_size (honest_claims (held_of f committed p.log_blowup) commitment_of domains requests)
+      relation_claims log_size
+          (honest_claims (held_of f committed p.log_blowup) commitment_of domains requests)
 
   abbrev pub Fit : List (List Domain) → List (Request D E) → Type 0
-  Fit domains requests = FitDomains (held_of f committed p.log_blowup) (λ d. 2 ^ log_size d) domains requests
+  Fit domains requests = FitDomains (held_of f committed p.log_blowup)
+      (λ d. 2 ^ log_size d) domains requests
 
   -- the claims of honest requests are those of what is opened
   pub requests_claimed : (domains : List (List Domain)) (requests : List (Request D E))
@@ -169,7 +183,8 @@ module _ {F E D Com Domain : Type 0} (f : Fields F E) (p : Parameters) (committe
       → Each (IsHonest f p) (joined (rounds_of requests))
   requests_honest [] h = tt
   requests_honest (r ∷ requests) h =
-      each_joined (IsHonest f p) (round_opened f committed p.log_blowup r) (joined (rounds_of requests))
+      each_joined (IsHonest f p) (round_opened f committed p.log_blowup r)
+          (joined (rounds_of requests))
       (honest_in f p (committed r.datum) r.points h.0.lists_of_points
       (each_from_All (λ points. points ≢ []) r.points h.0.some_point)
       (each_from_All (HasCoset f.two_adicity) (committed r.datum) h.0.cosets)
@@ -180,7 +195,8 @@ module _ {F E D Com Domain : Type 0} (f : Fields F E) (p : Parameters) (committe
 
   -- some matrix is
   opened_count : (requests : List (Request D E)) → Each Honest requests
-      → length (joined (rounds_of requests)) ≡ length (flat_map (λ r. held_of f committed p.log_blowup r.datum) requests)
+      → length (joined (rounds_of requests)) ≡ length (flat_map
+          (λ r. held_of f committed p.log_blowup r.datum) requests)
   opened_count [] h = refl
   opened_count (r ∷ requests) h =
       length-append (round_opened f committed p.log_blowup r) (joined (rounds_of requests))

@@ -1,5 +1,5 @@
 -- What is opened of honest requests is accepted of their honest claims.
-use Rattle.std.proofs.Common.{◌≡◌, ◌≢◌, ℕ, suc, ◌+◌, ◌-◌, ◌<◌, ◌≤◌, List, [], ◌∷◌, map}
+use Rattle.std.proofs.Common.{◌≡◌, ◌≢◌, ℕ, suc, ◌+◌, ◌<◌, ◌≤◌, List, [], map}
 use Rattle.std.proofs.Common.{length, sym, ap, ◌∙◌, arith, subst}
 use Rattle.std.specs.Prelude.{IsTrue}
 use Rattle.std.specs.List.{All, AllZip, flat_map}
@@ -9,12 +9,11 @@ use Rattle.p3_matrix.specs.declared.dense.RowMajorMatrix.{RowMajorMatrix}
 use Rattle.p3_pcs.specs.Requests.{Request, honest_claims}
 use Rattle.p3_fri_folding.specs.Schedule.{tallest}
 use Rattle.p3_fri_pcs_transcript.specs.Replay.{BatchReplay}
-use Rattle.p3_fri_relation.specs.Setting.{Setting, Parameters, CommitmentClaim, Proof, InputOpening}
+use Rattle.p3_fri_relation.specs.Setting.{Setting, Parameters, CommitmentClaim, Proof}
 use Rattle.p3_fri_relation.specs.Heights.{matrices_of}
 use Rattle.p3_fri_relation.specs.Heights.{log_height as claimed_height}
 use Rattle.p3_fri_relation.specs.Acceptance.{top_height, test_replay, batch_replayed, Accepts}
 use Rattle.p3_fri_relation.proofs.ClaimedHeights.{heights_of-tallest}
-use Rattle.p3_fri_openings.specs.Rounds.{log_height}
 use Rattle.p3_fri_batch.specs.Words.{Opened, batch_word}
 use Rattle.p3_fri_batch.specs.Heights.{heights_below}
 use Rattle.p3_fri_batch.specs.Claimed.{AreClaimsOf}
@@ -23,7 +22,8 @@ use Rattle.p3_fri_prover.specs.Openings.{OpensBatch}
 use Rattle.p3_fri_prover.specs.Proved.{positions, IsProved}
 use Rattle.p3_fri_completeness.specs.Honest.{AreTwoAdic, DrawsFit, IsHonest, IsHonestlyOpened}
 use Rattle.p3_fri_completeness.specs.Honest.{heights_claimed, words_claimed}
-use Rattle.p3_fri_completeness.specs.Requests.{relation_claims, held_of, round_opened, IsHonestRequest}
+use Rattle.p3_fri_completeness.specs.Requests.{relation_claims, held_of, round_opened}
+use Rattle.p3_fri_completeness.specs.Requests.{IsHonestRequest}
 use Rattle.p3_fri_completeness.proofs.Claims.{each_claimed}
 use Rattle.p3_fri_completeness.proofs.Inputs.{greatest_within}
 use Rattle.p3_fri_completeness.proofs.Accepted.{honest_opening_accepted, honest_state}
@@ -83,7 +83,8 @@ module _ {F E D C Com Path InCom InPath Domain : Type 0} (s : Setting F E C Com 
     each = each_from_All (IsHonestRequest s.fields committed p) requests requests_are
 
     are : AreClaimsOf b claims opened
-    are = requests_claimed s.fields p committed commitment_of log_size domains requests domains_fit each
+    are = requests_claimed s.fields p committed commitment_of log_size domains requests domains_fit
+        each
 
     honest : Each (IsHonest s.fields p) (joined opened)
     honest = requests_honest s.fields p committed commitment_of log_size requests each
@@ -107,18 +108,21 @@ module _ {F E D C Com Path InCom InPath Domain : Type 0} (s : Setting F E C Com 
     claimed_run = moved heights (heights_claimed p claims opened) top (top_height p claims) words
         (words_claimed p claims opened s.fields before.alpha) (length requests) (length claims)
         heights_same top_same words_same
-        (sym (requests_counted s.fields p committed commitment_of log_size domains requests domains_fit)) run
+        (sym (requests_counted s.fields p committed commitment_of log_size domains requests
+            domains_fit)) run
 
     opened_honestly : IsHonestlyOpened s p claims opened before.alpha before.state proof last
     opened_honestly = record {
       some_query = some_query;
       some_blowup = some_blowup;
       some_arity = some_arity;
-      some_matrix = some_opened s.fields p committed commitment_of log_size requests each some_matrix;
+      some_matrix = some_opened s.fields p committed commitment_of log_size requests each
+          some_matrix;
       honest = all_honest;
       claimed = are;
       proved = claimed_run.0;
-      inputs = requests_opened s.fields p committed commitment_of log_size s.opens_input (top_height p claims)
+      inputs = requests_opened s.fields p committed commitment_of log_size s.opens_input
+          (top_height p claims)
           (positions s p (heights_claimed p claims opened) (top_height p claims)
           (words_claimed p claims opened s.fields before.alpha) before.state proof)
           domains requests proof.inputs domains_fit each claimed_run.1;
@@ -126,7 +130,8 @@ module _ {F E D C Com Path InCom InPath Domain : Type 0} (s : Setting F E C Com 
     }
 
     top_within : top_height p claims ≤ s.fields.two_adicity
-    top_within = greatest_within s.fields p s.fields.two_adicity 0 (matrices_of claims) (omega arith)
+    top_within = greatest_within s.fields p s.fields.two_adicity 0 (matrices_of claims)
+        (omega arith)
         (each_claimed b (IsHonest s.fields p) (λ m. claimed_height b m ≤ s.fields.two_adicity)
         (λ claim m is h. subst (λ n. n ≤ s.fields.two_adicity) (sym is.height) h.within_two_adicity)
         claims opened are honest)
@@ -136,9 +141,11 @@ module _ {F E D C Com Path InCom InPath Domain : Type 0} (s : Setting F E C Com 
 
     -- the scheme accepts the honest claims
     pub requests_accepted : Accepts s p claims proof c
-    requests_accepted = honest_opening_accepted s p claims opened c proof last laws fits passes opened_honestly
+    requests_accepted = honest_opening_accepted s p claims opened c proof last laws fits passes
+        opened_honestly
 
     -- and a verifier is left in the prover's last state
     pub requests_last_state : (test_replay s p claims proof before.state).state ≡ last
     requests_last_state =
-        honest_state s p claims opened before.alpha before.state proof last laws fits opened_honestly
+        honest_state s p claims opened before.alpha before.state proof last laws fits
+            opened_honestly

@@ -1,2 +1,3 @@
 pub mod Honest
 pub mod Requests
+pub mod Laws

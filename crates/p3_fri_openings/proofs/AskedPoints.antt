@@ -1,9 +1,11 @@
 -- The points at which matrices are opened, and the tallest matrix at each.
-use Rattle.std.proofs.Common.{◌≡◌, ℕ, zero, suc, ◌+◌, ◌<◌, ◌≤◌, List, [], ◌∷◌, take, length, map, get_or, All, Contains}
+use Rattle.std.proofs.Common.{◌≡◌, ℕ, zero, suc, ◌+◌, ◌<◌, ◌≤◌, List, [], ◌∷◌, take, length, map}
+use Rattle.std.proofs.Common.{get_or, All, Contains}
 use Rattle.std.proofs.Common.{refl, sym, ap₂, ◌∙◌, arith}
 use Rattle.std.proofs.lemmas.Nat.{pow_pos}
 use Rattle.std.proofs.lemmas.List.{length-map, get_or_default}
-use Rattle.std.proofs.lemmas.List.Elements.{All-nil, All-head, All-tail, All-cons, All-map, All-weaker, All-contains}
+use Rattle.std.proofs.lemmas.List.Elements.{All-nil, All-head, All-tail, All-cons, All-map}
+use Rattle.std.proofs.lemmas.List.Elements.{All-weaker, All-contains}
 use Rattle.algebra.specs.Nested.{lists}
 use Rattle.p3_matrix.specs.declared.dense.RowMajorMatrix.{RowMajorMatrix}
 use Rattle.p3_matrix.specs.Matrix.{rows}
@@ -24,12 +26,14 @@ use Rattle.p3_fri_openings.proofs.Pushed.{all_joined}
 
 module _ {F E : Type 0} where
   -- what holds of the matrices
-  pub all_asked : (P : RowMajorMatrix F → Type 0) (matrices : List (RowMajorMatrix F)) (points : List (List E))
+  pub all_asked : (P : RowMajorMatrix F → Type 0) (matrices : List (RowMajorMatrix F))
+      (points : List (List E))
       → All P matrices → All (λ a. P a.matrix) (both ask matrices points)
   all_asked P [] points h = All-nil (λ (a : Asked F E). P a.matrix)
   all_asked P (m ∷ matrices) [] h = All-nil (λ (a : Asked F E). P a.matrix)
   all_asked P (m ∷ matrices) (zs ∷ points) h =
-      All-cons (λ (a : Asked F E). P a.matrix) (ask m zs) (both ask matrices points) (All-head P m matrices h)
+      All-cons (λ (a : Asked F E). P a.matrix) (ask m zs) (both ask matrices points)
+      (All-head P m matrices h)
       (all_asked P matrices points (All-tail P m matrices h))
 
 -- two properties of each element
@@ -38,7 +42,8 @@ pub all_two : {A : Type 0} (P Q R : A → Type 0) (xs : List A) → ((x : A) →
 all_two P Q R xs g p q = λ k d l. g (get_or xs k d) (p k d l) (q k d l)
 
 module _ {F E : Type 0} (f : Fields F E) (coset : List F) where
-  served : (n : ℕ) (z : E) (matrix : RowMajorMatrix F) → n ≡ length (rows matrix) → HasCoset f.two_adicity matrix
+  served : (n : ℕ) (z : E) (matrix : RowMajorMatrix F) → n ≡ length (rows matrix)
+      → HasCoset f.two_adicity matrix
       → StartsWith coset (coset_of f n) → IsOff f (log_height matrix) z
       → HasDenominators f coset (asked_point n z)
   served n z matrix e h start off = record {
@@ -63,19 +68,24 @@ module _ {F E : Type 0} (f : Fields F E) (coset : List F) where
           → All (HasDenominators f coset) (points_of a)
       of_asked a h start off =
           All-map (HasDenominators f coset) (asked_point (length (rows a.matrix))) a.points
-          (All-weaker (IsOff f (log_height a.matrix)) (λ z. HasDenominators f coset (asked_point (length (rows a.matrix)) z))
+          (All-weaker (IsOff f (log_height a.matrix))
+          (λ z. HasDenominators f coset (asked_point (length (rows a.matrix)) z))
           (λ z. served (length (rows a.matrix)) z a.matrix refl h start) a.points off)
 
-      of_round : (r : OpeningRound F E) → IsRound f.two_adicity r → ArePointsOff f r → HoldsCosets f coset r
+      of_round : (r : OpeningRound F E) → IsRound f.two_adicity r → ArePointsOff f r
+          → HoldsCosets f coset r
           → All (λ a. All (HasDenominators f coset) (points_of a)) (asked_in r)
       of_round r right off starts k d l =
           of_asked (get_or (asked_in r) k d)
-          (all_asked (HasCoset f.two_adicity) r.matrices.now (lists r.points.now) right.cosets k d l)
-          (all_asked (λ m. StartsWith coset (coset_of f (length (rows m)))) r.matrices.now (lists r.points.now) starts k d l)
+          (all_asked (HasCoset f.two_adicity) r.matrices.now
+          (lists r.points.now) right.cosets k d l)
+          (all_asked (λ m. StartsWith coset (coset_of f (length (rows m)))) r.matrices.now
+          (lists r.points.now) starts k d l)
           (off k d l)
 
   -- the tallest matrix at a point that is asked
-  pub tallest_is : (asked : List (AskedPoint E)) (z : E) (n : ℕ) → All (HasDenominators f coset) asked
+  pub tallest_is : (asked : List (AskedPoint E)) (z : E) (n : ℕ)
+      → All (HasDenominators f coset) asked
       → Contains (map (λ a. a.point) asked) z → All (λ a. a.point ≡ z → a.height ≤ n) asked
       → (0 < n → Contains asked (asked_point n z)) → IsTallest asked z n
   tallest_is asked z n right there above attained = record {
@@ -84,7 +94,8 @@ module _ {F E : Type 0} (f : Fields F E) (coset : List F) where
   }
     where
       positive : (asked : List (AskedPoint E)) → All (HasDenominators f coset) asked
-          → Contains (map (λ a. a.point) asked) z → All (λ a. a.point ≡ z → a.height ≤ n) asked → 0 < n
+          → Contains (map (λ a. a.point) asked) z → All (λ a. a.point ≡ z → a.height ≤ n) asked
+          → 0 < n
       positive [] right there above = absurd (let w = there.1 in omega (arith, w))
       positive (a ∷ asked) right (zero, w, e) above =
           let h = All-head (HasDenominators f coset) a asked right in
@@ -95,14 +106,16 @@ module _ {F E : Type 0} (f : Fields F E) (coset : List F) where
           positive asked (All-tail (HasDenominators f coset) a asked right) (k, omega (arith, w), e)
           (All-tail (λ a. a.point ≡ z → a.height ≤ n) a asked above)
 
-  pub tallest_served : (asked : List (AskedPoint E)) (z : E) (n : ℕ) → All (HasDenominators f coset) asked
+  pub tallest_served : (asked : List (AskedPoint E)) (z : E) (n : ℕ)
+      → All (HasDenominators f coset) asked
       → IsTallest asked z n → HasDenominators f coset (asked_point n z)
   tallest_served asked z n right tallest =
       All-contains (HasDenominators f coset) asked (asked_point n z) right tallest.asked_there
 
 module _ {E : Type 0} where
   -- one more point is gone through
-  pub above_next : (asked : List (AskedPoint E)) (z : E) (i : ℕ) (a : AskedPoint E) (own old new : ℕ)
+  pub above_next : (asked : List (AskedPoint E)) (z : E) (i : ℕ) (a : AskedPoint E)
+      (own old new : ℕ)
       → i < length asked → a ≡ get_or asked i a → old ≤ new → own ≤ new
       → (a.point ≡ z → own ≡ a.height) → All (λ a. a.point ≡ z → a.height ≤ old) (take i asked)
       → All (λ a. a.point ≡ z → a.height ≤ new) (take (i + 1) asked)

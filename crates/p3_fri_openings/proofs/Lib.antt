@@ -10,4 +10,5 @@ pub mod Tables
 pub mod Pushed
 pub mod AskedPoints
 pub mod RoundTables
+pub mod RequestRounds
 pub mod Example

@@ -7,7 +7,7 @@ use Rattle.std.specs.Vec.{vec_len}
 use Rattle.std.proofs.Math.Pow.{pow_mono}
 use Rattle.algebra.specs.Nested.{lists}
 use Rattle.p3_matrix.specs.declared.dense.RowMajorMatrix.{RowMajorMatrix}
-use Rattle.p3_challenger.specs.Run.{Moves}
+use Rattle.p3_challenger.specs.Run.{After, Moves}
 use Rattle.p3_fri_steps.specs.declared.error.FriProverError.{FriProverError}
 use Rattle.p3_fri_steps.specs.declared.error.FriProverError.TheVariants as Why
 use Rattle.p3_fri_steps.specs.declared.pow_phase.PowPhase.TheVariants.{Batch, CommitPhase, Query}
@@ -23,6 +23,12 @@ use Rattle.p3_fri_prover.specs.Played.{CanPlay, AllCommitted, IsPlayed, PlayRefu
 use Rattle.p3_fri_prover.specs.Played.{polynomial_of}
 use Rattle.p3_fri_prover.proofs.Committed.{word_so_far}
 use Rattle.p3_fri_prover.proofs.Lists.{list_at}
+
+-- where no witness passes, there are bits
+bits_asked : {C W : Type 0} (observe : C → W → C) (draw_bits : C → ℕ → After C ℕ) (c : C)
+    (bits : ℕ) (witness : W) → NonePasses observe draw_bits c bits → 0 < bits
+bits_asked observe draw_bits c zero witness none = absurd (none witness refl)
+bits_asked observe draw_bits c (suc bits) witness none = omega arith
 
 pub lists_removed : {E A : Type 0} (vectors : List (Vec E A)) (k : ℕ)
     → lists (remove vectors k) ≡ remove (lists vectors) k
@@ -88,9 +94,14 @@ module _ {E A : Type 0} (inputs others : List (Vec E A)) (first : Vec E A)
         let P : List (List E) → List E → List ℕ → Type 0 =
         λ words ys as'. NoRoundWitness committed commitment_of m numbers.commit_pow_bits
         fields.base.zero fields.ext fold (λ k. of_length words (2 ^ k)) top ys seeded as' in
-        subst (P (remove (lists inputs) 0) (get_or (lists inputs) 0 [])) scheduled
-        (subst (λ ys. P (remove (lists inputs) 0) ys arities) (sym first_listed)
-        (subst (λ words. P words first.items arities) others_listed none))
+        let refused = none.refused in (
+          bits_asked m.observe_value m.draw_bits
+              (m.observe_commitment none.reached refused.commitment) numbers.commit_pow_bits
+              fields.base.zero refused.none_passes,
+          subst (P (remove (lists inputs) 0) (get_or (lists inputs) 0 [])) scheduled
+              (subst (λ ys. P (remove (lists inputs) 0) ys arities) (sym first_listed)
+              (subst (λ words. P words first.items arities) others_listed none)),
+        )
 
     -- what is left of the first input is long enough for the final polynomial
     pub last_word_long : (height : ℕ) → top ≡ height + sum arities → l ≤ height
@@ -144,16 +155,23 @@ module _ {F E C Com Data : Type 0} (committed : Data → List (RowMajorMatrix E)
       let N : List E → FriNumbers → Type 0 =
       λ poly n. NonePasses m.observe_value m.draw_bits
       (polynomial_observed m.observe_value fields.coefficients reached poly) n.query_pow_bits in
-      subst P (sym is) (record {
-        commitments = commitments;
-        witnesses = witnesses;
-        kept = kept;
-        word = word;
-        reached = reached;
-        rounds = rounds;
-        none_passes = subst (λ poly. N poly numbers) is_polynomial
-            (subst (λ n. N final_poly n) same (none is));
-      })
+      let none_passes = subst (λ poly. N poly numbers) is_polynomial
+      (subst (λ n. N final_poly n) same (none is)) in
+      subst P (sym is) (
+        bits_asked m.observe_value m.draw_bits
+            (polynomial_observed m.observe_value fields.coefficients reached
+            (polynomial_of committed commitment_of fields fold m l numbers top words seeded word))
+            numbers.query_pow_bits fields.base.zero none_passes,
+        record {
+          commitments = commitments;
+          witnesses = witnesses;
+          kept = kept;
+          word = word;
+          reached = reached;
+          rounds = rounds;
+          none_passes = none_passes;
+        },
+      )
   queries_stop final_poly own e is_polynomial same (inr is) none =
       let P : FriProverError → Type 0 =
       λ x. PlayRefusal committed commitment_of fields fold m l numbers top words seeded x in

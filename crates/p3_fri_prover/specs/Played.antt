@@ -1,5 +1,5 @@
 -- What a prover leaves once it has played all of a test's transcript, and why it stops before.
-use Rattle.std.specs.Prelude.{◌≡◌, ℕ, ◌+◌, ◌^◌, ◌≤◌, true, List, [], remove, sum, Some}
+use Rattle.std.specs.Prelude.{◌≡◌, ℕ, ◌+◌, ◌^◌, ◌<◌, ◌≤◌, true, List, [], remove, sum, Some}
 use Rattle.std.specs.Prelude.{Option, slice_index_or, ⊤}
 use Rattle.algebra.specs.Rounds.{final_polynomial}
 use Rattle.p3_matrix.specs.declared.dense.RowMajorMatrix.{RowMajorMatrix}
@@ -75,11 +75,12 @@ module _ {F E C Com Data : Type 0} (committed : Data → List (RowMajorMatrix E)
         (polynomial_observed m.observe_value fields.coefficients reached (polynomial_of word))
         numbers.query_pow_bits
 
-  -- why it wasn't played to the end
+  -- why it wasn't played to the end: a proof of work was asked for, and no witness passes, or for
+  -- want of memory
   abbrev pub PlayRefusal : FriProverError → Type 0
-  PlayRefusal (NoPowWitness CommitPhase) =
-      NoRoundWitness committed commitment_of m numbers.commit_pow_bits fields.base.zero fields.ext
-      fold further_words top first_word seeded numbers.log_arities
-  PlayRefusal (NoPowWitness Query) = NoQueryWitness
+  PlayRefusal (NoPowWitness CommitPhase) = (0 < numbers.commit_pow_bits)
+      × NoRoundWitness committed commitment_of m numbers.commit_pow_bits fields.base.zero
+      fields.ext fold further_words top first_word seeded numbers.log_arities
+  PlayRefusal (NoPowWitness Query) = (0 < numbers.query_pow_bits) × NoQueryWitness
   PlayRefusal OutOfMemory = ⊤
   PlayRefusal _ = ⊥

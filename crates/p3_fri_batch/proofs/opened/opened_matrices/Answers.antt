@@ -3,8 +3,9 @@ use Rattle.std.proofs.lemmas.List.{length-map, take_all}
 use Rattle.algebra.specs.Nested.{nested, joined}
 use Rattle.p3_pcs.specs.Claims.{opened_values}
 use Rattle.p3_pcs.proofs.Zipped.{entry_of_map, entry_of_both, within_both, length_of_both}
+use Rattle.p3_fri_openings.specs.Denominators.{ArePointsCovered}
 use Rattle.p3_fri_openings.proofs.First.{at_item}
-use Rattle.p3_fri_batch.specs.Rounds.{HaveValues, ArePointsCovered, opened_in, opened_by_round}
+use Rattle.p3_fri_batch.specs.Rounds.{HaveValues, opened_in, opened_by_round}
 use Rattle.p3_fri_batch.proofs.Collected.{all_zip_at, all_zip_length, joined_more}
 use Rattle.p3_fri_batch.proofs.opened.opened_matrices.Goals as goal
 
@@ -35,12 +36,6 @@ push_round-requires-clause-values g c =
     c.requires.values one c.index-rounds-index.is
     (entry_of_map (λ v. nested v.items) c.args.values.now i vs two c.index-values-index.is))
 
-pub push_round-requires-clause-covered : goal.push_round-requires-clause-covered
-push_round-requires-clause-covered g c =
-    let one : c.loop-index.index < length c.args.rounds.now = omega arith in
-    at_item (ArePointsCovered c.args.table.now) c.args.rounds.now c.loop-index.index c.index-rounds-index.result
-    one c.index-rounds-index.is c.requires.covered
-
 pub loop-index-preserved : goal.loop-index-preserved
 loop-index-preserved g c =
     let i = c.loop-index.index in
@@ -58,7 +53,9 @@ loop-index-preserved g c =
           ∙ sym (joined_more (opened_by_round rounds values) i part (within_both opened_in rounds values i one three)
           (entry_of_both opened_in rounds values i round (nested vs.items) one three c.index-rounds-index.is
           (entry_of_map (λ v. nested v.items) c.args.values.now i vs two c.index-values-index.is)));
-      ready = c.in_ok-push_round.ensures.ready;
+      ready = λ table covered. c.in_ok-push_round.ensures.ready table
+          (at_item (ArePointsCovered table) rounds i round one c.index-rounds-index.is covered)
+          (c.loop-index.invariant.ready table covered);
     }
 
 pub returns-clause-opened : goal.returns-clause-opened

@@ -53,10 +53,10 @@ loop-index-preserved g c =
           m z y same_points same_values
           c.loop-index.opened.items c.push.new.self.items (map as_opened c.args.opened.now.items)
           c.in_ok-push.ensures.items c.loop-index.invariant.opened;
-      ready = ready_more matrices points values i one two three _ zs.items (lists ys.items)
+      ready = λ table covered before. ready_more matrices points values i one two three _ zs.items (lists ys.items)
           m z y same_points same_values
-          g.F.TwoAdicField.TWO_ADICITY c.args.table.now c.loop-index.opened.items c.push.new.self.items
-          c.in_ok-push.ensures.items c.loop-index.invariant.ready c.requires.round.cosets c.requires.values c.requires.covered;
+          g.F.TwoAdicField.TWO_ADICITY table c.loop-index.opened.items c.push.new.self.items
+          c.in_ok-push.ensures.items (c.loop-index.invariant.ready table covered before) c.requires.round.cosets c.requires.values covered;
     }
 
 pub returns-clause-opened : goal.returns-clause-opened

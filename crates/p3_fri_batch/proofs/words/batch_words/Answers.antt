@@ -1,13 +1,18 @@
-use Rattle.std.proofs.Common.{◌≡◌, ◌-◌, ◌++◌, ◌∷◌, [], ℕ, suc, List, cond, map, ap, sym, ◌∙◌, arith}
+use Rattle.std.proofs.Common.{◌≡◌, ◌-◌, ◌++◌, ◌∷◌, [], ℕ, suc, List, cond, map, All, subst, ap, sym, ◌∙◌, arith}
 use Rattle.std.proofs.lemmas.List.{append-nil}
 use Rattle.algebra.specs.Nested.{lists}
 use Rattle.p3_pcs.specs.Claims.{opened_values}
 use Rattle.p3_fri_relation.specs.Setting.{Fields}
 use Rattle.p3_fri_batch.specs.Heights.{has_height, heights_below}
 use Rattle.p3_fri_batch.specs.Words.{Opened, batch_word}
-use Rattle.p3_fri_batch.specs.Rounds.{as_opened, opened_of}
+use Rattle.p3_fri_batch.specs.Rounds.{IsReady, as_opened, opened_of}
 use Rattle.p3_fri_batch.proofs.Heights.{words_more}
 use Rattle.p3_fri_batch.proofs.words.batch_words.Goals as goal
+
+pub push_word-requires-clause-ready : goal.push_word-requires-clause-ready
+push_word-requires-clause-ready g c =
+    subst (λ os. All (IsReady g.F.TwoAdicField.TWO_ADICITY c.args.table.now) os)
+    (sym c.deref-in-loop-log_height.ensures.value) (c.in_ok-matrices.ensures.ready c.args.table.now c.requires.covered)
 
 pub loop-log_height-preserved : goal.loop-log_height-preserved
 loop-log_height-preserved g c =

@@ -55,11 +55,12 @@ returns g c =
     c.tallest_at-height.ensures.none_above c.tallest_at-height.ensures.asked_there in
     let served = tallest_served f c.args.coset.now asked z h c.requires.asked tall in
     let none : Contains (points_of_table old) z → ⊥ = λ there.
-    true≢false (sym (c.has_entry.ensures.1 (subst (λ es. Contains (points_of_table es) z) (sym c.deref.ensures.value) there))
+    true≢false (sym (c.has_entry.ensures.1
+    (subst (λ es. Contains (points_of_table es) z) (sym c.deref.ensures.value) there))
     ∙ c.if-has_entry.false) in
     record {
-      table = table_more f asked c.args.coset.now old news entry z h c.requires.table none tall served
-          known.point known.inverses c.in_ok-push.ensures.items;
+      table = table_more f asked c.args.coset.now old news entry z h c.requires.table none
+          tall served known.point known.inverses c.in_ok-push.ensures.items;
       point = entry_added old news entry z c.in_ok-push.ensures.items known.point;
       others = entries_kept old news entry c.in_ok-push.ensures.items;
     }

@@ -20,7 +20,8 @@ entries_for-requires g c =
     } in
     subst (λ ps. All (HasDenominators f c.deref.result.now) ps)
     (sym (c.deref-2.ensures.value ∙ c.in_ok-asked.ensures))
-    (subst (λ xs. All (HasDenominators f xs) (asked_points c.args.rounds.now)) (sym c.deref.ensures.value)
+    (subst (λ xs. All (HasDenominators f xs) (asked_points c.args.rounds.now))
+    (sym c.deref.ensures.value)
     (all_served f c.in_ok-coset.coset.items c.args.rounds.now c.requires.rounds c.requires.off
     c.in_ok-coset.ensures))
 
@@ -43,7 +44,8 @@ returns-clause-covered g c =
     let table = c.in_ok-entries.entries.items in
     all_covered f c.args.rounds.now table
     (subst (λ ps. IsTableFor f ps table) e c.in_ok-entries.ensures.table)
-    (subst (λ ps. All (λ a. Contains (points_of_table table) a.point) ps) e c.in_ok-entries.ensures.each_point)
+    (subst (λ ps. All (λ a. Contains (points_of_table table) a.point) ps) e
+    c.in_ok-entries.ensures.each_point)
 
 pub returns-clause-each_point_once : goal.returns-clause-each_point_once
 returns-clause-each_point_once g c = c.in_ok-entries.ensures.table.distinct

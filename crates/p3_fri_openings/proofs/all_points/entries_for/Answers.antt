@@ -51,5 +51,6 @@ returns-clause-table g c = c.loop-matrix.invariant.table
 
 pub returns-clause-each_point : goal.returns-clause-each_point
 returns-clause-each_point g c =
-    to_the_end (λ a. Contains (points_of_table c.loop-matrix.entries.items) a.point) c.args.asked.now
+    to_the_end (λ a. Contains (points_of_table c.loop-matrix.entries.items) a.point)
+    c.args.asked.now
     c.loop-matrix.matrix-index c.loop-matrix-test.false c.loop-matrix.invariant.each_point

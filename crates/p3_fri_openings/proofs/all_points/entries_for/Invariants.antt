@@ -17,5 +17,6 @@ invariant-loop-matrix g l =
     } in
     record {
       table : IsTableFor f l.asked l.entries.items;
-      each_point : All (λ a. Contains (points_of_table l.entries.items) a.point) (take l.matrix-index l.asked);
+      each_point : All (λ a. Contains (points_of_table l.entries.items) a.point)
+          (take l.matrix-index l.asked);
     }

@@ -19,6 +19,7 @@ returns g c =
     } in
     let top = c.greatest_log_height.result in
     same_of_ok c.bit_reversed_points.result _ _ c.bit_reversed_points.ensures (λ points e.
-    holds_cosets f g.met.F.Field.laws g.met.F.TwoAdicField.roots_law top c.greatest_log_height.ensures.within
+    holds_cosets f g.met.F.Field.laws g.met.F.TwoAdicField.roots_law top
+    c.greatest_log_height.ensures.within
     points.items (e ∙ ap (λ s. bit_reversed_points f.base (f.root top) s top) c.GENERATOR.ensures)
     c.args.rounds.now c.requires.rounds c.greatest_log_height.ensures.greatest)

@@ -6,7 +6,8 @@ use Rattle.p3_fri_openings.proofs.all_points.greatest_log_height.Goals as goal
 
 pub greatest_log_height_of-requires : goal.greatest_log_height_of-requires
 greatest_log_height_of-requires g c =
-    let round = at_item (IsRound g.F.TwoAdicField.TWO_ADICITY) c.args.rounds.now c.loop-round.round-index
+    let round = at_item (IsRound g.F.TwoAdicField.TWO_ADICITY) c.args.rounds.now
+    c.loop-round.round-index
     c.round-item.result c.loop-round-test.true c.round-item.is c.requires.rounds in
     record { cosets = round.cosets }
 
@@ -18,12 +19,20 @@ loop-round-preserved g c =
       greatest = weaker_next (λ r. All (λ m. log_height m ≤ old) r.matrices.now)
           (λ r. All (λ m. log_height m ≤ new) r.matrices.now) c.args.rounds.now
           c.loop-round.round-index c.round-item.result c.loop-round-test.true c.round-item.is
-          (λ r h k d l. let b = h k d l in omega (arith, b, c.max-greatest.ensures)) c.loop-round.invariant.greatest
-          (λ k d l. let b = c.greatest_log_height_of.ensures.greatest k d l in omega (arith, b, c.max-greatest.ensures));
-      within = omega (arith, c.greatest_log_height_of.ensures.within, c.loop-round.invariant.within, c.max-greatest.ensures);
+          (λ r h k d l. let b = h k d l in omega (arith, b, c.max-greatest.ensures))
+          c.loop-round.invariant.greatest
+          (λ k d l. let b = c.greatest_log_height_of.ensures.greatest k d l in
+          omega (arith, b, c.max-greatest.ensures));
+      within = omega (
+        arith,
+        c.greatest_log_height_of.ensures.within,
+        c.loop-round.invariant.within,
+        c.max-greatest.ensures,
+      );
     }
 
 pub returns-clause-greatest : goal.returns-clause-greatest
 returns-clause-greatest g c =
-    to_the_end (λ r. All (λ m. log_height m ≤ c.loop-round.greatest) r.matrices.now) c.args.rounds.now
+    to_the_end (λ r. All (λ m. log_height m ≤ c.loop-round.greatest) r.matrices.now)
+    c.args.rounds.now
     c.loop-round.round-index c.loop-round-test.false c.loop-round.invariant.greatest

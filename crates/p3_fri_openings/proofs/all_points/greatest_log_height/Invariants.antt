@@ -4,6 +4,7 @@ use Rattle.p3_fri_openings.proofs.all_points.greatest_log_height.Given as goal
 
 abbrev pub invariant-loop-round : goal.invariant-loop-round
 invariant-loop-round g l = record {
-  greatest : All (λ r. All (λ m. log_height m ≤ l.greatest) r.matrices.now) (take l.round-index l.rounds);
+  greatest : All (λ r. All (λ m. log_height m ≤ l.greatest) r.matrices.now)
+      (take l.round-index l.rounds);
   within : l.greatest ≤ g.F.TwoAdicField.TWO_ADICITY;
 }

@@ -8,7 +8,8 @@ use Rattle.p3_fri_openings.proofs.all_points.greatest_log_height_of.Goals as goa
 pub loop-matrix-preserved : goal.loop-matrix-preserved
 loop-matrix-preserved g c =
     let matrix = c.matrix-item.result in
-    let coset = at_item (HasCoset g.F.TwoAdicField.TWO_ADICITY) c.args.matrices.now c.loop-matrix.matrix-index
+    let coset = at_item (HasCoset g.F.TwoAdicField.TWO_ADICITY) c.args.matrices.now
+    c.loop-matrix.matrix-index
     matrix c.loop-matrix-test.true c.matrix-item.is c.requires.cosets in
     let is = log2_is _ _ (c.log2_strict_usize.ensures.power ∙ c.height.ensures) in
     let own = coset.within in

@@ -19,6 +19,7 @@ loop-entry-preserved g c =
 
 pub returns : goal.returns
 returns g c =
-    let none = to_the_end (λ entry. entry.point ≢ c.args.point) c.args.table.now c.loop-entry.entry-index
-    c.loop-entry-test.false c.loop-entry.invariant in
-    (λ t. absurd (false≢true t), λ there. absurd (no_entry c.args.table.now c.args.point none there))
+    let none = to_the_end (λ entry. entry.point ≢ c.args.point) c.args.table.now
+    c.loop-entry.entry-index c.loop-entry-test.false c.loop-entry.invariant in
+    let off = no_entry c.args.table.now c.args.point none in
+    (λ t. absurd (false≢true t), λ there. absurd (off there))

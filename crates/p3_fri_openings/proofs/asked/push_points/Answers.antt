@@ -4,7 +4,8 @@ use Rattle.p3_fri_openings.proofs.asked.push_points.Goals as goal
 
 pub loop-point-preserved : goal.loop-point-preserved
 loop-point-preserved g c =
-    mapped_next (asked_point c.args.height) c.args.points.now c.loop-point.point-index c.point-item.result
+    mapped_next (asked_point c.args.height) c.args.points.now c.loop-point.point-index
+    c.point-item.result
     c.args.asked.now.items c.loop-point.asked.items c.push.new.self.items c.loop-point-test.true
     c.point-item.is c.loop-point.invariant c.in_ok-push.ensures.items
 

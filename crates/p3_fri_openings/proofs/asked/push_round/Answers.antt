@@ -30,7 +30,8 @@ loop-matrix-preserved g c =
     (within_both ask round.matrices.now (lists round.points.now) i one three)
     (entry_of_both ask round.matrices.now (lists round.points.now) i matrix points.items one three
     c.index-round-matrix.is
-    (entry_of_map (λ v. v.items) round.points.now i points two c.index-round-matrix-in-loop-matrix.is))
+    (entry_of_map (λ v. v.items) round.points.now i points two
+    c.index-round-matrix-in-loop-matrix.is))
     c.loop-matrix.invariant added
 
 pub returns : goal.returns
@@ -40,5 +41,6 @@ returns g c =
     let same = c.requires.round.lists_of_points in
     joined_end points_of (asked_in round) c.loop-matrix.matrix c.args.asked.now.items
     c.loop-matrix.asked.items
-    (length_of_both ask round.matrices.now (lists round.points.now) c.loop-matrix.matrix (omega arith))
+    (length_of_both ask round.matrices.now (lists round.points.now) c.loop-matrix.matrix
+    (omega arith))
     c.loop-matrix.invariant

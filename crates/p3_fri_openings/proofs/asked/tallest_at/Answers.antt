@@ -21,8 +21,8 @@ loop-matrix-preserved g c =
       | inr above ↦ inr (omega (arith, above, c.max-tallest.ensures))
     ] in
     record {
-      none_above = above_next asked z i a own old new c.loop-matrix-test.true c.matrix-item.is older owner
-          c.height_at.ensures.here c.loop-matrix.invariant.none_above;
+      none_above = above_next asked z i a own old new c.loop-matrix-test.true c.matrix-item.is
+          older owner c.height_at.ensures.here c.loop-matrix.invariant.none_above;
       asked_there = λ positive. elim either [
         | inl e ↦
             let there = c.height_at.ensures.only_there (omega (arith, e, positive)) in

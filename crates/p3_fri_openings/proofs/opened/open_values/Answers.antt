@@ -30,7 +30,8 @@ values_of_round-requires g c =
     record {
       round = at_item (IsRound g.F.TwoAdicField.TWO_ADICITY) rounds i round c.loop-round-test.true
           c.round-item.is c.requires.rounds;
-      off = at_item (ArePointsOff f) rounds i round c.loop-round-test.true c.round-item.is c.requires.off;
+      off = at_item (ArePointsOff f) rounds i round c.loop-round-test.true c.round-item.is
+          c.requires.off;
       coset = at_item (HoldsCosets f d.coset.items) rounds i round c.loop-round-test.true
           c.round-item.is c.requires.coset;
       inverses = c.requires.inverses;

@@ -28,12 +28,15 @@ inverses_at-inverses-requires g c =
     let matrix = c.args.matrix.now in
     let n = length (rows matrix) in
     let table = c.args.denominators.now.entries.items in
-    let covered = at_item (IsCovered n table) c.args.points.now c.loop-point.point-index c.point-item.result
+    let covered = at_item
+    (IsCovered n table) c.args.points.now c.loop-point.point-index c.point-item.result
     c.loop-point-test.true c.point-item.is c.requires.covered in
     record {
       power_of_two = subst IsPowerOfTwo (sym c.height.ensures) c.requires.height.power;
-      inverses = subst (λ es. All (AreInverses f) es) (sym c.deref.ensures.value) c.requires.inverses;
-      covered = subst (λ es. IsCovered c.height.result es c.point-item.result) (sym c.deref.ensures.value)
+      inverses = subst (λ es. All (AreInverses f) es)
+          (sym c.deref.ensures.value) c.requires.inverses;
+      covered = subst (λ es. IsCovered c.height.result es c.point-item.result)
+          (sym c.deref.ensures.value)
           (subst (λ m. IsCovered m table c.point-item.result) (sym c.height.ensures) covered);
     }
 
@@ -58,7 +61,8 @@ values_at_point-requires g c =
       height = c.requires.height;
       off = at_item (IsOff f (log_height matrix)) c.args.points.now c.loop-point.point-index z
           c.loop-point-test.true c.point-item.is c.requires.off;
-      coset = subst (λ xs. StartsWith xs (coset_of f n)) (sym c.deref-in-loop-point.ensures.value) c.requires.coset;
+      coset = subst (λ xs. StartsWith xs (coset_of f n))
+          (sym c.deref-in-loop-point.ensures.value) c.requires.coset;
       inverses = subst (λ xs. StartsWith xs (inverse_differences f z n)) (sym same)
           (starts_itself (inverse_differences f z n));
     }

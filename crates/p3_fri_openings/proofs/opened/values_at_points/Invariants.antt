@@ -16,4 +16,5 @@ invariant-loop-point g l =
       two_adicity = g.F.TwoAdicField.TWO_ADICITY;
       shift = g.F.Field.GENERATOR;
     } in
-    lists l.values.items ≡ map (committed_values f l.log_blowup l.matrix) (take l.point-index l.points)
+    lists l.values.items ≡ map (committed_values f l.log_blowup l.matrix)
+    (take l.point-index l.points)

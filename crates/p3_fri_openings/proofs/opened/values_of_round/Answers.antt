@@ -34,12 +34,16 @@ values_at_points-requires g c =
     let one : i < length matrices = omega arith in
     let two : i < length round.points.now = omega arith in
     let three : i < length (lists round.points.now) = omega arith in
-    let slice = c.as_slice-points.ensures.value ∙ ap (λ v. v.items) (sym c.index-round-index-in-loop-index.is) in
+    let slice = c.as_slice-points.ensures.value
+    ∙ ap (λ v. v.items) (sym c.index-round-index-in-loop-index.is) in
     let within = within_both ask matrices (lists round.points.now) i one three in
-    let entry = entry_of_both ask matrices (lists round.points.now) i m v.items one three c.index-round-index.is
+    let entry = entry_of_both ask matrices
+    (lists round.points.now) i m v.items one three c.index-round-index.is
     (entry_of_map (λ v. v.items) round.points.now i v two c.index-round-index-in-loop-index.is) in
-    let off = at_item (HasPointsOff f) (asked_in round) i (ask m v.items) within entry c.requires.off in
-    let covered = at_item (HasPointsCovered d.entries.items) (asked_in round) i (ask m v.items) within entry
+    let off = at_item (HasPointsOff f) (asked_in round) i
+    (ask m v.items) within entry c.requires.off in
+    let covered = at_item (HasPointsCovered d.entries.items) (asked_in round) i
+    (ask m v.items) within entry
     c.requires.covered in
     let is = c.index-round-index.is in
     let here = get_or matrices i m in
@@ -76,7 +80,8 @@ loop-index-preserved g c =
     let one : i < length matrices = omega arith in
     let two : i < length round.points.now = omega arith in
     let three : i < length (lists round.points.now) = omega arith in
-    let slice = c.as_slice-points.ensures.value ∙ ap (λ v. v.items) (sym c.index-round-index-in-loop-index.is) in
+    let slice = c.as_slice-points.ensures.value
+    ∙ ap (λ v. v.items) (sym c.index-round-index-in-loop-index.is) in
     step (λ matrix points. map (committed_values f b matrix) points) (λ v. lists v.items) matrices
     (lists round.points.now) i m v.items c.loop-index.values.items c.push.new.self.items
     c.in_ok-values_at_points.field-0 one three c.index-round-index.is
@@ -101,5 +106,6 @@ returns g c =
     let round = c.args.round.now in
     let n = length-map round.points.now (λ v. v.items) in
     let same = c.requires.round.lists_of_points in
-    done (λ matrix points. map (committed_values f c.args.log_blowup matrix) points) round.matrices.now
+    done (λ matrix points. map (committed_values f c.args.log_blowup matrix) points)
+    round.matrices.now
     (lists round.points.now) c.loop-index.index _ (omega arith) c.loop-index.invariant

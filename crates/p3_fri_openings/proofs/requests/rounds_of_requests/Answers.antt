@@ -13,7 +13,8 @@ loop-request-preserved g c =
     let asked : List (RowMajorMatrix g.row.F.Denot) → List (List g.row.EF.Denot)
     → Request (List (RowMajorMatrix g.row.F.Denot)) g.row.EF.Denot =
     λ ms zs. record { datum = ms; points = zs } in
-    mapped_next (matrices_request g.M.Mmcs.committed) c.args.requests.now c.loop-request.request-index
+    mapped_next (matrices_request g.M.Mmcs.committed) c.args.requests.now
+    c.loop-request.request-index
     c.request-item.result [] (map round_request old) (map round_request c.push.new.self.items)
     c.loop-request-test.true c.request-item.is c.loop-request.invariant
     (ap (λ rs. map round_request rs) c.in_ok-push.ensures.items ∙ map-append round_request old _
@@ -22,5 +23,7 @@ loop-request-preserved g c =
 
 pub returns : goal.returns
 returns g c =
-    mapped_end (matrices_request g.M.Mmcs.committed) c.args.requests.now c.loop-request.request-index []
-    (map round_request c.loop-request.rounds.items) c.loop-request-test.false c.loop-request.invariant
+    mapped_end (matrices_request g.M.Mmcs.committed) c.args.requests.now
+    c.loop-request.request-index []
+    (map round_request c.loop-request.rounds.items) c.loop-request-test.false
+    c.loop-request.invariant

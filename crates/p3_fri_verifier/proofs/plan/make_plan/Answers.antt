@@ -1,12 +1,12 @@
 use Rattle.std.proofs.Common.{◌≡◌, ℕ, ◌<◌, ◌+◌, ◌∷◌, ◌∙◌, sym, ap, refl, arith, subst, length, List, get_or}
-use Rattle.p3_fri_folding.specs.Schedule.{IsStrictlyFalling, schedule}
+use Rattle.p3_fri_folding.specs.Schedule.{IsStrictlyFalling}
 use Rattle.p3_fri_relation.specs.Heights.{matrices_of, heights_of}
 use Rattle.std.specs.Prelude.{All}
-use Rattle.p3_fri_relation.specs.Acceptance.{IsInRange, top_height, log_arities}
+use Rattle.p3_fri_relation.specs.Acceptance.{IsInRange, top_height}
 use Rattle.p3_fri_relation.specs.Views.{claims_of, parameters_of}
 use Rattle.p3_fri_relation.proofs.ClaimedHeights.{heights_of-falling}
-use Rattle.p3_fri_relation.proofs.Instances.{instance_heights, instance_range, further_heights}
-use Rattle.p3_fri_verifier.proofs.Plans.{all_small}
+use Rattle.p3_fri_relation.proofs.Instances.{instance_heights, instance_top, further_heights}
+use Rattle.p3_fri_verifier.proofs.Plans.{small_rounds}
 use Rattle.p3_fri_verifier.proofs.Replays.{ok_err}
 use Rattle.p3_fri_verifier.proofs.plan.make_plan.Goals as goal
 
@@ -21,10 +21,13 @@ check_counts-requires-clause-small g c =
     let claims = claims_of (λ d. d.log_size) c.args.claims.now in
     let two_adicity = g.F.TwoAdicField.TWO_ADICITY in
     let ranged : IsInRange p claims two_adicity = (c.in-Ok.ensures.exact (λ e. ok_err _ _ e)).0 refl in
-    subst (λ xs. All (λ a. a < 64) xs) (sym (c.deref-2.ensures.value ∙ c.in-Ok-fold_schedule.ensures.value
-    ∙ ap (λ hs. schedule hs (c.args.params.now.log_blowup + c.args.params.now.log_final_poly_len) c.args.params.now.max_log_arity)
-    (c.deref.ensures.value ∙ c.in-Ok.ensures.heights)))
-    (all_small (log_arities p claims) (instance_range p claims two_adicity ranged g.met.F.TwoAdicField.two_adicity_law))
+    let bounds = instance_top p claims two_adicity ranged in
+    let first = ap (λ hs. get_or hs 0 0) (c.deref.ensures.value ∙ c.in-Ok.ensures.heights
+    ∙ instance_heights p claims two_adicity ranged) in
+    subst (λ xs. All (λ a. a < 64) xs) (sym c.deref-2.ensures.value)
+    (small_rounds c.deref.result.now _ _ c.in-Ok-fold_schedule.log_arities.items
+    c.in-Ok-fold_schedule.ensures.value c.in-Ok-fold_schedule.ensures.leads_down
+    (omega (arith, first, bounds.1, g.met.F.TwoAdicField.two_adicity_law)))
 
 pub index-requires : goal.index-requires
 index-requires g c =

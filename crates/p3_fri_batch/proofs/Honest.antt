@@ -1,0 +1,81 @@
+-- The values of the committed polynomials are values for each point, and what is opened with them.
+use Rattle.std.proofs.Common.{◌≡◌, ℕ, zero, suc, List, [], ◌∷◌, length, map, refl, ap, ap₂, ◌∙◌}
+use Rattle.std.proofs.lemmas.List.{length-map}
+use Rattle.std.specs.List.{AllZip}
+use Rattle.algebra.specs.Nested.{lists}
+use Rattle.algebra.specs.Polynomial.{val}
+use Rattle.algebra.proofs.Lists.{Each, All_from_each, length-tabulate}
+use Rattle.p3_matrix.specs.declared.dense.RowMajorMatrix.{RowMajorMatrix}
+use Rattle.p3_matrix.specs.Matrix.{matrix_width}
+use Rattle.p3_dft.specs.Evaluations.{column}
+use Rattle.p3_pcs.specs.Claims.{both}
+use Rattle.p3_fri_relation.specs.Setting.{Fields}
+use Rattle.p3_fri_openings.specs.declared.round.OpeningRound.{OpeningRound}
+use Rattle.p3_fri_openings.specs.Committed.{committed_column, committed, committed_values}
+use Rattle.p3_fri_openings.specs.Opened.{values_asked}
+use Rattle.p3_fri_openings.specs.Rounds.{ask}
+use Rattle.p3_fri_batch.specs.Words.{Opened, claim_at, claims_of}
+use Rattle.p3_fri_batch.specs.Rounds.{HasValues, HaveValues, opened_at, opened_by_round}
+
+claims_of_values : {E : Type 0} (g : E → List E) (zs : List E)
+    → claims_of zs (map g zs) ≡ map (λ z. claim_at z (g z)) zs
+claims_of_values g [] = refl
+claims_of_values g (z ∷ zs) = ap (λ cs. claim_at z (g z) ∷ cs) (claims_of_values g zs)
+
+module _ {F E : Type 0} (f : Fields F E) (log_blowup : ℕ) where
+  -- the values of a matrix's polynomials, and the matrix opened with them
+  abbrev pub values_there : RowMajorMatrix F → (points : List E) → List (List E)
+  values_there matrix points = map (committed_values f log_blowup matrix) points
+
+  abbrev pub opened_there : RowMajorMatrix F → (points : List E) → Opened F E
+  opened_there matrix points = record {
+    matrix = matrix;
+    claims = map (λ z. claim_at z (committed_values f log_blowup matrix z)) points;
+  }
+
+  round_opened : (matrices : List (RowMajorMatrix F)) (points : List (List E))
+      → both opened_at (both ask matrices points) (both values_there matrices points)
+      ≡ both opened_there matrices points
+  round_opened [] points = refl
+  round_opened (m ∷ matrices) [] = refl
+  round_opened (m ∷ matrices) (zs ∷ points) =
+      ap₂ (λ cs os. record { matrix = m; claims = cs } ∷ os)
+      (claims_of_values (committed_values f log_blowup m) zs) (round_opened matrices points)
+
+  -- by round
+  pub rounds_opened : (rounds : List (OpeningRound F E))
+      → opened_by_round rounds (map (values_asked f log_blowup) rounds)
+      ≡ map (λ r. both opened_there r.matrices.now (lists r.points.now)) rounds
+  rounds_opened [] = refl
+  rounds_opened (r ∷ rounds) =
+      ap₂ (λ os oss. os ∷ oss) (round_opened r.matrices.now (lists r.points.now)) (rounds_opened rounds)
+
+  width_of_values : (matrix : RowMajorMatrix F) (z : E)
+      → length (committed_values f log_blowup matrix z) ≡ matrix_width matrix
+  width_of_values matrix z =
+      length-map (committed f log_blowup matrix) (λ c. val f.ext (map f.lift c) z)
+      ∙ length-tabulate (matrix_width matrix) (λ j. committed_column f log_blowup (column f.base matrix j))
+
+  widths_of_values : (matrix : RowMajorMatrix F) (points : List E)
+      → Each (λ ys. length ys ≡ matrix_width matrix) (values_there matrix points)
+  widths_of_values matrix [] = tt
+  widths_of_values matrix (z ∷ points) = (width_of_values matrix z, widths_of_values matrix points)
+
+  round_has_values : (matrices : List (RowMajorMatrix F)) (points : List (List E))
+      → AllZip HasValues (both ask matrices points) (both values_there matrices points)
+  round_has_values [] points = tt
+  round_has_values (m ∷ matrices) [] = tt
+  round_has_values (m ∷ matrices) (zs ∷ points) = (
+    record {
+      counts = length-map zs (committed_values f log_blowup m);
+      widths = All_from_each (λ ys. length ys ≡ matrix_width m) (values_there m zs) (widths_of_values m zs);
+    },
+    round_has_values matrices points,
+  )
+
+  -- there are values for each point of each matrix
+  pub rounds_have_values : (rounds : List (OpeningRound F E))
+      → AllZip HaveValues rounds (map (values_asked f log_blowup) rounds)
+  rounds_have_values [] = tt
+  rounds_have_values (r ∷ rounds) =
+      (round_has_values r.matrices.now (lists r.points.now), rounds_have_values rounds)

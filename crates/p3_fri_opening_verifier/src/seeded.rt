@@ -1,0 +1,120 @@
+//! The transcript around the test, once its seed is made.
+
+ghost use Rattle.std.specs.Prelude.{◌≡◌, ◌≢◌, ◌+◌, ◌<◌, ◌≤◌, ◌↔◌, Err, IsOk, IfErr, map};
+ghost use Rattle.p3_challenger.specs.Pattern.{turn_of};
+ghost use Rattle.p3_challenger.specs.Separator.{seed_bytes, seed_turns};
+ghost use Rattle.p3_fri_pcs_transcript.specs.Counts.{counts_of_claims};
+ghost use Rattle.p3_fri_pcs_transcript.specs.Shapes.{pcs_shape};
+ghost use Rattle.p3_fri_pcs_transcript.specs.Steps.{pcs_steps, pcs_stream};
+ghost use Rattle.p3_fri_relation.specs.declared.error.FriError.TheVariants.{OutOfMemory};
+ghost use Rattle.p3_fri_relation.specs.Acceptance.{Accepts, AreCanonical};
+ghost use Rattle.p3_fri_relation.specs.Failures.{of_pcs_transcript};
+ghost use Rattle.p3_fri_relation.specs.Faults.{StandsInScheme};
+ghost use Rattle.p3_fri_relation.specs.Views.{parameters_of, claims_of, proof_of};
+ghost use Rattle.p3_fri_opening_verifier.specs.Ends.{last_state};
+
+use p3_challenger::fs::Seed;
+use p3_challenger::{CanObserve, FieldChallenger, GrindingChallenger};
+use p3_commit::{CommitmentOpening, Mmcs};
+use p3_field::{ExtensionField, TwoAdicField, TwoAdicMultiplicativeCoset};
+use p3_fri_folding::{FriFoldingStrategy, FriParameters};
+use p3_fri_pcs_transcript::PcsShape;
+use p3_fri_pcs_transcript::pcs_transcript::{PcsTranscriptFailure, PcsVerifierTranscript};
+use p3_fri_relation::error::FriError;
+use p3_fri_relation::proof::{BatchMultiOpening, FriProof};
+use p3_fri_relation::setting::PlaysFri;
+use p3_fri_verifier::verify_fri;
+use std::alloc::Global;
+
+/// What the refusal of a transcript becomes.
+fn refused<A, B>(failure: PcsTranscriptFailure) -> FriError<A, B>
+    ensures { result ≡ of_pcs_transcript failure }
+{
+    FriError::from(failure)
+}
+
+/// Replays the transcript of these claims, whose shape and seed were made, and verifies the
+/// low-degree test inside it. No witness of a proof of work without bits is other than zero.
+pub(crate) fn verify_seeded<
+    F: TwoAdicField,
+    EF: ExtensionField<F>,
+    M: Mmcs<EF>,
+    InputMmcs: Mmcs<F>,
+    S: FriFoldingStrategy<F, EF, InputError = InputMmcs::Error>,
+    C: FieldChallenger<F> + GrindingChallenger<Witness = F> + CanObserve<M::Commitment>,
+>(
+    alloc: Global,
+    folding: &S,
+    params: &FriParameters<M>,
+    input_mmcs: &InputMmcs,
+    claims: &[CommitmentOpening<EF, InputMmcs::Commitment, TwoAdicMultiplicativeCoset<F>>],
+    proof: &FriProof<EF, M, F, Vec<BatchMultiOpening<F, InputMmcs>>>,
+    challenger: &mut C,
+    seed: Seed,
+    shape: PcsShape,
+) -> Result<(), FriError<M::Error, InputMmcs::Error>>
+    requires final_height_below_64 { params.now.log_blowup + params.now.log_final_poly_len < 64 }
+    requires index_bits_at_most_max { F.TWO_ADICITY + S.extra_query_index_bits folding.now
+        ≤ C.MAX_SAMPLE_BITS }
+    requires batch_bits_at_most_max { params.now.batch_proof_of_work_bits ≤ C.MAX_SAMPLE_BITS }
+    requires commit_bits_at_most_max { params.now.commit_proof_of_work_bits ≤ C.MAX_SAMPLE_BITS }
+    requires query_bits_at_most_max { params.now.query_proof_of_work_bits ≤ C.MAX_SAMPLE_BITS }
+    requires max_log_height { F.TWO_ADICITY ≤ S.max_log_height folding.now }
+    requires shape { pcs_shape shape ≡ record {
+      counts = counts_of_claims claims.now;
+      batch_pow_bits = params.now.batch_proof_of_work_bits;
+    } }
+    requires stream { seed_bytes seed ≡ pcs_stream EF.DIMENSION (pcs_shape shape) }
+    requires turns { seed_turns seed ≡ map turn_of (pcs_steps EF.DIMENSION (pcs_shape shape)) }
+    ensures exact { let s = ⟦<C as PlaysFri<F, EF, S, M, InputMmcs>>⟧.setting folding.now
+        params.now.mmcs input_mmcs.now in
+        result ≢ Err OutOfMemory → (IsOk result
+        ↔ Accepts s (parameters_of params.now) (claims_of (λ d. d.log_size) claims.now)
+        (proof_of proof.now) challenger.old) }
+    ensures state { let s = ⟦<C as PlaysFri<F, EF, S, M, InputMmcs>>⟧.setting folding.now
+        params.now.mmcs input_mmcs.now in
+        IsOk result → challenger.new
+        ≡ last_state s (parameters_of params.now) (claims_of (λ d. d.log_size) claims.now)
+        (proof_of proof.now) challenger.old }
+    ensures refusal { let s = ⟦<C as PlaysFri<F, EF, S, M, InputMmcs>>⟧.setting folding.now
+        params.now.mmcs input_mmcs.now in
+        IfErr result (StandsInScheme s (parameters_of params.now)
+        (claims_of (λ d. d.log_size) claims.now) (proof_of proof.now) challenger.old) }
+{
+    let mut transcript = PcsVerifierTranscript::<C, F, EF>::start(challenger, seed, shape);
+    match transcript.claimed_openings(claims) {
+        Ok(()) => {},
+        Err(failure) => {
+            transcript.abort();
+            return Err(refused(failure));
+        },
+    }
+    let alpha = match transcript.batch_phase(Some(proof.batch_pow_witness)) {
+        Ok(alpha) => alpha,
+        Err(failure) => {
+            transcript.abort();
+            return Err(refused(failure));
+        },
+    };
+    let tested = verify_fri::<F, EF, M, InputMmcs, S, C>(
+        alloc,
+        folding,
+        params,
+        proof,
+        transcript.begin_delegate(),
+        claims,
+        input_mmcs,
+        alpha,
+    );
+    match tested {
+        Ok(()) => {
+            transcript.end_delegate();
+            transcript.finish();
+            Ok(())
+        },
+        Err(refusal) => {
+            transcript.abort();
+            Err(refusal)
+        },
+    }
+}

@@ -1,0 +1,55 @@
+-- Rounds that come of requests: what may be opened, and the values asked for.
+use Rattle.std.proofs.Common.{◌≡◌, ℕ, List, length, map, All, refl, sym, ap, ◌∙◌, subst}
+use Rattle.std.proofs.lemmas.List.{length-map}
+use Rattle.std.proofs.lemmas.List.Elements.{All-map}
+use Rattle.algebra.specs.Nested.{lists}
+use Rattle.p3_matrix.specs.declared.dense.RowMajorMatrix.{RowMajorMatrix}
+use Rattle.p3_pcs.specs.declared.requests.OpeningRequest.{OpeningRequest}
+use Rattle.p3_pcs.specs.Claims.{both}
+use Rattle.p3_pcs.specs.Requests.{Request}
+use Rattle.p3_fri_relation.specs.Setting.{Fields}
+use Rattle.p3_fri_openings.specs.declared.round.OpeningRound.{OpeningRound}
+use Rattle.p3_fri_openings.specs.Committed.{committed_values}
+use Rattle.p3_fri_openings.specs.Opened.{values_asked}
+use Rattle.p3_fri_openings.specs.Requests.{round_request, matrices_request}
+use Rattle.p3_fri_openings.specs.Rounds.{HasCoset, IsRound}
+use Rattle.p3_fri_openings.proofs.Pushed.{all_of_map}
+use Rattle.p3_fri_openings.proofs.Tables.{map_twice}
+
+module _ {F E D : Type 0} (committed : D → List (RowMajorMatrix F))
+    (rounds : List (OpeningRound F E)) (requests : List (OpeningRequest D E))
+    (same : map round_request rounds ≡ map (matrices_request committed) requests) where
+  -- they may be opened where the requests have one list of points for each matrix, and the
+  -- matrices stand on cosets
+  pub rounds_right : (two_adicity : ℕ)
+      → All (λ r. length (lists r.points.items) ≡ length (committed r.prover_data.now)) requests
+      → All (λ r. All (HasCoset two_adicity) (committed r.prover_data.now)) requests
+      → All (IsRound two_adicity) rounds
+  rounds_right two_adicity counts cosets =
+      let asked : All (λ r. (length r.points ≡ length r.datum) × All (HasCoset two_adicity) r.datum)
+      (map round_request rounds) =
+      subst (λ rs. All (λ r. (length r.points ≡ length r.datum) × All
+      (HasCoset two_adicity) r.datum) rs)
+      (sym same)
+      (All-map (λ r. (length r.points ≡ length r.datum) × All (HasCoset two_adicity) r.datum)
+      (matrices_request committed) requests (λ k d l. (counts k d l, cosets k d l))) in
+      let each = all_of_map
+      (λ r. (length r.points ≡ length r.datum) × All (HasCoset two_adicity) r.datum)
+      round_request rounds asked in
+      λ k d l. let h = each k d l in record {
+        lists_of_points = sym (length-map _ (λ v. v.items)) ∙ h.0;
+        cosets = h.1;
+      }
+
+  -- the values asked for are those of the committed matrices at the requests' points
+  pub values_of_requests : (f : Fields F E) (log_blowup : ℕ)
+      → map (values_asked f log_blowup) rounds
+      ≡ map (λ r. both (λ matrix points. map (committed_values f log_blowup matrix) points)
+      (committed r.prover_data.now) (lists r.points.items)) requests
+  values_of_requests f log_blowup =
+      sym (map_twice values round_request rounds) ∙ ap (λ rs. map values rs) same
+      ∙ map_twice values (matrices_request committed) requests
+    where
+      values : Request (List (RowMajorMatrix F)) E → List (List (List E))
+      values r = both (λ matrix points. map (committed_values f log_blowup matrix) points) r.datum
+          r.points

@@ -1,0 +1,7 @@
+//! Tests of what a prover opens.
+#![tactic(auto)]
+
+#[cfg(test)]
+mod opened;
+#[cfg(test)]
+mod rounds;
