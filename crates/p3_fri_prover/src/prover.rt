@@ -11,9 +11,6 @@ mod prove;
 mod roll_in;
 mod rounds;
 
-pub use crate::prover::commit_phase::{CommittedRound, commit_round};
-pub use crate::prover::heights::{check_heights, log_heights, validate_input_height};
-pub use crate::prover::last_word::final_polynomial;
-pub use crate::prover::openings::{ProverDataWithOpeningPoints, answer_queries, open_inputs};
+pub use crate::prover::heights::validate_input_height;
+pub use crate::prover::openings::ProverDataWithOpeningPoints;
 pub use crate::prover::prove::prove_fri;
-pub use crate::prover::rounds::{CommittedRounds, commit_rounds};

@@ -24,7 +24,7 @@ use std::alloc::{AllocError, Global};
 
 /// A round that was played: its commitment with what opens it, its witness, and the word after it.
 #[derive(Drop)]
-pub struct CommittedRound<F, EF: Copy, M: Mmcs<EF>> {
+pub(crate) struct CommittedRound<F, EF: Copy, M: Mmcs<EF>> {
     pub commitment: M::Commitment,
     pub prover_data: M::ProverData,
     pub witness: F,
@@ -58,7 +58,7 @@ fn fold_leaves<F: TwoAdicField, EF: ExtensionField<F>, S: FriFoldingStrategy<F, 
 
 /// Plays a round: commits to the word in rows of the round's arity, absorbs the commitment, and
 /// folds the word at the challenge that is drawn then.
-pub fn commit_round<
+pub(crate) fn commit_round<
     F: TwoAdicField,
     EF: ExtensionField<F>,
     S: FriFoldingStrategy<F, EF>,

@@ -37,7 +37,7 @@ pub fn validate_input_height<M>(
 }
 
 /// Whether each of these words, whose lengths are powers of two, can be proved.
-pub fn check_heights<M, EF>(
+pub(crate) fn check_heights<M, EF>(
     params: &FriParameters<M>,
     inputs: &[Vec<EF>],
 ) -> Result<(), FriProverError>
@@ -57,7 +57,7 @@ pub fn check_heights<M, EF>(
 }
 
 /// The log heights of words whose lengths are powers of two.
-pub fn log_heights<EF>(alloc: Global, inputs: &[Vec<EF>]) -> Result<Vec<usize>, AllocError>
+pub(crate) fn log_heights<EF>(alloc: Global, inputs: &[Vec<EF>]) -> Result<Vec<usize>, AllocError>
     requires lengths { HavePowerLengths (lists inputs.now) }
     ensures { IfOk result (λ heights. HaveHeights heights.items (lists inputs.now)) }
 {

@@ -10,7 +10,7 @@ use std::alloc::{AllocError, Global};
 
 /// The coefficients, as many as the parameters say, of the polynomial whose word the first entries,
 /// as many, are: these, put into natural order, go through the inverse transform of that size.
-pub fn final_polynomial<F: TwoAdicField, EF: ExtensionField<F>, M>(
+pub(crate) fn final_polynomial<F: TwoAdicField, EF: ExtensionField<F>, M>(
     alloc: Global,
     params: &FriParameters<M>,
     mut word: Vec<EF>,

@@ -104,7 +104,7 @@ fn open_round<EF: Copy, M: Mmcs<EF>>(
 }
 
 /// What each round opens.
-pub fn answer_queries<EF: Copy, M: Mmcs<EF>>(
+pub(crate) fn answer_queries<EF: Copy, M: Mmcs<EF>>(
     alloc: Global,
     mmcs: &M,
     log_arities: &[usize],
@@ -135,7 +135,7 @@ pub fn answer_queries<EF: Copy, M: Mmcs<EF>>(
 }
 
 /// Opens each of these batches at the positions, which are those of log height `log_max_height`.
-pub fn open_inputs<EF, F: Copy, M: Mmcs<F>>(
+pub(crate) fn open_inputs<EF, F: Copy, M: Mmcs<F>>(
     alloc: Global,
     mmcs: &M,
     log_max_height: usize,

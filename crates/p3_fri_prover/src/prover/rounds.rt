@@ -20,7 +20,7 @@ use std::alloc::{AllocError, Global};
 
 /// The rounds that were played.
 #[derive(Drop)]
-pub struct CommittedRounds<F, EF: Copy, M: Mmcs<EF>> {
+pub(crate) struct CommittedRounds<F, EF: Copy, M: Mmcs<EF>> {
     pub commitments: Vec<M::Commitment>,
     pub data: Vec<M::ProverData>,
     pub witnesses: Vec<F>,
@@ -65,7 +65,7 @@ impl<F: Copy, EF: Copy, M: Mmcs<EF>> CommittedRounds<F, EF, M> {
 
 /// Plays a round of each of these log arities, from the word on. Answers also the word after the
 /// last.
-pub fn commit_rounds<
+pub(crate) fn commit_rounds<
     F: TwoAdicField,
     EF: ExtensionField<F>,
     S: FriFoldingStrategy<F, EF>,
