@@ -4,3 +4,6 @@ pub mod Sums
 pub mod Accepted
 pub mod Requests
 pub mod Scheme
+pub mod Rounds
+pub mod Absorbed
+pub mod Opening

@@ -2,7 +2,7 @@
 -- what
 -- is opened of them.
 use Rattle.std.proofs.Common.{◌≡◌, ◌≢◌, ℕ, suc, ◌+◌, ◌-◌, ◌/◌, ◌^◌, List, [], ◌∷◌, map}
-use Rattle.std.proofs.Common.{length, refl, sym, ap, ap₂, ◌∙◌, arith, subst, inl, inr}
+use Rattle.std.proofs.Common.{length, get_or, refl, sym, ap, ap₂, ◌∙◌, arith, subst, inl, inr}
 use Rattle.std.specs.List.{All, AllZip, flat_map, zip}
 use Rattle.std.proofs.lemmas.Bool.Decides.{leb_tells}
 use Rattle.std.proofs.lemmas.List.{length-map, length-append, nil_from_length}
@@ -14,11 +14,11 @@ use Rattle.p3_matrix.specs.declared.dense.RowMajorMatrix.{RowMajorMatrix}
 use Rattle.p3_matrix.specs.Matrix.{rows}
 use Rattle.p3_dft.specs.Evaluations.{column}
 use Rattle.p3_pcs.specs.Claims.{both, matrix_claims}
-use Rattle.p3_pcs.specs.Requests.{Request, honest_claims, FitDomains}
+use Rattle.p3_pcs.specs.Requests.{Request, AreOpenable, AreHonest, honest_claims, FitDomains}
 use Rattle.p3_fri_relation.specs.Setting.{Fields, Parameters, CommitmentClaim, Opening}
 use Rattle.p3_fri_relation.specs.Setting.{InputOpening}
 use Rattle.p3_fri_openings.specs.Rounds.{log_height, HasCoset, ask}
-use Rattle.p3_fri_openings.specs.Refusals.{IsTallEnough, IsOff, HasPointsOff}
+use Rattle.p3_fri_openings.specs.Refusals.{IsTallEnough, AreTallEnough, IsOff, HasPointsOff}
 use Rattle.p3_fri_openings.specs.Committed.{committed_values}
 use Rattle.p3_fri_openings.proofs.Log2.{log2_is, pow-divided}
 use Rattle.p3_fri_batch.specs.Words.{Opened, IsOpenedWord, claim_at}
@@ -235,3 +235,22 @@ module _ {F E D Com Domain : Type 0} (f : Fields F E) (p : Parameters)
           (sym (matrices_same f p (committed r.datum) r.points h.0.lists_of_points)) opened.0,
       requests_opened domains requests inputs (tail_eq fit) h.1 opened.1,
     )
+
+-- requests that may be opened, of honest data, which pass the prover's checks
+pub honest_requests : {F E D : Type 0} (f : Fields F E) (p : Parameters)
+    (committed : D → List (RowMajorMatrix F)) (requests : List (Request D E))
+    → AreOpenable (λ d. All (HasCoset f.two_adicity) (committed d)) (held_of f committed p.log_blowup)
+    requests
+    → AreHonest (λ d. All (HoldsWords f p.log_blowup) (committed d)) requests
+    → All (λ r. AreTallEnough p (committed r.datum)) requests
+    → All (λ r. All (HasPointsOff f) (both ask (committed r.datum) r.points)) requests
+    → All (IsHonestRequest f committed p) requests
+honest_requests f p committed requests openable honest tall off k d l = record {
+  lists_of_points = openable.points k d l
+      ∙ length-map (committed (get_or requests k d).datum) (held_in f p.log_blowup);
+  some_point = honest.points k d l;
+  cosets = openable.data_openable k d l;
+  tall_enough = tall k d l;
+  words = honest.data_honest k d l;
+  off = off k d l;
+}

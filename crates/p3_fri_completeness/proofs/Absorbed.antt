@@ -1,0 +1,174 @@
+-- What is absorbed of honest claims is what a prover absorbs of the values that it opens.
+use Rattle.std.proofs.Common.{◌≡◌, ℕ, suc, ◌+◌, ◌^◌, List, [], ◌∷◌, ◌++◌, map, length, refl, sym, ap, ap₂}
+use Rattle.std.proofs.Common.{◌∙◌, arith, Some}
+use Rattle.std.specs.Global.{Global}
+use Rattle.std.specs.List.{flat_map}
+use Rattle.std.specs.declared.vec.Vec.{Vec}
+use Rattle.std.proofs.lemmas.Grind.{flat_map-append}
+use Rattle.std.proofs.lemmas.List.{append_assoc}
+use Rattle.algebra.specs.Nested.{lists, nested, joined}
+use Rattle.algebra.proofs.Lists.{Each, head_eq, tail_eq}
+use Rattle.p3_matrix.specs.declared.dense.RowMajorMatrix.{RowMajorMatrix}
+use Rattle.p3_pcs.specs.Claims.{both, matrix_claims, opened_values}
+use Rattle.p3_pcs.specs.Requests.{Request, honest_claims, honest_values}
+use Rattle.p3_fri_pcs_transcript.specs.Counts.{counts_at_points, counts_in_matrices, counts_of_values}
+use Rattle.p3_fri_pcs_transcript.specs.Counts.{lists_in_matrices, lists_of_values, all_values}
+use Rattle.p3_fri_pcs_transcript.specs.Steps.{pcs_stream}
+use Rattle.p3_fri_pcs_transcript.specs.Replay.{BatchReplay, claims_replay}
+use Rattle.p3_fri_relation.specs.Setting.{Fields, Setting, Parameters, CommitmentClaim, Proof}
+use Rattle.p3_fri_relation.specs.Heights.{matrices_of}
+use Rattle.p3_fri_relation.specs.Acceptance.{pcs_numbers, values_claimed, batch_replayed}
+use Rattle.p3_fri_openings.proofs.Tables.{map_twice}
+use Rattle.p3_fri_completeness.specs.Requests.{point_claim, matrix_claim, relation_claims, held_in}
+use Rattle.p3_fri_completeness.specs.Requests.{held_of, IsHonestRequest}
+use Rattle.p3_fri_completeness.proofs.Requests.{Fit}
+
+-- values in vectors, and the same as lists
+module _ {E : Type 0} where
+  abbrev counts_in : List (List (List E)) → List (List ℕ)
+  counts_in values = map (λ points. map (λ ys. length ys) points) values
+
+  abbrev all_in : List (List (List E)) → List E
+  all_in values = flat_map (λ points. joined points) values
+
+  counts_of_matrices : (matrices : List (Vec (Vec E Global) Global))
+      → counts_in_matrices matrices ≡ counts_in (nested matrices)
+  counts_of_matrices [] = refl
+  counts_of_matrices (points ∷ matrices) =
+      ap₂ (λ n ns. n ∷ ns) (sym (map_twice (λ ys. length ys) (λ v. v.items) points.items))
+      (counts_of_matrices matrices)
+
+  counts_of_all : (values : List (Vec (Vec (Vec E Global) Global) Global))
+      → counts_of_values values ≡ map counts_in (opened_values values)
+  counts_of_all [] = refl
+  counts_of_all (matrices ∷ values) =
+      ap₂ (λ n ns. n ∷ ns) (counts_of_matrices matrices.items) (counts_of_all values)
+
+  values_of_matrices : (matrices : List (Vec (Vec E Global) Global))
+      → joined (lists_in_matrices matrices) ≡ all_in (nested matrices)
+  values_of_matrices [] = refl
+  values_of_matrices (points ∷ matrices) =
+      flat_map-append (λ part. part) (lists points.items) (lists_in_matrices matrices)
+      ∙ ap (λ rest. joined (lists points.items) ++ rest) (values_of_matrices matrices)
+
+  values_of_all : (values : List (Vec (Vec (Vec E Global) Global) Global))
+      → all_values values ≡ flat_map all_in (opened_values values)
+  values_of_all [] = refl
+  values_of_all (matrices ∷ values) =
+      flat_map-append (λ part. part) (lists_in_matrices matrices.items) (lists_of_values values)
+      ∙ ap₂ (λ xs ys. xs ++ ys) (values_of_matrices matrices.items) (values_of_all values)
+
+-- honest claims of one matrix, and of one request
+module _ {E : Type 0} (g : E → List E) where
+  counts_at_honest : (points : List E)
+      → map (λ z. length z.values) (map point_claim (both (λ z vs. record { point = z; values = vs })
+      points (map g points)))
+      ≡ map (λ ys. length ys) (map g points)
+  counts_at_honest [] = refl
+  counts_at_honest (z ∷ points) = ap (λ ns. length (g z) ∷ ns) (counts_at_honest points)
+
+  values_at_honest : (points : List E)
+      → flat_map (λ z. z.values) (map point_claim (both (λ z vs. record { point = z; values = vs })
+      points (map g points)))
+      ≡ joined (map g points)
+  values_at_honest [] = refl
+  values_at_honest (z ∷ points) = ap (λ ys. g z ++ ys) (values_at_honest points)
+
+module _ {F E Domain : Type 0} (f : Fields F E) (b : ℕ) (log_size : Domain → ℕ) where
+  abbrev values_in : List (RowMajorMatrix F) → List (List E) → List (List (List E))
+  values_in ms lists = both (λ m points. map m.values_at points) (map (held_in f b) ms) lists
+
+  counts_of_request : (domains : List Domain) (ms : List (RowMajorMatrix F)) (lists : List (List E))
+      → map (λ d. 2 ^ log_size d) domains ≡ map (λ m. m.size) (map (held_in f b) ms)
+      → length lists ≡ length ms
+      → map (λ m. map (λ z. length z.values) m.points)
+      (map (matrix_claim log_size) (matrix_claims domains lists (values_in ms lists)))
+      ≡ counts_in (values_in ms lists)
+  counts_of_request [] [] lists fit count = refl
+  counts_of_request [] (m ∷ ms) lists fit count = absurd cc
+  counts_of_request (d ∷ domains) [] lists fit count = absurd cc
+  counts_of_request (d ∷ domains) (m ∷ ms) [] fit count = absurd (omega (arith, count))
+  counts_of_request (d ∷ domains) (m ∷ ms) (points ∷ lists) fit count =
+      ap₂ (λ n ns. n ∷ ns) (counts_at_honest (held_in f b m).values_at points)
+      (counts_of_request domains ms lists (tail_eq fit) (omega (arith, count)))
+
+  values_of_request : (domains : List Domain) (ms : List (RowMajorMatrix F)) (lists : List (List E))
+      → map (λ d. 2 ^ log_size d) domains ≡ map (λ m. m.size) (map (held_in f b) ms)
+      → length lists ≡ length ms
+      → flat_map (λ m. flat_map (λ z. z.values) m.points)
+      (map (matrix_claim log_size) (matrix_claims domains lists (values_in ms lists)))
+      ≡ all_in (values_in ms lists)
+  values_of_request [] [] lists fit count = refl
+  values_of_request [] (m ∷ ms) lists fit count = absurd cc
+  values_of_request (d ∷ domains) [] lists fit count = absurd cc
+  values_of_request (d ∷ domains) (m ∷ ms) [] fit count = absurd (omega (arith, count))
+  values_of_request (d ∷ domains) (m ∷ ms) (points ∷ lists) fit count =
+      ap₂ (λ xs ys. xs ++ ys) (values_at_honest (held_in f b m).values_at points)
+      (values_of_request domains ms lists (tail_eq fit) (omega (arith, count)))
+
+module _ {F E D InCom Domain : Type 0} (f : Fields F E) (p : Parameters)
+    (committed : D → List (RowMajorMatrix F)) (commitment_of : D → InCom) (log_size : Domain → ℕ) where
+  abbrev claims_of : List (List Domain) → List (Request D E) → List (CommitmentClaim E InCom)
+  claims_of domains requests = relation_claims log_size
+      (honest_claims (held_of f committed p.log_blowup) commitment_of domains requests)
+
+  abbrev values_of : List (Request D E) → List (List (List (List E)))
+  values_of requests = map (honest_values (held_of f committed p.log_blowup)) requests
+
+  counts_of_claims : (domains : List (List Domain)) (requests : List (Request D E))
+      → Fit f p committed commitment_of log_size domains requests
+      → Each (IsHonestRequest f committed p) requests
+      → (pcs_numbers p (claims_of domains requests)).counts ≡ map counts_in (values_of requests)
+  counts_of_claims [] [] fit h = refl
+  counts_of_claims [] (r ∷ requests) fit h = absurd cc
+  counts_of_claims (ds ∷ domains) [] fit h = absurd cc
+  counts_of_claims (ds ∷ domains) (r ∷ requests) fit h =
+      ap₂ (λ n ns. n ∷ ns)
+      (counts_of_request f p.log_blowup log_size ds (committed r.datum) r.points (head_eq fit)
+      h.0.lists_of_points)
+      (counts_of_claims domains requests (tail_eq fit) h.1)
+
+  values_of_claims : (domains : List (List Domain)) (requests : List (Request D E))
+      → Fit f p committed commitment_of log_size domains requests
+      → Each (IsHonestRequest f committed p) requests
+      → values_claimed (claims_of domains requests) ≡ flat_map all_in (values_of requests)
+  values_of_claims [] [] fit h = refl
+  values_of_claims [] (r ∷ requests) fit h = absurd cc
+  values_of_claims (ds ∷ domains) [] fit h = absurd cc
+  values_of_claims (ds ∷ domains) (r ∷ requests) fit h =
+      flat_map-append (λ m. flat_map (λ z. z.values) m.points)
+      (map (matrix_claim log_size) (matrix_claims ds r.points
+      (honest_values (held_of f committed p.log_blowup) r)))
+      (matrices_of (claims_of domains requests))
+      ∙ ap₂ (λ xs ys. xs ++ ys)
+      (values_of_request f p.log_blowup log_size ds (committed r.datum) r.points (head_eq fit)
+      h.0.lists_of_points)
+      (values_of_claims domains requests (tail_eq fit) h.1)
+
+module _ {F E D C Com Path InCom InPath Domain : Type 0} (s : Setting F E C Com Path InCom InPath)
+    (p : Parameters) (committed : D → List (RowMajorMatrix F)) (commitment_of : D → InCom)
+    (log_size : Domain → ℕ) (c : C) (proof : Proof F E Com Path InPath) where
+  -- the batch's transcript of these values, in a prover's words
+  abbrev pub begun : (values : List (Vec (Vec (Vec E Global) Global) Global)) → BatchReplay C E
+  begun values = claims_replay s.moves s.fields.coefficients s.fields.base p.batch_pow_bits
+      (pcs_stream s.fields.degree
+      (record { counts = counts_of_values values; batch_pow_bits = p.batch_pow_bits })) c
+      (all_values values) (Some proof.batch_witness)
+
+  -- is that of the honest claims
+  pub begun_of_claims : (values : List (Vec (Vec (Vec E Global) Global) Global))
+      (domains : List (List Domain)) (requests : List (Request D E))
+      → Fit s.fields p committed commitment_of log_size domains requests
+      → Each (IsHonestRequest s.fields committed p) requests
+      → opened_values values ≡ map (honest_values (held_of s.fields committed p.log_blowup)) requests
+      → begun values ≡ batch_replayed s p
+      (claims_of s.fields p committed commitment_of log_size domains requests) proof c
+  begun_of_claims values domains requests fit h are =
+      ap₂ (λ counts ys. claims_replay s.moves s.fields.coefficients s.fields.base p.batch_pow_bits
+      (pcs_stream s.fields.degree
+      (record { counts = counts; batch_pow_bits = p.batch_pow_bits })) c ys
+      (Some proof.batch_witness))
+      (counts_of_all values ∙ ap (λ vs. map counts_in vs) are
+      ∙ sym (counts_of_claims s.fields p committed commitment_of log_size domains requests fit h))
+      (values_of_all values ∙ ap (λ vs. flat_map all_in vs) are
+      ∙ sym (values_of_claims s.fields p committed commitment_of log_size domains requests fit h))
