@@ -5,6 +5,7 @@
 //! at the root.
 #![tactic(auto)]
 
+pub mod prover;
 pub mod verifier;
 
 pub use p3_fri_core::{

@@ -1,10 +1,13 @@
 -- The entries of the words are the quotient sums of the opened rows.
-use Rattle.std.proofs.Common.{◌≡◌, ◌≤◌, ◌<◌, ◌==◌, cond, true, false, Bool, inl, inr, ℕ, zero, suc, ◌+◌, ◌-◌, ◌/◌, ◌^◌, List, [], ◌∷◌, ◌++◌, length, map, get_or, All, Some, None, refl, sym, ap, ap₂, ◌∙◌, subst, arith, pow_pos}
+use Rattle.std.proofs.Common.{◌≡◌, ◌≤◌, ◌<◌, ◌==◌, cond, true, false, Bool, inl, inr, ℕ, zero, suc}
+use Rattle.std.proofs.Common.{◌+◌, ◌-◌, ◌/◌, ◌^◌, List, [], ◌∷◌, ◌++◌, length, map, get_or, All}
+use Rattle.std.proofs.Common.{Some, None, refl, sym, ap, ap₂, ◌∙◌, subst, arith, pow_pos}
 use Rattle.std.proofs.lemmas.Nat.{pow-add}
 use Rattle.std.proofs.lemmas.Bool.{eqb-true, cases_lt}
 use Rattle.std.proofs.lemmas.Grind.{flat_map-append}
 use Rattle.std.proofs.lemmas.List.Folds.{Any-from_list_any}
-use Rattle.std.proofs.Math.Nat.{mul-div_cancel, div-div-eq-div-mul, div-lt_iff_lt-mul, pow-le-pow_right}
+use Rattle.std.proofs.Math.Nat.{mul-div_cancel, div-div-eq-div-mul, div-lt_iff_lt-mul}
+use Rattle.std.proofs.Math.Nat.{pow-le-pow_right}
 use Rattle.std.proofs.Math.Pow.{pow-lt}
 use Rattle.std.specs.List.{AllZip, flat_map, zip}
 use Rattle.std.specs.Int.{IsPowerOfTwo}
@@ -50,11 +53,13 @@ place top g h q l m =
     ∙ ap (λ n. q / n) (sym (pow-add 2 (top - g) (g - h)))
     ∙ ap (λ n. q / 2 ^ n) e
 
-each_split : {X : Type 0} (P : X → Type 0) (xs ys : List X) → Each P (xs ++ ys) → Each P xs × Each P ys
+each_split : {X : Type 0} (P : X → Type 0) (xs ys : List X) → Each P (xs ++ ys) → Each P xs
+    × Each P ys
 each_split P [] ys h = (tt, h)
 each_split P (x ∷ xs) ys h = let r = each_split P xs ys h.1 in ((h.0, r.0), r.1)
 
-pub height_is : {F : Type 0} (top : ℕ) (m : RowMajorMatrix F) → HasCoset top m → length (rows m) ≡ 2 ^ log_height m
+pub height_is : {F : Type 0} (top : ℕ) (m : RowMajorMatrix F) → HasCoset top m → length (rows m)
+    ≡ 2 ^ log_height m
 height_is top m c = sym (pow-log2 (length (rows m)) c.power.0 c.power.1)
 
 module _ {F E : Type 0} (top q : ℕ) where
@@ -67,12 +72,14 @@ module _ {F E : Type 0} (top q : ℕ) where
   abbrev greatest_of : List (Opened F E) → ℕ
   greatest_of ms = max_height (dimensions_of (matrices_in ms))
 
-  bounded : (ms : List (Opened F E)) → Each (λ m. HasCoset top m.matrix) ms → greatest_of ms ≤ 2 ^ top
+  bounded : (ms : List (Opened F E)) → Each (λ m. HasCoset top m.matrix) ms
+      → greatest_of ms ≤ 2 ^ top
   bounded [] each = omega (arith, pow_pos top)
   bounded (m ∷ ms) each =
       let rest = bounded ms each.1 in
       let is = height_is top m.matrix each.0 in
-      let small : 2 ^ log_height m.matrix ≤ 2 ^ top = pow-le-pow_right {n = 2} (omega arith) each.0.within in
+      let small : 2 ^ log_height m.matrix ≤ 2 ^ top = pow-le-pow_right {n = 2} (omega arith)
+      each.0.within in
       omega (arith, rest, is, small)
 
   -- a matrix opens the row that the word of its log height reads there
@@ -80,27 +87,35 @@ module _ {F E : Type 0} (top q : ℕ) where
   OpensRow greatest m = opened_row greatest (q / (2 ^ top / greatest)) m.matrix
       ≡ get_or (rows m.matrix) (q / 2 ^ (top - log_height m.matrix)) []
 
-  opens_row : (g : ℕ) (m : Opened F E) → HasCoset top m.matrix → g ≤ top → length (rows m.matrix) ≤ 2 ^ g
+  opens_row : (g : ℕ) (m : Opened F E) → HasCoset top m.matrix → g ≤ top
+      → length (rows m.matrix) ≤ 2 ^ g
       → OpensRow (2 ^ g) m
   unfolding OpensRow
   opens_row g m c within below =
       let is = height_is top m.matrix c in
       ap (λ n. get_or (rows m.matrix) (q / (2 ^ top / 2 ^ g) / (2 ^ g / n)) []) is
       ∙ ap (λ n. get_or (rows m.matrix) n [])
-      (place top g (log_height m.matrix) q (smaller_power (log_height m.matrix) g (omega (arith, below, is))) within)
+      (place top g (log_height m.matrix) q
+      (smaller_power (log_height m.matrix) g (omega (arith, below, is))) within)
 
-  open_rows : (g : ℕ) (ms : List (Opened F E)) → Each (λ m. HasCoset top m.matrix) ms → g ≤ top → greatest_of ms ≤ 2 ^ g
+  open_rows : (g : ℕ) (ms : List (Opened F E)) → Each (λ m. HasCoset top m.matrix) ms → g ≤ top
+      → greatest_of ms ≤ 2 ^ g
       → Each (OpensRow (2 ^ g)) ms
   open_rows g [] each within below = tt
-  open_rows g (m ∷ ms) each within below =
-      (opens_row g m each.0 within (omega (arith, below)), open_rows g ms each.1 within (omega (arith, below)))
+  open_rows g (m ∷ ms) each within below = (
+    opens_row g m each.0 within (omega (arith, below)),
+    open_rows g ms each.1 within
+        (omega (arith, below)),
+  )
 
   -- so do all matrices that were committed together
-  rows_open : (ms : List (Opened F E)) → Each (λ m. HasCoset top m.matrix) ms → Each (OpensRow (greatest_of ms)) ms
+  rows_open : (ms : List (Opened F E)) → Each (λ m. HasCoset top m.matrix) ms
+      → Each (OpensRow (greatest_of ms)) ms
   rows_open ms each =
       let power = max_height-power (dimensions_of (matrices_in ms)) (powers_of ms each) in
       subst (λ n. Each (OpensRow n) ms) (sym power.1)
-      (open_rows power.0 ms each (smaller_power power.0 top (omega (arith, power.1, bounded ms each))) (omega (arith, power.1)))
+      (open_rows power.0 ms each (smaller_power power.0 top
+      (omega (arith, power.1, bounded ms each))) (omega (arith, power.1)))
 
 module _ {F E : Type 0} (f : Fields F E) (log_blowup top q h : ℕ) where
   -- the place at which the word is read, and its point
@@ -110,7 +125,8 @@ module _ {F E : Type 0} (f : Fields F E) (log_blowup top q h : ℕ) where
   abbrev x : E
   x = point_read f h i
 
-  matrix_terms_are : (claim : MatrixClaim E) (m : Opened F E) (row : List F) → IsClaimOf log_blowup claim m
+  matrix_terms_are : (claim : MatrixClaim E) (m : Opened F E) (row : List F)
+      → IsClaimOf log_blowup claim m
       → row ≡ get_or (rows m.matrix) (q / 2 ^ (top - log_height m.matrix)) []
       → cond (claimed_height log_blowup claim == h) (matrix_terms f x claim row) []
       ≡ opened_terms f h i m
@@ -138,13 +154,15 @@ module _ {F E : Type 0} (f : Fields F E) (log_blowup top q h : ℕ) where
   commitment_terms_are (claim ∷ claims) [] greatest are opens = absurd are
   commitment_terms_are (claim ∷ claims) (m ∷ ms) greatest are opens =
       ap₂ (λ ts us. ts ++ us)
-      (matrix_terms_are claim m (opened_row greatest (q / (2 ^ top / greatest)) m.matrix) are.0 opens.0)
+      (matrix_terms_are claim m (opened_row greatest (q / (2 ^ top / greatest)) m.matrix) are.0
+      opens.0)
       (commitment_terms_are claims ms greatest are.1 opens.1)
 
 module _ {F E InCom : Type 0} (f : Fields F E) (log_blowup : ℕ) (alpha : E) (top q h : ℕ) where
   terms_are : (claims : List (CommitmentClaim E InCom)) (rounds : List (List (Opened F E)))
       → AreClaimsOf log_blowup claims rounds → Each (λ m. HasCoset top m.matrix) (joined rounds)
-      → terms f log_blowup h (point_read f h (q / 2 ^ (top - h))) claims (map (rows_opened top q) rounds)
+      → terms f log_blowup h (point_read f h (q / 2 ^ (top - h))) claims
+      (map (rows_opened top q) rounds)
       ≡ flat_map (opened_terms f h (q / 2 ^ (top - h))) (joined rounds)
   terms_are [] [] are cosets = refl
   terms_are [] (ms ∷ rounds) are cosets = absurd are
@@ -152,13 +170,15 @@ module _ {F E InCom : Type 0} (f : Fields F E) (log_blowup : ℕ) (alpha : E) (t
   terms_are (claim ∷ claims) (ms ∷ rounds) are cosets =
       let parts = each_split (λ m. HasCoset top m.matrix) ms (joined rounds) cosets in
       ap₂ (λ ts us. ts ++ us)
-      (commitment_terms_are f log_blowup top q h claim.matrices ms (max_height (dimensions_of (matrices_in ms))) are.0
+      (commitment_terms_are f log_blowup top q h claim.matrices ms
+      (max_height (dimensions_of (matrices_in ms))) are.0
       (rows_open top q ms parts.0))
       (terms_are claims rounds are.1 parts.1)
       ∙ sym (flat_map-append (opened_terms f h (q / 2 ^ (top - h))) ms (joined rounds))
 
   -- the word's entry at a position's place is the quotient sum of the rows that the position opens
-  pub entry_is_quotient_sum : (claims : List (CommitmentClaim E InCom)) (rounds : List (List (Opened F E)))
+  pub entry_is_quotient_sum : (claims : List (CommitmentClaim E InCom))
+      (rounds : List (List (Opened F E)))
       (rows : List (List (List F))) (d : E)
       → AreClaimsOf log_blowup claims rounds → rows ≡ map (rows_opened top q) rounds
       → All (λ m. HasCoset top m.matrix) (joined rounds)
@@ -166,10 +186,13 @@ module _ {F E InCom : Type 0} (f : Fields F E) (log_blowup : ℕ) (alpha : E) (t
       → get_or (batch_word f alpha h (joined rounds)) (q / 2 ^ (top - h)) d
       ≡ quotient_sum f log_blowup alpha top claims rows q h
   entry_is_quotient_sum claims rounds rows d are opened cosets within below =
-      get_or-tabulate (2 ^ h) (λ i. val f.ext (flat_map (opened_terms f h i) (joined rounds)) alpha) (q / 2 ^ (top - h)) d inside
+      get_or-tabulate (2 ^ h) (λ i. val f.ext (flat_map (opened_terms f h i) (joined rounds)) alpha)
+      (q / 2 ^ (top - h)) d inside
       ∙ ap (λ ts. val f.ext ts alpha)
-      (sym (terms_are claims rounds are (each_from_All (λ m. HasCoset top m.matrix) (joined rounds) cosets)))
-      ∙ ap (λ rs. val f.ext (terms f log_blowup h (point_read f h (q / 2 ^ (top - h))) claims rs) alpha) (sym opened)
+      (sym (terms_are claims rounds are
+      (each_from_All (λ m. HasCoset top m.matrix) (joined rounds) cosets)))
+      ∙ ap (λ rs. val f.ext (terms f log_blowup h (point_read f h (q / 2 ^ (top - h))) claims rs)
+      alpha) (sym opened)
     where
       inside : q / 2 ^ (top - h) < 2 ^ h
       inside =
@@ -194,7 +217,8 @@ module _ {F E InCom : Type 0} (f : Fields F E) (log_blowup : ℕ) (alpha : E) (t
   entry_is_input claims rounds rows heights words h are opened cosets hs ws below =
       ap (λ u. entry_of f.ext u (q / 2 ^ (top - h)))
       (ap (λ ws. value_at (zip heights ws) h) ws
-      ∙ ap (λ hs. value_at (zip hs (map (word f alpha rounds) hs)) h) (hs ∙ claimed_heights log_blowup claims rounds are (suc top) within)
+      ∙ ap (λ hs. value_at (zip hs (map (word f alpha rounds) hs)) h)
+      (hs ∙ claimed_heights log_blowup claims rounds are (suc top) within)
       ∙ value_of_height (joined rounds) (word f alpha rounds) (suc top) within h)
       ∙ here (has_height (joined rounds) h) refl
       ∙ ap (λ t. cond t (Some (quotient_sum f log_blowup alpha top claims rows q h)) None)
@@ -211,6 +235,7 @@ module _ {F E InCom : Type 0} (f : Fields F E) (log_blowup : ℕ) (alpha : E) (t
           let is = eqb-true (log_height some.1.matrix) h some.4 in
           let read = ap (λ m. log_height m.matrix) some.3 in
           let bound = within some.0 some.1 some.2 in
-          ap Some (entry_is_quotient_sum f log_blowup alpha top q h claims rounds rows f.ext.zero are opened cosets
+          ap Some (entry_is_quotient_sum f log_blowup alpha top q h claims rounds rows f.ext.zero
+          are opened cosets
           (omega (arith, is, read, bound)) below)
       here false e = refl

@@ -1,14 +1,18 @@
 -- The log heights of opened matrices: what stands in a list beside them, and that they are those of
 -- the claims.
-use Rattle.std.proofs.Common.{◌≡◌, ◌≤◌, ◌<◌, ◌==◌, ◌||◌, cond, true, false, Bool, inl, inr, ℕ, zero, suc, ◌+◌, ◌-◌, List, [], ◌∷◌, ◌++◌, map, get_or, All, Some, None, append_assoc, refl, sym, ap, ap₂, ◌∙◌, arith}
+use Rattle.std.proofs.Common.{◌≡◌, ◌≤◌, ◌<◌, ◌==◌, ◌||◌, cond, true, false, Bool, inl, inr, ℕ, zero}
+use Rattle.std.proofs.Common.{suc, ◌+◌, ◌-◌, List, [], ◌∷◌, ◌++◌, map, get_or, All, Some, None}
+use Rattle.std.proofs.Common.{append_assoc, refl, sym, ap, ap₂, ◌∙◌, arith}
 use Rattle.std.proofs.lemmas.List.{map-append}
 use Rattle.std.proofs.lemmas.Bool.{eqb-true, eq-eqb, ne_eqb, cases_eq, cases_lt}
-use Rattle.std.proofs.lemmas.List.Folds.{list_any-append, list_any_none, list_any_at, Any-from_list_any}
+use Rattle.std.proofs.lemmas.List.Folds.{list_any-append, list_any_none, list_any_at}
+use Rattle.std.proofs.lemmas.List.Folds.{Any-from_list_any}
 use Rattle.std.specs.List.{AllZip, zip}
 use Rattle.algebra.specs.Nested.{joined}
 use Rattle.p3_fri_relation.specs.Setting.{MatrixClaim, CommitmentClaim}
 use Rattle.p3_fri_relation.specs.Heights.{matrices_of, greatest_height, heights_of}
-use Rattle.p3_fri_relation.specs.Heights.{has_height as has_claimed, heights_below as claimed_below, log_height as claimed_height}
+use Rattle.p3_fri_relation.specs.Heights.{has_height as has_claimed, heights_below as claimed_below}
+use Rattle.p3_fri_relation.specs.Heights.{log_height as claimed_height}
 use Rattle.p3_fri_relation.specs.FoldedQuery.{value_at}
 use Rattle.p3_fri_relation.proofs.ClaimedHeights.{has_height-bound}
 use Rattle.p3_fri_openings.specs.Rounds.{log_height}
@@ -31,8 +35,10 @@ module _ {F E : Type 0} (ms : List (Opened F E)) where
     unlisted (suc n) h l = here (has_height ms n) (unlisted n h (omega (arith, l)))
       where
         here : (t : Bool) → value_at (beside n) h ≡ None
-            → value_at (zip (cond t (n ∷ []) [] ++ heights_below ms n) (map w (cond t (n ∷ []) [] ++ heights_below ms n))) h ≡ None
-        here true e = ap (λ t. cond t (Some (w n)) (value_at (beside n) h)) (ne_eqb h n (λ same. omega (arith, l, same))) ∙ e
+            → value_at (zip (cond t (n ∷ []) [] ++ heights_below ms n)
+            (map w (cond t (n ∷ []) [] ++ heights_below ms n))) h ≡ None
+        here true e = ap (λ t. cond t (Some (w n)) (value_at (beside n) h))
+            (ne_eqb h n (λ same. omega (arith, l, same))) ∙ e
         here false e = e
 
     listed : (n h : ℕ) → h < n → value_at (beside n) h ≡ cond (has_height ms h) (Some (w h)) None
@@ -43,7 +49,8 @@ module _ {F E : Type 0} (ms : List (Opened F E)) where
     ]
       where
         last : (t : Bool) → has_height ms n ≡ t → h ≡ n
-            → value_at (zip (cond t (n ∷ []) [] ++ heights_below ms n) (map w (cond t (n ∷ []) [] ++ heights_below ms n))) h
+            → value_at (zip (cond t (n ∷ []) [] ++ heights_below ms n)
+            (map w (cond t (n ∷ []) [] ++ heights_below ms n))) h
             ≡ cond (has_height ms h) (Some (w h)) None
         last true e same =
             ap (λ t. cond t (Some (w n)) (value_at (beside n) h)) (eq-eqb h n same)
@@ -53,8 +60,10 @@ module _ {F E : Type 0} (ms : List (Opened F E)) where
             unlisted n h (omega (arith, same))
             ∙ ap (λ t. cond t (Some (w h)) None) (sym (ap (has_height ms) same ∙ e))
 
-        before : (t : Bool) → ¬ (h ≡ n) → value_at (beside n) h ≡ cond (has_height ms h) (Some (w h)) None
-            → value_at (zip (cond t (n ∷ []) [] ++ heights_below ms n) (map w (cond t (n ∷ []) [] ++ heights_below ms n))) h
+        before : (t : Bool) → ¬ (h ≡ n) → value_at (beside n) h
+            ≡ cond (has_height ms h) (Some (w h)) None
+            → value_at (zip (cond t (n ∷ []) [] ++ heights_below ms n)
+            (map w (cond t (n ∷ []) [] ++ heights_below ms n))) h
             ≡ cond (has_height ms h) (Some (w h)) None
         before true differ e =
             ap (λ t. cond t (Some (w n)) (value_at (beside n) h)) (ne_eqb h n differ) ∙ e
@@ -79,7 +88,8 @@ module _ {F E : Type 0} (ms : List (Opened F E)) where
         ]
 
   -- no more of them
-  pub heights_same : (n k : ℕ) → All (λ m. log_height m.matrix < n) ms → heights_below ms (k + n) ≡ heights_below ms n
+  pub heights_same : (n k : ℕ) → All (λ m. log_height m.matrix < n) ms → heights_below ms (k + n)
+      ≡ heights_below ms n
   heights_same n zero below =
       let e : 0 + n ≡ n = omega arith in ap (λ j. heights_below ms j) e
   heights_same n (suc k) below =
@@ -89,7 +99,8 @@ module _ {F E : Type 0} (ms : List (Opened F E)) where
     where
       none : has_height ms (k + n) ≡ false
       none = list_any_none (λ m. log_height m.matrix == (k + n)) ms
-          (λ i d l. let b = below i d l in other (log_height (get_or ms i d).matrix) (k + n) (omega (arith, b)))
+          (λ i d l. let b = below i d l in other (log_height (get_or ms i d).matrix) (k + n)
+          (omega (arith, b)))
 
   -- words from the tallest down, with the next height's, if there is one
   pub words_more : {A : Type 0} (w : ℕ → A) (k : ℕ) (old new whole : List A) → 0 < k
@@ -115,7 +126,8 @@ module _ {F E : Type 0} (log_blowup : ℕ) where
       ap₂ (λ n t. (n == h) || t) are.0.height (claimed_alike h claims ms are.1)
 
 module _ {F E InCom : Type 0} (log_blowup : ℕ) where
-  pub has_claimed_height : (h : ℕ) (claims : List (CommitmentClaim E InCom)) (rounds : List (List (Opened F E)))
+  pub has_claimed_height : (h : ℕ) (claims : List (CommitmentClaim E InCom))
+      (rounds : List (List (Opened F E)))
       → AreClaimsOf log_blowup claims rounds
       → has_claimed log_blowup (matrices_of claims) h ≡ has_height (joined rounds) h
   has_claimed_height h [] [] are = refl
@@ -123,11 +135,13 @@ module _ {F E InCom : Type 0} (log_blowup : ℕ) where
   has_claimed_height h (claim ∷ claims) [] are = absurd are
   has_claimed_height h (claim ∷ claims) (ms ∷ rounds) are =
       list_any-append (λ m. claimed_height log_blowup m == h) claim.matrices (matrices_of claims)
-      ∙ ap₂ (λ s t. s || t) (claimed_alike log_blowup h claim.matrices ms are.0) (has_claimed_height h claims rounds are.1)
+      ∙ ap₂ (λ s t. s || t) (claimed_alike log_blowup h claim.matrices ms are.0)
+      (has_claimed_height h claims rounds are.1)
       ∙ sym (list_any-append (λ m. log_height m.matrix == h) ms (joined rounds))
 
   -- below each number
-  pub claimed_heights_below : (claims : List (CommitmentClaim E InCom)) (rounds : List (List (Opened F E)))
+  pub claimed_heights_below : (claims : List (CommitmentClaim E InCom))
+      (rounds : List (List (Opened F E)))
       → AreClaimsOf log_blowup claims rounds → (n : ℕ)
       → claimed_below log_blowup (matrices_of claims) n ≡ heights_below (joined rounds) n
   claimed_heights_below claims rounds are zero = refl
@@ -136,7 +150,8 @@ module _ {F E InCom : Type 0} (log_blowup : ℕ) where
       (claimed_heights_below claims rounds are n)
 
   -- all of them
-  pub claimed_heights : (claims : List (CommitmentClaim E InCom)) (rounds : List (List (Opened F E)))
+  pub claimed_heights : (claims : List (CommitmentClaim E InCom))
+      (rounds : List (List (Opened F E)))
       → AreClaimsOf log_blowup claims rounds
       → (n : ℕ) → All (λ m. log_height m.matrix < n) (joined rounds)
       → heights_of log_blowup (matrices_of claims) ≡ heights_below (joined rounds) n
@@ -161,4 +176,8 @@ module _ {F E InCom : Type 0} (log_blowup : ℕ) where
           let h = log_height (get_or (joined rounds) k d).matrix in
           let is : has_height (joined rounds) h ≡ true =
           list_any_at (λ m. log_height m.matrix == h) (joined rounds) k d l (eq-eqb h h refl) in
-          omega (arith, has_height-bound log_blowup (matrices_of claims) h (has_claimed_height h claims rounds are ∙ is))
+          omega (
+            arith,
+            has_height-bound log_blowup (matrices_of claims) h
+                (has_claimed_height h claims rounds are ∙ is),
+          )

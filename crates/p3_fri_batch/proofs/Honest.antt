@@ -1,5 +1,5 @@
 -- The values of the committed polynomials are values for each point, and what is opened with them.
-use Rattle.std.proofs.Common.{◌≡◌, ℕ, zero, suc, List, [], ◌∷◌, length, map, refl, ap, ap₂, ◌∙◌}
+use Rattle.std.proofs.Common.{◌≡◌, ℕ, List, [], ◌∷◌, length, map, refl, ap, ap₂, ◌∙◌}
 use Rattle.std.proofs.lemmas.List.{length-map}
 use Rattle.std.specs.List.{AllZip}
 use Rattle.algebra.specs.Nested.{lists}
@@ -48,13 +48,15 @@ module _ {F E : Type 0} (f : Fields F E) (log_blowup : ℕ) where
       ≡ map (λ r. both opened_there r.matrices.now (lists r.points.now)) rounds
   rounds_opened [] = refl
   rounds_opened (r ∷ rounds) =
-      ap₂ (λ os oss. os ∷ oss) (round_opened r.matrices.now (lists r.points.now)) (rounds_opened rounds)
+      ap₂ (λ os oss. os ∷ oss) (round_opened r.matrices.now (lists r.points.now))
+      (rounds_opened rounds)
 
   width_of_values : (matrix : RowMajorMatrix F) (z : E)
       → length (committed_values f log_blowup matrix z) ≡ matrix_width matrix
   width_of_values matrix z =
       length-map (committed f log_blowup matrix) (λ c. val f.ext (map f.lift c) z)
-      ∙ length-tabulate (matrix_width matrix) (λ j. committed_column f log_blowup (column f.base matrix j))
+      ∙ length-tabulate (matrix_width matrix)
+      (λ j. committed_column f log_blowup (column f.base matrix j))
 
   widths_of_values : (matrix : RowMajorMatrix F) (points : List E)
       → Each (λ ys. length ys ≡ matrix_width matrix) (values_there matrix points)
@@ -68,7 +70,8 @@ module _ {F E : Type 0} (f : Fields F E) (log_blowup : ℕ) where
   round_has_values (m ∷ matrices) (zs ∷ points) = (
     record {
       counts = length-map zs (committed_values f log_blowup m);
-      widths = All_from_each (λ ys. length ys ≡ matrix_width m) (values_there m zs) (widths_of_values m zs);
+      widths = All_from_each (λ ys. length ys ≡ matrix_width m) (values_there m zs)
+          (widths_of_values m zs);
     },
     round_has_values matrices points,
   )

@@ -8,5 +8,7 @@ pub row_wide : {A : Type 0} (m : RowMajorMatrix A) (i : ℕ) → i < length (row
     → length (get_or (rows m) i []) ≡ matrix_width m
 unfolding rows matrix_width
 row_wide m i l =
-    let below : i < length m.values.items / m.width = omega (arith, l, length-rows_of m.width m.values.items) in
-    ap length (get_or-rows_of m.width m.values.items i [] below) ∙ length-row_of m.width m.values.items i below
+    let below : i < length m.values.items / m.width = omega
+    (arith, l, length-rows_of m.width m.values.items) in
+    ap length (get_or-rows_of m.width m.values.items i [] below)
+    ∙ length-row_of m.width m.values.items i below

@@ -1,5 +1,6 @@
 -- A word and a power after one more matrix.
-use Rattle.std.proofs.Common.{◌≡◌, ◌≢◌, ◌<◌, cond, ℕ, ◌+◌, ◌*◌, ◌^◌, List, [], ◌∷◌, ◌++◌, length, map, get_or, sym, ap, ◌∙◌, length-append, arith}
+use Rattle.std.proofs.Common.{◌≡◌, ◌≢◌, ◌<◌, cond, ℕ, ◌+◌, ◌*◌, ◌^◌, List, [], ◌∷◌, ◌++◌, length}
+use Rattle.std.proofs.Common.{map, get_or, sym, ap, ◌∙◌, length-append, arith}
 use Rattle.std.proofs.lemmas.Bool.{eq-eqb, ne_eqb}
 use Rattle.std.proofs.lemmas.Grind.{flat_map-append}
 use Rattle.std.proofs.lemmas.List.{append-nil, length-map}
@@ -8,7 +9,8 @@ use Rattle.algebra.specs.Field.{IsField, pow}
 use Rattle.algebra.specs.Polynomial.{val, tabulate}
 use Rattle.algebra.proofs.Powers.{pow-zero}
 use Rattle.algebra.proofs.Values.{val-nil}
-use Rattle.algebra.proofs.Lists.{Each, tabulate-equal, tabulate-get_or, get_or-tabulate, length-tabulate}
+use Rattle.algebra.proofs.Lists.{Each, tabulate-equal, tabulate-get_or, get_or-tabulate}
+use Rattle.algebra.proofs.Lists.{length-tabulate}
 use Rattle.p3_matrix.specs.Matrix.{rows, matrix_width}
 use Rattle.p3_fri_relation.specs.Setting.{Fields}
 use Rattle.p3_fri_openings.specs.Log2.{log2}
@@ -20,7 +22,8 @@ use Rattle.p3_fri_batch.proofs.Terms.{terms_length}
 
 module _ {F E : Type 0} (f : Fields F E) (L : IsField f.ext) (alpha : E) (h : ℕ) where
   -- without matrices the word is zero
-  pub summed_none : (word : List E) (step : E) → word ≡ tabulate (2 ^ h) (λ i. f.ext.zero) → step ≡ f.ext.one
+  pub summed_none : (word : List E) (step : E) → word ≡ tabulate (2 ^ h) (λ i. f.ext.zero) → step
+      ≡ f.ext.one
       → IsSummed f alpha h [] word step
   summed_none word step w s = record {
     word_is = w ∙ tabulate-equal (2 ^ h) (λ i. f.ext.zero) (λ i. val f.ext [] alpha)
@@ -29,28 +32,34 @@ module _ {F E : Type 0} (f : Fields F E) (L : IsField f.ext) (alpha : E) (h : �
   }
 
   one_more : (ms : List (Opened F E)) (m : Opened F E) (i : ℕ)
-      → flat_map (opened_terms f h i) (ms ++ m ∷ []) ≡ flat_map (opened_terms f h i) ms ++ opened_terms f h i m
+      → flat_map (opened_terms f h i) (ms ++ m ∷ [])
+      ≡ flat_map (opened_terms f h i) ms ++ opened_terms f h i m
   one_more ms m i =
       flat_map-append (opened_terms f h i) ms (m ∷ [])
       ∙ ap (λ ts. flat_map (opened_terms f h i) ms ++ ts) (append-nil (opened_terms f h i m))
 
   -- a matrix of another height adds nothing
   pub summed_other : (ms : List (Opened F E)) (m : Opened F E) (word : List E) (step : E)
-      → log_height m.matrix ≢ h → IsSummed f alpha h ms word step → IsSummed f alpha h (ms ++ m ∷ []) word step
+      → log_height m.matrix ≢ h → IsSummed f alpha h ms word step
+      → IsSummed f alpha h (ms ++ m ∷ []) word step
   summed_other ms m word step differ so_far =
-      let same : (i : ℕ) → flat_map (opened_terms f h i) (ms ++ m ∷ []) ≡ flat_map (opened_terms f h i) ms =
+      let same : (i : ℕ) → flat_map (opened_terms f h i) (ms ++ m ∷ [])
+      ≡ flat_map (opened_terms f h i) ms =
       λ i. one_more ms m i
-      ∙ ap (λ t. flat_map (opened_terms f h i) ms ++ cond t (terms_at f.ext (point_read f h i) (map f.lift (get_or (rows m.matrix) i [])) m.claims) [])
+      ∙ ap (λ t. flat_map (opened_terms f h i) ms ++ cond t
+      (terms_at f.ext (point_read f h i) (map f.lift (get_or (rows m.matrix) i [])) m.claims) [])
       (ne_eqb (log_height m.matrix) h differ)
       ∙ append-nil (flat_map (opened_terms f h i) ms) in
       record {
-        word_is = so_far.word_is ∙ tabulate-equal (2 ^ h) (λ i. val f.ext (flat_map (opened_terms f h i) ms) alpha)
+        word_is = so_far.word_is ∙ tabulate-equal (2 ^ h)
+            (λ i. val f.ext (flat_map (opened_terms f h i) ms) alpha)
             (λ i. val f.ext (flat_map (opened_terms f h i) (ms ++ m ∷ [])) alpha)
             (λ i _. ap (λ ts. val f.ext ts alpha) (sym (same i)));
         step_is = λ i l. so_far.step_is i l ∙ ap (λ ts. pow f.ext alpha (length ts)) (sym (same i));
       }
 
-  module _ (m : Opened F E) (taller : log_height m.matrix ≡ h) (size : length (rows m.matrix) ≡ 2 ^ h)
+  module _ (m : Opened F E) (taller : log_height m.matrix ≡ h)
+      (size : length (rows m.matrix) ≡ 2 ^ h)
       (wide : Each (λ c. length c.values ≡ matrix_width m.matrix) m.claims) where
     added : (i : ℕ) → List E
     added i = terms_at f.ext (point_read f h i) (map f.lift (get_or (rows m.matrix) i [])) m.claims
@@ -60,14 +69,17 @@ module _ {F E : Type 0} (f : Fields F E) (L : IsField f.ext) (alpha : E) (h : �
     unfolding added
     joined_terms ms i =
         one_more ms m i
-        ∙ ap (λ t. flat_map (opened_terms f h i) ms ++ cond t (terms_at f.ext (point_read f h i) (map f.lift (get_or (rows m.matrix) i [])) m.claims) [])
+        ∙ ap (λ t. flat_map (opened_terms f h i) ms ++ cond t
+        (terms_at f.ext (point_read f h i) (map f.lift (get_or (rows m.matrix) i [])) m.claims) [])
         (eq-eqb (log_height m.matrix) h taller)
 
     added_length : (i : ℕ) → i < 2 ^ h → length (added i) ≡ length m.claims * matrix_width m.matrix
     unfolding added
     added_length i l =
-        terms_length f.ext L alpha (point_read f h i) (map f.lift (get_or (rows m.matrix) i [])) (matrix_width m.matrix) m.claims wide
-        (length-map (get_or (rows m.matrix) i []) f.lift ∙ row_wide m.matrix i (omega (arith, l, size)))
+        terms_length f.ext L alpha (point_read f h i) (map f.lift (get_or (rows m.matrix) i []))
+        (matrix_width m.matrix) m.claims wide
+        (length-map (get_or (rows m.matrix) i []) f.lift
+        ∙ row_wide m.matrix i (omega (arith, l, size)))
 
     -- one of this height adds its quotients, by the powers that follow
     pub summed_more : (ms : List (Opened F E)) (word new : List E) (step after : E)
@@ -86,10 +98,13 @@ module _ {F E : Type 0} (f : Fields F E) (L : IsField f.ext) (alpha : E) (h : �
           word_is = sym (tabulate-get_or (2 ^ h) new f.ext.zero still)
               ∙ tabulate-equal (2 ^ h) (λ i. get_or new i f.ext.zero)
               (λ i. val f.ext (flat_map (opened_terms f h i) (ms ++ m ∷ [])) alpha)
-              (λ i l. sums i f.ext.zero (flat_map (opened_terms f h i) ms) (omega (arith, l, long)) (so_far.step_is i l)
+              (λ i l. sums i f.ext.zero (flat_map (opened_terms f h i) ms) (omega (arith, l, long))
+              (so_far.step_is i l)
               (ap (λ ys. get_or ys i f.ext.zero) so_far.word_is
-              ∙ get_or-tabulate (2 ^ h) (λ i. val f.ext (flat_map (opened_terms f h i) ms) alpha) i f.ext.zero l)
-              ∙ ap (λ n. val f.ext (flat_map (opened_terms f h i) ms ++ terms_at f.ext (point_read f n i)
+              ∙ get_or-tabulate (2 ^ h) (λ i. val f.ext (flat_map (opened_terms f h i) ms) alpha) i
+              f.ext.zero l)
+              ∙ ap (λ n. val f.ext (flat_map (opened_terms f h i) ms ++ terms_at f.ext
+              (point_read f n i)
               (map f.lift (get_or (rows m.matrix) i [])) m.claims) alpha) read
               ∙ ap (λ ts. val f.ext ts alpha) (sym (joined_terms ms i)));
           step_is = λ i l. goes_on (length (flat_map (opened_terms f h i) ms)) (so_far.step_is i l)
@@ -100,7 +115,8 @@ module _ {F E : Type 0} (f : Fields F E) (L : IsField f.ext) (alpha : E) (h : �
         }
 
   -- the word has the length of its log height
-  pub summed_length : (ms : List (Opened F E)) (word : List E) (step : E) → IsSummed f alpha h ms word step
+  pub summed_length : (ms : List (Opened F E)) (word : List E) (step : E)
+      → IsSummed f alpha h ms word step
       → length word ≡ 2 ^ h
   summed_length ms word step so_far =
       ap length so_far.word_is

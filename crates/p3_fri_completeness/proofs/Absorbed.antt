@@ -1,17 +1,18 @@
 -- What is absorbed of honest claims is what a prover absorbs of the values that it opens.
-use Rattle.std.proofs.Common.{◌≡◌, ℕ, suc, ◌+◌, ◌^◌, List, [], ◌∷◌, ◌++◌, map, length, refl, sym, ap, ap₂}
+use Rattle.std.proofs.Common.{◌≡◌, ℕ, ◌^◌, List, [], ◌∷◌, ◌++◌, map, length, refl, sym}
+use Rattle.std.proofs.Common.{ap, ap₂}
 use Rattle.std.proofs.Common.{◌∙◌, arith, Some}
 use Rattle.std.specs.Global.{Global}
 use Rattle.std.specs.List.{flat_map}
 use Rattle.std.specs.declared.vec.Vec.{Vec}
 use Rattle.std.proofs.lemmas.Grind.{flat_map-append}
-use Rattle.std.proofs.lemmas.List.{append_assoc}
 use Rattle.algebra.specs.Nested.{lists, nested, joined}
 use Rattle.algebra.proofs.Lists.{Each, head_eq, tail_eq}
 use Rattle.p3_matrix.specs.declared.dense.RowMajorMatrix.{RowMajorMatrix}
 use Rattle.p3_pcs.specs.Claims.{both, matrix_claims, opened_values}
 use Rattle.p3_pcs.specs.Requests.{Request, honest_claims, honest_values}
-use Rattle.p3_fri_pcs_transcript.specs.Counts.{counts_at_points, counts_in_matrices, counts_of_values}
+use Rattle.p3_fri_pcs_transcript.specs.Counts.{counts_in_matrices}
+use Rattle.p3_fri_pcs_transcript.specs.Counts.{counts_of_values}
 use Rattle.p3_fri_pcs_transcript.specs.Counts.{lists_in_matrices, lists_of_values, all_values}
 use Rattle.p3_fri_pcs_transcript.specs.Steps.{pcs_stream}
 use Rattle.p3_fri_pcs_transcript.specs.Replay.{BatchReplay, claims_replay}
@@ -23,13 +24,15 @@ use Rattle.p3_fri_completeness.specs.Requests.{point_claim, matrix_claim, relati
 use Rattle.p3_fri_completeness.specs.Requests.{held_of, IsHonestRequest}
 use Rattle.p3_fri_completeness.proofs.Requests.{Fit}
 
--- values in vectors, and the same as lists
+-- values by matrix and point: how many there are at each point, and all of them in order
 module _ {E : Type 0} where
-  abbrev counts_in : List (List (List E)) → List (List ℕ)
+  abbrev pub counts_in : List (List (List E)) → List (List ℕ)
   counts_in values = map (λ points. map (λ ys. length ys) points) values
 
-  abbrev all_in : List (List (List E)) → List E
+  abbrev pub all_in : List (List (List E)) → List E
   all_in values = flat_map (λ points. joined points) values
+
+  -- those in vectors are those in lists
 
   counts_of_matrices : (matrices : List (Vec (Vec E Global) Global))
       → counts_in_matrices matrices ≡ counts_in (nested matrices)
@@ -38,7 +41,7 @@ module _ {E : Type 0} where
       ap₂ (λ n ns. n ∷ ns) (sym (map_twice (λ ys. length ys) (λ v. v.items) points.items))
       (counts_of_matrices matrices)
 
-  counts_of_all : (values : List (Vec (Vec (Vec E Global) Global) Global))
+  pub counts_of_all : (values : List (Vec (Vec (Vec E Global) Global) Global))
       → counts_of_values values ≡ map counts_in (opened_values values)
   counts_of_all [] = refl
   counts_of_all (matrices ∷ values) =
@@ -51,7 +54,7 @@ module _ {E : Type 0} where
       flat_map-append (λ part. part) (lists points.items) (lists_in_matrices matrices)
       ∙ ap (λ rest. joined (lists points.items) ++ rest) (values_of_matrices matrices)
 
-  values_of_all : (values : List (Vec (Vec (Vec E Global) Global) Global))
+  pub values_of_all : (values : List (Vec (Vec (Vec E Global) Global) Global))
       → all_values values ≡ flat_map all_in (opened_values values)
   values_of_all [] = refl
   values_of_all (matrices ∷ values) =
@@ -61,7 +64,8 @@ module _ {E : Type 0} where
 -- honest claims of one matrix, and of one request
 module _ {E : Type 0} (g : E → List E) where
   counts_at_honest : (points : List E)
-      → map (λ z. length z.values) (map point_claim (both (λ z vs. record { point = z; values = vs })
+      → map (λ z. length z.values)
+      (map point_claim (both (λ z vs. record { point = z; values = vs })
       points (map g points)))
       ≡ map (λ ys. length ys) (map g points)
   counts_at_honest [] = refl
@@ -107,7 +111,8 @@ module _ {F E Domain : Type 0} (f : Fields F E) (b : ℕ) (log_size : Domain →
       (values_of_request domains ms lists (tail_eq fit) (omega (arith, count)))
 
 module _ {F E D InCom Domain : Type 0} (f : Fields F E) (p : Parameters)
-    (committed : D → List (RowMajorMatrix F)) (commitment_of : D → InCom) (log_size : Domain → ℕ) where
+    (committed : D → List (RowMajorMatrix F)) (commitment_of : D → InCom)
+    (log_size : Domain → ℕ) where
   abbrev claims_of : List (List Domain) → List (Request D E) → List (CommitmentClaim E InCom)
   claims_of domains requests = relation_claims log_size
       (honest_claims (held_of f committed p.log_blowup) commitment_of domains requests)
@@ -145,30 +150,43 @@ module _ {F E D InCom Domain : Type 0} (f : Fields F E) (p : Parameters)
       h.0.lists_of_points)
       (values_of_claims domains requests (tail_eq fit) h.1)
 
+-- the batch's transcript of values by commitment, matrix and point
+module _ {F E C Com Path InCom InPath : Type 0} (s : Setting F E C Com Path InCom InPath)
+    (p : Parameters) (c : C) (witness : F) where
+  abbrev pub begun : (values : List (List (List (List E)))) → BatchReplay C E
+  begun values = claims_replay s.moves s.fields.coefficients s.fields.base p.batch_pow_bits
+      (pcs_stream s.fields.degree
+      (record { counts = map counts_in values; batch_pow_bits = p.batch_pow_bits })) c
+      (flat_map all_in values) (Some witness)
+
+  -- in the words of the prover's transcript
+  pub begun_of_vectors : (values : List (Vec (Vec (Vec E Global) Global) Global))
+      → claims_replay s.moves s.fields.coefficients s.fields.base p.batch_pow_bits
+      (pcs_stream s.fields.degree
+      (record { counts = counts_of_values values; batch_pow_bits = p.batch_pow_bits })) c
+      (all_values values) (Some witness)
+      ≡ begun (opened_values values)
+  begun_of_vectors values =
+      ap₂ (λ counts ys. claims_replay s.moves s.fields.coefficients s.fields.base p.batch_pow_bits
+      (pcs_stream s.fields.degree
+      (record { counts = counts; batch_pow_bits = p.batch_pow_bits })) c ys (Some witness))
+      (counts_of_all values) (values_of_all values)
+
 module _ {F E D C Com Path InCom InPath Domain : Type 0} (s : Setting F E C Com Path InCom InPath)
     (p : Parameters) (committed : D → List (RowMajorMatrix F)) (commitment_of : D → InCom)
     (log_size : Domain → ℕ) (c : C) (proof : Proof F E Com Path InPath) where
-  -- the batch's transcript of these values, in a prover's words
-  abbrev pub begun : (values : List (Vec (Vec (Vec E Global) Global) Global)) → BatchReplay C E
-  begun values = claims_replay s.moves s.fields.coefficients s.fields.base p.batch_pow_bits
-      (pcs_stream s.fields.degree
-      (record { counts = counts_of_values values; batch_pow_bits = p.batch_pow_bits })) c
-      (all_values values) (Some proof.batch_witness)
-
-  -- is that of the honest claims
-  pub begun_of_claims : (values : List (Vec (Vec (Vec E Global) Global) Global))
-      (domains : List (List Domain)) (requests : List (Request D E))
+  -- that of the honest values is that of the honest claims
+  pub begun_of_claims : (domains : List (List Domain)) (requests : List (Request D E))
       → Fit s.fields p committed commitment_of log_size domains requests
       → Each (IsHonestRequest s.fields committed p) requests
-      → opened_values values ≡ map (honest_values (held_of s.fields committed p.log_blowup)) requests
-      → begun values ≡ batch_replayed s p
+      → begun s p c proof.batch_witness
+      (map (honest_values (held_of s.fields committed p.log_blowup)) requests)
+      ≡ batch_replayed s p
       (claims_of s.fields p committed commitment_of log_size domains requests) proof c
-  begun_of_claims values domains requests fit h are =
+  begun_of_claims domains requests fit h =
       ap₂ (λ counts ys. claims_replay s.moves s.fields.coefficients s.fields.base p.batch_pow_bits
       (pcs_stream s.fields.degree
       (record { counts = counts; batch_pow_bits = p.batch_pow_bits })) c ys
       (Some proof.batch_witness))
-      (counts_of_all values ∙ ap (λ vs. map counts_in vs) are
-      ∙ sym (counts_of_claims s.fields p committed commitment_of log_size domains requests fit h))
-      (values_of_all values ∙ ap (λ vs. flat_map all_in vs) are
-      ∙ sym (values_of_claims s.fields p committed commitment_of log_size domains requests fit h))
+      (sym (counts_of_claims s.fields p committed commitment_of log_size domains requests fit h))
+      (sym (values_of_claims s.fields p committed commitment_of log_size domains requests fit h))

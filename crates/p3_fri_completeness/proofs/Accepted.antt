@@ -102,18 +102,18 @@ module _ {F E C Com Path InCom InPath : Type 0} (s : Setting F E C Com Path InCo
     tall_enough = All_from_each (λ m. final_height p ≤ claimed_height b m) (matrices_of claims)
         (each_claimed b (IsHonest s.fields p) (λ m. final_height p ≤ claimed_height b m)
         (λ claim m is h. subst (λ n. final_height p ≤ n) (sym is.height) h.tall_enough) claims
-            rounds o.claimed honest);
+        rounds o.claimed honest);
     within_two_adicity = All_from_each (λ m. claimed_height b m ≤ s.fields.two_adicity)
         (matrices_of claims)
         (each_claimed b (IsHonest s.fields p) (λ m. claimed_height b m ≤ s.fields.two_adicity)
         (λ claim m is h. subst (λ n. n ≤ s.fields.two_adicity) (sym is.height) h.within_two_adicity)
-            claims rounds o.claimed honest);
+        claims rounds o.claimed honest);
   }
 
   points : All HasPoints (matrices_of claims)
   points = All_from_each HasPoints (matrices_of claims)
       (each_claimed b (IsHonest s.fields p) HasPoints (points_claimed s.fields p) claims rounds
-          o.claimed honest)
+      o.claimed honest)
 
   is_instance : IsInstance p claims s.fields.two_adicity
   is_instance = record { in_range = in_range; points = points }
@@ -139,7 +139,7 @@ module _ {F E C Com Path InCom InPath : Type 0} (s : Setting F E C Com Path InCo
         (λ h. value_at (zip hs (map (λ h. batch_word s.fields alpha h (joined rounds)) hs)) h))
         (sym (claimed_heights b claims rounds o.claimed (suc top) below_top))
         (words_low s.fields laws.base laws.roots laws.shift laws.ext laws.lifts b alpha
-            (joined rounds) (suc top) below_top
+        (joined rounds) (suc top) below_top
         (λ k d l. let m = o.honest k d l in omega (arith, m.tall_enough))
         (λ k d l. (o.honest k d l).within_two_adicity)
         (λ k d l. (o.honest k d l).word));
@@ -170,12 +170,12 @@ module _ {F E C Com Path InCom InPath : Type 0} (s : Setting F E C Com Path InCo
         ≡ get_or (get_or words 0 []) q s.fields.ext.zero
     begins =
         sym (entry_is_quotient_sum s.fields b alpha top q top claims rounds
-            (rows_at j proof.inputs) s.fields.ext.zero
+        (rows_at j proof.inputs) s.fields.ext.zero
         o.claimed rows_here on_cosets (omega arith) below)
         ∙ ap (λ i. get_or (batch_word s.fields alpha top (joined rounds)) i s.fields.ext.zero)
-            own_place
+        own_place
         ∙ ap (λ hs. get_or (get_or (map (λ h. batch_word s.fields alpha h (joined rounds)) hs) 0 [])
-            q s.fields.ext.zero)
+        q s.fields.ext.zero)
         (sym (instance_heights p claims s.fields.two_adicity in_range))
 
     last_same : test.last_of_query s p claims proof alpha betas positions j
@@ -219,7 +219,7 @@ module _ {F E C Com Path InCom InPath : Type 0} (s : Setting F E C Com Path InCo
       sets x.1.path)
       (tabulate-equal p.num_queries
       (λ j. slice_index_or (proved.rows_folded s p heights top words c proof j
-          (slice_index positions j)) k [] ∷ [])
+      (slice_index positions j)) k [] ∷ [])
       (λ j. test.row_folded s p claims proof alpha betas positions j k ∷ [])
       (λ j l. ap (λ rows. slice_index_or rows k [] ∷ [])
       (sym (rows_same j (omega (arith, l, length-positions s p claims proof c))))))

@@ -118,7 +118,7 @@ module _ {F E : Type 0} (f : Fields F E) (p : Parameters) where
         (λ z. length z.values ≡ matrix_width m.matrix) points
     points_made points same =
         rw same (λ k d l. ap length (h.word.honest k d l) ∙ committed_width f p.log_blowup m.matrix
-            (get_or m.claims k d).point)
+        (get_or m.claims k d).point)
 
     pub points_claimed : HasPoints claim
     points_claimed = record {
@@ -134,7 +134,7 @@ module _ {F E : Type 0} (f : Fields F E) (p : Parameters) where
   all_dimensions (claim ∷ claims) [] are h = absurd are
   all_dimensions (claim ∷ claims) (m ∷ ms) are h =
       ap₂ (λ d ds. d ∷ ds) (dimensions_claimed claim m are.0 h.0)
-          (all_dimensions claims ms are.1 h.1)
+      (all_dimensions claims ms are.1 h.1)
 
 -- and the other way round
 module _ (b : ℕ) {F E : Type 0} (P : MatrixClaim E → Type 0) (Q : Opened F E → Type 0)

@@ -63,9 +63,9 @@ module _ {F E : Type 0} (f : Fields F E) (p : Parameters) where
   greatest_more a (claim ∷ claims) (m ∷ ms) are h =
       let n : ℕ = log_height p.log_blowup claim in
       let tall : length (rows m.matrix) ≡ 2 ^ n = h.0.word.height ∙ ap (λ k. 2 ^ k)
-          (sym are.0.height) in
+      (sym are.0.height) in
       either_way (2 ^ a) (length (rows m.matrix)) (2 ^ n) (2 ^ max a n)
-          (max_height (dimensions_of (matrices_in ms)))
+      (max_height (dimensions_of (matrices_in ms)))
       tall (greater_power a n) ∙ greatest_more (max a n) claims ms are.1 h.1
     where
       either_way : (x y z w greatest : ℕ) → y ≡ z → w ≡ max x z → max x (max y greatest)
@@ -78,7 +78,7 @@ module _ {F E : Type 0} (f : Fields F E) (p : Parameters) where
   greatest_claimed claims ms are h =
       let some = at_least_one (dimensions_of (matrices_in ms)) in
       let whole : max 1 (max_height (dimensions_of (matrices_in ms)))
-          ≡ 2 ^ greatest_height p.log_blowup claims =
+      ≡ 2 ^ greatest_height p.log_blowup claims =
       greatest_more 0 claims ms are h in
       omega (arith, some, whole)
 
@@ -120,7 +120,7 @@ module _ {F E : Type 0} (f : Fields F E) (p : Parameters) where
           (subst (λ is. opens claim.commitment (dimensions_of (matrices_in ms)) is o.rows o.path)
           (sym (map_within (2 ^ top) (opened_index p.log_blowup top claim.matrices)
           (batch_index top (matrices_in ms)) (index_opened claim.matrices ms are h t) positions
-              within))
+          within))
           opened.opened)
 
       -- so each commitment opens to the rows of its claimed matrices
@@ -146,8 +146,8 @@ module _ {F E : Type 0} (f : Fields F E) (p : Parameters) where
       inputs_opened (claim ∷ claims) (ms ∷ rounds) (o ∷ os) are h t opened = (
         batch_opened claim ms o are.0 (each_left (IsHonest f p) ms (joined rounds) h)
             (each_left (λ m. log_height p.log_blowup m ≤ top) claim.matrices (matrices_of claims) t)
-                opened.0,
+            opened.0,
         inputs_opened claims rounds os are.1 (each_right (IsHonest f p) ms (joined rounds) h)
             (each_right (λ m. log_height p.log_blowup m ≤ top) claim.matrices
-                (matrices_of claims) t) opened.1,
+            (matrices_of claims) t) opened.1,
       )

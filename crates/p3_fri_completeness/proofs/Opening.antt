@@ -1,22 +1,22 @@
--- An opening of requests is accepted, in the words of the calls of which it is made: the rounds that
--- come of the requests, the committed polynomials' values, the batch's transcript, the words of all
--- log heights, and the test's proof of these.
-use Rattle.std.proofs.Common.{◌≡◌, ◌≢◌, ℕ, suc, ◌+◌, ◌<◌, ◌≤◌, List, [], ◌∷◌, map, length, refl, sym, ap}
+-- An opening of requests is accepted, in the words of the calls of which it is made: the rounds
+-- that come of the requests, the committed polynomials' values, the batch's transcript, the words
+-- of all log heights, and the test's proof of these.
+use Rattle.std.proofs.Common.{◌≡◌, ℕ, suc, ◌+◌, ◌<◌, ◌≤◌, List, [], ◌∷◌, map, length}
+use Rattle.std.proofs.Common.{sym, ap}
 use Rattle.std.proofs.Common.{◌∙◌, subst}
 use Rattle.std.specs.Prelude.{IsTrue}
-use Rattle.std.specs.Global.{Global}
 use Rattle.std.specs.List.{All, AllZip}
-use Rattle.std.specs.declared.vec.Vec.{Vec}
 use Rattle.std.proofs.lemmas.List.{length-map}
 use Rattle.algebra.specs.Nested.{joined}
 use Rattle.algebra.proofs.Lists.{each_from_All}
 use Rattle.p3_matrix.specs.declared.dense.RowMajorMatrix.{RowMajorMatrix}
 use Rattle.p3_pcs.specs.declared.requests.OpeningRequest.{OpeningRequest}
-use Rattle.p3_pcs.specs.Claims.{both, opened_values}
-use Rattle.p3_pcs.specs.Requests.{Request, request, AreOpenable, AreHonest, FitDomains, honest_claims}
+use Rattle.p3_pcs.specs.Claims.{both}
+use Rattle.p3_pcs.specs.Requests.{Request, request, AreOpenable, AreHonest}
+use Rattle.p3_pcs.specs.Requests.{honest_claims}
 use Rattle.p3_fri_folding.specs.Schedule.{tallest}
 use Rattle.p3_fri_pcs_transcript.specs.Replay.{BatchReplay}
-use Rattle.p3_fri_relation.specs.Setting.{Setting, Parameters, CommitmentClaim, Proof, InputOpening}
+use Rattle.p3_fri_relation.specs.Setting.{Setting, Parameters, CommitmentClaim, Proof}
 use Rattle.p3_fri_relation.specs.Acceptance.{test_replay, batch_replayed, Accepts}
 use Rattle.p3_fri_openings.specs.declared.round.OpeningRound.{OpeningRound}
 use Rattle.p3_fri_openings.specs.Opened.{values_asked}
@@ -47,18 +47,18 @@ module _ {F E D C Com Path InCom InPath Domain : Type 0} (s : Setting F E C Com 
     (p : Parameters) (committed : D → List (RowMajorMatrix F)) (commitment_of : D → InCom)
     (log_size : Domain → ℕ) (rounds : List (OpeningRound F E))
     (requests : List (OpeningRequest D E))
-    (values : List (Vec (Vec (Vec E Global) Global) Global)) (c : C)
-    (proof : Proof F E Com Path InPath) (last : C) where
+    (values : List (List (List (List E)))) (c : C) (proof : Proof F E Com Path InPath) (last : C)
+  where
   abbrev asked : List (Request D E)
   asked = map request requests
 
   -- the batch's transcript
   abbrev start : BatchReplay C E
-  start = begun s p committed commitment_of log_size c proof values
+  start = begun s p c proof.batch_witness values
 
   -- what is opened, its log heights, and the words of these
   abbrev opened : List (Opened F E)
-  opened = opened_of rounds (opened_values values)
+  opened = opened_of rounds values
 
   abbrev heights : List ℕ
   heights = heights_below opened (suc s.fields.two_adicity)
@@ -89,7 +89,7 @@ module _ {F E D C Com Path InCom InPath Domain : Type 0} (s : Setting F E C Com 
       (tall : All (λ r. AreTallEnough p (committed r.datum)) asked)
       (off : All (λ r. All (HasPointsOff s.fields) (both ask (committed r.datum) r.points)) asked)
       (rounds_are : map round_request rounds ≡ map (matrices_request committed) requests)
-      (values_are : opened_values values ≡ map (values_asked s.fields p.log_blowup) rounds)
+      (values_are : values ≡ map (values_asked s.fields p.log_blowup) rounds)
       (passes : IsTrue start.passes)
       (canonical : p.batch_pow_bits ≡ 0 → proof.batch_witness ≡ s.fields.base.zero)
       (top : ℕ) (words : List (List E)) (top_is : tallest heights ≡ top)
@@ -120,9 +120,10 @@ module _ {F E D C Com Path InCom InPath Domain : Type 0} (s : Setting F E C Com 
 
       claimed : Went top words before
       claimed = subst (Went top words)
-          (begun_of_claims s p committed commitment_of log_size c proof values domains asked domains_fit
-          (each_from_All (IsHonestRequest s.fields committed p) asked requests_are)
-          (values_are ∙ values_by_request s.fields p.log_blowup committed rounds requests rounds_are))
+          (ap (λ ys. begun s p c proof.batch_witness ys)
+          (values_are ∙ values_by_request s.fields p.log_blowup committed rounds requests rounds_are)
+          ∙ begun_of_claims s p committed commitment_of log_size c proof domains asked domains_fit
+          (each_from_All (IsHonestRequest s.fields committed p) asked requests_are))
           went
 
       heights_same : heights
@@ -149,14 +150,14 @@ module _ {F E D C Com Path InCom InPath Domain : Type 0} (s : Setting F E C Com 
 
       -- the scheme accepts it of the honest claims
       pub opening_accepted : Accepts s p (claims domains) proof c
-      opening_accepted = requests_accepted s p committed commitment_of log_size domains asked c proof
-          last laws fit some_query some_blowup some_arity domains_fit requests_are
-          openable.some_matrix claimed.passed canonical heights top words heights_same top_is words_same
-          (proved_of_asked, inputs_of_asked)
+      opening_accepted = requests_accepted s p committed commitment_of log_size domains asked c
+          proof last laws fit some_query some_blowup some_arity domains_fit requests_are
+          openable.some_matrix claimed.passed canonical heights top words heights_same top_is
+          words_same (proved_of_asked, inputs_of_asked)
 
       -- and leaves a verifier in the prover's last state
       pub opening_last_state : (test_replay s p (claims domains) proof before.state).state ≡ last
-      opening_last_state = requests_last_state s p committed commitment_of log_size domains asked c proof
-          last laws fit some_query some_blowup some_arity domains_fit requests_are
-          openable.some_matrix claimed.passed canonical heights top words heights_same top_is words_same
-          (proved_of_asked, inputs_of_asked)
+      opening_last_state = requests_last_state s p committed commitment_of log_size domains asked c
+          proof last laws fit some_query some_blowup some_arity domains_fit requests_are
+          openable.some_matrix claimed.passed canonical heights top words heights_same top_is
+          words_same (proved_of_asked, inputs_of_asked)

@@ -49,15 +49,15 @@ module _ {F E : Type 0} (f : Fields F E) (p : Parameters) where
 
     opened_word : (points : List E) → All (IsOff f (log_height matrix)) points
         → IsOpenedWord f p.log_blowup (log_height matrix) (log_height matrix - p.log_blowup)
-            (opened_honestly f p.log_blowup matrix points)
+        (opened_honestly f p.log_blowup matrix points)
     opened_word points off = record {
       height = held.height ∙ ap (λ n. 2 ^ n) (sym log_is);
       columns = λ j l.
           let e : held.log_size ≡ held.log_size + p.log_blowup - p.log_blowup = omega arith in
           subst (λ n. IsCosetWord f.base f.root f.shift n (2 ^ (n - p.log_blowup))
-              (column f.base matrix j)) (sym log_is)
+          (column f.base matrix j)) (sym log_is)
           (subst (λ k. IsCosetWord f.base f.root f.shift (held.log_size + p.log_blowup) (2 ^ k)
-              (column f.base matrix j)) e
+          (column f.base matrix j)) e
           (held.columns j l));
       honest = All-map (λ z. z.values ≡ committed_values f p.log_blowup matrix z.point)
           (λ z. claim_at z (committed_values f p.log_blowup matrix z)) points (λ k d l. refl);
@@ -78,7 +78,7 @@ module _ {F E : Type 0} (f : Fields F E) (p : Parameters) where
       within_two_adicity = coset.within;
       some_point = λ none. some (nil_from_length points
           (sym (length-map points (λ z. claim_at z (committed_values f p.log_blowup matrix z)))
-              ∙ ap length none));
+          ∙ ap length none));
       word = opened_word points off;
     }
 
@@ -117,7 +117,7 @@ module _ {F E : Type 0} (f : Fields F E) (p : Parameters) where
   points_same matrix [] = refl
   points_same matrix (z ∷ points) =
       ap (λ rest. claim_at z (committed_values f p.log_blowup matrix z) ∷ rest)
-          (points_same matrix points)
+      (points_same matrix points)
 
   module _ {Domain : Type 0} (log_size : Domain → ℕ) where
     -- those of a request's matrices are claims of them
@@ -133,8 +133,11 @@ module _ {F E : Type 0} (f : Fields F E) (p : Parameters) where
     claims_in (d ∷ domains) [] lists fit count held = absurd cc
     claims_in (d ∷ domains) (m ∷ ms) [] fit count held = absurd (omega (arith, count))
     claims_in (d ∷ domains) (m ∷ ms) (points ∷ lists) fit count held = (
-      record { height = claimed_size m held.0 (log_size d) (head_eq fit); points = points_same m
-          points },
+      record {
+        height = claimed_size m held.0 (log_size d) (head_eq fit);
+        points = points_same m
+            points;
+      },
       claims_in domains ms lists (tail_eq fit) (omega (arith, count)) held.1,
     )
 
@@ -150,7 +153,7 @@ module _ {F E D Com Domain : Type 0} (f : Fields F E) (p : Parameters)
   abbrev claims_of : List (List Domain) → List (Request D E) → List (CommitmentClaim E Com)
   claims_of domains requests =
       relation_claims log_size
-          (honest_claims (held_of f committed p.log_blowup) commitment_of domains requests)
+      (honest_claims (held_of f committed p.log_blowup) commitment_of domains requests)
 
   abbrev pub Fit : List (List Domain) → List (Request D E) → Type 0
   Fit domains requests = FitDomains (held_of f committed p.log_blowup)
@@ -184,7 +187,7 @@ module _ {F E D Com Domain : Type 0} (f : Fields F E) (p : Parameters)
   requests_honest [] h = tt
   requests_honest (r ∷ requests) h =
       each_joined (IsHonest f p) (round_opened f committed p.log_blowup r)
-          (joined (rounds_of requests))
+      (joined (rounds_of requests))
       (honest_in f p (committed r.datum) r.points h.0.lists_of_points
       (each_from_All (λ points. points ≢ []) r.points h.0.some_point)
       (each_from_All (HasCoset f.two_adicity) (committed r.datum) h.0.cosets)
@@ -196,7 +199,7 @@ module _ {F E D Com Domain : Type 0} (f : Fields F E) (p : Parameters)
   -- some matrix is
   opened_count : (requests : List (Request D E)) → Each Honest requests
       → length (joined (rounds_of requests)) ≡ length (flat_map
-          (λ r. held_of f committed p.log_blowup r.datum) requests)
+      (λ r. held_of f committed p.log_blowup r.datum) requests)
   opened_count [] h = refl
   opened_count (r ∷ requests) h =
       length-append (round_opened f committed p.log_blowup r) (joined (rounds_of requests))
@@ -239,7 +242,8 @@ module _ {F E D Com Domain : Type 0} (f : Fields F E) (p : Parameters)
 -- requests that may be opened, of honest data, which pass the prover's checks
 pub honest_requests : {F E D : Type 0} (f : Fields F E) (p : Parameters)
     (committed : D → List (RowMajorMatrix F)) (requests : List (Request D E))
-    → AreOpenable (λ d. All (HasCoset f.two_adicity) (committed d)) (held_of f committed p.log_blowup)
+    → AreOpenable (λ d. All (HasCoset f.two_adicity) (committed d))
+    (held_of f committed p.log_blowup)
     requests
     → AreHonest (λ d. All (HoldsWords f p.log_blowup) (committed d)) requests
     → All (λ r. AreTallEnough p (committed r.datum)) requests

@@ -109,7 +109,7 @@ module _ {F E D C Com Path InCom InPath Domain : Type 0} (s : Setting F E C Com 
         (words_claimed p claims opened s.fields before.alpha) (length requests) (length claims)
         heights_same top_same words_same
         (sym (requests_counted s.fields p committed commitment_of log_size domains requests
-            domains_fit)) run
+        domains_fit)) run
 
     opened_honestly : IsHonestlyOpened s p claims opened before.alpha before.state proof last
     opened_honestly = record {
@@ -148,4 +148,4 @@ module _ {F E D C Com Path InCom InPath Domain : Type 0} (s : Setting F E C Com 
     pub requests_last_state : (test_replay s p claims proof before.state).state ≡ last
     requests_last_state =
         honest_state s p claims opened before.alpha before.state proof last laws fits
-            opened_honestly
+        opened_honestly

@@ -49,7 +49,7 @@ module _ {F E InCom InPath : Type 0} (opens : Opening F InCom InPath) (b top : �
       ap₂ (λ r rs. r ∷ rs)
       (ap (λ rs. get_or rs j []) opened.0.rows_of_batch
       ∙ get_or-map (λ q. opened_rows (matrices_in ms) (batch_index top (matrices_in ms) q))
-          positions j 0 [] within)
+      positions j 0 [] within)
       (rows_are claims rounds os are.1 opened.1)
 
 module _ {F E InCom : Type 0} (f : Fields F E) (p : Parameters) (top : ℕ)
@@ -63,7 +63,7 @@ module _ {F E InCom : Type 0} (f : Fields F E) (p : Parameters) (top : ℕ)
       (λ m h low. record { power = (log_height m.matrix, h.word.height); within = low })
       (joined rounds) honest
       (claimed_each p.log_blowup (λ m. claimed_height p.log_blowup m ≤ top)
-          (λ m. log_height m.matrix ≤ top)
+      (λ m. log_height m.matrix ≤ top)
       (λ claim m is low. subst (λ n. n ≤ top) is.height low) claims rounds are up_to))
 
   module _ (q : ℕ) (below : q < 2 ^ top) where
@@ -75,7 +75,7 @@ module _ {F E InCom : Type 0} (f : Fields F E) (p : Parameters) (top : ℕ)
     apart claim m is h =
         subst (λ n. All (λ z. z.point ≢ point_read f top q n) claim.points) (sym is.height)
         (subst (λ points. All (λ z. z.point ≢ point_read f top q (log_height m.matrix)) points)
-            (sym is.points)
+        (sym is.points)
         (λ k d l e. h.0.word.off k d l (q / 2 ^ (top - log_height m.matrix))
         (read_within top q (log_height m.matrix) h.1 below) (sym e)))
 
@@ -83,12 +83,12 @@ module _ {F E InCom : Type 0} (f : Fields F E) (p : Parameters) (top : ℕ)
     pub sums_defined : IsDefinedAt f p.log_blowup top claims q
     sums_defined = All_from_each IsApart (matrices_of claims)
         (each_claimed p.log_blowup (λ m. IsHonest f p m × (log_height m.matrix ≤ top)) IsApart apart
-            claims rounds are
+        claims rounds are
         (each_both (IsHonest f p) (λ m. log_height m.matrix ≤ top)
-            (λ m. IsHonest f p m × (log_height m.matrix ≤ top))
+        (λ m. IsHonest f p m × (log_height m.matrix ≤ top))
         (λ m h low. (h, low)) (joined rounds) honest
         (claimed_each p.log_blowup (λ m. claimed_height p.log_blowup m ≤ top)
-            (λ m. log_height m.matrix ≤ top)
+        (λ m. log_height m.matrix ≤ top)
         (λ claim m is low. subst (λ n. n ≤ top) is.height low) claims rounds are up_to)))
 
     -- of constants nothing is left
@@ -98,9 +98,9 @@ module _ {F E InCom : Type 0} (f : Fields F E) (p : Parameters) (top : ℕ)
         → quotient_sum f p.log_blowup alpha top claims rows q p.log_blowup ≡ f.ext.zero
     sums_vanish laws alpha rows opened low small =
         sym (entry_is_quotient_sum f p.log_blowup alpha top q p.log_blowup claims rounds rows
-            f.ext.zero are opened cosets low below)
+        f.ext.zero are opened cosets low below)
         ∙ constants_vanish f laws.base laws.roots laws.shift laws.ext laws.lifts p.log_blowup alpha
-            (joined rounds) small constant
+        (joined rounds) small constant
         (q / 2 ^ (top - p.log_blowup)) f.ext.zero (read_within top q p.log_blowup low below)
       where
         constant : All (λ m. log_height m.matrix ≡ p.log_blowup

@@ -10,3 +10,4 @@ pub mod Steps
 pub mod Assembly
 pub mod Opened
 pub mod Queries
+pub mod Zipped

@@ -4,4 +4,6 @@
 #[cfg(test)]
 mod opened;
 #[cfg(test)]
+mod requests;
+#[cfg(test)]
 mod rounds;

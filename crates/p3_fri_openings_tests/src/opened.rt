@@ -22,7 +22,7 @@ fn element(value: u64) -> BabyBear4 {
     BabyBear4::from_base(BabyBear::from_u64(value))
 }
 
-fn elements(alloc: Global, values: &[u64]) -> Result<Vec<BabyBear4>, AllocError> {
+pub(crate) fn elements(alloc: Global, values: &[u64]) -> Result<Vec<BabyBear4>, AllocError> {
     let mut elements = Vec::with_capacity(alloc, values.len())?;
     for value in values {
         elements.push(element(*value))?;
@@ -31,7 +31,7 @@ fn elements(alloc: Global, values: &[u64]) -> Result<Vec<BabyBear4>, AllocError>
 }
 
 /// What is opened of these rounds, with blowup 2, and by which denominators.
-fn opened(
+pub(crate) fn opened(
     alloc: Global,
     rounds: &[OpeningRound<'_, BabyBear, BabyBear4>],
 ) -> Result<(OpenedValues<BabyBear4>, Denominators<BabyBear, BabyBear4>), Fail> {
@@ -47,7 +47,10 @@ fn opened(
 }
 
 /// All values, in order.
-fn flat(alloc: Global, values: &OpenedValues<BabyBear4>) -> Result<Vec<BabyBear4>, AllocError> {
+pub(crate) fn flat(
+    alloc: Global,
+    values: &OpenedValues<BabyBear4>,
+) -> Result<Vec<BabyBear4>, AllocError> {
     let mut all = Vec::new(alloc);
     for round in values {
         for matrix in round {

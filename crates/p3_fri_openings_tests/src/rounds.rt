@@ -1,6 +1,8 @@
 //! Matrices and points to open, and what has to hold of them, found when the tests run.
 
-ghost use Rattle.std.specs.Prelude.{◌≡◌, All, IsTrue};
+ghost use Rattle.std.specs.Prelude.{◌≡◌, All, IfOk, IsTrue, length};
+ghost use Rattle.std.specs.Int.{IsPowerOfTwo};
+ghost use Rattle.p3_matrix.specs.Matrix.{rows};
 ghost use Rattle.p3_fri_openings.specs.Rounds.{HasCoset, IsRound};
 
 use p3_dft::Radix2Dit;
@@ -16,7 +18,9 @@ pub(crate) fn extended(
     alloc: Global,
     log_blowup: usize,
     column: &[u64],
-) -> Result<RowMajorMatrix<BabyBear>, Fail> {
+) -> Result<RowMajorMatrix<BabyBear>, Fail>
+    ensures { IfOk result (λ words. IsPowerOfTwo (length (rows words))) }
+{
     let mut values = Vec::with_capacity(alloc, column.len())?;
     for value in column {
         values.push(BabyBear::from_u64(*value))?;
@@ -33,7 +37,8 @@ pub(crate) fn extended(
         return Err(Fail::new("the column is too long"));
     }
     let dft = Radix2Dit::default();
-    Ok(extend(&dft, alloc, log_blowup, domain, matrix)?)
+    let words = extend(&dft, alloc, log_blowup, domain, matrix)?;
+    Ok(words)
 }
 
 /// Whether the matrix stands on a coset.

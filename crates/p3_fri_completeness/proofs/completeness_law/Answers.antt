@@ -4,7 +4,8 @@ use Rattle.p3_fri_completeness.proofs.Accepted.{honest_opening_accepted, honest_
 use Rattle.p3_fri_completeness.proofs.completeness_law.Goals as goal
 
 pub returns : goal.returns
-returns g c f fold extra_bits moves input_test round_test p claims rounds start proof last laws fit passes o =
+returns g c f fold extra_bits moves input_test round_test p claims rounds start proof last laws fit
+    passes o =
     let s = setting _ _ _ _ _ _ _ f fold extra_bits moves input_test round_test in
     let before = batch_replayed s p claims proof start in (
       honest_opening_accepted s p claims rounds start proof last laws fit passes o,

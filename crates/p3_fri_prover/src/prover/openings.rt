@@ -18,6 +18,7 @@ use p3_fri_relation::proof::{BatchMultiOpening, CommitPhaseMultiStep};
 use std::alloc::{AllocError, Global};
 
 /// Committed matrices, and for each of them the points at which it is opened.
+#[derive(Drop)]
 pub struct ProverDataWithOpeningPoints<'a, EF, D> {
     pub prover_data: &'a D,
     pub points: &'a Vec<Vec<EF>>,

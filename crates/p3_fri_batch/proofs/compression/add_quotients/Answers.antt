@@ -13,17 +13,20 @@ loop-i-preserved g c =
     let beside : i < length c.args.inverses.now = omega arith in
     record {
       added = λ k d l. written (λ k. K.add (get_or c.args.word.now k d) (K.mul c.args.step (K.mul
-          (sub K c.args.claimed (get_or c.args.compressed.now k d)) (get_or c.args.inverses.now k d))))
+          (sub K c.args.claimed (get_or c.args.compressed.now k d))
+          (get_or c.args.inverses.now k d))))
           c.loop-i.word i c.add.result d here
           (field.add_law _ _ c.add.result c.add.ensures
           ∙ ap₂ (λ a b. K.add a b)
-          (item c.loop-i.word i c.index-word-i.result d here c.index-word-i.is ∙ c.loop-i.invariant.others i d (omega arith))
+          (item c.loop-i.word i c.index-word-i.result d here c.index-word-i.is
+          ∙ c.loop-i.invariant.others i d (omega arith))
           (field.mul_law _ _ c.mul-in-loop-i.result c.mul-in-loop-i.ensures
           ∙ ap (λ q. K.mul c.args.step q) (field.mul_law _ _ c.mul.result c.mul.ensures
           ∙ ap₂ (λ a b. K.mul a b)
           (field.sub_law _ _ c.sub.result c.sub.ensures
           ∙ ap (λ a. sub K c.args.claimed a)
-          (item c.args.compressed.now i c.index-compressed-i.result d there c.index-compressed-i.is))
+          (item c.args.compressed.now i c.index-compressed-i.result d there
+          c.index-compressed-i.is))
           (item c.args.inverses.now i c.index-inverses-i.result d beside c.index-inverses-i.is))))
           (λ k l. c.loop-i.invariant.added k d l) k l;
       others = λ k d l. unwritten c.loop-i.word c.args.word.now i c.add.result d k l

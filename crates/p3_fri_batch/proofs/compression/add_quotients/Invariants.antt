@@ -9,5 +9,6 @@ invariant-loop-i g l =
       added : (i : ℕ) (d : g.row.EF.Denot) → i < l.i → get_or l.word i d
           ≡ K.add (get_or l.initial.word i d) (K.mul l.fn.step (K.mul
           (sub K l.fn.claimed (get_or l.compressed i d)) (get_or l.inverses i d)));
-      others : (i : ℕ) (d : g.row.EF.Denot) → l.i ≤ i → get_or l.word i d ≡ get_or l.initial.word i d;
+      others : (i : ℕ) (d : g.row.EF.Denot) → l.i ≤ i → get_or l.word i d
+          ≡ get_or l.initial.word i d;
     }

@@ -13,7 +13,9 @@ returns-then-is_of_log_height g c =
     let matrices = c.args.matrices.now in
     let o = c.opened-item.result in
     let below : k < length matrices = omega arith in
-    let test : Opened g.row.F.Denot g.row.EF.Denot → Bool = λ m. log_height m.matrix == c.args.log_height in
-    sym (list_any_at test (map as_opened matrices) k (as_opened o) (omega (arith, below, length-map matrices as_opened))
+    let test : Opened g.row.F.Denot g.row.EF.Denot
+    → Bool = λ m. log_height m.matrix == c.args.log_height in
+    sym (list_any_at test (map as_opened matrices) k (as_opened o)
+    (omega (arith, below, length-map matrices as_opened))
     (ap test (sym (entry_of_map as_opened matrices k o below c.opened-item.is))
     ∙ sym c.is_of_log_height.ensures ∙ c.if-is_of_log_height.true))

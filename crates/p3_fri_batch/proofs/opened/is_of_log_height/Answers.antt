@@ -5,5 +5,6 @@ use Rattle.p3_fri_batch.proofs.opened.is_of_log_height.Goals as goal
 
 pub returns : goal.returns
 returns g c =
-    ap (λ n. n == c.args.wanted) (log2_is (length (rows c.args.matrix.now)) c.log2_strict_usize.result
+    ap (λ n. n == c.args.wanted) (log2_is (length (rows c.args.matrix.now))
+    c.log2_strict_usize.result
     (c.log2_strict_usize.ensures.power ∙ c.height.ensures))

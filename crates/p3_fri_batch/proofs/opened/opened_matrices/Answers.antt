@@ -15,7 +15,8 @@ bounds-values-index g c =
     omega (
       arith,
       one,
-      all_zip_length HaveValues c.args.rounds.now (opened_values c.args.values.now) c.requires.values,
+      all_zip_length HaveValues c.args.rounds.now (opened_values c.args.values.now)
+          c.requires.values,
       length-map c.args.values.now (λ v. nested v.items),
     )
 
@@ -27,12 +28,14 @@ push_round-requires-clause-values g c =
     omega (
       arith,
       one,
-      all_zip_length HaveValues c.args.rounds.now (opened_values c.args.values.now) c.requires.values,
+      all_zip_length HaveValues c.args.rounds.now (opened_values c.args.values.now)
+          c.requires.values,
       length-map c.args.values.now (λ v. nested v.items),
     ) in
     let vs = c.index-values-index.result in
     subst (λ ys. HaveValues c.index-rounds-index.result (nested ys)) (sym c.deref.ensures.value)
-    (all_zip_at HaveValues c.args.rounds.now (opened_values c.args.values.now) i c.index-rounds-index.result (nested vs.items)
+    (all_zip_at HaveValues c.args.rounds.now (opened_values c.args.values.now) i
+    c.index-rounds-index.result (nested vs.items)
     c.requires.values one c.index-rounds-index.is
     (entry_of_map (λ v. nested v.items) c.args.values.now i vs two c.index-values-index.is))
 
@@ -42,16 +45,21 @@ loop-index-preserved g c =
     let rounds = c.args.rounds.now in
     let values = opened_values c.args.values.now in
     let one : i < length rounds = omega arith in
-    let three : i < length values = omega (arith, one, all_zip_length HaveValues rounds values c.requires.values) in
-    let two : i < length c.args.values.now = omega (arith, three, length-map c.args.values.now (λ v. nested v.items)) in
+    let three : i < length values = omega
+    (arith, one, all_zip_length HaveValues rounds values c.requires.values) in
+    let two : i < length c.args.values.now = omega
+    (arith, three, length-map c.args.values.now (λ v. nested v.items)) in
     let round = c.index-rounds-index.result in
     let vs = c.index-values-index.result in
     let part = opened_in round (nested vs.items) in
     record {
       opened = c.in_ok-push_round.ensures.opened
-          ∙ ap₂ (λ xs ys. xs ++ opened_in round (nested ys)) c.loop-index.invariant.opened c.deref.ensures.value
-          ∙ sym (joined_more (opened_by_round rounds values) i part (within_both opened_in rounds values i one three)
-          (entry_of_both opened_in rounds values i round (nested vs.items) one three c.index-rounds-index.is
+          ∙ ap₂ (λ xs ys. xs ++ opened_in round (nested ys)) c.loop-index.invariant.opened
+          c.deref.ensures.value
+          ∙ sym (joined_more (opened_by_round rounds values) i part
+          (within_both opened_in rounds values i one three)
+          (entry_of_both opened_in rounds values i round (nested vs.items) one three
+          c.index-rounds-index.is
           (entry_of_map (λ v. nested v.items) c.args.values.now i vs two c.index-values-index.is)));
       ready = λ table covered. c.in_ok-push_round.ensures.ready table
           (at_item (ArePointsCovered table) rounds i round one c.index-rounds-index.is covered)

@@ -8,7 +8,8 @@ use Rattle.p3_fri_batch.proofs.opened.opened_matrices.Given as goal
 
 abbrev pub invariant-loop-index : goal.invariant-loop-index
 invariant-loop-index g l = record {
-  opened : map as_opened l.opened.items ≡ joined (take l.index (opened_by_round l.rounds (opened_values l.values)));
+  opened : map as_opened l.opened.items
+      ≡ joined (take l.index (opened_by_round l.rounds (opened_values l.values)));
   ready : (table : List (PointDenominators g.row.EF.Denot)) → All (ArePointsCovered table) l.rounds
       → All (IsReady g.F.TwoAdicField.TWO_ADICITY table) l.opened.items;
 }

@@ -1,4 +1,5 @@
-use Rattle.std.proofs.Common.{◌≡◌, ◌≤◌, ◌<◌, ◌+◌, ◌*◌, ◌++◌, length, take, get_or, sym, ap, ◌∙◌, length-append, zero-mul, arith}
+use Rattle.std.proofs.Common.{◌≡◌, ◌≤◌, ◌<◌, ◌+◌, ◌*◌, ◌++◌, length, take, get_or, sym, ap, ◌∙◌}
+use Rattle.std.proofs.Common.{length-append, zero-mul, arith}
 use Rattle.std.proofs.lemmas.List.{length-map, append-nil, take_all, length-take-le}
 use Rattle.algebra.specs.Field.{sub, pow}
 use Rattle.algebra.specs.Polynomial.{val}
@@ -12,13 +13,16 @@ use Rattle.p3_fri_openings.specs.Committed.{coset_of}
 use Rattle.p3_fri_openings.specs.Denominators.{IsCovered}
 use Rattle.p3_fri_openings.proofs.First.{at_item}
 use Rattle.p3_fri_batch.specs.Words.{claim_at, claims_of, terms_at}
-use Rattle.p3_fri_batch.proofs.Terms.{entry_more, terms_length, claims_wide, claims_taken, step_more}
+use Rattle.p3_fri_batch.proofs.Terms.{entry_more, terms_length, claims_wide, claims_taken}
+use Rattle.p3_fri_batch.proofs.Terms.{step_more}
 use Rattle.p3_fri_batch.proofs.points.add_opened_points.Goals as goal
 
 pub loop-point-init : goal.loop-point-init
 loop-point-init g c = record {
-  sums = λ i d row ts l n co st wo. wo ∙ ap (λ us. val g.EF.Field.ops us c.args.ladder.now.alpha) (sym (append-nil ts));
-  steps = λ n e. e ∙ ap (λ m. pow g.EF.Field.ops c.args.ladder.now.alpha m) (omega (arith, zero-mul c.args.width));
+  sums = λ i d row ts l n co st wo. wo
+      ∙ ap (λ us. val g.EF.Field.ops us c.args.ladder.now.alpha) (sym (append-nil ts));
+  steps = λ n e. e ∙ ap (λ m. pow g.EF.Field.ops c.args.ladder.now.alpha m)
+      (omega (arith, zero-mul c.args.width));
 }
 
 pub combine-claimed-requires : goal.combine-claimed-requires
@@ -32,9 +36,11 @@ combine-claimed-requires g c =
     let two : p < length values = omega (arith, one, same) in
     let three : p < length (lists values) = omega (arith, two, count) in
     let ys = c.index-values-point.result.items in
-    let at_values = entry_of_map (λ v. v.items) values p c.index-values-point.result two c.index-values-point.is in
+    let at_values = entry_of_map (λ v. v.items) values p c.index-values-point.result two
+    c.index-values-point.is in
     let wide : length ys ≡ c.args.width =
-    at_item (λ ys. length ys ≡ c.args.width) (lists values) p ys three at_values c.requires.widths in
+    at_item (λ ys. length ys ≡ c.args.width) (lists values) p ys three at_values
+    c.requires.widths in
     let s : c.deref.result.now ≡ ys =
     let e = c.deref.ensures.value in let is = c.index-values-point.is in cc in
     omega (arith, ap length s, wide, c.requires.ladder)
@@ -44,7 +50,8 @@ inverses_at-inverses-requires g c = record {
   power_of_two = c.requires.height;
   inverses = c.requires.inverses;
   covered = at_item (λ z. IsCovered (length c.args.word.now) c.args.table.now z) c.args.points.now
-      c.loop-point.point c.index-points-point.result c.loop-point-test.true c.index-points-point.is c.requires.covered;
+      c.loop-point.point c.index-points-point.result c.loop-point-test.true c.index-points-point.is
+      c.requires.covered;
 }
 
 pub add_quotients-requires : goal.add_quotients-requires
@@ -90,9 +97,11 @@ loop-point-preserved g c =
     let two : p < length values = omega (arith, one, same) in
     let three : p < length (lists values) = omega (arith, two, count) in
     let ys = c.index-values-point.result.items in
-    let at_values = entry_of_map (λ v. v.items) values p c.index-values-point.result two c.index-values-point.is in
+    let at_values = entry_of_map (λ v. v.items) values p c.index-values-point.result two
+    c.index-values-point.is in
     let wide : length ys ≡ c.args.width =
-    at_item (λ ys. length ys ≡ c.args.width) (lists values) p ys three at_values c.requires.widths in
+    at_item (λ ys. length ys ≡ c.args.width) (lists values) p ys three at_values
+    c.requires.widths in
     let s : c.deref.result.now ≡ ys =
     let e = c.deref.ensures.value in let is = c.index-values-point.is in cc in
     let K = g.EF.Field.ops in
@@ -101,29 +110,36 @@ loop-point-preserved g c =
     let z = c.index-points-point.result in
     let claims = claims_of points (lists values) in
     let within = within_both claim_at points (lists values) p one three in
-    let entry = entry_of_both claim_at points (lists values) p z ys one three c.index-points-point.is at_values in
+    let entry = entry_of_both claim_at points (lists values) p z ys one three
+    c.index-points-point.is at_values in
     let taken = length-take-le p claims (omega (arith, within)) in
     let all = claims_taken c.args.width p claims (claims_wide c.args.width points (lists values)
     (each_from_All (λ ys. length ys ≡ c.args.width) (lists values) c.requires.widths)) in
     record {
       sums = λ i d row ts l m co st wo.
           let x = f.lift (coset_pt f.base f.root f.shift i (log2 n)) in
-          let step : c.loop-point.step ≡ pow K alpha (length (ts ++ terms_at K x row (take p claims))) =
+          let step : c.loop-point.step ≡ pow K alpha
+          (length (ts ++ terms_at K x row (take p claims))) =
           c.loop-point.invariant.steps (length ts) st
           ∙ ap (λ k. pow K alpha k) (sym (length-append ts (terms_at K x row (take p claims))
-          ∙ ap (λ k. length ts + k) (terms_length K g.met.EF.Field.laws alpha x row c.args.width (take p claims) all m
+          ∙ ap (λ k. length ts + k) (terms_length K g.met.EF.Field.laws alpha x row c.args.width
+          (take p claims) all m
           ∙ ap (λ k. k * c.args.width) taken))) in
           let inverse : get_or c.inverses_at-inverses.result.now i d ≡ K.inv (sub K z x) =
           ap (λ xs. get_or xs i d) (c.inverses_at-inverses.ensures
-          ∙ map-tabulate (λ x. K.inv (sub K z (f.lift x))) n (λ i. coset_pt f.base f.root f.shift i (log2 n)))
-          ∙ get_or-tabulate n (λ i. K.inv (sub K z (f.lift (coset_pt f.base f.root f.shift i (log2 n))))) i d l in
-          entry_more K g.met.EF.Field.laws alpha x row claims p z ys ts (get_or c.loop-point.word i d)
+          ∙ map-tabulate (λ x. K.inv (sub K z (f.lift x))) n
+          (λ i. coset_pt f.base f.root f.shift i (log2 n)))
+          ∙ get_or-tabulate n (λ i. K.inv
+          (sub K z (f.lift (coset_pt f.base f.root f.shift i (log2 n))))) i d l in
+          entry_more K g.met.EF.Field.laws alpha x row claims p z ys ts
+          (get_or c.loop-point.word i d)
           (get_or c.add_quotients.new.word i d) c.loop-point.step c.combine-claimed.result
           (get_or c.args.compressed.now i d) (get_or c.inverses_at-inverses.result.now i d)
           within entry (wide ∙ sym m) (c.loop-point.invariant.sums i d row ts l m co st wo) step
           (c.combine-claimed.ensures ∙ ap (λ us. val K us alpha) s) co inverse
           (c.add_quotients.ensures i d (omega (arith, l, c.loop-point.auto.word)));
-      steps = λ m e. step_more K g.met.EF.Field.laws.ring alpha c.loop-point.step c.step-after.result
+      steps = λ m e. step_more K g.met.EF.Field.laws.ring alpha c.loop-point.step
+          c.step-after.result
           c.mul-step.result m p c.args.width (c.loop-point.invariant.steps m e) c.step-after.ensures
           (g.met.EF.Field.mul_law _ _ c.mul-step.result c.mul-step.ensures);
     }
@@ -147,10 +163,14 @@ returns g c =
     let values = c.args.values.now in
     let claims = claims_of points (lists values) in
     let last : length points ≤ p = c.loop-point-test.false in
-    let short : length claims ≤ p = length_of_both claim_at points (lists values) p (omega (arith, last)) in
+    let short : length claims ≤ p = length_of_both claim_at points (lists values) p
+    (omega (arith, last)) in
     let whole : p ≡ length points = omega arith in
     record {
       sums = λ i d row ts l m co st wo. c.loop-point.invariant.sums i d row ts l m co st wo
-          ∙ ap (λ cs. val K (ts ++ terms_at K (f.lift (coset_pt f.base f.root f.shift i (log2 (length c.args.word.now)))) row cs) alpha) (take_all p claims short);
-      step = λ m e. c.loop-point.invariant.steps m e ∙ ap (λ k. pow K alpha (m + k * c.args.width)) whole;
+          ∙ ap (λ cs. val K (ts ++ terms_at K
+          (f.lift (coset_pt f.base f.root f.shift i (log2 (length c.args.word.now)))) row cs) alpha)
+          (take_all p claims short);
+      step = λ m e. c.loop-point.invariant.steps m e
+          ∙ ap (λ k. pow K alpha (m + k * c.args.width)) whole;
     }

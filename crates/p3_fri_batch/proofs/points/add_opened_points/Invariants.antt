@@ -18,7 +18,8 @@ invariant-loop-point g l =
           → l.fn.step ≡ pow K alpha (length ts)
           → get_or l.initial.word i d ≡ val K ts alpha
           → get_or l.word i d ≡ val K (ts ++ terms_at K (g.EF.ExtensionField.lift
-          (coset_pt g.F.Field.ops g.F.TwoAdicField.root g.F.Field.GENERATOR i (log2 (length l.initial.word)))) row
+          (coset_pt g.F.Field.ops g.F.TwoAdicField.root g.F.Field.GENERATOR i
+          (log2 (length l.initial.word)))) row
           (take l.point (claims_of l.points (lists l.values)))) alpha;
       steps : (n : ℕ) → l.fn.step ≡ pow K alpha n → l.step ≡ pow K alpha (n + l.point * l.width);
     }

@@ -30,24 +30,31 @@ returns-then-not-is_of_log_height g c ms so_far =
     } in
     let m = c.args.opened.now.matrix.now in
     let h = c.args.log_height in
-    summed_other f g.met.EF.Field.laws c.args.ladder.now.alpha h ms (as_opened c.args.opened.now) c.args.word.now c.args.step
-    (λ same. false≢true (sym c.if-not-is_of_log_height.true ∙ c.is_of_log_height.ensures ∙ eq-eqb (log_height m) h same)) so_far
+    summed_other f g.met.EF.Field.laws c.args.ladder.now.alpha h ms (as_opened c.args.opened.now)
+    c.args.word.now c.args.step
+    (λ same. false≢true (sym c.if-not-is_of_log_height.true ∙ c.is_of_log_height.ensures
+    ∙ eq-eqb (log_height m) h same)) so_far
 
 pub add_matrix-requires-clause-height : goal.add_matrix-requires-clause-height
 add_matrix-requires-clause-height g c =
     let m = c.args.opened.now.matrix.now in
     let same : log_height m ≡ c.args.log_height =
-    eqb-true (log_height m) c.args.log_height (sym c.is_of_log_height.ensures ∙ c.if-not-is_of_log_height.false) in
-    c.requires.word ∙ ap (λ n. 2 ^ n) (sym same) ∙ sym (height_is g.F.TwoAdicField.TWO_ADICITY m c.requires.ready.coset)
+    eqb-true (log_height m) c.args.log_height
+    (sym c.is_of_log_height.ensures ∙ c.if-not-is_of_log_height.false) in
+    c.requires.word ∙ ap (λ n. 2 ^ n) (sym same)
+    ∙ sym (height_is g.F.TwoAdicField.TWO_ADICITY m c.requires.ready.coset)
 
 pub add_matrix-requires-clause-covered : goal.add_matrix-requires-clause-covered
 add_matrix-requires-clause-covered g c =
     let m = c.args.opened.now.matrix.now in
     let same : log_height m ≡ c.args.log_height =
-    eqb-true (log_height m) c.args.log_height (sym c.is_of_log_height.ensures ∙ c.if-not-is_of_log_height.false) in
+    eqb-true (log_height m) c.args.log_height
+    (sym c.is_of_log_height.ensures ∙ c.if-not-is_of_log_height.false) in
     let size : length (rows m) ≡ length c.args.word.now =
-    height_is g.F.TwoAdicField.TWO_ADICITY m c.requires.ready.coset ∙ ap (λ n. 2 ^ n) same ∙ sym c.requires.word in
-    subst (λ n. All (IsCovered n c.args.table.now) c.args.opened.now.points.now) size c.requires.ready.covered
+    height_is g.F.TwoAdicField.TWO_ADICITY m c.requires.ready.coset ∙ ap (λ n. 2 ^ n) same
+    ∙ sym c.requires.word in
+    subst (λ n. All (IsCovered n c.args.table.now) c.args.opened.now.points.now) size
+    c.requires.ready.covered
 
 pub returns : goal.returns
 returns g c =
@@ -71,10 +78,12 @@ returns g c =
     let size : length (rows m) ≡ 2 ^ h =
     height_is g.F.TwoAdicField.TWO_ADICITY m c.requires.ready.coset ∙ ap (λ n. 2 ^ n) same in
     let wide = claims_wide (matrix_width m) o.points.now (lists o.values.now)
-    (each_from_All (λ ys. length ys ≡ matrix_width m) (lists o.values.now) c.requires.ready.values.widths) in
+    (each_from_All (λ ys. length ys ≡ matrix_width m) (lists o.values.now)
+    c.requires.ready.values.widths) in
     for_ok c.add_matrix.result _
     (λ after is ms so_far.
-    summed_more f g.met.EF.Field.laws alpha h (as_opened o) same size wide ms c.args.word.now c.add_matrix.new.word
+    summed_more f g.met.EF.Field.laws alpha h (as_opened o) same size wide ms c.args.word.now
+    c.add_matrix.new.word
     c.args.step after c.requires.word (omega arith)
     (c.add_matrix.ensures.sums (subst (λ r. IsOk r) (sym is) refl))
     (λ n e. IfOk-at_ok (λ after. after ≡ pow K alpha (n + length o.points.now * matrix_width m)) is

@@ -19,8 +19,10 @@ loop-opened-init g c =
       shift = g.F.Field.GENERATOR;
     } in
     let h = c.args.log_height in
-    let whole = one_shl h 64 (omega (arith, c.requires.within_two_adicity, g.met.F.TwoAdicField.two_adicity_law)) in
-    summed_none f g.met.EF.Field.laws c.args.ladder.now.alpha h c.in_ok-word.word.items c.ONE-step.result
+    let whole = one_shl h 64 (omega
+    (arith, c.requires.within_two_adicity, g.met.F.TwoAdicField.two_adicity_law)) in
+    summed_none f g.met.EF.Field.laws c.args.ladder.now.alpha h c.in_ok-word.word.items
+    c.ONE-step.result
     (c.in_ok-word.ensures ∙ ap (λ n. tabulate n (λ _. g.EF.Field.ops.zero)) whole)
     (c.ONE-step.ensures ∙ g.met.EF.Field.one_law)
 
@@ -38,5 +40,6 @@ add_of_log_height-requires-clause-word g c =
     } in
     ap length c.deref_mut.ensures.value
     ∙ summed_length f g.met.EF.Field.laws c.args.ladder.now.alpha c.args.log_height
-    (map as_opened (take c.loop-opened.opened-index c.args.matrices.now)) c.loop-opened.word.items c.loop-opened.step
+    (map as_opened (take c.loop-opened.opened-index c.args.matrices.now)) c.loop-opened.word.items
+    c.loop-opened.step
     c.loop-opened.invariant

@@ -16,4 +16,5 @@ invariant-loop-opened g l =
       two_adicity = g.F.TwoAdicField.TWO_ADICITY;
       shift = g.F.Field.GENERATOR;
     } in
-    IsSummed f l.ladder.alpha l.log_height (map as_opened (take l.opened-index l.matrices)) l.word.items l.step
+    IsSummed f l.ladder.alpha l.log_height (map as_opened (take l.opened-index l.matrices))
+    l.word.items l.step

@@ -1,16 +1,17 @@
 use Rattle.std.proofs.Common.{◌≡◌, ◌≢◌, ◌++◌, ◌∙◌, ℕ, length, subst, sym, ap, refl, arith, All, inl}
 use Rattle.std.proofs.Common.{inr, Err}
-use Rattle.std.proofs.lemmas.List.{length-map}
 use Rattle.std.specs.List.{flat_map}
 use Rattle.p3_field.specs.declared.TwoAdicMultiplicativeCoset.{TwoAdicMultiplicativeCoset as Coset}
 use Rattle.p3_fri_relation.specs.Setting.{Fields}
 use Rattle.p3_fri_relation.specs.Heights.{matrices_of}
 use Rattle.p3_fri_relation.specs.QuotientSums.{point_read}
 use Rattle.p3_fri_relation.specs.Views.{claims_of, inputs_opened}
-use Rattle.p3_fri_inputs.specs.Claims.{claim_of, distances, input_of}
+use Rattle.p3_fri_inputs.specs.Claims.{distances}
 use Rattle.p3_fri_inputs.proofs.Refutations.{fault_refutes, memory_stands}
 use Rattle.p3_fri_inputs.proofs.Assembly.{with_points, rows_of_opened, all_nonzero, good_openings}
 use Rattle.p3_fri_inputs.proofs.Places.{of_some, of_none}
+use Rattle.p3_fri_inputs.proofs.Zipped.{length_zipped}
+use Rattle.p3_fri_relation.specs.Inputs.{OpensInput}
 use Rattle.std.proofs.lemmas.Bool.{false≢true}
 use Rattle.p3_fri_relation.specs.declared.error.FriError.TheVariants.{MatrixWithoutOpeningPoints}
 use Rattle.p3_fri_relation.specs.declared.error.FriError.TheVariants.{PointEvaluationCountMismatch}
@@ -309,8 +310,7 @@ returns-in-Some-found-clause-exact g c =
     let found = of_some c.in_ok-found.found c.in-Some-found.openings _ _ c.in-Some-found.is
     c.in_ok-found.ensures in
     let count : length inputs ≡ length cs =
-    length-map c.args.input_openings.now input_of
-    ∙ omega (arith, c.if-input_openings-claims.false, length-map c.args.claims.now (claim_of size)) in
+    length_zipped (OpensInput opens b top indices) cs inputs c.in_default-verify_commitments.ensures in
     λ n. (
       λ ok. good_openings f b alpha top cs inputs opens indices count some even
           c.in_default-verify_commitments.ensures known.0 found.1,

@@ -9,5 +9,6 @@ returns-in-Some g c = λ t.
     sym c.size.ensures ∙ eqb-true _ _ t ∙ c.height-in-Some.ensures in
     record {
       power = (c.in-Some.coset.log_size, sym e);
-      within = subst (λ k. k ≤ g.F.TwoAdicField.TWO_ADICITY) (log2_is _ _ e) c.in-Some.coset.within_two_adicity;
+      within = subst (λ k. k ≤ g.F.TwoAdicField.TWO_ADICITY) (log2_is _ _ e)
+          c.in-Some.coset.within_two_adicity;
     }

@@ -1,0 +1,7 @@
+//! Tests of the words of quotients.
+#![tactic(auto)]
+
+#[cfg(test)]
+mod rounds;
+#[cfg(test)]
+mod words;

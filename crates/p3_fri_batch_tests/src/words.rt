@@ -1,0 +1,156 @@
+//! The words of polynomials' columns. The matrices and the words were computed by a plain program
+//! from the definitions.
+
+use crate::rounds::are_rounds;
+use p3_field::{BabyBear, BabyBear4, ExtensionField, Field, TwoAdicField};
+use p3_fri_batch::batch_words;
+use p3_fri_openings::{OpeningRound, check_points, denominators_of_rounds, open_values};
+use p3_matrix::RowMajorMatrix;
+use std::alloc::{AllocError, Global};
+use std::test::Fail;
+
+/// The coefficients of an element, that of one first.
+type Coefficients = [u64; 4];
+
+/// The values of `3 + X + 4X^2 + X^3` and `5 + 9X + 2X^2 + 6X^3` on the coset of 8 points.
+const WIDE: [u64; 16] = [
+    33669, 180952, 2_013_239_946, 2_013_088_823, 1_625_970_829, 1_383_128_448, 387_287_410,
+    630_133_639, 1_137_921_166, 757_627_193, 1_294_162_105, 1_465_047_410, 1_924_463_254,
+    176_529_513, 1_683_251_250, 1_627_327_746,
+];
+
+/// The values of `2 + 7X + X^2 + 8X^3` there.
+const NARROW: [u64; 8] = [
+    239_508, 2_013_028_339, 1_705_840_839, 307_423_164, 395_683_805, 1_722_286_456, 388_874_599,
+    1_519_686_990,
+];
+
+/// The values of `5 + 3X` on the coset of 4 points.
+const LOW: [u64; 4] = [98, 2_013_265_833, 1_693_611_955, 319_653_976];
+
+const FIRST_POINT: Coefficients = [2, 1, 0, 0];
+
+const SECOND_POINT: Coefficients = [0, 0, 3, 5];
+
+const ALPHA: Coefficients = [7, 1, 0, 2];
+
+/// The word of the wide matrix, opened at the first point and at the second, and of the narrow one,
+/// opened at the second and at the first.
+const TALL_WORD: [Coefficients; 8] = [
+    [328_169_388, 297_482_865, 1_037_869_480, 1_503_677_858],
+    [1_365_255_600, 541_605_198, 169_870_038, 1_061_798_464],
+    [21_516_793, 1_308_734_435, 253_991_375, 1_011_114_264],
+    [1_421_513_739, 1_342_802_655, 1_460_684_008, 1_018_673_252],
+    [637_919_312, 1_048_652_190, 1_583_333_979, 256_664_282],
+    [513_471_454, 1_201_352_102, 1_570_562_299, 705_540_824],
+    [787_968_545, 870_754_356, 1_900_351_339, 1_626_461_711],
+    [1_197_096_209, 369_866_505, 1_894_699_126, 2_006_597_021],
+];
+
+/// That of the low one, opened at both.
+const LOW_WORD: [Coefficients; 4] = [[24, 3, 0, 6], [24, 3, 0, 6], [24, 3, 0, 6], [24, 3, 0, 6]];
+
+/// The element of these coefficients.
+fn element(coefficients: Coefficients) -> BabyBear4 {
+    let [constant, linear, quadratic, cubic] = coefficients;
+    BabyBear4::from_coefficients(&[
+        BabyBear::from_u64(constant),
+        BabyBear::from_u64(linear),
+        BabyBear::from_u64(quadratic),
+        BabyBear::from_u64(cubic),
+    ])
+}
+
+/// The elements of these coefficients.
+fn elements(alloc: Global, all: &[Coefficients]) -> Result<Vec<BabyBear4>, AllocError> {
+    let mut row = Vec::with_capacity(alloc, all.len())?;
+    for coefficients in all {
+        row.push(element(*coefficients))?;
+    }
+    Ok(row)
+}
+
+/// The matrix of these values, row by row.
+fn matrix(alloc: Global, values: &[u64], width: usize) -> Result<RowMajorMatrix<BabyBear>, Fail> {
+    let mut elements = Vec::with_capacity(alloc, values.len())?;
+    for value in values {
+        elements.push(BabyBear::from_u64(*value))?;
+    }
+    if width == 0 || elements.len() % width != 0 {
+        return Err(Fail::new("the values aren't whole rows"));
+    }
+    Ok(RowMajorMatrix::new(elements, width))
+}
+
+/// The words of these rounds, opened with blowup 2 to the values of their polynomials.
+fn words<F: TwoAdicField, EF: ExtensionField<F>>(
+    alloc: Global,
+    alpha: EF,
+    rounds: &[OpeningRound<'_, F, EF>],
+) -> Result<Vec<Vec<EF>>, Fail> {
+    if !are_rounds(rounds) {
+        return Err(Fail::new("the rounds can't be opened"));
+    }
+    if let Err(_) = check_points(rounds) {
+        return Err(Fail::new("a point lies in its coset"));
+    }
+    let denominators = denominators_of_rounds(alloc, rounds)?;
+    let values = open_values(alloc, 1, rounds, &denominators)?;
+    Ok(batch_words::<F, EF>(
+        alloc,
+        alpha,
+        rounds,
+        &values,
+        &denominators.entries,
+    )?)
+}
+
+#[test]
+fn two_heights_at_two_points(rt: HostRuntime) -> Result<(), Fail> {
+    let alloc = rt.alloc();
+    let first = vec![in alloc; matrix(alloc, &WIDE, 2)?, matrix(alloc, &LOW, 1)?]?;
+    let second = vec![in alloc; matrix(alloc, &NARROW, 1)?]?;
+    let first_points = vec![in alloc;
+        elements(alloc, &[FIRST_POINT, SECOND_POINT])?,
+        elements(alloc, &[SECOND_POINT, FIRST_POINT])?,
+    ]?;
+    let second_points = vec![in alloc; elements(alloc, &[SECOND_POINT, FIRST_POINT])?]?;
+    let rounds = [
+        OpeningRound {
+            matrices: &first,
+            points: &first_points,
+        },
+        OpeningRound {
+            matrices: &second,
+            points: &second_points,
+        },
+    ];
+    let words = words(alloc, element(ALPHA), &rounds)?;
+    assert_eq!(rt; words.len(), 2);
+    assert_eq!(rt; words[0].as_slice(), elements(alloc, &TALL_WORD)?.as_slice());
+    assert_eq!(rt; words[1].as_slice(), elements(alloc, &LOW_WORD)?.as_slice());
+    Ok(())
+}
+
+#[test]
+fn constants_leave_nothing(rt: HostRuntime) -> Result<(), Fail> {
+    let alloc = rt.alloc();
+    let constants = vec![in alloc; matrix(alloc, &[9, 4, 9, 4], 2)?]?;
+    let points = vec![in alloc; elements(alloc, &[FIRST_POINT])?]?;
+    let rounds = [OpeningRound {
+        matrices: &constants,
+        points: &points,
+    }];
+    let words = words(alloc, element(ALPHA), &rounds)?;
+    assert_eq!(rt; words.len(), 1);
+    let zeros = elements(alloc, &[[0, 0, 0, 0], [0, 0, 0, 0]])?;
+    assert_eq!(rt; words[0].as_slice(), zeros.as_slice());
+    Ok(())
+}
+
+#[test]
+fn no_rounds_have_no_words(rt: HostRuntime) -> Result<(), Fail> {
+    let rounds: [OpeningRound<'_, BabyBear, BabyBear4>; 0] = [];
+    assert!(rt; words(rt.alloc(), element(ALPHA), &rounds)?.is_empty());
+    Ok(())
+}
