@@ -1,0 +1,172 @@
+-- Rounds that come of requests: what is tested of them, and what it says of the requests.
+use Rattle.std.proofs.Common.{◌≡◌, ◌≢◌, ◌+◌, ℕ, suc, List, [], ◌∷◌, map, length, All, refl}
+use Rattle.std.proofs.Common.{sym, ap, ap₂, ◌∙◌, arith, subst}
+use Rattle.std.specs.List.{flat_map}
+use Rattle.std.proofs.lemmas.List.{length-map, length-append, nil_from_length}
+use Rattle.algebra.specs.Nested.{joined}
+use Rattle.algebra.proofs.Lists.{Each, each_from_All}
+use Rattle.p3_matrix.specs.declared.dense.RowMajorMatrix.{RowMajorMatrix}
+use Rattle.p3_pcs.specs.declared.requests.OpeningRequest.{OpeningRequest}
+use Rattle.p3_pcs.specs.Claims.{both}
+use Rattle.p3_pcs.specs.Requests.{Request, request, AreOpenable}
+use Rattle.p3_fri_steps.specs.declared.error.FriProverError.{FriProverError}
+use Rattle.p3_fri_steps.specs.declared.error.FriProverError.TheVariants.{InputHeightTooSmall}
+use Rattle.p3_fri_steps.specs.declared.error.FriProverError.TheVariants.{FinalHeightOverflow}
+use Rattle.p3_fri_steps.specs.declared.error.FriProverError.TheVariants.{PointInEvaluationDomain}
+use Rattle.p3_fri_steps.specs.declared.error.FriProverError.TheVariants.{NoPowWitness, OutOfMemory}
+use Rattle.p3_fri_relation.specs.Setting.{Fields, Parameters}
+use Rattle.p3_fri_openings.specs.declared.round.OpeningRound.{OpeningRound}
+use Rattle.p3_fri_openings.specs.Opened.{values_asked}
+use Rattle.p3_fri_openings.specs.Requests.{round_request, matrices_request}
+use Rattle.p3_fri_openings.specs.Rounds.{HasCoset, IsRound, ask, log_height}
+use Rattle.p3_fri_openings.specs.First.{FirstAt}
+use Rattle.p3_fri_openings.specs.Refusals.{AreTallEnough, ArePointsOff, HasPointsOff, IsFirstPoint}
+use Rattle.p3_fri_openings.specs.Refusals.{HeightRefusal, RoundHeightRefusal, FirstHeightRefusal}
+use Rattle.p3_fri_openings.specs.Refusals.{PointRefusal}
+use Rattle.p3_fri_openings.proofs.Tables.{map_twice}
+use Rattle.p3_fri_batch.specs.Rounds.{opened_of}
+use Rattle.p3_fri_completeness.specs.Requests.{held_in, held_of, opened_honestly, round_opened}
+use Rattle.p3_fri_completeness.proofs.Rounds.{opened_by_request}
+use Rattle.p3_fri_opening_prover.specs.Refusals.{PassesChecks, IsFirstLow, CheckRefusal}
+use Rattle.p3_fri_opening_prover.proofs.Transported.{all_same, first_same, any_at}
+
+-- some matrix is opened, where requests hold some
+module _ {F E D : Type 0} (f : Fields F E) (b : ℕ) (committed : D → List (RowMajorMatrix F)) where
+  abbrev held : Request D E → ℕ
+  held r = length (held_of f committed b r.datum)
+
+  count_here : (ms : List (RowMajorMatrix F)) (points : List (List E)) → length points ≡ length ms
+      → length (both (opened_honestly f b) ms points) ≡ length ms
+  count_here [] points count = refl
+  count_here (m ∷ ms) [] count = omega (arith, count)
+  count_here (m ∷ ms) (zs ∷ points) count =
+      ap (λ n. suc n) (count_here ms points (omega (arith, count)))
+
+  count_asked : (rs : List (Request D E)) → Each (λ r. length r.points ≡ held r) rs
+      → length (joined (map (round_opened f committed b) rs))
+      ≡ length (flat_map (λ r. held_of f committed b r.datum) rs)
+  count_asked [] are = refl
+  count_asked (r ∷ rs) are =
+      length-append (round_opened f committed b r) (joined (map (round_opened f committed b) rs))
+      ∙ ap₂ (λ m n. m + n)
+      (count_here (committed r.datum) r.points
+      (are.0 ∙ length-map (committed r.datum) (held_in f b))
+      ∙ sym (length-map (committed r.datum) (held_in f b)))
+      (count_asked rs are.1)
+      ∙ sym (length-append (held_of f committed b r.datum)
+      (flat_map (λ r. held_of f committed b r.datum) rs))
+
+  some_asked : (rs : List (Request D E)) → Each (λ r. length r.points ≡ held r) rs
+      → flat_map (λ r. held_of f committed b r.datum) rs ≢ []
+      → joined (map (round_opened f committed b) rs) ≢ []
+  some_asked rs are some none =
+      some (nil_from_length (flat_map (λ r. held_of f committed b r.datum) rs)
+      (sym (count_asked rs are) ∙ ap length none))
+
+module _ {F E D : Type 0} (f : Fields F E) (p : Parameters)
+    (committed : D → List (RowMajorMatrix F)) (rounds : List (OpeningRound F E))
+    (requests : List (OpeningRequest D E))
+    (same : map round_request rounds ≡ map (matrices_request committed) requests) where
+  abbrev asked : List (Request D E)
+  asked = map request requests
+
+  abbrev Seen : Type 0
+  Seen = Request (List (RowMajorMatrix F)) E
+
+  abbrev seen : Request D E → Seen
+  seen r = record { datum = committed r.datum; points = r.points }
+
+  looks : map round_request rounds ≡ map seen asked
+  looks = same ∙ sym (map_twice seen request requests)
+
+  -- the same matrices
+  pub data_seen : map (λ (r : OpeningRequest D E). committed r.prover_data.now) requests
+      ≡ map (λ (r : OpeningRound F E). r.matrices.now) rounds
+  data_seen =
+      sym (map_twice (λ (v : Seen). v.datum) (matrices_request committed) requests)
+      ∙ ap (λ vs. map (λ (v : Seen). v.datum) vs) (sym same)
+      ∙ map_twice (λ (v : Seen). v.datum) round_request rounds
+
+  module _ (openable : AreOpenable (λ d. All (HasCoset f.two_adicity) (committed d))
+      (held_of f committed p.log_blowup) asked) where
+    -- the rounds may be opened
+    pub are_rounds : All (IsRound f.two_adicity) rounds
+    are_rounds k r l =
+        let P : Seen → Type 0 =
+        λ v. (length v.points ≡ length v.datum) × All (HasCoset f.two_adicity) v.datum in
+        let each : All (λ (q : Request D E). P (seen q)) asked = λ i q h. (
+          openable.points i q h ∙ length-map _ (held_in f p.log_blowup),
+          openable.data_openable i q h,
+        ) in
+        let is = all_same seen round_request asked rounds (sym looks) P each k r l in
+        record {
+          lists_of_points = sym (length-map _ (λ v. v.items)) ∙ is.0;
+          cosets = is.1;
+        }
+
+    -- and some matrix is
+    pub some_matrix :
+        opened_of rounds (map (values_asked f p.log_blowup) rounds) ≢ []
+    some_matrix = subst (λ oss. joined oss ≢ [])
+        (sym (opened_by_request f p.log_blowup committed rounds requests same))
+        (some_asked f p.log_blowup committed asked
+        (each_from_All (λ r. length r.points ≡ length (held_of f committed p.log_blowup r.datum))
+        asked openable.points)
+        openable.some_matrix)
+
+  -- the checks
+  pub passes_checks : All (λ r. AreTallEnough p r.matrices.now) rounds
+      → All (ArePointsOff f) rounds → PassesChecks f p committed asked
+  passes_checks tall off = record {
+    heights = all_same round_request seen rounds asked looks (λ v. AreTallEnough p v.datum) tall;
+    points = all_same round_request seen rounds asked looks
+        (λ v. All (HasPointsOff f) (both ask v.datum v.points)) off;
+  }
+
+  tall_asked : All (λ r. AreTallEnough p r.matrices.now) rounds
+      → All (λ (q : Request D E). AreTallEnough p (committed q.datum)) asked
+  tall_asked tall =
+      all_same round_request seen rounds asked looks (λ v. AreTallEnough p v.datum) tall
+
+  first_low : (e : FriProverError) → FirstHeightRefusal p rounds e
+      → IsFirstLow f p committed e asked
+  first_low e r = record {
+    round = r.round;
+    first = first_same round_request seen rounds asked looks (λ v. AreTallEnough p v.datum)
+        (λ v. RoundHeightRefusal p e v.datum) r.round r.first;
+  }
+
+  -- a refusal for a height is one of some matrix
+  some_low : (e : FriProverError) → FirstHeightRefusal p rounds e
+      → (h : ℕ) × HeightRefusal p h e
+  some_low e r =
+      let found = any_at (λ (o : OpeningRound F E). RoundHeightRefusal p e o.matrices.now) rounds
+      r.round r.first.within r.first.here in
+      let here = found.4 in
+      let matrix = any_at (λ m. HeightRefusal p (log_height m) e) found.1.matrices.now here.matrix
+      here.first.within here.first.here in
+      (log_height matrix.1, matrix.4)
+
+  -- and why they refuse
+  pub heights_refused : (e : FriProverError) → FirstHeightRefusal p rounds e
+      → CheckRefusal f p committed asked e
+  heights_refused OutOfMemory r = tt
+  heights_refused (PointInEvaluationDomain a b d) r =
+      let low = some_low (PointInEvaluationDomain a b d) r in absurd low.1
+  heights_refused (InputHeightTooSmall h final) r = first_low (InputHeightTooSmall h final) r
+  heights_refused FinalHeightOverflow r = first_low FinalHeightOverflow r
+  heights_refused (NoPowWitness phase) r =
+      let low = some_low (NoPowWitness phase) r in absurd low.1
+
+  pub points_refused : All (λ r. AreTallEnough p r.matrices.now) rounds → (e : FriProverError)
+      → PointRefusal f rounds e → CheckRefusal f p committed asked e
+  points_refused tall OutOfMemory r = tt
+  points_refused tall (PointInEvaluationDomain a b d) r = (
+    tall_asked tall,
+    first_same round_request seen rounds asked looks
+        (λ v. All (HasPointsOff f) (both ask v.datum v.points))
+        (λ v. FirstAt (HasPointsOff f) (IsFirstPoint f d) (both ask v.datum v.points) b) a r,
+  )
+  points_refused tall (InputHeightTooSmall h final) r = absurd r
+  points_refused tall FinalHeightOverflow r = absurd r
+  points_refused tall (NoPowWitness phase) r = absurd r

@@ -1,0 +1,53 @@
+-- Why an opening stops, from why the test inside it does.
+use Rattle.std.proofs.Common.{◌<◌, ℕ, inl, inr, List, All, arith}
+use Rattle.p3_matrix.specs.declared.dense.RowMajorMatrix.{RowMajorMatrix}
+use Rattle.p3_fri_steps.specs.declared.error.FriProverError.{FriProverError}
+use Rattle.p3_fri_steps.specs.declared.error.FriProverError.TheVariants.{InputHeightTooSmall}
+use Rattle.p3_fri_steps.specs.declared.error.FriProverError.TheVariants.{FinalHeightOverflow}
+use Rattle.p3_fri_steps.specs.declared.error.FriProverError.TheVariants.{PointInEvaluationDomain}
+use Rattle.p3_fri_steps.specs.declared.error.FriProverError.TheVariants.{NoPowWitness, OutOfMemory}
+use Rattle.p3_fri_steps.specs.declared.pow_phase.PowPhase.TheVariants.{Batch, CommitPhase, Query}
+use Rattle.p3_fri_relation.specs.Setting.{Setting, Parameters}
+use Rattle.p3_fri_batch.specs.Words.{Opened}
+use Rattle.p3_fri_prover.specs.Prover.{ProverRefusal}
+use Rattle.p3_fri_prover.specs.Refusals.{IsTallEnough}
+use Rattle.p3_fri_opening_prover.specs.Opening.{StopsInTest, OpeningStops}
+use Rattle.p3_fri_opening_prover.specs.Refusals.{LeavesState}
+
+module _ {F E C Com Data Path InCom InPath : Type 0} (s : Setting F E C Com Path InCom InPath)
+    (committed : Data → List (RowMajorMatrix E)) (commitment_of : Data → Com) (p : Parameters) where
+  module _ (heights : List ℕ) (top : ℕ) (words : List (List E)) (c : C) where
+    abbrev Refused : FriProverError → Type 0
+    Refused e = ProverRefusal s committed commitment_of p heights top words c e
+
+    -- of words that are tall enough, below 64, none is one of the checks
+    pub not_of_checks : All (IsTallEnough p) heights → All (λ h. h < 64) heights
+        → (e : FriProverError) → Refused e → ¬ LeavesState e
+    not_of_checks tall below (InputHeightTooSmall h final) (inl r) leaves =
+        let above = tall r.place 0 r.within r.cause.0 in
+        absurd (omega (arith, above, r.cause.1))
+    not_of_checks tall below (InputHeightTooSmall h final) (inr r) leaves = absurd r.1
+    not_of_checks tall below FinalHeightOverflow (inl r) leaves =
+        let above = tall r.place 0 r.within r.cause.0 in
+        let low = below r.place 0 r.within in
+        absurd (omega (arith, above, low, r.cause.1))
+    not_of_checks tall below FinalHeightOverflow (inr r) leaves = absurd r.1
+    not_of_checks tall below (PointInEvaluationDomain a b d) (inl r) leaves = absurd r.cause
+    not_of_checks tall below (PointInEvaluationDomain a b d) (inr r) leaves = absurd r.1
+    not_of_checks tall below (NoPowWitness phase) r leaves = absurd leaves
+    not_of_checks tall below OutOfMemory r leaves = absurd leaves
+
+  -- what stops the test stops the opening
+  module _ (ms : List (Opened F E)) (values : List (List (List (List E)))) (c : C) where
+    batch_not_inside : StopsInTest s p ms values c committed commitment_of (NoPowWitness Batch) → ⊥
+    batch_not_inside x = elim (x.refused) [ inl r ↦ absurd r.cause | inr r ↦ absurd r.1 ]
+
+    pub stops : (e : FriProverError) → StopsInTest s p ms values c committed commitment_of e
+        → OpeningStops s p ms values c committed commitment_of e
+    stops (NoPowWitness Batch) x = absurd (batch_not_inside x)
+    stops (NoPowWitness CommitPhase) x = x
+    stops (NoPowWitness Query) x = x
+    stops OutOfMemory x = tt
+    stops (InputHeightTooSmall h final) x = x
+    stops FinalHeightOverflow x = x
+    stops (PointInEvaluationDomain a b d) x = x

@@ -1,0 +1,96 @@
+-- An opening: what is absorbed and drawn before the low-degree test, the test of the quotients'
+-- words, and what the committed data opens at its positions.
+use Rattle.std.specs.Prelude.{◌≡◌, ℕ, suc, ◌<◌, IsTrue, List, map, length, Some, ⊤}
+use Rattle.std.specs.List.{AllZip, flat_map}
+use Rattle.algebra.specs.Nested.{joined}
+use Rattle.p3_matrix.specs.declared.dense.RowMajorMatrix.{RowMajorMatrix}
+use Rattle.p3_fri_steps.specs.declared.error.FriProverError.{FriProverError}
+use Rattle.p3_fri_steps.specs.declared.error.FriProverError.TheVariants.{NoPowWitness, OutOfMemory}
+use Rattle.p3_fri_steps.specs.declared.pow_phase.PowPhase.TheVariants.{Batch}
+use Rattle.p3_fri_steps.specs.Pow.{NonePasses}
+use Rattle.p3_fri_folding.specs.Schedule.{tallest}
+use Rattle.p3_fri_pcs_transcript.specs.Steps.{PcsNumbers, pcs_stream}
+use Rattle.p3_fri_pcs_transcript.specs.Replay.{BatchReplay, claims_observed, claims_replay}
+use Rattle.p3_fri_relation.specs.Setting.{Fields, Setting, Parameters, Proof}
+use Rattle.p3_fri_batch.specs.Words.{Opened, batch_word}
+use Rattle.p3_fri_batch.specs.Heights.{heights_below}
+use Rattle.p3_fri_prover.specs.Openings.{OpensBatch}
+use Rattle.p3_fri_prover.specs.Proved.{positions, IsProved}
+use Rattle.p3_fri_prover.specs.Prover.{ProverRefusal}
+
+-- values by commitment, matrix, point and column
+module _ {E : Type 0} where
+  -- how many there are at each point
+  abbrev pub counts_of : List (List (List (List E))) → List (List (List ℕ))
+  counts_of values = map (λ matrices. map (λ points. map (λ ys. length ys) points) matrices) values
+
+  -- all of them, in order
+  abbrev pub all_of : List (List (List (List E))) → List E
+  all_of values = flat_map (λ matrices. flat_map (λ points. joined points) matrices) values
+
+-- of opened matrices
+module _ {F E : Type 0} (f : Fields F E) (ms : List (Opened F E)) where
+  -- their log heights, falling, and the tallest
+  abbrev pub heights : List ℕ
+  heights = heights_below ms (suc f.two_adicity)
+
+  abbrev pub top : ℕ
+  top = tallest heights
+
+  -- the words of their quotients, with the batching challenge `alpha`
+  abbrev pub words : (alpha : E) → List (List E)
+  words alpha = map (λ h. batch_word f alpha h ms) heights
+
+-- with these values at the matrices' points, from the challenger's state `c` on
+module _ {F E C Com Path InCom InPath : Type 0} (s : Setting F E C Com Path InCom InPath)
+    (p : Parameters) (ms : List (Opened F E)) (values : List (List (List (List E)))) (c : C) where
+  -- what the transcript around the test is bound to
+  abbrev pub numbers : PcsNumbers
+  numbers = record { counts = counts_of values; batch_pow_bits = p.batch_pow_bits }
+
+  -- the state once the values are absorbed
+  abbrev pub absorbed : C
+  absorbed = claims_observed s.moves s.fields.coefficients s.fields.base
+      (pcs_stream s.fields.degree numbers) c (all_of values)
+
+  -- what is drawn before the test
+  abbrev pub batch : (witness : F) → BatchReplay C E
+  batch witness = claims_replay s.moves s.fields.coefficients s.fields.base p.batch_pow_bits
+      (pcs_stream s.fields.degree numbers) c (all_of values) (Some witness)
+
+  -- with what was drawn, the proof is one of the words' test, and the data opens at its positions;
+  -- the challenger is left in the state `last`
+  pub record GoesOn {D : Type 0} (committed : D → List (RowMajorMatrix F))
+      (commitment_of : D → InCom) (opened : List D) (proof : Proof F E Com Path InPath) (last : C)
+      (drawn : BatchReplay C E) : Type 0 where
+    pub passes : IsTrue drawn.passes
+    pub proved : IsProved s p (heights s.fields ms) (top s.fields ms)
+        (words s.fields ms drawn.alpha) drawn.state proof (length opened) last
+    pub inputs : AllZip (λ d o. OpensBatch s.opens_input (top s.fields ms)
+        (positions s p (heights s.fields ms) (top s.fields ms) (words s.fields ms drawn.alpha)
+        drawn.state proof) (committed d) (commitment_of d) o) opened proof.inputs
+
+  -- the proof is that of an opening: its witness before the batching challenge passes, and is zero
+  -- at no bits, and the test goes on with what is drawn then
+  pub record IsOpening {D : Type 0} (committed : D → List (RowMajorMatrix F))
+      (commitment_of : D → InCom) (opened : List D) (proof : Proof F E Com Path InPath) (last : C)
+      : Type 0 where
+    pub canonical : p.batch_pow_bits ≡ 0 → proof.batch_witness ≡ s.fields.base.zero
+    pub tested : GoesOn committed commitment_of opened proof last (batch proof.batch_witness)
+
+  module _ {Data : Type 0} (committed : Data → List (RowMajorMatrix E))
+      (commitment_of : Data → Com) where
+    -- some witness passes before the batching challenge, and the test of the words stops then
+    pub record StopsInTest (e : FriProverError) : Type 0 where
+      pub witness : F
+      pub passes : IsTrue (batch witness).passes
+      pub refused : ProverRefusal s committed commitment_of p (heights s.fields ms)
+          (top s.fields ms) (words s.fields ms (batch witness).alpha) (batch witness).state e
+
+    -- why an opening that passed the checks stops: a proof of work was asked for and no witness
+    -- passes, or for want of memory
+    abbrev pub OpeningStops : FriProverError → Type 0
+    OpeningStops (NoPowWitness Batch) = (0 < p.batch_pow_bits)
+        × NonePasses s.moves.observe_value s.moves.draw_bits absorbed p.batch_pow_bits
+    OpeningStops OutOfMemory = ⊤
+    OpeningStops e = StopsInTest e

@@ -1,0 +1,77 @@
+-- When a prover of openings refuses.
+use Rattle.std.specs.Prelude.{ℕ, List, map, All, ⊤}
+use Rattle.algebra.specs.Nested.{joined}
+use Rattle.p3_matrix.specs.declared.dense.RowMajorMatrix.{RowMajorMatrix}
+use Rattle.p3_pcs.specs.Claims.{both}
+use Rattle.p3_pcs.specs.Requests.{Request, honest_values}
+use Rattle.p3_fri_steps.specs.declared.error.FriProverError.{FriProverError}
+use Rattle.p3_fri_steps.specs.declared.error.FriProverError.TheVariants.{InputHeightTooSmall}
+use Rattle.p3_fri_steps.specs.declared.error.FriProverError.TheVariants.{FinalHeightOverflow}
+use Rattle.p3_fri_steps.specs.declared.error.FriProverError.TheVariants.{PointInEvaluationDomain}
+use Rattle.p3_fri_steps.specs.declared.error.FriProverError.TheVariants.{NoPowWitness, OutOfMemory}
+use Rattle.p3_fri_relation.specs.Setting.{Fields, Parameters, Setting}
+use Rattle.p3_fri_openings.specs.First.{FirstAt}
+use Rattle.p3_fri_openings.specs.Rounds.{Asked, ask}
+use Rattle.p3_fri_openings.specs.Refusals.{AreTallEnough, RoundHeightRefusal}
+use Rattle.p3_fri_openings.specs.Refusals.{HasPointsOff, IsFirstPoint}
+use Rattle.p3_fri_completeness.specs.Requests.{held_of, round_opened}
+use Rattle.p3_fri_opening_prover.specs.Opening.{OpeningStops}
+
+module _ {F E D : Type 0} (f : Fields F E) (p : Parameters)
+    (committed : D → List (RowMajorMatrix F)) where
+  -- the matrices of a request with their points
+  abbrev pub asked_of : Request D E → List (Asked F E)
+  asked_of r = both ask (committed r.datum) r.points
+
+  -- each matrix is tall enough, and no point lies in its evaluation coset
+  pub record PassesChecks (requests : List (Request D E)) : Type 0 where
+    pub heights : All (λ r. AreTallEnough p (committed r.datum)) requests
+    pub points : All (λ r. All (HasPointsOff f) (asked_of r)) requests
+
+  -- the first matrix that is refused for its height
+  pub record IsFirstLow (e : FriProverError) (requests : List (Request D E)) : Type 0 where
+    pub round : ℕ
+    pub first : FirstAt (λ r. AreTallEnough p (committed r.datum))
+        (λ r. RoundHeightRefusal p e (committed r.datum)) requests round
+
+  -- the first point that lies in its coset
+  abbrev pub IsFirstOn : (round matrix point : ℕ) → List (Request D E) → Type 0
+  IsFirstOn round matrix point requests =
+      FirstAt (λ r. All (HasPointsOff f) (asked_of r))
+      (λ r. FirstAt (HasPointsOff f) (IsFirstPoint f point) (asked_of r) matrix) requests round
+
+  -- why the checks refuse: the first matrix that is too low or, where none is, the first point in
+  -- a coset; and for want of memory
+  abbrev pub CheckRefusal : List (Request D E) → FriProverError → Type 0
+  CheckRefusal requests OutOfMemory = ⊤
+  CheckRefusal requests (PointInEvaluationDomain round matrix point) =
+      All (λ r. AreTallEnough p (committed r.datum)) requests
+      × IsFirstOn round matrix point requests
+  CheckRefusal requests (InputHeightTooSmall h final) =
+      IsFirstLow (InputHeightTooSmall h final) requests
+  CheckRefusal requests FinalHeightOverflow = IsFirstLow FinalHeightOverflow requests
+  CheckRefusal requests (NoPowWitness phase) = ⊥
+
+module _ {F E C D Data Com Path InCom InPath : Type 0} (s : Setting F E C Com Path InCom InPath)
+    (p : Parameters) (committed : D → List (RowMajorMatrix F))
+    (committed_in_test : Data → List (RowMajorMatrix E)) (commitment_in_test : Data → Com)
+    (c : C) (requests : List (Request D E)) where
+  -- why requests that pass the checks aren't opened from the challenger's state `c` on
+  abbrev pub RequestsStop : FriProverError → Type 0
+  RequestsStop e =
+      OpeningStops s p (joined (map (round_opened s.fields committed p.log_blowup) requests))
+      (map (honest_values (held_of s.fields committed p.log_blowup)) requests) c
+      committed_in_test commitment_in_test e
+
+  -- why requests aren't opened: the checks refuse them, or what stops those that pass
+  abbrev pub OpenRefusal : FriProverError → Type 0
+  OpenRefusal (NoPowWitness phase) =
+      PassesChecks s.fields p committed requests × RequestsStop (NoPowWitness phase)
+  OpenRefusal e = CheckRefusal s.fields p committed requests e
+
+-- the refusals that leave a prover's challenger as it was
+abbrev pub LeavesState : FriProverError → Type 0
+LeavesState (InputHeightTooSmall h final) = ⊤
+LeavesState FinalHeightOverflow = ⊤
+LeavesState (PointInEvaluationDomain round matrix point) = ⊤
+LeavesState _ = ⊥

@@ -1,0 +1,212 @@
+//! The prover of openings.
+
+ghost use Rattle.std.specs.Prelude.{◌≡◌, ◌≢◌, ◌+◌, ◌^◌, ◌<◌, ◌≤◌, ℕ, [], List, All, IsOk, IfOk};
+ghost use Rattle.std.specs.Prelude.{IfErr, map};
+ghost use Rattle.p3_pcs.specs.Claims.{opened_values};
+ghost use Rattle.p3_pcs.specs.Requests.{AreOpenable, AreHonest, FitDomains, request};
+ghost use Rattle.p3_pcs.specs.Requests.{honest_values, honest_claims};
+ghost use Rattle.p3_fri_relation.specs.Acceptance.{Accepts, batch_replayed, test_replay};
+ghost use Rattle.p3_fri_relation.specs.Views.{parameters_of, proof_of};
+ghost use Rattle.p3_fri_openings.specs.Opened.{values_asked};
+ghost use Rattle.p3_fri_openings.specs.Rounds.{HasCoset, IsRound};
+ghost use Rattle.p3_fri_openings.specs.Refusals.{AreTallEnough, ArePointsOff};
+ghost use Rattle.p3_fri_batch.specs.Rounds.{opened_of};
+ghost use Rattle.p3_fri_prover.specs.Prover.{IsInProverRange};
+ghost use Rattle.p3_fri_completeness.specs.Requests.{HoldsWords, held_of, relation_claims};
+ghost use Rattle.p3_fri_opening_prover.specs.Opening.{IsOpening, OpeningStops};
+ghost use Rattle.p3_fri_opening_prover.specs.Refusals.{PassesChecks, OpenRefusal, LeavesState};
+
+use crate::checked::checked_rounds;
+use crate::data::data_of_requests;
+use crate::prepared::{Prepared, prepare};
+use crate::seeded::open_seeded;
+use p3_challenger::{CanObserve, FieldChallenger, GrindingChallenger};
+use p3_commit::{Mmcs, OpenedValues};
+use p3_field::{ExtensionField, TwoAdicField};
+use p3_fri_folding::{FriFoldingStrategy, FriParameters};
+use p3_fri_openings::OpeningRound;
+use p3_fri_relation::proof::{BatchMultiOpening, FriProof};
+use p3_fri_relation::setting::{ChallengeField, PlaysFri};
+use p3_fri_steps::FriProverError;
+use p3_pcs::OpeningRequest;
+use std::alloc::{AllocError, Global};
+
+/// Opens rounds that passed the checks, which are those of the requests.
+fn open_checked<
+    F: TwoAdicField,
+    EF: ExtensionField<F>,
+    M: Mmcs<EF>,
+    InputMmcs: Mmcs<F>,
+    S: FriFoldingStrategy<F, EF>,
+    C: FieldChallenger<F> + GrindingChallenger<Witness = F> + CanObserve<M::Commitment>,
+>(
+    alloc: Global,
+    folding: &S,
+    params: &FriParameters<M>,
+    input_mmcs: &InputMmcs,
+    requests: &[OpeningRequest<'_, InputMmcs::ProverData, EF>],
+    rounds: &[OpeningRound<'_, F, EF>],
+    challenger: &mut C,
+) -> Result<
+    (
+        OpenedValues<EF>,
+        FriProof<EF, M, F, Vec<BatchMultiOpening<F, InputMmcs>>>,
+    ),
+    FriProverError,
+>
+    requires in_range { IsInProverRange (parameters_of params.now) F.TWO_ADICITY
+        (S.extra_query_index_bits folding.now) C.MAX_SAMPLE_BITS }
+    requires batch_bits_at_most_max { params.now.batch_proof_of_work_bits ≤ C.MAX_SAMPLE_BITS }
+    requires max_log_height { F.TWO_ADICITY ≤ S.max_log_height folding.now }
+    requires rounds { All (IsRound F.TWO_ADICITY) rounds.now }
+    requires tall_enough { All (λ r. AreTallEnough (parameters_of params.now) r.matrices.now)
+        rounds.now }
+    requires off { All (ArePointsOff ⟦<EF as ChallengeField<F>>⟧.fields) rounds.now }
+    requires some_matrix { opened_of rounds.now (map (values_asked
+        ⟦<EF as ChallengeField<F>>⟧.fields params.now.log_blowup) rounds.now) ≢ [] }
+    requires requests { map (λ r. InputMmcs.committed r.prover_data.now) requests.now
+        ≡ map (λ r. r.matrices.now) rounds.now }
+    ensures values { IfOk result (λ opening. opened_values opening.0.items ≡ map (values_asked
+        ⟦<EF as ChallengeField<F>>⟧.fields params.now.log_blowup) rounds.now) }
+    ensures opening { let s = ⟦<C as PlaysFri<F, EF, S, M, InputMmcs>>⟧.setting folding.now
+        params.now.mmcs input_mmcs.now in
+        let ys = map (values_asked s.fields params.now.log_blowup) rounds.now in
+        IfOk result (λ opening. IsOpening s (parameters_of params.now) (opened_of rounds.now ys) ys
+        challenger.old (λ r. InputMmcs.committed r.prover_data.now)
+        (λ r. InputMmcs.commitment_of r.prover_data.now) requests.now (proof_of opening.1)
+        challenger.new) }
+    ensures stops { let s = ⟦<C as PlaysFri<F, EF, S, M, InputMmcs>>⟧.setting folding.now
+        params.now.mmcs input_mmcs.now in
+        let ys = map (values_asked s.fields params.now.log_blowup) rounds.now in
+        IfErr result (OpeningStops s (parameters_of params.now) (opened_of rounds.now ys) ys
+        challenger.old M.committed M.commitment_of) }
+    ensures not_checked { IfErr result (λ e. ¬ LeavesState e) }
+{
+    let prepared = match prepare(alloc, params, rounds) {
+        Ok(prepared) => prepared,
+        Err(AllocError) => return Err(FriProverError::OutOfMemory),
+    };
+    let opened = match data_of_requests(alloc, requests) {
+        Ok(opened) => opened,
+        Err(AllocError) => return Err(FriProverError::OutOfMemory),
+    };
+    let Prepared {
+        denominators,
+        values,
+        shape,
+        seed,
+    } = prepared;
+    let proved = open_seeded(
+        alloc,
+        folding,
+        params,
+        input_mmcs,
+        rounds,
+        &values,
+        &denominators.entries,
+        &opened,
+        challenger,
+        seed,
+        shape,
+    );
+    match proved {
+        Ok(proof) => Ok((values, proof)),
+        Err(refusal) => Err(refusal),
+    }
+}
+
+/// Opens committed data at points: answers the values of the committed polynomials there, with a
+/// proof of them, which is bound to the challenger's state. The values are absorbed, a challenge
+/// that batches them is drawn, and the low-degree test (FRI, ICALP 2018) of their quotients is made
+/// inside that transcript. No request is changed.
+///
+/// Each datum has a list of points for each of its matrices, which stand on cosets of the field,
+/// and there is some matrix. Of honest data, where each matrix has a point, the proof is accepted
+/// of the honest claims, on all domains of their sizes (of a domain its log size alone counts), and
+/// the challenger is left in the last state of both transcripts.
+///
+/// Each parameter is positive where it has to be, and the blowup a number. The challenger draws as
+/// many bits at once as the two-adicity and the strategy's extra bits together, and as each
+/// difficulty. The strategy folds words of each log height up to the two-adicity.
+///
+/// # Errors
+///
+/// The heights of all matrices are tested in order, and then all points, before anything is
+/// absorbed: `InputHeightTooSmall`, `FinalHeightOverflow` and `PointInEvaluationDomain` leave the
+/// challenger as it was. `NoPowWitness` where no element passes a proof of work that is asked for.
+/// Want of memory is `OutOfMemory`.
+pub fn open_requests<
+    F: TwoAdicField,
+    EF: ExtensionField<F>,
+    M: Mmcs<EF>,
+    InputMmcs: Mmcs<F>,
+    S: FriFoldingStrategy<F, EF>,
+    C: FieldChallenger<F> + GrindingChallenger<Witness = F> + CanObserve<M::Commitment>,
+>(
+    alloc: Global,
+    folding: &S,
+    params: &FriParameters<M>,
+    input_mmcs: &InputMmcs,
+    requests: &[OpeningRequest<'_, InputMmcs::ProverData, EF>],
+    challenger: &mut C,
+) -> Result<
+    (
+        OpenedValues<EF>,
+        FriProof<EF, M, F, Vec<BatchMultiOpening<F, InputMmcs>>>,
+    ),
+    FriProverError,
+>
+    requires positive_blowup { 0 < params.now.log_blowup }
+    requires blowup_below_64 { params.now.log_blowup < 64 }
+    requires positive_cap { 0 < params.now.max_log_arity }
+    requires some_query { 0 < params.now.num_queries }
+    requires index_bits_at_most_max { F.TWO_ADICITY + S.extra_query_index_bits folding.now
+        ≤ C.MAX_SAMPLE_BITS }
+    requires batch_bits_at_most_max { params.now.batch_proof_of_work_bits ≤ C.MAX_SAMPLE_BITS }
+    requires commit_bits_at_most_max { params.now.commit_proof_of_work_bits ≤ C.MAX_SAMPLE_BITS }
+    requires query_bits_at_most_max { params.now.query_proof_of_work_bits ≤ C.MAX_SAMPLE_BITS }
+    requires max_log_height { F.TWO_ADICITY ≤ S.max_log_height folding.now }
+    requires openable { AreOpenable (λ d. All (HasCoset F.TWO_ADICITY) (InputMmcs.committed d))
+        (held_of ⟦<EF as ChallengeField<F>>⟧.fields InputMmcs.committed params.now.log_blowup)
+        (map request requests.now) }
+    ensures values { IfOk result (λ opening. opened_values opening.0.items ≡ map (honest_values
+        (held_of ⟦<EF as ChallengeField<F>>⟧.fields InputMmcs.committed params.now.log_blowup))
+        (map request requests.now)) }
+    ensures accepted { let s = ⟦<C as PlaysFri<F, EF, S, M, InputMmcs>>⟧.setting folding.now
+        params.now.mmcs input_mmcs.now in
+        let held = held_of s.fields InputMmcs.committed params.now.log_blowup in
+        let asked = map request requests.now in
+        AreHonest (λ d. All (HoldsWords s.fields params.now.log_blowup) (InputMmcs.committed d))
+        asked → IfOk result (λ opening. (log_sizes : List (List ℕ))
+        → FitDomains held (λ n. 2 ^ n) log_sizes asked
+        → Accepts s (parameters_of params.now) (relation_claims (λ n. n)
+        (honest_claims held InputMmcs.commitment_of log_sizes asked)) (proof_of opening.1)
+        challenger.old) }
+    ensures state { let s = ⟦<C as PlaysFri<F, EF, S, M, InputMmcs>>⟧.setting folding.now
+        params.now.mmcs input_mmcs.now in
+        let p = parameters_of params.now in
+        let held = held_of s.fields InputMmcs.committed params.now.log_blowup in
+        let asked = map request requests.now in
+        AreHonest (λ d. All (HoldsWords s.fields params.now.log_blowup) (InputMmcs.committed d))
+        asked → IfOk result (λ opening. (log_sizes : List (List ℕ))
+        → FitDomains held (λ n. 2 ^ n) log_sizes asked
+        → let claims = relation_claims (λ n. n)
+        (honest_claims held InputMmcs.commitment_of log_sizes asked) in
+        challenger.new ≡ (test_replay s p claims (proof_of opening.1)
+        (batch_replayed s p claims (proof_of opening.1) challenger.old).state).state) }
+    ensures checked { IsOk result → PassesChecks ⟦<EF as ChallengeField<F>>⟧.fields
+        (parameters_of params.now) InputMmcs.committed (map request requests.now) }
+    ensures refused { let s = ⟦<C as PlaysFri<F, EF, S, M, InputMmcs>>⟧.setting folding.now
+        params.now.mmcs input_mmcs.now in
+        IfErr result (OpenRefusal s (parameters_of params.now) InputMmcs.committed M.committed
+        M.commitment_of challenger.old (map request requests.now)) }
+    ensures unmoved { IfErr result (λ e. LeavesState e → challenger.new ≡ challenger.old) }
+{
+    let rounds = match checked_rounds(alloc, params, input_mmcs, requests) {
+        Ok(rounds) => rounds,
+        Err(refusal) => return Err(refusal),
+    };
+    open_checked(
+        alloc, folding, params, input_mmcs, requests, &rounds, challenger,
+    )
+}

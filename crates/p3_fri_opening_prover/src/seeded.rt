@@ -1,0 +1,123 @@
+//! The transcript around the test, once its seed is made.
+
+ghost use Rattle.std.specs.Prelude.{◌≡◌, ◌≢◌, ◌≤◌, [], All, IfOk, IfErr, map};
+ghost use Rattle.std.specs.List.{AllZip};
+ghost use Rattle.p3_challenger.specs.Pattern.{turn_of};
+ghost use Rattle.p3_challenger.specs.Separator.{seed_bytes, seed_turns};
+ghost use Rattle.p3_pcs.specs.Claims.{opened_values};
+ghost use Rattle.p3_fri_pcs_transcript.specs.Counts.{counts_of_values};
+ghost use Rattle.p3_fri_pcs_transcript.specs.Shapes.{pcs_shape};
+ghost use Rattle.p3_fri_pcs_transcript.specs.Steps.{pcs_steps, pcs_stream};
+ghost use Rattle.p3_fri_relation.specs.Views.{parameters_of, proof_of};
+ghost use Rattle.p3_fri_openings.specs.Rounds.{IsRound};
+ghost use Rattle.p3_fri_openings.specs.Refusals.{AreTallEnough};
+ghost use Rattle.p3_fri_openings.specs.Denominators.{AreInverses, ArePointsCovered};
+ghost use Rattle.p3_fri_batch.specs.Rounds.{HaveValues, opened_of};
+ghost use Rattle.p3_fri_prover.specs.Prover.{IsInProverRange};
+ghost use Rattle.p3_fri_opening_prover.specs.Opening.{IsOpening, OpeningStops};
+ghost use Rattle.p3_fri_opening_prover.specs.Refusals.{LeavesState};
+
+use crate::words::prove_words;
+use p3_challenger::fs::Seed;
+use p3_challenger::{CanObserve, FieldChallenger, GrindingChallenger};
+use p3_commit::{Mmcs, OpenedValues};
+use p3_field::{ExtensionField, TwoAdicField};
+use p3_fri_folding::{FriFoldingStrategy, FriParameters};
+use p3_fri_openings::{OpeningRound, PointDenominators};
+use p3_fri_pcs_transcript::PcsShape;
+use p3_fri_pcs_transcript::pcs_transcript::PcsProverTranscript;
+use p3_fri_prover::prover::ProverDataWithOpeningPoints;
+use p3_fri_relation::proof::{BatchMultiOpening, FriProof};
+use p3_fri_relation::setting::{ChallengeField, PlaysFri};
+use p3_fri_steps::FriProverError;
+use std::alloc::Global;
+
+/// Plays the transcript of these values, whose shape and seed were made: they are absorbed, the
+/// batching challenge is drawn, and the low-degree test of the quotients is made inside it.
+pub(crate) fn open_seeded<
+    F: TwoAdicField,
+    EF: ExtensionField<F>,
+    M: Mmcs<EF>,
+    InputMmcs: Mmcs<F>,
+    S: FriFoldingStrategy<F, EF>,
+    C: FieldChallenger<F> + GrindingChallenger<Witness = F> + CanObserve<M::Commitment>,
+>(
+    alloc: Global,
+    folding: &S,
+    params: &FriParameters<M>,
+    input_mmcs: &InputMmcs,
+    rounds: &[OpeningRound<'_, F, EF>],
+    values: &OpenedValues<EF>,
+    table: &[PointDenominators<EF>],
+    opened: &[ProverDataWithOpeningPoints<'_, EF, InputMmcs::ProverData>],
+    challenger: &mut C,
+    seed: Seed,
+    shape: PcsShape,
+) -> Result<FriProof<EF, M, F, Vec<BatchMultiOpening<F, InputMmcs>>>, FriProverError>
+    requires in_range { IsInProverRange (parameters_of params.now) F.TWO_ADICITY
+        (S.extra_query_index_bits folding.now) C.MAX_SAMPLE_BITS }
+    requires batch_bits_at_most_max { params.now.batch_proof_of_work_bits ≤ C.MAX_SAMPLE_BITS }
+    requires max_log_height { F.TWO_ADICITY ≤ S.max_log_height folding.now }
+    requires rounds { All (IsRound F.TWO_ADICITY) rounds.now }
+    requires tall_enough { All (λ r. AreTallEnough (parameters_of params.now) r.matrices.now)
+        rounds.now }
+    requires values { AllZip HaveValues rounds.now (opened_values values.now.items) }
+    requires inverses { All (AreInverses ⟦<EF as ChallengeField<F>>⟧.fields) table.now }
+    requires covered { All (ArePointsCovered table.now) rounds.now }
+    requires some_matrix { opened_of rounds.now (opened_values values.now.items) ≢ [] }
+    requires opened { map (λ d. InputMmcs.committed d.prover_data.now) opened.now
+        ≡ map (λ r. r.matrices.now) rounds.now }
+    requires shape { pcs_shape shape ≡ record {
+      counts = counts_of_values values.now.items;
+      batch_pow_bits = params.now.batch_proof_of_work_bits;
+    } }
+    requires stream { seed_bytes seed ≡ pcs_stream EF.DIMENSION (pcs_shape shape) }
+    requires turns { seed_turns seed ≡ map turn_of (pcs_steps EF.DIMENSION (pcs_shape shape)) }
+    ensures opening { let s = ⟦<C as PlaysFri<F, EF, S, M, InputMmcs>>⟧.setting folding.now
+        params.now.mmcs input_mmcs.now in
+        let ys = opened_values values.now.items in
+        IfOk result (λ proof. IsOpening s (parameters_of params.now) (opened_of rounds.now ys) ys
+        challenger.old (λ d. InputMmcs.committed d.prover_data.now)
+        (λ d. InputMmcs.commitment_of d.prover_data.now) opened.now (proof_of proof)
+        challenger.new) }
+    ensures stops { let s = ⟦<C as PlaysFri<F, EF, S, M, InputMmcs>>⟧.setting folding.now
+        params.now.mmcs input_mmcs.now in
+        let ys = opened_values values.now.items in
+        IfErr result (OpeningStops s (parameters_of params.now) (opened_of rounds.now ys) ys
+        challenger.old M.committed M.commitment_of) }
+    ensures not_checked { IfErr result (λ e. ¬ LeavesState e) }
+{
+    let mut transcript = PcsProverTranscript::<C, F, EF>::start(challenger, seed, shape);
+    transcript.claimed_openings(values);
+    let (alpha, witness) = match transcript.batch_phase() {
+        Ok(drawn) => drawn,
+        Err(refusal) => {
+            transcript.abort();
+            return Err(refusal);
+        },
+    };
+    let tested = prove_words(
+        alloc,
+        folding,
+        params,
+        input_mmcs,
+        rounds,
+        values,
+        table,
+        opened,
+        alpha,
+        witness.unwrap_or(F::ZERO),
+        transcript.begin_delegate(),
+    );
+    match tested {
+        Ok(proof) => {
+            transcript.end_delegate();
+            transcript.finish();
+            Ok(proof)
+        },
+        Err(refusal) => {
+            transcript.abort();
+            Err(refusal)
+        },
+    }
+}
