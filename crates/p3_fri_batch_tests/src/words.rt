@@ -14,14 +14,33 @@ type Coefficients = [u64; 4];
 
 /// The values of `3 + X + 4X^2 + X^3` and `5 + 9X + 2X^2 + 6X^3` on the coset of 8 points.
 const WIDE: [u64; 16] = [
-    33669, 180952, 2_013_239_946, 2_013_088_823, 1_625_970_829, 1_383_128_448, 387_287_410,
-    630_133_639, 1_137_921_166, 757_627_193, 1_294_162_105, 1_465_047_410, 1_924_463_254,
-    176_529_513, 1_683_251_250, 1_627_327_746,
+    33669,
+    180952,
+    2_013_239_946,
+    2_013_088_823,
+    1_625_970_829,
+    1_383_128_448,
+    387_287_410,
+    630_133_639,
+    1_137_921_166,
+    757_627_193,
+    1_294_162_105,
+    1_465_047_410,
+    1_924_463_254,
+    176_529_513,
+    1_683_251_250,
+    1_627_327_746,
 ];
 
 /// The values of `2 + 7X + X^2 + 8X^3` there.
 const NARROW: [u64; 8] = [
-    239_508, 2_013_028_339, 1_705_840_839, 307_423_164, 395_683_805, 1_722_286_456, 388_874_599,
+    239_508,
+    2_013_028_339,
+    1_705_840_839,
+    307_423_164,
+    395_683_805,
+    1_722_286_456,
+    388_874_599,
     1_519_686_990,
 ];
 
@@ -96,13 +115,7 @@ fn words<F: TwoAdicField, EF: ExtensionField<F>>(
     }
     let denominators = denominators_of_rounds(alloc, rounds)?;
     let values = open_values(alloc, 1, rounds, &denominators)?;
-    Ok(batch_words::<F, EF>(
-        alloc,
-        alpha,
-        rounds,
-        &values,
-        &denominators.entries,
-    )?)
+    Ok(batch_words::<F, EF>(alloc, alpha, rounds, &values, &denominators.entries)?)
 }
 
 #[test]
@@ -127,7 +140,10 @@ fn two_heights_at_two_points(rt: HostRuntime) -> Result<(), Fail> {
     ];
     let words = words(alloc, element(ALPHA), &rounds)?;
     assert_eq!(rt; words.len(), 2);
-    assert_eq!(rt; words[0].as_slice(), elements(alloc, &TALL_WORD)?.as_slice());
+    assert_eq!(rt;
+        words[0].as_slice(),
+        elements(alloc, &TALL_WORD)?.as_slice()
+    );
     assert_eq!(rt; words[1].as_slice(), elements(alloc, &LOW_WORD)?.as_slice());
     Ok(())
 }

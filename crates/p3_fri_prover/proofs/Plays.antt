@@ -114,7 +114,7 @@ module _ {E A : Type 0} (inputs others : List (Vec E A)) (first : Vec E A)
           arith,
           pow_mono fits,
           word_so_far fields.ext fold (λ k. of_length (lists others) (2 ^ k)) top arities
-          rounds.betas
+              rounds.betas
               first.items word rounds.drawn (sym first.ok.0 ∙ size) rounds.last_word
               ∙ ap (λ k. 2 ^ k) left,
         )

@@ -190,6 +190,21 @@ impl<
             FitsDomain F.TWO_ADICITY self.old.fri.log_blowup e.0.log_size e.1) evaluations.items }
         ensures range { prover_range (parameters_of self.new.fri) F.TWO_ADICITY
             C.MAX_SAMPLE_BITS }
+        ensures verifier_range { verifier_range (parameters_of self.old.fri) F.TWO_ADICITY C.MAX_SAMPLE_BITS
+            → verifier_range (parameters_of self.new.fri) F.TWO_ADICITY C.MAX_SAMPLE_BITS }
+        ensures still_held { (d : InputMmcs.ProverData)
+            → map (held_in ⟦<EF as ChallengeField<F>>⟧.fields self.new.fri.log_blowup)
+            (InputMmcs.committed d)
+            ≡ map (held_in ⟦<EF as ChallengeField<F>>⟧.fields self.old.fri.log_blowup)
+            (InputMmcs.committed d) }
+        ensures still_openable { (d : InputMmcs.ProverData)
+            → All (HasCoset F.TWO_ADICITY) (InputMmcs.committed d)
+            → All (HasCoset F.TWO_ADICITY) (InputMmcs.committed d) }
+        ensures still_honest { (d : InputMmcs.ProverData)
+            → All (HoldsWords ⟦<EF as ChallengeField<F>>⟧.fields self.old.fri.log_blowup)
+            (InputMmcs.committed d)
+            → All (HoldsWords ⟦<EF as ChallengeField<F>>⟧.fields self.new.fri.log_blowup)
+            (InputMmcs.committed d) }
         ensures commitment { IfOk result (λ pair. InputMmcs.commitment_of pair.1 ≡ pair.0) }
         ensures openable { IfOk result (λ pair.
             All (HasCoset F.TWO_ADICITY) (InputMmcs.committed pair.1)) }

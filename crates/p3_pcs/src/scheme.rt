@@ -92,6 +92,7 @@ pub trait Pcs<EF: Copy, C> {
         ensures size { domain_size result ≡ degree };
 
     /// Commits to a batch of matrices, each of the values of its columns on the domain beside it.
+    /// What was committed to before can be opened as before.
     fn commit(
         &mut self,
         alloc: Global,
@@ -100,6 +101,10 @@ pub trait Pcs<EF: Copy, C> {
         requires range { InProverRange self.old }
         requires evaluations { CanCommit self.old evaluations.items }
         ensures range { InProverRange self.new }
+        ensures verifier_range { InVerifierRange self.old → InVerifierRange self.new }
+        ensures still_held { (d : Self.ProverData) → held self.new d ≡ held self.old d }
+        ensures still_openable { (d : Self.ProverData) → CanOpen self.old d → CanOpen self.new d }
+        ensures still_honest { (d : Self.ProverData) → IsHonest self.old d → IsHonest self.new d }
         ensures commitment { IfOk result (λ pair. commitment_of pair.1 ≡ pair.0) }
         ensures openable { IfOk result (λ pair. CanOpen self.new pair.1) }
         ensures honest { IfOk result (λ pair. IsHonest self.new pair.1) }

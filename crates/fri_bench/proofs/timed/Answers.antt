@@ -22,5 +22,9 @@ bit_reverse_rows-reversed-requires c =
     subst (λ made. IfSome made (λ matrix. length (rows matrix) ≡ 2 ^ k))
     c.in-Some.is c.in_ok-matrix.ensures in
     let known = c.in_ok-extended.ensures k size in
-    record { power_of_two = (k + c.args.sizes.added_bits,
-    known.height ∙ length-tabulate (2 ^ (k + c.args.sizes.added_bits)) _) }
+    record {
+      power_of_two = (
+        k + c.args.sizes.added_bits,
+        known.height ∙ length-tabulate (2 ^ (k + c.args.sizes.added_bits)) _,
+      );
+    }

@@ -86,7 +86,7 @@ final_polynomial-requires-clause-long_enough g c =
       arith,
       word.ok.0,
       last_word_long inputs c.deref.result.now first some is_first
-      (c.deref.ensures.value ∙ are_others)
+          (c.deref.ensures.value ∙ are_others)
           g.M.Mmcs.committed g.M.Mmcs.commitment_of fields fold m l numbers top seeded arities
           c.requires.schedule can.height refl can.long_enough size made.commitments.items
           made.witnesses.items made.data.items word.items reached (c.in-Ok.ensures.rounds top size),
