@@ -47,8 +47,8 @@ module _ {F E D C Com Path InCom InPath Domain : Type 0} (s : Setting F E C Com 
     (p : Parameters) (committed : D → List (RowMajorMatrix F)) (commitment_of : D → InCom)
     (log_size : Domain → ℕ) (rounds : List (OpeningRound F E))
     (requests : List (OpeningRequest D E))
-    (values : List (List (List (List E)))) (c : C) (proof : Proof F E Com Path InPath) (last : C)
-  where
+    (values : List (List (List (List E)))) (c : C) (proof : Proof F E Com Path InPath)
+    (last : C) where
   abbrev asked : List (Request D E)
   asked = map request requests
 
@@ -121,7 +121,8 @@ module _ {F E D C Com Path InCom InPath Domain : Type 0} (s : Setting F E C Com 
       claimed : Went top words before
       claimed = subst (Went top words)
           (ap (λ ys. begun s p c proof.batch_witness ys)
-          (values_are ∙ values_by_request s.fields p.log_blowup committed rounds requests rounds_are)
+          (values_are
+          ∙ values_by_request s.fields p.log_blowup committed rounds requests rounds_are)
           ∙ begun_of_claims s p committed commitment_of log_size c proof domains asked domains_fit
           (each_from_All (IsHonestRequest s.fields committed p) asked requests_are))
           went

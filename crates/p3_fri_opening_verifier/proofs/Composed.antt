@@ -1,5 +1,6 @@
 -- What the transcript around the test did, and what the test answered, put together.
-use Rattle.std.proofs.Common.{◌≡◌, ℕ, inl, inr, Bool, true, false, List, Result, Err, Some, refl, sym, ap, ◌∙◌, subst}
+use Rattle.std.proofs.Common.{◌≡◌, ℕ, inl, inr, Bool, true, false, List, Result, Err, Some, refl}
+use Rattle.std.proofs.Common.{sym, ap, ◌∙◌, subst}
 use Rattle.std.specs.Prelude.{IsTrue, IfErr}
 use Rattle.std.specs.List.{flat_map}
 use Rattle.p3_commit.specs.declared.openings.CommitmentOpening.{CommitmentOpening}
@@ -10,21 +11,29 @@ use Rattle.p3_fri_steps.specs.declared.pow_phase.PowPhase.TheVariants.{Batch, Co
 use Rattle.p3_fri_pcs_transcript.specs.Steps.{PcsNumbers, pcs_stream}
 use Rattle.p3_fri_pcs_transcript.specs.Replay.{BatchReplay, shown_batch_replay}
 use Rattle.p3_fri_pcs_transcript.specs.declared.pcs_transcript.failure.PcsTranscriptFailure.{PcsTranscriptFailure}
-use Rattle.p3_fri_pcs_transcript.specs.declared.pcs_transcript.failure.PcsTranscriptFailure.TheVariants.{ClaimedEvaluationCount, PowWitness, MissingPowWitness, OutOfMemory as no_memory}
+use Rattle.p3_fri_pcs_transcript.specs.declared.pcs_transcript.failure.PcsTranscriptFailure.TheVariants.{ClaimedEvaluationCount}
+use Rattle.p3_fri_pcs_transcript.specs.declared.pcs_transcript.failure.PcsTranscriptFailure.TheVariants.{PowWitness}
+use Rattle.p3_fri_pcs_transcript.specs.declared.pcs_transcript.failure.PcsTranscriptFailure.TheVariants.{MissingPowWitness}
+use Rattle.p3_fri_pcs_transcript.specs.declared.pcs_transcript.failure.PcsTranscriptFailure.TheVariants.{OutOfMemory as no_memory}
 use Rattle.p3_fri_pcs_transcript.specs.Counts.{counts_of_claims}
 use Rattle.p3_fri_pcs_transcript.specs.Failures.{BatchFailure}
 use Rattle.p3_fri_pcs_transcript.proofs.PcsReplays.{batch_joined}
 use Rattle.p3_fri_relation.specs.declared.error.FriError.{FriError}
-use Rattle.p3_fri_relation.specs.declared.error.FriError.TheVariants.{InvalidPowWitness, NonCanonicalPowWitness, OutOfMemory}
+use Rattle.p3_fri_relation.specs.declared.error.FriError.TheVariants.{InvalidPowWitness}
+use Rattle.p3_fri_relation.specs.declared.error.FriError.TheVariants.{NonCanonicalPowWitness}
+use Rattle.p3_fri_relation.specs.declared.error.FriError.TheVariants.{OutOfMemory}
 use Rattle.p3_fri_relation.specs.Setting.{Setting, Parameters, CommitmentClaim, Proof}
-use Rattle.p3_fri_relation.specs.Acceptance.{Accepts, FriAccepts, AreCanonical, pcs_numbers, values_claimed, batch_replayed, test_replay, fri_numbers}
+use Rattle.p3_fri_relation.specs.Acceptance.{Accepts, FriAccepts, AreCanonical, pcs_numbers}
+use Rattle.p3_fri_relation.specs.Acceptance.{values_claimed, batch_replayed, test_replay}
+use Rattle.p3_fri_relation.specs.Acceptance.{fri_numbers}
 use Rattle.p3_fri_relation.specs.Failures.{of_pcs_transcript}
 use Rattle.p3_fri_relation.specs.Views.{claims_of}
 use Rattle.p3_fri_relation.proofs.WholeReplays.{counts-of_claims}
 use Rattle.p3_fri_relation.specs.Faults.{Stands, StandsInScheme, IsNotCanonical}
 use Rattle.p3_fri_opening_verifier.specs.Ends.{last_state}
 
-module _ {F E C Com Path InCom InPath : Type 0} (s : Setting F E C Com Path InCom InPath) (p : Parameters)
+module _ {F E C Com Path InCom InPath : Type 0} (s : Setting F E C Com Path InCom InPath)
+    (p : Parameters)
     (claims : List (CommitmentClaim E InCom)) (proof : Proof F E Com Path InPath) (c : C) where
   abbrev batch : BatchReplay C E
   batch = batch_replayed s p claims proof c
@@ -33,55 +42,83 @@ module _ {F E C Com Path InCom InPath : Type 0} (s : Setting F E C Com Path InCo
   pub record Absorbed (numbers : PcsNumbers) (values : List E) (started claimed : C) : Type 0 where
     pub numbers_are : numbers ≡ pcs_numbers p claims
     pub values_are : values ≡ values_claimed claims
-    pub begun : started ≡ bytes_observed s.fields.base s.moves.observe_value c (pcs_stream s.fields.degree numbers)
-    pub all_observed : claimed ≡ observed_all s.moves.observe_value started (flat_map s.fields.coefficients values)
+    pub begun : started ≡ bytes_observed s.fields.base s.moves.observe_value c
+        (pcs_stream s.fields.degree numbers)
+    pub all_observed : claimed ≡ observed_all s.moves.observe_value started
+        (flat_map s.fields.coefficients values)
 
   -- then the proof of work and the challenge are those of the relation
-  pub batch_is : (numbers : PcsNumbers) (values : List E) (started claimed : C) → Absorbed numbers values started claimed
+  pub batch_is : (numbers : PcsNumbers) (values : List E) (started claimed : C)
+      → Absorbed numbers values started claimed
       → shown_batch_replay s.moves numbers.batch_pow_bits claimed (Some proof.batch_witness) ≡ batch
   batch_is numbers values started claimed a =
-      ap (λ (n : PcsNumbers). shown_batch_replay s.moves n.batch_pow_bits claimed (Some proof.batch_witness)) a.numbers_are
-      ∙ sym (batch_joined s.moves s.fields.coefficients s.fields.base s.fields.degree (pcs_numbers p claims) (fri_numbers p claims s.extra_bits)
-      c (values_claimed claims) (Some proof.batch_witness) proof.commitments proof.commit_witnesses proof.final_poly (Some proof.query_witness)
+      ap (λ (n : PcsNumbers). shown_batch_replay s.moves n.batch_pow_bits claimed
+      (Some proof.batch_witness)) a.numbers_are
+      ∙ sym (batch_joined s.moves s.fields.coefficients s.fields.base s.fields.degree
+      (pcs_numbers p claims) (fri_numbers p claims s.extra_bits)
+      c (values_claimed claims) (Some proof.batch_witness) proof.commitments proof.commit_witnesses
+      proof.final_poly (Some proof.query_witness)
       started claimed
-      (a.begun ∙ ap (λ n. bytes_observed s.fields.base s.moves.observe_value c (pcs_stream s.fields.degree n)) a.numbers_are)
-      (a.all_observed ∙ ap (λ vs. observed_all s.moves.observe_value started (flat_map s.fields.coefficients vs)) a.values_are))
+      (a.begun ∙ ap (λ n. bytes_observed s.fields.base s.moves.observe_value c
+      (pcs_stream s.fields.degree n)) a.numbers_are)
+      (a.all_observed ∙ ap (λ vs. observed_all s.moves.observe_value started
+      (flat_map s.fields.coefficients vs)) a.values_are))
 
   -- where the proof of work passes, the challenge is drawn, and the challenger lent in the state then
-  pub batch_passed : (numbers : PcsNumbers) (values : List E) (started claimed after lent : C) (alpha : E)
+  pub batch_passed : (numbers : PcsNumbers) (values : List E) (started claimed after lent : C)
+      (alpha : E)
       → Absorbed numbers values started claimed
-      → shown_batch_replay s.moves numbers.batch_pow_bits claimed (Some proof.batch_witness) ≡ record { passes = true; alpha = alpha; state = after }
+      → shown_batch_replay s.moves numbers.batch_pow_bits claimed
+      (Some proof.batch_witness) ≡ record { passes = true; alpha = alpha; state = after }
       → lent ≡ after → batch ≡ record { passes = true; alpha = alpha; state = lent }
   batch_passed numbers values started claimed after lent alpha a drawn given =
-      sym (batch_is numbers values started claimed a) ∙ drawn ∙ ap (λ x. record { passes = true; alpha = alpha; state = x }) (sym given)
+      sym (batch_is numbers values started claimed a) ∙ drawn
+      ∙ ap (λ x. record { passes = true; alpha = alpha; state = x }) (sym given)
 
-  module _ (alpha : E) (lent : C) (drawn : batch ≡ record { passes = true; alpha = alpha; state = lent }) where
+  module _ (alpha : E) (lent : C) (drawn : batch ≡ record {
+    passes = true;
+    alpha = alpha;
+    state =
+        lent;
+  }) where
     pub accepted : FriAccepts s p claims proof lent alpha → Accepts s p claims proof c
     accepted a = record {
       passes = ap (λ (b : BatchReplay C E). b.passes) drawn;
-      accepts = subst (λ (b : BatchReplay C E). FriAccepts s p claims proof b.state b.alpha) (sym drawn) a;
+      accepts = subst (λ (b : BatchReplay C E). FriAccepts s p claims proof b.state b.alpha)
+          (sym drawn) a;
     }
 
     pub accepted_inside : Accepts s p claims proof c → FriAccepts s p claims proof lent alpha
-    accepted_inside a = subst (λ (b : BatchReplay C E). FriAccepts s p claims proof b.state b.alpha) drawn a.accepts
+    accepted_inside a = subst (λ (b : BatchReplay C E). FriAccepts s p claims proof b.state
+        b.alpha) drawn a.accepts
 
-    pub ends : (last found : C) → last ≡ (test_replay s p claims proof lent).state → found ≡ last → found ≡ last_state s p claims proof c
-    ends last found is same = same ∙ is ∙ ap (λ (b : BatchReplay C E). (test_replay s p claims proof b.state).state) (sym drawn)
+    pub ends : (last found : C) → last ≡ (test_replay s p claims proof lent).state → found ≡ last
+        → found ≡ last_state s p claims proof c
+    ends last found is same = same ∙ is ∙ ap (λ (b : BatchReplay C E).
+        (test_replay s p claims proof b.state).state) (sym drawn)
 
-    pub stands_inside : {A B : Type 0} (e : FriError A B) → Stands s p claims proof lent alpha e → StandsInScheme s p claims proof c e
-    stands_inside e h = inr (subst (λ (b : BatchReplay C E). Stands s p claims proof b.state b.alpha e) (sym drawn) h)
+    pub stands_inside : {A B : Type 0} (e : FriError A B) → Stands s p claims proof lent alpha e
+        → StandsInScheme s p claims proof c e
+    stands_inside e h = inr (subst (λ (b : BatchReplay C E). Stands s p claims proof b.state
+        b.alpha e) (sym drawn) h)
 
   -- where it doesn't, nothing is accepted
-  pub not_accepted : (shown : BatchReplay C E) → shown ≡ batch → (IsTrue shown.passes → ⊥) → ¬ Accepts s p claims proof c
+  pub not_accepted : (shown : BatchReplay C E) → shown ≡ batch → (IsTrue shown.passes → ⊥)
+      → ¬ Accepts s p claims proof c
   not_accepted shown is fails a = fails (ap (λ (b : BatchReplay C E). b.passes) is ∙ a.passes)
 
   -- and the refusal says so
-  pub batch_stands : {A B : Type 0} (numbers : PcsNumbers) (claimed : C) (failure : PcsTranscriptFailure) (e : FriError A B)
+  pub batch_stands : {A B : Type 0} (numbers : PcsNumbers) (claimed : C)
+      (failure : PcsTranscriptFailure) (e : FriError A B)
       → BatchFailure s.moves numbers.batch_pow_bits claimed (Some proof.batch_witness) failure
       → (shown : BatchReplay C E) → shown ≡ batch → (IsTrue shown.passes → ⊥)
       → e ≡ of_pcs_transcript failure → StandsInScheme s p claims proof c e
   batch_stands numbers claimed failure e why shown is fails same =
-      inl (same ∙ named failure why, not_true batch.passes (λ passes. fails (ap (λ (b : BatchReplay C E). b.passes) is ∙ passes)))
+      inl (
+        same ∙ named failure why,
+        not_true batch.passes (λ passes. fails (ap (λ
+            (b : BatchReplay C E). b.passes) is ∙ passes)),
+      )
     where
       named : {A B : Type 0} (failure : PcsTranscriptFailure)
           → BatchFailure s.moves numbers.batch_pow_bits claimed (Some proof.batch_witness) failure
@@ -96,45 +133,61 @@ module _ {F E C Com Path InCom InPath : Type 0} (s : Setting F E C Com Path InCo
       not_true false n = refl
 
   -- a witness at no bits that isn't zero
-  pub not_canonical : (phase : PowPhase) → IsNotCanonical p proof s.fields.base.zero phase → ¬ AreCanonical p proof s.fields.base.zero
+  pub not_canonical : (phase : PowPhase) → IsNotCanonical p proof s.fields.base.zero phase
+      → ¬ AreCanonical p proof s.fields.base.zero
   not_canonical Batch wrong are = wrong.1 (are.batch wrong.0)
-  not_canonical CommitPhase wrong are = wrong.1.4 (sym wrong.1.3 ∙ are.commit wrong.0 wrong.1.0 wrong.1.1 wrong.1.2)
+  not_canonical CommitPhase wrong are = wrong.1.4 (sym wrong.1.3
+      ∙ are.commit wrong.0 wrong.1.0 wrong.1.1 wrong.1.2)
   not_canonical Query wrong are = wrong.1 (are.query wrong.0)
 
-module _ {A B F E C Com Path InCom InPath : Type 0} (s : Setting F E C Com Path InCom InPath) (p : Parameters)
+module _ {A B F E C Com Path InCom InPath : Type 0} (s : Setting F E C Com Path InCom InPath)
+    (p : Parameters)
     (claims : List (CommitmentClaim E InCom)) (proof : Proof F E Com Path InPath) (c : C) where
   -- a refusal of such a witness stands, and only where there is one
   pub canonical_stands : (e : FriError A B) (phase : PowPhase) → e ≡ NonCanonicalPowWitness phase
       → IsNotCanonical p proof s.fields.base.zero phase → StandsInScheme s p claims proof c e
   canonical_stands e phase same wrong =
-      subst (λ (x : FriError A B). StandsInScheme s p claims proof c x) (sym same) (inr (inr (inr (inl wrong))))
+      subst (λ (x : FriError A B). StandsInScheme s p claims proof c x) (sym same) (inr (inr (inr
+      (inl wrong))))
 
   canonical_inside : (state : C) (alpha : E) (phase : PowPhase)
-      → Stands {A = A} {B = B} s p claims proof state alpha (NonCanonicalPowWitness phase) → IsNotCanonical p proof s.fields.base.zero phase
+      → Stands {A = A} {B = B} s p claims proof state alpha (NonCanonicalPowWitness phase)
+      → IsNotCanonical p proof s.fields.base.zero phase
   canonical_inside state alpha phase (inl h) = absurd h
   canonical_inside state alpha phase (inr (inl h)) = absurd h
   canonical_inside state alpha phase (inr (inr (inl h))) = h
   canonical_inside state alpha phase (inr (inr (inr (inl (inl h))))) = absurd h
   canonical_inside state alpha phase (inr (inr (inr (inl (inr h))))) = absurd h
-  canonical_inside state alpha phase (inr (inr (inr (inr h)))) = absurd (let k : ◌≡◌ {A = FriError A B} (NonCanonicalPowWitness phase) OutOfMemory = h in cc)
+  canonical_inside state alpha phase (inr (inr (inr (inr h)))) = absurd
+      (let k : ◌≡◌ {A = FriError A B} (NonCanonicalPowWitness phase) OutOfMemory = h in cc)
 
-  stands_for_canonical : (phase : PowPhase) → StandsInScheme {A = A} {B = B} s p claims proof c (NonCanonicalPowWitness phase)
+  stands_for_canonical : (phase : PowPhase)
+      → StandsInScheme {A = A} {B = B} s p claims proof c (NonCanonicalPowWitness phase)
       → IsNotCanonical p proof s.fields.base.zero phase
-  stands_for_canonical phase (inl h) = absurd (let k : ◌≡◌ {A = FriError A B} (NonCanonicalPowWitness phase) (InvalidPowWitness Batch) = h.0 in cc)
-  stands_for_canonical phase (inr h) = canonical_inside (batch_replayed s p claims proof c).state (batch_replayed s p claims proof c).alpha phase h
+  stands_for_canonical phase (inl h) = absurd (let k : ◌≡◌ {A = FriError A B}
+      (NonCanonicalPowWitness phase) (InvalidPowWitness Batch) = h.0 in cc)
+  stands_for_canonical phase (inr h) = canonical_inside (batch_replayed s p claims proof c).state
+      (batch_replayed s p claims proof c).alpha phase h
 
-  pub none_is_refused : (result : Result Unit (FriError A B)) (phase : PowPhase) → AreCanonical p proof s.fields.base.zero
-      → IfErr result (StandsInScheme s p claims proof c) → result ≡ Err (NonCanonicalPowWitness phase) → ⊥
+  pub none_is_refused : (result : Result Unit (FriError A B)) (phase : PowPhase)
+      → AreCanonical p proof s.fields.base.zero
+      → IfErr result (StandsInScheme s p claims proof c)
+      → result ≡ Err (NonCanonicalPowWitness phase) → ⊥
   none_is_refused result phase are stands is =
       not_canonical s p claims proof c phase (stands_for_canonical phase
-      (subst (λ (r : Result Unit (FriError A B)). IfErr r (StandsInScheme s p claims proof c)) is stands)) are
+      (subst (λ (r : Result Unit (FriError A B)). IfErr r
+      (StandsInScheme s p claims proof c)) is stands)) are
 
 -- what the transcript is told of the claims
-module _ {E InCom Domain : Type 0} (log_size : Domain → ℕ) (p : Parameters) (claims : List (CommitmentOpening E InCom Domain)) where
+module _ {E InCom Domain : Type 0} (log_size : Domain
+    → ℕ) (p : Parameters) (claims : List (CommitmentOpening E InCom Domain)) where
   with_counts : List (List (List ℕ)) → PcsNumbers
   with_counts counts = record { counts = counts; batch_pow_bits = p.batch_pow_bits }
 
-  pub numbers_are : (numbers : PcsNumbers) → numbers ≡ record { counts = counts_of_claims claims; batch_pow_bits = p.batch_pow_bits }
+  pub numbers_are : (numbers : PcsNumbers) → numbers ≡ record {
+    counts = counts_of_claims claims;
+    batch_pow_bits = p.batch_pow_bits;
+  }
       → numbers ≡ pcs_numbers p (claims_of log_size claims)
   unfolding with_counts
   numbers_are numbers is = is ∙ ap with_counts (sym (counts-of_claims log_size p claims))

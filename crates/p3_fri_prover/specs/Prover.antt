@@ -11,9 +11,9 @@ use Rattle.p3_fri_prover.specs.Played.{PlayRefusal}
 use Rattle.p3_fri_prover.specs.Proved.{fri_numbers}
 use Rattle.p3_fri_prover.specs.Refusals.{IsTallEnough, HeightsRefusal}
 
--- the parameters are in a prover's range: the blowup is a number, a round folds by something, and
--- the challenger draws as many bits at once as an index has in a field of this two-adicity, and as
--- each difficulty
+-- the parameters are in a prover's range: the log blowup is below 64, a round's arity may be more
+-- than one, and the challenger draws as many bits at once as an index has in a field of this
+-- two-adicity, and as each difficulty of the test
 pub record IsInProverRange (p : Parameters) (two_adicity extra_bits max_sample_bits : ℕ)
     : Type 0 where
   pub blowup : p.log_blowup < 64
@@ -28,8 +28,7 @@ IsForHeight (InputHeightTooSmall log_input_height log_final_height) = ⊤
 IsForHeight FinalHeightOverflow = ⊤
 IsForHeight _ = ⊥
 
--- of words of these log heights, of which `top` is the first's, from the challenger's state `c`:
--- for a height, wherever one can't be proved, and else for what stops the transcript
+-- of words of these log heights, of which `top` is the first's, from the challenger's state `c`
 module _ {F E C Com Data Path InCom InPath : Type 0} (s : Setting F E C Com Path InCom InPath)
     (committed : Data → List (RowMajorMatrix E)) (commitment_of : Data → Com) (p : Parameters)
     (heights : List ℕ) (top : ℕ) (words : List (List E)) (c : C) where
@@ -38,6 +37,8 @@ module _ {F E C Com Data Path InCom InPath : Type 0} (s : Setting F E C Com Path
   seeded = bytes_observed s.fields.base s.moves.observe_value c
       (fri_stream s.fields.degree (fri_numbers p heights top s.extra_bits))
 
+  -- why a prover refuses: for a height, wherever one can't be proved, and else for what stops the
+  -- transcript, or for want of memory
   abbrev pub ProverRefusal : FriProverError → Type 0
   ProverRefusal e = HeightsRefusal p heights e
       ⊎ (All (IsTallEnough p) heights

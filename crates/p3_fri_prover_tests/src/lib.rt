@@ -3,3 +3,7 @@
 
 #[cfg(test)]
 mod heights;
+#[cfg(test)]
+mod heights_joined;
+#[cfg(test)]
+mod proofs;

@@ -1,0 +1,35 @@
+-- Words of which a low-degree test can be made.
+use Rattle.std.proofs.Common.{◌≡◌, ℕ, zero, suc, ◌^◌, ◌<◌, List, [], ◌∷◌, length, refl, sym, ap}
+use Rattle.std.proofs.Common.{subst, arith}
+use Rattle.std.specs.declared.vec.Vec.{Vec}
+use Rattle.algebra.specs.Nested.{lists}
+use Rattle.p3_fri_folding.specs.Schedule.{IsStrictlyFalling}
+use Rattle.p3_fri_prover.specs.Inputs.{AreInputs}
+
+pub one_word : {E A : Type 0} (word : Vec E A) (words : List (Vec E A)) (h : ℕ)
+    → words ≡ word ∷ [] → length word.items ≡ 2 ^ h → AreInputs h (lists words)
+one_word word words h only size = subst (λ ws. AreInputs h ws) (sym (ap lists only)) (record {
+  heights = h ∷ [];
+  have = (size, tt);
+  falling = λ k l. absurd (omega (arith, l));
+  some = λ e. absurd cc;
+  first = refl;
+})
+
+falls : (h k m : ℕ) → k < h → m < k → IsStrictlyFalling (h ∷ k ∷ m ∷ [])
+falls h k m first second zero l = first
+falls h k m first second (suc zero) l = second
+falls h k m first second (suc (suc i)) l = absurd (omega (arith, l))
+
+pub three_words : {E A : Type 0} (tallest middle lowest : Vec E A) (words : List (Vec E A))
+    (h k m : ℕ) → words ≡ tallest ∷ middle ∷ lowest ∷ []
+    → length tallest.items ≡ 2 ^ h → length middle.items ≡ 2 ^ k → length lowest.items ≡ 2 ^ m
+    → k < h → m < k → AreInputs h (lists words)
+three_words tallest middle lowest words h k m all one two three first second =
+    subst (λ ws. AreInputs h ws) (sym (ap lists all)) (record {
+      heights = h ∷ k ∷ m ∷ [];
+      have = (one, (two, (three, tt)));
+      falling = falls h k m first second;
+      some = λ e. absurd cc;
+      first = refl;
+    })

@@ -1,0 +1,282 @@
+//! What is proved of words, and what the verifier answers to it.
+
+ghost use Rattle.std.specs.Prelude.{◌≡◌, ◌<◌, ◌≤◌, IfOk};
+ghost use Rattle.algebra.specs.Nested.{lists};
+ghost use Rattle.p3_fri_prover.specs.Inputs.{AreInputs};
+
+use p3_challenger::Sha256Challenger;
+use p3_commit::{
+    CommitmentOpening, MatrixOpening, Mmcs, PointOpening, Sha256Mmcs, Sha256MmcsError,
+    have_power_heights,
+};
+use p3_field::{BabyBear, BabyBear4, ExtensionField, Field, TwoAdicMultiplicativeCoset};
+use p3_fri_folding::{FriParameters, TwoAdicFriFolding, WithExtraBits};
+use p3_fri_prover::prover::{ProverDataWithOpeningPoints, prove_fri};
+use p3_fri_relation::error::FriError;
+use p3_fri_relation::proof::{BatchMultiOpening, FriProof};
+use p3_fri_steps::FriProverError;
+use p3_fri_verifier::verify_fri;
+use p3_matrix::RowMajorMatrix;
+use std::alloc::Global;
+use std::marker::PhantomData;
+use std::test::Fail;
+
+pub(crate) type Inputs = Sha256Mmcs<BabyBear>;
+
+pub(crate) type InputData = <Inputs as Mmcs<BabyBear>>::ProverData;
+
+pub(crate) type Rounds = Sha256Mmcs<BabyBear4>;
+
+pub(crate) type Parameters = FriParameters<Rounds>;
+
+type InputOpening = BatchMultiOpening<BabyBear, Inputs>;
+
+pub(crate) type Proof = FriProof<BabyBear4, Rounds, BabyBear, Vec<InputOpening>>;
+
+pub(crate) type Domain = TwoAdicMultiplicativeCoset<BabyBear>;
+
+pub(crate) type Claim = CommitmentOpening<BabyBear4, [u8; 32], Domain>;
+
+type Plain = TwoAdicFriFolding<(), Sha256MmcsError>;
+
+type Folding = WithExtraBits<Plain>;
+
+/// A blowup and a cap of 2, a constant as final polynomial, two queries, no proof of work.
+pub(crate) fn plain_parameters() -> Parameters
+    ensures log_blowup { result.log_blowup ≡ 1 }
+    ensures log_final_poly_len { result.log_final_poly_len ≡ 0 }
+    ensures cap { result.max_log_arity ≡ 1 }
+    ensures commit_bits { result.commit_proof_of_work_bits ≡ 0 }
+    ensures query_bits { result.query_proof_of_work_bits ≡ 0 }
+{
+    FriParameters {
+        log_blowup: 1,
+        log_final_poly_len: 0,
+        max_log_arity: 1,
+        num_queries: 2,
+        batch_proof_of_work_bits: 0,
+        commit_proof_of_work_bits: 0,
+        query_proof_of_work_bits: 0,
+        mmcs: Sha256Mmcs::new(),
+    }
+}
+
+/// An element of the extension that is a number.
+pub(crate) fn constant(number: u64) -> BabyBear4 {
+    BabyBear4::from_base(BabyBear::from_u64(number))
+}
+
+/// The column of `2 - X` over four points.
+fn column(alloc: Global) -> Result<RowMajorMatrix<BabyBear>, Fail> {
+    let coset: Domain = TwoAdicMultiplicativeCoset::new(BabyBear::GENERATOR, 2).ok_or("a coset")?;
+    let mut values = Vec::new(alloc);
+    for point in &coset.bit_reversed_points(alloc)? {
+        values.push(BabyBear::TWO - *point)?;
+    }
+    Ok(RowMajorMatrix::new(values, 1))
+}
+
+/// What is claimed of it: -3 at 5.
+fn claim(alloc: Global, commitment: [u8; 32]) -> Result<Claim, Fail> {
+    let domain = TwoAdicMultiplicativeCoset::new(BabyBear::ONE, 1).ok_or("a domain")?;
+    let point = PointOpening {
+        point: constant(5),
+        values: vec![in alloc; constant(2013265918); 1]?,
+    };
+    let mut points = Vec::new(alloc);
+    points.push(point)?;
+    let mut matrices = Vec::new(alloc);
+    matrices.push(MatrixOpening { domain, points })?;
+    Ok(CommitmentOpening {
+        commitment,
+        matrices,
+    })
+}
+
+/// The one word of four entries that each is -1.
+fn word(alloc: Global) -> Result<Vec<Vec<BabyBear4>>, Fail>
+    ensures { IfOk result (λ words. AreInputs 2 (lists words.items)) }
+{
+    let entries = vec![in alloc; constant(2013265920); 4]?;
+    let mut words = Vec::new(alloc);
+    words.push(entries)?;
+    Ok(words)
+}
+
+/// What the prover answers of these words, with what is opened of the data.
+pub(crate) fn prove(
+    alloc: Global,
+    parameters: &Parameters,
+    words: Vec<Vec<BabyBear4>>,
+    log_height: usize,
+    data: &InputData,
+    challenger: &mut Sha256Challenger,
+) -> Result<Result<Proof, FriProverError>, Fail>
+    requires log_blowup { parameters.now.log_blowup ≡ 1 }
+    requires cap { 0 < parameters.now.max_log_arity }
+    requires words { AreInputs log_height (lists words.items) }
+    requires small { log_height ≤ 6 }
+    requires commit_bits { parameters.now.commit_proof_of_work_bits ≤ 3 }
+    requires query_bits { parameters.now.query_proof_of_work_bits ≤ 3 }
+{
+    let input_mmcs = Inputs::new();
+    if input_mmcs.get_max_height(data) > 1 << log_height {
+        return Err(Fail::new("a tall matrix"));
+    }
+    let plain: Plain = TwoAdicFriFolding(PhantomData);
+    let folding = WithExtraBits::new(plain, 3);
+    let points = Vec::new(alloc);
+    let data_with_points = [ProverDataWithOpeningPoints {
+        prover_data: data,
+        points: &points,
+    }];
+    let proved = prove_fri::<BabyBear, BabyBear4, Folding, Rounds, Inputs, Sha256Challenger>(
+        alloc,
+        &folding,
+        parameters,
+        words,
+        challenger,
+        log_height,
+        &data_with_points,
+        &input_mmcs,
+        BabyBear::ZERO,
+    );
+    match proved {
+        Err(FriProverError::OutOfMemory) => Err(Fail::new("memory was refused")),
+        answer => Ok(answer),
+    }
+}
+
+/// Whether the verifier accepts that proof, at the batching challenge 1.
+pub(crate) fn is_accepted(
+    alloc: Global,
+    parameters: &Parameters,
+    claim: Claim,
+    proof: &Proof,
+    challenger: &mut Sha256Challenger,
+) -> Result<bool, Fail>
+    requires log_blowup { parameters.now.log_blowup ≡ 1 }
+    requires log_final_poly_len { parameters.now.log_final_poly_len ≤ 2 }
+    requires commit_bits { parameters.now.commit_proof_of_work_bits ≤ 3 }
+    requires query_bits { parameters.now.query_proof_of_work_bits ≤ 3 }
+{
+    let plain: Plain = TwoAdicFriFolding(PhantomData);
+    let folding = WithExtraBits::new(plain, 3);
+    let mut claims = Vec::new(alloc);
+    claims.push(claim)?;
+    let input_mmcs = Inputs::new();
+    let verified = verify_fri::<BabyBear, BabyBear4, Rounds, Inputs, Folding, Sha256Challenger>(
+        alloc,
+        &folding,
+        parameters,
+        proof,
+        challenger,
+        &claims,
+        &input_mmcs,
+        constant(1),
+    );
+    match verified {
+        Err(FriError::OutOfMemory) => Err(Fail::new("memory was refused")),
+        answer => Ok(answer.is_ok()),
+    }
+}
+
+/// The commitment to that column, and its data.
+fn committed_column(alloc: Global) -> Result<([u8; 32], InputData), Fail> {
+    let matrix = column(alloc)?;
+    if !have_power_heights(&[matrix.dimensions()]) {
+        return Err(Fail::new("heights"));
+    }
+    Ok(Inputs::new().commit_matrix(alloc, matrix)?)
+}
+
+#[test]
+fn two_minus_the_point_is_proved_and_verified(rt: HostRuntime) -> Result<(), Fail> {
+    let alloc = rt.alloc();
+    let parameters = plain_parameters();
+    let (commitment, data) = committed_column(alloc)?;
+    let mut prover = Sha256Challenger::new();
+    let mut proof = prove(alloc, &parameters, word(alloc)?, 2, &data, &mut prover)?.or(Err(
+        "a refusal",
+    ))?;
+    assert_eq!(rt; proof.final_poly.as_slice(), &[constant(2013265920)][..]);
+    let mut verifier = Sha256Challenger::new();
+    assert!(rt;
+        is_accepted(
+            alloc,
+            &parameters,
+            claim(alloc, commitment)?,
+            &proof,
+            &mut verifier
+        )?
+    );
+    assert!(rt; prover == verifier);
+    proof.final_poly[0] = constant(1);
+    let mut verifier = Sha256Challenger::new();
+    assert!(rt;
+        !is_accepted(
+            alloc,
+            &parameters,
+            claim(alloc, commitment)?,
+            &proof,
+            &mut verifier
+        )?
+    );
+    Ok(())
+}
+
+#[test]
+fn a_word_is_proved_with_work(rt: HostRuntime) -> Result<(), Fail> {
+    let alloc = rt.alloc();
+    let mut parameters = plain_parameters();
+    parameters.commit_proof_of_work_bits = 3;
+    parameters.query_proof_of_work_bits = 3;
+    let (commitment, data) = committed_column(alloc)?;
+    let mut prover = Sha256Challenger::new();
+    let mut proof = prove(alloc, &parameters, word(alloc)?, 2, &data, &mut prover)?.or(Err(
+        "a refusal",
+    ))?;
+    assert_eq!(rt; proof.commit_pow_witnesses.len(), 1);
+    let mut verifier = Sha256Challenger::new();
+    assert!(rt;
+        is_accepted(
+            alloc,
+            &parameters,
+            claim(alloc, commitment)?,
+            &proof,
+            &mut verifier
+        )?
+    );
+    assert!(rt; prover == verifier);
+    proof.query_pow_witness = proof.query_pow_witness + BabyBear::ONE;
+    let mut verifier = Sha256Challenger::new();
+    assert!(rt;
+        !is_accepted(
+            alloc,
+            &parameters,
+            claim(alloc, commitment)?,
+            &proof,
+            &mut verifier
+        )?
+    );
+    Ok(())
+}
+
+#[test]
+fn a_low_word_is_refused_before_the_challenger_is_touched(rt: HostRuntime) -> Result<(), Fail> {
+    let alloc = rt.alloc();
+    let mut parameters = plain_parameters();
+    parameters.log_final_poly_len = 2;
+    let (_commitment, data) = committed_column(alloc)?;
+    let mut challenger = Sha256Challenger::new();
+    let refusal = prove(alloc, &parameters, word(alloc)?, 2, &data, &mut challenger)?.err();
+    assert!(rt;
+        refusal
+            == Some(FriProverError::InputHeightTooSmall {
+                log_input_height: 2,
+                log_final_height: 3,
+            })
+    );
+    assert!(rt; challenger == Sha256Challenger::new());
+    Ok(())
+}

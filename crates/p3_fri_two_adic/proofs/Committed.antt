@@ -1,0 +1,132 @@
+-- What a commitment to low-degree extensions holds.
+use Rattle.std.proofs.Common.{◌≡◌, ◌≢◌, ℕ, ◌+◌, ◌/◌, ◌^◌, ◌<◌, ◌≤◌, List, [], ◌∷◌, length, map}
+use Rattle.std.proofs.Common.{All, get_or, sym, ap, ◌∙◌, subst, arith}
+use Rattle.std.specs.List.{AllZip}
+use Rattle.std.proofs.lemmas.List.{length-map}
+use Rattle.algebra.specs.Field.{IsField}
+use Rattle.algebra.specs.Polynomial.{tabulate}
+use Rattle.algebra.specs.TwoAdic.{AreRoots}
+use Rattle.algebra.specs.Quotients.{values_at}
+use Rattle.algebra.specs.Words.{IsCosetWord}
+use Rattle.algebra.proofs.Lists.{Each, each_from_All, All_from_each, length-tabulate}
+use Rattle.algebra.proofs.Lists.{tabulate-equal, distinct_from_AllPairs}
+use Rattle.algebra.proofs.Interpolation.{interpolant_interpolates}
+use Rattle.p3_field.specs.Coset.{coset_point, coset_points}
+use Rattle.p3_field_core.proofs.Cosets.{natural_distinct}
+use Rattle.p3_matrix.specs.declared.dense.RowMajorMatrix.{RowMajorMatrix}
+use Rattle.p3_matrix.specs.Matrix.{rows, matrix_width}
+use Rattle.p3_dft.specs.Evaluations.{column}
+use Rattle.p3_fri_commit.specs.Extension.{FitsDomain, IsLowDegreeExtension, polynomial_on}
+use Rattle.p3_fri_relation.specs.Setting.{Fields}
+use Rattle.p3_fri_openings.specs.Log2.{log2}
+use Rattle.p3_fri_openings.specs.Rounds.{HasCoset}
+use Rattle.p3_fri_openings.specs.Committed.{committed_column}
+use Rattle.p3_fri_openings.proofs.Committed.{committed_is}
+use Rattle.p3_fri_openings.proofs.Log2.{log2-pow, pow-divided}
+use Rattle.p3_fri_completeness.specs.Requests.{held_in, HoldsWords}
+use Rattle.p3_fri_two_adic.specs.Held.{Extends}
+
+module _ {F E : Type 0} (f : Fields F E) (L : IsField f.base)
+    (W : AreRoots f.base f.two_adicity f.root)
+    (nonzero : f.shift ≢ f.base.zero) (b : ℕ) where
+  -- of a matrix that was extended from the coset of the shift `s` and of `2^k` points
+  module _ (s : F) (off_zero : s ≢ f.base.zero) (k : ℕ) (values matrix : RowMajorMatrix F)
+      (fits : FitsDomain f.two_adicity b k values)
+      (extended : IsLowDegreeExtension f.base f.root f.shift b s k values matrix) where
+    abbrev polynomial : ℕ → List F
+    polynomial j = polynomial_on f.base f.root s k (column f.base values j)
+
+    degree : (j : ℕ) → length (polynomial j) ≡ 2 ^ k
+    degree j = (interpolant_interpolates f.base L (coset_points f.base (f.root k) s k)
+        (column f.base values j)
+        (length-tabulate (2 ^ k) (coset_point f.base (f.root k) s) ∙ sym fits.height
+        ∙ sym (column_length values j))
+        (distinct_from_AllPairs (coset_points f.base (f.root k) s k)
+        (natural_distinct f.base L f.two_adicity f.root W k (omega
+        (arith, fits.within)) s off_zero))).count
+        ∙ length-tabulate (2 ^ k) (coset_point f.base (f.root k) s)
+      where
+        column_length : (m : RowMajorMatrix F) (j : ℕ)
+            → length (column f.base m j) ≡ length (rows m)
+        column_length m j = length-map (rows m) (λ entries. get_or entries j f.base.zero)
+
+    pub has_coset : HasCoset f.two_adicity matrix
+    has_coset = record {
+      power = (k + b, extended.height);
+      within = subst (λ n. n ≤ f.two_adicity) (sym (ap log2 extended.height
+          ∙ log2-pow (k + b))) fits.within;
+    }
+
+    word_of : (j : ℕ) → j < matrix_width matrix
+        → IsCosetWord f.base f.root f.shift (k + b) (2 ^ k) (column f.base matrix j)
+    word_of j below = record {
+      polynomial = polynomial j;
+      degree = degree j;
+      values = extended.columns j (omega (arith, below, extended.width));
+    }
+
+    pub holds_words : HoldsWords f b matrix
+    holds_words = record { log_size = k; height = extended.height; columns = word_of }
+
+    pub extends : Extends f s k values (held_in f b matrix)
+    unfolding word_of
+    extends = record {
+      size = ap (λ n. n / 2 ^ b) extended.height ∙ pow-divided k b;
+      values_held = λ z. ap (λ columns. values_at f.base f.ext f.lift columns z)
+          (ap (λ n. tabulate n (λ j. committed_column f b (column f.base matrix j))) extended.width
+          ∙ tabulate-equal (matrix_width values) (λ j. committed_column f b
+          (column f.base matrix j)) polynomial
+          (λ j below. committed_is f L W nonzero b k (column f.base matrix j) fits.within
+          (word_of j (omega (arith, below, extended.width)))));
+    }
+
+each_first : {A B : Type 0} (R : A → B → Type 0) (Q : B → Type 0) (P : A → Type 0)
+    → ((a : A) (b : B) → R a b → Q b → P a) → (xs : List A) (ys : List B) → AllZip R xs ys
+    → Each Q ys → Each P xs
+each_first R Q P f [] ys h q = tt
+each_first R Q P f (a ∷ xs) [] h q = absurd h
+each_first R Q P f (a ∷ xs) (b ∷ ys) h q = (f a b h.0 q.0, each_first R Q P f xs ys h.1 q.1)
+
+each_mapped : {A A' B : Type 0} (R : A → B → Type 0) (Q : B → Type 0) (S : A' → B
+    → Type 0) (g : A → A')
+    → ((a : A) (b : B) → R a b → Q b → S (g a) b) → (xs : List A) (ys : List B) → AllZip R xs ys
+    → Each Q ys → AllZip S (map g xs) ys
+each_mapped R Q S g f [] [] h q = tt
+each_mapped R Q S g f [] (b ∷ ys) h q = absurd h
+each_mapped R Q S g f (a ∷ xs) [] h q = absurd h
+each_mapped R Q S g f (a ∷ xs) (b ∷ ys) h q = (f a b h.0 q.0, each_mapped R Q S g f xs ys h.1 q.1)
+
+-- of a batch of matrices, on domains with these shifts and sizes
+module _ {F E Domain : Type 0} (f : Fields F E) (L : IsField f.base)
+    (W : AreRoots f.base f.two_adicity f.root)
+    (nonzero : f.shift ≢ f.base.zero) (b : ℕ) (shift : Domain → F) (log_size : Domain → ℕ)
+    (off_zero : (d : Domain) → shift d ≢ f.base.zero) (matrices : List (RowMajorMatrix F))
+    (evaluations : List (Domain × RowMajorMatrix F))
+    (fit : All (λ e. FitsDomain f.two_adicity b (log_size e.0) e.1) evaluations)
+    (words : AllZip (λ matrix e. IsLowDegreeExtension f.base f.root f.shift b (shift e.0)
+    (log_size e.0) e.1 matrix) matrices evaluations) where
+  abbrev Fits : Domain × RowMajorMatrix F → Type 0
+  Fits e = FitsDomain f.two_adicity b (log_size e.0) e.1
+
+  abbrev IsWordOf : RowMajorMatrix F → Domain × RowMajorMatrix F → Type 0
+  IsWordOf matrix e = IsLowDegreeExtension f.base f.root f.shift b (shift e.0)
+      (log_size e.0) e.1 matrix
+
+  pub have_cosets : All (HasCoset f.two_adicity) matrices
+  have_cosets = All_from_each (HasCoset f.two_adicity) matrices
+      (each_first IsWordOf Fits (HasCoset f.two_adicity)
+      (λ m e h q. has_coset f L W nonzero b (shift e.0) (off_zero e.0) (log_size e.0) e.1 m q h)
+      matrices evaluations words (each_from_All Fits evaluations fit))
+
+  pub hold_words : All (HoldsWords f b) matrices
+  hold_words = All_from_each (HoldsWords f b) matrices
+      (each_first IsWordOf Fits (HoldsWords f b)
+      (λ m e h q. holds_words f L W nonzero b (shift e.0) (off_zero e.0) (log_size e.0) e.1 m q h)
+      matrices evaluations words (each_from_All Fits evaluations fit))
+
+  pub all_extend : AllZip (λ m e. Extends f (shift e.0) (log_size e.0) e.1 m) (map
+      (held_in f b) matrices) evaluations
+  all_extend = each_mapped IsWordOf Fits (λ m e. Extends f (shift e.0) (log_size e.0) e.1 m)
+      (held_in f b)
+      (λ m e h q. extends f L W nonzero b (shift e.0) (off_zero e.0) (log_size e.0) e.1 m q h)
+      matrices evaluations words (each_from_All Fits evaluations fit)

@@ -1,0 +1,4 @@
+mod Claims
+mod Committed
+mod Sizes
+mod Unspent

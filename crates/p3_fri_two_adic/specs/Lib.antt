@@ -1,0 +1,4 @@
+pub mod Held
+pub mod Ranges
+pub mod Accepted
+pub mod ErrorLaws

@@ -1,0 +1,9 @@
+//! The polynomial commitment scheme over two-adic fields.
+#![tactic(auto)]
+
+pub mod two_adic_pcs;
+
+pub use crate::two_adic_pcs::{
+    CommitmentWithOpeningPoints, ProverDataWithOpeningPoints, TwoAdicFriFolding,
+    TwoAdicFriFoldingForMmcs, TwoAdicFriPcs,
+};

@@ -1,0 +1,266 @@
+//! The polynomial commitment scheme over two-adic fields, in the names of the Rust crate p3-fri.
+//!
+//! A matrix is committed to by the words of its columns' polynomials over the coset of the shift
+//! `GENERATOR`, in bit-reversed order, on a domain that is a blowup larger than its own. It is
+//! opened at points off that coset: the values there are absorbed, a challenge batches the
+//! quotients of all values of one log height, and the low-degree test (FRI, ICALP 2018) shows that
+//! the batched words are of low degree.
+
+ghost use Rattle.std.specs.Prelude.{◌≡◌, ◌≢◌, ◌↔◌, ◌≤◌, ◌^◌, ℕ, ⊤, List, map, length, All};
+ghost use Rattle.std.specs.Prelude.{IsOk, IfOk, IfErr, Err};
+ghost use Rattle.std.specs.List.{AllZip};
+ghost use Rattle.p3_pcs.specs.Claims.{claim};
+ghost use Rattle.p3_fri_commit.specs.Extension.{FitsDomain};
+ghost use Rattle.p3_fri_steps.specs.declared.error.FriProverError.TheVariants as refusal;
+ghost use Rattle.p3_fri_relation.specs.declared.error.FriError.TheVariants.{OutOfMemory};
+ghost use Rattle.p3_fri_relation.specs.Acceptance.{Accepts as relation};
+ghost use Rattle.p3_fri_relation.specs.Faults.{StandsInScheme};
+ghost use Rattle.p3_fri_relation.specs.Views.{parameters_of, proof_of};
+ghost use Rattle.p3_fri_openings.specs.Rounds.{HasCoset};
+ghost use Rattle.p3_fri_two_adic.specs.Held.{IsSubgroupSize};
+ghost use Rattle.p3_fri_completeness.specs.Requests.{held_in, held_of, HoldsWords};
+ghost use Rattle.p3_fri_completeness.specs.Requests.{relation_claims};
+ghost use Rattle.p3_fri_two_adic.specs.Held.{Extends as extends};
+ghost use Rattle.p3_fri_two_adic.specs.Ranges.{InProverRange as prover_range};
+ghost use Rattle.p3_fri_two_adic.specs.Ranges.{InVerifierRange as verifier_range};
+ghost use Rattle.p3_fri_opening_prover.specs.Refusals.{PassesChecks as passes, OpenRefusal};
+ghost use Rattle.p3_fri_opening_prover.specs.Refusals.{LeavesState as leaves};
+ghost use Rattle.p3_fri_two_adic.specs.Accepted.{two_adic};
+ghost use Rattle.p3_fri_opening_verifier.specs.Ends.{last_state as state_after};
+ghost use Rattle.p3_fri_two_adic.specs.Accepted.{LeavesVerifier as leaves_verifier};
+ghost use Rattle.p3_fri_two_adic.specs.ErrorLaws.{memory_cases};
+
+use p3_challenger::{CanObserve, FieldChallenger, GrindingChallenger, Plays};
+pub use p3_commit::CommitmentWithOpeningPoints;
+use p3_commit::{CommitmentOpening, Mmcs, OpenedValues};
+use p3_dft::TwoAdicSubgroupDft;
+use p3_field::{ExtensionField, TwoAdicField, TwoAdicMultiplicativeCoset, log2_strict_usize};
+use p3_fri_commit::commit_evaluations;
+use p3_fri_folding::FriParameters;
+pub use p3_fri_folding::TwoAdicFriFolding;
+use p3_fri_opening_prover::open_requests;
+use p3_fri_opening_verifier::verify_opening;
+pub use p3_fri_prover::prover::ProverDataWithOpeningPoints;
+use p3_fri_relation::error::FriError;
+use p3_fri_relation::proof::{BatchMultiOpening, FriProof};
+use p3_fri_relation::setting::ChallengeField;
+use p3_fri_steps::FriProverError;
+use p3_matrix::RowMajorMatrix;
+use p3_pcs::{OpeningRequest, Pcs};
+use std::alloc::{AllocError, Global};
+use std::marker::PhantomData;
+
+/// The folding of two-adic words inside the scheme, whose inputs are opened by `M`.
+pub type TwoAdicFriFoldingForMmcs<F, M> = TwoAdicFriFolding<
+    Vec<BatchMultiOpening<F, M>>,
+    <M as Mmcs<F>>::Error,
+>;
+
+/// The scheme: a transform, a commitment to the matrices, and parameters with the commitment to the
+/// folded words.
+#[derive(Clone, Debug, Drop)]
+pub struct TwoAdicFriPcs<Val, Dft, InputMmcs, FriMmcs> {
+    dft: Dft,
+    mmcs: InputMmcs,
+    fri: FriParameters<FriMmcs>,
+    of: PhantomData<Val>,
+}
+
+impl<Val, Dft, InputMmcs, FriMmcs> TwoAdicFriPcs<Val, Dft, InputMmcs, FriMmcs> {
+    /// The scheme of these parts.
+    pub fn new(dft: Dft, mmcs: InputMmcs, fri: FriParameters<FriMmcs>) -> Self
+        ensures dft { result.dft ≡ dft }
+        ensures mmcs { result.mmcs ≡ mmcs }
+        ensures parameters { result.fri ≡ fri }
+    {
+        TwoAdicFriPcs {
+            dft,
+            mmcs,
+            fri,
+            of: PhantomData,
+        }
+    }
+}
+
+/// The requests that are opened stay as they are. A committed matrix holds the polynomials of its
+/// columns: those of a degree `2^log_blowup` times below its height that its first entries
+/// determine, and after `commit` those that have the columns on the domain.
+///
+/// The prover asks that `log_blowup` is from 1 to 63, `max_log_arity` and `num_queries` are
+/// positive, and the challenger draws as many bits at once as the two-adicity and as each
+/// difficulty; the verifier that the final log height is below 64, and the same of the challenger.
+/// Data is opened whose matrices stand on cosets of the field.
+impl<
+    F: TwoAdicField,
+    EF: ExtensionField<F>,
+    Dft: TwoAdicSubgroupDft<F>,
+    InputMmcs: Mmcs<F>,
+    M: Mmcs<EF>,
+    C: FieldChallenger<F> + GrindingChallenger<Witness = F> + CanObserve<M::Commitment>,
+> Pcs<EF, C> for TwoAdicFriPcs<F, Dft, InputMmcs, M> {
+    type Val = F;
+
+    type Domain = TwoAdicMultiplicativeCoset<F>;
+
+    type Commitment = InputMmcs::Commitment;
+
+    type ProverData = InputMmcs::ProverData;
+
+    type Proof = FriProof<EF, M, F, Vec<BatchMultiOpening<F, InputMmcs>>>;
+
+    type Error = FriError<M::Error, InputMmcs::Error>;
+
+    type ProverError = FriProverError;
+
+    ghost domain_size = { λ d. 2 ^ d.log_size };
+
+    ghost IsDegree = { λ _ n. IsSubgroupSize F.TWO_ADICITY n };
+
+    ghost commitment_of = { λ d. InputMmcs.commitment_of d };
+
+    ghost held = { λ s d. held_of ⟦<EF as ChallengeField<F>>⟧.fields InputMmcs.committed
+        s.fri.log_blowup d };
+
+    ghost CanOpen = { λ _ d. All (HasCoset F.TWO_ADICITY) (InputMmcs.committed d) };
+
+    ghost IsHonest = { λ s d. All
+        (HoldsWords ⟦<EF as ChallengeField<F>>⟧.fields s.fri.log_blowup)
+        (InputMmcs.committed d) };
+
+    ghost spent = { λ d. d };
+
+    ghost CanCommit = { λ s evaluations.
+        All (λ e. FitsDomain F.TWO_ADICITY s.fri.log_blowup e.0.log_size e.1) evaluations };
+
+    ghost Extends = { λ _ m e.
+        extends ⟦<EF as ChallengeField<F>>⟧.fields e.0.shift e.0.log_size e.1 m };
+
+    ghost CommitRefuses = { λ _ _ e. e ≡ refusal.OutOfMemory };
+
+    ghost InProverRange = { λ s.
+        prover_range (parameters_of s.fri) F.TWO_ADICITY C.MAX_SAMPLE_BITS };
+
+    ghost InVerifierRange = { λ s.
+        verifier_range (parameters_of s.fri) F.TWO_ADICITY C.MAX_SAMPLE_BITS };
+
+    ghost PassesChecks = { λ s requests. passes ⟦<EF as ChallengeField<F>>⟧.fields
+        (parameters_of s.fri) InputMmcs.committed requests };
+
+    ghost Refuses = { λ s c requests e.
+        OpenRefusal (two_adic ⟦<EF as ChallengeField<F>>⟧.fields
+        ⟦<C as Plays<F, EF, M::Commitment>>⟧.moves (InputMmcs.opens s.mmcs) (M.opens s.fri.mmcs))
+        (parameters_of s.fri) InputMmcs.committed M.committed M.commitment_of c requests e };
+
+    ghost LeavesState = { leaves };
+
+    ghost Accepts = { λ s c claims proof.
+        relation (two_adic ⟦<EF as ChallengeField<F>>⟧.fields
+        ⟦<C as Plays<F, EF, M::Commitment>>⟧.moves (InputMmcs.opens s.mmcs) (M.opens s.fri.mmcs))
+        (parameters_of s.fri) (relation_claims (λ d. d.log_size) claims) (proof_of proof) c };
+
+    ghost last_state = { λ s c claims proof.
+        state_after (two_adic ⟦<EF as ChallengeField<F>>⟧.fields
+        ⟦<C as Plays<F, EF, M::Commitment>>⟧.moves (InputMmcs.opens s.mmcs) (M.opens s.fri.mmcs))
+        (parameters_of s.fri) (relation_claims (λ d. d.log_size) claims) (proof_of proof) c };
+
+    ghost Faults = { λ s claims proof c e.
+        StandsInScheme (two_adic ⟦<EF as ChallengeField<F>>⟧.fields
+        ⟦<C as Plays<F, EF, M::Commitment>>⟧.moves (InputMmcs.opens s.mmcs) (M.opens s.fri.mmcs))
+        (parameters_of s.fri) (relation_claims (λ d. d.log_size) claims) (proof_of proof) c e };
+
+    ghost LeavesVerifier = { λ e. leaves_verifier e };
+
+    ghost out_of_memory = { OutOfMemory };
+
+    fn natural_domain_for_degree(&self, degree: usize) -> TwoAdicMultiplicativeCoset<F> {
+        TwoAdicMultiplicativeCoset {
+            shift: F::ONE,
+            log_size: log2_strict_usize(degree),
+        }
+    }
+
+    fn commit(
+        &mut self,
+        alloc: Global,
+        evaluations: Vec<(TwoAdicMultiplicativeCoset<F>, RowMajorMatrix<F>)>,
+    ) -> Result<(InputMmcs::Commitment, InputMmcs::ProverData), FriProverError>
+        requires range { prover_range (parameters_of self.old.fri) F.TWO_ADICITY
+            C.MAX_SAMPLE_BITS }
+        requires evaluations { All (λ e.
+            FitsDomain F.TWO_ADICITY self.old.fri.log_blowup e.0.log_size e.1) evaluations.items }
+        ensures range { prover_range (parameters_of self.new.fri) F.TWO_ADICITY
+            C.MAX_SAMPLE_BITS }
+        ensures commitment { IfOk result (λ pair. InputMmcs.commitment_of pair.1 ≡ pair.0) }
+        ensures openable { IfOk result (λ pair.
+            All (HasCoset F.TWO_ADICITY) (InputMmcs.committed pair.1)) }
+        ensures honest { IfOk result (λ pair.
+            All (HoldsWords ⟦<EF as ChallengeField<F>>⟧.fields self.new.fri.log_blowup)
+            (InputMmcs.committed pair.1)) }
+        ensures extends { IfOk result (λ pair. AllZip
+            (λ m e. extends ⟦<EF as ChallengeField<F>>⟧.fields e.0.shift e.0.log_size e.1 m)
+            (map (held_in ⟦<EF as ChallengeField<F>>⟧.fields self.new.fri.log_blowup)
+            (InputMmcs.committed pair.1)) evaluations.items) }
+        ensures refused { IfErr result (λ e. e ≡ refusal.OutOfMemory) }
+    {
+        let log_blowup = self.fri.log_blowup;
+        match commit_evaluations(&self.dft, &self.mmcs, alloc, log_blowup, evaluations) {
+            Ok(committed) => Ok(committed),
+            Err(AllocError) => Err(FriProverError::OutOfMemory),
+        }
+    }
+
+    fn open(
+        &self,
+        alloc: Global,
+        requests: &mut [OpeningRequest<'_, InputMmcs::ProverData, EF>],
+        challenger: &mut C,
+    ) -> Result<
+        (
+            OpenedValues<EF>,
+            FriProof<EF, M, F, Vec<BatchMultiOpening<F, InputMmcs>>>,
+        ),
+        FriProverError,
+    > {
+        let folding: TwoAdicFriFoldingForMmcs<F, InputMmcs> = TwoAdicFriFolding(PhantomData);
+        open_requests::<F, EF, M, InputMmcs, TwoAdicFriFoldingForMmcs<F, InputMmcs>, C>(
+            alloc, &folding, &self.fri, &self.mmcs, &*requests, challenger,
+        )
+    }
+
+    fn verify(
+        &self,
+        alloc: Global,
+        claims: Vec<CommitmentOpening<EF, InputMmcs::Commitment, TwoAdicMultiplicativeCoset<F>>>,
+        proof: &FriProof<EF, M, F, Vec<BatchMultiOpening<F, InputMmcs>>>,
+        challenger: &mut C,
+    ) -> Result<(), FriError<M::Error, InputMmcs::Error>>
+        requires range { verifier_range (parameters_of self.now.fri) F.TWO_ADICITY
+            C.MAX_SAMPLE_BITS }
+        ensures exactly { let s = two_adic ⟦<EF as ChallengeField<F>>⟧.fields
+            ⟦<C as Plays<F, EF, M::Commitment>>⟧.moves (InputMmcs.opens self.now.mmcs)
+            (M.opens self.now.fri.mmcs) in
+            result ≢ Err OutOfMemory → (IsOk result ↔ relation s (parameters_of self.now.fri)
+            (relation_claims (λ d. d.log_size) (map claim claims.items)) (proof_of proof.now)
+            challenger.old) }
+        ensures state { let s = two_adic ⟦<EF as ChallengeField<F>>⟧.fields
+            ⟦<C as Plays<F, EF, M::Commitment>>⟧.moves (InputMmcs.opens self.now.mmcs)
+            (M.opens self.now.fri.mmcs) in
+            IsOk result → challenger.new ≡ state_after s (parameters_of self.now.fri)
+            (relation_claims (λ d. d.log_size) (map claim claims.items)) (proof_of proof.now)
+            challenger.old }
+        ensures stands { let s = two_adic ⟦<EF as ChallengeField<F>>⟧.fields
+            ⟦<C as Plays<F, EF, M::Commitment>>⟧.moves (InputMmcs.opens self.now.mmcs)
+            (M.opens self.now.fri.mmcs) in
+            IfErr result (StandsInScheme s (parameters_of self.now.fri)
+            (relation_claims (λ d. d.log_size) (map claim claims.items)) (proof_of proof.now)
+            challenger.old) }
+        ensures unmoved { IfErr result (λ e. leaves_verifier e → challenger.new ≡ challenger.old) }
+    {
+        let folding: TwoAdicFriFoldingForMmcs<F, InputMmcs> = TwoAdicFriFolding(PhantomData);
+        verify_opening::<F, EF, M, InputMmcs, TwoAdicFriFoldingForMmcs<F, InputMmcs>, C>(
+            alloc, &folding, &self.fri, &self.mmcs, &claims, proof, challenger,
+        )
+    }
+
+    ghost memory_law = { memory_cases };
+}
