@@ -14,3 +14,5 @@ pub use p3_fri_core::{
     compute_log_arity_for_round, config, fold_schedule, folding, is_strictly_falling, laws,
     pcs_transcript, pow_phase, proof, strategy, transcript,
 };
+pub use p3_fri_two_adic::two_adic_pcs;
+pub use p3_fri_two_adic::two_adic_pcs::{TwoAdicFriFoldingForMmcs, TwoAdicFriPcs};
