@@ -1,0 +1,4 @@
+pub mod First
+pub mod Horner
+pub mod Periods
+pub mod Unique
