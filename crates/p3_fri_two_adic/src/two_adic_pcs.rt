@@ -188,6 +188,7 @@ impl<
             C.MAX_SAMPLE_BITS }
         requires evaluations { All (λ e.
             FitsDomain F.TWO_ADICITY self.old.fri.log_blowup e.0.log_size e.1) evaluations.items }
+        ensures kept { self.new ≡ self.old }
         ensures range { prover_range (parameters_of self.new.fri) F.TWO_ADICITY
             C.MAX_SAMPLE_BITS }
         ensures verifier_range { verifier_range (parameters_of self.old.fri) F.TWO_ADICITY C.MAX_SAMPLE_BITS

@@ -1,0 +1,19 @@
+//! Tests of the scheme over two-adic fields, at BabyBear, its quartic extension and SHA-256.
+#![tactic(auto)]
+
+#[cfg(test)]
+mod accepted;
+#[cfg(test)]
+mod altered;
+#[cfg(test)]
+mod committed;
+#[cfg(test)]
+mod openable;
+#[cfg(test)]
+mod opened;
+#[cfg(test)]
+mod refused;
+#[cfg(test)]
+mod replayed;
+#[cfg(test)]
+mod scheme;
