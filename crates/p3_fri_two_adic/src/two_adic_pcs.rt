@@ -191,8 +191,9 @@ impl<
         ensures kept { self.new ≡ self.old }
         ensures range { prover_range (parameters_of self.new.fri) F.TWO_ADICITY
             C.MAX_SAMPLE_BITS }
-        ensures verifier_range { verifier_range (parameters_of self.old.fri) F.TWO_ADICITY C.MAX_SAMPLE_BITS
-            → verifier_range (parameters_of self.new.fri) F.TWO_ADICITY C.MAX_SAMPLE_BITS }
+        ensures verifier_range { let n = F.TWO_ADICITY in
+            verifier_range (parameters_of self.old.fri) n C.MAX_SAMPLE_BITS
+            → verifier_range (parameters_of self.new.fri) n C.MAX_SAMPLE_BITS }
         ensures still_held { (d : InputMmcs.ProverData)
             → map (held_in ⟦<EF as ChallengeField<F>>⟧.fields self.new.fri.log_blowup)
             (InputMmcs.committed d)
