@@ -1,4 +1,5 @@
 pub mod First
 pub mod Horner
 pub mod Periods
+pub mod Tables
 pub mod Unique

@@ -5,7 +5,7 @@ use Rattle.std.specs.List.{HoldsAt}
 use Rattle.std.specs.declared.vec.Vec.{Vec}
 use Rattle.p3_periodic.specs.declared.error.PeriodicError.{PeriodicError}
 use Rattle.p3_periodic.specs.declared.error.PeriodicError.TheVariants.{NotPowerOfTwo}
-use Rattle.p3_periodic.specs.declared.error.PeriodicError.TheVariants.{DoesNotDivide}
+use Rattle.p3_periodic.specs.declared.error.PeriodicError.TheVariants.{DoesNotDivide, OutOfMemory}
 
 module _ (height : ℕ) where
   -- a column of this length repeats along a trace of `height` rows
@@ -32,3 +32,8 @@ module _ (height : ℕ) where
       pub within : place < length columns
       pub before : All HasPeriod (take place columns)
       pub here : HoldsAt (λ column. PeriodFault place (vec_len column) fault) columns place
+
+    -- why a call on these columns is refused: memory is asked for only where each repeats
+    abbrev pub Refuses : (columns : List (Vec T A)) → PeriodicError → Type 0
+    Refuses columns OutOfMemory = All HasPeriod columns
+    Refuses columns fault = FirstFault columns fault

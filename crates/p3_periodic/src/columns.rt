@@ -7,7 +7,7 @@ use crate::error::PeriodicError;
 
 /// Columns of which each repeats along a trace: its length is a power of two and divides the number
 /// of rows.
-#[derive(Debug)]
+#[derive(Debug, Drop)]
 pub struct PeriodicColumns<'a, T> {
     table: &'a [Vec<T>],
 }

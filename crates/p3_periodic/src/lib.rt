@@ -8,3 +8,4 @@ pub mod evaluator;
 
 pub use crate::columns::PeriodicColumns;
 pub use crate::error::PeriodicError;
+pub use crate::evaluator::TwoAdicPeriodicEvaluator;
