@@ -1,6 +1,6 @@
 //! Times the extension of a matrix of BabyBear elements and its bit reversal, as a commitment takes
-//! them, the transform and the tree by themselves, or folds of a word, in microseconds, the least of
-//! several.
+//! them, the transform and the tree by themselves, or folds of a word: in microseconds, the least
+//! of several.
 #![tactic(auto)]
 
 ghost use Rattle.std.specs.Prelude.{◌<◌};

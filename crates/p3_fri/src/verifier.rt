@@ -1,5 +1,5 @@
-//! The verifier of the low-degree test: the whole of it, the two calls that do most of its work, and
-//! why it refuses.
+//! The verifier of the low-degree test: the whole of it, the two calls that do most of its work,
+//! and why it refuses.
 
 pub use p3_fri_inputs::{heights_are_within, open_inputs};
 pub use p3_fri_query::fold_query;
