@@ -1,6 +1,6 @@
--- Rounds that come of requests: what is tested of them, and what it says of the requests.
-use Rattle.std.proofs.Common.{◌≡◌, ◌≢◌, ◌+◌, ℕ, suc, List, [], ◌∷◌, map, length, All, refl}
-use Rattle.std.proofs.Common.{sym, ap, ap₂, ◌∙◌, arith, subst}
+-- Requests and the rounds that come of them: what is tested of requests, and what it says of rounds.
+use Rattle.std.proofs.Common.{◌≡◌, ◌≢◌, ◌+◌, ◌<◌, ℕ, suc, List, [], ◌∷◌, map, length, take}
+use Rattle.std.proofs.Common.{All, get_or, refl, sym, ap, ap₂, ◌∙◌, arith, subst}
 use Rattle.std.specs.List.{flat_map}
 use Rattle.std.proofs.lemmas.List.{length-map, length-append, nil_from_length}
 use Rattle.algebra.specs.Nested.{joined}
@@ -19,16 +19,17 @@ use Rattle.p3_fri_openings.specs.declared.round.OpeningRound.{OpeningRound}
 use Rattle.p3_fri_openings.specs.Opened.{values_asked}
 use Rattle.p3_fri_openings.specs.Requests.{round_request, matrices_request}
 use Rattle.p3_fri_openings.specs.Rounds.{HasCoset, IsRound, ask, log_height}
+use Rattle.p3_fri_openings.specs.Refusals.{AreTallEnough, ArePointsOff, HasPointsOff}
 use Rattle.p3_fri_openings.specs.First.{FirstAt}
-use Rattle.p3_fri_openings.specs.Refusals.{AreTallEnough, ArePointsOff, HasPointsOff, IsFirstPoint}
-use Rattle.p3_fri_openings.specs.Refusals.{HeightRefusal, RoundHeightRefusal, FirstHeightRefusal}
-use Rattle.p3_fri_openings.specs.Refusals.{PointRefusal}
+use Rattle.p3_fri_openings.specs.Refusals.{HeightRefusal, RoundHeightRefusal, RoundPointRefusal}
+use Rattle.p3_fri_openings.specs.Refusals.{IsFirstPoint}
 use Rattle.p3_fri_openings.proofs.Tables.{map_twice}
 use Rattle.p3_fri_batch.specs.Rounds.{opened_of}
 use Rattle.p3_fri_completeness.specs.Requests.{held_in, held_of, opened_honestly, round_opened}
 use Rattle.p3_fri_completeness.proofs.Rounds.{opened_by_request}
-use Rattle.p3_fri_opening_prover.specs.Refusals.{PassesChecks, IsFirstLow, CheckRefusal}
-use Rattle.p3_fri_opening_prover.proofs.Transported.{all_same, first_same, any_at}
+use Rattle.p3_fri_opening_prover.specs.Refusals.{IsFirstLow, PointsRefusal, asked_of}
+use Rattle.p3_fri_opening_prover.specs.Refusals.{CheckRefusal, GatherRefusal}
+use Rattle.p3_fri_opening_prover.proofs.Transported.{all_same, any_at, mapped_first}
 
 -- some matrix is opened, where requests hold some
 module _ {F E D : Type 0} (f : Fields F E) (b : ℕ) (committed : D → List (RowMajorMatrix F)) where
@@ -114,59 +115,85 @@ module _ {F E D : Type 0} (f : Fields F E) (p : Parameters)
         asked openable.points)
         openable.some_matrix)
 
-  -- the checks
-  pub passes_checks : All (λ r. AreTallEnough p r.matrices.now) rounds
-      → All (ArePointsOff f) rounds → PassesChecks f p committed asked
-  passes_checks tall off = record {
-    heights = all_same round_request seen rounds asked looks (λ v. AreTallEnough p v.datum) tall;
-    points = all_same round_request seen rounds asked looks
-        (λ v. All (HasPointsOff f) (both ask v.datum v.points)) off;
-  }
+  -- what the checks say of the requests, they say of the rounds
+  pub tall_rounds : All (λ (q : Request D E). AreTallEnough p (committed q.datum)) asked
+      → All (λ r. AreTallEnough p r.matrices.now) rounds
+  tall_rounds tall =
+      all_same seen round_request asked rounds (sym looks) (λ v. AreTallEnough p v.datum) tall
 
-  tall_asked : All (λ r. AreTallEnough p r.matrices.now) rounds
-      → All (λ (q : Request D E). AreTallEnough p (committed q.datum)) asked
-  tall_asked tall =
-      all_same round_request seen rounds asked looks (λ v. AreTallEnough p v.datum) tall
+  pub off_rounds : All (λ (q : Request D E). All (HasPointsOff f) (asked_of committed q)) asked
+      → All (ArePointsOff f) rounds
+  off_rounds off =
+      all_same seen round_request asked rounds (sym looks)
+      (λ v. All (HasPointsOff f) (both ask v.datum v.points)) off
 
-  first_low : (e : FriProverError) → FirstHeightRefusal p rounds e
-      → IsFirstLow f p committed e asked
-  first_low e r = record {
-    round = r.round;
-    first = first_same round_request seen rounds asked looks (λ v. AreTallEnough p v.datum)
-        (λ v. RoundHeightRefusal p e v.datum) r.round r.first;
-  }
+-- a round that is made of one request, which stands at a place of a list
+module _ {F E D : Type 0} (f : Fields F E) (committed : D → List (RowMajorMatrix F))
+    (round : OpeningRound F E) (r : OpeningRequest D E)
+    (same : round_request round ≡ matrices_request committed r) where
+  pub off_here : ArePointsOff f round → All (HasPointsOff f) (asked_of committed (request r))
+  off_here off = subst (λ v. All (HasPointsOff f) (both ask v.datum v.points)) same off
 
+  module _ (requests : List (OpeningRequest D E)) (i : ℕ) (inside : i < length requests)
+      (is : r ≡ get_or requests i r)
+      (before : All (λ r. All (HasPointsOff f) (asked_of committed r))
+      (take i (map request requests))) where
+    pub on_here : (e : FriProverError) → RoundPointRefusal f i round e
+        → PointsRefusal committed f (map request requests) e
+    on_here (PointInEvaluationDomain a b d) h =
+        let Passes : Request D E → Type 0 = λ r. All (HasPointsOff f) (asked_of committed r) in
+        let Refused : Request D E → Type 0 =
+        λ r. FirstAt (HasPointsOff f) (IsFirstPoint f d) (asked_of committed r) b in
+        subst (λ k. FirstAt Passes Refused (map request requests) k) (sym h.0)
+        (mapped_first request requests i r inside is Passes Refused before
+        (subst (λ v. FirstAt (HasPointsOff f) (IsFirstPoint f d) (both ask v.datum v.points) b)
+        same h.1))
+    on_here (InputHeightTooSmall h final) r = absurd r
+    on_here FinalHeightOverflow r = absurd r
+    on_here (NoPowWitness phase) r = absurd r
+    on_here OutOfMemory r = absurd r
+
+-- why the checks refuse
+module _ {F E D : Type 0} (f : Fields F E) (p : Parameters)
+    (committed : D → List (RowMajorMatrix F)) (requests : List (Request D E)) where
   -- a refusal for a height is one of some matrix
-  some_low : (e : FriProverError) → FirstHeightRefusal p rounds e
+  some_low : (e : FriProverError) → IsFirstLow committed p e requests
       → (h : ℕ) × HeightRefusal p h e
   some_low e r =
-      let found = any_at (λ (o : OpeningRound F E). RoundHeightRefusal p e o.matrices.now) rounds
+      let found = any_at (λ (q : Request D E). RoundHeightRefusal p e (committed q.datum)) requests
       r.round r.first.within r.first.here in
       let here = found.4 in
-      let matrix = any_at (λ m. HeightRefusal p (log_height m) e) found.1.matrices.now here.matrix
-      here.first.within here.first.here in
+      let matrix = any_at (λ m. HeightRefusal p (log_height m) e) (committed found.1.datum)
+      here.matrix here.first.within here.first.here in
       (log_height matrix.1, matrix.4)
 
-  -- and why they refuse
-  pub heights_refused : (e : FriProverError) → FirstHeightRefusal p rounds e
-      → CheckRefusal f p committed asked e
-  heights_refused OutOfMemory r = tt
-  heights_refused (PointInEvaluationDomain a b d) r =
+  pub low_refused : (e : FriProverError) → IsFirstLow committed p e requests
+      → CheckRefusal f p committed requests e
+  low_refused OutOfMemory r = let low = some_low OutOfMemory r in absurd low.1
+  low_refused (PointInEvaluationDomain a b d) r =
       let low = some_low (PointInEvaluationDomain a b d) r in absurd low.1
-  heights_refused (InputHeightTooSmall h final) r = first_low (InputHeightTooSmall h final) r
-  heights_refused FinalHeightOverflow r = first_low FinalHeightOverflow r
-  heights_refused (NoPowWitness phase) r =
-      let low = some_low (NoPowWitness phase) r in absurd low.1
+  low_refused (InputHeightTooSmall h final) r = r
+  low_refused FinalHeightOverflow r = r
+  low_refused (NoPowWitness phase) r = let low = some_low (NoPowWitness phase) r in absurd low.1
 
-  pub points_refused : All (λ r. AreTallEnough p r.matrices.now) rounds → (e : FriProverError)
-      → PointRefusal f rounds e → CheckRefusal f p committed asked e
-  points_refused tall OutOfMemory r = tt
-  points_refused tall (PointInEvaluationDomain a b d) r = (
-    tall_asked tall,
-    first_same round_request seen rounds asked looks
-        (λ v. All (HasPointsOff f) (both ask v.datum v.points))
-        (λ v. FirstAt (HasPointsOff f) (IsFirstPoint f d) (both ask v.datum v.points) b) a r,
-  )
-  points_refused tall (InputHeightTooSmall h final) r = absurd r
-  points_refused tall FinalHeightOverflow r = absurd r
-  points_refused tall (NoPowWitness phase) r = absurd r
+  pub on_refused : All (λ r. AreTallEnough p (committed r.datum)) requests → (e : FriProverError)
+      → PointsRefusal committed f requests e → CheckRefusal f p committed requests e
+  on_refused tall OutOfMemory r = absurd r
+  on_refused tall (PointInEvaluationDomain a b d) r = (tall, r)
+  on_refused tall (InputHeightTooSmall h final) r = absurd r
+  on_refused tall FinalHeightOverflow r = absurd r
+  on_refused tall (NoPowWitness phase) r = absurd r
+
+  pub gather_refused : (e : FriProverError) → CheckRefusal f p committed requests e
+      → GatherRefusal f p committed requests e
+  gather_refused OutOfMemory r = absurd r
+  gather_refused (PointInEvaluationDomain a b d) r = r
+  gather_refused (InputHeightTooSmall h final) r = r
+  gather_refused FinalHeightOverflow r = r
+  gather_refused (NoPowWitness phase) r = r
+
+  -- as many lists of points as matrices
+  pub points_counted : All (λ r. length r.points ≡ length (held_of f committed p.log_blowup r.datum))
+      requests → All (λ r. length r.points ≡ length (committed r.datum)) requests
+  points_counted counts k r l =
+      counts k r l ∙ length-map (committed _) (held_in f p.log_blowup)

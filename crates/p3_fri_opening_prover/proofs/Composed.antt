@@ -128,7 +128,7 @@ module _ {F E D C Com Path InCom InPath Domain : Type 0} (s : Setting F E C Com 
     pub refused_asked : (e : FriProverError) → PassesChecks s.fields p committed asked
         → Stops (opened_of rounds values) values e → ¬ LeavesState e
         → OpenRefusal s p committed committed_in_test commitment_in_test c asked e
-    refused_asked OutOfMemory passes h not = tt
+    refused_asked OutOfMemory passes h not = passes
     refused_asked (NoPowWitness phase) passes h not = (passes, stops_asked (NoPowWitness phase) h)
     refused_asked (InputHeightTooSmall a b) passes h not = absurd (not tt)
     refused_asked FinalHeightOverflow passes h not = absurd (not tt)

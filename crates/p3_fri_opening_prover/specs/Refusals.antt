@@ -17,40 +17,53 @@ use Rattle.p3_fri_openings.specs.Refusals.{HasPointsOff, IsFirstPoint}
 use Rattle.p3_fri_completeness.specs.Requests.{held_of, round_opened}
 use Rattle.p3_fri_opening_prover.specs.Opening.{OpeningStops}
 
-module _ {F E D : Type 0} (f : Fields F E) (p : Parameters)
-    (committed : D → List (RowMajorMatrix F)) where
+module _ {F E D : Type 0} (committed : D → List (RowMajorMatrix F)) where
   -- the matrices of a request with their points
   abbrev pub asked_of : Request D E → List (Asked F E)
   asked_of r = both ask (committed r.datum) r.points
 
-  -- each matrix is tall enough, and no point lies in its evaluation coset
-  pub record PassesChecks (requests : List (Request D E)) : Type 0 where
-    pub heights : All (λ r. AreTallEnough p (committed r.datum)) requests
-    pub points : All (λ r. All (HasPointsOff f) (asked_of r)) requests
-
   -- the first matrix that is refused for its height
-  pub record IsFirstLow (e : FriProverError) (requests : List (Request D E)) : Type 0 where
+  pub record IsFirstLow (p : Parameters) (e : FriProverError) (requests : List (Request D E))
+      : Type 0 where
     pub round : ℕ
     pub first : FirstAt (λ r. AreTallEnough p (committed r.datum))
         (λ r. RoundHeightRefusal p e (committed r.datum)) requests round
 
-  -- the first point that lies in its coset
-  abbrev pub IsFirstOn : (round matrix point : ℕ) → List (Request D E) → Type 0
-  IsFirstOn round matrix point requests =
-      FirstAt (λ r. All (HasPointsOff f) (asked_of r))
-      (λ r. FirstAt (HasPointsOff f) (IsFirstPoint f point) (asked_of r) matrix) requests round
+  module _ (f : Fields F E) where
+    -- the first point that lies in its coset
+    abbrev pub IsFirstOn : (round matrix point : ℕ) → List (Request D E) → Type 0
+    IsFirstOn round matrix point requests =
+        FirstAt (λ r. All (HasPointsOff f) (asked_of r))
+        (λ r. FirstAt (HasPointsOff f) (IsFirstPoint f point) (asked_of r) matrix) requests round
+
+    abbrev pub PointsRefusal : List (Request D E) → FriProverError → Type 0
+    PointsRefusal requests (PointInEvaluationDomain round matrix point) =
+        IsFirstOn round matrix point requests
+    PointsRefusal requests _ = ⊥
+
+module _ {F E D : Type 0} (f : Fields F E) (p : Parameters)
+    (committed : D → List (RowMajorMatrix F)) where
+  -- each matrix is tall enough, and no point lies in its evaluation coset
+  pub record PassesChecks (requests : List (Request D E)) : Type 0 where
+    pub heights : All (λ r. AreTallEnough p (committed r.datum)) requests
+    pub points : All (λ r. All (HasPointsOff f) (asked_of committed r)) requests
 
   -- why the checks refuse: the first matrix that is too low or, where none is, the first point in
-  -- a coset; and for want of memory
+  -- a coset
   abbrev pub CheckRefusal : List (Request D E) → FriProverError → Type 0
-  CheckRefusal requests OutOfMemory = ⊤
   CheckRefusal requests (PointInEvaluationDomain round matrix point) =
       All (λ r. AreTallEnough p (committed r.datum)) requests
-      × IsFirstOn round matrix point requests
+      × IsFirstOn committed f round matrix point requests
   CheckRefusal requests (InputHeightTooSmall h final) =
-      IsFirstLow (InputHeightTooSmall h final) requests
-  CheckRefusal requests FinalHeightOverflow = IsFirstLow FinalHeightOverflow requests
+      IsFirstLow committed p (InputHeightTooSmall h final) requests
+  CheckRefusal requests FinalHeightOverflow = IsFirstLow committed p FinalHeightOverflow requests
   CheckRefusal requests (NoPowWitness phase) = ⊥
+  CheckRefusal requests OutOfMemory = ⊥
+
+  -- why requests aren't gathered: the checks refuse them, or memory is refused to those that pass
+  abbrev pub GatherRefusal : List (Request D E) → FriProverError → Type 0
+  GatherRefusal requests OutOfMemory = PassesChecks requests
+  GatherRefusal requests e = CheckRefusal requests e
 
 module _ {F E C D Data Com Path InCom InPath : Type 0} (s : Setting F E C Com Path InCom InPath)
     (p : Parameters) (committed : D → List (RowMajorMatrix F))
@@ -63,11 +76,12 @@ module _ {F E C D Data Com Path InCom InPath : Type 0} (s : Setting F E C Com Pa
       (map (honest_values (held_of s.fields committed p.log_blowup)) requests) c
       committed_in_test commitment_in_test e
 
-  -- why requests aren't opened: the checks refuse them, or what stops those that pass
+  -- why requests aren't opened: the checks refuse them, which comes first, or what stops those that
+  -- pass
   abbrev pub OpenRefusal : FriProverError → Type 0
   OpenRefusal (NoPowWitness phase) =
       PassesChecks s.fields p committed requests × RequestsStop (NoPowWitness phase)
-  OpenRefusal e = CheckRefusal s.fields p committed requests e
+  OpenRefusal e = GatherRefusal s.fields p committed requests e
 
 -- the refusals that leave a prover's challenger as it was
 abbrev pub LeavesState : FriProverError → Type 0

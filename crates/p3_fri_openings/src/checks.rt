@@ -39,8 +39,9 @@ fn check_height<M>(params: &FriParameters<M>, log_input_height: usize) -> Result
     Ok(())
 }
 
-/// Whether each of these matrices is tall enough to be opened, in their order.
-fn check_round_heights<M, F: TwoAdicField>(
+/// Whether each of these matrices is tall enough to be opened. Otherwise the refusal is that of the
+/// first which isn't.
+pub fn check_round_heights<M, F: TwoAdicField>(
     params: &FriParameters<M>,
     matrices: &[RowMajorMatrix<F>],
 ) -> Result<(), FriProverError>
@@ -113,8 +114,9 @@ fn first_in_evaluation_domain<F: TwoAdicField, EF: ExtensionField<F>>(
     None
 }
 
-/// Whether no point of round `index` lies in its matrix's evaluation coset.
-fn check_round_points<F: TwoAdicField, EF: ExtensionField<F>>(
+/// Whether no point of round `index` lies in its matrix's evaluation coset, where the opening would
+/// divide by zero. Otherwise the refusal names the first that does, matrix by matrix.
+pub fn check_round_points<F: TwoAdicField, EF: ExtensionField<F>>(
     index: usize,
     round: &OpeningRound<'_, F, EF>,
 ) -> Result<(), FriProverError>

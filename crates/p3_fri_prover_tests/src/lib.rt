@@ -2,6 +2,8 @@
 #![tactic(auto)]
 
 #[cfg(test)]
+mod always_one;
+#[cfg(test)]
 mod heights;
 #[cfg(test)]
 mod heights_joined;

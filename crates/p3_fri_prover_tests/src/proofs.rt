@@ -1,10 +1,10 @@
 //! What is proved of words, and what the verifier answers to it.
 
-ghost use Rattle.std.specs.Prelude.{◌≡◌, ◌<◌, ◌≤◌, IfOk};
+ghost use Rattle.std.specs.Prelude.{◌≡◌, ◌<◌, ◌≤◌, IsTrue, IfOk};
 ghost use Rattle.algebra.specs.Nested.{lists};
 ghost use Rattle.p3_fri_prover.specs.Inputs.{AreInputs};
 
-use p3_challenger::Sha256Challenger;
+use p3_challenger::{CanObserve, FieldChallenger, GrindingChallenger, Sha256Challenger};
 use p3_commit::{
     CommitmentOpening, MatrixOpening, Mmcs, PointOpening, Sha256Mmcs, Sha256MmcsError,
     have_power_heights,
@@ -42,13 +42,7 @@ type Plain = TwoAdicFriFolding<(), Sha256MmcsError>;
 type Folding = WithExtraBits<Plain>;
 
 /// A blowup and a cap of 2, a constant as final polynomial, two queries, no proof of work.
-pub(crate) fn plain_parameters() -> Parameters
-    ensures log_blowup { result.log_blowup ≡ 1 }
-    ensures log_final_poly_len { result.log_final_poly_len ≡ 0 }
-    ensures cap { result.max_log_arity ≡ 1 }
-    ensures commit_bits { result.commit_proof_of_work_bits ≡ 0 }
-    ensures query_bits { result.query_proof_of_work_bits ≡ 0 }
-{
+pub(crate) fn plain_parameters() -> Parameters {
     FriParameters {
         log_blowup: 1,
         log_final_poly_len: 0,
@@ -77,7 +71,7 @@ fn column(alloc: Global) -> Result<RowMajorMatrix<BabyBear>, Fail> {
 }
 
 /// What is claimed of it: -3 at 5.
-fn claim(alloc: Global, commitment: [u8; 32]) -> Result<Claim, Fail> {
+pub(crate) fn claims(alloc: Global, commitment: [u8; 32]) -> Result<Vec<Claim>, Fail> {
     let domain = TwoAdicMultiplicativeCoset::new(BabyBear::ONE, 1).ok_or("a domain")?;
     let point = PointOpening {
         point: constant(5),
@@ -87,14 +81,16 @@ fn claim(alloc: Global, commitment: [u8; 32]) -> Result<Claim, Fail> {
     points.push(point)?;
     let mut matrices = Vec::new(alloc);
     matrices.push(MatrixOpening { domain, points })?;
-    Ok(CommitmentOpening {
+    let mut claims = Vec::new(alloc);
+    claims.push(CommitmentOpening {
         commitment,
         matrices,
-    })
+    })?;
+    Ok(claims)
 }
 
 /// The one word of four entries that each is -1.
-fn word(alloc: Global) -> Result<Vec<Vec<BabyBear4>>, Fail>
+pub(crate) fn word(alloc: Global) -> Result<Vec<Vec<BabyBear4>>, Fail>
     ensures { IfOk result (λ words. AreInputs 2 (lists words.items)) }
 {
     let entries = vec![in alloc; constant(2013265920); 4]?;
@@ -103,34 +99,57 @@ fn word(alloc: Global) -> Result<Vec<Vec<BabyBear4>>, Fail>
     Ok(words)
 }
 
-/// What the prover answers of these words, with what is opened of the data.
-pub(crate) fn prove(
+/// Whether the tests' parameters are such as these, so that words of up to `2^log_height` entries may
+/// be proved and verified.
+fn are_small(parameters: &Parameters, extra_bits: usize, log_height: usize) -> bool
+    ensures blowup { IsTrue result → parameters.now.log_blowup ≤ 2 }
+    ensures cap { IsTrue result → 0 < parameters.now.max_log_arity }
+    ensures final_polynomial { IsTrue result → parameters.now.log_final_poly_len ≤ 3 }
+    ensures commit_bits { IsTrue result → parameters.now.commit_proof_of_work_bits ≤ 3 }
+    ensures query_bits { IsTrue result → parameters.now.query_proof_of_work_bits ≤ 3 }
+    ensures extra_bits { IsTrue result → extra_bits ≤ 3 }
+    ensures height { IsTrue result → log_height ≤ 8 }
+{
+    parameters.log_blowup <= 2
+        && parameters.max_log_arity > 0
+        && parameters.log_final_poly_len <= 3
+        && parameters.commit_proof_of_work_bits <= 3
+        && parameters.query_proof_of_work_bits <= 3
+        && extra_bits <= 3
+        && log_height <= 8
+}
+
+/// What the prover answers of these words, with what is opened of the data. With each index so many
+/// bits are drawn besides.
+pub(crate) fn prove<
+    C: FieldChallenger<BabyBear> + GrindingChallenger<Witness = BabyBear> + CanObserve<[u8; 32]>,
+>(
     alloc: Global,
     parameters: &Parameters,
+    extra_bits: usize,
     words: Vec<Vec<BabyBear4>>,
     log_height: usize,
     data: &InputData,
-    challenger: &mut Sha256Challenger,
+    challenger: &mut C,
 ) -> Result<Result<Proof, FriProverError>, Fail>
-    requires log_blowup { parameters.now.log_blowup ≡ 1 }
-    requires cap { 0 < parameters.now.max_log_arity }
+    requires draws { C.MAX_SAMPLE_BITS ≡ 63 }
     requires words { AreInputs log_height (lists words.items) }
-    requires small { log_height ≤ 6 }
-    requires commit_bits { parameters.now.commit_proof_of_work_bits ≤ 3 }
-    requires query_bits { parameters.now.query_proof_of_work_bits ≤ 3 }
 {
+    if !are_small(parameters, extra_bits, log_height) {
+        return Err(Fail::new("other parameters"));
+    }
     let input_mmcs = Inputs::new();
     if input_mmcs.get_max_height(data) > 1 << log_height {
         return Err(Fail::new("a tall matrix"));
     }
     let plain: Plain = TwoAdicFriFolding(PhantomData);
-    let folding = WithExtraBits::new(plain, 3);
+    let folding = WithExtraBits::new(plain, extra_bits);
     let points = Vec::new(alloc);
     let data_with_points = [ProverDataWithOpeningPoints {
         prover_data: data,
         points: &points,
     }];
-    let proved = prove_fri::<BabyBear, BabyBear4, Folding, Rounds, Inputs, Sha256Challenger>(
+    let proved = prove_fri::<BabyBear, BabyBear4, Folding, Rounds, Inputs, C>(
         alloc,
         &folding,
         parameters,
@@ -151,19 +170,16 @@ pub(crate) fn prove(
 pub(crate) fn is_accepted(
     alloc: Global,
     parameters: &Parameters,
-    claim: Claim,
+    extra_bits: usize,
+    claims: &[Claim],
     proof: &Proof,
     challenger: &mut Sha256Challenger,
-) -> Result<bool, Fail>
-    requires log_blowup { parameters.now.log_blowup ≡ 1 }
-    requires log_final_poly_len { parameters.now.log_final_poly_len ≤ 2 }
-    requires commit_bits { parameters.now.commit_proof_of_work_bits ≤ 3 }
-    requires query_bits { parameters.now.query_proof_of_work_bits ≤ 3 }
-{
+) -> Result<bool, Fail> {
+    if !are_small(parameters, extra_bits, 0) {
+        return Err(Fail::new("other parameters"));
+    }
     let plain: Plain = TwoAdicFriFolding(PhantomData);
-    let folding = WithExtraBits::new(plain, 3);
-    let mut claims = Vec::new(alloc);
-    claims.push(claim)?;
+    let folding = WithExtraBits::new(plain, extra_bits);
     let input_mmcs = Inputs::new();
     let verified = verify_fri::<BabyBear, BabyBear4, Rounds, Inputs, Folding, Sha256Challenger>(
         alloc,
@@ -171,7 +187,7 @@ pub(crate) fn is_accepted(
         parameters,
         proof,
         challenger,
-        &claims,
+        claims,
         &input_mmcs,
         constant(1),
     );
@@ -182,7 +198,7 @@ pub(crate) fn is_accepted(
 }
 
 /// The commitment to that column, and its data.
-fn committed_column(alloc: Global) -> Result<([u8; 32], InputData), Fail> {
+pub(crate) fn committed_column(alloc: Global) -> Result<([u8; 32], InputData), Fail> {
     let matrix = column(alloc)?;
     if !have_power_heights(&[matrix.dimensions()]) {
         return Err(Fail::new("heights"));
@@ -190,38 +206,31 @@ fn committed_column(alloc: Global) -> Result<([u8; 32], InputData), Fail> {
     Ok(Inputs::new().commit_matrix(alloc, matrix)?)
 }
 
+/// The column's proof, the prover's challenger after it, and what is claimed.
+fn proved_column(
+    alloc: Global,
+    parameters: &Parameters,
+) -> Result<(Proof, Sha256Challenger, Vec<Claim>), Fail> {
+    let (commitment, data) = committed_column(alloc)?;
+    let mut prover = Sha256Challenger::new();
+    let proof = prove(alloc, parameters, 3, word(alloc)?, 2, &data, &mut prover)?.or(Err(
+        "a refusal",
+    ))?;
+    Ok((proof, prover, claims(alloc, commitment)?))
+}
+
 #[test]
 fn two_minus_the_point_is_proved_and_verified(rt: HostRuntime) -> Result<(), Fail> {
     let alloc = rt.alloc();
     let parameters = plain_parameters();
-    let (commitment, data) = committed_column(alloc)?;
-    let mut prover = Sha256Challenger::new();
-    let mut proof = prove(alloc, &parameters, word(alloc)?, 2, &data, &mut prover)?.or(Err(
-        "a refusal",
-    ))?;
+    let (mut proof, prover, claims) = proved_column(alloc, &parameters)?;
     assert_eq!(rt; proof.final_poly.as_slice(), &[constant(2013265920)][..]);
     let mut verifier = Sha256Challenger::new();
-    assert!(rt;
-        is_accepted(
-            alloc,
-            &parameters,
-            claim(alloc, commitment)?,
-            &proof,
-            &mut verifier
-        )?
-    );
+    assert!(rt; is_accepted(alloc, &parameters, 3, &claims, &proof, &mut verifier)?);
     assert!(rt; prover == verifier);
     proof.final_poly[0] = constant(1);
     let mut verifier = Sha256Challenger::new();
-    assert!(rt;
-        !is_accepted(
-            alloc,
-            &parameters,
-            claim(alloc, commitment)?,
-            &proof,
-            &mut verifier
-        )?
-    );
+    assert!(rt; !is_accepted(alloc, &parameters, 3, &claims, &proof, &mut verifier)?);
     Ok(())
 }
 
@@ -231,34 +240,14 @@ fn a_word_is_proved_with_work(rt: HostRuntime) -> Result<(), Fail> {
     let mut parameters = plain_parameters();
     parameters.commit_proof_of_work_bits = 3;
     parameters.query_proof_of_work_bits = 3;
-    let (commitment, data) = committed_column(alloc)?;
-    let mut prover = Sha256Challenger::new();
-    let mut proof = prove(alloc, &parameters, word(alloc)?, 2, &data, &mut prover)?.or(Err(
-        "a refusal",
-    ))?;
+    let (mut proof, prover, claims) = proved_column(alloc, &parameters)?;
     assert_eq!(rt; proof.commit_pow_witnesses.len(), 1);
     let mut verifier = Sha256Challenger::new();
-    assert!(rt;
-        is_accepted(
-            alloc,
-            &parameters,
-            claim(alloc, commitment)?,
-            &proof,
-            &mut verifier
-        )?
-    );
+    assert!(rt; is_accepted(alloc, &parameters, 3, &claims, &proof, &mut verifier)?);
     assert!(rt; prover == verifier);
     proof.query_pow_witness = proof.query_pow_witness + BabyBear::ONE;
     let mut verifier = Sha256Challenger::new();
-    assert!(rt;
-        !is_accepted(
-            alloc,
-            &parameters,
-            claim(alloc, commitment)?,
-            &proof,
-            &mut verifier
-        )?
-    );
+    assert!(rt; !is_accepted(alloc, &parameters, 3, &claims, &proof, &mut verifier)?);
     Ok(())
 }
 
@@ -269,7 +258,16 @@ fn a_low_word_is_refused_before_the_challenger_is_touched(rt: HostRuntime) -> Re
     parameters.log_final_poly_len = 2;
     let (_commitment, data) = committed_column(alloc)?;
     let mut challenger = Sha256Challenger::new();
-    let refusal = prove(alloc, &parameters, word(alloc)?, 2, &data, &mut challenger)?.err();
+    let refusal = prove(
+        alloc,
+        &parameters,
+        3,
+        word(alloc)?,
+        2,
+        &data,
+        &mut challenger,
+    )?
+    .err();
     assert!(rt;
         refusal
             == Some(FriProverError::InputHeightTooSmall {

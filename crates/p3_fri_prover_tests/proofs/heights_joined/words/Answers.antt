@@ -7,7 +7,7 @@ returns c =
     let tallest = c.in_ok-tallest.tallest in
     let middle = c.in_ok-middle.middle in
     let lowest = c.in_ok-lowest.lowest in
-    three_words tallest middle lowest c.push-3.new.self.items 6 5 4
+    three_words tallest middle lowest c.push-3.new.self.items 8 7 6
     (c.in_ok-push-3.ensures.items
     ∙ ap (λ ws. ws ++ lowest ∷ []) (c.in_ok-push-2.ensures.items
     ∙ ap (λ ws. ws ++ middle ∷ []) (c.in_ok-push.ensures.items

@@ -1,0 +1,2 @@
+pub mod AlwaysOne
+pub mod AlwaysOneLaws
