@@ -7,8 +7,9 @@ use Rattle.std.proofs.lemmas.Slice.Eq.{bytes_eq-Decides}
 use Rattle.std.specs.Str.{bytes_eq}
 use Rattle.p3_fri_core.specs.Schedule.{schedule, IsStrictlyFalling}
 use Rattle.fri_run.specs.Texts.{parsed_number, parsed_list, line}
-use Rattle.fri_run.specs.Commands.{greatest_height, greatest_element, greatest_log_height, exact_log2, is_strictly_falling, answer, fold_answer, folded_numbers}
-use Rattle.fri_run.specs.declared.answer.Fault.TheVariants.{Command}
+use Rattle.fri_run.specs.Commands.{greatest_height, is_strictly_falling, answer, fold_answer, folded_numbers}
+use Rattle.fri_run.specs.Steps.{greatest_element, greatest_log_height, exact_log2}
+use Rattle.fri_run.specs.declared.fault.Fault.TheVariants.{Command}
 use Rattle.fri_run.proofs.Words.{schedule-ones, length-schedule_ones}
 
 -- what `find` gives of some numbers in a row passes, and is one of them
@@ -43,18 +44,29 @@ fold_answer-ok final_text betas_text word_text betas word final log_height is_fi
     rw (is_final, is_betas, is_word, is_height, eq-eqb (length betas) (length (schedule (log_height ∷ []) final 1)) one_each)
     (ap (λ (rounds : List ℕ). Ok (line (schedule (log_height ∷ []) final 1) ++ line (folded_numbers log_height rounds betas word))) ones)
 
--- four arguments, the first of which names no command
-pub answer-other : {X : Type 0} (f : X → List ℕ) (args : List X) (command : X) → length args ≡ 4 → command ≡ get_or args 0 command → f command ≢ codes "schedule" → f command ≢ codes "fold" → answer (map f args) ≡ Err Command
+unequal : (p q : List ℕ) → p ≢ q → bytes_eq p q ≡ false
+unequal p q other = elim (cases_Bool (bytes_eq p q)) [ inl w ↦ absurd (other ((bytes_eq-Decides p q).0 w)) | inr w ↦ w ]
+
+-- three arguments of a word that names no command
+pub answer-other : (command first second third : List ℕ) → command ≢ codes "schedule" → command ≢ codes "fold" → answer (command ∷ first ∷ second ∷ third ∷ []) ≡ Err Command
 unfolding answer
-answer-other f [] command four first a b = absurd (omega arith)
-answer-other f (x ∷ []) command four first a b = absurd (omega arith)
-answer-other f (x ∷ y ∷ []) command four first a b = absurd (omega arith)
-answer-other f (x ∷ y ∷ z ∷ []) command four first a b = absurd (omega arith)
-answer-other f (x ∷ y ∷ z ∷ w ∷ v ∷ more) command four first a b = absurd (omega arith)
-answer-other f (x ∷ y ∷ z ∷ w ∷ []) command four first a b = rw (← first, unequal (f command) (codes "schedule") a, unequal (f command) (codes "fold") b)
-  where
-    unequal : (p q : List ℕ) → p ≢ q → bytes_eq p q ≡ false
-    unequal p q other = elim (cases_Bool (bytes_eq p q)) [ inl w ↦ absurd (other ((bytes_eq-Decides p q).0 w)) | inr w ↦ w ]
+answer-other command first second third a b = rw (unequal command (codes "schedule") a, unequal command (codes "fold") b)
+
+-- and four
+pub answer-other_of_four : (command first second third fourth : List ℕ) → command ≢ codes "prove" → answer (command ∷ first ∷ second ∷ third ∷ fourth ∷ []) ≡ Err Command
+unfolding answer
+answer-other_of_four command first second third fourth a = rw (unequal command (codes "prove") a)
+
+-- another number of arguments
+pub answer-others : {X : Type 0} (f : X → List ℕ) (args : List X) → length args ≢ 4 → length args ≢ 5 → answer (map f args) ≡ Err Command
+unfolding answer
+answer-others f [] a b = refl
+answer-others f (x ∷ []) a b = refl
+answer-others f (x ∷ y ∷ []) a b = refl
+answer-others f (x ∷ y ∷ z ∷ []) a b = refl
+answer-others f (x ∷ y ∷ z ∷ w ∷ []) a b = absurd (a refl)
+answer-others f (x ∷ y ∷ z ∷ w ∷ v ∷ []) a b = absurd (b refl)
+answer-others f (x ∷ y ∷ z ∷ w ∷ v ∷ u ∷ more) a b = refl
 
 -- the heights after the first fall too
 falling-next : (a b : ℕ) (more : List ℕ) → IsStrictlyFalling (a ∷ b ∷ more) → IsStrictlyFalling (b ∷ more)

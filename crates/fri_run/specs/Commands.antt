@@ -1,50 +1,27 @@
 -- What each command prints, or the first fault of its arguments from the left.
-use Rattle.std.specs.Prelude.{◌≡◌, ◌≢◌, ℕ, ◌+◌, ◌^◌, ⊤, ◌==◌, List, [], ◌∷◌, ◌++◌}
-use Rattle.std.specs.Prelude.{length, map, find, replicate, Option, Some, None, Result, Ok, Err}
+use Rattle.std.specs.Prelude.{◌≡◌, ◌≢◌, ℕ, ⊤, ◌==◌, List, [], ◌∷◌, ◌++◌}
+use Rattle.std.specs.Prelude.{length, map, replicate, Result, Ok, Err}
 use Rattle.std.specs.Prelude.{Bool, true, false, not, ◌&&◌, nat_lt, if◌then◌else◌, codes}
 use Rattle.std.specs.Prelude.{string_bytes, String}
 use Rattle.std.specs.Global.{Global}
 use Rattle.std.specs.Str.{bytes_eq}
-use Rattle.algebra.specs.Field.{multiple}
-use Rattle.std.specs.List.{range_with_len}
 use Rattle.p3_field.specs.BabyBear.{baby_bear, root}
-use Rattle.p3_field.specs.baby_bear.BabyBear.{BabyBear}
 use Rattle.p3_fri_core.specs.Schedule.{schedule}
 use Rattle.p3_fri_core.specs.Folds.{folded_rounds}
 use Rattle.fri_run.specs.Texts.{parsed_number, parsed_list, line}
-use Rattle.fri_run.specs.declared.answer.Fault.{Fault}
-use Rattle.fri_run.specs.declared.answer.Fault.TheVariants.{Command, Number, Heights, Cap}
-use Rattle.fri_run.specs.declared.answer.Fault.TheVariants.{Length, BetaCount}
-use Rattle.fri_run.specs.declared.answer.Refusal.{Refusal}
-use Rattle.fri_run.specs.declared.answer.Refusal.TheVariants.{Faulty, OutOfMemory}
+use Rattle.fri_run.specs.Steps.{or_fault, unless, ◌>>=◌, exact_log2, elements, canonical_number}
+use Rattle.fri_run.specs.Steps.{greatest_element, greatest_log_height}
+use Rattle.fri_run.specs.Prove.{prove_answer}
+use Rattle.fri_run.specs.declared.fault.Fault.{Fault}
+use Rattle.fri_run.specs.declared.fault.Fault.TheVariants.{Command, Number, Heights, Cap}
+use Rattle.fri_run.specs.declared.fault.Fault.TheVariants.{Length, BetaCount, HeightTooSmall}
+use Rattle.fri_run.specs.declared.fault.Fault.TheVariants.{HeightOverflow, PointInDomain}
+use Rattle.fri_run.specs.declared.fault.Refusal.{Refusal}
+use Rattle.fri_run.specs.declared.fault.Refusal.TheVariants.{Faulty, OutOfMemory}
 
 -- the greatest height, final height and cap
 abbrev pub greatest_height : ℕ
 greatest_height = 63
-
--- the greatest canonical number of an element
-abbrev pub greatest_element : ℕ
-greatest_element = 2013265920
-
--- the greatest log height of a word
-abbrev pub greatest_log_height : ℕ
-greatest_log_height = 27
-
--- the value, or the fault where there is none
-abbrev pub or_fault : {A : Type 0} → Fault → Option A → Result A Fault
-or_fault fault (Some x) = Ok x
-or_fault fault None = Err fault
-
--- the fault, unless the test holds
-abbrev pub unless : Fault → Bool → Result (Unit {0}) Fault
-unless fault true = Ok tt
-unless fault false = Err fault
-
--- the first fault, or what the next step makes of the value
-infixl 10 ◌>>=◌
-abbrev pub ◌>>=◌ : {A B : Type 0} → Result A Fault → (A → Result B Fault) → Result B Fault
-Ok x >>= f = f x
-Err fault >>= f = Err fault
 
 -- whether each height is below the one before it
 abbrev pub is_strictly_falling : List ℕ → Bool
@@ -62,18 +39,6 @@ schedule_answer heights_text final_text cap_text = do
   cap ← or_fault Number (parsed_number greatest_height cap_text)
   positive ← unless Cap (not (cap == 0))
   Ok (line (schedule heights final cap))
-
--- the logarithm, up to `most`, of a power of two
-unfoldable pub exact_log2 : ℕ → ℕ → Option ℕ
-exact_log2 most count = find (λ k. 2 ^ k == count) (range_with_len 0 (most + 1))
-
--- the canonical number of an element: it is this multiple of one
-abbrev pub canonical_number : BabyBear → ℕ
-canonical_number x = x.value
-
--- the elements of these numbers
-abbrev pub elements : List ℕ → List BabyBear
-elements numbers = map (multiple baby_bear) numbers
 
 -- the log arities of a round by two for each of the challenges
 abbrev pub binary_rounds : {A : Type 0} → List A → List ℕ
@@ -100,6 +65,9 @@ unfoldable pub answer : List (List ℕ) → Result (List ℕ) Fault
 answer (command ∷ first ∷ second ∷ third ∷ []) =
     if bytes_eq command (codes "schedule") then schedule_answer first second third
     else (if bytes_eq command (codes "fold") then fold_answer first second third else Err Command)
+answer (command ∷ log_blowup ∷ log_final ∷ point ∷ column ∷ []) =
+    if bytes_eq command (codes "prove") then prove_answer log_blowup log_final point column
+    else Err Command
 answer arguments = Err Command
 
 -- what arguments in strings ask for
@@ -118,6 +86,16 @@ fault_line Heights = codes "fri_run: bad heights\n"
 fault_line Cap = codes "fri_run: bad cap\n"
 fault_line Length = codes "fri_run: bad length\n"
 fault_line BetaCount = codes "fri_run: bad number of betas\n"
+fault_line HeightTooSmall = codes "fri_run: refused: input height too small\n"
+fault_line HeightOverflow = codes "fri_run: refused: final height overflow\n"
+fault_line PointInDomain = codes "fri_run: refused: point in evaluation domain\n"
+
+-- the status at a fault: 1 where good arguments are refused
+abbrev pub fault_status : Fault → ℕ
+fault_status HeightTooSmall = 1
+fault_status HeightOverflow = 1
+fault_status PointInDomain = 1
+fault_status fault = 2
 
 -- what a run writes to its output
 abbrev pub standard_output : Result (List ℕ) Fault → List ℕ
@@ -132,7 +110,7 @@ standard_error (Err fault) = fault_line fault
 -- the status with which a run ends
 abbrev pub exit_status : Result (List ℕ) Fault → ℕ
 exit_status (Ok text) = 0
-exit_status (Err fault) = 2
+exit_status (Err fault) = fault_status fault
 
 -- by this status, memory wasn't wanting and no write failed
 abbrev pub Completes : ℕ → Type 0

@@ -1,70 +1,25 @@
 //! What the program's arguments ask for.
 
-ghost use Rattle.std.specs.Prelude.{◌≡◌, IsTrue, ◌<◌, map, string_bytes};
+ghost use Rattle.std.specs.Prelude.{◌≡◌, ◌≢◌, IsTrue, ◌<◌, [], ◌∷◌, map, length};
+ghost use Rattle.std.specs.Prelude.{string_bytes};
 ghost use Rattle.p3_fri_core.specs.Schedule.{IsStrictlyFalling};
 ghost use Rattle.fri_run.specs.Commands.{Answers, is_strictly_falling, answer, schedule_answer};
-ghost use Rattle.fri_run.specs.Commands.{fold_answer, exact_log2, fault_line};
-ghost use Rattle.fri_run.specs.declared.answer.Refusal.TheVariants.{OutOfMemory};
+ghost use Rattle.fri_run.specs.Commands.{fold_answer};
+ghost use Rattle.fri_run.specs.Steps.{exact_log2};
 
+use crate::fault::{Fault, Refusal};
 use crate::fold::folded_numbers;
+use crate::prove::prove_lines;
 use crate::text::{number, numbers, push_line};
 use p3_field::{BabyBear, TwoAdicField};
 use p3_fri_core::{fold_schedule, is_strictly_falling};
-use std::alloc::{AllocError, Global};
+use std::alloc::Global;
 
 /// The greatest height, final height and cap.
 const GREATEST_HEIGHT: usize = 63;
 
 /// The greatest canonical number of an element.
-const GREATEST_ELEMENT: usize = 2_013_265_920;
-
-/// What is wrong with the arguments.
-#[derive(Debug, Drop)]
-pub enum Fault {
-    /// No such command, or not its number of arguments.
-    Command,
-    /// A text that writes no number, or one out of range.
-    Number,
-    /// Heights that don't strictly fall.
-    Heights,
-    /// A cap of 0.
-    Cap,
-    /// A word whose length isn't a power of two up to `2^27`.
-    Length,
-    /// Not one challenge for each round.
-    BetaCount,
-}
-
-impl Fault {
-    /// The line that names the fault.
-    pub fn line(&self) -> &'static str
-        ensures { result.now ≡ fault_line self.now }
-    {
-        match self {
-            Fault::Command => "fri_run: bad command\n",
-            Fault::Number => "fri_run: bad number\n",
-            Fault::Heights => "fri_run: bad heights\n",
-            Fault::Cap => "fri_run: bad cap\n",
-            Fault::Length => "fri_run: bad length\n",
-            Fault::BetaCount => "fri_run: bad number of betas\n",
-        }
-    }
-}
-
-/// Why there is nothing to print.
-#[derive(Debug, Drop)]
-pub enum Refusal {
-    Faulty(Fault),
-    OutOfMemory,
-}
-
-impl From<AllocError> for Refusal {
-    ghost from_gives = { λ _ refusal. refusal ≡ OutOfMemory };
-
-    fn from(_: AllocError) -> Refusal {
-        Refusal::OutOfMemory
-    }
-}
+pub const GREATEST_ELEMENT: usize = 2_013_265_920;
 
 /// Whether each height is below the one before it.
 fn are_falling(heights: &[usize]) -> bool
@@ -106,7 +61,7 @@ fn schedule_line(
 }
 
 /// The logarithm, up to `most`, of a power of two.
-fn exact_log2(count: usize, most: usize) -> Option<usize>
+pub fn exact_log2(count: usize, most: usize) -> Option<usize>
     requires { most < 64 }
     ensures { result ≡ exact_log2 most count }
 {
@@ -146,18 +101,74 @@ fn fold_lines(alloc: Global, final_height: &str, betas: &str, word: &str) -> Res
     Ok(lines)
 }
 
-/// What the arguments ask for.
+/// What a command of three arguments asks for.
 #[tactic(auto, unfolding(crate::specs::Commands::answer))]
-pub fn answer(alloc: Global, args: &[String]) -> Result<String, Refusal>
-    ensures { Answers result (answer (map string_bytes args.now)) }
+fn answer_of_three(
+    alloc: Global,
+    command: &str,
+    first: &str,
+    second: &str,
+    third: &str,
+) -> Result<String, Refusal>
+    ensures { Answers result
+        (answer (command.now ∷ first.now ∷ second.now ∷ third.now ∷ [])) }
 {
-    let [command, first, second, third] = args else {
-        return Err(Refusal::Faulty(Fault::Command));
-    };
-    let (first, second, third) = (first.as_str(), second.as_str(), third.as_str());
-    match command.as_str() {
+    match command {
         "schedule" => schedule_line(alloc, first, second, third),
         "fold" => fold_lines(alloc, first, second, third),
         _ => Err(Refusal::Faulty(Fault::Command)),
     }
+}
+
+/// What a command of four arguments asks for.
+#[tactic(auto, unfolding(crate::specs::Commands::answer))]
+fn answer_of_four(
+    alloc: Global,
+    command: &str,
+    first: &str,
+    second: &str,
+    third: &str,
+    fourth: &str,
+) -> Result<String, Refusal>
+    ensures { Answers result
+        (answer (command.now ∷ first.now ∷ second.now ∷ third.now ∷ fourth.now ∷ [])) }
+{
+    match command {
+        "prove" => prove_lines(alloc, first, second, third, fourth),
+        _ => Err(Refusal::Faulty(Fault::Command)),
+    }
+}
+
+/// What arguments ask for that aren't four.
+fn answer_of_others(alloc: Global, args: &[String]) -> Result<String, Refusal>
+    requires others { length args.now ≢ 4 }
+    ensures { Answers result (answer (map string_bytes args.now)) }
+{
+    let [command, first, second, third, fourth] = args else {
+        return Err(Refusal::Faulty(Fault::Command));
+    };
+    answer_of_four(
+        alloc,
+        command.as_str(),
+        first.as_str(),
+        second.as_str(),
+        third.as_str(),
+        fourth.as_str(),
+    )
+}
+
+/// What the arguments ask for.
+pub fn answer(alloc: Global, args: &[String]) -> Result<String, Refusal>
+    ensures { Answers result (answer (map string_bytes args.now)) }
+{
+    let [command, first, second, third] = args else {
+        return answer_of_others(alloc, args);
+    };
+    answer_of_three(
+        alloc,
+        command.as_str(),
+        first.as_str(),
+        second.as_str(),
+        third.as_str(),
+    )
 }

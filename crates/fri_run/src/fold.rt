@@ -4,7 +4,8 @@ ghost use Rattle.std.specs.Prelude.{◌≡◌, ◌+◌, ◌-◌, ◌^◌, ◌<�
 ghost use Rattle.algebra.specs.Field.{multiple};
 ghost use Rattle.p3_field.specs.BabyBear.{baby_bear, root};
 ghost use Rattle.p3_fri_core.specs.Folds.{folded_word, folded_rounds};
-ghost use Rattle.fri_run.specs.Commands.{canonical_number, binary_rounds, folded_numbers};
+ghost use Rattle.fri_run.specs.Commands.{binary_rounds, folded_numbers};
+ghost use Rattle.fri_run.specs.Steps.{canonical_number};
 
 use p3_field::{BabyBear, Field, PrimeField64};
 use p3_fri_core::{FriFoldingStrategy, TwoAdicFriFolding};
@@ -12,7 +13,7 @@ use std::alloc::{AllocError, Global};
 use std::marker::PhantomData;
 
 /// The elements of these numbers.
-fn elements(alloc: Global, numbers: &[usize]) -> Result<Vec<BabyBear>, AllocError>
+pub fn elements(alloc: Global, numbers: &[usize]) -> Result<Vec<BabyBear>, AllocError>
     ensures { IfOk result (λ v. v.items ≡ map (multiple baby_bear) numbers.now) }
 {
     numbers

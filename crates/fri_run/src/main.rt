@@ -1,8 +1,12 @@
-//! Folds words of field elements, as the FRI low-degree test does, from the command line.
+//! Folds words of field elements, as the FRI low-degree test does, and opens committed columns,
+//! from the command line.
 #![tactic(auto)]
 
 mod answer;
+mod fault;
 mod fold;
+mod opening;
+mod prove;
 mod text;
 
 ghost use Rattle.std.specs.Prelude.{◌≡◌, ◌≢◌, ◌⊎◌};
@@ -10,14 +14,12 @@ ghost use Rattle.std.specs.Io.KnownBytes.{Appends, Keeps};
 ghost use Rattle.fri_run.specs.Commands.{answer_of, exit_status, standard_output, standard_error};
 ghost use Rattle.fri_run.specs.Commands.{out_of_memory_line, Completes};
 
-use answer::{Refusal, answer};
+use answer::answer;
+use fault::Refusal;
 use std::alloc::Global;
 use std::io::{ErrorKind, Write};
 use std::process::ExitCode;
 use std::{env, io};
-
-/// The status where the arguments have a fault.
-const BAD_ARGUMENTS: u8 = 2;
 
 /// The status where memory is wanting.
 const OUT_OF_MEMORY: u8 = 3;
@@ -39,10 +41,10 @@ fn report<W: Write>(to: &mut W, text: &str, status: u8) -> u8
     status
 }
 
-/// Writes what the arguments ask for to `out`, or the line of their first fault to `err`, and
-/// gives the exit status: 0 on success, 2 at a fault, 3 where memory is wanting, which is a line
-/// on `err` too, and 4 where a write failed, after which nothing more is written. `args` leaves
-/// out the program's name.
+/// Writes what the arguments ask for to `out`, or the line of their first fault to `err`, and gives
+/// the exit status: 0 on success, 1 where the opening is refused, 2 at a fault, 3 where memory is
+/// wanting, which is a line on `err` too, and 4 where a write failed, after which nothing more is
+/// written. `args` leaves out the program's name.
 pub fn run<W: Write, E: Write>(alloc: Global, args: &[String], out: &mut W, err: &mut E) -> u8
     ensures status { Completes result → result ≡ exit_status (answer_of args.now) }
     ensures output { Completes result
@@ -60,7 +62,7 @@ pub fn run<W: Write, E: Write>(alloc: Global, args: &[String], out: &mut W, err:
 {
     match answer(alloc, args) {
         Ok(text) => report(out, text.as_str(), 0),
-        Err(Refusal::Faulty(fault)) => report(err, fault.line(), BAD_ARGUMENTS),
+        Err(Refusal::Faulty(fault)) => report(err, fault.line(), fault.status()),
         Err(Refusal::OutOfMemory) => report(err, OUT_OF_MEMORY_LINE, OUT_OF_MEMORY),
     }
 }

@@ -45,14 +45,73 @@ const FOLDS: [Row; 11] = [
     ("fold 0 2013265921 1,1", "", "fri_run: bad number\n", 2),
 ];
 
+const OPENINGS: [Row; 16] = [
+    (
+        "prove 1 0 5 1,3",
+        "2013265918\naccepted\nstates equal\n",
+        "",
+        0,
+    ),
+    ("prove 1 0 2 9", "9\naccepted\nstates equal\n", "", 0),
+    ("prove 1 0 0 9", "9\naccepted\nstates equal\n", "", 0),
+    (
+        "prove 1 0 5 1,2013265920,1,2013265920",
+        "25\naccepted\nstates equal\n",
+        "",
+        0,
+    ),
+    ("prove 1 1 2 1,1,1,1", "1\naccepted\nstates equal\n", "", 0),
+    (
+        "prove 1 0 31 1,3",
+        "",
+        "fri_run: refused: point in evaluation domain\n",
+        1,
+    ),
+    (
+        "prove 1 1 2 1,1",
+        "",
+        "fri_run: refused: input height too small\n",
+        1,
+    ),
+    (
+        "prove 1 63 5 1,3",
+        "",
+        "fri_run: refused: input height too small\n",
+        1,
+    ),
+    (
+        "prove 1 1 31 1,3",
+        "",
+        "fri_run: refused: input height too small\n",
+        1,
+    ),
+    (
+        "prove 1 18446744073709551615 5 1,3",
+        "",
+        "fri_run: refused: final height overflow\n",
+        1,
+    ),
+    ("prove 28 0 5 1,3", "", "fri_run: bad number\n", 2),
+    ("prove 0 0 5 1,3", "", "fri_run: bad number\n", 2),
+    (
+        "prove 1 18446744073709551616 5 1,3",
+        "",
+        "fri_run: bad number\n",
+        2,
+    ),
+    ("prove 1 0 5 1,2,3", "", "fri_run: bad length\n", 2),
+    ("prove 27 0 5 1,3", "", "fri_run: bad length\n", 2),
+    ("prove 1 0 5 -", "", "fri_run: bad length\n", 2),
+];
+
 /// Commands, numbers, and which of two faults comes first.
 const FAULTS: [Row; 17] = [
     ("", "", "fri_run: bad command\n", 2),
     ("schedule 10 2", "", "fri_run: bad command\n", 2),
     ("schedule 10 2 3 4", "", "fri_run: bad command\n", 2),
     ("fold 0 3", "", "fri_run: bad command\n", 2),
-    ("prove 1 0 5 1,3", "", "fri_run: bad command\n", 2),
     ("prove 1 0 5", "", "fri_run: bad command\n", 2),
+    ("prove 1 0 5 1,3 9", "", "fri_run: bad command\n", 2),
     ("schedule 64 2 3", "", "fri_run: bad number\n", 2),
     ("schedule 10 64 3", "", "fri_run: bad number\n", 2),
     ("schedule 10 2 64", "", "fri_run: bad number\n", 2),
@@ -100,6 +159,11 @@ fn schedules(rt: HostRuntime) -> io::Result<()> {
 #[test]
 fn folds(rt: HostRuntime) -> io::Result<()> {
     check(&rt, &FOLDS)
+}
+
+#[test]
+fn openings(rt: HostRuntime) -> io::Result<()> {
+    check(&rt, &OPENINGS)
 }
 
 #[test]

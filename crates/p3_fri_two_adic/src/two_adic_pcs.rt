@@ -172,7 +172,12 @@ impl<
 
     ghost out_of_memory = { OutOfMemory };
 
-    fn natural_domain_for_degree(&self, degree: usize) -> TwoAdicMultiplicativeCoset<F> {
+    /// Beside what the trait says, the domain is the subgroup itself.
+    fn natural_domain_for_degree(&self, degree: usize) -> TwoAdicMultiplicativeCoset<F>
+        requires degree { IsSubgroupSize F.TWO_ADICITY degree }
+        ensures size { 2 ^ result.log_size ≡ degree }
+        ensures shift { result.shift ≡ F.ONE }
+    {
         TwoAdicMultiplicativeCoset {
             shift: F::ONE,
             log_size: log2_strict_usize(degree),

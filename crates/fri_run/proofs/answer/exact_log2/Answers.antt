@@ -1,6 +1,6 @@
 use Rattle.std.proofs.Common.{arith, ◌≡◌, ◌+◌, ◌-◌, ◌∙◌}
 use Rattle.std.proofs.lemmas.Nat.{one_shl}
-use Rattle.fri_run.specs.Commands.{exact_log2}
+use Rattle.fri_run.specs.Steps.{exact_log2}
 use Rattle.fri_run.proofs.CommandLemmas.{exact_log2-next}
 use Rattle.fri_run.proofs.answer.exact_log2.Goals as goal
 

@@ -1,7 +1,7 @@
 use Rattle.std.proofs.Common.{◌≡◌, ◌==◌, ◌^◌, ◌+◌, ◌-◌}
 use Rattle.std.specs.Prelude.{find}
 use Rattle.std.specs.List.{range_with_len}
-use Rattle.fri_run.specs.Commands.{exact_log2}
+use Rattle.fri_run.specs.Steps.{exact_log2}
 use Rattle.fri_run.proofs.answer.exact_log2.Given as goal
 
 abbrev pub invariant-loop-log : goal.invariant-loop-log

@@ -2,7 +2,8 @@ use Rattle.std.proofs.Common.{arith, ◌≡◌, ◌∙◌, sym, ap, length, Some
 use Rattle.std.specs.Prelude.{string_bytes}
 use Rattle.p3_fri_core.specs.Schedule.{schedule}
 use Rattle.fri_run.specs.Texts.{parsed_number, parsed_list, line}
-use Rattle.fri_run.specs.Commands.{greatest_height, greatest_element, greatest_log_height, exact_log2}
+use Rattle.fri_run.specs.Commands.{greatest_height}
+use Rattle.fri_run.specs.Steps.{greatest_element, greatest_log_height, exact_log2}
 use Rattle.fri_run.proofs.Words.{length-schedule_ones}
 use Rattle.fri_run.proofs.CommandLemmas.{exact_log2-some, fold_answer-ok}
 use Rattle.fri_run.proofs.answer.fold_lines.Goals as goal
