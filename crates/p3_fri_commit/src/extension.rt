@@ -31,6 +31,26 @@ pub fn extend<F: TwoAdicField, Dft: TwoAdicSubgroupDft<F>>(
     Ok(extended.bit_reverse_rows())
 }
 
+/// The extensions of these matrices, each from the domain beside it.
+pub fn extend_each<F: TwoAdicField, Dft: TwoAdicSubgroupDft<F>>(
+    dft: &Dft,
+    alloc: Global,
+    log_blowup: usize,
+    evaluations: Vec<(TwoAdicMultiplicativeCoset<F>, RowMajorMatrix<F>)>,
+) -> Result<Vec<RowMajorMatrix<F>>, AllocError>
+    requires fits { All (λ e. FitsDomain F.TWO_ADICITY log_blowup e.0.log_size e.1)
+        evaluations.items }
+    ensures words { IfOk result (λ words. AllZip (λ matrix e. IsLowDegreeExtension F.ops F.root
+        F.GENERATOR log_blowup e.0.shift e.0.log_size e.1 matrix)
+        words.items evaluations.items) }
+{
+    let mut words = Vec::with_capacity(alloc, evaluations.len())?;
+    for (domain, values) in evaluations {
+        words.push(extend(dft, alloc, log_blowup, domain, values)?)?;
+    }
+    Ok(words)
+}
+
 /// Commits to the extensions of these matrices, each from the domain beside it.
 pub fn commit_evaluations<F: TwoAdicField, Dft: TwoAdicSubgroupDft<F>, M: Mmcs<F>>(
     dft: &Dft,
@@ -46,9 +66,6 @@ pub fn commit_evaluations<F: TwoAdicField, Dft: TwoAdicSubgroupDft<F>, M: Mmcs<F
         (M.committed pair.1) evaluations.items) }
     ensures commitment { IfOk result (λ pair. M.commitment_of pair.1 ≡ pair.0) }
 {
-    let mut words = Vec::with_capacity(alloc, evaluations.len())?;
-    for (domain, values) in evaluations {
-        words.push(extend(dft, alloc, log_blowup, domain, values)?)?;
-    }
+    let words = extend_each(dft, alloc, log_blowup, evaluations)?;
     mmcs.commit(alloc, words)
 }

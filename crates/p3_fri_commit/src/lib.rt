@@ -4,4 +4,4 @@
 
 pub mod extension;
 
-pub use crate::extension::{commit_evaluations, extend};
+pub use crate::extension::{commit_evaluations, extend, extend_each};

@@ -1,7 +1,7 @@
 use Rattle.std.proofs.Common.{◌≡◌, ◌++◌, length}
 use Rattle.std.specs.List.{AllZip}
 use Rattle.p3_fri_commit.specs.Extension.{IsLowDegreeExtension}
-use Rattle.p3_fri_commit.proofs.extension.commit_evaluations.Given as goal
+use Rattle.p3_fri_commit.proofs.extension.extend_each.Given as goal
 
 abbrev pub invariant-loop-domain : goal.invariant-loop-domain
 invariant-loop-domain g l = record {

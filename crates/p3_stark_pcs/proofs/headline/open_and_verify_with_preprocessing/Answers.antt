@@ -1,0 +1,46 @@
+use Rattle.std.proofs.Common.{map, refl, inl, inr}
+use Rattle.p3_pcs.specs.Claims.{claim}
+use Rattle.p3_pcs.proofs.Honest.{claims_honest}
+use Rattle.p3_stark_pcs.proofs.headline.open_and_verify_with_preprocessing.Goals as goal
+
+pub returns-in-Ok-verified : goal.returns-in-Ok-verified
+returns-in-Ok-verified g c =
+    let values = c.in-Ok-opened.ensures.values c.requires.honest in
+    let is = claims_honest g.P.Pcs.commitment_of (g.P.Pcs.held c.args.scheme.now) g.P.Pcs.spent
+    c.args.known.now c.args.requests.now _ _ _ c.requires.commitments
+    (c.in-Ok-opened.ensures.spent (c.in-Ok-opened.ensures.checked refl)) values
+    (rw c.as_slice.ensures.value at c.in-Ok-claims_of.ensures) in
+    let left = c.in-Ok-opened.ensures.state c.requires.honest _ c.requires.domains in
+    let ends = c.in-Ok-verified.ensures.state refl in
+    let same = c.requires.copies _ _ c.in-Ok.ensures.cases in
+    let accepted = c.in-Ok-opened.ensures.accepted c.requires.honest _ c.requires.domains in
+    record {
+      headline = record {
+        values_honest = values;
+        accepted = accepted;
+        prover_state = left;
+        verifier_state = cc;
+      };
+    }
+
+pub returns-in-Err-verified : goal.returns-in-Err-verified
+returns-in-Err-verified g c =
+    let values = c.in-Ok-opened.ensures.values c.requires.honest in
+    let is = claims_honest g.P.Pcs.commitment_of (g.P.Pcs.held c.args.scheme.now) g.P.Pcs.spent
+    c.args.known.now c.args.requests.now _ _ _ c.requires.commitments
+    (c.in-Ok-opened.ensures.spent (c.in-Ok-opened.ensures.checked refl)) values
+    (rw c.as_slice.ensures.value at c.in-Ok-claims_of.ensures) in
+    let same = c.requires.copies _ _ c.in-Ok.ensures.cases in
+    let holds = c.in-Ok-opened.ensures.accepted c.requires.honest _ c.requires.domains in
+    let holds' : g.P.UnivariateStarkPcs.AcceptsAt c.args.scheme.now c.args.preprocessing
+    c.in-Ok.copy (map claim c.in-Ok-claims_of.claims.items) c.in-Ok-opened.opening.1 =
+    rw (same, is) holds in
+    record {
+      headline = elim (g.met.P.Pcs.memory_law c.in-Err-verified.error) [
+        | inl e ↦ e
+        | inr n ↦
+            let exact = c.in-Err-verified.ensures.exactly (λ r. n (cc)) in
+            let no = exact.1 holds' in
+            cc
+      ];
+    }

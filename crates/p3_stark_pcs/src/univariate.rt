@@ -1,0 +1,250 @@
+//! The trait of schemes that a STARK prover uses.
+
+ghost use Rattle.std.specs.Prelude.{◌≡◌, ◌≢◌, ◌↔◌, ◌<◌, ℕ, Bool, false, List, Option, map, length};
+ghost use Rattle.std.specs.Prelude.{IsOk, IfOk, IfErr, IfSome, Err};
+ghost use Rattle.std.specs.List.{AllZip};
+ghost use Rattle.p3_matrix.specs.declared.dense.RowMajorMatrix.{RowMajorMatrix};
+ghost use Rattle.p3_pcs.specs.Claims.{Claim, claim, opened_values};
+ghost use Rattle.p3_pcs.specs.Requests.{Held, Request, request, with_data, AreOpenable, AreHonest};
+ghost use Rattle.p3_pcs.specs.Requests.{honest_values, honest_claims, FitDomains};
+ghost use Rattle.p3_stark_pcs.specs.Heights.{IsTraceHeight};
+ghost use Rattle.p3_stark_pcs.specs.Preprocessing.{AreOpenableAt, AreKept};
+ghost use Rattle.p3_stark_pcs.specs.Evaluations.{HoldsValues, held_at};
+
+use p3_commit::{CommitmentOpening, OpenedValues};
+use p3_matrix::RowMajorMatrix;
+use p3_pcs::{OpeningRequest, Pcs};
+use std::alloc::Global;
+
+/// A scheme of polynomials in one variable, as a STARK prover uses it: beside its trace it commits
+/// to preprocessed columns, to quotients that it extends itself, and reads committed columns on
+/// other domains.
+///
+/// One round of an opening may be named as preprocessing. A scheme that hides opens it without
+/// masks; to one that doesn't the name says nothing, which the laws state.
+pub trait UnivariateStarkPcs<EF: Copy, C>: Pcs<EF, C> {
+    /// Whether an opening hides all but the opened values.
+    const ZK: bool;
+
+    ghost ZK: { Bool };
+
+    ghost least_log_height: { Self → ℕ };
+
+    ghost greatest_log_height: { Self → ℕ };
+
+    ghost embed: { Self.Val → EF };
+
+    ghost point: { Self.Domain → ℕ → EF };
+
+    ghost matrices_of: { Self.ProverData → List (RowMajorMatrix Self.Val) };
+
+    ghost CanOpenPreprocessed: { Self → Self.ProverData → Type 0 };
+
+    ghost CanOpenAt: { Self → Option ℕ → List (Request Self.ProverData EF) → Type 0 };
+
+    ghost PassesChecksAt: { Self → Option ℕ → List (Request Self.ProverData EF) → Type 0 };
+
+    ghost RefusesAt: { Self → Option ℕ → C → List (Request Self.ProverData EF)
+        → Self.ProverError → Type 0 };
+
+    ghost AcceptsAt: { Self → Option ℕ → C → List (Claim EF Self.Commitment Self.Domain)
+        → Self.Proof → Type 0 };
+
+    ghost last_state_at: { Self → Option ℕ → C → List (Claim EF Self.Commitment Self.Domain)
+        → Self.Proof → C };
+
+    ghost FaultsAt: { Self → Option ℕ → List (Claim EF Self.Commitment Self.Domain)
+        → Self.Proof → C → Self.Error → Type 0 };
+
+    ghost PreprocessingRefuses: { Self → List (Self.Domain × RowMajorMatrix Self.Val)
+        → Self.ProverError → Type 0 };
+
+    ghost CanCommitLdes: { Self → List (RowMajorMatrix Self.Val) → Type 0 };
+
+    ghost AreLdes: { Self → List (RowMajorMatrix Self.Val) → Type 0 };
+
+    ghost LdesRefuse: { Self → List (RowMajorMatrix Self.Val) → Self.ProverError → Type 0 };
+
+    ghost CanExtend: { Self → List (Self.Domain × RowMajorMatrix Self.Val) → ℕ → Type 0 };
+
+    ghost ExtendQuotients: { Self → List (Self.Domain × RowMajorMatrix Self.Val)
+        → List (RowMajorMatrix Self.Val) → Type 0 };
+
+    ghost QuotientsRefuse: { Self → List (Self.Domain × RowMajorMatrix Self.Val)
+        → Self.ProverError → Type 0 };
+
+    ghost CanRandomize: { Self → List Self.Domain → Type 0 };
+
+    ghost RandomizationRefuses: { Self → List Self.Domain → Self.ProverError → Type 0 };
+
+    /// The logarithm of the greatest height of a trace.
+    fn log_max_trace_height(&self) -> usize
+        ensures { result ≡ greatest_log_height self.now };
+
+    /// The logarithm of the least height of a trace.
+    fn log_min_trace_height(&self) -> usize
+        ensures { result ≡ least_log_height self.now };
+
+    /// Commits to columns that are the same in every run, as `commit` does.
+    fn commit_preprocessing(
+        &mut self,
+        alloc: Global,
+        evaluations: Vec<(Self::Domain, RowMajorMatrix<Self::Val>)>,
+    ) -> Result<(Self::Commitment, Self::ProverData), Self::ProverError>
+        requires range { Self.InProverRange self.old }
+        requires evaluations { Self.CanCommit self.old evaluations.items }
+        ensures range { Self.InProverRange self.new }
+        ensures verifier_range { Self.InVerifierRange self.old → Self.InVerifierRange self.new }
+        ensures kept { AreKept (Self.held self.old) (Self.held self.new)
+            (Self.CanOpen self.old) (Self.CanOpen self.new)
+            (CanOpenPreprocessed self.old) (CanOpenPreprocessed self.new)
+            (Self.IsHonest self.old) (Self.IsHonest self.new) }
+        ensures unchanged { ZK ≡ false → self.new ≡ self.old }
+        ensures commitment { IfOk result (λ pair. Self.commitment_of pair.1 ≡ pair.0) }
+        ensures openable { IfOk result (λ pair. CanOpenPreprocessed self.new pair.1) }
+        ensures honest { IfOk result (λ pair. Self.IsHonest self.new pair.1) }
+        ensures extends { IfOk result (λ pair.
+            AllZip (Self.Extends self.new) (Self.held self.new pair.1) evaluations.items) }
+        ensures refused { IfErr result (PreprocessingRefuses self.old evaluations.items) };
+
+    /// The words that are committed to for these chunks of a quotient, each of the values of its
+    /// columns on the domain beside it. There are as many as `num_chunks` says.
+    fn get_quotient_ldes(
+        &mut self,
+        alloc: Global,
+        evaluations: Vec<(Self::Domain, RowMajorMatrix<Self::Val>)>,
+        num_chunks: usize,
+    ) -> Result<Vec<RowMajorMatrix<Self::Val>>, Self::ProverError>
+        requires range { Self.InProverRange self.old }
+        requires evaluations { CanExtend self.old evaluations.items num_chunks }
+        ensures range { Self.InProverRange self.new }
+        ensures verifier_range { Self.InVerifierRange self.old → Self.InVerifierRange self.new }
+        ensures kept { AreKept (Self.held self.old) (Self.held self.new)
+            (Self.CanOpen self.old) (Self.CanOpen self.new)
+            (CanOpenPreprocessed self.old) (CanOpenPreprocessed self.new)
+            (Self.IsHonest self.old) (Self.IsHonest self.new) }
+        ensures unchanged { ZK ≡ false → self.new ≡ self.old }
+        ensures words { IfOk result (λ ldes.
+            ExtendQuotients self.new evaluations.items ldes.items) }
+        ensures committable { IfOk result (λ ldes. CanCommitLdes self.new ldes.items) }
+        ensures low_degree { IfOk result (λ ldes. AreLdes self.new ldes.items) }
+        ensures refused { IfErr result (QuotientsRefuse self.old evaluations.items) };
+
+    /// Commits to words that were extended before. The data holds these matrices, and what was
+    /// committed to where they are words of low degree.
+    fn commit_ldes(
+        &self,
+        alloc: Global,
+        ldes: Vec<RowMajorMatrix<Self::Val>>,
+    ) -> Result<(Self::Commitment, Self::ProverData), Self::ProverError>
+        requires range { Self.InProverRange self.now }
+        requires ldes { CanCommitLdes self.now ldes.items }
+        ensures matrices { IfOk result (λ pair. matrices_of pair.1 ≡ ldes.items) }
+        ensures commitment { IfOk result (λ pair. Self.commitment_of pair.1 ≡ pair.0) }
+        ensures openable { IfOk result (λ pair. Self.CanOpen self.now pair.1) }
+        ensures honest { AreLdes self.now ldes.items
+            → IfOk result (λ pair. Self.IsHonest self.now pair.1) }
+        ensures refused { IfErr result (LdesRefuse self.now ldes.items) };
+
+    /// A commitment to random polynomials, one for each domain, where the scheme needs such. One
+    /// that doesn't hide has none.
+    fn get_opt_randomization_poly_commitment(
+        &mut self,
+        alloc: Global,
+        domains: Vec<Self::Domain>,
+    ) -> Result<Option<(Self::Commitment, Self::ProverData)>, Self::ProverError>
+        requires range { Self.InProverRange self.old }
+        requires domains { CanRandomize self.old domains.items }
+        ensures range { Self.InProverRange self.new }
+        ensures verifier_range { Self.InVerifierRange self.old → Self.InVerifierRange self.new }
+        ensures kept { AreKept (Self.held self.old) (Self.held self.new)
+            (Self.CanOpen self.old) (Self.CanOpen self.new)
+            (CanOpenPreprocessed self.old) (CanOpenPreprocessed self.new)
+            (Self.IsHonest self.old) (Self.IsHonest self.new) }
+        ensures unchanged { ZK ≡ false → self.new ≡ self.old }
+        ensures none { ZK ≡ false → IfOk result (λ found. found ≡ None) }
+        ensures commitment { IfOk result (λ found.
+            IfSome found (λ pair. Self.commitment_of pair.1 ≡ pair.0)) }
+        ensures openable { IfOk result (λ found.
+            IfSome found (λ pair. Self.CanOpen self.new pair.1)) }
+        ensures honest { IfOk result (λ found.
+            IfSome found (λ pair. Self.IsHonest self.new pair.1)) }
+        ensures refused { IfErr result (RandomizationRefuses self.old domains.items) }
+    {
+        Ok(None)
+    }
+
+    /// As `open`, where the index names the request of preprocessed columns, if there is one.
+    fn open_with_preprocessing(
+        &self,
+        alloc: Global,
+        requests: &mut [OpeningRequest<'_, Self::ProverData, EF>],
+        challenger: &mut C,
+        preprocessing: Option<usize>,
+    ) -> Result<(OpenedValues<EF>, Self::Proof), Self::ProverError>
+        requires range { Self.InProverRange self.now }
+        requires shape { CanOpenAt self.now preprocessing (map request requests.old) }
+        ensures values { AreHonest (Self.IsHonest self.now) (map request requests.old)
+            → IfOk result (λ opening. opened_values opening.0.items
+            ≡ map (honest_values (Self.held self.now)) (map request requests.old)) }
+        ensures accepted { AreHonest (Self.IsHonest self.now) (map request requests.old)
+            → IfOk result (λ opening. (domains : List (List Self.Domain))
+            → FitDomains (Self.held self.now) Self.domain_size domains (map request requests.old)
+            → AcceptsAt self.now preprocessing challenger.old (honest_claims
+            (Self.held self.now) Self.commitment_of domains (map request requests.old))
+            opening.1) }
+        ensures state { AreHonest (Self.IsHonest self.now) (map request requests.old)
+            → IfOk result (λ opening. (domains : List (List Self.Domain))
+            → FitDomains (Self.held self.now) Self.domain_size domains (map request requests.old)
+            → challenger.new ≡ last_state_at self.now preprocessing challenger.old (honest_claims
+            (Self.held self.now) Self.commitment_of domains (map request requests.old))
+            opening.1) }
+        ensures checked { IsOk result
+            → PassesChecksAt self.now preprocessing (map request requests.old) }
+        ensures spent { PassesChecksAt self.now preprocessing (map request requests.old)
+            → requests.new ≡ map (with_data Self.spent) requests.old }
+        ensures unspent { ¬ PassesChecksAt self.now preprocessing (map request requests.old)
+            → requests.new ≡ requests.old }
+        ensures refused { IfErr result (RefusesAt self.now preprocessing challenger.old
+            (map request requests.old)) }
+        ensures unmoved { IfErr result (λ e. Self.LeavesState e
+            → challenger.new ≡ challenger.old) };
+
+    /// As `verify`, where the index names the claims of preprocessed columns, if there are such.
+    fn verify_with_preprocessing(
+        &self,
+        alloc: Global,
+        claims: Vec<CommitmentOpening<EF, Self::Commitment, Self::Domain>>,
+        proof: &Self::Proof,
+        challenger: &mut C,
+        preprocessing: Option<usize>,
+    ) -> Result<(), Self::Error>
+        requires range { Self.InVerifierRange self.now }
+        ensures exactly { result ≢ Err Self.out_of_memory → (IsOk result ↔ AcceptsAt self.now
+            preprocessing challenger.old (map claim claims.items) proof.now) }
+        ensures state { IsOk result → challenger.new ≡ last_state_at self.now preprocessing
+            challenger.old (map claim claims.items) proof.now }
+        ensures stands { IfErr result (FaultsAt self.now preprocessing (map claim claims.items)
+            proof.now challenger.old) }
+        ensures unmoved { IfErr result (λ e. Self.LeavesVerifier e
+            → challenger.new ≡ challenger.old) };
+
+    ghost heights_law: { (s : Self) (n : ℕ) → Self.IsDegree s n
+        ↔ IsTraceHeight (least_log_height s) (greatest_log_height s) n };
+
+    ghost openable_law: { (s : Self) (index : Option ℕ)
+        (requests : List (Request Self.ProverData EF))
+        → AreOpenableAt (Self.CanOpen s) (CanOpenPreprocessed s) (Self.held s) index requests
+        → CanOpenAt s index requests };
+
+    ghost plain_data_law: { ZK ≡ false → (s : Self) (d : Self.ProverData)
+        → CanOpenPreprocessed s d ↔ Self.CanOpen s d };
+
+    ghost plain_accepts_law: { ZK ≡ false → (s : Self) (index : Option ℕ) (c : C)
+        (claims : List (Claim EF Self.Commitment Self.Domain)) (proof : Self.Proof)
+        → AcceptsAt s index c claims proof ↔ Self.Accepts s c claims proof };
+
+    ghost plain_state_law: { ZK ≡ false → (s : Self) (index : Option ℕ) (c : C)
+        (claims : List (Claim EF Self.Commitment Self.Domain)) (proof : Self.Proof)
+        → last_state_at s index c claims proof ≡ Self.last_state s c claims proof };
+}
