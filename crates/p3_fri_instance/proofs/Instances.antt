@@ -16,9 +16,11 @@ use Rattle.p3_fri_relation.specs.Heights.{heights_below}
 use Rattle.p3_fri_relation.specs.Acceptance.{IsInRange, top_height, log_arities}
 use Rattle.p3_fri_relation.specs.Faults.{InstanceFault}
 use Rattle.p3_fri_instance.specs.Claimed.{ArePositive, ParameterFault, AreHeightsInRange, HeightFault}
-use Rattle.p3_fri_instance.proofs.Heights.{greatest_height-bounds, has_height-greatest, some_has_height}
-use Rattle.p3_fri_instance.proofs.Heights.{heights_below-fall, strictly_falling, heights_of-first}
-use Rattle.p3_fri_instance.proofs.Heights.{heights_of-tallest, all_from_heights, all_to_heights}
+use Rattle.p3_fri_relation.proofs.ClaimedHeights.{greatest_height-bounds, has_height-greatest}
+use Rattle.p3_fri_relation.proofs.ClaimedHeights.{some_has_height, heights_below-fall}
+use Rattle.p3_fri_relation.proofs.ClaimedHeights.{strictly_falling, heights_of-first}
+use Rattle.p3_fri_relation.proofs.ClaimedHeights.{heights_of-tallest}
+use Rattle.p3_fri_instance.proofs.Heights.{all_from_heights, all_to_heights}
 use Rattle.p3_fri_instance.proofs.LowHeights.{unconsumed, no_rounds}
 
 none_without_matrices : {E : Type 0} (b : ℕ) (ms : List (MatrixClaim E)) → ms ≡ [] → heights_of b ms ≡ []
