@@ -25,6 +25,7 @@ use Rattle.p3_fri_openings.proofs.Committed.{committed_is}
 use Rattle.p3_fri_openings.proofs.Log2.{log2-pow, pow-divided}
 use Rattle.p3_fri_completeness.specs.Requests.{held_in, HoldsWords}
 use Rattle.p3_fri_two_adic.specs.Held.{Extends}
+use Rattle.p3_fri_two_adic.specs.Ldes.{HasLdeHeight}
 
 module _ {F E : Type 0} (f : Fields F E) (L : IsField f.base)
     (W : AreRoots f.base f.two_adicity f.root)
@@ -56,6 +57,9 @@ module _ {F E : Type 0} (f : Fields F E) (L : IsField f.base)
       within = subst (λ n. n ≤ f.two_adicity) (sym (ap log2 extended.height
           ∙ log2-pow (k + b))) fits.within;
     }
+
+    pub has_lde_height : HasLdeHeight f.two_adicity b matrix
+    has_lde_height = record { log_size = k; height = extended.height; within = fits.within }
 
     word_of : (j : ℕ) → j < matrix_width matrix
         → IsCosetWord f.base f.root f.shift (k + b) (2 ^ k) (column f.base matrix j)
@@ -116,6 +120,13 @@ module _ {F E Domain : Type 0} (f : Fields F E) (L : IsField f.base)
   have_cosets = All_from_each (HasCoset f.two_adicity) matrices
       (each_first IsWordOf Fits (HasCoset f.two_adicity)
       (λ m e h q. has_coset f L W nonzero b (shift e.0) (off_zero e.0) (log_size e.0) e.1 m q h)
+      matrices evaluations words (each_from_All Fits evaluations fit))
+
+  pub have_lde_heights : All (HasLdeHeight f.two_adicity b) matrices
+  have_lde_heights = All_from_each (HasLdeHeight f.two_adicity b) matrices
+      (each_first IsWordOf Fits (HasLdeHeight f.two_adicity b)
+      (λ m e h q. has_lde_height f L W nonzero b (shift e.0) (off_zero e.0) (log_size e.0) e.1 m
+      q h)
       matrices evaluations words (each_from_All Fits evaluations fit))
 
   pub hold_words : All (HoldsWords f b) matrices

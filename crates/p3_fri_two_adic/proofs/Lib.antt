@@ -1,4 +1,6 @@
 mod Claims
 mod Committed
+mod Evaluated
+mod Ldes
 mod Sizes
 mod Unspent

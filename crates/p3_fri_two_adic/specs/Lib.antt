@@ -2,3 +2,6 @@ pub mod Held
 pub mod Ranges
 pub mod Accepted
 pub mod ErrorLaws
+pub mod Kept
+pub mod Ldes
+pub mod UnivariateLaws

@@ -2,6 +2,7 @@
 #![tactic(auto)]
 
 pub mod two_adic_pcs;
+pub mod univariate;
 
 pub use crate::two_adic_pcs::{
     CommitmentWithOpeningPoints, ProverDataWithOpeningPoints, TwoAdicFriFolding,

@@ -60,9 +60,9 @@ pub type TwoAdicFriFoldingForMmcs<F, M> = TwoAdicFriFolding<
 /// folded words.
 #[derive(Clone, Debug, Drop)]
 pub struct TwoAdicFriPcs<Val, Dft, InputMmcs, FriMmcs> {
-    dft: Dft,
-    mmcs: InputMmcs,
-    fri: FriParameters<FriMmcs>,
+    pub(crate) dft: Dft,
+    pub(crate) mmcs: InputMmcs,
+    pub(crate) fri: FriParameters<FriMmcs>,
     of: PhantomData<Val>,
 }
 

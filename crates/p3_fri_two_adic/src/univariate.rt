@@ -1,0 +1,301 @@
+//! The scheme over two-adic fields as a STARK prover uses it, in the Rust crate's names.
+
+ghost use Rattle.std.specs.Prelude.{◌≡◌, ◌≢◌, ◌↔◌, ◌≤◌, ◌^◌, ℕ, ⊤, false, List, map, length};
+ghost use Rattle.std.specs.Prelude.{All, IsOk, IfOk, IfErr, Ok, Err, None, refl};
+ghost use Rattle.std.specs.List.{AllZip};
+ghost use Rattle.p3_field.specs.Coset.{coset_point};
+ghost use Rattle.p3_pcs.specs.Claims.{claim};
+ghost use Rattle.p3_pcs.specs.Requests.{AreOpenable};
+ghost use Rattle.p3_fri_commit.specs.Extension.{FitsDomain, IsLowDegreeExtension};
+ghost use Rattle.p3_fri_steps.specs.declared.error.FriProverError.TheVariants as refusal;
+ghost use Rattle.p3_fri_relation.specs.Acceptance.{Accepts as relation};
+ghost use Rattle.p3_fri_relation.specs.declared.error.FriError.TheVariants.{OutOfMemory};
+ghost use Rattle.p3_fri_relation.specs.Faults.{StandsInScheme};
+ghost use Rattle.p3_fri_relation.specs.Views.{parameters_of, proof_of};
+ghost use Rattle.p3_fri_openings.specs.Rounds.{HasCoset};
+ghost use Rattle.p3_fri_completeness.specs.Requests.{held_in, held_of, HoldsWords};
+ghost use Rattle.p3_fri_completeness.specs.Requests.{relation_claims};
+ghost use Rattle.p3_fri_opening_prover.specs.Refusals.{PassesChecks as passes, OpenRefusal};
+ghost use Rattle.p3_fri_opening_verifier.specs.Ends.{last_state as state_after};
+ghost use Rattle.p3_fri_two_adic.specs.Accepted.{two_adic};
+ghost use Rattle.p3_fri_two_adic.specs.Accepted.{LeavesVerifier as leaves_verifier};
+ghost use Rattle.p3_fri_two_adic.specs.Held.{Extends as extends};
+ghost use Rattle.p3_fri_two_adic.specs.Ranges.{InProverRange as prover_range};
+ghost use Rattle.p3_fri_two_adic.specs.Ranges.{InVerifierRange as verifier_range};
+ghost use Rattle.p3_fri_two_adic.specs.Kept.{AreKeptBy};
+ghost use Rattle.p3_fri_two_adic.specs.Ldes.{HasLdeHeight};
+ghost use Rattle.p3_fri_two_adic.specs.UnivariateLaws.{trace_heights, openable_at};
+
+use crate::two_adic_pcs::TwoAdicFriPcs;
+use p3_challenger::{CanObserve, FieldChallenger, GrindingChallenger, Plays};
+use p3_commit::{CommitmentOpening, Mmcs, OpenedValues};
+use p3_dft::TwoAdicSubgroupDft;
+use p3_field::{ExtensionField, TwoAdicField, TwoAdicMultiplicativeCoset};
+use p3_fri_commit::extend_each;
+use p3_fri_relation::error::FriError;
+use p3_fri_relation::proof::{BatchMultiOpening, FriProof};
+use p3_fri_relation::setting::ChallengeField;
+use p3_fri_steps::FriProverError;
+use p3_matrix::RowMajorMatrix;
+use p3_pcs::{OpeningRequest, Pcs};
+use p3_stark_pcs::UnivariateStarkPcs;
+use std::alloc::{AllocError, Global};
+
+/// It doesn't hide: what the index of an opening names as preprocessing is opened as all else is,
+/// and preprocessed columns are committed to as others are.
+///
+/// Matrices that are committed to as they are stand on the evaluation coset, in bit-reversed order,
+/// at a height from the blowup to the size of the field's greatest subgroup.
+impl<
+    F: TwoAdicField,
+    EF: ExtensionField<F>,
+    Dft: TwoAdicSubgroupDft<F>,
+    InputMmcs: Mmcs<F>,
+    M: Mmcs<EF>,
+    C: FieldChallenger<F> + GrindingChallenger<Witness = F> + CanObserve<M::Commitment>,
+> UnivariateStarkPcs<EF, C> for TwoAdicFriPcs<F, Dft, InputMmcs, M> {
+    const ZK: bool = false;
+
+    ghost ZK = { false };
+
+    ghost least_log_height = { λ _. 0 };
+
+    ghost greatest_log_height = { λ _. F.TWO_ADICITY };
+
+    ghost embed = { EF.lift };
+
+    ghost point = { λ d i. EF.lift (coset_point F.ops (F.root d.log_size) d.shift i) };
+
+    ghost matrices_of = { λ d. InputMmcs.committed d };
+
+    ghost CanOpenPreprocessed = { λ _ d. All (HasCoset F.TWO_ADICITY) (InputMmcs.committed d) };
+
+    ghost CanOpenAt = { λ s _ requests. AreOpenable
+        (λ d. All (HasCoset F.TWO_ADICITY) (InputMmcs.committed d))
+        (held_of ⟦<EF as ChallengeField<F>>⟧.fields InputMmcs.committed s.fri.log_blowup)
+        requests };
+
+    ghost PassesChecksAt = { λ s _ requests. passes ⟦<EF as ChallengeField<F>>⟧.fields
+        (parameters_of s.fri) InputMmcs.committed requests };
+
+    ghost RefusesAt = { λ s _ c requests e.
+        OpenRefusal (two_adic ⟦<EF as ChallengeField<F>>⟧.fields
+        ⟦<C as Plays<F, EF, M::Commitment>>⟧.moves (InputMmcs.opens s.mmcs) (M.opens s.fri.mmcs))
+        (parameters_of s.fri) InputMmcs.committed M.committed M.commitment_of c requests e };
+
+    ghost AcceptsAt = { λ s _ c claims proof.
+        relation (two_adic ⟦<EF as ChallengeField<F>>⟧.fields
+        ⟦<C as Plays<F, EF, M::Commitment>>⟧.moves (InputMmcs.opens s.mmcs) (M.opens s.fri.mmcs))
+        (parameters_of s.fri) (relation_claims (λ d. d.log_size) claims) (proof_of proof) c };
+
+    ghost last_state_at = { λ s _ c claims proof.
+        state_after (two_adic ⟦<EF as ChallengeField<F>>⟧.fields
+        ⟦<C as Plays<F, EF, M::Commitment>>⟧.moves (InputMmcs.opens s.mmcs) (M.opens s.fri.mmcs))
+        (parameters_of s.fri) (relation_claims (λ d. d.log_size) claims) (proof_of proof) c };
+
+    ghost FaultsAt = { λ s _ claims proof c e.
+        StandsInScheme (two_adic ⟦<EF as ChallengeField<F>>⟧.fields
+        ⟦<C as Plays<F, EF, M::Commitment>>⟧.moves (InputMmcs.opens s.mmcs) (M.opens s.fri.mmcs))
+        (parameters_of s.fri) (relation_claims (λ d. d.log_size) claims) (proof_of proof) c e };
+
+    ghost PreprocessingRefuses = { λ _ _ e. e ≡ refusal.OutOfMemory };
+
+    ghost CanCommitLdes = { λ s ldes. All (HasLdeHeight F.TWO_ADICITY s.fri.log_blowup) ldes };
+
+    ghost AreLdes = { λ s ldes.
+        All (HoldsWords ⟦<EF as ChallengeField<F>>⟧.fields s.fri.log_blowup) ldes };
+
+    ghost LdesRefuse = { λ _ _ e. e ≡ refusal.OutOfMemory };
+
+    ghost CanExtend = { λ s evaluations _.
+        All (λ e. FitsDomain F.TWO_ADICITY s.fri.log_blowup e.0.log_size e.1) evaluations };
+
+    ghost ExtendQuotients = { λ s evaluations ldes. AllZip (λ matrix e. IsLowDegreeExtension
+        F.ops F.root F.GENERATOR s.fri.log_blowup e.0.shift e.0.log_size e.1 matrix)
+        ldes evaluations };
+
+    ghost QuotientsRefuse = { λ _ _ e. e ≡ refusal.OutOfMemory };
+
+    ghost CanRandomize = { λ _ _. ⊤ };
+
+    ghost RandomizationRefuses = { λ _ _ _. ⊥ };
+
+    fn log_max_trace_height(&self) -> usize {
+        F::TWO_ADICITY
+    }
+
+    fn log_min_trace_height(&self) -> usize {
+        0
+    }
+
+    fn commit_preprocessing(
+        &mut self,
+        alloc: Global,
+        evaluations: Vec<(TwoAdicMultiplicativeCoset<F>, RowMajorMatrix<F>)>,
+    ) -> Result<(InputMmcs::Commitment, InputMmcs::ProverData), FriProverError>
+        requires range { prover_range (parameters_of self.old.fri) F.TWO_ADICITY
+            C.MAX_SAMPLE_BITS }
+        requires evaluations { All (λ e.
+            FitsDomain F.TWO_ADICITY self.old.fri.log_blowup e.0.log_size e.1) evaluations.items }
+        ensures range { prover_range (parameters_of self.new.fri) F.TWO_ADICITY
+            C.MAX_SAMPLE_BITS }
+        ensures verifier_range { let n = F.TWO_ADICITY in
+            verifier_range (parameters_of self.old.fri) n C.MAX_SAMPLE_BITS
+            → verifier_range (parameters_of self.new.fri) n C.MAX_SAMPLE_BITS }
+        ensures kept { AreKeptBy ⟦<EF as ChallengeField<F>>⟧.fields InputMmcs.committed
+            self.old.fri.log_blowup self.new.fri.log_blowup }
+        ensures unchanged { self.new ≡ self.old }
+        ensures commitment { IfOk result (λ pair. InputMmcs.commitment_of pair.1 ≡ pair.0) }
+        ensures openable { IfOk result (λ pair.
+            All (HasCoset F.TWO_ADICITY) (InputMmcs.committed pair.1)) }
+        ensures honest { IfOk result (λ pair.
+            All (HoldsWords ⟦<EF as ChallengeField<F>>⟧.fields self.new.fri.log_blowup)
+            (InputMmcs.committed pair.1)) }
+        ensures extends { IfOk result (λ pair. AllZip
+            (λ m e. extends ⟦<EF as ChallengeField<F>>⟧.fields e.0.shift e.0.log_size e.1 m)
+            (map (held_in ⟦<EF as ChallengeField<F>>⟧.fields self.new.fri.log_blowup)
+            (InputMmcs.committed pair.1)) evaluations.items) }
+        ensures refused { IfErr result (λ e. e ≡ refusal.OutOfMemory) }
+    {
+        <Self as Pcs<EF, C>>::commit(self, alloc, evaluations)
+    }
+
+    fn get_quotient_ldes(
+        &mut self,
+        alloc: Global,
+        evaluations: Vec<(TwoAdicMultiplicativeCoset<F>, RowMajorMatrix<F>)>,
+        _num_chunks: usize,
+    ) -> Result<Vec<RowMajorMatrix<F>>, FriProverError>
+        requires range { prover_range (parameters_of self.old.fri) F.TWO_ADICITY
+            C.MAX_SAMPLE_BITS }
+        requires evaluations { All (λ e.
+            FitsDomain F.TWO_ADICITY self.old.fri.log_blowup e.0.log_size e.1) evaluations.items }
+        ensures range { prover_range (parameters_of self.new.fri) F.TWO_ADICITY
+            C.MAX_SAMPLE_BITS }
+        ensures verifier_range { let n = F.TWO_ADICITY in
+            verifier_range (parameters_of self.old.fri) n C.MAX_SAMPLE_BITS
+            → verifier_range (parameters_of self.new.fri) n C.MAX_SAMPLE_BITS }
+        ensures kept { AreKeptBy ⟦<EF as ChallengeField<F>>⟧.fields InputMmcs.committed
+            self.old.fri.log_blowup self.new.fri.log_blowup }
+        ensures unchanged { self.new ≡ self.old }
+        ensures words { IfOk result (λ ldes. AllZip (λ matrix e. IsLowDegreeExtension
+            F.ops F.root F.GENERATOR self.new.fri.log_blowup e.0.shift e.0.log_size e.1 matrix)
+            ldes.items evaluations.items) }
+        ensures committable { IfOk result (λ ldes.
+            All (HasLdeHeight F.TWO_ADICITY self.new.fri.log_blowup) ldes.items) }
+        ensures low_degree { IfOk result (λ ldes.
+            All (HoldsWords ⟦<EF as ChallengeField<F>>⟧.fields self.new.fri.log_blowup)
+            ldes.items) }
+        ensures refused { IfErr result (λ e. e ≡ refusal.OutOfMemory) }
+    {
+        match extend_each(&self.dft, alloc, self.fri.log_blowup, evaluations) {
+            Ok(ldes) => Ok(ldes),
+            Err(AllocError) => Err(FriProverError::OutOfMemory),
+        }
+    }
+
+    fn commit_ldes(
+        &self,
+        alloc: Global,
+        ldes: Vec<RowMajorMatrix<F>>,
+    ) -> Result<(InputMmcs::Commitment, InputMmcs::ProverData), FriProverError>
+        requires range { prover_range (parameters_of self.now.fri) F.TWO_ADICITY
+            C.MAX_SAMPLE_BITS }
+        requires ldes { All (HasLdeHeight F.TWO_ADICITY self.now.fri.log_blowup) ldes.items }
+        ensures matrices { IfOk result (λ pair. InputMmcs.committed pair.1 ≡ ldes.items) }
+        ensures commitment { IfOk result (λ pair. InputMmcs.commitment_of pair.1 ≡ pair.0) }
+        ensures openable { IfOk result (λ pair.
+            All (HasCoset F.TWO_ADICITY) (InputMmcs.committed pair.1)) }
+        ensures honest { let holds = HoldsWords ⟦<EF as ChallengeField<F>>⟧.fields
+            self.now.fri.log_blowup in
+            All holds ldes.items → IfOk result (λ pair. All holds (InputMmcs.committed pair.1)) }
+        ensures refused { IfErr result (λ e. e ≡ refusal.OutOfMemory) }
+    {
+        match self.mmcs.commit(alloc, ldes) {
+            Ok(committed) => Ok(committed),
+            Err(AllocError) => Err(FriProverError::OutOfMemory),
+        }
+    }
+
+    fn get_opt_randomization_poly_commitment(
+        &mut self,
+        _alloc: Global,
+        _domains: Vec<TwoAdicMultiplicativeCoset<F>>,
+    ) -> Result<Option<(InputMmcs::Commitment, InputMmcs::ProverData)>, FriProverError>
+        requires range { prover_range (parameters_of self.old.fri) F.TWO_ADICITY
+            C.MAX_SAMPLE_BITS }
+        ensures range { prover_range (parameters_of self.new.fri) F.TWO_ADICITY
+            C.MAX_SAMPLE_BITS }
+        ensures verifier_range { let n = F.TWO_ADICITY in
+            verifier_range (parameters_of self.old.fri) n C.MAX_SAMPLE_BITS
+            → verifier_range (parameters_of self.new.fri) n C.MAX_SAMPLE_BITS }
+        ensures kept { AreKeptBy ⟦<EF as ChallengeField<F>>⟧.fields InputMmcs.committed
+            self.old.fri.log_blowup self.new.fri.log_blowup }
+        ensures unchanged { self.new ≡ self.old }
+        ensures none { result ≡ Ok None }
+    {
+        Ok(None)
+    }
+
+    fn open_with_preprocessing(
+        &self,
+        alloc: Global,
+        requests: &mut [OpeningRequest<'_, InputMmcs::ProverData, EF>],
+        challenger: &mut C,
+        _preprocessing: Option<usize>,
+    ) -> Result<
+        (
+            OpenedValues<EF>,
+            FriProof<EF, M, F, Vec<BatchMultiOpening<F, InputMmcs>>>,
+        ),
+        FriProverError,
+    > {
+        <Self as Pcs<EF, C>>::open(self, alloc, requests, challenger)
+    }
+
+    fn verify_with_preprocessing(
+        &self,
+        alloc: Global,
+        claims: Vec<CommitmentOpening<EF, InputMmcs::Commitment, TwoAdicMultiplicativeCoset<F>>>,
+        proof: &FriProof<EF, M, F, Vec<BatchMultiOpening<F, InputMmcs>>>,
+        challenger: &mut C,
+        _preprocessing: Option<usize>,
+    ) -> Result<(), FriError<M::Error, InputMmcs::Error>>
+        requires range { verifier_range (parameters_of self.now.fri) F.TWO_ADICITY
+            C.MAX_SAMPLE_BITS }
+        ensures exactly { let s = two_adic ⟦<EF as ChallengeField<F>>⟧.fields
+            ⟦<C as Plays<F, EF, M::Commitment>>⟧.moves (InputMmcs.opens self.now.mmcs)
+            (M.opens self.now.fri.mmcs) in
+            result ≢ Err OutOfMemory → (IsOk result ↔ relation s (parameters_of self.now.fri)
+            (relation_claims (λ d. d.log_size) (map claim claims.items)) (proof_of proof.now)
+            challenger.old) }
+        ensures state { let s = two_adic ⟦<EF as ChallengeField<F>>⟧.fields
+            ⟦<C as Plays<F, EF, M::Commitment>>⟧.moves (InputMmcs.opens self.now.mmcs)
+            (M.opens self.now.fri.mmcs) in
+            IsOk result → challenger.new ≡ state_after s (parameters_of self.now.fri)
+            (relation_claims (λ d. d.log_size) (map claim claims.items)) (proof_of proof.now)
+            challenger.old }
+        ensures stands { let s = two_adic ⟦<EF as ChallengeField<F>>⟧.fields
+            ⟦<C as Plays<F, EF, M::Commitment>>⟧.moves (InputMmcs.opens self.now.mmcs)
+            (M.opens self.now.fri.mmcs) in
+            IfErr result (StandsInScheme s (parameters_of self.now.fri)
+            (relation_claims (λ d. d.log_size) (map claim claims.items)) (proof_of proof.now)
+            challenger.old) }
+        ensures unmoved { IfErr result (λ e. leaves_verifier e → challenger.new ≡ challenger.old) }
+    {
+        <Self as Pcs<EF, C>>::verify(self, alloc, claims, proof, challenger)
+    }
+
+    ghost heights_law = { λ _ n. trace_heights F.TWO_ADICITY n };
+
+    ghost openable_law = { λ s index requests h. openable_at
+        (λ d. All (HasCoset F.TWO_ADICITY) (InputMmcs.committed d))
+        (held_of ⟦<EF as ChallengeField<F>>⟧.fields InputMmcs.committed s.fri.log_blowup)
+        index requests h };
+
+    ghost plain_data_law = { λ _ _ _. ((λ h. h), (λ h. h)) };
+
+    ghost plain_accepts_law = { λ _ _ _ _ _ _. ((λ h. h), (λ h. h)) };
+
+    ghost plain_state_law = { λ _ _ _ _ _ _. refl };
+}
