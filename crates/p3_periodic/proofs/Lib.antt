@@ -1,5 +1,11 @@
 pub mod First
+pub mod Gathered
+pub mod Greatest
 pub mod Horner
 pub mod Periods
+pub mod Places
+pub mod Rows
 pub mod Tables
+pub mod Tabulated
 pub mod Unique
+pub mod Written

@@ -1,5 +1,5 @@
 -- Columns that repeat along a trace, and why a column doesn't.
-use Rattle.std.specs.Prelude.{◌≡◌, ◌≢◌, ◌<◌, ◌%◌, ℕ, List, All, length, take, vec_len}
+use Rattle.std.specs.Prelude.{◌≡◌, ◌≢◌, ◌<◌, ◌%◌, ℕ, List, [], ◌∷◌, All, length, take, vec_len, max}
 use Rattle.std.specs.Int.{IsPowerOfTwo}
 use Rattle.std.specs.List.{HoldsAt}
 use Rattle.std.specs.declared.vec.Vec.{Vec}
@@ -37,3 +37,8 @@ module _ (height : ℕ) where
     abbrev pub Refuses : (columns : List (Vec T A)) → PeriodicError → Type 0
     Refuses columns OutOfMemory = All HasPeriod columns
     Refuses columns fault = FirstFault columns fault
+
+-- the greatest length of a column, 0 where there is none
+abbrev pub greatest_period : {T A : Type 0} (columns : List (Vec T A)) → ℕ
+greatest_period [] = 0
+greatest_period (column ∷ columns) = max (vec_len column) (greatest_period columns)

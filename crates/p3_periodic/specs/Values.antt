@@ -13,3 +13,7 @@ module _ {E : Type 0} (K : FieldOps E) (w : ℕ → E) (log_rows : ℕ) (z : E) 
   -- the same of a column over the field that `lift` takes into this one
   abbrev pub IsValueAt : {F A : Type 0} (lift : F → E) (column : Vec F A) (value : E) → Type 0
   IsValueAt lift column value = IsValueOf (map lift column.items) value
+
+  -- the same of a column over this field
+  abbrev pub IsColumnValue : {A : Type 0} (column : Vec E A) (value : E) → Type 0
+  IsColumnValue column value = IsValueOf column.items value

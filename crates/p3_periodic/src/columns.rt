@@ -1,7 +1,8 @@
 //! Tables of periodic columns.
 
-ghost use Rattle.std.specs.Prelude.{◌≡◌, All, IfOk, MatchResult, length};
+ghost use Rattle.std.specs.Prelude.{◌≡◌, ◌<◌, [], All, IfOk, MatchOption, MatchResult, length};
 ghost use Rattle.p3_periodic.specs.Columns.{IsPeriod, PeriodFault, HasPeriod, FirstFault};
+ghost use Rattle.p3_periodic.specs.Columns.{greatest_period};
 
 use crate::error::PeriodicError;
 
@@ -44,6 +45,17 @@ fn check_periods<T>(table: &[Vec<T>], trace_height: usize) -> Result<(), Periodi
     Ok(())
 }
 
+/// The greatest length of a column, 0 where there is none.
+fn greatest_length<T>(table: &[Vec<T>]) -> usize
+    ensures { result ≡ greatest_period table.now }
+{
+    let mut greatest = 0;
+    for k in (0..table.len()).rev() {
+        greatest = table[k].len().max(greatest);
+    }
+    greatest
+}
+
 #[tactic(auto, unfolding(crate::specs::Views::columns_of))]
 impl<'a, T> PeriodicColumns<'a, T> {
     ghost use Rattle.p3_periodic.specs.Views.{columns_of};
@@ -59,6 +71,18 @@ impl<'a, T> PeriodicColumns<'a, T> {
             return Err(fault);
         }
         Ok(PeriodicColumns { table })
+    }
+
+    /// The greatest length of a column, or `None` where there is no column.
+    pub fn max_period(&self) -> Option<usize>
+        ensures { MatchOption result (columns_of self.now ≡ [])
+            (λ period. (0 < length (columns_of self.now))
+            × (period ≡ greatest_period (columns_of self.now))) }
+    {
+        if self.table.is_empty() {
+            return None;
+        }
+        Some(greatest_length(self.table))
     }
 
     /// The number of columns.

@@ -1,13 +1,20 @@
-//! The values of periodic columns beside the rows of their trace.
+//! The evaluator of periodic columns over two-adic domains, and their values at a point.
 
-ghost use Rattle.std.specs.Prelude.{◌≡◌, ◌≤◌, ◌^◌, All, IfOk, MatchResult, length, map};
+ghost use Rattle.std.specs.Prelude.{◌≡◌, ◌≤◌, ◌-◌, ◌^◌, All, IfOk, MatchResult, length, map};
 ghost use Rattle.std.specs.List.{AllZip};
 ghost use Rattle.algebra.specs.Polynomial.{val};
+ghost use Rattle.p3_field.specs.Coset.{coset_point};
 ghost use Rattle.p3_periodic.specs.Columns.{IsPeriod, HasPeriod, Refuses};
-ghost use Rattle.p3_periodic.specs.Values.{IsValueOf, IsValueAt};
+ghost use Rattle.p3_periodic.specs.Tables.{AreTabulated};
+ghost use Rattle.p3_periodic.specs.Values.{IsValueOf, IsValueAt, IsColumnValue};
+ghost use Rattle.p3_periodic.specs.Views.{table_rows};
 
 use crate::columns::PeriodicColumns;
 use crate::error::PeriodicError;
+use crate::extension::build_periodic_lde_table_two_adic;
+use crate::powers::power_to_period;
+use crate::table::PeriodicLdeTable;
+use crate::traits::PeriodicEvaluator;
 use p3_dft::TwoAdicSubgroupDft;
 use p3_field::{
     ExtensionField, Field, TwoAdicField, TwoAdicMultiplicativeCoset, log2_strict_usize,
@@ -57,7 +64,7 @@ fn column_at_point<F: TwoAdicField, EF: ExtensionField<F>, Dft: TwoAdicSubgroupD
     let log_period = log2_strict_usize(column.len());
     let lifted = lift_column::<F, EF>(alloc, column)?;
     let coefficients = dft.idft_algebra(alloc, lifted)?;
-    let power = point.exp_power_of_2(log_rows - log_period);
+    let power = power_to_period(point, log_rows, log_period);
     Ok(evaluate(&coefficients, power))
 }
 
@@ -81,6 +88,34 @@ fn values_at_point<F: TwoAdicField, EF: ExtensionField<F>, Dft: TwoAdicSubgroupD
     Ok(values)
 }
 
+/// The periodic values of the columns at `point`, by the given transform: with `n` the size of the
+/// trace's domain, each column's one interpolant of `p` entries over the powers of the root of
+/// unity of order `p`, at the power `n / p` of the point. Of the domain only the size is read.
+/// Refused by the first column that doesn't repeat along the trace, before anything grows.
+fn table_at_point<F: TwoAdicField, EF: ExtensionField<F>, Dft: TwoAdicSubgroupDft<F>>(
+    alloc: Global,
+    dft: &Dft,
+    periodic_table: &[Vec<F>],
+    trace_domain: &TwoAdicMultiplicativeCoset<F>,
+    point: EF,
+) -> Result<Vec<EF>, PeriodicError>
+    ensures values { IfOk result (λ values. AllZip (IsValueAt EF.ops (λ k. EF.lift (F.root k))
+        trace_domain.now.log_size point EF.lift) periodic_table.now values.items) }
+    ensures exactly { MatchResult result
+        (λ _. All (HasPeriod (2 ^ trace_domain.now.log_size)) periodic_table.now)
+        (Refuses (2 ^ trace_domain.now.log_size) periodic_table.now) }
+{
+    let columns = match PeriodicColumns::new(periodic_table, trace_domain.size()) {
+        Ok(columns) => columns,
+        Err(fault) => return Err(fault),
+    };
+    let log_rows = trace_domain.log_size();
+    match values_at_point(alloc, dft, columns.as_slice(), log_rows, point) {
+        Ok(values) => Ok(values),
+        Err(AllocError) => Err(PeriodicError::OutOfMemory),
+    }
+}
+
 /// Evaluates periodic columns along traces on two-adic domains, by transforms of the type `Dft`.
 #[derive(Clone, Copy, Debug)]
 pub struct TwoAdicPeriodicEvaluator<Dft>(PhantomData<Dft>);
@@ -92,33 +127,58 @@ impl<Dft> Default for TwoAdicPeriodicEvaluator<Dft> {
 }
 
 impl<Dft> TwoAdicPeriodicEvaluator<Dft> {
-    /// The periodic values of the columns at `point`: with `n` the size of the trace's domain, each
-    /// column's one interpolant of `p` entries over the powers of the root of unity of order `p`,
-    /// at the power `n / p` of the point. Of the domain only the size is read. Refused by the first
-    /// column that doesn't repeat along the trace, before anything grows.
-    pub fn eval_at_point<F: TwoAdicField, EF: ExtensionField<F>>(
+    /// The table of the columns' values on `lde_domain`, by the given transform.
+    pub fn eval_on_lde_with_dft<F: TwoAdicField>(
         alloc: Global,
+        dft: &Dft,
         periodic_table: &[Vec<F>],
         trace_domain: &TwoAdicMultiplicativeCoset<F>,
-        point: EF,
-    ) -> Result<Vec<EF>, PeriodicError>
+        lde_domain: &TwoAdicMultiplicativeCoset<F>,
+    ) -> Result<PeriodicLdeTable<F>, PeriodicError>
     where
-        Dft: TwoAdicSubgroupDft<F> + Default + Drop,
-        ensures values { IfOk result (λ values. AllZip (IsValueAt EF.ops
-            (λ k. EF.lift (F.root k)) trace_domain.now.log_size point EF.lift)
-            periodic_table.now values.items) }
+        Dft: TwoAdicSubgroupDft<F>,
+        requires { trace_domain.now.log_size ≤ lde_domain.now.log_size }
+        ensures table { IfOk result (λ table. AreTabulated periodic_table.now
+            (2 ^ (lde_domain.now.log_size - trace_domain.now.log_size))
+            (λ index. IsColumnValue F.ops F.root trace_domain.now.log_size
+            (coset_point F.ops (F.root lde_domain.now.log_size) lde_domain.now.shift index))
+            (table_rows table)) }
         ensures exactly { MatchResult result
             (λ _. All (HasPeriod (2 ^ trace_domain.now.log_size)) periodic_table.now)
             (Refuses (2 ^ trace_domain.now.log_size) periodic_table.now) }
     {
-        let columns = match PeriodicColumns::new(periodic_table, trace_domain.size()) {
-            Ok(columns) => columns,
-            Err(fault) => return Err(fault),
-        };
-        let log_rows = trace_domain.log_size();
-        match values_at_point(alloc, &Dft::default(), columns.as_slice(), log_rows, point) {
-            Ok(values) => Ok(values),
-            Err(AllocError) => Err(PeriodicError::OutOfMemory),
-        }
+        build_periodic_lde_table_two_adic(alloc, dft, periodic_table, trace_domain, lde_domain)
+    }
+}
+
+impl<F: TwoAdicField, Dft: TwoAdicSubgroupDft<F> + Default + Drop> PeriodicEvaluator<
+    F,
+    TwoAdicMultiplicativeCoset<F>,
+> for TwoAdicPeriodicEvaluator<Dft> {
+    ghost domain_size = { λ domain. 2 ^ domain.log_size };
+
+    ghost domain_point = { λ domain. coset_point F.ops (F.root domain.log_size) domain.shift };
+
+    ghost IsValue = { λ K lift trace z. IsValueAt K (λ k. lift (F.root k)) trace.log_size z lift };
+
+    /// The table of the columns' values on `lde_domain`, by a transform of its own.
+    fn eval_on_lde(
+        alloc: Global,
+        periodic_table: &[Vec<F>],
+        trace_domain: &TwoAdicMultiplicativeCoset<F>,
+        lde_domain: &TwoAdicMultiplicativeCoset<F>,
+    ) -> Result<PeriodicLdeTable<F>, PeriodicError> {
+        let dft = Dft::default();
+        Self::eval_on_lde_with_dft(alloc, &dft, periodic_table, trace_domain, lde_domain)
+    }
+
+    /// The periodic values of the columns at `point`. Of the domain only the size is read.
+    fn eval_at_point<EF: ExtensionField<F>>(
+        alloc: Global,
+        periodic_table: &[Vec<F>],
+        trace_domain: &TwoAdicMultiplicativeCoset<F>,
+        point: EF,
+    ) -> Result<Vec<EF>, PeriodicError> {
+        table_at_point(alloc, &Dft::default(), periodic_table, trace_domain, point)
     }
 }

@@ -6,8 +6,8 @@ use Rattle.algebra.proofs.Points.{lifted_roots}
 use Rattle.p3_periodic.proofs.Periods.{exponent_within, is_value}
 use Rattle.p3_periodic.proofs.evaluator.column_at_point.Goals as goal
 
-pub overflow_sub-log_rows : goal.overflow_sub-log_rows
-overflow_sub-log_rows g c =
+pub power_to_period-power-requires : goal.power_to_period-power-requires
+power_to_period-power-requires g c =
     exponent_within c.args.log_rows c.log2_strict_usize-log_period.result
     (ap (λ p. 2 ^ c.args.log_rows % p) c.log2_strict_usize-log_period.ensures.power
     ∙ c.requires.period.divides)
@@ -49,10 +49,10 @@ returns g c =
     (lifted_roots F K lift g.met.F.Field.laws g.met.EF.Field.laws g.met.EF.ExtensionField.lift_law
     top root g.met.F.TwoAdicField.roots_law)
     k c.args.log_rows (map lift c.args.column.now) c.in_ok-lifted.lifted.items
-    c.in_ok-coefficients.coefficients.items c.args.point c.exp_power_of_2-power.result
+    c.in_ok-coefficients.coefficients.items c.args.point c.power_to_period-power.result
     c.evaluate.result below (length-map c.args.column.now lift ∙ sym power)
     c.in_ok-lifted.ensures
     (c.in_ok-coefficients.ensures k (c.in_ok-lifted.lifted.ok.0 ∙ counted))
-    c.exp_power_of_2-power.ensures
+    c.power_to_period-power.ensures
     (c.evaluate.ensures
-    ∙ ap (λ cs. val K cs c.exp_power_of_2-power.result) c.deref.ensures.value)
+    ∙ ap (λ cs. val K cs c.power_to_period-power.result) c.deref.ensures.value)

@@ -3,7 +3,7 @@ use Rattle.std.specs.List.{AllZip}
 use Rattle.p3_periodic.specs.Columns.{HasPeriod, FirstFault}
 use Rattle.p3_periodic.specs.Values.{IsValueAt}
 use Rattle.p3_periodic.proofs.Tables.{refused_by_first}
-use Rattle.p3_periodic.proofs.evaluator.TwoAdicPeriodicEvaluator.eval_at_point.Goals as goal
+use Rattle.p3_periodic.proofs.evaluator.table_at_point.Goals as goal
 
 pub returns-in-Err-clause-exactly : goal.returns-in-Err-clause-exactly
 returns-in-Err-clause-exactly g c =
@@ -36,7 +36,7 @@ returns-in-Ok-values_at_point-clause-exactly g c =
     let table = c.args.periodic_table.now in
     subst (λ n. All (HasPeriod n) table) c.size.ensures c.in-Ok.ensures.exactly
 
-pub returns-clause-exactly : goal.returns-clause-exactly
-returns-clause-exactly g c =
+pub returns-in-Err-values_at_point-clause-exactly : goal.returns-in-Err-values_at_point-clause-exactly
+returns-in-Err-values_at_point-clause-exactly g c =
     let table = c.args.periodic_table.now in
     subst (λ n. All (HasPeriod n) table) c.size.ensures c.in-Ok.ensures.exactly
