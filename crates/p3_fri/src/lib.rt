@@ -16,3 +16,5 @@ pub use p3_fri_core::{
 };
 pub use p3_fri_two_adic::two_adic_pcs;
 pub use p3_fri_two_adic::two_adic_pcs::{TwoAdicFriFoldingForMmcs, TwoAdicFriPcs};
+pub use p3_periodic::periodic;
+pub use p3_periodic::periodic::{TwoAdicPeriodicEvaluator, build_periodic_lde_table_two_adic};

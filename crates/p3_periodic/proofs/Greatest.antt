@@ -1,26 +1,12 @@
--- The greatest length of columns: found from the last column on, and itself a period of them.
-use Rattle.std.proofs.Common.{◌≡◌, ℕ, zero, suc, ◌+◌, ◌<◌, ◌≤◌, List, [], ◌∷◌, length, drop, get_or}
-use Rattle.std.proofs.Common.{sym, ap₂, ◌∙◌, arith, All, subst, inl, inr}
+-- The greatest length of columns: no column is longer, and it is a period itself.
+use Rattle.std.proofs.Common.{◌≡◌, ℕ, zero, suc, ◌<◌, ◌≤◌, List, [], ◌∷◌, length, get_or, arith, All}
+use Rattle.std.proofs.Common.{subst, inl, inr}
 use Rattle.std.proofs.lemmas.Bool.{cases_lt}
-use Rattle.std.proofs.lemmas.List.{at_drop_more, at_drop_all}
 use Rattle.std.specs.Prelude.{vec_len, max}
 use Rattle.std.specs.declared.vec.Vec.{Vec}
 use Rattle.p3_periodic.specs.Columns.{IsPeriod, HasPeriod, greatest_period}
 
 module _ {T A : Type 0} where
-  pub greatest_none : (columns : List (Vec T A)) (n greatest : ℕ) → length columns ≤ n
-      → greatest ≡ 0 → greatest ≡ greatest_period (drop n columns)
-  greatest_none columns n greatest l e =
-      e ∙ sym (at_drop_all (λ (cs : List (Vec T A)). greatest_period cs) columns n l)
-
-  pub greatest_more : (columns : List (Vec T A)) (column : Vec T A) (k before after : ℕ)
-      → k < length columns → column ≡ get_or columns k column
-      → before ≡ greatest_period (drop (k + 1) columns) → after ≡ max (vec_len column) before
-      → after ≡ greatest_period (drop k columns)
-  greatest_more columns column k before after l is e f =
-      f ∙ ap₂ (λ c n. max (vec_len c) n) is e
-      ∙ sym (at_drop_more (λ (cs : List (Vec T A)). greatest_period cs) columns k column l)
-
   pub within_greatest : (columns : List (Vec T A)) (j : ℕ) (d : Vec T A) → j < length columns
       → vec_len (get_or columns j d) ≤ greatest_period columns
   within_greatest [] j d l = absurd (omega (arith, l))
