@@ -1,6 +1,6 @@
 -- Values of committed polynomials on a domain, seen in the extension.
-use Rattle.std.proofs.Common.{◌≡◌, ◌≢◌, ◌≤◌, ◌<◌, ℕ, ◌+◌, ◌^◌, List, [], length, map, get_or}
-use Rattle.std.proofs.Common.{sym, ap, ◌∙◌, arith}
+use Rattle.std.proofs.Common.{◌≡◌, ◌≢◌, ◌≤◌, ◌<◌, ℕ, ◌+◌, ◌/◌, ◌^◌, List, [], length, map}
+use Rattle.std.proofs.Common.{All, get_or, sym, ap, subst, ◌∙◌, arith}
 use Rattle.std.proofs.lemmas.List.{get_or-map}
 use Rattle.algebra.specs.Field.{IsField, IsHomomorphism}
 use Rattle.algebra.specs.Polynomial.{val, tabulate}
@@ -14,9 +14,16 @@ use Rattle.p3_matrix.specs.Matrix.{rows, matrix_width}
 use Rattle.p3_dft.specs.Evaluations.{column}
 use Rattle.p3_fri_relation.specs.Setting.{Fields}
 use Rattle.p3_fri_openings.specs.Committed.{committed_column, committed_values}
+use Rattle.p3_dft.proofs.Sizes.{power_within}
+use Rattle.p3_fri_openings.specs.Log2.{log2}
+use Rattle.p3_fri_openings.specs.Rounds.{HasCoset}
 use Rattle.p3_fri_openings.proofs.Committed.{committed_is}
+use Rattle.p3_fri_openings.proofs.Log2.{log2-pow, pow-divided}
 use Rattle.p3_fri_batch.proofs.Rows.{row_wide}
-use Rattle.p3_fri_completeness.specs.Requests.{HoldsWords}
+use Rattle.p3_fri_completeness.specs.Requests.{held_in, HoldsWords}
+use Rattle.p3_fri_evaluations.specs.Committed.{AreCommittedValues}
+use Rattle.p3_stark_pcs.specs.Evaluations.{HoldsValues, held_at}
+use Rattle.p3_fri_two_adic.specs.Evaluations.{IsMatrixOf}
 
 -- where `values` holds, on the coset of `s` of `2^m` points, those of the polynomials of `matrix`
 module _ {F E : Type 0} (f : Fields F E) (L : IsField f.base) (M : IsField f.ext)
@@ -70,3 +77,44 @@ module _ {F E : Type 0} (f : Fields F E) (L : IsField f.base) (M : IsField f.ext
       (λ j l. homomorphism-val f.base f.ext f.lift L.ring M.ring H (polynomial j) (point i))
       ∙ sym (map-tabulate (λ c. val f.ext (map f.lift c) (f.lift (point i)))
       (matrix_width matrix) polynomial)
+
+-- a matrix that the index names
+module _ {F : Type 0} (two_adicity : ℕ) (matrices : List (RowMajorMatrix F)) (index : ℕ)
+    (one : IsMatrixOf two_adicity matrices index) (matrix : RowMajorMatrix F)
+    (is : matrix ≡ get_or matrices index matrix) where
+  pub coset_at : HasCoset two_adicity matrix
+  coset_at =
+      subst (λ m. HasCoset two_adicity m) (sym is) (one.cosets index matrix one.below)
+
+  pub within_at : length (rows matrix) ≤ 2 ^ two_adicity
+  within_at = power_within (length (rows matrix)) coset_at.power.0 two_adicity coset_at.power.1
+      (subst (λ n. n ≤ two_adicity) (ap log2 coset_at.power.1 ∙ log2-pow coset_at.power.0)
+      coset_at.within)
+
+-- its values, of data that holds these matrices
+module _ {F E : Type 0} (f : Fields F E) (L : IsField f.base) (M : IsField f.ext)
+    (H : IsHomomorphism f.base f.ext f.lift) (W : AreRoots f.base f.two_adicity f.root)
+    (nonzero : f.shift ≢ f.base.zero) (b : ℕ) (matrices : List (RowMajorMatrix F)) (index : ℕ)
+    (one : IsMatrixOf f.two_adicity matrices index) where
+  pub evaluated : (matrix values : RowMajorMatrix F) → matrix ≡ get_or matrices index matrix
+      → All (HoldsWords f b) matrices → (s : F) (m : ℕ)
+      → AreCommittedValues f.base f.root f.shift b s m matrix values
+      → HoldsValues f.lift (λ i. f.lift (coset_point f.base (f.root m) s i)) (2 ^ m)
+      (held_at (map (held_in f b) matrices) index).values_at values
+  evaluated matrix values is words s m are =
+      let here = subst (λ m. HoldsWords f b m) (sym is) (words index matrix one.below) in
+      let stands = coset_at f.two_adicity matrices index one matrix is in
+      let within = subst (λ n. n ≤ f.two_adicity)
+      (ap log2 here.height ∙ log2-pow (here.log_size + b)) stands.within in
+      let count = ap (λ n. n / 2 ^ b) here.height ∙ pow-divided here.log_size b in
+      let held = get_or-map (held_in f b) matrices index matrix
+      (record { size = 0; values_at = λ z. [] }) one.below ∙ ap (λ m. held_in f b m) (sym is) in
+      record {
+        height = are.height;
+        value = λ i below.
+            values_held f L M H W nonzero b matrix values here within s m are.width are.height
+            (λ j c l degree word. are.columns (here.log_size + b) j c here.height l
+            (subst (λ n. length c ≤ n) (sym count) (omega (arith, degree))) word)
+            i below
+            ∙ ap (λ h. h.values_at (f.lift (coset_point f.base (f.root m) s i))) (sym held);
+      }

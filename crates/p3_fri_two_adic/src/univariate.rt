@@ -6,6 +6,7 @@ ghost use Rattle.std.specs.List.{AllZip};
 ghost use Rattle.p3_field.specs.Coset.{coset_point};
 ghost use Rattle.p3_pcs.specs.Claims.{claim};
 ghost use Rattle.p3_pcs.specs.Requests.{AreOpenable};
+ghost use Rattle.p3_stark_pcs.specs.Evaluations.{HoldsValues, held_at};
 ghost use Rattle.p3_fri_commit.specs.Extension.{FitsDomain, IsLowDegreeExtension};
 ghost use Rattle.p3_fri_steps.specs.declared.error.FriProverError.TheVariants as refusal;
 ghost use Rattle.p3_fri_relation.specs.Acceptance.{Accepts as relation};
@@ -22,6 +23,7 @@ ghost use Rattle.p3_fri_two_adic.specs.Accepted.{LeavesVerifier as leaves_verifi
 ghost use Rattle.p3_fri_two_adic.specs.Held.{Extends as extends};
 ghost use Rattle.p3_fri_two_adic.specs.Ranges.{InProverRange as prover_range};
 ghost use Rattle.p3_fri_two_adic.specs.Ranges.{InVerifierRange as verifier_range};
+ghost use Rattle.p3_fri_two_adic.specs.Evaluations.{IsMatrixOf};
 ghost use Rattle.p3_fri_two_adic.specs.Kept.{AreKeptBy};
 ghost use Rattle.p3_fri_two_adic.specs.Ldes.{HasLdeHeight};
 ghost use Rattle.p3_fri_two_adic.specs.UnivariateLaws.{trace_heights, openable_at};
@@ -32,6 +34,7 @@ use p3_commit::{CommitmentOpening, Mmcs, OpenedValues};
 use p3_dft::TwoAdicSubgroupDft;
 use p3_field::{ExtensionField, TwoAdicField, TwoAdicMultiplicativeCoset};
 use p3_fri_commit::extend_each;
+use p3_fri_evaluations::evaluations_on_domain;
 use p3_fri_relation::error::FriError;
 use p3_fri_relation::proof::{BatchMultiOpening, FriProof};
 use p3_fri_relation::setting::ChallengeField;
@@ -115,6 +118,17 @@ impl<
         ldes evaluations };
 
     ghost QuotientsRefuse = { λ _ _ e. e ≡ refusal.OutOfMemory };
+
+    ghost CanEvaluate = { λ _ d index _.
+        IsMatrixOf F.TWO_ADICITY (InputMmcs.committed d) index };
+
+    ghost CanEvaluateWhole = { λ _ d index _.
+        IsMatrixOf F.TWO_ADICITY (InputMmcs.committed d) index };
+
+    ghost held_whole = { λ s d. held_of ⟦<EF as ChallengeField<F>>⟧.fields InputMmcs.committed
+        s.fri.log_blowup d };
+
+    ghost EvaluationRefuses = { λ e. e ≡ refusal.OutOfMemory };
 
     ghost CanRandomize = { λ _ _. ⊤ };
 
@@ -217,6 +231,61 @@ impl<
         }
     }
 
+    fn get_evaluations_on_domain(
+        &self,
+        alloc: Global,
+        prover_data: &InputMmcs::ProverData,
+        index: usize,
+        domain: TwoAdicMultiplicativeCoset<F>,
+    ) -> Result<RowMajorMatrix<F>, FriProverError>
+        requires range { prover_range (parameters_of self.now.fri) F.TWO_ADICITY
+            C.MAX_SAMPLE_BITS }
+        requires evaluable { IsMatrixOf F.TWO_ADICITY (InputMmcs.committed prover_data.now)
+            index }
+        ensures values { let fields = ⟦<EF as ChallengeField<F>>⟧.fields in
+            All (HoldsWords fields self.now.fri.log_blowup) (InputMmcs.committed prover_data.now)
+            → IfOk result (HoldsValues EF.lift
+            (λ i. EF.lift (coset_point F.ops (F.root domain.log_size) domain.shift i))
+            (2 ^ domain.log_size) (held_at (held_of fields InputMmcs.committed
+            self.now.fri.log_blowup prover_data.now) index).values_at) }
+        ensures refused { IfErr result (λ e. e ≡ refusal.OutOfMemory) }
+    {
+        let matrices = self.mmcs.get_matrices(prover_data);
+        let matrix = &matrices[index];
+        match evaluations_on_domain(&self.dft, alloc, self.fri.log_blowup, domain, matrix) {
+            Ok(values) => Ok(values),
+            Err(AllocError) => Err(FriProverError::OutOfMemory),
+        }
+    }
+
+    fn get_evaluations_on_domain_no_random(
+        &self,
+        alloc: Global,
+        prover_data: &InputMmcs::ProverData,
+        index: usize,
+        domain: TwoAdicMultiplicativeCoset<F>,
+    ) -> Result<RowMajorMatrix<F>, FriProverError>
+        requires range { prover_range (parameters_of self.now.fri) F.TWO_ADICITY
+            C.MAX_SAMPLE_BITS }
+        requires evaluable { IsMatrixOf F.TWO_ADICITY (InputMmcs.committed prover_data.now)
+            index }
+        ensures values { let fields = ⟦<EF as ChallengeField<F>>⟧.fields in
+            All (HoldsWords fields self.now.fri.log_blowup) (InputMmcs.committed prover_data.now)
+            → IfOk result (HoldsValues EF.lift
+            (λ i. EF.lift (coset_point F.ops (F.root domain.log_size) domain.shift i))
+            (2 ^ domain.log_size) (held_at (held_of fields InputMmcs.committed
+            self.now.fri.log_blowup prover_data.now) index).values_at) }
+        ensures refused { IfErr result (λ e. e ≡ refusal.OutOfMemory) }
+    {
+        <Self as UnivariateStarkPcs<EF, C>>::get_evaluations_on_domain(
+            self,
+            alloc,
+            prover_data,
+            index,
+            domain,
+        )
+    }
+
     fn get_opt_randomization_poly_commitment(
         &mut self,
         _alloc: Global,
@@ -298,4 +367,8 @@ impl<
     ghost plain_accepts_law = { λ _ _ _ _ _ _. ((λ h. h), (λ h. h)) };
 
     ghost plain_state_law = { λ _ _ _ _ _ _. refl };
+
+    ghost plain_evaluable_law = { λ _ _ _ _ _. ((λ h. h), (λ h. h)) };
+
+    ghost plain_held_law = { λ _ _ _. refl };
 }

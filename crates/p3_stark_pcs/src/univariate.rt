@@ -73,6 +73,14 @@ pub trait UnivariateStarkPcs<EF: Copy, C>: Pcs<EF, C> {
     ghost QuotientsRefuse: { Self → List (Self.Domain × RowMajorMatrix Self.Val)
         → Self.ProverError → Type 0 };
 
+    ghost CanEvaluate: { Self → Self.ProverData → ℕ → Self.Domain → Type 0 };
+
+    ghost CanEvaluateWhole: { Self → Self.ProverData → ℕ → Self.Domain → Type 0 };
+
+    ghost held_whole: { Self → Self.ProverData → List (Held EF) };
+
+    ghost EvaluationRefuses: { Self.ProverError → Type 0 };
+
     ghost CanRandomize: { Self → List Self.Domain → Type 0 };
 
     ghost RandomizationRefuses: { Self → List Self.Domain → Self.ProverError → Type 0 };
@@ -145,6 +153,37 @@ pub trait UnivariateStarkPcs<EF: Copy, C>: Pcs<EF, C> {
         ensures honest { AreLdes self.now ldes.items
             → IfOk result (λ pair. Self.IsHonest self.now pair.1) }
         ensures refused { IfErr result (LdesRefuse self.now ldes.items) };
+
+    /// The values on a domain, in natural order, of the polynomials of one committed matrix,
+    /// without columns that only hide the others.
+    fn get_evaluations_on_domain(
+        &self,
+        alloc: Global,
+        prover_data: &Self::ProverData,
+        index: usize,
+        domain: Self::Domain,
+    ) -> Result<RowMajorMatrix<Self::Val>, Self::ProverError>
+        requires range { Self.InProverRange self.now }
+        requires evaluable { CanEvaluate self.now prover_data.now index domain }
+        ensures values { Self.IsHonest self.now prover_data.now
+            → IfOk result (HoldsValues embed (point domain) (Self.domain_size domain)
+            (held_at (Self.held self.now prover_data.now) index).values_at) }
+        ensures refused { IfErr result EvaluationRefuses };
+
+    /// The same of all columns.
+    fn get_evaluations_on_domain_no_random(
+        &self,
+        alloc: Global,
+        prover_data: &Self::ProverData,
+        index: usize,
+        domain: Self::Domain,
+    ) -> Result<RowMajorMatrix<Self::Val>, Self::ProverError>
+        requires range { Self.InProverRange self.now }
+        requires evaluable { CanEvaluateWhole self.now prover_data.now index domain }
+        ensures values { Self.IsHonest self.now prover_data.now
+            → IfOk result (HoldsValues embed (point domain) (Self.domain_size domain)
+            (held_at (held_whole self.now prover_data.now) index).values_at) }
+        ensures refused { IfErr result EvaluationRefuses };
 
     /// A commitment to random polynomials, one for each domain, where the scheme needs such. One
     /// that doesn't hide has none.
@@ -247,4 +286,11 @@ pub trait UnivariateStarkPcs<EF: Copy, C>: Pcs<EF, C> {
     ghost plain_state_law: { ZK ≡ false → (s : Self) (index : Option ℕ) (c : C)
         (claims : List (Claim EF Self.Commitment Self.Domain)) (proof : Self.Proof)
         → last_state_at s index c claims proof ≡ Self.last_state s c claims proof };
+
+    ghost plain_evaluable_law: { ZK ≡ false → (s : Self) (d : Self.ProverData) (index : ℕ)
+        (domain : Self.Domain)
+        → CanEvaluateWhole s d index domain ↔ CanEvaluate s d index domain };
+
+    ghost plain_held_law: { ZK ≡ false → (s : Self) (d : Self.ProverData)
+        → held_whole s d ≡ Self.held s d };
 }
