@@ -57,7 +57,7 @@ pub fn by_two(
 }
 
 /// Elements in no regular order.
-fn elements(alloc: Global, count: usize) -> Result<Vec<BabyBear4>, AllocError> {
+pub fn elements(alloc: Global, count: usize) -> Result<Vec<BabyBear4>, AllocError> {
     let mut elements = Vec::with_capacity(alloc, count)?;
     let mut element = BabyBear4::GENERATOR;
     for _ in 0..count {

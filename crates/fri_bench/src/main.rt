@@ -5,9 +5,18 @@
 
 ghost use Rattle.std.specs.Prelude.{◌<◌};
 
+mod arguments;
+mod fault;
+mod figures;
 mod fold;
+mod honest;
+mod instances;
 mod matrices;
+mod openings;
+mod rounds;
+mod scheme;
 mod stages;
+mod verifier;
 
 use crate::matrices::matrix_of;
 use p3_dft::{Radix2Dit, TwoAdicSubgroupDft};
@@ -19,7 +28,11 @@ use std::{env, io};
 const USAGE: &str = "fri_bench LOG_HEIGHT WIDTH ADDED_BITS [REPEATS]
 fri_bench transform LOG_HEIGHT WIDTH [REPEATS]
 fri_bench tree LOG_HEIGHT WIDTH [REPEATS]
-fri_bench fold LOG_SIZE [REPEATS]";
+fri_bench fold LOG_SIZE [REPEATS]
+fri_bench rounds LOG_SIZE LOG_CAP [REPEATS]
+fri_bench scheme LOG_HEIGHT WIDTH LOG_BLOWUP QUERIES LOG_CAP [REPEATS]
+fri_bench verifier LOG_HEIGHT WIDTH QUERIES LOG_CAP [REPEATS]
+fri_bench figures [REPEATS]";
 
 /// The sizes of a run.
 #[derive(Clone, Copy)]
@@ -98,6 +111,18 @@ fn main(rt: HostRuntime) -> io::Result<()> {
     }
     if let Some(sizes) = stages::read(&args) {
         return stages::least(&rt, sizes);
+    }
+    if let Some(sizes) = rounds::read(&args) {
+        return rounds::least(&rt, sizes);
+    }
+    if let Some(sizes) = scheme::read(&args) {
+        return scheme::least(&rt, sizes);
+    }
+    if let Some(sizes) = verifier::read(&args) {
+        return verifier::least(&rt, sizes);
+    }
+    if let Some(repeats) = figures::read(&args) {
+        return figures::print(&rt, repeats);
     }
     match read(&args) {
         Some(sizes) => least(&rt, sizes),

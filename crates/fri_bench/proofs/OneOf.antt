@@ -1,0 +1,56 @@
+-- Lists of one: a word to be proved, and a request to be opened.
+use Rattle.std.proofs.Common.{◌≡◌, ◌≢◌, ◌<◌, ℕ, zero, suc, ◌^◌, List, [], ◌∷◌, ◌++◌, map, length}
+use Rattle.std.proofs.Common.{get_or, All, refl, sym, ap, subst, arith, ◌∙◌}
+use Rattle.std.specs.declared.vec.Vec.{Vec}
+use Rattle.std.specs.List.{flat_map}
+use Rattle.std.proofs.lemmas.List.{length-map}
+use Rattle.algebra.specs.Nested.{lists}
+use Rattle.p3_pcs.specs.declared.requests.OpeningRequest.{OpeningRequest}
+use Rattle.p3_pcs.specs.Requests.{Held, Request, AreOpenable, request}
+use Rattle.p3_fri_prover.specs.Inputs.{AreInputs}
+
+-- what was pushed alone
+pub one_pushed : {A : Type 0} {x : A} {xs before : List A} → xs ≡ before ++ x ∷ [] → before ≡ []
+    → xs ≡ x ∷ []
+one_pushed {x = x} e none = e ∙ ap (λ ys. ys ++ x ∷ []) none
+
+pub one_item : {A : Type 0} (P : A → Type 0) (x : A) (xs : List A) → xs ≡ x ∷ [] → P x → All P xs
+one_item {A} P x xs only holds = subst (λ ys. All P ys) (sym only) at
+  where
+    at : (k : ℕ) (d : A) → k < 1 → P (get_or (x ∷ []) k d)
+    at zero d l = holds
+    at (suc k) d l = absurd (omega (arith, l))
+
+-- one word is what a low-degree test can be made of
+pub one_word : {E A : Type 0} (word : Vec E A) (words : List (Vec E A)) (h : ℕ)
+    → words ≡ word ∷ [] → length word.items ≡ 2 ^ h → AreInputs h (lists words)
+one_word word words h only size = subst (λ ws. AreInputs h ws) (sym (ap lists only)) (record {
+  heights = h ∷ [];
+  have = (size, tt);
+  falling = λ k l. absurd (omega (arith, l));
+  some = λ e. absurd cc;
+  first = refl;
+})
+
+not_none : {A : Type 0} (xs : List A) → length xs ≡ 1 → xs ++ [] ≢ []
+not_none [] one e = absurd (omega (arith, one))
+not_none (x ∷ xs) one e = absurd cc
+
+-- one request, of data with one matrix, may be opened
+pub one_openable : {D E A : Type 0} {CanOpen : D → Type 0} (committed : D → List A)
+    (held : A → Held E) (r : OpeningRequest D E) (rs : List (OpeningRequest D E)) → rs ≡ r ∷ []
+    → CanOpen r.prover_data.now → length r.points.items ≡ 1
+    → length (committed r.prover_data.now) ≡ 1
+    → AreOpenable CanOpen (λ d. map held (committed d)) (map request rs)
+one_openable {D} {E} {CanOpen = CanOpen} committed held r rs only can points one =
+    let matrices = map held (committed r.prover_data.now) in
+    let count : length matrices ≡ 1 = length-map (committed r.prover_data.now) held ∙ one in
+    subst (λ qs. AreOpenable CanOpen (λ d. map held (committed d)) (map request qs)) (sym only)
+    (record {
+      data_openable = one_item (λ (q : Request D E). CanOpen q.datum) (request r) (request r ∷ [])
+          refl can;
+      points = one_item (λ (q : Request D E). length q.points
+          ≡ length (map held (committed q.datum))) (request r) (request r ∷ []) refl
+          (length-map r.points.items (λ v. v.items) ∙ points ∙ sym count);
+      some_matrix = not_none matrices count;
+    })
