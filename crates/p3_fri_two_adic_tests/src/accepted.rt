@@ -211,6 +211,7 @@ fn one_commitment_is_opened(rt: HostRuntime) -> Result<(), Fail> {
                 log_blowup: 1,
                 log_final_poly_len: 1,
                 max_log_arity: 1,
+                work: None,
             },
             batches: &[&[&[1, 1, 1, 1]]],
             points: &[&[&[2]]],

@@ -1,9 +1,10 @@
 //! What the verifier answers to other claims and proofs than were made.
 
-use crate::accepted::LINE;
+use crate::accepted::{LINE, SQUARE};
 use crate::opened::{Opened, open_well};
 use crate::scheme::{Claims, Domain, Proof, answer, constant, plain};
 use p3_challenger::Sha256Challenger;
+use p3_commit::CommitmentOpening;
 use p3_field::{BabyBear, BabyBear4, Field, TwoAdicMultiplicativeCoset};
 use std::alloc::Global;
 use std::test::Fail;
@@ -16,32 +17,85 @@ enum Change {
     NoRoundCommitments,
     NoRoundWitnesses,
     SecondCoefficient,
+    ZeroPolynomial,
     SecondSibling,
+    NoSiblings,
+    NoRoundPath,
     NoInputOpenings,
+    OneRowSet,
+    NoRows,
+    ShortInputPath,
     BatchWitness,
     RoundWitness,
     QueryWitness,
     NoCommitments,
+    EmptyCommitment,
     NoPoints,
     LargestDomain,
+    OtherShift,
     Claim,
 }
 
-/// The proof with that change, where it is one of the proof.
-fn change_proof(alloc: Global, proof: &mut Proof, change: Change) -> Result<(), Fail> {
-    match change {
-        Change::NoRoundOpenings => proof.commit_phase_openings.clear(),
-        Change::NoRoundCommitments => proof.commit_phase_commits.clear(),
-        Change::NoRoundWitnesses => proof.commit_pow_witnesses.clear(),
-        Change::SecondCoefficient => proof.final_poly.push(BabyBear4::ZERO)?,
-        Change::SecondSibling => {
-            for round in proof.commit_phase_openings.iter_mut().take(1) {
+/// The rounds' openings with that change, where it is one of theirs.
+fn change_rounds(proof: &mut Proof, change: Change) -> Result<(), Fail> {
+    if let Change::NoRoundOpenings = change {
+        proof.commit_phase_openings.clear();
+    }
+    for round in proof.commit_phase_openings.iter_mut().take(1) {
+        match change {
+            Change::SecondSibling => {
                 for siblings in round.sibling_values.iter_mut().take(1) {
                     siblings.push(BabyBear4::ZERO)?;
                 }
+            },
+            Change::NoSiblings => round.sibling_values.clear(),
+            Change::NoRoundPath => {
+                for path in round.opening_proof.iter_mut().take(1) {
+                    path.clear();
+                }
+            },
+            _ => {},
+        }
+    }
+    Ok(())
+}
+
+/// The inputs' openings with that change, where it is one of theirs.
+fn change_inputs(proof: &mut Proof, change: Change) {
+    if let Change::NoInputOpenings = change {
+        proof.input_openings.clear();
+    }
+    for opening in proof.input_openings.iter_mut() {
+        match change {
+            Change::OneRowSet => opening.opened_values.truncate(1),
+            Change::NoRows => {
+                for rows in opening.opened_values.iter_mut().take(1) {
+                    rows.clear();
+                }
+            },
+            Change::ShortInputPath => {
+                for path in opening.opening_proof.iter_mut().take(1) {
+                    path.truncate(1);
+                }
+            },
+            _ => {},
+        }
+    }
+}
+
+/// The proof with that change, where it is one of the proof.
+fn change_proof(proof: &mut Proof, change: Change) -> Result<(), Fail> {
+    change_rounds(proof, change)?;
+    change_inputs(proof, change);
+    match change {
+        Change::NoRoundCommitments => proof.commit_phase_commits.clear(),
+        Change::NoRoundWitnesses => proof.commit_pow_witnesses.clear(),
+        Change::SecondCoefficient => proof.final_poly.push(BabyBear4::ZERO)?,
+        Change::ZeroPolynomial => {
+            for coefficient in proof.final_poly.iter_mut() {
+                *coefficient = BabyBear4::ZERO;
             }
         },
-        Change::NoInputOpenings => proof.input_openings.clear(),
         Change::BatchWitness => proof.batch_pow_witness = BabyBear::ONE,
         Change::RoundWitness => {
             for witness in proof.commit_pow_witnesses.iter_mut() {
@@ -55,16 +109,23 @@ fn change_proof(alloc: Global, proof: &mut Proof, change: Change) -> Result<(), 
 }
 
 /// The claims with that change, where it is one of the claims.
-fn change_claims(claims: &mut Claims, change: Change) -> Result<(), Fail> {
-    let domain: Domain = TwoAdicMultiplicativeCoset::new(BabyBear::ONE, 27).ok_or("a domain")?;
-    if let Change::NoCommitments = change {
-        claims.clear();
+fn change_claims(alloc: Global, claims: &mut Claims, change: Change) -> Result<(), Fail> {
+    let largest: Domain = TwoAdicMultiplicativeCoset::new(BabyBear::ONE, 27).ok_or("a domain")?;
+    let other = TwoAdicMultiplicativeCoset::new(BabyBear::GENERATOR, 1).ok_or("a domain")?;
+    match change {
+        Change::NoCommitments => claims.clear(),
+        Change::EmptyCommitment => claims.push(CommitmentOpening {
+            commitment: [0; 32],
+            matrices: Vec::new(alloc),
+        })?,
+        _ => {},
     }
     for claim in claims.iter_mut() {
         for matrix in claim.matrices.iter_mut() {
             match change {
                 Change::NoPoints => matrix.points.clear(),
-                Change::LargestDomain => matrix.domain = domain,
+                Change::LargestDomain => matrix.domain = largest,
+                Change::OtherShift => matrix.domain = other,
                 Change::Claim => {
                     for opening in matrix.points.iter_mut() {
                         for value in opening.values.iter_mut() {
@@ -79,18 +140,33 @@ fn change_claims(claims: &mut Claims, change: Change) -> Result<(), Fail> {
     Ok(())
 }
 
-/// The answer, and whether the challenger is as it was.
-fn answer_to(alloc: Global, change: Change) -> Result<(String, bool), Fail> {
+/// An answer, and where it leaves the verifier's challenger.
+#[derive(Drop)]
+struct Answer {
+    text: String,
+    /// It is as it was.
+    unmoved: bool,
+    /// It is as the prover's.
+    same: bool,
+}
+
+/// The answer to that change.
+fn answer_to(alloc: Global, change: Change) -> Result<Answer, Fail> {
     let Opened {
         mut proof,
         mut claims,
+        challenger,
         ..
     } = open_well(alloc, plain(1), &[&[&LINE]], &[&[&[5]]])?;
-    change_proof(alloc, &mut proof, change)?;
-    change_claims(&mut claims, change)?;
-    let mut challenger = Sha256Challenger::new();
-    let text = answer(alloc, plain(1), claims, &proof, &mut challenger)?;
-    Ok((text, challenger == Sha256Challenger::new()))
+    change_proof(&mut proof, change)?;
+    change_claims(alloc, &mut claims, change)?;
+    let mut verifier = Sha256Challenger::new();
+    let text = answer(alloc, plain(1), claims, &proof, &mut verifier)?;
+    Ok(Answer {
+        text,
+        unmoved: verifier == Sha256Challenger::new(),
+        same: verifier == challenger,
+    })
 }
 
 #[test]
@@ -118,8 +194,26 @@ fn altered_openings_are_named(rt: HostRuntime) -> Result<(), Fail> {
             "SiblingValuesLengthMismatch { round: 0, expected: 1, got: 2 }",
         ),
         (
+            Change::NoSiblings,
+            "CommitPhaseQueryCountMismatch { round: 0, expected: 2, got: 0 }",
+        ),
+        (Change::NoRoundPath, "CommitPhaseMmcsError(PathLength)"),
+        (
             Change::NoInputOpenings,
             "InputProofBatchCountMismatch { expected: 1, got: 0 }",
+        ),
+        (
+            Change::OneRowSet,
+            "InputOpeningsQueryCountMismatch { batch: 0, expected: 2, got: 1 }",
+        ),
+        (
+            Change::NoRows,
+            "BatchOpenedValuesCountMismatch { batch: 0, expected: 1, got: 0 }",
+        ),
+        (Change::ShortInputPath, "InputError(PathLength)"),
+        (
+            Change::EmptyCommitment,
+            "InputProofBatchCountMismatch { expected: 2, got: 1 }",
         ),
         (Change::NoCommitments, "NoCommittedMatrices"),
         (
@@ -132,8 +226,8 @@ fn altered_openings_are_named(rt: HostRuntime) -> Result<(), Fail> {
         ),
     ];
     for (change, expected) in rows {
-        let (text, _) = answer_to(rt.alloc(), change)?;
-        assert_eq!(rt; text.as_str(), expected);
+        let answer = answer_to(rt.alloc(), change)?;
+        assert_eq!(rt; answer.text.as_str(), expected);
     }
     Ok(())
 }
@@ -155,16 +249,53 @@ fn witnesses_that_were_not_asked_for_are_refused(rt: HostRuntime) -> Result<(), 
         ),
     ];
     for (change, expected) in rows {
-        let (text, unmoved) = answer_to(rt.alloc(), change)?;
-        assert_eq!(rt; text.as_str(), expected);
-        assert!(rt; unmoved);
+        let answer = answer_to(rt.alloc(), change)?;
+        assert_eq!(rt; answer.text.as_str(), expected);
+        assert!(rt; answer.unmoved);
     }
     Ok(())
 }
 
 #[test]
 fn another_value_is_refused(rt: HostRuntime) -> Result<(), Fail> {
-    let (text, _) = answer_to(rt.alloc(), Change::Claim)?;
+    for change in [Change::Claim, Change::ZeroPolynomial] {
+        let answer = answer_to(rt.alloc(), change)?;
+        assert!(rt; answer.text.as_str() != "accepted");
+    }
+    Ok(())
+}
+
+#[test]
+fn a_claimed_shift_is_not_read(rt: HostRuntime) -> Result<(), Fail> {
+    for change in [Change::Nothing, Change::OtherShift] {
+        let answer = answer_to(rt.alloc(), change)?;
+        assert_eq!(rt; answer.text.as_str(), "accepted");
+        assert!(rt; answer.same);
+    }
+    Ok(())
+}
+
+#[test]
+fn a_value_moved_to_another_matrix_is_refused(rt: HostRuntime) -> Result<(), Fail> {
+    let Opened {
+        proof,
+        mut claims,
+        ..
+    } = open_well(rt.alloc(), plain(1), &[&[&SQUARE, &LINE]], &[&[&[5], &[5]]])?;
+    let mut moved = None;
+    for claim in claims.iter_mut() {
+        for matrix in claim.matrices.iter_mut() {
+            for opening in matrix.points.iter_mut() {
+                let held = moved;
+                match held {
+                    None => moved = opening.values.pop(),
+                    Some(value) => opening.values.push(value)?,
+                }
+            }
+        }
+    }
+    let mut challenger = Sha256Challenger::new();
+    let text = answer(rt.alloc(), plain(1), claims, &proof, &mut challenger)?;
     assert!(rt; text.as_str() != "accepted");
     Ok(())
 }

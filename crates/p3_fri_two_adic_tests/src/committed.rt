@@ -1,11 +1,14 @@
 //! Columns committed to.
 
-ghost use Rattle.std.specs.Prelude.{All, IfOk};
+ghost use Rattle.std.specs.Prelude.{◌≡◌, ◌^◌, All, IfOk, map};
 ghost use Rattle.p3_fri_commit.specs.Extension.{FitsDomain};
+ghost use Rattle.p3_fri_completeness.specs.Requests.{HoldsWords, held_of};
 
-use crate::scheme::{Data, Domain, Scheme, Setting, scheme};
+use crate::scheme::{Data, Domain, Inputs, Scheme, Setting, scheme};
 use p3_challenger::Sha256Challenger;
+use p3_commit::Mmcs;
 use p3_field::{BabyBear, BabyBear4, Field, TwoAdicMultiplicativeCoset};
+use p3_fri_relation::setting::ChallengeField;
 use p3_matrix::RowMajorMatrix;
 use p3_pcs::Pcs;
 use std::alloc::{AllocError, Global};
@@ -81,20 +84,28 @@ fn evaluations(
 fn domains_of(
     alloc: Global,
     evaluations: &[(Domain, RowMajorMatrix<BabyBear>)],
-) -> Result<Vec<Domain>, AllocError> {
+) -> Result<Vec<Domain>, AllocError>
+    ensures { IfOk result (λ ds. ds.items ≡ map (λ e. e.0) evaluations.now) }
+{
     let mut domains = Vec::with_capacity(alloc, evaluations.len())?;
-    for (domain, _) in evaluations {
-        domains.push(*domain)?;
+    for evaluation in evaluations {
+        domains.push(evaluation.0)?;
     }
     Ok(domains)
 }
 
-/// One commitment to these columns.
-pub(crate) fn commit(
-    alloc: Global,
-    setting: Setting,
-    columns: &[&[u64]],
-) -> Result<Committed, Fail> {
+/// One commitment to these columns: they are what a prover holds, and the domains are of their
+/// sizes.
+pub(crate) fn commit(alloc: Global, setting: Setting, columns: &[&[u64]]) -> Result<Committed, Fail>
+    ensures commitment { IfOk result (λ c.
+        ⟦<Inputs as Mmcs<BabyBear>>⟧.commitment_of c.data ≡ c.commitment) }
+    ensures honest { IfOk result (λ c. All
+        (HoldsWords ⟦<BabyBear4 as ChallengeField<BabyBear>>⟧.fields setting.log_blowup)
+        (⟦<Inputs as Mmcs<BabyBear>>⟧.committed c.data)) }
+    ensures sizes { IfOk result (λ c. map (λ d. 2 ^ d.log_size) c.domains.items ≡ map (λ m. m.size)
+        (held_of ⟦<BabyBear4 as ChallengeField<BabyBear>>⟧.fields
+        ⟦<Inputs as Mmcs<BabyBear>>⟧.committed setting.log_blowup c.data)) }
+{
     if setting.log_blowup == 0 || setting.log_blowup > 8 || setting.max_log_arity == 0 {
         return Err(Fail::new("not in the prover's range"));
     }

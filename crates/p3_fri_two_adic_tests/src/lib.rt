@@ -8,6 +8,8 @@ mod altered;
 #[cfg(test)]
 mod committed;
 #[cfg(test)]
+mod headline;
+#[cfg(test)]
 mod openable;
 #[cfg(test)]
 mod opened;
@@ -17,3 +19,5 @@ mod refused;
 mod replayed;
 #[cfg(test)]
 mod scheme;
+#[cfg(test)]
+mod work;

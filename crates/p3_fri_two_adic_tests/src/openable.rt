@@ -81,6 +81,18 @@ fn have_matrix<F: TwoAdicField, EF: Copy, M: Mmcs<F>>(
     false
 }
 
+/// Whether each list has some point.
+pub(crate) fn have_some_point<EF>(points: &[Vec<EF>]) -> bool
+    ensures { IsTrue result → All (λ list. length list.items ≢ 0) points.now }
+{
+    for list in points {
+        if list.len() == 0 {
+            return false;
+        }
+    }
+    true
+}
+
 /// Whether the requests may be opened, whatever of a matrix is held.
 pub(crate) fn are_openable<F: TwoAdicField, EF: Copy, M: Mmcs<F>>(
     mmcs: &M,

@@ -45,7 +45,10 @@ fn known_of(alloc: Global, all: &[Committed]) -> Result<Vec<Known<[u8; 32], Doma
 }
 
 /// Lists of points.
-fn points_of(alloc: Global, points: &[&[u64]]) -> Result<Vec<Vec<BabyBear4>>, AllocError> {
+pub(crate) fn points_of(
+    alloc: Global,
+    points: &[&[u64]],
+) -> Result<Vec<Vec<BabyBear4>>, AllocError> {
     let mut lists = Vec::with_capacity(alloc, points.len())?;
     for list in points {
         lists.push(constants(alloc, *list)?)?;

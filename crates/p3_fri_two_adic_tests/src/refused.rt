@@ -33,11 +33,13 @@ fn heights_are_tested_before_points(rt: HostRuntime) -> Result<(), Fail> {
         log_blowup: 1,
         log_final_poly_len: 1,
         max_log_arity: 1,
+        work: None,
     };
     let longest = Setting {
         log_blowup: 1,
         log_final_poly_len: usize::MAX,
         max_log_arity: 1,
+        work: None,
     };
     let rows = [
         (

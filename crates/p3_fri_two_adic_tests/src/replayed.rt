@@ -5,19 +5,19 @@ use crate::scheme::{Setting, parameters};
 use p3_challenger::Sha256Challenger;
 use p3_field::{BabyBear, BabyBear4};
 use p3_fri_folding::{fold_schedule, is_strictly_falling};
-use p3_fri_pcs_transcript::pcs_transcript::{PcsShape, ReplayedPcs, replay_pcs};
-use p3_fri_transcript::transcript::{FriMessages, FriShape};
+use p3_fri_pcs_transcript::pcs_transcript::{PcsFailure, PcsShape, ReplayedPcs, replay_pcs};
+use p3_fri_transcript::transcript::{FriMessages, FriShape, Refusal, TranscriptFailure};
 use std::alloc::Global;
 use std::test::Fail;
 
 /// What the transcripts draw along an opening of matrices of these log heights, which fall
-/// strictly, if they end in the challenger that the opening left.
-pub(crate) fn replayed(
+/// strictly, and the challenger in which they end, if they aren't refused.
+fn replay(
     alloc: Global,
     setting: Setting,
     log_heights: &[usize],
     opened: &Opened,
-) -> Result<ReplayedPcs<BabyBear4>, Fail> {
+) -> Result<Option<(ReplayedPcs<BabyBear4>, Sha256Challenger)>, Fail> {
     if setting.log_blowup > 31 || setting.log_final_poly_len > 31 || setting.max_log_arity == 0 {
         return Err(Fail::new("not conditions of a schedule"));
     }
@@ -45,11 +45,39 @@ pub(crate) fn replayed(
         test,
         messages,
     );
-    let Ok(replayed) = replayed else {
+    match replayed {
+        Ok(drawn) => Ok(Some((drawn, challenger))),
+        Err(Refusal::Seed) => Err(Fail::new("memory was refused")),
+        Err(Refusal::Step(PcsFailure::Fri(TranscriptFailure::OutOfMemory))) => Err(Fail::new(
+            "memory was refused",
+        )),
+        Err(_) => Ok(None),
+    }
+}
+
+/// Whether the transcripts pass along such an opening.
+pub(crate) fn passes(
+    alloc: Global,
+    setting: Setting,
+    log_heights: &[usize],
+    opened: &Opened,
+) -> Result<bool, Fail> {
+    let found = replay(alloc, setting, log_heights, opened)?;
+    Ok(found.is_some())
+}
+
+/// What they draw, if they end in the challenger that the opening left.
+pub(crate) fn replayed(
+    alloc: Global,
+    setting: Setting,
+    log_heights: &[usize],
+    opened: &Opened,
+) -> Result<ReplayedPcs<BabyBear4>, Fail> {
+    let Some((drawn, challenger)) = replay(alloc, setting, log_heights, opened)? else {
         return Err(Fail::new("the transcript is refused"));
     };
     if challenger != opened.challenger {
         return Err(Fail::new("the transcript ends elsewhere"));
     }
-    Ok(replayed)
+    Ok(drawn)
 }

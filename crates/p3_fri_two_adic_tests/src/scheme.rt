@@ -11,6 +11,7 @@ use p3_field::{BabyBear, BabyBear4, ExtensionField, Field, TwoAdicMultiplicative
 use p3_fri_folding::FriParameters;
 use p3_fri_relation::error::FriError;
 use p3_fri_relation::proof::{BatchMultiOpening, FriProof};
+use p3_fri_steps::PowPhase;
 use p3_fri_two_adic::TwoAdicFriPcs;
 use p3_pcs::Pcs;
 use std::alloc::{AllocError, Global};
@@ -37,43 +38,58 @@ pub(crate) type Proof = FriProof<
     Vec<BatchMultiOpening<BabyBear, Inputs>>,
 >;
 
-/// What a row sets: two queries are made, and no proof of work is asked for.
+/// What a row sets: two queries are made.
 #[derive(Clone, Copy)]
 pub(crate) struct Setting {
     pub log_blowup: usize,
     pub log_final_poly_len: usize,
     pub max_log_arity: usize,
+    /// Where a proof of work of 3 bits is asked for.
+    pub work: Option<PowPhase>,
 }
 
-/// A blowup of 2 and a constant as final polynomial.
-pub(crate) fn plain(max_log_arity: usize) -> Setting {
+/// A blowup of 2, a constant as final polynomial, and no proof of work.
+pub(crate) fn plain(max_log_arity: usize) -> Setting
+    ensures { result ≡ record {
+      log_blowup = 1;
+      log_final_poly_len = 0;
+      max_log_arity = max_log_arity;
+      work = None;
+    } }
+{
     Setting {
         log_blowup: 1,
         log_final_poly_len: 0,
         max_log_arity,
+        work: None,
     }
+}
+
+/// The difficulty of that phase.
+fn bits(setting: Setting, phase: PowPhase) -> usize
+    ensures { result ≤ 3 }
+{
+    if setting.work == Some(phase) { 3 } else { 0 }
 }
 
 /// The parameters of a row.
 pub(crate) fn parameters(setting: Setting) -> Parameters
-    ensures { parameters_of result ≡ record {
-      log_blowup = setting.log_blowup;
-      log_final_poly_len = setting.log_final_poly_len;
-      max_log_arity = setting.max_log_arity;
-      num_queries = 2;
-      batch_pow_bits = 0;
-      commit_pow_bits = 0;
-      query_pow_bits = 0;
-    } }
+    ensures log_blowup { result.log_blowup ≡ setting.log_blowup }
+    ensures log_final_poly_len { result.log_final_poly_len ≡ setting.log_final_poly_len }
+    ensures cap { result.max_log_arity ≡ setting.max_log_arity }
+    ensures queries { result.num_queries ≡ 2 }
+    ensures batch_bits { result.batch_proof_of_work_bits ≤ 3 }
+    ensures commit_bits { result.commit_proof_of_work_bits ≤ 3 }
+    ensures query_bits { result.query_proof_of_work_bits ≤ 3 }
 {
     FriParameters {
         log_blowup: setting.log_blowup,
         log_final_poly_len: setting.log_final_poly_len,
         max_log_arity: setting.max_log_arity,
         num_queries: 2,
-        batch_proof_of_work_bits: 0,
-        commit_proof_of_work_bits: 0,
-        query_proof_of_work_bits: 0,
+        batch_proof_of_work_bits: bits(setting, PowPhase::Batch),
+        commit_proof_of_work_bits: bits(setting, PowPhase::CommitPhase),
+        query_proof_of_work_bits: bits(setting, PowPhase::Query),
         mmcs: Sha256Mmcs::new(),
     }
 }

@@ -1,0 +1,49 @@
+-- What is known of a commitment, from what was committed to.
+use Rattle.std.proofs.Common.{◌≡◌, ◌≢◌, ℕ, ◌^◌, List, [], ◌∷◌, map, length, All}
+use Rattle.std.proofs.Common.{refl, sym, subst, ap, ◌∙◌, arith}
+use Rattle.std.specs.List.{AllZip}
+use Rattle.std.proofs.lemmas.List.Elements.{All-cons, All-map}
+use Rattle.algebra.specs.Nested.{lists}
+use Rattle.p3_matrix.specs.declared.dense.RowMajorMatrix.{RowMajorMatrix}
+use Rattle.p3_pcs.specs.declared.claims.Known.{Known}
+use Rattle.p3_pcs.specs.declared.requests.OpeningRequest.{OpeningRequest}
+use Rattle.p3_pcs.specs.Requests.{Held, Request, AreHonest, FitDomains, request}
+use Rattle.p3_fri_relation.specs.Setting.{Fields}
+use Rattle.p3_fri_two_adic.specs.Held.{Extends}
+
+-- what extends evaluations has the sizes of their domains
+module _ {F E Domain : Type 0} (f : Fields F E) (shift : Domain → F) (log_size : Domain → ℕ) where
+  pub sizes_extended : (ms : List (Held E)) (es : List (Domain × RowMajorMatrix F))
+      → AllZip (λ m e. Extends f (shift e.0) (log_size e.0) e.1 m) ms es
+      → map (λ d. 2 ^ log_size d) (map (λ e. e.0) es) ≡ map (λ m. m.size) ms
+  sizes_extended [] [] h = refl
+  sizes_extended [] (e ∷ es) h = absurd h
+  sizes_extended (m ∷ ms) [] h = absurd h
+  sizes_extended (m ∷ ms) (e ∷ es) (here, rest) =
+      let first = here.size in
+      let others = sizes_extended ms es rest in
+      cc
+
+-- one request
+module _ {D E : Type 0} (r : OpeningRequest D E) where
+  one : {X : Type 0} (P : X → Type 0) (x : X) → P x → All P (x ∷ [])
+  one P x h = All-cons P x [] h (λ k d below. absurd (omega (arith, below)))
+
+  pub one_is_honest : (IsHonest : D → Type 0) (rs : List (OpeningRequest D E)) → rs ≡ r ∷ []
+      → IsHonest r.prover_data.now → All (λ list. length list.items ≢ 0) r.points.items
+      → AreHonest IsHonest (map request rs)
+  one_is_honest IsHonest rs is honest points =
+      subst (λ qs. AreHonest IsHonest (map request qs)) (sym is) (record {
+        data_honest = one (λ (q : Request D E). IsHonest q.datum) (request r) honest;
+        points = one (λ (q : Request D E). All (λ zs. zs ≢ []) q.points) (request r)
+            (All-map (λ zs. zs ≢ []) (λ list. list.items) r.points.items
+            (λ k d below none. points k d below (ap length none)));
+      })
+
+  -- known domains of the sizes of what is held fit it
+  pub one_fits : {Com Domain : Type 0} (held : D → List (Held E)) (domain_size : Domain → ℕ)
+      (known : Known Com Domain) (ks : List (Known Com Domain)) (rs : List (OpeningRequest D E))
+      → ks ≡ known ∷ [] → rs ≡ r ∷ []
+      → map domain_size known.domains.items ≡ map (λ m. m.size) (held r.prover_data.now)
+      → FitDomains held domain_size (map (λ k. k.domains.items) ks) (map request rs)
+  one_fits held domain_size known ks rs known_is is sizes = cc
