@@ -12,8 +12,9 @@ pub mod round;
 pub mod values;
 
 pub use crate::all_points::{Denominators, denominators_of_rounds};
-pub use crate::checks::{check_heights, check_points, is_in_evaluation_domain};
-pub use crate::checks::{check_round_heights, check_round_points};
+pub use crate::checks::{
+    check_heights, check_points, check_round_heights, check_round_points, is_in_evaluation_domain,
+};
 pub use crate::denominators::{PointDenominators, denominators_of_point, inverses_at};
 pub use crate::opened::open_values;
 pub use crate::requests::rounds_of_requests;

@@ -37,4 +37,4 @@ pub returns : goal.returns
 returns g c =
     let all = nothing_left c.loop-domain.yielded c.loop-domain.domain-iterator.rest.items c.args.evaluations.items
     c.loop-domain.domain-iterator.rest.len c.loop-domain.invariant.count c.in-None.ensures.steps.0 c.loop-domain.invariant.whole in
-    rw (← all) (record { words = c.loop-domain.invariant.words_so_far; })
+    rw (← all) (record { words = c.loop-domain.invariant.words_so_far })
