@@ -1,0 +1,11 @@
+use Rattle.std.proofs.lemmas.List.Elements.{All-push}
+use Rattle.std.proofs.Common.{All, subst, sym}
+use Rattle.p3_fri_commit.specs.Extension.{FitsDomain}
+use Rattle.p3_stark_pcs_tests.proofs.columns.columns.Goals as goal
+
+pub loop-shift-preserved : goal.loop-shift-preserved
+loop-shift-preserved c =
+    subst (λ es. All (λ e. FitsDomain 27 1 e.0.log_size e.1) es)
+    (sym c.in_ok-push.ensures.items)
+    (All-push (λ e. FitsDomain 27 1 e.0.log_size e.1) c.loop-shift.all.items
+    c.in_ok-column.field-0 c.loop-shift.invariant c.in_ok-column.ensures)

@@ -1,0 +1,11 @@
+//! Tests of what a STARK prover asks of a scheme, at the scheme over two-adic fields.
+#![tactic(auto)]
+
+#[cfg(test)]
+mod columns;
+#[cfg(test)]
+mod evaluations;
+#[cfg(test)]
+mod quotients;
+#[cfg(test)]
+mod scheme;
