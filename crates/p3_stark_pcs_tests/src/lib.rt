@@ -6,6 +6,8 @@ mod columns;
 #[cfg(test)]
 mod evaluations;
 #[cfg(test)]
+mod preprocessed;
+#[cfg(test)]
 mod quotients;
 #[cfg(test)]
 mod scheme;

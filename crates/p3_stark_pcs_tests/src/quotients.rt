@@ -10,7 +10,7 @@ use std::alloc::Global;
 use std::test::Fail;
 
 /// The values of `2 - X` on the coset of 31 of 4 points, in bit-reversed order.
-const WORD: [u64; 4] = [2_013_265_892, 33, 777_639_966, 1_235_625_959];
+pub(crate) const WORD: [u64; 4] = [2_013_265_892, 33, 777_639_966, 1_235_625_959];
 
 /// The words of these columns, and the matrices that a commitment to those words holds.
 fn words_of(alloc: Global, each: &[(u64, &[u64])]) -> Result<(Vec<Vec<u64>>, Vec<Vec<u64>>), Fail> {

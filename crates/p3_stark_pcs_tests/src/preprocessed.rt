@@ -1,0 +1,45 @@
+//! Preprocessed columns committed to, and random ones of which there are none.
+
+use crate::columns::{columns, coset, numbers_of};
+use crate::quotients::WORD;
+use crate::scheme::{Inputs, Scheme, scheme};
+use p3_challenger::Sha256Challenger;
+use p3_commit::Mmcs;
+use p3_field::BabyBear4;
+use p3_stark_pcs::UnivariateStarkPcs;
+use std::test::Fail;
+
+#[test]
+fn preprocessed_columns_are_extended(rt: HostRuntime) -> Result<(), Fail> {
+    let mut scheme = scheme();
+    let evaluations = columns(rt.alloc(), &[(1, &[1, 3])])?;
+    let committed = <Scheme as UnivariateStarkPcs<
+        BabyBear4,
+        Sha256Challenger,
+    >>::commit_preprocessing(&mut scheme, rt.alloc(), evaluations);
+    let Ok((_, data)) = committed else {
+        return Err(Fail::new("memory was refused"));
+    };
+    let mmcs = Inputs::new();
+    let matrices = mmcs.get_matrices(&data);
+    assert_eq!(rt; matrices.len(), 1);
+    for matrix in matrices {
+        assert_eq!(rt; numbers_of(rt.alloc(), matrix)?.as_slice(), WORD.as_slice());
+    }
+    Ok(())
+}
+
+#[test]
+fn no_random_polynomials_are_committed_to(rt: HostRuntime) -> Result<(), Fail> {
+    let mut scheme = scheme();
+    let domains = vec![in rt.alloc(); coset(1, 1)?]?;
+    let found = <Scheme as UnivariateStarkPcs<
+        BabyBear4,
+        Sha256Challenger,
+    >>::get_opt_randomization_poly_commitment(&mut scheme, rt.alloc(), domains);
+    match found {
+        Ok(None) => Ok(()),
+        Ok(Some(_)) => Err(Fail::new("a commitment is made")),
+        Err(_) => Err(Fail::new("memory was refused")),
+    }
+}
