@@ -99,8 +99,8 @@ pub(crate) fn word(alloc: Global) -> Result<Vec<Vec<BabyBear4>>, Fail>
     Ok(words)
 }
 
-/// Whether the tests' parameters are such as these, so that words of up to `2^log_height` entries may
-/// be proved and verified.
+/// Whether these parameters are as small as the tests', and the words' log height too, so that they
+/// may be proved and verified.
 fn are_small(parameters: &Parameters, extra_bits: usize, log_height: usize) -> bool
     ensures blowup { IsTrue result → parameters.now.log_blowup ≤ 2 }
     ensures cap { IsTrue result → 0 < parameters.now.max_log_arity }
