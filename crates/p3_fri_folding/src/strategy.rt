@@ -26,7 +26,8 @@ pub trait FriFoldingStrategy<F: TwoAdicField, EF: ExtensionField<F>> {
 
     ghost row_fold: { Self → ℕ → ℕ → ℕ → EF → List EF → EF };
 
-    /// How many lowest bits of a query's index are for the input openings alone.
+    /// How many bits are drawn with each query's index and shifted off it, alike on both sides, so
+    /// that a query's position is the drawn index without its lowest bits.
     fn extra_query_index_bits(&self) -> usize
         ensures { result ≡ extra_query_index_bits self.now };
 
@@ -72,7 +73,7 @@ pub trait FriFoldingStrategy<F: TwoAdicField, EF: ExtensionField<F>> {
         (max_log_height strategy) (row_fold strategy) };
 }
 
-/// Another strategy, with lowest bits of a query's index that are for the input openings alone.
+/// Another strategy, with so many extra bits drawn with each query's index.
 #[derive(Drop)]
 pub struct WithExtraBits<S> {
     inner: S,
