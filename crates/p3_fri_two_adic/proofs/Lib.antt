@@ -3,4 +3,5 @@ mod Committed
 mod Evaluated
 mod Ldes
 mod Sizes
+mod Tabulated
 mod Unspent

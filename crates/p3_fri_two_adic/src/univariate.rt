@@ -1,11 +1,15 @@
 //! The scheme over two-adic fields as a STARK prover uses it, in the Rust crate's names.
 
-ghost use Rattle.std.specs.Prelude.{◌≡◌, ◌≢◌, ◌↔◌, ◌≤◌, ◌^◌, ℕ, ⊤, false, List, map, length};
-ghost use Rattle.std.specs.Prelude.{All, IsOk, IfOk, IfErr, Ok, Err, None, refl};
+ghost use Rattle.std.specs.Prelude.{◌≡◌, ◌≢◌, ◌↔◌, ◌≤◌, ◌/◌, ◌^◌, ℕ, ⊤, false, List, map, length};
+ghost use Rattle.std.specs.Prelude.{All, IsOk, IfOk, IfErr, MatchResult, Ok, Err, None, refl};
 ghost use Rattle.std.specs.List.{AllZip};
 ghost use Rattle.p3_field.specs.Coset.{coset_point};
 ghost use Rattle.p3_pcs.specs.Claims.{claim};
 ghost use Rattle.p3_pcs.specs.Requests.{AreOpenable};
+ghost use Rattle.p3_periodic.specs.Columns.{HasPeriod, Refuses};
+ghost use Rattle.p3_periodic.specs.Tables.{AreTabulated};
+ghost use Rattle.p3_periodic.specs.Values.{IsColumnValue};
+ghost use Rattle.p3_periodic.specs.Views.{table_rows};
 ghost use Rattle.p3_stark_pcs.specs.Evaluations.{HoldsValues, held_at};
 ghost use Rattle.p3_fri_commit.specs.Extension.{FitsDomain, IsLowDegreeExtension};
 ghost use Rattle.p3_fri_steps.specs.declared.error.FriProverError.TheVariants as refusal;
@@ -41,6 +45,7 @@ use p3_fri_relation::setting::ChallengeField;
 use p3_fri_steps::FriProverError;
 use p3_matrix::RowMajorMatrix;
 use p3_pcs::{OpeningRequest, Pcs};
+use p3_periodic::{PeriodicError, PeriodicLdeTable, build_periodic_lde_table_two_adic};
 use p3_stark_pcs::UnivariateStarkPcs;
 use std::alloc::{AllocError, Global};
 
@@ -67,7 +72,7 @@ impl<
 
     ghost embed = { EF.lift };
 
-    ghost point = { λ d i. EF.lift (coset_point F.ops (F.root d.log_size) d.shift i) };
+    ghost point = { λ d. coset_point F.ops (F.root d.log_size) d.shift };
 
     ghost matrices_of = { λ d. InputMmcs.committed d };
 
@@ -133,6 +138,8 @@ impl<
     ghost CanRandomize = { λ _ _. ⊤ };
 
     ghost RandomizationRefuses = { λ _ _ _. ⊥ };
+
+    ghost IsPeriodicValue = { λ trace z. IsColumnValue F.ops F.root trace.log_size z };
 
     fn log_max_trace_height(&self) -> usize {
         F::TWO_ADICITY
@@ -283,6 +290,34 @@ impl<
             prover_data,
             index,
             domain,
+        )
+    }
+
+    /// A transform is made for each distinct length of a column. Of the trace's domain only the
+    /// size is read.
+    fn build_periodic_lde_table(
+        &self,
+        alloc: Global,
+        periodic_table: &[Vec<F>],
+        trace_domain: TwoAdicMultiplicativeCoset<F>,
+        quotient_domain: TwoAdicMultiplicativeCoset<F>,
+    ) -> Result<PeriodicLdeTable<F>, PeriodicError>
+        requires { 2 ^ trace_domain.log_size ≤ 2 ^ quotient_domain.log_size }
+        ensures table { IfOk result (λ table. AreTabulated periodic_table.now
+            (2 ^ quotient_domain.log_size / 2 ^ trace_domain.log_size)
+            (λ index. IsColumnValue F.ops F.root trace_domain.log_size
+            (coset_point F.ops (F.root quotient_domain.log_size) quotient_domain.shift index))
+            (table_rows table)) }
+        ensures exactly { MatchResult result
+            (λ _. All (HasPeriod (2 ^ trace_domain.log_size)) periodic_table.now)
+            (Refuses (2 ^ trace_domain.log_size) periodic_table.now) }
+    {
+        build_periodic_lde_table_two_adic(
+            alloc,
+            &self.dft,
+            periodic_table,
+            &trace_domain,
+            &quotient_domain,
         )
     }
 

@@ -1,12 +1,17 @@
 //! The trait of schemes that a STARK prover uses.
 
-ghost use Rattle.std.specs.Prelude.{◌≡◌, ◌≢◌, ◌↔◌, ◌<◌, ℕ, Bool, false, List, Option, map, length};
-ghost use Rattle.std.specs.Prelude.{IsOk, IfOk, IfErr, IfSome, Err};
+ghost use Rattle.std.specs.Prelude.{◌≡◌, ◌≢◌, ◌↔◌, ◌<◌, ◌≤◌, ◌/◌, ℕ, Bool, false, List, Option};
+ghost use Rattle.std.specs.Prelude.{map, length, All, IsOk, IfOk, IfErr, IfSome, MatchResult, Err};
 ghost use Rattle.std.specs.List.{AllZip};
+ghost use Rattle.std.specs.declared.alloc.Global.{Global};
+ghost use Rattle.std.specs.declared.vec.Vec.{Vec};
 ghost use Rattle.p3_matrix.specs.declared.dense.RowMajorMatrix.{RowMajorMatrix};
 ghost use Rattle.p3_pcs.specs.Claims.{Claim, claim, opened_values};
 ghost use Rattle.p3_pcs.specs.Requests.{Held, Request, request, with_data, AreOpenable, AreHonest};
 ghost use Rattle.p3_pcs.specs.Requests.{honest_values, honest_claims, FitDomains};
+ghost use Rattle.p3_periodic.specs.Columns.{HasPeriod, Refuses};
+ghost use Rattle.p3_periodic.specs.Tables.{AreTabulated};
+ghost use Rattle.p3_periodic.specs.Views.{table_rows};
 ghost use Rattle.p3_stark_pcs.specs.Heights.{IsTraceHeight};
 ghost use Rattle.p3_stark_pcs.specs.Preprocessing.{AreOpenableAt, AreKept};
 ghost use Rattle.p3_stark_pcs.specs.Evaluations.{HoldsValues, held_at};
@@ -14,11 +19,12 @@ ghost use Rattle.p3_stark_pcs.specs.Evaluations.{HoldsValues, held_at};
 use p3_commit::{CommitmentOpening, OpenedValues};
 use p3_matrix::RowMajorMatrix;
 use p3_pcs::{OpeningRequest, Pcs};
+use p3_periodic::{PeriodicError, PeriodicLdeTable};
 use std::alloc::Global;
 
 /// A scheme of polynomials in one variable, as a STARK prover uses it: beside its trace it commits
-/// to preprocessed columns, to quotients that it extends itself, and reads committed columns on
-/// other domains.
+/// to preprocessed columns, to quotients that it extends itself, and reads committed columns and
+/// periodic ones on other domains.
 ///
 /// One round of an opening may be named as preprocessing. A scheme that hides opens it without
 /// masks; to one that doesn't the name says nothing, which the laws state.
@@ -34,7 +40,7 @@ pub trait UnivariateStarkPcs<EF: Copy, C>: Pcs<EF, C> {
 
     ghost embed: { Self.Val → EF };
 
-    ghost point: { Self.Domain → ℕ → EF };
+    ghost point: { Self.Domain → ℕ → Self.Val };
 
     ghost matrices_of: { Self.ProverData → List (RowMajorMatrix Self.Val) };
 
@@ -84,6 +90,8 @@ pub trait UnivariateStarkPcs<EF: Copy, C>: Pcs<EF, C> {
     ghost CanRandomize: { Self → List Self.Domain → Type 0 };
 
     ghost RandomizationRefuses: { Self → List Self.Domain → Self.ProverError → Type 0 };
+
+    ghost IsPeriodicValue: { Self.Domain → Self.Val → Vec Self.Val Global → Self.Val → Type 0 };
 
     /// The logarithm of the greatest height of a trace.
     fn log_max_trace_height(&self) -> usize
@@ -166,7 +174,7 @@ pub trait UnivariateStarkPcs<EF: Copy, C>: Pcs<EF, C> {
         requires range { Self.InProverRange self.now }
         requires evaluable { CanEvaluate self.now prover_data.now index domain }
         ensures values { Self.IsHonest self.now prover_data.now
-            → IfOk result (HoldsValues embed (point domain) (Self.domain_size domain)
+            → IfOk result (HoldsValues embed (λ i. embed (point domain i)) (Self.domain_size domain)
             (held_at (Self.held self.now prover_data.now) index).values_at) }
         ensures refused { IfErr result EvaluationRefuses };
 
@@ -181,9 +189,30 @@ pub trait UnivariateStarkPcs<EF: Copy, C>: Pcs<EF, C> {
         requires range { Self.InProverRange self.now }
         requires evaluable { CanEvaluateWhole self.now prover_data.now index domain }
         ensures values { Self.IsHonest self.now prover_data.now
-            → IfOk result (HoldsValues embed (point domain) (Self.domain_size domain)
+            → IfOk result (HoldsValues embed (λ i. embed (point domain i)) (Self.domain_size domain)
             (held_at (held_whole self.now prover_data.now) index).values_at) }
         ensures refused { IfErr result EvaluationRefuses };
+
+    /// The table of periodic columns on a domain that isn't smaller than their trace's: `P * b` rows,
+    /// with `P` the greatest length of a column and `b` the number of the domain's points for each
+    /// row of the trace. The row at an index, modulo their number, has each column's value at the
+    /// domain's point of that index. Refused by the first column whose length isn't a power of two
+    /// or doesn't divide the trace's height, before anything grows.
+    fn build_periodic_lde_table(
+        &self,
+        alloc: Global,
+        periodic_table: &[Vec<Self::Val>],
+        trace_domain: Self::Domain,
+        quotient_domain: Self::Domain,
+    ) -> Result<PeriodicLdeTable<Self::Val>, PeriodicError>
+        requires { Self.domain_size trace_domain ≤ Self.domain_size quotient_domain }
+        ensures table { IfOk result (λ table. AreTabulated periodic_table.now
+            (Self.domain_size quotient_domain / Self.domain_size trace_domain)
+            (λ index. IsPeriodicValue trace_domain (point quotient_domain index))
+            (table_rows table)) }
+        ensures exactly { MatchResult result
+            (λ _. All (HasPeriod (Self.domain_size trace_domain)) periodic_table.now)
+            (Refuses (Self.domain_size trace_domain) periodic_table.now) };
 
     /// A commitment to random polynomials, one for each domain, where the scheme needs such. One
     /// that doesn't hide has none.

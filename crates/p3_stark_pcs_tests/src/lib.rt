@@ -6,6 +6,10 @@ mod columns;
 #[cfg(test)]
 mod evaluations;
 #[cfg(test)]
+mod opened;
+#[cfg(test)]
+mod periodic;
+#[cfg(test)]
 mod preprocessed;
 #[cfg(test)]
 mod quotients;
