@@ -399,9 +399,19 @@ impl<
 
     ghost plain_data_law = { λ _ _ _. ((λ h. h), (λ h. h)) };
 
+    ghost plain_commit_law = { λ _ _ _ _. ((λ h. h), (λ h. h)) };
+
+    ghost plain_openable_law = { λ _ _ _ _ h. h };
+
+    ghost plain_checks_law = { λ _ _ _ _. ((λ h. h), (λ h. h)) };
+
+    ghost plain_refuses_law = { λ _ _ _ _ _ _. ((λ h. h), (λ h. h)) };
+
     ghost plain_accepts_law = { λ _ _ _ _ _ _. ((λ h. h), (λ h. h)) };
 
     ghost plain_state_law = { λ _ _ _ _ _ _. refl };
+
+    ghost plain_faults_law = { λ _ _ _ _ _ _ _. ((λ h. h), (λ h. h)) };
 
     ghost plain_evaluable_law = { λ _ _ _ _ _. ((λ h. h), (λ h. h)) };
 

@@ -308,6 +308,22 @@ pub trait UnivariateStarkPcs<EF: Copy, C>: Pcs<EF, C> {
     ghost plain_data_law: { ZK ≡ false → (s : Self) (d : Self.ProverData)
         → CanOpenPreprocessed s d ↔ Self.CanOpen s d };
 
+    ghost plain_commit_law: { ZK ≡ false → (s : Self)
+        (evaluations : List (Self.Domain × RowMajorMatrix Self.Val)) (e : Self.ProverError)
+        → PreprocessingRefuses s evaluations e ↔ Self.CommitRefuses s evaluations e };
+
+    ghost plain_openable_law: { ZK ≡ false → (s : Self) (index : Option ℕ)
+        (requests : List (Request Self.ProverData EF))
+        → AreOpenable (Self.CanOpen s) (Self.held s) requests → CanOpenAt s index requests };
+
+    ghost plain_checks_law: { ZK ≡ false → (s : Self) (index : Option ℕ)
+        (requests : List (Request Self.ProverData EF))
+        → PassesChecksAt s index requests ↔ Self.PassesChecks s requests };
+
+    ghost plain_refuses_law: { ZK ≡ false → (s : Self) (index : Option ℕ) (c : C)
+        (requests : List (Request Self.ProverData EF)) (e : Self.ProverError)
+        → RefusesAt s index c requests e ↔ Self.Refuses s c requests e };
+
     ghost plain_accepts_law: { ZK ≡ false → (s : Self) (index : Option ℕ) (c : C)
         (claims : List (Claim EF Self.Commitment Self.Domain)) (proof : Self.Proof)
         → AcceptsAt s index c claims proof ↔ Self.Accepts s c claims proof };
@@ -315,6 +331,10 @@ pub trait UnivariateStarkPcs<EF: Copy, C>: Pcs<EF, C> {
     ghost plain_state_law: { ZK ≡ false → (s : Self) (index : Option ℕ) (c : C)
         (claims : List (Claim EF Self.Commitment Self.Domain)) (proof : Self.Proof)
         → last_state_at s index c claims proof ≡ Self.last_state s c claims proof };
+
+    ghost plain_faults_law: { ZK ≡ false → (s : Self) (index : Option ℕ)
+        (claims : List (Claim EF Self.Commitment Self.Domain)) (proof : Self.Proof) (c : C)
+        (e : Self.Error) → FaultsAt s index claims proof c e ↔ Self.Faults s claims proof c e };
 
     ghost plain_evaluable_law: { ZK ≡ false → (s : Self) (d : Self.ProverData) (index : ℕ)
         (domain : Self.Domain)

@@ -28,12 +28,15 @@ fn open_at_five(
     opened_index: Option<usize>,
     verified_index: Option<usize>,
 ) -> Result<(Option<BabyBear4>, bool), Fail>
-    requires cosets { All (HasCoset 27) (matrices_of held.old) }
+    requires { All (HasCoset 27) (matrices_of held.old) }
 {
     let scheme = scheme();
     let points = vec![in alloc; vec![in alloc; constant(5)]?]?;
-    if Inputs::new().get_matrices(&*held).len() != 1 || points.len() != 1 {
+    if Inputs::new().get_matrices(&*held).len() != 1 {
         return Err(Fail::new("not one matrix"));
+    }
+    if points.len() != 1 {
+        return Err(Fail::new("not one list of points"));
     }
     let domains: Vec<Domain> = vec![in alloc; coset(1, 1)?]?;
     let known = vec![in alloc;
@@ -90,7 +93,7 @@ fn open_at_five(
     Ok((last, prover == verifier))
 }
 
-/// `2 - X` at 5 is -3, whatever the indices.
+/// `2 - X` at 5 is -3, whatever the index.
 #[test]
 fn committed_words_are_opened(rt: HostRuntime) -> Result<(), Fail> {
     for index in [None, Some(0), Some(7)] {
