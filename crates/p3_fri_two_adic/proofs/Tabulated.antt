@@ -1,5 +1,6 @@
 -- Tables of periodic columns, by the sizes of both domains.
-use Rattle.std.proofs.Common.{◌≡◌, ◌≤◌, ℕ, ◌+◌, ◌-◌, ◌/◌, ◌^◌, List, refl, sym, ap, subst, ◌∙◌, arith}
+use Rattle.std.proofs.Common.{◌≡◌, ◌≤◌, ℕ, ◌+◌, ◌-◌, ◌/◌, ◌^◌, List, refl, sym, ap, subst}
+use Rattle.std.proofs.Common.{◌∙◌, arith}
 use Rattle.std.specs.Prelude.{Result, IfOk}
 use Rattle.std.specs.declared.vec.Vec.{Vec}
 use Rattle.p3_dft.proofs.Batches.{exponent_within}

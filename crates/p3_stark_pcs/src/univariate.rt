@@ -193,11 +193,11 @@ pub trait UnivariateStarkPcs<EF: Copy, C>: Pcs<EF, C> {
             (held_at (held_whole self.now prover_data.now) index).values_at) }
         ensures refused { IfErr result EvaluationRefuses };
 
-    /// The table of periodic columns on a domain that isn't smaller than their trace's: `P * b` rows,
-    /// with `P` the greatest length of a column and `b` the number of the domain's points for each
-    /// row of the trace. The row at an index, modulo their number, has each column's value at the
-    /// domain's point of that index. Refused by the first column whose length isn't a power of two
-    /// or doesn't divide the trace's height, before anything grows.
+    /// The table of periodic columns on a domain that isn't smaller than their trace's: `P * b`
+    /// rows, with `P` the greatest length of a column and `b` the number of the domain's points for
+    /// each row of the trace. The row at an index, modulo their number, has each column's value at
+    /// the domain's point of that index. Refused by the first column whose length isn't a power of
+    /// two or doesn't divide the trace's height, before anything grows.
     fn build_periodic_lde_table(
         &self,
         alloc: Global,
