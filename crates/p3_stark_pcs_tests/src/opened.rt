@@ -111,8 +111,9 @@ fn committed_words_are_opened(rt: HostRuntime) -> Result<(), Fail> {
             rt.alloc(),
             ldes,
         );
-        let Ok((commitment, mut data)) = committed else {
-            return Err(Fail::new("memory was refused"));
+        let (commitment, mut data) = match committed {
+            Ok(pair) => pair,
+            Err(_) => return Err(Fail::new("memory was refused")),
         };
         let (value, same) = open_at_five(rt.alloc(), commitment, &mut data, index, None)?;
         assert_eq!(rt; value, Some(constant(2_013_265_918)));
@@ -130,8 +131,9 @@ fn preprocessed_columns_are_opened(rt: HostRuntime) -> Result<(), Fail> {
             BabyBear4,
             Sha256Challenger,
         >>::commit_preprocessing(&mut scheme, rt.alloc(), evaluations);
-        let Ok((commitment, mut data)) = committed else {
-            return Err(Fail::new("memory was refused"));
+        let (commitment, mut data) = match committed {
+            Ok(pair) => pair,
+            Err(_) => return Err(Fail::new("memory was refused")),
         };
         let (value, same) = open_at_five(rt.alloc(), commitment, &mut data, Some(0), index)?;
         assert_eq!(rt; value, Some(constant(2_013_265_918)));
