@@ -7,5 +7,6 @@ pub open_with_preprocessing-answer-requires-clause-shape :
 open_with_preprocessing-answer-requires-clause-shape c =
     let is = rw c.new-requests.ensures.items at
     (c.as_mut_slice.ensures.value ∙ c.in_ok-push.ensures.items) in
-    openable_one _ _ _ _ _ is c.requires (sym c.len.ensures ∙ c.if-len-ne1.false)
+    openable_one _ _ _ _ _ is c.requires
+    (sym c.in_ok-points.points.ok.0 ∙ sym c.len.ensures ∙ c.if-len-ne1.false)
     (sym (ap length c.get_matrices.ensures) ∙ c.if-get_matrices-ne1.false)
