@@ -60,7 +60,9 @@ pub fn combine_row<F: Field, EF: ExtensionField<F>>(ladder: &Ladder<EF>, row: &[
 {
     let mut sum = EF::ZERO;
     for k in 0..row.len() {
-        sum = sum + ladder.powers[k].scale(row[k]);
+        // one division for the entry, and then none for a coefficient
+        let entry = row[k].prepare();
+        sum = sum + ladder.powers[k].scale_prepared(entry);
     }
     sum
 }

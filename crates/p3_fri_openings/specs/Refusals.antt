@@ -36,13 +36,6 @@ module _ (p : Parameters) where
         pub first : FirstAt (λ m. IsTallEnough (log_height m)) (λ m. HeightRefusal (log_height m) e)
             matrices matrix
 
-    -- and of several rounds: by the first such round
-    pub record FirstHeightRefusal {E : Type 0} (rounds : List (OpeningRound F E))
-        (e : FriProverError) : Type 0 where
-      pub round : ℕ
-      pub first : FirstAt (λ r. AreTallEnough r.matrices.now)
-          (λ r. RoundHeightRefusal e r.matrices.now) rounds round
-
 module _ {F E : Type 0} (f : Fields F E) where
   -- `z` lies in the evaluation coset of log height `h`, or doesn't
   abbrev pub IsOn : (h : ℕ) → (z : E) → Type 0

@@ -6,7 +6,7 @@ ghost use Rattle.p3_fri_relation.specs.Views.{parameters_of};
 ghost use Rattle.p3_fri_openings.specs.Rounds.{asked_in, HasCoset, IsRound};
 ghost use Rattle.p3_fri_openings.specs.First.{FirstAt};
 ghost use Rattle.p3_fri_openings.specs.Refusals.{IsTallEnough, HeightRefusal, AreTallEnough};
-ghost use Rattle.p3_fri_openings.specs.Refusals.{RoundHeightRefusal, FirstHeightRefusal};
+ghost use Rattle.p3_fri_openings.specs.Refusals.{RoundHeightRefusal};
 ghost use Rattle.p3_fri_openings.specs.Refusals.{IsOn, IsOff, ArePointsOff};
 ghost use Rattle.p3_fri_openings.specs.Refusals.{RoundPointRefusal, PointRefusal};
 
@@ -52,25 +52,6 @@ pub fn check_round_heights<M, F: TwoAdicField>(
 {
     for matrix in matrices {
         if let Err(refusal) = check_height(params, log2_strict_usize(matrix.height())) {
-            return Err(refusal);
-        }
-    }
-    Ok(())
-}
-
-/// Whether all matrices are tall enough to be opened. Otherwise the refusal is that of the first
-/// which isn't, round by round.
-pub fn check_heights<M, F: TwoAdicField, EF: ExtensionField<F>>(
-    params: &FriParameters<M>,
-    rounds: &[OpeningRound<'_, F, EF>],
-) -> Result<(), FriProverError>
-    requires rounds { All (IsRound F.TWO_ADICITY) rounds.now }
-    ensures { MatchResult result
-        (λ _. All (λ r. AreTallEnough (parameters_of params.now) r.matrices.now) rounds.now)
-        (FirstHeightRefusal (parameters_of params.now) rounds.now) }
-{
-    for round in rounds {
-        if let Err(refusal) = check_round_heights(params, round.matrices) {
             return Err(refusal);
         }
     }

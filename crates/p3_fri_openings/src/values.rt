@@ -35,7 +35,9 @@ fn add_weighted_row<F: Field, EF: ExtensionField<F>>(sums: &mut [EF], row: &[F],
         (EF.ops.mul weight (EF.lift (slice_index_or row.now j F.ops.zero))) }
 {
     for j in 0..sums.len() {
-        sums[j] = sums[j] + weight.scale(row[j]);
+        // one division for the entry, and then none for a coefficient
+        let entry = row[j].prepare();
+        sums[j] = sums[j] + weight.scale_prepared(entry);
     }
 }
 

@@ -20,8 +20,9 @@ loop-k-preserved g c =
     let k = c.loop-k.k in
     let p = c.index.result.now in
     let v = c.index-row-k.result in
-    field.add_law c.loop-k.sum c.scale.result c.add-sum.result c.add-sum.ensures
-    ∙ ap (λ t. K.add c.loop-k.sum t) c.scale.ensures
+    field.add_law c.loop-k.sum c.scale_prepared.result c.add-sum.result c.add-sum.ensures
+    ∙ ap (λ t. K.add c.loop-k.sum t)
+    (c.scale_prepared.ensures ∙ ap (λ x. K.mul p (lift x)) c.prepare-entry.ensures)
     ∙ lifted_next K field.laws.ring ladder.alpha lift _ k ladder.powers.items c.args.row.now p
     c.loop-k.sum v ladder.are_powers (omega arith) c.index.ensures (omega arith) c.index-row-k.is
     c.loop-k.invariant
