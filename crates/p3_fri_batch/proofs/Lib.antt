@@ -1,5 +1,6 @@
 pub mod Terms
 pub mod Rows
+pub mod MappedRows
 pub mod LowDegree
 pub mod LowWords
 pub mod Heights

@@ -66,3 +66,26 @@ pub fn combine_row<F: Field, EF: ExtensionField<F>>(ladder: &Ladder<EF>, row: &[
     }
     sum
 }
+
+/// The same of two rows of one width at once, which share what is made of each power.
+pub fn combine_rows<F: Field, EF: ExtensionField<F>>(
+    ladder: &Ladder<EF>,
+    first: &[F],
+    second: &[F],
+) -> (EF, EF)
+    requires powers { length first.now ≤ vec_len ladder.now.powers }
+    requires width { length second.now ≡ length first.now }
+    ensures first { result.0 ≡ val EF.ops (map EF.lift first.now) ladder.now.alpha }
+    ensures second { result.1 ≡ val EF.ops (map EF.lift second.now) ladder.now.alpha }
+{
+    let mut first_sum = EF::ZERO;
+    let mut second_sum = EF::ZERO;
+    for k in 0..first.len() {
+        let power = ladder.powers[k];
+        let first_entry = first[k].prepare();
+        let second_entry = second[k].prepare();
+        first_sum = first_sum + power.scale_prepared(first_entry);
+        second_sum = second_sum + power.scale_prepared(second_entry);
+    }
+    (first_sum, second_sum)
+}

@@ -4,4 +4,4 @@
 
 pub mod ladder;
 
-pub use crate::ladder::{Ladder, combine_row};
+pub use crate::ladder::{Ladder, combine_row, combine_rows};
