@@ -109,19 +109,20 @@ pub(crate) fn answer_queries<EF: Copy, M: Mmcs<EF>>(
     alloc: Global,
     mmcs: &M,
     log_arities: &[usize],
-    data: &[M::ProverData],
+    prover_data: &[M::ProverData],
     positions: &[usize],
 ) -> Result<Vec<CommitPhaseMultiStep<EF, M>>, AllocError>
-    requires data_for_each { length data.now ≡ length log_arities.now }
+    requires data_for_each { length prover_data.now ≡ length log_arities.now }
     requires openable { (k : ℕ) (datum : M.ProverData) → k < length log_arities.now →
-        IsOpenable log_arities.now positions.now k (M.committed (slice_index_or data.now k datum)) }
+        IsOpenable log_arities.now positions.now k
+        (M.committed (slice_index_or prover_data.now k datum)) }
     ensures count { IfOk result (λ openings. vec_len openings ≡ length log_arities.now) }
     ensures each { IfOk result (λ openings. (k : ℕ) (o : _) (datum : M.ProverData)
         (matrix : RowMajorMatrix EF) → k < length log_arities.now →
-        M.committed (slice_index_or data.now k datum) ≡ matrix ∷ [] →
+        M.committed (slice_index_or prover_data.now k datum) ≡ matrix ∷ [] →
         OpensRows (M.opens mmcs.now) (slice_index log_arities.now k) matrix
         (map (λ q. index_into log_arities.now q k) positions.now)
-        (M.commitment_of (slice_index_or data.now k datum))
+        (M.commitment_of (slice_index_or prover_data.now k datum))
         (lists (slice_index_or openings.items k o).sibling_values.items)
         (slice_index_or openings.items k o).opening_proof) }
 {
@@ -129,7 +130,7 @@ pub(crate) fn answer_queries<EF: Copy, M: Mmcs<EF>>(
     let mut indices = Vec::from_slice(alloc, positions)?;
     for round in 0..log_arities.len() {
         let log_arity = log_arities[round];
-        openings.push(open_round(alloc, mmcs, log_arity, &indices, &data[round])?)?;
+        openings.push(open_round(alloc, mmcs, log_arity, &indices, &prover_data[round])?)?;
         indices = shifted(alloc, &indices, log_arity)?;
     }
     Ok(openings)

@@ -78,7 +78,7 @@ pub(crate) fn play<
         (S.row_fold folding.now) ⟦<C as Plays<F, EF, M::Commitment>>⟧.moves
         params.now.log_final_poly_len (shape_of transcript.old) top (lists inputs.items)
         (state_of transcript.old) played.rounds.commitments.items played.rounds.witnesses.items
-        played.rounds.data.items played.final_poly.items played.query_witness
+        played.rounds.prover_data.items played.final_poly.items played.query_witness
         played.indices.items (state_of transcript.new)) }
     ensures refused { IfErr result (λ e. (top : ℕ) →
         length (slice_index_or (lists inputs.items) 0 []) ≡ 2 ^ top →
@@ -153,7 +153,7 @@ pub(crate) fn play_test<
         params.now.log_final_poly_len (fri_shape shape) top (lists inputs.items)
         (bytes_observed F.ops ⟦<C as CanObserve<F>>⟧.observed challenger.old (seed_bytes seed))
         played.rounds.commitments.items played.rounds.witnesses.items
-        played.rounds.data.items played.final_poly.items played.query_witness
+        played.rounds.prover_data.items played.final_poly.items played.query_witness
         played.indices.items challenger.new) }
     ensures refused { IfErr result (λ e. (top : ℕ) →
         length (slice_index_or (lists inputs.items) 0 []) ≡ 2 ^ top →

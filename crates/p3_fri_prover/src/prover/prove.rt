@@ -47,10 +47,10 @@ fn open_played<F: TwoAdicField, EF: ExtensionField<F>, M: Mmcs<EF>, InputMmcs: M
     requires data_heights { All (λ datum. max_height
         (dimensions_of (InputMmcs.committed datum.prover_data.now)) ≤ 2 ^ log_global_max_height)
         data_with_points.now }
-    requires data_for_each { length played.rounds.data.items ≡ length log_arities.now }
+    requires data_for_each { length played.rounds.prover_data.items ≡ length log_arities.now }
     requires openable { (k : ℕ) (datum : M.ProverData) → k < length log_arities.now →
         IsOpenable log_arities.now (map (λ i. i / 2 ^ extra_bits) played.indices.items) k
-        (M.committed (slice_index_or played.rounds.data.items k datum)) }
+        (M.committed (slice_index_or played.rounds.prover_data.items k datum)) }
     ensures batch_witness { IfOk result (λ proof. proof.batch_pow_witness ≡ batch_pow_witness) }
     ensures commitments { IfOk result (λ proof.
         proof.commit_phase_commits ≡ played.rounds.commitments) }
@@ -70,11 +70,11 @@ fn open_played<F: TwoAdicField, EF: ExtensionField<F>, M: Mmcs<EF>, InputMmcs: M
         vec_len proof.commit_phase_openings ≡ length log_arities.now) }
     ensures rounds_opened { IfOk result (λ proof. (k : ℕ) (o : _) (datum : M.ProverData)
         (matrix : RowMajorMatrix EF) → k < length log_arities.now →
-        M.committed (slice_index_or played.rounds.data.items k datum) ≡ matrix ∷ [] →
+        M.committed (slice_index_or played.rounds.prover_data.items k datum) ≡ matrix ∷ [] →
         OpensRows (M.opens params.now.mmcs) (slice_index log_arities.now k) matrix
         (map (λ q. index_into log_arities.now q k)
         (map (λ i. i / 2 ^ extra_bits) played.indices.items))
-        (M.commitment_of (slice_index_or played.rounds.data.items k datum))
+        (M.commitment_of (slice_index_or played.rounds.prover_data.items k datum))
         (lists (slice_index_or proof.commit_phase_openings.items k o).sibling_values.items)
         (slice_index_or proof.commit_phase_openings.items k o).opening_proof) }
 {
@@ -86,7 +86,7 @@ fn open_played<F: TwoAdicField, EF: ExtensionField<F>, M: Mmcs<EF>, InputMmcs: M
     } = played;
     let CommittedRounds {
         commitments,
-        data,
+        prover_data,
         witnesses,
     } = rounds;
     let positions = shifted(alloc, &indices, extra_bits)?;
@@ -101,7 +101,7 @@ fn open_played<F: TwoAdicField, EF: ExtensionField<F>, M: Mmcs<EF>, InputMmcs: M
         alloc,
         &params.mmcs,
         log_arities,
-        &data,
+        &prover_data,
         &positions,
     )?;
     Ok(FriProof {

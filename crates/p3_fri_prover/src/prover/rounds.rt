@@ -22,7 +22,7 @@ use std::alloc::{AllocError, Global};
 #[derive(Drop)]
 pub(crate) struct CommittedRounds<F, EF: Copy, M: Mmcs<EF>> {
     pub commitments: Vec<M::Commitment>,
-    pub data: Vec<M::ProverData>,
+    pub prover_data: Vec<M::ProverData>,
     pub witnesses: Vec<F>,
 }
 
@@ -30,12 +30,12 @@ impl<F: Copy, EF: Copy, M: Mmcs<EF>> CommittedRounds<F, EF, M> {
     /// No round, and room for so many.
     fn with_capacity(alloc: Global, rounds: usize) -> Result<Self, AllocError>
         ensures commitments { IfOk result (λ r. r.commitments.items ≡ []) }
-        ensures data { IfOk result (λ r. r.data.items ≡ []) }
+        ensures prover_data { IfOk result (λ r. r.prover_data.items ≡ []) }
         ensures witnesses { IfOk result (λ r. r.witnesses.items ≡ []) }
     {
         Ok(CommittedRounds {
             commitments: Vec::with_capacity(alloc, rounds)?,
-            data: Vec::with_capacity(alloc, rounds)?,
+            prover_data: Vec::with_capacity(alloc, rounds)?,
             witnesses: Vec::with_capacity(alloc, rounds)?,
         })
     }
@@ -45,8 +45,8 @@ impl<F: Copy, EF: Copy, M: Mmcs<EF>> CommittedRounds<F, EF, M> {
         ensures word { IfOk result (λ word. word ≡ round.word) }
         ensures commitments { OnOk result (self.new.commitments.items
             ≡ self.old.commitments.items ++ round.commitment ∷ []) }
-        ensures data { OnOk result (self.new.data.items
-            ≡ self.old.data.items ++ round.prover_data ∷ []) }
+        ensures prover_data { OnOk result (self.new.prover_data.items
+            ≡ self.old.prover_data.items ++ round.prover_data ∷ []) }
         ensures witnesses { OnOk result (self.new.witnesses.items
             ≡ self.old.witnesses.items ++ round.witness ∷ []) }
     {
@@ -57,7 +57,7 @@ impl<F: Copy, EF: Copy, M: Mmcs<EF>> CommittedRounds<F, EF, M> {
             word,
         } = round;
         self.commitments.push(commitment)?;
-        self.data.push(prover_data)?;
+        self.prover_data.push(prover_data)?;
         self.witnesses.push(witness)?;
         Ok(word)
     }
@@ -95,7 +95,7 @@ pub(crate) fn commit_rounds<
         (shape_of transcript.old).commit_pow_bits F.ops.zero EF.ops (S.row_fold folding.now)
         (λ k. of_length (lists inputs.now) (2 ^ k)) top word.items (state_of transcript.old)
         log_arities.now played.0.commitments.items played.0.witnesses.items
-        played.0.data.items played.1.items (state_of transcript.new)) }
+        played.0.prover_data.items played.1.items (state_of transcript.new)) }
     ensures refused { IfErr result (λ e. (top : ℕ) → vec_len word ≡ 2 ^ top →
         RoundsRefusal M.committed M.commitment_of ⟦<C as Plays<F, EF, M::Commitment>>⟧.moves
         (shape_of transcript.old).commit_pow_bits F.ops.zero EF.ops (S.row_fold folding.now)

@@ -11,25 +11,25 @@ use Rattle.p3_fri_prover.proofs.prover.openings.answer_queries.Goals as goal
 pub open_round-requires-clause-one_matrix : goal.open_round-requires-clause-one_matrix
 open_round-requires-clause-one_matrix g c =
     let k = c.loop-round.round in
-    let datum = c.index-data-round.result in
+    let datum = c.index-prover_data-round.result in
     subst (λ d. IsOneMatrix (2 ^ get_or c.args.log_arities.now k 0) (g.M.Mmcs.committed d))
-    (sym c.index-data-round.is) (c.requires.openable k datum (omega arith)).one_matrix
+    (sym c.index-prover_data-round.is) (c.requires.openable k datum (omega arith)).one_matrix
 
 pub open_round-requires-clause-below : goal.open_round-requires-clause-below
 open_round-requires-clause-below g c =
     let k = c.loop-round.round in
     let arities = c.args.log_arities.now in
-    let datum = c.index-data-round.result in
+    let datum = c.index-prover_data-round.result in
     let at = rows_at arities c.args.positions.now k c.deref.result.now
     (c.deref.ensures.value ∙ c.loop-round.invariant.now) (omega arith) in
     subst (λ d. AreBelow (max_height (dimensions_of (g.M.Mmcs.committed d)))
-    (map (λ i. i / 2 ^ get_or arities k 0) c.deref.result.now)) (sym c.index-data-round.is)
+    (map (λ i. i / 2 ^ get_or arities k 0) c.deref.result.now)) (sym c.index-prover_data-round.is)
     (subst (λ xs. AreBelow (max_height (dimensions_of (g.M.Mmcs.committed
-    (get_or c.args.data.now k datum)))) xs) (sym at) (c.requires.openable k datum (omega arith)).below)
+    (get_or c.args.prover_data.now k datum)))) xs) (sym at) (c.requires.openable k datum (omega arith)).below)
 
 pub shifted-requires : goal.shifted-requires
 shifted-requires g c = record {
-  below_64 = (c.requires.openable c.loop-round.round c.index-data-round.result (omega arith)).below_64;
+  below_64 = (c.requires.openable c.loop-round.round c.index-prover_data-round.result (omega arith)).below_64;
 }
 
 pub loop-round-preserved : goal.loop-round-preserved
@@ -38,8 +38,8 @@ loop-round-preserved g c =
     let k = here.round in
     let arities = c.args.log_arities.now in
     let ps = c.args.positions.now in
-    let kept = c.args.data.now in
-    let item = c.index-data-round.result in
+    let kept = c.args.prover_data.now in
+    let item = c.index-prover_data-round.result in
     let opens = g.M.Mmcs.opens c.args.mmcs.now in
     let a = get_or arities k 0 in
     let x = c.in_ok-open_round.field-0 in
@@ -59,7 +59,7 @@ loop-round-preserved g c =
           (λ datum matrix only.
           let same : get_or kept k datum ≡ item =
           get_or_default kept k datum item (omega (arith, c.requires.data_for_each))
-          ∙ sym c.index-data-round.is in
+          ∙ sym c.index-prover_data-round.is in
           subst (λ own. OpensRows opens a matrix (map (λ q. index_into arities q k) ps) own
           (lists x.sibling_values.items) x.opening_proof)
           (ap g.M.Mmcs.commitment_of (sym same))

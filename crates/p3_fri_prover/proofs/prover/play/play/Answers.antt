@@ -89,7 +89,7 @@ final_polynomial-requires-clause-long_enough g c =
           (c.deref.ensures.value ∙ are_others)
           g.M.Mmcs.committed g.M.Mmcs.commitment_of fields fold m l numbers top seeded arities
           c.requires.schedule can.height refl can.long_enough size made.commitments.items
-          made.witnesses.items made.data.items word.items reached (c.in-Ok.ensures.rounds top size),
+          made.witnesses.items made.prover_data.items word.items reached (c.in-Ok.ensures.rounds top size),
     )
 
 pub query_phase-requires-clause-described : goal.query_phase-requires-clause-described
@@ -120,7 +120,7 @@ query_phase-requires-clause-described g c =
     (c.deref.ensures.value ∙ are_others)
     g.M.Mmcs.committed g.M.Mmcs.commitment_of fields fold m l numbers top seeded arities
     c.requires.schedule can.height refl can.long_enough size made.commitments.items
-    made.witnesses.items made.data.items word.items reached (c.in-Ok.ensures.rounds top size) in
+    made.witnesses.items made.prover_data.items word.items reached (c.in-Ok.ensures.rounds top size) in
     ap length (c.deref-2.ensures.value ∙ c.in_ok-final_poly.ensures)
     ∙ length-final_polynomial fields.ext g.met.EF.Field.laws fields.two_adicity
     (λ k. fields.lift (fields.root k))
@@ -154,9 +154,9 @@ returns-in-Err-query_phase-clause-refused g c = λ top whole.
     let rounds = all_committed inputs c.deref.result.now first some is_first
     (c.deref.ensures.value ∙ are_others) g.M.Mmcs.committed g.M.Mmcs.commitment_of fields fold m l
     numbers top seeded arities c.requires.schedule made.commitments.items made.witnesses.items
-    made.data.items word.items reached (c.in-Ok.ensures.rounds top size) in
+    made.prover_data.items word.items reached (c.in-Ok.ensures.rounds top size) in
     queries_stop g.M.Mmcs.committed g.M.Mmcs.commitment_of fields fold m l numbers top
-    (lists inputs) seeded made.commitments.items made.witnesses.items made.data.items word.items
+    (lists inputs) seeded made.commitments.items made.witnesses.items made.prover_data.items word.items
     reached rounds c.deref-2.result.now (fri_shape c.commit_rounds-committed.new.transcript.shape)
     c.in-Err-query_phase.refusal (c.deref-2.ensures.value ∙ c.in_ok-final_poly.ensures)
     c.in-Ok.ensures.kept.shape c.in-Err-query_phase.ensures.refused
@@ -186,7 +186,7 @@ returns-clause-played g c = λ top whole.
     let rounds = all_committed inputs c.deref.result.now first some is_first
     (c.deref.ensures.value ∙ are_others) g.M.Mmcs.committed g.M.Mmcs.commitment_of fields fold m l
     numbers top seeded arities c.requires.schedule made.commitments.items made.witnesses.items
-    made.data.items word.items reached (c.in-Ok.ensures.rounds top size) in
+    made.prover_data.items word.items reached (c.in-Ok.ensures.rounds top size) in
     let own = fri_shape c.commit_rounds-committed.new.transcript.shape in
     let poly = c.in_ok-final_poly.final_poly.items in
     let shown = c.deref-2.result.now in
@@ -202,7 +202,7 @@ returns-clause-played g c = λ top whole.
     g.C.CanSampleBits.sampled_bits fields.coefficients own reached shown
     (Some (unwrap_or found.1 zero)) ∙ c.in-Ok-query_phase.ensures.queries in
     played_to_end g.M.Mmcs.committed g.M.Mmcs.commitment_of fields fold m l numbers top
-    (lists inputs) seeded made.commitments.items made.witnesses.items made.data.items word.items
+    (lists inputs) seeded made.commitments.items made.witnesses.items made.prover_data.items word.items
     reached rounds g.C.GrindingChallenger.solution
     (polynomial_observed g.C.CanObserve-1.observed fields.coefficients reached shown) found.1 poly
     c.unwrap_or.result found.0.items last own c.in_ok-final_poly.ensures

@@ -16,7 +16,7 @@ answer_queries-requires-clause-openable g c =
     (k : ℕ) (datum : g.row.M-ProverData.Denot) → k < length arities
     → IsOpenable arities qs k (g.M.Mmcs.committed (get_or kept k datum)) in
     subst (P c.deref-4.result.now) (sym c.deref-3.ensures.value)
-    (subst (λ qs. P qs c.args.played.rounds.data.items) (sym at) c.requires.openable)
+    (subst (λ qs. P qs c.args.played.rounds.prover_data.items) (sym at) c.requires.openable)
 
 pub returns-clause-inputs_opened : goal.returns-clause-inputs_opened
 returns-clause-inputs_opened g c =
@@ -35,7 +35,7 @@ returns-clause-rounds_opened g c = λ k o datum matrix l only.
     let places = map (λ i. i / 2 ^ c.args.extra_bits) c.args.played.indices.items in
     let arities = c.args.log_arities.now in
     let openings = c.in_ok-commit_phase_openings.commit_phase_openings.items in
-    let kept = c.args.played.rounds.data.items in
+    let kept = c.args.played.rounds.prover_data.items in
     let at : c.deref-4.result.now ≡ places = c.deref-4.ensures.value ∙ c.in_ok-positions.ensures
     ∙ ap (λ is. map (λ i. i / 2 ^ c.args.extra_bits) is) c.deref.ensures.value in
     let P : List ℕ → List g.row.M-ProverData.Denot → Type 0 = λ qs xs.

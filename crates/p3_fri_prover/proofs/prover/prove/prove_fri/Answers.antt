@@ -248,11 +248,11 @@ open_played-opened-requires-clause-positions g c =
     let last = c.play_test-test.new.challenger in
     let played : IsPlayed g.M.Mmcs.committed g.M.Mmcs.commitment_of s.fields s.fold s.moves
     p.log_final_poly_len numbers top inputs seeded found.rounds.commitments.items
-    found.rounds.witnesses.items found.rounds.data.items found.final_poly.items found.query_witness
+    found.rounds.witnesses.items found.rounds.prover_data.items found.final_poly.items found.query_witness
     found.indices.items last = c.in-Ok-test.ensures.played top whole in
     planned_positions p top inputs are capped arities planned
     g.M.Mmcs.committed g.M.Mmcs.commitment_of s.fields s.fold s.moves extra numbers described seeded
-    found.rounds.commitments.items found.rounds.witnesses.items found.rounds.data.items
+    found.rounds.commitments.items found.rounds.witnesses.items found.rounds.prover_data.items
     found.final_poly.items found.query_witness found.indices.items last played
 
 pub open_played-opened-requires-clause-data_for_each :
@@ -282,11 +282,11 @@ open_played-opened-requires-clause-data_for_each g c =
     let last = c.play_test-test.new.challenger in
     let played : IsPlayed g.M.Mmcs.committed g.M.Mmcs.commitment_of s.fields s.fold s.moves
     p.log_final_poly_len numbers top inputs seeded found.rounds.commitments.items
-    found.rounds.witnesses.items found.rounds.data.items found.final_poly.items found.query_witness
+    found.rounds.witnesses.items found.rounds.prover_data.items found.final_poly.items found.query_witness
     found.indices.items last = c.in-Ok-test.ensures.played top whole in
     planned_data p top inputs are capped arities planned
     g.M.Mmcs.committed g.M.Mmcs.commitment_of s.fields s.fold s.moves extra numbers described seeded
-    found.rounds.commitments.items found.rounds.witnesses.items found.rounds.data.items
+    found.rounds.commitments.items found.rounds.witnesses.items found.rounds.prover_data.items
     found.final_poly.items found.query_witness found.indices.items last played
 
 pub open_played-opened-requires-clause-openable :
@@ -316,13 +316,13 @@ open_played-opened-requires-clause-openable g c =
     let last = c.play_test-test.new.challenger in
     let played : IsPlayed g.M.Mmcs.committed g.M.Mmcs.commitment_of s.fields s.fold s.moves
     p.log_final_poly_len numbers top inputs seeded found.rounds.commitments.items
-    found.rounds.witnesses.items found.rounds.data.items found.final_poly.items found.query_witness
+    found.rounds.witnesses.items found.rounds.prover_data.items found.final_poly.items found.query_witness
     found.indices.items last = c.in-Ok-test.ensures.played top whole in
     let small : top < 64 =
     omega (arith, c.requires.within_two_adicity, g.met.F.TwoAdicField.two_adicity_law) in
     planned_openable p top inputs are capped arities planned
     g.M.Mmcs.committed g.M.Mmcs.commitment_of s.fields s.fold s.moves extra numbers described seeded
-    found.rounds.commitments.items found.rounds.witnesses.items found.rounds.data.items
+    found.rounds.commitments.items found.rounds.witnesses.items found.rounds.prover_data.items
     found.final_poly.items found.query_witness found.indices.items last played small
 
 pub returns-in-Ok-opened-clause-proved :
@@ -354,7 +354,7 @@ returns-in-Ok-opened-clause-proved g c = λ heights have.
     let last = c.play_test-test.new.challenger in
     let played : IsPlayed g.M.Mmcs.committed g.M.Mmcs.commitment_of s.fields s.fold s.moves
     p.log_final_poly_len numbers top inputs seeded found.rounds.commitments.items
-    found.rounds.witnesses.items found.rounds.data.items found.final_poly.items found.query_witness
+    found.rounds.witnesses.items found.rounds.prover_data.items found.final_poly.items found.query_witness
     found.indices.items last = c.in-Ok-test.ensures.played top whole in
     let proof = c.in-Ok-opened.proof in
     let made = c.in-Ok-opened.ensures in
@@ -366,7 +366,7 @@ returns-in-Ok-opened-clause-proved g c = λ heights have.
     proof_is_proved g.M.Mmcs.committed g.M.Mmcs.commitment_of s p top inputs
     c.args.challenger.now last (proof_of proof) heights extra c.extra_query_index_bits-extra_bits.ensures numbers
     (described heights have) (seed_bytes plan.seed) c.in-Ok.ensures.stream
-    found.rounds.commitments.items found.rounds.witnesses.items found.rounds.data.items
+    found.rounds.commitments.items found.rounds.witnesses.items found.rounds.prover_data.items
     found.final_poly.items found.query_witness found.indices.items played
     (ap (λ (v : Vec _ _). v.items) made.commitments) (ap (λ (v : Vec _ _). v.items) made.witnesses)
     (ap (λ (v : Vec _ _). v.items) made.final_poly) made.query_witness
@@ -411,7 +411,7 @@ returns-in-Ok-opened-clause-inputs_opened g c = λ heights have.
     let last = c.play_test-test.new.challenger in
     let played : IsPlayed g.M.Mmcs.committed g.M.Mmcs.commitment_of s.fields s.fold s.moves
     p.log_final_poly_len numbers top inputs seeded found.rounds.commitments.items
-    found.rounds.witnesses.items found.rounds.data.items found.final_poly.items found.query_witness
+    found.rounds.witnesses.items found.rounds.prover_data.items found.final_poly.items found.query_witness
     found.indices.items last = c.in-Ok-test.ensures.played top whole in
     let proof = c.in-Ok-opened.proof in
     let made = c.in-Ok-opened.ensures in
@@ -427,7 +427,7 @@ returns-in-Ok-opened-clause-inputs_opened g c = λ heights have.
     (sym (positions_of_proof g.M.Mmcs.committed g.M.Mmcs.commitment_of s p top inputs
     c.args.challenger.now last (proof_of proof) heights extra c.extra_query_index_bits-extra_bits.ensures numbers
     (described heights have) (seed_bytes plan.seed) c.in-Ok.ensures.stream
-    found.rounds.commitments.items found.rounds.witnesses.items found.rounds.data.items
+    found.rounds.commitments.items found.rounds.witnesses.items found.rounds.prover_data.items
     found.final_poly.items found.query_witness found.indices.items played
     (ap (λ (v : Vec _ _). v.items) made.commitments) (ap (λ (v : Vec _ _). v.items) made.witnesses)
     (ap (λ (v : Vec _ _). v.items) made.final_poly) made.query_witness))

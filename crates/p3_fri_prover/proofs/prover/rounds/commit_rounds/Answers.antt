@@ -34,9 +34,9 @@ loop-log_arity-init g c =
           c.requires.rounds_left;
       so_far = λ top whole. none_committed g.M.Mmcs.committed g.M.Mmcs.commitment_of m bits zero ops
           fold inputs top first start c.in_ok-rounds.rounds.witnesses.items
-          c.in_ok-rounds.rounds.commitments.items c.in_ok-rounds.rounds.data.items
+          c.in_ok-rounds.rounds.commitments.items c.in_ok-rounds.rounds.prover_data.items
           c.in_ok-rounds.ensures.commitments c.in_ok-rounds.ensures.witnesses
-          c.in_ok-rounds.ensures.data;
+          c.in_ok-rounds.ensures.prover_data;
     }
 
 pub commit_round-played-requires-clause-foldable : goal.commit_round-played-requires-clause-foldable
@@ -97,7 +97,7 @@ returns-in-Err-clause-refused g c = λ top whole.
       some_left = omega arith;
       commitments = here.rounds.commitments.items;
       witnesses = here.rounds.witnesses.items;
-      kept = here.rounds.data.items;
+      kept = here.rounds.prover_data.items;
       word = here.word.items;
       reached = now;
       committed_before = so_far;
@@ -152,17 +152,17 @@ loop-log_arity-preserved g c =
           round.word.items after) same_bits (c.in-Ok.ensures.round h e) in
           let committed = one_committed_more g.M.Mmcs.committed g.M.Mmcs.commitment_of m bits zero ops
           fold inputs top first start (take i arities) a here.rounds.commitments.items
-          here.rounds.witnesses.items here.rounds.data.items here.word.items now so_far
+          here.rounds.witnesses.items here.rounds.prover_data.items here.word.items now so_far
           round.commitment round.witness round.prover_data round.word.items after next
-          rounds.commitments.items rounds.witnesses.items rounds.data.items
+          rounds.commitments.items rounds.witnesses.items rounds.prover_data.items
           c.in_ok-word.ensures.commitments c.in_ok-word.ensures.witnesses
-          c.in_ok-word.ensures.data in
+          c.in_ok-word.ensures.prover_data in
           subst (λ xs. AreCommitted g.M.Mmcs.committed g.M.Mmcs.commitment_of m bits zero ops fold
           inputs top first start xs rounds.commitments.items rounds.witnesses.items
-          rounds.data.items c.in_ok-word.word.items after)
+          rounds.prover_data.items c.in_ok-word.word.items after)
           (sym (take_more arities i 0 (omega arith)))
           (subst (λ w. AreCommitted g.M.Mmcs.committed g.M.Mmcs.commitment_of m bits zero ops fold
           inputs top first start (take i arities ++ a ∷ []) rounds.commitments.items
-          rounds.witnesses.items rounds.data.items w after)
+          rounds.witnesses.items rounds.prover_data.items w after)
           (ap (λ (v : Vec _ _). v.items) (sym c.in_ok-word.ensures.word)) committed);
     }

@@ -21,5 +21,5 @@ invariant-loop-log_arity g l =
           g.F.Field.ops.zero g.EF.Field.ops (g.S.FriFoldingStrategy.row_fold l.folding)
           (λ k. of_length (lists l.inputs) (2 ^ k)) top l.fn.word.items (state_of l.fn.transcript)
           (take l.log_arity-index l.log_arities) l.rounds.commitments.items l.rounds.witnesses.items
-          l.rounds.data.items l.word.items (state_of l.transcript);
+          l.rounds.prover_data.items l.word.items (state_of l.transcript);
     }
