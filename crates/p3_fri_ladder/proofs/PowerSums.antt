@@ -1,11 +1,11 @@
 -- Sums of a row's values times powers, value by value.
-use Rattle.std.proofs.Common.{◌≡◌, ℕ, suc, ◌+◌, ◌-◌, ◌<◌, ◌≤◌, List, [], ◌∷◌, ◌++◌, take, length}
+use Rattle.std.proofs.Common.{◌≡◌, ℕ, ◌+◌, ◌<◌, List, [], ◌∷◌, ◌++◌, take, length}
 use Rattle.std.proofs.Common.{map, get_or, sym, ap, ap₂, ◌∙◌, arith}
-use Rattle.std.proofs.lemmas.List.{take_more, take-map, get_or_read, get_or-map, length-map}
+use Rattle.std.proofs.lemmas.List.{take_more, take-map, get_or-map, length-map}
 use Rattle.std.proofs.lemmas.List.{length-take-le}
 use Rattle.algebra.specs.Field.{FieldOps, IsRing, pow}
 use Rattle.algebra.specs.Polynomial.{val, tabulate}
-use Rattle.algebra.proofs.Lists.{get_or-tabulate, length-tabulate}
+use Rattle.algebra.proofs.Lists.{get_or-tabulate}
 use Rattle.algebra.proofs.Powers.{pow-next}
 use Rattle.algebra.proofs.Values.{val-append, val-one}
 

@@ -1,4 +1,4 @@
-use Rattle.std.proofs.Common.{◌≡◌, ℕ, length, ap, sym, ◌∙◌, arith}
+use Rattle.std.proofs.Common.{◌≡◌, ℕ, length, ap, sym, ◌∙◌}
 use Rattle.algebra.specs.Field.{pow}
 use Rattle.algebra.specs.Polynomial.{tabulate}
 use Rattle.algebra.proofs.Lists.{length-tabulate}

@@ -1,4 +1,4 @@
-use Rattle.std.proofs.Common.{◌≡◌, ◌-◌, ap, sym, ◌∙◌, arith}
+use Rattle.std.proofs.Common.{◌-◌, ap, sym, ◌∙◌, arith}
 use Rattle.algebra.specs.Field.{pow}
 use Rattle.algebra.proofs.Powers.{pow-zero}
 use Rattle.p3_fri_ladder.proofs.PowerSums.{power_after}
