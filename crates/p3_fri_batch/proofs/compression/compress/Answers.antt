@@ -2,7 +2,7 @@ use Rattle.std.proofs.Common.{◌≡◌, ◌<◌, ◌+◌, ◌*◌, ◌/◌, Lis
 use Rattle.std.proofs.lemmas.List.{take_all}
 use Rattle.algebra.specs.Polynomial.{val}
 use Rattle.p3_matrix.specs.Matrix.{rows}
-use Rattle.p3_fri_batch.proofs.MappedRows.{mapped_next}
+use Rattle.p3_fri_batch.proofs.MappedRows.{row_mapped}
 use Rattle.p3_fri_batch.proofs.compression.compress.Goals as goal
 
 pub loop-pair-preserved : goal.loop-pair-preserved
@@ -16,9 +16,9 @@ loop-pair-preserved g c =
     let even : i < length all = omega arith in
     let next : i + 1 + 1 ≡ 2 * (c.loop-pair.pair + 1) = omega arith in
     c.in_ok-push-2.ensures.items
-    ∙ mapped_next f all (i + 1) _ _ _ below
+    ∙ row_mapped f all (i + 1) _ _ _ below
     (c.in_ok-push.ensures.items
-    ∙ mapped_next f all i _ _ _ even c.loop-pair.invariant c.row.ensures.row
+    ∙ row_mapped f all i _ _ _ even c.loop-pair.invariant c.row.ensures.row
     c.combine_rows-even.ensures.first)
     c.row-in-loop-pair.ensures.row c.combine_rows-even.ensures.second
     ∙ ap (λ n. map f (take n all)) next
@@ -37,7 +37,7 @@ loop-i-preserved g c =
     let below : c.loop-i.i < length (rows c.args.matrix.now) = omega
     (arith, c.height-height.ensures, c.loop-i-test.true) in
     c.in_ok-push-3.ensures.items
-    ∙ mapped_next f (rows c.args.matrix.now) c.loop-i.i _ _ _ below c.loop-i.invariant
+    ∙ row_mapped f (rows c.args.matrix.now) c.loop-i.i _ _ _ below c.loop-i.invariant
     c.row-in-loop-i.ensures.row c.combine_row.ensures
 
 pub returns : goal.returns
