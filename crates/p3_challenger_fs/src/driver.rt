@@ -20,7 +20,7 @@ ghost use Rattle.p3_challenger_fs.specs.Turns.{IsNext, bytes_observed};
 use crate::domain_separator::{DomainSeparator, Seed};
 use crate::script::Script;
 use p3_challenger_core::{CanObserve, FieldChallenger, GrindingChallenger};
-use p3_field::{ExtensionField, Field};
+use p3_field_core::{ExtensionField, Field};
 use std::alloc::{AllocError, Global};
 use std::marker::PhantomData;
 

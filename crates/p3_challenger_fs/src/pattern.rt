@@ -5,7 +5,7 @@ ghost use Rattle.p3_challenger_fs.specs.declared.pattern.Length.TheVariants.{Sca
 ghost use Rattle.p3_challenger_fs.specs.declared.pattern.TypeTag.TheVariants.{Opaque, Algebra};
 ghost use Rattle.p3_challenger_fs.specs.declared.pattern.TypeTag.TheVariants.{Bits, Marker};
 
-use p3_field::{ExtensionField, Field};
+use p3_field_core::{ExtensionField, Field};
 
 /// Where a step stands: by itself, or as an end of a bracket around a protocol that is run inside.
 #[derive(Clone, Copy, Debug, PartialEq, Eq)]

@@ -16,7 +16,7 @@ ghost use Rattle.p3_challenger_fs.specs.Turns.{IsNext, bytes_observed};
 use crate::domain_separator::Seed;
 use crate::pattern::Turn;
 use p3_challenger_core::{CanObserve, CanSampleBits, FieldChallenger, GrindingChallenger};
-use p3_field::{ExtensionField, Field};
+use p3_field_core::{ExtensionField, Field};
 use std::alloc::{AllocError, Global};
 
 /// The steps of a description, and how many of them were played. Each call plays the next one on a

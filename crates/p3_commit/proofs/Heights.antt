@@ -10,7 +10,7 @@ use Rattle.std.proofs.lemmas.List.{length-map, get_or-map, take-map, take_more}
 use Rattle.std.specs.Int.{is_power_of_two}
 use Rattle.std.specs.Prelude.{IsTrue, false}
 use Rattle.std.proofs.lemmas.List.Elements.{All-append}
-use Rattle.p3_field.proofs.IndexPowers.{exponent_below, IsPowerOfTwo_test}
+use Rattle.p3_field_core.proofs.IndexPowers.{exponent_below, IsPowerOfTwo_test}
 use Rattle.p3_matrix.specs.declared.Dimensions.{Dimensions}
 use Rattle.p3_matrix.specs.declared.dense.RowMajorMatrix.{RowMajorMatrix}
 use Rattle.p3_matrix.specs.Matrix.{rows}

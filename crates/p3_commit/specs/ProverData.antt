@@ -1,6 +1,6 @@
 -- What contracts see of the data that the committing side keeps.
 use Rattle.std.specs.Prelude.{ℕ, List}
-use Rattle.p3_field.specs.declared.element_bytes.ElementBytes.{Ghosts}
+use Rattle.p3_field_core.specs.declared.element_bytes.ElementBytes.{Ghosts}
 use Rattle.p3_matrix.specs.declared.Dimensions.{Dimensions}
 use Rattle.p3_matrix.specs.declared.dense.RowMajorMatrix.{RowMajorMatrix}
 use Rattle.p3_commit.specs.declared.sha256_mmcs.prover_data.Sha256ProverData.{Sha256ProverData}

@@ -6,7 +6,7 @@ ghost use Rattle.p3_commit.specs.Batch.{HasRows, HasShape};
 ghost use Rattle.p3_matrix.specs.declared.Dimensions.{Dimensions};
 ghost use Rattle.p3_commit.specs.Tree.{climb, path_of, root_of, OpensAt, Opens};
 
-use p3_field::ElementBytes;
+use p3_field_core::ElementBytes;
 
 /// In a tree of `2^m` leaves, each leaf and its path lead to the root.
 pub fn path_law()

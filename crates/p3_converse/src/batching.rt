@@ -6,7 +6,7 @@ ghost use Rattle.p3_converse.specs.Batching.{IsUnbatching};
 ghost use Rattle.p3_converse.specs.Unfolding.{lists, common_length};
 
 use crate::by_position::{interpolate_positions, stepped};
-use p3_field::Field;
+use p3_field_core::Field;
 use std::alloc::{AllocError, Global};
 
 /// The polynomials that sum, with the powers of each `alphas[t]`, to `polys[t]`: the converse of

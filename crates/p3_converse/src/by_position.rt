@@ -6,7 +6,7 @@ ghost use Rattle.p3_converse.specs.Positions.{coefficients_at, interleaved, inte
 ghost use Rattle.p3_converse.specs.Unfolding.{lists};
 
 use crate::newton::{interpolate_each, newton_weights};
-use p3_field::Field;
+use p3_field_core::Field;
 use std::alloc::{AllocError, Global};
 
 /// For each position of the polynomials, of `degree_bound` coefficients each, the coefficients of

@@ -8,7 +8,7 @@ ghost use Rattle.p3_converse.specs.Trees.{beta_count};
 ghost use Rattle.p3_converse.specs.Unfolding.{common_length};
 
 use crate::tree::{FoldTree, challenges};
-use p3_field::Field;
+use p3_field_core::Field;
 use std::alloc::{AllocError, Global};
 
 /// Whether no two of the points are equal.

@@ -2,7 +2,7 @@
 
 ghost use Rattle.algebra.specs.TwoAdic.{AreRoots};
 
-use p3_field::{ExtensionField, TwoAdicField};
+use p3_field_core::{ExtensionField, TwoAdicField};
 
 /// The roots of unity of a two-adic field, as elements of an extension, are roots of unity there.
 /// So what `unfold` promises over every family of roots holds of the rows that the folding

@@ -6,7 +6,7 @@ ghost use Rattle.algebra.specs.Interpolation.{AreDistinct, interpolant, plus_mul
 ghost use Rattle.p3_converse.specs.Positions.{part, concatenated};
 ghost use Rattle.p3_converse.specs.Newton.{difference_product, weights_of, newton_val, expanded};
 
-use p3_field::{Field, batch_multiplicative_inverse};
+use p3_field_core::{Field, batch_multiplicative_inverse};
 use std::alloc::{AllocError, Global};
 
 /// For each point, the inverse of the product of its differences from the points before it, by one

@@ -4,7 +4,7 @@ ghost use Rattle.std.specs.Prelude.{◌≡◌, ◌≢◌, ◌+◌, ◌^◌, ◌<
 ghost use Rattle.p3_converse.specs.Quotients.{IsUnquotient};
 
 use crate::newton::add_multiple;
-use p3_field::Field;
+use p3_field_core::Field;
 use std::alloc::{AllocError, Global};
 
 /// The polynomial of which `q` is the quotient by the claimed value `y` at `z`, over the coset of

@@ -9,7 +9,7 @@ ghost use Rattle.algebra.specs.Interpolation.{AreDistinct};
 ghost use Rattle.p3_converse.specs.Unfolding.{lists, common_length};
 
 use crate::unfolding::{unfold, unfold_with_input};
-use p3_field::Field;
+use p3_field_core::Field;
 use std::alloc::{AllocError, Global};
 
 /// The challenges at which a word is folded round by round, several a round, and the

@@ -10,7 +10,7 @@ ghost use Rattle.p3_converse.specs.Unfolding.{IsUnfolding, IsUnfoldingWithInput}
 
 use crate::batching::unbatch;
 use crate::by_position::{interleave, interpolate_positions};
-use p3_field::Field;
+use p3_field_core::Field;
 use std::alloc::{AllocError, Global};
 
 /// The polynomial that folds to `polys[t]` at each `betas[t]`: the converse of folding (of FRI's

@@ -8,7 +8,7 @@ use Rattle.algebra.specs.Field.{FieldOps, IsRing, IsField, pow}
 use Rattle.algebra.specs.Polynomial.{val}
 use Rattle.algebra.proofs.Powers.{double}
 use Rattle.algebra.proofs.Lists.{tabulate-equal}
-use Rattle.p3_field.proofs.IndexPowers.{exponent_below}
+use Rattle.p3_field_core.proofs.IndexPowers.{exponent_below}
 use Rattle.p3_matrix.specs.declared.dense.RowMajorMatrix.{RowMajorMatrix}
 use Rattle.p3_matrix.specs.Matrix.{rows, matrix_width}
 use Rattle.p3_matrix.specs.Rows.{rows_of}

@@ -11,9 +11,9 @@ use Rattle.algebra.specs.Words.{coset_word}
 use Rattle.algebra.specs.Digits.{rev}
 use Rattle.algebra.proofs.Lists.{length-tabulate, map-tabulate, tabulate-equal}
 use Rattle.algebra.proofs.Interpolation.{interpolant_interpolates}
-use Rattle.p3_field.specs.Index.{bit_reversed}
-use Rattle.p3_field.specs.Coset.{coset_point, coset_points}
-use Rattle.p3_field.proofs.IndexReversal.{length-bit_reversed, bit_reversed-tabulate}
+use Rattle.p3_field_core.specs.Index.{bit_reversed}
+use Rattle.p3_field_core.specs.Coset.{coset_point, coset_points}
+use Rattle.p3_field_core.proofs.IndexReversal.{length-bit_reversed, bit_reversed-tabulate}
 use Rattle.p3_matrix.specs.declared.dense.RowMajorMatrix.{RowMajorMatrix}
 use Rattle.p3_matrix.specs.Matrix.{rows, matrix_width}
 use Rattle.p3_dft.specs.Evaluations.{subgroup_points, column, extension, AreCosetExtensions}

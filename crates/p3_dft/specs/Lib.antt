@@ -6,6 +6,6 @@ pub use Rattle.algebra.specs.Field
 pub use Rattle.algebra.specs.Polynomial
 pub use Rattle.algebra.specs.Interpolation
 pub use Rattle.algebra.specs.Words
-pub use Rattle.p3_field.specs.Coset
-pub use Rattle.p3_field.specs.Index
+pub use Rattle.p3_field_core.specs.Coset
+pub use Rattle.p3_field_core.specs.Index
 pub use Rattle.p3_matrix.specs.Matrix

@@ -5,7 +5,7 @@ ghost use Rattle.p3_dft.specs.Butterflies.{entry, sum_at, difference_at};
 ghost use Rattle.p3_dft.specs.Butterflies.{sum_of_sums, difference_of_sums};
 ghost use Rattle.p3_dft.specs.Butterflies.{sum_of_differences, difference_of_differences};
 
-use p3_field::{ExtensionField, Field};
+use p3_field_core::{ExtensionField, Field};
 
 /// One layer: the sums and the differences of the two halves of a block, the second one times
 /// `twiddle`.

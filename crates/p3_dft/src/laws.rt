@@ -2,7 +2,7 @@
 
 ghost use Rattle.p3_dft.specs.CosetWords.{ExtensionsAreWords};
 
-use p3_field::TwoAdicField;
+use p3_field_core::TwoAdicField;
 
 /// What `coset_lde_batch` and then `bit_reverse_rows` give: in each column the coset word, in
 /// bit-reversed order, of the one polynomial with as many coefficients as values were given that

@@ -9,7 +9,7 @@ ghost use Rattle.p3_dft.specs.Butterflies.{sum_of_differences, difference_of_dif
 ghost use Rattle.p3_dft.specs.Strided.{AfterLayers};
 
 use crate::butterflies::{butterflies, double_butterflies};
-use p3_field::{ExtensionField, Field};
+use p3_field_core::{ExtensionField, Field};
 
 /// One layer: block `m` of the source, with the twiddle at `m * stride`, gives block `m` of the
 /// target's first half, its sums, and block `m` of the second half, its differences.

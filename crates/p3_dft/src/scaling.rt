@@ -4,7 +4,7 @@ ghost use Rattle.std.specs.Prelude.{◌≡◌, ◌<◌, ◌+◌, ◌*◌, ◌^�
 ghost use Rattle.algebra.specs.Field.{pow, multiple};
 ghost use Rattle.algebra.specs.Polynomial.{tabulate};
 
-use p3_field::{ExtensionField, Field};
+use p3_field_core::{ExtensionField, Field};
 use std::alloc::{AllocError, Global};
 
 /// The first `count` powers of the base, from one on.

@@ -3,12 +3,12 @@
 ghost use Rattle.std.specs.Prelude.{◌≡◌, ◌≢◌, ◌≤◌, ◌+◌, ◌*◌, ◌^◌, ℕ, IfOk, length, vec_len};
 ghost use Rattle.std.specs.Int.{IsPowerOfTwo};
 ghost use Rattle.algebra.specs.Interpolation.{Interpolates};
-ghost use Rattle.p3_field.specs.Coset.{coset_points};
+ghost use Rattle.p3_field_core.specs.Coset.{coset_points};
 ghost use Rattle.p3_matrix.specs.Matrix.{rows};
 ghost use Rattle.p3_dft.specs.Evaluations.{subgroup_points, AreEvaluations};
 ghost use Rattle.p3_dft.specs.Evaluations.{extension, AreCosetExtensions};
 
-use p3_field::{ExtensionField, TwoAdicField};
+use p3_field_core::{ExtensionField, TwoAdicField};
 use p3_matrix::RowMajorMatrix;
 use std::alloc::{AllocError, Global};
 

@@ -10,7 +10,7 @@ ghost use Rattle.p3_dft.specs.Strided.{strided, HoldsValues};
 
 use crate::layers::next_layers;
 use crate::scaling::{inverse_of_size, powers, scale_rows};
-use p3_field::{ExtensionField, Field, TwoAdicField};
+use p3_field_core::{ExtensionField, Field, TwoAdicField};
 use std::alloc::{AllocError, Global};
 
 /// From coefficients to the values at the powers of `root`, column by column, layer after layer

@@ -5,7 +5,7 @@ ghost use Rattle.algebra.specs.Field.{sub};
 ghost use Rattle.algebra.specs.Polynomial.{val};
 ghost use Rattle.p3_matrix.specs.Matrix.{rows, matrix_width};
 
-use p3_field::{ExtensionField, Field};
+use p3_field_core::{ExtensionField, Field};
 use p3_fri_ladder::{Ladder, combine_row, combine_rows};
 use p3_matrix::RowMajorMatrix;
 use std::alloc::{AllocError, Global};

@@ -12,7 +12,7 @@ ghost use Rattle.p3_fri_batch.specs.Heights.{has_height};
 ghost use Rattle.p3_fri_batch.specs.Rounds.{HaveValues, IsReady};
 ghost use Rattle.p3_fri_batch.specs.Rounds.{as_opened, opened_in, opened_of};
 
-use p3_field::{ExtensionField, TwoAdicField, log2_strict_usize};
+use p3_field_core::{ExtensionField, TwoAdicField, log2_strict_usize};
 use p3_fri_openings::OpeningRound;
 use p3_matrix::RowMajorMatrix;
 use std::alloc::{AllocError, Global};

@@ -18,7 +18,7 @@ use crate::opened::{
     OpenedMatrix, greatest_width, has_log_height, is_of_log_height, opened_matrices,
 };
 use crate::points::add_matrix;
-use p3_field::{ExtensionField, Field, TwoAdicField};
+use p3_field_core::{ExtensionField, Field, TwoAdicField};
 use p3_fri_ladder::Ladder;
 use p3_fri_openings::{OpeningRound, PointDenominators};
 use p3_fri_relation::setting::ChallengeField;

@@ -12,7 +12,7 @@ use Rattle.algebra.proofs.Lists.{length-tabulate, map-tabulate, tabulate-equal, 
 use Rattle.algebra.proofs.Interpolation.{interpolant_interpolates, interpolates_unique}
 use Rattle.algebra.proofs.Values.{stretched, val-stretched}
 use Rattle.algebra.proofs.CosetWords.{length-stretched}
-use Rattle.p3_field.specs.Coset.{coset_point, coset_points}
+use Rattle.p3_field_core.specs.Coset.{coset_point, coset_points}
 use Rattle.p3_field_core.proofs.Cosets.{natural_distinct}
 use Rattle.p3_matrix.specs.declared.dense.RowMajorMatrix.{RowMajorMatrix}
 use Rattle.p3_matrix.specs.Matrix.{rows, matrix_width}

@@ -3,7 +3,7 @@ use Rattle.std.specs.Prelude.{◌≡◌, ◌≤◌, ◌<◌, ℕ, ◌+◌, ◌^�
 use Rattle.algebra.specs.Field.{FieldOps}
 use Rattle.algebra.specs.Interpolation.{interpolant}
 use Rattle.algebra.specs.Words.{coset_word}
-use Rattle.p3_field.specs.Coset.{coset_points}
+use Rattle.p3_field_core.specs.Coset.{coset_points}
 use Rattle.p3_matrix.specs.declared.dense.RowMajorMatrix.{RowMajorMatrix}
 use Rattle.p3_matrix.specs.Matrix.{rows, matrix_width}
 use Rattle.p3_dft.specs.Evaluations.{column}

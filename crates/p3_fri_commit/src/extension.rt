@@ -7,7 +7,7 @@ ghost use Rattle.p3_fri_commit.specs.Extension.{FitsDomain, IsLowDegreeExtension
 
 use p3_commit::Mmcs;
 use p3_dft::TwoAdicSubgroupDft;
-use p3_field::{TwoAdicField, TwoAdicMultiplicativeCoset};
+use p3_field_core::{TwoAdicField, TwoAdicMultiplicativeCoset};
 use p3_matrix::RowMajorMatrix;
 use std::alloc::{AllocError, Global};
 

@@ -4,7 +4,7 @@ use Rattle.std.specs.List.{AllZip, zip}
 use Rattle.algebra.specs.Field.{IsField, IsHomomorphism}
 use Rattle.algebra.specs.TwoAdic.{AreRoots}
 use Rattle.algebra.specs.Nested.{joined}
-use Rattle.p3_challenger.specs.Run.{Moves}
+use Rattle.p3_challenger_core.specs.Run.{Moves}
 use Rattle.p3_fri_relation.specs.Setting.{Fields, Setting, Parameters, Proof, final_height}
 use Rattle.p3_fri_relation.specs.Setting.{CommitmentClaim, InputOpening}
 use Rattle.p3_fri_relation.specs.Heights.{matrices_of, heights_of}

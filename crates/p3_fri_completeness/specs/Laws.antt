@@ -1,6 +1,6 @@
 -- Completeness, as one statement.
 use Rattle.std.specs.Prelude.{◌≡◌, ℕ, ◌+◌, Bool, IsTrue, List}
-use Rattle.p3_challenger.specs.Run.{Moves}
+use Rattle.p3_challenger_core.specs.Run.{Moves}
 use Rattle.p3_matrix.specs.declared.Dimensions.{Dimensions}
 use Rattle.p3_fri_relation.specs.Setting.{Fields, Opening, Setting, Parameters}
 use Rattle.p3_fri_relation.specs.Setting.{CommitmentClaim, Proof}

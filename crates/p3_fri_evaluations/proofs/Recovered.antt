@@ -19,14 +19,14 @@ use Rattle.algebra.proofs.Values.{val-padded}
 use Rattle.algebra.proofs.Interpolation.{equal_from_values}
 use Rattle.algebra.proofs.Words.{coset_word-restrict}
 use Rattle.algebra.proofs.PointTest.{coset_power}
-use Rattle.p3_field.specs.Index.{bit_reversed}
-use Rattle.p3_field.specs.Coset.{coset_point, coset_points}
+use Rattle.p3_field_core.specs.Index.{bit_reversed}
+use Rattle.p3_field_core.specs.Coset.{coset_point, coset_points}
 use Rattle.p3_field_core.proofs.Cosets.{natural_distinct}
 use Rattle.p3_matrix.specs.declared.dense.RowMajorMatrix.{RowMajorMatrix}
 use Rattle.p3_matrix.specs.Matrix.{rows, matrix_width}
 use Rattle.p3_dft.specs.Evaluations.{column, AreEvaluations}
-use Rattle.p3_field.proofs.IndexReversal.{length-bit_reversed}
-use Rattle.p3_field.proofs.IndexPowers.{exponents_agree}
+use Rattle.p3_field_core.proofs.IndexReversal.{length-bit_reversed}
+use Rattle.p3_field_core.proofs.IndexPowers.{exponents_agree}
 use Rattle.p3_fri_evaluations.specs.Committed.{AreFirstValues, AreFitted, AreCommittedValues}
 
 -- how many coefficients there are

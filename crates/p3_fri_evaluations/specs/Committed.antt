@@ -3,8 +3,8 @@ use Rattle.std.specs.Prelude.{◌≡◌, ◌<◌, ◌≤◌, ℕ, ◌/◌, ◌^�
 use Rattle.algebra.specs.Field.{FieldOps, pow}
 use Rattle.algebra.specs.Polynomial.{val}
 use Rattle.algebra.specs.Words.{coset_word}
-use Rattle.p3_field.specs.Coset.{coset_points}
-use Rattle.p3_field.specs.Index.{bit_reversed}
+use Rattle.p3_field_core.specs.Coset.{coset_points}
+use Rattle.p3_field_core.specs.Index.{bit_reversed}
 use Rattle.p3_matrix.specs.declared.dense.RowMajorMatrix.{RowMajorMatrix}
 use Rattle.p3_matrix.specs.Matrix.{rows, matrix_width}
 use Rattle.p3_dft.specs.Evaluations.{column}

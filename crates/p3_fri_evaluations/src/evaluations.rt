@@ -7,7 +7,7 @@ ghost use Rattle.p3_fri_evaluations.specs.Committed.{AreFirstValues, AreCommitte
 
 use crate::fitting::fit_to_domain;
 use p3_dft::TwoAdicSubgroupDft;
-use p3_field::{Field, TwoAdicField, TwoAdicMultiplicativeCoset, log2_strict_usize};
+use p3_field_core::{Field, TwoAdicField, TwoAdicMultiplicativeCoset, log2_strict_usize};
 use p3_matrix::RowMajorMatrix;
 use std::alloc::{AllocError, Global};
 

@@ -9,7 +9,7 @@ ghost use Rattle.p3_matrix.specs.Matrix.{rows};
 ghost use Rattle.p3_dft.specs.Strided.{strided};
 ghost use Rattle.p3_fri_evaluations.specs.Committed.{AreFitted};
 
-use p3_field::{Field, TwoAdicField, TwoAdicMultiplicativeCoset, log2_strict_usize};
+use p3_field_core::{Field, TwoAdicField, TwoAdicMultiplicativeCoset, log2_strict_usize};
 use p3_matrix::RowMajorMatrix;
 use std::alloc::AllocError;
 

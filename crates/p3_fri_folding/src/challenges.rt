@@ -3,7 +3,7 @@
 ghost use Rattle.std.specs.Prelude.{◌≡◌, ◌<◌, ◌^◌, ℕ};
 ghost use Rattle.algebra.specs.Field.{pow};
 
-use p3_field::Field;
+use p3_field_core::Field;
 
 /// The challenges `beta`, `beta^2`, `beta^4` and so on, one for each round. The first three are
 /// kept, since only one pair of values of fifteen or more meets a later one.

@@ -7,7 +7,7 @@ ghost use Rattle.p3_fri_folding.specs.Rows.{StartsRow, AreFirstHalfInverses};
 
 use crate::challenges::Challenges;
 use crate::strategy::FriFoldingStrategy;
-use p3_field::{
+use p3_field_core::{
     ExtensionField, Field, TwoAdicField, bit_reversed_powers, log2_strict_usize, reverse_bits_len,
 };
 use p3_matrix::RowMajorMatrix;

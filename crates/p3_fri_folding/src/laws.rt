@@ -3,7 +3,7 @@
 ghost use Rattle.std.specs.Prelude.{◌≡◌, ◌+◌, ◌<◌, ◌≤◌, ◌^◌, length};
 ghost use Rattle.algebra.specs.Folds.{IsFoldOfBinaryFolds};
 
-use p3_field::{ExtensionField, TwoAdicField};
+use p3_field_core::{ExtensionField, TwoAdicField};
 
 /// The fold of a row of `2^log_arity` values is what `log_arity` folds by two leave, pair by pair,
 /// at `beta`, `beta^2`, `beta^4` and so on.

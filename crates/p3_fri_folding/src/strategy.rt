@@ -7,7 +7,7 @@ ghost use Rattle.p3_matrix.specs.Matrix.{rows, matrix_width};
 ghost use Rattle.algebra.specs.Folds.{LowersDegrees};
 ghost use Rattle.p3_fri_folding.specs.Strategy.{folded_rows};
 
-use p3_field::{ExtensionField, TwoAdicField};
+use p3_field_core::{ExtensionField, TwoAdicField};
 use p3_matrix::RowMajorMatrix;
 use std::alloc::{AllocError, Global};
 

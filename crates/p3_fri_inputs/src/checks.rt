@@ -8,7 +8,7 @@ ghost use Rattle.p3_fri_inputs.specs.Claims.{IsEven};
 ghost use Rattle.p3_fri_relation.specs.Views.{claims_of, matrix_claim};
 
 use p3_commit::{CommitmentOpening, MatrixOpening, PointOpening};
-use p3_field::{Field, TwoAdicField, TwoAdicMultiplicativeCoset};
+use p3_field_core::{Field, TwoAdicField, TwoAdicMultiplicativeCoset};
 
 /// A point at which a matrix isn't claimed as many values as at its first.
 #[derive(Drop)]

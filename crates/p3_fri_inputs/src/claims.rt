@@ -9,7 +9,7 @@ ghost use Rattle.p3_fri_inputs.specs.Claims.{claim_of, combined_values, IsWithin
 
 use crate::checks::claimed_width;
 use p3_commit::{CommitmentOpening, MatrixOpening};
-use p3_field::{Field, TwoAdicField, TwoAdicMultiplicativeCoset};
+use p3_field_core::{Field, TwoAdicField, TwoAdicMultiplicativeCoset};
 use p3_fri_ladder::Ladder;
 use std::alloc::{AllocError, Global};
 

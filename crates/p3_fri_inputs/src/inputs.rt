@@ -22,7 +22,7 @@ use crate::opening::verify_commitments;
 use crate::points::push_queries;
 use crate::sums::query_sums;
 use p3_commit::{CommitmentOpening, Mmcs};
-use p3_field::{
+use p3_field_core::{
     ExtensionField, Field, TwoAdicField, TwoAdicMultiplicativeCoset, batch_multiplicative_inverse,
 };
 use p3_fri_folding::FriParameters;

@@ -15,7 +15,7 @@ ghost use Rattle.p3_fri_relation.specs.Views.{claims_of, matrix_claim, inputs_op
 use crate::checks::claimed_width;
 use crate::heights::greatest_log_height;
 use p3_commit::{CommitmentOpening, MatrixOpening, Mmcs};
-use p3_field::{ExtensionField, Field, TwoAdicField, TwoAdicMultiplicativeCoset};
+use p3_field_core::{ExtensionField, Field, TwoAdicField, TwoAdicMultiplicativeCoset};
 use p3_fri_relation::error::FriError;
 use p3_fri_relation::proof::BatchMultiOpening;
 use p3_fri_relation::setting::ChallengeField;

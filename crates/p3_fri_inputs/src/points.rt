@@ -12,7 +12,7 @@ ghost use Rattle.p3_fri_relation.specs.Views.{claims_of, point_claim};
 ghost use Rattle.p3_fri_inputs.specs.Claims.{claim_of, distances, IsApart};
 
 use p3_commit::{CommitmentOpening, PointOpening};
-use p3_field::{ExtensionField, TwoAdicField, TwoAdicMultiplicativeCoset, reverse_bits_len};
+use p3_field_core::{ExtensionField, TwoAdicField, TwoAdicMultiplicativeCoset, reverse_bits_len};
 use p3_fri_relation::setting::ChallengeField;
 use std::alloc::AllocError;
 

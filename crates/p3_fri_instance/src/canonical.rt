@@ -9,7 +9,7 @@ ghost use Rattle.p3_fri_relation.specs.Views.{parameters_of, proof_of};
 ghost use Rattle.p3_fri_relation.specs.declared.error.FriError.TheVariants.{NonCanonicalPowWitness};
 
 use p3_commit::Mmcs;
-use p3_field::Field;
+use p3_field_core::Field;
 use p3_fri_folding::FriParameters;
 use p3_fri_relation::error::FriError;
 use p3_fri_relation::proof::{BatchMultiOpening, FriProof};

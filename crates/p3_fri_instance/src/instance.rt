@@ -12,7 +12,7 @@ ghost use Rattle.p3_fri_instance.specs.Claimed.{AreHeightsInRange, HeightFault};
 
 use crate::claimed::claimed_heights;
 use p3_commit::{CommitmentOpening, Mmcs};
-use p3_field::{TwoAdicField, TwoAdicMultiplicativeCoset};
+use p3_field_core::{TwoAdicField, TwoAdicMultiplicativeCoset};
 use p3_fri_folding::FriParameters;
 use p3_fri_relation::error::FriError;
 use std::alloc::Global;

@@ -4,8 +4,8 @@ ghost use Rattle.std.specs.Prelude.{◌≡◌, ◌≤◌, IfOk, length, map, vec
 ghost use Rattle.algebra.specs.Field.{pow};
 ghost use Rattle.algebra.specs.Polynomial.{val, tabulate};
 
-use p3_field::powers::powers;
-use p3_field::{ExtensionField, Field};
+use p3_field_core::powers::powers;
+use p3_field_core::{ExtensionField, Field};
 use std::alloc::{AllocError, Global};
 
 /// Powers of the batching challenge, from one on, which all rows and queries share.

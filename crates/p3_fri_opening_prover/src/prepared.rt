@@ -1,8 +1,8 @@
 //! What is made before the challenger is touched.
 
 ghost use Rattle.std.specs.Prelude.{◌≡◌, All, IfOk, map};
-ghost use Rattle.p3_challenger.specs.Pattern.{turn_of};
-ghost use Rattle.p3_challenger.specs.Separator.{seed_bytes, seed_turns};
+ghost use Rattle.p3_challenger_fs.specs.Pattern.{turn_of};
+ghost use Rattle.p3_challenger_fs.specs.Separator.{seed_bytes, seed_turns};
 ghost use Rattle.p3_pcs.specs.Claims.{opened_values};
 ghost use Rattle.p3_fri_pcs_transcript.specs.Counts.{counts_of_values};
 ghost use Rattle.p3_fri_pcs_transcript.specs.Shapes.{pcs_shape};
@@ -12,9 +12,9 @@ ghost use Rattle.p3_fri_openings.specs.Refusals.{ArePointsOff};
 ghost use Rattle.p3_fri_openings.specs.Denominators.{AreInverses, ArePointsCovered};
 ghost use Rattle.p3_fri_openings.specs.Opened.{values_asked};
 
-use p3_challenger::fs::Seed;
+use p3_challenger_fs::Seed;
 use p3_commit::OpenedValues;
-use p3_field::{ExtensionField, TwoAdicField};
+use p3_field_core::{ExtensionField, TwoAdicField};
 use p3_fri_folding::FriParameters;
 use p3_fri_openings::{Denominators, OpeningRound, denominators_of_rounds, open_values};
 use p3_fri_pcs_transcript::PcsShape;

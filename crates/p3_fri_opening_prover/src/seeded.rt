@@ -2,8 +2,8 @@
 
 ghost use Rattle.std.specs.Prelude.{◌≡◌, ◌≢◌, ◌≤◌, [], All, IfOk, IfErr, map};
 ghost use Rattle.std.specs.List.{AllZip};
-ghost use Rattle.p3_challenger.specs.Pattern.{turn_of};
-ghost use Rattle.p3_challenger.specs.Separator.{seed_bytes, seed_turns};
+ghost use Rattle.p3_challenger_fs.specs.Pattern.{turn_of};
+ghost use Rattle.p3_challenger_fs.specs.Separator.{seed_bytes, seed_turns};
 ghost use Rattle.p3_pcs.specs.Claims.{opened_values};
 ghost use Rattle.p3_fri_pcs_transcript.specs.Counts.{counts_of_values};
 ghost use Rattle.p3_fri_pcs_transcript.specs.Shapes.{pcs_shape};
@@ -18,10 +18,10 @@ ghost use Rattle.p3_fri_opening_prover.specs.Opening.{IsOpening, OpeningStops};
 ghost use Rattle.p3_fri_opening_prover.specs.Refusals.{LeavesState};
 
 use crate::words::prove_words;
-use p3_challenger::fs::Seed;
-use p3_challenger::{CanObserve, FieldChallenger, GrindingChallenger};
+use p3_challenger_fs::Seed;
+use p3_challenger_core::{CanObserve, FieldChallenger, GrindingChallenger};
 use p3_commit::{Mmcs, OpenedValues};
-use p3_field::{ExtensionField, TwoAdicField};
+use p3_field_core::{ExtensionField, TwoAdicField};
 use p3_fri_folding::{FriFoldingStrategy, FriParameters};
 use p3_fri_openings::{OpeningRound, PointDenominators};
 use p3_fri_pcs_transcript::PcsShape;

@@ -18,9 +18,9 @@ ghost use Rattle.p3_fri_opening_prover.specs.Opening.{heights, top};
 ghost use Rattle.p3_fri_opening_prover.specs.Opening.{words as words_of};
 ghost use Rattle.p3_fri_opening_prover.specs.Refusals.{LeavesState};
 
-use p3_challenger::{CanObserve, FieldChallenger, GrindingChallenger};
+use p3_challenger_core::{CanObserve, FieldChallenger, GrindingChallenger};
 use p3_commit::{Mmcs, OpenedValues};
-use p3_field::{ExtensionField, TwoAdicField, log2_strict_usize};
+use p3_field_core::{ExtensionField, TwoAdicField, log2_strict_usize};
 use p3_fri_batch::batch_words;
 use p3_fri_folding::{FriFoldingStrategy, FriParameters};
 use p3_fri_openings::{OpeningRound, PointDenominators};

@@ -1,8 +1,8 @@
 //! The transcript around the test, once its seed is made.
 
 ghost use Rattle.std.specs.Prelude.{◌≡◌, ◌≢◌, ◌+◌, ◌<◌, ◌≤◌, ◌↔◌, Err, IsOk, IfErr, map};
-ghost use Rattle.p3_challenger.specs.Pattern.{turn_of};
-ghost use Rattle.p3_challenger.specs.Separator.{seed_bytes, seed_turns};
+ghost use Rattle.p3_challenger_fs.specs.Pattern.{turn_of};
+ghost use Rattle.p3_challenger_fs.specs.Separator.{seed_bytes, seed_turns};
 ghost use Rattle.p3_fri_pcs_transcript.specs.Counts.{counts_of_claims};
 ghost use Rattle.p3_fri_pcs_transcript.specs.Shapes.{pcs_shape};
 ghost use Rattle.p3_fri_pcs_transcript.specs.Steps.{pcs_steps, pcs_stream};
@@ -13,10 +13,10 @@ ghost use Rattle.p3_fri_relation.specs.Faults.{StandsInScheme};
 ghost use Rattle.p3_fri_relation.specs.Views.{parameters_of, claims_of, proof_of};
 ghost use Rattle.p3_fri_opening_verifier.specs.Ends.{last_state};
 
-use p3_challenger::fs::Seed;
-use p3_challenger::{CanObserve, FieldChallenger, GrindingChallenger};
+use p3_challenger_fs::Seed;
+use p3_challenger_core::{CanObserve, FieldChallenger, GrindingChallenger};
 use p3_commit::{CommitmentOpening, Mmcs};
-use p3_field::{ExtensionField, TwoAdicField, TwoAdicMultiplicativeCoset};
+use p3_field_core::{ExtensionField, TwoAdicField, TwoAdicMultiplicativeCoset};
 use p3_fri_folding::{FriFoldingStrategy, FriParameters};
 use p3_fri_pcs_transcript::PcsShape;
 use p3_fri_pcs_transcript::pcs_transcript::{PcsTranscriptFailure, PcsVerifierTranscript};

@@ -10,9 +10,9 @@ ghost use Rattle.p3_fri_relation.specs.Views.{parameters_of, claims_of, proof_of
 ghost use Rattle.p3_fri_opening_verifier.specs.Ends.{last_state};
 
 use crate::seeded::verify_seeded;
-use p3_challenger::{CanObserve, FieldChallenger, GrindingChallenger};
+use p3_challenger_core::{CanObserve, FieldChallenger, GrindingChallenger};
 use p3_commit::{CommitmentOpening, Mmcs};
-use p3_field::{ExtensionField, TwoAdicField, TwoAdicMultiplicativeCoset};
+use p3_field_core::{ExtensionField, TwoAdicField, TwoAdicMultiplicativeCoset};
 use p3_fri_folding::{FriFoldingStrategy, FriParameters};
 use p3_fri_instance::check_canonical;
 use p3_fri_pcs_transcript::PcsShape;

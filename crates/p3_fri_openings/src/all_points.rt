@@ -13,7 +13,7 @@ use crate::asked::{AskedPoint, asked_points, tallest_at};
 use crate::checks::are_equal;
 use crate::denominators::{PointDenominators, denominators_of_point};
 use crate::round::OpeningRound;
-use p3_field::{
+use p3_field_core::{
     ExtensionField, Field, TwoAdicField, TwoAdicMultiplicativeCoset, log2_strict_usize,
 };
 use p3_fri_relation::setting::ChallengeField;

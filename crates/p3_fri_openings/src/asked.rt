@@ -6,7 +6,7 @@ ghost use Rattle.p3_fri_openings.specs.Points.{asked_point, points_in, asked_poi
 
 use crate::checks::are_equal;
 use crate::round::OpeningRound;
-use p3_field::{ExtensionField, Field, TwoAdicField};
+use p3_field_core::{ExtensionField, Field, TwoAdicField};
 use std::alloc::{AllocError, Global};
 
 /// A point, and the height of a matrix that is opened there.

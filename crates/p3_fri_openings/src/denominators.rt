@@ -10,7 +10,7 @@ ghost use Rattle.p3_fri_openings.specs.Committed.{coset_of, inverse_differences}
 ghost use Rattle.p3_fri_openings.specs.Sums.{StartsWith};
 ghost use Rattle.p3_fri_openings.specs.Denominators.{AreInverses, IsCovered};
 
-use p3_field::{ExtensionField, Field, TwoAdicField, batch_multiplicative_inverse};
+use p3_field_core::{ExtensionField, Field, TwoAdicField, batch_multiplicative_inverse};
 use p3_fri_relation::setting::ChallengeField;
 use std::alloc::{AllocError, Global};
 

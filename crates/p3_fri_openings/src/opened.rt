@@ -17,7 +17,7 @@ use crate::denominators::inverses_at;
 use crate::round::OpeningRound;
 use crate::values::values_at_point;
 use p3_commit::OpenedValues;
-use p3_field::{ExtensionField, TwoAdicField};
+use p3_field_core::{ExtensionField, TwoAdicField};
 use p3_fri_relation::setting::ChallengeField;
 use p3_matrix::RowMajorMatrix;
 use std::alloc::{AllocError, Global};

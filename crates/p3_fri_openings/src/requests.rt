@@ -5,7 +5,7 @@ ghost use Rattle.p3_fri_openings.specs.Requests.{round_request, matrices_request
 
 use crate::round::OpeningRound;
 use p3_commit::Mmcs;
-use p3_field::Field;
+use p3_field_core::Field;
 use p3_pcs::OpeningRequest;
 use std::alloc::{AllocError, Global};
 

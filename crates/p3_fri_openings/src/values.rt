@@ -9,7 +9,7 @@ ghost use Rattle.p3_fri_openings.specs.Refusals.{IsOff};
 ghost use Rattle.p3_fri_openings.specs.Committed.{coset_of, inverse_differences, committed_values};
 ghost use Rattle.p3_fri_openings.specs.Sums.{StartsWith, weighted_sum};
 
-use p3_field::{
+use p3_field_core::{
     ExtensionField, Field, TwoAdicField, TwoAdicMultiplicativeCoset, log2_strict_usize,
 };
 use p3_fri_relation::setting::ChallengeField;

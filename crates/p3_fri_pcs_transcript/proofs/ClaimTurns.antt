@@ -6,8 +6,8 @@ use Rattle.std.specs.List.{flat_map}
 use Rattle.algebra.specs.Nested.{joined}
 use Rattle.p3_challenger_fs.specs.declared.pattern.Hierarchy.TheVariants.{Begin, End}
 use Rattle.p3_challenger_fs.specs.declared.pattern.Turn.{Turn}
-use Rattle.p3_challenger.specs.Pattern.{turn_of}
-use Rattle.p3_challenger.specs.Run.{observed_all}
+use Rattle.p3_challenger_fs.specs.Pattern.{turn_of}
+use Rattle.p3_challenger_core.specs.Run.{observed_all}
 use Rattle.p3_challenger_core.proofs.Runs.{observed_all-append}
 use Rattle.p3_fri_steps.specs.Pow.{pow_turns}
 use Rattle.p3_fri_pcs_transcript.specs.Steps.{PcsNumbers, widths, bracket_step, batch_steps, pcs_steps}

@@ -2,9 +2,9 @@
 use Rattle.std.proofs.Common.{◌≡◌, ℕ, ◌==◌, List, ◌∷◌, ◌++◌, map, sym, ap, ◌∙◌, append_assoc}
 use Rattle.std.specs.List.{flat_map}
 use Rattle.algebra.specs.Field.{FieldOps, multiple}
-use Rattle.p3_challenger.specs.Run.{After, Moves, Event, Drawn, run, observed_all}
-use Rattle.p3_challenger.specs.Run.Event.{ValueObserved, ElementDrawn}
-use Rattle.p3_challenger.specs.Run.Drawn.{Element}
+use Rattle.p3_challenger_core.specs.Run.{After, Moves, Event, Drawn, run, observed_all}
+use Rattle.p3_challenger_core.specs.Run.Event.{ValueObserved, ElementDrawn}
+use Rattle.p3_challenger_core.specs.Run.Drawn.{Element}
 use Rattle.p3_challenger_core.proofs.Runs.{run-observed_all}
 use Rattle.p3_fri_transcript.specs.Steps.{FriNumbers, fri_stream}
 use Rattle.p3_fri_pcs_transcript.specs.Steps.{PcsNumbers, pcs_stream}

@@ -2,8 +2,8 @@
 use Rattle.std.proofs.Common.{◌≡◌, ℕ, zero, suc, Bool, true, false, ◌&&◌, List, Option, Some, refl, sym, ap, ◌∙◌}
 use Rattle.std.specs.List.{flat_map}
 use Rattle.algebra.specs.Field.{FieldOps}
-use Rattle.p3_challenger.specs.Run.{After, Moves, observed_all, draws}
-use Rattle.p3_challenger.specs.Turns.{bytes_observed}
+use Rattle.p3_challenger_core.specs.Run.{After, Moves, observed_all, draws}
+use Rattle.p3_challenger_fs.specs.Turns.{bytes_observed}
 use Rattle.p3_fri_steps.specs.Pow.{shown_attempt}
 use Rattle.p3_fri_steps.specs.Reached.{Reaches}
 use Rattle.p3_fri_steps.proofs.NoBits.{no_bits}

@@ -5,8 +5,8 @@ use Rattle.std.proofs.lemmas.List.{length-map}
 use Rattle.std.proofs.lemmas.List.Elements.{All-nil, All-cons, All-head, All-tail, All-append, All-map}
 use Rattle.p3_challenger_fs.specs.declared.pattern.Hierarchy.TheVariants.{Begin, End}
 use Rattle.p3_challenger_fs.specs.declared.pattern.Kind.TheVariants.{Challenge}
-use Rattle.p3_challenger.specs.Pattern.{Step, number_bytes}
-use Rattle.p3_challenger.specs.StreamLaws.{FitsNumber}
+use Rattle.p3_challenger_fs.specs.Pattern.{Step, number_bytes}
+use Rattle.p3_challenger_fs.specs.StreamLaws.{FitsNumber}
 use Rattle.p3_challenger_fs.proofs.Streams.{FitsWhole, head_equal, tail_equal, cons_equal, split_front, stream_determined}
 use Rattle.p3_fri_pcs_transcript.specs.Shapes.{pcs_shape}
 use Rattle.p3_fri_pcs_transcript.specs.Steps.{PcsNumbers, bracket_step, widths, grouping, pcs_steps, pcs_stream, pcs_labels}

@@ -2,8 +2,8 @@
 use Rattle.std.proofs.Common.{◌≡◌, ℕ, ◌+◌, ◌<◌, List, [], ◌∷◌, ◌++◌, length, map, drop, get_or, codes, sym, ap, ◌∙◌, add-one, append_assoc}
 use Rattle.std.proofs.Math.Seq.{drop-cons}
 use Rattle.p3_challenger_fs.specs.declared.pattern.Hierarchy.TheVariants.{Begin, End}
-use Rattle.p3_challenger.specs.Pattern.{Step}
-use Rattle.p3_challenger.specs.Description.{Description}
+use Rattle.p3_challenger_fs.specs.Pattern.{Step}
+use Rattle.p3_challenger_fs.specs.Description.{Description}
 use Rattle.p3_fri_pcs_transcript.specs.Steps.{PcsNumbers, widths, bracket_step, pcs_steps}
 use Rattle.p3_fri_steps.specs.Steps.{pow_steps, challenge_step, message_step}
 

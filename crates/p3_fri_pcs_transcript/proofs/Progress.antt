@@ -7,9 +7,9 @@ use Rattle.p3_challenger_fs.specs.declared.pattern.TypeTag.TheVariants.{Algebra}
 use Rattle.p3_challenger_fs.specs.declared.pattern.Length.TheVariants.{Fixed}
 use Rattle.p3_challenger_fs.specs.declared.pattern.Turn.{Turn}
 use Rattle.p3_challenger_fs.specs.declared.script.Script.{Script}
-use Rattle.p3_challenger.specs.Run.{observed_all}
-use Rattle.p3_challenger.specs.Script.{remaining}
-use Rattle.p3_challenger.specs.Turns.{IsNext}
+use Rattle.p3_challenger_core.specs.Run.{observed_all}
+use Rattle.p3_challenger_fs.specs.Script.{remaining}
+use Rattle.p3_challenger_fs.specs.Turns.{IsNext}
 use Rattle.p3_fri_steps.proofs.Turns.{next_of, rest_of}
 use Rattle.p3_fri_pcs_transcript.specs.declared.pcs_transcript.described.DescribedCounts.{DescribedCounts}
 use Rattle.p3_fri_pcs_transcript.specs.Absorption.{Absorbs}

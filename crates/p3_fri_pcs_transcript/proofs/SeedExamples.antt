@@ -1,6 +1,6 @@
 -- The streams of shapes that differ only in their labels.
 use Rattle.std.proofs.Common.{◌≡◌, ℕ, List, [], ◌∷◌, get_or, refl, ap, arith}
-use Rattle.p3_challenger.specs.Pattern.{seed_stream}
+use Rattle.p3_challenger_fs.specs.Pattern.{seed_stream}
 use Rattle.p3_fri_pcs_transcript.specs.Steps.{pcs_steps, pcs_stream, pcs_labels}
 use Rattle.p3_fri_pcs_transcript.specs.SeedExamples.{with_counts, DifferInGrouping}
 

@@ -4,8 +4,8 @@ use Rattle.std.specs.List.{flat_map}
 use Rattle.algebra.specs.Nested.{joined}
 use Rattle.p3_challenger_fs.specs.declared.pattern.Turn.{Turn}
 use Rattle.p3_challenger_fs.specs.declared.script.Script.{Script}
-use Rattle.p3_challenger.specs.Run.{observed_all}
-use Rattle.p3_challenger.specs.Script.{remaining}
+use Rattle.p3_challenger_core.specs.Run.{observed_all}
+use Rattle.p3_challenger_fs.specs.Script.{remaining}
 use Rattle.p3_fri_pcs_transcript.specs.Turns.{claim_turns}
 
 -- claims of so many values each come first

@@ -2,9 +2,9 @@
 use Rattle.std.specs.Prelude.{◌≡◌, ℕ, IsTrue, List, ◌∷◌, ◌++◌, map, Some}
 use Rattle.std.specs.List.{flat_map}
 use Rattle.algebra.specs.Field.{FieldOps, multiple}
-use Rattle.p3_challenger.specs.Run.{After, Moves, Event, Drawn, run}
-use Rattle.p3_challenger.specs.Run.Event.{ValueObserved, ElementDrawn}
-use Rattle.p3_challenger.specs.Run.Drawn.{Element}
+use Rattle.p3_challenger_core.specs.Run.{After, Moves, Event, Drawn, run}
+use Rattle.p3_challenger_core.specs.Run.Event.{ValueObserved, ElementDrawn}
+use Rattle.p3_challenger_core.specs.Run.Drawn.{Element}
 use Rattle.p3_fri_transcript.specs.Steps.{FriNumbers, fri_stream}
 use Rattle.p3_fri_pcs_transcript.specs.Steps.{PcsNumbers, pcs_stream}
 use Rattle.p3_fri_pcs_transcript.specs.Replay.{PcsReplay, pcs_replay}

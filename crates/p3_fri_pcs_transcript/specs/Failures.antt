@@ -1,7 +1,7 @@
 -- When a verifier's transcript passes, and why it refuses.
 use Rattle.std.specs.Prelude.{◌≡◌, ◌≤◌, ℕ, IsTrue, List, length, Option}
 use Rattle.algebra.specs.Field.{FieldOps}
-use Rattle.p3_challenger.specs.Run.{Moves}
+use Rattle.p3_challenger_core.specs.Run.{Moves}
 use Rattle.p3_fri_steps.specs.Pow.{IsMissing, IsWrong}
 use Rattle.p3_fri_transcript.specs.declared.transcript.failure.TranscriptFailure.{TranscriptFailure}
 use Rattle.p3_fri_transcript.specs.Failures.{FriFailure}

@@ -1,8 +1,8 @@
 -- What a prover finds along a PCS transcript, and where it finds nothing.
 use Rattle.std.specs.Prelude.{◌≡◌, ℕ, IsTrue, List, Option, Some, ⊤}
 use Rattle.algebra.specs.Field.{FieldOps}
-use Rattle.p3_challenger.specs.Run.{Moves}
-use Rattle.p3_challenger.specs.Turns.{bytes_observed}
+use Rattle.p3_challenger_core.specs.Run.{Moves}
+use Rattle.p3_challenger_fs.specs.Turns.{bytes_observed}
 use Rattle.p3_fri_steps.specs.declared.error.FriProverError.{FriProverError}
 use Rattle.p3_fri_steps.specs.declared.error.FriProverError.TheVariants.{NoPowWitness}
 use Rattle.p3_fri_steps.specs.declared.error.FriProverError.TheVariants.{OutOfMemory}

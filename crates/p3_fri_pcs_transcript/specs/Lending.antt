@@ -1,6 +1,6 @@
 -- A transcript that lends its challenger.
 use Rattle.p3_challenger_fs.specs.declared.script.Script.{Script}
-use Rattle.p3_challenger.specs.Script.{step_played}
+use Rattle.p3_challenger_fs.specs.Script.{step_played}
 use Rattle.p3_fri_pcs_transcript.specs.declared.pcs_transcript.shape.PcsShape.{PcsShape}
 use Rattle.p3_fri_pcs_transcript.specs.declared.pcs_transcript.state.PcsTranscript.{PcsTranscript}
 

@@ -1,6 +1,6 @@
 -- Which numbers of a shape eight bytes hold.
 use Rattle.std.specs.Prelude.{ℕ, List}
-use Rattle.p3_challenger.specs.StreamLaws.{FitsNumber}
+use Rattle.p3_challenger_fs.specs.StreamLaws.{FitsNumber}
 use Rattle.p3_fri_pcs_transcript.specs.Steps.{PcsNumbers}
 use Rattle.p3_fri_steps.specs.Fits.{FitsList, FitsPoints}
 

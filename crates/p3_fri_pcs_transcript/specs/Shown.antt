@@ -1,7 +1,7 @@
 -- Witnesses that a prover sends, and a verifier is shown.
 use Rattle.std.specs.Prelude.{◌≡◌, ◌≢◌, ℕ, List, Option, Some}
 use Rattle.algebra.specs.Field.{FieldOps}
-use Rattle.p3_challenger.specs.Run.{Moves}
+use Rattle.p3_challenger_core.specs.Run.{Moves}
 use Rattle.p3_fri_transcript.specs.Steps.{FriNumbers}
 use Rattle.p3_fri_pcs_transcript.specs.Replay.{pcs_replay}
 use Rattle.p3_fri_pcs_transcript.specs.Steps.{PcsNumbers}

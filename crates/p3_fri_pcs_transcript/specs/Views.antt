@@ -4,8 +4,8 @@ use Rattle.std.specs.Borrow.{MutBor}
 use Rattle.algebra.specs.Field.{FieldOps}
 use Rattle.p3_challenger_fs.specs.declared.pattern.Turn.{Turn}
 use Rattle.p3_challenger_fs.specs.declared.script.Script.{Script}
-use Rattle.p3_challenger.specs.Script.{remaining}
-use Rattle.p3_challenger.specs.Turns.{bytes_observed}
+use Rattle.p3_challenger_fs.specs.Script.{remaining}
+use Rattle.p3_challenger_fs.specs.Turns.{bytes_observed}
 use Rattle.p3_fri_pcs_transcript.specs.declared.pcs_transcript.shape.PcsShape.{PcsShape}
 use Rattle.p3_fri_pcs_transcript.specs.declared.pcs_transcript.state.PcsTranscript.{PcsTranscript}
 use Rattle.p3_fri_pcs_transcript.specs.Shapes.{pcs_shape}

@@ -3,7 +3,7 @@
 
 ghost use Rattle.std.specs.Prelude.{◌≡◌, ℕ, List, [], ◌∷◌};
 ghost use Rattle.algebra.specs.Field.{FieldOps};
-ghost use Rattle.p3_challenger.specs.Run.{Moves};
+ghost use Rattle.p3_challenger_core.specs.Run.{Moves};
 ghost use Rattle.p3_fri_steps.specs.Fits.{FitsList, FitsPoints};
 ghost use Rattle.p3_fri_transcript.specs.Steps.{FriNumbers};
 ghost use Rattle.p3_fri_pcs_transcript.specs.Events.{IsRunOfPcs};
@@ -14,7 +14,7 @@ ghost use Rattle.p3_fri_pcs_transcript.specs.SeedLaws.{FitsPcs};
 ghost use Rattle.p3_fri_pcs_transcript.specs.SeedExamples.{with_counts, DifferInGrouping};
 
 use crate::pcs_transcript::PcsShape;
-use p3_field::{ExtensionField, Field};
+use p3_field_core::{ExtensionField, Field};
 use p3_fri_steps::laws::points_fit;
 
 /// The stream determines the shape.

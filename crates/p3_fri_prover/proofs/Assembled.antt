@@ -10,7 +10,7 @@ use Rattle.algebra.specs.Rounds.{after_rounds, final_polynomial}
 use Rattle.algebra.proofs.FinalPolynomials.{length-final_polynomial}
 use Rattle.algebra.proofs.Points.{lifted_roots}
 use Rattle.p3_matrix.specs.declared.dense.RowMajorMatrix.{RowMajorMatrix}
-use Rattle.p3_challenger.specs.Turns.{bytes_observed}
+use Rattle.p3_challenger_fs.specs.Turns.{bytes_observed}
 use Rattle.p3_fri_folding.specs.Schedule.{IsStrictlyFalling, tallest}
 use Rattle.p3_fri_transcript.specs.Steps.{fri_stream}
 use Rattle.p3_fri_relation.specs.Setting.{Setting, Parameters, RoundOpening, Proof}

@@ -7,7 +7,7 @@ use Rattle.algebra.specs.Field.{FieldOps}
 use Rattle.algebra.specs.Rounds.{Round, total_log_arity, after_round, after_rounds, words_folded}
 use Rattle.algebra.proofs.Rounds.{after_rounds-next, words_folded-next, length-after_rounds}
 use Rattle.p3_matrix.specs.declared.dense.RowMajorMatrix.{RowMajorMatrix}
-use Rattle.p3_challenger.specs.Run.{Moves}
+use Rattle.p3_challenger_core.specs.Run.{Moves}
 use Rattle.p3_fri_transcript.specs.Replay.{rounds_replay}
 use Rattle.p3_fri_transcript.proofs.Joining.{no_rounds, round_joined}
 use Rattle.p3_fri_relation.specs.Queries.{rounds_of}

@@ -9,7 +9,7 @@ use Rattle.algebra.specs.Field.{IsField, IsHomomorphism}
 use Rattle.algebra.specs.Folds.{LowersDegrees}
 use Rattle.algebra.specs.TwoAdic.{AreRoots}
 use Rattle.p3_matrix.specs.declared.dense.RowMajorMatrix.{RowMajorMatrix}
-use Rattle.p3_challenger.specs.Turns.{bytes_observed}
+use Rattle.p3_challenger_fs.specs.Turns.{bytes_observed}
 use Rattle.p3_fri_transcript.specs.Steps.{FriNumbers, fri_stream}
 use Rattle.p3_fri_relation.specs.Setting.{Setting, Parameters, RoundOpening, Proof}
 use Rattle.p3_fri_prover.specs.Inputs.{HaveHeights, AreInputs}

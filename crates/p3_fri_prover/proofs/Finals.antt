@@ -8,7 +8,7 @@ use Rattle.algebra.specs.Digits.{rev}
 use Rattle.algebra.specs.TwoAdic.{AreRoots}
 use Rattle.algebra.specs.Rounds.{final_polynomial}
 use Rattle.algebra.proofs.FinalPolynomials.{final_polynomial_by_transform}
-use Rattle.p3_field.specs.Index.{bit_reversed}
+use Rattle.p3_field_core.specs.Index.{bit_reversed}
 
 module _ {A : Type 0} (F : FieldOps A) (L : IsField F) (top : ℕ) (w : ℕ → A)
     (W : AreRoots F top w) where

@@ -5,7 +5,7 @@ use Rattle.std.specs.Prelude.{All, if◌then◌else◌}
 use Rattle.std.proofs.lemmas.Bool.{eq-eqb}
 use Rattle.algebra.specs.Field.{FieldOps}
 use Rattle.p3_matrix.specs.declared.dense.RowMajorMatrix.{RowMajorMatrix}
-use Rattle.p3_challenger.specs.Run.{Moves}
+use Rattle.p3_challenger_core.specs.Run.{Moves}
 use Rattle.p3_fri_folding.specs.Schedule.{IsStrictlyFalling, tallest}
 use Rattle.p3_fri_prover.specs.Inputs.{HaveHeights, input_of, of_length, AreInputs}
 use Rattle.p3_fri_prover.specs.Rounds.{KeepWords, AreCommitted}

@@ -3,7 +3,7 @@ use Rattle.std.proofs.Common.{◌≡◌, ℕ, ◌/◌, ◌^◌, ◌<◌, ◌≤�
 use Rattle.std.proofs.Common.{◌∙◌, subst, refl}
 use Rattle.std.specs.Prelude.{All}
 use Rattle.p3_matrix.specs.declared.dense.RowMajorMatrix.{RowMajorMatrix}
-use Rattle.p3_challenger.specs.Run.{Moves}
+use Rattle.p3_challenger_core.specs.Run.{Moves}
 use Rattle.p3_fri_transcript.specs.Steps.{FriNumbers}
 use Rattle.p3_fri_relation.specs.Setting.{Fields, Parameters}
 use Rattle.p3_fri_prover.specs.Inputs.{HaveHeights, AreInputs}

@@ -1,7 +1,7 @@
 -- What was played with words of these log heights, and that its rounds can be opened.
 use Rattle.std.proofs.Common.{◌≡◌, ℕ, ◌/◌, ◌^◌, ◌<◌, List, [], length, get_or, map, refl}
 use Rattle.p3_matrix.specs.declared.dense.RowMajorMatrix.{RowMajorMatrix}
-use Rattle.p3_challenger.specs.Run.{Moves}
+use Rattle.p3_challenger_core.specs.Run.{Moves}
 use Rattle.p3_fri_folding.specs.Schedule.{IsStrictlyFalling, tallest}
 use Rattle.p3_fri_relation.specs.Setting.{Fields, Parameters, Opening}
 use Rattle.p3_fri_prover.specs.Inputs.{HaveHeights, input_of, AreInputs}

@@ -7,7 +7,7 @@ use Rattle.std.specs.Vec.{vec_len}
 use Rattle.std.proofs.Math.Pow.{pow_mono}
 use Rattle.algebra.specs.Nested.{lists}
 use Rattle.p3_matrix.specs.declared.dense.RowMajorMatrix.{RowMajorMatrix}
-use Rattle.p3_challenger.specs.Run.{After, Moves}
+use Rattle.p3_challenger_core.specs.Run.{After, Moves}
 use Rattle.p3_fri_steps.specs.declared.error.FriProverError.{FriProverError}
 use Rattle.p3_fri_steps.specs.declared.error.FriProverError.TheVariants as Why
 use Rattle.p3_fri_steps.specs.declared.pow_phase.PowPhase.TheVariants.{Batch, CommitPhase, Query}

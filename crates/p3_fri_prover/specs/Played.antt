@@ -3,7 +3,7 @@ use Rattle.std.specs.Prelude.{◌≡◌, ℕ, ◌+◌, ◌^◌, ◌<◌, ◌≤�
 use Rattle.std.specs.Prelude.{Option, slice_index_or, ⊤}
 use Rattle.algebra.specs.Rounds.{final_polynomial}
 use Rattle.p3_matrix.specs.declared.dense.RowMajorMatrix.{RowMajorMatrix}
-use Rattle.p3_challenger.specs.Run.{Moves}
+use Rattle.p3_challenger_core.specs.Run.{Moves}
 use Rattle.p3_fri_steps.specs.declared.error.FriProverError.{FriProverError}
 use Rattle.p3_fri_steps.specs.declared.error.FriProverError.TheVariants.{NoPowWitness, OutOfMemory}
 use Rattle.p3_fri_steps.specs.declared.pow_phase.PowPhase.TheVariants.{CommitPhase, Query}

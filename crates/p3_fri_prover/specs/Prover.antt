@@ -1,6 +1,6 @@
 -- What a prover asks for, and why it refuses.
 use Rattle.std.specs.Prelude.{ℕ, ◌+◌, ◌<◌, ◌≤◌, ◌⊎◌, List, All, ⊤}
-use Rattle.p3_challenger.specs.Turns.{bytes_observed}
+use Rattle.p3_challenger_fs.specs.Turns.{bytes_observed}
 use Rattle.p3_matrix.specs.declared.dense.RowMajorMatrix.{RowMajorMatrix}
 use Rattle.p3_fri_steps.specs.declared.error.FriProverError.{FriProverError}
 use Rattle.p3_fri_steps.specs.declared.error.FriProverError.TheVariants.{InputHeightTooSmall}

@@ -1,7 +1,7 @@
 -- Why a prover refuses.
 use Rattle.std.specs.Prelude.{◌≡◌, ℕ, ◌^◌, ◌<◌, ◌≤◌, List, length, slice_index, Option, ⊤}
 use Rattle.algebra.specs.Field.{FieldOps}
-use Rattle.p3_challenger.specs.Run.{Moves}
+use Rattle.p3_challenger_core.specs.Run.{Moves}
 use Rattle.p3_matrix.specs.declared.dense.RowMajorMatrix.{RowMajorMatrix}
 use Rattle.p3_fri_steps.specs.declared.error.FriProverError.TheVariants.{NoPowWitness, OutOfMemory}
 use Rattle.p3_fri_steps.specs.declared.pow_phase.PowPhase.TheVariants.{CommitPhase}

@@ -4,7 +4,7 @@ ghost use Rattle.std.specs.Prelude.{◌≡◌, ◌≤◌, ◌↔◌, IsTrue};
 ghost use Rattle.algebra.specs.Polynomial.{val};
 ghost use Rattle.algebra.specs.TwoAdic.{pt};
 
-use p3_field::{ExtensionField, Field, TwoAdicField, reverse_bits_len};
+use p3_field_core::{ExtensionField, Field, TwoAdicField, reverse_bits_len};
 
 /// The polynomial's value at a point, by Horner's rule.
 fn evaluate<F: Field>(coefficients: &[F], point: F) -> F

@@ -15,7 +15,7 @@ ghost use Rattle.p3_fri_queries.specs.Folded.{query_at, EndsAtFinal, indices_fol
 use crate::final_value::ends_at_final;
 use crate::folded::FoldedQueries;
 use p3_commit::Mmcs;
-use p3_field::{ExtensionField, TwoAdicField};
+use p3_field_core::{ExtensionField, TwoAdicField};
 use p3_fri_folding::FriFoldingStrategy;
 use p3_fri_query::fold_query;
 use p3_fri_relation::error::{FriError, FriOpenings};

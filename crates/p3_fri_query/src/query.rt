@@ -16,7 +16,7 @@ use crate::checks::{
 };
 use crate::rounds::fold_rounds;
 use p3_commit::Mmcs;
-use p3_field::{ExtensionField, TwoAdicField};
+use p3_field_core::{ExtensionField, TwoAdicField};
 use p3_fri_folding::FriFoldingStrategy;
 use p3_fri_relation::error::{FriError, FriOpenings};
 use p3_fri_relation::proof::CommitPhaseMultiStep;

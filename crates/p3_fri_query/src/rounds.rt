@@ -12,7 +12,7 @@ ghost use Rattle.p3_fri_relation.specs.Views.{siblings_opened, rows_collected};
 
 use crate::collect::collect;
 use p3_commit::Mmcs;
-use p3_field::{ExtensionField, TwoAdicField};
+use p3_field_core::{ExtensionField, TwoAdicField};
 use p3_fri_folding::FriFoldingStrategy;
 use p3_fri_relation::proof::CommitPhaseMultiStep;
 use std::alloc::{AllocError, Global};

@@ -7,7 +7,7 @@ use Rattle.std.proofs.Math.Nat.{div-lt_iff_lt-mul}
 use Rattle.std.proofs.lemmas.Nat.{pow-add}
 use Rattle.std.proofs.lemmas.List.{length-map}
 use Rattle.std.proofs.lemmas.List.Elements.{All-map, All-weaker}
-use Rattle.p3_challenger.specs.Run.{Moves, After, draws}
+use Rattle.p3_challenger_core.specs.Run.{Moves, After, draws}
 use Rattle.p3_fri_transcript.specs.Replay.{rounds_replay, round_replay, shown_queries_replay, fri_replay}
 use Rattle.p3_fri_relation.specs.Setting.{Setting, Parameters, CommitmentClaim, Proof}
 use Rattle.p3_fri_relation.specs.Acceptance.{top_height, test_replay, rounds_replayed}

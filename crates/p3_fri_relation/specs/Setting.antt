@@ -2,7 +2,7 @@
 -- and proved.
 use Rattle.std.specs.Prelude.{ℕ, ◌+◌, List}
 use Rattle.algebra.specs.Field.{FieldOps}
-use Rattle.p3_challenger.specs.Run.{Moves}
+use Rattle.p3_challenger_core.specs.Run.{Moves}
 use Rattle.p3_matrix.specs.declared.Dimensions.{Dimensions}
 
 -- a two-adic field `F` and the extension `E` of it that challenges are drawn from

@@ -1,6 +1,6 @@
 -- Proofs of work of no bits.
 use Rattle.std.proofs.Common.{◌≡◌, ℕ, true, Option, Some, None, refl}
-use Rattle.p3_challenger.specs.Run.{After}
+use Rattle.p3_challenger_core.specs.Run.{After}
 use Rattle.p3_fri_steps.specs.Pow.{shown_attempt}
 
 -- at no bits every witness passes, and a missing one too

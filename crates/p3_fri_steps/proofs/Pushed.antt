@@ -2,7 +2,7 @@
 use Rattle.std.proofs.Common.{◌≡◌, List, [], ◌∷◌, ◌++◌, map, ap, ◌∙◌}
 use Rattle.std.proofs.lemmas.List.{map-append}
 use Rattle.p3_challenger_fs.specs.declared.pattern.Interaction.{Interaction}
-use Rattle.p3_challenger.specs.Pattern.{Step, step_of}
+use Rattle.p3_challenger_fs.specs.Pattern.{Step, step_of}
 
 -- a step behind others
 pub pushed : (a b : List Interaction) (x : Interaction) (s : Step) → b ≡ a ++ x ∷ []

@@ -1,10 +1,10 @@
 -- States that a challenger reaches, put together from what single calls do.
 use Rattle.std.proofs.Common.{◌≡◌, ℕ, zero, suc, ◌==◌, Bool, true, false, if◌then◌else◌}
 use Rattle.std.proofs.Common.{List, [], ◌∷◌, ◌++◌, Option, Some, None, refl, ap, ◌∙◌}
-use Rattle.p3_challenger.specs.Run.{After, Moves, Event, run, observed_all, draws, grind_attempt}
-use Rattle.p3_challenger.specs.Run.{moves}
-use Rattle.p3_challenger.specs.Run.Event.{ValueObserved, CommitmentObserved}
-use Rattle.p3_challenger.specs.Run.Event.{ElementDrawn, BitsDrawn}
+use Rattle.p3_challenger_core.specs.Run.{After, Moves, Event, run, observed_all, draws, grind_attempt}
+use Rattle.p3_challenger_core.specs.Run.{moves}
+use Rattle.p3_challenger_core.specs.Run.Event.{ValueObserved, CommitmentObserved}
+use Rattle.p3_challenger_core.specs.Run.Event.{ElementDrawn, BitsDrawn}
 use Rattle.p3_challenger_core.proofs.Runs.{runs_join}
 use Rattle.p3_fri_steps.specs.Pow.{shown_attempt}
 use Rattle.p3_fri_steps.specs.Reached.{Reaches}

@@ -7,8 +7,8 @@ use Rattle.p3_challenger_fs.specs.declared.pattern.Hierarchy.TheVariants.{Atomic
 use Rattle.p3_challenger_fs.specs.declared.pattern.Kind.TheVariants.{Challenge, Pow}
 use Rattle.p3_challenger_fs.specs.declared.pattern.TypeTag.TheVariants.{Algebra}
 use Rattle.p3_challenger_fs.specs.declared.pattern.Length.TheVariants.{Fixed}
-use Rattle.p3_challenger.specs.Pattern.{Step, number_bytes}
-use Rattle.p3_challenger.specs.StreamLaws.{FitsNumber, FitsText}
+use Rattle.p3_challenger_fs.specs.Pattern.{Step, number_bytes}
+use Rattle.p3_challenger_fs.specs.StreamLaws.{FitsNumber, FitsText}
 use Rattle.p3_challenger_fs.proofs.Streams.{FitsWhole, head_equal, tail_equal, cons_equal}
 use Rattle.p3_challenger_fs.proofs.Streams.{number_injective}
 use Rattle.p3_fri_steps.specs.Steps.{pow_steps}

@@ -11,8 +11,8 @@ use Rattle.p3_challenger_fs.specs.declared.pattern.TypeTag.TheVariants.{Algebra}
 use Rattle.p3_challenger_fs.specs.declared.pattern.Length.{Length}
 use Rattle.p3_challenger_fs.specs.declared.pattern.Length.TheVariants.{Fixed}
 use Rattle.p3_challenger_fs.specs.declared.pattern.Turn.{Turn}
-use Rattle.p3_challenger.specs.Pattern.{Step, turn_of}
-use Rattle.p3_challenger.specs.Turns.{IsNext}
+use Rattle.p3_challenger_fs.specs.Pattern.{Step, turn_of}
+use Rattle.p3_challenger_fs.specs.Turns.{IsNext}
 use Rattle.p3_fri_steps.specs.Steps.{pow_steps}
 use Rattle.p3_fri_steps.specs.Pow.{pow_turns}
 

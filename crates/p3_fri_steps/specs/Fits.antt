@@ -1,7 +1,7 @@
 -- Lists whose numbers and lengths eight bytes hold.
 use Rattle.std.specs.Prelude.{ℕ, List, length}
 use Rattle.std.specs.List.{All}
-use Rattle.p3_challenger.specs.StreamLaws.{FitsNumber}
+use Rattle.p3_challenger_fs.specs.StreamLaws.{FitsNumber}
 
 -- they hold the list's length, and each item is as `P` says
 abbrev pub FitsList : {A : Type 0} → (A → Type 0) → List A → Type 0

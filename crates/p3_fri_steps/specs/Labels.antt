@@ -1,6 +1,6 @@
 -- Labels of a description.
 use Rattle.std.specs.Prelude.{ℕ, List, ◌++◌}
-use Rattle.p3_challenger.specs.Description.{Description}
+use Rattle.p3_challenger_fs.specs.Description.{Description}
 
 -- the description with more labels behind its own
 abbrev pub labels_added : List (List ℕ) → Description → Description

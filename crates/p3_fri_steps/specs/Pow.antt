@@ -6,7 +6,7 @@ use Rattle.p3_challenger_fs.specs.declared.pattern.Kind.TheVariants.{Pow}
 use Rattle.p3_challenger_fs.specs.declared.pattern.TypeTag.TheVariants.{Algebra}
 use Rattle.p3_challenger_fs.specs.declared.pattern.Length.TheVariants.{Fixed}
 use Rattle.p3_challenger_fs.specs.declared.pattern.Turn.{Turn}
-use Rattle.p3_challenger.specs.Run.{After, grind_attempt, Passes}
+use Rattle.p3_challenger_core.specs.Run.{After, grind_attempt, Passes}
 
 -- the step of a proof of work, where there are bits
 abbrev pub pow_turns : ℕ → List Turn

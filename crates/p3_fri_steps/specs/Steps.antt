@@ -4,7 +4,7 @@ use Rattle.p3_challenger_fs.specs.declared.pattern.Hierarchy.TheVariants.{Atomic
 use Rattle.p3_challenger_fs.specs.declared.pattern.Kind.TheVariants.{Message, Challenge, Pow}
 use Rattle.p3_challenger_fs.specs.declared.pattern.TypeTag.TheVariants.{Algebra}
 use Rattle.p3_challenger_fs.specs.declared.pattern.Length.TheVariants.{Scalar, Fixed}
-use Rattle.p3_challenger.specs.Pattern.{Step}
+use Rattle.p3_challenger_fs.specs.Pattern.{Step}
 
 -- a step of proof of work, where there are bits
 abbrev pub pow_steps : (label : List ℕ) (bits : ℕ) → List Step

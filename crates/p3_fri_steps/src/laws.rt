@@ -2,7 +2,7 @@
 //! bodies only read: a number that is read is known to fit its type.
 
 ghost use Rattle.std.specs.Prelude.{◌≡◌, ℕ, true, Option};
-ghost use Rattle.p3_challenger.specs.Run.{After};
+ghost use Rattle.p3_challenger_core.specs.Run.{After};
 ghost use Rattle.p3_fri_steps.specs.Fits.{FitsPoints};
 ghost use Rattle.p3_fri_steps.specs.Pow.{shown_attempt};
 

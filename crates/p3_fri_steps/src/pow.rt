@@ -2,17 +2,17 @@
 
 ghost use Rattle.std.specs.Prelude.{◌≡◌, ◌≢◌, ◌≤◌, ◌↔◌, Err, IsTrue, IsOk, IfOk, IfErr};
 ghost use Rattle.std.specs.Prelude.{OnOk, OnErr, IsSome, unwrap_or};
-ghost use Rattle.p3_challenger.specs.Run.{grind_attempt, Passes};
-ghost use Rattle.p3_challenger.specs.Script.{remaining};
+ghost use Rattle.p3_challenger_core.specs.Run.{grind_attempt, Passes};
+ghost use Rattle.p3_challenger_fs.specs.Script.{remaining};
 ghost use Rattle.p3_fri_steps.specs.declared.error.FriProverError.TheVariants.{NoPowWitness};
 ghost use Rattle.p3_fri_steps.specs.Pow.{IsPowNext, PowPlayed, found_witness, shown_attempt};
 ghost use Rattle.p3_fri_steps.specs.Pow.{NonePasses, IsMissing, IsWrong};
 
 use crate::error::FriProverError;
 use crate::pow_phase::PowPhase;
-use p3_challenger::fs::Script;
-use p3_challenger::{FieldChallenger, GrindingChallenger};
-use p3_field::Field;
+use p3_challenger_fs::Script;
+use p3_challenger_core::{FieldChallenger, GrindingChallenger};
+use p3_field_core::Field;
 
 /// Makes the proof of work, of which there is none at no bits: answers what the challenger's search
 /// gives. Where no element passes it is refused, with the challenger unchanged.

@@ -1,13 +1,13 @@
 //! Steps and labels that both transcripts describe.
 
 ghost use Rattle.std.specs.Prelude.{◌≡◌, ◌++◌, ◌∷◌, [], OnOk, map};
-ghost use Rattle.p3_challenger.specs.Pattern.{step_of, number_bytes};
-ghost use Rattle.p3_challenger.specs.Separator.{description};
+ghost use Rattle.p3_challenger_fs.specs.Pattern.{step_of, number_bytes};
+ghost use Rattle.p3_challenger_fs.specs.Separator.{description};
 ghost use Rattle.p3_fri_steps.specs.Labels.{labels_added};
 ghost use Rattle.p3_fri_steps.specs.Steps.{pow_steps};
 
-use p3_challenger::fs::{DomainSeparator, Hierarchy, Interaction, Kind, Length};
-use p3_field::{ExtensionField, Field};
+use p3_challenger_fs::{DomainSeparator, Hierarchy, Interaction, Kind, Length};
+use p3_field_core::{ExtensionField, Field};
 use std::alloc::{AllocError, Global};
 
 /// Appends a step of proof of work, where there are bits.

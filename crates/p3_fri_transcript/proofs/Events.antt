@@ -4,10 +4,10 @@ use Rattle.std.proofs.Common.{if◌then◌else◌, List, [], ◌∷◌, ◌++◌
 use Rattle.std.proofs.Common.{ap₂, ◌∙◌, append_assoc, eqb-true, eq-eqb}
 use Rattle.std.specs.List.{flat_map}
 use Rattle.algebra.specs.Field.{FieldOps, multiple}
-use Rattle.p3_challenger.specs.Run.{After, Moves, Event, Drawn, run, observed_all, draws}
-use Rattle.p3_challenger.specs.Run.Event.{ValueObserved, CommitmentObserved, ElementDrawn}
-use Rattle.p3_challenger.specs.Run.Event.{BitsDrawn}
-use Rattle.p3_challenger.specs.Run.Drawn.{Element, Bits}
+use Rattle.p3_challenger_core.specs.Run.{After, Moves, Event, Drawn, run, observed_all, draws}
+use Rattle.p3_challenger_core.specs.Run.Event.{ValueObserved, CommitmentObserved, ElementDrawn}
+use Rattle.p3_challenger_core.specs.Run.Event.{BitsDrawn}
+use Rattle.p3_challenger_core.specs.Run.Drawn.{Element, Bits}
 use Rattle.p3_challenger_core.proofs.Runs.{run-observed_all}
 use Rattle.p3_fri_transcript.specs.Steps.{FriNumbers}
 use Rattle.p3_fri_transcript.specs.Replay.{rounds_replay, shown_queries_replay, fri_replay}

@@ -7,8 +7,8 @@ use Rattle.p3_challenger_fs.specs.declared.pattern.Hierarchy.TheVariants.{Atomic
 use Rattle.p3_challenger_fs.specs.declared.pattern.Kind.TheVariants.{Challenge}
 use Rattle.p3_challenger_fs.specs.declared.pattern.TypeTag.TheVariants.{Bits}
 use Rattle.p3_challenger_fs.specs.declared.pattern.Length.TheVariants.{Fixed}
-use Rattle.p3_challenger.specs.Pattern.{Step, number_bytes, seed_stream}
-use Rattle.p3_challenger.specs.StreamLaws.{FitsNumber}
+use Rattle.p3_challenger_fs.specs.Pattern.{Step, number_bytes, seed_stream}
+use Rattle.p3_challenger_fs.specs.StreamLaws.{FitsNumber}
 use Rattle.p3_challenger_fs.proofs.Streams.{FitsWhole, head_equal, tail_equal, stream_determined}
 use Rattle.p3_fri_transcript.specs.Shapes.{fri_shape}
 use Rattle.p3_fri_transcript.specs.Steps.{FriNumbers, commitment_step, round_steps, rounds_steps}

@@ -1,7 +1,7 @@
 -- States that the calls of a transcript reach.
 use Rattle.std.proofs.Common.{◌≡◌, ℕ, List, Option, sym}
 use Rattle.std.specs.List.{flat_map}
-use Rattle.p3_challenger.specs.Run.{Moves, draws, grind_attempt}
+use Rattle.p3_challenger_core.specs.Run.{Moves, draws, grind_attempt}
 use Rattle.p3_fri_steps.specs.Pow.{shown_attempt}
 use Rattle.p3_fri_steps.specs.Reached.{Reaches}
 use Rattle.p3_fri_steps.proofs.Reached.{reaches_same, reaches_join}

@@ -1,6 +1,6 @@
 -- The streams of the shapes that are known.
 use Rattle.std.proofs.Common.{◌≡◌, ℕ, List, [], ◌∷◌, get_or, refl, ap, arith}
-use Rattle.p3_challenger.specs.Pattern.{seed_stream}
+use Rattle.p3_challenger_fs.specs.Pattern.{seed_stream}
 use Rattle.p3_fri_transcript.specs.Steps.{fri_steps, fri_stream, fri_labels}
 use Rattle.p3_fri_transcript.specs.SeedExamples.{without_rounds, stream_without_rounds}
 use Rattle.p3_fri_transcript.specs.SeedExamples.{with_arities, DifferInLabels}

@@ -5,8 +5,8 @@ use Rattle.p3_challenger_fs.specs.declared.pattern.Hierarchy.TheVariants.{Atomic
 use Rattle.p3_challenger_fs.specs.declared.pattern.Kind.TheVariants.{Challenge}
 use Rattle.p3_challenger_fs.specs.declared.pattern.TypeTag.TheVariants.{Bits}
 use Rattle.p3_challenger_fs.specs.declared.pattern.Length.TheVariants.{Fixed}
-use Rattle.p3_challenger.specs.Pattern.{Step, number_bytes}
-use Rattle.p3_challenger.specs.Description.{Description}
+use Rattle.p3_challenger_fs.specs.Pattern.{Step, number_bytes}
+use Rattle.p3_challenger_fs.specs.Description.{Description}
 use Rattle.p3_fri_transcript.specs.Steps.{FriNumbers, commitment_step, round_steps, rounds_steps}
 use Rattle.p3_fri_transcript.specs.Steps.{fri_steps}
 use Rattle.p3_fri_steps.specs.Steps.{challenge_step, message_step, pow_steps}

@@ -6,7 +6,7 @@ use Rattle.p3_challenger_fs.specs.declared.pattern.Kind.TheVariants.{Challenge}
 use Rattle.p3_challenger_fs.specs.declared.pattern.TypeTag.TheVariants.{Bits}
 use Rattle.p3_challenger_fs.specs.declared.pattern.Length.TheVariants.{Fixed}
 use Rattle.p3_challenger_fs.specs.declared.pattern.Turn.{Turn}
-use Rattle.p3_challenger.specs.Pattern.{turn_of}
+use Rattle.p3_challenger_fs.specs.Pattern.{turn_of}
 use Rattle.p3_fri_transcript.specs.Steps.{FriNumbers, commitment_step, rounds_steps, query_steps}
 use Rattle.p3_fri_transcript.specs.Steps.{fri_steps}
 use Rattle.p3_fri_steps.specs.Steps.{challenge_step, message_step, pow_steps}

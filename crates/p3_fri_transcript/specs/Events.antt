@@ -3,10 +3,10 @@ use Rattle.std.specs.Prelude.{◌≡◌, ℕ, ◌==◌, if◌then◌else◌, IsT
 use Rattle.std.specs.Prelude.{replicate, Some}
 use Rattle.std.specs.List.{flat_map}
 use Rattle.algebra.specs.Field.{FieldOps, multiple}
-use Rattle.p3_challenger.specs.Run.{After, Moves, Event, Drawn, run}
-use Rattle.p3_challenger.specs.Run.Event.{ValueObserved, CommitmentObserved}
-use Rattle.p3_challenger.specs.Run.Event.{ElementDrawn, BitsDrawn}
-use Rattle.p3_challenger.specs.Run.Drawn.{Element, Bits}
+use Rattle.p3_challenger_core.specs.Run.{After, Moves, Event, Drawn, run}
+use Rattle.p3_challenger_core.specs.Run.Event.{ValueObserved, CommitmentObserved}
+use Rattle.p3_challenger_core.specs.Run.Event.{ElementDrawn, BitsDrawn}
+use Rattle.p3_challenger_core.specs.Run.Drawn.{Element, Bits}
 use Rattle.p3_fri_transcript.specs.Steps.{FriNumbers}
 use Rattle.p3_fri_transcript.specs.Replay.{FriReplay, fri_replay}
 

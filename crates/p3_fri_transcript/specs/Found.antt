@@ -1,6 +1,6 @@
 -- What a prover finds along a low-degree test, and where it finds nothing.
 use Rattle.std.specs.Prelude.{◌≡◌, ℕ, IsTrue, List, ◌∷◌, ◌++◌, length, Option, Some, ⊤}
-use Rattle.p3_challenger.specs.Run.{Moves}
+use Rattle.p3_challenger_core.specs.Run.{Moves}
 use Rattle.p3_fri_steps.specs.declared.error.FriProverError.{FriProverError}
 use Rattle.p3_fri_steps.specs.declared.error.FriProverError.TheVariants.{NoPowWitness}
 use Rattle.p3_fri_steps.specs.declared.error.FriProverError.TheVariants.{OutOfMemory}

@@ -1,7 +1,7 @@
 -- What the stream of a low-degree test determines of its shape, and which numbers eight bytes hold.
 use Rattle.std.specs.Prelude.{◌≡◌, ◌<◌, length}
 use Rattle.std.specs.List.{All}
-use Rattle.p3_challenger.specs.StreamLaws.{FitsNumber}
+use Rattle.p3_challenger_fs.specs.StreamLaws.{FitsNumber}
 use Rattle.p3_fri_transcript.specs.Steps.{FriNumbers}
 
 -- two shapes of one transcript: all numbers agree, the bits of a round's proof of work only if

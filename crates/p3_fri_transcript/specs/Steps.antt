@@ -4,7 +4,7 @@ use Rattle.p3_challenger_fs.specs.declared.pattern.Hierarchy.TheVariants.{Atomic
 use Rattle.p3_challenger_fs.specs.declared.pattern.Kind.TheVariants.{Message, Challenge}
 use Rattle.p3_challenger_fs.specs.declared.pattern.TypeTag.TheVariants.{Opaque, Bits}
 use Rattle.p3_challenger_fs.specs.declared.pattern.Length.TheVariants.{Scalar, Fixed}
-use Rattle.p3_challenger.specs.Pattern.{Step, number_bytes, seed_stream}
+use Rattle.p3_challenger_fs.specs.Pattern.{Step, number_bytes, seed_stream}
 use Rattle.p3_fri_steps.specs.Steps.{pow_steps, challenge_step, message_step}
 
 -- what a shape of a low-degree test says

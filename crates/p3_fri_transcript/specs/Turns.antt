@@ -1,7 +1,7 @@
 -- Where the transcript of a low-degree test stands.
 use Rattle.std.specs.Prelude.{◌≡◌, ℕ, suc, ◌++◌, List, map}
 use Rattle.p3_challenger_fs.specs.declared.pattern.Turn.{Turn}
-use Rattle.p3_challenger.specs.Pattern.{turn_of}
+use Rattle.p3_challenger_fs.specs.Pattern.{turn_of}
 use Rattle.p3_fri_transcript.specs.Steps.{FriNumbers, rounds_steps, query_steps}
 
 module _ (d : ℕ) (shape : FriNumbers) where

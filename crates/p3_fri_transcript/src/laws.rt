@@ -3,7 +3,7 @@
 
 ghost use Rattle.std.specs.Prelude.{◌≡◌, ◌↔◌, ℕ, List, [], ◌∷◌};
 ghost use Rattle.algebra.specs.Field.{FieldOps};
-ghost use Rattle.p3_challenger.specs.Run.{Moves};
+ghost use Rattle.p3_challenger_core.specs.Run.{Moves};
 ghost use Rattle.p3_fri_transcript.specs.Events.{IsRunOfFri};
 ghost use Rattle.p3_fri_transcript.specs.Shapes.{fri_shape};
 ghost use Rattle.p3_fri_transcript.specs.Steps.{FriNumbers, fri_stream};
@@ -12,7 +12,7 @@ ghost use Rattle.p3_fri_transcript.specs.SeedExamples.{without_rounds, stream_wi
 ghost use Rattle.p3_fri_transcript.specs.SeedExamples.{with_arities, DifferInLabels};
 
 use crate::transcript::FriShape;
-use p3_field::{ExtensionField, Field};
+use p3_field_core::{ExtensionField, Field};
 use p3_fri_steps::laws::points_fit;
 
 /// The stream of a low-degree test determines each number of its shape, the bits of a round's proof

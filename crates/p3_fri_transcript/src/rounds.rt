@@ -1,12 +1,12 @@
 //! Steps of rounds.
 
 ghost use Rattle.std.specs.Prelude.{◌≡◌, ◌++◌, OnOk, map};
-ghost use Rattle.p3_challenger.specs.Pattern.{step_of};
+ghost use Rattle.p3_challenger_fs.specs.Pattern.{step_of};
 ghost use Rattle.p3_fri_transcript.specs.Steps.{round_steps, rounds_steps};
 
 use crate::labels;
-use p3_challenger::fs::{Hierarchy, Interaction, Kind, Length};
-use p3_field::{ExtensionField, Field};
+use p3_challenger_fs::{Hierarchy, Interaction, Kind, Length};
+use p3_field_core::{ExtensionField, Field};
 use p3_fri_steps::steps::push_pow;
 use std::alloc::AllocError;
 

@@ -11,7 +11,7 @@ use Rattle.algebra.specs.Words.{IsCosetWord}
 use Rattle.algebra.proofs.Lists.{Each, each_from_All, All_from_each, length-tabulate}
 use Rattle.algebra.proofs.Lists.{tabulate-equal, distinct_from_AllPairs}
 use Rattle.algebra.proofs.Interpolation.{interpolant_interpolates}
-use Rattle.p3_field.specs.Coset.{coset_point, coset_points}
+use Rattle.p3_field_core.specs.Coset.{coset_point, coset_points}
 use Rattle.p3_field_core.proofs.Cosets.{natural_distinct}
 use Rattle.p3_matrix.specs.declared.dense.RowMajorMatrix.{RowMajorMatrix}
 use Rattle.p3_matrix.specs.Matrix.{rows, matrix_width}

@@ -8,7 +8,7 @@ use Rattle.algebra.specs.TwoAdic.{AreRoots}
 use Rattle.algebra.specs.Words.{coset_word}
 use Rattle.algebra.proofs.Lists.{get_or-tabulate, map-tabulate, tabulate-equal, tabulate-get_or}
 use Rattle.algebra.proofs.Values.{homomorphism-val}
-use Rattle.p3_field.specs.Coset.{coset_point, coset_points}
+use Rattle.p3_field_core.specs.Coset.{coset_point, coset_points}
 use Rattle.p3_matrix.specs.declared.dense.RowMajorMatrix.{RowMajorMatrix}
 use Rattle.p3_matrix.specs.Matrix.{rows, matrix_width}
 use Rattle.p3_dft.specs.Evaluations.{column}

@@ -1,7 +1,7 @@
 -- What the scheme stands on.
 use Rattle.std.specs.Prelude.{⊤}
 use Rattle.algebra.specs.Folds.{fold_value}
-use Rattle.p3_challenger.specs.Run.{Moves}
+use Rattle.p3_challenger_core.specs.Run.{Moves}
 use Rattle.p3_fri_relation.specs.declared.error.FriError.{FriError}
 use Rattle.p3_fri_relation.specs.declared.error.FriError.TheVariants.{NonCanonicalPowWitness}
 use Rattle.p3_fri_relation.specs.Setting.{Fields, Opening, Setting}

@@ -30,11 +30,11 @@ ghost use Rattle.p3_fri_opening_verifier.specs.Ends.{last_state as state_after};
 ghost use Rattle.p3_fri_two_adic.specs.Accepted.{LeavesVerifier as leaves_verifier};
 ghost use Rattle.p3_fri_two_adic.specs.ErrorLaws.{memory_cases};
 
-use p3_challenger::{CanObserve, FieldChallenger, GrindingChallenger, Plays};
+use p3_challenger_core::{CanObserve, FieldChallenger, GrindingChallenger, Plays};
 pub use p3_commit::CommitmentWithOpeningPoints;
 use p3_commit::{CommitmentOpening, Mmcs, OpenedValues};
 use p3_dft::TwoAdicSubgroupDft;
-use p3_field::{ExtensionField, TwoAdicField, TwoAdicMultiplicativeCoset, log2_strict_usize};
+use p3_field_core::{ExtensionField, TwoAdicField, TwoAdicMultiplicativeCoset, log2_strict_usize};
 use p3_fri_commit::commit_evaluations;
 use p3_fri_folding::FriParameters;
 pub use p3_fri_folding::TwoAdicFriFolding;

@@ -3,7 +3,7 @@
 ghost use Rattle.std.specs.Prelude.{◌≡◌, ◌≢◌, ◌↔◌, ◌≤◌, ◌/◌, ◌^◌, ℕ, ⊤, false, List, map, length};
 ghost use Rattle.std.specs.Prelude.{All, IsOk, IfOk, IfErr, MatchResult, Ok, Err, None, refl};
 ghost use Rattle.std.specs.List.{AllZip};
-ghost use Rattle.p3_field.specs.Coset.{coset_point};
+ghost use Rattle.p3_field_core.specs.Coset.{coset_point};
 ghost use Rattle.p3_pcs.specs.Claims.{claim};
 ghost use Rattle.p3_pcs.specs.Requests.{AreOpenable};
 ghost use Rattle.p3_periodic.specs.Columns.{HasPeriod, Refuses};
@@ -33,10 +33,10 @@ ghost use Rattle.p3_fri_two_adic.specs.Ldes.{HasLdeHeight};
 ghost use Rattle.p3_fri_two_adic.specs.UnivariateLaws.{trace_heights, openable_at};
 
 use crate::two_adic_pcs::TwoAdicFriPcs;
-use p3_challenger::{CanObserve, FieldChallenger, GrindingChallenger, Plays};
+use p3_challenger_core::{CanObserve, FieldChallenger, GrindingChallenger, Plays};
 use p3_commit::{CommitmentOpening, Mmcs, OpenedValues};
 use p3_dft::TwoAdicSubgroupDft;
-use p3_field::{ExtensionField, TwoAdicField, TwoAdicMultiplicativeCoset};
+use p3_field_core::{ExtensionField, TwoAdicField, TwoAdicMultiplicativeCoset};
 use p3_fri_commit::extend_each;
 use p3_fri_evaluations::evaluations_on_domain;
 use p3_fri_relation::error::FriError;

@@ -9,9 +9,9 @@ ghost use Rattle.p3_fri_relation.specs.Faults.{OpeningsFault};
 ghost use Rattle.p3_fri_relation.specs.Views.{parameters_of, claims_of, proof_of};
 ghost use Rattle.p3_fri_verifier.specs.Openings.{AreOpened};
 
-use p3_challenger::{CanObserve, FieldChallenger};
+use p3_challenger_core::{CanObserve, FieldChallenger};
 use p3_commit::{CommitmentOpening, Mmcs};
-use p3_field::{ExtensionField, TwoAdicField, TwoAdicMultiplicativeCoset};
+use p3_field_core::{ExtensionField, TwoAdicField, TwoAdicMultiplicativeCoset};
 use p3_fri_folding::{FriFoldingStrategy, FriParameters};
 use p3_fri_inputs::open_inputs;
 use p3_fri_queries::{fold_queries, verify_rounds};

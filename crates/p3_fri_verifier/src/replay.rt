@@ -2,7 +2,7 @@
 
 ghost use Rattle.std.specs.Prelude.{◌≡◌, ◌≢◌, ◌≤◌, ◌↔◌, ◌⊎◌, true, false, Some, length};
 ghost use Rattle.std.specs.Prelude.{Err, IsOk, IfOk, IfErr, IsTrue};
-ghost use Rattle.p3_challenger.specs.Turns.{bytes_observed};
+ghost use Rattle.p3_challenger_fs.specs.Turns.{bytes_observed};
 ghost use Rattle.p3_fri_steps.specs.declared.pow_phase.PowPhase.TheVariants.{CommitPhase, Query};
 ghost use Rattle.p3_fri_transcript.specs.declared.transcript.play.Refusal.TheVariants.{Seed, Step};
 ghost use Rattle.p3_fri_transcript.specs.Indices.{AreIndices};
@@ -13,8 +13,8 @@ ghost use Rattle.p3_fri_relation.specs.declared.error.FriError.TheVariants.{Inva
 ghost use Rattle.p3_fri_relation.specs.declared.error.FriError.TheVariants.{OutOfMemory};
 ghost use Rattle.p3_fri_relation.specs.Failures.{of_transcript};
 
-use p3_challenger::{CanObserve, FieldChallenger, GrindingChallenger, Plays};
-use p3_field::{ExtensionField, Field};
+use p3_challenger_core::{CanObserve, FieldChallenger, GrindingChallenger, Plays};
+use p3_field_core::{ExtensionField, Field};
 use p3_fri_relation::error::FriError;
 use p3_fri_transcript::transcript::{
     FriMessages, FriShape, Refusal, ReplayedFri, TranscriptFailure, replay_fri,

@@ -1,3 +1,3 @@
 pub mod Rows
 pub mod Matrix
-pub use Rattle.p3_field.specs.Index
+pub use Rattle.p3_field_core.specs.Index

@@ -5,7 +5,7 @@ ghost use Rattle.std.specs.Prelude.{IsSome, IfSome, IfOk, [], length, take, drop
 ghost use Rattle.std.specs.Prelude.{slice_index_or, vec_len};
 ghost use Rattle.std.specs.Int.{IsPowerOfTwo};
 ghost use Rattle.std.specs.List.{SwappedAt};
-ghost use Rattle.p3_field.specs.Index.{bit_reversed};
+ghost use Rattle.p3_field_core.specs.Index.{bit_reversed};
 ghost use Rattle.p3_matrix.specs.Rows.{rows_of};
 
 use crate::Dimensions;

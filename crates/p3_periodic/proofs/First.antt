@@ -2,7 +2,7 @@
 use Rattle.std.proofs.Common.{◌≡◌, ℕ, ◌<◌, ◌≤◌, ◌+◌, List, length, take, get_or, All, subst}
 use Rattle.std.specs.Prelude.{Bool, false, IsTrue, vec_len}
 use Rattle.std.specs.Int.{IsPowerOfTwo, is_power_of_two}
-use Rattle.p3_field.proofs.IndexPowers.{IsPowerOfTwo_test}
+use Rattle.p3_field_core.proofs.IndexPowers.{IsPowerOfTwo_test}
 use Rattle.std.proofs.lemmas.List.{take_all}
 use Rattle.std.proofs.lemmas.List.Elements.{All-more, at_read}
 use Rattle.std.specs.declared.vec.Vec.{Vec}

@@ -8,7 +8,7 @@ use Rattle.algebra.specs.Field.{FieldOps}
 use Rattle.algebra.specs.Polynomial.{val}
 use Rattle.algebra.specs.Periodic.{column_polynomial}
 use Rattle.algebra.proofs.Lists.{get_or-tabulate, map-tabulate, tabulate-equal, tabulate-get_or}
-use Rattle.p3_field.specs.Coset.{coset_point}
+use Rattle.p3_field_core.specs.Coset.{coset_point}
 use Rattle.p3_matrix.specs.declared.dense.RowMajorMatrix.{RowMajorMatrix}
 use Rattle.p3_dft.specs.Evaluations.{column, AreCosetExtensions}
 use Rattle.p3_dft.proofs.Columns.{Holds, column-strided}

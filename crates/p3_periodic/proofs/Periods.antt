@@ -9,7 +9,7 @@ use Rattle.algebra.specs.Polynomial.{val}
 use Rattle.algebra.specs.TwoAdic.{AreRoots}
 use Rattle.algebra.specs.Interpolation.{Interpolates}
 use Rattle.algebra.specs.Periodic.{periodic_value}
-use Rattle.p3_field.proofs.IndexPowers.{exponents_agree}
+use Rattle.p3_field_core.proofs.IndexPowers.{exponents_agree}
 use Rattle.p3_dft.specs.Evaluations.{subgroup_points}
 use Rattle.p3_periodic.specs.Values.{IsValueOf}
 use Rattle.p3_periodic.proofs.Unique.{is_interpolant}

@@ -12,7 +12,7 @@ use Rattle.algebra.specs.Field.{FieldOps, IsField}
 use Rattle.algebra.specs.TwoAdic.{AreRoots}
 use Rattle.algebra.specs.Periodic.{periodic_value}
 use Rattle.algebra.proofs.Nested.{length-lists, lists_at}
-use Rattle.p3_field.specs.Coset.{coset_point}
+use Rattle.p3_field_core.specs.Coset.{coset_point}
 use Rattle.p3_dft.proofs.Batches.{exponent_within}
 use Rattle.p3_matrix.specs.Rows.{rows_of}
 use Rattle.p3_matrix.proofs.Rows.{length-rows_of, get_or-rows_of, length-row_of, get_or-entry}

@@ -11,8 +11,8 @@ use Rattle.algebra.specs.Polynomial.{val}
 use Rattle.algebra.specs.TwoAdic.{AreRoots}
 use Rattle.algebra.specs.Periodic.{column_polynomial, periodic_value}
 use Rattle.algebra.proofs.Periodic.{periodic_value_at_point, periodic_value_repeats}
-use Rattle.p3_field.specs.Coset.{coset_point}
-use Rattle.p3_field.proofs.IndexPowers.{exponents_agree, pow-count_trailing_zeros}
+use Rattle.p3_field_core.specs.Coset.{coset_point}
+use Rattle.p3_field_core.proofs.IndexPowers.{exponents_agree, pow-count_trailing_zeros}
 use Rattle.p3_periodic.specs.Batches.{column_at, ArePlaces}
 use Rattle.p3_periodic.specs.Tables.{exponent_of, table_entry, MeetColumns}
 use Rattle.p3_periodic.specs.Writes.{IsMet, Belong, MeetInRows}

@@ -5,11 +5,11 @@ ghost use Rattle.std.specs.Prelude.{length, map, vec_len, slice_index, slice_ind
 ghost use Rattle.algebra.specs.Nested.{lists};
 ghost use Rattle.algebra.specs.Polynomial.{val};
 ghost use Rattle.algebra.specs.Periodic.{column_polynomial};
-ghost use Rattle.p3_field.specs.Coset.{coset_point};
+ghost use Rattle.p3_field_core.specs.Coset.{coset_point};
 ghost use Rattle.p3_periodic.specs.Batches.{ArePlaces, column_at, entry_at};
 
 use p3_dft::TwoAdicSubgroupDft;
-use p3_field::{Field, TwoAdicField};
+use p3_field_core::{Field, TwoAdicField};
 use p3_matrix::RowMajorMatrix;
 use std::alloc::{AllocError, Global};
 

@@ -3,7 +3,7 @@
 ghost use Rattle.std.specs.Prelude.{◌≡◌, ◌≤◌, ◌-◌, ◌^◌, All, IfOk, MatchResult, length, map};
 ghost use Rattle.std.specs.List.{AllZip};
 ghost use Rattle.algebra.specs.Polynomial.{val};
-ghost use Rattle.p3_field.specs.Coset.{coset_point};
+ghost use Rattle.p3_field_core.specs.Coset.{coset_point};
 ghost use Rattle.p3_periodic.specs.Columns.{IsPeriod, HasPeriod, Refuses};
 ghost use Rattle.p3_periodic.specs.Tables.{AreTabulated};
 ghost use Rattle.p3_periodic.specs.Values.{IsValueOf, IsValueAt, IsColumnValue};
@@ -16,7 +16,7 @@ use crate::powers::power_to_period;
 use crate::table::PeriodicLdeTable;
 use crate::traits::PeriodicEvaluator;
 use p3_dft::TwoAdicSubgroupDft;
-use p3_field::{
+use p3_field_core::{
     ExtensionField, Field, TwoAdicField, TwoAdicMultiplicativeCoset, log2_strict_usize,
 };
 use std::alloc::{AllocError, Global};

@@ -3,7 +3,7 @@
 ghost use Rattle.std.specs.Prelude.{◌≡◌, ◌<◌, ◌≤◌, ◌+◌, ◌-◌, ◌*◌, ◌/◌, ◌^◌, ℕ};
 ghost use Rattle.std.specs.Prelude.{All, IfOk, MatchResult, OnOk, length, vec_len};
 ghost use Rattle.algebra.specs.Nested.{lists};
-ghost use Rattle.p3_field.specs.Coset.{coset_point};
+ghost use Rattle.p3_field_core.specs.Coset.{coset_point};
 ghost use Rattle.p3_periodic.specs.Batches.{column_at};
 ghost use Rattle.p3_periodic.specs.Columns.{HasPeriod, Refuses};
 ghost use Rattle.p3_periodic.specs.Tables.{AreTabulated, MeetColumns, table_entry};
@@ -18,7 +18,7 @@ use crate::powers::shift_to_period;
 use crate::table::PeriodicLdeTable;
 use crate::writes::write_rows;
 use p3_dft::TwoAdicSubgroupDft;
-use p3_field::{Field, TwoAdicField, TwoAdicMultiplicativeCoset, log2_strict_usize};
+use p3_field_core::{Field, TwoAdicField, TwoAdicMultiplicativeCoset, log2_strict_usize};
 use p3_matrix::RowMajorMatrix;
 use std::alloc::{AllocError, Global};
 

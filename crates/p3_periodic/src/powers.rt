@@ -3,7 +3,7 @@
 ghost use Rattle.std.specs.Prelude.{◌≡◌, ◌≤◌, ◌-◌, ◌^◌};
 ghost use Rattle.algebra.specs.Field.{pow};
 
-use p3_field::{Field, TwoAdicField, TwoAdicMultiplicativeCoset};
+use p3_field_core::{Field, TwoAdicField, TwoAdicMultiplicativeCoset};
 
 /// The power of a point that takes the domain of a trace of `2^log_rows` rows to that of a column
 /// of `2^log_period` entries.

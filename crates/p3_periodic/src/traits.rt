@@ -11,7 +11,7 @@ ghost use Rattle.p3_periodic.specs.Views.{table_rows};
 
 use crate::error::PeriodicError;
 use crate::table::PeriodicLdeTable;
-use p3_field::{ExtensionField, Field};
+use p3_field_core::{ExtensionField, Field};
 use std::alloc::Global;
 
 /// Evaluates periodic columns along traces on domains of the type `D`. `IsValue` says of an

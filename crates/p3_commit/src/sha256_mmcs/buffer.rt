@@ -3,7 +3,7 @@
 ghost use Rattle.std.specs.Prelude.{◌≡◌, ◌<◌, ◌≤◌, ◌+◌, ℕ, List, [], ◌∷◌, ◌++◌, length, take};
 ghost use Rattle.sha2.specs.Sha256.{sha256};
 
-use p3_field::ElementBytes;
+use p3_field_core::ElementBytes;
 use sha2::{Digest, Sha256};
 
 /// The length of the buffer, in bytes: one block of SHA-256.

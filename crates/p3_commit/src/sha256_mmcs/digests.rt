@@ -6,7 +6,7 @@ ghost use Rattle.p3_commit.specs.Batch.{max_height, HavePowerHeights, dimensions
 ghost use Rattle.p3_commit.specs.Tree.{leaf, leaf_at, node};
 
 use super::buffer::BufferedHasher;
-use p3_field::ElementBytes;
+use p3_field_core::ElementBytes;
 use p3_matrix::RowMajorMatrix;
 use sha2::{Digest, Sha256};
 

@@ -7,7 +7,7 @@ ghost use Rattle.p3_commit.specs.Tree.{path_of};
 ghost use Rattle.p3_commit.specs.Digests.{IsTree};
 
 use super::tree::path;
-use p3_field::ElementBytes;
+use p3_field_core::ElementBytes;
 use p3_matrix::RowMajorMatrix;
 use std::alloc::{AllocError, Global};
 

@@ -6,7 +6,7 @@ ghost use Rattle.p3_commit.specs.HeightLaws.{heights_prop};
 ghost use Rattle.p3_commit.specs.Tree.{leaf_at};
 ghost use Rattle.p3_commit.specs.Digests.{IsTree};
 
-use p3_field::ElementBytes;
+use p3_field_core::ElementBytes;
 use p3_matrix::RowMajorMatrix;
 
 /// The committed matrices and the digests of the tree over them.

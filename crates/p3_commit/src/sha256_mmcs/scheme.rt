@@ -16,7 +16,7 @@ use super::tree::tree_digests;
 use super::verification::verify_each;
 use crate::conditions::max_height;
 use crate::mmcs::Mmcs;
-use p3_field::{ElementBytes, log2_strict_usize};
+use p3_field_core::{ElementBytes, log2_strict_usize};
 use p3_matrix::{Dimensions, RowMajorMatrix};
 use std::alloc::{AllocError, Global};
 use std::marker::PhantomData;

@@ -6,7 +6,7 @@ ghost use Rattle.p3_commit.specs.Tree.{leaf_at, path_of, sibling_of};
 ghost use Rattle.p3_commit.specs.Digests.{IsTree};
 
 use super::digests::{leaf_digest_at, node_digest};
-use p3_field::ElementBytes;
+use p3_field_core::ElementBytes;
 use p3_matrix::RowMajorMatrix;
 use std::alloc::{AllocError, Global};
 

@@ -8,7 +8,7 @@ ghost use Rattle.p3_commit.specs.Faults.{HasFault};
 
 use super::Sha256MmcsError;
 use super::digests::{leaf_digest, node_digest};
-use p3_field::ElementBytes;
+use p3_field_core::ElementBytes;
 use p3_matrix::Dimensions;
 
 /// The digest that `digest`, at `index` among its layer, leads to with these siblings from the

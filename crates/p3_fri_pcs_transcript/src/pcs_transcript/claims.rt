@@ -1,7 +1,7 @@
 //! Claims, compared with the described counts and absorbed.
 
 ghost use Rattle.std.specs.Prelude.{◌≡◌, ◌-◌, ◌^◌, ℕ, min, IfErr, OnOk, map, length};
-ghost use Rattle.p3_challenger.specs.Script.{remaining};
+ghost use Rattle.p3_challenger_fs.specs.Script.{remaining};
 ghost use Rattle.p3_fri_pcs_transcript.specs.Absorption.{ClaimsThen, Absorbs};
 ghost use Rattle.p3_fri_pcs_transcript.specs.Claims.{IsClaimFailure};
 ghost use Rattle.p3_fri_pcs_transcript.specs.Counts.{lists_of_claims};
@@ -9,10 +9,10 @@ ghost use Rattle.p3_fri_pcs_transcript.specs.Cursor.{counts_left, IsCompared};
 
 use crate::pcs_transcript::described::DescribedCounts;
 use crate::pcs_transcript::failure::PcsTranscriptFailure;
-use p3_challenger::FieldChallenger;
-use p3_challenger::fs::Script;
+use p3_challenger_core::FieldChallenger;
+use p3_challenger_fs::Script;
 use p3_commit::CommitmentOpening;
-use p3_field::{ExtensionField, Field};
+use p3_field_core::{ExtensionField, Field};
 
 /// Absorbs the claims in the order of commitments, matrices and points, each once its number of
 /// values is the next described one.

@@ -2,15 +2,15 @@
 
 ghost use Rattle.std.specs.Prelude.{◌≡◌, ◌++◌, ◌∷◌, OnOk, map, codes, length};
 ghost use Rattle.algebra.specs.Nested.{lists, nested, joined};
-ghost use Rattle.p3_challenger.specs.Pattern.{step_of, number_bytes};
-ghost use Rattle.p3_challenger.specs.Separator.{description};
+ghost use Rattle.p3_challenger_fs.specs.Pattern.{step_of, number_bytes};
+ghost use Rattle.p3_challenger_fs.specs.Separator.{description};
 ghost use Rattle.p3_fri_pcs_transcript.specs.Steps.{widths, grouping};
 ghost use Rattle.p3_fri_steps.specs.Labels.{labels_added};
 ghost use Rattle.p3_fri_steps.specs.Steps.{message_step};
 
 use crate::labels::CLAIMED_EVALUATIONS;
-use p3_challenger::fs::{DomainSeparator, Hierarchy, Interaction, Kind, Length};
-use p3_field::{ExtensionField, Field};
+use p3_challenger_fs::{DomainSeparator, Hierarchy, Interaction, Kind, Length};
+use p3_field_core::{ExtensionField, Field};
 use p3_fri_steps::steps::push_label;
 use std::alloc::{AllocError, Global};
 

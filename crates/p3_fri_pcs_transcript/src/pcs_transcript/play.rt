@@ -1,7 +1,7 @@
 //! Whole transcripts, with the low-degree test inside, for a caller that has all values at hand.
 
 ghost use Rattle.std.specs.Prelude.{◌≡◌, ◌≢◌, ◌↔◌, true, Some, Err, IsOk, IfOk, length};
-ghost use Rattle.p3_challenger.specs.Turns.{bytes_observed};
+ghost use Rattle.p3_challenger_fs.specs.Turns.{bytes_observed};
 ghost use Rattle.p3_fri_steps.specs.Reached.{Reaches};
 ghost use Rattle.p3_fri_transcript.specs.declared.transcript.play.Refusal.TheVariants.{Seed, Step};
 ghost use Rattle.p3_fri_transcript.specs.Indices.{AreIndices};
@@ -17,9 +17,9 @@ ghost use Rattle.p3_fri_pcs_transcript.specs.Steps.{pcs_stream};
 use crate::pcs_transcript::failure::PcsTranscriptFailure;
 use crate::pcs_transcript::shape::PcsShape;
 use crate::pcs_transcript::state::{PcsProverTranscript, PcsVerifierTranscript};
-use p3_challenger::{CanObserve, FieldChallenger, GrindingChallenger, Plays};
+use p3_challenger_core::{CanObserve, FieldChallenger, GrindingChallenger, Plays};
 use p3_commit::{CommitmentWithOpeningPoints, OpenedValues};
-use p3_field::{ExtensionField, Field};
+use p3_field_core::{ExtensionField, Field};
 use p3_fri_steps::FriProverError;
 use p3_fri_transcript::transcript::{
     FriMessages, FriShape, PlayedFri, Refusal, ReplayedFri, TranscriptFailure, play_fri, replay_fri,

@@ -3,8 +3,8 @@
 ghost use Rattle.std.specs.Prelude.{◌≡◌, ◌≢◌, ◌≤◌, true, IsSome, IfOk, IfErr, OnOk, OnErr};
 ghost use Rattle.std.specs.Prelude.{length, map, unwrap_or};
 ghost use Rattle.std.specs.List.{flat_map};
-ghost use Rattle.p3_challenger.specs.Run.{observed_all};
-ghost use Rattle.p3_challenger.specs.Script.{remaining};
+ghost use Rattle.p3_challenger_core.specs.Run.{observed_all};
+ghost use Rattle.p3_challenger_fs.specs.Script.{remaining};
 ghost use Rattle.p3_fri_steps.specs.declared.error.FriProverError.TheVariants.{NoPowWitness};
 ghost use Rattle.p3_fri_steps.specs.declared.pow_phase.PowPhase.TheVariants.{Batch};
 ghost use Rattle.p3_fri_steps.specs.Pow.{found_witness, NonePasses};
@@ -16,10 +16,10 @@ ghost use Rattle.p3_fri_pcs_transcript.specs.Views.{state_of, left_of, shape_of,
 ghost use Rattle.p3_fri_pcs_transcript.specs.Views.{AllClaimsLeft, NoClaimsLeft};
 
 use crate::pcs_transcript::state::PcsProverTranscript;
-use p3_challenger::fs::Script;
-use p3_challenger::{FieldChallenger, GrindingChallenger, Plays};
+use p3_challenger_fs::Script;
+use p3_challenger_core::{FieldChallenger, GrindingChallenger, Plays};
 use p3_commit::OpenedValues;
-use p3_field::{ExtensionField, Field};
+use p3_field_core::{ExtensionField, Field};
 use p3_fri_steps::pow::grind;
 use p3_fri_steps::{FriProverError, PowPhase};
 

@@ -1,18 +1,18 @@
 //! What the transcript exchanges.
 
 ghost use Rattle.std.specs.Prelude.{◌≡◌, ◌-◌, ◌^◌, min, IfOk, length, map, codes};
-ghost use Rattle.p3_challenger.specs.Pattern.{turn_of};
-ghost use Rattle.p3_challenger.specs.Separator.{description, seed_bytes, seed_turns};
+ghost use Rattle.p3_challenger_fs.specs.Pattern.{turn_of};
+ghost use Rattle.p3_challenger_fs.specs.Separator.{description, seed_bytes, seed_turns};
 ghost use Rattle.p3_fri_pcs_transcript.specs.Counts.{counts_of_values, counts_of_claims};
 
 use crate::labels::{ALPHA, BATCH_POW, LOW_DEGREE_TEST, NAME, VERSION};
 use crate::pcs_transcript::counts::{clone_counts, count_claims, count_values, number_of_points};
 use crate::pcs_transcript::description::{push_claims, push_grouping};
-use p3_challenger::fs::{
+use p3_challenger_fs::{
     DomainSeparator, Hierarchy, Interaction, InteractionPattern, Kind, Length, Seed,
 };
 use p3_commit::{CommitmentWithOpeningPoints, OpenedValues};
-use p3_field::{ExtensionField, Field};
+use p3_field_core::{ExtensionField, Field};
 use p3_fri_folding::FriParameters;
 use p3_fri_steps::steps::push_pow;
 use std::alloc::{AllocError, Global};
@@ -29,7 +29,7 @@ pub struct PcsShape {
 
 #[tactic(auto, unfolding(crate::specs::Shapes::pcs_shape))]
 impl PcsShape {
-    ghost use Rattle.p3_challenger.specs.Pattern.{pattern_steps};
+    ghost use Rattle.p3_challenger_fs.specs.Pattern.{pattern_steps};
     ghost use Rattle.p3_fri_pcs_transcript.specs.Shapes.{pcs_shape};
     ghost use Rattle.p3_fri_pcs_transcript.specs.Steps.{widths, pcs_steps, pcs_labels, pcs_stream};
 

@@ -3,15 +3,15 @@
 ghost use mir.Syntax.{named};
 ghost use Rattle.std.specs.Prelude.{◌≡◌, [], IfOk};
 ghost use Rattle.std.specs.Borrow.{sem, Lends};
-ghost use Rattle.p3_challenger.specs.Separator.{seed_bytes, seed_turns};
+ghost use Rattle.p3_challenger_fs.specs.Separator.{seed_bytes, seed_turns};
 ghost use Rattle.p3_fri_pcs_transcript.specs.Shapes.{pcs_shape};
 ghost use Rattle.p3_fri_pcs_transcript.specs.Steps.{pcs_stream};
 ghost use Rattle.p3_fri_pcs_transcript.specs.Turns.{bracket_turns, bracket_end_turns};
 
 use crate::pcs_transcript::PcsShape;
-use p3_challenger::FieldChallenger;
-use p3_challenger::fs::{Prover, Script, Seed, Verifier};
-use p3_field::{ExtensionField, Field};
+use p3_challenger_core::FieldChallenger;
+use p3_challenger_fs::{Prover, Script, Seed, Verifier};
+use p3_field_core::{ExtensionField, Field};
 use std::alloc::{AllocError, Global};
 use std::marker::PhantomData;
 

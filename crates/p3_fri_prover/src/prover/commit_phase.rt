@@ -13,9 +13,9 @@ ghost use Rattle.p3_fri_prover.specs.Refusals.{RoundRefusal};
 ghost use Rattle.p3_fri_prover.specs.Rounds.{CanFold, IsRound};
 
 use crate::prover::roll_in::{arity_of, roll_in};
-use p3_challenger::{CanObserve, FieldChallenger, GrindingChallenger, Plays};
+use p3_challenger_core::{CanObserve, FieldChallenger, GrindingChallenger, Plays};
 use p3_commit::Mmcs;
-use p3_field::{ExtensionField, TwoAdicField};
+use p3_field_core::{ExtensionField, TwoAdicField};
 use p3_fri_folding::FriFoldingStrategy;
 use p3_fri_steps::FriProverError;
 use p3_fri_transcript::transcript::ProverTranscript;

@@ -7,7 +7,7 @@ ghost use Rattle.p3_fri_relation.specs.Views.{parameters_of};
 ghost use Rattle.p3_fri_prover.specs.Inputs.{HaveHeights, HavePowerLengths};
 ghost use Rattle.p3_fri_prover.specs.Refusals.{IsTallEnough, HeightRefusal, HeightsRefusal};
 
-use p3_field::log2_strict_usize;
+use p3_field_core::log2_strict_usize;
 use p3_fri_folding::FriParameters;
 use p3_fri_steps::FriProverError;
 use std::alloc::{AllocError, Global};

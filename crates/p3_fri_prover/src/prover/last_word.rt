@@ -4,7 +4,7 @@ ghost use Rattle.std.specs.Prelude.{◌≡◌, ◌<◌, ◌≤◌, ◌^◌, ℕ,
 ghost use Rattle.algebra.specs.Rounds.{final_polynomial};
 
 use p3_dft::{Radix2Dit, TwoAdicSubgroupDft};
-use p3_field::{ExtensionField, TwoAdicField, reverse_slice_index_bits};
+use p3_field_core::{ExtensionField, TwoAdicField, reverse_slice_index_bits};
 use p3_fri_folding::FriParameters;
 use std::alloc::{AllocError, Global};
 

@@ -13,7 +13,7 @@ ghost use Rattle.p3_fri_prover.specs.Openings.{index_into};
 
 use crate::prover::roll_in::arity_of;
 use p3_commit::Mmcs;
-use p3_field::log2_strict_usize;
+use p3_field_core::log2_strict_usize;
 use p3_fri_relation::proof::{BatchMultiOpening, CommitPhaseMultiStep};
 use std::alloc::{AllocError, Global};
 

@@ -2,8 +2,8 @@
 
 ghost use Rattle.std.specs.Prelude.{◌≡◌, ◌+◌, ◌^◌, ◌<◌, ◌⊎◌, ℕ, List, All, IfOk, IfErr, OnOk, map};
 ghost use Rattle.algebra.specs.Nested.{lists};
-ghost use Rattle.p3_challenger.specs.Pattern.{turn_of};
-ghost use Rattle.p3_challenger.specs.Separator.{seed_bytes, seed_turns};
+ghost use Rattle.p3_challenger_fs.specs.Pattern.{turn_of};
+ghost use Rattle.p3_challenger_fs.specs.Separator.{seed_bytes, seed_turns};
 ghost use Rattle.p3_fri_steps.specs.declared.error.FriProverError.TheVariants.{OutOfMemory};
 ghost use Rattle.p3_fri_transcript.specs.Shapes.{fri_shape};
 ghost use Rattle.p3_fri_transcript.specs.Steps.{fri_steps, fri_stream};
@@ -14,8 +14,8 @@ ghost use Rattle.p3_fri_prover.specs.Proved.{log_arities as scheduled};
 ghost use Rattle.p3_fri_prover.specs.Refusals.{IsTallEnough, HeightsRefusal};
 
 use crate::prover::heights::{check_heights, log_heights};
-use p3_challenger::fs::Seed;
-use p3_field::{ExtensionField, Field};
+use p3_challenger_fs::Seed;
+use p3_field_core::{ExtensionField, Field};
 use p3_fri_folding::FriParameters;
 use p3_fri_steps::FriProverError;
 use p3_fri_transcript::transcript::FriShape;

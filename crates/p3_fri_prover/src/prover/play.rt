@@ -3,9 +3,9 @@
 ghost use Rattle.std.specs.Prelude.{◌≡◌, ◌<◌, ◌≤◌, ◌^◌, [], ℕ, All};
 ghost use Rattle.std.specs.Prelude.{IfOk, IfErr, OnOk, map, length, vec_len, slice_index_or};
 ghost use Rattle.algebra.specs.Nested.{lists};
-ghost use Rattle.p3_challenger.specs.Pattern.{turn_of};
-ghost use Rattle.p3_challenger.specs.Separator.{seed_bytes, seed_turns};
-ghost use Rattle.p3_challenger.specs.Turns.{bytes_observed};
+ghost use Rattle.p3_challenger_fs.specs.Pattern.{turn_of};
+ghost use Rattle.p3_challenger_fs.specs.Separator.{seed_bytes, seed_turns};
+ghost use Rattle.p3_challenger_fs.specs.Turns.{bytes_observed};
 ghost use Rattle.p3_fri_transcript.specs.Shapes.{fri_shape};
 ghost use Rattle.p3_fri_transcript.specs.Steps.{fri_steps};
 ghost use Rattle.p3_fri_transcript.specs.Turns.{RoundsLeft};
@@ -14,10 +14,10 @@ ghost use Rattle.p3_fri_prover.specs.Played.{CanPlay, IsPlayed, PlayRefusal};
 
 use crate::prover::last_word::final_polynomial;
 use crate::prover::rounds::{CommittedRounds, commit_rounds};
-use p3_challenger::fs::Seed;
-use p3_challenger::{CanObserve, FieldChallenger, GrindingChallenger, Plays};
+use p3_challenger_fs::Seed;
+use p3_challenger_core::{CanObserve, FieldChallenger, GrindingChallenger, Plays};
 use p3_commit::Mmcs;
-use p3_field::{ExtensionField, TwoAdicField};
+use p3_field_core::{ExtensionField, TwoAdicField};
 use p3_fri_folding::{FriFoldingStrategy, FriParameters};
 use p3_fri_relation::setting::ChallengeField;
 use p3_fri_steps::FriProverError;

@@ -18,9 +18,9 @@ use crate::prover::openings::{ProverDataWithOpeningPoints, answer_queries, open_
 use crate::prover::plan::{Plan, make_plan};
 use crate::prover::play::{Played, play_test};
 use crate::prover::rounds::CommittedRounds;
-use p3_challenger::{CanObserve, FieldChallenger, GrindingChallenger};
+use p3_challenger_core::{CanObserve, FieldChallenger, GrindingChallenger};
 use p3_commit::Mmcs;
-use p3_field::{ExtensionField, TwoAdicField};
+use p3_field_core::{ExtensionField, TwoAdicField};
 use p3_fri_folding::{FriFoldingStrategy, FriParameters};
 use p3_fri_relation::proof::{BatchMultiOpening, FriProof};
 use p3_fri_relation::setting::PlaysFri;

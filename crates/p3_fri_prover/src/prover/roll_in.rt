@@ -6,7 +6,7 @@ ghost use Rattle.algebra.specs.Nested.{lists};
 ghost use Rattle.algebra.specs.Polynomial.{tabulate};
 ghost use Rattle.p3_fri_prover.specs.Inputs.{of_length, rolled_word};
 
-use p3_field::Field;
+use p3_field_core::Field;
 
 /// The number of values that a round of this log arity folds into one.
 pub(crate) fn arity_of(log_arity: usize) -> usize

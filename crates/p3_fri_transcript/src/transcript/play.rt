@@ -2,7 +2,7 @@
 
 ghost use Rattle.std.specs.Prelude.{◌≡◌, ◌≢◌, ◌≤◌, ◌↔◌, ◌++◌, [], ◌∷◌, true, Some, Err};
 ghost use Rattle.std.specs.Prelude.{IsOk, IfOk, IfErr, OnOk, length};
-ghost use Rattle.p3_challenger.specs.Turns.{bytes_observed};
+ghost use Rattle.p3_challenger_fs.specs.Turns.{bytes_observed};
 ghost use Rattle.p3_fri_transcript.specs.Indices.{AreIndices};
 ghost use Rattle.p3_fri_steps.specs.Reached.{Reaches};
 ghost use Rattle.p3_fri_transcript.specs.declared.transcript.play.Refusal.TheVariants.{Seed, Step};
@@ -18,8 +18,8 @@ use crate::transcript::failure::TranscriptFailure;
 use crate::transcript::shape::FriShape;
 use crate::transcript::state::{ProverTranscript, VerifierTranscript};
 use crate::transcript::verifier::push;
-use p3_challenger::{CanObserve, FieldChallenger, GrindingChallenger, Plays};
-use p3_field::{ExtensionField, Field};
+use p3_challenger_core::{CanObserve, FieldChallenger, GrindingChallenger, Plays};
+use p3_field_core::{ExtensionField, Field};
 use p3_fri_steps::FriProverError;
 use std::alloc::{AllocError, Global};
 

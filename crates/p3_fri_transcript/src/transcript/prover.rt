@@ -13,8 +13,8 @@ ghost use Rattle.p3_fri_transcript.specs.Turns.{RoundsLeft, SomeRoundLeft, Round
 ghost use Rattle.p3_fri_transcript.specs.Views.{state_of, left_of, shape_of, Kept};
 
 use crate::transcript::state::ProverTranscript;
-use p3_challenger::{CanObserve, FieldChallenger, GrindingChallenger, Plays};
-use p3_field::{ExtensionField, Field};
+use p3_challenger_core::{CanObserve, FieldChallenger, GrindingChallenger, Plays};
+use p3_field_core::{ExtensionField, Field};
 use p3_fri_steps::pow::grind;
 use p3_fri_steps::{FriProverError, PowPhase};
 use std::alloc::Global;

@@ -1,17 +1,17 @@
 //! What a low-degree test exchanges.
 
 ghost use Rattle.std.specs.Prelude.{◌≡◌, ◌<◌, ◌+◌, ◌^◌, ◌++◌, ◌∷◌, [], IfOk, OnOk, map, codes};
-ghost use Rattle.p3_challenger.specs.Pattern.{step_of, turn_of, number_bytes};
-ghost use Rattle.p3_challenger.specs.Separator.{description, seed_bytes, seed_turns};
+ghost use Rattle.p3_challenger_fs.specs.Pattern.{step_of, turn_of, number_bytes};
+ghost use Rattle.p3_challenger_fs.specs.Separator.{description, seed_bytes, seed_turns};
 ghost use Rattle.p3_fri_folding.specs.Schedule.{IsStrictlyFalling, schedule};
 ghost use Rattle.p3_fri_steps.specs.Steps.{pow_steps};
 
 use crate::labels;
 use crate::rounds::push_rounds;
-use p3_challenger::fs::{
+use p3_challenger_fs::{
     DomainSeparator, Hierarchy, Interaction, InteractionPattern, Kind, Length, Seed,
 };
-use p3_field::{ExtensionField, Field};
+use p3_field_core::{ExtensionField, Field};
 use p3_fri_folding::{FriParameters, fold_schedule};
 use p3_fri_steps::steps::{push_label, push_labels, push_pow};
 use std::alloc::{AllocError, Global};
@@ -40,7 +40,7 @@ pub struct FriShape {
 
 #[tactic(auto, unfolding(crate::specs::Shapes::fri_shape))]
 impl FriShape {
-    ghost use Rattle.p3_challenger.specs.Pattern.{pattern_steps};
+    ghost use Rattle.p3_challenger_fs.specs.Pattern.{pattern_steps};
     ghost use Rattle.p3_fri_transcript.specs.Shapes.{fri_shape};
     ghost use Rattle.p3_fri_transcript.specs.Steps.{fri_steps, fri_labels, fri_stream};
 

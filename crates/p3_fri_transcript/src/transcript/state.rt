@@ -1,16 +1,16 @@
 //! The transcripts of both sides, and how they begin and end.
 
 ghost use Rattle.std.specs.Prelude.{◌≡◌, [], IfOk, length};
-ghost use Rattle.p3_challenger.specs.Separator.{seed_bytes, seed_turns};
+ghost use Rattle.p3_challenger_fs.specs.Separator.{seed_bytes, seed_turns};
 ghost use Rattle.p3_fri_transcript.specs.Shapes.{fri_shape};
 ghost use Rattle.p3_fri_transcript.specs.Steps.{fri_stream};
 ghost use Rattle.p3_fri_transcript.specs.Turns.{RoundsLeft};
 ghost use Rattle.p3_fri_transcript.specs.Views.{state_of, left_of, Starts};
 
 use crate::transcript::FriShape;
-use p3_challenger::FieldChallenger;
-use p3_challenger::fs::{Prover, Script, Seed, Verifier};
-use p3_field::{ExtensionField, Field};
+use p3_challenger_core::FieldChallenger;
+use p3_challenger_fs::{Prover, Script, Seed, Verifier};
+use p3_field_core::{ExtensionField, Field};
 use std::alloc::{AllocError, Global};
 use std::marker::PhantomData;
 

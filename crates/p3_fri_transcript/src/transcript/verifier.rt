@@ -13,8 +13,8 @@ ghost use Rattle.p3_fri_transcript.specs.Views.{state_of, left_of, shape_of, Kep
 
 use crate::transcript::failure::TranscriptFailure;
 use crate::transcript::state::VerifierTranscript;
-use p3_challenger::{CanObserve, FieldChallenger, GrindingChallenger, Plays};
-use p3_field::{ExtensionField, Field};
+use p3_challenger_core::{CanObserve, FieldChallenger, GrindingChallenger, Plays};
+use p3_field_core::{ExtensionField, Field};
 use p3_fri_steps::PowPhase;
 use p3_fri_steps::pow::{PowFailure, check};
 use std::alloc::{AllocError, Global};

@@ -2,7 +2,7 @@ use Rattle.std.proofs.Common.{◌≡◌, ◌≤◌, ◌*◌, ◌^◌, ◌+◌, l
 use Rattle.std.proofs.lemmas.Nat.{pow-add}
 use Rattle.std.proofs.Math.Nat.{pow-le-pow_right}
 use Rattle.algebra.proofs.Lists.{length-tabulate}
-use Rattle.p3_field.specs.Coset.{coset_point}
+use Rattle.p3_field_core.specs.Coset.{coset_point}
 use Rattle.p3_matrix.specs.Matrix.{rows}
 use Rattle.p3_dft.specs.CosetWords.{HoldsCosetWords}
 use Rattle.p3_dft.proofs.ReversedColumns.{extensions_are_words}

@@ -1,7 +1,7 @@
 use Rattle.std.proofs.Common.{◌≡◌, ◌≤◌, ◌-◌, ◌^◌, length, arith, sym, subst, ◌∙◌}
 use Rattle.std.proofs.Math.Pow.{pow_mono}
 use Rattle.std.proofs.lemmas.Result.{IfOk-weaker}
-use Rattle.p3_field.specs.Coset.{coset_points}
+use Rattle.p3_field_core.specs.Coset.{coset_points}
 use Rattle.p3_matrix.specs.Matrix.{rows}
 use Rattle.p3_dft.specs.Evaluations.{AreEvaluations}
 use Rattle.p3_dft.proofs.Batches.{exponent_within}

@@ -1,7 +1,7 @@
 use Rattle.std.proofs.Common.{◌≡◌, ◌*◌, ◌%◌, ◌^◌, length, take, arith, ap, ◌∙◌}
 use Rattle.std.proofs.lemmas.Nat.{one_shl}
 use Rattle.std.proofs.lemmas.List.{length-take-le}
-use Rattle.p3_field.specs.Index.{bit_reversed}
+use Rattle.p3_field_core.specs.Index.{bit_reversed}
 use Rattle.p3_matrix.specs.Matrix.{rows}
 use Rattle.p3_fri_evaluations.proofs.evaluations.first_values.Goals as goal
 

@@ -1,6 +1,6 @@
 use Rattle.std.proofs.Common.{◌≡◌, ◌≢◌, ◌<◌, ◌∙◌, [], length, map, subst, sym, ap, arith, All}
 use Rattle.std.proofs.lemmas.List.{length-map}
-use Rattle.p3_field.specs.declared.TwoAdicMultiplicativeCoset.{TwoAdicMultiplicativeCoset as Coset}
+use Rattle.p3_field_core.specs.declared.coset.TwoAdicMultiplicativeCoset.{TwoAdicMultiplicativeCoset as Coset}
 use Rattle.p3_fri_relation.specs.Faults.{At}
 use Rattle.p3_fri_relation.specs.Views.{matrix_claim, claims_of}
 use Rattle.p3_fri_inputs.specs.Claims.{claim_of}

@@ -1,7 +1,7 @@
 use Rattle.std.proofs.Common.{◌≡◌, ◌≢◌, ◌<◌, ◌∙◌, [], length, map, sym, ap, arith, eqb}
 use Rattle.std.proofs.lemmas.List.{length-map, nil_from_length}
 use Rattle.std.proofs.lemmas.Bool.{eqb-true, eqb-false}
-use Rattle.p3_field.specs.declared.TwoAdicMultiplicativeCoset.{TwoAdicMultiplicativeCoset as Coset}
+use Rattle.p3_field_core.specs.declared.coset.TwoAdicMultiplicativeCoset.{TwoAdicMultiplicativeCoset as Coset}
 use Rattle.p3_fri_relation.specs.Views.{matrix_claim, point_claim}
 use Rattle.p3_fri_inputs.proofs.Places.{at_mapped, holds_next, holds_of_all, mapped_is}
 use Rattle.p3_fri_inputs.proofs.checks.matrix_without_points.Goals as goal

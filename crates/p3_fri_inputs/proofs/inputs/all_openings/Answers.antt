@@ -5,7 +5,7 @@ use Rattle.std.specs.List.{flat_map, between}
 use Rattle.algebra.specs.Nested.{lists}
 use Rattle.algebra.specs.Polynomial.{tabulate}
 use Rattle.algebra.proofs.Lists.{tabulate-next}
-use Rattle.p3_field.specs.declared.TwoAdicMultiplicativeCoset.{TwoAdicMultiplicativeCoset as Coset}
+use Rattle.p3_field_core.specs.declared.coset.TwoAdicMultiplicativeCoset.{TwoAdicMultiplicativeCoset as Coset}
 use Rattle.p3_fri_relation.specs.Setting.{Fields}
 use Rattle.p3_fri_relation.specs.Heights.{matrices_of, has_height}
 use Rattle.p3_fri_relation.specs.Inputs.{sum_at, sums_at}

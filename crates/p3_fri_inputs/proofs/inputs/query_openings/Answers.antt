@@ -1,7 +1,7 @@
 use Rattle.std.proofs.Common.{◌≡◌, ◌<◌, ◌+◌, ◌∙◌, ℕ, length, map, get_or, subst, sym, ap, arith}
 use Rattle.std.proofs.Common.{All, inl, inr, IsTrue}
 use Rattle.std.proofs.lemmas.Bool.{cases_Bool, true≢false}
-use Rattle.p3_field.specs.declared.TwoAdicMultiplicativeCoset.{TwoAdicMultiplicativeCoset as Coset}
+use Rattle.p3_field_core.specs.declared.coset.TwoAdicMultiplicativeCoset.{TwoAdicMultiplicativeCoset as Coset}
 use Rattle.p3_fri_relation.specs.Setting.{Fields}
 use Rattle.p3_fri_relation.specs.Heights.{log_height, matrices_of, heights_of}
 use Rattle.p3_fri_relation.specs.Inputs.{sum_at}

@@ -1,7 +1,7 @@
 use Rattle.std.proofs.Common.{◌≡◌, ◌++◌, ◌∷◌, ◌<◌, ◌+◌, ◌*◌, ◌^◌, ◌∙◌, ℕ, [], length, map, get_or}
 use Rattle.std.proofs.Common.{sym, ap, ap₂, arith, ◌%◌}
 use Rattle.std.proofs.lemmas.List.{length-map, get_or_default}
-use Rattle.p3_field.specs.declared.TwoAdicMultiplicativeCoset.{TwoAdicMultiplicativeCoset as Coset}
+use Rattle.p3_field_core.specs.declared.coset.TwoAdicMultiplicativeCoset.{TwoAdicMultiplicativeCoset as Coset}
 use Rattle.p3_fri_relation.specs.Heights.{log_height, width, dimensions}
 use Rattle.p3_fri_relation.specs.Views.{matrix_claim}
 use Rattle.p3_fri_inputs.proofs.Places.{all_mapped_at, mapped_is}

@@ -1,7 +1,7 @@
 use Rattle.std.proofs.Common.{◌++◌, ◌∷◌, ◌<◌, ◌-◌, ◌/◌, ◌^◌, ◌∙◌, [], length, map, get_or, ap}
 use Rattle.std.proofs.Common.{arith}
 use Rattle.std.proofs.lemmas.List.{get_or_default}
-use Rattle.p3_field.specs.declared.TwoAdicMultiplicativeCoset.{TwoAdicMultiplicativeCoset as Coset}
+use Rattle.p3_field_core.specs.declared.coset.TwoAdicMultiplicativeCoset.{TwoAdicMultiplicativeCoset as Coset}
 use Rattle.p3_fri_relation.specs.Heights.{opened_index}
 use Rattle.p3_fri_relation.specs.Views.{matrix_claim}
 use Rattle.p3_fri_inputs.proofs.Steps.{mapped_more}

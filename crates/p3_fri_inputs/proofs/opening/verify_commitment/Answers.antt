@@ -4,7 +4,7 @@ use Rattle.std.proofs.lemmas.List.{length-map}
 use Rattle.std.specs.List.{Any}
 use Rattle.algebra.specs.Nested.{nested}
 use Rattle.algebra.proofs.Nested.{length-nested}
-use Rattle.p3_field.specs.declared.TwoAdicMultiplicativeCoset.{TwoAdicMultiplicativeCoset as Coset}
+use Rattle.p3_field_core.specs.declared.coset.TwoAdicMultiplicativeCoset.{TwoAdicMultiplicativeCoset as Coset}
 use Rattle.p3_commit.specs.Batch.{max_height, AreBelow, HavePowerHeights}
 use Rattle.p3_fri_relation.specs.Heights.{log_height, dimensions, opened_index}
 use Rattle.p3_fri_relation.specs.Inputs.{OpensInput}

@@ -1,7 +1,7 @@
 use Rattle.std.proofs.Common.{◌≡◌, ◌++◌, ◌<◌, ◌≤◌, ◌∙◌, ℕ, length, get_or, subst, sym, ap, arith}
 use Rattle.std.proofs.Common.{All, below_more}
 use Rattle.std.proofs.lemmas.List.{get_or_default}
-use Rattle.p3_field.specs.declared.TwoAdicMultiplicativeCoset.{TwoAdicMultiplicativeCoset as Coset}
+use Rattle.p3_field_core.specs.declared.coset.TwoAdicMultiplicativeCoset.{TwoAdicMultiplicativeCoset as Coset}
 use Rattle.p3_fri_relation.specs.Setting.{Fields}
 use Rattle.p3_fri_relation.specs.Heights.{log_height, matrices_of}
 use Rattle.p3_fri_relation.specs.QuotientSums.{point_read}

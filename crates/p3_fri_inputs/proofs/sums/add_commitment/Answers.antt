@@ -4,7 +4,7 @@ use Rattle.std.proofs.lemmas.List.{length-map, get_or-map, get_or_default}
 use Rattle.algebra.specs.Polynomial.{val}
 use Rattle.algebra.specs.Nested.{lists}
 use Rattle.algebra.proofs.Nested.{length-lists, lists_at}
-use Rattle.p3_field.specs.declared.TwoAdicMultiplicativeCoset.{TwoAdicMultiplicativeCoset as Coset}
+use Rattle.p3_field_core.specs.declared.coset.TwoAdicMultiplicativeCoset.{TwoAdicMultiplicativeCoset as Coset}
 use Rattle.p3_fri_relation.specs.Views.{point_claim, matrix_claim}
 use Rattle.p3_fri_inputs.specs.Claims.{claim_of, combined_values}
 use Rattle.p3_fri_inputs.proofs.Commitments.{AreSummedFrom, terms_of, among, summed_next}

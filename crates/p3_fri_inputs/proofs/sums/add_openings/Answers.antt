@@ -6,7 +6,7 @@ use Rattle.algebra.specs.Nested.{lists}
 use Rattle.algebra.specs.Polynomial.{val}
 use Rattle.algebra.proofs.Nested.{length-lists, lists_at}
 use Rattle.algebra.proofs.Values.{val-nil}
-use Rattle.p3_field.specs.declared.TwoAdicMultiplicativeCoset.{TwoAdicMultiplicativeCoset as Coset}
+use Rattle.p3_field_core.specs.declared.coset.TwoAdicMultiplicativeCoset.{TwoAdicMultiplicativeCoset as Coset}
 use Rattle.p3_fri_relation.specs.Setting.{MatrixClaim}
 use Rattle.p3_fri_relation.specs.Heights.{matrices_of}
 use Rattle.p3_fri_relation.specs.Inputs.{rows_at}

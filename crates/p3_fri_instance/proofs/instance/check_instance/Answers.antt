@@ -1,6 +1,6 @@
 use Rattle.std.proofs.Common.{◌∙◌, inl, refl}
 use Rattle.std.proofs.lemmas.Result.{err_from_is_err_and}
-use Rattle.p3_field.specs.declared.TwoAdicMultiplicativeCoset.{TwoAdicMultiplicativeCoset as Coset}
+use Rattle.p3_field_core.specs.declared.coset.TwoAdicMultiplicativeCoset.{TwoAdicMultiplicativeCoset as Coset}
 use Rattle.p3_fri_relation.specs.Views.{parameters_of, claims_of}
 use Rattle.p3_fri_instance.proofs.Instances.{heights_from, range_from, height_fault}
 use Rattle.p3_fri_instance.proofs.instance.check_instance.Goals as goal

@@ -1,6 +1,6 @@
 use Rattle.std.proofs.Common.{◌≡◌, ◌∙◌, ◌+◌, ◌^◌, ◌≤◌, ℕ, List, map, sym, arith, subst}
 use Rattle.std.proofs.lemmas.Result.{IfOk-weaker}
-use Rattle.p3_challenger.specs.Run.{moves}
+use Rattle.p3_challenger_core.specs.Run.{moves}
 use Rattle.p3_pcs.specs.Claims.{opened_values}
 use Rattle.p3_pcs.specs.Requests.{FitDomains, honest_claims, honest_values, request}
 use Rattle.p3_fri_relation.specs.Acceptance.{Accepts, batch_replayed, test_replay}

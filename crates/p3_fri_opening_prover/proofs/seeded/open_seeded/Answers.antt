@@ -1,6 +1,6 @@
 use Rattle.std.proofs.Common.{◌≡◌, ◌∙◌, true, sym, ap, subst, unwrap_or, rules}
-use Rattle.p3_challenger.specs.Run.{moves}
-use Rattle.p3_challenger.specs.Turns.{bytes_observed}
+use Rattle.p3_challenger_core.specs.Run.{moves}
+use Rattle.p3_challenger_fs.specs.Turns.{bytes_observed}
 use Rattle.p3_pcs.specs.Claims.{opened_values}
 use Rattle.p3_fri_pcs_transcript.specs.Replay.{batch_replay}
 use Rattle.p3_fri_pcs_transcript.specs.Shapes.{pcs_shape}

@@ -4,7 +4,7 @@ use Rattle.std.specs.List.{AllZip}
 use Rattle.std.proofs.lemmas.Result.{IfErr-weaker}
 use Rattle.algebra.specs.Nested.{lists}
 use Rattle.p3_commit.specs.Batch.{max_height, dimensions_of}
-use Rattle.p3_challenger.specs.Run.{moves}
+use Rattle.p3_challenger_core.specs.Run.{moves}
 use Rattle.p3_pcs.specs.Claims.{opened_values}
 use Rattle.p3_fri_relation.specs.Setting.{Setting}
 use Rattle.p3_fri_relation.specs.Views.{parameters_of, proof_of}

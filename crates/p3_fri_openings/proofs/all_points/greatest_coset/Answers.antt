@@ -1,5 +1,5 @@
 use Rattle.std.proofs.Common.{ap, ◌∙◌}
-use Rattle.p3_field.specs.Coset.{bit_reversed_points}
+use Rattle.p3_field_core.specs.Coset.{bit_reversed_points}
 use Rattle.p3_fri_relation.specs.Setting.{Fields}
 use Rattle.p3_fri_openings.proofs.ValueSums.{same_of_ok}
 use Rattle.p3_fri_openings.proofs.RoundTables.{holds_cosets}

@@ -1,6 +1,6 @@
 use Rattle.std.proofs.Common.{◌≡◌, map, drop}
-use Rattle.p3_challenger.specs.Pattern.{number_bytes}
-use Rattle.p3_challenger.specs.Separator.{description}
+use Rattle.p3_challenger_fs.specs.Pattern.{number_bytes}
+use Rattle.p3_challenger_fs.specs.Separator.{description}
 use Rattle.p3_fri_steps.specs.Labels.{labels_added}
 use Rattle.p3_fri_steps.proofs.steps.push_labels.Given as goal
 

@@ -1,5 +1,5 @@
 use Rattle.std.proofs.Common.{◌≡◌, ◌-◌, ◌++◌, map}
-use Rattle.p3_challenger.specs.Pattern.{step_of}
+use Rattle.p3_challenger_fs.specs.Pattern.{step_of}
 use Rattle.p3_fri_transcript.specs.Steps.{rounds_steps}
 use Rattle.p3_fri_transcript.proofs.rounds.push_rounds.Given as goal
 

@@ -14,7 +14,7 @@ use Rattle.p3_fri_relation.proofs.Instances.{instance_top, instance_sum}
 use Rattle.p3_fri_verifier.proofs.Replays.{false_true, same_err, ok_err, refused_as}
 use Rattle.p3_fri_verifier.proofs.Opened.{inputs_good_at, input_fault_at, in_order_at, ends_at, ends_of, way_fault_at}
 use Rattle.p3_fri_verifier.proofs.Opened.{opened_at, rounds_open_at, open_rounds_at, rounds_fault_at, length_zipped, indices_below}
-use Rattle.p3_challenger.specs.Run.{moves}
+use Rattle.p3_challenger_core.specs.Run.{moves}
 use Rattle.p3_fri_relation.specs.Setting.{Setting}
 use Rattle.p3_fri_verifier.proofs.openings.verify_openings.Given.{Over}
 use Rattle.p3_fri_verifier.proofs.openings.verify_openings.Goals as goal

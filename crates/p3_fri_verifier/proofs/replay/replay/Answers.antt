@@ -1,6 +1,6 @@
 use Rattle.std.proofs.Common.{◌≡◌, ◌≢◌, ap, refl, false, true, Err}
-use Rattle.p3_challenger.specs.Turns.{bytes_observed}
-use Rattle.p3_challenger.specs.Run.{moves}
+use Rattle.p3_challenger_fs.specs.Turns.{bytes_observed}
+use Rattle.p3_challenger_core.specs.Run.{moves}
 use Rattle.p3_fri_transcript.specs.Shapes.{fri_shape}
 use Rattle.p3_fri_transcript.specs.Steps.{fri_stream}
 use Rattle.p3_fri_relation.specs.declared.error.FriError.TheVariants.{OutOfMemory}

@@ -4,7 +4,7 @@ use Rattle.p3_fri_relation.specs.Acceptance.{IsInRange, HasCounts, log_arities, 
 use Rattle.p3_fri_relation.proofs.Instances.{instance_top}
 use Rattle.p3_fri_transcript.specs.Shapes.{fri_shape}
 use Rattle.p3_fri_verifier.proofs.Replays.{false_true, same_err, ok_err, refused_as}
-use Rattle.p3_challenger.specs.Run.{moves}
+use Rattle.p3_challenger_core.specs.Run.{moves}
 use Rattle.std.specs.Prelude.{All}
 use Rattle.p3_fri_relation.specs.Setting.{Setting}
 use Rattle.p3_fri_verifier.specs.Openings.{AreOpened}

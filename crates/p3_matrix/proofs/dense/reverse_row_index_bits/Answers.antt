@@ -7,9 +7,9 @@ use Rattle.std.specs.List.{SwappedAt}
 use Rattle.std.proofs.lemmas.Nat.{pow_pos}
 use Rattle.algebra.specs.Digits.{rev}
 use Rattle.algebra.proofs.Digits.{rev-lt, rev-of_zero}
-use Rattle.p3_field.proofs.IndexSteps.{bit_xor-highest, shift_fits}
-use Rattle.p3_field.proofs.IndexSwaps.{SwapsPairsBelow, swaps_all, swaps_first}
-use Rattle.p3_field.proofs.IndexSwaps.{swaps_unpaired, swaps_pair}
+use Rattle.p3_field_core.proofs.IndexSteps.{bit_xor-highest, shift_fits}
+use Rattle.p3_field_core.proofs.IndexSwaps.{SwapsPairsBelow, swaps_all, swaps_first}
+use Rattle.p3_field_core.proofs.IndexSwaps.{swaps_unpaired, swaps_pair}
 use Rattle.p3_matrix.specs.Rows.{rows_of}
 use Rattle.p3_matrix.proofs.Rows.{length-rows_of}
 use Rattle.p3_matrix.proofs.dense.reverse_row_index_bits.Goals as goal

@@ -1,6 +1,6 @@
 use Rattle.std.proofs.Common.{◌≡◌, ℕ, ◌-◌, ◌/◌, ◌^◌, length}
 use Rattle.algebra.specs.Digits.{rev}
-use Rattle.p3_field.proofs.IndexSwaps.{SwapsPairsBelow}
+use Rattle.p3_field_core.proofs.IndexSwaps.{SwapsPairsBelow}
 use Rattle.p3_matrix.specs.Rows.{rows_of}
 use Rattle.p3_matrix.proofs.dense.reverse_row_index_bits.Given as goal
 

@@ -5,7 +5,7 @@ use Rattle.std.proofs.Math.Pow.{pow_mono}
 use Rattle.std.proofs.lemmas.Nat.{one_shl, pow-add}
 use Rattle.algebra.specs.Nested.{lists}
 use Rattle.algebra.proofs.Lists.{length-tabulate}
-use Rattle.p3_field.specs.Coset.{coset_point}
+use Rattle.p3_field_core.specs.Coset.{coset_point}
 use Rattle.p3_dft.proofs.Batches.{whole_columns, held_by_new, held_by_values}
 use Rattle.p3_dft.proofs.Columns.{Holds, length-held}
 use Rattle.p3_periodic.specs.Batches.{column_at}

@@ -4,7 +4,7 @@ use Rattle.std.specs.Int.{IsPowerOfTwo}
 use Rattle.std.specs.declared.vec.Vec.{Vec}
 use Rattle.std.specs.declared.alloc.Global.{Global}
 use Rattle.algebra.specs.Nested.{lists}
-use Rattle.p3_field.specs.Coset.{coset_point}
+use Rattle.p3_field_core.specs.Coset.{coset_point}
 use Rattle.p3_matrix.specs.Rows.{rows_of}
 use Rattle.p3_dft.proofs.Batches.{whole_columns}
 use Rattle.p3_periodic.specs.Batches.{column_at}

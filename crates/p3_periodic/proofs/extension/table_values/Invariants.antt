@@ -1,6 +1,6 @@
 use Rattle.std.proofs.Common.{◌≡◌, ℕ, ◌<◌, ◌+◌, ◌*◌, ◌^◌, length}
 use Rattle.algebra.specs.Nested.{lists}
-use Rattle.p3_field.specs.Coset.{coset_point}
+use Rattle.p3_field_core.specs.Coset.{coset_point}
 use Rattle.p3_periodic.specs.Batches.{column_at}
 use Rattle.p3_periodic.specs.Tables.{table_entry}
 use Rattle.p3_periodic.specs.Writes.{IsMet}

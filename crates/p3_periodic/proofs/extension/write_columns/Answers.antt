@@ -7,7 +7,7 @@ use Rattle.algebra.specs.Nested.{lists}
 use Rattle.algebra.specs.Polynomial.{val}
 use Rattle.algebra.specs.Periodic.{column_polynomial}
 use Rattle.algebra.proofs.Nested.{length-lists}
-use Rattle.p3_field.specs.Coset.{coset_point}
+use Rattle.p3_field_core.specs.Coset.{coset_point}
 use Rattle.p3_periodic.specs.Batches.{column_at, ArePlaces}
 use Rattle.p3_periodic.specs.Tables.{table_entry}
 use Rattle.p3_periodic.proofs.Tabulated.{columns_belong, columns_met}

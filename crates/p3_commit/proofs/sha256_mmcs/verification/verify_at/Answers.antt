@@ -1,5 +1,5 @@
 use Rattle.std.proofs.Common.{length, sym, ◌∙◌}
-use Rattle.p3_field.proofs.IndexPowers.{exponents_agree}
+use Rattle.p3_field_core.proofs.IndexPowers.{exponents_agree}
 use Rattle.p3_commit.proofs.sha256_mmcs.verification.verify_at.Goals as goal
 
 pub returns-then-path-log_height : goal.returns-then-path-log_height

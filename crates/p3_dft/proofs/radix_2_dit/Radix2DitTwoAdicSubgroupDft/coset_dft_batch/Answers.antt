@@ -2,9 +2,9 @@ use Rattle.std.proofs.Common.{◌≡◌, ◌*◌, ◌^◌, ◌-◌, ◌+◌, ℕ
 use Rattle.std.proofs.Common.{sym, ap₂, ◌∙◌}
 use Rattle.std.proofs.lemmas.List.{with_items_is}
 use Rattle.algebra.specs.Field.{pow}
-use Rattle.p3_field.proofs.IndexPowers.{exponents_agree}
+use Rattle.p3_field_core.proofs.IndexPowers.{exponents_agree}
 use Rattle.p3_matrix.specs.Matrix.{rows}
-use Rattle.p3_field.specs.Coset.{coset_point, coset_points}
+use Rattle.p3_field_core.specs.Coset.{coset_point, coset_points}
 use Rattle.p3_dft.specs.Evaluations.{AreEvaluations}
 use Rattle.p3_dft.proofs.Turns.{root_turn}
 use Rattle.p3_dft.proofs.Columns.{Holds, evaluations_by_entries}

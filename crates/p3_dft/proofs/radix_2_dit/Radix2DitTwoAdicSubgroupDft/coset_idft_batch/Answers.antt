@@ -2,8 +2,8 @@ use Rattle.std.proofs.Common.{◌≡◌, ◌+◌, ◌*◌, ◌^◌, ℕ, length,
 use Rattle.algebra.specs.Field.{pow}
 use Rattle.algebra.specs.Polynomial.{val}
 use Rattle.algebra.specs.Interpolation.{interpolant}
-use Rattle.p3_field.specs.Coset.{coset_point, coset_points}
-use Rattle.p3_field.proofs.IndexPowers.{exponents_agree}
+use Rattle.p3_field_core.specs.Coset.{coset_point, coset_points}
+use Rattle.p3_field_core.proofs.IndexPowers.{exponents_agree}
 use Rattle.p3_matrix.specs.Matrix.{rows}
 use Rattle.p3_dft.specs.Evaluations.{subgroup_points, AreEvaluations}
 use Rattle.p3_dft.specs.Strided.{strided}

@@ -1,7 +1,7 @@
 -- One column is a matrix of width one.
 use Rattle.std.proofs.Common.{◌+◌, ◌*◌, ◌^◌, arith, ap, sym, ◌∙◌}
 use Rattle.algebra.proofs.Lists.{length-tabulate}
-use Rattle.p3_field.specs.Coset.{coset_point, coset_points}
+use Rattle.p3_field_core.specs.Coset.{coset_point, coset_points}
 use Rattle.p3_dft.specs.Evaluations.{subgroup_points}
 use Rattle.p3_dft.proofs.Columns.{Holds, length-held}
 use Rattle.p3_dft.proofs.Batches.{held_by_values, held_by_new}

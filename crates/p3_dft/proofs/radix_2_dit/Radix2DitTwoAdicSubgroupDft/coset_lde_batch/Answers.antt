@@ -4,8 +4,8 @@
 use Rattle.std.proofs.Common.{◌≡◌, ◌≤◌, ◌<◌, ◌+◌, ◌-◌, ◌*◌, ◌^◌, ◌++◌, take, replicate, ℕ}
 use Rattle.std.proofs.Common.{length, get_or, arith, ap, subst, sym, ◌∙◌}
 use Rattle.algebra.specs.Field.{pow}
-use Rattle.p3_field.specs.Coset.{coset_point, coset_points}
-use Rattle.p3_field.proofs.IndexPowers.{exponents_agree}
+use Rattle.p3_field_core.specs.Coset.{coset_point, coset_points}
+use Rattle.p3_field_core.proofs.IndexPowers.{exponents_agree}
 use Rattle.p3_dft.specs.Evaluations.{subgroup_points, AreExtensions}
 use Rattle.p3_dft.proofs.Turns.{root_turn}
 use Rattle.p3_dft.proofs.Columns.{Holds}

@@ -1,6 +1,6 @@
 use Rattle.std.proofs.Common.{◌≡◌, ◌*◌, ◌^◌, ◌-◌, ℕ, length, ap, ap₂, subst, sym, ◌∙◌}
 use Rattle.algebra.specs.Field.{pow}
-use Rattle.p3_field.proofs.IndexPowers.{exponents_agree}
+use Rattle.p3_field_core.proofs.IndexPowers.{exponents_agree}
 use Rattle.p3_matrix.specs.Matrix.{rows}
 use Rattle.p3_dft.specs.Evaluations.{subgroup_points, AreEvaluations}
 use Rattle.p3_dft.proofs.Turns.{root_turn}

@@ -2,7 +2,7 @@ use Rattle.std.proofs.Common.{◌≡◌, ◌^◌, ◌<◌, ℕ, Result, Ok, Err,
 use Rattle.algebra.specs.Polynomial.{val}
 use Rattle.algebra.specs.Interpolation.{Interpolates, interpolant}
 use Rattle.algebra.proofs.Points.{lifted_roots}
-use Rattle.p3_field.proofs.IndexPowers.{exponents_agree}
+use Rattle.p3_field_core.proofs.IndexPowers.{exponents_agree}
 use Rattle.p3_dft.specs.Evaluations.{subgroup_points}
 use Rattle.p3_dft.specs.Strided.{strided}
 use Rattle.p3_dft.proofs.Batches.{exponent_within}

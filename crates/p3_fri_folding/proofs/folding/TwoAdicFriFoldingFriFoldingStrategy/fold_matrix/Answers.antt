@@ -2,7 +2,7 @@ use Rattle.std.proofs.Common.{◌≡◌, ℕ, suc, ◌+◌, ◌-◌, ◌*◌, �
 use Rattle.std.proofs.Common.{slice_index_or, get_or, subst, sym, ap, ap₂, ◌∙◌, arith}
 use Rattle.algebra.specs.Polynomial.{tabulate}
 use Rattle.algebra.proofs.Lists.{tabulate-next}
-use Rattle.p3_field.proofs.IndexPowers.{exponents_agree}
+use Rattle.p3_field_core.proofs.IndexPowers.{exponents_agree}
 use Rattle.p3_matrix.specs.Matrix.{rows}
 use Rattle.algebra.specs.Folds.{fold_value, IsHalfInverse}
 use Rattle.p3_fri_folding.specs.Rows.{StartsRow, AreFirstHalfInverses}

@@ -1,6 +1,6 @@
 use Rattle.std.proofs.Common.{◌≡◌, Some, None, Err, [], unwrap_or, sym, ap, ◌∙◌, rules}
-use Rattle.p3_challenger.specs.Turns.{bytes_observed}
-use Rattle.p3_challenger.specs.Run.{Moves, moves}
+use Rattle.p3_challenger_fs.specs.Turns.{bytes_observed}
+use Rattle.p3_challenger_core.specs.Run.{Moves, moves}
 use Rattle.p3_fri_steps.proofs.Reached.{reaches_same}
 use Rattle.p3_fri_transcript.specs.Shapes.{fri_shape}
 use Rattle.p3_fri_pcs_transcript.specs.Counts.{all_values}

@@ -1,6 +1,6 @@
 use Rattle.std.proofs.Common.{◌≡◌, Err, refl, sym, ap, ◌∙◌, rules}
-use Rattle.p3_challenger.specs.Turns.{bytes_observed}
-use Rattle.p3_challenger.specs.Run.{Moves, moves}
+use Rattle.p3_challenger_fs.specs.Turns.{bytes_observed}
+use Rattle.p3_challenger_core.specs.Run.{Moves, moves}
 use Rattle.p3_fri_pcs_transcript.specs.declared.pcs_transcript.play.PcsFailure.TheVariants.{Fri}
 use Rattle.p3_fri_transcript.specs.declared.transcript.failure.TranscriptFailure.TheVariants.{OutOfMemory}
 use Rattle.p3_fri_transcript.specs.declared.transcript.play.Refusal.TheVariants.{Seed, Step}

@@ -1,6 +1,6 @@
 use Rattle.std.proofs.Common.{◌≡◌, ◌^◌, length, sym, ap, ◌∙◌, subst, get_or, rules, unwrap_or}
 use Rattle.p3_matrix.specs.declared.dense.RowMajorMatrix.{RowMajorMatrix}
-use Rattle.p3_challenger.specs.Run.{moves}
+use Rattle.p3_challenger_core.specs.Run.{moves}
 use Rattle.p3_fri_steps.specs.declared.error.FriProverError.{FriProverError}
 use Rattle.p3_fri_steps.specs.Pow.{found_witness}
 use Rattle.p3_fri_transcript.specs.Replay.{round_replay}

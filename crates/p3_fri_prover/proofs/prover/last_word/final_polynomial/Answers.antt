@@ -1,6 +1,6 @@
 use Rattle.std.proofs.Common.{◌≡◌, ◌^◌, ◌≤◌, arith, sym, ◌∙◌, ◌++◌, length, take, drop, ap}
 use Rattle.std.proofs.Math.Seq.{take-append_seam}
-use Rattle.p3_field.specs.Index.{bit_reversed}
+use Rattle.p3_field_core.specs.Index.{bit_reversed}
 use Rattle.std.proofs.Math.Pow.{pow_mono}
 use Rattle.std.proofs.lemmas.Result.{IfOk-weaker}
 use Rattle.algebra.specs.Interpolation.{Interpolates}

@@ -4,7 +4,7 @@ use Rattle.std.proofs.Common.{refl, sym, ap, arith, Err}
 use Rattle.algebra.specs.Nested.{lists}
 use Rattle.algebra.proofs.FinalPolynomials.{length-final_polynomial}
 use Rattle.algebra.proofs.Points.{lifted_roots}
-use Rattle.p3_challenger.specs.Run.{moves}
+use Rattle.p3_challenger_core.specs.Run.{moves}
 use Rattle.p3_fri_transcript.specs.Replay.{shown_queries_replay, polynomial_observed}
 use Rattle.p3_fri_transcript.specs.Shapes.{fri_shape}
 use Rattle.p3_fri_transcript.specs.Steps.{FriNumbers}

@@ -1,8 +1,8 @@
 use Rattle.std.proofs.Common.{rules, ◌∙◌, ap, subst, length}
 use Rattle.algebra.specs.Nested.{lists}
-use Rattle.p3_challenger.specs.Run.{moves}
-use Rattle.p3_challenger.specs.Separator.{seed_bytes}
-use Rattle.p3_challenger.specs.Turns.{bytes_observed}
+use Rattle.p3_challenger_core.specs.Run.{moves}
+use Rattle.p3_challenger_fs.specs.Separator.{seed_bytes}
+use Rattle.p3_challenger_fs.specs.Turns.{bytes_observed}
 use Rattle.p3_fri_transcript.specs.Shapes.{fri_shape}
 use Rattle.p3_fri_transcript.specs.Steps.{FriNumbers}
 use Rattle.p3_fri_transcript.specs.Views.{state_of}

@@ -3,9 +3,9 @@ use Rattle.std.proofs.Common.{ap, arith, subst, Vec}
 use Rattle.std.specs.Prelude.{All}
 use Rattle.std.specs.List.{AllZip}
 use Rattle.algebra.specs.Nested.{lists, nested}
-use Rattle.p3_challenger.specs.Run.{moves}
-use Rattle.p3_challenger.specs.Separator.{seed_bytes}
-use Rattle.p3_challenger.specs.Turns.{bytes_observed}
+use Rattle.p3_challenger_core.specs.Run.{moves}
+use Rattle.p3_challenger_fs.specs.Separator.{seed_bytes}
+use Rattle.p3_challenger_fs.specs.Turns.{bytes_observed}
 use Rattle.p3_fri_transcript.specs.Shapes.{fri_shape}
 use Rattle.p3_fri_relation.specs.declared.proof.BatchMultiOpening.{BatchMultiOpening}
 use Rattle.p3_fri_relation.specs.Setting.{Setting, InputOpening}

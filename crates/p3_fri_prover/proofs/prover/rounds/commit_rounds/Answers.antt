@@ -2,7 +2,7 @@ use Rattle.std.proofs.Common.{◌≡◌, ◌+◌, ◌-◌, ◌^◌, ◌++◌, �
 use Rattle.std.proofs.Common.{sym, ap, ◌∙◌, arith, subst, refl, Vec}
 use Rattle.std.proofs.lemmas.List.{take_more}
 use Rattle.algebra.specs.Nested.{lists}
-use Rattle.p3_challenger.specs.Run.{moves}
+use Rattle.p3_challenger_core.specs.Run.{moves}
 use Rattle.p3_fri_transcript.specs.Shapes.{fri_shape}
 use Rattle.p3_fri_transcript.specs.Steps.{FriNumbers}
 use Rattle.p3_fri_transcript.specs.Views.{state_of}

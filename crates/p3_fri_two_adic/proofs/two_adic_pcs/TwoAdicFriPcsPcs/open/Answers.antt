@@ -1,6 +1,6 @@
 use Rattle.std.proofs.Common.{◌≡◌, ◌^◌, ℕ, List, map, ap, ◌∙◌, subst}
 use Rattle.p3_field_core.specs.declared.coset.TwoAdicMultiplicativeCoset.{TwoAdicMultiplicativeCoset}
-use Rattle.p3_challenger.specs.Run.{moves}
+use Rattle.p3_challenger_core.specs.Run.{moves}
 use Rattle.p3_pcs.specs.Requests.{request, honest_claims, FitDomains}
 use Rattle.p3_fri_relation.specs.Setting.{Fields, Setting, CommitmentClaim}
 use Rattle.p3_fri_relation.specs.Acceptance.{Accepts}

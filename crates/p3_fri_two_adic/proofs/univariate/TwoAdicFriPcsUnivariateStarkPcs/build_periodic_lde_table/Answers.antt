@@ -1,5 +1,5 @@
 use Rattle.std.proofs.Common.{refl}
-use Rattle.p3_field.specs.Coset.{coset_point}
+use Rattle.p3_field_core.specs.Coset.{coset_point}
 use Rattle.p3_dft.proofs.Batches.{exponent_within}
 use Rattle.p3_periodic.specs.Values.{IsColumnValue}
 use Rattle.p3_fri_two_adic.proofs.Tabulated.{tabulated_by_sizes}

@@ -1,7 +1,7 @@
 -- The rows of the matrix are those of its values, which are reversed in place.
 use Rattle.std.proofs.Common.{◌≡◌, length, sym, ap, ◌∙◌, ◌/◌}
 use Rattle.std.proofs.lemmas.List.{with_items_is}
-use Rattle.p3_field.specs.Index.{bit_reversed}
+use Rattle.p3_field_core.specs.Index.{bit_reversed}
 use Rattle.p3_matrix.specs.Matrix.{rows}
 use Rattle.p3_matrix.specs.Rows.{rows_of}
 use Rattle.p3_matrix.proofs.Rows.{length-rows_of}

@@ -1,6 +1,6 @@
 use Rattle.std.proofs.Common.{◌≡◌, ◌-◌, ◌<◌, length, arith, sym, ap, ◌∙◌, subst, slice_index_or, []}
 use Rattle.std.specs.Int.{IsPowerOfTwo}
-use Rattle.p3_field.proofs.IndexPowers.{exponents_agree}
+use Rattle.p3_field_core.proofs.IndexPowers.{exponents_agree}
 use Rattle.p3_commit.specs.Batch.{max_height, HavePowerHeights, dimensions_of}
 use Rattle.p3_commit.specs.Digests.{IsTree}
 use Rattle.p3_commit.specs.Tree.{leaf_at, root_of}

@@ -1,5 +1,5 @@
 use Rattle.std.proofs.Common.{◌≡◌, ◌^◌, ◌<◌, sym, ap, ◌∙◌, subst, All, map}
-use Rattle.p3_field.proofs.IndexPowers.{exponents_agree}
+use Rattle.p3_field_core.proofs.IndexPowers.{exponents_agree}
 use Rattle.algebra.specs.Nested.{lists, nested}
 use Rattle.p3_commit.specs.Batch.{HavePowerHeights, dimensions_of, opened_rows}
 use Rattle.p3_commit.specs.Digests.{IsTree}

@@ -1,5 +1,5 @@
 use Rattle.std.proofs.Common.{map, ap, ◌∙◌, codes}
-use Rattle.p3_challenger.specs.Pattern.{step_of}
+use Rattle.p3_challenger_fs.specs.Pattern.{step_of}
 use Rattle.p3_challenger_fs.specs.declared.pattern.Hierarchy.TheVariants.{Begin, End}
 use Rattle.p3_fri_pcs_transcript.specs.Shapes.{pcs_shape}
 use Rattle.p3_fri_steps.specs.Steps.{challenge_step}

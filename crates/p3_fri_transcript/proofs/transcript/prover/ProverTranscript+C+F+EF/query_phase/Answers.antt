@@ -3,7 +3,7 @@ use Rattle.p3_challenger_fs.specs.declared.pattern.Hierarchy.TheVariants.{Atomic
 use Rattle.p3_challenger_fs.specs.declared.pattern.Kind.TheVariants.{Challenge}
 use Rattle.p3_challenger_fs.specs.declared.pattern.TypeTag.TheVariants.{Bits}
 use Rattle.p3_challenger_fs.specs.declared.pattern.Length.TheVariants.{Fixed}
-use Rattle.p3_challenger.specs.Run.{moves}
+use Rattle.p3_challenger_core.specs.Run.{moves}
 use Rattle.p3_fri_transcript.specs.Shapes.{fri_shape}
 use Rattle.p3_fri_transcript.proofs.Replays.{queries_are}
 use Rattle.p3_fri_steps.proofs.Turns.{next_of, rest_of}
