@@ -1,8 +1,8 @@
 pub use Rattle.p3_challenger_core.specs.Laws
 pub use Rattle.p3_challenger_core.specs.Run
-pub use Rattle.p3_challenger_core.specs.Sha256
-pub use Rattle.p3_challenger_core.specs.Sha256Laws
-pub use Rattle.p3_challenger_core.specs.declared.sha256_challenger
+pub use Rattle.p3_challenger_sha256.specs.Sha256
+pub use Rattle.p3_challenger_sha256.specs.Sha256Laws
+pub use Rattle.p3_challenger_sha256.specs.declared.sha256_challenger
 pub use Rattle.p3_challenger_fs.specs.Description
 pub use Rattle.p3_challenger_fs.specs.Driver
 pub use Rattle.p3_challenger_fs.specs.Pattern

@@ -1,17 +1,18 @@
 //! Challengers: where both sides of a protocol absorb what was sent and draw their challenges from,
-//! and `fs`, transcripts by description. All of it stands in two crates below, and has its names
+//! and `fs`, transcripts by description. All of it stands in three crates below, and has its names
 //! here.
 #![tactic(auto)]
 
 pub use p3_challenger_core::{
     CanObserve, CanSample, CanSampleBits, FieldChallenger, GrindingChallenger, Plays,
-    Sha256Challenger, field_challenger, grinding_challenger, observe, plays, sample,
-    sha256_challenger,
+    field_challenger, grinding_challenger, observe, plays, sample,
 };
 pub use p3_challenger_fs as fs;
+pub use p3_challenger_sha256::{Sha256Challenger, sha256_challenger};
 
 /// Laws of runs, of the SHA-256 challenger and of streams.
 pub mod laws {
-    pub use p3_challenger_core::laws::{run_law, sha256_challenger_law};
+    pub use p3_challenger_core::laws::run_law;
     pub use p3_challenger_fs::laws::seed_stream_law;
+    pub use p3_challenger_sha256::laws::sha256_challenger_law;
 }

@@ -1,4 +1,2 @@
 pub mod Laws
 pub mod Run
-pub mod Sha256
-pub mod Sha256Laws

@@ -6,7 +6,7 @@ ghost use Rattle.p3_challenger_core.specs.Run.{drawn_element, observed_all};
 
 use crate::observe::CanObserve;
 use crate::sample::{CanSample, CanSampleBits};
-use p3_field::{ExtensionField, Field};
+use p3_field_core::{ExtensionField, Field};
 
 /// A challenger that absorbs and draws elements of the field `F`, and so those of its extensions,
 /// which are their coefficients, that of one first.

@@ -10,11 +10,9 @@ pub mod laws;
 pub mod observe;
 pub mod plays;
 pub mod sample;
-pub mod sha256_challenger;
 
 pub use crate::field_challenger::FieldChallenger;
 pub use crate::grinding_challenger::GrindingChallenger;
 pub use crate::observe::CanObserve;
 pub use crate::plays::Plays;
 pub use crate::sample::{CanSample, CanSampleBits};
-pub use crate::sha256_challenger::Sha256Challenger;

@@ -4,7 +4,7 @@ ghost use Rattle.p3_challenger_core.specs.Run.{Moves, moves};
 
 use crate::field_challenger::FieldChallenger;
 use crate::observe::CanObserve;
-use p3_field::{ExtensionField, Field};
+use p3_field_core::{ExtensionField, Field};
 
 /// A challenger that absorbs values of `F` and commitments of `Com`, and draws elements of `EF` and
 /// numbers. Each has it; a contract takes the moves from here, as

@@ -3,11 +3,11 @@
 ghost use Rattle.std.specs.Prelude.{◌≡◌};
 ghost use Rattle.p3_field.specs.BabyBear4.{coefficients4};
 ghost use Rattle.p3_challenger_core.specs.Run.{observed_all};
-ghost use Rattle.p3_challenger_core.specs.Sha256.{absorbed, element_observed};
+ghost use Rattle.p3_challenger_sha256.specs.Sha256.{absorbed, element_observed};
 
 use super::Sha256Challenger;
-use crate::field_challenger::FieldChallenger;
-use crate::observe::CanObserve;
+use p3_challenger_core::field_challenger::FieldChallenger;
+use p3_challenger_core::observe::CanObserve;
 use p3_field::{BabyBear, BabyBear4, ElementBytes};
 
 /// An element of BabyBear: the four bytes of its canonical number, little endian, at once.

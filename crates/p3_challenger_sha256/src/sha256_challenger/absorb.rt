@@ -2,7 +2,7 @@
 
 ghost use Rattle.std.specs.Prelude.{◌≡◌, ◌++◌, ◌∷◌};
 ghost use Rattle.sha2.specs.Sha256.{sha256};
-ghost use Rattle.p3_challenger_core.specs.Sha256.{start, absorbed, stepped, drawn_number};
+ghost use Rattle.p3_challenger_sha256.specs.Sha256.{start, absorbed, stepped, drawn_number};
 
 use super::Sha256Challenger;
 use sha2::{Digest, Sha256};

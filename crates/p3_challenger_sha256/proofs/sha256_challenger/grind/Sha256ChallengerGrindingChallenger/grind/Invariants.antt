@@ -1,7 +1,7 @@
 use Rattle.std.proofs.Common.{◌≡◌, ◌<◌, ℕ, false}
 use Rattle.p3_field.specs.BabyBear.{element}
-use Rattle.p3_challenger_core.proofs.Grinds.{passes}
-use Rattle.p3_challenger_core.proofs.sha256_challenger.grind.Sha256ChallengerGrindingChallenger.grind.Given as goal
+use Rattle.p3_challenger_sha256.proofs.Grinds.{passes}
+use Rattle.p3_challenger_sha256.proofs.sha256_challenger.grind.Sha256ChallengerGrindingChallenger.grind.Given as goal
 
 abbrev pub invariant-loop-number : goal.invariant-loop-number
 invariant-loop-number l = record {

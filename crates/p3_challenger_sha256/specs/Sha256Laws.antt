@@ -1,8 +1,8 @@
 -- Laws of the SHA-256 challenger.
 use Rattle.std.specs.Prelude.{ℕ, ◌^◌, ◌<◌, ◌≤◌}
 use Rattle.std.proofs.Common.{mod-lt, pow_pos, lit<}
-use Rattle.p3_challenger_core.specs.declared.sha256_challenger.Sha256Challenger.{Sha256Challenger}
-use Rattle.p3_challenger_core.specs.Sha256.{drawn_number, bits_sampled}
+use Rattle.p3_challenger_sha256.specs.declared.sha256_challenger.Sha256Challenger.{Sha256Challenger}
+use Rattle.p3_challenger_sha256.specs.Sha256.{drawn_number, bits_sampled}
 
 pub max_small : 63 < 64
 max_small = lit< tt

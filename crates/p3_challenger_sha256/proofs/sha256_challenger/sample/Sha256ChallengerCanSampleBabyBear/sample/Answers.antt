@@ -2,7 +2,7 @@
 use Rattle.std.proofs.Common.{◌∙◌, ap}
 use Rattle.p3_field.specs.BabyBear.{element}
 use Rattle.p3_field.specs.BabyBearLaws.{multiple_is}
-use Rattle.p3_challenger_core.proofs.sha256_challenger.sample.Sha256ChallengerCanSampleBabyBear.sample.Goals as goal
+use Rattle.p3_challenger_sha256.proofs.sha256_challenger.sample.Sha256ChallengerCanSampleBabyBear.sample.Goals as goal
 
 pub returns-clause-value : goal.returns-clause-value
 returns-clause-value c = c.from_u64.ensures ∙ multiple_is c.draw.result

@@ -6,10 +6,10 @@ use Rattle.p3_field.specs.baby_bear.BabyBear.{BabyBear}
 use Rattle.p3_field.specs.BabyBear.{baby_bear, element}
 use Rattle.p3_field.specs.BabyBearLaws.{multiple_is, multiple_canonical}
 use Rattle.algebra.specs.Field.{multiple}
-use Rattle.p3_challenger_core.specs.declared.sha256_challenger.Sha256Challenger.{Sha256Challenger}
+use Rattle.p3_challenger_sha256.specs.declared.sha256_challenger.Sha256Challenger.{Sha256Challenger}
 use Rattle.p3_challenger_core.specs.Run.{grind_attempt, Passes}
-use Rattle.p3_challenger_core.specs.Sha256.{element_observed, bits_sampled, least_below}
-use Rattle.p3_challenger_core.specs.Sha256.{least_witness}
+use Rattle.p3_challenger_sha256.specs.Sha256.{element_observed, bits_sampled, least_below}
+use Rattle.p3_challenger_sha256.specs.Sha256.{least_witness}
 
 pub least_below-none : (n : ℕ) (test : ℕ → Bool) → ((k : ℕ) → k < n → test k ≡ false)
     → least_below n test ≡ None

@@ -7,7 +7,7 @@ use Rattle.sha2.specs.Sha256.{sha256}
 use Rattle.p3_field.specs.baby_bear.BabyBear.{BabyBear}
 use Rattle.p3_field.specs.BabyBear.{element, number_bytes}
 use Rattle.p3_challenger_core.specs.Run.{After, grind_attempt}
-use Rattle.p3_challenger_core.specs.declared.sha256_challenger.Sha256Challenger.{Sha256Challenger}
+use Rattle.p3_challenger_sha256.specs.declared.sha256_challenger.Sha256Challenger.{Sha256Challenger}
 
 -- 32 zero bytes
 abbrev pub start : Sha256Challenger

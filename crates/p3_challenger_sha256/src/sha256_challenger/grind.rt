@@ -4,10 +4,10 @@ ghost use Rattle.std.specs.Prelude.{◌≡◌, ◌<◌, ◌≤◌, ℕ, IfSome, 
 ghost use Rattle.p3_field.specs.baby_bear.BabyBear.{BabyBear};
 ghost use Rattle.p3_field.specs.BabyBear.{element};
 ghost use Rattle.p3_challenger_core.specs.Run.{grind_attempt, Passes};
-ghost use Rattle.p3_challenger_core.specs.Sha256.{element_observed, bits_sampled, least_witness};
+ghost use Rattle.p3_challenger_sha256.specs.Sha256.{element_observed, bits_sampled, least_witness};
 
 use super::Sha256Challenger;
-use crate::grinding_challenger::GrindingChallenger;
+use p3_challenger_core::grinding_challenger::GrindingChallenger;
 use p3_field::{BabyBear, PrimeField64};
 
 /// Witnesses are elements of BabyBear, tried in the order of their canonical numbers.

@@ -1,10 +1,10 @@
 use Rattle.std.proofs.Common.{◌≡◌, ◌%◌, Some, ap, refl, sym, ◌∙◌, arith}
 use Rattle.p3_field.specs.baby_bear.BabyBear.{BabyBear}
 use Rattle.p3_field.specs.BabyBearLaws.{canonical_multiple}
-use Rattle.p3_challenger_core.proofs.Grinds.{passes, fails_next, fails_element, first_at_no_bits}
-use Rattle.p3_challenger_core.proofs.Grinds.{first_element, state_at_no_bits, least_witness-none}
-use Rattle.p3_challenger_core.proofs.Grinds.{least_witness-found}
-use Rattle.p3_challenger_core.proofs.sha256_challenger.grind.Sha256ChallengerGrindingChallenger.grind.Goals as goal
+use Rattle.p3_challenger_sha256.proofs.Grinds.{passes, fails_next, fails_element, first_at_no_bits}
+use Rattle.p3_challenger_sha256.proofs.Grinds.{first_element, state_at_no_bits, least_witness-none}
+use Rattle.p3_challenger_sha256.proofs.Grinds.{least_witness-found}
+use Rattle.p3_challenger_sha256.proofs.sha256_challenger.grind.Sha256ChallengerGrindingChallenger.grind.Goals as goal
 
 pub returns-then-check_witness-clause-value : goal.returns-then-check_witness-clause-value
 returns-then-check_witness-clause-value c =

@@ -3,12 +3,12 @@
 ghost use Rattle.std.specs.Prelude.{◌≡◌};
 ghost use Rattle.p3_field.specs.BabyBear4.{of_coefficients4};
 ghost use Rattle.p3_challenger_core.specs.Run.{drawn_element};
-ghost use Rattle.p3_challenger_core.specs.Sha256.{element_sampled, bits_sampled};
-ghost use Rattle.p3_challenger_core.specs.Sha256Laws.{max_small, bits_below};
+ghost use Rattle.p3_challenger_sha256.specs.Sha256.{element_sampled, bits_sampled};
+ghost use Rattle.p3_challenger_sha256.specs.Sha256Laws.{max_small, bits_below};
 
 use super::Sha256Challenger;
-use crate::field_challenger::FieldChallenger;
-use crate::sample::{CanSample, CanSampleBits};
+use p3_challenger_core::field_challenger::FieldChallenger;
+use p3_challenger_core::sample::{CanSample, CanSampleBits};
 use p3_field::{BabyBear, BabyBear4, Field};
 
 /// An element of BabyBear: the drawn number modulo the order.

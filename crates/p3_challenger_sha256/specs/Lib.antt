@@ -1,0 +1,2 @@
+pub mod Sha256
+pub mod Sha256Laws
