@@ -18,8 +18,8 @@ ghost use Rattle.p3_fri_opening_prover.specs.Opening.{IsOpening, OpeningStops};
 ghost use Rattle.p3_fri_opening_prover.specs.Refusals.{LeavesState};
 
 use crate::words::prove_words;
-use p3_challenger_fs::Seed;
 use p3_challenger_core::{CanObserve, FieldChallenger, GrindingChallenger};
+use p3_challenger_fs::Seed;
 use p3_commit::{Mmcs, OpenedValues};
 use p3_field_core::{ExtensionField, TwoAdicField};
 use p3_fri_folding::{FriFoldingStrategy, FriParameters};

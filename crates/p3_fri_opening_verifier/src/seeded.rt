@@ -13,8 +13,8 @@ ghost use Rattle.p3_fri_relation.specs.Faults.{StandsInScheme};
 ghost use Rattle.p3_fri_relation.specs.Views.{parameters_of, claims_of, proof_of};
 ghost use Rattle.p3_fri_opening_verifier.specs.Ends.{last_state};
 
-use p3_challenger_fs::Seed;
 use p3_challenger_core::{CanObserve, FieldChallenger, GrindingChallenger};
+use p3_challenger_fs::Seed;
 use p3_commit::{CommitmentOpening, Mmcs};
 use p3_field_core::{ExtensionField, TwoAdicField, TwoAdicMultiplicativeCoset};
 use p3_fri_folding::{FriFoldingStrategy, FriParameters};

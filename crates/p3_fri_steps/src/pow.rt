@@ -10,8 +10,8 @@ ghost use Rattle.p3_fri_steps.specs.Pow.{NonePasses, IsMissing, IsWrong};
 
 use crate::error::FriProverError;
 use crate::pow_phase::PowPhase;
-use p3_challenger_fs::Script;
 use p3_challenger_core::{FieldChallenger, GrindingChallenger};
+use p3_challenger_fs::Script;
 use p3_field_core::Field;
 
 /// Makes the proof of work, of which there is none at no bits: answers what the challenger's search

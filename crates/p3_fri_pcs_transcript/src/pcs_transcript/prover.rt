@@ -16,8 +16,8 @@ ghost use Rattle.p3_fri_pcs_transcript.specs.Views.{state_of, left_of, shape_of,
 ghost use Rattle.p3_fri_pcs_transcript.specs.Views.{AllClaimsLeft, NoClaimsLeft};
 
 use crate::pcs_transcript::state::PcsProverTranscript;
-use p3_challenger_fs::Script;
 use p3_challenger_core::{FieldChallenger, GrindingChallenger, Plays};
+use p3_challenger_fs::Script;
 use p3_commit::OpenedValues;
 use p3_field_core::{ExtensionField, Field};
 use p3_fri_steps::pow::grind;

@@ -14,8 +14,8 @@ ghost use Rattle.p3_fri_prover.specs.Played.{CanPlay, IsPlayed, PlayRefusal};
 
 use crate::prover::last_word::final_polynomial;
 use crate::prover::rounds::{CommittedRounds, commit_rounds};
-use p3_challenger_fs::Seed;
 use p3_challenger_core::{CanObserve, FieldChallenger, GrindingChallenger, Plays};
+use p3_challenger_fs::Seed;
 use p3_commit::Mmcs;
 use p3_field_core::{ExtensionField, TwoAdicField};
 use p3_fri_folding::{FriFoldingStrategy, FriParameters};
