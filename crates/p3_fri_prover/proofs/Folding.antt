@@ -1,6 +1,6 @@
 -- A word as the rows of a round, and the word after the round.
-use Rattle.std.proofs.Common.{◌≡◌, ℕ, zero, suc, ◌+◌, ◌*◌, ◌/◌, ◌%◌, ◌^◌, ◌<◌, ◌≤◌, List, [], ◌∷◌}
-use Rattle.std.proofs.Common.{length, get_or, take, drop, ◌++◌, sym, ap, ◌∙◌, arith, pow_pos}
+use Rattle.std.proofs.Common.{◌≡◌, ℕ, zero, suc, ◌+◌, ◌/◌, ◌%◌, ◌^◌, ◌<◌, List, [], ◌∷◌}
+use Rattle.std.proofs.Common.{length, get_or, take, drop, ◌++◌, ap, ◌∙◌, arith, pow_pos}
 use Rattle.std.proofs.lemmas.Nat.{pow-add}
 use Rattle.std.proofs.Math.Nat.{mul-div_cancel, mul-mod_left}
 use Rattle.std.proofs.Math.Seq.{take-append_seam}
@@ -16,7 +16,6 @@ use Rattle.p3_matrix.proofs.Rows.{length-rows_of, get_or-rows_of, length-row_of}
 use Rattle.p3_commit.specs.Batch.{HavePowerHeights, dimensions_of}
 use Rattle.p3_fri_folding.specs.Strategy.{folded_rows}
 use Rattle.p3_fri_prover.specs.Inputs.{of_length, rolled_word}
-use Rattle.p3_fri_prover.specs.Rounds.{CanFold}
 
 -- how many rows a word has
 rows_in_word : (n h a : ℕ) → n ≡ 2 ^ (h + a) → n / 2 ^ a ≡ 2 ^ h
@@ -49,17 +48,6 @@ module _ {E : Type 0} (matrix : RowMajorMatrix E) where
   one_power_height h e (suc k) d l = absurd (omega (arith, l))
 
 -- rows that can be folded
-pub height_of_foldable : (n a most : ℕ) (f : CanFold a most (n * 2 ^ a)) → n ≡ 2 ^ f.height
-height_of_foldable n a most f =
-    sym (mul-div_cancel n (pow_pos a)) ∙ rows_in_word (n * 2 ^ a) f.height a f.length_of_word
-
-pub foldable_rows : (n h a most : ℕ) → n ≡ 2 ^ h → h + a ≤ most → CanFold a most (n * 2 ^ a)
-foldable_rows n h a most e l = record {
-  height = h;
-  length_of_word = ap (λ m. m * 2 ^ a) e ∙ sym (pow-add 2 h a);
-  within = l;
-}
-
 module _ {E : Type 0} (F : FieldOps E) (fold : ℕ → ℕ → ℕ → E → List E → E) (others : List (List E))
     (h a : ℕ) (beta : E) (ys : List E) (whole : length ys ≡ 2 ^ (h + a)) where
   abbrev this_round : Round E

@@ -2,6 +2,7 @@
 
 ghost use Rattle.std.specs.Prelude.{◌≡◌, ◌<◌, ◌≤◌, ◌+◌, ◌*◌, ◌^◌, ℕ, List};
 ghost use Rattle.std.specs.Prelude.{IfOk, IfErr, OnOk, length, vec_len};
+ghost use Rattle.std.specs.Int.{IsPowerOfTwo};
 ghost use Rattle.algebra.specs.Nested.{lists};
 ghost use Rattle.algebra.specs.Rounds.{after_round};
 ghost use Rattle.p3_matrix.specs.Matrix.{rows, matrix_width};
@@ -43,8 +44,9 @@ fn fold_leaves<F: TwoAdicField, EF: ExtensionField<F>, S: FriFoldingStrategy<F, 
 ) -> Result<Vec<EF>, AllocError>
     requires positive { 0 < log_arity }
     requires width { matrix_width leaves.now ≡ 2 ^ log_arity }
-    requires foldable { CanFold log_arity (S.max_log_height folding.now)
-        (length (rows leaves.now) * 2 ^ log_arity) }
+    requires power_of_two { IsPowerOfTwo (length (rows leaves.now)) }
+    requires within_max_height { (h : ℕ) → length (rows leaves.now) ≡ 2 ^ h →
+        h + log_arity ≤ S.max_log_height folding.now }
     ensures { IfOk result (λ folded. (h : ℕ) (word : List EF) →
         length word ≡ 2 ^ (h + log_arity) → rows leaves.now ≡ rows_of (2 ^ log_arity) word →
         folded.items ≡ after_round EF.ops (S.row_fold folding.now)

@@ -1,4 +1,4 @@
-use Rattle.std.proofs.Common.{◌≡◌, ◌^◌, length, sym, ap, ◌∙◌, subst, get_or, rules, unwrap_or}
+use Rattle.std.proofs.Common.{◌≡◌, ◌^◌, length, sym, ap, ◌∙◌, subst, get_or, rules, unwrap_or, arith}
 use Rattle.p3_matrix.specs.declared.dense.RowMajorMatrix.{RowMajorMatrix}
 use Rattle.p3_challenger_core.specs.Run.{moves}
 use Rattle.p3_fri_steps.specs.declared.error.FriProverError.{FriProverError}
@@ -8,7 +8,8 @@ use Rattle.p3_fri_transcript.specs.Views.{state_of, shape_of}
 use Rattle.p3_fri_prover.specs.Refusals.{RoundRefusal}
 use Rattle.p3_matrix.specs.Matrix.{rows}
 use Rattle.p3_matrix.specs.Rows.{rows_of}
-use Rattle.p3_fri_prover.proofs.Folding.{whole_rows, height_of_rows, one_power_height, foldable_rows}
+use Rattle.p3_fri_prover.proofs.Inputs.{same_power}
+use Rattle.p3_fri_prover.proofs.Folding.{whole_rows, height_of_rows, one_power_height}
 use Rattle.p3_fri_prover.proofs.prover.commit_phase.commit_round.Goals as goal
 
 pub new-leaves-requires-clause-whole_rows : goal.new-leaves-requires-clause-whole_rows
@@ -48,8 +49,8 @@ returns-in-Err-clause-refused g c =
       none_passes = c.in-Err.ensures.none_passes;
     })
 
-pub fold_leaves-requires-clause-foldable : goal.fold_leaves-requires-clause-foldable
-fold_leaves-requires-clause-foldable g c =
+pub fold_leaves-requires-clause-power_of_two : goal.fold_leaves-requires-clause-power_of_two
+fold_leaves-requires-clause-power_of_two g c =
     let f = c.requires.foldable in
     let a = c.args.log_arity in
     let ys = c.args.word.items in
@@ -61,8 +62,23 @@ fold_leaves-requires-clause-foldable g c =
     ap (λ (x : RowMajorMatrix _). length (rows x)) same
     ∙ ap length (c.new-leaves.ensures.rows ∙ ap (λ w. rows_of w ys) c.arity_of.ensures)
     ∙ height_of_rows a f.height ys (sym c.args.word.ok.0 ∙ f.length_of_word) in
-    foldable_rows (length (rows leaves)) f.height a
-    (g.S.FriFoldingStrategy.max_log_height c.args.folding.now) height f.within
+    (f.height, height)
+
+pub fold_leaves-requires-clause-within_max_height : goal.fold_leaves-requires-clause-within_max_height
+fold_leaves-requires-clause-within_max_height g c h e =
+    let f = c.requires.foldable in
+    let a = c.args.log_arity in
+    let ys = c.args.word.items in
+    let leaves = c.index-get_matrices-0.result in
+    let same : leaves ≡ c.new-leaves.result =
+    c.index-get_matrices-0.is ∙ ap (λ xs. get_or xs 0 leaves)
+    (c.get_matrices.ensures ∙ c.in_ok-commitment.ensures.matrices) in
+    let height : length (rows leaves) ≡ 2 ^ f.height =
+    ap (λ (x : RowMajorMatrix _). length (rows x)) same
+    ∙ ap length (c.new-leaves.ensures.rows ∙ ap (λ w. rows_of w ys) c.arity_of.ensures)
+    ∙ height_of_rows a f.height ys (sym c.args.word.ok.0 ∙ f.length_of_word) in
+    let one : h ≡ f.height = same_power h f.height (sym e ∙ height) in
+    omega (arith, one, f.within)
 
 pub returns-clause-round : goal.returns-clause-round
 returns-clause-round g c = λ h whole.

@@ -1,24 +1,8 @@
-use Rattle.std.proofs.Common.{◌≡◌, ◌^◌, sym, ap, ◌∙◌, arith, length}
+use Rattle.std.proofs.Common.{◌≡◌, ◌^◌, sym, ap, ◌∙◌, length}
 use Rattle.algebra.specs.Nested.{lists}
 use Rattle.p3_matrix.specs.Matrix.{rows}
-use Rattle.p3_fri_prover.proofs.Inputs.{same_power}
-use Rattle.p3_fri_prover.proofs.Folding.{height_of_foldable, height_of_rows, word_after, written}
+use Rattle.p3_fri_prover.proofs.Folding.{height_of_rows, word_after, written}
 use Rattle.p3_fri_prover.proofs.prover.commit_phase.fold_leaves.Goals as goal
-
-pub fold_matrix-requires-clause-power_of_two : goal.fold_matrix-requires-clause-power_of_two
-fold_matrix-requires-clause-power_of_two g c = (
-  c.requires.foldable.height,
-  height_of_foldable (length (rows c.args.leaves.now)) c.args.log_arity
-      (g.S.FriFoldingStrategy.max_log_height c.args.folding.now) c.requires.foldable,
-)
-
-pub fold_matrix-requires-clause-within_max_height : goal.fold_matrix-requires-clause-within_max_height
-fold_matrix-requires-clause-within_max_height g c = λ h e.
-    let f = c.requires.foldable in
-    let same : h ≡ f.height = same_power h f.height (sym e
-    ∙ height_of_foldable (length (rows c.args.leaves.now)) c.args.log_arity
-    (g.S.FriFoldingStrategy.max_log_height c.args.folding.now) f) in
-    omega (arith, same, f.within)
 
 pub returns : goal.returns
 returns g c = λ h word whole leaves.
