@@ -3,7 +3,7 @@
 ghost use Rattle.std.specs.Prelude.{◌<◌, ◌≤◌};
 
 use p3_field::{BabyBear, BabyBear4, Field, PrimeField64};
-use p3_fri_folding::{FriFoldingStrategy, TwoAdicFriFolding};
+use p3_fri_folding::{FoldTable, FriFoldingStrategy, TwoAdicFriFolding};
 use p3_matrix::RowMajorMatrix;
 use std::alloc::{AllocError, Global};
 use std::io;
@@ -35,6 +35,35 @@ fn folded(
     FriFoldingStrategy::<BabyBear, BabyBear4>::fold_matrix(
         &folding, alloc, beta, log_arity, &matrix,
     )
+}
+
+/// The same, one row after the other, with no lanes.
+fn folded_by_rows(
+    alloc: Global,
+    word: Vec<BabyBear4>,
+    log_size: usize,
+    log_arity: usize,
+    beta: BabyBear4,
+) -> Result<Vec<BabyBear4>, AllocError>
+    requires positive { 1 ≤ log_arity }
+    requires short { log_arity ≤ log_size }
+    requires low { log_size < 28 }
+{
+    let width = 1usize << log_arity;
+    let log_height = log_size - log_arity;
+    if word.len() % width != 0 {
+        return Ok(word);
+    }
+    let matrix = RowMajorMatrix::new(word, width);
+    if matrix.height() != 1 << log_height {
+        return Ok(matrix.into_values());
+    }
+    let table = FoldTable::<BabyBear, BabyBear4>::new(alloc, log_height, log_arity, beta)?;
+    let mut folds = Vec::with_capacity(alloc, matrix.height())?;
+    for i in 0..matrix.height() {
+        folds.push(table.fold_row(i, matrix.row(i)))?;
+    }
+    Ok(folds)
 }
 
 /// Folds the word by two, `log_arity` times.
@@ -83,6 +112,22 @@ fn timed_at_once(
     Ok((start.elapsed(rt)?.as_nanos(), folded))
 }
 
+/// The nanoseconds of one fold of log arity `log_arity` without lanes, and the word.
+fn timed_by_rows(
+    rt: &HostRuntime,
+    log_size: usize,
+    log_arity: usize,
+) -> io::Result<(u128, Vec<BabyBear4>)>
+    requires positive { 1 ≤ log_arity }
+    requires short { log_arity ≤ log_size }
+    requires low { log_size < 28 }
+{
+    let word = elements(rt.alloc(), 1 << log_size)?;
+    let start = Instant::now(rt)?;
+    let folded = folded_by_rows(rt.alloc(), word, log_size, log_arity, BabyBear4::GENERATOR)?;
+    Ok((start.elapsed(rt)?.as_nanos(), folded))
+}
+
 /// The nanoseconds of as many folds by two, and the word.
 fn timed_by_two(
     rt: &HostRuntime,
@@ -127,20 +172,24 @@ pub fn read(args: &[String]) -> Option<FoldSizes> {
 pub fn least(rt: &HostRuntime, sizes: FoldSizes) -> io::Result<()> {
     for log_arity in 1..4usize {
         let mut once = u128::MAX;
+        let mut rows = u128::MAX;
         let mut twos = u128::MAX;
         let mut same = true;
-        // One before and one after the other way, so that neither alone finds fresh memory.
+        // One before and one after the other ways, so that none alone finds fresh memory.
         for _ in 0..sizes.repeats {
             let (first, folded) = timed_at_once(rt, sizes.log_size, log_arity)?;
-            let (second, by_two) = timed_by_two(rt, sizes.log_size, log_arity)?;
-            let (third, _again) = timed_at_once(rt, sizes.log_size, log_arity)?;
-            once = once.min(first).min(third);
-            twos = twos.min(second);
-            same = same && folded == by_two;
+            let (second, by_rows) = timed_by_rows(rt, sizes.log_size, log_arity)?;
+            let (third, by_two) = timed_by_two(rt, sizes.log_size, log_arity)?;
+            let (fourth, _again) = timed_at_once(rt, sizes.log_size, log_arity)?;
+            once = once.min(first).min(fourth);
+            rows = rows.min(second);
+            twos = twos.min(third);
+            same = same && folded == by_two && folded == by_rows;
         }
         println!(rt;
-            "by {log_arity}: at once {} us, by two {} us, the same word: {same}",
+            "by {log_arity}: at once {} us, without lanes {} us, by two {} us, the same word: {same}",
             once / 1000,
+            rows / 1000,
             twos / 1000
         )?;
     }

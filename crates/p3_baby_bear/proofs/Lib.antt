@@ -1,2 +1,3 @@
 pub mod Factors
+pub mod LaneSteps
 pub mod QuarticSteps

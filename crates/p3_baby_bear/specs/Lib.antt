@@ -2,6 +2,8 @@ pub mod BabyBear
 pub mod BabyBearLaws
 pub mod BabyBear4
 pub mod BabyBear4Laws
+pub mod Lanes
+pub mod Lanes4
 pub use Rattle.algebra.specs.Field
 pub use Rattle.algebra.specs.PolynomialProduct
 pub use Rattle.algebra.specs.Primes

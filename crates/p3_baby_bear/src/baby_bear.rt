@@ -8,10 +8,12 @@ pub(crate) mod constants;
 mod factor;
 mod field;
 mod inverse;
+mod lanes;
 pub mod laws;
 mod two_adic;
 
 pub use self::factor::BabyBearFactor;
+pub use self::lanes::BabyBear8Lanes;
 
 /// An element of the prime field of 2013265921 elements, kept as its canonical number.
 #[derive(Clone, Copy, Debug, PartialEq, Eq)]

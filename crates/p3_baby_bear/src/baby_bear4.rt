@@ -4,8 +4,10 @@ mod arithmetic;
 mod bytes;
 mod extension;
 mod field;
+mod lanes;
 pub mod laws;
 
+pub use self::lanes::BabyBear4x8Lanes;
 use crate::baby_bear::BabyBear;
 
 /// An element of the extension of degree 4: a polynomial of degree below 4 over BabyBear, modulo

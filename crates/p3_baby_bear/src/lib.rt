@@ -5,5 +5,5 @@
 pub mod baby_bear;
 pub mod baby_bear4;
 
-pub use crate::baby_bear::{BabyBear, BabyBearFactor};
-pub use crate::baby_bear4::BabyBear4;
+pub use crate::baby_bear::{BabyBear, BabyBear8Lanes, BabyBearFactor};
+pub use crate::baby_bear4::{BabyBear4, BabyBear4x8Lanes};

@@ -11,7 +11,8 @@ pub mod laws;
 
 pub use p3_fri_folding::{
     FriFoldingStrategy, FriParameters, TwoAdicFriFolding, WithExtraBits,
-    compute_log_arity_for_round, fold_schedule, folding, is_strictly_falling, strategy,
+    compute_log_arity_for_round, fold_lanes, fold_schedule, folding, is_strictly_falling, lanes,
+    strategy,
 };
 pub use p3_fri_pcs_transcript::{PcsShape, pcs_transcript};
 pub use p3_fri_relation::proof;

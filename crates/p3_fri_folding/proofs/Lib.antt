@@ -1,3 +1,5 @@
+pub mod RowBlocks
 pub mod Fewest
 pub mod Halves
 pub mod Rounds
+pub mod Slopes

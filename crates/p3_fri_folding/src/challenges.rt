@@ -11,11 +11,13 @@ use p3_field_core::Field;
 pub(crate) struct Challenges<EF: Field> {
     beta: EF,
     rounds: usize,
-    first: EF::Prepared,
-    second: EF::Prepared,
+    second: EF,
     third: EF,
-    ghost first_is: { EF.factor_of first ≡ beta },
-    ghost second_is: { 1 < rounds → EF.factor_of second ≡ pow EF.ops beta 2 },
+    first_factor: EF::Prepared,
+    second_factor: EF::Prepared,
+    ghost first_is: { EF.factor_of first_factor ≡ beta },
+    ghost factor_is: { EF.factor_of second_factor ≡ second },
+    ghost second_is: { 1 < rounds → second ≡ pow EF.ops beta 2 },
     ghost third_is: { 2 < rounds → third ≡ pow EF.ops beta 4 },
 }
 
@@ -30,21 +32,34 @@ impl<EF: Field> Challenges<EF> {
         Self {
             beta,
             rounds,
-            first: beta.prepare(),
-            second: second.prepare(),
+            second,
             third,
+            first_factor: beta.prepare(),
+            second_factor: second.prepare(),
         }
     }
 
-    /// That of a round, the first of which is 0, as a factor.
-    pub(crate) fn of_round(&self, round: usize) -> EF::Prepared
+    /// That of a round, the first of which is 0.
+    pub(crate) fn of_round(&self, round: usize) -> EF
+        requires { round < self.now.rounds }
+        ensures { result ≡ pow EF.ops self.now.beta (2 ^ round) }
+    {
+        match round {
+            0 => self.beta,
+            1 => self.second,
+            _ => self.third.exp_power_of_2(round - 2),
+        }
+    }
+
+    /// The same as a factor.
+    pub(crate) fn factor_of_round(&self, round: usize) -> EF::Prepared
         requires { round < self.now.rounds }
         ensures { EF.factor_of result ≡ pow EF.ops self.now.beta (2 ^ round) }
     {
         match round {
-            0 => self.first,
-            1 => self.second,
-            _ => self.third.exp_power_of_2(round - 2).prepare(),
+            0 => self.first_factor,
+            1 => self.second_factor,
+            _ => self.of_round(round).prepare(),
         }
     }
 }

@@ -5,10 +5,13 @@ ghost use Rattle.algebra.specs.Folds.{fold_value, IsHalfInverse};
 ghost use Rattle.algebra.proofs.FoldedWords.{two_adic_lowers_degrees};
 ghost use Rattle.p3_fri_folding.specs.Rows.{StartsRow, AreFirstHalfInverses};
 
+use crate::blocks::fold_first_rows;
 use crate::challenges::Challenges;
 use crate::strategy::FriFoldingStrategy;
+use crate::table::FoldTable;
 use p3_field_core::{
-    ExtensionField, Field, TwoAdicField, bit_reversed_powers, log2_strict_usize, reverse_bits_len,
+    ExtensionField, Field, PackableExtension, PackableField, TwoAdicField, bit_reversed_powers,
+    log2_strict_usize, reverse_bits_len,
 };
 use p3_matrix::RowMajorMatrix;
 use std::alloc::{AllocError, Global};
@@ -26,8 +29,12 @@ pub struct TwoAdicFriFolding<InputProof, InputError>(pub PhantomData<(InputProof
 ///
 /// A row is that of a word in bit-reversed order: row `index` holds the neighbours from `index *
 /// 2^log_arity` on.
-impl<F: TwoAdicField, EF: ExtensionField<F>, InputProof, InputError> FriFoldingStrategy<F, EF>
-    for TwoAdicFriFolding<InputProof, InputError> {
+impl<
+    F: TwoAdicField + PackableField,
+    EF: PackableExtension<F>,
+    InputProof,
+    InputError,
+> FriFoldingStrategy<F, EF> for TwoAdicFriFolding<InputProof, InputError> {
     type InputProof = InputProof;
 
     type InputError = InputError;
@@ -76,21 +83,10 @@ impl<F: TwoAdicField, EF: ExtensionField<F>, InputProof, InputError> FriFoldingS
         matrix: &RowMajorMatrix<EF>,
     ) -> Result<Vec<EF>, AllocError> {
         let log_height = log2_strict_usize(matrix.height());
-        let challenges = Challenges::new(beta, log_arity);
-        let root = F::two_adic_generator(log_height + log_arity);
-        let root_inverse = root_inverse(root, log_height, log_arity);
-        let halves = half_inverses(alloc, root, log_height, log_arity)?;
-        let mut word = Vec::with_capacity(alloc, halves.len())?;
-        for (i, half_inverse) in halves.iter().enumerate() {
-            let row = matrix.row(i);
-            let (fold, _) = fold_halves::<F, EF>(
-                row,
-                log_arity,
-                *half_inverse,
-                root_inverse,
-                &challenges,
-            );
-            word.push(fold)?;
+        let table = FoldTable::<F, EF>::new(alloc, log_height, log_arity, beta)?;
+        let mut word = fold_first_rows(alloc, &table, matrix)?;
+        for i in word.len()..matrix.height() {
+            word.push(table.fold_row(i, matrix.row(i)))?;
         }
         Ok(word)
     }
@@ -119,7 +115,7 @@ fn fold_pair<F: TwoAdicField, EF: ExtensionField<F>>(
 ///
 /// It takes half the inverse of the first point of the row's first pair, and the inverse of the
 /// root whose order is the row's length. Later layers' inverses are squares of the first's.
-fn fold_halves<F: TwoAdicField, EF: ExtensionField<F>>(
+pub(crate) fn fold_halves<F: TwoAdicField, EF: ExtensionField<F>>(
     row: &[EF],
     log_arity: usize,
     half_inverse: F,
@@ -137,7 +133,7 @@ fn fold_halves<F: TwoAdicField, EF: ExtensionField<F>>(
         IsHalfInverse F.ops F.root i h result.1 }
 {
     let round = log_arity - 1;
-    let beta = challenges.of_round(round);
+    let beta = challenges.factor_of_round(round);
     if round == 0 {
         let fold = fold_pair::<F, EF>(half_inverse, beta, row[0], row[1]);
         return (fold, half_inverse);
@@ -153,7 +149,7 @@ fn fold_halves<F: TwoAdicField, EF: ExtensionField<F>>(
 
 /// The inverse of the root of unity of order `2^log_arity`, from the root of order `2^(log_height +
 /// log_arity)`: a power of it.
-fn root_inverse<F: TwoAdicField>(root: F, log_height: usize, log_arity: usize) -> F
+pub(crate) fn root_inverse<F: TwoAdicField>(root: F, log_height: usize, log_arity: usize) -> F
     requires positive { 1 ≤ log_arity }
     requires within_two_adicity { log_height + log_arity ≤ F.TWO_ADICITY }
     requires is_root { root ≡ F.root (log_height + log_arity) }
@@ -168,7 +164,12 @@ fn root_inverse<F: TwoAdicField>(root: F, log_height: usize, log_arity: usize) -
 
 /// Half the inverse of the first point of a row's first pair: since that point is a power of a root
 /// of unity, so is its inverse.
-fn half_inverse<F: TwoAdicField>(root: F, index: usize, log_height: usize, log_arity: usize) -> F
+pub(crate) fn half_inverse<F: TwoAdicField>(
+    root: F,
+    index: usize,
+    log_height: usize,
+    log_arity: usize,
+) -> F
     requires positive { 1 ≤ log_arity }
     requires within_word { index < 2 ^ log_height }
     requires within_two_adicity { log_height + log_arity ≤ F.TWO_ADICITY }
@@ -183,7 +184,7 @@ fn half_inverse<F: TwoAdicField>(root: F, index: usize, log_height: usize, log_a
 
 /// Half the inverse of the first point of each row's first pair, by one inversion and running
 /// products.
-fn half_inverses<F: TwoAdicField>(
+pub(crate) fn half_inverses<F: TwoAdicField>(
     alloc: Global,
     root: F,
     log_height: usize,

@@ -18,8 +18,8 @@ returns-then-round-eq0-clause-value g t c i h zero arity l b s =
     let F = g.F.Field.ops in
     let wK = λ (k : ℕ). g.EF.ExtensionField.lift (g.F.TwoAdicField.root k) in
     let row = c.args.row.now in
-    let beta : g.EF.Field.factor_of c.of_round-beta.result ≡ c.args.challenges.now.beta =
-    c.of_round-beta.ensures ∙ ap (λ k. pow K c.args.challenges.now.beta (2 ^ k)) c.if-round-eq0.true
+    let beta : g.EF.Field.factor_of c.factor_of_round-beta.result ≡ c.args.challenges.now.beta =
+    c.factor_of_round-beta.ensures ∙ ap (λ k. pow K c.args.challenges.now.beta (2 ^ k)) c.if-round-eq0.true
     ∙ pow-one K g.met.EF.Field.laws.ring c.args.challenges.now.beta in
     let two : row ≡ c.index-row-0.result ∷ c.index-row-1.result ∷ [] =
     two_entries row c.index-row-0.result c.index-row-1.result (c.requires.width ∙ ap (λ n. 2 ^ n) arity) c.index-row-0.is c.index-row-1.is in
@@ -58,8 +58,8 @@ returns-clause-value g t c i h (suc a) arity l b s =
     let beta = c.args.challenges.now.beta in
     let long : length row ≡ 2 ^ suc (suc a) = c.requires.width ∙ ap (λ n. 2 ^ n) arity in
     let middle : length row / 2 ≡ 2 ^ suc a = omega (arith, long, double (suc a)) in
-    let challenge : g.EF.Field.factor_of c.of_round-beta.result ≡ pow K beta (2 ^ suc a) =
-    c.of_round-beta.ensures ∙ ap (λ k. pow K beta (2 ^ k)) (omega (arith, arity)) in
+    let challenge : g.EF.Field.factor_of c.factor_of_round-beta.result ≡ pow K beta (2 ^ suc a) =
+    c.factor_of_round-beta.ensures ∙ ap (λ k. pow K beta (2 ^ k)) (omega (arith, arity)) in
     let second = g.met.F.Field.mul_law c.args.half_inverse c.args.root_inverse c.mul-middle.result c.mul-middle.ensures in
     let left : c.fold_halves-left.result.0 ≡ fold_value K wK (i + i) (suc h) (suc a) beta (take (2 ^ suc a) row) =
     c.fold_halves-left.ensures.value (i + i) (suc h) a (omega (arith, arity)) (omega (arith, l, double h)) (omega (arith, b))

@@ -24,6 +24,7 @@ invariant_of-result g c =
     ] in
     record {
       first_is = c.prepare.ensures;
-      second_is = λ l. c.prepare-2.ensures ∙ square l;
+      factor_is = c.prepare-2.ensures;
+      second_is = square;
       third_is = fourth;
     }

@@ -8,7 +8,7 @@ pub returns-in-0 : goal.returns-in-0
 returns-in-0 g c =
     let K = g.EF.Field.ops in
     let beta = c.args.self.now.beta in
-    c.args.self.now.first_is ∙ sym (pow-one K g.met.EF.Field.laws.ring beta)
+    sym (pow-one K g.met.EF.Field.laws.ring beta)
     ∙ ap (λ k. pow K beta (2 ^ k)) (sym c.in-0.is)
 
 pub returns-in_default : goal.returns-in_default
@@ -17,7 +17,7 @@ returns-in_default g c =
     let beta = c.args.self.now.beta in
     let later = c.args.round - 2 in
     let round : later + 2 ≡ c.args.round = omega (arith, c.in_default) in
-    c.prepare.ensures ∙ c.exp_power_of_2.ensures
+    c.exp_power_of_2.ensures
     ∙ ap (λ x. pow K x (2 ^ later)) (c.args.self.now.third_is (omega (arith, round, c.requires)))
     ∙ sym (pow-mul K g.met.EF.Field.laws.ring beta (2 ^ later) 4)
     ∙ ap (λ n. pow K beta n) (sym (pow-add 2 later 2) ∙ ap (λ k. 2 ^ k) round)

@@ -1,0 +1,49 @@
+//! The field is a packing of itself.
+
+ghost use Rattle.std.specs.Prelude.{◌<◌};
+ghost use Rattle.std.proofs.Common.{lit<};
+
+use super::OneLane;
+use p3_field::{PackableField, PackedField};
+
+impl PackedField<OneLane> for OneLane {
+    ghost WIDTH = { 1 };
+
+    const WIDTH: usize = 1;
+
+    ghost lane = { λ x _. x };
+
+    fn broadcast(value: OneLane) -> OneLane {
+        value
+    }
+
+    fn with_lane(self, index: usize, value: OneLane) -> OneLane {
+        value
+    }
+
+    fn lane(self, index: usize) -> OneLane {
+        self
+    }
+
+    ghost width_law = { lit< tt };
+
+    ghost can_add_law = { λ _ _. tt };
+
+    ghost add_law = { λ a b r h _ _. h };
+
+    ghost can_sub_law = { λ _ _. tt };
+
+    ghost sub_law = { λ a b r h _ _. h };
+
+    ghost can_mul_law = { λ _ _. tt };
+
+    ghost mul_law = { λ a b r h _ _. h };
+
+    ghost can_neg_law = { λ _. tt };
+
+    ghost neg_law = { λ a r h _ _. h };
+}
+
+impl PackableField for OneLane {
+    type Packing = OneLane;
+}
