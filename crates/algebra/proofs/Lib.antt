@@ -3,7 +3,9 @@ pub mod Ring
 pub mod Combine
 pub mod Powers
 pub mod Lists
+pub mod Growing
 pub mod Values
+pub mod Horner
 pub mod Division
 pub mod Roots
 pub mod Interpolation

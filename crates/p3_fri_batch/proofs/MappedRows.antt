@@ -2,7 +2,7 @@
 use Rattle.std.proofs.Common.{◌≡◌, ◌<◌, ◌+◌, ℕ, List, [], ◌∷◌, ◌++◌, length, map, take, get_or}
 use Rattle.std.proofs.Common.{ap, ◌∙◌}
 use Rattle.std.proofs.lemmas.List.{get_or_default}
-use Rattle.p3_fri_openings.proofs.Pushed.{mapped_next}
+use Rattle.algebra.proofs.Growing.{mapped_next}
 
 module _ {A B : Type 0} (f : List A → B) (rows : List (List A)) where
   -- one row more, read with no row as the default

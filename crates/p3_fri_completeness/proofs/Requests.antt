@@ -18,7 +18,8 @@ use Rattle.p3_pcs.specs.Requests.{Request, AreOpenable, AreHonest, honest_claims
 use Rattle.p3_fri_relation.specs.Setting.{Fields, Parameters, CommitmentClaim, Opening}
 use Rattle.p3_fri_relation.specs.Setting.{InputOpening}
 use Rattle.p3_fri_openings.specs.Rounds.{log_height, HasCoset, ask}
-use Rattle.p3_fri_openings.specs.Refusals.{IsTallEnough, AreTallEnough, IsOff, HasPointsOff}
+use Rattle.p3_fri_relation.specs.TallEnough.{IsTallEnough}
+use Rattle.p3_fri_openings.specs.Refusals.{AreTallEnough, IsOff, HasPointsOff}
 use Rattle.p3_fri_openings.specs.Committed.{committed_values}
 use Rattle.p3_fri_openings.proofs.Log2.{log2_is, pow-divided}
 use Rattle.p3_fri_batch.specs.Words.{Opened, IsOpenedWord, claim_at}

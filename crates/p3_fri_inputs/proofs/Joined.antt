@@ -4,22 +4,14 @@ use Rattle.std.proofs.Common.{length, map, get_or, refl, sym, ap, ap₂, ◌∙�
 use Rattle.std.specs.List.{flat_map, between}
 use Rattle.std.proofs.Math.Seq.{drop-cons}
 use Rattle.std.proofs.lemmas.Grind.{flat_map-append}
-use Rattle.std.proofs.lemmas.List.{take_more, take-append-drop, take_at, drop_at, append-nil}
-use Rattle.std.proofs.lemmas.List.{map-append}
+use Rattle.std.proofs.lemmas.List.{take-append-drop, take_at, drop_at, map-append}
+use Rattle.algebra.proofs.Growing.{joined_next}
 
 module _ {X Y : Type 0} (f : X → List Y) where
-  -- one part more
-  pub joined_next : (xs : List X) (i : ℕ) (x : X) → i < length xs → x ≡ get_or xs i x
-      → flat_map f (take (i + 1) xs) ≡ flat_map f (take i xs) ++ f x
-  joined_next xs i x l is =
-      ap (λ ys. flat_map f ys) (take_more xs i x l)
-      ∙ flat_map-append f (take i xs) (get_or xs i x ∷ [])
-      ∙ ap (λ ys. flat_map f (take i xs) ++ ys) (append-nil (f (get_or xs i x)) ∙ ap f (sym is))
-
   pub length-joined_next : (xs : List X) (i : ℕ) (x : X) → i < length xs → x ≡ get_or xs i x
       → length (flat_map f (take (i + 1) xs)) ≡ length (flat_map f (take i xs)) + length (f x)
   length-joined_next xs i x l is =
-      ap length (joined_next xs i x l is) ∙ length-append (flat_map f (take i xs)) (f x)
+      ap length (joined_next f xs i x l is) ∙ length-append (flat_map f (take i xs)) (f x)
 
   -- the parts before one, it, and those after it
   pub joined_around : (xs : List X) (i : ℕ) (x : X) → i < length xs → x ≡ get_or xs i x

@@ -6,7 +6,6 @@ pub mod Reading
 pub mod Places
 pub mod LogHeights
 pub mod Refutations
-pub mod Steps
 pub mod Assembly
 pub mod Opened
 pub mod Queries

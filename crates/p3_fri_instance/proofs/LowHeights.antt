@@ -12,23 +12,8 @@ use Rattle.p3_fri_folding.proofs.Rounds.{schedule-nil, schedule-low}
 use Rattle.p3_fri_folding.proofs.Fewest.{schedule-leads_down}
 use Rattle.p3_fri_relation.specs.FoldedQuery.{reaches}
 use Rattle.p3_fri_relation.specs.Faults.{IsUnmet, IsUnconsumed}
+use Rattle.p3_fri_relation.proofs.ScheduledRounds.{reaches-from, last_stop}
 use Rattle.p3_fri_instance.specs.Claimed.{IsFirstBelow}
-
--- rounds that lead to a lower height fold to it
-reaches-from : (rounds : List ℕ) (top k : ℕ) → k < top → Reaches top rounds k → reaches rounds top k ≡ true
-reaches-from [] top k below (zero, leads) = absurd (omega (arith, leads))
-reaches-from [] top k below (suc n, leads) = absurd (omega (arith, leads))
-reaches-from (a ∷ rounds) top k below (zero, leads) = absurd (omega (arith, leads))
-reaches-from (a ∷ rounds) top k below (suc n, leads) =
-    let parts = sum_by-cons (λ r. r) a (take n rounds) in
-    elim (leb_tells (top - a) k) [
-      | inl w ↦ (let there : top - a ≡ k = (let high = w.1 in omega (arith, leads, parts)) in rw (eq-eqb (top - a) k there) refl)
-      | inr w ↦ rw (reaches-from rounds (top - a) k w.1 (n, (let low = w.1 in omega (arith, leads, parts)))) (or-true (eqb (top - a) k))
-    ]
-  where
-    or-true : (p : Bool) → (p || true) ≡ true
-    or-true true = refl
-    or-true false = refl
 
 -- to a height below their end they don't fold
 reaches-past : (rounds : List ℕ) (top k : ℕ) → k + sum rounds < top → reaches rounds top k ≡ false
@@ -51,10 +36,6 @@ each_from_stops P (h ∷ hs) final of_stops of_final = elim (leb_tells h final) 
       All-cons (λ k. final ≤ k → P k) h hs (λ up. All-head P h (stops_below hs final) listed)
       (each_from_stops P hs final (All-tail P h (stops_below hs final) listed) of_final))
 ]
-
-last_stop : (P : ℕ → Type 0) (xs : List ℕ) (final : ℕ) → All P (xs ++ final ∷ []) → P final
-last_stop P [] final each = All-head P final [] each
-last_stop P (x ∷ xs) final each = last_stop P xs final (All-tail P x (xs ++ final ∷ []) each)
 
 falling_below : (top : ℕ) (hs : List ℕ) → FallsFrom top hs → All (λ h. h < top) hs
 falling_below top [] falls = All-nil (λ h. h < top)

@@ -21,7 +21,8 @@ use Rattle.p3_fri_openings.specs.Requests.{round_request, matrices_request}
 use Rattle.p3_fri_openings.specs.Rounds.{HasCoset, IsRound, ask, log_height}
 use Rattle.p3_fri_openings.specs.Refusals.{AreTallEnough, ArePointsOff, HasPointsOff}
 use Rattle.p3_fri_openings.specs.First.{FirstAt}
-use Rattle.p3_fri_openings.specs.Refusals.{HeightRefusal, RoundHeightRefusal, RoundPointRefusal}
+use Rattle.p3_fri_relation.specs.TallEnough.{HeightRefusal}
+use Rattle.p3_fri_openings.specs.Refusals.{RoundHeightRefusal, RoundPointRefusal}
 use Rattle.p3_fri_openings.specs.Refusals.{IsFirstPoint}
 use Rattle.p3_fri_openings.proofs.Tables.{map_twice}
 use Rattle.p3_fri_batch.specs.Rounds.{opened_of}

@@ -14,7 +14,8 @@ use Rattle.p3_pcs.specs.Claims.{both}
 use Rattle.p3_fri_relation.specs.Setting.{Parameters}
 use Rattle.p3_fri_openings.specs.declared.round.OpeningRound.{OpeningRound}
 use Rattle.p3_fri_openings.specs.Rounds.{HasCoset, IsRound, ask, log_height}
-use Rattle.p3_fri_openings.specs.Refusals.{IsTallEnough, AreTallEnough}
+use Rattle.p3_fri_relation.specs.TallEnough.{IsTallEnough}
+use Rattle.p3_fri_openings.specs.Refusals.{AreTallEnough}
 use Rattle.p3_fri_openings.proofs.Log2.{pow-log2}
 use Rattle.p3_fri_batch.specs.Words.{Opened}
 use Rattle.p3_fri_batch.specs.Rounds.{HasValues, HaveValues, opened_at, opened_in, opened_of}

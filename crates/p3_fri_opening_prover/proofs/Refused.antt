@@ -10,7 +10,7 @@ use Rattle.p3_fri_steps.specs.declared.pow_phase.PowPhase.TheVariants.{Batch, Co
 use Rattle.p3_fri_relation.specs.Setting.{Setting, Parameters}
 use Rattle.p3_fri_batch.specs.Words.{Opened}
 use Rattle.p3_fri_prover.specs.Prover.{ProverRefusal}
-use Rattle.p3_fri_prover.specs.Refusals.{IsTallEnough}
+use Rattle.p3_fri_relation.specs.TallEnough.{IsTallEnough}
 use Rattle.p3_fri_opening_prover.specs.Opening.{StopsInTest, OpeningStops}
 use Rattle.p3_fri_opening_prover.specs.Refusals.{LeavesState}
 

@@ -7,7 +7,7 @@ use Rattle.p3_fri_openings.specs.Refusals.{AreTallEnough}
 use Rattle.p3_fri_batch.specs.Words.{Opened}
 use Rattle.p3_fri_batch.specs.Rounds.{opened_of}
 use Rattle.p3_fri_prover.specs.Inputs.{HaveHeights, AreInputs}
-use Rattle.p3_fri_prover.specs.Refusals.{IsTallEnough}
+use Rattle.p3_fri_relation.specs.TallEnough.{IsTallEnough}
 use Rattle.p3_fri_opening_prover.specs.Opening.{heights, top, words}
 use Rattle.p3_fri_opening_prover.proofs.Matrices.{opened_cosets, opened_tall}
 use Rattle.p3_fri_opening_prover.proofs.Tallest.{words_have, words_are_inputs, tallest_within}

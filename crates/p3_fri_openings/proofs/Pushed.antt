@@ -1,50 +1,12 @@
--- Lists that grow by an element or by a part at each step, and what holds of all their elements.
-use Rattle.std.proofs.Common.{◌≡◌, ℕ, ◌+◌, ◌<◌, ◌≤◌, List, [], ◌∷◌, ◌++◌, take, length, map, get_or}
-use Rattle.std.proofs.Common.{All}
-use Rattle.std.proofs.Common.{sym, ap, ◌∙◌, append_assoc, arith}
+-- What holds of all elements of a list.
+use Rattle.std.proofs.Common.{◌≡◌, ℕ, ◌+◌, ◌<◌, List, [], ◌∷◌, ◌++◌, take, length, map, get_or, All}
+use Rattle.std.proofs.Common.{arith}
 use Rattle.std.specs.List.{flat_map}
-use Rattle.std.proofs.lemmas.List.{take_more, map-append, take_all, append-nil}
+use Rattle.std.proofs.lemmas.List.{take_all}
 use Rattle.std.proofs.lemmas.List.Elements.{All-nil, All-head, All-tail, All-cons, All-append}
 use Rattle.std.proofs.lemmas.List.Elements.{All-weaker}
 use Rattle.p3_fri_openings.specs.Sums.{StartsWith}
 use Rattle.p3_fri_openings.proofs.First.{one_more}
-
-module _ {A B : Type 0} (f : A → B) (ys : List A) where
-  pub mapped_next : (k : ℕ) (y : A) (start old new : List B) → k < length ys → y ≡ get_or ys k y
-      → old ≡ start ++ map f (take k ys) → new ≡ old ++ f y ∷ []
-      → new ≡ start ++ map f (take (k + 1) ys)
-  mapped_next k y start old new l is so_far grown =
-      grown ∙ ap (λ xs. xs ++ f y ∷ []) so_far
-      ∙ append_assoc start (map f (take k ys)) (f y ∷ [])
-      ∙ ap (λ z. start ++ (map f (take k ys) ++ f z ∷ [])) is
-      ∙ ap (λ xs. start ++ xs)
-      (sym (ap (λ xs. map f xs) (take_more ys k y l)
-      ∙ map-append f (take k ys) (get_or ys k y ∷ [])))
-
-  pub mapped_end : (k : ℕ) (start xs : List B) → length ys ≤ k → xs ≡ start ++ map f (take k ys)
-      → xs ≡ start ++ map f ys
-  mapped_end k start xs l e = e ∙ ap (λ zs. start ++ map f zs) (take_all k ys l)
-
-flat_map-last : {A B : Type 0} (f : A → List B) (xs : List A) (x : A) → flat_map f (xs ++ x ∷ [])
-    ≡ flat_map f xs ++ f x
-flat_map-last f [] x = append-nil (f x)
-flat_map-last f (y ∷ xs) x =
-    ap (λ zs. f y ++ zs) (flat_map-last f xs x) ∙ sym (append_assoc (f y) (flat_map f xs) (f x))
-
-module _ {A B : Type 0} (f : A → List B) (ys : List A) where
-  pub joined_next : (k : ℕ) (y : A) (start old new : List B) → k < length ys → y ≡ get_or ys k y
-      → old ≡ start ++ flat_map f (take k ys) → new ≡ old ++ f y
-      → new ≡ start ++ flat_map f (take (k + 1) ys)
-  joined_next k y start old new l is so_far grown =
-      grown ∙ ap (λ xs. xs ++ f y) so_far ∙ append_assoc start (flat_map f (take k ys)) (f y)
-      ∙ ap (λ z. start ++ (flat_map f (take k ys) ++ f z)) is
-      ∙ ap (λ xs. start ++ xs)
-      (sym (ap (λ xs. flat_map f xs) (take_more ys k y l)
-      ∙ flat_map-last f (take k ys) (get_or ys k y)))
-
-  pub joined_end : (k : ℕ) (start xs : List B) → length ys ≤ k
-      → xs ≡ start ++ flat_map f (take k ys) → xs ≡ start ++ flat_map f ys
-  joined_end k start xs l e = e ∙ ap (λ zs. start ++ flat_map f zs) (take_all k ys l)
 
 -- a property that weakens as the list is gone through
 pub weaker_next : {A : Type 0} (P Q : A → Type 0) (xs : List A) (i : ℕ) (x : A) → i < length xs

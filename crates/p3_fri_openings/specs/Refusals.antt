@@ -1,40 +1,25 @@
 -- Why a prover refuses to open: heights, and points in the evaluation coset.
-use Rattle.std.specs.Prelude.{◌≡◌, ◌<◌, ◌≤◌, ◌^◌, ℕ, List, All}
+use Rattle.std.specs.Prelude.{◌≡◌, ℕ, List, All}
 use Rattle.algebra.specs.Cosets.{IsOnCoset, IsOffCoset}
 use Rattle.p3_fri_steps.specs.declared.error.FriProverError.{FriProverError}
-use Rattle.p3_fri_steps.specs.declared.error.FriProverError.TheVariants.{InputHeightTooSmall}
-use Rattle.p3_fri_steps.specs.declared.error.FriProverError.TheVariants.{FinalHeightOverflow}
 use Rattle.p3_fri_steps.specs.declared.error.FriProverError.TheVariants.{PointInEvaluationDomain}
 use Rattle.p3_matrix.specs.declared.dense.RowMajorMatrix.{RowMajorMatrix}
-use Rattle.p3_fri_relation.specs.Setting.{Fields, Parameters, final_height}
+use Rattle.p3_fri_relation.specs.TallEnough.{IsTallEnough, HeightRefusal}
+use Rattle.p3_fri_relation.specs.Setting.{Fields, Parameters}
 use Rattle.p3_fri_openings.specs.declared.round.OpeningRound.{OpeningRound}
 use Rattle.p3_fri_openings.specs.First.{FirstAt}
 use Rattle.p3_fri_openings.specs.Rounds.{Asked, asked_in, log_height}
 
-module _ (p : Parameters) where
-  -- a matrix of this log height can be opened: a final polynomial that isn't constant is sent only
-  -- of a taller word than its own
-  abbrev pub IsTallEnough : (h : ℕ) → Type 0
-  IsTallEnough h = 0 < p.log_final_poly_len → final_height p < h
+module _ (p : Parameters) {F : Type 0} where
+  abbrev pub AreTallEnough : List (RowMajorMatrix F) → Type 0
+  AreTallEnough matrices = All (λ m. IsTallEnough p (log_height m)) matrices
 
-  -- why one of this log height is refused
-  abbrev pub HeightRefusal : (h : ℕ) → FriProverError → Type 0
-  HeightRefusal h (InputHeightTooSmall log_input_height log_final_height) =
-      (0 < p.log_final_poly_len) × (h ≤ final_height p)
-      × (log_input_height ≡ h) × (log_final_height ≡ final_height p)
-  HeightRefusal h FinalHeightOverflow = (0 < p.log_final_poly_len) × (2 ^ 64 ≤ final_height p)
-  HeightRefusal h _ = ⊥
-
-  module _ {F : Type 0} where
-    abbrev pub AreTallEnough : List (RowMajorMatrix F) → Type 0
-    AreTallEnough matrices = All (λ m. IsTallEnough (log_height m)) matrices
-
-    -- why a round is refused: by the first of its matrices that is too low
-    pub record RoundHeightRefusal (e : FriProverError) (matrices : List (RowMajorMatrix F)) : Type 0
-      where
-        pub matrix : ℕ
-        pub first : FirstAt (λ m. IsTallEnough (log_height m)) (λ m. HeightRefusal (log_height m) e)
-            matrices matrix
+  -- why a round is refused: by the first of its matrices that is too low
+  pub record RoundHeightRefusal (e : FriProverError) (matrices : List (RowMajorMatrix F)) : Type 0
+    where
+      pub matrix : ℕ
+      pub first : FirstAt (λ m. IsTallEnough p (log_height m))
+          (λ m. HeightRefusal p (log_height m) e) matrices matrix
 
 module _ {F E : Type 0} (f : Fields F E) where
   -- `z` lies in the evaluation coset of log height `h`, or doesn't

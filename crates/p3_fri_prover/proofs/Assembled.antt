@@ -22,7 +22,7 @@ use Rattle.p3_fri_prover.specs.Openings.{index_into, OpensRows}
 use Rattle.p3_fri_prover.specs.Played.{IsPlayed}
 use Rattle.p3_fri_prover.specs.Proved.{log_arities, fri_numbers, replayed, positions}
 use Rattle.p3_fri_prover.specs.Proved.{AreLow, EndsAtFinalValue, IsProved}
-use Rattle.p3_fri_prover.specs.Refusals.{IsTallEnough}
+use Rattle.p3_fri_relation.specs.TallEnough.{IsTallEnough}
 use Rattle.p3_fri_prover.specs.Rounds.{KeepWords, AreCommitted}
 use Rattle.p3_fri_prover.proofs.Ways.{words, siblings_in}
 use Rattle.p3_fri_prover.proofs.Committed.{word_so_far}

@@ -16,7 +16,7 @@ use Rattle.p3_fri_prover.specs.Inputs.{HaveHeights, AreInputs}
 use Rattle.p3_fri_prover.specs.Openings.{index_into, OpensRows}
 use Rattle.p3_fri_prover.specs.Played.{IsPlayed}
 use Rattle.p3_fri_prover.specs.Proved.{log_arities, fri_numbers, positions, IsProved}
-use Rattle.p3_fri_prover.specs.Refusals.{IsTallEnough}
+use Rattle.p3_fri_relation.specs.TallEnough.{IsTallEnough}
 use Rattle.p3_fri_prover.proofs.Replayed.{replayed_positions}
 use Rattle.p3_fri_prover.proofs.Assembled.{is_proved}
 

@@ -10,7 +10,7 @@ use Rattle.p3_fri_prover.specs.Inputs.{HaveHeights, AreInputs}
 use Rattle.p3_fri_prover.specs.Openings.{IsOpenable}
 use Rattle.p3_fri_prover.specs.Played.{CanPlay, IsPlayed}
 use Rattle.p3_fri_prover.specs.Proved.{log_arities, fri_numbers}
-use Rattle.p3_fri_prover.specs.Refusals.{IsTallEnough}
+use Rattle.p3_fri_relation.specs.TallEnough.{IsTallEnough}
 use Rattle.p3_fri_prover.proofs.Inputs.{some_word, first_word}
 use Rattle.p3_fri_prover.proofs.Schedules.{arities_positive, arities_below_64, arities_playable}
 use Rattle.p3_fri_prover.proofs.Schedules.{final_polynomial_within}

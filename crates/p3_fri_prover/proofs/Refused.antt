@@ -10,7 +10,8 @@ use Rattle.p3_fri_relation.specs.Setting.{Setting, Parameters}
 use Rattle.p3_fri_prover.specs.Played.{PlayRefusal}
 use Rattle.p3_fri_prover.specs.Proved.{fri_numbers}
 use Rattle.p3_fri_prover.specs.Prover.{ProverRefusal, IsForHeight}
-use Rattle.p3_fri_prover.specs.Refusals.{IsTallEnough, HeightsRefusal}
+use Rattle.p3_fri_relation.specs.TallEnough.{IsTallEnough}
+use Rattle.p3_fri_prover.specs.Refusals.{HeightsRefusal}
 
 module _ {F E C Com Data Path InCom InPath : Type 0} (s : Setting F E C Com Path InCom InPath)
     (committed : Data → List (RowMajorMatrix E)) (commitment_of : Data → Com) (p : Parameters)

@@ -10,7 +10,7 @@ use Rattle.p3_fri_folding.proofs.Rounds.{schedule-nil, schedule-low}
 use Rattle.p3_fri_folding.proofs.Fewest.{schedule-in_range, schedule-leads_down}
 use Rattle.p3_fri_relation.specs.Setting.{Parameters, final_height}
 use Rattle.p3_fri_prover.specs.Proved.{log_arities}
-use Rattle.p3_fri_prover.specs.Refusals.{IsTallEnough}
+use Rattle.p3_fri_relation.specs.TallEnough.{IsTallEnough}
 use Rattle.p3_fri_prover.specs.Rounds.{CanFold}
 use Rattle.p3_fri_prover.specs.Played.{CanPlay}
 

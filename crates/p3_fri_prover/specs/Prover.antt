@@ -9,7 +9,8 @@ use Rattle.p3_fri_transcript.specs.Steps.{fri_stream}
 use Rattle.p3_fri_relation.specs.Setting.{Setting, Parameters}
 use Rattle.p3_fri_prover.specs.Played.{PlayRefusal}
 use Rattle.p3_fri_prover.specs.Proved.{fri_numbers}
-use Rattle.p3_fri_prover.specs.Refusals.{IsTallEnough, HeightsRefusal}
+use Rattle.p3_fri_relation.specs.TallEnough.{IsTallEnough}
+use Rattle.p3_fri_prover.specs.Refusals.{HeightsRefusal}
 
 -- the parameters are in a prover's range: the log blowup is below 64, a round's arity may be more
 -- than one, and the challenger draws as many bits at once as an index has in a field of this

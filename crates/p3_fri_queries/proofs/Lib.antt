@@ -1,5 +1,4 @@
 pub mod Gains
-pub mod Horner
 pub mod Lengths
 pub mod Queries
 pub mod Turns

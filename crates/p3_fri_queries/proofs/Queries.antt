@@ -24,7 +24,8 @@ use Rattle.p3_fri_queries.specs.Folded.{query_at, EndsAtFinal, indices_folded, r
 use Rattle.p3_fri_relation.proofs.ZippedLists.{gathered, gathered-next}
 use Rattle.p3_fri_relation.proofs.QueryLinks.{length-row_indices}
 use Rattle.p3_fri_queries.proofs.Gains.{tabulated}
-use Rattle.p3_fri_queries.proofs.Refusals.{handed_on, handed_on_as, refused}
+use Rattle.p3_fri_query.proofs.Refusals.{handed_on, refused}
+use Rattle.p3_fri_queries.proofs.Refusals.{handed_on_as}
 use Rattle.p3_fri_queries.proofs.Lengths.{folded_all}
 
 -- collectors without a row

@@ -2,3 +2,4 @@ pub mod Powers
 pub mod Lists
 pub mod Ways
 pub mod Orders
+pub mod Refusals

@@ -1,7 +1,7 @@
 -- When a query is in order, by what is found of its rounds and of its inputs.
 use Rattle.std.proofs.Common.{◌≡◌, ℕ, ◌+◌, ◌-◌, ◌<◌, ◌≤◌, sym, subst, ap, ◌∙◌}
-use Rattle.std.proofs.Common.{List, length, map, get_or, Result, Ok, Err}
-use Rattle.std.specs.Prelude.{sum, IsOk, IsErr, IsErrAnd, IfErr, slice_index_or}
+use Rattle.std.proofs.Common.{List, length, map, get_or}
+use Rattle.std.specs.Prelude.{sum, slice_index_or}
 use Rattle.std.proofs.lemmas.List.{get_or-map}
 use Rattle.p3_fri_relation.specs.FoldedQuery.{QueryInput, AreInRange, HaveRows, AreInputsMet, IsInOrder, folded}
 use Rattle.p3_fri_relation.specs.FoldedQuery.{value_at, siblings_of_query, folded_value, group_rows}
@@ -69,14 +69,3 @@ module _ {E : Type 0} (q : QueryInput E) (F : FieldOps E) (fold : ℕ → ℕ �
       ap (λ (arities : List ℕ). rows_from arities inputs value) (sym e)
       ∙ ap (λ (first : E). rows_from (folded q) inputs first) is
       ∙ ap (λ (us : List (ℕ × E)). rows_from (folded q) us (slice_index_or (map (λ u. u.1) us) 0 F.zero)) (sym f)
-
--- a refusal that is handed on
-pub handed_on : {T A : Type 0} (P : A → Type 0) (r : Result T A) (e : A)
-    → IsErr r × IsErrAnd r (λ x. x ≡ e) → P e → IfErr r P
-handed_on P (Ok v) e h p = tt
-handed_on P (Err x) e h p = subst P (sym h.1) p
-
--- what was refused isn't there
-pub refused : {T A : Type 0} (r : Result T A) → IsErr r → IsOk r → ⊥
-refused (Ok v) e o = cc
-refused (Err x) e o = cc

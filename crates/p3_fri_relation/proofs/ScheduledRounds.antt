@@ -49,7 +49,7 @@ all_from_stops P (h ∷ hs) final high of_stops of_final = elim (leb_tells h fin
 ]
 
 -- of the stops, the final height is the last
-last_stop : (P : ℕ → Type 0) (xs : List ℕ) (final : ℕ) → All P (xs ++ final ∷ []) → P final
+pub last_stop : (P : ℕ → Type 0) (xs : List ℕ) (final : ℕ) → All P (xs ++ final ∷ []) → P final
 last_stop P [] final each = All-head P final [] each
 last_stop P (x ∷ xs) final each = last_stop P xs final (All-tail P x (xs ++ final ∷ []) each)
 

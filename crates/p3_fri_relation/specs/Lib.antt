@@ -1,5 +1,6 @@
 pub mod Setting
 pub mod Heights
+pub mod TallEnough
 pub mod QuotientSums
 pub mod Inputs
 pub mod Queries

@@ -1,7 +1,6 @@
 pub mod First
 pub mod Gathered
 pub mod Greatest
-pub mod Horner
 pub mod Periods
 pub mod Places
 pub mod Rows

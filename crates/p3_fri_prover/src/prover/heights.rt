@@ -5,7 +5,8 @@ ghost use Rattle.std.specs.Int.{IsPowerOfTwo};
 ghost use Rattle.algebra.specs.Nested.{lists};
 ghost use Rattle.p3_fri_relation.specs.Views.{parameters_of};
 ghost use Rattle.p3_fri_prover.specs.Inputs.{HaveHeights, HavePowerLengths};
-ghost use Rattle.p3_fri_prover.specs.Refusals.{IsTallEnough, HeightRefusal, HeightsRefusal};
+ghost use Rattle.p3_fri_relation.specs.TallEnough.{IsTallEnough, HeightRefusal};
+ghost use Rattle.p3_fri_prover.specs.Refusals.{HeightsRefusal};
 
 use p3_field_core::log2_strict_usize;
 use p3_fri_folding::FriParameters;

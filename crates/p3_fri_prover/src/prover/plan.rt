@@ -11,7 +11,8 @@ ghost use Rattle.p3_fri_relation.specs.Views.{parameters_of};
 ghost use Rattle.p3_fri_prover.specs.Inputs.{AreInputs, HaveHeights};
 ghost use Rattle.p3_fri_prover.specs.Proved.{fri_numbers};
 ghost use Rattle.p3_fri_prover.specs.Proved.{log_arities as scheduled};
-ghost use Rattle.p3_fri_prover.specs.Refusals.{IsTallEnough, HeightsRefusal};
+ghost use Rattle.p3_fri_relation.specs.TallEnough.{IsTallEnough};
+ghost use Rattle.p3_fri_prover.specs.Refusals.{HeightsRefusal};
 
 use crate::prover::heights::{check_heights, log_heights};
 use p3_challenger_fs::Seed;

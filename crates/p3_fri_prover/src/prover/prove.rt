@@ -12,7 +12,7 @@ ghost use Rattle.p3_fri_prover.specs.Inputs.{AreInputs, HaveHeights};
 ghost use Rattle.p3_fri_prover.specs.Openings.{OpensRows, OpensBatch, IsOpenable, index_into};
 ghost use Rattle.p3_fri_prover.specs.Proved.{IsProved, positions};
 ghost use Rattle.p3_fri_prover.specs.Prover.{IsInProverRange, IsForHeight, ProverRefusal};
-ghost use Rattle.p3_fri_prover.specs.Refusals.{IsTallEnough};
+ghost use Rattle.p3_fri_relation.specs.TallEnough.{IsTallEnough};
 
 use crate::prover::openings::{ProverDataWithOpeningPoints, answer_queries, open_inputs, shifted};
 use crate::prover::plan::{Plan, make_plan};

@@ -6,7 +6,7 @@ use Rattle.p3_fri_relation.specs.Setting.{MatrixClaim}
 use Rattle.p3_fri_relation.specs.Views.{matrix_claim}
 use Rattle.p3_fri_inputs.specs.Claims.{IsWithin}
 use Rattle.p3_fri_inputs.proofs.Places.{all_mapped_at, mapped_is}
-use Rattle.p3_fri_inputs.proofs.Steps.{joined_pushed}
+use Rattle.algebra.proofs.Growing.{joined_pushed}
 use Rattle.p3_fri_inputs.proofs.claims.combine_claim.Goals as goal
 
 pub push_combined-requires : goal.push_combined-requires

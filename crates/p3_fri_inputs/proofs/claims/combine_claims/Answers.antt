@@ -5,7 +5,7 @@ use Rattle.p3_field_core.specs.declared.coset.TwoAdicMultiplicativeCoset.{TwoAdi
 use Rattle.p3_fri_relation.specs.Setting.{CommitmentClaim}
 use Rattle.p3_fri_relation.specs.Views.{claims_of}
 use Rattle.p3_fri_inputs.specs.Claims.{claim_of, combined_values, IsWithin}
-use Rattle.p3_fri_inputs.proofs.Steps.{mapped_more}
+use Rattle.algebra.proofs.Growing.{mapped_more}
 use Rattle.p3_fri_inputs.proofs.Openings.{all_of_one}
 use Rattle.p3_fri_inputs.proofs.Places.{mapped_is}
 use Rattle.p3_fri_inputs.proofs.claims.combine_claims.Goals as goal

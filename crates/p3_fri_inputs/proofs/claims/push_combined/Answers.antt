@@ -4,7 +4,7 @@ use Rattle.algebra.specs.Polynomial.{val}
 use Rattle.p3_fri_relation.specs.Setting.{PointClaim}
 use Rattle.p3_fri_relation.specs.Views.{point_claim}
 use Rattle.p3_fri_inputs.proofs.Places.{all_mapped_at, mapped_is}
-use Rattle.p3_fri_inputs.proofs.Steps.{mapped_next}
+use Rattle.algebra.proofs.Growing.{mapped_next}
 use Rattle.p3_fri_inputs.proofs.claims.push_combined.Goals as goal
 
 pub combine-requires : goal.combine-requires

@@ -5,7 +5,7 @@ use Rattle.p3_field_core.specs.declared.coset.TwoAdicMultiplicativeCoset.{TwoAdi
 use Rattle.p3_fri_relation.specs.Heights.{log_height, width, dimensions}
 use Rattle.p3_fri_relation.specs.Views.{matrix_claim}
 use Rattle.p3_fri_inputs.proofs.Places.{all_mapped_at, mapped_is}
-use Rattle.p3_fri_inputs.proofs.Steps.{mapped_more}
+use Rattle.algebra.proofs.Growing.{mapped_more}
 use Rattle.std.proofs.lemmas.Nat.{one_shl}
 use Rattle.p3_matrix.specs.declared.Dimensions.{Dimensions}
 use Rattle.p3_fri_inputs.proofs.opening.claimed_dimensions.Goals as goal

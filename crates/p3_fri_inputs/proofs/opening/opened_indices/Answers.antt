@@ -4,7 +4,7 @@ use Rattle.std.proofs.lemmas.List.{get_or_default}
 use Rattle.p3_field_core.specs.declared.coset.TwoAdicMultiplicativeCoset.{TwoAdicMultiplicativeCoset as Coset}
 use Rattle.p3_fri_relation.specs.Heights.{opened_index}
 use Rattle.p3_fri_relation.specs.Views.{matrix_claim}
-use Rattle.p3_fri_inputs.proofs.Steps.{mapped_more}
+use Rattle.algebra.proofs.Growing.{mapped_more}
 use Rattle.p3_fri_inputs.proofs.LogHeights.{greatest_within}
 use Rattle.p3_fri_inputs.proofs.Opened.{opened_by_shift}
 use Rattle.p3_fri_inputs.proofs.opening.opened_indices.Goals as goal

@@ -9,7 +9,7 @@ use Rattle.p3_fri_relation.specs.Views.{claims_of}
 use Rattle.p3_fri_inputs.specs.Claims.{claim_of, distances, IsApart}
 use Rattle.p3_fri_inputs.proofs.Places.{at_mapped, holds_next, all_of_parts, mapped_is, of_some}
 use Rattle.p3_fri_inputs.proofs.Places.{of_none}
-use Rattle.p3_fri_inputs.proofs.Steps.{joined_pushed, joined_end}
+use Rattle.algebra.proofs.Growing.{joined_pushed, joined_end}
 use Rattle.p3_fri_inputs.proofs.Openings.{joined_twice, all_of_one}
 use Rattle.p3_fri_inputs.proofs.points.push_claims.Goals as goal
 

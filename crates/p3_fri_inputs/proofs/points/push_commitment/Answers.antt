@@ -10,7 +10,7 @@ use Rattle.p3_fri_relation.specs.Views.{matrix_claim, point_claim}
 use Rattle.p3_fri_inputs.specs.Claims.{IsApart}
 use Rattle.p3_fri_inputs.proofs.Places.{at_mapped, holds_next, holds_of_all, all_mapped_at}
 use Rattle.p3_fri_inputs.proofs.Places.{mapped_is, of_some, of_none}
-use Rattle.p3_fri_inputs.proofs.Steps.{joined_pushed, joined_end}
+use Rattle.algebra.proofs.Growing.{joined_pushed, joined_end}
 use Rattle.p3_fri_inputs.proofs.points.push_commitment.Goals as goal
 
 pub overflow_add-x : goal.overflow_add-x

@@ -7,7 +7,7 @@ use Rattle.algebra.proofs.Combine.{sub-eq}
 use Rattle.p3_fri_relation.specs.Setting.{PointClaim}
 use Rattle.p3_fri_relation.specs.Views.{point_claim}
 use Rattle.p3_fri_inputs.proofs.Places.{at_mapped, holds_next, holds_of_all, mapped_is}
-use Rattle.p3_fri_inputs.proofs.Steps.{mapped_next, mapped_end}
+use Rattle.algebra.proofs.Growing.{mapped_next, mapped_end}
 use Rattle.p3_fri_inputs.proofs.points.push_distances.Goals as goal
 
 pub returns-then-is_zero : goal.returns-then-is_zero

@@ -7,7 +7,7 @@ use Rattle.p3_fri_relation.specs.Heights.{log_height, matrices_of}
 use Rattle.p3_fri_relation.specs.QuotientSums.{point_read}
 use Rattle.p3_fri_relation.specs.Views.{claims_of}
 use Rattle.p3_fri_inputs.specs.Claims.{distances, IsApart}
-use Rattle.p3_fri_inputs.proofs.Steps.{joined_pushed, joined_end}
+use Rattle.algebra.proofs.Growing.{joined_pushed, joined_end}
 use Rattle.p3_fri_inputs.proofs.Openings.{all_of_one}
 use Rattle.p3_fri_inputs.proofs.Places.{of_some, of_none}
 use Rattle.p3_fri_inputs.proofs.Queries.{apart_agree, distances_agree}

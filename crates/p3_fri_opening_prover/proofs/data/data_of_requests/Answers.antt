@@ -2,7 +2,7 @@ use Rattle.std.proofs.Common.{[], map, ap, ◌∙◌}
 use Rattle.std.proofs.lemmas.List.{map-append}
 use Rattle.p3_pcs.specs.declared.requests.OpeningRequest.{OpeningRequest}
 use Rattle.p3_fri_prover.specs.declared.prover.openings.ProverDataWithOpeningPoints as opened
-use Rattle.p3_fri_openings.proofs.Pushed.{mapped_next, mapped_end}
+use Rattle.algebra.proofs.Growing.{mapped_next, mapped_end}
 use Rattle.p3_fri_opening_prover.proofs.data.data_of_requests.Goals as goal
 
 pub loop-request-preserved : goal.loop-request-preserved

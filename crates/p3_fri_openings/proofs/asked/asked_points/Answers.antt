@@ -2,7 +2,7 @@ use Rattle.std.proofs.Common.{[]}
 use Rattle.p3_fri_openings.specs.Rounds.{IsRound}
 use Rattle.p3_fri_openings.specs.Points.{points_in}
 use Rattle.p3_fri_openings.proofs.First.{at_item}
-use Rattle.p3_fri_openings.proofs.Pushed.{joined_next, joined_end}
+use Rattle.algebra.proofs.Growing.{joined_pushed, joined_end}
 use Rattle.p3_fri_openings.proofs.asked.asked_points.Goals as goal
 
 pub push_round-requires : goal.push_round-requires
@@ -13,7 +13,7 @@ push_round-requires g c = record {
 
 pub loop-round-preserved : goal.loop-round-preserved
 loop-round-preserved g c =
-    joined_next points_in c.args.rounds.now c.loop-round.round-index c.round-item.result []
+    joined_pushed points_in c.args.rounds.now c.loop-round.round-index c.round-item.result []
     c.loop-round.asked.items c.push_round.new.asked.items c.loop-round-test.true c.round-item.is
     c.loop-round.invariant c.in_ok-push_round.ensures
 

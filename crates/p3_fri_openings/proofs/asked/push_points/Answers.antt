@@ -1,5 +1,5 @@
 use Rattle.p3_fri_openings.specs.Points.{asked_point}
-use Rattle.p3_fri_openings.proofs.Pushed.{mapped_next, mapped_end}
+use Rattle.algebra.proofs.Growing.{mapped_next, mapped_end}
 use Rattle.p3_fri_openings.proofs.asked.push_points.Goals as goal
 
 pub loop-point-preserved : goal.loop-point-preserved

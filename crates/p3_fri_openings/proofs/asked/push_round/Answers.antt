@@ -5,7 +5,7 @@ use Rattle.p3_matrix.specs.Matrix.{rows}
 use Rattle.p3_pcs.proofs.Zipped.{entry_of_both, entry_of_map, within_both, length_of_both}
 use Rattle.p3_fri_openings.specs.Rounds.{ask, asked_in}
 use Rattle.p3_fri_openings.specs.Points.{asked_point, points_of}
-use Rattle.p3_fri_openings.proofs.Pushed.{joined_next, joined_end}
+use Rattle.algebra.proofs.Growing.{joined_pushed, joined_end}
 use Rattle.p3_fri_openings.proofs.asked.push_round.Goals as goal
 
 pub loop-matrix-preserved : goal.loop-matrix-preserved
@@ -25,7 +25,7 @@ loop-matrix-preserved g c =
     ∙ ap₂ (λ h zs. c.loop-matrix.asked.items ++ map (asked_point h) zs)
     (c.height-height.ensures ∙ ap (λ m. length (rows m)) (sym c.index-round-matrix.is))
     (c.deref.ensures.value ∙ ap (λ v. v.items) (sym c.index-round-matrix-in-loop-matrix.is)) in
-    joined_next points_of (asked_in round) i (ask matrix points.items) c.args.asked.now.items
+    joined_pushed points_of (asked_in round) i (ask matrix points.items) c.args.asked.now.items
     c.loop-matrix.asked.items c.push_points.new.asked.items
     (within_both ask round.matrices.now (lists round.points.now) i one three)
     (entry_of_both ask round.matrices.now (lists round.points.now) i matrix points.items one three

@@ -2,7 +2,7 @@ use Rattle.p3_fri_openings.proofs.First.{first_at, one_more, to_the_end}
 use Rattle.std.proofs.Common.{subst, ◌∙◌}
 use Rattle.p3_fri_relation.specs.Views.{parameters_of}
 use Rattle.p3_fri_openings.specs.Rounds.{log_height}
-use Rattle.p3_fri_openings.specs.Refusals.{IsTallEnough, HeightRefusal}
+use Rattle.p3_fri_relation.specs.TallEnough.{IsTallEnough, HeightRefusal}
 use Rattle.p3_fri_openings.proofs.Log2.{log2_is}
 use Rattle.p3_fri_openings.proofs.checks.check_round_heights.Goals as goal
 

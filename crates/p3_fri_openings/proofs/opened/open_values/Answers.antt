@@ -8,7 +8,7 @@ use Rattle.p3_fri_openings.specs.Opened.{values_asked}
 use Rattle.p3_fri_openings.specs.Refusals.{ArePointsOff}
 use Rattle.p3_fri_openings.specs.Rounds.{IsRound}
 use Rattle.p3_fri_openings.proofs.First.{at_item}
-use Rattle.p3_fri_openings.proofs.Pushed.{mapped_next, mapped_end}
+use Rattle.algebra.proofs.Growing.{mapped_next, mapped_end}
 use Rattle.p3_fri_openings.proofs.opened.open_values.Goals as goal
 
 pub values_of_round-requires : goal.values_of_round-requires

@@ -10,7 +10,8 @@ use Rattle.p3_fri_openings.specs.Refusals.{IsOff}
 use Rattle.p3_fri_openings.specs.Rounds.{log_height}
 use Rattle.p3_fri_openings.specs.Sums.{StartsWith}
 use Rattle.p3_fri_openings.proofs.First.{at_item}
-use Rattle.p3_fri_openings.proofs.Pushed.{mapped_next, mapped_end, starts_itself}
+use Rattle.algebra.proofs.Growing.{mapped_next, mapped_end}
+use Rattle.p3_fri_openings.proofs.Pushed.{starts_itself}
 use Rattle.p3_fri_openings.proofs.opened.values_at_points.Goals as goal
 
 pub inverses_at-inverses-requires : goal.inverses_at-inverses-requires

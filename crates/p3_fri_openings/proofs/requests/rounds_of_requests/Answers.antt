@@ -4,7 +4,7 @@ use Rattle.algebra.specs.Nested.{lists}
 use Rattle.p3_matrix.specs.declared.dense.RowMajorMatrix.{RowMajorMatrix}
 use Rattle.p3_pcs.specs.Requests.{Request}
 use Rattle.p3_fri_openings.specs.Requests.{round_request, matrices_request}
-use Rattle.p3_fri_openings.proofs.Pushed.{mapped_next, mapped_end}
+use Rattle.algebra.proofs.Growing.{mapped_next, mapped_end}
 use Rattle.p3_fri_openings.proofs.requests.rounds_of_requests.Goals as goal
 
 pub loop-request-preserved : goal.loop-request-preserved

@@ -1,6 +1,6 @@
 use Rattle.std.proofs.Common.{◌≡◌, ℕ, ◌+◌, ◌-◌, drop, length, ap, ◌∙◌, arith}
 use Rattle.algebra.specs.Polynomial.{val}
-use Rattle.p3_fri_queries.proofs.Horner.{horner_none, horner_more}
+use Rattle.algebra.proofs.Horner.{horner_none, horner_more}
 use Rattle.p3_fri_queries.proofs.final_value.evaluate.Goals as goal
 
 pub loop-k-init : goal.loop-k-init

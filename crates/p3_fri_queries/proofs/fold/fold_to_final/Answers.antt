@@ -1,5 +1,6 @@
 use Rattle.std.proofs.Common.{refl, inl}
-use Rattle.p3_fri_queries.proofs.Refusals.{failed, wants_memory, handed_on, refused}
+use Rattle.p3_fri_query.proofs.Refusals.{handed_on, refused}
+use Rattle.p3_fri_queries.proofs.Refusals.{failed, wants_memory}
 use Rattle.p3_fri_queries.proofs.fold.fold_to_final.Goals as goal
 
 -- the query is in order: nothing but want of memory is refused

@@ -6,7 +6,8 @@ use Rattle.p3_fri_relation.specs.Views.{round_opened, rows_collected}
 use Rattle.p3_fri_relation.specs.Queries.{heights_after}
 use Rattle.p3_fri_queries.proofs.Heights.{height_here, height_next}
 use Rattle.p3_fri_queries.proofs.Openings.{OpensAt, IsRead, opens_read, rounds_all, rounds_none, round_fails}
-use Rattle.p3_fri_queries.proofs.Refusals.{failed, handed_on, refused}
+use Rattle.p3_fri_query.proofs.Refusals.{handed_on, refused}
+use Rattle.p3_fri_queries.proofs.Refusals.{failed}
 use Rattle.p3_fri_queries.proofs.open.verify_rounds.Goals as goal
 
 pub verify_round-requires-clause-below : goal.verify_round-requires-clause-below

@@ -2,7 +2,8 @@ use Rattle.std.proofs.Common.{List, refl, sym, ap, ◌∙◌, map, [], ◌∷◌
 use Rattle.p3_fri_relation.specs.FoldedQuery.{gains}
 use Rattle.p3_fri_relation.specs.Views.{query_input, rows_collected}
 use Rattle.p3_fri_query.proofs.Lists.{range_take, have_take}
-use Rattle.p3_fri_query.proofs.Orders.{inputs_fit, in_order, refused, value_of, rows_of, handed_on}
+use Rattle.p3_fri_query.proofs.Refusals.{refused, handed_on}
+use Rattle.p3_fri_query.proofs.Orders.{inputs_fit, in_order, value_of, rows_of}
 use Rattle.p3_fri_query.proofs.query.fold_query.Goals as goal
 
 pub returns-in_err-check_rounds-clause-refusal : goal.returns-in_err-check_rounds-clause-refusal

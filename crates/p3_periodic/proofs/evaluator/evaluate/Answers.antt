@@ -1,6 +1,6 @@
 use Rattle.std.proofs.Common.{◌≡◌, ℕ, ◌+◌, ◌-◌, drop, length, ap, ◌∙◌, arith}
 use Rattle.algebra.specs.Polynomial.{val}
-use Rattle.p3_periodic.proofs.Horner.{horner_none, horner_more}
+use Rattle.algebra.proofs.Horner.{horner_none, horner_more}
 use Rattle.p3_periodic.proofs.evaluator.evaluate.Goals as goal
 
 pub loop-k-init : goal.loop-k-init

@@ -3,7 +3,7 @@ use Rattle.std.proofs.lemmas.Grind.{get_or_default_zero}
 use Rattle.algebra.specs.Nested.{lists}
 use Rattle.algebra.proofs.Nested.{length-lists}
 use Rattle.p3_fri_relation.specs.Views.{parameters_of}
-use Rattle.p3_fri_prover.specs.Refusals.{IsTallEnough, HeightRefusal}
+use Rattle.p3_fri_relation.specs.TallEnough.{IsTallEnough, HeightRefusal}
 use Rattle.p3_fri_prover.proofs.Lists.{power_of_item, height_of_item, length_heights}
 use Rattle.p3_fri_prover.proofs.prover.heights.check_heights.Goals as goal
 

@@ -2,7 +2,7 @@ use Rattle.std.proofs.Common.{◌<◌, ℕ, List, get_or}
 use Rattle.algebra.specs.Nested.{lists}
 use Rattle.p3_fri_relation.specs.Views.{parameters_of}
 use Rattle.p3_fri_prover.specs.Inputs.{HaveHeights}
-use Rattle.p3_fri_prover.specs.Refusals.{IsTallEnough}
+use Rattle.p3_fri_relation.specs.TallEnough.{IsTallEnough}
 use Rattle.p3_fri_prover.proofs.prover.heights.check_heights.Given as goal
 
 abbrev pub invariant-loop-input : goal.invariant-loop-input

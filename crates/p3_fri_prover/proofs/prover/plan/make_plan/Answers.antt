@@ -6,7 +6,7 @@ use Rattle.p3_fri_transcript.specs.Shapes.{fri_shape}
 use Rattle.p3_fri_transcript.specs.Steps.{FriNumbers}
 use Rattle.p3_fri_relation.specs.Views.{parameters_of}
 use Rattle.p3_fri_prover.specs.Proved.{fri_numbers}
-use Rattle.p3_fri_prover.specs.Refusals.{IsTallEnough}
+use Rattle.p3_fri_relation.specs.TallEnough.{IsTallEnough}
 use Rattle.p3_fri_prover.proofs.Inputs.{heights_unique, power_lengths}
 use Rattle.p3_fri_prover.proofs.Schedules.{final_polynomial_within, final_height_fits}
 use Rattle.p3_fri_prover.proofs.prover.plan.make_plan.Goals as goal

@@ -14,7 +14,7 @@ use Rattle.p3_fri_prover.specs.Inputs.{HaveHeights}
 use Rattle.p3_fri_prover.specs.Openings.{OpensBatch}
 use Rattle.p3_fri_prover.specs.Played.{IsPlayed}
 use Rattle.p3_fri_prover.specs.Proved.{log_arities, fri_numbers}
-use Rattle.p3_fri_prover.specs.Refusals.{IsTallEnough}
+use Rattle.p3_fri_relation.specs.TallEnough.{IsTallEnough}
 use Rattle.p3_fri_prover.proofs.Concluded.{proof_is_proved, positions_of_proof}
 use Rattle.p3_fri_prover.proofs.Concluded.{zip_viewed, as_many_viewed}
 use Rattle.p3_fri_prover.proofs.Planned.{planned_positive, planned_below_64, planned_playable}

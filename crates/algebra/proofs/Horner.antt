@@ -6,9 +6,13 @@ use Rattle.algebra.specs.Polynomial.{val}
 use Rattle.algebra.proofs.Values.{val-nil, val-cons}
 
 module _ {A : Type 0} (F : FieldOps A) (L : IsField F) where
-  pub horner_none : (cs : List A) (x v : A) (n : ℕ) → length cs ≤ n → v ≡ F.zero → v ≡ val F (drop n cs) x
-  horner_none cs x v n l e = e ∙ sym (val-nil F L.ring x) ∙ sym (at_drop_all (λ (ds : List A). val F ds x) cs n l)
+  -- past the last coefficient
+  pub horner_none : (cs : List A) (x v : A) (n : ℕ) → length cs ≤ n → v ≡ F.zero
+      → v ≡ val F (drop n cs) x
+  horner_none cs x v n l e =
+      e ∙ sym (val-nil F L.ring x) ∙ sym (at_drop_all (λ (ds : List A). val F ds x) cs n l)
 
+  -- one coefficient more
   pub horner_more : (cs : List A) (x c v w : A) (k : ℕ) → k < length cs → c ≡ get_or cs k c
       → v ≡ val F (drop (k + 1) cs) x → w ≡ F.add c (F.mul x v) → w ≡ val F (drop k cs) x
   horner_more cs x c v w k l is e f =
