@@ -12,7 +12,8 @@ use Rattle.algebra.specs.Interpolation.{AreDistinct}
 use Rattle.p3_converse.specs.Trees.{Tree, leaf, node, subtrees, tree_of, beta_count, leaf_length}
 use Rattle.p3_converse.specs.Trees.{HasPaths, EachHasPaths, HasLeaves, EachHasLeaves, HasBetas, EachHasBetas}
 use Rattle.p3_converse.specs.Branches.{log_sum, with_input, IsTreeUnfolding, IsRoundUnfolding}
-use Rattle.p3_converse.specs.Unfolding.{lists, common_length}
+use Rattle.algebra.specs.Nested.{lists}
+use Rattle.p3_converse.specs.Unfolding.{common_length}
 use Rattle.p3_converse.specs.declared.tree.FoldTree.{FoldTree, Leaf, Node}
 use Rattle.p3_converse.proofs.Trees.{views, tree_of-Leaf, tree_of-Node, betas-views, paths-at, leaves-at, betas-at, leaf_length-is}
 use Rattle.p3_converse.proofs.Branches.{UnfoldsTo, HasInputsOf, is_node_unfolding}

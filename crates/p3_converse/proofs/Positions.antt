@@ -9,7 +9,8 @@ use Rattle.algebra.specs.Field.{FieldOps}
 use Rattle.algebra.specs.Polynomial.{tabulate}
 use Rattle.algebra.proofs.Lists.{get_or-tabulate, length-tabulate}
 use Rattle.p3_converse.specs.Positions.{coefficients_at}
-use Rattle.p3_converse.specs.Unfolding.{lists, common_length}
+use Rattle.algebra.specs.Nested.{lists}
+use Rattle.p3_converse.specs.Unfolding.{common_length}
 
 pub length-coefficients_at : {A : Type 0} (F : FieldOps A) (polys : List (List A)) (m : ℕ) → length (coefficients_at F polys m) ≡ length polys
 length-coefficients_at F polys m = length-map polys (λ p. get_or p m F.zero)

@@ -6,10 +6,6 @@ use Rattle.algebra.specs.Polynomial.{val, tabulate}
 use Rattle.algebra.specs.TwoAdic.{AreRoots, pt}
 use Rattle.p3_fri_core.specs.Folds.{fold_value}
 
--- the vectors' elements
-abbrev pub lists : {T Z : Type 0} → List (Vec T Z) → List (List T)
-lists vectors = map (λ v. v.items) vectors
-
 -- the length of the first vector, where all have one length
 abbrev pub common_length : {T Z : Type 0} → List (Vec T Z) → ℕ
 common_length [] = 0

@@ -3,7 +3,8 @@
 ghost use Rattle.std.specs.Prelude.{◌≡◌, ◌<◌, length, vec_len, All, IfOk};
 ghost use Rattle.algebra.specs.Interpolation.{AreDistinct};
 ghost use Rattle.p3_converse.specs.Batching.{IsUnbatching};
-ghost use Rattle.p3_converse.specs.Unfolding.{lists, common_length};
+ghost use Rattle.algebra.specs.Nested.{lists};
+ghost use Rattle.p3_converse.specs.Unfolding.{common_length};
 
 use crate::by_position::{interpolate_positions, stepped};
 use p3_field_core::Field;

@@ -3,7 +3,7 @@
 ghost use Rattle.std.specs.Prelude.{◌≡◌, ◌+◌, ◌*◌, ◌<◌, [], ◌++◌, length, vec_len, All, IfOk, OnOk};
 ghost use Rattle.algebra.specs.Interpolation.{AreDistinct};
 ghost use Rattle.p3_converse.specs.Positions.{coefficients_at, interleaved, interpolated, stepped};
-ghost use Rattle.p3_converse.specs.Unfolding.{lists};
+ghost use Rattle.algebra.specs.Nested.{lists};
 
 use crate::newton::{interpolate_each, newton_weights};
 use p3_field_core::Field;

@@ -6,7 +6,8 @@ ghost use Rattle.p3_converse.specs.Branches.{with_input, IsRoundUnfolding};
 ghost use Rattle.p3_converse.specs.Trees.{tree_of, leaf_length, HasPaths, HasLeaves};
 ghost use Rattle.p3_converse.specs.Trees.{beta_count, HasBetas};
 ghost use Rattle.algebra.specs.Interpolation.{AreDistinct};
-ghost use Rattle.p3_converse.specs.Unfolding.{lists, common_length};
+ghost use Rattle.algebra.specs.Nested.{lists};
+ghost use Rattle.p3_converse.specs.Unfolding.{common_length};
 
 use crate::unfolding::{unfold, unfold_with_input};
 use p3_field_core::Field;

@@ -5,7 +5,8 @@ ghost use Rattle.std.specs.Prelude.{true, false};
 ghost use Rattle.algebra.specs.Interpolation.{AreDistinct};
 ghost use Rattle.p3_converse.specs.Branches.{IsTreeUnfolding};
 ghost use Rattle.p3_converse.specs.Trees.{one_round};
-ghost use Rattle.p3_converse.specs.Unfolding.{lists, common_length};
+ghost use Rattle.algebra.specs.Nested.{lists};
+ghost use Rattle.p3_converse.specs.Unfolding.{common_length};
 ghost use Rattle.p3_converse.specs.Unfolding.{IsUnfolding, IsUnfoldingWithInput};
 
 use crate::batching::unbatch;

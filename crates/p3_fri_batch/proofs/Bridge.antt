@@ -26,7 +26,7 @@ use Rattle.p3_fri_relation.specs.QuotientSums.{matrix_terms, terms, quotient_sum
 use Rattle.p3_fri_relation.specs.FoldedQuery.{value_at}
 use Rattle.p3_fri_openings.specs.Rounds.{log_height, HasCoset}
 use Rattle.p3_fri_openings.proofs.Log2.{pow-log2}
-use Rattle.p3_fri_batch.specs.Words.{Opened, point_read, terms_at, opened_terms, batch_word}
+use Rattle.p3_fri_batch.specs.Words.{Opened, point_of_entry, terms_at, opened_terms, batch_word}
 use Rattle.p3_fri_batch.specs.Heights.{has_height}
 use Rattle.p3_fri_batch.proofs.Heights.{value_of_height, has_claimed_height, claimed_heights}
 use Rattle.p3_fri_batch.specs.Claimed.{IsClaimOf, AreClaimsOf, matrices_in, rows_opened}
@@ -123,7 +123,7 @@ module _ {F E : Type 0} (f : Fields F E) (log_blowup top q h : ℕ) where
   i = q / 2 ^ (top - h)
 
   abbrev x : E
-  x = point_read f h i
+  x = point_of_entry f h i
 
   matrix_terms_are : (claim : MatrixClaim E) (m : Opened F E) (row : List F)
       → IsClaimOf log_blowup claim m
@@ -161,7 +161,7 @@ module _ {F E : Type 0} (f : Fields F E) (log_blowup top q h : ℕ) where
 module _ {F E InCom : Type 0} (f : Fields F E) (log_blowup : ℕ) (alpha : E) (top q h : ℕ) where
   terms_are : (claims : List (CommitmentClaim E InCom)) (rounds : List (List (Opened F E)))
       → AreClaimsOf log_blowup claims rounds → Each (λ m. HasCoset top m.matrix) (joined rounds)
-      → terms f log_blowup h (point_read f h (q / 2 ^ (top - h))) claims
+      → terms f log_blowup h (point_of_entry f h (q / 2 ^ (top - h))) claims
       (map (rows_opened top q) rounds)
       ≡ flat_map (opened_terms f h (q / 2 ^ (top - h))) (joined rounds)
   terms_are [] [] are cosets = refl
@@ -191,7 +191,7 @@ module _ {F E InCom : Type 0} (f : Fields F E) (log_blowup : ℕ) (alpha : E) (t
       ∙ ap (λ ts. val f.ext ts alpha)
       (sym (terms_are claims rounds are
       (each_from_All (λ m. HasCoset top m.matrix) (joined rounds) cosets)))
-      ∙ ap (λ rs. val f.ext (terms f log_blowup h (point_read f h (q / 2 ^ (top - h))) claims rs)
+      ∙ ap (λ rs. val f.ext (terms f log_blowup h (point_of_entry f h (q / 2 ^ (top - h))) claims rs)
       alpha) (sym opened)
     where
       inside : q / 2 ^ (top - h) < 2 ^ h

@@ -25,7 +25,7 @@ use Rattle.p3_fri_openings.specs.Rounds.{log_height}
 use Rattle.p3_fri_openings.specs.Refusals.{IsOff}
 use Rattle.p3_fri_openings.specs.Committed.{committed_column, committed, committed_values}
 use Rattle.p3_fri_openings.proofs.Committed.{committed_is}
-use Rattle.p3_fri_batch.specs.Words.{Opened, IsOpenedWord, terms_at, point_read, opened_terms}
+use Rattle.p3_fri_batch.specs.Words.{Opened, IsOpenedWord, terms_at, point_of_entry, opened_terms}
 use Rattle.p3_fri_batch.specs.Words.{batch_word}
 use Rattle.p3_fri_batch.proofs.Rows.{row_wide}
 
@@ -84,13 +84,13 @@ module _ {F E : Type 0} (f : Fields F E) (L : IsField f.base)
       (All-tail (λ z. z.values ≡ committed_values f b matrix z.point) z claims h))
 
   terms_are : (m : Opened F E) → IsOpenedWord f b (k + b) k m → (i : ℕ) → i < 2 ^ (k + b)
-      → terms_at f.ext (point_read f (k + b) i) (map f.lift (get_or (rows m.matrix) i [])) m.claims
+      → terms_at f.ext (point_of_entry f (k + b) i) (map f.lift (get_or (rows m.matrix) i [])) m.claims
       ≡ opened_quotients f.base f.ext f.lift (coset_pt f.base f.root f.shift i (k + b))
       (columns_of m)
   unfolding columns_of
   terms_are m o i below =
-      ap (λ row. terms_at f.ext (point_read f (k + b) i) row m.claims) (row_is m o i below)
-      ∙ claims_are m.matrix (point_read f (k + b) i)
+      ap (λ row. terms_at f.ext (point_of_entry f (k + b) i) row m.claims) (row_is m o i below)
+      ∙ claims_are m.matrix (point_of_entry f (k + b) i)
       (row_at f.base f.ext f.lift (committed f b m.matrix)
       (coset_pt f.base f.root f.shift i (k + b))) m.claims o.honest
 
@@ -113,7 +113,7 @@ module _ {F E : Type 0} (f : Fields F E) (L : IsField f.base)
           ≡ flat_map (opened_quotients f.base f.ext f.lift
           (coset_pt f.base f.root f.shift i (k + b))) (taken ms)
           → (t : Bool) → (log_height m.matrix == (k + b)) ≡ t
-          → cond t (terms_at f.ext (point_read f (k + b) i)
+          → cond t (terms_at f.ext (point_of_entry f (k + b) i)
           (map f.lift (get_or (rows m.matrix) i [])) m.claims) []
           ++ flat_map (opened_terms f (k + b) i) ms
           ≡ flat_map (opened_quotients f.base f.ext f.lift

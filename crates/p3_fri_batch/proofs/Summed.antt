@@ -16,7 +16,7 @@ use Rattle.p3_fri_relation.specs.Setting.{Fields}
 use Rattle.p3_fri_openings.specs.Log2.{log2}
 use Rattle.p3_fri_openings.specs.Rounds.{log_height}
 use Rattle.p3_fri_openings.proofs.Log2.{log2-pow}
-use Rattle.p3_fri_batch.specs.Words.{Opened, IsSummed, point_read, terms_at, opened_terms}
+use Rattle.p3_fri_batch.specs.Words.{Opened, IsSummed, point_of_entry, terms_at, opened_terms}
 use Rattle.p3_fri_batch.proofs.Rows.{row_wide}
 use Rattle.p3_fri_batch.proofs.Terms.{terms_length}
 
@@ -47,7 +47,7 @@ module _ {F E : Type 0} (f : Fields F E) (L : IsField f.ext) (alpha : E) (h : �
       ≡ flat_map (opened_terms f h i) ms =
       λ i. one_more ms m i
       ∙ ap (λ t. flat_map (opened_terms f h i) ms ++ cond t
-      (terms_at f.ext (point_read f h i) (map f.lift (get_or (rows m.matrix) i [])) m.claims) [])
+      (terms_at f.ext (point_of_entry f h i) (map f.lift (get_or (rows m.matrix) i [])) m.claims) [])
       (ne_eqb (log_height m.matrix) h differ)
       ∙ append-nil (flat_map (opened_terms f h i) ms) in
       record {
@@ -62,7 +62,7 @@ module _ {F E : Type 0} (f : Fields F E) (L : IsField f.ext) (alpha : E) (h : �
       (size : length (rows m.matrix) ≡ 2 ^ h)
       (wide : Each (λ c. length c.values ≡ matrix_width m.matrix) m.claims) where
     added : (i : ℕ) → List E
-    added i = terms_at f.ext (point_read f h i) (map f.lift (get_or (rows m.matrix) i [])) m.claims
+    added i = terms_at f.ext (point_of_entry f h i) (map f.lift (get_or (rows m.matrix) i [])) m.claims
 
     joined_terms : (ms : List (Opened F E)) (i : ℕ)
         → flat_map (opened_terms f h i) (ms ++ m ∷ []) ≡ flat_map (opened_terms f h i) ms ++ added i
@@ -70,13 +70,13 @@ module _ {F E : Type 0} (f : Fields F E) (L : IsField f.ext) (alpha : E) (h : �
     joined_terms ms i =
         one_more ms m i
         ∙ ap (λ t. flat_map (opened_terms f h i) ms ++ cond t
-        (terms_at f.ext (point_read f h i) (map f.lift (get_or (rows m.matrix) i [])) m.claims) [])
+        (terms_at f.ext (point_of_entry f h i) (map f.lift (get_or (rows m.matrix) i [])) m.claims) [])
         (eq-eqb (log_height m.matrix) h taller)
 
     added_length : (i : ℕ) → i < 2 ^ h → length (added i) ≡ length m.claims * matrix_width m.matrix
     unfolding added
     added_length i l =
-        terms_length f.ext L alpha (point_read f h i) (map f.lift (get_or (rows m.matrix) i []))
+        terms_length f.ext L alpha (point_of_entry f h i) (map f.lift (get_or (rows m.matrix) i []))
         (matrix_width m.matrix) m.claims wide
         (length-map (get_or (rows m.matrix) i []) f.lift
         ∙ row_wide m.matrix i (omega (arith, l, size)))
@@ -86,7 +86,7 @@ module _ {F E : Type 0} (f : Fields F E) (L : IsField f.ext) (alpha : E) (h : �
         → length word ≡ 2 ^ h → length new ≡ 2 ^ h
         → ((i : ℕ) (d : E) (ts : List E) → i < length word → step ≡ pow f.ext alpha (length ts)
         → get_or word i d ≡ val f.ext ts alpha
-        → get_or new i d ≡ val f.ext (ts ++ terms_at f.ext (point_read f (log2 (length word)) i)
+        → get_or new i d ≡ val f.ext (ts ++ terms_at f.ext (point_of_entry f (log2 (length word)) i)
         (map f.lift (get_or (rows m.matrix) i [])) m.claims) alpha)
         → ((n : ℕ) → step ≡ pow f.ext alpha n
         → after ≡ pow f.ext alpha (n + length m.claims * matrix_width m.matrix))
@@ -104,7 +104,7 @@ module _ {F E : Type 0} (f : Fields F E) (L : IsField f.ext) (alpha : E) (h : �
               ∙ get_or-tabulate (2 ^ h) (λ i. val f.ext (flat_map (opened_terms f h i) ms) alpha) i
               f.ext.zero l)
               ∙ ap (λ n. val f.ext (flat_map (opened_terms f h i) ms ++ terms_at f.ext
-              (point_read f n i)
+              (point_of_entry f n i)
               (map f.lift (get_or (rows m.matrix) i [])) m.claims) alpha) read
               ∙ ap (λ ts. val f.ext ts alpha) (sym (joined_terms ms i)));
           step_is = λ i l. goes_on (length (flat_map (opened_terms f h i) ms)) (so_far.step_is i l)

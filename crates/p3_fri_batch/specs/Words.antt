@@ -35,14 +35,14 @@ pub record Opened (F E : Type 0) : Type 0 where
 
 module _ {F E : Type 0} (f : Fields F E) where
   -- the point at which entry `i` of a word of log height `h` stands
-  abbrev pub point_read : (h i : ℕ) → E
-  point_read h i = f.lift (coset_pt f.base f.root f.shift i h)
+  abbrev pub point_of_entry : (h i : ℕ) → E
+  point_of_entry h i = f.lift (coset_pt f.base f.root f.shift i h)
 
   -- a matrix's quotients at entry `i` of the word of log height `h`, if that is its log height
   abbrev pub opened_terms : (h i : ℕ) → Opened F E → List E
   opened_terms h i m =
       if log_height m.matrix == h
-      then terms_at f.ext (point_read h i)
+      then terms_at f.ext (point_of_entry h i)
       (map f.lift (slice_index_or (rows m.matrix) i [])) m.claims
       else []
 

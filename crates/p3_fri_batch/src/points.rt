@@ -10,7 +10,7 @@ ghost use Rattle.algebra.specs.Nested.{lists};
 ghost use Rattle.p3_matrix.specs.Matrix.{rows, matrix_width};
 ghost use Rattle.p3_fri_openings.specs.Log2.{log2};
 ghost use Rattle.p3_fri_openings.specs.Denominators.{AreInverses, IsCovered};
-ghost use Rattle.p3_fri_batch.specs.Words.{point_read, claims_of, terms_at};
+ghost use Rattle.p3_fri_batch.specs.Words.{point_of_entry, claims_of, terms_at};
 
 use crate::compression::{add_quotients, compress};
 use p3_field_core::{ExtensionField, TwoAdicField};
@@ -47,7 +47,7 @@ pub fn add_opened_points<F: TwoAdicField, EF: ExtensionField<F>>(
         → slice_index_or word.old i d ≡ val EF.ops ts ladder.now.alpha
         → slice_index_or word.new i d ≡ val EF.ops (ts
         ++ terms_at EF.ops
-        (point_read ⟦<EF as ChallengeField<F>>⟧.fields (log2 (length word.old)) i) row
+        (point_of_entry ⟦<EF as ChallengeField<F>>⟧.fields (log2 (length word.old)) i) row
         (claims_of points.now (lists values.now))) ladder.now.alpha }
     ensures step { (n : ℕ) → step ≡ pow EF.ops ladder.now.alpha n
         → result ≡ pow EF.ops ladder.now.alpha (n + length points.now * width) }
@@ -89,7 +89,7 @@ pub fn add_matrix<F: TwoAdicField, EF: ExtensionField<F>>(
         → slice_index_or word.old i d ≡ val EF.ops ts ladder.now.alpha
         → slice_index_or word.new i d ≡ val EF.ops (ts
         ++ terms_at EF.ops
-        (point_read ⟦<EF as ChallengeField<F>>⟧.fields (log2 (length word.old)) i)
+        (point_of_entry ⟦<EF as ChallengeField<F>>⟧.fields (log2 (length word.old)) i)
         (map EF.lift (slice_index_or (rows matrix.now) i []))
         (claims_of points.now (lists values.now))) ladder.now.alpha }
     ensures step { (n : ℕ) → step ≡ pow EF.ops ladder.now.alpha n → IfOk result (λ after.

@@ -22,7 +22,7 @@ use Rattle.p3_fri_openings.proofs.Log2.{log2-pow, pow-divided}
 use Rattle.p3_fri_batch.proofs.Rows.{row_wide}
 use Rattle.p3_fri_completeness.specs.Requests.{held_in, HoldsWords}
 use Rattle.p3_fri_evaluations.specs.Committed.{AreCommittedValues}
-use Rattle.p3_stark_pcs.specs.Evaluations.{HoldsValues, held_at}
+use Rattle.p3_stark_pcs.specs.Evaluations.{HoldsEvaluations, held_at}
 use Rattle.p3_fri_two_adic.specs.Evaluations.{IsMatrixOf}
 
 -- where `values` holds, on the coset of `s` of `2^m` points, those of the polynomials of `matrix`
@@ -99,7 +99,7 @@ module _ {F E : Type 0} (f : Fields F E) (L : IsField f.base) (M : IsField f.ext
   pub evaluated : (matrix values : RowMajorMatrix F) → matrix ≡ get_or matrices index matrix
       → All (HoldsWords f b) matrices → (s : F) (m : ℕ)
       → AreCommittedValues f.base f.root f.shift b s m matrix values
-      → HoldsValues f.lift (λ i. f.lift (coset_point f.base (f.root m) s i)) (2 ^ m)
+      → HoldsEvaluations f.lift (λ i. f.lift (coset_point f.base (f.root m) s i)) (2 ^ m)
       (held_at (map (held_in f b) matrices) index).values_at values
   evaluated matrix values is words s m are =
       let here = subst (λ m. HoldsWords f b m) (sym is) (words index matrix one.below) in

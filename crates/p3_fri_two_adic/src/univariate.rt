@@ -10,7 +10,7 @@ ghost use Rattle.p3_periodic.specs.Columns.{HasPeriod, Refuses};
 ghost use Rattle.p3_periodic.specs.Tables.{AreTabulated};
 ghost use Rattle.p3_periodic.specs.Values.{IsColumnValue};
 ghost use Rattle.p3_periodic.specs.Views.{table_rows};
-ghost use Rattle.p3_stark_pcs.specs.Evaluations.{HoldsValues, held_at};
+ghost use Rattle.p3_stark_pcs.specs.Evaluations.{HoldsEvaluations, held_at};
 ghost use Rattle.p3_fri_commit.specs.Extension.{FitsDomain, IsLowDegreeExtension};
 ghost use Rattle.p3_fri_steps.specs.declared.error.FriProverError.TheVariants as refusal;
 ghost use Rattle.p3_fri_relation.specs.Acceptance.{Accepts as relation};
@@ -251,7 +251,7 @@ impl<
             index }
         ensures values { let fields = ⟦<EF as ChallengeField<F>>⟧.fields in
             All (HoldsWords fields self.now.fri.log_blowup) (InputMmcs.committed prover_data.now)
-            → IfOk result (HoldsValues EF.lift
+            → IfOk result (HoldsEvaluations EF.lift
             (λ i. EF.lift (coset_point F.ops (F.root domain.log_size) domain.shift i))
             (2 ^ domain.log_size) (held_at (held_of fields InputMmcs.committed
             self.now.fri.log_blowup prover_data.now) index).values_at) }
@@ -278,7 +278,7 @@ impl<
             index }
         ensures values { let fields = ⟦<EF as ChallengeField<F>>⟧.fields in
             All (HoldsWords fields self.now.fri.log_blowup) (InputMmcs.committed prover_data.now)
-            → IfOk result (HoldsValues EF.lift
+            → IfOk result (HoldsEvaluations EF.lift
             (λ i. EF.lift (coset_point F.ops (F.root domain.log_size) domain.shift i))
             (2 ^ domain.log_size) (held_at (held_of fields InputMmcs.committed
             self.now.fri.log_blowup prover_data.now) index).values_at) }

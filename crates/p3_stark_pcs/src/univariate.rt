@@ -14,7 +14,7 @@ ghost use Rattle.p3_periodic.specs.Tables.{AreTabulated};
 ghost use Rattle.p3_periodic.specs.Views.{table_rows};
 ghost use Rattle.p3_stark_pcs.specs.Heights.{IsTraceHeight};
 ghost use Rattle.p3_stark_pcs.specs.Preprocessing.{AreOpenableAt, AreKept};
-ghost use Rattle.p3_stark_pcs.specs.Evaluations.{HoldsValues, held_at};
+ghost use Rattle.p3_stark_pcs.specs.Evaluations.{HoldsEvaluations, held_at};
 
 use p3_commit::{CommitmentOpening, OpenedValues};
 use p3_matrix::RowMajorMatrix;
@@ -174,7 +174,7 @@ pub trait UnivariateStarkPcs<EF: Copy, C>: Pcs<EF, C> {
         requires range { Self.InProverRange self.now }
         requires evaluable { CanEvaluate self.now prover_data.now index domain }
         ensures values { Self.IsHonest self.now prover_data.now
-            → IfOk result (HoldsValues embed (λ i. embed (point domain i)) (Self.domain_size domain)
+            → IfOk result (HoldsEvaluations embed (λ i. embed (point domain i)) (Self.domain_size domain)
             (held_at (Self.held self.now prover_data.now) index).values_at) }
         ensures refused { IfErr result EvaluationRefuses };
 
@@ -189,7 +189,7 @@ pub trait UnivariateStarkPcs<EF: Copy, C>: Pcs<EF, C> {
         requires range { Self.InProverRange self.now }
         requires evaluable { CanEvaluateWhole self.now prover_data.now index domain }
         ensures values { Self.IsHonest self.now prover_data.now
-            → IfOk result (HoldsValues embed (λ i. embed (point domain i)) (Self.domain_size domain)
+            → IfOk result (HoldsEvaluations embed (λ i. embed (point domain i)) (Self.domain_size domain)
             (held_at (held_whole self.now prover_data.now) index).values_at) }
         ensures refused { IfErr result EvaluationRefuses };
 

@@ -4,7 +4,8 @@ use Rattle.algebra.specs.Polynomial.{tabulate}
 use Rattle.algebra.proofs.Lists.{each_from_All, tabulate-next, length-tabulate}
 use Rattle.p3_converse.specs.Batching.{IsUnbatching}
 use Rattle.p3_converse.specs.Positions.{stepped}
-use Rattle.p3_converse.specs.Unfolding.{lists, common_length}
+use Rattle.algebra.specs.Nested.{lists}
+use Rattle.p3_converse.specs.Unfolding.{common_length}
 use Rattle.p3_converse.proofs.Positions.{length-lists, common_length-first, one_length-lists, one_length-vectors, all-tabulate}
 use Rattle.p3_converse.proofs.Interpolated.{length-interpolated, unbatched}
 use Rattle.p3_converse.proofs.batching.unbatch.Goals as goal

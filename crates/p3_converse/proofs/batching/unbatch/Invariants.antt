@@ -1,7 +1,7 @@
 use Rattle.std.proofs.Common.{◌≡◌}
 use Rattle.algebra.specs.Polynomial.{tabulate}
 use Rattle.p3_converse.specs.Positions.{stepped}
-use Rattle.p3_converse.specs.Unfolding.{lists}
+use Rattle.algebra.specs.Nested.{lists}
 use Rattle.p3_converse.proofs.batching.unbatch.Given as goal
 
 abbrev pub invariant-loop-s : goal.invariant-loop-s

@@ -1,6 +1,6 @@
 use Rattle.std.proofs.Common.{◌≡◌}
 use Rattle.p3_converse.specs.Positions.{interleaved}
-use Rattle.p3_converse.specs.Unfolding.{lists}
+use Rattle.algebra.specs.Nested.{lists}
 use Rattle.p3_converse.proofs.by_position.interleave.Given as goal
 
 abbrev pub invariant-loop-position : goal.invariant-loop-position

@@ -1,7 +1,7 @@
 use Rattle.std.proofs.Common.{◌≡◌, length, ap, ◌∙◌, arith}
 use Rattle.std.proofs.lemmas.List.{with_items_is}
 use Rattle.p3_converse.specs.Positions.{coefficients_at}
-use Rattle.p3_converse.specs.Unfolding.{lists}
+use Rattle.algebra.specs.Nested.{lists}
 use Rattle.p3_converse.proofs.Positions.{length-coefficients_at, length-lists}
 use Rattle.p3_converse.proofs.Concatenated.{length-concatenated}
 use Rattle.p3_converse.proofs.Interpolated.{interpolated-parts}

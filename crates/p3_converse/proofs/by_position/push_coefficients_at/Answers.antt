@@ -1,7 +1,7 @@
 use Rattle.std.proofs.Common.{◌<◌, ◌++◌, ◌∷◌, [], vec_len, length, take, sym, ap, ◌∙◌, arith, append_assoc}
 use Rattle.std.proofs.lemmas.List.{get_or_default}
 use Rattle.p3_converse.specs.Positions.{coefficients_at}
-use Rattle.p3_converse.specs.Unfolding.{lists}
+use Rattle.algebra.specs.Nested.{lists}
 use Rattle.p3_converse.proofs.Positions.{coefficients_at-next}
 use Rattle.p3_converse.proofs.by_position.push_coefficients_at.Goals as goal
 

@@ -1,6 +1,6 @@
 use Rattle.std.proofs.Common.{◌≡◌, ◌++◌, take}
 use Rattle.p3_converse.specs.Positions.{coefficients_at}
-use Rattle.p3_converse.specs.Unfolding.{lists}
+use Rattle.algebra.specs.Nested.{lists}
 use Rattle.p3_converse.proofs.by_position.push_coefficients_at.Given as goal
 
 abbrev pub invariant-loop-poly : goal.invariant-loop-poly

@@ -6,7 +6,8 @@ use Rattle.std.proofs.lemmas.Result.{IfOk-weaker}
 use Rattle.algebra.specs.Interpolation.{AreDistinct}
 use Rattle.p3_converse.specs.Branches.{log_sum, input_logs, with_input, IsTreeUnfolding, IsRoundUnfolding}
 use Rattle.p3_converse.specs.Trees.{tree_of, leaf_length, leaf}
-use Rattle.p3_converse.specs.Unfolding.{lists, common_length}
+use Rattle.algebra.specs.Nested.{lists}
+use Rattle.p3_converse.specs.Unfolding.{common_length}
 use Rattle.p3_converse.proofs.Positions.{length-lists}
 use Rattle.p3_converse.proofs.Trees.{views, tree_of-Leaf, beta_count-positive}
 use Rattle.p3_converse.proofs.Branches.{UnfoldsTo, HasInputsOf, is_leaf_unfolding}

@@ -2,7 +2,7 @@ use Rattle.std.proofs.Common.{◌≡◌, ◌*◌, ◌^◌, ◌<◌, All, length,
 use Rattle.std.specs.List.{AllZip}
 use Rattle.p3_converse.specs.Branches.{log_sum, input_logs}
 use Rattle.p3_converse.specs.Trees.{tree_of, leaf_length}
-use Rattle.p3_converse.specs.Unfolding.{lists}
+use Rattle.algebra.specs.Nested.{lists}
 use Rattle.p3_converse.proofs.Trees.{views}
 use Rattle.p3_converse.proofs.Branches.{UnfoldsTo, HasInputsOf}
 use Rattle.p3_converse.proofs.tree.+unfold_tree.Given as goal

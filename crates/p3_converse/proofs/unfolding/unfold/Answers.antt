@@ -3,7 +3,8 @@ use Rattle.std.proofs.lemmas.Nat.{pow_pos}
 use Rattle.std.proofs.lemmas.Result.{IfOk-weaker}
 use Rattle.algebra.proofs.Lists.{each_from_All}
 use Rattle.p3_converse.specs.Positions.{interpolated}
-use Rattle.p3_converse.specs.Unfolding.{lists, common_length, IsUnfolding}
+use Rattle.algebra.specs.Nested.{lists}
+use Rattle.p3_converse.specs.Unfolding.{common_length, IsUnfolding}
 use Rattle.p3_converse.proofs.Positions.{length-lists, common_length-first, one_length-lists, log_small}
 use Rattle.p3_converse.proofs.Interpolated.{length-interpolated}
 use Rattle.p3_converse.proofs.Unfolded.{is_unfolding}

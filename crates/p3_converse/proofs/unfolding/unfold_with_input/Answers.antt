@@ -3,7 +3,8 @@ use Rattle.std.proofs.lemmas.List.{map-append}
 use Rattle.std.specs.Option.{option_to_list}
 use Rattle.p3_converse.specs.Positions.{coefficients_at, interleaved}
 use Rattle.p3_converse.specs.Batching.{IsUnbatching}
-use Rattle.p3_converse.specs.Unfolding.{lists, common_length, IsUnfoldingWithInput}
+use Rattle.algebra.specs.Nested.{lists}
+use Rattle.p3_converse.specs.Unfolding.{common_length, IsUnfoldingWithInput}
 use Rattle.p3_converse.proofs.Positions.{length-coefficients_at, length-lists, common_length-first, one_length-lists, log_small, all-front, all-last}
 use Rattle.p3_converse.proofs.Concatenated.{length-concatenated}
 use Rattle.p3_converse.proofs.Unfolded.{is_unfolding_with_input}
