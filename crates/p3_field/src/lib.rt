@@ -14,9 +14,7 @@ pub use p3_field_core::element_bytes::ElementBytes;
 pub use p3_field_core::extension::ExtensionField;
 pub use p3_field_core::field::Field;
 pub use p3_field_core::index::{log2_strict_usize, reverse_bits_len, reverse_slice_index_bits};
-pub use p3_field_core::packing::{
-    PackableExtension, PackableField, PackedExtension, PackedField,
-};
+pub use p3_field_core::packing::{PackableExtension, PackableField, PackedExtension, PackedField};
 pub use p3_field_core::powers::{bit_reversed_powers, shifted_powers};
 pub use p3_field_core::prime_field::PrimeField64;
 pub use p3_field_core::two_adic::TwoAdicField;
