@@ -48,6 +48,13 @@ pub trait ExtensionField<F: Field>: Field {
     fn scale_prepared(self, factor: F::Prepared) -> Self
         ensures { result ≡ Self.ops.mul self (lift (F.factor_of factor)) };
 
+    /// The sum of four products with elements of the base field, each value times the factor beside
+    /// it. An extension can add up such products before it reduces a coefficient.
+    fn mixed_dot_product(values: (Self, Self, Self, Self), factors: (F, F, F, F)) -> Self
+        ensures { result ≡ Self.ops.add (Self.ops.add (Self.ops.add
+            (Self.ops.mul values.0 (lift factors.0)) (Self.ops.mul values.1 (lift factors.1)))
+            (Self.ops.mul values.2 (lift factors.2))) (Self.ops.mul values.3 (lift factors.3)) };
+
     ghost lift_law: { IsHomomorphism F.ops Self.ops lift };
 
     ghost coefficient_of_lift: { (x : F) →
@@ -95,6 +102,14 @@ impl<F: Field> ExtensionField<F> for F {
 
     fn scale_prepared(self, factor: F::Prepared) -> F {
         self.times(factor)
+    }
+
+    fn mixed_dot_product(values: (F, F, F, F), factors: (F, F, F, F)) -> F
+        ensures { result ≡ F.ops.add (F.ops.add (F.ops.add (F.ops.mul values.0 factors.0)
+            (F.ops.mul values.1 factors.1)) (F.ops.mul values.2 factors.2))
+            (F.ops.mul values.3 factors.3) }
+    {
+        values.0 * factors.0 + values.1 * factors.1 + values.2 * factors.2 + values.3 * factors.3
     }
 
     ghost lift_law = { identity_homomorphism F.ops };

@@ -1,6 +1,5 @@
 pub mod Terms
 pub mod Rows
-pub mod MappedRows
 pub mod LowDegree
 pub mod LowWords
 pub mod Heights

@@ -6,7 +6,7 @@ ghost use Rattle.algebra.specs.Polynomial.{val};
 ghost use Rattle.p3_matrix.specs.Matrix.{rows, matrix_width};
 
 use p3_field_core::{ExtensionField, Field};
-use p3_fri_ladder::{Ladder, combine_row, combine_rows};
+use p3_fri_ladder::{Ladder, combine_row};
 use p3_matrix::RowMajorMatrix;
 use std::alloc::{AllocError, Global};
 
@@ -22,13 +22,7 @@ pub fn compress<F: Field, EF: ExtensionField<F>>(
 {
     let height = matrix.height();
     let mut compressed = Vec::with_capacity(alloc, height)?;
-    let pairs = height / 2;
-    for pair in 0..pairs {
-        let (even, odd) = combine_rows(ladder, matrix.row(2 * pair), matrix.row(2 * pair + 1));
-        compressed.push(even)?;
-        compressed.push(odd)?;
-    }
-    for i in 2 * pairs..height {
+    for i in 0..height {
         compressed.push(combine_row(ladder, matrix.row(i)))?;
     }
     Ok(compressed)

@@ -7,6 +7,7 @@ use Rattle.algebra.specs.Field.{FieldOps, IsRing, pow}
 use Rattle.algebra.specs.Polynomial.{val, tabulate}
 use Rattle.algebra.proofs.Lists.{get_or-tabulate}
 use Rattle.algebra.proofs.Powers.{pow-next}
+use Rattle.algebra.proofs.RingLaws.{add_four}
 use Rattle.algebra.proofs.Values.{val-append, val-one}
 
 module _ {E : Type 0} (K : FieldOps E) (R : IsRing K) (alpha : E) where
@@ -56,3 +57,31 @@ module _ {E : Type 0} (K : FieldOps E) (R : IsRing K) (alpha : E) where
       (ap lift is ∙ sym (get_or-map lift row k v (lift v) below))
       (so_far ∙ ap (λ xs. val K xs alpha) (sym (take-map lift k row)))
       ∙ ap (λ xs. val K xs alpha) (take-map lift (k + 1) row)
+
+  -- four values more
+  pub lifted_four : {F : Type 0} (lift : F → E) (n k : ℕ) (powers : List E) (row : List F)
+      (p₀ p₁ p₂ p₃ s : E) (v₀ v₁ v₂ v₃ : F) → powers ≡ tabulate n (λ i. pow K alpha i)
+      → k + 3 < n → k + 3 < length row
+      → p₀ ≡ get_or powers k p₀ → p₁ ≡ get_or powers (k + 1) p₁
+      → p₂ ≡ get_or powers (k + 2) p₂ → p₃ ≡ get_or powers (k + 3) p₃
+      → v₀ ≡ get_or row k v₀ → v₁ ≡ get_or row (k + 1) v₁
+      → v₂ ≡ get_or row (k + 2) v₂ → v₃ ≡ get_or row (k + 3) v₃
+      → s ≡ val K (map lift (take k row)) alpha
+      → s ⊕ (p₀ ⊗ lift v₀ ⊕ p₁ ⊗ lift v₁ ⊕ p₂ ⊗ lift v₂ ⊕ p₃ ⊗ lift v₃)
+      ≡ val K (map lift (take (k + 4) row)) alpha
+  lifted_four lift n k powers row p₀ p₁ p₂ p₃ s v₀ v₁ v₂ v₃ e l below a₀ a₁ a₂ a₃ b₀ b₁ b₂ b₃ so_far =
+      let one = lifted_next lift n k powers row p₀ s v₀ e (omega (arith, l)) a₀
+      (omega (arith, below)) b₀ so_far in
+      let two = lifted_next lift n (k + 1) powers row p₁ (s ⊕ p₀ ⊗ lift v₀) v₁ e
+      (omega (arith, l)) a₁ (omega (arith, below)) b₁ one in
+      let three = lifted_next lift n (k + 2) powers row p₂
+      (s ⊕ p₀ ⊗ lift v₀ ⊕ p₁ ⊗ lift v₁) v₂ e (omega (arith, l)) a₂ (omega (arith, below)) b₂
+      (two ∙ ap sum_of_first (omega arith)) in
+      let four = lifted_next lift n (k + 3) powers row p₃
+      (s ⊕ p₀ ⊗ lift v₀ ⊕ p₁ ⊗ lift v₁ ⊕ p₂ ⊗ lift v₂) v₃ e l a₃ below b₃
+      (three ∙ ap sum_of_first (omega arith)) in
+      add_four K R s (p₀ ⊗ lift v₀) (p₁ ⊗ lift v₁) (p₂ ⊗ lift v₂) (p₃ ⊗ lift v₃)
+      ∙ four ∙ ap sum_of_first (omega arith)
+    where
+      sum_of_first : ℕ → E
+      sum_of_first m = val K (map lift (take m row)) alpha

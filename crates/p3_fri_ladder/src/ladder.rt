@@ -53,39 +53,22 @@ impl<EF: Field> Ladder<EF> {
     }
 }
 
-/// The same of an opened row, whose values lie in the base field.
+/// The same of an opened row, whose values lie in the base field, four at a time.
 pub fn combine_row<F: Field, EF: ExtensionField<F>>(ladder: &Ladder<EF>, row: &[F]) -> EF
     requires { length row.now ≤ vec_len ladder.now.powers }
     ensures { result ≡ val EF.ops (map EF.lift row.now) ladder.now.alpha }
 {
+    let powers = ladder.powers.as_slice();
+    let blocks = row.len() / 4;
     let mut sum = EF::ZERO;
-    for k in 0..row.len() {
-        // one division for the entry, and then none for a coefficient
-        let entry = row[k].prepare();
-        sum = sum + ladder.powers[k].scale_prepared(entry);
+    for block in 0..blocks {
+        let k = 4 * block;
+        let four_powers = (powers[k], powers[k + 1], powers[k + 2], powers[k + 3]);
+        let four_entries = (row[k], row[k + 1], row[k + 2], row[k + 3]);
+        sum = sum + EF::mixed_dot_product(four_powers, four_entries);
+    }
+    for k in 4 * blocks..row.len() {
+        sum = sum + powers[k].scale(row[k]);
     }
     sum
-}
-
-/// The same of two rows of one width at once, which share what is made of each power.
-pub fn combine_rows<F: Field, EF: ExtensionField<F>>(
-    ladder: &Ladder<EF>,
-    first: &[F],
-    second: &[F],
-) -> (EF, EF)
-    requires powers { length first.now ≤ vec_len ladder.now.powers }
-    requires width { length second.now ≡ length first.now }
-    ensures first { result.0 ≡ val EF.ops (map EF.lift first.now) ladder.now.alpha }
-    ensures second { result.1 ≡ val EF.ops (map EF.lift second.now) ladder.now.alpha }
-{
-    let mut first_sum = EF::ZERO;
-    let mut second_sum = EF::ZERO;
-    for k in 0..first.len() {
-        let power = ladder.powers[k];
-        let first_entry = first[k].prepare();
-        let second_entry = second[k].prepare();
-        first_sum = first_sum + power.scale_prepared(first_entry);
-        second_sum = second_sum + power.scale_prepared(second_entry);
-    }
-    (first_sum, second_sum)
 }

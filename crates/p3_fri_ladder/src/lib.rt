@@ -4,4 +4,4 @@
 
 pub mod ladder;
 
-pub use crate::ladder::{Ladder, combine_row, combine_rows};
+pub use crate::ladder::{Ladder, combine_row};

@@ -1,8 +1,9 @@
 -- One more row in the sums over rows.
-use Rattle.std.proofs.Common.{◌≡◌, ℕ, ◌+◌, List, [], get_or, sym, ap, ap₂, ◌∙◌}
+use Rattle.std.proofs.Common.{◌≡◌, ℕ, ◌+◌, List, [], get_or, refl, sym, ap, ap₂, ◌∙◌, arith}
 use Rattle.algebra.specs.Field.{FieldOps, IsRing}
 use Rattle.algebra.specs.Polynomial.{sum_below}
-use Rattle.p3_fri_openings.specs.Sums.{weighted_sum}
+use Rattle.algebra.proofs.RingLaws.{add_four}
+use Rattle.p3_fri_openings.specs.Sums.{weighted, weighted_sum}
 use Rattle.p3_fri_openings.proofs.Sizes.{sum_next}
 
 module _ {F E : Type 0} (B : FieldOps F) (K : FieldOps E) (R : IsRing K) (lift : F → E)
@@ -25,3 +26,34 @@ module _ {F E : Type 0} (B : FieldOps F) (K : FieldOps E) (R : IsRing K) (lift :
       ∙ ap (λ s. K.add first s) (sym (sum_next K R i (λ i. K.mul
       (K.mul (get_or inverses i K.zero) (lift (get_or points i B.zero)))
       (lift (get_or (get_or rows i []) j B.zero)))))
+
+  -- four rows more
+  pub weighted_next_four : (i : ℕ) (first cur new w₀ w₁ w₂ w₃ : E) (r₀ r₁ r₂ r₃ : List F)
+      → cur ≡ K.add first (weighted_sum B K lift i points inverses rows j)
+      → new ≡ K.add cur (K.add (K.add (K.add (weighted B K lift j w₀ r₀)
+      (weighted B K lift j w₁ r₁)) (weighted B K lift j w₂ r₂)) (weighted B K lift j w₃ r₃))
+      → w₀ ≡ K.mul (get_or inverses i K.zero) (lift (get_or points i B.zero))
+      → w₁ ≡ K.mul (get_or inverses (i + 1) K.zero) (lift (get_or points (i + 1) B.zero))
+      → w₂ ≡ K.mul (get_or inverses (i + 2) K.zero) (lift (get_or points (i + 2) B.zero))
+      → w₃ ≡ K.mul (get_or inverses (i + 3) K.zero) (lift (get_or points (i + 3) B.zero))
+      → r₀ ≡ get_or rows i [] → r₁ ≡ get_or rows (i + 1) []
+      → r₂ ≡ get_or rows (i + 2) [] → r₃ ≡ get_or rows (i + 3) []
+      → new ≡ K.add first (weighted_sum B K lift (i + 4) points inverses rows j)
+  weighted_next_four i first cur new w₀ w₁ w₂ w₃ r₀ r₁ r₂ r₃ c n e₀ e₁ e₂ e₃ a₀ a₁ a₂ a₃ =
+      let one = weighted_next i first cur (K.add cur (term w₀ r₀)) w₀ r₀ c refl e₀ a₀ in
+      let two = weighted_next (i + 1) first (K.add cur (term w₀ r₀))
+      (K.add (K.add cur (term w₀ r₀)) (term w₁ r₁)) w₁ r₁ one refl e₁ a₁ in
+      let three = weighted_next (i + 2) first (K.add (K.add cur (term w₀ r₀)) (term w₁ r₁))
+      (K.add (K.add (K.add cur (term w₀ r₀)) (term w₁ r₁)) (term w₂ r₂)) w₂ r₂
+      (two ∙ ap so_far (omega arith)) refl e₂ a₂ in
+      weighted_next (i + 3) first
+      (K.add (K.add (K.add cur (term w₀ r₀)) (term w₁ r₁)) (term w₂ r₂)) new w₃ r₃
+      (three ∙ ap so_far (omega arith))
+      (n ∙ add_four K R cur (term w₀ r₀) (term w₁ r₁) (term w₂ r₂) (term w₃ r₃)) e₃ a₃
+      ∙ ap so_far (omega arith)
+    where
+      term : E → List F → E
+      term = weighted B K lift j
+
+      so_far : ℕ → E
+      so_far m = K.add first (weighted_sum B K lift m points inverses rows j)

@@ -7,7 +7,7 @@ ghost use Rattle.p3_matrix.specs.Matrix.{rows, matrix_width};
 ghost use Rattle.p3_fri_openings.specs.Rounds.{HasCoset, log_height};
 ghost use Rattle.p3_fri_openings.specs.Refusals.{IsOff};
 ghost use Rattle.p3_fri_openings.specs.Committed.{coset_of, inverse_differences, committed_values};
-ghost use Rattle.p3_fri_openings.specs.Sums.{StartsWith, weighted_sum};
+ghost use Rattle.p3_fri_openings.specs.Sums.{StartsWith, weighted, weighted_sum};
 
 use p3_field_core::{
     ExtensionField, Field, TwoAdicField, TwoAdicMultiplicativeCoset, log2_strict_usize,
@@ -31,13 +31,36 @@ fn zeros<F: Field>(alloc: Global, count: usize) -> Result<Vec<F>, AllocError>
 fn add_weighted_row<F: Field, EF: ExtensionField<F>>(sums: &mut [EF], row: &[F], weight: EF)
     requires width { length row.now ≡ length sums.old }
     ensures { (j : ℕ) (d : EF) → j < length sums.old → slice_index_or sums.new j d
-        ≡ EF.ops.add (slice_index_or sums.old j d)
-        (EF.ops.mul weight (EF.lift (slice_index_or row.now j F.ops.zero))) }
+        ≡ EF.ops.add (slice_index_or sums.old j d) (weighted F.ops EF.ops EF.lift j weight row.now) }
 {
     for j in 0..sums.len() {
-        // one division for the entry, and then none for a coefficient
-        let entry = row[j].prepare();
-        sums[j] = sums[j] + weight.scale_prepared(entry);
+        sums[j] = sums[j] + weight.scale(row[j]);
+    }
+}
+
+/// The same of four rows at once, each times the weight in its place.
+fn add_four_weighted_rows<F: Field, EF: ExtensionField<F>>(
+    sums: &mut [EF],
+    first: &[F],
+    second: &[F],
+    third: &[F],
+    fourth: &[F],
+    weights: (EF, EF, EF, EF),
+)
+    requires first { length first.now ≡ length sums.old }
+    requires second { length second.now ≡ length sums.old }
+    requires third { length third.now ≡ length sums.old }
+    requires fourth { length fourth.now ≡ length sums.old }
+    ensures { (j : ℕ) (d : EF) → j < length sums.old → slice_index_or sums.new j d
+        ≡ EF.ops.add (slice_index_or sums.old j d) (EF.ops.add (EF.ops.add (EF.ops.add
+        (weighted F.ops EF.ops EF.lift j weights.0 first.now)
+        (weighted F.ops EF.ops EF.lift j weights.1 second.now))
+        (weighted F.ops EF.ops EF.lift j weights.2 third.now))
+        (weighted F.ops EF.ops EF.lift j weights.3 fourth.now)) }
+{
+    for j in 0..sums.len() {
+        let entries = (first[j], second[j], third[j], fourth[j]);
+        sums[j] = sums[j] + EF::mixed_dot_product(weights, entries);
     }
 }
 
@@ -49,6 +72,16 @@ fn scale_all<F: Field>(values: &mut [F], factor: F)
     for j in 0..values.len() {
         values[j] = factor * values[j];
     }
+}
+
+/// What the entries of one row are multiplied by: the inverse difference and the coset's point.
+fn row_weight<F: Field, EF: ExtensionField<F>>(coset: &[F], inverses: &[EF], i: usize) -> EF
+    requires coset { i < length coset.now }
+    requires inverses { i < length inverses.now }
+    ensures { result ≡ EF.ops.mul (slice_index_or inverses.now i EF.ops.zero)
+        (EF.lift (slice_index_or coset.now i F.ops.zero)) }
+{
+    inverses[i].scale(coset[i])
 }
 
 /// Adds to each column's sum its first `count` entries, each times the inverse difference and the
@@ -68,9 +101,26 @@ fn add_weighted_rows<F: TwoAdicField, EF: ExtensionField<F>>(
         ≡ EF.ops.add (slice_index_or sums.old j d) (weighted_sum F.ops EF.ops EF.lift count
         coset.now inverses.now (rows matrix.now) j) }
 {
-    for i in 0..count {
-        let weight = inverses[i].scale(coset[i]);
-        add_weighted_row(sums, matrix.row(i), weight);
+    let blocks = count / 4;
+    for block in 0..blocks {
+        let i = 4 * block;
+        let weights = (
+            row_weight(coset, inverses, i),
+            row_weight(coset, inverses, i + 1),
+            row_weight(coset, inverses, i + 2),
+            row_weight(coset, inverses, i + 3),
+        );
+        add_four_weighted_rows(
+            sums,
+            matrix.row(i),
+            matrix.row(i + 1),
+            matrix.row(i + 2),
+            matrix.row(i + 3),
+            weights,
+        );
+    }
+    for i in 4 * blocks..count {
+        add_weighted_row(sums, matrix.row(i), row_weight(coset, inverses, i));
     }
 }
 

@@ -34,7 +34,9 @@ use p3_challenger_core::{CanObserve, FieldChallenger, GrindingChallenger, Plays}
 pub use p3_commit::CommitmentWithOpeningPoints;
 use p3_commit::{CommitmentOpening, Mmcs, OpenedValues};
 use p3_dft::TwoAdicSubgroupDft;
-use p3_field_core::{ExtensionField, TwoAdicField, TwoAdicMultiplicativeCoset, log2_strict_usize};
+use p3_field_core::{
+    PackableExtension, PackableField, TwoAdicField, TwoAdicMultiplicativeCoset, log2_strict_usize,
+};
 use p3_fri_commit::commit_evaluations;
 use p3_fri_folding::FriParameters;
 pub use p3_fri_folding::TwoAdicFriFolding;
@@ -91,8 +93,8 @@ impl<Val, Dft, InputMmcs, FriMmcs> TwoAdicFriPcs<Val, Dft, InputMmcs, FriMmcs> {
 /// difficulty; the verifier that the final log height is below 64, and the same of the challenger.
 /// Data is opened whose matrices stand on cosets of the field.
 impl<
-    F: TwoAdicField,
-    EF: ExtensionField<F>,
+    F: TwoAdicField + PackableField,
+    EF: PackableExtension<F>,
     Dft: TwoAdicSubgroupDft<F>,
     InputMmcs: Mmcs<F>,
     M: Mmcs<EF>,

@@ -36,7 +36,7 @@ use crate::two_adic_pcs::TwoAdicFriPcs;
 use p3_challenger_core::{CanObserve, FieldChallenger, GrindingChallenger, Plays};
 use p3_commit::{CommitmentOpening, Mmcs, OpenedValues};
 use p3_dft::TwoAdicSubgroupDft;
-use p3_field_core::{ExtensionField, TwoAdicField, TwoAdicMultiplicativeCoset};
+use p3_field_core::{PackableExtension, PackableField, TwoAdicField, TwoAdicMultiplicativeCoset};
 use p3_fri_commit::extend_each;
 use p3_fri_evaluations::evaluations_on_domain;
 use p3_fri_relation::error::FriError;
@@ -55,8 +55,8 @@ use std::alloc::{AllocError, Global};
 /// Matrices that are committed to as they are stand on the evaluation coset, in bit-reversed order,
 /// at a height from the blowup to the size of the field's greatest subgroup.
 impl<
-    F: TwoAdicField,
-    EF: ExtensionField<F>,
+    F: TwoAdicField + PackableField,
+    EF: PackableExtension<F>,
     Dft: TwoAdicSubgroupDft<F>,
     InputMmcs: Mmcs<F>,
     M: Mmcs<EF>,

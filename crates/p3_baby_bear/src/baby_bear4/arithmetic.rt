@@ -23,6 +23,23 @@ fn product(a: BabyBear, b: BabyBear) -> u64
     a.as_canonical_u64() * b.as_canonical_u64()
 }
 
+/// The sum of four products, each of a value and the factor beside it, reduced once.
+pub(super) fn four_products(
+    values: (BabyBear, BabyBear, BabyBear, BabyBear),
+    factors: (BabyBear, BabyBear, BabyBear, BabyBear),
+) -> BabyBear
+    ensures { result ≡ baby_bear.add (baby_bear.add (baby_bear.add
+        (baby_bear.mul values.0 factors.0) (baby_bear.mul values.1 factors.1))
+        (baby_bear.mul values.2 factors.2)) (baby_bear.mul values.3 factors.3) }
+{
+    BabyBear::from_u64(
+        product(values.0, factors.0)
+            + product(values.1, factors.1)
+            + product(values.2, factors.2)
+            + product(values.3, factors.3),
+    )
+}
+
 /// 11 times a sum of up to three products, reduced so far that it is no greater than one product.
 fn eleven_times(sum: u64) -> u64
     requires { sum ≤ 3 * (2013265920 * 2013265920) }

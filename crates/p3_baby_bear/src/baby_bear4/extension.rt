@@ -7,6 +7,7 @@ ghost use Rattle.p3_baby_bear.specs.BabyBear4Laws.{coefficients4_length, coeffic
 ghost use Rattle.p3_baby_bear.specs.BabyBear4Laws.{of_coefficients4_law};
 
 use super::BabyBear4;
+use super::arithmetic::four_products;
 use crate::baby_bear::constants::ZERO;
 use crate::baby_bear::{BabyBear, BabyBearFactor};
 use p3_field_core::extension::ExtensionField;
@@ -76,6 +77,27 @@ impl ExtensionField<BabyBear> for BabyBear4 {
             linear: self.linear.times(factor),
             quadratic: self.quadratic.times(factor),
             cubic: self.cubic.times(factor),
+        }
+    }
+
+    /// Each coefficient is a sum of four products, which is reduced once.
+    fn mixed_dot_product(
+        values: (BabyBear4, BabyBear4, BabyBear4, BabyBear4),
+        factors: (BabyBear, BabyBear, BabyBear, BabyBear),
+    ) -> BabyBear4
+        ensures { result ≡ baby_bear4.add (baby_bear4.add (baby_bear4.add
+            (baby_bear4.mul values.0 (lift4 factors.0)) (baby_bear4.mul values.1 (lift4 factors.1)))
+            (baby_bear4.mul values.2 (lift4 factors.2))) (baby_bear4.mul values.3 (lift4 factors.3)) }
+    {
+        let (a, b, c, d) = values;
+        BabyBear4 {
+            constant: four_products((a.constant, b.constant, c.constant, d.constant), factors),
+            linear: four_products((a.linear, b.linear, c.linear, d.linear), factors),
+            quadratic: four_products(
+                (a.quadratic, b.quadratic, c.quadratic, d.quadratic),
+                factors,
+            ),
+            cubic: four_products((a.cubic, b.cubic, c.cubic, d.cubic), factors),
         }
     }
 

@@ -1,11 +1,7 @@
-use Rattle.std.proofs.Common.{◌≡◌, ◌*◌, map, take}
+use Rattle.std.proofs.Common.{◌≡◌, map, take}
 use Rattle.algebra.specs.Polynomial.{val}
 use Rattle.p3_matrix.specs.Matrix.{rows}
 use Rattle.p3_fri_batch.proofs.compression.compress.Given as goal
-
-abbrev pub invariant-loop-pair : goal.invariant-loop-pair
-invariant-loop-pair g l = l.compressed.items ≡ map (λ row. val g.EF.Field.ops
-    (map g.EF.ExtensionField.lift row) l.ladder.alpha) (take (2 * l.pair) (rows l.matrix))
 
 abbrev pub invariant-loop-i : goal.invariant-loop-i
 invariant-loop-i g l = l.compressed.items ≡ map (λ row. val g.EF.Field.ops

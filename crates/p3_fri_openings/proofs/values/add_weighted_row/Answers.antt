@@ -16,8 +16,8 @@ loop-j-preserved g c =
           (g.met.EF.Field.add_law _ _ c.add.result c.add.ensures
           ∙ ap₂ (λ a b. K.add a b)
           (item c.loop-j.sums j c.index-sums-j.result d here c.index-sums-j.is ∙ c.loop-j.invariant.others j d (omega arith))
-          (c.scale_prepared.ensures ∙ ap (λ x. K.mul c.args.weight (lift x)) (c.prepare-entry.ensures
-          ∙ item c.args.row.now j c.index-row-j.result zero there c.index-row-j.is)))
+          (c.scale.ensures ∙ ap (λ x. K.mul c.args.weight (lift x))
+          (item c.args.row.now j c.index-row-j.result zero there c.index-row-j.is)))
           (λ k l. c.loop-j.invariant.added k d l) k l;
       others = λ k d l. unwritten c.loop-j.sums c.args.sums.now j c.add.result d k l
           (c.loop-j.invariant.others k d (omega (arith, l)));
