@@ -11,8 +11,8 @@ pub mod verifier;
 pub use p3_fri_core::{
     BatchMultiOpening, CommitPhaseMultiStep, FriFoldingStrategy, FriParameters, FriProof,
     FriProverError, FriShape, PcsShape, TwoAdicFriFolding, WithExtraBits,
-    compute_log_arity_for_round, config, fold_schedule, folding, is_strictly_falling, laws,
-    pcs_transcript, pow_phase, proof, strategy, transcript,
+    compute_log_arity_for_round, config, fold_lanes, fold_schedule, folding, is_strictly_falling,
+    lanes, laws, pcs_transcript, pow_phase, proof, strategy, transcript,
 };
 pub use p3_fri_two_adic::two_adic_pcs;
 pub use p3_fri_two_adic::two_adic_pcs::{TwoAdicFriFoldingForMmcs, TwoAdicFriPcs};
