@@ -95,8 +95,10 @@ fn open_at<EF: Copy, C: Clone, P: Pcs<EF, C>>(
 
 /// The value, where there is one in all.
 fn only_value<EF: Copy>(values: &[Vec<Vec<Vec<EF>>>]) -> Option<EF>
-    ensures { (y : EF) → opened_values values.now ≡ (((y ∷ []) ∷ []) ∷ []) ∷ []
+    ensures one { (y : EF) → opened_values values.now ≡ (((y ∷ []) ∷ []) ∷ []) ∷ []
         → result ≡ Some y }
+    ensures no_other { (y : EF) → result ≡ Some y
+        → opened_values values.now ≡ (((y ∷ []) ∷ []) ∷ []) ∷ [] }
 {
     let [matrices] = values else {
         return None;

@@ -9,7 +9,10 @@ use p3_converse::{
     log_arities_fit, log_arity_sum, paths_fit, unbatch, unfold, unfold_tree, unfold_with_input,
     unfolds_within_range, unquotient,
 };
-use p3_field::{BabyBear, BabyBear4, ExtensionField, Field, TwoAdicField, reverse_bits_len};
+use p3_field::{
+    BabyBear, BabyBear4, ExtensionField, Field, PackableExtension, PackableField, TwoAdicField,
+    reverse_bits_len,
+};
 use p3_fri_core::{FriFoldingStrategy, TwoAdicFriFolding};
 use std::alloc::{AllocError, Global};
 use std::marker::PhantomData;
@@ -345,7 +348,7 @@ fn four_coefficients<F: TwoAdicField, EF: ExtensionField<F>>(
 }
 
 /// The folds at `beta` of the word of log height 4 of the polynomial, to log height 3.
-fn eight_folds<F: TwoAdicField, EF: ExtensionField<F>>(
+fn eight_folds<F: TwoAdicField + PackableField, EF: PackableExtension<F>>(
     alloc: Global,
     coefficients: &[EF],
     beta: EF,
@@ -367,7 +370,7 @@ fn eight_folds<F: TwoAdicField, EF: ExtensionField<F>>(
 
 /// Whether the polynomial of eight coefficients comes back from the folds, at two betas, of its
 /// word.
-fn comes_back<F: TwoAdicField, EF: ExtensionField<F>>(
+fn comes_back<F: TwoAdicField + PackableField, EF: PackableExtension<F>>(
     alloc: Global,
     coefficients: &[EF],
     betas: [EF; 2],

@@ -4,7 +4,8 @@ ghost use Rattle.std.specs.Prelude.{◌≡◌, ◌+◌, ◌<◌, ◌≤◌, ◌^
 ghost use Rattle.p3_matrix.specs.Matrix.{rows, matrix_width};
 
 use p3_field::{
-    BabyBear, BabyBear4, ExtensionField, Field, TwoAdicField, TwoAdicMultiplicativeCoset,
+    BabyBear, BabyBear4, ExtensionField, Field, PackableExtension, TwoAdicField,
+    TwoAdicMultiplicativeCoset,
 };
 use p3_fri_core::{FriFoldingStrategy, TwoAdicFriFolding, WithExtraBits};
 use p3_matrix::RowMajorMatrix;
@@ -54,7 +55,7 @@ fn as_rows<EF: ExtensionField<BabyBear>>(
 
 /// Whether each entry of the folded matrix of the numbers from 0 on, `2^log_arity` to a row, is the
 /// fold of its row.
-fn rows_agree<EF: ExtensionField<BabyBear>>(
+fn rows_agree<EF: PackableExtension<BabyBear>>(
     alloc: Global,
     log_height: usize,
     log_arity: usize,

@@ -57,5 +57,5 @@ returns-clause-value c =
     (record { some = omega arith; entries = c.new-2.ensures.rows; columns = c.new-2.ensures.width; size = omega (arith, c.args.column.ok.0, c.requires.size) })
     c.natural_domain_for_degree-domain.ensures.shift size c.args.point c.from_base-lifted.result c.from_base-lifted.ensures in
     let opened = ap opened_values c.deref.ensures.value ∙ c.in_ok-verified.ensures.values ∙ ap (λ vs. vs ∷ []) known in
-    let same : c.in-Some.value ≡ lift4 value = cc (c.in-Some.ensures (lift4 value) opened) in
+    let same : c.in-Some.value ≡ lift4 value = cc (c.in-Some.ensures.one (lift4 value) opened) in
     c.coefficient.ensures ∙ ap (λ w. slice_index_or (coefficients4 w) 0 baby_bear.zero) same ∙ lift4_constant value

@@ -6,7 +6,7 @@ use Rattle.p3_fri_steps.specs.Pow.{found_witness}
 use Rattle.p3_fri_transcript.specs.Replay.{round_replay}
 use Rattle.p3_fri_transcript.specs.Views.{state_of, shape_of}
 use Rattle.p3_fri_prover.specs.Refusals.{RoundRefusal}
-use Rattle.p3_matrix.specs.Matrix.{rows}
+use Rattle.p3_matrix.specs.Matrix.{rows, matrix_width}
 use Rattle.p3_matrix.specs.Rows.{rows_of}
 use Rattle.p3_fri_prover.proofs.Inputs.{same_power}
 use Rattle.p3_fri_prover.proofs.Folding.{whole_rows, height_of_rows, one_power_height}
@@ -49,8 +49,8 @@ returns-in-Err-clause-refused g c =
       none_passes = c.in-Err.ensures.none_passes;
     })
 
-pub fold_leaves-requires-clause-power_of_two : goal.fold_leaves-requires-clause-power_of_two
-fold_leaves-requires-clause-power_of_two g c =
+pub fold_leaves-requires : goal.fold_leaves-requires
+fold_leaves-requires g c =
     let f = c.requires.foldable in
     let a = c.args.log_arity in
     let ys = c.args.word.items in
@@ -62,23 +62,14 @@ fold_leaves-requires-clause-power_of_two g c =
     ap (λ (x : RowMajorMatrix _). length (rows x)) same
     ∙ ap length (c.new-leaves.ensures.rows ∙ ap (λ w. rows_of w ys) c.arity_of.ensures)
     ∙ height_of_rows a f.height ys (sym c.args.word.ok.0 ∙ f.length_of_word) in
-    (f.height, height)
-
-pub fold_leaves-requires-clause-within_max_height : goal.fold_leaves-requires-clause-within_max_height
-fold_leaves-requires-clause-within_max_height g c h e =
-    let f = c.requires.foldable in
-    let a = c.args.log_arity in
-    let ys = c.args.word.items in
-    let leaves = c.index-get_matrices-0.result in
-    let same : leaves ≡ c.new-leaves.result =
-    c.index-get_matrices-0.is ∙ ap (λ xs. get_or xs 0 leaves)
-    (c.get_matrices.ensures ∙ c.in_ok-commitment.ensures.matrices) in
-    let height : length (rows leaves) ≡ 2 ^ f.height =
-    ap (λ (x : RowMajorMatrix _). length (rows x)) same
-    ∙ ap length (c.new-leaves.ensures.rows ∙ ap (λ w. rows_of w ys) c.arity_of.ensures)
-    ∙ height_of_rows a f.height ys (sym c.args.word.ok.0 ∙ f.length_of_word) in
-    let one : h ≡ f.height = same_power h f.height (sym e ∙ height) in
-    omega (arith, one, f.within)
+    record {
+      positive = c.requires.positive;
+      width = ap matrix_width same ∙ c.new-leaves.ensures.width ∙ c.arity_of.ensures;
+      power_of_two = (f.height, height);
+      within_max_height = λ h e.
+          (let one : h ≡ f.height = same_power h f.height (sym e ∙ height) in
+          omega (arith, one, f.within));
+    }
 
 pub returns-clause-round : goal.returns-clause-round
 returns-clause-round g c = λ h whole.
