@@ -1,6 +1,6 @@
 -- Numbers modulo 2013265921 by an estimate of the quotient.
 use Rattle.std.proofs.Common.{◌≡◌, ℕ, zero, suc, ◌+◌, ◌-◌, ◌*◌, ◌/◌, ◌%◌, ◌<◌, ◌≤◌, ◌^◌, List, []}
-use Rattle.std.proofs.Common.{◌∷◌, length, map, cond, Fits, w64, refl, ap, ap₂, sym, ◌∙◌, arith}
+use Rattle.std.proofs.Common.{◌∷◌, length, map, cond, Fits, w32, w64, refl, ap, ap₂, sym, ◌∙◌, arith}
 use Rattle.std.specs.Prelude.{replicate}
 use Rattle.std.specs.Simd.Lanes.{zip2, Each1, Each2, sel_l, top}
 use Rattle.std.proofs.lemmas.Simd.{Each1-weaker, tops_compared}
@@ -35,27 +35,26 @@ low ns t = Each1-weaker (λ n. n < 2013265921) (λ n. n < 4294967296) (λ n l. o
 
 -- a difference that wraps is the greater of the two
 pub once_reduced : (n : ℕ) → n < 4026531842
-    → cond (ltb n ((n + (2 ^ 64 - 2013265921)) % 2 ^ 64)) n ((n + (2 ^ 64 - 2013265921)) % 2 ^ 64)
+    → cond (ltb n ((n + (2 ^ 32 - 2013265921)) % 2 ^ 32)) n ((n + (2 ^ 32 - 2013265921)) % 2 ^ 32)
     ≡ n % 2013265921
 once_reduced n l = grind (arith, nat_tests)
 
-pub lanes_once_reduced : (ns : List ℕ) (k : ℕ) → length ns ≡ k → Each1 (λ n. n < 4026531842) ns
+-- the differences, in 32 bits, of numbers and the order
+abbrev wrapped : List ℕ → ℕ → List ℕ
+wrapped ns k = zip2 (λ a b. (a + (2 ^ 32 - b)) % 2 ^ 32) ns (replicate k 2013265921)
+
+pub lanes_once_reduced : (ms ns : List ℕ) (k : ℕ) → ms ≡ ns → length ns ≡ k
+    → Each1 (λ n. n < 4026531842) ns
     → sel_l
-    (map (top 63) (zip2 (λ a b. cond (ltb a b) (2 ^ 64 - 1) 0) ns
-    (zip2 (λ a b. (a + (2 ^ 64 - b)) % 2 ^ 64) ns (replicate k 2013265921))))
-    ns
-    (zip2 (λ a b. (a + (2 ^ 64 - b)) % 2 ^ 64) ns (replicate k 2013265921))
+    (map (top 31) (zip2 (λ a b. cond (ltb a b) (2 ^ 32 - 1) 0) ms (wrapped ms k)))
+    ms
+    (wrapped ms k)
     ≡ map (λ n. n % 2013265921) ns
-lanes_once_reduced ns k e t =
-    rw (tops_compared w64 ltb ns
-    (zip2 (λ a b. (a + (2 ^ 64 - b)) % 2 ^ 64) ns (replicate k 2013265921))) (lanes ns k e t)
+lanes_once_reduced ms ns k same e t =
+    rw (same, tops_compared w32 ltb ns (wrapped ns k)) (lanes ns k e t)
   where
     lanes : (ns : List ℕ) (k : ℕ) → length ns ≡ k → Each1 (λ n. n < 4026531842) ns
-        → sel_l
-        (zip2 ltb ns (zip2 (λ a b. (a + (2 ^ 64 - b)) % 2 ^ 64) ns (replicate k 2013265921)))
-        ns
-        (zip2 (λ a b. (a + (2 ^ 64 - b)) % 2 ^ 64) ns (replicate k 2013265921))
-        ≡ map (λ n. n % 2013265921) ns
+        → sel_l (zip2 ltb ns (wrapped ns k)) ns (wrapped ns k) ≡ map (λ n. n % 2013265921) ns
     lanes [] k e t = refl
     lanes (n ∷ ns) zero e t = absurd (omega (arith, e))
     lanes (n ∷ ns) (suc k) e t =

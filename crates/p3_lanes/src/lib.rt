@@ -85,8 +85,11 @@ pub fn reduced_once(numbers: u64x8) -> u64x8
     requires { Each1 (λ n. n < 4026531842) numbers }
     ensures { result ≡ map (λ n. n % 2013265921) numbers }
 {
-    // a difference below 0 wraps, and is the greater of the two
-    numbers.simd_min(numbers - u64x8::splat(P))
+    // A minimum of 32 bits takes one instruction. A difference below 0 wraps, and is then the
+    // greater of the two.
+    let numbers = numbers.cast::<u32>();
+    let wrapped = numbers - u32x8::splat(P as u32);
+    numbers.simd_min(wrapped).cast::<u64>()
 }
 
 /// What numbers below `2^62` leave modulo the order: the quotient, estimated by the order's
