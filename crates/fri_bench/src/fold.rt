@@ -187,7 +187,7 @@ pub fn least(rt: &HostRuntime, sizes: FoldSizes) -> io::Result<()> {
             same = same && folded == by_two && folded == by_rows;
         }
         println!(rt;
-            "by {log_arity}: at once {} us, without lanes {} us, by two {} us, the same word: {same}",
+            "by {log_arity}: at once {} us, without lanes {} us, by two {} us, same word: {same}",
             once / 1000,
             rows / 1000,
             twos / 1000

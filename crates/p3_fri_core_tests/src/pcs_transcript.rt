@@ -1,5 +1,5 @@
-//! Refusals, streams, and runs of both sides. The drawn values were computed from the rules of the formats with the
-//! hashlib module of Python's standard library.
+//! Refusals, streams, and runs of both sides. The drawn values were computed from the rules of the
+//! formats with the hashlib module of Python's standard library.
 
 ghost use Rattle.std.specs.Prelude.{◌≡◌, ◌≤◌};
 

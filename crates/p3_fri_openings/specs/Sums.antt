@@ -17,5 +17,6 @@ weighted F K lift j weight row = K.mul weight (lift (slice_index_or row j F.zero
 abbrev pub weighted_sum : {F E : Type 0} → FieldOps F → FieldOps E → (F → E) → (count : ℕ)
     → (points : List F) → (inverses : List E) → (rows : List (List F)) → (j : ℕ) → E
 weighted_sum F K lift count points inverses rows j = sum_below K count (λ i.
-    weighted F K lift j (K.mul (slice_index_or inverses i K.zero) (lift (slice_index_or points i F.zero)))
+    weighted F K lift j
+    (K.mul (slice_index_or inverses i K.zero) (lift (slice_index_or points i F.zero)))
     (slice_index_or rows i []))

@@ -31,7 +31,8 @@ fn zeros<F: Field>(alloc: Global, count: usize) -> Result<Vec<F>, AllocError>
 fn add_weighted_row<F: Field, EF: ExtensionField<F>>(sums: &mut [EF], row: &[F], weight: EF)
     requires width { length row.now ≡ length sums.old }
     ensures { (j : ℕ) (d : EF) → j < length sums.old → slice_index_or sums.new j d
-        ≡ EF.ops.add (slice_index_or sums.old j d) (weighted F.ops EF.ops EF.lift j weight row.now) }
+        ≡ EF.ops.add (slice_index_or sums.old j d)
+        (weighted F.ops EF.ops EF.lift j weight row.now) }
 {
     for j in 0..sums.len() {
         sums[j] = sums[j] + weight.scale(row[j]);

@@ -11,8 +11,8 @@ use Rattle.p3_fri_relation.specs.Faults.{InstanceFault, CountFault, IsNotCanonic
 module _ {F E Com Path InCom InPath : Type 0} (p : Parameters)
     (claims : List (CommitmentClaim E InCom)) (proof : Proof F E Com Path InPath) (zero : F)
     (two_adicity : ℕ) where
-  -- the parameters and claims are in range, the proof's lists have their lengths (but for the number
-  -- of openings of inputs, which aren't compared yet), and its witnesses at no bits are zero
+  -- the parameters and claims are in range, the proof's lists have their lengths (but for the
+  -- number of openings of inputs, which aren't compared yet), and its witnesses at no bits are zero
   pub record CanBegin : Type 0 where
     pub in_range : IsInRange p claims two_adicity
     pub counts : HasCounts p proof (log_arities p claims) (length proof.inputs)

@@ -64,8 +64,8 @@ pub(crate) fn verify_openings<
     ensures refusal { let s = ⟦<C as PlaysFri<F, EF, S, M, InputMmcs>>⟧.setting folding.now
         params.now.mmcs input_mmcs.now in
         IfErr result (λ e. OpeningsFault s (parameters_of params.now)
-        (claims_of (λ d. d.log_size) claims.now) (proof_of proof.now) alpha betas.now positions.now e
-        ⊎ (e ≡ OutOfMemory)) }
+        (claims_of (λ d. d.log_size) claims.now) (proof_of proof.now) alpha betas.now
+        positions.now e ⊎ (e ≡ OutOfMemory)) }
 {
     let openings = proof.commit_phase_openings.as_slice();
     let opened = open_inputs(

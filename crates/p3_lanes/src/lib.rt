@@ -1,5 +1,5 @@
-//! Arithmetic modulo 2013265921, the order of BabyBear, on eight numbers at a time, each in a lane of
-//! 64 bits.
+//! Arithmetic modulo 2013265921, the order of BabyBear, on eight numbers at a time, each in a lane
+//! of 64 bits.
 #![tactic(auto)]
 
 ghost use Rattle.std.specs.Prelude.{◌≡◌, ◌<◌, ◌+◌, ◌-◌, ◌*◌, ◌/◌, ◌%◌, ◌^◌, ℕ, map};

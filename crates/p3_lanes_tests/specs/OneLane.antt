@@ -33,11 +33,13 @@ pub one_lane_laws : IsField one_lane
 unfolding one_lane
 one_lane_laws = let L = baby_bear_laws in record {
   ring = record {
-    add_assoc = λ a b c. ap one_lane_of (L.add_assoc (of_one_lane a) (of_one_lane b) (of_one_lane c));
+    add_assoc = λ a b c.
+        ap one_lane_of (L.add_assoc (of_one_lane a) (of_one_lane b) (of_one_lane c));
     add_comm = λ a b. ap one_lane_of (L.add_comm (of_one_lane a) (of_one_lane b));
     add_zero = λ a. ap one_lane_of (L.add_zero (of_one_lane a));
     add_neg = λ a. ap one_lane_of (L.add_neg (of_one_lane a));
-    mul_assoc = λ a b c. ap one_lane_of (L.mul_assoc (of_one_lane a) (of_one_lane b) (of_one_lane c));
+    mul_assoc = λ a b c.
+        ap one_lane_of (L.mul_assoc (of_one_lane a) (of_one_lane b) (of_one_lane c));
     mul_comm = λ a b. ap one_lane_of (L.mul_comm (of_one_lane a) (of_one_lane b));
     mul_one = λ a. ap one_lane_of (L.mul_one (of_one_lane a));
     mul_add = λ a b c. ap one_lane_of (L.mul_add (of_one_lane a) (of_one_lane b) (of_one_lane c));
@@ -84,4 +86,5 @@ one_lane_roots = let W = baby_bear_roots in record {
 pub multiple1_is : (n : ℕ) → one_lane_of (multiple baby_bear n) ≡ multiple one_lane n
 unfolding one_lane multiple
 multiple1_is zero = refl
-multiple1_is (suc n) = ap (λ (x : OneLane). one_lane_of (baby_bear.add (of_one_lane x) baby_bear.one)) (multiple1_is n)
+multiple1_is (suc n) =
+    ap (λ (x : OneLane). one_lane_of (baby_bear.add (of_one_lane x) baby_bear.one)) (multiple1_is n)

@@ -174,7 +174,8 @@ pub trait UnivariateStarkPcs<EF: Copy, C>: Pcs<EF, C> {
         requires range { Self.InProverRange self.now }
         requires evaluable { CanEvaluate self.now prover_data.now index domain }
         ensures values { Self.IsHonest self.now prover_data.now
-            → IfOk result (HoldsEvaluations embed (λ i. embed (point domain i)) (Self.domain_size domain)
+            → IfOk result (HoldsEvaluations embed (λ i. embed (point domain i))
+            (Self.domain_size domain)
             (held_at (Self.held self.now prover_data.now) index).values_at) }
         ensures refused { IfErr result EvaluationRefuses };
 
@@ -189,7 +190,8 @@ pub trait UnivariateStarkPcs<EF: Copy, C>: Pcs<EF, C> {
         requires range { Self.InProverRange self.now }
         requires evaluable { CanEvaluateWhole self.now prover_data.now index domain }
         ensures values { Self.IsHonest self.now prover_data.now
-            → IfOk result (HoldsEvaluations embed (λ i. embed (point domain i)) (Self.domain_size domain)
+            → IfOk result (HoldsEvaluations embed (λ i. embed (point domain i))
+            (Self.domain_size domain)
             (held_at (held_whole self.now prover_data.now) index).values_at) }
         ensures refused { IfErr result EvaluationRefuses };
 

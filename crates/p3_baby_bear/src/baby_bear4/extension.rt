@@ -87,7 +87,8 @@ impl ExtensionField<BabyBear> for BabyBear4 {
     ) -> BabyBear4
         ensures { result ≡ baby_bear4.add (baby_bear4.add (baby_bear4.add
             (baby_bear4.mul values.0 (lift4 factors.0)) (baby_bear4.mul values.1 (lift4 factors.1)))
-            (baby_bear4.mul values.2 (lift4 factors.2))) (baby_bear4.mul values.3 (lift4 factors.3)) }
+            (baby_bear4.mul values.2 (lift4 factors.2)))
+            (baby_bear4.mul values.3 (lift4 factors.3)) }
     {
         let (a, b, c, d) = values;
         BabyBear4 {
