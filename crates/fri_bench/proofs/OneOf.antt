@@ -1,13 +1,9 @@
--- Lists of one: a word to be proved, and a request to be opened.
-use Rattle.std.proofs.Common.{◌≡◌, ◌≢◌, ◌<◌, ℕ, zero, suc, ◌^◌, List, [], ◌∷◌, ◌++◌, map, length}
+-- Lists of one.
+use Rattle.std.proofs.Common.{◌≡◌, ◌≢◌, ◌<◌, ℕ, zero, suc, List, [], ◌∷◌, ◌++◌, map, length}
 use Rattle.std.proofs.Common.{get_or, All, refl, sym, ap, subst, arith, ◌∙◌}
-use Rattle.std.specs.declared.vec.Vec.{Vec}
-use Rattle.std.specs.List.{flat_map}
 use Rattle.std.proofs.lemmas.List.{length-map}
-use Rattle.algebra.specs.Nested.{lists}
 use Rattle.p3_pcs.specs.declared.requests.OpeningRequest.{OpeningRequest}
 use Rattle.p3_pcs.specs.Requests.{Held, Request, AreOpenable, request}
-use Rattle.p3_fri_prover.specs.Inputs.{AreInputs}
 
 -- what was pushed alone
 pub one_pushed : {A : Type 0} {x : A} {xs before : List A} → xs ≡ before ++ x ∷ [] → before ≡ []
@@ -20,17 +16,6 @@ one_item {A} P x xs only holds = subst (λ ys. All P ys) (sym only) at
     at : (k : ℕ) (d : A) → k < 1 → P (get_or (x ∷ []) k d)
     at zero d l = holds
     at (suc k) d l = absurd (omega (arith, l))
-
--- one word is what a low-degree test can be made of
-pub one_word : {E A : Type 0} (word : Vec E A) (words : List (Vec E A)) (h : ℕ)
-    → words ≡ word ∷ [] → length word.items ≡ 2 ^ h → AreInputs h (lists words)
-one_word word words h only size = subst (λ ws. AreInputs h ws) (sym (ap lists only)) (record {
-  heights = h ∷ [];
-  have = (size, tt);
-  falling = λ k l. absurd (omega (arith, l));
-  some = λ e. absurd cc;
-  first = refl;
-})
 
 not_none : {A : Type 0} (xs : List A) → length xs ≡ 1 → xs ++ [] ≢ []
 not_none [] one e = absurd (omega (arith, one))

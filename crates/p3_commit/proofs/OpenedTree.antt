@@ -1,10 +1,10 @@
 -- What is opened belongs to the commitment.
-use Rattle.std.proofs.Common.{◌≡◌, ℕ, ◌/◌, ◌^◌, ◌<◌, List, [], ◌∷◌, length, map, get_or, ap, sym}
+use Rattle.std.proofs.Common.{◌≡◌, ℕ, ◌/◌, ◌^◌, ◌<◌, List, [], ◌∷◌, length, map, ap, sym}
 use Rattle.std.proofs.Common.{◌∙◌, arith, All}
 use Rattle.algebra.proofs.Lists.{Each, each_from_All, length-tabulate}
 use Rattle.p3_matrix.specs.declared.dense.RowMajorMatrix.{RowMajorMatrix}
-use Rattle.p3_matrix.specs.Matrix.{rows, matrix_width}
-use Rattle.p3_matrix.proofs.Rows.{length-rows_of, get_or-rows_of, length-row_of}
+use Rattle.p3_matrix.specs.Matrix.{rows}
+use Rattle.p3_matrix.proofs.Widths.{row_width}
 use Rattle.p3_commit.specs.Batch.{max_height, HavePowerHeights, HasRows, dimensions_of, opened_row}
 use Rattle.p3_commit.specs.Batch.{opened_rows}
 use Rattle.p3_commit.specs.Tree.{OpensAt, Opens, leaf_at, root_of, path_of, digest_at, sibling_of}
@@ -12,15 +12,6 @@ use Rattle.p3_commit.proofs.Heights.{Quotient, quotient_at}
 use Rattle.p3_commit.proofs.Paths.{climb-path_of}
 
 module _ {T : Type 0} where
-  row_width : (matrix : RowMajorMatrix T) (i : ℕ) → i < length (rows matrix)
-      → length (get_or (rows matrix) i []) ≡ matrix_width matrix
-  unfolding rows matrix_width
-  row_width matrix i l =
-      let below : i < length matrix.values.items / matrix.width =
-      omega (arith, l, length-rows_of matrix.width matrix.values.items) in
-      ap length (get_or-rows_of matrix.width matrix.values.items i [] below)
-      ∙ length-row_of matrix.width matrix.values.items i below
-
   rows_opened : (greatest index : ℕ) → index < greatest → (matrices : List (RowMajorMatrix T))
       → Each (λ matrix. Quotient greatest (length (rows matrix))) matrices
       → HasRows (dimensions_of matrices) (map (opened_row greatest index) matrices)

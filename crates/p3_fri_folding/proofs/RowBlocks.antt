@@ -1,21 +1,9 @@
 -- Blocks of a matrix's rows, and words that grow by blocks.
-use Rattle.std.proofs.Common.{◌≡◌, ℕ, zero, suc, ◌+◌, ◌/◌, ◌<◌, List, [], ◌∷◌, ◌++◌}
+use Rattle.std.proofs.Common.{◌≡◌, ℕ, zero, suc, ◌+◌, ◌<◌, List, [], ◌∷◌, ◌++◌}
 use Rattle.std.proofs.Common.{length, map, get_or, sym, ap, ◌∙◌, arith, suc-add}
 use Rattle.std.proofs.lemmas.List.{same_lists, length-map, get_or-map}
 use Rattle.algebra.specs.Polynomial.{tabulate}
 use Rattle.algebra.proofs.Lists.{tabulate-equal}
-use Rattle.p3_matrix.specs.declared.dense.RowMajorMatrix.{RowMajorMatrix}
-use Rattle.p3_matrix.specs.Matrix.{rows, matrix_width}
-use Rattle.p3_matrix.proofs.Rows.{length-rows_of, get_or-rows_of, length-row_of}
-
-pub row_width : {T : Type 0} (matrix : RowMajorMatrix T) (i : ℕ) → i < length (rows matrix)
-    → length (get_or (rows matrix) i []) ≡ matrix_width matrix
-unfolding rows matrix_width
-row_width matrix i l =
-    let below : i < length matrix.values.items / matrix.width =
-    omega (arith, l, length-rows_of matrix.width matrix.values.items) in
-    ap length (get_or-rows_of matrix.width matrix.values.items i [] below)
-    ∙ length-row_of matrix.width matrix.values.items i below
 
 -- a row of which each entry is known
 pub row_by_columns : {A B : Type 0} (f : A → B) (values : List A) (row : List B)

@@ -12,6 +12,7 @@ pub mod Batches
 pub mod Finals
 pub mod Lists
 pub mod Inputs
+pub mod OneWord
 pub mod Schedules
 pub mod Opened
 pub mod Replayed

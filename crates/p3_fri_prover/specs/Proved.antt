@@ -1,5 +1,5 @@
 -- What a proof has that the prover made of words, from a challenger's state on.
-use Rattle.std.specs.Prelude.{◌≡◌, ℕ, ◌+◌, ◌-◌, ◌/◌, ◌^◌, ◌≤◌, IsTrue, EachIndex, List, []}
+use Rattle.std.specs.Prelude.{◌≡◌, ℕ, ◌-◌, ◌/◌, ◌^◌, ◌≤◌, IsTrue, EachIndex, List, []}
 use Rattle.std.specs.Prelude.{◌∷◌, map, length, All, Option, Some, slice_index, slice_index_or}
 use Rattle.std.specs.List.{AllZip, zip, range_with_len}
 use Rattle.algebra.specs.Polynomial.{tabulate}
@@ -11,7 +11,7 @@ use Rattle.p3_fri_transcript.specs.Replay.{FriReplay, fri_replay}
 use Rattle.p3_fri_relation.specs.Setting.{Setting, Parameters, RoundOpening, Proof, final_height}
 use Rattle.p3_fri_relation.specs.Queries.{rounds_of, heights_after, row_indices, siblings_at}
 use Rattle.p3_fri_relation.specs.Queries.{final_value}
-use Rattle.p3_fri_relation.specs.Acceptance.{HasCounts}
+use Rattle.p3_fri_relation.specs.Acceptance.{HasCounts, bound_numbers}
 use Rattle.p3_fri_prover.specs.Inputs.{input_of}
 
 module _ (p : Parameters) (heights : List ℕ) (top : ℕ) where
@@ -20,16 +20,7 @@ module _ (p : Parameters) (heights : List ℕ) (top : ℕ) where
 
   -- what the transcript of words of these log heights is bound to
   abbrev pub fri_numbers : (extra_bits : ℕ) → FriNumbers
-  fri_numbers extra_bits = record {
-    log_arities = log_arities;
-    final_poly_len = 2 ^ p.log_final_poly_len;
-    commit_pow_bits = p.commit_pow_bits;
-    query_pow_bits = p.query_pow_bits;
-    num_queries = p.num_queries;
-    index_bits = top + extra_bits;
-    log_blowup = p.log_blowup;
-    max_log_arity = p.max_log_arity;
-  }
+  fri_numbers extra_bits = bound_numbers p log_arities top extra_bits
 
 -- words of these log heights, of which `top` is the first's, the challenger's state, and the proof
 module _ {F E C Com Path InCom InPath : Type 0} (s : Setting F E C Com Path InCom InPath)

@@ -19,6 +19,20 @@ use Rattle.p3_fri_relation.specs.Inputs.{HasPoints, OpensInput}
 use Rattle.p3_fri_relation.specs.Queries.{rounds_of, heights_after, row_indices, rows_folded}
 use Rattle.p3_fri_relation.specs.Queries.{last_link, QueryHolds}
 
+-- what the transcript of a test with rounds of these log arities is bound to
+abbrev pub bound_numbers : Parameters → (log_arities : List ℕ) → (top_height extra_bits : ℕ)
+    → FriNumbers
+bound_numbers p log_arities top_height extra_bits = record {
+  log_arities = log_arities;
+  final_poly_len = 2 ^ p.log_final_poly_len;
+  commit_pow_bits = p.commit_pow_bits;
+  query_pow_bits = p.query_pow_bits;
+  num_queries = p.num_queries;
+  index_bits = top_height + extra_bits;
+  log_blowup = p.log_blowup;
+  max_log_arity = p.max_log_arity;
+}
+
 module _ {E InCom : Type 0} (p : Parameters) (claims : List (CommitmentClaim E InCom)) where
   -- the greatest log height
   abbrev pub top_height : ℕ
@@ -46,16 +60,7 @@ module _ {E InCom : Type 0} (p : Parameters) (claims : List (CommitmentClaim E I
 
   -- what the test's transcript is bound to
   abbrev pub fri_numbers : (extra_bits : ℕ) → FriNumbers
-  fri_numbers extra_bits = record {
-    log_arities = log_arities;
-    final_poly_len = 2 ^ p.log_final_poly_len;
-    commit_pow_bits = p.commit_pow_bits;
-    query_pow_bits = p.query_pow_bits;
-    num_queries = p.num_queries;
-    index_bits = top_height + extra_bits;
-    log_blowup = p.log_blowup;
-    max_log_arity = p.max_log_arity;
-  }
+  fri_numbers extra_bits = bound_numbers p log_arities top_height extra_bits
 
   -- what the transcript around the test is bound to
   abbrev pub pcs_numbers : PcsNumbers

@@ -1,4 +1,5 @@
 pub mod Rows
+pub mod Widths
 pub mod Views
 pub mod Cuts
 pub mod Exchange

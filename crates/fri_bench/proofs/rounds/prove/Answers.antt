@@ -1,5 +1,6 @@
 use Rattle.std.proofs.Common.{sym, ◌∙◌}
-use Rattle.fri_bench.proofs.OneOf.{one_pushed, one_word}
+use Rattle.fri_bench.proofs.OneOf.{one_pushed}
+use Rattle.p3_fri_prover.proofs.OneWord.{one_word}
 use Rattle.fri_bench.proofs.rounds.prove.Goals as goal
 
 pub prove_fri-proved-requires-clause-inputs : goal.prove_fri-proved-requires-clause-inputs

@@ -1,7 +1,7 @@
 use Rattle.std.proofs.Common.{◌≡◌, ◌+◌, ◌∙◌, [], slice_index_or, arith, rules}
 use Rattle.std.proofs.lemmas.List.{get_or_default}
 use Rattle.p3_matrix.specs.Matrix.{rows}
-use Rattle.p3_fri_folding.proofs.RowBlocks.{row_width}
+use Rattle.p3_matrix.proofs.Widths.{row_width}
 use Rattle.p3_fri_folding.proofs.blocks.column_by_lanes.Goals as goal
 
 pub returns : goal.returns

@@ -1,7 +1,8 @@
 use Rattle.std.proofs.Common.{◌≡◌, ◌+◌, ◌∙◌, [], length, slice_index_or, arith}
 use Rattle.std.proofs.lemmas.List.{get_or_default}
 use Rattle.p3_matrix.specs.Matrix.{rows, matrix_width}
-use Rattle.p3_fri_folding.proofs.RowBlocks.{row_width, row_by_columns}
+use Rattle.p3_matrix.proofs.Widths.{row_width}
+use Rattle.p3_fri_folding.proofs.RowBlocks.{row_by_columns}
 use Rattle.p3_fri_folding.proofs.blocks.fill.Goals as goal
 
 pub returns-clause-rows : goal.returns-clause-rows

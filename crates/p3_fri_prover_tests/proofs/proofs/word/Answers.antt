@@ -1,5 +1,5 @@
 use Rattle.std.proofs.Common.{◌∙◌, ◌++◌, ◌∷◌, [], sym, ap}
-use Rattle.p3_fri_prover_tests.proofs.Words.{one_word}
+use Rattle.p3_fri_prover.proofs.OneWord.{one_word}
 use Rattle.p3_fri_prover_tests.proofs.proofs.word.Goals as goal
 
 pub returns : goal.returns

@@ -4,8 +4,8 @@ use Rattle.algebra.specs.Polynomial.{tabulate}
 use Rattle.algebra.proofs.Lists.{tabulate-next}
 use Rattle.p3_field_core.proofs.IndexPowers.{exponents_agree}
 use Rattle.p3_matrix.specs.Matrix.{rows}
+use Rattle.p3_matrix.proofs.Widths.{row_width}
 use Rattle.algebra.specs.Folds.{fold_value}
-use Rattle.p3_fri_folding.proofs.RowBlocks.{row_width}
 use Rattle.p3_fri_folding.proofs.folding.TwoAdicFriFoldingFriFoldingStrategy.fold_matrix.Goals as goal
 
 pub fold_first_rows-requires : goal.fold_first_rows-requires
