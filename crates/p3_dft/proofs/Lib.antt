@@ -3,6 +3,7 @@ pub mod Halves
 pub mod Sizes
 pub mod Pairs
 pub mod Parts
+pub mod Places
 pub mod SameBlocks
 pub mod LayerSteps
 pub mod Lifts

@@ -8,6 +8,7 @@ ghost use Rattle.p3_dft.specs.Butterflies.{sum_of_sums, difference_of_sums};
 ghost use Rattle.p3_dft.specs.Butterflies.{sum_of_differences, difference_of_differences};
 ghost use Rattle.p3_dft.specs.Strided.{AfterLayers};
 
+use crate::blocks::block;
 use crate::butterflies::{butterflies, double_butterflies};
 use p3_field_core::{ExtensionField, Field};
 
@@ -36,9 +37,8 @@ fn layer<F: Field, EF: ExtensionField<F>>(
     let (sums, differences) = target.split_at_mut(blocks * half);
     for m in 0..blocks {
         let to = m * half;
-        let from = m * (half + half);
         butterflies(
-            &source[from..from + (half + half)],
+            block(source, half + half, m),
             twiddles[m * stride],
             &mut sums[to..to + half],
             &mut differences[to..to + half],
@@ -93,10 +93,8 @@ fn two_layers_apart<F: Field, EF: ExtensionField<F>>(
 {
     for m in 0..blocks {
         let to = m * quarter;
-        let size = quarter + quarter + (quarter + quarter);
-        let from = m * size;
         double_butterflies(
-            &source[from..from + size],
+            block(source, quarter + quarter + (quarter + quarter), m),
             twiddles[(m + m) * stride],
             twiddles[m * stride],
             twiddles[(blocks + m) * stride],

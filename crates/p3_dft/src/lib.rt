@@ -2,6 +2,7 @@
 //! cosets, many polynomials at once, one in each column of a matrix. All orders are natural.
 #![tactic(auto)]
 
+mod blocks;
 mod butterflies;
 pub mod laws;
 mod layers;

@@ -1,9 +1,10 @@
 -- Claims, compared one after another with the described counts.
-use Rattle.std.proofs.Common.{◌≡◌, ℕ, ◌+◌, ◌-◌, ◌^◌, ◌<◌, min, List, [], ◌∷◌, ◌++◌, length, map, take, drop, get_or, refl, sym, ap, ◌∙◌, add-one, add_assoc, arith, append_assoc, length-append}
+use Rattle.std.proofs.Common.{◌≡◌, ℕ, ◌+◌, ◌-◌, ◌^◌, ◌<◌, ◌≤◌, min, List, [], ◌∷◌, ◌++◌, length, map, take, drop, get_or, refl, sym, ap, ◌∙◌, add-one, add_assoc, arith, append_assoc, length-append}
 use Rattle.std.proofs.Math.Seq.{take-suc}
-use Rattle.std.proofs.lemmas.List.{map-append, length-map, take-append-drop}
+use Rattle.std.proofs.lemmas.List.{map-append, length-map, take_all, take-append-drop}
 use Rattle.std.proofs.lemmas.Grind.{flat_map-append}
 use Rattle.std.specs.List.{flat_map}
+use Rattle.algebra.proofs.Growing.{joined_next}
 use Rattle.p3_challenger_fs.proofs.Streams.{split_front}
 use Rattle.p3_fri_pcs_transcript.specs.declared.pcs_transcript.described.DescribedCounts.{DescribedCounts}
 use Rattle.p3_fri_pcs_transcript.specs.declared.pcs_transcript.failure.PcsTranscriptFailure.{PcsTranscriptFailure}
@@ -32,6 +33,15 @@ about_item f xs i x less is =
 pub about_lists : {A B : Type 0} (f : A → List B) (xs : List A) (i : ℕ) (x : A) → i < length xs → x ≡ get_or xs i x → flat_map f xs ≡ flat_map f (take i xs) ++ f x ++ flat_map f (drop (i + 1) xs)
 about_lists f xs i x less is =
     ap (flat_map f) (about xs i x less is) ∙ flat_map-append f (take i xs) (x ∷ drop (i + 1) xs) ∙ sym (append_assoc (flat_map f (take i xs)) (f x) (flat_map f (drop (i + 1) xs)))
+
+-- a whole entry's lists behind those of the entries before it
+pub whole_entry : {A B Y : Type 0} (f : A → List B) (inner : List Y → List B) (first : List B) (xs : List A) (i : ℕ) (x : A) (ys : List Y) (j : ℕ)
+    → i < length xs → x ≡ get_or xs i x → length ys ≤ j → inner ys ≡ f x
+    → (first ++ flat_map f (take i xs)) ++ inner (take j ys) ≡ first ++ flat_map f (take (i + 1) xs)
+whole_entry f inner first xs i x ys j less is whole same =
+    ap (λ zs. (first ++ flat_map f (take i xs)) ++ inner zs) (take_all j ys whole)
+    ∙ append_assoc first (flat_map f (take i xs)) (inner ys)
+    ∙ ap (λ ls. first ++ ls) (ap (λ ls. flat_map f (take i xs) ++ ls) same ∙ sym (joined_next f xs i x less is))
 
 -- a part of a part
 pub part_within : {A : Type 0} (all first part others before inner after : List A) → all ≡ first ++ part ++ others → part ≡ before ++ inner ++ after

@@ -1,5 +1,5 @@
 -- What whole runs find, and why they are refused, put together from what single calls did.
-use Rattle.std.proofs.Common.{◌≡◌, ◌≢◌, ℕ, true, List, Option, Some, IsSome, IsTrue, unwrap_or, refl, sym, ap, ◌∙◌, subst, inl, map}
+use Rattle.std.proofs.Common.{◌≡◌, ◌≢◌, ℕ, true, List, Result, Ok, Err, Option, Some, IsSome, IsTrue, unwrap_or, refl, sym, ap, ◌∙◌, subst, inl, map}
 use Rattle.std.specs.List.{flat_map}
 use Rattle.algebra.specs.Field.{FieldOps, multiple}
 use Rattle.p3_challenger_core.specs.Run.{Moves, observed_all}
@@ -25,6 +25,13 @@ use Rattle.p3_fri_pcs_transcript.specs.Found.{test_begun, PcsFound, PcsPlayRefus
 use Rattle.p3_fri_pcs_transcript.specs.Replay.{BatchReplay, shown_batch_replay, claims_observed, claims_replay}
 use Rattle.p3_fri_pcs_transcript.specs.Steps.{PcsNumbers, pcs_stream}
 use Rattle.p3_fri_pcs_transcript.proofs.PcsReplays.{reaches_batch}
+
+-- a result is one thing alone
+pub ok_not_err : {A E P : Type 0} {a : A} {e : E} → Ok a ≡ Err e → P
+ok_not_err is = absurd cc
+
+pub step_not_seed : {A E P : Type 0} {e : E} → ◌≡◌ {A = Result A (Refusal E)} (Err (Step e)) (Err Seed) → P
+step_not_seed is = absurd cc
 
 module _ {C F E Com : Type 0} (m : Moves C F E Com) (coefficients : E → List F) (ops : FieldOps F) (d : ℕ) (shape : PcsNumbers) (test : FriNumbers) (c : C) (values : List E) where
   abbrev pub claimed : C

@@ -1,5 +1,5 @@
 -- Lists of values, absorbed and compared one after another.
-use Rattle.std.proofs.Common.{◌≡◌, ℕ, ◌+◌, ◌-◌, ◌^◌, min, List, [], ◌∷◌, ◌++◌, length, map, drop, sym, ap, ◌∙◌, append_assoc}
+use Rattle.std.proofs.Common.{◌≡◌, ℕ, ◌+◌, ◌-◌, ◌^◌, min, List, [], ◌∷◌, ◌++◌, length, map, drop, sym, ap, subst, ◌∙◌, append_assoc}
 use Rattle.std.specs.List.{flat_map}
 use Rattle.p3_challenger_fs.specs.declared.pattern.Hierarchy.TheVariants.{Atomic}
 use Rattle.p3_challenger_fs.specs.declared.pattern.Kind.TheVariants.{Message}
@@ -12,10 +12,10 @@ use Rattle.p3_challenger_fs.specs.Script.{remaining}
 use Rattle.p3_challenger_fs.specs.Turns.{IsNext}
 use Rattle.p3_fri_steps.proofs.Turns.{next_of, rest_of}
 use Rattle.p3_fri_pcs_transcript.specs.declared.pcs_transcript.described.DescribedCounts.{DescribedCounts}
-use Rattle.p3_fri_pcs_transcript.specs.Absorption.{Absorbs}
+use Rattle.p3_fri_pcs_transcript.specs.Absorption.{Absorbs, ClaimsThen}
 use Rattle.p3_fri_pcs_transcript.specs.Cursor.{counts_left, IsCompared}
 use Rattle.p3_fri_pcs_transcript.specs.Turns.{claim_turns}
-use Rattle.p3_fri_pcs_transcript.proofs.ClaimTurns.{absorbed_both, absorbed_one, claims_first}
+use Rattle.p3_fri_pcs_transcript.proofs.ClaimTurns.{absorbed_both, absorbed_one, claims_both, claims_first}
 use Rattle.p3_fri_pcs_transcript.proofs.Comparisons.{compared_one, compared_next}
 
 module _ {C F E : Type 0} (observe : C → F → C) (coefficients : E → List F) (d : ℕ) where
@@ -62,3 +62,26 @@ module _ {C F E : Type 0} (observe : C → F → C) (coefficients : E → List F
     compared = compared_next start now next lists (values ∷ []) all is till.compared (compared_one now next values counts place);
     absorbed = absorbs_more before at after c s last lists all values till.absorbed state turns is;
   }
+
+-- lists that are equal to those
+module _ {C F E : Type 0} {observe : C → F → C} {coefficients : E → List F} {d : ℕ} where
+  pub absorbs_equal : {before after : Script} {c last : C} {lists all : List (List E)}
+      → Absorbs observe coefficients d before after c last lists → lists ≡ all → Absorbs observe coefficients d before after c last all
+  absorbs_equal {before} {after} {c} {last} till is = subst (λ ls. Absorbs observe coefficients d before after c last ls) is till
+
+  pub progress_equal : {start now : DescribedCounts} {before after : Script} {c last : C} {lists all : List (List E)}
+      → Progress observe coefficients d start now before after c last lists → lists ≡ all
+      → Progress observe coefficients d start now before after c last all
+  progress_equal {start} {now} {before} {after} {c} {last} till is =
+      subst (λ ls. Progress observe coefficients d start now before after c last ls) is till
+
+  -- the turn of the next count is the next
+  pub count_is_next : {start now : DescribedCounts} {before at : Script} {c s : C} {lists : List (List E)} (next : DescribedCounts) (count : ℕ)
+      → Progress observe coefficients d start now before at c s lists → counts_left now ≡ count ∷ counts_left next
+      → ClaimsThen d (counts_left start) (remaining before) → IsNext Atomic Message (Algebra d) (Fixed count) (remaining at)
+  count_is_next {start} {now} {before} {at} {c} {s} {lists} next count till counts first =
+      let left = counts_left next in
+      next_of Atomic Message (Algebra d) (Fixed count) (remaining at) (claim_turns d left ++ first.0)
+      (till.absorbed.turns (claim_turns d (count ∷ left) ++ first.0)
+      (first.1 ∙ ap (λ counts. claim_turns d counts ++ first.0) (till.compared.counts ∙ ap (λ counts. map length lists ++ counts) counts)
+      ∙ claims_both d (map length lists) (count ∷ left) first.0))

@@ -1,6 +1,6 @@
 -- The steps of a low-degree test, taken one after another.
 use Rattle.std.proofs.Common.{◌≡◌, ℕ, suc, List, [], ◌∷◌, ◌++◌, length, map, drop, codes, ◌+◌, ◌-◌}
-use Rattle.std.proofs.Common.{◌<◌, arith, add-one, sym, ap, ◌∙◌, append_assoc}
+use Rattle.std.proofs.Common.{◌<◌, ◌≤◌, arith, add-one, sym, ap, ◌∙◌, append_assoc}
 use Rattle.p3_challenger_fs.specs.declared.pattern.Hierarchy.TheVariants.{Atomic}
 use Rattle.p3_challenger_fs.specs.declared.pattern.Kind.TheVariants.{Challenge}
 use Rattle.p3_challenger_fs.specs.declared.pattern.TypeTag.TheVariants.{Bits}
@@ -91,3 +91,9 @@ pub no_round_taken : (d : ℕ) (shape : FriNumbers) (n : ℕ) (left : List Turn)
     → RoundsLeft d shape n left → RoundsLeft d shape (n - 0) left
 no_round_taken d shape n left is =
     let whole : n ≡ n - 0 = omega arith in is ∙ ap (λ k. map turn_of (rounds_steps d shape.commit_pow_bits k ++ query_steps d shape)) whole
+
+-- and at the last all are
+pub all_rounds_taken : (d : ℕ) (shape : FriNumbers) (n taken : ℕ) (left : List Turn)
+    → n ≤ taken → RoundsLeft d shape (n - taken) left → RoundsLeft d shape 0 left
+all_rounds_taken d shape n taken left all is =
+    let none : n - taken ≡ 0 = omega arith in is ∙ ap (λ k. map turn_of (rounds_steps d shape.commit_pow_bits k ++ query_steps d shape)) none

@@ -1,5 +1,4 @@
-use Rattle.std.proofs.Common.{◌≡◌, ◌≤◌, ◌<◌, ◌+◌, ◌*◌, ℕ, length, get_or, arith, ap, ◌∙◌}
-use Rattle.std.specs.List.{between}
+use Rattle.std.proofs.Common.{rules, ◌≡◌, ◌≤◌, ◌<◌, ◌+◌, ◌*◌, ℕ, length, get_or, arith, ap, ◌∙◌}
 use Rattle.std.proofs.lemmas.Nat.{row_fits}
 use Rattle.std.proofs.lemmas.List.{get_or_append_left, get_or_read}
 use Rattle.std.proofs.lemmas.List.Edits.{get_or-between}
@@ -7,7 +6,13 @@ use Rattle.p3_dft.specs.Butterflies.{entry, block_entry, sum_at, difference_at}
 use Rattle.p3_dft.proofs.Parts.{block_written, block_before}
 use Rattle.p3_dft.proofs.Pairs.{length-block}
 use Rattle.p3_dft.proofs.SameBlocks.{same_sum, same_difference}
+use Rattle.p3_dft.proofs.Places.{bytes_fit}
 use Rattle.p3_dft.proofs.layers.layer.Goals as goal
+
+pub block-requires : goal.block-requires
+block-requires g c =
+    let size = c.args.half + c.args.half in
+    omega (arith, row_fits c.loop-m.m size c.args.blocks size c.loop-m-test.true (omega arith))
 
 pub loop-m-preserved : goal.loop-m-preserved
 loop-m-preserved g c =
@@ -19,7 +24,7 @@ loop-m-preserved g c =
     let h = c.args.half in
     let xs = c.args.source.now in
     let ts = c.args.twiddles.now in
-    let block = between (i * (h + h)) (i * (h + h) + (h + h)) xs in
+    let block = c.block.result.now in
     let here = c.loop-m.invariant in
     let below : i < c.args.blocks = omega arith in
     let room : i * h + h ≤ c.args.blocks * h = row_fits i h c.args.blocks h below (omega arith) in
@@ -31,7 +36,8 @@ loop-m-preserved g c =
     let twiddle : (e : B) → lift c.index-twiddles-m.result ≡ lift (entry ts e (i * c.args.stride)) =
     λ e. ap lift (get_or_read ts (i * c.args.stride) c.index-twiddles-m.result (c.requires.twiddles i below) c.index-twiddles-m.is e) in
     let source : (d : A) (j : ℕ) → j < h + h → get_or block j d ≡ block_entry xs (h + h) d i j =
-    λ d j l. get_or-between xs (i * (h + h)) (i * (h + h) + (h + h)) j d (omega (arith, l)) in
+    λ d j l. ap (λ zs. get_or zs j d) c.block.ensures
+    ∙ get_or-between xs (i * (h + h)) (i * (h + h) + (h + h)) j d (omega (arith, l)) in
     record {
       sums = λ m j d e. block_written (λ m j d. sum_at K (block_entry xs (h + h) d m) (lift (entry ts e (m * c.args.stride))) h j)
           c.loop-m.sums c.butterflies.new.sums i h _ (omega (arith, room, front)) (c.butterflies.auto.sums ∙ count)
@@ -54,3 +60,25 @@ returns-clause-sums g c m j d e l q =
     let front : length sums ≡ c.args.blocks * c.args.half = omega arith in
     get_or_append_left sums c.loop-m.differences d (m * c.args.half + j) (omega (arith, front, block_before m c.args.blocks c.args.half j l q))
     ∙ c.loop-m.invariant.sums m j d e here q
+
+pub overflow_mul-to : goal.overflow_mul-to
+overflow_mul-to g c =
+    omega (arith, row_fits c.loop-m.m c.args.half c.args.blocks c.args.half c.loop-m-test.true (omega arith))
+
+pub overflow_add-to : goal.overflow_add-to
+overflow_add-to g c =
+    omega (arith, row_fits c.loop-m.m c.args.half c.args.blocks c.args.half c.loop-m-test.true (omega arith))
+
+pub overflow_add-to-in-loop-m : goal.overflow_add-to-in-loop-m
+overflow_add-to-in-loop-m g c =
+    omega (arith, row_fits c.loop-m.m c.args.half c.args.blocks c.args.half c.loop-m-test.true (omega arith))
+
+pub offset_bounds-sums-to : goal.offset_bounds-sums-to
+offset_bounds-sums-to g c =
+    bytes_fit _ (length c.loop-m.sums) _
+    (omega (arith, row_fits c.loop-m.m c.args.half c.args.blocks c.args.half c.loop-m-test.true (omega arith))) (search rules)
+
+pub offset_bounds-differences-to : goal.offset_bounds-differences-to
+offset_bounds-differences-to g c =
+    bytes_fit _ (length c.loop-m.differences) _
+    (omega (arith, row_fits c.loop-m.m c.args.half c.args.blocks c.args.half c.loop-m-test.true (omega arith))) (search rules)

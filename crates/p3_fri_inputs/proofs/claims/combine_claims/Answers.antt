@@ -5,7 +5,7 @@ use Rattle.p3_field_core.specs.declared.coset.TwoAdicMultiplicativeCoset.{TwoAdi
 use Rattle.p3_fri_relation.specs.Setting.{CommitmentClaim}
 use Rattle.p3_fri_relation.specs.Views.{claims_of}
 use Rattle.p3_fri_inputs.specs.Claims.{claim_of, combined_values, IsWithin}
-use Rattle.algebra.proofs.Growing.{mapped_more}
+use Rattle.algebra.proofs.Growing.{mapped_more, mapped_end}
 use Rattle.p3_fri_inputs.proofs.Openings.{all_of_one}
 use Rattle.p3_fri_inputs.proofs.Places.{mapped_is}
 use Rattle.p3_fri_inputs.proofs.claims.combine_claims.Goals as goal
@@ -44,3 +44,11 @@ loop-batch-preserved g c =
     c.loop-batch.invariant
     (ap lists c.in_ok-push.ensures.items ∙ map-append (λ v. v.items) old (new ∷ [])
     ∙ ap (λ v. lists old ++ v ∷ []) c.in_ok-combine_claim.ensures)
+
+pub returns : goal.returns
+returns g c =
+    let size = λ (domain : Coset g.row.F.Denot g.row.F-Prepared.Denot g.F.TwoAdicField g.F.Field g.F.PartialEq g.F.Add g.F.Sub g.F.Mul g.F.Neg). domain.log_size in
+    let under = λ (d : CommitmentClaim g.row.EF.Denot g.row.Com.Denot).
+    combined_values g.EF.Field.ops c.args.ladder.now.alpha d.matrices in
+    mapped_end under (claims_of size c.args.claims.now) c.loop-batch.batch [] (lists c.loop-batch.combined.items)
+    (omega (arith, length-map c.args.claims.now (claim_of size))) c.loop-batch.invariant

@@ -1,8 +1,8 @@
 use Rattle.std.proofs.Common.{◌≡◌, ◌<◌, ◌+◌, ◌∙◌, length, map, get_or, sym, ap, arith, max}
-use Rattle.std.proofs.lemmas.List.{length-map}
+use Rattle.std.proofs.lemmas.List.{length-map, take_all}
 use Rattle.std.proofs.lemmas.List.Sums.{fold_more}
 use Rattle.p3_field_core.specs.declared.coset.TwoAdicMultiplicativeCoset.{TwoAdicMultiplicativeCoset as Coset}
-use Rattle.p3_fri_relation.specs.Heights.{log_height}
+use Rattle.p3_fri_relation.specs.Heights.{log_height, greatest_height}
 use Rattle.p3_fri_relation.specs.Views.{matrix_claim}
 use Rattle.p3_fri_inputs.proofs.Places.{all_mapped_at, mapped_is}
 use Rattle.p3_fri_inputs.proofs.heights.greatest_log_height.Goals as goal
@@ -42,3 +42,10 @@ loop-k-preserved g c =
     c.max-greatest.ensures ∙ ap (λ n. max c.loop-k.greatest n) its
     ∙ ap (λ n. max n (log_height b (get_or ms k m))) c.loop-k.invariant
     ∙ sym (fold_more (λ h m. max h (log_height b m)) 0 ms k m here)
+
+pub returns : goal.returns
+returns g c =
+    let size = λ (domain : Coset g.row.F.Denot g.row.F-Prepared.Denot g.F.TwoAdicField g.F.Field g.F.PartialEq g.F.Add g.F.Sub g.F.Mul g.F.Neg). domain.log_size in
+    let ms = map (matrix_claim size) c.args.matrices.now in
+    c.loop-k.invariant ∙ ap (λ xs. greatest_height c.args.log_blowup xs)
+    (take_all c.loop-k.k ms (omega (arith, length-map c.args.matrices.now (matrix_claim size))))

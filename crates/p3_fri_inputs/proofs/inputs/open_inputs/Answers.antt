@@ -1,5 +1,5 @@
 use Rattle.std.proofs.Common.{◌≡◌, ◌≢◌, ◌++◌, ◌∙◌, ℕ, length, subst, sym, ap, refl, arith, All, inl}
-use Rattle.std.proofs.Common.{inr, Err}
+use Rattle.std.proofs.Common.{inr, map, Err}
 use Rattle.std.specs.List.{flat_map}
 use Rattle.p3_field_core.specs.declared.coset.TwoAdicMultiplicativeCoset.{TwoAdicMultiplicativeCoset as Coset}
 use Rattle.p3_fri_relation.specs.Setting.{Fields}
@@ -316,3 +316,27 @@ returns-in-Some-found-clause-exact g c =
           c.in_default-verify_commitments.ensures known.0 found.1,
       λ good. refl,
     )
+
+pub all_openings-requires-clause-inverses : goal.all_openings-requires-clause-inverses
+all_openings-requires-clause-inverses g c =
+    let size = λ (domain : Coset g.row.F.Denot g.row.F-Prepared.Denot g.F.TwoAdicField g.F.Field g.F.PartialEq g.F.Add g.F.Sub g.F.Mul g.F.Neg). domain.log_size in
+    let f : Fields g.row.F.Denot g.row.EF.Denot = record {
+      base = g.F.Field.ops;
+      ext = g.EF.Field.ops;
+      lift = g.EF.ExtensionField.lift;
+      coefficients = g.EF.ExtensionField.coefficients;
+      degree = g.EF.ExtensionField.DIMENSION;
+      root = g.F.TwoAdicField.root;
+      two_adicity = g.F.TwoAdicField.TWO_ADICITY;
+      shift = g.F.Field.GENERATOR;
+    } in
+    let K = g.EF.Field.ops in
+    let cs = claims_of size c.args.claims.now in
+    let ms = matrices_of cs in
+    let read = λ (q : ℕ). point_read f c.args.log_global_max_height q in
+    let dist = λ (q : ℕ). distances K c.args.params.now.log_blowup (read q) ms in
+    let known = of_none c.in_ok-met.met _ _ c.in_default-met.is c.in_ok-met.ensures in
+    let items : c.deref.result.now ≡ flat_map dist c.args.indices.now =
+    c.deref.ensures.value ∙ known.1
+    ∙ ap (λ xs. xs ++ flat_map dist c.args.indices.now) c.new-differences.ensures.items in
+    c.deref-2.ensures.value ∙ c.in_ok-inverses.ensures ∙ ap (λ xs. map K.inv xs) items

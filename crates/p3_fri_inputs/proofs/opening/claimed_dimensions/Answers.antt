@@ -5,7 +5,7 @@ use Rattle.p3_field_core.specs.declared.coset.TwoAdicMultiplicativeCoset.{TwoAdi
 use Rattle.p3_fri_relation.specs.Heights.{log_height, width, dimensions}
 use Rattle.p3_fri_relation.specs.Views.{matrix_claim}
 use Rattle.p3_fri_inputs.proofs.Places.{all_mapped_at, mapped_is}
-use Rattle.algebra.proofs.Growing.{mapped_more}
+use Rattle.algebra.proofs.Growing.{mapped_more, mapped_end}
 use Rattle.std.proofs.lemmas.Nat.{one_shl}
 use Rattle.p3_matrix.specs.declared.Dimensions.{Dimensions}
 use Rattle.p3_fri_inputs.proofs.opening.claimed_dimensions.Goals as goal
@@ -70,3 +70,10 @@ loop-k-preserved g c =
     mapped_more (dimensions b) ms k m old c.push.new.self.items here (mapped_is f matrices k r below is)
     c.loop-k.invariant
     (c.in_ok-push.ensures.items ∙ ap (λ d. old ++ d ∷ []) (ap₂ made wide high))
+
+pub returns : goal.returns
+returns g c =
+    let size = λ (domain : Coset g.row.F.Denot g.row.F-Prepared.Denot g.F.TwoAdicField g.F.Field g.F.PartialEq g.F.Add g.F.Sub g.F.Mul g.F.Neg). domain.log_size in
+    let ms = map (matrix_claim size) c.args.matrices.now in
+    mapped_end (dimensions c.args.log_blowup) ms c.loop-k.k [] c.loop-k.dims.items
+    (omega (arith, length-map c.args.matrices.now (matrix_claim size))) c.loop-k.invariant

@@ -4,7 +4,7 @@ use Rattle.std.proofs.lemmas.List.{get_or_default}
 use Rattle.p3_field_core.specs.declared.coset.TwoAdicMultiplicativeCoset.{TwoAdicMultiplicativeCoset as Coset}
 use Rattle.p3_fri_relation.specs.Heights.{opened_index}
 use Rattle.p3_fri_relation.specs.Views.{matrix_claim}
-use Rattle.algebra.proofs.Growing.{mapped_more}
+use Rattle.algebra.proofs.Growing.{mapped_more, mapped_end}
 use Rattle.p3_fri_inputs.proofs.LogHeights.{greatest_within}
 use Rattle.p3_fri_inputs.proofs.Opened.{opened_by_shift}
 use Rattle.p3_fri_inputs.proofs.opening.opened_indices.Goals as goal
@@ -33,3 +33,10 @@ loop-j-preserved g c =
     (get_or_default indices j 0 q below) c.loop-j.invariant
     (c.in_ok-push.ensures.items ∙ ap (λ d. old ++ d ∷ [])
     (ap (λ s. q / 2 ^ (top - s)) c.greatest_log_height.ensures ∙ opened_by_shift b ms top q small))
+
+pub returns : goal.returns
+returns g c =
+    let size = λ (domain : Coset g.row.F.Denot g.row.F-Prepared.Denot g.F.TwoAdicField g.F.Field g.F.PartialEq g.F.Add g.F.Sub g.F.Mul g.F.Neg). domain.log_size in
+    let ms = map (matrix_claim size) c.args.matrices.now in
+    mapped_end (opened_index c.args.log_blowup c.args.log_global_max_height ms) c.args.indices.now
+    c.loop-j.j [] c.loop-j.opened.items (omega arith) c.loop-j.invariant

@@ -1,9 +1,10 @@
 use Rattle.std.proofs.Common.{◌≡◌, ◌≤◌, take, sym, subst, ap, ◌∙◌, arith}
 use Rattle.std.specs.Vec.{vec_len}
+use Rattle.std.proofs.lemmas.Bool.{true≢false}
 use Rattle.p3_fri_relation.specs.Setting.{Fields}
 use Rattle.p3_fri_openings.specs.Committed.{inverse_differences}
 use Rattle.p3_fri_openings.specs.Denominators.{AreInverses}
-use Rattle.p3_fri_openings.proofs.First.{at_item, to_the_end}
+use Rattle.p3_fri_openings.proofs.First.{at_item, one_more, to_the_end}
 use Rattle.p3_fri_openings.proofs.Tables.{taken, found}
 use Rattle.p3_fri_openings.proofs.denominators.inverses_at.Goals as goal
 
@@ -37,3 +38,9 @@ unreachable-requires g c =
     let none = to_the_end (λ entry. (entry.point ≡ c.args.point) → c.args.height ≤ vec_len entry.inverses → ⊥)
     c.args.table.now c.loop-entry.entry-index c.loop-entry-test.false c.loop-entry.invariant in
     found c.args.table.now c.args.height c.args.point c.requires.covered none
+
+pub loop-entry-preserved : goal.loop-entry-preserved
+loop-entry-preserved g c =
+    one_more (λ entry. (entry.point ≡ c.args.point) → c.args.height ≤ vec_len entry.inverses → ⊥)
+    c.args.table.now c.loop-entry.entry-index c.entry-item.result c.loop-entry-test.true c.entry-item.is
+    c.loop-entry.invariant (λ e tall. true≢false (sym (c.covers.ensures.1 (e, tall)) ∙ c.if-covers.false))

@@ -1,8 +1,13 @@
-use Rattle.std.proofs.Common.{◌++◌, ◌∷◌, [], ◌+◌, take, drop, sym, ap, ◌∙◌, append_assoc}
+use Rattle.std.proofs.Common.{◌++◌, ◌∷◌, [], ◌+◌, length, take, drop, sym, ap, ◌∙◌, append_assoc}
+use Rattle.std.proofs.lemmas.List.{append-nil, take_all}
 use Rattle.p3_fri_pcs_transcript.specs.Counts.{claimed_lists_at_points, claimed_lists_in_matrices, lists_of_claims}
-use Rattle.p3_fri_pcs_transcript.proofs.Comparisons.{taken_item, about_item, about_lists, part_within, fault_after}
-use Rattle.p3_fri_pcs_transcript.proofs.Progress.{progress_more}
+use Rattle.p3_fri_pcs_transcript.proofs.Comparisons.{taken_item, about_item, about_lists, part_within, whole_entry, fault_after}
+use Rattle.p3_fri_pcs_transcript.proofs.Progress.{count_is_next, progress_more, progress_equal}
 use Rattle.p3_fri_pcs_transcript.proofs.pcs_transcript.claims.absorb_claims.Goals as goal
+
+pub observe_extensions-requires : goal.observe_extensions-requires
+observe_extensions-requires g c =
+    record { next = count_is_next c.compare.new.self (length c.as_slice-values.result.now) c.loop-point.invariant c.in-Ok.ensures.counts c.requires.next }
 
 pub returns-in-Err-clause-fault : goal.returns-in-Err-clause-fault
 returns-in-Err-clause-fault g c =
@@ -45,3 +50,34 @@ loop-point-preserved g c =
     (taken_item (λ item. item.values.items) points here.point-index c.point-item.result c.loop-point-test.true c.point-item.is
     ∙ ap (λ list. taken ++ list ∷ []) (sym c.as_slice-values.ensures.value))
     ∙ sym (append_assoc before taken (values ∷ [])))
+
+pub loop-matrix-init : goal.loop-matrix-init
+loop-matrix-init g c = progress_equal c.loop-claim.invariant (sym (append-nil _))
+
+pub loop-point-init : goal.loop-point-init
+loop-point-init g c = progress_equal c.loop-matrix.invariant (sym (append-nil _))
+
+pub loop-matrix-preserved : goal.loop-matrix-preserved
+loop-matrix-preserved g c =
+    let first = lists_of_claims (take c.loop-claim.claim-index c.args.claims.now) in
+    progress_equal c.loop-point.invariant
+    (whole_entry (λ item. claimed_lists_at_points item.points.items) (λ points. claimed_lists_at_points points) first
+    c.deref-matrix-items.result.now c.loop-matrix.matrix-index c.matrix-item.result c.deref-point-items.result.now c.loop-point.point-index
+    c.loop-matrix-test.true c.matrix-item.is c.loop-point-test.false (ap (λ points. claimed_lists_at_points points) c.deref-point-items.ensures.value))
+
+pub loop-claim-preserved : goal.loop-claim-preserved
+loop-claim-preserved g c =
+    progress_equal c.loop-matrix.invariant
+    (whole_entry (λ item. claimed_lists_in_matrices item.matrices.items) (λ matrices. claimed_lists_in_matrices matrices) []
+    c.args.claims.now c.loop-claim.claim-index c.claim-item.result c.deref-matrix-items.result.now c.loop-matrix.matrix-index
+    c.loop-claim-test.true c.claim-item.is c.loop-matrix-test.false (ap (λ matrices. claimed_lists_in_matrices matrices) c.deref-matrix-items.ensures.value))
+
+pub returns-clause-compared : goal.returns-clause-compared
+returns-clause-compared g c =
+    (progress_equal c.loop-claim.invariant
+    (ap (λ claims. lists_of_claims claims) (take_all c.loop-claim.claim-index c.args.claims.now c.loop-claim-test.false))).compared
+
+pub returns-clause-absorbed : goal.returns-clause-absorbed
+returns-clause-absorbed g c =
+    (progress_equal c.loop-claim.invariant
+    (ap (λ claims. lists_of_claims claims) (take_all c.loop-claim.claim-index c.args.claims.now c.loop-claim-test.false))).absorbed

@@ -11,7 +11,7 @@ use Rattle.p3_fri_pcs_transcript.specs.Shapes.{pcs_shape}
 use Rattle.p3_fri_pcs_transcript.specs.Steps.{PcsNumbers}
 use Rattle.p3_fri_pcs_transcript.proofs.ClaimTurns.{all_claims_left}
 use Rattle.p3_fri_steps.proofs.Reached.{reaches_same, reaches_join, reaches_shown}
-use Rattle.p3_fri_pcs_transcript.proofs.PcsRuns.{claimed_is, reaches_claimed, reaches_tested, reaches_lent, reaches_inside, test_failed, run_failed}
+use Rattle.p3_fri_pcs_transcript.proofs.PcsRuns.{ok_not_err, step_not_seed, claimed_is, reaches_claimed, reaches_tested, reaches_lent, reaches_inside, test_failed, run_failed}
 use Rattle.p3_fri_pcs_transcript.proofs.PcsReplays.{batch_lent, pcs_joined, batch_passes, test_passes, pcs_ends}
 use Rattle.p3_fri_pcs_transcript.proofs.pcs_transcript.play.replay_pcs.Given.{Over}
 use Rattle.p3_fri_pcs_transcript.proofs.pcs_transcript.play.replay_pcs.Goals as goal
@@ -166,3 +166,19 @@ returns-in-Err-tested-clause-absorbed g c = λ absorbed.
     (reaches_lent (moves_of g) g.EF.ExtensionField.coefficients ops g.EF.ExtensionField.DIMENSION shape (fri_shape c.args.test) c.args.challenger.now values c.begin_delegate.result.now c.replay_fri-tested.new.challenger c.in-Err-tested.refusal
     (λ s. c.in-Err-tested.ensures.unchanged (ap Err s)) (λ no. c.in-Err-tested.ensures.absorbed (λ s. no cc))))
     (search rules)
+
+pub batch_phase-requires-clause-at_most_max : goal.batch_phase-requires-clause-at_most_max
+batch_phase-requires-clause-at_most_max g c =
+    rw (c.in-Ok-claimed_openings.ensures.kept.shape, c.start-transcript.ensures.starts.shape) c.requires.widths.batch
+
+pub returns-in-Err-batch_phase-clause-unchanged : goal.returns-in-Err-batch_phase-clause-unchanged
+returns-in-Err-batch_phase-clause-unchanged g c = λ is. step_not_seed is
+
+pub returns-in-Ok-tested-clause-unchanged : goal.returns-in-Ok-tested-clause-unchanged
+returns-in-Ok-tested-clause-unchanged g c = λ is. ok_not_err is
+
+pub returns-in-Ok-tested-clause-failure : goal.returns-in-Ok-tested-clause-failure
+returns-in-Ok-tested-clause-failure g c = λ _ is. ok_not_err is
+
+pub returns-in-Err-tested-clause-unchanged : goal.returns-in-Err-tested-clause-unchanged
+returns-in-Err-tested-clause-unchanged g c = λ is. step_not_seed is

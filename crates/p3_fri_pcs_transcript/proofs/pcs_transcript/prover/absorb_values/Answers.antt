@@ -1,8 +1,9 @@
 use Rattle.std.proofs.Common.{◌++◌, ◌∷◌, [], ◌+◌, take, drop, sym, ap, ◌∙◌, append_assoc}
+use Rattle.std.proofs.lemmas.List.{append-nil, take_all}
 use Rattle.algebra.specs.Nested.{lists}
 use Rattle.p3_fri_pcs_transcript.specs.Counts.{lists_in_matrices, lists_of_values}
-use Rattle.p3_fri_pcs_transcript.proofs.Comparisons.{taken_item, about_item, about_lists, part_within}
-use Rattle.p3_fri_pcs_transcript.proofs.Progress.{claim_is_next, absorbs_more}
+use Rattle.p3_fri_pcs_transcript.proofs.Comparisons.{taken_item, about_item, about_lists, part_within, whole_entry}
+use Rattle.p3_fri_pcs_transcript.proofs.Progress.{claim_is_next, absorbs_more, absorbs_equal}
 use Rattle.p3_fri_pcs_transcript.proofs.pcs_transcript.prover.absorb_values.Goals as goal
 
 pub observe_extensions-requires : goal.observe_extensions-requires
@@ -49,3 +50,29 @@ loop-values-preserved g c =
     (taken_item (λ item. item.items) points here.values-index c.values-item.result c.loop-values-test.true c.values-item.is
     ∙ ap (λ list. taken ++ list ∷ []) (sym c.deref.ensures.value))
     ∙ sym (append_assoc before taken (values ∷ [])))
+
+pub loop-points-init : goal.loop-points-init
+loop-points-init g c = absorbs_equal c.loop-matrices.invariant (sym (append-nil _))
+
+pub loop-values-init : goal.loop-values-init
+loop-values-init g c = absorbs_equal c.loop-points.invariant (sym (append-nil _))
+
+pub loop-points-preserved : goal.loop-points-preserved
+loop-points-preserved g c =
+    let first = lists_of_values (take c.loop-matrices.matrices-index c.args.commitments.now) in
+    absorbs_equal c.loop-values.invariant
+    (whole_entry (λ item. lists item.items) (λ points. lists points) first
+    c.deref-points-items.result.now c.loop-points.points-index c.points-item.result c.deref-values-items.result.now c.loop-values.values-index
+    c.loop-points-test.true c.points-item.is c.loop-values-test.false (ap (λ points. lists points) c.deref-values-items.ensures.value))
+
+pub loop-matrices-preserved : goal.loop-matrices-preserved
+loop-matrices-preserved g c =
+    absorbs_equal c.loop-points.invariant
+    (whole_entry (λ item. lists_in_matrices item.items) (λ matrices. lists_in_matrices matrices) []
+    c.args.commitments.now c.loop-matrices.matrices-index c.matrices-item.result c.deref-points-items.result.now c.loop-points.points-index
+    c.loop-matrices-test.true c.matrices-item.is c.loop-points-test.false (ap (λ matrices. lists_in_matrices matrices) c.deref-points-items.ensures.value))
+
+pub returns : goal.returns
+returns g c =
+    absorbs_equal c.loop-matrices.invariant
+    (ap (λ commitments. lists_of_values commitments) (take_all c.loop-matrices.matrices-index c.args.commitments.now c.loop-matrices-test.false))

@@ -1,18 +1,18 @@
 use Rattle.std.proofs.Common.{◌≡◌, ◌+◌, ◌-◌, length, unwrap_or, Some, refl, sym, ap, ◌∙◌, arith}
 use Rattle.std.proofs.Common.{rules, subst}
-use Rattle.std.proofs.lemmas.List.{length-append}
+use Rattle.std.proofs.lemmas.List.{length-append, take_all}
 use Rattle.p3_challenger_core.specs.Run.{moves}
 use Rattle.p3_fri_steps.specs.declared.error.FriProverError.{FriProverError}
 use Rattle.p3_fri_steps.specs.Pow.{sent_witness}
 use Rattle.p3_fri_steps.proofs.Found.{sent_is}
 use Rattle.p3_fri_steps.proofs.Reached.{reaches_itself, reaches_join}
-use Rattle.p3_fri_transcript.specs.Found.{RoundsRefused}
-use Rattle.p3_fri_transcript.specs.Replay.{round_replay}
+use Rattle.p3_fri_transcript.specs.Found.{RoundsFound, RoundsRefused}
+use Rattle.p3_fri_transcript.specs.Replay.{round_replay, rounds_replay}
 use Rattle.p3_fri_transcript.specs.Shapes.{fri_shape}
 use Rattle.p3_fri_transcript.specs.Steps.{FriNumbers}
 use Rattle.p3_fri_transcript.proofs.Refusals.{round_not_found}
 use Rattle.p3_fri_transcript.proofs.Replays.{rounds_more, found_more, rounds-none}
-use Rattle.p3_fri_transcript.proofs.TurnLists.{one_round_left, other_rounds_left, no_round_taken}
+use Rattle.p3_fri_transcript.proofs.TurnLists.{one_round_left, other_rounds_left, no_round_taken, all_rounds_taken}
 use Rattle.p3_fri_transcript.proofs.transcript.play.play_rounds.Goals as goal
 
 pub loop-round-init : goal.loop-round-init
@@ -126,3 +126,31 @@ returns-in_err-push-in-Ok-clause-reached g c =
 pub returns-in_err-push-in-Ok-2-clause-reached : goal.returns-in_err-push-in-Ok-2-clause-reached
 returns-in_err-push-in-Ok-2-clause-reached g c =
     reaches_join _ _ _ _ c.loop-round.invariant.reached c.in-Ok.ensures.reached
+
+pub returns-clause-rounds : goal.returns-clause-rounds
+returns-clause-rounds g c =
+    let here = c.loop-round in
+    let m =
+    moves g.C.CanObserve-1.observed g.C.CanObserve-2.observed g.C.CanSample.sampled
+    g.EF.ExtensionField.of_coefficients g.EF.ExtensionField.DIMENSION g.C.CanSampleBits.sampled_bits in
+    let bits = (fri_shape c.args.transcript.now.shape).commit_pow_bits in
+    ap (λ cs. rounds_replay m bits c.args.transcript.now.challenger.now cs here.commit_witnesses.items)
+    (sym (take_all here.round c.args.commitments.now c.loop-round-test.false))
+    ∙ here.invariant.rounds
+
+pub returns-clause-found : goal.returns-clause-found
+returns-clause-found g c =
+    let here = c.loop-round in
+    let m =
+    moves g.C.CanObserve-1.observed g.C.CanObserve-2.observed g.C.CanSample.sampled
+    g.EF.ExtensionField.of_coefficients g.EF.ExtensionField.DIMENSION g.C.CanSampleBits.sampled_bits in
+    let bits = (fri_shape c.args.transcript.now.shape).commit_pow_bits in
+    subst
+    (λ cs. RoundsFound m g.F.Field.ops.zero g.C.GrindingChallenger.solution bits c.args.transcript.now.challenger.now cs
+    here.commit_witnesses.items)
+    (take_all here.round c.args.commitments.now c.loop-round-test.false) here.invariant.found
+
+pub returns-clause-steps : goal.returns-clause-steps
+returns-clause-steps g c =
+    all_rounds_taken g.EF.ExtensionField.DIMENSION (fri_shape c.args.transcript.now.shape) (length c.args.commitments.now)
+    c.loop-round.round _ c.loop-round-test.false c.loop-round.invariant.steps
