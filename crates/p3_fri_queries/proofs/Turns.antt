@@ -10,7 +10,7 @@ use Rattle.std.proofs.lemmas.List.FromFn.{length-enumerate_from}
 use Rattle.std.proofs.lemmas.Iterator.{YieldsList}
 use Rattle.std.proofs.lemmas.Iterator.Adapters.{YieldsList-from_vec}
 use Rattle.std.proofs.lemmas.Iterator.Consumers.{YieldsList-from_enumerate, YieldsList-turn, YieldsList-end}
-use Rattle.std.proofs.Common.{◌∙◌}
+use Rattle.std.proofs.Common.{ap, ◌∙◌}
 use Rattle.p3_fri_queries.proofs.Queries.{counted}
 
 module _ {X Z : Type 0} (xs : List X) (s t u : Enumerate (IntoIter X Z)) (yielded : List (ℕ × X))
@@ -21,6 +21,22 @@ module _ {X Z : Type 0} (xs : List X) (s t u : Enumerate (IntoIter X Z)) (yielde
     pub count : enumerate_count s ≡ 0
     pub so_far : Yields (enumerate_steps (into_iter_steps {X = X} {Z = Z})) s yielded t
     pub step : enumerate_steps (into_iter_steps {X = X} {Z = Z}) t r u
+
+  -- the loop is over the vector's own iterator, which counts from zero
+  pub turn_from : (vector : IntoIter X Z) (numbered : Enumerate (IntoIter X Z)) (n : ℕ) → s ≡ numbered
+      → enumerate_source numbered ≡ vector → enumerate_count numbered ≡ 0
+      → into_iter_items vector ≡ xs → into_iter_len vector ≡ n → n ≡ length xs
+      → Yields (enumerate_steps (into_iter_steps {X = X} {Z = Z})) s yielded t
+      → enumerate_steps (into_iter_steps {X = X} {Z = Z}) t r u → IsTurn
+  turn_from vector numbered n same source count items len whole so_far step = record {
+    items = ap (λ (i : Enumerate (IntoIter X Z)). into_iter_items (enumerate_source i)) same
+        ∙ ap (λ (i : IntoIter X Z). into_iter_items i) source ∙ items;
+    len = ap (λ (i : Enumerate (IntoIter X Z)). into_iter_len (enumerate_source i)) same
+        ∙ ap (λ (i : IntoIter X Z). into_iter_len i) source ∙ len ∙ whole;
+    count = ap (λ (i : Enumerate (IntoIter X Z)). enumerate_count i) same ∙ count;
+    so_far = so_far;
+    step = step;
+  }
 
   road : IsTurn → YieldsList (enumerate_steps (into_iter_steps {X = X} {Z = Z})) (λ p. (p.0, p.1)) s (enumerate_from 0 xs)
   road turn = YieldsList-from_enumerate (YieldsList-from_vec xs turn.items turn.len) turn.count

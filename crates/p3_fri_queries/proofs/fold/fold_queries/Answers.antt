@@ -7,7 +7,7 @@ use Rattle.p3_fri_queries.specs.Folded.{query_at}
 use Rattle.p3_fri_queries.proofs.Lengths.{length_group_rows}
 use Rattle.p3_fri_queries.proofs.Queries.{rows_none, folded_none, folded_read, query_read, indices_length, rows_length}
 use Rattle.p3_fri_queries.proofs.Queries.{refused_each, refused_some, ends_all, indices_all, rows_all}
-use Rattle.p3_fri_queries.proofs.Turns.{IsTurn, read, read_all}
+use Rattle.p3_fri_queries.proofs.Turns.{IsTurn, turn_from, read, read_all}
 use Rattle.p3_fri_queries.proofs.fold.fold_queries.Invariants.{fields_of}
 use Rattle.p3_fri_queries.proofs.fold.fold_queries.Goals as goal
 
@@ -24,7 +24,10 @@ bounds-positions-query g c =
     let items = c.args.reduced_openings.items in
     let n = length c.loop-query.yielded in
     let is_turn : IsTurn items c.into_iter-query-iterator.result c.loop-query.query-iterator c.next.new.self c.loop-query.yielded c.next.result =
-    record { items = search rules; len = search rules; count = search rules; so_far = c.loop-query.yielded_by; step = c.next.ensures.steps } in
+    turn_from items c.into_iter-query-iterator.result c.loop-query.query-iterator c.next.new.self c.loop-query.yielded c.next.result
+    c.into_iter.result c.enumerate-query-items.result c.args.reduced_openings.len c.into_iter-query-iterator.ensures.into_iter_gives
+    c.enumerate-query-items.ensures.source c.enumerate-query-items.ensures.count c.into_iter.ensures.rest c.into_iter.ensures.len
+    c.args.reduced_openings.ok.0 c.loop-query.yielded_by c.next.ensures.steps in
     let turn : (n < length items) × (c.in-Some.query ≡ n) × (c.in-Some.inputs ≡ get_or items n c.in-Some.inputs) =
     read items c.into_iter-query-iterator.result c.loop-query.query-iterator c.next.new.self c.loop-query.yielded c.next.result
     c.in-Some.query c.in-Some.inputs is_turn c.in-Some.is in
@@ -35,7 +38,10 @@ offset_bounds-positions-query g c =
     let items = c.args.reduced_openings.items in
     let n = length c.loop-query.yielded in
     let is_turn : IsTurn items c.into_iter-query-iterator.result c.loop-query.query-iterator c.next.new.self c.loop-query.yielded c.next.result =
-    record { items = search rules; len = search rules; count = search rules; so_far = c.loop-query.yielded_by; step = c.next.ensures.steps } in
+    turn_from items c.into_iter-query-iterator.result c.loop-query.query-iterator c.next.new.self c.loop-query.yielded c.next.result
+    c.into_iter.result c.enumerate-query-items.result c.args.reduced_openings.len c.into_iter-query-iterator.ensures.into_iter_gives
+    c.enumerate-query-items.ensures.source c.enumerate-query-items.ensures.count c.into_iter.ensures.rest c.into_iter.ensures.len
+    c.args.reduced_openings.ok.0 c.loop-query.yielded_by c.next.ensures.steps in
     let turn : (n < length items) × (c.in-Some.query ≡ n) × (c.in-Some.inputs ≡ get_or items n c.in-Some.inputs) =
     read items c.into_iter-query-iterator.result c.loop-query.query-iterator c.next.new.self c.loop-query.yielded c.next.result
     c.in-Some.query c.in-Some.inputs is_turn c.in-Some.is in
@@ -47,7 +53,10 @@ fold_to_final-requires-clause-in_order g c =
     let items = c.args.reduced_openings.items in
     let n = length c.loop-query.yielded in
     let is_turn : IsTurn items c.into_iter-query-iterator.result c.loop-query.query-iterator c.next.new.self c.loop-query.yielded c.next.result =
-    record { items = search rules; len = search rules; count = search rules; so_far = c.loop-query.yielded_by; step = c.next.ensures.steps } in
+    turn_from items c.into_iter-query-iterator.result c.loop-query.query-iterator c.next.new.self c.loop-query.yielded c.next.result
+    c.into_iter.result c.enumerate-query-items.result c.args.reduced_openings.len c.into_iter-query-iterator.ensures.into_iter_gives
+    c.enumerate-query-items.ensures.source c.enumerate-query-items.ensures.count c.into_iter.ensures.rest c.into_iter.ensures.len
+    c.args.reduced_openings.ok.0 c.loop-query.yielded_by c.next.ensures.steps in
     let turn : (n < length items) × (c.in-Some.query ≡ n) × (c.in-Some.inputs ≡ get_or items n c.in-Some.inputs) =
     read items c.into_iter-query-iterator.result c.loop-query.query-iterator c.next.new.self c.loop-query.yielded c.next.result
     c.in-Some.query c.in-Some.inputs is_turn c.in-Some.is in
@@ -65,7 +74,10 @@ fold_to_final-requires-clause-within_word g c =
     let items = c.args.reduced_openings.items in
     let n = length c.loop-query.yielded in
     let is_turn : IsTurn items c.into_iter-query-iterator.result c.loop-query.query-iterator c.next.new.self c.loop-query.yielded c.next.result =
-    record { items = search rules; len = search rules; count = search rules; so_far = c.loop-query.yielded_by; step = c.next.ensures.steps } in
+    turn_from items c.into_iter-query-iterator.result c.loop-query.query-iterator c.next.new.self c.loop-query.yielded c.next.result
+    c.into_iter.result c.enumerate-query-items.result c.args.reduced_openings.len c.into_iter-query-iterator.ensures.into_iter_gives
+    c.enumerate-query-items.ensures.source c.enumerate-query-items.ensures.count c.into_iter.ensures.rest c.into_iter.ensures.len
+    c.args.reduced_openings.ok.0 c.loop-query.yielded_by c.next.ensures.steps in
     let turn : (n < length items) × (c.in-Some.query ≡ n) × (c.in-Some.inputs ≡ get_or items n c.in-Some.inputs) =
     read items c.into_iter-query-iterator.result c.loop-query.query-iterator c.next.new.self c.loop-query.yielded c.next.result
     c.in-Some.query c.in-Some.inputs is_turn c.in-Some.is in
@@ -85,7 +97,10 @@ loop-query-preserved g c =
     let items = c.args.reduced_openings.items in
     let n = length c.loop-query.yielded in
     let is_turn : IsTurn items c.into_iter-query-iterator.result c.loop-query.query-iterator c.next.new.self c.loop-query.yielded c.next.result =
-    record { items = search rules; len = search rules; count = search rules; so_far = c.loop-query.yielded_by; step = c.next.ensures.steps } in
+    turn_from items c.into_iter-query-iterator.result c.loop-query.query-iterator c.next.new.self c.loop-query.yielded c.next.result
+    c.into_iter.result c.enumerate-query-items.result c.args.reduced_openings.len c.into_iter-query-iterator.ensures.into_iter_gives
+    c.enumerate-query-items.ensures.source c.enumerate-query-items.ensures.count c.into_iter.ensures.rest c.into_iter.ensures.len
+    c.args.reduced_openings.ok.0 c.loop-query.yielded_by c.next.ensures.steps in
     let turn : (n < length items) × (c.in-Some.query ≡ n) × (c.in-Some.inputs ≡ get_or items n c.in-Some.inputs) =
     read items c.into_iter-query-iterator.result c.loop-query.query-iterator c.next.new.self c.loop-query.yielded c.next.result
     c.in-Some.query c.in-Some.inputs is_turn c.in-Some.is in
@@ -108,7 +123,10 @@ returns-in_err-fold_to_final-clause-exact g c =
     let items = c.args.reduced_openings.items in
     let n = length c.loop-query.yielded in
     let is_turn : IsTurn items c.into_iter-query-iterator.result c.loop-query.query-iterator c.next.new.self c.loop-query.yielded c.next.result =
-    record { items = search rules; len = search rules; count = search rules; so_far = c.loop-query.yielded_by; step = c.next.ensures.steps } in
+    turn_from items c.into_iter-query-iterator.result c.loop-query.query-iterator c.next.new.self c.loop-query.yielded c.next.result
+    c.into_iter.result c.enumerate-query-items.result c.args.reduced_openings.len c.into_iter-query-iterator.ensures.into_iter_gives
+    c.enumerate-query-items.ensures.source c.enumerate-query-items.ensures.count c.into_iter.ensures.rest c.into_iter.ensures.len
+    c.args.reduced_openings.ok.0 c.loop-query.yielded_by c.next.ensures.steps in
     let turn : (n < length items) × (c.in-Some.query ≡ n) × (c.in-Some.inputs ≡ get_or items n c.in-Some.inputs) =
     read items c.into_iter-query-iterator.result c.loop-query.query-iterator c.next.new.self c.loop-query.yielded c.next.result
     c.in-Some.query c.in-Some.inputs is_turn c.in-Some.is in
@@ -128,7 +146,10 @@ returns-in_err-fold_to_final-clause-refusal g c =
     let items = c.args.reduced_openings.items in
     let n = length c.loop-query.yielded in
     let is_turn : IsTurn items c.into_iter-query-iterator.result c.loop-query.query-iterator c.next.new.self c.loop-query.yielded c.next.result =
-    record { items = search rules; len = search rules; count = search rules; so_far = c.loop-query.yielded_by; step = c.next.ensures.steps } in
+    turn_from items c.into_iter-query-iterator.result c.loop-query.query-iterator c.next.new.self c.loop-query.yielded c.next.result
+    c.into_iter.result c.enumerate-query-items.result c.args.reduced_openings.len c.into_iter-query-iterator.ensures.into_iter_gives
+    c.enumerate-query-items.ensures.source c.enumerate-query-items.ensures.count c.into_iter.ensures.rest c.into_iter.ensures.len
+    c.args.reduced_openings.ok.0 c.loop-query.yielded_by c.next.ensures.steps in
     let turn : (n < length items) × (c.in-Some.query ≡ n) × (c.in-Some.inputs ≡ get_or items n c.in-Some.inputs) =
     read items c.into_iter-query-iterator.result c.loop-query.query-iterator c.next.new.self c.loop-query.yielded c.next.result
     c.in-Some.query c.in-Some.inputs is_turn c.in-Some.is in
@@ -148,7 +169,10 @@ returns-clause-exact g c =
     let items = c.args.reduced_openings.items in
     let n = length c.loop-query.yielded in
     let is_turn : IsTurn items c.into_iter-query-iterator.result c.loop-query.query-iterator c.next.new.self c.loop-query.yielded c.next.result =
-    record { items = search rules; len = search rules; count = search rules; so_far = c.loop-query.yielded_by; step = c.next.ensures.steps } in
+    turn_from items c.into_iter-query-iterator.result c.loop-query.query-iterator c.next.new.self c.loop-query.yielded c.next.result
+    c.into_iter.result c.enumerate-query-items.result c.args.reduced_openings.len c.into_iter-query-iterator.ensures.into_iter_gives
+    c.enumerate-query-items.ensures.source c.enumerate-query-items.ensures.count c.into_iter.ensures.rest c.into_iter.ensures.len
+    c.args.reduced_openings.ok.0 c.loop-query.yielded_by c.next.ensures.steps in
     let all : n ≡ length c.args.positions.now =
     read_all items c.into_iter-query-iterator.result c.loop-query.query-iterator c.next.new.self c.loop-query.yielded c.next.result is_turn c.in-None.is
     ∙ c.requires.count in
@@ -159,7 +183,10 @@ returns-clause-indices g c =
     let items = c.args.reduced_openings.items in
     let n = length c.loop-query.yielded in
     let is_turn : IsTurn items c.into_iter-query-iterator.result c.loop-query.query-iterator c.next.new.self c.loop-query.yielded c.next.result =
-    record { items = search rules; len = search rules; count = search rules; so_far = c.loop-query.yielded_by; step = c.next.ensures.steps } in
+    turn_from items c.into_iter-query-iterator.result c.loop-query.query-iterator c.next.new.self c.loop-query.yielded c.next.result
+    c.into_iter.result c.enumerate-query-items.result c.args.reduced_openings.len c.into_iter-query-iterator.ensures.into_iter_gives
+    c.enumerate-query-items.ensures.source c.enumerate-query-items.ensures.count c.into_iter.ensures.rest c.into_iter.ensures.len
+    c.args.reduced_openings.ok.0 c.loop-query.yielded_by c.next.ensures.steps in
     let all : n ≡ length c.args.positions.now =
     read_all items c.into_iter-query-iterator.result c.loop-query.query-iterator c.next.new.self c.loop-query.yielded c.next.result is_turn c.in-None.is
     ∙ c.requires.count in
@@ -170,7 +197,10 @@ returns-clause-rows g c =
     let items = c.args.reduced_openings.items in
     let n = length c.loop-query.yielded in
     let is_turn : IsTurn items c.into_iter-query-iterator.result c.loop-query.query-iterator c.next.new.self c.loop-query.yielded c.next.result =
-    record { items = search rules; len = search rules; count = search rules; so_far = c.loop-query.yielded_by; step = c.next.ensures.steps } in
+    turn_from items c.into_iter-query-iterator.result c.loop-query.query-iterator c.next.new.self c.loop-query.yielded c.next.result
+    c.into_iter.result c.enumerate-query-items.result c.args.reduced_openings.len c.into_iter-query-iterator.ensures.into_iter_gives
+    c.enumerate-query-items.ensures.source c.enumerate-query-items.ensures.count c.into_iter.ensures.rest c.into_iter.ensures.len
+    c.args.reduced_openings.ok.0 c.loop-query.yielded_by c.next.ensures.steps in
     let all : n ≡ length c.args.positions.now =
     read_all items c.into_iter-query-iterator.result c.loop-query.query-iterator c.next.new.self c.loop-query.yielded c.next.result is_turn c.in-None.is
     ∙ c.requires.count in

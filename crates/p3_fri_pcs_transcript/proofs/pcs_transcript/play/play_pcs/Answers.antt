@@ -3,7 +3,6 @@ use Rattle.p3_challenger_fs.specs.Turns.{bytes_observed}
 use Rattle.p3_challenger_core.specs.Run.{Moves, moves}
 use Rattle.p3_fri_steps.proofs.Reached.{reaches_same}
 use Rattle.p3_fri_transcript.specs.Shapes.{fri_shape}
-use Rattle.p3_fri_pcs_transcript.specs.Steps.{PcsNumbers}
 use Rattle.p3_fri_pcs_transcript.specs.Counts.{all_values}
 use Rattle.p3_fri_pcs_transcript.specs.Replay.{BatchReplay, shown_batch_replay}
 use Rattle.p3_fri_pcs_transcript.specs.Shapes.{pcs_shape}
@@ -135,25 +134,6 @@ returns-in-Err-tested-clause-absorbed g c = λ absorbed.
     (reaches_lent (moves_of g) g.EF.ExtensionField.coefficients ops g.EF.ExtensionField.DIMENSION shape (fri_shape c.args.test) c.args.challenger.now values c.begin_delegate.result.now c.play_fri-tested.new.challenger c.in-Err-tested.refusal
     (λ s. c.in-Err-tested.ensures.unchanged (ap Err s)) (λ no. c.in-Err-tested.ensures.absorbed (λ s. no cc))))
     (search rules)
-
-pub claimed_openings-requires-clause-described : goal.claimed_openings-requires-clause-described
-claimed_openings-requires-clause-described g c =
-    c.requires.described ∙ ap (λ (s : PcsNumbers). s.counts) (sym c.start-transcript.ensures.starts.shape)
-
-pub batch_phase-requires-clause-all_claims_played : goal.batch_phase-requires-clause-all_claims_played
-batch_phase-requires-clause-all_claims_played g c = c.claimed_openings.ensures.steps
-
-pub batch_phase-requires-clause-at_most_max : goal.batch_phase-requires-clause-at_most_max
-batch_phase-requires-clause-at_most_max g c = rw (c.claimed_openings.ensures.kept.shape, c.start-transcript.ensures.starts.shape) c.requires.widths.batch
-
-pub begin_delegate-requires : goal.begin_delegate-requires
-begin_delegate-requires g c = record { bracket_left = c.in-Ok-batch_phase.ensures.steps }
-
-pub end_delegate-requires : goal.end_delegate-requires
-end_delegate-requires g c = record { bracket_open = c.begin_delegate.ensures.steps }
-
-pub finish-requires : goal.finish-requires
-finish-requires g c = record { all_played = c.end_delegate.ensures.steps }
 
 pub returns-in-Ok-tested-clause-refused : goal.returns-in-Ok-tested-clause-refused
 returns-in-Ok-tested-clause-refused g c = λ _ is. ok_not_err is

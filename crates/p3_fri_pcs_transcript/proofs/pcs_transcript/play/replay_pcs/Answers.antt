@@ -167,10 +167,6 @@ returns-in-Err-tested-clause-absorbed g c = λ absorbed.
     (λ s. c.in-Err-tested.ensures.unchanged (ap Err s)) (λ no. c.in-Err-tested.ensures.absorbed (λ s. no cc))))
     (search rules)
 
-pub batch_phase-requires-clause-at_most_max : goal.batch_phase-requires-clause-at_most_max
-batch_phase-requires-clause-at_most_max g c =
-    rw (c.in-Ok-claimed_openings.ensures.kept.shape, c.start-transcript.ensures.starts.shape) c.requires.widths.batch
-
 pub returns-in-Err-batch_phase-clause-unchanged : goal.returns-in-Err-batch_phase-clause-unchanged
 returns-in-Err-batch_phase-clause-unchanged g c = λ is. step_not_seed is
 

@@ -1,12 +1,24 @@
 use Rattle.std.proofs.Common.{◌≡◌, ◌∷◌, [], ◌/◌, ◌^◌, length, map, get_or}
-use Rattle.std.proofs.Common.{sym, ap, ◌∙◌, arith, subst}
+use Rattle.std.proofs.Common.{rules, sym, ap, ◌∙◌, arith, subst}
 use Rattle.std.proofs.lemmas.List.{get_or_default, length-append}
 use Rattle.algebra.specs.Nested.{lists}
 use Rattle.p3_matrix.specs.declared.dense.RowMajorMatrix.{RowMajorMatrix}
 use Rattle.p3_commit.specs.Batch.{AreBelow, max_height, dimensions_of}
 use Rattle.p3_fri_prover.specs.Openings.{IsOneMatrix, OpensRows, index_into}
-use Rattle.p3_fri_prover.proofs.Pushes.{rows_at, next_indices, pushed_each}
+use Rattle.p3_fri_prover.proofs.Pushes.{map_same_list, rows_at, next_indices, pushed_each}
 use Rattle.p3_fri_prover.proofs.prover.openings.answer_queries.Goals as goal
+
+pub loop-round-init : goal.loop-round-init
+loop-round-init g c = record {
+  count = search rules;
+  now = c.in_ok-indices.ensures.items ∙ sym (map_same_list c.args.positions.now);
+  each = λ k o l. absurd (omega (arith, l));
+}
+
+pub open_round-requires-clause-below_64 : goal.open_round-requires-clause-below_64
+open_round-requires-clause-below_64 g c =
+    let here = c.loop-round in
+    (c.requires.openable here.round c.index-prover_data-round.result (omega arith)).below_64
 
 pub open_round-requires-clause-one_matrix : goal.open_round-requires-clause-one_matrix
 open_round-requires-clause-one_matrix g c =

@@ -1,8 +1,27 @@
-use Rattle.std.proofs.Common.{◌≡◌, ◌^◌, sym, ap, ◌∙◌}
+use Rattle.std.proofs.Common.{◌≡◌, ◌^◌, length, sym, ap, ◌∙◌, arith}
 use Rattle.algebra.specs.Nested.{lists, nested}
 use Rattle.p3_matrix.specs.Matrix.{matrix_width}
 use Rattle.p3_fri_prover.proofs.Openings.{some_row_at, place_within, opens_rows, some_rows, same_only}
+use Rattle.std.proofs.lemmas.List.{length-map}
+use Rattle.std.proofs.lemmas.Nat.{pow_pos}
+use Rattle.algebra.proofs.Nested.{length-nested}
 use Rattle.p3_fri_prover.proofs.prover.openings.open_round.Goals as goal
+
+pub siblings_of_each-requires-clause-some_place : goal.siblings_of_each-requires-clause-some_place
+siblings_of_each-requires-clause-some_place g c =
+    omega (arith, c.arity_of.ensures, pow_pos c.args.log_arity)
+
+pub siblings_of_each-requires-clause-count : goal.siblings_of_each-requires-clause-count
+siblings_of_each-requires-clause-count g c =
+    let opened = c.in_ok-opened.opened.items in
+    omega (
+      arith,
+      ap length c.deref_mut.ensures.value,
+      length-nested opened,
+      simp length-map at (ap length c.in_ok-opened.ensures.rows),
+      ap length c.deref.ensures.value,
+      simp length-map at (ap length c.in_ok-rows.ensures),
+    )
 
 pub siblings_of_each-requires-clause-some_row : goal.siblings_of_each-requires-clause-some_row
 siblings_of_each-requires-clause-some_row g c =

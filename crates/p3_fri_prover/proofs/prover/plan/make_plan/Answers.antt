@@ -1,5 +1,6 @@
-use Rattle.std.proofs.Common.{◌≡◌, ◌∙◌, arith, sym, ap, subst}
+use Rattle.std.proofs.Common.{◌≡◌, ◌∙◌, inl, inr, arith, sym, ap, subst}
 use Rattle.std.specs.Prelude.{All}
+use Rattle.std.proofs.lemmas.Result.{err_from_is_err_and}
 use Rattle.algebra.specs.Nested.{lists}
 use Rattle.p3_fri_folding.specs.Schedule.{IsStrictlyFalling}
 use Rattle.p3_fri_transcript.specs.Shapes.{fri_shape}
@@ -71,3 +72,31 @@ returns-clause-shape g c = λ heights have.
     let same : c.deref.result.now ≡ heights = c.deref.ensures.value
     ∙ heights_unique found heights (lists c.args.inputs.now) c.in_ok-heights.ensures have in
     c.in_ok-shape.ensures ∙ ap (λ hs. fri_numbers p hs top c.args.extra_bits) same
+
+pub returns-in-Err-clause-refused : goal.returns-in-Err-clause-refused
+returns-in-Err-clause-refused g c = λ heights have.
+    inl (c.in-Err.ensures.refused heights have)
+
+pub returns-in_err-heights-clause-refused : goal.returns-in_err-heights-clause-refused
+returns-in_err-heights-clause-refused g c = λ heights have.
+    let residual = c.from_residual in
+    let told = err_from_is_err_and residual.result residual.ensures.1 in
+    rw told.1 (inr (c.in-Ok.ensures.tall_enough heights have, told.2))
+
+pub returns-in_err-shape-clause-refused : goal.returns-in_err-shape-clause-refused
+returns-in_err-shape-clause-refused g c = λ heights have.
+    let residual = c.from_residual-in_err-shape in
+    let told = err_from_is_err_and residual.result residual.ensures.1 in
+    rw told.1 (inr (c.in-Ok.ensures.tall_enough heights have, told.2))
+
+pub returns-in_err-log_arities-clause-refused : goal.returns-in_err-log_arities-clause-refused
+returns-in_err-log_arities-clause-refused g c = λ heights have.
+    let residual = c.from_residual-in_err-log_arities in
+    let told = err_from_is_err_and residual.result residual.ensures.1 in
+    rw told.1 (inr (c.in-Ok.ensures.tall_enough heights have, told.2))
+
+pub returns-in_err-seed-clause-refused : goal.returns-in_err-seed-clause-refused
+returns-in_err-seed-clause-refused g c = λ heights have.
+    let residual = c.from_residual-in_err-seed in
+    let told = err_from_is_err_and residual.result residual.ensures.1 in
+    rw told.1 (inr (c.in-Ok.ensures.tall_enough heights have, told.2))

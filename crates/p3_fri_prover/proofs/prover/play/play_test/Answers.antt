@@ -1,4 +1,4 @@
-use Rattle.std.proofs.Common.{rules, ◌∙◌, ap, subst, length}
+use Rattle.std.proofs.Common.{rules, ◌∙◌, arith, sym, ap, subst, length}
 use Rattle.algebra.specs.Nested.{lists}
 use Rattle.p3_challenger_core.specs.Run.{moves}
 use Rattle.p3_challenger_fs.specs.Separator.{seed_bytes}
@@ -50,3 +50,37 @@ returns-in-Ok-clause-played g c = λ top whole.
     c.start-transcript.ensures.starts.state
     (subst (λ n. P n (state_of c.start-transcript.result) (state_of c.play.new.transcript))
     c.start-transcript.ensures.starts.shape (c.in-Ok.ensures.played top whole)))
+
+pub play-requires-clause-schedule : goal.play-requires-clause-schedule
+play-requires-clause-schedule g c =
+    c.requires.schedule
+    ∙ sym (ap (λ (n : FriNumbers). n.log_arities) c.start-transcript.ensures.starts.shape)
+
+pub play-requires-clause-described : goal.play-requires-clause-described
+play-requires-clause-described g c =
+    ap (λ (n : FriNumbers). n.final_poly_len) c.start-transcript.ensures.starts.shape
+    ∙ c.requires.described
+
+pub play-requires-clause-commit_bits_at_most_max : goal.play-requires-clause-commit_bits_at_most_max
+play-requires-clause-commit_bits_at_most_max g c =
+    omega (
+      arith,
+      ap (λ (n : FriNumbers). n.commit_pow_bits) c.start-transcript.ensures.starts.shape,
+      c.requires.commit_bits_at_most_max,
+    )
+
+pub play-requires-clause-query_bits_at_most_max : goal.play-requires-clause-query_bits_at_most_max
+play-requires-clause-query_bits_at_most_max g c =
+    omega (
+      arith,
+      ap (λ (n : FriNumbers). n.query_pow_bits) c.start-transcript.ensures.starts.shape,
+      c.requires.query_bits_at_most_max,
+    )
+
+pub play-requires-clause-index_bits_at_most_max : goal.play-requires-clause-index_bits_at_most_max
+play-requires-clause-index_bits_at_most_max g c =
+    omega (
+      arith,
+      ap (λ (n : FriNumbers). n.index_bits) c.start-transcript.ensures.starts.shape,
+      c.requires.index_bits_at_most_max,
+    )

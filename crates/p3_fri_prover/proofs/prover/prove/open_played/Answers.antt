@@ -4,7 +4,19 @@ use Rattle.std.proofs.Common.{subst}
 use Rattle.std.specs.List.{AllZip}
 use Rattle.algebra.specs.Nested.{lists, nested}
 use Rattle.p3_fri_prover.specs.Openings.{IsOpenable, OpensRows, OpensBatch, index_into}
+use Rattle.std.specs.Prelude.{All}
 use Rattle.p3_fri_prover.proofs.prover.prove.open_played.Goals as goal
+
+pub open_inputs-requires-clause-positions : goal.open_inputs-requires-clause-positions
+open_inputs-requires-clause-positions g c =
+    let places = map (λ i. i / 2 ^ c.args.extra_bits) c.args.played.indices.items in
+    let at : c.deref-2.result.now ≡ places = c.deref-2.ensures.value ∙ c.in_ok-positions.ensures
+    ∙ ap (λ is. map (λ i. i / 2 ^ c.args.extra_bits) is) c.deref.ensures.value in
+    subst (All (λ q. q < 2 ^ c.args.log_global_max_height)) (sym at) c.requires.positions
+
+pub answer_queries-requires-clause-data_for_each : goal.answer_queries-requires-clause-data_for_each
+answer_queries-requires-clause-data_for_each g c =
+    ap length c.deref-3.ensures.value ∙ c.requires.data_for_each
 
 pub answer_queries-requires-clause-openable : goal.answer_queries-requires-clause-openable
 answer_queries-requires-clause-openable g c =

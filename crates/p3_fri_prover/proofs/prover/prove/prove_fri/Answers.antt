@@ -10,11 +10,14 @@ use Rattle.p3_fri_transcript.specs.Shapes.{fri_shape}
 use Rattle.p3_fri_relation.specs.declared.proof.BatchMultiOpening.{BatchMultiOpening}
 use Rattle.p3_fri_relation.specs.Setting.{Setting, InputOpening}
 use Rattle.p3_fri_relation.specs.Views.{parameters_of, proof_of, round_opened}
-use Rattle.p3_fri_prover.specs.Inputs.{HaveHeights}
+use Rattle.p3_fri_prover.specs.Inputs.{HaveHeights, AreInputs}
 use Rattle.p3_fri_prover.specs.Openings.{OpensBatch}
 use Rattle.p3_fri_prover.specs.Played.{IsPlayed}
 use Rattle.p3_fri_prover.specs.Proved.{log_arities, fri_numbers}
 use Rattle.p3_fri_relation.specs.TallEnough.{IsTallEnough}
+use Rattle.std.proofs.lemmas.List.{length-map}
+use Rattle.p3_fri_transcript.specs.Steps.{FriNumbers}
+use Rattle.p3_fri_prover.proofs.Inputs.{some_word}
 use Rattle.p3_fri_prover.proofs.Concluded.{proof_is_proved, positions_of_proof}
 use Rattle.p3_fri_prover.proofs.Concluded.{zip_viewed, as_many_viewed}
 use Rattle.p3_fri_prover.proofs.Planned.{planned_positive, planned_below_64, planned_playable}
@@ -48,6 +51,94 @@ setting_at g folding mmcs input_mmcs = record {
   opens_input = g.InputMmcs.Mmcs.opens input_mmcs;
   opens_round = g.M.Mmcs.opens mmcs;
 }
+
+pub make_plan-plan-requires-clause-inputs : goal.make_plan-plan-requires-clause-inputs
+make_plan-plan-requires-clause-inputs g c =
+    subst (λ xs. AreInputs c.args.log_global_max_height (lists xs)) (sym c.deref.ensures.value)
+    c.requires.inputs
+
+pub make_plan-plan-requires-clause-top_below_64 : goal.make_plan-plan-requires-clause-top_below_64
+make_plan-plan-requires-clause-top_below_64 g c =
+    omega (arith, c.requires.within_two_adicity, g.met.F.TwoAdicField.two_adicity_law)
+
+pub make_plan-plan-requires-clause-index_bits_fit : goal.make_plan-plan-requires-clause-index_bits_fit
+make_plan-plan-requires-clause-index_bits_fit g c =
+    omega (
+      arith,
+      c.requires.within_two_adicity,
+      c.requires.in_range.index_bits,
+      c.extra_query_index_bits-extra_bits.ensures,
+      g.met.C.CanSampleBits.max_law,
+    )
+
+pub play_test-test-requires-clause-some_input : goal.play_test-test-requires-clause-some_input
+play_test-test-requires-clause-some_input g c =
+    let words = c.args.inputs in
+    let are = c.requires.inputs in
+    omega (
+      arith,
+      words.ok.0,
+      length-map words.items (λ word. word.items),
+      some_word are.heights (lists words.items) are.have are.some,
+    )
+
+pub play_test-test-requires-clause-schedule : goal.play_test-test-requires-clause-schedule
+play_test-test-requires-clause-schedule g c =
+    let are = c.requires.inputs in
+    let have = subst (λ xs. HaveHeights are.heights (lists xs)) (sym c.deref.ensures.value) are.have in
+    c.deref-2.ensures.value ∙ c.in-Ok.ensures.log_arities are.heights have
+    ∙ sym (ap (λ (n : FriNumbers). n.log_arities) (c.in-Ok.ensures.shape are.heights have))
+
+pub play_test-test-requires-clause-described : goal.play_test-test-requires-clause-described
+play_test-test-requires-clause-described g c =
+    let are = c.requires.inputs in
+    let have = subst (λ xs. HaveHeights are.heights (lists xs)) (sym c.deref.ensures.value) are.have in
+    ap (λ (n : FriNumbers). n.final_poly_len) (c.in-Ok.ensures.shape are.heights have)
+
+pub play_test-test-requires-clause-commit_bits_at_most_max : goal.play_test-test-requires-clause-commit_bits_at_most_max
+play_test-test-requires-clause-commit_bits_at_most_max g c =
+    let are = c.requires.inputs in
+    let have = subst (λ xs. HaveHeights are.heights (lists xs)) (sym c.deref.ensures.value) are.have in
+    omega (
+      arith,
+      ap (λ (n : FriNumbers). n.commit_pow_bits) (c.in-Ok.ensures.shape are.heights have),
+      c.requires.in_range.commit_bits,
+    )
+
+pub play_test-test-requires-clause-query_bits_at_most_max : goal.play_test-test-requires-clause-query_bits_at_most_max
+play_test-test-requires-clause-query_bits_at_most_max g c =
+    let are = c.requires.inputs in
+    let have = subst (λ xs. HaveHeights are.heights (lists xs)) (sym c.deref.ensures.value) are.have in
+    omega (
+      arith,
+      ap (λ (n : FriNumbers). n.query_pow_bits) (c.in-Ok.ensures.shape are.heights have),
+      c.requires.in_range.query_bits,
+    )
+
+pub play_test-test-requires-clause-index_bits_at_most_max : goal.play_test-test-requires-clause-index_bits_at_most_max
+play_test-test-requires-clause-index_bits_at_most_max g c =
+    let are = c.requires.inputs in
+    let have = subst (λ xs. HaveHeights are.heights (lists xs)) (sym c.deref.ensures.value) are.have in
+    omega (
+      arith,
+      ap (λ (n : FriNumbers). n.index_bits) (c.in-Ok.ensures.shape are.heights have),
+      c.requires.in_range.index_bits,
+      c.requires.within_two_adicity,
+      c.extra_query_index_bits-extra_bits.ensures,
+    )
+
+pub open_played-opened-requires-clause-extra_bits_below_64 : goal.open_played-opened-requires-clause-extra_bits_below_64
+open_played-opened-requires-clause-extra_bits_below_64 g c =
+    omega (
+      arith,
+      c.requires.in_range.index_bits,
+      c.extra_query_index_bits-extra_bits.ensures,
+      g.met.C.CanSampleBits.max_law,
+    )
+
+pub open_played-opened-requires-clause-top_below_64 : goal.open_played-opened-requires-clause-top_below_64
+open_played-opened-requires-clause-top_below_64 g c =
+    omega (arith, c.requires.within_two_adicity, g.met.F.TwoAdicField.two_adicity_law)
 
 pub play_test-test-requires-clause-positive :
     goal.play_test-test-requires-clause-positive

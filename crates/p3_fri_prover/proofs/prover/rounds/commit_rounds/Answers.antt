@@ -1,11 +1,11 @@
 use Rattle.std.proofs.Common.{◌≡◌, ◌+◌, ◌-◌, ◌^◌, ◌++◌, ◌∷◌, [], ℕ, length, take, sum, get_or}
 use Rattle.std.proofs.Common.{sym, ap, ◌∙◌, arith, subst, refl, Vec}
-use Rattle.std.proofs.lemmas.List.{take_more}
+use Rattle.std.proofs.lemmas.List.{take_more, take_all}
 use Rattle.algebra.specs.Nested.{lists}
 use Rattle.p3_challenger_core.specs.Run.{moves}
 use Rattle.p3_fri_transcript.specs.Shapes.{fri_shape}
 use Rattle.p3_fri_transcript.specs.Steps.{FriNumbers}
-use Rattle.p3_fri_transcript.specs.Views.{state_of}
+use Rattle.p3_fri_transcript.specs.Views.{state_of, left_of}
 use Rattle.p3_fri_transcript.proofs.TurnLists.{one_round_left, other_rounds_left, no_round_taken}
 use Rattle.p3_fri_prover.specs.Inputs.{of_length}
 use Rattle.p3_fri_prover.specs.Rounds.{AreCommitted, IsRound}
@@ -13,6 +13,7 @@ use Rattle.p3_fri_prover.proofs.Committed.{none_committed, one_committed_more}
 use Rattle.p3_fri_prover.specs.Refusals.{RoundRefusal}
 use Rattle.p3_fri_prover.proofs.Inputs.{same_power}
 use Rattle.p3_fri_prover.proofs.Committed.{word_so_far, can_fold_next, next_size, rounds_refused}
+use Rattle.p3_fri_transcript.specs.Turns.{RoundsLeft}
 use Rattle.p3_fri_prover.proofs.prover.rounds.commit_rounds.Goals as goal
 
 pub loop-log_arity-init : goal.loop-log_arity-init
@@ -103,6 +104,50 @@ returns-in-Err-clause-refused g c = λ top whole.
       committed_before = so_far;
       refused = refused;
     })
+
+pub commit_round-played-requires-clause-positive : goal.commit_round-played-requires-clause-positive
+commit_round-played-requires-clause-positive g c =
+    c.requires.positive c.loop-log_arity.log_arity-index 0 (omega arith)
+
+pub commit_round-played-requires-clause-below_64 : goal.commit_round-played-requires-clause-below_64
+commit_round-played-requires-clause-below_64 g c =
+    c.requires.below_64 c.loop-log_arity.log_arity-index 0 (omega arith)
+
+pub commit_round-played-requires-clause-at_most_max : goal.commit_round-played-requires-clause-at_most_max
+commit_round-played-requires-clause-at_most_max g c =
+    omega (
+      arith,
+      ap (λ (s : FriNumbers). s.commit_pow_bits) c.loop-log_arity.invariant.kept.shape,
+      c.requires.at_most_max,
+    )
+
+pub returns-in-Err-clause-kept : goal.returns-in-Err-clause-kept
+returns-in-Err-clause-kept g c =
+    let here = c.loop-log_arity.invariant in
+    let round = c.in-Err.ensures.kept in
+    record { same = round.same ∙ here.kept.same; shape = round.shape ∙ here.kept.shape }
+
+pub returns-in_err-word-clause-kept : goal.returns-in_err-word-clause-kept
+returns-in_err-word-clause-kept g c =
+    let here = c.loop-log_arity.invariant in
+    let round = c.in-Ok.ensures.kept in
+    record { same = round.same ∙ here.kept.same; shape = round.shape ∙ here.kept.shape }
+
+pub returns-clause-steps : goal.returns-clause-steps
+returns-clause-steps g c =
+    let here = c.loop-log_arity in
+    let none : length c.args.log_arities.now - here.log_arity-index ≡ 0 = omega arith in
+    subst (λ n. RoundsLeft g.EF.ExtensionField.DIMENSION (fri_shape c.args.transcript.now.shape) n
+    (left_of here.transcript)) none here.invariant.steps
+
+pub returns-clause-rounds : goal.returns-clause-rounds
+returns-clause-rounds g c = λ top whole.
+    let here = c.loop-log_arity in
+    let arities = c.args.log_arities.now in
+    let i = here.log_arity-index in
+    let all : take i arities ≡ arities = take_all i arities (omega arith) in
+    let committed = here.invariant.so_far top whole in
+    rw all at committed
 
 pub loop-log_arity-preserved : goal.loop-log_arity-preserved
 loop-log_arity-preserved g c =
