@@ -1,10 +1,18 @@
-use Rattle.std.proofs.Common.{List, refl, sym, ap, ◌∙◌, map, [], ◌∷◌}
+use Rattle.std.proofs.Common.{◌≡◌, min, List, refl, sym, ap, ◌∙◌, map, [], ◌∷◌, length, arith, Result, Ok, Err}
+use Rattle.std.specs.Prelude.{IsErr, IsErrAnd}
+use Rattle.std.proofs.lemmas.List.{length-map, length-take}
+use Rattle.std.proofs.lemmas.List.Sums.{sum_by-take-le}
+use Rattle.p3_fri_relation.specs.declared.error.FriError.TheVariants.{OutOfMemory}
 use Rattle.p3_fri_relation.specs.FoldedQuery.{gains}
-use Rattle.p3_fri_relation.specs.Views.{query_input, rows_collected}
+use Rattle.p3_fri_relation.specs.Views.{query_input, siblings_opened, rows_collected}
 use Rattle.p3_fri_query.proofs.Lists.{range_take, have_take}
 use Rattle.p3_fri_query.proofs.Refusals.{refused, handed_on}
-use Rattle.p3_fri_query.proofs.Orders.{inputs_fit, in_order, value_of, rows_of}
+use Rattle.p3_fri_query.proofs.Orders.{rounds_fit, inputs_fit, in_order, value_of, rows_of}
 use Rattle.p3_fri_query.proofs.query.fold_query.Goals as goal
+
+as_handed_on : {T A : Type 0} (r : Result T A) (e : A) → IsErr r × IsErrAnd r (λ x. x ≡ e) → r ≡ Err e
+as_handed_on (Ok v) e h = absurd h.1
+as_handed_on (Err x) e h = ap Err h.1
 
 pub returns-in_err-check_rounds-clause-refusal : goal.returns-in_err-check_rounds-clause-refusal
 returns-in_err-check_rounds-clause-refusal g c =
@@ -70,3 +78,56 @@ returns-clause-rows g c =
     c.folded_arities-folded.result.now c.as_slice-inputs.result.now c.in_ok-first.first
     (sym c.folded_arities-folded.ensures) (sym c.as_slice-inputs.ensures.value)
     (c.in_ok-first.ensures.value g.EF.Field.ops.zero))
+
+pub returns-in_err-check_rounds-clause-exact : goal.returns-in_err-check_rounds-clause-exact
+returns-in_err-check_rounds-clause-exact g c =
+    let q = query_input c.args.query c.args.start_index.now c.args.betas.now c.args.log_arities.now
+    c.args.commit_phase_openings.now c.args.reduced_openings.items c.args.log_global_max_height c.args.log_final_height in
+    let exact = c.in_err-check_rounds.ensures.exact.1 in
+    λ _. (
+      λ is_ok. absurd (refused c.from_residual.result c.from_residual.ensures.0 is_ok),
+      λ o. absurd (cc (exact (rounds_fit q o))),
+    )
+
+pub fold_rounds-requires-clause-betas : goal.fold_rounds-requires-clause-betas
+fold_rounds-requires-clause-betas g c = rw (c.folded_arities-folded.ensures, length-take) (omega arith)
+
+pub fold_rounds-requires-clause-openings : goal.fold_rounds-requires-clause-openings
+fold_rounds-requires-clause-openings g c =
+    rw (c.folded_arities-folded.ensures, length-take, length-map) (omega arith)
+
+pub fold_rounds-requires-clause-indices : goal.fold_rounds-requires-clause-indices
+fold_rounds-requires-clause-indices g c =
+    rw (c.folded_arities-folded.ensures, length-take) (omega (arith, c.requires.indices))
+
+pub fold_rounds-requires-clause-rows : goal.fold_rounds-requires-clause-rows
+fold_rounds-requires-clause-rows g c =
+    rw (c.folded_arities-folded.ensures, length-take) (omega (arith, c.requires.rows))
+
+pub fold_rounds-requires-clause-distance : goal.fold_rounds-requires-clause-distance
+fold_rounds-requires-clause-distance g c =
+    rw c.folded_arities-folded.ensures
+    (omega (
+      arith,
+      (c.in_ok-check_rounds.ensures.exact.0 refl).2,
+      sum_by-take-le (λ x. x) c.args.log_arities.now
+          (min (length c.args.betas.now) (length (siblings_opened c.args.commit_phase_openings.now))),
+    ))
+
+pub check_inputs-requires : goal.check_inputs-requires
+check_inputs-requires g c =
+    rw c.folded_arities-folded.ensures
+    (omega (
+      arith,
+      (c.in_ok-check_rounds.ensures.exact.0 refl).2,
+      sum_by-take-le (λ x. x) c.args.log_arities.now
+          (min (length c.args.betas.now) (length (siblings_opened c.args.commit_phase_openings.now))),
+    ))
+
+pub returns-in_err-fold_rounds-clause-exact : goal.returns-in_err-fold_rounds-clause-exact
+returns-in_err-fold_rounds-clause-exact g c =
+    λ other. absurd (other (as_handed_on _ OutOfMemory c.from_residual-in_err-fold_rounds.ensures))
+
+pub returns-in_err-fold_rounds-clause-refusal : goal.returns-in_err-fold_rounds-clause-refusal
+returns-in_err-fold_rounds-clause-refusal g c =
+    handed_on _ c.from_residual-in_err-fold_rounds.result OutOfMemory c.from_residual-in_err-fold_rounds.ensures tt

@@ -3,6 +3,7 @@ use Rattle.std.proofs.Common.{map, drop, arith, ap, sym, ◌∙◌, refl}
 use Rattle.std.proofs.lemmas.Grind.{common_steps}
 use Rattle.std.proofs.lemmas.List.{length-map, drop_all}
 use Rattle.std.specs.Prelude.{slice_index_or}
+use Rattle.std.proofs.lemmas.List.Sums.{sum_by-drop_more}
 use Rattle.algebra.specs.Nested.{lists}
 use Rattle.algebra.proofs.Nested.{length-lists}
 use Rattle.algebra.specs.Rounds.{Link, chain_rows}
@@ -103,3 +104,28 @@ returns-clause-rows g c =
     (chain_rows g.EF.Field.ops (g.S.FriFoldingStrategy.row_fold c.args.folding.now) (value_at c.args.inputs.now)
     (rounds_of arities (drop k c.args.betas.now)) (drop k siblings) here)) end)
     c.loop-round.invariant.rows
+
+pub loop-round-init : goal.loop-round-init
+loop-round-init g c = record {
+  left = c.requires.distance;
+  high = omega arith;
+  within = c.requires.within_word;
+  index = refl;
+  indices_length = c.requires.indices;
+  rows_length = c.requires.rows;
+  value = refl;
+  indices = refl;
+  rows = refl;
+}
+
+pub overflow_sub-height : goal.overflow_sub-height
+overflow_sub-height g c =
+    omega (arith, sum_by-drop_more (λ x. x) c.args.log_arities.now c.loop-round.round 0 (omega arith))
+
+pub fold_round-requires-clause-within_height : goal.fold_round-requires-clause-within_height
+fold_round-requires-clause-within_height g c =
+    omega (arith, sum_by-drop_more (λ x. x) c.args.log_arities.now c.loop-round.round 0 (omega arith))
+
+pub overflow_sub-height-in-loop-round : goal.overflow_sub-height-in-loop-round
+overflow_sub-height-in-loop-round g c =
+    omega (arith, sum_by-drop_more (λ x. x) c.args.log_arities.now c.loop-round.round 0 (omega arith))
