@@ -348,7 +348,8 @@ impl<CommitMmcsErr: fmt::Debug, InputErr: fmt::Debug> FriError<CommitMmcsErr, In
         }
     }
 
-    /// Prints what is refused of a scheme that hides. There is no family after this one.
+    /// Prints what is refused of a scheme that hides. The last family: it names the variants that the
+    /// others print, so that a variant without a text isn't compiled.
     fn fmt_hiding<W: fmt::Write>(&self, f: &mut fmt::Formatter<W>) -> fmt::Result {
         match self {
             FriError::HidingRandomOpeningRoundCountMismatch { expected, got } => write!(
@@ -408,7 +409,37 @@ impl<CommitMmcsErr: fmt::Debug, InputErr: fmt::Debug> FriError<CommitMmcsErr, In
                 )?;
                 write!(f, " over an extension of degree {extension_degree}")
             },
-            _ => Ok(()),
+            FriError::CommitPhaseOpeningsCountMismatch { .. }
+            | FriError::CommitRoundCountMismatch { .. }
+            | FriError::CommitPhaseQueryCountMismatch { .. }
+            | FriError::InputOpeningsQueryCountMismatch { .. }
+            | FriError::CommitPowWitnessCountMismatch { .. }
+            | FriError::ClaimedEvaluationCountMismatch { .. }
+            | FriError::FinalPolyLengthMismatch { .. }
+            | FriError::ZeroQueries
+            | FriError::NoCommittedMatrices
+            | FriError::UnsupportedFoldingCap { .. }
+            | FriError::ZeroFoldingArity
+            | FriError::ZeroBlowup
+            | FriError::MissingInitialReducedOpening { .. }
+            | FriError::InitialReducedOpeningHeightMismatch { .. }
+            | FriError::GlobalMaxHeightTooLarge { .. }
+            | FriError::SiblingValuesLengthMismatch { .. }
+            | FriError::FinalFoldHeightMismatch { .. }
+            | FriError::FoldScheduleArityOutOfRange { .. }
+            | FriError::FoldScheduleTooLong { .. }
+            | FriError::UnconsumedReducedOpenings { .. }
+            | FriError::InputProofBatchCountMismatch { .. }
+            | FriError::BatchOpenedValuesCountMismatch { .. }
+            | FriError::MatrixWithoutOpeningPoints { .. }
+            | FriError::PointEvaluationCountMismatch { .. }
+            | FriError::CommitPhaseMmcsError(_)
+            | FriError::InputError(_)
+            | FriError::FinalPolyMismatch
+            | FriError::InvalidPowWitness(_)
+            | FriError::NonCanonicalPowWitness { .. }
+            | FriError::OpeningPointMatchesQueryPoint { .. }
+            | FriError::OutOfMemory => Ok(()),
         }
     }
 }
