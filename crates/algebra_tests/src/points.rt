@@ -1,5 +1,7 @@
 //! The test of a point against a coset, and cosets that are apart.
 
+ghost use Rattle.std.specs.Prelude.{◌<◌};
+
 use crate::values::POINTS;
 use algebra::{cosets_law, point_test_law};
 use p3_field::{BabyBear, BabyBear4, ExtensionField, Field, TwoAdicMultiplicativeCoset};
@@ -10,36 +12,48 @@ fn has_power_of_shift(log_size: usize, z: BabyBear4) -> bool {
     z.exp_power_of_2(log_size) == BabyBear4::from_base(power)
 }
 
+/// Whether the test fails at zero, one and the generator, and no difference from `x` is zero there.
+fn fails_and_differs(x: BabyBear4) -> bool {
+    let mut right = true;
+    for z in [BabyBear4::ZERO, BabyBear4::ONE, BabyBear4::GENERATOR] {
+        right = right && !has_power_of_shift(3, z) && !(z - x).is_zero();
+    }
+    right
+}
+
 #[test]
 fn tests_points(rt: HostRuntime) {
     for index in 0..8 {
         let x = BabyBear4::from_u64(POINTS[index]);
-        assert!(rt; has_power_of_shift(3, x), "at {index}");
-        assert_eq!(rt; has_power_of_shift(2, x), index < 4, "at {index}");
-        // where the test fails, no difference is zero
-        for z in [BabyBear4::ZERO, BabyBear4::ONE, BabyBear4::GENERATOR] {
-            assert!(rt; !has_power_of_shift(3, z));
-            assert!(rt; !(z - x).is_zero());
-        }
+        let answers = (
+            has_power_of_shift(3, x),
+            has_power_of_shift(2, x),
+            fails_and_differs(x),
+        );
+        assert_eq!(rt; answers, (true, index < 4, true), "at {index}");
     }
     point_test_law::<BabyBear, BabyBear4>();
 }
 
+/// The values of the vanishing polynomial of the coset of four points of shift 31 at this point of
+/// it and at that of the coset of shift 62.
+fn vanishing_values(index: usize) -> Option<(BabyBear, BabyBear)>
+    requires { index < 4 }
+{
+    let first = TwoAdicMultiplicativeCoset::new(BabyBear::GENERATOR, 2)?;
+    let second = TwoAdicMultiplicativeCoset::new(BabyBear::GENERATOR.double(), 2)?;
+    Some((
+        first.vanishing_poly_at_point(first.element(index)),
+        first.vanishing_poly_at_point(second.element(index)),
+    ))
+}
+
 #[test]
 fn vanishes_on_one_coset_alone(rt: HostRuntime) {
-    let first = TwoAdicMultiplicativeCoset::new(BabyBear::GENERATOR, 2);
-    let second = TwoAdicMultiplicativeCoset::new(BabyBear::GENERATOR.double(), 2);
-    match (first, second) {
-        (Some(first), Some(second)) => {
-            for index in 0..4 {
-                let value = first.vanishing_poly_at_point(first.element(index));
-                assert_eq!(rt; value, BabyBear::ZERO);
-                // (62 / 31)^4 - 1
-                let value = first.vanishing_poly_at_point(second.element(index));
-                assert_eq!(rt; value, BabyBear::from_u64(15));
-            }
-        }
-        _ => assert!(rt; false, "cosets of four points"),
+    // (62 / 31)^4 - 1
+    let off_coset = BabyBear::from_u64(15);
+    for index in 0..4 {
+        assert_eq!(rt; vanishing_values(index), Some((BabyBear::ZERO, off_coset)));
     }
     cosets_law::<BabyBear>();
 }

@@ -30,6 +30,13 @@ pub fn element(coefficients: [u64; 4]) -> BabyBear4 {
     ])
 }
 
+/// The summand at `z` of the barycentric sum below which belongs to the point of this index.
+fn summand(index: usize, z: BabyBear4) -> Option<BabyBear4> {
+    let x = BabyBear4::from_u64(*POINTS.get(index)?);
+    let y = BabyBear4::from_u64(*FIRST_COLUMN.get(index)?);
+    Some(x * (z - x).try_inverse()? * y)
+}
+
 /// The barycentric sum at `z` of the first column's values over the coset of `2^log_size` points;
 /// `None` on the coset or at another size than 1, 2, 4 and 8.
 fn barycentric(log_size: usize, z: BabyBear4) -> Option<BabyBear4> {
@@ -40,9 +47,7 @@ fn barycentric(log_size: usize, z: BabyBear4) -> Option<BabyBear4> {
     let size_inverse = BabyBear4::from_u64(1 << log_size).try_inverse()?;
     let mut sum = BabyBear4::ZERO;
     for index in 0..1 << log_size {
-        let x = BabyBear4::from_u64(*POINTS.get(index)?);
-        let y = BabyBear4::from_u64(*FIRST_COLUMN.get(index)?);
-        sum = sum + x * (z - x).try_inverse()? * y;
+        sum = sum + summand(index, z)?;
     }
     Some(coset.vanishing_poly_at_point(z) * size_inverse * sum)
 }
@@ -50,13 +55,16 @@ fn barycentric(log_size: usize, z: BabyBear4) -> Option<BabyBear4> {
 #[test]
 fn values_off_a_coset(rt: HostRuntime) {
     // at zero, the constant coefficient
+    let at_zero = BabyBear4::from_u64(3);
+    let at_seven = BabyBear4::from_u64(549);
+    let at_generator = element([779, 257, 28, 1]);
     for log_size in 2..4 {
-        let value = barycentric(log_size, BabyBear4::ZERO);
-        assert_eq!(rt; value, Some(BabyBear4::from_u64(3)));
-        let value = barycentric(log_size, BabyBear4::from_u64(7));
-        assert_eq!(rt; value, Some(BabyBear4::from_u64(549)));
-        let value = barycentric(log_size, element([8, 1, 0, 0]));
-        assert_eq!(rt; value, Some(element([779, 257, 28, 1])));
+        let values = (
+            barycentric(log_size, BabyBear4::ZERO),
+            barycentric(log_size, BabyBear4::from_u64(7)),
+            barycentric(log_size, element([8, 1, 0, 0])),
+        );
+        assert_eq!(rt; values, (Some(at_zero), Some(at_seven), Some(at_generator)));
     }
     // a point of the coset of eight, off that of four
     let value = barycentric(2, BabyBear4::from_u64(POINTS[5]));

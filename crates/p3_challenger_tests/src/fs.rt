@@ -7,12 +7,13 @@ ghost use Rattle.p3_challenger.specs.pattern.Hierarchy.TheVariants.{Atomic, Begi
 ghost use Rattle.p3_challenger.specs.pattern.Kind.TheVariants.{Message, Challenge, Pow, Protocol};
 ghost use Rattle.p3_challenger.specs.pattern.TypeTag.TheVariants.{Opaque, Algebra, Bits, Marker};
 ghost use Rattle.p3_challenger.specs.pattern.Length.TheVariants.{Scalar, Fixed};
+ghost use Rattle.p3_challenger.specs.Driver.{steps_left};
 ghost use Rattle.p3_challenger.specs.Pattern.{turn_of};
 ghost use Rattle.p3_challenger.specs.Separator.{description};
 
 use p3_challenger::fs::{
     DomainSeparator, Hierarchy, Interaction, InteractionPattern, Kind, Length, ProverState,
-    VerifierState,
+    TranscriptState, VerifierState,
 };
 use p3_challenger::laws::seed_stream_law;
 use p3_challenger::{CanObserve, Sha256Challenger};
@@ -82,7 +83,7 @@ const STREAM: [u8; 221] = [
 const ROOT: [u8; 32] = [7; 32];
 
 /// A separator of these steps.
-#[derive(Debug, Drop)]
+#[derive(Drop)]
 struct Example {
     separator: DomainSeparator,
     ghost turns: { map turn_of (description separator).steps ≡
@@ -96,12 +97,13 @@ struct Example {
         ∷ [] },
 }
 
-/// What one side draws, with the witness that it found or was sent.
-#[derive(Debug, PartialEq, Eq, Drop)]
+/// What one side draws, with the witness that it found or was sent. The rows are `None` where they
+/// aren't two.
+#[derive(Clone, Copy, Debug, PartialEq, Eq)]
 struct Played {
     witness: BabyBear,
     beta: BabyBear4,
-    rows: Vec<usize>,
+    rows: Option<(usize, usize)>,
 }
 
 /// The separator of the stream above.
@@ -155,6 +157,46 @@ fn values() -> [BabyBear4; 2] {
     [BabyBear4::TWO, BabyBear4::GENERATOR]
 }
 
+/// The two rows, where there are two.
+fn pair(rows: &[usize]) -> Option<(usize, usize)> {
+    match rows {
+        [first, second] => Some((*first, *second)),
+        _ => None,
+    }
+}
+
+/// The steps of either side after the proof of work.
+fn play_last<Side>(
+    alloc: Global,
+    mut transcript: TranscriptState<'_, Side, Sha256Challenger, BabyBear>,
+    witness: BabyBear,
+) -> Result<Option<Played>, AllocError>
+    requires { steps_left transcript ≡
+        record { hierarchy = Atomic; kind = Challenge; type_tag = Algebra 4; length = Scalar }
+        ∷ record { hierarchy = Atomic; kind = Challenge; type_tag = Bits 5; length = Fixed 2 }
+        ∷ record { hierarchy = Begin; kind = Protocol; type_tag = Marker; length = Scalar }
+        ∷ record { hierarchy = End; kind = Protocol; type_tag = Marker; length = Scalar }
+        ∷ [] }
+{
+    let beta: BabyBear4 = transcript.challenge_extension();
+    match transcript.challenge_bits(alloc, 5, 2) {
+        Ok(rows) => {
+            transcript.begin_protocol();
+            transcript.end_protocol();
+            transcript.finalize();
+            Ok(Some(Played {
+                witness,
+                beta,
+                rows: pair(&rows),
+            }))
+        },
+        Err(refused) => {
+            transcript.abort();
+            Err(refused)
+        },
+    }
+}
+
 /// The prover's side.
 fn prove(
     alloc: Global,
@@ -164,26 +206,13 @@ fn prove(
     let mut transcript = ProverState::new(alloc, challenger, &example.separator)?;
     transcript.observe_opaque(ROOT);
     transcript.observe_extensions(&values());
-    let Some(witness) = transcript.observe_pow(3) else {
-        transcript.abort();
-        return Ok(None);
-    };
-    let beta: BabyBear4 = transcript.challenge_extension();
-    let rows = match transcript.challenge_bits(alloc, 5, 2) {
-        Ok(rows) => rows,
-        Err(refused) => {
+    match transcript.observe_pow(3) {
+        Some(witness) => play_last(alloc, transcript, witness),
+        None => {
             transcript.abort();
-            return Err(refused);
+            Ok(None)
         },
-    };
-    transcript.begin_protocol();
-    transcript.end_protocol();
-    transcript.finalize();
-    Ok(Some(Played {
-        witness,
-        beta,
-        rows,
-    }))
+    }
 }
 
 /// The verifier's side, `None` where the witness doesn't pass.
@@ -196,32 +225,77 @@ fn verify(
     let mut transcript = VerifierState::new(alloc, challenger, &example.separator)?;
     transcript.observe_opaque(ROOT);
     transcript.observe_extensions(&values());
-    if !transcript.observe_pow(3, witness) {
+    if transcript.observe_pow(3, witness) {
+        play_last(alloc, transcript, witness)
+    } else {
         transcript.abort();
-        return Ok(None);
+        Ok(None)
     }
-    let beta: BabyBear4 = transcript.challenge_extension();
-    let rows = match transcript.challenge_bits(alloc, 5, 2) {
-        Ok(rows) => rows,
-        Err(refused) => {
-            transcript.abort();
-            return Err(refused);
-        },
+}
+
+/// What the prover draws, what the verifier does by the prover's witness, and whether both leave
+/// the same challenger.
+fn play_both(
+    alloc: Global,
+    example: &Example,
+) -> Result<(Option<Played>, Option<Played>, bool), AllocError> {
+    let mut first = Sha256Challenger::new();
+    let mut second = Sha256Challenger::new();
+    let proved = prove(alloc, &mut first, example)?;
+    let verified = match proved {
+        Some(played) => verify(alloc, &mut second, example, played.witness)?,
+        None => None,
     };
-    transcript.begin_protocol();
-    transcript.end_protocol();
-    transcript.finalize();
-    Ok(Some(Played {
-        witness,
-        beta,
-        rows,
-    }))
+    Ok((proved, verified, first == second))
+}
+
+/// `play_both` by the example.
+fn play_example(alloc: Global) -> Result<(Option<Played>, Option<Played>, bool), AllocError> {
+    let example = make_example(alloc)?;
+    play_both(alloc, &example)
+}
+
+/// What the verifier draws by the example and this witness.
+fn verify_example(alloc: Global, witness: BabyBear) -> Result<Option<Played>, AllocError> {
+    let example = make_example(alloc)?;
+    verify(alloc, &mut Sha256Challenger::new(), &example, witness)
+}
+
+/// The example's stream.
+fn example_stream(alloc: Global) -> Result<Vec<u8>, AllocError> {
+    let example = make_example(alloc)?;
+    example.separator.seed_stream(alloc)
+}
+
+/// Whether a challenger has observed the stream of this example where `new` succeeds, and nothing
+/// where its memory is refused.
+fn absorbs_if_new(alloc: Global, example: &Example) -> bool {
+    let mut challenger = Sha256Challenger::new();
+    match VerifierState::<Sha256Challenger, BabyBear>::new(
+        alloc,
+        &mut challenger,
+        &example.separator,
+    ) {
+        Ok(transcript) => {
+            transcript.abort();
+            challenger == stream_observed()
+        },
+        Err(_) => challenger == Sha256Challenger::new(),
+    }
+}
+
+/// The challenger that a transcript of the example leaves which is given up at its start.
+fn left_by_abort(alloc: Global) -> Result<Sha256Challenger, AllocError> {
+    let example = make_example(alloc)?;
+    let seed = example.separator.seed(alloc)?;
+    let mut challenger = Sha256Challenger::new();
+    ProverState::<Sha256Challenger, BabyBear>::start(&mut challenger, seed).abort();
+    Ok(challenger)
 }
 
 #[test]
 fn bytes_of_a_description(rt: HostRuntime) -> Result<(), Fail> {
-    let example = make_example(rt.alloc())?;
-    let stream = example.separator.seed_stream(rt.alloc())?;
+    let stream = example_stream(rt.alloc())?;
     assert_eq!(rt; stream.as_slice(), STREAM.as_slice());
     seed_stream_law();
     Ok(())
@@ -229,57 +303,32 @@ fn bytes_of_a_description(rt: HostRuntime) -> Result<(), Fail> {
 
 #[test]
 fn both_sides_draw_the_same(rt: HostRuntime) -> Result<(), Fail> {
-    let example = make_example(rt.alloc())?;
-    let mut first = Sha256Challenger::new();
-    let mut second = Sha256Challenger::new();
-    let proved = prove(rt.alloc(), &mut first, &example)?.ok_or("no witness")?;
-    assert_eq!(rt; proved.witness, BabyBear::from_u64(3));
-    let last: BabyBear = proved.beta.coefficient(3);
-    assert_eq!(rt; last.as_canonical_u64(), 352_189_782);
-    assert_eq!(rt; proved.rows.as_slice(), [31, 30].as_slice());
-    let verified = verify(rt.alloc(), &mut second, &example, proved.witness)?;
-    assert_eq!(rt; verified, Some(proved));
-    assert!(rt; first == second);
+    let (proved, verified, same_challenger) = play_example(rt.alloc())?;
+    let played = proved.ok_or("no witness")?;
+    let last: BabyBear = played.beta.coefficient(3);
+    let drawn = (played.witness, last.as_canonical_u64(), played.rows);
+    let wanted = (BabyBear::from_u64(3), 352_189_782, Some((31, 30)));
+    assert_eq!(rt; (drawn, verified, same_challenger), (wanted, proved, true));
     Ok(())
 }
 
 #[test]
 fn wrong_witness_is_false(rt: HostRuntime) -> Result<(), Fail> {
-    let example = make_example(rt.alloc())?;
-    let mut challenger = Sha256Challenger::new();
-    assert_eq!(rt;
-        verify(rt.alloc(), &mut challenger, &example, BabyBear::TWO)?,
-        None
-    );
+    assert_eq!(rt; verify_example(rt.alloc(), BabyBear::TWO)?, None);
     Ok(())
 }
 
 #[test]
 fn abort_leaves_the_challenger(rt: HostRuntime) -> Result<(), Fail> {
-    let example = make_example(rt.alloc())?;
-    let seed = example.separator.seed(rt.alloc())?;
-    let mut challenger = Sha256Challenger::new();
-    ProverState::<Sha256Challenger, BabyBear>::start(&mut challenger, seed).abort();
-    assert!(rt; challenger == stream_observed());
+    assert!(rt; left_by_abort(rt.alloc())? == stream_observed());
     Ok(())
 }
 
-/// The second arm runs where an allocation of `new` is made to fail, as by `rt try --test
+/// `new` is refused where one of its allocations is made to fail, as by `rt try --test
 /// --fail-alloc N`.
 #[test]
 fn refused_new_absorbs_nothing(rt: HostRuntime) -> Result<(), Fail> {
     let example = make_example(rt.alloc())?;
-    let mut challenger = Sha256Challenger::new();
-    match VerifierState::<Sha256Challenger, BabyBear>::new(
-        rt.alloc(),
-        &mut challenger,
-        &example.separator,
-    ) {
-        Ok(transcript) => {
-            transcript.abort();
-            assert!(rt; challenger == stream_observed());
-        },
-        Err(_) => assert!(rt; challenger == Sha256Challenger::new()),
-    }
+    assert!(rt; absorbs_if_new(rt.alloc(), &example));
     Ok(())
 }

@@ -2,7 +2,7 @@
 //! the format, and each call at a concrete type through its bound. A state is seen by the number
 //! that it answers next.
 
-ghost use Rattle.std.specs.Prelude.{◌≡◌, ◌≤◌, ◌++◌, ◌∷◌, [], List, map};
+ghost use Rattle.std.specs.Prelude.{◌≡◌, ◌<◌, ◌≤◌, ◌++◌, ◌∷◌, [], List, map};
 ghost use Rattle.p3_challenger.specs.Run.{Event, run};
 ghost use Rattle.p3_challenger.specs.Run.Event.{ValueObserved, CommitmentObserved, ElementDrawn};
 ghost use Rattle.p3_challenger.specs.Run.Event.{BitsDrawn};
@@ -85,15 +85,39 @@ fn one_to_four() -> BabyBear4 {
     ])
 }
 
+/// The canonical number of an element's coefficient at this index.
+fn canonical_number(element: BabyBear4, index: usize) -> u64
+    requires { index < 4 }
+{
+    let coefficient: BabyBear = element.coefficient(index);
+    coefficient.as_canonical_u64()
+}
+
 /// The canonical numbers of an element's coefficients.
-fn canonical_numbers(element: BabyBear4) -> [u64; 4] {
-    let coefficients: [BabyBear; 4] = [
-        element.coefficient(0),
-        element.coefficient(1),
-        element.coefficient(2),
-        element.coefficient(3),
-    ];
-    coefficients.map(|coefficient| coefficient.as_canonical_u64())
+fn canonical_numbers(element: BabyBear4) -> (u64, u64, u64, u64) {
+    (
+        canonical_number(element, 0),
+        canonical_number(element, 1),
+        canonical_number(element, 2),
+        canonical_number(element, 3),
+    )
+}
+
+/// What `draws_after` draws, and the challenger that it leaves.
+fn drawn_through_bounds() -> ((BabyBear4, usize), Sha256Challenger) {
+    let mut challenger = Sha256Challenger::new();
+    let values = [BabyBear::from_u64(5)];
+    let drawn = draws_after(&mut challenger, &values, counted_bytes(), 10);
+    (drawn, challenger)
+}
+
+/// The same by calls at concrete types.
+fn drawn_by_calls() -> ((BabyBear4, usize), Sha256Challenger) {
+    let mut challenger = after_five();
+    challenger.observe(counted_bytes());
+    let element = challenger.sample_algebra_element();
+    let index = challenger.sample_bits(10);
+    ((element, index), challenger)
 }
 
 #[test]
@@ -102,22 +126,27 @@ fn three_observations_and_two_draws(rt: HostRuntime) {
     challenger.observe(counted_bytes());
     challenger.observe(BabyBear::from_u64(2_013_265_918));
     let drawn: BabyBear = challenger.sample();
-    assert_eq!(rt; drawn.as_canonical_u64(), 471_829_860);
-    assert_eq!(rt; challenger.sample_bits(10), 213);
-    assert_eq!(rt; challenger.sample_bits(63), 533_366_119_835_272_224);
+    let (few, many) = (challenger.sample_bits(10), challenger.sample_bits(63));
+    assert_eq!(rt;
+        (drawn.as_canonical_u64(), few, many),
+        (471_829_860, 213, 533_366_119_835_272_224)
+    );
 }
 
 #[test]
 fn extension_elements_are_four_coefficients(rt: HostRuntime) {
     let mut challenger = Sha256Challenger::new();
     challenger.observe(one_to_four());
-    let drawn: BabyBear4 = challenger.sample();
+    let drawn = canonical_numbers(challenger.sample());
+    let (none, many) = (challenger.sample_bits(0), challenger.sample_bits(63));
     assert_eq!(rt;
-        canonical_numbers(drawn),
-        [518_917_033, 651_677_193, 600_749_567, 860_355_198]
+        (drawn, none, many),
+        (
+            (518_917_033, 651_677_193, 600_749_567, 860_355_198),
+            0,
+            6_190_373_925_916_898_611
+        )
     );
-    assert_eq!(rt; challenger.sample_bits(0), 0);
-    assert_eq!(rt; challenger.sample_bits(63), 6_190_373_925_916_898_611);
 }
 
 #[test]
@@ -125,29 +154,43 @@ fn calls_through_bounds(rt: HostRuntime) {
     let mut single = Sha256Challenger::new();
     single.observe_algebra_slice(&[one_to_four()]);
     assert_eq!(rt; single.sample_bits(63), 1_332_151_426_949_748_124);
-    let mut slice = after_five();
-    let values = [BabyBear::from_u64(5)];
-    let mut run = Sha256Challenger::new();
-    let (drawn, index): (BabyBear4, usize) = draws_after(&mut run, &values, counted_bytes(), 10);
-    slice.observe(counted_bytes());
-    assert!(rt; slice.sample_algebra_element::<BabyBear4>() == drawn);
-    assert_eq!(rt; slice.sample_bits(10), index);
-    assert!(rt; slice == run);
+    assert!(rt; drawn_by_calls() == drawn_through_bounds());
     run_law::<Sha256Challenger, BabyBear, BabyBear4, [u8; 32]>();
     sha256_challenger_law();
 }
 
 #[test]
 fn grinds(rt: HostRuntime) -> Result<(), Fail> {
-    let mut challenger = after_five();
-    assert!(rt; leaves_what_its_check_leaves(&challenger, 3)?);
-    assert!(rt; leaves_what_its_check_leaves(&challenger, 8)?);
-    assert_eq!(rt; challenger.grind(0), Some(BabyBear::ZERO));
-    assert!(rt; challenger.check_witness(0, BabyBear::TWO));
-    assert!(rt; challenger == after_five(), "{challenger:?}");
-    assert_eq!(rt; challenger.grind(3), Some(BabyBear::from_u64(12)));
-    assert_eq!(rt; challenger.sample_bits(63), 2_362_401_643_754_315_182);
-    let mut refused = after_five();
-    assert!(rt; !refused.check_witness(3, BabyBear::from_u64(11)));
+    let challenger = after_five();
+    let few = leaves_what_its_check_leaves(&challenger, 3)?;
+    let many = leaves_what_its_check_leaves(&challenger, 8)?;
+    assert_eq!(rt; (few, many), (true, true));
     Ok(())
+}
+
+#[test]
+fn no_bits_leave_the_challenger(rt: HostRuntime) {
+    let mut challenger = after_five();
+    let found = challenger.grind(0);
+    let passes = challenger.check_witness(0, BabyBear::TWO);
+    assert_eq!(rt;
+        (found, passes, challenger),
+        (Some(BabyBear::ZERO), true, after_five())
+    );
+}
+
+#[test]
+fn finds_the_first_witness(rt: HostRuntime) {
+    let mut challenger = after_five();
+    let found = challenger.grind(3);
+    let drawn = challenger.sample_bits(63);
+    let other_passes = after_five().check_witness(3, BabyBear::from_u64(11));
+    assert_eq!(rt;
+        (found, drawn, other_passes),
+        (
+            Some(BabyBear::from_u64(12)),
+            2_362_401_643_754_315_182,
+            false
+        )
+    );
 }

@@ -1,8 +1,9 @@
 //! Worked values, computed with the hashlib module of Python's standard library from the rules of
 //! the format, and each call at a concrete type through its bound.
 
-ghost use Rattle.std.specs.Prelude.{◌≡◌, IfOk};
+ghost use Rattle.std.specs.Prelude.{◌≡◌, IfOk, length};
 ghost use Rattle.p3_commit.specs.Batch.{dimensions_of};
+ghost use Rattle.p3_matrix.specs.Matrix.{rows};
 
 use p3_commit::laws::{opens_law, path_law, shape_law};
 use p3_commit::{
@@ -73,6 +74,44 @@ fn verdict_on<T: Copy, M: Mmcs<T>>(
     }
 }
 
+/// What verification answers on the opening at these indices, if its conditions hold.
+fn verdict_on_opening<T: Copy, M: Mmcs<T>>(
+    alloc: Global,
+    scheme: &M,
+    commitment: &M::Commitment,
+    data: &M::ProverData,
+    dimensions: &[Dimensions],
+    indices: &[usize],
+) -> Result<Option<Result<(), M::Error>>, Fail> {
+    let (rows, proof) = opening_at(alloc, scheme, data, indices)?.ok_or("indices")?;
+    Ok(verdict_on(
+        scheme,
+        commitment,
+        dimensions,
+        indices,
+        rows.as_slice(),
+        &proof,
+    ))
+}
+
+/// What verification answers, if its conditions hold.
+type Verdict = Option<Result<(), Sha256MmcsError>>;
+
+/// Of the commitment to matrices of these dimensions: its root, their greatest height and number,
+/// and the verdict on its opening at these indices.
+fn commit_and_open(
+    alloc: Global,
+    matrices: Vec<RowMajorMatrix<BabyBear>>,
+    dimensions: &[Dimensions],
+    indices: &[usize],
+) -> Result<([u8; 32], usize, usize, Verdict), Fail> {
+    let scheme = Sha256Mmcs::new();
+    let (root, data) = commitment_to(alloc, &scheme, matrices)?.ok_or("heights")?;
+    let verdict = verdict_on_opening(alloc, &scheme, &root, &data, dimensions, indices)?;
+    let count = scheme.get_matrices(&data).len();
+    Ok((root, scheme.get_max_height(&data), count, verdict))
+}
+
 /// The element of this number.
 fn element(number: u64) -> BabyBear {
     BabyBear::from_u64(number)
@@ -137,16 +176,16 @@ const ROOT_OF_WIDE: [u8; 32] = [
 
 #[test]
 fn commits_to_none(rt: HostRuntime) -> Result<(), Fail> {
-    let scheme: Sha256Mmcs<BabyBear> = Sha256Mmcs::new();
-    let (root, data) = commitment_to(rt.alloc(), &scheme, Vec::new(rt.alloc()))?.ok_or("heights")?;
-    assert_eq!(rt; root, ROOT_OF_NONE);
-    assert_eq!(rt; scheme.get_max_height(&data), 1);
-    assert_eq!(rt; scheme.get_matrices(&data).len(), 0);
-    let (rows, proof) = opening_at(rt.alloc(), &scheme, &data, &[0])?.ok_or("indices")?;
-    assert_eq!(rt;
-        verdict_on(&scheme, &root, &[], &[0], rows.as_slice(), &proof),
-        Some(Ok(()))
-    );
+    let none = commit_and_open(rt.alloc(), Vec::new(rt.alloc()), &[], &[0])?;
+    assert_eq!(rt; none, (ROOT_OF_NONE, 1, 0, Some(Ok(()))));
+    Ok(())
+}
+
+#[test]
+fn commits_to_two_heights(rt: HostRuntime) -> Result<(), Fail> {
+    let matrices = two_matrices(rt.alloc())?;
+    let two = commit_and_open(rt.alloc(), matrices, &TWO_DIMENSIONS, &[3, 0, 3])?;
+    assert_eq!(rt; two, (ROOT_OF_TWO, 4, 2, Some(Ok(()))));
     Ok(())
 }
 
@@ -168,7 +207,7 @@ impl Opened {
     }
 
     /// What verification at these indices answers.
-    fn verdict_at(&self, indices: &[usize]) -> Option<Result<(), Sha256MmcsError>> {
+    fn verdict_at(&self, indices: &[usize]) -> Verdict {
         let rows = self.rows.as_slice();
         let scheme = Sha256Mmcs::new();
         verdict_on(
@@ -181,31 +220,81 @@ impl Opened {
         )
     }
 
-    fn verdict(&self) -> Option<Result<(), Sha256MmcsError>> {
+    fn verdict(&self) -> Verdict {
         self.verdict_at(&[3, 0, 3])
+    }
+
+    /// The number of rows in this set, if it is there.
+    fn row_count(&self, set: usize) -> Option<usize> {
+        Some(self.rows.get(set)?.len())
+    }
+
+    /// The row of this matrix in this set, if it is there.
+    fn row(&self, set: usize, matrix: usize) -> Option<&[BabyBear]> {
+        Some(self.rows.get(set)?.get(matrix)?.as_slice())
+    }
+
+    /// Puts another row in the place of that of the second matrix in the second set.
+    fn replace_row(&mut self, elements: &[BabyBear]) -> Result<(), Fail> {
+        let rows = self.rows.get_mut(1).ok_or("a second set")?;
+        let row = rows.get_mut(1).ok_or("a second matrix")?;
+        row.clear();
+        for element in elements {
+            row.push(*element)?;
+        }
+        Ok(())
+    }
+
+    /// Takes the last row out of the third set.
+    fn remove_row(&mut self) -> Result<(), Fail> {
+        let _row = self.rows.get_mut(2).ok_or("a third set")?.pop();
+        Ok(())
+    }
+
+    /// The verdicts with a row that is longer, one that has another entry, a set of fewer rows and
+    /// fewer sets.
+    fn verdicts_on_altered_rows(&mut self) -> Result<(Verdict, Verdict, Verdict, Verdict), Fail> {
+        self.replace_row(&[element(9), element(5)])?;
+        let longer = self.verdict();
+        self.replace_row(&[element(10)])?;
+        let another = self.verdict();
+        self.remove_row()?;
+        self.replace_row(&[element(9)])?;
+        let fewer_rows = self.verdict();
+        let _set = self.rows.pop();
+        Ok((longer, another, fewer_rows, self.verdict()))
+    }
+
+    /// The verdicts without the last digest of the second path, and with it again.
+    fn verdicts_on_altered_path(&mut self) -> Result<(Verdict, Verdict), Fail> {
+        let path = self.paths.get_mut(1).ok_or("a second path")?;
+        let digest = path.pop().ok_or("a path of two")?;
+        let without = self.verdict();
+        let path = self.paths.get_mut(1).ok_or("a second path")?;
+        path.push(digest)?;
+        Ok((without, self.verdict()))
     }
 }
 
 #[test]
 fn opens_rows_of_two_heights(rt: HostRuntime) -> Result<(), Fail> {
-    let scheme = Sha256Mmcs::new();
-    let matrices = two_matrices(rt.alloc())?;
-    let (root, data) = commitment_to(rt.alloc(), &scheme, matrices)?.ok_or("heights")?;
-    assert_eq!(rt; root, ROOT_OF_TWO);
-    assert_eq!(rt; scheme.get_max_height(&data), 4);
-    assert_eq!(rt; scheme.get_matrices(&data).len(), 2);
     let opened = Opened::new(rt.alloc())?;
-    let rows = opened.rows.as_slice();
-    assert_eq!(rt; rows.len(), 3);
-    assert_eq!(rt; rows[0].len(), 2);
-    assert_eq!(rt; rows[0][0].as_slice(), [element(7), element(8)].as_slice());
-    assert_eq!(rt; rows[0][1].as_slice(), [element(2_013_265_920)].as_slice());
-    assert_eq!(rt; rows[1].len(), 2);
-    assert_eq!(rt; rows[1][1].as_slice(), [element(9)].as_slice());
-    assert_eq!(rt; opened.verdict(), Some(Ok(())));
+    let counts = (opened.rows.len(), opened.row_count(0), opened.row_count(1));
+    assert_eq!(rt; counts, (3, Some(2), Some(2)));
+    let last_of_first = [element(7), element(8)];
+    let last_of_second = [element(2_013_265_920)];
+    let first_of_second = [element(9)];
     assert_eq!(rt;
-        opened.verdict_at(&[3, 1, 3]),
-        Some(Err(Sha256MmcsError::RootMismatch))
+        (opened.row(0, 0), opened.row(0, 1), opened.row(1, 1)),
+        (
+            Some(last_of_first.as_slice()),
+            Some(last_of_second.as_slice()),
+            Some(first_of_second.as_slice())
+        )
+    );
+    assert_eq!(rt;
+        (opened.verdict(), opened.verdict_at(&[3, 1, 3])),
+        (Some(Ok(())), Some(Err(Sha256MmcsError::RootMismatch)))
     );
     path_law();
     opens_law::<BabyBear>();
@@ -217,29 +306,26 @@ fn opens_rows_of_two_heights(rt: HostRuntime) -> Result<(), Fail> {
 fn refuses_altered_paths(rt: HostRuntime) -> Result<(), Fail> {
     let mut opened = Opened::new(rt.alloc())?;
     assert_eq!(rt; opened.paths.len(), 3);
-    let digest = opened.paths[1].pop().ok_or("a path of two")?;
-    assert_eq!(rt; opened.verdict(), Some(Err(Sha256MmcsError::PathLength)));
-    opened.paths[1].push(digest)?;
-    assert_eq!(rt; opened.verdict(), Some(Ok(())));
+    assert_eq!(rt;
+        opened.verdicts_on_altered_path()?,
+        (Some(Err(Sha256MmcsError::PathLength)), Some(Ok(())))
+    );
     Ok(())
 }
 
 #[test]
 fn refuses_altered_rows(rt: HostRuntime) -> Result<(), Fail> {
     let mut opened = Opened::new(rt.alloc())?;
-    assert_eq!(rt; opened.rows.len(), 3);
-    assert_eq!(rt; opened.rows[1].len(), 2);
-    opened.rows[1][1].push(element(5))?;
-    assert_eq!(rt; opened.verdict(), Some(Err(Sha256MmcsError::RowWidth)));
-    opened.rows[1][1].clear();
-    opened.rows[1][1].push(element(10))?;
-    assert_eq!(rt; opened.verdict(), Some(Err(Sha256MmcsError::RootMismatch)));
-    let _row = opened.rows[2].pop();
-    opened.rows[1][1].clear();
-    opened.rows[1][1].push(element(9))?;
-    assert_eq!(rt; opened.verdict(), Some(Err(Sha256MmcsError::MatrixCount)));
-    let _set = opened.rows.pop();
-    assert_eq!(rt; opened.verdict(), Some(Err(Sha256MmcsError::QueryCount)));
+    assert_eq!(rt; (opened.rows.len(), opened.row_count(1)), (3, Some(2)));
+    assert_eq!(rt;
+        opened.verdicts_on_altered_rows()?,
+        (
+            Some(Err(Sha256MmcsError::RowWidth)),
+            Some(Err(Sha256MmcsError::RootMismatch)),
+            Some(Err(Sha256MmcsError::MatrixCount)),
+            Some(Err(Sha256MmcsError::QueryCount))
+        )
+    );
     Ok(())
 }
 
@@ -253,49 +339,80 @@ fn conditions_of_outside_values(rt: HostRuntime) {
         width: 1,
         height: 0,
     }];
-    assert!(rt; have_power_heights(&[]));
-    assert!(rt; have_power_heights(&TWO_DIMENSIONS));
-    assert!(rt; !have_power_heights(&odd));
-    assert!(rt; !have_power_heights(&empty));
-    assert_eq!(rt; max_height(&[]), 1);
-    assert_eq!(rt; max_height(&TWO_DIMENSIONS), 4);
-    assert!(rt; indices_are_below(&[3, 0, 3], 4));
-    assert!(rt; !indices_are_below(&[3, 4, 0], 4));
+    assert_eq!(rt;
+        (have_power_heights(&[]), have_power_heights(&TWO_DIMENSIONS)),
+        (true, true)
+    );
+    assert_eq!(rt;
+        (have_power_heights(&odd), have_power_heights(&empty)),
+        (false, false)
+    );
+    assert_eq!(rt; (max_height(&[]), max_height(&TWO_DIMENSIONS)), (1, 4));
+    assert_eq!(rt;
+        (
+            indices_are_below(&[3, 0, 3], 4),
+            indices_are_below(&[3, 4, 0], 4)
+        ),
+        (true, false)
+    );
 }
 
-#[test]
-fn commits_to_one_matrix(rt: HostRuntime) -> Result<(), Fail> {
-    let scheme = Sha256Mmcs::new();
-    let values = vec![in rt.alloc();
+/// A matrix of one column of two elements of the extension.
+fn extension_matrix(alloc: Global) -> Result<RowMajorMatrix<BabyBear4>, AllocError> {
+    let values = vec![in alloc;
         extension_element(1, 2, 3, 4),
         extension_element(5, 6, 7, 2_013_265_918),
     ]?;
-    let matrix = RowMajorMatrix::new(values, 1);
-    assert_eq!(rt; matrix.height(), 2);
-    let (root, data) = scheme.commit_matrix(rt.alloc(), matrix)?;
-    assert_eq!(rt; root, ROOT_OF_EXTENSION);
-    let (rows, proof) = opening_at(rt.alloc(), &scheme, &data, &[1])?.ok_or("indices")?;
+    Ok(RowMajorMatrix::new(values, 1))
+}
+
+/// The root of the commitment to this column of two, and the verdict on its opening at 1.
+fn commit_and_open_column(
+    alloc: Global,
+    matrix: RowMajorMatrix<BabyBear4>,
+) -> Result<([u8; 32], Verdict), Fail>
+    requires { length (rows matrix) ≡ 2 }
+{
+    let scheme = Sha256Mmcs::new();
+    let (root, data) = scheme.commit_matrix(alloc, matrix)?;
     let dimensions = [Dimensions {
         width: 1,
         height: 2,
     }];
-    assert_eq!(rt;
-        verdict_on(&scheme, &root, &dimensions, &[1], rows.as_slice(), &proof),
-        Some(Ok(()))
-    );
+    let verdict = verdict_on_opening(alloc, &scheme, &root, &data, &dimensions, &[1])?;
+    Ok((root, verdict))
+}
+
+#[test]
+fn commits_to_one_matrix(rt: HostRuntime) -> Result<(), Fail> {
+    let matrix = extension_matrix(rt.alloc())?;
+    assert_eq!(rt; matrix.height(), 2);
+    let column = commit_and_open_column(rt.alloc(), matrix)?;
+    assert_eq!(rt; column, (ROOT_OF_EXTENSION, Some(Ok(()))));
     Ok(())
+}
+
+/// The values of two rows of 20.
+fn wide_values(alloc: Global) -> Result<Vec<BabyBear>, AllocError> {
+    let mut values = Vec::new(alloc);
+    for number in 0..40u64 {
+        values.push(element(number / 20 * 1000 + number % 20))?;
+    }
+    Ok(values)
+}
+
+/// The root of the commitment to one matrix in a list.
+fn root_of(alloc: Global, matrix: RowMajorMatrix<BabyBear>) -> Result<[u8; 32], Fail> {
+    let matrices = vec![in alloc; matrix]?;
+    let (root, _data) = commitment_to(alloc, &Sha256Mmcs::new(), matrices)?.ok_or("heights")?;
+    Ok(root)
 }
 
 #[test]
 fn rows_longer_than_a_block(rt: HostRuntime) -> Result<(), Fail> {
-    let mut values = Vec::new(rt.alloc());
-    for number in 0..40u64 {
-        values.push(element(number / 20 * 1000 + number % 20))?;
-    }
+    let values = wide_values(rt.alloc())?;
     assert_eq!(rt; values.len(), 40);
-    let matrices = vec![in rt.alloc(); RowMajorMatrix::new(values, 20)]?;
-    let scheme = Sha256Mmcs::new();
-    let (root, _data) = commitment_to(rt.alloc(), &scheme, matrices)?.ok_or("heights")?;
+    let root = root_of(rt.alloc(), RowMajorMatrix::new(values, 20))?;
     assert_eq!(rt; root, ROOT_OF_WIDE);
     Ok(())
 }

@@ -134,6 +134,25 @@ fn columns_agree<F: TwoAdicField, D: TwoAdicSubgroupDft<F>>(
     Ok(extended.into_values().as_slice() == extended_column.as_slice())
 }
 
+/// The values at the first `count` powers of `root` of the polynomial whose coefficients stand in
+/// the first column.
+fn values_at_powers<EF: Field>(
+    alloc: Global,
+    coefficients: &RowMajorMatrix<EF>,
+    count: usize,
+    root: EF,
+) -> Result<Vec<EF>, AllocError>
+    ensures { IfOk result (λ values. vec_len values ≡ count) }
+{
+    let mut values = vec![in alloc; EF::ZERO; count]?;
+    let mut point = EF::ONE;
+    for entry in values.iter_mut() {
+        *entry = value(coefficients, 0, point);
+        point = point * root;
+    }
+    Ok(values)
+}
+
 /// Whether the coefficients come back from the values of a polynomial over an extension.
 fn algebra_comes_back<F: TwoAdicField, EF: ExtensionField<F>, D: TwoAdicSubgroupDft<F>>(
     alloc: Global,
@@ -145,14 +164,14 @@ fn algebra_comes_back<F: TwoAdicField, EF: ExtensionField<F>, D: TwoAdicSubgroup
 {
     let coefficients = matrix::<EF>(alloc, log_height, 1)?;
     let root = EF::from_base(F::two_adic_generator(log_height));
-    let mut values = vec![in alloc; EF::ZERO; 1 << log_height]?;
-    let mut point = EF::ONE;
-    for entry in values.iter_mut() {
-        *entry = value(&coefficients, 0, point);
-        point = point * root;
-    }
+    let values = values_at_powers(alloc, &coefficients, 1 << log_height, root)?;
     let back = dft.idft_algebra(alloc, values)?;
     Ok(back.as_slice() == coefficients.into_values().as_slice())
+}
+
+/// The number in the first column of this row, if the row is there.
+fn number_at(matrix: &RowMajorMatrix<BabyBear>, row: usize) -> Option<u64> {
+    Some(matrix.get(row, 0)?.as_canonical_u64())
 }
 
 #[test]
@@ -163,15 +182,19 @@ fn two_coefficients(rt: HostRuntime) -> Result<(), Fail> {
     assert_eq!(rt; coefficients.height(), 2);
     let values = dft.dft_batch(rt.alloc(), coefficients)?;
     assert_eq!(rt; values.height(), 2);
-    assert_eq!(rt; values.get(0, 0).map(|x| x.as_canonical_u64()), Some(1));
-    assert_eq!(rt; values.get(1, 0).map(|x| x.as_canonical_u64()), Some(3));
-    let extended = dft.coset_lde_batch(rt.alloc(), values, 1, BabyBear::GENERATOR)?;
-    assert_eq!(rt; extended.height(), 4);
     assert_eq!(rt;
-        extended.get(0, 0).map(|x| x.as_canonical_u64()),
-        Some(2013265892)
+        (number_at(&values, 0), number_at(&values, 1)),
+        (Some(1), Some(3))
     );
-    assert_eq!(rt; extended.get(2, 0).map(|x| x.as_canonical_u64()), Some(33));
+    let extended = dft.coset_lde_batch(rt.alloc(), values, 1, BabyBear::GENERATOR)?;
+    assert_eq!(rt;
+        (
+            extended.height(),
+            number_at(&extended, 0),
+            number_at(&extended, 2)
+        ),
+        (4, Some(2013265892), Some(33))
+    );
     Ok(())
 }
 

@@ -61,9 +61,9 @@ fn arithmetic_of_five_and_seven(rt: HostRuntime) {
         12, 2013265919, 35, 2013265916, 10, 25, 1006632961, 125, 625, 2,
     ];
     assert_eq!(rt; field_values::<BabyBear>(), wanted);
-    assert_eq!(rt; BabyBear::BITS, 31);
-    assert_eq!(rt; BabyBear::ORDER_U64, 2013265921);
-    assert_eq!(rt; BabyBear::GENERATOR.as_canonical_u64(), 31);
+    let generator = BabyBear::GENERATOR.as_canonical_u64();
+    let constants = (BabyBear::BITS, BabyBear::ORDER_U64, generator);
+    assert_eq!(rt; constants, (31, 2013265921, 31));
 }
 
 #[test]
@@ -73,20 +73,26 @@ fn ten_inverses(rt: HostRuntime) {
 
 #[test]
 fn numbers_wrap_at_the_order(rt: HostRuntime) {
-    assert_eq!(rt; BabyBear::from_u64(2013265921), BabyBear::ZERO);
-    assert_eq!(rt; BabyBear::from_u64(2013265928), BabyBear::from_canonical(7));
-    // 2^64 - 1 modulo the order
-    assert_eq!(rt; BabyBear::from_u64(u64::MAX).as_canonical_u64(), 1172168162);
+    let order = BabyBear::from_u64(2013265921);
+    let seven_more = BabyBear::from_u64(2013265928);
+    let most = BabyBear::from_u64(u64::MAX);
+    // 2^64 - 1 modulo the order is 1172168162
+    let wanted = (
+        BabyBear::ZERO,
+        BabyBear::from_canonical(7),
+        BabyBear::from_canonical(1172168162),
+    );
+    assert_eq!(rt; (order, seven_more, most), wanted);
 }
 
 #[test]
 fn roots_of_unity(rt: HostRuntime) {
     let [first, second, last] = generators::<BabyBear>();
-    assert_eq!(rt; first, BabyBear::ONE);
-    assert_eq!(rt; second, -BabyBear::ONE);
-    assert_eq!(rt; last.as_canonical_u64(), 440564289);
-    assert_eq!(rt; BabyBear::GENERATOR.exp_u64(15), last);
-    assert_eq!(rt; BabyBear::TWO_ADICITY, 27);
+    let power = BabyBear::GENERATOR.exp_u64(15);
+    let wanted = (BabyBear::ONE, -BabyBear::ONE, last);
+    assert_eq!(rt; (first, second, power), wanted);
+    let numbers = (last.as_canonical_u64(), BabyBear::TWO_ADICITY);
+    assert_eq!(rt; numbers, (440564289, 27));
     baby_bear_law();
     two_adic_order_law::<BabyBear>();
 }
@@ -95,12 +101,10 @@ fn roots_of_unity(rt: HostRuntime) {
 fn extends_itself(rt: HostRuntime) {
     let five = BabyBear::from_u64(5);
     let value = extension_value::<BabyBear, BabyBear>(&[five]);
-    assert_eq!(rt; value, Some(BabyBear::from_u64(17)));
-    assert_eq!(rt; <BabyBear as ExtensionField<BabyBear>>::DIMENSION, 1);
-    assert_eq!(rt;
-        <BabyBear as ExtensionField<BabyBear>>::coefficient(five, 0),
-        five
-    );
+    let coefficient = <BabyBear as ExtensionField<BabyBear>>::coefficient(five, 0);
+    let dimension = <BabyBear as ExtensionField<BabyBear>>::DIMENSION;
+    let wanted = (Some(BabyBear::from_u64(17)), five, 1);
+    assert_eq!(rt; (value, coefficient, dimension), wanted);
 }
 
 /// The encoding, byte by byte, of a type with four of them.

@@ -50,13 +50,16 @@ fn comes_back<F: Field, E: ExtensionField<F>>(coefficients: &[F]) -> bool {
 fn products_of_polynomials(rt: HostRuntime) {
     let x = polynomial([0, 1, 0, 0]);
     let x_cubed = polynomial([0, 0, 0, 1]);
-    assert_eq!(rt; x_cubed * x, BabyBear4::from_u64(11));
-    assert_eq!(rt; x * x, polynomial([0, 0, 1, 0]));
     let product = polynomial([1, 2, 3, 4]) * polynomial([5, 6, 7, 8]);
-    assert_eq!(rt; product, polynomial([676, 588, 386, 60]));
     // each coefficient is the order less one
     let most = polynomial([2013265920; 4]);
-    assert_eq!(rt; most * most, polynomial([34, 24, 14, 4]));
+    let wanted = (
+        BabyBear4::from_u64(11),
+        polynomial([0, 0, 1, 0]),
+        polynomial([676, 588, 386, 60]),
+        polynomial([34, 24, 14, 4]),
+    );
+    assert_eq!(rt; (x_cubed * x, x * x, product, most * most), wanted);
     baby_bear4_law();
 }
 
@@ -87,9 +90,9 @@ fn calls_of_an_extension(rt: HostRuntime) {
     ];
     assert!(rt; comes_back::<BabyBear, BabyBear4>(&one_to_four));
     assert!(rt; !comes_back::<BabyBear, BabyBear4>(&one_to_four[..3]));
-    assert_eq!(rt; <BabyBear4 as ExtensionField<BabyBear>>::DIMENSION, 4);
-    assert_eq!(rt; BabyBear4::BITS, 124);
-    assert_eq!(rt; BabyBear4::GENERATOR, polynomial([8, 1, 0, 0]));
+    let dimension = <BabyBear4 as ExtensionField<BabyBear>>::DIMENSION;
+    let constants = (dimension, BabyBear4::BITS, BabyBear4::GENERATOR);
+    assert_eq!(rt; constants, (4, 124, polynomial([8, 1, 0, 0])));
 }
 
 /// The encoding, byte by byte, of a type with sixteen of them.

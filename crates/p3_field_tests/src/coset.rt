@@ -5,9 +5,20 @@ use p3_field::{BabyBear, Field, TwoAdicMultiplicativeCoset};
 
 #[test]
 fn refuses_shift_zero_and_large_sizes(rt: HostRuntime) {
-    assert!(rt; TwoAdicMultiplicativeCoset::new(BabyBear::ZERO, 3).is_none());
-    assert!(rt; TwoAdicMultiplicativeCoset::new(BabyBear::ONE, 28).is_none());
-    assert!(rt; TwoAdicMultiplicativeCoset::new(BabyBear::ONE, 27).is_some());
+    let shift_zero = TwoAdicMultiplicativeCoset::new(BabyBear::ZERO, 3);
+    let too_large = TwoAdicMultiplicativeCoset::new(BabyBear::ONE, 28);
+    let largest = TwoAdicMultiplicativeCoset::new(BabyBear::ONE, 27);
+    assert!(rt; shift_zero.is_none() && too_large.is_none() && largest.is_some());
+}
+
+/// Whether the vanishing polynomial of the coset vanishes on its first four points.
+fn vanishes_on_four_points(coset: &TwoAdicMultiplicativeCoset<BabyBear>) -> bool {
+    let mut vanishes = true;
+    for index in 0..4 {
+        let value = coset.vanishing_poly_at_point(coset.element(index));
+        vanishes = vanishes && value.is_zero();
+    }
+    vanishes
 }
 
 #[test]
@@ -15,16 +26,11 @@ fn holds_four_points(rt: HostRuntime) {
     let shift = BabyBear::GENERATOR;
     match TwoAdicMultiplicativeCoset::new(shift, 2) {
         Some(coset) => {
-            assert_eq!(rt; coset.size(), 4);
-            assert_eq!(rt; coset.log_size(), 2);
-            assert_eq!(rt; coset.shift(), shift);
-            assert_eq!(rt; coset.first_point(), shift);
-            assert_eq!(rt; coset.element(2), -shift);
-            assert_eq!(rt; coset.element(4), shift);
-            for index in 0..4 {
-                let value = coset.vanishing_poly_at_point(coset.element(index));
-                assert_eq!(rt; value, BabyBear::ZERO);
-            }
+            let sizes = (coset.size(), coset.log_size());
+            assert_eq!(rt; (sizes, coset.shift()), ((4, 2), shift));
+            let points = (coset.first_point(), coset.element(2), coset.element(4));
+            assert_eq!(rt; points, (shift, -shift, shift));
+            assert!(rt; vanishes_on_four_points(&coset));
             // (62 / 31)^4 - 1
             let value = coset.vanishing_poly_at_point(shift.double());
             assert_eq!(rt; value, BabyBear::from_u64(15));

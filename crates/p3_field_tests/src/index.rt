@@ -5,37 +5,43 @@ use p3_field::{log2_strict_usize, reverse_bits_len, reverse_slice_index_bits};
 
 #[test]
 fn takes_logarithms(rt: HostRuntime) {
-    assert_eq!(rt; log2_strict_usize(1), 0);
-    assert_eq!(rt; log2_strict_usize(2), 1);
-    assert_eq!(rt; log2_strict_usize(1 << 63), 63);
+    let one = log2_strict_usize(1);
+    let two = log2_strict_usize(2);
+    let greatest = log2_strict_usize(1 << 63);
+    assert_eq!(rt; (one, two, greatest), (0, 1, 63));
 }
 
 #[test]
 fn reverses_digits(rt: HostRuntime) {
-    assert_eq!(rt; reverse_bits_len(0b0, 0), 0b0);
-    assert_eq!(rt; reverse_bits_len(0b1, 1), 0b1);
-    assert_eq!(rt; reverse_bits_len(0b001, 3), 0b100);
-    assert_eq!(rt; reverse_bits_len(0b011, 3), 0b110);
-    assert_eq!(rt;
-        reverse_bits_len(0b1011, 3),
-        0b110,
-        "the fourth digit isn't read"
-    );
-    assert_eq!(rt; reverse_bits_len(0b1, 64), 1 << 63);
+    let rows = [
+        (0b0, 0, 0b0),
+        (0b1, 1, 0b1),
+        (0b001, 3, 0b100),
+        (0b011, 3, 0b110),
+        // the fourth digit isn't read
+        (0b1011, 3, 0b110),
+        (0b1, 64, 1 << 63),
+    ];
+    for (index, digits, wanted) in rows {
+        assert_eq!(rt;
+            reverse_bits_len(index, digits),
+            wanted,
+            "{digits} of {index}"
+        );
+    }
 }
 
 #[test]
 fn reverses_slices(rt: HostRuntime) {
     let mut one = [7u8];
     reverse_slice_index_bits(&mut one);
-    assert_eq!(rt; one, [7]);
 
     let mut two = [7u64, 9];
     reverse_slice_index_bits(&mut two);
-    assert_eq!(rt; two, [7, 9]);
 
     let mut eight = [0u32, 1, 2, 3, 4, 5, 6, 7];
     reverse_slice_index_bits(&mut eight);
-    assert_eq!(rt; eight, [0, 4, 2, 6, 1, 5, 3, 7]);
+
+    assert_eq!(rt; (one, two, eight), ([7], [7, 9], [0, 4, 2, 6, 1, 5, 3, 7]));
     bit_reversal_law::<u32>();
 }

@@ -24,17 +24,20 @@ fn numbers<F: Field>(alloc: Global, numbers: &[u64]) -> Result<Vec<F>, AllocErro
     numbers.iter().map(|n| F::from_u64(*n)).collect(alloc)
 }
 
+/// The same three lists, number by number.
+fn wanted_lists<F: Field>(alloc: Global) -> Result<[Vec<F>; 3], AllocError> {
+    Ok([
+        numbers(alloc, &[3, 15, 75, 375])?,
+        numbers(alloc, &[3, 75, 15, 375])?,
+        numbers(alloc, &[1, 5, 25, 125])?,
+    ])
+}
+
 #[test]
 fn powers_of_five(rt: HostRuntime) -> Result<(), Fail> {
     let alloc = rt.alloc();
-    let [shifted, reversed, plain] = lists_of_powers::<BabyBear>(alloc)?;
-    assert_eq!(rt; shifted, numbers(alloc, &[3, 15, 75, 375])?);
-    assert_eq!(rt; reversed, numbers(alloc, &[3, 75, 15, 375])?);
-    assert_eq!(rt; plain, numbers(alloc, &[1, 5, 25, 125])?);
-    let [shifted, reversed, plain] = lists_of_powers::<BabyBear4>(alloc)?;
-    assert_eq!(rt; shifted, numbers(alloc, &[3, 15, 75, 375])?);
-    assert_eq!(rt; reversed, numbers(alloc, &[3, 75, 15, 375])?);
-    assert_eq!(rt; plain, numbers(alloc, &[1, 5, 25, 125])?);
+    assert_eq!(rt; lists_of_powers::<BabyBear>(alloc)?, wanted_lists(alloc)?);
+    assert_eq!(rt; lists_of_powers::<BabyBear4>(alloc)?, wanted_lists(alloc)?);
     Ok(())
 }
 
@@ -56,13 +59,9 @@ fn points_of_a_coset(rt: HostRuntime) -> Result<(), Fail> {
 #[test]
 fn quotients_by_powers_of_two(rt: HostRuntime) {
     // 2^27 times 15 is -1
-    assert_eq!(rt;
-        BabyBear::ONE.div_2exp_u64(27).as_canonical_u64(),
-        2013265906
-    );
-    assert_eq!(rt; BabyBear::ONE.div_2exp_u64(0), BabyBear::ONE);
-    assert_eq!(rt;
-        BabyBear4::from_u64(40).div_2exp_u64(3),
-        BabyBear4::from_u64(5)
-    );
+    let greatest = BabyBear::ONE.div_2exp_u64(27).as_canonical_u64();
+    let by_one = BabyBear::ONE.div_2exp_u64(0);
+    let by_eight = BabyBear4::from_u64(40).div_2exp_u64(3);
+    let wanted = (2013265906, BabyBear::ONE, BabyBear4::from_u64(5));
+    assert_eq!(rt; (greatest, by_one, by_eight), wanted);
 }

@@ -5,6 +5,19 @@ use p3_fri_core::config::{
 use std::alloc::{AllocError, Global};
 use std::test::Fail;
 
+/// The fold schedule from these heights down to 2, if they fall and a round may fold.
+fn schedule_from(
+    alloc: Global,
+    heights: &[usize],
+    max_log_arity: usize,
+) -> Result<Option<Vec<usize>>, AllocError> {
+    Ok(if is_strictly_falling(heights) && max_log_arity > 0 {
+        Some(fold_schedule(alloc, heights, 2, max_log_arity)?)
+    } else {
+        None
+    })
+}
+
 #[test]
 fn schedules_stop_where_an_input_joins(rt: HostRuntime) -> Result<(), Fail> {
     let rows: [(&[usize], usize, &[usize]); 8] = [
@@ -18,9 +31,7 @@ fn schedules_stop_where_an_input_joins(rt: HostRuntime) -> Result<(), Fail> {
         (&[10], 1, &[1, 1, 1, 1, 1, 1, 1, 1]),
     ];
     for (heights, max_log_arity, expected) in rows {
-        assert!(rt; is_strictly_falling(heights), "{heights:?}");
-        assert!(rt; max_log_arity > 0);
-        let schedule = fold_schedule(rt.alloc(), heights, 2, max_log_arity)?;
+        let schedule = schedule_from(rt.alloc(), heights, max_log_arity)?.ok_or("heights")?;
         assert_eq!(rt;
             schedule.as_slice(),
             expected,
@@ -40,21 +51,18 @@ fn equal_and_rising_heights_do_not_fall(rt: HostRuntime) {
 
 #[test]
 fn a_round_takes_the_least_of_cap_and_distances(rt: HostRuntime) {
-    assert_eq!(rt; compute_log_arity_for_round(10, None, 2, 3), 3, "the cap");
+    let at_the_cap = compute_log_arity_for_round(10, None, 2, 3);
+    let at_the_final_height = compute_log_arity_for_round(4, None, 2, 3);
+    let at_the_next_input = compute_log_arity_for_round(7, Some(6), 2, 3);
+    let above_a_low_input = compute_log_arity_for_round(10, Some(1), 2, 9);
     assert_eq!(rt;
-        compute_log_arity_for_round(4, None, 2, 3),
-        2,
-        "the final height"
-    );
-    assert_eq!(rt;
-        compute_log_arity_for_round(7, Some(6), 2, 3),
-        1,
-        "the next input"
-    );
-    assert_eq!(rt;
-        compute_log_arity_for_round(10, Some(1), 2, 9),
-        8,
-        "an input below the final height"
+        (
+            at_the_cap,
+            at_the_final_height,
+            at_the_next_input,
+            above_a_low_input
+        ),
+        (3, 2, 1, 8)
     );
 }
 
@@ -69,18 +77,22 @@ fn constructors_have_their_soundness_bits(rt: HostRuntime) {
         (FriParameters::new_benchmark_zk(7), 216),
     ];
     for (parameters, bits) in rows {
-        assert_eq!(rt; parameters.conjectured_soundness_bits(), bits);
-        assert_eq!(rt; parameters.mmcs, 7);
+        let soundness_bits = parameters.conjectured_soundness_bits();
+        assert_eq!(rt; (soundness_bits, parameters.mmcs), (bits, 7));
     }
 }
 
 #[test]
 fn accessors_are_powers_of_two(rt: HostRuntime) {
     let parameters = FriParameters::new_testing(7, 3);
-    assert_eq!(rt; parameters.blowup(), 4);
-    assert_eq!(rt; parameters.final_poly_len(), 8);
-    assert_eq!(rt; parameters.max_arity(), 2);
-    assert_eq!(rt; FriParameters::new_benchmark_high_arity(7).max_arity(), 8);
+    let blowup = parameters.blowup();
+    let final_poly_len = parameters.final_poly_len();
+    let max_arity = parameters.max_arity();
+    let high_arity = FriParameters::new_benchmark_high_arity(7).max_arity();
+    assert_eq!(rt;
+        (blowup, final_poly_len, max_arity, high_arity),
+        (4, 8, 2, 8)
+    );
 }
 
 #[test]

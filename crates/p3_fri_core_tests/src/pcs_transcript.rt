@@ -9,7 +9,7 @@ use p3_commit::{CommitmentOpening, MatrixOpening, OpenedValues, PointOpening};
 use p3_field::{BabyBear, BabyBear4, ExtensionField, Field};
 use p3_fri_core::pcs_transcript::{
     PcsFailure, PcsProverTranscript, PcsShape, PcsTranscriptFailure, PcsVerifierTranscript,
-    play_pcs, replay_pcs,
+    PlayedPcs, ReplayedPcs, play_pcs, replay_pcs,
 };
 use p3_fri_core::{FriParameters, FriProverError, PowPhase};
 use p3_fri_transcript::transcript::{FriMessages, Refusal, TranscriptFailure};
@@ -21,6 +21,8 @@ type OurProver<'a> = PcsProverTranscript<'a, Sha256Challenger, BabyBear, BabyBea
 type OurVerifier<'a> = PcsVerifierTranscript<'a, Sha256Challenger, BabyBear, BabyBear4>;
 
 type OurClaim = CommitmentOpening<BabyBear4, [u8; 32], ()>;
+
+type OurPlayed = PlayedPcs<BabyBear, BabyBear4>;
 
 /// The parameters of a test whose openings are batched behind so many bits of proof of work.
 fn parameters(batch_proof_of_work_bits: usize) -> FriParameters<()>
@@ -98,6 +100,11 @@ fn stream_of(alloc: Global, shape: &PcsShape) -> Result<Vec<u8>, AllocError> {
     shape
         .domain_separator::<BabyBear, BabyBear4>(alloc)?
         .seed_stream(alloc)
+}
+
+/// The stream of a shape by its counts.
+fn stream_of_counts(alloc: Global, counts: &[&[&[usize]]]) -> Result<Vec<u8>, AllocError> {
+    stream_of(alloc, &shape_of(alloc, counts)?)
 }
 
 /// What the verifier answers to claims where others are described.
@@ -180,25 +187,33 @@ fn claims_are_compared(rt: HostRuntime) -> Result<(), Fail> {
         rt.alloc(),
         &[BabyBear4::ONE, BabyBear4::ZERO, BabyBear4::ONE],
     )?;
-    let none = Vec::new(rt.alloc());
-    assert_eq!(rt; answer_to_claims(rt.alloc(), &two, &two)?, None);
-    assert_eq!(rt; answer_to_claims(rt.alloc(), &two, &none)?, None);
-    assert_eq!(rt;
-        answer_to_claims(rt.alloc(), &two, &three)?,
-        Some(PcsTranscriptFailure::ClaimedEvaluationCount {
-            opening: 0,
-            expected: 2,
-            got: 3,
-        })
-    );
-    assert_eq!(rt;
-        answer_to_claims(rt.alloc(), &none, &two)?,
-        Some(PcsTranscriptFailure::ClaimedEvaluationCount {
-            opening: 0,
-            expected: 0,
-            got: 2,
-        })
-    );
+    let none: &[OurClaim] = &[];
+    let rows = [
+        (two.as_slice(), two.as_slice(), None),
+        (two.as_slice(), none, None),
+        (
+            two.as_slice(),
+            three.as_slice(),
+            Some(PcsTranscriptFailure::ClaimedEvaluationCount {
+                opening: 0,
+                expected: 2,
+                got: 3,
+            }),
+        ),
+        (
+            none,
+            two.as_slice(),
+            Some(PcsTranscriptFailure::ClaimedEvaluationCount {
+                opening: 0,
+                expected: 0,
+                got: 2,
+            }),
+        ),
+    ];
+    for (described, claims, failure) in rows {
+        let answer = answer_to_claims(rt.alloc(), described, claims)?;
+        assert_eq!(rt; answer, failure);
+    }
     Ok(())
 }
 
@@ -222,14 +237,13 @@ fn both_sides_draw_one_alpha(rt: HostRuntime) -> Result<(), Fail> {
         assert!(rt; bits <= 63);
         let mut prover = Sha256Challenger::new();
         let (drawn, witness) = prove(rt.alloc(), &mut prover, bits, &values)?;
-        assert_eq!(rt; witness, expected);
-        assert_eq!(rt; drawn, element(alpha));
         let mut verifier = Sha256Challenger::new();
+        let verified = verify(rt.alloc(), &mut verifier, bits, &claims, witness)?;
+        let alpha = element(alpha);
         assert_eq!(rt;
-            verify(rt.alloc(), &mut verifier, bits, &claims, witness)?,
-            drawn
+            (witness, drawn, verified, verifier == prover),
+            (expected, alpha, alpha, true)
         );
-        assert!(rt; verifier == prover);
     }
     Ok(())
 }
@@ -252,75 +266,125 @@ fn a_missing_witness_and_a_wrong_one_have_their_names(rt: HostRuntime) -> Result
     Ok(())
 }
 
+/// The prover's whole opening of the values behind four bits, with a test of one round.
+fn play_whole(
+    alloc: Global,
+    challenger: &mut Sha256Challenger,
+    values: &OpenedValues<BabyBear4>,
+) -> Result<OurPlayed, Fail> {
+    let shape = PcsShape::from_opened_values(alloc, &parameters(4), values)?;
+    let test = test_of(alloc, &[3], 2, 3)?;
+    Ok(play_pcs::<BabyBear, BabyBear4, [u8; 32], Sha256Challenger>(
+        alloc,
+        challenger,
+        shape,
+        values,
+        test,
+        &[[7u8; 32]],
+        &[BabyBear4::from_u64(5)],
+    )?)
+}
+
+/// Whether a verifier draws what the prover drew.
+fn draws_agree(replayed: &ReplayedPcs<BabyBear4>, played: &OurPlayed) -> bool {
+    replayed.alpha == played.alpha
+        && replayed.betas == played.test.betas
+        && replayed.indices == played.test.indices
+}
+
+/// What the verifier of the same refuses, or whether it draws what the prover drew and ends in the
+/// prover's state.
+fn replay_whole(
+    alloc: Global,
+    claims: &[OurClaim],
+    played: &OurPlayed,
+    prover: &Sha256Challenger,
+    batch_witness: Option<BabyBear>,
+    query_witness: Option<BabyBear>,
+) -> Result<Result<bool, Refusal<PcsFailure>>, AllocError> {
+    let shape = PcsShape::from_claims(alloc, &parameters(4), claims)?;
+    let test = test_of(alloc, &[3], 2, 3)?;
+    let mut verifier = Sha256Challenger::new();
+    let answer = replay_pcs::<BabyBear, BabyBear4, [u8; 32], Sha256Challenger, [u8; 32], ()>(
+        alloc,
+        &mut verifier,
+        shape,
+        claims,
+        batch_witness,
+        test,
+        FriMessages {
+            commitments: &[[7u8; 32]],
+            commit_witnesses: &played.test.commit_witnesses,
+            final_poly: &[BabyBear4::from_u64(5)],
+            query_witness,
+        },
+    );
+    Ok(match answer {
+        Ok(replayed) => Ok(draws_agree(&replayed, played) && verifier == *prover),
+        Err(refusal) => Err(refusal),
+    })
+}
+
 #[test]
 fn whole_openings_are_their_steps(rt: HostRuntime) -> Result<(), Fail> {
     let values = opened(rt.alloc(), &[BabyBear4::ONE])?;
-    let claims = claimed(rt.alloc(), &[BabyBear4::ONE])?;
-    let commitments = [[7u8; 32]];
-    let final_poly = [BabyBear4::from_u64(5)];
-    let mut prover = Sha256Challenger::new();
-    let shape = PcsShape::from_opened_values(rt.alloc(), &parameters(4), &values)?;
-    let played = play_pcs::<BabyBear, BabyBear4, [u8; 32], Sha256Challenger>(
-        rt.alloc(),
-        &mut prover,
-        shape,
-        &values,
-        test_of(rt.alloc(), &[3], 2, 3)?,
-        &commitments,
-        &final_poly,
-    )?;
-    let test = played.test;
+    let played = play_whole(rt.alloc(), &mut Sha256Challenger::new(), &values)?;
     let alpha = element([1_893_109_911, 1_140_352_409, 1_569_219_815, 223_669_611]);
     let beta = element([115_710_677, 823_049_067, 281_331_580, 1_749_275_461]);
-    assert_eq!(rt; played.alpha, alpha);
-    assert_eq!(rt; played.batch_witness, BabyBear::from_u64(27));
-    assert_eq!(rt; test.betas.as_slice(), [beta].as_slice());
+    let test = &played.test;
     assert_eq!(rt;
-        test.commit_witnesses.as_slice(),
-        [BabyBear::from_u64(5)].as_slice()
+        (played.alpha, played.batch_witness, test.query_witness),
+        (alpha, BabyBear::from_u64(27), BabyBear::from_u64(11))
     );
-    assert_eq!(rt; test.query_witness, BabyBear::from_u64(11));
-    assert_eq!(rt; test.indices.as_slice(), [6, 5, 3, 1].as_slice());
+    assert_eq!(rt;
+        (
+            test.betas.as_slice(),
+            test.commit_witnesses.as_slice(),
+            test.indices.as_slice()
+        ),
+        (
+            [beta].as_slice(),
+            [BabyBear::from_u64(5)].as_slice(),
+            [6, 5, 3, 1].as_slice()
+        )
+    );
+    Ok(())
+}
+
+#[test]
+fn whole_openings_are_replayed_or_refused(rt: HostRuntime) -> Result<(), Fail> {
+    let values = opened(rt.alloc(), &[BabyBear4::ONE])?;
+    let claims = claimed(rt.alloc(), &[BabyBear4::ONE])?;
+    let mut prover = Sha256Challenger::new();
+    let played = play_whole(rt.alloc(), &mut prover, &values)?;
+    let batch_witness = Some(played.batch_witness);
+    let query_witness = Some(played.test.query_witness);
     let missing = TranscriptFailure::MissingPowWitness(PowPhase::Query);
     let rows = [
-        (Some(played.batch_witness), Some(test.query_witness), None),
+        (batch_witness, query_witness, Ok(true)),
         (
             None,
-            Some(test.query_witness),
-            Some(PcsFailure::Pcs(PcsTranscriptFailure::MissingPowWitness { bits: 4 })),
+            query_witness,
+            Err(Refusal::Step(PcsFailure::Pcs(PcsTranscriptFailure::MissingPowWitness {
+                bits: 4,
+            }))),
         ),
         (
-            Some(played.batch_witness),
+            batch_witness,
             None,
-            Some(PcsFailure::Fri(missing)),
+            Err(Refusal::Step(PcsFailure::Fri(missing))),
         ),
     ];
-    for (batch_witness, query_witness, failure) in rows {
-        let mut verifier = Sha256Challenger::new();
-        let shape = PcsShape::from_claims(rt.alloc(), &parameters(4), &claims)?;
-        match replay_pcs::<BabyBear, BabyBear4, [u8; 32], Sha256Challenger, [u8; 32], ()>(
+    for (batch_witness, query_witness, expected) in rows {
+        let answer = replay_whole(
             rt.alloc(),
-            &mut verifier,
-            shape,
             &claims,
+            &played,
+            &prover,
             batch_witness,
-            test_of(rt.alloc(), &[3], 2, 3)?,
-            FriMessages {
-                commitments: &commitments,
-                commit_witnesses: &test.commit_witnesses,
-                final_poly: &final_poly,
-                query_witness,
-            },
-        ) {
-            Ok(replayed) => {
-                assert_eq!(rt; failure, None);
-                assert_eq!(rt; replayed.alpha, alpha);
-                assert_eq!(rt; replayed.betas, test.betas);
-                assert_eq!(rt; replayed.indices, test.indices);
-                assert!(rt; verifier == prover);
-            },
-            Err(refusal) => assert_eq!(rt; Some(refusal), failure.map(Refusal::Step)),
-        }
+            query_witness,
+        )?;
+        assert_eq!(rt; answer, expected);
     }
     Ok(())
 }
@@ -339,21 +403,27 @@ fn a_refused_new_leaves_the_challenger(rt: HostRuntime) -> Result<(), Fail> {
 
 #[test]
 fn groupings_have_streams_of_their_own(rt: HostRuntime) -> Result<(), Fail> {
-    let two_matrices = stream_of(rt.alloc(), &shape_of(rt.alloc(), &[&[&[3], &[3]]])?)?;
-    let two_points = stream_of(rt.alloc(), &shape_of(rt.alloc(), &[&[&[3, 3]]])?)?;
-    let two_commitments = stream_of(rt.alloc(), &shape_of(rt.alloc(), &[&[&[3]], &[&[3]]])?)?;
-    assert!(rt; two_matrices != two_points);
-    assert!(rt; two_commitments != two_matrices);
-    assert!(rt; two_commitments != two_points);
+    let two_matrices = stream_of_counts(rt.alloc(), &[&[&[3], &[3]]])?;
+    let two_points = stream_of_counts(rt.alloc(), &[&[&[3, 3]]])?;
+    let two_commitments = stream_of_counts(rt.alloc(), &[&[&[3]], &[&[3]]])?;
+    let differ = (
+        two_matrices != two_points,
+        two_commitments != two_matrices,
+        two_commitments != two_points,
+    );
+    assert_eq!(rt; differ, (true, true, true));
     Ok(())
 }
 
 #[test]
 fn shapes_have_their_openings(rt: HostRuntime) -> Result<(), Fail> {
     let shape = shape_of(rt.alloc(), &[&[&[3, 1], &[]], &[&[2]]])?;
-    assert_eq!(rt; shape.num_openings(), 3);
-    let pattern = shape.pattern::<BabyBear, BabyBear4>(rt.alloc())?;
-    assert_eq!(rt; pattern.steps().len(), 6);
-    assert_eq!(rt; shape.clone(rt.alloc())?, shape);
+    let steps = shape
+        .pattern::<BabyBear, BabyBear4>(rt.alloc())?
+        .steps()
+        .len();
+    assert_eq!(rt; (shape.num_openings(), steps), (3, 6));
+    let cloned = shape.clone(rt.alloc())?;
+    assert_eq!(rt; cloned, shape);
     Ok(())
 }

@@ -9,8 +9,8 @@ use p3_challenger::Sha256Challenger;
 use p3_challenger::fs::Script;
 use p3_field::{BabyBear, BabyBear4, ExtensionField, Field};
 use p3_fri_core::transcript::{
-    FriMessages, FriShape, ProverTranscript, Refusal, TranscriptFailure, VerifierTranscript,
-    play_fri, replay_fri,
+    FriMessages, FriShape, PlayedFri, ProverTranscript, Refusal, ReplayedFri, TranscriptFailure,
+    VerifierTranscript, play_fri, replay_fri,
 };
 use p3_fri_core::{FriParameters, FriProverError, PowPhase};
 use std::alloc::{AllocError, Global};
@@ -19,6 +19,8 @@ use std::test::Fail;
 type OurProver<'a> = ProverTranscript<'a, Sha256Challenger, BabyBear, BabyBear4>;
 
 type OurVerifier<'a> = VerifierTranscript<'a, Sha256Challenger, BabyBear, BabyBear4>;
+
+type OurPlayed = PlayedFri<BabyBear, BabyBear4>;
 
 /// The shape of rounds of these log arities, with one coefficient and four indices of three bits.
 #[tactic(auto, unfolding(p3_fri_transcript::specs::Shapes::fri_shape))]
@@ -170,6 +172,11 @@ fn stream_of(alloc: Global, shape: &FriShape) -> Result<Vec<u8>, AllocError> {
         .seed_stream(alloc)
 }
 
+/// The stream of rounds of these log arities.
+fn stream_of_rounds(alloc: Global, log_arities: &[usize]) -> Result<Vec<u8>, AllocError> {
+    stream_of(alloc, &shape_of(alloc, log_arities, 0, 0)?)
+}
+
 const STREAM_WITHOUT_ROUNDS: [u8; 142] = [
     0x01, 0x00, 0x00, 0x00, 0x00, 0x00, 0x00, 0x00, 0x06, 0x70, 0x33, 0x2d, 0x66, 0x72, 0x69, 0x00,
     0x00, 0x00, 0x00, 0x00, 0x00, 0x00, 0x02, 0x00, 0x00, 0x01, 0x00, 0x00, 0x00, 0x00, 0x00, 0x00,
@@ -182,21 +189,32 @@ const STREAM_WITHOUT_ROUNDS: [u8; 142] = [
     0x00, 0x00, 0x00, 0x00, 0x00, 0x08, 0x00, 0x00, 0x00, 0x00, 0x00, 0x00, 0x00, 0x01,
 ];
 
+/// The refusal of so many commitments for three rounds.
+fn wrong_rounds(got: usize) -> TranscriptFailure {
+    TranscriptFailure::CommitRoundCount { expected: 3, got }
+}
+
 #[test]
 fn wrong_counts_are_refused_before_anything_is_absorbed(rt: HostRuntime) -> Result<(), Fail> {
-    for got in [2, 4, 50] {
-        let failure = TranscriptFailure::CommitRoundCount { expected: 3, got };
-        assert_eq!(rt;
-            answer_to_counts(rt.alloc(), got, got)?,
-            (Some(failure), true)
-        );
+    let rows = [
+        (2, 2, wrong_rounds(2)),
+        (4, 4, wrong_rounds(4)),
+        (50, 50, wrong_rounds(50)),
+        (
+            3,
+            2,
+            TranscriptFailure::CommitPowWitnessCount {
+                expected: 3,
+                got: 2,
+            },
+        ),
+    ];
+    for (commitments, witnesses, failure) in rows {
+        let answer = answer_to_counts(rt.alloc(), commitments, witnesses)?;
+        assert_eq!(rt; answer, (Some(failure), true));
     }
-    let failure = TranscriptFailure::CommitPowWitnessCount {
-        expected: 3,
-        got: 2,
-    };
-    assert_eq!(rt; answer_to_counts(rt.alloc(), 3, 2)?, (Some(failure), true));
-    assert_eq!(rt; answer_to_counts(rt.alloc(), 3, 3)?.0, None);
+    let (answer, _) = answer_to_counts(rt.alloc(), 3, 3)?;
+    assert_eq!(rt; answer, None);
     Ok(())
 }
 
@@ -236,79 +254,99 @@ fn both_sides_draw_the_same(rt: HostRuntime) -> Result<(), Fail> {
     let mut prover = Sha256Challenger::new();
     let mut verifier = Sha256Challenger::new();
     let drawn = prove(rt.alloc(), &mut prover)?;
-    assert_eq!(rt; drawn, verify(rt.alloc(), &mut verifier)?);
-    assert!(rt; prover == verifier);
-    assert_eq!(rt; drawn.indices.as_slice(), [2, 4, 4, 5].as_slice());
+    let verified = verify(rt.alloc(), &mut verifier)?;
+    let beta = BabyBear4::from_coefficients(&[
+        BabyBear::from_u64(854_485_589),
+        BabyBear::from_u64(1_124_761_396),
+        BabyBear::from_u64(1_343_671_587),
+        BabyBear::from_u64(916_607_916),
+    ]);
+    assert_eq!(rt; (&drawn, &prover), (&verified, &verifier));
     assert_eq!(rt;
-        drawn.beta,
-        BabyBear4::from_coefficients(&[
-            BabyBear::from_u64(854_485_589),
-            BabyBear::from_u64(1_124_761_396),
-            BabyBear::from_u64(1_343_671_587),
-            BabyBear::from_u64(916_607_916),
-        ])
+        (drawn.indices.as_slice(), drawn.beta),
+        ([2, 4, 4, 5].as_slice(), beta)
     );
     Ok(())
+}
+
+/// The prover's whole transcript of one round and the queries.
+fn play_whole(alloc: Global, challenger: &mut Sha256Challenger) -> Result<OurPlayed, Fail> {
+    let shape = shape_of(alloc, &[3], 2, 3)?;
+    Ok(play_fri::<BabyBear, BabyBear4, [u8; 32], Sha256Challenger>(
+        alloc,
+        challenger,
+        shape,
+        &[[7u8; 32]],
+        &[BabyBear4::from_u64(5)],
+    )?)
+}
+
+/// Whether a verifier draws what the prover drew.
+fn draws_agree(replayed: &ReplayedFri<BabyBear4>, played: &OurPlayed) -> bool {
+    replayed.betas == played.betas && replayed.indices == played.indices
+}
+
+/// What the verifier of the same refuses, or whether it draws what the prover drew and ends in the
+/// prover's state.
+fn replay_whole(
+    alloc: Global,
+    played: &OurPlayed,
+    prover: &Sha256Challenger,
+    commit_witness: BabyBear,
+    query_witness: Option<BabyBear>,
+) -> Result<Result<bool, Refusal<TranscriptFailure>>, AllocError> {
+    let shape = shape_of(alloc, &[3], 2, 3)?;
+    let mut verifier = Sha256Challenger::new();
+    let answer = replay_fri::<BabyBear, BabyBear4, [u8; 32], Sha256Challenger>(
+        alloc,
+        &mut verifier,
+        shape,
+        FriMessages {
+            commitments: &[[7u8; 32]],
+            commit_witnesses: &[commit_witness],
+            final_poly: &[BabyBear4::from_u64(5)],
+            query_witness,
+        },
+    );
+    Ok(match answer {
+        Ok(replayed) => Ok(draws_agree(&replayed, played) && verifier == *prover),
+        Err(refusal) => Err(refusal),
+    })
 }
 
 #[test]
 fn whole_transcripts_are_their_steps(rt: HostRuntime) -> Result<(), Fail> {
     let mut stepped = Sha256Challenger::new();
     let drawn = prove(rt.alloc(), &mut stepped)?;
-    let commitments = [[7u8; 32]];
-    let final_poly = [BabyBear4::from_u64(5)];
     let mut prover = Sha256Challenger::new();
-    let shape = shape_of(rt.alloc(), &[3], 2, 3)?;
-    let played = play_fri::<BabyBear, BabyBear4, [u8; 32], Sha256Challenger>(
-        rt.alloc(),
-        &mut prover,
-        shape,
-        &commitments,
-        &final_poly,
-    )?;
-    assert_eq!(rt; played.betas.as_slice(), [drawn.beta].as_slice());
+    let played = play_whole(rt.alloc(), &mut prover)?;
     assert_eq!(rt;
-        played.commit_witnesses.as_slice(),
-        [BabyBear::from_u64(2)].as_slice()
+        (played.betas.as_slice(), played.indices.as_slice(), &prover),
+        ([drawn.beta].as_slice(), drawn.indices.as_slice(), &stepped)
     );
-    assert_eq!(rt; played.indices, drawn.indices);
-    assert_eq!(rt; played.query_witness, BabyBear::from_u64(19));
-    assert!(rt; prover == stepped);
+    assert_eq!(rt;
+        (played.commit_witnesses.as_slice(), played.query_witness),
+        ([BabyBear::from_u64(2)].as_slice(), BabyBear::from_u64(19))
+    );
+    Ok(())
+}
+
+#[test]
+fn whole_transcripts_are_replayed_or_refused(rt: HostRuntime) -> Result<(), Fail> {
+    let mut prover = Sha256Challenger::new();
+    let played = play_whole(rt.alloc(), &mut prover)?;
     let commit_witness = BabyBear::from_u64(2);
-    let query_witness = BabyBear::from_u64(19);
+    let query_witness = Some(BabyBear::from_u64(19));
     let missing = TranscriptFailure::MissingPowWitness(PowPhase::Query);
     let wrong = TranscriptFailure::PowWitness(PowPhase::CommitPhase);
     let rows = [
-        (commit_witness, Some(query_witness), None),
-        (commit_witness, None, Some(Refusal::Step(missing))),
-        (
-            BabyBear::ONE,
-            Some(query_witness),
-            Some(Refusal::Step(wrong)),
-        ),
+        (commit_witness, query_witness, Ok(true)),
+        (commit_witness, None, Err(Refusal::Step(missing))),
+        (BabyBear::ONE, query_witness, Err(Refusal::Step(wrong))),
     ];
-    for (commit_witness, query_witness, refusal) in rows {
-        let mut verifier = Sha256Challenger::new();
-        let shape = shape_of(rt.alloc(), &[3], 2, 3)?;
-        match replay_fri::<BabyBear, BabyBear4, [u8; 32], Sha256Challenger>(
-            rt.alloc(),
-            &mut verifier,
-            shape,
-            FriMessages {
-                commitments: &commitments,
-                commit_witnesses: &[commit_witness],
-                final_poly: &final_poly,
-                query_witness,
-            },
-        ) {
-            Ok(replayed) => {
-                assert_eq!(rt; refusal, None);
-                assert_eq!(rt; replayed.betas, played.betas);
-                assert_eq!(rt; replayed.indices, played.indices);
-                assert!(rt; verifier == prover);
-            },
-            Err(refused) => assert_eq!(rt; Some(refused), refusal),
-        }
+    for (commit_witness, query_witness, expected) in rows {
+        let answer = replay_whole(rt.alloc(), &played, &prover, commit_witness, query_witness)?;
+        assert_eq!(rt; answer, expected);
     }
     Ok(())
 }
@@ -332,11 +370,22 @@ fn streams_of_shapes(rt: HostRuntime) -> Result<(), Fail> {
     shape.index_bits = 1;
     shape.max_log_arity = 1;
     let stream = stream_of(rt.alloc(), &shape)?;
-    assert_eq!(rt; stream.as_slice(), STREAM_WITHOUT_ROUNDS.as_slice());
     shape.commit_pow_bits = 5;
-    assert_eq!(rt; stream_of(rt.alloc(), &shape)?, stream);
-    let falling = stream_of(rt.alloc(), &shape_of(rt.alloc(), &[3, 3, 2], 0, 0)?)?;
-    let rising = stream_of(rt.alloc(), &shape_of(rt.alloc(), &[2, 3, 3], 0, 0)?)?;
+    let with_bits = stream_of(rt.alloc(), &shape)?;
+    assert_eq!(rt;
+        (stream.as_slice(), with_bits.as_slice()),
+        (
+            STREAM_WITHOUT_ROUNDS.as_slice(),
+            STREAM_WITHOUT_ROUNDS.as_slice()
+        )
+    );
+    Ok(())
+}
+
+#[test]
+fn streams_tell_the_order_of_rounds(rt: HostRuntime) -> Result<(), Fail> {
+    let falling = stream_of_rounds(rt.alloc(), &[3, 3, 2])?;
+    let rising = stream_of_rounds(rt.alloc(), &[2, 3, 3])?;
     assert!(rt; falling != rising);
     Ok(())
 }
@@ -346,12 +395,18 @@ fn shapes_of_parameters(rt: HostRuntime) -> Result<(), Fail> {
     let mut parameters = FriParameters::new_testing((), 0);
     parameters.max_log_arity = 3;
     let shape = FriShape::new(rt.alloc(), &parameters, &[10], 12)?;
-    assert_eq!(rt; shape.log_arities.as_slice(), [3, 3, 2].as_slice());
-    assert_eq!(rt; shape.clone(rt.alloc())?, shape);
+    let steps = shape
+        .pattern::<BabyBear, BabyBear4>(rt.alloc())?
+        .steps()
+        .len();
+    let cloned = shape.clone(rt.alloc())?;
     let rounds = Vec::from_slice(rt.alloc(), &[3, 3, 2])?;
-    assert_eq!(rt; FriShape::with_schedule(&parameters, rounds, 12), shape);
-    let pattern = shape.pattern::<BabyBear, BabyBear4>(rt.alloc())?;
-    assert_eq!(rt; pattern.steps().len(), 12);
+    let scheduled = FriShape::with_schedule(&parameters, rounds, 12);
+    assert_eq!(rt; (&cloned, &scheduled), (&shape, &shape));
+    assert_eq!(rt;
+        (shape.log_arities.as_slice(), steps),
+        ([3, 3, 2].as_slice(), 12)
+    );
     Ok(())
 }
 
@@ -365,18 +420,21 @@ fn phases_and_failures_are_printed(rt: HostRuntime) -> Result<(), Fail> {
     for (phase, expected) in rows {
         assert_eq!(rt; format!(in rt.alloc(); "{phase}")?.as_str(), expected);
     }
-    let failure = TranscriptFailure::CommitRoundCount {
-        expected: 3,
-        got: 50,
-    };
-    assert_eq!(rt;
-        format!(in rt.alloc(); "{failure}")?.as_str(),
-        "there are 50 commitments for 3 rounds"
-    );
-    let failure = TranscriptFailure::MissingPowWitness(PowPhase::Query);
-    assert_eq!(rt;
-        format!(in rt.alloc(); "{failure}")?.as_str(),
-        "the proof of work of the query phase has no witness"
-    );
+    let rows = [
+        (
+            TranscriptFailure::CommitRoundCount {
+                expected: 3,
+                got: 50,
+            },
+            "there are 50 commitments for 3 rounds",
+        ),
+        (
+            TranscriptFailure::MissingPowWitness(PowPhase::Query),
+            "the proof of work of the query phase has no witness",
+        ),
+    ];
+    for (failure, expected) in rows {
+        assert_eq!(rt; format!(in rt.alloc(); "{failure}")?.as_str(), expected);
+    }
     Ok(())
 }

@@ -48,6 +48,54 @@ fn rows_by_lanes<EF: Field, P: PackedField<EF>>(
     Ok(values)
 }
 
+/// The fold by lanes of the rows from `first` on, at the generator.
+fn fold_by_lanes<F: TwoAdicField + PackableField, EF: PackableExtension<F>>(
+    alloc: Global,
+    first: usize,
+    log_height: usize,
+    log_arity: usize,
+) -> Result<Option<EF::ExtensionPacking>, AllocError>
+    requires within_two_adicity { log_height + log_arity ≤ F.TWO_ADICITY }
+    requires positive { 1 ≤ log_arity }
+    requires arity { log_arity ≤ 3 }
+    requires within_word { first + EF.ExtensionPacking.WIDTH ≤ 2 ^ log_height }
+{
+    let mut values = rows_by_lanes::<EF, EF::ExtensionPacking>(alloc, first, log_arity)?;
+    if values.len() != 1 << log_arity {
+        return Ok(None);
+    }
+    let folds = fold_lanes::<F, EF>(first, log_height, log_arity, EF::GENERATOR, &mut values);
+    Ok(Some(folds))
+}
+
+/// The fold of one row, at the generator.
+fn fold_of_row<F: TwoAdicField + PackableField, EF: PackableExtension<F>>(
+    alloc: Global,
+    index: usize,
+    log_height: usize,
+    log_arity: usize,
+) -> Result<Option<EF>, AllocError>
+    requires within_two_adicity { log_height + log_arity ≤ F.TWO_ADICITY }
+    requires positive { 1 ≤ log_arity }
+    requires arity { log_arity ≤ 3 }
+    requires within_word { index < 2 ^ log_height }
+{
+    let row = row::<EF>(alloc, index, log_arity)?;
+    if row.len() != 1 << log_arity {
+        return Ok(None);
+    }
+    let folding: TwoAdicFriFolding<(), ()> = TwoAdicFriFolding(PhantomData);
+    let fold = FriFoldingStrategy::<F, EF>::fold_row(
+        &folding,
+        index,
+        log_height,
+        log_arity,
+        EF::GENERATOR,
+        &row,
+    );
+    Ok(Some(fold))
+}
+
 /// Whether the fold by lanes of the rows from `first` on is the fold of each, at the generator.
 fn lanes_agree<F: TwoAdicField + PackableField, EF: PackableExtension<F>>(
     alloc: Global,
@@ -64,47 +112,41 @@ fn lanes_agree<F: TwoAdicField + PackableField, EF: PackableExtension<F>>(
     if width > 1 << log_height || first > (1 << log_height) - width {
         return Ok(false);
     }
-    let folding: TwoAdicFriFolding<(), ()> = TwoAdicFriFolding(PhantomData);
-    let beta = EF::GENERATOR;
-    let mut values = rows_by_lanes::<EF, EF::ExtensionPacking>(alloc, first, log_arity)?;
-    if values.len() != 1 << log_arity {
+    let Some(folds) = fold_by_lanes::<F, EF>(alloc, first, log_height, log_arity)? else {
         return Ok(false);
-    }
-    let folds = fold_lanes::<F, EF>(first, log_height, log_arity, beta, &mut values);
+    };
     for lane in 0..width {
-        let row = row::<EF>(alloc, first + lane, log_arity)?;
-        if row.len() != 1 << log_arity {
-            return Ok(false);
-        }
-        let fold = FriFoldingStrategy::<F, EF>::fold_row(
-            &folding,
-            first + lane,
-            log_height,
-            log_arity,
-            beta,
-            &row,
-        );
-        if folds.lane(lane) != fold {
+        let fold = fold_of_row::<F, EF>(alloc, first + lane, log_height, log_arity)?;
+        if fold != Some(folds.lane(lane)) {
             return Ok(false);
         }
     }
     Ok(true)
 }
 
+/// Whether they are over the field, its extension and a field of one lane, to 32 rows.
+fn lanes_agree_over_each_field(
+    alloc: Global,
+    first: usize,
+    log_arity: usize,
+) -> Result<(bool, bool, bool), AllocError>
+    requires positive { 1 ≤ log_arity }
+    requires arity { log_arity ≤ 3 }
+{
+    Ok((
+        lanes_agree::<BabyBear, BabyBear>(alloc, first, 5, log_arity)?,
+        lanes_agree::<BabyBear, BabyBear4>(alloc, first, 5, log_arity)?,
+        lanes_agree::<OneLane, OneLane>(alloc, first, 5, log_arity)?,
+    ))
+}
+
 #[test]
 fn lanes_fold_their_rows(rt: HostRuntime) -> Result<(), Fail> {
     for log_arity in 1..4 {
         for first in [0, 3, 8, 24] {
-            assert!(rt;
-                lanes_agree::<BabyBear, BabyBear>(rt.alloc(), first, 5, log_arity)?,
-                "from row {first} by {log_arity}"
-            );
-            assert!(rt;
-                lanes_agree::<BabyBear, BabyBear4>(rt.alloc(), first, 5, log_arity)?,
-                "from row {first} by {log_arity}"
-            );
-            assert!(rt;
-                lanes_agree::<OneLane, OneLane>(rt.alloc(), first, 5, log_arity)?,
+            assert_eq!(rt;
+                lanes_agree_over_each_field(rt.alloc(), first, log_arity)?,
+                (true, true, true),
                 "from row {first} by {log_arity}"
             );
         }

@@ -1,5 +1,7 @@
 //! Operations lane by lane.
 
+ghost use Rattle.std.specs.Prelude.{◌<◌};
+
 use crate::one_lane::OneLane;
 use p3_field::{
     BabyBear, BabyBear4, BabyBear4x8Lanes, BabyBear8Lanes, ExtensionField, Field,
@@ -16,6 +18,19 @@ fn elements<T: Field, P: PackedField<T>>(first: usize) -> P {
     P::from_fn(|lane| element::<T>(first.wrapping_add(lane)))
 }
 
+/// Whether `a` with another element in one lane has it there, and elsewhere what it had.
+fn changes_one_lane<T: Field, P: PackedField<T>>(a: P, lane: usize, value: T) -> bool
+    requires { lane < P.WIDTH }
+{
+    let changed = a.with_lane(lane, value);
+    let mut right = true;
+    for other in 0..P::WIDTH {
+        let wanted = if other == lane { value } else { a.lane(other) };
+        right = right && changed.lane(other) == wanted;
+    }
+    right
+}
+
 /// Whether the packed elements of two runs of elements give, by each operation, what the lanes'
 /// elements give.
 fn operations_act_on_each_lane<T: Field, P: PackedField<T>>() -> bool {
@@ -29,15 +44,17 @@ fn operations_act_on_each_lane<T: Field, P: PackedField<T>>() -> bool {
             element::<T>(lane.wrapping_add(3)),
             element::<T>(lane.wrapping_add(70)),
         );
-        right = right && a.lane(lane) == x && b.lane(lane) == y;
-        right = right && sums.lane(lane) == x + y && differences.lane(lane) == x - y;
-        right = right && products.lane(lane) == x * y && opposites.lane(lane) == -x;
-        right = right && all.lane(lane) == T::TWO;
-        let changed = a.with_lane(lane, y);
-        for other in 0..P::WIDTH {
-            let wanted = if other == lane { y } else { a.lane(other) };
-            right = right && changed.lane(other) == wanted;
-        }
+        let found = (
+            a.lane(lane),
+            b.lane(lane),
+            sums.lane(lane),
+            differences.lane(lane),
+            products.lane(lane),
+            opposites.lane(lane),
+            all.lane(lane),
+        );
+        right = right && found == (x, y, x + y, x - y, x * y, -x, T::TWO);
+        right = right && changes_one_lane(a, lane, y);
     }
     right
 }
@@ -58,16 +75,17 @@ fn scales_each_lane<F: PackableField, EF: PackableExtension<F>>() -> bool {
 
 #[test]
 fn eight_lanes_of_the_field(rt: HostRuntime) {
-    assert_eq!(rt; BabyBear8Lanes::WIDTH, 8);
-    assert!(rt; operations_act_on_each_lane::<BabyBear, BabyBear8Lanes>());
-    assert!(rt; scales_each_lane::<BabyBear, BabyBear>());
+    let operations_act = operations_act_on_each_lane::<BabyBear, BabyBear8Lanes>();
+    let scales = scales_each_lane::<BabyBear, BabyBear>();
+    assert_eq!(rt;
+        (BabyBear8Lanes::WIDTH, operations_act, scales),
+        (8, true, true)
+    );
     // each lane wraps at the order
     let greatest = BabyBear8Lanes::broadcast(-BabyBear::ONE);
-    assert_eq!(rt;
-        (greatest + greatest).lane(7).as_canonical_u64(),
-        2_013_265_919
-    );
-    assert_eq!(rt; (greatest * greatest).lane(7), BabyBear::ONE);
+    let sum = (greatest + greatest).lane(7).as_canonical_u64();
+    let product = (greatest * greatest).lane(7);
+    assert_eq!(rt; (sum, product), (2_013_265_919, BabyBear::ONE));
 }
 
 #[test]
@@ -79,8 +97,13 @@ fn eight_lanes_of_the_extension(rt: HostRuntime) {
 
 #[test]
 fn one_lane_of_fields_without_lanes(rt: HostRuntime) {
-    assert!(rt; operations_act_on_each_lane::<BabyBear4, BabyBear4>());
-    assert!(rt; scales_each_lane::<BabyBear4, BabyBear4>());
-    assert!(rt; operations_act_on_each_lane::<OneLane, OneLane>());
-    assert!(rt; scales_each_lane::<OneLane, OneLane>());
+    let operations_act = (
+        operations_act_on_each_lane::<BabyBear4, BabyBear4>(),
+        operations_act_on_each_lane::<OneLane, OneLane>(),
+    );
+    let scales = (
+        scales_each_lane::<BabyBear4, BabyBear4>(),
+        scales_each_lane::<OneLane, OneLane>(),
+    );
+    assert_eq!(rt; (operations_act, scales), ((true, true), (true, true)));
 }

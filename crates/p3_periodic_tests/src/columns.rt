@@ -6,7 +6,7 @@ use std::alloc::{AllocError, Global};
 use std::test::Fail;
 
 /// One more column, of these numbers.
-pub(crate) fn push_column(
+fn push_column(
     alloc: Global,
     table: &mut Vec<Vec<BabyBear>>,
     numbers: &[u64],
@@ -26,6 +26,18 @@ pub(crate) fn one_column(alloc: Global, numbers: &[u64]) -> Result<Vec<Vec<BabyB
     Ok(table)
 }
 
+/// A table of columns of these numbers.
+pub(crate) fn columns_of(
+    alloc: Global,
+    columns: &[&[u64]],
+) -> Result<Vec<Vec<BabyBear>>, AllocError> {
+    let mut table = Vec::new(alloc);
+    for numbers in columns {
+        push_column(alloc, &mut table, numbers)?;
+    }
+    Ok(table)
+}
+
 /// Whether along 8 rows the table is refused for this reason, in these words.
 fn is_refused(
     alloc: Global,
@@ -39,6 +51,17 @@ fn is_refused(
     }
 }
 
+/// Whether along 8 rows a column of these numbers is refused for this reason, in these words.
+fn column_is_refused(
+    alloc: Global,
+    numbers: &[u64],
+    fault: PeriodicError,
+    words: &str,
+) -> Result<bool, Fail> {
+    let table = one_column(alloc, numbers)?;
+    is_refused(alloc, &table, fault, words)
+}
+
 #[test]
 fn malformed_columns_are_named(rt: HostRuntime) -> Result<(), Fail> {
     let three = PeriodicError::NotPowerOfTwo {
@@ -46,31 +69,26 @@ fn malformed_columns_are_named(rt: HostRuntime) -> Result<(), Fail> {
         length: 3,
     };
     let words = "periodic column 0 has length 3, which is not a power of two";
-    let table = one_column(rt.alloc(), &[1, 2, 3])?;
-    assert!(rt; is_refused(rt.alloc(), &table, three, words)?);
+    assert!(rt; column_is_refused(rt.alloc(), &[1, 2, 3], three, words)?);
     let sixteen = PeriodicError::DoesNotDivide {
         column: 0,
         length: 16,
         trace_height: 8,
     };
     let words = "periodic column 0 has length 16, which does not divide the trace height 8";
-    let table = one_column(rt.alloc(), &[1; 16])?;
-    assert!(rt; is_refused(rt.alloc(), &table, sixteen, words)?);
+    assert!(rt; column_is_refused(rt.alloc(), &[1; 16], sixteen, words)?);
     let none = PeriodicError::NotPowerOfTwo {
         column: 0,
         length: 0,
     };
     let words = "periodic column 0 has length 0, which is not a power of two";
-    let table = one_column(rt.alloc(), &[])?;
-    assert!(rt; is_refused(rt.alloc(), &table, none, words)?);
+    assert!(rt; column_is_refused(rt.alloc(), &[], none, words)?);
     Ok(())
 }
 
 #[test]
 fn the_first_malformed_column_is_named(rt: HostRuntime) -> Result<(), Fail> {
-    let mut table = one_column(rt.alloc(), &[1, 3])?;
-    push_column(rt.alloc(), &mut table, &[1; 16])?;
-    push_column(rt.alloc(), &mut table, &[1, 2, 3])?;
+    let table = columns_of(rt.alloc(), &[&[1, 3], &[1; 16], &[1, 2, 3]])?;
     let second = PeriodicError::DoesNotDivide {
         column: 1,
         length: 16,
@@ -83,14 +101,17 @@ fn the_first_malformed_column_is_named(rt: HostRuntime) -> Result<(), Fail> {
 
 #[test]
 fn the_greatest_period(rt: HostRuntime) -> Result<(), Fail> {
-    let mut table: Vec<Vec<BabyBear>> = Vec::new(rt.alloc());
-    assert!(rt; PeriodicColumns::new(&table, 8)?.max_period().is_none());
-    push_column(rt.alloc(), &mut table, &[5])?;
-    push_column(rt.alloc(), &mut table, &[1, 2, 3, 4])?;
-    push_column(rt.alloc(), &mut table, &[1, 3])?;
+    let none: Vec<Vec<BabyBear>> = Vec::new(rt.alloc());
+    assert!(rt; PeriodicColumns::new(&none, 8)?.max_period().is_none());
+    let table = columns_of(rt.alloc(), &[&[5], &[1, 2, 3, 4], &[1, 3]])?;
     let columns = PeriodicColumns::new(&table, 8)?;
-    assert!(rt; columns.max_period() == Some(4));
-    assert!(rt; columns.len() == 3);
-    assert!(rt; columns.as_slice().len() == 3);
+    assert_eq!(rt;
+        (
+            columns.max_period(),
+            columns.len(),
+            columns.as_slice().len()
+        ),
+        (Some(4), 3, 3)
+    );
     Ok(())
 }

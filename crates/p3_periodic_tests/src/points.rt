@@ -40,13 +40,18 @@ fn at_the_rows_the_column_comes_back(rt: HostRuntime) -> Result<(), Fail> {
     let column = [1, 2, 3, 4];
     let root = BabyBear::two_adic_generator(2);
     let first = value_at(rt.alloc(), &column, 2, BabyBear::ONE)?;
-    assert!(rt; first == Some(BabyBear::from_u64(1)));
     let second = value_at(rt.alloc(), &column, 2, root)?;
-    assert!(rt; second == Some(BabyBear::from_u64(2)));
     let third = value_at(rt.alloc(), &column, 2, root * root)?;
-    assert!(rt; third == Some(BabyBear::from_u64(3)));
     let fourth = value_at(rt.alloc(), &column, 2, root * root * root)?;
-    assert!(rt; fourth == Some(BabyBear::from_u64(4)));
+    assert_eq!(rt;
+        (first, second, third, fourth),
+        (
+            Some(BabyBear::from_u64(1)),
+            Some(BabyBear::from_u64(2)),
+            Some(BabyBear::from_u64(3)),
+            Some(BabyBear::from_u64(4))
+        )
+    );
     Ok(())
 }
 

@@ -2,9 +2,9 @@
 
 ghost use Rattle.std.specs.Prelude.{◌≤◌};
 
-use crate::columns::{one_column, push_column};
+use crate::columns::{columns_of, one_column};
 use p3_dft::Radix2Dit;
-use p3_field::{BabyBear, Field, TwoAdicMultiplicativeCoset};
+use p3_field::{BabyBear, Field, PrimeField64, TwoAdicMultiplicativeCoset};
 use p3_periodic::{
     PeriodicError, PeriodicEvaluator, PeriodicLdeTable, TwoAdicPeriodicEvaluator,
     build_periodic_lde_table_two_adic,
@@ -24,87 +24,76 @@ fn evaluated(
     TwoAdicPeriodicEvaluator::<Radix2Dit<BabyBear>>::eval_on_lde(alloc, table, trace, domain)
 }
 
-/// The table of the columns, on the domain of shift 31.
-fn table_of(
-    alloc: Global,
-    table: &[Vec<BabyBear>],
-) -> Result<Option<PeriodicLdeTable<BabyBear>>, Fail> {
-    let Some(trace) = TwoAdicMultiplicativeCoset::new(BabyBear::ONE, 3) else {
-        return Ok(None);
-    };
-    let Some(domain) = TwoAdicMultiplicativeCoset::new(BabyBear::GENERATOR, 4) else {
-        return Ok(None);
-    };
-    Ok(Some(evaluated(alloc, table, &trace, &domain)?))
+/// The table of columns of these numbers, on the domain of shift 31.
+fn table_of(alloc: Global, columns: &[&[u64]]) -> Result<PeriodicLdeTable<BabyBear>, Fail> {
+    let trace = TwoAdicMultiplicativeCoset::new(BabyBear::ONE, 3).ok_or("a trace of 8")?;
+    let domain = TwoAdicMultiplicativeCoset::new(BabyBear::GENERATOR, 4).ok_or("a domain of 16")?;
+    let columns = columns_of(alloc, columns)?;
+    Ok(evaluated(alloc, &columns, &trace, &domain)?)
 }
 
-/// Whether the table shows this number.
-fn shows(table: &PeriodicLdeTable<BabyBear>, index: usize, column: usize, number: u64) -> bool {
-    table.get(index, column) == Some(BabyBear::from_u64(number))
+/// The number that the table shows, if it has this column.
+fn shown(table: &PeriodicLdeTable<BabyBear>, index: usize, column: usize) -> Option<u64> {
+    Some(table.get(index, column)?.as_canonical_u64())
 }
 
 #[test]
 fn a_column_of_two_has_four_rows(rt: HostRuntime) -> Result<(), Fail> {
-    let columns = one_column(rt.alloc(), &[1, 3])?;
-    let made = table_of(rt.alloc(), &columns)?;
-    assert!(rt; made.is_some());
-    let Some(table) = made else {
-        return Ok(());
-    };
-    assert!(rt; table.height() == 4);
-    assert!(rt; shows(&table, 0, 0, 2012342402));
-    assert!(rt; shows(&table, 1, 0, 21214579));
-    assert!(rt; shows(&table, 2, 0, 923523));
-    assert!(rt; shows(&table, 3, 0, 1992051346));
-    assert!(rt; shows(&table, 14, 0, 923523));
-    assert!(rt; table.get(0, 1).is_none());
+    let table = table_of(rt.alloc(), &[&[1, 3]])?;
+    assert_eq!(rt; (table.height(), shown(&table, 0, 1)), (4, None));
+    let rows = (
+        shown(&table, 0, 0),
+        shown(&table, 1, 0),
+        shown(&table, 2, 0),
+        shown(&table, 3, 0),
+    );
+    assert_eq!(rt;
+        rows,
+        (
+            Some(2012342402),
+            Some(21214579),
+            Some(923523),
+            Some(1992051346)
+        )
+    );
+    assert_eq!(rt; shown(&table, 14, 0), Some(923523));
     Ok(())
 }
 
 #[test]
 fn a_constant_has_two_rows(rt: HostRuntime) -> Result<(), Fail> {
-    let columns = one_column(rt.alloc(), &[5])?;
-    let made = table_of(rt.alloc(), &columns)?;
-    assert!(rt; made.is_some());
-    let Some(table) = made else {
-        return Ok(());
-    };
-    assert!(rt; table.height() == 2);
-    assert!(rt; shows(&table, 0, 0, 5));
-    assert!(rt; shows(&table, 1, 0, 5));
+    let table = table_of(rt.alloc(), &[&[5]])?;
+    assert_eq!(rt;
+        (table.height(), shown(&table, 0, 0), shown(&table, 1, 0)),
+        (2, Some(5), Some(5))
+    );
     Ok(())
 }
 
 #[test]
 fn columns_of_several_periods_stand_side_by_side(rt: HostRuntime) -> Result<(), Fail> {
-    let mut columns = one_column(rt.alloc(), &[1, 3])?;
-    push_column(rt.alloc(), &mut columns, &[1, 2, 3, 4])?;
-    push_column(rt.alloc(), &mut columns, &[5])?;
-    push_column(rt.alloc(), &mut columns, &[2, 4])?;
-    let made = table_of(rt.alloc(), &columns)?;
-    assert!(rt; made.is_some());
-    let Some(table) = made else {
-        return Ok(());
-    };
-    assert!(rt; table.height() == 8);
-    assert!(rt; shows(&table, 5, 0, 21214579));
-    assert!(rt; shows(&table, 5, 1, 1334259427));
-    assert!(rt; shows(&table, 5, 2, 5));
-    assert!(rt; shows(&table, 5, 3, 21214580));
-    assert!(rt; shows(&table, 14, 1, 1604297772));
+    let table = table_of(rt.alloc(), &[&[1, 3], &[1, 2, 3, 4], &[5], &[2, 4]])?;
+    assert_eq!(rt;
+        (table.height(), shown(&table, 14, 1)),
+        (8, Some(1604297772))
+    );
+    let row = (
+        shown(&table, 5, 0),
+        shown(&table, 5, 1),
+        shown(&table, 5, 2),
+        shown(&table, 5, 3),
+    );
+    assert_eq!(rt;
+        row,
+        (Some(21214579), Some(1334259427), Some(5), Some(21214580))
+    );
     Ok(())
 }
 
 #[test]
 fn no_columns_have_the_empty_table(rt: HostRuntime) -> Result<(), Fail> {
-    let columns: Vec<Vec<BabyBear>> = Vec::new(rt.alloc());
-    let made = table_of(rt.alloc(), &columns)?;
-    assert!(rt; made.is_some());
-    let Some(table) = made else {
-        return Ok(());
-    };
-    assert!(rt; table.height() == 0);
-    assert!(rt; table.get(0, 0).is_none());
+    let table = table_of(rt.alloc(), &[])?;
+    assert_eq!(rt; (table.height(), shown(&table, 0, 0)), (0, None));
     Ok(())
 }
 

@@ -3,9 +3,3 @@ use Rattle.p3_dft_tests.proofs.matrix.reverses_row_indices.Goals as goal
 
 pub bit_reverse_rows-reversed-requires : goal.bit_reverse_rows-reversed-requires
 bit_reverse_rows-reversed-requires g c = record { power_of_two = (2, omega arith) }
-
-pub bit_reverse_rows-reversed-requires-2 : goal.bit_reverse_rows-reversed-requires-2
-bit_reverse_rows-reversed-requires-2 g c = record { power_of_two = (3, omega arith) }
-
-pub bit_reverse_rows-one-requires : goal.bit_reverse_rows-one-requires
-bit_reverse_rows-one-requires g c = record { power_of_two = (0, omega arith) }
