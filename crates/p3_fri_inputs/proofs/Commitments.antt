@@ -43,6 +43,8 @@ module _ {F E : Type 0} (K : FieldOps E) (lift : F → E) (log_blowup : ℕ) whe
   -- what is known of a matrix among those of a commitment, of which there are sums below `count`
   pub record IsAmong (count powers : ℕ) (alpha : E) (ms : List (MatrixClaim E))
       (rows : List (List F)) (i : ℕ) (m : MatrixClaim E) : Type 0 where
+    pub here : i < length ms
+    pub is : m ≡ get_or ms i m
     pub height : log_height log_blowup m < count
     pub row_there : i < length rows
     pub row_width : length (get_or rows i []) ≡ width m
@@ -74,6 +76,8 @@ module _ {F E : Type 0} (K : FieldOps E) (lift : F → E) (log_blowup : ℕ) whe
       let row = row_at ms rows i m opened l in
       let read = subst (IsReadable log_blowup count powers) (sym is) (readable i m l) in
       record {
+        here = l;
+        is = is;
         height = read.height;
         row_there = row.0;
         row_width = row.1 ∙ ap width (sym is);
@@ -82,6 +86,15 @@ module _ {F E : Type 0} (K : FieldOps E) (lift : F → E) (log_blowup : ℕ) whe
         cut = length-joined_next values ms i m l is ∙ ap (λ n. length (flat_map values (take i ms)) + n) points;
         inside = omega (arith, points, length-joined_at values ms i m l is);
       }
+
+  -- the values at the next matrix's points end where those taken begin
+  pub ends_before : {count powers : ℕ} {alpha : E} {ms : List (MatrixClaim E)}
+      {rows : List (List F)} {inverses before sums : List E} {k end i : ℕ} {m : MatrixClaim E}
+      → AreSummedFrom alpha ms rows inverses before k end sums
+      → IsAmong count powers alpha ms rows i m → k ≡ i + 1
+      → end ≡ length (combined_values K alpha (take i ms)) + length m.points
+  ends_before {alpha = alpha} {ms = ms} so_far known next =
+      so_far.taken ∙ ap (λ n. length (combined_values K alpha (take n ms))) next ∙ known.cut
 
   -- one matrix more in front
   terms_next : (h : ℕ) (x : E) (ms : List (MatrixClaim E)) (rows : List (List F)) (i : ℕ)
@@ -140,28 +153,29 @@ module _ {F E : Type 0} (K : FieldOps E) (lift : F → E) (log_blowup : ℕ) whe
 
   -- the sum of the matrix's log height, with its quotients in front, takes the place of that
   -- without
-  pub summed_next : (powers : ℕ) (alpha : E) (ms : List (MatrixClaim E)) (rows : List (List F))
-      (claimed inverses before sums : List E) (k end start i : ℕ) (m : MatrixClaim E)
-      (row : List F) (sum v : E)
+  pub summed_next : {powers : ℕ} {alpha : E} {ms : List (MatrixClaim E)} {rows : List (List F)}
+      {claimed inverses before sums : List E} {k end start i : ℕ} {m : MatrixClaim E}
+      {row : List F} {sum : E} (v : E)
       → claimed ≡ combined_values K alpha ms
       → AreSummedFrom alpha ms rows inverses before k end sums
       → IsAmong (length before) powers alpha ms rows i m
-      → k ≡ i + 1 → i < length ms → m ≡ get_or ms i m → row ≡ get_or rows i []
-      → start ≡ end - length m.points
+      → k ≡ i + 1 → row ≡ get_or rows i [] → start ≡ end - length m.points
       → sum ≡ get_or sums (log_height log_blowup m) sum
       → ((x : E) (n : MatrixClaim E) (later : List E)
       → AreCombined K alpha x n.points (map lift row) (between start end claimed)
       (between start end inverses)
       → sum ≡ val K later alpha → v ≡ val K (quotients_of x n row ++ later) alpha)
       → AreSummedFrom alpha ms rows inverses before i start (set sums (log_height log_blowup m) v)
-  summed_next powers alpha ms rows claimed inverses before sums k end start i m row sum v
-      is_claimed so_far among next here is_m is_row is_start is_sum gains =
+  summed_next {alpha = alpha} {ms = ms} {rows = rows} {claimed = claimed} {inverses = inverses}
+      {before = before} {sums = sums} {end = end} {start = start} {i = i} {m = m} {row = row}
+      {sum = sum} v is_claimed so_far among next is_row is_start is_sum gains =
+      let here = among.here in
+      let is_m = among.is in
       let values = λ (m : MatrixClaim E). map (λ z. val K z.values alpha) m.points in
       let long : length (values m) ≡ length m.points =
       length-map m.points (λ z. val K z.values alpha) in
       let high = log_height log_blowup m in
-      let at_end : end ≡ length (combined_values K alpha (take i ms)) + length m.points =
-      so_far.taken ∙ ap (λ n. length (combined_values K alpha (take n ms))) next ∙ among.cut in
+      let at_end = ends_before so_far among next in
       let at_start : start ≡ length (combined_values K alpha (take i ms)) = omega arith in
       let across : end ≡ start + length (values m) = omega arith in
       let below : high < length sums = omega (arith, among.height, so_far.count) in

@@ -9,4 +9,5 @@ pub mod Refutations
 pub mod Assembly
 pub mod Opened
 pub mod Queries
+pub mod Shares
 pub mod Zipped

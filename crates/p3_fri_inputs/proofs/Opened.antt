@@ -1,17 +1,19 @@
 -- Dimensions, indices and openings of the matrices under a commitment.
 use Rattle.std.proofs.Common.{◌≡◌, ℕ, zero, suc, ◌+◌, ◌-◌, ◌/◌, ◌^◌, ◌<◌, ◌≤◌, max, List, [], ◌∷◌}
 use Rattle.std.proofs.Common.{length, map, All, get_or, fold, subst, refl, sym, ap, ap₂, ◌∙◌, arith}
-use Rattle.std.proofs.Common.{inl, inr}
+use Rattle.std.proofs.Common.{inl, inr, ◌↔◌}
 use Rattle.std.specs.List.{AllZip, zip}
 use Rattle.std.proofs.lemmas.Bool.{cases_lt}
 use Rattle.std.proofs.lemmas.Nat.{shr_below}
 use Rattle.std.proofs.lemmas.List.{length-map, get_or-map}
 use Rattle.p3_matrix.specs.declared.Dimensions.{Dimensions}
 use Rattle.p3_commit.specs.Batch.{max_height, AreBelow, HavePowerHeights}
-use Rattle.p3_fri_relation.specs.Setting.{MatrixClaim}
+use Rattle.p3_fri_relation.specs.Setting.{Opening, MatrixClaim, CommitmentClaim, InputOpening}
 use Rattle.p3_fri_relation.specs.Faults.{At}
 use Rattle.p3_fri_relation.specs.Heights.{log_height, greatest_height, dimensions, opened_index}
+use Rattle.p3_fri_relation.specs.Inputs.{OpensInput}
 use Rattle.p3_fri_inputs.proofs.LogHeights.{greatest_within}
+use Rattle.p3_fri_inputs.proofs.Places.{mapped_is}
 use Rattle.p3_fri_inputs.proofs.Refutations.{length_zip, zip_at}
 
 -- what holds of each pair holds place by place
@@ -35,6 +37,28 @@ at_zip P xs ys i x y e l is_x is_y p = (
   omega (arith, l, length_zip xs ys e),
   zip_at xs ys i x y e l ∙ ap₂ (λ a b. (a, b)) (sym is_x) (sym is_y),
   p,
+)
+
+-- the same of the images of two lists
+pub at_mapped_zip : {A B X Y : Type 0} (f : A → X) (g : B → Y) (P : X × Y → Type 0) (xs : List A)
+    (ys : List B) (i : ℕ) {x : A} {y : B} → length ys ≡ length xs → i < length xs
+    → x ≡ get_or xs i x → y ≡ get_or ys i y → P (f x, g y) → At i P (zip (map f xs) (map g ys))
+at_mapped_zip f g P xs ys i {x = x} {y = y} e l is_x is_y =
+    at_zip P (map f xs) (map g ys) i (f x) (g y)
+    (length-map ys g ∙ e ∙ sym (length-map xs f)) (omega (arith, l, length-map xs f))
+    (mapped_is f xs i x l is_x) (mapped_is g ys i y (omega (arith, l, e)) is_y)
+
+-- the scheme on what equals a claim's dimensions, indices and rows
+pub opened_as : {F E InCom InPath : Type 0} (opens : Opening F InCom InPath) (log_blowup top : ℕ)
+    (positions : List ℕ) (claim : CommitmentClaim E InCom) (o : InputOpening F InPath)
+    (dims : List Dimensions) (indices : List ℕ) (sets : List (List (List F)))
+    → dims ≡ map (dimensions log_blowup) claim.matrices
+    → indices ≡ map (opened_index log_blowup top claim.matrices) positions → sets ≡ o.rows
+    → (opens claim.commitment dims indices sets o.path)
+    ↔ OpensInput opens log_blowup top positions claim o
+opened_as opens log_blowup top positions claim o dims indices sets d i s = (
+  λ h. rw (d, i, s) at h,
+  λ h. rw (d, i, s) h,
 )
 
 at_least_one : (dims : List Dimensions) → 1 ≤ max_height dims

@@ -52,6 +52,16 @@ pub mapped_is : {X A : Type 0} (f : X → A) (xs : List X) (k : ℕ) (x : X) →
     → x ≡ get_or xs k x → f x ≡ get_or (map f xs) k (f x)
 mapped_is f xs k x l is = ap f is ∙ sym (get_or-map f xs k x (f x) l)
 
+pub length-mapped_twice : {A B C : Type 0} (f : A → B) (g : B → C) (xs : List A)
+    → length (map g (map f xs)) ≡ length xs
+length-mapped_twice f g xs = length-map (map f xs) g ∙ length-map xs f
+
+pub mapped_twice_is : {A B C : Type 0} (f : A → B) (g : B → C) (xs : List A) (k : ℕ) {x : A} (d : C)
+    → k < length xs → x ≡ get_or xs k x → g (f x) ≡ get_or (map g (map f xs)) k d
+mapped_twice_is f g xs k {x = x} d l is =
+    ap g (mapped_is f xs k x l is)
+    ∙ sym (get_or-map g (map f xs) k (f x) d (omega (arith, l, length-map xs f)))
+
 -- what is known of an answer that is there, or that isn't
 pub of_some : {T : Type 0} (o : Option T) (x : T) (P : Type 0) (Q : T → Type 0) → o ≡ Some x
     → MatchOption o P Q → Q x

@@ -1,7 +1,9 @@
 -- Openings that are good have none of the faults.
 use Rattle.std.proofs.Common.{◌≡◌, ◌≢◌, ℕ, zero, suc, ◌<◌, List, [], ◌∷◌, length, map, All}
-use Rattle.std.proofs.Common.{get_or, subst, refl, sym, ap, ◌∙◌, arith}
+use Rattle.std.proofs.Common.{get_or, subst, refl, sym, ap, ◌∙◌, arith, ◌↔◌, ◌⊎◌, inl, inr}
+use Rattle.std.proofs.Common.{Result, Err, IsOk}
 use Rattle.std.specs.List.{zip, AllZip}
+use Rattle.std.proofs.lemmas.Bool.{false≢true}
 use Rattle.std.proofs.lemmas.List.{length-map, get_or_default}
 use Rattle.p3_matrix.specs.declared.Dimensions.{Dimensions}
 use Rattle.p3_commit.specs.Batch.{HasShape}
@@ -130,10 +132,29 @@ module _ {F E InCom InPath A B : Type 0} (f : Fields F E) (log_blowup : ℕ) (al
     fault_refutes OutOfMemory n h = n refl
     fault_refutes _ n h = absurd h
 
--- want of memory is never a wrong answer
-pub memory_stands : {F E InCom InPath A B : Type 0} (f : Fields F E) (log_blowup : ℕ) (alpha : E)
+-- a refusal for a fault is right, unless it is for want of memory
+pub fault_is_exact : {F E InCom InPath A B V : Type 0} (f : Fields F E) (log_blowup : ℕ) (alpha : E)
     (top : ℕ) (cs : List (CommitmentClaim E InCom)) (inputs : List (InputOpening F InPath))
-    (opens : Opening F InCom InPath) (positions : List ℕ) (e : FriError A B) → e ≡ OutOfMemory
+    (opens : Opening F InCom InPath)
+    → ((c : InCom) (dims : List Dimensions) (indices : List ℕ) (sets : List (List (List F)))
+    (path : InPath) → opens c dims indices sets path → HasShape dims indices sets)
+    → (positions : List ℕ) (e : FriError A B)
     → InputFault f log_blowup alpha top cs inputs opens positions e
-memory_stands f log_blowup alpha top cs inputs opens positions e is =
+    → let answer : Result V (FriError A B) = Err e in answer ≢ Err OutOfMemory
+    → IsOk answer ↔ AreInputsGood f log_blowup alpha top cs inputs opens positions
+fault_is_exact f log_blowup alpha top cs inputs opens shape positions e fault n = (
+  λ ok. absurd (false≢true ok),
+  λ good. absurd (fault_refutes f log_blowup alpha top cs inputs opens shape positions good e
+      (λ q. n (ap (λ e. Err e) q)) fault),
+)
+
+-- want of memory is never a wrong answer, and a fault at each challenge is one at this
+pub stands : {F E InCom InPath A B : Type 0} (f : Fields F E) (log_blowup : ℕ) (alpha : E)
+    (top : ℕ) (cs : List (CommitmentClaim E InCom)) (inputs : List (InputOpening F InPath))
+    (opens : Opening F InCom InPath) (positions : List ℕ) (e : FriError A B)
+    → (e ≡ OutOfMemory)
+    ⊎ ((alpha : E) → InputFault f log_blowup alpha top cs inputs opens positions e)
+    → InputFault f log_blowup alpha top cs inputs opens positions e
+stands f log_blowup alpha top cs inputs opens positions e (inl is) =
     subst (InputFault f log_blowup alpha top cs inputs opens positions) (sym is) tt
+stands f log_blowup alpha top cs inputs opens positions e (inr wrong) = wrong alpha

@@ -128,7 +128,19 @@ module _ {F E D : Type 0} (f : Fields F E) (p : Parameters)
       all_same seen round_request asked rounds (sym looks)
       (λ v. All (HasPointsOff f) (both ask v.datum v.points)) off
 
--- a round that is made of one request, which stands at a place of a list
+-- a round that is made of one request may be opened
+pub round_here : {F E D : Type 0} (adicity : ℕ) (committed : D → List (RowMajorMatrix F))
+    (round : OpeningRound F E) (r : OpeningRequest D E)
+    → round_request round ≡ matrices_request committed r
+    → length (request r).points ≡ length (committed (request r).datum)
+    → All (HasCoset adicity) (committed (request r).datum) → IsRound adicity round
+round_here adicity committed round r same count cosets = record {
+  lists_of_points = sym (length-map round.points.now (λ v. v.items))
+      ∙ ap (λ v. length v.points) same ∙ count ∙ sym (ap (λ v. length v.datum) same);
+  cosets = subst (λ v. All (HasCoset adicity) v.datum) (sym same) cosets;
+}
+
+-- and stands at a place of a list
 module _ {F E D : Type 0} (f : Fields F E) (committed : D → List (RowMajorMatrix F))
     (round : OpeningRound F E) (r : OpeningRequest D E)
     (same : round_request round ≡ matrices_request committed r) where

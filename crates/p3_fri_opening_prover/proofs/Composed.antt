@@ -2,7 +2,7 @@
 use Rattle.std.proofs.Common.{◌≡◌, ◌<◌, ◌≤◌, ◌+◌, ℕ, List, [], ◌∷◌, map, length, All, refl}
 use Rattle.std.proofs.Common.{sym, ap, ◌∙◌, subst}
 use Rattle.std.proofs.Common.{Result, Ok, Err}
-use Rattle.std.specs.Prelude.{IfErr}
+use Rattle.std.specs.Prelude.{IfOk, IfErr}
 use Rattle.std.specs.List.{AllZip}
 use Rattle.std.proofs.lemmas.List.{length-map}
 use Rattle.algebra.specs.Nested.{joined}
@@ -36,16 +36,10 @@ use Rattle.p3_fri_opening_prover.specs.Opening.{heights, top, words, batch}
 use Rattle.p3_fri_opening_prover.specs.Opening.{IsOpening, OpeningStops}
 use Rattle.p3_fri_opening_prover.specs.Refusals.{PassesChecks, OpenRefusal, LeavesState}
 
--- what holds of a refusal by two facts
-pub if_err_both : {T X : Type 0} (r : Result T X) (P Q R : X → Type 0)
-    → ((e : X) → P e → Q e → R e) → IfErr r P → IfErr r Q → IfErr r R
-if_err_both (Ok y) P Q R f p q = tt
-if_err_both (Err e) P Q R f p q = f e p q
-
 -- the same of what is read of the data
-pub read_alike : {D B X Y : Type 0} (f : D → B) (g : X → D) (h : Y → D) (xs : List X) (ys : List Y)
+pub read_alike : {D B X Y : Type 0} (f : D → B) (xs : List X) (ys : List Y) (g : X → D) (h : Y → D)
     → map g xs ≡ map h ys → map (λ x. f (g x)) xs ≡ map (λ y. f (h y)) ys
-read_alike f g h xs ys same =
+read_alike f xs ys g h same =
     sym (map_twice f g xs) ∙ ap (λ ds. map f ds) same ∙ map_twice f h ys
 
 zip_mapped : {X D Z : Type 0} (g : X → D) (R : D → Z → Type 0) (xs : List X) (zs : List Z)
@@ -65,9 +59,9 @@ zip_unmapped g R (x ∷ xs) (z ∷ zs) h = (h.0, zip_unmapped g R xs zs h.1)
 -- the same data, seen in other lists
 module _ {F E C Com Path InCom InPath D X Y : Type 0} (s : Setting F E C Com Path InCom InPath)
     (p : Parameters) (ms : List (Opened F E)) (values : List (List (List (List E)))) (c : C)
-    (committed : D → List (RowMajorMatrix F)) (commitment_of : D → InCom) (g : X → D) (h : Y → D)
-    (xs : List X) (ys : List Y) (same : map g xs ≡ map h ys) (proof : Proof F E Com Path InPath)
-    (last : C) where
+    (committed : D → List (RowMajorMatrix F)) (commitment_of : D → InCom) (xs : List X)
+    (ys : List Y) (g : X → D) (h : Y → D) (same : map g xs ≡ map h ys)
+    (proof : Proof F E Com Path InPath) (last : C) where
   abbrev drawn : BatchReplay C E
   drawn = batch s p ms values c proof.batch_witness
 
@@ -93,10 +87,19 @@ module _ {F E C Com Path InCom InPath D X Y : Type 0} (s : Setting F E C Com Pat
     };
   }
 
-module _ {F E D C Com Path InCom InPath Domain : Type 0} (s : Setting F E C Com Path InCom InPath)
-    (p : Parameters) (committed : D → List (RowMajorMatrix F)) (commitment_of : D → InCom)
-    (log_size : Domain → ℕ) (rounds : List (OpeningRound F E))
-    (requests : List (OpeningRequest D E)) (c : C)
+-- a verifier accepts each proof of all claims that fit, and is left in the state `last`
+pub record AllVerify {F E C Com Path InCom InPath T X Domains : Type 0}
+    (s : Setting F E C Com Path InCom InPath) (p : Parameters) (r : Result T X)
+    (view : T → Proof F E Com Path InPath) (Fits : Domains → Type 0)
+    (claims : Domains → List (CommitmentClaim E InCom)) (c last : C) : Type 0 where
+  pub accepted : IfOk r (λ o. (ds : Domains) → Fits ds → Accepts s p (claims ds) (view o) c)
+  pub state : IfOk r (λ o. (ds : Domains) → Fits ds
+      → last ≡ (test_replay s p (claims ds) (view o)
+      (batch_replayed s p (claims ds) (view o) c).state).state)
+
+module _ {F E D C Com Path InCom InPath : Type 0} (s : Setting F E C Com Path InCom InPath)
+    (p : Parameters) (committed : D → List (RowMajorMatrix F)) (rounds : List (OpeningRound F E))
+    (requests : List (OpeningRequest D E))
     (rounds_are : map round_request rounds ≡ map (matrices_request committed) requests) where
   abbrev asked : List (Request D E)
   asked = map request requests
@@ -107,12 +110,17 @@ module _ {F E D C Com Path InCom InPath Domain : Type 0} (s : Setting F E C Com 
   abbrev honest : List (List (List (List E)))
   honest = map (honest_values (held_of s.fields committed p.log_blowup)) asked
 
-  pub values_are_honest : values ≡ honest
+  values_are_honest : values ≡ honest
   values_are_honest = values_by_request s.fields p.log_blowup committed rounds requests rounds_are
+
+  pub all_honest : {T X : Type 0} (r : Result T X) (view : T → List (List (List (List E))))
+      → IfOk r (λ o. view o ≡ values) → IfOk r (λ o. view o ≡ honest)
+  all_honest (Ok o) view is = is ∙ values_are_honest
+  all_honest (Err e) view is = tt
 
   -- what stops an opening of the rounds
   module _ {Data : Type 0} (committed_in_test : Data → List (RowMajorMatrix E))
-      (commitment_in_test : Data → Com) where
+      (commitment_in_test : Data → Com) (c : C) where
     abbrev Stops : List (Opened F E) → List (List (List (List E))) → FriProverError → Type 0
     Stops ms ys e = OpeningStops s p ms ys c committed_in_test commitment_in_test e
 
@@ -124,21 +132,26 @@ module _ {F E D C Com Path InCom InPath Domain : Type 0} (s : Setting F E C Com 
         (subst (λ oss. Stops (joined oss) values e)
         (opened_by_request s.fields p.log_blowup committed rounds requests rounds_are) h)
 
-    -- is why it is refused
-    pub refused_asked : (e : FriProverError) → PassesChecks s.fields p committed asked
-        → Stops (opened_of rounds values) values e → ¬ LeavesState e
-        → OpenRefusal s p committed committed_in_test commitment_in_test c asked e
+    abbrev Refused : FriProverError → Type 0
+    Refused e = OpenRefusal s p committed committed_in_test commitment_in_test c asked e
+
+    refused_asked : (e : FriProverError) → PassesChecks s.fields p committed asked
+        → Stops (opened_of rounds values) values e → ¬ LeavesState e → Refused e
     refused_asked OutOfMemory passes h not = passes
     refused_asked (NoPowWitness phase) passes h not = (passes, stops_asked (NoPowWitness phase) h)
     refused_asked (InputHeightTooSmall a b) passes h not = absurd (not tt)
     refused_asked FinalHeightOverflow passes h not = absurd (not tt)
     refused_asked (PointInEvaluationDomain a b d) passes h not = absurd (not tt)
 
+    -- is why it is refused
+    pub all_refused : {T : Type 0} (r : Result T FriProverError)
+        → PassesChecks s.fields p committed asked → IfErr r (Stops (opened_of rounds values) values)
+        → IfErr r (λ e. ¬ LeavesState e) → IfErr r Refused
+    all_refused (Ok o) passes h not = tt
+    all_refused (Err e) passes h not = refused_asked e passes h not
+
   -- an opening of honest requests
-  module _ (proof : Proof F E Com Path InPath) (last : C)
-      (opening : IsOpening s p (opened_of rounds values) values c
-      (λ (r : OpeningRequest D E). committed r.prover_data.now)
-      (λ (r : OpeningRequest D E). commitment_of r.prover_data.now) requests proof last)
+  module _ {Domain : Type 0} (commitment_of : D → InCom) (log_size : Domain → ℕ)
       (laws : AreTwoAdic s.fields)
       (fit : (bits : ℕ) → bits ≤ s.fields.two_adicity + s.extra_bits → DrawsFit s.moves bits)
       (some_query : 0 < p.num_queries) (some_blowup : 0 < p.log_blowup)
@@ -146,32 +159,37 @@ module _ {F E D C Com Path InCom InPath Domain : Type 0} (s : Setting F E C Com 
       (openable : AreOpenable (λ d. All (HasCoset s.fields.two_adicity) (committed d))
       (held_of s.fields committed p.log_blowup) asked)
       (are_honest : AreHonest (λ d. All (HoldsWords s.fields p.log_blowup) (committed d)) asked)
-      (passes : PassesChecks s.fields p committed asked)
-      (domains : List (List Domain))
-      (domains_fit : Fit s.fields p committed commitment_of log_size domains asked) where
+      (passes : PassesChecks s.fields p committed asked) (c last : C) where
+    abbrev claims : List (List Domain) → List (CommitmentClaim E InCom)
+    claims domains = relation_claims log_size
+        (honest_claims (held_of s.fields committed p.log_blowup) commitment_of domains asked)
+
     abbrev opened : List (Opened F E)
     opened = opened_of rounds values
 
-    abbrev alpha : E
-    alpha = (batch s p opened values c proof.batch_witness).alpha
+    abbrev IsOpened : Proof F E Com Path InPath → Type 0
+    IsOpened proof = IsOpening s p opened values c
+        (λ (r : OpeningRequest D E). committed r.prover_data.now)
+        (λ (r : OpeningRequest D E). commitment_of r.prover_data.now) requests proof last
 
-    abbrev claims : List (CommitmentClaim E InCom)
-    claims = relation_claims log_size
-        (honest_claims (held_of s.fields committed p.log_blowup) commitment_of domains asked)
+    abbrev alpha : Proof F E Com Path InPath → E
+    alpha proof = (batch s p opened values c proof.batch_witness).alpha
 
-    -- is accepted
-    pub asked_accepted : Accepts s p claims proof c
-    asked_accepted = opening_accepted s p committed commitment_of log_size rounds requests values c
-        proof last laws fit some_query some_blowup some_arity openable are_honest passes.heights
-        passes.points rounds_are refl opening.tested.passes opening.canonical (top s.fields opened)
-        (words s.fields opened alpha) refl refl opening.tested.proved opening.tested.inputs domains
-        domains_fit
-
-    -- and leaves a verifier in the prover's last state
-    pub asked_state : last ≡ (test_replay s p claims proof
-        (batch_replayed s p claims proof c).state).state
-    asked_state = sym (opening_last_state s p committed commitment_of log_size rounds requests
-        values c proof last laws fit some_query some_blowup some_arity openable are_honest
-        passes.heights passes.points rounds_are refl opening.tested.passes opening.canonical
-        (top s.fields opened) (words s.fields opened alpha) refl refl opening.tested.proved
-        opening.tested.inputs domains domains_fit)
+    -- is accepted, and leaves a verifier in the prover's last state
+    pub all_verify : {T X : Type 0} (r : Result T X) (view : T → Proof F E Com Path InPath)
+        → IfOk r (λ o. IsOpened (view o))
+        → AllVerify s p r view (λ ds. Fit s.fields p committed commitment_of log_size ds asked)
+        claims c last
+    all_verify (Ok o) view opening = record {
+      accepted = λ domains fits. opening_accepted s p committed commitment_of log_size rounds
+          requests values c (view o) last laws fit some_query some_blowup some_arity openable
+          are_honest passes.heights passes.points rounds_are refl opening.tested.passes
+          opening.canonical (top s.fields opened) (words s.fields opened (alpha (view o))) refl refl
+          opening.tested.proved opening.tested.inputs domains fits;
+      state = λ domains fits. sym (opening_last_state s p committed commitment_of log_size rounds
+          requests values c (view o) last laws fit some_query some_blowup some_arity openable
+          are_honest passes.heights passes.points rounds_are refl opening.tested.passes
+          opening.canonical (top s.fields opened) (words s.fields opened (alpha (view o))) refl refl
+          opening.tested.proved opening.tested.inputs domains fits);
+    }
+    all_verify (Err e) view opening = record { accepted = tt; state = tt }

@@ -25,9 +25,9 @@ use Rattle.p3_fri_batch.specs.Words.{Opened}
 use Rattle.p3_fri_prover.specs.Openings.{OpensBatch}
 use Rattle.p3_fri_prover.specs.Proved.{positions, IsProved}
 use Rattle.p3_fri_prover.specs.Prover.{ProverRefusal}
-use Rattle.p3_fri_opening_prover.specs.Opening.{counts_of, all_of, heights, top, words, numbers}
-use Rattle.p3_fri_opening_prover.specs.Opening.{absorbed, batch, GoesOn, IsOpening, StopsInTest}
-use Rattle.p3_fri_opening_prover.specs.Opening.{OpeningStops}
+use Rattle.p3_fri_opening_prover.specs.Opening.{counts_of, all_of, heights, top, words}
+use Rattle.p3_fri_opening_prover.specs.Opening.{absorbed, batch, GoesOn, IsOpening, OpeningStops}
+use Rattle.p3_fri_opening_prover.proofs.Refused.{stops}
 
 -- values in vectors, and the same as lists
 module _ {E : Type 0} where
@@ -59,64 +59,92 @@ module _ {E : Type 0} where
       ∙ ap₂ (λ xs ys. xs ++ ys) (values_in matrices.items) (all_same vectors)
 
 -- where no witness passes, there are bits
-pub bits_asked : {C W : Type 0} (observe : C → W → C) (draw_bits : C → ℕ → After C ℕ) (c : C)
+bits_asked : {C W : Type 0} (observe : C → W → C) (draw_bits : C → ℕ → After C ℕ) (c : C)
     (bits : ℕ) (witness : W) → NonePasses observe draw_bits c bits → 0 < bits
 bits_asked observe draw_bits c zero witness none = absurd (none witness refl)
 bits_asked observe draw_bits c (suc bits) witness none = omega arith
 
--- the witness that is sent is zero at no bits
-pub none_at_no_bits : {C W : Type 0} (solution : C → ℕ → Option W) (c : C) (bits : ℕ)
-    (found : Option W) (zero_witness : W) → found ≡ found_witness solution c bits → bits ≡ 0
-    → unwrap_or found zero_witness ≡ zero_witness
-none_at_no_bits solution c bits found zero_witness is unasked =
-    ap (λ o. unwrap_or o zero_witness) (is ∙ ap (λ b. found_witness solution c b) unasked)
+module _ {F E C Com Path InCom InPath : Type 0} (s : Setting F E C Com Path InCom InPath)
+    (p : Parameters) (ms : List (Opened F E)) (values : List (List (List (List E)))) (c : C) where
+  -- the state once the values are absorbed, and how many bits the transcript asks for then
+  pub record IsClaimed (claimed : C) (bits : ℕ) : Type 0 where
+    pub absorbs : claimed ≡ absorbed s p ms values c
+    pub asks : bits ≡ p.batch_pow_bits
 
+  -- the work passes with the witness, and the challenger is lent after the challenge
+  pub record IsDrawn (witness : F) (alpha : E) (lent : C) : Type 0 where
+    pub is : batch s p ms values c witness ≡ record { passes = true; alpha = alpha; state = lent }
+
+-- once the values are claimed
 module _ {F E C Com Path InCom InPath : Type 0} (s : Setting F E C Com Path InCom InPath)
     (p : Parameters) (ms : List (Opened F E))
-    (vectors : List (Vec (Vec (Vec E Global) Global) Global)) (c : C) (described : PcsNumbers)
-    (started claimed : C)
-    (is_described : described
-    ≡ record { counts = counts_of_values vectors; batch_pow_bits = p.batch_pow_bits })
-    (begun : started ≡ bytes_observed s.fields.base s.moves.observe_value c
-    (pcs_stream s.fields.degree described))
-    (observed : claimed ≡ observed_all s.moves.observe_value started
-    (flat_map s.fields.coefficients (all_values vectors))) where
-  abbrev values : List (List (List (List E)))
-  values = opened_values vectors
-
+    (vectors : List (Vec (Vec (Vec E Global) Global) Global)) (c : C) where
   numbered : List (List (List ℕ)) → PcsNumbers
   numbered counts = record { counts = counts; batch_pow_bits = p.batch_pow_bits }
 
-  numbers_are : described ≡ numbers s p ms values c
+  pub is_claimed : (described begun_with left : PcsNumbers) (stream : List ℕ) (started claimed : C)
+      → described
+      ≡ record { counts = counts_of_values vectors; batch_pow_bits = p.batch_pow_bits }
+      → begun_with ≡ described → left ≡ begun_with
+      → stream ≡ pcs_stream s.fields.degree described
+      → started ≡ bytes_observed s.fields.base s.moves.observe_value c stream
+      → claimed ≡ observed_all s.moves.observe_value started
+      (flat_map s.fields.coefficients (all_values vectors))
+      → IsClaimed s p ms (opened_values vectors) c claimed left.batch_pow_bits
   unfolding numbered
-  numbers_are = is_described ∙ ap numbered (counts_same vectors)
+  is_claimed described begun_with left stream started claimed is_described begins keeps streams
+      begun observed = record {
+        absorbs = observed
+            ∙ ap₂ (λ (t : C) ys. observed_all s.moves.observe_value t
+            (flat_map s.fields.coefficients ys))
+            (begun ∙ ap (λ bytes. bytes_observed s.fields.base s.moves.observe_value c bytes)
+            (streams ∙ ap (λ n. pcs_stream s.fields.degree n)
+            (is_described ∙ ap numbered (counts_same vectors))))
+            (all_same vectors);
+        asks = ap (λ (n : PcsNumbers). n.batch_pow_bits) (keeps ∙ begins ∙ is_described);
+      }
 
-  pub absorbed_is : claimed ≡ absorbed s p ms values c
-  absorbed_is =
-      observed
-      ∙ ap₂ (λ (t : C) ys. observed_all s.moves.observe_value t (flat_map s.fields.coefficients ys))
-      (begun ∙ ap (λ n. bytes_observed s.fields.base s.moves.observe_value c
-      (pcs_stream s.fields.degree n)) numbers_are)
-      (all_same vectors)
+module _ {F E C Com Path InCom InPath : Type 0} {s : Setting F E C Com Path InCom InPath}
+    {p : Parameters} {ms : List (Opened F E)} {values : List (List (List (List E)))} {c : C} where
+  module _ {claimed : C} {bits : ℕ} (claims : IsClaimed s p ms values c claimed bits) where
+    pub is_drawn : (witness sent : F) (alpha : E) (after lent : C) → witness ≡ sent
+        → batch_replay s.moves bits claimed sent
+        ≡ record { passes = true; alpha = alpha; state = after } → lent ≡ after
+        → IsDrawn s p ms values c witness alpha lent
+    unfolding claims_replay
+    is_drawn witness sent alpha after lent carried replayed given = record {
+      is = ap (λ (t : C). shown_batch_replay s.moves p.batch_pow_bits t (Some witness))
+          (sym claims.absorbs)
+          ∙ ap₂ (λ n w. batch_replay s.moves n claimed w) (sym claims.asks) carried
+          ∙ replayed ∙ ap (λ (t : C). record { passes = true; alpha = alpha; state = t })
+          (sym given);
+    }
 
-  pub batch_is : (witness : F) → batch s p ms values c witness
-      ≡ batch_replay s.moves p.batch_pow_bits claimed witness
-  unfolding claims_replay
-  batch_is witness =
-      ap (λ (t : C). shown_batch_replay s.moves p.batch_pow_bits t (Some witness)) (sym absorbed_is)
+    -- the witness that is sent is zero at no bits
+    pub zero_at_no_bits : (solution : C → ℕ → Option F) (found : Option F) (witness : F)
+        → witness ≡ unwrap_or found s.fields.base.zero → found ≡ found_witness solution claimed bits
+        → p.batch_pow_bits ≡ 0 → witness ≡ s.fields.base.zero
+    zero_at_no_bits solution found witness carried is none =
+        carried ∙ ap (λ o. unwrap_or o s.fields.base.zero)
+        (is ∙ ap (λ n. found_witness solution claimed n) (claims.asks ∙ none))
 
-  -- where the work passes, and the challenger is lent in the state after the challenge
-  module _ (witness : F) (alpha : E) (after lent : C)
-      (drawn : batch_replay s.moves p.batch_pow_bits claimed witness
-      ≡ record { passes = true; alpha = alpha; state = after })
-      (given : lent ≡ after) where
-    abbrev found : BatchReplay C E
-    found = record { passes = true; alpha = alpha; state = lent }
+    -- where no witness passes
+    pub no_witness : {Data : Type 0} (committed : Data → List (RowMajorMatrix E))
+        (commitment_of : Data → Com) (e : FriProverError) → e ≡ NoPowWitness Batch
+        → NonePasses s.moves.observe_value s.moves.draw_bits claimed bits
+        → OpeningStops s p ms values c committed commitment_of e
+    no_witness committed commitment_of e is none =
+        let observe = s.moves.observe_value in
+        let draw_bits = s.moves.draw_bits in
+        subst (λ x. OpeningStops s p ms values c committed commitment_of x) (sym is) (
+          subst (λ n. 0 < n) claims.asks
+              (bits_asked observe draw_bits claimed bits s.fields.base.zero none),
+          subst (λ n. NonePasses observe draw_bits (absorbed s p ms values c) n) claims.asks
+              (subst (λ t. NonePasses observe draw_bits t bits) claims.absorbs none),
+        )
 
-    batch_found : batch s p ms values c witness ≡ found
-    batch_found = batch_is witness ∙ drawn
-        ∙ ap (λ (t : C). record { passes = true; alpha = alpha; state = t }) (sym given)
-
+  module _ {witness : F} {alpha : E} {lent : C}
+      (drawn : IsDrawn s p ms values c witness alpha lent) where
     -- it is an opening if the test goes on
     pub opening_made : {D : Type 0} (committed : D → List (RowMajorMatrix F))
         (commitment_of : D → InCom) (opened : List D) (proof : Proof F E Com Path InPath)
@@ -137,7 +165,7 @@ module _ {F E C Com Path InCom InPath : Type 0} (s : Setting F E C Com Path InCo
               (subst (λ w. GoesOn s p ms values c committed commitment_of opened proof tested
               (batch s p ms values c w)) (sym carried)
               (subst (λ r. GoesOn s p ms values c committed commitment_of opened proof tested r)
-              (sym batch_found)
+              (sym drawn.is)
               (record { passes = refl; proved = proved; inputs = inputs })));
         }
 
@@ -146,24 +174,12 @@ module _ {F E C Com Path InCom InPath : Type 0} (s : Setting F E C Com Path InCo
         (commitment_of : Data → Com) (e : FriProverError)
         → ProverRefusal s committed commitment_of p (heights s.fields ms) (top s.fields ms)
         (words s.fields ms alpha) lent e
-        → StopsInTest s p ms values c committed commitment_of e
-    stopped committed commitment_of e refused = record {
-      witness = witness;
-      passes = ap (λ (r : BatchReplay C E). r.passes) batch_found;
-      refused = subst (λ (r : BatchReplay C E). ProverRefusal s committed commitment_of p
-          (heights s.fields ms) (top s.fields ms) (words s.fields ms r.alpha) r.state e)
-          (sym batch_found) refused;
-    }
-
-  -- where no witness passes
-  pub no_witness : {Data : Type 0} (committed : Data → List (RowMajorMatrix E))
-      (commitment_of : Data → Com) (e : FriProverError) → e ≡ NoPowWitness Batch
-      → NonePasses s.moves.observe_value s.moves.draw_bits claimed p.batch_pow_bits
-      → OpeningStops s p ms values c committed commitment_of e
-  no_witness committed commitment_of e is none =
-      subst (λ x. OpeningStops s p ms values c committed commitment_of x) (sym is) (
-        bits_asked s.moves.observe_value s.moves.draw_bits claimed p.batch_pow_bits
-            s.fields.base.zero none,
-        subst (λ t. NonePasses s.moves.observe_value s.moves.draw_bits t p.batch_pow_bits)
-            absorbed_is none,
-      )
+        → OpeningStops s p ms values c committed commitment_of e
+    stopped committed commitment_of e refused =
+        stops s committed commitment_of p ms values c e (record {
+          witness = witness;
+          passes = ap (λ (r : BatchReplay C E). r.passes) drawn.is;
+          refused = subst (λ (r : BatchReplay C E). ProverRefusal s committed commitment_of p
+              (heights s.fields ms) (top s.fields ms) (words s.fields ms r.alpha) r.state e)
+              (sym drawn.is) refused;
+        })

@@ -1,5 +1,6 @@
 -- Why an opening stops, from why the test inside it does.
-use Rattle.std.proofs.Common.{◌<◌, ℕ, inl, inr, List, All, arith}
+use Rattle.std.proofs.Common.{◌<◌, ℕ, inl, inr, List, All, Result, Ok, Err, arith}
+use Rattle.std.specs.Prelude.{IfErr}
 use Rattle.p3_matrix.specs.declared.dense.RowMajorMatrix.{RowMajorMatrix}
 use Rattle.p3_fri_steps.specs.declared.error.FriProverError.{FriProverError}
 use Rattle.p3_fri_steps.specs.declared.error.FriProverError.TheVariants.{InputHeightTooSmall}
@@ -21,7 +22,7 @@ module _ {F E C Com Data Path InCom InPath : Type 0} (s : Setting F E C Com Path
     Refused e = ProverRefusal s committed commitment_of p heights top words c e
 
     -- of words that are tall enough, below 64, none is one of the checks
-    pub not_of_checks : All (IsTallEnough p) heights → All (λ h. h < 64) heights
+    not_of_checks : All (IsTallEnough p) heights → All (λ h. h < 64) heights
         → (e : FriProverError) → Refused e → ¬ LeavesState e
     not_of_checks tall below (InputHeightTooSmall h final) (inl r) leaves =
         let above = tall r.place 0 r.within r.cause.0 in
@@ -36,6 +37,12 @@ module _ {F E C Com Data Path InCom InPath : Type 0} (s : Setting F E C Com Path
     not_of_checks tall below (PointInEvaluationDomain a b d) (inr r) leaves = absurd r.1
     not_of_checks tall below (NoPowWitness phase) r leaves = absurd leaves
     not_of_checks tall below OutOfMemory r leaves = absurd leaves
+
+    -- nor of the refusals in a result
+    pub no_check_refused : {T : Type 0} → All (IsTallEnough p) heights → All (λ h. h < 64) heights
+        → (r : Result T FriProverError) → IfErr r Refused → IfErr r (λ e. ¬ LeavesState e)
+    no_check_refused tall below (Ok proof) h = tt
+    no_check_refused tall below (Err e) h = not_of_checks tall below e h
 
   -- what stops the test stops the opening
   module _ (ms : List (Opened F E)) (values : List (List (List (List E)))) (c : C) where

@@ -1,6 +1,7 @@
 -- Rounds that were played, and one more.
 use Rattle.std.proofs.Common.{◌≡◌, ℕ, zero, suc, ◌+◌, ◌-◌, ◌^◌, ◌<◌, ◌≤◌, List, [], ◌∷◌, ◌++◌}
-use Rattle.std.proofs.Common.{length, get_or, take, sum, Option, refl, sym, ap, ap₂, ◌∙◌, arith, subst, below_more}
+use Rattle.std.proofs.Common.{length, get_or, take, sum, Option, refl, sym, ap, ap₂, ◌∙◌, arith}
+use Rattle.std.proofs.Common.{subst, below_more}
 use Rattle.std.proofs.lemmas.List.Sums.{sum_by-append}
 use Rattle.std.proofs.lemmas.List.{take_more, length-append}
 use Rattle.algebra.specs.Field.{FieldOps}
@@ -18,7 +19,7 @@ use Rattle.p3_fri_steps.specs.declared.error.FriProverError.TheVariants.{OutOfMe
 use Rattle.p3_fri_steps.specs.declared.error.FriProverError.TheVariants.{PointInEvaluationDomain}
 use Rattle.p3_fri_steps.specs.declared.pow_phase.PowPhase.TheVariants.{Batch, CommitPhase, Query}
 use Rattle.p3_fri_prover.specs.Rounds.{CanFold, KeepsWord, IsRound, AreCommitted}
-use Rattle.p3_fri_prover.specs.Rounds.{IsRoundRefused, NoRoundWitness}
+use Rattle.p3_fri_prover.specs.Rounds.{IsRoundRefused}
 use Rattle.p3_fri_prover.specs.Refusals.{RoundRefusal, RoundsRefusal}
 use Rattle.p3_fri_prover.proofs.Ways.{total_of_rounds, sum-cons}
 use Rattle.p3_fri_prover.proofs.Pushes.{at_last, at_earlier, pushed_each}
@@ -32,7 +33,8 @@ rounds_more [] [] a b n = refl
 rounds_more [] (x ∷ betas) a b n = absurd (omega (arith, n))
 rounds_more (x ∷ arities) [] a b n = absurd (omega (arith, n))
 rounds_more (x ∷ arities) (y ∷ betas) a b n =
-    ap (λ rs. record { log_arity = x; beta = y } ∷ rs) (rounds_more arities betas a b (omega (arith, n)))
+    ap (λ rs. record { log_arity = x; beta = y } ∷ rs)
+    (rounds_more arities betas a b (omega (arith, n)))
 
 length-words : {E : Type 0} (F : FieldOps E) (fold : ℕ → ℕ → ℕ → E → List E → E)
     (inputs : ℕ → Option (List E)) (h : ℕ) (arities : List ℕ) (betas : List E) (ys : List E)
@@ -43,26 +45,29 @@ length-words F fold inputs h (a ∷ arities) [] ys n = absurd (omega (arith, n))
 length-words F fold inputs h (a ∷ arities) (b ∷ betas) ys n =
     ap suc (length-words F fold inputs (h - a) arities betas _ (omega (arith, n)))
 
+pub none_committed : {E Com Data C F : Type 0} {committed : Data → List (RowMajorMatrix E)}
+    {commitment_of : Data → Com} {m : Moves C F E Com} {bits : ℕ} {zero' : F} {ops : FieldOps E}
+    {fold : ℕ → ℕ → ℕ → E → List E → E} {inputs : ℕ → Option (List E)} {top : ℕ} {first : List E}
+    {start : C} {commitments : List Com} {witnesses : List F} {kept : List Data}
+    → commitments ≡ [] → witnesses ≡ [] → kept ≡ []
+    → AreCommitted committed commitment_of m bits zero' ops fold inputs top first start
+    [] commitments witnesses kept first start
+none_committed {m = m} {bits = bits} {start = start} {witnesses = witnesses} c w k = record {
+  betas = [];
+  drawn = refl;
+  commitments_made = ap length c;
+  witnesses_found = ap length w;
+  data_kept = ap length k;
+  replay = ap (λ cs. rounds_replay m bits start cs witnesses) c ∙ no_rounds m bits start witnesses;
+  canonical = λ _ i d l. absurd (omega (arith, l, ap length w));
+  words = λ i d e l. absurd (omega (arith, l));
+  last_word = refl;
+}
+
 module _ {E Com Data : Type 0} (committed : Data → List (RowMajorMatrix E))
     (commitment_of : Data → Com) {C F : Type 0} (m : Moves C F E Com) (bits : ℕ) (zero' : F)
     (ops : FieldOps E) (fold : ℕ → ℕ → ℕ → E → List E → E) (inputs : ℕ → Option (List E))
     (top : ℕ) (first : List E) (start : C) where
-  pub none_committed : (witnesses : List F) (commitments : List Com) (kept : List Data)
-      → commitments ≡ [] → witnesses ≡ [] → kept ≡ []
-      → AreCommitted committed commitment_of m bits zero' ops fold inputs top first start
-      [] commitments witnesses kept first start
-  none_committed witnesses commitments kept c w k = record {
-    betas = [];
-    drawn = refl;
-    commitments_made = ap length c;
-    witnesses_found = ap length w;
-    data_kept = ap length k;
-    replay = ap (λ cs. rounds_replay m bits start cs witnesses) c ∙ no_rounds m bits start witnesses;
-    canonical = λ _ i d l. absurd (omega (arith, l, ap length w));
-    words = λ i d e l. absurd (omega (arith, l));
-    last_word = refl;
-  }
-
   module _ (arities : List ℕ) (a : ℕ) (commitments : List Com) (witnesses : List F)
       (kept : List Data) (word : List E) (now : C)
       (so_far : AreCommitted committed commitment_of m bits zero' ops fold inputs top first start
@@ -73,7 +78,7 @@ module _ {E Com Data : Type 0} (committed : Data → List (RowMajorMatrix E))
     abbrev old_rounds : List (Round E)
     old_rounds = rounds_of arities so_far.betas
 
-    pub one_committed_more : (all_commitments : List Com) (all_witnesses : List F)
+    one_committed_more : (all_commitments : List Com) (all_witnesses : List F)
         (all_kept : List Data)
         → all_commitments ≡ commitments ++ commitment ∷ []
         → all_witnesses ≡ witnesses ++ witness ∷ [] → all_kept ≡ kept ++ datum ∷ []
@@ -88,8 +93,9 @@ module _ {E Com Data : Type 0} (committed : Data → List (RowMajorMatrix E))
           so_far.witnesses_found;
       data_kept = ap length ek ∙ same_length kept arities datum a so_far.data_kept;
       replay = ap₂ (λ xs ys. rounds_replay m bits start xs ys) ec ew
-          ∙ round_joined m bits start now after commitments witnesses so_far.betas commitment witness
-          next.beta (so_far.witnesses_found ∙ sym so_far.commitments_made) so_far.replay next.replay;
+          ∙ round_joined m bits start now after commitments witnesses so_far.betas commitment
+          witness next.beta (so_far.witnesses_found ∙ sym so_far.commitments_made) so_far.replay
+          next.replay;
       canonical = λ e k d l.
           pushed_each (λ j w. w ≡ zero') witnesses ws witness (length witnesses) refl ew
           (so_far.canonical e) (next.canonical e) k d
@@ -133,7 +139,8 @@ module _ {E Com Data : Type 0} (committed : Data → List (RowMajorMatrix E))
 
         keeps_as : (x x' : ℕ) (w w' : List E) (c c' : Com) (d d' : Data)
             → x' ≡ x → w' ≡ w → c' ≡ c → d' ≡ d
-            → KeepsWord committed commitment_of x w c d → KeepsWord committed commitment_of x' w' c' d'
+            → KeepsWord committed commitment_of x w c d
+            → KeepsWord committed commitment_of x' w' c' d'
         keeps_as x x' w w' c c' d d' e f g h k =
             subst (λ y. KeepsWord committed commitment_of y w' c' d') (sym e)
             (subst (λ y. KeepsWord committed commitment_of x y c' d') (sym f)
@@ -172,7 +179,9 @@ module _ {E Com Data : Type 0} (committed : Data → List (RowMajorMatrix E))
 -- how much of the log arities is left
 pub sum_next : (arities : List ℕ) (i : ℕ) → i < length arities
     → sum (take (i + 1) arities) ≡ sum (take i arities) + get_or arities i 0
-sum_next arities i l = ap sum (take_more arities i 0 l) ∙ sum_by-append (λ n. n) (take i arities) (get_or arities i 0 ∷ [])
+sum_next arities i l =
+    ap sum (take_more arities i 0 l)
+    ∙ sum_by-append (λ n. n) (take i arities) (get_or arities i 0 ∷ [])
     ∙ ap (λ n. sum (take i arities) + n) (sum-one (get_or arities i 0))
   where
     sum-one : (a : ℕ) → sum (a ∷ []) ≡ a
@@ -211,20 +220,65 @@ can_fold_next arities i top most n l s t e = record {
   within = omega (arith, s, t, sum_next arities i l, sum_taken arities (i + 1));
 }
 
-module _ {E Com Data : Type 0} (committed : Data → List (RowMajorMatrix E))
-    (commitment_of : Data → Com) {C F : Type 0} (m : Moves C F E Com) (bits : ℕ) (zero' : F)
-    (ops : FieldOps E) (fold : ℕ → ℕ → ℕ → E → List E → E) (inputs : ℕ → Option (List E))
-    (top : ℕ) (first : List E) (start : C) (arities : List ℕ) where
-  -- a refused round refuses the rounds
-  pub rounds_refused : (log_arity : ℕ) (word : List E) (before : C) (e : FriProverError)
-      → RoundRefusal committed commitment_of m bits log_arity word before e
-      → (IsRoundRefused committed commitment_of m bits log_arity word before
-      → NoRoundWitness committed commitment_of m bits zero' ops fold inputs top first start arities)
+-- after the first `i` rounds of these log arities
+module _ {E Com Data C F : Type 0} {committed : Data → List (RowMajorMatrix E)}
+    {commitment_of : Data → Com} {m : Moves C F E Com} {bits : ℕ} {zero' : F} {ops : FieldOps E}
+    {fold : ℕ → ℕ → ℕ → E → List E → E} {inputs : ℕ → Option (List E)} {top : ℕ} {first : List E}
+    {start : C} (arities : List ℕ) (i : ℕ) {commitments : List Com} {witnesses : List F}
+    {kept : List Data} {word : List E} {now : C}
+    (so_far : AreCommitted committed commitment_of m bits zero' ops fold inputs top first start
+    (take i arities) commitments witnesses kept word now) where
+  pub length_so_far : length first ≡ 2 ^ top → length word ≡ 2 ^ (top - sum (take i arities))
+  length_so_far whole =
+      word_so_far ops fold inputs top (take i arities) so_far.betas first word so_far.drawn whole
+      so_far.last_word
+
+  -- the next round is played, over as many bits
+  pub next_committed : {own : ℕ} {commitment : Com} {witness : F} {datum : Data} {folded : List E}
+      {after : C} {all_commitments : List Com} {all_witnesses : List F} {all_kept : List Data}
+      {last : List E} → i < length arities → own ≡ bits
+      → IsRound committed commitment_of m own zero' ops fold inputs
+      (top - sum (take i arities) - get_or arities i 0) (get_or arities i 0) word now commitment
+      witness datum folded after
+      → all_commitments ≡ commitments ++ commitment ∷ []
+      → all_witnesses ≡ witnesses ++ witness ∷ [] → all_kept ≡ kept ++ datum ∷ []
+      → last ≡ folded
+      → AreCommitted committed commitment_of m bits zero' ops fold inputs top first start
+      (take (i + 1) arities) all_commitments all_witnesses all_kept last after
+  next_committed {own} {commitment} {witness} {datum} {folded} {after} {all_commitments}
+      {all_witnesses} {all_kept} {last} below same_bits next ec ew ek is_last =
+      let a = get_or arities i 0 in
+      let Committed : List ℕ → List E → Type 0 = λ xs w.
+      AreCommitted committed commitment_of m bits zero' ops fold inputs top first start xs
+      all_commitments all_witnesses all_kept w after in
+      subst (λ xs. Committed xs last) (sym (take_more arities i 0 below))
+      (subst (λ w. Committed (take i arities ++ a ∷ []) w) (sym is_last)
+      (one_committed_more committed commitment_of m bits zero' ops fold inputs top first start
+      (take i arities) a commitments witnesses kept word now so_far commitment witness datum folded
+      after
+      (subst (λ b. IsRound committed commitment_of m b zero' ops fold inputs
+      (top - sum (take i arities) - a) a word now commitment witness datum folded after) same_bits
+      next) all_commitments all_witnesses all_kept ec ew ek))
+
+  -- or refused, which refuses the rounds
+  pub rounds_refused : {own : ℕ} → i < length arities → own ≡ bits → (e : FriProverError)
+      → RoundRefusal committed commitment_of m own (get_or arities i 0) word now e
       → RoundsRefusal committed commitment_of m bits zero' ops fold inputs top first start arities e
-  rounds_refused log_arity word before (NoPowWitness CommitPhase) r f = f r
-  rounds_refused log_arity word before (NoPowWitness Batch) r f = absurd r
-  rounds_refused log_arity word before (NoPowWitness Query) r f = absurd r
-  rounds_refused log_arity word before OutOfMemory r f = tt
-  rounds_refused log_arity word before FinalHeightOverflow r f = absurd r
-  rounds_refused log_arity word before (InputHeightTooSmall x y) r f = absurd r
-  rounds_refused log_arity word before (PointInEvaluationDomain x y z) r f = absurd r
+  rounds_refused below same_bits (NoPowWitness CommitPhase) refused = record {
+    played = i;
+    some_left = below;
+    commitments = commitments;
+    witnesses = witnesses;
+    kept = kept;
+    word = word;
+    reached = now;
+    committed_before = so_far;
+    refused = subst (λ b. IsRoundRefused committed commitment_of m b (get_or arities i 0) word now)
+        same_bits refused;
+  }
+  rounds_refused below same_bits (NoPowWitness Batch) refused = absurd refused
+  rounds_refused below same_bits (NoPowWitness Query) refused = absurd refused
+  rounds_refused below same_bits OutOfMemory refused = tt
+  rounds_refused below same_bits FinalHeightOverflow refused = absurd refused
+  rounds_refused below same_bits (InputHeightTooSmall x y) refused = absurd refused
+  rounds_refused below same_bits (PointInEvaluationDomain x y z) refused = absurd refused

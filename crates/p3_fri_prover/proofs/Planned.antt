@@ -6,74 +6,81 @@ use Rattle.p3_matrix.specs.declared.dense.RowMajorMatrix.{RowMajorMatrix}
 use Rattle.p3_challenger_core.specs.Run.{Moves}
 use Rattle.p3_fri_transcript.specs.Steps.{FriNumbers}
 use Rattle.p3_fri_relation.specs.Setting.{Fields, Parameters}
+use Rattle.p3_fri_relation.specs.TallEnough.{IsTallEnough}
 use Rattle.p3_fri_prover.specs.Inputs.{HaveHeights, AreInputs}
 use Rattle.p3_fri_prover.specs.Openings.{IsOpenable}
 use Rattle.p3_fri_prover.specs.Played.{CanPlay, IsPlayed}
 use Rattle.p3_fri_prover.specs.Proved.{log_arities, fri_numbers}
-use Rattle.p3_fri_relation.specs.TallEnough.{IsTallEnough}
-use Rattle.p3_fri_prover.proofs.Inputs.{some_word, first_word}
+use Rattle.p3_fri_prover.proofs.Inputs.{first_word}
 use Rattle.p3_fri_prover.proofs.Schedules.{arities_positive, arities_below_64, arities_playable}
 use Rattle.p3_fri_prover.proofs.Schedules.{final_polynomial_within}
 use Rattle.p3_fri_prover.proofs.Replayed.{positions_below}
 use Rattle.p3_fri_prover.proofs.PlayedRounds.{rounds_openable}
 
--- of a plan for inputs, whose log heights are only these
-module _ {E : Type 0} (p : Parameters) (top : ℕ) (inputs : List (List E))
-    (are : AreInputs top inputs) (capped : 0 < p.max_log_arity) (arities : List ℕ)
-    (planned : (heights : List ℕ) → HaveHeights heights inputs
-    → arities ≡ log_arities p heights top) where
-  here : arities ≡ log_arities p are.heights top
-  here = planned are.heights are.have
+-- indices without so many of their lowest bits
+abbrev pub places : (extra : ℕ) (indices : List ℕ) → List ℕ
+places extra indices = map (λ i. i / 2 ^ extra) indices
+
+-- the log arities and the numbers of a plan for inputs are those of all log heights that they have,
+-- which are tall enough
+pub record IsPlan {E : Type 0} (p : Parameters) (top extra : ℕ) (inputs : List (List E))
+    (arities : List ℕ) (numbers : FriNumbers) : Type 0 where
+  pub are : AreInputs top inputs
+  pub capped : 0 < p.max_log_arity
+  pub scheduled : (heights : List ℕ) → HaveHeights heights inputs
+      → arities ≡ log_arities p heights top
+  pub described : (heights : List ℕ) → HaveHeights heights inputs
+      → numbers ≡ fri_numbers p heights top extra
+  pub tall : (heights : List ℕ) → HaveHeights heights inputs → All (IsTallEnough p) heights
+
+pub first_input_length : {E : Type 0} {top : ℕ} {inputs : List (List E)} → AreInputs top inputs
+    → length (get_or inputs 0 []) ≡ 2 ^ top
+first_input_length {E} {top} {inputs} are =
+    first_word are.heights inputs top are.have are.some are.first
+
+module _ {E : Type 0} {p : Parameters} {top extra : ℕ} {inputs : List (List E)}
+    {arities : List ℕ} {numbers : FriNumbers}
+    (plan : IsPlan p top extra inputs arities numbers) where
+  here : arities ≡ log_arities p plan.are.heights top
+  here = plan.scheduled plan.are.heights plan.are.have
+
+  pub is_numbers : numbers ≡ fri_numbers p plan.are.heights top extra
+  is_numbers = plan.described plan.are.heights plan.are.have
+
+  pub scheduled_by_numbers : arities ≡ numbers.log_arities
+  scheduled_by_numbers = here ∙ sym (ap (λ (n : FriNumbers). n.log_arities) is_numbers)
 
   pub planned_positive : All (λ a. 0 < a) arities
   planned_positive = subst (λ xs. All (λ a. 0 < a) xs) (sym here)
-      (arities_positive p are.heights top are.falling are.first capped)
+      (arities_positive p plan.are.heights top plan.are.falling plan.are.first plan.capped)
 
   pub planned_below_64 : top < 64 → All (λ a. a < 64) arities
   planned_below_64 small = subst (λ xs. All (λ a. a < 64) xs) (sym here)
-      (arities_below_64 p are.heights top are.falling are.first small)
+      (arities_below_64 p plan.are.heights top plan.are.falling plan.are.first small)
 
-  pub some_input : 0 < length inputs
-  some_input = some_word are.heights inputs are.have are.some
+  pub planned_playable : (most : ℕ) → top ≤ most
+      → CanPlay arities p.log_final_poly_len most (length (get_or inputs 0 []))
+  planned_playable most small =
+      subst (λ xs. CanPlay xs p.log_final_poly_len most (length (get_or inputs 0 []))) (sym here)
+      (arities_playable p plan.are.heights top plan.are.falling plan.are.first plan.are.some
+      (plan.tall plan.are.heights plan.are.have) most (length (get_or inputs 0 [])) small
+      (first_input_length plan.are))
 
-  pub first_input_length : length (get_or inputs 0 []) ≡ 2 ^ top
-  first_input_length = first_word are.heights inputs top are.have are.some are.first
-
-  -- where each can be proved
-  module _ (tall : (heights : List ℕ) → HaveHeights heights inputs → All (IsTallEnough p) heights)
-    where
-      pub planned_playable : (most : ℕ) → top ≤ most
-          → CanPlay arities p.log_final_poly_len most (length (get_or inputs 0 []))
-      planned_playable most small =
-          subst (λ xs. CanPlay xs p.log_final_poly_len most (length (get_or inputs 0 [])))
-          (sym here)
-          (arities_playable p are.heights top are.falling are.first are.some
-          (tall are.heights are.have) most (length (get_or inputs 0 [])) small first_input_length)
-
-      pub planned_final_polynomial : (bound : ℕ) → top ≤ bound → p.log_final_poly_len ≤ bound
-      planned_final_polynomial bound small =
-          final_polynomial_within p are.heights top are.falling are.first are.some
-          (tall are.heights are.have) bound small
+  pub planned_final_polynomial : (bound : ℕ) → top ≤ bound → p.log_final_poly_len ≤ bound
+  planned_final_polynomial bound small =
+      final_polynomial_within p plan.are.heights top plan.are.falling plan.are.first plan.are.some
+      (plan.tall plan.are.heights plan.are.have) bound small
 
   -- what was played by it
-  module _ {F C Com Data : Type 0} (committed : Data → List (RowMajorMatrix E))
-      (commitment_of : Data → Com) (fields : Fields F E) (fold : ℕ → ℕ → ℕ → E → List E → E)
-      (m : Moves C F E Com) (extra : ℕ) (numbers : FriNumbers)
-      (described : (heights : List ℕ) → HaveHeights heights inputs
-      → numbers ≡ fri_numbers p heights top extra)
-      (seeded : C) (commitments : List Com) (witnesses : List F) (kept : List Data)
-      (final_poly : List E) (query_witness : F) (indices : List ℕ) (last : C)
+  module _ {F C Com Data : Type 0} {committed : Data → List (RowMajorMatrix E)}
+      {commitment_of : Data → Com} {fields : Fields F E} {fold : ℕ → ℕ → ℕ → E → List E → E}
+      {m : Moves C F E Com} {seeded : C} {commitments : List Com} {witnesses : List F}
+      {kept : List Data} {final_poly : List E} {query_witness : F} {indices : List ℕ} {last : C}
       (played : IsPlayed committed commitment_of fields fold m p.log_final_poly_len numbers top
       inputs seeded commitments witnesses kept final_poly query_witness indices last) where
-    abbrev places : List ℕ
-    places = map (λ i. i / 2 ^ extra) indices
-
-    is_numbers : numbers ≡ fri_numbers p are.heights top extra
-    is_numbers = described are.heights are.have
-
-    pub planned_positions : All (λ q. q < 2 ^ top) places
+    pub planned_positions : All (λ q. q < 2 ^ top) (places extra indices)
     planned_positions =
-        positions_below numbers top extra indices places
+        positions_below numbers top extra indices (places extra indices)
         (ap (λ (n : FriNumbers). n.index_bits) is_numbers) played.drawn refl
 
     pub planned_data : length kept ≡ length arities
@@ -81,12 +88,13 @@ module _ {E : Type 0} (p : Parameters) (top : ℕ) (inputs : List (List E))
         ∙ ap (λ (n : FriNumbers). length n.log_arities) is_numbers ∙ ap length (sym here)
 
     pub planned_openable : top < 64 → (k : ℕ) (datum : Data) → k < length arities
-        → IsOpenable arities places k (committed (get_or kept k datum))
+        → IsOpenable arities (places extra indices) k (committed (get_or kept k datum))
     planned_openable small =
         subst (λ xs. (k : ℕ) (datum : Data) → k < length xs
-        → IsOpenable xs places k (committed (get_or kept k datum))) (sym here)
-        (rounds_openable committed commitment_of fields fold m p are.heights top extra inputs seeded
-        are are.have capped commitments witnesses kept final_poly query_witness indices last
+        → IsOpenable xs (places extra indices) k (committed (get_or kept k datum))) (sym here)
+        (rounds_openable committed commitment_of fields fold m p plan.are.heights top extra inputs
+        seeded plan.are plan.are.have plan.capped commitments witnesses kept final_poly
+        query_witness indices last
         (subst (λ n. IsPlayed committed commitment_of fields fold m p.log_final_poly_len n top
         inputs seeded commitments witnesses kept final_poly query_witness indices last) is_numbers
-        played) places refl small)
+        played) (places extra indices) refl small)

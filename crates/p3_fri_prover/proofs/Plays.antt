@@ -38,14 +38,18 @@ lists_removed (v ∷ vectors) zero = refl
 lists_removed (v ∷ vectors) (suc k) = ap (λ vs. v.items ∷ vs) (lists_removed vectors k)
 
 -- the first of the inputs, and the others
-module _ {E A : Type 0} (inputs others : List (Vec E A)) (first : Vec E A)
-    (some : 0 < length inputs) (is_first : first ≡ get_or inputs 0 first)
-    (are_others : others ≡ remove inputs 0) where
+pub record AreSplit {E A : Type 0} (inputs others : List (Vec E A)) (first : Vec E A) : Type 0 where
+  pub some : 0 < length inputs
+  pub first_is : first ≡ get_or inputs 0 first
+  pub others_are : others ≡ remove inputs 0
+
+module _ {E A : Type 0} {inputs others : List (Vec E A)} {first : Vec E A}
+    (split : AreSplit inputs others first) where
   pub first_listed : get_or (lists inputs) 0 [] ≡ first.items
-  first_listed = list_at inputs 0 first some is_first
+  first_listed = list_at inputs 0 first split.some split.first_is
 
   pub others_listed : lists others ≡ remove (lists inputs) 0
-  others_listed = ap lists are_others ∙ lists_removed inputs 0
+  others_listed = ap lists split.others_are ∙ lists_removed inputs 0
 
   pub first_length : vec_len first ≡ length (get_or (lists inputs) 0 [])
   first_length = first.ok.0 ∙ ap length (sym first_listed)
@@ -72,11 +76,11 @@ module _ {E A : Type 0} (inputs others : List (Vec E A)) (first : Vec E A)
         fold (λ k. of_length (lists others) (2 ^ k)) top first.items seeded arities commitments
         witnesses kept word reached
 
-    pub all_committed : (commitments : List Com) (witnesses : List F) (kept : List Data)
-        (word : List E) (reached : C) → Rounds commitments witnesses kept word reached
+    pub all_committed : {commitments : List Com} {witnesses : List F} {kept : List Data}
+        {word : List E} {reached : C} → Rounds commitments witnesses kept word reached
         → AllCommitted committed commitment_of fields fold m l numbers top (lists inputs) seeded
         commitments witnesses kept word reached
-    all_committed commitments witnesses kept word reached rounds =
+    all_committed {commitments} {witnesses} {kept} {word} {reached} rounds =
         let P : List (List E) → List E → List ℕ → Type 0 =
         λ words ys as'. AreCommitted committed commitment_of m numbers.commit_pow_bits
         fields.base.zero fields.ext fold (λ k. of_length words (2 ^ k)) top ys seeded as'
@@ -103,22 +107,6 @@ module _ {E A : Type 0} (inputs others : List (Vec E A)) (first : Vec E A)
               (subst (λ words. P words first.items arities) others_listed none)),
         )
 
-    -- what is left of the first input is long enough for the final polynomial
-    pub last_word_long : (height : ℕ) → top ≡ height + sum arities → l ≤ height
-        → vec_len first ≡ 2 ^ top
-        → (commitments : List Com) (witnesses : List F) (kept : List Data) (word : List E)
-        (reached : C) → Rounds commitments witnesses kept word reached → 2 ^ l ≤ length word
-    last_word_long height is_top fits size commitments witnesses kept word reached rounds =
-        let left : top - sum arities ≡ height = omega (arith, is_top) in
-        omega (
-          arith,
-          pow_mono fits,
-          word_so_far fields.ext fold (λ k. of_length (lists others) (2 ^ k)) top arities
-              rounds.betas
-              first.items word rounds.drawn (sym first.ok.0 ∙ size) rounds.last_word
-              ∙ ap (λ k. 2 ^ k) left,
-        )
-
     -- a refusal of the rounds is one of the test
     pub rounds_stop : (e : FriProverError)
         → RoundsRefusal committed commitment_of m numbers.commit_pow_bits fields.base.zero
@@ -132,14 +120,28 @@ module _ {E A : Type 0} (inputs others : List (Vec E A)) (first : Vec E A)
     rounds_stop Why.OutOfMemory refused = tt
     rounds_stop (Why.PointInEvaluationDomain _ _ _) refused = absurd refused
 
-module _ {F E C Com Data : Type 0} (committed : Data → List (RowMajorMatrix E))
-    (commitment_of : Data → Com) (fields : Fields F E) (fold : ℕ → ℕ → ℕ → E → List E → E)
-    (m : Moves C F E Com) (l : ℕ) (numbers : FriNumbers) (top : ℕ) (words : List (List E))
-    (seeded : C) (commitments : List Com) (witnesses : List F) (kept : List Data) (word : List E)
-    (reached : C)
+module _ {F E C Com Data : Type 0} {committed : Data → List (RowMajorMatrix E)}
+    {commitment_of : Data → Com} (fields : Fields F E) {fold : ℕ → ℕ → ℕ → E → List E → E}
+    {m : Moves C F E Com} (l : ℕ) (numbers : FriNumbers) {top : ℕ} (words : List (List E))
+    {seeded : C} {commitments : List Com} {witnesses : List F} {kept : List Data} {word : List E}
+    {reached : C}
     (rounds : AllCommitted committed commitment_of fields fold m l numbers top words seeded
     commitments witnesses kept word reached) where
-  -- and so is a refusal of the queries after them
+  -- what is left of the first input is long enough for the final polynomial
+  pub last_word_long : (height : ℕ) → top ≡ height + sum numbers.log_arities → l ≤ height
+      → length (get_or words 0 []) ≡ 2 ^ top → 2 ^ l ≤ length word
+  last_word_long height is_top fits size =
+      let left : top - sum numbers.log_arities ≡ height = omega (arith, is_top) in
+      omega (
+        arith,
+        pow_mono fits,
+        word_so_far fields.ext fold (λ k. of_length (remove words 0) (2 ^ k)) top
+            numbers.log_arities rounds.betas (get_or words 0 []) word rounds.drawn size
+            rounds.last_word
+            ∙ ap (λ k. 2 ^ k) left,
+      )
+
+  -- a refusal of the queries after them is one of the test
   pub queries_stop : (final_poly : List E) (own : FriNumbers) (e : FriProverError)
       → final_poly ≡ polynomial_of committed commitment_of fields fold m l numbers top words seeded
       word

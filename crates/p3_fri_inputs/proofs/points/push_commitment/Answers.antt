@@ -2,7 +2,7 @@ use Rattle.std.proofs.Common.{◌≡◌, ◌≢◌, ◌++◌, ◌<◌, ◌∙◌
 use Rattle.std.proofs.Common.{All}
 use Rattle.std.proofs.lemmas.List.{length-map, get_or_read}
 use Rattle.algebra.specs.Field.{sub}
-use Rattle.p3_field_core.specs.declared.coset.TwoAdicMultiplicativeCoset.{TwoAdicMultiplicativeCoset as Coset}
+use Rattle.algebra.proofs.Growing.{joined_pushed, joined_end}
 use Rattle.p3_fri_relation.specs.Setting.{MatrixClaim}
 use Rattle.p3_fri_relation.specs.Heights.{log_height}
 use Rattle.p3_fri_relation.specs.Faults.{At}
@@ -10,113 +10,81 @@ use Rattle.p3_fri_relation.specs.Views.{matrix_claim, point_claim}
 use Rattle.p3_fri_inputs.specs.Claims.{IsApart}
 use Rattle.p3_fri_inputs.proofs.Places.{at_mapped, holds_next, holds_of_all, all_mapped_at}
 use Rattle.p3_fri_inputs.proofs.Places.{mapped_is, of_some, of_none}
-use Rattle.algebra.proofs.Growing.{joined_pushed, joined_end}
+use Rattle.p3_fri_inputs.proofs.points.push_commitment.Given.{Over}
+use Rattle.p3_fri_inputs.proofs.points.push_commitment.Goals.{After-index-matrix}
 use Rattle.p3_fri_inputs.proofs.points.push_commitment.Goals as goal
+
+-- a point is read for the matrix
+is_read : (g : Over) (c : After-index-matrix g)
+    → log_height c.args.log_blowup
+    (matrix_claim (λ domain. domain.log_size) c.index-matrix.result.now) < length c.args.read.now
+is_read g c =
+    all_mapped_at (matrix_claim (λ domain. domain.log_size))
+    (λ m. log_height c.args.log_blowup m < length c.args.read.now)
+    c.args.claim.now.matrices.items c.requires c.loop-k.k c.index-matrix.result.now
+    (omega (arith, c.args.claim.now.matrices.ok.0)) c.index-matrix.ensures
 
 pub overflow_add-x : goal.overflow_add-x
 overflow_add-x g c =
-    let size = λ (domain : Coset g.row.F.Denot g.row.F-Prepared.Denot g.F.TwoAdicField g.F.Field g.F.PartialEq g.F.Add g.F.Sub g.F.Mul g.F.Neg). domain.log_size in
-    let items = c.args.claim.now.matrices.items in
-    let f = matrix_claim size in
-    let ms = map f items in
-    let k = c.loop-k.k in
-    let b = c.args.log_blowup in
-    let read = λ (h : ℕ). g.EF.ExtensionField.lift (get_or c.args.read.now h g.F.Field.ops.zero) in
-    let r = c.index-matrix.result.now in
-    let is = c.index-matrix.ensures in
-    let below : k < length items = omega (arith, c.args.claim.now.matrices.ok.0) in
-    let m = f r in
-    let at = all_mapped_at f (λ m. log_height b m < length c.args.read.now) items c.requires k r below is in
-    omega (arith, at)
+    let below = is_read g (goal.at.overflow_add-x g c).After-index-matrix in
+    omega (arith, below)
 
 pub offset_bounds-read-matrix : goal.offset_bounds-read-matrix
 offset_bounds-read-matrix g c =
-    let size = λ (domain : Coset g.row.F.Denot g.row.F-Prepared.Denot g.F.TwoAdicField g.F.Field g.F.PartialEq g.F.Add g.F.Sub g.F.Mul g.F.Neg). domain.log_size in
-    let items = c.args.claim.now.matrices.items in
-    let f = matrix_claim size in
-    let ms = map f items in
-    let k = c.loop-k.k in
-    let b = c.args.log_blowup in
-    let read = λ (h : ℕ). g.EF.ExtensionField.lift (get_or c.args.read.now h g.F.Field.ops.zero) in
-    let r = c.index-matrix.result.now in
-    let is = c.index-matrix.ensures in
-    let below : k < length items = omega (arith, c.args.claim.now.matrices.ok.0) in
-    let m = f r in
-    let at = all_mapped_at f (λ m. log_height b m < length c.args.read.now) items c.requires k r below is in
-    omega (arith, at)
+    let below = is_read g (goal.at.offset_bounds-read-matrix g c).After-index-matrix in
+    omega (arith, below)
 
 pub bounds-read-matrix : goal.bounds-read-matrix
-bounds-read-matrix g c =
-    let size = λ (domain : Coset g.row.F.Denot g.row.F-Prepared.Denot g.F.TwoAdicField g.F.Field g.F.PartialEq g.F.Add g.F.Sub g.F.Mul g.F.Neg). domain.log_size in
-    let items = c.args.claim.now.matrices.items in
-    let f = matrix_claim size in
-    let ms = map f items in
-    let k = c.loop-k.k in
-    let b = c.args.log_blowup in
-    let read = λ (h : ℕ). g.EF.ExtensionField.lift (get_or c.args.read.now h g.F.Field.ops.zero) in
-    let r = c.index-matrix.result.now in
-    let is = c.index-matrix.ensures in
-    let below : k < length items = omega (arith, c.args.claim.now.matrices.ok.0) in
-    let m = f r in
-    let at = all_mapped_at f (λ m. log_height b m < length c.args.read.now) items c.requires k r below is in
-    at
+bounds-read-matrix g c = is_read g (goal.at.bounds-read-matrix g c).After-index-matrix
 
 pub returns-in-Some : goal.returns-in-Some
 returns-in-Some g c =
-    let size = λ (domain : Coset g.row.F.Denot g.row.F-Prepared.Denot g.F.TwoAdicField g.F.Field g.F.PartialEq g.F.Add g.F.Sub g.F.Mul g.F.Neg). domain.log_size in
-    let items = c.args.claim.now.matrices.items in
-    let f = matrix_claim size in
-    let ms = map f items in
-    let k = c.loop-k.k in
-    let b = c.args.log_blowup in
     let read = λ (h : ℕ). g.EF.ExtensionField.lift (get_or c.args.read.now h g.F.Field.ops.zero) in
-    let r = c.index-matrix.result.now in
-    let is = c.index-matrix.ensures in
-    let below : k < length items = omega (arith, c.args.claim.now.matrices.ok.0) in
-    let m = f r in
-    let at = all_mapped_at f (λ m. log_height b m < length c.args.read.now) items c.requires k r below is in
-    let x : g.EF.ExtensionField.lift c.index-read-matrix.result ≡ read (log_height b m) =
-    ap g.EF.ExtensionField.lift (get_or_read c.args.read.now (log_height b m) c.index-read-matrix.result
-    at c.index-read-matrix.is g.F.Field.ops.zero) in
-    let points : c.deref.result.now ≡ r.points.items = c.deref.ensures.value in
+    let b = c.args.log_blowup in
+    let matrix = c.index-matrix.result.now in
+    let m = matrix_claim (λ domain. domain.log_size) matrix in
+    let x = ap g.EF.ExtensionField.lift (get_or_read c.args.read.now (log_height b m)
+    c.index-read-matrix.result (is_read g (goal.at.returns-in-Some g c).After-index-matrix)
+    c.index-read-matrix.is g.F.Field.ops.zero) in
     let j = c.in-Some.point in
-    at_mapped f (λ m. At j (λ z. z.point ≡ read (log_height b m)) m.points) items k r below is
+    at_mapped (matrix_claim (λ domain. domain.log_size))
+    (λ m. At j (λ z. z.point ≡ read (log_height b m)) m.points) c.args.claim.now.matrices.items
+    c.loop-k.k matrix (omega (arith, c.args.claim.now.matrices.ok.0)) c.index-matrix.ensures
     (subst (λ y. At j (λ z. z.point ≡ y) m.points) x
     (subst (λ xs. At j (λ z. z.point ≡ g.EF.ExtensionField.lift c.index-read-matrix.result)
-    (map point_claim xs)) points
+    (map point_claim xs)) c.deref.ensures.value
     (of_some c.in_ok-point.field-0 j _ _ c.in-Some.is c.in_ok-point.ensures)))
 
 pub loop-k-preserved : goal.loop-k-preserved
 loop-k-preserved g c =
-    let size = λ (domain : Coset g.row.F.Denot g.row.F-Prepared.Denot g.F.TwoAdicField g.F.Field g.F.PartialEq g.F.Add g.F.Sub g.F.Mul g.F.Neg). domain.log_size in
-    let items = c.args.claim.now.matrices.items in
-    let f = matrix_claim size in
-    let ms = map f items in
-    let k = c.loop-k.k in
-    let b = c.args.log_blowup in
-    let read = λ (h : ℕ). g.EF.ExtensionField.lift (get_or c.args.read.now h g.F.Field.ops.zero) in
-    let r = c.index-matrix.result.now in
-    let is = c.index-matrix.ensures in
-    let below : k < length items = omega (arith, c.args.claim.now.matrices.ok.0) in
-    let m = f r in
-    let at = all_mapped_at f (λ m. log_height b m < length c.args.read.now) items c.requires k r below is in
-    let x : g.EF.ExtensionField.lift c.index-read-matrix.result ≡ read (log_height b m) =
-    ap g.EF.ExtensionField.lift (get_or_read c.args.read.now (log_height b m) c.index-read-matrix.result
-    at c.index-read-matrix.is g.F.Field.ops.zero) in
-    let points : c.deref.result.now ≡ r.points.items = c.deref.ensures.value in
     let K = g.EF.Field.ops in
+    let read = λ (h : ℕ). g.EF.ExtensionField.lift (get_or c.args.read.now h g.F.Field.ops.zero) in
+    let b = c.args.log_blowup in
+    let items = c.args.claim.now.matrices.items in
+    let k = c.loop-k.k in
+    let below : k < length items = omega (arith, c.args.claim.now.matrices.ok.0) in
+    let matrix = c.index-matrix.result.now in
+    let m = matrix_claim (λ domain. domain.log_size) matrix in
     let y = g.EF.ExtensionField.lift c.index-read-matrix.result in
+    let x = ap g.EF.ExtensionField.lift (get_or_read c.args.read.now (log_height b m)
+    c.index-read-matrix.result (is_read g (goal.at.loop-k-preserved g c).After-index-matrix)
+    c.index-read-matrix.is g.F.Field.ops.zero) in
+    let points = c.deref.ensures.value in
     let known = of_none c.in_ok-point.field-0 _ _ c.in_default.is c.in_ok-point.ensures in
     let old = c.loop-k.differences.items in
-    let distance = λ (m : MatrixClaim g.row.EF.Denot).
-    map (λ z. sub K z.point (read (log_height b m))) m.points in
     record {
-      apart = holds_next f (IsApart b read) items k r below is c.loop-k.invariant.apart
+      apart = holds_next (matrix_claim (λ domain. domain.log_size)) (IsApart b read) items k matrix
+          below c.index-matrix.ensures c.loop-k.invariant.apart
           (subst (λ y. All (λ z. z.point ≢ y) m.points) x
           (subst (λ xs. All (λ z. z.point ≢ y) (map point_claim xs)) points known.0));
-      pushed = joined_pushed distance ms k m c.args.differences.now.items old
-          c.push_distances.new.differences.items (omega (arith, below, length-map items f))
-          (mapped_is f items k r below is) c.loop-k.invariant.pushed
+      pushed = joined_pushed (λ (m : MatrixClaim g.row.EF.Denot).
+          map (λ z. sub K z.point (read (log_height b m))) m.points)
+          (map (matrix_claim (λ domain. domain.log_size)) items) k m
+          c.args.differences.now.items old c.push_distances.new.differences.items
+          (omega (arith, below, length-map items (matrix_claim (λ domain. domain.log_size))))
+          (mapped_is (matrix_claim (λ domain. domain.log_size)) items k matrix below
+          c.index-matrix.ensures)
+          c.loop-k.invariant.pushed
           (known.1
           ∙ ap (λ xs. old ++ map (λ z. sub K z.point y) (map point_claim xs)) points
           ∙ ap (λ y. old ++ map (λ z. sub K z.point y) m.points) x);
@@ -124,16 +92,16 @@ loop-k-preserved g c =
 
 pub returns : goal.returns
 returns g c =
-    let size = λ (domain : Coset g.row.F.Denot g.row.F-Prepared.Denot g.F.TwoAdicField g.F.Field g.F.PartialEq g.F.Add g.F.Sub g.F.Mul g.F.Neg). domain.log_size in
-    let items = c.args.claim.now.matrices.items in
-    let f = matrix_claim size in
-    let ms = map f items in
-    let k = c.loop-k.k in
-    let b = c.args.log_blowup in
     let read = λ (h : ℕ). g.EF.ExtensionField.lift (get_or c.args.read.now h g.F.Field.ops.zero) in
-    let distance = λ (m : MatrixClaim g.row.EF.Denot).
-    map (λ z. sub g.EF.Field.ops z.point (read (log_height b m))) m.points in (
-      holds_of_all f (IsApart b read) items k (omega (arith, c.args.claim.now.matrices.ok.0)) c.loop-k.invariant.apart,
-      joined_end distance ms k c.args.differences.now.items c.loop-k.differences.items
-          (omega (arith, c.args.claim.now.matrices.ok.0, length-map items f)) c.loop-k.invariant.pushed,
+    let b = c.args.log_blowup in
+    let items = c.args.claim.now.matrices.items in
+    let whole = c.args.claim.now.matrices.ok.0 in (
+      holds_of_all (matrix_claim (λ domain. domain.log_size)) (IsApart b read) items c.loop-k.k
+          (omega (arith, whole)) c.loop-k.invariant.apart,
+      joined_end (λ (m : MatrixClaim g.row.EF.Denot).
+          map (λ z. sub g.EF.Field.ops z.point (read (log_height b m))) m.points)
+          (map (matrix_claim (λ domain. domain.log_size)) items) c.loop-k.k
+          c.args.differences.now.items c.loop-k.differences.items
+          (omega (arith, whole, length-map items (matrix_claim (λ domain. domain.log_size))))
+          c.loop-k.invariant.pushed,
     )

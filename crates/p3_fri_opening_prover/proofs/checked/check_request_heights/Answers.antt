@@ -9,13 +9,12 @@ use Rattle.p3_fri_opening_prover.proofs.checked.check_request_heights.Goals as g
 
 pub check_round_heights-requires : goal.check_round_heights-requires
 check_round_heights-requires g c =
-    let committed = g.InputMmcs.Mmcs.committed in
     let n = g.F.TwoAdicField.TWO_ADICITY in
-    let cosets = mapped_at request c.args.requests.now c.loop-request.request-index
-    c.request-item.result c.loop-request-test.true c.request-item.is
-    (λ r. All (HasCoset n) (committed r.datum)) c.requires.cosets in
     record {
-      cosets = subst (λ ms. All (HasCoset n) ms) (sym c.get_matrices-matrices.ensures) cosets;
+      cosets = subst (λ ms. All (HasCoset n) ms) (sym c.get_matrices-matrices.ensures)
+          (mapped_at request c.args.requests.now c.loop-request.request-index
+          c.request-item.result c.loop-request-test.true c.request-item.is
+          (λ r. All (HasCoset n) (g.InputMmcs.Mmcs.committed r.datum)) c.requires.cosets);
     }
 
 pub returns-in-Err : goal.returns-in-Err
@@ -34,16 +33,14 @@ returns-in-Err g c =
 
 pub loop-request-preserved : goal.loop-request-preserved
 loop-request-preserved g c =
-    let committed = g.InputMmcs.Mmcs.committed in
     let p = parameters_of c.args.params.now in
     mapped_more request c.args.requests.now c.loop-request.request-index
     c.request-item.result c.loop-request-test.true c.request-item.is
-    (λ r. AreTallEnough p (committed r.datum)) c.loop-request.invariant
+    (λ r. AreTallEnough p (g.InputMmcs.Mmcs.committed r.datum)) c.loop-request.invariant
     (subst (λ ms. AreTallEnough p ms) c.get_matrices-matrices.ensures c.in_default.ensures)
 
 pub returns : goal.returns
 returns g c =
-    let committed = g.InputMmcs.Mmcs.committed in
-    let p = parameters_of c.args.params.now in
     mapped_end request c.args.requests.now c.loop-request.request-index
-    (λ r. AreTallEnough p (committed r.datum)) c.loop-request-test.false c.loop-request.invariant
+    (λ r. AreTallEnough (parameters_of c.args.params.now) (g.InputMmcs.Mmcs.committed r.datum))
+    c.loop-request-test.false c.loop-request.invariant

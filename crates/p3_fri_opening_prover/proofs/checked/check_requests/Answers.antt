@@ -20,27 +20,21 @@ fields_of g = record {
 }
 
 pub check_request_points-requires : goal.check_request_points-requires
-check_request_points-requires g c =
-    let committed = g.InputMmcs.Mmcs.committed in
-    let p = parameters_of c.args.params.now in
-    record {
-      cosets = c.requires.openable.data_openable;
-      points = points_counted (fields_of g) p committed (map request c.args.requests.now)
-          c.requires.openable.points;
-    }
+check_request_points-requires g c = record {
+  cosets = c.requires.openable.data_openable;
+  points = points_counted (fields_of g) (parameters_of c.args.params.now)
+      g.InputMmcs.Mmcs.committed (map request c.args.requests.now) c.requires.openable.points;
+}
 
 pub returns-in-Ok : goal.returns-in-Ok
 returns-in-Ok g c =
-    let committed = g.InputMmcs.Mmcs.committed in
-    let p = parameters_of c.args.params.now in
     let tall = c.in-Ok.ensures in
     MatchResult-weaker c.check_request_points.result c.check_request_points.ensures
     (λ u off. record { heights = tall; points = off })
-    (λ e on. on_refused (fields_of g) p committed (map request c.args.requests.now) tall e on)
+    (on_refused (fields_of g) (parameters_of c.args.params.now) g.InputMmcs.Mmcs.committed
+    (map request c.args.requests.now) tall)
 
 pub returns-in-Err : goal.returns-in-Err
 returns-in-Err g c =
-    let committed = g.InputMmcs.Mmcs.committed in
-    let p = parameters_of c.args.params.now in
-    low_refused (fields_of g) p committed (map request c.args.requests.now) c.in-Err.refusal
-    c.in-Err.ensures
+    low_refused (fields_of g) (parameters_of c.args.params.now) g.InputMmcs.Mmcs.committed
+    (map request c.args.requests.now) c.in-Err.refusal c.in-Err.ensures

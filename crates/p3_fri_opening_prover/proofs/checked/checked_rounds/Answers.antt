@@ -21,34 +21,26 @@ fields_of g = record {
 
 pub returns-in-Err-clause-refused : goal.returns-in-Err-clause-refused
 returns-in-Err-clause-refused g c =
-    let committed = g.InputMmcs.Mmcs.committed in
-    let p = parameters_of c.args.params.now in
-    gather_refused (fields_of g) p committed (map request c.args.requests.now)
-    c.in-Err.refusal c.in-Err.ensures
+    gather_refused (fields_of g) (parameters_of c.args.params.now) g.InputMmcs.Mmcs.committed
+    (map request c.args.requests.now) c.in-Err.refusal c.in-Err.ensures
 
 pub returns-in-Ok-rounds_of_requests-clause-are_rounds :
     goal.returns-in-Ok-rounds_of_requests-clause-are_rounds
 returns-in-Ok-rounds_of_requests-clause-are_rounds g c =
-    let committed = g.InputMmcs.Mmcs.committed in
-    let p = parameters_of c.args.params.now in
     let made = c.in-Ok-rounds_of_requests in
-    are_rounds (fields_of g) p committed made.rounds.items c.args.requests.now made.ensures
-    c.requires.openable
+    are_rounds (fields_of g) (parameters_of c.args.params.now) g.InputMmcs.Mmcs.committed
+    made.rounds.items c.args.requests.now made.ensures c.requires.openable
 
 pub returns-in-Ok-rounds_of_requests-clause-tall_enough :
     goal.returns-in-Ok-rounds_of_requests-clause-tall_enough
 returns-in-Ok-rounds_of_requests-clause-tall_enough g c =
-    let committed = g.InputMmcs.Mmcs.committed in
-    let p = parameters_of c.args.params.now in
     let made = c.in-Ok-rounds_of_requests in
-    tall_rounds (fields_of g) p committed made.rounds.items c.args.requests.now made.ensures
-    c.in-Ok.ensures.heights
+    tall_rounds (fields_of g) (parameters_of c.args.params.now) g.InputMmcs.Mmcs.committed
+    made.rounds.items c.args.requests.now made.ensures c.in-Ok.ensures.heights
 
 pub returns-in-Ok-rounds_of_requests-clause-off :
     goal.returns-in-Ok-rounds_of_requests-clause-off
 returns-in-Ok-rounds_of_requests-clause-off g c =
-    let committed = g.InputMmcs.Mmcs.committed in
-    let p = parameters_of c.args.params.now in
     let made = c.in-Ok-rounds_of_requests in
-    off_rounds (fields_of g) p committed made.rounds.items c.args.requests.now made.ensures
-    c.in-Ok.ensures.points
+    off_rounds (fields_of g) (parameters_of c.args.params.now) g.InputMmcs.Mmcs.committed
+    made.rounds.items c.args.requests.now made.ensures c.in-Ok.ensures.points

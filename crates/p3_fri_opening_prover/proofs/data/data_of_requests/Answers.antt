@@ -7,19 +7,17 @@ use Rattle.p3_fri_opening_prover.proofs.data.data_of_requests.Goals as goal
 
 pub loop-request-preserved : goal.loop-request-preserved
 loop-request-preserved g c =
-    let held = λ (r : OpeningRequest g.row.D.Denot g.row.EF.Denot). r.prover_data.now in
     let view = λ (d : opened.ProverDataWithOpeningPoints g.row.EF.Denot g.row.D.Denot).
     d.prover_data.now in
     let old = c.loop-request.found.items in
-    mapped_next held c.args.requests.now c.loop-request.request-index
-    c.request-item.result [] (map view old) (map view c.push.new.self.items)
-    c.loop-request-test.true c.request-item.is c.loop-request.invariant
+    mapped_next (λ (r : OpeningRequest g.row.D.Denot g.row.EF.Denot). r.prover_data.now)
+    c.args.requests.now c.loop-request.request-index c.request-item.result [] (map view old)
+    (map view c.push.new.self.items) c.loop-request-test.true c.request-item.is
+    c.loop-request.invariant
     (ap (λ ds. map view ds) c.in_ok-push.ensures.items ∙ map-append view old _)
 
 pub returns : goal.returns
 returns g c =
     mapped_end (λ (r : OpeningRequest g.row.D.Denot g.row.EF.Denot). r.prover_data.now)
-    c.args.requests.now c.loop-request.request-index []
-    (map (λ (d : opened.ProverDataWithOpeningPoints g.row.EF.Denot g.row.D.Denot).
-    d.prover_data.now)
+    c.args.requests.now c.loop-request.request-index [] (map (λ d. d.prover_data.now)
     c.loop-request.found.items) c.loop-request-test.false c.loop-request.invariant

@@ -1,35 +1,37 @@
-use Rattle.std.proofs.Common.{◌≡◌, ◌∙◌, map, sym, subst}
+use Rattle.std.proofs.Common.{◌≡◌, ◌∙◌, map, sym, ap, subst}
 use Rattle.std.specs.Prelude.{All}
 use Rattle.std.specs.List.{AllZip}
 use Rattle.p3_challenger_core.specs.Run.{moves}
-use Rattle.p3_pcs.specs.declared.requests.OpeningRequest.{OpeningRequest}
 use Rattle.p3_pcs.specs.Claims.{opened_values}
-use Rattle.p3_fri_relation.specs.Setting.{Setting}
+use Rattle.p3_fri_relation.specs.Setting.{Fields, Setting}
 use Rattle.p3_fri_relation.specs.Views.{parameters_of, proof_of}
 use Rattle.p3_fri_openings.specs.Denominators.{AreInverses, ArePointsCovered}
 use Rattle.p3_fri_batch.specs.Rounds.{HaveValues, opened_of}
 use Rattle.p3_fri_batch.proofs.Honest.{rounds_have_values}
-use Rattle.p3_fri_prover.specs.declared.prover.openings.ProverDataWithOpeningPoints as opened
 use Rattle.p3_fri_opening_prover.specs.Opening.{IsOpening}
 use Rattle.p3_fri_opening_prover.proofs.Composed.{read_alike, same_opening}
 use Rattle.p3_fri_opening_prover.proofs.open.open_checked.Given.{Over}
+use Rattle.p3_fri_opening_prover.proofs.open.open_checked.Goals.{After-deref-2}
 use Rattle.p3_fri_opening_prover.proofs.open.open_checked.Goals as goal
+
+abbrev fields_of : (g : Over) → Fields g.row.F.Denot g.row.EF.Denot
+fields_of g = record {
+  base = g.F.Field.ops;
+  ext = g.EF.Field.ops;
+  lift = g.EF.ExtensionField.lift;
+  coefficients = g.EF.ExtensionField.coefficients;
+  degree = g.EF.ExtensionField.DIMENSION;
+  root = g.F.TwoAdicField.root;
+  two_adicity = g.F.TwoAdicField.TWO_ADICITY;
+  shift = g.F.Field.GENERATOR;
+}
 
 -- what the layers below compute and accept, named once
 abbrev setting_at : (g : Over) → g.row.S.Denot → g.row.M.Denot → g.row.InputMmcs.Denot
     → Setting g.row.F.Denot g.row.EF.Denot g.row.C.Denot g.row.M-Commitment.Denot
     g.row.M-MultiProof.Denot g.row.InputMmcs-Commitment.Denot g.row.InputMmcs-MultiProof.Denot
 setting_at g folding mmcs input_mmcs = record {
-  fields = record {
-    base = g.F.Field.ops;
-    ext = g.EF.Field.ops;
-    lift = g.EF.ExtensionField.lift;
-    coefficients = g.EF.ExtensionField.coefficients;
-    degree = g.EF.ExtensionField.DIMENSION;
-    root = g.F.TwoAdicField.root;
-    two_adicity = g.F.TwoAdicField.TWO_ADICITY;
-    shift = g.F.Field.GENERATOR;
-  };
+  fields = fields_of g;
   fold = g.S.FriFoldingStrategy.row_fold folding;
   extra_bits = g.S.FriFoldingStrategy.extra_query_index_bits folding;
   moves = moves g.C.CanObserve-1.observed g.C.CanObserve-2.observed g.C.CanSample.sampled
@@ -39,43 +41,37 @@ setting_at g folding mmcs input_mmcs = record {
   opens_round = g.M.Mmcs.opens mmcs;
 }
 
+-- the data that are opened are those of the requests
+same : (g : Over) (c : After-deref-2 g) → map (λ d. d.prover_data.now) c.deref-2.result.now
+    ≡ map (λ r. r.prover_data.now) c.args.requests.now
+same g c =
+    ap (λ ds. map (λ d. d.prover_data.now) ds) c.deref-2.ensures.value
+    ∙ c.in-Ok-data_of_requests.ensures
+
 pub open_seeded-proved-requires-clause-values :
     goal.open_seeded-proved-requires-clause-values
 open_seeded-proved-requires-clause-values g c =
-    let s = setting_at g c.args.folding.now c.args.params.now.mmcs c.args.input_mmcs.now in
-    let p = parameters_of c.args.params.now in
-    let rounds = c.args.rounds.now in
-    subst (λ ys. AllZip HaveValues rounds ys) (sym c.in-Ok.ensures.values)
-    (rounds_have_values s.fields p.log_blowup rounds)
+    subst (λ ys. AllZip HaveValues c.args.rounds.now ys) (sym c.in-Ok.ensures.values)
+    (rounds_have_values (fields_of g) c.args.params.now.log_blowup c.args.rounds.now)
 
 pub open_seeded-proved-requires-clause-inverses :
     goal.open_seeded-proved-requires-clause-inverses
 open_seeded-proved-requires-clause-inverses g c =
-    let s = setting_at g c.args.folding.now c.args.params.now.mmcs c.args.input_mmcs.now in
-    let p = parameters_of c.args.params.now in
-    let rounds = c.args.rounds.now in
-    subst (λ es. All (AreInverses s.fields) es) (sym c.deref.ensures.value) c.in-Ok.ensures.inverses
+    subst (λ es. All (AreInverses (fields_of g)) es) (sym c.deref.ensures.value)
+    c.in-Ok.ensures.inverses
 
 pub open_seeded-proved-requires-clause-covered :
     goal.open_seeded-proved-requires-clause-covered
 open_seeded-proved-requires-clause-covered g c =
-    let s = setting_at g c.args.folding.now c.args.params.now.mmcs c.args.input_mmcs.now in
-    let p = parameters_of c.args.params.now in
-    let rounds = c.args.rounds.now in
-    subst (λ es. All (ArePointsCovered es) rounds) (sym c.deref.ensures.value)
+    subst (λ es. All (ArePointsCovered es) c.args.rounds.now) (sym c.deref.ensures.value)
     c.in-Ok.ensures.covered
 
 pub open_seeded-proved-requires-clause-opened :
     goal.open_seeded-proved-requires-clause-opened
 open_seeded-proved-requires-clause-opened g c =
-    let lent = λ (d : opened.ProverDataWithOpeningPoints g.row.EF.Denot
-    g.row.InputMmcs-ProverData.Denot). d.prover_data.now in
-    let held = λ (r : OpeningRequest g.row.InputMmcs-ProverData.Denot g.row.EF.Denot).
-    r.prover_data.now in
-    let same : map lent c.deref-2.result.now ≡ map held c.args.requests.now =
-    subst (λ ds. map lent ds ≡ map held c.args.requests.now) (sym c.deref-2.ensures.value)
-    c.in-Ok-data_of_requests.ensures in
-    read_alike g.InputMmcs.Mmcs.committed lent held c.deref-2.result.now c.args.requests.now same
+    read_alike g.InputMmcs.Mmcs.committed c.deref-2.result.now c.args.requests.now
+    (λ d. d.prover_data.now) (λ r. r.prover_data.now)
+    (same g (goal.at.open_seeded-proved-requires-clause-opened g c).After-deref-2)
     ∙ c.requires.requests
 
 pub returns-in-Ok-proved-clause-opening :
@@ -83,20 +79,16 @@ pub returns-in-Ok-proved-clause-opening :
 returns-in-Ok-proved-clause-opening g c =
     let s = setting_at g c.args.folding.now c.args.params.now.mmcs c.args.input_mmcs.now in
     let p = parameters_of c.args.params.now in
+    let committed = g.InputMmcs.Mmcs.committed in
+    let commitment_of = g.InputMmcs.Mmcs.commitment_of in
     let rounds = c.args.rounds.now in
-    let lent = λ (d : opened.ProverDataWithOpeningPoints g.row.EF.Denot
-    g.row.InputMmcs-ProverData.Denot). d.prover_data.now in
-    let held = λ (r : OpeningRequest g.row.InputMmcs-ProverData.Denot g.row.EF.Denot).
-    r.prover_data.now in
-    let same : map lent c.deref-2.result.now ≡ map held c.args.requests.now =
-    subst (λ ds. map lent ds ≡ map held c.args.requests.now) (sym c.deref-2.ensures.value)
-    c.in-Ok-data_of_requests.ensures in
+    let ys = opened_values c.in-Ok.prepared.values.items in
     let proof = proof_of c.in-Ok-proved.proof in
     let last = c.open_seeded-proved.new.challenger in
     subst (λ ys. IsOpening s p (opened_of rounds ys) ys c.args.challenger.now
-    (λ r. g.InputMmcs.Mmcs.committed (held r)) (λ r. g.InputMmcs.Mmcs.commitment_of (held r))
+    (λ r. committed r.prover_data.now) (λ r. commitment_of r.prover_data.now)
     c.args.requests.now proof last) c.in-Ok.ensures.values
-    (same_opening s p (opened_of rounds (opened_values c.in-Ok.prepared.values.items))
-    (opened_values c.in-Ok.prepared.values.items) c.args.challenger.now g.InputMmcs.Mmcs.committed
-    g.InputMmcs.Mmcs.commitment_of lent held c.deref-2.result.now c.args.requests.now same proof
-    last c.in-Ok-proved.ensures.opening)
+    (same_opening s p (opened_of rounds ys) ys c.args.challenger.now committed commitment_of
+    c.deref-2.result.now c.args.requests.now (λ d. d.prover_data.now) (λ r. r.prover_data.now)
+    (same g (goal.at.returns-in-Ok-proved-clause-opening g c).After-deref-2) proof last
+    c.in-Ok-proved.ensures.opening)

@@ -1,18 +1,17 @@
-use Rattle.std.proofs.Common.{◌≡◌, ◌∙◌, true, sym, ap, subst, unwrap_or, rules}
+use Rattle.std.proofs.Common.{◌≡◌, ◌∙◌, ap, unwrap_or, rules}
 use Rattle.p3_challenger_core.specs.Run.{moves}
-use Rattle.p3_challenger_fs.specs.Turns.{bytes_observed}
+use Rattle.p3_challenger_fs.specs.Separator.{seed_bytes}
 use Rattle.p3_pcs.specs.Claims.{opened_values}
-use Rattle.p3_fri_pcs_transcript.specs.Replay.{batch_replay}
 use Rattle.p3_fri_pcs_transcript.specs.Shapes.{pcs_shape}
-use Rattle.p3_fri_pcs_transcript.specs.Steps.{PcsNumbers}
 use Rattle.p3_fri_pcs_transcript.proofs.ClaimTurns.{all_claims_left}
 use Rattle.p3_fri_relation.specs.Setting.{Setting}
 use Rattle.p3_fri_relation.specs.Views.{parameters_of, proof_of}
-use Rattle.p3_fri_steps.specs.Pow.{NonePasses, found_witness}
 use Rattle.p3_fri_batch.specs.Rounds.{opened_of}
-use Rattle.p3_fri_opening_prover.proofs.Drawn.{opening_made, stopped, no_witness, none_at_no_bits}
-use Rattle.p3_fri_opening_prover.proofs.Refused.{stops}
+use Rattle.p3_fri_opening_prover.proofs.Drawn.{IsClaimed, is_claimed, is_drawn, opening_made}
+use Rattle.p3_fri_opening_prover.proofs.Drawn.{stopped, no_witness, zero_at_no_bits}
 use Rattle.p3_fri_opening_prover.proofs.seeded.open_seeded.Given.{Over}
+use Rattle.p3_fri_opening_prover.proofs.seeded.open_seeded.Goals.{After-claimed_openings}
+use Rattle.p3_fri_opening_prover.proofs.seeded.open_seeded.Goals.{After-unwrap_or}
 use Rattle.p3_fri_opening_prover.proofs.seeded.open_seeded.Goals as goal
 
 -- what the layers below compute and accept, named once
@@ -39,6 +38,32 @@ setting_at g folding mmcs input_mmcs = record {
   opens_round = g.M.Mmcs.opens mmcs;
 }
 
+-- the transcript once the values are claimed
+claimed : (g : Over) (c : After-claimed_openings g)
+    → let ys = opened_values c.args.values.now.items in
+    IsClaimed (setting_at g c.args.folding.now c.args.params.now.mmcs c.args.input_mmcs.now)
+    (parameters_of c.args.params.now) (opened_of c.args.rounds.now ys) ys c.args.challenger.now
+    c.claimed_openings.new.self.challenger.now
+    (pcs_shape c.claimed_openings.new.self.shape).batch_pow_bits
+claimed g c =
+    let s = setting_at g c.args.folding.now c.args.params.now.mmcs c.args.input_mmcs.now in
+    let vectors = c.args.values.now.items in
+    let begun = c.start-transcript in
+    let claims = c.claimed_openings in
+    is_claimed s (parameters_of c.args.params.now)
+    (opened_of c.args.rounds.now (opened_values vectors)) vectors c.args.challenger.now
+    (pcs_shape c.args.shape) (pcs_shape begun.result.shape) (pcs_shape claims.new.self.shape)
+    (seed_bytes c.args.seed) begun.result.challenger.now claims.new.self.challenger.now
+    c.requires.shape begun.ensures.starts.shape claims.ensures.kept.shape c.requires.stream
+    begun.ensures.starts.state claims.ensures.state
+
+-- the witness that is sent, which is zero where none is found
+sent : (g : Over) (c : After-unwrap_or g)
+    → c.unwrap_or.result ≡ unwrap_or c.in-Ok.drawn.1 g.F.Field.ops.zero
+sent g c =
+    c.unwrap_or.ensures
+    ∙ ap (λ z. unwrap_or c.in-Ok.drawn.1 z) (c.ZERO.ensures ∙ g.met.F.Field.zero_law)
+
 pub claimed_openings-requires-clause-no_step_played :
     goal.claimed_openings-requires-clause-no_step_played
 claimed_openings-requires-clause-no_step_played g c =
@@ -49,100 +74,33 @@ claimed_openings-requires-clause-no_step_played g c =
 pub returns-in-Err-clause-stops :
     goal.returns-in-Err-clause-stops
 returns-in-Err-clause-stops g c =
-    let s = setting_at g c.args.folding.now c.args.params.now.mmcs c.args.input_mmcs.now in
-    let p = parameters_of c.args.params.now in
-    let vectors = c.args.values.now.items in
-    let ms = opened_of c.args.rounds.now (opened_values vectors) in
-    let begun = c.start-transcript in
-    let described = pcs_shape c.args.shape in
-    let started = begun.result.challenger.now in
-    let claimed = c.claimed_openings.new.self.challenger.now in
-    let seeded = begun.ensures.starts.state ∙ ap (λ bytes. bytes_observed s.fields.base
-    s.moves.observe_value c.args.challenger.now bytes) c.requires.stream in
-    let same_bits : (pcs_shape c.claimed_openings.new.self.shape).batch_pow_bits
-    ≡ p.batch_pow_bits =
-    ap (λ (n : PcsNumbers). n.batch_pow_bits) (c.claimed_openings.ensures.kept.shape
-    ∙ begun.ensures.starts.shape ∙ c.requires.shape) in
-    no_witness s p ms vectors c.args.challenger.now described started claimed c.requires.shape
-    seeded c.claimed_openings.ensures.state g.M.Mmcs.committed g.M.Mmcs.commitment_of
-    c.in-Err.refusal c.in-Err.ensures.refused
-    (subst (λ n. NonePasses s.moves.observe_value s.moves.draw_bits claimed n) same_bits
-    c.in-Err.ensures.none_passes)
+    no_witness (claimed g (goal.at.returns-in-Err-clause-stops g c).After-claimed_openings)
+    g.M.Mmcs.committed g.M.Mmcs.commitment_of c.in-Err.refusal c.in-Err.ensures.refused
+    c.in-Err.ensures.none_passes
 
 pub returns-in-Ok-tested-clause-opening :
     goal.returns-in-Ok-tested-clause-opening
 returns-in-Ok-tested-clause-opening g c =
-    let s = setting_at g c.args.folding.now c.args.params.now.mmcs c.args.input_mmcs.now in
-    let p = parameters_of c.args.params.now in
-    let vectors = c.args.values.now.items in
-    let ms = opened_of c.args.rounds.now (opened_values vectors) in
-    let begun = c.start-transcript in
-    let described = pcs_shape c.args.shape in
-    let started = begun.result.challenger.now in
-    let claimed = c.claimed_openings.new.self.challenger.now in
-    let seeded = begun.ensures.starts.state ∙ ap (λ bytes. bytes_observed s.fields.base
-    s.moves.observe_value c.args.challenger.now bytes) c.requires.stream in
-    let same_bits : (pcs_shape c.claimed_openings.new.self.shape).batch_pow_bits
-    ≡ p.batch_pow_bits =
-    ap (λ (n : PcsNumbers). n.batch_pow_bits) (c.claimed_openings.ensures.kept.shape
-    ∙ begun.ensures.starts.shape ∙ c.requires.shape) in
-    let sent = unwrap_or c.in-Ok.drawn.1 g.F.Field.ops.zero in
-    let carried : c.unwrap_or.result ≡ sent = c.unwrap_or.ensures
-    ∙ ap (λ z. unwrap_or c.in-Ok.drawn.1 z) (c.ZERO.ensures ∙ g.met.F.Field.zero_law) in
-    let alpha = c.in-Ok.drawn.0 in
-    let after = c.batch_phase.new.self.challenger.now in
-    let lent = c.begin_delegate.result.now in
-    let drawn : batch_replay s.moves p.batch_pow_bits claimed c.unwrap_or.result
-    ≡ record { passes = true; alpha = alpha; state = after } =
-    subst (λ w. batch_replay s.moves p.batch_pow_bits claimed w
-    ≡ record { passes = true; alpha = alpha; state = after }) (sym carried)
-    (subst (λ n. batch_replay s.moves n claimed sent
-    ≡ record { passes = true; alpha = alpha; state = after }) same_bits c.in-Ok.ensures.batch) in
-    let canonical : p.batch_pow_bits ≡ 0 → c.unwrap_or.result ≡ s.fields.base.zero =
-    λ none. carried ∙ none_at_no_bits g.C.GrindingChallenger.solution claimed p.batch_pow_bits
-    c.in-Ok.drawn.1 g.F.Field.ops.zero
-    (subst (λ n. c.in-Ok.drawn.1 ≡ found_witness g.C.GrindingChallenger.solution claimed n)
-    same_bits c.in-Ok.ensures.witness) none in
-    opening_made s p ms vectors c.args.challenger.now described started claimed c.requires.shape
-    seeded c.claimed_openings.ensures.state c.unwrap_or.result alpha after lent drawn
-    c.begin_delegate.ensures.value (λ d. g.InputMmcs.Mmcs.committed d.prover_data.now)
+    let at = goal.at.returns-in-Ok-tested-clause-opening g c in
+    let claims = claimed g at.After-claimed_openings in
+    let carried = sent g at.After-unwrap_or in
+    let drawn = is_drawn claims c.unwrap_or.result _ c.in-Ok.drawn.0
+    c.batch_phase.new.self.challenger.now c.begin_delegate.result.now carried
+    c.in-Ok.ensures.batch c.begin_delegate.ensures.value in
+    opening_made drawn (λ d. g.InputMmcs.Mmcs.committed d.prover_data.now)
     (λ d. g.InputMmcs.Mmcs.commitment_of d.prover_data.now) c.args.opened.now
     (proof_of c.in-Ok-tested.proof) c.prove_words-tested.new.challenger _
-    c.in-Ok-tested.ensures.batch_witness canonical c.in-Ok-tested.ensures.proved
-    c.in-Ok-tested.ensures.inputs_opened (search rules)
+    c.in-Ok-tested.ensures.batch_witness
+    (zero_at_no_bits claims g.C.GrindingChallenger.solution c.in-Ok.drawn.1 c.unwrap_or.result
+    carried c.in-Ok.ensures.witness)
+    c.in-Ok-tested.ensures.proved c.in-Ok-tested.ensures.inputs_opened (search rules)
 
 pub returns-in-Err-tested-clause-stops :
     goal.returns-in-Err-tested-clause-stops
 returns-in-Err-tested-clause-stops g c =
-    let s = setting_at g c.args.folding.now c.args.params.now.mmcs c.args.input_mmcs.now in
-    let p = parameters_of c.args.params.now in
-    let vectors = c.args.values.now.items in
-    let ms = opened_of c.args.rounds.now (opened_values vectors) in
-    let begun = c.start-transcript in
-    let described = pcs_shape c.args.shape in
-    let started = begun.result.challenger.now in
-    let claimed = c.claimed_openings.new.self.challenger.now in
-    let seeded = begun.ensures.starts.state ∙ ap (λ bytes. bytes_observed s.fields.base
-    s.moves.observe_value c.args.challenger.now bytes) c.requires.stream in
-    let same_bits : (pcs_shape c.claimed_openings.new.self.shape).batch_pow_bits
-    ≡ p.batch_pow_bits =
-    ap (λ (n : PcsNumbers). n.batch_pow_bits) (c.claimed_openings.ensures.kept.shape
-    ∙ begun.ensures.starts.shape ∙ c.requires.shape) in
-    let sent = unwrap_or c.in-Ok.drawn.1 g.F.Field.ops.zero in
-    let carried : c.unwrap_or.result ≡ sent = c.unwrap_or.ensures
-    ∙ ap (λ z. unwrap_or c.in-Ok.drawn.1 z) (c.ZERO.ensures ∙ g.met.F.Field.zero_law) in
-    let alpha = c.in-Ok.drawn.0 in
-    let after = c.batch_phase.new.self.challenger.now in
-    let lent = c.begin_delegate.result.now in
-    let drawn : batch_replay s.moves p.batch_pow_bits claimed c.unwrap_or.result
-    ≡ record { passes = true; alpha = alpha; state = after } =
-    subst (λ w. batch_replay s.moves p.batch_pow_bits claimed w
-    ≡ record { passes = true; alpha = alpha; state = after }) (sym carried)
-    (subst (λ n. batch_replay s.moves n claimed sent
-    ≡ record { passes = true; alpha = alpha; state = after }) same_bits c.in-Ok.ensures.batch) in
-    stops s g.M.Mmcs.committed g.M.Mmcs.commitment_of p ms (opened_values vectors)
-    c.args.challenger.now c.in-Err-tested.refusal
-    (stopped s p ms vectors c.args.challenger.now described started claimed c.requires.shape seeded
-    c.claimed_openings.ensures.state c.unwrap_or.result alpha after lent drawn
-    c.begin_delegate.ensures.value g.M.Mmcs.committed g.M.Mmcs.commitment_of c.in-Err-tested.refusal
-    c.in-Err-tested.ensures.refused)
+    let at = goal.at.returns-in-Err-tested-clause-stops g c in
+    let drawn = is_drawn (claimed g at.After-claimed_openings) c.unwrap_or.result _ c.in-Ok.drawn.0
+    c.batch_phase.new.self.challenger.now c.begin_delegate.result.now (sent g at.After-unwrap_or)
+    c.in-Ok.ensures.batch c.begin_delegate.ensures.value in
+    stopped drawn g.M.Mmcs.committed g.M.Mmcs.commitment_of c.in-Err-tested.refusal
+    c.in-Err-tested.ensures.refused

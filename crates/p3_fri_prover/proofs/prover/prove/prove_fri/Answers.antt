@@ -1,34 +1,32 @@
-use Rattle.std.proofs.Common.{◌≡◌, ◌/◌, ◌^◌, ◌<◌, ◌∙◌, ℕ, List, [], length, get_or, map, refl, sym}
-use Rattle.std.proofs.Common.{ap, arith, subst, Vec}
-use Rattle.std.specs.Prelude.{All}
+use Rattle.std.proofs.Common.{◌≡◌, ◌∙◌, ℕ, List, length, refl, sym, ap, arith, subst, Vec}
 use Rattle.std.specs.List.{AllZip}
-use Rattle.algebra.specs.Nested.{lists, nested}
+use Rattle.std.proofs.lemmas.List.{length-map}
+use Rattle.std.proofs.lemmas.Slice.Zip.{AllZip-long}
+use Rattle.algebra.specs.Nested.{lists}
 use Rattle.p3_challenger_core.specs.Run.{moves}
 use Rattle.p3_challenger_fs.specs.Separator.{seed_bytes}
 use Rattle.p3_challenger_fs.specs.Turns.{bytes_observed}
 use Rattle.p3_fri_transcript.specs.Shapes.{fri_shape}
-use Rattle.p3_fri_relation.specs.declared.proof.BatchMultiOpening.{BatchMultiOpening}
-use Rattle.p3_fri_relation.specs.Setting.{Setting, InputOpening}
-use Rattle.p3_fri_relation.specs.Views.{parameters_of, proof_of, round_opened}
+use Rattle.p3_fri_transcript.specs.Steps.{FriNumbers}
+use Rattle.p3_fri_relation.specs.Setting.{Setting}
+use Rattle.p3_fri_relation.specs.Views.{parameters_of, proof_of, round_opened, inputs_opened}
 use Rattle.p3_fri_prover.specs.Inputs.{HaveHeights, AreInputs}
 use Rattle.p3_fri_prover.specs.Openings.{OpensBatch}
 use Rattle.p3_fri_prover.specs.Played.{IsPlayed}
-use Rattle.p3_fri_prover.specs.Proved.{log_arities, fri_numbers}
-use Rattle.p3_fri_relation.specs.TallEnough.{IsTallEnough}
-use Rattle.std.proofs.lemmas.List.{length-map}
-use Rattle.p3_fri_transcript.specs.Steps.{FriNumbers}
 use Rattle.p3_fri_prover.proofs.Inputs.{some_word}
-use Rattle.p3_fri_prover.proofs.Concluded.{proof_is_proved, positions_of_proof}
-use Rattle.p3_fri_prover.proofs.Concluded.{zip_viewed, as_many_viewed}
+use Rattle.p3_fri_prover.proofs.Concluded.{IsMade, made_of_played, zip_viewed}
+use Rattle.p3_fri_prover.proofs.Concluded.{positions_of_proof, proof_is_proved}
+use Rattle.p3_fri_prover.proofs.Planned.{IsPlan, places, is_numbers, scheduled_by_numbers}
 use Rattle.p3_fri_prover.proofs.Planned.{planned_positive, planned_below_64, planned_playable}
 use Rattle.p3_fri_prover.proofs.Planned.{planned_final_polynomial, planned_positions}
 use Rattle.p3_fri_prover.proofs.Planned.{planned_data, planned_openable, first_input_length}
 use Rattle.p3_fri_prover.proofs.Refused.{refused_plan, refused_play, refused_memory}
 use Rattle.p3_fri_prover.proofs.Refused.{not_for_height}
 use Rattle.p3_fri_prover.proofs.prover.prove.prove_fri.Given.{Over}
+use Rattle.p3_fri_prover.proofs.prover.prove.prove_fri.Goals.{In-Ok, In-Ok-test, In-Ok-opened}
 use Rattle.p3_fri_prover.proofs.prover.prove.prove_fri.Goals as goal
 
--- what the layers below compute and accept, named once
+-- what the layers below compute and accept
 abbrev setting_at : (g : Over) → g.row.S.Denot → g.row.M.Denot → g.row.InputMmcs.Denot
     → Setting g.row.F.Denot g.row.EF.Denot g.row.C.Denot g.row.M-Commitment.Denot
     g.row.M-MultiProof.Denot g.row.InputMmcs-Commitment.Denot g.row.InputMmcs-MultiProof.Denot
@@ -52,6 +50,66 @@ setting_at g folding mmcs input_mmcs = record {
   opens_round = g.M.Mmcs.opens mmcs;
 }
 
+-- what was planned, of which the log arities are passed on
+planned : (g : Over) (c : In-Ok g) {arities : List ℕ} → arities ≡ c.in-Ok.plan.log_arities.items
+    → IsPlan (parameters_of c.args.params.now) c.args.log_global_max_height
+    c.extra_query_index_bits-extra_bits.result (lists c.args.inputs.items) arities
+    (fri_shape c.in-Ok.plan.shape)
+planned g c are_arities =
+    let seen : (heights : List ℕ) → HaveHeights heights (lists c.args.inputs.items)
+    → HaveHeights heights (lists c.deref.result.now) =
+    λ heights h. subst (λ xs. HaveHeights heights (lists xs)) (sym c.deref.ensures.value) h in
+    record {
+      are = c.requires.inputs;
+      capped = c.requires.in_range.cap;
+      scheduled = λ heights h. are_arities ∙ c.in-Ok.ensures.log_arities heights (seen heights h);
+      described = λ heights h. c.in-Ok.ensures.shape heights (seen heights h);
+      tall = λ heights h. c.in-Ok.ensures.tall_enough heights (seen heights h);
+    }
+
+-- what was played by it
+played : (g : Over) (c : In-Ok-test g)
+    → let s = setting_at g c.args.folding.now c.args.params.now.mmcs c.args.input_mmcs.now in
+    let found = c.in-Ok-test.played in
+    IsPlayed g.M.Mmcs.committed g.M.Mmcs.commitment_of s.fields s.fold s.moves
+    c.args.params.now.log_final_poly_len (fri_shape c.in-Ok.plan.shape)
+    c.args.log_global_max_height (lists c.args.inputs.items)
+    (bytes_observed s.fields.base s.moves.observe_value c.args.challenger.now
+    (seed_bytes c.in-Ok.plan.seed)) found.rounds.commitments.items found.rounds.witnesses.items
+    found.rounds.prover_data.items found.final_poly.items found.query_witness found.indices.items
+    c.play_test-test.new.challenger
+played g c =
+    c.in-Ok-test.ensures.played c.args.log_global_max_height (first_input_length c.requires.inputs)
+
+-- the proof has what was played
+made : (g : Over) (c : In-Ok-opened g) (heights : List ℕ)
+    → HaveHeights heights (lists c.args.inputs.items)
+    → IsMade g.M.Mmcs.committed g.M.Mmcs.commitment_of
+    (setting_at g c.args.folding.now c.args.params.now.mmcs c.args.input_mmcs.now)
+    (parameters_of c.args.params.now) heights c.args.log_global_max_height
+    (lists c.args.inputs.items) c.args.challenger.now (proof_of c.in-Ok-opened.proof)
+    c.extra_query_index_bits-extra_bits.result c.in-Ok-test.played.rounds.prover_data.items
+    c.in-Ok-test.played.indices.items c.play_test-test.new.challenger
+made g c heights have =
+    let opened = c.in-Ok-opened.ensures in
+    made_of_played (played g (goal.at.In-Ok-opened g c).In-Ok-test)
+    c.extra_query_index_bits-extra_bits.ensures
+    ((planned g (goal.at.In-Ok-opened g c).In-Ok refl).described heights have)
+    c.in-Ok.ensures.stream
+    (ap (λ (v : Vec _ _). v.items) opened.commitments)
+    (ap (λ (v : Vec _ _). v.items) opened.witnesses)
+    (ap (λ (v : Vec _ _). v.items) opened.final_poly) opened.query_witness
+
+-- each input is opened, at the positions
+inputs_open : (g : Over) (c : In-Ok-opened g)
+    → AllZip (λ datum o. OpensBatch (g.InputMmcs.Mmcs.opens c.args.input_mmcs.now)
+    c.args.log_global_max_height
+    (places c.extra_query_index_bits-extra_bits.result c.in-Ok-test.played.indices.items)
+    (g.InputMmcs.Mmcs.committed datum.prover_data.now)
+    (g.InputMmcs.Mmcs.commitment_of datum.prover_data.now) o) c.args.data_with_points.now
+    (inputs_opened c.in-Ok-opened.proof.input_openings.items)
+inputs_open g c = zip_viewed _ _ _ _ c.in-Ok-opened.ensures.inputs_opened
+
 pub make_plan-plan-requires-clause-inputs : goal.make_plan-plan-requires-clause-inputs
 make_plan-plan-requires-clause-inputs g c =
     subst (λ xs. AreInputs c.args.log_global_max_height (lists xs)) (sym c.deref.ensures.value)
@@ -61,7 +119,8 @@ pub make_plan-plan-requires-clause-top_below_64 : goal.make_plan-plan-requires-c
 make_plan-plan-requires-clause-top_below_64 g c =
     omega (arith, c.requires.within_two_adicity, g.met.F.TwoAdicField.two_adicity_law)
 
-pub make_plan-plan-requires-clause-index_bits_fit : goal.make_plan-plan-requires-clause-index_bits_fit
+pub make_plan-plan-requires-clause-index_bits_fit :
+    goal.make_plan-plan-requires-clause-index_bits_fit
 make_plan-plan-requires-clause-index_bits_fit g c =
     omega (
       arith,
@@ -70,6 +129,14 @@ make_plan-plan-requires-clause-index_bits_fit g c =
       c.extra_query_index_bits-extra_bits.ensures,
       g.met.C.CanSampleBits.max_law,
     )
+
+pub returns-in-Err-clause-refused : goal.returns-in-Err-clause-refused
+returns-in-Err-clause-refused g c = λ heights have.
+    refused_plan (setting_at g c.args.folding.now c.args.params.now.mmcs c.args.input_mmcs.now)
+    g.M.Mmcs.committed g.M.Mmcs.commitment_of (parameters_of c.args.params.now) heights
+    c.args.log_global_max_height (lists c.args.inputs.items) c.args.challenger.now
+    c.in-Err.refusal (c.in-Err.ensures.refused heights
+    (subst (λ xs. HaveHeights heights (lists xs)) (sym c.deref.ensures.value) have))
 
 pub play_test-test-requires-clause-some_input : goal.play_test-test-requires-clause-some_input
 play_test-test-requires-clause-some_input g c =
@@ -82,52 +149,110 @@ play_test-test-requires-clause-some_input g c =
       some_word are.heights (lists words.items) are.have are.some,
     )
 
+pub play_test-test-requires-clause-positive : goal.play_test-test-requires-clause-positive
+play_test-test-requires-clause-positive g c =
+    planned_positive (planned g (goal.at.play_test-test-requires-clause-positive g c).In-Ok
+    c.deref-2.ensures.value)
+
+pub play_test-test-requires-clause-below_64 : goal.play_test-test-requires-clause-below_64
+play_test-test-requires-clause-below_64 g c =
+    planned_below_64 (planned g (goal.at.play_test-test-requires-clause-below_64 g c).In-Ok
+    c.deref-2.ensures.value)
+    (omega (arith, c.requires.within_two_adicity, g.met.F.TwoAdicField.two_adicity_law))
+
+pub play_test-test-requires-clause-can_play : goal.play_test-test-requires-clause-can_play
+play_test-test-requires-clause-can_play g c =
+    planned_playable (planned g (goal.at.play_test-test-requires-clause-can_play g c).In-Ok
+    c.deref-2.ensures.value) (g.S.FriFoldingStrategy.max_log_height c.args.folding.now)
+    (omega (arith, c.requires.within_two_adicity, c.requires.max_log_height))
+
+pub play_test-test-requires-clause-log_final_poly_len_below_64 :
+    goal.play_test-test-requires-clause-log_final_poly_len_below_64
+play_test-test-requires-clause-log_final_poly_len_below_64 g c =
+    let within = planned_final_polynomial
+    (planned g (goal.at.play_test-test-requires-clause-log_final_poly_len_below_64 g c).In-Ok refl)
+    g.F.TwoAdicField.TWO_ADICITY c.requires.within_two_adicity in
+    omega (arith, within, g.met.F.TwoAdicField.two_adicity_law)
+
+pub play_test-test-requires-clause-within_two_adicity :
+    goal.play_test-test-requires-clause-within_two_adicity
+play_test-test-requires-clause-within_two_adicity g c =
+    planned_final_polynomial
+    (planned g (goal.at.play_test-test-requires-clause-within_two_adicity g c).In-Ok refl)
+    g.F.TwoAdicField.TWO_ADICITY c.requires.within_two_adicity
+
 pub play_test-test-requires-clause-schedule : goal.play_test-test-requires-clause-schedule
 play_test-test-requires-clause-schedule g c =
-    let are = c.requires.inputs in
-    let have = subst (λ xs. HaveHeights are.heights (lists xs)) (sym c.deref.ensures.value) are.have in
-    c.deref-2.ensures.value ∙ c.in-Ok.ensures.log_arities are.heights have
-    ∙ sym (ap (λ (n : FriNumbers). n.log_arities) (c.in-Ok.ensures.shape are.heights have))
+    scheduled_by_numbers (planned g (goal.at.play_test-test-requires-clause-schedule g c).In-Ok
+    c.deref-2.ensures.value)
 
 pub play_test-test-requires-clause-described : goal.play_test-test-requires-clause-described
 play_test-test-requires-clause-described g c =
-    let are = c.requires.inputs in
-    let have = subst (λ xs. HaveHeights are.heights (lists xs)) (sym c.deref.ensures.value) are.have in
-    ap (λ (n : FriNumbers). n.final_poly_len) (c.in-Ok.ensures.shape are.heights have)
+    ap (λ (n : FriNumbers). n.final_poly_len)
+    (is_numbers (planned g (goal.at.play_test-test-requires-clause-described g c).In-Ok refl))
 
-pub play_test-test-requires-clause-commit_bits_at_most_max : goal.play_test-test-requires-clause-commit_bits_at_most_max
+pub play_test-test-requires-clause-commit_bits_at_most_max :
+    goal.play_test-test-requires-clause-commit_bits_at_most_max
 play_test-test-requires-clause-commit_bits_at_most_max g c =
-    let are = c.requires.inputs in
-    let have = subst (λ xs. HaveHeights are.heights (lists xs)) (sym c.deref.ensures.value) are.have in
+    let plan =
+    planned g (goal.at.play_test-test-requires-clause-commit_bits_at_most_max g c).In-Ok refl in
     omega (
       arith,
-      ap (λ (n : FriNumbers). n.commit_pow_bits) (c.in-Ok.ensures.shape are.heights have),
+      ap (λ (n : FriNumbers). n.commit_pow_bits) (is_numbers plan),
       c.requires.in_range.commit_bits,
     )
 
-pub play_test-test-requires-clause-query_bits_at_most_max : goal.play_test-test-requires-clause-query_bits_at_most_max
+pub play_test-test-requires-clause-query_bits_at_most_max :
+    goal.play_test-test-requires-clause-query_bits_at_most_max
 play_test-test-requires-clause-query_bits_at_most_max g c =
-    let are = c.requires.inputs in
-    let have = subst (λ xs. HaveHeights are.heights (lists xs)) (sym c.deref.ensures.value) are.have in
+    let plan =
+    planned g (goal.at.play_test-test-requires-clause-query_bits_at_most_max g c).In-Ok refl in
     omega (
       arith,
-      ap (λ (n : FriNumbers). n.query_pow_bits) (c.in-Ok.ensures.shape are.heights have),
+      ap (λ (n : FriNumbers). n.query_pow_bits) (is_numbers plan),
       c.requires.in_range.query_bits,
     )
 
-pub play_test-test-requires-clause-index_bits_at_most_max : goal.play_test-test-requires-clause-index_bits_at_most_max
+pub play_test-test-requires-clause-index_bits_at_most_max :
+    goal.play_test-test-requires-clause-index_bits_at_most_max
 play_test-test-requires-clause-index_bits_at_most_max g c =
-    let are = c.requires.inputs in
-    let have = subst (λ xs. HaveHeights are.heights (lists xs)) (sym c.deref.ensures.value) are.have in
+    let plan =
+    planned g (goal.at.play_test-test-requires-clause-index_bits_at_most_max g c).In-Ok refl in
     omega (
       arith,
-      ap (λ (n : FriNumbers). n.index_bits) (c.in-Ok.ensures.shape are.heights have),
+      ap (λ (n : FriNumbers). n.index_bits) (is_numbers plan),
       c.requires.in_range.index_bits,
       c.requires.within_two_adicity,
       c.extra_query_index_bits-extra_bits.ensures,
     )
 
-pub open_played-opened-requires-clause-extra_bits_below_64 : goal.open_played-opened-requires-clause-extra_bits_below_64
+pub returns-in-Err-test-clause-refused : goal.returns-in-Err-test-clause-refused
+returns-in-Err-test-clause-refused g c = λ heights have.
+    let top = c.args.log_global_max_height in
+    let plan = planned g (goal.at.returns-in-Err-test-clause-refused g c).In-Ok refl in
+    refused_play (setting_at g c.args.folding.now c.args.params.now.mmcs c.args.input_mmcs.now)
+    g.M.Mmcs.committed g.M.Mmcs.commitment_of (parameters_of c.args.params.now) heights top
+    (lists c.args.inputs.items) c.args.challenger.now c.extra_query_index_bits-extra_bits.result
+    c.extra_query_index_bits-extra_bits.ensures (fri_shape c.in-Ok.plan.shape)
+    (plan.described heights have) (seed_bytes c.in-Ok.plan.seed) c.in-Ok.ensures.stream
+    c.in-Err-test.refusal
+    (c.in-Err-test.ensures.refused top (first_input_length c.requires.inputs))
+    (plan.tall heights have)
+
+pub returns-in-Err-test-clause-unmoved : goal.returns-in-Err-test-clause-unmoved
+returns-in-Err-test-clause-unmoved g c = λ for_height.
+    let top = c.args.log_global_max_height in
+    let plan = planned g (goal.at.returns-in-Err-test-clause-unmoved g c).In-Ok refl in
+    absurd (not_for_height
+    (setting_at g c.args.folding.now c.args.params.now.mmcs c.args.input_mmcs.now)
+    g.M.Mmcs.committed g.M.Mmcs.commitment_of (parameters_of c.args.params.now) plan.are.heights top
+    (lists c.args.inputs.items) c.args.challenger.now c.extra_query_index_bits-extra_bits.result
+    c.extra_query_index_bits-extra_bits.ensures (fri_shape c.in-Ok.plan.shape) (is_numbers plan)
+    (seed_bytes c.in-Ok.plan.seed) c.in-Ok.ensures.stream c.in-Err-test.refusal
+    (c.in-Err-test.ensures.refused top (first_input_length c.requires.inputs)) for_height)
+
+pub open_played-opened-requires-clause-extra_bits_below_64 :
+    goal.open_played-opened-requires-clause-extra_bits_below_64
 open_played-opened-requires-clause-extra_bits_below_64 g c =
     omega (
       arith,
@@ -136,421 +261,55 @@ open_played-opened-requires-clause-extra_bits_below_64 g c =
       g.met.C.CanSampleBits.max_law,
     )
 
-pub open_played-opened-requires-clause-top_below_64 : goal.open_played-opened-requires-clause-top_below_64
+pub open_played-opened-requires-clause-top_below_64 :
+    goal.open_played-opened-requires-clause-top_below_64
 open_played-opened-requires-clause-top_below_64 g c =
     omega (arith, c.requires.within_two_adicity, g.met.F.TwoAdicField.two_adicity_law)
-
-pub play_test-test-requires-clause-positive :
-    goal.play_test-test-requires-clause-positive
-play_test-test-requires-clause-positive g c =
-    let s = setting_at g c.args.folding.now c.args.params.now.mmcs c.args.input_mmcs.now in
-    let p = parameters_of c.args.params.now in
-    let top = c.args.log_global_max_height in
-    let inputs = lists c.args.inputs.items in
-    let are = c.requires.inputs in
-    let capped = c.requires.in_range.cap in
-    let seen : (hs : List ℕ) → HaveHeights hs inputs → HaveHeights hs (lists c.deref.result.now) =
-    λ hs h. subst (λ xs. HaveHeights hs (lists xs)) (sym c.deref.ensures.value) h in
-    let plan = c.in-Ok.plan in
-    let arities = c.deref-2.result.now in
-    let planned : (hs : List ℕ) → HaveHeights hs inputs → arities ≡ log_arities p hs top =
-    λ hs h. c.deref-2.ensures.value ∙ c.in-Ok.ensures.log_arities hs (seen hs h) in
-    planned_positive p top inputs are capped arities planned
-
-pub play_test-test-requires-clause-below_64 :
-    goal.play_test-test-requires-clause-below_64
-play_test-test-requires-clause-below_64 g c =
-    let s = setting_at g c.args.folding.now c.args.params.now.mmcs c.args.input_mmcs.now in
-    let p = parameters_of c.args.params.now in
-    let top = c.args.log_global_max_height in
-    let inputs = lists c.args.inputs.items in
-    let are = c.requires.inputs in
-    let capped = c.requires.in_range.cap in
-    let seen : (hs : List ℕ) → HaveHeights hs inputs → HaveHeights hs (lists c.deref.result.now) =
-    λ hs h. subst (λ xs. HaveHeights hs (lists xs)) (sym c.deref.ensures.value) h in
-    let plan = c.in-Ok.plan in
-    let arities = c.deref-2.result.now in
-    let planned : (hs : List ℕ) → HaveHeights hs inputs → arities ≡ log_arities p hs top =
-    λ hs h. c.deref-2.ensures.value ∙ c.in-Ok.ensures.log_arities hs (seen hs h) in
-    let small : top < 64 =
-    omega (arith, c.requires.within_two_adicity, g.met.F.TwoAdicField.two_adicity_law) in
-    planned_below_64 p top inputs are capped arities planned small
-
-pub play_test-test-requires-clause-can_play :
-    goal.play_test-test-requires-clause-can_play
-play_test-test-requires-clause-can_play g c =
-    let s = setting_at g c.args.folding.now c.args.params.now.mmcs c.args.input_mmcs.now in
-    let p = parameters_of c.args.params.now in
-    let top = c.args.log_global_max_height in
-    let inputs = lists c.args.inputs.items in
-    let are = c.requires.inputs in
-    let capped = c.requires.in_range.cap in
-    let seen : (hs : List ℕ) → HaveHeights hs inputs → HaveHeights hs (lists c.deref.result.now) =
-    λ hs h. subst (λ xs. HaveHeights hs (lists xs)) (sym c.deref.ensures.value) h in
-    let plan = c.in-Ok.plan in
-    let arities = c.deref-2.result.now in
-    let planned : (hs : List ℕ) → HaveHeights hs inputs → arities ≡ log_arities p hs top =
-    λ hs h. c.deref-2.ensures.value ∙ c.in-Ok.ensures.log_arities hs (seen hs h) in
-    let tall : (hs : List ℕ) → HaveHeights hs inputs → All (IsTallEnough p) hs =
-    λ hs h. c.in-Ok.ensures.tall_enough hs (seen hs h) in
-    planned_playable p top inputs are capped arities planned tall
-    (g.S.FriFoldingStrategy.max_log_height c.args.folding.now)
-    (omega (arith, c.requires.within_two_adicity, c.requires.max_log_height))
-
-pub play_test-test-requires-clause-log_final_poly_len_below_64 :
-    goal.play_test-test-requires-clause-log_final_poly_len_below_64
-play_test-test-requires-clause-log_final_poly_len_below_64 g c =
-    let s = setting_at g c.args.folding.now c.args.params.now.mmcs c.args.input_mmcs.now in
-    let p = parameters_of c.args.params.now in
-    let top = c.args.log_global_max_height in
-    let inputs = lists c.args.inputs.items in
-    let are = c.requires.inputs in
-    let capped = c.requires.in_range.cap in
-    let seen : (hs : List ℕ) → HaveHeights hs inputs → HaveHeights hs (lists c.deref.result.now) =
-    λ hs h. subst (λ xs. HaveHeights hs (lists xs)) (sym c.deref.ensures.value) h in
-    let plan = c.in-Ok.plan in
-    let arities = c.deref-2.result.now in
-    let planned : (hs : List ℕ) → HaveHeights hs inputs → arities ≡ log_arities p hs top =
-    λ hs h. c.deref-2.ensures.value ∙ c.in-Ok.ensures.log_arities hs (seen hs h) in
-    let tall : (hs : List ℕ) → HaveHeights hs inputs → All (IsTallEnough p) hs =
-    λ hs h. c.in-Ok.ensures.tall_enough hs (seen hs h) in
-    let small : top < 64 =
-    omega (arith, c.requires.within_two_adicity, g.met.F.TwoAdicField.two_adicity_law) in
-    omega (
-      arith,
-      planned_final_polynomial p top inputs are capped arities planned tall 63
-          (omega (arith, small)),
-    )
-
-pub play_test-test-requires-clause-within_two_adicity :
-    goal.play_test-test-requires-clause-within_two_adicity
-play_test-test-requires-clause-within_two_adicity g c =
-    let s = setting_at g c.args.folding.now c.args.params.now.mmcs c.args.input_mmcs.now in
-    let p = parameters_of c.args.params.now in
-    let top = c.args.log_global_max_height in
-    let inputs = lists c.args.inputs.items in
-    let are = c.requires.inputs in
-    let capped = c.requires.in_range.cap in
-    let seen : (hs : List ℕ) → HaveHeights hs inputs → HaveHeights hs (lists c.deref.result.now) =
-    λ hs h. subst (λ xs. HaveHeights hs (lists xs)) (sym c.deref.ensures.value) h in
-    let plan = c.in-Ok.plan in
-    let arities = c.deref-2.result.now in
-    let planned : (hs : List ℕ) → HaveHeights hs inputs → arities ≡ log_arities p hs top =
-    λ hs h. c.deref-2.ensures.value ∙ c.in-Ok.ensures.log_arities hs (seen hs h) in
-    let tall : (hs : List ℕ) → HaveHeights hs inputs → All (IsTallEnough p) hs =
-    λ hs h. c.in-Ok.ensures.tall_enough hs (seen hs h) in
-    planned_final_polynomial p top inputs are capped arities planned tall
-    g.F.TwoAdicField.TWO_ADICITY c.requires.within_two_adicity
-
-pub returns-in-Err-clause-refused :
-    goal.returns-in-Err-clause-refused
-returns-in-Err-clause-refused g c = λ heights have.
-    let s = setting_at g c.args.folding.now c.args.params.now.mmcs c.args.input_mmcs.now in
-    let p = parameters_of c.args.params.now in
-    let top = c.args.log_global_max_height in
-    let inputs = lists c.args.inputs.items in
-    let are = c.requires.inputs in
-    let capped = c.requires.in_range.cap in
-    let seen : (hs : List ℕ) → HaveHeights hs inputs → HaveHeights hs (lists c.deref.result.now) =
-    λ hs h. subst (λ xs. HaveHeights hs (lists xs)) (sym c.deref.ensures.value) h in
-    refused_plan s g.M.Mmcs.committed g.M.Mmcs.commitment_of p heights top inputs
-    c.args.challenger.now c.in-Err.refusal (c.in-Err.ensures.refused heights (seen heights have))
-
-pub returns-in-Err-test-clause-refused :
-    goal.returns-in-Err-test-clause-refused
-returns-in-Err-test-clause-refused g c = λ heights have.
-    let s = setting_at g c.args.folding.now c.args.params.now.mmcs c.args.input_mmcs.now in
-    let p = parameters_of c.args.params.now in
-    let top = c.args.log_global_max_height in
-    let inputs = lists c.args.inputs.items in
-    let are = c.requires.inputs in
-    let capped = c.requires.in_range.cap in
-    let seen : (hs : List ℕ) → HaveHeights hs inputs → HaveHeights hs (lists c.deref.result.now) =
-    λ hs h. subst (λ xs. HaveHeights hs (lists xs)) (sym c.deref.ensures.value) h in
-    let plan = c.in-Ok.plan in
-    let arities = c.deref-2.result.now in
-    let planned : (hs : List ℕ) → HaveHeights hs inputs → arities ≡ log_arities p hs top =
-    λ hs h. c.deref-2.ensures.value ∙ c.in-Ok.ensures.log_arities hs (seen hs h) in
-    let tall : (hs : List ℕ) → HaveHeights hs inputs → All (IsTallEnough p) hs =
-    λ hs h. c.in-Ok.ensures.tall_enough hs (seen hs h) in
-    let extra = c.extra_query_index_bits-extra_bits.result in
-    let numbers = fri_shape plan.shape in
-    let described : (hs : List ℕ) → HaveHeights hs inputs → numbers ≡ fri_numbers p hs top extra =
-    λ hs h. c.in-Ok.ensures.shape hs (seen hs h) in
-    let whole : length (get_or inputs 0 []) ≡ 2 ^ top =
-    first_input_length p top inputs are capped arities planned in
-    refused_play s g.M.Mmcs.committed g.M.Mmcs.commitment_of p heights top inputs
-    c.args.challenger.now extra c.extra_query_index_bits-extra_bits.ensures numbers
-    (described heights have) (seed_bytes plan.seed) c.in-Ok.ensures.stream c.in-Err-test.refusal
-    (c.in-Err-test.ensures.refused top whole) (tall heights have)
-
-pub returns-in-Err-test-clause-unmoved :
-    goal.returns-in-Err-test-clause-unmoved
-returns-in-Err-test-clause-unmoved g c = λ for_height.
-    let s = setting_at g c.args.folding.now c.args.params.now.mmcs c.args.input_mmcs.now in
-    let p = parameters_of c.args.params.now in
-    let top = c.args.log_global_max_height in
-    let inputs = lists c.args.inputs.items in
-    let are = c.requires.inputs in
-    let capped = c.requires.in_range.cap in
-    let seen : (hs : List ℕ) → HaveHeights hs inputs → HaveHeights hs (lists c.deref.result.now) =
-    λ hs h. subst (λ xs. HaveHeights hs (lists xs)) (sym c.deref.ensures.value) h in
-    let plan = c.in-Ok.plan in
-    let arities = c.deref-2.result.now in
-    let planned : (hs : List ℕ) → HaveHeights hs inputs → arities ≡ log_arities p hs top =
-    λ hs h. c.deref-2.ensures.value ∙ c.in-Ok.ensures.log_arities hs (seen hs h) in
-    let extra = c.extra_query_index_bits-extra_bits.result in
-    let numbers = fri_shape plan.shape in
-    let described : (hs : List ℕ) → HaveHeights hs inputs → numbers ≡ fri_numbers p hs top extra =
-    λ hs h. c.in-Ok.ensures.shape hs (seen hs h) in
-    let whole : length (get_or inputs 0 []) ≡ 2 ^ top =
-    first_input_length p top inputs are capped arities planned in
-    let heights = are.heights in
-    let have = are.have in
-    absurd (not_for_height s g.M.Mmcs.committed g.M.Mmcs.commitment_of p heights top inputs
-    c.args.challenger.now extra c.extra_query_index_bits-extra_bits.ensures numbers
-    (described heights have) (seed_bytes plan.seed) c.in-Ok.ensures.stream c.in-Err-test.refusal
-    (c.in-Err-test.ensures.refused top whole) for_height)
 
 pub open_played-opened-requires-clause-positions :
     goal.open_played-opened-requires-clause-positions
 open_played-opened-requires-clause-positions g c =
-    let s = setting_at g c.args.folding.now c.args.params.now.mmcs c.args.input_mmcs.now in
-    let p = parameters_of c.args.params.now in
-    let top = c.args.log_global_max_height in
-    let inputs = lists c.args.inputs.items in
-    let are = c.requires.inputs in
-    let capped = c.requires.in_range.cap in
-    let seen : (hs : List ℕ) → HaveHeights hs inputs → HaveHeights hs (lists c.deref.result.now) =
-    λ hs h. subst (λ xs. HaveHeights hs (lists xs)) (sym c.deref.ensures.value) h in
-    let plan = c.in-Ok.plan in
-    let arities = c.deref-3.result.now in
-    let planned : (hs : List ℕ) → HaveHeights hs inputs → arities ≡ log_arities p hs top =
-    λ hs h. c.deref-3.ensures.value ∙ c.in-Ok.ensures.log_arities hs (seen hs h) in
-    let extra = c.extra_query_index_bits-extra_bits.result in
-    let numbers = fri_shape plan.shape in
-    let described : (hs : List ℕ) → HaveHeights hs inputs → numbers ≡ fri_numbers p hs top extra =
-    λ hs h. c.in-Ok.ensures.shape hs (seen hs h) in
-    let whole : length (get_or inputs 0 []) ≡ 2 ^ top =
-    first_input_length p top inputs are capped arities planned in
-    let seeded = bytes_observed s.fields.base s.moves.observe_value c.args.challenger.now
-    (seed_bytes plan.seed) in
-    let found = c.in-Ok-test.played in
-    let last = c.play_test-test.new.challenger in
-    let played : IsPlayed g.M.Mmcs.committed g.M.Mmcs.commitment_of s.fields s.fold s.moves
-    p.log_final_poly_len numbers top inputs seeded found.rounds.commitments.items
-    found.rounds.witnesses.items found.rounds.prover_data.items found.final_poly.items found.query_witness
-    found.indices.items last = c.in-Ok-test.ensures.played top whole in
-    planned_positions p top inputs are capped arities planned
-    g.M.Mmcs.committed g.M.Mmcs.commitment_of s.fields s.fold s.moves extra numbers described seeded
-    found.rounds.commitments.items found.rounds.witnesses.items found.rounds.prover_data.items
-    found.final_poly.items found.query_witness found.indices.items last played
+    let here = goal.at.open_played-opened-requires-clause-positions g c in
+    planned_positions (planned g here.In-Ok refl) (played g here.In-Ok-test)
 
 pub open_played-opened-requires-clause-data_for_each :
     goal.open_played-opened-requires-clause-data_for_each
 open_played-opened-requires-clause-data_for_each g c =
-    let s = setting_at g c.args.folding.now c.args.params.now.mmcs c.args.input_mmcs.now in
-    let p = parameters_of c.args.params.now in
-    let top = c.args.log_global_max_height in
-    let inputs = lists c.args.inputs.items in
-    let are = c.requires.inputs in
-    let capped = c.requires.in_range.cap in
-    let seen : (hs : List ℕ) → HaveHeights hs inputs → HaveHeights hs (lists c.deref.result.now) =
-    λ hs h. subst (λ xs. HaveHeights hs (lists xs)) (sym c.deref.ensures.value) h in
-    let plan = c.in-Ok.plan in
-    let arities = c.deref-3.result.now in
-    let planned : (hs : List ℕ) → HaveHeights hs inputs → arities ≡ log_arities p hs top =
-    λ hs h. c.deref-3.ensures.value ∙ c.in-Ok.ensures.log_arities hs (seen hs h) in
-    let extra = c.extra_query_index_bits-extra_bits.result in
-    let numbers = fri_shape plan.shape in
-    let described : (hs : List ℕ) → HaveHeights hs inputs → numbers ≡ fri_numbers p hs top extra =
-    λ hs h. c.in-Ok.ensures.shape hs (seen hs h) in
-    let whole : length (get_or inputs 0 []) ≡ 2 ^ top =
-    first_input_length p top inputs are capped arities planned in
-    let seeded = bytes_observed s.fields.base s.moves.observe_value c.args.challenger.now
-    (seed_bytes plan.seed) in
-    let found = c.in-Ok-test.played in
-    let last = c.play_test-test.new.challenger in
-    let played : IsPlayed g.M.Mmcs.committed g.M.Mmcs.commitment_of s.fields s.fold s.moves
-    p.log_final_poly_len numbers top inputs seeded found.rounds.commitments.items
-    found.rounds.witnesses.items found.rounds.prover_data.items found.final_poly.items found.query_witness
-    found.indices.items last = c.in-Ok-test.ensures.played top whole in
-    planned_data p top inputs are capped arities planned
-    g.M.Mmcs.committed g.M.Mmcs.commitment_of s.fields s.fold s.moves extra numbers described seeded
-    found.rounds.commitments.items found.rounds.witnesses.items found.rounds.prover_data.items
-    found.final_poly.items found.query_witness found.indices.items last played
+    let here = goal.at.open_played-opened-requires-clause-data_for_each g c in
+    planned_data (planned g here.In-Ok c.deref-3.ensures.value) (played g here.In-Ok-test)
 
-pub open_played-opened-requires-clause-openable :
-    goal.open_played-opened-requires-clause-openable
+pub open_played-opened-requires-clause-openable : goal.open_played-opened-requires-clause-openable
 open_played-opened-requires-clause-openable g c =
-    let s = setting_at g c.args.folding.now c.args.params.now.mmcs c.args.input_mmcs.now in
-    let p = parameters_of c.args.params.now in
-    let top = c.args.log_global_max_height in
-    let inputs = lists c.args.inputs.items in
-    let are = c.requires.inputs in
-    let capped = c.requires.in_range.cap in
-    let seen : (hs : List ℕ) → HaveHeights hs inputs → HaveHeights hs (lists c.deref.result.now) =
-    λ hs h. subst (λ xs. HaveHeights hs (lists xs)) (sym c.deref.ensures.value) h in
-    let plan = c.in-Ok.plan in
-    let arities = c.deref-3.result.now in
-    let planned : (hs : List ℕ) → HaveHeights hs inputs → arities ≡ log_arities p hs top =
-    λ hs h. c.deref-3.ensures.value ∙ c.in-Ok.ensures.log_arities hs (seen hs h) in
-    let extra = c.extra_query_index_bits-extra_bits.result in
-    let numbers = fri_shape plan.shape in
-    let described : (hs : List ℕ) → HaveHeights hs inputs → numbers ≡ fri_numbers p hs top extra =
-    λ hs h. c.in-Ok.ensures.shape hs (seen hs h) in
-    let whole : length (get_or inputs 0 []) ≡ 2 ^ top =
-    first_input_length p top inputs are capped arities planned in
-    let seeded = bytes_observed s.fields.base s.moves.observe_value c.args.challenger.now
-    (seed_bytes plan.seed) in
-    let found = c.in-Ok-test.played in
-    let last = c.play_test-test.new.challenger in
-    let played : IsPlayed g.M.Mmcs.committed g.M.Mmcs.commitment_of s.fields s.fold s.moves
-    p.log_final_poly_len numbers top inputs seeded found.rounds.commitments.items
-    found.rounds.witnesses.items found.rounds.prover_data.items found.final_poly.items found.query_witness
-    found.indices.items last = c.in-Ok-test.ensures.played top whole in
-    let small : top < 64 =
-    omega (arith, c.requires.within_two_adicity, g.met.F.TwoAdicField.two_adicity_law) in
-    planned_openable p top inputs are capped arities planned
-    g.M.Mmcs.committed g.M.Mmcs.commitment_of s.fields s.fold s.moves extra numbers described seeded
-    found.rounds.commitments.items found.rounds.witnesses.items found.rounds.prover_data.items
-    found.final_poly.items found.query_witness found.indices.items last played small
+    let here = goal.at.open_played-opened-requires-clause-openable g c in
+    planned_openable (planned g here.In-Ok c.deref-3.ensures.value) (played g here.In-Ok-test)
+    (omega (arith, c.requires.within_two_adicity, g.met.F.TwoAdicField.two_adicity_law))
 
-pub returns-in-Ok-opened-clause-proved :
-    goal.returns-in-Ok-opened-clause-proved
+pub returns-in-Ok-opened-clause-proved : goal.returns-in-Ok-opened-clause-proved
 returns-in-Ok-opened-clause-proved g c = λ heights have.
-    let s = setting_at g c.args.folding.now c.args.params.now.mmcs c.args.input_mmcs.now in
-    let p = parameters_of c.args.params.now in
-    let top = c.args.log_global_max_height in
-    let inputs = lists c.args.inputs.items in
-    let are = c.requires.inputs in
-    let capped = c.requires.in_range.cap in
-    let seen : (hs : List ℕ) → HaveHeights hs inputs → HaveHeights hs (lists c.deref.result.now) =
-    λ hs h. subst (λ xs. HaveHeights hs (lists xs)) (sym c.deref.ensures.value) h in
-    let plan = c.in-Ok.plan in
-    let arities = c.deref-3.result.now in
-    let planned : (hs : List ℕ) → HaveHeights hs inputs → arities ≡ log_arities p hs top =
-    λ hs h. c.deref-3.ensures.value ∙ c.in-Ok.ensures.log_arities hs (seen hs h) in
-    let tall : (hs : List ℕ) → HaveHeights hs inputs → All (IsTallEnough p) hs =
-    λ hs h. c.in-Ok.ensures.tall_enough hs (seen hs h) in
-    let extra = c.extra_query_index_bits-extra_bits.result in
-    let numbers = fri_shape plan.shape in
-    let described : (hs : List ℕ) → HaveHeights hs inputs → numbers ≡ fri_numbers p hs top extra =
-    λ hs h. c.in-Ok.ensures.shape hs (seen hs h) in
-    let whole : length (get_or inputs 0 []) ≡ 2 ^ top =
-    first_input_length p top inputs are capped arities planned in
-    let seeded = bytes_observed s.fields.base s.moves.observe_value c.args.challenger.now
-    (seed_bytes plan.seed) in
-    let found = c.in-Ok-test.played in
-    let last = c.play_test-test.new.challenger in
-    let played : IsPlayed g.M.Mmcs.committed g.M.Mmcs.commitment_of s.fields s.fold s.moves
-    p.log_final_poly_len numbers top inputs seeded found.rounds.commitments.items
-    found.rounds.witnesses.items found.rounds.prover_data.items found.final_poly.items found.query_witness
-    found.indices.items last = c.in-Ok-test.ensures.played top whole in
-    let proof = c.in-Ok-opened.proof in
-    let made = c.in-Ok-opened.ensures in
-    let view : BatchMultiOpening g.row.F.Denot g.row.InputMmcs.Denot
-    g.row.InputMmcs-Commitment.Denot g.row.InputMmcs-ProverData.Denot
-    g.row.InputMmcs-MultiProof.Denot g.row.InputMmcs-Error.Denot
-    → InputOpening g.row.F.Denot g.row.InputMmcs-MultiProof.Denot =
-    λ o. record { rows = nested o.opened_values.items; path = o.opening_proof } in
-    proof_is_proved g.M.Mmcs.committed g.M.Mmcs.commitment_of s p top inputs
-    c.args.challenger.now last (proof_of proof) heights extra c.extra_query_index_bits-extra_bits.ensures numbers
-    (described heights have) (seed_bytes plan.seed) c.in-Ok.ensures.stream
-    found.rounds.commitments.items found.rounds.witnesses.items found.rounds.prover_data.items
-    found.final_poly.items found.query_witness found.indices.items played
-    (ap (λ (v : Vec _ _). v.items) made.commitments) (ap (λ (v : Vec _ _). v.items) made.witnesses)
-    (ap (λ (v : Vec _ _). v.items) made.final_poly) made.query_witness
-    are have (tall heights have) capped arities (planned heights have) round_opened
-    proof.commit_phase_openings.items refl
-    (sym proof.commit_phase_openings.ok.0 ∙ made.rounds_counted) made.rounds_opened
+    let here = goal.at.returns-in-Ok-opened-clause-proved g c in
+    let openings = c.in-Ok-opened.proof.commit_phase_openings in
+    proof_is_proved (made g here.In-Ok-opened heights have)
+    (planned g here.In-Ok c.deref-3.ensures.value) have round_opened openings.items refl
+    (sym openings.ok.0 ∙ c.in-Ok-opened.ensures.rounds_counted) c.in-Ok-opened.ensures.rounds_opened
     (g.S.FriFoldingStrategy.max_log_height c.args.folding.now)
     (length c.args.data_with_points.now) g.met.F.Field.laws g.met.EF.Field.laws
     g.met.EF.ExtensionField.lift_law g.met.F.TwoAdicField.roots_law
     (g.met.S.FriFoldingStrategy.lowers_degrees c.args.folding.now) c.requires.max_log_height
-    c.requires.within_two_adicity
-    (as_many_viewed (λ datum o. OpensBatch s.opens_input top
-    (map (λ i. i / 2 ^ extra) found.indices.items)
-    (g.InputMmcs.Mmcs.committed datum.prover_data.now)
-    (g.InputMmcs.Mmcs.commitment_of datum.prover_data.now) o) view
-    c.args.data_with_points.now proof.input_openings.items made.inputs_opened)
+    c.requires.within_two_adicity (AllZip-long _ _ _ (inputs_open g here.In-Ok-opened))
 
-pub returns-in-Ok-opened-clause-inputs_opened :
-    goal.returns-in-Ok-opened-clause-inputs_opened
+pub returns-in-Ok-opened-clause-inputs_opened : goal.returns-in-Ok-opened-clause-inputs_opened
 returns-in-Ok-opened-clause-inputs_opened g c = λ heights have.
-    let s = setting_at g c.args.folding.now c.args.params.now.mmcs c.args.input_mmcs.now in
-    let p = parameters_of c.args.params.now in
-    let top = c.args.log_global_max_height in
-    let inputs = lists c.args.inputs.items in
-    let are = c.requires.inputs in
-    let capped = c.requires.in_range.cap in
-    let seen : (hs : List ℕ) → HaveHeights hs inputs → HaveHeights hs (lists c.deref.result.now) =
-    λ hs h. subst (λ xs. HaveHeights hs (lists xs)) (sym c.deref.ensures.value) h in
-    let plan = c.in-Ok.plan in
-    let arities = c.deref-3.result.now in
-    let planned : (hs : List ℕ) → HaveHeights hs inputs → arities ≡ log_arities p hs top =
-    λ hs h. c.deref-3.ensures.value ∙ c.in-Ok.ensures.log_arities hs (seen hs h) in
-    let extra = c.extra_query_index_bits-extra_bits.result in
-    let numbers = fri_shape plan.shape in
-    let described : (hs : List ℕ) → HaveHeights hs inputs → numbers ≡ fri_numbers p hs top extra =
-    λ hs h. c.in-Ok.ensures.shape hs (seen hs h) in
-    let whole : length (get_or inputs 0 []) ≡ 2 ^ top =
-    first_input_length p top inputs are capped arities planned in
-    let seeded = bytes_observed s.fields.base s.moves.observe_value c.args.challenger.now
-    (seed_bytes plan.seed) in
-    let found = c.in-Ok-test.played in
-    let last = c.play_test-test.new.challenger in
-    let played : IsPlayed g.M.Mmcs.committed g.M.Mmcs.commitment_of s.fields s.fold s.moves
-    p.log_final_poly_len numbers top inputs seeded found.rounds.commitments.items
-    found.rounds.witnesses.items found.rounds.prover_data.items found.final_poly.items found.query_witness
-    found.indices.items last = c.in-Ok-test.ensures.played top whole in
-    let proof = c.in-Ok-opened.proof in
-    let made = c.in-Ok-opened.ensures in
-    let view : BatchMultiOpening g.row.F.Denot g.row.InputMmcs.Denot
-    g.row.InputMmcs-Commitment.Denot g.row.InputMmcs-ProverData.Denot
-    g.row.InputMmcs-MultiProof.Denot g.row.InputMmcs-Error.Denot
-    → InputOpening g.row.F.Denot g.row.InputMmcs-MultiProof.Denot =
-    λ o. record { rows = nested o.opened_values.items; path = o.opening_proof } in
-    subst (λ qs. AllZip (λ datum o. OpensBatch s.opens_input top qs
-    (g.InputMmcs.Mmcs.committed datum.prover_data.now)
-    (g.InputMmcs.Mmcs.commitment_of datum.prover_data.now) o)
-    c.args.data_with_points.now (proof_of proof).inputs)
-    (sym (positions_of_proof g.M.Mmcs.committed g.M.Mmcs.commitment_of s p top inputs
-    c.args.challenger.now last (proof_of proof) heights extra c.extra_query_index_bits-extra_bits.ensures numbers
-    (described heights have) (seed_bytes plan.seed) c.in-Ok.ensures.stream
-    found.rounds.commitments.items found.rounds.witnesses.items found.rounds.prover_data.items
-    found.final_poly.items found.query_witness found.indices.items played
-    (ap (λ (v : Vec _ _). v.items) made.commitments) (ap (λ (v : Vec _ _). v.items) made.witnesses)
-    (ap (λ (v : Vec _ _). v.items) made.final_poly) made.query_witness))
-    (zip_viewed (λ datum o. OpensBatch s.opens_input top
-    (map (λ i. i / 2 ^ extra) found.indices.items)
-    (g.InputMmcs.Mmcs.committed datum.prover_data.now)
-    (g.InputMmcs.Mmcs.commitment_of datum.prover_data.now) o) view
-    c.args.data_with_points.now proof.input_openings.items made.inputs_opened)
+    let here = goal.at.returns-in-Ok-opened-clause-inputs_opened g c in
+    rw (positions_of_proof (made g here.In-Ok-opened heights have))
+    (inputs_open g here.In-Ok-opened)
 
-pub returns-in-Ok-opened-clause-tall_enough :
-    goal.returns-in-Ok-opened-clause-tall_enough
-returns-in-Ok-opened-clause-tall_enough g c = λ heights have.
-    let s = setting_at g c.args.folding.now c.args.params.now.mmcs c.args.input_mmcs.now in
-    let p = parameters_of c.args.params.now in
-    let top = c.args.log_global_max_height in
-    let inputs = lists c.args.inputs.items in
-    let are = c.requires.inputs in
-    let capped = c.requires.in_range.cap in
-    let seen : (hs : List ℕ) → HaveHeights hs inputs → HaveHeights hs (lists c.deref.result.now) =
-    λ hs h. subst (λ xs. HaveHeights hs (lists xs)) (sym c.deref.ensures.value) h in
-    c.in-Ok.ensures.tall_enough heights (seen heights have)
+pub returns-in-Ok-opened-clause-tall_enough : goal.returns-in-Ok-opened-clause-tall_enough
+returns-in-Ok-opened-clause-tall_enough g c =
+    (planned g (goal.at.returns-in-Ok-opened-clause-tall_enough g c).In-Ok refl).tall
 
-pub returns-clause-refused :
-    goal.returns-clause-refused
+pub returns-clause-refused : goal.returns-clause-refused
 returns-clause-refused g c = λ heights have.
-    let s = setting_at g c.args.folding.now c.args.params.now.mmcs c.args.input_mmcs.now in
-    let p = parameters_of c.args.params.now in
-    let top = c.args.log_global_max_height in
-    let inputs = lists c.args.inputs.items in
-    let are = c.requires.inputs in
-    let capped = c.requires.in_range.cap in
-    let seen : (hs : List ℕ) → HaveHeights hs inputs → HaveHeights hs (lists c.deref.result.now) =
-    λ hs h. subst (λ xs. HaveHeights hs (lists xs)) (sym c.deref.ensures.value) h in
-    refused_memory s g.M.Mmcs.committed g.M.Mmcs.commitment_of p heights top inputs
-    c.args.challenger.now (c.in-Ok.ensures.tall_enough heights (seen heights have))
+    refused_memory (setting_at g c.args.folding.now c.args.params.now.mmcs c.args.input_mmcs.now)
+    g.M.Mmcs.committed g.M.Mmcs.commitment_of (parameters_of c.args.params.now) heights
+    c.args.log_global_max_height (lists c.args.inputs.items) c.args.challenger.now
+    ((planned g (goal.at.returns-clause-refused g c).In-Ok refl).tall heights have)
