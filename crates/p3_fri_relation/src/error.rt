@@ -348,8 +348,8 @@ impl<CommitMmcsErr: fmt::Debug, InputErr: fmt::Debug> FriError<CommitMmcsErr, In
         }
     }
 
-    /// Prints what is refused of a scheme that hides. The last family: it names the variants that the
-    /// others print, so that a variant without a text isn't compiled.
+    /// Prints what is refused of a scheme that hides. The last family: it names the variants that
+    /// the others print, so that a variant without a text isn't compiled.
     fn fmt_hiding<W: fmt::Write>(&self, f: &mut fmt::Formatter<W>) -> fmt::Result {
         match self {
             FriError::HidingRandomOpeningRoundCountMismatch { expected, got } => write!(
