@@ -15,7 +15,7 @@ use Rattle.algebra.proofs.Values.{add_lists, length-add_lists, val-nil, val-cons
 use Rattle.algebra.proofs.Values.{val-scale, val-padded}
 use Rattle.algebra.proofs.Lifting.{lifted_coset_pt, lifted_value, lifted_off_coset}
 use Rattle.algebra.proofs.Quotients.{quotient_values}
-use Rattle.algebra.proofs.Lists.{Each, each_from_All, get_or-tabulate, tabulate-equal}
+use Rattle.algebra.proofs.Lists.{Each, each_from_All, get_or-tabulate, tabulate-equal, each-append}
 
 module _ {A : Type 0} (F : FieldOps A) (d : ℕ) (alpha : A) where
   -- the polynomials of `d` coefficients, the `t`-th times `alpha^t`, together
@@ -104,11 +104,6 @@ module _ {A E : Type 0} (F : FieldOps A) (K : FieldOps E) (lift : A → E) where
 
   abbrev quotient_polynomials : List (Opened A E) → List (List E)
   quotient_polynomials ms = flat_map (λ m. point_quotients m.columns m.points) ms
-
-each-append : {A : Type 0} (P : A → Type 0) (xs ys : List A) → Each P xs → Each P ys
-    → Each P (xs ++ ys)
-each-append P [] ys h g = g
-each-append P (x ∷ xs) ys h g = (h.0, each-append P xs ys h.1 g)
 
 module _ {A E : Type 0} (F : FieldOps A) (K : FieldOps E) (lift : A → E) (L : IsField F)
     (M : IsField K)

@@ -1,6 +1,7 @@
--- Lists of points: each, distinct ones, and lists by index.
+-- Lists: each, distinct ones, lists by index, maps of maps, and lists paired place by place.
 use Rattle.std.proofs.Common.{◌≡◌, ◌≢◌, ℕ, zero, suc, ◌<◌, List, [], ◌∷◌, length, map, refl, sym}
-use Rattle.std.proofs.Common.{ap, ap₂, arith, All, slice_index_or, get_or, ◌++◌, ◌+◌, ◌∙◌, suc-add}
+use Rattle.std.specs.List.{AllZip}
+use Rattle.std.proofs.Common.{subst, ap, ap₂, arith, All, slice_index_or, get_or, ◌++◌, ◌+◌, ◌∙◌, suc-add}
 use Rattle.algebra.specs.Polynomial.{tabulate}
 use Rattle.algebra.specs.Interpolation.{AreDistinct}
 
@@ -38,6 +39,11 @@ pub All_from_each : {A : Type 0} (P : A → Type 0) (xs : List A) → Each P xs 
 All_from_each P [] e k d l = absurd (omega (arith, l))
 All_from_each P (x ∷ xs) e zero d l = e.0
 All_from_each P (x ∷ xs) e (suc k) d l = All_from_each P xs e.1 k d (omega (arith, l))
+
+pub each-append : {A : Type 0} (P : A → Type 0) (xs ys : List A) → Each P xs → Each P ys
+    → Each P (xs ++ ys)
+each-append P [] ys h g = g
+each-append P (x ∷ xs) ys h g = (h.0, each-append P xs ys h.1 g)
 
 pub distinct_from_AllPairs : {A : Type 0} (xs : List A) → AreDistinct xs → Distinct xs
 distinct_from_AllPairs [] h = tt
@@ -97,3 +103,50 @@ distinct-tabulate (suc n) f h = (off-tabulate (f zero) n (λ j. f (suc j)) (λ j
     off-tabulate : {A : Type 0} (x : A) (n : ℕ) (f : ℕ → A) → ((j : ℕ) → j < n → ¬ (f j ≡ x)) → Off x (tabulate n f)
     off-tabulate x zero f h = tt
     off-tabulate x (suc n) f h = (h zero (omega arith), off-tabulate x n (λ j. f (suc j)) (λ j l. h (suc j) (omega (arith, l))))
+
+pub map-map : {A B C : Type 0} (f : B → C) (g : A → B) (xs : List A)
+    → map f (map g xs) ≡ map (λ x. f (g x)) xs
+map-map f g [] = refl
+map-map f g (x ∷ xs) = ap (λ ys. f (g x) ∷ ys) (map-map f g xs)
+
+pub map-agree : {A B : Type 0} (f g : A → B) → ((x : A) → f x ≡ g x) → (xs : List A)
+    → map f xs ≡ map g xs
+map-agree f g same [] = refl
+map-agree f g same (x ∷ xs) = ap₂ (λ y ys. y ∷ ys) (same x) (map-agree f g same xs)
+
+-- the image of an entry stands at the entry's place
+pub entry_of_map : {A B : Type 0} (f : A → B) (xs : List A) (i : ℕ) (x : A) → i < length xs
+    → x ≡ get_or xs i x → f x ≡ get_or (map f xs) i (f x)
+entry_of_map f [] i x l e = absurd (omega (arith, l))
+entry_of_map f (y ∷ xs) zero x l e = ap f e
+entry_of_map f (y ∷ xs) (suc i) x l e = entry_of_map f xs i x (omega (arith, l)) e
+
+pub all-one : {A : Type 0} (P : A → Type 0) (xs : List A) (x : A) → xs ≡ x ∷ [] → P x → All P xs
+all-one P xs x e holds zero d l = subst (λ ys. P (get_or ys zero d)) (sym e) holds
+all-one P xs x e holds (suc k) d l = absurd (omega (arith, l, ap length e))
+
+pub all-last : {A : Type 0} (P : A → Type 0) (xs : List A) (x : A) → All P (xs ++ x ∷ []) → P x
+all-last P [] x each = each zero x (omega arith)
+all-last P (y ∷ xs) x each = all-last P xs x (λ k d l. each (suc k) d (omega (arith, l)))
+
+-- paired lists, with one pair more
+pub all_zip-push : {A B : Type 0} (R : A → B → Type 0) (xs : List A) (ys : List B) (x : A) (y : B)
+    → AllZip R xs ys → R x y → AllZip R (xs ++ x ∷ []) (ys ++ y ∷ [])
+all_zip-push R [] [] x y all last = (last, tt)
+all_zip-push R [] (b ∷ ys) x y all last = absurd all
+all_zip-push R (a ∷ xs) [] x y all last = absurd all
+all_zip-push R (a ∷ xs) (b ∷ ys) x y all last = (all.0, all_zip-push R xs ys x y all.1 last)
+
+pub all_zip-mapped : {A B C : Type 0} (g : A → B) (R : B → C → Type 0) (xs : List A) (zs : List C)
+    → AllZip (λ x z. R (g x) z) xs zs → AllZip R (map g xs) zs
+all_zip-mapped g R [] [] all = tt
+all_zip-mapped g R [] (z ∷ zs) all = absurd all
+all_zip-mapped g R (x ∷ xs) [] all = absurd all
+all_zip-mapped g R (x ∷ xs) (z ∷ zs) all = (all.0, all_zip-mapped g R xs zs all.1)
+
+pub all_zip-weaker : {A B : Type 0} (R S : A → B → Type 0) (xs : List A) (ys : List B)
+    → ((x : A) (y : B) → R x y → S x y) → AllZip R xs ys → AllZip S xs ys
+all_zip-weaker R S [] [] f all = tt
+all_zip-weaker R S [] (y ∷ ys) f all = absurd all
+all_zip-weaker R S (x ∷ xs) [] f all = absurd all
+all_zip-weaker R S (x ∷ xs) (y ∷ ys) f all = (f x y all.0, all_zip-weaker R S xs ys f all.1)

@@ -1,21 +1,15 @@
 -- Lists of one.
-use Rattle.std.proofs.Common.{◌≡◌, ◌≢◌, ◌<◌, ℕ, zero, suc, List, [], ◌∷◌, ◌++◌, map, length}
-use Rattle.std.proofs.Common.{get_or, All, refl, sym, ap, subst, arith, ◌∙◌}
+use Rattle.std.proofs.Common.{◌≡◌, ◌≢◌, List, [], ◌∷◌, ◌++◌, map, length}
+use Rattle.std.proofs.Common.{refl, sym, ap, subst, arith, ◌∙◌}
 use Rattle.std.proofs.lemmas.List.{length-map}
 use Rattle.p3_pcs.specs.declared.requests.OpeningRequest.{OpeningRequest}
 use Rattle.p3_pcs.specs.Requests.{Held, Request, AreOpenable, request}
+use Rattle.algebra.proofs.Lists.{all-one}
 
 -- what was pushed alone
 pub one_pushed : {A : Type 0} {x : A} {xs before : List A} → xs ≡ before ++ x ∷ [] → before ≡ []
     → xs ≡ x ∷ []
 one_pushed {x = x} e none = e ∙ ap (λ ys. ys ++ x ∷ []) none
-
-pub one_item : {A : Type 0} (P : A → Type 0) (x : A) (xs : List A) → xs ≡ x ∷ [] → P x → All P xs
-one_item {A} P x xs only holds = subst (λ ys. All P ys) (sym only) at
-  where
-    at : (k : ℕ) (d : A) → k < 1 → P (get_or (x ∷ []) k d)
-    at zero d l = holds
-    at (suc k) d l = absurd (omega (arith, l))
 
 not_none : {A : Type 0} (xs : List A) → length xs ≡ 1 → xs ++ [] ≢ []
 not_none [] one e = absurd (omega (arith, one))
@@ -32,10 +26,10 @@ one_openable {D} {E} {CanOpen = CanOpen} committed held r rs only can points one
     let count : length matrices ≡ 1 = length-map (committed r.prover_data.now) held ∙ one in
     subst (λ qs. AreOpenable CanOpen (λ d. map held (committed d)) (map request qs)) (sym only)
     (record {
-      data_openable = one_item (λ (q : Request D E). CanOpen q.datum) (request r) (request r ∷ [])
+      data_openable = all-one (λ (q : Request D E). CanOpen q.datum) (request r ∷ []) (request r)
           refl can;
-      points = one_item (λ (q : Request D E). length q.points
-          ≡ length (map held (committed q.datum))) (request r) (request r ∷ []) refl
+      points = all-one (λ (q : Request D E). length q.points
+          ≡ length (map held (committed q.datum))) (request r ∷ []) (request r) refl
           (length-map r.points.items (λ v. v.items) ∙ points ∙ sym count);
       some_matrix = not_none matrices count;
     })

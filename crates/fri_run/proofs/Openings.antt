@@ -1,5 +1,5 @@
 -- Columns that were committed to, opened at one point.
-use Rattle.std.proofs.Common.{◌≡◌, ℕ, zero, suc, ◌^◌, List, [], ◌∷◌, length, map, All, get_or, refl, sym, ap, subst, ◌∙◌, arith}
+use Rattle.std.proofs.Common.{◌≡◌, ℕ, ◌^◌, List, [], ◌∷◌, length, map, refl, sym, ap, subst, ◌∙◌}
 use Rattle.std.specs.List.{AllZip}
 use Rattle.algebra.specs.Field.{IsRing, IsHomomorphism}
 use Rattle.algebra.specs.Polynomial.{val, tabulate}
@@ -15,11 +15,6 @@ use Rattle.p3_fri_relation.specs.Setting.{Fields}
 use Rattle.p3_fri_openings.proofs.Log2.{log2_is}
 use Rattle.p3_fri_commit.specs.Extension.{polynomial_on}
 use Rattle.p3_fri_two_adic.specs.Held.{Extends}
-
--- what holds of one element holds of all elements of its list
-pub all_of_one : {X : Type 0} (P : X → Type 0) (xs : List X) (x : X) → xs ≡ x ∷ [] → P x → All P xs
-all_of_one P xs x e holds zero d below = subst (λ ys. P (get_or ys zero d)) (sym e) holds
-all_of_one P xs x e holds (suc k) d below = absurd (omega (arith, ap length e))
 
 -- a power of two has one logarithm
 pub same_log : (n j k : ℕ) → 2 ^ j ≡ n → n ≡ 2 ^ k → j ≡ k

@@ -22,6 +22,7 @@ use Rattle.p3_challenger_fs.specs.Pattern.{seed_stream}
 use Rattle.p3_challenger_fs.specs.Description.{Description, stream_of}
 use Rattle.p3_challenger_fs.specs.StreamLaws.{FitsNumber, FitsText, FitsType, FitsLength, FitsStep}
 use Rattle.p3_challenger_fs.specs.StreamLaws.{FitsStream}
+use Rattle.algebra.proofs.Lists.{head_eq, tail_eq}
 
 -- lists of one length at the front of equal lists
 pub split_front : {A : Type 0} (xs ys s t : List A) → length xs ≡ length ys → xs ++ s ≡ ys ++ t
@@ -35,12 +36,6 @@ split_front xs ys s t l e = (
 pub record IsDelimited {A : Type 0} (P : A → Type 0) (encode : A → List ℕ) : Type 0 where
   pub determined : (x y : A) (s t : List ℕ) → P x → P y → encode x ++ s ≡ encode y ++ t
       → (x ≡ y) × (s ≡ t)
-
-pub head_equal : {A : Type 0} (x y : A) (s t : List A) → x ∷ s ≡ y ∷ t → x ≡ y
-head_equal x y s t e = cc
-
-pub tail_equal : {A : Type 0} (x y : A) (s t : List A) → x ∷ s ≡ y ∷ t → s ≡ t
-tail_equal x y s t e = cc
 
 pub number_injective : (x y : ℕ) → FitsNumber x → FitsNumber y → number_bytes x ≡ number_bytes y
     → x ≡ y
@@ -68,14 +63,14 @@ text_delimited = record { determined = text_determined number_bytes number_delim
 
 type_determined : (x y : TypeTag) (s t : List ℕ) → FitsType x → FitsType y
     → type_bytes x ++ s ≡ type_bytes y ++ t → (x ≡ y) × (s ≡ t)
-type_determined Opaque Opaque s t fits_x fits_y e = (refl, tail_equal _ _ s t e)
+type_determined Opaque Opaque s t fits_x fits_y e = (refl, tail_eq e)
 type_determined (Algebra m) (Algebra n) s t fits_x fits_y e =
     let p = number_delimited.determined m n s t fits_x fits_y
-    (tail_equal _ _ (number_bytes m ++ s) (number_bytes n ++ t) e) in (ap Algebra p.0, p.1)
+    (tail_eq e) in (ap Algebra p.0, p.1)
 type_determined (Bits m) (Bits n) s t fits_x fits_y e =
     let p = number_delimited.determined m n s t fits_x fits_y
-    (tail_equal _ _ (number_bytes m ++ s) (number_bytes n ++ t) e) in (ap Bits p.0, p.1)
-type_determined Marker Marker s t fits_x fits_y e = (refl, tail_equal _ _ s t e)
+    (tail_eq e) in (ap Bits p.0, p.1)
+type_determined Marker Marker s t fits_x fits_y e = (refl, tail_eq e)
 type_determined x y s t fits_x fits_y e = absurd cc
 
 pub type_delimited : IsDelimited FitsType type_bytes
@@ -83,10 +78,10 @@ type_delimited = record { determined = type_determined }
 
 length_determined : (x y : Length) (s t : List ℕ) → FitsLength x → FitsLength y
     → length_bytes x ++ s ≡ length_bytes y ++ t → (x ≡ y) × (s ≡ t)
-length_determined Scalar Scalar s t fits_x fits_y e = (refl, tail_equal _ _ s t e)
+length_determined Scalar Scalar s t fits_x fits_y e = (refl, tail_eq e)
 length_determined (Fixed m) (Fixed n) s t fits_x fits_y e =
     let p = number_delimited.determined m n s t fits_x fits_y
-    (tail_equal _ _ (number_bytes m ++ s) (number_bytes n ++ t) e) in (ap Fixed p.0, p.1)
+    (tail_eq e) in (ap Fixed p.0, p.1)
 length_determined x y s t fits_x fits_y e = absurd cc
 
 pub length_delimited : IsDelimited FitsLength length_bytes
@@ -136,18 +131,16 @@ same_step h h' k k' a a' l l' n n' e f g i j = cc
 pub step_delimited : IsDelimited FitsWhole step_bytes
 step_delimited = record {
   determined = λ x y s t fits_x fits_y e.
-      let rest = tail_equal (kind_byte x.kind) (kind_byte y.kind)
-      (((type_bytes x.type_tag ++ text_bytes x.label) ++ length_bytes x.length) ++ s)
-      (((type_bytes y.type_tag ++ text_bytes y.label) ++ length_bytes y.length) ++ t)
-      (tail_equal _ _ _ _ e) in
+      let rest = tail_eq
+      (tail_eq e) in
       let parts = three_determined type_delimited text_delimited length_delimited x.type_tag
       y.type_tag x.label y.label x.length y.length s t
       fits_x.numbers.type_tag fits_y.numbers.type_tag fits_x.label fits_y.label
       fits_x.numbers.length fits_y.numbers.length rest in (
         same_step x.hierarchy y.hierarchy x.kind y.kind x.type_tag y.type_tag x.label y.label
             x.length y.length
-            (hierarchy_determined x.hierarchy y.hierarchy (head_equal _ _ _ _ e))
-            (kind_determined x.kind y.kind (head_equal _ _ _ _ (tail_equal _ _ _ _ e))) parts.0
+            (hierarchy_determined x.hierarchy y.hierarchy (head_eq e))
+            (kind_determined x.kind y.kind (head_eq (tail_eq e))) parts.0
             parts.1 parts.2,
         parts.3,
       );
@@ -245,8 +238,8 @@ stream_determined version version' name name' steps steps' labels labels' Q n n'
     counted q q' e =
     let parts = parts_determined number_bytes text_bytes step_bytes (λ m n. refl)
     (λ x. omega (arith, length_text x)) text_delimited step_delimited
-    name name' steps steps' labels labels' Q n n' p p' counted q q' (tail_equal _ _ _ _ e) in
-    (head_equal _ _ _ _ e, parts.0, parts.1, parts.2)
+    name name' steps steps' labels labels' Q n n' p p' counted q q' (tail_eq e) in
+    (head_eq e, parts.0, parts.1, parts.2)
 
 -- steps whose number fits are determined
 counted_determined : (steps steps' : List Step) → FitsNumber (length steps)

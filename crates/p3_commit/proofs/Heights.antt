@@ -26,6 +26,10 @@ heights_more d dims p h zero e l = p
 heights_more d dims p h (suc k) e l = h k e (omega (arith, l))
 
 -- the greatest height is a power of two
+pub max_height-positive : (dims : List Dimensions) → 1 ≤ max_height dims
+max_height-positive [] = omega arith
+max_height-positive (d ∷ dims) = omega (arith, max_height-positive dims)
+
 pub max_height-power : (dims : List Dimensions) → HavePowerHeights dims
     → IsPowerOfTwo (max_height dims)
 max_height-power [] h = (0, omega arith)

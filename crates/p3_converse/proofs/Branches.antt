@@ -3,7 +3,7 @@ use Rattle.std.proofs.Common.{◌≡◌, ℕ, zero, suc, ◌+◌, ◌*◌, ◌^�
 use Rattle.std.specs.List.{AllZip}
 use Rattle.std.proofs.Common.{refl, sym, ap, ap₂, subst, ◌∙◌, arith, length-drop}
 use Rattle.std.proofs.lemmas.List.{take-append-drop, drop-drop}
-use Rattle.std.proofs.lemmas.Nat.{mul-le, pow-add}
+use Rattle.std.proofs.lemmas.Nat.{row_fits, pow-add}
 use Rattle.std.proofs.Math.Nat.{mul_assoc, add-mul}
 use Rattle.algebra.specs.Field.{FieldOps, pow}
 use Rattle.algebra.specs.Polynomial.{val, tabulate}
@@ -19,9 +19,6 @@ use Rattle.p3_converse.proofs.Concatenated.{range_take, length-part}
 -- index of a value in a row of rows
 pub regroup : (i x m y j n : ℕ) → n ≡ x * y → (i * x + m) * y + j ≡ i * n + (m * y + j)
 regroup i x m y j n e = omega (arith, ap (λ k. i * k) e, mul_assoc i x y, add-mul (i * x) m y)
-
-row_below : (i x m y : ℕ) → i < y → m < x → i * x + m < y * x
-row_below i x m y l k = omega (arith, l, k, mul-le (i + 1) x y x (omega (arith, l)) (omega arith))
 
 -- tables whose rows are equal have equal entries
 pub at_each : {A B C : Type 0} (n : ℕ) (g : A → ℕ → C) (v : B → ℕ → C) (xs : List A) (ys : List B) → map (λ x. tabulate n (g x)) xs ≡ map (λ y. tabulate n (v y)) ys
@@ -126,7 +123,7 @@ module _ {A : Type 0} (F : FieldOps A) (w : ℕ → A) (i h s a : ℕ) (ys : Lis
 module _ {A : Type 0} (F : FieldOps A) (top : ℕ) (w : ℕ → A) (W : AreRoots F top w) (i h s a : ℕ) (ys : List A) (long : length ys ≡ 2 ^ (a + s))
     (within : h + (a + s) ≤ top) (below : i < 2 ^ h) (betas : List A) (polys : List (List A)) where
   below_all : (m : ℕ) → m < 2 ^ s → i * 2 ^ s + m < 2 ^ (h + s)
-  below_all m l = omega (arith, row_below i (2 ^ s) m (2 ^ h) below l, pow-add 2 h s)
+  below_all m l = omega (arith, l, row_fits i (2 ^ s) (2 ^ h) (2 ^ s) below (omega arith), pow-add 2 h s)
 
   -- without an input
   pub rows_of_folds : (word : List A) → IsUnfolding F a betas polys word

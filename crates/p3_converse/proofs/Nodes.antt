@@ -1,8 +1,9 @@
 -- A tree's node: what holds of each of its trees, and what they give together.
-use Rattle.std.proofs.Common.{◌≡◌, ℕ, zero, suc, ◌+◌, ◌-◌, ◌*◌, ◌^◌, ◌<◌, ◌≤◌, List, [], ◌∷◌, ◌++◌, All, Vec, Global, vec_len, length, get_or, take, map, Bool, true, false}
+use Rattle.std.proofs.Common.{◌≡◌, ℕ, suc, ◌+◌, ◌-◌, ◌*◌, ◌^◌, ◌<◌, ◌≤◌, List, [], ◌∷◌, ◌++◌, All, Vec, Global, vec_len, length, get_or, take, map, Bool, true, false}
 use Rattle.std.proofs.Common.{refl, sym, ap, subst, ◌∙◌, arith, length-append}
 use Rattle.std.specs.Prelude.{slice_range}
 use Rattle.std.specs.List.{AllZip}
+use Rattle.std.proofs.lemmas.Slice.Zip.{AllZip-long}
 use Rattle.std.proofs.lemmas.List.{take_all, take_more, map-append, length-map}
 use Rattle.std.proofs.Math.Seq.{get_or-append_seam}
 use Rattle.std.proofs.lemmas.Nat.{mul-le, pow-add}
@@ -11,12 +12,14 @@ use Rattle.algebra.specs.Field.{FieldOps}
 use Rattle.algebra.specs.Interpolation.{AreDistinct}
 use Rattle.p3_converse.specs.Trees.{Tree, leaf, node, subtrees, tree_of, beta_count, leaf_length}
 use Rattle.p3_converse.specs.Trees.{HasPaths, EachHasPaths, HasLeaves, EachHasLeaves, HasBetas, EachHasBetas}
-use Rattle.p3_converse.specs.Branches.{log_sum, with_input, IsTreeUnfolding, IsRoundUnfolding}
+use Rattle.p3_converse.specs.Branches.{log_sum, input_logs, with_input, IsTreeUnfolding, IsRoundUnfolding}
 use Rattle.algebra.specs.Nested.{lists}
 use Rattle.p3_converse.specs.Unfolding.{common_length}
 use Rattle.p3_converse.specs.declared.tree.FoldTree.{FoldTree, Leaf, Node}
-use Rattle.p3_converse.proofs.Trees.{views, tree_of-Leaf, tree_of-Node, betas-views, paths-at, leaves-at, betas-at, leaf_length-is}
+use Rattle.p3_converse.proofs.Trees.{views, tree_of-Leaf, tree_of-Node, betas-views, paths-at, leaves-at, betas-at, leaf_length-is, beta_count-positive}
 use Rattle.p3_converse.proofs.Branches.{UnfoldsTo, HasInputsOf, is_node_unfolding}
+use Rattle.algebra.proofs.Lists.{all_zip-push}
+use Rattle.algebra.proofs.Nested.{length-lists}
 
 -- the first of the rounds
 abbrev pub first_round : List (ℕ × Bool) → ℕ × Bool
@@ -50,25 +53,6 @@ is_node_of rounds later tree v d is e paths betas leaves =
           betas = b.2;
           leaves = l;
         })
-
--- pairs of one place more
-pub all_zip-push : {A B : Type 0} (R : A → B → Type 0) (xs : List A) (ys : List B) (x : A) (y : B) → AllZip R xs ys → R x y → AllZip R (xs ++ x ∷ []) (ys ++ y ∷ [])
-all_zip-push R [] [] x y a r = (r, tt)
-all_zip-push R [] (z ∷ ys) x y a r = absurd a
-all_zip-push R (z ∷ xs) [] x y a r = absurd a
-all_zip-push R (z ∷ xs) (u ∷ ys) x y a r = (a.0, all_zip-push R xs ys x y a.1 r)
-
-pub all_zip-length : {A B : Type 0} (R : A → B → Type 0) (xs : List A) (ys : List B) → AllZip R xs ys → length ys ≡ length xs
-all_zip-length R [] [] a = refl
-all_zip-length R [] (y ∷ ys) a = absurd a
-all_zip-length R (x ∷ xs) [] a = absurd a
-all_zip-length R (x ∷ xs) (y ∷ ys) a = ap suc (all_zip-length R xs ys a.1)
-
-pub all-push : {A : Type 0} (P : A → Type 0) (xs : List A) (y : A) → All P xs → P y → All P (xs ++ y ∷ [])
-all-push P [] y h r zero e l = r
-all-push P [] y h r (suc k) e l = absurd (omega (arith, l))
-all-push P (x ∷ xs) y h r zero e l = h 0 x (omega arith)
-all-push P (x ∷ xs) y h r (suc k) e l = all-push P xs y (λ j d m. h (suc j) d (omega (arith, m))) r k e (omega (arith, l))
 
 views-more : {A : Type 0} (trees : List (A × FoldTree A)) (k : ℕ) (t : A × FoldTree A) → k < length trees → t ≡ get_or trees k t → views (take (k + 1) trees) ≡ views (take k trees) ++ (t.0, tree_of t.1) ∷ []
 views-more trees k t l e =
@@ -166,6 +150,47 @@ node_unfolds F rounds later tree v trees betas polys given inputs word all is sa
     (is_node_unfolding F later (views trees) (lists polys) word inputs known behind (first_round rounds) all
     (subst (λ bs. IsRoundUnfolding F (first_round rounds) bs (lists polys) word inputs all) (eb ∙ views-betas trees)
     (subst (λ ps. IsRoundUnfolding F (first_round rounds) betas (lists ps) word inputs all) eg undone))))
+
+-- once each of a node's trees is unfolded: what its round is undone with
+pub record AreUnfolded {A : Type 0} (F : FieldOps A) (rounds later : List (ℕ × Bool)) (trees : List (A × FoldTree A)) (d : ℕ) (betas : List A) (polys given inputs : List (Vec A Global)) : Type 0 where
+  pub split : rounds ≡ first_round rounds ∷ later
+  pub challenges : betas ≡ map (λ t. t.0) trees
+  pub count : length betas ≡ beta_count (first_round rounds)
+  pub distinct : AreDistinct betas
+  pub as_many : length given ≡ length betas
+  pub common : common_length given ≡ d * 2 ^ log_sum later
+  pub one_length : All (λ p. vec_len p ≡ common_length given) given
+  pub product : common_length given * 2 ^ (first_round rounds).0 ≡ d * 2 ^ log_sum rounds
+  pub words : AllZip (λ t p. UnfoldsTo F later t.1 p) (views trees) (lists polys)
+  pub behind : HasInputsOf F later (views trees) (lists inputs)
+  pub lengths : map (λ v. vec_len v) inputs ≡ map (λ s. d * 2 ^ s) (input_logs later)
+
+pub are_unfolded : {A : Type 0} (F : FieldOps A) (rounds later : List (ℕ × Bool)) (trees : List (A × FoldTree A)) (d : ℕ) (betas : List A) (polys given inputs : List (Vec A Global)) (k : ℕ)
+    → IsNodeOf rounds later trees d → length trees ≤ k → betas ≡ map (λ t. t.0) trees → given ≡ polys
+    → AllZip (λ t p. UnfoldsTo F later t.1 p) (views (take k trees)) (lists polys) → All (λ p. vec_len p ≡ d * 2 ^ log_sum later) polys
+    → (0 < k → HasInputsOf F later (views (take k trees)) (lists inputs)) → (0 < k → map (λ v. vec_len v) inputs ≡ map (λ s. d * 2 ^ s) (input_logs later))
+    → AreUnfolded F rounds later trees d betas polys given inputs
+are_unfolded F rounds later trees d betas polys given inputs k is past eb eg known each behind lengths =
+    let whole : take k trees ≡ trees = take_all k trees past in
+    let some : 0 < length trees = omega (arith, is.count, beta_count-positive (first_round rounds)) in
+    let words = subst (λ us. AllZip (λ t p. UnfoldsTo F later t.1 p) (views us) (lists polys)) whole known in
+    let count : length polys ≡ length trees =
+    sym (length-lists polys) ∙ AllZip-long (λ t p. UnfoldsTo F later t.1 p) (views trees) (lists polys) words ∙ length-map trees (λ t. (t.0, tree_of t.1)) in
+    let as_trees : length betas ≡ length trees = ap length eb ∙ length-map trees (λ t. t.0) in
+    let common : common_length given ≡ d * 2 ^ log_sum later = ap common_length eg ∙ common_length-is polys (d * 2 ^ log_sum later) each (omega (arith, count, some)) in
+    record {
+      split = is.split;
+      challenges = eb;
+      count = as_trees ∙ is.count;
+      distinct = subst AreDistinct (sym eb) is.distinct;
+      as_many = ap length eg ∙ count ∙ sym as_trees;
+      common = common;
+      one_length = subst (λ vs. All (λ p. vec_len p ≡ common_length given) vs) (sym eg) (λ j p l. each j p l ∙ sym common);
+      product = ap (λ n. n * 2 ^ (first_round rounds).0) common ∙ scaled d (first_round rounds).0 (log_sum later) ∙ ap (λ n. d * 2 ^ n) (sym (ap log_sum is.split));
+      words = words;
+      behind = subst (λ us. HasInputsOf F later (views us) (lists inputs)) whole (behind (omega (arith, past, some)));
+      lengths = lengths (omega (arith, past, some));
+    }
 
 -- the conditions, one after another
 pub conditions : {A : Type 0} (rounds : List (ℕ × Bool)) (tree : Tree A) (d : ℕ) → IsFit rounds tree d

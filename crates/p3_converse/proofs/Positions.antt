@@ -1,7 +1,6 @@
 -- The interleaved of polynomials that stand in vectors.
 use Rattle.std.proofs.Common.{◌≡◌, ℕ, zero, suc, ◌+◌, ◌^◌, ◌<◌, List, [], ◌∷◌, ◌++◌, Vec, All, vec_len, length, get_or, take, subst, sym, ap, ◌∙◌, arith, inl, inr}
 use Rattle.std.proofs.Common.{length-append}
-use Rattle.std.proofs.Math.Seq.{get_or-append_seam}
 use Rattle.std.proofs.lemmas.List.{get_or_append_left, length-map, map-append, take_more}
 use Rattle.std.proofs.lemmas.Bool.{cases_lt}
 use Rattle.std.proofs.Math.Nat.{pow-le-pow_right}
@@ -14,9 +13,6 @@ use Rattle.p3_converse.specs.Unfolding.{common_length}
 
 pub length-coefficients_at : {A : Type 0} (F : FieldOps A) (polys : List (List A)) (m : ℕ) → length (coefficients_at F polys m) ≡ length polys
 length-coefficients_at F polys m = length-map polys (λ p. get_or p m F.zero)
-
-pub length-lists : {T Z : Type 0} (vectors : List (Vec T Z)) → length (lists vectors) ≡ length vectors
-length-lists vectors = length-map vectors (λ v. v.items)
 
 pub common_length-first : {T Z : Type 0} (vectors : List (Vec T Z)) (v : Vec T Z) → 0 < length vectors → v ≡ get_or vectors 0 v → vec_len v ≡ common_length vectors
 common_length-first [] v l e = absurd (omega (arith, l))
@@ -53,6 +49,3 @@ all-tabulate P n f h k e l = subst P (sym (get_or-tabulate n f k e (omega (arith
 -- of each but the last, and of the last
 pub all-front : {A : Type 0} (P : A → Type 0) (xs : List A) (y : A) → All P (xs ++ y ∷ []) → All P xs
 all-front P xs y h k e l = subst P (get_or_append_left xs (y ∷ []) e k l) (h k e (omega (arith, l, length-append xs (y ∷ []))))
-
-pub all-last : {A : Type 0} (P : A → Type 0) (xs : List A) (y : A) → All P (xs ++ y ∷ []) → P y
-all-last P xs y h = subst P (get_or-append_seam xs y [] y) (h (length xs) y (omega (arith, length-append xs (y ∷ []))))

@@ -1,5 +1,5 @@
 -- The converse of a quotient by a point.
-use Rattle.std.proofs.Common.{◌≡◌, ◌≢◌, ℕ, suc, ◌+◌, ◌<◌, ◌≤◌, List, [], ◌∷◌, ◌++◌, length, get_or, drop, refl, sym, ap, ◌∙◌, append-nil}
+use Rattle.std.proofs.Common.{◌≡◌, ◌≢◌, ℕ, ◌+◌, ◌<◌, ◌≤◌, List, [], ◌∷◌, ◌++◌, length, get_or, drop, refl, sym, ap, ◌∙◌, append-nil}
 use Rattle.std.proofs.lemmas.List.{append_assoc, drop_more, drop_all}
 use Rattle.algebra.specs.Field.{FieldOps, IsField, sub}
 use Rattle.algebra.specs.Polynomial.{val}
@@ -39,10 +39,6 @@ module _ {A : Type 0} (F : FieldOps A) (L : IsField F) where
             value_elsewhere z y (shift ⊗ x) u (val F q x) off e
             ∙ sym (val-plus_multiple F L.ring z y p (shift ⊗ x) ∙ ap (λ v. y ⊕ sub F (shift ⊗ x) z ⊗ v) (unstretched shift q x nonzero));
       }
-
-pub length-stretched : {A : Type 0} (F : FieldOps A) (k s : A) (c : List A) → length (stretched F k s c) ≡ length c
-length-stretched F k s [] = refl
-length-stretched F k s (c ∷ cs) = ap suc (length-stretched F (F.mul k s) s cs)
 
 -- one coefficient more
 pub stretched_next : {A : Type 0} (F : FieldOps A) (front : List A) (k s : A) (c : List A) (i : ℕ) (a : A) → i < length c → a ≡ get_or c i a

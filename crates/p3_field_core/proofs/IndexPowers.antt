@@ -1,10 +1,12 @@
--- Powers of two: their exponent, std's test of them, and the zeros below their one.
-use Rattle.std.proofs.Common.{◌≡◌, ℕ, zero, suc, ◌+◌, ◌/◌, ◌%◌, ◌^◌, ◌<◌, ◌≤◌, refl, sym, ap, ap₂}
-use Rattle.std.proofs.Common.{◌∙◌, arith, ◌↔◌, IsTrue, count_ones, eq-eqb, eqb-true}
+-- Powers of two: their exponent, their quotients, std's test of them, and the zeros below their one.
+use Rattle.std.proofs.Common.{◌≡◌, ℕ, zero, suc, ◌+◌, ◌-◌, ◌/◌, ◌%◌, ◌^◌, ◌<◌, ◌≤◌, refl, sym, ap, ap₂}
+use Rattle.std.proofs.Common.{◌∙◌, arith, ◌↔◌, IsTrue, count_ones, eq-eqb, eqb-true, inl, inr}
 use Rattle.std.specs.Int.{IsPowerOfTwo, is_power_of_two}
 use Rattle.std.specs.Int.Count.{count_trailing_zeros, under, ones_step}
-use Rattle.std.proofs.lemmas.Nat.{pow_below, zero_from_ones, ones_le_self}
-use Rattle.std.proofs.Math.Pow.{pow_mono}
+use Rattle.std.proofs.lemmas.Nat.{pow_below, pow_pos, pow-add, zero_from_ones, ones_le_self}
+use Rattle.std.proofs.lemmas.Bool.{cases_lt}
+use Rattle.std.proofs.Math.Nat.{mul-div_cancel, div-lt_iff_lt-mul}
+use Rattle.std.proofs.Math.Pow.{pow_mono, pow-lt}
 use Rattle.algebra.proofs.Powers.{double}
 
 -- equal powers have equal exponents
@@ -14,7 +16,25 @@ exponents_agree j k e = grind (arith, pow_below)
 pub exponent_below : (j k : ℕ) → 2 ^ j < 2 ^ k → j < k
 exponent_below j k l = grind (arith, pow_mono)
 
-double_halved : (k : ℕ) → 2 ^ suc k / 2 ≡ 2 ^ k
+pub exponent_at_most : (j k : ℕ) → 2 ^ j ≤ 2 ^ k → j ≤ k
+exponent_at_most j k l = elim (cases_lt k j) [
+  | inl more ↦ absurd (omega (arith, l, pow-lt more))
+  | inr less ↦ omega (arith, less)
+]
+
+pub power_quotient : (j k : ℕ) → j ≤ k → 2 ^ k / 2 ^ j ≡ 2 ^ (k - j)
+power_quotient j k l =
+    let e : k ≡ k - j + j = omega (arith, l) in
+    ap (λ n. 2 ^ n / 2 ^ j) e ∙ ap (λ n. n / 2 ^ j) (pow-add 2 (k - j) j)
+    ∙ mul-div_cancel (2 ^ (k - j)) (pow_pos j)
+
+-- an index below a power of two, without its lowest digits
+pub index_cut : (index k j : ℕ) → index < 2 ^ k → j ≤ k → index / 2 ^ j < 2 ^ (k - j)
+index_cut index k j below l =
+    let e : k ≡ k - j + j = omega (arith, l) in
+    (div-lt_iff_lt-mul (pow_pos j)).1 (rw (← pow-add 2 (k - j) j) (rw e at below))
+
+pub double_halved : (k : ℕ) → 2 ^ suc k / 2 ≡ 2 ^ k
 double_halved k = rw (double k) (omega arith)
 
 double_even : (k : ℕ) → 2 ^ suc k % 2 ≡ 0

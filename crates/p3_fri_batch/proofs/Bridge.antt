@@ -1,14 +1,13 @@
 -- The entries of the words are the quotient sums of the opened rows.
-use Rattle.std.proofs.Common.{◌≡◌, ◌≤◌, ◌<◌, ◌==◌, cond, true, false, Bool, inl, inr, ℕ, zero, suc}
+use Rattle.std.proofs.Common.{◌≡◌, ◌≤◌, ◌<◌, ◌==◌, cond, true, false, Bool, ℕ, zero, suc}
 use Rattle.std.proofs.Common.{◌+◌, ◌-◌, ◌/◌, ◌^◌, List, [], ◌∷◌, ◌++◌, length, map, get_or, All}
 use Rattle.std.proofs.Common.{Some, None, refl, sym, ap, ap₂, ◌∙◌, subst, arith, pow_pos}
 use Rattle.std.proofs.lemmas.Nat.{pow-add}
-use Rattle.std.proofs.lemmas.Bool.{eqb-true, cases_lt}
+use Rattle.std.proofs.lemmas.Bool.{eqb-true}
 use Rattle.std.proofs.lemmas.Grind.{flat_map-append}
 use Rattle.std.proofs.lemmas.List.Folds.{Any-from_list_any}
-use Rattle.std.proofs.Math.Nat.{mul-div_cancel, div-div-eq-div-mul, div-lt_iff_lt-mul}
+use Rattle.std.proofs.Math.Nat.{div-div-eq-div-mul, div-lt_iff_lt-mul}
 use Rattle.std.proofs.Math.Nat.{pow-le-pow_right}
-use Rattle.std.proofs.Math.Pow.{pow-lt}
 use Rattle.std.specs.List.{AllZip, flat_map, zip}
 use Rattle.std.specs.Int.{IsPowerOfTwo}
 use Rattle.algebra.specs.Polynomial.{val}
@@ -30,18 +29,7 @@ use Rattle.p3_fri_batch.specs.Words.{Opened, point_of_entry, terms_at, opened_te
 use Rattle.p3_fri_batch.specs.Heights.{has_height}
 use Rattle.p3_fri_batch.proofs.Heights.{value_of_height, has_claimed_height, claimed_heights}
 use Rattle.p3_fri_batch.specs.Claimed.{IsClaimOf, AreClaimsOf, matrices_in, rows_opened}
-
-smaller_power : (a b : ℕ) → 2 ^ a ≤ 2 ^ b → a ≤ b
-smaller_power a b l = elim (cases_lt b a) [
-  | inl more ↦ absurd (omega (arith, l, pow-lt more))
-  | inr less ↦ omega (arith, less)
-]
-
-power_quotient : (a b : ℕ) → a ≤ b → 2 ^ b / 2 ^ a ≡ 2 ^ (b - a)
-power_quotient a b l =
-    let e : b ≡ b - a + a = omega (arith, l) in
-    ap (λ n. 2 ^ n / 2 ^ a) e ∙ ap (λ n. n / 2 ^ a) (pow-add 2 (b - a) a)
-    ∙ mul-div_cancel (2 ^ (b - a)) (pow_pos a)
+use Rattle.p3_field_core.proofs.IndexPowers.{exponent_at_most, power_quotient}
 
 -- where a position stands in a lower matrix of a batch is where it stands in the lower word
 place : (top g h q : ℕ) → h ≤ g → g ≤ top
@@ -96,7 +84,7 @@ module _ {F E : Type 0} (top q : ℕ) where
       ap (λ n. get_or (rows m.matrix) (q / (2 ^ top / 2 ^ g) / (2 ^ g / n)) []) is
       ∙ ap (λ n. get_or (rows m.matrix) n [])
       (place top g (log_height m.matrix) q
-      (smaller_power (log_height m.matrix) g (omega (arith, below, is))) within)
+      (exponent_at_most (log_height m.matrix) g (omega (arith, below, is))) within)
 
   open_rows : (g : ℕ) (ms : List (Opened F E)) → Each (λ m. HasCoset top m.matrix) ms → g ≤ top
       → greatest_of ms ≤ 2 ^ g
@@ -114,7 +102,7 @@ module _ {F E : Type 0} (top q : ℕ) where
   rows_open ms each =
       let power = max_height-power (dimensions_of (matrices_in ms)) (powers_of ms each) in
       subst (λ n. Each (OpensRow n) ms) (sym power.1)
-      (open_rows power.0 ms each (smaller_power power.0 top
+      (open_rows power.0 ms each (exponent_at_most power.0 top
       (omega (arith, power.1, bounded ms each))) (omega (arith, power.1)))
 
 module _ {F E : Type 0} (f : Fields F E) (log_blowup top q h : ℕ) where

@@ -29,14 +29,6 @@ all_zip_at R (a ∷ xs) (b ∷ ys) zero x y h l e d = subst (λ u. R u y) (sym e
 all_zip_at R (a ∷ xs) (b ∷ ys) (suc i) x y h l e d = all_zip_at R xs ys i x y h.1 (omega (arith, l))
     e d
 
-pub all_zip_length : {A B : Type 0} (R : A → B → Type 0) (xs : List A) (ys : List B)
-    → AllZip R xs ys
-    → length xs ≡ length ys
-all_zip_length R [] [] h = refl
-all_zip_length R [] (y ∷ ys) h = absurd h
-all_zip_length R (x ∷ xs) [] h = absurd h
-all_zip_length R (x ∷ xs) (y ∷ ys) h = ap suc (all_zip_length R xs ys h.1)
-
 -- what holds of each value that a result can have
 pub for_ok : {T E : Type 0} (r : Result T E) (P : T → Type 0) → ((x : T) → r ≡ Ok x → P x)
     → IfOk r P

@@ -14,8 +14,9 @@ use Rattle.p3_fri_openings.specs.declared.round.OpeningRound.{OpeningRound}
 use Rattle.p3_fri_openings.specs.Committed.{committed_column, committed, committed_values}
 use Rattle.p3_fri_openings.specs.Opened.{values_asked}
 use Rattle.p3_fri_openings.specs.Rounds.{ask}
-use Rattle.p3_fri_batch.specs.Words.{Opened, claim_at, claims_of}
+use Rattle.p3_fri_batch.specs.Words.{claim_at, claims_of}
 use Rattle.p3_fri_batch.specs.Rounds.{HasValues, HaveValues, opened_at, opened_by_round}
+use Rattle.p3_fri_batch.specs.Rounds.{opened_honestly}
 
 claims_of_values : {E : Type 0} (g : E → List E) (zs : List E)
     → claims_of zs (map g zs) ≡ map (λ z. claim_at z (g z)) zs
@@ -27,15 +28,9 @@ module _ {F E : Type 0} (f : Fields F E) (log_blowup : ℕ) where
   abbrev pub values_there : RowMajorMatrix F → (points : List E) → List (List E)
   values_there matrix points = map (committed_values f log_blowup matrix) points
 
-  abbrev pub opened_there : RowMajorMatrix F → (points : List E) → Opened F E
-  opened_there matrix points = record {
-    matrix = matrix;
-    claims = map (λ z. claim_at z (committed_values f log_blowup matrix z)) points;
-  }
-
   round_opened : (matrices : List (RowMajorMatrix F)) (points : List (List E))
       → both opened_at (both ask matrices points) (both values_there matrices points)
-      ≡ both opened_there matrices points
+      ≡ both (opened_honestly f log_blowup) matrices points
   round_opened [] points = refl
   round_opened (m ∷ matrices) [] = refl
   round_opened (m ∷ matrices) (zs ∷ points) =
@@ -45,13 +40,13 @@ module _ {F E : Type 0} (f : Fields F E) (log_blowup : ℕ) where
   -- by round
   pub rounds_opened : (rounds : List (OpeningRound F E))
       → opened_by_round rounds (map (values_asked f log_blowup) rounds)
-      ≡ map (λ r. both opened_there r.matrices.now (lists r.points.now)) rounds
+      ≡ map (λ r. both (opened_honestly f log_blowup) r.matrices.now (lists r.points.now)) rounds
   rounds_opened [] = refl
   rounds_opened (r ∷ rounds) =
       ap₂ (λ os oss. os ∷ oss) (round_opened r.matrices.now (lists r.points.now))
       (rounds_opened rounds)
 
-  width_of_values : (matrix : RowMajorMatrix F) (z : E)
+  pub width_of_values : (matrix : RowMajorMatrix F) (z : E)
       → length (committed_values f log_blowup matrix z) ≡ matrix_width matrix
   width_of_values matrix z =
       length-map (committed f log_blowup matrix) (λ c. val f.ext (map f.lift c) z)

@@ -1,5 +1,4 @@
 pub mod Terms
-pub mod Rows
 pub mod LowDegree
 pub mod LowWords
 pub mod Heights

@@ -27,7 +27,7 @@ use Rattle.p3_fri_openings.specs.Committed.{committed_column, committed, committ
 use Rattle.p3_fri_openings.proofs.Committed.{committed_is}
 use Rattle.p3_fri_batch.specs.Words.{Opened, IsOpenedWord, terms_at, point_of_entry, opened_terms}
 use Rattle.p3_fri_batch.specs.Words.{batch_word}
-use Rattle.p3_fri_batch.proofs.Rows.{row_wide}
+use Rattle.p3_matrix.proofs.Widths.{row_width}
 
 module _ {F E : Type 0} (f : Fields F E) (L : IsField f.base)
     (W : AreRoots f.base f.two_adicity f.root)
@@ -58,7 +58,7 @@ module _ {F E : Type 0} (f : Fields F E) (L : IsField f.base)
       (coset_pt f.base f.root f.shift i (k + b))
   row_is m o i below =
       let x = coset_pt f.base f.root f.shift i (k + b) in
-      let wide = row_wide m.matrix i (omega (arith, below, o.height)) in
+      let wide = row_width m.matrix i (omega (arith, below, o.height)) in
       ap (λ row. map f.lift row) (sym
       (tabulate-get_or (matrix_width m.matrix) (get_or (rows m.matrix) i []) f.base.zero wide)
       ∙ tabulate-equal (matrix_width m.matrix)

@@ -17,8 +17,8 @@ use Rattle.p3_fri_openings.specs.Log2.{log2}
 use Rattle.p3_fri_openings.specs.Rounds.{log_height}
 use Rattle.p3_fri_openings.proofs.Log2.{log2-pow}
 use Rattle.p3_fri_batch.specs.Words.{Opened, IsSummed, point_of_entry, terms_at, opened_terms}
-use Rattle.p3_fri_batch.proofs.Rows.{row_wide}
 use Rattle.p3_fri_batch.proofs.Terms.{terms_length}
+use Rattle.p3_matrix.proofs.Widths.{row_width}
 
 module _ {F E : Type 0} (f : Fields F E) (L : IsField f.ext) (alpha : E) (h : ℕ) where
   -- without matrices the word is zero
@@ -79,7 +79,7 @@ module _ {F E : Type 0} (f : Fields F E) (L : IsField f.ext) (alpha : E) (h : �
         terms_length f.ext L alpha (point_of_entry f h i) (map f.lift (get_or (rows m.matrix) i []))
         (matrix_width m.matrix) m.claims wide
         (length-map (get_or (rows m.matrix) i []) f.lift
-        ∙ row_wide m.matrix i (omega (arith, l, size)))
+        ∙ row_width m.matrix i (omega (arith, l, size)))
 
     -- one of this height adds its quotients, by the powers that follow
     pub summed_more : (ms : List (Opened F E)) (word new : List E) (step after : E)

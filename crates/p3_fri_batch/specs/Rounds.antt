@@ -1,15 +1,18 @@
 -- The matrices of rounds with the values claimed at their points.
-use Rattle.std.specs.Prelude.{◌≡◌, ℕ, List, length, All}
+use Rattle.std.specs.Prelude.{◌≡◌, ℕ, List, length, All, map}
 use Rattle.std.specs.List.{AllZip}
 use Rattle.algebra.specs.Nested.{lists, joined}
 use Rattle.p3_matrix.specs.Matrix.{matrix_width}
+use Rattle.p3_matrix.specs.declared.dense.RowMajorMatrix.{RowMajorMatrix}
 use Rattle.p3_pcs.specs.Claims.{both}
 use Rattle.p3_fri_openings.specs.declared.denominators.PointDenominators.{PointDenominators}
 use Rattle.p3_fri_openings.specs.declared.round.OpeningRound.{OpeningRound}
 use Rattle.p3_fri_openings.specs.Denominators.{HasPointsCovered}
 use Rattle.p3_fri_openings.specs.Rounds.{Asked, HasCoset, asked_in}
+use Rattle.p3_fri_openings.specs.Committed.{committed_values}
 use Rattle.p3_fri_batch.specs.declared.opened.OpenedMatrix.{OpenedMatrix}
-use Rattle.p3_fri_batch.specs.Words.{Opened, claims_of}
+use Rattle.p3_fri_batch.specs.Words.{Opened, claims_of, claim_at}
+use Rattle.p3_fri_relation.specs.Setting.{Fields}
 
 module _ {F E : Type 0} where
   abbrev pub opened_at : Asked F E → (values : List (List E)) → Opened F E
@@ -51,3 +54,11 @@ module _ {F E : Type 0} where
     pub coset : HasCoset two_adicity m.matrix.now
     pub values : HasValues (asked_of m) (lists m.values.now)
     pub covered : HasPointsCovered table (asked_of m)
+
+module _ {F E : Type 0} (f : Fields F E) (log_blowup : ℕ) where
+  -- a matrix, opened at these points to its committed polynomials' values
+  abbrev pub opened_honestly : RowMajorMatrix F → (points : List E) → Opened F E
+  opened_honestly matrix points = record {
+    matrix = matrix;
+    claims = map (λ z. claim_at z (committed_values f log_blowup matrix z)) points;
+  }

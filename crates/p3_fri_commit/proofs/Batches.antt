@@ -1,20 +1,12 @@
 -- A batch of extensions, one after another.
-use Rattle.std.proofs.Common.{◌≡◌, ℕ, zero, suc, ◌+◌, ◌^◌, List, [], ◌∷◌, ◌++◌, length, map, All, Result, Ok, Err, IfOk, refl, sym, ap, ◌∙◌, arith, subst}
+use Rattle.std.proofs.Common.{◌≡◌, ℕ, List, [], ◌∷◌, ◌++◌, length, All, refl, sym, ap, ◌∙◌, arith}
 use Rattle.std.specs.List.{AllZip}
 use Rattle.std.specs.Int.{IsPowerOfTwo}
 use Rattle.std.proofs.lemmas.List.Elements.{All-head, All-tail}
 use Rattle.algebra.proofs.Lists.{Each, All_from_each}
-use Rattle.p3_commit.specs.Batch.{dimensions, dimensions_of, HavePowerHeights}
+use Rattle.p3_commit.specs.Batch.{dimensions_of, HavePowerHeights}
 use Rattle.p3_matrix.specs.declared.dense.RowMajorMatrix.{RowMajorMatrix}
 use Rattle.p3_matrix.specs.Matrix.{rows}
-
-module _ {A B : Type 0} (R : A → B → Type 0) where
-  pub zip_more : (ws : List A) (xs : List B) (w : A) (x : B) → AllZip R ws xs → R w x
-      → AllZip R (ws ++ w ∷ []) (xs ++ x ∷ [])
-  zip_more [] [] w x h r = (r, tt)
-  zip_more [] (y ∷ xs) w x h r = absurd h
-  zip_more (v ∷ ws) [] w x h r = absurd h
-  zip_more (v ∷ ws) (y ∷ xs) w x h r = (h.0, zip_more ws xs w x h.1 r)
 
 pub in_middle : {A : Type 0} (P : A → Type 0) (ys : List A) (x : A) (rest : List A)
     → All P (ys ++ x ∷ rest) → P x
@@ -32,10 +24,6 @@ pub have_powers : {A B : Type 0} (R : RowMajorMatrix A → B → Type 0) (ws : L
     → ((w : RowMajorMatrix A) (e : B) → R w e → IsPowerOfTwo (length (rows w)))
     → AllZip R ws es → HavePowerHeights (dimensions_of ws)
 have_powers R ws es p h = All_from_each (λ d. IsPowerOfTwo d.height) (dimensions_of ws) (each_power R ws es p h)
-
-pub if_ok_map : {T E : Type 0} (r : Result T E) (P Q : T → Type 0) → IfOk r P → ((v : T) → P v → Q v) → IfOk r Q
-if_ok_map (Ok v) P Q h f = f v h
-if_ok_map (Err e) P Q h f = tt
 
 pub nothing_left : {X : Type 0} (ys rest zs : List X) (n : ℕ) → n ≡ length rest → n ≡ 0 → ys ++ rest ≡ zs → ys ≡ zs
 nothing_left ys [] zs n h m e = sym (nil ys) ∙ e

@@ -7,7 +7,7 @@ use Rattle.std.specs.List.{flat_map}
 use Rattle.std.specs.declared.vec.Vec.{Vec}
 use Rattle.std.proofs.lemmas.Grind.{flat_map-append}
 use Rattle.algebra.specs.Nested.{lists, nested, joined}
-use Rattle.algebra.proofs.Lists.{Each, head_eq, tail_eq}
+use Rattle.algebra.proofs.Lists.{Each, head_eq, tail_eq, map-map}
 use Rattle.p3_matrix.specs.declared.dense.RowMajorMatrix.{RowMajorMatrix}
 use Rattle.p3_pcs.specs.Claims.{both, matrix_claims, opened_values}
 use Rattle.p3_pcs.specs.Requests.{Request, honest_claims, honest_values}
@@ -19,7 +19,6 @@ use Rattle.p3_fri_pcs_transcript.specs.Replay.{BatchReplay, claims_replay}
 use Rattle.p3_fri_relation.specs.Setting.{Fields, Setting, Parameters, CommitmentClaim, Proof}
 use Rattle.p3_fri_relation.specs.Heights.{matrices_of}
 use Rattle.p3_fri_relation.specs.Acceptance.{pcs_numbers, values_claimed, batch_replayed}
-use Rattle.p3_fri_openings.proofs.Tables.{map_twice}
 use Rattle.p3_fri_completeness.specs.Requests.{point_claim, matrix_claim, relation_claims, held_in}
 use Rattle.p3_fri_completeness.specs.Requests.{held_of, IsHonestRequest}
 use Rattle.p3_fri_completeness.proofs.Requests.{Fit}
@@ -38,7 +37,7 @@ module _ {E : Type 0} where
       → counts_in_matrices matrices ≡ counts_in (nested matrices)
   counts_of_matrices [] = refl
   counts_of_matrices (points ∷ matrices) =
-      ap₂ (λ n ns. n ∷ ns) (sym (map_twice (λ ys. length ys) (λ v. v.items) points.items))
+      ap₂ (λ n ns. n ∷ ns) (sym (map-map (λ ys. length ys) (λ v. v.items) points.items))
       (counts_of_matrices matrices)
 
   pub counts_of_all : (values : List (Vec (Vec (Vec E Global) Global) Global))

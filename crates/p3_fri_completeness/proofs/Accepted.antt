@@ -2,12 +2,12 @@
 use Rattle.std.proofs.Common.{◌≡◌, ℕ, suc, ◌+◌, ◌-◌, ◌/◌, ◌^◌, ◌<◌, ◌≤◌, List, [], ◌∷◌, map}
 use Rattle.std.proofs.Common.{length, get_or, true, refl, sym, ap, ◌∙◌, arith, subst}
 use Rattle.std.specs.Prelude.{IsTrue, slice_index, slice_index_or}
-use Rattle.std.specs.List.{All, AllZip, zip, range_with_len}
+use Rattle.std.specs.List.{All, zip, range_with_len}
 use Rattle.std.proofs.Math.Nat.{div-one}
 use Rattle.std.proofs.lemmas.List.Elements.{All-weaker}
 use Rattle.algebra.specs.Nested.{joined}
 use Rattle.algebra.specs.Rounds.{Round, AreLowDegreeWords}
-use Rattle.algebra.proofs.Lists.{Each, each_from_All, All_from_each, tabulate-equal}
+use Rattle.algebra.proofs.Lists.{Each, each_from_All, All_from_each, tabulate-equal, all_zip-weaker}
 use Rattle.p3_fri_relation.specs.Setting.{Setting, Parameters, CommitmentClaim, RoundOpening, Proof}
 use Rattle.p3_fri_relation.specs.Setting.{final_height}
 use Rattle.p3_fri_relation.specs.Heights.{matrices_of, has_height}
@@ -43,13 +43,6 @@ use Rattle.p3_fri_completeness.specs.Honest.{words_claimed}
 use Rattle.p3_fri_completeness.proofs.Claims.{each_claimed, some_claimed, points_claimed}
 use Rattle.p3_fri_completeness.proofs.Inputs.{inputs_opened}
 use Rattle.p3_fri_completeness.proofs.Sums.{rows_are, cosets, sums_defined, sums_vanish}
-
-all_zip_weaker : {A B : Type 0} (R S : A → B → Type 0) → ((x : A) (y : B) → R x y → S x y)
-    → (xs : List A) (ys : List B) → AllZip R xs ys → AllZip S xs ys
-all_zip_weaker R S f [] [] h = tt
-all_zip_weaker R S f [] (y ∷ ys) h = absurd h
-all_zip_weaker R S f (x ∷ xs) [] h = absurd h
-all_zip_weaker R S f (x ∷ xs) (y ∷ ys) h = (f x y h.0, all_zip_weaker R S f xs ys h.1)
 
 module _ {F E C Com Path InCom InPath : Type 0} (s : Setting F E C Com Path InCom InPath)
     (p : Parameters) (claims : List (CommitmentClaim E InCom)) (rounds : List (List (Opened F E)))
@@ -230,10 +223,10 @@ module _ {F E C Com Path InCom InPath : Type 0} (s : Setting F E C Com Path InCo
     inputs_open = inputs_opened s.fields p top s.opens_input positions within_word claims rounds
         proof.inputs
         o.claimed honest up_to o.inputs;
-    rounds_open = all_zip_weaker (OpensRound s p heights top words c proof)
-        (test.OpensRound s p claims proof alpha betas positions) round_opens
+    rounds_open = all_zip-weaker (OpensRound s p heights top words c proof)
+        (test.OpensRound s p claims proof alpha betas positions)
         (range_with_len 0 (length (test.log_arities p claims))) (zip proof.commitments proof.rounds)
-        o.proved.rounds_open;
+        round_opens o.proved.rounds_open;
     queries_hold = holds_here;
   }
 

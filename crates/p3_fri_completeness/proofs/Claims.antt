@@ -2,24 +2,23 @@
 use Rattle.std.proofs.Common.{◌≡◌, ◌≢◌, ℕ, suc, ◌+◌, ◌^◌, List, [], ◌∷◌, ◌++◌}
 use Rattle.std.proofs.Common.{length, map, get_or, refl, sym, ap, ap₂, ◌∙◌}
 use Rattle.std.specs.List.{All, AllZip}
-use Rattle.std.proofs.lemmas.List.{length-map, length-append, nil_from_length}
+use Rattle.std.proofs.lemmas.List.{length-append, nil_from_length}
 use Rattle.std.proofs.lemmas.List.Elements.{All-head}
-use Rattle.algebra.specs.Polynomial.{val}
 use Rattle.algebra.specs.Nested.{joined}
-use Rattle.algebra.proofs.Lists.{Each, length-tabulate}
+use Rattle.algebra.proofs.Lists.{Each, each-append}
 use Rattle.p3_matrix.specs.declared.dense.RowMajorMatrix.{RowMajorMatrix}
 use Rattle.p3_matrix.specs.Matrix.{matrix_width}
-use Rattle.p3_dft.specs.Evaluations.{column}
-use Rattle.p3_commit.specs.Batch.{max_height, dimensions_of}
+use Rattle.p3_commit.specs.Batch.{dimensions_of}
 use Rattle.p3_commit.specs.Batch as batch
 use Rattle.p3_fri_relation.specs.Setting.{Fields, Parameters, PointClaim, MatrixClaim}
 use Rattle.p3_fri_relation.specs.Setting.{CommitmentClaim}
 use Rattle.p3_fri_relation.specs.Heights.{matrices_of, width, dimensions}
 use Rattle.p3_fri_relation.specs.Inputs.{HasPoints}
-use Rattle.p3_fri_openings.specs.Committed.{committed_column, committed, committed_values}
+use Rattle.p3_fri_openings.specs.Committed.{committed_values}
 use Rattle.p3_fri_batch.specs.Words.{Opened}
 use Rattle.p3_fri_batch.specs.Claimed.{IsClaimOf, AreClaimsOf, matrices_in}
 use Rattle.p3_fri_completeness.specs.Honest.{IsHonest}
+use Rattle.p3_fri_batch.proofs.Honest.{width_of_values}
 
 -- what holds of each of two lists one behind the other
 module _ {X : Type 0} (P : X → Type 0) where
@@ -30,10 +29,6 @@ module _ {X : Type 0} (P : X → Type 0) where
   pub each_right : (xs ys : List X) → Each P (xs ++ ys) → Each P ys
   each_right [] ys h = h
   each_right (x ∷ xs) ys h = each_right xs ys h.1
-
-  pub each_joined : (xs ys : List X) → Each P xs → Each P ys → Each P (xs ++ ys)
-  each_joined [] ys h k = k
-  each_joined (x ∷ xs) ys h k = (h.0, each_joined xs ys h.1 k)
 
 -- what holds of each opened matrix tells what holds of each claim
 module _ (b : ℕ) {F E : Type 0} (P : Opened F E → Type 0) (Q : MatrixClaim E → Type 0)
@@ -53,7 +48,7 @@ module _ (b : ℕ) {F E : Type 0} (P : Opened F E → Type 0) (Q : MatrixClaim E
   each_claimed [] (ms ∷ rounds) are h = absurd are
   each_claimed (claim ∷ claims) [] are h = absurd are
   each_claimed (claim ∷ claims) (ms ∷ rounds) are h =
-      each_joined Q claim.matrices (matrices_of claims)
+      each-append Q claim.matrices (matrices_of claims)
       (each_alike claim.matrices ms are.0 (each_left P ms (joined rounds) h))
       (each_claimed claims rounds are.1 (each_right P ms (joined rounds) h))
 
@@ -86,11 +81,6 @@ module _ (b : ℕ) {F E : Type 0} where
 
 -- as many values are claimed at each point as the matrix has columns
 module _ {F E : Type 0} (f : Fields F E) (b : ℕ) (matrix : RowMajorMatrix F) where
-  committed_width : (z : E) → length (committed_values f b matrix z) ≡ matrix_width matrix
-  committed_width z =
-      length-map (committed f b matrix) (λ c. val f.ext (map f.lift c) z)
-      ∙ length-tabulate (matrix_width matrix) (λ j. committed_column f b (column f.base matrix j))
-
   abbrev IsCommitted : PointClaim E → Type 0
   IsCommitted z = z.values ≡ committed_values f b matrix z.point
 
@@ -98,7 +88,7 @@ module _ {F E : Type 0} (f : Fields F E) (b : ℕ) (matrix : RowMajorMatrix F) w
       → get_or (map (λ z. length z.values) claims) 0 0 ≡ matrix_width matrix
   first_width [] some h = absurd (some refl)
   first_width (z ∷ claims) some h =
-      ap length (All-head IsCommitted z claims h) ∙ committed_width z.point
+      ap length (All-head IsCommitted z claims h) ∙ width_of_values f b matrix z.point
 
 module _ {F E : Type 0} (f : Fields F E) (p : Parameters) where
   abbrev b : ℕ
@@ -117,7 +107,7 @@ module _ {F E : Type 0} (f : Fields F E) (p : Parameters) where
     points_made : (points : List (PointClaim E)) → points ≡ m.claims → All
         (λ z. length z.values ≡ matrix_width m.matrix) points
     points_made points same =
-        rw same (λ k d l. ap length (h.word.honest k d l) ∙ committed_width f p.log_blowup m.matrix
+        rw same (λ k d l. ap length (h.word.honest k d l) ∙ width_of_values f p.log_blowup m.matrix
         (get_or m.claims k d).point)
 
     pub points_claimed : HasPoints claim
@@ -154,7 +144,7 @@ module _ (b : ℕ) {F E : Type 0} (P : MatrixClaim E → Type 0) (Q : Opened F E
   claimed_each [] (ms ∷ rounds) are h = absurd are
   claimed_each (claim ∷ claims) [] are h = absurd are
   claimed_each (claim ∷ claims) (ms ∷ rounds) are h =
-      each_joined Q ms (joined rounds)
+      each-append Q ms (joined rounds)
       (alike_each claim.matrices ms are.0 (each_left P claim.matrices (matrices_of claims) h))
       (claimed_each claims rounds are.1 (each_right P claim.matrices (matrices_of claims) h))
 

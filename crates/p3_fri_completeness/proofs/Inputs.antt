@@ -1,14 +1,13 @@
 -- What a prover opens of honest batches is what the relation asks of the claims.
-use Rattle.std.proofs.Common.{◌≡◌, ℕ, ◌+◌, ◌-◌, ◌/◌, ◌^◌, ◌<◌, ◌≤◌, max, List, [], ◌∷◌, map, fold}
+use Rattle.std.proofs.Common.{◌≡◌, ℕ, ◌/◌, ◌^◌, ◌<◌, ◌≤◌, max, List, [], ◌∷◌, map, fold}
 use Rattle.std.proofs.Common.{length, refl, sym, ap, ap₂, ◌∙◌, arith, subst, inl, inr}
 use Rattle.std.specs.List.{All, AllZip, zip}
-use Rattle.std.proofs.Math.Nat.{div-one, div-eq_of_lt, mul-div_cancel, pow-le-pow_right}
-use Rattle.std.proofs.lemmas.Nat.{pow-add, pow_pos}
+use Rattle.std.proofs.Math.Nat.{div-one, div-eq_of_lt, pow-le-pow_right}
+use Rattle.std.proofs.lemmas.Nat.{pow_pos}
 use Rattle.std.proofs.lemmas.Bool.Decides.{leb_tells}
 use Rattle.std.proofs.lemmas.List.Elements.{All-head, All-tail}
 use Rattle.algebra.specs.Nested.{joined}
 use Rattle.algebra.proofs.Lists.{Each}
-use Rattle.p3_matrix.specs.declared.Dimensions.{Dimensions}
 use Rattle.p3_matrix.specs.Matrix.{rows}
 use Rattle.p3_commit.specs.Batch.{max_height, dimensions_of}
 use Rattle.p3_fri_relation.specs.Setting.{Fields, Parameters, MatrixClaim, CommitmentClaim}
@@ -20,6 +19,8 @@ use Rattle.p3_fri_batch.specs.Claimed.{IsClaimOf, AreClaimsOf, matrices_in}
 use Rattle.p3_fri_prover.specs.Openings.{batch_index, OpensBatch}
 use Rattle.p3_fri_completeness.specs.Honest.{IsHonest}
 use Rattle.p3_fri_completeness.proofs.Claims.{each_left, each_right, all_dimensions}
+use Rattle.p3_field_core.proofs.IndexPowers.{power_quotient}
+use Rattle.p3_commit.proofs.Heights.{max_height-positive}
 
 -- powers of two grow
 greater_power : (h k : ℕ) → 2 ^ max h k ≡ max (2 ^ h) (2 ^ k)
@@ -32,22 +33,12 @@ greater_power h k = elim (leb_tells h k) [
       let most : max h k ≡ h = omega (arith, low) in ap (λ n. 2 ^ n) most ∙ omega (arith, more))
 ]
 
-quotient_of_powers : (a b : ℕ) → a ≤ b → 2 ^ b / 2 ^ a ≡ 2 ^ (b - a)
-quotient_of_powers a b l =
-    let e : b ≡ b - a + a = omega (arith, l) in
-    ap (λ n. 2 ^ n / 2 ^ a) e ∙ ap (λ n. n / 2 ^ a) (pow-add 2 (b - a) a)
-    ∙ mul-div_cancel (2 ^ (b - a)) (pow_pos a)
-
 map_within : {X : Type 0} (bound : ℕ) (f g : ℕ → X) → ((q : ℕ) → q < bound → f q ≡ g q)
     → (qs : List ℕ) → All (λ q. q < bound) qs → map f qs ≡ map g qs
 map_within bound f g same [] h = refl
 map_within bound f g same (q ∷ qs) h =
     ap₂ (λ y ys. y ∷ ys) (same q (All-head (λ r. r < bound) q qs h))
     (map_within bound f g same qs (All-tail (λ r. r < bound) q qs h))
-
-at_least_one : (dims : List Dimensions) → 1 ≤ max_height dims
-at_least_one [] = omega arith
-at_least_one (d ∷ dims) = omega (arith, at_least_one dims)
 
 module _ {F E : Type 0} (f : Fields F E) (p : Parameters) where
   -- the greatest height of committed matrices is that of the greatest claimed log height
@@ -76,7 +67,7 @@ module _ {F E : Type 0} (f : Fields F E) (p : Parameters) where
       → AllZip (IsClaimOf p.log_blowup) claims ms → Each (IsHonest f p) ms
       → max_height (dimensions_of (matrices_in ms)) ≡ 2 ^ greatest_height p.log_blowup claims
   greatest_claimed claims ms are h =
-      let some = at_least_one (dimensions_of (matrices_in ms)) in
+      let some = max_height-positive (dimensions_of (matrices_in ms)) in
       let whole : max 1 (max_height (dimensions_of (matrices_in ms)))
       ≡ 2 ^ greatest_height p.log_blowup claims =
       greatest_more 0 claims ms are h in
@@ -101,7 +92,7 @@ module _ {F E : Type 0} (f : Fields F E) (p : Parameters) where
     index_opened (claim ∷ claims) [] are h t q l = absurd are
     index_opened (claim ∷ claims) (m ∷ ms) are h t q l =
         ap (λ n. q / n)
-        (sym (quotient_of_powers (greatest_height p.log_blowup (claim ∷ claims)) top
+        (sym (power_quotient (greatest_height p.log_blowup (claim ∷ claims)) top
         (greatest_within top 0 (claim ∷ claims) (omega arith) t))
         ∙ ap (λ n. 2 ^ top / n) (sym (greatest_claimed (claim ∷ claims) (m ∷ ms) are h)))
 

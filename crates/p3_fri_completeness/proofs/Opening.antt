@@ -1,14 +1,14 @@
 -- An opening of requests is accepted, in the words of the calls of which it is made: the rounds
 -- that come of the requests, the committed polynomials' values, the batch's transcript, the words
 -- of all log heights, and the test's proof of these.
-use Rattle.std.proofs.Common.{◌≡◌, ℕ, suc, ◌+◌, ◌<◌, ◌≤◌, List, [], ◌∷◌, map, length}
+use Rattle.std.proofs.Common.{◌≡◌, ℕ, suc, ◌+◌, ◌<◌, ◌≤◌, List, map, length}
 use Rattle.std.proofs.Common.{sym, ap}
 use Rattle.std.proofs.Common.{◌∙◌, subst}
 use Rattle.std.specs.Prelude.{IsTrue}
 use Rattle.std.specs.List.{All, AllZip}
 use Rattle.std.proofs.lemmas.List.{length-map}
 use Rattle.algebra.specs.Nested.{joined}
-use Rattle.algebra.proofs.Lists.{each_from_All}
+use Rattle.algebra.proofs.Lists.{each_from_All, all_zip-mapped}
 use Rattle.p3_matrix.specs.declared.dense.RowMajorMatrix.{RowMajorMatrix}
 use Rattle.p3_pcs.specs.declared.requests.OpeningRequest.{OpeningRequest}
 use Rattle.p3_pcs.specs.Claims.{both}
@@ -35,13 +35,6 @@ use Rattle.p3_fri_completeness.proofs.Requests.{Fit, honest_requests}
 use Rattle.p3_fri_completeness.proofs.Rounds.{opened_by_request, values_by_request}
 use Rattle.p3_fri_completeness.proofs.Absorbed.{begun, begun_of_claims}
 use Rattle.p3_fri_completeness.proofs.Scheme.{requests_accepted, requests_last_state}
-
-all_zip_mapped : {X Y Z : Type 0} (g : X → Y) (R : Y → Z → Type 0) (xs : List X) (zs : List Z)
-    → AllZip (λ x z. R (g x) z) xs zs → AllZip R (map g xs) zs
-all_zip_mapped g R [] [] h = tt
-all_zip_mapped g R [] (z ∷ zs) h = absurd h
-all_zip_mapped g R (x ∷ xs) [] h = absurd h
-all_zip_mapped g R (x ∷ xs) (z ∷ zs) h = (h.0, all_zip_mapped g R xs zs h.1)
 
 module _ {F E D C Com Path InCom InPath Domain : Type 0} (s : Setting F E C Com Path InCom InPath)
     (p : Parameters) (committed : D → List (RowMajorMatrix F)) (commitment_of : D → InCom)
@@ -145,7 +138,7 @@ module _ {F E D C Com Path InCom InPath Domain : Type 0} (s : Setting F E C Com 
       inputs_of_asked : AllZip (λ r o. OpensBatch s.opens_input top
           (positions s p heights top words before.state proof) (committed r.datum)
           (commitment_of r.datum) o) asked proof.inputs
-      inputs_of_asked = all_zip_mapped request (λ r o. OpensBatch s.opens_input top
+      inputs_of_asked = all_zip-mapped request (λ r o. OpensBatch s.opens_input top
           (positions s p heights top words before.state proof) (committed r.datum)
           (commitment_of r.datum) o) requests proof.inputs claimed.of_inputs
 

@@ -9,7 +9,7 @@ use Rattle.std.proofs.lemmas.List.{length-map, length-append, nil_from_length}
 use Rattle.std.proofs.lemmas.List.Elements.{All-map}
 use Rattle.algebra.specs.Nested.{joined}
 use Rattle.algebra.specs.Words.{IsCosetWord}
-use Rattle.algebra.proofs.Lists.{Each, each_from_All, head_eq, tail_eq}
+use Rattle.algebra.proofs.Lists.{Each, each_from_All, head_eq, tail_eq, each-append}
 use Rattle.p3_matrix.specs.declared.dense.RowMajorMatrix.{RowMajorMatrix}
 use Rattle.p3_matrix.specs.Matrix.{rows}
 use Rattle.p3_dft.specs.Evaluations.{column}
@@ -24,13 +24,13 @@ use Rattle.p3_fri_openings.specs.Committed.{committed_values}
 use Rattle.p3_fri_openings.proofs.Log2.{log2_is, pow-divided}
 use Rattle.p3_fri_batch.specs.Words.{Opened, IsOpenedWord, claim_at}
 use Rattle.p3_fri_batch.specs.Claimed.{IsClaimOf, AreClaimsOf, matrices_in}
+use Rattle.p3_fri_batch.specs.Rounds.{opened_honestly}
 use Rattle.p3_fri_prover.specs.Openings.{OpensBatch}
-use Rattle.p3_fri_prover.proofs.Inputs.{same_power}
 use Rattle.p3_fri_completeness.specs.Honest.{IsHonest}
 use Rattle.p3_fri_completeness.specs.Requests.{point_claim, matrix_claim, relation_claims, held_in}
-use Rattle.p3_fri_completeness.specs.Requests.{HoldsWords, opened_honestly, held_of, round_opened}
+use Rattle.p3_fri_completeness.specs.Requests.{HoldsWords, held_of, round_opened}
 use Rattle.p3_fri_completeness.specs.Requests.{IsHonestRequest}
-use Rattle.p3_fri_completeness.proofs.Claims.{each_joined}
+use Rattle.p3_field_core.proofs.IndexPowers.{exponents_agree}
 
 module _ {F E : Type 0} (f : Fields F E) (p : Parameters) where
   abbrev b : ℕ
@@ -44,7 +44,7 @@ module _ {F E : Type 0} (f : Fields F E) (p : Parameters) where
     claimed_size : (n : ℕ) → 2 ^ n ≡ length (rows matrix) / 2 ^ p.log_blowup → n + p.log_blowup
         ≡ log_height matrix
     claimed_size n e =
-        let same = same_power n held.log_size
+        let same = exponents_agree n held.log_size
         (e ∙ ap (λ m. m / 2 ^ p.log_blowup) held.height ∙ pow-divided held.log_size p.log_blowup) in
         omega (arith, same, log_is)
 
@@ -187,7 +187,7 @@ module _ {F E D Com Domain : Type 0} (f : Fields F E) (p : Parameters)
       → Each (IsHonest f p) (joined (rounds_of requests))
   requests_honest [] h = tt
   requests_honest (r ∷ requests) h =
-      each_joined (IsHonest f p) (round_opened f committed p.log_blowup r)
+      each-append (IsHonest f p) (round_opened f committed p.log_blowup r)
       (joined (rounds_of requests))
       (honest_in f p (committed r.datum) r.points h.0.lists_of_points
       (each_from_All (λ points. points ≢ []) r.points h.0.some_point)

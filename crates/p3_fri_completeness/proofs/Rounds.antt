@@ -9,12 +9,11 @@ use Rattle.p3_fri_openings.specs.declared.round.OpeningRound.{OpeningRound}
 use Rattle.p3_fri_openings.specs.Committed.{committed_values}
 use Rattle.p3_fri_openings.specs.Opened.{values_asked}
 use Rattle.p3_fri_openings.specs.Requests.{round_request, matrices_request}
-use Rattle.p3_fri_openings.proofs.Tables.{map_twice}
 use Rattle.p3_fri_batch.specs.Words.{Opened}
-use Rattle.p3_fri_batch.specs.Rounds.{opened_by_round}
+use Rattle.p3_fri_batch.specs.Rounds.{opened_by_round, opened_honestly}
 use Rattle.p3_fri_batch.proofs.Honest.{rounds_opened}
-use Rattle.p3_fri_prover.proofs.Batches.{map_same}
-use Rattle.p3_fri_completeness.specs.Requests.{held_in, held_of, opened_honestly, round_opened}
+use Rattle.p3_fri_completeness.specs.Requests.{held_in, held_of, round_opened}
+use Rattle.algebra.proofs.Lists.{map-agree, map-map}
 
 module _ {F E : Type 0} (f : Fields F E) (log_blowup : ℕ) where
   values_held : (ms : List (RowMajorMatrix F)) (lists : List (List E))
@@ -40,20 +39,20 @@ module _ {F E : Type 0} (f : Fields F E) (log_blowup : ℕ) where
     unfolding opened_from
     opened_by_request =
         rounds_opened f log_blowup rounds
-        ∙ sym (map_twice opened_from round_request rounds)
+        ∙ sym (map-map opened_from round_request rounds)
         ∙ ap (λ rs. map opened_from rs) same
-        ∙ map_twice opened_from (matrices_request committed) requests
-        ∙ sym (map_twice (round_opened f committed log_blowup) request requests)
+        ∙ map-map opened_from (matrices_request committed) requests
+        ∙ sym (map-map (round_opened f committed log_blowup) request requests)
 
     -- and the values
     pub values_by_request : map (values_asked f log_blowup) rounds
         ≡ map (honest_values (held_of f committed log_blowup)) (map request requests)
     unfolding values_from
     values_by_request =
-        sym (map_twice values_from round_request rounds)
+        sym (map-map values_from round_request rounds)
         ∙ ap (λ rs. map values_from rs) same
-        ∙ map_twice values_from (matrices_request committed) requests
-        ∙ map_same (λ r. values_from (matrices_request committed r))
+        ∙ map-map values_from (matrices_request committed) requests
+        ∙ map-agree (λ r. values_from (matrices_request committed r))
         (λ r. honest_values (held_of f committed log_blowup) (request r))
         (λ r. sym (values_held (committed r.prover_data.now) (request r).points)) requests
-        ∙ sym (map_twice (honest_values (held_of f committed log_blowup)) request requests)
+        ∙ sym (map-map (honest_values (held_of f committed log_blowup)) request requests)

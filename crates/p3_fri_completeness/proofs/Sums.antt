@@ -13,7 +13,6 @@ use Rattle.p3_fri_relation.specs.Heights.{matrices_of}
 use Rattle.p3_fri_relation.specs.Heights.{log_height as claimed_height}
 use Rattle.p3_fri_relation.specs.QuotientSums.{point_read, quotient_sum, IsDefinedAt}
 use Rattle.p3_fri_relation.specs.Inputs.{rows_at}
-use Rattle.p3_fri_relation.proofs.QueryLinks.{row_fits}
 use Rattle.p3_fri_openings.specs.Rounds.{log_height, HasCoset}
 use Rattle.p3_fri_batch.specs.Words.{Opened, IsOpenedWord}
 use Rattle.p3_fri_batch.specs.Claimed.{IsClaimOf, AreClaimsOf, matrices_in, rows_opened}
@@ -22,12 +21,13 @@ use Rattle.p3_fri_batch.proofs.LowWords.{constants_vanish}
 use Rattle.p3_fri_prover.specs.Openings.{batch_index, OpensBatch}
 use Rattle.p3_fri_completeness.specs.Honest.{AreTwoAdic, IsHonest}
 use Rattle.p3_fri_completeness.proofs.Claims.{each_claimed, claimed_each, each_both}
+use Rattle.p3_field_core.proofs.IndexPowers.{index_cut}
 
 -- a position reads within the word of a lower log height
 pub read_within : (top q h : ℕ) → h ≤ top → q < 2 ^ top → q / 2 ^ (top - h) < 2 ^ h
 read_within top q h low below =
     let e : top - (top - h) ≡ h = omega (arith, low) in
-    subst (λ n. q / 2 ^ (top - h) < 2 ^ n) e (row_fits top (top - h) q (omega arith) below)
+    subst (λ n. q / 2 ^ (top - h) < 2 ^ n) e (index_cut q top (top - h) below (omega arith))
 
 -- the rows opened at the `j`-th position are those of the matrices there
 module _ {F E InCom InPath : Type 0} (opens : Opening F InCom InPath) (b top : ℕ)

@@ -12,7 +12,8 @@ use Rattle.p3_fri_relation.specs.Setting.{PointClaim, MatrixClaim, CommitmentCla
 use Rattle.p3_fri_openings.specs.Rounds.{HasCoset, ask}
 use Rattle.p3_fri_openings.specs.Refusals.{AreTallEnough, HasPointsOff}
 use Rattle.p3_fri_openings.specs.Committed.{committed_values}
-use Rattle.p3_fri_batch.specs.Words.{Opened, claim_at}
+use Rattle.p3_fri_batch.specs.Words.{Opened}
+use Rattle.p3_fri_batch.specs.Rounds.{opened_honestly}
 
 module _ {E : Type 0} where
   abbrev pub point_claim : claimed.PointClaim E → PointClaim E
@@ -50,13 +51,6 @@ module _ {F E : Type 0} (f : Fields F E) (log_blowup : ℕ) where
     pub columns : (j : ℕ) → j < matrix_width matrix
         → IsCosetWord f.base f.root f.shift (log_size + log_blowup) (2 ^ log_size)
         (column f.base matrix j)
-
-  -- it is opened at these points to its committed polynomials' values
-  abbrev pub opened_honestly : RowMajorMatrix F → (points : List E) → Opened F E
-  opened_honestly matrix points = record {
-    matrix = matrix;
-    claims = map (λ z. claim_at z (committed_values f log_blowup matrix z)) points;
-  }
 
 -- where data is committed to as these matrices
 module _ {F E D : Type 0} (f : Fields F E) (committed : D → List (RowMajorMatrix F)) where

@@ -25,7 +25,7 @@ Down top [] final = top ≡ final
 Down top (s ∷ ss) final = (s < top) × Down s ss final
 
 -- heights that fall from a low height fall from a higher one
-falls_from_higher : (low high : ℕ) (hs : List ℕ) → low ≤ high → FallsFrom low hs → FallsFrom high hs
+pub falls_from_higher : (low high : ℕ) (hs : List ℕ) → low ≤ high → FallsFrom low hs → FallsFrom high hs
 falls_from_higher low high [] lower falls = tt
 falls_from_higher low high (h ∷ hs) lower falls = (omega (arith, falls.0), falls.1)
 

@@ -10,4 +10,3 @@ pub mod Assembly
 pub mod Opened
 pub mod Queries
 pub mod Shares
-pub mod Zipped

@@ -1,6 +1,6 @@
 -- Which log heights there are, and the greatest.
 use Rattle.std.proofs.Common.{◌≡◌, ◌||◌, ℕ, zero, suc, ◌+◌, ◌-◌, ◌<◌, ◌≤◌, max, Bool}
-use Rattle.std.proofs.Common.{false, cond, eqb, List, [], ◌∷◌, ◌++◌, length, All, get_or, fold}
+use Rattle.std.proofs.Common.{false, cond, eqb, List, [], ◌∷◌, ◌++◌, All, get_or, fold}
 use Rattle.std.proofs.Common.{refl, sym, ap, ◌∙◌, arith, inl, inr, add-one, append_assoc}
 use Rattle.std.specs.List.{flat_map, list_any}
 use Rattle.std.proofs.lemmas.Bool.Decides.{eqb_tells}
@@ -8,6 +8,7 @@ use Rattle.std.proofs.lemmas.List.Folds.{list_any-append, list_any_none}
 use Rattle.p3_fri_relation.specs.Setting.{MatrixClaim}
 use Rattle.p3_fri_relation.specs.Heights.{log_height, has_height, heights_below, heights_of}
 use Rattle.p3_fri_relation.specs.Heights.{greatest_height}
+use Rattle.p3_fri_relation.proofs.ClaimedHeights.{greatest_height-bounds}
 
 pub any_joined : {X A : Type 0} (p : A → Bool) (g : X → List A) (xs : List X)
     → list_any p (flat_map g xs) ≡ list_any (λ x. list_any p (g x)) xs
@@ -17,23 +18,6 @@ any_joined p g (x ∷ xs) =
     ∙ ap (λ b. list_any p (g x) || b) (any_joined p g xs)
 
 module _ (log_blowup : ℕ) {E : Type 0} where
-  above : (n : ℕ) (ms : List (MatrixClaim E))
-      → n ≤ fold (λ h m. max h (log_height log_blowup m)) n ms
-  above n [] = omega arith
-  above n (m ∷ ms) = omega (arith, above (max n (log_height log_blowup m)) ms)
-
-  below_greatest : (n : ℕ) (ms : List (MatrixClaim E)) (k : ℕ) (d : MatrixClaim E) → k < length ms
-      → log_height log_blowup (get_or ms k d) ≤ fold (λ h m. max h (log_height log_blowup m)) n ms
-  below_greatest n [] k d l = absurd (omega (arith, l))
-  below_greatest n (m ∷ ms) zero d l = omega (arith, above (max n (log_height log_blowup m)) ms)
-  below_greatest n (m ∷ ms) (suc k) d l =
-      below_greatest (max n (log_height log_blowup m)) ms k d (omega (arith, l))
-
-  -- no matrix is higher
-  pub none_higher : (ms : List (MatrixClaim E))
-      → All (λ m. log_height log_blowup m ≤ greatest_height log_blowup ms) ms
-  none_higher ms k d l = below_greatest 0 ms k d l
-
   least_bound : (n bound : ℕ) (ms : List (MatrixClaim E)) → n ≤ bound
       → All (λ m. log_height log_blowup m ≤ bound) ms
       → fold (λ h m. max h (log_height log_blowup m)) n ms ≤ bound
@@ -42,7 +26,7 @@ module _ (log_blowup : ℕ) {E : Type 0} where
       least_bound (max n (log_height log_blowup m)) bound ms (omega (arith, l, h zero m (omega arith)))
       (λ k d q. h (suc k) d (omega (arith, q)))
 
-  -- and what none is above, the greatest isn't
+  -- what no height is above, the greatest isn't
   pub greatest_within : (bound : ℕ) (ms : List (MatrixClaim E))
       → All (λ m. log_height log_blowup m ≤ bound) ms → greatest_height log_blowup ms ≤ bound
   greatest_within bound ms h = least_bound 0 bound ms (omega arith) h
@@ -50,7 +34,7 @@ module _ (log_blowup : ℕ) {E : Type 0} where
   pub none_above : (ms : List (MatrixClaim E)) (n : ℕ) → greatest_height log_blowup ms < n
       → has_height log_blowup ms n ≡ false
   none_above ms n l = list_any_none (λ m. eqb (log_height log_blowup m) n) ms
-      (λ k d q. differ (log_height log_blowup (get_or ms k d)) (none_higher ms k d q))
+      (λ k d q. differ (log_height log_blowup (get_or ms k d)) (greatest_height-bounds log_blowup ms k d q))
     where
       differ : (h : ℕ) → h ≤ greatest_height log_blowup ms → eqb h n ≡ false
       differ h q = elim (eqb_tells h n) [ inl e ↦ absurd (omega (arith, e.1, q, l)) | inr e ↦ e.0 ]

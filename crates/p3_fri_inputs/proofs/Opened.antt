@@ -13,8 +13,9 @@ use Rattle.p3_fri_relation.specs.Faults.{At}
 use Rattle.p3_fri_relation.specs.Heights.{log_height, greatest_height, dimensions, opened_index}
 use Rattle.p3_fri_relation.specs.Inputs.{OpensInput}
 use Rattle.p3_fri_inputs.proofs.LogHeights.{greatest_within}
-use Rattle.p3_fri_inputs.proofs.Places.{mapped_is}
 use Rattle.p3_fri_inputs.proofs.Refutations.{length_zip, zip_at}
+use Rattle.p3_commit.proofs.Heights.{max_height-positive}
+use Rattle.algebra.proofs.Lists.{entry_of_map}
 
 -- what holds of each pair holds place by place
 pub all_zip_from : {X Y : Type 0} (R : X → Y → Type 0) (xs : List X) (ys : List Y)
@@ -46,7 +47,7 @@ pub at_mapped_zip : {A B X Y : Type 0} (f : A → X) (g : B → Y) (P : X × Y �
 at_mapped_zip f g P xs ys i {x = x} {y = y} e l is_x is_y =
     at_zip P (map f xs) (map g ys) i (f x) (g y)
     (length-map ys g ∙ e ∙ sym (length-map xs f)) (omega (arith, l, length-map xs f))
-    (mapped_is f xs i x l is_x) (mapped_is g ys i y (omega (arith, l, e)) is_y)
+    (entry_of_map f xs i x l is_x) (entry_of_map g ys i y (omega (arith, l, e)) is_y)
 
 -- the scheme on what equals a claim's dimensions, indices and rows
 pub opened_as : {F E InCom InPath : Type 0} (opens : Opening F InCom InPath) (log_blowup top : ℕ)
@@ -60,10 +61,6 @@ opened_as opens log_blowup top positions claim o dims indices sets d i s = (
   λ h. rw (d, i, s) at h,
   λ h. rw (d, i, s) h,
 )
-
-at_least_one : (dims : List Dimensions) → 1 ≤ max_height dims
-at_least_one [] = omega arith
-at_least_one (d ∷ dims) = omega (arith, at_least_one dims)
 
 module _ (log_blowup : ℕ) {E : Type 0} where
   pub power_heights : (ms : List (MatrixClaim E)) → HavePowerHeights (map (dimensions log_blowup) ms)
@@ -120,5 +117,5 @@ module _ (log_blowup : ℕ) {E : Type 0} where
         get_or-map (opened_index log_blowup top all) positions k d d j,
         shr_below (get_or positions k d) high (top - high) small,
         highest 0 all,
-        at_least_one (map (dimensions log_blowup) all),
+        max_height-positive (map (dimensions log_blowup) all),
       )

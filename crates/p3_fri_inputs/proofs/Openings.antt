@@ -6,18 +6,20 @@ use Rattle.std.specs.List.{flat_map, zip, between, AllZip}
 use Rattle.std.proofs.lemmas.Grind.{flat_map-append}
 use Rattle.std.proofs.lemmas.List.{length-map, take_all, drop_all}
 use Rattle.std.proofs.lemmas.List.Concat.{get_or-flat_map}
+use Rattle.std.proofs.lemmas.Slice.Zip.{AllZip-long}
 use Rattle.std.specs.declared.vec.Vec.{Vec}
 use Rattle.algebra.specs.Field.{FieldOps, IsRing, sub}
 use Rattle.algebra.specs.Nested.{lists}
 use Rattle.algebra.specs.Polynomial.{val}
 use Rattle.algebra.proofs.Nested.{length-lists, lists_at}
 use Rattle.algebra.proofs.Values.{val-nil}
+use Rattle.algebra.proofs.Lists.{entry_of_map}
 use Rattle.p3_commit.specs.declared.openings.CommitmentOpening.{CommitmentOpening}
 use Rattle.p3_fri_relation.specs.Setting.{MatrixClaim, CommitmentClaim}
 use Rattle.p3_fri_relation.specs.Heights.{matrices_of, log_height}
 use Rattle.p3_fri_relation.specs.Views.{claims_of}
 use Rattle.p3_fri_inputs.specs.Claims.{claim_of, combined_values, distances}
-use Rattle.p3_fri_inputs.proofs.Places.{mapped_is, length-mapped_twice, mapped_twice_is}
+use Rattle.p3_fri_inputs.proofs.Places.{length-mapped_twice, mapped_twice_is}
 use Rattle.p3_fri_inputs.proofs.Joined.{length-joined_next, length-joined_at, joined_part, map-joined}
 use Rattle.p3_fri_inputs.proofs.Commitments.{terms_of}
 
@@ -50,7 +52,7 @@ pub all_of_claim : {E InCom Domain : Type 0} (log_size : Domain → ℕ) (P : Ma
 all_of_claim log_size P claims all i {claim = claim} l is =
     all_of_one P (claims_of log_size claims) all i (claim_of log_size claim)
     (omega (arith, l, length-map claims (claim_of log_size)))
-    (mapped_is (claim_of log_size) claims i claim l is)
+    (entry_of_map (claim_of log_size) claims i claim l is)
 
 -- what holds place by place holds at a place
 pub all_zip_at : {X Y : Type 0} (R : X → Y → Type 0) (xs : List X) (ys : List Y) → AllZip R xs ys
@@ -60,26 +62,19 @@ all_zip_at R (u ∷ xs) [] h i x y l = absurd h
 all_zip_at R (u ∷ xs) (v ∷ ys) h zero x y l = h.0
 all_zip_at R (u ∷ xs) (v ∷ ys) h (suc i) x y l = all_zip_at R xs ys h.1 i x y (omega (arith, l))
 
-pub all_zip_counts : {X Y : Type 0} (R : X → Y → Type 0) (xs : List X) (ys : List Y) → AllZip R xs ys
-    → length ys ≡ length xs
-all_zip_counts R [] [] h = refl
-all_zip_counts R [] (v ∷ ys) h = absurd h
-all_zip_counts R (u ∷ xs) [] h = absurd h
-all_zip_counts R (u ∷ xs) (v ∷ ys) h = ap suc (all_zip_counts R xs ys h.1)
-
 -- the same of the images of two lists
 pub all_zip_mapped_counts : {A B X Y : Type 0} (R : X → Y → Type 0) (f : A → X) (g : B → Y)
     (xs : List A) (ys : List B) → AllZip R (map f xs) (map g ys) → length ys ≡ length xs
 all_zip_mapped_counts R f g xs ys all =
-    sym (length-map ys g) ∙ all_zip_counts R (map f xs) (map g ys) all ∙ length-map xs f
+    sym (length-map ys g) ∙ AllZip-long R (map f xs) (map g ys) all ∙ length-map xs f
 
 pub all_zip_mapped_at : {A B X Y : Type 0} (R : X → Y → Type 0) (f : A → X) (g : B → Y)
     (xs : List A) (ys : List B) → AllZip R (map f xs) (map g ys) → (i : ℕ) {x : A} {y : B}
     → i < length xs → x ≡ get_or xs i x → y ≡ get_or ys i y → R (f x) (g y)
 all_zip_mapped_at R f g xs ys all i {x = x} {y = y} l is_x is_y =
     let there : i < length ys = omega (arith, l, all_zip_mapped_counts R f g xs ys all) in
-    subst (λ a. R a (g y)) (sym (mapped_is f xs i x l is_x))
-    (subst (R (get_or (map f xs) i (f x))) (sym (mapped_is g ys i y there is_y))
+    subst (λ a. R a (g y)) (sym (entry_of_map f xs i x l is_x))
+    (subst (R (get_or (map f xs) i (f x))) (sym (entry_of_map g ys i y there is_y))
     (all_zip_at R (map f xs) (map g ys) all i (f x) (g y) (omega (arith, l, length-map xs f))))
 
 -- vectors that hold what is made of each element of a list

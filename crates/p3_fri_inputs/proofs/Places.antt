@@ -7,6 +7,7 @@ use Rattle.std.specs.Prelude.{Option, Some, None}
 use Rattle.std.proofs.lemmas.List.{length-map, get_or-map}
 use Rattle.std.proofs.lemmas.List.Elements.{All-append}
 use Rattle.p3_fri_relation.specs.Faults.{At}
+use Rattle.algebra.proofs.Lists.{entry_of_map}
 
 -- of each of the first `k` of the list that `f` makes
 abbrev pub HoldsBelow : {X A : Type 0} (f : X → A) (Q : A → Type 0) (xs : List X) (k : ℕ) → Type 0
@@ -48,10 +49,6 @@ pub all_mapped_at : {X A : Type 0} (f : X → A) (Q : A → Type 0) (xs : List X
 all_mapped_at f Q xs all k x l is =
     subst Q (get_or-map f xs k x (f x) l ∙ ap f (sym is)) (all k (f x) (omega (arith, l, length-map xs f)))
 
-pub mapped_is : {X A : Type 0} (f : X → A) (xs : List X) (k : ℕ) (x : X) → k < length xs
-    → x ≡ get_or xs k x → f x ≡ get_or (map f xs) k (f x)
-mapped_is f xs k x l is = ap f is ∙ sym (get_or-map f xs k x (f x) l)
-
 pub length-mapped_twice : {A B C : Type 0} (f : A → B) (g : B → C) (xs : List A)
     → length (map g (map f xs)) ≡ length xs
 length-mapped_twice f g xs = length-map (map f xs) g ∙ length-map xs f
@@ -59,7 +56,7 @@ length-mapped_twice f g xs = length-map (map f xs) g ∙ length-map xs f
 pub mapped_twice_is : {A B C : Type 0} (f : A → B) (g : B → C) (xs : List A) (k : ℕ) {x : A} (d : C)
     → k < length xs → x ≡ get_or xs k x → g (f x) ≡ get_or (map g (map f xs)) k d
 mapped_twice_is f g xs k {x = x} d l is =
-    ap g (mapped_is f xs k x l is)
+    ap g (entry_of_map f xs k x l is)
     ∙ sym (get_or-map g (map f xs) k (f x) d (omega (arith, l, length-map xs f)))
 
 -- what is known of an answer that is there, or that isn't

@@ -5,6 +5,7 @@ use Rattle.std.proofs.Common.{Result, Err, IsOk}
 use Rattle.std.specs.List.{zip, AllZip}
 use Rattle.std.proofs.lemmas.Bool.{false≢true}
 use Rattle.std.proofs.lemmas.List.{length-map, get_or_default}
+use Rattle.std.proofs.lemmas.Slice.Zip.{AllZip-long}
 use Rattle.p3_matrix.specs.declared.Dimensions.{Dimensions}
 use Rattle.p3_commit.specs.Batch.{HasShape}
 use Rattle.p3_commit.proofs.Shapes.{rows_count, sets_count, set_at}
@@ -21,7 +22,7 @@ use Rattle.p3_fri_relation.specs.Heights.{matrices_of, log_height, dimensions, o
 use Rattle.p3_fri_relation.specs.QuotientSums.{point_read}
 use Rattle.p3_fri_relation.specs.Inputs.{HasPoints, OpensInput, AreInputsGood}
 use Rattle.p3_fri_relation.specs.Faults.{IsWrong, InputFault}
-use Rattle.p3_fri_inputs.proofs.Openings.{all_of_one, all_zip_at, all_zip_counts}
+use Rattle.p3_fri_inputs.proofs.Openings.{all_of_one, all_zip_at}
 
 pub wrong_differs : (asked found expected got : ℕ) → IsWrong asked found expected got → asked ≢ found
 wrong_differs asked found expected got w e = w.differ (w.expected_is ∙ e ∙ sym w.got_is)
@@ -45,7 +46,7 @@ zip_at (u ∷ xs) (v ∷ ys) (suc i) x y e l = zip_at xs ys i x y (omega (arith,
 pub all_zip_pair : {X Y : Type 0} (R : X → Y → Type 0) (xs : List X) (ys : List Y) → AllZip R xs ys
     → (i : ℕ) (p : X × Y) → i < length (zip xs ys) → get_or (zip xs ys) i p ≡ p → R p.0 p.1
 all_zip_pair R xs ys h i p l e =
-    let count = all_zip_counts R xs ys h in
+    let count = AllZip-long R xs ys h in
     let below : i < length xs = omega (arith, l, length_zip xs ys count) in
     let pair = sym (zip_at xs ys i p.0 p.1 count below) ∙ e in
     subst (λ q. R q.0 q.1) pair (all_zip_at R xs ys h i p.0 p.1 below)

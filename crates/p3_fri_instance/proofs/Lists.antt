@@ -52,12 +52,6 @@ module _ {A B : Type 0} (R : A → B → Type 0) where
       subst (λ (z : A). R z y) p (subst (λ (z : B). R a z) q h.0)
   all_zip_at (a ∷ xs) (b ∷ ys) h (suc k) x y e f = all_zip_at xs ys h.1 k x y e f
 
-  pub all_zip_length : (xs : List A) (ys : List B) → AllZip R xs ys → length ys ≡ length xs
-  all_zip_length [] [] h = refl
-  all_zip_length [] (y ∷ ys) h = absurd h
-  all_zip_length (x ∷ xs) [] h = absurd h
-  all_zip_length (x ∷ xs) (y ∷ ys) h = ap suc (all_zip_length xs ys h.1)
-
   -- of the pairs before the `k`-th
   abbrev pub AreBefore : (k : ℕ) (xs : List A) (ys : List B) → Type 0
   AreBefore k xs ys = (j : ℕ) (x : A) (y : B) → j < k → slice_get xs j ≡ Some x → slice_get ys j ≡ Some y → R x y

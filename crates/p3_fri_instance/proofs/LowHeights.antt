@@ -1,10 +1,10 @@
 -- Log heights below the final one: rounds of the schedule meet those that aren't, and no other.
-use Rattle.std.proofs.Common.{◌≡◌, ℕ, zero, suc, ◌+◌, ◌-◌, ◌<◌, ◌≤◌, inl, inr, List, [], ◌∷◌, ◌++◌}
-use Rattle.std.proofs.Common.{◌||◌, length, take, Bool, true, false, eqb, refl, sym, ap, subst, arith, get_or, nat_lt}
+use Rattle.std.proofs.Common.{◌≡◌, ℕ, zero, suc, ◌+◌, ◌-◌, ◌<◌, ◌≤◌, inl, inr, List, [], ◌∷◌}
+use Rattle.std.proofs.Common.{length, take, Bool, true, false, refl, sym, ap, subst, arith, get_or, nat_lt}
 use Rattle.std.specs.List.{All, sum, filter}
-use Rattle.std.proofs.lemmas.Bool.{eq-eqb, ne_eqb}
+use Rattle.std.proofs.lemmas.Bool.{ne_eqb}
 use Rattle.std.proofs.lemmas.Bool.Decides.{leb_tells}
-use Rattle.std.proofs.lemmas.List.Elements.{All-nil, All-cons, All-head, All-tail, All-weaker, All-same}
+use Rattle.std.proofs.lemmas.List.Elements.{All-nil, All-cons, All-head, All-tail, All-same}
 use Rattle.std.proofs.lemmas.List.Sums.{sum_by-cons}
 use Rattle.p3_fri_folding.specs.Schedule.{IsStrictlyFalling, tallest, stops, schedule, Reaches}
 use Rattle.p3_fri_folding.proofs.Rounds.{FallsFrom, stops_below, stops_below-above, stops_below-low}
@@ -12,8 +12,9 @@ use Rattle.p3_fri_folding.proofs.Rounds.{schedule-nil, schedule-low}
 use Rattle.p3_fri_folding.proofs.Fewest.{schedule-leads_down}
 use Rattle.p3_fri_relation.specs.FoldedQuery.{reaches}
 use Rattle.p3_fri_relation.specs.Faults.{IsUnmet, IsUnconsumed}
-use Rattle.p3_fri_relation.proofs.ScheduledRounds.{reaches-from, last_stop}
+use Rattle.p3_fri_relation.proofs.ScheduledRounds.{reaches-from, falling_below}
 use Rattle.p3_fri_instance.specs.Claimed.{IsFirstBelow}
+use Rattle.algebra.proofs.Lists.{all-last}
 
 -- to a height below their end they don't fold
 reaches-past : (rounds : List ℕ) (top k : ℕ) → k + sum rounds < top → reaches rounds top k ≡ false
@@ -37,19 +38,13 @@ each_from_stops P (h ∷ hs) final of_stops of_final = elim (leb_tells h final) 
       (each_from_stops P hs final (All-tail P h (stops_below hs final) listed) of_final))
 ]
 
-falling_below : (top : ℕ) (hs : List ℕ) → FallsFrom top hs → All (λ h. h < top) hs
-falling_below top [] falls = All-nil (λ h. h < top)
-falling_below top (h ∷ hs) falls =
-    All-cons (λ k. k < top) h hs falls.0
-    (All-weaker (λ k. k < h) (λ k. k < top) (λ k below. (let near = falls.0 in omega arith)) hs (falling_below h hs falls.1))
-
 through_stops : (top : ℕ) (further : List ℕ) (final : ℕ) (rounds : List ℕ) → FallsFrom top further
     → All (Reaches top rounds) (stops (top ∷ further) final) → All (λ h. final ≤ h → reaches rounds top h ≡ true) further
 unfolding stops
 through_stops top further final rounds falls through k d within up =
     let later : All (Reaches top rounds) (stops_below further final) = All-tail (Reaches top rounds) top (stops_below further final) through in
     reaches-from rounds top (get_or further k d) (falling_below top further falls k d within)
-    (each_from_stops (Reaches top rounds) further final later (last_stop (Reaches top rounds) (filter (nat_lt final) further) final later) k d within up)
+    (each_from_stops (Reaches top rounds) further final later (all-last (Reaches top rounds) (filter (nat_lt final) further) final later) k d within up)
 
 -- where all heights from the final one on are met, and no lower one, the first lower one is the first unmet
 first_unmet : (met : ℕ → Bool) (final : ℕ) → ((k : ℕ) → k < final → met k ≡ false) → (h : ℕ) (hs : List ℕ) (place next remaining : ℕ)

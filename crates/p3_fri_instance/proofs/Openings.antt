@@ -1,6 +1,7 @@
 -- What a proof opens in its rounds, by place.
 use Rattle.std.proofs.Common.{◌≡◌, ℕ, ◌-◌, ◌^◌, ◌<◌, arith, List, length, get_or, sym, subst}
 use Rattle.std.proofs.lemmas.List.{length-map}
+use Rattle.std.proofs.lemmas.Slice.Zip.{AllZip-long}
 use Rattle.std.specs.Prelude.{Some, slice_get, slice_index}
 use Rattle.std.specs.List.{Any}
 use Rattle.p3_fri_relation.specs.declared.error.FriError.{FriError}
@@ -12,7 +13,7 @@ use Rattle.p3_fri_relation.specs.Acceptance.{HasSiblings, HasCounts}
 use Rattle.p3_fri_relation.specs.Faults.{At, IsWrong, CountFault}
 use Rattle.p3_fri_relation.specs.Views.{round_opened, rounds_opened}
 use Rattle.p3_fri_instance.specs.Counts.{HasLengths, SiblingFault}
-use Rattle.p3_fri_instance.proofs.Lists.{get_at, get_in, get_map, all_zip_length}
+use Rattle.p3_fri_instance.proofs.Lists.{get_at, get_in, get_map}
 
 pub opened_at : {E M Com Data Path Err : Type 0} (openings : List (CommitPhaseMultiStep E M Com Data Path Err))
     (k : ℕ) (o : CommitPhaseMultiStep E M Com Data Path Err) → k < length openings → o ≡ get_or openings k o
@@ -34,7 +35,7 @@ at_opened P openings k o l is h = (
 module _ {F E Com Path InPath : Type 0} (p : Parameters) (log_arities : List ℕ) (proof : Proof F E Com Path InPath) where
   pub lengths_from_counts : (n : ℕ) → HasCounts p proof log_arities n → HasLengths p log_arities proof
   lengths_from_counts n h = record {
-    rounds = all_zip_length (HasSiblings p.num_queries) log_arities proof.rounds h.rounds;
+    rounds = AllZip-long (HasSiblings p.num_queries) log_arities proof.rounds h.rounds;
     commitments = h.commitments;
     commit_witnesses = h.commit_witnesses;
     final_poly = h.final_poly;

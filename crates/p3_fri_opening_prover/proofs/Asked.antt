@@ -4,7 +4,7 @@ use Rattle.std.proofs.Common.{All, get_or, refl, sym, ap, ap₂, ◌∙◌, arit
 use Rattle.std.specs.List.{flat_map}
 use Rattle.std.proofs.lemmas.List.{length-map, length-append, nil_from_length}
 use Rattle.algebra.specs.Nested.{joined}
-use Rattle.algebra.proofs.Lists.{Each, each_from_All}
+use Rattle.algebra.proofs.Lists.{Each, each_from_All, map-map}
 use Rattle.p3_matrix.specs.declared.dense.RowMajorMatrix.{RowMajorMatrix}
 use Rattle.p3_pcs.specs.declared.requests.OpeningRequest.{OpeningRequest}
 use Rattle.p3_pcs.specs.Claims.{both}
@@ -24,9 +24,8 @@ use Rattle.p3_fri_openings.specs.First.{FirstAt}
 use Rattle.p3_fri_relation.specs.TallEnough.{HeightRefusal}
 use Rattle.p3_fri_openings.specs.Refusals.{RoundHeightRefusal, RoundPointRefusal}
 use Rattle.p3_fri_openings.specs.Refusals.{IsFirstPoint}
-use Rattle.p3_fri_openings.proofs.Tables.{map_twice}
-use Rattle.p3_fri_batch.specs.Rounds.{opened_of}
-use Rattle.p3_fri_completeness.specs.Requests.{held_in, held_of, opened_honestly, round_opened}
+use Rattle.p3_fri_batch.specs.Rounds.{opened_of, opened_honestly}
+use Rattle.p3_fri_completeness.specs.Requests.{held_in, held_of, round_opened}
 use Rattle.p3_fri_completeness.proofs.Rounds.{opened_by_request}
 use Rattle.p3_fri_opening_prover.specs.Refusals.{IsFirstLow, PointsRefusal, asked_of}
 use Rattle.p3_fri_opening_prover.specs.Refusals.{CheckRefusal, GatherRefusal}
@@ -79,15 +78,15 @@ module _ {F E D : Type 0} (f : Fields F E) (p : Parameters)
   seen r = record { datum = committed r.datum; points = r.points }
 
   looks : map round_request rounds ≡ map seen asked
-  looks = same ∙ sym (map_twice seen request requests)
+  looks = same ∙ sym (map-map seen request requests)
 
   -- the same matrices
   pub data_seen : map (λ (r : OpeningRequest D E). committed r.prover_data.now) requests
       ≡ map (λ (r : OpeningRound F E). r.matrices.now) rounds
   data_seen =
-      sym (map_twice (λ (v : Seen). v.datum) (matrices_request committed) requests)
+      sym (map-map (λ (v : Seen). v.datum) (matrices_request committed) requests)
       ∙ ap (λ vs. map (λ (v : Seen). v.datum) vs) (sym same)
-      ∙ map_twice (λ (v : Seen). v.datum) round_request rounds
+      ∙ map-map (λ (v : Seen). v.datum) round_request rounds
 
   module _ (openable : AreOpenable (λ d. All (HasCoset f.two_adicity) (committed d))
       (held_of f committed p.log_blowup) asked) where

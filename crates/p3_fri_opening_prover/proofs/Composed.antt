@@ -22,7 +22,6 @@ use Rattle.p3_fri_openings.specs.declared.round.OpeningRound.{OpeningRound}
 use Rattle.p3_fri_openings.specs.Opened.{values_asked}
 use Rattle.p3_fri_openings.specs.Requests.{round_request, matrices_request}
 use Rattle.p3_fri_openings.specs.Rounds.{HasCoset}
-use Rattle.p3_fri_openings.proofs.Tables.{map_twice}
 use Rattle.p3_fri_batch.specs.Words.{Opened}
 use Rattle.p3_fri_batch.specs.Rounds.{opened_of}
 use Rattle.p3_fri_prover.specs.Openings.{OpensBatch}
@@ -35,19 +34,13 @@ use Rattle.p3_fri_completeness.proofs.Opening.{opening_accepted, opening_last_st
 use Rattle.p3_fri_opening_prover.specs.Opening.{heights, top, words, batch}
 use Rattle.p3_fri_opening_prover.specs.Opening.{IsOpening, OpeningStops}
 use Rattle.p3_fri_opening_prover.specs.Refusals.{PassesChecks, OpenRefusal, LeavesState}
+use Rattle.algebra.proofs.Lists.{map-map, all_zip-mapped}
 
 -- the same of what is read of the data
 pub read_alike : {D B X Y : Type 0} (f : D → B) (xs : List X) (ys : List Y) (g : X → D) (h : Y → D)
     → map g xs ≡ map h ys → map (λ x. f (g x)) xs ≡ map (λ y. f (h y)) ys
 read_alike f xs ys g h same =
-    sym (map_twice f g xs) ∙ ap (λ ds. map f ds) same ∙ map_twice f h ys
-
-zip_mapped : {X D Z : Type 0} (g : X → D) (R : D → Z → Type 0) (xs : List X) (zs : List Z)
-    → AllZip (λ x z. R (g x) z) xs zs → AllZip R (map g xs) zs
-zip_mapped g R [] [] h = tt
-zip_mapped g R [] (z ∷ zs) h = absurd h
-zip_mapped g R (x ∷ xs) [] h = absurd h
-zip_mapped g R (x ∷ xs) (z ∷ zs) h = (h.0, zip_mapped g R xs zs h.1)
+    sym (map-map f g xs) ∙ ap (λ ds. map f ds) same ∙ map-map f h ys
 
 zip_unmapped : {X D Z : Type 0} (g : X → D) (R : D → Z → Type 0) (xs : List X) (zs : List Z)
     → AllZip R (map g xs) zs → AllZip (λ x z. R (g x) z) xs zs
@@ -83,7 +76,7 @@ module _ {F E C Com Path InCom InPath D X Y : Type 0} (s : Setting F E C Com Pat
       proved = rw (← as_many) o.tested.proved;
       inputs = zip_unmapped h Opens ys proof.inputs
           (subst (λ ds. AllZip Opens ds proof.inputs) same
-          (zip_mapped g Opens xs proof.inputs o.tested.inputs));
+          (all_zip-mapped g Opens xs proof.inputs o.tested.inputs));
     };
   }
 

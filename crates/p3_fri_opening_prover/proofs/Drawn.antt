@@ -1,13 +1,13 @@
 -- What the transcript around the test did: what it absorbed, and what was drawn then.
-use Rattle.std.proofs.Common.{◌≡◌, ◌<◌, ℕ, zero, suc, true, List, [], ◌∷◌, ◌++◌, map, length}
-use Rattle.std.proofs.Common.{Option, Some, unwrap_or, refl, sym, ap, ap₂, ◌∙◌, arith, subst}
+use Rattle.std.proofs.Common.{◌≡◌, ◌<◌, ℕ, zero, true, List, [], ◌∷◌, ◌++◌, map, length}
+use Rattle.std.proofs.Common.{Option, Some, unwrap_or, refl, sym, ap, ap₂, ◌∙◌, subst}
 use Rattle.std.specs.Global.{Global}
 use Rattle.std.specs.List.{AllZip, flat_map}
 use Rattle.std.specs.declared.vec.Vec.{Vec}
 use Rattle.std.proofs.lemmas.Grind.{flat_map-append}
 use Rattle.algebra.specs.Nested.{lists, nested, joined}
 use Rattle.p3_matrix.specs.declared.dense.RowMajorMatrix.{RowMajorMatrix}
-use Rattle.p3_challenger_core.specs.Run.{After, observed_all}
+use Rattle.p3_challenger_core.specs.Run.{observed_all}
 use Rattle.p3_challenger_fs.specs.Turns.{bytes_observed}
 use Rattle.p3_pcs.specs.Claims.{opened_values}
 use Rattle.p3_fri_steps.specs.declared.error.FriProverError.{FriProverError}
@@ -20,7 +20,6 @@ use Rattle.p3_fri_pcs_transcript.specs.Steps.{PcsNumbers, pcs_stream}
 use Rattle.p3_fri_pcs_transcript.specs.Replay.{BatchReplay, shown_batch_replay, claims_replay}
 use Rattle.p3_fri_pcs_transcript.specs.Replay.{batch_replay}
 use Rattle.p3_fri_relation.specs.Setting.{Setting, Parameters, Proof}
-use Rattle.p3_fri_openings.proofs.Tables.{map_twice}
 use Rattle.p3_fri_batch.specs.Words.{Opened}
 use Rattle.p3_fri_prover.specs.Openings.{OpensBatch}
 use Rattle.p3_fri_prover.specs.Proved.{positions, IsProved}
@@ -28,6 +27,8 @@ use Rattle.p3_fri_prover.specs.Prover.{ProverRefusal}
 use Rattle.p3_fri_opening_prover.specs.Opening.{counts_of, all_of, heights, top, words}
 use Rattle.p3_fri_opening_prover.specs.Opening.{absorbed, batch, GoesOn, IsOpening, OpeningStops}
 use Rattle.p3_fri_opening_prover.proofs.Refused.{stops}
+use Rattle.p3_fri_prover.proofs.Plays.{bits_asked}
+use Rattle.algebra.proofs.Lists.{map-map}
 
 -- values in vectors, and the same as lists
 module _ {E : Type 0} where
@@ -35,7 +36,7 @@ module _ {E : Type 0} where
       → counts_in_matrices matrices ≡ map (λ points. map (λ ys. length ys) points) (nested matrices)
   counts_in [] = refl
   counts_in (points ∷ matrices) =
-      ap₂ (λ n ns. n ∷ ns) (sym (map_twice (λ ys. length ys) (λ v. v.items) points.items))
+      ap₂ (λ n ns. n ∷ ns) (sym (map-map (λ ys. length ys) (λ v. v.items) points.items))
       (counts_in matrices)
 
   pub counts_same : (vectors : List (Vec (Vec (Vec E Global) Global) Global))
@@ -57,12 +58,6 @@ module _ {E : Type 0} where
   all_same (matrices ∷ vectors) =
       flat_map-append (λ part. part) (lists_in_matrices matrices.items) (lists_of_values vectors)
       ∙ ap₂ (λ xs ys. xs ++ ys) (values_in matrices.items) (all_same vectors)
-
--- where no witness passes, there are bits
-bits_asked : {C W : Type 0} (observe : C → W → C) (draw_bits : C → ℕ → After C ℕ) (c : C)
-    (bits : ℕ) (witness : W) → NonePasses observe draw_bits c bits → 0 < bits
-bits_asked observe draw_bits c zero witness none = absurd (none witness refl)
-bits_asked observe draw_bits c (suc bits) witness none = omega arith
 
 module _ {F E C Com Path InCom InPath : Type 0} (s : Setting F E C Com Path InCom InPath)
     (p : Parameters) (ms : List (Opened F E)) (values : List (List (List (List E)))) (c : C) where

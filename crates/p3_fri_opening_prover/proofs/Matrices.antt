@@ -6,7 +6,7 @@ use Rattle.std.proofs.lemmas.Nat.{pow_pos}
 use Rattle.std.proofs.lemmas.List.{length-map}
 use Rattle.std.proofs.Math.Nat.{pow-le-pow_right}
 use Rattle.algebra.specs.Nested.{lists}
-use Rattle.algebra.proofs.Lists.{Each, each_from_All, All_from_each}
+use Rattle.algebra.proofs.Lists.{Each, each_from_All, All_from_each, each-append}
 use Rattle.p3_matrix.specs.declared.dense.RowMajorMatrix.{RowMajorMatrix}
 use Rattle.p3_matrix.specs.Matrix.{rows}
 use Rattle.p3_commit.specs.Batch.{max_height, dimensions_of}
@@ -19,7 +19,7 @@ use Rattle.p3_fri_openings.specs.Refusals.{AreTallEnough}
 use Rattle.p3_fri_openings.proofs.Log2.{pow-log2}
 use Rattle.p3_fri_batch.specs.Words.{Opened}
 use Rattle.p3_fri_batch.specs.Rounds.{HasValues, HaveValues, opened_at, opened_in, opened_of}
-use Rattle.p3_fri_completeness.proofs.Claims.{each_left, each_right, each_joined}
+use Rattle.p3_fri_completeness.proofs.Claims.{each_left, each_right}
 use Rattle.p3_fri_opening_prover.proofs.Transported.{all_same}
 
 -- what holds of the matrices
@@ -40,7 +40,7 @@ module _ {F E : Type 0} (P : RowMajorMatrix F → Type 0) where
   opened_each [] values h = tt
   opened_each (r ∷ rounds) [] h = tt
   opened_each (r ∷ rounds) (ys ∷ values) h =
-      each_joined OfOpened (opened_in r ys) (opened_of rounds values)
+      each-append OfOpened (opened_in r ys) (opened_of rounds values)
       (opened_here r.matrices.now (lists r.points.now) ys h.0)
       (opened_each rounds values h.1)
 

@@ -12,16 +12,13 @@ use Rattle.std.specs.declared.vec.Vec.{Vec}
 use Rattle.algebra.specs.Nested.{lists}
 use Rattle.p3_fri_folding.specs.Schedule.{IsStrictlyFalling, tallest}
 use Rattle.p3_fri_folding.proofs.Rounds.{FallsFrom}
+use Rattle.p3_fri_folding.proofs.Fewest.{falls_from_higher}
 use Rattle.p3_fri_relation.proofs.ClaimedHeights.{strictly_falling}
 use Rattle.p3_fri_relation.specs.Setting.{Fields}
 use Rattle.p3_fri_openings.specs.Rounds.{log_height}
 use Rattle.p3_fri_batch.specs.Words.{Opened, batch_word, opened_terms}
 use Rattle.p3_fri_batch.specs.Heights.{has_height, heights_below}
 use Rattle.p3_fri_prover.specs.Inputs.{HaveHeights, AreInputs}
-
-falls_from_higher : (low high : ℕ) (hs : List ℕ) → low ≤ high → FallsFrom low hs → FallsFrom high hs
-falls_from_higher low high [] lower falls = tt
-falls_from_higher low high (h ∷ hs) lower falls = (omega (arith, lower, falls.0), falls.1)
 
 tallest_below : (n : ℕ) (hs : List ℕ) → FallsFrom (suc n) hs → tallest hs ≤ n
 tallest_below n [] falls = omega arith

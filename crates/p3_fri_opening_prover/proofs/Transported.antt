@@ -3,8 +3,7 @@ use Rattle.std.proofs.Common.{◌≡◌, ℕ, zero, suc, ◌+◌, ◌<◌, ◌�
 use Rattle.std.proofs.Common.{All, get_or, refl, arith, subst}
 use Rattle.std.specs.List.{HoldsAt, Any}
 use Rattle.std.proofs.lemmas.List.{length-map}
-use Rattle.algebra.proofs.Lists.{Each, each_from_All, All_from_each}
-use Rattle.p3_pcs.proofs.Zipped.{entry_of_map}
+use Rattle.algebra.proofs.Lists.{Each, each_from_All, All_from_each, entry_of_map}
 use Rattle.p3_fri_openings.specs.First.{FirstAt}
 use Rattle.p3_fri_openings.proofs.First.{first_at, one_more, to_the_end, at_item}
 

@@ -10,7 +10,6 @@ use Rattle.algebra.specs.Nested.{lists}
 use Rattle.p3_matrix.specs.declared.dense.RowMajorMatrix.{RowMajorMatrix}
 use Rattle.p3_matrix.specs.Matrix.{rows}
 use Rattle.p3_pcs.specs.Claims.{both}
-use Rattle.p3_pcs.proofs.Zipped.{entry_of_map}
 use Rattle.p3_fri_relation.specs.Setting.{Fields}
 use Rattle.p3_fri_openings.specs.declared.asked.AskedPoint.{AskedPoint}
 use Rattle.p3_fri_openings.specs.declared.round.OpeningRound.{OpeningRound}
@@ -23,6 +22,7 @@ use Rattle.p3_fri_openings.specs.Denominators.{HoldsCosets, HasDenominators}
 use Rattle.p3_fri_openings.proofs.Log2.{pow-log2}
 use Rattle.p3_fri_openings.proofs.First.{one_more}
 use Rattle.p3_fri_openings.proofs.Pushed.{all_joined}
+use Rattle.algebra.proofs.Lists.{entry_of_map}
 
 module _ {F E : Type 0} where
   -- what holds of the matrices

@@ -18,19 +18,20 @@ use Rattle.p3_fri_relation.specs.Setting.{Fields}
 use Rattle.p3_fri_openings.specs.Committed.{coset_of, committed_column}
 use Rattle.p3_fri_openings.proofs.Log2.{log2-pow, pow-divided}
 
+-- the points of a coset by its log size
+pub coset_of_pow : {F E : Type 0} (f : Fields F E) (k : ℕ)
+    → coset_of f (2 ^ k) ≡ tabulate (2 ^ k) (λ i. coset_pt f.base f.root f.shift i k)
+coset_of_pow f k = ap (λ m. tabulate (2 ^ k) (λ i. coset_pt f.base f.root f.shift i m)) (log2-pow k)
+
 module _ {F E : Type 0} (f : Fields F E) (L : IsField f.base) (W : AreRoots f.base f.two_adicity f.root)
     (nonzero : f.shift ≢ f.base.zero) where
-  -- the points of a coset by its log size
-  coset_of_pow : (k : ℕ) → coset_of f (2 ^ k) ≡ tabulate (2 ^ k) (λ i. coset_pt f.base f.root f.shift i k)
-  coset_of_pow k = ap (λ m. tabulate (2 ^ k) (λ i. coset_pt f.base f.root f.shift i m)) (log2-pow k)
-
   -- the column's polynomial, by the first `2^k` entries
   column_is : (b k : ℕ) (ys : List F) → length ys ≡ 2 ^ (k + b)
       → committed_column f b ys
       ≡ interpolant f.base (tabulate (2 ^ k) (λ i. coset_pt f.base f.root f.shift i k)) (take (2 ^ k) ys)
   column_is b k ys size =
       ap (λ n. interpolant f.base (coset_of f n) (take n ys)) (ap (λ n. n / 2 ^ b) size ∙ pow-divided k b)
-      ∙ ap (λ xs. interpolant f.base xs (take (2 ^ k) ys)) (coset_of_pow k)
+      ∙ ap (λ xs. interpolant f.base xs (take (2 ^ k) ys)) (coset_of_pow f k)
 
   -- it is that of a word of low degree
   pub committed_is : (b k : ℕ) (ys : List F) → k + b ≤ f.two_adicity

@@ -5,9 +5,7 @@ use Rattle.std.proofs.lemmas.Nat.{pow-add, pow_pos}
 use Rattle.std.proofs.Math.Nat.{mul-div_cancel}
 use Rattle.algebra.proofs.Powers.{double}
 use Rattle.p3_fri_openings.specs.Log2.{halvings, log2}
-
-half : (k : ℕ) → 2 ^ suc k / 2 ≡ 2 ^ k
-half k = let d = double k in omega arith
+use Rattle.p3_field_core.proofs.IndexPowers.{double_halved}
 
 below-pow : (k : ℕ) → k < 2 ^ k
 below-pow zero = omega arith
@@ -21,7 +19,7 @@ unfolding halvings
 halvings-pow k zero h = absurd (omega arith)
 halvings-pow zero (suc limit) h = refl
 halvings-pow (suc k) (suc limit) h =
-    rw (above k, half k) (ap suc (halvings-pow k limit (omega arith)))
+    rw (above k, double_halved k) (ap suc (halvings-pow k limit (omega arith)))
 
 pub log2-pow : (k : ℕ) → log2 (2 ^ k) ≡ k
 log2-pow k = halvings-pow k (2 ^ k) (below-pow k)

@@ -1,5 +1,5 @@
 -- Rounds that come of requests: what may be opened, and the values asked for.
-use Rattle.std.proofs.Common.{◌≡◌, ℕ, List, [], ◌∷◌, length, map, All, refl, sym, ap, ap₂, ◌∙◌}
+use Rattle.std.proofs.Common.{◌≡◌, ℕ, List, [], ◌∷◌, length, map, All, refl, sym, ap, ◌∙◌}
 use Rattle.std.proofs.Common.{subst}
 use Rattle.std.proofs.lemmas.List.{length-map}
 use Rattle.std.proofs.lemmas.List.Elements.{All-map}
@@ -15,18 +15,13 @@ use Rattle.p3_fri_openings.specs.Opened.{values_asked}
 use Rattle.p3_fri_openings.specs.Requests.{round_request, matrices_request}
 use Rattle.p3_fri_openings.specs.Rounds.{HasCoset, IsRound}
 use Rattle.p3_fri_openings.proofs.Pushed.{all_of_map}
-use Rattle.p3_fri_openings.proofs.Tables.{map_twice}
+use Rattle.algebra.proofs.Lists.{map-map, map-agree}
 
 both_of_map : {S T U V : Type 0} (g : T → U → V) (h : S → T) (xs : List S) (ys : List U)
     → both g (map h xs) ys ≡ both (λ x y. g (h x) y) xs ys
 both_of_map g h [] ys = refl
 both_of_map g h (x ∷ xs) [] = refl
 both_of_map g h (x ∷ xs) (y ∷ ys) = ap (λ vs. g (h x) y ∷ vs) (both_of_map g h xs ys)
-
-map_agree : {S T : Type 0} (g h : S → T) → ((x : S) → g x ≡ h x) → (xs : List S)
-    → map g xs ≡ map h xs
-map_agree g h same [] = refl
-map_agree g h same (x ∷ xs) = ap₂ (λ y ys. y ∷ ys) (same x) (map_agree g h same xs)
 
 -- a matrix as a scheme holds it
 abbrev pub held : {F E : Type 0} → Fields F E → (log_blowup : ℕ) → (size : RowMajorMatrix F → ℕ)
@@ -65,8 +60,8 @@ module _ {F E D : Type 0} (committed : D → List (RowMajorMatrix F))
       ≡ map (λ r. both (λ matrix points. map (committed_values f log_blowup matrix) points)
       (committed r.prover_data.now) (lists r.points.items)) requests
   values_of_requests f log_blowup =
-      sym (map_twice values round_request rounds) ∙ ap (λ rs. map values rs) same
-      ∙ map_twice values (matrices_request committed) requests
+      sym (map-map values round_request rounds) ∙ ap (λ rs. map values rs) same
+      ∙ map-map values (matrices_request committed) requests
     where
       values : Request (List (RowMajorMatrix F)) E → List (List (List E))
       values r = both (λ matrix points. map (committed_values f log_blowup matrix) points) r.datum
@@ -79,12 +74,12 @@ module _ {F E D : Type 0} (committed : D → List (RowMajorMatrix F))
       (map request requests)
   honest_values_asked f log_blowup size =
       values_of_requests f log_blowup
-      ∙ map_agree (λ r. both (λ matrix points. map (committed_values f log_blowup matrix) points)
+      ∙ map-agree (λ r. both (λ matrix points. map (committed_values f log_blowup matrix) points)
       (committed r.prover_data.now) (lists r.points.items))
       (λ r. honest_values all_held (request r))
       (λ r. sym (both_of_map (λ (m : Held E) points. map m.values_at points)
       (held f log_blowup size) (committed r.prover_data.now) (lists r.points.items))) requests
-      ∙ sym (map_twice (honest_values all_held) request requests)
+      ∙ sym (map-map (honest_values all_held) request requests)
     where
       all_held : D → List (Held E)
       all_held datum = map (held f log_blowup size) (committed datum)

@@ -12,11 +12,10 @@ use Rattle.algebra.specs.Polynomial.{tabulate}
 use Rattle.algebra.specs.Interpolation.{AreDistinct}
 use Rattle.algebra.specs.TwoAdic.{AreRoots, pt}
 use Rattle.algebra.specs.Cosets.{coset_pt}
-use Rattle.algebra.proofs.Lists.{length-tabulate}
+use Rattle.algebra.proofs.Lists.{length-tabulate, entry_of_map}
 use Rattle.p3_field_core.specs.Coset.{bit_reversed_points}
 use Rattle.p3_matrix.specs.declared.dense.RowMajorMatrix.{RowMajorMatrix}
 use Rattle.p3_matrix.specs.Matrix.{rows}
-use Rattle.p3_pcs.proofs.Zipped.{entry_of_map}
 use Rattle.p3_fri_relation.specs.Setting.{Fields}
 use Rattle.p3_fri_openings.specs.declared.asked.AskedPoint.{AskedPoint}
 use Rattle.p3_fri_openings.specs.declared.denominators.PointDenominators.{PointDenominators}

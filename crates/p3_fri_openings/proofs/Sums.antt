@@ -1,10 +1,19 @@
 -- One more row in the sums over rows.
-use Rattle.std.proofs.Common.{◌≡◌, ℕ, ◌+◌, List, [], get_or, refl, sym, ap, ap₂, ◌∙◌, arith}
+use Rattle.std.proofs.Common.{◌≡◌, ℕ, zero, suc, ◌+◌, List, [], get_or, refl, sym, ap, ap₂, ◌∙◌, arith}
+use Rattle.std.proofs.Common.{add-one}
 use Rattle.algebra.specs.Field.{FieldOps, IsRing}
 use Rattle.algebra.specs.Polynomial.{sum_below}
-use Rattle.algebra.proofs.RingLaws.{add_four}
+use Rattle.algebra.proofs.RingLaws.{add_four, zero_add}
 use Rattle.p3_fri_openings.specs.Sums.{weighted, weighted_sum}
-use Rattle.p3_fri_openings.proofs.Sizes.{sum_next}
+
+-- one term more
+module _ {A : Type 0} (F : FieldOps A) (R : IsRing F) where
+  pub sum_next : (n : ℕ) (f : ℕ → A) → sum_below F (n + 1) f ≡ F.add (sum_below F n f) (f n)
+  unfolding sum_below
+  sum_next zero f = R.add_zero (f zero) ∙ sym (zero_add F R (f zero))
+  sum_next (suc n) f =
+      rw add-one (ap (λ s. F.add (f zero) s) (rw add-one at (sum_next n (λ i. f (suc i))))
+      ∙ sym (R.add_assoc (f zero) (sum_below F n (λ i. f (suc i))) (f (suc n))))
 
 module _ {F E : Type 0} (B : FieldOps F) (K : FieldOps E) (R : IsRing K) (lift : F → E)
     (points : List F) (inverses : List E) (rows : List (List F)) (j : ℕ) where

@@ -1,10 +1,8 @@
 -- Tables of inverse differences: each entry serves all smaller cosets.
-use Rattle.std.proofs.Common.{◌≡◌, ◌≢◌, ◌≤◌, ◌<◌, ℕ, zero, suc, ◌+◌, ◌-◌, ◌^◌, List, [], ◌∷◌, length, map, take, All, refl, sym, ap, ◌∙◌, subst, inl, inr, arith}
+use Rattle.std.proofs.Common.{◌≡◌, ◌≢◌, ◌≤◌, ◌<◌, ℕ, zero, suc, ◌+◌, ◌-◌, ◌^◌, List, [], ◌∷◌, length, map, take, All, sym, ap, ◌∙◌, subst, arith}
 use Rattle.std.specs.Vec.{vec_len}
 use Rattle.std.specs.List.{take-map}
-use Rattle.std.proofs.Math.Pow.{pow-lt}
 use Rattle.std.proofs.Math.Nat.{pow-le-pow_right}
-use Rattle.std.proofs.lemmas.Bool.{cases_lt}
 use Rattle.std.proofs.lemmas.List.{length-map}
 use Rattle.algebra.specs.Field.{IsField, IsRing, sub}
 use Rattle.algebra.specs.Polynomial.{tabulate}
@@ -18,7 +16,8 @@ use Rattle.p3_fri_openings.specs.declared.denominators.PointDenominators.{PointD
 use Rattle.p3_fri_openings.specs.Log2.{log2}
 use Rattle.p3_fri_openings.specs.Committed.{coset_of, inverse_differences}
 use Rattle.p3_fri_openings.specs.Denominators.{AreInverses, IsCovered}
-use Rattle.p3_fri_openings.proofs.Log2.{log2-pow}
+use Rattle.p3_fri_openings.proofs.Committed.{coset_of_pow}
+use Rattle.p3_field_core.proofs.IndexPowers.{exponent_at_most}
 
 -- a covered point is found
 pub found : {E : Type 0} (table : List (PointDenominators E)) (n : ℕ) (z : E) → IsCovered n table z
@@ -26,28 +25,15 @@ pub found : {E : Type 0} (table : List (PointDenominators E)) (n : ℕ) (z : E) 
 found [] n z c none = absurd (let w = c.within in omega (arith, w))
 found (e ∷ table) n z c none = none c.place e c.within (c.point e) (c.tall e)
 
-pub map_twice : {A B C : Type 0} (g : B → C) (h : A → B) (xs : List A) → map g (map h xs) ≡ map (λ x. g (h x)) xs
-map_twice g h [] = refl
-map_twice g h (x ∷ xs) = ap (λ t. g (h x) ∷ t) (map_twice g h xs)
-
-exponent : (h H : ℕ) → 2 ^ h ≤ 2 ^ H → h ≤ H
-exponent h H l = elim (cases_lt H h) [
-  | inl below ↦ let more = pow-lt below in absurd (omega (arith, l, more))
-  | inr above ↦ above
-]
-
 module _ {F E : Type 0} (f : Fields F E) (L : IsField f.base) (W : AreRoots f.base f.two_adicity f.root) where
-  coset_points_by : (k : ℕ) → coset_of f (2 ^ k) ≡ tabulate (2 ^ k) (λ i. coset_pt f.base f.root f.shift i k)
-  coset_points_by k = ap (λ m. tabulate (2 ^ k) (λ i. coset_pt f.base f.root f.shift i m)) (log2-pow k)
-
   pub coset_taken : (h H : ℕ) → h ≤ H → H ≤ f.two_adicity → take (2 ^ h) (coset_of f (2 ^ H)) ≡ coset_of f (2 ^ h)
   coset_taken h H l b =
-      ap (λ xs. take (2 ^ h) xs) (coset_points_by H)
+      ap (λ xs. take (2 ^ h) xs) (coset_of_pow f H)
       ∙ take-tabulate (2 ^ h) (2 ^ H) (λ i. coset_pt f.base f.root f.shift i H)
       (pow-le-pow_right {n = 2} (omega arith) {i = h} {j = H} l)
       ∙ tabulate-equal (2 ^ h) (λ i. coset_pt f.base f.root f.shift i H) (λ i. coset_pt f.base f.root f.shift i h)
       (λ i m. ap (λ p. f.base.mul f.shift p) (point-restrict' i m))
-      ∙ sym (coset_points_by h)
+      ∙ sym (coset_of_pow f h)
     where
       whole : h + (H - h) ≡ H
       whole = omega (arith, l)
@@ -66,7 +52,7 @@ module _ {F E : Type 0} (f : Fields F E) (L : IsField f.base) (W : AreRoots f.ba
       ∙ length-map (coset_of f (2 ^ a.log_height)) (λ x. f.ext.inv (sub f.ext entry.point (f.lift x)))
       ∙ length-tabulate (2 ^ a.log_height) (λ i. coset_pt f.base f.root f.shift i (log2 (2 ^ a.log_height))) in
       let long : vec_len entry.inverses ≡ length entry.inverses.items = entry.inverses.ok.0 in
-      let low : h ≤ a.log_height = exponent h a.log_height (omega (arith, tall, long, size)) in
+      let low : h ≤ a.log_height = exponent_at_most h a.log_height (omega (arith, tall, long, size)) in
       ap (λ xs. take (2 ^ h) xs) a.inverses_are
       ∙ take-map (λ x. f.ext.inv (sub f.ext entry.point (f.lift x))) (2 ^ h) (coset_of f (2 ^ a.log_height))
       ∙ ap (λ xs. map (λ x. f.ext.inv (sub f.ext entry.point (f.lift x))) xs) (coset_taken h a.log_height low a.within)
@@ -76,7 +62,7 @@ module _ {F E : Type 0} (f : Fields F E) (L : IsField f.base) (W : AreRoots f.ba
   pub differences_nonzero : (R : IsRing f.ext) (h : ℕ) (z : E) → IsOffCoset f.base f.lift f.root f.shift h z
       → All (λ x. x ≢ f.ext.zero) (map (λ x. sub f.ext z (f.lift x)) (coset_of f (2 ^ h)))
   differences_nonzero R h z off =
-      subst (λ xs. All (λ x. x ≢ f.ext.zero) (map (λ x. sub f.ext z (f.lift x)) xs)) (sym (coset_points_by h))
+      subst (λ xs. All (λ x. x ≢ f.ext.zero) (map (λ x. sub f.ext z (f.lift x)) xs)) (sym (coset_of_pow f h))
       (All_from_each (λ x. x ≢ f.ext.zero) _ (each (2 ^ h) (λ i. coset_pt f.base f.root f.shift i h)
       (λ i l e. off i l (sym (sub-eq f.ext R e)))))
     where

@@ -1,5 +1,5 @@
 -- Scaled sums over the first rows are the values of the committed polynomials.
-use Rattle.std.proofs.Common.{◌≡◌, ◌≢◌, ◌≤◌, ◌<◌, ℕ, ◌+◌, ◌/◌, ◌^◌, List, [], length, map, take, get_or, sym, ap, ◌∙◌, arith, Result, Ok, Err, IfOk}
+use Rattle.std.proofs.Common.{◌≡◌, ◌≢◌, ◌≤◌, ◌<◌, ℕ, ◌+◌, ◌/◌, ◌^◌, List, [], length, map, take, get_or, sym, ap, ◌∙◌, arith}
 use Rattle.std.proofs.Math.ListN.{get_or-map}
 use Rattle.std.proofs.Math.Nat.{pow-le-pow_right}
 use Rattle.std.proofs.lemmas.List.{length-map, get_or-take, length-take}
@@ -32,10 +32,6 @@ starts_at xs start i d h l = sym (get_or-take (length start) xs i d l) ∙ ap (�
 
 pub starts_long : {X : Type 0} (xs start : List X) → StartsWith xs start → length start ≤ length xs
 starts_long xs start h = let e = sym (length-take (length start) xs) ∙ ap length h in omega (arith, e)
-
-pub same_of_ok : {T E : Type 0} (r : Result T E) (P Q : T → Type 0) → IfOk r P → ((v : T) → P v → Q v) → IfOk r Q
-same_of_ok (Ok v) P Q h g = g v h
-same_of_ok (Err e) P Q h g = tt
 
 -- columns that are lower than the blowup have the polynomial without coefficients
 module _ {F E : Type 0} (f : Fields F E) where

@@ -1,6 +1,5 @@
 -- Claims, compared one after another with the described counts.
-use Rattle.std.proofs.Common.{◌≡◌, ℕ, ◌+◌, ◌-◌, ◌^◌, ◌<◌, ◌≤◌, min, List, [], ◌∷◌, ◌++◌, length, map, take, drop, get_or, refl, sym, ap, ◌∙◌, add-one, add_assoc, arith, append_assoc, length-append}
-use Rattle.std.proofs.Math.Seq.{take-suc}
+use Rattle.std.proofs.Common.{◌≡◌, ℕ, ◌+◌, ◌-◌, ◌^◌, ◌<◌, ◌≤◌, min, List, [], ◌∷◌, ◌++◌, length, map, take, drop, get_or, refl, sym, ap, ◌∙◌, add_assoc, arith, append_assoc, length-append}
 use Rattle.std.proofs.lemmas.List.{map-append, length-map, take_all, take-append-drop}
 use Rattle.std.proofs.lemmas.Grind.{flat_map-append}
 use Rattle.std.specs.List.{flat_map}
@@ -12,10 +11,7 @@ use Rattle.p3_fri_pcs_transcript.specs.declared.pcs_transcript.failure.PcsTransc
 use Rattle.p3_fri_pcs_transcript.specs.Claims.{BeginsWith, Differs, IsClaimFailure}
 use Rattle.p3_fri_pcs_transcript.specs.Cursor.{counts_left, IsCompared}
 use Rattle.p3_fri_steps.proofs.Lists.{next_item}
-
--- what was taken of a list, with one entry more
-taken : {A : Type 0} (xs : List A) (i : ℕ) (x : A) → i < length xs → x ≡ get_or xs i x → take (i + 1) xs ≡ take i xs ++ x ∷ []
-taken xs i x less is = ap (λ n. take n xs) (add-one i) ∙ take-suc xs i x less ∙ ap (λ y. take i xs ++ y ∷ []) (sym is)
+use Rattle.p3_fri_transcript.proofs.Replays.{take_next}
 
 -- a list about one of its entries
 about : {A : Type 0} (xs : List A) (i : ℕ) (x : A) → i < length xs → x ≡ get_or xs i x → xs ≡ take i xs ++ x ∷ drop (i + 1) xs
@@ -23,7 +19,7 @@ about xs i x less is = sym (take-append-drop i xs) ∙ ap (λ ys. take i xs ++ y
 
 -- the same of what is made of each entry
 pub taken_item : {A B : Type 0} (f : A → B) (xs : List A) (i : ℕ) (x : A) → i < length xs → x ≡ get_or xs i x → map f (take (i + 1) xs) ≡ map f (take i xs) ++ f x ∷ []
-taken_item f xs i x less is = ap (map f) (taken xs i x less is) ∙ map-append f (take i xs) (x ∷ [])
+taken_item f xs i x less is = ap (map f) (take_next xs i x less is) ∙ map-append f (take i xs) (x ∷ [])
 
 pub about_item : {A B : Type 0} (f : A → B) (xs : List A) (i : ℕ) (x : A) → i < length xs → x ≡ get_or xs i x → map f xs ≡ map f (take i xs) ++ (f x ∷ []) ++ map f (drop (i + 1) xs)
 about_item f xs i x less is =

@@ -1,5 +1,5 @@
 -- A PCS transcript and the test inside it, put together from what single calls did.
-use Rattle.std.proofs.Common.{◌≡◌, ℕ, zero, suc, Bool, true, false, ◌&&◌, List, Option, Some, refl, sym, ap, ◌∙◌}
+use Rattle.std.proofs.Common.{◌≡◌, ℕ, zero, suc, Bool, true, ◌&&◌, List, Option, Some, sym, ap, ◌∙◌}
 use Rattle.std.specs.List.{flat_map}
 use Rattle.algebra.specs.Field.{FieldOps}
 use Rattle.p3_challenger_core.specs.Run.{After, Moves, observed_all, draws}
@@ -13,10 +13,7 @@ use Rattle.p3_fri_pcs_transcript.specs.Steps.{PcsNumbers, pcs_stream}
 use Rattle.p3_fri_pcs_transcript.specs.Replay.{BatchReplay, shown_batch_replay, claims_observed, claims_replay, PcsReplay, pcs_replay}
 use Rattle.p3_fri_transcript.specs.Replay.{FriReplay, QueriesReplay, rounds_replay, shown_queries_replay, fri_replay}
 use Rattle.p3_fri_pcs_transcript.specs.Shown.{IsShown, ReplaysAsShown}
-
-both_left : (p q : Bool) → p && q ≡ true → p ≡ true
-both_left true q e = refl
-both_left false q e = cc
+use Rattle.p3_fri_transcript.proofs.Events.{left_of}
 
 module _ {C F E Com : Type 0} (m : Moves C F E Com) (coefficients : E → List F) (ops : FieldOps F) (d : ℕ) (shape : PcsNumbers) (test : FriNumbers) (c : C) (values : List E) (batch_witness : Option F) (commitments : List Com) (witnesses : List F) (final_poly : List E) (witness : Option F) where
   abbrev pub batched : BatchReplay C E
@@ -81,7 +78,7 @@ module _ {C F E Com : Type 0} (m : Moves C F E Com) (coefficients : E → List F
   unfolding pcs_replay
   batch_passes started observed first second pass =
       sym (ap (λ (r : BatchReplay C E). r.passes) (batch_joined started observed first second))
-      ∙ both_left batched.passes (fri_from batched.state).passes pass
+      ∙ left_of batched.passes (fri_from batched.state).passes pass
 
   -- and then the test does
   pub test_passes : (started observed inside lent : C) (alpha : E)

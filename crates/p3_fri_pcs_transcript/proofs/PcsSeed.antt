@@ -7,7 +7,7 @@ use Rattle.p3_challenger_fs.specs.declared.pattern.Hierarchy.TheVariants.{Begin,
 use Rattle.p3_challenger_fs.specs.declared.pattern.Kind.TheVariants.{Challenge}
 use Rattle.p3_challenger_fs.specs.Pattern.{Step, number_bytes}
 use Rattle.p3_challenger_fs.specs.StreamLaws.{FitsNumber}
-use Rattle.p3_challenger_fs.proofs.Streams.{FitsWhole, head_equal, tail_equal, cons_equal, split_front, stream_determined}
+use Rattle.p3_challenger_fs.proofs.Streams.{FitsWhole, cons_equal, split_front, stream_determined}
 use Rattle.p3_fri_pcs_transcript.specs.Shapes.{pcs_shape}
 use Rattle.p3_fri_pcs_transcript.specs.Steps.{PcsNumbers, bracket_step, widths, grouping, pcs_steps, pcs_stream, pcs_labels}
 use Rattle.p3_fri_steps.specs.Steps.{pow_steps, challenge_step, message_step}
@@ -15,6 +15,7 @@ use Rattle.p3_fri_pcs_transcript.specs.declared.pcs_transcript.shape.PcsShape.{P
 use Rattle.p3_fri_steps.specs.Fits.{FitsList, FitsPoints}
 use Rattle.p3_fri_pcs_transcript.specs.SeedLaws.{FitsMatrices, FitsCounts, FitsPcs}
 use Rattle.p3_fri_steps.proofs.SeedLemmas.{count_equal, kind_equal, pow_step, pow_determined, pow_fits, labels_fit, labels_determined}
+use Rattle.algebra.proofs.Lists.{head_eq, tail_eq}
 
 -- the numbers of claimed values and how they are grouped give back the counts
 points_determined : (xs ys : List (List ℕ)) (s t : List ℕ) → map length xs ≡ map length ys → flat_map (λ points. points) xs ++ s ≡ flat_map (λ points. points) ys ++ t → (xs ≡ ys) × (s ≡ t)
@@ -23,8 +24,8 @@ points_determined [] (y ∷ ys) s t l e = absurd cc
 points_determined (x ∷ xs) [] s t l e = absurd cc
 points_determined (x ∷ xs) (y ∷ ys) s t l e =
     let rest = λ (z : List (List ℕ)). flat_map (λ points. points) z in
-    let first = split_front x y (rest xs ++ s) (rest ys ++ t) (head_equal (length x) (length y) (map length xs) (map length ys) l) (sym (append_assoc x (rest xs) s) ∙ e ∙ append_assoc y (rest ys) t) in
-    let others = points_determined xs ys s t (tail_equal (length x) (length y) (map length xs) (map length ys) l) first.1 in
+    let first = split_front x y (rest xs ++ s) (rest ys ++ t) (head_eq l) (sym (append_assoc x (rest xs) s) ∙ e ∙ append_assoc y (rest ys) t) in
+    let others = points_determined xs ys s t (tail_eq l) first.1 in
     (cons_equal x y xs ys first.0 others.0, others.1)
 
 abbrev group : List (List ℕ) → List ℕ
@@ -35,15 +36,15 @@ groups_determined [] [] l g w = refl
 groups_determined [] (y ∷ ys) l g w = absurd (omega arith)
 groups_determined (x ∷ xs) [] l g w = absurd (omega arith)
 groups_determined (x ∷ xs) (y ∷ ys) l g w =
-    let count = head_equal (length x) (length y) (map length x ++ flat_map group xs) (map length y ++ flat_map group ys) g in
+    let count = head_eq g in
     let lengths = split_front (map length x) (map length y) (flat_map group xs) (flat_map group ys) (length-map x length ∙ count ∙ sym (length-map y length))
-    (tail_equal (length x) (length y) (map length x ++ flat_map group xs) (map length y ++ flat_map group ys) g) in
+    (tail_eq g) in
     let first = points_determined x y (widths xs) (widths ys) lengths.0 w in
     cons_equal x y xs ys first.0 (groups_determined xs ys (omega arith) lengths.1 first.1)
 
 pub counts_determined : (xs ys : List (List (List ℕ))) → grouping xs ≡ grouping ys → widths xs ≡ widths ys → xs ≡ ys
 counts_determined xs ys g w =
-    groups_determined xs ys (head_equal (length xs) (length ys) (flat_map group xs) (flat_map group ys) g) (tail_equal (length xs) (length ys) (flat_map group xs) (flat_map group ys) g) w
+    groups_determined xs ys (head_eq g) (tail_eq g) w
 
 grouping_fits : (xs : List (List (List ℕ))) → FitsCounts xs → All FitsNumber (grouping xs)
 grouping_fits xs f = All-cons FitsNumber (length xs) (flat_map group xs) f.0 (groups_fit xs f.1)
@@ -72,8 +73,8 @@ shape_with counts bits = record { counts = counts; batch_pow_bits = bits }
 module _ (d : ℕ) where
   -- neither a proof of work nor a challenge is a message
   no_message : (label other : List ℕ) (bits n : ℕ) (x : Step) (u v : List Step) → x.kind ≡ Challenge → pow_steps label bits ++ x ∷ u ≡ message_step d other n ∷ v → ⊥
-  no_message label other zero n x u v k e = let h = kind_equal x (message_step d other n) (head_equal x (message_step d other n) u v e) in absurd cc
-  no_message label other (suc bits) n x u v k e = let h = kind_equal (pow_step label (suc bits)) (message_step d other n) (head_equal _ _ (x ∷ u) v e) in absurd cc
+  no_message label other zero n x u v k e = let h = kind_equal x (message_step d other n) (head_eq e) in absurd cc
+  no_message label other (suc bits) n x u v k e = let h = kind_equal (pow_step label (suc bits)) (message_step d other n) (head_eq e) in absurd cc
 
   messages_determined : (label other : List ℕ) (ms ns : List ℕ) (bits bits' : ℕ) (x y : Step) (u v : List Step) → x.kind ≡ Challenge → y.kind ≡ Challenge
       → map (message_step d other) ms ++ (pow_steps label bits ++ x ∷ u) ≡ map (message_step d other) ns ++ (pow_steps label bits' ++ y ∷ v)
@@ -84,8 +85,8 @@ module _ (d : ℕ) where
   messages_determined label other (m ∷ ms) (n ∷ ns) bits bits' x y u v k l e =
       let step = message_step d other in
       let after = λ (zs : List ℕ) (b : ℕ) (z : Step) (w : List Step). map (message_step d other) zs ++ (pow_steps label b ++ z ∷ w) in
-      let rest = messages_determined label other ms ns bits bits' x y u v k l (tail_equal (step m) (step n) (after ms bits x u) (after ns bits' y v) e) in
-      (cons_equal m n ms ns (count_equal (step m) (step n) m n (head_equal (step m) (step n) (after ms bits x u) (after ns bits' y v) e) refl refl) rest.0, rest.1, rest.2)
+      let rest = messages_determined label other ms ns bits bits' x y u v k l (tail_eq e) in
+      (cons_equal m n ms ns (count_equal (step m) (step n) m n (head_eq e) refl refl) rest.0, rest.1, rest.2)
 
   -- what the steps determine
   abbrev StepsAgree : PcsNumbers → PcsNumbers → Type 0
@@ -103,7 +104,7 @@ module _ (d : ℕ) where
       let p = messages_determined (codes "batch_pow") (codes "claimed_evaluations") (widths s.counts) (widths t.counts) s.batch_pow_bits t.batch_pow_bits alpha alpha
       (bracket_step Begin ∷ bracket_step End ∷ u) (bracket_step Begin ∷ bracket_step End ∷ v) refl refl
       (sym (regroup (messages s) (pow s) alpha (bracket_step Begin) (bracket_step End) u) ∙ e ∙ regroup (messages t) (pow t) alpha (bracket_step Begin) (bracket_step End) v) in
-      ((p.0, p.1), tail_equal (bracket_step End) (bracket_step End) u v (tail_equal (bracket_step Begin) (bracket_step Begin) (bracket_step End ∷ u) (bracket_step End ∷ v) p.2))
+      ((p.0, p.1), tail_eq (tail_eq p.2))
 
   pcs_fits : (s : PcsNumbers) → FitsNumber d → FitsPcs s → All FitsWhole (pcs_steps d s)
   unfolding pcs_steps

@@ -10,11 +10,12 @@ use Rattle.p3_fri_relation.specs.Setting.{Opening}
 use Rattle.p3_fri_relation.specs.Queries.{heights_after, row_indices}
 use Rattle.p3_fri_prover.specs.Openings.{index_into, row_of, OpensRows}
 use Rattle.p3_fri_prover.specs.Rounds.{KeepsWord}
-use Rattle.p3_fri_prover.proofs.Ways.{height_before, height_lowered, index_below, row_below, words}
+use Rattle.p3_fri_prover.proofs.Ways.{height_before, height_lowered, index_below, words}
 use Rattle.p3_fri_prover.proofs.Ways.{length_of_word, siblings_in, row_index}
-use Rattle.p3_fri_prover.proofs.Batches.{map_map}
 use Rattle.p3_fri_prover.proofs.Pushes.{rows_at}
 use Rattle.p3_fri_prover.proofs.Folding.{height_of_rows, row_is_neighbours}
+use Rattle.p3_field_core.proofs.IndexPowers.{index_cut}
+use Rattle.algebra.proofs.Lists.{map-map}
 
 map_same_in : {X : Type 0} (f g : ℕ → X) (xs : List ℕ)
     → ((j : ℕ) → j < length xs → f (get_or xs j 0) ≡ g (get_or xs j 0)) → map f xs ≡ map g xs
@@ -51,7 +52,7 @@ module _ {E Com Data Path : Type 0} (committed : Data → List (RowMajorMatrix E
       (index_below arities top q k within b (omega (arith, some_left))) in
       (let e : height + log_arity - log_arity ≡ height = omega arith in
       subst (λ m. index_into arities q k / 2 ^ log_arity < 2 ^ m) e
-      (row_below (index_into arities q k) log_arity (height + log_arity) (omega arith) i_below))
+      (index_cut (index_into arities q k) (height + log_arity) log_arity i_below (omega arith)))
 
   module _ (commitment : Com) (datum : Data)
       (keeps : KeepsWord committed commitment_of log_arity word_here commitment datum) where
@@ -77,7 +78,7 @@ module _ {E Com Data Path : Type 0} (committed : Data → List (RowMajorMatrix E
       pub siblings_here : siblings
           ≡ map (λ q. siblings_in F fold inputs arities betas top first q k) ps
       siblings_here = o.siblings_of_rows
-          ∙ map_map (λ i. remove (row_of log_arity keeps.matrix i) (i % 2 ^ log_arity))
+          ∙ map-map (λ i. remove (row_of log_arity keeps.matrix i) (i % 2 ^ log_arity))
           (λ q. index_into arities q k) ps
           ∙ map_same_in (λ q. remove (row_of log_arity keeps.matrix (index_into arities q k))
           (index_into arities q k % 2 ^ log_arity))
@@ -111,7 +112,7 @@ module _ {E Com Data Path : Type 0} (committed : Data → List (RowMajorMatrix E
               (map (λ q. index_into arities q k) ps)
               ≡ map (λ q. neighbours word_here (get_or (row_indices arities q) k 0) log_arity ∷ []) ps
           same_sets =
-              map_map (λ i. row_of log_arity keeps.matrix i ∷ []) (λ q. index_into arities q k) ps
+              map-map (λ i. row_of log_arity keeps.matrix i ∷ []) (λ q. index_into arities q k) ps
               ∙ map_same_in (λ q. row_of log_arity keeps.matrix (index_into arities q k) ∷ [])
               (λ q. neighbours word_here (get_or (row_indices arities q) k 0) log_arity ∷ []) ps
               (λ j l. ap (λ row. row ∷ []) (row_here (get_or ps j 0) (below j l)

@@ -10,9 +10,9 @@ use Rattle.algebra.specs.Folds.{neighbours}
 use Rattle.algebra.specs.Rounds.{Round, after_round, rolled_in, entry_of, folded_entry}
 use Rattle.algebra.proofs.Lists.{tabulate-equal, length-tabulate, get_or-tabulate}
 use Rattle.p3_matrix.specs.declared.dense.RowMajorMatrix.{RowMajorMatrix}
-use Rattle.p3_matrix.specs.Matrix.{rows, matrix_width}
+use Rattle.p3_matrix.specs.Matrix.{rows}
 use Rattle.p3_matrix.specs.Rows.{rows_of}
-use Rattle.p3_matrix.proofs.Rows.{length-rows_of, get_or-rows_of, length-row_of}
+use Rattle.p3_matrix.proofs.Rows.{length-rows_of, get_or-rows_of}
 use Rattle.p3_commit.specs.Batch.{HavePowerHeights, dimensions_of}
 use Rattle.p3_fri_folding.specs.Strategy.{folded_rows}
 use Rattle.p3_fri_prover.specs.Inputs.{of_length, rolled_word}
@@ -33,15 +33,6 @@ module _ {E : Type 0} (a h : ℕ) (ys : List E) (whole : length ys ≡ 2 ^ (h + 
       get_or-rows_of (2 ^ a) ys i [] (omega (arith, l, rows_in_word (length ys) h a whole))
 
 module _ {E : Type 0} (matrix : RowMajorMatrix E) where
-  pub length-row : (i : ℕ) → i < length (rows matrix)
-      → length (get_or (rows matrix) i []) ≡ matrix_width matrix
-  unfolding rows matrix_width
-  length-row i l =
-      let w = matrix.width in
-      let xs = matrix.values.items in
-      let k : i < length xs / w = omega (arith, l, length-rows_of w xs) in
-      ap length (get_or-rows_of w xs i [] k) ∙ length-row_of w xs i k
-
   pub one_power_height : (h : ℕ) → length (rows matrix) ≡ 2 ^ h
       → HavePowerHeights (dimensions_of (matrix ∷ []))
   one_power_height h e zero d l = (h, e)

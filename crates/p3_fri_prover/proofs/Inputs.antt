@@ -4,8 +4,7 @@ use Rattle.std.proofs.Common.{List, [], ◌∷◌, length, get_or, sum, Option}
 use Rattle.std.proofs.Common.{Some, refl, sym, ap, ap₂, ◌∙◌, arith, remove}
 use Rattle.std.specs.Prelude.{All, ◌==◌, if◌then◌else◌}
 use Rattle.std.proofs.lemmas.Bool.Decides.{eqb_tells}
-use Rattle.std.proofs.lemmas.Bool.{eq-eqb, ne_eqb, cases_order}
-use Rattle.std.proofs.Math.Pow.{pow-lt}
+use Rattle.std.proofs.lemmas.Bool.{eq-eqb, ne_eqb}
 use Rattle.algebra.specs.Field.{FieldOps}
 use Rattle.algebra.specs.Polynomial.{tabulate}
 use Rattle.algebra.specs.Rounds.{Round, after_round, after_rounds, words_folded, rolled_in, entry_of}
@@ -14,19 +13,13 @@ use Rattle.p3_fri_folding.specs.Schedule.{tallest}
 use Rattle.p3_fri_relation.specs.Queries.{rounds_of}
 use Rattle.p3_fri_prover.specs.Inputs.{HaveHeights, input_of, of_length, HavePowerLengths}
 use Rattle.p3_fri_prover.proofs.Ways.{sum-cons}
-
-pub same_power : (a b : ℕ) → 2 ^ a ≡ 2 ^ b → a ≡ b
-same_power a b e = elim (cases_order a b) [
-  | inl same ↦ same
-  | inr (inl less) ↦ absurd (omega (arith, e, pow-lt less))
-  | inr (inr more) ↦ absurd (omega (arith, e, pow-lt more))
-]
+use Rattle.p3_field_core.proofs.IndexPowers.{exponents_agree}
 
 -- a word's length is that of its log height exactly where the heights are the same
 same_test : (n h k : ℕ) → n ≡ 2 ^ k → (n == 2 ^ h) ≡ (h == k)
 same_test n h k e = elim (eqb_tells h k) [
   | inl (t, same) ↦ eq-eqb n (2 ^ h) (e ∙ ap (λ m. 2 ^ m) (sym same)) ∙ sym t
-  | inr (f, differ) ↦ ne_eqb n (2 ^ h) (λ s. differ (same_power h k (sym s ∙ e))) ∙ sym f
+  | inr (f, differ) ↦ ne_eqb n (2 ^ h) (λ s. differ (exponents_agree h k (sym s ∙ e))) ∙ sym f
 ]
 
 module _ {E : Type 0} where
@@ -50,7 +43,7 @@ module _ {E : Type 0} where
   heights_unique (h ∷ hs) [] (w ∷ ws) a b = absurd b
   heights_unique (h ∷ hs) (k ∷ ks) [] a b = absurd a
   heights_unique (h ∷ hs) (k ∷ ks) (w ∷ ws) a b =
-      ap₂ (λ x xs. x ∷ xs) (same_power h k (sym a.0 ∙ b.0)) (heights_unique hs ks ws a.1 b.1)
+      ap₂ (λ x xs. x ∷ xs) (exponents_agree h k (sym a.0 ∙ b.0)) (heights_unique hs ks ws a.1 b.1)
 
   pub power_lengths : (heights : List ℕ) (words : List (List E)) → HaveHeights heights words
       → HavePowerLengths words

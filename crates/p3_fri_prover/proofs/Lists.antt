@@ -3,7 +3,6 @@ use Rattle.std.proofs.Common.{◌≡◌, inl, inr, ℕ, zero, suc, ◌+◌, ◌^
 use Rattle.std.proofs.Common.{length, get_or, take, drop, refl, sym, ap, ap₂, ◌∙◌, arith}
 use Rattle.std.proofs.Common.{Some, drop-cons, add-one}
 use Rattle.std.specs.Prelude.{if◌then◌else◌}
-use Rattle.std.specs.List.{AllZip}
 use Rattle.std.specs.declared.vec.Vec.{Vec}
 use Rattle.std.specs.Vec.{vec_len}
 use Rattle.std.proofs.lemmas.List.{take_more}
@@ -12,16 +11,9 @@ use Rattle.std.proofs.lemmas.Bool.Decides.{eqb_tells}
 use Rattle.algebra.specs.Nested.{lists}
 use Rattle.algebra.specs.Polynomial.{tabulate}
 use Rattle.algebra.proofs.Nested.{length-lists, lists_at}
-use Rattle.algebra.proofs.Lists.{tabulate-get_or, tabulate-equal}
+use Rattle.algebra.proofs.Lists.{tabulate-get_or, tabulate-equal, all_zip-push}
 use Rattle.p3_fri_prover.specs.Inputs.{HaveHeights, of_length, HavePowerLengths}
-use Rattle.p3_fri_prover.proofs.Inputs.{same_power}
-
-pub zip_more : {X Y : Type 0} (R : X → Y → Type 0) (xs : List X) (ys : List Y) (x : X) (y : Y)
-    → AllZip R xs ys → R x y → AllZip R (xs ++ x ∷ []) (ys ++ y ∷ [])
-zip_more R [] [] x y all last = (last, tt)
-zip_more R [] (b ∷ ys) x y all last = absurd all
-zip_more R (a ∷ xs) [] x y all last = absurd all
-zip_more R (a ∷ xs) (b ∷ ys) x y all last = (all.0, zip_more R xs ys x y all.1 last)
+use Rattle.p3_field_core.proofs.IndexPowers.{exponents_agree}
 
 -- a list by its entries
 pub by_entries : {A : Type 0} (n : ℕ) (f : ℕ → A) (xs : List A) (d : A) → length xs ≡ n
@@ -47,7 +39,7 @@ module _ {E A : Type 0} (inputs : List (Vec E A)) (i : ℕ) (item : Vec E A)
   pub height_of_item : (heights : List ℕ) (log : ℕ) → HaveHeights heights (lists inputs)
       → 2 ^ log ≡ vec_len item → log ≡ get_or heights i 0
   height_of_item heights log have e =
-      same_power log (get_or heights i 0)
+      exponents_agree log (get_or heights i 0)
       (e ∙ item.ok.0 ∙ ap length (sym list_at) ∙ at heights (lists inputs) i have in_lists)
     where
       at : (heights : List ℕ) (words : List (List E)) (k : ℕ) → HaveHeights heights words
@@ -66,7 +58,7 @@ module _ {E A : Type 0} (inputs : List (Vec E A)) (i : ℕ) (item : Vec E A)
   pub heights_more : (heights : List ℕ) (log : ℕ) → HaveHeights heights (take i (lists inputs))
       → 2 ^ log ≡ vec_len item → HaveHeights (heights ++ log ∷ []) (take (i + 1) (lists inputs))
   heights_more heights log have e =
-      rw take_item (zip_more (λ h word. length word ≡ 2 ^ h) heights (take i (lists inputs)) log
+      rw take_item (all_zip-push (λ h word. length word ≡ 2 ^ h) heights (take i (lists inputs)) log
       item.items have (sym (e ∙ item.ok.0)))
 
   drop_item : drop i (lists inputs) ≡ item.items ∷ drop (i + 1) (lists inputs)

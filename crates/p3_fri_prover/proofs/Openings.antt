@@ -8,15 +8,14 @@ use Rattle.std.specs.declared.vec.Vec.{Vec}
 use Rattle.algebra.specs.Nested.{lists, nested}
 use Rattle.algebra.specs.Polynomial.{tabulate}
 use Rattle.algebra.proofs.Nested.{nested_at}
-use Rattle.algebra.proofs.Lists.{tabulate-next, tabulate-equal, head_eq}
+use Rattle.algebra.proofs.Lists.{tabulate-next, tabulate-equal, head_eq, map-map, map-agree}
 use Rattle.p3_matrix.specs.declared.dense.RowMajorMatrix.{RowMajorMatrix}
 use Rattle.p3_matrix.specs.Matrix.{rows, matrix_width}
 use Rattle.p3_commit.specs.Batch.{AreBelow, HavePowerHeights, max_height, dimensions, dimensions_of, opened_rows}
 use Rattle.p3_fri_relation.specs.Setting.{Opening}
 use Rattle.p3_fri_prover.specs.Openings.{row_of, OpensRows}
 use Rattle.p3_fri_prover.proofs.Queries.{tabulate-map}
-use Rattle.p3_fri_prover.proofs.Batches.{map_same, map_map}
-use Rattle.p3_fri_prover.proofs.Folding.{length-row}
+use Rattle.p3_matrix.proofs.Widths.{row_width}
 
 module _ {E A B : Type 0} (start : List (Vec (Vec E A) B)) (indices : List ℕ) (arity : ℕ) where
   abbrev pub siblings_at_place : ℕ → List E
@@ -64,8 +63,8 @@ module _ {E : Type 0} (a : ℕ) (matrix : RowMajorMatrix E) (matrices : List (Ro
   own_rows : opened ≡ map (λ i. row_of a matrix i ∷ []) indices
   own_rows = is_opened ∙ ap (λ ms. map (opened_rows ms) own) only
       ∙ ap (λ xs. map (opened_rows (matrix ∷ [])) xs) is_own
-      ∙ map_map (opened_rows (matrix ∷ [])) (λ i. i / 2 ^ a) indices
-      ∙ map_same (λ i. opened_rows (matrix ∷ []) (i / 2 ^ a)) (λ i. row_of a matrix i ∷ [])
+      ∙ map-map (opened_rows (matrix ∷ [])) (λ i. i / 2 ^ a) indices
+      ∙ map-agree (λ i. opened_rows (matrix ∷ []) (i / 2 ^ a)) (λ i. row_of a matrix i ∷ [])
       (λ i. own_row matrix some (i / 2 ^ a)) indices
 
   own_rows_at : (j : ℕ) → j < length indices
@@ -88,7 +87,7 @@ module _ {E : Type 0} (a : ℕ) (matrix : RowMajorMatrix E) (matrices : List (Ro
       let at : get_or own j 0 ≡ i / 2 ^ a = ap (λ xs. get_or xs j 0) is_own
       ∙ get_or-map (λ i. i / 2 ^ a) indices j 0 0 l in
       let row : i / 2 ^ a < length (rows matrix) = omega (arith, below j 0 many, at, tall) in
-      rw (own_rows_at j l, length-row matrix (i / 2 ^ a) row, width, e) (mod-lt i (pow_pos a))
+      rw (own_rows_at j l, row_width matrix (i / 2 ^ a) row, width, e) (mod-lt i (pow_pos a))
     where
       greatest : max (length (rows matrix)) 1 ≡ length (rows matrix)
       greatest = omega (arith, some)

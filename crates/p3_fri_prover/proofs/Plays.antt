@@ -25,7 +25,7 @@ use Rattle.p3_fri_prover.proofs.Committed.{word_so_far}
 use Rattle.p3_fri_prover.proofs.Lists.{list_at}
 
 -- where no witness passes, there are bits
-bits_asked : {C W : Type 0} (observe : C → W → C) (draw_bits : C → ℕ → After C ℕ) (c : C)
+pub bits_asked : {C W : Type 0} (observe : C → W → C) (draw_bits : C → ℕ → After C ℕ) (c : C)
     (bits : ℕ) (witness : W) → NonePasses observe draw_bits c bits → 0 < bits
 bits_asked observe draw_bits c zero witness none = absurd (none witness refl)
 bits_asked observe draw_bits c (suc bits) witness none = omega arith

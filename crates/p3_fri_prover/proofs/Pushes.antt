@@ -7,7 +7,7 @@ use Rattle.std.proofs.Math.Seq.{get_or-append_seam}
 use Rattle.p3_fri_relation.specs.Queries.{row_indices}
 use Rattle.p3_fri_prover.specs.Openings.{index_into}
 use Rattle.p3_fri_prover.proofs.Ways.{row_index}
-use Rattle.p3_fri_prover.proofs.Batches.{map_map}
+use Rattle.algebra.proofs.Lists.{map-map}
 
 pub at_last : {X : Type 0} (before after : List X) (x d : X) (k : ℕ) → length before ≡ k
     → after ≡ before ++ x ∷ [] → get_or after k d ≡ x
@@ -39,7 +39,7 @@ module _ (arities ps : List ℕ) (k : ℕ) (now : List ℕ)
       ≡ map (λ q. get_or (row_indices arities q) k 0) ps
   rows_at =
       ap (λ xs. map (λ i. i / 2 ^ get_or arities k 0) xs) is
-      ∙ map_map (λ i. i / 2 ^ get_or arities k 0) (λ q. index_into arities q k) ps
+      ∙ map-map (λ i. i / 2 ^ get_or arities k 0) (λ q. index_into arities q k) ps
       ∙ same ps
     where
       same : (qs : List ℕ) → map (λ q. index_into arities q k / 2 ^ get_or arities k 0) qs

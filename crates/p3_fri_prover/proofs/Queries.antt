@@ -17,9 +17,10 @@ use Rattle.algebra.proofs.Lists.{tabulate-equal}
 use Rattle.p3_fri_relation.specs.Setting.{RoundOpening}
 use Rattle.p3_fri_relation.specs.Queries.{rounds_of, heights_after, row_indices, siblings_at}
 use Rattle.p3_fri_prover.specs.Openings.{index_into}
-use Rattle.p3_fri_prover.proofs.Ways.{height_before, row_index, height_lowered, index_below, row_below}
+use Rattle.p3_fri_prover.proofs.Ways.{height_before, row_index, height_lowered, index_below}
 use Rattle.p3_fri_prover.proofs.Ways.{total_of_rounds, words, length_of_word, row_met_at, siblings_in}
 use Rattle.p3_fri_prover.proofs.Ways.{siblings_are_met}
+use Rattle.p3_field_core.proofs.IndexPowers.{index_cut}
 
 -- a list's images, by place
 pub tabulate-map : {A B : Type 0} (f : A → B) (xs : List A) (d : A) (n : ℕ) → length xs ≡ n
@@ -116,7 +117,7 @@ module _ {E Path : Type 0} (F : FieldOps E) (fold : ℕ → ℕ → ℕ → E �
       ≡ map (λ q. neighbours (get_or (words F fold inputs arities betas top first) k [])
       (get_or (row_indices arities q) k 0) (get_or arities k 0) ∷ []) ps
   rows_by_query values k n l e met =
-      tabulate_same n
+      tabulate-equal n
       (λ j. get_or (chain_rows F fold (values (get_or ps j 0)) (rounds_of arities betas)
       (siblings_at j openings) (link_in F top first (get_or ps j 0))) k [] ∷ [])
       (λ j. row_opened (get_or ps j 0))
@@ -131,10 +132,6 @@ module _ {E Path : Type 0} (F : FieldOps E) (fold : ℕ → ℕ → ℕ → E �
       row_opened : ℕ → List (List E)
       row_opened q = neighbours (get_or (words F fold inputs arities betas top first) k [])
           (get_or (row_indices arities q) k 0) (get_or arities k 0) ∷ []
-
-      tabulate_same : {B : Type 0} (n : ℕ) (f g : ℕ → B) → ((j : ℕ) → j < n → f j ≡ g j)
-          → tabulate n f ≡ tabulate n g
-      tabulate_same n f g h = tabulate-equal n f g h
 
   -- the rows without the queries' own entries have one entry less than the arity
   pub length-siblings : (k q : ℕ) → k < length arities → q < 2 ^ top
@@ -154,7 +151,7 @@ module _ {E Path : Type 0} (F : FieldOps E) (fold : ℕ → ℕ → ℕ → E �
       (index_below arities top q k within b (omega (arith, l))) in
       let row : i / 2 ^ a < 2 ^ h =
       (let e : h + a - a ≡ h = omega arith in
-      subst (λ m. i / 2 ^ a < 2 ^ m) e (row_below i a (h + a) (omega arith) i_below)) in
+      subst (λ m. i / 2 ^ a < 2 ^ m) e (index_cut i (h + a) a i_below (omega arith))) in
       let size : length (neighbours word (i / 2 ^ a) a) ≡ 2 ^ a =
       length-row word (i / 2 ^ a) h a n row in
       length-removed (neighbours word (i / 2 ^ a) a) (i % 2 ^ a)

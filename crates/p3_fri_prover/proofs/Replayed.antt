@@ -12,7 +12,7 @@ use Rattle.p3_fri_transcript.specs.Replay.{rounds_replay, shown_queries_replay, 
 use Rattle.p3_fri_transcript.proofs.Joining.{queries_joined}
 use Rattle.p3_fri_relation.specs.Setting.{Setting, Parameters, Proof}
 use Rattle.p3_fri_prover.specs.Proved.{fri_numbers, replayed, positions}
-use Rattle.p3_fri_prover.proofs.Ways.{row_below}
+use Rattle.p3_field_core.proofs.IndexPowers.{index_cut}
 
 -- indices without their lowest bits
 module _ (numbers : FriNumbers) (top extra : ℕ) (indices ps : List ℕ)
@@ -28,8 +28,8 @@ module _ (numbers : FriNumbers) (top extra : ℕ) (indices ps : List ℕ)
       (λ k d l.
       let e : top + extra - extra ≡ top = omega arith in
       subst (λ m. get_or indices k d / 2 ^ extra < 2 ^ m) e
-      (row_below (get_or indices k d) extra (top + extra) (omega arith)
-      (subst (λ m. get_or indices k d < 2 ^ m) width (drawn.below k d l)))))
+      (index_cut (get_or indices k d) (top + extra) extra
+      (subst (λ m. get_or indices k d < 2 ^ m) width (drawn.below k d l)) (omega arith))))
 
 module _ {F E C Com Path InCom InPath : Type 0} (s : Setting F E C Com Path InCom InPath)
     (p : Parameters) (heights : List ℕ) (top : ℕ) (words : List (List E)) (c : C)

@@ -2,10 +2,8 @@
 -- round by round.
 use Rattle.std.proofs.Common.{◌≡◌, ℕ, zero, suc, ◌+◌, ◌-◌, ◌/◌, ◌%◌, ◌^◌, ◌<◌, ◌≤◌, List, []}
 use Rattle.std.proofs.Common.{◌∷◌, Option, length, get_or, remove, sum, refl, sym, ap, ap₂, ◌∙◌}
-use Rattle.std.proofs.Common.{arith, pow_pos}
-use Rattle.std.proofs.lemmas.Nat.{pow-add}
+use Rattle.std.proofs.Common.{arith}
 use Rattle.std.proofs.lemmas.List.Sums.{sum_by-cons}
-use Rattle.std.proofs.Math.Nat.{div-lt_iff_lt-mul}
 use Rattle.algebra.specs.Field.{FieldOps}
 use Rattle.algebra.specs.Folds.{neighbours}
 use Rattle.algebra.specs.Rounds.{total_log_arity, after_round, words_folded}
@@ -14,6 +12,7 @@ use Rattle.algebra.proofs.Rounds.{length-after_round, total-nil, total-cons}
 use Rattle.p3_fri_relation.specs.Setting.{RoundOpening}
 use Rattle.p3_fri_relation.specs.Queries.{rounds_of, heights_after, row_indices, siblings_at}
 use Rattle.p3_fri_prover.specs.Openings.{index_into}
+use Rattle.p3_field_core.proofs.IndexPowers.{index_cut}
 
 -- the height of the word that round `k` folds
 abbrev pub height_before : (log_arities : List ℕ) (h k : ℕ) → ℕ
@@ -21,12 +20,6 @@ height_before log_arities h k = get_or (h ∷ heights_after log_arities h) k 0
 
 pub sum-cons : (a : ℕ) (arities : List ℕ) → sum (a ∷ arities) ≡ a + sum arities
 sum-cons a arities = sum_by-cons (λ a. a) a arities
-
--- a row index is below the folded word's length
-pub row_below : (q a h : ℕ) → a ≤ h → q < 2 ^ h → q / 2 ^ a < 2 ^ (h - a)
-row_below q a h small below =
-    let e : h ≡ h - a + a = omega (arith, small) in
-    (div-lt_iff_lt-mul (pow_pos a)).1 (rw (← pow-add 2 (h - a) a) (rw e at below))
 
 -- the row in which the index of round `k` lies
 pub row_index : (log_arities : List ℕ) (q k : ℕ) → k < length log_arities
@@ -53,7 +46,7 @@ index_below arities h q zero s below l = below
 index_below [] h q (suc k) s below l = absurd (omega (arith, l))
 index_below (a ∷ arities) h q (suc k) s below l =
     index_below arities (h - a) (q / 2 ^ a) k (omega (arith, s, sum-cons a arities))
-    (row_below q a h (omega (arith, s, sum-cons a arities)) below) (omega (arith, l))
+    (index_cut q h a below (omega (arith, s, sum-cons a arities))) (omega (arith, l))
 
 module _ {E : Type 0} where
   -- how far the rounds lower the height

@@ -1,4 +1,4 @@
-pub mod Powers
+pub mod Rows
 pub mod Lists
 pub mod Ways
 pub mod Orders

@@ -10,6 +10,7 @@ use Rattle.std.proofs.lemmas.List.Elements.{All-nil, All-cons, All-head}
 use Rattle.std.proofs.lemmas.List.Folds.{Any-from_list_any, list_any-from_Any}
 use Rattle.p3_fri_folding.specs.Schedule.{IsStrictlyFalling, tallest}
 use Rattle.p3_fri_folding.proofs.Rounds.{FallsFrom}
+use Rattle.p3_fri_folding.proofs.Fewest.{falls_from_higher}
 use Rattle.p3_fri_relation.specs.Setting.{MatrixClaim}
 use Rattle.p3_fri_relation.specs.Heights.{log_height, greatest_height, has_height, heights_below}
 use Rattle.p3_fri_relation.specs.Heights.{heights_of}
@@ -45,10 +46,6 @@ module _ {X : Type 0} (f : X → ℕ) where
   ]
 
 -- lists of numbers that fall
-
-falls_from_higher : (low high : ℕ) (hs : List ℕ) → low ≤ high → FallsFrom low hs → FallsFrom high hs
-falls_from_higher low high [] lower falls = tt
-falls_from_higher low high (h ∷ hs) lower falls = (omega (arith, falls.0), falls.1)
 
 pub strictly_falling : (top : ℕ) (hs : List ℕ) → FallsFrom top hs → IsStrictlyFalling hs
 strictly_falling top [] falls k within = absurd (omega arith)

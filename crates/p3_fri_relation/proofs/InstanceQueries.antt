@@ -19,7 +19,8 @@ use Rattle.p3_fri_relation.specs.Views.{siblings_opened, rounds_opened, query_in
 use Rattle.std.specs.List.{sum}
 use Rattle.std.proofs.Common.{◌/◌, ◌-◌}
 use Rattle.std.proofs.lemmas.List.{length-map}
-use Rattle.p3_fri_relation.proofs.QueryLinks.{chain-index, chain-log_height, row_fits}
+use Rattle.std.proofs.lemmas.Slice.Zip.{AllZip-long}
+use Rattle.p3_fri_relation.proofs.QueryLinks.{chain-index, chain-log_height}
 use Rattle.p3_fri_relation.specs.Queries.{inputs_of, first_link}
 use Rattle.algebra.specs.Rounds.{Round, Link, chain, chain_rows}
 use Rattle.p3_fri_relation.specs.FoldedQuery.{QueryInput, HaveRows, AreMet, reaches}
@@ -29,6 +30,7 @@ use Rattle.p3_fri_relation.specs.Acceptance.{IsInRange, HasSiblings, top_height,
 use Rattle.p3_fri_relation.proofs.ClaimedHeights.{has_height-bound}
 use Rattle.p3_fri_relation.proofs.Instances.{instance_heights, instance_sum, instance_range}
 use Rattle.p3_fri_relation.proofs.Instances.{instance_met, further_heights}
+use Rattle.p3_field_core.proofs.IndexPowers.{index_cut}
 
 -- values by log height, of the log heights of some matrices
 module _ (b : ℕ) {E : Type 0} (ms : List (MatrixClaim E)) {A : Type 0} (v : ℕ → A) where
@@ -87,12 +89,6 @@ rows_from n j (a ∷ arities) (r ∷ rounds) within each =
     let inside : j < length r.siblings = omega arith in
     ((inside, each.0.1 j [] inside), rows_from n j arities rounds within each.1)
 
-length_zipped : {A B : Type 0} (R : A → B → Type 0) (xs : List A) (ys : List B) → AllZip R xs ys → length ys ≡ length xs
-length_zipped R [] [] each = refl
-length_zipped R [] (y ∷ ys) each = absurd each
-length_zipped R (x ∷ xs) [] each = absurd each
-length_zipped R (x ∷ xs) (y ∷ ys) each = ap (λ n. suc n) (length_zipped R xs ys each.1)
-
 length_siblings : {E Path : Type 0} (rounds : List (RoundOpening E Path)) → length (map (λ r. r.siblings) rounds) ≡ length rounds
 length_siblings [] = refl
 length_siblings (r ∷ rounds) = ap (λ n. suc n) (length_siblings rounds)
@@ -126,7 +122,7 @@ module _ {F E C Com Path InCom InPath : Type 0} (s : Setting F E C Com Path InCo
     -- all its rounds are folded
     pub query-folded : folded query_of ≡ log_arities p claims
     query-folded = take_all (min (length betas) (length (map (λ r. r.siblings) proof.rounds))) (log_arities p claims)
-        (let opened = length_zipped (HasSiblings p.num_queries) (log_arities p claims) proof.rounds counts in let mapped = length_siblings proof.rounds in omega arith)
+        (let opened = AllZip-long (HasSiblings p.num_queries) (log_arities p claims) proof.rounds counts in let mapped = length_siblings proof.rounds in omega arith)
 
     pub query-group_indices : group_indices query_of s.fields.ext s.fold ≡ row_indices (log_arities p claims) position
     query-group_indices = ap (λ arities. row_indices arities position) query-folded
@@ -234,7 +230,7 @@ module _ {F E C Com Path InCom InPath : Type 0} (s : Setting F E C Com Path InCo
   last = last_link s p alpha (top_height p claims) claims proof (rounds_of (log_arities p claims) betas) j position
 
   opened_each : length (siblings_at j proof.rounds) ≡ length (log_arities p claims)
-  opened_each = length-map proof.rounds (λ r. get_or r.siblings j []) ∙ length_zipped (HasSiblings p.num_queries) (log_arities p claims) proof.rounds counts
+  opened_each = length-map proof.rounds (λ r. get_or r.siblings j []) ∙ AllZip-long (HasSiblings p.num_queries) (log_arities p claims) proof.rounds counts
 
   pub last-index : last.index ≡ position / 2 ^ sum (log_arities p claims)
   last-index = chain-index s.fields.ext s.fold (inputs_of s p alpha (top_height p claims) claims proof (rounds_of (log_arities p claims) betas) j position)
@@ -251,5 +247,5 @@ module _ {F E C Com Path InCom InPath : Type 0} (s : Setting F E C Com Path InCo
   last-below below =
       let whole = instance_sum p claims two_adicity ranged in
       let left : top_height p claims - sum (log_arities p claims) ≡ final_height p = omega arith in
-      let fits = row_fits (top_height p claims) (sum (log_arities p claims)) position (omega arith) below in
+      let fits = index_cut position (top_height p claims) (sum (log_arities p claims)) below (omega arith) in
       rw last-index (rw left at fits)

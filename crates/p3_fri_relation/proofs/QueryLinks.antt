@@ -2,13 +2,13 @@
 use Rattle.std.proofs.Common.{◌≡◌, ℕ, zero, suc, ◌+◌, ◌-◌, ◌/◌, ◌^◌, ◌<◌, ◌≤◌, List, [], ◌∷◌}
 use Rattle.std.proofs.Common.{length, get_or, Option, refl, sym, ap, ◌∙◌, arith}
 use Rattle.std.specs.List.{sum}
-use Rattle.std.proofs.Common.{pow_pos}
-use Rattle.std.proofs.Math.Nat.{div-one, div-lt_iff_lt-mul, div-div-eq-div-mul}
+use Rattle.std.proofs.Math.Nat.{div-one, div-div-eq-div-mul}
 use Rattle.std.proofs.lemmas.Nat.{pow-add}
 use Rattle.std.proofs.lemmas.List.Sums.{sum_by-cons}
 use Rattle.algebra.specs.Field.{FieldOps}
 use Rattle.algebra.specs.Rounds.{Link, next_link, chain, chain_rows}
 use Rattle.p3_fri_relation.specs.Queries.{rounds_of, heights_after, row_indices}
+use Rattle.p3_field_core.proofs.IndexPowers.{index_cut}
 
 -- shifting by one number of bits and then by another
 shifted-twice : (n a b : ℕ) → n / 2 ^ a / 2 ^ b ≡ n / 2 ^ (a + b)
@@ -56,19 +56,12 @@ pub length-heights_after : (arities : List ℕ) (h : ℕ) → length (heights_af
 length-heights_after [] h = refl
 length-heights_after (a ∷ arities) h = ap (λ n. suc n) (length-heights_after arities (h - a))
 
--- a row of a word is one of the folded word's indices
-pub row_fits : (h a index : ℕ) → a ≤ h → index < 2 ^ h → index / 2 ^ a < 2 ^ (h - a)
-row_fits h a index within below =
-    let same : h - a + a ≡ h = omega arith in
-    let whole : index < 2 ^ (h - a + a) = rw same below in
-    (div-lt_iff_lt-mul (pow_pos a)).1 (rw (← pow-add 2 (h - a) a) whole)
-
 pub row_indices-below : (arities : List ℕ) (h index k d : ℕ) → sum arities ≤ h → index < 2 ^ h → k < length arities
     → get_or (row_indices arities index) k d < 2 ^ get_or (heights_after arities h) k d
 row_indices-below [] h index k d within below inside = absurd (omega arith)
 row_indices-below (a ∷ arities) h index zero d within below inside =
     let whole = sum_by-cons (λ r. r) a arities in
-    row_fits h a index (omega arith) below
+    index_cut index h a below (omega arith)
 row_indices-below (a ∷ arities) h index (suc k) d within below inside =
     let whole = sum_by-cons (λ r. r) a arities in
-    row_indices-below arities (h - a) (index / 2 ^ a) k d (omega arith) (row_fits h a index (omega arith) below) (omega (arith, inside))
+    row_indices-below arities (h - a) (index / 2 ^ a) k d (omega arith) (index_cut index h a below (omega arith)) (omega (arith, inside))

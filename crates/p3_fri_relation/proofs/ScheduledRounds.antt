@@ -1,7 +1,7 @@
 -- The rounds of an instance: their log arities, where they end, and that they meet each claimed log
 -- height.
 use Rattle.std.proofs.Common.{◌≡◌, ℕ, zero, suc, ◌+◌, ◌-◌, ◌<◌, ◌≤◌, inl, inr, List, [], ◌∷◌}
-use Rattle.std.proofs.Common.{◌++◌, ◌||◌, take, Bool, true, false, eqb, refl, sym}
+use Rattle.std.proofs.Common.{◌||◌, take, Bool, true, false, eqb, refl, sym}
 use Rattle.std.proofs.Common.{subst, arith, get_or, nat_lt}
 use Rattle.std.specs.List.{All, sum, filter}
 use Rattle.std.proofs.lemmas.Bool.{eq-eqb}
@@ -14,6 +14,7 @@ use Rattle.p3_fri_folding.proofs.Rounds.{FallsFrom, stops_below, stops_below-abo
 use Rattle.p3_fri_folding.proofs.Rounds.{schedule-low}
 use Rattle.p3_fri_folding.proofs.Fewest.{schedule-in_range, schedule-leads_down}
 use Rattle.p3_fri_relation.specs.FoldedQuery.{AreInRange, AreMet, reaches}
+use Rattle.algebra.proofs.Lists.{all-last}
 
 -- rounds that lead to a lower height fold to it
 pub reaches-from : (rounds : List ℕ) (top k : ℕ) → k < top → Reaches top rounds k → reaches rounds top k ≡ true
@@ -48,18 +49,13 @@ all_from_stops P (h ∷ hs) final high of_stops of_final = elim (leb_tells h fin
       (All-tail P h (stops_below hs final) listed) of_final))
 ]
 
--- of the stops, the final height is the last
-pub last_stop : (P : ℕ → Type 0) (xs : List ℕ) (final : ℕ) → All P (xs ++ final ∷ []) → P final
-last_stop P [] final each = All-head P final [] each
-last_stop P (x ∷ xs) final each = last_stop P xs final (All-tail P x (xs ++ final ∷ []) each)
-
 -- heights that fall and are met
 met_from : (met : ℕ → Bool) (top : ℕ) (hs : List ℕ) → FallsFrom top hs → All (λ h. met h ≡ true) hs → AreMet met top hs
 met_from met top [] falls each = tt
 met_from met top (h ∷ hs) falls each =
     (falls.0, All-head (λ k. met k ≡ true) h hs each, met_from met h hs falls.1 (All-tail (λ k. met k ≡ true) h hs each))
 
-falling_below : (top : ℕ) (hs : List ℕ) → FallsFrom top hs → All (λ h. h < top) hs
+pub falling_below : (top : ℕ) (hs : List ℕ) → FallsFrom top hs → All (λ h. h < top) hs
 falling_below top [] falls = All-nil (λ h. h < top)
 falling_below top (h ∷ hs) falls =
     All-cons (λ k. k < top) h hs falls.0
@@ -85,7 +81,7 @@ through_stops : (top : ℕ) (further : List ℕ) (final : ℕ) (rounds : List �
 unfolding stops
 through_stops top further final rounds falls high through =
     let later : All (Reaches top rounds) (stops_below further final) = All-tail (Reaches top rounds) top (stops_below further final) through in
-    let each = all_from_stops (Reaches top rounds) further final high later (last_stop (Reaches top rounds) (filter (nat_lt final) further) final later) in
+    let each = all_from_stops (Reaches top rounds) further final high later (all-last (Reaches top rounds) (filter (nat_lt final) further) final later) in
     λ k d within. reaches-from rounds top (get_or further k d) (falling_below top further falls k d within) (each k d within)
 
 -- falling heights, of which the tallest is `top` and none is below the final one

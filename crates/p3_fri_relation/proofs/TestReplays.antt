@@ -1,17 +1,18 @@
 -- The replay of a test by its rounds and its queries: what is drawn, how many, and where positions
 -- lie.
-use Rattle.std.proofs.Common.{◌≡◌, ℕ, zero, suc, ◌+◌, ◌/◌, ◌^◌, ◌<◌, ◌&&◌, List, [], ◌∷◌, length}
+use Rattle.std.proofs.Common.{◌≡◌, ℕ, suc, ◌+◌, ◌/◌, ◌^◌, ◌<◌, ◌&&◌, List, [], ◌∷◌, length}
 use Rattle.std.proofs.Common.{refl, ap, ◌∙◌, arith, pow_pos}
 use Rattle.std.specs.List.{All}
 use Rattle.std.proofs.Math.Nat.{div-lt_iff_lt-mul}
 use Rattle.std.proofs.lemmas.Nat.{pow-add}
 use Rattle.std.proofs.lemmas.List.{length-map}
 use Rattle.std.proofs.lemmas.List.Elements.{All-map, All-weaker}
-use Rattle.p3_challenger_core.specs.Run.{Moves, After, draws}
+use Rattle.p3_challenger_core.specs.Run.{Moves}
 use Rattle.p3_fri_transcript.specs.Replay.{rounds_replay, round_replay, shown_queries_replay, fri_replay}
 use Rattle.p3_fri_relation.specs.Setting.{Setting, Parameters, CommitmentClaim, Proof}
 use Rattle.p3_fri_relation.specs.Acceptance.{top_height, test_replay, rounds_replayed}
 use Rattle.p3_fri_relation.specs.Acceptance.{queries_replayed, positions}
+use Rattle.p3_fri_transcript.proofs.Indices.{length-draws}
 
 module _ {C F E Com : Type 0} (m : Moves C F E Com) where
   -- a challenge for each round
@@ -23,10 +24,6 @@ module _ {C F E Com : Type 0} (m : Moves C F E Com) where
   length-betas bits c [] (w ∷ ws) same = refl
   length-betas bits c (d ∷ ds) [] same = absurd (omega (arith, same))
   length-betas bits c (d ∷ ds) (w ∷ ws) same = ap (λ n. suc n) (length-betas bits (round_replay m bits c d w).state ds ws (omega (arith, same)))
-
-length-draws : {C : Type 0} (draw : C → After C ℕ) (c : C) (n : ℕ) → length (draws draw c n).value ≡ n
-length-draws draw c zero = refl
-length-draws draw c (suc n) = ap (λ k. suc k) (length-draws draw (draw c).state n)
 
 module _ {F E C Com Path InCom InPath : Type 0} (s : Setting F E C Com Path InCom InPath)
     (p : Parameters) (claims : List (CommitmentClaim E InCom)) (proof : Proof F E Com Path InPath)

@@ -15,19 +15,6 @@ module _ {A B : Type 0} (R : A → B → Type 0) where
   all_zip-from (x ∷ xs) (y ∷ ys) a b same each =
       (each 0 (omega arith), all_zip-from xs ys a b (omega (arith, same)) (λ k inside. each (suc k) (omega (arith, inside))))
 
-  pub all_zip-at : (xs : List A) (ys : List B) (a : A) (b : B) (k : ℕ) → AllZip R xs ys → k < length xs
-      → R (get_or xs k a) (get_or ys k b)
-  all_zip-at [] ys a b k each inside = absurd (omega (arith, inside))
-  all_zip-at (x ∷ xs) [] a b k each inside = absurd each
-  all_zip-at (x ∷ xs) (y ∷ ys) a b zero each inside = each.0
-  all_zip-at (x ∷ xs) (y ∷ ys) a b (suc k) each inside = all_zip-at xs ys a b k each.1 (omega (arith, inside))
-
-  pub length-all_zip : (xs : List A) (ys : List B) → AllZip R xs ys → length xs ≡ length ys
-  length-all_zip [] [] each = refl
-  length-all_zip [] (y ∷ ys) each = absurd each
-  length-all_zip (x ∷ xs) [] each = absurd each
-  length-all_zip (x ∷ xs) (y ∷ ys) each = ap (λ n. suc n) (length-all_zip xs ys each.1)
-
 -- of two lists and the number of their place, from `a` on
 module _ {A B : Type 0} (R : ℕ → A × B → Type 0) where
   pub numbered-from : (a n : ℕ) (xs : List A) (ys : List B) → length xs ≡ n → length ys ≡ n

@@ -9,7 +9,7 @@ use Rattle.p3_challenger_fs.specs.declared.pattern.TypeTag.TheVariants.{Bits}
 use Rattle.p3_challenger_fs.specs.declared.pattern.Length.TheVariants.{Fixed}
 use Rattle.p3_challenger_fs.specs.Pattern.{Step, number_bytes, seed_stream}
 use Rattle.p3_challenger_fs.specs.StreamLaws.{FitsNumber}
-use Rattle.p3_challenger_fs.proofs.Streams.{FitsWhole, head_equal, tail_equal, stream_determined}
+use Rattle.p3_challenger_fs.proofs.Streams.{FitsWhole, stream_determined}
 use Rattle.p3_fri_transcript.specs.Shapes.{fri_shape}
 use Rattle.p3_fri_transcript.specs.Steps.{FriNumbers, commitment_step, round_steps, rounds_steps}
 use Rattle.p3_fri_transcript.specs.Steps.{query_steps, fri_steps, fri_stream, fri_labels}
@@ -18,6 +18,7 @@ use Rattle.p3_fri_transcript.specs.declared.transcript.shape.FriShape.{FriShape}
 use Rattle.p3_fri_transcript.specs.SeedLaws.{SameFriShape, FitsFri}
 use Rattle.p3_fri_steps.proofs.SeedLemmas.{count_equal, pow_determined, pow_fits, labels_fit}
 use Rattle.p3_fri_steps.proofs.SeedLemmas.{labels_determined}
+use Rattle.algebra.proofs.Lists.{head_eq, tail_eq}
 
 -- what the steps tell
 record StepsAgree (s t : FriNumbers) : Type 0 where
@@ -51,14 +52,14 @@ module _ (d : ℕ) where
       → rounds_steps d bits n ++ message_step d label a ∷ u ≡ rounds_steps d bits' n' ++ message_step d label a' ∷ v
       → (n ≡ n') × (0 < n → bits ≡ bits') × (a ≡ a') × (u ≡ v)
   rounds_determined label bits bits' zero zero a a' u v e =
-      (refl, (λ h. absurd (omega (arith, h))), count_equal (message_step d label a) (message_step d label a') a a' (head_equal _ _ u v e) refl refl, tail_equal (message_step d label a) (message_step d label a') u v e)
-  rounds_determined label bits bits' zero (suc n) a a' u v e = let h = type_equal (message_step d label a) commitment_step (head_equal _ _ _ _ e) in absurd cc
-  rounds_determined label bits bits' (suc n) zero a a' u v e = let h = type_equal commitment_step (message_step d label a') (head_equal _ _ _ _ e) in absurd cc
+      (refl, (λ h. absurd (omega (arith, h))), count_equal (message_step d label a) (message_step d label a') a a' (head_eq e) refl refl, tail_eq e)
+  rounds_determined label bits bits' zero (suc n) a a' u v e = let h = type_equal (message_step d label a) commitment_step (head_eq e) in absurd cc
+  rounds_determined label bits bits' (suc n) zero a a' u v e = let h = type_equal commitment_step (message_step d label a') (head_eq e) in absurd cc
   rounds_determined label bits bits' (suc n) (suc n') a a' u v e =
       let fold = challenge_step d (codes "fold_challenge") in
       let first = pow_determined (codes "commit_pow") bits bits' fold fold (rounds_steps d bits n ++ message_step d label a ∷ u) (rounds_steps d bits' n' ++ message_step d label a' ∷ v) refl refl
       (sym (regroup_round (pow_steps (codes "commit_pow") bits) fold (rounds_steps d bits n) (message_step d label a ∷ u))
-      ∙ tail_equal commitment_step commitment_step _ _ e ∙ regroup_round (pow_steps (codes "commit_pow") bits') fold (rounds_steps d bits' n') (message_step d label a' ∷ v)) in
+      ∙ tail_eq e ∙ regroup_round (pow_steps (codes "commit_pow") bits') fold (rounds_steps d bits' n') (message_step d label a' ∷ v)) in
       let rest = rounds_determined label bits bits' n n' a a' u v first.2 in
       (ap (λ k. suc k) rest.0, (λ _. first.0), rest.2, rest.3)
 
@@ -113,17 +114,17 @@ module _ (d : ℕ) where
       let parts = stream_determined 1 1 (codes "p3-fri") (codes "p3-fri") (fri_steps d s) (fri_steps d t) (map number_bytes (list s)) (map number_bytes (list t)) (StepsAgree s t) (omega arith) (omega arith)
       (fri_fits s p f) (fri_fits t p g) (λ _ u v h. fri_determined s t u v h) (labels_fit (list s)) (labels_fit (list t)) e in
       let numbers = labels_determined (list s) (list t) (list_fits s f) (list_fits t g) parts.3 in
-      let first = tail_equal s.log_blowup t.log_blowup (s.max_log_arity ∷ s.log_arities) (t.max_log_arity ∷ t.log_arities) numbers in
+      let first = tail_eq numbers in
       let agree : StepsAgree s t = parts.2 in
       record {
-        log_arities = tail_equal s.max_log_arity t.max_log_arity s.log_arities t.log_arities first;
+        log_arities = tail_eq first;
         final_poly_len = agree.final_poly_len;
         commit_pow_bits = agree.commit_pow_bits;
         query_pow_bits = agree.query_pow_bits;
         num_queries = agree.num_queries;
         index_bits = agree.index_bits;
-        log_blowup = head_equal s.log_blowup t.log_blowup _ _ numbers;
-        max_log_arity = head_equal s.max_log_arity t.max_log_arity s.log_arities t.log_arities first;
+        log_blowup = head_eq numbers;
+        max_log_arity = head_eq first;
       }
     where
       list_fits : (x : FriNumbers) → FitsFri x

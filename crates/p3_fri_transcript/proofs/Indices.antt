@@ -8,9 +8,9 @@ use Rattle.p3_fri_transcript.specs.Steps.{FriNumbers}
 use Rattle.p3_fri_transcript.specs.Indices.{AreIndices}
 
 module _ {C : Type 0} (draw : C → After C ℕ) where
-  draws_length : (c : C) (n : ℕ) → length (draws draw c n).value ≡ n
-  draws_length c zero = refl
-  draws_length c (suc n) = ap suc (draws_length (draw c).state n)
+  pub length-draws : (c : C) (n : ℕ) → length (draws draw c n).value ≡ n
+  length-draws c zero = refl
+  length-draws c (suc n) = ap suc (length-draws (draw c).state n)
 
   draws_below : (bits : ℕ) → ((c : C) → (draw c).value < 2 ^ bits) → (c : C) (n : ℕ)
       → All (λ index. index < 2 ^ bits) (draws draw c n).value
@@ -24,7 +24,7 @@ module _ {C : Type 0} (draw : C → After C ℕ) where
       → (c : C) (indices : List ℕ) → indices ≡ (draws draw c shape.num_queries).value
       → AreIndices shape indices
   draws_are_indices shape below c indices is = record {
-    count = ap length is ∙ draws_length c shape.num_queries;
+    count = ap length is ∙ length-draws c shape.num_queries;
     below =
         let P : List ℕ → Type 0 = λ xs. All (λ index. index < 2 ^ shape.index_bits) xs in
         subst P (sym is) (draws_below shape.index_bits below c shape.num_queries);

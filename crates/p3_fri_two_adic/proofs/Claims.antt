@@ -33,10 +33,10 @@ module _ {E Domain : Type 0} (log_size : Domain → ℕ) where
       (map claimed.matrix_claim matrices)) (points_are m.points.items)
       ∙ ap (λ rest. view.matrix_claim log_size m ∷ rest) (matrices_are matrices)
 
-module _ {E Com Domain : Type 0} (log_size : Domain → ℕ) where
-  of_matrices : Com → List (MatrixClaim E) → CommitmentClaim E Com
-  of_matrices commitment matrices = record { commitment = commitment; matrices = matrices }
+unfoldable pub of_matrices : {E Com : Type 0} → Com → List (MatrixClaim E) → CommitmentClaim E Com
+of_matrices commitment matrices = record { commitment = commitment; matrices = matrices }
 
+module _ {E Com Domain : Type 0} (log_size : Domain → ℕ) where
   pub claims_are : (claims : List (CommitmentOpening E Com Domain))
       → relation_claims log_size (map claimed.claim claims) ≡ view.claims_of log_size claims
   unfolding of_matrices

@@ -19,11 +19,11 @@ use Rattle.p3_fri_openings.specs.Log2.{log2}
 use Rattle.p3_fri_openings.specs.Rounds.{HasCoset}
 use Rattle.p3_fri_openings.proofs.Committed.{committed_is}
 use Rattle.p3_fri_openings.proofs.Log2.{log2-pow, pow-divided}
-use Rattle.p3_fri_batch.proofs.Rows.{row_wide}
 use Rattle.p3_fri_completeness.specs.Requests.{held_in, HoldsWords}
 use Rattle.p3_fri_evaluations.specs.Committed.{AreCommittedValues}
 use Rattle.p3_stark_pcs.specs.Evaluations.{HoldsEvaluations, held_at}
 use Rattle.p3_fri_two_adic.specs.Evaluations.{IsMatrixOf}
+use Rattle.p3_matrix.proofs.Widths.{row_width}
 
 -- where `values` holds, on the coset of `s` of `2^m` points, those of the polynomials of `matrix`
 module _ {F E : Type 0} (f : Fields F E) (L : IsField f.base) (M : IsField f.ext)
@@ -62,7 +62,7 @@ module _ {F E : Type 0} (f : Fields F E) (L : IsField f.base) (M : IsField f.ext
       ≡ tabulate (matrix_width matrix) (λ j. val f.base (polynomial j) (point i))
   row i below =
       sym (tabulate-get_or (matrix_width matrix) (get_or (rows values) i []) f.base.zero
-      (row_wide values i (omega (arith, below, height)) ∙ width))
+      (row_width values i (omega (arith, below, height)) ∙ width))
       ∙ tabulate-equal (matrix_width matrix)
       (λ j. get_or (get_or (rows values) i []) j f.base.zero)
       (λ j. val f.base (polynomial j) (point i)) (λ j l. entry i j below l)

@@ -1,11 +1,10 @@
 -- Of a domain the relation reads the logarithm of its size alone.
-use Rattle.std.proofs.Common.{◌≡◌, ◌^◌, ℕ, List, [], ◌∷◌, map, Result, Ok, Err, refl, sym, ap}
+use Rattle.std.proofs.Common.{◌≡◌, ◌^◌, ℕ, List, [], ◌∷◌, map, refl, sym, ap}
 use Rattle.std.proofs.Common.{ap₂, ◌∙◌}
-use Rattle.std.specs.Prelude.{IfOk}
 use Rattle.p3_pcs.specs.Claims.{PointClaim, both, claim_on}
 use Rattle.p3_pcs.specs.Requests.{Held, Request, honest_values, honest_claims, FitDomains}
-use Rattle.p3_fri_relation.specs.Setting.{MatrixClaim, CommitmentClaim}
 use Rattle.p3_fri_completeness.specs.Requests.{point_claim, matrix_claim, relation_claims}
+use Rattle.p3_fri_two_adic.proofs.Claims.{of_matrices}
 
 module _ {E Domain : Type 0} (log_size : Domain → ℕ) where
   matrices_sized : (domains : List Domain) (points : List (List (PointClaim E)))
@@ -31,9 +30,6 @@ module _ {Domain : Type 0} (log_size : Domain → ℕ) where
 
 module _ {D E Com Domain : Type 0} (held : D → List (Held E)) (commitment_of : D
     → Com) (log_size : Domain → ℕ) where
-  of_matrices : Com → List (MatrixClaim E) → CommitmentClaim E Com
-  of_matrices commitment matrices = record { commitment = commitment; matrices = matrices }
-
   pub claims_sized : (domains : List (List Domain)) (requests : List (Request D E))
       → relation_claims (λ k. k) (honest_claims held commitment_of (map
       (map log_size) domains) requests)
@@ -51,9 +47,3 @@ module _ {D E Com Domain : Type 0} (held : D → List (Held E)) (commitment_of :
       → FitDomains held (λ d. 2 ^ log_size d) domains requests
       → FitDomains held (λ k. 2 ^ k) (map (map log_size) domains) requests
   domains_sized domains requests fits = all_sizes log_size domains ∙ fits
-
--- what follows of an answer's success
-pub if_ok_then : {T X : Type 0} (r : Result T X) (P Q : T → Type 0) → IfOk r P → ((v : T) → P v
-    → Q v) → IfOk r Q
-if_ok_then (Ok v) P Q h f = f v h
-if_ok_then (Err e) P Q h f = tt

@@ -1,45 +1,33 @@
 -- That all openings of a proof are good, from its parts as they are verified one after another.
-use Rattle.std.proofs.Common.{◌≡◌, ◌≢◌, ℕ, zero, suc, ◌+◌, ◌-◌, ◌/◌, ◌^◌, ◌<◌, ◌≤◌, ◌⊎◌, inl, inr, arith}
+use Rattle.std.proofs.Common.{◌≡◌, ℕ, zero, suc, ◌+◌, ◌/◌, ◌^◌, ◌<◌, ◌≤◌, ◌⊎◌, inl, inr, arith}
 use Rattle.std.proofs.Common.{List, [], ◌∷◌, length, map, get_or, refl, sym, ap, ◌∙◌, subst}
-use Rattle.std.specs.Prelude.{All, EachIndex, SomeIndex, slice_index, slice_index_or, sum, slice_get, Some}
+use Rattle.std.specs.Prelude.{All, EachIndex, SomeIndex, slice_index, slice_index_or, sum}
 use Rattle.std.specs.List.{AllZip, Any, zip, range_with_len}
 use Rattle.algebra.specs.Polynomial.{val, tabulate}
 use Rattle.algebra.specs.TwoAdic.{pt}
-use Rattle.algebra.specs.Rounds.{Round, Link}
-use Rattle.algebra.specs.Nested.{lists}
 use Rattle.algebra.proofs.Lists.{get_or-tabulate, tabulate-equal}
 use Rattle.p3_fri_relation.specs.declared.proof.CommitPhaseMultiStep.{CommitPhaseMultiStep}
 use Rattle.p3_fri_relation.specs.Setting.{Setting, Parameters, CommitmentClaim, Proof, RoundOpening, InputOpening, final_height}
-use Rattle.p3_fri_relation.specs.Heights.{matrices_of}
-use Rattle.p3_fri_relation.specs.Inputs.{AreInputsGood, HasSums, sums_at}
-use Rattle.p3_fri_relation.specs.Queries.{rounds_of, row_indices, heights_after, siblings_at, last_link, final_value, rows_folded, first_link, inputs_of}
+use Rattle.p3_fri_relation.specs.Inputs.{AreInputsGood, sums_at}
+use Rattle.p3_fri_relation.specs.Queries.{rounds_of, row_indices, heights_after, siblings_at, final_value, first_link, inputs_of}
 use Rattle.p3_fri_relation.specs.FoldedQuery.{QueryInput, IsInOrder, folded_value, group_rows}
-use Rattle.p3_fri_relation.specs.Acceptance.{IsInRange, HasSiblings, top_height, log_arities, OpensRound, RoundsOpen, AreOpeningsGood, HoldsAtQuery, row_folded, last_of_query}
-use Rattle.p3_fri_relation.specs.Views.{round_opened, rounds_opened, siblings_opened, query_input}
+use Rattle.p3_fri_relation.specs.Acceptance.{IsInRange, HasSiblings, top_height, log_arities, OpensRound, RoundsOpen, row_folded, last_of_query}
+use Rattle.p3_fri_relation.specs.Views.{rounds_opened, siblings_opened}
 use Rattle.p3_fri_relation.specs.declared.error.FriError.{FriError}
 use Rattle.p3_fri_relation.specs.declared.error.FriError.TheVariants.{OutOfMemory, FinalPolyMismatch, CommitPhaseMmcsError}
 use Rattle.p3_fri_relation.specs.Faults.{InputFault, RoundsFault, OpeningsFault}
 use Rattle.p3_fri_relation.proofs.InstanceQueries.{query_of, query-in_order, query-folded_value, query-group_rows}
 use Rattle.p3_fri_relation.proofs.QueryLinks.{chain-index, row_indices-below}
+use Rattle.p3_fri_relation.proofs.InstanceQueries.{siblings-of_rounds}
 use Rattle.std.proofs.lemmas.List.{length-map, get_or-map}
+use Rattle.std.proofs.lemmas.Slice.Zip.{AllZip-long}
 use Rattle.p3_fri_verifier.specs.Openings.{AreOpened}
 use Rattle.p3_fri_queries.specs.Folded.{query_at, EndsAtFinal}
 use Rattle.p3_fri_queries.specs.Opened.{OpensRoundTo as OpensAt}
 
-siblings_are : {E M Com Data Path Err : Type 0} (openings : List (CommitPhaseMultiStep E M Com Data Path Err))
-    → siblings_opened openings ≡ map (λ r. r.siblings) (rounds_opened openings)
-siblings_are [] = refl
-siblings_are (o ∷ openings) = ap (λ rest. lists o.sibling_values.items ∷ rest) (siblings_are openings)
-
 length_siblings : {E Path : Type 0} (j : ℕ) (rounds : List (RoundOpening E Path)) → length (siblings_at j rounds) ≡ length rounds
 length_siblings j [] = refl
 length_siblings j (r ∷ rounds) = ap suc (length_siblings j rounds)
-
-pub length_zipped : {A B : Type 0} (R : A → B → Type 0) (xs : List A) (ys : List B) → AllZip R xs ys → length ys ≡ length xs
-length_zipped R [] [] each = refl
-length_zipped R [] (y ∷ ys) each = absurd each
-length_zipped R (x ∷ xs) [] each = absurd each
-length_zipped R (x ∷ xs) (y ∷ ys) each = ap suc (length_zipped R xs ys each.1)
 
 module _ {F E C Com Path InCom InPath : Type 0} (s : Setting F E C Com Path InCom InPath) (p : Parameters)
     (claims : List (CommitmentClaim E InCom)) (proof : Proof F E Com Path InPath) (alpha : E) (betas : List E)
@@ -82,7 +70,7 @@ module _ {F E C Com Path InCom InPath : Type 0} (s : Setting F E C Com Path InCo
         (inputs_of s p alpha (top_height p claims) claims proof (rounds_of (log_arities p claims) betas) j (slice_index positions j))
         (log_arities p claims) betas (siblings_at j proof.rounds)
         (first_link s p alpha (top_height p claims) claims proof (rounds_of (log_arities p claims) betas) j (slice_index positions j))
-        drawn (length_siblings j proof.rounds ∙ length_zipped (HasSiblings p.num_queries) (log_arities p claims) proof.rounds counts)
+        drawn (length_siblings j proof.rounds ∙ AllZip-long (HasSiblings p.num_queries) (log_arities p claims) proof.rounds counts)
 
     module _ (two_adicity : ℕ) (ranged : IsInRange p claims two_adicity) where
       -- the same of the query that is folded by itself
@@ -135,7 +123,7 @@ module _ {F E C Com Path InCom InPath M Data Err : Type 0} (s : Setting F E C Co
   query_same j h =
       ap (λ la. with_parts j la (siblings_opened openings) (slice_index_or reduced j []) top) scheduled
       ∙ ap (λ siblings. with_parts j (log_arities p claims) siblings (slice_index_or reduced j []) top)
-      (siblings_are openings ∙ ap (λ rounds. map (λ r. r.siblings) rounds) (sym opened))
+      (siblings-of_rounds openings ∙ ap (λ rounds. map (λ r. r.siblings) rounds) (sym opened))
       ∙ ap (λ inputs. with_parts j (log_arities p claims) (map (λ r. r.siblings) proof.rounds) inputs top) h
       ∙ ap (λ t. with_parts j (log_arities p claims) (map (λ r. r.siblings) proof.rounds)
       (sums_at s.fields p.log_blowup alpha t claims proof.inputs j (slice_index positions j)) t) tallest

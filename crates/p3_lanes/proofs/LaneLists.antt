@@ -1,5 +1,5 @@
 -- Lists of lanes, lane by lane.
-use Rattle.std.proofs.Common.{◌≡◌, ℕ, zero, suc, List, [], ◌∷◌, length, map, refl, ap, ◌∙◌, arith}
+use Rattle.std.proofs.Common.{◌≡◌, ℕ, zero, suc, ◌-◌, List, [], ◌∷◌, length, map, refl, ap, ◌∙◌, arith}
 use Rattle.std.specs.Prelude.{replicate}
 use Rattle.std.specs.Simd.Lanes.{zip2, Each1, Each2}
 
@@ -94,3 +94,8 @@ pub zip2_map_right : {A B C D : Type 0} (f : A → C → D) (g : B → C) (xs : 
 zip2_map_right f g [] ys = refl
 zip2_map_right f g (x ∷ xs) [] = refl
 zip2_map_right f g (x ∷ xs) (y ∷ ys) = ap (λ zs. f x (g y) ∷ zs) (zip2_map_right f g xs ys)
+
+-- the modulus less each of eight numbers
+pub modulus_less : (ns : List ℕ) → length ns ≡ 8
+    → zip2 (λ n m. n - m) (replicate 8 2013265921) ns ≡ map (λ n. 2013265921 - n) ns
+modulus_less ns e = one_zip2 (λ n m. n - m) 8 2013265921 ns e

@@ -55,9 +55,3 @@ pub done_of_three : {R S T U V : Type 0} (f : S → V → U) (h : R → T → V)
 done_of_three f h xs ys zs i us n w =
     let inner = length_of_both h ys zs (min (length ys) (length zs)) (omega arith) in
     done f xs (both h ys zs) i us (omega arith) w
-
-pub entry_of_map : {S T : Type 0} (f : S → T) (xs : List S) (i : ℕ) (x : S) → i < length xs
-    → x ≡ get_or xs i x → f x ≡ get_or (map f xs) i (f x)
-entry_of_map f [] i x h e = absurd (omega arith)
-entry_of_map f (y ∷ xs) zero x h e = ap f e
-entry_of_map f (y ∷ xs) (suc i) x h e = entry_of_map f xs i x (omega arith) e

@@ -1,19 +1,21 @@
 -- Tables of values as lists of rows, beside their columns.
 use Rattle.std.proofs.Common.{◌≡◌, ℕ, suc, ◌+◌, ◌-◌, ◌*◌, ◌/◌, ◌%◌, ◌^◌, ◌<◌, ◌≤◌, List, [], ◌∷◌}
 use Rattle.std.proofs.Common.{length, get_or, refl, sym, ap, ◌∙◌, arith, subst, pow_pos}
-use Rattle.std.specs.Prelude.{Result, Ok, Err, IfOk, vec_len}
+use Rattle.std.specs.Prelude.{vec_len}
 use Rattle.std.specs.List.{AllZip}
 use Rattle.std.proofs.Math.Nat.{mod-lt}
 use Rattle.std.proofs.lemmas.List.{map-id}
-use Rattle.std.proofs.lemmas.Nat.{div-mul-add, pow-add}
+use Rattle.std.proofs.lemmas.Nat.{pow-add}
 use Rattle.std.specs.declared.vec.Vec.{Vec}
 use Rattle.algebra.specs.Nested.{lists}
 use Rattle.algebra.specs.Field.{FieldOps, IsField}
 use Rattle.algebra.specs.TwoAdic.{AreRoots}
 use Rattle.algebra.specs.Periodic.{periodic_value}
 use Rattle.algebra.proofs.Nested.{length-lists, lists_at}
+use Rattle.algebra.proofs.Lists.{all_zip-weaker}
 use Rattle.p3_field_core.specs.Coset.{coset_point}
 use Rattle.p3_dft.proofs.Batches.{exponent_within}
+use Rattle.p3_dft.proofs.Columns.{quotient_of}
 use Rattle.p3_matrix.specs.Rows.{rows_of}
 use Rattle.p3_matrix.proofs.Rows.{length-rows_of, get_or-rows_of, length-row_of, get_or-entry}
 use Rattle.p3_periodic.specs.Columns.{greatest_period}
@@ -38,20 +40,6 @@ module _ {A B : Type 0} (R : A → B → Type 0) where
         (λ k a b l. each (suc k) a b (omega (arith, l))),
   )
 
-  -- and another that follows from it
-  pub all_zip-weaker : (S : A → B → Type 0) (xs : List A) (ys : List B)
-      → ((x : A) (y : B) → R x y → S x y) → AllZip R xs ys → AllZip S xs ys
-  all_zip-weaker S [] [] f all = tt
-  all_zip-weaker S [] (y ∷ ys) f all = absurd all
-  all_zip-weaker S (x ∷ xs) [] f all = absurd all
-  all_zip-weaker S (x ∷ xs) (y ∷ ys) f all = (f x y all.0, all_zip-weaker S xs ys f all.1)
-
--- the number of rows in a list of so many
-pub rows_in : (n width size : ℕ) → 0 < width → size ≡ n * width → size / width ≡ n
-rows_in n width size some e =
-    ap (λ m. m / width) (e ∙ (let z : n * width ≡ n * width + 0 = omega arith in z))
-    ∙ div-mul-add n width 0 some
-
 -- a table whose entries are values at every index that its row stands for
 module _ {T A : Type 0} where
   pub tabulated : (columns : List (Vec T A)) (height blowup : ℕ)
@@ -68,7 +56,7 @@ module _ {T A : Type 0} where
         let rows = rows_of width values in
         let r = index % height in
         let below : r < height = mod-lt index tall in
-        let inside : r < length values / width = omega (arith, below, rows_in height width (length values) some size) in
+        let inside : r < length values / width = omega (arith, below, quotient_of height width (length values) some size) in
         let same : table_row rows index ≡ get_or rows r [] = ap (λ n. get_or rows (index % n) []) long in
         let Zipped : List T → Type 0 = λ row. AllZip (IsValue index) columns row in
         subst Zipped (sym same)
@@ -80,7 +68,7 @@ module _ {T A : Type 0} where
   }
     where
       long : length (rows_of (length columns) values) ≡ height
-      long = length-rows_of (length columns) values ∙ rows_in height (length columns) (length values) some size
+      long = length-rows_of (length columns) values ∙ quotient_of height (length columns) (length values) some size
 
 -- the table whose entries belong there
 module _ {A B : Type 0} (F : FieldOps A) (L : IsField F) (top : ℕ) (w : ℕ → A)
@@ -136,12 +124,6 @@ module _ {A B : Type 0} (F : FieldOps A) (w : ℕ → A) (n size : ℕ) (point :
     where
       quotient : 2 ^ size / 2 ^ n ≡ 2 ^ (size - n)
       quotient =
-          rows_in (2 ^ (size - n)) (2 ^ n) (2 ^ size) (pow_pos n)
+          quotient_of (2 ^ (size - n)) (2 ^ n) (2 ^ size) (pow_pos n)
           (ap (λ k. 2 ^ k) (let e : size ≡ size - n + n = omega (arith, larger) in e)
           ∙ pow-add 2 (size - n) n)
-
--- what follows from an Ok
-pub if_ok-weaker : {V E : Type 0} (r : Result V E) (P Q : V → Type 0) → ((v : V) → P v → Q v)
-    → IfOk r P → IfOk r Q
-if_ok-weaker (Ok v) P Q f p = f v p
-if_ok-weaker (Err e) P Q f p = p

@@ -3,19 +3,15 @@ use Rattle.std.specs.Prelude.{replicate}
 use Rattle.std.specs.Simd.Lanes.{zip2}
 use Rattle.std.proofs.lemmas.Simd.{Each2-of}
 use Rattle.std.proofs.Math.Facts.{Fits-of_lt}
-use Rattle.p3_lanes.proofs.LaneLists.{each_map, each_zip2, map_zip2, one_zip2, zip2_map_right}
+use Rattle.p3_lanes.proofs.LaneLists.{each_map, each_zip2, map_zip2, zip2_map_right, modulus_less}
 use Rattle.p3_lanes.proofs.differences.Goals as goal
 
 abbrev Below : ℕ → Type 0
 Below n = n < 2013265921
 
-less : (ns : List ℕ) → length ns ≡ 8
-    → zip2 (λ n m. n - m) (replicate 8 2013265921) ns ≡ map (λ n. 2013265921 - n) ns
-less ns e = one_zip2 (λ n m. n - m) 8 2013265921 ns e
-
 pub overflow_add-a : goal.overflow_add-a
 overflow_add-a c =
-    rw (less c.args.b (omega arith))
+    rw (modulus_less c.args.b (omega arith))
     (Each2-of Below (λ m. m ≤ 2013265921) (λ x m. Fits w64 (x + m)) (λ x m l k. Fits-of_lt {w = w64} {n = x + m} (omega (arith, l, k))) c.args.a (map (λ n. 2013265921 - n) c.args.b) c.requires.a
     (each_map Below (λ m. m ≤ 2013265921) (λ n. 2013265921 - n) (λ n l. omega arith) c.args.b c.requires.b))
 
@@ -24,7 +20,7 @@ rests : (xs ys : List ℕ) → length ys ≡ 8
     → zip2 (λ x y. x + y) xs (zip2 (λ n m. n - m) (replicate 8 2013265921) ys)
     ≡ zip2 (λ x y. x + (2013265921 - y)) xs ys
 rests xs ys e =
-    ap (λ ms. zip2 (λ x y. x + y) xs ms) (less ys e)
+    ap (λ ms. zip2 (λ x y. x + y) xs ms) (modulus_less ys e)
     ∙ zip2_map_right (λ x y. x + y) (λ n. 2013265921 - n) xs ys
 
 pub reduced_once-requires : goal.reduced_once-requires

@@ -1,4 +1,4 @@
-use Rattle.std.proofs.Common.{◌≡◌, ◌+◌, ◌^◌, ◌≤◌, ℕ, [], ◌∷◌, map, length, sym, ap, subst, ◌∙◌, arith}
+use Rattle.std.proofs.Common.{◌≡◌, ◌^◌, [], ◌∷◌, map, sym, ap, ◌∙◌, arith}
 use Rattle.std.specs.Prelude.{slice_index_or}
 use Rattle.algebra.specs.Polynomial.{val}
 use Rattle.p3_field.specs.BabyBear.{baby_bear, root, element}
@@ -11,7 +11,8 @@ use Rattle.p3_dft.proofs.Columns.{length-held}
 use Rattle.p3_fri_relation.specs.Setting.{Fields}
 use Rattle.p3_fri_commit.specs.Extension.{FitsDomain, polynomial_on}
 use Rattle.p3_pcs.specs.Claims.{opened_values}
-use Rattle.fri_run.proofs.Openings.{all_of_one, same_log, held_sizes, one_held, honest_value}
+use Rattle.fri_run.proofs.Openings.{same_log, held_sizes, one_held, honest_value}
+use Rattle.algebra.proofs.Lists.{all-one}
 use Rattle.fri_run.proofs.opening.open_column.Goals as goal
 
 abbrev fields : Fields BabyBear BabyBear4
@@ -32,7 +33,7 @@ commit-committed-requires-clause-evaluations c =
     let height = length-held baby_bear c.new-2.result 1 (2 ^ c.args.log_size) c.args.column.items
     (record { some = omega arith; entries = c.new-2.ensures.rows; columns = c.new-2.ensures.width; size = omega (arith, c.args.column.ok.0, c.requires.size) }) in
     let blowup : c.new-scheme.result.fri.log_blowup ≡ c.args.log_blowup = ap (λ p. p.log_blowup) c.new-scheme.ensures.parameters ∙ c.parameters.ensures.log_blowup in
-    all_of_one (λ e. FitsDomain 27 c.new-scheme.result.fri.log_blowup e.0.log_size e.1) c.in_ok-evaluations.evaluations.items
+    all-one (λ e. FitsDomain 27 c.new-scheme.result.fri.log_blowup e.0.log_size e.1) c.in_ok-evaluations.evaluations.items
     (c.natural_domain_for_degree-domain.result, c.new-2.result) c.in_ok-evaluations.ensures
     (record { height = height ∙ ap (λ k. 2 ^ k) (sym size); within = omega (arith, size, blowup, c.requires.height) })
 

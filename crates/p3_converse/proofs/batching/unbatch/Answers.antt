@@ -2,11 +2,12 @@ use Rattle.std.proofs.Common.{◌≡◌, ◌+◌, ◌*◌, ◌<◌, ℕ, List, [
 use Rattle.std.proofs.lemmas.List.{map-append}
 use Rattle.algebra.specs.Polynomial.{tabulate}
 use Rattle.algebra.proofs.Lists.{each_from_All, tabulate-next, length-tabulate}
+use Rattle.algebra.proofs.Nested.{length-lists}
 use Rattle.p3_converse.specs.Batching.{IsUnbatching}
 use Rattle.p3_converse.specs.Positions.{stepped}
 use Rattle.algebra.specs.Nested.{lists}
 use Rattle.p3_converse.specs.Unfolding.{common_length}
-use Rattle.p3_converse.proofs.Positions.{length-lists, common_length-first, one_length-lists, one_length-vectors, all-tabulate}
+use Rattle.p3_converse.proofs.Positions.{common_length-first, one_length-lists, one_length-vectors, all-tabulate}
 use Rattle.p3_converse.proofs.Interpolated.{length-interpolated, unbatched}
 use Rattle.p3_converse.proofs.batching.unbatch.Goals as goal
 

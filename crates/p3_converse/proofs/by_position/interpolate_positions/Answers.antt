@@ -2,9 +2,10 @@ use Rattle.std.proofs.Common.{◌≡◌, length, ap, ◌∙◌, arith}
 use Rattle.std.proofs.lemmas.List.{with_items_is}
 use Rattle.p3_converse.specs.Positions.{coefficients_at}
 use Rattle.algebra.specs.Nested.{lists}
-use Rattle.p3_converse.proofs.Positions.{length-coefficients_at, length-lists}
+use Rattle.p3_converse.proofs.Positions.{length-coefficients_at}
 use Rattle.p3_converse.proofs.Concatenated.{length-concatenated}
 use Rattle.p3_converse.proofs.Interpolated.{interpolated-parts}
+use Rattle.algebra.proofs.Nested.{length-lists}
 use Rattle.p3_converse.proofs.by_position.interpolate_positions.Goals as goal
 
 pub interpolate_each-requires-clause-count : goal.interpolate_each-requires-clause-count

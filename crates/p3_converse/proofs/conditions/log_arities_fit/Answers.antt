@@ -1,7 +1,7 @@
-use Rattle.std.proofs.Common.{◌≡◌, ◌+◌, ◌<◌, ℕ, Bool, false, [], ◌∷◌, ◌++◌, All, get_or, take, drop, refl, subst, sym, ap, ◌∙◌, arith}
+use Rattle.std.proofs.Common.{◌≡◌, ◌+◌, ◌<◌, ℕ, Bool, false, All, get_or, take, drop, refl, subst, sym, ap, arith}
 use Rattle.std.proofs.lemmas.List.{take_more, drop_more, take_all, drop_all}
+use Rattle.std.proofs.lemmas.List.Elements.{All-push}
 use Rattle.p3_converse.specs.Branches.{log_sum}
-use Rattle.p3_converse.proofs.Nodes.{all-push}
 use Rattle.p3_converse.proofs.conditions.log_arities_fit.Goals as goal
 
 pub loop-round-preserved : goal.loop-round-preserved
@@ -14,7 +14,7 @@ loop-round-preserved c =
     let sum : log_sum (drop k rounds) ≡ r.0 + log_sum (drop (k + 1) rounds) = ap log_sum (drop_more rounds k (0, false) c.loop-round-test.true) in
     record {
       positive = subst (λ rs. All (λ q. 0 < q.0) rs) (sym (take_more rounds k (0, false) c.loop-round-test.true))
-          (all-push (λ (q : ℕ × Bool). 0 < q.0) (take k rounds) r here.invariant.positive positive);
+          (All-push (λ (q : ℕ × Bool). 0 < q.0) (take k rounds) r here.invariant.positive positive);
       sum = omega (arith, here.invariant.sum, sum);
       small = omega (arith, here.invariant.small, c.if-round-sum.false);
     }

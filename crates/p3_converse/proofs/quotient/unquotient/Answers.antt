@@ -2,8 +2,9 @@ use Rattle.std.proofs.Common.{◌≡◌, ◌∷◌, length, subst, sym, ap, ◌�
 use Rattle.std.proofs.lemmas.List.{with_items_is}
 use Rattle.algebra.specs.Interpolation.{plus_multiple}
 use Rattle.algebra.proofs.Values.{stretched}
+use Rattle.algebra.proofs.CosetWords.{length-stretched}
 use Rattle.p3_converse.specs.Quotients.{IsUnquotient}
-use Rattle.p3_converse.proofs.Quotients.{stretched_end, length-stretched, is_unquotient}
+use Rattle.p3_converse.proofs.Quotients.{stretched_end, is_unquotient}
 use Rattle.p3_converse.proofs.quotient.unquotient.Goals as goal
 
 pub returns-clause-length : goal.returns-clause-length

@@ -1,17 +1,17 @@
-use Rattle.std.proofs.Common.{rules, ◌≡◌, ◌+◌, ◌*◌, ◌^◌, ◌<◌, [], All, length, get_or, take, vec_len, map, refl, subst, sym, ap, ap₂, ◌∙◌, arith}
+use Rattle.std.proofs.Common.{rules, ◌≡◌, ℕ, ◌+◌, ◌*◌, ◌^◌, [], All, length, get_or, take, vec_len, map, refl, subst, sym, ap, ap₂, ◌∙◌, arith}
 use Rattle.std.specs.Prelude.{slice_range}
 use Rattle.std.specs.List.{AllZip}
-use Rattle.std.proofs.lemmas.List.{take_all, length-map}
 use Rattle.std.proofs.lemmas.Result.{IfOk-weaker}
-use Rattle.algebra.specs.Interpolation.{AreDistinct}
+use Rattle.std.proofs.lemmas.List.Elements.{All-push}
 use Rattle.p3_converse.specs.Branches.{log_sum, input_logs, with_input, IsTreeUnfolding, IsRoundUnfolding}
 use Rattle.p3_converse.specs.Trees.{tree_of, leaf_length, leaf}
 use Rattle.algebra.specs.Nested.{lists}
 use Rattle.p3_converse.specs.Unfolding.{common_length}
-use Rattle.p3_converse.proofs.Positions.{length-lists}
-use Rattle.p3_converse.proofs.Trees.{views, tree_of-Leaf, beta_count-positive}
-use Rattle.p3_converse.proofs.Branches.{UnfoldsTo, HasInputsOf, is_leaf_unfolding}
-use Rattle.p3_converse.proofs.Nodes.{first_round, IsNodeOf, is_node_of, IsFit, subtree_fits, conditions, no_rounds, one_tree_more, its_inputs, all-push, all_zip-length, common_length-is, with_input-map, scaled, node_unfolds}
+use Rattle.p3_converse.proofs.Trees.{views, tree_of-Leaf}
+use Rattle.p3_converse.proofs.Branches.{UnfoldsTo, is_leaf_unfolding}
+use Rattle.p3_converse.proofs.Nodes.{first_round, IsNodeOf, is_node_of, IsFit, subtree_fits, conditions, no_rounds, one_tree_more, its_inputs, with_input-map, node_unfolds, AreUnfolded, are_unfolded}
+use Rattle.p3_converse.proofs.tree.+unfold_tree.Given.{Over}
+use Rattle.p3_converse.proofs.tree.+unfold_tree.Goals.{After-deref-in-Node-3}
 use Rattle.p3_converse.proofs.tree.+unfold_tree.Goals as goal
 
 pub unfold_tree-requires : goal.unfold_tree-requires
@@ -59,174 +59,72 @@ loop-subtree-preserved g t c =
       words = subst (λ ps. AllZip (λ t p. UnfoldsTo F later t.1 p) (views (take (k + 1) ts)) (lists ps)) (sym pushed)
           (one_tree_more F later ts k x here.polys.items u.word (lists u.inputs.items) c.loop-subtree-test.true c.subtree-item.is found.values here.invariant.words);
       lengths = subst (λ ps. All (λ p. vec_len p ≡ d * 2 ^ log_sum later) ps) (sym pushed)
-          (all-push (λ p. vec_len p ≡ d * 2 ^ log_sum later) here.polys.items u.word here.invariant.lengths (found.word_length ∙ ap (λ n. n * 2 ^ log_sum later) fit.leaf));
+          (All-push (λ p. vec_len p ≡ d * 2 ^ log_sum later) here.polys.items u.word here.invariant.lengths (found.word_length ∙ ap (λ n. n * 2 ^ log_sum later) fit.leaf));
       inputs = λ _. its_inputs F later ts k x u.word.items (lists u.inputs.items) c.loop-subtree-test.true c.subtree-item.is found.values;
       input_lengths = λ _. found.input_lengths ∙ ap (λ n. map (λ s. n * 2 ^ s) (input_logs later)) fit.leaf;
     }
 
-pub undo_round-requires-clause-betas : goal.undo_round-requires-clause-betas
-undo_round-requires-clause-betas g t c =
-    let F = g.EF.Field.ops in
+-- each subtree is unfolded
+unfolded : (g : Over) (t : ℕ) (c : After-deref-in-Node-3 g t)
+    → AreUnfolded g.EF.Field.ops c.args.rounds.now (slice_range c.args.rounds.now 1 (length c.args.rounds.now))
+    c.deref-subtree-items.result.now (leaf_length (tree_of c.args.tree.now)) c.deref-in-Node-2.result.now
+    c.loop-subtree.polys.items c.deref-in-Node-3.result.now c.loop-subtree.inputs.items
+unfolded g t c =
     let rounds = c.args.rounds.now in
     let later = slice_range rounds 1 (length rounds) in
-    let tree = c.args.tree.now in
-    let trees = c.in-Node.subtrees.items in
-    let d = leaf_length (tree_of tree) in
-    let is : IsNodeOf rounds later trees d = is_node_of rounds later tree c.in-Node.subtrees d c.in-Node.is refl c.requires.paths c.requires.betas c.requires.leaves in
-    let here = c.loop-subtree in
     let ts = c.deref-subtree-items.result.now in
-    let same : ts ≡ trees = c.deref-subtree-items.ensures.value in
-    let whole : take here.subtree-index ts ≡ ts = take_all here.subtree-index ts (omega (arith, c.loop-subtree-test.false)) in
-    let polys = here.polys.items in
-    let betas : c.deref-in-Node-2.result.now ≡ map (λ t. t.0) trees = c.deref-in-Node-2.ensures.value ∙ c.in_ok-betas-in-Node.ensures ∙ ap (λ us. map (λ t. t.0) us) c.deref-in-Node.ensures.value in
-    let some : 0 < length trees = omega (arith, is.count, beta_count-positive (first_round rounds)) in
-    let words : AllZip (λ t p. UnfoldsTo F later t.1 p) (views ts) (lists polys) = subst (λ us. AllZip (λ t p. UnfoldsTo F later t.1 p) (views us) (lists polys)) whole here.invariant.words in
-    let count : length polys ≡ length trees = sym (length-lists polys) ∙ all_zip-length (λ t p. UnfoldsTo F later t.1 p) (views ts) (lists polys) words ∙ length-map ts (λ t. (t.0, tree_of t.1)) ∙ ap length same in
-    ap length betas ∙ length-map trees (λ t. t.0) ∙ is.count
+    let same : ts ≡ c.in-Node.subtrees.items = c.deref-subtree-items.ensures.value in
+    let d = leaf_length (tree_of c.args.tree.now) in
+    let here = c.loop-subtree in
+    are_unfolded g.EF.Field.ops rounds later ts d c.deref-in-Node-2.result.now here.polys.items c.deref-in-Node-3.result.now
+    here.inputs.items here.subtree-index
+    (subst (λ us. IsNodeOf rounds later us d) (sym same)
+    (is_node_of rounds later c.args.tree.now c.in-Node.subtrees d c.in-Node.is refl c.requires.paths c.requires.betas c.requires.leaves))
+    (omega (arith, c.loop-subtree-test.false))
+    (c.deref-in-Node-2.ensures.value ∙ c.in_ok-betas-in-Node.ensures
+    ∙ ap (λ us. map (λ t. t.0) us) (c.deref-in-Node.ensures.value ∙ sym same))
+    c.deref-in-Node-3.ensures.value here.invariant.words here.invariant.lengths here.invariant.inputs
+    here.invariant.input_lengths
+
+pub undo_round-requires-clause-betas : goal.undo_round-requires-clause-betas
+undo_round-requires-clause-betas g t c = (unfolded g t (goal.at.undo_round-requires-clause-betas g t c).After-deref-in-Node-3).count
 
 pub undo_round-requires-clause-distinct : goal.undo_round-requires-clause-distinct
-undo_round-requires-clause-distinct g t c =
-    let F = g.EF.Field.ops in
-    let rounds = c.args.rounds.now in
-    let later = slice_range rounds 1 (length rounds) in
-    let tree = c.args.tree.now in
-    let trees = c.in-Node.subtrees.items in
-    let d = leaf_length (tree_of tree) in
-    let is : IsNodeOf rounds later trees d = is_node_of rounds later tree c.in-Node.subtrees d c.in-Node.is refl c.requires.paths c.requires.betas c.requires.leaves in
-    let here = c.loop-subtree in
-    let ts = c.deref-subtree-items.result.now in
-    let same : ts ≡ trees = c.deref-subtree-items.ensures.value in
-    let whole : take here.subtree-index ts ≡ ts = take_all here.subtree-index ts (omega (arith, c.loop-subtree-test.false)) in
-    let polys = here.polys.items in
-    let betas : c.deref-in-Node-2.result.now ≡ map (λ t. t.0) trees = c.deref-in-Node-2.ensures.value ∙ c.in_ok-betas-in-Node.ensures ∙ ap (λ us. map (λ t. t.0) us) c.deref-in-Node.ensures.value in
-    let some : 0 < length trees = omega (arith, is.count, beta_count-positive (first_round rounds)) in
-    let words : AllZip (λ t p. UnfoldsTo F later t.1 p) (views ts) (lists polys) = subst (λ us. AllZip (λ t p. UnfoldsTo F later t.1 p) (views us) (lists polys)) whole here.invariant.words in
-    let count : length polys ≡ length trees = sym (length-lists polys) ∙ all_zip-length (λ t p. UnfoldsTo F later t.1 p) (views ts) (lists polys) words ∙ length-map ts (λ t. (t.0, tree_of t.1)) ∙ ap length same in
-    subst AreDistinct (sym betas) is.distinct
+undo_round-requires-clause-distinct g t c = (unfolded g t (goal.at.undo_round-requires-clause-distinct g t c).After-deref-in-Node-3).distinct
 
 pub undo_round-requires-clause-as_many : goal.undo_round-requires-clause-as_many
-undo_round-requires-clause-as_many g t c =
-    let F = g.EF.Field.ops in
-    let rounds = c.args.rounds.now in
-    let later = slice_range rounds 1 (length rounds) in
-    let tree = c.args.tree.now in
-    let trees = c.in-Node.subtrees.items in
-    let d = leaf_length (tree_of tree) in
-    let is : IsNodeOf rounds later trees d = is_node_of rounds later tree c.in-Node.subtrees d c.in-Node.is refl c.requires.paths c.requires.betas c.requires.leaves in
-    let here = c.loop-subtree in
-    let ts = c.deref-subtree-items.result.now in
-    let same : ts ≡ trees = c.deref-subtree-items.ensures.value in
-    let whole : take here.subtree-index ts ≡ ts = take_all here.subtree-index ts (omega (arith, c.loop-subtree-test.false)) in
-    let polys = here.polys.items in
-    let betas : c.deref-in-Node-2.result.now ≡ map (λ t. t.0) trees = c.deref-in-Node-2.ensures.value ∙ c.in_ok-betas-in-Node.ensures ∙ ap (λ us. map (λ t. t.0) us) c.deref-in-Node.ensures.value in
-    let some : 0 < length trees = omega (arith, is.count, beta_count-positive (first_round rounds)) in
-    let words : AllZip (λ t p. UnfoldsTo F later t.1 p) (views ts) (lists polys) = subst (λ us. AllZip (λ t p. UnfoldsTo F later t.1 p) (views us) (lists polys)) whole here.invariant.words in
-    let count : length polys ≡ length trees = sym (length-lists polys) ∙ all_zip-length (λ t p. UnfoldsTo F later t.1 p) (views ts) (lists polys) words ∙ length-map ts (λ t. (t.0, tree_of t.1)) ∙ ap length same in
-    ap length c.deref-in-Node-3.ensures.value ∙ count ∙ sym (ap length betas ∙ length-map trees (λ t. t.0))
+undo_round-requires-clause-as_many g t c = (unfolded g t (goal.at.undo_round-requires-clause-as_many g t c).After-deref-in-Node-3).as_many
 
 pub undo_round-requires-clause-one_length : goal.undo_round-requires-clause-one_length
-undo_round-requires-clause-one_length g t c =
-    let F = g.EF.Field.ops in
-    let rounds = c.args.rounds.now in
-    let later = slice_range rounds 1 (length rounds) in
-    let tree = c.args.tree.now in
-    let trees = c.in-Node.subtrees.items in
-    let d = leaf_length (tree_of tree) in
-    let is : IsNodeOf rounds later trees d = is_node_of rounds later tree c.in-Node.subtrees d c.in-Node.is refl c.requires.paths c.requires.betas c.requires.leaves in
-    let here = c.loop-subtree in
-    let ts = c.deref-subtree-items.result.now in
-    let same : ts ≡ trees = c.deref-subtree-items.ensures.value in
-    let whole : take here.subtree-index ts ≡ ts = take_all here.subtree-index ts (omega (arith, c.loop-subtree-test.false)) in
-    let polys = here.polys.items in
-    let betas : c.deref-in-Node-2.result.now ≡ map (λ t. t.0) trees = c.deref-in-Node-2.ensures.value ∙ c.in_ok-betas-in-Node.ensures ∙ ap (λ us. map (λ t. t.0) us) c.deref-in-Node.ensures.value in
-    let some : 0 < length trees = omega (arith, is.count, beta_count-positive (first_round rounds)) in
-    let words : AllZip (λ t p. UnfoldsTo F later t.1 p) (views ts) (lists polys) = subst (λ us. AllZip (λ t p. UnfoldsTo F later t.1 p) (views us) (lists polys)) whole here.invariant.words in
-    let count : length polys ≡ length trees = sym (length-lists polys) ∙ all_zip-length (λ t p. UnfoldsTo F later t.1 p) (views ts) (lists polys) words ∙ length-map ts (λ t. (t.0, tree_of t.1)) ∙ ap length same in
-    let common : common_length c.deref-in-Node-3.result.now ≡ d * 2 ^ log_sum later =
-    ap (λ vs. common_length vs) c.deref-in-Node-3.ensures.value ∙ common_length-is polys (d * 2 ^ log_sum later) here.invariant.lengths (omega (arith, count, some)) in
-    let product : common_length c.deref-in-Node-3.result.now * 2 ^ (first_round rounds).0 ≡ d * 2 ^ log_sum rounds =
-    ap (λ n. n * 2 ^ (first_round rounds).0) common ∙ scaled d (first_round rounds).0 (log_sum later) ∙ ap (λ n. d * 2 ^ n) (sym (ap log_sum is.split)) in
-    subst (λ vs. All (λ p. vec_len p ≡ common_length c.deref-in-Node-3.result.now) vs) (sym c.deref-in-Node-3.ensures.value)
-    (λ j p l. here.invariant.lengths j p l ∙ sym common)
+undo_round-requires-clause-one_length g t c = (unfolded g t (goal.at.undo_round-requires-clause-one_length g t c).After-deref-in-Node-3).one_length
 
 pub undo_round-requires-clause-fits : goal.undo_round-requires-clause-fits
 undo_round-requires-clause-fits g t c =
-    let F = g.EF.Field.ops in
-    let rounds = c.args.rounds.now in
-    let later = slice_range rounds 1 (length rounds) in
-    let tree = c.args.tree.now in
-    let trees = c.in-Node.subtrees.items in
-    let d = leaf_length (tree_of tree) in
-    let is : IsNodeOf rounds later trees d = is_node_of rounds later tree c.in-Node.subtrees d c.in-Node.is refl c.requires.paths c.requires.betas c.requires.leaves in
-    let here = c.loop-subtree in
-    let ts = c.deref-subtree-items.result.now in
-    let same : ts ≡ trees = c.deref-subtree-items.ensures.value in
-    let whole : take here.subtree-index ts ≡ ts = take_all here.subtree-index ts (omega (arith, c.loop-subtree-test.false)) in
-    let polys = here.polys.items in
-    let betas : c.deref-in-Node-2.result.now ≡ map (λ t. t.0) trees = c.deref-in-Node-2.ensures.value ∙ c.in_ok-betas-in-Node.ensures ∙ ap (λ us. map (λ t. t.0) us) c.deref-in-Node.ensures.value in
-    let some : 0 < length trees = omega (arith, is.count, beta_count-positive (first_round rounds)) in
-    let words : AllZip (λ t p. UnfoldsTo F later t.1 p) (views ts) (lists polys) = subst (λ us. AllZip (λ t p. UnfoldsTo F later t.1 p) (views us) (lists polys)) whole here.invariant.words in
-    let count : length polys ≡ length trees = sym (length-lists polys) ∙ all_zip-length (λ t p. UnfoldsTo F later t.1 p) (views ts) (lists polys) words ∙ length-map ts (λ t. (t.0, tree_of t.1)) ∙ ap length same in
-    let common : common_length c.deref-in-Node-3.result.now ≡ d * 2 ^ log_sum later =
-    ap (λ vs. common_length vs) c.deref-in-Node-3.ensures.value ∙ common_length-is polys (d * 2 ^ log_sum later) here.invariant.lengths (omega (arith, count, some)) in
-    let product : common_length c.deref-in-Node-3.result.now * 2 ^ (first_round rounds).0 ≡ d * 2 ^ log_sum rounds =
-    ap (λ n. n * 2 ^ (first_round rounds).0) common ∙ scaled d (first_round rounds).0 (log_sum later) ∙ ap (λ n. d * 2 ^ n) (sym (ap log_sum is.split)) in
+    let product = (unfolded g t (goal.at.undo_round-requires-clause-fits g t c).After-deref-in-Node-3).product in
     omega (arith, product, c.requires.fits)
 
 pub returns-after-loop-subtree-clause-word_length : goal.returns-after-loop-subtree-clause-word_length
 returns-after-loop-subtree-clause-word_length g t c =
-    let F = g.EF.Field.ops in
     let rounds = c.args.rounds.now in
-    let later = slice_range rounds 1 (length rounds) in
-    let tree = c.args.tree.now in
-    let trees = c.in-Node.subtrees.items in
-    let d = leaf_length (tree_of tree) in
-    let is : IsNodeOf rounds later trees d = is_node_of rounds later tree c.in-Node.subtrees d c.in-Node.is refl c.requires.paths c.requires.betas c.requires.leaves in
-    let here = c.loop-subtree in
-    let ts = c.deref-subtree-items.result.now in
-    let same : ts ≡ trees = c.deref-subtree-items.ensures.value in
-    let whole : take here.subtree-index ts ≡ ts = take_all here.subtree-index ts (omega (arith, c.loop-subtree-test.false)) in
-    let polys = here.polys.items in
-    let betas : c.deref-in-Node-2.result.now ≡ map (λ t. t.0) trees = c.deref-in-Node-2.ensures.value ∙ c.in_ok-betas-in-Node.ensures ∙ ap (λ us. map (λ t. t.0) us) c.deref-in-Node.ensures.value in
-    let some : 0 < length trees = omega (arith, is.count, beta_count-positive (first_round rounds)) in
-    let words : AllZip (λ t p. UnfoldsTo F later t.1 p) (views ts) (lists polys) = subst (λ us. AllZip (λ t p. UnfoldsTo F later t.1 p) (views us) (lists polys)) whole here.invariant.words in
-    let count : length polys ≡ length trees = sym (length-lists polys) ∙ all_zip-length (λ t p. UnfoldsTo F later t.1 p) (views ts) (lists polys) words ∙ length-map ts (λ t. (t.0, tree_of t.1)) ∙ ap length same in
-    let common : common_length c.deref-in-Node-3.result.now ≡ d * 2 ^ log_sum later =
-    ap (λ vs. common_length vs) c.deref-in-Node-3.ensures.value ∙ common_length-is polys (d * 2 ^ log_sum later) here.invariant.lengths (omega (arith, count, some)) in
-    let product : common_length c.deref-in-Node-3.result.now * 2 ^ (first_round rounds).0 ≡ d * 2 ^ log_sum rounds =
-    ap (λ n. n * 2 ^ (first_round rounds).0) common ∙ scaled d (first_round rounds).0 (log_sum later) ∙ ap (λ n. d * 2 ^ n) (sym (ap log_sum is.split)) in
+    let d = leaf_length (tree_of c.args.tree.now) in
+    let product = (unfolded g t (goal.at.returns-after-loop-subtree-clause-word_length g t c).After-deref-in-Node-3).product in
     IfOk-weaker c.undo_round.result (λ u. vec_len u.word ≡ common_length c.deref-in-Node-3.result.now * 2 ^ (first_round rounds).0) (λ u. vec_len u.word ≡ d * 2 ^ log_sum rounds)
     (λ u e. e ∙ product) c.undo_round.ensures.word_length
 
 pub returns-after-loop-subtree-clause-input_lengths : goal.returns-after-loop-subtree-clause-input_lengths
 returns-after-loop-subtree-clause-input_lengths g t c =
-    let F = g.EF.Field.ops in
     let rounds = c.args.rounds.now in
     let later = slice_range rounds 1 (length rounds) in
     let tree = c.args.tree.now in
-    let trees = c.in-Node.subtrees.items in
     let d = leaf_length (tree_of tree) in
-    let is : IsNodeOf rounds later trees d = is_node_of rounds later tree c.in-Node.subtrees d c.in-Node.is refl c.requires.paths c.requires.betas c.requires.leaves in
-    let here = c.loop-subtree in
-    let ts = c.deref-subtree-items.result.now in
-    let same : ts ≡ trees = c.deref-subtree-items.ensures.value in
-    let whole : take here.subtree-index ts ≡ ts = take_all here.subtree-index ts (omega (arith, c.loop-subtree-test.false)) in
-    let polys = here.polys.items in
-    let betas : c.deref-in-Node-2.result.now ≡ map (λ t. t.0) trees = c.deref-in-Node-2.ensures.value ∙ c.in_ok-betas-in-Node.ensures ∙ ap (λ us. map (λ t. t.0) us) c.deref-in-Node.ensures.value in
-    let some : 0 < length trees = omega (arith, is.count, beta_count-positive (first_round rounds)) in
-    let words : AllZip (λ t p. UnfoldsTo F later t.1 p) (views ts) (lists polys) = subst (λ us. AllZip (λ t p. UnfoldsTo F later t.1 p) (views us) (lists polys)) whole here.invariant.words in
-    let count : length polys ≡ length trees = sym (length-lists polys) ∙ all_zip-length (λ t p. UnfoldsTo F later t.1 p) (views ts) (lists polys) words ∙ length-map ts (λ t. (t.0, tree_of t.1)) ∙ ap length same in
-    let common : common_length c.deref-in-Node-3.result.now ≡ d * 2 ^ log_sum later =
-    ap (λ vs. common_length vs) c.deref-in-Node-3.ensures.value ∙ common_length-is polys (d * 2 ^ log_sum later) here.invariant.lengths (omega (arith, count, some)) in
-    let product : common_length c.deref-in-Node-3.result.now * 2 ^ (first_round rounds).0 ≡ d * 2 ^ log_sum rounds =
-    ap (λ n. n * 2 ^ (first_round rounds).0) common ∙ scaled d (first_round rounds).0 (log_sum later) ∙ ap (λ n. d * 2 ^ n) (sym (ap log_sum is.split)) in
     let has_input = (first_round rounds).1 in
+    let known = unfolded g t (goal.at.returns-after-loop-subtree-clause-input_lengths g t c).After-deref-in-Node-3 in
     IfOk-weaker c.undo_round.result
-    (λ u. map (λ v. vec_len v) u.inputs.items ≡ with_input has_input (common_length c.deref-in-Node-3.result.now) (map (λ v. vec_len v) here.inputs.items))
+    (λ u. map (λ v. vec_len v) u.inputs.items ≡ with_input has_input (common_length c.deref-in-Node-3.result.now) (map (λ v. vec_len v) c.loop-subtree.inputs.items))
     (λ u. map (λ v. vec_len v) u.inputs.items ≡ map (λ s. d * 2 ^ s) (input_logs rounds))
-    (λ u e. e ∙ ap₂ (λ n ns. with_input has_input n ns) common (here.invariant.input_lengths (omega (arith, c.loop-subtree-test.false, ap length same, some)))
+    (λ u e. e ∙ ap₂ (λ n ns. with_input has_input n ns) known.common known.lengths
     ∙ sym (with_input-map (λ s. d * 2 ^ s) has_input (log_sum later) (input_logs later))
-    ∙ ap (λ rs. map (λ s. d * 2 ^ s) (input_logs rs)) (sym is.split))
+    ∙ ap (λ rs. map (λ s. d * 2 ^ s) (input_logs rs)) (sym known.split))
     c.undo_round.ensures.input_lengths
 
 pub returns-after-loop-subtree-clause-values : goal.returns-after-loop-subtree-clause-values
@@ -235,25 +133,15 @@ returns-after-loop-subtree-clause-values g t c =
     let rounds = c.args.rounds.now in
     let later = slice_range rounds 1 (length rounds) in
     let tree = c.args.tree.now in
-    let trees = c.in-Node.subtrees.items in
     let d = leaf_length (tree_of tree) in
-    let is : IsNodeOf rounds later trees d = is_node_of rounds later tree c.in-Node.subtrees d c.in-Node.is refl c.requires.paths c.requires.betas c.requires.leaves in
     let here = c.loop-subtree in
     let ts = c.deref-subtree-items.result.now in
-    let same : ts ≡ trees = c.deref-subtree-items.ensures.value in
-    let whole : take here.subtree-index ts ≡ ts = take_all here.subtree-index ts (omega (arith, c.loop-subtree-test.false)) in
-    let polys = here.polys.items in
-    let betas : c.deref-in-Node-2.result.now ≡ map (λ t. t.0) trees = c.deref-in-Node-2.ensures.value ∙ c.in_ok-betas-in-Node.ensures ∙ ap (λ us. map (λ t. t.0) us) c.deref-in-Node.ensures.value in
-    let some : 0 < length trees = omega (arith, is.count, beta_count-positive (first_round rounds)) in
-    let words : AllZip (λ t p. UnfoldsTo F later t.1 p) (views ts) (lists polys) = subst (λ us. AllZip (λ t p. UnfoldsTo F later t.1 p) (views us) (lists polys)) whole here.invariant.words in
-    let count : length polys ≡ length trees = sym (length-lists polys) ∙ all_zip-length (λ t p. UnfoldsTo F later t.1 p) (views ts) (lists polys) words ∙ length-map ts (λ t. (t.0, tree_of t.1)) ∙ ap length same in
-    let behind : HasInputsOf F later (views ts) (lists here.inputs.items) = subst (λ us. HasInputsOf F later (views us) (lists here.inputs.items)) whole
-    (here.invariant.inputs (omega (arith, c.loop-subtree-test.false, ap length same, some))) in
+    let known = unfolded g t (goal.at.returns-after-loop-subtree-clause-values g t c).After-deref-in-Node-3 in
     IfOk-weaker c.undo_round.result
     (λ u. IsRoundUnfolding F (first_round rounds) c.deref-in-Node-2.result.now (lists c.deref-in-Node-3.result.now) u.word.items (lists here.inputs.items) (lists u.inputs.items))
     (λ u. IsTreeUnfolding F rounds (tree_of tree) u.word.items (lists u.inputs.items))
-    (λ u e. node_unfolds F rounds later tree c.in-Node.subtrees ts c.deref-in-Node-2.result.now polys c.deref-in-Node-3.result.now (lists here.inputs.items) u.word.items (lists u.inputs.items)
-    c.in-Node.is same is.split (betas ∙ ap (λ us. map (λ t. t.0) us) (sym same)) c.deref-in-Node-3.ensures.value words behind e)
+    (λ u e. node_unfolds F rounds later tree c.in-Node.subtrees ts c.deref-in-Node-2.result.now here.polys.items c.deref-in-Node-3.result.now (lists here.inputs.items) u.word.items (lists u.inputs.items)
+    c.in-Node.is c.deref-subtree-items.ensures.value known.split known.challenges c.deref-in-Node-3.ensures.value known.words known.behind e)
     c.undo_round.ensures.undone
 
 pub returns-in_ok-from_slice-in-Leaf-clause-word_length : goal.returns-in_ok-from_slice-in-Leaf-clause-word_length

@@ -2,10 +2,11 @@ use Rattle.std.proofs.Common.{◌≡◌, ◌*◌, ◌^◌, ◌<◌, length, subs
 use Rattle.std.proofs.lemmas.Nat.{pow_pos}
 use Rattle.std.proofs.lemmas.Result.{IfOk-weaker}
 use Rattle.algebra.proofs.Lists.{each_from_All}
+use Rattle.algebra.proofs.Nested.{length-lists}
 use Rattle.p3_converse.specs.Positions.{interpolated}
 use Rattle.algebra.specs.Nested.{lists}
 use Rattle.p3_converse.specs.Unfolding.{common_length, IsUnfolding}
-use Rattle.p3_converse.proofs.Positions.{length-lists, common_length-first, one_length-lists, log_small}
+use Rattle.p3_converse.proofs.Positions.{common_length-first, one_length-lists, log_small}
 use Rattle.p3_converse.proofs.Interpolated.{length-interpolated}
 use Rattle.p3_converse.proofs.Unfolded.{is_unfolding}
 use Rattle.std.proofs.Common.{[], ◌∷◌, refl, false}

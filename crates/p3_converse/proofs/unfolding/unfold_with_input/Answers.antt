@@ -5,11 +5,13 @@ use Rattle.p3_converse.specs.Positions.{coefficients_at, interleaved}
 use Rattle.p3_converse.specs.Batching.{IsUnbatching}
 use Rattle.algebra.specs.Nested.{lists}
 use Rattle.p3_converse.specs.Unfolding.{common_length, IsUnfoldingWithInput}
-use Rattle.p3_converse.proofs.Positions.{length-coefficients_at, length-lists, common_length-first, one_length-lists, log_small, all-front, all-last}
+use Rattle.p3_converse.proofs.Positions.{length-coefficients_at, common_length-first, one_length-lists, log_small, all-front}
 use Rattle.p3_converse.proofs.Concatenated.{length-concatenated}
 use Rattle.p3_converse.proofs.Unfolded.{is_unfolding_with_input}
 use Rattle.std.proofs.Common.{refl, true}
 use Rattle.p3_converse.proofs.Branches.{is_one_round}
+use Rattle.algebra.proofs.Lists.{all-last}
+use Rattle.algebra.proofs.Nested.{length-lists}
 use Rattle.p3_converse.proofs.unfolding.unfold_with_input.Goals as goal
 
 pub overflow_shl-arity : goal.overflow_shl-arity

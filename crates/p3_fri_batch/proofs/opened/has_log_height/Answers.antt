@@ -1,10 +1,10 @@
 use Rattle.std.proofs.Common.{◌==◌, ◌<◌, Bool, map, length, sym, ap, ◌∙◌, arith}
 use Rattle.std.proofs.lemmas.List.{length-map}
 use Rattle.std.proofs.lemmas.List.Folds.{list_any_at}
-use Rattle.p3_pcs.proofs.Zipped.{entry_of_map}
 use Rattle.p3_fri_openings.specs.Rounds.{log_height}
 use Rattle.p3_fri_batch.specs.Words.{Opened}
 use Rattle.p3_fri_batch.specs.Rounds.{as_opened}
+use Rattle.algebra.proofs.Lists.{entry_of_map}
 use Rattle.p3_fri_batch.proofs.opened.has_log_height.Goals as goal
 
 pub returns-then-is_of_log_height : goal.returns-then-is_of_log_height

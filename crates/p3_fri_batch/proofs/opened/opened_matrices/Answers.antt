@@ -1,12 +1,14 @@
 use Rattle.std.proofs.Common.{◌<◌, ◌≤◌, ◌++◌, length, sym, subst, ap, ap₂, ◌∙◌, arith}
 use Rattle.std.proofs.lemmas.List.{length-map, take_all}
+use Rattle.std.proofs.lemmas.Slice.Zip.{AllZip-long}
 use Rattle.algebra.specs.Nested.{nested, joined}
 use Rattle.p3_pcs.specs.Claims.{opened_values}
-use Rattle.p3_pcs.proofs.Zipped.{entry_of_map, entry_of_both, within_both, length_of_both}
+use Rattle.p3_pcs.proofs.Zipped.{entry_of_both, within_both, length_of_both}
 use Rattle.p3_fri_openings.specs.Denominators.{ArePointsCovered}
 use Rattle.p3_fri_openings.proofs.First.{at_item}
 use Rattle.p3_fri_batch.specs.Rounds.{HaveValues, opened_in, opened_by_round}
-use Rattle.p3_fri_batch.proofs.Collected.{all_zip_at, all_zip_length, joined_more}
+use Rattle.p3_fri_batch.proofs.Collected.{all_zip_at, joined_more}
+use Rattle.algebra.proofs.Lists.{entry_of_map}
 use Rattle.p3_fri_batch.proofs.opened.opened_matrices.Goals as goal
 
 pub bounds-values-index : goal.bounds-values-index
@@ -15,7 +17,7 @@ bounds-values-index g c =
     omega (
       arith,
       one,
-      all_zip_length HaveValues c.args.rounds.now (opened_values c.args.values.now)
+      AllZip-long HaveValues c.args.rounds.now (opened_values c.args.values.now)
           c.requires.values,
       length-map c.args.values.now (λ v. nested v.items),
     )
@@ -28,7 +30,7 @@ push_round-requires-clause-values g c =
     omega (
       arith,
       one,
-      all_zip_length HaveValues c.args.rounds.now (opened_values c.args.values.now)
+      AllZip-long HaveValues c.args.rounds.now (opened_values c.args.values.now)
           c.requires.values,
       length-map c.args.values.now (λ v. nested v.items),
     ) in
@@ -46,7 +48,7 @@ loop-index-preserved g c =
     let values = opened_values c.args.values.now in
     let one : i < length rounds = omega arith in
     let three : i < length values = omega
-    (arith, one, all_zip_length HaveValues rounds values c.requires.values) in
+    (arith, one, AllZip-long HaveValues rounds values c.requires.values) in
     let two : i < length c.args.values.now = omega
     (arith, three, length-map c.args.values.now (λ v. nested v.items)) in
     let round = c.index-rounds-index.result in

@@ -1,11 +1,12 @@
 use Rattle.std.proofs.Common.{◌≡◌, ◌<◌, ◌≤◌, ◌++◌, length, map, get_or, sym, ap, ◌∙◌, arith}
 use Rattle.std.proofs.lemmas.List.{length-map}
+use Rattle.std.proofs.lemmas.Slice.Zip.{AllZip-long}
 use Rattle.algebra.specs.Nested.{lists, nested}
-use Rattle.p3_pcs.proofs.Zipped.{entry_of_map}
 use Rattle.p3_fri_openings.specs.Rounds.{asked_in}
 use Rattle.p3_fri_batch.specs.Rounds.{HasValues, as_opened}
-use Rattle.p3_fri_batch.proofs.Collected.{all_zip_length, asked_within, opened_more, ready_more}
+use Rattle.p3_fri_batch.proofs.Collected.{asked_within, opened_more, ready_more}
 use Rattle.p3_fri_batch.proofs.Collected.{opened_whole}
+use Rattle.algebra.proofs.Lists.{entry_of_map}
 use Rattle.p3_fri_batch.proofs.opened.push_round.Goals as goal
 
 pub bounds-values-index : goal.bounds-values-index
@@ -21,7 +22,7 @@ bounds-values-index g c =
     omega (
       arith,
       within,
-      all_zip_length HasValues (asked_in round) (nested c.args.values.now) c.requires.values,
+      AllZip-long HasValues (asked_in round) (nested c.args.values.now) c.requires.values,
       length-map c.args.values.now (λ v. lists v.items),
     )
 
@@ -39,7 +40,7 @@ loop-index-preserved g c =
     let two : i < length points = omega (arith, listed, count) in
     let within = asked_within matrices points values i one two in
     let three : i < length values =
-    omega (arith, within, all_zip_length HasValues (asked_in round) values c.requires.values) in
+    omega (arith, within, AllZip-long HasValues (asked_in round) values c.requires.values) in
     let long : i < length c.args.values.now = omega
     (arith, three, length-map c.args.values.now (λ v. lists v.items)) in
     let zs = c.index-round-index-in-loop-index.result in

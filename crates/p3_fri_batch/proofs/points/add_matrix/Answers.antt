@@ -3,7 +3,7 @@ use Rattle.std.proofs.Math.ListN.{get_or-map}
 use Rattle.std.proofs.lemmas.List.{length-map, get_or_default}
 use Rattle.algebra.specs.Polynomial.{val}
 use Rattle.p3_matrix.specs.Matrix.{rows}
-use Rattle.p3_fri_batch.proofs.Rows.{row_wide}
+use Rattle.p3_matrix.proofs.Widths.{row_width}
 use Rattle.p3_fri_batch.proofs.points.add_matrix.Goals as goal
 
 pub returns-clause-sums : goal.returns-clause-sums
@@ -16,7 +16,7 @@ returns-clause-sums g c =
     let below : i < length all = omega (arith, l, c.requires.height) in
     let row = get_or all i [] in
     c.add_opened_points.ensures.sums i d (map lift row) ts l
-    (length-map row lift ∙ row_wide c.args.matrix.now i below ∙ sym c.width-width.ensures.columns)
+    (length-map row lift ∙ row_width c.args.matrix.now i below ∙ sym c.width-width.ensures.columns)
     (ap (λ xs. get_or xs i d) (c.deref.ensures.value ∙ c.in_ok-compressed.ensures)
     ∙ get_or_default (map f all) i d (f []) (omega (arith, below, length-map all f))
     ∙ get_or-map f all i [])

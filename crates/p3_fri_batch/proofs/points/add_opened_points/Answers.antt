@@ -6,7 +6,8 @@ use Rattle.algebra.specs.Polynomial.{val}
 use Rattle.algebra.specs.Cosets.{coset_pt}
 use Rattle.algebra.specs.Nested.{lists}
 use Rattle.algebra.proofs.Lists.{each_from_All, get_or-tabulate, map-tabulate, length-tabulate}
-use Rattle.p3_pcs.proofs.Zipped.{entry_of_both, entry_of_map, within_both, length_of_both}
+use Rattle.algebra.proofs.Lists.{entry_of_map}
+use Rattle.p3_pcs.proofs.Zipped.{entry_of_both, within_both, length_of_both}
 use Rattle.p3_fri_relation.specs.Setting.{Fields}
 use Rattle.p3_fri_openings.specs.Log2.{log2}
 use Rattle.p3_fri_openings.specs.Committed.{coset_of}

@@ -1,7 +1,7 @@
 use Rattle.std.proofs.Common.{◌≡◌, ◌+◌}
-use Rattle.std.specs.List.{AllZip}
+use Rattle.std.proofs.lemmas.Result.{IfOk-weaker}
 use Rattle.p3_fri_commit.specs.Extension.{IsLowDegreeExtension}
-use Rattle.p3_fri_commit.proofs.Batches.{have_powers, if_ok_map}
+use Rattle.p3_fri_commit.proofs.Batches.{have_powers}
 use Rattle.p3_fri_commit.proofs.extension.commit_evaluations.Goals as goal
 
 pub commit-requires : goal.commit-requires
@@ -13,5 +13,6 @@ commit-requires g c = record {
 
 pub returns-clause-words : goal.returns-clause-words
 returns-clause-words g c =
-    if_ok_map c.commit.result _ _ c.commit.ensures.matrices (λ pair is.
-    rw is c.in_ok-words.ensures.words)
+    IfOk-weaker c.commit.result
+    (λ pair. g.M.Mmcs.committed pair.1 ≡ c.in_ok-words.words.items) _
+    (λ pair is. rw is c.in_ok-words.ensures.words) c.commit.ensures.matrices

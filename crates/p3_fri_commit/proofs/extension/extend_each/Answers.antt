@@ -1,7 +1,8 @@
-use Rattle.std.proofs.Common.{◌≡◌, ◌++◌, ◌∷◌, [], ◌+◌, length, append_assoc, ap, sym, ◌∙◌, arith, subst, All}
+use Rattle.std.proofs.Common.{◌++◌, ◌∷◌, [], length, append_assoc, ap, sym, ◌∙◌, arith, subst, All}
 use Rattle.std.specs.List.{AllZip}
 use Rattle.p3_fri_commit.specs.Extension.{FitsDomain, IsLowDegreeExtension}
-use Rattle.p3_fri_commit.proofs.Batches.{zip_more, in_middle, nothing_left}
+use Rattle.p3_fri_commit.proofs.Batches.{in_middle, nothing_left}
+use Rattle.algebra.proofs.Lists.{all_zip-push}
 use Rattle.p3_fri_commit.proofs.extension.extend_each.Goals as goal
 
 pub extend-requires : goal.extend-requires
@@ -24,7 +25,7 @@ loop-domain-preserved g c =
       words_so_far = subst (λ ws. AllZip (λ matrix e. IsLowDegreeExtension g.F.Field.ops g.F.TwoAdicField.root
           g.F.Field.GENERATOR c.args.log_blowup e.0.shift e.0.log_size e.1 matrix) ws
           (c.loop-domain.yielded ++ (c.in-Some.domain, c.in-Some.values) ∷ [])) (sym pushed)
-          (zip_more (λ matrix e. IsLowDegreeExtension g.F.Field.ops g.F.TwoAdicField.root
+          (all_zip-push (λ matrix e. IsLowDegreeExtension g.F.Field.ops g.F.TwoAdicField.root
           g.F.Field.GENERATOR c.args.log_blowup e.0.shift e.0.log_size e.1 matrix) c.loop-domain.words.items
           c.loop-domain.yielded c.in_ok-extend.field-0 (c.in-Some.domain, c.in-Some.values)
           c.loop-domain.invariant.words_so_far c.in_ok-extend.ensures);

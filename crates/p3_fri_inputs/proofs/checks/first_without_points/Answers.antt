@@ -4,7 +4,8 @@ use Rattle.p3_field_core.specs.declared.coset.TwoAdicMultiplicativeCoset.{TwoAdi
 use Rattle.p3_fri_relation.specs.Faults.{At}
 use Rattle.p3_fri_relation.specs.Views.{matrix_claim, claims_of}
 use Rattle.p3_fri_inputs.specs.Claims.{claim_of}
-use Rattle.p3_fri_inputs.proofs.Places.{at_mapped, holds_next, all_of_parts, mapped_is}
+use Rattle.p3_fri_inputs.proofs.Places.{at_mapped, holds_next, all_of_parts}
+use Rattle.algebra.proofs.Lists.{entry_of_map}
 use Rattle.p3_fri_inputs.proofs.checks.first_without_points.Goals as goal
 
 pub returns-in-Some : goal.returns-in-Some
@@ -18,7 +19,7 @@ returns-in-Some g c =
     let below : i < length claims = omega arith in
     let here : i < length cs = omega (arith, below, length-map claims (claim_of size)) in
     let e = claim_of size it in
-    let is_c = mapped_is (claim_of size) claims i it below is in
+    let is_c = entry_of_map (claim_of size) claims i it below is in
     let items : c.deref.result.now ≡ it.matrices.items =
     c.deref.ensures.value ∙ ap (λ x. x.matrices.items) (sym is) in
     let n = c.in-Some.matrix in
@@ -36,7 +37,7 @@ loop-batch-preserved g c =
     let below : i < length claims = omega arith in
     let here : i < length cs = omega (arith, below, length-map claims (claim_of size)) in
     let e = claim_of size it in
-    let is_c = mapped_is (claim_of size) claims i it below is in
+    let is_c = entry_of_map (claim_of size) claims i it below is in
     let items : c.deref.result.now ≡ it.matrices.items =
     c.deref.ensures.value ∙ ap (λ x. x.matrices.items) (sym is) in
     holds_next (claim_of size) (λ d. All (λ m. m.points ≢ []) d.matrices) claims i it below is

@@ -3,7 +3,8 @@ use Rattle.std.proofs.lemmas.List.{length-map, nil_from_length}
 use Rattle.std.proofs.lemmas.Bool.{eqb-true, eqb-false}
 use Rattle.p3_field_core.specs.declared.coset.TwoAdicMultiplicativeCoset.{TwoAdicMultiplicativeCoset as Coset}
 use Rattle.p3_fri_relation.specs.Views.{matrix_claim, point_claim}
-use Rattle.p3_fri_inputs.proofs.Places.{at_mapped, holds_next, holds_of_all, mapped_is}
+use Rattle.p3_fri_inputs.proofs.Places.{at_mapped, holds_next, holds_of_all}
+use Rattle.algebra.proofs.Lists.{entry_of_map}
 use Rattle.p3_fri_inputs.proofs.checks.matrix_without_points.Goals as goal
 
 pub returns-then-is_empty : goal.returns-then-is_empty
@@ -18,7 +19,7 @@ returns-then-is_empty g c =
     let below : k < length matrices = omega arith in
     let here : k < length ms = omega (arith, below, length-map matrices f) in
     let m = f r in
-    let is_m = mapped_is f matrices k r below is in
+    let is_m = entry_of_map f matrices k r below is in
     let none : r.points.len ≡ 0 =
     eqb-true r.points.len 0 (ap (λ x. eqb x.points.len 0) is ∙ sym c.is_empty.ensures ∙ c.if-is_empty.true) in
     at_mapped f (λ m. m.points ≡ []) matrices k r below is
@@ -37,7 +38,7 @@ loop-k-preserved g c =
     let below : k < length matrices = omega arith in
     let here : k < length ms = omega (arith, below, length-map matrices f) in
     let m = f r in
-    let is_m = mapped_is f matrices k r below is in
+    let is_m = entry_of_map f matrices k r below is in
     let some = eqb-false r.points.len 0
     (ap (λ x. eqb x.points.len 0) is ∙ sym c.is_empty.ensures ∙ c.if-is_empty.false) in
     holds_next f (λ m. m.points ≢ []) matrices k r below is c.loop-k.invariant

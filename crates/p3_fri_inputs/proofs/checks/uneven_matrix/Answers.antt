@@ -5,7 +5,8 @@ use Rattle.p3_fri_relation.specs.Heights.{width}
 use Rattle.p3_fri_relation.specs.Faults.{At, IsWrong}
 use Rattle.p3_fri_relation.specs.Views.{matrix_claim, point_claim}
 use Rattle.p3_fri_inputs.specs.Claims.{IsEven}
-use Rattle.p3_fri_inputs.proofs.Places.{at_mapped, holds_next, holds_of_all, mapped_is, element_at}
+use Rattle.p3_fri_inputs.proofs.Places.{at_mapped, holds_next, holds_of_all, element_at}
+use Rattle.algebra.proofs.Lists.{entry_of_map}
 use Rattle.p3_fri_inputs.proofs.checks.uneven_matrix.Goals as goal
 
 pub returns-in-Some : goal.returns-in-Some
@@ -20,7 +21,7 @@ returns-in-Some g c =
     let below : k < length matrices = omega arith in
     let here : k < length ms = omega (arith, below, length-map matrices f) in
     let m = f r in
-    let is_m = mapped_is f matrices k r below is in
+    let is_m = entry_of_map f matrices k r below is in
     let again = c.index-matrices-k-in-loop-k.result in
     let points : c.deref.result.now ≡ r.points.items =
     c.deref.ensures.value
@@ -54,7 +55,7 @@ loop-k-preserved g c =
     let below : k < length matrices = omega arith in
     let here : k < length ms = omega (arith, below, length-map matrices f) in
     let m = f r in
-    let is_m = mapped_is f matrices k r below is in
+    let is_m = entry_of_map f matrices k r below is in
     let again = c.index-matrices-k-in-loop-k.result in
     let points : c.deref.result.now ≡ r.points.items =
     c.deref.ensures.value

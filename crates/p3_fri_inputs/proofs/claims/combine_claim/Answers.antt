@@ -5,8 +5,9 @@ use Rattle.p3_field_core.specs.declared.coset.TwoAdicMultiplicativeCoset.{TwoAdi
 use Rattle.p3_fri_relation.specs.Setting.{MatrixClaim}
 use Rattle.p3_fri_relation.specs.Views.{matrix_claim}
 use Rattle.p3_fri_inputs.specs.Claims.{IsWithin}
-use Rattle.p3_fri_inputs.proofs.Places.{all_mapped_at, mapped_is}
+use Rattle.p3_fri_inputs.proofs.Places.{all_mapped_at}
 use Rattle.algebra.proofs.Growing.{joined_pushed}
+use Rattle.algebra.proofs.Lists.{entry_of_map}
 use Rattle.p3_fri_inputs.proofs.claims.combine_claim.Goals as goal
 
 pub push_combined-requires : goal.push_combined-requires
@@ -32,5 +33,5 @@ loop-k-preserved g c =
     let values = λ (m : MatrixClaim g.row.EF.Denot).
     map (λ z. val g.EF.Field.ops z.values c.args.ladder.now.alpha) m.points in
     joined_pushed values ms k (f r) [] c.loop-k.combined.items c.push_combined.new.combined.items
-    (omega (arith, below, length-map items f)) (mapped_is f items k r below c.index.ensures)
+    (omega (arith, below, length-map items f)) (entry_of_map f items k r below c.index.ensures)
     c.loop-k.invariant c.in_ok-push_combined.ensures

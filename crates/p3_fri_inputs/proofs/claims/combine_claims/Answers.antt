@@ -6,8 +6,8 @@ use Rattle.p3_fri_relation.specs.Setting.{CommitmentClaim}
 use Rattle.p3_fri_relation.specs.Views.{claims_of}
 use Rattle.p3_fri_inputs.specs.Claims.{claim_of, combined_values, IsWithin}
 use Rattle.algebra.proofs.Growing.{mapped_more, mapped_end}
+use Rattle.algebra.proofs.Lists.{entry_of_map}
 use Rattle.p3_fri_inputs.proofs.Openings.{all_of_one}
-use Rattle.p3_fri_inputs.proofs.Places.{mapped_is}
 use Rattle.p3_fri_inputs.proofs.claims.combine_claims.Goals as goal
 
 pub combine_claim-requires : goal.combine_claim-requires
@@ -21,7 +21,7 @@ combine_claim-requires g c =
     let below : i < length claims = omega arith in
     let here : i < length cs = omega (arith, below, length-map claims (claim_of size)) in
     let e = claim_of size it in
-    let is_c = mapped_is (claim_of size) claims i it below is in
+    let is_c = entry_of_map (claim_of size) claims i it below is in
     all_of_one (IsWithin c.args.ladder.now.powers.len) cs c.requires i e here is_c
 
 pub loop-batch-preserved : goal.loop-batch-preserved
@@ -35,7 +35,7 @@ loop-batch-preserved g c =
     let below : i < length claims = omega arith in
     let here : i < length cs = omega (arith, below, length-map claims (claim_of size)) in
     let e = claim_of size it in
-    let is_c = mapped_is (claim_of size) claims i it below is in
+    let is_c = entry_of_map (claim_of size) claims i it below is in
     let under = λ (d : CommitmentClaim g.row.EF.Denot g.row.Com.Denot).
     combined_values g.EF.Field.ops c.args.ladder.now.alpha d.matrices in
     let old = c.loop-batch.combined.items in

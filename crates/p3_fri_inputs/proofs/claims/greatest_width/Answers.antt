@@ -4,7 +4,8 @@ use Rattle.p3_field_core.specs.declared.coset.TwoAdicMultiplicativeCoset.{TwoAdi
 use Rattle.p3_fri_relation.specs.Heights.{width}
 use Rattle.p3_fri_relation.specs.Views.{matrix_claim, claims_of}
 use Rattle.p3_fri_inputs.specs.Claims.{claim_of}
-use Rattle.p3_fri_inputs.proofs.Places.{holds_next, all_of_parts, mapped_is}
+use Rattle.p3_fri_inputs.proofs.Places.{holds_next, all_of_parts}
+use Rattle.algebra.proofs.Lists.{entry_of_map}
 use Rattle.p3_fri_inputs.proofs.claims.greatest_width.Goals as goal
 
 pub loop-batch-preserved : goal.loop-batch-preserved
@@ -18,7 +19,7 @@ loop-batch-preserved g c =
     let below : i < length claims = omega arith in
     let here : i < length cs = omega (arith, below, length-map claims (claim_of size)) in
     let e = claim_of size it in
-    let is_c = mapped_is (claim_of size) claims i it below is in
+    let is_c = entry_of_map (claim_of size) claims i it below is in
     let items : c.deref.result.now ≡ it.matrices.items =
     c.deref.ensures.value ∙ ap (λ x. x.matrices.items) (sym is) in
     let new = c.max-greatest.result in

@@ -3,7 +3,8 @@ use Rattle.std.proofs.lemmas.List.{length-map}
 use Rattle.p3_field_core.specs.declared.coset.TwoAdicMultiplicativeCoset.{TwoAdicMultiplicativeCoset as Coset}
 use Rattle.p3_fri_relation.specs.Heights.{width}
 use Rattle.p3_fri_relation.specs.Views.{matrix_claim}
-use Rattle.p3_fri_inputs.proofs.Places.{holds_next, holds_of_all, mapped_is}
+use Rattle.p3_fri_inputs.proofs.Places.{holds_next, holds_of_all}
+use Rattle.algebra.proofs.Lists.{entry_of_map}
 use Rattle.p3_fri_inputs.proofs.claims.greatest_width_of.Goals as goal
 
 pub loop-k-preserved : goal.loop-k-preserved
@@ -18,7 +19,7 @@ loop-k-preserved g c =
     let below : k < length matrices = omega arith in
     let here : k < length ms = omega (arith, below, length-map matrices f) in
     let m = f r in
-    let is_m = mapped_is f matrices k r below is in
+    let is_m = entry_of_map f matrices k r below is in
     let new = c.max-greatest.result in
     holds_next f (λ m. width m ≤ new) matrices k r below is
     (λ j l d. omega (arith, c.loop-k.invariant j l d, c.max-greatest.ensures))

@@ -3,8 +3,9 @@ use Rattle.std.proofs.lemmas.List.{length-map}
 use Rattle.algebra.specs.Polynomial.{val}
 use Rattle.p3_fri_relation.specs.Setting.{PointClaim}
 use Rattle.p3_fri_relation.specs.Views.{point_claim}
-use Rattle.p3_fri_inputs.proofs.Places.{all_mapped_at, mapped_is}
+use Rattle.p3_fri_inputs.proofs.Places.{all_mapped_at}
 use Rattle.algebra.proofs.Growing.{mapped_next}
+use Rattle.algebra.proofs.Lists.{entry_of_map}
 use Rattle.p3_fri_inputs.proofs.claims.push_combined.Goals as goal
 
 pub combine-requires : goal.combine-requires
@@ -30,6 +31,6 @@ loop-k-preserved g c =
     let old = c.loop-k.combined.items in
     mapped_next value (map point_claim items) k (point_claim z) c.args.combined.now.items old
     c.push.new.self.items (omega (arith, below, length-map items point_claim))
-    (mapped_is point_claim items k z below c.index.ensures) c.loop-k.invariant
+    (entry_of_map point_claim items k z below c.index.ensures) c.loop-k.invariant
     (c.in_ok-push.ensures.items
     ∙ ap (λ v. old ++ v ∷ []) (c.combine.ensures ∙ ap (λ xs. val K xs alpha) c.deref.ensures.value))

@@ -5,7 +5,8 @@ use Rattle.p3_field_core.specs.declared.coset.TwoAdicMultiplicativeCoset.{TwoAdi
 use Rattle.p3_fri_relation.specs.Setting.{MatrixClaim}
 use Rattle.p3_fri_relation.specs.Heights.{log_height}
 use Rattle.p3_fri_relation.specs.Views.{matrix_claim}
-use Rattle.p3_fri_inputs.proofs.Places.{holds_next, holds_of_all, all_mapped_at, mapped_is}
+use Rattle.p3_fri_inputs.proofs.Places.{holds_next, holds_of_all, all_mapped_at}
+use Rattle.algebra.proofs.Lists.{entry_of_map}
 use Rattle.p3_fri_inputs.proofs.heights.are_within.Goals as goal
 
 pub returns-then-not-is_within : goal.returns-then-not-is_within
@@ -20,7 +21,7 @@ returns-then-not-is_within g c =
     let below : k < length matrices = omega arith in
     let here : k < length ms = omega (arith, below, length-map matrices f) in
     let m = f r in
-    let is_m = mapped_is f matrices k r below is in
+    let is_m = entry_of_map f matrices k r below is in
     let b = c.args.log_blowup in
     let fits = λ (m : MatrixClaim g.row.EF.Denot). log_height b m ≤ c.args.bound in (
       λ ok. absurd (false≢true ok),
@@ -41,7 +42,7 @@ loop-k-preserved g c =
     let below : k < length matrices = omega arith in
     let here : k < length ms = omega (arith, below, length-map matrices f) in
     let m = f r in
-    let is_m = mapped_is f matrices k r below is in
+    let is_m = entry_of_map f matrices k r below is in
     let b = c.args.log_blowup in
     let fits = λ (m : MatrixClaim g.row.EF.Denot). log_height b m ≤ c.args.bound in
     let at = c.is_within.ensures.0 c.if-not-is_within.false in

@@ -4,7 +4,8 @@ use Rattle.std.proofs.lemmas.List.Sums.{fold_more}
 use Rattle.p3_field_core.specs.declared.coset.TwoAdicMultiplicativeCoset.{TwoAdicMultiplicativeCoset as Coset}
 use Rattle.p3_fri_relation.specs.Heights.{log_height, greatest_height}
 use Rattle.p3_fri_relation.specs.Views.{matrix_claim}
-use Rattle.p3_fri_inputs.proofs.Places.{all_mapped_at, mapped_is}
+use Rattle.p3_fri_inputs.proofs.Places.{all_mapped_at}
+use Rattle.algebra.proofs.Lists.{entry_of_map}
 use Rattle.p3_fri_inputs.proofs.heights.greatest_log_height.Goals as goal
 
 pub overflow_add-matrices : goal.overflow_add-matrices
@@ -19,7 +20,7 @@ overflow_add-matrices g c =
     let below : k < length matrices = omega arith in
     let here : k < length ms = omega (arith, below, length-map matrices f) in
     let m = f r in
-    let is_m = mapped_is f matrices k r below is in
+    let is_m = entry_of_map f matrices k r below is in
     let at = all_mapped_at f (λ m. log_height c.args.log_blowup m < 64) matrices c.requires k r below is in
     omega (arith, at, ap (λ x. x.domain.log_size) is)
 
@@ -35,7 +36,7 @@ loop-k-preserved g c =
     let below : k < length matrices = omega arith in
     let here : k < length ms = omega (arith, below, length-map matrices f) in
     let m = f r in
-    let is_m = mapped_is f matrices k r below is in
+    let is_m = entry_of_map f matrices k r below is in
     let b = c.args.log_blowup in
     let its : (get_or matrices k r).domain.log_size + b ≡ log_height b (get_or ms k m) =
     ap (λ x. x.domain.log_size + b) (sym is) ∙ ap (λ n. log_height b n) is_m in

@@ -6,8 +6,9 @@ use Rattle.p3_fri_relation.specs.Setting.{MatrixClaim}
 use Rattle.p3_fri_relation.specs.Heights.{log_height}
 use Rattle.p3_fri_relation.specs.Views.{matrix_claim, claims_of}
 use Rattle.p3_fri_inputs.specs.Claims.{claim_of}
-use Rattle.p3_fri_inputs.proofs.Places.{holds_next, all_of_parts, mapped_is}
+use Rattle.p3_fri_inputs.proofs.Places.{holds_next, all_of_parts}
 use Rattle.p3_fri_inputs.proofs.Openings.{all_of_one}
+use Rattle.algebra.proofs.Lists.{entry_of_map}
 use Rattle.p3_fri_inputs.proofs.heights.heights_are_within.Goals as goal
 
 pub returns-then-not-are_within : goal.returns-then-not-are_within
@@ -21,7 +22,7 @@ returns-then-not-are_within g c =
     let below : i < length claims = omega arith in
     let here : i < length cs = omega (arith, below, length-map claims (claim_of size)) in
     let e = claim_of size it in
-    let is_c = mapped_is (claim_of size) claims i it below is in
+    let is_c = entry_of_map (claim_of size) claims i it below is in
     let items : c.deref.result.now ≡ it.matrices.items =
     c.deref.ensures.value ∙ ap (λ x. x.matrices.items) (sym is) in
     let b = c.args.log_blowup in
@@ -43,7 +44,7 @@ loop-batch-preserved g c =
     let below : i < length claims = omega arith in
     let here : i < length cs = omega (arith, below, length-map claims (claim_of size)) in
     let e = claim_of size it in
-    let is_c = mapped_is (claim_of size) claims i it below is in
+    let is_c = entry_of_map (claim_of size) claims i it below is in
     let items : c.deref.result.now ≡ it.matrices.items =
     c.deref.ensures.value ∙ ap (λ x. x.matrices.items) (sym is) in
     let b = c.args.log_blowup in

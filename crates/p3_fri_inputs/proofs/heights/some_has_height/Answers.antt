@@ -5,7 +5,8 @@ use Rattle.p3_field_core.specs.declared.coset.TwoAdicMultiplicativeCoset.{TwoAdi
 use Rattle.p3_fri_relation.specs.Setting.{MatrixClaim}
 use Rattle.p3_fri_relation.specs.Heights.{log_height}
 use Rattle.p3_fri_relation.specs.Views.{matrix_claim}
-use Rattle.p3_fri_inputs.proofs.Places.{holds_next, holds_of_all, mapped_is}
+use Rattle.p3_fri_inputs.proofs.Places.{holds_next, holds_of_all}
+use Rattle.algebra.proofs.Lists.{entry_of_map}
 use Rattle.p3_fri_inputs.proofs.heights.some_has_height.Goals as goal
 
 pub returns-then-is_log_height : goal.returns-then-is_log_height
@@ -20,7 +21,7 @@ returns-then-is_log_height g c =
     let below : k < length matrices = omega arith in
     let here : k < length ms = omega (arith, below, length-map matrices f) in
     let m = f r in
-    let is_m = mapped_is f matrices k r below is in
+    let is_m = entry_of_map f matrices k r below is in
     let p = λ (m : MatrixClaim g.row.EF.Denot). eqb (log_height c.args.log_blowup m) c.args.height in
     let t : p m ≡ true =
     ap (λ x. eqb (x.domain.log_size + c.args.log_blowup) c.args.height) is
@@ -39,7 +40,7 @@ loop-k-preserved g c =
     let below : k < length matrices = omega arith in
     let here : k < length ms = omega (arith, below, length-map matrices f) in
     let m = f r in
-    let is_m = mapped_is f matrices k r below is in
+    let is_m = entry_of_map f matrices k r below is in
     let p = λ (m : MatrixClaim g.row.EF.Denot). eqb (log_height c.args.log_blowup m) c.args.height in
     let t : p m ≡ false =
     ap (λ x. eqb (x.domain.log_size + c.args.log_blowup) c.args.height) is

@@ -1,4 +1,5 @@
 use Rattle.std.proofs.Common.{◌≡◌, ◌≢◌, ◌++◌, ◌∙◌, map, subst, sym, ap, refl, All}
+use Rattle.std.proofs.lemmas.Slice.Zip.{AllZip-long}
 use Rattle.std.specs.List.{flat_map}
 use Rattle.p3_fri_relation.specs.declared.error.FriError.TheVariants.{MatrixWithoutOpeningPoints}
 use Rattle.p3_fri_relation.specs.declared.error.FriError.TheVariants.{PointEvaluationCountMismatch}
@@ -13,7 +14,6 @@ use Rattle.p3_fri_inputs.specs.Claims.{distances}
 use Rattle.p3_fri_inputs.proofs.Assembly.{with_points, rows_of_opened, all_nonzero, good_openings}
 use Rattle.p3_fri_inputs.proofs.Places.{of_some, of_none}
 use Rattle.p3_fri_inputs.proofs.Refutations.{fault_is_exact, stands}
-use Rattle.p3_fri_inputs.proofs.Zipped.{length_zipped}
 use Rattle.p3_fri_inputs.proofs.inputs.open_inputs.Given.{Over}
 use Rattle.p3_fri_inputs.proofs.inputs.open_inputs.Goals.{In-Err, After-deref}
 use Rattle.p3_fri_inputs.proofs.inputs.open_inputs.Goals as goal
@@ -143,7 +143,7 @@ returns-in-Some-found-clause-exact g c =
     c.in_ok-found.ensures in
     λ n. (
       λ ok. good_openings (fields_of g) b c.args.alpha top cs inputs opens indices
-          (length_zipped (OpensInput opens b top indices) cs inputs opened) c.in_default.ensures
+          (AllZip-long (OpensInput opens b top indices) cs inputs opened) c.in_default.ensures
           c.in_default-first_uneven.ensures opened known.0 found.1,
       λ good. refl,
     )

@@ -3,10 +3,11 @@ use Rattle.std.proofs.Common.{sym, ap, ap₂, arith, ◌%◌}
 use Rattle.std.proofs.lemmas.List.{length-map, get_or_default}
 use Rattle.std.proofs.lemmas.Nat.{one_shl}
 use Rattle.algebra.proofs.Growing.{mapped_more, mapped_end}
+use Rattle.algebra.proofs.Lists.{entry_of_map}
 use Rattle.p3_matrix.specs.declared.Dimensions.{Dimensions}
 use Rattle.p3_fri_relation.specs.Heights.{log_height, width, dimensions}
 use Rattle.p3_fri_relation.specs.Views.{matrix_claim}
-use Rattle.p3_fri_inputs.proofs.Places.{all_mapped_at, mapped_is}
+use Rattle.p3_fri_inputs.proofs.Places.{all_mapped_at}
 use Rattle.p3_fri_inputs.proofs.opening.claimed_dimensions.Given.{Over}
 use Rattle.p3_fri_inputs.proofs.opening.claimed_dimensions.Goals.{After-index-matrices-k-in-loop-k}
 use Rattle.p3_fri_inputs.proofs.opening.claimed_dimensions.Goals as goal
@@ -53,7 +54,7 @@ loop-k-preserved g c =
     mapped_more (dimensions b) (map (matrix_claim (λ domain. domain.log_size)) matrices) k m old
     c.push.new.self.items
     (omega (arith, below, length-map matrices (matrix_claim (λ domain. domain.log_size))))
-    (mapped_is (matrix_claim (λ domain. domain.log_size)) matrices k matrix below is)
+    (entry_of_map (matrix_claim (λ domain. domain.log_size)) matrices k matrix below is)
     c.loop-k.invariant
     (c.in_ok-push.ensures.items ∙ ap (λ d. old ++ d ∷ []) (ap₂ made wide high))
 

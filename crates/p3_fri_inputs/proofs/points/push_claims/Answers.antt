@@ -7,9 +7,10 @@ use Rattle.p3_fri_relation.specs.Heights.{log_height}
 use Rattle.p3_fri_relation.specs.Faults.{At}
 use Rattle.p3_fri_relation.specs.Views.{claims_of}
 use Rattle.p3_fri_inputs.specs.Claims.{claim_of, distances, IsApart}
-use Rattle.p3_fri_inputs.proofs.Places.{at_mapped, holds_next, all_of_parts, mapped_is, of_some}
+use Rattle.p3_fri_inputs.proofs.Places.{at_mapped, holds_next, all_of_parts, of_some}
 use Rattle.p3_fri_inputs.proofs.Places.{of_none}
 use Rattle.algebra.proofs.Growing.{joined_pushed, joined_end}
+use Rattle.algebra.proofs.Lists.{entry_of_map}
 use Rattle.p3_fri_inputs.proofs.Openings.{joined_twice, all_of_one}
 use Rattle.p3_fri_inputs.proofs.points.push_claims.Goals as goal
 
@@ -24,7 +25,7 @@ push_commitment-requires g c =
     let below : i < length claims = omega arith in
     let here : i < length cs = omega (arith, below, length-map claims (claim_of size)) in
     let e = claim_of size it in
-    let is_c = mapped_is (claim_of size) claims i it below is in
+    let is_c = entry_of_map (claim_of size) claims i it below is in
     all_of_one (λ m. log_height c.args.log_blowup m < length c.args.read.now) cs c.requires i e here is_c
 
 pub returns-in-Some : goal.returns-in-Some
@@ -38,7 +39,7 @@ returns-in-Some g c =
     let below : i < length claims = omega arith in
     let here : i < length cs = omega (arith, below, length-map claims (claim_of size)) in
     let e = claim_of size it in
-    let is_c = mapped_is (claim_of size) claims i it below is in
+    let is_c = entry_of_map (claim_of size) claims i it below is in
     let b = c.args.log_blowup in
     let read = λ (h : ℕ). g.EF.ExtensionField.lift (get_or c.args.read.now h g.F.Field.ops.zero) in
     let under = λ (d : CommitmentClaim g.row.EF.Denot g.row.Com.Denot).
@@ -59,7 +60,7 @@ loop-batch-preserved g c =
     let below : i < length claims = omega arith in
     let here : i < length cs = omega (arith, below, length-map claims (claim_of size)) in
     let e = claim_of size it in
-    let is_c = mapped_is (claim_of size) claims i it below is in
+    let is_c = entry_of_map (claim_of size) claims i it below is in
     let b = c.args.log_blowup in
     let read = λ (h : ℕ). g.EF.ExtensionField.lift (get_or c.args.read.now h g.F.Field.ops.zero) in
     let under = λ (d : CommitmentClaim g.row.EF.Denot g.row.Com.Denot).

@@ -3,13 +3,14 @@ use Rattle.std.proofs.Common.{All}
 use Rattle.std.proofs.lemmas.List.{length-map, get_or_read}
 use Rattle.algebra.specs.Field.{sub}
 use Rattle.algebra.proofs.Growing.{joined_pushed, joined_end}
+use Rattle.algebra.proofs.Lists.{entry_of_map}
 use Rattle.p3_fri_relation.specs.Setting.{MatrixClaim}
 use Rattle.p3_fri_relation.specs.Heights.{log_height}
 use Rattle.p3_fri_relation.specs.Faults.{At}
 use Rattle.p3_fri_relation.specs.Views.{matrix_claim, point_claim}
 use Rattle.p3_fri_inputs.specs.Claims.{IsApart}
 use Rattle.p3_fri_inputs.proofs.Places.{at_mapped, holds_next, holds_of_all, all_mapped_at}
-use Rattle.p3_fri_inputs.proofs.Places.{mapped_is, of_some, of_none}
+use Rattle.p3_fri_inputs.proofs.Places.{of_some, of_none}
 use Rattle.p3_fri_inputs.proofs.points.push_commitment.Given.{Over}
 use Rattle.p3_fri_inputs.proofs.points.push_commitment.Goals.{After-index-matrix}
 use Rattle.p3_fri_inputs.proofs.points.push_commitment.Goals as goal
@@ -82,7 +83,7 @@ loop-k-preserved g c =
           (map (matrix_claim (λ domain. domain.log_size)) items) k m
           c.args.differences.now.items old c.push_distances.new.differences.items
           (omega (arith, below, length-map items (matrix_claim (λ domain. domain.log_size))))
-          (mapped_is (matrix_claim (λ domain. domain.log_size)) items k matrix below
+          (entry_of_map (matrix_claim (λ domain. domain.log_size)) items k matrix below
           c.index-matrix.ensures)
           c.loop-k.invariant.pushed
           (known.1

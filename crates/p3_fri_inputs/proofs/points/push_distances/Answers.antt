@@ -6,8 +6,9 @@ use Rattle.algebra.specs.Field.{sub}
 use Rattle.algebra.proofs.Combine.{sub-eq}
 use Rattle.p3_fri_relation.specs.Setting.{PointClaim}
 use Rattle.p3_fri_relation.specs.Views.{point_claim}
-use Rattle.p3_fri_inputs.proofs.Places.{at_mapped, holds_next, holds_of_all, mapped_is}
+use Rattle.p3_fri_inputs.proofs.Places.{at_mapped, holds_next, holds_of_all}
 use Rattle.algebra.proofs.Growing.{mapped_next, mapped_end}
+use Rattle.algebra.proofs.Lists.{entry_of_map}
 use Rattle.p3_fri_inputs.proofs.points.push_distances.Goals as goal
 
 pub returns-then-is_zero : goal.returns-then-is_zero
@@ -51,7 +52,7 @@ loop-k-preserved g c =
       pushed = mapped_next distance (map point_claim points) k (point_claim z)
           c.args.differences.now.items old c.push.new.self.items
           (omega (arith, below, length-map points point_claim))
-          (mapped_is point_claim points k z below is) c.loop-k.invariant.pushed
+          (entry_of_map point_claim points k z below is) c.loop-k.invariant.pushed
           (c.in_ok-push.ensures.items ∙ ap (λ v. old ++ v ∷ []) gap);
     }
 

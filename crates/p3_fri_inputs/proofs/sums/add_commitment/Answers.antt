@@ -4,9 +4,9 @@ use Rattle.std.proofs.lemmas.List.{length-map, get_or_default}
 use Rattle.algebra.specs.Polynomial.{val}
 use Rattle.algebra.specs.Nested.{lists}
 use Rattle.algebra.proofs.Nested.{length-lists, lists_at}
+use Rattle.algebra.proofs.Lists.{entry_of_map}
 use Rattle.p3_fri_relation.specs.Views.{point_claim, matrix_claim}
 use Rattle.p3_fri_inputs.specs.Claims.{claim_of}
-use Rattle.p3_fri_inputs.proofs.Places.{mapped_is}
 use Rattle.p3_fri_inputs.proofs.Commitments.{AreSummedFrom, IsAmong, terms_of, among, summed_next}
 use Rattle.p3_fri_inputs.proofs.Commitments.{ends_before}
 use Rattle.p3_fri_inputs.proofs.sums.add_commitment.Given.{Over}
@@ -28,7 +28,7 @@ its g c =
     c.requires.readable c.requires.rows i
     (matrix_claim (λ domain. domain.log_size) c.index.result.now)
     (omega (arith, inside, length-map items (matrix_claim (λ domain. domain.log_size))))
-    (mapped_is (matrix_claim (λ domain. domain.log_size)) items i c.index.result.now inside
+    (entry_of_map (matrix_claim (λ domain. domain.log_size)) items i c.index.result.now inside
     c.index.ensures)
 
 row_is : (g : Over) (c : After-as_slice g) → c.loop-k.k - 1 < length c.args.rows.now

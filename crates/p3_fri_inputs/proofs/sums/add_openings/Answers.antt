@@ -5,13 +5,14 @@ use Rattle.algebra.specs.Polynomial.{val}
 use Rattle.p3_fri_relation.specs.Inputs.{rows_at}
 use Rattle.p3_fri_relation.specs.Views.{claims_of, inputs_opened}
 use Rattle.p3_fri_inputs.specs.Claims.{claim_of, input_of, IsReadable, HasRowsAt}
-use Rattle.p3_fri_inputs.proofs.Places.{mapped_is, length-mapped_twice, mapped_twice_is}
+use Rattle.p3_fri_inputs.proofs.Places.{length-mapped_twice, mapped_twice_is}
 use Rattle.p3_fri_inputs.proofs.Openings.{all_terms, values_under, all_of_claim}
 use Rattle.p3_fri_inputs.proofs.Openings.{all_zip_mapped_counts, all_zip_mapped_at}
 use Rattle.p3_fri_inputs.proofs.Openings.{held_counts, held_at, none_summed, own_within}
 use Rattle.p3_fri_inputs.proofs.Openings.{opening_next}
 use Rattle.p3_fri_inputs.proofs.sums.add_openings.Given.{Over}
 use Rattle.p3_fri_inputs.proofs.sums.add_openings.Goals.{In-loop-i, After-deref}
+use Rattle.algebra.proofs.Lists.{entry_of_map}
 use Rattle.p3_fri_inputs.proofs.sums.add_openings.Goals as goal
 
 opening_there : (g : Over) (c : In-loop-i g) → c.loop-i.i - 1 < length c.args.openings.now
@@ -46,7 +47,7 @@ within g c =
     own_within g.EF.Field.ops g.EF.ExtensionField.lift c.args.log_blowup i c.loop-i.invariant
     c.requires.inverses (omega arith)
     (omega (arith, inside, length-map claims (claim_of (λ domain. domain.log_size))))
-    (mapped_is (claim_of (λ domain. domain.log_size)) claims i c.index-claims-i.result inside
+    (entry_of_map (claim_of (λ domain. domain.log_size)) claims i c.index-claims-i.result inside
     c.index-claims-i.is)
 
 pub loop-i-init : goal.loop-i-init
@@ -116,7 +117,7 @@ loop-i-preserved g c =
     let there = opening_there g at.In-loop-i in
     opening_next g.EF.Field.ops g.EF.ExtensionField.lift c.args.log_blowup c.loop-i.invariant
     (omega arith) (omega (arith, inside, length-map claims (claim_of (λ domain. domain.log_size))))
-    (mapped_is (claim_of (λ domain. domain.log_size)) claims i c.index-claims-i.result inside
+    (entry_of_map (claim_of (λ domain. domain.log_size)) claims i c.index-claims-i.result inside
     c.index-claims-i.is)
     (omega (
       arith,

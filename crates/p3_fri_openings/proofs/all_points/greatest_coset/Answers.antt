@@ -1,7 +1,7 @@
-use Rattle.std.proofs.Common.{ap, ◌∙◌}
+use Rattle.std.proofs.Common.{◌≡◌, ap, ◌∙◌}
+use Rattle.std.proofs.lemmas.Result.{IfOk-weaker}
 use Rattle.p3_field_core.specs.Coset.{bit_reversed_points}
 use Rattle.p3_fri_relation.specs.Setting.{Fields}
-use Rattle.p3_fri_openings.proofs.ValueSums.{same_of_ok}
 use Rattle.p3_fri_openings.proofs.RoundTables.{holds_cosets}
 use Rattle.p3_fri_openings.proofs.all_points.greatest_coset.Goals as goal
 
@@ -18,8 +18,10 @@ returns g c =
       shift = g.F.Field.GENERATOR;
     } in
     let top = c.greatest_log_height.result in
-    same_of_ok c.bit_reversed_points.result _ _ c.bit_reversed_points.ensures (λ points e.
-    holds_cosets f g.met.F.Field.laws g.met.F.TwoAdicField.roots_law top
+    IfOk-weaker c.bit_reversed_points.result
+    (λ points. points.items ≡ bit_reversed_points f.base (f.root top) c.GENERATOR.result top) _
+    (λ points e. holds_cosets f g.met.F.Field.laws g.met.F.TwoAdicField.roots_law top
     c.greatest_log_height.ensures.within
     points.items (e ∙ ap (λ s. bit_reversed_points f.base (f.root top) s top) c.GENERATOR.ensures)
     c.args.rounds.now c.requires.rounds c.greatest_log_height.ensures.greatest)
+    c.bit_reversed_points.ensures

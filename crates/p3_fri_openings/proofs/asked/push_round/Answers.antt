@@ -2,10 +2,11 @@ use Rattle.std.proofs.Common.{◌≡◌, ◌<◌, ◌++◌, length, map, arith, 
 use Rattle.std.proofs.lemmas.List.{length-map}
 use Rattle.algebra.specs.Nested.{lists}
 use Rattle.p3_matrix.specs.Matrix.{rows}
-use Rattle.p3_pcs.proofs.Zipped.{entry_of_both, entry_of_map, within_both, length_of_both}
+use Rattle.p3_pcs.proofs.Zipped.{entry_of_both, within_both, length_of_both}
 use Rattle.p3_fri_openings.specs.Rounds.{ask, asked_in}
 use Rattle.p3_fri_openings.specs.Points.{asked_point, points_of}
 use Rattle.algebra.proofs.Growing.{joined_pushed, joined_end}
+use Rattle.algebra.proofs.Lists.{entry_of_map}
 use Rattle.p3_fri_openings.proofs.asked.push_round.Goals as goal
 
 pub loop-matrix-preserved : goal.loop-matrix-preserved

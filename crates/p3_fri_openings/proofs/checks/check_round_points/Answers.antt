@@ -3,12 +3,13 @@ use Rattle.std.proofs.Common.{◌<◌, length, arith, All, refl, sym, ap, subst,
 use Rattle.std.proofs.lemmas.List.{length-map}
 use Rattle.algebra.specs.Nested.{lists}
 use Rattle.p3_matrix.specs.Matrix.{rows}
-use Rattle.p3_pcs.proofs.Zipped.{entry_of_both, entry_of_map, within_both, length_of_both}
+use Rattle.p3_pcs.proofs.Zipped.{entry_of_both, within_both, length_of_both}
 use Rattle.p3_fri_relation.specs.Setting.{Fields}
 use Rattle.p3_fri_openings.specs.First.{FirstAt}
 use Rattle.p3_fri_openings.specs.Refusals.{IsOn, IsOff, HasPointsOff, IsFirstPoint}
 use Rattle.p3_fri_openings.specs.Rounds.{ask, asked_in, HasCoset}
 use Rattle.p3_fri_openings.proofs.Log2.{log2_is}
+use Rattle.algebra.proofs.Lists.{entry_of_map}
 use Rattle.p3_fri_openings.proofs.checks.check_round_points.Goals as goal
 
 pub first_in_evaluation_domain-requires : goal.first_in_evaluation_domain-requires

@@ -2,14 +2,14 @@ use Rattle.std.proofs.Common.{◌≡◌, ◌≢◌, All, map, take, length, sym,
 use Rattle.std.proofs.lemmas.List.{length-take-le}
 use Rattle.algebra.specs.Field.{sub}
 use Rattle.algebra.specs.Cosets.{coset_pt}
-use Rattle.algebra.proofs.Lists.{length-tabulate}
+use Rattle.algebra.proofs.Lists.{length-tabulate, map-map}
 use Rattle.p3_fri_relation.specs.Setting.{Fields}
 use Rattle.p3_fri_openings.specs.Log2.{log2}
 use Rattle.p3_fri_openings.specs.Refusals.{IsOff}
 use Rattle.p3_fri_openings.specs.Committed.{coset_of}
 use Rattle.p3_fri_openings.proofs.Log2.{log2_is}
 use Rattle.p3_fri_openings.proofs.ValueSums.{starts_long}
-use Rattle.p3_fri_openings.proofs.Tables.{differences_nonzero, map_twice}
+use Rattle.p3_fri_openings.proofs.Tables.{differences_nonzero}
 use Rattle.p3_fri_openings.proofs.denominators.denominators_of_point.Goals as goal
 
 pub slice_bounds-differences-end : goal.slice_bounds-differences-end
@@ -77,4 +77,4 @@ returns-clause-inverses g c =
     c.deref.ensures.value ∙ c.in_ok-differences.ensures
     ∙ ap (λ xs. map (λ x. sub f.ext c.args.point (f.lift x)) xs) first in
     c.in_ok-inverses.ensures ∙ ap (λ xs. map f.ext.inv xs) above
-    ∙ map_twice f.ext.inv (λ x. sub f.ext c.args.point (f.lift x)) (coset_of f c.args.height)
+    ∙ map-map f.ext.inv (λ x. sub f.ext c.args.point (f.lift x)) (coset_of f c.args.height)

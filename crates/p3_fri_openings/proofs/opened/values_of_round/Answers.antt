@@ -2,13 +2,14 @@ use Rattle.std.proofs.Common.{◌<◌, All, length, map, get_or, sym, ap, ap₂,
 use Rattle.std.proofs.lemmas.List.{length-map}
 use Rattle.algebra.specs.Nested.{lists}
 use Rattle.p3_matrix.specs.Matrix.{rows}
-use Rattle.p3_pcs.proofs.Zipped.{entry_of_both, entry_of_map, within_both, step, done}
+use Rattle.p3_pcs.proofs.Zipped.{entry_of_both, within_both, step, done}
 use Rattle.p3_fri_relation.specs.Setting.{Fields}
 use Rattle.p3_fri_openings.specs.Committed.{committed_values}
 use Rattle.p3_fri_openings.specs.Denominators.{IsCovered, HasPointsCovered}
 use Rattle.p3_fri_openings.specs.Refusals.{IsOff, HasPointsOff}
 use Rattle.p3_fri_openings.specs.Rounds.{ask, asked_in, log_height}
 use Rattle.p3_fri_openings.proofs.First.{at_item}
+use Rattle.algebra.proofs.Lists.{entry_of_map}
 use Rattle.p3_fri_openings.proofs.opened.values_of_round.Goals as goal
 
 pub values_at_points-requires : goal.values_at_points-requires

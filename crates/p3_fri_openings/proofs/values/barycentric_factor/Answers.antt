@@ -1,12 +1,12 @@
 use Rattle.std.proofs.Common.{ap, ap₂, sym, ◌∙◌}
 use Rattle.algebra.specs.Field.{multiple}
 use Rattle.algebra.specs.Cosets.{vanishing}
-use Rattle.p3_fri_openings.proofs.Sizes.{size_nonzero}
+use Rattle.algebra.proofs.Barycentric.{two_power_nonzero}
 use Rattle.p3_fri_openings.proofs.values.barycentric_factor.Goals as goal
 
 pub inverse-requires : goal.inverse-requires
 inverse-requires g c =
-    record { nonzero = λ e. size_nonzero g.EF.Field.ops g.met.EF.Field.laws c.args.log_size (ap (multiple g.EF.Field.ops) (sym c.size.ensures) ∙ sym c.from_u64-size.ensures ∙ e) }
+    record { nonzero = λ e. two_power_nonzero g.EF.Field.ops g.met.EF.Field.laws c.args.log_size (ap (multiple g.EF.Field.ops) (sym c.size.ensures) ∙ sym c.from_u64-size.ensures ∙ e) }
 
 pub returns : goal.returns
 returns g c =

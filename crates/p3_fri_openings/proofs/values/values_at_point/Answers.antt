@@ -1,6 +1,7 @@
 use Rattle.std.proofs.Common.{◌≡◌, ◌≤◌, ◌+◌, ◌-◌, ◌/◌, ◌^◌, length, get_or, ap, ap₂, sym, ◌∙◌, arith, subst, drop, take, ◌++◌}
 use Rattle.std.proofs.Math.Nat.{div-le_self}
 use Rattle.std.proofs.lemmas.List.{length-map}
+use Rattle.std.proofs.lemmas.Result.{IfOk-weaker}
 use Rattle.algebra.specs.Polynomial.{tabulate}
 use Rattle.algebra.proofs.Lists.{length-tabulate, get_or-tabulate}
 use Rattle.p3_matrix.specs.Matrix.{rows, matrix_width}
@@ -11,7 +12,7 @@ use Rattle.p3_fri_openings.specs.Sums.{weighted_sum}
 use Rattle.p3_fri_openings.specs.Committed.{coset_of, inverse_differences}
 use Rattle.p3_fri_openings.proofs.Log2.{log2_is, pow-divided}
 use Rattle.p3_fri_openings.proofs.Writes.{given_back}
-use Rattle.p3_fri_openings.proofs.ValueSums.{values_are, values_of_none, starts_long, same_of_ok}
+use Rattle.p3_fri_openings.proofs.ValueSums.{values_are, values_of_none, starts_long}
 use Rattle.p3_fri_openings.proofs.values.values_at_point.Goals as goal
 
 pub returns-then-log_height-log_blowup : goal.returns-then-log_height-log_blowup
@@ -29,8 +30,10 @@ returns-then-log_height-log_blowup g c =
     let none = values_of_none f g.met.EF.Field.laws.ring c.args.log_blowup
     c.log2_strict_usize-log_height.result c.args.matrix.now c.args.point
     (sym (c.log2_strict_usize-log_height.ensures.power ∙ c.height.ensures)) c.if-log_height-log_blowup.true in
-    same_of_ok c.zeros.result _ _ c.zeros.ensures (λ v e.
-    e ∙ ap (λ n. tabulate n (λ _. g.EF.Field.ops.zero)) c.width.ensures.columns ∙ none)
+    IfOk-weaker c.zeros.result
+    (λ v. v.items ≡ tabulate c.width.result (λ _. g.EF.Field.ops.zero)) _
+    (λ v e. e ∙ ap (λ n. tabulate n (λ _. g.EF.Field.ops.zero)) c.width.ensures.columns ∙ none)
+    c.zeros.ensures
 
 pub add_weighted_rows-requires-clause-width : goal.add_weighted_rows-requires-clause-width
 add_weighted_rows-requires-clause-width g c =

@@ -11,8 +11,8 @@ use Rattle.p3_fri_relation.specs.Queries.{rounds_of, row_indices}
 use Rattle.p3_fri_relation.specs.FoldedQuery.{value_at}
 use Rattle.p3_fri_relation.specs.Views.{siblings_opened, rows_collected}
 use Rattle.p3_fri_query.proofs.Lists.{siblings_at, row_at, in_range_at, gained, gained_all}
-use Rattle.p3_fri_query.proofs.Powers.{below_power}
 use Rattle.p3_fri_query.proofs.Ways.{chain_step, rows_step, indices_step, index_step}
+use Rattle.p3_field_core.proofs.IndexPowers.{index_cut}
 use Rattle.p3_fri_query.proofs.rounds.fold_rounds.Goals as goal
 
 pub loop-round-preserved : goal.loop-round-preserved
@@ -42,7 +42,7 @@ loop-round-preserved g c =
     record {
       left = grind (arith, common_steps);
       high = omega arith;
-      within = below_power _ _ _ c.loop-round.invariant.within (grind (arith, common_steps));
+      within = index_cut _ _ _ c.loop-round.invariant.within (grind (arith, common_steps));
       index = index_step k as' i l₁ ∙ c.loop-round.invariant.index;
       indices_length = omega (arith, c.in_ok-collect.ensures.lengths);
       rows_length = omega (arith, c.in_ok-collect.ensures.lengths);

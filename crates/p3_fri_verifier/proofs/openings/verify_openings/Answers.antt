@@ -1,19 +1,19 @@
-use Rattle.std.proofs.Common.{◌≡◌, ◌≢◌, ℕ, ◌<◌, ◌∙◌, sym, ap, arith, subst, inl, inr, length, Err, refl, List, map}
+use Rattle.std.proofs.Common.{◌∙◌, sym, ap, arith, subst, length, Err, refl}
 use Rattle.std.specs.List.{AllZip}
 use Rattle.p3_fri_relation.specs.Acceptance.{HasSiblings}
-use Rattle.std.specs.Prelude.{slice_index, slice_index_or, IsOk, sum}
+use Rattle.std.specs.Prelude.{sum}
 use Rattle.std.proofs.lemmas.List.{length-map}
+use Rattle.std.proofs.lemmas.Slice.Zip.{AllZip-long}
 use Rattle.algebra.specs.Nested.{lists, nested}
 use Rattle.algebra.proofs.Lists.{length-tabulate}
 use Rattle.algebra.proofs.Nested.{length-lists}
-use Rattle.p3_fri_relation.specs.Heights.{matrices_of, log_height}
+use Rattle.p3_fri_relation.specs.Heights.{matrices_of}
 use Rattle.p3_fri_relation.specs.Views.{claims_of, parameters_of, proof_of, round_opened, rounds_opened, inputs_opened, rows_collected}
-use Rattle.p3_fri_relation.specs.declared.error.FriError.TheVariants.{OutOfMemory}
 use Rattle.p3_fri_relation.proofs.ClaimedHeights.{greatest_height-bounds}
 use Rattle.p3_fri_relation.proofs.Instances.{instance_top, instance_sum}
 use Rattle.p3_fri_verifier.proofs.Replays.{false_true, same_err, ok_err, refused_as}
 use Rattle.p3_fri_verifier.proofs.Opened.{inputs_good_at, input_fault_at, in_order_at, ends_at, ends_of, way_fault_at}
-use Rattle.p3_fri_verifier.proofs.Opened.{opened_at, rounds_open_at, open_rounds_at, rounds_fault_at, length_zipped, indices_below}
+use Rattle.p3_fri_verifier.proofs.Opened.{opened_at, rounds_open_at, open_rounds_at, rounds_fault_at, indices_below}
 use Rattle.p3_challenger_core.specs.Run.{moves}
 use Rattle.p3_fri_relation.specs.Setting.{Setting}
 use Rattle.p3_fri_verifier.proofs.openings.verify_openings.Given.{Over}
@@ -84,7 +84,7 @@ pub fold_queries-way-requires-clause-openings : goal.fold_queries-way-requires-c
 fold_queries-way-requires-clause-openings g c =
     ap length c.as_slice-openings.ensures.value
     ∙ sym (length-map c.args.proof.now.commit_phase_openings.items round_opened)
-    ∙ length_zipped _ _ _ c.requires.counts.rounds
+    ∙ AllZip-long _ _ _ c.requires.counts.rounds
 
 pub fold_queries-way-requires-clause-within_max_height : goal.fold_queries-way-requires-clause-within_max_height
 fold_queries-way-requires-clause-within_max_height g c =
@@ -125,7 +125,7 @@ pub verify_rounds-requires-clause-openings : goal.verify_rounds-requires-clause-
 verify_rounds-requires-clause-openings g c =
     ap length c.as_slice-openings.ensures.value
     ∙ sym (length-map c.args.proof.now.commit_phase_openings.items round_opened)
-    ∙ length_zipped _ _ _ c.requires.counts.rounds
+    ∙ AllZip-long _ _ _ c.requires.counts.rounds
 
 pub verify_rounds-requires-clause-indices : goal.verify_rounds-requires-clause-indices
 verify_rounds-requires-clause-indices g c =

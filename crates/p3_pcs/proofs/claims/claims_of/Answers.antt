@@ -3,7 +3,8 @@ use Rattle.std.proofs.lemmas.List.{length-map}
 use Rattle.algebra.specs.Nested.{lists, nested}
 use Rattle.p3_pcs.specs.Claims.{both, claim, opened_values}
 use Rattle.p3_pcs.specs.Headline.{claim_of, at_points}
-use Rattle.p3_pcs.proofs.Zipped.{step, done_of_three, entry_of_map, entry_of_both, within_both}
+use Rattle.p3_pcs.proofs.Zipped.{step, done_of_three, entry_of_both, within_both}
+use Rattle.algebra.proofs.Lists.{entry_of_map}
 use Rattle.p3_pcs.proofs.claims.claims_of.Goals as goal
 
 pub loop-index-preserved : goal.loop-index-preserved

@@ -2,7 +2,8 @@ use Rattle.std.proofs.Common.{◌<◌, length, arith}
 use Rattle.std.proofs.lemmas.List.{length-map}
 use Rattle.algebra.specs.Nested.{lists, nested}
 use Rattle.p3_pcs.specs.Claims.{both, matrix_claim, claim_on, point_claims}
-use Rattle.p3_pcs.proofs.Zipped.{step, done_of_three, entry_of_map, entry_of_both, within_both}
+use Rattle.p3_pcs.proofs.Zipped.{step, done_of_three, entry_of_both, within_both}
+use Rattle.algebra.proofs.Lists.{entry_of_map}
 use Rattle.p3_pcs.proofs.claims.matrix_openings.Goals as goal
 
 pub loop-index-preserved : goal.loop-index-preserved

@@ -8,8 +8,8 @@ use Rattle.p3_fri_transcript.specs.Views.{state_of, shape_of}
 use Rattle.p3_fri_prover.specs.Refusals.{RoundRefusal}
 use Rattle.p3_matrix.specs.Matrix.{rows, matrix_width}
 use Rattle.p3_matrix.specs.Rows.{rows_of}
-use Rattle.p3_fri_prover.proofs.Inputs.{same_power}
 use Rattle.p3_fri_prover.proofs.Folding.{whole_rows, height_of_rows, one_power_height}
+use Rattle.p3_field_core.proofs.IndexPowers.{exponents_agree}
 use Rattle.p3_fri_prover.proofs.prover.commit_phase.commit_round.Goals as goal
 
 pub new-leaves-requires-clause-whole_rows : goal.new-leaves-requires-clause-whole_rows
@@ -67,7 +67,7 @@ fold_leaves-requires g c =
       width = ap matrix_width same ∙ c.new-leaves.ensures.width ∙ c.arity_of.ensures;
       power_of_two = (f.height, height);
       within_max_height = λ h e.
-          (let one : h ≡ f.height = same_power h f.height (sym e ∙ height) in
+          (let one : h ≡ f.height = exponents_agree h f.height (sym e ∙ height) in
           omega (arith, one, f.within));
     }
 

@@ -2,7 +2,8 @@ use Rattle.std.proofs.Common.{◌≡◌, ◌^◌, sym, ◌∙◌, arith, subst}
 use Rattle.p3_commit.specs.Batch.{max_height, dimensions_of, AreBelow}
 use Rattle.p3_commit.proofs.Heights.{max_height-power}
 use Rattle.algebra.specs.Nested.{nested}
-use Rattle.p3_fri_prover.proofs.Batches.{smaller_power, indices_below, batch_opened}
+use Rattle.p3_fri_prover.proofs.Batches.{indices_below, batch_opened}
+use Rattle.p3_field_core.proofs.IndexPowers.{exponent_at_most}
 use Rattle.p3_fri_prover.proofs.prover.openings.open_input.Goals as goal
 
 pub log2_strict_usize-log_height-requires : goal.log2_strict_usize-log_height-requires
@@ -13,7 +14,7 @@ log2_strict_usize-log_height-requires g c =
 
 pub overflow_sub-log_max_height : goal.overflow_sub-log_max_height
 overflow_sub-log_max_height g c =
-    smaller_power c.log2_strict_usize-log_height.result c.args.log_max_height
+    exponent_at_most c.log2_strict_usize-log_height.result c.args.log_max_height
     (omega (arith, c.log2_strict_usize-log_height.ensures.power, c.get_max_height.ensures, c.requires.height))
 
 pub open_multi_batch-requires : goal.open_multi_batch-requires
@@ -27,7 +28,7 @@ open_multi_batch-requires g c =
       below = subst (AreBelow (max_height (dimensions_of matrices))) (sym c.deref.ensures.value)
           (indices_below (g.M.Mmcs.opens c.args.mmcs.now) top log c.args.positions.now
           c.in_ok-indices.indices.items matrices is
-          (smaller_power log top (omega (arith, is, c.requires.height))) c.in_ok-indices.ensures
+          (exponent_at_most log top (omega (arith, is, c.requires.height))) c.in_ok-indices.ensures
           c.requires.positions);
     }
 
@@ -44,7 +45,7 @@ returns g c =
     c.log2_strict_usize-log_height.ensures.power ∙ c.get_max_height.ensures in
     let indices : c.deref.result.now ≡ c.in_ok-indices.indices.items = c.deref.ensures.value in
     batch_opened opens top log c.args.positions.now c.in_ok-indices.indices.items matrices is
-    (smaller_power log top (omega (arith, is, c.requires.height))) c.in_ok-indices.ensures own
+    (exponent_at_most log top (omega (arith, is, c.requires.height))) c.in_ok-indices.ensures own
     (record { rows = rows; path = path })
     (rw indices at c.in_ok-opened_values.ensures.rows)
     (rw indices at c.in_ok-opened_values.ensures.opens)

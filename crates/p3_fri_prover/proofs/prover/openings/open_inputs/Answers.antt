@@ -2,7 +2,7 @@ use Rattle.std.proofs.Common.{◌≡◌, ◌+◌, ◌++◌, ◌∷◌, [], take,
 use Rattle.std.proofs.lemmas.List.{take_more, take_all}
 use Rattle.algebra.specs.Nested.{nested}
 use Rattle.p3_fri_prover.specs.Openings.{OpensBatch}
-use Rattle.p3_fri_prover.proofs.Lists.{zip_more}
+use Rattle.algebra.proofs.Lists.{all_zip-push}
 use Rattle.p3_fri_prover.proofs.prover.openings.open_inputs.Goals as goal
 
 pub loop-datum-preserved : goal.loop-datum-preserved
@@ -13,7 +13,7 @@ loop-datum-preserved g c =
     let taken : take (i + 1) xs ≡ take i xs ++ item ∷ [] =
     take_more xs i item (omega arith) ∙ ap (λ x. take i xs ++ x ∷ []) (sym c.datum-item.is) in
     rw (taken, c.in_ok-push.ensures.items)
-    (zip_more (λ datum o. OpensBatch (g.M.Mmcs.opens c.args.mmcs.now) c.args.log_max_height
+    (all_zip-push (λ datum o. OpensBatch (g.M.Mmcs.opens c.args.mmcs.now) c.args.log_max_height
     c.args.positions.now (g.M.Mmcs.committed datum.prover_data.now)
     (g.M.Mmcs.commitment_of datum.prover_data.now)
     (record { rows = nested o.opened_values.items; path = o.opening_proof }))

@@ -8,9 +8,9 @@ use Rattle.p3_fri_transcript.proofs.TurnLists.{one_round_left, other_rounds_left
 use Rattle.p3_fri_transcript.proofs.TurnLists.{all_rounds_taken}
 use Rattle.p3_fri_prover.proofs.Committed.{none_committed, length_so_far, next_committed}
 use Rattle.p3_fri_prover.proofs.Committed.{can_fold_next, next_size, rounds_refused}
-use Rattle.p3_fri_prover.proofs.Inputs.{same_power}
 use Rattle.p3_fri_prover.proofs.prover.rounds.commit_rounds.Given.{Over}
 use Rattle.p3_fri_prover.proofs.prover.rounds.commit_rounds.Goals.{In-loop-log_arity}
+use Rattle.p3_field_core.proofs.IndexPowers.{exponents_agree}
 use Rattle.p3_fri_prover.proofs.prover.rounds.commit_rounds.Goals as goal
 
 -- so long is the word that the next round folds
@@ -115,7 +115,7 @@ loop-log_arity-preserved g c =
           (round.steps (length arities - (i + 1)) (left g turn));
       so_far = λ top whole.
           let is_top : top ≡ f.height + sum arities =
-          same_power top (f.height + sum arities) (sym whole ∙ f.length_of_word) in
+          exponents_agree top (f.height + sum arities) (sym whole ∙ f.length_of_word) in
           let folds = next_size arities i top c.loop-log_arity.word.len (omega arith)
           (omega (arith, is_top)) (size g turn top whole) in
           next_committed arities i (here.so_far top whole) (omega arith)

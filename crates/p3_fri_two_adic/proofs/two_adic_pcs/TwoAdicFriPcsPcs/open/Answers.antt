@@ -1,4 +1,5 @@
 use Rattle.std.proofs.Common.{◌≡◌, ◌^◌, ℕ, List, map, ap, ◌∙◌, subst}
+use Rattle.std.proofs.lemmas.Result.{IfOk-weaker}
 use Rattle.p3_field_core.specs.declared.coset.TwoAdicMultiplicativeCoset.{TwoAdicMultiplicativeCoset}
 use Rattle.p3_challenger_core.specs.Run.{moves}
 use Rattle.p3_pcs.specs.Requests.{request, honest_claims, FitDomains}
@@ -8,7 +9,7 @@ use Rattle.p3_fri_relation.specs.Views.{parameters_of, proof_of}
 use Rattle.p3_fri_completeness.specs.Requests.{held_of, relation_claims}
 use Rattle.p3_fri_opening_verifier.specs.Ends.{last_state}
 use Rattle.p3_fri_two_adic.specs.Accepted.{two_adic}
-use Rattle.p3_fri_two_adic.proofs.Sizes.{claims_sized, domains_sized, if_ok_then}
+use Rattle.p3_fri_two_adic.proofs.Sizes.{claims_sized, domains_sized}
 use Rattle.p3_fri_two_adic.proofs.Unspent.{data_kept}
 use Rattle.p3_fri_two_adic.proofs.two_adic_pcs.TwoAdicFriPcsPcs.open.Given.{Over}
 use Rattle.p3_fri_two_adic.proofs.two_adic_pcs.TwoAdicFriPcsPcs.open.Goals as goal
@@ -47,7 +48,7 @@ returns-clause-accepted g c honest =
     let commitment_of = g.InputMmcs.Mmcs.commitment_of in
     let requests = map request c.args.requests.now in
     let held = held_of (fields_of g) g.InputMmcs.Mmcs.committed c.args.self.now.fri.log_blowup in
-    if_ok_then c.open_requests.result
+    IfOk-weaker c.open_requests.result
     (λ opening. (sizes : List (List ℕ)) → FitDomains held (λ k. 2 ^ k) sizes requests
     → Accepts s p (relation_claims (λ k. k) (honest_claims held commitment_of sizes requests))
     (proof_of opening.1) c.args.challenger.now)
@@ -56,13 +57,13 @@ returns-clause-accepted g c honest =
     → Accepts s p (relation_claims (λ (d : Domain g). d.log_size)
     (honest_claims held commitment_of domains requests))
     (proof_of opening.1) c.args.challenger.now)
-    (c.open_requests.ensures.accepted honest)
     (λ opening accepts domains fits.
     subst (λ (cs : List (CommitmentClaim g.row.EF.Denot g.row.InputMmcs-Commitment.Denot)). Accepts
     s p cs (proof_of opening.1) c.args.challenger.now)
     (claims_sized held commitment_of (λ (d : Domain g). d.log_size) domains requests)
     (accepts (map (map (λ (d : Domain g). d.log_size)) domains)
     (domains_sized held commitment_of (λ (d : Domain g). d.log_size) domains requests fits)))
+    (c.open_requests.ensures.accepted honest)
 
 pub returns-clause-state : goal.returns-clause-state
 returns-clause-state g c honest =
@@ -71,7 +72,7 @@ returns-clause-state g c honest =
     let commitment_of = g.InputMmcs.Mmcs.commitment_of in
     let requests = map request c.args.requests.now in
     let held = held_of (fields_of g) g.InputMmcs.Mmcs.committed c.args.self.now.fri.log_blowup in
-    if_ok_then c.open_requests.result
+    IfOk-weaker c.open_requests.result
     (λ opening. (sizes : List (List ℕ)) → FitDomains held (λ k. 2 ^ k) sizes requests
     → c.open_requests.new.challenger ≡ last_state s p (relation_claims (λ k. k)
     (honest_claims held commitment_of sizes requests))
@@ -81,12 +82,12 @@ returns-clause-state g c honest =
     → c.open_requests.new.challenger ≡ last_state s p (relation_claims (λ
     (d : Domain g). d.log_size) (honest_claims held commitment_of domains requests))
     (proof_of opening.1) c.args.challenger.now)
-    (c.open_requests.ensures.state honest)
     (λ opening ends domains fits. ends (map (map (λ (d : Domain g). d.log_size)) domains)
     (domains_sized held commitment_of (λ (d : Domain g). d.log_size) domains requests fits)
     ∙ ap (λ (cs : List (CommitmentClaim g.row.EF.Denot g.row.InputMmcs-Commitment.Denot)).
     last_state s p cs (proof_of opening.1) c.args.challenger.now)
     (claims_sized held commitment_of (λ (d : Domain g). d.log_size) domains requests))
+    (c.open_requests.ensures.state honest)
 
 pub returns-clause-spent : goal.returns-clause-spent
 returns-clause-spent g c passed = data_kept c.args.requests.now

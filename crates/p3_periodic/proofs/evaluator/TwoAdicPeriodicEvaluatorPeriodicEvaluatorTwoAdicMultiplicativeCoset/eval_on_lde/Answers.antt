@@ -1,11 +1,12 @@
 use Rattle.std.proofs.Common.{◌-◌, ◌/◌, ◌^◌, refl}
+use Rattle.std.proofs.lemmas.Result.{IfOk-weaker}
 use Rattle.p3_field_core.specs.Coset.{coset_point}
 use Rattle.p3_dft.proofs.Batches.{exponent_within}
 use Rattle.p3_periodic.specs.declared.table.PeriodicLdeTable.{PeriodicLdeTable}
 use Rattle.p3_periodic.specs.Tables.{AreTabulated}
 use Rattle.p3_periodic.specs.Values.{IsValueAt, IsColumnValue}
 use Rattle.p3_periodic.specs.Views.{table_rows}
-use Rattle.p3_periodic.proofs.Rows.{tabulated_lifted, if_ok-weaker}
+use Rattle.p3_periodic.proofs.Rows.{tabulated_lifted}
 use Rattle.p3_periodic.proofs.evaluator.TwoAdicPeriodicEvaluatorPeriodicEvaluatorTwoAdicMultiplicativeCoset.eval_on_lde.Goals as goal
 
 pub eval_on_lde_with_dft-requires : goal.eval_on_lde_with_dft-requires
@@ -26,7 +27,7 @@ returns-clause-table g c =
     (λ index. IsColumnValue F root n (point index)) (table_rows table) in
     let After : PeriodicLdeTable A → Type 0 = λ table. AreTabulated columns (2 ^ size / 2 ^ n)
     (λ index. IsValueAt F root n (point index) (λ (x : A). x)) (table_rows table) in
-    if_ok-weaker c.eval_on_lde_with_dft.result Before After
+    IfOk-weaker c.eval_on_lde_with_dft.result Before After
     (λ table. tabulated_lifted F root n size point columns
     (exponent_within n size (2 ^ n) refl c.requires) (table_rows table))
     c.eval_on_lde_with_dft.ensures.table
