@@ -6,7 +6,8 @@
 mod batches;
 #[cfg(test)]
 mod folds;
-pub mod laws;
+#[cfg(test)]
+mod laws;
 #[cfg(test)]
 mod points;
 #[cfg(test)]

@@ -186,14 +186,16 @@ fn undoes_quotients(rt: HostRuntime) -> Result<(), Fail> {
 fn unfolds_a_constant_with_its_input(rt: HostRuntime) -> Result<(), Fail> {
     let betas = elements::<BabyBear>(rt.alloc(), &[0, 1, 2])?;
     let polys = polynomials::<BabyBear, 1>(rt.alloc(), &[[4], [13], [26]])?;
-    if are_distinct(&betas) {
-        let unfolded = unfold_with_input(rt.alloc(), 1, &betas, &polys)?;
-        let word = elements::<BabyBear>(rt.alloc(), &[4, 7])?;
-        let input = elements::<BabyBear>(rt.alloc(), &[2])?;
-        assert!(rt; unfolded.word.as_slice() == word.as_slice());
-        assert!(rt; unfolded.input.as_slice() == input.as_slice());
+    if !are_distinct(&betas) {
+        return Err(Fail::new("a repeated challenge"));
     }
-    assert!(rt; are_distinct(&betas));
+    let unfolded = unfold_with_input(rt.alloc(), 1, &betas, &polys)?;
+    let word = elements::<BabyBear>(rt.alloc(), &[4, 7])?;
+    let input = elements::<BabyBear>(rt.alloc(), &[2])?;
+    assert_eq!(rt;
+        (unfolded.word.as_slice(), unfolded.input.as_slice()),
+        (word.as_slice(), input.as_slice())
+    );
     Ok(())
 }
 
@@ -215,13 +217,30 @@ fn node(
     Ok(FoldTree::Node(subtrees))
 }
 
-/// A node over 0 and 1 with these constants at its leaves.
-fn pair(alloc: Global, constants: [u64; 2]) -> Result<FoldTree<BabyBear>, AllocError> {
+/// Leaves with these coefficients under two challenges.
+fn leaves(
+    alloc: Global,
+    betas: [u64; 2],
+    coefficients: [&[u64]; 2],
+) -> Result<FoldTree<BabyBear>, AllocError> {
     let mut trees = Vec::with_capacity(alloc, 2)?;
-    for number in constants {
-        trees.push(leaf(alloc, &[number])?)?;
+    for numbers in coefficients {
+        trees.push(leaf(alloc, numbers)?)?;
     }
-    node(alloc, &[0, 1], trees)
+    node(alloc, &betas, trees)
+}
+
+/// A tree of two rounds over these challenges, with each pair of constants at leaves under 0 and 1.
+fn two_rounds(
+    alloc: Global,
+    betas: &[u64],
+    constants: &[[u64; 2]],
+) -> Result<FoldTree<BabyBear>, AllocError> {
+    let mut trees = Vec::with_capacity(alloc, constants.len())?;
+    for [first, second] in constants {
+        trees.push(leaves(alloc, [0, 1], [&[*first], &[*second]])?)?;
+    }
+    node(alloc, betas, trees)
 }
 
 /// What the tree unfolds to, unless a condition fails.
@@ -229,82 +248,97 @@ fn unfolded(
     alloc: Global,
     rounds: &[(usize, bool)],
     tree: &FoldTree<BabyBear>,
-) -> Result<Option<UnfoldedTree<BabyBear>>, AllocError> {
+) -> Result<UnfoldedTree<BabyBear>, Fail> {
     if !log_arities_fit(rounds) || !paths_fit(rounds, tree) {
-        return Ok(None);
+        return Err(Fail::new("not the tree's rounds"));
     }
     let length = leaf_length(tree);
     if !leaves_fit(length, tree) || !unfolds_within_range(length, log_arity_sum(rounds)) {
-        return Ok(None);
+        return Err(Fail::new("not leaves of one length"));
     }
     if !challenges_fit(alloc, rounds, tree)? {
-        return Ok(None);
+        return Err(Fail::new("not the rounds' challenges"));
     }
-    Ok(Some(unfold_tree(alloc, rounds, tree)?))
+    Ok(unfold_tree(alloc, rounds, tree)?)
 }
 
 #[test]
 fn unfolds_two_rounds(rt: HostRuntime) -> Result<(), Fail> {
-    let mut trees = Vec::new(rt.alloc());
-    trees.push(pair(rt.alloc(), [1, 3])?)?;
-    trees.push(pair(rt.alloc(), [4, 10])?)?;
-    let tree = node(rt.alloc(), &[0, 1], trees)?;
+    let tree = two_rounds(rt.alloc(), &[0, 1], &[[1, 3], [4, 10]])?;
     let found = unfolded(rt.alloc(), &[(1, false), (1, false)], &tree)?;
-    assert!(rt; matches!(&found, Some(unfolded) if unfolded.inputs.is_empty()));
-    if let Some(unfolded) = found {
-        let word = elements::<BabyBear>(rt.alloc(), &[1, 3, 2, 4])?;
-        assert!(rt; unfolded.word.as_slice() == word.as_slice());
-    }
+    let word = elements::<BabyBear>(rt.alloc(), &[1, 3, 2, 4])?;
+    assert_eq!(rt;
+        (found.word.as_slice(), found.inputs.len()),
+        (word.as_slice(), 0)
+    );
     Ok(())
 }
 
 #[test]
 fn unfolds_two_rounds_with_an_input(rt: HostRuntime) -> Result<(), Fail> {
-    let mut trees = Vec::new(rt.alloc());
-    for number in [5, 35, 63] {
-        trees.push(pair(rt.alloc(), [number, number])?)?;
-    }
-    let tree = node(rt.alloc(), &[0, 1, 2], trees)?;
+    let tree = two_rounds(rt.alloc(), &[0, 1, 2], &[[5, 5], [35, 35], [63, 63]])?;
     let found = unfolded(rt.alloc(), &[(1, true), (1, false)], &tree)?;
-    assert!(rt; found.is_some());
-    if let Some(unfolded) = found {
-        let word = elements::<BabyBear>(rt.alloc(), &[5, 31, 0, 0])?;
-        assert!(rt; unfolded.word.as_slice() == word.as_slice());
-        let inputs = [[2013265920, 0]];
-        assert!(rt; are_polynomials::<BabyBear, 2>(rt.alloc(), &unfolded.inputs, &inputs)?);
-    }
+    let word = elements::<BabyBear>(rt.alloc(), &[5, 31, 0, 0])?;
+    let inputs = polynomials::<BabyBear, 2>(rt.alloc(), &[[2013265920, 0]])?;
+    assert_eq!(rt;
+        (found.word.as_slice(), found.inputs.as_slice()),
+        (word.as_slice(), inputs.as_slice())
+    );
     Ok(())
+}
+
+/// Whether a tree with one round on a path and two on the other passes for one of two rounds.
+fn an_uneven_tree_fits(alloc: Global) -> Result<bool, AllocError> {
+    let mut trees = Vec::with_capacity(alloc, 2)?;
+    trees.push(leaves(alloc, [0, 1], [&[1], &[3]])?)?;
+    trees.push(leaf(alloc, &[4])?)?;
+    let tree = node(alloc, &[0, 1], trees)?;
+    Ok(paths_fit(&[(1, false), (1, false)], &tree))
+}
+
+/// Of leaves under two challenges: whether paths and challenges are those of one round, and whether
+/// the leaves have one length.
+fn leaves_pass(
+    alloc: Global,
+    betas: [u64; 2],
+    coefficients: [&[u64]; 2],
+) -> Result<(bool, bool, bool), AllocError> {
+    let round = [(1, false)];
+    let tree = leaves(alloc, betas, coefficients)?;
+    let challenges = challenges_fit(alloc, &round, &tree)?;
+    Ok((
+        paths_fit(&round, &tree),
+        challenges,
+        leaves_fit(leaf_length(&tree), &tree),
+    ))
 }
 
 #[test]
 fn trees_that_do_not_fit_are_caught(rt: HostRuntime) -> Result<(), Fail> {
-    // An uneven path.
-    let mut trees = Vec::new(rt.alloc());
-    trees.push(pair(rt.alloc(), [1, 3])?)?;
-    trees.push(leaf(rt.alloc(), &[4])?)?;
-    let tree = node(rt.alloc(), &[0, 1], trees)?;
-    assert!(rt; !paths_fit(&[(1, false), (1, false)], &tree));
+    assert!(rt; !an_uneven_tree_fits(rt.alloc())?);
+    let repeated = leaves_pass(rt.alloc(), [7, 7], [&[1], &[2]])?;
+    let two_lengths = leaves_pass(rt.alloc(), [0, 1], [&[1], &[2, 3]])?;
+    assert_eq!(rt;
+        (repeated, two_lengths),
+        ((true, false, true), (true, true, false))
+    );
+    Ok(())
+}
 
-    // A repeated challenge.
-    let mut trees = Vec::new(rt.alloc());
-    trees.push(leaf(rt.alloc(), &[1])?)?;
-    trees.push(leaf(rt.alloc(), &[2])?)?;
-    let tree = node(rt.alloc(), &[7, 7], trees)?;
-    assert!(rt; paths_fit(&[(1, false)], &tree));
-    assert!(rt; !challenges_fit(rt.alloc(), &[(1, false)], &tree)?);
-
-    // Leaves of two lengths.
-    let mut trees = Vec::new(rt.alloc());
-    trees.push(leaf(rt.alloc(), &[1])?)?;
-    trees.push(leaf(rt.alloc(), &[2, 3])?)?;
-    let tree = node(rt.alloc(), &[0, 1], trees)?;
-    assert!(rt; challenges_fit(rt.alloc(), &[(1, false)], &tree)?);
-    assert!(rt; !leaves_fit(leaf_length(&tree), &tree));
-
-    assert!(rt; !log_arities_fit(&[(1, false), (0, true)]));
-    assert!(rt; !log_arities_fit(&[(60, false), (4, true)]));
-    assert!(rt; log_arities_fit(&[(60, false), (3, true)]));
-    assert!(rt; unfolds_within_range(1, 63) && !unfolds_within_range(2, 63));
+#[test]
+fn log_arities_and_lengths_out_of_range_are_caught(rt: HostRuntime) -> Result<(), Fail> {
+    let rows = [
+        ([(1, false), (0, true)], false),
+        ([(60, false), (4, true)], false),
+        ([(60, false), (3, true)], true),
+    ];
+    for (rounds, fit) in rows {
+        assert_eq!(rt; log_arities_fit(&rounds), fit);
+    }
+    assert_eq!(rt;
+        (unfolds_within_range(1, 63), unfolds_within_range(2, 63)),
+        (true, false)
+    );
     Ok(())
 }
 
@@ -368,6 +402,25 @@ fn eight_folds<F: TwoAdicField + PackableField, EF: PackableExtension<F>>(
     Ok(folds)
 }
 
+/// The polynomials, of four coefficients each, behind the folds of the word of log height 4 of a
+/// polynomial, at two betas.
+fn behind_folds<F: TwoAdicField + PackableField, EF: PackableExtension<F>>(
+    alloc: Global,
+    coefficients: &[EF],
+    betas: &[EF; 2],
+) -> Result<Vec<Vec<EF>>, AllocError>
+    requires within_two_adicity { 4 ≤ F.TWO_ADICITY }
+    ensures count { IfOk result (λ polys. vec_len polys ≡ 2) }
+    ensures lengths { IfOk result (λ polys. All (λ p. vec_len p ≡ 4) polys.items) }
+{
+    let mut polys = Vec::with_capacity(alloc, 2)?;
+    for beta in betas {
+        let folds = eight_folds::<F, EF>(alloc, coefficients, *beta)?;
+        polys.push(four_coefficients::<F, EF>(alloc, &folds)?)?;
+    }
+    Ok(polys)
+}
+
 /// Whether the polynomial of eight coefficients comes back from the folds, at two betas, of its
 /// word.
 fn comes_back<F: TwoAdicField + PackableField, EF: PackableExtension<F>>(
@@ -380,11 +433,7 @@ fn comes_back<F: TwoAdicField + PackableField, EF: PackableExtension<F>>(
     if !are_distinct(&betas) {
         return Ok(false);
     }
-    let mut polys = Vec::with_capacity(alloc, 2)?;
-    for beta in &betas {
-        let folds = eight_folds::<F, EF>(alloc, coefficients, *beta)?;
-        polys.push(four_coefficients::<F, EF>(alloc, &folds)?)?;
-    }
+    let polys = behind_folds::<F, EF>(alloc, coefficients, &betas)?;
     if !have_one_length(&polys) {
         return Ok(false);
     }

@@ -89,6 +89,15 @@ fn elements(alloc: Global, all: &[Coefficients]) -> Result<Vec<BabyBear4>, Alloc
     Ok(row)
 }
 
+/// The lists of these coefficients' elements.
+fn lists(alloc: Global, all: &[&[Coefficients]]) -> Result<Vec<Vec<BabyBear4>>, AllocError> {
+    let mut lists = Vec::with_capacity(alloc, all.len())?;
+    for coefficients in all {
+        lists.push(elements(alloc, *coefficients)?)?;
+    }
+    Ok(lists)
+}
+
 /// The matrix of these values, row by row.
 fn matrix(alloc: Global, values: &[u64], width: usize) -> Result<RowMajorMatrix<BabyBear>, Fail> {
     let mut elements = Vec::with_capacity(alloc, values.len())?;
@@ -99,6 +108,18 @@ fn matrix(alloc: Global, values: &[u64], width: usize) -> Result<RowMajorMatrix<
         return Err(Fail::new("the values aren't whole rows"));
     }
     Ok(RowMajorMatrix::new(elements, width))
+}
+
+/// The matrices of these values and widths.
+fn matrices(
+    alloc: Global,
+    each: &[(&[u64], usize)],
+) -> Result<Vec<RowMajorMatrix<BabyBear>>, Fail> {
+    let mut all = Vec::with_capacity(alloc, each.len())?;
+    for (values, width) in each {
+        all.push(matrix(alloc, *values, *width)?)?;
+    }
+    Ok(all)
 }
 
 /// The words of these rounds, opened with blowup 2 to the values of their polynomials.
@@ -120,14 +141,13 @@ fn words<F: TwoAdicField, EF: ExtensionField<F>>(
 
 #[test]
 fn two_heights_at_two_points(rt: HostRuntime) -> Result<(), Fail> {
-    let alloc = rt.alloc();
-    let first = vec![in alloc; matrix(alloc, &WIDE, 2)?, matrix(alloc, &LOW, 1)?]?;
-    let second = vec![in alloc; matrix(alloc, &NARROW, 1)?]?;
-    let first_points = vec![in alloc;
-        elements(alloc, &[FIRST_POINT, SECOND_POINT])?,
-        elements(alloc, &[SECOND_POINT, FIRST_POINT])?,
-    ]?;
-    let second_points = vec![in alloc; elements(alloc, &[SECOND_POINT, FIRST_POINT])?]?;
+    let first = matrices(rt.alloc(), &[(&WIDE, 2), (&LOW, 1)])?;
+    let second = matrices(rt.alloc(), &[(&NARROW, 1)])?;
+    let first_points = lists(
+        rt.alloc(),
+        &[&[FIRST_POINT, SECOND_POINT], &[SECOND_POINT, FIRST_POINT]],
+    )?;
+    let second_points = lists(rt.alloc(), &[&[SECOND_POINT, FIRST_POINT]])?;
     let rounds = [
         OpeningRound {
             matrices: &first,
@@ -138,29 +158,21 @@ fn two_heights_at_two_points(rt: HostRuntime) -> Result<(), Fail> {
             points: &second_points,
         },
     ];
-    let words = words(alloc, element(ALPHA), &rounds)?;
-    assert_eq!(rt; words.len(), 2);
-    assert_eq!(rt;
-        words[0].as_slice(),
-        elements(alloc, &TALL_WORD)?.as_slice()
-    );
-    assert_eq!(rt; words[1].as_slice(), elements(alloc, &LOW_WORD)?.as_slice());
+    let expected = lists(rt.alloc(), &[&TALL_WORD, &LOW_WORD])?;
+    assert_eq!(rt; words(rt.alloc(), element(ALPHA), &rounds)?, expected);
     Ok(())
 }
 
 #[test]
 fn constants_leave_nothing(rt: HostRuntime) -> Result<(), Fail> {
-    let alloc = rt.alloc();
-    let constants = vec![in alloc; matrix(alloc, &[9, 4, 9, 4], 2)?]?;
-    let points = vec![in alloc; elements(alloc, &[FIRST_POINT])?]?;
+    let constants = matrices(rt.alloc(), &[(&[9, 4, 9, 4], 2)])?;
+    let points = lists(rt.alloc(), &[&[FIRST_POINT]])?;
     let rounds = [OpeningRound {
         matrices: &constants,
         points: &points,
     }];
-    let words = words(alloc, element(ALPHA), &rounds)?;
-    assert_eq!(rt; words.len(), 1);
-    let zeros = elements(alloc, &[[0, 0, 0, 0], [0, 0, 0, 0]])?;
-    assert_eq!(rt; words[0].as_slice(), zeros.as_slice());
+    let zeros = lists(rt.alloc(), &[&[[0, 0, 0, 0], [0, 0, 0, 0]]])?;
+    assert_eq!(rt; words(rt.alloc(), element(ALPHA), &rounds)?, zeros);
     Ok(())
 }
 

@@ -2,38 +2,55 @@
 
 use crate::words::{agrees, committed, values_on};
 use p3_field::{BabyBear, Field, PrimeField64};
-use p3_matrix::RowMajorMatrix;
+use std::alloc::Global;
 use std::test::Fail;
 
-/// The canonical number in a row of the first column.
-fn number(values: &RowMajorMatrix<BabyBear>, row: usize) -> Option<u64> {
-    values.get(row, 0).map(|x| x.as_canonical_u64())
+/// The canonical numbers of the values that a column has on the coset of this shift and of
+/// `2^log_size` points, where it was committed to with blowup 2.
+fn numbers_on(
+    alloc: Global,
+    column: &[u64],
+    log_blowup: usize,
+    shift: u64,
+    log_size: usize,
+) -> Result<Vec<u64>, Fail> {
+    let words = committed(alloc, 1, column)?;
+    let values = values_on(
+        alloc,
+        log_blowup,
+        &words,
+        BabyBear::from_u64(shift),
+        log_size,
+    )?;
+    let mut numbers = Vec::new(alloc);
+    for row in 0..values.height() {
+        if let Some(value) = values.get(row, 0) {
+            numbers.push(value.as_canonical_u64())?;
+        }
+    }
+    Ok(numbers)
 }
 
 /// The values of `2 - X` at 1 and at -1 are 1 and 3; at 31 and at -31 they are -29 and 33.
 #[test]
 fn a_column_on_larger_and_smaller_domains(rt: HostRuntime) -> Result<(), Fail> {
-    let words = committed(rt.alloc(), 1, &[1, 3])?;
-    let values = values_on(rt.alloc(), 1, &words, BabyBear::from_u64(31), 2)?;
-    assert_eq!(rt; values.height(), 4);
-    assert_eq!(rt; number(&values, 0), Some(2_013_265_892));
-    assert_eq!(rt; number(&values, 2), Some(33));
-    let values = values_on(rt.alloc(), 1, &words, BabyBear::ONE, 1)?;
-    assert_eq!(rt; values.height(), 2);
-    assert_eq!(rt; number(&values, 0), Some(1));
-    assert_eq!(rt; number(&values, 1), Some(3));
-    let values = values_on(rt.alloc(), 1, &words, BabyBear::ONE, 0)?;
-    assert_eq!(rt; values.height(), 1);
-    assert_eq!(rt; number(&values, 0), Some(1));
+    let larger = numbers_on(rt.alloc(), &[1, 3], 1, 31, 2)?;
+    assert_eq!(rt;
+        (larger.len(), larger.get(0).copied(), larger.get(2).copied()),
+        (4, Some(2_013_265_892), Some(33))
+    );
+    let rows: [(usize, &[u64]); 2] = [(1, &[1, 3]), (0, &[1])];
+    for (log_size, expected) in rows {
+        let numbers = numbers_on(rt.alloc(), &[1, 3], 1, 1, log_size)?;
+        assert_eq!(rt; numbers.as_slice(), expected);
+    }
     Ok(())
 }
 
 /// On the domain of shift 5 and of 8 points: `2 - 5 w^i`, where `w` is the root of order 8.
 #[test]
 fn a_column_in_natural_order(rt: HostRuntime) -> Result<(), Fail> {
-    let words = committed(rt.alloc(), 1, &[1, 3])?;
-    let values = values_on(rt.alloc(), 1, &words, BabyBear::from_u64(5), 3)?;
-    let numbers = [
+    let expected = [
         2_013_265_918,
         91_232_616,
         1_424_307_042,
@@ -43,10 +60,8 @@ fn a_column_in_natural_order(rt: HostRuntime) -> Result<(), Fail> {
         588_958_883,
         1_058_615_972,
     ];
-    assert_eq!(rt; values.height(), 8);
-    for i in 0..numbers.len() {
-        assert_eq!(rt; number(&values, i), Some(numbers[i]), "row {i}");
-    }
+    let numbers = numbers_on(rt.alloc(), &[1, 3], 1, 5, 3)?;
+    assert_eq!(rt; numbers.as_slice(), expected.as_slice());
     Ok(())
 }
 
@@ -57,14 +72,9 @@ fn values_agree_with_horner(rt: HostRuntime) -> Result<(), Fail> {
     for shift in [1, 5, 31, 2_013_265_890] {
         for log_size in 0..6 {
             let shift = BabyBear::from_u64(shift);
-            assert!(rt;
-                agrees(rt.alloc(), 3, 1, shift, log_size)?,
-                "8 on 2^{log_size}"
-            );
-            assert!(rt;
-                agrees(rt.alloc(), 0, 2, shift, log_size)?,
-                "1 on 2^{log_size}"
-            );
+            let eight = agrees(rt.alloc(), 3, 1, shift, log_size)?;
+            let one = agrees(rt.alloc(), 0, 2, shift, log_size)?;
+            assert_eq!(rt; (eight, one), (true, true), "on 2^{log_size}");
         }
     }
     Ok(())
@@ -73,10 +83,7 @@ fn values_agree_with_horner(rt: HostRuntime) -> Result<(), Fail> {
 /// A blowup past the words' height leaves no polynomial but zero.
 #[test]
 fn zeros_at_any_blowup(rt: HostRuntime) -> Result<(), Fail> {
-    let words = committed(rt.alloc(), 1, &[0, 0])?;
-    let values = values_on(rt.alloc(), usize::MAX, &words, BabyBear::ONE, 1)?;
-    assert_eq!(rt; values.height(), 2);
-    assert_eq!(rt; number(&values, 0), Some(0));
-    assert_eq!(rt; number(&values, 1), Some(0));
+    let numbers = numbers_on(rt.alloc(), &[0, 0], usize::MAX, 1, 1)?;
+    assert_eq!(rt; numbers.as_slice(), [0, 0].as_slice());
     Ok(())
 }

@@ -155,58 +155,107 @@ fn answer(
     }
 }
 
+/// A matrix, the log size of its domain, and the points at which its columns are claimed.
+#[derive(Clone, Copy)]
+struct Columns<'a> {
+    seed: u16,
+    height: u16,
+    width: u16,
+    log_size: usize,
+    points: &'a [u32],
+}
+
+/// One commitment to these matrices, as it is claimed and as it is opened at these indices.
+fn commitment_to(
+    alloc: Global,
+    all: &[Columns<'_>],
+    indices: &[usize],
+) -> Result<(Claim, Opening), Fail> {
+    let mut matrices = Vec::new(alloc);
+    let mut claimed = Vec::new(alloc);
+    for columns in all {
+        let Columns {
+            seed,
+            height,
+            width,
+            log_size,
+            points,
+        } = *columns;
+        matrices.push(matrix(alloc, seed, height, width)?)?;
+        claimed.push(matrix_claim(alloc, seed, log_size, width, points)?)?;
+    }
+    let (commitment, opening) = commit_and_open(alloc, matrices, indices)?;
+    let claim = CommitmentOpening {
+        commitment,
+        matrices: claimed,
+    };
+    Ok((claim, opening))
+}
+
 /// One commitment to two matrices of one height, one to none, and one to a matrix of half the
 /// height, opened at the positions 5 and 2 of the greater height.
 fn three_commitments(alloc: Global) -> Result<(Vec<Claim>, Vec<Opening>), Fail> {
+    let two = [
+        Columns {
+            seed: 1,
+            height: 8,
+            width: 2,
+            log_size: 2,
+            points: &[1000, 2000],
+        },
+        Columns {
+            seed: 2,
+            height: 8,
+            width: 1,
+            log_size: 2,
+            points: &[3000],
+        },
+    ];
+    let lower = [Columns {
+        seed: 3,
+        height: 4,
+        width: 2,
+        log_size: 1,
+        points: &[4000, 1000],
+    }];
     let mut claims = Vec::new(alloc);
     let mut openings = Vec::new(alloc);
-
-    let mut matrices = Vec::new(alloc);
-    matrices.push(matrix(alloc, 1, 8, 2)?)?;
-    matrices.push(matrix(alloc, 2, 8, 1)?)?;
-    let (commitment, opening) = commit_and_open(alloc, matrices, &[5, 2])?;
-    let mut claimed = Vec::new(alloc);
-    claimed.push(matrix_claim(alloc, 1, 2, 2, &[1000, 2000])?)?;
-    claimed.push(matrix_claim(alloc, 2, 2, 1, &[3000])?)?;
-    claims.push(CommitmentOpening {
-        commitment,
-        matrices: claimed,
-    })?;
-    openings.push(opening)?;
-
-    let (commitment, opening) = commit_and_open(alloc, Vec::new(alloc), &[0, 0])?;
-    claims.push(CommitmentOpening {
-        commitment,
-        matrices: Vec::new(alloc),
-    })?;
-    openings.push(opening)?;
-
-    let mut matrices = Vec::new(alloc);
-    matrices.push(matrix(alloc, 3, 4, 2)?)?;
-    let (commitment, opening) = commit_and_open(alloc, matrices, &[2, 1])?;
-    let mut claimed = Vec::new(alloc);
-    claimed.push(matrix_claim(alloc, 3, 1, 2, &[4000, 1000])?)?;
-    claims.push(CommitmentOpening {
-        commitment,
-        matrices: claimed,
-    })?;
-    openings.push(opening)?;
+    let each: [(&[Columns<'_>], [usize; 2]); 3] = [(&two, [5, 2]), (&[], [0, 0]), (&lower, [2, 1])];
+    for (columns, indices) in each {
+        let (claim, opening) = commitment_to(alloc, columns, &indices)?;
+        claims.push(claim)?;
+        openings.push(opening)?;
+    }
     Ok((claims, openings))
+}
+
+/// The sums, if nothing is refused.
+fn sums_of(
+    alloc: Global,
+    log_global_max_height: usize,
+    indices: &[usize],
+    openings: &[Opening],
+    claims: &[Claim],
+) -> Result<Vec<FriOpenings<BabyBear4>>, Fail> {
+    match answer(alloc, log_global_max_height, indices, openings, claims)? {
+        Ok(sums) => Ok(sums),
+        Err(text) => Err(Fail::new(text)),
+    }
 }
 
 #[test]
 fn sums_up_quotients_by_log_height(rt: HostRuntime) -> Result<(), Fail> {
     let (claims, openings) = three_commitments(rt.alloc())?;
-    let sums = answer(
+    let sums = sums_of(
         rt.alloc(),
         3,
         &[5, 2],
         openings.as_slice(),
         claims.as_slice(),
-    )?
-    .ok()
-    .ok_or("refused")?;
-    assert_eq!(rt; sums.len(), 2);
+    )?;
+    let [first_sums, second_sums] = sums.as_slice() else {
+        return Err(Fail::new("not two positions"));
+    };
     let first: [(usize, BabyBear4); 2] = [
         (
             3,
@@ -227,32 +276,39 @@ fn sums_up_quotients_by_log_height(rt: HostRuntime) -> Result<(), Fail> {
             element([1_813_776_984, 1_308_073_175, 367_002_739, 1_145_501_718]),
         ),
     ];
-    assert_eq!(rt; sums[0].as_slice(), first.as_slice());
-    assert_eq!(rt; sums[1].as_slice(), second.as_slice());
+    assert_eq!(rt;
+        (first_sums.as_slice(), second_sums.as_slice()),
+        (first.as_slice(), second.as_slice())
+    );
     Ok(())
 }
 
 /// One commitment to a matrix of height 2, whose columns are constant where a proof is honest,
 /// claimed at these points and opened at the position 1.
 fn one_commitment(alloc: Global, points: &[u32]) -> Result<(Vec<Claim>, Vec<Opening>), Fail> {
-    let mut matrices = Vec::new(alloc);
-    matrices.push(matrix(alloc, 1, 2, 1)?)?;
-    let (commitment, opening) = commit_and_open(alloc, matrices, &[1])?;
-    let mut claimed = Vec::new(alloc);
-    claimed.push(matrix_claim(alloc, 1, 0, 1, points)?)?;
+    let columns = Columns {
+        seed: 1,
+        height: 2,
+        width: 1,
+        log_size: 0,
+        points,
+    };
+    let (claim, opening) = commitment_to(alloc, &[columns], &[1])?;
     let mut claims = Vec::new(alloc);
-    claims.push(CommitmentOpening {
-        commitment,
-        matrices: claimed,
-    })?;
+    claims.push(claim)?;
     let mut openings = Vec::new(alloc);
     openings.push(opening)?;
     Ok((claims, openings))
 }
 
-/// The refusal of what is claimed and opened at the position 1 of height 2.
-fn refusal(alloc: Global, claims: &[Claim], openings: &[Opening]) -> Result<String, Fail> {
-    match answer(alloc, 1, &[1], openings, claims)? {
+/// The refusal of what is claimed and opened at these positions of height 2.
+fn refusal(
+    alloc: Global,
+    indices: &[usize],
+    claims: &[Claim],
+    openings: &[Opening],
+) -> Result<String, Fail> {
+    match answer(alloc, 1, indices, openings, claims)? {
         Ok(_) => Err(Fail::new("accepted")),
         Err(text) => Ok(text),
     }
@@ -261,55 +317,109 @@ fn refusal(alloc: Global, claims: &[Claim], openings: &[Opening]) -> Result<Stri
 #[test]
 fn refuses_openings_of_another_number(rt: HostRuntime) -> Result<(), Fail> {
     let (claims, openings) = one_commitment(rt.alloc(), &[7])?;
-    assert_eq!(rt;
-        refusal(rt.alloc(), claims.as_slice(), &[])?.as_str(),
-        "InputProofBatchCountMismatch { expected: 1, got: 0 }"
-    );
-    let two_indices = answer(
-        rt.alloc(),
-        1,
-        &[1, 0],
-        openings.as_slice(),
-        claims.as_slice(),
-    )?;
-    assert_eq!(rt;
-        two_indices.err().ok_or("accepted")?.as_str(),
-        "InputOpeningsQueryCountMismatch { batch: 0, expected: 2, got: 1 }"
-    );
-    Ok(())
-}
-
-#[test]
-fn refuses_sets_of_another_number_of_rows(rt: HostRuntime) -> Result<(), Fail> {
-    let (claims, mut openings) = one_commitment(rt.alloc(), &[7])?;
-    for opening in &mut openings {
-        for set in &mut opening.opened_values {
-            set.clear();
-        }
+    let none: &[Opening] = &[];
+    let rows: [(&[usize], &[Opening], &str); 2] = [
+        (
+            &[1],
+            none,
+            "InputProofBatchCountMismatch { expected: 1, got: 0 }",
+        ),
+        (
+            &[1, 0],
+            openings.as_slice(),
+            "InputOpeningsQueryCountMismatch { batch: 0, expected: 2, got: 1 }",
+        ),
+    ];
+    for (indices, openings, expected) in rows {
+        let text = refusal(rt.alloc(), indices, claims.as_slice(), openings)?;
+        assert_eq!(rt; text.as_str(), expected);
     }
-    assert_eq!(rt;
-        refusal(rt.alloc(), claims.as_slice(), openings.as_slice())?.as_str(),
-        "BatchOpenedValuesCountMismatch { batch: 0, expected: 1, got: 0 }"
-    );
     Ok(())
 }
 
-#[test]
-fn refuses_rows_that_are_not_the_commitments(rt: HostRuntime) -> Result<(), Fail> {
-    let (claims, mut openings) = one_commitment(rt.alloc(), &[7])?;
-    for opening in &mut openings {
-        for set in &mut opening.opened_values {
+/// What is changed in what is claimed at two points and opened at the position 1 of height 2.
+#[derive(Clone, Copy)]
+enum Change {
+    Nothing,
+    NoRows,
+    OtherRows,
+    NoPoints,
+    LongerValues,
+    QueriedPoint,
+    ConstantValues,
+}
+
+/// The rows with that change, where it is one of theirs.
+fn change_rows(set: &mut Vec<Vec<BabyBear>>, change: Change) {
+    match change {
+        Change::NoRows => set.clear(),
+        Change::OtherRows => {
             for row in set {
                 for value in row {
                     *value = BabyBear::ONE;
                 }
             }
+        },
+        _ => {},
+    }
+}
+
+/// The claimed points with that change, where it is one of theirs.
+fn change_points(points: &mut Vec<PointOpening<BabyBear4>>, change: Change) -> Result<(), Fail> {
+    if let Change::NoPoints = change {
+        points.clear();
+    }
+    if let Some(last) = points.last_mut() {
+        match change {
+            Change::LongerValues => last.values.push(BabyBear4::ONE)?,
+            Change::QueriedPoint => last.point = element([2_013_265_890, 0, 0, 0]),
+            _ => {},
         }
     }
-    assert_eq!(rt;
-        refusal(rt.alloc(), claims.as_slice(), openings.as_slice())?.as_str(),
-        "InputError(RootMismatch)"
-    );
+    if let Change::ConstantValues = change {
+        for opened in points {
+            for value in &mut opened.values {
+                *value = element([1011, 0, 0, 0]);
+            }
+        }
+    }
+    Ok(())
+}
+
+/// What is claimed and opened, with that change.
+fn changed(alloc: Global, change: Change) -> Result<(Vec<Claim>, Vec<Opening>), Fail> {
+    let (mut claims, mut openings) = one_commitment(alloc, &[7, 8])?;
+    for opening in &mut openings {
+        for set in &mut opening.opened_values {
+            change_rows(set, change);
+        }
+    }
+    for claim in &mut claims {
+        for matrix in &mut claim.matrices {
+            change_points(&mut matrix.points, change)?;
+        }
+    }
+    Ok((claims, openings))
+}
+
+/// The refusal of what is claimed and opened, with that change.
+fn refusal_of(alloc: Global, change: Change) -> Result<String, Fail> {
+    let (claims, openings) = changed(alloc, change)?;
+    refusal(alloc, &[1], claims.as_slice(), openings.as_slice())
+}
+
+#[test]
+fn refuses_rows_that_are_not_the_commitments(rt: HostRuntime) -> Result<(), Fail> {
+    let rows = [
+        (
+            Change::NoRows,
+            "BatchOpenedValuesCountMismatch { batch: 0, expected: 1, got: 0 }",
+        ),
+        (Change::OtherRows, "InputError(RootMismatch)"),
+    ];
+    for (change, expected) in rows {
+        assert_eq!(rt; refusal_of(rt.alloc(), change)?.as_str(), expected);
+    }
     Ok(())
 }
 
@@ -317,38 +427,26 @@ fn refuses_rows_that_are_not_the_commitments(rt: HostRuntime) -> Result<(), Fail
 fn refuses_claims_without_points_and_of_another_number_of_values(
     rt: HostRuntime,
 ) -> Result<(), Fail> {
-    let (claims, openings) = one_commitment(rt.alloc(), &[])?;
-    assert_eq!(rt;
-        refusal(rt.alloc(), claims.as_slice(), openings.as_slice())?.as_str(),
-        "MatrixWithoutOpeningPoints { batch: 0, matrix: 0 }"
-    );
-    let (mut claims, openings) = one_commitment(rt.alloc(), &[7, 8])?;
-    for claim in &mut claims {
-        for matrix in &mut claim.matrices {
-            if let Some(last) = matrix.points.last_mut() {
-                last.values.push(BabyBear4::ONE)?;
-            }
-        }
+    let rows = [
+        (
+            Change::NoPoints,
+            "MatrixWithoutOpeningPoints { batch: 0, matrix: 0 }",
+        ),
+        (
+            Change::LongerValues,
+            "PointEvaluationCountMismatch { batch: 0, matrix: 0, point: 1, expected: 1, got: 2 }",
+        ),
+    ];
+    for (change, expected) in rows {
+        assert_eq!(rt; refusal_of(rt.alloc(), change)?.as_str(), expected);
     }
-    assert_eq!(rt;
-        refusal(rt.alloc(), claims.as_slice(), openings.as_slice())?.as_str(),
-        "PointEvaluationCountMismatch { batch: 0, matrix: 0, point: 1, expected: 1, got: 2 }"
-    );
     Ok(())
 }
 
 #[test]
 fn refuses_a_claimed_point_that_is_read(rt: HostRuntime) -> Result<(), Fail> {
-    let (mut claims, openings) = one_commitment(rt.alloc(), &[7, 8])?;
-    for claim in &mut claims {
-        for matrix in &mut claim.matrices {
-            if let Some(last) = matrix.points.last_mut() {
-                last.point = element([2_013_265_890, 0, 0, 0]);
-            }
-        }
-    }
     assert_eq!(rt;
-        refusal(rt.alloc(), claims.as_slice(), openings.as_slice())?.as_str(),
+        refusal_of(rt.alloc(), Change::QueriedPoint)?.as_str(),
         "OpeningPointMatchesQueryPoint { batch: 0, matrix: 0, point: 1 }"
     );
     Ok(())
@@ -356,25 +454,14 @@ fn refuses_a_claimed_point_that_is_read(rt: HostRuntime) -> Result<(), Fail> {
 
 #[test]
 fn asks_constants_for_a_sum_of_zero(rt: HostRuntime) -> Result<(), Fail> {
-    let (mut claims, openings) = one_commitment(rt.alloc(), &[7])?;
-    assert_eq!(rt;
-        refusal(rt.alloc(), claims.as_slice(), openings.as_slice())?.as_str(),
-        "FinalPolyMismatch"
-    );
-    for claim in &mut claims {
-        for matrix in &mut claim.matrices {
-            for opened in &mut matrix.points {
-                for value in &mut opened.values {
-                    *value = element([1011, 0, 0, 0]);
-                }
-            }
-        }
-    }
-    let sums = answer(rt.alloc(), 1, &[1], openings.as_slice(), claims.as_slice())?
-        .ok()
-        .ok_or("refused")?;
-    assert_eq!(rt; sums.len(), 1);
+    let text = refusal_of(rt.alloc(), Change::Nothing)?;
+    assert_eq!(rt; text.as_str(), "FinalPolyMismatch");
+    let (claims, openings) = changed(rt.alloc(), Change::ConstantValues)?;
+    let sums = sums_of(rt.alloc(), 1, &[1], openings.as_slice(), claims.as_slice())?;
+    let [sums] = sums.as_slice() else {
+        return Err(Fail::new("not one position"));
+    };
     let zero: [(usize, BabyBear4); 1] = [(1, BabyBear4::ZERO)];
-    assert_eq!(rt; sums[0].as_slice(), zero.as_slice());
+    assert_eq!(rt; sums.as_slice(), zero.as_slice());
     Ok(())
 }

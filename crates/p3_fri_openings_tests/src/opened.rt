@@ -46,70 +46,98 @@ pub(crate) fn opened(
     Ok((values, denominators))
 }
 
-/// All values, in order.
-pub(crate) fn flat(
+/// The values of columns: of each round's each matrix, at each point one.
+pub(crate) fn values_of(
     alloc: Global,
-    values: &OpenedValues<BabyBear4>,
-) -> Result<Vec<BabyBear4>, AllocError> {
-    let mut all = Vec::new(alloc);
-    for round in values {
-        for matrix in round {
-            for point in matrix {
-                for value in point {
-                    all.push(*value)?;
-                }
-            }
-        }
+    rounds: &[&[&[u64]]],
+) -> Result<OpenedValues<BabyBear4>, AllocError> {
+    let mut all = Vec::with_capacity(alloc, rounds.len())?;
+    for matrices in rounds {
+        all.push(values_of_round(alloc, *matrices)?)?;
     }
     Ok(all)
 }
 
+fn values_of_round(
+    alloc: Global,
+    matrices: &[&[u64]],
+) -> Result<Vec<Vec<Vec<BabyBear4>>>, AllocError> {
+    let mut all = Vec::with_capacity(alloc, matrices.len())?;
+    for values in matrices {
+        let mut points = Vec::with_capacity(alloc, values.len())?;
+        for value in *values {
+            points.push(elements(alloc, &[*value])?)?;
+        }
+        all.push(points)?;
+    }
+    Ok(all)
+}
+
+/// Columns, extended with blowup 2.
+fn columns(alloc: Global, each: &[&[u64]]) -> Result<Vec<RowMajorMatrix<BabyBear>>, Fail> {
+    let mut all = Vec::with_capacity(alloc, each.len())?;
+    for column in each {
+        all.push(extended(alloc, 1, *column)?)?;
+    }
+    Ok(all)
+}
+
+/// Lists of points.
+fn points_of(alloc: Global, each: &[&[u64]]) -> Result<Vec<Vec<BabyBear4>>, AllocError> {
+    let mut all = Vec::with_capacity(alloc, each.len())?;
+    for points in each {
+        all.push(elements(alloc, *points)?)?;
+    }
+    Ok(all)
+}
+
+/// How many points the coset has, and how many inverse differences stand for each point.
+fn sizes(
+    alloc: Global,
+    denominators: &Denominators<BabyBear, BabyBear4>,
+) -> Result<(usize, Vec<usize>), AllocError> {
+    let mut all = Vec::with_capacity(alloc, denominators.entries.len())?;
+    for entry in &denominators.entries {
+        all.push(entry.inverses.len())?;
+    }
+    Ok((denominators.coset.len(), all))
+}
+
 #[test]
 fn a_column_at_points_in_their_order(rt: HostRuntime) -> Result<(), Fail> {
-    let alloc = rt.alloc();
-    let matrices = vec![in alloc; extended(alloc, 1, &TWO_MINUS_X)?]?;
-    let points = vec![in alloc; elements(alloc, &[5, 7])?]?;
+    let matrices = columns(rt.alloc(), &[&TWO_MINUS_X])?;
+    let points = points_of(rt.alloc(), &[&[5, 7]])?;
     let rounds = [OpeningRound {
         matrices: &matrices,
         points: &points,
     }];
-    let (values, denominators) = opened(alloc, &rounds)?;
-    assert_eq!(rt; values.len(), 1);
-    assert_eq!(rt; values[0].len(), 1);
-    assert_eq!(rt; values[0][0].len(), 2);
-    let wanted = elements(alloc, &[2_013_265_918, 2_013_265_916])?;
-    assert_eq!(rt; flat(alloc, &values)?.as_slice(), wanted.as_slice());
-    assert_eq!(rt; denominators.entries.len(), 2);
+    let (values, denominators) = opened(rt.alloc(), &rounds)?;
+    let expected = values_of(rt.alloc(), &[&[&[2_013_265_918, 2_013_265_916]]])?;
+    assert_eq!(rt; (values, denominators.entries.len()), (expected, 2));
     Ok(())
 }
 
 #[test]
 fn a_constant_at_any_point(rt: HostRuntime) -> Result<(), Fail> {
-    let alloc = rt.alloc();
-    let matrices = vec![in alloc; extended(alloc, 1, &[9])?]?;
-    let points = vec![in alloc; elements(alloc, &[2, 0])?]?;
+    let matrices = columns(rt.alloc(), &[&[9]])?;
+    let points = points_of(rt.alloc(), &[&[2, 0]])?;
     let rounds = [OpeningRound {
         matrices: &matrices,
         points: &points,
     }];
-    let (values, _) = opened(alloc, &rounds)?;
-    let wanted = elements(alloc, &[9, 9])?;
-    assert_eq!(rt; flat(alloc, &values)?.as_slice(), wanted.as_slice());
+    let (values, _) = opened(rt.alloc(), &rounds)?;
+    assert_eq!(rt; values, values_of(rt.alloc(), &[&[&[9, 9]]])?);
     Ok(())
 }
 
 #[test]
 fn rounds_and_matrices_in_their_order(rt: HostRuntime) -> Result<(), Fail> {
-    let alloc = rt.alloc();
-    let none: Vec<RowMajorMatrix<BabyBear>> = Vec::new(alloc);
-    let no_points: Vec<Vec<BabyBear4>> = Vec::new(alloc);
-    let first = vec![in alloc;
-        extended(alloc, 1, &SQUARE)?,
-        extended(alloc, 1, &TWO_MINUS_X)?,
-    ]?;
-    let first_points = vec![in alloc; elements(alloc, &[5])?, elements(alloc, &[5, 7])?]?;
-    let second = vec![in alloc; extended(alloc, 1, &TWO_MINUS_X)?]?;
-    let second_points = vec![in alloc; elements(alloc, &[7])?]?;
+    let none = columns(rt.alloc(), &[])?;
+    let no_points = points_of(rt.alloc(), &[])?;
+    let first = columns(rt.alloc(), &[&SQUARE, &TWO_MINUS_X])?;
+    let first_points = points_of(rt.alloc(), &[&[5], &[5, 7]])?;
+    let second = columns(rt.alloc(), &[&TWO_MINUS_X])?;
+    let second_points = points_of(rt.alloc(), &[&[7]])?;
     let rounds = [
         OpeningRound {
             matrices: &none,
@@ -124,55 +152,65 @@ fn rounds_and_matrices_in_their_order(rt: HostRuntime) -> Result<(), Fail> {
             points: &second_points,
         },
     ];
-    let (values, denominators) = opened(alloc, &rounds)?;
-    assert_eq!(rt; values.len(), 3);
-    assert_eq!(rt; values[0].len(), 0);
-    assert_eq!(rt; values[1].len(), 2);
-    assert_eq!(rt; values[2].len(), 1);
-    let wanted = elements(alloc, &[25, 2_013_265_918, 2_013_265_916, 2_013_265_916])?;
-    assert_eq!(rt; flat(alloc, &values)?.as_slice(), wanted.as_slice());
-    assert_eq!(rt; denominators.coset.len(), 8);
-    assert_eq!(rt; denominators.entries.len(), 2);
-    assert_eq!(rt; denominators.entries[0].inverses.len(), 8);
-    assert_eq!(rt; denominators.entries[1].inverses.len(), 4);
+    let (values, denominators) = opened(rt.alloc(), &rounds)?;
+    let expected = values_of(
+        rt.alloc(),
+        &[
+            &[],
+            &[&[25], &[2_013_265_918, 2_013_265_916]],
+            &[&[2_013_265_916]],
+        ],
+    )?;
+    let (coset, inverses) = sizes(rt.alloc(), &denominators)?;
+    assert_eq!(rt;
+        (values, coset, inverses.as_slice()),
+        (expected, 8, [8, 4].as_slice())
+    );
     Ok(())
+}
+
+/// The only point of these denominators, if each of its differences to the coset's points is the
+/// inverse of what stands for it.
+fn inverted_point(denominators: &Denominators<BabyBear, BabyBear4>) -> Option<BabyBear4> {
+    let [entry] = denominators.entries.as_slice() else {
+        return None;
+    };
+    for (coset_point, inverse) in denominators.coset.iter().zip(&entry.inverses) {
+        if (entry.point - BabyBear4::from_base(*coset_point)) * *inverse != BabyBear4::ONE {
+            return None;
+        }
+    }
+    Some(entry.point)
 }
 
 #[test]
 fn one_point_of_several_heights(rt: HostRuntime) -> Result<(), Fail> {
     let alloc = rt.alloc();
-    let two = extended(alloc, 0, &[9, 9])?;
-    let eight = extended(alloc, 0, &[4, 4, 4, 4, 4, 4, 4, 4])?;
-    let matrices = vec![in alloc; extended(alloc, 0, &[9])?, two, eight]?;
-    let five = elements(alloc, &[5])?;
-    let points = vec![in alloc; five, elements(alloc, &[5])?, elements(alloc, &[5])?]?;
+    let matrices = vec![in alloc;
+        extended(alloc, 0, &[9])?,
+        extended(alloc, 0, &[9, 9])?,
+        extended(alloc, 0, &[4, 4, 4, 4, 4, 4, 4, 4])?,
+    ]?;
+    let points = points_of(alloc, &[&[5], &[5], &[5]])?;
     let rounds = [OpeningRound {
         matrices: &matrices,
         points: &points,
     }];
     let (values, denominators) = opened(alloc, &rounds)?;
     // A matrix that is lower than the blowup stands for no polynomial.
-    let wanted = elements(alloc, &[0, 9, 4])?;
-    assert_eq!(rt; flat(alloc, &values)?.as_slice(), wanted.as_slice());
-    assert_eq!(rt; denominators.coset.len(), 8);
-    assert_eq!(rt; denominators.entries.len(), 1);
-    assert_eq!(rt; denominators.entries[0].point, element(5));
-    assert_eq!(rt; denominators.entries[0].inverses.len(), 8);
-    for i in 0..8 {
-        let difference = element(5) - BabyBear4::from_base(denominators.coset[i]);
-        assert_eq!(rt;
-            difference * denominators.entries[0].inverses[i],
-            BabyBear4::ONE
-        );
-    }
+    assert_eq!(rt; values, values_of(alloc, &[&[&[0], &[9], &[4]]])?);
+    let (coset, inverses) = sizes(alloc, &denominators)?;
+    assert_eq!(rt;
+        (coset, inverses.as_slice(), inverted_point(&denominators)),
+        (8, [8].as_slice(), Some(element(5)))
+    );
     Ok(())
 }
 
 #[test]
 fn the_generator_lies_in_each_coset(rt: HostRuntime) -> Result<(), Fail> {
-    let alloc = rt.alloc();
-    let matrices = vec![in alloc; extended(alloc, 1, &TWO_MINUS_X)?]?;
-    let points = vec![in alloc; elements(alloc, &[31])?]?;
+    let matrices = columns(rt.alloc(), &[&TWO_MINUS_X])?;
+    let points = points_of(rt.alloc(), &[&[31]])?;
     let rounds = [OpeningRound {
         matrices: &matrices,
         points: &points,

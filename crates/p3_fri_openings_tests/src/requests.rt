@@ -1,6 +1,6 @@
 //! Rounds of requests to open data that a tree of SHA-256 commits to.
 
-use crate::opened::{elements, flat, opened};
+use crate::opened::{elements, opened, values_of};
 use crate::rounds::extended;
 use p3_commit::{Mmcs, Sha256Mmcs, Sha256ProverData};
 use p3_field::{BabyBear, BabyBear4};
@@ -35,8 +35,7 @@ fn a_request_opens_its_data(rt: HostRuntime) -> Result<(), Fail> {
     })?;
     let rounds = rounds_of_requests::<BabyBear, BabyBear4, Scheme>(alloc, &scheme, &requests)?;
     let (values, _) = opened(alloc, &rounds)?;
-    let wanted = elements(alloc, &[2_013_265_916, 2_013_265_918])?;
-    assert_eq!(rt; values.len(), 1);
-    assert_eq!(rt; flat(alloc, &values)?.as_slice(), wanted.as_slice());
+    let expected = values_of(alloc, &[&[&[2_013_265_916, 2_013_265_918]]])?;
+    assert_eq!(rt; values, expected);
     Ok(())
 }

@@ -87,22 +87,18 @@ fn refusal(alloc: Global, parameters: &Parameters) -> Result<Option<FriProverErr
 
 #[test]
 fn work_without_a_witness_is_named_by_its_phase(rt: HostRuntime) -> Result<(), Fail> {
-    let alloc = rt.alloc();
-    let mut parameters = plain_parameters();
-    assert!(rt; refusal(alloc, &parameters)? == None);
-    parameters.query_proof_of_work_bits = 3;
-    assert!(rt;
-        refusal(alloc, &parameters)?
-            == Some(FriProverError::NoPowWitness {
-                phase: PowPhase::Query,
-            })
-    );
-    parameters.commit_proof_of_work_bits = 3;
-    assert!(rt;
-        refusal(alloc, &parameters)?
-            == Some(FriProverError::NoPowWitness {
-                phase: PowPhase::CommitPhase,
-            })
-    );
+    let in_query = FriProverError::NoPowWitness {
+        phase: PowPhase::Query,
+    };
+    let in_round = FriProverError::NoPowWitness {
+        phase: PowPhase::CommitPhase,
+    };
+    let rows = [(0, 0, None), (0, 3, Some(in_query)), (3, 3, Some(in_round))];
+    for (commit_bits, query_bits, expected) in rows {
+        let mut parameters = plain_parameters();
+        parameters.commit_proof_of_work_bits = commit_bits;
+        parameters.query_proof_of_work_bits = query_bits;
+        assert_eq!(rt; refusal(rt.alloc(), &parameters)?, expected);
+    }
     Ok(())
 }

@@ -219,18 +219,29 @@ fn proved_column(
     Ok((proof, prover, claims(alloc, commitment)?))
 }
 
+/// Whether a new verifier accepts the proof, and whether it ends as the prover.
+fn verified(
+    alloc: Global,
+    parameters: &Parameters,
+    claims: &[Claim],
+    proof: &Proof,
+    prover: &Sha256Challenger,
+) -> Result<(bool, bool), Fail> {
+    let mut verifier = Sha256Challenger::new();
+    let accepted = is_accepted(alloc, parameters, 3, claims, proof, &mut verifier)?;
+    Ok((accepted, verifier == *prover))
+}
+
 #[test]
 fn two_minus_the_point_is_proved_and_verified(rt: HostRuntime) -> Result<(), Fail> {
     let alloc = rt.alloc();
     let parameters = plain_parameters();
     let (mut proof, prover, claims) = proved_column(alloc, &parameters)?;
     assert_eq!(rt; proof.final_poly.as_slice(), &[constant(2013265920)][..]);
-    let mut verifier = Sha256Challenger::new();
-    assert!(rt; is_accepted(alloc, &parameters, 3, &claims, &proof, &mut verifier)?);
-    assert!(rt; prover == verifier);
+    let honest = verified(alloc, &parameters, &claims, &proof, &prover)?;
     proof.final_poly[0] = constant(1);
-    let mut verifier = Sha256Challenger::new();
-    assert!(rt; !is_accepted(alloc, &parameters, 3, &claims, &proof, &mut verifier)?);
+    let changed = verified(alloc, &parameters, &claims, &proof, &prover)?;
+    assert_eq!(rt; (honest, changed.0), ((true, true), false));
     Ok(())
 }
 
@@ -241,40 +252,39 @@ fn a_word_is_proved_with_work(rt: HostRuntime) -> Result<(), Fail> {
     parameters.commit_proof_of_work_bits = 3;
     parameters.query_proof_of_work_bits = 3;
     let (mut proof, prover, claims) = proved_column(alloc, &parameters)?;
-    assert_eq!(rt; proof.commit_pow_witnesses.len(), 1);
-    let mut verifier = Sha256Challenger::new();
-    assert!(rt; is_accepted(alloc, &parameters, 3, &claims, &proof, &mut verifier)?);
-    assert!(rt; prover == verifier);
+    let honest = verified(alloc, &parameters, &claims, &proof, &prover)?;
     proof.query_pow_witness = proof.query_pow_witness + BabyBear::ONE;
-    let mut verifier = Sha256Challenger::new();
-    assert!(rt; !is_accepted(alloc, &parameters, 3, &claims, &proof, &mut verifier)?);
+    let changed = verified(alloc, &parameters, &claims, &proof, &prover)?;
+    assert_eq!(rt;
+        (proof.commit_pow_witnesses.len(), honest, changed.0),
+        (1, (true, true), false)
+    );
     Ok(())
+}
+
+/// Why the prover refuses that word with these parameters, at three extra bits.
+fn refusal(
+    alloc: Global,
+    parameters: &Parameters,
+    challenger: &mut Sha256Challenger,
+) -> Result<Option<FriProverError>, Fail> {
+    let (_commitment, data) = committed_column(alloc)?;
+    Ok(prove(alloc, parameters, 3, word(alloc)?, 2, &data, challenger)?.err())
 }
 
 #[test]
 fn a_low_word_is_refused_before_the_challenger_is_touched(rt: HostRuntime) -> Result<(), Fail> {
-    let alloc = rt.alloc();
     let mut parameters = plain_parameters();
     parameters.log_final_poly_len = 2;
-    let (_commitment, data) = committed_column(alloc)?;
     let mut challenger = Sha256Challenger::new();
-    let refusal = prove(
-        alloc,
-        &parameters,
-        3,
-        word(alloc)?,
-        2,
-        &data,
-        &mut challenger,
-    )?
-    .err();
-    assert!(rt;
-        refusal
-            == Some(FriProverError::InputHeightTooSmall {
-                log_input_height: 2,
-                log_final_height: 3,
-            })
+    let refusal = refusal(rt.alloc(), &parameters, &mut challenger)?;
+    let too_small = FriProverError::InputHeightTooSmall {
+        log_input_height: 2,
+        log_final_height: 3,
+    };
+    assert_eq!(rt;
+        (refusal, challenger == Sha256Challenger::new()),
+        (Some(too_small), true)
     );
-    assert!(rt; challenger == Sha256Challenger::new());
     Ok(())
 }

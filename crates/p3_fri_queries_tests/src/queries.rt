@@ -281,6 +281,29 @@ fn refusal_of(alloc: Global, queries: Queries) -> Result<String, Fail> {
     }
 }
 
+/// A set of one row for each of these.
+fn row_sets(
+    alloc: Global,
+    rows: &[&[Coefficients]],
+) -> Result<Vec<Vec<Vec<BabyBear4>>>, AllocError> {
+    let mut sets = Vec::with_capacity(alloc, rows.len())?;
+    for row in rows {
+        sets.push(vec![in alloc; elements(alloc, *row)?]?)?;
+    }
+    Ok(sets)
+}
+
+/// The indices of the rows that each round opens, and those rows.
+fn expected_rounds(
+    alloc: Global,
+) -> Result<(Vec<Vec<usize>>, Vec<Vec<Vec<Vec<BabyBear4>>>>), AllocError> {
+    let first = row_sets(alloc, &[&FIRST_WORD[12..14], &FIRST_WORD[6..8]])?;
+    let second = row_sets(alloc, &[&SECOND_WORD[6..8], &SECOND_WORD[2..4]])?;
+    let rows = vec![in alloc; first, second]?;
+    let indices = vec![in alloc; vec![in alloc; 6, 3]?, vec![in alloc; 3, 1]?]?;
+    Ok((indices, rows))
+}
+
 #[test]
 fn folds_two_queries_through_two_rounds(rt: HostRuntime) -> Result<(), Fail> {
     let queries = honest_queries(rt.alloc())?;
@@ -288,30 +311,11 @@ fn folds_two_queries_through_two_rounds(rt: HostRuntime) -> Result<(), Fail> {
         Ok(folded) => folded,
         Err(text) => return Err(Fail::new(text)),
     };
-    let [first_indices, second_indices] = folded.group_indices_by_round.as_slice() else {
-        return Err(Fail::new("not two rounds"));
-    };
-    assert_eq!(rt; first_indices.as_slice(), [6, 3].as_slice());
-    assert_eq!(rt; second_indices.as_slice(), [3, 1].as_slice());
-    let [first_rows, second_rows] = folded.rows_by_round.as_slice() else {
-        return Err(Fail::new("not two rounds"));
-    };
-    let [_, set] = first_rows.as_slice() else {
-        return Err(Fail::new("not two queries"));
-    };
-    let [row] = set.as_slice() else {
-        return Err(Fail::new("not one matrix"));
-    };
-    let expected = elements(rt.alloc(), &FIRST_WORD[6..8])?;
-    assert_eq!(rt; row.as_slice(), expected.as_slice());
-    let [set, _] = second_rows.as_slice() else {
-        return Err(Fail::new("not two queries"));
-    };
-    let [row] = set.as_slice() else {
-        return Err(Fail::new("not one matrix"));
-    };
-    let expected = elements(rt.alloc(), &SECOND_WORD[6..8])?;
-    assert_eq!(rt; row.as_slice(), expected.as_slice());
+    let (indices, rows) = expected_rounds(rt.alloc())?;
+    assert_eq!(rt;
+        (folded.group_indices_by_round, folded.rows_by_round),
+        (indices, rows)
+    );
     Ok(())
 }
 

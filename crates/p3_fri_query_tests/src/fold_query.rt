@@ -203,8 +203,7 @@ fn folds_one_round(rt: HostRuntime) -> Result<(), Fail> {
             log_final_height: 3,
         },
     )?;
-    assert_eq!(rt; folded.value, element([11, 0, 0, 0]));
-    assert_eq!(rt; folded.index, 0);
+    assert_eq!(rt; (folded.value, folded.index), (element([11, 0, 0, 0]), 0));
     Ok(())
 }
 
@@ -248,84 +247,106 @@ fn folds_the_second_query_through_two_rounds(rt: HostRuntime) -> Result<(), Fail
             log_final_height: 1,
         },
     )?;
-    assert_eq!(rt;
-        folded.value,
-        element([637_939_203, 1_822_635_683, 640_347_774, 1_290_870_708])
-    );
-    assert_eq!(rt; folded.index, 1);
-    assert_eq!(rt; folded.indices(0), [6].as_slice());
-    assert_eq!(rt; folded.indices(1), [1].as_slice());
+    let last = element([637_939_203, 1_822_635_683, 640_347_774, 1_290_870_708]);
+    assert_eq!(rt; (folded.value, folded.index), (last, 1));
     let first = elements(rt.alloc(), &[[3, 1, 4, 1], [5, 9, 2, 6]])?;
-    assert_eq!(rt; folded.row(0), first.as_slice());
     let after_one = [406_626_105, 1_748_892_583, 336_956_766, 739_345_294];
     let second = elements(
         rt.alloc(),
         &[[1, 0, 2, 0], [2, 7, 1, 8], after_one, [4, 0, 0, 1]],
     )?;
-    assert_eq!(rt; folded.row(1), second.as_slice());
+    assert_eq!(rt;
+        (
+            folded.indices(0),
+            folded.row(0),
+            folded.indices(1),
+            folded.row(1)
+        ),
+        (
+            [6].as_slice(),
+            first.as_slice(),
+            [1].as_slice(),
+            second.as_slice()
+        )
+    );
     Ok(())
 }
 
 #[test]
 fn refuses_schedules(rt: HostRuntime) -> Result<(), Fail> {
     let inputs = [(4, [0, 0, 0, 0])];
-    assert_eq!(rt;
-        refusal(rt.alloc(), &[0], &inputs, 1)?.as_str(),
-        "FoldScheduleArityOutOfRange { round: 0, log_arity: 0 }"
-    );
-    assert_eq!(rt;
-        refusal(rt.alloc(), &[1, 64], &inputs, 1)?.as_str(),
-        "FoldScheduleArityOutOfRange { round: 1, log_arity: 64 }"
-    );
-    assert_eq!(rt;
-        refusal(rt.alloc(), &[2, 2], &inputs, 1)?.as_str(),
-        "FoldScheduleTooLong { total_log_reduction: 4, log_global_max_height: 4, \
-log_final_height: 1 }"
-    );
-    assert_eq!(rt;
-        refusal(rt.alloc(), &[1], &inputs, 3)?.as_str(),
-        "FinalFoldHeightMismatch { expected: 3, got: 4 }"
-    );
+    let rows: [(&[usize], usize, &str); 4] = [
+        (
+            &[0],
+            1,
+            "FoldScheduleArityOutOfRange { round: 0, log_arity: 0 }",
+        ),
+        (
+            &[1, 64],
+            1,
+            "FoldScheduleArityOutOfRange { round: 1, log_arity: 64 }",
+        ),
+        (
+            &[2, 2],
+            1,
+            "FoldScheduleTooLong { total_log_reduction: 4, log_global_max_height: 4, \
+log_final_height: 1 }",
+        ),
+        (&[1], 3, "FinalFoldHeightMismatch { expected: 3, got: 4 }"),
+    ];
+    for (schedule, log_final_height, expected) in rows {
+        let text = refusal(rt.alloc(), schedule, &inputs, log_final_height)?;
+        assert_eq!(rt; text.as_str(), expected);
+    }
     Ok(())
 }
 
 #[test]
 fn refuses_openings(rt: HostRuntime) -> Result<(), Fail> {
-    let query = Query {
-        query: 1,
-        index: 0,
-        betas: &[[7, 0, 0, 0]],
-        schedule: &[1],
-        openings: &[&[&[[3, 0, 0, 0]]]],
-        inputs: &[(4, [0, 0, 0, 0])],
-        log_final_height: 3,
-    };
-    assert_eq!(rt;
-        refusal_of(rt.alloc(), &query)?.as_str(),
-        "CommitPhaseQueryCountMismatch { round: 0, expected: 2, got: 1 }"
-    );
-    let longer = Query {
-        query: 0,
-        openings: &[&[&[[3, 0, 0, 0], [3, 0, 0, 0]]]],
-        ..query
-    };
-    assert_eq!(rt;
-        refusal_of(rt.alloc(), &longer)?.as_str(),
-        "SiblingValuesLengthMismatch { round: 0, expected: 1, got: 2 }"
-    );
+    let rows: [(usize, &[Coefficients], &str); 2] = [
+        (
+            1,
+            &[[3, 0, 0, 0]],
+            "CommitPhaseQueryCountMismatch { round: 0, expected: 2, got: 1 }",
+        ),
+        (
+            0,
+            &[[3, 0, 0, 0], [3, 0, 0, 0]],
+            "SiblingValuesLengthMismatch { round: 0, expected: 1, got: 2 }",
+        ),
+    ];
+    for (query, siblings, expected) in rows {
+        let refused = Query {
+            query,
+            index: 0,
+            betas: &[[7, 0, 0, 0]],
+            schedule: &[1],
+            openings: &[&[siblings]],
+            inputs: &[(4, [0, 0, 0, 0])],
+            log_final_height: 3,
+        };
+        assert_eq!(rt; refusal_of(rt.alloc(), &refused)?.as_str(), expected);
+    }
     Ok(())
 }
 
 #[test]
 fn refuses_inputs(rt: HostRuntime) -> Result<(), Fail> {
-    assert_eq!(rt;
-        refusal(rt.alloc(), &[], &[], 4)?.as_str(),
-        "MissingInitialReducedOpening { expected: 4 }"
-    );
-    assert_eq!(rt;
-        refusal(rt.alloc(), &[], &[(3, [0, 0, 0, 0])], 4)?.as_str(),
-        "InitialReducedOpeningHeightMismatch { expected: 4, got: 3 }"
-    );
+    let rows: [(&[(usize, Coefficients)], &str); 2] = [
+        (&[], "MissingInitialReducedOpening { expected: 4 }"),
+        (
+            &[(3, [0, 0, 0, 0])],
+            "InitialReducedOpeningHeightMismatch { expected: 4, got: 3 }",
+        ),
+    ];
+    for (inputs, expected) in rows {
+        assert_eq!(rt; refusal(rt.alloc(), &[], inputs, 4)?.as_str(), expected);
+    }
+    Ok(())
+}
+
+#[test]
+fn refuses_inputs_that_are_left(rt: HostRuntime) -> Result<(), Fail> {
     let query = Query {
         query: 0,
         index: 0,

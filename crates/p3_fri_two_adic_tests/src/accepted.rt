@@ -113,20 +113,23 @@ fn final_poly(alloc: Global, setting: Setting, first: BabyBear4) -> Result<Vec<B
     Ok(coefficients)
 }
 
-/// What came of an opening, and what should have: `same` is whether both challengers are equal.
-#[derive(Drop)]
-struct Outcome {
-    values: Vec<BabyBear4>,
-    expected_values: Vec<BabyBear4>,
-    arities: Vec<usize>,
-    final_poly: Vec<BabyBear4>,
-    expected_final_poly: Vec<BabyBear4>,
-    answer: String,
-    same: bool,
+/// What comes of an opening: its values, the arities of its rounds, its final polynomial, the
+/// verifier's answer, and whether both challengers end equal.
+type Outcome = (Vec<BabyBear4>, Vec<usize>, Vec<BabyBear4>, String, bool);
+
+/// What the row says that comes of it, where that is the final polynomial's constant.
+fn expected_of(alloc: Global, row: Row<'_>, first: BabyBear4) -> Result<Outcome, Fail> {
+    Ok((
+        constants(alloc, row.values)?,
+        Vec::from_slice(alloc, row.arities)?,
+        final_poly(alloc, row.setting, first)?,
+        format!(in alloc; "accepted")?,
+        true,
+    ))
 }
 
-/// What comes of a row.
-fn come_of(alloc: Global, row: Row<'_>) -> Result<Outcome, Fail> {
+/// What comes of a row, and what it says that does.
+fn come_of(alloc: Global, row: Row<'_>) -> Result<(Outcome, Outcome), Fail> {
     let opened = open_well(alloc, row.setting, row.batches, row.points)?;
     let replayed = replayed(alloc, row.setting, row.log_heights, &opened)?;
     let first = constant_of(row.last, replayed.alpha, &replayed.betas);
@@ -138,15 +141,15 @@ fn come_of(alloc: Global, row: Row<'_>) -> Result<Outcome, Fail> {
     } = opened;
     let mut verifier = Sha256Challenger::new();
     let answer = answer(alloc, row.setting, claims, &proof, &mut verifier)?;
-    Ok(Outcome {
-        values: flat(alloc, &values)?,
-        expected_values: constants(alloc, row.values)?,
-        arities: arities(alloc, &proof)?,
-        final_poly: Vec::from_slice(alloc, &proof.final_poly)?,
-        expected_final_poly: final_poly(alloc, row.setting, first)?,
+    let found = (
+        flat(alloc, &values)?,
+        arities(alloc, &proof)?,
+        proof.final_poly,
         answer,
-        same: verifier == challenger,
-    })
+        verifier == challenger,
+    );
+    let expected = expected_of(alloc, row, first)?;
+    Ok((found, expected))
 }
 
 #[test]
@@ -222,12 +225,8 @@ fn one_commitment_is_opened(rt: HostRuntime) -> Result<(), Fail> {
         },
     ];
     for row in rows {
-        let outcome = come_of(rt.alloc(), row)?;
-        assert_eq!(rt; outcome.values, outcome.expected_values);
-        assert_eq!(rt; outcome.arities.as_slice(), row.arities);
-        assert_eq!(rt; outcome.final_poly, outcome.expected_final_poly);
-        assert_eq!(rt; outcome.answer.as_str(), "accepted");
-        assert!(rt; outcome.same);
+        let (found, expected) = come_of(rt.alloc(), row)?;
+        assert_eq!(rt; found, expected);
     }
     Ok(())
 }
@@ -273,12 +272,8 @@ fn several_matrices_are_opened(rt: HostRuntime) -> Result<(), Fail> {
         },
     ];
     for row in rows {
-        let outcome = come_of(rt.alloc(), row)?;
-        assert_eq!(rt; outcome.values, outcome.expected_values);
-        assert_eq!(rt; outcome.arities.as_slice(), row.arities);
-        assert_eq!(rt; outcome.final_poly, outcome.expected_final_poly);
-        assert_eq!(rt; outcome.answer.as_str(), "accepted");
-        assert!(rt; outcome.same);
+        let (found, expected) = come_of(rt.alloc(), row)?;
+        assert_eq!(rt; found, expected);
     }
     Ok(())
 }

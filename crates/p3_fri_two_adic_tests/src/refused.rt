@@ -10,8 +10,7 @@ fn a_point_of_the_coset_is_refused(rt: HostRuntime) -> Result<(), Fail> {
     let first = "PointInEvaluationDomain { round: 0, matrix: 0, point: 0 }";
     for column in [[9].as_slice(), LINE.as_slice(), SQUARE.as_slice()] {
         let (text, unmoved) = refusal(rt.alloc(), plain(1), &[&[column]], &[&[&[31]]])?;
-        assert_eq!(rt; text.as_str(), first);
-        assert!(rt; unmoved);
+        assert_eq!(rt; (text.as_str(), unmoved), (first, true));
     }
     let (text, unmoved) = refusal(
         rt.alloc(),
@@ -20,10 +19,12 @@ fn a_point_of_the_coset_is_refused(rt: HostRuntime) -> Result<(), Fail> {
         &[&[&[5]], &[&[5], &[7, 5, 31]]],
     )?;
     assert_eq!(rt;
-        text.as_str(),
-        "PointInEvaluationDomain { round: 1, matrix: 1, point: 2 }"
+        (text.as_str(), unmoved),
+        (
+            "PointInEvaluationDomain { round: 1, matrix: 1, point: 2 }",
+            true
+        )
     );
-    assert!(rt; unmoved);
     Ok(())
 }
 
@@ -56,8 +57,7 @@ fn heights_are_tested_before_points(rt: HostRuntime) -> Result<(), Fail> {
     ];
     for (setting, point, expected) in rows {
         let (text, unmoved) = refusal(rt.alloc(), setting, &[&[&[1, 1]]], &[&[&[point]]])?;
-        assert_eq!(rt; text.as_str(), expected);
-        assert!(rt; unmoved);
+        assert_eq!(rt; (text.as_str(), unmoved), (expected, true));
     }
     Ok(())
 }

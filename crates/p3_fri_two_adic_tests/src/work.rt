@@ -50,21 +50,25 @@ fn answer_in(alloc: Global, setting: Setting, opened: Opened) -> Result<String, 
     answer(alloc, setting, claims, &proof, &mut challenger)
 }
 
+/// What the verifier answers to the opening with its witness, and to the one with another.
+fn answers_of(alloc: Global, phase: PowPhase) -> Result<(String, String), Fail> {
+    let opened = open_well(alloc, worked(phase), &[&[&LINE]], &[&[&[5]]])?;
+    let honest = answer_in(alloc, worked(phase), opened)?;
+    let other = with_another_witness(alloc, phase)?;
+    let altered = answer_in(alloc, worked(phase), other)?;
+    Ok((honest, altered))
+}
+
 #[test]
 fn witnesses_that_do_not_pass_are_named(rt: HostRuntime) -> Result<(), Fail> {
-    let alloc = rt.alloc();
     let phases = [
         (PowPhase::Batch, "InvalidPowWitness(Batch)"),
         (PowPhase::CommitPhase, "InvalidPowWitness(CommitPhase)"),
         (PowPhase::Query, "InvalidPowWitness(Query)"),
     ];
     for (phase, expected) in phases {
-        let opened = open_well(alloc, worked(phase), &[&[&LINE]], &[&[&[5]]])?;
-        let text = answer_in(alloc, worked(phase), opened)?;
-        assert_eq!(rt; text.as_str(), "accepted");
-        let altered = with_another_witness(alloc, phase)?;
-        let text = answer_in(alloc, worked(phase), altered)?;
-        assert_eq!(rt; text.as_str(), expected);
+        let (honest, altered) = answers_of(rt.alloc(), phase)?;
+        assert_eq!(rt; (honest.as_str(), altered.as_str()), ("accepted", expected));
     }
     Ok(())
 }

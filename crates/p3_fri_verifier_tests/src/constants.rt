@@ -2,10 +2,11 @@
 //! zero, since every quotient is.
 
 use crate::answers::{
-    Claims, Domain, Inputs, Proof, answer, challenger_after, constant, plain_parameters,
+    Claims, Domain, Inputs, Parameters, Proof, answer, challenger_after, constant, plain_parameters,
 };
 use crate::commitments::{committed, matrix_of, opened};
 use crate::honest::drawn_indices;
+use p3_challenger::Sha256Challenger;
 use p3_commit::{CommitmentOpening, MatrixOpening, PointOpening};
 use p3_field::{BabyBear, BabyBear4, Field, TwoAdicMultiplicativeCoset};
 use p3_fri_relation::proof::{BatchMultiOpening, FriProof};
@@ -56,39 +57,33 @@ fn proof_of_nines(alloc: Global, indices: &[usize]) -> Result<([u8; 32], Proof),
     Ok((commitment, proof))
 }
 
+/// The indices that the transcript of that proof draws after the number 1, and the challenger after
+/// it.
+fn replayed(
+    alloc: Global,
+    parameters: &Parameters,
+) -> Result<(Vec<usize>, Sha256Challenger), Fail> {
+    let mut challenger = challenger_after(1);
+    let final_poly = [BabyBear4::ZERO];
+    let indices = drawn_indices(alloc, parameters, &[], 1, &[], &final_poly, &mut challenger)?;
+    Ok((indices, challenger))
+}
+
 #[test]
 fn a_constant_column_is_accepted(rt: HostRuntime) -> Result<(), Fail> {
-    let alloc = rt.alloc();
     let parameters = plain_parameters();
-    let mut replayed = challenger_after(1);
-    let indices = drawn_indices(
-        alloc,
-        &parameters,
-        &[],
-        1,
-        &[],
-        &[BabyBear4::ZERO],
-        &mut replayed,
-    )?;
-    let (commitment, proof) = proof_of_nines(alloc, indices.as_slice())?;
-    let mut challenger = challenger_after(1);
-    let claims = claims_of(alloc, commitment, Some(9))?;
-    assert_eq!(rt;
-        answer(alloc, &parameters, &proof, &mut challenger, &claims)?.as_str(),
-        "accepted"
-    );
-    assert!(rt; challenger == replayed);
-    let mut challenger = challenger_after(1);
-    let wrong = claims_of(alloc, commitment, Some(8))?;
-    assert_eq!(rt;
-        answer(alloc, &parameters, &proof, &mut challenger, &wrong)?.as_str(),
-        "FinalPolyMismatch"
-    );
-    let mut challenger = challenger_after(1);
-    let unclaimed = claims_of(alloc, commitment, None)?;
-    assert_eq!(rt;
-        answer(alloc, &parameters, &proof, &mut challenger, &unclaimed)?.as_str(),
-        "MatrixWithoutOpeningPoints { batch: 0, matrix: 0 }"
-    );
+    let (indices, last) = replayed(rt.alloc(), &parameters)?;
+    let (commitment, proof) = proof_of_nines(rt.alloc(), indices.as_slice())?;
+    let rows = [
+        (Some(9), "accepted"),
+        (Some(8), "FinalPolyMismatch"),
+        (None, "MatrixWithoutOpeningPoints { batch: 0, matrix: 0 }"),
+    ];
+    for (value, expected) in rows {
+        let claims = claims_of(rt.alloc(), commitment, value)?;
+        let mut challenger = challenger_after(1);
+        let text = answer(rt.alloc(), &parameters, &proof, &mut challenger, &claims)?;
+        assert_eq!(rt; (text.as_str(), challenger == last), (expected, true));
+    }
     Ok(())
 }

@@ -2,8 +2,11 @@
 
 ghost use Rattle.std.specs.Prelude.{◌<◌};
 
+#[cfg(test)]
 mod arithmetic;
+#[cfg(test)]
 mod field;
+#[cfg(test)]
 mod packing;
 
 /// An element of BabyBear, as of a field for which no lanes are known.

@@ -64,3 +64,15 @@ pub(crate) fn numbers_of(
     }
     Ok(numbers)
 }
+
+/// The numbers of each of these matrices, row by row.
+pub(crate) fn numbers_of_all(
+    alloc: Global,
+    matrices: &[RowMajorMatrix<BabyBear>],
+) -> Result<Vec<Vec<u64>>, AllocError> {
+    let mut all = Vec::with_capacity(alloc, matrices.len())?;
+    for matrix in matrices {
+        all.push(numbers_of(alloc, matrix)?)?;
+    }
+    Ok(all)
+}

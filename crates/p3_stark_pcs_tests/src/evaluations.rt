@@ -54,9 +54,10 @@ fn values_on(
 fn a_column_on_a_larger_coset(rt: HostRuntime) -> Result<(), Fail> {
     for no_random in [false, true] {
         let values = values_on(rt.alloc(), &[(1, &[1, 3])], 0, coset(31, 2)?, no_random)?;
-        assert_eq!(rt; values.len(), 4);
-        assert_eq!(rt; values.get(0).copied(), Some(2_013_265_892));
-        assert_eq!(rt; values.get(2).copied(), Some(33));
+        assert_eq!(rt;
+            (values.len(), values.get(0).copied(), values.get(2).copied()),
+            (4, Some(2_013_265_892), Some(33))
+        );
     }
     Ok(())
 }

@@ -116,8 +116,7 @@ fn committed_words_are_opened(rt: HostRuntime) -> Result<(), Fail> {
             Err(_) => return Err(Fail::new("memory was refused")),
         };
         let (value, same) = open_at_five(rt.alloc(), commitment, &mut data, index, None)?;
-        assert_eq!(rt; value, Some(constant(2_013_265_918)));
-        assert!(rt; same);
+        assert_eq!(rt; (value, same), (Some(constant(2_013_265_918)), true));
     }
     Ok(())
 }
@@ -136,8 +135,7 @@ fn preprocessed_columns_are_opened(rt: HostRuntime) -> Result<(), Fail> {
             Err(_) => return Err(Fail::new("memory was refused")),
         };
         let (value, same) = open_at_five(rt.alloc(), commitment, &mut data, Some(0), index)?;
-        assert_eq!(rt; value, Some(constant(2_013_265_918)));
-        assert!(rt; same);
+        assert_eq!(rt; (value, same), (Some(constant(2_013_265_918)), true));
     }
     Ok(())
 }

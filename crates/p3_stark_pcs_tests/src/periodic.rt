@@ -46,29 +46,35 @@ fn table_of(
 #[test]
 fn a_periodic_column_of_two(rt: HostRuntime) -> Result<(), Fail> {
     let table = table_of(rt.alloc(), &[&[1, 3]])??;
-    assert_eq!(rt; table.height(), 4);
-    assert_eq!(rt; table.get(0, 0), Some(BabyBear::from_u64(2_012_342_402)));
-    assert_eq!(rt; table.get(2, 0), Some(BabyBear::from_u64(923_523)));
-    assert_eq!(rt; table.get(14, 0), Some(BabyBear::from_u64(923_523)));
-    assert_eq!(rt; table.get(0, 1), None);
+    let sum = Some(BabyBear::from_u64(923_523));
+    assert_eq!(rt;
+        (
+            table.height(),
+            table.get(0, 0),
+            table.get(2, 0),
+            table.get(14, 0),
+            table.get(0, 1)
+        ),
+        (4, Some(BabyBear::from_u64(2_012_342_402)), sum, sum, None)
+    );
     Ok(())
 }
 
 #[test]
 fn a_periodic_constant(rt: HostRuntime) -> Result<(), Fail> {
     let table = table_of(rt.alloc(), &[&[5]])??;
-    assert_eq!(rt; table.height(), 2);
-    for row in 0..2 {
-        assert_eq!(rt; table.get(row, 0), Some(BabyBear::from_u64(5)));
-    }
+    let five = Some(BabyBear::from_u64(5));
+    assert_eq!(rt;
+        (table.height(), table.get(0, 0), table.get(1, 0)),
+        (2, five, five)
+    );
     Ok(())
 }
 
 #[test]
 fn no_periodic_columns(rt: HostRuntime) -> Result<(), Fail> {
     let table = table_of(rt.alloc(), &[])??;
-    assert_eq!(rt; table.height(), 0);
-    assert_eq!(rt; table.get(0, 0), None);
+    assert_eq!(rt; (table.height(), table.get(0, 0)), (0, None));
     Ok(())
 }
 
@@ -78,15 +84,17 @@ fn a_malformed_periodic_column(rt: HostRuntime) -> Result<(), Fail> {
         column: 0,
         length: 3,
     };
-    assert_eq!(rt; table_of(rt.alloc(), &[&[1, 2, 3]])?.err(), Some(three));
     let sixteen = PeriodicError::DoesNotDivide {
         column: 1,
         length: 16,
         trace_height: 8,
     };
-    assert_eq!(rt;
-        table_of(rt.alloc(), &[&[5], &[1; 16], &[]])?.err(),
-        Some(sixteen)
-    );
+    let rows: [(&[&[u64]], PeriodicError); 2] = [
+        (&[&[1, 2, 3]], three),
+        (&[&[5], &[1; 16], &[]], sixteen),
+    ];
+    for (columns, expected) in rows {
+        assert_eq!(rt; table_of(rt.alloc(), columns)?.err(), Some(expected));
+    }
     Ok(())
 }

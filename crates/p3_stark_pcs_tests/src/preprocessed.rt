@@ -1,6 +1,6 @@
 //! Preprocessed columns committed to, and random ones of which there are none.
 
-use crate::columns::{columns, coset, numbers_of};
+use crate::columns::{columns, coset, numbers_of_all};
 use crate::quotients::WORD;
 use crate::scheme::{Inputs, Scheme, scheme};
 use p3_challenger::Sha256Challenger;
@@ -21,11 +21,9 @@ fn preprocessed_columns_are_extended(rt: HostRuntime) -> Result<(), Fail> {
         return Err(Fail::new("memory was refused"));
     };
     let mmcs = Inputs::new();
-    let matrices = mmcs.get_matrices(&data);
-    assert_eq!(rt; matrices.len(), 1);
-    for matrix in matrices {
-        assert_eq!(rt; numbers_of(rt.alloc(), matrix)?.as_slice(), WORD.as_slice());
-    }
+    let numbers = numbers_of_all(rt.alloc(), mmcs.get_matrices(&data))?;
+    let word = vec![in rt.alloc(); Vec::from_slice(rt.alloc(), &WORD)?]?;
+    assert_eq!(rt; numbers, word);
     Ok(())
 }
 

@@ -1,6 +1,6 @@
 //! Words that quotients are extended to, and committed to as they are.
 
-use crate::columns::{columns, numbers_of};
+use crate::columns::{columns, numbers_of_all};
 use crate::scheme::{Inputs, Scheme, scheme};
 use p3_challenger::Sha256Challenger;
 use p3_commit::Mmcs;
@@ -25,20 +25,14 @@ fn words_of(alloc: Global, each: &[(u64, &[u64])]) -> Result<(Vec<Vec<u64>>, Vec
     let Ok(ldes) = extended else {
         return Err(Fail::new("memory was refused"));
     };
-    let mut words = Vec::new(alloc);
-    for matrix in &ldes {
-        words.push(numbers_of(alloc, matrix)?)?;
-    }
+    let words = numbers_of_all(alloc, &ldes)?;
     let committed = <Scheme as UnivariateStarkPcs<BabyBear4, Sha256Challenger>>::commit_ldes(
         &scheme, alloc, ldes,
     );
     let Ok((_, data)) = committed else {
         return Err(Fail::new("memory was refused"));
     };
-    let mut kept = Vec::new(alloc);
-    for matrix in Inputs::new().get_matrices(&data) {
-        kept.push(numbers_of(alloc, matrix)?)?;
-    }
+    let kept = numbers_of_all(alloc, Inputs::new().get_matrices(&data))?;
     Ok((words, kept))
 }
 
@@ -46,14 +40,12 @@ fn words_of(alloc: Global, each: &[(u64, &[u64])]) -> Result<(Vec<Vec<u64>>, Vec
 #[test]
 fn quotients_are_extended_from_their_cosets(rt: HostRuntime) -> Result<(), Fail> {
     let (words, kept) = words_of(rt.alloc(), &[(1, &[1, 3]), (3, &[2_013_265_920, 5])])?;
-    assert_eq!(rt; words.len(), 2);
-    for word in &words {
-        assert_eq!(rt; word.as_slice(), WORD.as_slice());
-    }
-    assert_eq!(rt; kept.len(), 2);
-    for word in &kept {
-        assert_eq!(rt; word.as_slice(), WORD.as_slice());
-    }
+    let word = Vec::from_slice(rt.alloc(), &WORD)?;
+    let both = vec![in rt.alloc(); Vec::from_slice(rt.alloc(), &WORD)?, word]?;
+    assert_eq!(rt;
+        (words.as_slice(), kept.as_slice()),
+        (both.as_slice(), both.as_slice())
+    );
     Ok(())
 }
 
@@ -66,8 +58,7 @@ fn heights_go_from_one_to_the_two_adicity(rt: HostRuntime) -> Result<(), Fail> {
     let most = <Scheme as UnivariateStarkPcs<BabyBear4, Sha256Challenger>>::log_max_trace_height(
         &scheme,
     );
-    assert_eq!(rt; least, 0);
-    assert_eq!(rt; most, 27);
-    assert!(rt; !<Scheme as UnivariateStarkPcs<BabyBear4, Sha256Challenger>>::ZK);
+    let zk = <Scheme as UnivariateStarkPcs<BabyBear4, Sha256Challenger>>::ZK;
+    assert_eq!(rt; (least, most, zk), (0, 27, false));
     Ok(())
 }

@@ -1,5 +1,5 @@
 use Rattle.std.proofs.Common.{◌≡◌, All, vec_len}
-use Rattle.p3_converse_tests.proofs.tests.comes_back.Given as goal
+use Rattle.p3_converse_tests.proofs.tests.behind_folds.Given as goal
 
 abbrev pub invariant-loop-beta : goal.invariant-loop-beta
 invariant-loop-beta g l = record {
