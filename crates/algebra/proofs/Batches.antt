@@ -11,7 +11,8 @@ use Rattle.algebra.specs.Quotients.{quotients, batch, Opened, values_at, row_at,
 use Rattle.algebra.specs.Quotients.{IsOpenedOff, quotient_word}
 use Rattle.algebra.proofs.Powers.{pow-add}
 use Rattle.algebra.proofs.Division.{length-quotient}
-use Rattle.algebra.proofs.Values.{add_lists, length-add_lists, val-nil, val-cons, val-add}
+use Rattle.algebra.specs.Lists.{add_lists}
+use Rattle.algebra.proofs.Values.{length-add_lists, val-nil, val-cons, val-add}
 use Rattle.algebra.proofs.Values.{val-scale, val-padded}
 use Rattle.algebra.proofs.Lifting.{lifted_coset_pt, lifted_value, lifted_off_coset}
 use Rattle.algebra.proofs.Quotients.{quotient_values}

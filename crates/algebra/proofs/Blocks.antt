@@ -6,7 +6,8 @@ use Rattle.std.proofs.Common.{replicate, refl, sym, ap, ap₂, ◌∙◌, arith,
 use Rattle.std.proofs.lemmas.List.{take-append-drop, length-take-le, length-map, length-replicate}
 use Rattle.algebra.specs.Field.{FieldOps, IsRing, pow}
 use Rattle.algebra.specs.Polynomial.{val}
-use Rattle.algebra.proofs.Values.{add_lists, length-add_lists, val-nil, val-cons, val-append}
+use Rattle.algebra.specs.Lists.{add_lists}
+use Rattle.algebra.proofs.Values.{length-add_lists, val-nil, val-cons, val-append}
 use Rattle.algebra.proofs.Values.{val-add, val-scale, val-zeros}
 use Rattle.algebra.proofs.Lists.{Each}
 

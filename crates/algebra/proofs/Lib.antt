@@ -36,3 +36,5 @@ pub mod Batches
 pub mod PointTest
 pub mod Barycentric
 pub mod Nested
+pub mod QuotientMasks
+pub mod LiftedMasks

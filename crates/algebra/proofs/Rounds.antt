@@ -12,7 +12,8 @@ use Rattle.algebra.specs.Words.{word, IsWord}
 use Rattle.algebra.specs.Folds.{folded_by, LowersDegrees}
 use Rattle.algebra.specs.Rounds.{Round, total_log_arity, rolled_in, entry_of, folded_entry}
 use Rattle.algebra.specs.Rounds.{after_round, after_rounds, words_folded, AreLowDegreeWords}
-use Rattle.algebra.proofs.Values.{add_lists, length-add_lists, val-add, val-scale}
+use Rattle.algebra.specs.Lists.{add_lists}
+use Rattle.algebra.proofs.Values.{length-add_lists, val-add, val-scale}
 use Rattle.algebra.proofs.Lists.{length-tabulate, get_or-tabulate, tabulate-equal}
 
 pub total-nil : (A : Type 0) → total_log_arity {A = A} [] ≡ 0

@@ -2,6 +2,7 @@
 use Rattle.std.proofs.Common.{◌≡◌, ℕ, zero, suc, List, [], ◌∷◌, ◌++◌, length, map, get_or}
 use Rattle.std.proofs.Common.{replicate, refl, sym, ap, ap₂, ◌∙◌}
 use Rattle.algebra.specs.Field.{FieldOps, IsRing, IsHomomorphism, pow, sub}
+use Rattle.algebra.specs.Lists.{add_lists}
 use Rattle.algebra.specs.Polynomial.{sum_below, val}
 use Rattle.algebra.proofs.RingLaws.{mul_zero, mul_left_comm}
 use Rattle.algebra.proofs.Ring.{◌:+◌, ◌:-◌, ◌:*◌, ◌:=◌, ring, o, :1}
@@ -13,12 +14,7 @@ module _ {A : Type 0} (F : FieldOps A) where
   infixl 70 ◌⊗◌
   open F use {add as ◌⊕◌, mul as ◌⊗◌}
 
-  -- entry by entry, as far as both lists go
-  abbrev pub add_lists : List A → List A → List A
-  add_lists [] ds = []
-  add_lists (c ∷ cs) [] = []
-  add_lists (c ∷ cs) (d ∷ ds) = (c ⊕ d) ∷ add_lists cs ds
-
+  -- the differences of the entries at each place that both lists have
   abbrev pub sub_lists : List A → List A → List A
   sub_lists [] ds = []
   sub_lists (c ∷ cs) [] = []

@@ -1,4 +1,5 @@
 pub mod Field
+pub mod Lists
 pub mod Polynomial
 pub mod PolynomialProduct
 pub mod QuarticExtension
@@ -16,6 +17,7 @@ pub mod Rounds
 pub mod Nested
 pub mod Reduction
 pub mod Periodic
+pub mod RecombinedQuotients
 pub mod Laws
 pub mod CosetLaws
 pub mod FoldLaws

@@ -5,6 +5,7 @@
 #![tactic(auto)]
 
 ghost use Rattle.algebra.specs.Laws.{InterpolantExists, InterpolantIsUnique, RootsMakeZero};
+ghost use Rattle.algebra.specs.RecombinedQuotients.{MasksCancel};
 ghost use Rattle.algebra.specs.Laws.{CosetWords};
 ghost use Rattle.algebra.specs.CosetLaws.{QuotientsAreValues, QuotientsCompress, BatchesAreWords};
 ghost use Rattle.algebra.specs.CosetLaws.{OpeningsAreWords, ValuesFromCosets, PointsAreTested};
@@ -92,4 +93,10 @@ pub fn reduction_law<A>()
 /// repeat after the period's share of it.
 pub fn periodic_law<A>()
     ensures { PeriodicValuesRepeat A }
+{}
+
+/// Chunks of a quotient: masks change nothing of what the chunks recombine to, at any point of an
+/// extension, where the last chunk's mask makes up for those of the others.
+pub fn quotient_masks_law<A, E>()
+    ensures { MasksCancel A E }
 {}

@@ -53,20 +53,28 @@ fn fold_of_four(index: usize) -> BabyBear
     fold_pair(point(2 * index, 5), BabyBear::from_u64(49), left, right)
 }
 
-#[test]
-fn folds_in_steps(rt: HostRuntime) {
+/// The first row of four whose fold isn't 7 times its point.
+fn first_wrong_fold() -> Option<usize> {
     // of the blocks of four coefficients 0 and X the second has the value 7 at 7
     for index in 0..16 {
-        let value = BabyBear::from_u64(7) * point(index, 4);
-        assert_eq!(rt; fold_of_four(index), value, "row {index}");
+        if fold_of_four(index) != BabyBear::from_u64(7) * point(index, 4) {
+            return Some(index);
+        }
     }
-    folds_law::<BabyBear>();
+    None
 }
 
 #[test]
-fn a_chain_ends_at_the_final_polynomial(rt: HostRuntime) {
-    // the cubic over eight points, folded by two at 5, with 2 + 7 X over four points rolled in: the
-    // blocks' values 8 and 9, and 25 times 2 and 7
+fn folds_in_steps(rt: HostRuntime) {
+    let wrong = first_wrong_fold();
+    assert!(rt; wrong.is_none(), "row {wrong:?}");
+    folds_law::<BabyBear>();
+}
+
+/// The first row of the cubic over eight points, folded by two at 5, with `2 + 7 X` over four
+/// points rolled in, at which the final polynomial has another value.
+fn first_wrong_end() -> Option<usize> {
+    // the blocks' values 8 and 9, and 25 times 2 and 7
     for row in 0..4 {
         let s = point(2 * row, 3);
         let folded = fold_pair(
@@ -76,38 +84,55 @@ fn a_chain_ends_at_the_final_polynomial(rt: HostRuntime) {
             cubic(point(2 * row + 1, 3)),
         );
         let input = line(2, 7, point(row, 2));
-        let last = folded + BabyBear::from_u64(25) * input;
-        assert_eq!(rt; last, line(58, 184, point(row, 2)), "row {row}");
+        if folded + BabyBear::from_u64(25) * input != line(58, 184, point(row, 2)) {
+            return Some(row);
+        }
     }
+    None
+}
+
+#[test]
+fn a_chain_ends_at_the_final_polynomial(rt: HostRuntime) {
+    let wrong = first_wrong_end();
+    assert!(rt; wrong.is_none(), "row {wrong:?}");
     rounds_law::<BabyBear>();
+}
+
+/// Whether the cubic modulo `X^2 - 31^2` has its value at `x`, which is this number's.
+fn remainder_has_value(x: BabyBear, number: u64) -> bool {
+    let value = cubic(x);
+    line(3847, 962, x) == value && value == BabyBear::from_u64(number)
 }
 
 #[test]
 fn a_remainder_has_the_values_on_a_coset(rt: HostRuntime) {
-    // the cubic modulo X^2 - 31^2, on the coset of 31 and -31
+    // on the coset of 31 and -31
     let shift = BabyBear::GENERATOR;
-    for (index, x) in [shift, -shift].iter().enumerate() {
-        let value = cubic(*x);
-        let wanted = BabyBear::from_u64(FIRST_COLUMN[index]);
-        assert_eq!(rt; (line(3847, 962, *x), value), (value, wanted));
-    }
+    assert!(rt; remainder_has_value(shift, FIRST_COLUMN[0]));
+    assert!(rt; remainder_has_value(-shift, FIRST_COLUMN[1]));
     reduction_law::<BabyBear>();
+}
+
+/// The values in turn, on sixteen points of shift 31, of the column 1, 3 over eight rows.
+const REPEATED: [u64; 4] = [2012342402, 21214579, 923523, 1992051346];
+
+/// The first of the sixteen points at which the column has another value.
+fn first_wrong_repeat() -> Option<usize> {
+    // the column is 2 - X at 1 and -1, so that it has at x the value 2 - x^4
+    let root = BabyBear::two_adic_generator(4);
+    for index in 0..16 {
+        let x = BabyBear::GENERATOR * root.exp_u64(index as u64);
+        let value = BabyBear::from_u64(2) - x.exp_power_of_2(2);
+        if value != BabyBear::from_u64(REPEATED[index % 4]) {
+            return Some(index);
+        }
+    }
+    None
 }
 
 #[test]
 fn a_periodic_column_repeats(rt: HostRuntime) {
-    // the column 1, 3 is 2 - X at 1 and -1; over eight rows it has at x the value 2 - x^4, on
-    // sixteen points of shift 31 four values in turn
-    let table = [2012342402, 21214579, 923523, 1992051346];
-    for index in 0..16 {
-        let root = BabyBear::two_adic_generator(4);
-        let x = BabyBear::GENERATOR * root.exp_u64(index as u64);
-        let value = BabyBear::from_u64(2) - x.exp_power_of_2(2);
-        assert_eq!(rt;
-            value,
-            BabyBear::from_u64(table[index % 4]),
-            "point {index}"
-        );
-    }
+    let wrong = first_wrong_repeat();
+    assert!(rt; wrong.is_none(), "point {wrong:?}");
     periodic_law::<BabyBear>();
 }

@@ -21,13 +21,7 @@ pub const SECOND_COLUMN: [u64; 8] = [
 
 /// The element of these coefficients, that of one first.
 pub fn element(coefficients: [u64; 4]) -> BabyBear4 {
-    let [constant, linear, quadratic, cubic] = coefficients;
-    BabyBear4::from_coefficients(&[
-        BabyBear::from_u64(constant),
-        BabyBear::from_u64(linear),
-        BabyBear::from_u64(quadratic),
-        BabyBear::from_u64(cubic),
-    ])
+    BabyBear4::from_coefficients(&coefficients.map(BabyBear::from_u64))
 }
 
 /// The summand at `z` of the barycentric sum below which belongs to the point of this index.
@@ -52,23 +46,32 @@ fn barycentric(log_size: usize, z: BabyBear4) -> Option<BabyBear4> {
     Some(coset.vanishing_poly_at_point(z) * size_inverse * sum)
 }
 
+/// Points off the coset, and the values there: at zero, the constant coefficient.
+const OFF_COSET: [([u64; 4], [u64; 4]); 3] = [
+    ([0, 0, 0, 0], [3, 0, 0, 0]),
+    ([7, 0, 0, 0], [549, 0, 0, 0]),
+    ([8, 1, 0, 0], [779, 257, 28, 1]),
+];
+
+/// The first size and point at which the barycentric sum is another value.
+fn first_wrong_sum() -> Option<(usize, [u64; 4])> {
+    for log_size in 2..4 {
+        for (point, wanted) in OFF_COSET {
+            if barycentric(log_size, element(point)) != Some(element(wanted)) {
+                return Some((log_size, point));
+            }
+        }
+    }
+    None
+}
+
 #[test]
 fn values_off_a_coset(rt: HostRuntime) {
-    // at zero, the constant coefficient
-    let at_zero = BabyBear4::from_u64(3);
-    let at_seven = BabyBear4::from_u64(549);
-    let at_generator = element([779, 257, 28, 1]);
-    for log_size in 2..4 {
-        let values = (
-            barycentric(log_size, BabyBear4::ZERO),
-            barycentric(log_size, BabyBear4::from_u64(7)),
-            barycentric(log_size, element([8, 1, 0, 0])),
-        );
-        assert_eq!(rt; values, (Some(at_zero), Some(at_seven), Some(at_generator)));
-    }
+    let wrong = first_wrong_sum();
+    assert!(rt; wrong.is_none(), "{wrong:?}");
     // a point of the coset of eight, off that of four
     let value = barycentric(2, BabyBear4::from_u64(POINTS[5]));
-    assert_eq!(rt; value, Some(BabyBear4::from_u64(FIRST_COLUMN[5])));
+    assert!(rt; value == Some(BabyBear4::from_u64(FIRST_COLUMN[5])));
     barycentric_law::<BabyBear, BabyBear4>();
     value_at_zero_law::<BabyBear, BabyBear4>();
     interpolation_law::<BabyBear4>();

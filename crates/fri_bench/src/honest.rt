@@ -10,11 +10,11 @@ use crate::fault::Fault;
 use crate::instances::{Claims, Domain, Inputs, Parameters, Proof, constant, parameters};
 use crate::openings::{Committed, Opened, commit, matrix_of_values, open};
 use crate::rounds::{commit_each, matrices_of_rounds, prove};
-use p3_commit::{CommitmentOpening, MatrixOpening, Mmcs, PointOpening, Sha256Mmcs};
 use p3_field::{BabyBear, BabyBear4, Field, TwoAdicMultiplicativeCoset};
 use p3_fri_folding::fold_schedule;
 use p3_fri_prover::prover::ProverDataWithOpeningPoints;
 use p3_fri_relation::proof::BatchMultiOpening;
+use p3_mmcs::{CommitmentOpening, MatrixOpening, Mmcs, PointOpening, Sha256Mmcs};
 use std::alloc::Global;
 
 /// The sizes of a proof.

@@ -3,10 +3,10 @@
 ghost use Rattle.std.specs.Prelude.{◌≡◌};
 ghost use Rattle.p3_fri_relation.specs.Views.{parameters_of};
 
-use p3_commit::{CommitmentOpening, Mmcs, Sha256Mmcs, Sha256MmcsError};
 use p3_field::{BabyBear, BabyBear4, ExtensionField, Field, TwoAdicMultiplicativeCoset};
 use p3_fri_folding::{FriParameters, TwoAdicFriFolding};
 use p3_fri_relation::proof::{BatchMultiOpening, FriProof};
+use p3_mmcs::{CommitmentOpening, Mmcs, Sha256Mmcs, Sha256MmcsError};
 
 pub type Inputs = Sha256Mmcs<BabyBear>;
 

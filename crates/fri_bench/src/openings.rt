@@ -3,9 +3,9 @@
 ghost use Rattle.std.specs.Prelude.{◌<◌};
 
 use crate::fault::Fault;
-use p3_commit::{Mmcs, Sha256Mmcs, have_power_heights, indices_are_below, max_height};
 use p3_field::ElementBytes;
 use p3_matrix::{Dimensions, RowMajorMatrix};
+use p3_mmcs::{Mmcs, Sha256Mmcs, have_power_heights, indices_are_below, max_height};
 use std::alloc::{AllocError, Global};
 
 /// A committed matrix.

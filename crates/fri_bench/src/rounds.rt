@@ -2,8 +2,8 @@
 //! of its rounds alone.
 
 ghost use Rattle.std.specs.Prelude.{◌≡◌, ◌<◌, ◌≤◌, ◌^◌, All, vec_len};
-ghost use Rattle.p3_commit.specs.Batch.{max_height, dimensions_of};
-ghost use Rattle.p3_commit.specs.ProverData.{matrices_of};
+ghost use Rattle.p3_mmcs.specs.Batch.{max_height, dimensions_of};
+ghost use Rattle.p3_mmcs.specs.ProverData.{matrices_of};
 ghost use Rattle.p3_fri_relation.specs.Views.{parameters_of};
 ghost use Rattle.p3_fri_prover.specs.Prover.{IsInProverRange};
 
@@ -13,11 +13,11 @@ use crate::fold::elements;
 use crate::instances::{Folding, InputData, Inputs, Parameters, Proof, Rounds, parameters};
 use crate::openings::{Committed, commit, matrix_of_values};
 use p3_challenger::Sha256Challenger;
-use p3_commit::Mmcs;
 use p3_field::{BabyBear, BabyBear4, Field};
 use p3_fri_folding::{TwoAdicFriFolding, fold_schedule};
 use p3_fri_prover::prover::{ProverDataWithOpeningPoints, prove_fri};
 use p3_matrix::RowMajorMatrix;
+use p3_mmcs::Mmcs;
 use std::alloc::Global;
 use std::io;
 use std::marker::PhantomData;

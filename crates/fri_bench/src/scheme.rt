@@ -2,7 +2,7 @@
 //! the verification of that.
 
 ghost use Rattle.std.specs.Prelude.{◌≡◌, ◌<◌, All, IfOk};
-ghost use Rattle.p3_commit.specs.ProverData.{matrices_of};
+ghost use Rattle.p3_mmcs.specs.ProverData.{matrices_of};
 ghost use Rattle.p3_fri_commit.specs.Extension.{FitsDomain};
 ghost use Rattle.p3_fri_openings.specs.Rounds.{HasCoset};
 ghost use Rattle.p3_fri_relation.specs.Views.{parameters_of};
@@ -14,12 +14,12 @@ use crate::fold::elements;
 use crate::instances::{Claims, Domain, InputData, Inputs, Proof, Rounds, parameters};
 use crate::matrices::matrix_of;
 use p3_challenger::Sha256Challenger;
-use p3_commit::Mmcs;
 use p3_dft::Radix2Dit;
 use p3_field::{BabyBear, BabyBear4, Field};
 use p3_fri_two_adic::TwoAdicFriPcs;
 use p3_matrix::RowMajorMatrix;
-use p3_pcs::{Known, OpeningRequest, Pcs, claims_of};
+use p3_mmcs::Mmcs;
+use p3_pcs::{KnownCommitment, OpeningRequest, Pcs, claims_of};
 use std::alloc::Global;
 use std::io;
 use std::time::Instant;
@@ -132,12 +132,12 @@ fn known_of(
     alloc: Global,
     commitment: [u8; 32],
     sizes: SchemeSizes,
-) -> Result<Vec<Known<[u8; 32], Domain>>, Fault> {
+) -> Result<Vec<KnownCommitment<[u8; 32], Domain>>, Fault> {
     let Some(domain) = Domain::new(BabyBear::ONE, sizes.log_height) else {
         return Err(Fault::Sizes);
     };
     let mut known = Vec::new(alloc);
-    known.push(Known {
+    known.push(KnownCommitment {
         commitment,
         domains: vec![in alloc; domain; 1]?,
     })?;

@@ -3,9 +3,9 @@
 ghost use Rattle.std.specs.Prelude.{◌<◌};
 
 use crate::matrices::matrix_of;
-use p3_commit::{Mmcs, Sha256Mmcs};
 use p3_dft::{Radix2Dit, TwoAdicSubgroupDft};
 use p3_field::{BabyBear, PrimeField64};
+use p3_mmcs::{Mmcs, Sha256Mmcs};
 use std::io;
 use std::time::Instant;
 

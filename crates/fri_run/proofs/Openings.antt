@@ -9,7 +9,7 @@ use Rattle.p3_matrix.specs.declared.dense.RowMajorMatrix.{RowMajorMatrix}
 use Rattle.p3_dft.specs.Evaluations.{column}
 use Rattle.p3_dft.proofs.Columns.{Holds}
 use Rattle.p3_dft.proofs.SingleColumns.{column-single}
-use Rattle.p3_pcs.specs.Claims.{both}
+use Rattle.p3_pcs.specs.Claims.{zip_with}
 use Rattle.p3_pcs.specs.Requests.{Held}
 use Rattle.p3_fri_relation.specs.Setting.{Fields}
 use Rattle.p3_fri_openings.proofs.Log2.{log2_is}
@@ -49,18 +49,18 @@ module _ {F E T : Type 0} (f : Fields F E) (d : T) (values : RowMajorMatrix F) (
 
     held_value : (m : Held E) → Extends f shift k values m → m.values_at (f.lift z) ≡ f.lift value ∷ []
     held_value m extends =
-        extends.values_held (f.lift z)
+        extends.values (f.lift z)
         ∙ ap (λ n. values_at f.base f.ext f.lift (tabulate n (λ j. polynomial_on f.base f.root shift k (column f.base values j))) (f.lift z)) holds.columns
         ∙ ap (λ c. val f.ext (map f.lift (polynomial_on f.base f.root shift k c)) (f.lift z) ∷ []) (column-single f.base values (2 ^ k) ys holds)
         ∙ ap (λ v. v ∷ []) (sym (homomorphism-val f.base f.ext f.lift R S H (polynomial_on f.base f.root shift k ys) z))
 
     value_of : (hs : List (Held E)) → AllZip Extended hs ((d, values) ∷ [])
-        → both (λ m zs. map m.values_at zs) hs ((f.lift z ∷ []) ∷ []) ≡ ((f.lift value ∷ []) ∷ []) ∷ []
+        → zip_with (λ m zs. map m.values_at zs) hs ((f.lift z ∷ []) ∷ []) ≡ ((f.lift value ∷ []) ∷ []) ∷ []
     value_of [] e = absurd e
     value_of (m ∷ []) e =
         let here : Extends f shift k values m = subst (λ s. Extends f s k values m) shifted (subst (λ n. Extends f (shift_of d) n values m) sized e.0) in
         ap (λ v. (v ∷ []) ∷ []) (held_value m here)
     value_of (m ∷ n ∷ more) e = absurd e.1
 
-    pub honest_value : both (λ m zs. map m.values_at zs) hs ((point ∷ []) ∷ []) ≡ ((f.lift value ∷ []) ∷ []) ∷ []
-    honest_value = ap (λ p. both (λ m zs. map m.values_at zs) hs ((p ∷ []) ∷ [])) lifted ∙ value_of hs one
+    pub honest_value : zip_with (λ m zs. map m.values_at zs) hs ((point ∷ []) ∷ []) ≡ ((f.lift value ∷ []) ∷ []) ∷ []
+    honest_value = ap (λ p. zip_with (λ m zs. map m.values_at zs) hs ((p ∷ []) ∷ [])) lifted ∙ value_of hs one

@@ -9,13 +9,13 @@ ghost use Rattle.p3_pcs.specs.Claims.{opened_values};
 ghost use Rattle.p3_pcs.specs.Requests.{honest_values};
 
 use p3_challenger::Sha256Challenger;
-use p3_commit::Sha256Mmcs;
 use p3_dft::Radix2Dit;
 use p3_field::{BabyBear, BabyBear4, ExtensionField};
 use p3_fri_core::FriParameters;
 use p3_fri_two_adic::TwoAdicFriPcs;
 use p3_matrix::RowMajorMatrix;
-use p3_pcs::{Known, OpeningRequest, Pcs, Verified, open_and_verify};
+use p3_mmcs::Sha256Mmcs;
+use p3_pcs::{KnownCommitment, OpeningRequest, Pcs, Verified, open_and_verify};
 use std::alloc::{AllocError, Global};
 
 /// The scheme, with the tree over SHA-256 for both commitments.
@@ -62,7 +62,7 @@ fn listed<T: Drop>(alloc: Global, value: T) -> Result<Vec<T>, AllocError>
 fn open_at<EF: Copy, C: Clone, P: Pcs<EF, C>>(
     scheme: &P,
     alloc: Global,
-    known: Known<P::Commitment, P::Domain>,
+    known: KnownCommitment<P::Commitment, P::Domain>,
     committed: &mut P::ProverData,
     point: EF,
     challenger: &mut C,
@@ -74,10 +74,11 @@ fn open_at<EF: Copy, C: Clone, P: Pcs<EF, C>>(
     requires honest { P.IsHonest scheme.now committed.old }
     requires commitment { known.commitment ≡ P.commitment_of committed.old }
     requires sizes { map P.domain_size known.domains.items
-        ≡ map (λ m. m.size) (P.held scheme.now committed.old) }
-    requires one_matrix { length (P.held scheme.now committed.old) ≡ 1 }
+        ≡ map (λ m. m.size) (P.committed_polynomials scheme.now committed.old) }
+    requires one_matrix { length (P.committed_polynomials scheme.now committed.old) ≡ 1 }
     ensures values { IfOk result (λ v. opened_values v.values.items ≡ honest_values
-        (P.held scheme.now) (record { datum = committed.old; points = (point ∷ []) ∷ [] }) ∷ []) }
+        (P.committed_polynomials scheme.now)
+        (record { datum = committed.old; points = (point ∷ []) ∷ [] }) ∷ []) }
     ensures states { IfOk result (λ v. v.challenger ≡ challenger.new) }
 {
     let known = listed(alloc, known)?;
@@ -161,7 +162,7 @@ pub fn open_column(
         Ok(committed) => committed,
         Err(_) => return Err(AllocError),
     };
-    let known = Known {
+    let known = KnownCommitment {
         commitment,
         domains: listed(alloc, domain)?,
     };

@@ -77,30 +77,17 @@ fn counted_bytes() -> [u8; 32] {
 
 /// The element with the coefficients 1, 2, 3, 4.
 fn one_to_four() -> BabyBear4 {
-    BabyBear4::from_coefficients(&[
-        BabyBear::from_u64(1),
-        BabyBear::from_u64(2),
-        BabyBear::from_u64(3),
-        BabyBear::from_u64(4),
-    ])
-}
-
-/// The canonical number of an element's coefficient at this index.
-fn canonical_number(element: BabyBear4, index: usize) -> u64
-    requires { index < 4 }
-{
-    let coefficient: BabyBear = element.coefficient(index);
-    coefficient.as_canonical_u64()
+    BabyBear4::from_coefficients(&[1, 2, 3, 4].map(BabyBear::from_u64))
 }
 
 /// The canonical numbers of an element's coefficients.
-fn canonical_numbers(element: BabyBear4) -> (u64, u64, u64, u64) {
-    (
-        canonical_number(element, 0),
-        canonical_number(element, 1),
-        canonical_number(element, 2),
-        canonical_number(element, 3),
-    )
+fn canonical_numbers(element: BabyBear4) -> [u64; 4] {
+    let mut numbers = [0; 4];
+    for index in 0..4 {
+        let coefficient: BabyBear = element.coefficient(index);
+        numbers[index] = coefficient.as_canonical_u64();
+    }
+    numbers
 }
 
 /// What `draws_after` draws, and the challenger that it leaves.
@@ -127,10 +114,9 @@ fn three_observations_and_two_draws(rt: HostRuntime) {
     challenger.observe(BabyBear::from_u64(2_013_265_918));
     let drawn: BabyBear = challenger.sample();
     let (few, many) = (challenger.sample_bits(10), challenger.sample_bits(63));
-    assert_eq!(rt;
-        (drawn.as_canonical_u64(), few, many),
-        (471_829_860, 213, 533_366_119_835_272_224)
-    );
+    assert!(rt; drawn.as_canonical_u64() == 471_829_860);
+    assert!(rt; few == 213);
+    assert!(rt; many == 533_366_119_835_272_224);
 }
 
 #[test]
@@ -139,21 +125,16 @@ fn extension_elements_are_four_coefficients(rt: HostRuntime) {
     challenger.observe(one_to_four());
     let drawn = canonical_numbers(challenger.sample());
     let (none, many) = (challenger.sample_bits(0), challenger.sample_bits(63));
-    assert_eq!(rt;
-        (drawn, none, many),
-        (
-            (518_917_033, 651_677_193, 600_749_567, 860_355_198),
-            0,
-            6_190_373_925_916_898_611
-        )
-    );
+    assert!(rt; drawn == [518_917_033, 651_677_193, 600_749_567, 860_355_198]);
+    assert!(rt; none == 0);
+    assert!(rt; many == 6_190_373_925_916_898_611);
 }
 
 #[test]
 fn calls_through_bounds(rt: HostRuntime) {
     let mut single = Sha256Challenger::new();
     single.observe_algebra_slice(&[one_to_four()]);
-    assert_eq!(rt; single.sample_bits(63), 1_332_151_426_949_748_124);
+    assert!(rt; single.sample_bits(63) == 1_332_151_426_949_748_124);
     assert!(rt; drawn_by_calls() == drawn_through_bounds());
     run_law::<Sha256Challenger, BabyBear, BabyBear4, [u8; 32]>();
     sha256_challenger_law();
@@ -162,9 +143,8 @@ fn calls_through_bounds(rt: HostRuntime) {
 #[test]
 fn grinds(rt: HostRuntime) -> Result<(), Fail> {
     let challenger = after_five();
-    let few = leaves_what_its_check_leaves(&challenger, 3)?;
-    let many = leaves_what_its_check_leaves(&challenger, 8)?;
-    assert_eq!(rt; (few, many), (true, true));
+    assert!(rt; leaves_what_its_check_leaves(&challenger, 3)?);
+    assert!(rt; leaves_what_its_check_leaves(&challenger, 8)?);
     Ok(())
 }
 
@@ -172,25 +152,16 @@ fn grinds(rt: HostRuntime) -> Result<(), Fail> {
 fn no_bits_leave_the_challenger(rt: HostRuntime) {
     let mut challenger = after_five();
     let found = challenger.grind(0);
-    let passes = challenger.check_witness(0, BabyBear::TWO);
-    assert_eq!(rt;
-        (found, passes, challenger),
-        (Some(BabyBear::ZERO), true, after_five())
-    );
+    assert!(rt; found == Some(BabyBear::ZERO));
+    assert!(rt; challenger.check_witness(0, BabyBear::TWO));
+    assert!(rt; challenger == after_five());
 }
 
 #[test]
 fn finds_the_first_witness(rt: HostRuntime) {
     let mut challenger = after_five();
     let found = challenger.grind(3);
-    let drawn = challenger.sample_bits(63);
-    let other_passes = after_five().check_witness(3, BabyBear::from_u64(11));
-    assert_eq!(rt;
-        (found, drawn, other_passes),
-        (
-            Some(BabyBear::from_u64(12)),
-            2_362_401_643_754_315_182,
-            false
-        )
-    );
+    assert!(rt; found == Some(BabyBear::from_u64(12)));
+    assert!(rt; challenger.sample_bits(63) == 2_362_401_643_754_315_182);
+    assert!(rt; !after_five().check_witness(3, BabyBear::from_u64(11)));
 }

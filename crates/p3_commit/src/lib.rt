@@ -1,18 +1,19 @@
-//! Commitments to batches of matrices, what is claimed of committed matrices, and what an estimate
-//! of soundness reads of a scheme's parameters.
+//! Commitments: the trait of commitments to batches of matrices with its tree over SHA-256, the
+//! traits of polynomial commitment schemes, and the types of periodic columns.
+//!
+//! This crate has no code of its own: it shows the crates below under one name.
 #![tactic(auto)]
 
-pub mod conditions;
-pub mod laws;
-pub mod mmcs;
-pub mod openings;
-pub mod security;
-pub mod sha256_mmcs;
-
-pub use crate::conditions::{have_power_heights, indices_are_below, max_height};
-pub use crate::mmcs::Mmcs;
-pub use crate::openings::{
-    CommitmentOpening, CommitmentWithOpeningPoints, MatrixOpening, OpenedValues, PointOpening,
+pub use p3_mmcs::{
+    CommitmentOpening, CommitmentWithOpeningPoints, FriRegime, GrindingSites, MatrixOpening, Mmcs,
+    OpenedValues, PointOpening, Sha256Mmcs, Sha256MmcsError, Sha256ProverData, have_power_heights,
+    indices_are_below, laws, max_height, mmcs, openings, security, sha256_mmcs,
 };
-pub use crate::security::{FriRegime, GrindingSites};
-pub use crate::sha256_mmcs::{Sha256Mmcs, Sha256MmcsError, Sha256ProverData};
+pub use p3_pcs::{
+    KnownCommitment, OpenAndVerifyError, OpeningRequest, Pcs, Verified, claims_of, open_and_verify,
+};
+pub use p3_periodic::{PeriodicColumns, PeriodicError, PeriodicEvaluator, PeriodicLdeTable};
+pub use p3_stark_pcs::{
+    StarkColumns, StarkError, UnivariateStarkPcs, open_and_verify_with_preprocessing,
+    open_stark_columns,
+};

@@ -4,7 +4,8 @@ use Rattle.std.proofs.Common.{refl, sym, ap, ap₂, ◌∙◌, arith}
 use Rattle.std.proofs.lemmas.List.{take_at, drop_at, get_or-map, get_or_append_left, get_or-append_right}
 use Rattle.algebra.specs.Field.{FieldOps, IsRing, pow}
 use Rattle.algebra.specs.Polynomial.{val, tabulate}
-use Rattle.algebra.proofs.Values.{add_lists, val-nil, val-cons}
+use Rattle.algebra.specs.Lists.{add_lists}
+use Rattle.algebra.proofs.Values.{val-nil, val-cons}
 use Rattle.algebra.proofs.Lists.{tabulate-get_or, tabulate-equal, map-tabulate}
 use Rattle.algebra.proofs.Blocks.{block_sum, val-blocks, val-block_sum}
 use Rattle.p3_converse.specs.Positions.{concatenated, coefficients_at, interleaved}

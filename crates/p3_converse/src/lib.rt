@@ -18,5 +18,5 @@ pub use crate::conditions::{
     log_arity_sum, paths_fit, unfolds_within_range,
 };
 pub use crate::quotient::unquotient;
-pub use crate::tree::{FoldTree, UnfoldedTree, unfold_tree};
-pub use crate::unfolding::{UnfoldedWithInput, unfold, unfold_with_input};
+pub use crate::tree::{FoldTree, unfold_tree};
+pub use crate::unfolding::{unfold, unfold_with_input};

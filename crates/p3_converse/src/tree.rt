@@ -23,15 +23,6 @@ pub enum FoldTree<EF> {
     Node(Vec<(EF, FoldTree<EF>)>),
 }
 
-/// The polynomials behind a word and the inputs that are rolled in where the word is folded.
-#[derive(Debug, Drop)]
-pub struct UnfoldedTree<EF> {
-    /// The word's polynomial.
-    pub word: Vec<EF>,
-    /// The inputs' polynomials, in the order of their rounds.
-    pub inputs: Vec<Vec<EF>>,
-}
-
 /// The polynomials behind a word and its rolled-in inputs, from those that are left after the
 /// last round: the converse of a whole schedule of folds. A round is its log arity and whether
 /// an input is rolled in after it. Wherever a row of values folds, round by round, at each
@@ -39,7 +30,7 @@ pub struct UnfoldedTree<EF> {
 /// each fold, to rows that fold so at the challenges of the later nodes, and at last to the
 /// values of the polynomials at the leaves, the row has one polynomial's values at its own
 /// points, and each input those of one at the points of its round. All of them depend on the
-/// tree alone.
+/// tree alone. The answer is the word's polynomial, and the inputs' in the order of their rounds.
 ///
 /// Every path of the tree is as long as `rounds`; the node of a round has `2^log_arity`
 /// challenges, one more with an input, no two of them equal; the leaves have one length `d`,
@@ -53,7 +44,7 @@ pub fn unfold_tree<EF: Field>(
     alloc: Global,
     rounds: &[(usize, bool)],
     tree: &FoldTree<EF>,
-) -> Result<UnfoldedTree<EF>, AllocError>
+) -> Result<(Vec<EF>, Vec<Vec<EF>>), AllocError>
     requires paths { HasPaths (length rounds.now) (tree_of tree.now) }
     requires betas { HasBetas rounds.now (tree_of tree.now) }
     requires leaves { HasLeaves (leaf_length (tree_of tree.now)) (tree_of tree.now) }
@@ -61,17 +52,14 @@ pub fn unfold_tree<EF: Field>(
     requires log_sum { log_sum rounds.now < 64 }
     requires fits { leaf_length (tree_of tree.now) * 2 ^ log_sum rounds.now < 2 ^ 64 }
     ensures word_length { IfOk result
-        (λ u. vec_len u.word ≡ leaf_length (tree_of tree.now) * 2 ^ log_sum rounds.now) }
-    ensures input_lengths { IfOk result (λ u. map (λ v. vec_len v) u.inputs.items
+        (λ u. vec_len u.0 ≡ leaf_length (tree_of tree.now) * 2 ^ log_sum rounds.now) }
+    ensures input_lengths { IfOk result (λ u. map (λ v. vec_len v) u.1.items
         ≡ map (λ s. leaf_length (tree_of tree.now) * 2 ^ s) (input_logs rounds.now)) }
     ensures values { IfOk result (λ u. IsTreeUnfolding EF.ops rounds.now (tree_of tree.now)
-        u.word.items (lists u.inputs.items)) }
+        u.0.items (lists u.1.items)) }
 {
     match tree {
-        FoldTree::Leaf(poly) => Ok(UnfoldedTree {
-            word: Vec::from_slice(alloc, poly)?,
-            inputs: Vec::new(alloc),
-        }),
+        FoldTree::Leaf(poly) => Ok((Vec::from_slice(alloc, poly)?, Vec::new(alloc))),
         FoldTree::Node(subtrees) => {
             let (log_arity, has_input) = rounds[0];
             let later = &rounds[1..];
@@ -79,9 +67,9 @@ pub fn unfold_tree<EF: Field>(
             let mut polys = Vec::with_capacity(alloc, subtrees.len())?;
             let mut inputs = Vec::new(alloc);
             for subtree in subtrees {
-                let unfolded = unfold_tree(alloc, later, &subtree.1)?;
-                polys.push(unfolded.word)?;
-                inputs = unfolded.inputs;
+                let (word, later_inputs) = unfold_tree(alloc, later, &subtree.1)?;
+                polys.push(word)?;
+                inputs = later_inputs;
             }
             undo_round(alloc, log_arity, has_input, &betas, &polys, inputs)
         }
@@ -96,33 +84,27 @@ fn undo_round<EF: Field>(
     betas: &[EF],
     polys: &[Vec<EF>],
     later: Vec<Vec<EF>>,
-) -> Result<UnfoldedTree<EF>, AllocError>
+) -> Result<(Vec<EF>, Vec<Vec<EF>>), AllocError>
     requires betas { length betas.now ≡ beta_count (log_arity, has_input) }
     requires distinct { AreDistinct betas.now }
     requires as_many { length polys.now ≡ length betas.now }
     requires one_length { All (λ p. vec_len p ≡ common_length polys.now) polys.now }
     requires fits { common_length polys.now * 2 ^ log_arity < 2 ^ 64 }
     ensures word_length { IfOk result
-        (λ u. vec_len u.word ≡ common_length polys.now * 2 ^ log_arity) }
-    ensures input_lengths { IfOk result (λ u. map (λ v. vec_len v) u.inputs.items
+        (λ u. vec_len u.0 ≡ common_length polys.now * 2 ^ log_arity) }
+    ensures input_lengths { IfOk result (λ u. map (λ v. vec_len v) u.1.items
         ≡ with_input has_input (common_length polys.now) (map (λ v. vec_len v) later.items)) }
     ensures undone { IfOk result (λ u. IsRoundUnfolding EF.ops (log_arity, has_input) betas.now
-        (lists polys.now) u.word.items (lists later.items) (lists u.inputs.items)) }
+        (lists polys.now) u.0.items (lists later.items) (lists u.1.items)) }
 {
     if has_input {
-        let unfolded = unfold_with_input(alloc, log_arity, betas, polys)?;
+        let (word, input) = unfold_with_input(alloc, log_arity, betas, polys)?;
         let mut inputs = later;
-        inputs.insert(0, unfolded.input)?;
-        Ok(UnfoldedTree {
-            word: unfolded.word,
-            inputs,
-        })
+        inputs.insert(0, input)?;
+        Ok((word, inputs))
     } else {
         let word = unfold(alloc, log_arity, betas, polys)?;
-        Ok(UnfoldedTree {
-            word,
-            inputs: later,
-        })
+        Ok((word, later))
     }
 }
 

@@ -49,20 +49,11 @@ pub fn unfold<EF: Field>(
     interpolate_positions(alloc, betas, polys, degree_bound, degree_bound * arity)
 }
 
-/// The polynomials behind a word and an input that is rolled in where the word is folded.
-#[derive(Debug, Drop)]
-pub struct UnfoldedWithInput<EF> {
-    /// The word's polynomial.
-    pub word: Vec<EF>,
-    /// The input's polynomial.
-    pub input: Vec<EF>,
-}
-
 /// The same with an input that is rolled in after the fold: wherever a row of `2^log_arity`
 /// values and the value `u` of an input are such that the row's fold at each beta plus
 /// `beta^(2^log_arity) * u` is the value of the polynomial beside it at the row's point in the
 /// folded domain, the row has the values of one polynomial at its own points, and `u` is that of
-/// another at the folded point.
+/// another at the folded point. The answer is the word's polynomial and the input's.
 ///
 /// There are `2^log_arity + 1` betas, no two of them equal, and as many polynomials of one length
 /// `d`, as coefficients, the constant first; the word's polynomial has `d * 2^log_arity`
@@ -75,19 +66,19 @@ pub fn unfold_with_input<EF: Field>(
     log_arity: usize,
     betas: &[EF],
     polys: &[Vec<EF>],
-) -> Result<UnfoldedWithInput<EF>, AllocError>
+) -> Result<(Vec<EF>, Vec<EF>), AllocError>
     requires arity { length betas.now ≡ 2 ^ log_arity + 1 }
     requires distinct { AreDistinct betas.now }
     requires as_many { length polys.now ≡ 2 ^ log_arity + 1 }
     requires one_length { All (λ p. vec_len p ≡ common_length polys.now) polys.now }
     requires fits { common_length polys.now * 2 ^ log_arity < 2 ^ 64 }
     ensures word_length { IfOk result
-        (λ u. vec_len u.word ≡ common_length polys.now * 2 ^ log_arity) }
-    ensures input_length { IfOk result (λ u. vec_len u.input ≡ common_length polys.now) }
+        (λ u. vec_len u.0 ≡ common_length polys.now * 2 ^ log_arity) }
+    ensures input_length { IfOk result (λ u. vec_len u.1 ≡ common_length polys.now) }
     ensures rows { IfOk result (λ u. IsUnfoldingWithInput EF.ops log_arity betas.now
-        (lists polys.now) u.word.items u.input.items) }
+        (lists polys.now) u.0.items u.1.items) }
     ensures one_round { IfOk result (λ u. IsTreeUnfolding EF.ops ((log_arity, true) ∷ [])
-        (one_round betas.now (lists polys.now)) u.word.items (u.input.items ∷ [])) }
+        (one_round betas.now (lists polys.now)) u.0.items (u.1.items ∷ [])) }
 {
     let arity = 1 << log_arity;
     let degree_bound = polys[0].len();
@@ -95,5 +86,5 @@ pub fn unfold_with_input<EF: Field>(
     let input = parts.pop().unwrap();
     let mut word = Vec::with_capacity(alloc, degree_bound * arity)?;
     interleave(&parts, degree_bound, &mut word)?;
-    Ok(UnfoldedWithInput { word, input })
+    Ok((word, input))
 }

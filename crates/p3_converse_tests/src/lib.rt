@@ -2,4 +2,10 @@
 #![tactic(auto)]
 
 #[cfg(test)]
-mod tests;
+mod lists;
+#[cfg(test)]
+mod trees;
+#[cfg(test)]
+mod unfolding;
+#[cfg(test)]
+mod words;

@@ -5,3 +5,5 @@
 mod matrix;
 #[cfg(test)]
 mod transform;
+#[cfg(test)]
+mod wider;

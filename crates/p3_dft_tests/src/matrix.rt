@@ -8,25 +8,20 @@ use std::test::Fail;
 fn reads_rows_and_entries(rt: HostRuntime) -> Result<(), Fail> {
     let values = vec![in rt.alloc(); 1u32, 2, 3, 4, 5, 6]?;
     let matrix = RowMajorMatrix::new(values, 3);
-    assert_eq!(rt; matrix.height(), 2);
+    assert!(rt; matrix.height() == 2);
     let dimensions = Dimensions {
         width: 3,
         height: 2,
     };
-    assert_eq!(rt; (matrix.dimensions(), matrix.width()), (dimensions, 3));
-    assert_eq!(rt;
-        (matrix.row(0), matrix.row(1)),
-        ([1, 2, 3].as_slice(), [4, 5, 6].as_slice())
-    );
-    assert_eq!(rt;
-        (matrix.get(1, 0), matrix.get(1, 3), matrix.get(2, 0)),
-        (Some(4), None, None)
-    );
+    assert!(rt; matrix.dimensions() == dimensions);
+    assert!(rt; matrix.width() == 3);
+    assert!(rt; matrix.row(0) == [1, 2, 3].as_slice());
+    assert!(rt; matrix.row(1) == [4, 5, 6].as_slice());
+    assert!(rt; matrix.get(1, 0) == Some(4));
+    assert!(rt; matrix.get(1, 3).is_none());
+    assert!(rt; matrix.get(2, 0).is_none());
     rows_law(&matrix);
-    assert_eq!(rt;
-        matrix.into_values().as_slice(),
-        [1, 2, 3, 4, 5, 6].as_slice()
-    );
+    assert!(rt; matrix.into_values().as_slice() == [1, 2, 3, 4, 5, 6].as_slice());
     Ok(())
 }
 
@@ -34,13 +29,15 @@ fn reads_rows_and_entries(rt: HostRuntime) -> Result<(), Fail> {
 fn splits_rows(rt: HostRuntime) -> Result<(), Fail> {
     let values = vec![in rt.alloc(); 1u8, 2, 3, 4, 5, 6]?;
     let matrix = RowMajorMatrix::new(values, 2);
-    assert_eq!(rt; matrix.height(), 3);
+    assert!(rt; matrix.height() == 3);
     let (first, others) = matrix.split_rows(1);
-    assert_eq!(rt; (first.width(), first.height(), others.height()), (2, 1, 2));
+    assert!(rt; (first.width(), first.height()) == (2, 1));
+    assert!(rt; others.height() == 2);
     let others = others.to_row_major_matrix(rt.alloc())?;
-    assert_eq!(rt; others.into_values().as_slice(), [3, 4, 5, 6].as_slice());
+    assert!(rt; others.into_values().as_slice() == [3, 4, 5, 6].as_slice());
     let (all, none) = matrix.split_rows(3);
-    assert_eq!(rt; (all.row(2), none.height()), ([5, 6].as_slice(), 0));
+    assert!(rt; all.row(2) == [5, 6].as_slice());
+    assert!(rt; none.height() == 0);
     Ok(())
 }
 
@@ -48,13 +45,10 @@ fn splits_rows(rt: HostRuntime) -> Result<(), Fail> {
 fn reverses_row_indices(rt: HostRuntime) -> Result<(), Fail> {
     let values = vec![in rt.alloc(); 0u64, 1, 10, 11, 20, 21, 30, 31]?;
     let matrix = RowMajorMatrix::new(values, 2);
-    assert_eq!(rt; matrix.height(), 4);
+    assert!(rt; matrix.height() == 4);
     let reversed = matrix.bit_reverse_rows();
-    let width = reversed.width();
-    assert_eq!(rt;
-        (width, reversed.into_values().as_slice()),
-        (2, [0, 1, 20, 21, 10, 11, 30, 31].as_slice())
-    );
+    assert!(rt; reversed.width() == 2);
+    assert!(rt; reversed.into_values().as_slice() == [0, 1, 20, 21, 10, 11, 30, 31].as_slice());
     Ok(())
 }
 
@@ -62,12 +56,9 @@ fn reverses_row_indices(rt: HostRuntime) -> Result<(), Fail> {
 fn reverses_indices_of_eight_rows(rt: HostRuntime) -> Result<(), Fail> {
     let values = vec![in rt.alloc(); 0u32, 1, 2, 3, 4, 5, 6, 7]?;
     let matrix = RowMajorMatrix::new(values, 1);
-    assert_eq!(rt; matrix.height(), 8);
+    assert!(rt; matrix.height() == 8);
     let reversed = matrix.bit_reverse_rows();
-    assert_eq!(rt;
-        reversed.into_values().as_slice(),
-        [0, 4, 2, 6, 1, 5, 3, 7].as_slice()
-    );
+    assert!(rt; reversed.into_values().as_slice() == [0, 4, 2, 6, 1, 5, 3, 7].as_slice());
     Ok(())
 }
 
@@ -75,8 +66,8 @@ fn reverses_indices_of_eight_rows(rt: HostRuntime) -> Result<(), Fail> {
 fn keeps_one_row(rt: HostRuntime) -> Result<(), Fail> {
     let values = vec![in rt.alloc(); 7u32, 9]?;
     let matrix = RowMajorMatrix::new(values, 2);
-    assert_eq!(rt; matrix.height(), 1);
+    assert!(rt; matrix.height() == 1);
     let reversed = matrix.bit_reverse_rows();
-    assert_eq!(rt; reversed.into_values().as_slice(), [7, 9].as_slice());
+    assert!(rt; reversed.into_values().as_slice() == [7, 9].as_slice());
     Ok(())
 }

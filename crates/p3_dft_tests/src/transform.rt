@@ -81,9 +81,8 @@ fn holds_values<F: Field>(
     true
 }
 
-/// Whether the calls on matrices answer the values by Horner's rule, and give back the
-/// coefficients.
-fn matrices_agree<F: TwoAdicField, D: TwoAdicSubgroupDft<F>>(
+/// Whether the transform and the extension of a matrix answer the values by Horner's rule.
+fn values_agree<F: TwoAdicField, D: TwoAdicSubgroupDft<F>>(
     alloc: Global,
     dft: &D,
     log_height: usize,
@@ -98,7 +97,6 @@ fn matrices_agree<F: TwoAdicField, D: TwoAdicSubgroupDft<F>>(
     let root = F::two_adic_generator(log_height);
     let extended_root = F::two_adic_generator(log_height + 2);
     let coefficients = matrix::<F>(alloc, log_height, width)?;
-
     let copy = coefficients.as_view().to_row_major_matrix(alloc)?;
     let values = dft.dft_batch(alloc, copy)?;
     let transformed = holds_values(&coefficients, &values, log_height, F::ONE, root);
@@ -110,12 +108,30 @@ fn matrices_agree<F: TwoAdicField, D: TwoAdicSubgroupDft<F>>(
         shift,
         extended_root,
     );
+    Ok(transformed && stretched)
+}
 
+/// Whether the transform of a matrix to a coset answers the values by Horner's rule, and its
+/// inverse gives back the coefficients.
+fn coset_values_agree<F: TwoAdicField, D: TwoAdicSubgroupDft<F>>(
+    alloc: Global,
+    dft: &D,
+    log_height: usize,
+    width: usize,
+) -> Result<bool, AllocError>
+    requires low { log_height < 10 }
+    requires some { 0 < width }
+    requires narrow { width < 10 }
+    requires within_two_adicity { log_height ≤ F.TWO_ADICITY }
+{
+    let shift = F::GENERATOR;
+    let root = F::two_adic_generator(log_height);
+    let coefficients = matrix::<F>(alloc, log_height, width)?;
     let copy = coefficients.as_view().to_row_major_matrix(alloc)?;
     let coset_values = dft.coset_dft_batch(alloc, copy, shift)?;
     let shifted = holds_values(&coefficients, &coset_values, log_height, shift, root);
     let back = dft.coset_idft_batch(alloc, coset_values, shift)?;
-    Ok(transformed && stretched && shifted && back == coefficients)
+    Ok(shifted && back == coefficients)
 }
 
 /// Whether the extension of one column is that of the matrix of this column alone.
@@ -179,43 +195,43 @@ fn two_coefficients(rt: HostRuntime) -> Result<(), Fail> {
     let dft = Radix2Dit::<BabyBear>::default();
     let numbers = [2, 2013265920].map(BabyBear::from_u64);
     let coefficients = RowMajorMatrix::new(numbers.to_vec(rt.alloc())?, 1);
-    assert_eq!(rt; coefficients.height(), 2);
+    assert!(rt; coefficients.height() == 2);
     let values = dft.dft_batch(rt.alloc(), coefficients)?;
-    assert_eq!(rt; values.height(), 2);
-    assert_eq!(rt;
-        (number_at(&values, 0), number_at(&values, 1)),
-        (Some(1), Some(3))
-    );
+    assert!(rt; values.height() == 2);
+    assert!(rt; number_at(&values, 0) == Some(1));
+    assert!(rt; number_at(&values, 1) == Some(3));
     let extended = dft.coset_lde_batch(rt.alloc(), values, 1, BabyBear::GENERATOR)?;
-    assert_eq!(rt;
-        (
-            extended.height(),
-            number_at(&extended, 0),
-            number_at(&extended, 2)
-        ),
-        (4, Some(2013265892), Some(33))
-    );
+    assert!(rt; extended.height() == 4);
+    assert!(rt; number_at(&extended, 0) == Some(2013265892));
+    assert!(rt; number_at(&extended, 2) == Some(33));
     Ok(())
+}
+
+/// The first call, by its name and the logarithm of the height, that answers something else.
+fn first_wrong_call(alloc: Global) -> Result<Option<(&'static str, usize)>, AllocError> {
+    let dft = Radix2Dit::<BabyBear>::default();
+    for log_height in [0, 1, 3] {
+        for width in [1, 3] {
+            if !values_agree(alloc, &dft, log_height, width)? {
+                return Ok(Some(("values of a matrix", log_height)));
+            }
+            if !coset_values_agree(alloc, &dft, log_height, width)? {
+                return Ok(Some(("coset values of a matrix", log_height)));
+            }
+        }
+        if !columns_agree(alloc, &dft, log_height)? {
+            return Ok(Some(("extension of a column", log_height)));
+        }
+        if !algebra_comes_back::<BabyBear, BabyBear4, _>(alloc, &dft, log_height)? {
+            return Ok(Some(("values over the extension", log_height)));
+        }
+    }
+    Ok(None)
 }
 
 #[test]
 fn calls_agree_with_horner(rt: HostRuntime) -> Result<(), Fail> {
-    let dft = Radix2Dit::<BabyBear>::default();
-    for log_height in [0, 1, 3] {
-        for width in [1, 3] {
-            assert!(rt;
-                matrices_agree(rt.alloc(), &dft, log_height, width)?,
-                "2^{log_height} rows of {width}"
-            );
-        }
-        assert!(rt;
-            columns_agree(rt.alloc(), &dft, log_height)?,
-            "2^{log_height} values"
-        );
-        assert!(rt;
-            algebra_comes_back::<BabyBear, BabyBear4, _>(rt.alloc(), &dft, log_height)?,
-            "2^{log_height} values"
-        );
-    }
+    let wrong = first_wrong_call(rt.alloc())?;
+    assert!(rt; wrong.is_none(), "{wrong:?}");
     Ok(())
 }

@@ -17,8 +17,9 @@ pub use p3_field_core::index::{log2_strict_usize, reverse_bits_len, reverse_slic
 pub use p3_field_core::packing::{PackableExtension, PackableField, PackedExtension, PackedField};
 pub use p3_field_core::powers::{bit_reversed_powers, shifted_powers};
 pub use p3_field_core::prime_field::PrimeField64;
+pub use p3_field_core::sample_field::SampleField;
 pub use p3_field_core::two_adic::TwoAdicField;
 pub use p3_field_core::{
     batch_inverse, coset, element_bytes, extension, field, index, packing, powers, prime_field,
-    two_adic,
+    sample_field, two_adic,
 };

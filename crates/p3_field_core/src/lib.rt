@@ -15,6 +15,7 @@ pub mod laws;
 pub mod packing;
 pub mod powers;
 pub mod prime_field;
+pub mod sample_field;
 pub mod two_adic;
 
 pub use crate::batch_inverse::batch_multiplicative_inverse;
@@ -26,4 +27,5 @@ pub use crate::index::{log2_strict_usize, reverse_bits_len, reverse_slice_index_
 pub use crate::packing::{PackableExtension, PackableField, PackedExtension, PackedField};
 pub use crate::powers::{bit_reversed_powers, shifted_powers};
 pub use crate::prime_field::PrimeField64;
+pub use crate::sample_field::SampleField;
 pub use crate::two_adic::TwoAdicField;

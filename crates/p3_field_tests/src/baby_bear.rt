@@ -1,10 +1,28 @@
 //! Worked values, and each public call at a concrete type through its bound.
 
+use crate::cases::first_wrong;
 use p3_field::laws::{baby_bear_law, two_adic_order_law};
 use p3_field::{BabyBear, ElementBytes, ExtensionField, Field, PrimeField64, TwoAdicField};
 
-/// What the calls of a prime field give at 5 and 7, as canonical numbers.
-fn field_values<F: PrimeField64>() -> [u64; 10] {
+/// The canonical numbers of what the calls of a prime field give at 5 and 7, and its constants.
+const FIELD_VALUES: [(&str, u64); 13] = [
+    ("5 + 7", 12),
+    ("5 - 7", 2013265919),
+    ("5 * 7", 35),
+    ("-5", 2013265916),
+    ("5 doubled", 10),
+    ("5 squared", 25),
+    ("1 halved", 1006632961),
+    ("5 to the power 3", 125),
+    ("5 to the power 2^2", 625),
+    ("2", 2),
+    ("bits", 31),
+    ("order", 2013265921),
+    ("generator", 31),
+];
+
+/// What they give.
+fn field_values<F: PrimeField64>() -> [u64; 13] {
     let five = F::from_u64(5);
     let seven = F::from_u64(7);
     [
@@ -18,22 +36,30 @@ fn field_values<F: PrimeField64>() -> [u64; 10] {
         five.exp_u64(3).as_canonical_u64(),
         five.exp_power_of_2(2).as_canonical_u64(),
         F::TWO.as_canonical_u64(),
+        F::BITS as u64,
+        F::ORDER_U64,
+        F::GENERATOR.as_canonical_u64(),
     ]
 }
 
-/// Whether each of the first ten positive numbers times its inverse is one, and zero has none.
-fn inverts<F: Field>() -> bool {
+/// The first of the first ten positive numbers which times its inverse isn't one, or zero if it has
+/// an inverse.
+fn first_wrong_inverse<F: Field>() -> Option<u64> {
     for n in 1..11 {
         match F::from_u64(n).try_inverse() {
             Some(inverse) => {
                 if F::from_u64(n) * inverse != F::ONE {
-                    return false;
+                    return Some(n);
                 }
-            }
-            None => return false,
+            },
+            None => return Some(n),
         }
     }
-    F::ZERO.try_inverse().is_none() && F::ZERO.is_zero() && !F::GENERATOR.is_zero()
+    if F::ZERO.try_inverse().is_none() {
+        None
+    } else {
+        Some(0)
+    }
 }
 
 /// The sum of the base field's 3 scaled by 4 and the element of the one coefficient 5.
@@ -57,42 +83,53 @@ fn generators<F: TwoAdicField>() -> [F; 3] {
 
 #[test]
 fn arithmetic_of_five_and_seven(rt: HostRuntime) {
-    let wanted = [
-        12, 2013265919, 35, 2013265916, 10, 25, 1006632961, 125, 625, 2,
-    ];
-    assert_eq!(rt; field_values::<BabyBear>(), wanted);
-    let generator = BabyBear::GENERATOR.as_canonical_u64();
-    let constants = (BabyBear::BITS, BabyBear::ORDER_U64, generator);
-    assert_eq!(rt; constants, (31, 2013265921, 31));
+    let wrong = first_wrong(&field_values::<BabyBear>(), &FIELD_VALUES);
+    assert!(rt; wrong.is_none(), "{wrong:?}");
 }
 
 #[test]
 fn ten_inverses(rt: HostRuntime) {
-    assert!(rt; inverts::<BabyBear>());
+    let wrong = first_wrong_inverse::<BabyBear>();
+    assert!(rt; wrong.is_none(), "{wrong:?}");
+    assert!(rt; BabyBear::ZERO.is_zero() && !BabyBear::GENERATOR.is_zero());
+}
+
+/// Numbers past the order, with the canonical numbers of their elements.
+const WRAPPED: [(u64, u64); 3] = [
+    (2013265921, 0),
+    (2013265928, 7),
+    // 2^64 - 1 modulo the order
+    (u64::MAX, 1172168162),
+];
+
+/// The first of them whose element is another.
+fn first_wrong_wrapped() -> Option<u64> {
+    for (number, canonical) in WRAPPED {
+        if canonical >= BabyBear::ORDER_U64 {
+            return Some(number);
+        }
+        if BabyBear::from_u64(number) != BabyBear::from_canonical(canonical) {
+            return Some(number);
+        }
+    }
+    None
 }
 
 #[test]
 fn numbers_wrap_at_the_order(rt: HostRuntime) {
-    let order = BabyBear::from_u64(2013265921);
-    let seven_more = BabyBear::from_u64(2013265928);
-    let most = BabyBear::from_u64(u64::MAX);
-    // 2^64 - 1 modulo the order is 1172168162
-    let wanted = (
-        BabyBear::ZERO,
-        BabyBear::from_canonical(7),
-        BabyBear::from_canonical(1172168162),
-    );
-    assert_eq!(rt; (order, seven_more, most), wanted);
+    let wrong = first_wrong_wrapped();
+    assert!(rt; wrong.is_none(), "{wrong:?}");
 }
 
 #[test]
 fn roots_of_unity(rt: HostRuntime) {
     let [first, second, last] = generators::<BabyBear>();
     let power = BabyBear::GENERATOR.exp_u64(15);
-    let wanted = (BabyBear::ONE, -BabyBear::ONE, last);
-    assert_eq!(rt; (first, second, power), wanted);
+    assert!(rt; first == BabyBear::ONE);
+    assert!(rt; second == -BabyBear::ONE);
+    assert!(rt; power == last);
     let numbers = (last.as_canonical_u64(), BabyBear::TWO_ADICITY);
-    assert_eq!(rt; numbers, (440564289, 27));
+    assert!(rt; numbers == (440564289, 27));
     baby_bear_law();
     two_adic_order_law::<BabyBear>();
 }
@@ -103,8 +140,8 @@ fn extends_itself(rt: HostRuntime) {
     let value = extension_value::<BabyBear, BabyBear>(&[five]);
     let coefficient = <BabyBear as ExtensionField<BabyBear>>::coefficient(five, 0);
     let dimension = <BabyBear as ExtensionField<BabyBear>>::DIMENSION;
-    let wanted = (Some(BabyBear::from_u64(17)), five, 1);
-    assert_eq!(rt; (value, coefficient, dimension), wanted);
+    assert!(rt; value == Some(BabyBear::from_u64(17)));
+    assert!(rt; (coefficient, dimension) == (five, 1));
 }
 
 /// The encoding, byte by byte, of a type with four of them.
@@ -119,5 +156,5 @@ fn four_bytes<T: ElementBytes>(value: T) -> Option<[u8; 4]> {
 #[test]
 fn bytes_are_little_endian(rt: HostRuntime) {
     let value = -BabyBear::from_u64(3);
-    assert_eq!(rt; four_bytes(value), Some([0xfe, 0xff, 0xff, 0x77]));
+    assert!(rt; four_bytes(value) == Some([0xfe, 0xff, 0xff, 0x77]));
 }

@@ -1,7 +1,8 @@
 //! Worked values, and each public call of an extension at BabyBear4 through its bound.
 
+use crate::cases::first_wrong;
 use p3_field::baby_bear4::laws::baby_bear4_law;
-use p3_field::{BabyBear, BabyBear4, ElementBytes, ExtensionField, Field};
+use p3_field::{BabyBear, BabyBear4, ElementBytes, ExtensionField, Field, PrimeField64};
 
 fn polynomial(coefficients: [u64; 4]) -> BabyBear4 {
     let [constant, linear, quadratic, cubic] = coefficients;
@@ -12,6 +13,43 @@ fn polynomial(coefficients: [u64; 4]) -> BabyBear4 {
         BabyBear::from_u64(cubic),
     ])
 }
+
+/// The canonical numbers of an element's coefficients.
+fn coefficients(element: BabyBear4) -> [u64; 4] {
+    let mut numbers = [0; 4];
+    for index in 0..4 {
+        let coefficient: BabyBear = element.coefficient(index);
+        numbers[index] = coefficient.as_canonical_u64();
+    }
+    numbers
+}
+
+/// The coefficients of products, where `X^4` is 11.
+const PRODUCTS: [(&str, [u64; 4]); 4] = [
+    ("X^3 * X", [11, 0, 0, 0]),
+    ("X * X", [0, 0, 1, 0]),
+    ("1, 2, 3, 4 by 5, 6, 7, 8", [676, 588, 386, 60]),
+    // each coefficient is the order less one
+    ("the greatest coefficients, squared", [34, 24, 14, 4]),
+];
+
+/// The coefficients of what the calls of an extension give at `1 + 2 X + 3 X^2 + 4 X^3`, and at 7
+/// in the base field.
+const VALUES: [(&str, [u64; 4]); 10] = [
+    ("plus 2", [3, 2, 3, 4]),
+    ("minus 3", [2013265919, 2, 3, 4]),
+    (
+        "the negative",
+        [2013265920, 2013265919, 2013265918, 2013265917],
+    ),
+    ("doubled", [2, 4, 6, 8]),
+    ("halved", [1006632961, 1, 1006632962, 2]),
+    ("squared", [276, 268, 186, 20]),
+    ("to the power 3", [18646, 9664, 2430, 2300]),
+    ("to the power 2^1", [276, 268, 186, 20]),
+    ("scaled by 7", [7, 14, 21, 28]),
+    ("7 lifted", [7, 0, 0, 0]),
+];
 
 /// What the calls of an extension give at one of its elements and one of the base field.
 fn values<F: Field, E: ExtensionField<F>>(x: E, factor: F) -> [E; 10] {
@@ -51,48 +89,25 @@ fn products_of_polynomials(rt: HostRuntime) {
     let x = polynomial([0, 1, 0, 0]);
     let x_cubed = polynomial([0, 0, 0, 1]);
     let product = polynomial([1, 2, 3, 4]) * polynomial([5, 6, 7, 8]);
-    // each coefficient is the order less one
     let most = polynomial([2013265920; 4]);
-    let wanted = (
-        BabyBear4::from_u64(11),
-        polynomial([0, 0, 1, 0]),
-        polynomial([676, 588, 386, 60]),
-        polynomial([34, 24, 14, 4]),
-    );
-    assert_eq!(rt; (x_cubed * x, x * x, product, most * most), wanted);
+    let found = [x_cubed * x, x * x, product, most * most].map(coefficients);
+    let wrong = first_wrong(&found, &PRODUCTS);
+    assert!(rt; wrong.is_none(), "{wrong:?}");
     baby_bear4_law();
 }
 
 #[test]
 fn calls_of_an_extension(rt: HostRuntime) {
-    let wanted = [
-        polynomial([3, 2, 3, 4]),
-        polynomial([2013265919, 2, 3, 4]),
-        polynomial([2013265920, 2013265919, 2013265918, 2013265917]),
-        polynomial([2, 4, 6, 8]),
-        polynomial([1006632961, 1, 1006632962, 2]),
-        polynomial([276, 268, 186, 20]),
-        polynomial([18646, 9664, 2430, 2300]),
-        polynomial([276, 268, 186, 20]),
-        polynomial([7, 14, 21, 28]),
-        polynomial([7, 0, 0, 0]),
-    ];
     let seven = BabyBear::from_u64(7);
-    assert_eq!(rt;
-        values::<BabyBear, BabyBear4>(polynomial([1, 2, 3, 4]), seven),
-        wanted
-    );
-    let one_to_four = [
-        BabyBear::from_u64(1),
-        BabyBear::from_u64(2),
-        BabyBear::from_u64(3),
-        BabyBear::from_u64(4),
-    ];
+    let found = values::<BabyBear, BabyBear4>(polynomial([1, 2, 3, 4]), seven);
+    let wrong = first_wrong(&found.map(coefficients), &VALUES);
+    assert!(rt; wrong.is_none(), "{wrong:?}");
+    let one_to_four = [1, 2, 3, 4].map(BabyBear::from_u64);
     assert!(rt; comes_back::<BabyBear, BabyBear4>(&one_to_four));
     assert!(rt; !comes_back::<BabyBear, BabyBear4>(&one_to_four[..3]));
     let dimension = <BabyBear4 as ExtensionField<BabyBear>>::DIMENSION;
-    let constants = (dimension, BabyBear4::BITS, BabyBear4::GENERATOR);
-    assert_eq!(rt; constants, (4, 124, polynomial([8, 1, 0, 0])));
+    assert!(rt; (dimension, BabyBear4::BITS) == (4, 124));
+    assert!(rt; coefficients(BabyBear4::GENERATOR) == [8, 1, 0, 0]);
 }
 
 /// The encoding, byte by byte, of a type with sixteen of them.
@@ -111,20 +126,29 @@ fn bytes_of_the_coefficients(rt: HostRuntime) {
     // 2013265918, and 16909060 with the bytes 4, 3, 2, 1
     let value = polynomial([2013265918, 1, 256, 16909060]);
     let wanted = [0xfe, 0xff, 0xff, 0x77, 1, 0, 0, 0, 0, 1, 0, 0, 4, 3, 2, 1];
-    assert_eq!(rt; sixteen_bytes(value), wanted);
+    assert!(rt; sixteen_bytes(value) == wanted);
+}
+
+/// The first of the powers of the generator up to the tenth which times its inverse isn't one.
+fn first_wrong_inverse() -> Option<usize> {
+    let mut power = BabyBear4::GENERATOR;
+    for exponent in 1..11 {
+        let inverse = power.try_inverse().unwrap_or(BabyBear4::ZERO);
+        if power * inverse != BabyBear4::ONE {
+            return Some(exponent);
+        }
+        power = power * BabyBear4::GENERATOR;
+    }
+    None
 }
 
 #[test]
 fn ten_inverses(rt: HostRuntime) {
-    let mut power = BabyBear4::GENERATOR;
-    for _ in 0..10 {
-        let inverse = power.try_inverse().unwrap_or(BabyBear4::ZERO);
-        assert_eq!(rt; power * inverse, BabyBear4::ONE);
-        power = power * BabyBear4::GENERATOR;
-    }
+    let wrong = first_wrong_inverse();
+    assert!(rt; wrong.is_none(), "{wrong:?}");
     // one over X is X^3 / 11
     let x = polynomial([0, 1, 0, 0]);
     let inverse = x.try_inverse().unwrap_or(BabyBear4::ZERO);
-    assert_eq!(rt; inverse * BabyBear4::from_u64(11), polynomial([0, 0, 0, 1]));
+    assert!(rt; inverse * BabyBear4::from_u64(11) == polynomial([0, 0, 0, 1]));
     assert!(rt; BabyBear4::ZERO.is_zero() && BabyBear4::ZERO.try_inverse().is_none());
 }

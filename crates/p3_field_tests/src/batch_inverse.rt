@@ -1,36 +1,57 @@
 //! Batched inverses of both fields.
 
+ghost use Rattle.std.specs.Prelude.{◌≢◌, All, IsTrue};
+
 use p3_field::{BabyBear, BabyBear4, Field, batch_multiplicative_inverse};
 use std::alloc::{AllocError, Global};
 use std::test::Fail;
 
-/// Whether the batched inverses of these numbers are the inverses one by one.
-fn agrees<F: Field>(alloc: Global, numbers: &[u64]) -> Result<bool, AllocError> {
-    let mut values = Vec::new(alloc);
-    for n in numbers {
-        let value = F::from_u64(*n);
-        if value.is_zero() {
-            return Ok(false);
+/// Whether none of the elements is zero.
+fn are_nonzero<F: Field>(elements: &[F]) -> bool
+    ensures { IsTrue result → All (λ x. x ≢ F.ops.zero) elements.now }
+{
+    for element in elements {
+        if element.is_zero() {
+            return false;
         }
-        values.push(value)?;
     }
-    let inverses = batch_multiplicative_inverse(alloc, &values)?;
-    if inverses.len() != numbers.len() {
+    true
+}
+
+/// Whether the batched inverses of these elements are the inverses one by one.
+fn agrees<F: Field>(alloc: Global, elements: &[F]) -> Result<bool, AllocError> {
+    if !are_nonzero(elements) {
         return Ok(false);
     }
-    for (value, inverse) in values.iter().zip(&inverses) {
-        if *value * *inverse != F::ONE {
-            return Ok(false);
+    let inverses = batch_multiplicative_inverse(alloc, elements)?;
+    Ok(are_inverses(elements, &inverses))
+}
+
+/// Whether there are as many inverses as elements, and each product is one.
+fn are_inverses<F: Field>(elements: &[F], inverses: &[F]) -> bool {
+    if inverses.len() != elements.len() {
+        return false;
+    }
+    for i in 0..elements.len() {
+        if elements[i] * inverses[i] != F::ONE {
+            return false;
         }
     }
-    Ok(true)
+    true
 }
 
 #[test]
 fn inverts_lists_of_length_0_1_and_5(rt: HostRuntime) -> Result<(), Fail> {
-    for numbers in [&[][..], &[7], &[1, 2, 3, 4, 2013265920]] {
-        assert!(rt; agrees::<BabyBear>(rt.alloc(), numbers)?);
-        assert!(rt; agrees::<BabyBear4>(rt.alloc(), numbers)?);
-    }
+    let seven = BabyBear::from_u64(7);
+    assert!(rt; agrees::<BabyBear>(rt.alloc(), &[])?);
+    assert!(rt; agrees(rt.alloc(), &[seven])?);
+    let five = [1, 2, 3, 4, 2013265920].map(BabyBear::from_u64);
+    assert!(rt; agrees(rt.alloc(), &five)?);
+
+    let seven = BabyBear4::from_u64(7);
+    assert!(rt; agrees::<BabyBear4>(rt.alloc(), &[])?);
+    assert!(rt; agrees(rt.alloc(), &[seven])?);
+    let five = [1, 2, 3, 4, 2013265920].map(BabyBear4::from_u64);
+    assert!(rt; agrees(rt.alloc(), &five)?);
     Ok(())
 }

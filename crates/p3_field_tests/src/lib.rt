@@ -8,6 +8,8 @@ mod baby_bear4;
 #[cfg(test)]
 mod batch_inverse;
 #[cfg(test)]
+mod cases;
+#[cfg(test)]
 mod coset;
 #[cfg(test)]
 mod index;
@@ -15,3 +17,5 @@ mod index;
 mod powers;
 #[cfg(test)]
 mod prepared;
+#[cfg(test)]
+mod sample_field;

@@ -23,17 +23,28 @@ fn agree_throughout<F: Field, E: ExtensionField<F>>(factor: F) -> bool {
     powers_agree && agree(F::ZERO, factor) && agree(F::ONE, factor) && agree(-F::ONE, factor)
 }
 
+/// The factors that are tried.
+const FACTORS: [u64; 4] = [0, 1, 2013265920, 440564289];
+
+/// The first of the factors with which the products differ, in the field, on its extension or in
+/// the extension.
+fn first_wrong_factor() -> Option<u64> {
+    for n in FACTORS {
+        let factor = BabyBear::from_u64(n);
+        let right = agree_throughout::<BabyBear, BabyBear>(factor)
+            && agree_throughout::<BabyBear, BabyBear4>(factor)
+            && agree_throughout::<BabyBear4, BabyBear4>(BabyBear4::from_base(factor));
+        if !right {
+            return Some(n);
+        }
+    }
+    None
+}
+
 #[test]
 fn products_with_prepared_factors(rt: HostRuntime) {
-    for n in [0, 1, 2013265920, 440564289] {
-        let factor = BabyBear::from_u64(n);
-        assert!(rt; agree_throughout::<BabyBear, BabyBear>(factor), "by {n}");
-        assert!(rt; agree_throughout::<BabyBear, BabyBear4>(factor), "by {n}");
-        assert!(rt;
-            agree_throughout::<BabyBear4, BabyBear4>(BabyBear4::from_base(factor)),
-            "by {n}"
-        );
-    }
+    let wrong = first_wrong_factor();
+    assert!(rt; wrong.is_none(), "by {wrong:?}");
 }
 
 #[test]
@@ -41,7 +52,7 @@ fn one_product_with_a_prepared_factor(rt: HostRuntime) {
     // 2013265920 is -1, so the product is the order less the other factor
     let factor = BabyBear::from_u64(440564289).prepare();
     let product = BabyBear::from_u64(2013265920).times(factor);
-    assert_eq!(rt; product.as_canonical_u64(), 1572701632);
+    assert!(rt; product.as_canonical_u64() == 1572701632);
 }
 
 /// Whether four elements' products with four of the base field add up one by one to the same.
@@ -60,14 +71,21 @@ fn dot_products_agree<F: Field, E: ExtensionField<F>>(first: F) -> bool {
     agree_throughout
 }
 
+/// The first of the factors from which on the sums differ, in the field or its extension.
+fn first_wrong_dot_product() -> Option<u64> {
+    for n in FACTORS {
+        let first = BabyBear::from_u64(n);
+        let right = dot_products_agree::<BabyBear, BabyBear>(first)
+            && dot_products_agree::<BabyBear, BabyBear4>(first);
+        if !right {
+            return Some(n);
+        }
+    }
+    None
+}
+
 #[test]
 fn dot_products_with_the_base_field(rt: HostRuntime) {
-    for n in [0, 1, 2013265920, 440564289] {
-        let first = BabyBear::from_u64(n);
-        assert!(rt; dot_products_agree::<BabyBear, BabyBear>(first), "from {n}");
-        assert!(rt;
-            dot_products_agree::<BabyBear, BabyBear4>(first),
-            "from {n}"
-        );
-    }
+    let wrong = first_wrong_dot_product();
+    assert!(rt; wrong.is_none(), "from {wrong:?}");
 }

@@ -2,7 +2,7 @@
 //! and why it refuses.
 
 pub use p3_fri_inputs::{heights_are_within, open_inputs};
+pub use p3_fri_pow::PowPhase;
 pub use p3_fri_query::fold_query;
 pub use p3_fri_relation::error::{FriError, FriOpenings};
-pub use p3_fri_steps::PowPhase;
 pub use p3_fri_verifier::verify_fri;

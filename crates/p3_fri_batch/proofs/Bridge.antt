@@ -16,8 +16,8 @@ use Rattle.algebra.specs.Rounds.{entry_of}
 use Rattle.algebra.proofs.Lists.{Each, each_from_All, get_or-tabulate}
 use Rattle.p3_matrix.specs.declared.dense.RowMajorMatrix.{RowMajorMatrix}
 use Rattle.p3_matrix.specs.Matrix.{rows}
-use Rattle.p3_commit.specs.Batch.{max_height, dimensions_of, opened_row}
-use Rattle.p3_commit.proofs.Heights.{max_height-power}
+use Rattle.p3_mmcs.specs.Batch.{max_height, dimensions_of, opened_row}
+use Rattle.p3_mmcs.proofs.Heights.{max_height-power}
 use Rattle.p3_fri_relation.specs.Setting.{Fields, MatrixClaim, CommitmentClaim}
 use Rattle.p3_fri_relation.specs.Heights.{log_height as claimed_height}
 use Rattle.p3_fri_relation.specs.Heights.{matrices_of, heights_of}

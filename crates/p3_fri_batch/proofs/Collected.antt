@@ -8,8 +8,8 @@ use Rattle.std.proofs.lemmas.List.Elements.{All-push}
 use Rattle.std.proofs.lemmas.Grind.{flat_map-append}
 use Rattle.algebra.specs.Nested.{lists, joined}
 use Rattle.p3_matrix.specs.declared.dense.RowMajorMatrix.{RowMajorMatrix}
-use Rattle.p3_pcs.specs.Claims.{both}
-use Rattle.p3_pcs.proofs.Zipped.{entry_of_both, within_both, length_of_both}
+use Rattle.p3_pcs.specs.Claims.{zip_with}
+use Rattle.p3_pcs.proofs.Zipped.{entry_of_zip_with, within_zip_with, length_of_zip_with}
 use Rattle.p3_fri_openings.specs.Denominators.{HasPointsCovered}
 use Rattle.p3_fri_openings.specs.declared.denominators.PointDenominators.{PointDenominators}
 use Rattle.p3_fri_openings.specs.Rounds.{Asked, HasCoset, ask}
@@ -48,10 +48,10 @@ module _ {F E : Type 0} (matrices : List (RowMajorMatrix F)) (points : List (Lis
     (i : ℕ) (one : i < length matrices) (two : i < length points) where
   -- the claims of a round, at a place
   abbrev pub asked : List (Asked F E)
-  asked = both ask matrices points
+  asked = zip_with ask matrices points
 
   pub asked_within : i < length asked
-  asked_within = within_both ask matrices points i one two
+  asked_within = within_zip_with ask matrices points i one two
 
   module _ (three : i < length values) (o : OpenedMatrix F E) (zs : List E) (ys : List (List E))
       (m : o.matrix.now ≡ get_or matrices i o.matrix.now) (z : zs ≡ get_or points i zs)
@@ -59,28 +59,28 @@ module _ {F E : Type 0} (matrices : List (RowMajorMatrix F)) (points : List (Lis
       (same_points : o.points.now ≡ zs) (same_values : lists o.values.now ≡ ys) where
     asked_here : asked_of o ≡ get_or asked i (asked_of o)
     asked_here =
-        entry_of_both ask matrices points i o.matrix.now o.points.now one two m
+        entry_of_zip_with ask matrices points i o.matrix.now o.points.now one two m
         (subst (λ u. u ≡ get_or points i u) (sym same_points) z)
 
     values_here : lists o.values.now ≡ get_or values i (lists o.values.now)
     values_here = subst (λ u. u ≡ get_or values i u) (sym same_values) y
 
-    opened_here : as_opened o ≡ get_or (both opened_at asked values) i (as_opened o)
-    opened_here = entry_of_both opened_at asked values i (asked_of o) (lists o.values.now)
+    opened_here : as_opened o ≡ get_or (zip_with opened_at asked values) i (as_opened o)
+    opened_here = entry_of_zip_with opened_at asked values i (asked_of o) (lists o.values.now)
         asked_within three asked_here values_here
 
     -- one matrix more
     pub opened_more : (items news : List (OpenedMatrix F E)) (before : List (Opened F E))
         → news ≡ items ++ o ∷ [] → map as_opened items
-        ≡ before ++ take i (both opened_at asked values)
-        → map as_opened news ≡ before ++ take (i + 1) (both opened_at asked values)
+        ≡ before ++ take i (zip_with opened_at asked values)
+        → map as_opened news ≡ before ++ take (i + 1) (zip_with opened_at asked values)
     opened_more items news before n e =
         ap (map as_opened) n ∙ map-append as_opened items (o ∷ [])
         ∙ ap₂ (λ xs x. xs ++ x ∷ []) e opened_here
-        ∙ append_assoc before (take i (both opened_at asked values))
-        (get_or (both opened_at asked values) i (as_opened o) ∷ [])
-        ∙ ap (λ xs. before ++ xs) (sym (take_more (both opened_at asked values) i (as_opened o)
-        (within_both opened_at asked values i asked_within three)))
+        ∙ append_assoc before (take i (zip_with opened_at asked values))
+        (get_or (zip_with opened_at asked values) i (as_opened o) ∷ [])
+        ∙ ap (λ xs. before ++ xs) (sym (take_more (zip_with opened_at asked values) i (as_opened o)
+        (within_zip_with opened_at asked values i asked_within three)))
 
     -- it is ready if the round is
     pub ready_more : (two_adicity : ℕ) (table : List (PointDenominators E))
@@ -103,9 +103,9 @@ module _ {F E : Type 0} (matrices : List (RowMajorMatrix F)) (points : List (Lis
 pub opened_whole : {F E : Type 0} (matrices : List (RowMajorMatrix F)) (points : List (List E))
     (values : List (List (List E)))
     (i : ℕ) → length matrices ≤ i
-    → take i (both opened_at (both ask matrices points) values)
-    ≡ both opened_at (both ask matrices points) values
+    → take i (zip_with opened_at (zip_with ask matrices points) values)
+    ≡ zip_with opened_at (zip_with ask matrices points) values
 opened_whole matrices points values i l =
-    let inner = length_of_both ask matrices points i (omega (arith, l)) in
-    take_all i (both opened_at (both ask matrices points) values)
-    (length_of_both opened_at (both ask matrices points) values i (omega (arith, inner)))
+    let inner = length_of_zip_with ask matrices points i (omega (arith, l)) in
+    take_all i (zip_with opened_at (zip_with ask matrices points) values)
+    (length_of_zip_with opened_at (zip_with ask matrices points) values i (omega (arith, inner)))

@@ -8,7 +8,7 @@ use Rattle.algebra.proofs.Lists.{Each, All_from_each, length-tabulate}
 use Rattle.p3_matrix.specs.declared.dense.RowMajorMatrix.{RowMajorMatrix}
 use Rattle.p3_matrix.specs.Matrix.{matrix_width}
 use Rattle.p3_dft.specs.Evaluations.{column}
-use Rattle.p3_pcs.specs.Claims.{both}
+use Rattle.p3_pcs.specs.Claims.{zip_with}
 use Rattle.p3_fri_relation.specs.Setting.{Fields}
 use Rattle.p3_fri_openings.specs.declared.round.OpeningRound.{OpeningRound}
 use Rattle.p3_fri_openings.specs.Committed.{committed_column, committed, committed_values}
@@ -29,8 +29,8 @@ module _ {F E : Type 0} (f : Fields F E) (log_blowup : ℕ) where
   values_there matrix points = map (committed_values f log_blowup matrix) points
 
   round_opened : (matrices : List (RowMajorMatrix F)) (points : List (List E))
-      → both opened_at (both ask matrices points) (both values_there matrices points)
-      ≡ both (opened_honestly f log_blowup) matrices points
+      → zip_with opened_at (zip_with ask matrices points) (zip_with values_there matrices points)
+      ≡ zip_with (opened_honestly f log_blowup) matrices points
   round_opened [] points = refl
   round_opened (m ∷ matrices) [] = refl
   round_opened (m ∷ matrices) (zs ∷ points) =
@@ -40,7 +40,7 @@ module _ {F E : Type 0} (f : Fields F E) (log_blowup : ℕ) where
   -- by round
   pub rounds_opened : (rounds : List (OpeningRound F E))
       → opened_by_round rounds (map (values_asked f log_blowup) rounds)
-      ≡ map (λ r. both (opened_honestly f log_blowup) r.matrices.now (lists r.points.now)) rounds
+      ≡ map (λ r. zip_with (opened_honestly f log_blowup) r.matrices.now (lists r.points.now)) rounds
   rounds_opened [] = refl
   rounds_opened (r ∷ rounds) =
       ap₂ (λ os oss. os ∷ oss) (round_opened r.matrices.now (lists r.points.now))
@@ -59,7 +59,7 @@ module _ {F E : Type 0} (f : Fields F E) (log_blowup : ℕ) where
   widths_of_values matrix (z ∷ points) = (width_of_values matrix z, widths_of_values matrix points)
 
   round_has_values : (matrices : List (RowMajorMatrix F)) (points : List (List E))
-      → AllZip HasValues (both ask matrices points) (both values_there matrices points)
+      → AllZip HasValues (zip_with ask matrices points) (zip_with values_there matrices points)
   round_has_values [] points = tt
   round_has_values (m ∷ matrices) [] = tt
   round_has_values (m ∷ matrices) (zs ∷ points) = (

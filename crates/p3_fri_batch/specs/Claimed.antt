@@ -2,7 +2,7 @@
 use Rattle.std.specs.Prelude.{◌≡◌, ℕ, ◌/◌, ◌^◌, List, map}
 use Rattle.std.specs.List.{AllZip}
 use Rattle.p3_matrix.specs.declared.dense.RowMajorMatrix.{RowMajorMatrix}
-use Rattle.p3_commit.specs.Batch.{max_height, dimensions_of, opened_rows}
+use Rattle.p3_mmcs.specs.Batch.{max_height, dimensions_of, opened_rows}
 use Rattle.p3_fri_relation.specs.Setting.{MatrixClaim, CommitmentClaim}
 use Rattle.p3_fri_relation.specs.Heights.{log_height as claimed_height}
 use Rattle.p3_fri_openings.specs.Rounds.{log_height}

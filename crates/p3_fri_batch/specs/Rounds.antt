@@ -4,7 +4,7 @@ use Rattle.std.specs.List.{AllZip}
 use Rattle.algebra.specs.Nested.{lists, joined}
 use Rattle.p3_matrix.specs.Matrix.{matrix_width}
 use Rattle.p3_matrix.specs.declared.dense.RowMajorMatrix.{RowMajorMatrix}
-use Rattle.p3_pcs.specs.Claims.{both}
+use Rattle.p3_pcs.specs.Claims.{zip_with}
 use Rattle.p3_fri_openings.specs.declared.denominators.PointDenominators.{PointDenominators}
 use Rattle.p3_fri_openings.specs.declared.round.OpeningRound.{OpeningRound}
 use Rattle.p3_fri_openings.specs.Denominators.{HasPointsCovered}
@@ -20,12 +20,12 @@ module _ {F E : Type 0} where
 
   -- the matrices of a round with these values, by matrix, point and column
   abbrev pub opened_in : OpeningRound F E → (values : List (List (List E))) → List (Opened F E)
-  opened_in round values = both opened_at (asked_in round) values
+  opened_in round values = zip_with opened_at (asked_in round) values
 
   -- by round
   abbrev pub opened_by_round : List (OpeningRound F E) → (values : List (List (List (List E))))
       → List (List (Opened F E))
-  opened_by_round rounds values = both opened_in rounds values
+  opened_by_round rounds values = zip_with opened_in rounds values
 
   -- those of all rounds, in order
   abbrev pub opened_of : List (OpeningRound F E) → (values : List (List (List (List E))))

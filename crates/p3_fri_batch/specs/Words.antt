@@ -10,7 +10,7 @@ use Rattle.algebra.specs.Words.{IsCosetWord}
 use Rattle.p3_matrix.specs.declared.dense.RowMajorMatrix.{RowMajorMatrix}
 use Rattle.p3_matrix.specs.Matrix.{rows, matrix_width}
 use Rattle.p3_dft.specs.Evaluations.{column}
-use Rattle.p3_pcs.specs.Claims.{both}
+use Rattle.p3_pcs.specs.Claims.{zip_with}
 use Rattle.p3_fri_relation.specs.Setting.{Fields, PointClaim}
 use Rattle.p3_fri_openings.specs.Rounds.{log_height}
 use Rattle.p3_fri_openings.specs.Refusals.{IsOff}
@@ -22,7 +22,7 @@ module _ {E : Type 0} where
 
   -- the claims of these values at these points
   abbrev pub claims_of : (points : List E) (values : List (List E)) → List (PointClaim E)
-  claims_of points values = both claim_at points values
+  claims_of points values = zip_with claim_at points values
 
   -- the quotients of a row that is read at `x`, point by point and column by column
   abbrev pub terms_at : FieldOps E → (x : E) (row : List E) (claims : List (PointClaim E)) → List E

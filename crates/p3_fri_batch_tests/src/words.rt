@@ -139,46 +139,117 @@ fn words<F: TwoAdicField, EF: ExtensionField<F>>(
     Ok(batch_words::<F, EF>(alloc, alpha, rounds, &values, &denominators.entries)?)
 }
 
-#[test]
-fn two_heights_at_two_points(rt: HostRuntime) -> Result<(), Fail> {
-    let first = matrices(rt.alloc(), &[(&WIDE, 2), (&LOW, 1)])?;
-    let second = matrices(rt.alloc(), &[(&NARROW, 1)])?;
-    let first_points = lists(
-        rt.alloc(),
-        &[&[FIRST_POINT, SECOND_POINT], &[SECOND_POINT, FIRST_POINT]],
-    )?;
-    let second_points = lists(rt.alloc(), &[&[SECOND_POINT, FIRST_POINT]])?;
-    let rounds = [
-        OpeningRound {
-            matrices: &first,
-            points: &first_points,
-        },
-        OpeningRound {
-            matrices: &second,
-            points: &second_points,
-        },
-    ];
-    let expected = lists(rt.alloc(), &[&TALL_WORD, &LOW_WORD])?;
-    assert_eq!(rt; words(rt.alloc(), element(ALPHA), &rounds)?, expected);
-    Ok(())
+/// Matrices of these values and widths with points, round by round, and the words of their
+/// quotients.
+#[derive(Clone, Copy)]
+struct Case {
+    name: &'static str,
+    rounds: &'static [Round],
+    words: &'static [&'static [Coefficients]],
+}
+
+#[derive(Clone, Copy)]
+struct Round {
+    matrices: &'static [(&'static [u64], usize)],
+    points: &'static [&'static [Coefficients]],
+}
+
+const CASES: [Case; 3] = [
+    Case {
+        name: "two heights at two points",
+        rounds: &[
+            Round {
+                matrices: &[(&WIDE, 2), (&LOW, 1)],
+                points: &[&[FIRST_POINT, SECOND_POINT], &[SECOND_POINT, FIRST_POINT]],
+            },
+            Round {
+                matrices: &[(&NARROW, 1)],
+                points: &[&[SECOND_POINT, FIRST_POINT]],
+            },
+        ],
+        words: &[&TALL_WORD, &LOW_WORD],
+    },
+    Case {
+        name: "constants leave nothing",
+        rounds: &[Round {
+            matrices: &[(&[9, 4, 9, 4], 2)],
+            points: &[&[FIRST_POINT]],
+        }],
+        words: &[&[[0, 0, 0, 0], [0, 0, 0, 0]]],
+    },
+    Case {
+        name: "no rounds have no words",
+        rounds: &[],
+        words: &[],
+    },
+];
+
+/// The matrices and the points of a round.
+#[derive(Drop)]
+struct Held {
+    matrices: Vec<RowMajorMatrix<BabyBear>>,
+    points: Vec<Vec<BabyBear4>>,
+}
+
+/// What each round holds.
+fn hold(alloc: Global, rounds: &[Round]) -> Result<Vec<Held>, Fail> {
+    let mut all = Vec::new(alloc);
+    for round in rounds {
+        all.push(Held {
+            matrices: matrices(alloc, round.matrices)?,
+            points: lists(alloc, round.points)?,
+        })?;
+    }
+    Ok(all)
+}
+
+/// The rounds that hold these.
+fn rounds<'a>(
+    alloc: Global,
+    held: &'a [Held],
+) -> Result<Vec<OpeningRound<'a, BabyBear, BabyBear4>>, AllocError> {
+    let mut rounds = Vec::new(alloc);
+    for each in held {
+        rounds.push(OpeningRound {
+            matrices: &each.matrices,
+            points: &each.points,
+        })?;
+    }
+    Ok(rounds)
+}
+
+/// Whether the word is of these coefficients.
+fn is_word(word: &[BabyBear4], all: &[Coefficients]) -> bool {
+    for (value, coefficients) in word.iter().zip(all) {
+        if *value != element(*coefficients) {
+            return false;
+        }
+    }
+    word.len() == all.len()
+}
+
+/// Whether each word is.
+fn are_words(words: &[Vec<BabyBear4>], each: &[&[Coefficients]]) -> bool {
+    for (word, all) in words.iter().zip(each) {
+        if !is_word(word, *all) {
+            return false;
+        }
+    }
+    words.len() == each.len()
+}
+
+/// Whether these are the words of the case.
+fn is_met(alloc: Global, case: &Case) -> Result<bool, Fail> {
+    let held = hold(alloc, case.rounds)?;
+    let rounds = rounds(alloc, &held)?;
+    let words = words(alloc, element(ALPHA), &rounds)?;
+    Ok(are_words(&words, case.words))
 }
 
 #[test]
-fn constants_leave_nothing(rt: HostRuntime) -> Result<(), Fail> {
-    let constants = matrices(rt.alloc(), &[(&[9, 4, 9, 4], 2)])?;
-    let points = lists(rt.alloc(), &[&[FIRST_POINT]])?;
-    let rounds = [OpeningRound {
-        matrices: &constants,
-        points: &points,
-    }];
-    let zeros = lists(rt.alloc(), &[&[[0, 0, 0, 0], [0, 0, 0, 0]]])?;
-    assert_eq!(rt; words(rt.alloc(), element(ALPHA), &rounds)?, zeros);
-    Ok(())
-}
-
-#[test]
-fn no_rounds_have_no_words(rt: HostRuntime) -> Result<(), Fail> {
-    let rounds: [OpeningRound<'_, BabyBear, BabyBear4>; 0] = [];
-    assert!(rt; words(rt.alloc(), element(ALPHA), &rounds)?.is_empty());
+fn words_of_quotients(rt: HostRuntime) -> Result<(), Fail> {
+    for case in &CASES {
+        assert!(rt; is_met(rt.alloc(), case)?, "{}", case.name);
+    }
     Ok(())
 }

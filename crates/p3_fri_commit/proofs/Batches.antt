@@ -4,7 +4,7 @@ use Rattle.std.specs.List.{AllZip}
 use Rattle.std.specs.Int.{IsPowerOfTwo}
 use Rattle.std.proofs.lemmas.List.Elements.{All-head, All-tail}
 use Rattle.algebra.proofs.Lists.{Each, All_from_each}
-use Rattle.p3_commit.specs.Batch.{dimensions_of, HavePowerHeights}
+use Rattle.p3_mmcs.specs.Batch.{dimensions_of, HavePowerHeights}
 use Rattle.p3_matrix.specs.declared.dense.RowMajorMatrix.{RowMajorMatrix}
 use Rattle.p3_matrix.specs.Matrix.{rows}
 

@@ -5,10 +5,10 @@ ghost use Rattle.std.specs.List.{AllZip};
 ghost use Rattle.p3_matrix.specs.Matrix.{rows};
 ghost use Rattle.p3_fri_commit.specs.Extension.{FitsDomain, IsLowDegreeExtension};
 
-use p3_commit::Mmcs;
 use p3_dft::TwoAdicSubgroupDft;
 use p3_field_core::{TwoAdicField, TwoAdicMultiplicativeCoset};
 use p3_matrix::RowMajorMatrix;
+use p3_mmcs::Mmcs;
 use std::alloc::{AllocError, Global};
 
 /// For each column of `values` the polynomial with as many coefficients that has these values on

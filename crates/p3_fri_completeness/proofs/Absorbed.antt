@@ -9,7 +9,7 @@ use Rattle.std.proofs.lemmas.Grind.{flat_map-append}
 use Rattle.algebra.specs.Nested.{lists, nested, joined}
 use Rattle.algebra.proofs.Lists.{Each, head_eq, tail_eq, map-map}
 use Rattle.p3_matrix.specs.declared.dense.RowMajorMatrix.{RowMajorMatrix}
-use Rattle.p3_pcs.specs.Claims.{both, matrix_claims, opened_values}
+use Rattle.p3_pcs.specs.Claims.{zip_with, matrix_claims, opened_values}
 use Rattle.p3_pcs.specs.Requests.{Request, honest_claims, honest_values}
 use Rattle.p3_fri_pcs_transcript.specs.Counts.{counts_in_matrices}
 use Rattle.p3_fri_pcs_transcript.specs.Counts.{counts_of_values}
@@ -64,14 +64,14 @@ module _ {E : Type 0} where
 module _ {E : Type 0} (g : E → List E) where
   counts_at_honest : (points : List E)
       → map (λ z. length z.values)
-      (map point_claim (both (λ z vs. record { point = z; values = vs })
+      (map point_claim (zip_with (λ z vs. record { point = z; values = vs })
       points (map g points)))
       ≡ map (λ ys. length ys) (map g points)
   counts_at_honest [] = refl
   counts_at_honest (z ∷ points) = ap (λ ns. length (g z) ∷ ns) (counts_at_honest points)
 
   values_at_honest : (points : List E)
-      → flat_map (λ z. z.values) (map point_claim (both (λ z vs. record { point = z; values = vs })
+      → flat_map (λ z. z.values) (map point_claim (zip_with (λ z vs. record { point = z; values = vs })
       points (map g points)))
       ≡ joined (map g points)
   values_at_honest [] = refl
@@ -79,7 +79,7 @@ module _ {E : Type 0} (g : E → List E) where
 
 module _ {F E Domain : Type 0} (f : Fields F E) (b : ℕ) (log_size : Domain → ℕ) where
   abbrev values_in : List (RowMajorMatrix F) → List (List E) → List (List (List E))
-  values_in ms lists = both (λ m points. map m.values_at points) (map (held_in f b) ms) lists
+  values_in ms lists = zip_with (λ m points. map m.values_at points) (map (held_in f b) ms) lists
 
   counts_of_request : (domains : List Domain) (ms : List (RowMajorMatrix F)) (lists : List (List E))
       → map (λ d. 2 ^ log_size d) domains ≡ map (λ m. m.size) (map (held_in f b) ms)

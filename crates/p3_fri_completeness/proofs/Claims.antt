@@ -8,8 +8,8 @@ use Rattle.algebra.specs.Nested.{joined}
 use Rattle.algebra.proofs.Lists.{Each, each-append}
 use Rattle.p3_matrix.specs.declared.dense.RowMajorMatrix.{RowMajorMatrix}
 use Rattle.p3_matrix.specs.Matrix.{matrix_width}
-use Rattle.p3_commit.specs.Batch.{dimensions_of}
-use Rattle.p3_commit.specs.Batch as batch
+use Rattle.p3_mmcs.specs.Batch.{dimensions_of}
+use Rattle.p3_mmcs.specs.Batch as batch
 use Rattle.p3_fri_relation.specs.Setting.{Fields, Parameters, PointClaim, MatrixClaim}
 use Rattle.p3_fri_relation.specs.Setting.{CommitmentClaim}
 use Rattle.p3_fri_relation.specs.Heights.{matrices_of, width, dimensions}

@@ -9,7 +9,7 @@ use Rattle.std.proofs.lemmas.List.Elements.{All-head, All-tail}
 use Rattle.algebra.specs.Nested.{joined}
 use Rattle.algebra.proofs.Lists.{Each}
 use Rattle.p3_matrix.specs.Matrix.{rows}
-use Rattle.p3_commit.specs.Batch.{max_height, dimensions_of}
+use Rattle.p3_mmcs.specs.Batch.{max_height, dimensions_of}
 use Rattle.p3_fri_relation.specs.Setting.{Fields, Parameters, MatrixClaim, CommitmentClaim}
 use Rattle.p3_fri_relation.specs.Setting.{Opening, InputOpening}
 use Rattle.p3_fri_relation.specs.Heights.{greatest_height, log_height, opened_index, matrices_of}
@@ -20,7 +20,7 @@ use Rattle.p3_fri_prover.specs.Openings.{batch_index, OpensBatch}
 use Rattle.p3_fri_completeness.specs.Honest.{IsHonest}
 use Rattle.p3_fri_completeness.proofs.Claims.{each_left, each_right, all_dimensions}
 use Rattle.p3_field_core.proofs.IndexPowers.{power_quotient}
-use Rattle.p3_commit.proofs.Heights.{max_height-positive}
+use Rattle.p3_mmcs.proofs.Heights.{max_height-positive}
 
 -- powers of two grow
 greater_power : (h k : ℕ) → 2 ^ max h k ≡ max (2 ^ h) (2 ^ k)

@@ -11,7 +11,7 @@ use Rattle.algebra.specs.Nested.{joined}
 use Rattle.algebra.proofs.Lists.{each_from_All, all_zip-mapped}
 use Rattle.p3_matrix.specs.declared.dense.RowMajorMatrix.{RowMajorMatrix}
 use Rattle.p3_pcs.specs.declared.requests.OpeningRequest.{OpeningRequest}
-use Rattle.p3_pcs.specs.Claims.{both}
+use Rattle.p3_pcs.specs.Claims.{zip_with}
 use Rattle.p3_pcs.specs.Requests.{Request, request, AreOpenable, AreHonest}
 use Rattle.p3_pcs.specs.Requests.{honest_claims}
 use Rattle.p3_fri_folding.specs.Schedule.{tallest}
@@ -80,7 +80,7 @@ module _ {F E D C Com Path InCom InPath Domain : Type 0} (s : Setting F E C Com 
       (held_of s.fields committed p.log_blowup) asked)
       (honest : AreHonest (λ d. All (HoldsWords s.fields p.log_blowup) (committed d)) asked)
       (tall : All (λ r. AreTallEnough p (committed r.datum)) asked)
-      (off : All (λ r. All (HasPointsOff s.fields) (both ask (committed r.datum) r.points)) asked)
+      (off : All (λ r. All (HasPointsOff s.fields) (zip_with ask (committed r.datum) r.points)) asked)
       (rounds_are : map round_request rounds ≡ map (matrices_request committed) requests)
       (values_are : values ≡ map (values_asked s.fields p.log_blowup) rounds)
       (passes : IsTrue start.passes)

@@ -13,7 +13,7 @@ use Rattle.algebra.proofs.Lists.{Each, each_from_All, head_eq, tail_eq, each-app
 use Rattle.p3_matrix.specs.declared.dense.RowMajorMatrix.{RowMajorMatrix}
 use Rattle.p3_matrix.specs.Matrix.{rows}
 use Rattle.p3_dft.specs.Evaluations.{column}
-use Rattle.p3_pcs.specs.Claims.{both, matrix_claims}
+use Rattle.p3_pcs.specs.Claims.{zip_with, matrix_claims}
 use Rattle.p3_pcs.specs.Requests.{Request, AreOpenable, AreHonest, honest_claims, FitDomains}
 use Rattle.p3_fri_relation.specs.Setting.{Fields, Parameters, CommitmentClaim, Opening}
 use Rattle.p3_fri_relation.specs.Setting.{InputOpening}
@@ -87,8 +87,8 @@ module _ {F E : Type 0} (f : Fields F E) (p : Parameters) where
   honest_in : (ms : List (RowMajorMatrix F)) (lists : List (List E)) → length lists ≡ length ms
       → Each (λ points. points ≢ []) lists → Each (HasCoset f.two_adicity) ms
       → Each (λ m. IsTallEnough p (log_height m)) ms → Each (HoldsWords f p.log_blowup) ms
-      → Each (HasPointsOff f) (both ask ms lists)
-      → Each (IsHonest f p) (both (opened_honestly f p.log_blowup) ms lists)
+      → Each (HasPointsOff f) (zip_with ask ms lists)
+      → Each (IsHonest f p) (zip_with (opened_honestly f p.log_blowup) ms lists)
   honest_in [] lists count some cosets tall held off = tt
   honest_in (m ∷ ms) [] count some cosets tall held off = tt
   honest_in (m ∷ ms) (points ∷ lists) count some cosets tall held off = (
@@ -97,14 +97,14 @@ module _ {F E : Type 0} (f : Fields F E) (p : Parameters) where
   )
 
   count_in : (ms : List (RowMajorMatrix F)) (lists : List (List E)) → length lists ≡ length ms
-      → length (both (opened_honestly f p.log_blowup) ms lists) ≡ length ms
+      → length (zip_with (opened_honestly f p.log_blowup) ms lists) ≡ length ms
   count_in [] lists count = refl
   count_in (m ∷ ms) [] count = omega (arith, count)
   count_in (m ∷ ms) (points ∷ lists) count = ap (λ n. suc n)
       (count_in ms lists (omega (arith, count)))
 
   matrices_same : (ms : List (RowMajorMatrix F)) (lists : List (List E)) → length lists ≡ length ms
-      → matrices_in (both (opened_honestly f p.log_blowup) ms lists) ≡ ms
+      → matrices_in (zip_with (opened_honestly f p.log_blowup) ms lists) ≡ ms
   matrices_same [] lists count = refl
   matrices_same (m ∷ ms) [] count = absurd (omega (arith, count))
   matrices_same (m ∷ ms) (points ∷ lists) count = ap (λ rest. m ∷ rest)
@@ -112,7 +112,7 @@ module _ {F E : Type 0} (f : Fields F E) (p : Parameters) where
 
   -- the claims at the points of a matrix
   points_same : (matrix : RowMajorMatrix F) (points : List E)
-      → map point_claim (both (λ z vs. record { point = z; values = vs }) points
+      → map point_claim (zip_with (λ z vs. record { point = z; values = vs }) points
       (map (committed_values f p.log_blowup matrix) points))
       ≡ map (λ z. claim_at z (committed_values f p.log_blowup matrix z)) points
   points_same matrix [] = refl
@@ -127,8 +127,8 @@ module _ {F E : Type 0} (f : Fields F E) (p : Parameters) where
         → length lists ≡ length ms → Each (HoldsWords f p.log_blowup) ms
         → AllZip (IsClaimOf p.log_blowup)
         (map (matrix_claim log_size) (matrix_claims domains lists
-        (both (λ m points. map m.values_at points) (map (held_in f p.log_blowup) ms) lists)))
-        (both (opened_honestly f p.log_blowup) ms lists)
+        (zip_with (λ m points. map m.values_at points) (map (held_in f p.log_blowup) ms) lists)))
+        (zip_with (opened_honestly f p.log_blowup) ms lists)
     claims_in [] [] lists fit count held = tt
     claims_in [] (m ∷ ms) lists fit count held = absurd cc
     claims_in (d ∷ domains) [] lists fit count held = absurd cc
@@ -194,7 +194,7 @@ module _ {F E D Com Domain : Type 0} (f : Fields F E) (p : Parameters)
       (each_from_All (HasCoset f.two_adicity) (committed r.datum) h.0.cosets)
       (each_from_All (λ m. IsTallEnough p (log_height m)) (committed r.datum) h.0.tall_enough)
       (each_from_All (HoldsWords f p.log_blowup) (committed r.datum) h.0.words)
-      (each_from_All (HasPointsOff f) (both ask (committed r.datum) r.points) h.0.off))
+      (each_from_All (HasPointsOff f) (zip_with ask (committed r.datum) r.points) h.0.off))
       (requests_honest requests h.1)
 
   -- some matrix is
@@ -248,7 +248,7 @@ pub honest_requests : {F E D : Type 0} (f : Fields F E) (p : Parameters)
     requests
     → AreHonest (λ d. All (HoldsWords f p.log_blowup) (committed d)) requests
     → All (λ r. AreTallEnough p (committed r.datum)) requests
-    → All (λ r. All (HasPointsOff f) (both ask (committed r.datum) r.points)) requests
+    → All (λ r. All (HasPointsOff f) (zip_with ask (committed r.datum) r.points)) requests
     → All (IsHonestRequest f committed p) requests
 honest_requests f p committed requests openable honest tall off k d l = record {
   lists_of_points = openable.points k d l

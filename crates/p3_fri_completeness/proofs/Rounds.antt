@@ -2,7 +2,7 @@
 use Rattle.std.proofs.Common.{◌≡◌, ℕ, List, [], ◌∷◌, map, refl, sym, ap, ◌∙◌}
 use Rattle.p3_matrix.specs.declared.dense.RowMajorMatrix.{RowMajorMatrix}
 use Rattle.p3_pcs.specs.declared.requests.OpeningRequest.{OpeningRequest}
-use Rattle.p3_pcs.specs.Claims.{both}
+use Rattle.p3_pcs.specs.Claims.{zip_with}
 use Rattle.p3_pcs.specs.Requests.{Request, request, honest_values}
 use Rattle.p3_fri_relation.specs.Setting.{Fields}
 use Rattle.p3_fri_openings.specs.declared.round.OpeningRound.{OpeningRound}
@@ -17,8 +17,8 @@ use Rattle.algebra.proofs.Lists.{map-agree, map-map}
 
 module _ {F E : Type 0} (f : Fields F E) (log_blowup : ℕ) where
   values_held : (ms : List (RowMajorMatrix F)) (lists : List (List E))
-      → both (λ m points. map m.values_at points) (map (held_in f log_blowup) ms) lists
-      ≡ both (λ m points. map (committed_values f log_blowup m) points) ms lists
+      → zip_with (λ m points. map m.values_at points) (map (held_in f log_blowup) ms) lists
+      ≡ zip_with (λ m points. map (committed_values f log_blowup m) points) ms lists
   values_held [] lists = refl
   values_held (m ∷ ms) [] = refl
   values_held (m ∷ ms) (points ∷ lists) =
@@ -28,10 +28,10 @@ module _ {F E : Type 0} (f : Fields F E) (log_blowup : ℕ) where
       (rounds : List (OpeningRound F E)) (requests : List (OpeningRequest D E))
       (same : map round_request rounds ≡ map (matrices_request committed) requests) where
     opened_from : Request (List (RowMajorMatrix F)) E → List (Opened F E)
-    opened_from r = both (opened_honestly f log_blowup) r.datum r.points
+    opened_from r = zip_with (opened_honestly f log_blowup) r.datum r.points
 
     values_from : Request (List (RowMajorMatrix F)) E → List (List (List E))
-    values_from r = both (λ m points. map (committed_values f log_blowup m) points) r.datum r.points
+    values_from r = zip_with (λ m points. map (committed_values f log_blowup m) points) r.datum r.points
 
     -- what is opened, by round
     pub opened_by_request : opened_by_round rounds (map (values_asked f log_blowup) rounds)

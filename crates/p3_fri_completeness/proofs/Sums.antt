@@ -6,7 +6,7 @@ use Rattle.std.specs.List.{All, AllZip, zip}
 use Rattle.std.proofs.lemmas.List.{get_or-map}
 use Rattle.algebra.specs.Nested.{joined}
 use Rattle.algebra.proofs.Lists.{Each, All_from_each}
-use Rattle.p3_commit.specs.Batch.{opened_rows}
+use Rattle.p3_mmcs.specs.Batch.{opened_rows}
 use Rattle.p3_fri_relation.specs.Setting.{Fields, Parameters, MatrixClaim, CommitmentClaim}
 use Rattle.p3_fri_relation.specs.Setting.{Opening, InputOpening}
 use Rattle.p3_fri_relation.specs.Heights.{matrices_of}

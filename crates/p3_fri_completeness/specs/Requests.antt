@@ -4,7 +4,7 @@ use Rattle.algebra.specs.Words.{IsCosetWord}
 use Rattle.p3_matrix.specs.declared.dense.RowMajorMatrix.{RowMajorMatrix}
 use Rattle.p3_matrix.specs.Matrix.{rows, matrix_width}
 use Rattle.p3_dft.specs.Evaluations.{column}
-use Rattle.p3_pcs.specs.Claims.{both}
+use Rattle.p3_pcs.specs.Claims.{zip_with}
 use Rattle.p3_pcs.specs.Claims as claimed
 use Rattle.p3_pcs.specs.Requests.{Held, Request}
 use Rattle.p3_fri_relation.specs.Setting.{Fields, Parameters}
@@ -59,7 +59,7 @@ module _ {F E D : Type 0} (f : Fields F E) (committed : D → List (RowMajorMatr
   held_of log_blowup datum = map (held_in f log_blowup) (committed datum)
 
   abbrev pub round_opened : (log_blowup : ℕ) → Request D E → List (Opened F E)
-  round_opened log_blowup r = both (opened_honestly f log_blowup) (committed r.datum) r.points
+  round_opened log_blowup r = zip_with (opened_honestly f log_blowup) (committed r.datum) r.points
 
   -- an honest request that passes the prover's checks: it has a list of points for each matrix and
   -- in each a point, each matrix stands on a coset, is tall enough and holds words of low degree,
@@ -70,4 +70,4 @@ module _ {F E D : Type 0} (f : Fields F E) (committed : D → List (RowMajorMatr
     pub cosets : All (HasCoset f.two_adicity) (committed r.datum)
     pub tall_enough : AreTallEnough p (committed r.datum)
     pub words : All (HoldsWords f p.log_blowup) (committed r.datum)
-    pub off : All (HasPointsOff f) (both ask (committed r.datum) r.points)
+    pub off : All (HasPointsOff f) (zip_with ask (committed r.datum) r.points)

@@ -4,4 +4,4 @@ pub use p3_fri_folding::WithExtraBits;
 pub use p3_fri_folding::config::{
     FriParameters, compute_log_arity_for_round, fold_schedule, is_strictly_falling,
 };
-pub use p3_fri_steps::FriProverError;
+pub use p3_fri_pow::FriProverError;

@@ -15,7 +15,7 @@ pub use p3_fri_folding::{
     strategy,
 };
 pub use p3_fri_pcs_transcript::{PcsShape, pcs_transcript};
+pub use p3_fri_pow::{FriProverError, PowPhase, pow_phase};
 pub use p3_fri_relation::proof;
 pub use p3_fri_relation::proof::{BatchMultiOpening, CommitPhaseMultiStep, FriProof};
-pub use p3_fri_steps::{FriProverError, PowPhase, pow_phase};
 pub use p3_fri_transcript::{FriShape, transcript};

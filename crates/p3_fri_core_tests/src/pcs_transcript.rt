@@ -3,16 +3,13 @@
 
 ghost use Rattle.std.specs.Prelude.{◌≡◌, ◌≤◌};
 
-use crate::transcript::shape_of as test_of;
 use p3_challenger::Sha256Challenger;
-use p3_commit::{CommitmentOpening, MatrixOpening, OpenedValues, PointOpening};
 use p3_field::{BabyBear, BabyBear4, ExtensionField, Field};
 use p3_fri_core::pcs_transcript::{
-    PcsFailure, PcsProverTranscript, PcsShape, PcsTranscriptFailure, PcsVerifierTranscript,
-    PlayedPcs, ReplayedPcs, play_pcs, replay_pcs,
+    PcsProverTranscript, PcsShape, PcsTranscriptFailure, PcsVerifierTranscript,
 };
-use p3_fri_core::{FriParameters, FriProverError, PowPhase};
-use p3_fri_transcript::transcript::{FriMessages, Refusal, TranscriptFailure};
+use p3_fri_core::{FriParameters, FriProverError};
+use p3_mmcs::{CommitmentOpening, MatrixOpening, OpenedValues, PointOpening};
 use std::alloc::{AllocError, Global};
 use std::test::Fail;
 
@@ -20,12 +17,10 @@ type OurProver<'a> = PcsProverTranscript<'a, Sha256Challenger, BabyBear, BabyBea
 
 type OurVerifier<'a> = PcsVerifierTranscript<'a, Sha256Challenger, BabyBear, BabyBear4>;
 
-type OurClaim = CommitmentOpening<BabyBear4, [u8; 32], ()>;
-
-type OurPlayed = PlayedPcs<BabyBear, BabyBear4>;
+pub(crate) type OurClaim = CommitmentOpening<BabyBear4, [u8; 32], ()>;
 
 /// The parameters of a test whose openings are batched behind so many bits of proof of work.
-fn parameters(batch_proof_of_work_bits: usize) -> FriParameters<()>
+pub(crate) fn parameters(batch_proof_of_work_bits: usize) -> FriParameters<()>
     ensures { result.batch_proof_of_work_bits ≡ batch_proof_of_work_bits }
 {
     FriParameters {
@@ -40,54 +35,58 @@ fn parameters(batch_proof_of_work_bits: usize) -> FriParameters<()>
     }
 }
 
+/// The list of one value.
+fn listed<T: Drop>(alloc: Global, value: T) -> Result<Vec<T>, AllocError> {
+    let mut values = Vec::new(alloc);
+    values.push(value)?;
+    Ok(values)
+}
+
 /// Values at one point of one matrix.
-fn opened(alloc: Global, values: &[BabyBear4]) -> Result<OpenedValues<BabyBear4>, AllocError> {
-    let mut points = Vec::new(alloc);
-    points.push(Vec::from_slice(alloc, values)?)?;
-    let mut matrices = Vec::new(alloc);
-    matrices.push(points)?;
-    let mut commitments = Vec::new(alloc);
-    commitments.push(matrices)?;
-    Ok(commitments)
+pub(crate) fn opened(
+    alloc: Global,
+    values: &[BabyBear4],
+) -> Result<OpenedValues<BabyBear4>, AllocError> {
+    let points = listed(alloc, Vec::from_slice(alloc, values)?)?;
+    listed(alloc, listed(alloc, points)?)
 }
 
 /// The claim of these values.
-fn claimed(alloc: Global, values: &[BabyBear4]) -> Result<Vec<OurClaim>, AllocError> {
-    let mut points = Vec::new(alloc);
-    points.push(PointOpening {
+pub(crate) fn claimed(alloc: Global, values: &[BabyBear4]) -> Result<Vec<OurClaim>, AllocError> {
+    let point = PointOpening {
         point: BabyBear4::ZERO,
         values: Vec::from_slice(alloc, values)?,
-    })?;
-    let mut matrices = Vec::new(alloc);
-    matrices.push(MatrixOpening { domain: (), points })?;
-    let mut claims = Vec::new(alloc);
-    claims.push(CommitmentOpening {
+    };
+    let matrix = MatrixOpening {
+        domain: (),
+        points: listed(alloc, point)?,
+    };
+    let claim = CommitmentOpening {
         commitment: [7u8; 32],
-        matrices,
-    })?;
-    Ok(claims)
+        matrices: listed(alloc, matrix)?,
+    };
+    listed(alloc, claim)
 }
 
 /// An element by its coefficients.
-fn element(coefficients: [u64; 4]) -> BabyBear4 {
-    let [c0, c1, c2, c3] = coefficients;
-    BabyBear4::from_coefficients(&[
-        BabyBear::from_u64(c0),
-        BabyBear::from_u64(c1),
-        BabyBear::from_u64(c2),
-        BabyBear::from_u64(c3),
-    ])
+pub(crate) fn element(coefficients: [u64; 4]) -> BabyBear4 {
+    BabyBear4::from_coefficients(&coefficients.map(BabyBear::from_u64))
+}
+
+/// A list of lists.
+fn nested(alloc: Global, lists: &[&[usize]]) -> Result<Vec<Vec<usize>>, AllocError> {
+    let mut all = Vec::new(alloc);
+    for list in lists {
+        all.push(Vec::from_slice(alloc, *list)?)?;
+    }
+    Ok(all)
 }
 
 /// A shape by its counts.
 fn shape_of(alloc: Global, counts: &[&[&[usize]]]) -> Result<PcsShape, AllocError> {
     let mut claimed_evaluation_counts = Vec::new(alloc);
     for matrices in counts {
-        let mut nested = Vec::new(alloc);
-        for points in *matrices {
-            nested.push(Vec::from_slice(alloc, *points)?)?;
-        }
-        claimed_evaluation_counts.push(nested)?;
+        claimed_evaluation_counts.push(nested(alloc, *matrices)?)?;
     }
     Ok(PcsShape {
         claimed_evaluation_counts,
@@ -180,6 +179,15 @@ fn verify(
     }
 }
 
+/// The refusal of so many values for so many at the first opening.
+fn wrong_count(expected: usize, got: usize) -> Option<PcsTranscriptFailure> {
+    Some(PcsTranscriptFailure::ClaimedEvaluationCount {
+        opening: 0,
+        expected,
+        got,
+    })
+}
+
 #[test]
 fn claims_are_compared(rt: HostRuntime) -> Result<(), Fail> {
     let two = claimed(rt.alloc(), &[BabyBear4::ONE, BabyBear4::ZERO])?;
@@ -187,205 +195,83 @@ fn claims_are_compared(rt: HostRuntime) -> Result<(), Fail> {
         rt.alloc(),
         &[BabyBear4::ONE, BabyBear4::ZERO, BabyBear4::ONE],
     )?;
-    let none: &[OurClaim] = &[];
-    let rows = [
-        (two.as_slice(), two.as_slice(), None),
-        (two.as_slice(), none, None),
-        (
-            two.as_slice(),
-            three.as_slice(),
-            Some(PcsTranscriptFailure::ClaimedEvaluationCount {
-                opening: 0,
-                expected: 2,
-                got: 3,
-            }),
-        ),
-        (
-            none,
-            two.as_slice(),
-            Some(PcsTranscriptFailure::ClaimedEvaluationCount {
-                opening: 0,
-                expected: 0,
-                got: 2,
-            }),
-        ),
-    ];
-    for (described, claims, failure) in rows {
-        let answer = answer_to_claims(rt.alloc(), described, claims)?;
-        assert_eq!(rt; answer, failure);
-    }
+    assert!(rt; answer_to_claims(rt.alloc(), &two, &two)?.is_none());
+    assert!(rt; answer_to_claims(rt.alloc(), &two, &[])?.is_none());
+    assert!(rt; answer_to_claims(rt.alloc(), &two, &three)? == wrong_count(2, 3));
+    assert!(rt; answer_to_claims(rt.alloc(), &[], &two)? == wrong_count(0, 2));
     Ok(())
+}
+
+/// Bits of proof of work, the witness, and the coefficients of the challenge.
+const ALPHAS: [(usize, Option<u64>, [u64; 4]); 2] = [
+    (
+        0,
+        None,
+        [296_278_921, 1_153_280_944, 1_164_941_694, 716_605_729],
+    ),
+    (
+        4,
+        Some(27),
+        [1_893_109_911, 1_140_352_409, 1_569_219_815, 223_669_611],
+    ),
+];
+
+/// Whether both sides draw this challenge behind these bits, with this witness, and end in one
+/// state.
+fn both_draw(
+    alloc: Global,
+    bits: usize,
+    wanted: (Option<BabyBear>, BabyBear4),
+) -> Result<bool, Fail>
+    requires { bits ≤ 63 }
+{
+    let mut prover = Sha256Challenger::new();
+    let mut verifier = Sha256Challenger::new();
+    let values = opened(alloc, &[BabyBear4::ONE])?;
+    let (alpha, witness) = prove(alloc, &mut prover, bits, &values)?;
+    let claims = claimed(alloc, &[BabyBear4::ONE])?;
+    let verified = verify(alloc, &mut verifier, bits, &claims, witness)?;
+    Ok((witness, alpha) == wanted && verified == alpha && verifier == prover)
+}
+
+/// The first of these bits behind which both sides draw something else.
+fn first_wrong_alpha(alloc: Global) -> Result<Option<usize>, Fail> {
+    for (bits, witness, alpha) in ALPHAS {
+        if bits > 63 {
+            return Ok(Some(bits));
+        }
+        let wanted = (witness.map(BabyBear::from_u64), element(alpha));
+        if !both_draw(alloc, bits, wanted)? {
+            return Ok(Some(bits));
+        }
+    }
+    Ok(None)
 }
 
 #[test]
 fn both_sides_draw_one_alpha(rt: HostRuntime) -> Result<(), Fail> {
-    let values = opened(rt.alloc(), &[BabyBear4::ONE])?;
-    let claims = claimed(rt.alloc(), &[BabyBear4::ONE])?;
-    let rows = [
-        (
-            0,
-            None,
-            [296_278_921, 1_153_280_944, 1_164_941_694, 716_605_729],
-        ),
-        (
-            4,
-            Some(BabyBear::from_u64(27)),
-            [1_893_109_911, 1_140_352_409, 1_569_219_815, 223_669_611],
-        ),
-    ];
-    for (bits, expected, alpha) in rows {
-        assert!(rt; bits <= 63);
-        let mut prover = Sha256Challenger::new();
-        let (drawn, witness) = prove(rt.alloc(), &mut prover, bits, &values)?;
-        let mut verifier = Sha256Challenger::new();
-        let verified = verify(rt.alloc(), &mut verifier, bits, &claims, witness)?;
-        let alpha = element(alpha);
-        assert_eq!(rt;
-            (witness, drawn, verified, verifier == prover),
-            (expected, alpha, alpha, true)
-        );
-    }
+    let wrong = first_wrong_alpha(rt.alloc())?;
+    assert!(rt; wrong.is_none(), "behind {wrong:?} bits");
     Ok(())
+}
+
+/// What the verifier answers to this witness of four bits, where it refuses.
+fn refusal_of_witness(
+    alloc: Global,
+    witness: Option<BabyBear>,
+) -> Result<Option<PcsTranscriptFailure>, AllocError> {
+    let claims = claimed(alloc, &[BabyBear4::ONE])?;
+    let mut challenger = Sha256Challenger::new();
+    Ok(verify(alloc, &mut challenger, 4, &claims, witness).err())
 }
 
 #[test]
 fn a_missing_witness_and_a_wrong_one_have_their_names(rt: HostRuntime) -> Result<(), Fail> {
-    let claims = claimed(rt.alloc(), &[BabyBear4::ONE])?;
-    let rows = [
-        (None, PcsTranscriptFailure::MissingPowWitness { bits: 4 }),
-        (
-            Some(BabyBear::from_u64(26)),
-            PcsTranscriptFailure::PowWitness { bits: 4 },
-        ),
-    ];
-    for (witness, failure) in rows {
-        let mut challenger = Sha256Challenger::new();
-        let answer = verify(rt.alloc(), &mut challenger, 4, &claims, witness);
-        assert_eq!(rt; answer.err(), Some(failure));
-    }
-    Ok(())
-}
-
-/// The prover's whole opening of the values behind four bits, with a test of one round.
-fn play_whole(
-    alloc: Global,
-    challenger: &mut Sha256Challenger,
-    values: &OpenedValues<BabyBear4>,
-) -> Result<OurPlayed, Fail> {
-    let shape = PcsShape::from_opened_values(alloc, &parameters(4), values)?;
-    let test = test_of(alloc, &[3], 2, 3)?;
-    Ok(play_pcs::<BabyBear, BabyBear4, [u8; 32], Sha256Challenger>(
-        alloc,
-        challenger,
-        shape,
-        values,
-        test,
-        &[[7u8; 32]],
-        &[BabyBear4::from_u64(5)],
-    )?)
-}
-
-/// Whether a verifier draws what the prover drew.
-fn draws_agree(replayed: &ReplayedPcs<BabyBear4>, played: &OurPlayed) -> bool {
-    replayed.alpha == played.alpha
-        && replayed.betas == played.test.betas
-        && replayed.indices == played.test.indices
-}
-
-/// What the verifier of the same refuses, or whether it draws what the prover drew and ends in the
-/// prover's state.
-fn replay_whole(
-    alloc: Global,
-    claims: &[OurClaim],
-    played: &OurPlayed,
-    prover: &Sha256Challenger,
-    batch_witness: Option<BabyBear>,
-    query_witness: Option<BabyBear>,
-) -> Result<Result<bool, Refusal<PcsFailure>>, AllocError> {
-    let shape = PcsShape::from_claims(alloc, &parameters(4), claims)?;
-    let test = test_of(alloc, &[3], 2, 3)?;
-    let mut verifier = Sha256Challenger::new();
-    let answer = replay_pcs::<BabyBear, BabyBear4, [u8; 32], Sha256Challenger, [u8; 32], ()>(
-        alloc,
-        &mut verifier,
-        shape,
-        claims,
-        batch_witness,
-        test,
-        FriMessages {
-            commitments: &[[7u8; 32]],
-            commit_witnesses: &played.test.commit_witnesses,
-            final_poly: &[BabyBear4::from_u64(5)],
-            query_witness,
-        },
-    );
-    Ok(match answer {
-        Ok(replayed) => Ok(draws_agree(&replayed, played) && verifier == *prover),
-        Err(refusal) => Err(refusal),
-    })
-}
-
-#[test]
-fn whole_openings_are_their_steps(rt: HostRuntime) -> Result<(), Fail> {
-    let values = opened(rt.alloc(), &[BabyBear4::ONE])?;
-    let played = play_whole(rt.alloc(), &mut Sha256Challenger::new(), &values)?;
-    let alpha = element([1_893_109_911, 1_140_352_409, 1_569_219_815, 223_669_611]);
-    let beta = element([115_710_677, 823_049_067, 281_331_580, 1_749_275_461]);
-    let test = &played.test;
-    assert_eq!(rt;
-        (played.alpha, played.batch_witness, test.query_witness),
-        (alpha, BabyBear::from_u64(27), BabyBear::from_u64(11))
-    );
-    assert_eq!(rt;
-        (
-            test.betas.as_slice(),
-            test.commit_witnesses.as_slice(),
-            test.indices.as_slice()
-        ),
-        (
-            [beta].as_slice(),
-            [BabyBear::from_u64(5)].as_slice(),
-            [6, 5, 3, 1].as_slice()
-        )
-    );
-    Ok(())
-}
-
-#[test]
-fn whole_openings_are_replayed_or_refused(rt: HostRuntime) -> Result<(), Fail> {
-    let values = opened(rt.alloc(), &[BabyBear4::ONE])?;
-    let claims = claimed(rt.alloc(), &[BabyBear4::ONE])?;
-    let mut prover = Sha256Challenger::new();
-    let played = play_whole(rt.alloc(), &mut prover, &values)?;
-    let batch_witness = Some(played.batch_witness);
-    let query_witness = Some(played.test.query_witness);
-    let missing = TranscriptFailure::MissingPowWitness(PowPhase::Query);
-    let rows = [
-        (batch_witness, query_witness, Ok(true)),
-        (
-            None,
-            query_witness,
-            Err(Refusal::Step(PcsFailure::Pcs(PcsTranscriptFailure::MissingPowWitness {
-                bits: 4,
-            }))),
-        ),
-        (
-            batch_witness,
-            None,
-            Err(Refusal::Step(PcsFailure::Fri(missing))),
-        ),
-    ];
-    for (batch_witness, query_witness, expected) in rows {
-        let answer = replay_whole(
-            rt.alloc(),
-            &claims,
-            &played,
-            &prover,
-            batch_witness,
-            query_witness,
-        )?;
-        assert_eq!(rt; answer, expected);
-    }
+    let missing = PcsTranscriptFailure::MissingPowWitness { bits: 4 };
+    assert!(rt; refusal_of_witness(rt.alloc(), None)? == Some(missing));
+    let wrong = PcsTranscriptFailure::PowWitness { bits: 4 };
+    let witness = BabyBear::from_u64(26);
+    assert!(rt; refusal_of_witness(rt.alloc(), Some(witness))? == Some(wrong));
     Ok(())
 }
 
@@ -406,24 +292,22 @@ fn groupings_have_streams_of_their_own(rt: HostRuntime) -> Result<(), Fail> {
     let two_matrices = stream_of_counts(rt.alloc(), &[&[&[3], &[3]]])?;
     let two_points = stream_of_counts(rt.alloc(), &[&[&[3, 3]]])?;
     let two_commitments = stream_of_counts(rt.alloc(), &[&[&[3]], &[&[3]]])?;
-    let differ = (
-        two_matrices != two_points,
-        two_commitments != two_matrices,
-        two_commitments != two_points,
-    );
-    assert_eq!(rt; differ, (true, true, true));
+    assert!(rt; two_matrices != two_points);
+    assert!(rt; two_commitments != two_matrices);
+    assert!(rt; two_commitments != two_points);
     Ok(())
+}
+
+/// The number of steps that a shape describes.
+fn step_count(alloc: Global, shape: &PcsShape) -> Result<usize, AllocError> {
+    Ok(shape.pattern::<BabyBear, BabyBear4>(alloc)?.steps().len())
 }
 
 #[test]
 fn shapes_have_their_openings(rt: HostRuntime) -> Result<(), Fail> {
     let shape = shape_of(rt.alloc(), &[&[&[3, 1], &[]], &[&[2]]])?;
-    let steps = shape
-        .pattern::<BabyBear, BabyBear4>(rt.alloc())?
-        .steps()
-        .len();
-    assert_eq!(rt; (shape.num_openings(), steps), (3, 6));
-    let cloned = shape.clone(rt.alloc())?;
-    assert_eq!(rt; cloned, shape);
+    assert!(rt; shape.num_openings() == 3);
+    assert!(rt; step_count(rt.alloc(), &shape)? == 6);
+    assert!(rt; shape.clone(rt.alloc())? == shape);
     Ok(())
 }

@@ -8,19 +8,14 @@ ghost use Rattle.p3_fri_transcript.specs.Shapes.{fri_shape};
 use p3_challenger::Sha256Challenger;
 use p3_challenger::fs::Script;
 use p3_field::{BabyBear, BabyBear4, ExtensionField, Field};
-use p3_fri_core::transcript::{
-    FriMessages, FriShape, PlayedFri, ProverTranscript, Refusal, ReplayedFri, TranscriptFailure,
-    VerifierTranscript, play_fri, replay_fri,
-};
-use p3_fri_core::{FriParameters, FriProverError, PowPhase};
+use p3_fri_core::transcript::{FriShape, ProverTranscript, TranscriptFailure, VerifierTranscript};
+use p3_fri_core::{FriProverError, PowPhase};
 use std::alloc::{AllocError, Global};
 use std::test::Fail;
 
 type OurProver<'a> = ProverTranscript<'a, Sha256Challenger, BabyBear, BabyBear4>;
 
 type OurVerifier<'a> = VerifierTranscript<'a, Sha256Challenger, BabyBear, BabyBear4>;
-
-type OurPlayed = PlayedFri<BabyBear, BabyBear4>;
 
 /// The shape of rounds of these log arities, with one coefficient and four indices of three bits.
 #[tactic(auto, unfolding(p3_fri_transcript::specs::Shapes::fri_shape))]
@@ -61,22 +56,20 @@ fn seeded(alloc: Global, shape: &FriShape) -> Result<Sha256Challenger, AllocErro
     Ok(challenger)
 }
 
-/// What `commit_rounds` answers to so many commitments and witnesses at the schedule [3, 3, 2], and
-/// whether it leaves the challenger as the seed left it.
-fn answer_to_counts(
+/// What `commit_rounds` answers to these commitments and witnesses at the schedule [3, 3, 2], and
+/// whether it leaves the challenger as the seed left it, which is `before`.
+fn answer_to_rounds(
     alloc: Global,
-    commitments: usize,
-    witnesses: usize,
+    before: &Sha256Challenger,
+    commitments: &[[u8; 32]],
+    witnesses: &[BabyBear],
 ) -> Result<(Option<TranscriptFailure>, bool), AllocError> {
     let shape = shape_of(alloc, &[3, 3, 2], 0, 0)?;
-    let before = seeded(alloc, &shape)?;
-    let commitments = vec![in alloc; [7u8; 32]; commitments]?;
-    let witnesses = vec![in alloc; BabyBear::ZERO; witnesses]?;
     let mut challenger = Sha256Challenger::new();
     let mut transcript = OurVerifier::new(alloc, &mut challenger, shape)?;
-    let answer = transcript.commit_rounds(alloc, &commitments, &witnesses);
+    let answer = transcript.commit_rounds(alloc, commitments, witnesses);
     transcript.abort();
-    Ok((answer.err(), challenger == before))
+    Ok((answer.err(), challenger == *before))
 }
 
 /// What the verifier's `query_phase` answers without rounds, and whether it leaves the challenger
@@ -100,15 +93,18 @@ fn answer_to_polynomial(
 
 /// What a side draws, and the prover's witnesses.
 #[derive(Debug, PartialEq, Eq, Drop)]
-struct Drawn {
-    beta: BabyBear4,
-    commit_witness: Option<BabyBear>,
-    indices: Vec<usize>,
-    query_witness: Option<BabyBear>,
+pub(crate) struct Drawn {
+    pub beta: BabyBear4,
+    pub commit_witness: Option<BabyBear>,
+    pub indices: Vec<usize>,
+    pub query_witness: Option<BabyBear>,
 }
 
 /// The prover's side of one round and the queries.
-fn prove(alloc: Global, challenger: &mut Sha256Challenger) -> Result<Drawn, FriProverError> {
+pub(crate) fn prove(
+    alloc: Global,
+    challenger: &mut Sha256Challenger,
+) -> Result<Drawn, FriProverError> {
     let shape = shape_of(alloc, &[3], 2, 3)?;
     let mut transcript = OurProver::new(alloc, challenger, shape)?;
     let (beta, commit_witness) = match transcript.commit_round([7u8; 32]) {
@@ -165,87 +161,119 @@ fn verify(alloc: Global, challenger: &mut Sha256Challenger) -> Result<Drawn, Tra
     }
 }
 
-/// The stream of a shape.
-fn stream_of(alloc: Global, shape: &FriShape) -> Result<Vec<u8>, AllocError> {
-    shape
-        .domain_separator::<BabyBear, BabyBear4>(alloc)?
-        .seed_stream(alloc)
-}
-
-/// The stream of rounds of these log arities.
-fn stream_of_rounds(alloc: Global, log_arities: &[usize]) -> Result<Vec<u8>, AllocError> {
-    stream_of(alloc, &shape_of(alloc, log_arities, 0, 0)?)
-}
-
-const STREAM_WITHOUT_ROUNDS: [u8; 142] = [
-    0x01, 0x00, 0x00, 0x00, 0x00, 0x00, 0x00, 0x00, 0x06, 0x70, 0x33, 0x2d, 0x66, 0x72, 0x69, 0x00,
-    0x00, 0x00, 0x00, 0x00, 0x00, 0x00, 0x02, 0x00, 0x00, 0x01, 0x00, 0x00, 0x00, 0x00, 0x00, 0x00,
-    0x00, 0x04, 0x00, 0x00, 0x00, 0x00, 0x00, 0x00, 0x00, 0x0a, 0x66, 0x69, 0x6e, 0x61, 0x6c, 0x5f,
-    0x70, 0x6f, 0x6c, 0x79, 0x01, 0x00, 0x00, 0x00, 0x00, 0x00, 0x00, 0x00, 0x01, 0x00, 0x01, 0x02,
-    0x00, 0x00, 0x00, 0x00, 0x00, 0x00, 0x00, 0x01, 0x00, 0x00, 0x00, 0x00, 0x00, 0x00, 0x00, 0x0d,
-    0x71, 0x75, 0x65, 0x72, 0x79, 0x5f, 0x69, 0x6e, 0x64, 0x69, 0x63, 0x65, 0x73, 0x01, 0x00, 0x00,
-    0x00, 0x00, 0x00, 0x00, 0x00, 0x02, 0x00, 0x00, 0x00, 0x00, 0x00, 0x00, 0x00, 0x02, 0x00, 0x00,
-    0x00, 0x00, 0x00, 0x00, 0x00, 0x08, 0x00, 0x00, 0x00, 0x00, 0x00, 0x00, 0x00, 0x01, 0x00, 0x00,
-    0x00, 0x00, 0x00, 0x00, 0x00, 0x08, 0x00, 0x00, 0x00, 0x00, 0x00, 0x00, 0x00, 0x01,
+/// Numbers of commitments and of witnesses for three rounds, and why they are refused.
+const COUNTS: [(usize, usize, Option<TranscriptFailure>); 5] = [
+    (
+        2,
+        2,
+        Some(TranscriptFailure::CommitRoundCount {
+            expected: 3,
+            got: 2,
+        }),
+    ),
+    (
+        4,
+        4,
+        Some(TranscriptFailure::CommitRoundCount {
+            expected: 3,
+            got: 4,
+        }),
+    ),
+    (
+        50,
+        50,
+        Some(TranscriptFailure::CommitRoundCount {
+            expected: 3,
+            got: 50,
+        }),
+    ),
+    (
+        3,
+        2,
+        Some(TranscriptFailure::CommitPowWitnessCount {
+            expected: 3,
+            got: 2,
+        }),
+    ),
+    (3, 3, None),
 ];
 
-/// The refusal of so many commitments for three rounds.
-fn wrong_rounds(got: usize) -> TranscriptFailure {
-    TranscriptFailure::CommitRoundCount { expected: 3, got }
+/// The first of these numbers that isn't answered so, or changes the challenger where it is
+/// refused.
+fn first_wrong_counts(alloc: Global) -> Result<Option<(usize, usize)>, AllocError> {
+    let before = seeded(alloc, &shape_of(alloc, &[3, 3, 2], 0, 0)?)?;
+    let (all_commitments, all_witnesses) = ([[7u8; 32]; 50], [BabyBear::ZERO; 50]);
+    for (commitments, witnesses, wanted) in COUNTS {
+        let given = (
+            all_commitments.get(..commitments),
+            all_witnesses.get(..witnesses),
+        );
+        let (Some(given_commitments), Some(given_witnesses)) = given else {
+            return Ok(Some((commitments, witnesses)));
+        };
+        let (answer, unchanged) = answer_to_rounds(
+            alloc,
+            &before,
+            given_commitments,
+            given_witnesses,
+        )?;
+        if answer != wanted || (wanted.is_some() && !unchanged) {
+            return Ok(Some((commitments, witnesses)));
+        }
+    }
+    Ok(None)
 }
 
 #[test]
 fn wrong_counts_are_refused_before_anything_is_absorbed(rt: HostRuntime) -> Result<(), Fail> {
-    let rows = [
-        (2, 2, wrong_rounds(2)),
-        (4, 4, wrong_rounds(4)),
-        (50, 50, wrong_rounds(50)),
-        (
-            3,
-            2,
-            TranscriptFailure::CommitPowWitnessCount {
-                expected: 3,
-                got: 2,
-            },
-        ),
-    ];
-    for (commitments, witnesses, failure) in rows {
-        let answer = answer_to_counts(rt.alloc(), commitments, witnesses)?;
-        assert_eq!(rt; answer, (Some(failure), true));
-    }
-    let (answer, _) = answer_to_counts(rt.alloc(), 3, 3)?;
-    assert_eq!(rt; answer, None);
+    let wrong = first_wrong_counts(rt.alloc())?;
+    assert!(rt; wrong.is_none(), "commitments and witnesses: {wrong:?}");
     Ok(())
+}
+
+/// Bits of proof of work of the queries, a witness for them, and why it is refused.
+const WITNESSES: [(usize, Option<u64>, Option<TranscriptFailure>); 4] = [
+    (0, None, None),
+    (
+        8,
+        None,
+        Some(TranscriptFailure::MissingPowWitness(PowPhase::Query)),
+    ),
+    (
+        8,
+        Some(45),
+        Some(TranscriptFailure::PowWitness(PowPhase::Query)),
+    ),
+    (8, Some(46), None),
+];
+
+/// The first of these bits and witnesses that is answered otherwise.
+fn first_wrong_witness(alloc: Global) -> Result<Option<(usize, Option<u64>)>, AllocError> {
+    let final_poly = [BabyBear4::from_u64(5)];
+    for (bits, number, wanted) in WITNESSES {
+        if bits > 63 {
+            return Ok(Some((bits, number)));
+        }
+        let witness = number.map(BabyBear::from_u64);
+        let (answer, _) = answer_to_polynomial(alloc, bits, &final_poly, witness)?;
+        if answer != wanted {
+            return Ok(Some((bits, number)));
+        }
+    }
+    Ok(None)
 }
 
 #[test]
 fn final_polynomials_and_witnesses_of_the_queries(rt: HostRuntime) -> Result<(), Fail> {
-    let five = BabyBear4::from_u64(5);
     let failure = TranscriptFailure::FinalPolyLen {
         expected: 1,
         got: 3,
     };
-    let (answer, unchanged) = answer_to_polynomial(rt.alloc(), 8, &[five, five, five], None)?;
-    assert_eq!(rt; (answer, unchanged), (Some(failure), true));
-    let rows = [
-        (0, None, None),
-        (
-            8,
-            None,
-            Some(TranscriptFailure::MissingPowWitness(PowPhase::Query)),
-        ),
-        (
-            8,
-            Some(BabyBear::from_u64(45)),
-            Some(TranscriptFailure::PowWitness(PowPhase::Query)),
-        ),
-        (8, Some(BabyBear::from_u64(46)), None),
-    ];
-    for (bits, witness, expected) in rows {
-        assert!(rt; bits <= 63);
-        let (answer, _) = answer_to_polynomial(rt.alloc(), bits, &[five], witness)?;
-        assert_eq!(rt; answer, expected, "{witness:?} at {bits} bits");
-    }
+    let fives = [BabyBear4::from_u64(5); 3];
+    let (answer, unchanged) = answer_to_polynomial(rt.alloc(), 8, &fives, None)?;
+    assert!(rt; answer == Some(failure) && unchanged);
+    let wrong = first_wrong_witness(rt.alloc())?;
+    assert!(rt; wrong.is_none(), "{wrong:?}");
     Ok(())
 }
 
@@ -255,99 +283,11 @@ fn both_sides_draw_the_same(rt: HostRuntime) -> Result<(), Fail> {
     let mut verifier = Sha256Challenger::new();
     let drawn = prove(rt.alloc(), &mut prover)?;
     let verified = verify(rt.alloc(), &mut verifier)?;
-    let beta = BabyBear4::from_coefficients(&[
-        BabyBear::from_u64(854_485_589),
-        BabyBear::from_u64(1_124_761_396),
-        BabyBear::from_u64(1_343_671_587),
-        BabyBear::from_u64(916_607_916),
-    ]);
-    assert_eq!(rt; (&drawn, &prover), (&verified, &verifier));
-    assert_eq!(rt;
-        (drawn.indices.as_slice(), drawn.beta),
-        ([2, 4, 4, 5].as_slice(), beta)
-    );
-    Ok(())
-}
-
-/// The prover's whole transcript of one round and the queries.
-fn play_whole(alloc: Global, challenger: &mut Sha256Challenger) -> Result<OurPlayed, Fail> {
-    let shape = shape_of(alloc, &[3], 2, 3)?;
-    Ok(play_fri::<BabyBear, BabyBear4, [u8; 32], Sha256Challenger>(
-        alloc,
-        challenger,
-        shape,
-        &[[7u8; 32]],
-        &[BabyBear4::from_u64(5)],
-    )?)
-}
-
-/// Whether a verifier draws what the prover drew.
-fn draws_agree(replayed: &ReplayedFri<BabyBear4>, played: &OurPlayed) -> bool {
-    replayed.betas == played.betas && replayed.indices == played.indices
-}
-
-/// What the verifier of the same refuses, or whether it draws what the prover drew and ends in the
-/// prover's state.
-fn replay_whole(
-    alloc: Global,
-    played: &OurPlayed,
-    prover: &Sha256Challenger,
-    commit_witness: BabyBear,
-    query_witness: Option<BabyBear>,
-) -> Result<Result<bool, Refusal<TranscriptFailure>>, AllocError> {
-    let shape = shape_of(alloc, &[3], 2, 3)?;
-    let mut verifier = Sha256Challenger::new();
-    let answer = replay_fri::<BabyBear, BabyBear4, [u8; 32], Sha256Challenger>(
-        alloc,
-        &mut verifier,
-        shape,
-        FriMessages {
-            commitments: &[[7u8; 32]],
-            commit_witnesses: &[commit_witness],
-            final_poly: &[BabyBear4::from_u64(5)],
-            query_witness,
-        },
-    );
-    Ok(match answer {
-        Ok(replayed) => Ok(draws_agree(&replayed, played) && verifier == *prover),
-        Err(refusal) => Err(refusal),
-    })
-}
-
-#[test]
-fn whole_transcripts_are_their_steps(rt: HostRuntime) -> Result<(), Fail> {
-    let mut stepped = Sha256Challenger::new();
-    let drawn = prove(rt.alloc(), &mut stepped)?;
-    let mut prover = Sha256Challenger::new();
-    let played = play_whole(rt.alloc(), &mut prover)?;
-    assert_eq!(rt;
-        (played.betas.as_slice(), played.indices.as_slice(), &prover),
-        ([drawn.beta].as_slice(), drawn.indices.as_slice(), &stepped)
-    );
-    assert_eq!(rt;
-        (played.commit_witnesses.as_slice(), played.query_witness),
-        ([BabyBear::from_u64(2)].as_slice(), BabyBear::from_u64(19))
-    );
-    Ok(())
-}
-
-#[test]
-fn whole_transcripts_are_replayed_or_refused(rt: HostRuntime) -> Result<(), Fail> {
-    let mut prover = Sha256Challenger::new();
-    let played = play_whole(rt.alloc(), &mut prover)?;
-    let commit_witness = BabyBear::from_u64(2);
-    let query_witness = Some(BabyBear::from_u64(19));
-    let missing = TranscriptFailure::MissingPowWitness(PowPhase::Query);
-    let wrong = TranscriptFailure::PowWitness(PowPhase::CommitPhase);
-    let rows = [
-        (commit_witness, query_witness, Ok(true)),
-        (commit_witness, None, Err(Refusal::Step(missing))),
-        (BabyBear::ONE, query_witness, Err(Refusal::Step(wrong))),
-    ];
-    for (commit_witness, query_witness, expected) in rows {
-        let answer = replay_whole(rt.alloc(), &played, &prover, commit_witness, query_witness)?;
-        assert_eq!(rt; answer, expected);
-    }
+    let coefficients = [854_485_589, 1_124_761_396, 1_343_671_587, 916_607_916];
+    let beta = BabyBear4::from_coefficients(&coefficients.map(BabyBear::from_u64));
+    assert!(rt; drawn == verified && prover == verifier);
+    assert!(rt; drawn.indices.as_slice() == [2, 4, 4, 5].as_slice());
+    assert!(rt; drawn.beta == beta);
     Ok(())
 }
 
@@ -359,82 +299,6 @@ fn a_refused_new_leaves_the_challenger(rt: HostRuntime) -> Result<(), Fail> {
     match OurVerifier::new(rt.alloc(), &mut challenger, shape) {
         Ok(transcript) => transcript.abort(),
         Err(_) => assert!(rt; challenger == Sha256Challenger::new()),
-    }
-    Ok(())
-}
-
-#[test]
-fn streams_of_shapes(rt: HostRuntime) -> Result<(), Fail> {
-    let mut shape = shape_of(rt.alloc(), &[], 0, 0)?;
-    shape.num_queries = 2;
-    shape.index_bits = 1;
-    shape.max_log_arity = 1;
-    let stream = stream_of(rt.alloc(), &shape)?;
-    shape.commit_pow_bits = 5;
-    let with_bits = stream_of(rt.alloc(), &shape)?;
-    assert_eq!(rt;
-        (stream.as_slice(), with_bits.as_slice()),
-        (
-            STREAM_WITHOUT_ROUNDS.as_slice(),
-            STREAM_WITHOUT_ROUNDS.as_slice()
-        )
-    );
-    Ok(())
-}
-
-#[test]
-fn streams_tell_the_order_of_rounds(rt: HostRuntime) -> Result<(), Fail> {
-    let falling = stream_of_rounds(rt.alloc(), &[3, 3, 2])?;
-    let rising = stream_of_rounds(rt.alloc(), &[2, 3, 3])?;
-    assert!(rt; falling != rising);
-    Ok(())
-}
-
-#[test]
-fn shapes_of_parameters(rt: HostRuntime) -> Result<(), Fail> {
-    let mut parameters = FriParameters::new_testing((), 0);
-    parameters.max_log_arity = 3;
-    let shape = FriShape::new(rt.alloc(), &parameters, &[10], 12)?;
-    let steps = shape
-        .pattern::<BabyBear, BabyBear4>(rt.alloc())?
-        .steps()
-        .len();
-    let cloned = shape.clone(rt.alloc())?;
-    let rounds = Vec::from_slice(rt.alloc(), &[3, 3, 2])?;
-    let scheduled = FriShape::with_schedule(&parameters, rounds, 12);
-    assert_eq!(rt; (&cloned, &scheduled), (&shape, &shape));
-    assert_eq!(rt;
-        (shape.log_arities.as_slice(), steps),
-        ([3, 3, 2].as_slice(), 12)
-    );
-    Ok(())
-}
-
-#[test]
-fn phases_and_failures_are_printed(rt: HostRuntime) -> Result<(), Fail> {
-    let rows = [
-        (PowPhase::Batch, "opening-batching"),
-        (PowPhase::CommitPhase, "commit"),
-        (PowPhase::Query, "query"),
-    ];
-    for (phase, expected) in rows {
-        assert_eq!(rt; format!(in rt.alloc(); "{phase}")?.as_str(), expected);
-    }
-    let rows = [
-        (
-            TranscriptFailure::CommitRoundCount {
-                expected: 3,
-                got: 50,
-            },
-            "there are 50 commitments for 3 rounds",
-        ),
-        (
-            TranscriptFailure::MissingPowWitness(PowPhase::Query),
-            "the proof of work of the query phase has no witness",
-        ),
-    ];
-    for (failure, expected) in rows {
-        assert_eq!(rt; format!(in rt.alloc(); "{failure}")?.as_str(), expected);
     }
     Ok(())
 }

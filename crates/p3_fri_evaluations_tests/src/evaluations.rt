@@ -1,89 +1,115 @@
 //! Worked values, and values on many domains against Horner's rule.
 
 use crate::words::{agrees, committed, values_on};
-use p3_field::{BabyBear, Field, PrimeField64};
+use p3_field::{BabyBear, Field};
 use std::alloc::Global;
 use std::test::Fail;
 
-/// The canonical numbers of the values that a column has on the coset of this shift and of
-/// `2^log_size` points, where it was committed to with blowup 2.
-fn numbers_on(
-    alloc: Global,
-    column: &[u64],
+/// A column that was committed to with blowup 2, the blowup by which it is read, the coset of a
+/// shift and of `2^log_size` points, and its values there.
+#[derive(Clone, Copy)]
+struct Case {
+    name: &'static str,
+    column: &'static [u64],
     log_blowup: usize,
     shift: u64,
     log_size: usize,
-) -> Result<Vec<u64>, Fail> {
-    let words = committed(alloc, 1, column)?;
-    let values = values_on(
-        alloc,
-        log_blowup,
-        &words,
-        BabyBear::from_u64(shift),
-        log_size,
-    )?;
-    let mut numbers = Vec::new(alloc);
-    for row in 0..values.height() {
-        if let Some(value) = values.get(row, 0) {
-            numbers.push(value.as_canonical_u64())?;
+    values: &'static [u64],
+}
+
+const CASES: [Case; 5] = [
+    // at 31 and -31 `2 - X` is -29 and 33
+    Case {
+        name: "on a larger coset",
+        column: &[1, 3],
+        log_blowup: 1,
+        shift: 31,
+        log_size: 2,
+        values: &[2_013_265_892, 777_639_966, 33, 1_235_625_959],
+    },
+    Case {
+        name: "on its own domain",
+        column: &[1, 3],
+        log_blowup: 1,
+        shift: 1,
+        log_size: 1,
+        values: &[1, 3],
+    },
+    Case {
+        name: "on a smaller domain",
+        column: &[1, 3],
+        log_blowup: 1,
+        shift: 1,
+        log_size: 0,
+        values: &[1],
+    },
+    // `2 - 5 w^i`, where `w` is the root of order 8
+    Case {
+        name: "in natural order",
+        column: &[1, 3],
+        log_blowup: 1,
+        shift: 5,
+        log_size: 3,
+        values: &[
+            2_013_265_918,
+            91_232_616,
+            1_424_307_042,
+            954_649_953,
+            7,
+            1_922_033_309,
+            588_958_883,
+            1_058_615_972,
+        ],
+    },
+    // past the words' height there is no polynomial but zero
+    Case {
+        name: "by any blowup",
+        column: &[0, 0],
+        log_blowup: usize::MAX,
+        shift: 1,
+        log_size: 1,
+        values: &[0, 0],
+    },
+];
+
+/// Whether the column has these values there.
+fn is_met(alloc: Global, case: &Case) -> Result<bool, Fail> {
+    let words = committed(alloc, 1, case.column)?;
+    let shift = BabyBear::from_u64(case.shift);
+    let values = values_on(alloc, case.log_blowup, &words, shift, case.log_size)?;
+    for (row, number) in case.values.iter().enumerate() {
+        if values.get(row, 0) != Some(BabyBear::from_u64(*number)) {
+            return Ok(false);
         }
     }
-    Ok(numbers)
+    Ok(values.height() == case.values.len())
 }
 
-/// The values of `2 - X` at 1 and at -1 are 1 and 3; at 31 and at -31 they are -29 and 33.
 #[test]
-fn a_column_on_larger_and_smaller_domains(rt: HostRuntime) -> Result<(), Fail> {
-    let larger = numbers_on(rt.alloc(), &[1, 3], 1, 31, 2)?;
-    assert_eq!(rt;
-        (larger.len(), larger.get(0).copied(), larger.get(2).copied()),
-        (4, Some(2_013_265_892), Some(33))
-    );
-    let rows: [(usize, &[u64]); 2] = [(1, &[1, 3]), (0, &[1])];
-    for (log_size, expected) in rows {
-        let numbers = numbers_on(rt.alloc(), &[1, 3], 1, 1, log_size)?;
-        assert_eq!(rt; numbers.as_slice(), expected);
+fn columns_on_other_domains(rt: HostRuntime) -> Result<(), Fail> {
+    for case in &CASES {
+        assert!(rt; is_met(rt.alloc(), case)?, "{}", case.name);
     }
     Ok(())
 }
 
-/// On the domain of shift 5 and of 8 points: `2 - 5 w^i`, where `w` is the root of order 8.
-#[test]
-fn a_column_in_natural_order(rt: HostRuntime) -> Result<(), Fail> {
-    let expected = [
-        2_013_265_918,
-        91_232_616,
-        1_424_307_042,
-        954_649_953,
-        7,
-        1_922_033_309,
-        588_958_883,
-        1_058_615_972,
-    ];
-    let numbers = numbers_on(rt.alloc(), &[1, 3], 1, 5, 3)?;
-    assert_eq!(rt; numbers.as_slice(), expected.as_slice());
-    Ok(())
+/// Whether the values on this coset are those by Horner's rule, for 8 coefficients on 16 points and
+/// for 1 on 4.
+fn are_by_horner(alloc: Global, shift: u64, log_size: usize) -> Result<bool, Fail> {
+    let shift = BabyBear::from_u64(shift);
+    Ok(agrees(alloc, 3, 1, shift, log_size)? && agrees(alloc, 0, 2, shift, log_size)?)
 }
 
-/// From one to 32 points, for 8 coefficients on 16 points and for 1 on 4, on the words' own coset
-/// and on others.
+/// From one to 32 points, on the words' own coset and on others.
 #[test]
 fn values_agree_with_horner(rt: HostRuntime) -> Result<(), Fail> {
     for shift in [1, 5, 31, 2_013_265_890] {
         for log_size in 0..6 {
-            let shift = BabyBear::from_u64(shift);
-            let eight = agrees(rt.alloc(), 3, 1, shift, log_size)?;
-            let one = agrees(rt.alloc(), 0, 2, shift, log_size)?;
-            assert_eq!(rt; (eight, one), (true, true), "on 2^{log_size}");
+            assert!(rt;
+                are_by_horner(rt.alloc(), shift, log_size)?,
+                "{shift}, {log_size}"
+            );
         }
     }
-    Ok(())
-}
-
-/// A blowup past the words' height leaves no polynomial but zero.
-#[test]
-fn zeros_at_any_blowup(rt: HostRuntime) -> Result<(), Fail> {
-    let numbers = numbers_on(rt.alloc(), &[0, 0], usize::MAX, 1, 1)?;
-    assert_eq!(rt; numbers.as_slice(), [0, 0].as_slice());
     Ok(())
 }

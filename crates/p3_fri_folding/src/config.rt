@@ -7,7 +7,7 @@ ghost use Rattle.std.specs.Option.{ForSome};
 ghost use Rattle.p3_fri_folding.specs.Schedule.{IsStrictlyFalling, tallest, schedule, LeadsDown};
 ghost use Rattle.p3_fri_folding.specs.Schedule.{AreFewest};
 
-use p3_commit::{FriRegime, GrindingSites};
+use p3_mmcs::{FriRegime, GrindingSites};
 use std::alloc::{AllocError, Global};
 
 /// The parameters of an instance of FRI, over the commitment scheme `M` of its folded words.

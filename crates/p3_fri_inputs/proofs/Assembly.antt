@@ -3,16 +3,17 @@ use Rattle.std.proofs.Common.{◌≡◌, ◌≢◌, ℕ, ◌+◌, ◌*◌, ◌<�
 use Rattle.std.proofs.Common.{length, map, All, IsTrue, get_or, sym, ap₂}
 use Rattle.std.proofs.Common.{◌∙◌, arith, length-append}
 use Rattle.std.specs.List.{flat_map, AllZip}
+use Rattle.std.specs.Prelude.{EachIndex, slice_index}
 use Rattle.std.proofs.lemmas.List.{length-map, get_or-map}
 use Rattle.algebra.specs.Field.{FieldOps, IsField, sub}
 use Rattle.algebra.proofs.Combine.{sub-eq}
 use Rattle.p3_matrix.specs.declared.Dimensions.{Dimensions}
-use Rattle.p3_commit.specs.Batch.{HasShape}
-use Rattle.p3_commit.proofs.Shapes.{sets_count, set_at}
+use Rattle.p3_mmcs.specs.Batch.{HasShape}
+use Rattle.p3_mmcs.proofs.Shapes.{sets_count, set_at}
 use Rattle.p3_fri_relation.specs.Setting.{Fields, Opening, PointClaim, MatrixClaim, CommitmentClaim}
 use Rattle.p3_fri_relation.specs.Setting.{InputOpening}
 use Rattle.p3_fri_relation.specs.Heights.{matrices_of, width, log_height, has_height, dimensions, opened_index}
-use Rattle.p3_fri_relation.specs.QuotientSums.{point_read}
+use Rattle.p3_fri_relation.specs.QuotientSums.{IsDefinedAt}
 use Rattle.p3_fri_relation.specs.Inputs.{HasPoints, OpensInput, AreInputsGood, sum_at}
 use Rattle.p3_fri_inputs.specs.Claims.{distances, IsApart, IsEven, IsWithin, IsReadable}
 use Rattle.p3_fri_inputs.specs.Claims.{HasRowsAt}
@@ -96,19 +97,18 @@ pub good_openings : {F E InCom InPath : Type 0} (f : Fields F E) (log_blowup : �
     (cs : List (CommitmentClaim E InCom)) (inputs : List (InputOpening F InPath))
     (opens : Opening F InCom InPath) (positions : List ℕ)
     → length inputs ≡ length cs
-    → All (λ m. m.points ≢ []) (matrices_of cs) → All IsEven (matrices_of cs)
+    → All HasPoints (matrices_of cs)
     → AllZip (OpensInput opens log_blowup top positions) cs inputs
-    → ((j : ℕ) → j < length positions → (d : ℕ)
-    → All (IsApart log_blowup (point_read f top (get_or positions j d))) (matrices_of cs))
+    → EachIndex positions (λ j. IsDefinedAt f log_blowup top cs (slice_index positions j))
     → ((j : ℕ) → j < length positions → IsTrue (has_height log_blowup (matrices_of cs) log_blowup)
     → sum_at f log_blowup alpha top cs inputs j (get_or positions j 0) log_blowup ≡ f.ext.zero)
     → AreInputsGood f log_blowup alpha top cs inputs opens positions
-good_openings f log_blowup alpha top cs inputs opens positions count some even opened apart zeros =
+good_openings f log_blowup alpha top cs inputs opens positions count points opened defined zeros =
     record {
       count = count;
-      points = with_points (matrices_of cs) some even;
+      points = points;
       opened = opened;
-      sums = λ j l. record { defined = apart j l 0; constants = zeros j l };
+      sums = λ j l. record { defined = defined j l; constants = zeros j l };
     }
 
 -- as many numbers for each, and so for all

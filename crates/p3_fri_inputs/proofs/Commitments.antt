@@ -9,7 +9,7 @@ use Rattle.std.proofs.lemmas.Simd.{map-map}
 use Rattle.algebra.specs.Field.{FieldOps, sub}
 use Rattle.algebra.specs.Polynomial.{val}
 use Rattle.algebra.specs.Quotients.{quotients}
-use Rattle.p3_commit.specs.Batch.{HasRows}
+use Rattle.p3_mmcs.specs.Batch.{HasRows}
 use Rattle.p3_fri_relation.specs.Setting.{PointClaim, MatrixClaim}
 use Rattle.p3_fri_relation.specs.Heights.{log_height, width, dimensions}
 use Rattle.p3_fri_relation.specs.Inputs.{HasPoints}

@@ -7,14 +7,14 @@ use Rattle.std.proofs.lemmas.Bool.{cases_lt}
 use Rattle.std.proofs.lemmas.Nat.{shr_below}
 use Rattle.std.proofs.lemmas.List.{length-map, get_or-map}
 use Rattle.p3_matrix.specs.declared.Dimensions.{Dimensions}
-use Rattle.p3_commit.specs.Batch.{max_height, AreBelow, HavePowerHeights}
+use Rattle.p3_mmcs.specs.Batch.{max_height, AreBelow, HavePowerHeights}
 use Rattle.p3_fri_relation.specs.Setting.{Opening, MatrixClaim, CommitmentClaim, InputOpening}
 use Rattle.p3_fri_relation.specs.Faults.{At}
 use Rattle.p3_fri_relation.specs.Heights.{log_height, greatest_height, dimensions, opened_index}
 use Rattle.p3_fri_relation.specs.Inputs.{OpensInput}
 use Rattle.p3_fri_inputs.proofs.LogHeights.{greatest_within}
 use Rattle.p3_fri_inputs.proofs.Refutations.{length_zip, zip_at}
-use Rattle.p3_commit.proofs.Heights.{max_height-positive}
+use Rattle.p3_mmcs.proofs.Heights.{max_height-positive}
 use Rattle.algebra.proofs.Lists.{entry_of_map}
 
 -- what holds of each pair holds place by place

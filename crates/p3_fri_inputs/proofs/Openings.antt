@@ -14,7 +14,7 @@ use Rattle.algebra.specs.Polynomial.{val}
 use Rattle.algebra.proofs.Nested.{length-lists, lists_at}
 use Rattle.algebra.proofs.Values.{val-nil}
 use Rattle.algebra.proofs.Lists.{entry_of_map}
-use Rattle.p3_commit.specs.declared.openings.CommitmentOpening.{CommitmentOpening}
+use Rattle.p3_mmcs.specs.declared.openings.CommitmentOpening.{CommitmentOpening}
 use Rattle.p3_fri_relation.specs.Setting.{MatrixClaim, CommitmentClaim}
 use Rattle.p3_fri_relation.specs.Heights.{matrices_of, log_height}
 use Rattle.p3_fri_relation.specs.Views.{claims_of}

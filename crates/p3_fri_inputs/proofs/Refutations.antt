@@ -7,8 +7,8 @@ use Rattle.std.proofs.lemmas.Bool.{false≢true}
 use Rattle.std.proofs.lemmas.List.{length-map, get_or_default}
 use Rattle.std.proofs.lemmas.Slice.Zip.{AllZip-long}
 use Rattle.p3_matrix.specs.declared.Dimensions.{Dimensions}
-use Rattle.p3_commit.specs.Batch.{HasShape}
-use Rattle.p3_commit.proofs.Shapes.{rows_count, sets_count, set_at}
+use Rattle.p3_mmcs.specs.Batch.{HasShape}
+use Rattle.p3_mmcs.proofs.Shapes.{rows_count, sets_count, set_at}
 use Rattle.p3_fri_relation.specs.declared.error.FriError.{FriError}
 use Rattle.p3_fri_relation.specs.declared.error.FriError.TheVariants.{InputProofBatchCountMismatch}
 use Rattle.p3_fri_relation.specs.declared.error.FriError.TheVariants.{InputOpeningsQueryCountMismatch}
@@ -21,10 +21,11 @@ use Rattle.p3_fri_relation.specs.Setting.{Fields, Opening, MatrixClaim, Commitme
 use Rattle.p3_fri_relation.specs.Heights.{matrices_of, log_height, dimensions, opened_index}
 use Rattle.p3_fri_relation.specs.QuotientSums.{point_read}
 use Rattle.p3_fri_relation.specs.Inputs.{HasPoints, OpensInput, AreInputsGood}
-use Rattle.p3_fri_relation.specs.Faults.{IsWrong, InputFault}
+use Rattle.p3_fri_pow.specs.Counts.{IsWrongCount}
+use Rattle.p3_fri_relation.specs.Faults.{InputFault}
 use Rattle.p3_fri_inputs.proofs.Openings.{all_of_one, all_zip_at}
 
-pub wrong_differs : (asked found expected got : ℕ) → IsWrong asked found expected got → asked ≢ found
+pub wrong_differs : (asked found expected got : ℕ) → IsWrongCount asked found expected got → asked ≢ found
 wrong_differs asked found expected got w e = w.differ (w.expected_is ∙ e ∙ sym w.got_is)
 
 -- places of lists that are gone through side by side
@@ -129,7 +130,8 @@ module _ {F E InCom InPath A B : Type 0} (f : Fields F E) (log_blowup : ℕ) (al
         (ap (λ y. y.point) r ∙ met
         ∙ ap (λ p. point_read f top p (log_height log_blowup m))
         (sym s ∙ get_or_default positions i position 0 b))
-    fault_refutes FinalPolyMismatch n (has, (j, l, wrong)) = wrong ((good.sums j l).constants has)
+    fault_refutes FinalPolyMismatch n (has, (j, l, (defined, wrong))) =
+        wrong ((good.sums j l).constants has)
     fault_refutes OutOfMemory n h = n refl
     fault_refutes _ n h = absurd h
 

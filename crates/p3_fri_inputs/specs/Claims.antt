@@ -3,8 +3,8 @@ use Rattle.std.specs.Prelude.{◌≡◌, ◌≢◌, ℕ, ◌<◌, ◌≤◌, All
 use Rattle.std.specs.List.{flat_map}
 use Rattle.algebra.specs.Field.{FieldOps, sub}
 use Rattle.algebra.specs.Polynomial.{val}
-use Rattle.p3_commit.specs.declared.openings.CommitmentOpening.{CommitmentOpening}
-use Rattle.p3_commit.specs.Batch.{HasRows}
+use Rattle.p3_mmcs.specs.declared.openings.CommitmentOpening.{CommitmentOpening}
+use Rattle.p3_mmcs.specs.Batch.{HasRows}
 use Rattle.p3_fri_relation.specs.Setting.{MatrixClaim, CommitmentClaim, InputOpening}
 use Rattle.p3_fri_relation.specs.Heights.{log_height, width, dimensions}
 use Rattle.p3_fri_relation.specs.Inputs.{HasPoints}

@@ -2,13 +2,14 @@
 
 ghost use Rattle.std.specs.Prelude.{◌≡◌, ◌≢◌, ◌<◌, ℕ, [], length, map, All, MatchOption};
 ghost use Rattle.std.specs.Prelude.{slice_index_or};
-ghost use Rattle.p3_fri_relation.specs.Faults.{At, IsWrong};
+ghost use Rattle.p3_fri_pow.specs.Counts.{IsWrongCount};
+ghost use Rattle.p3_fri_relation.specs.Faults.{At};
 ghost use Rattle.p3_fri_relation.specs.Heights.{matrices_of, width};
 ghost use Rattle.p3_fri_inputs.specs.Claims.{IsEven};
 ghost use Rattle.p3_fri_relation.specs.Views.{claims_of, matrix_claim};
 
-use p3_commit::{CommitmentOpening, MatrixOpening, PointOpening};
 use p3_field_core::{Field, TwoAdicField, TwoAdicMultiplicativeCoset};
+use p3_mmcs::{CommitmentOpening, MatrixOpening, PointOpening};
 
 /// A point at which a matrix isn't claimed as many values as at its first.
 #[derive(Drop)]
@@ -92,7 +93,7 @@ fn uneven_matrix<F: TwoAdicField, EF: Field>(
     ensures { MatchOption result
         (All IsEven (map (matrix_claim (λ domain. domain.log_size)) matrices.now))
         (λ found. At found.0 (λ m. At found.1 (λ z.
-        IsWrong (width m) (length z.values) found.2 found.3) m.points)
+        IsWrongCount (width m) (length z.values) found.2 found.3) m.points)
         (map (matrix_claim (λ domain. domain.log_size)) matrices.now)) }
 {
     for k in 0..matrices.len() {
@@ -111,7 +112,8 @@ pub fn first_uneven<F: TwoAdicField, EF: Field, Com>(
     ensures { let cs = claims_of (λ domain. domain.log_size) claims.now in MatchOption result
         (All IsEven (matrices_of cs))
         (λ found. At found.batch (λ c. At found.matrix (λ m. At found.point (λ z.
-        IsWrong (width m) (length z.values) found.expected found.got) m.points) c.matrices) cs) }
+        IsWrongCount (width m) (length z.values) found.expected found.got) m.points) c.matrices)
+        cs) }
 {
     for batch in 0..claims.len() {
         if let Some((matrix, point, expected, got)) = uneven_matrix(&claims[batch].matrices) {

@@ -8,9 +8,9 @@ ghost use Rattle.p3_fri_relation.specs.Views.{claims_of, matrix_claim};
 ghost use Rattle.p3_fri_inputs.specs.Claims.{claim_of, combined_values, IsWithin};
 
 use crate::checks::claimed_width;
-use p3_commit::{CommitmentOpening, MatrixOpening};
 use p3_field_core::{Field, TwoAdicField, TwoAdicMultiplicativeCoset};
 use p3_fri_ladder::Ladder;
+use p3_mmcs::{CommitmentOpening, MatrixOpening};
 use std::alloc::{AllocError, Global};
 
 /// The greatest width of these matrices.

@@ -6,8 +6,8 @@ ghost use Rattle.p3_fri_relation.specs.Heights.{matrices_of, log_height, has_hei
 ghost use Rattle.p3_fri_relation.specs.Heights.{greatest_height};
 ghost use Rattle.p3_fri_relation.specs.Views.{claims_of, matrix_claim};
 
-use p3_commit::{CommitmentOpening, MatrixOpening};
 use p3_field_core::{Field, TwoAdicField, TwoAdicMultiplicativeCoset};
+use p3_mmcs::{CommitmentOpening, MatrixOpening};
 use std::alloc::{AllocError, Global};
 
 /// Whether this is the log height of a domain of log size `log_size` with its blowup.

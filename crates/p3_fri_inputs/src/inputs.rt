@@ -1,12 +1,12 @@
 //! The call that opens the inputs.
 
-ghost use Rattle.std.specs.Prelude.{◌≡◌, ◌≢◌, ◌<◌, ◌≤◌, ◌+◌, ◌^◌, ◌↔◌, ℕ, length, map, All, IsTrue};
-ghost use Rattle.std.specs.Prelude.{IsOk, IfOk, IfErr, Err, MatchOption, slice_index, vec_len};
-ghost use Rattle.std.specs.Prelude.{SomeIndex, slice_index_or};
+ghost use Rattle.std.specs.Prelude.{◌≡◌, ◌≢◌, ◌<◌, ◌≤◌, ◌+◌, ◌/◌, ◌^◌, ◌↔◌, ℕ, length, map, All};
+ghost use Rattle.std.specs.Prelude.{IsTrue, IsOk, IfOk, IfErr, Err, MatchOption, slice_index};
+ghost use Rattle.std.specs.Prelude.{SomeIndex, slice_index_or, vec_len};
 ghost use Rattle.std.specs.List.{AllZip, flat_map};
 ghost use Rattle.algebra.specs.Nested.{lists};
 ghost use Rattle.algebra.specs.Polynomial.{tabulate};
-ghost use Rattle.p3_commit.specs.Batch.{AreBelow};
+ghost use Rattle.p3_mmcs.specs.Batch.{AreBelow};
 ghost use Rattle.p3_fri_relation.specs.declared.error.FriError.TheVariants.{OutOfMemory};
 ghost use Rattle.p3_fri_relation.specs.Faults.{InputFault};
 ghost use Rattle.p3_fri_relation.specs.Heights.{matrices_of, log_height, has_height, heights_of};
@@ -15,21 +15,18 @@ ghost use Rattle.p3_fri_relation.specs.QuotientSums.{point_read};
 ghost use Rattle.p3_fri_relation.specs.Views.{claims_of, inputs_opened};
 ghost use Rattle.p3_fri_inputs.specs.Claims.{distances, combined_values, HasRowsAt, IsReadable};
 
-use crate::checks::{first_uneven, first_without_points};
 use crate::claims::{combine_claims, greatest_width};
 use crate::heights::{falling_heights, has_height};
-use crate::opening::verify_commitments;
-use crate::points::push_queries;
+use crate::opening::check_openings;
+use crate::points::inverse_distances;
 use crate::sums::query_sums;
-use p3_commit::{CommitmentOpening, Mmcs};
-use p3_field_core::{
-    ExtensionField, Field, TwoAdicField, TwoAdicMultiplicativeCoset, batch_multiplicative_inverse,
-};
+use p3_field_core::{ExtensionField, Field, TwoAdicField, TwoAdicMultiplicativeCoset};
 use p3_fri_folding::FriParameters;
 use p3_fri_ladder::Ladder;
 use p3_fri_relation::error::{FriError, FriOpenings};
 use p3_fri_relation::proof::BatchMultiOpening;
 use p3_fri_relation::setting::ChallengeField;
+use p3_mmcs::{CommitmentOpening, Mmcs};
 use std::alloc::{AllocError, Global};
 
 /// The sums of these log heights, each beside its log height.
@@ -119,6 +116,17 @@ fn query_openings<F: TwoAdicField, EF: ExtensionField<F>, InputMmcs: Mmcs<F>>(
     Ok(Some(list_sums(alloc, heights, &sums)?))
 }
 
+/// How many of the inverses belong to each index, where there is one.
+fn inverses_per_index<EF: Field>(inverses: &[EF], indices: &[usize]) -> usize
+    ensures { 0 < length indices.now → result ≡ length inverses.now / length indices.now }
+{
+    if indices.is_empty() {
+        0
+    } else {
+        inverses.len() / indices.len()
+    }
+}
+
 /// What each query meets, or `None` if some quotient sum of the constants isn't zero. `inverses`
 /// are those of the claimed points' distances from the points read, query by query.
 fn all_openings<F: TwoAdicField, EF: ExtensionField<F>, InputMmcs: Mmcs<F>>(
@@ -131,7 +139,6 @@ fn all_openings<F: TwoAdicField, EF: ExtensionField<F>, InputMmcs: Mmcs<F>>(
     openings: &[BatchMultiOpening<F, InputMmcs>],
     inverses: &[EF],
 ) -> Result<Option<Vec<FriOpenings<EF>>>, AllocError>
-    requires some_index { 0 < length indices.now }
     requires within_two_adicity { log_global_max_height ≤ F.TWO_ADICITY }
     requires heights { All (λ m. log_height log_blowup m ≤ log_global_max_height)
         (matrices_of (claims_of (λ domain. domain.log_size) claims.now)) }
@@ -160,7 +167,7 @@ fn all_openings<F: TwoAdicField, EF: ExtensionField<F>, InputMmcs: Mmcs<F>>(
     let ladder = Ladder::new(alloc, alpha, greatest_width(claims))?;
     let combined = combine_claims(alloc, &ladder, claims)?;
     let heights = falling_heights(alloc, claims, log_blowup, log_global_max_height)?;
-    let count = inverses.len() / indices.len();
+    let count = inverses_per_index(inverses, indices);
     let mut answers = Vec::with_capacity(alloc, indices.len())?;
     let mut start = 0;
     for j in 0..indices.len() {
@@ -194,7 +201,8 @@ fn all_openings<F: TwoAdicField, EF: ExtensionField<F>, InputMmcs: Mmcs<F>>(
 ///
 /// `indices` are the positions, already without the strategy's extra bits; `input_openings` open
 /// each commitment, in the order of `claims`. The claimed domains' shifts aren't read. All inverses
-/// are found by one inversion.
+/// are found by one inversion. Without an index no sum is asked for, all else is verified alike,
+/// and the answer is the empty list.
 ///
 /// Refused, with what is wrong: openings that aren't one for each commitment
 /// (`InputProofBatchCountMismatch`), nor one set of rows for each index
@@ -214,7 +222,6 @@ pub fn open_inputs<F: TwoAdicField, EF: ExtensionField<F>, M: Mmcs<EF>, InputMmc
     input_mmcs: &InputMmcs,
     claims: &[CommitmentOpening<EF, InputMmcs::Commitment, TwoAdicMultiplicativeCoset<F>>],
 ) -> Result<Vec<FriOpenings<EF>>, FriError<M::Error, InputMmcs::Error>>
-    requires some_index { 0 < length indices.now }
     requires within_two_adicity { log_global_max_height ≤ F.TWO_ADICITY }
     requires heights { All (λ m. log_height params.now.log_blowup m ≤ log_global_max_height)
         (matrices_of (claims_of (λ domain. domain.log_size) claims.now)) }
@@ -234,25 +241,7 @@ pub fn open_inputs<F: TwoAdicField, EF: ExtensionField<F>, M: Mmcs<EF>, InputMmc
         (inputs_opened input_openings.now) (InputMmcs.opens input_mmcs.now) indices.now) }
 {
     let log_blowup = params.log_blowup;
-    if input_openings.len() != claims.len() {
-        return Err(FriError::InputProofBatchCountMismatch {
-            expected: claims.len(),
-            got: input_openings.len(),
-        });
-    }
-    if let Some((batch, matrix)) = first_without_points(claims) {
-        return Err(FriError::MatrixWithoutOpeningPoints { batch, matrix });
-    }
-    if let Some(found) = first_uneven(claims) {
-        return Err(FriError::PointEvaluationCountMismatch {
-            batch: found.batch,
-            matrix: found.matrix,
-            point: found.point,
-            expected: found.expected,
-            got: found.got,
-        });
-    }
-    if let Err(error) = verify_commitments(
+    if let Err(error) = check_openings(
         alloc,
         input_mmcs,
         log_blowup,
@@ -263,25 +252,18 @@ pub fn open_inputs<F: TwoAdicField, EF: ExtensionField<F>, M: Mmcs<EF>, InputMmc
     ) {
         return Err(error);
     }
-    let mut differences = Vec::new(alloc);
-    let mut read = vec![in alloc; F::ZERO; log_global_max_height + 1]?;
-    let met = push_queries(
-        &mut differences,
-        &mut read,
-        log_blowup,
-        log_global_max_height,
-        indices,
-        claims,
-    )?;
-    if let Some((batch, matrix, point)) = met {
-        return Err(FriError::OpeningPointMatchesQueryPoint {
-            batch,
-            matrix,
-            point,
-        });
-    }
-    let inverses = batch_multiplicative_inverse(alloc, &differences)?;
-    let found = all_openings(
+    let found = inverse_distances(alloc, log_blowup, log_global_max_height, indices, claims)?;
+    let inverses = match found {
+        Ok(inverses) => inverses,
+        Err(at) => {
+            return Err(FriError::OpeningPointMatchesQueryPoint {
+                batch: at.batch,
+                matrix: at.matrix,
+                point: at.point,
+            });
+        },
+    };
+    let summed = all_openings(
         alloc,
         log_blowup,
         log_global_max_height,
@@ -291,7 +273,7 @@ pub fn open_inputs<F: TwoAdicField, EF: ExtensionField<F>, M: Mmcs<EF>, InputMmc
         input_openings,
         &inverses,
     )?;
-    match found {
+    match summed {
         Some(openings) => Ok(openings),
         None => Err(FriError::FinalPolyMismatch),
     }

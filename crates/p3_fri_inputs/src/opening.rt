@@ -4,22 +4,22 @@ ghost use Rattle.std.specs.Prelude.{◌≡◌, ◌≢◌, ◌⊎◌, ◌<◌, �
 ghost use Rattle.std.specs.Prelude.{MatchOption, MatchResult};
 ghost use Rattle.std.specs.List.{Any, AllZip, zip};
 ghost use Rattle.algebra.specs.Nested.{nested};
-ghost use Rattle.p3_commit.specs.Batch.{AreBelow};
+ghost use Rattle.p3_mmcs.specs.Batch.{AreBelow};
 ghost use Rattle.p3_fri_relation.specs.declared.error.FriError.TheVariants.{OutOfMemory};
 ghost use Rattle.p3_fri_relation.specs.Faults.{At, InputFault};
 ghost use Rattle.p3_fri_relation.specs.Heights.{matrices_of, width, log_height, dimensions};
 ghost use Rattle.p3_fri_relation.specs.Heights.{opened_index};
-ghost use Rattle.p3_fri_relation.specs.Inputs.{OpensInput};
+ghost use Rattle.p3_fri_relation.specs.Inputs.{HasPoints, OpensInput};
 ghost use Rattle.p3_fri_relation.specs.Views.{claims_of, matrix_claim, inputs_opened};
 
-use crate::checks::claimed_width;
+use crate::checks::{claimed_width, first_uneven, first_without_points};
 use crate::heights::greatest_log_height;
-use p3_commit::{CommitmentOpening, MatrixOpening, Mmcs};
 use p3_field_core::{ExtensionField, Field, TwoAdicField, TwoAdicMultiplicativeCoset};
 use p3_fri_relation::error::FriError;
 use p3_fri_relation::proof::BatchMultiOpening;
 use p3_fri_relation::setting::ChallengeField;
 use p3_matrix::Dimensions;
+use p3_mmcs::{CommitmentOpening, MatrixOpening, Mmcs};
 use std::alloc::{AllocError, Global};
 
 /// The number of rows in the first set that doesn't have `matrices` of them.
@@ -149,7 +149,7 @@ fn verify_commitment<F: TwoAdicField, EF: ExtensionField<F>, InputMmcs: Mmcs<F>,
 }
 
 /// Whether the openings of all commitments are.
-pub fn verify_commitments<F: TwoAdicField, EF: ExtensionField<F>, InputMmcs: Mmcs<F>, RoundErr>(
+fn verify_commitments<F: TwoAdicField, EF: ExtensionField<F>, InputMmcs: Mmcs<F>, RoundErr>(
     alloc: Global,
     input_mmcs: &InputMmcs,
     log_blowup: usize,
@@ -185,4 +185,58 @@ pub fn verify_commitments<F: TwoAdicField, EF: ExtensionField<F>, InputMmcs: Mmc
         )?;
     }
     Ok(())
+}
+
+/// Whether each matrix is claimed at some point and of as many values at each, and there is one
+/// opening for each commitment, which the scheme takes for the commitment's.
+pub fn check_openings<F: TwoAdicField, EF: ExtensionField<F>, InputMmcs: Mmcs<F>, RoundErr>(
+    alloc: Global,
+    input_mmcs: &InputMmcs,
+    log_blowup: usize,
+    log_global_max_height: usize,
+    indices: &[usize],
+    claims: &[CommitmentOpening<EF, InputMmcs::Commitment, TwoAdicMultiplicativeCoset<F>>],
+    openings: &[BatchMultiOpening<F, InputMmcs>],
+) -> Result<(), FriError<RoundErr, InputMmcs::Error>>
+    requires within_two_adicity { log_global_max_height ≤ F.TWO_ADICITY }
+    requires heights { All (λ m. log_height log_blowup m ≤ log_global_max_height)
+        (matrices_of (claims_of (λ domain. domain.log_size) claims.now)) }
+    requires below { AreBelow (2 ^ log_global_max_height) indices.now }
+    ensures { let f = ⟦<EF as ChallengeField<F>>⟧.fields in
+        let cs = claims_of (λ domain. domain.log_size) claims.now in
+        let inputs = inputs_opened openings.now in
+        let opens = InputMmcs.opens input_mmcs.now in
+        MatchResult result
+        (λ _. (All HasPoints (matrices_of cs))
+        × AllZip (OpensInput opens log_blowup log_global_max_height indices.now) cs inputs)
+        (λ e. (e ≡ OutOfMemory) ⊎ ((alpha : EF) → InputFault f log_blowup alpha
+        log_global_max_height cs inputs opens indices.now e)) }
+{
+    if openings.len() != claims.len() {
+        return Err(FriError::InputProofBatchCountMismatch {
+            expected: claims.len(),
+            got: openings.len(),
+        });
+    }
+    if let Some((batch, matrix)) = first_without_points(claims) {
+        return Err(FriError::MatrixWithoutOpeningPoints { batch, matrix });
+    }
+    if let Some(found) = first_uneven(claims) {
+        return Err(FriError::PointEvaluationCountMismatch {
+            batch: found.batch,
+            matrix: found.matrix,
+            point: found.point,
+            expected: found.expected,
+            got: found.got,
+        });
+    }
+    verify_commitments(
+        alloc,
+        input_mmcs,
+        log_blowup,
+        log_global_max_height,
+        indices,
+        claims,
+        openings,
+    )
 }

@@ -1,20 +1,32 @@
 //! The points that queries read, and how far the claimed points are from them.
 
 ghost use Rattle.std.specs.Prelude.{◌≡◌, ◌≢◌, ◌<◌, ◌≤◌, ◌+◌, ◌-◌, ◌/◌, ◌^◌, ℕ, length, map, ◌++◌};
-ghost use Rattle.std.specs.Prelude.{All, IfOk, MatchOption, slice_index_or};
+ghost use Rattle.std.specs.Prelude.{All, EachIndex, IfOk, MatchOption, MatchResult, slice_index};
+ghost use Rattle.std.specs.Prelude.{slice_index_or};
 ghost use Rattle.std.specs.List.{flat_map, Any};
 ghost use Rattle.algebra.specs.Cosets.{coset_pt};
 ghost use Rattle.algebra.specs.Field.{sub};
 ghost use Rattle.p3_fri_relation.specs.Faults.{At};
 ghost use Rattle.p3_fri_relation.specs.Heights.{matrices_of, log_height};
-ghost use Rattle.p3_fri_relation.specs.QuotientSums.{point_read};
+ghost use Rattle.p3_fri_relation.specs.QuotientSums.{point_read, IsDefinedAt};
 ghost use Rattle.p3_fri_relation.specs.Views.{claims_of, point_claim};
 ghost use Rattle.p3_fri_inputs.specs.Claims.{claim_of, distances, IsApart};
 
-use p3_commit::{CommitmentOpening, PointOpening};
-use p3_field_core::{ExtensionField, TwoAdicField, TwoAdicMultiplicativeCoset, reverse_bits_len};
+use p3_field_core::{
+    ExtensionField, Field, TwoAdicField, TwoAdicMultiplicativeCoset, batch_multiplicative_inverse,
+    reverse_bits_len,
+};
 use p3_fri_relation::setting::ChallengeField;
-use std::alloc::AllocError;
+use p3_mmcs::{CommitmentOpening, PointOpening};
+use std::alloc::{AllocError, Global};
+
+/// A claimed point that a query reads.
+#[derive(Drop)]
+pub struct PointRead {
+    pub batch: usize,
+    pub matrix: usize,
+    pub point: usize,
+}
 
 /// Puts into `read`, for each log height up to `log_global_max_height`, the point of the coset of
 /// that log height at which `position` reads. Each is the square of the next higher one, apart from
@@ -116,7 +128,7 @@ fn push_claims<F: TwoAdicField, EF: ExtensionField<F>, Com>(
 }
 
 /// The same for all queries, in their order. `read` is where the points read stand meanwhile.
-pub fn push_queries<F: TwoAdicField, EF: ExtensionField<F>, Com>(
+fn push_queries<F: TwoAdicField, EF: ExtensionField<F>, Com>(
     differences: &mut Vec<EF>,
     read: &mut [F],
     log_blowup: usize,
@@ -146,4 +158,48 @@ pub fn push_queries<F: TwoAdicField, EF: ExtensionField<F>, Com>(
         }
     }
     Ok(None)
+}
+
+/// The inverses of how far the claimed points are from those read, query by query, all by one
+/// inversion; or a claimed point that is one of those read.
+pub fn inverse_distances<F: TwoAdicField, EF: ExtensionField<F>, Com>(
+    alloc: Global,
+    log_blowup: usize,
+    log_global_max_height: usize,
+    indices: &[usize],
+    claims: &[CommitmentOpening<EF, Com, TwoAdicMultiplicativeCoset<F>>],
+) -> Result<Result<Vec<EF>, PointRead>, AllocError>
+    requires within_two_adicity { log_global_max_height ≤ F.TWO_ADICITY }
+    requires heights { All (λ m. log_height log_blowup m ≤ log_global_max_height)
+        (matrices_of (claims_of (λ domain. domain.log_size) claims.now)) }
+    ensures { let f = ⟦<EF as ChallengeField<F>>⟧.fields in
+        let cs = claims_of (λ domain. domain.log_size) claims.now in
+        let x = λ (q : ℕ). point_read f log_global_max_height q in
+        IfOk result (λ found. MatchResult found
+        (λ inverses. (EachIndex indices.now (λ j.
+        IsDefinedAt f log_blowup log_global_max_height cs (slice_index indices.now j)))
+        × (inverses.items ≡ map EF.ops.inv (flat_map (λ q.
+        distances EF.ops log_blowup (x q) (matrices_of cs)) indices.now)))
+        (λ at. At at.batch (λ c. At at.matrix (λ m. At at.point (λ z. Any (λ q.
+        z.point ≡ x q (log_height log_blowup m)) indices.now) m.points) c.matrices) cs)) }
+{
+    let mut differences = Vec::new(alloc);
+    let mut read = vec![in alloc; F::ZERO; log_global_max_height + 1]?;
+    let met = push_queries(
+        &mut differences,
+        &mut read,
+        log_blowup,
+        log_global_max_height,
+        indices,
+        claims,
+    )?;
+    if let Some((batch, matrix, point)) = met {
+        return Ok(Err(PointRead {
+            batch,
+            matrix,
+            point,
+        }));
+    }
+    let inverses = batch_multiplicative_inverse(alloc, &differences)?;
+    Ok(Ok(inverses))
 }

@@ -7,7 +7,7 @@ ghost use Rattle.algebra.specs.Field.{pow};
 ghost use Rattle.algebra.specs.Nested.{lists};
 ghost use Rattle.algebra.specs.Polynomial.{val, tabulate};
 ghost use Rattle.algebra.specs.Quotients.{quotients};
-ghost use Rattle.p3_commit.specs.Batch.{HasRows};
+ghost use Rattle.p3_mmcs.specs.Batch.{HasRows};
 ghost use Rattle.p3_fri_relation.specs.Heights.{matrices_of, width, dimensions};
 ghost use Rattle.p3_fri_relation.specs.Inputs.{rows_at};
 ghost use Rattle.p3_fri_relation.specs.QuotientSums.{matrix_terms, commitment_terms, terms};
@@ -17,11 +17,11 @@ ghost use Rattle.p3_fri_inputs.specs.Claims.{claim_of, combined_values, distance
 ghost use Rattle.p3_fri_inputs.specs.Claims.{IsReadable, HasRowsAt};
 ghost use Rattle.p3_fri_inputs.specs.Points.{AreCombined};
 
-use p3_commit::{CommitmentOpening, MatrixOpening, Mmcs};
 use p3_field_core::{ExtensionField, Field, TwoAdicField, TwoAdicMultiplicativeCoset};
 use p3_fri_ladder::{Ladder, combine_row};
 use p3_fri_relation::proof::BatchMultiOpening;
 use p3_fri_relation::setting::ChallengeField;
+use p3_mmcs::{CommitmentOpening, MatrixOpening, Mmcs};
 use std::alloc::{AllocError, Global};
 
 /// The sum of a matrix's quotients at its points and of the terms after them, of which `sum` is the

@@ -10,7 +10,8 @@ use Rattle.p3_fri_relation.specs.declared.error.FriError.TheVariants.{SiblingVal
 use Rattle.p3_fri_relation.specs.declared.proof.CommitPhaseMultiStep.{CommitPhaseMultiStep}
 use Rattle.p3_fri_relation.specs.Setting.{Parameters, Proof, RoundOpening}
 use Rattle.p3_fri_relation.specs.Acceptance.{HasSiblings, HasCounts}
-use Rattle.p3_fri_relation.specs.Faults.{At, IsWrong, CountFault}
+use Rattle.p3_fri_pow.specs.Counts.{IsWrongCount}
+use Rattle.p3_fri_relation.specs.Faults.{At, CountFault}
 use Rattle.p3_fri_relation.specs.Views.{round_opened, rounds_opened}
 use Rattle.p3_fri_instance.specs.Counts.{HasLengths, SiblingFault}
 use Rattle.p3_fri_instance.proofs.Lists.{get_at, get_in, get_map}
@@ -46,10 +47,10 @@ module _ {F E Com Path InPath : Type 0} (p : Parameters) (log_arities : List ℕ
       → At round (λ r. SiblingFault p.num_queries (slice_index log_arities round) round r e) proof.rounds
       → CountFault p log_arities proof e
   count_fault round l (CommitPhaseQueryCountMismatch place expected got) at =
-      subst (λ (k : ℕ). At k (λ r. IsWrong p.num_queries (length r.siblings) expected got) proof.rounds) (sym at.3.0)
+      subst (λ (k : ℕ). At k (λ r. IsWrongCount p.num_queries (length r.siblings) expected got) proof.rounds) (sym at.3.0)
       (at.0, at.1, at.2, at.3.1)
   count_fault round l (SiblingValuesLengthMismatch place expected got) at =
       subst (λ (k : ℕ). (k < length log_arities) × At k (λ r. Any (λ row.
-      IsWrong (2 ^ slice_index log_arities k - 1) (length row) expected got) r.siblings) proof.rounds) (sym at.3.0)
+      IsWrongCount (2 ^ slice_index log_arities k - 1) (length row) expected got) r.siblings) proof.rounds) (sym at.3.0)
       (l, (at.0, at.1, at.2, at.3.1))
   count_fault round l _ at = absurd at.3

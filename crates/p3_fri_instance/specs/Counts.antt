@@ -6,7 +6,7 @@ use Rattle.p3_fri_relation.specs.declared.error.FriError.{FriError}
 use Rattle.p3_fri_relation.specs.declared.error.FriError.TheVariants.{CommitPhaseQueryCountMismatch}
 use Rattle.p3_fri_relation.specs.declared.error.FriError.TheVariants.{SiblingValuesLengthMismatch}
 use Rattle.p3_fri_relation.specs.Setting.{Parameters, Proof, RoundOpening}
-use Rattle.p3_fri_relation.specs.Faults.{IsWrong}
+use Rattle.p3_fri_pow.specs.Counts.{IsWrongCount}
 
 module _ {F E Com Path InPath : Type 0} (p : Parameters) (log_arities : List ℕ)
     (proof : Proof F E Com Path InPath) where
@@ -20,8 +20,8 @@ module _ {F E Com Path InPath : Type 0} (p : Parameters) (log_arities : List ℕ
 module _ {A B E Path : Type 0} (num_queries log_arity round : ℕ) (r : RoundOpening E Path) where
   abbrev pub SiblingFault : FriError A B → Type 0
   SiblingFault (CommitPhaseQueryCountMismatch place expected got) =
-      (place ≡ round) × IsWrong num_queries (length r.siblings) expected got
+      (place ≡ round) × IsWrongCount num_queries (length r.siblings) expected got
   SiblingFault (SiblingValuesLengthMismatch place expected got) =
       (place ≡ round)
-      × Any (λ row. IsWrong (2 ^ log_arity - 1) (length row) expected got) r.siblings
+      × Any (λ row. IsWrongCount (2 ^ log_arity - 1) (length row) expected got) r.siblings
   SiblingFault _ = ⊥

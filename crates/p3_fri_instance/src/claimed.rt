@@ -6,8 +6,8 @@ ghost use Rattle.p3_fri_relation.specs.Heights.{matrices_of, heights_of};
 ghost use Rattle.p3_fri_relation.specs.Views.{claims_of};
 ghost use Rattle.p3_fri_instance.specs.Claimed.{has_size};
 
-use p3_commit::{CommitmentOpening, MatrixOpening};
 use p3_field_core::{TwoAdicField, TwoAdicMultiplicativeCoset};
+use p3_mmcs::{CommitmentOpening, MatrixOpening};
 use std::alloc::{AllocError, Global};
 
 /// Log sizes of domains are below the number of bits of a word.

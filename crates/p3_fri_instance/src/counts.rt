@@ -7,10 +7,10 @@ ghost use Rattle.p3_fri_relation.specs.Views.{parameters_of, proof_of};
 ghost use Rattle.p3_fri_instance.specs.Counts.{HasLengths};
 
 use crate::siblings::check_siblings;
-use p3_commit::Mmcs;
 use p3_fri_folding::FriParameters;
 use p3_fri_relation::error::FriError;
 use p3_fri_relation::proof::{BatchMultiOpening, FriProof};
+use p3_mmcs::Mmcs;
 
 /// Whether the rounds' lists have an entry for each log arity, and the final polynomial the length
 /// that the parameters fix.

@@ -11,10 +11,10 @@ ghost use Rattle.p3_fri_instance.specs.Claimed.{ArePositive, ParameterFault};
 ghost use Rattle.p3_fri_instance.specs.Claimed.{AreHeightsInRange, HeightFault};
 
 use crate::claimed::claimed_heights;
-use p3_commit::{CommitmentOpening, Mmcs};
 use p3_field_core::{TwoAdicField, TwoAdicMultiplicativeCoset};
 use p3_fri_folding::FriParameters;
 use p3_fri_relation::error::FriError;
+use p3_mmcs::{CommitmentOpening, Mmcs};
 use std::alloc::Global;
 
 /// Whether the parameters that may not be zero aren't.

@@ -5,19 +5,20 @@ ghost use Rattle.std.specs.Prelude.{IsNone, IfSome, IsOk, IfErr};
 ghost use Rattle.std.specs.List.{AllZip, Any};
 ghost use Rattle.algebra.specs.Nested.{lists};
 ghost use Rattle.p3_fri_relation.specs.Acceptance.{HasSiblings};
-ghost use Rattle.p3_fri_relation.specs.Faults.{At, IsWrong};
+ghost use Rattle.p3_fri_pow.specs.Counts.{IsWrongCount};
+ghost use Rattle.p3_fri_relation.specs.Faults.{At};
 ghost use Rattle.p3_fri_relation.specs.Views.{round_opened, rounds_opened};
 ghost use Rattle.p3_fri_instance.specs.Counts.{SiblingFault};
 
-use p3_commit::Mmcs;
 use p3_fri_relation::error::FriError;
 use p3_fri_relation::proof::CommitPhaseMultiStep;
+use p3_mmcs::Mmcs;
 
 /// The length of the first row that doesn't have the wanted one.
 fn other_length<E: Copy>(rows: &[Vec<E>], wanted: usize) -> Option<usize>
     ensures none { IsNone result ↔ All (λ row. length row ≡ wanted) (lists rows.now) }
     ensures some { IfSome result (λ got.
-        Any (λ row. IsWrong wanted (length row) wanted got) (lists rows.now)) }
+        Any (λ row. IsWrongCount wanted (length row) wanted got) (lists rows.now)) }
 {
     for row in rows {
         if row.len() != wanted {

@@ -7,13 +7,13 @@ use Rattle.algebra.specs.Nested.{joined}
 use Rattle.algebra.proofs.Lists.{Each, each_from_All, map-map}
 use Rattle.p3_matrix.specs.declared.dense.RowMajorMatrix.{RowMajorMatrix}
 use Rattle.p3_pcs.specs.declared.requests.OpeningRequest.{OpeningRequest}
-use Rattle.p3_pcs.specs.Claims.{both}
+use Rattle.p3_pcs.specs.Claims.{zip_with}
 use Rattle.p3_pcs.specs.Requests.{Request, request, AreOpenable}
-use Rattle.p3_fri_steps.specs.declared.error.FriProverError.{FriProverError}
-use Rattle.p3_fri_steps.specs.declared.error.FriProverError.TheVariants.{InputHeightTooSmall}
-use Rattle.p3_fri_steps.specs.declared.error.FriProverError.TheVariants.{FinalHeightOverflow}
-use Rattle.p3_fri_steps.specs.declared.error.FriProverError.TheVariants.{PointInEvaluationDomain}
-use Rattle.p3_fri_steps.specs.declared.error.FriProverError.TheVariants.{NoPowWitness, OutOfMemory}
+use Rattle.p3_fri_pow.specs.declared.error.FriProverError.{FriProverError}
+use Rattle.p3_fri_pow.specs.declared.error.FriProverError.TheVariants.{InputHeightTooSmall}
+use Rattle.p3_fri_pow.specs.declared.error.FriProverError.TheVariants.{FinalHeightOverflow}
+use Rattle.p3_fri_pow.specs.declared.error.FriProverError.TheVariants.{PointInEvaluationDomain}
+use Rattle.p3_fri_pow.specs.declared.error.FriProverError.TheVariants.{NoPowWitness, OutOfMemory}
 use Rattle.p3_fri_relation.specs.Setting.{Fields, Parameters}
 use Rattle.p3_fri_openings.specs.declared.round.OpeningRound.{OpeningRound}
 use Rattle.p3_fri_openings.specs.Opened.{values_asked}
@@ -37,7 +37,7 @@ module _ {F E D : Type 0} (f : Fields F E) (b : ℕ) (committed : D → List (Ro
   held r = length (held_of f committed b r.datum)
 
   count_here : (ms : List (RowMajorMatrix F)) (points : List (List E)) → length points ≡ length ms
-      → length (both (opened_honestly f b) ms points) ≡ length ms
+      → length (zip_with (opened_honestly f b) ms points) ≡ length ms
   count_here [] points count = refl
   count_here (m ∷ ms) [] count = omega (arith, count)
   count_here (m ∷ ms) (zs ∷ points) count =
@@ -125,7 +125,7 @@ module _ {F E D : Type 0} (f : Fields F E) (p : Parameters)
       → All (ArePointsOff f) rounds
   off_rounds off =
       all_same seen round_request asked rounds (sym looks)
-      (λ v. All (HasPointsOff f) (both ask v.datum v.points)) off
+      (λ v. All (HasPointsOff f) (zip_with ask v.datum v.points)) off
 
 -- a round that is made of one request may be opened
 pub round_here : {F E D : Type 0} (adicity : ℕ) (committed : D → List (RowMajorMatrix F))
@@ -144,7 +144,7 @@ module _ {F E D : Type 0} (f : Fields F E) (committed : D → List (RowMajorMatr
     (round : OpeningRound F E) (r : OpeningRequest D E)
     (same : round_request round ≡ matrices_request committed r) where
   pub off_here : ArePointsOff f round → All (HasPointsOff f) (asked_of committed (request r))
-  off_here off = subst (λ v. All (HasPointsOff f) (both ask v.datum v.points)) same off
+  off_here off = subst (λ v. All (HasPointsOff f) (zip_with ask v.datum v.points)) same off
 
   module _ (requests : List (OpeningRequest D E)) (i : ℕ) (inside : i < length requests)
       (is : r ≡ get_or requests i r)
@@ -158,7 +158,7 @@ module _ {F E D : Type 0} (f : Fields F E) (committed : D → List (RowMajorMatr
         λ r. FirstAt (HasPointsOff f) (IsFirstPoint f d) (asked_of committed r) b in
         subst (λ k. FirstAt Passes Refused (map request requests) k) (sym h.0)
         (mapped_first request requests i r inside is Passes Refused before
-        (subst (λ v. FirstAt (HasPointsOff f) (IsFirstPoint f d) (both ask v.datum v.points) b)
+        (subst (λ v. FirstAt (HasPointsOff f) (IsFirstPoint f d) (zip_with ask v.datum v.points) b)
         same h.1))
     on_here (InputHeightTooSmall h final) r = absurd r
     on_here FinalHeightOverflow r = absurd r

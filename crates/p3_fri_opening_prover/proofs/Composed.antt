@@ -10,11 +10,11 @@ use Rattle.p3_matrix.specs.declared.dense.RowMajorMatrix.{RowMajorMatrix}
 use Rattle.p3_pcs.specs.declared.requests.OpeningRequest.{OpeningRequest}
 use Rattle.p3_pcs.specs.Requests.{Request, request, AreOpenable, AreHonest, honest_claims}
 use Rattle.p3_pcs.specs.Requests.{honest_values}
-use Rattle.p3_fri_steps.specs.declared.error.FriProverError.{FriProverError}
-use Rattle.p3_fri_steps.specs.declared.error.FriProverError.TheVariants.{InputHeightTooSmall}
-use Rattle.p3_fri_steps.specs.declared.error.FriProverError.TheVariants.{FinalHeightOverflow}
-use Rattle.p3_fri_steps.specs.declared.error.FriProverError.TheVariants.{PointInEvaluationDomain}
-use Rattle.p3_fri_steps.specs.declared.error.FriProverError.TheVariants.{NoPowWitness, OutOfMemory}
+use Rattle.p3_fri_pow.specs.declared.error.FriProverError.{FriProverError}
+use Rattle.p3_fri_pow.specs.declared.error.FriProverError.TheVariants.{InputHeightTooSmall}
+use Rattle.p3_fri_pow.specs.declared.error.FriProverError.TheVariants.{FinalHeightOverflow}
+use Rattle.p3_fri_pow.specs.declared.error.FriProverError.TheVariants.{PointInEvaluationDomain}
+use Rattle.p3_fri_pow.specs.declared.error.FriProverError.TheVariants.{NoPowWitness, OutOfMemory}
 use Rattle.p3_fri_pcs_transcript.specs.Replay.{BatchReplay}
 use Rattle.p3_fri_relation.specs.Setting.{Setting, Parameters, CommitmentClaim, Proof, InputOpening}
 use Rattle.p3_fri_relation.specs.Acceptance.{Accepts, batch_replayed, test_replay}
@@ -79,6 +79,20 @@ module _ {F E C Com Path InCom InPath D X Y : Type 0} (s : Setting F E C Com Pat
           (all_zip-mapped g Opens xs proof.inputs o.tested.inputs));
     };
   }
+
+-- the same in a result
+module _ {F E C Com Path InCom InPath D X Y : Type 0} (s : Setting F E C Com Path InCom InPath)
+    (p : Parameters) (ms : List (Opened F E)) (values : List (List (List (List E)))) (c : C)
+    (committed : D → List (RowMajorMatrix F)) (commitment_of : D → InCom) (xs : List X)
+    (ys : List Y) (g : X → D) (h : Y → D) (same : map g xs ≡ map h ys) (last : C) where
+  pub same_opened : {T Z : Type 0} (r : Result T Z) (view : T → Proof F E Com Path InPath)
+      → IfOk r (λ o. IsOpening s p ms values c (λ x. committed (g x)) (λ x. commitment_of (g x)) xs
+      (view o) last)
+      → IfOk r (λ o. IsOpening s p ms values c (λ y. committed (h y)) (λ y. commitment_of (h y)) ys
+      (view o) last)
+  same_opened (Ok o) view is =
+      same_opening s p ms values c committed commitment_of xs ys g h same (view o) last is
+  same_opened (Err e) view is = tt
 
 -- a verifier accepts each proof of all claims that fit, and is left in the state `last`
 pub record AllVerify {F E C Com Path InCom InPath T X Domains : Type 0}

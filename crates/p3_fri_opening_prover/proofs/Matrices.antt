@@ -9,8 +9,8 @@ use Rattle.algebra.specs.Nested.{lists}
 use Rattle.algebra.proofs.Lists.{Each, each_from_All, All_from_each, each-append}
 use Rattle.p3_matrix.specs.declared.dense.RowMajorMatrix.{RowMajorMatrix}
 use Rattle.p3_matrix.specs.Matrix.{rows}
-use Rattle.p3_commit.specs.Batch.{max_height, dimensions_of}
-use Rattle.p3_pcs.specs.Claims.{both}
+use Rattle.p3_mmcs.specs.Batch.{max_height, dimensions_of}
+use Rattle.p3_pcs.specs.Claims.{zip_with}
 use Rattle.p3_fri_relation.specs.Setting.{Parameters}
 use Rattle.p3_fri_openings.specs.declared.round.OpeningRound.{OpeningRound}
 use Rattle.p3_fri_openings.specs.Rounds.{HasCoset, IsRound, ask, log_height}
@@ -29,7 +29,7 @@ module _ {F E : Type 0} (P : RowMajorMatrix F → Type 0) where
 
   opened_here : (ms : List (RowMajorMatrix F)) (points : List (List E))
       (values : List (List (List E))) → Each P ms
-      → Each OfOpened (both opened_at (both ask ms points) values)
+      → Each OfOpened (zip_with opened_at (zip_with ask ms points) values)
   opened_here [] points values h = tt
   opened_here (m ∷ ms) [] values h = tt
   opened_here (m ∷ ms) (zs ∷ points) [] h = tt
@@ -63,8 +63,8 @@ module _ {F E : Type 0} (P : RowMajorMatrix F → Type 0) where
   -- and the other way round, where all of them are opened
   back_here : (ms : List (RowMajorMatrix F)) (points : List (List E))
       (values : List (List (List E))) → length points ≡ length ms
-      → AllZip HasValues (both ask ms points) values
-      → Each OfOpened (both opened_at (both ask ms points) values) → Each P ms
+      → AllZip HasValues (zip_with ask ms points) values
+      → Each OfOpened (zip_with opened_at (zip_with ask ms points) values) → Each P ms
   back_here [] points values count have h = tt
   back_here (m ∷ ms) [] values count have h = absurd (omega (arith, count))
   back_here (m ∷ ms) (zs ∷ points) [] count have h = absurd have

@@ -2,13 +2,13 @@
 use Rattle.std.specs.Prelude.{ℕ, List, map, All, ⊤}
 use Rattle.algebra.specs.Nested.{joined}
 use Rattle.p3_matrix.specs.declared.dense.RowMajorMatrix.{RowMajorMatrix}
-use Rattle.p3_pcs.specs.Claims.{both}
+use Rattle.p3_pcs.specs.Claims.{zip_with}
 use Rattle.p3_pcs.specs.Requests.{Request, honest_values}
-use Rattle.p3_fri_steps.specs.declared.error.FriProverError.{FriProverError}
-use Rattle.p3_fri_steps.specs.declared.error.FriProverError.TheVariants.{InputHeightTooSmall}
-use Rattle.p3_fri_steps.specs.declared.error.FriProverError.TheVariants.{FinalHeightOverflow}
-use Rattle.p3_fri_steps.specs.declared.error.FriProverError.TheVariants.{PointInEvaluationDomain}
-use Rattle.p3_fri_steps.specs.declared.error.FriProverError.TheVariants.{NoPowWitness, OutOfMemory}
+use Rattle.p3_fri_pow.specs.declared.error.FriProverError.{FriProverError}
+use Rattle.p3_fri_pow.specs.declared.error.FriProverError.TheVariants.{InputHeightTooSmall}
+use Rattle.p3_fri_pow.specs.declared.error.FriProverError.TheVariants.{FinalHeightOverflow}
+use Rattle.p3_fri_pow.specs.declared.error.FriProverError.TheVariants.{PointInEvaluationDomain}
+use Rattle.p3_fri_pow.specs.declared.error.FriProverError.TheVariants.{NoPowWitness, OutOfMemory}
 use Rattle.p3_fri_relation.specs.Setting.{Fields, Parameters, Setting}
 use Rattle.p3_fri_openings.specs.First.{FirstAt}
 use Rattle.p3_fri_openings.specs.Rounds.{Asked, ask}
@@ -20,7 +20,7 @@ use Rattle.p3_fri_opening_prover.specs.Opening.{OpeningStops}
 module _ {F E D : Type 0} (committed : D → List (RowMajorMatrix F)) where
   -- the matrices of a request with their points
   abbrev pub asked_of : Request D E → List (Asked F E)
-  asked_of r = both ask (committed r.datum) r.points
+  asked_of r = zip_with ask (committed r.datum) r.points
 
   -- the first matrix that is refused for its height
   pub record IsFirstLow (p : Parameters) (e : FriProverError) (requests : List (Request D E))

@@ -2,11 +2,11 @@
 //! the low-degree test that shows them.
 #![tactic(auto)]
 
-mod checked;
-mod data;
 mod open;
+mod opened_data;
 mod prepared;
+mod request_checks;
 mod seeded;
 mod words;
 
-pub use crate::open::open_requests;
+pub use crate::open::{open_requests, open_rounds};

@@ -16,23 +16,35 @@ ghost use Rattle.p3_fri_completeness.specs.Requests.{HoldsWords, held_of, relati
 ghost use Rattle.p3_fri_opening_prover.specs.Opening.{IsOpening, OpeningStops};
 ghost use Rattle.p3_fri_opening_prover.specs.Refusals.{PassesChecks, OpenRefusal, LeavesState};
 
-use crate::checked::checked_rounds;
-use crate::data::data_of_requests;
+use crate::opened_data::data_of_requests;
 use crate::prepared::{Prepared, prepare};
+use crate::request_checks::checked_rounds;
 use crate::seeded::open_seeded;
 use p3_challenger_core::{CanObserve, FieldChallenger, GrindingChallenger};
-use p3_commit::{Mmcs, OpenedValues};
 use p3_field_core::{ExtensionField, TwoAdicField};
 use p3_fri_folding::{FriFoldingStrategy, FriParameters};
 use p3_fri_openings::OpeningRound;
+use p3_fri_pow::FriProverError;
+use p3_fri_prover::prover::ProverDataWithOpeningPoints;
 use p3_fri_relation::proof::{BatchMultiOpening, FriProof};
 use p3_fri_relation::setting::{ChallengeField, PlaysFri};
-use p3_fri_steps::FriProverError;
+use p3_mmcs::{Mmcs, OpenedValues};
 use p3_pcs::OpeningRequest;
 use std::alloc::{AllocError, Global};
 
-/// Opens rounds that passed the checks, which are those of the requests.
-fn open_checked<
+/// Opens rounds that passed the checks: answers the values of the committed polynomials at the
+/// rounds' points, with a proof of them, which is bound to the challenger's state. Of round `i` the
+/// datum `opened[i]` holds the matrices. How the rounds came of what a caller was asked for, and
+/// which checks it made, is the caller's: each scheme over these matrices opens by this call.
+///
+/// The matrices stand on cosets of the field and are tall enough, and no point lies in its matrix's
+/// coset. There is some matrix. The parameters are as for `open_requests`.
+///
+/// # Errors
+///
+/// `NoPowWitness` where no element passes a proof of work that is asked for, and `OutOfMemory` for
+/// want of memory. No refusal is one of the checks'.
+pub fn open_rounds<
     F: TwoAdicField,
     EF: ExtensionField<F>,
     M: Mmcs<EF>,
@@ -44,8 +56,8 @@ fn open_checked<
     folding: &S,
     params: &FriParameters<M>,
     input_mmcs: &InputMmcs,
-    requests: &[OpeningRequest<'_, InputMmcs::ProverData, EF>],
     rounds: &[OpeningRound<'_, F, EF>],
+    opened: &[ProverDataWithOpeningPoints<'_, EF, InputMmcs::ProverData>],
     challenger: &mut C,
 ) -> Result<
     (
@@ -64,7 +76,7 @@ fn open_checked<
     requires off { All (ArePointsOff ⟦<EF as ChallengeField<F>>⟧.fields) rounds.now }
     requires some_matrix { opened_of rounds.now (map (values_asked
         ⟦<EF as ChallengeField<F>>⟧.fields params.now.log_blowup) rounds.now) ≢ [] }
-    requires requests { map (λ r. InputMmcs.committed r.prover_data.now) requests.now
+    requires opened { map (λ d. InputMmcs.committed d.prover_data.now) opened.now
         ≡ map (λ r. r.matrices.now) rounds.now }
     ensures values { IfOk result (λ opening. opened_values opening.0.items ≡ map (values_asked
         ⟦<EF as ChallengeField<F>>⟧.fields params.now.log_blowup) rounds.now) }
@@ -72,8 +84,8 @@ fn open_checked<
         params.now.mmcs input_mmcs.now in
         let ys = map (values_asked s.fields params.now.log_blowup) rounds.now in
         IfOk result (λ opening. IsOpening s (parameters_of params.now) (opened_of rounds.now ys) ys
-        challenger.old (λ r. InputMmcs.committed r.prover_data.now)
-        (λ r. InputMmcs.commitment_of r.prover_data.now) requests.now (proof_of opening.1)
+        challenger.old (λ d. InputMmcs.committed d.prover_data.now)
+        (λ d. InputMmcs.commitment_of d.prover_data.now) opened.now (proof_of opening.1)
         challenger.new) }
     ensures stops { let s = ⟦<C as PlaysFri<F, EF, S, M, InputMmcs>>⟧.setting folding.now
         params.now.mmcs input_mmcs.now in
@@ -84,10 +96,6 @@ fn open_checked<
 {
     let prepared = match prepare(alloc, params, rounds) {
         Ok(prepared) => prepared,
-        Err(AllocError) => return Err(FriProverError::OutOfMemory),
-    };
-    let opened = match data_of_requests(alloc, requests) {
-        Ok(opened) => opened,
         Err(AllocError) => return Err(FriProverError::OutOfMemory),
     };
     let Prepared {
@@ -104,7 +112,7 @@ fn open_checked<
         rounds,
         &values,
         &denominators.entries,
-        &opened,
+        opened,
         challenger,
         seed,
         shape,
@@ -206,7 +214,11 @@ pub fn open_requests<
         Ok(rounds) => rounds,
         Err(refusal) => return Err(refusal),
     };
-    open_checked(
-        alloc, folding, params, input_mmcs, requests, &rounds, challenger,
+    let opened = match data_of_requests(alloc, requests) {
+        Ok(opened) => opened,
+        Err(AllocError) => return Err(FriProverError::OutOfMemory),
+    };
+    open_rounds(
+        alloc, folding, params, input_mmcs, &rounds, &opened, challenger,
     )
 }

@@ -13,12 +13,12 @@ ghost use Rattle.p3_fri_openings.specs.Denominators.{AreInverses, ArePointsCover
 ghost use Rattle.p3_fri_openings.specs.Opened.{values_asked};
 
 use p3_challenger_fs::Seed;
-use p3_commit::OpenedValues;
 use p3_field_core::{ExtensionField, TwoAdicField};
 use p3_fri_folding::FriParameters;
 use p3_fri_openings::{Denominators, OpeningRound, denominators_of_rounds, open_values};
 use p3_fri_pcs_transcript::PcsShape;
 use p3_fri_relation::setting::ChallengeField;
+use p3_mmcs::OpenedValues;
 use std::alloc::{AllocError, Global};
 
 /// What an opening's transcript begins with.

@@ -20,16 +20,16 @@ ghost use Rattle.p3_fri_opening_prover.specs.Refusals.{LeavesState};
 use crate::words::prove_words;
 use p3_challenger_core::{CanObserve, FieldChallenger, GrindingChallenger};
 use p3_challenger_fs::Seed;
-use p3_commit::{Mmcs, OpenedValues};
 use p3_field_core::{ExtensionField, TwoAdicField};
 use p3_fri_folding::{FriFoldingStrategy, FriParameters};
 use p3_fri_openings::{OpeningRound, PointDenominators};
 use p3_fri_pcs_transcript::PcsShape;
 use p3_fri_pcs_transcript::pcs_transcript::PcsProverTranscript;
+use p3_fri_pow::FriProverError;
 use p3_fri_prover::prover::ProverDataWithOpeningPoints;
 use p3_fri_relation::proof::{BatchMultiOpening, FriProof};
 use p3_fri_relation::setting::{ChallengeField, PlaysFri};
-use p3_fri_steps::FriProverError;
+use p3_mmcs::{Mmcs, OpenedValues};
 use std::alloc::Global;
 
 /// Plays the transcript of these values, whose shape and seed were made: they are absorbed, the

@@ -19,15 +19,15 @@ ghost use Rattle.p3_fri_opening_prover.specs.Opening.{words as words_of};
 ghost use Rattle.p3_fri_opening_prover.specs.Refusals.{LeavesState};
 
 use p3_challenger_core::{CanObserve, FieldChallenger, GrindingChallenger};
-use p3_commit::{Mmcs, OpenedValues};
 use p3_field_core::{ExtensionField, TwoAdicField, log2_strict_usize};
 use p3_fri_batch::batch_words;
 use p3_fri_folding::{FriFoldingStrategy, FriParameters};
 use p3_fri_openings::{OpeningRound, PointDenominators};
+use p3_fri_pow::FriProverError;
 use p3_fri_prover::prover::{ProverDataWithOpeningPoints, prove_fri};
 use p3_fri_relation::proof::{BatchMultiOpening, FriProof};
 use p3_fri_relation::setting::{ChallengeField, PlaysFri};
-use p3_fri_steps::FriProverError;
+use p3_mmcs::{Mmcs, OpenedValues};
 use std::alloc::{AllocError, Global};
 
 /// The log height of the first of some words, which is the tallest.

@@ -15,7 +15,6 @@ ghost use Rattle.p3_fri_opening_verifier.specs.Ends.{last_state};
 
 use p3_challenger_core::{CanObserve, FieldChallenger, GrindingChallenger};
 use p3_challenger_fs::Seed;
-use p3_commit::{CommitmentOpening, Mmcs};
 use p3_field_core::{ExtensionField, TwoAdicField, TwoAdicMultiplicativeCoset};
 use p3_fri_folding::{FriFoldingStrategy, FriParameters};
 use p3_fri_pcs_transcript::PcsShape;
@@ -24,6 +23,7 @@ use p3_fri_relation::error::FriError;
 use p3_fri_relation::proof::{BatchMultiOpening, FriProof};
 use p3_fri_relation::setting::PlaysFri;
 use p3_fri_verifier::verify_fri;
+use p3_mmcs::{CommitmentOpening, Mmcs};
 use std::alloc::Global;
 
 /// What the refusal of a transcript becomes.

@@ -1,7 +1,7 @@
 //! The verifier of openings.
 
 ghost use Rattle.std.specs.Prelude.{◌≡◌, ◌≢◌, ◌+◌, ◌<◌, ◌≤◌, ◌↔◌, Err, IsOk, IfErr};
-ghost use Rattle.p3_fri_steps.specs.declared.pow_phase.PowPhase.{PowPhase};
+ghost use Rattle.p3_fri_pow.specs.declared.pow_phase.PowPhase.{PowPhase};
 ghost use Rattle.p3_fri_relation.specs.declared.error.FriError.TheVariants.{OutOfMemory};
 ghost use Rattle.p3_fri_relation.specs.declared.error.FriError.TheVariants.{NonCanonicalPowWitness};
 ghost use Rattle.p3_fri_relation.specs.Acceptance.{Accepts};
@@ -11,7 +11,6 @@ ghost use Rattle.p3_fri_opening_verifier.specs.Ends.{last_state};
 
 use crate::seeded::verify_seeded;
 use p3_challenger_core::{CanObserve, FieldChallenger, GrindingChallenger};
-use p3_commit::{CommitmentOpening, Mmcs};
 use p3_field_core::{ExtensionField, TwoAdicField, TwoAdicMultiplicativeCoset};
 use p3_fri_folding::{FriFoldingStrategy, FriParameters};
 use p3_fri_instance::check_canonical;
@@ -19,6 +18,7 @@ use p3_fri_pcs_transcript::PcsShape;
 use p3_fri_relation::error::FriError;
 use p3_fri_relation::proof::{BatchMultiOpening, FriProof};
 use p3_fri_relation::setting::PlaysFri;
+use p3_mmcs::{CommitmentOpening, Mmcs};
 use std::alloc::{AllocError, Global};
 
 /// Verifies a proof of what is claimed of committed matrices at points: the claimed values are

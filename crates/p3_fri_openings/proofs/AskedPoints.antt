@@ -9,9 +9,9 @@ use Rattle.std.proofs.lemmas.List.Elements.{All-weaker, All-contains}
 use Rattle.algebra.specs.Nested.{lists}
 use Rattle.p3_matrix.specs.declared.dense.RowMajorMatrix.{RowMajorMatrix}
 use Rattle.p3_matrix.specs.Matrix.{rows}
-use Rattle.p3_pcs.specs.Claims.{both}
+use Rattle.p3_pcs.specs.Claims.{zip_with}
 use Rattle.p3_fri_relation.specs.Setting.{Fields}
-use Rattle.p3_fri_openings.specs.declared.asked.AskedPoint.{AskedPoint}
+use Rattle.p3_fri_openings.specs.declared.asked_points.AskedPoint.{AskedPoint}
 use Rattle.p3_fri_openings.specs.declared.round.OpeningRound.{OpeningRound}
 use Rattle.p3_fri_openings.specs.Rounds.{Asked, ask, asked_in, HasCoset, IsRound, log_height}
 use Rattle.p3_fri_openings.specs.Refusals.{IsOff, HasPointsOff, ArePointsOff}
@@ -28,11 +28,11 @@ module _ {F E : Type 0} where
   -- what holds of the matrices
   pub all_asked : (P : RowMajorMatrix F → Type 0) (matrices : List (RowMajorMatrix F))
       (points : List (List E))
-      → All P matrices → All (λ a. P a.matrix) (both ask matrices points)
+      → All P matrices → All (λ a. P a.matrix) (zip_with ask matrices points)
   all_asked P [] points h = All-nil (λ (a : Asked F E). P a.matrix)
   all_asked P (m ∷ matrices) [] h = All-nil (λ (a : Asked F E). P a.matrix)
   all_asked P (m ∷ matrices) (zs ∷ points) h =
-      All-cons (λ (a : Asked F E). P a.matrix) (ask m zs) (both ask matrices points)
+      All-cons (λ (a : Asked F E). P a.matrix) (ask m zs) (zip_with ask matrices points)
       (All-head P m matrices h)
       (all_asked P matrices points (All-tail P m matrices h))
 

@@ -6,7 +6,7 @@ use Rattle.std.proofs.lemmas.List.Elements.{All-map}
 use Rattle.algebra.specs.Nested.{lists}
 use Rattle.p3_matrix.specs.declared.dense.RowMajorMatrix.{RowMajorMatrix}
 use Rattle.p3_pcs.specs.declared.requests.OpeningRequest.{OpeningRequest}
-use Rattle.p3_pcs.specs.Claims.{both}
+use Rattle.p3_pcs.specs.Claims.{zip_with}
 use Rattle.p3_pcs.specs.Requests.{Request, Held, request, honest_values}
 use Rattle.p3_fri_relation.specs.Setting.{Fields}
 use Rattle.p3_fri_openings.specs.declared.round.OpeningRound.{OpeningRound}
@@ -18,7 +18,7 @@ use Rattle.p3_fri_openings.proofs.Pushed.{all_of_map}
 use Rattle.algebra.proofs.Lists.{map-map, map-agree}
 
 both_of_map : {S T U V : Type 0} (g : T → U → V) (h : S → T) (xs : List S) (ys : List U)
-    → both g (map h xs) ys ≡ both (λ x y. g (h x) y) xs ys
+    → zip_with g (map h xs) ys ≡ zip_with (λ x y. g (h x) y) xs ys
 both_of_map g h [] ys = refl
 both_of_map g h (x ∷ xs) [] = refl
 both_of_map g h (x ∷ xs) (y ∷ ys) = ap (λ vs. g (h x) y ∷ vs) (both_of_map g h xs ys)
@@ -57,14 +57,14 @@ module _ {F E D : Type 0} (committed : D → List (RowMajorMatrix F))
   -- the values asked for are those of the committed matrices at the requests' points
   pub values_of_requests : (f : Fields F E) (log_blowup : ℕ)
       → map (values_asked f log_blowup) rounds
-      ≡ map (λ r. both (λ matrix points. map (committed_values f log_blowup matrix) points)
+      ≡ map (λ r. zip_with (λ matrix points. map (committed_values f log_blowup matrix) points)
       (committed r.prover_data.now) (lists r.points.items)) requests
   values_of_requests f log_blowup =
       sym (map-map values round_request rounds) ∙ ap (λ rs. map values rs) same
       ∙ map-map values (matrices_request committed) requests
     where
       values : Request (List (RowMajorMatrix F)) E → List (List (List E))
-      values r = both (λ matrix points. map (committed_values f log_blowup matrix) points) r.datum
+      values r = zip_with (λ matrix points. map (committed_values f log_blowup matrix) points) r.datum
           r.points
 
   -- the honest ones, where each committed matrix is held with the values of its polynomials
@@ -74,7 +74,7 @@ module _ {F E D : Type 0} (committed : D → List (RowMajorMatrix F))
       (map request requests)
   honest_values_asked f log_blowup size =
       values_of_requests f log_blowup
-      ∙ map-agree (λ r. both (λ matrix points. map (committed_values f log_blowup matrix) points)
+      ∙ map-agree (λ r. zip_with (λ matrix points. map (committed_values f log_blowup matrix) points)
       (committed r.prover_data.now) (lists r.points.items))
       (λ r. honest_values all_held (request r))
       (λ r. sym (both_of_map (λ (m : Held E) points. map m.values_at points)

@@ -17,7 +17,7 @@ use Rattle.p3_field_core.specs.Coset.{bit_reversed_points}
 use Rattle.p3_matrix.specs.declared.dense.RowMajorMatrix.{RowMajorMatrix}
 use Rattle.p3_matrix.specs.Matrix.{rows}
 use Rattle.p3_fri_relation.specs.Setting.{Fields}
-use Rattle.p3_fri_openings.specs.declared.asked.AskedPoint.{AskedPoint}
+use Rattle.p3_fri_openings.specs.declared.asked_points.AskedPoint.{AskedPoint}
 use Rattle.p3_fri_openings.specs.declared.denominators.PointDenominators.{PointDenominators}
 use Rattle.p3_fri_openings.specs.declared.round.OpeningRound.{OpeningRound}
 use Rattle.p3_fri_openings.specs.Log2.{log2}

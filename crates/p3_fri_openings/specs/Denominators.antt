@@ -4,7 +4,7 @@ use Rattle.std.specs.List.{HoldsAt}
 use Rattle.algebra.specs.Interpolation.{AreDistinct}
 use Rattle.p3_matrix.specs.Matrix.{rows}
 use Rattle.p3_fri_relation.specs.Setting.{Fields}
-use Rattle.p3_fri_openings.specs.declared.asked.AskedPoint.{AskedPoint}
+use Rattle.p3_fri_openings.specs.declared.asked_points.AskedPoint.{AskedPoint}
 use Rattle.p3_fri_openings.specs.declared.denominators.PointDenominators.{PointDenominators}
 use Rattle.p3_fri_openings.specs.declared.round.OpeningRound.{OpeningRound}
 use Rattle.p3_fri_openings.specs.Rounds.{Asked, asked_in}

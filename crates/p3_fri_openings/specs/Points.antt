@@ -2,7 +2,7 @@
 use Rattle.std.specs.Prelude.{◌≡◌, ◌≤◌, ℕ, List, length, map, All, Contains}
 use Rattle.std.specs.List.{flat_map}
 use Rattle.p3_matrix.specs.Matrix.{rows}
-use Rattle.p3_fri_openings.specs.declared.asked.AskedPoint.{AskedPoint}
+use Rattle.p3_fri_openings.specs.declared.asked_points.AskedPoint.{AskedPoint}
 use Rattle.p3_fri_openings.specs.declared.round.OpeningRound.{OpeningRound}
 use Rattle.p3_fri_openings.specs.Rounds.{Asked, asked_in}
 

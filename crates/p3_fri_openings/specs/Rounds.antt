@@ -4,7 +4,7 @@ use Rattle.std.specs.Int.{IsPowerOfTwo}
 use Rattle.algebra.specs.Nested.{lists}
 use Rattle.p3_matrix.specs.declared.dense.RowMajorMatrix.{RowMajorMatrix}
 use Rattle.p3_matrix.specs.Matrix.{rows}
-use Rattle.p3_pcs.specs.Claims.{both}
+use Rattle.p3_pcs.specs.Claims.{zip_with}
 use Rattle.p3_fri_openings.specs.declared.round.OpeningRound.{OpeningRound}
 use Rattle.p3_fri_openings.specs.Log2.{log2}
 
@@ -28,7 +28,7 @@ module _ {F E : Type 0} where
 
   -- the matrices of a round with their points
   abbrev pub asked_in : OpeningRound F E → List (Asked F E)
-  asked_in round = both ask round.matrices.now (lists round.points.now)
+  asked_in round = zip_with ask round.matrices.now (lists round.points.now)
 
   -- a round that may be opened, over a field of this two-adicity: one list of points for each
   -- matrix, and each on a coset

@@ -9,7 +9,7 @@ ghost use Rattle.p3_fri_openings.specs.Denominators.{AreInverses, ArePointsCover
 ghost use Rattle.p3_fri_openings.specs.Denominators.{points_of_table, size_of};
 ghost use Rattle.p3_fri_openings.specs.Denominators.{HasDenominators, IsTableFor};
 
-use crate::asked::{AskedPoint, asked_points, tallest_at};
+use crate::asked_points::{AskedPoint, asked_points, tallest_at};
 use crate::checks::are_equal;
 use crate::denominators::{PointDenominators, denominators_of_point};
 use crate::round::OpeningRound;

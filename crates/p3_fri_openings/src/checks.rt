@@ -1,6 +1,7 @@
 //! Whether a prover may open: the heights of the matrices, and the points.
 
-ghost use Rattle.std.specs.Prelude.{◌≡◌, ◌↔◌, ◌≤◌, All, IsTrue, MatchOption, MatchResult};
+ghost use Rattle.std.specs.Prelude.{◌≡◌, ◌↔◌, ◌≤◌, All, IsTrue, IsOk, IfErr, MatchOption};
+ghost use Rattle.std.specs.Prelude.{MatchResult};
 ghost use Rattle.algebra.specs.Cosets.{IsOnCoset, IsOffCoset};
 ghost use Rattle.p3_fri_relation.specs.Views.{parameters_of};
 ghost use Rattle.p3_fri_openings.specs.Rounds.{asked_in, HasCoset, IsRound};
@@ -14,16 +15,23 @@ ghost use Rattle.p3_fri_openings.specs.Refusals.{RoundPointRefusal, PointRefusal
 use crate::round::OpeningRound;
 use p3_field_core::{ExtensionField, Field, TwoAdicField, log2_strict_usize};
 use p3_fri_folding::FriParameters;
+use p3_fri_pow::FriProverError;
 use p3_fri_relation::setting::ChallengeField;
-use p3_fri_steps::FriProverError;
 use p3_matrix::RowMajorMatrix;
 
 /// Whether a matrix of this log height can be opened: a final polynomial that isn't constant is
 /// sent only of a taller word than its own.
-fn check_height<M>(params: &FriParameters<M>, log_input_height: usize) -> Result<(), FriProverError>
-    ensures { MatchResult result
-        (λ _. IsTallEnough (parameters_of params.now) log_input_height)
-        (HeightRefusal (parameters_of params.now) log_input_height) }
+///
+/// # Errors
+///
+/// `InputHeightTooSmall` with both log heights, or `FinalHeightOverflow` where the final one has no
+/// number.
+pub fn check_height<M>(
+    params: &FriParameters<M>,
+    log_input_height: usize,
+) -> Result<(), FriProverError>
+    ensures tall_enough { IsOk result ↔ IsTallEnough (parameters_of params.now) log_input_height }
+    ensures refused { IfErr result (HeightRefusal (parameters_of params.now) log_input_height) }
 {
     if params.log_final_poly_len == 0 {
         return Ok(());

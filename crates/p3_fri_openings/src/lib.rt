@@ -3,7 +3,7 @@
 #![tactic(auto)]
 
 pub mod all_points;
-pub mod asked;
+pub mod asked_points;
 pub mod checks;
 pub mod denominators;
 pub mod opened;
@@ -13,7 +13,7 @@ pub mod values;
 
 pub use crate::all_points::{Denominators, denominators_of_rounds};
 pub use crate::checks::{
-    check_points, check_round_heights, check_round_points, is_in_evaluation_domain,
+    check_height, check_points, check_round_heights, check_round_points, is_in_evaluation_domain,
 };
 pub use crate::denominators::{PointDenominators, denominators_of_point, inverses_at};
 pub use crate::opened::open_values;

@@ -16,10 +16,10 @@ use crate::all_points::Denominators;
 use crate::denominators::inverses_at;
 use crate::round::OpeningRound;
 use crate::values::values_at_point;
-use p3_commit::OpenedValues;
 use p3_field_core::{ExtensionField, TwoAdicField};
 use p3_fri_relation::setting::ChallengeField;
 use p3_matrix::RowMajorMatrix;
+use p3_mmcs::OpenedValues;
 use std::alloc::{AllocError, Global};
 
 /// The values of a matrix's polynomials at each of these points.

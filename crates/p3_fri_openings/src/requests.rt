@@ -4,8 +4,8 @@ ghost use Rattle.std.specs.Prelude.{◌≡◌, IfOk, map};
 ghost use Rattle.p3_fri_openings.specs.Requests.{round_request, matrices_request};
 
 use crate::round::OpeningRound;
-use p3_commit::Mmcs;
 use p3_field_core::Field;
+use p3_mmcs::Mmcs;
 use p3_pcs::OpeningRequest;
 use std::alloc::{AllocError, Global};
 

@@ -2,21 +2,85 @@
 //! polynomials by hand.
 
 use crate::rounds::{are_rounds, extended};
-use p3_commit::OpenedValues;
 use p3_field::{BabyBear, BabyBear4, ExtensionField, Field};
 use p3_fri_openings::{
     Denominators, OpeningRound, check_points, denominators_of_rounds, open_values,
 };
-use p3_fri_steps::FriProverError;
+use p3_fri_pow::FriProverError;
 use p3_matrix::RowMajorMatrix;
+use p3_mmcs::OpenedValues;
 use std::alloc::{AllocError, Global};
 use std::test::Fail;
 
+/// Numbers of each matrix of a round: its column, its points, or the values at these.
+type Lists<'a> = &'a [&'a [u64]];
+
+/// Rounds of columns and points, the columns extended by so many bits, and what is opened of them
+/// with blowup 2.
+#[derive(Clone, Copy)]
+struct Case {
+    name: &'static str,
+    log_blowup: usize,
+    rounds: &'static [(Lists<'static>, Lists<'static>)],
+    values: &'static [Lists<'static>],
+    /// How many points the greatest coset has.
+    coset: usize,
+    /// Each point, and how many inverse differences stand for it.
+    points: &'static [(u64, usize)],
+}
+
 /// The values of `2 - X`.
-const TWO_MINUS_X: [u64; 2] = [1, 3];
+const LINE: [u64; 2] = [1, 3];
 
 /// The values of `X^2`.
 const SQUARE: [u64; 4] = [1, 2_013_265_920, 1, 2_013_265_920];
+
+const CASES: [Case; 4] = [
+    Case {
+        name: "a column at points in their order",
+        log_blowup: 1,
+        rounds: &[(&[&LINE], &[&[5, 7]])],
+        values: &[&[&[2_013_265_918, 2_013_265_916]]],
+        coset: 4,
+        points: &[(5, 4), (7, 4)],
+    },
+    Case {
+        name: "a constant at any point",
+        log_blowup: 1,
+        rounds: &[(&[&[9]], &[&[2, 0]])],
+        values: &[&[&[9, 9]]],
+        coset: 2,
+        points: &[(2, 2), (0, 2)],
+    },
+    Case {
+        name: "rounds and matrices in their order",
+        log_blowup: 1,
+        rounds: &[
+            (&[], &[]),
+            (&[&SQUARE, &LINE], &[&[5], &[5, 7]]),
+            (&[&LINE], &[&[7]]),
+        ],
+        values: &[
+            &[],
+            &[&[25], &[2_013_265_918, 2_013_265_916]],
+            &[&[2_013_265_916]],
+        ],
+        coset: 8,
+        points: &[(5, 8), (7, 4)],
+    },
+    // a matrix that is lower than the blowup stands for no polynomial
+    Case {
+        name: "one point of several heights",
+        log_blowup: 0,
+        rounds: &[(
+            &[&[9], &[9, 9], &[4, 4, 4, 4, 4, 4, 4, 4]],
+            &[&[5], &[5], &[5]],
+        )],
+        values: &[&[&[0], &[9], &[4]]],
+        coset: 8,
+        points: &[(5, 8)],
+    },
+];
 
 fn element(value: u64) -> BabyBear4 {
     BabyBear4::from_base(BabyBear::from_u64(value))
@@ -46,44 +110,84 @@ pub(crate) fn opened(
     Ok((values, denominators))
 }
 
-/// The values of columns: of each round's each matrix, at each point one.
-pub(crate) fn values_of(
-    alloc: Global,
-    rounds: &[&[&[u64]]],
-) -> Result<OpenedValues<BabyBear4>, AllocError> {
-    let mut all = Vec::with_capacity(alloc, rounds.len())?;
-    for matrices in rounds {
-        all.push(values_of_round(alloc, *matrices)?)?;
-    }
-    Ok(all)
-}
-
-fn values_of_round(
-    alloc: Global,
-    matrices: &[&[u64]],
-) -> Result<Vec<Vec<Vec<BabyBear4>>>, AllocError> {
-    let mut all = Vec::with_capacity(alloc, matrices.len())?;
-    for values in matrices {
-        let mut points = Vec::with_capacity(alloc, values.len())?;
-        for value in *values {
-            points.push(elements(alloc, &[*value])?)?;
+/// Whether one column has these values at the points.
+fn are_values_at(points: &[Vec<BabyBear4>], numbers: &[u64]) -> bool {
+    for (columns, number) in points.iter().zip(numbers) {
+        if columns.as_slice() != [element(*number)].as_slice() {
+            return false;
         }
-        all.push(points)?;
     }
-    Ok(all)
+    points.len() == numbers.len()
 }
 
-/// Columns, extended with blowup 2.
-fn columns(alloc: Global, each: &[&[u64]]) -> Result<Vec<RowMajorMatrix<BabyBear>>, Fail> {
-    let mut all = Vec::with_capacity(alloc, each.len())?;
-    for column in each {
-        all.push(extended(alloc, 1, *column)?)?;
+/// Whether each column of a round does.
+fn are_values_of(columns: &[Vec<Vec<BabyBear4>>], each: Lists<'_>) -> bool {
+    for (points, numbers) in columns.iter().zip(each) {
+        if !are_values_at(points, *numbers) {
+            return false;
+        }
+    }
+    columns.len() == each.len()
+}
+
+/// Whether the columns of each round do.
+pub(crate) fn are_values(values: &OpenedValues<BabyBear4>, rounds: &[Lists<'_>]) -> bool {
+    for (columns, each) in values.iter().zip(rounds) {
+        if !are_values_of(columns, *each) {
+            return false;
+        }
+    }
+    values.len() == rounds.len()
+}
+
+/// Whether each stands for the inverse of the point's difference to a point of the coset.
+fn are_inverses(point: BabyBear4, coset: &[BabyBear], inverses: &[BabyBear4]) -> bool {
+    for (coset_point, inverse) in coset.iter().zip(inverses) {
+        if (point - BabyBear4::from_base(*coset_point)) * *inverse != BabyBear4::ONE {
+            return false;
+        }
+    }
+    true
+}
+
+/// Whether the denominators are of these points.
+fn are_denominators(
+    denominators: &Denominators<BabyBear, BabyBear4>,
+    points: &[(u64, usize)],
+) -> bool {
+    for (entry, (point, count)) in denominators.entries.iter().zip(points) {
+        if entry.point != element(*point)
+            || entry.inverses.len() != *count
+            || !are_inverses(entry.point, &denominators.coset, &entry.inverses)
+        {
+            return false;
+        }
+    }
+    denominators.entries.len() == points.len()
+}
+
+/// The matrices and the points of a round.
+#[derive(Drop)]
+struct Held {
+    matrices: Vec<RowMajorMatrix<BabyBear>>,
+    points: Vec<Vec<BabyBear4>>,
+}
+
+/// Columns, extended by so many bits.
+fn matrices(
+    alloc: Global,
+    log_blowup: usize,
+    columns: Lists<'_>,
+) -> Result<Vec<RowMajorMatrix<BabyBear>>, Fail> {
+    let mut all = Vec::with_capacity(alloc, columns.len())?;
+    for column in columns {
+        all.push(extended(alloc, log_blowup, *column)?)?;
     }
     Ok(all)
 }
 
 /// Lists of points.
-fn points_of(alloc: Global, each: &[&[u64]]) -> Result<Vec<Vec<BabyBear4>>, AllocError> {
+fn points(alloc: Global, each: Lists<'_>) -> Result<Vec<Vec<BabyBear4>>, AllocError> {
     let mut all = Vec::with_capacity(alloc, each.len())?;
     for points in each {
         all.push(elements(alloc, *points)?)?;
@@ -91,140 +195,76 @@ fn points_of(alloc: Global, each: &[&[u64]]) -> Result<Vec<Vec<BabyBear4>>, Allo
     Ok(all)
 }
 
-/// How many points the coset has, and how many inverse differences stand for each point.
-fn sizes(
+/// What each round holds.
+fn hold(
     alloc: Global,
-    denominators: &Denominators<BabyBear, BabyBear4>,
-) -> Result<(usize, Vec<usize>), AllocError> {
-    let mut all = Vec::with_capacity(alloc, denominators.entries.len())?;
-    for entry in &denominators.entries {
-        all.push(entry.inverses.len())?;
+    log_blowup: usize,
+    rounds: &[(Lists<'_>, Lists<'_>)],
+) -> Result<Vec<Held>, Fail> {
+    let mut all = Vec::new(alloc);
+    for (columns, each) in rounds {
+        all.push(Held {
+            matrices: matrices(alloc, log_blowup, *columns)?,
+            points: points(alloc, *each)?,
+        })?;
     }
-    Ok((denominators.coset.len(), all))
+    Ok(all)
 }
 
-#[test]
-fn a_column_at_points_in_their_order(rt: HostRuntime) -> Result<(), Fail> {
-    let matrices = columns(rt.alloc(), &[&TWO_MINUS_X])?;
-    let points = points_of(rt.alloc(), &[&[5, 7]])?;
-    let rounds = [OpeningRound {
-        matrices: &matrices,
-        points: &points,
-    }];
-    let (values, denominators) = opened(rt.alloc(), &rounds)?;
-    let expected = values_of(rt.alloc(), &[&[&[2_013_265_918, 2_013_265_916]]])?;
-    assert_eq!(rt; (values, denominators.entries.len()), (expected, 2));
-    Ok(())
-}
-
-#[test]
-fn a_constant_at_any_point(rt: HostRuntime) -> Result<(), Fail> {
-    let matrices = columns(rt.alloc(), &[&[9]])?;
-    let points = points_of(rt.alloc(), &[&[2, 0]])?;
-    let rounds = [OpeningRound {
-        matrices: &matrices,
-        points: &points,
-    }];
-    let (values, _) = opened(rt.alloc(), &rounds)?;
-    assert_eq!(rt; values, values_of(rt.alloc(), &[&[&[9, 9]]])?);
-    Ok(())
-}
-
-#[test]
-fn rounds_and_matrices_in_their_order(rt: HostRuntime) -> Result<(), Fail> {
-    let none = columns(rt.alloc(), &[])?;
-    let no_points = points_of(rt.alloc(), &[])?;
-    let first = columns(rt.alloc(), &[&SQUARE, &TWO_MINUS_X])?;
-    let first_points = points_of(rt.alloc(), &[&[5], &[5, 7]])?;
-    let second = columns(rt.alloc(), &[&TWO_MINUS_X])?;
-    let second_points = points_of(rt.alloc(), &[&[7]])?;
-    let rounds = [
-        OpeningRound {
-            matrices: &none,
-            points: &no_points,
-        },
-        OpeningRound {
-            matrices: &first,
-            points: &first_points,
-        },
-        OpeningRound {
-            matrices: &second,
-            points: &second_points,
-        },
-    ];
-    let (values, denominators) = opened(rt.alloc(), &rounds)?;
-    let expected = values_of(
-        rt.alloc(),
-        &[
-            &[],
-            &[&[25], &[2_013_265_918, 2_013_265_916]],
-            &[&[2_013_265_916]],
-        ],
-    )?;
-    let (coset, inverses) = sizes(rt.alloc(), &denominators)?;
-    assert_eq!(rt;
-        (values, coset, inverses.as_slice()),
-        (expected, 8, [8, 4].as_slice())
-    );
-    Ok(())
-}
-
-/// The only point of these denominators, if each of its differences to the coset's points is the
-/// inverse of what stands for it.
-fn inverted_point(denominators: &Denominators<BabyBear, BabyBear4>) -> Option<BabyBear4> {
-    let [entry] = denominators.entries.as_slice() else {
-        return None;
-    };
-    for (coset_point, inverse) in denominators.coset.iter().zip(&entry.inverses) {
-        if (entry.point - BabyBear4::from_base(*coset_point)) * *inverse != BabyBear4::ONE {
-            return None;
-        }
+/// The rounds that hold these.
+fn rounds<'a>(
+    alloc: Global,
+    held: &'a [Held],
+) -> Result<Vec<OpeningRound<'a, BabyBear, BabyBear4>>, AllocError> {
+    let mut rounds = Vec::new(alloc);
+    for each in held {
+        rounds.push(OpeningRound {
+            matrices: &each.matrices,
+            points: &each.points,
+        })?;
     }
-    Some(entry.point)
+    Ok(rounds)
 }
 
-#[test]
-fn one_point_of_several_heights(rt: HostRuntime) -> Result<(), Fail> {
-    let alloc = rt.alloc();
-    let matrices = vec![in alloc;
-        extended(alloc, 0, &[9])?,
-        extended(alloc, 0, &[9, 9])?,
-        extended(alloc, 0, &[4, 4, 4, 4, 4, 4, 4, 4])?,
-    ]?;
-    let points = points_of(alloc, &[&[5], &[5], &[5]])?;
-    let rounds = [OpeningRound {
-        matrices: &matrices,
-        points: &points,
-    }];
+/// Whether this is opened.
+fn is_met(alloc: Global, case: &Case) -> Result<bool, Fail> {
+    let held = hold(alloc, case.log_blowup, case.rounds)?;
+    let rounds = rounds(alloc, &held)?;
     let (values, denominators) = opened(alloc, &rounds)?;
-    // A matrix that is lower than the blowup stands for no polynomial.
-    assert_eq!(rt; values, values_of(alloc, &[&[&[0], &[9], &[4]]])?);
-    let (coset, inverses) = sizes(alloc, &denominators)?;
-    assert_eq!(rt;
-        (coset, inverses.as_slice(), inverted_point(&denominators)),
-        (8, [8].as_slice(), Some(element(5)))
-    );
+    Ok(
+        are_values(&values, case.values)
+            && denominators.coset.len() == case.coset
+            && are_denominators(&denominators, case.points),
+    )
+}
+
+#[test]
+fn columns_are_opened(rt: HostRuntime) -> Result<(), Fail> {
+    for case in &CASES {
+        assert!(rt; is_met(rt.alloc(), case)?, "{}", case.name);
+    }
     Ok(())
+}
+
+/// Whether the generator is named as a point of the coset of `2 - X`.
+fn is_generator_refused(alloc: Global) -> Result<bool, Fail> {
+    let held = hold(alloc, 1, &[(&[&LINE], &[&[31]])])?;
+    let rounds = rounds(alloc, &held)?;
+    if !are_rounds(&rounds) {
+        return Err(Fail::new("the round can't be opened"));
+    }
+    Ok(
+        check_points(&rounds)
+            == Err(FriProverError::PointInEvaluationDomain {
+                round: 0,
+                matrix: 0,
+                point: 0,
+            }),
+    )
 }
 
 #[test]
 fn the_generator_lies_in_each_coset(rt: HostRuntime) -> Result<(), Fail> {
-    let matrices = columns(rt.alloc(), &[&TWO_MINUS_X])?;
-    let points = points_of(rt.alloc(), &[&[31]])?;
-    let rounds = [OpeningRound {
-        matrices: &matrices,
-        points: &points,
-    }];
-    if !are_rounds(&rounds) {
-        return Err(Fail::new("the round can't be opened"));
-    }
-    assert_eq!(rt;
-        check_points(&rounds),
-        Err(FriProverError::PointInEvaluationDomain {
-            round: 0,
-            matrix: 0,
-            point: 0,
-        })
-    );
+    assert!(rt; is_generator_refused(rt.alloc())?);
     Ok(())
 }

@@ -1,10 +1,10 @@
 //! Rounds of requests to open data that a tree of SHA-256 commits to.
 
-use crate::opened::{elements, opened, values_of};
+use crate::opened::{are_values, elements, opened};
 use crate::rounds::extended;
-use p3_commit::{Mmcs, Sha256Mmcs, Sha256ProverData};
 use p3_field::{BabyBear, BabyBear4};
 use p3_fri_openings::rounds_of_requests;
+use p3_mmcs::{Mmcs, Sha256Mmcs, Sha256ProverData};
 use p3_pcs::OpeningRequest;
 use std::alloc::Global;
 use std::test::Fail;
@@ -22,9 +22,8 @@ fn committed(
     Ok(data)
 }
 
-#[test]
-fn a_request_opens_its_data(rt: HostRuntime) -> Result<(), Fail> {
-    let alloc = rt.alloc();
+/// Whether a request for `2 - X` at 7 and 5 opens the values -5 and -3.
+fn is_opened(alloc: Global) -> Result<bool, Fail> {
     let scheme = Scheme::new();
     let mut data = committed(alloc, &scheme, &[1, 3])?;
     let points = vec![in alloc; elements(alloc, &[7, 5])?]?;
@@ -35,7 +34,11 @@ fn a_request_opens_its_data(rt: HostRuntime) -> Result<(), Fail> {
     })?;
     let rounds = rounds_of_requests::<BabyBear, BabyBear4, Scheme>(alloc, &scheme, &requests)?;
     let (values, _) = opened(alloc, &rounds)?;
-    let expected = values_of(alloc, &[&[&[2_013_265_916, 2_013_265_918]]])?;
-    assert_eq!(rt; values, expected);
+    Ok(are_values(&values, &[&[&[2_013_265_916, 2_013_265_918]]]))
+}
+
+#[test]
+fn a_request_opens_its_data(rt: HostRuntime) -> Result<(), Fail> {
+    assert!(rt; is_opened(rt.alloc())?);
     Ok(())
 }

@@ -9,11 +9,11 @@ use Rattle.p3_challenger_fs.specs.declared.pattern.Turn.{Turn}
 use Rattle.p3_challenger_fs.specs.Pattern.{turn_of}
 use Rattle.p3_challenger_core.specs.Run.{observed_all}
 use Rattle.p3_challenger_core.proofs.Runs.{observed_all-append}
-use Rattle.p3_fri_steps.specs.Pow.{pow_turns}
+use Rattle.p3_fri_pow.specs.Pow.{pow_turns}
 use Rattle.p3_fri_pcs_transcript.specs.Steps.{PcsNumbers, widths, bracket_step, batch_steps, pcs_steps}
-use Rattle.p3_fri_steps.specs.Steps.{challenge_step, message_step}
+use Rattle.p3_fri_pow.specs.Steps.{challenge_step, message_step}
 use Rattle.p3_fri_pcs_transcript.specs.Turns.{ClaimsLeft, claim_turns, bracket_turns}
-use Rattle.p3_fri_steps.proofs.Turns.{pow_turns-of}
+use Rattle.p3_fri_pow.proofs.Turns.{pow_turns-of}
 
 -- at first all steps are left
 pub claims_left : (d : ℕ) (s : PcsNumbers) → ClaimsLeft d s (widths s.counts) (map turn_of (pcs_steps d s))

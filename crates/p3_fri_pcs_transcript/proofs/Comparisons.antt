@@ -10,7 +10,7 @@ use Rattle.p3_fri_pcs_transcript.specs.declared.pcs_transcript.failure.PcsTransc
 use Rattle.p3_fri_pcs_transcript.specs.declared.pcs_transcript.failure.PcsTranscriptFailure.TheVariants.{ClaimedEvaluationCount, PowWitness, MissingPowWitness, OutOfMemory}
 use Rattle.p3_fri_pcs_transcript.specs.Claims.{BeginsWith, Differs, IsClaimFailure}
 use Rattle.p3_fri_pcs_transcript.specs.Cursor.{counts_left, IsCompared}
-use Rattle.p3_fri_steps.proofs.Lists.{next_item}
+use Rattle.p3_fri_pow.proofs.Lists.{next_item}
 use Rattle.p3_fri_transcript.proofs.Replays.{take_next}
 
 -- a list about one of its entries

@@ -4,10 +4,10 @@ use Rattle.std.specs.List.{flat_map}
 use Rattle.algebra.specs.Field.{FieldOps}
 use Rattle.p3_challenger_core.specs.Run.{After, Moves, observed_all, draws}
 use Rattle.p3_challenger_fs.specs.Turns.{bytes_observed}
-use Rattle.p3_fri_steps.specs.Pow.{shown_attempt}
-use Rattle.p3_fri_steps.specs.Reached.{Reaches}
-use Rattle.p3_fri_steps.proofs.NoBits.{no_bits}
-use Rattle.p3_fri_steps.proofs.Reached.{reaches_join, reaches_drawn, reaches_shown}
+use Rattle.p3_fri_pow.specs.Pow.{shown_attempt}
+use Rattle.p3_fri_pow.specs.Reached.{Reaches}
+use Rattle.p3_fri_pow.proofs.NoBits.{no_bits}
+use Rattle.p3_fri_pow.proofs.Reached.{reaches_join, reaches_drawn, reaches_shown}
 use Rattle.p3_fri_transcript.specs.Steps.{FriNumbers, fri_stream}
 use Rattle.p3_fri_pcs_transcript.specs.Steps.{PcsNumbers, pcs_stream}
 use Rattle.p3_fri_pcs_transcript.specs.Replay.{BatchReplay, shown_batch_replay, claims_observed, claims_replay, PcsReplay, pcs_replay}

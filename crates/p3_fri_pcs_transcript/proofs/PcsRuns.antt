@@ -4,13 +4,13 @@ use Rattle.std.specs.List.{flat_map}
 use Rattle.algebra.specs.Field.{FieldOps, multiple}
 use Rattle.p3_challenger_core.specs.Run.{Moves, observed_all}
 use Rattle.p3_challenger_fs.specs.Turns.{bytes_observed}
-use Rattle.p3_fri_steps.specs.declared.error.FriProverError.{FriProverError}
-use Rattle.p3_fri_steps.specs.declared.error.FriProverError.TheVariants as Error
-use Rattle.p3_fri_steps.specs.declared.pow_phase.PowPhase.TheVariants.{Batch, CommitPhase, Query}
-use Rattle.p3_fri_steps.specs.Pow.{found_witness, sent_witness, NonePasses}
-use Rattle.p3_fri_steps.specs.Reached.{Reaches}
-use Rattle.p3_fri_steps.proofs.Found.{sent_is}
-use Rattle.p3_fri_steps.proofs.Reached.{reaches_itself, reaches_same, reaches_join, reaches_all_observed}
+use Rattle.p3_fri_pow.specs.declared.error.FriProverError.{FriProverError}
+use Rattle.p3_fri_pow.specs.declared.error.FriProverError.TheVariants as Error
+use Rattle.p3_fri_pow.specs.declared.pow_phase.PowPhase.TheVariants.{Batch, CommitPhase, Query}
+use Rattle.p3_fri_pow.specs.Pow.{found_witness, sent_witness, NonePasses}
+use Rattle.p3_fri_pow.specs.Reached.{Reaches}
+use Rattle.p3_fri_pow.proofs.Found.{sent_is}
+use Rattle.p3_fri_pow.proofs.Reached.{reaches_itself, reaches_same, reaches_join, reaches_all_observed}
 use Rattle.p3_fri_transcript.specs.declared.transcript.failure.TranscriptFailure.{TranscriptFailure}
 use Rattle.p3_fri_transcript.specs.declared.transcript.failure.TranscriptFailure.TheVariants as Why
 use Rattle.p3_fri_transcript.specs.declared.transcript.play.Refusal.{Refusal}

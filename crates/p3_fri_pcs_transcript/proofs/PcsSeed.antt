@@ -10,11 +10,11 @@ use Rattle.p3_challenger_fs.specs.StreamLaws.{FitsNumber}
 use Rattle.p3_challenger_fs.proofs.Streams.{FitsWhole, cons_equal, split_front, stream_determined}
 use Rattle.p3_fri_pcs_transcript.specs.Shapes.{pcs_shape}
 use Rattle.p3_fri_pcs_transcript.specs.Steps.{PcsNumbers, bracket_step, widths, grouping, pcs_steps, pcs_stream, pcs_labels}
-use Rattle.p3_fri_steps.specs.Steps.{pow_steps, challenge_step, message_step}
+use Rattle.p3_fri_pow.specs.Steps.{pow_steps, challenge_step, message_step}
 use Rattle.p3_fri_pcs_transcript.specs.declared.pcs_transcript.shape.PcsShape.{PcsShape}
-use Rattle.p3_fri_steps.specs.Fits.{FitsList, FitsPoints}
+use Rattle.p3_fri_pow.specs.Fits.{FitsList, FitsPoints}
 use Rattle.p3_fri_pcs_transcript.specs.SeedLaws.{FitsMatrices, FitsCounts, FitsPcs}
-use Rattle.p3_fri_steps.proofs.SeedLemmas.{count_equal, kind_equal, pow_step, pow_determined, pow_fits, labels_fit, labels_determined}
+use Rattle.p3_fri_pow.proofs.SeedLemmas.{count_equal, kind_equal, pow_step, pow_determined, pow_fits, labels_fit, labels_determined}
 use Rattle.algebra.proofs.Lists.{head_eq, tail_eq}
 
 -- the numbers of claimed values and how they are grouped give back the counts

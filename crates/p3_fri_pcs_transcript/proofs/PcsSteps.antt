@@ -5,7 +5,7 @@ use Rattle.p3_challenger_fs.specs.declared.pattern.Hierarchy.TheVariants.{Begin,
 use Rattle.p3_challenger_fs.specs.Pattern.{Step}
 use Rattle.p3_challenger_fs.specs.Description.{Description}
 use Rattle.p3_fri_pcs_transcript.specs.Steps.{PcsNumbers, widths, bracket_step, pcs_steps}
-use Rattle.p3_fri_steps.specs.Steps.{pow_steps, challenge_step, message_step}
+use Rattle.p3_fri_pow.specs.Steps.{pow_steps, challenge_step, message_step}
 
 -- the step of one more count
 pub claim_pushed : (f : ℕ → Step) (a b : List Step) (counts : List ℕ) (i : ℕ) → i < length counts → b ≡ a ++ f (get_or counts i 0) ∷ []

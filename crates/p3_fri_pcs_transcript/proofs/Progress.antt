@@ -10,7 +10,7 @@ use Rattle.p3_challenger_fs.specs.declared.script.Script.{Script}
 use Rattle.p3_challenger_core.specs.Run.{observed_all}
 use Rattle.p3_challenger_fs.specs.Script.{remaining}
 use Rattle.p3_challenger_fs.specs.Turns.{IsNext}
-use Rattle.p3_fri_steps.proofs.Turns.{next_of, rest_of}
+use Rattle.p3_fri_pow.proofs.Turns.{next_of, rest_of}
 use Rattle.p3_fri_pcs_transcript.specs.declared.pcs_transcript.described.DescribedCounts.{DescribedCounts}
 use Rattle.p3_fri_pcs_transcript.specs.Absorption.{Absorbs, ClaimsThen}
 use Rattle.p3_fri_pcs_transcript.specs.Cursor.{counts_left, IsCompared}

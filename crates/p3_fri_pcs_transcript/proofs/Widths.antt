@@ -2,9 +2,9 @@
 use Rattle.std.proofs.Common.{◌≡◌, ℕ, List, [], ◌∷◌, ◌++◌, length, map, refl, sym, ap, ap₂, ◌∙◌, Vec, Global}
 use Rattle.std.proofs.lemmas.List.{map-append}
 use Rattle.algebra.specs.Nested.{lists, joined}
-use Rattle.p3_commit.specs.declared.openings.PointOpening.{PointOpening}
-use Rattle.p3_commit.specs.declared.openings.MatrixOpening.{MatrixOpening}
-use Rattle.p3_commit.specs.declared.openings.CommitmentOpening.{CommitmentOpening}
+use Rattle.p3_mmcs.specs.declared.openings.PointOpening.{PointOpening}
+use Rattle.p3_mmcs.specs.declared.openings.MatrixOpening.{MatrixOpening}
+use Rattle.p3_mmcs.specs.declared.openings.CommitmentOpening.{CommitmentOpening}
 use Rattle.p3_fri_pcs_transcript.specs.Counts.{counts_at_points, counts_in_matrices, counts_of_values, lists_in_matrices, lists_of_values, claimed_at_points, claimed_in_matrices, counts_of_claims, claimed_lists_at_points, claimed_lists_in_matrices, lists_of_claims}
 use Rattle.p3_fri_pcs_transcript.specs.Steps.{widths}
 

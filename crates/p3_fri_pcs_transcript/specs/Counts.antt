@@ -3,9 +3,9 @@ use Rattle.std.specs.Prelude.{ℕ, List, length, map, Vec}
 use Rattle.std.specs.Global.{Global}
 use Rattle.std.specs.List.{flat_map}
 use Rattle.algebra.specs.Nested.{lists, joined}
-use Rattle.p3_commit.specs.declared.openings.PointOpening.{PointOpening}
-use Rattle.p3_commit.specs.declared.openings.MatrixOpening.{MatrixOpening}
-use Rattle.p3_commit.specs.declared.openings.CommitmentOpening.{CommitmentOpening}
+use Rattle.p3_mmcs.specs.declared.openings.PointOpening.{PointOpening}
+use Rattle.p3_mmcs.specs.declared.openings.MatrixOpening.{MatrixOpening}
+use Rattle.p3_mmcs.specs.declared.openings.CommitmentOpening.{CommitmentOpening}
 
 -- values that a prover opens, nested by commitment, matrix and point
 module _ {E : Type 0} where

@@ -2,7 +2,7 @@
 use Rattle.std.specs.Prelude.{◌≡◌, ◌≤◌, ℕ, IsTrue, List, length, Option}
 use Rattle.algebra.specs.Field.{FieldOps}
 use Rattle.p3_challenger_core.specs.Run.{Moves}
-use Rattle.p3_fri_steps.specs.Pow.{IsMissing, IsWrong}
+use Rattle.p3_fri_pow.specs.Pow.{IsMissing, IsWrongWitness}
 use Rattle.p3_fri_transcript.specs.declared.transcript.failure.TranscriptFailure.{TranscriptFailure}
 use Rattle.p3_fri_transcript.specs.Failures.{FriFailure}
 use Rattle.p3_fri_transcript.specs.Steps.{FriNumbers}
@@ -26,7 +26,7 @@ module _ {C F E Com : Type 0} (m : Moves C F E Com) where
   abbrev pub BatchFailure : (bits : ℕ) (c : C) (witness : Option F) → Why.PcsTranscriptFailure
       → Type 0
   BatchFailure bits c witness (Why.TheVariants.PowWitness named) =
-      (named ≡ bits) × IsWrong m.observe_value m.draw_bits c bits witness
+      (named ≡ bits) × IsWrongWitness m.observe_value m.draw_bits c bits witness
   BatchFailure bits c witness (Why.TheVariants.MissingPowWitness named) =
       (named ≡ bits) × IsMissing bits witness
   BatchFailure bits c witness _ = ⊥

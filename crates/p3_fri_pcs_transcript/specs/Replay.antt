@@ -5,7 +5,7 @@ use Rattle.std.specs.List.{flat_map}
 use Rattle.algebra.specs.Field.{FieldOps}
 use Rattle.p3_challenger_core.specs.Run.{Moves, observed_all}
 use Rattle.p3_challenger_fs.specs.Turns.{bytes_observed}
-use Rattle.p3_fri_steps.specs.Pow.{shown_attempt}
+use Rattle.p3_fri_pow.specs.Pow.{shown_attempt}
 use Rattle.p3_fri_transcript.specs.Steps.{FriNumbers, fri_stream}
 use Rattle.p3_fri_pcs_transcript.specs.Steps.{PcsNumbers, pcs_stream}
 use Rattle.p3_fri_transcript.specs.Replay.{fri_replay}

@@ -2,7 +2,7 @@
 use Rattle.std.specs.Prelude.{ℕ, List}
 use Rattle.p3_challenger_fs.specs.StreamLaws.{FitsNumber}
 use Rattle.p3_fri_pcs_transcript.specs.Steps.{PcsNumbers}
-use Rattle.p3_fri_steps.specs.Fits.{FitsList, FitsPoints}
+use Rattle.p3_fri_pow.specs.Fits.{FitsList, FitsPoints}
 
 abbrev pub FitsMatrices : List (List ℕ) → Type 0
 FitsMatrices matrices = FitsList FitsPoints matrices

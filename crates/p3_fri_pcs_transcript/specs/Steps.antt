@@ -9,7 +9,7 @@ use Rattle.p3_challenger_fs.specs.declared.pattern.Kind.TheVariants.{Protocol}
 use Rattle.p3_challenger_fs.specs.declared.pattern.TypeTag.TheVariants.{Marker}
 use Rattle.p3_challenger_fs.specs.declared.pattern.Length.TheVariants.{Scalar}
 use Rattle.p3_challenger_fs.specs.Pattern.{Step, number_bytes, seed_stream}
-use Rattle.p3_fri_steps.specs.Steps.{pow_steps, challenge_step, message_step}
+use Rattle.p3_fri_pow.specs.Steps.{pow_steps, challenge_step, message_step}
 
 -- what a shape says: the numbers of claimed values by commitment, matrix and point
 pub record PcsNumbers : Type 0 where

@@ -4,7 +4,7 @@ use Rattle.p3_challenger_fs.specs.declared.pattern.Hierarchy.TheVariants.{Begin,
 use Rattle.p3_challenger_fs.specs.declared.pattern.Turn.{Turn}
 use Rattle.p3_challenger_fs.specs.Pattern.{turn_of}
 use Rattle.p3_fri_pcs_transcript.specs.Steps.{PcsNumbers, bracket_step, batch_steps}
-use Rattle.p3_fri_steps.specs.Steps.{message_step}
+use Rattle.p3_fri_pow.specs.Steps.{message_step}
 
 -- claims of so many values each
 abbrev pub claim_turns : (d : ℕ) (counts : List ℕ) → List Turn

@@ -4,7 +4,7 @@
 ghost use Rattle.std.specs.Prelude.{◌≡◌, ℕ, List, [], ◌∷◌};
 ghost use Rattle.algebra.specs.Field.{FieldOps};
 ghost use Rattle.p3_challenger_core.specs.Run.{Moves};
-ghost use Rattle.p3_fri_steps.specs.Fits.{FitsList, FitsPoints};
+ghost use Rattle.p3_fri_pow.specs.Fits.{FitsList, FitsPoints};
 ghost use Rattle.p3_fri_transcript.specs.Steps.{FriNumbers};
 ghost use Rattle.p3_fri_pcs_transcript.specs.Events.{IsRunOfPcs};
 ghost use Rattle.p3_fri_pcs_transcript.specs.Shapes.{pcs_shape};
@@ -15,7 +15,7 @@ ghost use Rattle.p3_fri_pcs_transcript.specs.SeedExamples.{with_counts, DifferIn
 
 use crate::pcs_transcript::PcsShape;
 use p3_field_core::{ExtensionField, Field};
-use p3_fri_steps::laws::points_fit;
+use p3_fri_pow::laws::points_fit;
 
 /// The stream determines the shape.
 pub fn pcs_seed_law<F: Field, EF: ExtensionField<F>>(a: &PcsShape, b: &PcsShape)

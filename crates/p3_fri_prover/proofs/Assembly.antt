@@ -5,7 +5,7 @@ use Rattle.algebra.specs.Field.{FieldOps}
 use Rattle.algebra.specs.Folds.{neighbours}
 use Rattle.p3_matrix.specs.declared.dense.RowMajorMatrix.{RowMajorMatrix}
 use Rattle.p3_matrix.specs.Matrix.{rows}
-use Rattle.p3_commit.specs.Batch.{dimensions}
+use Rattle.p3_mmcs.specs.Batch.{dimensions}
 use Rattle.p3_fri_relation.specs.Setting.{Opening}
 use Rattle.p3_fri_relation.specs.Queries.{heights_after, row_indices}
 use Rattle.p3_fri_prover.specs.Openings.{index_into, row_of, OpensRows}

@@ -4,7 +4,7 @@ use Rattle.std.proofs.Common.{get_or, arith, sym, ap, ◌∙◌, subst}
 use Rattle.std.specs.Prelude.{All}
 use Rattle.std.proofs.lemmas.List.{length-map, get_or-map}
 use Rattle.p3_matrix.specs.declared.dense.RowMajorMatrix.{RowMajorMatrix}
-use Rattle.p3_commit.specs.Batch.{AreBelow, max_height, dimensions_of, opened_rows}
+use Rattle.p3_mmcs.specs.Batch.{AreBelow, max_height, dimensions_of, opened_rows}
 use Rattle.p3_fri_relation.specs.Setting.{Opening, InputOpening}
 use Rattle.p3_fri_prover.specs.Openings.{OpensBatch, batch_index}
 use Rattle.p3_field_core.proofs.IndexPowers.{power_quotient, index_cut}

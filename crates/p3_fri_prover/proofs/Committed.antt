@@ -12,12 +12,12 @@ use Rattle.p3_challenger_core.specs.Run.{Moves}
 use Rattle.p3_fri_transcript.specs.Replay.{rounds_replay}
 use Rattle.p3_fri_transcript.proofs.Joining.{no_rounds, round_joined}
 use Rattle.p3_fri_relation.specs.Queries.{rounds_of}
-use Rattle.p3_fri_steps.specs.declared.error.FriProverError.{FriProverError}
-use Rattle.p3_fri_steps.specs.declared.error.FriProverError.TheVariants.{InputHeightTooSmall}
-use Rattle.p3_fri_steps.specs.declared.error.FriProverError.TheVariants.{FinalHeightOverflow}
-use Rattle.p3_fri_steps.specs.declared.error.FriProverError.TheVariants.{OutOfMemory, NoPowWitness}
-use Rattle.p3_fri_steps.specs.declared.error.FriProverError.TheVariants.{PointInEvaluationDomain}
-use Rattle.p3_fri_steps.specs.declared.pow_phase.PowPhase.TheVariants.{Batch, CommitPhase, Query}
+use Rattle.p3_fri_pow.specs.declared.error.FriProverError.{FriProverError}
+use Rattle.p3_fri_pow.specs.declared.error.FriProverError.TheVariants.{InputHeightTooSmall}
+use Rattle.p3_fri_pow.specs.declared.error.FriProverError.TheVariants.{FinalHeightOverflow}
+use Rattle.p3_fri_pow.specs.declared.error.FriProverError.TheVariants.{OutOfMemory, NoPowWitness}
+use Rattle.p3_fri_pow.specs.declared.error.FriProverError.TheVariants.{PointInEvaluationDomain}
+use Rattle.p3_fri_pow.specs.declared.pow_phase.PowPhase.TheVariants.{Batch, CommitPhase, Query}
 use Rattle.p3_fri_prover.specs.Rounds.{CanFold, KeepsWord, IsRound, AreCommitted}
 use Rattle.p3_fri_prover.specs.Rounds.{IsRoundRefused}
 use Rattle.p3_fri_prover.specs.Refusals.{RoundRefusal, RoundsRefusal}

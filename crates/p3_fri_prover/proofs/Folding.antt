@@ -13,7 +13,7 @@ use Rattle.p3_matrix.specs.declared.dense.RowMajorMatrix.{RowMajorMatrix}
 use Rattle.p3_matrix.specs.Matrix.{rows}
 use Rattle.p3_matrix.specs.Rows.{rows_of}
 use Rattle.p3_matrix.proofs.Rows.{length-rows_of, get_or-rows_of}
-use Rattle.p3_commit.specs.Batch.{HavePowerHeights, dimensions_of}
+use Rattle.p3_mmcs.specs.Batch.{HavePowerHeights, dimensions_of}
 use Rattle.p3_fri_folding.specs.Strategy.{folded_rows}
 use Rattle.p3_fri_prover.specs.Inputs.{of_length, rolled_word}
 

@@ -11,7 +11,7 @@ use Rattle.algebra.specs.Field.{FieldOps}
 use Rattle.algebra.specs.Folds.{neighbours}
 use Rattle.p3_matrix.specs.declared.dense.RowMajorMatrix.{RowMajorMatrix}
 use Rattle.p3_matrix.specs.Matrix.{rows}
-use Rattle.p3_commit.specs.Batch.{AreBelow, max_height, dimensions_of}
+use Rattle.p3_mmcs.specs.Batch.{AreBelow, max_height, dimensions_of}
 use Rattle.p3_fri_relation.specs.Setting.{Opening, RoundOpening}
 use Rattle.p3_fri_relation.specs.Queries.{heights_after, row_indices}
 use Rattle.p3_fri_relation.specs.Acceptance.{HasSiblings}

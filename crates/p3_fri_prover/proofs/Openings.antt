@@ -11,7 +11,7 @@ use Rattle.algebra.proofs.Nested.{nested_at}
 use Rattle.algebra.proofs.Lists.{tabulate-next, tabulate-equal, head_eq, map-map, map-agree}
 use Rattle.p3_matrix.specs.declared.dense.RowMajorMatrix.{RowMajorMatrix}
 use Rattle.p3_matrix.specs.Matrix.{rows, matrix_width}
-use Rattle.p3_commit.specs.Batch.{AreBelow, HavePowerHeights, max_height, dimensions, dimensions_of, opened_rows}
+use Rattle.p3_mmcs.specs.Batch.{AreBelow, HavePowerHeights, max_height, dimensions, dimensions_of, opened_rows}
 use Rattle.p3_fri_relation.specs.Setting.{Opening}
 use Rattle.p3_fri_prover.specs.Openings.{row_of, OpensRows}
 use Rattle.p3_fri_prover.proofs.Queries.{tabulate-map}

@@ -8,10 +8,10 @@ use Rattle.std.proofs.Math.Pow.{pow_mono}
 use Rattle.algebra.specs.Nested.{lists}
 use Rattle.p3_matrix.specs.declared.dense.RowMajorMatrix.{RowMajorMatrix}
 use Rattle.p3_challenger_core.specs.Run.{After, Moves}
-use Rattle.p3_fri_steps.specs.declared.error.FriProverError.{FriProverError}
-use Rattle.p3_fri_steps.specs.declared.error.FriProverError.TheVariants as Why
-use Rattle.p3_fri_steps.specs.declared.pow_phase.PowPhase.TheVariants.{Batch, CommitPhase, Query}
-use Rattle.p3_fri_steps.specs.Pow.{found_witness, NonePasses}
+use Rattle.p3_fri_pow.specs.declared.error.FriProverError.{FriProverError}
+use Rattle.p3_fri_pow.specs.declared.error.FriProverError.TheVariants as Why
+use Rattle.p3_fri_pow.specs.declared.pow_phase.PowPhase.TheVariants.{Batch, CommitPhase, Query}
+use Rattle.p3_fri_pow.specs.Pow.{found_witness, NonePasses}
 use Rattle.p3_fri_transcript.specs.Indices.{AreIndices}
 use Rattle.p3_fri_transcript.specs.Replay.{shown_queries_replay, polynomial_observed}
 use Rattle.p3_fri_transcript.specs.Steps.{FriNumbers}

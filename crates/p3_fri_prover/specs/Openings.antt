@@ -3,7 +3,7 @@ use Rattle.std.specs.Prelude.{◌≡◌, ℕ, ◌/◌, ◌%◌, ◌^◌, ◌<◌
 use Rattle.std.specs.Prelude.{slice_index, slice_index_or}
 use Rattle.p3_matrix.specs.declared.dense.RowMajorMatrix.{RowMajorMatrix}
 use Rattle.p3_matrix.specs.Matrix.{rows, matrix_width}
-use Rattle.p3_commit.specs.Batch.{AreBelow, max_height, dimensions, dimensions_of, opened_rows}
+use Rattle.p3_mmcs.specs.Batch.{AreBelow, max_height, dimensions, dimensions_of, opened_rows}
 use Rattle.p3_fri_relation.specs.Setting.{Opening, InputOpening}
 use Rattle.p3_fri_relation.specs.Queries.{row_indices}
 

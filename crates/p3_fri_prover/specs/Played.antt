@@ -4,10 +4,10 @@ use Rattle.std.specs.Prelude.{Option, slice_index_or, ⊤}
 use Rattle.algebra.specs.Rounds.{final_polynomial}
 use Rattle.p3_matrix.specs.declared.dense.RowMajorMatrix.{RowMajorMatrix}
 use Rattle.p3_challenger_core.specs.Run.{Moves}
-use Rattle.p3_fri_steps.specs.declared.error.FriProverError.{FriProverError}
-use Rattle.p3_fri_steps.specs.declared.error.FriProverError.TheVariants.{NoPowWitness, OutOfMemory}
-use Rattle.p3_fri_steps.specs.declared.pow_phase.PowPhase.TheVariants.{CommitPhase, Query}
-use Rattle.p3_fri_steps.specs.Pow.{NonePasses}
+use Rattle.p3_fri_pow.specs.declared.error.FriProverError.{FriProverError}
+use Rattle.p3_fri_pow.specs.declared.error.FriProverError.TheVariants.{NoPowWitness, OutOfMemory}
+use Rattle.p3_fri_pow.specs.declared.pow_phase.PowPhase.TheVariants.{CommitPhase, Query}
+use Rattle.p3_fri_pow.specs.Pow.{NonePasses}
 use Rattle.p3_fri_transcript.specs.Indices.{AreIndices}
 use Rattle.p3_fri_transcript.specs.Replay.{shown_queries_replay, polynomial_observed}
 use Rattle.p3_fri_transcript.specs.Steps.{FriNumbers}

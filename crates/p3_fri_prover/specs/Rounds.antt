@@ -7,7 +7,7 @@ use Rattle.p3_matrix.specs.declared.dense.RowMajorMatrix.{RowMajorMatrix}
 use Rattle.p3_matrix.specs.Matrix.{rows, matrix_width}
 use Rattle.p3_matrix.specs.Rows.{rows_of}
 use Rattle.p3_challenger_core.specs.Run.{Moves}
-use Rattle.p3_fri_steps.specs.Pow.{NonePasses}
+use Rattle.p3_fri_pow.specs.Pow.{NonePasses}
 use Rattle.p3_fri_transcript.specs.Replay.{round_replay, rounds_replay}
 use Rattle.p3_fri_relation.specs.Queries.{rounds_of}
 

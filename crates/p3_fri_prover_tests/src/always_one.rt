@@ -4,10 +4,10 @@ ghost use Rattle.p3_fri_prover_tests.specs.AlwaysOne.{ignored, one_drawn, bits_o
 ghost use Rattle.p3_fri_prover_tests.specs.AlwaysOne.{solution_of_one};
 ghost use Rattle.p3_fri_prover_tests.specs.AlwaysOneLaws.{max_small, bits_below};
 
-use crate::proofs::{Parameters, committed_column, plain_parameters, prove, word};
+use crate::proofs::{committed_column, plain_parameters, prove, word};
 use p3_challenger::{CanObserve, CanSample, CanSampleBits, FieldChallenger, GrindingChallenger};
 use p3_field::{BabyBear, Field};
-use p3_fri_steps::{FriProverError, PowPhase};
+use p3_fri_pow::{FriProverError, PowPhase};
 use std::alloc::Global;
 use std::test::Fail;
 
@@ -69,36 +69,44 @@ impl GrindingChallenger for AlwaysOne {
     }
 }
 
-/// Why the prover refuses with these parameters.
-fn refusal(alloc: Global, parameters: &Parameters) -> Result<Option<FriProverError>, Fail> {
+/// Bits of the proofs of work of the rounds and of the queries, and the phase without a witness.
+const CASES: [(usize, usize, Option<PowPhase>); 3] = [
+    (0, 0, None),
+    (0, 3, Some(PowPhase::Query)),
+    (3, 3, Some(PowPhase::CommitPhase)),
+];
+
+/// Why the prover refuses with so many bits.
+fn refusal(
+    alloc: Global,
+    commit_bits: usize,
+    query_bits: usize,
+) -> Result<Option<FriProverError>, Fail> {
+    let mut parameters = plain_parameters();
+    parameters.commit_proof_of_work_bits = commit_bits;
+    parameters.query_proof_of_work_bits = query_bits;
     let (_commitment, data) = committed_column(alloc)?;
-    let mut challenger = AlwaysOne {};
     Ok(prove(
         alloc,
-        parameters,
+        &parameters,
         0,
         word(alloc)?,
         2,
         &data,
-        &mut challenger,
+        &mut AlwaysOne {},
     )?
     .err())
 }
 
 #[test]
 fn work_without_a_witness_is_named_by_its_phase(rt: HostRuntime) -> Result<(), Fail> {
-    let in_query = FriProverError::NoPowWitness {
-        phase: PowPhase::Query,
-    };
-    let in_round = FriProverError::NoPowWitness {
-        phase: PowPhase::CommitPhase,
-    };
-    let rows = [(0, 0, None), (0, 3, Some(in_query)), (3, 3, Some(in_round))];
-    for (commit_bits, query_bits, expected) in rows {
-        let mut parameters = plain_parameters();
-        parameters.commit_proof_of_work_bits = commit_bits;
-        parameters.query_proof_of_work_bits = query_bits;
-        assert_eq!(rt; refusal(rt.alloc(), &parameters)?, expected);
+    for (commit_bits, query_bits, phase) in &CASES {
+        let expected = match phase {
+            Some(phase) => Some(FriProverError::NoPowWitness { phase: *phase }),
+            None => None,
+        };
+        let refusal = refusal(rt.alloc(), *commit_bits, *query_bits)?;
+        assert!(rt; refusal == expected, "{commit_bits}, {query_bits}");
     }
     Ok(())
 }

@@ -1,34 +1,45 @@
 //! Which heights a prover takes.
 
 use p3_fri_folding::FriParameters;
+use p3_fri_pow::FriProverError;
 use p3_fri_prover::prover::validate_input_height;
-use p3_fri_steps::FriProverError;
+use std::process::Abort;
+
+/// The logarithm of the final polynomial's length, that of the blowup, a word's log height, and the
+/// answer.
+type Case = (usize, usize, usize, Result<(), FriProverError>);
+
+const CASES: [Case; 3] = [
+    (3, 2, 6, Ok(())),
+    (
+        3,
+        2,
+        5,
+        Err(FriProverError::InputHeightTooSmall {
+            log_input_height: 5,
+            log_final_height: 5,
+        }),
+    ),
+    (3, usize::MAX, 6, Err(FriProverError::FinalHeightOverflow)),
+];
+
+const CONSTANTS: [Case; 2] = [(0, 2, 0, Ok(())), (0, 2, 27, Ok(()))];
+
+fn assert_all(rt: &impl Abort, cases: &[Case]) {
+    for (log_final_poly_len, log_blowup, log_height, expected) in cases {
+        let mut params = FriParameters::new_testing(0, *log_final_poly_len);
+        params.log_blowup = *log_blowup;
+        let is_met = validate_input_height(&params, *log_height) == *expected;
+        assert!(rt; is_met, "{log_final_poly_len}, {log_blowup}, {log_height}");
+    }
+}
 
 #[test]
 fn a_word_is_taller_than_the_final_one(rt: HostRuntime) {
-    let mut params = FriParameters::new_testing(0, 3);
-    let too_small = FriProverError::InputHeightTooSmall {
-        log_input_height: 5,
-        log_final_height: 5,
-    };
-    let tall = validate_input_height(&params, 6);
-    let low = validate_input_height(&params, 5);
-    params.log_blowup = usize::MAX;
-    let any = validate_input_height(&params, 6);
-    assert_eq!(rt;
-        (tall, low, any),
-        (
-            Ok(()),
-            Err(too_small),
-            Err(FriProverError::FinalHeightOverflow)
-        )
-    );
+    assert_all(&rt, &CASES);
 }
 
 #[test]
 fn a_constant_polynomial_is_sent_of_any_height(rt: HostRuntime) {
-    let params = FriParameters::new_testing(0, 0);
-    for log_height in [0, 27] {
-        assert_eq!(rt; validate_input_height(&params, log_height), Ok(()));
-    }
+    assert_all(&rt, &CONSTANTS);
 }

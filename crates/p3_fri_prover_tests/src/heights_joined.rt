@@ -3,18 +3,19 @@
 
 ghost use Rattle.std.specs.Prelude.{◌≡◌, ◌≤◌, IfOk};
 ghost use Rattle.algebra.specs.Nested.{lists};
-ghost use Rattle.p3_commit.specs.Batch.{dimensions_of};
+ghost use Rattle.p3_mmcs.specs.Batch.{dimensions_of};
 ghost use Rattle.p3_fri_prover.specs.Inputs.{AreInputs};
 
 use crate::proofs::{
-    Claim, Domain, InputData, Inputs, Parameters, Proof, constant, is_accepted, plain_parameters,
-    prove,
+    Claim, Domain, InputData, Inputs, Parameters, Proof, Proved, RoundOpening, constant,
+    plain_parameters, prove, verified,
 };
 use p3_challenger::Sha256Challenger;
-use p3_commit::{CommitmentOpening, MatrixOpening, Mmcs, PointOpening, have_power_heights};
 use p3_field::{BabyBear, BabyBear4, Field, TwoAdicMultiplicativeCoset};
 use p3_matrix::{Dimensions, RowMajorMatrix};
+use p3_mmcs::{CommitmentOpening, MatrixOpening, Mmcs, PointOpening, have_power_heights};
 use std::alloc::{AllocError, Global};
+use std::process::Abort;
 use std::test::Fail;
 
 /// The column of `X` over `2^log_height` points.
@@ -64,24 +65,38 @@ fn commit(
     Ok(Inputs::new().commit(alloc, matrices)?)
 }
 
-/// One commitment to columns of the log heights 8, 7 and 6, and what is claimed of it at this
-/// blowup.
+/// Columns of the log heights 8, 7 and 6.
+fn columns(alloc: Global) -> Result<Vec<RowMajorMatrix<BabyBear>>, Fail> {
+    let mut columns = Vec::new(alloc);
+    for below in 0..3 {
+        columns.push(column(alloc, 8 - below)?)?;
+    }
+    Ok(columns)
+}
+
+/// What is claimed of them at this blowup.
+fn claims_of(
+    alloc: Global,
+    log_blowup: usize,
+) -> Result<Vec<MatrixOpening<BabyBear4, Domain>>, Fail>
+    requires { log_blowup ≤ 6 }
+{
+    let mut claimed = Vec::new(alloc);
+    for below in 0..3 {
+        claimed.push(column_claim(alloc, 8 - below - log_blowup)?)?;
+    }
+    Ok(claimed)
+}
+
+/// One commitment to these columns, and what is claimed of it at this blowup.
 fn commit_columns(alloc: Global, log_blowup: usize) -> Result<(Vec<Claim>, InputData), Fail>
     requires { log_blowup ≤ 6 }
 {
-    let mut columns = Vec::new(alloc);
-    let mut claimed = Vec::new(alloc);
-    columns.push(column(alloc, 8)?)?;
-    columns.push(column(alloc, 7)?)?;
-    columns.push(column(alloc, 6)?)?;
-    claimed.push(column_claim(alloc, 8 - log_blowup)?)?;
-    claimed.push(column_claim(alloc, 7 - log_blowup)?)?;
-    claimed.push(column_claim(alloc, 6 - log_blowup)?)?;
-    let (commitment, data) = commit(alloc, columns)?;
+    let (commitment, data) = commit(alloc, columns(alloc)?)?;
     let mut claims = Vec::new(alloc);
     claims.push(CommitmentOpening {
         commitment,
-        matrices: claimed,
+        matrices: claims_of(alloc, log_blowup)?,
     })?;
     Ok((claims, data))
 }
@@ -100,18 +115,14 @@ fn words(alloc: Global) -> Result<Vec<Vec<BabyBear4>>, Fail>
     Ok(words)
 }
 
-/// These words' proof, the prover's challenger after it, and what is claimed.
-fn proved_words(
-    alloc: Global,
-    parameters: &Parameters,
-    extra_bits: usize,
-) -> Result<(Proof, Sha256Challenger, Vec<Claim>), Fail> {
+/// These words' proof.
+fn proved_words(alloc: Global, parameters: &Parameters, extra_bits: usize) -> Result<Proved, Fail> {
     if parameters.log_blowup > 6 {
         return Err(Fail::new("a large blowup"));
     }
     let (claims, data) = commit_columns(alloc, parameters.log_blowup)?;
     let mut prover = Sha256Challenger::new();
-    let proof = prove(
+    match prove(
         alloc,
         parameters,
         extra_bits,
@@ -119,53 +130,99 @@ fn proved_words(
         8,
         &data,
         &mut prover,
-    )?
-    .or(Err("a refusal"))?;
-    Ok((proof, prover, claims))
+    )? {
+        Ok(proof) => Ok(Proved {
+            proof,
+            prover,
+            claims,
+        }),
+        Err(_) => Err(Fail::new("a refusal")),
+    }
+}
+
+/// The logarithms of the blowup and of the greatest arity and of the final polynomial's length.
+type Shape = (usize, usize, usize);
+
+/// The numbers of bits of each proof of work, and those drawn besides each index.
+type Bits = (usize, usize, usize);
+
+/// Parameters of this shape, with work of so many bits.
+fn parameters_of(shape: &Shape, bits: &Bits) -> Parameters {
+    let mut parameters = plain_parameters();
+    parameters.log_blowup = shape.0;
+    parameters.max_log_arity = shape.1;
+    parameters.log_final_poly_len = shape.2;
+    parameters.commit_proof_of_work_bits = bits.0;
+    parameters.query_proof_of_work_bits = bits.1;
+    parameters
+}
+
+/// Whether these words' proof has three rounds and four coefficients, and is accepted by a verifier
+/// that ends as the prover.
+fn are_proved_in_three_rounds(alloc: Global) -> Result<bool, Fail> {
+    let parameters = parameters_of(&(1, 3, 2), &(0, 0, 3));
+    let proved = proved_words(alloc, &parameters, 3)?;
+    let ends = verified(alloc, &parameters, 3, &proved)?;
+    Ok(
+        proved.proof.commit_phase_commits.len() == 3
+            && proved.proof.final_poly.len() == 4
+            && ends == (true, true),
+    )
 }
 
 #[test]
 fn words_of_three_heights_are_proved_and_verified(rt: HostRuntime) -> Result<(), Fail> {
-    let alloc = rt.alloc();
-    let mut parameters = plain_parameters();
-    parameters.log_final_poly_len = 2;
-    parameters.max_log_arity = 3;
-    let (proof, prover, claims) = proved_words(alloc, &parameters, 3)?;
-    let mut verifier = Sha256Challenger::new();
-    let accepted = is_accepted(alloc, &parameters, 3, &claims, &proof, &mut verifier)?;
-    assert_eq!(rt;
-        (
-            proof.commit_phase_commits.len(),
-            proof.final_poly.len(),
-            accepted,
-            prover == verifier
-        ),
-        (3, 4, true, true)
-    );
+    assert!(rt; are_proved_in_three_rounds(rt.alloc())?);
     Ok(())
 }
 
-/// Whether these words' proof is accepted with these parameters, both sides ending in one state.
-fn are_in_agreement(
-    alloc: Global,
-    parameters: &Parameters,
-    extra_bits: usize,
-) -> Result<bool, Fail> {
-    let (proof, prover, claims) = proved_words(alloc, parameters, extra_bits)?;
-    let mut verifier = Sha256Challenger::new();
-    let accepted = is_accepted(
-        alloc,
-        parameters,
-        extra_bits,
-        &claims,
-        &proof,
-        &mut verifier,
-    )?;
-    Ok(accepted && prover == verifier)
+/// Whether these words' proof is accepted with such parameters, both sides ending in one state.
+fn are_in_agreement(alloc: Global, shape: &Shape, bits: &Bits) -> Result<bool, Fail> {
+    let parameters = parameters_of(shape, bits);
+    let proved = proved_words(alloc, &parameters, bits.2)?;
+    Ok(verified(alloc, &parameters, bits.2, &proved)? == (true, true))
 }
 
-/// The numbers of bits of each proof of work, and those drawn besides each index.
-const BITS: [(usize, usize, usize); 8] = [
+/// Asserts it of each shape with each of these numbers of bits.
+fn assert_agreement(
+    rt: &impl Abort,
+    alloc: Global,
+    shapes: &[Shape],
+    all: &[Bits],
+) -> Result<(), Fail> {
+    for shape in shapes {
+        for bits in all {
+            assert!(rt;
+                are_in_agreement(alloc, shape, bits)?,
+                "{shape:?}, {bits:?}"
+            );
+        }
+    }
+    Ok(())
+}
+
+const SHAPES: [Shape; 18] = [
+    (1, 1, 0),
+    (1, 1, 2),
+    (1, 1, 3),
+    (1, 2, 0),
+    (1, 2, 2),
+    (1, 2, 3),
+    (1, 3, 0),
+    (1, 3, 2),
+    (1, 3, 3),
+    (2, 1, 0),
+    (2, 1, 2),
+    (2, 1, 3),
+    (2, 2, 0),
+    (2, 2, 2),
+    (2, 2, 3),
+    (2, 3, 0),
+    (2, 3, 2),
+    (2, 3, 3),
+];
+
+const BITS: [Bits; 8] = [
     (0, 0, 0),
     (3, 3, 3),
     (0, 0, 3),
@@ -176,49 +233,18 @@ const BITS: [(usize, usize, usize); 8] = [
     (3, 3, 0),
 ];
 
-/// Whether both sides agree with these parameters and each of these numbers of bits.
-fn agree_at_all(
-    alloc: Global,
-    parameters: &mut Parameters,
-    all: &[(usize, usize, usize)],
-) -> Result<bool, Fail> {
-    let mut all_agree = true;
-    for (commit_bits, query_bits, extra_bits) in all {
-        parameters.commit_proof_of_work_bits = *commit_bits;
-        parameters.query_proof_of_work_bits = *query_bits;
-        all_agree = are_in_agreement(alloc, parameters, *extra_bits)? && all_agree;
-    }
-    Ok(all_agree)
-}
-
 #[test]
 fn sides_agree_at_each_blowup_arity_and_final_length(rt: HostRuntime) -> Result<(), Fail> {
-    let alloc = rt.alloc();
-    let mut parameters = plain_parameters();
-    for log_blowup in 1..=2 {
-        parameters.log_blowup = log_blowup;
-        for max_log_arity in 1..=3 {
-            parameters.max_log_arity = max_log_arity;
-            for log_final_poly_len in [0, 2, 3] {
-                parameters.log_final_poly_len = log_final_poly_len;
-                assert!(rt; agree_at_all(alloc, &mut parameters, &BITS[..2])?);
-            }
-        }
-    }
-    Ok(())
+    assert_agreement(&rt, rt.alloc(), &SHAPES, &BITS[..2])
 }
 
 #[test]
 fn sides_agree_at_each_number_of_bits(rt: HostRuntime) -> Result<(), Fail> {
-    let mut parameters = plain_parameters();
-    parameters.max_log_arity = 2;
-    parameters.log_final_poly_len = 2;
-    assert!(rt; agree_at_all(rt.alloc(), &mut parameters, &BITS)?);
-    Ok(())
+    assert_agreement(&rt, rt.alloc(), &[(1, 2, 2)], &BITS)
 }
 
 /// What is changed in a proof.
-#[derive(Clone, Copy)]
+#[derive(Clone, Copy, Debug)]
 enum Change {
     Nothing,
     Sibling,
@@ -228,31 +254,46 @@ enum Change {
     QueryWitness,
 }
 
+/// Each change, and whether the proof is accepted with it.
+const CHANGES: [(Change, bool); 6] = [
+    (Change::Nothing, true),
+    (Change::Sibling, false),
+    (Change::Coefficient, false),
+    (Change::Commitment, false),
+    (Change::CommitWitness, false),
+    (Change::QueryWitness, false),
+];
+
+/// Adds one to the first sibling.
+fn change_sibling(openings: &mut [RoundOpening]) {
+    let Some(round) = openings.first_mut() else {
+        return;
+    };
+    let Some(siblings) = round.sibling_values.first_mut() else {
+        return;
+    };
+    if let Some(sibling) = siblings.first_mut() {
+        *sibling = *sibling + BabyBear4::ONE;
+    }
+}
+
 /// Makes that change, by adding one to the first of its kind.
 fn change_proof(proof: &mut Proof, change: Change) {
     match change {
         Change::Nothing => {},
-        Change::Sibling => {
-            for round in proof.commit_phase_openings.iter_mut().take(1) {
-                for siblings in round.sibling_values.iter_mut().take(1) {
-                    for sibling in siblings.iter_mut().take(1) {
-                        *sibling = *sibling + BabyBear4::ONE;
-                    }
-                }
-            }
-        },
+        Change::Sibling => change_sibling(&mut proof.commit_phase_openings),
         Change::Coefficient => {
-            for coefficient in proof.final_poly.iter_mut().take(1) {
+            if let Some(coefficient) = proof.final_poly.first_mut() {
                 *coefficient = *coefficient + BabyBear4::ONE;
             }
         },
         Change::Commitment => {
-            for commitment in proof.commit_phase_commits.iter_mut().take(1) {
+            if let Some(commitment) = proof.commit_phase_commits.first_mut() {
                 commitment[0] ^= 1;
             }
         },
         Change::CommitWitness => {
-            for witness in proof.commit_pow_witnesses.iter_mut().take(1) {
+            if let Some(witness) = proof.commit_pow_witnesses.first_mut() {
                 *witness = *witness + BabyBear::ONE;
             }
         },
@@ -264,35 +305,18 @@ fn change_proof(proof: &mut Proof, change: Change) {
 
 /// Whether these words' proof is accepted with that change.
 fn is_changed_accepted(alloc: Global, change: Change) -> Result<bool, Fail> {
-    let mut parameters = plain_parameters();
-    parameters.log_final_poly_len = 2;
-    parameters.max_log_arity = 2;
-    parameters.commit_proof_of_work_bits = 3;
-    parameters.query_proof_of_work_bits = 3;
-    let (mut proof, _prover, claims) = proved_words(alloc, &parameters, 0)?;
-    change_proof(&mut proof, change);
-    is_accepted(
-        alloc,
-        &parameters,
-        0,
-        &claims,
-        &proof,
-        &mut Sha256Challenger::new(),
-    )
+    let parameters = parameters_of(&(1, 2, 2), &(3, 3, 0));
+    let mut proved = proved_words(alloc, &parameters, 0)?;
+    change_proof(&mut proved.proof, change);
+    let (accepted, _) = verified(alloc, &parameters, 0, &proved)?;
+    Ok(accepted)
 }
 
 #[test]
 fn a_changed_proof_is_refused(rt: HostRuntime) -> Result<(), Fail> {
-    let rows = [
-        (Change::Nothing, true),
-        (Change::Sibling, false),
-        (Change::Coefficient, false),
-        (Change::Commitment, false),
-        (Change::CommitWitness, false),
-        (Change::QueryWitness, false),
-    ];
-    for (change, accepted) in rows {
-        assert_eq!(rt; is_changed_accepted(rt.alloc(), change)?, accepted);
+    for (change, accepted) in &CHANGES {
+        let is_met = is_changed_accepted(rt.alloc(), *change)? == *accepted;
+        assert!(rt; is_met, "{change:?}");
     }
     Ok(())
 }

@@ -5,18 +5,18 @@ ghost use Rattle.algebra.specs.Nested.{lists};
 ghost use Rattle.p3_fri_prover.specs.Inputs.{AreInputs};
 
 use p3_challenger::{CanObserve, FieldChallenger, GrindingChallenger, Sha256Challenger};
-use p3_commit::{
+use p3_field::{BabyBear, BabyBear4, ExtensionField, Field, TwoAdicMultiplicativeCoset};
+use p3_fri_folding::{FriParameters, TwoAdicFriFolding, WithExtraBits};
+use p3_fri_pow::FriProverError;
+use p3_fri_prover::prover::{ProverDataWithOpeningPoints, prove_fri};
+use p3_fri_relation::error::FriError;
+use p3_fri_relation::proof::{BatchMultiOpening, CommitPhaseMultiStep, FriProof};
+use p3_fri_verifier::verify_fri;
+use p3_matrix::RowMajorMatrix;
+use p3_mmcs::{
     CommitmentOpening, MatrixOpening, Mmcs, PointOpening, Sha256Mmcs, Sha256MmcsError,
     have_power_heights,
 };
-use p3_field::{BabyBear, BabyBear4, ExtensionField, Field, TwoAdicMultiplicativeCoset};
-use p3_fri_folding::{FriParameters, TwoAdicFriFolding, WithExtraBits};
-use p3_fri_prover::prover::{ProverDataWithOpeningPoints, prove_fri};
-use p3_fri_relation::error::FriError;
-use p3_fri_relation::proof::{BatchMultiOpening, FriProof};
-use p3_fri_steps::FriProverError;
-use p3_fri_verifier::verify_fri;
-use p3_matrix::RowMajorMatrix;
 use std::alloc::Global;
 use std::marker::PhantomData;
 use std::test::Fail;
@@ -30,6 +30,8 @@ pub(crate) type Rounds = Sha256Mmcs<BabyBear4>;
 pub(crate) type Parameters = FriParameters<Rounds>;
 
 type InputOpening = BatchMultiOpening<BabyBear, Inputs>;
+
+pub(crate) type RoundOpening = CommitPhaseMultiStep<BabyBear4, Rounds>;
 
 pub(crate) type Proof = FriProof<BabyBear4, Rounds, BabyBear, Vec<InputOpening>>;
 
@@ -206,85 +208,110 @@ pub(crate) fn committed_column(alloc: Global) -> Result<([u8; 32], InputData), F
     Ok(Inputs::new().commit_matrix(alloc, matrix)?)
 }
 
-/// The column's proof, the prover's challenger after it, and what is claimed.
-fn proved_column(
-    alloc: Global,
-    parameters: &Parameters,
-) -> Result<(Proof, Sha256Challenger, Vec<Claim>), Fail> {
+/// A proof, the prover's challenger after it, and what is claimed.
+#[derive(Drop)]
+pub(crate) struct Proved {
+    pub proof: Proof,
+    pub prover: Sha256Challenger,
+    pub claims: Vec<Claim>,
+}
+
+/// The column's proof.
+fn proved_column(alloc: Global, parameters: &Parameters) -> Result<Proved, Fail> {
     let (commitment, data) = committed_column(alloc)?;
+    let claims = claims(alloc, commitment)?;
     let mut prover = Sha256Challenger::new();
-    let proof = prove(alloc, parameters, 3, word(alloc)?, 2, &data, &mut prover)?.or(Err(
-        "a refusal",
-    ))?;
-    Ok((proof, prover, claims(alloc, commitment)?))
+    match prove(alloc, parameters, 3, word(alloc)?, 2, &data, &mut prover)? {
+        Ok(proof) => Ok(Proved {
+            proof,
+            prover,
+            claims,
+        }),
+        Err(_) => Err(Fail::new("a refusal")),
+    }
 }
 
 /// Whether a new verifier accepts the proof, and whether it ends as the prover.
-fn verified(
+pub(crate) fn verified(
     alloc: Global,
     parameters: &Parameters,
-    claims: &[Claim],
-    proof: &Proof,
-    prover: &Sha256Challenger,
+    extra_bits: usize,
+    proved: &Proved,
 ) -> Result<(bool, bool), Fail> {
     let mut verifier = Sha256Challenger::new();
-    let accepted = is_accepted(alloc, parameters, 3, claims, proof, &mut verifier)?;
-    Ok((accepted, verifier == *prover))
+    let accepted = is_accepted(
+        alloc,
+        parameters,
+        extra_bits,
+        &proved.claims,
+        &proved.proof,
+        &mut verifier,
+    )?;
+    Ok((accepted, verifier == proved.prover))
+}
+
+/// Whether the column's proof has the final polynomial -1, is accepted by a verifier that ends as
+/// the prover, and isn't with another polynomial.
+fn is_proved(alloc: Global) -> Result<bool, Fail> {
+    let parameters = plain_parameters();
+    let mut proved = proved_column(alloc, &parameters)?;
+    let is_minus_one = proved.proof.final_poly.as_slice() == [constant(2013265920)].as_slice();
+    let honest = verified(alloc, &parameters, 3, &proved)?;
+    proved.proof.final_poly.fill(constant(1));
+    let (changed, _) = verified(alloc, &parameters, 3, &proved)?;
+    Ok(is_minus_one && honest == (true, true) && !changed)
 }
 
 #[test]
 fn two_minus_the_point_is_proved_and_verified(rt: HostRuntime) -> Result<(), Fail> {
-    let alloc = rt.alloc();
-    let parameters = plain_parameters();
-    let (mut proof, prover, claims) = proved_column(alloc, &parameters)?;
-    assert_eq!(rt; proof.final_poly.as_slice(), &[constant(2013265920)][..]);
-    let honest = verified(alloc, &parameters, &claims, &proof, &prover)?;
-    proof.final_poly[0] = constant(1);
-    let changed = verified(alloc, &parameters, &claims, &proof, &prover)?;
-    assert_eq!(rt; (honest, changed.0), ((true, true), false));
+    assert!(rt; is_proved(rt.alloc())?);
     Ok(())
+}
+
+/// Whether its proof with work has one witness of a round, is accepted by a verifier that ends as
+/// the prover, and isn't with another witness of the queries.
+fn is_proved_with_work(alloc: Global) -> Result<bool, Fail> {
+    let mut parameters = plain_parameters();
+    parameters.commit_proof_of_work_bits = 3;
+    parameters.query_proof_of_work_bits = 3;
+    let mut proved = proved_column(alloc, &parameters)?;
+    let honest = verified(alloc, &parameters, 3, &proved)?;
+    proved.proof.query_pow_witness = proved.proof.query_pow_witness + BabyBear::ONE;
+    let (changed, _) = verified(alloc, &parameters, 3, &proved)?;
+    Ok(proved.proof.commit_pow_witnesses.len() == 1 && honest == (true, true) && !changed)
 }
 
 #[test]
 fn a_word_is_proved_with_work(rt: HostRuntime) -> Result<(), Fail> {
-    let alloc = rt.alloc();
-    let mut parameters = plain_parameters();
-    parameters.commit_proof_of_work_bits = 3;
-    parameters.query_proof_of_work_bits = 3;
-    let (mut proof, prover, claims) = proved_column(alloc, &parameters)?;
-    let honest = verified(alloc, &parameters, &claims, &proof, &prover)?;
-    proof.query_pow_witness = proof.query_pow_witness + BabyBear::ONE;
-    let changed = verified(alloc, &parameters, &claims, &proof, &prover)?;
-    assert_eq!(rt;
-        (proof.commit_pow_witnesses.len(), honest, changed.0),
-        (1, (true, true), false)
-    );
+    assert!(rt; is_proved_with_work(rt.alloc())?);
     Ok(())
 }
 
-/// Why the prover refuses that word with these parameters, at three extra bits.
-fn refusal(
-    alloc: Global,
-    parameters: &Parameters,
-    challenger: &mut Sha256Challenger,
-) -> Result<Option<FriProverError>, Fail> {
-    let (_commitment, data) = committed_column(alloc)?;
-    Ok(prove(alloc, parameters, 3, word(alloc)?, 2, &data, challenger)?.err())
-}
-
-#[test]
-fn a_low_word_is_refused_before_the_challenger_is_touched(rt: HostRuntime) -> Result<(), Fail> {
+/// Whether that word, lower than a final polynomial of four coefficients, is refused before the
+/// challenger is touched.
+fn is_low_word_refused(alloc: Global) -> Result<bool, Fail> {
     let mut parameters = plain_parameters();
     parameters.log_final_poly_len = 2;
+    let (_commitment, data) = committed_column(alloc)?;
     let mut challenger = Sha256Challenger::new();
-    let refusal = refusal(rt.alloc(), &parameters, &mut challenger)?;
+    let proved = prove(
+        alloc,
+        &parameters,
+        3,
+        word(alloc)?,
+        2,
+        &data,
+        &mut challenger,
+    )?;
     let too_small = FriProverError::InputHeightTooSmall {
         log_input_height: 2,
         log_final_height: 3,
     };
-    assert_eq!(rt;
-        (refusal, challenger == Sha256Challenger::new()),
-        (Some(too_small), true)
-    );
+    Ok(proved.err() == Some(too_small) && challenger == Sha256Challenger::new())
+}
+
+#[test]
+fn a_low_word_is_refused_before_the_challenger_is_touched(rt: HostRuntime) -> Result<(), Fail> {
+    assert!(rt; is_low_word_refused(rt.alloc())?);
     Ok(())
 }

@@ -8,7 +8,7 @@ use Rattle.std.proofs.lemmas.Slice.Zip.{length-zip, get_or-zip}
 use Rattle.algebra.specs.Field.{FieldOps}
 use Rattle.algebra.specs.Polynomial.{tabulate}
 use Rattle.algebra.proofs.Lists.{get_or-tabulate}
-use Rattle.p3_commit.specs.Batch.{AreBelow}
+use Rattle.p3_mmcs.specs.Batch.{AreBelow}
 use Rattle.p3_fri_relation.specs.Setting.{Opening, RoundOpening}
 use Rattle.p3_fri_relation.specs.Queries.{heights_after, row_indices}
 use Rattle.p3_fri_relation.specs.FoldedQuery.{QueryInput, group_rows}

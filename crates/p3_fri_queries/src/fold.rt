@@ -14,13 +14,13 @@ ghost use Rattle.p3_fri_queries.specs.Folded.{query_at, EndsAtFinal, indices_fol
 
 use crate::final_value::ends_at_final;
 use crate::folded::FoldedQueries;
-use p3_commit::Mmcs;
 use p3_field_core::{ExtensionField, TwoAdicField};
 use p3_fri_folding::FriFoldingStrategy;
 use p3_fri_query::fold_query;
 use p3_fri_relation::error::{FriError, FriOpenings};
 use p3_fri_relation::proof::CommitPhaseMultiStep;
 use p3_fri_relation::setting::ChallengeField;
+use p3_mmcs::Mmcs;
 use std::alloc::{AllocError, Global};
 
 /// That many lists, each without an element.

@@ -3,17 +3,17 @@
 ghost use Rattle.std.specs.Prelude.{◌≡◌, ◌^◌, ◌<◌, ◌≤◌, ◌↔◌, List, [], ◌∷◌, length, sum};
 ghost use Rattle.std.specs.Prelude.{IsOk, IfErr, EachIndex, slice_index, slice_index_or};
 ghost use Rattle.algebra.specs.Nested.{lists, nested};
-ghost use Rattle.p3_commit.specs.Batch.{AreBelow};
+ghost use Rattle.p3_mmcs.specs.Batch.{AreBelow};
 ghost use Rattle.p3_fri_relation.specs.declared.error.FriError.TheVariants.{CommitPhaseMmcsError};
 ghost use Rattle.p3_fri_relation.specs.Queries.{heights_after};
 ghost use Rattle.p3_fri_relation.specs.Views.{rounds_opened, rows_collected};
 ghost use Rattle.p3_fri_queries.specs.Opened.{RoundsOpenTo, SomeRoundFails};
 
 use crate::folded::FoldedQueries;
-use p3_commit::Mmcs;
 use p3_fri_relation::error::FriError;
 use p3_fri_relation::proof::CommitPhaseMultiStep;
 use p3_matrix::Dimensions;
+use p3_mmcs::Mmcs;
 
 /// The dimensions of a round's word, in rows of `2^log_arity` values.
 fn round_dimensions(log_arity: usize, log_height: usize) -> Dimensions

@@ -3,3 +3,5 @@
 
 #[cfg(test)]
 mod queries;
+#[cfg(test)]
+mod words;

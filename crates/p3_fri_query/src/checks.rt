@@ -8,8 +8,8 @@ ghost use Rattle.p3_fri_relation.specs.FoldedQuery.{AreInRange, HasRow, HaveRows
 ghost use Rattle.p3_fri_relation.specs.Faults.{IsUnmet};
 ghost use Rattle.p3_fri_relation.specs.Views.{siblings_opened};
 
-use p3_commit::Mmcs;
 use p3_fri_relation::proof::CommitPhaseMultiStep;
+use p3_mmcs::Mmcs;
 
 /// The first round whose log arity isn't from 1 to 63.
 pub(crate) fn first_out_of_range(log_arities: &[usize]) -> Option<usize>

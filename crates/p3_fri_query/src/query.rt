@@ -15,11 +15,11 @@ use crate::checks::{
     first_out_of_range, first_unmet, first_without_row, last_height, saturated_sum, sums_within,
 };
 use crate::rounds::fold_rounds;
-use p3_commit::Mmcs;
 use p3_field_core::{ExtensionField, TwoAdicField};
 use p3_fri_folding::FriFoldingStrategy;
 use p3_fri_relation::error::{FriError, FriOpenings};
 use p3_fri_relation::proof::CommitPhaseMultiStep;
+use p3_mmcs::Mmcs;
 use std::alloc::Global;
 
 /// The refusal of a round that doesn't open the query's row.

@@ -11,10 +11,10 @@ ghost use Rattle.p3_fri_relation.specs.FoldedQuery.{AreInRange, HaveRows, value_
 ghost use Rattle.p3_fri_relation.specs.Views.{siblings_opened, rows_collected};
 
 use crate::collect::collect;
-use p3_commit::Mmcs;
 use p3_field_core::{ExtensionField, TwoAdicField};
 use p3_fri_folding::FriFoldingStrategy;
 use p3_fri_relation::proof::CommitPhaseMultiStep;
+use p3_mmcs::Mmcs;
 use std::alloc::{AllocError, Global};
 
 /// The row of a round: the siblings, in order, with the value at its place among them.

@@ -4,9 +4,9 @@ use Rattle.std.specs.List.{flat_map}
 use Rattle.std.proofs.lemmas.Grind.{flat_map-append}
 use Rattle.p3_fri_relation.specs.Heights.{matrices_of}
 use Rattle.algebra.specs.Nested.{joined}
-use Rattle.p3_commit.specs.declared.openings.PointOpening.{PointOpening}
-use Rattle.p3_commit.specs.declared.openings.MatrixOpening.{MatrixOpening}
-use Rattle.p3_commit.specs.declared.openings.CommitmentOpening.{CommitmentOpening}
+use Rattle.p3_mmcs.specs.declared.openings.PointOpening.{PointOpening}
+use Rattle.p3_mmcs.specs.declared.openings.MatrixOpening.{MatrixOpening}
+use Rattle.p3_mmcs.specs.declared.openings.CommitmentOpening.{CommitmentOpening}
 use Rattle.p3_fri_pcs_transcript.specs.Counts.{counts_of_claims, claimed_at_points}
 use Rattle.p3_fri_pcs_transcript.specs.Counts.{claimed_in_matrices, all_claimed}
 use Rattle.p3_fri_pcs_transcript.specs.Counts.{claimed_lists_at_points, claimed_lists_in_matrices}

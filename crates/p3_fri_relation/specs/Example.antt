@@ -6,7 +6,7 @@ use Rattle.std.specs.Prelude.{slice_index, slice_index_or}
 use Rattle.algebra.specs.Field.{FieldOps}
 use Rattle.algebra.specs.Folds.{fold_value}
 use Rattle.p3_matrix.specs.declared.Dimensions.{Dimensions}
-use Rattle.p3_commit.specs.Batch.{max_height}
+use Rattle.p3_mmcs.specs.Batch.{max_height}
 use Rattle.p3_fri_relation.specs.Setting.{Setting, Parameters, CommitmentClaim, Proof}
 use Rattle.p3_fri_relation.specs.Acceptance.{Accepts, batch_replayed, test_replay}
 

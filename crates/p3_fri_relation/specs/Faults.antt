@@ -3,8 +3,9 @@ use Rattle.std.specs.Prelude.{◌≡◌, ◌≢◌, ◌⊎◌, ℕ, suc, ◌+◌
 use Rattle.std.specs.Prelude.{IsTrue, List, [], ◌∷◌, map, length, sum, ⊤, SomeIndex}
 use Rattle.std.specs.Prelude.{slice_index, slice_index_or}
 use Rattle.std.specs.List.{Any, zip, range_with_len}
-use Rattle.p3_fri_steps.specs.declared.pow_phase.PowPhase.{PowPhase}
-use Rattle.p3_fri_steps.specs.declared.pow_phase.PowPhase.TheVariants.{Batch, CommitPhase, Query}
+use Rattle.p3_fri_pow.specs.Counts.{IsWrongCount}
+use Rattle.p3_fri_pow.specs.declared.pow_phase.PowPhase.{PowPhase}
+use Rattle.p3_fri_pow.specs.declared.pow_phase.PowPhase.TheVariants.{Batch, CommitPhase, Query}
 use Rattle.p3_fri_relation.specs.declared.error.FriError.{FriError}
 use Rattle.p3_fri_relation.specs.declared.error.FriError as refusal
 use refusal.TheVariants.{CommitPhaseOpeningsCountMismatch, CommitRoundCountMismatch}
@@ -23,7 +24,7 @@ use Rattle.p3_fri_relation.specs.Setting.{Fields, Opening, Setting, Parameters}
 use Rattle.p3_fri_relation.specs.Setting.{CommitmentClaim, InputOpening, Proof}
 use Rattle.p3_fri_relation.specs.Setting.{final_height}
 use Rattle.p3_fri_relation.specs.Heights.{matrices_of, width, log_height, has_height, heights_of}
-use Rattle.p3_fri_relation.specs.QuotientSums.{point_read}
+use Rattle.p3_fri_relation.specs.QuotientSums.{point_read, IsDefinedAt}
 use Rattle.p3_fri_relation.specs.Inputs.{OpensInput, sum_at}
 use Rattle.p3_fri_relation.specs.Queries.{final_value}
 use Rattle.p3_fri_relation.specs.FoldedQuery.{QueryInput, folded, last_height, reaches}
@@ -34,12 +35,6 @@ use Rattle.p3_fri_relation.specs.Acceptance.{test_replay, batch_replayed}
 -- the `i`-th element is there, and `P` holds of it
 abbrev pub At : {A : Type 0} → (i : ℕ) (P : A → Type 0) → List A → Type 0
 At {A} i P xs = (x : A) × (i < length xs) × (slice_index_or xs i x ≡ x) × P x
-
--- a wrong count: `expected` is what is asked for, and `got`, which is another, what is found
-pub record IsWrong (asked found expected got : ℕ) : Type 0 where
-  pub expected_is : expected ≡ asked
-  pub got_is : got ≡ found
-  pub differ : expected ≢ got
 
 -- of log heights after `h`, the first that isn't below the one before it or isn't met is `next`,
 -- and `remaining` are left from it on
@@ -66,7 +61,7 @@ module _ {A B E : Type 0} (q : QueryInput E) where
   QueryFault (SiblingValuesLengthMismatch round expected got) =
       (round < length q.log_arities) × (round < length q.siblings)
       × (q.query < length (slice_index_or q.siblings round []))
-      × IsWrong (2 ^ slice_index q.log_arities round - 1)
+      × IsWrongCount (2 ^ slice_index q.log_arities round - 1)
       (length (slice_index_or (slice_index_or q.siblings round []) q.query [])) expected got
   QueryFault (FoldScheduleTooLong total top final) =
       (total ≡ min (sum q.log_arities) (2 ^ 64 - 1)) × (top ≡ q.log_height)
@@ -74,23 +69,25 @@ module _ {A B E : Type 0} (q : QueryInput E) where
   QueryFault (MissingInitialReducedOpening expected) = (q.inputs ≡ []) × (expected ≡ q.log_height)
   QueryFault (InitialReducedOpeningHeightMismatch expected got) =
       (0 < length q.inputs)
-      × IsWrong q.log_height (slice_index (map (λ input. input.0) q.inputs) 0) expected got
+      × IsWrongCount q.log_height (slice_index (map (λ input. input.0) q.inputs) 0) expected got
   QueryFault (FinalFoldHeightMismatch expected got) =
-      IsWrong q.final_height (last_height q) expected got
+      IsWrongCount q.final_height (last_height q) expected got
   QueryFault (UnconsumedReducedOpenings next remaining) =
       IsUnconsumed (reaches (folded q) q.log_height) next remaining
       (map (λ input. input.0) q.inputs)
   QueryFault OutOfMemory = ⊤
   QueryFault _ = ⊥
 
--- at some position the quotient sum of the log height `log_blowup` isn't zero
+-- at some position, where all quotient sums are defined, that of the log height `log_blowup` isn't
+-- zero
 abbrev pub IsConstantWrong : {F E InCom InPath : Type 0} → Fields F E → (log_blowup : ℕ) (alpha : E)
     (top : ℕ) → List (CommitmentClaim E InCom) → List (InputOpening F InPath) → (positions : List ℕ)
     → Type 0
 IsConstantWrong f log_blowup alpha top claims inputs positions =
     IsTrue (has_height log_blowup (matrices_of claims) log_blowup)
-    × SomeIndex positions (λ j. sum_at f log_blowup alpha top claims inputs j
-    (slice_index positions j) log_blowup ≢ f.ext.zero)
+    × SomeIndex positions (λ j. IsDefinedAt f log_blowup top claims (slice_index positions j)
+    × (sum_at f log_blowup alpha top claims inputs j (slice_index positions j) log_blowup
+    ≢ f.ext.zero))
 
 module _ {A B F E InCom InPath : Type 0} (f : Fields F E) (log_blowup : ℕ) (alpha : E) (top : ℕ)
     (claims : List (CommitmentClaim E InCom)) (inputs : List (InputOpening F InPath))
@@ -98,18 +95,18 @@ module _ {A B F E InCom InPath : Type 0} (f : Fields F E) (log_blowup : ℕ) (al
   -- of the openings of the inputs
   abbrev pub InputFault : FriError A B → Type 0
   InputFault (InputProofBatchCountMismatch expected got) =
-      IsWrong (length claims) (length inputs) expected got
+      IsWrongCount (length claims) (length inputs) expected got
   InputFault (InputOpeningsQueryCountMismatch batch expected got) =
-      At batch (λ o. IsWrong (length positions) (length o.rows) expected got) inputs
+      At batch (λ o. IsWrongCount (length positions) (length o.rows) expected got) inputs
   InputFault (BatchOpenedValuesCountMismatch batch expected got) =
       At batch (λ (claim, o). Any (λ rows.
-      IsWrong (length claim.matrices) (length rows) expected got)
+      IsWrongCount (length claim.matrices) (length rows) expected got)
       o.rows) (zip claims inputs)
   InputFault (MatrixWithoutOpeningPoints batch matrix) =
       At batch (λ claim. At matrix (λ m. m.points ≡ []) claim.matrices) claims
   InputFault (PointEvaluationCountMismatch batch matrix point expected got) =
       At batch (λ claim. At matrix (λ m. At point (λ z.
-      IsWrong (width m) (length z.values) expected got)
+      IsWrongCount (width m) (length z.values) expected got)
       m.points) claim.matrices) claims
   InputFault (InputError _) =
       Any (λ (claim, o). ¬ OpensInput opens log_blowup top positions claim o) (zip claims inputs)
@@ -132,7 +129,7 @@ module _ {A B E InCom : Type 0} (p : Parameters) (claims : List (CommitmentClaim
   InstanceFault two_adicity (GlobalMaxHeightTooLarge top greatest) =
       (top ≡ top_height p claims) × (greatest ≡ two_adicity) × (greatest < top)
   InstanceFault two_adicity (FinalFoldHeightMismatch expected got) =
-      IsWrong (final_height p) (top_height p claims - sum (log_arities p claims)) expected got
+      IsWrongCount (final_height p) (top_height p claims - sum (log_arities p claims)) expected got
   InstanceFault two_adicity (UnconsumedReducedOpenings next remaining) =
       IsUnconsumed (reaches (log_arities p claims) (top_height p claims)) next remaining
       (heights_of p.log_blowup (matrices_of claims))
@@ -143,19 +140,19 @@ module _ {A B F E Com Path InPath : Type 0} (p : Parameters) (log_arities : List
     (proof : Proof F E Com Path InPath) where
   abbrev pub CountFault : FriError A B → Type 0
   CountFault (CommitPhaseOpeningsCountMismatch expected got) =
-      IsWrong (length log_arities) (length proof.rounds) expected got
+      IsWrongCount (length log_arities) (length proof.rounds) expected got
   CountFault (CommitRoundCountMismatch expected got) =
-      IsWrong (length log_arities) (length proof.commitments) expected got
+      IsWrongCount (length log_arities) (length proof.commitments) expected got
   CountFault (CommitPowWitnessCountMismatch expected got) =
-      IsWrong (length log_arities) (length proof.commit_witnesses) expected got
+      IsWrongCount (length log_arities) (length proof.commit_witnesses) expected got
   CountFault (CommitPhaseQueryCountMismatch round expected got) =
-      At round (λ r. IsWrong p.num_queries (length r.siblings) expected got) proof.rounds
+      At round (λ r. IsWrongCount p.num_queries (length r.siblings) expected got) proof.rounds
   CountFault (SiblingValuesLengthMismatch round expected got) =
       (round < length log_arities) × At round (λ r. Any (λ row.
-      IsWrong (2 ^ slice_index log_arities round - 1) (length row) expected got) r.siblings)
+      IsWrongCount (2 ^ slice_index log_arities round - 1) (length row) expected got) r.siblings)
       proof.rounds
   CountFault (FinalPolyLengthMismatch expected got) =
-      IsWrong (2 ^ p.log_final_poly_len) (length proof.final_poly) expected got
+      IsWrongCount (2 ^ p.log_final_poly_len) (length proof.final_poly) expected got
   CountFault _ = ⊥
 
 -- a witness of a phase at no bits isn't zero
@@ -176,12 +173,13 @@ module _ {F E C Com Path InCom InPath : Type 0} (s : Setting F E C Com Path InCo
     DoNotPass c CommitPhase = (rounds_replayed s p claims proof c).passes ≡ false
     DoNotPass c Query = (queries_replayed s p claims proof c).passes ≡ false
 
-    -- query `j` doesn't end at the final polynomial
+    -- query `j`, whose quotient sums are defined, doesn't end at the final polynomial
     abbrev pub EndsElsewhere :
         (alpha : E) (betas : List E) (positions : List ℕ) (j : ℕ) → Type 0
     EndsElsewhere alpha betas positions j =
         let last = last_of_query s p claims proof alpha betas positions j in
-        last.value ≢ final_value s p proof last
+        IsDefinedAt s.fields p.log_blowup (top_height p claims) claims (slice_index positions j)
+        × (last.value ≢ final_value s p proof last)
 
 module _ {A B F E C Com Path InCom InPath : Type 0} (s : Setting F E C Com Path InCom InPath)
     (p : Parameters) (claims : List (CommitmentClaim E InCom)) (proof : Proof F E Com Path InPath)

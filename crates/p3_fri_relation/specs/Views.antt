@@ -3,9 +3,9 @@ use Rattle.std.specs.Prelude.{ℕ, List, map}
 use Rattle.std.specs.declared.vec.Vec.{Vec}
 use Rattle.algebra.specs.Nested.{lists, nested}
 use Rattle.p3_fri_folding.specs.declared.config.FriParameters.{FriParameters}
-use Rattle.p3_commit.specs.declared.openings.PointOpening.{PointOpening}
-use Rattle.p3_commit.specs.declared.openings.MatrixOpening.{MatrixOpening}
-use Rattle.p3_commit.specs.declared.openings.CommitmentOpening.{CommitmentOpening}
+use Rattle.p3_mmcs.specs.declared.openings.PointOpening.{PointOpening}
+use Rattle.p3_mmcs.specs.declared.openings.MatrixOpening.{MatrixOpening}
+use Rattle.p3_mmcs.specs.declared.openings.CommitmentOpening.{CommitmentOpening}
 use Rattle.p3_fri_relation.specs.declared.proof.CommitPhaseMultiStep.{CommitPhaseMultiStep}
 use Rattle.p3_fri_relation.specs.declared.proof.BatchMultiOpening.{BatchMultiOpening}
 use Rattle.p3_fri_relation.specs.declared.proof.FriProof.{FriProof}

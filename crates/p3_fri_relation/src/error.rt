@@ -5,7 +5,7 @@ ghost use Rattle.p3_fri_relation.specs.Failures.{of_transcript, of_pcs_transcrip
 ghost use Rattle.p3_fri_relation.specs.declared.error.FriError.TheVariants.{OutOfMemory};
 
 use p3_fri_pcs_transcript::pcs_transcript::PcsTranscriptFailure;
-use p3_fri_steps::PowPhase;
+use p3_fri_pow::PowPhase;
 use p3_fri_transcript::transcript::TranscriptFailure;
 use std::alloc::AllocError;
 use std::error::Error;

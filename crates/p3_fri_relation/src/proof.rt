@@ -1,6 +1,6 @@
 //! Proofs of the low-degree test.
 
-use p3_commit::Mmcs;
+use p3_mmcs::Mmcs;
 
 /// A proof that committed words are close to words of low degree, with what a verifier asks for at
 /// its queries. `F` is the field of the challenges, `M` the commitment scheme of the folded words.

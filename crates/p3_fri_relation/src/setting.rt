@@ -4,9 +4,9 @@ ghost use Rattle.std.specs.Prelude.{ℕ, List};
 ghost use Rattle.p3_fri_relation.specs.Setting.{Fields, Setting};
 
 use p3_challenger_core::{CanObserve, FieldChallenger, Plays};
-use p3_commit::Mmcs;
 use p3_field_core::{ExtensionField, TwoAdicField};
 use p3_fri_folding::FriFoldingStrategy;
+use p3_mmcs::Mmcs;
 
 /// An extension of a two-adic field. Each has the record of both; a contract takes it from here, as
 /// `⟦<EF as ChallengeField<F>>⟧.fields`, and a bound needn't name it.

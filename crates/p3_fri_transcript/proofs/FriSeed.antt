@@ -13,11 +13,11 @@ use Rattle.p3_challenger_fs.proofs.Streams.{FitsWhole, stream_determined}
 use Rattle.p3_fri_transcript.specs.Shapes.{fri_shape}
 use Rattle.p3_fri_transcript.specs.Steps.{FriNumbers, commitment_step, round_steps, rounds_steps}
 use Rattle.p3_fri_transcript.specs.Steps.{query_steps, fri_steps, fri_stream, fri_labels}
-use Rattle.p3_fri_steps.specs.Steps.{pow_steps, challenge_step, message_step}
+use Rattle.p3_fri_pow.specs.Steps.{pow_steps, challenge_step, message_step}
 use Rattle.p3_fri_transcript.specs.declared.transcript.shape.FriShape.{FriShape}
 use Rattle.p3_fri_transcript.specs.SeedLaws.{SameFriShape, FitsFri}
-use Rattle.p3_fri_steps.proofs.SeedLemmas.{count_equal, pow_determined, pow_fits, labels_fit}
-use Rattle.p3_fri_steps.proofs.SeedLemmas.{labels_determined}
+use Rattle.p3_fri_pow.proofs.SeedLemmas.{count_equal, pow_determined, pow_fits, labels_fit}
+use Rattle.p3_fri_pow.proofs.SeedLemmas.{labels_determined}
 use Rattle.algebra.proofs.Lists.{head_eq, tail_eq}
 
 -- what the steps tell

@@ -5,7 +5,7 @@ use Rattle.std.proofs.Common.{Option, Some, refl, sym, ap, ◌∙◌, arith}
 use Rattle.algebra.specs.Field.{FieldOps}
 use Rattle.p3_challenger_core.specs.Run.{Moves}
 use Rattle.p3_challenger_fs.specs.Turns.{bytes_observed}
-use Rattle.p3_fri_steps.specs.Pow.{sent_witness}
+use Rattle.p3_fri_pow.specs.Pow.{sent_witness}
 use Rattle.p3_fri_transcript.specs.Steps.{FriNumbers}
 use Rattle.p3_fri_transcript.specs.Replay.{RoundsReplay, rounds_replay, round_replay}
 use Rattle.p3_fri_transcript.specs.Replay.{QueriesReplay, shown_queries_replay}

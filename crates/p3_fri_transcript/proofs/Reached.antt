@@ -2,11 +2,11 @@
 use Rattle.std.proofs.Common.{◌≡◌, ℕ, List, Option, sym}
 use Rattle.std.specs.List.{flat_map}
 use Rattle.p3_challenger_core.specs.Run.{Moves, draws, grind_attempt}
-use Rattle.p3_fri_steps.specs.Pow.{shown_attempt}
-use Rattle.p3_fri_steps.specs.Reached.{Reaches}
-use Rattle.p3_fri_steps.proofs.Reached.{reaches_same, reaches_join}
-use Rattle.p3_fri_steps.proofs.Reached.{reaches_observed, reaches_drawn, reaches_all_observed}
-use Rattle.p3_fri_steps.proofs.Reached.{reaches_draws, reaches_attempt, reaches_shown}
+use Rattle.p3_fri_pow.specs.Pow.{shown_attempt}
+use Rattle.p3_fri_pow.specs.Reached.{Reaches}
+use Rattle.p3_fri_pow.proofs.Reached.{reaches_same, reaches_join}
+use Rattle.p3_fri_pow.proofs.Reached.{reaches_observed, reaches_drawn, reaches_all_observed}
+use Rattle.p3_fri_pow.proofs.Reached.{reaches_draws, reaches_attempt, reaches_shown}
 use Rattle.p3_fri_transcript.specs.Steps.{FriNumbers}
 use Rattle.p3_fri_transcript.specs.Replay.{polynomial_observed}
 

@@ -7,8 +7,8 @@ use Rattle.std.proofs.lemmas.List.{drop_all, take_more, length-take}
 use Rattle.algebra.specs.Field.{FieldOps}
 use Rattle.p3_challenger_core.specs.Run.{After, Moves, moves, draws, grind_attempt}
 use Rattle.p3_challenger_fs.specs.Turns.{bytes_observed}
-use Rattle.p3_fri_steps.specs.Pow.{shown_attempt, sent_witness}
-use Rattle.p3_fri_steps.proofs.Lists.{next_item}
+use Rattle.p3_fri_pow.specs.Pow.{shown_attempt, sent_witness}
+use Rattle.p3_fri_pow.proofs.Lists.{next_item}
 use Rattle.p3_fri_transcript.specs.Steps.{FriNumbers}
 use Rattle.p3_fri_transcript.specs.Replay.{RoundsReplay, rounds_replay, round_replay}
 use Rattle.p3_fri_transcript.specs.Replay.{QueriesReplay, queries_replay, shown_queries_replay}

@@ -9,7 +9,7 @@ use Rattle.p3_challenger_fs.specs.Pattern.{Step, number_bytes}
 use Rattle.p3_challenger_fs.specs.Description.{Description}
 use Rattle.p3_fri_transcript.specs.Steps.{FriNumbers, commitment_step, round_steps, rounds_steps}
 use Rattle.p3_fri_transcript.specs.Steps.{fri_steps}
-use Rattle.p3_fri_steps.specs.Steps.{challenge_step, message_step, pow_steps}
+use Rattle.p3_fri_pow.specs.Steps.{challenge_step, message_step, pow_steps}
 
 -- a round: a commitment, a proof of work, a challenge
 pub round_pushed : (d bits : ℕ) (a b c e : List Step)

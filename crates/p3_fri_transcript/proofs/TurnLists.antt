@@ -9,10 +9,10 @@ use Rattle.p3_challenger_fs.specs.declared.pattern.Turn.{Turn}
 use Rattle.p3_challenger_fs.specs.Pattern.{turn_of}
 use Rattle.p3_fri_transcript.specs.Steps.{FriNumbers, commitment_step, rounds_steps, query_steps}
 use Rattle.p3_fri_transcript.specs.Steps.{fri_steps}
-use Rattle.p3_fri_steps.specs.Steps.{challenge_step, message_step, pow_steps}
+use Rattle.p3_fri_pow.specs.Steps.{challenge_step, message_step, pow_steps}
 use Rattle.p3_fri_transcript.specs.Turns.{RoundsLeft}
-use Rattle.p3_fri_steps.specs.Pow.{pow_turns}
-use Rattle.p3_fri_steps.proofs.Turns.{rest_of, pow_turns-of}
+use Rattle.p3_fri_pow.specs.Pow.{pow_turns}
+use Rattle.p3_fri_pow.proofs.Turns.{rest_of, pow_turns-of}
 
 -- a round's steps: the commitment, the proof of work, the challenge, and then what was left
 -- without the round

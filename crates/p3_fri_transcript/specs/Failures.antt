@@ -1,20 +1,15 @@
 -- When a verifier's transcript passes, and why it refuses.
-use Rattle.std.specs.Prelude.{◌≡◌, ◌≢◌, ◌⊎◌, ℕ, IsTrue, List, length, Option, ⊤}
+use Rattle.std.specs.Prelude.{◌≡◌, ◌⊎◌, ℕ, IsTrue, List, length, Option, ⊤}
 use Rattle.algebra.specs.Field.{FieldOps}
 use Rattle.p3_challenger_core.specs.Run.{Moves}
-use Rattle.p3_fri_steps.specs.declared.pow_phase.PowPhase.TheVariants.{CommitPhase, Query}
-use Rattle.p3_fri_steps.specs.Pow.{IsMissing, IsWrong}
+use Rattle.p3_fri_pow.specs.declared.pow_phase.PowPhase.TheVariants.{CommitPhase, Query}
+use Rattle.p3_fri_pow.specs.Counts.{IsWrongCount}
+use Rattle.p3_fri_pow.specs.Pow.{IsMissing, IsWrongWitness}
 use Rattle.p3_fri_transcript.specs.declared.transcript.failure.TranscriptFailure.{TranscriptFailure}
 use Rattle.p3_fri_transcript.specs.declared.transcript.failure.TranscriptFailure.TheVariants as Why
 use Rattle.p3_fri_transcript.specs.Steps.{FriNumbers}
 use Rattle.p3_fri_transcript.specs.Replay.{rounds_replay, shown_queries_replay, fri_replay}
 use Rattle.p3_fri_transcript.specs.Replay.{polynomial_observed}
-
--- a wrong count is named beside the one that is described
-pub record IsWrongCount (expected got described sent : ℕ) : Type 0 where
-  pub expected_is : expected ≡ described
-  pub got_is : got ≡ sent
-  pub differ : got ≢ expected
 
 module _ {C F E Com : Type 0} (m : Moves C F E Com) where
   module _ (shape : FriNumbers) (c : C) (commitments : List Com) (witnesses : List F) where
@@ -27,9 +22,9 @@ module _ {C F E Com : Type 0} (m : Moves C F E Com) where
     -- why the rounds are refused; a wrong count leaves the challenger as it was
     abbrev pub RoundsFailure : (after : C) → TranscriptFailure → Type 0
     RoundsFailure after (Why.CommitRoundCount expected got) =
-        IsWrongCount expected got (length shape.log_arities) (length commitments) × (after ≡ c)
+        IsWrongCount (length shape.log_arities) (length commitments) expected got × (after ≡ c)
     RoundsFailure after (Why.CommitPowWitnessCount expected got) =
-        IsWrongCount expected got (length shape.log_arities) (length witnesses)
+        IsWrongCount (length shape.log_arities) (length witnesses) expected got
         × (length commitments ≡ length shape.log_arities) × (after ≡ c)
     RoundsFailure after (Why.PowWitness CommitPhase) =
         (length commitments ≡ length shape.log_arities)
@@ -48,12 +43,12 @@ module _ {C F E Com : Type 0} (m : Moves C F E Com) where
       -- why the queries are refused; a wrong length leaves the challenger as it was
       abbrev pub QueriesFailure : (after : C) → TranscriptFailure → Type 0
       QueriesFailure after (Why.FinalPolyLen expected got) =
-          IsWrongCount expected got shape.final_poly_len (length final_poly) × (after ≡ c)
+          IsWrongCount shape.final_poly_len (length final_poly) expected got × (after ≡ c)
       QueriesFailure after (Why.MissingPowWitness Query) =
           (length final_poly ≡ shape.final_poly_len) × IsMissing shape.query_pow_bits witness
       QueriesFailure after (Why.PowWitness Query) =
           (length final_poly ≡ shape.final_poly_len)
-          × IsWrong m.observe_value m.draw_bits
+          × IsWrongWitness m.observe_value m.draw_bits
           (polynomial_observed m.observe_value coefficients c final_poly)
           shape.query_pow_bits witness
       QueriesFailure after Why.OutOfMemory = ⊤

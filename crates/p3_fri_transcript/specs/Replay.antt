@@ -4,7 +4,7 @@ use Rattle.std.specs.List.{flat_map}
 use Rattle.algebra.specs.Field.{FieldOps}
 use Rattle.p3_challenger_core.specs.Run.{Moves, observed_all, draws, grind_attempt}
 use Rattle.p3_challenger_fs.specs.Turns.{bytes_observed}
-use Rattle.p3_fri_steps.specs.Pow.{shown_attempt}
+use Rattle.p3_fri_pow.specs.Pow.{shown_attempt}
 use Rattle.p3_fri_transcript.specs.Steps.{FriNumbers}
 
 -- the rounds of a test: whether each proof of work passes, the challenges, and the state after them

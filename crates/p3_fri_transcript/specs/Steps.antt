@@ -5,7 +5,7 @@ use Rattle.p3_challenger_fs.specs.declared.pattern.Kind.TheVariants.{Message, Ch
 use Rattle.p3_challenger_fs.specs.declared.pattern.TypeTag.TheVariants.{Opaque, Bits}
 use Rattle.p3_challenger_fs.specs.declared.pattern.Length.TheVariants.{Scalar, Fixed}
 use Rattle.p3_challenger_fs.specs.Pattern.{Step, number_bytes, seed_stream}
-use Rattle.p3_fri_steps.specs.Steps.{pow_steps, challenge_step, message_step}
+use Rattle.p3_fri_pow.specs.Steps.{pow_steps, challenge_step, message_step}
 
 -- what a shape of a low-degree test says
 pub record FriNumbers : Type 0 where

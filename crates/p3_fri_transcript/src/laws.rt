@@ -13,7 +13,7 @@ ghost use Rattle.p3_fri_transcript.specs.SeedExamples.{with_arities, DifferInLab
 
 use crate::transcript::FriShape;
 use p3_field_core::{ExtensionField, Field};
-use p3_fri_steps::laws::points_fit;
+use p3_fri_pow::laws::points_fit;
 
 /// The stream of a low-degree test determines each number of its shape, the bits of a round's proof
 /// of work only if there is a round.

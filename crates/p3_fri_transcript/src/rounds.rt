@@ -7,7 +7,7 @@ ghost use Rattle.p3_fri_transcript.specs.Steps.{round_steps, rounds_steps};
 use crate::labels;
 use p3_challenger_fs::{Hierarchy, Interaction, Kind, Length};
 use p3_field_core::{ExtensionField, Field};
-use p3_fri_steps::steps::push_pow;
+use p3_fri_pow::steps::push_pow;
 use std::alloc::AllocError;
 
 /// Appends the steps of a round.

@@ -1,12 +1,12 @@
 -- Claims without the memory that holds them, as the relation sees them.
 use Rattle.std.proofs.Common.{◌≡◌, ℕ, List, [], ◌∷◌, map, Result, Ok, Err, refl, ap, ◌∙◌}
 use Rattle.std.specs.Prelude.{IfErr}
-use Rattle.p3_fri_steps.specs.declared.pow_phase.PowPhase.{PowPhase}
+use Rattle.p3_fri_pow.specs.declared.pow_phase.PowPhase.{PowPhase}
 use Rattle.p3_fri_relation.specs.declared.error.FriError.{FriError}
 use Rattle.p3_fri_relation.specs.declared.error.FriError.TheVariants.{NonCanonicalPowWitness}
-use Rattle.p3_commit.specs.declared.openings.PointOpening.{PointOpening}
-use Rattle.p3_commit.specs.declared.openings.MatrixOpening.{MatrixOpening}
-use Rattle.p3_commit.specs.declared.openings.CommitmentOpening.{CommitmentOpening}
+use Rattle.p3_mmcs.specs.declared.openings.PointOpening.{PointOpening}
+use Rattle.p3_mmcs.specs.declared.openings.MatrixOpening.{MatrixOpening}
+use Rattle.p3_mmcs.specs.declared.openings.CommitmentOpening.{CommitmentOpening}
 use Rattle.p3_pcs.specs.Claims as claimed
 use Rattle.p3_fri_relation.specs.Setting.{PointClaim, MatrixClaim, CommitmentClaim}
 use Rattle.p3_fri_relation.specs.Views as view

@@ -1,6 +1,6 @@
 -- What a commitment to low-degree extensions holds.
-use Rattle.std.proofs.Common.{◌≡◌, ◌≢◌, ℕ, ◌+◌, ◌/◌, ◌^◌, ◌<◌, ◌≤◌, List, [], ◌∷◌, length, map}
-use Rattle.std.proofs.Common.{All, get_or, sym, ap, ◌∙◌, subst, arith}
+use Rattle.std.proofs.Common.{◌≡◌, ◌≢◌, ℕ, ◌+◌, ◌*◌, ◌/◌, ◌^◌, ◌<◌, ◌≤◌, List, [], ◌∷◌, length, map}
+use Rattle.std.proofs.Common.{All, get_or, refl, sym, ap, ap₂, ◌∙◌, subst, arith}
 use Rattle.std.specs.List.{AllZip}
 use Rattle.std.proofs.lemmas.List.{length-map}
 use Rattle.algebra.specs.Field.{IsField}
@@ -24,6 +24,9 @@ use Rattle.p3_fri_openings.specs.Committed.{committed_column}
 use Rattle.p3_fri_openings.proofs.Committed.{committed_is}
 use Rattle.p3_fri_openings.proofs.Log2.{log2-pow, pow-divided}
 use Rattle.p3_fri_completeness.specs.Requests.{held_in, HoldsWords}
+use Rattle.p3_pcs.specs.Requests.{Held}
+use Rattle.p3_stark_pcs.specs.Evaluations.{HasPolynomials}
+use Rattle.p3_fri_two_adic.specs.Chunks.{polynomials_on}
 use Rattle.p3_fri_two_adic.specs.Held.{Extends}
 use Rattle.p3_fri_two_adic.specs.Ldes.{HasLdeHeight}
 
@@ -76,7 +79,7 @@ module _ {F E : Type 0} (f : Fields F E) (L : IsField f.base)
     unfolding word_of
     extends = record {
       size = ap (λ n. n / 2 ^ b) extended.height ∙ pow-divided k b;
-      values_held = λ z. ap (λ columns. values_at f.base f.ext f.lift columns z)
+      values = λ z. ap (λ columns. values_at f.base f.ext f.lift columns z)
           (ap (λ n. tabulate n (λ j. committed_column f b (column f.base matrix j))) extended.width
           ∙ tabulate-equal (matrix_width values) (λ j. committed_column f b
           (column f.base matrix j)) polynomial
@@ -99,6 +102,22 @@ each_mapped R Q S g f [] [] h q = tt
 each_mapped R Q S g f [] (b ∷ ys) h q = absurd h
 each_mapped R Q S g f (a ∷ xs) [] h q = absurd h
 each_mapped R Q S g f (a ∷ xs) (b ∷ ys) h q = (f a b h.0 q.0, each_mapped R Q S g f xs ys h.1 q.1)
+
+each_zip : {A B : Type 0} (R : A → B → Type 0) (Q : B → Type 0) (S : A → B → Type 0)
+    → ((a : A) (b : B) → R a b → Q b → S a b) → (xs : List A) (ys : List B) → AllZip R xs ys
+    → Each Q ys → AllZip S xs ys
+each_zip R Q S f [] [] h q = tt
+each_zip R Q S f [] (b ∷ ys) h q = absurd h
+each_zip R Q S f (a ∷ xs) [] h q = absurd h
+each_zip R Q S f (a ∷ xs) (b ∷ ys) h q = (f a b h.0 q.0, each_zip R Q S f xs ys h.1 q.1)
+
+-- what agrees at each place is one list
+zip_equal : {A B X : Type 0} (f : A → X) (g : B → X) (xs : List A) (ys : List B)
+    → AllZip (λ x y. f x ≡ g y) xs ys → map f xs ≡ map g ys
+zip_equal f g [] [] h = refl
+zip_equal f g [] (y ∷ ys) h = absurd h
+zip_equal f g (x ∷ xs) [] h = absurd h
+zip_equal f g (x ∷ xs) (y ∷ ys) h = ap₂ (λ v vs. v ∷ vs) h.0 (zip_equal f g xs ys h.1)
 
 -- of a batch of matrices, on domains with these shifts and sizes
 module _ {F E Domain : Type 0} (f : Fields F E) (L : IsField f.base)
@@ -141,3 +160,32 @@ module _ {F E Domain : Type 0} (f : Fields F E) (L : IsField f.base)
       (held_in f b)
       (λ m e h q. extends f L W nonzero b (shift e.0) (off_zero e.0) (log_size e.0) e.1 m q h)
       matrices evaluations words (each_from_All Fits evaluations fit)
+
+  abbrev Chunk : Domain × RowMajorMatrix F → Held E
+  Chunk e = polynomials_on f (shift e.0) (log_size e.0) e.1
+
+  -- the words are those of the chunks' polynomials
+  pub chunks_held : AllZip (λ lde e. HasPolynomials (held_in f b lde) (Chunk e)) matrices
+      evaluations
+  chunks_held = each_zip IsWordOf Fits (λ lde e. HasPolynomials (held_in f b lde) (Chunk e))
+      (λ m e h q. extends f L W nonzero b (shift e.0) (off_zero e.0) (log_size e.0) e.1 m q h)
+      matrices evaluations words (each_from_All Fits evaluations fit)
+
+  pub sizes_held : AllZip (λ lde e. (held_in f b lde).size ≡ 1 * 2 ^ log_size e.0) matrices
+      evaluations
+  sizes_held = each_zip IsWordOf Fits (λ lde e. (held_in f b lde).size ≡ 1 * 2 ^ log_size e.0)
+      (λ m e h q. (extends f L W nonzero b (shift e.0) (off_zero e.0) (log_size e.0) e.1 m q h).size
+      ∙ one_power (log_size e.0))
+      matrices evaluations words (each_from_All Fits evaluations fit)
+    where
+      one_power : (k : ℕ) → 2 ^ k ≡ 1 * 2 ^ k
+      one_power k = omega arith
+
+  pub values_held : (z : E) → map (λ lde. (held_in f b lde).values_at z) matrices
+      ≡ map (λ e. (Chunk e).values_at z) evaluations
+  values_held z = zip_equal (λ lde. (held_in f b lde).values_at z) (λ e. (Chunk e).values_at z)
+      matrices evaluations
+      (each_zip IsWordOf Fits (λ lde e. (held_in f b lde).values_at z ≡ (Chunk e).values_at z)
+      (λ m e h q. (extends f L W nonzero b (shift e.0) (off_zero e.0) (log_size e.0) e.1 m q
+      h).values z)
+      matrices evaluations words (each_from_All Fits evaluations fit))

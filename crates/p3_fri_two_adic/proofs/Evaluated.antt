@@ -1,6 +1,6 @@
 -- Values of committed polynomials on a domain, seen in the extension.
 use Rattle.std.proofs.Common.{◌≡◌, ◌≢◌, ◌≤◌, ◌<◌, ℕ, ◌+◌, ◌/◌, ◌^◌, List, [], length, map}
-use Rattle.std.proofs.Common.{All, get_or, sym, ap, subst, ◌∙◌, arith}
+use Rattle.std.proofs.Common.{get_or, sym, ap, subst, ◌∙◌, arith}
 use Rattle.std.proofs.lemmas.List.{get_or-map}
 use Rattle.algebra.specs.Field.{IsField, IsHomomorphism}
 use Rattle.algebra.specs.Polynomial.{val, tabulate}
@@ -22,7 +22,7 @@ use Rattle.p3_fri_openings.proofs.Log2.{log2-pow, pow-divided}
 use Rattle.p3_fri_completeness.specs.Requests.{held_in, HoldsWords}
 use Rattle.p3_fri_evaluations.specs.Committed.{AreCommittedValues}
 use Rattle.p3_stark_pcs.specs.Evaluations.{HoldsEvaluations, held_at}
-use Rattle.p3_fri_two_adic.specs.Evaluations.{IsMatrixOf}
+use Rattle.p3_fri_two_adic.specs.Evaluations.{IsMatrixOf, HoldsWordsAt}
 use Rattle.p3_matrix.proofs.Widths.{row_width}
 
 -- where `values` holds, on the coset of `s` of `2^m` points, those of the polynomials of `matrix`
@@ -84,7 +84,7 @@ module _ {F : Type 0} (two_adicity : ℕ) (matrices : List (RowMajorMatrix F)) (
     (is : matrix ≡ get_or matrices index matrix) where
   pub coset_at : HasCoset two_adicity matrix
   coset_at =
-      subst (λ m. HasCoset two_adicity m) (sym is) (one.cosets index matrix one.below)
+      subst (λ m. HasCoset two_adicity m) (sym is) (one.coset matrix)
 
   pub within_at : length (rows matrix) ≤ 2 ^ two_adicity
   within_at = power_within (length (rows matrix)) coset_at.power.0 two_adicity coset_at.power.1
@@ -97,12 +97,12 @@ module _ {F E : Type 0} (f : Fields F E) (L : IsField f.base) (M : IsField f.ext
     (nonzero : f.shift ≢ f.base.zero) (b : ℕ) (matrices : List (RowMajorMatrix F)) (index : ℕ)
     (one : IsMatrixOf f.two_adicity matrices index) where
   pub evaluated : (matrix values : RowMajorMatrix F) → matrix ≡ get_or matrices index matrix
-      → All (HoldsWords f b) matrices → (s : F) (m : ℕ)
+      → HoldsWordsAt f b matrices index → (s : F) (m : ℕ)
       → AreCommittedValues f.base f.root f.shift b s m matrix values
       → HoldsEvaluations f.lift (λ i. f.lift (coset_point f.base (f.root m) s i)) (2 ^ m)
       (held_at (map (held_in f b) matrices) index).values_at values
   evaluated matrix values is words s m are =
-      let here = subst (λ m. HoldsWords f b m) (sym is) (words index matrix one.below) in
+      let here = subst (λ m. HoldsWords f b m) (sym is) (words matrix) in
       let stands = coset_at f.two_adicity matrices index one matrix is in
       let within = subst (λ n. n ≤ f.two_adicity)
       (ap log2 here.height ∙ log2-pow (here.log_size + b)) stands.within in

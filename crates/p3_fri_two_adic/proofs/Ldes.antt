@@ -3,7 +3,7 @@ use Rattle.std.proofs.Common.{◌≤◌, ℕ, ◌+◌, List, [], ◌∷◌, All,
 use Rattle.std.specs.Int.{IsPowerOfTwo}
 use Rattle.algebra.proofs.Lists.{Each, each_from_All, All_from_each}
 use Rattle.p3_matrix.specs.declared.dense.RowMajorMatrix.{RowMajorMatrix}
-use Rattle.p3_commit.specs.Batch.{dimensions_of, HavePowerHeights}
+use Rattle.p3_mmcs.specs.Batch.{dimensions_of, HavePowerHeights}
 use Rattle.p3_fri_openings.specs.Log2.{log2}
 use Rattle.p3_fri_openings.specs.Rounds.{HasCoset}
 use Rattle.p3_fri_openings.proofs.Log2.{log2-pow}

@@ -1,15 +1,15 @@
 -- Of a domain the relation reads the logarithm of its size alone.
 use Rattle.std.proofs.Common.{◌≡◌, ◌^◌, ℕ, List, [], ◌∷◌, map, refl, sym, ap}
 use Rattle.std.proofs.Common.{ap₂, ◌∙◌}
-use Rattle.p3_pcs.specs.Claims.{PointClaim, both, claim_on}
+use Rattle.p3_pcs.specs.Claims.{PointClaim, zip_with, claim_on}
 use Rattle.p3_pcs.specs.Requests.{Held, Request, honest_values, honest_claims, FitDomains}
 use Rattle.p3_fri_completeness.specs.Requests.{point_claim, matrix_claim, relation_claims}
 use Rattle.p3_fri_two_adic.proofs.Claims.{of_matrices}
 
 module _ {E Domain : Type 0} (log_size : Domain → ℕ) where
   matrices_sized : (domains : List Domain) (points : List (List (PointClaim E)))
-      → map (matrix_claim log_size) (both claim_on domains points)
-      ≡ map (matrix_claim (λ k. k)) (both claim_on (map log_size domains) points)
+      → map (matrix_claim log_size) (zip_with claim_on domains points)
+      ≡ map (matrix_claim (λ k. k)) (zip_with claim_on (map log_size domains) points)
   matrices_sized [] points = refl
   matrices_sized (d ∷ domains) [] = refl
   matrices_sized (d ∷ domains) (zs ∷ points) =
@@ -39,7 +39,7 @@ module _ {D E Com Domain : Type 0} (held : D → List (Held E)) (commitment_of :
   claims_sized (ds ∷ domains) [] = refl
   claims_sized (ds ∷ domains) (r ∷ requests) =
       ap₂ (λ matrices rest. of_matrices (commitment_of r.datum) matrices ∷ rest)
-      (sym (matrices_sized log_size ds (both (λ zs vs. both
+      (sym (matrices_sized log_size ds (zip_with (λ zs vs. zip_with
       (λ z v. record { point = z; values = v }) zs vs) r.points (honest_values held r))))
       (claims_sized domains requests)
 

@@ -1,8 +1,9 @@
+pub mod Chunks
 pub mod Held
 pub mod Ranges
 pub mod Accepted
 pub mod ErrorLaws
 pub mod Evaluations
-pub mod Kept
 pub mod Ldes
+pub mod EvaluationLaws
 pub mod UnivariateLaws

@@ -7,11 +7,12 @@
 //! the batched words are of low degree.
 
 ghost use Rattle.std.specs.Prelude.{◌≡◌, ◌≢◌, ◌↔◌, ◌≤◌, ◌^◌, ℕ, ⊤, List, map, length, All};
-ghost use Rattle.std.specs.Prelude.{IsOk, IfOk, IfErr, Err};
+ghost use Rattle.std.specs.Prelude.{IsOk, IfOk, IfErr, Err, refl};
+ghost use Rattle.std.proofs.Common.{ap, sym, subst};
 ghost use Rattle.std.specs.List.{AllZip};
 ghost use Rattle.p3_pcs.specs.Claims.{claim};
 ghost use Rattle.p3_fri_commit.specs.Extension.{FitsDomain};
-ghost use Rattle.p3_fri_steps.specs.declared.error.FriProverError.TheVariants as refusal;
+ghost use Rattle.p3_fri_pow.specs.declared.error.FriProverError.TheVariants as refusal;
 ghost use Rattle.p3_fri_relation.specs.declared.error.FriError.TheVariants.{OutOfMemory};
 ghost use Rattle.p3_fri_relation.specs.Acceptance.{Accepts as relation};
 ghost use Rattle.p3_fri_relation.specs.Faults.{StandsInScheme};
@@ -25,14 +26,13 @@ ghost use Rattle.p3_fri_two_adic.specs.Ranges.{InProverRange as prover_range};
 ghost use Rattle.p3_fri_two_adic.specs.Ranges.{InVerifierRange as verifier_range};
 ghost use Rattle.p3_fri_opening_prover.specs.Refusals.{PassesChecks as passes, OpenRefusal};
 ghost use Rattle.p3_fri_opening_prover.specs.Refusals.{LeavesState as leaves};
-ghost use Rattle.p3_fri_two_adic.specs.Accepted.{two_adic};
 ghost use Rattle.p3_fri_opening_verifier.specs.Ends.{last_state as state_after};
 ghost use Rattle.p3_fri_two_adic.specs.Accepted.{LeavesVerifier as leaves_verifier};
 ghost use Rattle.p3_fri_two_adic.specs.ErrorLaws.{memory_cases};
+ghost use Rattle.p3_fri_two_adic.specs.EvaluationLaws.{extended_columns};
 
-use p3_challenger_core::{CanObserve, FieldChallenger, GrindingChallenger, Plays};
-pub use p3_commit::CommitmentWithOpeningPoints;
-use p3_commit::{CommitmentOpening, Mmcs, OpenedValues};
+use crate::setting::PlaysTwoAdic;
+use p3_challenger_core::{CanObserve, FieldChallenger, GrindingChallenger};
 use p3_dft::TwoAdicSubgroupDft;
 use p3_field_core::{
     PackableExtension, PackableField, TwoAdicField, TwoAdicMultiplicativeCoset, log2_strict_usize,
@@ -42,12 +42,14 @@ use p3_fri_folding::FriParameters;
 pub use p3_fri_folding::TwoAdicFriFolding;
 use p3_fri_opening_prover::open_requests;
 use p3_fri_opening_verifier::verify_opening;
+use p3_fri_pow::FriProverError;
 pub use p3_fri_prover::prover::ProverDataWithOpeningPoints;
 use p3_fri_relation::error::FriError;
 use p3_fri_relation::proof::{BatchMultiOpening, FriProof};
 use p3_fri_relation::setting::ChallengeField;
-use p3_fri_steps::FriProverError;
 use p3_matrix::RowMajorMatrix;
+pub use p3_mmcs::CommitmentWithOpeningPoints;
+use p3_mmcs::{CommitmentOpening, Mmcs, OpenedValues};
 use p3_pcs::{OpeningRequest, Pcs};
 use std::alloc::{AllocError, Global};
 use std::marker::PhantomData;
@@ -116,11 +118,12 @@ impl<
 
     ghost domain_size = { λ d. 2 ^ d.log_size };
 
-    ghost IsDegree = { λ _ n. IsSubgroupSize F.TWO_ADICITY n };
+    ghost HasDomain = { λ _ n. IsSubgroupSize F.TWO_ADICITY n };
 
     ghost commitment_of = { λ d. InputMmcs.commitment_of d };
 
-    ghost held = { λ s d. held_of ⟦<EF as ChallengeField<F>>⟧.fields InputMmcs.committed
+    ghost committed_polynomials = { λ s d. held_of ⟦<EF as ChallengeField<F>>⟧.fields
+        InputMmcs.committed
         s.fri.log_blowup d };
 
     ghost CanOpen = { λ _ d. All (HasCoset F.TWO_ADICITY) (InputMmcs.committed d) };
@@ -129,7 +132,9 @@ impl<
         (HoldsWords ⟦<EF as ChallengeField<F>>⟧.fields s.fri.log_blowup)
         (InputMmcs.committed d) };
 
-    ghost spent = { λ d. d };
+    ghost after_opening = { λ d. d };
+
+    ghost Keeps = { λ old new. new ≡ old };
 
     ghost CanCommit = { λ s evaluations.
         All (λ e. FitsDomain F.TWO_ADICITY s.fri.log_blowup e.0.log_size e.1) evaluations };
@@ -149,25 +154,21 @@ impl<
         (parameters_of s.fri) InputMmcs.committed requests };
 
     ghost Refuses = { λ s c requests e.
-        OpenRefusal (two_adic ⟦<EF as ChallengeField<F>>⟧.fields
-        ⟦<C as Plays<F, EF, M::Commitment>>⟧.moves (InputMmcs.opens s.mmcs) (M.opens s.fri.mmcs))
+        OpenRefusal (⟦<C as PlaysTwoAdic<F, EF, InputMmcs, M>>⟧.setting s.mmcs s.fri.mmcs)
         (parameters_of s.fri) InputMmcs.committed M.committed M.commitment_of c requests e };
 
     ghost LeavesState = { leaves };
 
     ghost Accepts = { λ s c claims proof.
-        relation (two_adic ⟦<EF as ChallengeField<F>>⟧.fields
-        ⟦<C as Plays<F, EF, M::Commitment>>⟧.moves (InputMmcs.opens s.mmcs) (M.opens s.fri.mmcs))
+        relation (⟦<C as PlaysTwoAdic<F, EF, InputMmcs, M>>⟧.setting s.mmcs s.fri.mmcs)
         (parameters_of s.fri) (relation_claims (λ d. d.log_size) claims) (proof_of proof) c };
 
     ghost last_state = { λ s c claims proof.
-        state_after (two_adic ⟦<EF as ChallengeField<F>>⟧.fields
-        ⟦<C as Plays<F, EF, M::Commitment>>⟧.moves (InputMmcs.opens s.mmcs) (M.opens s.fri.mmcs))
+        state_after (⟦<C as PlaysTwoAdic<F, EF, InputMmcs, M>>⟧.setting s.mmcs s.fri.mmcs)
         (parameters_of s.fri) (relation_claims (λ d. d.log_size) claims) (proof_of proof) c };
 
-    ghost Faults = { λ s claims proof c e.
-        StandsInScheme (two_adic ⟦<EF as ChallengeField<F>>⟧.fields
-        ⟦<C as Plays<F, EF, M::Commitment>>⟧.moves (InputMmcs.opens s.mmcs) (M.opens s.fri.mmcs))
+    ghost IsTrueRefusal = { λ s claims proof c e.
+        StandsInScheme (⟦<C as PlaysTwoAdic<F, EF, InputMmcs, M>>⟧.setting s.mmcs s.fri.mmcs)
         (parameters_of s.fri) (relation_claims (λ d. d.log_size) claims) (proof_of proof) c e };
 
     ghost LeavesVerifier = { λ e. leaves_verifier e };
@@ -191,29 +192,14 @@ impl<
         alloc: Global,
         evaluations: Vec<(TwoAdicMultiplicativeCoset<F>, RowMajorMatrix<F>)>,
     ) -> Result<(InputMmcs::Commitment, InputMmcs::ProverData), FriProverError>
-        requires range { prover_range (parameters_of self.old.fri) F.TWO_ADICITY
-            C.MAX_SAMPLE_BITS }
-        requires evaluations { All (λ e.
+        requires { All (λ e.
             FitsDomain F.TWO_ADICITY self.old.fri.log_blowup e.0.log_size e.1) evaluations.items }
         ensures kept { self.new ≡ self.old }
-        ensures range { prover_range (parameters_of self.new.fri) F.TWO_ADICITY
-            C.MAX_SAMPLE_BITS }
+        ensures range { prover_range (parameters_of self.old.fri) F.TWO_ADICITY C.MAX_SAMPLE_BITS
+            → prover_range (parameters_of self.new.fri) F.TWO_ADICITY C.MAX_SAMPLE_BITS }
         ensures verifier_range { let n = F.TWO_ADICITY in
             verifier_range (parameters_of self.old.fri) n C.MAX_SAMPLE_BITS
             → verifier_range (parameters_of self.new.fri) n C.MAX_SAMPLE_BITS }
-        ensures still_held { (d : InputMmcs.ProverData)
-            → map (held_in ⟦<EF as ChallengeField<F>>⟧.fields self.new.fri.log_blowup)
-            (InputMmcs.committed d)
-            ≡ map (held_in ⟦<EF as ChallengeField<F>>⟧.fields self.old.fri.log_blowup)
-            (InputMmcs.committed d) }
-        ensures still_openable { (d : InputMmcs.ProverData)
-            → All (HasCoset F.TWO_ADICITY) (InputMmcs.committed d)
-            → All (HasCoset F.TWO_ADICITY) (InputMmcs.committed d) }
-        ensures still_honest { (d : InputMmcs.ProverData)
-            → All (HoldsWords ⟦<EF as ChallengeField<F>>⟧.fields self.old.fri.log_blowup)
-            (InputMmcs.committed d)
-            → All (HoldsWords ⟦<EF as ChallengeField<F>>⟧.fields self.new.fri.log_blowup)
-            (InputMmcs.committed d) }
         ensures commitment { IfOk result (λ pair. InputMmcs.commitment_of pair.1 ≡ pair.0) }
         ensures openable { IfOk result (λ pair.
             All (HasCoset F.TWO_ADICITY) (InputMmcs.committed pair.1)) }
@@ -260,21 +246,18 @@ impl<
     ) -> Result<(), FriError<M::Error, InputMmcs::Error>>
         requires range { verifier_range (parameters_of self.now.fri) F.TWO_ADICITY
             C.MAX_SAMPLE_BITS }
-        ensures exactly { let s = two_adic ⟦<EF as ChallengeField<F>>⟧.fields
-            ⟦<C as Plays<F, EF, M::Commitment>>⟧.moves (InputMmcs.opens self.now.mmcs)
-            (M.opens self.now.fri.mmcs) in
+        ensures exactly { let s = ⟦<C as PlaysTwoAdic<F, EF, InputMmcs, M>>⟧.setting self.now.mmcs
+            self.now.fri.mmcs in
             result ≢ Err OutOfMemory → (IsOk result ↔ relation s (parameters_of self.now.fri)
             (relation_claims (λ d. d.log_size) (map claim claims.items)) (proof_of proof.now)
             challenger.old) }
-        ensures state { let s = two_adic ⟦<EF as ChallengeField<F>>⟧.fields
-            ⟦<C as Plays<F, EF, M::Commitment>>⟧.moves (InputMmcs.opens self.now.mmcs)
-            (M.opens self.now.fri.mmcs) in
+        ensures state { let s = ⟦<C as PlaysTwoAdic<F, EF, InputMmcs, M>>⟧.setting self.now.mmcs
+            self.now.fri.mmcs in
             IsOk result → challenger.new ≡ state_after s (parameters_of self.now.fri)
             (relation_claims (λ d. d.log_size) (map claim claims.items)) (proof_of proof.now)
             challenger.old }
-        ensures stands { let s = two_adic ⟦<EF as ChallengeField<F>>⟧.fields
-            ⟦<C as Plays<F, EF, M::Commitment>>⟧.moves (InputMmcs.opens self.now.mmcs)
-            (M.opens self.now.fri.mmcs) in
+        ensures stands { let s = ⟦<C as PlaysTwoAdic<F, EF, InputMmcs, M>>⟧.setting self.now.mmcs
+            self.now.fri.mmcs in
             IfErr result (StandsInScheme s (parameters_of self.now.fri)
             (relation_claims (λ d. d.log_size) (map claim claims.items)) (proof_of proof.now)
             challenger.old) }
@@ -285,6 +268,27 @@ impl<
             alloc, &folding, &self.fri, &self.mmcs, &claims, proof, challenger,
         )
     }
+
+    ghost keeps_itself_law = { λ _. refl };
+
+    ghost keeps_polynomials_law = { λ _ _ same d. ap (λ s. held_of
+        ⟦<EF as ChallengeField<F>>⟧.fields InputMmcs.committed s.fri.log_blowup d) same };
+
+    ghost keeps_openable_law = { λ _ _ _ _ h. h };
+
+    ghost keeps_honest_law = { λ _ _ same d h. subst (λ s. All (HoldsWords
+        ⟦<EF as ChallengeField<F>>⟧.fields s.fri.log_blowup) (InputMmcs.committed d)) (sym same)
+        h };
+
+    ghost keeps_committable_law = { λ _ _ same evaluations h. subst (λ s. All (λ e. FitsDomain
+        F.TWO_ADICITY s.fri.log_blowup e.0.log_size e.1) evaluations) (sym same) h };
+
+    ghost keeps_extends_law = { λ _ _ _ _ _ h. h };
+
+    ghost extends_size_law = { λ _ _ _ h. h.size };
+
+    ghost extends_columns_law = { λ _ m e h. extended_columns ⟦<EF as ChallengeField<F>>⟧.fields
+        e.0.shift e.0.log_size e.1 m h };
 
     ghost memory_law = { memory_cases };
 }

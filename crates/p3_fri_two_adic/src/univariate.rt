@@ -1,8 +1,10 @@
 //! The scheme over two-adic fields as a STARK prover uses it, in the Rust crate's names.
 
-ghost use Rattle.std.specs.Prelude.{◌≡◌, ◌≢◌, ◌↔◌, ◌≤◌, ◌/◌, ◌^◌, ℕ, ⊤, false, List, map, length};
+ghost use Rattle.std.specs.Prelude.{◌≡◌, ◌≢◌, ◌↔◌, ◌≤◌, ◌*◌, ◌/◌, ◌^◌, ℕ, ⊤, false, List, map};
+ghost use Rattle.std.specs.Prelude.{length};
 ghost use Rattle.std.specs.Prelude.{All, IsOk, IfOk, IfErr, MatchResult, Ok, Err, None, refl};
 ghost use Rattle.std.specs.List.{AllZip};
+ghost use Rattle.std.proofs.Common.{ap, sym, subst};
 ghost use Rattle.p3_field_core.specs.Coset.{coset_point};
 ghost use Rattle.p3_pcs.specs.Claims.{claim};
 ghost use Rattle.p3_pcs.specs.Requests.{AreOpenable};
@@ -10,9 +12,9 @@ ghost use Rattle.p3_periodic.specs.Columns.{HasPeriod, Refuses};
 ghost use Rattle.p3_periodic.specs.Tables.{AreTabulated};
 ghost use Rattle.p3_periodic.specs.Values.{IsColumnValue};
 ghost use Rattle.p3_periodic.specs.Views.{table_rows};
-ghost use Rattle.p3_stark_pcs.specs.Evaluations.{HoldsEvaluations, held_at};
+ghost use Rattle.p3_stark_pcs.specs.Evaluations.{HoldsEvaluations, held_at, HasPolynomials};
 ghost use Rattle.p3_fri_commit.specs.Extension.{FitsDomain, IsLowDegreeExtension};
-ghost use Rattle.p3_fri_steps.specs.declared.error.FriProverError.TheVariants as refusal;
+ghost use Rattle.p3_fri_pow.specs.declared.error.FriProverError.TheVariants as refusal;
 ghost use Rattle.p3_fri_relation.specs.Acceptance.{Accepts as relation};
 ghost use Rattle.p3_fri_relation.specs.declared.error.FriError.TheVariants.{OutOfMemory};
 ghost use Rattle.p3_fri_relation.specs.Faults.{StandsInScheme};
@@ -22,28 +24,29 @@ ghost use Rattle.p3_fri_completeness.specs.Requests.{held_in, held_of, HoldsWord
 ghost use Rattle.p3_fri_completeness.specs.Requests.{relation_claims};
 ghost use Rattle.p3_fri_opening_prover.specs.Refusals.{PassesChecks as passes, OpenRefusal};
 ghost use Rattle.p3_fri_opening_verifier.specs.Ends.{last_state as state_after};
-ghost use Rattle.p3_fri_two_adic.specs.Accepted.{two_adic};
 ghost use Rattle.p3_fri_two_adic.specs.Accepted.{LeavesVerifier as leaves_verifier};
 ghost use Rattle.p3_fri_two_adic.specs.Held.{Extends as extends};
 ghost use Rattle.p3_fri_two_adic.specs.Ranges.{InProverRange as prover_range};
 ghost use Rattle.p3_fri_two_adic.specs.Ranges.{InVerifierRange as verifier_range};
-ghost use Rattle.p3_fri_two_adic.specs.Evaluations.{IsMatrixOf};
-ghost use Rattle.p3_fri_two_adic.specs.Kept.{AreKeptBy};
+ghost use Rattle.p3_fri_two_adic.specs.Chunks.{polynomials_on, recombined_on};
+ghost use Rattle.p3_fri_two_adic.specs.EvaluationLaws.{is_matrix_of, words_at, all_shown};
+ghost use Rattle.p3_fri_two_adic.specs.Evaluations.{IsMatrixOf, HoldsWordsAt};
 ghost use Rattle.p3_fri_two_adic.specs.Ldes.{HasLdeHeight};
 ghost use Rattle.p3_fri_two_adic.specs.UnivariateLaws.{trace_heights, openable_at};
 
+use crate::setting::PlaysTwoAdic;
 use crate::two_adic_pcs::TwoAdicFriPcs;
-use p3_challenger_core::{CanObserve, FieldChallenger, GrindingChallenger, Plays};
-use p3_commit::{CommitmentOpening, Mmcs, OpenedValues};
+use p3_challenger_core::{CanObserve, FieldChallenger, GrindingChallenger};
 use p3_dft::TwoAdicSubgroupDft;
 use p3_field_core::{PackableExtension, PackableField, TwoAdicField, TwoAdicMultiplicativeCoset};
 use p3_fri_commit::extend_each;
 use p3_fri_evaluations::evaluations_on_domain;
+use p3_fri_pow::FriProverError;
 use p3_fri_relation::error::FriError;
 use p3_fri_relation::proof::{BatchMultiOpening, FriProof};
 use p3_fri_relation::setting::ChallengeField;
-use p3_fri_steps::FriProverError;
 use p3_matrix::RowMajorMatrix;
+use p3_mmcs::{CommitmentOpening, Mmcs, OpenedValues};
 use p3_pcs::{OpeningRequest, Pcs};
 use p3_periodic::{PeriodicError, PeriodicLdeTable, build_periodic_lde_table_two_adic};
 use p3_stark_pcs::UnivariateStarkPcs;
@@ -87,23 +90,19 @@ impl<
         (parameters_of s.fri) InputMmcs.committed requests };
 
     ghost RefusesAt = { λ s _ c requests e.
-        OpenRefusal (two_adic ⟦<EF as ChallengeField<F>>⟧.fields
-        ⟦<C as Plays<F, EF, M::Commitment>>⟧.moves (InputMmcs.opens s.mmcs) (M.opens s.fri.mmcs))
+        OpenRefusal (⟦<C as PlaysTwoAdic<F, EF, InputMmcs, M>>⟧.setting s.mmcs s.fri.mmcs)
         (parameters_of s.fri) InputMmcs.committed M.committed M.commitment_of c requests e };
 
     ghost AcceptsAt = { λ s _ c claims proof.
-        relation (two_adic ⟦<EF as ChallengeField<F>>⟧.fields
-        ⟦<C as Plays<F, EF, M::Commitment>>⟧.moves (InputMmcs.opens s.mmcs) (M.opens s.fri.mmcs))
+        relation (⟦<C as PlaysTwoAdic<F, EF, InputMmcs, M>>⟧.setting s.mmcs s.fri.mmcs)
         (parameters_of s.fri) (relation_claims (λ d. d.log_size) claims) (proof_of proof) c };
 
     ghost last_state_at = { λ s _ c claims proof.
-        state_after (two_adic ⟦<EF as ChallengeField<F>>⟧.fields
-        ⟦<C as Plays<F, EF, M::Commitment>>⟧.moves (InputMmcs.opens s.mmcs) (M.opens s.fri.mmcs))
+        state_after (⟦<C as PlaysTwoAdic<F, EF, InputMmcs, M>>⟧.setting s.mmcs s.fri.mmcs)
         (parameters_of s.fri) (relation_claims (λ d. d.log_size) claims) (proof_of proof) c };
 
-    ghost FaultsAt = { λ s _ claims proof c e.
-        StandsInScheme (two_adic ⟦<EF as ChallengeField<F>>⟧.fields
-        ⟦<C as Plays<F, EF, M::Commitment>>⟧.moves (InputMmcs.opens s.mmcs) (M.opens s.fri.mmcs))
+    ghost IsTrueRefusalAt = { λ s _ claims proof c e.
+        StandsInScheme (⟦<C as PlaysTwoAdic<F, EF, InputMmcs, M>>⟧.setting s.mmcs s.fri.mmcs)
         (parameters_of s.fri) (relation_claims (λ d. d.log_size) claims) (proof_of proof) c e };
 
     ghost PreprocessingRefuses = { λ _ _ e. e ≡ refusal.OutOfMemory };
@@ -113,7 +112,12 @@ impl<
     ghost AreLdes = { λ s ldes.
         All (HoldsWords ⟦<EF as ChallengeField<F>>⟧.fields s.fri.log_blowup) ldes };
 
+    ghost CanOpenLdes = { λ _ _. ⊤ };
+
     ghost LdesRefuse = { λ _ _ e. e ≡ refusal.OutOfMemory };
+
+    ghost polynomials_of = { λ s m.
+        held_in ⟦<EF as ChallengeField<F>>⟧.fields s.fri.log_blowup m };
 
     ghost CanExtend = { λ s evaluations _.
         All (λ e. FitsDomain F.TWO_ADICITY s.fri.log_blowup e.0.log_size e.1) evaluations };
@@ -124,13 +128,25 @@ impl<
 
     ghost QuotientsRefuse = { λ _ _ e. e ≡ refusal.OutOfMemory };
 
+    ghost chunk_polynomials = { λ e.
+        polynomials_on ⟦<EF as ChallengeField<F>>⟧.fields e.0.shift e.0.log_size e.1 };
+
+    ghost recombined = { λ domains rows z. recombined_on ⟦<EF as ChallengeField<F>>⟧.fields
+        (map (λ d. d.log_size) domains) (map (λ d. d.shift) domains) rows z };
+
+    ghost IsReadable = { λ _ d. All (HasCoset F.TWO_ADICITY) (InputMmcs.committed d) };
+
     ghost CanEvaluate = { λ _ d index _.
         IsMatrixOf F.TWO_ADICITY (InputMmcs.committed d) index };
 
     ghost CanEvaluateWhole = { λ _ d index _.
         IsMatrixOf F.TWO_ADICITY (InputMmcs.committed d) index };
 
-    ghost held_whole = { λ s d. held_of ⟦<EF as ChallengeField<F>>⟧.fields InputMmcs.committed
+    ghost IsHonestAt = { λ s d index. HoldsWordsAt ⟦<EF as ChallengeField<F>>⟧.fields
+        s.fri.log_blowup (InputMmcs.committed d) index };
+
+    ghost whole_polynomials = { λ s d. held_of ⟦<EF as ChallengeField<F>>⟧.fields
+        InputMmcs.committed
         s.fri.log_blowup d };
 
     ghost EvaluationRefuses = { λ e. e ≡ refusal.OutOfMemory };
@@ -154,17 +170,14 @@ impl<
         alloc: Global,
         evaluations: Vec<(TwoAdicMultiplicativeCoset<F>, RowMajorMatrix<F>)>,
     ) -> Result<(InputMmcs::Commitment, InputMmcs::ProverData), FriProverError>
-        requires range { prover_range (parameters_of self.old.fri) F.TWO_ADICITY
-            C.MAX_SAMPLE_BITS }
-        requires evaluations { All (λ e.
+        requires { All (λ e.
             FitsDomain F.TWO_ADICITY self.old.fri.log_blowup e.0.log_size e.1) evaluations.items }
-        ensures range { prover_range (parameters_of self.new.fri) F.TWO_ADICITY
-            C.MAX_SAMPLE_BITS }
+        ensures range { prover_range (parameters_of self.old.fri) F.TWO_ADICITY C.MAX_SAMPLE_BITS
+            → prover_range (parameters_of self.new.fri) F.TWO_ADICITY C.MAX_SAMPLE_BITS }
         ensures verifier_range { let n = F.TWO_ADICITY in
             verifier_range (parameters_of self.old.fri) n C.MAX_SAMPLE_BITS
             → verifier_range (parameters_of self.new.fri) n C.MAX_SAMPLE_BITS }
-        ensures kept { AreKeptBy ⟦<EF as ChallengeField<F>>⟧.fields InputMmcs.committed
-            self.old.fri.log_blowup self.new.fri.log_blowup }
+        ensures kept { self.new ≡ self.old }
         ensures unchanged { self.new ≡ self.old }
         ensures commitment { IfOk result (λ pair. InputMmcs.commitment_of pair.1 ≡ pair.0) }
         ensures openable { IfOk result (λ pair.
@@ -187,21 +200,34 @@ impl<
         evaluations: Vec<(TwoAdicMultiplicativeCoset<F>, RowMajorMatrix<F>)>,
         _num_chunks: usize,
     ) -> Result<Vec<RowMajorMatrix<F>>, FriProverError>
-        requires range { prover_range (parameters_of self.old.fri) F.TWO_ADICITY
-            C.MAX_SAMPLE_BITS }
-        requires evaluations { All (λ e.
+        requires { All (λ e.
             FitsDomain F.TWO_ADICITY self.old.fri.log_blowup e.0.log_size e.1) evaluations.items }
-        ensures range { prover_range (parameters_of self.new.fri) F.TWO_ADICITY
-            C.MAX_SAMPLE_BITS }
+        ensures range { prover_range (parameters_of self.old.fri) F.TWO_ADICITY C.MAX_SAMPLE_BITS
+            → prover_range (parameters_of self.new.fri) F.TWO_ADICITY C.MAX_SAMPLE_BITS }
         ensures verifier_range { let n = F.TWO_ADICITY in
             verifier_range (parameters_of self.old.fri) n C.MAX_SAMPLE_BITS
             → verifier_range (parameters_of self.new.fri) n C.MAX_SAMPLE_BITS }
-        ensures kept { AreKeptBy ⟦<EF as ChallengeField<F>>⟧.fields InputMmcs.committed
-            self.old.fri.log_blowup self.new.fri.log_blowup }
+        ensures kept { self.new ≡ self.old }
         ensures unchanged { self.new ≡ self.old }
         ensures words { IfOk result (λ ldes. AllZip (λ matrix e. IsLowDegreeExtension
             F.ops F.root F.GENERATOR self.new.fri.log_blowup e.0.shift e.0.log_size e.1 matrix)
             ldes.items evaluations.items) }
+        ensures sizes { IfOk result (λ ldes. AllZip (λ lde e.
+            (held_in ⟦<EF as ChallengeField<F>>⟧.fields self.new.fri.log_blowup lde).size
+            ≡ 1 * 2 ^ e.0.log_size) ldes.items evaluations.items) }
+        ensures chunks { let fields = ⟦<EF as ChallengeField<F>>⟧.fields in
+            IfOk result (λ ldes. AllZip (λ lde e.
+            HasPolynomials (held_in fields self.new.fri.log_blowup lde)
+            (polynomials_on fields e.0.shift e.0.log_size e.1)) ldes.items evaluations.items) }
+        ensures recombined { let fields = ⟦<EF as ChallengeField<F>>⟧.fields in
+            IfOk result (λ ldes. (z : EF)
+            → recombined_on fields (map (λ d. d.log_size) (map (λ e. e.0) evaluations.items))
+            (map (λ d. d.shift) (map (λ e. e.0) evaluations.items))
+            (map (λ lde. (held_in fields self.new.fri.log_blowup lde).values_at z) ldes.items) z
+            ≡ recombined_on fields (map (λ d. d.log_size) (map (λ e. e.0) evaluations.items))
+            (map (λ d. d.shift) (map (λ e. e.0) evaluations.items))
+            (map (λ e. (polynomials_on fields e.0.shift e.0.log_size e.1).values_at z)
+            evaluations.items) z) }
         ensures committable { IfOk result (λ ldes.
             All (HasLdeHeight F.TWO_ADICITY self.new.fri.log_blowup) ldes.items) }
         ensures low_degree { IfOk result (λ ldes.
@@ -220,12 +246,16 @@ impl<
         alloc: Global,
         ldes: Vec<RowMajorMatrix<F>>,
     ) -> Result<(InputMmcs::Commitment, InputMmcs::ProverData), FriProverError>
-        requires range { prover_range (parameters_of self.now.fri) F.TWO_ADICITY
-            C.MAX_SAMPLE_BITS }
-        requires ldes { All (HasLdeHeight F.TWO_ADICITY self.now.fri.log_blowup) ldes.items }
+        requires { All (HasLdeHeight F.TWO_ADICITY self.now.fri.log_blowup) ldes.items }
         ensures matrices { IfOk result (λ pair. InputMmcs.committed pair.1 ≡ ldes.items) }
         ensures commitment { IfOk result (λ pair. InputMmcs.commitment_of pair.1 ≡ pair.0) }
+        ensures polynomials { let fields = ⟦<EF as ChallengeField<F>>⟧.fields in
+            IfOk result (λ pair.
+            map (held_in fields self.now.fri.log_blowup) (InputMmcs.committed pair.1)
+            ≡ map (held_in fields self.now.fri.log_blowup) ldes.items) }
         ensures openable { IfOk result (λ pair.
+            All (HasCoset F.TWO_ADICITY) (InputMmcs.committed pair.1)) }
+        ensures readable { IfOk result (λ pair.
             All (HasCoset F.TWO_ADICITY) (InputMmcs.committed pair.1)) }
         ensures honest { let holds = HoldsWords ⟦<EF as ChallengeField<F>>⟧.fields
             self.now.fri.log_blowup in
@@ -245,12 +275,10 @@ impl<
         index: usize,
         domain: TwoAdicMultiplicativeCoset<F>,
     ) -> Result<RowMajorMatrix<F>, FriProverError>
-        requires range { prover_range (parameters_of self.now.fri) F.TWO_ADICITY
-            C.MAX_SAMPLE_BITS }
-        requires evaluable { IsMatrixOf F.TWO_ADICITY (InputMmcs.committed prover_data.now)
+        requires { IsMatrixOf F.TWO_ADICITY (InputMmcs.committed prover_data.now)
             index }
         ensures values { let fields = ⟦<EF as ChallengeField<F>>⟧.fields in
-            All (HoldsWords fields self.now.fri.log_blowup) (InputMmcs.committed prover_data.now)
+            HoldsWordsAt fields self.now.fri.log_blowup (InputMmcs.committed prover_data.now) index
             → IfOk result (HoldsEvaluations EF.lift
             (λ i. EF.lift (coset_point F.ops (F.root domain.log_size) domain.shift i))
             (2 ^ domain.log_size) (held_at (held_of fields InputMmcs.committed
@@ -272,12 +300,10 @@ impl<
         index: usize,
         domain: TwoAdicMultiplicativeCoset<F>,
     ) -> Result<RowMajorMatrix<F>, FriProverError>
-        requires range { prover_range (parameters_of self.now.fri) F.TWO_ADICITY
-            C.MAX_SAMPLE_BITS }
-        requires evaluable { IsMatrixOf F.TWO_ADICITY (InputMmcs.committed prover_data.now)
+        requires { IsMatrixOf F.TWO_ADICITY (InputMmcs.committed prover_data.now)
             index }
         ensures values { let fields = ⟦<EF as ChallengeField<F>>⟧.fields in
-            All (HoldsWords fields self.now.fri.log_blowup) (InputMmcs.committed prover_data.now)
+            HoldsWordsAt fields self.now.fri.log_blowup (InputMmcs.committed prover_data.now) index
             → IfOk result (HoldsEvaluations EF.lift
             (λ i. EF.lift (coset_point F.ops (F.root domain.log_size) domain.shift i))
             (2 ^ domain.log_size) (held_at (held_of fields InputMmcs.committed
@@ -326,15 +352,12 @@ impl<
         _alloc: Global,
         _domains: Vec<TwoAdicMultiplicativeCoset<F>>,
     ) -> Result<Option<(InputMmcs::Commitment, InputMmcs::ProverData)>, FriProverError>
-        requires range { prover_range (parameters_of self.old.fri) F.TWO_ADICITY
-            C.MAX_SAMPLE_BITS }
-        ensures range { prover_range (parameters_of self.new.fri) F.TWO_ADICITY
-            C.MAX_SAMPLE_BITS }
+        ensures range { prover_range (parameters_of self.old.fri) F.TWO_ADICITY C.MAX_SAMPLE_BITS
+            → prover_range (parameters_of self.new.fri) F.TWO_ADICITY C.MAX_SAMPLE_BITS }
         ensures verifier_range { let n = F.TWO_ADICITY in
             verifier_range (parameters_of self.old.fri) n C.MAX_SAMPLE_BITS
             → verifier_range (parameters_of self.new.fri) n C.MAX_SAMPLE_BITS }
-        ensures kept { AreKeptBy ⟦<EF as ChallengeField<F>>⟧.fields InputMmcs.committed
-            self.old.fri.log_blowup self.new.fri.log_blowup }
+        ensures kept { self.new ≡ self.old }
         ensures unchanged { self.new ≡ self.old }
         ensures none { result ≡ Ok None }
     {
@@ -367,21 +390,18 @@ impl<
     ) -> Result<(), FriError<M::Error, InputMmcs::Error>>
         requires range { verifier_range (parameters_of self.now.fri) F.TWO_ADICITY
             C.MAX_SAMPLE_BITS }
-        ensures exactly { let s = two_adic ⟦<EF as ChallengeField<F>>⟧.fields
-            ⟦<C as Plays<F, EF, M::Commitment>>⟧.moves (InputMmcs.opens self.now.mmcs)
-            (M.opens self.now.fri.mmcs) in
+        ensures exactly { let s = ⟦<C as PlaysTwoAdic<F, EF, InputMmcs, M>>⟧.setting self.now.mmcs
+            self.now.fri.mmcs in
             result ≢ Err OutOfMemory → (IsOk result ↔ relation s (parameters_of self.now.fri)
             (relation_claims (λ d. d.log_size) (map claim claims.items)) (proof_of proof.now)
             challenger.old) }
-        ensures state { let s = two_adic ⟦<EF as ChallengeField<F>>⟧.fields
-            ⟦<C as Plays<F, EF, M::Commitment>>⟧.moves (InputMmcs.opens self.now.mmcs)
-            (M.opens self.now.fri.mmcs) in
+        ensures state { let s = ⟦<C as PlaysTwoAdic<F, EF, InputMmcs, M>>⟧.setting self.now.mmcs
+            self.now.fri.mmcs in
             IsOk result → challenger.new ≡ state_after s (parameters_of self.now.fri)
             (relation_claims (λ d. d.log_size) (map claim claims.items)) (proof_of proof.now)
             challenger.old }
-        ensures stands { let s = two_adic ⟦<EF as ChallengeField<F>>⟧.fields
-            ⟦<C as Plays<F, EF, M::Commitment>>⟧.moves (InputMmcs.opens self.now.mmcs)
-            (M.opens self.now.fri.mmcs) in
+        ensures stands { let s = ⟦<C as PlaysTwoAdic<F, EF, InputMmcs, M>>⟧.setting self.now.mmcs
+            self.now.fri.mmcs in
             IfErr result (StandsInScheme s (parameters_of self.now.fri)
             (relation_claims (λ d. d.log_size) (map claim claims.items)) (proof_of proof.now)
             challenger.old) }
@@ -415,5 +435,36 @@ impl<
 
     ghost plain_evaluable_law = { λ _ _ _ _ _. ((λ h. h), (λ h. h)) };
 
-    ghost plain_held_law = { λ _ _ _. refl };
+    ghost plain_whole_law = { λ _ _ _. refl };
+
+    ghost keeps_preprocessed_law = { λ _ _ _ _ h. h };
+
+    ghost keeps_readable_law = { λ _ _ _ _ h. h };
+
+    ghost keeps_extendable_law = { λ _ _ same evaluations _ h. subst (λ s. All (λ e. FitsDomain
+        F.TWO_ADICITY s.fri.log_blowup e.0.log_size e.1) evaluations) (sym same) h };
+
+    ghost keeps_words_law = { λ _ _ same m. ap (λ s. held_in
+        ⟦<EF as ChallengeField<F>>⟧.fields s.fri.log_blowup m) same };
+
+    ghost openable_readable_law = { λ _ _ h. h };
+
+    ghost preprocessed_readable_law = { λ _ _ h. h };
+
+    ghost opened_readable_law = { λ _ _ h. h };
+
+    ghost evaluable_law = { λ s d index _ readable columns. is_matrix_of
+        ⟦<EF as ChallengeField<F>>⟧.fields s.fri.log_blowup (InputMmcs.committed d) index readable
+        columns };
+
+    ghost evaluable_whole_law = { λ s d index _ readable columns. is_matrix_of
+        ⟦<EF as ChallengeField<F>>⟧.fields s.fri.log_blowup (InputMmcs.committed d) index readable
+        columns };
+
+    ghost honest_at_law = { λ s d index honest below. words_at
+        ⟦<EF as ChallengeField<F>>⟧.fields s.fri.log_blowup (InputMmcs.committed d) index honest
+        below };
+
+    ghost whole_law = { λ s d. all_shown (held_of ⟦<EF as ChallengeField<F>>⟧.fields
+        InputMmcs.committed s.fri.log_blowup d) };
 }

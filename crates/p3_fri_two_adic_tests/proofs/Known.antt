@@ -5,7 +5,7 @@ use Rattle.std.specs.List.{AllZip}
 use Rattle.std.proofs.lemmas.List.Elements.{All-cons, All-map}
 use Rattle.algebra.specs.Nested.{lists}
 use Rattle.p3_matrix.specs.declared.dense.RowMajorMatrix.{RowMajorMatrix}
-use Rattle.p3_pcs.specs.declared.claims.Known.{Known}
+use Rattle.p3_pcs.specs.declared.claims.KnownCommitment.{KnownCommitment}
 use Rattle.p3_pcs.specs.declared.requests.OpeningRequest.{OpeningRequest}
 use Rattle.p3_pcs.specs.Requests.{Held, Request, AreHonest, FitDomains, request}
 use Rattle.p3_fri_relation.specs.Setting.{Fields}
@@ -42,7 +42,7 @@ module _ {D E : Type 0} (r : OpeningRequest D E) where
 
   -- known domains of the sizes of what is held fit it
   pub one_fits : {Com Domain : Type 0} (held : D → List (Held E)) (domain_size : Domain → ℕ)
-      (known : Known Com Domain) (ks : List (Known Com Domain)) (rs : List (OpeningRequest D E))
+      (known : KnownCommitment Com Domain) (ks : List (KnownCommitment Com Domain)) (rs : List (OpeningRequest D E))
       → ks ≡ known ∷ [] → rs ≡ r ∷ []
       → map domain_size known.domains.items ≡ map (λ m. m.size) (held r.prover_data.now)
       → FitDomains held domain_size (map (λ k. k.domains.items) ks) (map request rs)

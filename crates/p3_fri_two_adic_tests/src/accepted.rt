@@ -1,12 +1,12 @@
 //! Openings that are accepted, with the values and the final polynomials worked out by hand.
 
-use crate::opened::{Opened, Points, open_well};
+use crate::answers::answer_to;
+use crate::opened::{Opened, Points, are_values, open_well};
 use crate::replayed::replayed;
-use crate::scheme::{Proof, Setting, answer, constant, constants, plain};
-use p3_challenger::Sha256Challenger;
-use p3_commit::OpenedValues;
+use crate::scheme::{PLAIN, Proof, Setting, constant};
 use p3_field::{BabyBear4, Field};
-use std::alloc::{AllocError, Global};
+use std::alloc::Global;
+use std::process::Abort;
 use std::test::Fail;
 
 /// The values of `2 - X`.
@@ -43,45 +43,142 @@ enum Last {
 
 /// What is opened, and what comes of it.
 #[derive(Clone, Copy)]
-struct Row<'a> {
+struct Case {
+    name: &'static str,
     setting: Setting,
-    batches: &'a [&'a [&'a [u64]]],
-    points: Points<'a>,
-    values: &'a [u64],
-    log_heights: &'a [usize],
-    arities: &'a [usize],
+    batches: Points<'static>,
+    points: Points<'static>,
+    values: Points<'static>,
+    log_heights: &'static [usize],
+    /// How many entries a row has that a round folds.
+    arities: &'static [usize],
     last: Last,
 }
 
-/// All values, in order.
-fn flat(alloc: Global, values: &OpenedValues<BabyBear4>) -> Result<Vec<BabyBear4>, AllocError> {
-    let mut all = Vec::new(alloc);
-    for matrices in values {
-        for points in matrices {
-            for columns in points {
-                for value in columns {
-                    all.push(*value)?;
-                }
-            }
-        }
-    }
-    Ok(all)
-}
+const ONE_COMMITMENT: [Case; 7] = [
+    Case {
+        name: "a line at one point",
+        setting: PLAIN,
+        batches: &[&[&LINE]],
+        points: &[&[&[5]]],
+        values: &[&[&[2_013_265_918]]],
+        log_heights: &[2],
+        arities: &[2],
+        last: Last::Number(2_013_265_920),
+    },
+    Case {
+        name: "a constant",
+        setting: PLAIN,
+        batches: &[&[&[9]]],
+        points: &[&[&[2]]],
+        values: &[&[&[9]]],
+        log_heights: &[1],
+        arities: &[],
+        last: Last::Number(0),
+    },
+    Case {
+        name: "a constant at zero",
+        setting: PLAIN,
+        batches: &[&[&[9]]],
+        points: &[&[&[0]]],
+        values: &[&[&[9]]],
+        log_heights: &[1],
+        arities: &[],
+        last: Last::Number(0),
+    },
+    Case {
+        name: "a square folded by four",
+        setting: Setting {
+            max_log_arity: 2,
+            ..PLAIN
+        },
+        batches: &[&[&SQUARE]],
+        points: &[&[&[5]]],
+        values: &[&[&[25]]],
+        log_heights: &[3],
+        arities: &[4],
+        last: Last::SquareFolded,
+    },
+    Case {
+        name: "a line at two points",
+        setting: PLAIN,
+        batches: &[&[&LINE]],
+        points: &[&[&[5, 7]]],
+        values: &[&[&[2_013_265_918, 2_013_265_916]]],
+        log_heights: &[2],
+        arities: &[2],
+        last: Last::TwoLines,
+    },
+    Case {
+        name: "a line at two points, the other way round",
+        setting: PLAIN,
+        batches: &[&[&LINE]],
+        points: &[&[&[7, 5]]],
+        values: &[&[&[2_013_265_916, 2_013_265_918]]],
+        log_heights: &[2],
+        arities: &[2],
+        last: Last::TwoLines,
+    },
+    Case {
+        name: "a constant, folded to two coefficients",
+        setting: Setting {
+            log_final_poly_len: 1,
+            ..PLAIN
+        },
+        batches: &[&[&[1, 1, 1, 1]]],
+        points: &[&[&[2]]],
+        values: &[&[&[1]]],
+        log_heights: &[3],
+        arities: &[2],
+        last: Last::Number(0),
+    },
+];
 
-/// How many entries a row has that a round folds, by its first query.
-fn arities(alloc: Global, proof: &Proof) -> Result<Vec<usize>, Fail> {
-    let mut all = Vec::new(alloc);
-    if proof.commit_phase_commits.len() != proof.commit_phase_openings.len() {
-        return Err(Fail::new("a round isn't opened"));
-    }
-    for round in &proof.commit_phase_openings {
-        let Some(siblings) = round.sibling_values.first() else {
-            return Err(Fail::new("no query"));
-        };
-        all.push(siblings.len().saturating_add(1))?;
-    }
-    Ok(all)
-}
+const SEVERAL_MATRICES: [Case; 4] = [
+    Case {
+        name: "a square and a line",
+        setting: Setting {
+            max_log_arity: 3,
+            ..PLAIN
+        },
+        batches: &[&[&SQUARE, &LINE]],
+        points: &[&[&[5], &[5]]],
+        values: &[&[&[25], &[2_013_265_918]]],
+        log_heights: &[3, 2],
+        arities: &[2, 2],
+        last: Last::LineRolledIn,
+    },
+    Case {
+        name: "two commitments to a line",
+        setting: PLAIN,
+        batches: &[&[&LINE], &[&LINE]],
+        points: &[&[&[5]], &[&[5]]],
+        values: &[&[&[2_013_265_918]], &[&[2_013_265_918]]],
+        log_heights: &[2],
+        arities: &[2],
+        last: Last::TwoLines,
+    },
+    Case {
+        name: "a commitment to nothing, and one to a line",
+        setting: PLAIN,
+        batches: &[&[], &[&LINE]],
+        points: &[&[], &[&[5]]],
+        values: &[&[], &[&[2_013_265_918]]],
+        log_heights: &[2],
+        arities: &[2],
+        last: Last::Number(2_013_265_920),
+    },
+    Case {
+        name: "a constant, a line and a fourth power",
+        setting: PLAIN,
+        batches: &[&[&[9], &LINE, &FOURTH]],
+        points: &[&[&[5], &[5], &[5]]],
+        values: &[&[&[9], &[2_013_265_918], &[625]]],
+        log_heights: &[4, 2, 1],
+        arities: &[2, 2, 2],
+        last: Last::FourthFolded,
+    },
+];
 
 /// The constant for these challenges.
 fn constant_of(last: Last, alpha: BabyBear4, betas: &[BabyBear4]) -> BabyBear4 {
@@ -101,179 +198,64 @@ fn constant_of(last: Last, alpha: BabyBear4, betas: &[BabyBear4]) -> BabyBear4 {
     }
 }
 
-/// The final polynomial of that constant.
-fn final_poly(alloc: Global, setting: Setting, first: BabyBear4) -> Result<Vec<BabyBear4>, Fail> {
-    if setting.log_final_poly_len > 8 {
-        return Err(Fail::new("a long polynomial"));
+/// Whether a round for each of these folds rows of so many entries, by its first query.
+fn are_arities(proof: &Proof, arities: &[usize]) -> bool {
+    for (round, arity) in proof.commit_phase_openings.iter().zip(arities) {
+        let Some(siblings) = round.sibling_values.first() else {
+            return false;
+        };
+        if siblings.len().saturating_add(1) != *arity {
+            return false;
+        }
     }
-    let mut coefficients = vec![in alloc; first]?;
-    for _ in 1..(1_usize << setting.log_final_poly_len) {
-        coefficients.push(BabyBear4::ZERO)?;
-    }
-    Ok(coefficients)
+    proof.commit_phase_openings.len() == arities.len()
+        && proof.commit_phase_commits.len() == arities.len()
 }
 
-/// What comes of an opening: its values, the arities of its rounds, its final polynomial, the
-/// verifier's answer, and whether both challengers end equal.
-type Outcome = (Vec<BabyBear4>, Vec<usize>, Vec<BabyBear4>, String, bool);
+/// Whether it has `2^log_len` coefficients, the first this one and the others zero.
+fn is_final_poly(coefficients: &[BabyBear4], log_len: usize, first: BabyBear4) -> bool {
+    for (index, coefficient) in coefficients.iter().enumerate() {
+        if *coefficient != (if index == 0 { first } else { BabyBear4::ZERO }) {
+            return false;
+        }
+    }
+    log_len < 64 && coefficients.len() == 1 << log_len
+}
 
-/// What the row says that comes of it, where that is the final polynomial's constant.
-fn expected_of(alloc: Global, row: Row<'_>, first: BabyBear4) -> Result<Outcome, Fail> {
-    Ok((
-        constants(alloc, row.values)?,
-        Vec::from_slice(alloc, row.arities)?,
-        final_poly(alloc, row.setting, first)?,
-        format!(in alloc; "accepted")?,
-        true,
+/// Whether the opening's final polynomial is that of the case, where the transcripts end as it did.
+fn has_final_poly(alloc: Global, case: &Case, opened: &Opened) -> Result<bool, Fail> {
+    let drawn = replayed(alloc, case.setting, case.log_heights, opened)?;
+    let first = constant_of(case.last, drawn.alpha, &drawn.betas);
+    Ok(is_final_poly(
+        &opened.proof.final_poly,
+        case.setting.log_final_poly_len,
+        first,
     ))
 }
 
-/// What comes of a row, and what it says that does.
-fn come_of(alloc: Global, row: Row<'_>) -> Result<(Outcome, Outcome), Fail> {
-    let opened = open_well(alloc, row.setting, row.batches, row.points)?;
-    let replayed = replayed(alloc, row.setting, row.log_heights, &opened)?;
-    let first = constant_of(row.last, replayed.alpha, &replayed.betas);
-    let Opened {
-        values,
-        proof,
-        claims,
-        challenger,
-    } = opened;
-    let mut verifier = Sha256Challenger::new();
-    let answer = answer(alloc, row.setting, claims, &proof, &mut verifier)?;
-    let found = (
-        flat(alloc, &values)?,
-        arities(alloc, &proof)?,
-        proof.final_poly,
-        answer,
-        verifier == challenger,
-    );
-    let expected = expected_of(alloc, row, first)?;
-    Ok((found, expected))
+/// Whether this comes of what is opened, and is accepted by a verifier that ends as the prover.
+fn is_met(alloc: Global, case: &Case) -> Result<bool, Fail> {
+    let opened = open_well(alloc, case.setting, case.batches, case.points)?;
+    let is_as_expected = are_values(&opened.values, case.values)
+        && are_arities(&opened.proof, case.arities)
+        && has_final_poly(alloc, case, &opened)?;
+    let answer = answer_to(alloc, case.setting, opened)?;
+    Ok(is_as_expected && answer.same && answer.text.as_str() == "accepted")
+}
+
+fn assert_all(rt: &impl Abort, alloc: Global, cases: &[Case]) -> Result<(), Fail> {
+    for case in cases {
+        assert!(rt; is_met(alloc, case)?, "{}", case.name);
+    }
+    Ok(())
 }
 
 #[test]
 fn one_commitment_is_opened(rt: HostRuntime) -> Result<(), Fail> {
-    let rows = [
-        Row {
-            setting: plain(1),
-            batches: &[&[&LINE]],
-            points: &[&[&[5]]],
-            values: &[2_013_265_918],
-            log_heights: &[2],
-            arities: &[2],
-            last: Last::Number(2_013_265_920),
-        },
-        Row {
-            setting: plain(1),
-            batches: &[&[&[9]]],
-            points: &[&[&[2]]],
-            values: &[9],
-            log_heights: &[1],
-            arities: &[],
-            last: Last::Number(0),
-        },
-        Row {
-            setting: plain(1),
-            batches: &[&[&[9]]],
-            points: &[&[&[0]]],
-            values: &[9],
-            log_heights: &[1],
-            arities: &[],
-            last: Last::Number(0),
-        },
-        Row {
-            setting: plain(2),
-            batches: &[&[&SQUARE]],
-            points: &[&[&[5]]],
-            values: &[25],
-            log_heights: &[3],
-            arities: &[4],
-            last: Last::SquareFolded,
-        },
-        Row {
-            setting: plain(1),
-            batches: &[&[&LINE]],
-            points: &[&[&[5, 7]]],
-            values: &[2_013_265_918, 2_013_265_916],
-            log_heights: &[2],
-            arities: &[2],
-            last: Last::TwoLines,
-        },
-        Row {
-            setting: plain(1),
-            batches: &[&[&LINE]],
-            points: &[&[&[7, 5]]],
-            values: &[2_013_265_916, 2_013_265_918],
-            log_heights: &[2],
-            arities: &[2],
-            last: Last::TwoLines,
-        },
-        Row {
-            setting: Setting {
-                log_blowup: 1,
-                log_final_poly_len: 1,
-                max_log_arity: 1,
-                work: None,
-            },
-            batches: &[&[&[1, 1, 1, 1]]],
-            points: &[&[&[2]]],
-            values: &[1],
-            log_heights: &[3],
-            arities: &[2],
-            last: Last::Number(0),
-        },
-    ];
-    for row in rows {
-        let (found, expected) = come_of(rt.alloc(), row)?;
-        assert_eq!(rt; found, expected);
-    }
-    Ok(())
+    assert_all(&rt, rt.alloc(), &ONE_COMMITMENT)
 }
 
 #[test]
 fn several_matrices_are_opened(rt: HostRuntime) -> Result<(), Fail> {
-    let rows = [
-        Row {
-            setting: plain(3),
-            batches: &[&[&SQUARE, &LINE]],
-            points: &[&[&[5], &[5]]],
-            values: &[25, 2_013_265_918],
-            log_heights: &[3, 2],
-            arities: &[2, 2],
-            last: Last::LineRolledIn,
-        },
-        Row {
-            setting: plain(1),
-            batches: &[&[&LINE], &[&LINE]],
-            points: &[&[&[5]], &[&[5]]],
-            values: &[2_013_265_918, 2_013_265_918],
-            log_heights: &[2],
-            arities: &[2],
-            last: Last::TwoLines,
-        },
-        Row {
-            setting: plain(1),
-            batches: &[&[], &[&LINE]],
-            points: &[&[], &[&[5]]],
-            values: &[2_013_265_918],
-            log_heights: &[2],
-            arities: &[2],
-            last: Last::Number(2_013_265_920),
-        },
-        Row {
-            setting: plain(1),
-            batches: &[&[&[9], &LINE, &FOURTH]],
-            points: &[&[&[5], &[5], &[5]]],
-            values: &[9, 2_013_265_918, 625],
-            log_heights: &[4, 2, 1],
-            arities: &[2, 2, 2],
-            last: Last::FourthFolded,
-        },
-    ];
-    for row in rows {
-        let (found, expected) = come_of(rt.alloc(), row)?;
-        assert_eq!(rt; found, expected);
-    }
-    Ok(())
+    assert_all(&rt, rt.alloc(), &SEVERAL_MATRICES)
 }

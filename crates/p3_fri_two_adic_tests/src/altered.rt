@@ -1,16 +1,17 @@
 //! What the verifier answers to other claims and proofs than were made.
 
 use crate::accepted::{LINE, SQUARE};
+use crate::answers::{Answer, answer_to};
 use crate::opened::{Opened, open_well};
-use crate::scheme::{Claims, Domain, Proof, answer, constant, plain};
-use p3_challenger::Sha256Challenger;
-use p3_commit::CommitmentOpening;
+use crate::scheme::{Claims, Domain, PLAIN, Proof, constant};
 use p3_field::{BabyBear, BabyBear4, Field, TwoAdicMultiplicativeCoset};
+use p3_mmcs::{CommitmentOpening, MatrixOpening};
 use std::alloc::{AllocError, Global};
+use std::process::Abort;
 use std::test::Fail;
 
 /// What is changed in the opening of `2 - X` at 5.
-#[derive(Clone, Copy)]
+#[derive(Clone, Copy, Debug)]
 enum Change {
     Nothing,
     NoRoundOpenings,
@@ -34,84 +35,213 @@ enum Change {
     LargestDomain,
     OtherShift,
     Claim,
+    /// Of a second matrix, that holds `X^2`, the value stands at the first.
+    MovedValue,
 }
 
-/// The rounds' openings with that change, where it is one of theirs.
-fn change_rounds(proof: &mut Proof, change: Change) -> Result<(), Fail> {
-    if let Change::NoRoundOpenings = change {
-        proof.commit_phase_openings.clear();
-    }
-    for round in proof.commit_phase_openings.iter_mut().take(1) {
-        match change {
-            Change::SecondSibling => {
-                for siblings in round.sibling_values.iter_mut().take(1) {
-                    siblings.push(BabyBear4::ZERO)?;
-                }
-            },
-            Change::NoSiblings => round.sibling_values.clear(),
-            Change::NoRoundPath => {
-                for path in round.opening_proof.iter_mut().take(1) {
-                    path.clear();
-                }
-            },
-            _ => {},
-        }
+/// What the verifier answers.
+#[derive(Clone, Copy)]
+enum Expected {
+    /// It accepts, and ends as the prover.
+    Accepted,
+    Refused,
+    Named(&'static str),
+    /// It refuses before the challenger is touched.
+    NamedAtOnce(&'static str),
+}
+
+const NAMED: [(Change, Expected); 15] = [
+    (
+        Change::NoRoundOpenings,
+        Expected::Named("CommitPhaseOpeningsCountMismatch { expected: 1, got: 0 }"),
+    ),
+    (
+        Change::NoRoundCommitments,
+        Expected::Named("CommitRoundCountMismatch { expected: 1, got: 0 }"),
+    ),
+    (
+        Change::NoRoundWitnesses,
+        Expected::Named("CommitPowWitnessCountMismatch { expected: 1, got: 0 }"),
+    ),
+    (
+        Change::SecondCoefficient,
+        Expected::Named("FinalPolyLengthMismatch { expected: 1, got: 2 }"),
+    ),
+    (
+        Change::SecondSibling,
+        Expected::Named("SiblingValuesLengthMismatch { round: 0, expected: 1, got: 2 }"),
+    ),
+    (
+        Change::NoSiblings,
+        Expected::Named("CommitPhaseQueryCountMismatch { round: 0, expected: 2, got: 0 }"),
+    ),
+    (
+        Change::NoRoundPath,
+        Expected::Named("CommitPhaseMmcsError(PathLength)"),
+    ),
+    (
+        Change::NoInputOpenings,
+        Expected::Named("InputProofBatchCountMismatch { expected: 1, got: 0 }"),
+    ),
+    (
+        Change::OneRowSet,
+        Expected::Named("InputOpeningsQueryCountMismatch { batch: 0, expected: 2, got: 1 }"),
+    ),
+    (
+        Change::NoRows,
+        Expected::Named("BatchOpenedValuesCountMismatch { batch: 0, expected: 1, got: 0 }"),
+    ),
+    (
+        Change::ShortInputPath,
+        Expected::Named("InputError(PathLength)"),
+    ),
+    (
+        Change::EmptyCommitment,
+        Expected::Named("InputProofBatchCountMismatch { expected: 2, got: 1 }"),
+    ),
+    (
+        Change::NoCommitments,
+        Expected::Named("NoCommittedMatrices"),
+    ),
+    (
+        Change::NoPoints,
+        Expected::Named("MatrixWithoutOpeningPoints { batch: 0, matrix: 0 }"),
+    ),
+    (
+        Change::LargestDomain,
+        Expected::Named("GlobalMaxHeightTooLarge { log_global_max_height: 28, two_adicity: 27 }"),
+    ),
+];
+
+const WITNESSES: [(Change, Expected); 3] = [
+    (
+        Change::BatchWitness,
+        Expected::NamedAtOnce("NonCanonicalPowWitness { phase: Batch }"),
+    ),
+    (
+        Change::RoundWitness,
+        Expected::NamedAtOnce("NonCanonicalPowWitness { phase: CommitPhase }"),
+    ),
+    (
+        Change::QueryWitness,
+        Expected::NamedAtOnce("NonCanonicalPowWitness { phase: Query }"),
+    ),
+];
+
+const VALUES: [(Change, Expected); 3] = [
+    (Change::Claim, Expected::Refused),
+    (Change::ZeroPolynomial, Expected::Refused),
+    (Change::MovedValue, Expected::Refused),
+];
+
+const SHIFTS: [(Change, Expected); 2] = [
+    (Change::Nothing, Expected::Accepted),
+    (Change::OtherShift, Expected::Accepted),
+];
+
+/// The first round's openings with that change, where it is one of theirs.
+fn change_round(proof: &mut Proof, change: Change) -> Result<(), AllocError> {
+    let Some(round) = proof.commit_phase_openings.first_mut() else {
+        return Ok(());
+    };
+    match change {
+        Change::SecondSibling => {
+            if let Some(siblings) = round.sibling_values.first_mut() {
+                siblings.push(BabyBear4::ZERO)?;
+            }
+        },
+        Change::NoSiblings => round.sibling_values.clear(),
+        Change::NoRoundPath => {
+            if let Some(path) = round.opening_proof.first_mut() {
+                path.clear();
+            }
+        },
+        _ => {},
     }
     Ok(())
 }
 
-/// The inputs' openings with that change, where it is one of theirs.
-fn change_inputs(proof: &mut Proof, change: Change) {
-    if let Change::NoInputOpenings = change {
-        proof.input_openings.clear();
-    }
-    for opening in proof.input_openings.iter_mut() {
-        match change {
-            Change::OneRowSet => opening.opened_values.truncate(1),
-            Change::NoRows => {
-                for rows in opening.opened_values.iter_mut().take(1) {
-                    rows.clear();
-                }
-            },
-            Change::ShortInputPath => {
-                for path in opening.opening_proof.iter_mut().take(1) {
-                    path.truncate(1);
-                }
-            },
-            _ => {},
-        }
+/// The inputs' opening with that change, where it is one of theirs.
+fn change_input(proof: &mut Proof, change: Change) {
+    let Some(opening) = proof.input_openings.first_mut() else {
+        return;
+    };
+    match change {
+        Change::OneRowSet => opening.opened_values.truncate(1),
+        Change::NoRows => {
+            if let Some(rows) = opening.opened_values.first_mut() {
+                rows.clear();
+            }
+        },
+        Change::ShortInputPath => {
+            if let Some(path) = opening.opening_proof.first_mut() {
+                path.truncate(1);
+            }
+        },
+        _ => {},
     }
 }
 
-/// The proof with that change, where it is one of the proof.
-fn change_proof(proof: &mut Proof, change: Change) -> Result<(), Fail> {
-    change_rounds(proof, change)?;
-    change_inputs(proof, change);
+/// The proof's own lists with that change, where it is one of theirs.
+fn change_lists(proof: &mut Proof, change: Change) -> Result<(), AllocError> {
     match change {
+        Change::NoRoundOpenings => proof.commit_phase_openings.clear(),
+        Change::NoInputOpenings => proof.input_openings.clear(),
         Change::NoRoundCommitments => proof.commit_phase_commits.clear(),
         Change::NoRoundWitnesses => proof.commit_pow_witnesses.clear(),
         Change::SecondCoefficient => proof.final_poly.push(BabyBear4::ZERO)?,
-        Change::ZeroPolynomial => {
-            for coefficient in proof.final_poly.iter_mut() {
-                *coefficient = BabyBear4::ZERO;
-            }
-        },
+        Change::ZeroPolynomial => proof.final_poly.fill(BabyBear4::ZERO),
         Change::BatchWitness => proof.batch_pow_witness = BabyBear::ONE,
-        Change::RoundWitness => {
-            for witness in proof.commit_pow_witnesses.iter_mut() {
-                *witness = BabyBear::ONE;
-            }
-        },
+        Change::RoundWitness => proof.commit_pow_witnesses.fill(BabyBear::ONE),
         Change::QueryWitness => proof.query_pow_witness = BabyBear::ONE,
         _ => {},
     }
     Ok(())
 }
 
+/// Another domain, of the shift of the generator, or the largest one of shift one.
+fn other_domain(change: Change) -> Option<Domain> {
+    match change {
+        Change::LargestDomain => TwoAdicMultiplicativeCoset::new(BabyBear::ONE, 27),
+        Change::OtherShift => TwoAdicMultiplicativeCoset::new(BabyBear::GENERATOR, 1),
+        _ => None,
+    }
+}
+
+/// The claim of a matrix with that change, where it is one of its.
+fn change_matrix(matrix: &mut MatrixOpening<BabyBear4, Domain>, change: Change) {
+    if let Some(domain) = other_domain(change) {
+        matrix.domain = domain;
+    }
+    if let Change::NoPoints = change {
+        matrix.points.clear();
+    }
+    let Some(opening) = matrix.points.first_mut() else {
+        return;
+    };
+    match change {
+        Change::Claim => opening.values.fill(constant(2_013_265_917)),
+        _ => {},
+    }
+}
+
+/// Moves the value that is claimed of the first matrix to the second.
+fn move_value(matrices: &mut [MatrixOpening<BabyBear4, Domain>]) -> Result<(), AllocError> {
+    let mut moved = None;
+    for matrix in matrices.iter_mut() {
+        for opening in matrix.points.iter_mut() {
+            let held = moved;
+            match held {
+                None => moved = opening.values.pop(),
+                Some(value) => opening.values.push(value)?,
+            }
+        }
+    }
+    Ok(())
+}
+
 /// The claims with that change, where it is one of the claims.
-fn change_claims(alloc: Global, claims: &mut Claims, change: Change) -> Result<(), Fail> {
-    let largest: Domain = TwoAdicMultiplicativeCoset::new(BabyBear::ONE, 27).ok_or("a domain")?;
-    let other = TwoAdicMultiplicativeCoset::new(BabyBear::GENERATOR, 1).ok_or("a domain")?;
+fn change_claims(alloc: Global, claims: &mut Claims, change: Change) -> Result<(), AllocError> {
     match change {
         Change::NoCommitments => claims.clear(),
         Change::EmptyCommitment => claims.push(CommitmentOpening {
@@ -120,186 +250,72 @@ fn change_claims(alloc: Global, claims: &mut Claims, change: Change) -> Result<(
         })?,
         _ => {},
     }
-    for claim in claims.iter_mut() {
-        for matrix in claim.matrices.iter_mut() {
-            match change {
-                Change::NoPoints => matrix.points.clear(),
-                Change::LargestDomain => matrix.domain = largest,
-                Change::OtherShift => matrix.domain = other,
-                Change::Claim => {
-                    for opening in matrix.points.iter_mut() {
-                        for value in opening.values.iter_mut() {
-                            *value = constant(2_013_265_917);
-                        }
-                    }
-                },
-                _ => {},
-            }
-        }
+    let Some(claim) = claims.first_mut() else {
+        return Ok(());
+    };
+    if let Some(matrix) = claim.matrices.first_mut() {
+        change_matrix(matrix, change);
+    }
+    match change {
+        Change::MovedValue => move_value(&mut claim.matrices),
+        _ => Ok(()),
+    }
+}
+
+/// The opening of `2 - X` at 5, or of `X^2` and `2 - X`, with that change.
+fn altered(alloc: Global, change: Change) -> Result<Opened, Fail> {
+    let mut opened = match change {
+        Change::MovedValue => open_well(alloc, PLAIN, &[&[&SQUARE, &LINE]], &[&[&[5], &[5]]])?,
+        _ => open_well(alloc, PLAIN, &[&[&LINE]], &[&[&[5]]])?,
+    };
+    change_round(&mut opened.proof, change)?;
+    change_input(&mut opened.proof, change);
+    change_lists(&mut opened.proof, change)?;
+    change_claims(alloc, &mut opened.claims, change)?;
+    Ok(opened)
+}
+
+/// Whether this is the answer.
+fn is_expected(answer: &Answer, expected: Expected) -> bool {
+    let text = answer.text.as_str();
+    match expected {
+        Expected::Accepted => text == "accepted" && answer.same,
+        Expected::Refused => text != "accepted",
+        Expected::Named(name) => text == name,
+        Expected::NamedAtOnce(name) => text == name && answer.unmoved,
+    }
+}
+
+/// Whether the verifier answers so to that change.
+fn is_met(alloc: Global, change: Change, expected: Expected) -> Result<bool, Fail> {
+    let opened = altered(alloc, change)?;
+    let answer = answer_to(alloc, PLAIN, opened)?;
+    Ok(is_expected(&answer, expected))
+}
+
+fn assert_all(rt: &impl Abort, alloc: Global, cases: &[(Change, Expected)]) -> Result<(), Fail> {
+    for (change, expected) in cases {
+        assert!(rt; is_met(alloc, *change, *expected)?, "{change:?}");
     }
     Ok(())
-}
-
-/// An answer, and where it leaves the verifier's challenger.
-#[derive(Drop)]
-struct Answer {
-    text: String,
-    /// It is as it was.
-    unmoved: bool,
-    /// It is as the prover's.
-    same: bool,
-}
-
-/// The answer to that change.
-fn answer_to(alloc: Global, change: Change) -> Result<Answer, Fail> {
-    let Opened {
-        mut proof,
-        mut claims,
-        challenger,
-        ..
-    } = open_well(alloc, plain(1), &[&[&LINE]], &[&[&[5]]])?;
-    change_proof(&mut proof, change)?;
-    change_claims(alloc, &mut claims, change)?;
-    let mut verifier = Sha256Challenger::new();
-    let text = answer(alloc, plain(1), claims, &proof, &mut verifier)?;
-    Ok(Answer {
-        text,
-        unmoved: verifier == Sha256Challenger::new(),
-        same: verifier == challenger,
-    })
 }
 
 #[test]
 fn altered_openings_are_named(rt: HostRuntime) -> Result<(), Fail> {
-    let rows = [
-        (Change::Nothing, "accepted"),
-        (
-            Change::NoRoundOpenings,
-            "CommitPhaseOpeningsCountMismatch { expected: 1, got: 0 }",
-        ),
-        (
-            Change::NoRoundCommitments,
-            "CommitRoundCountMismatch { expected: 1, got: 0 }",
-        ),
-        (
-            Change::NoRoundWitnesses,
-            "CommitPowWitnessCountMismatch { expected: 1, got: 0 }",
-        ),
-        (
-            Change::SecondCoefficient,
-            "FinalPolyLengthMismatch { expected: 1, got: 2 }",
-        ),
-        (
-            Change::SecondSibling,
-            "SiblingValuesLengthMismatch { round: 0, expected: 1, got: 2 }",
-        ),
-        (
-            Change::NoSiblings,
-            "CommitPhaseQueryCountMismatch { round: 0, expected: 2, got: 0 }",
-        ),
-        (Change::NoRoundPath, "CommitPhaseMmcsError(PathLength)"),
-        (
-            Change::NoInputOpenings,
-            "InputProofBatchCountMismatch { expected: 1, got: 0 }",
-        ),
-        (
-            Change::OneRowSet,
-            "InputOpeningsQueryCountMismatch { batch: 0, expected: 2, got: 1 }",
-        ),
-        (
-            Change::NoRows,
-            "BatchOpenedValuesCountMismatch { batch: 0, expected: 1, got: 0 }",
-        ),
-        (Change::ShortInputPath, "InputError(PathLength)"),
-        (
-            Change::EmptyCommitment,
-            "InputProofBatchCountMismatch { expected: 2, got: 1 }",
-        ),
-        (Change::NoCommitments, "NoCommittedMatrices"),
-        (
-            Change::NoPoints,
-            "MatrixWithoutOpeningPoints { batch: 0, matrix: 0 }",
-        ),
-        (
-            Change::LargestDomain,
-            "GlobalMaxHeightTooLarge { log_global_max_height: 28, two_adicity: 27 }",
-        ),
-    ];
-    for (change, expected) in rows {
-        let answer = answer_to(rt.alloc(), change)?;
-        assert_eq!(rt; answer.text.as_str(), expected);
-    }
-    Ok(())
+    assert_all(&rt, rt.alloc(), &NAMED)
 }
 
 #[test]
 fn witnesses_that_were_not_asked_for_are_refused(rt: HostRuntime) -> Result<(), Fail> {
-    let rows = [
-        (
-            Change::BatchWitness,
-            "NonCanonicalPowWitness { phase: Batch }",
-        ),
-        (
-            Change::RoundWitness,
-            "NonCanonicalPowWitness { phase: CommitPhase }",
-        ),
-        (
-            Change::QueryWitness,
-            "NonCanonicalPowWitness { phase: Query }",
-        ),
-    ];
-    for (change, expected) in rows {
-        let answer = answer_to(rt.alloc(), change)?;
-        assert_eq!(rt; (answer.text.as_str(), answer.unmoved), (expected, true));
-    }
-    Ok(())
+    assert_all(&rt, rt.alloc(), &WITNESSES)
 }
 
 #[test]
 fn another_value_is_refused(rt: HostRuntime) -> Result<(), Fail> {
-    for change in [Change::Claim, Change::ZeroPolynomial] {
-        let answer = answer_to(rt.alloc(), change)?;
-        assert!(rt; answer.text.as_str() != "accepted");
-    }
-    Ok(())
+    assert_all(&rt, rt.alloc(), &VALUES)
 }
 
 #[test]
 fn a_claimed_shift_is_not_read(rt: HostRuntime) -> Result<(), Fail> {
-    for change in [Change::Nothing, Change::OtherShift] {
-        let answer = answer_to(rt.alloc(), change)?;
-        assert_eq!(rt; (answer.text.as_str(), answer.same), ("accepted", true));
-    }
-    Ok(())
-}
-
-/// Moves the first value that is claimed to the matrix after its own.
-fn move_a_value(claims: &mut Claims) -> Result<(), AllocError> {
-    let mut moved = None;
-    for claim in claims.iter_mut() {
-        for matrix in claim.matrices.iter_mut() {
-            for opening in matrix.points.iter_mut() {
-                let held = moved;
-                match held {
-                    None => moved = opening.values.pop(),
-                    Some(value) => opening.values.push(value)?,
-                }
-            }
-        }
-    }
-    Ok(())
-}
-
-#[test]
-fn a_value_moved_to_another_matrix_is_refused(rt: HostRuntime) -> Result<(), Fail> {
-    let Opened {
-        proof,
-        mut claims,
-        ..
-    } = open_well(rt.alloc(), plain(1), &[&[&SQUARE, &LINE]], &[&[&[5], &[5]]])?;
-    move_a_value(&mut claims)?;
-    let mut challenger = Sha256Challenger::new();
-    let text = answer(rt.alloc(), plain(1), claims, &proof, &mut challenger)?;
-    assert!(rt; text.as_str() != "accepted");
-    Ok(())
+    assert_all(&rt, rt.alloc(), &SHIFTS)
 }

@@ -6,10 +6,10 @@ ghost use Rattle.p3_fri_completeness.specs.Requests.{HoldsWords, held_of};
 
 use crate::scheme::{Data, Domain, Inputs, Scheme, Setting, scheme};
 use p3_challenger::Sha256Challenger;
-use p3_commit::Mmcs;
 use p3_field::{BabyBear, BabyBear4, Field, TwoAdicMultiplicativeCoset};
 use p3_fri_relation::setting::ChallengeField;
 use p3_matrix::RowMajorMatrix;
+use p3_mmcs::Mmcs;
 use p3_pcs::Pcs;
 use std::alloc::{AllocError, Global};
 use std::test::Fail;

@@ -3,13 +3,12 @@
 use crate::accepted::{LINE, SQUARE};
 use crate::committed::{Committed, commit};
 use crate::openable::{are_openable, have_some_point};
-use crate::opened::points_of;
-use crate::scheme::{Inputs, Proof, Setting, constants, plain, scheme};
+use crate::opened::{Points, are_values, points_of};
+use crate::scheme::{Inputs, PLAIN, Proof, Setting, scheme};
 use p3_challenger::Sha256Challenger;
-use p3_commit::OpenedValues;
 use p3_field::{BabyBear, BabyBear4};
-use p3_pcs::{Known, OpeningRequest, Verified, open_and_verify};
-use std::alloc::{AllocError, Global};
+use p3_pcs::{KnownCommitment, OpeningRequest, Verified, open_and_verify};
+use std::alloc::Global;
 use std::test::Fail;
 
 type Shown = Verified<BabyBear4, Proof, Sha256Challenger>;
@@ -38,7 +37,7 @@ fn shown(
         return Err(Fail::new("a matrix without points"));
     }
     let mut known = Vec::new(alloc);
-    known.push(Known {
+    known.push(KnownCommitment {
         commitment,
         domains,
     })?;
@@ -65,56 +64,50 @@ fn shown(
     }
 }
 
-/// The values of columns under one commitment, at each point one.
-fn values_of(alloc: Global, each: &[&[u64]]) -> Result<OpenedValues<BabyBear4>, AllocError> {
-    let mut matrices = Vec::new(alloc);
-    for numbers in each {
-        let mut points = Vec::new(alloc);
-        for number in *numbers {
-            points.push(constants(alloc, &[*number])?)?;
-        }
-        matrices.push(points)?;
-    }
-    let mut all = Vec::new(alloc);
-    all.push(matrices)?;
-    Ok(all)
-}
-
 /// What is opened, and the values that it has.
 #[derive(Clone, Copy)]
-struct Row<'a> {
+struct Case {
+    name: &'static str,
     setting: Setting,
-    columns: &'a [&'a [u64]],
-    points: &'a [&'a [u64]],
-    values: &'a [&'a [u64]],
+    columns: &'static [&'static [u64]],
+    points: &'static [&'static [u64]],
+    values: Points<'static>,
+}
+
+const CASES: [Case; 2] = [
+    Case {
+        name: "a line",
+        setting: PLAIN,
+        columns: &[&LINE],
+        points: &[&[5]],
+        values: &[&[&[2_013_265_918]]],
+    },
+    Case {
+        name: "a square and a line",
+        setting: Setting {
+            max_log_arity: 3,
+            ..PLAIN
+        },
+        columns: &[&SQUARE, &LINE],
+        points: &[&[5], &[7, 5]],
+        values: &[&[&[25], &[2_013_265_916, 2_013_265_918]]],
+    },
+];
+
+/// Whether these are the values, and both sides end in one state that isn't the first.
+fn is_met(alloc: Global, case: &Case) -> Result<bool, Fail> {
+    let (verified, challenger) = shown(alloc, case.setting, case.columns, case.points)?;
+    Ok(
+        are_values(&verified.values, case.values)
+            && verified.challenger == challenger
+            && challenger != Sha256Challenger::new(),
+    )
 }
 
 #[test]
 fn what_is_opened_is_accepted(rt: HostRuntime) -> Result<(), Fail> {
-    let rows = [
-        Row {
-            setting: plain(1),
-            columns: &[&LINE],
-            points: &[&[5]],
-            values: &[&[2_013_265_918]],
-        },
-        Row {
-            setting: plain(3),
-            columns: &[&SQUARE, &LINE],
-            points: &[&[5], &[7, 5]],
-            values: &[&[25], &[2_013_265_916, 2_013_265_918]],
-        },
-    ];
-    for row in rows {
-        let (verified, challenger) = shown(rt.alloc(), row.setting, row.columns, row.points)?;
-        assert_eq!(rt; verified.values, values_of(rt.alloc(), row.values)?);
-        assert_eq!(rt;
-            (
-                verified.challenger == challenger,
-                challenger == Sha256Challenger::new()
-            ),
-            (true, false)
-        );
+    for case in &CASES {
+        assert!(rt; is_met(rt.alloc(), case)?, "{}", case.name);
     }
     Ok(())
 }

@@ -6,6 +6,8 @@ mod accepted;
 #[cfg(test)]
 mod altered;
 #[cfg(test)]
+mod answers;
+#[cfg(test)]
 mod committed;
 #[cfg(test)]
 mod headline;

@@ -6,9 +6,9 @@ ghost use Rattle.p3_matrix.specs.declared.dense.RowMajorMatrix.{RowMajorMatrix};
 ghost use Rattle.p3_pcs.specs.Requests.{Held, AreOpenable, request};
 ghost use Rattle.p3_fri_openings.specs.Rounds.{HasCoset};
 
-use p3_commit::Mmcs;
 use p3_field::{TwoAdicField, TwoAdicMultiplicativeCoset};
 use p3_matrix::RowMajorMatrix;
+use p3_mmcs::Mmcs;
 use p3_pcs::OpeningRequest;
 
 /// Whether the field has a coset on which the matrix stands.

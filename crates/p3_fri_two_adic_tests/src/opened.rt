@@ -2,18 +2,20 @@
 
 use crate::committed::{Committed, commit_all};
 use crate::openable::are_openable;
-use crate::scheme::{Claims, Data, Domain, Inputs, Proof, Scheme, Setting, constants, scheme};
+use crate::scheme::{
+    Claims, Data, Domain, Inputs, Proof, Scheme, Setting, constant, constants, scheme,
+};
 use p3_challenger::Sha256Challenger;
-use p3_commit::OpenedValues;
 use p3_field::{BabyBear, BabyBear4};
-use p3_fri_steps::FriProverError;
-use p3_pcs::{Known, OpeningRequest, Pcs, claims_of};
+use p3_fri_pow::FriProverError;
+use p3_mmcs::OpenedValues;
+use p3_pcs::{KnownCommitment, OpeningRequest, Pcs, claims_of};
 use std::alloc::{AllocError, Global};
 use std::test::Fail;
 
 type Request<'a> = OpeningRequest<'a, Data, BabyBear4>;
 
-/// The points of each matrix of each commitment.
+/// Numbers of each matrix of each commitment: its column, its points, or the values at these.
 pub(crate) type Points<'a> = &'a [&'a [&'a [u64]]];
 
 /// An opening, with the claims that it makes and the challenger that it leaves.
@@ -33,10 +35,13 @@ pub(crate) enum Opening {
 }
 
 /// What is known of the commitments.
-fn known_of(alloc: Global, all: &[Committed]) -> Result<Vec<Known<[u8; 32], Domain>>, AllocError> {
+fn known_of(
+    alloc: Global,
+    all: &[Committed],
+) -> Result<Vec<KnownCommitment<[u8; 32], Domain>>, AllocError> {
     let mut known = Vec::with_capacity(alloc, all.len())?;
     for committed in all {
-        known.push(Known {
+        known.push(KnownCommitment {
             commitment: committed.commitment,
             domains: Vec::from_slice(alloc, &committed.domains)?,
         })?;
@@ -104,7 +109,7 @@ pub(crate) fn open_committed(
 pub(crate) fn open(
     alloc: Global,
     setting: Setting,
-    batches: &[&[&[u64]]],
+    batches: Points<'_>,
     points: Points<'_>,
 ) -> Result<Opening, Fail> {
     let mut all = commit_all(alloc, setting, batches)?;
@@ -115,7 +120,7 @@ pub(crate) fn open(
 pub(crate) fn open_well(
     alloc: Global,
     setting: Setting,
-    batches: &[&[&[u64]]],
+    batches: Points<'_>,
     points: Points<'_>,
 ) -> Result<Opened, Fail> {
     match open(alloc, setting, batches, points)? {
@@ -124,15 +129,32 @@ pub(crate) fn open_well(
     }
 }
 
-/// The refusal as text, and whether the challenger is as it was.
-pub(crate) fn refusal(
-    alloc: Global,
-    setting: Setting,
-    batches: &[&[&[u64]]],
-    points: Points<'_>,
-) -> Result<(String, bool), Fail> {
-    match open(alloc, setting, batches, points)? {
-        Opening::Opened(_) => Err(Fail::new("the opening isn't refused")),
-        Opening::Refused(refusal, unmoved) => Ok((format!(in alloc; "{refusal:?}")?, unmoved)),
+/// Whether one column has these values at the points.
+fn are_values_at(points: &[Vec<BabyBear4>], numbers: &[u64]) -> bool {
+    for (columns, number) in points.iter().zip(numbers) {
+        if columns.as_slice() != [constant(*number)].as_slice() {
+            return false;
+        }
     }
+    points.len() == numbers.len()
+}
+
+/// Whether each column does.
+fn are_values_of(columns: &[Vec<Vec<BabyBear4>>], each: &[&[u64]]) -> bool {
+    for (points, numbers) in columns.iter().zip(each) {
+        if !are_values_at(points, *numbers) {
+            return false;
+        }
+    }
+    columns.len() == each.len()
+}
+
+/// Whether the columns of each commitment do.
+pub(crate) fn are_values(values: &OpenedValues<BabyBear4>, expected: Points<'_>) -> bool {
+    for (columns, each) in values.iter().zip(expected) {
+        if !are_values_of(columns, *each) {
+            return false;
+        }
+    }
+    values.len() == expected.len()
 }

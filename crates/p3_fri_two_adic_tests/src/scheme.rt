@@ -4,18 +4,14 @@ ghost use Rattle.std.specs.Prelude.{◌≡◌, ◌<◌, ◌≤◌};
 ghost use Rattle.p3_fri_relation.specs.Views.{parameters_of};
 ghost use Rattle.p3_fri_two_adic.specs.Ranges.{InProverRange, InVerifierRange};
 
-use p3_challenger::Sha256Challenger;
-use p3_commit::{CommitmentOpening, Mmcs, Sha256Mmcs};
 use p3_dft::Radix2Dit;
 use p3_field::{BabyBear, BabyBear4, ExtensionField, Field, TwoAdicMultiplicativeCoset};
 use p3_fri_folding::FriParameters;
-use p3_fri_relation::error::FriError;
+use p3_fri_pow::PowPhase;
 use p3_fri_relation::proof::{BatchMultiOpening, FriProof};
-use p3_fri_steps::PowPhase;
 use p3_fri_two_adic::TwoAdicFriPcs;
-use p3_pcs::Pcs;
+use p3_mmcs::{CommitmentOpening, Mmcs, Sha256Mmcs};
 use std::alloc::{AllocError, Global};
-use std::test::Fail;
 
 pub(crate) type Inputs = Sha256Mmcs<BabyBear>;
 
@@ -48,22 +44,13 @@ pub(crate) struct Setting {
     pub work: Option<PowPhase>,
 }
 
-/// A blowup of 2, a constant as final polynomial, and no proof of work.
-pub(crate) fn plain(max_log_arity: usize) -> Setting
-    ensures { result ≡ record {
-      log_blowup = 1;
-      log_final_poly_len = 0;
-      max_log_arity = max_log_arity;
-      work = None;
-    } }
-{
-    Setting {
-        log_blowup: 1,
-        log_final_poly_len: 0,
-        max_log_arity,
-        work: None,
-    }
-}
+/// A blowup of 2, folds by two to a constant, and no proof of work.
+pub(crate) const PLAIN: Setting = Setting {
+    log_blowup: 1,
+    log_final_poly_len: 0,
+    max_log_arity: 1,
+    work: None,
+};
 
 /// The difficulty of that phase.
 fn bits(setting: Setting, phase: PowPhase) -> usize
@@ -117,26 +104,4 @@ pub(crate) fn constants(alloc: Global, numbers: &[u64]) -> Result<Vec<BabyBear4>
         elements.push(constant(*number))?;
     }
     Ok(elements)
-}
-
-/// What the verifier answers, as text.
-pub(crate) fn answer(
-    alloc: Global,
-    setting: Setting,
-    claims: Claims,
-    proof: &Proof,
-    challenger: &mut Sha256Challenger,
-) -> Result<String, Fail> {
-    if setting.log_blowup > 31 || setting.log_final_poly_len > 31 {
-        return Err(Fail::new("not in the verifier's range"));
-    }
-    let scheme = scheme(setting);
-    let verified = <Scheme as Pcs<BabyBear4, Sha256Challenger>>::verify(
-        &scheme, alloc, claims, proof, challenger,
-    );
-    match verified {
-        Ok(()) => Ok(format!(in alloc; "accepted")?),
-        Err(FriError::OutOfMemory) => Err(Fail::new("memory was refused")),
-        Err(refusal) => Ok(format!(in alloc; "{refusal:?}")?),
-    }
 }

@@ -1,39 +1,42 @@
 //! Witnesses that don't pass their proof of work.
 
 use crate::accepted::LINE;
+use crate::answers::answer_to;
 use crate::opened::{Opened, open_well};
 use crate::replayed::passes;
-use crate::scheme::{Proof, Setting, answer, plain};
-use p3_challenger::Sha256Challenger;
+use crate::scheme::{PLAIN, Proof, Setting};
 use p3_field::{BabyBear, Field};
-use p3_fri_steps::PowPhase;
+use p3_fri_pow::PowPhase;
 use std::alloc::Global;
+use std::process::Abort;
 use std::test::Fail;
 
 /// A proof of work in that phase alone.
 fn worked(phase: PowPhase) -> Setting {
-    let mut setting = plain(1);
-    setting.work = Some(phase);
-    setting
+    Setting {
+        work: Some(phase),
+        ..PLAIN
+    }
+}
+
+/// The opening of `2 - X` at 5.
+fn line_opened(alloc: Global, setting: Setting) -> Result<Opened, Fail> {
+    open_well(alloc, setting, &[&[&LINE]], &[&[&[5]]])
 }
 
 /// Gives the proof that witness.
 fn set_witness(proof: &mut Proof, phase: PowPhase, witness: BabyBear) {
     match phase {
         PowPhase::Batch => proof.batch_pow_witness = witness,
-        PowPhase::CommitPhase => {
-            for each in proof.commit_pow_witnesses.iter_mut() {
-                *each = witness;
-            }
-        },
+        PowPhase::CommitPhase => proof.commit_pow_witnesses.fill(witness),
         PowPhase::Query => proof.query_pow_witness = witness,
     }
 }
 
-/// The opening of `2 - X` at 5 with the least witness in that phase that the transcripts refuse.
+/// The opening with the least witness in that phase that the transcripts refuse.
 fn with_another_witness(alloc: Global, phase: PowPhase) -> Result<Opened, Fail> {
     let setting = worked(phase);
-    let mut opened = open_well(alloc, setting, &[&[&LINE]], &[&[&[5]]])?;
+    let mut opened = line_opened(alloc, setting)?;
     for number in 0..64 {
         set_witness(&mut opened.proof, phase, BabyBear::from_u64(number));
         if !passes(alloc, setting, &[2], &opened)? {
@@ -43,41 +46,48 @@ fn with_another_witness(alloc: Global, phase: PowPhase) -> Result<Opened, Fail> 
     Err(Fail::new("each witness passes"))
 }
 
-/// What the verifier of `setting` answers to the opening.
-fn answer_in(alloc: Global, setting: Setting, opened: Opened) -> Result<String, Fail> {
-    let Opened { proof, claims, .. } = opened;
-    let mut challenger = Sha256Challenger::new();
-    answer(alloc, setting, claims, &proof, &mut challenger)
+/// Whether the verifier that asks for work in that phase answers so to the opening.
+fn answers(alloc: Global, phase: PowPhase, opened: Opened, expected: &str) -> Result<bool, Fail> {
+    Ok(answer_to(alloc, worked(phase), opened)?.text.as_str() == expected)
 }
 
-/// What the verifier answers to the opening with its witness, and to the one with another.
-fn answers_of(alloc: Global, phase: PowPhase) -> Result<(String, String), Fail> {
-    let opened = open_well(alloc, worked(phase), &[&[&LINE]], &[&[&[5]]])?;
-    let honest = answer_in(alloc, worked(phase), opened)?;
+/// Whether the verifier accepts the opening with its witness, and refuses the one with another so.
+fn is_met(alloc: Global, phase: PowPhase, refusal: &str) -> Result<bool, Fail> {
+    let honest = line_opened(alloc, worked(phase))?;
+    if !answers(alloc, phase, honest, "accepted")? {
+        return Ok(false);
+    }
     let other = with_another_witness(alloc, phase)?;
-    let altered = answer_in(alloc, worked(phase), other)?;
-    Ok((honest, altered))
+    answers(alloc, phase, other, refusal)
 }
 
-#[test]
-fn witnesses_that_do_not_pass_are_named(rt: HostRuntime) -> Result<(), Fail> {
-    let phases = [
-        (PowPhase::Batch, "InvalidPowWitness(Batch)"),
-        (PowPhase::CommitPhase, "InvalidPowWitness(CommitPhase)"),
-        (PowPhase::Query, "InvalidPowWitness(Query)"),
-    ];
-    for (phase, expected) in phases {
-        let (honest, altered) = answers_of(rt.alloc(), phase)?;
-        assert_eq!(rt; (honest.as_str(), altered.as_str()), ("accepted", expected));
+const PHASES: [(PowPhase, &str); 3] = [
+    (PowPhase::Batch, "InvalidPowWitness(Batch)"),
+    (PowPhase::CommitPhase, "InvalidPowWitness(CommitPhase)"),
+    (PowPhase::Query, "InvalidPowWitness(Query)"),
+];
+
+fn assert_all(rt: &impl Abort, alloc: Global, cases: &[(PowPhase, &str)]) -> Result<(), Fail> {
+    for (phase, refusal) in cases {
+        assert!(rt; is_met(alloc, *phase, *refusal)?, "{refusal}");
     }
     Ok(())
 }
 
 #[test]
+fn witnesses_that_do_not_pass_are_named(rt: HostRuntime) -> Result<(), Fail> {
+    assert_all(&rt, rt.alloc(), &PHASES)
+}
+
+#[test]
 fn a_proof_made_without_work_is_refused(rt: HostRuntime) -> Result<(), Fail> {
-    let alloc = rt.alloc();
-    let opened = open_well(alloc, plain(1), &[&[&LINE]], &[&[&[5]]])?;
-    let text = answer_in(alloc, worked(PowPhase::Batch), opened)?;
-    assert_eq!(rt; text.as_str(), "InvalidPowWitness(Batch)");
+    let opened = line_opened(rt.alloc(), PLAIN)?;
+    let is_named = answers(
+        rt.alloc(),
+        PowPhase::Batch,
+        opened,
+        "InvalidPowWitness(Batch)",
+    )?;
+    assert!(rt; is_named);
     Ok(())
 }

@@ -1,8 +1,8 @@
 -- The test accepts, from its parts.
 use Rattle.std.proofs.Common.{◌≡◌, ◌≢◌, ℕ, ◌+◌, ◌/◌, ◌^◌, ◌<◌, ◌≤◌, ◌⊎◌, inl, inr, List, length, map, refl, sym, ap, ◌∙◌, subst, true, Bool}
 use Rattle.std.specs.Prelude.{All, IsTrue, Some}
-use Rattle.p3_fri_steps.specs.declared.pow_phase.PowPhase.{PowPhase}
-use Rattle.p3_fri_steps.specs.declared.pow_phase.PowPhase.TheVariants.{CommitPhase, Query}
+use Rattle.p3_fri_pow.specs.declared.pow_phase.PowPhase.{PowPhase}
+use Rattle.p3_fri_pow.specs.declared.pow_phase.PowPhase.TheVariants.{CommitPhase, Query}
 use Rattle.p3_fri_transcript.specs.Steps.{FriNumbers, fri_stream}
 use Rattle.p3_fri_transcript.specs.Replay.{FriReplay, fri_replay}
 use Rattle.p3_fri_relation.specs.declared.error.FriError.{FriError}

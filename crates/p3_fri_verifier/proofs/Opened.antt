@@ -285,13 +285,15 @@ module _ {F E C Com Path InCom InPath : Type 0} (s : Setting F E C Com Path InCo
           (subst (λ la. Folds j (query_of s p claims proof alpha betas j (slice_index positions j)) la final_poly) scheduled
           (subst (λ q. Folds j q arities final_poly) (same j l) h)))
 
-      pub way_fault_at : {A B : Type 0} (e : FriError A B)
+      pub way_fault_at : {A B : Type 0} → Good top inputs → (e : FriError A B)
           → (e ≡ OutOfMemory) ⊎ ((e ≡ FinalPolyMismatch) × SomeIndex positions (λ j.
           ¬ EndsAtFinal s.fields s.fold final_poly (query_at positions betas arities openings reduced top (final_height p) j)))
           → OpeningsFault s p claims proof alpha betas positions e ⊎ (e ≡ OutOfMemory)
-      way_fault_at e (inl is) = inr is
-      way_fault_at {A} {B} e (inr h) = inl (inr (subst (λ (x : FriError A B). RoundsFault s p claims proof alpha betas positions x) (sym h.0)
-          (h.1.0, h.1.1, λ ends. h.1.2 (ends_at h.1.0 h.1.1 ends))))
+      way_fault_at good e (inl is) = inr is
+      way_fault_at {A} {B} good e (inr h) =
+          let here : Good (top_height p claims) inputs = subst (λ t. Good t inputs) tallest good in
+          inl (inr (subst (λ (x : FriError A B). RoundsFault s p claims proof alpha betas positions x) (sym h.0)
+          (h.1.0, h.1.1, ((here.sums h.1.0 h.1.1).defined, λ ends. h.1.2 (ends_at h.1.0 h.1.1 ends)))))
 
       module _ (indices : List (List ℕ)) (rows : List (List (List (List E))))
           (indices_are : indices ≡ tabulate (length arities) (λ k. map (λ position. slice_index (row_indices arities position) k) positions))

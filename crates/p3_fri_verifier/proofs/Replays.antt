@@ -4,14 +4,15 @@ use Rattle.std.specs.Prelude.{IsTrue, IfErr, Option, Some, None, Result}
 use Rattle.algebra.specs.Field.{FieldOps}
 use Rattle.p3_challenger_core.specs.Run.{Moves, Passes, grind_attempt}
 use Rattle.p3_challenger_fs.specs.Turns.{bytes_observed}
-use Rattle.p3_fri_steps.specs.Pow.{IsWrong}
-use Rattle.p3_fri_steps.specs.declared.pow_phase.PowPhase.{PowPhase}
-use Rattle.p3_fri_steps.specs.declared.pow_phase.PowPhase.TheVariants.{Batch, CommitPhase, Query}
+use Rattle.p3_fri_pow.specs.Counts.{IsWrongCount}
+use Rattle.p3_fri_pow.specs.Pow.{IsWrongWitness}
+use Rattle.p3_fri_pow.specs.declared.pow_phase.PowPhase.{PowPhase}
+use Rattle.p3_fri_pow.specs.declared.pow_phase.PowPhase.TheVariants.{Batch, CommitPhase, Query}
 use Rattle.p3_fri_transcript.specs.declared.transcript.play.Refusal.{Refusal}
 use Rattle.p3_fri_transcript.specs.declared.transcript.play.Refusal.TheVariants.{Seed, Step}
 use Rattle.p3_fri_transcript.specs.declared.transcript.failure.TranscriptFailure.{TranscriptFailure}
 use Rattle.p3_fri_transcript.specs.declared.transcript.failure.TranscriptFailure.TheVariants as Why
-use Rattle.p3_fri_transcript.specs.Failures.{FriFailure, FriPasses, IsWrongCount}
+use Rattle.p3_fri_transcript.specs.Failures.{FriFailure, FriPasses}
 use Rattle.p3_fri_transcript.specs.Replay.{rounds_replay, shown_queries_replay, fri_replay, polynomial_observed}
 use Rattle.p3_fri_transcript.specs.Steps.{FriNumbers}
 use Rattle.p3_fri_relation.specs.declared.error.FriError.{FriError}
@@ -22,8 +23,8 @@ not_true : (b : Bool) → (IsTrue b → ⊥) → b ≡ false
 not_true true h = absurd (h refl)
 not_true false h = refl
 
-right_count : (expected got described sent : ℕ) → sent ≡ described → IsWrongCount expected got described sent → ⊥
-right_count expected got described sent e h = h.differ (h.got_is ∙ e ∙ sym h.expected_is)
+right_count : (asked found expected got : ℕ) → found ≡ asked → IsWrongCount asked found expected got → ⊥
+right_count asked found expected got e h = h.differ (h.expected_is ∙ sym e ∙ sym h.got_is)
 
 some_same : {F : Type 0} (x y : F) → Some x ≡ Some y → x ≡ y
 some_same x y e = cc
@@ -52,7 +53,7 @@ of_a_step refusal e seed step other = ((λ is. other (seed is)), (λ is. other (
 
 module _ {C F E Com : Type 0} (m : Moves C F E Com) (coefficients : E → List F) (shape : FriNumbers)
     (seeded : C) (commitments : List Com) (witnesses : List F) (final_poly : List E) (w : F) where
-  query_fails : (c : C) → IsWrong m.observe_value m.draw_bits (polynomial_observed m.observe_value coefficients c final_poly) shape.query_pow_bits (Some w)
+  query_fails : (c : C) → IsWrongWitness m.observe_value m.draw_bits (polynomial_observed m.observe_value coefficients c final_poly) shape.query_pow_bits (Some w)
       → (shown_queries_replay m coefficients shape c final_poly (Some w)).passes ≡ false
   unfolding shown_queries_replay
   query_fails c h = not_true _ (λ passes. h.fails (subst (λ (v : F). Passes m.observe_value m.draw_bits (polynomial_observed m.observe_value coefficients c final_poly) shape.query_pow_bits v) (some_same w h.witness h.is_shown) passes))

@@ -10,7 +10,6 @@ ghost use Rattle.p3_fri_relation.specs.Views.{parameters_of, claims_of, proof_of
 ghost use Rattle.p3_fri_verifier.specs.Openings.{AreOpened};
 
 use p3_challenger_core::{CanObserve, FieldChallenger};
-use p3_commit::{CommitmentOpening, Mmcs};
 use p3_field_core::{ExtensionField, TwoAdicField, TwoAdicMultiplicativeCoset};
 use p3_fri_folding::{FriFoldingStrategy, FriParameters};
 use p3_fri_inputs::open_inputs;
@@ -18,6 +17,7 @@ use p3_fri_queries::{fold_queries, verify_rounds};
 use p3_fri_relation::error::FriError;
 use p3_fri_relation::proof::{BatchMultiOpening, FriProof};
 use p3_fri_relation::setting::PlaysFri;
+use p3_mmcs::{CommitmentOpening, Mmcs};
 use std::alloc::Global;
 
 /// Verifies all that a proof opens at the queries' positions, with these folding challenges: the

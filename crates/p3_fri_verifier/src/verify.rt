@@ -1,7 +1,7 @@
 //! The verifier of the low-degree test.
 
 ghost use Rattle.std.specs.Prelude.{◌≡◌, ◌≢◌, ◌+◌, ◌<◌, ◌≤◌, ◌↔◌, Err, IsOk, IfErr};
-ghost use Rattle.p3_fri_steps.specs.declared.pow_phase.PowPhase.{PowPhase};
+ghost use Rattle.p3_fri_pow.specs.declared.pow_phase.PowPhase.{PowPhase};
 ghost use Rattle.p3_fri_relation.specs.declared.error.FriError.TheVariants.{OutOfMemory};
 ghost use Rattle.p3_fri_relation.specs.declared.error.FriError.TheVariants.{NonCanonicalPowWitness};
 ghost use Rattle.p3_fri_relation.specs.Acceptance.{FriAccepts, test_replay};
@@ -13,13 +13,13 @@ use crate::plan::make_plan;
 use crate::positions::{index_bits, positions_of};
 use crate::replay::replay;
 use p3_challenger_core::{CanObserve, FieldChallenger, GrindingChallenger};
-use p3_commit::{CommitmentOpening, Mmcs};
 use p3_field_core::{ExtensionField, TwoAdicField, TwoAdicMultiplicativeCoset};
 use p3_fri_folding::{FriFoldingStrategy, FriParameters};
 use p3_fri_relation::error::FriError;
 use p3_fri_relation::proof::{BatchMultiOpening, FriProof};
 use p3_fri_relation::setting::PlaysFri;
 use p3_fri_transcript::transcript::FriShape;
+use p3_mmcs::{CommitmentOpening, Mmcs};
 use std::alloc::{AllocError, Global};
 
 /// Verifies a proof of the low-degree test (FRI, ICALP 2018) of what is claimed of committed

@@ -3,12 +3,12 @@
 ghost use Rattle.std.specs.Prelude.{◌≡◌, ◌≤◌};
 
 use p3_challenger::{CanObserve, Sha256Challenger};
-use p3_commit::{CommitmentOpening, Sha256Mmcs, Sha256MmcsError};
 use p3_field::{BabyBear, BabyBear4, ExtensionField, Field, TwoAdicMultiplicativeCoset};
 use p3_fri_folding::{FriParameters, TwoAdicFriFolding, WithExtraBits};
 use p3_fri_relation::error::FriError;
 use p3_fri_relation::proof::{BatchMultiOpening, CommitPhaseMultiStep, FriProof};
 use p3_fri_verifier::verify_fri;
+use p3_mmcs::{CommitmentOpening, Sha256Mmcs, Sha256MmcsError};
 use std::alloc::Global;
 use std::marker::PhantomData;
 use std::test::Fail;

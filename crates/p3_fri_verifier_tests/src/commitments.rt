@@ -1,10 +1,10 @@
 //! Commitments and openings by any scheme, where their conditions hold.
 
 ghost use Rattle.std.specs.Prelude.{◌≡◌, IfOk};
-ghost use Rattle.p3_commit.specs.Batch.{dimensions_of};
+ghost use Rattle.p3_mmcs.specs.Batch.{dimensions_of};
 
-use p3_commit::{Mmcs, have_power_heights, indices_are_below};
 use p3_matrix::{Dimensions, RowMajorMatrix};
+use p3_mmcs::{Mmcs, have_power_heights, indices_are_below};
 use std::alloc::{AllocError, Global};
 use std::test::Fail;
 

@@ -2,14 +2,14 @@
 //! zero, since every quotient is.
 
 use crate::answers::{
-    Claims, Domain, Inputs, Parameters, Proof, answer, challenger_after, constant, plain_parameters,
+    Claims, Domain, Inputs, Proof, answer, challenger_after, constant, plain_parameters,
 };
 use crate::commitments::{committed, matrix_of, opened};
 use crate::honest::drawn_indices;
 use p3_challenger::Sha256Challenger;
-use p3_commit::{CommitmentOpening, MatrixOpening, PointOpening};
 use p3_field::{BabyBear, BabyBear4, Field, TwoAdicMultiplicativeCoset};
 use p3_fri_relation::proof::{BatchMultiOpening, FriProof};
+use p3_mmcs::{CommitmentOpening, MatrixOpening, PointOpening};
 use std::alloc::Global;
 use std::test::Fail;
 
@@ -57,33 +57,44 @@ fn proof_of_nines(alloc: Global, indices: &[usize]) -> Result<([u8; 32], Proof),
     Ok((commitment, proof))
 }
 
-/// The indices that the transcript of that proof draws after the number 1, and the challenger after
-/// it.
-fn replayed(
-    alloc: Global,
-    parameters: &Parameters,
-) -> Result<(Vec<usize>, Sha256Challenger), Fail> {
-    let mut challenger = challenger_after(1);
+/// The proof and its commitment, with the challenger in which its transcript ends after the number
+/// 1.
+fn nines(alloc: Global) -> Result<([u8; 32], Proof, Sha256Challenger), Fail> {
+    let mut last = challenger_after(1);
     let final_poly = [BabyBear4::ZERO];
-    let indices = drawn_indices(alloc, parameters, &[], 1, &[], &final_poly, &mut challenger)?;
-    Ok((indices, challenger))
+    let indices = drawn_indices(
+        alloc,
+        &plain_parameters(),
+        &[],
+        1,
+        &[],
+        &final_poly,
+        &mut last,
+    )?;
+    let (commitment, proof) = proof_of_nines(alloc, &indices)?;
+    Ok((commitment, proof, last))
+}
+
+/// What is claimed of the column, and the answer.
+const CASES: [(Option<u64>, &str); 3] = [
+    (Some(9), "accepted"),
+    (Some(8), "FinalPolyMismatch"),
+    (None, "MatrixWithoutOpeningPoints { batch: 0, matrix: 0 }"),
+];
+
+/// Whether this is the answer, with the challenger left as the transcript ends.
+fn is_met(alloc: Global, value: Option<u64>, expected: &str) -> Result<bool, Fail> {
+    let (commitment, proof, last) = nines(alloc)?;
+    let claims = claims_of(alloc, commitment, value)?;
+    let mut challenger = challenger_after(1);
+    let text = answer(alloc, &plain_parameters(), &proof, &mut challenger, &claims)?;
+    Ok(text.as_str() == expected && challenger == last)
 }
 
 #[test]
 fn a_constant_column_is_accepted(rt: HostRuntime) -> Result<(), Fail> {
-    let parameters = plain_parameters();
-    let (indices, last) = replayed(rt.alloc(), &parameters)?;
-    let (commitment, proof) = proof_of_nines(rt.alloc(), indices.as_slice())?;
-    let rows = [
-        (Some(9), "accepted"),
-        (Some(8), "FinalPolyMismatch"),
-        (None, "MatrixWithoutOpeningPoints { batch: 0, matrix: 0 }"),
-    ];
-    for (value, expected) in rows {
-        let claims = claims_of(rt.alloc(), commitment, value)?;
-        let mut challenger = challenger_after(1);
-        let text = answer(rt.alloc(), &parameters, &proof, &mut challenger, &claims)?;
-        assert_eq!(rt; (text.as_str(), challenger == last), (expected, true));
+    for (value, expected) in &CASES {
+        assert!(rt; is_met(rt.alloc(), *value, *expected)?, "{expected}");
     }
     Ok(())
 }

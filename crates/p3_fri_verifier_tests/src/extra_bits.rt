@@ -1,6 +1,6 @@
 //! Extra bits of the queries' indices: drawn with each, and shifted off.
 
-ghost use Rattle.std.specs.Prelude.{◌≤◌};
+ghost use Rattle.std.specs.Prelude.{◌≡◌, ◌≤◌};
 
 use crate::answers::{
     Parameters, answer, answer_at_extra_bits, challenger_after, plain_parameters,
@@ -19,38 +19,49 @@ fn stream_of(alloc: Global, index_bits: usize) -> Result<Vec<u8>, AllocError> {
         .seed_stream(alloc)
 }
 
-#[test]
-fn the_width_of_indices_stands_in_the_stream(rt: HostRuntime) -> Result<(), Fail> {
-    let plain = stream_of(rt.alloc(), 1)?;
-    let wider = stream_of(rt.alloc(), 1 + 3)?;
-    assert_eq!(rt; (plain.len(), wider.len()), (142, 142));
-    let mut differences = Vec::new(rt.alloc());
-    for (one, other) in plain.iter().zip(&wider) {
-        if one != other {
-            differences.push((*one, *other))?;
+/// How many bytes differ, and the last that do.
+fn differences(one: &[u8], other: &[u8]) -> (usize, u8, u8) {
+    let mut found = (0_usize, 0, 0);
+    for (left, right) in one.iter().zip(other) {
+        if left != right {
+            found = (found.0.saturating_add(1), *left, *right);
         }
     }
-    assert_eq!(rt; differences.as_slice(), [(1, 4)].as_slice());
+    found
+}
+
+/// Whether the streams of indices of one bit and of four differ in that number alone.
+fn is_width_in_stream(alloc: Global) -> Result<bool, AllocError> {
+    let plain = stream_of(alloc, 1)?;
+    let wider = stream_of(alloc, 1 + 3)?;
+    Ok(plain.len() == 142 && wider.len() == 142 && differences(&plain, &wider) == (1, 1, 4))
+}
+
+#[test]
+fn the_width_of_indices_stands_in_the_stream(rt: HostRuntime) -> Result<(), Fail> {
+    assert!(rt; is_width_in_stream(rt.alloc())?);
     Ok(())
 }
 
 /// Parameters with a final polynomial of two coefficients and so many queries.
-fn parameters_with(num_queries: usize) -> Parameters {
+fn parameters_with(num_queries: usize) -> Parameters
+    ensures { result.log_final_poly_len ≡ 1 }
+{
     let mut parameters = plain_parameters();
     parameters.log_final_poly_len = 1;
     parameters.num_queries = num_queries;
     parameters
 }
 
-/// The answer at these parameters and extra bits to what was made at them, and whether the
-/// challenger ends as the prover's.
-fn answer_to(
+/// Whether what was made at these parameters and extra bits is accepted, by a challenger that ends
+/// as the prover's.
+fn is_accepted(
     alloc: Global,
     parameters: &Parameters,
     extra_bits: usize,
     made: &Honest,
     start: u64,
-) -> Result<(String, bool), Fail>
+) -> Result<bool, Fail>
     requires { extra_bits ≤ 3 }
 {
     let mut challenger = challenger_after(start);
@@ -62,43 +73,48 @@ fn answer_to(
         &mut challenger,
         &made.claims,
     )?;
-    Ok((text, challenger == made.last))
+    Ok(text.as_str() == "accepted" && challenger == made.last)
+}
+
+/// Whether what is made at three extra bits is accepted at these, and not without.
+fn are_shifted_off(alloc: Global) -> Result<bool, Fail> {
+    let parameters = parameters_with(2);
+    let made = make_honest(alloc, &parameters, 4, 3, 1)?;
+    if !is_accepted(alloc, &parameters, 3, &made, 1)? {
+        return Ok(false);
+    }
+    let without = answer(
+        alloc,
+        &parameters,
+        &made.proof,
+        &mut challenger_after(1),
+        &made.claims,
+    )?;
+    Ok(without.as_str() != "accepted")
 }
 
 #[test]
 fn extra_bits_are_drawn_and_shifted_off(rt: HostRuntime) -> Result<(), Fail> {
-    let parameters = parameters_with(2);
-    let made = make_honest(rt.alloc(), &parameters, 4, 3, 1)?;
-    let (text, same) = answer_to(rt.alloc(), &parameters, 3, &made, 1)?;
-    assert_eq!(rt; (text.as_str(), same), ("accepted", true));
-    let mut challenger = challenger_after(1);
-    let without = answer(
-        rt.alloc(),
-        &parameters,
-        &made.proof,
-        &mut challenger,
-        &made.claims,
-    )?;
-    assert!(rt; without.as_str() != "accepted");
+    assert!(rt; are_shifted_off(rt.alloc())?);
     Ok(())
 }
 
 /// A number after which the transcript of one query draws the index 13 of four bits.
 const START: u64 = 23;
 
+/// Whether this is the index, and 3 the position, of a proof that is accepted.
+fn is_position_3(alloc: Global) -> Result<bool, Fail> {
+    let parameters = parameters_with(1);
+    let made = make_honest(alloc, &parameters, 1, 2, START)?;
+    Ok(
+        made.drawn.as_slice() == [13].as_slice()
+            && made.positions.as_slice() == [3].as_slice()
+            && is_accepted(alloc, &parameters, 2, &made, START)?,
+    )
+}
+
 #[test]
 fn a_drawn_index_of_13_at_two_extra_bits_is_position_3(rt: HostRuntime) -> Result<(), Fail> {
-    let parameters = parameters_with(1);
-    let made = make_honest(rt.alloc(), &parameters, 1, 2, START)?;
-    let (text, same) = answer_to(rt.alloc(), &parameters, 2, &made, START)?;
-    assert_eq!(rt;
-        (
-            made.drawn.as_slice(),
-            made.positions.as_slice(),
-            text.as_str(),
-            same
-        ),
-        ([13].as_slice(), [3].as_slice(), "accepted", true)
-    );
+    assert!(rt; is_position_3(rt.alloc())?);
     Ok(())
 }

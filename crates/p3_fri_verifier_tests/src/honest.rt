@@ -9,12 +9,12 @@ use crate::answers::{
 };
 use crate::commitments::{committed, matrix_of, opened};
 use p3_challenger::Sha256Challenger;
-use p3_commit::{CommitmentOpening, MatrixOpening, Mmcs, PointOpening};
 use p3_field::{BabyBear, BabyBear4, Field, TwoAdicField, TwoAdicMultiplicativeCoset};
 use p3_fri_folding::fold_schedule;
 use p3_fri_relation::proof::{BatchMultiOpening, CommitPhaseMultiStep, FriProof};
 use p3_fri_transcript::transcript::{FriMessages, FriShape, replay_fri};
 use p3_matrix::RowMajorMatrix;
+use p3_mmcs::{CommitmentOpening, MatrixOpening, Mmcs, PointOpening};
 use std::alloc::{AllocError, Global};
 use std::test::Fail;
 
@@ -233,7 +233,7 @@ fn final_poly_of(alloc: Global, log_len: usize) -> Result<Vec<BabyBear4>, AllocE
     Ok(coefficients)
 }
 
-/// All that is committed, with the claims and the final polynomial.
+/// All that is committed, with the claims.
 #[derive(Drop)]
 struct Committed {
     claims: Claims,
@@ -241,61 +241,85 @@ struct Committed {
     log_arities: Vec<usize>,
     commitments: Vec<[u8; 32]>,
     rounds: Vec<RoundData>,
-    final_poly: Vec<BabyBear4>,
+}
+
+/// The widths of the matrices of each commitment.
+const WIDTHS: [&[usize]; 2] = [&[2, 1], &[1]];
+
+/// The commitments to inputs, and what is claimed of them.
+fn commit_all_inputs(alloc: Global, log_size: usize) -> Result<(Claims, Vec<InputData>), Fail>
+    requires { log_size ≤ 8 }
+{
+    let mut claims = Vec::new(alloc);
+    let mut inputs = Vec::new(alloc);
+    for widths in &WIDTHS {
+        let (claim, data) = commit_inputs(alloc, log_size, *widths)?;
+        claims.push(claim)?;
+        inputs.push(data)?;
+    }
+    Ok((claims, inputs))
 }
 
 /// One commitment to two matrices, of two columns and of one, and one to a matrix of a column, with
 /// the rounds that follow.
 fn commit(alloc: Global, parameters: &Parameters, log_size: usize) -> Result<Committed, Fail>
-    requires { log_size ≤ 8 }
+    requires size { log_size ≤ 8 }
+    requires final_polynomial { parameters.now.log_final_poly_len ≤ 8 }
 {
-    if parameters.log_final_poly_len > 8 || parameters.max_log_arity == 0 {
-        return Err(Fail::new("other parameters"));
+    if parameters.max_log_arity == 0 {
+        return Err(Fail::new("no cap"));
     }
-    let (first, first_data) = commit_inputs(alloc, log_size, &[2, 1])?;
-    let (second, second_data) = commit_inputs(alloc, log_size, &[1])?;
-    let mut claims = Vec::new(alloc);
-    claims.push(first)?;
-    claims.push(second)?;
-    let mut inputs = Vec::new(alloc);
-    inputs.push(first_data)?;
-    inputs.push(second_data)?;
     let height = log_size + 1;
     let final_height = 1 + parameters.log_final_poly_len;
     let log_arities = fold_schedule(alloc, &[height], final_height, parameters.max_log_arity)?;
-    let (commitments, rounds) = commit_rounds(alloc, height, log_arities.as_slice())?;
+    let (commitments, rounds) = commit_rounds(alloc, height, &log_arities)?;
+    let (claims, inputs) = commit_all_inputs(alloc, log_size)?;
     Ok(Committed {
         claims,
         inputs,
         log_arities,
         commitments,
         rounds,
-        final_poly: final_poly_of(alloc, parameters.log_final_poly_len)?,
     })
 }
 
-/// What is opened of all commitments at these positions.
-fn open(alloc: Global, made: Committed, positions: &[usize]) -> Result<(Proof, Claims), Fail> {
-    let mut input_openings = Vec::new(alloc);
-    for data in &made.inputs {
-        input_openings.push(open_inputs(alloc, data, positions)?)?;
+/// What is opened of all inputs at these positions.
+fn open_all_inputs(
+    alloc: Global,
+    inputs: &[InputData],
+    positions: &[usize],
+) -> Result<Vec<InputOpening>, Fail> {
+    let mut openings = Vec::new(alloc);
+    for data in inputs {
+        openings.push(open_inputs(alloc, data, positions)?)?;
     }
-    let commit_phase_openings = open_rounds(
-        alloc,
-        made.log_arities.as_slice(),
-        made.rounds.as_slice(),
-        positions,
-    )?;
+    Ok(openings)
+}
+
+/// The proof that opens all commitments at these positions.
+fn open(
+    alloc: Global,
+    made: Committed,
+    final_poly: Vec<BabyBear4>,
+    positions: &[usize],
+) -> Result<(Proof, Claims), Fail> {
+    let Committed {
+        claims,
+        inputs,
+        log_arities,
+        commitments,
+        rounds,
+    } = made;
     let proof = FriProof {
         batch_pow_witness: BabyBear::ZERO,
-        commit_phase_commits: made.commitments,
-        commit_pow_witnesses: vec![in alloc; BabyBear::ZERO; made.log_arities.len()]?,
-        input_openings,
-        commit_phase_openings,
-        final_poly: made.final_poly,
+        commit_phase_commits: commitments,
+        commit_pow_witnesses: vec![in alloc; BabyBear::ZERO; log_arities.len()]?,
+        input_openings: open_all_inputs(alloc, &inputs, positions)?,
+        commit_phase_openings: open_rounds(alloc, &log_arities, &rounds, positions)?,
+        final_poly,
         query_pow_witness: BabyBear::ZERO,
     };
-    Ok((proof, made.claims))
+    Ok((proof, claims))
 }
 
 /// An honest proof on domains of log size `log_size`, by a challenger that first absorbed `start`.
@@ -308,20 +332,22 @@ pub(crate) fn make_honest(
 ) -> Result<Honest, Fail>
     requires size { log_size ≤ 8 }
     requires bits { extra_bits ≤ 3 }
+    requires final_polynomial { parameters.now.log_final_poly_len ≤ 8 }
 {
     let made = commit(alloc, parameters, log_size)?;
+    let final_poly = final_poly_of(alloc, parameters.log_final_poly_len)?;
     let mut last = challenger_after(start);
     let drawn = drawn_indices(
         alloc,
         parameters,
-        made.log_arities.as_slice(),
+        &made.log_arities,
         log_size + 1 + extra_bits,
-        made.commitments.as_slice(),
-        made.final_poly.as_slice(),
+        &made.commitments,
+        &final_poly,
         &mut last,
     )?;
-    let positions = shifted(alloc, drawn.as_slice(), extra_bits)?;
-    let (proof, claims) = open(alloc, made, positions.as_slice())?;
+    let positions = shifted(alloc, &drawn, extra_bits)?;
+    let (proof, claims) = open(alloc, made, final_poly, &positions)?;
     Ok(Honest {
         proof,
         claims,

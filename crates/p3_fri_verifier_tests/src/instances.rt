@@ -3,10 +3,11 @@
 use crate::answers::{
     Claims, Domain, Parameters, Proof, answer, challenger_after, constant, plain_parameters,
 };
-use p3_commit::{CommitmentOpening, MatrixOpening, PointOpening};
 use p3_field::{BabyBear, Field, TwoAdicMultiplicativeCoset};
 use p3_fri_relation::proof::FriProof;
+use p3_mmcs::{CommitmentOpening, MatrixOpening, PointOpening};
 use std::alloc::Global;
+use std::process::Abort;
 use std::test::Fail;
 
 /// A proof without rounds and openings.
@@ -39,82 +40,123 @@ fn claims_on(alloc: Global, log_size: usize) -> Result<Claims, Fail> {
     Ok(claims)
 }
 
-/// The answer to the bare proof of that claim, or of none, by a new challenger.
-fn answer_on(
-    alloc: Global,
-    parameters: &Parameters,
+/// Parameters and the log size of a claimed domain, and the refusal.
+#[derive(Clone, Copy)]
+struct Case {
+    num_queries: usize,
+    log_blowup: usize,
+    max_log_arity: usize,
+    log_final_poly_len: usize,
     log_size: Option<usize>,
-) -> Result<String, Fail> {
-    let claims = match log_size {
+    refusal: &'static str,
+}
+
+const PLAIN: Case = Case {
+    num_queries: 2,
+    log_blowup: 1,
+    max_log_arity: 1,
+    log_final_poly_len: 0,
+    log_size: Some(0),
+    refusal: "",
+};
+
+const ZEROS: [Case; 3] = [
+    Case {
+        num_queries: 0,
+        refusal: "ZeroQueries",
+        ..PLAIN
+    },
+    Case {
+        log_blowup: 0,
+        refusal: "ZeroBlowup",
+        ..PLAIN
+    },
+    Case {
+        max_log_arity: 0,
+        refusal: "ZeroFoldingArity",
+        ..PLAIN
+    },
+];
+
+const RANGES: [Case; 3] = [
+    Case {
+        log_size: None,
+        refusal: "NoCommittedMatrices",
+        ..PLAIN
+    },
+    Case {
+        log_size: Some(27),
+        refusal: "GlobalMaxHeightTooLarge { log_global_max_height: 28, two_adicity: 27 }",
+        ..PLAIN
+    },
+    Case {
+        log_final_poly_len: 3,
+        log_size: Some(2),
+        refusal: "FinalFoldHeightMismatch { expected: 4, got: 3 }",
+        ..PLAIN
+    },
+];
+
+/// The parameters of the case.
+fn parameters_of(case: &Case) -> Parameters {
+    let mut parameters = plain_parameters();
+    parameters.num_queries = case.num_queries;
+    parameters.log_blowup = case.log_blowup;
+    parameters.max_log_arity = case.max_log_arity;
+    parameters.log_final_poly_len = case.log_final_poly_len;
+    parameters
+}
+
+/// Whether the bare proof of that claim, or of none, is refused so by a new challenger.
+fn is_met(alloc: Global, case: &Case) -> Result<bool, Fail> {
+    let claims = match case.log_size {
         Some(log_size) => claims_on(alloc, log_size)?,
         None => Vec::new(alloc),
     };
     let proof = bare_proof(alloc)?;
-    answer(alloc, parameters, &proof, &mut challenger_after(1), &claims)
+    let parameters = parameters_of(case);
+    let text = answer(
+        alloc,
+        &parameters,
+        &proof,
+        &mut challenger_after(1),
+        &claims,
+    )?;
+    Ok(text.as_str() == case.refusal)
+}
+
+fn assert_all(rt: &impl Abort, alloc: Global, cases: &[Case]) -> Result<(), Fail> {
+    for case in cases {
+        assert!(rt; is_met(alloc, case)?, "{}", case.refusal);
+    }
+    Ok(())
 }
 
 #[test]
 fn parameters_at_zero_are_named(rt: HostRuntime) -> Result<(), Fail> {
-    let rows = [
-        (0, 1, 1, "ZeroQueries"),
-        (2, 0, 1, "ZeroBlowup"),
-        (2, 1, 0, "ZeroFoldingArity"),
-    ];
-    for (num_queries, log_blowup, max_log_arity, expected) in rows {
-        let mut parameters = plain_parameters();
-        parameters.num_queries = num_queries;
-        parameters.log_blowup = log_blowup;
-        parameters.max_log_arity = max_log_arity;
-        assert_eq!(rt;
-            answer_on(rt.alloc(), &parameters, Some(0))?.as_str(),
-            expected
-        );
-    }
-    Ok(())
+    assert_all(&rt, rt.alloc(), &ZEROS)
 }
 
 #[test]
 fn claims_out_of_range_are_named(rt: HostRuntime) -> Result<(), Fail> {
-    let rows = [
-        (0, None, "NoCommittedMatrices"),
-        (
-            0,
-            Some(27),
-            "GlobalMaxHeightTooLarge { log_global_max_height: 28, two_adicity: 27 }",
-        ),
-        (
-            3,
-            Some(2),
-            "FinalFoldHeightMismatch { expected: 4, got: 3 }",
-        ),
-    ];
-    for (log_final_poly_len, log_size, expected) in rows {
-        let mut parameters = plain_parameters();
-        parameters.log_final_poly_len = log_final_poly_len;
-        assert_eq!(rt;
-            answer_on(rt.alloc(), &parameters, log_size)?.as_str(),
-            expected
-        );
-    }
-    Ok(())
+    assert_all(&rt, rt.alloc(), &RANGES)
+}
+
+/// Whether a batch witness at no bits is refused by its name, with the challenger as it was.
+fn is_witness_named(alloc: Global) -> Result<bool, Fail> {
+    let claims = claims_on(alloc, 0)?;
+    let mut proof = bare_proof(alloc)?;
+    proof.batch_pow_witness = BabyBear::ONE;
+    let mut challenger = challenger_after(1);
+    let text = answer(alloc, &plain_parameters(), &proof, &mut challenger, &claims)?;
+    Ok(
+        text.as_str() == "NonCanonicalPowWitness { phase: Batch }"
+            && challenger == challenger_after(1),
+    )
 }
 
 #[test]
 fn a_witness_at_no_bits_is_named(rt: HostRuntime) -> Result<(), Fail> {
-    let claims = claims_on(rt.alloc(), 0)?;
-    let mut proof = bare_proof(rt.alloc())?;
-    proof.batch_pow_witness = BabyBear::ONE;
-    let mut challenger = challenger_after(1);
-    let text = answer(
-        rt.alloc(),
-        &plain_parameters(),
-        &proof,
-        &mut challenger,
-        &claims,
-    )?;
-    assert_eq!(rt;
-        (text.as_str(), challenger == challenger_after(1)),
-        ("NonCanonicalPowWitness { phase: Batch }", true)
-    );
+    assert!(rt; is_witness_named(rt.alloc())?);
     Ok(())
 }

@@ -1,10 +1,13 @@
 //! An honest proof with each kind of its lists cut, lengthened or emptied, and the refusal's name.
 
-use crate::answers::{Proof, answer, challenger_after, constant, plain_parameters};
-use crate::honest::{Honest, make_honest};
+use crate::answers::{
+    InputOpening, Proof, RoundOpening, answer, challenger_after, constant, plain_parameters,
+};
+use crate::honest::make_honest;
 use p3_field::{BabyBear, Field};
 use p3_fri_relation::proof::{BatchMultiOpening, CommitPhaseMultiStep};
 use std::alloc::{AllocError, Global};
+use std::process::Abort;
 use std::test::Fail;
 
 /// A list of a proof; of the rounds, commitments, queries and matrices that have one each, the
@@ -48,66 +51,62 @@ fn changed<T: Drop>(list: &mut Vec<T>, change: Change, more: T) -> Result<(), Al
     Ok(())
 }
 
-/// Changes a list of the first round.
+/// Changes a list of a round.
 fn change_round(
     alloc: Global,
-    proof: &mut Proof,
+    opening: &mut RoundOpening,
     list: List,
     change: Change,
 ) -> Result<(), AllocError> {
-    for opening in proof.commit_phase_openings.iter_mut().take(1) {
-        match list {
-            List::SiblingRows => {
-                let row = Vec::new(alloc);
-                changed(&mut opening.sibling_values, change, row)?;
-            },
-            List::RoundPaths => changed(&mut opening.opening_proof, change, Vec::new(alloc))?,
-            List::SiblingRow => {
-                for row in opening.sibling_values.iter_mut().take(1) {
-                    changed(row, change, constant(400))?;
-                }
-            },
-            _ => {
-                for path in opening.opening_proof.iter_mut().take(1) {
-                    changed(path, change, [0; 32])?;
-                }
-            },
-        }
+    match list {
+        List::SiblingRows => changed(&mut opening.sibling_values, change, Vec::new(alloc)),
+        List::RoundPaths => changed(&mut opening.opening_proof, change, Vec::new(alloc)),
+        List::SiblingRow => match opening.sibling_values.first_mut() {
+            Some(row) => changed(row, change, constant(400)),
+            None => Ok(()),
+        },
+        _ => match opening.opening_proof.first_mut() {
+            Some(path) => changed(path, change, [0; 32]),
+            None => Ok(()),
+        },
     }
-    Ok(())
 }
 
-/// Changes a list of the first commitment's opening.
+/// Changes a list of a commitment's opening.
 fn change_input(
     alloc: Global,
-    proof: &mut Proof,
+    opening: &mut InputOpening,
     list: List,
     change: Change,
 ) -> Result<(), AllocError> {
-    for opening in proof.input_openings.iter_mut().take(1) {
-        match list {
-            List::RowSets => changed(&mut opening.opened_values, change, Vec::new(alloc))?,
-            List::InputPaths => changed(&mut opening.opening_proof, change, Vec::new(alloc))?,
-            List::InputPath => {
-                for path in opening.opening_proof.iter_mut().take(1) {
-                    changed(path, change, [0; 32])?;
-                }
-            },
-            List::Rows => {
-                for rows in opening.opened_values.iter_mut().take(1) {
-                    changed(rows, change, Vec::new(alloc))?;
-                }
-            },
-            _ => {
-                for rows in opening.opened_values.iter_mut().take(1) {
-                    for row in rows.iter_mut().take(1) {
-                        changed(row, change, BabyBear::ONE)?;
-                    }
-                }
-            },
-        }
+    match list {
+        List::RowSets => changed(&mut opening.opened_values, change, Vec::new(alloc)),
+        List::InputPaths => changed(&mut opening.opening_proof, change, Vec::new(alloc)),
+        List::InputPath => match opening.opening_proof.first_mut() {
+            Some(path) => changed(path, change, [0; 32]),
+            None => Ok(()),
+        },
+        _ => match opening.opened_values.first_mut() {
+            Some(rows) => change_rows(alloc, rows, list, change),
+            None => Ok(()),
+        },
     }
-    Ok(())
+}
+
+/// Changes rows, or the first of them.
+fn change_rows(
+    alloc: Global,
+    rows: &mut Vec<Vec<BabyBear>>,
+    list: List,
+    change: Change,
+) -> Result<(), AllocError> {
+    if let List::Rows = list {
+        return changed(rows, change, Vec::new(alloc));
+    }
+    match rows.first_mut() {
+        Some(row) => changed(row, change, BabyBear::ONE),
+        None => Ok(()),
+    }
 }
 
 /// Changes a list of the proof.
@@ -136,9 +135,15 @@ fn change_list(
             changed(&mut proof.input_openings, change, more)
         },
         List::SiblingRows | List::SiblingRow | List::RoundPaths | List::RoundPath => {
-            change_round(alloc, proof, list, change)
+            match proof.commit_phase_openings.first_mut() {
+                Some(opening) => change_round(alloc, opening, list, change),
+                None => Ok(()),
+            }
         },
-        _ => change_input(alloc, proof, list, change),
+        _ => match proof.input_openings.first_mut() {
+            Some(opening) => change_input(alloc, opening, list, change),
+            None => Ok(()),
+        },
     }
 }
 
@@ -148,98 +153,133 @@ fn answer_to(alloc: Global, list: Option<(List, Change)>) -> Result<String, Fail
     let mut parameters = plain_parameters();
     parameters.log_final_poly_len = 1;
     parameters.max_log_arity = 2;
-    let Honest {
-        mut proof,
-        claims,
-        ..
-    } = make_honest(alloc, &parameters, 4, 0, 1)?;
+    let mut honest = make_honest(alloc, &parameters, 4, 0, 1)?;
     if let Some((list, how)) = list {
-        change_list(alloc, &mut proof, list, how)?;
+        change_list(alloc, &mut honest.proof, list, how)?;
     }
-    let mut challenger = challenger_after(1);
-    answer(alloc, &parameters, &proof, &mut challenger, &claims)
+    answer(
+        alloc,
+        &parameters,
+        &honest.proof,
+        &mut challenger_after(1),
+        &honest.claims,
+    )
+}
+
+/// What the verifier answers to each change of a list.
+const NAMED: [(List, [&str; 3]); 9] = [
+    (
+        List::Rounds,
+        [
+            "CommitPhaseOpeningsCountMismatch { expected: 2, got: 1 }",
+            "CommitPhaseOpeningsCountMismatch { expected: 2, got: 3 }",
+            "CommitPhaseOpeningsCountMismatch { expected: 2, got: 0 }",
+        ],
+    ),
+    (
+        List::Commitments,
+        [
+            "CommitRoundCountMismatch { expected: 2, got: 1 }",
+            "CommitRoundCountMismatch { expected: 2, got: 3 }",
+            "CommitRoundCountMismatch { expected: 2, got: 0 }",
+        ],
+    ),
+    (
+        List::CommitWitnesses,
+        [
+            "CommitPowWitnessCountMismatch { expected: 2, got: 1 }",
+            "CommitPowWitnessCountMismatch { expected: 2, got: 3 }",
+            "CommitPowWitnessCountMismatch { expected: 2, got: 0 }",
+        ],
+    ),
+    (
+        List::FinalPoly,
+        [
+            "FinalPolyLengthMismatch { expected: 2, got: 1 }",
+            "FinalPolyLengthMismatch { expected: 2, got: 3 }",
+            "FinalPolyLengthMismatch { expected: 2, got: 0 }",
+        ],
+    ),
+    (
+        List::SiblingRows,
+        [
+            "CommitPhaseQueryCountMismatch { round: 0, expected: 2, got: 1 }",
+            "CommitPhaseQueryCountMismatch { round: 0, expected: 2, got: 3 }",
+            "CommitPhaseQueryCountMismatch { round: 0, expected: 2, got: 0 }",
+        ],
+    ),
+    (
+        List::SiblingRow,
+        [
+            "SiblingValuesLengthMismatch { round: 0, expected: 3, got: 2 }",
+            "SiblingValuesLengthMismatch { round: 0, expected: 3, got: 4 }",
+            "SiblingValuesLengthMismatch { round: 0, expected: 3, got: 0 }",
+        ],
+    ),
+    (
+        List::Inputs,
+        [
+            "InputProofBatchCountMismatch { expected: 2, got: 1 }",
+            "InputProofBatchCountMismatch { expected: 2, got: 3 }",
+            "InputProofBatchCountMismatch { expected: 2, got: 0 }",
+        ],
+    ),
+    (
+        List::RowSets,
+        [
+            "InputOpeningsQueryCountMismatch { batch: 0, expected: 2, got: 1 }",
+            "InputOpeningsQueryCountMismatch { batch: 0, expected: 2, got: 3 }",
+            "InputOpeningsQueryCountMismatch { batch: 0, expected: 2, got: 0 }",
+        ],
+    ),
+    (
+        List::Rows,
+        [
+            "BatchOpenedValuesCountMismatch { batch: 0, expected: 2, got: 1 }",
+            "BatchOpenedValuesCountMismatch { batch: 0, expected: 2, got: 3 }",
+            "BatchOpenedValuesCountMismatch { batch: 0, expected: 2, got: 0 }",
+        ],
+    ),
+];
+
+const REFUSED_BY_SCHEMES: [(List, [&str; 3]); 5] = [
+    (List::Row, ["InputError(RowWidth)"; 3]),
+    (List::InputPaths, ["InputError(QueryCount)"; 3]),
+    (List::InputPath, ["InputError(PathLength)"; 3]),
+    (List::RoundPaths, ["CommitPhaseMmcsError(QueryCount)"; 3]),
+    (List::RoundPath, ["CommitPhaseMmcsError(PathLength)"; 3]),
+];
+
+/// The first change of the list to which this isn't the answer.
+fn first_unmet(alloc: Global, list: List, texts: &[&str; 3]) -> Result<Option<Change>, Fail> {
+    for (change, expected) in CHANGES.iter().zip(texts) {
+        if answer_to(alloc, Some((list, *change)))?.as_str() != *expected {
+            return Ok(Some(*change));
+        }
+    }
+    Ok(None)
+}
+
+fn assert_all(rt: &impl Abort, alloc: Global, cases: &[(List, [&str; 3])]) -> Result<(), Fail> {
+    for (list, texts) in cases {
+        let unmet = first_unmet(alloc, *list, texts)?;
+        assert!(rt; unmet.is_none(), "{list:?}, {unmet:?}");
+    }
+    Ok(())
 }
 
 #[test]
 fn the_honest_proof_is_accepted(rt: HostRuntime) -> Result<(), Fail> {
-    assert_eq!(rt; answer_to(rt.alloc(), None)?.as_str(), "accepted");
+    assert!(rt; answer_to(rt.alloc(), None)?.as_str() == "accepted");
     Ok(())
 }
 
 #[test]
 fn lists_of_another_length_are_named(rt: HostRuntime) -> Result<(), Fail> {
-    let rows = [
-        (
-            List::Rounds,
-            "CommitPhaseOpeningsCountMismatch { expected: 2",
-            2,
-        ),
-        (
-            List::Commitments,
-            "CommitRoundCountMismatch { expected: 2",
-            2,
-        ),
-        (
-            List::CommitWitnesses,
-            "CommitPowWitnessCountMismatch { expected: 2",
-            2,
-        ),
-        (List::FinalPoly, "FinalPolyLengthMismatch { expected: 2", 2),
-        (
-            List::SiblingRows,
-            "CommitPhaseQueryCountMismatch { round: 0, expected: 2",
-            2,
-        ),
-        (
-            List::SiblingRow,
-            "SiblingValuesLengthMismatch { round: 0, expected: 3",
-            3,
-        ),
-        (
-            List::Inputs,
-            "InputProofBatchCountMismatch { expected: 2",
-            2,
-        ),
-        (
-            List::RowSets,
-            "InputOpeningsQueryCountMismatch { batch: 0, expected: 2",
-            2,
-        ),
-        (
-            List::Rows,
-            "BatchOpenedValuesCountMismatch { batch: 0, expected: 2",
-            2,
-        ),
-    ];
-    for (list, name, length) in rows {
-        for (change, got) in [
-            (Change::Cut, length - 1),
-            (Change::Lengthened, length + 1),
-            (Change::Emptied, 0),
-        ] {
-            let expected = format!(in rt.alloc(); "{name}, got: {got} }}")?;
-            assert_eq!(rt; answer_to(rt.alloc(), Some((list, change)))?, expected);
-        }
-    }
-    Ok(())
+    assert_all(&rt, rt.alloc(), &NAMED)
 }
 
 #[test]
 fn lists_that_the_schemes_refuse_are_named(rt: HostRuntime) -> Result<(), Fail> {
-    let rows = [
-        (List::Row, "InputError(RowWidth)"),
-        (List::InputPaths, "InputError(QueryCount)"),
-        (List::InputPath, "InputError(PathLength)"),
-        (List::RoundPaths, "CommitPhaseMmcsError(QueryCount)"),
-        (List::RoundPath, "CommitPhaseMmcsError(PathLength)"),
-    ];
-    for (list, expected) in rows {
-        for change in CHANGES {
-            assert_eq!(rt;
-                answer_to(rt.alloc(), Some((list, change)))?.as_str(),
-                expected
-            );
-        }
-    }
-    Ok(())
+    assert_all(&rt, rt.alloc(), &REFUSED_BY_SCHEMES)
 }

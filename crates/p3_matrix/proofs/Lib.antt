@@ -3,3 +3,5 @@ pub mod Widths
 pub mod Views
 pub mod Cuts
 pub mod Exchange
+pub mod Words
+pub mod Columns

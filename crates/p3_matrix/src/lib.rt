@@ -4,6 +4,7 @@
 
 pub mod dense;
 pub mod laws;
+pub mod wider;
 
 pub use crate::dense::{RowMajorMatrix, RowMajorMatrixView};
 

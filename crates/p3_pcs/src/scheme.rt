@@ -5,12 +5,13 @@ ghost use Rattle.std.specs.Prelude.{IsOk, IfOk, IfErr, Err};
 ghost use Rattle.std.specs.List.{AllZip};
 ghost use Rattle.p3_matrix.specs.declared.dense.RowMajorMatrix.{RowMajorMatrix};
 ghost use Rattle.p3_pcs.specs.Claims.{Claim, claim, opened_values};
-ghost use Rattle.p3_pcs.specs.Requests.{Held, Request, request, with_data, AreOpenable, AreHonest};
+ghost use Rattle.p3_pcs.specs.Requests.{Held, HasColumns, Request, request, with_data};
+ghost use Rattle.p3_pcs.specs.Requests.{AreOpenable, AreHonest};
 ghost use Rattle.p3_pcs.specs.Requests.{honest_values, honest_claims, FitDomains};
 
 use crate::requests::OpeningRequest;
-use p3_commit::{CommitmentOpening, OpenedValues};
 use p3_matrix::RowMajorMatrix;
+use p3_mmcs::{CommitmentOpening, OpenedValues};
 use std::alloc::Global;
 
 /// A polynomial commitment scheme: matrices are committed to in batches, and the polynomials of
@@ -43,73 +44,94 @@ pub trait Pcs<EF: Copy, C> {
     /// Why the proving side refuses.
     type ProverError: Drop;
 
+    /// How many points a domain has.
     ghost domain_size: { Self.Domain → ℕ };
 
-    ghost IsDegree: { Self → ℕ → Type 0 };
+    /// There is a domain of that many points.
+    ghost HasDomain: { Self → ℕ → Type 0 };
 
+    /// The commitment to a datum.
     ghost commitment_of: { Self.ProverData → Self.Commitment };
 
-    ghost held: { Self → Self.ProverData → List (Held EF) };
+    /// What a datum is a commitment to, matrix by matrix.
+    ghost committed_polynomials: { Self → Self.ProverData → List (Held EF) };
 
+    /// A datum may be opened.
     ghost CanOpen: { Self → Self.ProverData → Type 0 };
 
+    /// A datum holds what was committed to: its words are of low degree.
     ghost IsHonest: { Self → Self.ProverData → Type 0 };
 
-    ghost spent: { Self.ProverData → Self.ProverData };
+    /// What an opening leaves of a datum.
+    ghost after_opening: { Self.ProverData → Self.ProverData };
 
+    /// What is known of data under the old scheme is known under the new one.
+    ghost Keeps: { Self → Self → Type 0 };
+
+    /// Matrices on these domains may be committed to.
     ghost CanCommit: { Self → List (Self.Domain × RowMajorMatrix Self.Val) → Type 0 };
 
+    /// The committed polynomials of a matrix are those of its columns on the domain.
     ghost Extends: { Self → Held EF → Self.Domain × RowMajorMatrix Self.Val → Type 0 };
 
+    /// A commitment to these matrices may be refused for this reason.
     ghost CommitRefuses: { Self → List (Self.Domain × RowMajorMatrix Self.Val)
         → Self.ProverError → Type 0 };
 
+    /// The parameters for which the scheme opens.
     ghost InProverRange: { Self → Type 0 };
 
+    /// The parameters for which the scheme verifies.
     ghost InVerifierRange: { Self → Type 0 };
 
+    /// What is asked of requests before a challenger is touched holds.
     ghost PassesChecks: { Self → List (Request Self.ProverData EF) → Type 0 };
 
+    /// An opening that begins in this state may be refused for this reason.
     ghost Refuses: { Self → C → List (Request Self.ProverData EF) → Self.ProverError → Type 0 };
 
+    /// The refusals of an opening that leave the challenger as it was.
     ghost LeavesState: { Self.ProverError → Type 0 };
 
+    /// The relation that is verified: the claims hold, by the proof, from this state.
     ghost Accepts: { Self → C → List (Claim EF Self.Commitment Self.Domain) → Self.Proof
         → Type 0 };
 
+    /// The state in which a proof of claims ends that begins in this one.
     ghost last_state: { Self → C → List (Claim EF Self.Commitment Self.Domain) → Self.Proof → C };
 
-    ghost Faults: { Self → List (Claim EF Self.Commitment Self.Domain) → Self.Proof → C
+    /// A refusal names a fault that the claims or the proof have.
+    ghost IsTrueRefusal: { Self → List (Claim EF Self.Commitment Self.Domain) → Self.Proof → C
         → Self.Error → Type 0 };
 
+    /// The refusals of a verifier that leave the challenger as it was.
     ghost LeavesVerifier: { Self.Error → Type 0 };
 
+    /// A verifier's want of memory, which says nothing of the relation.
     ghost out_of_memory: { Self.Error };
 
     /// The domain of `degree` points on which a trace of that height is committed to.
     fn natural_domain_for_degree(&self, degree: usize) -> Self::Domain
-        requires degree { IsDegree self.now degree }
+        requires degree { HasDomain self.now degree }
         ensures size { domain_size result ≡ degree };
 
     /// Commits to a batch of matrices, each of the values of its columns on the domain beside it.
-    /// What was committed to before can be opened as before.
+    /// What was known of data before is known afterwards.
     fn commit(
         &mut self,
         alloc: Global,
         evaluations: Vec<(Self::Domain, RowMajorMatrix<Self::Val>)>,
     ) -> Result<(Self::Commitment, Self::ProverData), Self::ProverError>
-        requires range { InProverRange self.old }
-        requires evaluations { CanCommit self.old evaluations.items }
-        ensures range { InProverRange self.new }
+        requires { CanCommit self.old evaluations.items }
+        ensures range { InProverRange self.old → InProverRange self.new }
         ensures verifier_range { InVerifierRange self.old → InVerifierRange self.new }
-        ensures still_held { (d : Self.ProverData) → held self.new d ≡ held self.old d }
-        ensures still_openable { (d : Self.ProverData) → CanOpen self.old d → CanOpen self.new d }
-        ensures still_honest { (d : Self.ProverData) → IsHonest self.old d → IsHonest self.new d }
+        ensures kept { Keeps self.old self.new }
         ensures commitment { IfOk result (λ pair. commitment_of pair.1 ≡ pair.0) }
         ensures openable { IfOk result (λ pair. CanOpen self.new pair.1) }
         ensures honest { IfOk result (λ pair. IsHonest self.new pair.1) }
         ensures extends { IfOk result (λ pair.
-            AllZip (Extends self.new) (held self.new pair.1) evaluations.items) }
+            AllZip (Extends self.new) (committed_polynomials self.new pair.1)
+            evaluations.items) }
         ensures refused { IfErr result (CommitRefuses self.old evaluations.items) };
 
     /// The values of the committed polynomials at the points that are asked for, and a proof of
@@ -121,27 +143,31 @@ pub trait Pcs<EF: Copy, C> {
         challenger: &mut C,
     ) -> Result<(OpenedValues<EF>, Self::Proof), Self::ProverError>
         requires range { InProverRange self.now }
-        requires shape { AreOpenable (CanOpen self.now) (held self.now)
+        requires shape { AreOpenable (CanOpen self.now) (committed_polynomials self.now)
             (map request requests.old) }
         ensures values { AreHonest (IsHonest self.now) (map request requests.old)
             → IfOk result (λ opening. opened_values opening.0.items
-            ≡ map (honest_values (held self.now)) (map request requests.old)) }
+            ≡ map (honest_values (committed_polynomials self.now)) (map request requests.old)) }
         ensures accepted { AreHonest (IsHonest self.now) (map request requests.old)
             → IfOk result (λ opening. (domains : List (List Self.Domain))
-            → FitDomains (held self.now) domain_size domains (map request requests.old)
+            → FitDomains (committed_polynomials self.now) domain_size domains
+            (map request requests.old)
             → Accepts self.now challenger.old
-            (honest_claims (held self.now) commitment_of domains (map request requests.old))
+            (honest_claims (committed_polynomials self.now) commitment_of domains
+            (map request requests.old))
             opening.1) }
         ensures state { AreHonest (IsHonest self.now) (map request requests.old)
             → IfOk result (λ opening. (domains : List (List Self.Domain))
-            → FitDomains (held self.now) domain_size domains (map request requests.old)
+            → FitDomains (committed_polynomials self.now) domain_size domains
+            (map request requests.old)
             → challenger.new ≡ last_state self.now challenger.old
-            (honest_claims (held self.now) commitment_of domains (map request requests.old))
+            (honest_claims (committed_polynomials self.now) commitment_of domains
+            (map request requests.old))
             opening.1) }
         ensures checked { IsOk result → PassesChecks self.now (map request requests.old) }
-        ensures spent { PassesChecks self.now (map request requests.old)
-            → requests.new ≡ map (with_data spent) requests.old }
-        ensures unspent { ¬ PassesChecks self.now (map request requests.old)
+        ensures opened { PassesChecks self.now (map request requests.old)
+            → requests.new ≡ map (with_data after_opening) requests.old }
+        ensures unopened { ¬ PassesChecks self.now (map request requests.old)
             → requests.new ≡ requests.old }
         ensures refused { IfErr result
             (Refuses self.now challenger.old (map request requests.old)) }
@@ -160,9 +186,33 @@ pub trait Pcs<EF: Copy, C> {
             → (IsOk result ↔ Accepts self.now challenger.old (map claim claims.items) proof.now) }
         ensures state { IsOk result → challenger.new
             ≡ last_state self.now challenger.old (map claim claims.items) proof.now }
-        ensures stands { IfErr result (Faults self.now (map claim claims.items) proof.now
+        ensures stands { IfErr result (IsTrueRefusal self.now (map claim claims.items) proof.now
             challenger.old) }
         ensures unmoved { IfErr result (λ e. LeavesVerifier e → challenger.new ≡ challenger.old) };
+
+    ghost keeps_itself_law: { (s : Self) → Keeps s s };
+
+    ghost keeps_polynomials_law: { (old new : Self) → Keeps old new → (d : Self.ProverData)
+        → committed_polynomials new d ≡ committed_polynomials old d };
+
+    ghost keeps_openable_law: { (old new : Self) → Keeps old new → (d : Self.ProverData)
+        → CanOpen old d → CanOpen new d };
+
+    ghost keeps_honest_law: { (old new : Self) → Keeps old new → (d : Self.ProverData)
+        → IsHonest old d → IsHonest new d };
+
+    ghost keeps_committable_law: { (old new : Self) → Keeps old new
+        → (evaluations : List (Self.Domain × RowMajorMatrix Self.Val))
+        → CanCommit old evaluations → CanCommit new evaluations };
+
+    ghost keeps_extends_law: { (old new : Self) → Keeps old new → (m : Held EF)
+        (e : Self.Domain × RowMajorMatrix Self.Val) → Extends old m e → Extends new m e };
+
+    ghost extends_size_law: { (s : Self) (m : Held EF) (e : Self.Domain × RowMajorMatrix Self.Val)
+        → Extends s m e → m.size ≡ domain_size e.0 };
+
+    ghost extends_columns_law: { (s : Self) (m : Held EF)
+        (e : Self.Domain × RowMajorMatrix Self.Val) → Extends s m e → HasColumns m };
 
     ghost memory_law: { (e : Self.Error) → (e ≡ out_of_memory) ⊎ (e ≢ out_of_memory) };
 }

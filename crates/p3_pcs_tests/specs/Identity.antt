@@ -1,10 +1,7 @@
 -- The scheme of nothing.
 use Rattle.std.specs.Prelude.{◌≡◌, ◌≢◌, ◌⊎◌, ◌<◌, ℕ, ⊤, true, false, cond, List, [], ◌∷◌, map}
-use Rattle.std.specs.Prelude.{length}
-use Rattle.std.proofs.Common.{inl, inr, refl}
-use Rattle.p3_matrix.specs.Matrix.{rows}
-use Rattle.p3_matrix.specs.declared.dense.RowMajorMatrix.{RowMajorMatrix}
-use Rattle.p3_pcs.specs.Requests.{Held}
+use Rattle.std.proofs.Common.{inl, inr, refl, ap}
+use Rattle.p3_pcs.specs.Requests.{Held, HasColumns}
 use Rattle.p3_pcs_tests.specs.declared.data.Data.{Data}
 use Rattle.p3_pcs_tests.specs.declared.data.Fault.{Fault}
 use Rattle.p3_pcs_tests.specs.declared.data.Fault.TheVariants.{WrongCount, OutOfMemory}
@@ -26,8 +23,11 @@ identity n = record { size = n; values_at = λ z. z ∷ [] }
 abbrev pub held_of : Data → List (Held ℕ)
 held_of d = map identity d.heights.items
 
-abbrev pub IsOfHeight : Held ℕ → RowMajorMatrix ℕ → Type 0
-IsOfHeight m matrix = m.size ≡ length (rows matrix)
+pub identity_size : (m : Held ℕ) (n : ℕ) → m ≡ identity n → m.size ≡ n
+identity_size m n is = ap (λ h. h.size) is
+
+pub identity_columns : (m : Held ℕ) (n : ℕ) → m ≡ identity n → HasColumns m
+identity_columns m n is z none = let here = ap (λ h. h.values_at z) is in cc
 
 abbrev pub Causes : (limit count : ℕ) → Refusal → Type 0
 Causes limit count (TooMany l) = limit < count

@@ -1,22 +1,22 @@
 //! A scheme of nothing: each committed polynomial is `X`, and a proof counts the claims.
 
 ghost use Rattle.std.specs.Prelude.{◌≡◌, ◌≢◌, ◌↔◌, ◌≤◌, ℕ, ⊤, List, [], ◌∷◌, map, length};
-ghost use Rattle.std.specs.Prelude.{IsOk, IfOk, IfErr, Err};
+ghost use Rattle.std.specs.Prelude.{IsOk, IfOk, IfErr, Err, refl};
 ghost use Rattle.std.specs.List.{AllZip};
 ghost use Rattle.algebra.specs.Nested.{lists, nested};
-ghost use Rattle.p3_matrix.specs.Matrix.{rows};
 ghost use Rattle.p3_pcs.specs.Claims.{claim, opened_values};
 ghost use Rattle.p3_pcs.specs.Requests.{with_data};
 ghost use Rattle.p3_pcs_tests.specs.declared.data.Data.{Data};
 ghost use Rattle.p3_pcs_tests.specs.declared.data.Fault.TheVariants.{OutOfMemory};
 ghost use Rattle.p3_pcs_tests.specs.Identity.{held_of, spent_of, IsFresh, Causes, IsEarly};
-ghost use Rattle.p3_pcs_tests.specs.Identity.{IsOfHeight, FaultOf, fault_cases};
+ghost use Rattle.p3_pcs_tests.specs.Identity.{identity, FaultOf, fault_cases, identity_size};
+ghost use Rattle.p3_pcs_tests.specs.Identity.{identity_columns};
 
 use crate::counter::Counts;
 use crate::data::{Count, Data, Fault, Refusal};
 use crate::identity::Identity;
-use p3_commit::{CommitmentOpening, OpenedValues};
 use p3_matrix::RowMajorMatrix;
+use p3_mmcs::{CommitmentOpening, OpenedValues};
 use p3_pcs::{OpeningRequest, Pcs};
 use std::alloc::{AllocError, Global};
 
@@ -83,11 +83,11 @@ fn heights_of(
     alloc: Global,
     evaluations: &[(usize, RowMajorMatrix<u64>)],
 ) -> Result<Vec<usize>, AllocError>
-    ensures { IfOk result (λ v. v.items ≡ map (λ e. length (rows e.1)) evaluations.now) }
+    ensures { IfOk result (λ v. v.items ≡ map (λ e. e.0) evaluations.now) }
 {
     let mut heights = Vec::new(alloc);
     for evaluation in evaluations {
-        heights.push(evaluation.1.height())?;
+        heights.push(evaluation.0)?;
     }
     Ok(heights)
 }
@@ -109,21 +109,23 @@ impl<C: Counts> Pcs<u64, C> for Identity {
 
     ghost domain_size = { λ n. n };
 
-    ghost IsDegree = { λ _ _. ⊤ };
+    ghost HasDomain = { λ _ _. ⊤ };
 
     ghost commitment_of = { λ d. length d.heights.items };
 
-    ghost held = { λ _ d. held_of d };
+    ghost committed_polynomials = { λ _ d. held_of d };
 
     ghost CanOpen = { λ _ d. IsFresh d };
 
     ghost IsHonest = { λ _ _. ⊤ };
 
-    ghost spent = { spent_of };
+    ghost after_opening = { spent_of };
+
+    ghost Keeps = { λ old new. new ≡ old };
 
     ghost CanCommit = { λ _ _. ⊤ };
 
-    ghost Extends = { λ _ m e. IsOfHeight m e.1 };
+    ghost Extends = { λ _ m e. m ≡ identity e.0 };
 
     ghost CommitRefuses = { λ s es e. Causes s.limit 0 e };
 
@@ -141,7 +143,7 @@ impl<C: Counts> Pcs<u64, C> for Identity {
 
     ghost last_state = { λ _ c _ p. C.counted c p.claims };
 
-    ghost Faults = { λ _ claims p _ e. FaultOf (length claims) p.claims e };
+    ghost IsTrueRefusal = { λ _ claims p _ e. FaultOf (length claims) p.claims e };
 
     ghost LeavesVerifier = { λ _. ⊤ };
 
@@ -156,14 +158,15 @@ impl<C: Counts> Pcs<u64, C> for Identity {
         alloc: Global,
         evaluations: Vec<(usize, RowMajorMatrix<u64>)>,
     ) -> Result<(usize, Data), Refusal>
-        requires range { ⊤ }
-        requires evaluations { ⊤ }
-        ensures range { ⊤ }
+        requires { ⊤ }
+        ensures range { ⊤ → ⊤ }
+        ensures verifier_range { ⊤ → ⊤ }
+        ensures kept { self.new ≡ self.old }
         ensures commitment { IfOk result (λ pair. length pair.1.heights.items ≡ pair.0) }
         ensures openable { IfOk result (λ pair. IsFresh pair.1) }
         ensures honest { ⊤ }
         ensures extends { IfOk result (λ pair.
-            AllZip (λ m e. IsOfHeight m e.1) (held_of pair.1) evaluations.items) }
+            AllZip (λ m e. m ≡ identity e.0) (held_of pair.1) evaluations.items) }
         ensures refused { IfErr result (Causes self.old.limit 0) }
     {
         match heights_of(alloc, evaluations.as_slice()) {
@@ -224,6 +227,22 @@ impl<C: Counts> Pcs<u64, C> for Identity {
         challenger.count(proof.claims);
         Ok(())
     }
+
+    ghost keeps_itself_law = { λ _. refl };
+
+    ghost keeps_polynomials_law = { λ _ _ _ _. refl };
+
+    ghost keeps_openable_law = { λ _ _ _ _ h. h };
+
+    ghost keeps_honest_law = { λ _ _ _ _ h. h };
+
+    ghost keeps_committable_law = { λ _ _ _ _ h. h };
+
+    ghost keeps_extends_law = { λ _ _ _ _ _ h. h };
+
+    ghost extends_size_law = { λ _ m e h. identity_size m e.0 h };
+
+    ghost extends_columns_law = { λ _ m e h. identity_columns m e.0 h };
 
     ghost memory_law = { fault_cases };
 }

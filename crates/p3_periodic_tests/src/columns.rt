@@ -51,51 +51,59 @@ fn is_refused(
     }
 }
 
-/// Whether along 8 rows a column of these numbers is refused for this reason, in these words.
-fn column_is_refused(
-    alloc: Global,
-    numbers: &[u64],
-    fault: PeriodicError,
-    words: &str,
-) -> Result<bool, Fail> {
-    let table = one_column(alloc, numbers)?;
-    is_refused(alloc, &table, fault, words)
+/// Columns, the first that is malformed along 8 rows, and the words for it.
+const REFUSED: [(&[&[u64]], PeriodicError, &str); 4] = [
+    (
+        &[&[1, 2, 3]],
+        PeriodicError::NotPowerOfTwo {
+            column: 0,
+            length: 3,
+        },
+        "periodic column 0 has length 3, which is not a power of two",
+    ),
+    (
+        &[&[1; 16]],
+        PeriodicError::DoesNotDivide {
+            column: 0,
+            length: 16,
+            trace_height: 8,
+        },
+        "periodic column 0 has length 16, which does not divide the trace height 8",
+    ),
+    (
+        &[&[]],
+        PeriodicError::NotPowerOfTwo {
+            column: 0,
+            length: 0,
+        },
+        "periodic column 0 has length 0, which is not a power of two",
+    ),
+    (
+        &[&[1, 3], &[1; 16], &[1, 2, 3]],
+        PeriodicError::DoesNotDivide {
+            column: 1,
+            length: 16,
+            trace_height: 8,
+        },
+        "periodic column 1 has length 16, which does not divide the trace height 8",
+    ),
+];
+
+/// The words for the first of these tables that isn't refused so.
+fn first_wrong_refusal(alloc: Global) -> Result<Option<&'static str>, Fail> {
+    for (columns, fault, words) in REFUSED {
+        let table = columns_of(alloc, columns)?;
+        if !is_refused(alloc, &table, fault, words)? {
+            return Ok(Some(words));
+        }
+    }
+    Ok(None)
 }
 
 #[test]
 fn malformed_columns_are_named(rt: HostRuntime) -> Result<(), Fail> {
-    let three = PeriodicError::NotPowerOfTwo {
-        column: 0,
-        length: 3,
-    };
-    let words = "periodic column 0 has length 3, which is not a power of two";
-    assert!(rt; column_is_refused(rt.alloc(), &[1, 2, 3], three, words)?);
-    let sixteen = PeriodicError::DoesNotDivide {
-        column: 0,
-        length: 16,
-        trace_height: 8,
-    };
-    let words = "periodic column 0 has length 16, which does not divide the trace height 8";
-    assert!(rt; column_is_refused(rt.alloc(), &[1; 16], sixteen, words)?);
-    let none = PeriodicError::NotPowerOfTwo {
-        column: 0,
-        length: 0,
-    };
-    let words = "periodic column 0 has length 0, which is not a power of two";
-    assert!(rt; column_is_refused(rt.alloc(), &[], none, words)?);
-    Ok(())
-}
-
-#[test]
-fn the_first_malformed_column_is_named(rt: HostRuntime) -> Result<(), Fail> {
-    let table = columns_of(rt.alloc(), &[&[1, 3], &[1; 16], &[1, 2, 3]])?;
-    let second = PeriodicError::DoesNotDivide {
-        column: 1,
-        length: 16,
-        trace_height: 8,
-    };
-    let words = "periodic column 1 has length 16, which does not divide the trace height 8";
-    assert!(rt; is_refused(rt.alloc(), &table, second, words)?);
+    let wrong = first_wrong_refusal(rt.alloc())?;
+    assert!(rt; wrong.is_none(), "{wrong:?}");
     Ok(())
 }
 
@@ -105,13 +113,8 @@ fn the_greatest_period(rt: HostRuntime) -> Result<(), Fail> {
     assert!(rt; PeriodicColumns::new(&none, 8)?.max_period().is_none());
     let table = columns_of(rt.alloc(), &[&[5], &[1, 2, 3, 4], &[1, 3]])?;
     let columns = PeriodicColumns::new(&table, 8)?;
-    assert_eq!(rt;
-        (
-            columns.max_period(),
-            columns.len(),
-            columns.as_slice().len()
-        ),
-        (Some(4), 3, 3)
-    );
+    assert!(rt; columns.max_period() == Some(4));
+    assert!(rt; columns.len() == 3);
+    assert!(rt; columns.as_slice().len() == 3);
     Ok(())
 }

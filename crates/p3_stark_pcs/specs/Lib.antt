@@ -1,3 +1,4 @@
 pub mod Heights
 pub mod Preprocessing
 pub mod Evaluations
+pub mod Stark

@@ -1,12 +1,12 @@
-//! Columns of numbers, and the numbers of a matrix.
+//! Columns of numbers, and whether matrices are such.
 
 ghost use Rattle.std.specs.Prelude.{All, IfOk};
 ghost use Rattle.p3_fri_commit.specs.Extension.{FitsDomain};
 
 use crate::scheme::Domain;
-use p3_field::{BabyBear, Field, PrimeField64, TwoAdicMultiplicativeCoset};
+use p3_field::{BabyBear, Field, TwoAdicMultiplicativeCoset};
 use p3_matrix::RowMajorMatrix;
-use std::alloc::{AllocError, Global};
+use std::alloc::Global;
 use std::test::Fail;
 
 /// The coset of this shift and of `2^log_size` points.
@@ -51,28 +51,22 @@ pub(crate) fn columns(
     Ok(all)
 }
 
-/// The numbers of a matrix, row by row.
-pub(crate) fn numbers_of(
-    alloc: Global,
-    matrix: &RowMajorMatrix<BabyBear>,
-) -> Result<Vec<u64>, AllocError> {
-    let mut numbers = Vec::new(alloc);
-    for index in 0..matrix.height() {
-        for element in matrix.row(index) {
-            numbers.push(element.as_canonical_u64())?;
+/// Whether the matrix is one column of these numbers.
+pub(crate) fn is_column(matrix: &RowMajorMatrix<BabyBear>, numbers: &[u64]) -> bool {
+    for (index, number) in numbers.iter().enumerate() {
+        if matrix.get(index, 0) != Some(BabyBear::from_u64(*number)) {
+            return false;
         }
     }
-    Ok(numbers)
+    matrix.height() == numbers.len() && matrix.width() == 1
 }
 
-/// The numbers of each of these matrices, row by row.
-pub(crate) fn numbers_of_all(
-    alloc: Global,
-    matrices: &[RowMajorMatrix<BabyBear>],
-) -> Result<Vec<Vec<u64>>, AllocError> {
-    let mut all = Vec::with_capacity(alloc, matrices.len())?;
-    for matrix in matrices {
-        all.push(numbers_of(alloc, matrix)?)?;
+/// Whether each of the matrices is.
+pub(crate) fn are_columns(matrices: &[RowMajorMatrix<BabyBear>], each: &[&[u64]]) -> bool {
+    for (matrix, numbers) in matrices.iter().zip(each) {
+        if !is_column(matrix, *numbers) {
+            return false;
+        }
     }
-    Ok(all)
+    matrices.len() == each.len()
 }

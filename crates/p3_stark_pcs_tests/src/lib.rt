@@ -4,7 +4,6 @@
 #[cfg(test)]
 mod columns;
 #[cfg(test)]
-mod evaluations;
 #[cfg(test)]
 mod opened;
 #[cfg(test)]

@@ -42,59 +42,92 @@ fn table_of(
     ))
 }
 
-/// At the points 31 and -31 times a root of order 4 the values are `2 - 31^4` and `2 + 31^4`.
-#[test]
-fn a_periodic_column_of_two(rt: HostRuntime) -> Result<(), Fail> {
-    let table = table_of(rt.alloc(), &[&[1, 3]])??;
-    let sum = Some(BabyBear::from_u64(923_523));
-    assert_eq!(rt;
-        (
-            table.height(),
-            table.get(0, 0),
-            table.get(2, 0),
-            table.get(14, 0),
-            table.get(0, 1)
-        ),
-        (4, Some(BabyBear::from_u64(2_012_342_402)), sum, sum, None)
-    );
-    Ok(())
+/// Columns, the height of their table, and entries of it by index and column.
+#[derive(Clone, Copy)]
+struct Case {
+    name: &'static str,
+    columns: &'static [&'static [u64]],
+    height: usize,
+    entries: &'static [(usize, usize, Option<u64>)],
+}
+
+const TABLES: [Case; 3] = [
+    // at the points 31 and -31 times a root of order 4 the values are `2 - 31^4` and `2 + 31^4`
+    Case {
+        name: "a column of two",
+        columns: &[&[1, 3]],
+        height: 4,
+        entries: &[
+            (0, 0, Some(2_012_342_402)),
+            (2, 0, Some(923_523)),
+            (14, 0, Some(923_523)),
+            (0, 1, None),
+        ],
+    },
+    Case {
+        name: "a constant",
+        columns: &[&[5]],
+        height: 2,
+        entries: &[(0, 0, Some(5)), (1, 0, Some(5))],
+    },
+    Case {
+        name: "no columns",
+        columns: &[],
+        height: 0,
+        entries: &[(0, 0, None)],
+    },
+];
+
+/// Whether the table has these entries.
+fn has_entries(
+    table: &PeriodicLdeTable<BabyBear>,
+    entries: &[(usize, usize, Option<u64>)],
+) -> bool {
+    for (index, column, number) in entries {
+        let expected = match number {
+            Some(number) => Some(BabyBear::from_u64(*number)),
+            None => None,
+        };
+        if table.get(*index, *column) != expected {
+            return false;
+        }
+    }
+    true
 }
 
 #[test]
-fn a_periodic_constant(rt: HostRuntime) -> Result<(), Fail> {
-    let table = table_of(rt.alloc(), &[&[5]])??;
-    let five = Some(BabyBear::from_u64(5));
-    assert_eq!(rt;
-        (table.height(), table.get(0, 0), table.get(1, 0)),
-        (2, five, five)
-    );
+fn tables_of_periodic_columns(rt: HostRuntime) -> Result<(), Fail> {
+    for case in &TABLES {
+        let table = table_of(rt.alloc(), case.columns)??;
+        let is_met = table.height() == case.height && has_entries(&table, case.entries);
+        assert!(rt; is_met, "{}", case.name);
+    }
     Ok(())
 }
 
-#[test]
-fn no_periodic_columns(rt: HostRuntime) -> Result<(), Fail> {
-    let table = table_of(rt.alloc(), &[])??;
-    assert_eq!(rt; (table.height(), table.get(0, 0)), (0, None));
-    Ok(())
-}
+const MALFORMED: [(&[&[u64]], PeriodicError); 2] = [
+    (
+        &[&[1, 2, 3]],
+        PeriodicError::NotPowerOfTwo {
+            column: 0,
+            length: 3,
+        },
+    ),
+    (
+        &[&[5], &[1; 16], &[]],
+        PeriodicError::DoesNotDivide {
+            column: 1,
+            length: 16,
+            trace_height: 8,
+        },
+    ),
+];
 
 #[test]
 fn a_malformed_periodic_column(rt: HostRuntime) -> Result<(), Fail> {
-    let three = PeriodicError::NotPowerOfTwo {
-        column: 0,
-        length: 3,
-    };
-    let sixteen = PeriodicError::DoesNotDivide {
-        column: 1,
-        length: 16,
-        trace_height: 8,
-    };
-    let rows: [(&[&[u64]], PeriodicError); 2] = [
-        (&[&[1, 2, 3]], three),
-        (&[&[5], &[1; 16], &[]], sixteen),
-    ];
-    for (columns, expected) in rows {
-        assert_eq!(rt; table_of(rt.alloc(), columns)?.err(), Some(expected));
+    for (columns, expected) in &MALFORMED {
+        let refusal = table_of(rt.alloc(), *columns)?.err();
+        assert!(rt; refusal == Some(*expected), "{expected:?}");
     }
     Ok(())
 }

@@ -4,11 +4,12 @@ ghost use Rattle.std.specs.Prelude.{◌≡◌};
 ghost use Rattle.p3_fri_relation.specs.Views.{parameters_of};
 ghost use Rattle.p3_fri_two_adic.specs.Ranges.{InProverRange, InVerifierRange};
 
-use p3_commit::{Mmcs, Sha256Mmcs};
 use p3_dft::Radix2Dit;
 use p3_field::{BabyBear, BabyBear4, TwoAdicMultiplicativeCoset};
 use p3_fri_folding::FriParameters;
+use p3_fri_relation::proof::{BatchMultiOpening, FriProof};
 use p3_fri_two_adic::TwoAdicFriPcs;
+use p3_mmcs::{Mmcs, Sha256Mmcs};
 
 pub(crate) type Inputs = Sha256Mmcs<BabyBear>;
 
@@ -19,6 +20,13 @@ pub(crate) type Data = <Inputs as Mmcs<BabyBear>>::ProverData;
 pub(crate) type Scheme = TwoAdicFriPcs<BabyBear, Radix2Dit<BabyBear>, Inputs, Rounds>;
 
 pub(crate) type Domain = TwoAdicMultiplicativeCoset<BabyBear>;
+
+pub(crate) type Proof = FriProof<
+    BabyBear4,
+    Rounds,
+    BabyBear,
+    Vec<BatchMultiOpening<BabyBear, Inputs>>,
+>;
 
 /// The scheme of a blowup of 2 and two queries, that folds to a constant by two.
 pub(crate) fn scheme() -> Scheme

@@ -1,6 +1,7 @@
 //! BabyBear is a prime field.
 
-ghost use Rattle.std.specs.Prelude.{◌≡◌, ◌≢◌};
+ghost use Rattle.std.specs.Prelude.{◌≡◌, ◌≢◌, ◌%◌, refl};
+ghost use Rattle.algebra.specs.Field.{multiple};
 ghost use Rattle.p3_baby_bear.specs.BabyBear.{baby_bear, element};
 ghost use Rattle.p3_baby_bear.specs.BabyBearLaws.{baby_bear_laws, eq_same, zero_is, one_is, two_is};
 ghost use Rattle.p3_baby_bear.specs.BabyBearLaws.{generator_is, canonical_multiple};
@@ -12,6 +13,7 @@ use super::factor::BabyBearFactor;
 use super::inverse::inverse_of;
 use p3_field_core::field::Field;
 use p3_field_core::prime_field::PrimeField64;
+use p3_field_core::sample_field::SampleField;
 
 impl Field for BabyBear {
     type Prepared = BabyBearFactor;
@@ -118,4 +120,10 @@ impl PrimeField64 for BabyBear {
     ghost bits_at_least = { bits_at_least };
 
     ghost bits_at_most = { bits_at_most };
+}
+
+impl SampleField for BabyBear {
+    ghost from_word = { λ word. multiple baby_bear (word % 2013265921) };
+
+    ghost from_word_law = { λ _. refl };
 }

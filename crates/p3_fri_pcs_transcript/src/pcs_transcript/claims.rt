@@ -11,8 +11,8 @@ use crate::pcs_transcript::described::DescribedCounts;
 use crate::pcs_transcript::failure::PcsTranscriptFailure;
 use p3_challenger_core::FieldChallenger;
 use p3_challenger_fs::Script;
-use p3_commit::CommitmentOpening;
 use p3_field_core::{ExtensionField, Field};
+use p3_mmcs::CommitmentOpening;
 
 /// Absorbs the claims in the order of commitments, matrices and points, each once its number of
 /// values is the next described one.

@@ -7,7 +7,7 @@ ghost use Rattle.p3_fri_pcs_transcript.specs.Counts.{counts_of_values, counts_of
 ghost use Rattle.p3_fri_pcs_transcript.specs.Counts.{claimed_at_points, claimed_in_matrices};
 ghost use Rattle.p3_fri_pcs_transcript.specs.Steps.{widths};
 
-use p3_commit::{CommitmentOpening, MatrixOpening, PointOpening};
+use p3_mmcs::{CommitmentOpening, MatrixOpening, PointOpening};
 use std::alloc::{AllocError, Global};
 
 /// How many values there are, by commitment, matrix and point.

@@ -5,13 +5,13 @@ ghost use Rattle.algebra.specs.Nested.{lists, nested, joined};
 ghost use Rattle.p3_challenger_fs.specs.Pattern.{step_of, number_bytes};
 ghost use Rattle.p3_challenger_fs.specs.Separator.{description};
 ghost use Rattle.p3_fri_pcs_transcript.specs.Steps.{widths, grouping};
-ghost use Rattle.p3_fri_steps.specs.Labels.{labels_added};
-ghost use Rattle.p3_fri_steps.specs.Steps.{message_step};
+ghost use Rattle.p3_fri_pow.specs.Labels.{labels_added};
+ghost use Rattle.p3_fri_pow.specs.Steps.{message_step};
 
 use crate::labels::CLAIMED_EVALUATIONS;
 use p3_challenger_fs::{DomainSeparator, Hierarchy, Interaction, Kind, Length};
 use p3_field_core::{ExtensionField, Field};
-use p3_fri_steps::steps::push_label;
+use p3_fri_pow::steps::push_label;
 use std::alloc::{AllocError, Global};
 
 /// Appends a step for each point, in order.

@@ -2,7 +2,7 @@
 
 ghost use Rattle.std.specs.Prelude.{◌≡◌, ◌≢◌, ◌↔◌, true, Some, Err, IsOk, IfOk, length};
 ghost use Rattle.p3_challenger_fs.specs.Turns.{bytes_observed};
-ghost use Rattle.p3_fri_steps.specs.Reached.{Reaches};
+ghost use Rattle.p3_fri_pow.specs.Reached.{Reaches};
 ghost use Rattle.p3_fri_transcript.specs.declared.transcript.play.Refusal.TheVariants.{Seed, Step};
 ghost use Rattle.p3_fri_transcript.specs.Indices.{AreIndices};
 ghost use Rattle.p3_fri_transcript.specs.Shapes.{fri_shape};
@@ -18,12 +18,12 @@ use crate::pcs_transcript::failure::PcsTranscriptFailure;
 use crate::pcs_transcript::shape::PcsShape;
 use crate::pcs_transcript::state::{PcsProverTranscript, PcsVerifierTranscript};
 use p3_challenger_core::{CanObserve, FieldChallenger, GrindingChallenger, Plays};
-use p3_commit::{CommitmentWithOpeningPoints, OpenedValues};
 use p3_field_core::{ExtensionField, Field};
-use p3_fri_steps::FriProverError;
+use p3_fri_pow::FriProverError;
 use p3_fri_transcript::transcript::{
     FriMessages, FriShape, PlayedFri, Refusal, ReplayedFri, TranscriptFailure, play_fri, replay_fri,
 };
+use p3_mmcs::{CommitmentWithOpeningPoints, OpenedValues};
 use std::alloc::{AllocError, Global};
 
 /// Why a verifier refuses along the transcript or along the test inside it.

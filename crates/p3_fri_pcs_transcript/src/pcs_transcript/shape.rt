@@ -11,10 +11,10 @@ use crate::pcs_transcript::description::{push_claims, push_grouping};
 use p3_challenger_fs::{
     DomainSeparator, Hierarchy, Interaction, InteractionPattern, Kind, Length, Seed,
 };
-use p3_commit::{CommitmentWithOpeningPoints, OpenedValues};
 use p3_field_core::{ExtensionField, Field};
 use p3_fri_folding::FriParameters;
-use p3_fri_steps::steps::push_pow;
+use p3_fri_pow::steps::push_pow;
+use p3_mmcs::{CommitmentWithOpeningPoints, OpenedValues};
 use std::alloc::{AllocError, Global};
 
 /// The numbers that fix the transcript. Both sides make it from what they hold: the prover from the

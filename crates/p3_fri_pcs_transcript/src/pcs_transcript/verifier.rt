@@ -4,7 +4,7 @@ ghost use Rattle.std.specs.Prelude.{◌≡◌, ◌≤◌, ◌↔◌, ◌++◌, �
 ghost use Rattle.std.specs.Prelude.{IsOk, IfOk, IfErr, IsOkAnd, OnOk, OnErr};
 ghost use Rattle.std.specs.List.{flat_map};
 ghost use Rattle.p3_challenger_core.specs.Run.{observed_all};
-ghost use Rattle.p3_fri_steps.specs.Pow.{shown_attempt};
+ghost use Rattle.p3_fri_pow.specs.Pow.{shown_attempt};
 ghost use Rattle.p3_fri_pcs_transcript.specs.Claims.{BeginsWith, IsClaimFailure};
 ghost use Rattle.p3_fri_pcs_transcript.specs.Counts.{counts_of_claims, all_claimed};
 ghost use Rattle.p3_fri_pcs_transcript.specs.Failures.{BatchFailure};
@@ -19,9 +19,9 @@ use crate::pcs_transcript::described::DescribedCounts;
 use crate::pcs_transcript::failure::PcsTranscriptFailure;
 use crate::pcs_transcript::state::PcsVerifierTranscript;
 use p3_challenger_core::{FieldChallenger, GrindingChallenger, Plays};
-use p3_commit::CommitmentWithOpeningPoints;
 use p3_field_core::{ExtensionField, Field};
-use p3_fri_steps::pow::{PowFailure, check};
+use p3_fri_pow::pow::{PowFailure, check};
+use p3_mmcs::CommitmentWithOpeningPoints;
 
 #[tactic(auto, unfolding(crate::specs::Shapes::pcs_shape))]
 impl<

@@ -15,12 +15,12 @@ ghost use Rattle.p3_fri_prover.specs.Rounds.{CanFold, IsRound};
 
 use crate::prover::roll_in::{arity_of, roll_in};
 use p3_challenger_core::{CanObserve, FieldChallenger, GrindingChallenger, Plays};
-use p3_commit::Mmcs;
 use p3_field_core::{ExtensionField, TwoAdicField};
 use p3_fri_folding::FriFoldingStrategy;
-use p3_fri_steps::FriProverError;
+use p3_fri_pow::FriProverError;
 use p3_fri_transcript::transcript::ProverTranscript;
 use p3_matrix::RowMajorMatrix;
+use p3_mmcs::Mmcs;
 use std::alloc::{AllocError, Global};
 
 /// A round that was played: its commitment with what opens it, its witness, and the word after it.

@@ -6,15 +6,15 @@ ghost use Rattle.std.specs.List.{AllZip};
 ghost use Rattle.algebra.specs.Nested.{lists, nested};
 ghost use Rattle.algebra.specs.Polynomial.{tabulate};
 ghost use Rattle.p3_matrix.specs.declared.dense.RowMajorMatrix.{RowMajorMatrix};
-ghost use Rattle.p3_commit.specs.Batch.{AreBelow, max_height, dimensions_of};
+ghost use Rattle.p3_mmcs.specs.Batch.{AreBelow, max_height, dimensions_of};
 ghost use Rattle.p3_fri_relation.specs.Queries.{row_indices};
 ghost use Rattle.p3_fri_prover.specs.Openings.{IsOneMatrix, OpensRows, OpensBatch, IsOpenable};
 ghost use Rattle.p3_fri_prover.specs.Openings.{index_into};
 
 use crate::prover::roll_in::arity_of;
-use p3_commit::Mmcs;
 use p3_field_core::log2_strict_usize;
 use p3_fri_relation::proof::{BatchMultiOpening, CommitPhaseMultiStep};
+use p3_mmcs::Mmcs;
 use std::alloc::{AllocError, Global};
 
 /// Committed matrices, and for each of them the points at which it is opened.

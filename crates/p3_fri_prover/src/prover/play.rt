@@ -16,12 +16,12 @@ use crate::prover::last_word::final_polynomial;
 use crate::prover::rounds::{CommittedRounds, commit_rounds};
 use p3_challenger_core::{CanObserve, FieldChallenger, GrindingChallenger, Plays};
 use p3_challenger_fs::Seed;
-use p3_commit::Mmcs;
 use p3_field_core::{ExtensionField, TwoAdicField};
 use p3_fri_folding::{FriFoldingStrategy, FriParameters};
+use p3_fri_pow::FriProverError;
 use p3_fri_relation::setting::ChallengeField;
-use p3_fri_steps::FriProverError;
 use p3_fri_transcript::transcript::{FriShape, ProverTranscript};
+use p3_mmcs::Mmcs;
 use std::alloc::Global;
 
 /// What was played.

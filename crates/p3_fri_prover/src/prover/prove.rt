@@ -6,7 +6,7 @@ ghost use Rattle.std.specs.Prelude.{slice_index, slice_index_or};
 ghost use Rattle.std.specs.List.{AllZip};
 ghost use Rattle.algebra.specs.Nested.{lists, nested};
 ghost use Rattle.p3_matrix.specs.declared.dense.RowMajorMatrix.{RowMajorMatrix};
-ghost use Rattle.p3_commit.specs.Batch.{max_height, dimensions_of};
+ghost use Rattle.p3_mmcs.specs.Batch.{max_height, dimensions_of};
 ghost use Rattle.p3_fri_relation.specs.Views.{parameters_of, proof_of};
 ghost use Rattle.p3_fri_prover.specs.Inputs.{AreInputs, HaveHeights};
 ghost use Rattle.p3_fri_prover.specs.Openings.{OpensRows, OpensBatch, IsOpenable, index_into};
@@ -19,12 +19,12 @@ use crate::prover::plan::{Plan, make_plan};
 use crate::prover::play::{Played, play_test};
 use crate::prover::rounds::CommittedRounds;
 use p3_challenger_core::{CanObserve, FieldChallenger, GrindingChallenger};
-use p3_commit::Mmcs;
 use p3_field_core::{ExtensionField, TwoAdicField};
 use p3_fri_folding::{FriFoldingStrategy, FriParameters};
+use p3_fri_pow::FriProverError;
 use p3_fri_relation::proof::{BatchMultiOpening, FriProof};
 use p3_fri_relation::setting::PlaysFri;
-use p3_fri_steps::FriProverError;
+use p3_mmcs::Mmcs;
 use std::alloc::{AllocError, Global};
 
 /// The proof of what was played: the inputs and the rounds opened at the positions, which are the

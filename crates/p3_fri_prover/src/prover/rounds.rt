@@ -11,11 +11,11 @@ ghost use Rattle.p3_fri_prover.specs.Rounds.{CanFold, AreCommitted};
 
 use crate::prover::commit_phase::{CommittedRound, commit_round};
 use p3_challenger_core::{CanObserve, FieldChallenger, GrindingChallenger, Plays};
-use p3_commit::Mmcs;
 use p3_field_core::{ExtensionField, TwoAdicField};
 use p3_fri_folding::FriFoldingStrategy;
-use p3_fri_steps::FriProverError;
+use p3_fri_pow::FriProverError;
 use p3_fri_transcript::transcript::ProverTranscript;
+use p3_mmcs::Mmcs;
 use std::alloc::{AllocError, Global};
 
 /// The rounds that were played.

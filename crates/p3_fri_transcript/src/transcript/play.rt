@@ -4,7 +4,7 @@ ghost use Rattle.std.specs.Prelude.{◌≡◌, ◌≢◌, ◌≤◌, ◌↔◌, 
 ghost use Rattle.std.specs.Prelude.{IsOk, IfOk, IfErr, OnOk, length};
 ghost use Rattle.p3_challenger_fs.specs.Turns.{bytes_observed};
 ghost use Rattle.p3_fri_transcript.specs.Indices.{AreIndices};
-ghost use Rattle.p3_fri_steps.specs.Reached.{Reaches};
+ghost use Rattle.p3_fri_pow.specs.Reached.{Reaches};
 ghost use Rattle.p3_fri_transcript.specs.declared.transcript.play.Refusal.TheVariants.{Seed, Step};
 ghost use Rattle.p3_fri_transcript.specs.Failures.{FriPasses, FriFailure};
 ghost use Rattle.p3_fri_transcript.specs.Found.{RoundsFound, FriFound, RoundsRefused, PlayRefused};
@@ -20,7 +20,7 @@ use crate::transcript::state::{ProverTranscript, VerifierTranscript};
 use crate::transcript::verifier::push;
 use p3_challenger_core::{CanObserve, FieldChallenger, GrindingChallenger, Plays};
 use p3_field_core::{ExtensionField, Field};
-use p3_fri_steps::FriProverError;
+use p3_fri_pow::FriProverError;
 use std::alloc::{AllocError, Global};
 
 /// Why a whole transcript is refused.

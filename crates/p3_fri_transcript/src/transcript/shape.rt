@@ -4,7 +4,7 @@ ghost use Rattle.std.specs.Prelude.{◌≡◌, ◌<◌, ◌+◌, ◌^◌, ◌++�
 ghost use Rattle.p3_challenger_fs.specs.Pattern.{step_of, turn_of, number_bytes};
 ghost use Rattle.p3_challenger_fs.specs.Separator.{description, seed_bytes, seed_turns};
 ghost use Rattle.p3_fri_folding.specs.Schedule.{IsStrictlyFalling, schedule};
-ghost use Rattle.p3_fri_steps.specs.Steps.{pow_steps};
+ghost use Rattle.p3_fri_pow.specs.Steps.{pow_steps};
 
 use crate::labels;
 use crate::rounds::push_rounds;
@@ -13,7 +13,7 @@ use p3_challenger_fs::{
 };
 use p3_field_core::{ExtensionField, Field};
 use p3_fri_folding::{FriParameters, fold_schedule};
-use p3_fri_steps::steps::{push_label, push_labels, push_pow};
+use p3_fri_pow::steps::{push_label, push_labels, push_pow};
 use std::alloc::{AllocError, Global};
 
 /// The numbers that fix the transcript of a low-degree test. Both sides make it from their own

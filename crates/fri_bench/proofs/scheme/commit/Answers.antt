@@ -4,8 +4,8 @@ use Rattle.fri_bench.proofs.OneOf.{one_pushed}
 use Rattle.algebra.proofs.Lists.{all-one}
 use Rattle.fri_bench.proofs.scheme.commit.Goals as goal
 
-pub commit-requires-clause-evaluations : goal.commit-requires-clause-evaluations
-commit-requires-clause-evaluations c =
+pub commit-requires : goal.commit-requires
+commit-requires c =
     let e = c.in_ok-evaluation.field-0 in
     all-one (λ e. FitsDomain 27 c.scheme-scheme.result.fri.log_blowup e.0.log_size e.1) _ e
     (one_pushed c.in_ok-push.ensures.items c.new-evaluations.ensures.items)

@@ -1,5 +1,5 @@
 use Rattle.std.proofs.Common.{◌∙◌, ap, sym, length}
-use Rattle.p3_commit.specs.ProverData.{matrices_of}
+use Rattle.p3_mmcs.specs.ProverData.{matrices_of}
 use Rattle.fri_bench.proofs.OneOf.{one_pushed, one_openable}
 use Rattle.fri_bench.proofs.scheme.open.Goals as goal
 

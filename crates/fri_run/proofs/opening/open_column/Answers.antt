@@ -27,8 +27,8 @@ fields = record {
   shift = element 31;
 }
 
-pub commit-committed-requires-clause-evaluations : goal.commit-committed-requires-clause-evaluations
-commit-committed-requires-clause-evaluations c =
+pub commit-committed-requires : goal.commit-committed-requires
+commit-committed-requires c =
     let size = same_log c.len.result c.natural_domain_for_degree-domain.result.log_size c.args.log_size c.natural_domain_for_degree-domain.ensures.size (omega (arith, c.len.ensures, c.requires.size)) in
     let height = length-held baby_bear c.new-2.result 1 (2 ^ c.args.log_size) c.args.column.items
     (record { some = omega arith; entries = c.new-2.ensures.rows; columns = c.new-2.ensures.width; size = omega (arith, c.args.column.ok.0, c.requires.size) }) in

@@ -52,15 +52,16 @@ loop-subtree-preserved g t c =
     let x = c.subtree-item.result in
     let same : ts ≡ trees = c.deref-subtree-items.ensures.value in
     let fit : IsFit later (tree_of x.1) d = subtree_fits rounds later trees d is c.requires.log_arities c.requires.log_sum c.requires.fits k x (omega (arith, c.loop-subtree-test.true, ap length same)) (c.subtree-item.is ∙ ap (λ us. get_or us k x) same) in
-    let u = c.in_ok-unfolded-in-Node.unfolded in
-    let found = c.in_ok-unfolded-in-Node.ensures in
+    let word = c.in_ok-word-in-Node.word in
+    let inputs = c.in_ok-word-in-Node.later_inputs in
+    let found = c.in_ok-word-in-Node.ensures in
     let pushed = c.in_ok-push-in-Node.ensures.items in
     record {
       words = subst (λ ps. AllZip (λ t p. UnfoldsTo F later t.1 p) (views (take (k + 1) ts)) (lists ps)) (sym pushed)
-          (one_tree_more F later ts k x here.polys.items u.word (lists u.inputs.items) c.loop-subtree-test.true c.subtree-item.is found.values here.invariant.words);
+          (one_tree_more F later ts k x here.polys.items word (lists inputs.items) c.loop-subtree-test.true c.subtree-item.is found.values here.invariant.words);
       lengths = subst (λ ps. All (λ p. vec_len p ≡ d * 2 ^ log_sum later) ps) (sym pushed)
-          (All-push (λ p. vec_len p ≡ d * 2 ^ log_sum later) here.polys.items u.word here.invariant.lengths (found.word_length ∙ ap (λ n. n * 2 ^ log_sum later) fit.leaf));
-      inputs = λ _. its_inputs F later ts k x u.word.items (lists u.inputs.items) c.loop-subtree-test.true c.subtree-item.is found.values;
+          (All-push (λ p. vec_len p ≡ d * 2 ^ log_sum later) here.polys.items word here.invariant.lengths (found.word_length ∙ ap (λ n. n * 2 ^ log_sum later) fit.leaf));
+      inputs = λ _. its_inputs F later ts k x word.items (lists inputs.items) c.loop-subtree-test.true c.subtree-item.is found.values;
       input_lengths = λ _. found.input_lengths ∙ ap (λ n. map (λ s. n * 2 ^ s) (input_logs later)) fit.leaf;
     }
 
@@ -108,7 +109,7 @@ returns-after-loop-subtree-clause-word_length g t c =
     let rounds = c.args.rounds.now in
     let d = leaf_length (tree_of c.args.tree.now) in
     let product = (unfolded g t (goal.at.returns-after-loop-subtree-clause-word_length g t c).After-deref-in-Node-3).product in
-    IfOk-weaker c.undo_round.result (λ u. vec_len u.word ≡ common_length c.deref-in-Node-3.result.now * 2 ^ (first_round rounds).0) (λ u. vec_len u.word ≡ d * 2 ^ log_sum rounds)
+    IfOk-weaker c.undo_round.result (λ u. vec_len u.0 ≡ common_length c.deref-in-Node-3.result.now * 2 ^ (first_round rounds).0) (λ u. vec_len u.0 ≡ d * 2 ^ log_sum rounds)
     (λ u e. e ∙ product) c.undo_round.ensures.word_length
 
 pub returns-after-loop-subtree-clause-input_lengths : goal.returns-after-loop-subtree-clause-input_lengths
@@ -120,8 +121,8 @@ returns-after-loop-subtree-clause-input_lengths g t c =
     let has_input = (first_round rounds).1 in
     let known = unfolded g t (goal.at.returns-after-loop-subtree-clause-input_lengths g t c).After-deref-in-Node-3 in
     IfOk-weaker c.undo_round.result
-    (λ u. map (λ v. vec_len v) u.inputs.items ≡ with_input has_input (common_length c.deref-in-Node-3.result.now) (map (λ v. vec_len v) c.loop-subtree.inputs.items))
-    (λ u. map (λ v. vec_len v) u.inputs.items ≡ map (λ s. d * 2 ^ s) (input_logs rounds))
+    (λ u. map (λ v. vec_len v) u.1.items ≡ with_input has_input (common_length c.deref-in-Node-3.result.now) (map (λ v. vec_len v) c.loop-subtree.inputs.items))
+    (λ u. map (λ v. vec_len v) u.1.items ≡ map (λ s. d * 2 ^ s) (input_logs rounds))
     (λ u e. e ∙ ap₂ (λ n ns. with_input has_input n ns) known.common known.lengths
     ∙ sym (with_input-map (λ s. d * 2 ^ s) has_input (log_sum later) (input_logs later))
     ∙ ap (λ rs. map (λ s. d * 2 ^ s) (input_logs rs)) (sym known.split))
@@ -138,9 +139,9 @@ returns-after-loop-subtree-clause-values g t c =
     let ts = c.deref-subtree-items.result.now in
     let known = unfolded g t (goal.at.returns-after-loop-subtree-clause-values g t c).After-deref-in-Node-3 in
     IfOk-weaker c.undo_round.result
-    (λ u. IsRoundUnfolding F (first_round rounds) c.deref-in-Node-2.result.now (lists c.deref-in-Node-3.result.now) u.word.items (lists here.inputs.items) (lists u.inputs.items))
-    (λ u. IsTreeUnfolding F rounds (tree_of tree) u.word.items (lists u.inputs.items))
-    (λ u e. node_unfolds F rounds later tree c.in-Node.subtrees ts c.deref-in-Node-2.result.now here.polys.items c.deref-in-Node-3.result.now (lists here.inputs.items) u.word.items (lists u.inputs.items)
+    (λ u. IsRoundUnfolding F (first_round rounds) c.deref-in-Node-2.result.now (lists c.deref-in-Node-3.result.now) u.0.items (lists here.inputs.items) (lists u.1.items))
+    (λ u. IsTreeUnfolding F rounds (tree_of tree) u.0.items (lists u.1.items))
+    (λ u e. node_unfolds F rounds later tree c.in-Node.subtrees ts c.deref-in-Node-2.result.now here.polys.items c.deref-in-Node-3.result.now (lists here.inputs.items) u.0.items (lists u.1.items)
     c.in-Node.is c.deref-subtree-items.ensures.value known.split known.challenges c.deref-in-Node-3.ensures.value known.words known.behind e)
     c.undo_round.ensures.undone
 

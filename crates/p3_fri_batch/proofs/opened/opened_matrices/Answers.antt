@@ -3,7 +3,7 @@ use Rattle.std.proofs.lemmas.List.{length-map, take_all}
 use Rattle.std.proofs.lemmas.Slice.Zip.{AllZip-long}
 use Rattle.algebra.specs.Nested.{nested, joined}
 use Rattle.p3_pcs.specs.Claims.{opened_values}
-use Rattle.p3_pcs.proofs.Zipped.{entry_of_both, within_both, length_of_both}
+use Rattle.p3_pcs.proofs.Zipped.{entry_of_zip_with, within_zip_with, length_of_zip_with}
 use Rattle.p3_fri_openings.specs.Denominators.{ArePointsCovered}
 use Rattle.p3_fri_openings.proofs.First.{at_item}
 use Rattle.p3_fri_batch.specs.Rounds.{HaveValues, opened_in, opened_by_round}
@@ -59,8 +59,8 @@ loop-index-preserved g c =
           ∙ ap₂ (λ xs ys. xs ++ opened_in round (nested ys)) c.loop-index.invariant.opened
           c.deref.ensures.value
           ∙ sym (joined_more (opened_by_round rounds values) i part
-          (within_both opened_in rounds values i one three)
-          (entry_of_both opened_in rounds values i round (nested vs.items) one three
+          (within_zip_with opened_in rounds values i one three)
+          (entry_of_zip_with opened_in rounds values i round (nested vs.items) one three
           c.index-rounds-index.is
           (entry_of_map (λ v. nested v.items) c.args.values.now i vs two c.index-values-index.is)));
       ready = λ table covered. c.in_ok-push_round.ensures.ready table
@@ -75,4 +75,4 @@ returns-clause-opened g c =
     let last : length rounds ≤ c.loop-index.index = omega arith in
     c.loop-index.invariant.opened
     ∙ ap joined (take_all c.loop-index.index (opened_by_round rounds values)
-    (length_of_both opened_in rounds values c.loop-index.index (omega (arith, last))))
+    (length_of_zip_with opened_in rounds values c.loop-index.index (omega (arith, last))))

@@ -7,7 +7,7 @@ use Rattle.algebra.specs.Cosets.{coset_pt}
 use Rattle.algebra.specs.Nested.{lists}
 use Rattle.algebra.proofs.Lists.{each_from_All, get_or-tabulate, map-tabulate, length-tabulate}
 use Rattle.algebra.proofs.Lists.{entry_of_map}
-use Rattle.p3_pcs.proofs.Zipped.{entry_of_both, within_both, length_of_both}
+use Rattle.p3_pcs.proofs.Zipped.{entry_of_zip_with, within_zip_with, length_of_zip_with}
 use Rattle.p3_fri_relation.specs.Setting.{Fields}
 use Rattle.p3_fri_openings.specs.Log2.{log2}
 use Rattle.p3_fri_openings.specs.Committed.{coset_of}
@@ -110,8 +110,8 @@ loop-point-preserved g c =
     let n = length c.args.word.now in
     let z = c.index-points-point.result in
     let claims = claims_of points (lists values) in
-    let within = within_both claim_at points (lists values) p one three in
-    let entry = entry_of_both claim_at points (lists values) p z ys one three
+    let within = within_zip_with claim_at points (lists values) p one three in
+    let entry = entry_of_zip_with claim_at points (lists values) p z ys one three
     c.index-points-point.is at_values in
     let taken = length-take-le p claims (omega (arith, within)) in
     let all = claims_taken c.args.width p claims (claims_wide c.args.width points (lists values)
@@ -164,7 +164,7 @@ returns g c =
     let values = c.args.values.now in
     let claims = claims_of points (lists values) in
     let last : length points ≤ p = c.loop-point-test.false in
-    let short : length claims ≤ p = length_of_both claim_at points (lists values) p
+    let short : length claims ≤ p = length_of_zip_with claim_at points (lists values) p
     (omega (arith, last)) in
     let whole : p ≡ length points = omega arith in
     record {

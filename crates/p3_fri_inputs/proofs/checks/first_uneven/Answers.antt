@@ -3,7 +3,8 @@ use Rattle.std.proofs.lemmas.List.{length-map}
 use Rattle.p3_field_core.specs.declared.coset.TwoAdicMultiplicativeCoset.{TwoAdicMultiplicativeCoset as Coset}
 use Rattle.p3_fri_relation.specs.Setting.{MatrixClaim}
 use Rattle.p3_fri_relation.specs.Heights.{width}
-use Rattle.p3_fri_relation.specs.Faults.{At, IsWrong}
+use Rattle.p3_fri_pow.specs.Counts.{IsWrongCount}
+use Rattle.p3_fri_relation.specs.Faults.{At}
 use Rattle.p3_fri_relation.specs.Views.{matrix_claim, claims_of}
 use Rattle.p3_fri_inputs.specs.Claims.{claim_of, IsEven}
 use Rattle.p3_fri_inputs.proofs.Places.{at_mapped, holds_next, all_of_parts}
@@ -25,7 +26,7 @@ returns-in-Some g c =
     let items : c.deref.result.now ≡ it.matrices.items =
     c.deref.ensures.value ∙ ap (λ x. x.matrices.items) (sym is) in
     let found = λ (ms : List (MatrixClaim g.row.EF.Denot)). At c.in-Some.matrix (λ m. At c.in-Some.point (λ z.
-    IsWrong (width m) (length z.values) c.in-Some.expected c.in-Some.got) m.points) ms in
+    IsWrongCount (width m) (length z.values) c.in-Some.expected c.in-Some.got) m.points) ms in
     at_mapped (claim_of size) (λ d. found d.matrices) claims i it below is
     (subst (λ xs. found (map (matrix_claim size) xs)) items c.in-Some.ensures)
 

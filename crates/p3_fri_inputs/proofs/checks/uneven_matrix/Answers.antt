@@ -2,7 +2,8 @@ use Rattle.std.proofs.Common.{◌≡◌, ◌<◌, ◌∙◌, length, map, get_or
 use Rattle.std.proofs.lemmas.List.{length-map, get_or-map, get_or_default}
 use Rattle.p3_field_core.specs.declared.coset.TwoAdicMultiplicativeCoset.{TwoAdicMultiplicativeCoset as Coset}
 use Rattle.p3_fri_relation.specs.Heights.{width}
-use Rattle.p3_fri_relation.specs.Faults.{At, IsWrong}
+use Rattle.p3_fri_pow.specs.Counts.{IsWrongCount}
+use Rattle.p3_fri_relation.specs.Faults.{At}
 use Rattle.p3_fri_relation.specs.Views.{matrix_claim, point_claim}
 use Rattle.p3_fri_inputs.specs.Claims.{IsEven}
 use Rattle.p3_fri_inputs.proofs.Places.{at_mapped, holds_next, holds_of_all, element_at}
@@ -32,9 +33,9 @@ returns-in-Some g c =
     let j = c.in-Some.point in
     let inside : j < length r.points.items = omega (arith, found.0, ap length points) in
     let z = element_at r.points.items j inside in
-    at_mapped f (λ m. At j (λ z. IsWrong (width m) (length z.values) c.claimed_width-expected.result
+    at_mapped f (λ m. At j (λ z. IsWrongCount (width m) (length z.values) c.claimed_width-expected.result
     c.in-Some.got) m.points) matrices k r below is
-    (at_mapped point_claim (λ z. IsWrong (width m) (length z.values)
+    (at_mapped point_claim (λ z. IsWrongCount (width m) (length z.values)
     c.claimed_width-expected.result c.in-Some.got) r.points.items j z.0 inside z.1
     (record {
       expected_is = wide;

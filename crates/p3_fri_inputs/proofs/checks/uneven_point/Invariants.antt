@@ -1,5 +1,5 @@
 use Rattle.std.proofs.Common.{◌≡◌, ◌<◌, ℕ, length, get_or}
-use Rattle.p3_commit.specs.declared.openings.PointOpening.{PointOpening}
+use Rattle.p3_mmcs.specs.declared.openings.PointOpening.{PointOpening}
 use Rattle.p3_fri_inputs.proofs.checks.uneven_point.Given as goal
 
 abbrev pub invariant-loop-k : goal.invariant-loop-k

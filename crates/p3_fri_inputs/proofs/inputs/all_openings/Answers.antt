@@ -1,4 +1,4 @@
-use Rattle.std.proofs.Common.{◌≡◌, ◌++◌, ◌∷◌, ◌+◌, ◌/◌, ◌<◌, ◌∙◌, ℕ, [], length, get_or, sym, ap}
+use Rattle.std.proofs.Common.{◌≡◌, ◌++◌, ◌∷◌, ◌+◌, ◌<◌, ◌∙◌, ℕ, [], length, get_or, subst, sym, ap}
 use Rattle.std.proofs.Common.{ap₂, arith, IsTrue, below_more}
 use Rattle.std.proofs.lemmas.List.{length-map, map-append}
 use Rattle.algebra.specs.Nested.{lists}
@@ -30,19 +30,24 @@ fields_of g = record {
   shift = g.F.Field.GENERATOR;
 }
 
--- the loop's query has its share of all inverses
-own : (g : Over) (c : In-loop-j g)
-    → let ms = matrices_of (claims_of (λ domain. domain.log_size) c.args.claims.now) in
+-- the loop's query has its share of all inverses, which ends there
+abbrev EndsAt : (g : Over) (c : In-loop-j g) (end : ℕ) → Type 0
+EndsAt g c end =
+    let ms = matrices_of (claims_of (λ domain. domain.log_size) c.args.claims.now) in
     ShareAt (λ q. distances g.EF.Field.ops c.args.log_blowup
     (point_read (fields_of g) c.args.log_global_max_height q) ms) g.EF.Field.ops.inv
     c.args.inverses.now c.args.indices.now c.loop-j.j (get_or c.args.indices.now c.loop-j.j 0)
-    c.loop-j.start (c.loop-j.start + length c.args.inverses.now / length c.args.indices.now)
+    c.loop-j.start end
+
+own : (g : Over) (c : In-loop-j g) → EndsAt g c (c.loop-j.start + c.inverses_per_index-count.result)
 own g c =
     let ms = matrices_of (claims_of (λ domain. domain.log_size) c.args.claims.now) in
-    own_inverses g.EF.Field.ops c.args.log_blowup c.args.alpha
+    subst (λ count. EndsAt g c (c.loop-j.start + count))
+    (sym (c.inverses_per_index-count.ensures (omega arith)))
+    (own_inverses g.EF.Field.ops c.args.log_blowup c.args.alpha
     (point_read (fields_of g) c.args.log_global_max_height) ms c.args.inverses.now
     c.args.indices.now c.loop-j.j c.loop-j.start c.requires.inverses (omega arith)
-    c.loop-j.invariant.start
+    c.loop-j.invariant.start)
 
 pub overflow_add-end : goal.overflow_add-end
 overflow_add-end g c =

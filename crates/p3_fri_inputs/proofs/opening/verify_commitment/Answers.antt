@@ -5,10 +5,10 @@ use Rattle.std.proofs.lemmas.List.{length-map}
 use Rattle.std.specs.List.{Any}
 use Rattle.algebra.specs.Nested.{nested}
 use Rattle.algebra.proofs.Nested.{length-nested}
-use Rattle.p3_commit.specs.Batch.{max_height, AreBelow, HavePowerHeights}
+use Rattle.p3_mmcs.specs.Batch.{max_height, AreBelow, HavePowerHeights}
 use Rattle.p3_fri_relation.specs.Heights.{log_height, dimensions, opened_index}
 use Rattle.p3_fri_relation.specs.Inputs.{OpensInput}
-use Rattle.p3_fri_relation.specs.Faults.{IsWrong}
+use Rattle.p3_fri_pow.specs.Counts.{IsWrongCount}
 use Rattle.p3_fri_relation.specs.Views.{matrix_claim}
 use Rattle.p3_fri_inputs.specs.Claims.{claim_of, input_of}
 use Rattle.p3_fri_inputs.proofs.Places.{at_mapped}
@@ -63,7 +63,7 @@ asked g c =
 pub returns-then-got-indices : goal.returns-then-got-indices
 returns-then-got-indices g c =
     let opening = c.index-openings-batch.result in
-    inr (λ alpha. at_mapped input_of (λ o. IsWrong (length c.args.indices.now) (length o.rows)
+    inr (λ alpha. at_mapped input_of (λ o. IsWrongCount (length c.args.indices.now) (length o.rows)
     (length c.args.indices.now) c.len-got.result) c.args.openings.now c.args.batch opening
     (omega (arith, c.requires.batch, c.requires.count)) c.index-openings-batch.is
     (record {
@@ -78,10 +78,10 @@ returns-in-Some g c =
     let claim = c.index-claims-batch.result in
     let any = c.in-Some.ensures.1 in
     inr (λ alpha. at_mapped_zip (claim_of (λ domain. domain.log_size)) input_of
-    (λ p. Any (λ rows. IsWrong (length p.0.matrices) (length rows) c.len-expected.result
+    (λ p. Any (λ rows. IsWrongCount (length p.0.matrices) (length rows) c.len-expected.result
     c.in-Some.got) p.1.rows) c.args.claims.now c.args.openings.now c.args.batch c.requires.count
     c.requires.batch c.index-claims-batch.is c.index-openings-batch.is
-    (subst (Any (λ rows. IsWrong (length (map (matrix_claim (λ domain. domain.log_size))
+    (subst (Any (λ rows. IsWrongCount (length (map (matrix_claim (λ domain. domain.log_size))
     claim.matrices.items)) (length rows) c.len-expected.result c.in-Some.got))
     (ap nested c.deref.ensures.value) (
       any.0,

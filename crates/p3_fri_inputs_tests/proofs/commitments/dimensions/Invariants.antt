@@ -1,5 +1,5 @@
 use Rattle.std.proofs.Common.{◌≡◌, take}
-use Rattle.p3_commit.specs.Batch.{dimensions_of}
+use Rattle.p3_mmcs.specs.Batch.{dimensions_of}
 use Rattle.p3_fri_inputs_tests.proofs.commitments.dimensions.Given as goal
 
 abbrev pub invariant-loop-matrix : goal.invariant-loop-matrix

@@ -3,7 +3,7 @@ use Rattle.std.specs.List.{Any}
 use Rattle.std.proofs.lemmas.List.Elements.{All-same}
 use Rattle.algebra.specs.Nested.{lists}
 use Rattle.algebra.proofs.Nested.{length-lists}
-use Rattle.p3_fri_relation.specs.Faults.{IsWrong}
+use Rattle.p3_fri_pow.specs.Counts.{IsWrongCount}
 use Rattle.p3_fri_instance.proofs.siblings.check_round.Goals as goal
 
 pub returns-in-None-clause-exact : goal.returns-in-None-clause-exact
@@ -33,7 +33,7 @@ returns-in-Some-clause-refusal g c =
     let wanted = c.siblings_in_row-expected.result in
     let asked : wanted ≡ 2 ^ c.args.log_arity - 1 = omega (arith, c.siblings_in_row-expected.ensures) in (
       refl,
-      subst (λ vectors. Any (λ row. IsWrong (2 ^ c.args.log_arity - 1) (length row) wanted c.in-Some.got) (lists vectors))
+      subst (λ vectors. Any (λ row. IsWrongCount (2 ^ c.args.log_arity - 1) (length row) wanted c.in-Some.got) (lists vectors))
           c.as_slice-rows.ensures.value
-          (subst (λ n. Any (λ row. IsWrong n (length row) wanted c.in-Some.got) (lists c.as_slice-rows.result.now)) asked c.in-Some.ensures.some),
+          (subst (λ n. Any (λ row. IsWrongCount n (length row) wanted c.in-Some.got) (lists c.as_slice-rows.result.now)) asked c.in-Some.ensures.some),
     )

@@ -10,8 +10,9 @@ use Rattle.p3_fri_completeness.specs.Honest.{AreTwoAdic}
 use Rattle.p3_fri_completeness.specs.Requests.{HoldsWords, held_of, relation_claims}
 use Rattle.p3_fri_opening_prover.proofs.Asked.{data_seen, some_matrix}
 use Rattle.p3_fri_opening_prover.proofs.Composed.{AllVerify, all_honest, all_refused, all_verify}
+use Rattle.p3_fri_opening_prover.proofs.Composed.{read_alike, same_opened}
 use Rattle.p3_fri_opening_prover.proofs.open.open_requests.Given.{Over}
-use Rattle.p3_fri_opening_prover.proofs.open.open_requests.Goals.{After-deref, After-open_checked}
+use Rattle.p3_fri_opening_prover.proofs.open.open_requests.Goals.{After-deref, After-deref-2, After-open_rounds}
 use Rattle.p3_fri_opening_prover.proofs.open.open_requests.Goals as goal
 
 abbrev fields_of : (g : Over) → Fields g.row.F.Denot g.row.EF.Denot
@@ -55,20 +56,30 @@ same : (g : Over) (c : After-deref g) → map round_request c.deref.result.now
     ≡ map (matrices_request g.InputMmcs.Mmcs.committed) c.args.requests.now
 same g c = ap (λ rounds. map round_request rounds) c.deref.ensures.value ∙ c.in-Ok.ensures.rounds
 
-pub open_checked-requires-clause-some_matrix :
-    goal.open_checked-requires-clause-some_matrix
-open_checked-requires-clause-some_matrix g c =
+pub open_rounds-requires-clause-some_matrix :
+    goal.open_rounds-requires-clause-some_matrix
+open_rounds-requires-clause-some_matrix g c =
     some_matrix (fields_of g) (parameters_of c.args.params.now) g.InputMmcs.Mmcs.committed
     c.deref.result.now c.args.requests.now
-    (same g (goal.at.open_checked-requires-clause-some_matrix g c).After-deref)
+    (same g (goal.at.open_rounds-requires-clause-some_matrix g c).After-deref)
     c.requires.openable
 
-pub open_checked-requires-clause-requests :
-    goal.open_checked-requires-clause-requests
-open_checked-requires-clause-requests g c =
-    data_seen (fields_of g) (parameters_of c.args.params.now) g.InputMmcs.Mmcs.committed
+-- the data that are opened are those of the requests
+same_data : (g : Over) (c : After-deref-2 g) → map (λ d. d.prover_data.now) c.deref-2.result.now
+    ≡ map (λ r. r.prover_data.now) c.args.requests.now
+same_data g c =
+    ap (λ ds. map (λ d. d.prover_data.now) ds) c.deref-2.ensures.value
+    ∙ c.in-Ok-data_of_requests.ensures
+
+pub open_rounds-requires-clause-opened :
+    goal.open_rounds-requires-clause-opened
+open_rounds-requires-clause-opened g c =
+    read_alike g.InputMmcs.Mmcs.committed c.deref-2.result.now c.args.requests.now
+    (λ d. d.prover_data.now) (λ r. r.prover_data.now)
+    (same_data g (goal.at.open_rounds-requires-clause-opened g c).After-deref-2)
+    ∙ data_seen (fields_of g) (parameters_of c.args.params.now) g.InputMmcs.Mmcs.committed
     c.deref.result.now c.args.requests.now
-    (same g (goal.at.open_checked-requires-clause-requests g c).After-deref)
+    (same g (goal.at.open_rounds-requires-clause-opened g c).After-deref)
 
 pub returns-clause-values :
     goal.returns-clause-values
@@ -76,21 +87,21 @@ returns-clause-values g c =
     all_honest (setting_at g c.args.folding.now c.args.params.now.mmcs c.args.input_mmcs.now)
     (parameters_of c.args.params.now) g.InputMmcs.Mmcs.committed c.deref.result.now
     c.args.requests.now (same g (goal.at.returns-clause-values g c).After-deref)
-    c.open_checked.result (λ opening. opened_values opening.0.items) c.open_checked.ensures.values
+    c.open_rounds.result (λ opening. opened_values opening.0.items) c.open_rounds.ensures.values
 
 -- an opening of honest requests is accepted
-verifies : (g : Over) (c : After-open_checked g)
+verifies : (g : Over) (c : After-open_rounds g)
     → let s = setting_at g c.args.folding.now c.args.params.now.mmcs c.args.input_mmcs.now in
     let p = parameters_of c.args.params.now in
     let committed = g.InputMmcs.Mmcs.committed in
     let held = held_of s.fields committed p.log_blowup in
     let asked = map request c.args.requests.now in
     AreHonest (λ d. All (HoldsWords s.fields p.log_blowup) (committed d)) asked
-    → AllVerify s p c.open_checked.result (λ opening. proof_of opening.1)
+    → AllVerify s p c.open_rounds.result (λ opening. proof_of opening.1)
     (λ (log_sizes : List (List ℕ)). FitDomains held (λ n. 2 ^ n) log_sizes asked)
     (λ log_sizes. relation_claims (λ n. n)
     (honest_claims held g.InputMmcs.Mmcs.commitment_of log_sizes asked))
-    c.args.challenger.now c.open_checked.new.challenger
+    c.args.challenger.now c.open_rounds.new.challenger
 verifies g c honest =
     all_verify (setting_at g c.args.folding.now c.args.params.now.mmcs c.args.input_mmcs.now)
     (parameters_of c.args.params.now) g.InputMmcs.Mmcs.committed c.deref.result.now
@@ -100,18 +111,25 @@ verifies g c honest =
     (λ bits few state. g.met.C.CanSampleBits.width_law state bits
     (omega (arith, few, c.requires.index_bits_at_most_max)))
     c.requires.some_query c.requires.positive_blowup c.requires.positive_cap c.requires.openable
-    honest c.in-Ok.ensures.passes c.args.challenger.now c.open_checked.new.challenger
-    c.open_checked.result (λ opening. proof_of opening.1) c.open_checked.ensures.opening
+    honest c.in-Ok.ensures.passes c.args.challenger.now c.open_rounds.new.challenger
+    c.open_rounds.result (λ opening. proof_of opening.1)
+    (same_opened (setting_at g c.args.folding.now c.args.params.now.mmcs c.args.input_mmcs.now)
+    (parameters_of c.args.params.now) _ _ c.args.challenger.now g.InputMmcs.Mmcs.committed
+    g.InputMmcs.Mmcs.commitment_of c.deref-2.result.now c.args.requests.now
+    (λ d. d.prover_data.now) (λ r. r.prover_data.now)
+    (ap (λ ds. map (λ d. d.prover_data.now) ds) c.deref-2.ensures.value
+    ∙ c.in-Ok-data_of_requests.ensures) c.open_rounds.new.challenger c.open_rounds.result
+    (λ opening. proof_of opening.1) c.open_rounds.ensures.opening)
 
 pub returns-clause-accepted :
     goal.returns-clause-accepted
 returns-clause-accepted g c honest =
-    (verifies g (goal.at.returns-clause-accepted g c).After-open_checked honest).accepted
+    (verifies g (goal.at.returns-clause-accepted g c).After-open_rounds honest).accepted
 
 pub returns-clause-state :
     goal.returns-clause-state
 returns-clause-state g c honest =
-    (verifies g (goal.at.returns-clause-state g c).After-open_checked honest).state
+    (verifies g (goal.at.returns-clause-state g c).After-open_rounds honest).state
 
 pub returns-clause-refused :
     goal.returns-clause-refused
@@ -119,5 +137,5 @@ returns-clause-refused g c =
     all_refused (setting_at g c.args.folding.now c.args.params.now.mmcs c.args.input_mmcs.now)
     (parameters_of c.args.params.now) g.InputMmcs.Mmcs.committed c.deref.result.now
     c.args.requests.now (same g (goal.at.returns-clause-refused g c).After-deref)
-    g.M.Mmcs.committed g.M.Mmcs.commitment_of c.args.challenger.now c.open_checked.result
-    c.in-Ok.ensures.passes c.open_checked.ensures.stops c.open_checked.ensures.not_checked
+    g.M.Mmcs.committed g.M.Mmcs.commitment_of c.args.challenger.now c.open_rounds.result
+    c.in-Ok.ensures.passes c.open_rounds.ensures.stops c.open_rounds.ensures.not_checked

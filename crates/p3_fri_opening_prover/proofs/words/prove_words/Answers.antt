@@ -2,7 +2,7 @@ use Rattle.std.proofs.Common.{◌≡◌, ◌∙◌, ◌^◌, ◌≤◌, ℕ, Lis
 use Rattle.std.specs.Prelude.{All, IfOk, IfErr}
 use Rattle.std.specs.List.{AllZip}
 use Rattle.algebra.specs.Nested.{lists}
-use Rattle.p3_commit.specs.Batch.{max_height, dimensions_of}
+use Rattle.p3_mmcs.specs.Batch.{max_height, dimensions_of}
 use Rattle.p3_challenger_core.specs.Run.{moves}
 use Rattle.p3_pcs.specs.Claims.{opened_values}
 use Rattle.p3_fri_relation.specs.Setting.{Fields, Setting}

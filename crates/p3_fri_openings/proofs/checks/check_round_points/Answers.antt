@@ -3,7 +3,7 @@ use Rattle.std.proofs.Common.{◌<◌, length, arith, All, refl, sym, ap, subst,
 use Rattle.std.proofs.lemmas.List.{length-map}
 use Rattle.algebra.specs.Nested.{lists}
 use Rattle.p3_matrix.specs.Matrix.{rows}
-use Rattle.p3_pcs.proofs.Zipped.{entry_of_both, within_both, length_of_both}
+use Rattle.p3_pcs.proofs.Zipped.{entry_of_zip_with, within_zip_with, length_of_zip_with}
 use Rattle.p3_fri_relation.specs.Setting.{Fields}
 use Rattle.p3_fri_openings.specs.First.{FirstAt}
 use Rattle.p3_fri_openings.specs.Refusals.{IsOn, IsOff, HasPointsOff, IsFirstPoint}
@@ -38,8 +38,8 @@ returns-in-Some g c =
     let one : c.loop-matrix.matrix < length c.args.round.now.matrices.now = omega arith in
     let two : c.loop-matrix.matrix < length c.args.round.now.points.now = omega arith in
     let three : c.loop-matrix.matrix < length (lists c.args.round.now.points.now) = omega arith in
-    let within = within_both ask c.args.round.now.matrices.now (lists c.args.round.now.points.now) c.loop-matrix.matrix one three in
-    let entry = entry_of_both ask c.args.round.now.matrices.now (lists c.args.round.now.points.now)
+    let within = within_zip_with ask c.args.round.now.matrices.now (lists c.args.round.now.points.now) c.loop-matrix.matrix one three in
+    let entry = entry_of_zip_with ask c.args.round.now.matrices.now (lists c.args.round.now.points.now)
     c.loop-matrix.matrix c.index-round-matrix.result c.index-round-matrix-in-loop-matrix.result.items
     one three c.index-round-matrix.is
     (entry_of_map (λ v. v.items) c.args.round.now.points.now c.loop-matrix.matrix
@@ -74,8 +74,8 @@ loop-matrix-preserved g c =
     let one : c.loop-matrix.matrix < length c.args.round.now.matrices.now = omega arith in
     let two : c.loop-matrix.matrix < length c.args.round.now.points.now = omega arith in
     let three : c.loop-matrix.matrix < length (lists c.args.round.now.points.now) = omega arith in
-    let within = within_both ask c.args.round.now.matrices.now (lists c.args.round.now.points.now) c.loop-matrix.matrix one three in
-    let entry = entry_of_both ask c.args.round.now.matrices.now (lists c.args.round.now.points.now)
+    let within = within_zip_with ask c.args.round.now.matrices.now (lists c.args.round.now.points.now) c.loop-matrix.matrix one three in
+    let entry = entry_of_zip_with ask c.args.round.now.matrices.now (lists c.args.round.now.points.now)
     c.loop-matrix.matrix c.index-round-matrix.result c.index-round-matrix-in-loop-matrix.result.items
     one three c.index-round-matrix.is
     (entry_of_map (λ v. v.items) c.args.round.now.points.now c.loop-matrix.matrix
@@ -104,4 +104,4 @@ returns g c =
     } in
     let n = length-map c.args.round.now.points.now (λ v. v.items) in
     let same = c.requires.round.lists_of_points in
-    to_the_end (HasPointsOff f) (asked_in c.args.round.now) _ (length_of_both ask c.args.round.now.matrices.now (lists c.args.round.now.points.now) _ (omega arith)) c.loop-matrix.invariant
+    to_the_end (HasPointsOff f) (asked_in c.args.round.now) _ (length_of_zip_with ask c.args.round.now.matrices.now (lists c.args.round.now.points.now) _ (omega arith)) c.loop-matrix.invariant

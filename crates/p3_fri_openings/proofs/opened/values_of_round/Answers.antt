@@ -2,7 +2,7 @@ use Rattle.std.proofs.Common.{◌<◌, All, length, map, get_or, sym, ap, ap₂,
 use Rattle.std.proofs.lemmas.List.{length-map}
 use Rattle.algebra.specs.Nested.{lists}
 use Rattle.p3_matrix.specs.Matrix.{rows}
-use Rattle.p3_pcs.proofs.Zipped.{entry_of_both, within_both, step, done}
+use Rattle.p3_pcs.proofs.Zipped.{entry_of_zip_with, within_zip_with, step, done}
 use Rattle.p3_fri_relation.specs.Setting.{Fields}
 use Rattle.p3_fri_openings.specs.Committed.{committed_values}
 use Rattle.p3_fri_openings.specs.Denominators.{IsCovered, HasPointsCovered}
@@ -37,8 +37,8 @@ values_at_points-requires g c =
     let three : i < length (lists round.points.now) = omega arith in
     let slice = c.as_slice-points.ensures.value
     ∙ ap (λ v. v.items) (sym c.index-round-index-in-loop-index.is) in
-    let within = within_both ask matrices (lists round.points.now) i one three in
-    let entry = entry_of_both ask matrices
+    let within = within_zip_with ask matrices (lists round.points.now) i one three in
+    let entry = entry_of_zip_with ask matrices
     (lists round.points.now) i m v.items one three c.index-round-index.is
     (entry_of_map (λ v. v.items) round.points.now i v two c.index-round-index-in-loop-index.is) in
     let off = at_item (HasPointsOff f) (asked_in round) i

@@ -1,6 +1,6 @@
 use Rattle.std.proofs.Common.{[]}
-use Rattle.p3_commit.specs.Batch.{dimensions}
-use Rattle.p3_commit.proofs.Heights.{heights_more, heights_none}
+use Rattle.p3_mmcs.specs.Batch.{dimensions}
+use Rattle.p3_mmcs.proofs.Heights.{heights_more, heights_none}
 use Rattle.p3_fri_openings_tests.proofs.requests.committed.Goals as goal
 
 pub commit_matrix-requires : goal.commit_matrix-requires

@@ -1,5 +1,5 @@
 use Rattle.std.specs.List.{AllWithin}
-use Rattle.p3_fri_steps.specs.Fits.{FitsList, FitsPoints}
+use Rattle.p3_fri_pow.specs.Fits.{FitsList, FitsPoints}
 use Rattle.p3_fri_pcs_transcript.proofs.laws.commitments_fit.Given as goal
 
 abbrev pub invariant-loop-matrices : goal.invariant-loop-matrices

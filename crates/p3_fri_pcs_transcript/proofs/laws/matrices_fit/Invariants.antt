@@ -1,5 +1,5 @@
 use Rattle.std.specs.List.{AllWithin}
-use Rattle.p3_fri_steps.specs.Fits.{FitsPoints}
+use Rattle.p3_fri_pow.specs.Fits.{FitsPoints}
 use Rattle.p3_fri_pcs_transcript.proofs.laws.matrices_fit.Given as goal
 
 abbrev pub invariant-loop-points : goal.invariant-loop-points

@@ -1,5 +1,5 @@
 use Rattle.std.proofs.Common.{subst, ap, ◌∙◌, refl}
-use Rattle.p3_commit.specs.Batch.{HavePowerHeights, dimensions_of}
+use Rattle.p3_mmcs.specs.Batch.{HavePowerHeights, dimensions_of}
 use Rattle.p3_fri_prover_tests.proofs.heights_joined.commit.Goals as goal
 
 pub commit-requires : goal.commit-requires

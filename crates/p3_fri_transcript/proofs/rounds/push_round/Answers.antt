@@ -1,6 +1,6 @@
 use Rattle.p3_fri_transcript.specs.Steps.{commitment_step}
-use Rattle.p3_fri_steps.specs.Steps.{challenge_step}
-use Rattle.p3_fri_steps.proofs.Pushed.{pushed}
+use Rattle.p3_fri_pow.specs.Steps.{challenge_step}
+use Rattle.p3_fri_pow.proofs.Pushed.{pushed}
 use Rattle.p3_fri_transcript.proofs.StepLists.{round_pushed}
 use Rattle.p3_fri_transcript.proofs.rounds.push_round.Goals as goal
 

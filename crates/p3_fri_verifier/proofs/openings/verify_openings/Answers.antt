@@ -119,7 +119,8 @@ returns-in-Err-way-clause-refusal g c = way_fault_at (setting_at g c.args.foldin
     c.requires.schedule (ap rounds_opened (sym c.as_slice-openings.ensures.value)) c.requires.positions
     (subst (λ la. AllZip (HasSiblings c.args.params.now.num_queries) la (rounds_opened c.args.proof.now.commit_phase_openings.items)) c.requires.schedule c.requires.counts.rounds)
     (c.requires.betas ∙ ap length c.requires.schedule) g.F.TwoAdicField.TWO_ADICITY c.requires.in_range c.in-Ok.ensures.sums
-    c.deref-2.result.now c.deref-2.ensures.value c.in-Err-way.refusal c.in-Err-way.ensures.refusal
+    c.deref-2.result.now c.deref-2.ensures.value ((c.in-Ok.ensures.exact (λ e. ok_err _ _ e)).0 refl)
+    c.in-Err-way.refusal c.in-Err-way.ensures.refusal
 
 pub verify_rounds-requires-clause-openings : goal.verify_rounds-requires-clause-openings
 verify_rounds-requires-clause-openings g c =

@@ -6,36 +6,39 @@ use Rattle.p3_pcs.proofs.headline.open_and_verify.Goals as goal
 pub returns-in-Ok-verify : goal.returns-in-Ok-verify
 returns-in-Ok-verify g c =
     let values = c.in-Ok-open.ensures.values c.requires.honest in
-    let is = claims_honest g.P.Pcs.commitment_of (g.P.Pcs.held c.args.scheme.now) g.P.Pcs.spent
+    let is = claims_honest g.P.Pcs.commitment_of (g.P.Pcs.committed_polynomials c.args.scheme.now) g.P.Pcs.after_opening
     c.args.known.now c.args.requests.now _ _ _ c.requires.commitments
-    (c.in-Ok-open.ensures.spent (c.in-Ok-open.ensures.checked refl)) values
+    (c.in-Ok-open.ensures.opened (c.in-Ok-open.ensures.checked refl)) values
     (rw c.as_slice.ensures.value at c.in-Ok-claims_of.ensures) in
     let left = c.in-Ok-open.ensures.state c.requires.honest _ c.requires.domains in
     let ends = c.in-Ok-verify.ensures.state refl in
     let same = c.requires.copies _ _ c.in-Ok.ensures.cases in
     let accepted = c.in-Ok-open.ensures.accepted c.requires.honest _ c.requires.domains in
     record {
-      headline = record {
-        values_honest = values;
-        accepted = accepted;
-        prover_state = left;
-        verifier_state = cc;
-      };
+      values = values;
+      accepted = accepted;
+      prover_state = left;
+      verifier_state = cc;
+      refused = tt;
     }
 
 pub returns-in-Err-verify : goal.returns-in-Err-verify
 returns-in-Err-verify g c =
     let values = c.in-Ok-open.ensures.values c.requires.honest in
-    let is = claims_honest g.P.Pcs.commitment_of (g.P.Pcs.held c.args.scheme.now) g.P.Pcs.spent
+    let is = claims_honest g.P.Pcs.commitment_of (g.P.Pcs.committed_polynomials c.args.scheme.now) g.P.Pcs.after_opening
     c.args.known.now c.args.requests.now _ _ _ c.requires.commitments
-    (c.in-Ok-open.ensures.spent (c.in-Ok-open.ensures.checked refl)) values
+    (c.in-Ok-open.ensures.opened (c.in-Ok-open.ensures.checked refl)) values
     (rw c.as_slice.ensures.value at c.in-Ok-claims_of.ensures) in
     let same = c.requires.copies _ _ c.in-Ok.ensures.cases in
     let holds = c.in-Ok-open.ensures.accepted c.requires.honest _ c.requires.domains in
     let holds' : g.P.Pcs.Accepts c.args.scheme.now c.in-Ok.copy
     (map claim c.in-Ok-claims_of.claims.items) c.in-Ok-open.opening.1 = rw (same, is) holds in
     record {
-      headline = elim (g.met.P.Pcs.memory_law c.in-Err-verify.error) [
+      values = tt;
+      accepted = tt;
+      prover_state = tt;
+      verifier_state = tt;
+      refused = elim (g.met.P.Pcs.memory_law c.in-Err-verify.error) [
         | inl e ↦ e
         | inr n ↦
             let exact = c.in-Err-verify.ensures.exactly (λ r. n (cc)) in

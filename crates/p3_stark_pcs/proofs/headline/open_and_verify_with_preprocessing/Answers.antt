@@ -6,29 +6,28 @@ use Rattle.p3_stark_pcs.proofs.headline.open_and_verify_with_preprocessing.Goals
 pub returns-in-Ok-verified : goal.returns-in-Ok-verified
 returns-in-Ok-verified g c =
     let values = c.in-Ok-opened.ensures.values c.requires.honest in
-    let is = claims_honest g.P.Pcs.commitment_of (g.P.Pcs.held c.args.scheme.now) g.P.Pcs.spent
+    let is = claims_honest g.P.Pcs.commitment_of (g.P.Pcs.committed_polynomials c.args.scheme.now) g.P.Pcs.after_opening
     c.args.known.now c.args.requests.now _ _ _ c.requires.commitments
-    (c.in-Ok-opened.ensures.spent (c.in-Ok-opened.ensures.checked refl)) values
+    (c.in-Ok-opened.ensures.opened (c.in-Ok-opened.ensures.checked refl)) values
     (rw c.as_slice.ensures.value at c.in-Ok-claims_of.ensures) in
     let left = c.in-Ok-opened.ensures.state c.requires.honest _ c.requires.domains in
     let ends = c.in-Ok-verified.ensures.state refl in
     let same = c.requires.copies _ _ c.in-Ok.ensures.cases in
     let accepted = c.in-Ok-opened.ensures.accepted c.requires.honest _ c.requires.domains in
     record {
-      headline = record {
-        values_honest = values;
-        accepted = accepted;
-        prover_state = left;
-        verifier_state = cc;
-      };
+      values = values;
+      accepted = accepted;
+      prover_state = left;
+      verifier_state = cc;
+      refused = tt;
     }
 
 pub returns-in-Err-verified : goal.returns-in-Err-verified
 returns-in-Err-verified g c =
     let values = c.in-Ok-opened.ensures.values c.requires.honest in
-    let is = claims_honest g.P.Pcs.commitment_of (g.P.Pcs.held c.args.scheme.now) g.P.Pcs.spent
+    let is = claims_honest g.P.Pcs.commitment_of (g.P.Pcs.committed_polynomials c.args.scheme.now) g.P.Pcs.after_opening
     c.args.known.now c.args.requests.now _ _ _ c.requires.commitments
-    (c.in-Ok-opened.ensures.spent (c.in-Ok-opened.ensures.checked refl)) values
+    (c.in-Ok-opened.ensures.opened (c.in-Ok-opened.ensures.checked refl)) values
     (rw c.as_slice.ensures.value at c.in-Ok-claims_of.ensures) in
     let same = c.requires.copies _ _ c.in-Ok.ensures.cases in
     let holds = c.in-Ok-opened.ensures.accepted c.requires.honest _ c.requires.domains in
@@ -36,7 +35,11 @@ returns-in-Err-verified g c =
     c.in-Ok.copy (map claim c.in-Ok-claims_of.claims.items) c.in-Ok-opened.opening.1 =
     rw (same, is) holds in
     record {
-      headline = elim (g.met.P.Pcs.memory_law c.in-Err-verified.error) [
+      values = tt;
+      accepted = tt;
+      prover_state = tt;
+      verifier_state = tt;
+      refused = elim (g.met.P.Pcs.memory_law c.in-Err-verified.error) [
         | inl e ↦ e
         | inr n ↦
             let exact = c.in-Err-verified.ensures.exactly (λ r. n (cc)) in

@@ -1,7 +1,7 @@
 use Rattle.std.proofs.Common.{◌∙◌, get_or, codes}
-use Rattle.p3_fri_steps.specs.Steps.{message_step}
+use Rattle.p3_fri_pow.specs.Steps.{message_step}
 use Rattle.p3_fri_pcs_transcript.proofs.PcsSteps.{claim_pushed}
-use Rattle.p3_fri_steps.proofs.Pushed.{pushed}
+use Rattle.p3_fri_pow.proofs.Pushed.{pushed}
 use Rattle.p3_fri_pcs_transcript.proofs.pcs_transcript.description.push_claims_at_points.Goals as goal
 
 pub loop-count-preserved : goal.loop-count-preserved

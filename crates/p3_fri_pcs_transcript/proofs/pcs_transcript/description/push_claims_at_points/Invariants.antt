@@ -1,6 +1,6 @@
 use Rattle.std.proofs.Common.{◌≡◌, ◌++◌, map, drop, codes}
 use Rattle.p3_challenger_fs.specs.Pattern.{step_of}
-use Rattle.p3_fri_steps.specs.Steps.{message_step}
+use Rattle.p3_fri_pow.specs.Steps.{message_step}
 use Rattle.p3_fri_pcs_transcript.proofs.pcs_transcript.description.push_claims_at_points.Given as goal
 
 abbrev pub invariant-loop-count : goal.invariant-loop-count

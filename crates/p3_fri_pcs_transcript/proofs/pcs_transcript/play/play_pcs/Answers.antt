@@ -1,7 +1,7 @@
 use Rattle.std.proofs.Common.{◌≡◌, Some, None, Err, [], unwrap_or, sym, ap, ◌∙◌, rules}
 use Rattle.p3_challenger_fs.specs.Turns.{bytes_observed}
 use Rattle.p3_challenger_core.specs.Run.{Moves, moves}
-use Rattle.p3_fri_steps.proofs.Reached.{reaches_same}
+use Rattle.p3_fri_pow.proofs.Reached.{reaches_same}
 use Rattle.p3_fri_transcript.specs.Shapes.{fri_shape}
 use Rattle.p3_fri_pcs_transcript.specs.Counts.{all_values}
 use Rattle.p3_fri_pcs_transcript.specs.Replay.{BatchReplay, shown_batch_replay}

@@ -10,7 +10,7 @@ use Rattle.p3_fri_transcript.specs.Shapes.{fri_shape}
 use Rattle.p3_fri_pcs_transcript.specs.Shapes.{pcs_shape}
 use Rattle.p3_fri_pcs_transcript.specs.Steps.{PcsNumbers}
 use Rattle.p3_fri_pcs_transcript.proofs.ClaimTurns.{all_claims_left}
-use Rattle.p3_fri_steps.proofs.Reached.{reaches_same, reaches_join, reaches_shown}
+use Rattle.p3_fri_pow.proofs.Reached.{reaches_same, reaches_join, reaches_shown}
 use Rattle.p3_fri_pcs_transcript.proofs.PcsRuns.{ok_not_err, step_not_seed, claimed_is, reaches_claimed, reaches_tested, reaches_lent, reaches_inside, test_failed, run_failed}
 use Rattle.p3_fri_pcs_transcript.proofs.PcsReplays.{batch_lent, pcs_joined, batch_passes, test_passes, pcs_ends}
 use Rattle.p3_fri_pcs_transcript.proofs.pcs_transcript.play.replay_pcs.Given.{Over}

@@ -3,7 +3,7 @@ use Rattle.std.proofs.Common.{rules, sym, ap, ◌∙◌, arith, subst}
 use Rattle.std.proofs.lemmas.List.{get_or_default, length-append}
 use Rattle.algebra.specs.Nested.{lists}
 use Rattle.p3_matrix.specs.declared.dense.RowMajorMatrix.{RowMajorMatrix}
-use Rattle.p3_commit.specs.Batch.{AreBelow, max_height, dimensions_of}
+use Rattle.p3_mmcs.specs.Batch.{AreBelow, max_height, dimensions_of}
 use Rattle.p3_fri_prover.specs.Openings.{IsOneMatrix, OpensRows, index_into}
 use Rattle.p3_fri_prover.proofs.Pushes.{map_same_list, rows_at, next_indices, pushed_each}
 use Rattle.p3_fri_prover.proofs.prover.openings.answer_queries.Goals as goal

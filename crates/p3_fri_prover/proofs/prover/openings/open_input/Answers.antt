@@ -1,6 +1,6 @@
 use Rattle.std.proofs.Common.{◌≡◌, ◌^◌, sym, ◌∙◌, arith, subst}
-use Rattle.p3_commit.specs.Batch.{max_height, dimensions_of, AreBelow}
-use Rattle.p3_commit.proofs.Heights.{max_height-power}
+use Rattle.p3_mmcs.specs.Batch.{max_height, dimensions_of, AreBelow}
+use Rattle.p3_mmcs.proofs.Heights.{max_height-power}
 use Rattle.algebra.specs.Nested.{nested}
 use Rattle.p3_fri_prover.proofs.Batches.{indices_below, batch_opened}
 use Rattle.p3_field_core.proofs.IndexPowers.{exponent_at_most}

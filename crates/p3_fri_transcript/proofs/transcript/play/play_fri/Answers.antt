@@ -1,8 +1,8 @@
 use Rattle.std.proofs.Common.{◌≡◌, Some, Err, unwrap_or, ap, ◌∙◌, rules, subst}
 use Rattle.p3_challenger_core.specs.Run.{moves}
 use Rattle.p3_challenger_fs.specs.Turns.{bytes_observed}
-use Rattle.p3_fri_steps.specs.declared.error.FriProverError.{FriProverError}
-use Rattle.p3_fri_steps.proofs.Reached.{reaches_same, reaches_join, reaches_by_values}
+use Rattle.p3_fri_pow.specs.declared.error.FriProverError.{FriProverError}
+use Rattle.p3_fri_pow.proofs.Reached.{reaches_same, reaches_join, reaches_by_values}
 use Rattle.p3_fri_transcript.specs.Found.{PlayRefused}
 use Rattle.p3_fri_transcript.specs.Replay.{shown_queries_replay}
 use Rattle.p3_fri_transcript.specs.Shapes.{fri_shape}

@@ -1,6 +1,6 @@
 use Rattle.std.proofs.Common.{◌≡◌, ◌-◌, true, length, take}
 use Rattle.p3_challenger_core.specs.Run.{moves}
-use Rattle.p3_fri_steps.specs.Reached.{Reaches}
+use Rattle.p3_fri_pow.specs.Reached.{Reaches}
 use Rattle.p3_fri_transcript.specs.Found.{RoundsFound}
 use Rattle.p3_fri_transcript.specs.Replay.{rounds_replay}
 use Rattle.p3_fri_transcript.specs.Turns.{RoundsLeft}

@@ -1,7 +1,7 @@
 use Rattle.std.proofs.Common.{◌≡◌, Err, inl, inr, rules, refl, ap, ◌∙◌}
 use Rattle.p3_challenger_core.specs.Run.{moves}
 use Rattle.p3_challenger_fs.specs.Turns.{bytes_observed}
-use Rattle.p3_fri_steps.proofs.Reached.{reaches_same, reaches_join, reaches_by_values}
+use Rattle.p3_fri_pow.proofs.Reached.{reaches_same, reaches_join, reaches_by_values}
 use Rattle.p3_fri_transcript.specs.declared.transcript.failure.TranscriptFailure.TheVariants as Why
 use Rattle.p3_fri_transcript.specs.declared.transcript.play.Refusal.TheVariants.{Step}
 use Rattle.p3_fri_transcript.specs.Replay.{RoundsReplay, rounds_replay, QueriesReplay, FriReplay}

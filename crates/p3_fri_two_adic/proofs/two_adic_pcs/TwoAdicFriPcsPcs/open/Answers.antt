@@ -89,5 +89,5 @@ returns-clause-state g c honest =
     (claims_sized held commitment_of (λ (d : Domain g). d.log_size) domains requests))
     (c.open_requests.ensures.state honest)
 
-pub returns-clause-spent : goal.returns-clause-spent
-returns-clause-spent g c passed = data_kept c.args.requests.now
+pub returns-clause-opened : goal.returns-clause-opened
+returns-clause-opened g c passed = data_kept c.args.requests.now

@@ -24,9 +24,9 @@ evaluations_on_domain-requires g c =
     let held = g.InputMmcs.Mmcs.committed c.args.prover_data.now in
     record {
       power_of_two = (coset_at g.F.TwoAdicField.TWO_ADICITY held c.args.index
-          c.requires.evaluable matrix is).power;
+          c.requires matrix is).power;
       within_two_adicity = within_at g.F.TwoAdicField.TWO_ADICITY held c.args.index
-          c.requires.evaluable matrix is;
+          c.requires matrix is;
     }
 
 pub returns-in-Ok-clause-values : goal.returns-in-Ok-clause-values
@@ -37,5 +37,5 @@ returns-in-Ok-clause-values g c words =
     evaluated (fields_of g) g.met.F.Field.laws g.met.EF.Field.laws
     g.met.EF.ExtensionField.lift_law g.met.F.TwoAdicField.roots_law g.met.F.Field.generator_law
     c.args.self.now.fri.log_blowup (g.InputMmcs.Mmcs.committed c.args.prover_data.now)
-    c.args.index c.requires.evaluable matrix c.in-Ok.values is words c.args.domain.shift
+    c.args.index c.requires matrix c.in-Ok.values is words c.args.domain.shift
     c.args.domain.log_size c.in-Ok.ensures

@@ -4,7 +4,7 @@ use Rattle.p3_challenger_fs.specs.declared.pattern.TypeTag.TheVariants.{Algebra}
 use Rattle.p3_challenger_fs.specs.declared.pattern.Length.TheVariants.{Scalar}
 use Rattle.p3_fri_pcs_transcript.specs.Shapes.{pcs_shape}
 use Rattle.p3_fri_pcs_transcript.proofs.ClaimTurns.{alpha_left, after_claims}
-use Rattle.p3_fri_steps.proofs.Turns.{next_of, rest_of}
+use Rattle.p3_fri_pow.proofs.Turns.{next_of, rest_of}
 use Rattle.p3_fri_pcs_transcript.proofs.pcs_transcript.prover.PcsProverTranscript+C+F+EF.batch_phase.Goals as goal
 
 pub grind-requires-clause-next : goal.grind-requires-clause-next

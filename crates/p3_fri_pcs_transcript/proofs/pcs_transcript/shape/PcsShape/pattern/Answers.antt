@@ -2,10 +2,10 @@ use Rattle.std.proofs.Common.{map, ap, ◌∙◌, codes}
 use Rattle.p3_challenger_fs.specs.Pattern.{step_of}
 use Rattle.p3_challenger_fs.specs.declared.pattern.Hierarchy.TheVariants.{Begin, End}
 use Rattle.p3_fri_pcs_transcript.specs.Shapes.{pcs_shape}
-use Rattle.p3_fri_steps.specs.Steps.{challenge_step}
+use Rattle.p3_fri_pow.specs.Steps.{challenge_step}
 use Rattle.p3_fri_pcs_transcript.specs.Steps.{bracket_step}
 use Rattle.p3_fri_pcs_transcript.proofs.PcsSteps.{pcs_pushed}
-use Rattle.p3_fri_steps.proofs.Pushed.{pushed}
+use Rattle.p3_fri_pow.proofs.Pushed.{pushed}
 use Rattle.p3_fri_pcs_transcript.proofs.pcs_transcript.shape.PcsShape.pattern.Goals as goal
 
 pub returns : goal.returns

@@ -6,10 +6,10 @@ use Rattle.p3_challenger_fs.specs.declared.pattern.Length.TheVariants.{Fixed}
 use Rattle.p3_challenger_core.specs.Run.{moves}
 use Rattle.p3_fri_transcript.specs.Shapes.{fri_shape}
 use Rattle.p3_fri_transcript.proofs.Replays.{queries_are}
-use Rattle.p3_fri_steps.proofs.Turns.{next_of, rest_of}
+use Rattle.p3_fri_pow.proofs.Turns.{next_of, rest_of}
 use Rattle.p3_fri_transcript.proofs.TurnLists.{indices_left, after_final_poly}
 use Rattle.std.proofs.Common.{Some, sym}
-use Rattle.p3_fri_steps.proofs.Reached.{reaches_same}
+use Rattle.p3_fri_pow.proofs.Reached.{reaches_same}
 use Rattle.p3_fri_transcript.proofs.Indices.{draws_are_indices}
 use Rattle.p3_fri_transcript.proofs.Reached.{reaches_polynomial, reaches_tried, reaches_queries}
 use Rattle.p3_fri_transcript.proofs.transcript.prover.ProverTranscript+C+F+EF.query_phase.Goals as goal

@@ -1,7 +1,7 @@
 use Rattle.std.proofs.Common.{map, refl, ap, ◌∙◌, arith}
 use Rattle.p3_challenger_fs.specs.Pattern.{step_of}
 use Rattle.p3_fri_transcript.specs.Shapes.{fri_shape}
-use Rattle.p3_fri_steps.proofs.Pushed.{pushed}
+use Rattle.p3_fri_pow.proofs.Pushed.{pushed}
 use Rattle.p3_fri_transcript.proofs.StepLists.{fri_pushed}
 use Rattle.p3_fri_transcript.proofs.transcript.shape.FriShape.pattern.Goals as goal
 

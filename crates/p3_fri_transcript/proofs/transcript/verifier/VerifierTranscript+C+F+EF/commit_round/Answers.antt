@@ -3,7 +3,7 @@ use Rattle.p3_challenger_fs.specs.declared.pattern.Kind.TheVariants.{Challenge}
 use Rattle.p3_challenger_fs.specs.declared.pattern.TypeTag.TheVariants.{Algebra}
 use Rattle.p3_challenger_fs.specs.declared.pattern.Length.TheVariants.{Scalar}
 use Rattle.p3_fri_transcript.specs.Shapes.{fri_shape}
-use Rattle.p3_fri_steps.proofs.Turns.{next_of, rest_of}
+use Rattle.p3_fri_pow.proofs.Turns.{next_of, rest_of}
 use Rattle.p3_fri_transcript.proofs.TurnLists.{challenge_left, after_commitment}
 use Rattle.p3_fri_transcript.proofs.Reached.{reaches_pow, reaches_round}
 use Rattle.p3_fri_transcript.proofs.transcript.verifier.VerifierTranscript+C+F+EF.commit_round.Goals as goal

@@ -1,7 +1,7 @@
 use Rattle.std.proofs.Common.{◌+◌, ◌-◌, length, refl, sym, ap, ◌∙◌, arith, subst}
 use Rattle.std.proofs.lemmas.List.{length-append}
 use Rattle.p3_challenger_core.specs.Run.{moves}
-use Rattle.p3_fri_steps.proofs.Reached.{reaches_join}
+use Rattle.p3_fri_pow.proofs.Reached.{reaches_join}
 use Rattle.p3_fri_transcript.specs.declared.transcript.failure.TranscriptFailure.{TranscriptFailure}
 use Rattle.p3_fri_transcript.specs.Failures.{RoundsFailure}
 use Rattle.p3_fri_transcript.specs.Replay.{RoundsReplay}

@@ -1,6 +1,6 @@
 use Rattle.std.proofs.Common.{◌≡◌, ◌-◌, length}
 use Rattle.p3_challenger_core.specs.Run.{moves}
-use Rattle.p3_fri_steps.specs.Reached.{Reaches}
+use Rattle.p3_fri_pow.specs.Reached.{Reaches}
 use Rattle.p3_fri_transcript.specs.Turns.{RoundsLeft}
 use Rattle.p3_fri_transcript.specs.Views.{state_of, left_of, shape_of, Kept}
 use Rattle.p3_fri_transcript.proofs.Replays.{IsAlong}

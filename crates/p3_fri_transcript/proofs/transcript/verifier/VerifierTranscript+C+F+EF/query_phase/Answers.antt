@@ -6,9 +6,9 @@ use Rattle.p3_challenger_fs.specs.declared.pattern.Length.TheVariants.{Fixed}
 use Rattle.p3_challenger_core.specs.Run.{moves}
 use Rattle.p3_fri_transcript.specs.Shapes.{fri_shape}
 use Rattle.p3_fri_transcript.proofs.Replays.{shown_queries_are, queries_pass}
-use Rattle.p3_fri_steps.proofs.Turns.{next_of, rest_of}
+use Rattle.p3_fri_pow.proofs.Turns.{next_of, rest_of}
 use Rattle.p3_fri_transcript.proofs.TurnLists.{indices_left, after_final_poly}
-use Rattle.p3_fri_steps.proofs.Reached.{reaches_same}
+use Rattle.p3_fri_pow.proofs.Reached.{reaches_same}
 use Rattle.p3_fri_transcript.proofs.Indices.{draws_are_indices}
 use Rattle.p3_fri_transcript.proofs.Reached.{reaches_tried, reaches_queries}
 use Rattle.p3_fri_transcript.proofs.transcript.verifier.VerifierTranscript+C+F+EF.query_phase.Goals as goal

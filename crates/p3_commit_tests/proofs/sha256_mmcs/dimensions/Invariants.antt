@@ -1,6 +1,0 @@
-use Rattle.std.proofs.Common.{◌≡◌, take}
-use Rattle.p3_commit.specs.Batch.{dimensions_of}
-use Rattle.p3_commit_tests.proofs.sha256_mmcs.dimensions.Given as goal
-
-abbrev pub invariant-loop-matrix : goal.invariant-loop-matrix
-invariant-loop-matrix g l = l.all.items ≡ dimensions_of (take l.matrix-index l.matrices)

@@ -1,5 +1,0 @@
-//! Tests of commitments.
-#![tactic(auto)]
-
-#[cfg(test)]
-mod sha256_mmcs;

@@ -1,0 +1,22 @@
+use Rattle.std.proofs.Common.{◌≡◌, ◌^◌, length, ap, ◌∙◌}
+use Rattle.p3_matrix.specs.Matrix.{rows}
+use Rattle.p3_dft.proofs.Sizes.{power_within}
+use Rattle.p3_dft_tests.proofs.transform.coset_values_agree.Goals as goal
+
+pub coset_dft_batch-requires-clause-within_two_adicity : goal.coset_dft_batch-requires-clause-within_two_adicity
+coset_dft_batch-requires-clause-within_two_adicity g c =
+    power_within _ c.args.log_height g.F.TwoAdicField.TWO_ADICITY
+    (ap length (c.in_ok-copy.ensures.rows ∙ c.as_view.ensures.rows) ∙ c.in_ok-coefficients.ensures.height)
+    c.requires.within_two_adicity
+
+pub coset_idft_batch-requires-clause-power_of_two : goal.coset_idft_batch-requires-clause-power_of_two
+coset_idft_batch-requires-clause-power_of_two g c =
+    let size : length (rows c.in_ok-copy.copy) ≡ 2 ^ c.args.log_height = ap length (c.in_ok-copy.ensures.rows ∙ c.as_view.ensures.rows) ∙ c.in_ok-coefficients.ensures.height in
+    let known = c.in_ok-coset_values.ensures c.args.log_height size in
+    (c.args.log_height, known.height ∙ size)
+
+pub coset_idft_batch-requires-clause-within_two_adicity : goal.coset_idft_batch-requires-clause-within_two_adicity
+coset_idft_batch-requires-clause-within_two_adicity g c =
+    let size : length (rows c.in_ok-copy.copy) ≡ 2 ^ c.args.log_height = ap length (c.in_ok-copy.ensures.rows ∙ c.as_view.ensures.rows) ∙ c.in_ok-coefficients.ensures.height in
+    let known = c.in_ok-coset_values.ensures c.args.log_height size in
+    power_within _ c.args.log_height g.F.TwoAdicField.TWO_ADICITY (known.height ∙ size) c.requires.within_two_adicity

@@ -1,0 +1,8 @@
+pub mod Steps
+pub mod Counts
+pub mod Fits
+pub mod Failures
+pub mod Labels
+pub mod Phases
+pub mod Pow
+pub mod Reached

@@ -1,5 +1,0 @@
-use Rattle.p3_fri_steps.proofs.NoBits.{no_bits}
-use Rattle.p3_fri_steps.proofs.laws.no_bits_law.Goals as goal
-
-pub returns : goal.returns
-returns g c = no_bits

@@ -1,7 +1,0 @@
-pub mod Steps
-pub mod Fits
-pub mod Failures
-pub mod Labels
-pub mod Phases
-pub mod Pow
-pub mod Reached

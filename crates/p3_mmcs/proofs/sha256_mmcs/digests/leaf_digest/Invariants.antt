@@ -1,0 +1,11 @@
+use Rattle.std.proofs.Common.{◌∷◌, take}
+use Rattle.std.specs.List.{flat_map}
+use Rattle.p3_mmcs.specs.Buffer.{HoldsMessage}
+use Rattle.algebra.specs.Nested.{lists}
+use Rattle.p3_mmcs.specs.Tree.{row_bytes}
+use Rattle.p3_mmcs.proofs.sha256_mmcs.digests.leaf_digest.Given as goal
+
+abbrev pub invariant-loop-row : goal.invariant-loop-row
+invariant-loop-row g l =
+    HoldsMessage l.hasher (0 ∷ flat_map (row_bytes g.T.ElementBytes.bytes)
+    (lists (take l.row-index l.rows)))

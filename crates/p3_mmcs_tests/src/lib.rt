@@ -1,0 +1,9 @@
+//! Tests of commitments.
+#![tactic(auto)]
+
+#[cfg(test)]
+mod cases;
+#[cfg(test)]
+mod openings;
+#[cfg(test)]
+mod sha256_mmcs;

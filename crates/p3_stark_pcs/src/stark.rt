@@ -1,0 +1,361 @@
+//! What a STARK prover does with a scheme, from the trait alone: it commits to preprocessed
+//! columns, to a trace and to the chunks of a quotient, and opens all of them at one point, and the
+//! first two at its successor too.
+
+ghost use Rattle.std.specs.Prelude.{◌≡◌, ◌≢◌, ◌*◌, [], ◌∷◌, if◌then◌else◌, map, length};
+ghost use Rattle.std.specs.Prelude.{replicate, slice_index_or};
+ghost use Rattle.std.specs.Prelude.{IfOk, IfErr};
+ghost use Rattle.std.specs.List.{AllZip};
+ghost use Rattle.algebra.specs.Nested.{lists};
+ghost use Rattle.p3_stark_pcs.specs.Stark.{IsHonestRefusal, IsBatch, AreColumnValues};
+ghost use Rattle.p3_stark_pcs.specs.Stark.{AreChunkValues};
+ghost use Rattle.p3_pcs.specs.Claims.{opened_values};
+ghost use Rattle.p3_stark_pcs.specs.declared.stark.StarkError.TheVariants.{OutOfMemory};
+
+use crate::headline::open_and_verify_with_preprocessing;
+use crate::univariate::UnivariateStarkPcs;
+use p3_matrix::RowMajorMatrix;
+use p3_pcs::{KnownCommitment, OpenAndVerifyError, OpeningRequest, Verified};
+use std::alloc::{AllocError, Global};
+
+/// The columns of a STARK, each matrix on its domain, and domains for the claims on the quotient.
+#[derive(Drop)]
+pub struct StarkColumns<Domain, Val> {
+    pub preprocessed: Vec<(Domain, RowMajorMatrix<Val>)>,
+    pub trace: Vec<(Domain, RowMajorMatrix<Val>)>,
+    /// The chunks of the quotient.
+    pub quotient: Vec<(Domain, RowMajorMatrix<Val>)>,
+    /// For each chunk a domain of the size of the polynomials that are committed to for it: the
+    /// chunk's, and twice that where the scheme hides.
+    pub quotient_domains: Vec<Domain>,
+}
+
+/// Why a STARK's columns weren't shown to be opened.
+#[derive(Debug, Drop)]
+pub enum StarkError<ProverError, Error> {
+    /// A commitment was refused.
+    Commit(ProverError),
+    /// The opening or its proof was refused, or memory to its claims.
+    Open(OpenAndVerifyError<ProverError, Error>),
+    /// Memory was refused to a list of domains, points or requests.
+    OutOfMemory,
+}
+
+impl<ProverError, Error> From<AllocError> for StarkError<ProverError, Error> {
+    ghost from_gives = { λ _ e. e ≡ OutOfMemory };
+
+    fn from(_: AllocError) -> Self {
+        StarkError::OutOfMemory
+    }
+}
+
+/// A commitment with its data.
+#[derive(Drop)]
+struct Batch<Com, Domain, D> {
+    known: KnownCommitment<Com, Domain>,
+    prover_data: D,
+}
+
+/// The domains of matrices.
+fn domains_of<Domain: Copy, Val>(
+    alloc: Global,
+    evaluations: &[(Domain, RowMajorMatrix<Val>)],
+) -> Result<Vec<Domain>, AllocError>
+    ensures { IfOk result (λ domains. domains.items ≡ map (λ e. e.0) evaluations.now) }
+{
+    let mut domains = Vec::with_capacity(alloc, evaluations.len())?;
+    for evaluation in evaluations {
+        domains.push(evaluation.0)?;
+    }
+    Ok(domains)
+}
+
+/// Commits to preprocessed columns.
+fn commit_preprocessed<EF: Copy, C, P: UnivariateStarkPcs<EF, C>>(
+    scheme: &mut P,
+    alloc: Global,
+    evaluations: Vec<(P::Domain, RowMajorMatrix<P::Val>)>,
+) -> Result<Batch<P::Commitment, P::Domain, P::ProverData>, StarkError<P::ProverError, P::Error>>
+    requires { P.CanCommit scheme.old evaluations.items }
+    ensures kept { P.Keeps scheme.old scheme.new }
+    ensures range { P.InProverRange scheme.old → P.InProverRange scheme.new }
+    ensures verifier_range { P.InVerifierRange scheme.old → P.InVerifierRange scheme.new }
+    ensures commitment { IfOk result (λ b. P.commitment_of b.prover_data ≡ b.known.commitment) }
+    ensures domains { IfOk result (λ b. b.known.domains.items ≡ map (λ e. e.0) evaluations.items) }
+    ensures openable { IfOk result (λ b. P.CanOpenPreprocessed scheme.new b.prover_data) }
+    ensures honest { IfOk result (λ b. P.IsHonest scheme.new b.prover_data) }
+    ensures extends { IfOk result (λ b. AllZip (P.Extends scheme.new)
+        (P.committed_polynomials scheme.new b.prover_data) evaluations.items) }
+    ensures refused { IfErr result (λ e. IsHonestRefusal P.out_of_memory e) }
+{
+    let domains = domains_of(alloc, &evaluations)?;
+    match scheme.commit_preprocessing(alloc, evaluations) {
+        Ok((commitment, prover_data)) => Ok(Batch {
+            known: KnownCommitment {
+                commitment,
+                domains,
+            },
+            prover_data,
+        }),
+        Err(error) => Err(StarkError::Commit(error)),
+    }
+}
+
+/// Commits to a trace.
+fn commit_trace<EF: Copy, C, P: UnivariateStarkPcs<EF, C>>(
+    scheme: &mut P,
+    alloc: Global,
+    evaluations: Vec<(P::Domain, RowMajorMatrix<P::Val>)>,
+) -> Result<Batch<P::Commitment, P::Domain, P::ProverData>, StarkError<P::ProverError, P::Error>>
+    requires { P.CanCommit scheme.old evaluations.items }
+    ensures kept { P.Keeps scheme.old scheme.new }
+    ensures range { P.InProverRange scheme.old → P.InProverRange scheme.new }
+    ensures verifier_range { P.InVerifierRange scheme.old → P.InVerifierRange scheme.new }
+    ensures commitment { IfOk result (λ b. P.commitment_of b.prover_data ≡ b.known.commitment) }
+    ensures domains { IfOk result (λ b. b.known.domains.items ≡ map (λ e. e.0) evaluations.items) }
+    ensures openable { IfOk result (λ b. P.CanOpen scheme.new b.prover_data) }
+    ensures honest { IfOk result (λ b. P.IsHonest scheme.new b.prover_data) }
+    ensures extends { IfOk result (λ b. AllZip (P.Extends scheme.new)
+        (P.committed_polynomials scheme.new b.prover_data) evaluations.items) }
+    ensures refused { IfErr result (λ e. IsHonestRefusal P.out_of_memory e) }
+{
+    let domains = domains_of(alloc, &evaluations)?;
+    match scheme.commit(alloc, evaluations) {
+        Ok((commitment, prover_data)) => Ok(Batch {
+            known: KnownCommitment {
+                commitment,
+                domains,
+            },
+            prover_data,
+        }),
+        Err(error) => Err(StarkError::Commit(error)),
+    }
+}
+
+/// Commits to the chunks of a quotient.
+fn commit_quotient<EF: Copy, C, P: UnivariateStarkPcs<EF, C>>(
+    scheme: &mut P,
+    alloc: Global,
+    evaluations: Vec<(P::Domain, RowMajorMatrix<P::Val>)>,
+    domains: Vec<P::Domain>,
+) -> Result<Batch<P::Commitment, P::Domain, P::ProverData>, StarkError<P::ProverError, P::Error>>
+    requires { P.CanExtend scheme.old evaluations.items (length evaluations.items) }
+    ensures kept { P.Keeps scheme.old scheme.new }
+    ensures range { P.InProverRange scheme.old → P.InProverRange scheme.new }
+    ensures verifier_range { P.InVerifierRange scheme.old → P.InVerifierRange scheme.new }
+    ensures commitment { IfOk result (λ b. P.commitment_of b.prover_data ≡ b.known.commitment) }
+    ensures domains { IfOk result (λ b. b.known.domains.items ≡ domains.items) }
+    ensures openable { IfOk result (λ b. P.CanOpen scheme.new b.prover_data) }
+    ensures honest { IfOk result (λ b. P.IsHonest scheme.new b.prover_data) }
+    ensures sizes { IfOk result (λ b. AllZip
+        (λ m e. m.size ≡ (if P.ZK then 2 else 1) * P.domain_size e.0)
+        (P.committed_polynomials scheme.new b.prover_data) evaluations.items) }
+    ensures recombined { IfOk result (λ b. (z : EF)
+        → P.recombined (map (λ e. e.0) evaluations.items)
+        (map (λ m. m.values_at z) (P.committed_polynomials scheme.new b.prover_data)) z
+        ≡ P.recombined (map (λ e. e.0) evaluations.items)
+        (map (λ e. (P.chunk_polynomials e).values_at z) evaluations.items) z) }
+    ensures refused { IfErr result (λ e. IsHonestRefusal P.out_of_memory e) }
+{
+    let count = evaluations.len();
+    let ldes = match scheme.get_quotient_ldes(alloc, evaluations, count) {
+        Ok(ldes) => ldes,
+        Err(error) => return Err(StarkError::Commit(error)),
+    };
+    match scheme.commit_ldes(alloc, ldes) {
+        Ok((commitment, prover_data)) => Ok(Batch {
+            known: KnownCommitment {
+                commitment,
+                domains,
+            },
+            prover_data,
+        }),
+        Err(error) => Err(StarkError::Commit(error)),
+    }
+}
+
+/// For each of so many matrices a list of these points.
+fn points_for<EF: Copy>(
+    alloc: Global,
+    count: usize,
+    points: &[EF],
+) -> Result<Vec<Vec<EF>>, AllocError>
+    ensures { IfOk result (λ all. lists all.items ≡ replicate count points.now) }
+{
+    let mut all = Vec::with_capacity(alloc, count)?;
+    for _index in 0..count {
+        all.push(Vec::from_slice(alloc, points)?)?;
+    }
+    Ok(all)
+}
+
+/// A list of three.
+fn three_of<T: Drop>(alloc: Global, first: T, second: T, third: T) -> Result<Vec<T>, AllocError>
+    ensures { IfOk result (λ all. all.items ≡ first ∷ second ∷ third ∷ []) }
+{
+    let mut all = Vec::with_capacity(alloc, 3)?;
+    all.push(first)?;
+    all.push(second)?;
+    all.push(third)?;
+    Ok(all)
+}
+
+/// Opens three batches, the first as preprocessing: the first two at both points, the third at the
+/// first point; and verifies what comes of it from a copy of the challenger.
+fn open_batches<EF: Copy, C: Clone, P: UnivariateStarkPcs<EF, C>>(
+    scheme: &P,
+    alloc: Global,
+    preprocessed: Batch<P::Commitment, P::Domain, P::ProverData>,
+    trace: Batch<P::Commitment, P::Domain, P::ProverData>,
+    quotient: Batch<P::Commitment, P::Domain, P::ProverData>,
+    both: &[EF],
+    one: &[EF],
+    challenger: &mut C,
+) -> Result<Verified<EF, P::Proof, C>, StarkError<P::ProverError, P::Error>>
+    requires copies { (x y : C) → C.is_clone x y → y ≡ x }
+    requires prover { P.InProverRange scheme.now }
+    requires verifier { P.InVerifierRange scheme.now }
+    requires preprocessed { P.CanOpenPreprocessed scheme.now preprocessed.prover_data }
+    requires some_matrix { P.committed_polynomials scheme.now preprocessed.prover_data ≢ [] }
+    requires trace { P.CanOpen scheme.now trace.prover_data }
+    requires quotient { P.CanOpen scheme.now quotient.prover_data }
+    requires first_batch { IsBatch (P.IsHonest scheme.now)
+        (P.committed_polynomials scheme.now) P.commitment_of P.domain_size preprocessed.known
+        preprocessed.prover_data }
+    requires second_batch { IsBatch (P.IsHonest scheme.now)
+        (P.committed_polynomials scheme.now) P.commitment_of P.domain_size trace.known
+        trace.prover_data }
+    requires third_batch { IsBatch (P.IsHonest scheme.now)
+        (P.committed_polynomials scheme.now) P.commitment_of P.domain_size quotient.known
+        quotient.prover_data }
+    requires some_point { both.now ≢ [] }
+    requires first_point { one.now ≢ [] }
+    ensures values { IfOk result (λ verified. opened_values verified.values.items
+        ≡ map (λ m. map m.values_at both.now)
+        (P.committed_polynomials scheme.now preprocessed.prover_data)
+        ∷ map (λ m. map m.values_at both.now) (P.committed_polynomials scheme.now trace.prover_data)
+        ∷ map (λ m. map m.values_at one.now)
+        (P.committed_polynomials scheme.now quotient.prover_data)
+        ∷ []) }
+    ensures refused { IfErr result (λ e. IsHonestRefusal P.out_of_memory e) }
+{
+    let Batch {
+        known: first,
+        prover_data: mut first_data,
+    } = preprocessed;
+    let Batch {
+        known: second,
+        prover_data: mut second_data,
+    } = trace;
+    let Batch {
+        known: third,
+        prover_data: mut third_data,
+    } = quotient;
+    let first_points = points_for(alloc, first.domains.len(), both)?;
+    let second_points = points_for(alloc, second.domains.len(), both)?;
+    let third_points = points_for(alloc, third.domains.len(), one)?;
+    let known = three_of(alloc, first, second, third)?;
+    let mut requests = three_of(
+        alloc,
+        OpeningRequest {
+            prover_data: &mut first_data,
+            points: first_points,
+        },
+        OpeningRequest {
+            prover_data: &mut second_data,
+            points: second_points,
+        },
+        OpeningRequest {
+            prover_data: &mut third_data,
+            points: third_points,
+        },
+    )?;
+    let opened = open_and_verify_with_preprocessing(
+        scheme,
+        alloc,
+        known.as_slice(),
+        requests.as_mut_slice(),
+        challenger,
+        Some(0),
+    );
+    match opened {
+        Ok(verified) => Ok(verified),
+        Err(error) => Err(StarkError::Open(error)),
+    }
+}
+
+/// The point with its successor, and the point alone.
+fn points_at<EF: Copy>(
+    alloc: Global,
+    point: EF,
+    successor: EF,
+) -> Result<(Vec<EF>, Vec<EF>), AllocError>
+    ensures both { IfOk result (λ lists. lists.0.items ≡ point ∷ successor ∷ []) }
+    ensures one { IfOk result (λ lists. lists.1.items ≡ point ∷ []) }
+{
+    let mut both = Vec::with_capacity(alloc, 2)?;
+    both.push(point)?;
+    both.push(successor)?;
+    let mut one = Vec::with_capacity(alloc, 1)?;
+    one.push(point)?;
+    Ok((both, one))
+}
+
+/// Opens the columns of a STARK at the point, and those of its trace and the preprocessed ones at
+/// its successor too, and verifies what comes of it from a copy of the challenger.
+///
+/// The opened values are those of the polynomials that have the columns on their domains, and of
+/// chunks that recombine to the quotient of the given ones. No proof of its own is refused but for
+/// want of memory.
+pub fn open_stark_columns<EF: Copy, C: Clone, P: UnivariateStarkPcs<EF, C>>(
+    scheme: &mut P,
+    alloc: Global,
+    columns: StarkColumns<P::Domain, P::Val>,
+    point: EF,
+    successor: EF,
+    challenger: &mut C,
+) -> Result<Verified<EF, P::Proof, C>, StarkError<P::ProverError, P::Error>>
+    requires copies { (x y : C) → C.is_clone x y → y ≡ x }
+    requires prover { P.InProverRange scheme.old }
+    requires verifier { P.InVerifierRange scheme.old }
+    requires preprocessed { P.CanCommit scheme.old columns.preprocessed.items }
+    requires some_matrix { columns.preprocessed.items ≢ [] }
+    requires trace { P.CanCommit scheme.old columns.trace.items }
+    requires quotient { P.CanExtend scheme.old columns.quotient.items
+        (length columns.quotient.items) }
+    requires quotient_domains { map P.domain_size columns.quotient_domains.items
+        ≡ map (λ e. (if P.ZK then 2 else 1) * P.domain_size e.0) columns.quotient.items }
+    ensures preprocessed { IfOk result (λ verified. AreColumnValues (P.Extends scheme.new)
+        columns.preprocessed.items point successor
+        (slice_index_or (opened_values verified.values.items) 0 [])) }
+    ensures trace { IfOk result (λ verified. AreColumnValues (P.Extends scheme.new)
+        columns.trace.items point successor
+        (slice_index_or (opened_values verified.values.items) 1 [])) }
+    ensures quotient { let domains = map (λ e. e.0) columns.quotient.items in
+        IfOk result (λ verified. AreChunkValues (λ rows. P.recombined domains rows point)
+        (P.recombined domains
+        (map (λ e. (P.chunk_polynomials e).values_at point) columns.quotient.items) point)
+        (slice_index_or (opened_values verified.values.items) 2 [])) }
+    ensures refused { IfErr result (λ e. IsHonestRefusal P.out_of_memory e) }
+{
+    let StarkColumns {
+        preprocessed,
+        trace,
+        quotient,
+        quotient_domains,
+    } = columns;
+    let (both, one) = points_at(alloc, point, successor)?;
+    let first = commit_preprocessed(scheme, alloc, preprocessed)?;
+    let second = commit_trace(scheme, alloc, trace)?;
+    let third = commit_quotient(scheme, alloc, quotient, quotient_domains)?;
+    open_batches(
+        &*scheme,
+        alloc,
+        first,
+        second,
+        third,
+        both.as_slice(),
+        one.as_slice(),
+        challenger,
+    )
+}
