@@ -4,25 +4,25 @@ use Rattle.std.proofs.Common.{refl, sym, subst, ap, ◌∙◌, arith}
 use Rattle.std.specs.List.{AllZip}
 use Rattle.std.proofs.lemmas.List.Elements.{All-cons, All-map}
 use Rattle.algebra.specs.Nested.{lists}
-use Rattle.p3_matrix.specs.declared.dense.RowMajorMatrix.{RowMajorMatrix}
 use Rattle.p3_pcs.specs.declared.claims.KnownCommitment.{KnownCommitment}
 use Rattle.p3_pcs.specs.declared.requests.OpeningRequest.{OpeningRequest}
 use Rattle.p3_pcs.specs.Requests.{Held, Request, AreHonest, FitDomains, request}
-use Rattle.p3_fri_relation.specs.Setting.{Fields}
-use Rattle.p3_fri_two_adic.specs.Held.{Extends}
+use Rattle.p3_stark_pcs.specs.Evaluations.{HasPolynomials}
 
--- what extends evaluations has the sizes of their domains
-module _ {F E Domain : Type 0} (f : Fields F E) (shift : Domain → F) (log_size : Domain → ℕ) where
-  pub sizes_extended : (ms : List (Held E)) (es : List (Domain × RowMajorMatrix F))
-      → AllZip (λ m e. Extends f (shift e.0) (log_size e.0) e.1 m) ms es
-      → map (λ d. 2 ^ log_size d) (map (λ e. e.0) es) ≡ map (λ m. m.size) ms
-  sizes_extended [] [] h = refl
-  sizes_extended [] (e ∷ es) h = absurd h
-  sizes_extended (m ∷ ms) [] h = absurd h
-  sizes_extended (m ∷ ms) (e ∷ es) (here, rest) =
-      let first = here.size in
-      let others = sizes_extended ms es rest in
-      cc
+-- what has the polynomials of evaluations has the sizes of their domains
+module _ {E Domain Values : Type 0} (log_size : Domain → ℕ) (extended : Domain × Values → Held E)
+  where
+    pub sizes_extended : (ms : List (Held E)) (es : List (Domain × Values))
+        → AllZip (λ m e. HasPolynomials m (extended e)) ms es
+        → ((e : Domain × Values) → (extended e).size ≡ 2 ^ log_size e.0)
+        → map (λ d. 2 ^ log_size d) (map (λ e. e.0) es) ≡ map (λ m. m.size) ms
+    sizes_extended [] [] h sized = refl
+    sizes_extended [] (e ∷ es) h sized = absurd h
+    sizes_extended (m ∷ ms) [] h sized = absurd h
+    sizes_extended (m ∷ ms) (e ∷ es) (here, rest) sized =
+        let first : 2 ^ log_size e.0 ≡ m.size = sym (here.size ∙ sized e) in
+        let others = sizes_extended ms es rest sized in
+        cc
 
 -- one request
 module _ {D E : Type 0} (r : OpeningRequest D E) where
