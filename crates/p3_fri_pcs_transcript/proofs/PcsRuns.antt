@@ -77,7 +77,16 @@ module _ {C F E Com : Type 0} (m : Moves C F E Com) (coefficients : E → List F
       (ap (λ (r : BatchReplay C E). r.state) batch ∙ sym same))
       then)
 
-  -- the witnesses
+  -- the witness that is sent before the challenge
+  pub batch_found : (solution : C → ℕ → Option F) (batch_witness : F) (observed : C) (found : Option F)
+      → observed ≡ claimed → found ≡ found_witness solution observed shape.batch_pow_bits
+      → (shape.batch_pow_bits ≢ 0 → IsSome found) → batch_witness ≡ unwrap_or found ops.zero
+      → sent_witness ops.zero solution claimed shape.batch_pow_bits ≡ Some batch_witness
+  batch_found solution batch_witness observed found is found_is some sent =
+      ap (λ s. sent_witness ops.zero solution s shape.batch_pow_bits) (sym is)
+      ∙ sent_is ops.zero solution observed shape.batch_pow_bits found found_is some ∙ ap Some (sym sent)
+
+  -- all witnesses
   pub pcs_found : (solution : C → ℕ → Option F) (batch_witness : F) (commitments : List Com) (witnesses : List F) (final_poly : List E) (witness : F)
       (observed lent : C) (found : Option F) → observed ≡ claimed → found ≡ found_witness solution observed shape.batch_pow_bits
       → (shape.batch_pow_bits ≢ 0 → IsSome found) → batch_witness ≡ unwrap_or found ops.zero
@@ -85,14 +94,19 @@ module _ {C F E Com : Type 0} (m : Moves C F E Com) (coefficients : E → List F
       → FriFound m ops.zero solution coefficients test (begun_from lent) commitments witnesses final_poly witness
       → PcsFound m coefficients ops d shape test c values solution batch_witness commitments witnesses final_poly witness
   pcs_found solution batch_witness commitments witnesses final_poly witness observed lent found is found_is some sent inside tested = record {
-    batch = ap (λ s. sent_witness ops.zero solution s shape.batch_pow_bits) (sym is)
-        ∙ sent_is ops.zero solution observed shape.batch_pow_bits found found_is some ∙ ap Some (sym sent);
+    batch = batch_found solution batch_witness observed found is found_is some sent;
     fri = subst (λ s. FriFound m ops.zero solution coefficients test (begun_from s) commitments witnesses final_poly witness) (sym inside) tested;
   }
 
-  module _ (commitments : List Com) (final_poly : List E) where
+  module _ (solution : C → ℕ → Option F) (commitments : List Com) (final_poly : List E) where
     abbrev pub Refused : FriProverError → Type 0
-    Refused error = PcsPlayRefused m coefficients ops d shape test c values commitments final_poly error
+    Refused error = PcsPlayRefused m coefficients ops d shape test c values solution commitments final_poly error
+
+    abbrev FoundAs : F → Type 0
+    FoundAs witness = sent_witness ops.zero solution claimed shape.batch_pow_bits ≡ Some witness
+
+    abbrev RefusedFrom : C → FriProverError → Type 0
+    RefusedFrom begun error = PlayRefused m ops.zero solution coefficients test begun commitments final_poly error
 
     -- no witness passes before the challenge
     pub batch_refused : (observed : C) (error : FriProverError) → observed ≡ claimed → error ≡ Error.NoPowWitness Batch
@@ -100,27 +114,29 @@ module _ {C F E Com : Type 0} (m : Moves C F E Com) (coefficients : E → List F
     batch_refused observed error is named none =
         subst Refused (sym named) (subst (λ s. NonePasses m.observe_value m.draw_bits s shape.batch_pow_bits) is none)
 
-    -- a refusal of the test, after a witness that passes
-    of_test : (error : FriProverError) (witness : F) → IsTrue (batch_of (Some witness)).passes
-        → PlayRefused m coefficients test (test_begun m coefficients ops d shape test c values (Some witness)) commitments final_poly error → Refused error
-    of_test (Error.NoPowWitness Batch) witness passes refused = absurd refused
-    of_test (Error.NoPowWitness CommitPhase) witness passes refused = record { witness = witness; passes = passes; refused = refused }
-    of_test (Error.NoPowWitness Query) witness passes refused = record { witness = witness; passes = passes; refused = refused }
-    of_test Error.OutOfMemory witness passes refused = refused
-    of_test (Error.InputHeightTooSmall input final) witness passes refused = absurd refused
-    of_test Error.FinalHeightOverflow witness passes refused = absurd refused
-    of_test (Error.PointInEvaluationDomain round matrix point) witness passes refused = absurd refused
+    -- a refusal of the test, after the witness found, which passes
+    of_test : (error : FriProverError) (witness : F) → FoundAs witness → IsTrue (batch_of (Some witness)).passes
+        → RefusedFrom (test_begun m coefficients ops d shape test c values (Some witness)) error → Refused error
+    of_test (Error.NoPowWitness Batch) witness found passes refused = absurd refused
+    of_test (Error.NoPowWitness CommitPhase) witness found passes refused =
+        record { witness = witness; found = found; passes = passes; refused = refused }
+    of_test (Error.NoPowWitness Query) witness found passes refused =
+        record { witness = witness; found = found; passes = passes; refused = refused }
+    of_test Error.OutOfMemory witness found passes refused = refused
+    of_test (Error.InputHeightTooSmall input final) witness found passes refused = absurd refused
+    of_test Error.FinalHeightOverflow witness found passes refused = absurd refused
+    of_test (Error.PointInEvaluationDomain round matrix point) witness found passes refused = absurd refused
 
     pub test_refused : (refusal : Refusal FriProverError) (error : FriProverError) (witness : F) (lent : C)
-        → IsTrue (batch_of (Some witness)).passes → (batch_of (Some witness)).state ≡ lent
+        → FoundAs witness → IsTrue (batch_of (Some witness)).passes → (batch_of (Some witness)).state ≡ lent
         → (refusal ≡ Seed → error ≡ Error.OutOfMemory) → ((e : FriProverError) → refusal ≡ Step e → error ≡ e)
-        → ((e : FriProverError) → refusal ≡ Step e → PlayRefused m coefficients test (begun_from lent) commitments final_poly e)
+        → ((e : FriProverError) → refusal ≡ Step e → RefusedFrom (begun_from lent) e)
         → Refused error
-    test_refused Seed error witness lent passes inside seed step refused = subst Refused (sym (seed refl)) tt
-    test_refused (Step e) error witness lent passes inside seed step refused =
+    test_refused Seed error witness lent found passes inside seed step refused = subst Refused (sym (seed refl)) tt
+    test_refused (Step e) error witness lent found passes inside seed step refused =
         subst Refused (sym (step e refl))
-        (of_test e witness passes
-        (subst (λ s. PlayRefused m coefficients test (begun_from s) commitments final_poly e) (sym inside) (refused e refl)))
+        (of_test e witness found passes
+        (subst (λ s. RefusedFrom (begun_from s) e) (sym inside) (refused e refl)))
 
   module _ (batch_witness : Option F) (commitments : List Com) (witnesses : List F) (final_poly : List E) (witness : Option F) where
     abbrev pub Failed : C → TranscriptFailure → Type 0

@@ -33,22 +33,26 @@ module _ {C F E Com : Type 0} (m : Moves C F E Com) (coefficients : E → List F
     pub fri : FriFound m ops.zero solution coefficients test (test_begun (Some batch_witness))
         commitments witnesses final_poly witness
 
-  -- the proof of work passes by a witness, and then the test is refused
-  pub record TestRefused (commitments : List Com) (final_poly : List E) (error : FriProverError)
-      : Type 0 where
+  -- the proof of work passes by the witness found, and then the test is refused
+  pub record TestRefused (solution : C → ℕ → Option F) (commitments : List Com)
+      (final_poly : List E) (error : FriProverError) : Type 0 where
     pub witness : F
+    pub found :
+        let observed = claims_observed m coefficients ops (pcs_stream d shape) c values in
+        sent_witness ops.zero solution observed shape.batch_pow_bits ≡ Some witness
     pub passes :
         let stream = pcs_stream d shape in
         IsTrue (claims_replay m coefficients ops shape.batch_pow_bits stream c values
         (Some witness)).passes
-    pub refused :
-        PlayRefused m coefficients test (test_begun (Some witness)) commitments final_poly error
+    pub refused : PlayRefused m ops.zero solution coefficients test (test_begun (Some witness))
+        commitments final_poly error
 
   -- why a prover refuses a run whose seed was absorbed
-  abbrev pub PcsPlayRefused : (commitments : List Com) (final_poly : List E) → FriProverError
-      → Type 0
-  PcsPlayRefused commitments final_poly (NoPowWitness Batch) =
+  abbrev pub PcsPlayRefused : (solution : C → ℕ → Option F) (commitments : List Com)
+      (final_poly : List E) → FriProverError → Type 0
+  PcsPlayRefused solution commitments final_poly (NoPowWitness Batch) =
       let observed = claims_observed m coefficients ops (pcs_stream d shape) c values in
       NonePasses m.observe_value m.draw_bits observed shape.batch_pow_bits
-  PcsPlayRefused commitments final_poly OutOfMemory = ⊤
-  PcsPlayRefused commitments final_poly error = TestRefused commitments final_poly error
+  PcsPlayRefused solution commitments final_poly OutOfMemory = ⊤
+  PcsPlayRefused solution commitments final_poly error =
+      TestRefused solution commitments final_poly error

@@ -23,3 +23,11 @@ pub sent_is : {C W : Type 0} (zero : W) (solution : C → ℕ → Option W) (c :
     → sent_witness zero solution c bits ≡ Some (unwrap_or w zero)
 sent_is zero solution c bits w is some =
     sent_by (bits == 0) zero (solution c bits) w is (λ none. some (not_zero bits none))
+
+-- at no bits zero is sent
+pub sent_zero : {C W : Type 0} (zero : W) (solution : C → ℕ → Option W) (c : C) (bits : ℕ)
+    (witness : W) → sent_witness zero solution c bits ≡ Some witness → bits ≡ 0 → witness ≡ zero
+sent_zero zero solution c bits witness sent none =
+    let shown : Some zero ≡ Some witness =
+    ap (λ b. sent_witness zero solution c b) (sym none) ∙ sent in
+    cc

@@ -2,10 +2,13 @@
 -- are all rounds up to it, and all rounds and the queries are the whole test.
 use Rattle.std.proofs.Common.{◌≡◌, ℕ, Bool, true, false, ◌&&◌, List, [], ◌∷◌, ◌++◌, length}
 use Rattle.std.proofs.Common.{Option, Some, refl, sym, ap, ◌∙◌, arith}
+use Rattle.std.specs.List.{All}
+use Rattle.std.proofs.lemmas.List.Elements.{All-nil, All-cons}
 use Rattle.algebra.specs.Field.{FieldOps}
 use Rattle.p3_challenger_core.specs.Run.{Moves}
 use Rattle.p3_challenger_fs.specs.Turns.{bytes_observed}
 use Rattle.p3_fri_pow.specs.Pow.{sent_witness}
+use Rattle.p3_fri_pow.proofs.Found.{sent_zero}
 use Rattle.p3_fri_transcript.specs.Steps.{FriNumbers}
 use Rattle.p3_fri_transcript.specs.Replay.{RoundsReplay, rounds_replay, round_replay}
 use Rattle.p3_fri_transcript.specs.Replay.{QueriesReplay, shown_queries_replay}
@@ -95,6 +98,19 @@ module _ {C F E Com : Type 0} (m : Moves C F E Com) where
       let next = (round_replay m bits start d w).state in
       let fewer : length ws ≡ length ds = omega (arith, count) in
       (found.0, found_joined zero solution bits next ds ws commitment witness fewer found.1 last)
+
+  -- at no bits each of them is zero
+  pub found_zero : (zero : F) (solution : C → ℕ → Option F) (bits : ℕ) (c : C)
+      (commitments : List Com) (witnesses : List F) → length witnesses ≡ length commitments
+      → RoundsFound m zero solution bits c commitments witnesses
+      → bits ≡ 0 → All (λ w. w ≡ zero) witnesses
+  found_zero zero solution bits c commitments [] count found none = All-nil (λ w. w ≡ zero)
+  found_zero zero solution bits c [] (w ∷ ws) count found none = absurd (omega (arith, count))
+  found_zero zero solution bits c (d ∷ ds) (w ∷ ws) count found none =
+      All-cons (λ v. v ≡ zero) w ws
+      (sent_zero zero solution (m.observe_commitment c d) bits w found.0 none)
+      (found_zero zero solution bits (round_replay m bits c d w).state ds ws
+      (omega (arith, count)) found.1 none)
 
   module _ (coefficients : E → List F) (shape : FriNumbers) where
     -- all rounds and the queries after them

@@ -19,16 +19,17 @@ use Rattle.p3_fri_transcript.specs.Found.{PlayRefused}
 
 module _ {C F E Com : Type 0} (m : Moves C F E Com) where
   -- the round at `i`, at which no witness passes
-  pub round_not_found : (bits own : ℕ) (start now : C) (commitments : List Com) (found : List F)
-      (betas : List E) (i : ℕ) (commitment : Com)
+  pub round_not_found : (zero : F) (solution : C → ℕ → Option F) (bits own : ℕ) (start now : C)
+      (commitments : List Com) (found : List F) (betas : List E) (i : ℕ) (commitment : Com)
       → i < length commitments → commitment ≡ get_or commitments i commitment → length found ≡ i
       → rounds_replay m bits start (take i commitments) found
       ≡ record { passes = true; betas = betas; state = now }
+      → RoundsFound m zero solution bits start (take i commitments) found
       → own ≡ bits
       → NonePasses m.observe_value m.draw_bits (m.observe_commitment now commitment) own
-      → RoundNotFound m bits start commitments
-  round_not_found bits own start now commitments found betas i commitment some_left is_commitment
-      count so_far same none =
+      → RoundNotFound m zero solution bits start commitments
+  round_not_found zero solution bits own start now commitments found betas i commitment some_left
+      is_commitment count so_far are_found same none =
       let before = take i commitments in
       let reached : (rounds_replay m bits start before found).state ≡ now =
       ap (λ (r : RoundsReplay _ _). r.state) so_far in
@@ -43,16 +44,17 @@ module _ {C F E Com : Type 0} (m : Moves C F E Com) where
             sym (take-append-drop i commitments)
             ∙ ap (λ xs. before ++ xs) (next_item commitments i commitment some_left is_commitment);
         count = omega (arith, length-take i commitments, count);
+        found = are_found;
         passes = ap (λ (r : RoundsReplay _ _). r.passes) so_far;
         none_passes = subst (λ s. P s bits) (sym reached) (subst (P now) same none);
       }
 
-  module _ (coefficients : E → List F) (shape : FriNumbers) (seeded after : C)
-      (commitments : List Com) (final_poly : List E) where
+  module _ (zero : F) (solution : C → ℕ → Option F) (coefficients : E → List F)
+      (shape : FriNumbers) (seeded after : C) (commitments : List Com) (final_poly : List E) where
     -- refused rounds refuse the test
     pub rounds_refused : (e : FriProverError)
-        → RoundsRefused m shape.commit_pow_bits seeded commitments e
-        → PlayRefused m coefficients shape seeded commitments final_poly e
+        → RoundsRefused m zero solution shape.commit_pow_bits seeded commitments e
+        → PlayRefused m zero solution coefficients shape seeded commitments final_poly e
     rounds_refused (Why.NoPowWitness CommitPhase) refused = refused
     rounds_refused (Why.NoPowWitness Batch) refused = absurd refused
     rounds_refused (Why.NoPowWitness Query) refused = absurd refused
@@ -63,7 +65,9 @@ module _ {C F E Com : Type 0} (m : Moves C F E Com) where
 
     module _ (witnesses : List F) (betas : List E)
         (rounds : rounds_replay m shape.commit_pow_bits seeded commitments witnesses
-        ≡ record { passes = true; betas = betas; state = after }) where
+        ≡ record { passes = true; betas = betas; state = after })
+        (found : RoundsFound m zero solution shape.commit_pow_bits seeded commitments
+        witnesses) where
       reached : after ≡ (rounds_replay m shape.commit_pow_bits seeded commitments witnesses).state
       reached = sym (ap (λ (r : RoundsReplay _ _). r.state) rounds)
 
@@ -73,34 +77,34 @@ module _ {C F E Com : Type 0} (m : Moves C F E Com) where
           → (e ≡ Why.NoPowWitness Query → NonePasses m.observe_value m.draw_bits
           (polynomial_observed m.observe_value coefficients after final_poly)
           shape.query_pow_bits)
-          → PlayRefused m coefficients shape seeded commitments final_poly e
+          → PlayRefused m zero solution coefficients shape seeded commitments final_poly e
       query_refused e count (inl is) none =
           let P : FriProverError → Type 0 =
-          λ x. PlayRefused m coefficients shape seeded commitments final_poly x in
+          λ x. PlayRefused m zero solution coefficients shape seeded commitments final_poly x in
           let N : C → Type 0 =
           λ s. NonePasses m.observe_value m.draw_bits
           (polynomial_observed m.observe_value coefficients s final_poly) shape.query_pow_bits in
           subst P (sym is) (record {
             witnesses = witnesses;
             count = count;
+            found = found;
             passes = ap (λ (r : RoundsReplay _ _). r.passes) rounds;
             none_passes = subst N reached (none is);
           })
       query_refused e count (inr is) none =
           let P : FriProverError → Type 0 =
-          λ x. PlayRefused m coefficients shape seeded commitments final_poly x in
+          λ x. PlayRefused m zero solution coefficients shape seeded commitments final_poly x in
           subst P (sym is) tt
 
       -- what a whole test found
-      pub fri_found : (zero : F) (solution : C → ℕ → Option F) (w : Option F) (witness : F)
-          → RoundsFound m zero solution shape.commit_pow_bits seeded commitments witnesses
+      pub fri_found : (w : Option F) (witness : F)
           → w ≡ found_witness solution
           (polynomial_observed m.observe_value coefficients after final_poly) shape.query_pow_bits
           → (shape.query_pow_bits ≢ 0 → IsSome w)
           → witness ≡ unwrap_or w zero
           → FriFound m zero solution coefficients shape seeded commitments witnesses final_poly
           witness
-      fri_found zero solution w witness found is some sent =
+      fri_found w witness is some sent =
           let P : C → Type 0 =
           λ s. sent_witness zero solution
           (polynomial_observed m.observe_value coefficients s final_poly) shape.query_pow_bits

@@ -110,7 +110,7 @@ pub fn play_pcs<
     ensures refused { (e : _) → result ≡ Err (Step e) →
         PcsPlayRefused ⟦<C as Plays<F, EF, Com>>⟧.moves EF.coefficients F.ops EF.DIMENSION
         (pcs_shape shape) (fri_shape test) challenger.old (all_values opened_values.now.items)
-        commitments.now final_poly.now e }
+        C.solution commitments.now final_poly.now e }
     ensures absorbed { result ≢ Err Seed →
         let stream = pcs_stream EF.DIMENSION (pcs_shape shape) in
         Reaches ⟦<C as Plays<F, EF, Com>>⟧.moves

@@ -118,8 +118,8 @@ fn play_rounds<
     ensures steps { OnOk result
         (RoundsLeft EF.DIMENSION (shape_of transcript.old) 0 (left_of transcript.new)) }
     ensures refused { IfErr result (λ e.
-        RoundsRefused ⟦<C as Plays<F, EF, Com>>⟧.moves (shape_of transcript.old).commit_pow_bits
-        (state_of transcript.old) commitments.now e) }
+        RoundsRefused ⟦<C as Plays<F, EF, Com>>⟧.moves F.ops.zero C.solution
+        (shape_of transcript.old).commit_pow_bits (state_of transcript.old) commitments.now e) }
     ensures reached { Reaches ⟦<C as Plays<F, EF, Com>>⟧.moves (state_of transcript.old)
         (state_of transcript.new) }
 {
@@ -187,7 +187,8 @@ pub fn play_fri<
     ensures unchanged { result ≡ Err Seed → challenger.new ≡ challenger.old }
     ensures refused { (e : _) → result ≡ Err (Step e) →
         let stream = fri_stream EF.DIMENSION (fri_shape shape) in
-        PlayRefused ⟦<C as Plays<F, EF, Com>>⟧.moves EF.coefficients (fri_shape shape)
+        PlayRefused ⟦<C as Plays<F, EF, Com>>⟧.moves F.ops.zero C.solution EF.coefficients
+        (fri_shape shape)
         (bytes_observed F.ops ⟦<C as CanObserve<F>>⟧.observed challenger.old stream)
         commitments.now final_poly.now e }
     ensures absorbed { result ≢ Err Seed →

@@ -1,4 +1,4 @@
-use Rattle.std.proofs.Common.{◌≡◌, Some, None, Err, [], unwrap_or, sym, ap, ◌∙◌, rules}
+use Rattle.std.proofs.Common.{◌≡◌, Some, None, Err, [], unwrap_or, refl, sym, ap, ◌∙◌, rules}
 use Rattle.p3_challenger_fs.specs.Turns.{bytes_observed}
 use Rattle.p3_challenger_core.specs.Run.{Moves, moves}
 use Rattle.p3_fri_pow.proofs.Reached.{reaches_same}
@@ -8,7 +8,7 @@ use Rattle.p3_fri_pcs_transcript.specs.Replay.{BatchReplay, shown_batch_replay}
 use Rattle.p3_fri_pcs_transcript.specs.Shapes.{pcs_shape}
 use Rattle.p3_fri_pcs_transcript.proofs.ClaimTurns.{all_claims_left}
 use Rattle.p3_fri_pcs_transcript.proofs.PcsReplays.{batch_lent, pcs_joined, pcs_ends}
-use Rattle.p3_fri_pcs_transcript.proofs.PcsRuns.{ok_not_err, step_not_seed, claimed_is, reaches_claimed, reaches_tested, reaches_lent, reaches_inside, pcs_found, batch_refused, test_refused}
+use Rattle.p3_fri_pcs_transcript.proofs.PcsRuns.{ok_not_err, step_not_seed, claimed_is, reaches_claimed, reaches_tested, reaches_lent, reaches_inside, batch_found, pcs_found, batch_refused, test_refused}
 use Rattle.p3_fri_pcs_transcript.proofs.pcs_transcript.play.play_pcs.Given.{Over}
 use Rattle.p3_fri_pcs_transcript.proofs.pcs_transcript.play.play_pcs.Goals as goal
 
@@ -85,7 +85,7 @@ returns-in-Err-batch_phase-clause-refused g c = λ error is_error.
     let seeded = begun.ensures.starts.state ∙ ap (λ bytes. bytes_observed ops g.C.CanObserve-1.observed c.args.challenger.now bytes) c.in-Ok.ensures.stream in
     let is = claimed_is (moves_of g) g.EF.ExtensionField.coefficients ops g.EF.ExtensionField.DIMENSION shape (fri_shape c.args.test) c.args.challenger.now values begun.result.challenger.now observed seeded c.claimed_openings.ensures.state in
     let same : error ≡ c.in-Err-batch_phase.refusal = cc in
-    batch_refused (moves_of g) g.EF.ExtensionField.coefficients ops g.EF.ExtensionField.DIMENSION shape (fri_shape c.args.test) c.args.challenger.now values c.args.commitments.now c.args.final_poly.now observed error is
+    batch_refused (moves_of g) g.EF.ExtensionField.coefficients ops g.EF.ExtensionField.DIMENSION shape (fri_shape c.args.test) c.args.challenger.now values g.C.GrindingChallenger.solution c.args.commitments.now c.args.final_poly.now observed error is
     (same ∙ c.in-Err-batch_phase.ensures.refused) (rw (c.claimed_openings.ensures.kept.shape, begun.ensures.starts.shape) at c.in-Err-batch_phase.ensures.none_passes)
 
 pub returns-in-Err-batch_phase-clause-absorbed : goal.returns-in-Err-batch_phase-clause-absorbed
@@ -114,7 +114,9 @@ returns-in-Err-tested-clause-refused g c = λ error is_error.
     let batch = batch_lent (moves_of g) g.EF.ExtensionField.coefficients ops g.EF.ExtensionField.DIMENSION shape (fri_shape c.args.test) c.args.challenger.now values (Some sent) c.args.commitments.now [] c.args.final_poly.now None
     begun.result.challenger.now observed _ c.begin_delegate.result.now _ seeded c.claimed_openings.ensures.state
     (rw (c.claimed_openings.ensures.kept.shape, begun.ensures.starts.shape) at c.in-Ok-batch_phase.ensures.batch) c.begin_delegate.ensures.value in
-    test_refused (moves_of g) g.EF.ExtensionField.coefficients ops g.EF.ExtensionField.DIMENSION shape (fri_shape c.args.test) c.args.challenger.now values c.args.commitments.now c.args.final_poly.now c.in-Err-tested.refusal error sent c.begin_delegate.result.now
+    test_refused (moves_of g) g.EF.ExtensionField.coefficients ops g.EF.ExtensionField.DIMENSION shape (fri_shape c.args.test) c.args.challenger.now values g.C.GrindingChallenger.solution c.args.commitments.now c.args.final_poly.now c.in-Err-tested.refusal error sent c.begin_delegate.result.now
+    (batch_found (moves_of g) g.EF.ExtensionField.coefficients ops g.EF.ExtensionField.DIMENSION shape (fri_shape c.args.test) c.args.challenger.now values g.C.GrindingChallenger.solution sent observed c.in-Ok-batch_phase.drawn.1 is
+    (rw (c.claimed_openings.ensures.kept.shape, begun.ensures.starts.shape) at c.in-Ok-batch_phase.ensures.witness) (rw (c.claimed_openings.ensures.kept.shape, begun.ensures.starts.shape) at c.in-Ok-batch_phase.ensures.found) refl)
     (ap (λ (r : BatchReplay _ _). r.passes) batch) (ap (λ (r : BatchReplay _ _). r.state) batch)
     (λ s. same ∙ c.of_step.ensures.seed s) (λ e s. same ∙ c.of_step.ensures.step e s)
     (λ e s. c.in-Err-tested.ensures.refused e (ap Err s))

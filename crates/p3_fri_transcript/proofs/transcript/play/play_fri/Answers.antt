@@ -37,10 +37,11 @@ returns-in-Err-play_rounds-clause-refused g c = λ e is.
     let start = bytes_observed ops observe c.args.challenger.now stream in
     let named : c.in-Err-play_rounds.refusal ≡ e = cc in
     let P : FriProverError → Type 0 =
-    λ x. PlayRefused m g.EF.ExtensionField.coefficients described start c.args.commitments.now
-    c.args.final_poly.now x in
+    λ x. PlayRefused m g.F.Field.ops.zero g.C.GrindingChallenger.solution
+    g.EF.ExtensionField.coefficients described start c.args.commitments.now c.args.final_poly.now x in
     subst P named
-    (rounds_refused m g.EF.ExtensionField.coefficients described start start c.args.commitments.now
+    (rounds_refused m g.F.Field.ops.zero g.C.GrindingChallenger.solution
+    g.EF.ExtensionField.coefficients described start start c.args.commitments.now
     c.args.final_poly.now _ (rw (begun.ensures.starts.shape, seeded) at c.in-Err-play_rounds.ensures.refused))
 
 pub returns-in-Err-play_rounds-clause-absorbed : goal.returns-in-Err-play_rounds-clause-absorbed
@@ -82,12 +83,15 @@ returns-in-Err-query_phase-clause-refused g c = λ e is.
     let played = c.in-Ok-play_rounds.rounds in
     let rounds = rw (begun.ensures.starts.shape, seeded) at c.in-Ok-play_rounds.ensures.rounds in
     let P : FriProverError → Type 0 =
-    λ x. PlayRefused m g.EF.ExtensionField.coefficients described start c.args.commitments.now
-    c.args.final_poly.now x in
+    λ x. PlayRefused m g.F.Field.ops.zero g.C.GrindingChallenger.solution
+    g.EF.ExtensionField.coefficients described start c.args.commitments.now c.args.final_poly.now x in
     subst P named
-    (query_refused m g.EF.ExtensionField.coefficients described start
+    (query_refused m g.F.Field.ops.zero g.C.GrindingChallenger.solution
+    g.EF.ExtensionField.coefficients described start
     c.play_rounds.new.transcript.challenger.now c.args.commitments.now c.args.final_poly.now
-    played.commit_witnesses.items played.betas.items rounds _ c.in-Ok-play_rounds.ensures.witnesses
+    played.commit_witnesses.items played.betas.items rounds
+    (rw (begun.ensures.starts.shape, seeded) at c.in-Ok-play_rounds.ensures.found) _
+    c.in-Ok-play_rounds.ensures.witnesses
     c.in-Err-query_phase.ensures.refused
     (λ same. (rw (c.in-Ok-play_rounds.ensures.kept.shape, begun.ensures.starts.shape)
     at c.in-Err-query_phase.ensures.none_passes) (ap Err same)))
@@ -175,11 +179,12 @@ returns-clause-found g c =
     let some =
     rw (c.in-Ok-play_rounds.ensures.kept.shape, begun.ensures.starts.shape)
     at c.in-Ok-query_phase.ensures.found in
-    fri_found m coefficients described start c.play_rounds.new.transcript.challenger.now
+    fri_found m zero g.C.GrindingChallenger.solution coefficients described start
+    c.play_rounds.new.transcript.challenger.now
     c.args.commitments.now c.args.final_poly.now played.commit_witnesses.items played.betas.items
     (rw (begun.ensures.starts.shape, seeded) at c.in-Ok-play_rounds.ensures.rounds)
-    zero g.C.GrindingChallenger.solution drawn.1 c.unwrap_or.result
-    (rw (begun.ensures.starts.shape, seeded) at c.in-Ok-play_rounds.ensures.found) query some sent
+    (rw (begun.ensures.starts.shape, seeded) at c.in-Ok-play_rounds.ensures.found)
+    drawn.1 c.unwrap_or.result query some sent
 
 pub returns-clause-absorbed : goal.returns-clause-absorbed
 returns-clause-absorbed g c = λ started.

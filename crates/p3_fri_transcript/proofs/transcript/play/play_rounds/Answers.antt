@@ -54,12 +54,14 @@ returns-in-Err-clause-refused g c =
     let own = fri_shape here.transcript.shape in
     let start = c.args.transcript.now.challenger.now in
     let P : FriProverError → Type 0 =
-    λ e. RoundsRefused m described.commit_pow_bits start c.args.commitments.now e in
+    λ e. RoundsRefused m g.F.Field.ops.zero g.C.GrindingChallenger.solution
+    described.commit_pow_bits start c.args.commitments.now e in
     subst P (sym c.in-Err.ensures.refused)
-    (round_not_found m described.commit_pow_bits own.commit_pow_bits start
+    (round_not_found m g.F.Field.ops.zero g.C.GrindingChallenger.solution
+    described.commit_pow_bits own.commit_pow_bits start
     here.transcript.challenger.now c.args.commitments.now here.commit_witnesses.items
     here.betas.items here.round c.index-commitments-round.result (omega arith)
-    c.index-commitments-round.is here.invariant.count here.invariant.rounds
+    c.index-commitments-round.is here.invariant.count here.invariant.rounds here.invariant.found
     (ap (λ (s : FriNumbers). s.commit_pow_bits) here.invariant.kept.shape)
     c.in-Err.ensures.none_passes)
 
