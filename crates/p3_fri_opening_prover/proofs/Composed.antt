@@ -1,7 +1,7 @@
 -- An opening of rounds is one of the requests that they come of, and honest ones are accepted.
 use Rattle.std.proofs.Common.{◌≡◌, ◌<◌, ◌≤◌, ◌+◌, ℕ, List, [], ◌∷◌, map, length, All, refl}
 use Rattle.std.proofs.Common.{sym, ap, ◌∙◌, subst}
-use Rattle.std.proofs.Common.{Result, Ok, Err}
+use Rattle.std.proofs.Common.{Option, Result, Ok, Err}
 use Rattle.std.specs.Prelude.{IfOk, IfErr}
 use Rattle.std.specs.List.{AllZip}
 use Rattle.std.proofs.lemmas.List.{length-map}
@@ -127,9 +127,9 @@ module _ {F E D C Com Path InCom InPath : Type 0} (s : Setting F E C Com Path In
 
   -- what stops an opening of the rounds
   module _ {Data : Type 0} (committed_in_test : Data → List (RowMajorMatrix E))
-      (commitment_in_test : Data → Com) (c : C) where
+      (commitment_in_test : Data → Com) (solution : C → ℕ → Option F) (c : C) where
     abbrev Stops : List (Opened F E) → List (List (List (List E))) → FriProverError → Type 0
-    Stops ms ys e = OpeningStops s p ms ys c committed_in_test commitment_in_test e
+    Stops ms ys e = OpeningStops s p ms ys c committed_in_test commitment_in_test solution e
 
     stops_asked : (e : FriProverError) → Stops (opened_of rounds values) values e
         → Stops (joined (map (round_opened s.fields committed p.log_blowup) asked)) honest e
@@ -140,7 +140,7 @@ module _ {F E D C Com Path InCom InPath : Type 0} (s : Setting F E C Com Path In
         (opened_by_request s.fields p.log_blowup committed rounds requests rounds_are) h)
 
     abbrev Refused : FriProverError → Type 0
-    Refused e = OpenRefusal s p committed committed_in_test commitment_in_test c asked e
+    Refused e = OpenRefusal s p committed committed_in_test commitment_in_test solution c asked e
 
     refused_asked : (e : FriProverError) → PassesChecks s.fields p committed asked
         → Stops (opened_of rounds values) values e → ¬ LeavesState e → Refused e

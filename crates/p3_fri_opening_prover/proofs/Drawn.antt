@@ -1,6 +1,6 @@
 -- What the transcript around the test did: what it absorbed, and what was drawn then.
-use Rattle.std.proofs.Common.{◌≡◌, ◌<◌, ℕ, zero, true, List, [], ◌∷◌, ◌++◌, map, length}
-use Rattle.std.proofs.Common.{Option, Some, unwrap_or, refl, sym, ap, ap₂, ◌∙◌, subst}
+use Rattle.std.proofs.Common.{◌≡◌, ◌≢◌, ◌<◌, ℕ, zero, true, List, [], ◌∷◌, ◌++◌, map, length}
+use Rattle.std.proofs.Common.{Option, Some, IsSome, unwrap_or, refl, sym, ap, ap₂, ◌∙◌, subst}
 use Rattle.std.specs.Global.{Global}
 use Rattle.std.specs.List.{AllZip, flat_map}
 use Rattle.std.specs.declared.vec.Vec.{Vec}
@@ -13,7 +13,8 @@ use Rattle.p3_pcs.specs.Claims.{opened_values}
 use Rattle.p3_fri_pow.specs.declared.error.FriProverError.{FriProverError}
 use Rattle.p3_fri_pow.specs.declared.error.FriProverError.TheVariants.{NoPowWitness}
 use Rattle.p3_fri_pow.specs.declared.pow_phase.PowPhase.TheVariants.{Batch}
-use Rattle.p3_fri_pow.specs.Pow.{NonePasses, found_witness}
+use Rattle.p3_fri_pow.specs.Pow.{NonePasses, found_witness, sent_witness}
+use Rattle.p3_fri_pow.proofs.Found.{sent_is}
 use Rattle.p3_fri_pcs_transcript.specs.Counts.{counts_in_matrices, counts_of_values}
 use Rattle.p3_fri_pcs_transcript.specs.Counts.{lists_in_matrices, lists_of_values, all_values}
 use Rattle.p3_fri_pcs_transcript.specs.Steps.{PcsNumbers, pcs_stream}
@@ -115,7 +116,17 @@ module _ {F E C Com Path InCom InPath : Type 0} {s : Setting F E C Com Path InCo
           (sym given);
     }
 
-    -- the witness that is sent is zero at no bits
+    -- the witness that is sent is the one that the search gives, and zero at no bits
+    pub is_sent : (solution : C → ℕ → Option F) (found : Option F) (witness : F)
+        → witness ≡ unwrap_or found s.fields.base.zero → found ≡ found_witness solution claimed bits
+        → (bits ≢ 0 → IsSome found)
+        → sent_witness s.fields.base.zero solution (absorbed s p ms values c) p.batch_pow_bits
+        ≡ Some witness
+    is_sent solution found witness carried is some =
+        ap₂ (λ t n. sent_witness s.fields.base.zero solution t n) (sym claims.absorbs)
+        (sym claims.asks)
+        ∙ sent_is s.fields.base.zero solution claimed bits found is some ∙ ap Some (sym carried)
+
     pub zero_at_no_bits : (solution : C → ℕ → Option F) (found : Option F) (witness : F)
         → witness ≡ unwrap_or found s.fields.base.zero → found ≡ found_witness solution claimed bits
         → p.batch_pow_bits ≡ 0 → witness ≡ s.fields.base.zero
@@ -125,13 +136,14 @@ module _ {F E C Com Path InCom InPath : Type 0} {s : Setting F E C Com Path InCo
 
     -- where no witness passes
     pub no_witness : {Data : Type 0} (committed : Data → List (RowMajorMatrix E))
-        (commitment_of : Data → Com) (e : FriProverError) → e ≡ NoPowWitness Batch
+        (commitment_of : Data → Com) (solution : C → ℕ → Option F) (e : FriProverError)
+        → e ≡ NoPowWitness Batch
         → NonePasses s.moves.observe_value s.moves.draw_bits claimed bits
-        → OpeningStops s p ms values c committed commitment_of e
-    no_witness committed commitment_of e is none =
+        → OpeningStops s p ms values c committed commitment_of solution e
+    no_witness committed commitment_of solution e is none =
         let observe = s.moves.observe_value in
         let draw_bits = s.moves.draw_bits in
-        subst (λ x. OpeningStops s p ms values c committed commitment_of x) (sym is) (
+        subst (λ x. OpeningStops s p ms values c committed commitment_of solution x) (sym is) (
           subst (λ n. 0 < n) claims.asks
               (bits_asked observe draw_bits claimed bits s.fields.base.zero none),
           subst (λ n. NonePasses observe draw_bits (absorbed s p ms values c) n) claims.asks
@@ -166,15 +178,19 @@ module _ {F E C Com Path InCom InPath : Type 0} {s : Setting F E C Com Path InCo
 
     -- and stops if it does
     pub stopped : {Data : Type 0} (committed : Data → List (RowMajorMatrix E))
-        (commitment_of : Data → Com) (e : FriProverError)
+        (commitment_of : Data → Com) (solution : C → ℕ → Option F) (e : FriProverError)
+        → sent_witness s.fields.base.zero solution (absorbed s p ms values c) p.batch_pow_bits
+        ≡ Some witness
         → ProverRefusal s committed commitment_of p (heights s.fields ms) (top s.fields ms)
-        (words s.fields ms alpha) lent e
-        → OpeningStops s p ms values c committed commitment_of e
-    stopped committed commitment_of e refused =
-        stops s committed commitment_of p ms values c e (record {
+        (words s.fields ms alpha) lent solution e
+        → OpeningStops s p ms values c committed commitment_of solution e
+    stopped committed commitment_of solution e found refused =
+        stops s committed commitment_of p ms values c solution e (record {
           witness = witness;
+          found = found;
           passes = ap (λ (r : BatchReplay C E). r.passes) drawn.is;
           refused = subst (λ (r : BatchReplay C E). ProverRefusal s committed commitment_of p
-              (heights s.fields ms) (top s.fields ms) (words s.fields ms r.alpha) r.state e)
+              (heights s.fields ms) (top s.fields ms) (words s.fields ms r.alpha) r.state
+              solution e)
               (sym drawn.is) refused;
         })

@@ -1,5 +1,5 @@
 -- Why an opening stops, from why the test inside it does.
-use Rattle.std.proofs.Common.{◌<◌, ℕ, inl, inr, List, All, Result, Ok, Err, arith}
+use Rattle.std.proofs.Common.{◌<◌, ℕ, inl, inr, List, All, Option, Result, Ok, Err, arith}
 use Rattle.std.specs.Prelude.{IfErr}
 use Rattle.p3_matrix.specs.declared.dense.RowMajorMatrix.{RowMajorMatrix}
 use Rattle.p3_fri_pow.specs.declared.error.FriProverError.{FriProverError}
@@ -17,9 +17,10 @@ use Rattle.p3_fri_opening_prover.specs.Refusals.{LeavesState}
 
 module _ {F E C Com Data Path InCom InPath : Type 0} (s : Setting F E C Com Path InCom InPath)
     (committed : Data → List (RowMajorMatrix E)) (commitment_of : Data → Com) (p : Parameters) where
-  module _ (heights : List ℕ) (top : ℕ) (words : List (List E)) (c : C) where
+  module _ (heights : List ℕ) (top : ℕ) (words : List (List E)) (c : C)
+      (solution : C → ℕ → Option F) where
     abbrev Refused : FriProverError → Type 0
-    Refused e = ProverRefusal s committed commitment_of p heights top words c e
+    Refused e = ProverRefusal s committed commitment_of p heights top words c solution e
 
     -- of words that are tall enough, below 64, none is one of the checks
     not_of_checks : All (IsTallEnough p) heights → All (λ h. h < 64) heights
@@ -45,12 +46,15 @@ module _ {F E C Com Data Path InCom InPath : Type 0} (s : Setting F E C Com Path
     no_check_refused tall below (Err e) h = not_of_checks tall below e h
 
   -- what stops the test stops the opening
-  module _ (ms : List (Opened F E)) (values : List (List (List (List E)))) (c : C) where
-    batch_not_inside : StopsInTest s p ms values c committed commitment_of (NoPowWitness Batch) → ⊥
+  module _ (ms : List (Opened F E)) (values : List (List (List (List E)))) (c : C)
+      (solution : C → ℕ → Option F) where
+    batch_not_inside :
+        StopsInTest s p ms values c committed commitment_of solution (NoPowWitness Batch) → ⊥
     batch_not_inside x = elim (x.refused) [ inl r ↦ absurd r.cause | inr r ↦ absurd r.1 ]
 
-    pub stops : (e : FriProverError) → StopsInTest s p ms values c committed commitment_of e
-        → OpeningStops s p ms values c committed commitment_of e
+    pub stops : (e : FriProverError)
+        → StopsInTest s p ms values c committed commitment_of solution e
+        → OpeningStops s p ms values c committed commitment_of solution e
     stops (NoPowWitness Batch) x = absurd (batch_not_inside x)
     stops (NoPowWitness CommitPhase) x = x
     stops (NoPowWitness Query) x = x

@@ -1,13 +1,13 @@
 -- An opening: what is absorbed and drawn before the low-degree test, the test of the quotients'
 -- words, and what the committed data opens at its positions.
-use Rattle.std.specs.Prelude.{◌≡◌, ℕ, suc, ◌<◌, IsTrue, List, map, length, Some, ⊤}
+use Rattle.std.specs.Prelude.{◌≡◌, ℕ, suc, ◌<◌, IsTrue, List, map, length, Option, Some, ⊤}
 use Rattle.std.specs.List.{AllZip, flat_map}
 use Rattle.algebra.specs.Nested.{joined}
 use Rattle.p3_matrix.specs.declared.dense.RowMajorMatrix.{RowMajorMatrix}
 use Rattle.p3_fri_pow.specs.declared.error.FriProverError.{FriProverError}
 use Rattle.p3_fri_pow.specs.declared.error.FriProverError.TheVariants.{NoPowWitness, OutOfMemory}
 use Rattle.p3_fri_pow.specs.declared.pow_phase.PowPhase.TheVariants.{Batch}
-use Rattle.p3_fri_pow.specs.Pow.{NonePasses}
+use Rattle.p3_fri_pow.specs.Pow.{sent_witness, NonePasses}
 use Rattle.p3_fri_folding.specs.Schedule.{tallest}
 use Rattle.p3_fri_pcs_transcript.specs.Steps.{PcsNumbers, pcs_stream}
 use Rattle.p3_fri_pcs_transcript.specs.Replay.{BatchReplay, claims_observed, claims_replay}
@@ -78,14 +78,17 @@ module _ {F E C Com Path InCom InPath : Type 0} (s : Setting F E C Com Path InCo
     pub canonical : p.batch_pow_bits ≡ 0 → proof.batch_witness ≡ s.fields.base.zero
     pub tested : GoesOn committed commitment_of opened proof last (batch proof.batch_witness)
 
+  -- by the witnesses that the search `solution` gives
   module _ {Data : Type 0} (committed : Data → List (RowMajorMatrix E))
-      (commitment_of : Data → Com) where
-    -- some witness passes before the batching challenge, and the test of the words stops then
+      (commitment_of : Data → Com) (solution : C → ℕ → Option F) where
+    -- the witness found before the batching challenge passes, and the test of the words stops then
     pub record StopsInTest (e : FriProverError) : Type 0 where
       pub witness : F
+      pub found : sent_witness s.fields.base.zero solution absorbed p.batch_pow_bits ≡ Some witness
       pub passes : IsTrue (batch witness).passes
       pub refused : ProverRefusal s committed commitment_of p (heights s.fields ms)
-          (top s.fields ms) (words s.fields ms (batch witness).alpha) (batch witness).state e
+          (top s.fields ms) (words s.fields ms (batch witness).alpha) (batch witness).state
+          solution e
 
     -- why an opening that passed the checks stops: a proof of work was asked for and no witness
     -- passes, or for want of memory

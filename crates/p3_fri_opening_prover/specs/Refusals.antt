@@ -1,5 +1,5 @@
 -- When a prover of openings refuses.
-use Rattle.std.specs.Prelude.{ℕ, List, map, All, ⊤}
+use Rattle.std.specs.Prelude.{ℕ, List, Option, map, All, ⊤}
 use Rattle.algebra.specs.Nested.{joined}
 use Rattle.p3_matrix.specs.declared.dense.RowMajorMatrix.{RowMajorMatrix}
 use Rattle.p3_pcs.specs.Claims.{zip_with}
@@ -68,13 +68,13 @@ module _ {F E D : Type 0} (f : Fields F E) (p : Parameters)
 module _ {F E C D Data Com Path InCom InPath : Type 0} (s : Setting F E C Com Path InCom InPath)
     (p : Parameters) (committed : D → List (RowMajorMatrix F))
     (committed_in_test : Data → List (RowMajorMatrix E)) (commitment_in_test : Data → Com)
-    (c : C) (requests : List (Request D E)) where
+    (solution : C → ℕ → Option F) (c : C) (requests : List (Request D E)) where
   -- why requests that pass the checks aren't opened from the challenger's state `c` on
   abbrev pub RequestsStop : FriProverError → Type 0
   RequestsStop e =
       OpeningStops s p (joined (map (round_opened s.fields committed p.log_blowup) requests))
       (map (honest_values (held_of s.fields committed p.log_blowup)) requests) c
-      committed_in_test commitment_in_test e
+      committed_in_test commitment_in_test solution e
 
   -- why requests aren't opened: the checks refuse them, which comes first, or what stops those that
   -- pass

@@ -91,7 +91,7 @@ pub fn open_rounds<
         params.now.mmcs input_mmcs.now in
         let ys = map (values_asked s.fields params.now.log_blowup) rounds.now in
         IfErr result (OpeningStops s (parameters_of params.now) (opened_of rounds.now ys) ys
-        challenger.old M.committed M.commitment_of) }
+        challenger.old M.committed M.commitment_of C.solution) }
     ensures not_checked { IfErr result (λ e. ¬ LeavesState e) }
 {
     let prepared = match prepare(alloc, params, rounds) {
@@ -207,7 +207,7 @@ pub fn open_requests<
     ensures refused { let s = ⟦<C as PlaysFri<F, EF, S, M, InputMmcs>>⟧.setting folding.now
         params.now.mmcs input_mmcs.now in
         IfErr result (OpenRefusal s (parameters_of params.now) InputMmcs.committed M.committed
-        M.commitment_of challenger.old (map request requests.now)) }
+        M.commitment_of C.solution challenger.old (map request requests.now)) }
     ensures unmoved { IfErr result (λ e. LeavesState e → challenger.new ≡ challenger.old) }
 {
     let rounds = match checked_rounds(alloc, params, input_mmcs, requests) {

@@ -84,7 +84,7 @@ pub(crate) fn open_seeded<
         params.now.mmcs input_mmcs.now in
         let ys = opened_values values.now.items in
         IfErr result (OpeningStops s (parameters_of params.now) (opened_of rounds.now ys) ys
-        challenger.old M.committed M.commitment_of) }
+        challenger.old M.committed M.commitment_of C.solution) }
     ensures not_checked { IfErr result (λ e. ¬ LeavesState e) }
 {
     let mut transcript = PcsProverTranscript::<C, F, EF>::start(challenger, seed, shape);

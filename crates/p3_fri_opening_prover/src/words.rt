@@ -93,7 +93,8 @@ pub(crate) fn prove_words<
         params.now.mmcs input_mmcs.now in
         let ms = opened_of rounds.now (opened_values values.now.items) in
         IfErr result (ProverRefusal s M.committed M.commitment_of (parameters_of params.now)
-        (heights s.fields ms) (top s.fields ms) (words_of s.fields ms alpha) challenger.old) }
+        (heights s.fields ms) (top s.fields ms) (words_of s.fields ms alpha) challenger.old
+        C.solution) }
     ensures not_checked { IfErr result (λ e. ¬ LeavesState e) }
 {
     let batched = batch_words(alloc, alpha, rounds, values, table);

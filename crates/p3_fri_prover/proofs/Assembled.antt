@@ -1,6 +1,6 @@
 -- A proof of words, from what was played of its transcript and what was opened of its rounds.
 use Rattle.std.proofs.Common.{◌≡◌, ◌≢◌, ℕ, ◌+◌, ◌-◌, ◌/◌, ◌^◌, ◌<◌, ◌≤◌, List, [], ◌∷◌, length}
-use Rattle.std.proofs.Common.{get_or, map, sum, refl, sym, ap, ◌∙◌, arith, subst}
+use Rattle.std.proofs.Common.{get_or, map, sum, Option, refl, sym, ap, ◌∙◌, arith, subst}
 use Rattle.std.specs.Prelude.{All, EachIndex}
 use Rattle.std.specs.List.{AllZip}
 use Rattle.algebra.specs.Field.{IsField, IsHomomorphism}
@@ -12,7 +12,10 @@ use Rattle.algebra.proofs.Points.{lifted_roots}
 use Rattle.p3_matrix.specs.declared.dense.RowMajorMatrix.{RowMajorMatrix}
 use Rattle.p3_challenger_fs.specs.Turns.{bytes_observed}
 use Rattle.p3_fri_folding.specs.Schedule.{IsStrictlyFalling, tallest}
+use Rattle.p3_fri_pow.proofs.Found.{sent_zero}
+use Rattle.p3_fri_transcript.specs.Replay.{polynomial_observed}
 use Rattle.p3_fri_transcript.specs.Steps.{fri_stream}
+use Rattle.p3_fri_transcript.proofs.Joining.{found_zero}
 use Rattle.p3_fri_relation.specs.Setting.{Setting, Parameters, RoundOpening, Proof}
 use Rattle.p3_fri_relation.specs.Setting.{final_height}
 use Rattle.p3_fri_relation.specs.Queries.{rounds_of, heights_after, row_indices}
@@ -43,11 +46,12 @@ module _ {F E C Com Path InCom InPath Data X : Type 0}
     (s : Setting F E C Com Path InCom InPath) (p : Parameters) (heights : List ℕ) (top : ℕ)
     (inputs : List (List E)) (c seeded last : C) (proof : Proof F E Com Path InPath)
     (are_inputs : AreInputs top inputs) (have : HaveHeights heights inputs)
-    (capped : 0 < p.max_log_arity) (kept : List Data) (indices ps : List ℕ)
+    (capped : 0 < p.max_log_arity) (solution : C → ℕ → Option F) (kept : List Data)
+    (indices ps : List ℕ)
     (start : seeded ≡ bytes_observed s.fields.base s.moves.observe_value c
     (fri_stream s.fields.degree (fri_numbers p heights top s.extra_bits)))
     (played : IsPlayed committed commitment_of s.fields s.fold s.moves p.log_final_poly_len
-    (fri_numbers p heights top s.extra_bits) top inputs seeded proof.commitments
+    (fri_numbers p heights top s.extra_bits) top inputs seeded solution proof.commitments
     proof.commit_witnesses kept proof.final_poly proof.query_witness indices last)
     (shifted : ps ≡ map (λ i. i / 2 ^ s.extra_bits) indices)
     (view : X → RoundOpening E Path) (openings : List X)
@@ -86,11 +90,11 @@ module _ {F E C Com Path InCom InPath Data X : Type 0}
   within = arities_within p heights top falling is_top
 
   committed_rounds : AreCommitted committed commitment_of s.moves p.commit_pow_bits
-      s.fields.base.zero s.fields.ext s.fold (input_of heights inputs) top first seeded arities
-      proof.commitments proof.commit_witnesses kept played.word played.reached
+      s.fields.base.zero solution s.fields.ext s.fold (input_of heights inputs) top first seeded
+      arities proof.commitments proof.commit_witnesses kept played.word played.reached
   committed_rounds =
-      rounds_by_height committed commitment_of s.fields s.fold s.moves p heights top s.extra_bits
-      inputs seeded are_inputs have capped proof.commitments proof.commit_witnesses kept
+      rounds_by_height committed commitment_of s.fields s.fold s.moves solution p heights top
+      s.extra_bits inputs seeded are_inputs have capped proof.commitments proof.commit_witnesses kept
       proof.final_poly proof.query_witness indices last played ps shifted
 
   same_betas : betas ≡ committed_rounds.betas
@@ -247,7 +251,15 @@ module _ {F E C Com Path InCom InPath Data X : Type 0}
     pub is_proved : IsProved s p heights top inputs c proof num_data last
     is_proved = record {
       counts = counts;
-      canonical = record { commit = committed_rounds.canonical; query = played.canonical };
+      canonical = record {
+        commit = found_zero s.moves s.fields.base.zero solution p.commit_pow_bits seeded
+            proof.commitments proof.commit_witnesses
+            (committed_rounds.witnesses_found ∙ sym committed_rounds.commitments_made)
+            committed_rounds.found;
+        query = sent_zero s.fields.base.zero solution
+            (polynomial_observed s.moves.observe_value s.fields.coefficients played.reached
+            proof.final_poly) p.query_pow_bits proof.query_witness played.found;
+      };
       passes = replayed_passes s p heights top inputs c proof seeded played.reached last
           committed_rounds.betas indices start committed_rounds.replay played.queries;
       state = replayed_state s p heights top inputs c proof seeded played.reached last

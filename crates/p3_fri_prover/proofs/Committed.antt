@@ -3,14 +3,16 @@ use Rattle.std.proofs.Common.{◌≡◌, ℕ, zero, suc, ◌+◌, ◌-◌, ◌^�
 use Rattle.std.proofs.Common.{length, get_or, take, sum, Option, refl, sym, ap, ap₂, ◌∙◌, arith}
 use Rattle.std.proofs.Common.{subst, below_more}
 use Rattle.std.proofs.lemmas.List.Sums.{sum_by-append}
-use Rattle.std.proofs.lemmas.List.{take_more, length-append}
+use Rattle.std.proofs.lemmas.List.{take_more, length-append, length-take}
 use Rattle.algebra.specs.Field.{FieldOps}
 use Rattle.algebra.specs.Rounds.{Round, total_log_arity, after_round, after_rounds, words_folded}
 use Rattle.algebra.proofs.Rounds.{after_rounds-next, words_folded-next, length-after_rounds}
 use Rattle.p3_matrix.specs.declared.dense.RowMajorMatrix.{RowMajorMatrix}
 use Rattle.p3_challenger_core.specs.Run.{Moves}
-use Rattle.p3_fri_transcript.specs.Replay.{rounds_replay}
-use Rattle.p3_fri_transcript.proofs.Joining.{no_rounds, round_joined}
+use Rattle.p3_fri_pow.specs.Pow.{sent_witness, NonePasses}
+use Rattle.p3_fri_transcript.specs.Found.{RoundsFound}
+use Rattle.p3_fri_transcript.specs.Replay.{RoundsReplay, rounds_replay}
+use Rattle.p3_fri_transcript.proofs.Joining.{no_rounds, round_joined, found_joined}
 use Rattle.p3_fri_relation.specs.Queries.{rounds_of}
 use Rattle.p3_fri_pow.specs.declared.error.FriProverError.{FriProverError}
 use Rattle.p3_fri_pow.specs.declared.error.FriProverError.TheVariants.{InputHeightTooSmall}
@@ -19,10 +21,10 @@ use Rattle.p3_fri_pow.specs.declared.error.FriProverError.TheVariants.{OutOfMemo
 use Rattle.p3_fri_pow.specs.declared.error.FriProverError.TheVariants.{PointInEvaluationDomain}
 use Rattle.p3_fri_pow.specs.declared.pow_phase.PowPhase.TheVariants.{Batch, CommitPhase, Query}
 use Rattle.p3_fri_prover.specs.Rounds.{CanFold, KeepsWord, IsRound, AreCommitted}
-use Rattle.p3_fri_prover.specs.Rounds.{IsRoundRefused}
+use Rattle.p3_fri_prover.specs.Rounds.{IsRoundRefused, NoRoundWitness}
 use Rattle.p3_fri_prover.specs.Refusals.{RoundRefusal, RoundsRefusal}
 use Rattle.p3_fri_prover.proofs.Ways.{total_of_rounds, sum-cons}
-use Rattle.p3_fri_prover.proofs.Pushes.{at_last, at_earlier, pushed_each}
+use Rattle.p3_fri_prover.proofs.Pushes.{at_last, at_earlier}
 
 -- one log arity and one challenge more
 rounds_more : {E : Type 0} (arities : List ℕ) (betas : List E) (a : ℕ) (b : E)
@@ -46,34 +48,36 @@ length-words F fold inputs h (a ∷ arities) (b ∷ betas) ys n =
     ap suc (length-words F fold inputs (h - a) arities betas _ (omega (arith, n)))
 
 pub none_committed : {E Com Data C F : Type 0} {committed : Data → List (RowMajorMatrix E)}
-    {commitment_of : Data → Com} {m : Moves C F E Com} {bits : ℕ} {zero' : F} {ops : FieldOps E}
-    {fold : ℕ → ℕ → ℕ → E → List E → E} {inputs : ℕ → Option (List E)} {top : ℕ} {first : List E}
-    {start : C} {commitments : List Com} {witnesses : List F} {kept : List Data}
+    {commitment_of : Data → Com} {m : Moves C F E Com} {bits : ℕ} {zero' : F}
+    {solution : C → ℕ → Option F} {ops : FieldOps E} {fold : ℕ → ℕ → ℕ → E → List E → E}
+    {inputs : ℕ → Option (List E)} {top : ℕ} {first : List E} {start : C} {commitments : List Com}
+    {witnesses : List F} {kept : List Data}
     → commitments ≡ [] → witnesses ≡ [] → kept ≡ []
-    → AreCommitted committed commitment_of m bits zero' ops fold inputs top first start
+    → AreCommitted committed commitment_of m bits zero' solution ops fold inputs top first start
     [] commitments witnesses kept first start
-none_committed {m = m} {bits = bits} {start = start} {witnesses = witnesses} c w k = record {
-  betas = [];
-  drawn = refl;
-  commitments_made = ap length c;
-  witnesses_found = ap length w;
-  data_kept = ap length k;
-  replay = ap (λ cs. rounds_replay m bits start cs witnesses) c ∙ no_rounds m bits start witnesses;
-  canonical = λ _ i d l. absurd (omega (arith, l, ap length w));
-  words = λ i d e l. absurd (omega (arith, l));
-  last_word = refl;
-}
+none_committed {m = m} {bits = bits} {zero' = zero'} {solution = solution} {start = start}
+    {witnesses = witnesses} c w k = record {
+      betas = [];
+      drawn = refl;
+      commitments_made = ap length c;
+      witnesses_found = ap length w;
+      data_kept = ap length k;
+      replay = ap (λ cs. rounds_replay m bits start cs witnesses) c ∙ no_rounds m bits start witnesses;
+      found = subst (λ cs. RoundsFound m zero' solution bits start cs witnesses) (sym c) tt;
+      words = λ i d e l. absurd (omega (arith, l));
+      last_word = refl;
+    }
 
 module _ {E Com Data : Type 0} (committed : Data → List (RowMajorMatrix E))
     (commitment_of : Data → Com) {C F : Type 0} (m : Moves C F E Com) (bits : ℕ) (zero' : F)
-    (ops : FieldOps E) (fold : ℕ → ℕ → ℕ → E → List E → E) (inputs : ℕ → Option (List E))
-    (top : ℕ) (first : List E) (start : C) where
+    (solution : C → ℕ → Option F) (ops : FieldOps E) (fold : ℕ → ℕ → ℕ → E → List E → E)
+    (inputs : ℕ → Option (List E)) (top : ℕ) (first : List E) (start : C) where
   module _ (arities : List ℕ) (a : ℕ) (commitments : List Com) (witnesses : List F)
       (kept : List Data) (word : List E) (now : C)
-      (so_far : AreCommitted committed commitment_of m bits zero' ops fold inputs top first start
-      arities commitments witnesses kept word now)
+      (so_far : AreCommitted committed commitment_of m bits zero' solution ops fold inputs top first
+      start arities commitments witnesses kept word now)
       (commitment : Com) (witness : F) (datum : Data) (folded : List E) (after : C)
-      (next : IsRound committed commitment_of m bits zero' ops fold inputs
+      (next : IsRound committed commitment_of m bits zero' solution ops fold inputs
       (top - sum arities - a) a word now commitment witness datum folded after) where
     abbrev old_rounds : List (Round E)
     old_rounds = rounds_of arities so_far.betas
@@ -82,7 +86,7 @@ module _ {E Com Data : Type 0} (committed : Data → List (RowMajorMatrix E))
         (all_kept : List Data)
         → all_commitments ≡ commitments ++ commitment ∷ []
         → all_witnesses ≡ witnesses ++ witness ∷ [] → all_kept ≡ kept ++ datum ∷ []
-        → AreCommitted committed commitment_of m bits zero' ops fold inputs top first start
+        → AreCommitted committed commitment_of m bits zero' solution ops fold inputs top first start
         (arities ++ a ∷ []) all_commitments all_witnesses all_kept folded after
     one_committed_more cs ws ks ec ew ek = record {
       betas = so_far.betas ++ next.beta ∷ [];
@@ -96,10 +100,12 @@ module _ {E Com Data : Type 0} (committed : Data → List (RowMajorMatrix E))
           ∙ round_joined m bits start now after commitments witnesses so_far.betas commitment
           witness next.beta (so_far.witnesses_found ∙ sym so_far.commitments_made) so_far.replay
           next.replay;
-      canonical = λ e k d l.
-          pushed_each (λ j w. w ≡ zero') witnesses ws witness (length witnesses) refl ew
-          (so_far.canonical e) (next.canonical e) k d
-          (omega (arith, l, ap length ew, length-append witnesses (witness ∷ [])));
+      found = subst (λ xs. RoundsFound m zero' solution bits start xs ws) (sym ec)
+          (subst (λ ys. RoundsFound m zero' solution bits start (commitments ++ commitment ∷ []) ys)
+          (sym ew) (found_joined m zero' solution bits start commitments witnesses commitment witness
+          (so_far.witnesses_found ∙ sym so_far.commitments_made) so_far.found
+          (ap (λ (r : RoundsReplay _ _). sent_witness zero' solution
+          (m.observe_commitment r.state commitment) bits) so_far.replay ∙ next.found)));
       words = λ k made dat l.
           below_more (λ j. (com' : Com) (dat' : Data)
           → KeepsWord committed commitment_of (get_or (arities ++ a ∷ []) j 0)
@@ -222,12 +228,12 @@ can_fold_next arities i top most n l s t e = record {
 
 -- after the first `i` rounds of these log arities
 module _ {E Com Data C F : Type 0} {committed : Data → List (RowMajorMatrix E)}
-    {commitment_of : Data → Com} {m : Moves C F E Com} {bits : ℕ} {zero' : F} {ops : FieldOps E}
-    {fold : ℕ → ℕ → ℕ → E → List E → E} {inputs : ℕ → Option (List E)} {top : ℕ} {first : List E}
-    {start : C} (arities : List ℕ) (i : ℕ) {commitments : List Com} {witnesses : List F}
-    {kept : List Data} {word : List E} {now : C}
-    (so_far : AreCommitted committed commitment_of m bits zero' ops fold inputs top first start
-    (take i arities) commitments witnesses kept word now) where
+    {commitment_of : Data → Com} {m : Moves C F E Com} {bits : ℕ} {zero' : F}
+    {solution : C → ℕ → Option F} {ops : FieldOps E} {fold : ℕ → ℕ → ℕ → E → List E → E}
+    {inputs : ℕ → Option (List E)} {top : ℕ} {first : List E} {start : C} (arities : List ℕ) (i : ℕ)
+    {commitments : List Com} {witnesses : List F} {kept : List Data} {word : List E} {now : C}
+    (so_far : AreCommitted committed commitment_of m bits zero' solution ops fold inputs top first
+    start (take i arities) commitments witnesses kept word now) where
   pub length_so_far : length first ≡ 2 ^ top → length word ≡ 2 ^ (top - sum (take i arities))
   length_so_far whole =
       word_so_far ops fold inputs top (take i arities) so_far.betas first word so_far.drawn whole
@@ -237,45 +243,74 @@ module _ {E Com Data C F : Type 0} {committed : Data → List (RowMajorMatrix E)
   pub next_committed : {own : ℕ} {commitment : Com} {witness : F} {datum : Data} {folded : List E}
       {after : C} {all_commitments : List Com} {all_witnesses : List F} {all_kept : List Data}
       {last : List E} → i < length arities → own ≡ bits
-      → IsRound committed commitment_of m own zero' ops fold inputs
+      → IsRound committed commitment_of m own zero' solution ops fold inputs
       (top - sum (take i arities) - get_or arities i 0) (get_or arities i 0) word now commitment
       witness datum folded after
       → all_commitments ≡ commitments ++ commitment ∷ []
       → all_witnesses ≡ witnesses ++ witness ∷ [] → all_kept ≡ kept ++ datum ∷ []
       → last ≡ folded
-      → AreCommitted committed commitment_of m bits zero' ops fold inputs top first start
+      → AreCommitted committed commitment_of m bits zero' solution ops fold inputs top first start
       (take (i + 1) arities) all_commitments all_witnesses all_kept last after
   next_committed {own} {commitment} {witness} {datum} {folded} {after} {all_commitments}
       {all_witnesses} {all_kept} {last} below same_bits next ec ew ek is_last =
       let a = get_or arities i 0 in
       let Committed : List ℕ → List E → Type 0 = λ xs w.
-      AreCommitted committed commitment_of m bits zero' ops fold inputs top first start xs
+      AreCommitted committed commitment_of m bits zero' solution ops fold inputs top first start xs
       all_commitments all_witnesses all_kept w after in
       subst (λ xs. Committed xs last) (sym (take_more arities i 0 below))
       (subst (λ w. Committed (take i arities ++ a ∷ []) w) (sym is_last)
-      (one_committed_more committed commitment_of m bits zero' ops fold inputs top first start
-      (take i arities) a commitments witnesses kept word now so_far commitment witness datum folded
+      (one_committed_more committed commitment_of m bits zero' solution ops fold inputs top first
+      start (take i arities) a commitments witnesses kept word now so_far commitment witness datum folded
       after
-      (subst (λ b. IsRound committed commitment_of m b zero' ops fold inputs
+      (subst (λ b. IsRound committed commitment_of m b zero' solution ops fold inputs
       (top - sum (take i arities) - a) a word now commitment witness datum folded after) same_bits
       next) all_commitments all_witnesses all_kept ec ew ek))
 
-  -- or refused, which refuses the rounds
+  -- or finds no witness
+  no_round_witness : i < length arities
+      → IsRoundRefused committed commitment_of m bits (get_or arities i 0) word now
+      → NoRoundWitness committed commitment_of m bits zero' solution ops fold inputs top first start
+      arities
+  no_round_witness below refused =
+      let reached : (rounds_replay m bits start commitments witnesses).state ≡ now =
+      ap (λ (r : RoundsReplay _ _). r.state) so_far.replay in
+      let many : i ≡ length commitments =
+      omega (arith, below, length-take i arities, so_far.commitments_made) in
+      record {
+        commitments = commitments ++ refused.commitment ∷ [];
+        stops = record {
+          before = commitments;
+          next = refused.commitment;
+          others = [];
+          witnesses = witnesses;
+          all = refl;
+          count = so_far.witnesses_found ∙ sym so_far.commitments_made;
+          found = so_far.found;
+          passes = ap (λ (r : RoundsReplay _ _). r.passes) so_far.replay;
+          none_passes = subst (λ s. NonePasses m.observe_value m.draw_bits
+              (m.observe_commitment s refused.commitment) bits) (sym reached) refused.none_passes;
+        };
+        some_left = subst (λ n. n < length arities) many below;
+        kept = kept;
+        word = word;
+        reached = now;
+        committed_before = subst (λ n. AreCommitted committed commitment_of m bits zero' solution
+            ops fold inputs top first start (take n arities) commitments witnesses kept word now)
+            many so_far;
+        datum = refused.datum;
+        keeps = subst (λ n. KeepsWord committed commitment_of (get_or arities n 0) word
+            refused.commitment refused.datum) many refused.keeps;
+      }
+
+  -- and a refusal of it refuses the rounds
   pub rounds_refused : {own : ℕ} → i < length arities → own ≡ bits → (e : FriProverError)
       → RoundRefusal committed commitment_of m own (get_or arities i 0) word now e
-      → RoundsRefusal committed commitment_of m bits zero' ops fold inputs top first start arities e
-  rounds_refused below same_bits (NoPowWitness CommitPhase) refused = record {
-    played = i;
-    some_left = below;
-    commitments = commitments;
-    witnesses = witnesses;
-    kept = kept;
-    word = word;
-    reached = now;
-    committed_before = so_far;
-    refused = subst (λ b. IsRoundRefused committed commitment_of m b (get_or arities i 0) word now)
-        same_bits refused;
-  }
+      → RoundsRefusal committed commitment_of m bits zero' solution ops fold inputs top first start
+      arities e
+  rounds_refused below same_bits (NoPowWitness CommitPhase) refused =
+      no_round_witness below
+      (subst (λ b. IsRoundRefused committed commitment_of m b (get_or arities i 0) word now)
+      same_bits refused)
   rounds_refused below same_bits (NoPowWitness Batch) refused = absurd refused
   rounds_refused below same_bits (NoPowWitness Query) refused = absurd refused
   rounds_refused below same_bits OutOfMemory refused = tt

@@ -1,6 +1,6 @@
 -- The proof of what was planned, played and opened.
 use Rattle.std.proofs.Common.{◌≡◌, ℕ, ◌/◌, ◌^◌, ◌<◌, ◌≤◌, List, [], ◌∷◌, length, get_or, map, sym}
-use Rattle.std.proofs.Common.{ap, ◌∙◌, subst, refl}
+use Rattle.std.proofs.Common.{Option, ap, ◌∙◌, subst, refl}
 use Rattle.std.specs.List.{AllZip}
 use Rattle.algebra.specs.Field.{IsField, IsHomomorphism}
 use Rattle.algebra.specs.Folds.{LowersDegrees}
@@ -29,30 +29,33 @@ zip_viewed R view (x ∷ xs) (y ∷ ys) all = (all.0, zip_viewed R view xs ys al
 pub record IsMade {F E C Com Path InCom InPath Data : Type 0}
     (committed : Data → List (RowMajorMatrix E)) (commitment_of : Data → Com)
     (s : Setting F E C Com Path InCom InPath) (p : Parameters) (heights : List ℕ) (top : ℕ)
-    (inputs : List (List E)) (c : C) (proof : Proof F E Com Path InPath) (extra : ℕ)
-    (kept : List Data) (indices : List ℕ) (last : C) : Type 0 where
+    (inputs : List (List E)) (c : C) (solution : C → ℕ → Option F)
+    (proof : Proof F E Com Path InPath) (extra : ℕ) (kept : List Data) (indices : List ℕ) (last : C)
+    : Type 0 where
   pub extra_bits : extra ≡ s.extra_bits
   pub played : IsPlayed committed commitment_of s.fields s.fold s.moves p.log_final_poly_len
       (fri_numbers p heights top s.extra_bits) top inputs
       (bytes_observed s.fields.base s.moves.observe_value c
-      (fri_stream s.fields.degree (fri_numbers p heights top s.extra_bits))) proof.commitments
-      proof.commit_witnesses kept proof.final_poly proof.query_witness indices last
+      (fri_stream s.fields.degree (fri_numbers p heights top s.extra_bits))) solution
+      proof.commitments proof.commit_witnesses kept proof.final_poly proof.query_witness indices last
 
 module _ {F E C Com Path InCom InPath Data : Type 0}
     {committed : Data → List (RowMajorMatrix E)} {commitment_of : Data → Com}
     {s : Setting F E C Com Path InCom InPath} {p : Parameters} {heights : List ℕ} {top : ℕ}
-    {inputs : List (List E)} {c : C} {proof : Proof F E Com Path InPath} {extra : ℕ}
-    {kept : List Data} {indices : List ℕ} {last : C} where
+    {inputs : List (List E)} {c : C} {solution : C → ℕ → Option F}
+    {proof : Proof F E Com Path InPath} {extra : ℕ} {kept : List Data} {indices : List ℕ}
+    {last : C} where
   pub made_of_played : {numbers : FriNumbers} {stream : List ℕ} {commitments : List Com}
       {witnesses : List F} {final_poly : List E} {query_witness : F}
       → IsPlayed committed commitment_of s.fields s.fold s.moves p.log_final_poly_len numbers top
-      inputs (bytes_observed s.fields.base s.moves.observe_value c stream) commitments witnesses
-      kept final_poly query_witness indices last
+      inputs (bytes_observed s.fields.base s.moves.observe_value c stream) solution commitments
+      witnesses kept final_poly query_witness indices last
       → extra ≡ s.extra_bits → numbers ≡ fri_numbers p heights top extra
       → stream ≡ fri_stream s.fields.degree numbers
       → proof.commitments ≡ commitments → proof.commit_witnesses ≡ witnesses
       → proof.final_poly ≡ final_poly → proof.query_witness ≡ query_witness
-      → IsMade committed commitment_of s p heights top inputs c proof extra kept indices last
+      → IsMade committed commitment_of s p heights top inputs c solution proof extra kept indices
+      last
   made_of_played {numbers} {stream} {commitments} {witnesses} {final_poly} {query_witness} played
       is_extra described is_stream same_commitments same_witnesses same_polynomial same_witness =
       let wanted = fri_numbers p heights top s.extra_bits in
@@ -61,7 +64,7 @@ module _ {F E C Com Path InCom InPath Data : Type 0}
       let Played : FriNumbers → List ℕ → List Com → List F → List E → F → Type 0 =
       λ n xs cs ws poly w. IsPlayed committed commitment_of s.fields s.fold s.moves
       p.log_final_poly_len n top inputs (bytes_observed s.fields.base s.moves.observe_value c xs)
-      cs ws kept poly w indices last in
+      solution cs ws kept poly w indices last in
       record {
         extra_bits = is_extra;
         played =
@@ -80,8 +83,8 @@ module _ {F E C Com Path InCom InPath Data : Type 0}
             played)))));
       }
 
-  module _ (made : IsMade committed commitment_of s p heights top inputs c proof extra kept indices
-      last) where
+  module _ (made : IsMade committed commitment_of s p heights top inputs c solution proof extra kept
+      indices last) where
     abbrev seeded : C
     seeded = bytes_observed s.fields.base s.moves.observe_value c
         (fri_stream s.fields.degree (fri_numbers p heights top s.extra_bits))
@@ -117,7 +120,7 @@ module _ {F E C Com Path InCom InPath Data : Type 0}
         ext lifts roots falls enough small batches =
         let scheduled : arities ≡ log_arities p heights top = plan.scheduled heights have in
         is_proved committed commitment_of s p heights top inputs c seeded last proof plan.are have
-        plan.capped kept indices (places extra indices) refl made.played shifted view openings
+        plan.capped solution kept indices (places extra indices) refl made.played shifted view openings
         rounds_are (count ∙ ap length scheduled)
         (subst (λ xs. (k : ℕ) (o : X) (datum : Data) (matrix : RowMajorMatrix E) → k < length xs
         → committed (get_or kept k datum) ≡ matrix ∷ []

@@ -1,6 +1,6 @@
 -- The words that are handed in, by log height: what their heights are, and rounds over them.
 use Rattle.std.proofs.Common.{◌≡◌, ◌≢◌, ℕ, ◌^◌, ◌<◌, ◌≤◌, List, [], ◌∷◌, length, get_or, sum}
-use Rattle.std.proofs.Common.{Some, refl, sym, ap, ◌∙◌, subst, remove}
+use Rattle.std.proofs.Common.{Option, Some, refl, sym, ap, ◌∙◌, subst, remove}
 use Rattle.std.specs.Prelude.{All, if◌then◌else◌}
 use Rattle.std.proofs.lemmas.Bool.{eq-eqb}
 use Rattle.algebra.specs.Field.{FieldOps}
@@ -46,8 +46,8 @@ module _ {E : Type 0} where
 -- rounds that looked the further words up by length are rounds over the words by log height
 module _ {E Com Data : Type 0} (committed : Data → List (RowMajorMatrix E))
     (commitment_of : Data → Com) {C F : Type 0} (m : Moves C F E Com) (bits : ℕ) (zero : F)
-    (ops : FieldOps E) (fold : ℕ → ℕ → ℕ → E → List E → E) (heights : List ℕ)
-    (words : List (List E)) (top : ℕ) (have : HaveHeights heights words)
+    (solution : C → ℕ → Option F) (ops : FieldOps E) (fold : ℕ → ℕ → ℕ → E → List E → E)
+    (heights : List ℕ) (words : List (List E)) (top : ℕ) (have : HaveHeights heights words)
     (is_top : tallest heights ≡ top) (first : List E) (start : C) (arities : List ℕ)
     (positive : All (λ a. 0 < a) arities) (within : sum arities ≤ top) where
   agree : (h : ℕ) → h < top → of_length (remove words 0) (2 ^ h) ≡ input_of heights words h
@@ -55,11 +55,11 @@ module _ {E Com Data : Type 0} (committed : Data → List (RowMajorMatrix E))
 
   pub committed_by_height : (commitments : List Com) (witnesses : List F) (kept : List Data)
       (word : List E) (now : C)
-      → AreCommitted committed commitment_of m bits zero ops fold
+      → AreCommitted committed commitment_of m bits zero solution ops fold
       (λ k. of_length (remove words 0) (2 ^ k)) top first start arities commitments witnesses kept
       word now
-      → AreCommitted committed commitment_of m bits zero ops fold (input_of heights words) top first
-      start arities commitments witnesses kept word now
+      → AreCommitted committed commitment_of m bits zero solution ops fold
+      (input_of heights words) top first start arities commitments witnesses kept word now
   committed_by_height commitments witnesses kept word now a = record {
     betas = a.betas;
     drawn = a.drawn;
@@ -67,7 +67,7 @@ module _ {E Com Data : Type 0} (committed : Data → List (RowMajorMatrix E))
     witnesses_found = a.witnesses_found;
     data_kept = a.data_kept;
     replay = a.replay;
-    canonical = a.canonical;
+    found = a.found;
     words = subst (λ ws. KeepWords committed commitment_of arities ws commitments kept)
         (words_agree ops fold (λ k. of_length (remove words 0) (2 ^ k)) (input_of heights words)
         arities a.betas top first positive within agree) a.words;

@@ -1,6 +1,6 @@
 -- What a plan gives: the conditions of what is played by it, and of what is opened then.
 use Rattle.std.proofs.Common.{◌≡◌, ℕ, ◌/◌, ◌^◌, ◌<◌, ◌≤◌, List, [], length, get_or, map, sym, ap}
-use Rattle.std.proofs.Common.{◌∙◌, subst, refl}
+use Rattle.std.proofs.Common.{Option, ◌∙◌, subst, refl}
 use Rattle.std.specs.Prelude.{All}
 use Rattle.p3_matrix.specs.declared.dense.RowMajorMatrix.{RowMajorMatrix}
 use Rattle.p3_challenger_core.specs.Run.{Moves}
@@ -74,10 +74,11 @@ module _ {E : Type 0} {p : Parameters} {top extra : ℕ} {inputs : List (List E)
   -- what was played by it
   module _ {F C Com Data : Type 0} {committed : Data → List (RowMajorMatrix E)}
       {commitment_of : Data → Com} {fields : Fields F E} {fold : ℕ → ℕ → ℕ → E → List E → E}
-      {m : Moves C F E Com} {seeded : C} {commitments : List Com} {witnesses : List F}
-      {kept : List Data} {final_poly : List E} {query_witness : F} {indices : List ℕ} {last : C}
+      {m : Moves C F E Com} {seeded : C} {solution : C → ℕ → Option F} {commitments : List Com}
+      {witnesses : List F} {kept : List Data} {final_poly : List E} {query_witness : F}
+      {indices : List ℕ} {last : C}
       (played : IsPlayed committed commitment_of fields fold m p.log_final_poly_len numbers top
-      inputs seeded commitments witnesses kept final_poly query_witness indices last) where
+      inputs seeded solution commitments witnesses kept final_poly query_witness indices last) where
     pub planned_positions : All (λ q. q < 2 ^ top) (places extra indices)
     planned_positions =
         positions_below numbers top extra indices (places extra indices)
@@ -92,9 +93,9 @@ module _ {E : Type 0} {p : Parameters} {top extra : ℕ} {inputs : List (List E)
     planned_openable small =
         subst (λ xs. (k : ℕ) (datum : Data) → k < length xs
         → IsOpenable xs (places extra indices) k (committed (get_or kept k datum))) (sym here)
-        (rounds_openable committed commitment_of fields fold m p plan.are.heights top extra inputs
-        seeded plan.are plan.are.have plan.capped commitments witnesses kept final_poly
+        (rounds_openable committed commitment_of fields fold m solution p plan.are.heights top extra
+        inputs seeded plan.are plan.are.have plan.capped commitments witnesses kept final_poly
         query_witness indices last
         (subst (λ n. IsPlayed committed commitment_of fields fold m p.log_final_poly_len n top
-        inputs seeded commitments witnesses kept final_poly query_witness indices last) is_numbers
-        played) (places extra indices) refl small)
+        inputs seeded solution commitments witnesses kept final_poly query_witness indices last)
+        is_numbers played) (places extra indices) refl small)

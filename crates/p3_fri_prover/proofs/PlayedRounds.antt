@@ -1,5 +1,5 @@
 -- What was played with words of these log heights, and that its rounds can be opened.
-use Rattle.std.proofs.Common.{◌≡◌, ℕ, ◌/◌, ◌^◌, ◌<◌, List, [], length, get_or, map, refl}
+use Rattle.std.proofs.Common.{◌≡◌, ℕ, ◌/◌, ◌^◌, ◌<◌, List, [], length, get_or, map, Option, refl}
 use Rattle.p3_matrix.specs.declared.dense.RowMajorMatrix.{RowMajorMatrix}
 use Rattle.p3_challenger_core.specs.Run.{Moves}
 use Rattle.p3_fri_folding.specs.Schedule.{IsStrictlyFalling, tallest}
@@ -18,14 +18,14 @@ use Rattle.p3_fri_prover.proofs.Replayed.{positions_below}
 -- `top` is the log height of the first word
 module _ {F E C Com Data : Type 0} (committed : Data → List (RowMajorMatrix E))
     (commitment_of : Data → Com) (fields : Fields F E) (fold : ℕ → ℕ → ℕ → E → List E → E)
-    (m : Moves C F E Com) (p : Parameters) (heights : List ℕ) (top extra : ℕ)
-    (inputs : List (List E)) (seeded : C) (are_inputs : AreInputs top inputs)
+    (m : Moves C F E Com) (solution : C → ℕ → Option F) (p : Parameters) (heights : List ℕ)
+    (top extra : ℕ) (inputs : List (List E)) (seeded : C) (are_inputs : AreInputs top inputs)
     (have : HaveHeights heights inputs) (capped : 0 < p.max_log_arity) (commitments : List Com)
     (witnesses : List F) (kept : List Data) (final_poly : List E) (query_witness : F)
     (indices : List ℕ) (last : C)
     (played : IsPlayed committed commitment_of fields fold m p.log_final_poly_len
-    (fri_numbers p heights top extra) top inputs seeded commitments witnesses kept final_poly
-    query_witness indices last)
+    (fri_numbers p heights top extra) top inputs seeded solution commitments witnesses kept
+    final_poly query_witness indices last)
     (ps : List ℕ) (shifted : ps ≡ map (λ i. i / 2 ^ extra) indices) where
   abbrev arities : List ℕ
   arities = log_arities p heights top
@@ -41,11 +41,11 @@ module _ {F E C Com Data : Type 0} (committed : Data → List (RowMajorMatrix E)
 
   -- rounds over the words by log height
   pub rounds_by_height : AreCommitted committed commitment_of m p.commit_pow_bits fields.base.zero
-      fields.ext fold (input_of heights inputs) top first seeded arities commitments witnesses kept
-      played.word played.reached
+      solution fields.ext fold (input_of heights inputs) top first seeded arities commitments
+      witnesses kept played.word played.reached
   rounds_by_height =
-      committed_by_height committed commitment_of m p.commit_pow_bits fields.base.zero fields.ext
-      fold heights inputs top have is_top first seeded arities
+      committed_by_height committed commitment_of m p.commit_pow_bits fields.base.zero solution
+      fields.ext fold heights inputs top have is_top first seeded arities
       (arities_positive p heights top falling is_top capped)
       (arities_within p heights top falling is_top) commitments witnesses kept played.word
       played.reached played.rounds

@@ -7,7 +7,8 @@ use Rattle.p3_challenger_core.specs.Run.{Moves}
 use Rattle.p3_fri_pow.specs.declared.error.FriProverError.{FriProverError}
 use Rattle.p3_fri_pow.specs.declared.error.FriProverError.TheVariants.{NoPowWitness, OutOfMemory}
 use Rattle.p3_fri_pow.specs.declared.pow_phase.PowPhase.TheVariants.{CommitPhase, Query}
-use Rattle.p3_fri_pow.specs.Pow.{NonePasses}
+use Rattle.p3_fri_pow.specs.Pow.{sent_witness}
+use Rattle.p3_fri_transcript.specs.Found.{QueryNotFound}
 use Rattle.p3_fri_transcript.specs.Indices.{AreIndices}
 use Rattle.p3_fri_transcript.specs.Replay.{shown_queries_replay, polynomial_observed}
 use Rattle.p3_fri_transcript.specs.Steps.{FriNumbers}
@@ -38,49 +39,51 @@ module _ {F E C Com Data : Type 0} (committed : Data → List (RowMajorMatrix E)
   abbrev pub further_words : ℕ → Option (List E)
   further_words k = of_length (remove words 0) (2 ^ k)
 
-  -- all rounds were played, and led to the word and to the state `reached`
-  abbrev pub AllCommitted : (commitments : List Com) (witnesses : List F) (kept : List Data)
-      (word : List E) (reached : C) → Type 0
-  AllCommitted commitments witnesses kept word reached =
-      AreCommitted committed commitment_of m numbers.commit_pow_bits fields.base.zero fields.ext
-      fold further_words top first_word seeded numbers.log_arities commitments witnesses kept word
-      reached
-
   abbrev pub polynomial_of : (word : List E) → List E
   polynomial_of word =
       final_polynomial fields.ext (λ k. fields.lift (fields.root k)) log_final_poly_len word
 
-  -- all of the transcript was played: the rounds, the final polynomial of the word after them, and
-  -- the queries; it led to the state `last`
-  pub record IsPlayed (commitments : List Com) (witnesses : List F) (kept : List Data)
-      (final_poly : List E) (query_witness : F) (indices : List ℕ) (last : C) : Type 0 where
-    pub word : List E
-    pub reached : C
-    pub rounds : AllCommitted commitments witnesses kept word reached
-    pub polynomial : final_poly ≡ polynomial_of word
-    pub queries : shown_queries_replay m fields.coefficients numbers reached final_poly
-        (Some query_witness) ≡ record { passes = true; indices = indices; state = last }
-    pub drawn : AreIndices numbers indices
-    pub canonical : numbers.query_pow_bits ≡ 0 → query_witness ≡ fields.base.zero
+  -- by the witnesses that the search `solution` gives
+  module _ (solution : C → ℕ → Option F) where
+    -- all rounds were played, and led to the word and to the state `reached`
+    abbrev pub AllCommitted : (commitments : List Com) (witnesses : List F) (kept : List Data)
+        (word : List E) (reached : C) → Type 0
+    AllCommitted commitments witnesses kept word reached =
+        AreCommitted committed commitment_of m numbers.commit_pow_bits fields.base.zero solution
+        fields.ext fold further_words top first_word seeded numbers.log_arities commitments
+        witnesses kept word reached
 
-  -- after all rounds and the final polynomial no witness passes
-  pub record NoQueryWitness : Type 0 where
-    pub commitments : List Com
-    pub witnesses : List F
-    pub kept : List Data
-    pub word : List E
-    pub reached : C
-    pub rounds : AllCommitted commitments witnesses kept word reached
-    pub none_passes : NonePasses m.observe_value m.draw_bits
-        (polynomial_observed m.observe_value fields.coefficients reached (polynomial_of word))
-        numbers.query_pow_bits
+    -- all of the transcript was played: the rounds, the final polynomial of the word after them,
+    -- and the queries; it led to the state `last`
+    pub record IsPlayed (commitments : List Com) (witnesses : List F) (kept : List Data)
+        (final_poly : List E) (query_witness : F) (indices : List ℕ) (last : C) : Type 0 where
+      pub word : List E
+      pub reached : C
+      pub rounds : AllCommitted commitments witnesses kept word reached
+      pub polynomial : final_poly ≡ polynomial_of word
+      pub queries : shown_queries_replay m fields.coefficients numbers reached final_poly
+          (Some query_witness) ≡ record { passes = true; indices = indices; state = last }
+      pub drawn : AreIndices numbers indices
+      pub found : sent_witness fields.base.zero solution
+          (polynomial_observed m.observe_value fields.coefficients reached final_poly)
+          numbers.query_pow_bits ≡ Some query_witness
 
-  -- why it wasn't played to the end: a proof of work was asked for, and no witness passes, or for
-  -- want of memory
-  abbrev pub PlayRefusal : FriProverError → Type 0
-  PlayRefusal (NoPowWitness CommitPhase) = (0 < numbers.commit_pow_bits)
-      × NoRoundWitness committed commitment_of m numbers.commit_pow_bits fields.base.zero
-      fields.ext fold further_words top first_word seeded numbers.log_arities
-  PlayRefusal (NoPowWitness Query) = (0 < numbers.query_pow_bits) × NoQueryWitness
-  PlayRefusal OutOfMemory = ⊤
-  PlayRefusal _ = ⊥
+    -- all rounds were played, and no witness is found after the final polynomial of the word then
+    pub record NoQueryWitness : Type 0 where
+      pub commitments : List Com
+      pub kept : List Data
+      pub word : List E
+      pub reached : C
+      pub stops : QueryNotFound m fields.base.zero solution fields.coefficients numbers seeded
+          commitments (polynomial_of word)
+      pub rounds : AllCommitted commitments stops.witnesses kept word reached
+
+    -- why it wasn't played to the end: a proof of work was asked for, and no witness passes, or for
+    -- want of memory
+    abbrev pub PlayRefusal : FriProverError → Type 0
+    PlayRefusal (NoPowWitness CommitPhase) = (0 < numbers.commit_pow_bits)
+        × NoRoundWitness committed commitment_of m numbers.commit_pow_bits fields.base.zero
+        solution fields.ext fold further_words top first_word seeded numbers.log_arities
+    PlayRefusal (NoPowWitness Query) = (0 < numbers.query_pow_bits) × NoQueryWitness
+    PlayRefusal OutOfMemory = ⊤
+    PlayRefusal _ = ⊥

@@ -1,5 +1,5 @@
 -- What a prover asks for, and why it refuses.
-use Rattle.std.specs.Prelude.{ℕ, ◌+◌, ◌<◌, ◌≤◌, ◌⊎◌, List, All, ⊤}
+use Rattle.std.specs.Prelude.{ℕ, ◌+◌, ◌<◌, ◌≤◌, ◌⊎◌, List, All, Option, ⊤}
 use Rattle.p3_challenger_fs.specs.Turns.{bytes_observed}
 use Rattle.p3_matrix.specs.declared.dense.RowMajorMatrix.{RowMajorMatrix}
 use Rattle.p3_fri_pow.specs.declared.error.FriProverError.{FriProverError}
@@ -40,8 +40,8 @@ module _ {F E C Com Data Path InCom InPath : Type 0} (s : Setting F E C Com Path
 
   -- why a prover refuses: for a height, wherever one can't be proved, and else for what stops the
   -- transcript, or for want of memory
-  abbrev pub ProverRefusal : FriProverError → Type 0
-  ProverRefusal e = HeightsRefusal p heights e
+  abbrev pub ProverRefusal : (solution : C → ℕ → Option F) → FriProverError → Type 0
+  ProverRefusal solution e = HeightsRefusal p heights e
       ⊎ (All (IsTallEnough p) heights
       × PlayRefusal committed commitment_of s.fields s.fold s.moves p.log_final_poly_len
-      (fri_numbers p heights top s.extra_bits) top words seeded e)
+      (fri_numbers p heights top s.extra_bits) top words seeded solution e)

@@ -26,10 +26,12 @@ module _ {E Com Data C F : Type 0} (committed : Data → List (RowMajorMatrix E)
   RoundRefusal log_arity word before _ = ⊥
 
   -- why the rounds are
-  abbrev pub RoundsRefusal : (zero : F) → FieldOps E → (ℕ → ℕ → ℕ → E → List E → E)
-      → (ℕ → Option (List E)) → (top : ℕ) (first : List E) (start : C) (log_arities : List ℕ)
-      → FriProverError → Type 0
-  RoundsRefusal zero ops fold inputs top first start log_arities (NoPowWitness CommitPhase) =
-      NoRoundWitness committed commitment_of m bits zero ops fold inputs top first start log_arities
-  RoundsRefusal zero ops fold inputs top first start log_arities OutOfMemory = ⊤
-  RoundsRefusal zero ops fold inputs top first start log_arities _ = ⊥
+  abbrev pub RoundsRefusal : (zero : F) → (solution : C → ℕ → Option F) → FieldOps E
+      → (ℕ → ℕ → ℕ → E → List E → E) → (ℕ → Option (List E)) → (top : ℕ) (first : List E)
+      (start : C) (log_arities : List ℕ) → FriProverError → Type 0
+  RoundsRefusal zero solution ops fold inputs top first start log_arities
+      (NoPowWitness CommitPhase) =
+      NoRoundWitness committed commitment_of m bits zero solution ops fold inputs top first start
+      log_arities
+  RoundsRefusal zero solution ops fold inputs top first start log_arities OutOfMemory = ⊤
+  RoundsRefusal zero solution ops fold inputs top first start log_arities _ = ⊥

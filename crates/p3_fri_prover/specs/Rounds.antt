@@ -1,13 +1,14 @@
 -- The rounds that a prover plays: what it commits to, and the word to which they lead.
-use Rattle.std.specs.Prelude.{◌≡◌, ℕ, ◌+◌, ◌^◌, ◌<◌, ◌≤◌, true, List, [], ◌∷◌, length, take, All}
-use Rattle.std.specs.Prelude.{Option, slice_index, slice_index_or}
+use Rattle.std.specs.Prelude.{◌≡◌, ℕ, ◌+◌, ◌^◌, ◌<◌, ◌≤◌, true, List, [], ◌∷◌, length, take}
+use Rattle.std.specs.Prelude.{Option, Some, slice_index, slice_index_or}
 use Rattle.algebra.specs.Field.{FieldOps}
 use Rattle.algebra.specs.Rounds.{after_round, after_rounds, words_folded}
 use Rattle.p3_matrix.specs.declared.dense.RowMajorMatrix.{RowMajorMatrix}
 use Rattle.p3_matrix.specs.Matrix.{rows, matrix_width}
 use Rattle.p3_matrix.specs.Rows.{rows_of}
 use Rattle.p3_challenger_core.specs.Run.{Moves}
-use Rattle.p3_fri_pow.specs.Pow.{NonePasses}
+use Rattle.p3_fri_pow.specs.Pow.{sent_witness, NonePasses}
+use Rattle.p3_fri_transcript.specs.Found.{RoundsFound, RoundNotFound}
 use Rattle.p3_fri_transcript.specs.Replay.{round_replay, rounds_replay}
 use Rattle.p3_fri_relation.specs.Queries.{rounds_of}
 
@@ -45,22 +46,26 @@ module _ {E Com Data : Type 0} (committed : Data → List (RowMajorMatrix E))
       pub none_passes : NonePasses m.observe_value m.draw_bits
           (m.observe_commitment before commitment) bits
 
-  module _ {C F : Type 0} (m : Moves C F E Com) (bits : ℕ) (zero : F) (ops : FieldOps E)
-      (fold : ℕ → ℕ → ℕ → E → List E → E) (inputs : ℕ → Option (List E)) where
-    -- a round to log height `h` was played with the word: it led from the state `before` to `after`
+  module _ {C F : Type 0} (m : Moves C F E Com) (bits : ℕ) (zero : F)
+      (solution : C → ℕ → Option F) (ops : FieldOps E) (fold : ℕ → ℕ → ℕ → E → List E → E)
+      (inputs : ℕ → Option (List E)) where
+    -- a round to log height `h` was played with the word, by the witness that the search
+    -- `solution` gives in it: it led from the state `before` to `after`
     pub record IsRound (h log_arity : ℕ) (word : List E) (before : C) (commitment : Com)
         (witness : F) (datum : Data) (folded : List E) (after : C) : Type 0 where
       pub beta : E
       pub replay : round_replay m bits before commitment witness
           ≡ record { passes = true; betas = beta ∷ []; state = after }
-      pub canonical : bits ≡ 0 → witness ≡ zero
+      pub found :
+          sent_witness zero solution (m.observe_commitment before commitment) bits ≡ Some witness
       pub keeps : KeepsWord log_arity word commitment datum
       pub word_after : folded
           ≡ after_round ops fold inputs h (record { log_arity = log_arity; beta = beta }) word
 
     module _ (top : ℕ) (first : List E) (start : C) where
-      -- rounds of these log arities were played, from the word `first` of log height `top` on: they
-      -- led from the state `start` to `now`, and to the word
+      -- rounds of these log arities were played, from the word `first` of log height `top` on, by
+      -- the witnesses that the search gives in them: they led from the state `start` to `now`, and
+      -- to the word
       pub record AreCommitted (log_arities : List ℕ) (commitments : List Com) (witnesses : List F)
           (kept : List Data) (word : List E) (now : C) : Type 0 where
         pub betas : List E
@@ -70,20 +75,21 @@ module _ {E Com Data : Type 0} (committed : Data → List (RowMajorMatrix E))
         pub data_kept : length kept ≡ length log_arities
         pub replay : rounds_replay m bits start commitments witnesses
             ≡ record { passes = true; betas = betas; state = now }
-        pub canonical : bits ≡ 0 → All (λ w. w ≡ zero) witnesses
+        pub found : RoundsFound m zero solution bits start commitments witnesses
         pub words : KeepWords log_arities
             (words_folded ops fold inputs top (rounds_of log_arities betas) first) commitments kept
         pub last_word : word ≡ after_rounds ops fold inputs top (rounds_of log_arities betas) first
 
-      -- after some of the rounds no witness passes at the next
+      -- no witness is found at one of the commitments: the rounds before it were played, and it is
+      -- one to the word after them
       pub record NoRoundWitness (log_arities : List ℕ) : Type 0 where
-        pub played : ℕ
-        pub some_left : played < length log_arities
         pub commitments : List Com
-        pub witnesses : List F
+        pub stops : RoundNotFound m zero solution bits start commitments
+        pub some_left : length stops.before < length log_arities
         pub kept : List Data
         pub word : List E
         pub reached : C
-        pub committed_before : AreCommitted (take played log_arities) commitments witnesses kept
-            word reached
-        pub refused : IsRoundRefused m bits (slice_index log_arities played) word reached
+        pub committed_before : AreCommitted (take (length stops.before) log_arities) stops.before
+            stops.witnesses kept word reached
+        pub datum : Data
+        pub keeps : KeepsWord (slice_index log_arities (length stops.before)) word stops.next datum

@@ -86,8 +86,8 @@ pub(crate) fn commit_round<
         (left_of transcript.old) (left_of transcript.new)) }
     ensures round { IfOk result (λ round. (h : ℕ) → vec_len word ≡ 2 ^ (h + log_arity) →
         IsRound M.committed M.commitment_of ⟦<C as Plays<F, EF, M::Commitment>>⟧.moves
-        (shape_of transcript.old).commit_pow_bits F.ops.zero EF.ops (S.row_fold folding.now)
-        (λ k. of_length (lists inputs.now) (2 ^ k)) h log_arity word.items
+        (shape_of transcript.old).commit_pow_bits F.ops.zero C.solution EF.ops
+        (S.row_fold folding.now) (λ k. of_length (lists inputs.now) (2 ^ k)) h log_arity word.items
         (state_of transcript.old) round.commitment round.witness round.prover_data
         round.word.items (state_of transcript.new)) }
     ensures refused { IfErr result (RoundRefusal M.committed M.commitment_of

@@ -77,15 +77,15 @@ pub(crate) fn play<
         IsPlayed M.committed M.commitment_of ⟦<EF as ChallengeField<F>>⟧.fields
         (S.row_fold folding.now) ⟦<C as Plays<F, EF, M::Commitment>>⟧.moves
         params.now.log_final_poly_len (shape_of transcript.old) top (lists inputs.items)
-        (state_of transcript.old) played.rounds.commitments.items played.rounds.witnesses.items
-        played.rounds.prover_data.items played.final_poly.items played.query_witness
-        played.indices.items (state_of transcript.new)) }
+        (state_of transcript.old) C.solution played.rounds.commitments.items
+        played.rounds.witnesses.items played.rounds.prover_data.items played.final_poly.items
+        played.query_witness played.indices.items (state_of transcript.new)) }
     ensures refused { IfErr result (λ e. (top : ℕ) →
         length (slice_index_or (lists inputs.items) 0 []) ≡ 2 ^ top →
         PlayRefusal M.committed M.commitment_of ⟦<EF as ChallengeField<F>>⟧.fields
         (S.row_fold folding.now) ⟦<C as Plays<F, EF, M::Commitment>>⟧.moves
         params.now.log_final_poly_len (shape_of transcript.old) top (lists inputs.items)
-        (state_of transcript.old) e) }
+        (state_of transcript.old) C.solution e) }
 {
     let mut others = inputs;
     let first = others.remove(0);
@@ -152,7 +152,7 @@ pub(crate) fn play_test<
         (S.row_fold folding.now) ⟦<C as Plays<F, EF, M::Commitment>>⟧.moves
         params.now.log_final_poly_len (fri_shape shape) top (lists inputs.items)
         (bytes_observed F.ops ⟦<C as CanObserve<F>>⟧.observed challenger.old (seed_bytes seed))
-        played.rounds.commitments.items played.rounds.witnesses.items
+        C.solution played.rounds.commitments.items played.rounds.witnesses.items
         played.rounds.prover_data.items played.final_poly.items played.query_witness
         played.indices.items challenger.new) }
     ensures refused { IfErr result (λ e. (top : ℕ) →
@@ -161,7 +161,7 @@ pub(crate) fn play_test<
         (S.row_fold folding.now) ⟦<C as Plays<F, EF, M::Commitment>>⟧.moves
         params.now.log_final_poly_len (fri_shape shape) top (lists inputs.items)
         (bytes_observed F.ops ⟦<C as CanObserve<F>>⟧.observed challenger.old (seed_bytes seed))
-        e) }
+        C.solution e) }
 {
     let mut transcript = ProverTranscript::<C, F, EF>::start(challenger, seed, shape);
     match play(alloc, folding, params, inputs, log_arities, &mut transcript) {

@@ -179,7 +179,7 @@ pub fn prove_fri<
         let s = ⟦<C as PlaysFri<F, EF, S, M, InputMmcs>>⟧.setting folding.now params.now.mmcs
         input_mmcs.now in
         IfErr result (ProverRefusal s M.committed M.commitment_of (parameters_of params.now) heights
-        log_global_max_height (lists inputs.items) challenger.old) }
+        log_global_max_height (lists inputs.items) challenger.old C.solution) }
     ensures unmoved { IfErr result (λ e. IsForHeight e → challenger.new ≡ challenger.old) }
 {
     let extra_bits = folding.extra_query_index_bits();

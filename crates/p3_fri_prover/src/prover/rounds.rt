@@ -92,15 +92,16 @@ pub(crate) fn commit_rounds<
         (left_of transcript.new)) }
     ensures rounds { IfOk result (λ played. (top : ℕ) → vec_len word ≡ 2 ^ top →
         AreCommitted M.committed M.commitment_of ⟦<C as Plays<F, EF, M::Commitment>>⟧.moves
-        (shape_of transcript.old).commit_pow_bits F.ops.zero EF.ops (S.row_fold folding.now)
-        (λ k. of_length (lists inputs.now) (2 ^ k)) top word.items (state_of transcript.old)
-        log_arities.now played.0.commitments.items played.0.witnesses.items
-        played.0.prover_data.items played.1.items (state_of transcript.new)) }
+        (shape_of transcript.old).commit_pow_bits F.ops.zero C.solution EF.ops
+        (S.row_fold folding.now) (λ k. of_length (lists inputs.now) (2 ^ k)) top word.items
+        (state_of transcript.old) log_arities.now played.0.commitments.items
+        played.0.witnesses.items played.0.prover_data.items played.1.items
+        (state_of transcript.new)) }
     ensures refused { IfErr result (λ e. (top : ℕ) → vec_len word ≡ 2 ^ top →
         RoundsRefusal M.committed M.commitment_of ⟦<C as Plays<F, EF, M::Commitment>>⟧.moves
-        (shape_of transcript.old).commit_pow_bits F.ops.zero EF.ops (S.row_fold folding.now)
-        (λ k. of_length (lists inputs.now) (2 ^ k)) top word.items (state_of transcript.old)
-        log_arities.now e) }
+        (shape_of transcript.old).commit_pow_bits F.ops.zero C.solution EF.ops
+        (S.row_fold folding.now) (λ k. of_length (lists inputs.now) (2 ^ k)) top word.items
+        (state_of transcript.old) log_arities.now e) }
 {
     let mut word = word;
     let mut rounds = CommittedRounds::with_capacity(alloc, log_arities.len())?;

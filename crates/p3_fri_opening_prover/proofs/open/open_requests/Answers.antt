@@ -137,5 +137,6 @@ returns-clause-refused g c =
     all_refused (setting_at g c.args.folding.now c.args.params.now.mmcs c.args.input_mmcs.now)
     (parameters_of c.args.params.now) g.InputMmcs.Mmcs.committed c.deref.result.now
     c.args.requests.now (same g (goal.at.returns-clause-refused g c).After-deref)
-    g.M.Mmcs.committed g.M.Mmcs.commitment_of c.args.challenger.now c.open_rounds.result
+    g.M.Mmcs.committed g.M.Mmcs.commitment_of g.C.GrindingChallenger.solution
+    c.args.challenger.now c.open_rounds.result
     c.in-Ok.ensures.passes c.open_rounds.ensures.stops c.open_rounds.ensures.not_checked

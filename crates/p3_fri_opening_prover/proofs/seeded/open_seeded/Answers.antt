@@ -8,7 +8,7 @@ use Rattle.p3_fri_relation.specs.Setting.{Setting}
 use Rattle.p3_fri_relation.specs.Views.{parameters_of, proof_of}
 use Rattle.p3_fri_batch.specs.Rounds.{opened_of}
 use Rattle.p3_fri_opening_prover.proofs.Drawn.{IsClaimed, is_claimed, is_drawn, opening_made}
-use Rattle.p3_fri_opening_prover.proofs.Drawn.{stopped, no_witness, zero_at_no_bits}
+use Rattle.p3_fri_opening_prover.proofs.Drawn.{stopped, no_witness, is_sent, zero_at_no_bits}
 use Rattle.p3_fri_opening_prover.proofs.seeded.open_seeded.Given.{Over}
 use Rattle.p3_fri_opening_prover.proofs.seeded.open_seeded.Goals.{After-claimed_openings}
 use Rattle.p3_fri_opening_prover.proofs.seeded.open_seeded.Goals.{After-unwrap_or}
@@ -75,7 +75,8 @@ pub returns-in-Err-clause-stops :
     goal.returns-in-Err-clause-stops
 returns-in-Err-clause-stops g c =
     no_witness (claimed g (goal.at.returns-in-Err-clause-stops g c).After-claimed_openings)
-    g.M.Mmcs.committed g.M.Mmcs.commitment_of c.in-Err.refusal c.in-Err.ensures.refused
+    g.M.Mmcs.committed g.M.Mmcs.commitment_of g.C.GrindingChallenger.solution c.in-Err.refusal
+    c.in-Err.ensures.refused
     c.in-Err.ensures.none_passes
 
 pub returns-in-Ok-tested-clause-opening :
@@ -99,8 +100,13 @@ pub returns-in-Err-tested-clause-stops :
     goal.returns-in-Err-tested-clause-stops
 returns-in-Err-tested-clause-stops g c =
     let at = goal.at.returns-in-Err-tested-clause-stops g c in
-    let drawn = is_drawn (claimed g at.After-claimed_openings) c.unwrap_or.result _ c.in-Ok.drawn.0
-    c.batch_phase.new.self.challenger.now c.begin_delegate.result.now (sent g at.After-unwrap_or)
+    let claims = claimed g at.After-claimed_openings in
+    let carried = sent g at.After-unwrap_or in
+    let drawn = is_drawn claims c.unwrap_or.result _ c.in-Ok.drawn.0
+    c.batch_phase.new.self.challenger.now c.begin_delegate.result.now carried
     c.in-Ok.ensures.batch c.begin_delegate.ensures.value in
-    stopped drawn g.M.Mmcs.committed g.M.Mmcs.commitment_of c.in-Err-tested.refusal
+    stopped drawn g.M.Mmcs.committed g.M.Mmcs.commitment_of g.C.GrindingChallenger.solution
+    c.in-Err-tested.refusal
+    (is_sent claims g.C.GrindingChallenger.solution c.in-Ok.drawn.1 c.unwrap_or.result carried
+    c.in-Ok.ensures.witness c.in-Ok.ensures.found)
     c.in-Err-tested.ensures.refused

@@ -84,7 +84,7 @@ returns-in-Err-clause-refused g c =
     let ys = opened_values c.args.values.now.items in
     let ms = opened_of c.args.rounds.now ys in
     refused_memory s g.M.Mmcs.committed g.M.Mmcs.commitment_of p (heights f ms) (top f ms)
-    (words f ms c.args.alpha) c.args.challenger.now
+    (words f ms c.args.alpha) c.args.challenger.now g.C.GrindingChallenger.solution
     (tall_heights f c.args.rounds.now ys p c.requires.tall_enough)
 
 pub tallest_log_height-log_global_max_height-requires :
@@ -177,7 +177,8 @@ returns-clause-refused g c =
     let made = made_words g (goal.at.returns-clause-refused g c).After-deref-2 _
     c.tallest_log_height-log_global_max_height.ensures in
     of_words made (λ t ws. IfErr c.prove_fri.result (ProverRefusal s g.M.Mmcs.committed
-    g.M.Mmcs.commitment_of (parameters_of c.args.params.now) hs t ws c.args.challenger.now))
+    g.M.Mmcs.commitment_of (parameters_of c.args.params.now) hs t ws c.args.challenger.now
+    g.C.GrindingChallenger.solution))
     (c.prove_fri.ensures.refused hs (made_have made))
 
 pub returns-clause-not_checked :
@@ -193,6 +194,7 @@ returns-clause-not_checked g c =
     c.tallest_log_height-log_global_max_height.ensures in
     no_check_refused s g.M.Mmcs.committed g.M.Mmcs.commitment_of p hs
     c.tallest_log_height-log_global_max_height.result (lists c.in-Ok.words.items)
-    c.args.challenger.now (tall_heights f rounds ys p c.requires.tall_enough)
+    c.args.challenger.now g.C.GrindingChallenger.solution
+    (tall_heights f rounds ys p c.requires.tall_enough)
     (small_heights f rounds ys c.requires.rounds g.met.F.TwoAdicField.two_adicity_law)
     c.prove_fri.result (c.prove_fri.ensures.refused hs (made_have made))

@@ -1,8 +1,8 @@
-use Rattle.std.proofs.Common.{◌≡◌, ◌^◌, length, sym, ap, ◌∙◌, subst, get_or, rules, unwrap_or, arith}
+use Rattle.std.proofs.Common.{◌≡◌, ◌^◌, length, Some, sym, ap, ◌∙◌, subst, get_or, rules, unwrap_or, arith}
 use Rattle.p3_matrix.specs.declared.dense.RowMajorMatrix.{RowMajorMatrix}
 use Rattle.p3_challenger_core.specs.Run.{moves}
 use Rattle.p3_fri_pow.specs.declared.error.FriProverError.{FriProverError}
-use Rattle.p3_fri_pow.specs.Pow.{found_witness}
+use Rattle.p3_fri_pow.proofs.Found.{sent_is}
 use Rattle.p3_fri_transcript.specs.Replay.{round_replay}
 use Rattle.p3_fri_transcript.specs.Views.{state_of, shape_of}
 use Rattle.p3_fri_prover.specs.Refusals.{RoundRefusal}
@@ -83,8 +83,6 @@ returns-clause-round g c = λ h whole.
     let zero = g.F.Field.ops.zero in
     let drawn = c.in-Ok.drawn in
     let found : c.unwrap_or.result ≡ unwrap_or drawn.1 zero = search rules in
-    let solution = g.C.GrindingChallenger.solution in
-    let observed = m.observe_commitment before made.commitment in
     let leaves = c.index-get_matrices-0.result in
     let same : leaves ≡ c.new-leaves.result =
     c.index-get_matrices-0.is ∙ ap (λ xs. get_or xs 0 leaves)
@@ -94,8 +92,9 @@ returns-clause-round g c = λ h whole.
     record {
       beta = drawn.0;
       replay = ap (λ w. round_replay m bits before made.commitment w) found ∙ c.in-Ok.ensures.round;
-      canonical = λ e. found ∙ ap (λ w. unwrap_or w zero)
-          (c.in-Ok.ensures.witness ∙ ap (λ b. found_witness solution observed b) e);
+      found = sent_is zero g.C.GrindingChallenger.solution
+          (m.observe_commitment before made.commitment) bits drawn.1 c.in-Ok.ensures.witness
+          c.in-Ok.ensures.found ∙ ap Some (sym found);
       keeps = record {
         matrix = c.new-leaves.result;
         only = made.ensures.matrices;

@@ -4,6 +4,7 @@ use Rattle.algebra.specs.Nested.{lists}
 use Rattle.algebra.proofs.FinalPolynomials.{length-final_polynomial}
 use Rattle.algebra.proofs.Points.{lifted_roots}
 use Rattle.p3_challenger_core.specs.Run.{Moves, moves}
+use Rattle.p3_fri_pow.specs.Pow.{found_witness}
 use Rattle.p3_fri_transcript.specs.Replay.{shown_queries_replay, polynomial_observed}
 use Rattle.p3_fri_transcript.specs.Shapes.{fri_shape}
 use Rattle.p3_fri_transcript.specs.Steps.{FriNumbers}
@@ -50,16 +51,16 @@ rounds_played : (g : Over) (c : In-Ok g) (top : ℕ)
     AllCommitted g.M.Mmcs.committed g.M.Mmcs.commitment_of (fields_at g)
     (g.S.FriFoldingStrategy.row_fold c.args.folding.now) (moves_at g)
     c.args.params.now.log_final_poly_len (fri_shape c.args.transcript.now.shape) top
-    (lists c.args.inputs.items) (state_of c.args.transcript.now) made.commitments.items
-    made.witnesses.items made.prover_data.items c.in-Ok.committed.1.items
+    (lists c.args.inputs.items) (state_of c.args.transcript.now) g.C.GrindingChallenger.solution
+    made.commitments.items made.witnesses.items made.prover_data.items c.in-Ok.committed.1.items
     (state_of c.commit_rounds-committed.new.transcript)
 rounds_played g c top whole =
     let parts = split g (goal.at.In-Ok g c).After-deref in
     all_committed parts g.M.Mmcs.committed g.M.Mmcs.commitment_of (fields_at g)
     (g.S.FriFoldingStrategy.row_fold c.args.folding.now) (moves_at g)
     c.args.params.now.log_final_poly_len (fri_shape c.args.transcript.now.shape) top
-    (state_of c.args.transcript.now) c.args.log_arities.now c.requires.schedule
-    (c.in-Ok.ensures.rounds top (first_length parts ∙ whole))
+    (state_of c.args.transcript.now) g.C.GrindingChallenger.solution c.args.log_arities.now
+    c.requires.schedule (c.in-Ok.ensures.rounds top (first_length parts ∙ whole))
 
 -- the word after the rounds is long enough for the final polynomial
 long_enough : (g : Over) (c : In-Ok g)
@@ -87,7 +88,8 @@ returns-in-Err-clause-refused g c = λ top whole.
     rounds_stop parts g.M.Mmcs.committed g.M.Mmcs.commitment_of (fields_at g)
     (g.S.FriFoldingStrategy.row_fold c.args.folding.now) (moves_at g)
     c.args.params.now.log_final_poly_len (fri_shape c.args.transcript.now.shape) top
-    (state_of c.args.transcript.now) c.args.log_arities.now c.requires.schedule c.in-Err.refusal
+    (state_of c.args.transcript.now) g.C.GrindingChallenger.solution c.args.log_arities.now
+    c.requires.schedule c.in-Err.refusal
     (c.in-Err.ensures.refused top (first_length parts ∙ whole))
 
 pub final_polynomial-requires-clause-long_enough :
@@ -141,10 +143,12 @@ returns-clause-played g c = λ top whole.
     played_to_end (fields_at g) c.args.params.now.log_final_poly_len
     (fri_shape c.args.transcript.now.shape) (lists c.args.inputs.items)
     (rounds_played g (goal.at.returns-clause-played g c).In-Ok top whole)
-    g.C.GrindingChallenger.solution
-    (polynomial_observed g.C.CanObserve-1.observed coefficients reached shown) found.1 poly
-    c.unwrap_or.result found.0.items last own c.in_ok-final_poly.ensures
+    found.1 poly c.unwrap_or.result found.0.items last own c.in_ok-final_poly.ensures
     c.in-Ok.ensures.kept.shape
     (ap (λ ys. shown_queries_replay m coefficients own reached ys (Some c.unwrap_or.result))
     (sym c.deref-2.ensures.value) ∙ queries)
-    c.in-Ok-query_phase.ensures.indices c.in-Ok-query_phase.ensures.witness sent
+    c.in-Ok-query_phase.ensures.indices
+    (c.in-Ok-query_phase.ensures.witness
+    ∙ ap (λ ys. found_witness g.C.GrindingChallenger.solution
+    (polynomial_observed g.C.CanObserve-1.observed coefficients reached ys) own.query_pow_bits)
+    c.deref-2.ensures.value) c.in-Ok-query_phase.ensures.found sent

@@ -40,7 +40,7 @@ returns-in-Ok-clause-played g c = λ top whole.
     let P : FriNumbers → g.row.C.Denot → g.row.C.Denot → Type 0 = λ n before after.
     IsPlayed g.M.Mmcs.committed g.M.Mmcs.commitment_of (fields_at g)
     (g.S.FriFoldingStrategy.row_fold c.args.folding.now) m c.args.params.now.log_final_poly_len
-    n top (lists c.args.inputs.items) before played.rounds.commitments.items
+    n top (lists c.args.inputs.items) before g.C.GrindingChallenger.solution played.rounds.commitments.items
     played.rounds.witnesses.items played.rounds.prover_data.items played.final_poly.items
     played.query_witness played.indices.items after in
     let seeded = bytes_observed g.F.Field.ops g.C.CanObserve-1.observed c.args.challenger.now

@@ -75,7 +75,7 @@ played : (g : Over) (c : In-Ok-test g)
     c.args.params.now.log_final_poly_len (fri_shape c.in-Ok.plan.shape)
     c.args.log_global_max_height (lists c.args.inputs.items)
     (bytes_observed s.fields.base s.moves.observe_value c.args.challenger.now
-    (seed_bytes c.in-Ok.plan.seed)) found.rounds.commitments.items found.rounds.witnesses.items
+    (seed_bytes c.in-Ok.plan.seed)) g.C.GrindingChallenger.solution found.rounds.commitments.items found.rounds.witnesses.items
     found.rounds.prover_data.items found.final_poly.items found.query_witness found.indices.items
     c.play_test-test.new.challenger
 played g c =
@@ -87,8 +87,8 @@ made : (g : Over) (c : In-Ok-opened g) (heights : List ℕ)
     → IsMade g.M.Mmcs.committed g.M.Mmcs.commitment_of
     (setting_at g c.args.folding.now c.args.params.now.mmcs c.args.input_mmcs.now)
     (parameters_of c.args.params.now) heights c.args.log_global_max_height
-    (lists c.args.inputs.items) c.args.challenger.now (proof_of c.in-Ok-opened.proof)
-    c.extra_query_index_bits-extra_bits.result c.in-Ok-test.played.rounds.prover_data.items
+    (lists c.args.inputs.items) c.args.challenger.now g.C.GrindingChallenger.solution
+    (proof_of c.in-Ok-opened.proof) c.extra_query_index_bits-extra_bits.result c.in-Ok-test.played.rounds.prover_data.items
     c.in-Ok-test.played.indices.items c.play_test-test.new.challenger
 made g c heights have =
     let opened = c.in-Ok-opened.ensures in
@@ -135,7 +135,7 @@ returns-in-Err-clause-refused g c = λ heights have.
     refused_plan (setting_at g c.args.folding.now c.args.params.now.mmcs c.args.input_mmcs.now)
     g.M.Mmcs.committed g.M.Mmcs.commitment_of (parameters_of c.args.params.now) heights
     c.args.log_global_max_height (lists c.args.inputs.items) c.args.challenger.now
-    c.in-Err.refusal (c.in-Err.ensures.refused heights
+    g.C.GrindingChallenger.solution c.in-Err.refusal (c.in-Err.ensures.refused heights
     (subst (λ xs. HaveHeights heights (lists xs)) (sym c.deref.ensures.value) have))
 
 pub play_test-test-requires-clause-some_input : goal.play_test-test-requires-clause-some_input
@@ -232,7 +232,8 @@ returns-in-Err-test-clause-refused g c = λ heights have.
     let plan = planned g (goal.at.returns-in-Err-test-clause-refused g c).In-Ok refl in
     refused_play (setting_at g c.args.folding.now c.args.params.now.mmcs c.args.input_mmcs.now)
     g.M.Mmcs.committed g.M.Mmcs.commitment_of (parameters_of c.args.params.now) heights top
-    (lists c.args.inputs.items) c.args.challenger.now c.extra_query_index_bits-extra_bits.result
+    (lists c.args.inputs.items) c.args.challenger.now g.C.GrindingChallenger.solution
+    c.extra_query_index_bits-extra_bits.result
     c.extra_query_index_bits-extra_bits.ensures (fri_shape c.in-Ok.plan.shape)
     (plan.described heights have) (seed_bytes c.in-Ok.plan.seed) c.in-Ok.ensures.stream
     c.in-Err-test.refusal
@@ -246,7 +247,8 @@ returns-in-Err-test-clause-unmoved g c = λ for_height.
     absurd (not_for_height
     (setting_at g c.args.folding.now c.args.params.now.mmcs c.args.input_mmcs.now)
     g.M.Mmcs.committed g.M.Mmcs.commitment_of (parameters_of c.args.params.now) plan.are.heights top
-    (lists c.args.inputs.items) c.args.challenger.now c.extra_query_index_bits-extra_bits.result
+    (lists c.args.inputs.items) c.args.challenger.now g.C.GrindingChallenger.solution
+    c.extra_query_index_bits-extra_bits.result
     c.extra_query_index_bits-extra_bits.ensures (fri_shape c.in-Ok.plan.shape) (is_numbers plan)
     (seed_bytes c.in-Ok.plan.seed) c.in-Ok.ensures.stream c.in-Err-test.refusal
     (c.in-Err-test.ensures.refused top (first_input_length c.requires.inputs)) for_height)
@@ -312,4 +314,4 @@ returns-clause-refused g c = λ heights have.
     refused_memory (setting_at g c.args.folding.now c.args.params.now.mmcs c.args.input_mmcs.now)
     g.M.Mmcs.committed g.M.Mmcs.commitment_of (parameters_of c.args.params.now) heights
     c.args.log_global_max_height (lists c.args.inputs.items) c.args.challenger.now
-    ((planned g (goal.at.returns-clause-refused g c).In-Ok refl).tall heights have)
+    g.C.GrindingChallenger.solution ((planned g (goal.at.returns-clause-refused g c).In-Ok refl).tall heights have)

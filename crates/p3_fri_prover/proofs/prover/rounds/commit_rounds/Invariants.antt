@@ -18,7 +18,8 @@ invariant-loop-log_arity g l =
       steps : RoundsLeft d described (length l.log_arities - l.log_arity-index) (left_of l.transcript);
       so_far : (top : ℕ) → l.fn.word.len ≡ 2 ^ top
           → AreCommitted g.M.Mmcs.committed g.M.Mmcs.commitment_of m described.commit_pow_bits
-          g.F.Field.ops.zero g.EF.Field.ops (g.S.FriFoldingStrategy.row_fold l.folding)
+          g.F.Field.ops.zero g.C.GrindingChallenger.solution g.EF.Field.ops
+          (g.S.FriFoldingStrategy.row_fold l.folding)
           (λ k. of_length (lists l.inputs) (2 ^ k)) top l.fn.word.items (state_of l.fn.transcript)
           (take l.log_arity-index l.log_arities) l.rounds.commitments.items l.rounds.witnesses.items
           l.rounds.prover_data.items l.word.items (state_of l.transcript);
