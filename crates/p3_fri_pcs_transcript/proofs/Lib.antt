@@ -5,6 +5,7 @@ pub mod ClaimTurns
 pub mod Progress
 pub mod PcsReplays
 pub mod PcsRuns
+pub mod StepRuns
 pub mod Widths
 pub mod SeedExamples
 pub mod Events

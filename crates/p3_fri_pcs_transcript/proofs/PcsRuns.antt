@@ -1,30 +1,25 @@
 -- What whole runs find, and why they are refused, put together from what single calls did.
-use Rattle.std.proofs.Common.{◌≡◌, ◌≢◌, ℕ, true, List, Result, Ok, Err, Option, Some, IsSome, IsTrue, unwrap_or, refl, sym, ap, ◌∙◌, subst, inl, map}
+use Rattle.std.proofs.Common.{◌≡◌, ◌≢◌, ℕ, List, Result, Ok, Err, Option, Some, IsSome, IsTrue, unwrap_or, sym, ap, ◌∙◌, subst}
 use Rattle.std.specs.List.{flat_map}
-use Rattle.algebra.specs.Field.{FieldOps, multiple}
+use Rattle.algebra.specs.Field.{FieldOps}
 use Rattle.p3_challenger_core.specs.Run.{Moves, observed_all}
 use Rattle.p3_challenger_fs.specs.Turns.{bytes_observed}
 use Rattle.p3_fri_pow.specs.declared.error.FriProverError.{FriProverError}
 use Rattle.p3_fri_pow.specs.declared.error.FriProverError.TheVariants as Error
 use Rattle.p3_fri_pow.specs.declared.pow_phase.PowPhase.TheVariants.{Batch, CommitPhase, Query}
 use Rattle.p3_fri_pow.specs.Pow.{found_witness, sent_witness, NonePasses}
-use Rattle.p3_fri_pow.specs.Reached.{Reaches}
 use Rattle.p3_fri_pow.proofs.Found.{sent_is}
-use Rattle.p3_fri_pow.proofs.Reached.{reaches_itself, reaches_same, reaches_join, reaches_all_observed}
 use Rattle.p3_fri_transcript.specs.declared.transcript.failure.TranscriptFailure.{TranscriptFailure}
-use Rattle.p3_fri_transcript.specs.declared.transcript.failure.TranscriptFailure.TheVariants as Why
 use Rattle.p3_fri_transcript.specs.declared.transcript.play.Refusal.{Refusal}
 use Rattle.p3_fri_transcript.specs.declared.transcript.play.Refusal.TheVariants.{Seed, Step}
 use Rattle.p3_fri_transcript.specs.Failures.{FriFailure}
 use Rattle.p3_fri_transcript.specs.Found.{FriFound, PlayRefused}
 use Rattle.p3_fri_transcript.specs.Steps.{FriNumbers, fri_stream}
 use Rattle.p3_fri_pcs_transcript.specs.declared.pcs_transcript.play.PcsFailure.{PcsFailure}
-use Rattle.p3_fri_pcs_transcript.specs.declared.pcs_transcript.play.PcsFailure.TheVariants as Of
 use Rattle.p3_fri_pcs_transcript.specs.Failures.{TestFailure, PcsRunFailure}
 use Rattle.p3_fri_pcs_transcript.specs.Found.{test_begun, PcsFound, PcsPlayRefused}
-use Rattle.p3_fri_pcs_transcript.specs.Replay.{BatchReplay, shown_batch_replay, claims_observed, claims_replay}
+use Rattle.p3_fri_pcs_transcript.specs.Replay.{BatchReplay, claims_observed, claims_replay}
 use Rattle.p3_fri_pcs_transcript.specs.Steps.{PcsNumbers, pcs_stream}
-use Rattle.p3_fri_pcs_transcript.proofs.PcsReplays.{reaches_batch}
 
 -- a result is one thing alone
 pub ok_not_err : {A E P : Type 0} {a : A} {e : E} → Ok a ≡ Err e → P
@@ -48,34 +43,6 @@ module _ {C F E Com : Type 0} (m : Moves C F E Com) (coefficients : E → List F
       → observed ≡ observed_all m.observe_value started (flat_map coefficients values) → observed ≡ claimed
   claimed_is started observed first second =
       second ∙ ap (λ s. observed_all m.observe_value s (flat_map coefficients values)) first
-
-  -- it is reached once the stream is absorbed
-  pub reaches_claimed : (observed : C) → observed ≡ claimed
-      → Reaches m (bytes_observed ops m.observe_value c (pcs_stream d shape)) observed
-  reaches_claimed observed is = reaches_same m _ _ _ (reaches_all_observed m _ (flat_map coefficients values)) (sym is)
-
-  -- what is reached on the challenger that was lent
-  pub reaches_tested : (lent last : C) → Reaches m (begun_from lent) last → Reaches m lent last
-  reaches_tested lent last absorbed =
-      let bytes = map (multiple ops) (fri_stream d test) in
-      reaches_join m lent (observed_all m.observe_value lent bytes) last (reaches_all_observed m lent bytes) absorbed
-
-  pub reaches_lent : {A : Type 0} (lent last : C) (refusal : Refusal A) → (refusal ≡ Seed → last ≡ lent)
-      → (refusal ≢ Seed → Reaches m (begun_from lent) last) → Reaches m lent last
-  reaches_lent lent last Seed unchanged absorbed = reaches_itself m lent last (sym (unchanged refl))
-  reaches_lent lent last (Step e) unchanged absorbed = reaches_tested lent last (absorbed (λ same. cc))
-
-  -- and then from the seed on
-  pub reaches_inside : (observed inside lent last : C) (alpha : E) (witness : Option F) → observed ≡ claimed
-      → shown_batch_replay m shape.batch_pow_bits observed witness ≡ record { passes = true; alpha = alpha; state = inside }
-      → lent ≡ inside → Reaches m lent last
-      → Reaches m (bytes_observed ops m.observe_value c (pcs_stream d shape)) last
-  reaches_inside observed inside lent last alpha witness is batch same then =
-      reaches_join m _ observed last (reaches_claimed observed is)
-      (reaches_join m observed lent last
-      (reaches_same m _ _ _ (reaches_batch m shape.batch_pow_bits observed witness)
-      (ap (λ (r : BatchReplay C E). r.state) batch ∙ sym same))
-      then)
 
   -- the witness that is sent before the challenge
   pub batch_found : (solution : C → ℕ → Option F) (batch_witness : F) (observed : C) (found : Option F)
@@ -127,39 +94,31 @@ module _ {C F E Com : Type 0} (m : Moves C F E Com) (coefficients : E → List F
     of_test Error.FinalHeightOverflow witness found passes refused = absurd refused
     of_test (Error.PointInEvaluationDomain round matrix point) witness found passes refused = absurd refused
 
-    pub test_refused : (refusal : Refusal FriProverError) (error : FriProverError) (witness : F) (lent : C)
+    pub test_refused : (error : FriProverError) (witness : F) (lent : C)
         → FoundAs witness → IsTrue (batch_of (Some witness)).passes → (batch_of (Some witness)).state ≡ lent
-        → (refusal ≡ Seed → error ≡ Error.OutOfMemory) → ((e : FriProverError) → refusal ≡ Step e → error ≡ e)
-        → ((e : FriProverError) → refusal ≡ Step e → RefusedFrom (begun_from lent) e)
-        → Refused error
-    test_refused Seed error witness lent found passes inside seed step refused = subst Refused (sym (seed refl)) tt
-    test_refused (Step e) error witness lent found passes inside seed step refused =
-        subst Refused (sym (step e refl))
-        (of_test e witness found passes
-        (subst (λ s. RefusedFrom (begun_from s) e) (sym inside) (refused e refl)))
+        → RefusedFrom (begun_from lent) error → Refused error
+    test_refused error witness lent found passes inside refused =
+        of_test error witness found passes
+        (subst (λ s. RefusedFrom (begun_from s) error) (sym inside) refused)
 
   module _ (batch_witness : Option F) (commitments : List Com) (witnesses : List F) (final_poly : List E) (witness : Option F) where
     abbrev pub Failed : C → TranscriptFailure → Type 0
     Failed after named = TestFailure m coefficients ops d shape test c values batch_witness commitments witnesses final_poly witness after named
 
     -- a failure of the test, after a batch that passes
-    pub test_failed : (refusal : Refusal TranscriptFailure) (named : TranscriptFailure) (lent last : C)
+    pub test_failed : (named : TranscriptFailure) (lent last : C)
         → IsTrue (batch_of batch_witness).passes → (batch_of batch_witness).state ≡ lent
-        → (refusal ≡ Seed → named ≡ Why.OutOfMemory) → ((e : TranscriptFailure) → refusal ≡ Step e → named ≡ e)
-        → ((e : TranscriptFailure) → refusal ≡ Step e → FriFailure m coefficients test (begun_from lent) commitments witnesses final_poly witness last e)
+        → FriFailure m coefficients test (begun_from lent) commitments witnesses final_poly witness last named
         → Failed last named
-    test_failed Seed named lent last passes inside seed step failure =
-        subst (Failed last) (sym (seed refl)) (record { passes = passes; failure = inl tt })
-    test_failed (Step e) named lent last passes inside seed step failure =
-        subst (Failed last) (sym (step e refl))
-        (record {
-          passes = passes;
-          failure = subst (λ s. FriFailure m coefficients test (begun_from s) commitments witnesses final_poly witness last e) (sym inside) (failure e refl);
-        })
+    test_failed named lent last passes inside failed = record {
+      passes = passes;
+      failure = subst (λ s. FriFailure m coefficients test (begun_from s) commitments witnesses final_poly witness last named) (sym inside) failed;
+    }
 
-    -- named as the run's, in its last state
-    pub run_failed : (error : PcsFailure) (named : TranscriptFailure) (last after : C) → error ≡ Of.Fri named → last ≡ after → Failed last named
+    -- a failure of the run, and its last state, under other names
+    pub run_failed : (failure error : PcsFailure) (last after : C) → failure ≡ error → last ≡ after
+        → PcsRunFailure m coefficients ops d shape test c values batch_witness commitments witnesses final_poly witness last failure
         → PcsRunFailure m coefficients ops d shape test c values batch_witness commitments witnesses final_poly witness after error
-    run_failed error named last after is same failed =
-        subst (PcsRunFailure m coefficients ops d shape test c values batch_witness commitments witnesses final_poly witness after) (sym is)
-        (subst (λ s. Failed s named) same failed)
+    run_failed failure error last after is same failed =
+        subst (PcsRunFailure m coefficients ops d shape test c values batch_witness commitments witnesses final_poly witness after) is
+        (subst (λ s. PcsRunFailure m coefficients ops d shape test c values batch_witness commitments witnesses final_poly witness s failure) same failed)

@@ -9,7 +9,7 @@ use Rattle.p3_challenger_fs.specs.Turns.{bytes_observed}
 use Rattle.p3_fri_pcs_transcript.specs.declared.pcs_transcript.shape.PcsShape.{PcsShape}
 use Rattle.p3_fri_pcs_transcript.specs.declared.pcs_transcript.state.PcsTranscript.{PcsTranscript}
 use Rattle.p3_fri_pcs_transcript.specs.Shapes.{pcs_shape}
-use Rattle.p3_fri_pcs_transcript.specs.Steps.{PcsNumbers, widths}
+use Rattle.p3_fri_pcs_transcript.specs.Steps.{PcsNumbers, widths, pcs_stream}
 use Rattle.p3_fri_pcs_transcript.specs.Turns.{ClaimsLeft}
 
 module _ {Side C F E : Type 0} where
@@ -45,3 +45,9 @@ module _ {Side C F E : Type 0} where
     pub same : t.challenger.ghost_name ≡ challenger.ghost_name
     pub state : state_of t ≡ bytes_observed ops observe challenger.now stream
     pub shape : shape_of t ≡ pcs_shape described
+
+  -- it has absorbed the stream of its shape, from this state on
+  abbrev pub IsSeeded : FieldOps F → (C → F → C) → (d : ℕ) (before : C)
+      → PcsTranscript Side C F E PcsShape Script → Type 0
+  IsSeeded ops observe d before t =
+      state_of t ≡ bytes_observed ops observe before (pcs_stream d (shape_of t))

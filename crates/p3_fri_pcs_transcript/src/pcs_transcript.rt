@@ -60,6 +60,7 @@ mod play;
 mod prover;
 mod shape;
 mod state;
+mod steps;
 mod verifier;
 
 pub use crate::pcs_transcript::failure::PcsTranscriptFailure;

@@ -17,12 +17,11 @@ ghost use Rattle.p3_fri_pcs_transcript.specs.Steps.{pcs_stream};
 use crate::pcs_transcript::failure::PcsTranscriptFailure;
 use crate::pcs_transcript::shape::PcsShape;
 use crate::pcs_transcript::state::{PcsProverTranscript, PcsVerifierTranscript};
+use crate::pcs_transcript::steps::{play_steps, replay_steps};
 use p3_challenger_core::{CanObserve, FieldChallenger, GrindingChallenger, Plays};
 use p3_field_core::{ExtensionField, Field};
 use p3_fri_pow::FriProverError;
-use p3_fri_transcript::transcript::{
-    FriMessages, FriShape, PlayedFri, Refusal, ReplayedFri, TranscriptFailure, play_fri, replay_fri,
-};
+use p3_fri_transcript::transcript::{FriMessages, FriShape, PlayedFri, Refusal, TranscriptFailure};
 use p3_mmcs::{CommitmentWithOpeningPoints, OpenedValues};
 use std::alloc::{AllocError, Global};
 
@@ -122,34 +121,22 @@ pub fn play_pcs<
         Err(_) => return Err(Refusal::Seed),
     };
     let mut transcript = PcsProverTranscript::<C, F, EF>::start(challenger, seed, shape);
-    transcript.claimed_openings(opened_values);
-    let (alpha, witness) = match transcript.batch_phase() {
-        Ok(drawn) => drawn,
-        Err(refusal) => {
-            transcript.abort();
-            return Err(Refusal::Step(refusal));
-        },
-    };
-    let tested = play_fri::<F, EF, Com, C>(
+    let played = play_steps(
         alloc,
-        transcript.begin_delegate(),
+        &mut transcript,
+        opened_values,
         test,
         commitments,
         final_poly,
     );
-    match tested {
-        Ok(test) => {
-            transcript.end_delegate();
+    match played {
+        Ok(played) => {
             transcript.finish();
-            Ok(PlayedPcs {
-                alpha,
-                batch_witness: witness.unwrap_or(F::ZERO),
-                test,
-            })
+            Ok(played)
         },
         Err(refusal) => {
             transcript.abort();
-            Err(Refusal::Step(refusal.of_step(FriProverError::OutOfMemory)))
+            Err(Refusal::Step(refusal))
         },
     }
 }
@@ -218,36 +205,22 @@ pub fn replay_pcs<
         Err(AllocError) => return Err(Refusal::Seed),
     };
     let mut transcript = PcsVerifierTranscript::<C, F, EF>::start(challenger, seed, shape);
-    match transcript.claimed_openings(claims) {
-        Ok(()) => {},
-        Err(failure) => {
-            transcript.abort();
-            return Err(Refusal::Step(PcsFailure::Pcs(failure)));
-        },
-    }
-    let alpha = match transcript.batch_phase(batch_witness) {
-        Ok(alpha) => alpha,
-        Err(failure) => {
-            transcript.abort();
-            return Err(Refusal::Step(PcsFailure::Pcs(failure)));
-        },
-    };
-    let tested = replay_fri::<F, EF, Com, C>(alloc, transcript.begin_delegate(), test, messages);
-    match tested {
+    let replayed = replay_steps(
+        alloc,
+        &mut transcript,
+        claims,
+        batch_witness,
+        test,
+        messages,
+    );
+    match replayed {
         Ok(replayed) => {
-            transcript.end_delegate();
             transcript.finish();
-            let ReplayedFri { betas, indices } = replayed;
-            Ok(ReplayedPcs {
-                alpha,
-                betas,
-                indices,
-            })
+            Ok(replayed)
         },
-        Err(refusal) => {
+        Err(failure) => {
             transcript.abort();
-            let failure = refusal.of_step(TranscriptFailure::OutOfMemory);
-            Err(Refusal::Step(PcsFailure::Fri(failure)))
+            Err(Refusal::Step(failure))
         },
     }
 }
