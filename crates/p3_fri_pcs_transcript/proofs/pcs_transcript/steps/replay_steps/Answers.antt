@@ -1,4 +1,4 @@
-use Rattle.std.proofs.Common.{◌≡◌, Err, refl, sym, ap, ◌∙◌, subst}
+use Rattle.std.proofs.Common.{◌≡◌, Err, refl, sym, ap, subst}
 use Rattle.p3_challenger_core.specs.Run.{Moves, moves}
 use Rattle.p3_fri_pow.proofs.Reached.{reaches_same, reaches_shown}
 use Rattle.p3_fri_transcript.specs.declared.transcript.failure.TranscriptFailure.TheVariants.{OutOfMemory}
