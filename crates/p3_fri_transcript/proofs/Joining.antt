@@ -141,3 +141,27 @@ module _ {C F E Com : Type 0} (m : Moves C F E Com) where
         λ q. record { passes = q.passes; betas = betas; indices = q.indices; state = q.state } in
         ap (λ s. from_rounds (rounds_replay m bits s commitments witnesses)) (sym first)
         ∙ ap from_rounds rounds ∙ ap from_queries queries
+
+-- once the stream is absorbed, the replay with none is that of the whole
+module _ {C F E Com : Type 0} (m : Moves C F E Com) (coefficients : E → List F) (shape : FriNumbers)
+    (ops : FieldOps F) (stream : List ℕ) (c seeded : C)
+    (absorbed : seeded ≡ bytes_observed ops m.observe_value c stream) (commitments : List Com)
+    (witnesses : List F) (final_poly : List E) (witness : Option F) where
+  abbrev replay_from : List ℕ → C → FriReplay C E
+  replay_from bytes s =
+      fri_replay m coefficients shape ops bytes s commitments witnesses final_poly witness
+
+  pub replay_absorbed : replay_from stream c ≡ replay_from [] seeded
+  unfolding fri_replay
+  replay_absorbed =
+      let all : C → FriReplay C E =
+      λ s.
+      let rounds = rounds_replay m shape.commit_pow_bits s commitments witnesses in
+      let queries = shown_queries_replay m coefficients shape rounds.state final_poly witness in
+      record {
+        passes = rounds.passes && queries.passes;
+        betas = rounds.betas;
+        indices = queries.indices;
+        state = queries.state;
+      } in
+      ap all (sym absorbed)

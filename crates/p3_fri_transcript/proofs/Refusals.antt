@@ -11,7 +11,7 @@ use Rattle.p3_fri_pow.specs.Pow.{found_witness, sent_witness, NonePasses}
 use Rattle.p3_fri_pow.proofs.Found.{sent_is}
 use Rattle.p3_fri_pow.proofs.Lists.{next_item}
 use Rattle.p3_fri_transcript.specs.declared.transcript.failure.TranscriptFailure.{TranscriptFailure}
-use Rattle.p3_fri_transcript.specs.Failures.{RoundsFailure, QueriesFailure}
+use Rattle.p3_fri_transcript.specs.Failures.{RoundsFailure, QueriesFailure, FriFailure}
 use Rattle.p3_fri_transcript.specs.Steps.{FriNumbers}
 use Rattle.p3_fri_transcript.specs.Replay.{RoundsReplay, rounds_replay, polynomial_observed}
 use Rattle.p3_fri_transcript.specs.Found.{RoundsFound, FriFound, RoundNotFound, RoundsRefused}
@@ -143,3 +143,16 @@ module _ {C F E Com : Type 0} (m : Moves C F E Com) where
         let all = (rounds_replay m shape.commit_pow_bits start commitments witnesses).state in
         subst (P all after) named
         (subst (λ s. P all s failure) same (subst (λ b. P b last failure) (sym reached) stands))
+
+  -- and of the whole
+  pub fri_failure_is : (coefficients : E → List F) (shape : FriNumbers) (start : C)
+      (commitments : List Com) (witnesses : List F) (final_poly : List E) (witness : Option F)
+      (last after : C) (failure e : TranscriptFailure)
+      → FriFailure m coefficients shape start commitments witnesses final_poly witness last failure
+      → failure ≡ e → last ≡ after
+      → FriFailure m coefficients shape start commitments witnesses final_poly witness after e
+  fri_failure_is coefficients shape start commitments witnesses final_poly witness last after
+      failure e stands named same =
+      let P : C → TranscriptFailure → Type 0 =
+      λ s x. FriFailure m coefficients shape start commitments witnesses final_poly witness s x in
+      subst (P after) named (subst (λ s. P s failure) same stands)

@@ -47,6 +47,7 @@ mod play;
 mod prover;
 mod shape;
 mod state;
+mod steps;
 mod verifier;
 
 pub use crate::transcript::failure::TranscriptFailure;

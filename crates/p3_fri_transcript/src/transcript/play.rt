@@ -1,23 +1,20 @@
 //! Whole transcripts, for a caller that has all values at hand.
 
-ghost use Rattle.std.specs.Prelude.{◌≡◌, ◌≢◌, ◌≤◌, ◌↔◌, ◌++◌, [], ◌∷◌, true, Some, Err};
-ghost use Rattle.std.specs.Prelude.{IsOk, IfOk, IfErr, OnOk, length};
+ghost use Rattle.std.specs.Prelude.{◌≡◌, ◌≢◌, ◌≤◌, ◌↔◌, true, Some, Err, IsOk, IfOk, length};
 ghost use Rattle.p3_challenger_fs.specs.Turns.{bytes_observed};
 ghost use Rattle.p3_fri_transcript.specs.Indices.{AreIndices};
 ghost use Rattle.p3_fri_pow.specs.Reached.{Reaches};
 ghost use Rattle.p3_fri_transcript.specs.declared.transcript.play.Refusal.TheVariants.{Seed, Step};
 ghost use Rattle.p3_fri_transcript.specs.Failures.{FriPasses, FriFailure};
-ghost use Rattle.p3_fri_transcript.specs.Found.{RoundsFound, FriFound, RoundsRefused, PlayRefused};
-ghost use Rattle.p3_fri_transcript.specs.Replay.{rounds_replay, fri_replay};
+ghost use Rattle.p3_fri_transcript.specs.Found.{FriFound, PlayRefused};
+ghost use Rattle.p3_fri_transcript.specs.Replay.{fri_replay};
 ghost use Rattle.p3_fri_transcript.specs.Shapes.{fri_shape};
 ghost use Rattle.p3_fri_transcript.specs.Steps.{fri_stream};
-ghost use Rattle.p3_fri_transcript.specs.Turns.{RoundsLeft};
-ghost use Rattle.p3_fri_transcript.specs.Views.{state_of, left_of, shape_of, Kept};
 
 use crate::transcript::failure::TranscriptFailure;
 use crate::transcript::shape::FriShape;
 use crate::transcript::state::{ProverTranscript, VerifierTranscript};
-use crate::transcript::verifier::push;
+use crate::transcript::steps::{play_steps, replay_steps};
 use p3_challenger_core::{CanObserve, FieldChallenger, GrindingChallenger, Plays};
 use p3_field_core::{ExtensionField, Field};
 use p3_fri_pow::FriProverError;
@@ -82,64 +79,6 @@ pub struct FriMessages<'a, F, EF, Com> {
     pub query_witness: Option<F>,
 }
 
-/// What a prover draws and finds along the rounds.
-#[derive(Drop)]
-struct PlayedRounds<F, EF> {
-    betas: Vec<EF>,
-    commit_witnesses: Vec<F>,
-}
-
-/// Plays a round for each commitment.
-fn play_rounds<
-    F: Field,
-    EF: ExtensionField<F>,
-    Com: Copy,
-    C: FieldChallenger<F> + GrindingChallenger<Witness = F> + CanObserve<Com>,
->(
-    alloc: Global,
-    transcript: &mut ProverTranscript<'_, C, F, EF>,
-    commitments: &[Com],
-) -> Result<PlayedRounds<F, EF>, FriProverError>
-    requires rounds_left { RoundsLeft EF.DIMENSION (shape_of transcript.old)
-        (length commitments.now) (left_of transcript.old) }
-    requires at_most_max { (shape_of transcript.old).commit_pow_bits ≤ C.MAX_SAMPLE_BITS }
-    ensures kept { Kept transcript.old transcript.new }
-    ensures rounds { IfOk result (λ played.
-        rounds_replay ⟦<C as Plays<F, EF, Com>>⟧.moves (shape_of transcript.old).commit_pow_bits
-        (state_of transcript.old) commitments.now played.commit_witnesses.items
-        ≡ record { passes = true; betas = played.betas.items; state = state_of transcript.new }) }
-    ensures betas { IfOk result (λ played. length played.betas.items ≡ length commitments.now) }
-    ensures witnesses { IfOk result (λ played.
-        length played.commit_witnesses.items ≡ length commitments.now) }
-    ensures found { IfOk result (λ played.
-        RoundsFound ⟦<C as Plays<F, EF, Com>>⟧.moves F.ops.zero C.solution
-        (shape_of transcript.old).commit_pow_bits (state_of transcript.old)
-        commitments.now played.commit_witnesses.items) }
-    ensures steps { OnOk result
-        (RoundsLeft EF.DIMENSION (shape_of transcript.old) 0 (left_of transcript.new)) }
-    ensures refused { IfErr result (λ e.
-        RoundsRefused ⟦<C as Plays<F, EF, Com>>⟧.moves F.ops.zero C.solution
-        (shape_of transcript.old).commit_pow_bits (state_of transcript.old) commitments.now e) }
-    ensures reached { Reaches ⟦<C as Plays<F, EF, Com>>⟧.moves (state_of transcript.old)
-        (state_of transcript.new) }
-{
-    let mut betas = Vec::with_capacity(alloc, commitments.len())?;
-    let mut commit_witnesses = Vec::with_capacity(alloc, commitments.len())?;
-    for round in 0..commitments.len() {
-        match transcript.commit_round(commitments[round]) {
-            Ok(drawn) => {
-                push(&mut betas, drawn.0)?;
-                push(&mut commit_witnesses, drawn.1.unwrap_or(F::ZERO))?;
-            },
-            Err(refusal) => return Err(refusal),
-        }
-    }
-    Ok(PlayedRounds {
-        betas,
-        commit_witnesses,
-    })
-}
-
 /// Plays all of a low-degree test's transcript: a round for each commitment, of which there are as
 /// many as described, then the final polynomial, of the described length, and the indices. The
 /// widths are at most the challenger's greatest. `Refusal::Seed` leaves the challenger as it was;
@@ -202,31 +141,17 @@ pub fn play_fri<
         Err(_) => return Err(Refusal::Seed),
     };
     let mut transcript = ProverTranscript::<C, F, EF>::start(challenger, seed, shape);
-    let rounds = match play_rounds(alloc, &mut transcript, commitments) {
-        Ok(rounds) => rounds,
+    let played = play_steps(alloc, &mut transcript, commitments, final_poly);
+    match played {
+        Ok(played) => {
+            transcript.finish();
+            Ok(played)
+        },
         Err(refusal) => {
             transcript.abort();
-            return Err(Refusal::Step(refusal));
+            Err(Refusal::Step(refusal))
         },
-    };
-    let (indices, witness) = match transcript.query_phase(alloc, final_poly) {
-        Ok(drawn) => drawn,
-        Err(refusal) => {
-            transcript.abort();
-            return Err(Refusal::Step(refusal));
-        },
-    };
-    transcript.finish();
-    let PlayedRounds {
-        betas,
-        commit_witnesses,
-    } = rounds;
-    Ok(PlayedFri {
-        betas,
-        commit_witnesses,
-        indices,
-        query_witness: witness.unwrap_or(F::ZERO),
-    })
+    }
 }
 
 /// Replays all of a low-degree test's transcript with what a proof carries, and answers the folding
@@ -283,31 +208,20 @@ pub fn replay_fri<
         (bytes_observed F.ops ⟦<C as CanObserve<F>>⟧.observed challenger.old stream)
         challenger.new }
 {
-    let FriMessages {
-        commitments,
-        commit_witnesses,
-        final_poly,
-        query_witness,
-    } = messages;
     let seed = match shape.seed::<F, EF>(alloc) {
         Ok(seed) => seed,
         Err(AllocError) => return Err(Refusal::Seed),
     };
     let mut transcript = VerifierTranscript::<C, F, EF>::start(challenger, seed, shape);
-    let betas = match transcript.commit_rounds(alloc, commitments, commit_witnesses) {
-        Ok(betas) => betas,
+    let replayed = replay_steps(alloc, &mut transcript, messages);
+    match replayed {
+        Ok(replayed) => {
+            transcript.finish();
+            Ok(replayed)
+        },
         Err(failure) => {
             transcript.abort();
-            return Err(Refusal::Step(failure));
+            Err(Refusal::Step(failure))
         },
-    };
-    let indices = match transcript.query_phase(alloc, final_poly, query_witness) {
-        Ok(indices) => indices,
-        Err(failure) => {
-            transcript.abort();
-            return Err(Refusal::Step(failure));
-        },
-    };
-    transcript.finish();
-    Ok(ReplayedFri { betas, indices })
+    }
 }

@@ -5,7 +5,7 @@ use Rattle.p3_fri_transcript.specs.Found.{RoundsFound}
 use Rattle.p3_fri_transcript.specs.Replay.{rounds_replay}
 use Rattle.p3_fri_transcript.specs.Turns.{RoundsLeft}
 use Rattle.p3_fri_transcript.specs.Views.{state_of, left_of, shape_of, Kept}
-use Rattle.p3_fri_transcript.proofs.transcript.play.play_rounds.Given as goal
+use Rattle.p3_fri_transcript.proofs.transcript.steps.play_rounds.Given as goal
 
 abbrev pub invariant-loop-round : goal.invariant-loop-round
 invariant-loop-round g l =

@@ -13,7 +13,7 @@ use Rattle.p3_fri_transcript.specs.Steps.{FriNumbers}
 use Rattle.p3_fri_transcript.proofs.Refusals.{round_not_found}
 use Rattle.p3_fri_transcript.proofs.Replays.{rounds_more, found_more, rounds-none}
 use Rattle.p3_fri_transcript.proofs.TurnLists.{one_round_left, other_rounds_left, no_round_taken, all_rounds_taken}
-use Rattle.p3_fri_transcript.proofs.transcript.play.play_rounds.Goals as goal
+use Rattle.p3_fri_transcript.proofs.transcript.steps.play_rounds.Goals as goal
 
 pub loop-round-init : goal.loop-round-init
 loop-round-init g c =
