@@ -1,4 +1,4 @@
-use Rattle.std.proofs.Common.{rules, ◌≡◌, ◌≤◌, ◌<◌, ◌+◌, ◌*◌, ℕ, length, get_or, arith, ap, ◌∙◌}
+use Rattle.std.proofs.Common.{rules, ◌≡◌, ◌≤◌, ◌<◌, ◌+◌, ◌*◌, ℕ, length, get_or, arith, refl, sym, ap, ◌∙◌}
 use Rattle.std.proofs.lemmas.Nat.{row_fits}
 use Rattle.std.proofs.lemmas.List.{get_or_read}
 use Rattle.std.proofs.lemmas.List.Edits.{get_or-between}
@@ -8,7 +8,8 @@ use Rattle.p3_dft.proofs.Parts.{block_written}
 use Rattle.p3_dft.proofs.Pairs.{length-block}
 use Rattle.p3_dft.proofs.SameBlocks.{same_sum_of_sums, same_difference_of_sums}
 use Rattle.p3_dft.proofs.SameBlocks.{same_sum_of_differences, same_difference_of_differences}
-use Rattle.p3_dft.proofs.Places.{bytes_fit}
+use Rattle.p3_dft.proofs.Places.{before_end, bytes_fit, block_within, starts_within, none_below, less_at_most}
+use Rattle.p3_dft.proofs.Places.{twice_below, once_below, past_below, sum_fits, double_fits, four_quarters}
 use Rattle.p3_dft.proofs.layers.two_layers_apart.Goals as goal
 
 pub block-requires : goal.block-requires
@@ -116,3 +117,148 @@ pub offset_bounds-fourth-to : goal.offset_bounds-fourth-to
 offset_bounds-fourth-to g c =
     bytes_fit _ (length c.loop-m.fourth) _
     (omega (arith, row_fits c.loop-m.m c.args.quarter c.args.blocks c.args.quarter c.loop-m-test.true (omega arith))) (search rules)
+
+pub loop-m-init : goal.loop-m-init
+loop-m-init g c =
+    record { first = λ m _ _ _ below _. none_below m below; second = λ m _ _ _ below _. none_below m below; third = λ m _ _ _ below _. none_below m below; fourth = λ m _ _ _ below _. none_below m below; }
+
+pub overflow_add-quarter : goal.overflow_add-quarter
+overflow_add-quarter g c =
+    omega (arith, block_within c.args.source.now c.args.source.now c.loop-m.m c.args.blocks (c.args.quarter + c.args.quarter + (c.args.quarter + c.args.quarter)) refl c.requires.source c.loop-m-test.true)
+
+pub overflow_add-quarter-in-loop-m : goal.overflow_add-quarter-in-loop-m
+overflow_add-quarter-in-loop-m g c =
+    omega (arith, block_within c.args.source.now c.args.source.now c.loop-m.m c.args.blocks (c.args.quarter + c.args.quarter + (c.args.quarter + c.args.quarter)) refl c.requires.source c.loop-m-test.true)
+
+pub overflow_add-quarter-in-loop-m-2 : goal.overflow_add-quarter-in-loop-m-2
+overflow_add-quarter-in-loop-m-2 g c =
+    omega (arith, block_within c.args.source.now c.args.source.now c.loop-m.m c.args.blocks (c.args.quarter + c.args.quarter + (c.args.quarter + c.args.quarter)) refl c.requires.source c.loop-m-test.true)
+
+pub overflow_add-m : goal.overflow_add-m
+overflow_add-m g c =
+    double_fits c.loop-m.m c.args.blocks c.loop-m-test.true c.requires.few
+
+pub overflow_add-blocks : goal.overflow_add-blocks
+overflow_add-blocks g c =
+    sum_fits c.loop-m.m c.args.blocks c.loop-m-test.true c.requires.few
+
+pub overflow_mul-m : goal.overflow_mul-m
+overflow_mul-m g c =
+    omega (arith, c.requires.twiddles (c.loop-m.m + c.loop-m.m) (twice_below c.loop-m.m c.args.blocks c.loop-m-test.true))
+
+pub offset_bounds-twiddles-m : goal.offset_bounds-twiddles-m
+offset_bounds-twiddles-m g c =
+    less_at_most ((c.loop-m.m + c.loop-m.m) * c.args.stride) (length c.args.twiddles.now) (c.requires.twiddles (c.loop-m.m + c.loop-m.m) (twice_below c.loop-m.m c.args.blocks c.loop-m-test.true))
+
+pub bounds-twiddles-m : goal.bounds-twiddles-m
+bounds-twiddles-m g c =
+    c.requires.twiddles (c.loop-m.m + c.loop-m.m) (twice_below c.loop-m.m c.args.blocks c.loop-m-test.true)
+
+pub overflow_mul-m-in-loop-m : goal.overflow_mul-m-in-loop-m
+overflow_mul-m-in-loop-m g c =
+    omega (arith, c.requires.twiddles c.loop-m.m (once_below c.loop-m.m c.args.blocks c.loop-m-test.true))
+
+pub offset_bounds-twiddles-m-in-loop-m : goal.offset_bounds-twiddles-m-in-loop-m
+offset_bounds-twiddles-m-in-loop-m g c =
+    less_at_most (c.loop-m.m * c.args.stride) (length c.args.twiddles.now) (c.requires.twiddles c.loop-m.m (once_below c.loop-m.m c.args.blocks c.loop-m-test.true))
+
+pub bounds-twiddles-m-in-loop-m : goal.bounds-twiddles-m-in-loop-m
+bounds-twiddles-m-in-loop-m g c =
+    c.requires.twiddles c.loop-m.m (once_below c.loop-m.m c.args.blocks c.loop-m-test.true)
+
+pub overflow_mul-blocks : goal.overflow_mul-blocks
+overflow_mul-blocks g c =
+    omega (arith, c.requires.twiddles (c.args.blocks + c.loop-m.m) (past_below c.loop-m.m c.args.blocks c.loop-m-test.true))
+
+pub offset_bounds-twiddles-blocks : goal.offset_bounds-twiddles-blocks
+offset_bounds-twiddles-blocks g c =
+    less_at_most ((c.args.blocks + c.loop-m.m) * c.args.stride) (length c.args.twiddles.now) (c.requires.twiddles (c.args.blocks + c.loop-m.m) (past_below c.loop-m.m c.args.blocks c.loop-m-test.true))
+
+pub bounds-twiddles-blocks : goal.bounds-twiddles-blocks
+bounds-twiddles-blocks g c =
+    c.requires.twiddles (c.args.blocks + c.loop-m.m) (past_below c.loop-m.m c.args.blocks c.loop-m-test.true)
+
+pub slice_bounds-double_butterflies-count : goal.slice_bounds-double_butterflies-count
+slice_bounds-double_butterflies-count g c =
+    starts_within (c.loop-m.m * c.args.quarter) c.args.quarter
+
+pub slice_bounds-double_butterflies-start : goal.slice_bounds-double_butterflies-start
+slice_bounds-double_butterflies-start g c =
+    starts_within (c.loop-m.m * c.args.quarter) c.args.quarter
+
+pub slice_bounds-double_butterflies-end : goal.slice_bounds-double_butterflies-end
+slice_bounds-double_butterflies-end g c =
+    block_within c.loop-m.first c.args.first.now c.loop-m.m c.args.blocks c.args.quarter c.loop-m.auto.first c.requires.first c.loop-m-test.true
+
+pub slice_bounds-double_butterflies-count-in-loop-m : goal.slice_bounds-double_butterflies-count-in-loop-m
+slice_bounds-double_butterflies-count-in-loop-m g c =
+    starts_within (c.loop-m.m * c.args.quarter) c.args.quarter
+
+pub slice_bounds-double_butterflies-start-in-loop-m : goal.slice_bounds-double_butterflies-start-in-loop-m
+slice_bounds-double_butterflies-start-in-loop-m g c =
+    starts_within (c.loop-m.m * c.args.quarter) c.args.quarter
+
+pub slice_bounds-double_butterflies-end-in-loop-m : goal.slice_bounds-double_butterflies-end-in-loop-m
+slice_bounds-double_butterflies-end-in-loop-m g c =
+    block_within c.loop-m.second c.args.second.now c.loop-m.m c.args.blocks c.args.quarter c.loop-m.auto.second c.requires.second c.loop-m-test.true
+
+pub slice_bounds-double_butterflies-count-in-loop-m-2 : goal.slice_bounds-double_butterflies-count-in-loop-m-2
+slice_bounds-double_butterflies-count-in-loop-m-2 g c =
+    starts_within (c.loop-m.m * c.args.quarter) c.args.quarter
+
+pub slice_bounds-double_butterflies-start-in-loop-m-2 : goal.slice_bounds-double_butterflies-start-in-loop-m-2
+slice_bounds-double_butterflies-start-in-loop-m-2 g c =
+    starts_within (c.loop-m.m * c.args.quarter) c.args.quarter
+
+pub slice_bounds-double_butterflies-end-in-loop-m-2 : goal.slice_bounds-double_butterflies-end-in-loop-m-2
+slice_bounds-double_butterflies-end-in-loop-m-2 g c =
+    block_within c.loop-m.third c.args.third.now c.loop-m.m c.args.blocks c.args.quarter c.loop-m.auto.third c.requires.third c.loop-m-test.true
+
+pub slice_bounds-double_butterflies-count-in-loop-m-3 : goal.slice_bounds-double_butterflies-count-in-loop-m-3
+slice_bounds-double_butterflies-count-in-loop-m-3 g c =
+    starts_within (c.loop-m.m * c.args.quarter) c.args.quarter
+
+pub slice_bounds-double_butterflies-start-in-loop-m-3 : goal.slice_bounds-double_butterflies-start-in-loop-m-3
+slice_bounds-double_butterflies-start-in-loop-m-3 g c =
+    starts_within (c.loop-m.m * c.args.quarter) c.args.quarter
+
+pub slice_bounds-double_butterflies-end-in-loop-m-3 : goal.slice_bounds-double_butterflies-end-in-loop-m-3
+slice_bounds-double_butterflies-end-in-loop-m-3 g c =
+    block_within c.loop-m.fourth c.args.fourth.now c.loop-m.m c.args.blocks c.args.quarter c.loop-m.auto.fourth c.requires.fourth c.loop-m-test.true
+
+pub double_butterflies-requires-clause-block : goal.double_butterflies-requires-clause-block
+double_butterflies-requires-clause-block g c =
+    four_quarters (length c.block.result.now) c.args.quarter
+    (ap length c.block.ensures ∙ length-block c.args.source.now c.loop-m.m (c.args.quarter + c.args.quarter + (c.args.quarter + c.args.quarter)) (block_within c.args.source.now c.args.source.now c.loop-m.m c.args.blocks (c.args.quarter + c.args.quarter + (c.args.quarter + c.args.quarter)) refl c.requires.source c.loop-m-test.true))
+    _ (length-block c.loop-m.first c.loop-m.m c.args.quarter (block_within c.loop-m.first c.args.first.now c.loop-m.m c.args.blocks c.args.quarter c.loop-m.auto.first c.requires.first c.loop-m-test.true))
+
+pub double_butterflies-requires-clause-second : goal.double_butterflies-requires-clause-second
+double_butterflies-requires-clause-second g c =
+    length-block c.loop-m.second c.loop-m.m c.args.quarter (block_within c.loop-m.second c.args.second.now c.loop-m.m c.args.blocks c.args.quarter c.loop-m.auto.second c.requires.second c.loop-m-test.true)
+    ∙ sym (length-block c.loop-m.first c.loop-m.m c.args.quarter (block_within c.loop-m.first c.args.first.now c.loop-m.m c.args.blocks c.args.quarter c.loop-m.auto.first c.requires.first c.loop-m-test.true))
+
+pub double_butterflies-requires-clause-third : goal.double_butterflies-requires-clause-third
+double_butterflies-requires-clause-third g c =
+    length-block c.loop-m.third c.loop-m.m c.args.quarter (block_within c.loop-m.third c.args.third.now c.loop-m.m c.args.blocks c.args.quarter c.loop-m.auto.third c.requires.third c.loop-m-test.true)
+    ∙ sym (length-block c.loop-m.first c.loop-m.m c.args.quarter (block_within c.loop-m.first c.args.first.now c.loop-m.m c.args.blocks c.args.quarter c.loop-m.auto.first c.requires.first c.loop-m-test.true))
+
+pub double_butterflies-requires-clause-fourth : goal.double_butterflies-requires-clause-fourth
+double_butterflies-requires-clause-fourth g c =
+    length-block c.loop-m.fourth c.loop-m.m c.args.quarter (block_within c.loop-m.fourth c.args.fourth.now c.loop-m.m c.args.blocks c.args.quarter c.loop-m.auto.fourth c.requires.fourth c.loop-m-test.true)
+    ∙ sym (length-block c.loop-m.first c.loop-m.m c.args.quarter (block_within c.loop-m.first c.args.first.now c.loop-m.m c.args.blocks c.args.quarter c.loop-m.auto.first c.requires.first c.loop-m-test.true))
+
+pub returns-clause-first : goal.returns-clause-first
+returns-clause-first g c m j d e below inside =
+    c.loop-m.invariant.first m j d e (before_end m c.args.blocks c.loop-m.m below c.loop-m-test.false) inside
+
+pub returns-clause-second : goal.returns-clause-second
+returns-clause-second g c m j d e below inside =
+    c.loop-m.invariant.second m j d e (before_end m c.args.blocks c.loop-m.m below c.loop-m-test.false) inside
+
+pub returns-clause-third : goal.returns-clause-third
+returns-clause-third g c m j d e below inside =
+    c.loop-m.invariant.third m j d e (before_end m c.args.blocks c.loop-m.m below c.loop-m-test.false) inside
+
+pub returns-clause-fourth : goal.returns-clause-fourth
+returns-clause-fourth g c m j d e below inside =
+    c.loop-m.invariant.fourth m j d e (before_end m c.args.blocks c.loop-m.m below c.loop-m-test.false) inside
