@@ -54,7 +54,7 @@ loop-j-preserved g c =
 
 pub loop-j-init : goal.loop-j-init
 loop-j-init g c =
-    record { first = λ j _ below. none_below j below; second = λ j _ below. none_below j below; third = λ j _ below. none_below j below; fourth = λ j _ below. none_below j below; }
+    record { first = λ j _ below. none_below j below; second = λ j _ below. none_below j below; third = λ j _ below. none_below j below; fourth = λ j _ below. none_below j below }
 
 pub offset_bounds-block-j : goal.offset_bounds-block-j
 offset_bounds-block-j g c =

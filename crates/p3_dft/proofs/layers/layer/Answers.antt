@@ -1,4 +1,4 @@
-use Rattle.std.proofs.Common.{rules, ◌≡◌, ◌≤◌, ◌<◌, ◌+◌, ◌*◌, ℕ, length, get_or, arith, ap, ◌∙◌}
+use Rattle.std.proofs.Common.{rules, ◌≡◌, ◌≤◌, ◌<◌, ◌+◌, ◌*◌, ℕ, length, get_or, arith, refl, sym, ap, ◌∙◌}
 use Rattle.std.proofs.lemmas.Nat.{row_fits}
 use Rattle.std.proofs.lemmas.List.{get_or_append_left, get_or_read}
 use Rattle.std.proofs.lemmas.List.Edits.{get_or-between}
@@ -6,7 +6,8 @@ use Rattle.p3_dft.specs.Butterflies.{entry, block_entry, sum_at, difference_at}
 use Rattle.p3_dft.proofs.Parts.{block_written, block_before}
 use Rattle.p3_dft.proofs.Pairs.{length-block}
 use Rattle.p3_dft.proofs.SameBlocks.{same_sum, same_difference}
-use Rattle.p3_dft.proofs.Places.{bytes_fit}
+use Rattle.p3_dft.proofs.Places.{bytes_fit, block_within, starts_within, none_below, less_at_most}
+use Rattle.p3_dft.proofs.Places.{two_halves}
 use Rattle.p3_dft.proofs.layers.layer.Goals as goal
 
 pub block-requires : goal.block-requires
@@ -82,3 +83,58 @@ pub offset_bounds-differences-to : goal.offset_bounds-differences-to
 offset_bounds-differences-to g c =
     bytes_fit _ (length c.loop-m.differences) _
     (omega (arith, row_fits c.loop-m.m c.args.half c.args.blocks c.args.half c.loop-m-test.true (omega arith))) (search rules)
+
+pub loop-m-init : goal.loop-m-init
+loop-m-init g c =
+    record { sums = λ m _ _ _ below _. none_below m below; differences = λ m _ _ _ below _. none_below m below }
+
+pub overflow_add-half : goal.overflow_add-half
+overflow_add-half g c =
+    omega (arith, block_within c.args.source.now c.args.source.now c.loop-m.m c.args.blocks (c.args.half + c.args.half) refl c.requires.source c.loop-m-test.true)
+
+pub overflow_mul-m : goal.overflow_mul-m
+overflow_mul-m g c =
+    omega (arith, c.requires.twiddles c.loop-m.m c.loop-m-test.true)
+
+pub offset_bounds-twiddles-m : goal.offset_bounds-twiddles-m
+offset_bounds-twiddles-m g c =
+    less_at_most (c.loop-m.m * c.args.stride) (length c.args.twiddles.now) (c.requires.twiddles c.loop-m.m c.loop-m-test.true)
+
+pub bounds-twiddles-m : goal.bounds-twiddles-m
+bounds-twiddles-m g c =
+    c.requires.twiddles c.loop-m.m c.loop-m-test.true
+
+pub slice_bounds-butterflies-count : goal.slice_bounds-butterflies-count
+slice_bounds-butterflies-count g c =
+    starts_within (c.loop-m.m * c.args.half) c.args.half
+
+pub slice_bounds-butterflies-start : goal.slice_bounds-butterflies-start
+slice_bounds-butterflies-start g c =
+    starts_within (c.loop-m.m * c.args.half) c.args.half
+
+pub slice_bounds-butterflies-end : goal.slice_bounds-butterflies-end
+slice_bounds-butterflies-end g c =
+    block_within c.loop-m.sums c.loop-m.sums c.loop-m.m c.args.blocks c.args.half refl (omega arith) c.loop-m-test.true
+
+pub slice_bounds-butterflies-count-in-loop-m : goal.slice_bounds-butterflies-count-in-loop-m
+slice_bounds-butterflies-count-in-loop-m g c =
+    starts_within (c.loop-m.m * c.args.half) c.args.half
+
+pub slice_bounds-butterflies-start-in-loop-m : goal.slice_bounds-butterflies-start-in-loop-m
+slice_bounds-butterflies-start-in-loop-m g c =
+    starts_within (c.loop-m.m * c.args.half) c.args.half
+
+pub slice_bounds-butterflies-end-in-loop-m : goal.slice_bounds-butterflies-end-in-loop-m
+slice_bounds-butterflies-end-in-loop-m g c =
+    block_within c.loop-m.differences c.loop-m.differences c.loop-m.m c.args.blocks c.args.half refl (omega arith) c.loop-m-test.true
+
+pub butterflies-requires-clause-block : goal.butterflies-requires-clause-block
+butterflies-requires-clause-block g c =
+    two_halves (length c.block.result.now) c.args.half _
+    (ap length c.block.ensures ∙ length-block c.args.source.now c.loop-m.m (c.args.half + c.args.half) (block_within c.args.source.now c.args.source.now c.loop-m.m c.args.blocks (c.args.half + c.args.half) refl c.requires.source c.loop-m-test.true))
+    (length-block c.loop-m.sums c.loop-m.m c.args.half (block_within c.loop-m.sums c.loop-m.sums c.loop-m.m c.args.blocks c.args.half refl (omega arith) c.loop-m-test.true))
+
+pub butterflies-requires-clause-differences : goal.butterflies-requires-clause-differences
+butterflies-requires-clause-differences g c =
+    length-block c.loop-m.differences c.loop-m.m c.args.half (block_within c.loop-m.differences c.loop-m.differences c.loop-m.m c.args.blocks c.args.half refl (omega arith) c.loop-m-test.true)
+    ∙ sym (length-block c.loop-m.sums c.loop-m.m c.args.half (block_within c.loop-m.sums c.loop-m.sums c.loop-m.m c.args.blocks c.args.half refl (omega arith) c.loop-m-test.true))

@@ -120,7 +120,7 @@ offset_bounds-fourth-to g c =
 
 pub loop-m-init : goal.loop-m-init
 loop-m-init g c =
-    record { first = λ m _ _ _ below _. none_below m below; second = λ m _ _ _ below _. none_below m below; third = λ m _ _ _ below _. none_below m below; fourth = λ m _ _ _ below _. none_below m below; }
+    record { first = λ m _ _ _ below _. none_below m below; second = λ m _ _ _ below _. none_below m below; third = λ m _ _ _ below _. none_below m below; fourth = λ m _ _ _ below _. none_below m below }
 
 pub overflow_add-quarter : goal.overflow_add-quarter
 overflow_add-quarter g c =
