@@ -52,7 +52,7 @@ fn is_refused(
 }
 
 /// Columns, the first that is malformed along 8 rows, and the words for it.
-const REFUSED: [(&[&[u64]], PeriodicError, &str); 4] = [
+pub(crate) const REFUSED: [(&[&[u64]], PeriodicError, &str); 4] = [
     (
         &[&[1, 2, 3]],
         PeriodicError::NotPowerOfTwo {

@@ -1,11 +1,11 @@
 //! Worked values of periodic columns at points.
 
-use crate::columns::one_column;
+use crate::columns::{REFUSED, columns_of, one_column};
 use p3_dft::Radix2Dit;
 use p3_field::{
     BabyBear, BabyBear4, ExtensionField, Field, TwoAdicField, TwoAdicMultiplicativeCoset,
 };
-use p3_periodic::{PeriodicEvaluator, TwoAdicPeriodicEvaluator};
+use p3_periodic::{PeriodicError, PeriodicEvaluator, TwoAdicPeriodicEvaluator};
 use std::alloc::Global;
 use std::test::Fail;
 
@@ -59,5 +59,24 @@ fn at_the_rows_the_column_comes_back(rt: HostRuntime) -> Result<(), Fail> {
 fn a_short_column_is_read_at_a_power(rt: HostRuntime) -> Result<(), Fail> {
     let value = value_at(rt.alloc(), &[1, 3], 3, BabyBear::from_u64(2))?;
     assert!(rt; value == Some(BabyBear::from_u64(2013265907)));
+    Ok(())
+}
+
+/// Why the values at 7 of these columns, along a trace of 8 rows, are refused.
+fn refusal(alloc: Global, columns: &[&[u64]]) -> Result<Option<PeriodicError>, Fail> {
+    let table = columns_of(alloc, columns)?;
+    let trace = TwoAdicMultiplicativeCoset::new(BabyBear::ONE, 3).ok_or("a trace of 8")?;
+    let seven = BabyBear::from_u64(7);
+    let values = TwoAdicPeriodicEvaluator::<Radix2Dit<BabyBear>>::eval_at_point(
+        alloc, &table, &trace, seven,
+    );
+    Ok(values.err())
+}
+
+#[test]
+fn malformed_columns_have_no_values(rt: HostRuntime) -> Result<(), Fail> {
+    for (columns, fault, words) in REFUSED {
+        assert!(rt; refusal(rt.alloc(), columns)? == Some(fault), "{words}");
+    }
     Ok(())
 }

@@ -2,7 +2,7 @@
 
 ghost use Rattle.std.specs.Prelude.{◌≤◌};
 
-use crate::columns::{columns_of, one_column};
+use crate::columns::{REFUSED, columns_of};
 use p3_dft::Radix2Dit;
 use p3_field::{BabyBear, Field, PrimeField64, TwoAdicMultiplicativeCoset};
 use p3_periodic::{
@@ -36,6 +36,9 @@ fn table_of(alloc: Global, columns: &[&[u64]]) -> Result<PeriodicLdeTable<BabyBe
 fn shown(table: &PeriodicLdeTable<BabyBear>, index: usize, column: usize) -> Option<u64> {
     Some(table.get(index, column)?.as_canonical_u64())
 }
+
+/// A table, or why it is refused.
+type Answer = Result<PeriodicLdeTable<BabyBear>, PeriodicError>;
 
 /// Entries of a table, by index and column.
 type Entries = &'static [(usize, usize, Option<u64>)];
@@ -107,26 +110,40 @@ fn no_columns_have_the_empty_table(rt: HostRuntime) -> Result<(), Fail> {
     Ok(())
 }
 
-/// Why the table of the columns is refused, by a given transform, along 8 rows on 16 points.
-fn refusal(alloc: Global, table: &[Vec<BabyBear>]) -> Option<PeriodicError> {
-    let trace = TwoAdicMultiplicativeCoset::new(BabyBear::ONE, 3)?;
-    let domain = TwoAdicMultiplicativeCoset::new(BabyBear::GENERATOR, 4)?;
+/// The table of columns of these numbers by a given transform, on the domain of shift 31.
+fn transformed(alloc: Global, columns: &[&[u64]]) -> Result<Answer, Fail> {
+    let trace = TwoAdicMultiplicativeCoset::new(BabyBear::ONE, 3).ok_or("a trace of 8")?;
+    let domain = TwoAdicMultiplicativeCoset::new(BabyBear::GENERATOR, 4).ok_or("a domain of 16")?;
+    let columns = columns_of(alloc, columns)?;
     let dft = Radix2Dit::<BabyBear>::default();
-    match build_periodic_lde_table_two_adic(alloc, &dft, table, &trace, &domain) {
-        Ok(_) => None,
-        Err(fault) => Some(fault),
-    }
+    Ok(TwoAdicPeriodicEvaluator::eval_on_lde_with_dft(alloc, &dft, &columns, &trace, &domain))
+}
+
+/// The same by the function that stands by itself.
+fn built(alloc: Global, columns: &[&[u64]]) -> Result<Answer, Fail> {
+    let trace = TwoAdicMultiplicativeCoset::new(BabyBear::ONE, 3).ok_or("a trace of 8")?;
+    let domain = TwoAdicMultiplicativeCoset::new(BabyBear::GENERATOR, 4).ok_or("a domain of 16")?;
+    let columns = columns_of(alloc, columns)?;
+    let dft = Radix2Dit::<BabyBear>::default();
+    Ok(build_periodic_lde_table_two_adic(alloc, &dft, &columns, &trace, &domain))
 }
 
 #[test]
-fn a_malformed_column_refuses_the_table(rt: HostRuntime) -> Result<(), Fail> {
-    let columns = one_column(rt.alloc(), &[1, 2, 3])?;
-    let fault = PeriodicError::NotPowerOfTwo {
-        column: 0,
-        length: 3,
-    };
-    assert!(rt; refusal(rt.alloc(), &columns) == Some(fault));
-    let columns = one_column(rt.alloc(), &[1, 3])?;
-    assert!(rt; refusal(rt.alloc(), &columns).is_none());
+fn a_given_transform_makes_the_table(rt: HostRuntime) -> Result<(), Fail> {
+    let table = transformed(rt.alloc(), &[&[1, 3]])??;
+    assert!(rt; table.height() == 4 && first_wrong_entry(&table, OF_TWO).is_none());
+    let table = built(rt.alloc(), &[&[1, 3]])??;
+    assert!(rt; table.height() == 4 && first_wrong_entry(&table, OF_TWO).is_none());
+    Ok(())
+}
+
+#[test]
+fn malformed_columns_have_no_table(rt: HostRuntime) -> Result<(), Fail> {
+    for (columns, fault, words) in REFUSED {
+        let answer = transformed(rt.alloc(), columns)?;
+        assert!(rt; answer.err() == Some(fault), "{words}");
+        let answer = built(rt.alloc(), columns)?;
+        assert!(rt; answer.err() == Some(fault), "{words}");
+    }
     Ok(())
 }
