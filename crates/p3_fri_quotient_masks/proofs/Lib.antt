@@ -1,0 +1,6 @@
+pub mod Drawn
+pub mod Sums
+pub mod Columns
+pub mod Weights
+pub mod MaskedWords
+pub mod Recombination

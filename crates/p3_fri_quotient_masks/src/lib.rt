@@ -1,0 +1,16 @@
+//! The masks of a quotient's chunks. What a STARK prover commits to of its quotient is cut into
+//! chunks, each on a coset of its own. Here each chunk gets a random multiple of the polynomial
+//! that vanishes on its coset, so that its values elsewhere show nothing of it, while the chunks
+//! together make the quotient that they made before (section 4.2 of
+//! <https://eprint.iacr.org/2024/1037>).
+#![tactic(auto)]
+
+pub mod draws;
+pub mod extension;
+pub mod factors;
+pub mod laws;
+pub mod masks;
+
+pub use crate::extension::masked_extension;
+pub use crate::laws::masked_quotients_law;
+pub use crate::masks::quotient_masks;

@@ -1,0 +1,5 @@
+//! Tests of `p3_fri_quotient_masks`.
+#![tactic(auto)]
+
+#[cfg(test)]
+mod draws;
