@@ -155,7 +155,8 @@ impl<
 
     ghost Refuses = { λ s c requests e.
         OpenRefusal (⟦<C as PlaysTwoAdic<F, EF, InputMmcs, M>>⟧.setting s.mmcs s.fri.mmcs)
-        (parameters_of s.fri) InputMmcs.committed M.committed M.commitment_of c requests e };
+        (parameters_of s.fri) InputMmcs.committed M.committed M.commitment_of C.solution c requests
+        e };
 
     ghost LeavesState = { leaves };
 

@@ -91,7 +91,8 @@ impl<
 
     ghost RefusesAt = { λ s _ c requests e.
         OpenRefusal (⟦<C as PlaysTwoAdic<F, EF, InputMmcs, M>>⟧.setting s.mmcs s.fri.mmcs)
-        (parameters_of s.fri) InputMmcs.committed M.committed M.commitment_of c requests e };
+        (parameters_of s.fri) InputMmcs.committed M.committed M.commitment_of C.solution c requests
+        e };
 
     ghost AcceptsAt = { λ s _ c claims proof.
         relation (⟦<C as PlaysTwoAdic<F, EF, InputMmcs, M>>⟧.setting s.mmcs s.fri.mmcs)
