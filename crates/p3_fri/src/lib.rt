@@ -8,6 +8,10 @@
 pub mod prover;
 pub mod verifier;
 
+pub use p3_fri_core::pcs_transcript::{
+    PcsProverTranscript, PcsTranscriptFailure, PcsVerifierTranscript,
+};
+pub use p3_fri_core::transcript::{ProverTranscript, TranscriptFailure, VerifierTranscript};
 pub use p3_fri_core::{
     BatchMultiOpening, CommitPhaseMultiStep, FriFoldingStrategy, FriParameters, FriProof,
     FriProverError, FriShape, PcsShape, TwoAdicFriFolding, WithExtraBits,
@@ -15,6 +19,9 @@ pub use p3_fri_core::{
     lanes, laws, pcs_transcript, pow_phase, proof, strategy, transcript,
 };
 pub use p3_fri_two_adic::two_adic_pcs;
-pub use p3_fri_two_adic::two_adic_pcs::{TwoAdicFriFoldingForMmcs, TwoAdicFriPcs};
+pub use p3_fri_two_adic::two_adic_pcs::{
+    CommitmentWithOpeningPoints, ProverDataWithOpeningPoints, TwoAdicFriFoldingForMmcs,
+    TwoAdicFriPcs,
+};
 pub use p3_periodic::periodic;
 pub use p3_periodic::periodic::{TwoAdicPeriodicEvaluator, build_periodic_lde_table_two_adic};
