@@ -1,21 +1,19 @@
 -- What an honest prover opens is accepted, and the test ends in the state that it leaves.
-use Rattle.std.proofs.Common.{◌≡◌, ℕ, suc, ◌+◌, ◌-◌, ◌/◌, ◌^◌, ◌<◌, ◌≤◌, List, [], ◌∷◌, map}
+use Rattle.std.proofs.Common.{◌≡◌, ℕ, suc, ◌+◌, ◌-◌, ◌/◌, ◌^◌, ◌<◌, ◌≤◌, List, [], map}
 use Rattle.std.proofs.Common.{length, get_or, true, refl, sym, ap, ◌∙◌, arith, subst}
-use Rattle.std.specs.Prelude.{IsTrue, slice_index, slice_index_or}
-use Rattle.std.specs.List.{All, zip, range_with_len}
+use Rattle.std.specs.Prelude.{IsTrue, slice_index}
+use Rattle.std.specs.List.{All, zip}
 use Rattle.std.proofs.Math.Nat.{div-one}
 use Rattle.std.proofs.lemmas.List.Elements.{All-weaker}
 use Rattle.algebra.specs.Nested.{joined}
-use Rattle.algebra.specs.Rounds.{Round, AreLowDegreeWords}
-use Rattle.algebra.proofs.Lists.{Each, each_from_All, All_from_each, tabulate-equal, all_zip-weaker}
-use Rattle.p3_fri_relation.specs.Setting.{Setting, Parameters, CommitmentClaim, RoundOpening, Proof}
+use Rattle.algebra.specs.Rounds.{AreLowDegreeWords}
+use Rattle.algebra.proofs.Lists.{Each, each_from_All, All_from_each}
+use Rattle.p3_fri_relation.specs.Setting.{Setting, Parameters, CommitmentClaim, Proof}
 use Rattle.p3_fri_relation.specs.Setting.{final_height}
 use Rattle.p3_fri_relation.specs.Heights.{matrices_of, has_height}
 use Rattle.p3_fri_relation.specs.Heights.{log_height as claimed_height}
-use Rattle.p3_fri_relation.specs.Inputs.{HasPoints, HasSums, rows_at, sum_at}
-use Rattle.p3_fri_relation.specs.Queries.{inputs_of, final_value, rounds_of, rows_folded}
-use Rattle.p3_fri_relation.specs.Queries.{heights_after}
-use Rattle.p3_fri_relation.specs.Queries.{row_indices}
+use Rattle.p3_fri_relation.specs.Inputs.{HasPoints, HasSums, rows_at}
+use Rattle.p3_fri_relation.specs.Queries.{Source, rounds_of}
 use Rattle.p3_fri_relation.specs.FoldedQuery.{value_at}
 use Rattle.p3_fri_pcs_transcript.specs.Replay.{BatchReplay}
 use Rattle.p3_fri_transcript.specs.Replay.{fri_replay, shown_queries_replay}
@@ -28,15 +26,14 @@ use Rattle.p3_fri_relation.specs.Acceptance.{Accepts, batch_replayed, AreOpening
 use Rattle.p3_fri_relation.specs.Acceptance as test
 use Rattle.p3_fri_relation.proofs.ClaimedHeights.{greatest_height-bounds, heights_below-had}
 use Rattle.p3_fri_relation.proofs.Instances.{instance_heights, instance_height-bounds, instance_top}
-use Rattle.p3_fri_relation.proofs.Openings.{last_link-given, rows_folded-given}
+use Rattle.p3_fri_relation.proofs.Sources.{GiveSame, same_end, same_rounds}
 use Rattle.p3_fri_openings.specs.Rounds.{log_height, HasCoset}
 use Rattle.p3_fri_batch.specs.Words.{Opened, batch_word}
 use Rattle.p3_fri_batch.specs.Claimed.{rows_opened}
 use Rattle.p3_fri_batch.proofs.Heights.{claimed_heights}
 use Rattle.p3_fri_batch.proofs.Bridge.{entry_is_quotient_sum, entry_is_input}
 use Rattle.p3_fri_batch.proofs.LowWords.{words_low}
-use Rattle.p3_fri_prover.specs.Proved.{AreLow, entries_at, OpensRound}
-use Rattle.p3_fri_prover.specs.Proved as proved
+use Rattle.p3_fri_prover.specs.Proved.{AreLow, entries_met}
 use Rattle.p3_fri_completeness.specs.Honest.{AreTwoAdic, IsHonest, IsHonestlyOpened}
 use Rattle.p3_fri_completeness.specs.Honest.{heights_claimed, DrawsFit}
 use Rattle.p3_fri_completeness.specs.Honest.{words_claimed}
@@ -67,8 +64,12 @@ module _ {F E C Com Path InCom InPath : Type 0} (s : Setting F E C Com Path InCo
   abbrev betas : List E
   betas = (test_replay s p claims proof c).betas
 
-  abbrev played : List (Round E)
-  played = rounds_of (test.log_arities p claims) betas
+  -- what its queries meet, in the relation and in the words
+  abbrev sums : Source E
+  sums = test.source s p claims proof alpha
+
+  abbrev entries : Source E
+  entries = entries_met s.fields.ext heights top words
 
   -- they lie in the greatest word
   within_word : All (λ q. q < 2 ^ top) positions
@@ -150,8 +151,7 @@ module _ {F E C Com Path InCom InPath : Type 0} (s : Setting F E C Com Path InCo
     rows_here = rows_are s.opens_input b top positions j inside claims rounds proof.inputs o.claimed
         o.inputs
 
-    met : (h : ℕ) → inputs_of s p alpha top claims proof played j q h
-        ≡ entries_at s p heights top words c proof q h
+    met : (h : ℕ) → sums.met j q h ≡ entries.met j q h
     met h = sym (entry_is_input s.fields b alpha top q claims rounds
         (rows_at j proof.inputs) heights words h
         o.claimed rows_here on_cosets refl refl below)
@@ -159,8 +159,7 @@ module _ {F E C Com Path InCom InPath : Type 0} (s : Setting F E C Com Path InCo
     own_place : q / 2 ^ (top - top) ≡ q
     own_place = let e : top - top ≡ 0 = omega arith in ap (λ n. q / 2 ^ n) e ∙ div-one q
 
-    begins : sum_at s.fields b alpha top claims proof.inputs j q top
-        ≡ get_or (get_or words 0 []) q s.fields.ext.zero
+    begins : sums.first j q ≡ entries.first j q
     begins =
         sym (entry_is_quotient_sum s.fields b alpha top q top claims rounds
         (rows_at j proof.inputs) s.fields.ext.zero
@@ -171,17 +170,8 @@ module _ {F E C Com Path InCom InPath : Type 0} (s : Setting F E C Com Path InCo
         q s.fields.ext.zero)
         (sym (instance_heights p claims s.fields.two_adicity in_range))
 
-    last_same : test.last_of_query s p claims proof alpha betas positions j
-        ≡ proved.last_link s p heights top words c proof j q
-    last_same = last_link-given s p alpha top claims proof played j q
-        (entries_at s p heights top words c proof q)
-        (get_or (get_or words 0 []) q s.fields.ext.zero) met begins
-
-    rows_same : rows_folded s p alpha top claims proof played j q
-        ≡ proved.rows_folded s p heights top words c proof j q
-    rows_same = rows_folded-given s p alpha top claims proof played j q
-        (entries_at s p heights top words c proof q)
-        (get_or (get_or words 0 []) q s.fields.ext.zero) met begins
+    same : GiveSame sums entries j q
+    same = record { met = met; first = begins }
 
     sums_here : HasSums s.fields b alpha top claims proof.inputs j q
     sums_here = record {
@@ -191,42 +181,20 @@ module _ {F E C Com Path InCom InPath : Type 0} (s : Setting F E C Com Path InCo
           (omega (arith, top_bounds.0, top_bounds.1));
     }
 
-    holds_here : test.HoldsAtQuery s p claims proof alpha betas positions j
+    holds_here : test.QueryHolds s p claims proof alpha betas positions j
     holds_here = record {
       sums = sums_here;
-      ends = subst (λ link. link.value ≡ final_value s p proof link) (sym last_same)
-          (o.proved.chains_end words_are_low j inside);
+      ends = same_end s p top sums entries proof (rounds_of (test.log_arities p claims) betas) j q
+          same (o.proved.chains_end words_are_low j inside);
     }
-
-  -- a round opens to the rows that the queries fold
-  round_opens : (k : ℕ) (x : Com × RoundOpening E Path)
-      → OpensRound s p heights top words c proof k x
-      → test.OpensRound s p claims proof alpha betas positions k x
-  round_opens k x held =
-      subst (λ sets. s.opens_round x.0
-      (record {
-        width = 2 ^ slice_index (test.log_arities p claims) k;
-        height = 2 ^ slice_index (heights_after (test.log_arities p claims) top) k;
-      } ∷ [])
-      (map (λ q. slice_index (row_indices (test.log_arities p claims) q) k) positions)
-      sets x.1.path)
-      (tabulate-equal p.num_queries
-      (λ j. slice_index_or (proved.rows_folded s p heights top words c proof j
-      (slice_index positions j)) k [] ∷ [])
-      (λ j. test.row_folded s p claims proof alpha betas positions j k ∷ [])
-      (λ j l. ap (λ rows. slice_index_or rows k [] ∷ [])
-      (sym (rows_same j (omega (arith, l, length-positions s p claims proof c))))))
-      held
 
   good : AreOpeningsGood s p claims proof alpha betas positions
   good = record {
     inputs_open = inputs_opened s.fields p top s.opens_input positions within_word claims rounds
         proof.inputs
         o.claimed honest up_to o.inputs;
-    rounds_open = all_zip-weaker (OpensRound s p heights top words c proof)
-        (test.OpensRound s p claims proof alpha betas positions)
-        (range_with_len 0 (length (test.log_arities p claims))) (zip proof.commitments proof.rounds)
-        round_opens o.proved.rounds_open;
+    rounds_open = same_rounds s p (test.log_arities p claims) top proof sums entries betas positions
+        (length-positions s p claims proof c) same o.proved.rounds_open;
     queries_hold = holds_here;
   }
 
@@ -235,11 +203,7 @@ module _ {F E C Com Path InCom InPath : Type 0} (s : Setting F E C Com Path InCo
   honest_accepted = record {
     instance_of = is_instance;
     counts = o.proved.counts;
-    canonical = record {
-      batch = o.batch_canonical;
-      commit = o.proved.canonical.commit;
-      query = o.proved.canonical.query;
-    };
+    canonical = record { batch = o.batch_canonical; in_test = o.proved.canonical };
     passes = o.proved.passes;
     openings = good;
   }

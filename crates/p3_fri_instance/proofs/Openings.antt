@@ -9,7 +9,7 @@ use Rattle.p3_fri_relation.specs.declared.error.FriError.TheVariants.{CommitPhas
 use Rattle.p3_fri_relation.specs.declared.error.FriError.TheVariants.{SiblingValuesLengthMismatch}
 use Rattle.p3_fri_relation.specs.declared.proof.CommitPhaseMultiStep.{CommitPhaseMultiStep}
 use Rattle.p3_fri_relation.specs.Setting.{Parameters, Proof, RoundOpening}
-use Rattle.p3_fri_relation.specs.Acceptance.{HasSiblings, HasCounts}
+use Rattle.p3_fri_relation.specs.TestRounds.{HasSiblings, HasCounts}
 use Rattle.p3_fri_pow.specs.Counts.{IsWrongCount}
 use Rattle.p3_fri_relation.specs.Faults.{At, CountFault}
 use Rattle.p3_fri_relation.specs.Views.{round_opened, rounds_opened}

@@ -4,7 +4,7 @@ ghost use Rattle.std.specs.Prelude.{◌≡◌, ℕ, ◌+◌, ◌-◌, ◌^◌, �
 ghost use Rattle.std.specs.Prelude.{IsNone, IfSome, IsOk, IfErr};
 ghost use Rattle.std.specs.List.{AllZip, Any};
 ghost use Rattle.algebra.specs.Nested.{lists};
-ghost use Rattle.p3_fri_relation.specs.Acceptance.{HasSiblings};
+ghost use Rattle.p3_fri_relation.specs.TestRounds.{HasSiblings};
 ghost use Rattle.p3_fri_pow.specs.Counts.{IsWrongCount};
 ghost use Rattle.p3_fri_relation.specs.Faults.{At};
 ghost use Rattle.p3_fri_relation.specs.Views.{round_opened, rounds_opened};

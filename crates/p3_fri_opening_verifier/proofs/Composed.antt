@@ -137,8 +137,8 @@ module _ {F E C Com Path InCom InPath : Type 0} (s : Setting F E C Com Path InCo
       → ¬ AreCanonical p proof s.fields.base.zero
   not_canonical Batch wrong are = wrong.1 (are.batch wrong.0)
   not_canonical CommitPhase wrong are = wrong.1.4 (sym wrong.1.3
-      ∙ are.commit wrong.0 wrong.1.0 wrong.1.1 wrong.1.2)
-  not_canonical Query wrong are = wrong.1 (are.query wrong.0)
+      ∙ are.in_test.commit wrong.0 wrong.1.0 wrong.1.1 wrong.1.2)
+  not_canonical Query wrong are = wrong.1 (are.in_test.query wrong.0)
 
 module _ {A B F E C Com Path InCom InPath : Type 0} (s : Setting F E C Com Path InCom InPath)
     (p : Parameters)

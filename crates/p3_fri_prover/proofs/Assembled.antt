@@ -19,12 +19,12 @@ use Rattle.p3_fri_transcript.proofs.Joining.{found_zero}
 use Rattle.p3_fri_relation.specs.Setting.{Setting, Parameters, RoundOpening, Proof}
 use Rattle.p3_fri_relation.specs.Setting.{final_height}
 use Rattle.p3_fri_relation.specs.Queries.{rounds_of, heights_after, row_indices}
-use Rattle.p3_fri_relation.specs.Acceptance.{HasSiblings, HasCounts}
+use Rattle.p3_fri_relation.specs.TestRounds.{HasSiblings, HasCounts, QueryEnds}
 use Rattle.p3_fri_prover.specs.Inputs.{HaveHeights, input_of, AreInputs}
 use Rattle.p3_fri_prover.specs.Openings.{index_into, OpensRows}
 use Rattle.p3_fri_prover.specs.Played.{IsPlayed}
 use Rattle.p3_fri_prover.specs.Proved.{log_arities, fri_numbers, replayed, positions}
-use Rattle.p3_fri_prover.specs.Proved.{AreLow, EndsAtFinalValue, IsProved}
+use Rattle.p3_fri_prover.specs.Proved.{entries_met, AreLow, IsProved}
 use Rattle.p3_fri_relation.specs.TallEnough.{IsTallEnough}
 use Rattle.p3_fri_prover.specs.Rounds.{KeepWords, AreCommitted}
 use Rattle.p3_fri_prover.proofs.Ways.{words, siblings_in}
@@ -234,7 +234,8 @@ module _ {F E C Com Path InCom InPath Data X : Type 0}
         (rounds_of arities bs) first) (sym same_betas))
 
     ends : AreLow s p heights top inputs c proof
-        → EachIndex places (EndsAtFinalValue s p heights top inputs c proof)
+        → EachIndex places (QueryEnds s p arities top proof
+        (entries_met s.fields.ext heights top inputs) betas places)
     ends low =
         chains_end s p heights top inputs c proof drawn whole within below many counted
         committed_rounds.commitments_made siblings opened s.fields.two_adicity base ext lifts roots

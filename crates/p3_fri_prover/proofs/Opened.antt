@@ -14,7 +14,7 @@ use Rattle.p3_matrix.specs.Matrix.{rows}
 use Rattle.p3_mmcs.specs.Batch.{AreBelow, max_height, dimensions_of}
 use Rattle.p3_fri_relation.specs.Setting.{Opening, RoundOpening}
 use Rattle.p3_fri_relation.specs.Queries.{heights_after, row_indices}
-use Rattle.p3_fri_relation.specs.Acceptance.{HasSiblings}
+use Rattle.p3_fri_relation.specs.TestRounds.{HasSiblings}
 use Rattle.p3_fri_prover.specs.Openings.{index_into, IsOpenable, OpensRows}
 use Rattle.p3_fri_prover.specs.Rounds.{KeepsWord, KeepWords}
 use Rattle.p3_fri_prover.proofs.Ways.{row_index, words, siblings_in}

@@ -3,7 +3,6 @@
 use Rattle.std.proofs.Common.{◌≡◌, ℕ, ◌+◌, ◌/◌, ◌^◌, ◌<◌, ◌≤◌, List, []}
 use Rattle.std.proofs.Common.{◌∷◌, Some, length, get_or, map, sum, refl, sym, ap, ap₂, ◌∙◌, arith, subst}
 use Rattle.std.specs.Prelude.{EachIndex}
-use Rattle.std.specs.List.{AllZip, zip, range_with_len}
 use Rattle.algebra.specs.Field.{IsField, IsHomomorphism}
 use Rattle.algebra.specs.Folds.{neighbours, LowersDegrees}
 use Rattle.algebra.specs.Polynomial.{val}
@@ -13,10 +12,11 @@ use Rattle.algebra.proofs.FinalPolynomials.{chain_ends_at_final_polynomial}
 use Rattle.algebra.proofs.Lifting.{lifted_pt}
 use Rattle.algebra.proofs.Points.{lifted_roots}
 use Rattle.p3_fri_relation.specs.Setting.{Setting, Parameters, RoundOpening, Proof, final_height}
-use Rattle.p3_fri_relation.specs.Queries.{rounds_of, heights_after, row_indices, final_value}
+use Rattle.p3_fri_relation.specs.Queries.{Source, rounds_of, heights_after, row_indices}
+use Rattle.p3_fri_relation.specs.Queries.{final_value}
+use Rattle.p3_fri_relation.specs.TestRounds.{OpensRound, RoundsOpen, QueryEnds}
 use Rattle.p3_fri_prover.specs.Inputs.{input_of}
-use Rattle.p3_fri_prover.specs.Proved.{log_arities, positions, OpensRound, EndsAtFinalValue}
-use Rattle.p3_fri_prover.specs.Proved.{entries_at, replayed, AreLow}
+use Rattle.p3_fri_prover.specs.Proved.{log_arities, positions, replayed, entries_met, AreLow}
 use Rattle.p3_fri_prover.proofs.Ways.{words, siblings_in, total_of_rounds}
 use Rattle.p3_fri_prover.proofs.Queries.{by_place, rows_by_query, link_of_query}
 
@@ -38,6 +38,12 @@ module _ {F E C Com Path InCom InPath : Type 0} (s : Setting F E C Com Path InCo
   abbrev folded_words : List (List E)
   folded_words = words s.fields.ext s.fold (input_of heights ws) arities betas top first
 
+  abbrev source : Source E
+  source = entries_met s.fields.ext heights top ws
+
+  abbrev opens : (k : ℕ) → Com × RoundOpening E Path → Type 0
+  opens = OpensRound s p arities top proof source betas ps
+
   module _ (drawn : length betas ≡ length arities) (whole : length first ≡ 2 ^ top)
       (within : sum arities ≤ top)
       (below : (j : ℕ) → j < length ps → get_or ps j 0 < 2 ^ top)
@@ -57,14 +63,13 @@ module _ {F E C Com Path InCom InPath : Type 0} (s : Setting F E C Com Path InCo
       (map (λ q. get_or (row_indices arities q) k 0) ps)
       (map (λ q. neighbours (get_or folded_words k []) (get_or (row_indices arities q) k 0)
       (get_or arities k 0) ∷ []) ps) (get_or proof.rounds k o).path) where
-    pub rounds_open : AllZip (OpensRound s p heights top ws c proof)
-        (range_with_len 0 (length arities)) (zip proof.commitments proof.rounds)
+    pub rounds_open : RoundsOpen s p arities top proof source betas ps
     rounds_open =
-        by_place (OpensRound s p heights top ws c proof) (length arities) 0 proof.commitments
+        by_place opens (length arities) 0 proof.commitments
         proof.rounds commitments rounds_opened
         (λ k com' o l.
         let e : 0 + k ≡ k = omega arith in
-        subst (λ m. OpensRound s p heights top ws c proof m
+        subst (λ m. opens m
         (get_or proof.commitments k com', get_or proof.rounds k o)) (sym e)
         (subst (λ sets. s.opens_round (get_or proof.commitments k com')
         (record {
@@ -74,7 +79,7 @@ module _ {F E C Com Path InCom InPath : Type 0} (s : Setting F E C Com Path InCo
         (map (λ q. get_or (row_indices arities q) k 0) ps) sets (get_or proof.rounds k o).path)
         (sym (rows_by_query s.fields.ext s.fold (input_of heights ws) top first arities betas ps
         proof.rounds drawn whole within below rounds_opened siblings
-        (entries_at s p heights top ws c proof) k p.num_queries l many (λ q h m. refl)))
+        (source.met 0) k p.num_queries l many (λ q h m. refl)))
         (opened k com' o l)))
 
     module _ (two_adicity : ℕ) (base : IsField s.fields.base) (ext : IsField s.fields.ext)
@@ -89,18 +94,18 @@ module _ {F E C Com Path InCom InPath : Type 0} (s : Setting F E C Com Path InCo
         (after_rounds s.fields.ext s.fold (input_of heights ws) top (rounds_of arities betas)
         first)) where
       pub chains_end : AreLow s p heights top ws c proof
-          → EachIndex ps (EndsAtFinalValue s p heights top ws c proof)
+          → EachIndex ps (QueryEnds s p arities top proof source betas ps)
       chains_end low j l =
           let q = get_or ps j 0 in
           let w : ℕ → E = λ k. s.fields.lift (s.fields.root k) in
           let e = total_of_rounds arities betas drawn in
           let ends = link_of_query s.fields.ext s.fold (input_of heights ws) top first arities
           betas ps proof.rounds drawn whole within below rounds_opened siblings
-          (entries_at s p heights top ws c proof q) j _ l
+          (source.met j q) j _ l
           (chain_ends_at_final_polynomial s.fields.ext ext two_adicity w
           (lifted_roots s.fields.base s.fields.ext s.fields.lift base ext lifts two_adicity
           s.fields.root roots) s.fold falls (input_of heights ws)
-          (entries_at s p heights top ws c proof q) top p.log_final_poly_len p.log_blowup
+          (source.met j q) top p.log_final_poly_len p.log_blowup
           (rounds_of arities betas) first q low.degrees (low.degrees top first is_first) small
           (omega (arith, total, e)) (below j l) (λ h m. refl)) in
           subst (λ link. link.value ≡ final_value s p proof link) (sym ends)

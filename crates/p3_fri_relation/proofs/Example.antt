@@ -18,7 +18,7 @@ use Rattle.p3_fri_relation.specs.Setting.{PointClaim, MatrixClaim}
 use Rattle.p3_fri_relation.specs.Heights.{log_height}
 use Rattle.p3_fri_relation.specs.QuotientSums.{point_read}
 use Rattle.p3_fri_relation.specs.Inputs.{HasPoints}
-use Rattle.p3_fri_relation.specs.Acceptance.{test_replay, positions, Accepts, HoldsAtQuery, batch_replayed}
+use Rattle.p3_fri_relation.specs.Acceptance.{test_replay, positions, Accepts, QueryHolds, batch_replayed}
 use Rattle.p3_fri_relation.specs.Example.{small_setting, small_parameters, small_claims}
 use Rattle.p3_fri_relation.specs.Example.{small_proof, IsExample}
 
@@ -43,7 +43,7 @@ abbrev batch : BatchReplay ℕ ℕ
 batch = batch_replayed small_setting small_parameters small_claims (small_proof 82) 0
 
 abbrev holds_at : ℕ → Type 0
-holds_at = HoldsAtQuery small_setting small_parameters small_claims (small_proof 82) batch.alpha
+holds_at = QueryHolds small_setting small_parameters small_claims (small_proof 82) batch.alpha
     (test_replay small_setting small_parameters small_claims (small_proof 82) batch.state).betas
     (positions small_setting small_parameters small_claims (small_proof 82) batch.state)
 
@@ -86,7 +86,10 @@ accepted = record {
       inputs = refl;
       final_poly = refl;
     };
-    canonical = record { batch = λ _. refl; commit = λ e. absurd (omega (arith, e)); query = λ _. refl };
+    canonical = record {
+      batch = λ _. refl;
+      in_test = record { commit = λ e. absurd (omega (arith, e)); query = λ _. refl };
+    };
     passes = refl;
     openings = record {
       inputs_open = (

@@ -21,12 +21,13 @@ use Rattle.std.proofs.Common.{◌/◌, ◌-◌}
 use Rattle.std.proofs.lemmas.List.{length-map}
 use Rattle.std.proofs.lemmas.Slice.Zip.{AllZip-long}
 use Rattle.p3_fri_relation.proofs.QueryLinks.{chain-index, chain-log_height}
-use Rattle.p3_fri_relation.specs.Queries.{inputs_of, first_link}
+use Rattle.p3_fri_relation.specs.Queries.{first_link}
 use Rattle.algebra.specs.Rounds.{Round, Link, chain, chain_rows}
 use Rattle.p3_fri_relation.specs.FoldedQuery.{QueryInput, HaveRows, AreMet, reaches}
 use Rattle.p3_fri_relation.specs.FoldedQuery.{value_at, folded, AreInputsMet, IsInOrder, folded_value}
 use Rattle.p3_fri_relation.specs.FoldedQuery.{group_indices, group_rows, siblings_of_query, start}
-use Rattle.p3_fri_relation.specs.Acceptance.{IsInRange, HasSiblings, top_height, log_arities}
+use Rattle.p3_fri_relation.specs.TestRounds.{HasSiblings}
+use Rattle.p3_fri_relation.specs.Acceptance.{IsInRange, top_height, log_arities, source}
 use Rattle.p3_fri_relation.proofs.ClaimedHeights.{has_height-bound}
 use Rattle.p3_fri_relation.proofs.Instances.{instance_heights, instance_sum, instance_range}
 use Rattle.p3_fri_relation.proofs.Instances.{instance_met, further_heights}
@@ -131,7 +132,7 @@ module _ {F E C Com Path InCom InPath : Type 0} (s : Setting F E C Com Path InCo
   query_rounds = rounds_of (log_arities p claims) betas
 
   abbrev met : ℕ → Option E
-  met = inputs_of s p alpha (top_height p claims) claims proof query_rounds j position
+  met = (source s p claims proof alpha).met j position
 
   -- it meets the query's quotient sums
   query-values : value_at query_of.inputs ≡ met
@@ -145,7 +146,7 @@ module _ {F E C Com Path InCom InPath : Type 0} (s : Setting F E C Com Path InCo
 
   module _ (two_adicity : ℕ) (ranged : IsInRange p claims two_adicity) where
     -- it begins with that of the greatest log height
-    query-start : start query_of s.fields.ext s.fold ≡ first_link s p alpha (top_height p claims) claims proof query_rounds j position
+    query-start : start query_of s.fields.ext s.fold ≡ first_link s p (top_height p claims) (source s p claims proof alpha) proof query_rounds j position
     query-start = ap (λ heights. record {
       index = position;
       log_height = top_height p claims;
@@ -171,7 +172,7 @@ module _ {F E C Com Path InCom InPath : Type 0} (s : Setting F E C Com Path InCo
       }
 
       -- its value is that of the query's last link
-      pub query-folded_value : folded_value query_of s.fields.ext s.fold ≡ (last_link s p alpha (top_height p claims) claims proof query_rounds j position).value
+      pub query-folded_value : folded_value query_of s.fields.ext s.fold ≡ (last_link s p (top_height p claims) (source s p claims proof alpha) proof query_rounds j position).value
       query-folded_value =
           ap (λ values. (chain s.fields.ext s.fold values (rounds_of (folded query_of) betas) (siblings_of_query query_of s.fields.ext s.fold) (start query_of s.fields.ext s.fold)).value) query-values
           ∙ ap (λ arities. (chain s.fields.ext s.fold met (rounds_of arities betas) (siblings_of_query query_of s.fields.ext s.fold) (start query_of s.fields.ext s.fold)).value) (query-folded counts drawn)
@@ -179,7 +180,7 @@ module _ {F E C Com Path InCom InPath : Type 0} (s : Setting F E C Com Path InCo
           ∙ ap (λ link. (chain s.fields.ext s.fold met query_rounds (siblings_at j proof.rounds) link).value) query-start
 
       -- its rows are those that the query folds
-      pub query-group_rows : group_rows query_of s.fields.ext s.fold ≡ rows_folded s p alpha (top_height p claims) claims proof query_rounds j position
+      pub query-group_rows : group_rows query_of s.fields.ext s.fold ≡ rows_folded s p (top_height p claims) (source s p claims proof alpha) proof query_rounds j position
       query-group_rows =
           ap (λ values. chain_rows s.fields.ext s.fold values (rounds_of (folded query_of) betas) (siblings_of_query query_of s.fields.ext s.fold) (start query_of s.fields.ext s.fold)) query-values
           ∙ ap (λ arities. chain_rows s.fields.ext s.fold met (rounds_of arities betas) (siblings_of_query query_of s.fields.ext s.fold) (start query_of s.fields.ext s.fold)) (query-folded counts drawn)
@@ -227,19 +228,19 @@ module _ {F E C Com Path InCom InPath : Type 0} (s : Setting F E C Com Path InCo
     (alpha : E) (betas : List E) (j position two_adicity : ℕ) (ranged : IsInRange p claims two_adicity)
     (counts : AllZip (HasSiblings p.num_queries) (log_arities p claims) proof.rounds) (drawn : length betas ≡ length (log_arities p claims)) where
   abbrev last : Link E
-  last = last_link s p alpha (top_height p claims) claims proof (rounds_of (log_arities p claims) betas) j position
+  last = last_link s p (top_height p claims) (source s p claims proof alpha) proof (rounds_of (log_arities p claims) betas) j position
 
   opened_each : length (siblings_at j proof.rounds) ≡ length (log_arities p claims)
   opened_each = length-map proof.rounds (λ r. get_or r.siblings j []) ∙ AllZip-long (HasSiblings p.num_queries) (log_arities p claims) proof.rounds counts
 
   pub last-index : last.index ≡ position / 2 ^ sum (log_arities p claims)
-  last-index = chain-index s.fields.ext s.fold (inputs_of s p alpha (top_height p claims) claims proof (rounds_of (log_arities p claims) betas) j position)
-      (log_arities p claims) betas (siblings_at j proof.rounds) (first_link s p alpha (top_height p claims) claims proof (rounds_of (log_arities p claims) betas) j position) drawn opened_each
+  last-index = chain-index s.fields.ext s.fold ((source s p claims proof alpha).met j position)
+      (log_arities p claims) betas (siblings_at j proof.rounds) (first_link s p (top_height p claims) (source s p claims proof alpha) proof (rounds_of (log_arities p claims) betas) j position) drawn opened_each
 
   pub last-log_height : last.log_height ≡ final_height p
   last-log_height =
-      chain-log_height s.fields.ext s.fold (inputs_of s p alpha (top_height p claims) claims proof (rounds_of (log_arities p claims) betas) j position)
-      (log_arities p claims) betas (siblings_at j proof.rounds) (first_link s p alpha (top_height p claims) claims proof (rounds_of (log_arities p claims) betas) j position) drawn opened_each
+      chain-log_height s.fields.ext s.fold ((source s p claims proof alpha).met j position)
+      (log_arities p claims) betas (siblings_at j proof.rounds) (first_link s p (top_height p claims) (source s p claims proof alpha) proof (rounds_of (log_arities p claims) betas) j position) drawn opened_each
       ∙ (let whole = instance_sum p claims two_adicity ranged in omega arith)
 
   -- at an index of the word of the final log height

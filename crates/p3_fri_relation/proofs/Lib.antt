@@ -3,9 +3,9 @@ mod Example
 pub mod InstanceQueries
 pub mod Instances
 pub mod LowHeights
-pub mod Openings
 pub mod QueryLinks
 pub mod ScheduledRounds
+pub mod Sources
 pub mod TestReplays
 pub mod WholeReplays
 pub mod ZippedLists

@@ -26,10 +26,9 @@ use Rattle.p3_fri_relation.specs.Setting.{final_height}
 use Rattle.p3_fri_relation.specs.Heights.{matrices_of, width, log_height, has_height, heights_of}
 use Rattle.p3_fri_relation.specs.QuotientSums.{point_read, IsDefinedAt}
 use Rattle.p3_fri_relation.specs.Inputs.{OpensInput, sum_at}
-use Rattle.p3_fri_relation.specs.Queries.{final_value}
 use Rattle.p3_fri_relation.specs.FoldedQuery.{QueryInput, folded, last_height, reaches}
-use Rattle.p3_fri_relation.specs.Acceptance.{top_height, log_arities, positions, last_of_query}
-use Rattle.p3_fri_relation.specs.Acceptance.{OpensRound, rounds_replayed, queries_replayed}
+use Rattle.p3_fri_relation.specs.Acceptance.{top_height, log_arities, positions, OpensRound}
+use Rattle.p3_fri_relation.specs.Acceptance.{QueryEnds, rounds_replayed, queries_replayed}
 use Rattle.p3_fri_relation.specs.Acceptance.{test_replay, batch_replayed}
 
 -- the `i`-th element is there, and `P` holds of it
@@ -177,9 +176,8 @@ module _ {F E C Com Path InCom InPath : Type 0} (s : Setting F E C Com Path InCo
     abbrev pub EndsElsewhere :
         (alpha : E) (betas : List E) (positions : List ℕ) (j : ℕ) → Type 0
     EndsElsewhere alpha betas positions j =
-        let last = last_of_query s p claims proof alpha betas positions j in
         IsDefinedAt s.fields p.log_blowup (top_height p claims) claims (slice_index positions j)
-        × (last.value ≢ final_value s p proof last)
+        × (¬ QueryEnds s p claims proof alpha betas positions j)
 
 module _ {A B F E C Com Path InCom InPath : Type 0} (s : Setting F E C Com Path InCom InPath)
     (p : Parameters) (claims : List (CommitmentClaim E InCom)) (proof : Proof F E Com Path InPath)

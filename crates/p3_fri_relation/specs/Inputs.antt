@@ -7,6 +7,7 @@ use Rattle.p3_fri_relation.specs.Setting.{InputOpening}
 use Rattle.p3_fri_relation.specs.Heights.{matrices_of, width, dimensions, has_height, opened_index}
 use Rattle.p3_fri_relation.specs.Heights.{heights_of}
 use Rattle.p3_fri_relation.specs.QuotientSums.{quotient_sum, input_at, IsDefinedAt}
+use Rattle.p3_fri_relation.specs.Queries.{Source}
 
 -- some point is claimed, and as many values at each as at the first
 pub record HasPoints {E : Type 0} (m : MatrixClaim E) : Type 0 where
@@ -35,6 +36,10 @@ module _ {F E InCom InPath : Type 0} (f : Fields F E) (log_blowup : ℕ) (alpha 
   -- the same, if some matrix has the log height
   abbrev pub input_met : (j position h : ℕ) → Option E
   input_met j position h = input_at f log_blowup alpha top claims (rows_at j inputs) position h
+
+  -- the queries' source: each begins with the quotient sum of the greatest log height
+  abbrev pub sums_met : Source E
+  sums_met = record { met = input_met; first = λ j position. sum_at j position top }
 
   -- all of them, with their log heights, which fall
   abbrev pub sums_at : (j position : ℕ) → List (ℕ × E)

@@ -2,9 +2,10 @@ pub mod Setting
 pub mod Heights
 pub mod TallEnough
 pub mod QuotientSums
-pub mod Inputs
 pub mod Queries
+pub mod Inputs
 pub mod FoldedQuery
+pub mod TestRounds
 pub mod Acceptance
 pub mod Views
 pub mod Failures

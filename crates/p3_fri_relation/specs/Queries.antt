@@ -1,11 +1,9 @@
--- A query's way: from the quotient sum at its position, round by round, to the final polynomial.
+-- A query's way: from an entry at its position, round by round, to the final polynomial.
 use Rattle.std.specs.Prelude.{◌≡◌, ℕ, ◌-◌, ◌/◌, ◌^◌, List, [], ◌∷◌, map, slice_index_or, Option}
 use Rattle.algebra.specs.Polynomial.{val}
 use Rattle.algebra.specs.TwoAdic.{pt}
 use Rattle.algebra.specs.Rounds.{Round, Link, chain, chain_rows}
-use Rattle.p3_fri_relation.specs.Setting.{Setting, Parameters, Proof, RoundOpening}
-use Rattle.p3_fri_relation.specs.Setting.{CommitmentClaim, final_height}
-use Rattle.p3_fri_relation.specs.Inputs.{sum_at, input_met, HasSums}
+use Rattle.p3_fri_relation.specs.Setting.{Setting, Parameters, Proof, RoundOpening, final_height}
 
 -- a round for each log arity and the challenge beside it
 abbrev pub rounds_of : {E : Type 0} → (log_arities : List ℕ) (betas : List E) → List (Round E)
@@ -34,31 +32,28 @@ abbrev pub final_value : {F E C Com Path InCom InPath : Type 0}
 final_value s p proof link = val s.fields.ext proof.final_poly
     (s.fields.lift (pt s.fields.base s.fields.root link.index (final_height p)))
 
--- the `j`-th query, at its position
-module _ {F E C Com Path InCom InPath : Type 0} (s : Setting F E C Com Path InCom InPath)
-    (p : Parameters) (alpha : E) (top : ℕ) (claims : List (CommitmentClaim E InCom))
-    (proof : Proof F E Com Path InPath) (rounds : List (Round E)) (j position : ℕ) where
-  abbrev pub inputs_of : ℕ → Option E
-  inputs_of h = input_met s.fields p.log_blowup alpha top claims proof.inputs j position h
+-- what queries meet: at the position of the `j`-th the entry of each log height that has one, and
+-- that of the greatest, with which it begins
+pub record Source (E : Type 0) : Type 0 where
+  pub met : (j position h : ℕ) → Option E
+  pub first : (j position : ℕ) → E
 
-  -- the chain begins with the quotient sum of the greatest log height
+-- the `j`-th query, at its position of log height `top`
+module _ {F E C Com Path InCom InPath : Type 0} (s : Setting F E C Com Path InCom InPath)
+    (p : Parameters) (top : ℕ) (source : Source E) (proof : Proof F E Com Path InPath)
+    (rounds : List (Round E)) (j position : ℕ) where
   abbrev pub first_link : Link E
-  first_link = record {
-    index = position;
-    log_height = top;
-    value = sum_at s.fields p.log_blowup alpha top claims proof.inputs j position top;
-  }
+  first_link = record { index = position; log_height = top; value = source.first j position }
 
   abbrev pub last_link : Link E
-  last_link =
-      chain s.fields.ext s.fold inputs_of rounds (siblings_at j proof.rounds) first_link
+  last_link = chain s.fields.ext s.fold (source.met j position) rounds
+      (siblings_at j proof.rounds) first_link
 
   -- the rows that it folds, round by round
   abbrev pub rows_folded : List (List E)
-  rows_folded =
-      chain_rows s.fields.ext s.fold inputs_of rounds (siblings_at j proof.rounds) first_link
+  rows_folded = chain_rows s.fields.ext s.fold (source.met j position) rounds
+      (siblings_at j proof.rounds) first_link
 
-  -- the quotient sums are in order, and the chain ends at the final polynomial's value
-  pub record QueryHolds : Type 0 where
-    pub sums : HasSums s.fields p.log_blowup alpha top claims proof.inputs j position
-    pub ends : last_link.value ≡ final_value s p proof last_link
+  -- its chain ends at the final polynomial's value
+  abbrev pub EndsAtFinalValue : Type 0
+  EndsAtFinalValue = last_link.value ≡ final_value s p proof last_link

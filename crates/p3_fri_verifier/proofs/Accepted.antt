@@ -8,7 +8,7 @@ use Rattle.p3_fri_transcript.specs.Replay.{FriReplay, fri_replay}
 use Rattle.p3_fri_relation.specs.declared.error.FriError.{FriError}
 use Rattle.p3_fri_relation.specs.declared.error.FriError.TheVariants.{InvalidPowWitness, NonCanonicalPowWitness, OutOfMemory}
 use Rattle.p3_fri_relation.specs.Setting.{Setting, Parameters, CommitmentClaim, Proof}
-use Rattle.p3_fri_relation.specs.Acceptance.{FriAccepts, HasCounts, AreOpeningsGood, test_replay, positions, fri_numbers, top_height, log_arities}
+use Rattle.p3_fri_relation.specs.Acceptance.{FriAccepts, AreOpeningsGood, test_replay, positions, fri_numbers, top_height, log_arities}
 use Rattle.p3_fri_relation.specs.Faults.{Stands, OpeningsFault, WorkFault, InstanceFault, CountFault, IsNotCanonical}
 use Rattle.p3_fri_relation.proofs.TestReplays.{positions-below}
 use Rattle.p3_fri_verifier.specs.Openings.{AreOpened}

@@ -4,14 +4,16 @@ use Rattle.std.proofs.Common.{List, [], ◌∷◌, length, map, get_or, refl, sy
 use Rattle.std.specs.Prelude.{All, EachIndex, SomeIndex, slice_index, slice_index_or, sum}
 use Rattle.std.specs.List.{AllZip, Any, zip, range_with_len}
 use Rattle.algebra.specs.Polynomial.{val, tabulate}
+use Rattle.algebra.specs.Rounds.{Link}
 use Rattle.algebra.specs.TwoAdic.{pt}
 use Rattle.algebra.proofs.Lists.{get_or-tabulate, tabulate-equal}
 use Rattle.p3_fri_relation.specs.declared.proof.CommitPhaseMultiStep.{CommitPhaseMultiStep}
 use Rattle.p3_fri_relation.specs.Setting.{Setting, Parameters, CommitmentClaim, Proof, RoundOpening, InputOpening, final_height}
 use Rattle.p3_fri_relation.specs.Inputs.{AreInputsGood, sums_at}
-use Rattle.p3_fri_relation.specs.Queries.{rounds_of, row_indices, heights_after, siblings_at, final_value, first_link, inputs_of}
+use Rattle.p3_fri_relation.specs.Queries.{rounds_of, row_indices, heights_after, siblings_at, first_link, last_link, final_value}
 use Rattle.p3_fri_relation.specs.FoldedQuery.{QueryInput, IsInOrder, folded_value, group_rows}
-use Rattle.p3_fri_relation.specs.Acceptance.{IsInRange, HasSiblings, top_height, log_arities, OpensRound, RoundsOpen, row_folded, last_of_query}
+use Rattle.p3_fri_relation.specs.TestRounds.{HasSiblings, row_folded}
+use Rattle.p3_fri_relation.specs.Acceptance.{IsInRange, top_height, log_arities, source, OpensRound, RoundsOpen, QueryEnds}
 use Rattle.p3_fri_relation.specs.Views.{rounds_opened, siblings_opened}
 use Rattle.p3_fri_relation.specs.declared.error.FriError.{FriError}
 use Rattle.p3_fri_relation.specs.declared.error.FriError.TheVariants.{OutOfMemory, FinalPolyMismatch, CommitPhaseMmcsError}
@@ -42,14 +44,8 @@ module _ {F E C Com Path InCom InPath : Type 0} (s : Setting F E C Com Path InCo
     sums = λ j l. (o.good.queries_hold j l).sums;
   }
 
-  -- query `j` ends at the final polynomial
-  abbrev pub Ends : (j : ℕ) → Type 0
-  Ends j =
-      let last = last_of_query s p claims proof alpha betas positions j in
-      last.value ≡ final_value s p proof last
-
   pub opened_from : AreInputsGood s.fields p.log_blowup alpha (top_height p claims) claims proof.inputs s.opens_input positions
-      → EachIndex positions Ends → RoundsOpen s p claims proof alpha betas positions
+      → EachIndex positions (QueryEnds s p claims proof alpha betas positions) → RoundsOpen s p claims proof alpha betas positions
       → AreOpened s p claims proof alpha betas positions
   opened_from i ends rounds = record {
     points = i.points;
@@ -63,13 +59,16 @@ module _ {F E C Com Path InCom InPath : Type 0} (s : Setting F E C Com Path InCo
 
   module _ (counts : AllZip (HasSiblings p.num_queries) (log_arities p claims) proof.rounds)
       (drawn : length betas ≡ length (log_arities p claims)) where
-    -- the last index of query `j`
-    last_index : (j : ℕ) → (last_of_query s p claims proof alpha betas positions j).index
+    -- the last link of query `j`, and its index
+    abbrev last : (j : ℕ) → Link E
+    last j = last_link s p (top_height p claims) (source s p claims proof alpha) proof (rounds_of (log_arities p claims) betas) j (slice_index positions j)
+
+    last_index : (j : ℕ) → (last j).index
         ≡ slice_index positions j / 2 ^ sum (log_arities p claims)
     last_index j = chain-index s.fields.ext s.fold
-        (inputs_of s p alpha (top_height p claims) claims proof (rounds_of (log_arities p claims) betas) j (slice_index positions j))
+        ((source s p claims proof alpha).met j (slice_index positions j))
         (log_arities p claims) betas (siblings_at j proof.rounds)
-        (first_link s p alpha (top_height p claims) claims proof (rounds_of (log_arities p claims) betas) j (slice_index positions j))
+        (first_link s p (top_height p claims) (source s p claims proof alpha) proof (rounds_of (log_arities p claims) betas) j (slice_index positions j))
         drawn (length_siblings j proof.rounds ∙ AllZip-long (HasSiblings p.num_queries) (log_arities p claims) proof.rounds counts)
 
     module _ (two_adicity : ℕ) (ranged : IsInRange p claims two_adicity) where
@@ -79,19 +78,19 @@ module _ {F E C Com Path InCom InPath : Type 0} (s : Setting F E C Com Path InCo
           ≡ val s.fields.ext proof.final_poly (s.fields.lift (pt s.fields.base s.fields.root
           (slice_index positions j / 2 ^ sum (log_arities p claims)) (final_height p)))
 
-      final_same : (j : ℕ) → final_value s p proof (last_of_query s p claims proof alpha betas positions j)
+      final_same : (j : ℕ) → final_value s p proof (last j)
           ≡ val s.fields.ext proof.final_poly (s.fields.lift (pt s.fields.base s.fields.root
           (slice_index positions j / 2 ^ sum (log_arities p claims)) (final_height p)))
       final_same j = ap (λ i. val s.fields.ext proof.final_poly (s.fields.lift (pt s.fields.base s.fields.root i (final_height p)))) (last_index j)
 
       value_same : (j : ℕ) → folded_value (query_of s p claims proof alpha betas j (slice_index positions j)) s.fields.ext s.fold
-          ≡ (last_of_query s p claims proof alpha betas positions j).value
+          ≡ (last j).value
       value_same j = query-folded_value s p claims proof alpha betas j (slice_index positions j) two_adicity ranged counts drawn
 
-      pub ends_from : (j : ℕ) → EndsFolded j → Ends j
+      pub ends_from : (j : ℕ) → EndsFolded j → QueryEnds s p claims proof alpha betas positions j
       ends_from j h = sym (value_same j) ∙ h ∙ sym (final_same j)
 
-      pub ends_folded : (j : ℕ) → Ends j → EndsFolded j
+      pub ends_folded : (j : ℕ) → QueryEnds s p claims proof alpha betas positions j → EndsFolded j
       ends_folded j h = value_same j ∙ h ∙ final_same j
 
 -- the query that the code folds, of what it is given, is that query of the proof
@@ -174,15 +173,18 @@ module _ {F E C Com Path InCom InPath M Data Err : Type 0} (s : Setting F E C Co
     indices_at k l = ap (λ t. get_or t k []) indices_are ∙ get_or-tabulate (length arities) _ k [] l
         ∙ ap (λ la. map (λ q. slice_index (row_indices la q) k) positions) scheduled
 
+    abbrev row_of : (j k : ℕ) → List E
+    row_of = row_folded s p (log_arities p claims) (top_height p claims) proof (source s p claims proof alpha) betas positions
+
     rows_at : (k : ℕ) → k < length arities → slice_index_or rows k []
-        ≡ tabulate p.num_queries (λ j. row_folded s p claims proof alpha betas positions j k ∷ [])
+        ≡ tabulate p.num_queries (λ j. row_of j k ∷ [])
     rows_at k l = ap (λ t. get_or t k []) rows_are ∙ get_or-tabulate (length arities) _ k [] l
-        ∙ tabulate-equal (length positions) _ (λ j. row_folded s p claims proof alpha betas positions j k ∷ [])
+        ∙ tabulate-equal (length positions) _ (λ j. row_of j k ∷ [])
         (λ j m. ap (λ row. row ∷ []) (ap (λ rs. slice_index_or rs k [])
         (ap (λ q. group_rows q s.fields.ext s.fold)
         (query_same s p claims proof alpha betas positions arities openings reduced top scheduled opened tallest j (sums j m))
         ∙ query-group_rows s p claims proof alpha betas j (slice_index positions j) two_adicity ranged counts drawn)))
-        ∙ ap (λ n. tabulate n (λ j. row_folded s p claims proof alpha betas positions j k ∷ [])) queries
+        ∙ ap (λ n. tabulate n (λ j. row_of j k ∷ [])) queries
 
     -- what is asked of a round's opening
     abbrev asked : (k : ℕ) (commitment : Com) (r : RoundOpening E Path) (la : List ℕ) (h : ℕ) (is : List ℕ) (rs : List (List (List E))) → Type 0
@@ -231,7 +233,7 @@ module _ {F E C Com Path InCom InPath : Type 0} (s : Setting F E C Com Path InCo
       (inputs_good s p claims proof alpha betas positions o))
 
   pub opened_at : AreInputsGood s.fields p.log_blowup alpha top claims inputs s.opens_input positions
-      → EachIndex positions (Ends s p claims proof alpha betas positions) → RoundsOpen s p claims proof alpha betas positions
+      → EachIndex positions (QueryEnds s p claims proof alpha betas positions) → RoundsOpen s p claims proof alpha betas positions
       → AreOpened s p claims proof alpha betas positions
   opened_at i = opened_from s p claims proof alpha betas positions
       (subst (λ t. Good t proof.inputs) tallest (subst (λ x. Good top x) inputs_are i))
@@ -270,7 +272,7 @@ module _ {F E C Com Path InCom InPath : Type 0} (s : Setting F E C Com Path InCo
       Folds j q la poly = folded_value q s.fields.ext s.fold ≡ val s.fields.ext poly
           (s.fields.lift (pt s.fields.base s.fields.root (slice_index positions j / 2 ^ sum la) (final_height p)))
 
-      pub ends_at : (j : ℕ) → j < length positions → Ends s p claims proof alpha betas positions j
+      pub ends_at : (j : ℕ) → j < length positions → QueryEnds s p claims proof alpha betas positions j
           → EndsAtFinal s.fields s.fold final_poly (query_at positions betas arities openings reduced top (final_height p) j)
       ends_at j l h = subst (λ q. Folds j q arities final_poly) (sym (same j l))
           (subst (λ la. Folds j (query_of s p claims proof alpha betas j (slice_index positions j)) la final_poly) (sym scheduled)
@@ -279,7 +281,7 @@ module _ {F E C Com Path InCom InPath : Type 0} (s : Setting F E C Com Path InCo
 
       pub ends_of : (j : ℕ) → j < length positions
           → EndsAtFinal s.fields s.fold final_poly (query_at positions betas arities openings reduced top (final_height p) j)
-          → Ends s p claims proof alpha betas positions j
+          → QueryEnds s p claims proof alpha betas positions j
       ends_of j l h = ends_from s p claims proof alpha betas positions counts drawn two_adicity ranged j
           (subst (λ x. Folds j (query_of s p claims proof alpha betas j (slice_index positions j)) (log_arities p claims) x) final_is
           (subst (λ la. Folds j (query_of s p claims proof alpha betas j (slice_index positions j)) la final_poly) scheduled

@@ -5,7 +5,8 @@ use Rattle.p3_fri_relation.specs.declared.error.FriError.{FriError}
 use Rattle.p3_fri_relation.specs.declared.error.FriError.TheVariants.{NonCanonicalPowWitness}
 use Rattle.p3_fri_relation.specs.declared.error.FriError.TheVariants.{OutOfMemory}
 use Rattle.p3_fri_relation.specs.Setting.{Parameters, CommitmentClaim, Proof}
-use Rattle.p3_fri_relation.specs.Acceptance.{IsInRange, HasCounts, AreCanonical, log_arities}
+use Rattle.p3_fri_relation.specs.TestRounds.{HasCounts}
+use Rattle.p3_fri_relation.specs.Acceptance.{IsInRange, AreCanonical, log_arities}
 use Rattle.p3_fri_relation.specs.Faults.{InstanceFault, CountFault, IsNotCanonical}
 
 module _ {F E Com Path InCom InPath : Type 0} (p : Parameters)

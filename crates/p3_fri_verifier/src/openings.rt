@@ -3,7 +3,8 @@
 ghost use Rattle.std.specs.Prelude.{◌≡◌, ◌≢◌, ◌+◌, ◌^◌, ◌<◌, ◌≤◌, ◌↔◌, ◌⊎◌, All, length};
 ghost use Rattle.std.specs.Prelude.{Err, IsOk, IfErr};
 ghost use Rattle.p3_fri_relation.specs.declared.error.FriError.TheVariants.{OutOfMemory};
-ghost use Rattle.p3_fri_relation.specs.Acceptance.{IsInRange, HasCounts, top_height};
+ghost use Rattle.p3_fri_relation.specs.TestRounds.{HasCounts};
+ghost use Rattle.p3_fri_relation.specs.Acceptance.{IsInRange, top_height};
 ghost use Rattle.p3_fri_relation.specs.Acceptance.{log_arities as scheduled};
 ghost use Rattle.p3_fri_relation.specs.Faults.{OpeningsFault};
 ghost use Rattle.p3_fri_relation.specs.Views.{parameters_of, claims_of, proof_of};

@@ -9,7 +9,7 @@ returns-then-not-are_canonical-clause-exact g c =
     let witnesses = c.as_slice-witnesses.ensures.value in (
       (λ e. cc),
       (λ h. sym c.if-not-are_canonical.true
-          ∙ c.are_canonical.ensures.exact.1 (λ none. All-same (λ w. w ≡ g.F.Field.ops.zero) _ _ witnesses (h.commit none))),
+          ∙ c.are_canonical.ensures.exact.1 (λ none. All-same (λ w. w ≡ g.F.Field.ops.zero) _ _ witnesses (h.in_test.commit none))),
     )
 
 pub returns-then-not-are_canonical-clause-refusal : goal.returns-then-not-are_canonical-clause-refusal
@@ -21,9 +21,11 @@ pub returns-clause-exact : goal.returns-clause-exact
 returns-clause-exact g c = (
   (λ _. record {
     batch = c.is_canonical.ensures.exact.0 c.if-not-is_canonical.false;
-    commit = λ none. All-same (λ w. w ≡ g.F.Field.ops.zero) _ _ (sym c.as_slice-witnesses.ensures.value)
-        (c.are_canonical.ensures.exact.0 c.if-not-are_canonical.false none);
-    query = c.is_canonical-2.ensures.exact.0 c.if-not-is_canonical-2.false;
+    in_test = record {
+      commit = λ none. All-same (λ w. w ≡ g.F.Field.ops.zero) _ _ (sym c.as_slice-witnesses.ensures.value)
+          (c.are_canonical.ensures.exact.0 c.if-not-are_canonical.false none);
+      query = c.is_canonical-2.ensures.exact.0 c.if-not-is_canonical-2.false;
+    };
   }),
   (λ _. refl),
 )

@@ -2,7 +2,7 @@ use Rattle.std.proofs.Common.{◌∙◌, ◌<◌, arith, length, get_or, refl}
 use Rattle.std.proofs.lemmas.List.{length-map}
 use Rattle.std.proofs.lemmas.Option.{slice_get_within}
 use Rattle.std.proofs.lemmas.Result.{err_from_is_err_and}
-use Rattle.p3_fri_relation.specs.Acceptance.{HasSiblings}
+use Rattle.p3_fri_relation.specs.TestRounds.{HasSiblings}
 use Rattle.p3_fri_relation.specs.Views.{round_opened, rounds_opened}
 use Rattle.p3_fri_instance.specs.Counts.{SiblingFault}
 use Rattle.p3_fri_instance.proofs.Lists.{all_zip_from, all_zip_at, one_more, get_at}

@@ -1,4 +1,4 @@
-use Rattle.p3_fri_relation.specs.Acceptance.{HasSiblings}
+use Rattle.p3_fri_relation.specs.TestRounds.{HasSiblings}
 use Rattle.p3_fri_relation.specs.Views.{rounds_opened}
 use Rattle.p3_fri_instance.proofs.Lists.{AreBefore}
 use Rattle.p3_fri_instance.proofs.siblings.check_siblings.Given as goal

@@ -1,6 +1,6 @@
 use Rattle.std.proofs.Common.{◌∙◌, sym, ap, arith, subst, length, Err, refl}
 use Rattle.std.specs.List.{AllZip}
-use Rattle.p3_fri_relation.specs.Acceptance.{HasSiblings}
+use Rattle.p3_fri_relation.specs.TestRounds.{HasSiblings}
 use Rattle.std.specs.Prelude.{sum}
 use Rattle.std.proofs.lemmas.List.{length-map}
 use Rattle.std.proofs.lemmas.Slice.Zip.{AllZip-long}

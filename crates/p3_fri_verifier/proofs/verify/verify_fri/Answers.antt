@@ -1,6 +1,7 @@
 use Rattle.std.proofs.Common.{◌≡◌, ◌≢◌, ℕ, ◌<◌, ◌+◌, ◌/◌, ◌^◌, ◌∙◌, sym, ap, arith, subst, inl, inr, length, Err, refl, List, map}
 use Rattle.p3_fri_relation.specs.Views.{claims_of, parameters_of, proof_of}
-use Rattle.p3_fri_relation.specs.Acceptance.{IsInRange, HasCounts, log_arities, top_height, fri_numbers}
+use Rattle.p3_fri_relation.specs.TestRounds.{HasCounts}
+use Rattle.p3_fri_relation.specs.Acceptance.{IsInRange, log_arities, top_height, fri_numbers}
 use Rattle.p3_fri_relation.proofs.Instances.{instance_top}
 use Rattle.p3_fri_transcript.specs.Shapes.{fri_shape}
 use Rattle.p3_fri_verifier.proofs.Replays.{false_true, same_err, ok_err, refused_as}
