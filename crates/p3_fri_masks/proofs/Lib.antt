@@ -1,0 +1,5 @@
+pub mod RowHalves
+pub mod Masks
+pub mod KeptRows
+pub mod KeptValues
+pub mod Batches

@@ -1,0 +1,10 @@
+pub mod Budget
+pub mod Halves
+pub mod Masked
+pub mod Padded
+pub mod KeptRows
+pub mod KeptValues
+pub use Rattle.p3_dft.specs.Evaluations
+pub use Rattle.p3_field_core.specs.Coset
+pub use Rattle.p3_matrix.specs.Matrix
+pub use Rattle.p3_matrix.specs.Words
