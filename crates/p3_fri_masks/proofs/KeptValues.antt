@@ -1,21 +1,18 @@
 -- The values that polynomials of masked and padded columns have of the columns themselves.
-use Rattle.std.proofs.Common.{◌≡◌, ℕ, zero, suc, ◌+◌, ◌*◌, ◌^◌, ◌<◌, List, [], ◌++◌, sym, ap, ◌∙◌, arith}
-use Rattle.std.proofs.Common.{length, get_or, map, replicate}
+use Rattle.std.proofs.Common.{◌≡◌, ℕ, suc, ◌+◌, ◌*◌, ◌^◌, ◌<◌, List, [], sym, ap, ◌∙◌, arith}
+use Rattle.std.proofs.Common.{length, get_or, replicate}
 use Rattle.std.proofs.lemmas.List.{get_or-map, get_or_append_left, get_or-replicate, length-replicate, length-map}
-use Rattle.rand_core.specs.Stream.{Stream}
 use Rattle.algebra.specs.Field.{FieldOps, IsField, pow}
-use Rattle.algebra.specs.Polynomial.{val, tabulate}
+use Rattle.algebra.specs.Polynomial.{val}
 use Rattle.algebra.specs.TwoAdic.{AreRoots}
-use Rattle.algebra.proofs.Lists.{map-tabulate, get_or-tabulate, tabulate-equal, tabulate-get_or, length-tabulate}
+use Rattle.algebra.proofs.Lists.{map-tabulate, get_or-tabulate, tabulate-equal, tabulate-get_or}
 use Rattle.algebra.proofs.Powers.{double, pow-square}
-use Rattle.p3_field_core.specs.Coset.{coset_point, coset_points}
+use Rattle.p3_field_core.specs.Coset.{coset_point}
 use Rattle.p3_matrix.specs.declared.dense.RowMajorMatrix.{RowMajorMatrix}
 use Rattle.p3_matrix.specs.Matrix.{rows, matrix_width}
 use Rattle.p3_matrix.specs.Words.{past, randoms}
 use Rattle.p3_matrix.proofs.Widths.{row_width}
 use Rattle.p3_dft.specs.Evaluations.{column}
-use Rattle.p3_fri_masks.specs.Masked.{IsMasked}
-use Rattle.p3_fri_masks.specs.Padded.{IsPadded}
 use Rattle.p3_fri_masks.specs.KeptValues.{HasValuesOn, IsHalved, MaskedColumnsKeepValues, PaddedColumnsKeepValues}
 use Rattle.p3_fri_masks.proofs.KeptRows.{masks_between, zeros_between}
 

@@ -1,6 +1,6 @@
 -- Wider rows, halved.
 use Rattle.std.proofs.Common.{◌≡◌, ℕ, zero, suc, ◌+◌, ◌*◌, ◌<◌, List, [], ◌∷◌, ◌++◌, refl, sym, ap, ap₂, ◌∙◌}
-use Rattle.std.proofs.Common.{length, get_or, take, drop, map, replicate, arith, append_assoc, length-append, zero-add, suc-add}
+use Rattle.std.proofs.Common.{length, get_or, take, drop, replicate, arith, append_assoc, length-append, zero-add, suc-add}
 use Rattle.std.proofs.lemmas.List.{take_at, drop_at}
 use Rattle.rand_core.specs.Stream.{Stream, next_u64}
 use Rattle.algebra.proofs.Lists.{Each}

@@ -1,8 +1,7 @@
 -- The rows of a list, each cut in the middle.
-use Rattle.std.proofs.Common.{◌≡◌, ℕ, zero, suc, ◌+◌, ◌*◌, ◌/◌, ◌%◌, ◌<◌, ◌≤◌, List, [], ◌∷◌, ◌++◌}
-use Rattle.std.proofs.Common.{length, take, drop, refl, sym, subst, ap, ap₂, ◌∙◌, arith, append_assoc, length-drop, length-append}
+use Rattle.std.proofs.Common.{◌≡◌, ℕ, zero, suc, ◌+◌, ◌*◌, ◌%◌, ◌<◌, ◌≤◌, List, [], ◌∷◌, ◌++◌}
+use Rattle.std.proofs.Common.{length, take, drop, refl, sym, subst, ap, ap₂, ◌∙◌, arith, append_assoc, length-drop}
 use Rattle.std.proofs.lemmas.List.{length-take-le, take-append-drop}
-use Rattle.std.proofs.lemmas.Nat.{div-add-mod'}
 use Rattle.algebra.specs.Nested.{joined}
 use Rattle.algebra.proofs.Lists.{Each}
 use Rattle.p3_matrix.specs.Rows.{rows_of}

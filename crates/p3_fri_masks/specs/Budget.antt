@@ -1,6 +1,5 @@
 -- How many masks hide what is opened.
 use Rattle.std.specs.Prelude.{◌≡◌, ◌<◌, ◌≤◌, ◌+◌, ◌*◌, ◌^◌, ℕ, max}
-use Rattle.p3_fri_pow.specs.declared.error.FriProverError.{FriProverError}
 use Rattle.p3_fri_masks.specs.declared.error.HidingFriProverError.{HidingFriProverError}
 use Rattle.p3_fri_masks.specs.declared.error.HidingFriProverError.TheVariants.{
   Fri,
