@@ -1,0 +1,148 @@
+//! The hiding budget, and how its refusals are printed.
+
+use p3_fri_masks::{HidingFriProverError, check_hiding_budget, lde_mask_height};
+use p3_fri_pow::FriProverError;
+use std::alloc::Global;
+use std::test::Fail;
+
+/// Numbers of random codewords and of queries, the extension's degree, the height of masks, and the
+/// number of opening points, with what is answered.
+type Case = ([usize; 5], Result<(), HidingFriProverError>);
+
+/// A budget that masks of 8 rows don't meet.
+const LOW: HidingFriProverError = HidingFriProverError::HidingBudgetExceeded {
+    mask_height: 8,
+    num_queries: 2,
+    num_opening_points: 1,
+    extension_degree: 4,
+};
+
+/// One that masks of 11 rows miss by one, though no point is asked for.
+const NO_POINTS: HidingFriProverError = HidingFriProverError::HidingBudgetExceeded {
+    mask_height: 11,
+    num_queries: 2,
+    num_opening_points: 0,
+    extension_degree: 4,
+};
+
+/// One that masks of 16 rows meet at a point, and not at two.
+const TWO_POINTS: HidingFriProverError = HidingFriProverError::HidingBudgetExceeded {
+    mask_height: 16,
+    num_queries: 2,
+    num_opening_points: 2,
+    extension_degree: 4,
+};
+
+/// Random codewords that are too few for an extension of degree 4.
+const FEW_CODEWORDS: HidingFriProverError = HidingFriProverError::InsufficientRandomCodewords {
+    required: 4,
+    got: 3,
+};
+
+const CASES: [Case; 13] = [
+    ([4, 2, 4, 8, 1], Err(LOW)),
+    ([4, 2, 4, 16, 1], Ok(())),
+    ([4, 2, 4, 16, 2], Err(TWO_POINTS)),
+    ([4, 2, 4, 32, 2], Ok(())),
+    ([4, 2, 4, 12, 1], Ok(())),
+    ([4, 2, 4, 12, 0], Ok(())),
+    ([4, 2, 4, 11, 0], Err(NO_POINTS)),
+    ([3, 2, 4, 16, 1], Err(FEW_CODEWORDS)),
+    ([3, usize::MAX, 4, 16, 1], Err(FEW_CODEWORDS)),
+    (
+        [4, usize::MAX, 4, 16, 1],
+        Err(HidingFriProverError::BudgetOverflow),
+    ),
+    // Twice `2^63 - 1` is a number of 64 bits, and twice `2^63` isn't.
+    ([4, 9_223_372_036_854_775_803, 4, usize::MAX, 1], Ok(())),
+    (
+        [4, 9_223_372_036_854_775_804, 4, usize::MAX, 1],
+        Err(HidingFriProverError::BudgetOverflow),
+    ),
+    (
+        [usize::MAX, 0, usize::MAX, usize::MAX, 2],
+        Err(HidingFriProverError::BudgetOverflow),
+    ),
+];
+
+/// The place of the first case that is answered otherwise.
+fn first_wrong() -> Option<usize> {
+    for (place, (numbers, answer)) in CASES.iter().enumerate() {
+        let [codewords, queries, degree, height, points] = *numbers;
+        if check_hiding_budget(codewords, queries, degree, height, points) != *answer {
+            return Some(place);
+        }
+    }
+    None
+}
+
+#[test]
+fn the_budget_is_met_or_refused(rt: HostRuntime) -> Result<(), Fail> {
+    assert!(rt; first_wrong().is_none());
+    Ok(())
+}
+
+/// Heights and log blowups of extensions, with the heights of their masks.
+const EXTENSIONS: [(usize, usize, usize); 7] = [
+    (64, 2, 8),
+    (64, 0, 32),
+    (2, 0, 1),
+    (1, 0, 0),
+    (64, 6, 0),
+    (usize::MAX, 63, 0),
+    (usize::MAX, 64, 0),
+];
+
+/// The place of the first extension whose masks have another height.
+fn first_wrong_height() -> Option<usize> {
+    for (place, (height, log_blowup, masks)) in EXTENSIONS.iter().enumerate() {
+        if lde_mask_height(*height, *log_blowup) != *masks {
+            return Some(place);
+        }
+    }
+    None
+}
+
+#[test]
+fn masks_are_half_as_high_as_the_matrix(rt: HostRuntime) -> Result<(), Fail> {
+    assert!(rt; first_wrong_height().is_none());
+    Ok(())
+}
+
+/// Refusals, and how they are printed.
+const TEXTS: [(HidingFriProverError, &str); 4] = [
+    (
+        HidingFriProverError::Fri(FriProverError::OutOfMemory),
+        "out of memory",
+    ),
+    (
+        FEW_CODEWORDS,
+        "3 random codewords are fewer than the 4 of the extension's degree",
+    ),
+    (
+        HidingFriProverError::BudgetOverflow,
+        "the height that the hiding budget asks for is past the greatest number",
+    ),
+    (
+        TWO_POINTS,
+        "masks of height 16 can't hide 2 queries and 2 opening points \
+         with an extension of degree 4",
+    ),
+];
+
+/// The first refusal that is printed in other words.
+fn first_wrong_text(alloc: Global) -> Result<Option<&'static str>, Fail> {
+    for (refusal, wanted) in TEXTS {
+        if format!(in alloc; "{refusal}")?.as_str() != wanted {
+            return Ok(Some(wanted));
+        }
+    }
+    Ok(None)
+}
+
+#[test]
+fn refusals_are_printed(rt: HostRuntime) -> Result<(), Fail> {
+    let wrong = first_wrong_text(rt.alloc())?;
+    assert!(rt; wrong.is_none(), "{wrong:?}");
+    Ok(())
+}

@@ -1,0 +1,7 @@
+//! Tests of `p3_fri_masks`.
+#![tactic(auto)]
+
+#[cfg(test)]
+mod budget;
+#[cfg(test)]
+mod masks;
