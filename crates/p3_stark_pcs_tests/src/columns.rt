@@ -1,12 +1,12 @@
 //! Columns of numbers, and whether matrices are such.
 
-ghost use Rattle.std.specs.Prelude.{All, IfOk};
+ghost use Rattle.std.specs.Prelude.{◌≡◌, All, map, IfOk};
 ghost use Rattle.p3_fri_commit.specs.Extension.{FitsDomain};
 
 use crate::scheme::Domain;
 use p3_field::{BabyBear, Field, TwoAdicMultiplicativeCoset};
 use p3_matrix::RowMajorMatrix;
-use std::alloc::Global;
+use std::alloc::{AllocError, Global};
 use std::test::Fail;
 
 /// The coset of this shift and of `2^log_size` points.
@@ -18,7 +18,7 @@ pub(crate) fn coset(shift: u64, log_size: usize) -> Result<Domain, Fail> {
 }
 
 /// One column on the coset of this shift.
-fn column(
+pub(crate) fn column(
     alloc: Global,
     shift: u64,
     numbers: &[u64],
@@ -49,6 +49,20 @@ pub(crate) fn columns(
         all.push(column(alloc, *shift, *numbers)?)?;
     }
     Ok(all)
+}
+
+/// The domains of matrices.
+pub(crate) fn domains_of(
+    alloc: Global,
+    evaluations: &[(Domain, RowMajorMatrix<BabyBear>)],
+) -> Result<Vec<Domain>, AllocError>
+    ensures { IfOk result (λ domains. domains.items ≡ map (λ e. e.0) evaluations.now) }
+{
+    let mut domains = Vec::with_capacity(alloc, evaluations.len())?;
+    for evaluation in evaluations {
+        domains.push(evaluation.0)?;
+    }
+    Ok(domains)
 }
 
 /// Whether the matrix is one column of these numbers.

@@ -4,6 +4,9 @@
 #[cfg(test)]
 mod columns;
 #[cfg(test)]
+mod evaluations;
+#[cfg(test)]
+mod headline;
 #[cfg(test)]
 mod opened;
 #[cfg(test)]
@@ -14,3 +17,7 @@ mod preprocessed;
 mod quotients;
 #[cfg(test)]
 mod scheme;
+#[cfg(test)]
+mod stark;
+#[cfg(test)]
+mod values;

@@ -8,18 +8,14 @@ use crate::columns::coset;
 use crate::preprocessed::commit_line;
 use crate::quotients::{WORD, commit_words};
 use crate::scheme::{Data, Domain, Inputs, Proof, Scheme, scheme};
+use crate::values::{MINUS_THREE, are_values, element};
 use p3_challenger::Sha256Challenger;
-use p3_field::{BabyBear, BabyBear4, ExtensionField, Field};
+use p3_field::BabyBear4;
 use p3_mmcs::{CommitmentOpening, Mmcs, OpenedValues};
 use p3_pcs::{KnownCommitment, OpeningRequest, claims_of};
 use p3_stark_pcs::UnivariateStarkPcs;
 use std::alloc::Global;
 use std::test::Fail;
-
-/// An element of the extension that is a number.
-fn constant(number: u64) -> BabyBear4 {
-    BabyBear4::from_base(BabyBear::from_u64(number))
-}
 
 /// What is known of a commitment to a column on two points.
 fn known_of(
@@ -53,7 +49,7 @@ fn open_at_five(
 ) -> Result<AtFive, Fail>
     requires { All (HasCoset 27) (matrices_of held.old) }
 {
-    let points = vec![in alloc; vec![in alloc; constant(5)]?]?;
+    let points = vec![in alloc; vec![in alloc; element([5, 0, 0, 0])]?]?;
     if Inputs::new().get_matrices(&*held).len() != 1 {
         return Err(Fail::new("not one matrix"));
     }
@@ -89,20 +85,6 @@ fn open_at_five(
     })
 }
 
-/// Whether the value alone is -3.
-fn is_minus_three(values: &OpenedValues<BabyBear4>) -> bool {
-    let [matrices] = values.as_slice() else {
-        return false;
-    };
-    let [points] = matrices.as_slice() else {
-        return false;
-    };
-    let [columns] = points.as_slice() else {
-        return false;
-    };
-    columns.as_slice() == [constant(2_013_265_918)].as_slice()
-}
-
 /// Whether `2 - X` at 5 is -3, and is accepted with this index by a verifier that ends as the
 /// prover.
 fn is_accepted(alloc: Global, opened: AtFive, index: Option<usize>) -> bool {
@@ -117,7 +99,7 @@ fn is_accepted(alloc: Global, opened: AtFive, index: Option<usize>) -> bool {
         BabyBear4,
         Sha256Challenger,
     >>::verify_with_preprocessing(&scheme(), alloc, claims, &proof, &mut verifier, index);
-    verified.is_ok() && is_minus_three(&values) && verifier == challenger
+    verified.is_ok() && are_values(&values, MINUS_THREE) && verifier == challenger
 }
 
 /// Whether it is, of committed words that are opened with this index.

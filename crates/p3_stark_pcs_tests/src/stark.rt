@@ -1,0 +1,118 @@
+//! The columns of a STARK, opened by one function over any scheme.
+
+ghost use Rattle.std.specs.Prelude.{◌≡◌, ◌≢◌, [], All, map, IfOk};
+ghost use Rattle.p3_fri_commit.specs.Extension.{FitsDomain};
+
+use crate::columns::{columns, domains_of};
+use crate::scheme::{Domain, Proof, scheme};
+use crate::values::{Coefficients, Values, are_values, element};
+use p3_challenger::Sha256Challenger;
+use p3_field::BabyBear;
+use p3_pcs::Verified;
+use p3_stark_pcs::{StarkColumns, open_stark_columns};
+use std::alloc::Global;
+use std::test::Fail;
+
+/// `2 - X` as a preprocessed column.
+const PREPROCESSED: [(u64, &[u64]); 1] = [(1, &[1, 3])];
+
+/// `7 + X` and `1 + X^3`.
+const TRACE: [(u64, &[u64]); 2] = [(1, &[8, 6]), (1, &[2, 284_861_409, 0, 1_728_404_514])];
+
+/// `2 - X` on the coset of 3 of two points, and `4 + 2 * X` on the other half of that of four.
+const QUOTIENT: [(u64, &[u64]); 2] = [
+    (3, &[2_013_265_920, 5]),
+    (1_158_681_697, &[304_097_477, 1_709_168_452]),
+];
+
+/// These columns, each matrix on its domain.
+fn stark_columns(alloc: Global) -> Result<StarkColumns<Domain, BabyBear>, Fail>
+    ensures preprocessed { IfOk result (λ c.
+        All (λ e. FitsDomain 27 1 e.0.log_size e.1) c.preprocessed.items) }
+    ensures some_matrix { IfOk result (λ c. c.preprocessed.items ≢ []) }
+    ensures trace { IfOk result (λ c. All (λ e. FitsDomain 27 1 e.0.log_size e.1) c.trace.items) }
+    ensures quotient { IfOk result (λ c.
+        All (λ e. FitsDomain 27 1 e.0.log_size e.1) c.quotient.items) }
+    ensures quotient_domains { IfOk result (λ c.
+        c.quotient_domains.items ≡ map (λ e. e.0) c.quotient.items) }
+{
+    let preprocessed = columns(alloc, &PREPROCESSED)?;
+    if preprocessed.is_empty() {
+        return Err(Fail::new("no preprocessed column"));
+    }
+    let trace = columns(alloc, &TRACE)?;
+    let quotient = columns(alloc, &QUOTIENT)?;
+    let quotient_domains = domains_of(alloc, &quotient)?;
+    Ok(StarkColumns {
+        preprocessed,
+        trace,
+        quotient,
+        quotient_domains,
+    })
+}
+
+/// A point with its successor, and the values that are opened.
+#[derive(Clone, Copy, Debug)]
+struct Case {
+    point: Coefficients,
+    successor: Coefficients,
+    values: Values<'static>,
+}
+
+/// Whether the columns have these values, and both sides end in one state that isn't the first.
+fn are_opened(alloc: Global, case: &Case) -> Result<bool, Fail> {
+    let columns = stark_columns(alloc)?;
+    let mut challenger = Sha256Challenger::new();
+    let opened = open_stark_columns(
+        &mut scheme(),
+        alloc,
+        columns,
+        element(case.point),
+        element(case.successor),
+        &mut challenger,
+    );
+    let Ok(verified) = opened else {
+        return Err(Fail::new("not accepted"));
+    };
+    Ok(
+        are_values(&verified.values, case.values)
+            && verified.challenger == challenger
+            && challenger != Sha256Challenger::new(),
+    )
+}
+
+/// At 5 and at `X`, with 1728404513 the root of unity of order 4 that leads to the successor.
+const CASES: [Case; 2] = [
+    Case {
+        point: [5, 0, 0, 0],
+        successor: [588_958_881, 0, 0, 0],
+        values: &[
+            &[&[[2_013_265_918, 0, 0, 0], [1_424_307_042, 0, 0, 0]]],
+            &[
+                &[[12, 0, 0, 0], [588_958_888, 0, 0, 0]],
+                &[[126, 0, 0, 0], [1_382_155_344, 0, 0, 0]],
+            ],
+            &[&[[2_013_265_918, 0, 0, 0]], &[[14, 0, 0, 0]]],
+        ],
+    },
+    Case {
+        point: [0, 1, 0, 0],
+        successor: [0, 1_728_404_513, 0, 0],
+        values: &[
+            &[&[[2, 2_013_265_920, 0, 0], [2, 284_861_408, 0, 0]]],
+            &[
+                &[[7, 1, 0, 0], [7, 1_728_404_513, 0, 0]],
+                &[[1, 0, 0, 1], [1, 0, 0, 284_861_408]],
+            ],
+            &[&[[2, 2_013_265_920, 0, 0]], &[[4, 2, 0, 0]]],
+        ],
+    },
+];
+
+#[test]
+fn columns_of_a_stark_are_opened(rt: HostRuntime) -> Result<(), Fail> {
+    for case in &CASES {
+        assert!(rt; are_opened(rt.alloc(), case)?, "{case:?}");
+    }
+    Ok(())
+}
