@@ -2,70 +2,10 @@
 //! from the command line.
 #![tactic(auto)]
 
-mod answer;
-mod fault;
-mod fold;
-mod opening;
-mod prove;
-mod text;
-
-ghost use Rattle.std.specs.Prelude.{◌≡◌, ◌≢◌, ◌⊎◌};
-ghost use Rattle.std.specs.Io.KnownBytes.{Appends, Keeps};
-ghost use Rattle.fri_run.specs.Commands.{answer_of, exit_status, standard_output, standard_error};
-ghost use Rattle.fri_run.specs.Commands.{out_of_memory_line, Completes};
-
-use answer::answer;
-use fault::Refusal;
-use std::alloc::Global;
-use std::io::{ErrorKind, Write};
+use fri_commands::{report_out_of_memory, run};
+use std::io::ErrorKind;
 use std::process::ExitCode;
 use std::{env, io};
-
-/// The status where memory is wanting.
-const OUT_OF_MEMORY: u8 = 3;
-
-/// What is written where memory is wanting.
-const OUT_OF_MEMORY_LINE: &str = "fri_run: out of memory\n";
-
-/// The status where a write failed.
-const WRITE_FAILED: u8 = 4;
-
-/// Writes the text whole, and gives `status`, or `WRITE_FAILED` where that fails.
-fn report<W: Write>(to: &mut W, text: &str, status: u8) -> u8
-    ensures { result ≢ WRITE_FAILED
-        → (result ≡ status) × Appends (W.contents to.old) (W.contents to.new) text.now }
-{
-    if to.write_all(text.as_bytes()).is_err() || to.flush().is_err() {
-        return WRITE_FAILED;
-    }
-    status
-}
-
-/// Writes what the arguments ask for to `out`, or the line of their first fault to `err`, and gives
-/// the exit status: 0 on success, 1 where the opening is refused, 2 at a fault, 3 where memory is
-/// wanting, which is a line on `err` too, and 4 where a write failed, after which nothing more is
-/// written. `args` leaves out the program's name.
-pub fn run<W: Write, E: Write>(alloc: Global, args: &[String], out: &mut W, err: &mut E) -> u8
-    ensures status { Completes result → result ≡ exit_status (answer_of args.now) }
-    ensures output { Completes result
-        → Appends (W.contents out.old) (W.contents out.new) (standard_output (answer_of args.now)) }
-    ensures error { Completes result
-        → Appends (E.contents err.old) (E.contents err.new) (standard_error (answer_of args.now)) }
-
-    ensures out_of_memory { result ≡ OUT_OF_MEMORY
-        → Appends (E.contents err.old) (E.contents err.new) out_of_memory_line }
-    ensures no_output { result ≡ OUT_OF_MEMORY → Keeps (W.contents out.old) (W.contents out.new) }
-
-    // A failed write is followed by none: never are both streams written to.
-    ensures one_stream { Keeps (W.contents out.old) (W.contents out.new)
-        ⊎ Keeps (E.contents err.old) (E.contents err.new) }
-{
-    match answer(alloc, args) {
-        Ok(text) => report(out, text.as_str(), 0),
-        Err(Refusal::Faulty(fault)) => report(err, fault.line(), fault.status()),
-        Err(Refusal::OutOfMemory) => report(err, OUT_OF_MEMORY_LINE, OUT_OF_MEMORY),
-    }
-}
 
 /// The arguments past the program's name.
 fn arguments(rt: &HostRuntime) -> io::Result<Vec<String>> {
@@ -80,10 +20,7 @@ fn main(rt: HostRuntime) -> ExitCode {
         Err(error) if error.kind() == ErrorKind::InvalidData => {
             run(rt.alloc(), &[], &mut out, &mut err)
         }
-        Err(_) => report(&mut err, OUT_OF_MEMORY_LINE, OUT_OF_MEMORY),
+        Err(_) => report_out_of_memory(&mut err),
     };
     ExitCode::from(status)
 }
-
-#[cfg(test)]
-mod tests;

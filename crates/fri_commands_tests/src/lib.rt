@@ -1,0 +1,5 @@
+//! Tests of the commands.
+#![tactic(auto)]
+
+#[cfg(test)]
+mod runs;

@@ -1,6 +1,0 @@
-pub mod Numbers
-pub mod Lists
-pub mod Words
-pub mod CommandLemmas
-pub mod ProveLemmas
-pub mod Openings

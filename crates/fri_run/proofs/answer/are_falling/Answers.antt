@@ -1,5 +1,0 @@
-use Rattle.fri_run.proofs.CommandLemmas.{is_strictly_falling-test}
-use Rattle.fri_run.proofs.answer.are_falling.Goals as goal
-
-pub returns-clause-test : goal.returns-clause-test
-returns-clause-test c = is_strictly_falling-test c.args.heights.now _ c.is_strictly_falling.ensures

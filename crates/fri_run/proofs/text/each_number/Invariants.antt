@@ -1,7 +1,0 @@
-use Rattle.std.proofs.Common.{◌≡◌, drop, map}
-use Rattle.fri_run.specs.Texts.{parsed_each}
-use Rattle.fri_run.proofs.Lists.{with_rest}
-use Rattle.fri_run.proofs.text.each_number.Given as goal
-
-abbrev pub invariant-loop-text : goal.invariant-loop-text
-invariant-loop-text l = with_rest l.values.items (parsed_each l.most (drop l.text-index (map (λ x. x.now) l.texts))) ≡ parsed_each l.most (map (λ x. x.now) l.texts)
