@@ -9,7 +9,8 @@ use Rattle.p3_field.specs.BabyBear.{baby_bear, root}
 use Rattle.p3_fri_core.specs.Schedule.{schedule}
 use Rattle.p3_fri_core.specs.Folds.{folded_rounds}
 use Rattle.fri_commands.specs.Texts.{parsed_number, parsed_list, line}
-use Rattle.fri_commands.specs.Steps.{or_fault, unless, ◌>>=◌, exact_log2, elements, canonical_number}
+use Rattle.fri_commands.specs.Steps.{or_fault, unless, ◌>>=◌, exact_log2, elements}
+use Rattle.fri_commands.specs.Steps.{canonical_number}
 use Rattle.fri_commands.specs.Steps.{greatest_element, greatest_log_height}
 use Rattle.fri_commands.specs.Prove.{prove_answer}
 use Rattle.fri_commands.specs.declared.fault.Fault.{Fault}

@@ -8,7 +8,8 @@ use Rattle.p3_field.specs.baby_bear.BabyBear.{BabyBear}
 use Rattle.p3_fri_commit.specs.Extension.{polynomial_on}
 use Rattle.std.specs.Fmt.{decimal}
 use Rattle.fri_commands.specs.Texts.{parsed_number, parsed_list}
-use Rattle.fri_commands.specs.Steps.{or_fault, unless, ◌>>=◌, exact_log2, elements, canonical_number}
+use Rattle.fri_commands.specs.Steps.{or_fault, unless, ◌>>=◌, exact_log2, elements}
+use Rattle.fri_commands.specs.Steps.{canonical_number}
 use Rattle.fri_commands.specs.Steps.{greatest_element, greatest_log_height}
 use Rattle.fri_commands.specs.declared.fault.Fault.{Fault}
 use Rattle.fri_commands.specs.declared.fault.Fault.TheVariants.{Number, Length, HeightTooSmall}

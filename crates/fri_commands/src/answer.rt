@@ -3,7 +3,8 @@
 ghost use Rattle.std.specs.Prelude.{◌≡◌, ◌≢◌, IsTrue, ◌<◌, [], ◌∷◌, map, length};
 ghost use Rattle.std.specs.Prelude.{string_bytes};
 ghost use Rattle.p3_fri_core.specs.Schedule.{IsStrictlyFalling};
-ghost use Rattle.fri_commands.specs.Commands.{Answers, is_strictly_falling, answer, schedule_answer};
+ghost use Rattle.fri_commands.specs.Commands.{Answers, is_strictly_falling, answer};
+ghost use Rattle.fri_commands.specs.Commands.{schedule_answer};
 ghost use Rattle.fri_commands.specs.Commands.{fold_answer};
 ghost use Rattle.fri_commands.specs.Steps.{exact_log2};
 
