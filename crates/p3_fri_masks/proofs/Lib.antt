@@ -3,3 +3,4 @@ pub mod Masks
 pub mod KeptRows
 pub mod KeptValues
 pub mod Batches
+pub mod RandomRows

@@ -26,7 +26,7 @@ each_width m = each_by_entry (λ row. length row ≡ matrix_width m) [] (rows m)
 
 module _ {T : Type 0} (from_word : ℕ → T) where
   -- values drawn in two parts
-  drawn_in_parts : (a b : ℕ) (s : Stream)
+  pub drawn_in_parts : (a b : ℕ) (s : Stream)
       → randoms from_word (a + b) s ≡ randoms from_word a s ++ randoms from_word b (past a s)
   unfolding randoms past
   drawn_in_parts zero b s = ap (λ n. randoms from_word n s) (zero-add b)

@@ -1,4 +1,5 @@
 pub mod Budget
+pub mod Draws
 pub mod Halves
 pub mod Masked
 pub mod Padded

@@ -4,4 +4,6 @@
 #[cfg(test)]
 mod budget;
 #[cfg(test)]
+mod draws;
+#[cfg(test)]
 mod masks;

@@ -5,13 +5,13 @@ ghost use Rattle.std.specs.Prelude.{slice_index_or, vec_len};
 ghost use Rattle.algebra.specs.Lists.{add_lists};
 ghost use Rattle.algebra.specs.Nested.{lists};
 ghost use Rattle.p3_matrix.specs.Words.{past};
-ghost use Rattle.p3_fri_quotient_masks.specs.Draws.{random_masks};
+ghost use Rattle.p3_fri_masks.specs.Draws.{random_rows};
 ghost use Rattle.p3_fri_quotient_masks.specs.QuotientMasks.{AreDisjoint, balancing_mask};
 ghost use Rattle.p3_fri_quotient_masks.specs.QuotientMasks.{quotient_masks};
 
-use crate::draws::random_masks;
 use crate::factors::mask_factors;
 use p3_field_core::{Field, SampleField, TwoAdicField, TwoAdicMultiplicativeCoset};
+use p3_fri_masks::random_rows;
 use p3_matrix::RowMajorMatrix;
 use rand_core::Rng;
 use std::alloc::{AllocError, Global};
@@ -64,11 +64,11 @@ pub fn quotient_masks<F: TwoAdicField + SampleField, R: Rng>(
         ≡ quotient_masks F.ops (length chunks.now - 1)
         (slice_index_or (map (λ e. e.0.log_size) chunks.now) 0 0) size
         (map (λ e. e.0.shift) chunks.now)
-        (random_masks F.from_word (length chunks.now - 1) size (R.stream rng.old))) }
+        (random_rows F.from_word (length chunks.now - 1) size (R.stream rng.old))) }
     ensures past { IfOk result (λ _. R.stream rng.new
         ≡ past ((length chunks.now - 1) * size) (R.stream rng.old)) }
 {
-    let mut masks = random_masks(alloc, chunks.len() - 1, size, rng)?;
+    let mut masks = random_rows(alloc, chunks.len() - 1, size, rng)?;
     let factors = mask_factors(alloc, chunks)?;
     let last = balancing_mask(alloc, size, &factors, &masks)?;
     masks.push(last)?;

@@ -1,6 +1,6 @@
 use Rattle.std.proofs.Common.{[]}
 use Rattle.p3_matrix.proofs.Words.{AreDrawn}
-use Rattle.p3_fri_quotient_masks.proofs.draws.random_values.Given as goal
+use Rattle.p3_fri_masks.proofs.draws.random_values.Given as goal
 
 -- the values drawn so far are the first random ones
 abbrev pub invariant-loop : goal.invariant-loop

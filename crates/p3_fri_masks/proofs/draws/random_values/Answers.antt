@@ -1,6 +1,6 @@
 use Rattle.std.proofs.Common.{[], sym, subst}
 use Rattle.p3_matrix.proofs.Words.{AreDrawn, none_drawn, one_more_drawn}
-use Rattle.p3_fri_quotient_masks.proofs.draws.random_values.Goals as goal
+use Rattle.p3_fri_masks.proofs.draws.random_values.Goals as goal
 
 pub loop-init : goal.loop-init
 loop-init g c =
