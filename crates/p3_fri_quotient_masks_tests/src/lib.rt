@@ -2,4 +2,12 @@
 #![tactic(auto)]
 
 #[cfg(test)]
+mod chunks;
+#[cfg(test)]
 mod draws;
+#[cfg(test)]
+mod extension;
+#[cfg(test)]
+mod masks;
+#[cfg(test)]
+mod matrices;
