@@ -4,3 +4,4 @@ pub mod Columns
 pub mod Weights
 pub mod MaskedWords
 pub mod Recombination
+pub mod Apart

@@ -7,7 +7,7 @@ use Rattle.algebra.specs.Cosets.{vanishing}
 use Rattle.algebra.specs.Polynomial.{tabulate}
 use Rattle.algebra.specs.Products.{product}
 use Rattle.algebra.specs.RecombinedQuotients.{product_below, product_but, chunk_weight, ChunksApart}
-use Rattle.algebra.proofs.RingLaws.{one_mul, mul_zero, zero_mul}
+use Rattle.algebra.proofs.RingLaws.{one_mul, mul_zero}
 use Rattle.algebra.proofs.Combine.{inverse_unique}
 use Rattle.algebra.proofs.Lists.{tabulate-equal, get_or-tabulate, map-tabulate, length-tabulate}
 use Rattle.algebra.proofs.Products.{product-append}
@@ -89,34 +89,6 @@ inverse_twice F L x n =
     off : F.inv x ≢ F.zero
     off e = L.one_not_zero (sym (L.mul_inv x n) ∙ ap (λ y. F.mul x y) e
         ∙ mul_zero F L.ring x)
-
--- a product is zero where a factor is
-module _ {A : Type 0} (F : FieldOps A) (R : IsRing F) where
-  infixl 70 ◌⊗◌
-  open F use {zero as 𝟘, mul as ◌⊗◌}
-
-  below-zero : (n j : ℕ) (f : ℕ → A) → j < n → f j ≡ 𝟘 → product_below F n f ≡ 𝟘
-  below-zero zero j f l z = absurd (omega (arith, l))
-  below-zero (suc n) zero f l z = ap (λ x. x ⊗ product_below F n (λ j. f (suc j))) z ∙ zero_mul F R (product_below F n (λ j. f (suc j)))
-  below-zero (suc n) (suc j) f l z =
-      ap (λ x. f zero ⊗ x) (below-zero n j (λ j. f (suc j)) (omega (arith, l)) z) ∙ mul_zero F R (f zero)
-
-  but-zero : (n i j : ℕ) (f : ℕ → A) → j < n → j ≢ i → f j ≡ 𝟘 → product_but F n i f ≡ 𝟘
-  but-zero zero i j f l d z = absurd (omega (arith, l))
-  but-zero (suc n) zero zero f l d z = absurd (d refl)
-  but-zero (suc n) zero (suc j) f l d z = below-zero n j (λ j. f (suc j)) (omega (arith, l)) z
-  but-zero (suc n) (suc i) zero f l d z =
-      ap (λ x. x ⊗ product_but F n i (λ j. f (suc j))) z ∙ zero_mul F R (product_but F n i (λ j. f (suc j)))
-  but-zero (suc n) (suc i) (suc j) f l d z =
-      ap (λ x. f zero ⊗ x) (but-zero n i j (λ j. f (suc j)) (omega (arith, l)) (λ e. d (ap suc e)) z)
-      ∙ mul_zero F R (f zero)
-
-  -- cosets are disjoint where no such product is zero
-  pub apart_by_products : (n k : ℕ) (s : ℕ → A)
-      → ((i : ℕ) → i < n → product_but F n i (λ j. vanishing F (s j) k (s i)) ≢ 𝟘)
-      → ChunksApart F n k s
-  apart_by_products n k s h i j l m d z =
-      h i l (but-zero n i j (λ j. vanishing F (s j) k (s i)) m d z)
 
 -- of `n` disjoint cosets
 module _ {A : Type 0} (F : FieldOps A) (L : IsField F) (n k : ℕ) (s : ℕ → A)

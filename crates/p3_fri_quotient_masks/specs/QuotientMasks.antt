@@ -1,8 +1,9 @@
 -- The masks of a quotient's chunks. A mask has `2^k` rows of coefficients, as many to a row as its
 -- chunk has columns, and is one list, row after row.
-use Rattle.std.specs.Prelude.{◌≡◌, ℕ, suc, List, [], ◌∷◌, ◌++◌, length, map, replicate, All}
+use Rattle.std.specs.Prelude.{◌≡◌, ◌≢◌, ◌<◌, ℕ, suc, List, [], ◌∷◌, ◌++◌, length, map, replicate, All}
 use Rattle.std.specs.Prelude.{slice_index_or}
 use Rattle.algebra.specs.Field.{FieldOps}
+use Rattle.algebra.specs.Cosets.{vanishing}
 use Rattle.algebra.specs.Polynomial.{tabulate}
 use Rattle.algebra.specs.RecombinedQuotients.{ChunksApart, chunk_weight, combined}
 
@@ -13,6 +14,13 @@ module _ {A : Type 0} (F : FieldOps A) where
     pub one_size : All (λ n. n ≡ slice_index_or log_sizes 0 0) log_sizes
     pub apart : ChunksApart F (length log_sizes) (slice_index_or log_sizes 0 0)
         (λ i. slice_index_or shifts i F.zero)
+
+  -- the first point of coset `i` is on no other, which is to say that no polynomial that vanishes
+  -- on another is zero there
+  abbrev pub IsOffOthers : (log_sizes : List ℕ) (shifts : List A) (i : ℕ) → Type 0
+  IsOffOthers log_sizes shifts i = (j : ℕ) → j < length shifts → j ≢ i
+      → vanishing F (slice_index_or shifts j F.zero) (slice_index_or log_sizes j 0)
+      (slice_index_or shifts i F.zero) ≢ F.zero
 
   -- for each but the last of `m + 1` chunks `c_i / c_last`, with `c_i` the inverse of the product
   -- over the other chunks of their vanishing polynomials at the first point of chunk `i`'s coset

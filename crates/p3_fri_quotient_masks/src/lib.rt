@@ -5,12 +5,14 @@
 //! <https://eprint.iacr.org/2024/1037>).
 #![tactic(auto)]
 
+pub mod disjoint;
 pub mod draws;
 pub mod extension;
 pub mod factors;
 pub mod laws;
 pub mod masks;
 
+pub use crate::disjoint::are_disjoint;
 pub use crate::extension::masked_extension;
 pub use crate::laws::masked_quotients_law;
 pub use crate::masks::quotient_masks;
