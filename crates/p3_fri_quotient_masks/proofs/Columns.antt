@@ -138,7 +138,7 @@ module _ {A : Type 0} (F : FieldOps A) (R : IsRing F) where
   length-scaled : (f : A) (xs : List A) (n : ℕ) → length xs ≡ n → length (map (λ a. f ⊗ a) xs) ≡ n
   length-scaled f xs n e = length-map xs (λ a. f ⊗ a) ∙ e
 
-  length-combined : (n m : ℕ) (c : ℕ → A) (t : ℕ → List A)
+  pub length-combined : (n m : ℕ) (c : ℕ → A) (t : ℕ → List A)
       → ((i : ℕ) → i < m → length (t i) ≡ n) → length (combined F m c t (replicate n 𝟘)) ≡ n
   length-combined n zero c t l = length-replicate n 𝟘
   length-combined n (suc m) c t l =

@@ -5,3 +5,5 @@ pub mod Weights
 pub mod MaskedWords
 pub mod Recombination
 pub mod Apart
+pub mod ChunkWords
+pub mod ManyMasks

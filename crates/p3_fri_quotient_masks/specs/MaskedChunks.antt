@@ -1,5 +1,6 @@
 -- Chunks of a quotient with their masks.
-use Rattle.std.specs.Prelude.{◌≡◌, ◌<◌, ℕ, ◌+◌, ◌^◌, List, length, map, slice_index_or}
+use Rattle.std.specs.Prelude.{◌≡◌, ◌<◌, ◌≤◌, ℕ, ◌+◌, ◌*◌, ◌^◌, List, [], All, length, map}
+use Rattle.std.specs.Prelude.{slice_index_or}
 use Rattle.algebra.specs.Field.{FieldOps}
 use Rattle.algebra.specs.Interpolation.{interpolant}
 use Rattle.algebra.specs.RecombinedQuotients.{masked_chunk}
@@ -34,3 +35,27 @@ module _ {A : Type 0} (F : FieldOps A) (w : ℕ → A) (k : ℕ) where
     pub words : (j : ℕ) → j < width → column F matrix j
         ≡ coset_word F w shift (k + 1 + log_blowup)
         (masked_polynomial domain_shift width chunk mask j)
+
+  -- chunk by chunk, the matrices hold the words of these chunks with these masks, of `width`
+  -- columns each, on the cosets of these shifts
+  pub record HoldMaskedChunks (shift : A) (log_blowup : ℕ) (domain_shifts : List A) (width : ℕ)
+      (chunks : List (List (List A))) (masks : List (List A)) (matrices : List (RowMajorMatrix A))
+      : Type 0 where
+    pub count : length matrices ≡ length chunks
+    pub held : (i : ℕ) (m : RowMajorMatrix A) → i < length matrices
+        → HoldsMaskedChunk shift log_blowup (slice_index_or domain_shifts i F.zero) width
+        (slice_index_or chunks i []) (slice_index_or masks i []) (slice_index_or matrices i m)
+
+-- matrices with masks, on cosets of these log sizes: the cosets have one size, each matrix is as
+-- high as they have points and has `width` columns, each mask has a coefficient for each entry of
+-- its matrix, and the cosets that are `2^(1 + log_blowup)` times as large lie within the
+-- two-adicity
+pub record FitMasks {A : Type 0} (two_adicity log_blowup k width : ℕ) (log_sizes : List ℕ)
+    (matrices : List (RowMajorMatrix A)) (masks : List (List A)) : Type 0 where
+  pub one_size : All (λ n. n ≡ k) log_sizes
+  pub count : length matrices ≡ length log_sizes
+  pub heights : All (λ m. length (rows m) ≡ 2 ^ k) matrices
+  pub widths : All (λ m. matrix_width m ≡ width) matrices
+  pub count_masks : length masks ≡ length log_sizes
+  pub sizes : All (λ mask. length mask ≡ 2 ^ k * width) masks
+  pub within : k + 1 + log_blowup ≤ two_adicity

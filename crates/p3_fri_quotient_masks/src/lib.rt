@@ -10,9 +10,11 @@ pub mod draws;
 pub mod extension;
 pub mod factors;
 pub mod laws;
+pub mod ldes;
 pub mod masks;
 
 pub use crate::disjoint::are_disjoint;
 pub use crate::extension::masked_extension;
 pub use crate::laws::masked_quotients_law;
+pub use crate::ldes::quotient_ldes;
 pub use crate::masks::quotient_masks;
