@@ -1,7 +1,7 @@
 -- The masks of a quotient's chunks. A mask has `2^k` rows of coefficients, as many to a row as its
 -- chunk has columns, and is one list, row after row.
-use Rattle.std.specs.Prelude.{◌≡◌, ◌≢◌, ◌<◌, ℕ, suc, List, [], ◌∷◌, ◌++◌, length, map, replicate, All}
-use Rattle.std.specs.Prelude.{slice_index_or}
+use Rattle.std.specs.Prelude.{◌≡◌, ◌≢◌, ◌<◌, ℕ, suc, List, [], ◌∷◌, ◌++◌, length, map}
+use Rattle.std.specs.Prelude.{replicate, All, slice_index_or}
 use Rattle.algebra.specs.Field.{FieldOps}
 use Rattle.algebra.specs.Cosets.{vanishing}
 use Rattle.algebra.specs.Polynomial.{tabulate}
