@@ -7,3 +7,4 @@ pub mod Recombination
 pub mod Apart
 pub mod ChunkWords
 pub mod ManyMasks
+pub mod DrawnQuotient

@@ -49,6 +49,13 @@ constant_at n [] i d l = absurd (omega (arith, l))
 constant_at n (x ∷ xs) zero d l = refl
 constant_at n (x ∷ xs) (suc i) d l = constant_at n xs i d (omega (arith, l))
 
+-- the greatest cosets lie within the two-adicity
+module _ {A D : Type 0} (log_size : D → ℕ) (top b : ℕ) where
+  pub first_within : (cs : List (D × RowMajorMatrix A)) → 0 < length cs
+      → All (λ e. log_size e.0 + 1 + b ≤ top) cs → first_log_size log_size cs + 1 + b ≤ top
+  first_within [] some h = absurd (omega (arith, some))
+  first_within (c ∷ cs) some h = h 0 c (omega arith)
+
 -- of chunks that can be masked
 module _ {A D : Type 0} (F : FieldOps A) (R : IsRing F) (shift : D → A) (log_size : D → ℕ)
     (top b : ℕ) (chunks : List (D × RowMajorMatrix A))
@@ -103,6 +110,36 @@ module _ {A D : Type 0} (F : FieldOps A) (R : IsRing F) (shift : D → A) (log_s
             (let e : i ≡ length random = omega (arith, past, l, many_masks, many_random, can.some) in e)
             ∙ ap length (entry_after random [] last d) ∙ last_size
 
+  chunk_log_sizes : map length (map (λ e. rows e.1) chunks)
+      ≡ map (λ n. 2 ^ n) (map (λ e. log_size e.0) chunks)
+  chunk_log_sizes =
+      map-map length (λ (e : D × RowMajorMatrix A). rows e.1) chunks
+      ∙ mapped_as (λ e. length (rows e.1)) (λ e. 2 ^ log_size e.0) chunks can.heights
+      ∙ sym (map-map (λ n. 2 ^ n) (λ (e : D × RowMajorMatrix A). log_size e.0) chunks)
+
+  -- the chunks with random columns
+  pub many_chunks : length (chunks_with_random_columns f r (map (λ e. rows e.1) chunks) s)
+      ≡ length chunks
+  many_chunks =
+      sym (length-map (chunks_with_random_columns f r (map (λ e. rows e.1) chunks) s) length)
+      ∙ ap length (heights_kept f r (map (λ e. rows e.1) chunks) s)
+      ∙ length-map (map (λ (e : D × RowMajorMatrix A). rows e.1) chunks) length
+      ∙ length-map chunks (λ (e : D × RowMajorMatrix A). rows e.1)
+
+  pub chunk_height : (i : ℕ) → i < length chunks
+      → length (get_or (chunks_with_random_columns f r (map (λ e. rows e.1) chunks) s) i [])
+      ≡ 2 ^ first_log_size log_size chunks
+  chunk_height i l =
+      sym (get_or-map length (chunks_with_random_columns f r (map (λ e. rows e.1) chunks) s) i [] 0
+      (omega (arith, l, many_chunks)))
+      ∙ ap (λ ns. get_or ns i 0)
+      (heights_kept f r (map (λ e. rows e.1) chunks) s ∙ chunk_log_sizes)
+      ∙ get_or-map (λ n. 2 ^ n) (map (λ e. log_size e.0) chunks) i 0 0 inside
+      ∙ ap (λ n. 2 ^ n) (can.disjoint.one_size i 0 inside)
+    where
+      inside : i < length (map (λ e. log_size e.0) chunks)
+      inside = omega (arith, l, length-map chunks (λ (e : D × RowMajorMatrix A). log_size e.0))
+
   -- their rows with random columns
   module _ (wider : List (RowMajorMatrix A))
       (widened : map rows wider ≡ chunks_with_random_columns f r (map (λ e. rows e.1) chunks) s)
@@ -115,10 +152,7 @@ module _ {A D : Type 0} (F : FieldOps A) (R : IsRing F) (shift : D → A) (log_s
         ≡ map (λ n. 2 ^ n) (map (λ e. log_size e.0) chunks)
     heights_are =
         sym (map-map length rows wider) ∙ ap (λ cs. map length cs) widened
-        ∙ heights_kept f r (map (λ e. rows e.1) chunks) s
-        ∙ map-map length (λ (e : D × RowMajorMatrix A). rows e.1) chunks
-        ∙ mapped_as (λ e. length (rows e.1)) (λ e. 2 ^ log_size e.0) chunks can.heights
-        ∙ sym (map-map (λ n. 2 ^ n) (λ (e : D × RowMajorMatrix A). log_size e.0) chunks)
+        ∙ heights_kept f r (map (λ e. rows e.1) chunks) s ∙ chunk_log_sizes
 
     pub height_at : All (λ m. length (rows m) ≡ 2 ^ first_log_size log_size chunks) wider
     height_at i d l =
@@ -143,11 +177,6 @@ module _ {A D : Type 0} (F : FieldOps A) (R : IsRing F) (shift : D → A) (log_s
     pub first_wide : get_or (map matrix_width wider) 0 0 ≡ first_width log_size chunks + r
     first_wide = ap (λ ns. get_or ns 0 0) widths_are
         ∙ constant_at (first_width log_size chunks + r) chunks 0 0 can.some
-
-    first_within : (cs : List (D × RowMajorMatrix A)) → 0 < length cs
-        → All (λ e. log_size e.0 + 1 + b ≤ top) cs → first_log_size log_size cs + 1 + b ≤ top
-    first_within [] some h = absurd (omega (arith, some))
-    first_within (c ∷ cs) some h = h 0 c (omega arith)
 
     -- as many coefficients as a mask has
     pub size_by_first : (first second : RowMajorMatrix A) (height width size : ℕ)
@@ -175,7 +204,7 @@ module _ {A D : Type 0} (F : FieldOps A) (R : IsRing F) (shift : D → A) (log_s
           widths = width_at;
           count_masks = many_masks masks drawn ∙ as_many;
           sizes = mask_sizes masks drawn;
-          within = first_within chunks can.some can.within;
+          within = first_within log_size top b chunks can.some can.within;
         })
       where
         as_many : length chunks ≡ length (map (λ e. log_size e.0) chunks)
