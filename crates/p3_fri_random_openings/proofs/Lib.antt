@@ -1,0 +1,4 @@
+pub mod Written
+pub mod Places
+pub mod Cut
+pub mod Faulty

@@ -1,0 +1,3 @@
+pub mod RandomValues
+pub mod RandomFaults
+pub mod Halves
