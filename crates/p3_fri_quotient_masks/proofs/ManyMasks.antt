@@ -56,6 +56,20 @@ module _ {A D : Type 0} (log_size : D → ℕ) (top b : ℕ) where
   first_within [] some h = absurd (omega (arith, some))
   first_within (c ∷ cs) some h = h 0 c (omega arith)
 
+-- what can be masked for words can be masked for fewer
+pub can_for_fewer : {A D : Type 0} (F : FieldOps A) (shift : D → A) (log_size : D → ℕ) (top b : ℕ)
+    (chunks given : List (D × RowMajorMatrix A)) → given ≡ chunks
+    → CanBeMasked F shift log_size top b chunks → CanBeMasked F shift log_size top 0 given
+can_for_fewer F shift log_size top b chunks given same can =
+    subst (λ es. CanBeMasked F shift log_size top 0 es) (sym same)
+    (record {
+      some = can.some;
+      heights = can.heights;
+      widths = can.widths;
+      within = λ i d l. omega (arith, can.within i d l);
+      disjoint = can.disjoint;
+    })
+
 -- of chunks that can be masked
 module _ {A D : Type 0} (F : FieldOps A) (R : IsRing F) (shift : D → A) (log_size : D → ℕ)
     (top b : ℕ) (chunks : List (D × RowMajorMatrix A))

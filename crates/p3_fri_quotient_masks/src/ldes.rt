@@ -1,11 +1,12 @@
 //! The words that a hiding scheme commits to for the chunks of a quotient.
 
-ghost use Rattle.std.specs.Prelude.{◌≡◌, IfOk, map, slice_index_or};
+ghost use Rattle.std.specs.Prelude.{◌≡◌, ◌+◌, IfOk, map, slice_index_or};
 ghost use Rattle.algebra.specs.Nested.{lists};
 ghost use Rattle.p3_matrix.specs.Matrix.{rows, matrix_width};
+ghost use Rattle.p3_fri_quotient_masks.specs.Draws.{chunks_with_random_columns};
 ghost use Rattle.p3_fri_quotient_masks.specs.MaskedChunks.{FitMasks, HoldMaskedChunks};
 ghost use Rattle.p3_fri_quotient_masks.specs.QuotientLdes.{CanBeMasked, AreMaskedChunks};
-ghost use Rattle.p3_fri_quotient_masks.specs.QuotientLdes.{past_masks};
+ghost use Rattle.p3_fri_quotient_masks.specs.QuotientLdes.{masks_drawn, past_masks};
 
 use crate::draws::chunks_with_random_cols;
 use crate::extension::masked_extension;
@@ -15,6 +16,33 @@ use p3_field_core::{SampleField, TwoAdicField, TwoAdicMultiplicativeCoset};
 use p3_matrix::RowMajorMatrix;
 use rand_core::Rng;
 use std::alloc::{AllocError, Global};
+
+/// The chunks with `count` random columns on the right, and their masks, for which the generator's
+/// words come after those of the columns.
+fn draw_masks<F: TwoAdicField + SampleField, R: Rng>(
+    alloc: Global,
+    chunks: &[(TwoAdicMultiplicativeCoset<F>, RowMajorMatrix<F>)],
+    count: usize,
+    rng: &mut R,
+) -> Result<(Vec<RowMajorMatrix<F>>, Vec<Vec<F>>), AllocError>
+    requires { CanBeMasked F.ops (λ d. d.shift) (λ d. d.log_size) F.TWO_ADICITY 0 chunks.now }
+    ensures rows { IfOk result (λ drawn. map rows drawn.0.items ≡ chunks_with_random_columns
+        F.from_word count (map (λ e. rows e.1) chunks.now) (R.stream rng.old)) }
+    ensures widths { IfOk result (λ drawn. map matrix_width drawn.0.items
+        ≡ map (λ e. matrix_width e.1 + count) chunks.now) }
+    ensures masks { IfOk result (λ drawn. lists drawn.1.items
+        ≡ masks_drawn F.ops (λ d. d.shift) (λ d. d.log_size) F.from_word count chunks.now
+        (R.stream rng.old)) }
+    ensures past { IfOk result (λ _. R.stream rng.new
+        ≡ past_masks (λ d. d.log_size) count chunks.now (R.stream rng.old)) }
+{
+    let wider = chunks_with_random_cols(alloc, chunks, count, rng)?;
+    let Some(size) = wider[0].height().checked_mul(wider[0].width()) else {
+        return Err(AllocError);
+    };
+    let masks = quotient_masks(alloc, chunks, size, rng)?;
+    Ok((wider, masks))
+}
 
 /// The words of these matrices, each with its mask, on the domains of the chunks.
 fn masked_extensions<F: TwoAdicField, Dft: TwoAdicSubgroupDft<F>>(
@@ -66,10 +94,6 @@ pub fn quotient_ldes<F: TwoAdicField + SampleField, Dft: TwoAdicSubgroupDft<F>, 
     ensures past { IfOk result (λ _. R.stream rng.new
         ≡ past_masks (λ d. d.log_size) num_random_codewords chunks.items (R.stream rng.old)) }
 {
-    let wider = chunks_with_random_cols(alloc, &chunks, num_random_codewords, rng)?;
-    let Some(size) = wider[0].height().checked_mul(wider[0].width()) else {
-        return Err(AllocError);
-    };
-    let masks = quotient_masks(alloc, &chunks, size, rng)?;
+    let (wider, masks) = draw_masks(alloc, &chunks, num_random_codewords, rng)?;
     masked_extensions(dft, alloc, log_blowup, &chunks, wider, &masks)
 }
