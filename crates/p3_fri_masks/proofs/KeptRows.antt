@@ -79,7 +79,7 @@ module _ {T : Type 0} (from_word : ℕ → T) (r width : ℕ) where
   }
 
 module _ {T : Type 0} (none : T) (width : ℕ) where
-  length-padded_rows : (rows : List (List T)) → length (padded_rows none width rows) ≡ 2 * length rows
+  pub length-padded_rows : (rows : List (List T)) → length (padded_rows none width rows) ≡ 2 * length rows
   length-padded_rows [] = omega arith
   length-padded_rows (row ∷ rows) = omega (arith, length-padded_rows rows)
 

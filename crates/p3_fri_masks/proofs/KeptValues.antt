@@ -37,7 +37,7 @@ module _ {A : Type 0} (F : FieldOps A) (L : IsField F) (top : ℕ) (w : ℕ → 
           ∙ sym (L.mul_assoc shift (w (suc k)) (pow F (w k) i))
 
   -- an entry of a column of values is the value at its point
-  value_at : (m : RowMajorMatrix A) (j : ℕ) (c : List A) (shift : A) (k n : ℕ) → n < 2 ^ k → length (rows m) ≡ 2 ^ k
+  pub value_at : (m : RowMajorMatrix A) (j : ℕ) (c : List A) (shift : A) (k n : ℕ) → n < 2 ^ k → length (rows m) ≡ 2 ^ k
       → HasValuesOn F w shift k c (column F m j)
       → val F c (coset_point F (w k) shift n) ≡ get_or (get_or (rows m) n []) j F.zero
   value_at m j c shift k n l tall is =
