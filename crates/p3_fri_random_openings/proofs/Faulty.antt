@@ -82,6 +82,11 @@ count_fault claims random i expected got c matrices l n read beside asked found 
     i claims random c matrices l n read beside
     (record { expected_is = asked; got_is = found; differ = λ same. differ (sym same) })
 
+-- a count that is as asked isn't wrong
+not_wrong : {asked found expected got : ℕ} → IsWrongCount asked found expected got
+    → asked ≡ found → ⊥
+not_wrong wrong same = wrong.differ (wrong.expected_is ∙ same ∙ sym wrong.got_is)
+
 -- a mask that is too low is no mask that is high enough
 budget_missed : {E : Type 0} (num_queries degree queries dimensions height points : ℕ)
     (m : MatrixClaim E) → queries ≡ num_queries → dimensions ≡ degree → height ≡ mask_height m
@@ -135,10 +140,10 @@ module _ {A B E Com : Type 0} (num_random num_queries degree : ℕ) (preprocessi
   no_fault (InsufficientHidingRandomCodewords required got) other may h =
       omega (arith, may.enough_columns)
   no_fault (HidingRandomOpeningRoundCountMismatch expected got) other may h =
-      h.differ (h.expected_is ∙ placed_length _ 0 claims random may.nest ∙ sym h.got_is)
+      not_wrong h (placed_length _ 0 claims random may.nest)
   no_fault (HidingRandomOpeningMatrixCountMismatch round expected got) other may h =
       let found = of_placed _ _ 0 round round claims random (omega arith) h may.nest in
-      found.1.differ (found.1.expected_is ∙ all_zip-length _ _ _ found.2 ∙ sym found.1.got_is)
+      not_wrong found.1 (all_zip-length _ _ _ found.2)
   no_fault (HidingBudgetExceeded round matrix height queries points dimensions) other may h =
       let found = of_left _ (λ c. All (MeetsBudget num_queries degree) c.matrices)
       round claims random h.2 may.budgets in
@@ -148,12 +153,12 @@ module _ {A B E Com : Type 0} (num_random num_queries degree : ℕ) (preprocessi
   no_fault (HidingRandomOpeningPointCountMismatch round matrix expected got) other may h =
       let found = of_placed _ _ 0 round round claims random (omega arith) h may.nest in
       let inner = of_pair _ _ matrix found.0.0.matrices found.0.1 found.1 found.2 in
-      inner.1.differ (inner.1.expected_is ∙ all_zip-length _ _ _ inner.2 ∙ sym inner.1.got_is)
+      not_wrong inner.1 (all_zip-length _ _ _ inner.2)
   no_fault (HidingRandomOpeningValueCountMismatch round matrix point expected got) other may h =
       let found = of_placed _ _ 0 round round claims random (omega arith) h may.nest in
       let inner = of_pair _ _ matrix found.0.0.matrices found.0.1 found.1 found.2 in
       let last = of_right _ _ point _ _ inner.1 inner.2 in
-      last.1.differ (last.1.expected_is ∙ sym last.2 ∙ sym last.1.got_is)
+      not_wrong last.1 (sym last.2)
   no_fault OutOfMemory other may h = other refl
   no_fault _ other may h = absurd h
 

@@ -2,3 +2,6 @@ pub mod Written
 pub mod Places
 pub mod Cut
 pub mod Faulty
+pub mod Inside
+pub mod Seen
+pub mod Verified

@@ -1,3 +1,4 @@
 pub mod RandomValues
 pub mod RandomFaults
+pub mod Hiding
 pub mod Halves

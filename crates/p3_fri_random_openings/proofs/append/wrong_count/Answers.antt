@@ -8,7 +8,7 @@ pub loop-point-preserved : goal.loop-point-preserved
 loop-point-preserved g c =
     All-more (λ vector. vec_len vector ≡ c.args.expected) c.args.random.now
     c.loop-point.point c.index-random-point.result c.loop-point-test.true c.loop-point.invariant
-    (ap vec_len (sym c.index-random-point.is) ∙ sym c.len.ensures ∙ c.if-len-expected.false)
+    (omega (arith, ap vec_len c.index-random-point.is, c.len.ensures))
 
 pub returns : goal.returns
 returns g c = lists_of_length c.args.expected c.args.random.now
