@@ -1,6 +1,6 @@
 -- What the words of masked chunks hold: their sizes, their columns, and the quotient that they make.
-use Rattle.std.proofs.Common.{◌≡◌, ◌≢◌, ℕ, zero, suc, ◌+◌, ◌-◌, ◌*◌, ◌/◌, ◌^◌, ◌<◌, ◌≤◌, List, [], ◌∷◌, length, map, take}
-use Rattle.std.proofs.Common.{All, get_or, refl, sym, ap, ap₂, subst, ◌∙◌, arith}
+use Rattle.std.proofs.Common.{◌≡◌, ◌≢◌, ℕ, zero, suc, ◌+◌, ◌-◌, ◌*◌, ◌/◌, ◌^◌, ◌<◌, ◌≤◌, List, [], ◌∷◌, length, map}
+use Rattle.std.proofs.Common.{All, get_or, sym, ap, ap₂, subst, ◌∙◌, arith}
 use Rattle.std.specs.List.{AllZip}
 use Rattle.std.proofs.lemmas.List.{length-map, length-take-le, get_or-take, get_or-map}
 use Rattle.std.proofs.Math.ListN.{get_or-map as mapped_at}
@@ -185,12 +185,15 @@ module _ {F E D : Type 0} (f : Fields F E) (L : IsField f.base) (M : IsField f.e
           let here : i < length ldes = omega (arith, l, many_ldes) in
           let x = entry_of ldes i here in
           let held = held_entry i here x in
-          let inside : j < matrix_width x.entry - r = omega (arith, below, held.columns) in
-          let column_there : j < matrix_width x.entry = omega (arith, inside) in
+          let all = count_of_values f.base f.ext f.lift (matrix_width x.entry)
+          (λ c. committed_column f b (column f.base x.entry c)) z in
+          let inside : j < length (committed_values f b x.entry z) - r =
+          omega (arith, below, held.columns, all) in
+          let column_there : j < matrix_width x.entry = omega (arith, below, held.columns) in
           ap (λ ys. get_or ys j f.ext.zero)
           (image_of (λ lde. (shown_in f b r lde).values_at z) ldes i [] here x)
-          ∙ get_or-take (matrix_width x.entry - r) (committed_values f b x.entry z) j f.ext.zero
-          inside
+          ∙ get_or-take (length (committed_values f b x.entry z) - r) (committed_values f b x.entry z) j
+          f.ext.zero inside
           ∙ value_of_column f.base f.ext f.lift (matrix_width x.entry)
           (λ c. committed_column f b (column f.base x.entry c)) z j column_there
           ∙ ap (λ c. val f.ext (map f.lift c) z)
@@ -227,9 +230,9 @@ module _ {F E D : Type 0} (f : Fields F E) (L : IsField f.base) (M : IsField f.e
           let all = count_of_values f.base f.ext f.lift (matrix_width x.entry)
           (λ c. committed_column f b (column f.base x.entry c)) z in
           ap length (image_of (λ lde. (shown_in f b r lde).values_at z) ldes 0 [] here x)
-          ∙ length-take-le (matrix_width x.entry - r) (committed_values f b x.entry z)
-          (omega (arith, all))
-          ∙ omega (arith, held.columns)
+          ∙ length-take-le (length (committed_values f b x.entry z) - r) (committed_values f b x.entry z)
+          (omega arith)
+          ∙ omega (arith, held.columns, all)
 
       value_width : length (get_or values 0 []) ≡ v
       value_width =

@@ -1,7 +1,7 @@
-mod Claims
-mod Committed
-mod Evaluated
-mod Ldes
+pub mod Claims
+pub mod Committed
+pub mod Evaluated
+pub mod Ldes
 mod Sizes
 mod Tabulated
 mod Unspent

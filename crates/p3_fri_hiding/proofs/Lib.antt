@@ -1,0 +1,8 @@
+mod Kept
+mod Mapped
+mod Refused
+mod NewData
+mod Read
+mod Traced
+mod Committed
+mod QuotientsHeld

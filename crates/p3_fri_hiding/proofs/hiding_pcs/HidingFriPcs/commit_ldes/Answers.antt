@@ -1,0 +1,89 @@
+use Rattle.std.proofs.Common.{◌/◌, ◌^◌, ◌∙◌, false, length, map, sym, ap, subst}
+use Rattle.std.specs.Prelude.{All}
+use Rattle.p3_matrix.specs.Matrix.{rows}
+use Rattle.p3_fri_relation.specs.Setting.{Fields}
+use Rattle.p3_fri_completeness.specs.Requests.{held_in, HoldsWords}
+use Rattle.p3_fri_openings.specs.Rounds.{HasCoset}
+use Rattle.p3_fri_random_openings.specs.Halves.{shown_of}
+use Rattle.algebra.proofs.Lists.{map-map}
+use Rattle.p3_fri_two_adic.proofs.Ldes.{power_heights, cosets_of_ldes}
+use Rattle.p3_fri_hiding.specs.Data.{AreWide}
+use Rattle.p3_fri_hiding.proofs.NewData.{shown_is, of_scheme, is_unopened}
+use Rattle.p3_fri_hiding.proofs.Refused.{budget_refused, memory_refused, fit_of, misfit_of}
+use Rattle.p3_fri_hiding.proofs.hiding_pcs.HidingFriPcs.commit_ldes.Given.{Over}
+use Rattle.p3_fri_hiding.proofs.hiding_pcs.HidingFriPcs.commit_ldes.Goals as goal
+
+abbrev fields_of : (g : Over) → Fields g.row.F.Denot g.row.EF.Denot
+fields_of g = record {
+  base = g.F.Field.ops;
+  ext = g.EF.Field.ops;
+  lift = g.EF.ExtensionField.lift;
+  coefficients = g.EF.ExtensionField.coefficients;
+  degree = g.EF.ExtensionField.DIMENSION;
+  root = g.F.TwoAdicField.root;
+  two_adicity = g.F.TwoAdicField.TWO_ADICITY;
+  shift = g.F.Field.GENERATOR;
+}
+
+pub returns-in_err-check_ldes-clause-refused : goal.returns-in_err-check_ldes-clause-refused
+returns-in_err-check_ldes-clause-refused g c =
+    budget_refused c.args.self.now.num_random_codewords c.args.self.now.fri.num_queries
+    g.EF.ExtensionField.DIMENSION
+    (map (λ lde. length (rows lde) / 2 ^ c.args.self.now.fri.log_blowup / 2) c.args.ldes.items) c.from_residual.result c.in_err-check_ldes.field-0.0
+    c.from_residual.ensures
+    (misfit_of c.args.self.now.num_random_codewords c.args.self.now.fri.num_queries _ _
+    c.DIMENSION.ensures _ _ c.deref.ensures.value (λ lde. length (rows lde) / 2 ^ c.args.self.now.fri.log_blowup / 2) c.in_err-check_ldes.field-0.0
+    c.in_err-check_ldes.ensures)
+
+pub returns-in_err-commitment-clause-refused : goal.returns-in_err-commitment-clause-refused
+returns-in_err-commitment-clause-refused g c =
+    memory_refused c.args.self.now.num_random_codewords c.args.self.now.fri.num_queries
+    g.EF.ExtensionField.DIMENSION
+    (map (λ lde. length (rows lde) / 2 ^ c.args.self.now.fri.log_blowup / 2) c.args.ldes.items) c.from_residual-in_err-commitment.result
+    c.from_residual-in_err-commitment.ensures (fit_of c.args.self.now.num_random_codewords c.args.self.now.fri.num_queries _ _
+    c.DIMENSION.ensures _ _ c.deref.ensures.value (λ lde. length (rows lde) / 2 ^ c.args.self.now.fri.log_blowup / 2) c.in_ok-check_ldes.ensures)
+
+pub returns-clause-budget : goal.returns-clause-budget
+returns-clause-budget g c ok = fit_of c.args.self.now.num_random_codewords c.args.self.now.fri.num_queries _ _
+    c.DIMENSION.ensures _ _ c.deref.ensures.value (λ lde. length (rows lde) / 2 ^ c.args.self.now.fri.log_blowup / 2) c.in_ok-check_ldes.ensures
+
+pub commit-requires : goal.commit-requires
+commit-requires g c = record {
+  heights = power_heights g.F.TwoAdicField.TWO_ADICITY c.args.self.now.fri.log_blowup
+      c.args.ldes.items c.requires;
+}
+
+pub returns-clause-polynomials : goal.returns-clause-polynomials
+returns-clause-polynomials g c =
+    shown_is (fields_of g) g.InputMmcs.Mmcs.committed c.args.self.now.fri.log_blowup
+    c.args.self.now.num_random_codewords c.new.result c.in_ok-commitment.inner c.new.ensures.inner
+    false c.new.ensures.preprocessed
+    ∙ ap (λ ms. map (shown_of c.args.self.now.num_random_codewords)
+    (map (held_in (fields_of g) c.args.self.now.fri.log_blowup) ms)) c.in_ok-commitment.ensures.matrices
+    ∙ map-map (shown_of c.args.self.now.num_random_codewords)
+    (held_in (fields_of g) c.args.self.now.fri.log_blowup) c.args.ldes.items
+
+pub returns-clause-openable : goal.returns-clause-openable
+returns-clause-openable g c wide =
+    is_unopened (fields_of g) g.InputMmcs.Mmcs.committed c.args.self.now.fri.log_blowup
+    c.args.self.now.num_random_codewords c.new.result c.in_ok-commitment.inner c.new.ensures.inner
+    c.new.ensures.codewords c.new.ensures.blowup (subst (λ ms. All (HasCoset g.F.TwoAdicField.TWO_ADICITY) ms) (sym c.in_ok-commitment.ensures.matrices)
+    (cosets_of_ldes g.F.TwoAdicField.TWO_ADICITY c.args.self.now.fri.log_blowup c.args.ldes.items
+    c.requires))
+    (subst (λ ms. AreWide c.args.self.now.num_random_codewords ms)
+    (sym c.in_ok-commitment.ensures.matrices) wide)
+    c.new.ensures.preprocessed c.new.ensures.unopened
+
+pub returns-clause-readable : goal.returns-clause-readable
+returns-clause-readable g c =
+    of_scheme (fields_of g) g.InputMmcs.Mmcs.committed c.args.self.now.fri.log_blowup
+    c.args.self.now.num_random_codewords c.new.result c.in_ok-commitment.inner c.new.ensures.inner
+    c.new.ensures.codewords c.new.ensures.blowup (subst (λ ms. All (HasCoset g.F.TwoAdicField.TWO_ADICITY) ms) (sym c.in_ok-commitment.ensures.matrices)
+    (cosets_of_ldes g.F.TwoAdicField.TWO_ADICITY c.args.self.now.fri.log_blowup c.args.ldes.items
+    c.requires))
+
+pub returns-clause-honest : goal.returns-clause-honest
+returns-clause-honest g c words =
+    subst (λ ms. All (HoldsWords (fields_of g) c.args.self.now.fri.log_blowup) ms)
+    (sym (ap (λ t. g.InputMmcs.Mmcs.committed t) c.new.ensures.inner
+    ∙ c.in_ok-commitment.ensures.matrices)) words

@@ -1,0 +1,6 @@
+pub mod Budgets
+pub mod Shown
+pub mod Data
+pub mod Trace
+pub mod Commitments
+pub mod Quotients

@@ -1,0 +1,162 @@
+//! Words that are committed to as they are, and random polynomials.
+
+ghost use Rattle.std.specs.Prelude.{◌≡◌, ◌≤◌, ◌+◌, ◌/◌, ◌^◌, false, map, length, All};
+ghost use Rattle.std.specs.Prelude.{IsOk, IfOk, IfErr, IsSome, IfSome};
+ghost use Rattle.p3_matrix.specs.Matrix.{rows};
+ghost use Rattle.p3_matrix.specs.Words.{past};
+ghost use Rattle.p3_fri_completeness.specs.Requests.{HoldsWords};
+ghost use Rattle.p3_fri_two_adic.specs.Ldes.{HasLdeHeight};
+ghost use Rattle.p3_fri_masks.specs.Draws.{random_words};
+ghost use Rattle.p3_fri_hiding.specs.Budgets.{AllFit, MaskRefusal};
+ghost use Rattle.p3_fri_hiding.specs.Commitments.{ExtendRandom};
+ghost use Rattle.p3_fri_hiding.specs.Data.{IsNew, IsOfScheme, IsUnopened, shown_polynomials, AreWide};
+ghost use Rattle.p3_fri_hiding.specs.Shown.{shown_in};
+
+use crate::budgets::{check_domains, check_ldes};
+use crate::data::HidingFriPcsProverData;
+use crate::hiding_pcs::HidingFriPcs;
+use p3_dft::TwoAdicSubgroupDft;
+use p3_field_core::{ExtensionField, SampleField, TwoAdicField, TwoAdicMultiplicativeCoset};
+use p3_fri_commit::commit_evaluations;
+use p3_fri_masks::{HidingFriProverError, random_matrices};
+use p3_fri_pow::FriProverError;
+use p3_fri_relation::setting::ChallengeField;
+use p3_matrix::RowMajorMatrix;
+use p3_mmcs::Mmcs;
+use rand_core::CryptoRng;
+use std::alloc::Global;
+
+impl<
+    F: TwoAdicField + SampleField,
+    Dft: TwoAdicSubgroupDft<F>,
+    InputMmcs: Mmcs<F>,
+    FriMmcs,
+    R: CryptoRng,
+> HidingFriPcs<F, Dft, InputMmcs, FriMmcs, R> {
+    /// Commits to words on the evaluation coset, in bit-reversed order, at a height from the blowup
+    /// to the size of the field's greatest subgroup. That they hold fresh masks, as those of
+    /// `get_quotient_ldes` do, is the caller's duty.
+    ///
+    /// # Errors
+    ///
+    /// `InsufficientRandomCodewords`, `BudgetOverflow` or `HidingBudgetExceeded` where the masks of
+    /// a matrix, half as high as what was extended to it, can't hide one opening; else
+    /// `Fri(OutOfMemory)` alone.
+    pub fn commit_ldes<EF: ExtensionField<F>>(
+        &self,
+        alloc: Global,
+        ldes: Vec<RowMajorMatrix<F>>,
+    ) -> Result<
+        (
+            InputMmcs::Commitment,
+            HidingFriPcsProverData<InputMmcs::ProverData>,
+        ),
+        HidingFriProverError,
+    >
+        requires { All (HasLdeHeight F.TWO_ADICITY self.now.fri.log_blowup) ldes.items }
+        ensures matrices { IfOk result (λ pair. InputMmcs.committed pair.1.inner ≡ ldes.items) }
+        ensures data { IfOk result (λ pair. IsNew self.now.num_random_codewords
+            self.now.fri.log_blowup false pair.1) }
+        ensures budget { IsOk result → AllFit self.now.num_random_codewords
+            self.now.fri.num_queries EF.DIMENSION
+            (map (λ lde. length (rows lde) / 2 ^ self.now.fri.log_blowup / 2) ldes.items) }
+        ensures commitment { IfOk result (λ pair.
+            InputMmcs.commitment_of pair.1.inner ≡ pair.0) }
+        ensures polynomials { let fields = ⟦<EF as ChallengeField<F>>⟧.fields in
+            IfOk result (λ pair. shown_polynomials fields InputMmcs.committed self.now.fri.log_blowup
+            self.now.num_random_codewords pair.1
+            ≡ map (shown_in fields self.now.fri.log_blowup self.now.num_random_codewords)
+            ldes.items) }
+        ensures openable { AreWide self.now.num_random_codewords ldes.items
+            → IfOk result (λ pair. IsUnopened ⟦<EF as ChallengeField<F>>⟧.fields
+            InputMmcs.committed self.now.fri.log_blowup self.now.num_random_codewords pair.1) }
+        ensures readable { IfOk result (λ pair. IsOfScheme ⟦<EF as ChallengeField<F>>⟧.fields
+            InputMmcs.committed self.now.fri.log_blowup self.now.num_random_codewords pair.1) }
+        ensures honest { let holds = HoldsWords ⟦<EF as ChallengeField<F>>⟧.fields
+            self.now.fri.log_blowup in
+            All holds ldes.items
+            → IfOk result (λ pair. All holds (InputMmcs.committed pair.1.inner)) }
+        ensures refused { IfErr result (MaskRefusal self.now.num_random_codewords
+            self.now.fri.num_queries EF.DIMENSION
+            (map (λ lde. length (rows lde) / 2 ^ self.now.fri.log_blowup / 2) ldes.items)) }
+    {
+        let codewords = self.num_random_codewords;
+        let log_blowup = self.fri.log_blowup;
+        check_ldes(
+            codewords,
+            self.fri.num_queries,
+            EF::DIMENSION,
+            log_blowup,
+            &ldes,
+        )?;
+        let (commitment, inner) = self.mmcs.commit(alloc, ldes)?;
+        Ok((
+            commitment,
+            HidingFriPcsProverData::new(inner, false, codewords, log_blowup),
+        ))
+    }
+
+    /// A commitment to random polynomials: one random matrix for each domain, as high as it and with
+    /// a column for each random codeword and each coefficient of the extension, whose columns are
+    /// values on it.
+    ///
+    /// # Errors
+    ///
+    /// As of `commit_ldes`, where masks are half as high as a domain is large.
+    pub fn get_opt_randomization_poly_commitment<EF: ExtensionField<F>>(
+        &mut self,
+        alloc: Global,
+        domains: Vec<TwoAdicMultiplicativeCoset<F>>,
+    ) -> Result<
+        Option<
+            (
+                InputMmcs::Commitment,
+                HidingFriPcsProverData<InputMmcs::ProverData>,
+            ),
+        >,
+        HidingFriProverError,
+    >
+        requires { All (λ d. d.log_size + self.old.fri.log_blowup ≤ F.TWO_ADICITY) domains.items }
+        ensures kept { self.new ≡ record self.old { rng = self.new.rng } }
+        ensures some { IfOk result (λ found. IsSome found) }
+        ensures random { IfOk result (λ found. IfSome found (λ pair. ExtendRandom
+            ⟦<EF as ChallengeField<F>>⟧.fields (λ d. d.shift) (λ d. d.log_size)
+            self.old.fri.log_blowup F.from_word (self.old.num_random_codewords + EF.DIMENSION)
+            domains.items (R.stream self.old.rng) (InputMmcs.committed pair.1.inner))) }
+        ensures past { IfOk result (λ _. R.stream self.new.rng
+            ≡ past (random_words F.from_word (λ d. 2 ^ d.log_size)
+            (self.old.num_random_codewords + EF.DIMENSION) domains.items)
+            (R.stream self.old.rng)) }
+        ensures data { IfOk result (λ found. IfSome found (λ pair. IsNew
+            self.old.num_random_codewords self.old.fri.log_blowup false pair.1)) }
+        ensures budget { IsOk result → AllFit self.old.num_random_codewords
+            self.old.fri.num_queries EF.DIMENSION
+            (map (λ d. 2 ^ d.log_size / 2) domains.items) }
+        ensures commitment { IfOk result (λ found. IfSome found (λ pair.
+            InputMmcs.commitment_of pair.1.inner ≡ pair.0)) }
+        ensures openable { IfOk result (λ found. IfSome found (λ pair. IsUnopened
+            ⟦<EF as ChallengeField<F>>⟧.fields InputMmcs.committed self.new.fri.log_blowup
+            self.new.num_random_codewords pair.1)) }
+        ensures honest { IfOk result (λ found. IfSome found (λ pair.
+            All (HoldsWords ⟦<EF as ChallengeField<F>>⟧.fields self.new.fri.log_blowup)
+            (InputMmcs.committed pair.1.inner))) }
+        ensures refused { IfErr result (MaskRefusal self.old.num_random_codewords
+            self.old.fri.num_queries EF.DIMENSION
+            (map (λ d. 2 ^ d.log_size / 2) domains.items)) }
+    {
+        let codewords = self.num_random_codewords;
+        let log_blowup = self.fri.log_blowup;
+        check_domains(codewords, self.fri.num_queries, EF::DIMENSION, &domains)?;
+        let Some(width) = codewords.checked_add(EF::DIMENSION) else {
+            return Err(HidingFriProverError::Fri(FriProverError::OutOfMemory));
+        };
+        let random = random_matrices(alloc, domains, width, &mut self.rng)?;
+        let (commitment, inner) = commit_evaluations(
+            &self.dft, &self.mmcs, alloc, log_blowup, random,
+        )?;
+        Ok(Some((
+            commitment,
+            HidingFriPcsProverData::new(inner, false, codewords, log_blowup),
+        )))
+    }
+}
