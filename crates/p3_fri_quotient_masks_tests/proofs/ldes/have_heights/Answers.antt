@@ -1,6 +1,6 @@
 use Rattle.std.proofs.Common.{◌≡◌, ◌^◌, length, sym, ◌∙◌, arith}
 use Rattle.p3_matrix.specs.Matrix.{rows}
-use Rattle.p3_fri_quotient_masks_tests.proofs.Firsts.{one_more_holds, all_hold}
+use Rattle.p3_fri_quotient_masks.proofs.Firsts.{one_more_holds, all_hold}
 use Rattle.p3_fri_quotient_masks_tests.proofs.ldes.have_heights.Goals as goal
 
 pub loop-chunk-preserved : goal.loop-chunk-preserved

@@ -2,7 +2,7 @@ use Rattle.std.proofs.Common.{◌≡◌, ◌<◌, length, sym, ap, ◌∙◌, ar
 use Rattle.std.proofs.lemmas.List.{get_or-map}
 use Rattle.p3_matrix.specs.Matrix.{matrix_width}
 use Rattle.p3_fri_quotient_masks.specs.QuotientLdes.{first_width}
-use Rattle.p3_fri_quotient_masks_tests.proofs.Firsts.{one_more_holds, all_hold}
+use Rattle.p3_fri_quotient_masks.proofs.Firsts.{one_more_holds, all_hold}
 use Rattle.p3_fri_quotient_masks_tests.proofs.ldes.have_one_width.Goals as goal
 
 pub loop-chunk-preserved : goal.loop-chunk-preserved

@@ -1,5 +1,5 @@
 use Rattle.std.proofs.Common.{◌≤◌, ◌+◌, arith}
-use Rattle.p3_fri_quotient_masks_tests.proofs.Firsts.{one_more_holds, all_hold}
+use Rattle.p3_fri_quotient_masks.proofs.Firsts.{one_more_holds, all_hold}
 use Rattle.p3_fri_quotient_masks_tests.proofs.ldes.lie_within.Goals as goal
 
 pub loop-chunk-preserved : goal.loop-chunk-preserved
