@@ -93,7 +93,7 @@ module _ {F E D : Type 0} (f : Fields F E) (L : IsField f.base) (M : IsField f.e
     k = first_log_size log_size chunks
 
     abbrev v : ℕ
-    v = first_width log_size chunks
+    v = first_width chunks
 
     abbrev polynomial : (i j : ℕ) → List F
     polynomial i j = masked_at f.base f.ext f.lift L M H f.two_adicity f.root W shift log_size

@@ -7,6 +7,7 @@ use Rattle.std.proofs.lemmas.List.{get_or-map, length-map, get_or-take, get_or-d
 use Rattle.algebra.specs.Field.{FieldOps}
 use Rattle.algebra.specs.Cosets.{vanishing}
 use Rattle.p3_fri_quotient_masks.specs.QuotientMasks.{IsOffOthers}
+use Rattle.p3_fri_quotient_masks.proofs.Firsts.{one_more_holds, all_hold}
 
 pub passed : {P : Type 0} → P → IsTrue true ↔ P
 passed p = ((λ e. p), (λ q. refl))
@@ -18,6 +19,18 @@ refused none = ((λ e. absurd (false≢true e)), (λ p. absurd (none p)))
 module _ {A C : Type 0} (F : FieldOps A) (shift : C → A) (log_size : C → ℕ) (domains : List C) where
   abbrev IsOff : (p : A) → C → Type 0
   IsOff p d = vanishing F (shift d) (log_size d) p ≢ F.zero
+
+  -- one coset more, and all of them
+  pub one_more_off : (p v : A) (i : ℕ) (d : C) (t : Bool) → All (IsOff p) (take i domains)
+      → i < length domains → d ≡ get_or domains i d → v ≡ vanishing F (shift d) (log_size d) p
+      → (IsTrue t ↔ (v ≡ F.zero)) → t ≡ false → All (IsOff p) (take (i + 1) domains)
+  one_more_off p v i d t before l is value tested off =
+      one_more_holds (IsOff p) domains i d before l is
+      (λ e. false≢true (sym off ∙ tested.1 (value ∙ e)))
+
+  pub off_all : (p : A) (i : ℕ) → All (IsOff p) (take i domains) → length domains ≤ i
+      → IsTrue true ↔ All (IsOff p) domains
+  off_all p i before l = passed (all_hold (IsOff p) domains i before l)
 
   pub size_at : (i : ℕ) (d : C) → i < length domains → d ≡ get_or domains i d
       → get_or (map log_size domains) i 0 ≡ log_size d

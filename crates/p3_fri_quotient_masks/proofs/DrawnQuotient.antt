@@ -85,7 +85,7 @@ module _ {A E D : Type 0} (F : FieldOps A) (K : FieldOps E) (lift : A → E) (L 
   k = first_log_size log_size chunks
 
   abbrev v : ℕ
-  v = first_width log_size chunks
+  v = first_width chunks
 
   abbrev shifts : List A
   shifts = map (λ e. shift e.0) chunks

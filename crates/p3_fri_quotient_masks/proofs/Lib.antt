@@ -4,6 +4,7 @@ pub mod Columns
 pub mod Weights
 pub mod MaskedWords
 pub mod Recombination
+pub mod Firsts
 pub mod Apart
 pub mod ChunkWords
 pub mod ManyMasks

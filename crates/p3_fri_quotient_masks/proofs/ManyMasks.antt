@@ -178,19 +178,19 @@ module _ {A D : Type 0} (F : FieldOps A) (R : IsRing F) (shift : D → A) (log_s
         inside : i < length (map (λ e. log_size e.0) chunks)
         inside = omega (arith, l, many_wider, length-map chunks (λ (e : D × RowMajorMatrix A). log_size e.0))
 
-    widths_are : map matrix_width wider ≡ map (λ e. first_width log_size chunks + r) chunks
+    widths_are : map matrix_width wider ≡ map (λ e. first_width chunks + r) chunks
     widths_are = widths
-        ∙ mapped_as (λ e. matrix_width e.1 + r) (λ e. first_width log_size chunks + r) chunks
+        ∙ mapped_as (λ e. matrix_width e.1 + r) (λ e. first_width chunks + r) chunks
         (λ i d l. ap (λ n. n + r) (can.widths i d l))
 
-    pub width_at : All (λ m. matrix_width m ≡ first_width log_size chunks + r) wider
+    pub width_at : All (λ m. matrix_width m ≡ first_width chunks + r) wider
     width_at i d l =
         sym (get_or-map matrix_width wider i d 0 l) ∙ ap (λ ns. get_or ns i 0) widths_are
-        ∙ constant_at (first_width log_size chunks + r) chunks i 0 (omega (arith, l, many_wider))
+        ∙ constant_at (first_width chunks + r) chunks i 0 (omega (arith, l, many_wider))
 
-    pub first_wide : get_or (map matrix_width wider) 0 0 ≡ first_width log_size chunks + r
+    pub first_wide : get_or (map matrix_width wider) 0 0 ≡ first_width chunks + r
     first_wide = ap (λ ns. get_or ns 0 0) widths_are
-        ∙ constant_at (first_width log_size chunks + r) chunks 0 0 can.some
+        ∙ constant_at (first_width chunks + r) chunks 0 0 can.some
 
     -- as many coefficients as a mask has
     pub size_by_first : (first second : RowMajorMatrix A) (height width size : ℕ)
@@ -233,10 +233,10 @@ module _ {A D : Type 0} (F : FieldOps A) (R : IsRing F) (shift : D → A) (log_s
         → AreMaskedChunks F shift log_size f r chunks s w g b ldes
     held_as_drawn w g given masks ldes same drawn h =
         subst (λ ms. HoldMaskedChunks F w (first_log_size log_size chunks) g b
-        (map (λ e. shift e.0) chunks) (first_width log_size chunks + r)
+        (map (λ e. shift e.0) chunks) (first_width chunks + r)
         (chunks_with_random_columns f r (map (λ e. rows e.1) chunks) s) ms ldes) drawn
         (subst (λ cs. HoldMaskedChunks F w (first_log_size log_size chunks) g b
-        (map (λ e. shift e.0) chunks) (first_width log_size chunks + r) cs masks ldes) widened
+        (map (λ e. shift e.0) chunks) (first_width chunks + r) cs masks ldes) widened
         (subst (λ n. HoldMaskedChunks F w (first_log_size log_size chunks) g b
         (map (λ e. shift e.0) chunks) n (map rows wider) masks ldes) first_wide
         (subst (λ es. HoldMaskedChunks F w (first_log_size log_size es) g b

@@ -11,14 +11,15 @@ use Rattle.p3_fri_quotient_masks.specs.Draws.{chunks_with_random_columns, past_c
 use Rattle.p3_fri_quotient_masks.specs.MaskedChunks.{HoldMaskedChunks}
 use Rattle.p3_fri_quotient_masks.specs.QuotientMasks.{AreDisjoint, quotient_masks}
 
+-- the number of the first chunk's columns
+abbrev pub first_width : {A D : Type 0} → List (D × RowMajorMatrix A) → ℕ
+first_width chunks = slice_index_or (map (λ e. matrix_width e.1) chunks) 0 0
+
 -- chunks beside their domains, which have these log sizes
 module _ {A D : Type 0} (log_size : D → ℕ) where
-  -- the log size of the first domain, and the number of the first chunk's columns
+  -- the log size of the first domain
   abbrev pub first_log_size : List (D × RowMajorMatrix A) → ℕ
   first_log_size chunks = slice_index_or (map (λ e. log_size e.0) chunks) 0 0
-
-  abbrev pub first_width : List (D × RowMajorMatrix A) → ℕ
-  first_width chunks = slice_index_or (map (λ e. matrix_width e.1) chunks) 0 0
 
   -- with `r` random columns, the number of a mask's coefficients
   abbrev pub mask_size : (r : ℕ) → List (D × RowMajorMatrix A) → ℕ
@@ -38,7 +39,7 @@ module _ {A D : Type 0} (F : FieldOps A) (shift : D → A) (log_size : D → ℕ
       : Type 0 where
     pub some : 0 < length chunks
     pub heights : All (λ e. length (rows e.1) ≡ 2 ^ log_size e.0) chunks
-    pub widths : All (λ e. matrix_width e.1 ≡ first_width log_size chunks) chunks
+    pub widths : All (λ e. matrix_width e.1 ≡ first_width chunks) chunks
     pub within : All (λ e. log_size e.0 + 1 + log_blowup ≤ two_adicity) chunks
     pub disjoint : AreDisjoint F (map (λ e. log_size e.0) chunks) (map (λ e. shift e.0) chunks)
 
@@ -58,5 +59,5 @@ module _ {A D : Type 0} (F : FieldOps A) (shift : D → A) (log_size : D → ℕ
         → List (RowMajorMatrix A) → Type 0
     AreMaskedChunks w generator log_blowup ldes =
         HoldMaskedChunks F w (first_log_size log_size chunks) generator log_blowup
-        (map (λ e. shift e.0) chunks) (first_width log_size chunks + r)
+        (map (λ e. shift e.0) chunks) (first_width chunks + r)
         (chunks_with_random_columns from_word r (map (λ e. rows e.1) chunks) s) masks_drawn ldes

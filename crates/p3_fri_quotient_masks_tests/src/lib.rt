@@ -4,9 +4,9 @@
 #[cfg(test)]
 mod chunks;
 #[cfg(test)]
-mod draws;
-#[cfg(test)]
 mod extension;
+#[cfg(test)]
+mod ldes;
 #[cfg(test)]
 mod masks;
 #[cfg(test)]

@@ -5,6 +5,9 @@ use Rattle.algebra.specs.Products.{product}
 use Rattle.p3_fri_quotient_masks.proofs.Weights.{product_over_others}
 use Rattle.p3_fri_quotient_masks.proofs.factors.product_over_others.Goals as goal
 
+pub mul-requires : goal.mul-requires
+mul-requires g c = g.met.F.Field.can_mul_law _ _
+
 pub returns : goal.returns
 returns g c k sizes =
     let F = g.F.Field.ops in
