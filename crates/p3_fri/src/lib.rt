@@ -5,9 +5,11 @@
 //! at the root.
 #![tactic(auto)]
 
+pub mod hiding_pcs;
 pub mod prover;
 pub mod verifier;
 
+pub use crate::hiding_pcs::{HidingFriPcs, HidingFriPcsProverData, HidingFriProverError};
 pub use p3_fri_core::pcs_transcript::{
     PcsProverTranscript, PcsTranscriptFailure, PcsVerifierTranscript,
 };

@@ -2,7 +2,7 @@
 //! to. A matrix of `n` rows is handed in beside a domain of `2n` points, on which the masked matrix
 //! has its values.
 
-ghost use Rattle.std.specs.Prelude.{◌≡◌, ◌≤◌, ◌<◌, ◌+◌, ◌*◌, ◌/◌, ◌^◌, ℕ, ⊤, List, map, length, All};
+ghost use Rattle.std.specs.Prelude.{◌≡◌, map, length, All};
 ghost use Rattle.std.specs.Prelude.{IsOk, IfOk, IfErr, false, true};
 ghost use Rattle.std.specs.List.{AllZip};
 ghost use Rattle.rand_core.specs.Stream.{fill_bytes};

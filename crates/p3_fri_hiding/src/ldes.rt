@@ -9,7 +9,8 @@ ghost use Rattle.p3_fri_two_adic.specs.Ldes.{HasLdeHeight};
 ghost use Rattle.p3_fri_masks.specs.Draws.{random_words};
 ghost use Rattle.p3_fri_hiding.specs.Budgets.{AllFit, MaskRefusal};
 ghost use Rattle.p3_fri_hiding.specs.Commitments.{ExtendRandom};
-ghost use Rattle.p3_fri_hiding.specs.Data.{IsNew, IsOfScheme, IsUnopened, shown_polynomials, AreWide};
+ghost use Rattle.p3_fri_hiding.specs.Data.{AreWide, IsNew, IsOfScheme, IsUnopened};
+ghost use Rattle.p3_fri_hiding.specs.Data.{shown_polynomials};
 ghost use Rattle.p3_fri_hiding.specs.Shown.{shown_in};
 
 use crate::budgets::{check_domains, check_ldes};
@@ -63,8 +64,8 @@ impl<
         ensures commitment { IfOk result (λ pair.
             InputMmcs.commitment_of pair.1.inner ≡ pair.0) }
         ensures polynomials { let fields = ⟦<EF as ChallengeField<F>>⟧.fields in
-            IfOk result (λ pair. shown_polynomials fields InputMmcs.committed self.now.fri.log_blowup
-            self.now.num_random_codewords pair.1
+            IfOk result (λ pair. shown_polynomials fields InputMmcs.committed
+            self.now.fri.log_blowup self.now.num_random_codewords pair.1
             ≡ map (shown_in fields self.now.fri.log_blowup self.now.num_random_codewords)
             ldes.items) }
         ensures openable { AreWide self.now.num_random_codewords ldes.items
@@ -96,9 +97,9 @@ impl<
         ))
     }
 
-    /// A commitment to random polynomials: one random matrix for each domain, as high as it and with
-    /// a column for each random codeword and each coefficient of the extension, whose columns are
-    /// values on it.
+    /// A commitment to random polynomials: one random matrix for each domain, as high as it and
+    /// with a column for each random codeword and each coefficient of the extension, whose columns
+    /// are values on it.
     ///
     /// # Errors
     ///

@@ -33,8 +33,8 @@ impl<
 > HidingFriPcs<F, Dft, InputMmcs, FriMmcs, R> {
     /// The words that are committed to for these chunks of a quotient, each of the values of its
     /// columns on the domain beside it. Each chunk gets a random column for each random codeword,
-    /// and a random multiple of the polynomial that vanishes on its domain; the last chunk's makes up
-    /// for the others', so that the columns recombine to the quotient that they made before.
+    /// and a random multiple of the polynomial that vanishes on its domain; the last chunk's makes
+    /// up for the others', so that the columns recombine to the quotient that they made before.
     ///
     /// There is more than one chunk, and `num_chunks` says how many; they have one height and one
     /// width, and disjoint domains of that size, whose twofold extension lies within the

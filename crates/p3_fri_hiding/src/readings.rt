@@ -24,10 +24,13 @@ use rand_core::CryptoRng;
 use std::alloc::Global;
 
 /// How many of the last columns of a datum's matrices only hide the others.
-fn hidden_columns<T>(data: &HidingFriPcsProverData<T>, num_random_codewords: usize) -> usize
-    ensures { result ≡ hidden_columns num_random_codewords data.now }
+fn hidden_columns<T>(
+    prover_data: &HidingFriPcsProverData<T>,
+    num_random_codewords: usize,
+) -> usize
+    ensures { result ≡ hidden_columns num_random_codewords prover_data.now }
 {
-    if data.preprocessed {
+    if prover_data.preprocessed {
         0
     } else {
         num_random_codewords
@@ -41,8 +44,8 @@ impl<
     FriMmcs,
     R: CryptoRng,
 > HidingFriPcs<F, Dft, InputMmcs, FriMmcs, R> {
-    /// The values on a domain, in natural order, of the polynomials of one committed matrix, without
-    /// the columns that only hide the others. Of preprocessing there are none such.
+    /// The values on a domain, in natural order, of the polynomials of one committed matrix,
+    /// without the columns that only hide the others. Of preprocessing there are none such.
     ///
     /// # Errors
     ///
