@@ -1,5 +1,5 @@
--- What is accepted of a scheme that hides, what makes a refusal a true one, and which refusals leave
--- a verifier's challenger as it was.
+-- What is accepted of a scheme that hides, what makes a refusal a true one, and which refusals
+-- leave a verifier's challenger as it was.
 use Rattle.std.specs.Prelude.{◌⊎◌, ℕ, List, Option, ⊤}
 use Rattle.p3_fri_relation.specs.declared.error.FriError.{FriError}
 use Rattle.p3_fri_relation.specs.declared.error.FriError as refusal

@@ -1,5 +1,5 @@
-//! The random values of a hiding scheme's proofs: cut off from what a prover opens, appended to what
-//! a verifier is told, and verified with it.
+//! The random values of a hiding scheme's proofs: cut off from what a prover opens, appended to
+//! what a verifier is told, and verified with it.
 #![tactic(auto)]
 
 pub mod append;

@@ -1,4 +1,4 @@
-use Rattle.std.proofs.Common.{◌≡◌, List, map, length, inl, refl, sym, ap, ◌∙◌, subst, arith}
+use Rattle.std.proofs.Common.{List, map, inl, refl, sym, ap, ◌∙◌, subst, arith}
 use Rattle.p3_challenger_core.specs.Run.{moves}
 use Rattle.p3_pcs.specs.Claims.{claim, opened_values}
 use Rattle.p3_fri_relation.specs.Setting.{Setting, CommitmentClaim}
