@@ -1,1 +1,1 @@
-mod Apart
+mod Heads

@@ -1,17 +1,16 @@
 //! Chunks of quotients, whether their cosets are disjoint, and their random columns.
 
-ghost use Rattle.std.specs.Prelude.{◌≡◌, ◌≢◌, ◌<◌, ◌↔◌, ℕ, IsTrue, length, map};
-ghost use Rattle.algebra.specs.Cosets.{vanishing};
+ghost use Rattle.std.specs.Prelude.{◌≡◌, IfOk, IsTrue, map};
 ghost use Rattle.p3_fri_quotient_masks.specs.QuotientMasks.{AreDisjoint};
-ghost use Rattle.p3_fri_quotient_masks_tests.specs.Apart.{IsApart};
 
 use crate::matrices::{Entries, has_entries, matrix};
 use p3_field::{BabyBear, Field, TwoAdicField, TwoAdicMultiplicativeCoset};
+use p3_fri_quotient_masks::are_disjoint;
 use p3_fri_quotient_masks::draws::chunks_with_random_cols;
 use p3_matrix::RowMajorMatrix;
 use rand_chacha::ChaCha20Rng;
 use rand_core::{Rng, SeedableRng};
-use std::alloc::Global;
+use std::alloc::{AllocError, Global};
 use std::test::Fail;
 
 /// Chunks beside their domains.
@@ -46,71 +45,30 @@ pub(crate) fn chunks(
     Ok(all)
 }
 
-/// Whether the polynomial that vanishes on this coset is zero at the point.
-fn vanishes_at<F: TwoAdicField>(coset: TwoAdicMultiplicativeCoset<F>, point: F) -> bool
-    ensures { IsTrue result ↔ (vanishing F.ops coset.shift coset.log_size point ≡ F.ops.zero) }
-{
-    coset.vanishing_poly_at_point(point).is_zero()
-}
-
-/// Whether the cosets have one size, and the first point of this one isn't on the other.
-fn is_off<F: TwoAdicField>(
-    coset: TwoAdicMultiplicativeCoset<F>,
-    other: TwoAdicMultiplicativeCoset<F>,
-) -> bool
-    ensures size { IsTrue result → other.log_size ≡ coset.log_size }
-    ensures off { IsTrue result
-        → vanishing F.ops other.shift other.log_size coset.shift ≢ F.ops.zero }
-{
-    coset.log_size() == other.log_size() && !vanishes_at(other, coset.first_point())
-}
-
-/// Whether the coset of the other chunk is as large as this one's, which begins off it, unless they
-/// are one chunk.
-fn is_apart<F: TwoAdicField>(
+/// The domains of the chunks.
+fn domains_of<F: TwoAdicField>(
+    alloc: Global,
     chunks: &[(TwoAdicMultiplicativeCoset<F>, RowMajorMatrix<F>)],
-    index: usize,
-    other: usize,
-) -> bool
-    requires index { index < length chunks.now }
-    requires other { other < length chunks.now }
-    ensures { IsTrue result → other ≢ index → IsApart F.ops (map (λ e. e.0.log_size) chunks.now)
-        (map (λ e. e.0.shift) chunks.now) index other }
+) -> Result<Vec<TwoAdicMultiplicativeCoset<F>>, AllocError>
+    ensures { IfOk result (λ domains. domains.items ≡ map (λ e. e.0) chunks.now) }
 {
-    other == index || is_off(chunks[index].0, chunks[other].0)
-}
-
-/// Whether that is so of each other chunk.
-fn is_apart_from_all<F: TwoAdicField>(
-    chunks: &[(TwoAdicMultiplicativeCoset<F>, RowMajorMatrix<F>)],
-    index: usize,
-) -> bool
-    requires { index < length chunks.now }
-    ensures { IsTrue result → (j : ℕ) → j < length chunks.now → j ≢ index
-        → IsApart F.ops (map (λ e. e.0.log_size) chunks.now) (map (λ e. e.0.shift) chunks.now)
-        index j }
-{
-    for other in 0..chunks.len() {
-        if !is_apart(chunks, index, other) {
-            return false;
-        }
+    let mut domains = Vec::with_capacity(alloc, chunks.len())?;
+    for chunk in chunks {
+        domains.push(chunk.0)?;
     }
-    true
+    Ok(domains)
 }
 
 /// Whether the chunks' cosets have one size and are disjoint.
-pub(crate) fn are_disjoint<F: TwoAdicField>(
+pub(crate) fn are_apart<F: TwoAdicField>(
+    alloc: Global,
     chunks: &[(TwoAdicMultiplicativeCoset<F>, RowMajorMatrix<F>)],
-) -> bool
-    ensures { IsTrue result → AreDisjoint F.ops (map (λ e. e.0.log_size) chunks.now)
-        (map (λ e. e.0.shift) chunks.now) }
+) -> Result<bool, AllocError>
+    ensures { IfOk result (λ answer. IsTrue answer → AreDisjoint F.ops
+        (map (λ e. e.0.log_size) chunks.now) (map (λ e. e.0.shift) chunks.now)) }
 {
-    for index in 0..chunks.len() {
-        if !is_apart_from_all(chunks, index) {
-            return false;
-        }
-    }
-    true
+    let domains = domains_of(alloc, chunks)?;
+    Ok(are_disjoint(&domains))
 }
 
 /// Chunks of two rows, the shifts of their cosets, and what each is with 2 random columns by the

@@ -1,6 +1,6 @@
 //! The factors of masks, and the masks of a quotient's chunks, against another program's.
 
-use crate::chunks::{Chunks, are_disjoint, coset};
+use crate::chunks::{Chunks, are_apart, coset};
 use crate::matrices::{are_lists, are_numbers, matrix};
 use p3_fri_quotient_masks::factors::mask_factors;
 use p3_fri_quotient_masks::quotient_masks;
@@ -61,7 +61,7 @@ fn zeros(alloc: Global, log_size: usize, shifts: &[u64]) -> Result<Chunks, Fail>
 /// Whether these are the factors.
 fn has_factors(alloc: Global, case: &Factors) -> Result<bool, Fail> {
     let chunks = zeros(alloc, case.log_size, case.shifts)?;
-    if chunks.is_empty() || !are_disjoint(&chunks) {
+    if chunks.is_empty() || !are_apart(alloc, &chunks)? {
         return Err(Fail::new("the cosets aren't disjoint"));
     }
     Ok(are_numbers(&mask_factors(alloc, &chunks)?, case.factors))
@@ -113,7 +113,7 @@ const MASKS: [Masks; 3] = [
 /// Whether these are the masks, and the generator stands just past them.
 fn has_masks(alloc: Global, case: &Masks) -> Result<bool, Fail> {
     let chunks = zeros(alloc, 1, case.shifts)?;
-    if chunks.is_empty() || !are_disjoint(&chunks) {
+    if chunks.is_empty() || !are_apart(alloc, &chunks)? {
         return Err(Fail::new("the cosets aren't disjoint"));
     }
     let mut rng = ChaCha20Rng::from_seed([9; 32]);
