@@ -1,10 +1,10 @@
 -- Chunks that can be masked.
-use Rattle.std.proofs.Common.{◌≡◌, ◌<◌, ◌*◌, ◌^◌, ℕ, List, [], ◌∷◌, length, map, get_or, All}
+use Rattle.std.proofs.Common.{◌≡◌, ◌<◌, ℕ, List, [], ◌∷◌, length, map, get_or, All}
 use Rattle.std.proofs.Common.{refl, sym, subst, ap, arith, ◌∙◌}
 use Rattle.std.proofs.lemmas.List.{get_or-map}
 use Rattle.algebra.specs.Field.{FieldOps}
 use Rattle.p3_matrix.specs.declared.dense.RowMajorMatrix.{RowMajorMatrix}
-use Rattle.p3_matrix.specs.Matrix.{rows, matrix_width}
+use Rattle.p3_matrix.specs.Matrix.{matrix_width}
 use Rattle.p3_fri_hiding.specs.Quotients.{CanExtend}
 use Rattle.p3_fri_quotient_masks.specs.QuotientMasks.{AreDisjoint}
 use Rattle.p3_fri_hiding_tests.specs.Chunks.{IsChunk}

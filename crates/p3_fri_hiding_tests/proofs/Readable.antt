@@ -1,6 +1,7 @@
 -- Which matrices can be read of the data that a commitment gave.
-use Rattle.std.proofs.Common.{◌≡◌, ◌<◌, ◌-◌, ℕ, zero, suc, List, [], ◌∷◌, length, map, take}
-use Rattle.std.proofs.Common.{◌*◌, ◌^◌, get_or, All, refl, sym, ap, arith, ◌∙◌}
+use Rattle.std.proofs.Common.{◌≡◌, ◌<◌, ◌-◌, ℕ, zero, suc, List, [], ◌∷◌, length, map}
+use Rattle.std.proofs.Common.{◌*◌, ◌^◌, get_or, All, refl, sym, ap, subst, arith, ◌∙◌}
+use Rattle.std.specs.Prelude.{Bool, false, if◌then◌else◌}
 use Rattle.std.specs.List.{AllZip}
 use Rattle.std.proofs.lemmas.List.{length-take, length-map}
 use Rattle.std.proofs.lemmas.Slice.Zip.{AllZip-long}
@@ -78,13 +79,31 @@ module _ {F E T : Type 0} (f : Fields F E) (committed : T → List (RowMajorMatr
       let held = map (held_in f log_blowup) (committed d.inner) in
       let long = AllZip-long (λ h e. HasTrace f (shift e.0) (log_size e.0) e.1 h)
       (map (shown_of hidden) held) es traces in
-      let within : index < length (committed d.inner) = omega
-      (arith, below, long, length-map held (shown_of hidden),
-      length-map (committed d.inner) (held_in f log_blowup)) in
+      let within : index < length (committed d.inner) = omega (
+        arith,
+        below,
+        long,
+        length-map held (shown_of hidden),
+        length-map (committed d.inner) (held_in f log_blowup),
+      ) in
       record {
         whole = whole index within;
         wider = λ m. wider_at f log_blowup hidden shift log_size (committed d.inner) es traces index
             within m;
+      }
+
+  -- where words were committed to as they are, each with more columns than hide the others
+  pub readable_words : (words : List (RowMajorMatrix F)) → committed d.inner ≡ words
+      → d.preprocessed ≡ false → (n : ℕ) → r ≡ n → All (λ m. n < matrix_width m) words
+      → (index : ℕ) → index < length words → CanRead f committed log_blowup r d index
+  readable_words words is private n codewords wide index below =
+      let hidden : n ≡ hidden_columns r d =
+      sym codewords ∙ ap (λ (public : Bool). if public then 0 else r) (sym private) in
+      record {
+        whole = whole index (subst (λ ms. index < length ms) (sym is) below);
+        wider = λ m.
+            subst (λ ms. hidden_columns r d < matrix_width (get_or ms index m)) (sym is)
+            (subst (λ h. h < matrix_width (get_or words index m)) hidden (wide index m below));
       }
 
 -- random polynomials are committed to as many matrices as there are domains

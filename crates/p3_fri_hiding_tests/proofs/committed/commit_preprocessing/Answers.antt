@@ -1,4 +1,4 @@
-use Rattle.std.proofs.Common.{◌<◌, length, arith}
+use Rattle.std.proofs.Common.{arith}
 use Rattle.p3_fri_hiding_tests.proofs.Readable.{readable}
 use Rattle.p3_fri_hiding_tests.proofs.committed.commit_preprocessing.Goals as goal
 

@@ -1,4 +1,4 @@
-use Rattle.std.proofs.Common.{◌<◌, length, arith}
+use Rattle.std.proofs.Common.{arith}
 use Rattle.p3_fri_hiding_tests.proofs.Readable.{whole, one_for_each}
 use Rattle.p3_fri_hiding_tests.proofs.randomization.commit_random.Goals as goal
 
