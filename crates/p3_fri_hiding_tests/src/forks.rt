@@ -3,7 +3,7 @@
 ghost use Rattle.std.specs.Prelude.{◌≡◌};
 
 use crate::committed::commit;
-use crate::matrices::{Entries, are_numbers, doubled_domain, matrix, row_of};
+use crate::matrices::{E, Entries, are_numbers, doubled_domain, matrix, row_of};
 use crate::readings::whole;
 use crate::scheme::{Scheme, scheme};
 use std::alloc::Global;
@@ -13,7 +13,7 @@ use std::test::Fail;
 const TRACE: Entries = Entries {
     shift: 5,
     width: 1,
-    numbers: &crate::matrices::E,
+    numbers: &E,
 };
 
 /// Its first two rows with masks, by the generators of two forks and by that of the scheme itself

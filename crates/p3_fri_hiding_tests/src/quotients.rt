@@ -6,7 +6,7 @@ ghost use Rattle.p3_fri_two_adic.specs.Ldes.{HasLdeHeight};
 
 use crate::cases::{CASES, Case};
 use crate::chunks::are_maskable;
-use crate::matrices::{Entries, are_numbers, coset, matrix, row_of};
+use crate::matrices::{E, Entries, PI, are_numbers, coset, matrix, row_of};
 use crate::readings::{shown, whole};
 use crate::scheme::{Data, Evaluations, Inputs, Scheme, scheme, scheme_with};
 use crate::words::are_wider;
@@ -23,12 +23,12 @@ const CHUNKS: [Entries; 2] = [
     Entries {
         shift: 31,
         width: 2,
-        numbers: &crate::matrices::PI,
+        numbers: &PI,
     },
     Entries {
         shift: 1_414_256_219,
         width: 2,
-        numbers: &crate::matrices::E,
+        numbers: &E,
     },
 ];
 
@@ -99,7 +99,7 @@ fn commit_masked(scheme: &mut Scheme, alloc: Global) -> Result<Data, Fail>
         return Err(Fail::new("not masked"));
     };
     if words.len() != 2 || !are_wider(&words, 4) {
-        return Err(Fail::new("no words beside those that hide them"));
+        return Err(Fail::new("no columns beside those that hide them"));
     }
     match scheme.commit_ldes::<BabyBear4>(alloc, words) {
         Ok((_, held)) => Ok(held),
@@ -145,11 +145,11 @@ fn masked_chunks_recombine_to_the_quotient(rt: HostRuntime) -> Result<(), Fail> 
 /// Two chunks of zeros of this height.
 fn zero_chunks(alloc: Global, height: usize) -> Result<Evaluations, Fail> {
     let log_size = height.trailing_zeros() as usize;
-    let halves = [coset(1, log_size)?, coset(31, log_size)?];
+    let domains = [coset(1, log_size)?, coset(31, log_size)?];
     let mut all = Vec::new(alloc);
-    for half in halves {
+    for domain in domains {
         let zeros = vec![in alloc; BabyBear::ZERO; height]?;
-        all.push((half, RowMajorMatrix::new(zeros, 1)))?;
+        all.push((domain, RowMajorMatrix::new(zeros, 1)))?;
     }
     Ok(all)
 }
@@ -167,7 +167,7 @@ fn is_answered(alloc: Global, case: &Case, height: usize) -> Result<bool, Fail> 
 #[test]
 fn chunks_meet_the_budget_or_are_refused(rt: HostRuntime) -> Result<(), Fail> {
     for case in &CASES {
-        for height in case.heights.iter().rev().take(1) {
+        if let Some(height) = case.heights.last() {
             assert!(rt; is_answered(rt.alloc(), case, *height)?, "{case:?}");
         }
     }
