@@ -6,3 +6,12 @@ mod Read
 mod Traced
 mod Committed
 mod QuotientsHeld
+mod Inside
+mod Tested
+mod Passed
+mod Stopped
+mod Counted
+mod Shown
+mod Openable
+mod Fitting
+mod Accepted
