@@ -51,7 +51,8 @@ module _ {F E T : Type 0} (f : Fields F E) (committed : T → List (RowMajorMatr
 
   module _ (preprocessing : Option ℕ) (requests : List Outer)
       (openable : AreOpenableAt (IsUnopened f committed log_blowup r)
-      (IsPreprocessing f committed log_blowup r) (shown_polynomials f committed log_blowup r) preprocessing
+      (IsPreprocessing f committed log_blowup r) (shown_polynomials f committed log_blowup r)
+      preprocessing
       requests) where
     pub all_counted : AreCounted r preprocessing 0 (map (λ (q : Outer). q.datum) requests)
     all_counted =
@@ -74,7 +75,8 @@ module _ {F E T : Type 0} (f : Fields F E) (committed : T → List (RowMajorMatr
         (is : kept ≡ kept_values r preprocessing values) where
       abbrev claims_shown : List (CommitmentClaim E Com)
       claims_shown = relation_claims (λ n. n)
-          (honest_claims (shown_polynomials f committed log_blowup r) (λ d. commitment_of d.inner) log_sizes
+          (honest_claims (shown_polynomials f committed log_blowup r) (λ d. commitment_of d.inner)
+          log_sizes
           requests)
 
       abbrev claims_held : List (CommitmentClaim E Com)
@@ -99,7 +101,8 @@ module _ {F E C Com Path InCom InPath T : Type 0} (s : Setting F E C Com Path In
     (IsPreprocessing s.fields committed p.log_blowup r)
     (shown_polynomials s.fields committed p.log_blowup r) preprocessing requests)
     (passed : PassesHidingChecks s.fields p r committed requests) (log_sizes : List (List ℕ))
-    (fits : FitDomains (shown_polynomials s.fields committed p.log_blowup r) (λ n. 2 ^ n) log_sizes requests)
+    (fits : FitDomains (shown_polynomials s.fields committed p.log_blowup r) (λ n. 2 ^ n) log_sizes
+    requests)
     (values kept : List (List (List (List E))))
     (are : values
     ≡ map (honest_values (held_of s.fields committed p.log_blowup)) (map inside requests))
@@ -107,7 +110,8 @@ module _ {F E C Com Path InCom InPath T : Type 0} (s : Setting F E C Com Path In
   where
     abbrev shown_claims : List (CommitmentClaim E InCom)
     shown_claims = relation_claims (λ n. n)
-        (honest_claims (shown_polynomials s.fields committed p.log_blowup r) (λ d. commitment_of d.inner)
+        (honest_claims (shown_polynomials s.fields committed p.log_blowup r)
+        (λ d. commitment_of d.inner)
         log_sizes requests)
 
     abbrev held_claims : List (CommitmentClaim E InCom)
@@ -123,7 +127,8 @@ module _ {F E C Com Path InCom InPath T : Type 0} (s : Setting F E C Com Path In
     pub accepted_shown : Accepts s p held_claims proof c
         → HidingAccepts s p r preprocessing shown_claims kept proof c
     accepted_shown accepts = record {
-      appends = subst (λ vs. MayAppend r p.num_queries s.fields.degree preprocessing shown_claims vs)
+      appends = subst
+          (λ vs. MayAppend r p.num_queries s.fields.degree preprocessing shown_claims vs)
           (sym (is ∙ ap (λ vs. kept_values r preprocessing vs) are))
           (may_append s.fields committed p r preprocessing commitment_of (λ (n : ℕ). n) log_sizes
           requests fits

@@ -114,15 +114,18 @@ module _ {F E T Com Domain : Type 0} (f : Fields F E) (committed : T → List (R
   IsWide d = All (λ m. hidden_columns r d ≤ matrix_width m) (committed d.inner)
 
   rounds_fit : (n : ℕ) (domains : List (List Domain)) (requests : List Outer)
-      → FitDomains (shown_polynomials f committed p.log_blowup r) (λ d. 2 ^ log_size d) domains requests
+      → FitDomains (shown_polynomials f committed p.log_blowup r) (λ d. 2 ^ log_size d) domains
+      requests
       → AreCounted r preprocessing n (map (λ q. q.datum) requests)
       → Each (λ q. length q.points ≡ held_by q.datum) requests
       → Each (λ q. IsWide q.datum) requests
       → Each (λ q. All (MeetsBudget f p r) (asked_of committed (inside q))) requests
       → AllZip (λ (round, c) matrices.
-      AllZip (FitsMatrix p.num_queries f.degree (count_at r preprocessing round)) c.matrices matrices)
+      AllZip (FitsMatrix p.num_queries f.degree (count_at r preprocessing round)) c.matrices
+      matrices)
       (enumerate_from n (relation_claims log_size (honest_claims
-      (shown_polynomials f committed p.log_blowup r) (λ d. commitment_of d.inner) domains requests)))
+      (shown_polynomials f committed p.log_blowup r) (λ d. commitment_of d.inner) domains
+      requests)))
       (map (λ (k, matrices). map (map (kept_back (count_at r preprocessing k))) matrices)
       (enumerate_from n
       (map (honest_values (held_of f committed p.log_blowup)) (map inside requests))))
@@ -132,7 +135,8 @@ module _ {F E T Com Domain : Type 0} (f : Fields F E) (committed : T → List (R
   rounds_fit n (ds ∷ domains) (q ∷ requests) sizes counted points wide meet =
       let ms = committed q.datum.inner in (
         matrices_fit f p r log_size (count_at r preprocessing n) (hidden_columns r q.datum)
-            counted.0 ds ms q.points (head_eq sizes) (count_first f p.log_blowup (hidden_columns r q.datum) ms q.points points.0)
+            counted.0 ds ms q.points (head_eq sizes)
+            (count_first f p.log_blowup (hidden_columns r q.datum) ms q.points points.0)
             (each_from_All (λ m. hidden_columns r q.datum ≤ matrix_width m) ms wide.0)
             (each_from_All (MeetsBudget f p r) (zip_with ask ms q.points) meet.0),
         rounds_fit (n + 1) domains requests (tail_eq sizes) counted.1 points.1 wide.1 meet.1,
@@ -227,7 +231,8 @@ module _ {F E T Com Domain : Type 0} (f : Fields F E) (committed : T → List (R
   enough [] points meet some = absurd (some refl)
   enough (q ∷ requests) points meet some =
       let ms = committed q.datum.inner in
-      enough_in ms q.points (count_first f p.log_blowup (hidden_columns r q.datum) ms q.points points.0)
+      enough_in ms q.points
+      (count_first f p.log_blowup (hidden_columns r q.datum) ms q.points points.0)
       (each_from_All (MeetsBudget f p r) (zip_with ask ms q.points) meet.0)
       (λ none. enough requests points.1 meet.1 (λ others. some
       (ap₂ (λ now rest. first_in f p.log_blowup (hidden_columns r q.datum) now ++ rest)

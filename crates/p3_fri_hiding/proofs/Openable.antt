@@ -72,7 +72,8 @@ module _ {F E T : Type 0} (f : Fields F E) (committed : T → List (RowMajorMatr
     pub openable_inside : AreOpenable (λ d. All (HasCoset f.two_adicity) (committed d)) held
         (map inside requests)
     openable_inside = record {
-      data_openable = All-map (λ (q : Request T E). All (HasCoset f.two_adicity) (committed q.datum))
+      data_openable = All-map
+          (λ (q : Request T E). All (HasCoset f.two_adicity) (committed q.datum))
           inside requests
           (of_data (λ d. All (HasCoset f.two_adicity) (committed d.inner))
           (λ d h. h.of_scheme.cosets) (λ d h. h.of_scheme.cosets));

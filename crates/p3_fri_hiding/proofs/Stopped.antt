@@ -60,7 +60,8 @@ module _ {F E C D Data Com Path InCom InPath : Type 0} (s : Setting F E C Com Pa
     by_opening asked same e made is h not =
         subst (λ x. Refused x) (sym is)
         (past_checks e
-        (subst (λ qs. OpenRefusal s p committed committed_in_test commitment_in_test solution c qs e)
+        (subst
+        (λ qs. OpenRefusal s p committed committed_in_test commitment_in_test solution c qs e)
         same h)
         not)
 

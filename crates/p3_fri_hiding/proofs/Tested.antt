@@ -87,7 +87,8 @@ module _ {F E : Type 0} (adicity : ℕ) (round : OpeningRound F E) (are : IsRoun
     lists_below = omega (arith, points_below, length-map round.points.now (λ v. v.items))
 
     asked_below : i < length (asked_in round)
-    asked_below = within_zip_with ask round.matrices.now (lists round.points.now) i below lists_below
+    asked_below =
+        within_zip_with ask round.matrices.now (lists round.points.now) i below lists_below
 
     asked_read : ask m points.items ≡ get_or (asked_in round) i (ask m points.items)
     asked_read =
@@ -113,4 +114,5 @@ module _ {F E : Type 0} (adicity : ℕ) (round : OpeningRound F E) (are : IsRoun
       → All P (take i (asked_in round)) → All P (asked_in round)
   asked_end P end all =
       to_the_end P (asked_in round) i
-      (length_of_zip_with ask round.matrices.now (lists round.points.now) i (omega (arith, end))) all
+      (length_of_zip_with ask round.matrices.now (lists round.points.now) i (omega (arith, end)))
+      all

@@ -252,8 +252,8 @@ pub(crate) fn open_hiding_requests<
         (shown_polynomials fields InputMmcs.committed b num_random_codewords) preprocessing
         (map request requests.old) }
     ensures values { IfOk result (λ opening. opened_values opening.0.items ≡ map (honest_values
-        (shown_polynomials ⟦<EF as ChallengeField<F>>⟧.fields InputMmcs.committed params.now.log_blowup
-        num_random_codewords)) (map request requests.old)) }
+        (shown_polynomials ⟦<EF as ChallengeField<F>>⟧.fields InputMmcs.committed
+        params.now.log_blowup num_random_codewords)) (map request requests.old)) }
     ensures accepted { let s = ⟦<C as PlaysTwoAdic<F, EF, InputMmcs, M>>⟧.setting input_mmcs.now
         params.now.mmcs in
         let b = params.now.log_blowup in

@@ -11,7 +11,9 @@ loop-request-preserved g c =
     let view = λ (d : opened.ProverDataWithOpeningPoints g.row.EF.Denot g.row.T.Denot).
     d.prover_data.now in
     let old = c.loop-request.found.items in
-    mapped_next (λ (r : OpeningRequest (HidingFriPcsProverData g.row.T.Denot) g.row.EF.Denot). r.prover_data.now.inner)
+    mapped_next
+    (λ (r : OpeningRequest (HidingFriPcsProverData g.row.T.Denot) g.row.EF.Denot).
+    r.prover_data.now.inner)
     c.args.requests.now c.loop-request.request-index c.request-item.result [] (map view old)
     (map view c.push.new.self.items) c.loop-request-test.true c.request-item.is
     c.loop-request.invariant
@@ -19,6 +21,8 @@ loop-request-preserved g c =
 
 pub returns : goal.returns
 returns g c =
-    mapped_end (λ (r : OpeningRequest (HidingFriPcsProverData g.row.T.Denot) g.row.EF.Denot). r.prover_data.now.inner)
+    mapped_end
+    (λ (r : OpeningRequest (HidingFriPcsProverData g.row.T.Denot) g.row.EF.Denot).
+    r.prover_data.now.inner)
     c.args.requests.now c.loop-request.request-index [] (map (λ d. d.prover_data.now)
     c.loop-request.found.items) c.loop-request-test.false c.loop-request.invariant

@@ -14,7 +14,8 @@ loop-request-preserved g c =
     let asked : List (RowMajorMatrix g.row.F.Denot) → List (List g.row.EF.Denot)
     → Request (List (RowMajorMatrix g.row.F.Denot)) g.row.EF.Denot =
     λ ms zs. record { datum = ms; points = zs } in
-    mapped_next (λ r. matrices_request g.InputMmcs.Mmcs.committed (inner_request r)) c.args.requests.now
+    mapped_next (λ r. matrices_request g.InputMmcs.Mmcs.committed (inner_request r))
+    c.args.requests.now
     c.loop-request.request-index
     c.request-item.result [] (map round_request old) (map round_request c.push.new.self.items)
     c.loop-request-test.true c.request-item.is c.loop-request.invariant
@@ -24,7 +25,8 @@ loop-request-preserved g c =
 
 pub returns : goal.returns
 returns g c =
-    mapped_end (λ r. matrices_request g.InputMmcs.Mmcs.committed (inner_request r)) c.args.requests.now
+    mapped_end (λ r. matrices_request g.InputMmcs.Mmcs.committed (inner_request r))
+    c.args.requests.now
     c.loop-request.request-index []
     (map round_request c.loop-request.rounds.items) c.loop-request-test.false
     c.loop-request.invariant

@@ -5,4 +5,5 @@ use Rattle.p3_fri_hiding.proofs.gather.hidden_rounds.Given as goal
 
 abbrev pub invariant-loop-request : goal.invariant-loop-request
 invariant-loop-request g l = map round_request l.rounds.items
-    ≡ map (λ r. matrices_request g.InputMmcs.Mmcs.committed (inner_request r)) (take l.request-index l.requests)
+    ≡ map (λ r. matrices_request g.InputMmcs.Mmcs.committed (inner_request r))
+    (take l.request-index l.requests)

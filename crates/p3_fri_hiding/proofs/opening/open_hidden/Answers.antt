@@ -12,7 +12,8 @@ use Rattle.p3_fri_opening_prover.proofs.Asked.{data_seen, some_matrix}
 use Rattle.p3_fri_opening_prover.proofs.Composed.{AllVerify, all_honest, all_refused, all_verify}
 use Rattle.p3_fri_opening_prover.proofs.Composed.{read_alike, same_opened}
 use Rattle.p3_fri_hiding.proofs.opening.open_hidden.Given.{Over}
-use Rattle.p3_fri_hiding.proofs.opening.open_hidden.Goals.{After-deref, After-deref-2, After-open_rounds}
+use Rattle.p3_fri_hiding.proofs.opening.open_hidden.Goals.{After-deref, After-deref-2}
+use Rattle.p3_fri_hiding.proofs.opening.open_hidden.Goals.{After-open_rounds}
 use Rattle.algebra.proofs.Lists.{map-map}
 use Rattle.p3_fri_hiding.specs.Requests.{inner_request}
 use Rattle.p3_fri_opening_prover.proofs.Asked.{are_rounds, tall_rounds, off_rounds}
@@ -79,7 +80,8 @@ same_data g c =
 pub open_rounds-requires-clause-opened :
     goal.open_rounds-requires-clause-opened
 open_rounds-requires-clause-opened g c =
-    read_alike g.InputMmcs.Mmcs.committed c.deref-2.result.now (map inner_request c.args.requests.now)
+    read_alike g.InputMmcs.Mmcs.committed c.deref-2.result.now
+    (map inner_request c.args.requests.now)
     (λ d. d.prover_data.now) (λ r. r.prover_data.now)
     (same_data g (goal.at.open_rounds-requires-clause-opened g c).After-deref-2)
     ∙ data_seen (fields_of g) (parameters_of c.args.params.now) g.InputMmcs.Mmcs.committed
@@ -125,7 +127,8 @@ verifies g c honest =
     (λ d. d.prover_data.now) (λ r. r.prover_data.now)
     (ap (λ ds. map (λ d. d.prover_data.now) ds) c.deref-2.ensures.value
     ∙ (c.in-Ok-hidden_data.ensures
-    ∙ sym (map-map (λ r. r.prover_data.now) inner_request c.args.requests.now))) c.open_rounds.new.challenger c.open_rounds.result
+    ∙ sym (map-map (λ r. r.prover_data.now) inner_request c.args.requests.now)))
+    c.open_rounds.new.challenger c.open_rounds.result
     (λ opening. proof_of opening.1) c.open_rounds.ensures.opening)
 
 pub returns-clause-accepted :
@@ -143,8 +146,10 @@ pub returns-clause-refused :
 returns-clause-refused g c =
     all_refused (setting_at g c.args.folding.now c.args.params.now.mmcs c.args.input_mmcs.now)
     (parameters_of c.args.params.now) g.InputMmcs.Mmcs.committed c.deref.result.now
-    (map inner_request c.args.requests.now) (same g (goal.at.returns-clause-refused g c).After-deref)
-    g.M.Mmcs.committed g.M.Mmcs.commitment_of g.C.GrindingChallenger.solution c.args.challenger.now c.open_rounds.result
+    (map inner_request c.args.requests.now)
+    (same g (goal.at.returns-clause-refused g c).After-deref)
+    g.M.Mmcs.committed g.M.Mmcs.commitment_of g.C.GrindingChallenger.solution
+    c.args.challenger.now c.open_rounds.result
     c.requires.passes c.open_rounds.ensures.stops c.open_rounds.ensures.not_checked
 
 pub open_rounds-requires-clause-rounds :
