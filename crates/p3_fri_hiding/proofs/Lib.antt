@@ -15,3 +15,4 @@ mod Shown
 mod Openable
 mod Fitting
 mod Accepted
+mod Domains

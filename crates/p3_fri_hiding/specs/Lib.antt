@@ -6,3 +6,4 @@ pub mod Commitments
 pub mod Quotients
 pub mod Requests
 pub mod Opening
+pub mod ReadingLaws

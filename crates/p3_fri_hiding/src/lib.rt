@@ -11,6 +11,7 @@ pub mod hiding_pcs;
 pub mod ldes;
 pub mod marks;
 pub mod opening;
+pub mod pcs;
 pub mod quotients;
 pub mod readings;
 pub mod request_checks;
