@@ -1,7 +1,7 @@
 //! The hiding scheme as a STARK prover uses it.
 
 ghost use Rattle.std.specs.Prelude.{◌≡◌, ◌≢◌, ◌↔◌, ◌<◌, ◌≤◌, ◌+◌, ◌*◌, ◌/◌, ◌^◌, ℕ, List, map};
-ghost use Rattle.std.specs.Prelude.{length, true, false, All, IsOk, IfOk, IfErr, IfSome};
+ghost use Rattle.std.specs.Prelude.{length, true, false, All, IsOk, IfOk, IfErr, IsSome, IfSome};
 ghost use Rattle.std.specs.Prelude.{MatchResult, Err};
 ghost use Rattle.std.specs.List.{AllZip};
 ghost use Rattle.std.proofs.Common.{ap, sym, subst};
@@ -406,6 +406,7 @@ impl<
             verifier_range (parameters_of self.old.fri) n C.MAX_SAMPLE_BITS
             → verifier_range (parameters_of self.new.fri) n C.MAX_SAMPLE_BITS }
         ensures kept { self.new ≡ record self.old { rng = self.new.rng } }
+        ensures some { IfOk result (λ found. IsSome found) }
         ensures commitment { IfOk result (λ found. IfSome found (λ pair.
             InputMmcs.commitment_of pair.1.inner ≡ pair.0)) }
         ensures openable { IfOk result (λ found. IfSome found (λ pair. IsUnopened
