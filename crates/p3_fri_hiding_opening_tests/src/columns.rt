@@ -40,13 +40,21 @@ pub(crate) fn column(
     Ok((domain, matrix))
 }
 
-/// The points `5 + X^2` and `X`, so many of them: they aren't elements of the base field, and so
-/// lie outside of each coset.
+/// Coefficients of the points `5 + X^2` and `X`, which aren't elements of the base field, and so lie
+/// outside of each coset.
+const POINTS: [[u64; 4]; 2] = [[5, 0, 1, 0], [0, 1, 0, 0]];
+
+/// The first of them.
+pub(crate) fn point() -> BabyBear4 {
+    element(POINTS[0])
+}
+
+/// So many of them.
 pub(crate) fn points(alloc: Global, count: usize) -> Result<Vec<BabyBear4>, Fail>
     ensures { IfOk result (λ points. points.items ≢ []) }
 {
     let mut points = Vec::with_capacity(alloc, 2)?;
-    for coefficients in [[5, 0, 1, 0], [0, 1, 0, 0]] {
+    for coefficients in POINTS {
         points.push(element(coefficients))?;
     }
     points.truncate(count);

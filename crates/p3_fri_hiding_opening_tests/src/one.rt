@@ -1,6 +1,7 @@
 //! One matrix committed to and opened, by any scheme.
 
-ghost use Rattle.std.specs.Prelude.{◌≡◌, ◌≢◌, [], ◌∷◌, map, length, IfOk};
+ghost use Rattle.std.specs.Prelude.{◌≡◌, ◌≢◌, [], ◌∷◌, length, IfOk};
+ghost use Rattle.p3_fri_hiding_opening_tests.specs.Known.{FitData};
 
 use crate::listed::listed;
 use p3_matrix::RowMajorMatrix;
@@ -26,12 +27,13 @@ pub(crate) fn commit_one<EF: Copy, C, P: Pcs<EF, C>>(
     requires { P.CanCommit scheme.old (evaluation ∷ []) }
     ensures range { P.InProverRange scheme.old → P.InProverRange scheme.new }
     ensures verifier_range { P.InVerifierRange scheme.old → P.InVerifierRange scheme.new }
+    ensures kept { P.Keeps scheme.old scheme.new }
     ensures openable { IfOk result (λ pair. P.CanOpen scheme.new pair.1) }
     ensures honest { IfOk result (λ pair. P.IsHonest scheme.new pair.1) }
-    ensures commitment { IfOk result (λ pair. pair.0.commitment ≡ P.commitment_of pair.1) }
-    ensures sizes { IfOk result (λ pair. map P.domain_size pair.0.domains.items
-        ≡ map (λ m. m.size) (P.committed_polynomials scheme.new pair.1)) }
-    ensures one_matrix { IfOk result (λ pair. length pair.0.domains.items ≡ 1) }
+    ensures one_matrix { IfOk result (λ pair.
+        length (P.committed_polynomials scheme.new pair.1) ≡ 1) }
+    ensures known { IfOk result (λ pair. FitData (P.committed_polynomials scheme.new)
+        P.commitment_of P.domain_size (pair.0 ∷ []) (pair.1 ∷ [])) }
 {
     let domains = listed(alloc, evaluation.0)?;
     let evaluations = listed(alloc, evaluation)?;
@@ -90,10 +92,9 @@ pub(crate) fn show_one<EF: Copy, C: Clone, P: Pcs<EF, C>>(
     requires verifier { P.InVerifierRange scheme.now }
     requires openable { P.CanOpen scheme.now held.old }
     requires honest { P.IsHonest scheme.now held.old }
-    requires commitment { known.commitment ≡ P.commitment_of held.old }
-    requires sizes { map P.domain_size known.domains.items
-        ≡ map (λ m. m.size) (P.committed_polynomials scheme.now held.old) }
-    requires one_matrix { length known.domains.items ≡ 1 }
+    requires one_matrix { length (P.committed_polynomials scheme.now held.old) ≡ 1 }
+    requires known { FitData (P.committed_polynomials scheme.now) P.commitment_of P.domain_size
+        (known ∷ []) (held.old ∷ []) }
     requires some_point { points.items ≢ [] }
 {
     let known = listed(alloc, known)?;

@@ -21,23 +21,21 @@ struct Opening {
     challenger: Sha256Challenger,
 }
 
-/// A private column opened at so many points, by a challenger that is new.
-fn open_column(
-    alloc: Global,
-    scheme: &mut Scheme,
-    numbers: &[u64],
-    num_points: usize,
-) -> Result<Opening, Fail> {
+/// A private column committed to and opened at so many points, by a challenger that is new.
+fn open_column(alloc: Global, numbers: &[u64], num_points: usize) -> Result<Opening, Fail> {
+    let mut scheme = scheme();
     let column = column(alloc, numbers)?;
     let (known, mut held) = commit_one::<BabyBear4, Sha256Challenger, Scheme>(
-        scheme, alloc, column,
+        &mut scheme,
+        alloc,
+        column,
     )?;
     if held.is_opened() {
         return Err(Fail::new("opened before"));
     }
     let points = points(alloc, num_points)?;
     let mut challenger = Sha256Challenger::new();
-    let answer = open_one(&*scheme, alloc, known, &mut held, points, &mut challenger)?;
+    let answer = open_one(&scheme, alloc, known, &mut held, points, &mut challenger)?;
     Ok(Opening {
         answer,
         held,
@@ -68,19 +66,18 @@ fn has_counts(values: &OpenedValues<BabyBear4>, num_points: usize, num_columns: 
 /// Whether a column of 32 rows is opened at two points and accepted by a verifier that ends as the
 /// prover, and its data counts as opened.
 fn is_opened(alloc: Global) -> Result<bool, Fail> {
-    let mut scheme = scheme();
     let Opening {
         answer,
         held,
         challenger,
-    } = open_column(alloc, &mut scheme, &E, 2)?;
+    } = open_column(alloc, &E, 2)?;
     let Ok(opened) = answer else {
         return Err(Fail::new("the opening is refused"));
     };
     let is_shown = has_counts(&opened.values, 2, 1) && has_counts(&opened.proof.0, 2, 4);
     let mut verifier = Sha256Challenger::new();
     let verified = <Scheme as Pcs<BabyBear4, Sha256Challenger>>::verify(
-        &scheme,
+        &scheme(),
         alloc,
         opened.claims,
         &opened.proof,
@@ -116,7 +113,7 @@ fn is_refused(alloc: Global) -> Result<bool, Fail> {
         answer,
         held,
         challenger,
-    } = open_column(alloc, &mut scheme(), &PI, 2)?;
+    } = open_column(alloc, &PI, 2)?;
     let Err(refusal) = answer else {
         return Err(Fail::new("opened"));
     };

@@ -1,4 +1,4 @@
-use Rattle.std.proofs.Common.{length, sym, ap, ◌∙◌}
+use Rattle.std.proofs.Common.{length, ap, ◌∙◌}
 use Rattle.p3_fri_hiding_opening_tests.proofs.Requests.{openable}
 use Rattle.p3_fri_hiding_opening_tests.proofs.one.open_one.Goals as goal
 

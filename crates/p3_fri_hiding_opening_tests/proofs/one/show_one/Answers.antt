@@ -1,11 +1,9 @@
-use Rattle.std.proofs.Common.{length, sym, ap, ◌∙◌}
-use Rattle.p3_stark_pcs.proofs.Requests.{count_of}
+use Rattle.std.proofs.Common.{length, ap, ◌∙◌}
 use Rattle.p3_fri_hiding_opening_tests.proofs.Requests.{openable}
 use Rattle.p3_fri_hiding_opening_tests.proofs.one.show_one.Goals as goal
 
 pub open_and_verify-opened-requires-clause-shape :
     goal.open_and_verify-opened-requires-clause-shape
 open_and_verify-opened-requires-clause-shape g c =
-    let same = count_of g.P.Pcs.domain_size _ _ c.requires.sizes in
     openable _ _ _ _ (c.as_mut_slice.ensures.value ∙ c.in_ok-requests.ensures)
-    c.requires.openable (ap length c.in_ok-listed-2.ensures) (sym same ∙ c.requires.one_matrix)
+    c.requires.openable (ap length c.in_ok-listed-2.ensures) c.requires.one_matrix
