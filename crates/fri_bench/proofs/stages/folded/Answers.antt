@@ -1,4 +1,4 @@
-use Rattle.std.proofs.Common.{◌≡◌, sym, arith, ◌∙◌}
+use Rattle.std.proofs.Common.{sym, arith, ◌∙◌}
 use Rattle.p3_field.proofs.IndexPowers.{exponents_agree}
 use Rattle.fri_bench.proofs.stages.folded.Goals as goal
 
