@@ -17,14 +17,14 @@ use p3_fri_two_adic::TwoAdicFriPcs;
 use p3_mmcs::Mmcs;
 use p3_pcs::{OpeningRequest, Pcs};
 
-pub type Scheme = TwoAdicFriPcs<BabyBear, Radix2Dit<BabyBear>, Inputs, Rounds>;
+type Scheme = TwoAdicFriPcs<BabyBear, Radix2Dit<BabyBear>, Inputs, Rounds>;
 
-pub type Committed = ([u8; 32], InputData);
+type Committed = ([u8; 32], InputData);
 
 type Opened = (Claims, Proof);
 
 /// Commits to one matrix.
-pub fn commit(
+fn commit(
     rt: &HostRuntime,
     watch: &mut Watch,
     scheme: &mut Scheme,

@@ -1,4 +1,6 @@
-//! The hiding scheme: what it commits to, what is kept of that, and why its prover refuses.
+//! The hiding scheme: what it commits to, what is kept of that, why its prover refuses, and whether
+//! the domains of a quotient's chunks are disjoint.
 
 pub use p3_fri_hiding::{HidingFriPcs, HidingFriPcsProverData};
 pub use p3_fri_masks::HidingFriProverError;
+pub use p3_fri_quotient_masks::are_disjoint;

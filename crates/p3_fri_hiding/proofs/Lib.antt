@@ -6,3 +6,13 @@ mod Read
 mod Traced
 mod Committed
 mod QuotientsHeld
+mod Inside
+mod Tested
+mod Passed
+mod Stopped
+mod Counted
+mod Shown
+mod Openable
+mod Fitting
+mod Accepted
+mod Domains

@@ -1,5 +1,5 @@
 -- Refusals for a budget, and for want of memory.
-use Rattle.std.proofs.Common.{◌≡◌, ℕ, List, Result, map, subst}
+use Rattle.std.proofs.Common.{◌≡◌, ◌≢◌, ℕ, List, Result, Ok, Err, map, refl, subst}
 use Rattle.std.specs.Prelude.{IsErr, IsErrAnd, IfErr}
 use Rattle.p3_fri_pow.specs.declared.error.FriProverError.TheVariants as plain
 use Rattle.p3_fri_masks.specs.declared.error.HidingFriProverError.{HidingFriProverError}
@@ -34,6 +34,19 @@ module _ (r q d : ℕ) (heights : List ℕ) where
       → IsErr result × IsErrAnd result (λ x. x ≡ Fri plain.OutOfMemory) → AllFit r q d heights
       → IfErr result (MaskRefusal r q d heights)
   memory_refused result on fit = handed_on (MaskRefusal r q d heights) result (Fri plain.OutOfMemory) on fit
+
+-- what is said of other refusals than want of memory holds of that
+pub memory_alone : {X : Type 0} (A : Type 0) (result : Result X HidingFriProverError)
+    → IsErr result × IsErrAnd result (λ x. x ≡ Fri plain.OutOfMemory)
+    → IfErr result (λ e. e ≢ Fri plain.OutOfMemory → A)
+memory_alone A result on = handed_on (λ e. e ≢ Fri plain.OutOfMemory → A) result (Fri plain.OutOfMemory) on
+    (λ other. absurd (other refl))
+
+-- what holds in any case holds where a test refuses
+pub in_any_case : {X : Type 0} (A : Type 0) (result : Result X HidingFriProverError) → A
+    → IfErr result (λ e. e ≢ Fri plain.OutOfMemory → A)
+in_any_case A (Ok v) a = tt
+in_any_case A (Err e) a = λ other. a
 
 -- budgets of lists that are equal, for degrees that are
 module _ {X : Type 0} (r q degree other : ℕ) (same : degree ≡ other) (xs ys : List X) (equal : xs ≡ ys)

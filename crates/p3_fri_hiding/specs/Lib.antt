@@ -4,3 +4,6 @@ pub mod Data
 pub mod Trace
 pub mod Commitments
 pub mod Quotients
+pub mod Requests
+pub mod Opening
+pub mod ReadingLaws

@@ -2,13 +2,15 @@
 //! to. A matrix of `n` rows is handed in beside a domain of `2n` points, on which the masked matrix
 //! has its values.
 
-ghost use Rattle.std.specs.Prelude.{◌≡◌, map, length, All};
+ghost use Rattle.std.specs.Prelude.{◌≡◌, ◌≢◌, map, length, All};
 ghost use Rattle.std.specs.Prelude.{IsOk, IfOk, IfErr, false, true};
 ghost use Rattle.std.specs.List.{AllZip};
 ghost use Rattle.rand_core.specs.Stream.{fill_bytes};
 ghost use Rattle.p3_matrix.specs.Matrix.{rows};
 ghost use Rattle.p3_matrix.specs.Words.{past};
 ghost use Rattle.p3_fri_completeness.specs.Requests.{HoldsWords};
+ghost use Rattle.p3_fri_pow.specs.declared.error.FriProverError.TheVariants.{OutOfMemory};
+ghost use Rattle.p3_fri_masks.specs.declared.error.HidingFriProverError.TheVariants.{Fri};
 ghost use Rattle.p3_fri_masks.specs.Masked.{mask_words_of_all};
 ghost use Rattle.p3_fri_hiding.specs.Budgets.{AllFit, MaskRefusal};
 ghost use Rattle.p3_fri_hiding.specs.Commitments.{ExtendMasked, ExtendPadded};
@@ -116,7 +118,8 @@ impl<
     /// # Errors
     ///
     /// `InsufficientRandomCodewords`, `BudgetOverflow` or `HidingBudgetExceeded` where the masks of
-    /// a matrix, as high as it is, can't hide one opening; else `Fri(OutOfMemory)` alone.
+    /// a matrix, as high as it is, can't hide one opening, and then nothing was drawn; else
+    /// `Fri(OutOfMemory)` alone.
     pub fn commit<EF: ExtensionField<F>>(
         &mut self,
         alloc: Global,
@@ -157,6 +160,7 @@ impl<
         ensures refused { IfErr result (MaskRefusal self.old.num_random_codewords
             self.old.fri.num_queries EF.DIMENSION
             (map (λ e. length (rows e.1)) evaluations.items)) }
+        ensures unmoved { IfErr result (λ e. e ≢ Fri OutOfMemory → self.new ≡ self.old) }
     {
         let codewords = self.num_random_codewords;
         let log_blowup = self.fri.log_blowup;

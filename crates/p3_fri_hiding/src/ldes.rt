@@ -1,12 +1,14 @@
 //! Words that are committed to as they are, and random polynomials.
 
-ghost use Rattle.std.specs.Prelude.{◌≡◌, ◌≤◌, ◌+◌, ◌/◌, ◌^◌, false, map, length, All};
+ghost use Rattle.std.specs.Prelude.{◌≡◌, ◌≢◌, ◌≤◌, ◌+◌, ◌/◌, ◌^◌, false, map, length, All};
 ghost use Rattle.std.specs.Prelude.{IsOk, IfOk, IfErr, IsSome, IfSome};
 ghost use Rattle.p3_matrix.specs.Matrix.{rows};
 ghost use Rattle.p3_matrix.specs.Words.{past};
+ghost use Rattle.p3_fri_pow.specs.declared.error.FriProverError.TheVariants.{OutOfMemory};
 ghost use Rattle.p3_fri_completeness.specs.Requests.{HoldsWords};
 ghost use Rattle.p3_fri_two_adic.specs.Ldes.{HasLdeHeight};
 ghost use Rattle.p3_fri_masks.specs.Draws.{random_words};
+ghost use Rattle.p3_fri_masks.specs.declared.error.HidingFriProverError.TheVariants.{Fri};
 ghost use Rattle.p3_fri_hiding.specs.Budgets.{AllFit, MaskRefusal};
 ghost use Rattle.p3_fri_hiding.specs.Commitments.{ExtendRandom};
 ghost use Rattle.p3_fri_hiding.specs.Data.{AreWide, IsNew, IsOfScheme, IsUnopened};
@@ -144,6 +146,7 @@ impl<
         ensures refused { IfErr result (MaskRefusal self.old.num_random_codewords
             self.old.fri.num_queries EF.DIMENSION
             (map (λ d. 2 ^ d.log_size / 2) domains.items)) }
+        ensures unmoved { IfErr result (λ e. e ≢ Fri OutOfMemory → self.new ≡ self.old) }
     {
         let codewords = self.num_random_codewords;
         let log_blowup = self.fri.log_blowup;

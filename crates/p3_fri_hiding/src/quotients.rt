@@ -1,12 +1,14 @@
 //! The words of a quotient's chunks.
 
-ghost use Rattle.std.specs.Prelude.{◌≡◌, ◌*◌, ◌^◌, map, length, All, IsOk, IfOk, IfErr};
+ghost use Rattle.std.specs.Prelude.{◌≡◌, ◌≢◌, ◌*◌, ◌^◌, map, length, All, IsOk, IfOk, IfErr};
 ghost use Rattle.std.specs.List.{AllZip};
 ghost use Rattle.p3_matrix.specs.Matrix.{rows};
+ghost use Rattle.p3_fri_pow.specs.declared.error.FriProverError.TheVariants.{OutOfMemory};
 ghost use Rattle.p3_fri_completeness.specs.Requests.{HoldsWords};
 ghost use Rattle.p3_fri_two_adic.specs.Chunks.{polynomials_on, recombined_on};
 ghost use Rattle.p3_fri_two_adic.specs.Ldes.{HasLdeHeight};
 ghost use Rattle.p3_fri_quotient_masks.specs.QuotientLdes.{AreMaskedChunks, past_masks};
+ghost use Rattle.p3_fri_masks.specs.declared.error.HidingFriProverError.TheVariants.{Fri};
 ghost use Rattle.p3_fri_hiding.specs.Budgets.{AllFit, MaskRefusal};
 ghost use Rattle.p3_fri_hiding.specs.Data.{AreWide};
 ghost use Rattle.p3_fri_hiding.specs.Quotients.{CanExtend};
@@ -85,6 +87,7 @@ impl<
         ensures refused { IfErr result (MaskRefusal self.old.num_random_codewords
             self.old.fri.num_queries EF.DIMENSION
             (map (λ e. length (rows e.1)) evaluations.items)) }
+        ensures unmoved { IfErr result (λ e. e ≢ Fri OutOfMemory → self.new ≡ self.old) }
     {
         let codewords = self.num_random_codewords;
         let log_blowup = self.fri.log_blowup;

@@ -24,10 +24,7 @@ use rand_core::CryptoRng;
 use std::alloc::Global;
 
 /// How many of the last columns of a datum's matrices only hide the others.
-fn hidden_columns<T>(
-    prover_data: &HidingFriPcsProverData<T>,
-    num_random_codewords: usize,
-) -> usize
+fn hidden_columns<T>(prover_data: &HidingFriPcsProverData<T>, num_random_codewords: usize) -> usize
     ensures { result ≡ hidden_columns num_random_codewords prover_data.now }
 {
     if prover_data.preprocessed {

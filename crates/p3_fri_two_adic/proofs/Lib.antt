@@ -2,6 +2,6 @@ pub mod Claims
 pub mod Committed
 pub mod Evaluated
 pub mod Ldes
-mod Sizes
-mod Tabulated
+pub mod Sizes
+pub mod Tabulated
 mod Unspent

@@ -1,4 +1,4 @@
-use Rattle.std.proofs.Common.{false, length, map, sym, subst}
+use Rattle.std.proofs.Common.{false, length, map, sym, subst, refl}
 use Rattle.p3_matrix.specs.Matrix.{rows}
 use Rattle.p3_fri_relation.specs.Setting.{Fields}
 use Rattle.p3_fri_completeness.specs.Requests.{HoldsWords}
@@ -9,6 +9,7 @@ use Rattle.p3_fri_hiding.specs.Trace.{HasTrace}
 use Rattle.p3_fri_hiding.proofs.Committed.{masked_all_fit, masked_wide, masked_all_traced}
 use Rattle.p3_fri_hiding.proofs.NewData.{zip_shown, is_unopened}
 use Rattle.p3_fri_hiding.proofs.Refused.{budget_refused, memory_refused, fit_of, misfit_of}
+use Rattle.p3_fri_hiding.proofs.Refused.{memory_alone, in_any_case}
 use Rattle.p3_fri_hiding.proofs.hiding_pcs.HidingFriPcs.commit.Given.{Over}
 use Rattle.p3_fri_hiding.proofs.hiding_pcs.HidingFriPcs.commit.Goals as goal
 
@@ -117,3 +118,14 @@ returns-clause-extends g c =
     (g.InputMmcs.Mmcs.committed c.in_ok-commitment.inner) c.in_ok-masked.masked.items c.args.evaluations.items c.requires c.in_ok-commitment.ensures.words
     g.F.SampleField.from_word c.args.self.now.num_random_codewords (g.R.Rng.stream c.args.self.now.rng)
     c.in_ok-masked.ensures.masked)
+
+pub returns-in_err-check_matrices-clause-unmoved : goal.returns-in_err-check_matrices-clause-unmoved
+returns-in_err-check_matrices-clause-unmoved g c = in_any_case _ c.from_residual.result refl
+
+pub returns-in_err-masked-clause-unmoved : goal.returns-in_err-masked-clause-unmoved
+returns-in_err-masked-clause-unmoved g c =
+    memory_alone _ c.from_residual-in_err-masked.result c.from_residual-in_err-masked.ensures
+
+pub returns-in_err-commitment-clause-unmoved : goal.returns-in_err-commitment-clause-unmoved
+returns-in_err-commitment-clause-unmoved g c =
+    memory_alone _ c.from_residual-in_err-commitment.result c.from_residual-in_err-commitment.ensures

@@ -1,4 +1,4 @@
-use Rattle.std.proofs.Common.{◌+◌, ◌/◌, ◌^◌, ◌∙◌, map, sym, ap, subst, arith}
+use Rattle.std.proofs.Common.{◌+◌, ◌/◌, ◌^◌, ◌∙◌, map, sym, ap, subst, arith, refl}
 use Rattle.std.specs.Prelude.{All}
 use Rattle.p3_matrix.specs.Words.{past}
 use Rattle.p3_fri_relation.specs.Setting.{Fields}
@@ -9,6 +9,7 @@ use Rattle.p3_fri_hiding.specs.Commitments.{ExtendRandom}
 use Rattle.p3_fri_hiding.proofs.Committed.{random_all_fit, random_wide, some_coefficient}
 use Rattle.p3_fri_hiding.proofs.NewData.{is_unopened}
 use Rattle.p3_fri_hiding.proofs.Refused.{budget_refused, memory_refused, fit_of, misfit_of}
+use Rattle.p3_fri_hiding.proofs.Refused.{memory_alone, in_any_case}
 use Rattle.p3_fri_hiding.proofs.hiding_pcs.HidingFriPcs.get_opt_randomization_poly_commitment.Given.{Over}
 use Rattle.p3_fri_hiding.proofs.hiding_pcs.HidingFriPcs.get_opt_randomization_poly_commitment.Goals as goal
 
@@ -118,3 +119,14 @@ returns-clause-honest g c =
     (g.InputMmcs.Mmcs.committed c.in_ok-commitment.inner) c.in_ok-random.random.items (random_all_fit g.F.SampleField.from_word (λ d. d.log_size) c.in-Some.width
     g.F.TwoAdicField.TWO_ADICITY c.args.self.now.fri.log_blowup c.args.domains.items c.requires
     c.in_ok-random.random.items (g.R.Rng.stream c.args.self.now.rng) c.in_ok-random.ensures.random) c.in_ok-commitment.ensures.words)
+
+pub returns-in_err-check_domains-clause-unmoved : goal.returns-in_err-check_domains-clause-unmoved
+returns-in_err-check_domains-clause-unmoved g c = in_any_case _ c.from_residual.result refl
+
+pub returns-in_err-random-clause-unmoved : goal.returns-in_err-random-clause-unmoved
+returns-in_err-random-clause-unmoved g c =
+    memory_alone _ c.from_residual-in_err-random.result c.from_residual-in_err-random.ensures
+
+pub returns-in_err-commitment-clause-unmoved : goal.returns-in_err-commitment-clause-unmoved
+returns-in_err-commitment-clause-unmoved g c =
+    memory_alone _ c.from_residual-in_err-commitment.result c.from_residual-in_err-commitment.ensures

@@ -1,9 +1,10 @@
-use Rattle.std.proofs.Common.{length, map}
+use Rattle.std.proofs.Common.{length, map, refl}
 use Rattle.p3_matrix.specs.Matrix.{rows}
 use Rattle.p3_fri_relation.specs.Setting.{Fields}
 use Rattle.p3_fri_hiding.proofs.QuotientsHeld.{ldes_have_heights, ldes_hold_words, ldes_are_wide}
 use Rattle.p3_fri_hiding.proofs.QuotientsHeld.{sizes_shown, recombined_shown}
 use Rattle.p3_fri_hiding.proofs.Refused.{budget_refused, memory_refused, fit_of, misfit_of}
+use Rattle.p3_fri_hiding.proofs.Refused.{memory_alone, in_any_case}
 use Rattle.p3_fri_hiding.proofs.hiding_pcs.HidingFriPcs.get_quotient_ldes.Given.{Over}
 use Rattle.p3_fri_hiding.proofs.hiding_pcs.HidingFriPcs.get_quotient_ldes.Goals as goal
 
@@ -85,3 +86,10 @@ returns-clause-recombined g c z =
     (λ d. d.log_size) (λ d. d.nonzero) c.args.evaluations.items c.requires.masked
     g.F.SampleField.from_word (g.R.Rng.stream c.args.self.now.rng)
     c.in_ok-quotient_ldes.field-0.items c.in_ok-quotient_ldes.ensures.ldes z
+
+pub returns-in_err-check_matrices-clause-unmoved : goal.returns-in_err-check_matrices-clause-unmoved
+returns-in_err-check_matrices-clause-unmoved g c = in_any_case _ c.from_residual.result refl
+
+pub returns-in_err-quotient_ldes-clause-unmoved : goal.returns-in_err-quotient_ldes-clause-unmoved
+returns-in_err-quotient_ldes-clause-unmoved g c =
+    memory_alone _ c.from_residual-in_err-quotient_ldes.result c.from_residual-in_err-quotient_ldes.ensures

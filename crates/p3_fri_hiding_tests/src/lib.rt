@@ -1,0 +1,29 @@
+//! Tests of `p3_fri_hiding`, at BabyBear, its quartic extension, SHA-256 and ChaCha.
+#![tactic(auto)]
+
+#[cfg(test)]
+mod calls;
+#[cfg(test)]
+mod cases;
+#[cfg(test)]
+mod chunks;
+#[cfg(test)]
+mod committed;
+#[cfg(test)]
+mod forks;
+#[cfg(test)]
+mod masked;
+#[cfg(test)]
+mod matrices;
+#[cfg(test)]
+mod preprocessed;
+#[cfg(test)]
+mod quotients;
+#[cfg(test)]
+mod randomization;
+#[cfg(test)]
+mod readings;
+#[cfg(test)]
+mod scheme;
+#[cfg(test)]
+mod words;
