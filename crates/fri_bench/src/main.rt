@@ -2,6 +2,7 @@
 //! scheme itself: in microseconds, the least of several.
 #![tactic(auto)]
 
+mod hiding;
 mod scheme;
 mod stages;
 mod verifier;
@@ -17,6 +18,7 @@ fri_bench tree LOG_HEIGHT WIDTH [REPEATS]
 fri_bench fold LOG_SIZE [REPEATS]
 fri_bench rounds LOG_SIZE LOG_CAP [REPEATS]
 fri_bench scheme LOG_HEIGHT WIDTH LOG_BLOWUP QUERIES LOG_CAP [REPEATS]
+fri_bench hiding LOG_HEIGHT WIDTH CODEWORDS [REPEATS]
 fri_bench verifier LOG_HEIGHT WIDTH QUERIES LOG_CAP [REPEATS]
 fri_bench figures [REPEATS]";
 
@@ -55,6 +57,7 @@ fn run(rt: &HostRuntime, args: &[String]) -> Result<()> {
         "fold" => stages::fold(rt, read(others, 9)?),
         "rounds" => verifier::rounds(rt, read(others, 5)?),
         "scheme" => scheme::print(rt, read(others, 5)?),
+        "hiding" => hiding::print(rt, read(others, 5)?),
         "verifier" => verifier::print(rt, read(others, 5)?),
         "figures" => figures(rt, read::<0>(others, 5)?.1),
         _ => stages::extension(rt, read(args, 5)?),

@@ -17,14 +17,14 @@ use p3_fri_two_adic::TwoAdicFriPcs;
 use p3_mmcs::Mmcs;
 use p3_pcs::{OpeningRequest, Pcs};
 
-type Scheme = TwoAdicFriPcs<BabyBear, Radix2Dit<BabyBear>, Inputs, Rounds>;
+pub type Scheme = TwoAdicFriPcs<BabyBear, Radix2Dit<BabyBear>, Inputs, Rounds>;
 
-type Committed = ([u8; 32], InputData);
+pub type Committed = ([u8; 32], InputData);
 
 type Opened = (Claims, Proof);
 
 /// Commits to one matrix.
-fn commit(
+pub fn commit(
     rt: &HostRuntime,
     watch: &mut Watch,
     scheme: &mut Scheme,
