@@ -1,9 +1,9 @@
 -- What leads from data of the scheme to readings of it, and from one state of the scheme to the
 -- next.
 use Rattle.std.specs.Prelude.{◌≡◌, ◌≢◌, ◌<◌, ◌-◌, ℕ, zero, suc, List, [], ◌∷◌, map, length}
-use Rattle.std.specs.Prelude.{take, drop, All, slice_index_or, refl}
+use Rattle.std.specs.Prelude.{true, false, take, drop, All, slice_index_or, refl}
 use Rattle.std.specs.List.{AllZip}
-use Rattle.std.proofs.Common.{sym, ap, ◌∙◌, subst, arith}
+use Rattle.std.proofs.Common.{sym, ap, subst, arith}
 use Rattle.std.proofs.lemmas.List.{length-map, take-append-drop}
 use Rattle.p3_matrix.specs.declared.dense.RowMajorMatrix.{RowMajorMatrix}
 use Rattle.p3_matrix.specs.Matrix.{matrix_width}
@@ -20,6 +20,13 @@ use Rattle.p3_fri_hiding.specs.declared.data.HidingFriPcsProverData.{HidingFriPc
 use Rattle.p3_fri_hiding.specs.Data.{hidden_columns, shown_polynomials, IsOfScheme}
 use Rattle.p3_fri_hiding.specs.Data.{CanRead, CanReadWhole}
 use Rattle.p3_fri_hiding.specs.Trace.{HasTrace}
+
+-- a scheme that hides isn't one that doesn't
+pub hides : {A : Type 0} → true ≡ false → A
+hides plain = absurd (differ plain)
+  where
+    differ : true ≢ false
+    differ e = cc
 
 -- what has a trace has a column
 pub traced_columns : {F E : Type 0} (f : Fields F E) (shift : F) (k : ℕ)

@@ -15,6 +15,7 @@ pub mod pcs;
 pub mod quotients;
 pub mod readings;
 pub mod request_checks;
+pub mod univariate;
 
 pub use crate::data::HidingFriPcsProverData;
 pub use crate::hiding_pcs::HidingFriPcs;
