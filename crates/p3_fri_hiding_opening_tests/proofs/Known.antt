@@ -1,5 +1,5 @@
 -- What is known of what was committed to.
-use Rattle.std.proofs.Common.{◌≡◌, ℕ, List, [], ◌∷◌, map, length, refl, sym, ap, ◌∙◌}
+use Rattle.std.proofs.Common.{◌≡◌, ℕ, List, [], ◌∷◌, map, length, sym, ap, subst, ◌∙◌}
 use Rattle.std.specs.List.{AllZip}
 use Rattle.p3_pcs.specs.declared.claims.KnownCommitment.{KnownCommitment}
 use Rattle.p3_pcs.specs.Requests.{Held}
@@ -28,3 +28,18 @@ module _ {D E Com Domain Matrix : Type 0} (size : Domain → ℕ) (held : D → 
     commitments = ap (λ c. c ∷ []) (sym commitment);
     sizes = ap (λ ns. ns ∷ []) sizes;
   }
+
+-- of two data, the first of which was known before
+pub fit_both : {D E Com Domain : Type 0} (size : Domain → ℕ) (old new : D → List (Held E))
+    (commitment_of : D → Com) (k l : KnownCommitment Com Domain) (d e : D)
+    (known : List (KnownCommitment Com Domain)) → known ≡ k ∷ l ∷ [] → new d ≡ old d
+    → FitData old commitment_of size (k ∷ []) (d ∷ [])
+    → FitData new commitment_of size (l ∷ []) (e ∷ [])
+    → FitData new commitment_of size known (d ∷ e ∷ [])
+fit_both {E = E} size old new commitment_of k l d e known are same first second =
+    let sizes = ap (λ (ms : List (Held E)). map (λ m. m.size) ms) same in
+    subst (λ ks. FitData new commitment_of size ks (d ∷ e ∷ [])) (sym are)
+    (record {
+      commitments = cc (first.commitments, second.commitments);
+      sizes = cc (first.sizes, second.sizes, sizes);
+    })

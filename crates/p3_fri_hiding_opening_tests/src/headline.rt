@@ -1,6 +1,7 @@
 //! The headline at a scheme that hides.
 
-use crate::columns::{E, column, points};
+use crate::both::{Both, commit_both, show_both};
+use crate::columns::{E, PI, column, point, points};
 use crate::one::{commit_one, show_one};
 use crate::scheme::{Proof, Scheme, scheme};
 use p3_challenger::Sha256Challenger;
@@ -39,5 +40,45 @@ fn is_shown(alloc: Global) -> Result<bool, Fail> {
 #[test]
 fn what_is_opened_is_accepted(rt: HostRuntime) -> Result<(), Fail> {
     assert!(rt; is_shown(rt.alloc())?);
+    Ok(())
+}
+
+/// Whether preprocessing and a private column are opened at one point and verified, of the data the
+/// private alone counts as opened, and both sides end in one state that isn't the first.
+fn are_both_shown(alloc: Global) -> Result<bool, Fail> {
+    let mut scheme = scheme();
+    let public_column = column(alloc, &PI)?;
+    let private_column = column(alloc, &E[16..])?;
+    let Both {
+        known,
+        mut preprocessed,
+        mut private,
+    } = commit_both::<BabyBear4, Sha256Challenger, Scheme>(
+        &mut scheme,
+        alloc,
+        public_column,
+        private_column,
+    )?;
+    let mut challenger = Sha256Challenger::new();
+    let verified: Verified<BabyBear4, Proof, Sha256Challenger> = show_both(
+        &scheme,
+        alloc,
+        &known,
+        &mut preprocessed,
+        &mut private,
+        point(),
+        &mut challenger,
+    )?;
+    Ok(
+        private.is_opened()
+            && !preprocessed.is_opened()
+            && verified.challenger == challenger
+            && challenger != Sha256Challenger::new(),
+    )
+}
+
+#[test]
+fn what_is_opened_with_preprocessing_is_accepted(rt: HostRuntime) -> Result<(), Fail> {
+    assert!(rt; are_both_shown(rt.alloc())?);
     Ok(())
 }

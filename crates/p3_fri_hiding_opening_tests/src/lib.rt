@@ -2,6 +2,10 @@
 #![tactic(auto)]
 
 #[cfg(test)]
+mod both;
+#[cfg(test)]
+mod changed;
+#[cfg(test)]
 mod columns;
 #[cfg(test)]
 mod headline;
@@ -11,5 +15,7 @@ mod listed;
 mod one;
 #[cfg(test)]
 mod opened;
+#[cfg(test)]
+mod preprocessed;
 #[cfg(test)]
 mod scheme;

@@ -12,3 +12,13 @@ pub(crate) fn listed<T: Drop>(alloc: Global, value: T) -> Result<Vec<T>, AllocEr
     values.push(value)?;
     Ok(values)
 }
+
+/// A list of two.
+pub(crate) fn pair<T: Drop>(alloc: Global, first: T, second: T) -> Result<Vec<T>, AllocError>
+    ensures { IfOk result (λ v. v.items ≡ first ∷ second ∷ []) }
+{
+    let mut values = Vec::with_capacity(alloc, 2)?;
+    values.push(first)?;
+    values.push(second)?;
+    Ok(values)
+}
