@@ -6,4 +6,4 @@ pub open_and_verify-opened-requires-clause-shape :
     goal.open_and_verify-opened-requires-clause-shape
 open_and_verify-opened-requires-clause-shape g c =
     openable _ _ _ _ (c.as_mut_slice.ensures.value ∙ c.in_ok-requests.ensures)
-    c.requires.openable (ap length c.in_ok-listed-2.ensures) c.requires.one_matrix
+    c.requires.openable (ap length c.in_ok-listed.ensures) c.requires.one_matrix
