@@ -14,7 +14,8 @@ use p3_challenger::Sha256Challenger;
 use p3_commit::{KnownCommitment, OpeningRequest, Pcs, Sha256Mmcs, Verified, open_and_verify};
 use p3_dft::Radix2Dit;
 use p3_field::{BabyBear, BabyBear4, ExtensionField};
-use p3_fri::{FriParameters, TwoAdicFriPcs};
+use p3_fri_folding::FriParameters;
+use p3_fri_two_adic::TwoAdicFriPcs;
 use p3_matrix::RowMajorMatrix;
 use std::alloc::{AllocError, Global};
 

@@ -2,6 +2,7 @@
 #![tactic(auto)]
 
 mod seeded;
+pub mod setting;
 mod verify;
 
 pub use crate::verify::verify_opening;

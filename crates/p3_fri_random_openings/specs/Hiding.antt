@@ -12,7 +12,7 @@ use refusal.TheVariants.{InsufficientHidingRandomCodewords, HidingBudgetExceeded
 use Rattle.p3_fri_relation.specs.Setting.{Setting, Parameters, CommitmentClaim, Proof}
 use Rattle.p3_fri_relation.specs.Acceptance.{Accepts}
 use Rattle.p3_fri_relation.specs.Faults.{StandsInScheme}
-use Rattle.p3_fri_two_adic.specs.Accepted.{LeavesVerifier}
+use Rattle.p3_fri_opening_verifier.specs.Accepted.{LeavesVerifier}
 use Rattle.p3_fri_random_openings.specs.RandomValues.{MayAppend, with_random_values}
 use Rattle.p3_fri_random_openings.specs.RandomFaults.{HidingFaults}
 

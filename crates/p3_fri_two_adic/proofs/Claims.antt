@@ -11,7 +11,7 @@ use Rattle.p3_pcs.specs.Claims as claimed
 use Rattle.p3_fri_relation.specs.Setting.{PointClaim, MatrixClaim, CommitmentClaim}
 use Rattle.p3_fri_relation.specs.Views as view
 use Rattle.p3_fri_completeness.specs.Requests.{point_claim, matrix_claim, relation_claims}
-use Rattle.p3_fri_two_adic.specs.Accepted.{LeavesVerifier}
+use Rattle.p3_fri_opening_verifier.specs.Accepted.{LeavesVerifier}
 
 module _ {E : Type 0} where
   points_are : (points : List (PointOpening E))

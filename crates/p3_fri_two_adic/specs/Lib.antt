@@ -1,7 +1,7 @@
 pub mod Chunks
 pub mod Held
-pub mod Ranges
-pub mod Accepted
+pub use Rattle.p3_fri_opening_verifier.specs.Ranges
+pub use Rattle.p3_fri_opening_verifier.specs.Accepted
 pub mod ErrorLaws
 pub mod Evaluations
 pub mod Ldes

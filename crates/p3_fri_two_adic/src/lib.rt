@@ -1,7 +1,6 @@
 //! The polynomial commitment scheme over two-adic fields.
 #![tactic(auto)]
 
-pub mod setting;
 pub mod two_adic_pcs;
 pub mod univariate;
 
@@ -9,3 +8,4 @@ pub use crate::two_adic_pcs::{
     CommitmentWithOpeningPoints, ProverDataWithOpeningPoints, TwoAdicFriFolding,
     TwoAdicFriFoldingForMmcs, TwoAdicFriPcs,
 };
+pub use p3_fri_opening_verifier::setting;

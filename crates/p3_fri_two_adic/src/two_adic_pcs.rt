@@ -22,16 +22,15 @@ ghost use Rattle.p3_fri_two_adic.specs.Held.{IsSubgroupSize};
 ghost use Rattle.p3_fri_completeness.specs.Requests.{held_in, held_of, HoldsWords};
 ghost use Rattle.p3_fri_completeness.specs.Requests.{relation_claims};
 ghost use Rattle.p3_fri_two_adic.specs.Held.{Extends as extends};
-ghost use Rattle.p3_fri_two_adic.specs.Ranges.{InProverRange as prover_range};
-ghost use Rattle.p3_fri_two_adic.specs.Ranges.{InVerifierRange as verifier_range};
+ghost use Rattle.p3_fri_opening_verifier.specs.Ranges.{InProverRange as prover_range};
+ghost use Rattle.p3_fri_opening_verifier.specs.Ranges.{InVerifierRange as verifier_range};
 ghost use Rattle.p3_fri_opening_prover.specs.Refusals.{PassesChecks as passes, OpenRefusal};
 ghost use Rattle.p3_fri_opening_prover.specs.Refusals.{LeavesState as leaves};
 ghost use Rattle.p3_fri_opening_verifier.specs.Ends.{last_state as state_after};
-ghost use Rattle.p3_fri_two_adic.specs.Accepted.{LeavesVerifier as leaves_verifier};
+ghost use Rattle.p3_fri_opening_verifier.specs.Accepted.{LeavesVerifier as leaves_verifier};
 ghost use Rattle.p3_fri_two_adic.specs.ErrorLaws.{memory_cases};
 ghost use Rattle.p3_fri_two_adic.specs.EvaluationLaws.{extended_columns};
 
-use crate::setting::PlaysTwoAdic;
 use p3_challenger_core::{CanObserve, FieldChallenger, GrindingChallenger};
 use p3_dft::TwoAdicSubgroupDft;
 use p3_field_core::{
@@ -41,6 +40,8 @@ use p3_fri_commit::commit_evaluations;
 use p3_fri_folding::FriParameters;
 pub use p3_fri_folding::TwoAdicFriFolding;
 use p3_fri_opening_prover::open_requests;
+use p3_fri_opening_verifier::setting::PlaysTwoAdic;
+pub use p3_fri_opening_verifier::setting::TwoAdicFriFoldingForMmcs;
 use p3_fri_opening_verifier::verify_opening;
 use p3_fri_pow::FriProverError;
 pub use p3_fri_prover::prover::ProverDataWithOpeningPoints;
@@ -53,12 +54,6 @@ use p3_mmcs::{CommitmentOpening, Mmcs, OpenedValues};
 use p3_pcs::{OpeningRequest, Pcs};
 use std::alloc::{AllocError, Global};
 use std::marker::PhantomData;
-
-/// The folding of two-adic words inside the scheme, whose inputs are opened by `M`.
-pub type TwoAdicFriFoldingForMmcs<F, M> = TwoAdicFriFolding<
-    Vec<BatchMultiOpening<F, M>>,
-    <M as Mmcs<F>>::Error,
->;
 
 /// The scheme: a transform, a commitment to the matrices, and parameters with the commitment to the
 /// folded words.

@@ -24,23 +24,23 @@ ghost use Rattle.p3_fri_completeness.specs.Requests.{held_in, held_of, HoldsWord
 ghost use Rattle.p3_fri_completeness.specs.Requests.{relation_claims};
 ghost use Rattle.p3_fri_opening_prover.specs.Refusals.{PassesChecks as passes, OpenRefusal};
 ghost use Rattle.p3_fri_opening_verifier.specs.Ends.{last_state as state_after};
-ghost use Rattle.p3_fri_two_adic.specs.Accepted.{LeavesVerifier as leaves_verifier};
+ghost use Rattle.p3_fri_opening_verifier.specs.Accepted.{LeavesVerifier as leaves_verifier};
 ghost use Rattle.p3_fri_two_adic.specs.Held.{Extends as extends};
-ghost use Rattle.p3_fri_two_adic.specs.Ranges.{InProverRange as prover_range};
-ghost use Rattle.p3_fri_two_adic.specs.Ranges.{InVerifierRange as verifier_range};
+ghost use Rattle.p3_fri_opening_verifier.specs.Ranges.{InProverRange as prover_range};
+ghost use Rattle.p3_fri_opening_verifier.specs.Ranges.{InVerifierRange as verifier_range};
 ghost use Rattle.p3_fri_two_adic.specs.Chunks.{polynomials_on, recombined_on};
 ghost use Rattle.p3_fri_two_adic.specs.EvaluationLaws.{is_matrix_of, words_at, all_shown};
 ghost use Rattle.p3_fri_two_adic.specs.Evaluations.{IsMatrixOf, HoldsWordsAt};
 ghost use Rattle.p3_fri_two_adic.specs.Ldes.{HasLdeHeight};
 ghost use Rattle.p3_fri_two_adic.specs.UnivariateLaws.{trace_heights, openable_at};
 
-use crate::setting::PlaysTwoAdic;
 use crate::two_adic_pcs::TwoAdicFriPcs;
 use p3_challenger_core::{CanObserve, FieldChallenger, GrindingChallenger};
 use p3_dft::TwoAdicSubgroupDft;
 use p3_field_core::{PackableExtension, PackableField, TwoAdicField, TwoAdicMultiplicativeCoset};
 use p3_fri_commit::extend_each;
 use p3_fri_evaluations::evaluations_on_domain;
+use p3_fri_opening_verifier::setting::PlaysTwoAdic;
 use p3_fri_pow::FriProverError;
 use p3_fri_relation::error::FriError;
 use p3_fri_relation::proof::{BatchMultiOpening, FriProof};

@@ -8,7 +8,7 @@ use Rattle.p3_fri_relation.specs.Acceptance.{Accepts}
 use Rattle.p3_fri_relation.specs.Views.{parameters_of, proof_of}
 use Rattle.p3_fri_completeness.specs.Requests.{held_of, relation_claims}
 use Rattle.p3_fri_opening_verifier.specs.Ends.{last_state}
-use Rattle.p3_fri_two_adic.specs.Accepted.{two_adic}
+use Rattle.p3_fri_opening_verifier.specs.Accepted.{two_adic}
 use Rattle.p3_fri_two_adic.proofs.Sizes.{claims_sized, domains_sized}
 use Rattle.p3_fri_two_adic.proofs.Unspent.{data_kept}
 use Rattle.p3_fri_two_adic.proofs.two_adic_pcs.TwoAdicFriPcsPcs.open.Given.{Over}

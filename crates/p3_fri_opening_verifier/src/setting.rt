@@ -1,14 +1,22 @@
-//! What an opening of the scheme stands on, named once.
+//! What an opening of two-adic words stands on, in either scheme, named once.
 
 ghost use Rattle.p3_fri_relation.specs.Setting.{Setting};
-ghost use Rattle.p3_fri_two_adic.specs.Accepted.{two_adic};
+ghost use Rattle.p3_fri_opening_verifier.specs.Accepted.{two_adic};
 
 use p3_challenger_core::{CanObserve, FieldChallenger, Plays};
 use p3_field_core::{ExtensionField, TwoAdicField};
+use p3_fri_folding::TwoAdicFriFolding;
+use p3_fri_relation::proof::BatchMultiOpening;
 use p3_fri_relation::setting::ChallengeField;
 use p3_mmcs::Mmcs;
 
-/// A challenger of the scheme, with the record of all that an opening stands on: both fields, the
+/// The folding of two-adic words inside the scheme, whose inputs are opened by `M`.
+pub type TwoAdicFriFoldingForMmcs<F, M> = TwoAdicFriFolding<
+    Vec<BatchMultiOpening<F, M>>,
+    <M as Mmcs<F>>::Error,
+>;
+
+/// A challenger of a scheme, with the record of all that an opening stands on: both fields, the
 /// challenger's moves, and the relations of the commitments to matrices and to rounds. Each has it,
 /// as `⟦<C as PlaysTwoAdic<F, EF, InputMmcs, M>>⟧.setting mmcs round_mmcs`.
 pub trait PlaysTwoAdic<
