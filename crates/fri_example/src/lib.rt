@@ -8,7 +8,7 @@ ghost use Rattle.algebra.specs.Polynomial.{val};
 ghost use Rattle.p3_field.specs.BabyBear.{baby_bear, root, element};
 ghost use Rattle.p3_fri_commit.specs.Extension.{polynomial_on};
 ghost use Rattle.p3_pcs.specs.Claims.{opened_values};
-ghost use Rattle.p3_pcs.specs.Requests.{honest_values};
+ghost use Rattle.p3_pcs.specs.Requests.{Held, honest_values};
 ghost use Rattle.fri_example.specs.Opened.{IsOpened};
 
 use p3_challenger::Sha256Challenger;
@@ -147,6 +147,31 @@ fn only_value<EF: Copy>(values: &[Vec<Vec<Vec<EF>>>]) -> Option<EF>
     Some(*value)
 }
 
+/// The value at one point of a matrix of one column, and the challenger that the verifier used, by
+/// any scheme. Refused as `open_matrix` is, and where there is another number of values than one.
+fn open_value<EF: Copy, C: Clone, P: Pcs<EF, C>>(
+    scheme: &mut P,
+    alloc: Global,
+    evaluation: (P::Domain, RowMajorMatrix<P::Val>),
+    point: EF,
+    challenger: &mut C,
+) -> Result<(EF, C), AllocError>
+    requires copies { (x y : C) → C.is_clone x y → y ≡ x }
+    requires prover { P.InProverRange scheme.old }
+    requires verifier { P.InVerifierRange scheme.old }
+    requires committable { P.CanCommit scheme.old (evaluation ∷ []) }
+    ensures value { IfOk result (λ opened. (y : EF) →
+        ((m : Held EF) → P.Extends scheme.new m evaluation → m.values_at point ≡ y ∷ [])
+        → opened.0 ≡ y) }
+    ensures state { IfOk result (λ opened. opened.1 ≡ challenger.new) }
+{
+    let verified = open_matrix(scheme, alloc, evaluation, point, challenger)?;
+    let Some(value) = only_value(&verified.values) else {
+        return Err(AllocError);
+    };
+    Ok((value, verified.challenger))
+}
+
 /// An opening that was accepted.
 #[derive(Drop)]
 pub struct Opening {
@@ -186,18 +211,15 @@ pub fn open_column(
     let matrix = RowMajorMatrix::new(column, 1);
     let lifted: BabyBear4 = ExtensionField::<BabyBear>::from_base(point);
     let mut challenger = Sha256Challenger::new();
-    let verified = open_matrix(
+    let (value, verifier) = open_value(
         &mut scheme,
         alloc,
         (domain, matrix),
         lifted,
         &mut challenger,
     )?;
-    let Some(value) = only_value(&verified.values) else {
-        return Err(AllocError);
-    };
     Ok(Opening {
         value: ExtensionField::<BabyBear>::coefficient(value, 0),
-        are_states_equal: verified.challenger == challenger,
+        are_states_equal: verifier == challenger,
     })
 }

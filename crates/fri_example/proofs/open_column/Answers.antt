@@ -1,4 +1,4 @@
-use Rattle.std.proofs.Common.{◌≡◌, ◌^◌, [], ◌∷◌, sym, ap, refl, ◌∙◌, arith}
+use Rattle.std.proofs.Common.{◌≡◌, ◌^◌, sym, ap, refl, ◌∙◌, arith}
 use Rattle.std.specs.Prelude.{slice_index_or}
 use Rattle.algebra.specs.Polynomial.{val}
 use Rattle.p3_field.specs.BabyBear.{baby_bear, root, element}
@@ -10,7 +10,6 @@ use Rattle.p3_field.specs.declared.BabyBear4.{BabyBear4}
 use Rattle.p3_dft.proofs.Columns.{length-held}
 use Rattle.p3_fri_relation.specs.Setting.{Fields}
 use Rattle.p3_fri_commit.specs.Extension.{FitsDomain, polynomial_on}
-use Rattle.p3_pcs.specs.Claims.{opened_values}
 use Rattle.fri_example.proofs.Openings.{same_log, held_value}
 use Rattle.algebra.proofs.Lists.{all-one}
 use Rattle.fri_example.proofs.open_column.Goals as goal
@@ -27,8 +26,8 @@ fields = record {
   shift = element 31;
 }
 
-pub open_matrix-requires-clause-committable : goal.open_matrix-requires-clause-committable
-open_matrix-requires-clause-committable c =
+pub open_value-requires-clause-committable : goal.open_value-requires-clause-committable
+open_value-requires-clause-committable c =
     let size = same_log c.len.result c.natural_domain_for_degree-domain.result.log_size c.args.log_size c.natural_domain_for_degree-domain.ensures.size (omega (arith, c.len.ensures, c.requires.size)) in
     let height = length-held baby_bear c.new-matrix.result 1 (2 ^ c.args.log_size) c.args.column.items
     (record { some = omega arith; entries = c.new-matrix.ensures.rows; columns = c.new-matrix.ensures.width; size = omega (arith, c.args.column.ok.0, c.requires.size) }) in
@@ -41,11 +40,9 @@ pub returns-clause-value : goal.returns-clause-value
 returns-clause-value c =
     let size = same_log c.len.result c.natural_domain_for_degree-domain.result.log_size c.args.log_size c.natural_domain_for_degree-domain.ensures.size (omega (arith, c.len.ensures, c.requires.size)) in
     let value : BabyBear = val baby_bear (polynomial_on baby_bear root (element 1) c.args.log_size c.args.column.items) c.args.point in
-    let opened = c.in_ok-verified.ensures.values in
-    let known = held_value fields baby_bear_laws.ring baby_bear4_laws.ring lift4_homomorphism (element 1) c.args.log_size c.new-matrix.result c.args.column.items
+    let same : c.in_ok-value.value ≡ lift4 value = c.in_ok-value.ensures.value (lift4 value) (λ m extends.
+    held_value fields baby_bear_laws.ring baby_bear4_laws.ring lift4_homomorphism (element 1) c.args.log_size c.new-matrix.result c.args.column.items
     (record { some = omega arith; entries = c.new-matrix.ensures.rows; columns = c.new-matrix.ensures.width; size = omega (arith, c.args.column.ok.0, c.requires.size) })
-    c.args.point opened.held _ _ c.from_base-lifted.result opened.extends
-    c.natural_domain_for_degree-domain.ensures.shift size c.from_base-lifted.ensures in
-    let there = ap opened_values c.deref.ensures.value ∙ opened.values_there ∙ ap (λ v. ((v ∷ []) ∷ []) ∷ []) known in
-    let same : c.in-Some.value ≡ lift4 value = cc (c.in-Some.ensures.one (lift4 value) there) in
+    c.args.point m _ _ c.from_base-lifted.result extends
+    c.natural_domain_for_degree-domain.ensures.shift size c.from_base-lifted.ensures) in
     c.coefficient.ensures ∙ ap (λ w. slice_index_or (coefficients4 w) 0 baby_bear.zero) same ∙ lift4_constant value
