@@ -6,7 +6,7 @@ use Rattle.p3_fri_relation.specs.Views.{parameters_of, claims_of, proof_of}
 use Rattle.p3_fri_completeness.specs.Requests.{relation_claims}
 use Rattle.p3_fri_opening_verifier.specs.Ends.{last_state}
 use Rattle.p3_fri_two_adic.specs.Accepted.{two_adic}
-use Rattle.p3_fri_random_openings.proofs.Seen.{claims_are}
+use Rattle.p3_fri_two_adic.proofs.Claims.{claims_are}
 use Rattle.p3_fri_random_openings.specs.RandomValues.{MayAppend, with_random_values}
 use Rattle.p3_fri_random_openings.specs.RandomFaults.{HidingFaults}
 use Rattle.p3_fri_random_openings.proofs.Verified.{exactly_with, stands_with, unmoved_with}
