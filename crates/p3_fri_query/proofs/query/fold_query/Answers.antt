@@ -1,10 +1,10 @@
-use Rattle.std.proofs.Common.{◌≡◌, ◌≤◌, ◌-◌, ℕ, List, refl, sym, ap, ◌∙◌, map, [], ◌∷◌, length, arith, Result, Ok, Err}
+use Rattle.std.proofs.Common.{◌≡◌, ◌≤◌, ◌-◌, ℕ, List, refl, sym, ap, ◌∙◌, map, [], ◌∷◌, arith, Result, Ok, Err}
 use Rattle.std.specs.Prelude.{IsErr, IsErrAnd}
 use Rattle.std.proofs.lemmas.List.{length-map}
 use Rattle.algebra.specs.Nested.{lists}
 use Rattle.p3_fri_relation.specs.declared.error.FriError.TheVariants.{OutOfMemory}
 use Rattle.p3_fri_relation.specs.FoldedQuery.{gains}
-use Rattle.p3_fri_relation.specs.Views.{query_input, siblings_opened, rows_collected}
+use Rattle.p3_fri_relation.specs.Views.{query_input, rows_collected}
 use Rattle.p3_fri_query.proofs.Lists.{range_take, have_take}
 use Rattle.p3_fri_query.proofs.Refusals.{refused, handed_on}
 use Rattle.p3_fri_query.proofs.Orders.{rounds_fit, inputs_fit, in_order, value_of, rows_of}

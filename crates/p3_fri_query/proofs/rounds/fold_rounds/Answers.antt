@@ -1,4 +1,4 @@
-use Rattle.std.proofs.Common.{ℕ, suc, ◌<◌, List, [], length, map, arith, ap, sym, refl, ◌∙◌}
+use Rattle.std.proofs.Common.{suc, ◌<◌, List, [], length, map, arith, ap, sym, refl, ◌∙◌}
 use Rattle.std.proofs.lemmas.List.{length-map}
 use Rattle.std.proofs.lemmas.List.Sums.{sum_by-drop_more}
 use Rattle.std.specs.Prelude.{slice_index_or}
