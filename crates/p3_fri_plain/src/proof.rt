@@ -151,7 +151,7 @@ pub fn hiding_to_plain(
         ≡ hiding_numbers (hiding_seen proof.now)) }
     ensures faultless { IfOk result (λ form. IsFaultless HidingProofFault (hiding_listed form)) }
 {
-    proof.to_plain(alloc)
+    Plain::to_plain(proof, alloc)
 }
 
 /// The proof of the scheme that hides that has this plain form. A form that isn't any proof's is

@@ -1,12 +1,14 @@
-use Rattle.std.proofs.Common.{rules, ◌≢◌, map, inl, inr}
+use Rattle.std.proofs.Common.{rules, ◌≢◌, ℕ, List, map, sym, ◌∙◌, ap, subst, inl, inr}
 use Rattle.std.specs.Prelude.{IfErr}
 use Rattle.std.specs.List.{Any}
-use Rattle.std.proofs.lemmas.List.{map-id}
 use Rattle.algebra.specs.Nested.{nested}
 use Rattle.p3_fri_plain.specs.declared.error.PlainProofError.{PlainProofError}
 use Rattle.p3_fri_plain.specs.declared.error.PlainProofError.TheVariants.{OutOfMemory}
 use Rattle.p3_fri_plain.specs.Faults.{ElementFault, DigestFault, BatchFault}
 use Rattle.p3_fri_plain.specs.Views.{batch_listed}
+use Rattle.p3_baby_bear.specs.declared.baby_bear.BabyBear.{BabyBear}
+use Rattle.p3_fri_plain.specs.Numbers.{canonical_number}
+use Rattle.p3_fri_plain.proofs.Nested.{lists_same, nested_same, entries_same}
 use Rattle.p3_fri_plain.proofs.Wider.{wider}
 use Rattle.p3_fri_plain.proofs.openings.BatchMultiOpeningBabyBearSha256MmcsBabyBearPlain.from_plain.Goals as goal
 
@@ -17,7 +19,8 @@ returns-in_err-from_plain-clause-err c =
     (map (λ f. map (λ g. map (λ n. n) g.items) f.items) c.args.form.now.opened_values.items) in
     let part : IfErr c.from_residual.result (λ e. e ≢ OutOfMemory → Part e) = search rules in
     wider c.from_residual.result Part (λ e. BatchFault e (batch_listed c.args.form.now))
-    (λ e f. inl (simp map-id at f)) part
+    (λ e f. inl (subst (λ (rows : List (List (List ℕ))). Any (Any (Any (ElementFault e))) rows)
+    (nested_same c.args.form.now.opened_values.items) f)) part
 
 pub returns-in_err-from_plain-2-clause-err : goal.returns-in_err-from_plain-2-clause-err
 returns-in_err-from_plain-2-clause-err c =
@@ -30,12 +33,18 @@ returns-in_err-from_plain-2-clause-err c =
 
 pub returns-clause-ok : goal.returns-clause-ok
 returns-clause-ok c = λ i. record {
-  rows = (simp map-id at c.in_ok-from_plain.ensures.ok) i;
-  path = (simp map-id at c.in_ok-from_plain-2.ensures.ok) i;
+  rows = (ap (λ (rows : List (List (List BabyBear))). map (map (map canonical_number)) rows)
+      (sym (nested_same c.in_ok-from_plain.field-0.items))
+      ∙ c.in_ok-from_plain.ensures.ok
+      ∙ nested_same c.args.form.now.opened_values.items) i;
+  path = (sym (lists_same c.in_ok-from_plain-2.field-0.items) ∙ sym (entries_same _)
+      ∙ c.in_ok-from_plain-2.ensures.ok) i;
 }
 
 pub returns-clause-faultless : goal.returns-clause-faultless
 returns-clause-faultless c error fault = elim fault [
-  | inl f ↦ (simp map-id at (c.in_ok-from_plain.ensures.faultless error)) f
+  | inl f ↦ c.in_ok-from_plain.ensures.faultless error
+      (subst (λ (rows : List (List (List ℕ))). Any (Any (Any (ElementFault error))) rows)
+      (sym (nested_same c.args.form.now.opened_values.items)) f)
   | inr f ↦ c.in_ok-from_plain-2.ensures.faultless error f
 ]

@@ -1,12 +1,14 @@
-use Rattle.std.proofs.Common.{rules, ◌≢◌, inl, inr}
+use Rattle.std.proofs.Common.{rules, ◌≢◌, List, map, sym, ◌∙◌, ap, inl, inr}
 use Rattle.std.specs.Prelude.{IfErr}
 use Rattle.std.specs.List.{Any}
-use Rattle.std.proofs.lemmas.List.{map-id}
 use Rattle.algebra.specs.Nested.{nested}
 use Rattle.p3_fri_plain.specs.declared.error.PlainProofError.{PlainProofError}
 use Rattle.p3_fri_plain.specs.declared.error.PlainProofError.TheVariants.{OutOfMemory}
 use Rattle.p3_fri_plain.specs.Faults.{DigestFault, StepFault}
 use Rattle.p3_fri_plain.specs.Views.{step_listed}
+use Rattle.p3_baby_bear.specs.declared.baby_bear4.BabyBear4.{BabyBear4}
+use Rattle.p3_fri_plain.specs.Numbers.{coefficient_numbers}
+use Rattle.p3_fri_plain.proofs.Nested.{lists_same, entries_same}
 use Rattle.p3_fri_plain.proofs.Wider.{wider}
 use Rattle.p3_fri_plain.proofs.openings.CommitPhaseMultiStepBabyBear4Sha256MmcsBabyBear4Plain.from_plain.Goals as goal
 
@@ -21,8 +23,11 @@ returns-in_err-from_plain-2-clause-err c =
 
 pub returns-clause-ok : goal.returns-clause-ok
 returns-clause-ok c = λ i. record {
-  siblings = (simp map-id at c.in_ok-from_plain.ensures.ok) i;
-  path = (simp map-id at c.in_ok-from_plain-2.ensures.ok) i;
+  siblings = (ap (λ (rows : List (List BabyBear4)). map (map coefficient_numbers) rows)
+      (sym (lists_same c.in_ok-from_plain.field-0.items))
+      ∙ c.in_ok-from_plain.ensures.ok) i;
+  path = (sym (lists_same c.in_ok-from_plain-2.field-0.items) ∙ sym (entries_same _)
+      ∙ c.in_ok-from_plain-2.ensures.ok) i;
 }
 
 pub returns-clause-faultless : goal.returns-clause-faultless

@@ -1,10 +1,14 @@
-use Rattle.std.proofs.Common.{inl, inr}
-use Rattle.std.proofs.lemmas.List.{map-id}
+use Rattle.std.proofs.Common.{map, ◌∙◌, ap, inl, inr}
+use Rattle.p3_baby_bear.specs.declared.baby_bear4.BabyBear4.{BabyBear4}
+use Rattle.p3_fri_plain.specs.Numbers.{AtPoints, coefficient_numbers}
+use Rattle.p3_fri_plain.proofs.Nested.{deep_same}
 use Rattle.p3_fri_plain.proofs.proof.Tuple2OpenedValuesBabyBear4FriProofBabyBear4Sha256MmcsBabyBear4BabyBearVecBatchMultiOpeningBabyBearSha256MmcsBabyBearPlain.to_plain.Goals as goal
 
 pub returns-clause-numbers : goal.returns-clause-numbers
 returns-clause-numbers c = λ i. record {
-  random_values = (simp map-id at c.in_ok-to_plain.ensures.numbers) i;
+  random_values = (c.in_ok-to_plain.ensures.numbers
+      ∙ ap (λ (values : AtPoints BabyBear4). map (map (map (map coefficient_numbers))) values)
+      (deep_same c.args.self.now.0.items)) i;
   proof = c.in_ok-to_plain-2.ensures.numbers i;
 }
 
