@@ -5,7 +5,7 @@ use Rattle.p3_baby_bear.specs.declared.baby_bear.BabyBear.{BabyBear}
 use Rattle.p3_fri_plain.specs.Faults.{ElementFault}
 use Rattle.p3_fri_plain.specs.Numbers.{canonical_number}
 use Rattle.p3_fri_plain.proofs.Nested.{lists_same, nested_same, entries_same}
-use Rattle.p3_fri_plain.proofs.openings.BatchMultiOpeningBabyBearSha256MmcsBabyBearPlain.to_plain.Goals as goal
+use Rattle.p3_fri_plain.proofs.openings.BatchOpeningPlain.to_plain.Goals as goal
 
 pub returns-clause-numbers : goal.returns-clause-numbers
 returns-clause-numbers c = λ i. record {

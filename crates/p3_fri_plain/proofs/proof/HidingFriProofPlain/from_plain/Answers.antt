@@ -10,7 +10,7 @@ use Rattle.p3_fri_plain.specs.declared.error.PlainProofError.TheVariants.{OutOfM
 use Rattle.p3_fri_plain.specs.Faults.{ExtensionFault, ProofFault, HidingProofFault}
 use Rattle.p3_fri_plain.specs.Views.{proof_listed, hiding_listed}
 use Rattle.p3_fri_plain.proofs.Wider.{wider}
-use Rattle.p3_fri_plain.proofs.proof.Tuple2OpenedValuesBabyBear4FriProofBabyBear4Sha256MmcsBabyBear4BabyBearVecBatchMultiOpeningBabyBearSha256MmcsBabyBearPlain.from_plain.Goals as goal
+use Rattle.p3_fri_plain.proofs.proof.HidingFriProofPlain.from_plain.Goals as goal
 
 pub returns-in_err-from_plain-clause-err : goal.returns-in_err-from_plain-clause-err
 returns-in_err-from_plain-clause-err c =

@@ -10,7 +10,7 @@ use Rattle.p3_baby_bear.specs.declared.baby_bear.BabyBear.{BabyBear}
 use Rattle.p3_fri_plain.specs.Numbers.{canonical_number}
 use Rattle.p3_fri_plain.proofs.Nested.{lists_same, nested_same, entries_same}
 use Rattle.p3_fri_plain.proofs.Wider.{wider}
-use Rattle.p3_fri_plain.proofs.openings.BatchMultiOpeningBabyBearSha256MmcsBabyBearPlain.from_plain.Goals as goal
+use Rattle.p3_fri_plain.proofs.openings.BatchOpeningPlain.from_plain.Goals as goal
 
 pub returns-in_err-from_plain-clause-err : goal.returns-in_err-from_plain-clause-err
 returns-in_err-from_plain-clause-err c =

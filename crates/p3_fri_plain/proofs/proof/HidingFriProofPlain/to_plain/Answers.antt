@@ -2,7 +2,7 @@ use Rattle.std.proofs.Common.{map, ◌∙◌, ap, inl, inr}
 use Rattle.p3_baby_bear.specs.declared.baby_bear4.BabyBear4.{BabyBear4}
 use Rattle.p3_fri_plain.specs.Numbers.{AtPoints, coefficient_numbers}
 use Rattle.p3_fri_plain.proofs.Nested.{deep_same}
-use Rattle.p3_fri_plain.proofs.proof.Tuple2OpenedValuesBabyBear4FriProofBabyBear4Sha256MmcsBabyBear4BabyBearVecBatchMultiOpeningBabyBearSha256MmcsBabyBearPlain.to_plain.Goals as goal
+use Rattle.p3_fri_plain.proofs.proof.HidingFriProofPlain.to_plain.Goals as goal
 
 pub returns-clause-numbers : goal.returns-clause-numbers
 returns-clause-numbers c = λ i. record {

@@ -10,7 +10,7 @@ use Rattle.p3_baby_bear.specs.declared.baby_bear4.BabyBear4.{BabyBear4}
 use Rattle.p3_fri_plain.specs.Numbers.{coefficient_numbers}
 use Rattle.p3_fri_plain.proofs.Nested.{lists_same, entries_same}
 use Rattle.p3_fri_plain.proofs.Wider.{wider}
-use Rattle.p3_fri_plain.proofs.openings.CommitPhaseMultiStepBabyBear4Sha256MmcsBabyBear4Plain.from_plain.Goals as goal
+use Rattle.p3_fri_plain.proofs.openings.StepOpeningPlain.from_plain.Goals as goal
 
 pub returns-in_err-from_plain-2-clause-err : goal.returns-in_err-from_plain-2-clause-err
 returns-in_err-from_plain-2-clause-err c =

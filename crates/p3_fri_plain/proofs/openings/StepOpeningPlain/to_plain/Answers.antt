@@ -3,7 +3,7 @@ use Rattle.std.proofs.Common.{sym, ◌∙◌, ap, inl, inr}
 use Rattle.p3_baby_bear.specs.declared.baby_bear4.BabyBear4.{BabyBear4}
 use Rattle.p3_fri_plain.specs.Numbers.{coefficient_numbers}
 use Rattle.p3_fri_plain.proofs.Nested.{lists_same, entries_same}
-use Rattle.p3_fri_plain.proofs.openings.CommitPhaseMultiStepBabyBear4Sha256MmcsBabyBear4Plain.to_plain.Goals as goal
+use Rattle.p3_fri_plain.proofs.openings.StepOpeningPlain.to_plain.Goals as goal
 
 pub returns-clause-numbers : goal.returns-clause-numbers
 returns-clause-numbers c = λ i. record {

@@ -11,7 +11,7 @@ use Rattle.p3_fri_plain.specs.Faults.{InCommitWitnesses, InInputs, InRounds, InF
 use Rattle.p3_fri_plain.specs.Faults.{InQueryWitness}
 use Rattle.p3_fri_plain.specs.Views.{batch_listed, step_listed, proof_listed}
 use Rattle.p3_fri_plain.proofs.Wider.{wider}
-use Rattle.p3_fri_plain.proofs.proof.FriProofBabyBear4Sha256MmcsBabyBear4BabyBearVecBatchMultiOpeningBabyBearSha256MmcsBabyBearPlain.from_plain.Goals as goal
+use Rattle.p3_fri_plain.proofs.proof.TwoAdicFriProofPlain.from_plain.Goals as goal
 
 pub returns-in_err-from_plain-clause-err : goal.returns-in_err-from_plain-clause-err
 returns-in_err-from_plain-clause-err c =
