@@ -1,4 +1,4 @@
--- Columns that were committed to, opened at one point.
+-- One matrix that was committed to, opened at one point.
 use Rattle.std.proofs.Common.{◌≡◌, ℕ, ◌^◌, List, [], ◌∷◌, length, map, refl, sym, ap, subst, ◌∙◌}
 use Rattle.std.specs.List.{AllZip}
 use Rattle.algebra.specs.Field.{IsRing, IsHomomorphism}
@@ -15,52 +15,70 @@ use Rattle.p3_fri_relation.specs.Setting.{Fields}
 use Rattle.p3_fri_openings.proofs.Log2.{log2_is}
 use Rattle.p3_fri_commit.specs.Extension.{polynomial_on}
 use Rattle.p3_fri_two_adic.specs.Held.{Extends}
+use Rattle.fri_example.specs.Opened.{IsOpened}
 
 -- a power of two has one logarithm
 pub same_log : (n j k : ℕ) → 2 ^ j ≡ n → n ≡ 2 ^ k → j ≡ k
 same_log n j k e d = log2_is n j e ∙ sym (log2_is n k (sym d))
 
--- of data that extends one matrix on its domain, the size and the number of matrices
-module _ {F E T : Type 0} (f : Fields F E) (d : T) (values : RowMajorMatrix F) (es : List (T × RowMajorMatrix F)) (is : es ≡ (d, values) ∷ [])
-    (shift_of : T → F) (size_of : T → ℕ) (hs : List (Held E)) (zipped : AllZip (λ m e. Extends f (shift_of e.0) (size_of e.0) e.1 m) hs es) where
-  abbrev Extended : Held E → T × RowMajorMatrix F → Type 0
-  Extended m e = Extends f (shift_of e.0) (size_of e.0) e.1 m
+-- of data that extends one matrix
+module _ {EF Matrix : Type 0} (R : Held EF → Matrix → Type 0) (matrix : Matrix) where
+  held_once : (hs : List (Held EF)) → AllZip R hs (matrix ∷ []) → length hs ≡ 1
+  held_once [] z = absurd z
+  held_once (m ∷ []) z = refl
+  held_once (m ∷ n ∷ more) z = absurd z.1
 
-  one : AllZip Extended hs ((d, values) ∷ [])
-  one = subst (λ xs. AllZip Extended hs xs) is zipped
+  -- the number of matrices
+  pub one_held : (hs : List (Held EF)) (matrices : List Matrix) → matrices ≡ matrix ∷ []
+      → AllZip R hs matrices → length hs ≡ 1
+  one_held hs matrices are z = held_once hs (subst (λ ms. AllZip R hs ms) are z)
 
-  sizes_of : (hs : List (Held E)) → AllZip Extended hs ((d, values) ∷ [])
-      → ((2 ^ size_of d) ∷ [] ≡ map (λ m. m.size) hs) × (length hs ≡ 1)
-  sizes_of [] z = absurd z
-  sizes_of (m ∷ []) z = (ap (λ n. n ∷ []) (sym z.0.size), refl)
-  sizes_of (m ∷ n ∷ more) z = absurd z.1
+  sizes_once : (size : ℕ) → ((m : Held EF) → R m matrix → m.size ≡ size) → (hs : List (Held EF))
+      → AllZip R hs (matrix ∷ []) → size ∷ [] ≡ map (λ m. m.size) hs
+  sizes_once size is [] z = absurd z
+  sizes_once size is (m ∷ []) z = ap (λ n. n ∷ []) (sym (is m z.0))
+  sizes_once size is (m ∷ n ∷ more) z = absurd z.1
 
-  pub held_sizes : (2 ^ size_of d) ∷ [] ≡ map (λ m. m.size) hs
-  held_sizes = (sizes_of hs one).0
+  -- the size
+  pub held_sizes : (size : ℕ) → ((m : Held EF) → R m matrix → m.size ≡ size)
+      → (hs : List (Held EF)) (matrices : List Matrix) → matrices ≡ matrix ∷ []
+      → AllZip R hs matrices → size ∷ [] ≡ map (λ m. m.size) hs
+  held_sizes size is hs matrices are z =
+      sizes_once size is hs (subst (λ ms. AllZip R hs ms) are z)
 
-  pub one_held : length hs ≡ 1
-  one_held = (sizes_of hs one).1
+  opened_once : (point : EF) (hs : List (Held EF)) (values : List (List (List (List EF))))
+      → AllZip R hs (matrix ∷ [])
+      → values ≡ zip_with (λ m zs. map m.values_at zs) hs ((point ∷ []) ∷ []) ∷ []
+      → IsOpened R matrix point values
+  opened_once point [] values z is = absurd z
+  opened_once point (m ∷ []) values z is = record { held = m; extends = z.0; values_there = is }
+  opened_once point (m ∷ n ∷ more) values z is = absurd z.1
 
-  -- and its value at a point of the base field
-  module _ (R : IsRing f.base) (S : IsRing f.ext) (H : IsHomomorphism f.base f.ext f.lift) (shift : F) (k : ℕ) (ys : List F)
-      (holds : Holds values 1 (2 ^ k) ys) (shifted : shift_of d ≡ shift) (sized : size_of d ≡ k) (z : F) (point : E) (lifted : point ≡ f.lift z) where
-    abbrev pub value : F
-    value = val f.base (polynomial_on f.base f.root shift k ys) z
+  -- its values at a point
+  pub opened : (point : EF) (hs : List (Held EF)) (matrices : List Matrix)
+      (values : List (List (List (List EF)))) → matrices ≡ matrix ∷ [] → AllZip R hs matrices
+      → values ≡ zip_with (λ m zs. map m.values_at zs) hs ((point ∷ []) ∷ []) ∷ []
+      → IsOpened R matrix point values
+  opened point hs matrices values are z is =
+      opened_once point hs values (subst (λ ms. AllZip R hs ms) are z) is
 
-    held_value : (m : Held E) → Extends f shift k values m → m.values_at (f.lift z) ≡ f.lift value ∷ []
-    held_value m extends =
-        extends.values (f.lift z)
-        ∙ ap (λ n. values_at f.base f.ext f.lift (tabulate n (λ j. polynomial_on f.base f.root shift k (column f.base values j))) (f.lift z)) holds.columns
-        ∙ ap (λ c. val f.ext (map f.lift (polynomial_on f.base f.root shift k c)) (f.lift z) ∷ []) (column-single f.base values (2 ^ k) ys holds)
-        ∙ ap (λ v. v ∷ []) (sym (homomorphism-val f.base f.ext f.lift R S H (polynomial_on f.base f.root shift k ys) z))
+-- the value at a point of the base field of the polynomial that has one column
+module _ {F E : Type 0} (f : Fields F E) (R : IsRing f.base) (S : IsRing f.ext)
+    (H : IsHomomorphism f.base f.ext f.lift) (shift : F) (k : ℕ) (values : RowMajorMatrix F)
+    (ys : List F) (holds : Holds values 1 (2 ^ k) ys) (z : F) (m : Held E) where
+  abbrev pub value : F
+  value = val f.base (polynomial_on f.base f.root shift k ys) z
 
-    value_of : (hs : List (Held E)) → AllZip Extended hs ((d, values) ∷ [])
-        → zip_with (λ m zs. map m.values_at zs) hs ((f.lift z ∷ []) ∷ []) ≡ ((f.lift value ∷ []) ∷ []) ∷ []
-    value_of [] e = absurd e
-    value_of (m ∷ []) e =
-        let here : Extends f shift k values m = subst (λ s. Extends f s k values m) shifted (subst (λ n. Extends f (shift_of d) n values m) sized e.0) in
-        ap (λ v. (v ∷ []) ∷ []) (held_value m here)
-    value_of (m ∷ n ∷ more) e = absurd e.1
+  value_there : Extends f shift k values m → m.values_at (f.lift z) ≡ f.lift value ∷ []
+  value_there extends =
+      extends.values (f.lift z)
+      ∙ ap (λ n. values_at f.base f.ext f.lift (tabulate n (λ j. polynomial_on f.base f.root shift k (column f.base values j))) (f.lift z)) holds.columns
+      ∙ ap (λ c. val f.ext (map f.lift (polynomial_on f.base f.root shift k c)) (f.lift z) ∷ []) (column-single f.base values (2 ^ k) ys holds)
+      ∙ ap (λ v. v ∷ []) (sym (homomorphism-val f.base f.ext f.lift R S H (polynomial_on f.base f.root shift k ys) z))
 
-    pub honest_value : zip_with (λ m zs. map m.values_at zs) hs ((point ∷ []) ∷ []) ≡ ((f.lift value ∷ []) ∷ []) ∷ []
-    honest_value = ap (λ p. zip_with (λ m zs. map m.values_at zs) hs ((p ∷ []) ∷ [])) lifted ∙ value_of hs one
+  pub held_value : (s : F) (n : ℕ) (point : E) → Extends f s n values m → s ≡ shift → n ≡ k
+      → point ≡ f.lift z → m.values_at point ≡ f.lift value ∷ []
+  held_value s n point extends shifted sized lifted =
+      ap m.values_at lifted
+      ∙ value_there (subst (λ t. Extends f t k values m) shifted
+      (subst (λ j. Extends f s j values m) sized extends))

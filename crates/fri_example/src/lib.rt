@@ -8,7 +8,8 @@ ghost use Rattle.algebra.specs.Polynomial.{val};
 ghost use Rattle.p3_field.specs.BabyBear.{baby_bear, root, element};
 ghost use Rattle.p3_fri_commit.specs.Extension.{polynomial_on};
 ghost use Rattle.p3_pcs.specs.Claims.{opened_values};
-ghost use Rattle.p3_pcs.specs.Requests.{honest_values};
+ghost use Rattle.p3_pcs.specs.Requests.{Held, honest_values};
+ghost use Rattle.fri_example.specs.Opened.{IsOpened};
 
 use p3_challenger::Sha256Challenger;
 use p3_commit::{KnownCommitment, OpeningRequest, Pcs, Sha256Mmcs, Verified, open_and_verify};
@@ -95,6 +96,36 @@ fn open_at<EF: Copy, C: Clone, P: Pcs<EF, C>>(
     }
 }
 
+/// Commits to a matrix on its domain, opens it at one point, and verifies what comes of it, by any
+/// scheme. Honest data is refused for want of memory alone, or by what the caller has tested.
+fn open_matrix<EF: Copy, C: Clone, P: Pcs<EF, C>>(
+    scheme: &mut P,
+    alloc: Global,
+    evaluation: (P::Domain, RowMajorMatrix<P::Val>),
+    point: EF,
+    challenger: &mut C,
+) -> Result<Verified<EF, P::Proof, C>, AllocError>
+    requires copies { (x y : C) → C.is_clone x y → y ≡ x }
+    requires prover { P.InProverRange scheme.old }
+    requires verifier { P.InVerifierRange scheme.old }
+    requires committable { P.CanCommit scheme.old (evaluation ∷ []) }
+    ensures values { IfOk result (λ v.
+        IsOpened (P.Extends scheme.new) evaluation point (opened_values v.values.items)) }
+    ensures states { IfOk result (λ v. v.challenger ≡ challenger.new) }
+{
+    let domain = evaluation.0;
+    let evaluations = listed(alloc, evaluation)?;
+    let (commitment, mut data) = match scheme.commit(alloc, evaluations) {
+        Ok(committed) => committed,
+        Err(_) => return Err(AllocError),
+    };
+    let known = KnownCommitment {
+        commitment,
+        domains: listed(alloc, domain)?,
+    };
+    open_at(&*scheme, alloc, known, &mut data, point, challenger)
+}
+
 /// The value, where there is one in all.
 fn only_value<EF: Copy>(values: &[Vec<Vec<Vec<EF>>>]) -> Option<EF>
     ensures one { (y : EF) → opened_values values.now ≡ (((y ∷ []) ∷ []) ∷ []) ∷ []
@@ -115,6 +146,31 @@ fn only_value<EF: Copy>(values: &[Vec<Vec<Vec<EF>>>]) -> Option<EF>
         return None;
     };
     Some(*value)
+}
+
+/// The value at one point of a matrix of one column, and the challenger that the verifier used, by
+/// any scheme. Refused as `open_matrix` is, and where there is another number of values than one.
+fn open_value<EF: Copy, C: Clone, P: Pcs<EF, C>>(
+    scheme: &mut P,
+    alloc: Global,
+    evaluation: (P::Domain, RowMajorMatrix<P::Val>),
+    point: EF,
+    challenger: &mut C,
+) -> Result<(EF, C), AllocError>
+    requires copies { (x y : C) → C.is_clone x y → y ≡ x }
+    requires prover { P.InProverRange scheme.old }
+    requires verifier { P.InVerifierRange scheme.old }
+    requires committable { P.CanCommit scheme.old (evaluation ∷ []) }
+    ensures value { IfOk result (λ opened. (y : EF) →
+        ((m : Held EF) → P.Extends scheme.new m evaluation → m.values_at point ≡ y ∷ [])
+        → opened.0 ≡ y) }
+    ensures state { IfOk result (λ opened. opened.1 ≡ challenger.new) }
+{
+    let verified = open_matrix(scheme, alloc, evaluation, point, challenger)?;
+    let Some(value) = only_value(&verified.values) else {
+        return Err(AllocError);
+    };
+    Ok((value, verified.challenger))
 }
 
 /// An opening that was accepted.
@@ -153,28 +209,18 @@ pub fn open_column(
         &scheme,
         column.len(),
     );
-    let evaluations = listed(alloc, (domain, RowMajorMatrix::new(column, 1)))?;
-    let committed = <Scheme as Pcs<BabyBear4, Sha256Challenger>>::commit(
+    let matrix = RowMajorMatrix::new(column, 1);
+    let lifted: BabyBear4 = ExtensionField::<BabyBear>::from_base(point);
+    let mut challenger = Sha256Challenger::new();
+    let (value, verifier) = open_value(
         &mut scheme,
         alloc,
-        evaluations,
-    );
-    let (commitment, mut data) = match committed {
-        Ok(committed) => committed,
-        Err(_) => return Err(AllocError),
-    };
-    let known = KnownCommitment {
-        commitment,
-        domains: listed(alloc, domain)?,
-    };
-    let mut challenger = Sha256Challenger::new();
-    let lifted: BabyBear4 = ExtensionField::<BabyBear>::from_base(point);
-    let verified = open_at(&scheme, alloc, known, &mut data, lifted, &mut challenger)?;
-    let Some(value) = only_value(&verified.values) else {
-        return Err(AllocError);
-    };
+        (domain, matrix),
+        lifted,
+        &mut challenger,
+    )?;
     Ok(Opening {
         value: ExtensionField::<BabyBear>::coefficient(value, 0),
-        are_states_equal: verified.challenger == challenger,
+        are_states_equal: verifier == challenger,
     })
 }

@@ -7,3 +7,4 @@ pub mod Scheme
 pub mod Rounds
 pub mod Absorbed
 pub mod Opening
+pub mod SeenClaims

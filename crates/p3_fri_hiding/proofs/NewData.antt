@@ -7,10 +7,10 @@ use Rattle.p3_pcs.specs.Requests.{Held}
 use Rattle.p3_fri_relation.specs.Setting.{Fields}
 use Rattle.p3_fri_openings.specs.Rounds.{HasCoset}
 use Rattle.p3_fri_completeness.specs.Requests.{held_in}
-use Rattle.p3_fri_random_openings.specs.Halves.{shown_of}
-use Rattle.p3_fri_hiding.specs.declared.data.HidingFriPcsProverData.{HidingFriPcsProverData}
-use Rattle.p3_fri_hiding.specs.Data.{AreWide, IsOfScheme, IsUnopened, IsPreprocessing}
-use Rattle.p3_fri_hiding.specs.Data.{hidden_columns, shown_polynomials}
+use Rattle.p3_fri_hiding_prover.specs.Halves.{shown_of}
+use Rattle.p3_fri_hiding_prover.specs.declared.data.HidingFriPcsProverData.{HidingFriPcsProverData}
+use Rattle.p3_fri_hiding_prover.specs.Data.{AreWide, IsOfScheme, IsUnopened, IsPreprocessing}
+use Rattle.p3_fri_hiding_prover.specs.Data.{hidden_columns, shown_polynomials}
 
 module _ {F E T : Type 0} (f : Fields F E) (committed : T → List (RowMajorMatrix F)) (b r : ℕ)
     (d : HidingFriPcsProverData T) (inner : T) (is : d.inner ≡ inner) where

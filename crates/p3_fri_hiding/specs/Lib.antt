@@ -1,9 +1,9 @@
-pub mod Budgets
-pub mod Shown
-pub mod Data
+pub use Rattle.p3_fri_hiding_prover.specs.Budgets
+pub use Rattle.p3_fri_hiding_prover.specs.Shown
+pub use Rattle.p3_fri_hiding_prover.specs.Data
+pub use Rattle.p3_fri_hiding_prover.specs.Requests
+pub use Rattle.p3_fri_hiding_prover.specs.Opening
 pub mod Trace
 pub mod Commitments
 pub mod Quotients
-pub mod Requests
-pub mod Opening
 pub mod ReadingLaws

@@ -3,19 +3,11 @@
 //! <https://eprint.iacr.org/2024/1037>).
 #![tactic(auto)]
 
-pub mod budgets;
-pub mod columns;
-pub mod data;
-pub mod gather;
 pub mod hiding_pcs;
 pub mod ldes;
-pub mod marks;
-pub mod opening;
 pub mod pcs;
-pub mod quotients;
 pub mod readings;
-pub mod request_checks;
 pub mod univariate;
 
-pub use crate::data::HidingFriPcsProverData;
 pub use crate::hiding_pcs::HidingFriPcs;
+pub use p3_fri_hiding_prover::HidingFriPcsProverData;

@@ -1,46 +1,49 @@
 //! The hiding scheme over two-adic fields as a polynomial commitment scheme.
 
 ghost use Rattle.std.specs.Prelude.{◌≡◌, ◌≢◌, ◌↔◌, ◌≤◌, ◌^◌, ℕ, List, map, length, All};
-ghost use Rattle.std.specs.Prelude.{IsOk, IfOk, IfErr, Err, None, refl};
+ghost use Rattle.std.specs.Prelude.{IsOk, IfOk, IfErr, Err, None, false, refl};
 ghost use Rattle.std.proofs.Common.{ap, sym, subst};
 ghost use Rattle.std.specs.List.{AllZip};
 ghost use Rattle.p3_matrix.specs.Matrix.{rows};
+ghost use Rattle.p3_matrix.specs.Words.{past};
 ghost use Rattle.p3_pcs.specs.Claims.{claim, opened_values};
 ghost use Rattle.p3_fri_pow.specs.declared.error.FriProverError.TheVariants as refusal;
 ghost use Rattle.p3_fri_relation.specs.declared.error.FriError.TheVariants.{OutOfMemory};
 ghost use Rattle.p3_fri_relation.specs.Views.{parameters_of, proof_of};
 ghost use Rattle.p3_fri_completeness.specs.Requests.{HoldsWords, relation_claims};
-ghost use Rattle.p3_fri_opening_verifier.specs.Ends.{last_state as state_after};
-ghost use Rattle.p3_fri_two_adic.specs.Held.{IsSubgroupSize};
-ghost use Rattle.p3_fri_two_adic.specs.Ranges.{InProverRange as prover_range};
-ghost use Rattle.p3_fri_two_adic.specs.Ranges.{InVerifierRange as verifier_range};
-ghost use Rattle.p3_fri_two_adic.specs.ErrorLaws.{memory_cases};
-ghost use Rattle.p3_fri_random_openings.specs.RandomValues.{with_random_values};
-ghost use Rattle.p3_fri_random_openings.specs.Hiding.{HidingAccepts, StandsInHidingScheme};
-ghost use Rattle.p3_fri_random_openings.specs.Hiding.{LeavesHidingVerifier};
-ghost use Rattle.p3_fri_hiding.specs.Budgets.{MaskRefusal};
-ghost use Rattle.p3_fri_hiding.specs.Data.{IsUnopened, shown_polynomials};
+ghost use Rattle.p3_fri_hiding_prover.specs.Ends.{last_state as state_after};
+ghost use Rattle.p3_fri_hiding_prover.specs.Held.{IsSubgroupSize};
+ghost use Rattle.p3_fri_hiding_prover.specs.Ranges.{InProverRange as prover_range};
+ghost use Rattle.p3_fri_hiding_prover.specs.Ranges.{InVerifierRange as verifier_range};
+ghost use Rattle.p3_fri_hiding_prover.specs.ErrorLaws.{memory_cases};
+ghost use Rattle.p3_fri_masks.specs.declared.error.HidingFriProverError.TheVariants.{Fri};
+ghost use Rattle.p3_fri_masks.specs.Masked.{mask_words_of_all};
+ghost use Rattle.p3_fri_hiding_prover.specs.RandomValues.{with_random_values};
+ghost use Rattle.p3_fri_hiding_prover.specs.Hiding.{HidingAccepts, StandsInHidingScheme};
+ghost use Rattle.p3_fri_hiding_prover.specs.Hiding.{LeavesHidingVerifier};
+ghost use Rattle.p3_fri_hiding_prover.specs.Budgets.{AllFit, MaskRefusal};
+ghost use Rattle.p3_fri_hiding_prover.specs.Data.{IsNew, IsUnopened, shown_polynomials};
+ghost use Rattle.p3_fri_hiding_prover.specs.Requests.{after_opening as left_of};
+ghost use Rattle.p3_fri_hiding_prover.specs.Opening.{PassesHidingChecks, HidingRefusal};
+ghost use Rattle.p3_fri_hiding_prover.specs.Opening.{LeavesHidingState};
+ghost use Rattle.p3_fri_hiding.specs.Commitments.{ExtendMasked};
 ghost use Rattle.p3_fri_hiding.specs.Trace.{FitsMasked, HasTrace};
-ghost use Rattle.p3_fri_hiding.specs.Requests.{after_opening as left_of};
-ghost use Rattle.p3_fri_hiding.specs.Opening.{PassesHidingChecks, HidingRefusal};
-ghost use Rattle.p3_fri_hiding.specs.Opening.{LeavesHidingState};
 ghost use Rattle.p3_fri_hiding.specs.ReadingLaws.{traced_columns};
 
-use crate::data::HidingFriPcsProverData;
 use crate::hiding_pcs::HidingFriPcs;
-use crate::opening::open_hiding_requests;
 use p3_challenger_core::{CanObserve, FieldChallenger, GrindingChallenger};
 use p3_dft::TwoAdicSubgroupDft;
 use p3_field_core::{
     PackableExtension, PackableField, SampleField, TwoAdicField, TwoAdicMultiplicativeCoset,
     log2_strict_usize,
 };
+use p3_fri_hiding_prover::{
+    HidingFriPcsProverData, PlaysTwoAdic, open_hiding_requests, verify_with_random_values,
+};
 use p3_fri_masks::HidingFriProverError;
-use p3_fri_random_openings::verify_with_random_values;
 use p3_fri_relation::error::FriError;
 use p3_fri_relation::proof::{BatchMultiOpening, FriProof};
 use p3_fri_relation::setting::ChallengeField;
-use p3_fri_two_adic::setting::PlaysTwoAdic;
 use p3_matrix::RowMajorMatrix;
 use p3_mmcs::{CommitmentOpening, Mmcs, OpenedValues};
 use p3_pcs::{OpeningRequest, Pcs};
@@ -178,6 +181,18 @@ impl<
         ensures verifier_range { let n = F.TWO_ADICITY in
             verifier_range (parameters_of self.old.fri) n C.MAX_SAMPLE_BITS
             → verifier_range (parameters_of self.new.fri) n C.MAX_SAMPLE_BITS }
+        ensures masked { IfOk result (λ pair. ExtendMasked ⟦<EF as ChallengeField<F>>⟧.fields
+            (λ d. d.shift) (λ d. d.log_size) self.old.fri.log_blowup F.from_word
+            self.old.num_random_codewords evaluations.items (R.stream self.old.rng)
+            (InputMmcs.committed pair.1.inner)) }
+        ensures past { IfOk result (λ _. R.stream self.new.rng
+            ≡ past (mask_words_of_all F.from_word self.old.num_random_codewords evaluations.items)
+            (R.stream self.old.rng)) }
+        ensures data { IfOk result (λ pair. IsNew self.old.num_random_codewords
+            self.old.fri.log_blowup false pair.1) }
+        ensures budget { IsOk result → AllFit self.old.num_random_codewords
+            self.old.fri.num_queries EF.DIMENSION
+            (map (λ e. length (rows e.1)) evaluations.items) }
         ensures commitment { IfOk result (λ pair.
             InputMmcs.commitment_of pair.1.inner ≡ pair.0) }
         ensures openable { IfOk result (λ pair. IsUnopened ⟦<EF as ChallengeField<F>>⟧.fields
@@ -192,6 +207,7 @@ impl<
         ensures refused { IfErr result (MaskRefusal self.old.num_random_codewords
             self.old.fri.num_queries EF.DIMENSION
             (map (λ e. length (rows e.1)) evaluations.items)) }
+        ensures unmoved { IfErr result (λ e. e ≢ Fri refusal.OutOfMemory → self.new ≡ self.old) }
     {
         self.commit::<EF>(alloc, evaluations)
     }

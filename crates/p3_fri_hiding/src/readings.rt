@@ -6,33 +6,22 @@ ghost use Rattle.p3_stark_pcs.specs.Evaluations.{HoldsEvaluations, held_at};
 ghost use Rattle.p3_fri_pow.specs.declared.error.FriProverError.TheVariants.{OutOfMemory};
 ghost use Rattle.p3_fri_masks.specs.declared.error.HidingFriProverError.TheVariants.{Fri};
 ghost use Rattle.p3_fri_completeness.specs.Requests.{held_of};
-ghost use Rattle.p3_fri_two_adic.specs.Evaluations.{HoldsWordsAt};
-ghost use Rattle.p3_fri_hiding.specs.Data.{CanRead, CanReadWhole};
-ghost use Rattle.p3_fri_hiding.specs.Data.{hidden_columns, shown_polynomials};
+ghost use Rattle.p3_fri_hiding_prover.specs.Evaluations.{HoldsWordsAt};
+ghost use Rattle.p3_fri_hiding_prover.specs.Data.{CanRead, CanReadWhole, shown_polynomials};
 
-use crate::columns::without_last_cols;
-use crate::data::HidingFriPcsProverData;
 use crate::hiding_pcs::HidingFriPcs;
 use p3_dft::TwoAdicSubgroupDft;
 use p3_field_core::{ExtensionField, SampleField, TwoAdicField, TwoAdicMultiplicativeCoset};
 use p3_fri_evaluations::evaluations_on_domain;
+use p3_fri_hiding_prover::{
+    HidingFriPcsProverData, committed_matrices, hidden_columns, without_last_cols,
+};
 use p3_fri_masks::HidingFriProverError;
 use p3_fri_relation::setting::ChallengeField;
 use p3_matrix::RowMajorMatrix;
 use p3_mmcs::Mmcs;
 use rand_core::CryptoRng;
 use std::alloc::Global;
-
-/// How many of the last columns of a datum's matrices only hide the others.
-fn hidden_columns<T>(prover_data: &HidingFriPcsProverData<T>, num_random_codewords: usize) -> usize
-    ensures { result ≡ hidden_columns num_random_codewords prover_data.now }
-{
-    if prover_data.preprocessed {
-        0
-    } else {
-        num_random_codewords
-    }
-}
 
 impl<
     F: TwoAdicField + SampleField,
@@ -67,7 +56,7 @@ impl<
         ensures refused { IfErr result (λ e. e ≡ Fri OutOfMemory) }
     {
         let hidden = hidden_columns(prover_data, self.num_random_codewords);
-        let matrices = self.mmcs.get_matrices(&prover_data.inner);
+        let matrices = committed_matrices(&self.mmcs, prover_data);
         let matrix = &matrices[index];
         let log_blowup = self.fri.log_blowup;
         let values = evaluations_on_domain(&self.dft, alloc, log_blowup, domain, matrix)?;
@@ -97,7 +86,7 @@ impl<
             self.now.fri.log_blowup prover_data.now.inner) index).values_at) }
         ensures refused { IfErr result (λ e. e ≡ Fri OutOfMemory) }
     {
-        let matrices = self.mmcs.get_matrices(&prover_data.inner);
+        let matrices = committed_matrices(&self.mmcs, prover_data);
         let matrix = &matrices[index];
         let log_blowup = self.fri.log_blowup;
         Ok(evaluations_on_domain(&self.dft, alloc, log_blowup, domain, matrix)?)

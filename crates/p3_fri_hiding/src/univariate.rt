@@ -2,12 +2,13 @@
 
 ghost use Rattle.std.specs.Prelude.{◌≡◌, ◌≢◌, ◌↔◌, ◌<◌, ◌≤◌, ◌+◌, ◌*◌, ◌/◌, ◌^◌, ℕ, List, map};
 ghost use Rattle.std.specs.Prelude.{length, true, false, All, IsOk, IfOk, IfErr, IsSome, IfSome};
-ghost use Rattle.std.specs.Prelude.{MatchResult, Err};
+ghost use Rattle.std.specs.Prelude.{MatchResult, Err, false};
 ghost use Rattle.std.specs.List.{AllZip};
 ghost use Rattle.std.proofs.Common.{ap, sym, subst};
 ghost use Rattle.rand_core.specs.Stream.{Stream};
 ghost use Rattle.p3_field_core.specs.Coset.{coset_point};
 ghost use Rattle.p3_matrix.specs.Matrix.{rows};
+ghost use Rattle.p3_matrix.specs.Words.{past};
 ghost use Rattle.p3_pcs.specs.Claims.{claim, opened_values};
 ghost use Rattle.p3_periodic.specs.Columns.{HasPeriod, Refuses};
 ghost use Rattle.p3_periodic.specs.Tables.{AreTabulated};
@@ -19,42 +20,44 @@ ghost use Rattle.p3_fri_pow.specs.declared.error.FriProverError.TheVariants as r
 ghost use Rattle.p3_fri_relation.specs.declared.error.FriError.TheVariants.{OutOfMemory};
 ghost use Rattle.p3_fri_relation.specs.Views.{parameters_of, proof_of};
 ghost use Rattle.p3_fri_completeness.specs.Requests.{held_of, HoldsWords, relation_claims};
-ghost use Rattle.p3_fri_opening_verifier.specs.Ends.{last_state as state_after};
-ghost use Rattle.p3_fri_two_adic.specs.Ranges.{InProverRange as prover_range};
-ghost use Rattle.p3_fri_two_adic.specs.Ranges.{InVerifierRange as verifier_range};
-ghost use Rattle.p3_fri_two_adic.specs.Chunks.{polynomials_on, recombined_on};
-ghost use Rattle.p3_fri_two_adic.specs.Evaluations.{HoldsWordsAt};
-ghost use Rattle.p3_fri_two_adic.specs.Ldes.{HasLdeHeight};
-ghost use Rattle.p3_fri_two_adic.specs.UnivariateLaws.{trace_heights};
+ghost use Rattle.p3_fri_hiding_prover.specs.Ends.{last_state as state_after};
+ghost use Rattle.p3_fri_hiding_prover.specs.Ranges.{InProverRange as prover_range};
+ghost use Rattle.p3_fri_hiding_prover.specs.Ranges.{InVerifierRange as verifier_range};
+ghost use Rattle.p3_fri_hiding_prover.specs.Chunks.{polynomials_on, recombined_on};
+ghost use Rattle.p3_fri_hiding_prover.specs.Evaluations.{HoldsWordsAt};
+ghost use Rattle.p3_fri_hiding_prover.specs.Ldes.{HasLdeHeight};
+ghost use Rattle.p3_fri_hiding_prover.specs.UnivariateLaws.{trace_heights};
 ghost use Rattle.p3_fri_masks.specs.declared.error.HidingFriProverError.TheVariants.{Fri};
-ghost use Rattle.p3_fri_quotient_masks.specs.QuotientLdes.{AreMaskedChunks};
-ghost use Rattle.p3_fri_random_openings.specs.RandomValues.{with_random_values};
-ghost use Rattle.p3_fri_random_openings.specs.Hiding.{HidingAccepts, StandsInHidingScheme};
-ghost use Rattle.p3_fri_random_openings.specs.Hiding.{LeavesHidingVerifier};
-ghost use Rattle.p3_fri_hiding.specs.Budgets.{MaskRefusal};
-ghost use Rattle.p3_fri_hiding.specs.Data.{AreWide, CanRead, CanReadWhole, IsOfScheme};
-ghost use Rattle.p3_fri_hiding.specs.Data.{IsPreprocessing, IsUnopened, shown_polynomials};
-ghost use Rattle.p3_fri_hiding.specs.Opening.{PassesHidingChecks, HidingRefusal};
+ghost use Rattle.p3_fri_masks.specs.Draws.{random_words};
+ghost use Rattle.p3_fri_quotient_masks.specs.QuotientLdes.{AreMaskedChunks, past_masks};
+ghost use Rattle.p3_fri_hiding_prover.specs.RandomValues.{with_random_values};
+ghost use Rattle.p3_fri_hiding_prover.specs.Hiding.{HidingAccepts, StandsInHidingScheme};
+ghost use Rattle.p3_fri_hiding_prover.specs.Hiding.{LeavesHidingVerifier};
+ghost use Rattle.p3_fri_hiding_prover.specs.Budgets.{AllFit, MaskRefusal};
+ghost use Rattle.p3_fri_hiding_prover.specs.Data.{AreWide, CanRead, CanReadWhole, IsNew};
+ghost use Rattle.p3_fri_hiding_prover.specs.Data.{IsOfScheme, IsPreprocessing, IsUnopened};
+ghost use Rattle.p3_fri_hiding_prover.specs.Data.{shown_polynomials};
+ghost use Rattle.p3_fri_hiding_prover.specs.Opening.{PassesHidingChecks, HidingRefusal};
+ghost use Rattle.p3_fri_hiding_prover.specs.Shown.{shown_in};
+ghost use Rattle.p3_fri_hiding.specs.Commitments.{ExtendPadded, ExtendRandom};
 ghost use Rattle.p3_fri_hiding.specs.Quotients.{CanExtend as can_extend};
-ghost use Rattle.p3_fri_hiding.specs.Shown.{shown_in};
-ghost use Rattle.p3_fri_hiding.specs.Trace.{FitsMasked, HasTrace};
+ghost use Rattle.p3_fri_hiding.specs.Trace.{FitsMasked, HasTrace, HasZerosBetween};
 ghost use Rattle.p3_fri_hiding.specs.ReadingLaws.{readable, whole_readable, shown_words_at};
 ghost use Rattle.p3_fri_hiding.specs.ReadingLaws.{shown_first, hides};
 
-use crate::data::HidingFriPcsProverData;
 use crate::hiding_pcs::HidingFriPcs;
-use crate::opening::open_hiding_requests;
 use p3_challenger_core::{CanObserve, FieldChallenger, GrindingChallenger};
 use p3_dft::TwoAdicSubgroupDft;
 use p3_field_core::{
     PackableExtension, PackableField, SampleField, TwoAdicField, TwoAdicMultiplicativeCoset,
 };
+use p3_fri_hiding_prover::{
+    HidingFriPcsProverData, PlaysTwoAdic, open_hiding_requests, verify_with_random_values,
+};
 use p3_fri_masks::HidingFriProverError;
-use p3_fri_random_openings::verify_with_random_values;
 use p3_fri_relation::error::FriError;
 use p3_fri_relation::proof::{BatchMultiOpening, FriProof};
 use p3_fri_relation::setting::ChallengeField;
-use p3_fri_two_adic::setting::PlaysTwoAdic;
 use p3_matrix::RowMajorMatrix;
 use p3_mmcs::{CommitmentOpening, Mmcs, OpenedValues};
 use p3_pcs::{OpeningRequest, Pcs};
@@ -214,6 +217,14 @@ impl<
             → verifier_range (parameters_of self.new.fri) n C.MAX_SAMPLE_BITS }
         ensures kept { self.new ≡ record self.old { rng = self.new.rng } }
         ensures unchanged { self.new ≡ self.old }
+        ensures padded { IfOk result (λ pair. ExtendPadded ⟦<EF as ChallengeField<F>>⟧.fields
+            (λ d. d.shift) (λ d. d.log_size) self.old.fri.log_blowup evaluations.items
+            (InputMmcs.committed pair.1.inner)) }
+        ensures data { IfOk result (λ pair. IsNew self.old.num_random_codewords
+            self.old.fri.log_blowup true pair.1) }
+        ensures budget { IsOk result → AllFit self.old.num_random_codewords
+            self.old.fri.num_queries EF.DIMENSION
+            (map (λ e. length (rows e.1)) evaluations.items) }
         ensures commitment { IfOk result (λ pair.
             InputMmcs.commitment_of pair.1.inner ≡ pair.0) }
         ensures openable { IfOk result (λ pair. IsPreprocessing
@@ -224,6 +235,11 @@ impl<
             (InputMmcs.committed pair.1.inner)) }
         ensures extends { IfOk result (λ pair. AllZip
             (λ m e. HasTrace ⟦<EF as ChallengeField<F>>⟧.fields e.0.shift e.0.log_size e.1 m)
+            (shown_polynomials ⟦<EF as ChallengeField<F>>⟧.fields InputMmcs.committed
+            self.new.fri.log_blowup self.new.num_random_codewords pair.1) evaluations.items) }
+        ensures zeros { IfOk result (λ pair. AllZip
+            (λ m e. HasZerosBetween ⟦<EF as ChallengeField<F>>⟧.fields e.0.shift e.0.log_size
+            e.1 m)
             (shown_polynomials ⟦<EF as ChallengeField<F>>⟧.fields InputMmcs.committed
             self.new.fri.log_blowup self.new.num_random_codewords pair.1) evaluations.items) }
         ensures refused { IfErr result (MaskRefusal self.old.num_random_codewords
@@ -251,6 +267,15 @@ impl<
             × AreMaskedChunks F.ops (λ d. d.shift) (λ d. d.log_size) F.from_word
             self.new.num_random_codewords evaluations.items words F.root F.GENERATOR
             self.new.fri.log_blowup ldes.items) }
+        ensures masked { IfOk result (λ ldes. AreMaskedChunks F.ops (λ d. d.shift)
+            (λ d. d.log_size) F.from_word self.old.num_random_codewords evaluations.items
+            (R.stream self.old.rng) F.root F.GENERATOR self.old.fri.log_blowup ldes.items) }
+        ensures past { IfOk result (λ _. R.stream self.new.rng
+            ≡ past_masks (λ d. d.log_size) self.old.num_random_codewords evaluations.items
+            (R.stream self.old.rng)) }
+        ensures budget { IsOk result → AllFit self.old.num_random_codewords
+            self.old.fri.num_queries EF.DIMENSION
+            (map (λ e. length (rows e.1)) evaluations.items) }
         ensures sizes { IfOk result (λ ldes. AllZip (λ lde e.
             (shown_in ⟦<EF as ChallengeField<F>>⟧.fields self.new.fri.log_blowup
             self.new.num_random_codewords lde).size ≡ 2 * 2 ^ e.0.log_size)
@@ -275,6 +300,7 @@ impl<
         ensures refused { IfErr result (MaskRefusal self.old.num_random_codewords
             self.old.fri.num_queries EF.DIMENSION
             (map (λ e. length (rows e.1)) evaluations.items)) }
+        ensures unmoved { IfErr result (λ e. e ≢ Fri refusal.OutOfMemory → self.new ≡ self.old) }
     {
         self.get_quotient_ldes::<EF>(alloc, evaluations, num_chunks)
     }
@@ -292,6 +318,11 @@ impl<
     >
         requires { All (HasLdeHeight F.TWO_ADICITY self.now.fri.log_blowup) ldes.items }
         ensures matrices { IfOk result (λ pair. InputMmcs.committed pair.1.inner ≡ ldes.items) }
+        ensures data { IfOk result (λ pair. IsNew self.now.num_random_codewords
+            self.now.fri.log_blowup false pair.1) }
+        ensures budget { IsOk result → AllFit self.now.num_random_codewords
+            self.now.fri.num_queries EF.DIMENSION
+            (map (λ lde. length (rows lde) / 2 ^ self.now.fri.log_blowup / 2) ldes.items) }
         ensures commitment { IfOk result (λ pair.
             InputMmcs.commitment_of pair.1.inner ≡ pair.0) }
         ensures polynomials { let fields = ⟦<EF as ChallengeField<F>>⟧.fields in
@@ -407,6 +438,19 @@ impl<
             → verifier_range (parameters_of self.new.fri) n C.MAX_SAMPLE_BITS }
         ensures kept { self.new ≡ record self.old { rng = self.new.rng } }
         ensures some { IfOk result (λ found. IsSome found) }
+        ensures random { IfOk result (λ found. IfSome found (λ pair. ExtendRandom
+            ⟦<EF as ChallengeField<F>>⟧.fields (λ d. d.shift) (λ d. d.log_size)
+            self.old.fri.log_blowup F.from_word (self.old.num_random_codewords + EF.DIMENSION)
+            domains.items (R.stream self.old.rng) (InputMmcs.committed pair.1.inner))) }
+        ensures past { IfOk result (λ _. R.stream self.new.rng
+            ≡ past (random_words F.from_word (λ d. 2 ^ d.log_size)
+            (self.old.num_random_codewords + EF.DIMENSION) domains.items)
+            (R.stream self.old.rng)) }
+        ensures data { IfOk result (λ found. IfSome found (λ pair. IsNew
+            self.old.num_random_codewords self.old.fri.log_blowup false pair.1)) }
+        ensures budget { IsOk result → AllFit self.old.num_random_codewords
+            self.old.fri.num_queries EF.DIMENSION
+            (map (λ d. 2 ^ d.log_size / 2) domains.items) }
         ensures commitment { IfOk result (λ found. IfSome found (λ pair.
             InputMmcs.commitment_of pair.1.inner ≡ pair.0)) }
         ensures openable { IfOk result (λ found. IfSome found (λ pair. IsUnopened
@@ -418,6 +462,7 @@ impl<
         ensures refused { IfErr result (MaskRefusal self.old.num_random_codewords
             self.old.fri.num_queries EF.DIMENSION
             (map (λ d. 2 ^ d.log_size / 2) domains.items)) }
+        ensures unmoved { IfErr result (λ e. e ≢ Fri refusal.OutOfMemory → self.new ≡ self.old) }
     {
         self.get_opt_randomization_poly_commitment::<EF>(alloc, domains)
     }

@@ -34,6 +34,19 @@ fn empty_lists<T: Drop>(alloc: Global, count: usize) -> Result<Vec<Vec<T>>, Allo
     Ok(vectors)
 }
 
+/// The collectors of so many rounds, each without a row.
+fn empty_collectors<EF: Copy>(alloc: Global, rounds: usize) -> Result<FoldedQueries<EF>, AllocError>
+    ensures indices { IfOk result (λ folded.
+        lists folded.group_indices_by_round.items ≡ tabulate rounds (λ _. [])) }
+    ensures rows { IfOk result (λ folded.
+        rows_collected folded.rows_by_round.items ≡ tabulate rounds (λ _. [])) }
+{
+    Ok(FoldedQueries {
+        group_indices_by_round: empty_lists(alloc, rounds)?,
+        rows_by_round: empty_lists(alloc, rounds)?,
+    })
+}
+
 /// Folds a query that is in order, and compares the value that it ends at with the final
 /// polynomial's. What is folded gains its rows.
 fn fold_to_final<F: TwoAdicField, EF: ExtensionField<F>, M: Mmcs<EF>, S: FriFoldingStrategy<F, EF>>(
@@ -153,10 +166,7 @@ pub fn fold_queries<
         ≡ rows_folded EF.ops (S.row_fold folding.now)
         (length log_arities.now) (length positions.now) q) }
 {
-    let mut folded = FoldedQueries {
-        group_indices_by_round: empty_lists(alloc, log_arities.len())?,
-        rows_by_round: empty_lists(alloc, log_arities.len())?,
-    };
+    let mut folded = empty_collectors(alloc, log_arities.len())?;
     for (query, inputs) in reduced_openings.into_iter().enumerate() {
         fold_to_final(
             alloc,

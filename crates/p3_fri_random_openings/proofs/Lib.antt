@@ -3,5 +3,4 @@ pub mod Places
 pub mod Cut
 pub mod Faulty
 pub mod Inside
-pub mod Seen
 pub mod Verified

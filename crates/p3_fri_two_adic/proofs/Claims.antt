@@ -1,51 +1,10 @@
--- Claims without the memory that holds them, as the relation sees them.
-use Rattle.std.proofs.Common.{◌≡◌, ℕ, List, [], ◌∷◌, map, Result, Ok, Err, refl, ap, ◌∙◌}
+-- Refusals that leave a verifier's challenger.
+use Rattle.std.proofs.Common.{◌≡◌, Result, Ok, Err, refl}
 use Rattle.std.specs.Prelude.{IfErr}
 use Rattle.p3_fri_pow.specs.declared.pow_phase.PowPhase.{PowPhase}
 use Rattle.p3_fri_relation.specs.declared.error.FriError.{FriError}
 use Rattle.p3_fri_relation.specs.declared.error.FriError.TheVariants.{NonCanonicalPowWitness}
-use Rattle.p3_mmcs.specs.declared.openings.PointOpening.{PointOpening}
-use Rattle.p3_mmcs.specs.declared.openings.MatrixOpening.{MatrixOpening}
-use Rattle.p3_mmcs.specs.declared.openings.CommitmentOpening.{CommitmentOpening}
-use Rattle.p3_pcs.specs.Claims as claimed
-use Rattle.p3_fri_relation.specs.Setting.{PointClaim, MatrixClaim, CommitmentClaim}
-use Rattle.p3_fri_relation.specs.Views as view
-use Rattle.p3_fri_completeness.specs.Requests.{point_claim, matrix_claim, relation_claims}
 use Rattle.p3_fri_opening_verifier.specs.Accepted.{LeavesVerifier}
-
-module _ {E : Type 0} where
-  points_are : (points : List (PointOpening E))
-      → map point_claim (map claimed.point_claim points) ≡ map view.point_claim points
-  points_are [] = refl
-  points_are (z ∷ points) = ap (λ rest. view.point_claim z ∷ rest) (points_are points)
-
-module _ {E Domain : Type 0} (log_size : Domain → ℕ) where
-  of_points : ℕ → List (PointClaim E) → MatrixClaim E
-  of_points k points = record { log_size = k; points = points }
-
-  matrices_are : (matrices : List (MatrixOpening E Domain))
-      → map (matrix_claim log_size) (map claimed.matrix_claim matrices) ≡ map
-      (view.matrix_claim log_size) matrices
-  unfolding of_points
-  matrices_are [] = refl
-  matrices_are (m ∷ matrices) =
-      ap (λ points. of_points (log_size m.domain) points ∷ map (matrix_claim log_size)
-      (map claimed.matrix_claim matrices)) (points_are m.points.items)
-      ∙ ap (λ rest. view.matrix_claim log_size m ∷ rest) (matrices_are matrices)
-
-unfoldable pub of_matrices : {E Com : Type 0} → Com → List (MatrixClaim E) → CommitmentClaim E Com
-of_matrices commitment matrices = record { commitment = commitment; matrices = matrices }
-
-module _ {E Com Domain : Type 0} (log_size : Domain → ℕ) where
-  pub claims_are : (claims : List (CommitmentOpening E Com Domain))
-      → relation_claims log_size (map claimed.claim claims) ≡ view.claims_of log_size claims
-  unfolding of_matrices
-  claims_are [] = refl
-  claims_are (c ∷ claims) =
-      ap (λ matrices. of_matrices c.commitment matrices ∷ relation_claims log_size
-      (map claimed.claim claims)) (matrices_are log_size c.matrices.items)
-      ∙ ap (λ rest. of_matrices c.commitment (map (view.matrix_claim log_size) c.matrices.items) ∷
-      rest) (claims_are claims)
 
 -- what holds where a refusal names a witness holds of the refusals that leave the challenger
 pub unmoved_from : {A B X : Type 0} (result : Result Unit (FriError A B))

@@ -1,16 +1,18 @@
 -- The test accepts, from its parts.
-use Rattle.std.proofs.Common.{◌≡◌, ◌≢◌, ℕ, ◌+◌, ◌/◌, ◌^◌, ◌<◌, ◌≤◌, ◌⊎◌, inl, inr, List, length, map, refl, sym, ap, ◌∙◌, subst, true, Bool}
-use Rattle.std.specs.Prelude.{All, IsTrue, Some}
+use Rattle.std.proofs.Common.{◌≡◌, ℕ, ◌+◌, ◌/◌, ◌^◌, ◌<◌, ◌⊎◌, inl, inr, List, map, refl, sym, ap, ◌∙◌, subst, true}
+use Rattle.std.specs.Prelude.{All, IfErr, Some, Result, Err}
+use Rattle.p3_challenger_fs.specs.Turns.{bytes_observed}
 use Rattle.p3_fri_pow.specs.declared.pow_phase.PowPhase.{PowPhase}
 use Rattle.p3_fri_pow.specs.declared.pow_phase.PowPhase.TheVariants.{CommitPhase, Query}
 use Rattle.p3_fri_transcript.specs.Steps.{FriNumbers, fri_stream}
-use Rattle.p3_fri_transcript.specs.Replay.{FriReplay, fri_replay}
+use Rattle.p3_fri_transcript.specs.Replay.{fri_replay}
 use Rattle.p3_fri_relation.specs.declared.error.FriError.{FriError}
 use Rattle.p3_fri_relation.specs.declared.error.FriError.TheVariants.{InvalidPowWitness, NonCanonicalPowWitness, OutOfMemory}
 use Rattle.p3_fri_relation.specs.Setting.{Setting, Parameters, CommitmentClaim, Proof}
 use Rattle.p3_fri_relation.specs.Acceptance.{FriAccepts, AreOpeningsGood, test_replay, positions, fri_numbers, top_height, log_arities}
-use Rattle.p3_fri_relation.specs.Faults.{Stands, OpeningsFault, WorkFault, InstanceFault, CountFault, IsNotCanonical}
+use Rattle.p3_fri_relation.specs.Faults.{Stands, OpeningsFault, WorkFault}
 use Rattle.p3_fri_relation.proofs.TestReplays.{positions-below}
+use Rattle.p3_fri_verifier.proofs.Replays.{Outcome}
 use Rattle.p3_fri_verifier.specs.Openings.{AreOpened}
 use Rattle.p3_fri_verifier.specs.Plans.{CanBegin, BeginningFault}
 
@@ -48,6 +50,29 @@ module _ {F E C Com Path InCom InPath : Type 0} (s : Setting F E C Com Path InCo
       ∙ ap (λ n. fri_replay s.moves s.fields.coefficients (fri_numbers p claims s.extra_bits) s.fields.base (fri_stream s.fields.degree (fri_numbers p claims s.extra_bits)) c n witnesses final_poly (Some proof.query_witness)) e₂
       ∙ ap (λ n. fri_replay s.moves s.fields.coefficients (fri_numbers p claims s.extra_bits) s.fields.base (fri_stream s.fields.degree (fri_numbers p claims s.extra_bits)) c proof.commitments n final_poly (Some proof.query_witness)) e₃
       ∙ ap (λ n. fri_replay s.moves s.fields.coefficients (fri_numbers p claims s.extra_bits) s.fields.base (fri_stream s.fields.degree (fri_numbers p claims s.extra_bits)) c proof.commitments proof.commit_witnesses n (Some proof.query_witness)) e₄
+
+  -- how the replay of a shape ends that is refused for this reason
+  abbrev Ended : {A B : Type 0} → FriError A B → FriNumbers → List Com → List F → List E → Type 0
+  Ended e n coms ws ys = Outcome s.moves s.fields.coefficients n
+      (bytes_observed s.fields.base s.moves.observe_value c (fri_stream s.fields.degree n)) coms ws ys proof.query_witness e
+
+  ended_stands : {A B : Type 0} (e : FriError A B)
+      → Ended e (fri_numbers p claims s.extra_bits) proof.commitments proof.commit_witnesses proof.final_poly
+      → Stands s p claims proof c alpha e
+  ended_stands e (inl is) = inr (inr (inr (inr is)))
+  ended_stands {A} {B} e (inr (inl o)) = inr (inr (inl (subst (λ (x : FriError A B). WorkFault s p claims proof c x) (sym o.0) o.1)))
+  ended_stands {A} {B} e (inr (inr o)) = inr (inr (inl (subst (λ (x : FriError A B). WorkFault s p claims proof c x) (sym o.0) o.1)))
+
+  -- of a shape with these numbers, and of what the proof carries, it stands
+  pub work_stands : {A B : Type 0} (shape : FriNumbers) (commitments : List Com) (witnesses : List F) (final_poly : List E)
+      → shape ≡ fri_numbers p claims s.extra_bits → commitments ≡ proof.commitments → witnesses ≡ proof.commit_witnesses
+      → final_poly ≡ proof.final_poly → (e : FriError A B) → Ended e shape commitments witnesses final_poly
+      → Stands s p claims proof c alpha e
+  work_stands shape commitments witnesses final_poly e₁ e₂ e₃ e₄ e h =
+      ended_stands e (subst (λ n. Ended e n proof.commitments proof.commit_witnesses proof.final_poly) e₁
+      (subst (λ coms. Ended e shape coms proof.commit_witnesses proof.final_poly) e₂
+      (subst (λ ws. Ended e shape commitments ws proof.final_poly) e₃
+      (subst (λ ys. Ended e shape commitments witnesses ys) e₄ h))))
 
   abbrev numbers_with : List ℕ → ℕ → FriNumbers
   numbers_with xs n = record {
@@ -136,3 +161,23 @@ pub opening_fault : {F E C Com Path InCom InPath A B : Type 0} (s : Setting F E 
 opening_fault s p claims proof alpha bs bs' ps ps' same at e (inl h) =
     inl (subst (λ x. OpeningsFault s p claims proof alpha x ps' e) same (subst (λ x. OpeningsFault s p claims proof alpha bs x e) at h))
 opening_fault s p claims proof alpha bs bs' ps ps' same at e (inr h) = inr h
+
+-- neither a replay nor openings are refused for a witness that isn't canonical
+pub replay_canonical : {A B X Y : Type 0} (e : FriError A B) (phase : PowPhase) → e ≡ NonCanonicalPowWitness phase
+    → (e ≡ OutOfMemory) ⊎ ((e ≡ InvalidPowWitness CommitPhase) × X) ⊎ ((e ≡ InvalidPowWitness Query) × Y) → ⊥
+replay_canonical e phase is (inl h) = cc
+replay_canonical e phase is (inr (inl h)) = let because = h.0 in cc
+replay_canonical e phase is (inr (inr h)) = let because = h.0 in cc
+
+pub openings_canonical : {F E C Com Path InCom InPath A B X : Type 0} (s : Setting F E C Com Path InCom InPath) (p : Parameters)
+    (claims : List (CommitmentClaim E InCom)) (proof : Proof F E Com Path InPath) (alpha : E) (betas : List E) (positions : List ℕ)
+    (r : Result X (FriError A B)) (phase : PowPhase) → r ≡ Err (NonCanonicalPowWitness phase)
+    → IfErr r (λ e. OpeningsFault s p claims proof alpha betas positions e ⊎ (e ≡ OutOfMemory)) → ⊥
+openings_canonical {A = A} {B} {X} s p claims proof alpha betas positions r phase is h =
+    none (subst (λ (q : Result X (FriError A B)). IfErr q (λ e. OpeningsFault s p claims proof alpha betas positions e ⊎ (e ≡ OutOfMemory))) is h)
+  where
+    none : OpeningsFault {A = A} {B = B} s p claims proof alpha betas positions (NonCanonicalPowWitness phase)
+        ⊎ (◌≡◌ {A = FriError A B} (NonCanonicalPowWitness phase) OutOfMemory) → ⊥
+    none (inl (inl f)) = f
+    none (inl (inr f)) = f
+    none (inr e) = cc

@@ -1,5 +1,5 @@
 -- A list whose elements are replaced one after another.
-use Rattle.std.proofs.Common.{◌≡◌, ℕ, zero, suc, ◌+◌, ◌<◌, ◌++◌, List, [], ◌∷◌, length, map, take, drop, get_or, arith, refl, ap, ◌∙◌, sym, subst, add-one}
+use Rattle.std.proofs.Common.{◌≡◌, ℕ, zero, suc, ◌+◌, ◌<◌, ◌++◌, List, [], ◌∷◌, length, map, take, drop, get_or, arith, refl, ap, ◌∙◌, sym, add-one}
 use Rattle.std.specs.Prelude.{slice_set}
 
 place_of : {A : Type 0} (f : A → A) (xs : List A) (k : ℕ) (d : A) → k < length xs

@@ -21,6 +21,7 @@ use Rattle.p3_fri_relation.specs.Faults.{InputFault, RoundsFault, OpeningsFault}
 use Rattle.p3_fri_relation.proofs.InstanceQueries.{query_of, query-in_order, query-folded_value, query-group_rows}
 use Rattle.p3_fri_relation.proofs.QueryLinks.{chain-index, row_indices-below}
 use Rattle.p3_fri_relation.proofs.InstanceQueries.{siblings-of_rounds}
+use Rattle.p3_fri_relation.proofs.Instances.{instance_top, instance_sum}
 use Rattle.std.proofs.lemmas.List.{length-map, get_or-map}
 use Rattle.std.proofs.lemmas.Slice.Zip.{AllZip-long}
 use Rattle.p3_fri_verifier.specs.Openings.{AreOpened}
@@ -247,92 +248,123 @@ module _ {F E C Com Path InCom InPath : Type 0} (s : Setting F E C Com Path InCo
   input_fault_at e h =
       inl (inl (subst (λ t. Faulty e t proof.inputs) tallest (subst (λ x. Faulty e top x) inputs_are h)))
 
-  module _ {M Data Err : Type 0} (arities : List ℕ) (openings : List (CommitPhaseMultiStep E M Com Data Path Err)) (reduced : List (List (ℕ × E)))
-      (scheduled : arities ≡ log_arities p claims) (opened : proof.rounds ≡ rounds_opened openings)
-      (queries : length positions ≡ p.num_queries)
-      (counts : AllZip (HasSiblings p.num_queries) (log_arities p claims) proof.rounds)
-      (drawn : length betas ≡ length (log_arities p claims)) (two_adicity : ℕ) (ranged : IsInRange p claims two_adicity)
-      (read : reduced ≡ tabulate (length positions) (λ j.
-      sums_at s.fields p.log_blowup alpha top claims inputs j (slice_index positions j)))
-      (final_poly : List E) (final_is : final_poly ≡ proof.final_poly)
-    where
-      sums : EachIndex positions (HasReduced s p claims proof alpha betas positions arities openings reduced top scheduled opened tallest)
-      sums j l = ap (λ rs. get_or rs j []) read ∙ get_or-tabulate (length positions) _ j [] l ∙ ap (λ i. sums_at s.fields p.log_blowup alpha top claims i j (slice_index positions j)) inputs_are
+-- what is read of a proof is the test's: its instance, the rounds that are shown, the reduced openings
+-- and the final polynomial
+pub record IsRead {F E C Com Path InCom InPath M Data Err : Type 0} (s : Setting F E C Com Path InCom InPath)
+    (p : Parameters) (claims : List (CommitmentClaim E InCom)) (proof : Proof F E Com Path InPath) (alpha : E)
+    (betas : List E) (positions : List ℕ) (top : ℕ) (inputs : List (InputOpening F InPath)) (arities : List ℕ)
+    (openings : List (CommitPhaseMultiStep E M Com Data Path Err)) (reduced : List (List (ℕ × E)))
+    (final_poly : List E) (two_adicity : ℕ) : Type 0 where
+  pub tallest : top ≡ top_height p claims
+  pub inputs_are : inputs ≡ proof.inputs
+  pub scheduled : arities ≡ log_arities p claims
+  pub opened : proof.rounds ≡ rounds_opened openings
+  pub queries : length positions ≡ p.num_queries
+  pub counts : AllZip (HasSiblings p.num_queries) (log_arities p claims) proof.rounds
+  pub drawn : length betas ≡ length (log_arities p claims)
+  pub ranged : IsInRange p claims two_adicity
+  pub sums : reduced ≡ tabulate (length positions) (λ j.
+      sums_at s.fields p.log_blowup alpha top claims inputs j (slice_index positions j))
+  pub final_is : final_poly ≡ proof.final_poly
 
-      same : (j : ℕ) → j < length positions → query_at positions betas arities openings reduced top (final_height p) j
-          ≡ query_of s p claims proof alpha betas j (slice_index positions j)
-      same j l = query_same s p claims proof alpha betas positions arities openings reduced top scheduled opened tallest j (sums j l)
+module _ {F E C Com Path InCom InPath M Data Err : Type 0} {s : Setting F E C Com Path InCom InPath}
+    {p : Parameters} {claims : List (CommitmentClaim E InCom)} {proof : Proof F E Com Path InPath} {alpha : E}
+    {betas : List E} {positions : List ℕ} {top : ℕ} {inputs : List (InputOpening F InPath)} {arities : List ℕ}
+    {openings : List (CommitPhaseMultiStep E M Com Data Path Err)} {reduced : List (List (ℕ × E))}
+    {final_poly : List E} {two_adicity : ℕ}
+    (read : IsRead s p claims proof alpha betas positions top inputs arities openings reduced final_poly two_adicity)
+  where
+    each_sum : EachIndex positions (HasReduced s p claims proof alpha betas positions arities openings reduced top read.scheduled read.opened read.tallest)
+    each_sum j l = ap (λ rs. get_or rs j []) read.sums ∙ get_or-tabulate (length positions) _ j [] l ∙ ap (λ i. sums_at s.fields p.log_blowup alpha top claims i j (slice_index positions j)) read.inputs_are
 
-      pub in_order_at : two_adicity < 64
-          → EachIndex positions (λ j. IsInOrder (query_at positions betas arities openings reduced top (final_height p) j))
-      in_order_at small j l = subst (λ q. IsInOrder q) (sym (same j l))
-          (query-in_order s p claims proof alpha betas j (slice_index positions j) two_adicity ranged counts drawn small (omega (arith, l, queries)))
+    same : (j : ℕ) → j < length positions → query_at positions betas arities openings reduced top (final_height p) j
+        ≡ query_of s p claims proof alpha betas j (slice_index positions j)
+    same j l = query_same s p claims proof alpha betas positions arities openings reduced top read.scheduled read.opened read.tallest j (each_sum j l)
 
-      abbrev Folds : (j : ℕ) → QueryInput E → List ℕ → List E → Type 0
-      Folds j q la poly = folded_value q s.fields.ext s.fold ≡ val s.fields.ext poly
-          (s.fields.lift (pt s.fields.base s.fields.root (slice_index positions j / 2 ^ sum la) (final_height p)))
+    pub in_order_at : two_adicity < 64
+        → EachIndex positions (λ j. IsInOrder (query_at positions betas arities openings reduced top (final_height p) j))
+    in_order_at small j l = subst (λ q. IsInOrder q) (sym (same j l))
+        (query-in_order s p claims proof alpha betas j (slice_index positions j) two_adicity read.ranged read.counts read.drawn small (omega (arith, l, read.queries)))
 
-      pub ends_at : (j : ℕ) → j < length positions → QueryEnds s p claims proof alpha betas positions j
-          → EndsAtFinal s.fields s.fold final_poly (query_at positions betas arities openings reduced top (final_height p) j)
-      ends_at j l h = subst (λ q. Folds j q arities final_poly) (sym (same j l))
-          (subst (λ la. Folds j (query_of s p claims proof alpha betas j (slice_index positions j)) la final_poly) (sym scheduled)
-          (subst (λ x. Folds j (query_of s p claims proof alpha betas j (slice_index positions j)) (log_arities p claims) x) (sym final_is)
-          (ends_folded s p claims proof alpha betas positions counts drawn two_adicity ranged j h)))
+    abbrev Folds : (j : ℕ) → QueryInput E → List ℕ → List E → Type 0
+    Folds j q la poly = folded_value q s.fields.ext s.fold ≡ val s.fields.ext poly
+        (s.fields.lift (pt s.fields.base s.fields.root (slice_index positions j / 2 ^ sum la) (final_height p)))
 
-      pub ends_of : (j : ℕ) → j < length positions
-          → EndsAtFinal s.fields s.fold final_poly (query_at positions betas arities openings reduced top (final_height p) j)
-          → QueryEnds s p claims proof alpha betas positions j
-      ends_of j l h = ends_from s p claims proof alpha betas positions counts drawn two_adicity ranged j
-          (subst (λ x. Folds j (query_of s p claims proof alpha betas j (slice_index positions j)) (log_arities p claims) x) final_is
-          (subst (λ la. Folds j (query_of s p claims proof alpha betas j (slice_index positions j)) la final_poly) scheduled
-          (subst (λ q. Folds j q arities final_poly) (same j l) h)))
+    pub ends_at : (j : ℕ) → j < length positions → QueryEnds s p claims proof alpha betas positions j
+        → EndsAtFinal s.fields s.fold final_poly (query_at positions betas arities openings reduced top (final_height p) j)
+    ends_at j l h = subst (λ q. Folds j q arities final_poly) (sym (same j l))
+        (subst (λ la. Folds j (query_of s p claims proof alpha betas j (slice_index positions j)) la final_poly) (sym read.scheduled)
+        (subst (λ x. Folds j (query_of s p claims proof alpha betas j (slice_index positions j)) (log_arities p claims) x) (sym read.final_is)
+        (ends_folded s p claims proof alpha betas positions read.counts read.drawn two_adicity read.ranged j h)))
 
-      pub way_fault_at : {A B : Type 0} → Good top inputs → (e : FriError A B)
-          → (e ≡ OutOfMemory) ⊎ ((e ≡ FinalPolyMismatch) × SomeIndex positions (λ j.
-          ¬ EndsAtFinal s.fields s.fold final_poly (query_at positions betas arities openings reduced top (final_height p) j)))
-          → OpeningsFault s p claims proof alpha betas positions e ⊎ (e ≡ OutOfMemory)
-      way_fault_at good e (inl is) = inr is
-      way_fault_at {A} {B} good e (inr h) =
-          let here : Good (top_height p claims) inputs = subst (λ t. Good t inputs) tallest good in
-          inl (inr (subst (λ (x : FriError A B). RoundsFault s p claims proof alpha betas positions x) (sym h.0)
-          (h.1.0, h.1.1, ((here.sums h.1.0 h.1.1).defined, λ ends. h.1.2 (ends_at h.1.0 h.1.1 ends)))))
+    pub ends_of : (j : ℕ) → j < length positions
+        → EndsAtFinal s.fields s.fold final_poly (query_at positions betas arities openings reduced top (final_height p) j)
+        → QueryEnds s p claims proof alpha betas positions j
+    ends_of j l h = ends_from s p claims proof alpha betas positions read.counts read.drawn two_adicity read.ranged j
+        (subst (λ x. Folds j (query_of s p claims proof alpha betas j (slice_index positions j)) (log_arities p claims) x) read.final_is
+        (subst (λ la. Folds j (query_of s p claims proof alpha betas j (slice_index positions j)) la final_poly) read.scheduled
+        (subst (λ q. Folds j q arities final_poly) (same j l) h)))
 
-      module _ (indices : List (List ℕ)) (rows : List (List (List (List E))))
-          (indices_are : indices ≡ tabulate (length arities) (λ k. map (λ position. slice_index (row_indices arities position) k) positions))
-          (rows_are : rows ≡ tabulate (length arities) (λ k. tabulate (length positions) (λ j. slice_index_or
-          (group_rows (query_at positions betas arities openings reduced top (final_height p) j) s.fields.ext s.fold) k [] ∷ [])))
-          (commitments : List Com) (commitments_are : commitments ≡ proof.commitments)
-        where
-          abbrev numbered : List (Com × RoundOpening E Path)
-          numbered = zip proof.commitments proof.rounds
+    abbrev GoodInputs : ℕ → List (InputOpening F InPath) → Type 0
+    GoodInputs t i = AreInputsGood s.fields p.log_blowup alpha t claims i s.opens_input positions
 
-          pairs : zip commitments (rounds_opened openings) ≡ numbered
-          pairs = ap (λ coms. zip coms (rounds_opened openings)) commitments_are ∙ ap (λ rs. zip proof.commitments rs) (sym opened)
+    pub way_fault_at : {A B : Type 0} → GoodInputs top inputs → (e : FriError A B)
+        → (e ≡ OutOfMemory) ⊎ ((e ≡ FinalPolyMismatch) × SomeIndex positions (λ j.
+        ¬ EndsAtFinal s.fields s.fold final_poly (query_at positions betas arities openings reduced top (final_height p) j)))
+        → OpeningsFault s p claims proof alpha betas positions e ⊎ (e ≡ OutOfMemory)
+    way_fault_at good e (inl is) = inr is
+    way_fault_at {A} {B} good e (inr h) =
+        let here : GoodInputs (top_height p claims) inputs = subst (λ t. GoodInputs t inputs) read.tallest good in
+        inl (inr (subst (λ (x : FriError A B). RoundsFault s p claims proof alpha betas positions x) (sym h.0)
+        (h.1.0, h.1.1, ((here.sums h.1.0 h.1.1).defined, λ ends. h.1.2 (ends_at h.1.0 h.1.1 ends)))))
 
-          rounds_at : (k : ℕ) (y : Com × RoundOpening E Path) → k < length arities
-              → OpensRound s p claims proof alpha betas positions k y → OpensAt s.opens_round arities top indices rows k y
-          rounds_at = round_opens_at s p claims proof alpha betas positions arities openings reduced top scheduled opened tallest queries counts drawn two_adicity ranged sums indices rows indices_are rows_are
+    module _ {indices : List (List ℕ)} {rows : List (List (List (List E)))} {commitments : List Com}
+        (indices_are : indices ≡ tabulate (length arities) (λ k. map (λ position. slice_index (row_indices arities position) k) positions))
+        (rows_are : rows ≡ tabulate (length arities) (λ k. tabulate (length positions) (λ j. slice_index_or
+        (group_rows (query_at positions betas arities openings reduced top (final_height p) j) s.fields.ext s.fold) k [] ∷ [])))
+        (commitments_are : commitments ≡ proof.commitments)
+      where
+        abbrev numbered : List (Com × RoundOpening E Path)
+        numbered = zip proof.commitments proof.rounds
 
-          rounds_of_at : (k : ℕ) (y : Com × RoundOpening E Path) → k < length arities
-              → OpensAt s.opens_round arities top indices rows k y → OpensRound s p claims proof alpha betas positions k y
-          rounds_of_at = round_opens s p claims proof alpha betas positions arities openings reduced top scheduled opened tallest queries counts drawn two_adicity ranged sums indices rows indices_are rows_are
+        pairs : zip commitments (rounds_opened openings) ≡ numbered
+        pairs = ap (λ coms. zip coms (rounds_opened openings)) commitments_are ∙ ap (λ rs. zip proof.commitments rs) (sym read.opened)
 
-          pub rounds_open_at : AllZip (OpensAt s.opens_round arities top indices rows) (range_with_len 0 (length arities)) (zip commitments (rounds_opened openings))
-              → RoundsOpen s p claims proof alpha betas positions
-          rounds_open_at h' = let h = subst (λ ys. AllZip (OpensAt s.opens_round arities top indices rows) (range_with_len 0 (length arities)) ys) pairs h' in subst (λ n. AllZip (OpensRound s p claims proof alpha betas positions) (range_with_len 0 n) numbered) (ap length scheduled)
-              (all_numbered _ (OpensRound s p claims proof alpha betas positions) 0 (length arities) numbered (λ k y l. rounds_of_at k y (omega (arith, l))) h)
+        rounds_at : (k : ℕ) (y : Com × RoundOpening E Path) → k < length arities
+            → OpensRound s p claims proof alpha betas positions k y → OpensAt s.opens_round arities top indices rows k y
+        rounds_at = round_opens_at s p claims proof alpha betas positions arities openings reduced top read.scheduled read.opened read.tallest read.queries read.counts read.drawn two_adicity read.ranged each_sum indices rows indices_are rows_are
 
-          pub open_rounds_at : RoundsOpen s p claims proof alpha betas positions
-              → AllZip (OpensAt s.opens_round arities top indices rows) (range_with_len 0 (length arities)) (zip commitments (rounds_opened openings))
-          open_rounds_at h = subst (λ ys. AllZip (OpensAt s.opens_round arities top indices rows) (range_with_len 0 (length arities)) ys) (sym pairs) (all_numbered (OpensRound s p claims proof alpha betas positions) _ 0 (length arities) numbered (λ k y l. rounds_at k y (omega (arith, l)))
-              (subst (λ n. AllZip (OpensRound s p claims proof alpha betas positions) (range_with_len 0 n) numbered) (sym (ap length scheduled)) h))
+        rounds_of_at : (k : ℕ) (y : Com × RoundOpening E Path) → k < length arities
+            → OpensAt s.opens_round arities top indices rows k y → OpensRound s p claims proof alpha betas positions k y
+        rounds_of_at = round_opens s p claims proof alpha betas positions arities openings reduced top read.scheduled read.opened read.tallest read.queries read.counts read.drawn two_adicity read.ranged each_sum indices rows indices_are rows_are
 
-          pub rounds_fault_at : {A B : Type 0} (e : FriError A B) (error : A) → e ≡ CommitPhaseMmcsError error
-              → Any (λ (k, opening). ¬ OpensAt s.opens_round arities top indices rows k opening) (zip (range_with_len 0 (length arities)) (zip commitments (rounds_opened openings)))
-              → OpeningsFault s p claims proof alpha betas positions e ⊎ (e ≡ OutOfMemory)
-          rounds_fault_at {A} {B} e error is some' = let some = subst (λ ys. Any (λ (k, opening). ¬ OpensAt s.opens_round arities top indices rows k opening) (zip (range_with_len 0 (length arities)) ys)) pairs some' in inl (inr (subst (λ (x : FriError A B). RoundsFault s p claims proof alpha betas positions x) (sym is)
-              (subst (λ n. Any (λ (k, opening). ¬ OpensRound s p claims proof alpha betas positions k opening) (zip (range_with_len 0 n) numbered)) (ap length scheduled)
-              (some_numbered _ _ (length arities) numbered (λ x l no opens. no (rounds_at x.0 x.1 l opens)) some))))
+        pub rounds_open_at : AllZip (OpensAt s.opens_round arities top indices rows) (range_with_len 0 (length arities)) (zip commitments (rounds_opened openings))
+            → RoundsOpen s p claims proof alpha betas positions
+        rounds_open_at h' = let h = subst (λ ys. AllZip (OpensAt s.opens_round arities top indices rows) (range_with_len 0 (length arities)) ys) pairs h' in subst (λ n. AllZip (OpensRound s p claims proof alpha betas positions) (range_with_len 0 n) numbered) (ap length read.scheduled)
+            (all_numbered _ (OpensRound s p claims proof alpha betas positions) 0 (length arities) numbered (λ k y l. rounds_of_at k y (omega (arith, l))) h)
+
+        pub open_rounds_at : RoundsOpen s p claims proof alpha betas positions
+            → AllZip (OpensAt s.opens_round arities top indices rows) (range_with_len 0 (length arities)) (zip commitments (rounds_opened openings))
+        open_rounds_at h = subst (λ ys. AllZip (OpensAt s.opens_round arities top indices rows) (range_with_len 0 (length arities)) ys) (sym pairs) (all_numbered (OpensRound s p claims proof alpha betas positions) _ 0 (length arities) numbered (λ k y l. rounds_at k y (omega (arith, l)))
+            (subst (λ n. AllZip (OpensRound s p claims proof alpha betas positions) (range_with_len 0 n) numbered) (sym (ap length read.scheduled)) h))
+
+        pub rounds_fault_at : {A B : Type 0} (e : FriError A B) (error : A) → e ≡ CommitPhaseMmcsError error
+            → Any (λ (k, opening). ¬ OpensAt s.opens_round arities top indices rows k opening) (zip (range_with_len 0 (length arities)) (zip commitments (rounds_opened openings)))
+            → OpeningsFault s p claims proof alpha betas positions e ⊎ (e ≡ OutOfMemory)
+        rounds_fault_at {A} {B} e error is some' = let some = subst (λ ys. Any (λ (k, opening). ¬ OpensAt s.opens_round arities top indices rows k opening) (zip (range_with_len 0 (length arities)) ys)) pairs some' in inl (inr (subst (λ (x : FriError A B). RoundsFault s p claims proof alpha betas positions x) (sym is)
+            (subst (λ n. Any (λ (k, opening). ¬ OpensRound s p claims proof alpha betas positions k opening) (zip (range_with_len 0 n) numbered)) (ap length read.scheduled)
+            (some_numbered _ _ (length arities) numbered (λ x l no opens. no (rounds_at x.0 x.1 l opens)) some))))
+
+-- numbers of an instance in range
+module _ {E Com : Type 0} (p : Parameters) (claims : List (CommitmentClaim E Com)) (two_adicity top : ℕ) where
+  pub top_within : IsInRange p claims two_adicity → top ≡ top_height p claims → top ≤ two_adicity
+  top_within ranged is = let bounds = instance_top p claims two_adicity ranged in omega (arith, bounds.1)
+
+  pub rounds_within : (arities : List ℕ) → IsInRange p claims two_adicity → arities ≡ log_arities p claims
+      → top ≡ top_height p claims → sum arities ≤ top
+  rounds_within arities ranged scheduled is =
+      let whole = instance_sum p claims two_adicity ranged in
+      omega (arith, whole, ap sum scheduled)
 
 -- each round's indices are those of the word that it folds to
 pub indices_below : (arities : List ℕ) (top : ℕ) (positions : List ℕ) (indices : List (List ℕ))

@@ -1,19 +1,16 @@
 -- Why a transcript that is replayed with lists of the right lengths is refused.
-use Rattle.std.proofs.Common.{◌≡◌, ◌≢◌, ℕ, ◌⊎◌, inl, inr, List, length, Bool, true, false, Ok, Err, refl, ap, ◌∙◌, sym, subst}
-use Rattle.std.specs.Prelude.{IsTrue, IfErr, Option, Some, None, Result}
-use Rattle.algebra.specs.Field.{FieldOps}
-use Rattle.p3_challenger_core.specs.Run.{Moves, Passes, grind_attempt}
-use Rattle.p3_challenger_fs.specs.Turns.{bytes_observed}
+use Rattle.std.proofs.Common.{◌≡◌, ◌≢◌, ℕ, ◌⊎◌, inl, inr, List, length, Bool, true, false, Ok, Err, refl, ◌∙◌, sym, subst}
+use Rattle.std.specs.Prelude.{IsTrue, IfErr, Some, None, Result}
+use Rattle.p3_challenger_core.specs.Run.{Moves, Passes}
 use Rattle.p3_fri_pow.specs.Counts.{IsWrongCount}
 use Rattle.p3_fri_pow.specs.Pow.{IsWrongWitness}
-use Rattle.p3_fri_pow.specs.declared.pow_phase.PowPhase.{PowPhase}
 use Rattle.p3_fri_pow.specs.declared.pow_phase.PowPhase.TheVariants.{Batch, CommitPhase, Query}
 use Rattle.p3_fri_transcript.specs.declared.transcript.play.Refusal.{Refusal}
 use Rattle.p3_fri_transcript.specs.declared.transcript.play.Refusal.TheVariants.{Seed, Step}
 use Rattle.p3_fri_transcript.specs.declared.transcript.failure.TranscriptFailure.{TranscriptFailure}
 use Rattle.p3_fri_transcript.specs.declared.transcript.failure.TranscriptFailure.TheVariants as Why
-use Rattle.p3_fri_transcript.specs.Failures.{FriFailure, FriPasses}
-use Rattle.p3_fri_transcript.specs.Replay.{rounds_replay, shown_queries_replay, fri_replay, polynomial_observed}
+use Rattle.p3_fri_transcript.specs.Failures.{FriFailure}
+use Rattle.p3_fri_transcript.specs.Replay.{rounds_replay, shown_queries_replay, polynomial_observed}
 use Rattle.p3_fri_transcript.specs.Steps.{FriNumbers}
 use Rattle.p3_fri_relation.specs.declared.error.FriError.{FriError}
 use Rattle.p3_fri_relation.specs.declared.error.FriError.TheVariants.{InvalidPowWitness, OutOfMemory}

@@ -3,7 +3,6 @@ use Rattle.std.specs.Prelude.{◌≡◌, ◌⊎◌, ℕ, List, length}
 use Rattle.p3_fri_pow.specs.declared.pow_phase.PowPhase.{PowPhase}
 use Rattle.p3_fri_relation.specs.declared.error.FriError.{FriError}
 use Rattle.p3_fri_relation.specs.declared.error.FriError.TheVariants.{NonCanonicalPowWitness}
-use Rattle.p3_fri_relation.specs.declared.error.FriError.TheVariants.{OutOfMemory}
 use Rattle.p3_fri_relation.specs.Setting.{Parameters, CommitmentClaim, Proof}
 use Rattle.p3_fri_relation.specs.TestRounds.{HasCounts}
 use Rattle.p3_fri_relation.specs.Acceptance.{IsInRange, AreCanonical, log_arities}

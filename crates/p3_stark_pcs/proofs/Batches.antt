@@ -1,10 +1,9 @@
 -- What is known of committed batches under a later scheme.
-use Rattle.std.proofs.Common.{◌≡◌, ◌≢◌, ℕ, List, [], ◌∷◌, map, get_or, sym, ap, ◌∙◌, subst}
+use Rattle.std.proofs.Common.{◌≡◌, ℕ, List, [], ◌∷◌, map, sym, ap, ◌∙◌, subst}
 use Rattle.std.specs.List.{AllZip}
 use Rattle.p3_pcs.specs.Requests.{Held}
-use Rattle.p3_pcs.specs.declared.claims.KnownCommitment.{KnownCommitment}
-use Rattle.p3_stark_pcs.specs.Stark.{IsBatch, AreColumnValues, AreChunkValues}
-use Rattle.p3_stark_pcs.proofs.Zips.{zip_equal, zip_leads, zip_some, mapped_twice}
+use Rattle.p3_stark_pcs.specs.Stark.{AreColumnValues, AreChunkValues}
+use Rattle.p3_stark_pcs.proofs.Zips.{zip_equal, zip_leads, mapped_twice}
 
 module _ {EF Domain Matrix : Type 0} (size : Domain → ℕ)
     (R : Held EF → Domain × Matrix → Type 0)
@@ -18,19 +17,23 @@ module _ {EF Domain Matrix : Type 0} (size : Domain → ℕ)
       ∙ sym (zip_equal (λ m. m.size) (λ e. size e.0) held columns
       (zip_leads R (λ m e. m.size ≡ size e.0) R_size held columns extends))
 
-module _ {EF Matrix : Type 0} (R S : Held EF → Matrix → Type 0)
-    (R_S : (m : Held EF) (e : Matrix) → R m e → S m e) (point next : EF) where
-  -- the values of columns, by what is held under a later scheme
-  pub column_values : (held kept : List (Held EF)) (columns : List Matrix)
-      (values : List (List (List EF))) (zs : List EF) → AllZip R held columns → kept ≡ held
-      → zs ≡ point ∷ next ∷ [] → values ≡ map (λ m. map m.values_at zs) kept
-      → AreColumnValues S columns point next values
-  column_values held kept columns values zs extends same are is = record {
-    polynomials = held;
-    extends = zip_leads R S R_S held columns extends;
-    values_there = is ∙ ap (λ hs. map (λ m. map m.values_at zs) hs) same
-        ∙ ap (λ ps. map (λ m. map m.values_at ps) held) are;
-  }
+-- what extends columns does so under a later scheme
+pub still_extended : {EF Matrix : Type 0} (R S : Held EF → Matrix → Type 0)
+    → ((m : Held EF) (e : Matrix) → R m e → S m e) → (held kept : List (Held EF))
+    → (columns : List Matrix) → AllZip R held columns → kept ≡ held → AllZip S kept columns
+still_extended R S R_S held kept columns extends same =
+    subst (λ hs. AllZip S hs columns) (sym same) (zip_leads R S R_S held columns extends)
+
+-- the values of columns
+pub column_values : {EF Matrix : Type 0} (S : Held EF → Matrix → Type 0) (point next : EF)
+    (held : List (Held EF)) (columns : List Matrix) (values : List (List (List EF)))
+    (zs : List EF) → AllZip S held columns → zs ≡ point ∷ next ∷ []
+    → values ≡ map (λ m. map m.values_at zs) held → AreColumnValues S columns point next values
+column_values S point next held columns values zs extends are is = record {
+  polynomials = held;
+  extends = extends;
+  values_there = is ∙ ap (λ ps. map (λ m. map m.values_at ps) held) are;
+}
 
 -- the values of chunks
 pub chunk_values : {EF : Type 0} (recombined : List (List EF) → List EF) (quotient : List EF)

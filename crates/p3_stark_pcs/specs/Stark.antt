@@ -5,7 +5,7 @@ use Rattle.p3_pcs.specs.Requests.{Held}
 use Rattle.p3_pcs.specs.declared.claims.KnownCommitment.{KnownCommitment}
 use Rattle.p3_pcs.specs.declared.headline.OpenAndVerifyError.TheVariants as opening
 use Rattle.p3_stark_pcs.specs.declared.stark.StarkError.{StarkError}
-use Rattle.p3_stark_pcs.specs.declared.stark.StarkError.TheVariants.{Commit, Open, OutOfMemory}
+use Rattle.p3_stark_pcs.specs.declared.stark.StarkError.TheVariants.{Open}
 
 -- a refusal that comes to an honest prover: no proof of its own is refused but for want of memory
 abbrev pub IsHonestRefusal : {P E : Type 0} → (out_of_memory : E) → StarkError P E → Type 0
@@ -20,6 +20,23 @@ pub record IsBatch {EF Com Domain D : Type 0} (IsHonest : D → Type 0) (held : 
   pub honest : IsHonest datum
   pub commitment : known.commitment ≡ commitment_of datum
   pub domains : map domain_size known.domains.items ≡ map (λ m. m.size) (held datum)
+
+-- what is known of a STARK's batches, each of a commitment and its data, once all are committed to:
+-- each may be opened, and the first two hold polynomials that extend these columns
+pub record AreCommitted {EF Com Domain Matrix D : Type 0} (CanOpenPreprocessed CanOpen : D → Type 0)
+    (Extends : Held EF → Matrix → Type 0) (IsHonest : D → Type 0) (held : D → List (Held EF))
+    (commitment_of : D → Com) (domain_size : Domain → ℕ)
+    (preprocessed_columns trace_columns : List Matrix)
+    (preprocessed trace quotient : KnownCommitment Com Domain × D) : Type 0 where
+  pub preprocessed_openable : CanOpenPreprocessed preprocessed.1
+  pub trace_openable : CanOpen trace.1
+  pub quotient_openable : CanOpen quotient.1
+  pub preprocessed_batch :
+      IsBatch IsHonest held commitment_of domain_size preprocessed.0 preprocessed.1
+  pub trace_batch : IsBatch IsHonest held commitment_of domain_size trace.0 trace.1
+  pub quotient_batch : IsBatch IsHonest held commitment_of domain_size quotient.0 quotient.1
+  pub preprocessed_extends : AllZip Extends (held preprocessed.1) preprocessed_columns
+  pub trace_extends : AllZip Extends (held trace.1) trace_columns
 
 module _ {EF Matrix : Type 0} (Extends : Held EF → Matrix → Type 0) where
   -- the values are those of the polynomials that have the columns of these matrices, at the point

@@ -7,8 +7,8 @@ ghost use Rattle.std.specs.Prelude.{replicate, slice_index_or};
 ghost use Rattle.std.specs.Prelude.{IfOk, IfErr};
 ghost use Rattle.std.specs.List.{AllZip};
 ghost use Rattle.algebra.specs.Nested.{lists};
-ghost use Rattle.p3_stark_pcs.specs.Stark.{IsHonestRefusal, IsBatch, AreColumnValues};
-ghost use Rattle.p3_stark_pcs.specs.Stark.{AreChunkValues};
+ghost use Rattle.p3_stark_pcs.specs.Stark.{IsHonestRefusal, IsBatch, AreCommitted};
+ghost use Rattle.p3_stark_pcs.specs.Stark.{AreColumnValues, AreChunkValues};
 ghost use Rattle.p3_pcs.specs.Claims.{opened_values};
 ghost use Rattle.p3_stark_pcs.specs.declared.stark.StarkError.TheVariants.{OutOfMemory};
 
@@ -54,6 +54,14 @@ impl<ProverError, Error> From<AllocError> for StarkError<ProverError, Error> {
 struct Batch<Com, Domain, D> {
     known: KnownCommitment<Com, Domain>,
     prover_data: D,
+}
+
+/// The batches of a STARK.
+#[derive(Drop)]
+struct Batches<Com, Domain, D> {
+    preprocessed: Batch<Com, Domain, D>,
+    trace: Batch<Com, Domain, D>,
+    quotient: Batch<Com, Domain, D>,
 }
 
 /// The domains of matrices.
@@ -174,6 +182,49 @@ fn commit_quotient<EF: Copy, C, P: UnivariateStarkPcs<EF, C>>(
     }
 }
 
+/// Commits to the columns of a STARK, one batch after another.
+fn commit_columns<EF: Copy, C, P: UnivariateStarkPcs<EF, C>>(
+    scheme: &mut P,
+    alloc: Global,
+    columns: StarkColumns<P::Domain, P::Val>,
+) -> Result<Batches<P::Commitment, P::Domain, P::ProverData>, StarkError<P::ProverError, P::Error>>
+    requires preprocessed { P.CanCommit scheme.old columns.preprocessed.items }
+    requires trace { P.CanCommit scheme.old columns.trace.items }
+    requires quotient { P.CanExtend scheme.old columns.quotient.items
+        (length columns.quotient.items) }
+    requires quotient_domains { map P.domain_size columns.quotient_domains.items
+        ≡ map (λ e. (if P.ZK then 2 else 1) * P.domain_size e.0) columns.quotient.items }
+    ensures range { P.InProverRange scheme.old → P.InProverRange scheme.new }
+    ensures verifier_range { P.InVerifierRange scheme.old → P.InVerifierRange scheme.new }
+    ensures committed { IfOk result (λ b. AreCommitted (P.CanOpenPreprocessed scheme.new)
+        (P.CanOpen scheme.new) (P.Extends scheme.new) (P.IsHonest scheme.new)
+        (P.committed_polynomials scheme.new) P.commitment_of P.domain_size
+        columns.preprocessed.items columns.trace.items
+        (b.preprocessed.known, b.preprocessed.prover_data) (b.trace.known, b.trace.prover_data)
+        (b.quotient.known, b.quotient.prover_data)) }
+    ensures recombined { let domains = map (λ e. e.0) columns.quotient.items in
+        IfOk result (λ b. (z : EF) → P.recombined domains (map (λ m. m.values_at z)
+        (P.committed_polynomials scheme.new b.quotient.prover_data)) z
+        ≡ P.recombined domains
+        (map (λ e. (P.chunk_polynomials e).values_at z) columns.quotient.items) z) }
+    ensures refused { IfErr result (λ e. IsHonestRefusal P.out_of_memory e) }
+{
+    let StarkColumns {
+        preprocessed,
+        trace,
+        quotient,
+        quotient_domains,
+    } = columns;
+    let first = commit_preprocessed(scheme, alloc, preprocessed)?;
+    let second = commit_trace(scheme, alloc, trace)?;
+    let third = commit_quotient(scheme, alloc, quotient, quotient_domains)?;
+    Ok(Batches {
+        preprocessed: first,
+        trace: second,
+        quotient: third,
+    })
+}
+
 /// For each of so many matrices a list of these points.
 fn points_for<EF: Copy>(
     alloc: Global,
@@ -187,6 +238,24 @@ fn points_for<EF: Copy>(
         all.push(Vec::from_slice(alloc, points)?)?;
     }
     Ok(all)
+}
+
+/// For each matrix of three batches a list of these points, of the third of others.
+fn points_of_three<EF: Copy>(
+    alloc: Global,
+    counts: (usize, usize, usize),
+    both: &[EF],
+    one: &[EF],
+) -> Result<(Vec<Vec<EF>>, Vec<Vec<EF>>, Vec<Vec<EF>>), AllocError>
+    ensures first { IfOk result (λ all. lists all.0.items ≡ replicate counts.0 both.now) }
+    ensures second { IfOk result (λ all. lists all.1.items ≡ replicate counts.1 both.now) }
+    ensures third { IfOk result (λ all. lists all.2.items ≡ replicate counts.2 one.now) }
+{
+    Ok((
+        points_for(alloc, counts.0, both)?,
+        points_for(alloc, counts.1, both)?,
+        points_for(alloc, counts.2, one)?,
+    ))
 }
 
 /// A list of three.
@@ -205,9 +274,7 @@ fn three_of<T: Drop>(alloc: Global, first: T, second: T, third: T) -> Result<Vec
 fn open_batches<EF: Copy, C: Clone, P: UnivariateStarkPcs<EF, C>>(
     scheme: &P,
     alloc: Global,
-    preprocessed: Batch<P::Commitment, P::Domain, P::ProverData>,
-    trace: Batch<P::Commitment, P::Domain, P::ProverData>,
-    quotient: Batch<P::Commitment, P::Domain, P::ProverData>,
+    batches: Batches<P::Commitment, P::Domain, P::ProverData>,
     both: &[EF],
     one: &[EF],
     challenger: &mut C,
@@ -215,30 +282,42 @@ fn open_batches<EF: Copy, C: Clone, P: UnivariateStarkPcs<EF, C>>(
     requires copies { (x y : C) → C.is_clone x y → y ≡ x }
     requires prover { P.InProverRange scheme.now }
     requires verifier { P.InVerifierRange scheme.now }
-    requires preprocessed { P.CanOpenPreprocessed scheme.now preprocessed.prover_data }
-    requires some_matrix { P.committed_polynomials scheme.now preprocessed.prover_data ≢ [] }
-    requires trace { P.CanOpen scheme.now trace.prover_data }
-    requires quotient { P.CanOpen scheme.now quotient.prover_data }
+    requires preprocessed { P.CanOpenPreprocessed scheme.now batches.preprocessed.prover_data }
+    requires some_matrix { let held = P.committed_polynomials scheme.now in
+        held batches.preprocessed.prover_data ≢ [] }
+    requires trace { P.CanOpen scheme.now batches.trace.prover_data }
+    requires quotient { P.CanOpen scheme.now batches.quotient.prover_data }
     requires first_batch { IsBatch (P.IsHonest scheme.now)
-        (P.committed_polynomials scheme.now) P.commitment_of P.domain_size preprocessed.known
-        preprocessed.prover_data }
+        (P.committed_polynomials scheme.now) P.commitment_of P.domain_size
+        batches.preprocessed.known batches.preprocessed.prover_data }
     requires second_batch { IsBatch (P.IsHonest scheme.now)
-        (P.committed_polynomials scheme.now) P.commitment_of P.domain_size trace.known
-        trace.prover_data }
+        (P.committed_polynomials scheme.now) P.commitment_of P.domain_size batches.trace.known
+        batches.trace.prover_data }
     requires third_batch { IsBatch (P.IsHonest scheme.now)
-        (P.committed_polynomials scheme.now) P.commitment_of P.domain_size quotient.known
-        quotient.prover_data }
+        (P.committed_polynomials scheme.now) P.commitment_of P.domain_size batches.quotient.known
+        batches.quotient.prover_data }
     requires some_point { both.now ≢ [] }
     requires first_point { one.now ≢ [] }
     ensures values { IfOk result (λ verified. opened_values verified.values.items
         ≡ map (λ m. map m.values_at both.now)
-        (P.committed_polynomials scheme.now preprocessed.prover_data)
-        ∷ map (λ m. map m.values_at both.now) (P.committed_polynomials scheme.now trace.prover_data)
+        (P.committed_polynomials scheme.now batches.preprocessed.prover_data)
+        ∷ map (λ m. map m.values_at both.now)
+        (P.committed_polynomials scheme.now batches.trace.prover_data)
         ∷ map (λ m. map m.values_at one.now)
-        (P.committed_polynomials scheme.now quotient.prover_data)
+        (P.committed_polynomials scheme.now batches.quotient.prover_data)
         ∷ []) }
     ensures refused { IfErr result (λ e. IsHonestRefusal P.out_of_memory e) }
 {
+    let Batches {
+        preprocessed,
+        trace,
+        quotient,
+    } = batches;
+    let counts = (
+        preprocessed.known.domains.len(),
+        trace.known.domains.len(),
+        quotient.known.domains.len(),
+    );
     let Batch {
         known: first,
         prover_data: mut first_data,
@@ -251,10 +330,8 @@ fn open_batches<EF: Copy, C: Clone, P: UnivariateStarkPcs<EF, C>>(
         known: third,
         prover_data: mut third_data,
     } = quotient;
-    let first_points = points_for(alloc, first.domains.len(), both)?;
-    let second_points = points_for(alloc, second.domains.len(), both)?;
-    let third_points = points_for(alloc, third.domains.len(), one)?;
     let known = three_of(alloc, first, second, third)?;
+    let (first_points, second_points, third_points) = points_of_three(alloc, counts, both, one)?;
     let mut requests = three_of(
         alloc,
         OpeningRequest {
@@ -338,22 +415,12 @@ pub fn open_stark_columns<EF: Copy, C: Clone, P: UnivariateStarkPcs<EF, C>>(
         (slice_index_or (opened_values verified.values.items) 2 [])) }
     ensures refused { IfErr result (λ e. IsHonestRefusal P.out_of_memory e) }
 {
-    let StarkColumns {
-        preprocessed,
-        trace,
-        quotient,
-        quotient_domains,
-    } = columns;
     let (both, one) = points_at(alloc, point, successor)?;
-    let first = commit_preprocessed(scheme, alloc, preprocessed)?;
-    let second = commit_trace(scheme, alloc, trace)?;
-    let third = commit_quotient(scheme, alloc, quotient, quotient_domains)?;
+    let batches = commit_columns(scheme, alloc, columns)?;
     open_batches(
         &*scheme,
         alloc,
-        first,
-        second,
-        third,
+        batches,
         both.as_slice(),
         one.as_slice(),
         challenger,

@@ -1,4 +1,4 @@
-use Rattle.std.proofs.Common.{◌≡◌, ◌^◌, [], ◌∷◌, map, sym, ap, ◌∙◌, arith}
+use Rattle.std.proofs.Common.{◌≡◌, ◌^◌, sym, ap, refl, ◌∙◌, arith}
 use Rattle.std.specs.Prelude.{slice_index_or}
 use Rattle.algebra.specs.Polynomial.{val}
 use Rattle.p3_field.specs.BabyBear.{baby_bear, root, element}
@@ -10,8 +10,7 @@ use Rattle.p3_field.specs.declared.BabyBear4.{BabyBear4}
 use Rattle.p3_dft.proofs.Columns.{length-held}
 use Rattle.p3_fri_relation.specs.Setting.{Fields}
 use Rattle.p3_fri_commit.specs.Extension.{FitsDomain, polynomial_on}
-use Rattle.p3_pcs.specs.Claims.{opened_values}
-use Rattle.fri_example.proofs.Openings.{same_log, held_sizes, one_held, honest_value}
+use Rattle.fri_example.proofs.Openings.{same_log, held_value}
 use Rattle.algebra.proofs.Lists.{all-one}
 use Rattle.fri_example.proofs.open_column.Goals as goal
 
@@ -27,36 +26,23 @@ fields = record {
   shift = element 31;
 }
 
-pub commit-committed-requires : goal.commit-committed-requires
-commit-committed-requires c =
+pub open_value-requires-clause-committable : goal.open_value-requires-clause-committable
+open_value-requires-clause-committable c =
     let size = same_log c.len.result c.natural_domain_for_degree-domain.result.log_size c.args.log_size c.natural_domain_for_degree-domain.ensures.size (omega (arith, c.len.ensures, c.requires.size)) in
-    let height = length-held baby_bear c.new-2.result 1 (2 ^ c.args.log_size) c.args.column.items
-    (record { some = omega arith; entries = c.new-2.ensures.rows; columns = c.new-2.ensures.width; size = omega (arith, c.args.column.ok.0, c.requires.size) }) in
+    let height = length-held baby_bear c.new-matrix.result 1 (2 ^ c.args.log_size) c.args.column.items
+    (record { some = omega arith; entries = c.new-matrix.ensures.rows; columns = c.new-matrix.ensures.width; size = omega (arith, c.args.column.ok.0, c.requires.size) }) in
     let blowup : c.new-scheme.result.fri.log_blowup ≡ c.args.log_blowup = ap (λ p. p.log_blowup) c.new-scheme.ensures.parameters ∙ c.parameters.ensures.log_blowup in
-    all-one (λ e. FitsDomain 27 c.new-scheme.result.fri.log_blowup e.0.log_size e.1) c.in_ok-evaluations.evaluations.items
-    (c.natural_domain_for_degree-domain.result, c.new-2.result) c.in_ok-evaluations.ensures
+    all-one (λ e. FitsDomain 27 c.new-scheme.result.fri.log_blowup e.0.log_size e.1) _
+    (c.natural_domain_for_degree-domain.result, c.new-matrix.result) refl
     (record { height = height ∙ ap (λ k. 2 ^ k) (sym size); within = omega (arith, size, blowup, c.requires.height) })
-
-pub open_at-requires-clause-sizes : goal.open_at-requires-clause-sizes
-open_at-requires-clause-sizes c =
-    ap (λ ds. map (λ d. 2 ^ d.log_size) ds) c.in_ok-listed.ensures
-    ∙ held_sizes fields c.natural_domain_for_degree-domain.result c.new-2.result c.in_ok-evaluations.evaluations.items c.in_ok-evaluations.ensures
-    (λ d. d.shift) (λ d. d.log_size) _ c.in-Ok.ensures.extends
-
-pub open_at-requires-clause-one_matrix : goal.open_at-requires-clause-one_matrix
-open_at-requires-clause-one_matrix c =
-    one_held fields c.natural_domain_for_degree-domain.result c.new-2.result c.in_ok-evaluations.evaluations.items c.in_ok-evaluations.ensures
-    (λ d. d.shift) (λ d. d.log_size) _ c.in-Ok.ensures.extends
 
 pub returns-clause-value : goal.returns-clause-value
 returns-clause-value c =
     let size = same_log c.len.result c.natural_domain_for_degree-domain.result.log_size c.args.log_size c.natural_domain_for_degree-domain.ensures.size (omega (arith, c.len.ensures, c.requires.size)) in
     let value : BabyBear = val baby_bear (polynomial_on baby_bear root (element 1) c.args.log_size c.args.column.items) c.args.point in
-    let known = honest_value fields c.natural_domain_for_degree-domain.result c.new-2.result c.in_ok-evaluations.evaluations.items c.in_ok-evaluations.ensures
-    (λ d. d.shift) (λ d. d.log_size) _ c.in-Ok.ensures.extends
-    baby_bear_laws.ring baby_bear4_laws.ring lift4_homomorphism (element 1) c.args.log_size c.args.column.items
-    (record { some = omega arith; entries = c.new-2.ensures.rows; columns = c.new-2.ensures.width; size = omega (arith, c.args.column.ok.0, c.requires.size) })
-    c.natural_domain_for_degree-domain.ensures.shift size c.args.point c.from_base-lifted.result c.from_base-lifted.ensures in
-    let opened = ap opened_values c.deref.ensures.value ∙ c.in_ok-verified.ensures.values ∙ ap (λ vs. vs ∷ []) known in
-    let same : c.in-Some.value ≡ lift4 value = cc (c.in-Some.ensures.one (lift4 value) opened) in
+    let same : c.in_ok-value.value ≡ lift4 value = c.in_ok-value.ensures.value (lift4 value) (λ m extends.
+    held_value fields baby_bear_laws.ring baby_bear4_laws.ring lift4_homomorphism (element 1) c.args.log_size c.new-matrix.result c.args.column.items
+    (record { some = omega arith; entries = c.new-matrix.ensures.rows; columns = c.new-matrix.ensures.width; size = omega (arith, c.args.column.ok.0, c.requires.size) })
+    c.args.point m _ _ c.from_base-lifted.result extends
+    c.natural_domain_for_degree-domain.ensures.shift size c.from_base-lifted.ensures) in
     c.coefficient.ensures ∙ ap (λ w. slice_index_or (coefficients4 w) 0 baby_bear.zero) same ∙ lift4_constant value

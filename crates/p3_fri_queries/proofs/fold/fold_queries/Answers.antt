@@ -5,7 +5,7 @@ use Rattle.p3_fri_relation.specs.FoldedQuery.{QueryInput, IsInOrder}
 use Rattle.p3_fri_relation.specs.Views.{query_input, siblings_opened}
 use Rattle.p3_fri_queries.specs.Folded.{query_at}
 use Rattle.p3_fri_queries.proofs.Lengths.{length_group_rows}
-use Rattle.p3_fri_queries.proofs.Queries.{IsNext, query_read, rows_none, folded_none, folded_read}
+use Rattle.p3_fri_queries.proofs.Queries.{IsNext, query_read, folded_none, folded_read}
 use Rattle.p3_fri_queries.proofs.Queries.{indices_length, rows_length, refused_each, refused_some}
 use Rattle.p3_fri_queries.proofs.Queries.{ends_all, indices_all, rows_all}
 use Rattle.p3_fri_queries.proofs.Turns.{IsTurn, turn_from, read, read_all}
@@ -42,9 +42,7 @@ all_read : (g : Over) (c : In-None g) → length c.loop-query.yielded ≡ length
 all_read g c = read_all (turn g (goal.at.In-None g c).After-next) c.in-None.is ∙ c.requires.count
 
 pub loop-query-init : goal.loop-query-init
-loop-query-init g c =
-    folded_none (search rules) (rows_none (length c.args.log_arities.now)
-    c.in_ok-empty_lists-2.field-0.items (search rules))
+loop-query-init g c = folded_none c.in_ok-folded.ensures.indices c.in_ok-folded.ensures.rows
 
 pub bounds-positions-query : goal.bounds-positions-query
 bounds-positions-query g c =

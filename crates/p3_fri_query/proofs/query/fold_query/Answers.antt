@@ -1,14 +1,18 @@
-use Rattle.std.proofs.Common.{◌≡◌, min, List, refl, sym, ap, ◌∙◌, map, [], ◌∷◌, length, arith, Result, Ok, Err}
+use Rattle.std.proofs.Common.{◌≡◌, ◌≤◌, ◌-◌, ℕ, List, refl, sym, ap, ◌∙◌, map, [], ◌∷◌, arith, Result, Ok, Err}
 use Rattle.std.specs.Prelude.{IsErr, IsErrAnd}
-use Rattle.std.proofs.lemmas.List.{length-map, length-take}
-use Rattle.std.proofs.lemmas.List.Sums.{sum_by-take-le}
+use Rattle.std.proofs.lemmas.List.{length-map}
+use Rattle.algebra.specs.Nested.{lists}
 use Rattle.p3_fri_relation.specs.declared.error.FriError.TheVariants.{OutOfMemory}
 use Rattle.p3_fri_relation.specs.FoldedQuery.{gains}
-use Rattle.p3_fri_relation.specs.Views.{query_input, siblings_opened, rows_collected}
+use Rattle.p3_fri_relation.specs.Views.{query_input, rows_collected}
 use Rattle.p3_fri_query.proofs.Lists.{range_take, have_take}
 use Rattle.p3_fri_query.proofs.Refusals.{refused, handed_on}
 use Rattle.p3_fri_query.proofs.Orders.{rounds_fit, inputs_fit, in_order, value_of, rows_of}
+use Rattle.p3_fri_query.proofs.FoldedRounds.{as_many, sum_of_first}
 use Rattle.p3_fri_query.proofs.query.fold_query.Goals as goal
+
+within_distance : {n m : ℕ} (h f : ℕ) → n ≤ m → m ≤ h - f → n ≤ h
+within_distance h f l k = omega arith
 
 as_handed_on : {T A : Type 0} (r : Result T A) (e : A) → IsErr r × IsErrAnd r (λ x. x ≡ e) → r ≡ Err e
 as_handed_on (Ok v) e h = absurd h.1
@@ -90,39 +94,32 @@ returns-in_err-check_rounds-clause-exact g c =
     )
 
 pub fold_rounds-requires-clause-betas : goal.fold_rounds-requires-clause-betas
-fold_rounds-requires-clause-betas g c = rw (c.folded_arities-folded.ensures, length-take) (omega arith)
+fold_rounds-requires-clause-betas g c = (as_many _ _ _ _ c.folded_arities-folded.ensures).0
 
 pub fold_rounds-requires-clause-openings : goal.fold_rounds-requires-clause-openings
 fold_rounds-requires-clause-openings g c =
-    rw (c.folded_arities-folded.ensures, length-take, length-map) (omega arith)
+    rw (← length-map c.args.commit_phase_openings.now (λ o. lists o.sibling_values.items))
+    (as_many _ _ _ _ c.folded_arities-folded.ensures).1
 
 pub fold_rounds-requires-clause-indices : goal.fold_rounds-requires-clause-indices
 fold_rounds-requires-clause-indices g c =
-    rw (c.folded_arities-folded.ensures, length-take) (omega (arith, c.requires.indices))
+    rw c.requires.indices (as_many _ _ _ _ c.folded_arities-folded.ensures).2
 
 pub fold_rounds-requires-clause-rows : goal.fold_rounds-requires-clause-rows
 fold_rounds-requires-clause-rows g c =
-    rw (c.folded_arities-folded.ensures, length-take) (omega (arith, c.requires.rows))
+    rw c.requires.rows (as_many _ _ _ _ c.folded_arities-folded.ensures).2
 
 pub fold_rounds-requires-clause-distance : goal.fold_rounds-requires-clause-distance
 fold_rounds-requires-clause-distance g c =
-    rw c.folded_arities-folded.ensures
-    (omega (
-      arith,
-      (c.in_ok-check_rounds.ensures.exact.0 refl).2,
-      sum_by-take-le (λ x. x) c.args.log_arities.now
-          (min (length c.args.betas.now) (length (siblings_opened c.args.commit_phase_openings.now))),
-    ))
+    within_distance c.args.log_global_max_height c.args.log_final_height
+    (sum_of_first _ _ _ _ c.folded_arities-folded.ensures)
+    (c.in_ok-check_rounds.ensures.exact.0 refl).2
 
 pub check_inputs-requires : goal.check_inputs-requires
 check_inputs-requires g c =
-    rw c.folded_arities-folded.ensures
-    (omega (
-      arith,
-      (c.in_ok-check_rounds.ensures.exact.0 refl).2,
-      sum_by-take-le (λ x. x) c.args.log_arities.now
-          (min (length c.args.betas.now) (length (siblings_opened c.args.commit_phase_openings.now))),
-    ))
+    within_distance c.args.log_global_max_height c.args.log_final_height
+    (sum_of_first _ _ _ _ c.folded_arities-folded.ensures)
+    (c.in_ok-check_rounds.ensures.exact.0 refl).2
 
 pub returns-in_err-fold_rounds-clause-exact : goal.returns-in_err-fold_rounds-clause-exact
 returns-in_err-fold_rounds-clause-exact g c =

@@ -5,8 +5,8 @@ use Rattle.p3_fri_relation.specs.Setting.{Setting, CommitmentClaim}
 use Rattle.p3_fri_relation.specs.Views.{parameters_of, claims_of, proof_of}
 use Rattle.p3_fri_completeness.specs.Requests.{relation_claims}
 use Rattle.p3_fri_opening_verifier.specs.Ends.{last_state}
+use Rattle.p3_fri_completeness.proofs.SeenClaims.{claims_are}
 use Rattle.p3_fri_opening_verifier.specs.Accepted.{two_adic}
-use Rattle.p3_fri_random_openings.proofs.Seen.{claims_are}
 use Rattle.p3_fri_random_openings.specs.RandomValues.{MayAppend, with_random_values}
 use Rattle.p3_fri_random_openings.specs.RandomFaults.{HidingFaults}
 use Rattle.p3_fri_random_openings.proofs.Verified.{exactly_with, stands_with, unmoved_with}

@@ -1,22 +1,22 @@
-use Rattle.std.proofs.Common.{◌∙◌, sym, ap, arith, subst, length, Err, refl}
+use Rattle.std.proofs.Common.{ℕ, ◌<◌, ◌≤◌, ◌∙◌, sym, ap, arith, subst, length, Err, refl}
 use Rattle.std.specs.List.{AllZip}
 use Rattle.p3_fri_relation.specs.TestRounds.{HasSiblings}
-use Rattle.std.specs.Prelude.{sum}
 use Rattle.std.proofs.lemmas.List.{length-map}
 use Rattle.std.proofs.lemmas.Slice.Zip.{AllZip-long}
 use Rattle.algebra.specs.Nested.{lists, nested}
 use Rattle.algebra.proofs.Lists.{length-tabulate}
 use Rattle.algebra.proofs.Nested.{length-lists}
 use Rattle.p3_fri_relation.specs.Heights.{matrices_of}
-use Rattle.p3_fri_relation.specs.Views.{claims_of, parameters_of, proof_of, round_opened, rounds_opened, inputs_opened, rows_collected}
+use Rattle.p3_fri_relation.specs.Views.{claims_of, parameters_of, proof_of, round_opened, rounds_opened, inputs_opened}
 use Rattle.p3_fri_relation.proofs.ClaimedHeights.{greatest_height-bounds}
-use Rattle.p3_fri_relation.proofs.Instances.{instance_top, instance_sum}
 use Rattle.p3_fri_verifier.proofs.Replays.{false_true, same_err, ok_err, refused_as}
-use Rattle.p3_fri_verifier.proofs.Opened.{inputs_good_at, input_fault_at, in_order_at, ends_at, ends_of, way_fault_at}
+use Rattle.p3_fri_verifier.proofs.Opened.{IsRead, inputs_good_at, input_fault_at, in_order_at, ends_at, ends_of, way_fault_at}
 use Rattle.p3_fri_verifier.proofs.Opened.{opened_at, rounds_open_at, open_rounds_at, rounds_fault_at, indices_below}
+use Rattle.p3_fri_verifier.proofs.Opened.{top_within, rounds_within}
 use Rattle.p3_challenger_core.specs.Run.{moves}
 use Rattle.p3_fri_relation.specs.Setting.{Setting}
 use Rattle.p3_fri_verifier.proofs.openings.verify_openings.Given.{Over}
+use Rattle.p3_fri_verifier.proofs.openings.verify_openings.Goals.{After-deref-2}
 use Rattle.p3_fri_verifier.proofs.openings.verify_openings.Goals as goal
 
 -- what the layers below compute and accept, named once
@@ -42,11 +42,36 @@ setting_at g folding mmcs input_mmcs = record {
   opens_round = g.M.Mmcs.opens mmcs;
 }
 
+-- what was read of the proof, where its final polynomial is at hand
+read : (g : Over) (c : After-deref-2 g)
+    → IsRead (setting_at g c.args.folding.now c.args.params.now.mmcs c.args.input_mmcs.now)
+    (parameters_of c.args.params.now) (claims_of (λ d. d.log_size) c.args.claims.now)
+    (proof_of c.args.proof.now) c.args.alpha c.args.betas.now c.args.positions.now
+    c.args.log_global_max_height (inputs_opened c.deref.result.now) c.args.log_arities.now
+    c.as_slice-openings.result.now (lists c.in-Ok.reduced_openings.items) c.deref-2.result.now
+    g.F.TwoAdicField.TWO_ADICITY
+read g c = record {
+  tallest = c.requires.top;
+  inputs_are = ap inputs_opened c.deref.ensures.value;
+  scheduled = c.requires.schedule;
+  opened = ap rounds_opened (sym c.as_slice-openings.ensures.value);
+  queries = c.requires.positions;
+  counts = subst (λ la. AllZip (HasSiblings c.args.params.now.num_queries) la (rounds_opened c.args.proof.now.commit_phase_openings.items)) c.requires.schedule c.requires.counts.rounds;
+  drawn = c.requires.betas ∙ ap length c.requires.schedule;
+  ranged = c.requires.in_range;
+  sums = c.in-Ok.ensures.sums;
+  final_is = c.deref-2.ensures.value;
+}
+
+not_more : {a b c : ℕ} → a ≤ b → b ≤ c → a ≤ c
+not_more l m = omega arith
+
+below : {a b n : ℕ} → a ≤ b → b < n → a < n
+below l m = omega arith
+
 pub open_inputs-opened-requires-clause-within_two_adicity : goal.open_inputs-opened-requires-clause-within_two_adicity
 open_inputs-opened-requires-clause-within_two_adicity g c =
-    let bounds = instance_top (parameters_of c.args.params.now) (claims_of (λ d. d.log_size) c.args.claims.now)
-    g.F.TwoAdicField.TWO_ADICITY c.requires.in_range in
-    omega (arith, bounds.1, c.requires.top)
+    top_within _ _ _ _ c.requires.in_range c.requires.top
 
 pub open_inputs-opened-requires-clause-heights : goal.open_inputs-opened-requires-clause-heights
 open_inputs-opened-requires-clause-heights g c k d l =
@@ -71,14 +96,9 @@ fold_queries-way-requires-clause-count g c = sym (length-lists c.in-Ok.reduced_o
     ∙ ap length c.in-Ok.ensures.sums ∙ length-tabulate _ _
 
 pub fold_queries-way-requires-clause-in_order : goal.fold_queries-way-requires-clause-in_order
-fold_queries-way-requires-clause-in_order g c = in_order_at (setting_at g c.args.folding.now c.args.params.now.mmcs c.args.input_mmcs.now) (parameters_of c.args.params.now) (claims_of (λ d. d.log_size) c.args.claims.now)
-    (proof_of c.args.proof.now) c.args.alpha c.args.betas.now c.args.positions.now c.args.log_global_max_height c.requires.top
-    (inputs_opened c.deref.result.now) (ap inputs_opened c.deref.ensures.value)
-    c.args.log_arities.now c.as_slice-openings.result.now (lists c.in-Ok.reduced_openings.items)
-    c.requires.schedule (ap rounds_opened (sym c.as_slice-openings.ensures.value)) c.requires.positions
-    (subst (λ la. AllZip (HasSiblings c.args.params.now.num_queries) la (rounds_opened c.args.proof.now.commit_phase_openings.items)) c.requires.schedule c.requires.counts.rounds)
-    (c.requires.betas ∙ ap length c.requires.schedule) g.F.TwoAdicField.TWO_ADICITY c.requires.in_range c.in-Ok.ensures.sums
-    c.deref-2.result.now c.deref-2.ensures.value g.met.F.TwoAdicField.two_adicity_law
+fold_queries-way-requires-clause-in_order g c =
+    in_order_at (read g (goal.at.fold_queries-way-requires-clause-in_order g c).After-deref-2)
+    g.met.F.TwoAdicField.two_adicity_law
 
 pub fold_queries-way-requires-clause-openings : goal.fold_queries-way-requires-clause-openings
 fold_queries-way-requires-clause-openings g c =
@@ -88,39 +108,23 @@ fold_queries-way-requires-clause-openings g c =
 
 pub fold_queries-way-requires-clause-within_max_height : goal.fold_queries-way-requires-clause-within_max_height
 fold_queries-way-requires-clause-within_max_height g c =
-    let bounds = instance_top (parameters_of c.args.params.now) (claims_of (λ d. d.log_size) c.args.claims.now)
-    g.F.TwoAdicField.TWO_ADICITY c.requires.in_range in
-    omega (arith, bounds.1, c.requires.top, c.requires.max_log_height)
+    not_more (top_within _ _ _ _ c.requires.in_range c.requires.top) c.requires.max_log_height
 
 pub fold_queries-way-requires-clause-within_two_adicity : goal.fold_queries-way-requires-clause-within_two_adicity
 fold_queries-way-requires-clause-within_two_adicity g c =
-    let bounds = instance_top (parameters_of c.args.params.now) (claims_of (λ d. d.log_size) c.args.claims.now)
-    g.F.TwoAdicField.TWO_ADICITY c.requires.in_range in
-    omega (arith, bounds.1, c.requires.top)
+    top_within _ _ _ _ c.requires.in_range c.requires.top
 
 pub returns-in-Err-way-clause-exact : goal.returns-in-Err-way-clause-exact
 returns-in-Err-way-clause-exact g c other = (
   (λ e. absurd (false_true e)),
-  (λ o. (c.in-Err-way.ensures.exact (λ e. other (ap Err (same_err _ _ e)))).1 (λ j l. ends_at (setting_at g c.args.folding.now c.args.params.now.mmcs c.args.input_mmcs.now) (parameters_of c.args.params.now) (claims_of (λ d. d.log_size) c.args.claims.now)
-      (proof_of c.args.proof.now) c.args.alpha c.args.betas.now c.args.positions.now c.args.log_global_max_height c.requires.top
-      (inputs_opened c.deref.result.now) (ap inputs_opened c.deref.ensures.value)
-      c.args.log_arities.now c.as_slice-openings.result.now (lists c.in-Ok.reduced_openings.items)
-      c.requires.schedule (ap rounds_opened (sym c.as_slice-openings.ensures.value)) c.requires.positions
-      (subst (λ la. AllZip (HasSiblings c.args.params.now.num_queries) la (rounds_opened c.args.proof.now.commit_phase_openings.items)) c.requires.schedule c.requires.counts.rounds)
-      (c.requires.betas ∙ ap length c.requires.schedule) g.F.TwoAdicField.TWO_ADICITY c.requires.in_range c.in-Ok.ensures.sums
-      c.deref-2.result.now c.deref-2.ensures.value j l (o.good.queries_hold j l).ends)),
+  (λ o. (c.in-Err-way.ensures.exact (λ e. other (ap Err (same_err _ _ e)))).1 (λ j l.
+      ends_at (read g (goal.at.returns-in-Err-way-clause-exact g c).After-deref-2) j l (o.good.queries_hold j l).ends)),
 )
 
 pub returns-in-Err-way-clause-refusal : goal.returns-in-Err-way-clause-refusal
-returns-in-Err-way-clause-refusal g c = way_fault_at (setting_at g c.args.folding.now c.args.params.now.mmcs c.args.input_mmcs.now) (parameters_of c.args.params.now) (claims_of (λ d. d.log_size) c.args.claims.now)
-    (proof_of c.args.proof.now) c.args.alpha c.args.betas.now c.args.positions.now c.args.log_global_max_height c.requires.top
-    (inputs_opened c.deref.result.now) (ap inputs_opened c.deref.ensures.value)
-    c.args.log_arities.now c.as_slice-openings.result.now (lists c.in-Ok.reduced_openings.items)
-    c.requires.schedule (ap rounds_opened (sym c.as_slice-openings.ensures.value)) c.requires.positions
-    (subst (λ la. AllZip (HasSiblings c.args.params.now.num_queries) la (rounds_opened c.args.proof.now.commit_phase_openings.items)) c.requires.schedule c.requires.counts.rounds)
-    (c.requires.betas ∙ ap length c.requires.schedule) g.F.TwoAdicField.TWO_ADICITY c.requires.in_range c.in-Ok.ensures.sums
-    c.deref-2.result.now c.deref-2.ensures.value ((c.in-Ok.ensures.exact (λ e. ok_err _ _ e)).0 refl)
-    c.in-Err-way.refusal c.in-Err-way.ensures.refusal
+returns-in-Err-way-clause-refusal g c =
+    way_fault_at (read g (goal.at.returns-in-Err-way-clause-refusal g c).After-deref-2)
+    ((c.in-Ok.ensures.exact (λ e. ok_err _ _ e)).0 refl) c.in-Err-way.refusal c.in-Err-way.ensures.refusal
 
 pub verify_rounds-requires-clause-openings : goal.verify_rounds-requires-clause-openings
 verify_rounds-requires-clause-openings g c =
@@ -140,65 +144,34 @@ verify_rounds-requires-clause-rows g c =
 
 pub verify_rounds-requires-clause-within : goal.verify_rounds-requires-clause-within
 verify_rounds-requires-clause-within g c =
-    let whole = instance_sum (parameters_of c.args.params.now) (claims_of (λ d. d.log_size) c.args.claims.now)
-    g.F.TwoAdicField.TWO_ADICITY c.requires.in_range in
-    omega (arith, whole, ap sum c.requires.schedule, c.requires.top)
+    rounds_within _ _ _ _ _ c.requires.in_range c.requires.schedule c.requires.top
 
 pub verify_rounds-requires-clause-small : goal.verify_rounds-requires-clause-small
 verify_rounds-requires-clause-small g c =
-    let bounds = instance_top (parameters_of c.args.params.now) (claims_of (λ d. d.log_size) c.args.claims.now)
-    g.F.TwoAdicField.TWO_ADICITY c.requires.in_range in
-    omega (arith, bounds.1, c.requires.top, g.met.F.TwoAdicField.two_adicity_law)
+    below (top_within _ _ _ _ c.requires.in_range c.requires.top) g.met.F.TwoAdicField.two_adicity_law
 
 pub verify_rounds-requires-clause-below : goal.verify_rounds-requires-clause-below
 verify_rounds-requires-clause-below g c =
-    let whole = instance_sum (parameters_of c.args.params.now) (claims_of (λ d. d.log_size) c.args.claims.now)
-    g.F.TwoAdicField.TWO_ADICITY c.requires.in_range in
     indices_below c.args.log_arities.now c.args.log_global_max_height c.args.positions.now
     (lists c.in-Ok-way.folded.group_indices_by_round.items) c.in-Ok-way.ensures.indices
-    (omega (arith, whole, ap sum c.requires.schedule, c.requires.top)) c.requires.within_word
+    (rounds_within _ _ _ _ _ c.requires.in_range c.requires.schedule c.requires.top) c.requires.within_word
 
 pub returns-clause-exact : goal.returns-clause-exact
-returns-clause-exact g c _ = (
-  (λ ok. opened_at (setting_at g c.args.folding.now c.args.params.now.mmcs c.args.input_mmcs.now) (parameters_of c.args.params.now) (claims_of (λ d. d.log_size) c.args.claims.now)
-      (proof_of c.args.proof.now) c.args.alpha c.args.betas.now c.args.positions.now c.args.log_global_max_height c.requires.top
-      (inputs_opened c.deref.result.now) (ap inputs_opened c.deref.ensures.value)
-      ((c.in-Ok.ensures.exact (λ e. ok_err _ _ e)).0 refl)
-      (λ j l. ends_of (setting_at g c.args.folding.now c.args.params.now.mmcs c.args.input_mmcs.now) (parameters_of c.args.params.now) (claims_of (λ d. d.log_size) c.args.claims.now)
-      (proof_of c.args.proof.now) c.args.alpha c.args.betas.now c.args.positions.now c.args.log_global_max_height c.requires.top
-      (inputs_opened c.deref.result.now) (ap inputs_opened c.deref.ensures.value)
-      c.args.log_arities.now c.as_slice-openings.result.now (lists c.in-Ok.reduced_openings.items)
-      c.requires.schedule (ap rounds_opened (sym c.as_slice-openings.ensures.value)) c.requires.positions
-      (subst (λ la. AllZip (HasSiblings c.args.params.now.num_queries) la (rounds_opened c.args.proof.now.commit_phase_openings.items)) c.requires.schedule c.requires.counts.rounds)
-      (c.requires.betas ∙ ap length c.requires.schedule) g.F.TwoAdicField.TWO_ADICITY c.requires.in_range c.in-Ok.ensures.sums
-      c.deref-2.result.now c.deref-2.ensures.value j l ((c.in-Ok-way.ensures.exact (λ e. ok_err _ _ e)).0 refl j l))
-      (rounds_open_at (setting_at g c.args.folding.now c.args.params.now.mmcs c.args.input_mmcs.now) (parameters_of c.args.params.now) (claims_of (λ d. d.log_size) c.args.claims.now)
-      (proof_of c.args.proof.now) c.args.alpha c.args.betas.now c.args.positions.now c.args.log_global_max_height c.requires.top
-      (inputs_opened c.deref.result.now) (ap inputs_opened c.deref.ensures.value)
-      c.args.log_arities.now c.as_slice-openings.result.now (lists c.in-Ok.reduced_openings.items)
-      c.requires.schedule (ap rounds_opened (sym c.as_slice-openings.ensures.value)) c.requires.positions
-      (subst (λ la. AllZip (HasSiblings c.args.params.now.num_queries) la (rounds_opened c.args.proof.now.commit_phase_openings.items)) c.requires.schedule c.requires.counts.rounds)
-      (c.requires.betas ∙ ap length c.requires.schedule) g.F.TwoAdicField.TWO_ADICITY c.requires.in_range c.in-Ok.ensures.sums
-      c.deref-2.result.now c.deref-2.ensures.value (lists c.in-Ok-way.folded.group_indices_by_round.items) (rows_collected c.in-Ok-way.folded.rows_by_round.items)
-      c.in-Ok-way.ensures.indices c.in-Ok-way.ensures.rows c.deref-3.result.now c.deref-3.ensures.value (c.verify_rounds.ensures.exact.0 ok))),
-  (λ o. c.verify_rounds.ensures.exact.1 (open_rounds_at (setting_at g c.args.folding.now c.args.params.now.mmcs c.args.input_mmcs.now) (parameters_of c.args.params.now) (claims_of (λ d. d.log_size) c.args.claims.now)
-      (proof_of c.args.proof.now) c.args.alpha c.args.betas.now c.args.positions.now c.args.log_global_max_height c.requires.top
-      (inputs_opened c.deref.result.now) (ap inputs_opened c.deref.ensures.value)
-      c.args.log_arities.now c.as_slice-openings.result.now (lists c.in-Ok.reduced_openings.items)
-      c.requires.schedule (ap rounds_opened (sym c.as_slice-openings.ensures.value)) c.requires.positions
-      (subst (λ la. AllZip (HasSiblings c.args.params.now.num_queries) la (rounds_opened c.args.proof.now.commit_phase_openings.items)) c.requires.schedule c.requires.counts.rounds)
-      (c.requires.betas ∙ ap length c.requires.schedule) g.F.TwoAdicField.TWO_ADICITY c.requires.in_range c.in-Ok.ensures.sums
-      c.deref-2.result.now c.deref-2.ensures.value (lists c.in-Ok-way.folded.group_indices_by_round.items) (rows_collected c.in-Ok-way.folded.rows_by_round.items)
-      c.in-Ok-way.ensures.indices c.in-Ok-way.ensures.rows c.deref-3.result.now c.deref-3.ensures.value o.good.rounds_open)),
-)
+returns-clause-exact g c _ =
+    let known = read g (goal.at.returns-clause-exact g c).After-deref-2 in (
+      (λ ok. opened_at (setting_at g c.args.folding.now c.args.params.now.mmcs c.args.input_mmcs.now) (parameters_of c.args.params.now) (claims_of (λ d. d.log_size) c.args.claims.now)
+          (proof_of c.args.proof.now) c.args.alpha c.args.betas.now c.args.positions.now c.args.log_global_max_height c.requires.top
+          (inputs_opened c.deref.result.now) (ap inputs_opened c.deref.ensures.value)
+          ((c.in-Ok.ensures.exact (λ e. ok_err _ _ e)).0 refl)
+          (λ j l. ends_of known j l ((c.in-Ok-way.ensures.exact (λ e. ok_err _ _ e)).0 refl j l))
+          (rounds_open_at known c.in-Ok-way.ensures.indices c.in-Ok-way.ensures.rows
+          c.deref-3.ensures.value (c.verify_rounds.ensures.exact.0 ok))),
+      (λ o. c.verify_rounds.ensures.exact.1 (open_rounds_at known c.in-Ok-way.ensures.indices
+          c.in-Ok-way.ensures.rows c.deref-3.ensures.value o.good.rounds_open)),
+    )
 
 pub returns-clause-refusal : goal.returns-clause-refusal
-returns-clause-refusal g c = refused_as _ _ c.verify_rounds.result (λ e h. rounds_fault_at (setting_at g c.args.folding.now c.args.params.now.mmcs c.args.input_mmcs.now) (parameters_of c.args.params.now) (claims_of (λ d. d.log_size) c.args.claims.now)
-    (proof_of c.args.proof.now) c.args.alpha c.args.betas.now c.args.positions.now c.args.log_global_max_height c.requires.top
-    (inputs_opened c.deref.result.now) (ap inputs_opened c.deref.ensures.value)
-    c.args.log_arities.now c.as_slice-openings.result.now (lists c.in-Ok.reduced_openings.items)
-    c.requires.schedule (ap rounds_opened (sym c.as_slice-openings.ensures.value)) c.requires.positions
-    (subst (λ la. AllZip (HasSiblings c.args.params.now.num_queries) la (rounds_opened c.args.proof.now.commit_phase_openings.items)) c.requires.schedule c.requires.counts.rounds)
-    (c.requires.betas ∙ ap length c.requires.schedule) g.F.TwoAdicField.TWO_ADICITY c.requires.in_range c.in-Ok.ensures.sums
-    c.deref-2.result.now c.deref-2.ensures.value (lists c.in-Ok-way.folded.group_indices_by_round.items) (rows_collected c.in-Ok-way.folded.rows_by_round.items)
-    c.in-Ok-way.ensures.indices c.in-Ok-way.ensures.rows c.deref-3.result.now c.deref-3.ensures.value e h.0 h.1 h.2) c.verify_rounds.ensures.refusal
+returns-clause-refusal g c =
+    refused_as _ _ c.verify_rounds.result (λ e h.
+    rounds_fault_at (read g (goal.at.returns-clause-refusal g c).After-deref-2) c.in-Ok-way.ensures.indices
+    c.in-Ok-way.ensures.rows c.deref-3.ensures.value e h.0 h.1 h.2) c.verify_rounds.ensures.refusal

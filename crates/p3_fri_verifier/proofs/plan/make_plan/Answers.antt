@@ -1,6 +1,6 @@
-use Rattle.std.proofs.Common.{◌≡◌, ℕ, ◌<◌, ◌+◌, ◌∷◌, ◌∙◌, sym, ap, refl, arith, subst, length, List, get_or}
+use Rattle.std.proofs.Common.{◌≡◌, ◌<◌, ◌∷◌, ◌∙◌, sym, ap, refl, arith, subst, length, get_or}
 use Rattle.p3_fri_folding.specs.Schedule.{IsStrictlyFalling}
-use Rattle.p3_fri_relation.specs.Heights.{matrices_of, heights_of}
+use Rattle.p3_fri_relation.specs.Heights.{matrices_of}
 use Rattle.std.specs.Prelude.{All}
 use Rattle.p3_fri_relation.specs.Acceptance.{IsInRange, top_height}
 use Rattle.p3_fri_relation.specs.Views.{claims_of, parameters_of}

@@ -1,4 +1,4 @@
-use Rattle.std.proofs.Common.{◌/◌, ◌^◌, ◌∙◌, sym, ap, arith, length}
+use Rattle.std.proofs.Common.{◌/◌, ◌^◌, arith}
 use Rattle.p3_fri_verifier.proofs.Mapped.{replace_next}
 use Rattle.p3_fri_verifier.proofs.positions.positions_of.Goals as goal
 

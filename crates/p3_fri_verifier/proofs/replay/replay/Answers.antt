@@ -1,9 +1,8 @@
-use Rattle.std.proofs.Common.{◌≡◌, ◌≢◌, ap, refl, false, true, Err}
+use Rattle.std.proofs.Common.{ap, Err}
 use Rattle.p3_challenger_fs.specs.Turns.{bytes_observed}
 use Rattle.p3_challenger_core.specs.Run.{moves}
 use Rattle.p3_fri_transcript.specs.Shapes.{fri_shape}
 use Rattle.p3_fri_transcript.specs.Steps.{fri_stream}
-use Rattle.p3_fri_relation.specs.declared.error.FriError.TheVariants.{OutOfMemory}
 use Rattle.p3_fri_verifier.proofs.Replays.{why_refused, of_a_step, false_true, same_err}
 use Rattle.p3_fri_verifier.proofs.replay.replay.Goals as goal
 

@@ -1,6 +1,4 @@
-use Rattle.std.proofs.Common.{◌≡◌, List, map, ap, ◌∙◌}
-use Rattle.p3_pcs.specs.declared.requests.OpeningRequest.{OpeningRequest}
-use Rattle.p3_pcs.specs.Requests.{Held, request}
+use Rattle.std.proofs.Common.{◌∙◌}
 use Rattle.p3_stark_pcs.proofs.Requests.{count_of, openable, honest, values}
 use Rattle.p3_stark_pcs.proofs.stark.open_batches.Goals as goal
 
@@ -8,12 +6,12 @@ pub open_and_verify_with_preprocessing-opened-requires-clause-shape : goal.open_
 open_and_verify_with_preprocessing-opened-requires-clause-shape g c =
     let held = g.P.Pcs.committed_polynomials c.args.scheme.now in
     let size = g.P.Pcs.domain_size in
-    let i = c.len.ensures ∙ c.args.preprocessed.known.domains.ok.0 ∙ count_of size _ _ c.requires.first_batch.domains in
-    let j = c.len-2.ensures ∙ c.args.trace.known.domains.ok.0 ∙ count_of size _ _ c.requires.second_batch.domains in
-    let k = c.len-3.ensures ∙ c.args.quotient.known.domains.ok.0 ∙ count_of size _ _ c.requires.third_batch.domains in
+    let i = c.len.ensures ∙ c.args.batches.preprocessed.known.domains.ok.0 ∙ count_of size _ _ c.requires.first_batch.domains in
+    let j = c.len-2.ensures ∙ c.args.batches.trace.known.domains.ok.0 ∙ count_of size _ _ c.requires.second_batch.domains in
+    let k = c.len-3.ensures ∙ c.args.batches.quotient.known.domains.ok.0 ∙ count_of size _ _ c.requires.third_batch.domains in
     g.met.P.UnivariateStarkPcs.openable_law c.args.scheme.now _ _
-    (openable held c.args.both.now c.args.one.now _ _ _ _ _ _ c.in_ok-first_points.ensures
-    c.in_ok-second_points.ensures c.in_ok-third_points.ensures i j k c.as_mut_slice.result.now
+    (openable held c.args.both.now c.args.one.now _ _ _ _ _ _ c.in_ok-first_points.ensures.first
+    c.in_ok-first_points.ensures.second c.in_ok-first_points.ensures.third i j k c.as_mut_slice.result.now
     (c.as_mut_slice.ensures.value ∙ c.in_ok-requests.ensures) _ _ c.requires.preprocessed
     c.requires.trace c.requires.quotient c.requires.some_matrix)
 
@@ -21,11 +19,11 @@ pub open_and_verify_with_preprocessing-opened-requires-clause-honest : goal.open
 open_and_verify_with_preprocessing-opened-requires-clause-honest g c =
     let held = g.P.Pcs.committed_polynomials c.args.scheme.now in
     let size = g.P.Pcs.domain_size in
-    let i = c.len.ensures ∙ c.args.preprocessed.known.domains.ok.0 ∙ count_of size _ _ c.requires.first_batch.domains in
-    let j = c.len-2.ensures ∙ c.args.trace.known.domains.ok.0 ∙ count_of size _ _ c.requires.second_batch.domains in
-    let k = c.len-3.ensures ∙ c.args.quotient.known.domains.ok.0 ∙ count_of size _ _ c.requires.third_batch.domains in
-    honest held c.args.both.now c.args.one.now _ _ _ _ _ _ c.in_ok-first_points.ensures
-    c.in_ok-second_points.ensures c.in_ok-third_points.ensures i j k c.as_mut_slice.result.now
+    let i = c.len.ensures ∙ c.args.batches.preprocessed.known.domains.ok.0 ∙ count_of size _ _ c.requires.first_batch.domains in
+    let j = c.len-2.ensures ∙ c.args.batches.trace.known.domains.ok.0 ∙ count_of size _ _ c.requires.second_batch.domains in
+    let k = c.len-3.ensures ∙ c.args.batches.quotient.known.domains.ok.0 ∙ count_of size _ _ c.requires.third_batch.domains in
+    honest held c.args.both.now c.args.one.now _ _ _ _ _ _ c.in_ok-first_points.ensures.first
+    c.in_ok-first_points.ensures.second c.in_ok-first_points.ensures.third i j k c.as_mut_slice.result.now
     (c.as_mut_slice.ensures.value ∙ c.in_ok-requests.ensures) _ c.requires.first_batch.honest
     c.requires.second_batch.honest c.requires.third_batch.honest c.requires.some_point
     c.requires.first_point
@@ -34,10 +32,10 @@ pub returns-in-Ok-clause-values : goal.returns-in-Ok-clause-values
 returns-in-Ok-clause-values g c =
     let held = g.P.Pcs.committed_polynomials c.args.scheme.now in
     let size = g.P.Pcs.domain_size in
-    let i = c.len.ensures ∙ c.args.preprocessed.known.domains.ok.0 ∙ count_of size _ _ c.requires.first_batch.domains in
-    let j = c.len-2.ensures ∙ c.args.trace.known.domains.ok.0 ∙ count_of size _ _ c.requires.second_batch.domains in
-    let k = c.len-3.ensures ∙ c.args.quotient.known.domains.ok.0 ∙ count_of size _ _ c.requires.third_batch.domains in
+    let i = c.len.ensures ∙ c.args.batches.preprocessed.known.domains.ok.0 ∙ count_of size _ _ c.requires.first_batch.domains in
+    let j = c.len-2.ensures ∙ c.args.batches.trace.known.domains.ok.0 ∙ count_of size _ _ c.requires.second_batch.domains in
+    let k = c.len-3.ensures ∙ c.args.batches.quotient.known.domains.ok.0 ∙ count_of size _ _ c.requires.third_batch.domains in
     c.in-Ok.ensures.values
-    ∙ values held c.args.both.now c.args.one.now _ _ _ _ _ _ c.in_ok-first_points.ensures
-    c.in_ok-second_points.ensures c.in_ok-third_points.ensures i j k c.as_mut_slice.result.now
+    ∙ values held c.args.both.now c.args.one.now _ _ _ _ _ _ c.in_ok-first_points.ensures.first
+    c.in_ok-first_points.ensures.second c.in_ok-first_points.ensures.third i j k c.as_mut_slice.result.now
     (c.as_mut_slice.ensures.value ∙ c.in_ok-requests.ensures)

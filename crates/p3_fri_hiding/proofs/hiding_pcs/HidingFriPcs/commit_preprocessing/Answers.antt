@@ -3,7 +3,7 @@ use Rattle.p3_matrix.specs.Matrix.{rows}
 use Rattle.p3_fri_relation.specs.Setting.{Fields}
 use Rattle.p3_fri_completeness.specs.Requests.{HoldsWords}
 use Rattle.std.specs.Prelude.{All}
-use Rattle.p3_fri_two_adic.proofs.Committed.{have_cosets, hold_words}
+use Rattle.p3_fri_hiding_prover.proofs.Committed.{have_cosets, hold_words}
 use Rattle.p3_fri_hiding.specs.Commitments.{ExtendPadded}
 use Rattle.p3_fri_hiding.specs.Trace.{HasTrace, HasZerosBetween}
 use Rattle.p3_fri_hiding.proofs.Committed.{padded_all_fit, padded_all_traced, padded_all_zero}

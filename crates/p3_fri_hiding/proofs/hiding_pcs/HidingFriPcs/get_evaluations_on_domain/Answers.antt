@@ -4,9 +4,9 @@ use Rattle.p3_field_core.specs.Coset.{coset_point}
 use Rattle.p3_matrix.specs.Matrix.{rows, matrix_width}
 use Rattle.p3_stark_pcs.specs.Evaluations.{HoldsEvaluations, held_at}
 use Rattle.p3_fri_completeness.specs.Requests.{held_in}
-use Rattle.p3_fri_hiding.specs.Data.{hidden_columns}
+use Rattle.p3_fri_hiding_prover.specs.Data.{hidden_columns}
 use Rattle.p3_fri_relation.specs.Setting.{Fields}
-use Rattle.p3_fri_two_adic.proofs.Evaluated.{coset_at, within_at, evaluated}
+use Rattle.p3_fri_hiding_prover.proofs.Evaluated.{coset_at, within_at, evaluated}
 use Rattle.p3_fri_hiding.proofs.Read.{is_matrix_of, shown_at, shown_read}
 use Rattle.p3_fri_hiding.proofs.hiding_pcs.HidingFriPcs.get_evaluations_on_domain.Given.{Over}
 use Rattle.p3_fri_hiding.proofs.hiding_pcs.HidingFriPcs.get_evaluations_on_domain.Goals as goal
@@ -29,7 +29,7 @@ evaluations_on_domain-requires-clause-power_of_two g c =
     (coset_at g.F.TwoAdicField.TWO_ADICITY (g.InputMmcs.Mmcs.committed c.args.prover_data.now.inner) c.args.index
     (is_matrix_of (fields_of g) g.InputMmcs.Mmcs.committed c.args.self.now.fri.log_blowup
     c.args.self.now.num_random_codewords c.args.prover_data.now c.args.index c.requires.whole) matrix
-    (c.index-matrices-index.is ∙ ap (λ ms. get_or ms c.args.index matrix) c.get_matrices-matrices.ensures)).power
+    (c.index-matrices-index.is ∙ ap (λ ms. get_or ms c.args.index matrix) c.committed_matrices-matrices.ensures)).power
 
 pub evaluations_on_domain-requires-clause-within_two_adicity :
     goal.evaluations_on_domain-requires-clause-within_two_adicity
@@ -38,7 +38,7 @@ evaluations_on_domain-requires-clause-within_two_adicity g c =
     within_at g.F.TwoAdicField.TWO_ADICITY (g.InputMmcs.Mmcs.committed c.args.prover_data.now.inner) c.args.index
     (is_matrix_of (fields_of g) g.InputMmcs.Mmcs.committed c.args.self.now.fri.log_blowup
     c.args.self.now.num_random_codewords c.args.prover_data.now c.args.index c.requires.whole) matrix
-    (c.index-matrices-index.is ∙ ap (λ ms. get_or ms c.args.index matrix) c.get_matrices-matrices.ensures)
+    (c.index-matrices-index.is ∙ ap (λ ms. get_or ms c.args.index matrix) c.committed_matrices-matrices.ensures)
 
 -- the matrix that the index names is wider than what hides
 pub without_last_cols-requires : goal.without_last_cols-requires
@@ -47,7 +47,7 @@ without_last_cols-requires g c =
     record {
       more = subst (λ n. c.hidden_columns-hidden.result < n)
           (ap matrix_width (sym (c.index-matrices-index.is
-          ∙ ap (λ ms. get_or ms c.args.index matrix) c.get_matrices-matrices.ensures))
+          ∙ ap (λ ms. get_or ms c.args.index matrix) c.committed_matrices-matrices.ensures))
           ∙ sym c.in_ok-values.ensures.width)
           (subst (λ n. n < matrix_width (get_or (g.InputMmcs.Mmcs.committed c.args.prover_data.now.inner) c.args.index matrix))
           (sym c.hidden_columns-hidden.ensures) (c.requires.wider matrix));
@@ -72,7 +72,7 @@ returns-clause-values g c words =
     (is_matrix_of (fields_of g) g.InputMmcs.Mmcs.committed c.args.self.now.fri.log_blowup
     c.args.self.now.num_random_codewords c.args.prover_data.now c.args.index c.requires.whole) matrix
     c.in_ok-values.values
-    (c.index-matrices-index.is ∙ ap (λ ms. get_or ms c.args.index matrix) c.get_matrices-matrices.ensures)
+    (c.index-matrices-index.is ∙ ap (λ ms. get_or ms c.args.index matrix) c.committed_matrices-matrices.ensures)
     words c.args.domain.shift c.args.domain.log_size c.in_ok-values.ensures)
     (c.in_ok-without_last_cols.ensures.rows
     ∙ ap (λ n. map (λ row. take (matrix_width c.in_ok-values.values - n) row) (rows c.in_ok-values.values))

@@ -1,6 +1,6 @@
 use Rattle.std.proofs.Common.{get_or, ap, ◌∙◌}
 use Rattle.p3_fri_relation.specs.Setting.{Fields}
-use Rattle.p3_fri_two_adic.proofs.Evaluated.{coset_at, within_at, evaluated}
+use Rattle.p3_fri_hiding_prover.proofs.Evaluated.{coset_at, within_at, evaluated}
 use Rattle.p3_fri_hiding.proofs.Read.{is_matrix_of}
 use Rattle.p3_fri_hiding.proofs.hiding_pcs.HidingFriPcs.get_evaluations_on_domain_no_random.Given.{Over}
 use Rattle.p3_fri_hiding.proofs.hiding_pcs.HidingFriPcs.get_evaluations_on_domain_no_random.Goals as goal
@@ -23,7 +23,7 @@ evaluations_on_domain-requires-clause-power_of_two g c =
     (coset_at g.F.TwoAdicField.TWO_ADICITY (g.InputMmcs.Mmcs.committed c.args.prover_data.now.inner) c.args.index
     (is_matrix_of (fields_of g) g.InputMmcs.Mmcs.committed c.args.self.now.fri.log_blowup
     c.args.self.now.num_random_codewords c.args.prover_data.now c.args.index c.requires) matrix
-    (c.index-matrices-index.is ∙ ap (λ ms. get_or ms c.args.index matrix) c.get_matrices-matrices.ensures)).power
+    (c.index-matrices-index.is ∙ ap (λ ms. get_or ms c.args.index matrix) c.committed_matrices-matrices.ensures)).power
 
 pub evaluations_on_domain-requires-clause-within_two_adicity :
     goal.evaluations_on_domain-requires-clause-within_two_adicity
@@ -32,7 +32,7 @@ evaluations_on_domain-requires-clause-within_two_adicity g c =
     within_at g.F.TwoAdicField.TWO_ADICITY (g.InputMmcs.Mmcs.committed c.args.prover_data.now.inner) c.args.index
     (is_matrix_of (fields_of g) g.InputMmcs.Mmcs.committed c.args.self.now.fri.log_blowup
     c.args.self.now.num_random_codewords c.args.prover_data.now c.args.index c.requires) matrix
-    (c.index-matrices-index.is ∙ ap (λ ms. get_or ms c.args.index matrix) c.get_matrices-matrices.ensures)
+    (c.index-matrices-index.is ∙ ap (λ ms. get_or ms c.args.index matrix) c.committed_matrices-matrices.ensures)
 
 pub returns-clause-values : goal.returns-clause-values
 returns-clause-values g c words =
@@ -43,5 +43,5 @@ returns-clause-values g c words =
     (is_matrix_of (fields_of g) g.InputMmcs.Mmcs.committed c.args.self.now.fri.log_blowup
     c.args.self.now.num_random_codewords c.args.prover_data.now c.args.index c.requires) matrix
     c.in_ok-evaluations_on_domain.field-0
-    (c.index-matrices-index.is ∙ ap (λ ms. get_or ms c.args.index matrix) c.get_matrices-matrices.ensures)
+    (c.index-matrices-index.is ∙ ap (λ ms. get_or ms c.args.index matrix) c.committed_matrices-matrices.ensures)
     words c.args.domain.shift c.args.domain.log_size c.in_ok-evaluations_on_domain.ensures

@@ -4,7 +4,7 @@ use Rattle.p3_matrix.specs.Words.{past}
 use Rattle.p3_fri_relation.specs.Setting.{Fields}
 use Rattle.p3_fri_completeness.specs.Requests.{HoldsWords}
 use Rattle.p3_fri_masks.specs.Draws.{random_words}
-use Rattle.p3_fri_two_adic.proofs.Committed.{have_cosets, hold_words}
+use Rattle.p3_fri_hiding_prover.proofs.Committed.{have_cosets, hold_words}
 use Rattle.p3_fri_hiding.specs.Commitments.{ExtendRandom}
 use Rattle.p3_fri_hiding.proofs.Committed.{random_all_fit, random_wide, some_coefficient}
 use Rattle.p3_fri_hiding.proofs.NewData.{is_unopened}

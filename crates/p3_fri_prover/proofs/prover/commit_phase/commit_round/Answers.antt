@@ -1,4 +1,4 @@
-use Rattle.std.proofs.Common.{◌≡◌, ◌^◌, length, Some, sym, ap, ◌∙◌, subst, get_or, rules, unwrap_or, arith}
+use Rattle.std.proofs.Common.{◌≡◌, ◌^◌, ◌+◌, ◌≤◌, length, Some, sym, ap, ◌∙◌, subst, get_or, rules, unwrap_or}
 use Rattle.p3_matrix.specs.declared.dense.RowMajorMatrix.{RowMajorMatrix}
 use Rattle.p3_challenger_core.specs.Run.{moves}
 use Rattle.p3_fri_pow.specs.declared.error.FriProverError.{FriProverError}
@@ -10,6 +10,8 @@ use Rattle.p3_matrix.specs.Matrix.{rows, matrix_width}
 use Rattle.p3_matrix.specs.Rows.{rows_of}
 use Rattle.p3_fri_prover.proofs.Folding.{whole_rows, height_of_rows, one_power_height}
 use Rattle.p3_field_core.proofs.IndexPowers.{exponents_agree}
+use Rattle.p3_fri_prover.proofs.prover.commit_phase.commit_round.Given.{Over}
+use Rattle.p3_fri_prover.proofs.prover.commit_phase.commit_round.Goals.{After-index-get_matrices-0}
 use Rattle.p3_fri_prover.proofs.prover.commit_phase.commit_round.Goals as goal
 
 pub new-leaves-requires-clause-whole_rows : goal.new-leaves-requires-clause-whole_rows
@@ -49,27 +51,37 @@ returns-in-Err-clause-refused g c =
       none_passes = c.in-Err.ensures.none_passes;
     })
 
-pub fold_leaves-requires : goal.fold_leaves-requires
-fold_leaves-requires g c =
-    let f = c.requires.foldable in
-    let a = c.args.log_arity in
+-- the matrix that is folded is the one that was committed to
+same_leaves : (g : Over) (c : After-index-get_matrices-0 g) → c.index-get_matrices-0.result ≡ c.new-leaves.result
+same_leaves g c =
+    c.index-get_matrices-0.is ∙ ap (λ xs. get_or xs 0 c.index-get_matrices-0.result)
+    (c.get_matrices.ensures ∙ c.in_ok-commitment.ensures.matrices)
+
+leaves_height : (g : Over) (c : After-index-get_matrices-0 g)
+    → length (rows c.index-get_matrices-0.result) ≡ 2 ^ c.requires.foldable.height
+leaves_height g c =
     let ys = c.args.word.items in
-    let leaves = c.index-get_matrices-0.result in
-    let same : leaves ≡ c.new-leaves.result =
-    c.index-get_matrices-0.is ∙ ap (λ xs. get_or xs 0 leaves)
-    (c.get_matrices.ensures ∙ c.in_ok-commitment.ensures.matrices) in
-    let height : length (rows leaves) ≡ 2 ^ f.height =
-    ap (λ (x : RowMajorMatrix _). length (rows x)) same
+    ap (λ (x : RowMajorMatrix _). length (rows x)) (same_leaves g c)
     ∙ ap length (c.new-leaves.ensures.rows ∙ ap (λ w. rows_of w ys) c.arity_of.ensures)
-    ∙ height_of_rows a f.height ys (sym c.args.word.ok.0 ∙ f.length_of_word) in
-    record {
-      positive = c.requires.positive;
-      width = ap matrix_width same ∙ c.new-leaves.ensures.width ∙ c.arity_of.ensures;
-      power_of_two = (f.height, height);
-      within_max_height = λ h e.
-          (let one : h ≡ f.height = exponents_agree h f.height (sym e ∙ height) in
-          omega (arith, one, f.within));
-    }
+    ∙ height_of_rows c.args.log_arity c.requires.foldable.height ys
+    (sym c.args.word.ok.0 ∙ c.requires.foldable.length_of_word)
+
+pub fold_leaves-requires-clause-width : goal.fold_leaves-requires-clause-width
+fold_leaves-requires-clause-width g c =
+    ap matrix_width (same_leaves g (goal.at.fold_leaves-requires-clause-width g c).After-index-get_matrices-0)
+    ∙ c.new-leaves.ensures.width ∙ c.arity_of.ensures
+
+pub fold_leaves-requires-clause-power_of_two : goal.fold_leaves-requires-clause-power_of_two
+fold_leaves-requires-clause-power_of_two g c = (
+  c.requires.foldable.height,
+  leaves_height g (goal.at.fold_leaves-requires-clause-power_of_two g c).After-index-get_matrices-0,
+)
+
+pub fold_leaves-requires-clause-within_max_height : goal.fold_leaves-requires-clause-within_max_height
+fold_leaves-requires-clause-within_max_height g c h e =
+    let height = leaves_height g (goal.at.fold_leaves-requires-clause-within_max_height g c).After-index-get_matrices-0 in
+    subst (λ n. n + c.args.log_arity ≤ g.S.FriFoldingStrategy.max_log_height c.args.folding.now)
+    (sym (exponents_agree h c.requires.foldable.height (sym e ∙ height))) c.requires.foldable.within
 
 pub returns-clause-round : goal.returns-clause-round
 returns-clause-round g c = λ h whole.
@@ -83,10 +95,7 @@ returns-clause-round g c = λ h whole.
     let zero = g.F.Field.ops.zero in
     let drawn = c.in-Ok.drawn in
     let found : c.unwrap_or.result ≡ unwrap_or drawn.1 zero = search rules in
-    let leaves = c.index-get_matrices-0.result in
-    let same : leaves ≡ c.new-leaves.result =
-    c.index-get_matrices-0.is ∙ ap (λ xs. get_or xs 0 leaves)
-    (c.get_matrices.ensures ∙ made.ensures.matrices) in
+    let same = same_leaves g (goal.at.returns-clause-round g c).After-index-get_matrices-0 in
     let is_rows : rows c.new-leaves.result ≡ rows_of (2 ^ a) ys =
     c.new-leaves.ensures.rows ∙ ap (λ w. rows_of w ys) c.arity_of.ensures in
     record {

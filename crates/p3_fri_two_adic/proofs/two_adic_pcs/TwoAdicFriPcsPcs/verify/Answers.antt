@@ -7,7 +7,8 @@ use Rattle.p3_fri_relation.specs.Faults.{StandsInScheme}
 use Rattle.p3_fri_relation.specs.Views.{parameters_of, claims_of, proof_of}
 use Rattle.p3_fri_opening_verifier.specs.Ends.{last_state}
 use Rattle.p3_fri_opening_verifier.specs.Accepted.{two_adic}
-use Rattle.p3_fri_two_adic.proofs.Claims.{claims_are, unmoved_from}
+use Rattle.p3_fri_completeness.proofs.SeenClaims.{claims_are}
+use Rattle.p3_fri_two_adic.proofs.Claims.{unmoved_from}
 use Rattle.p3_fri_two_adic.proofs.two_adic_pcs.TwoAdicFriPcsPcs.verify.Given.{Over}
 use Rattle.p3_fri_two_adic.proofs.two_adic_pcs.TwoAdicFriPcsPcs.verify.Goals as goal
 

@@ -1,0 +1,79 @@
+use Rattle.std.proofs.Common.{map, refl}
+use Rattle.p3_challenger_core.specs.Run.{moves}
+use Rattle.p3_pcs.specs.Claims.{opened_values}
+use Rattle.p3_pcs.specs.Requests.{request}
+use Rattle.p3_fri_relation.specs.Setting.{Fields, Setting}
+use Rattle.p3_fri_relation.specs.Views.{parameters_of, proof_of}
+use Rattle.p3_fri_two_adic.specs.Accepted.{two_adic}
+use Rattle.p3_fri_hiding_prover.proofs.Accepted.{accepted_shown, ends_shown, honest_shown, sizes_inside}
+use Rattle.p3_fri_hiding_prover.proofs.Openable.{honest_inside, openable_inside}
+use Rattle.p3_fri_hiding_prover.proofs.opening.open_hiding_requests.Given.{Over}
+use Rattle.p3_fri_hiding_prover.proofs.opening.open_hiding_requests.Goals as goal
+
+abbrev fields_of : (g : Over) → Fields g.row.F.Denot g.row.EF.Denot
+fields_of g = record {
+  base = g.F.Field.ops;
+  ext = g.EF.Field.ops;
+  lift = g.EF.ExtensionField.lift;
+  coefficients = g.EF.ExtensionField.coefficients;
+  degree = g.EF.ExtensionField.DIMENSION;
+  root = g.F.TwoAdicField.root;
+  two_adicity = g.F.TwoAdicField.TWO_ADICITY;
+  shift = g.F.Field.GENERATOR;
+}
+
+-- what the scheme stands on, named once
+abbrev setting_at : (g : Over) → g.row.InputMmcs.Denot → g.row.M.Denot
+    → Setting g.row.F.Denot g.row.EF.Denot g.row.C.Denot g.row.M-Commitment.Denot
+    g.row.M-MultiProof.Denot g.row.InputMmcs-Commitment.Denot g.row.InputMmcs-MultiProof.Denot
+setting_at g input_mmcs mmcs = two_adic (fields_of g)
+    (moves g.C.CanObserve-1.observed g.C.CanObserve-2.observed g.C.CanSample.sampled
+    g.EF.ExtensionField.of_coefficients g.EF.ExtensionField.DIMENSION
+    g.C.CanSampleBits.sampled_bits)
+    (g.InputMmcs.Mmcs.opens input_mmcs) (g.M.Mmcs.opens mmcs)
+
+pub open_marked-requires-clause-openable : goal.open_marked-requires-clause-openable
+open_marked-requires-clause-openable g c =
+    openable_inside (fields_of g) g.InputMmcs.Mmcs.committed c.args.params.now.log_blowup
+    c.args.num_random_codewords c.args.preprocessing (map request c.args.requests.now)
+    c.requires.shape
+
+pub returns-clause-values : goal.returns-clause-values
+returns-clause-values g c =
+    honest_shown (fields_of g) g.InputMmcs.Mmcs.committed c.args.params.now.log_blowup
+    c.args.num_random_codewords c.args.preprocessing (map request c.args.requests.now)
+    c.requires.shape (opened_values c.in_ok-values.values.items)
+    (opened_values c.in_ok-shown.shown.items) c.in_ok-values.ensures.values
+    c.in_ok-shown.ensures.shown
+
+pub returns-clause-accepted : goal.returns-clause-accepted
+returns-clause-accepted g c honest log_sizes fits =
+    let committed = g.InputMmcs.Mmcs.committed in
+    let p = parameters_of c.args.params.now in
+    let r = c.args.num_random_codewords in
+    let asked = map request c.args.requests.now in
+    accepted_shown (setting_at g c.args.input_mmcs.now c.args.params.now.mmcs) p committed
+    g.InputMmcs.Mmcs.commitment_of r c.args.preprocessing asked c.requires.shape
+    (c.in_ok-values.ensures.checked refl) log_sizes fits
+    (opened_values c.in_ok-values.values.items) (opened_values c.in_ok-shown.random.items)
+    c.in_ok-values.ensures.values c.in_ok-shown.ensures.kept (proof_of c.in_ok-values.proof)
+    c.args.challenger.now
+    (c.in_ok-values.ensures.accepted
+    (honest_inside (fields_of g) committed p.log_blowup r asked honest) log_sizes
+    (sizes_inside (fields_of g) committed p.log_blowup r log_sizes asked fits))
+
+pub returns-clause-state : goal.returns-clause-state
+returns-clause-state g c honest log_sizes fits =
+    let committed = g.InputMmcs.Mmcs.committed in
+    let p = parameters_of c.args.params.now in
+    let r = c.args.num_random_codewords in
+    let asked = map request c.args.requests.now in
+    ends_shown (setting_at g c.args.input_mmcs.now c.args.params.now.mmcs) p committed
+    g.InputMmcs.Mmcs.commitment_of r c.args.preprocessing asked c.requires.shape
+    (c.in_ok-values.ensures.checked refl) log_sizes fits
+    (opened_values c.in_ok-values.values.items) (opened_values c.in_ok-shown.random.items)
+    c.in_ok-values.ensures.values c.in_ok-shown.ensures.kept (proof_of c.in_ok-values.proof)
+    c.args.challenger.now c.open_marked.new.challenger
+    (c.in_ok-values.ensures.state
+    (honest_inside (fields_of g) committed p.log_blowup r asked honest) log_sizes
+    (sizes_inside (fields_of g) committed p.log_blowup r log_sizes asked fits))

@@ -1,0 +1,4 @@
+pub mod Canonical
+pub mod Faultless
+pub mod Nested
+pub mod Wider
