@@ -4,10 +4,13 @@ ghost use Rattle.std.specs.Prelude.{◌≡◌, All, IfOk, IsTrue, length, map};
 ghost use Rattle.p3_fri_hiding.specs.Quotients.{CanExtend};
 ghost use Rattle.p3_test_hiding.specs.Chunks.{IsChunk};
 
-use p3_field::{TwoAdicField, TwoAdicMultiplicativeCoset};
+use crate::columns::{E, PI, column_of, coset};
+use crate::scheme::Domain;
+use p3_field::{BabyBear, Field, TwoAdicField, TwoAdicMultiplicativeCoset};
 use p3_fri_quotient_masks::are_disjoint;
 use p3_matrix::RowMajorMatrix;
 use std::alloc::{AllocError, Global};
+use std::test::Fail;
 
 /// Whether this is a chunk of so many columns on its domain.
 fn is_chunk<F: TwoAdicField>(
@@ -52,7 +55,7 @@ fn domains_of<F: TwoAdicField>(
 }
 
 /// Whether these are chunks of a quotient that can be masked with a blowup of 4.
-pub(crate) fn are_maskable<F: TwoAdicField>(
+pub fn are_maskable<F: TwoAdicField>(
     alloc: Global,
     chunks: &[(TwoAdicMultiplicativeCoset<F>, RowMajorMatrix<F>)],
 ) -> Result<bool, AllocError>
@@ -64,4 +67,20 @@ pub(crate) fn are_maskable<F: TwoAdicField>(
     }
     let domains = domains_of(alloc, chunks)?;
     Ok(are_disjoint(&domains))
+}
+
+/// Two chunks of a quotient, each a column of 16 rows, on the halves of the coset of 31 of 32
+/// points.
+pub fn two_chunks(alloc: Global) -> Result<Vec<(Domain, RowMajorMatrix<BabyBear>)>, Fail>
+    ensures count { IfOk result (λ chunks. length chunks.items ≡ 2) }
+    ensures maskable { IfOk result (λ chunks. CanExtend ⟦<BabyBear as Field>⟧.ops (λ d. d.shift)
+        (λ d. d.log_size) 27 2 chunks.items (length chunks.items)) }
+{
+    let mut chunks = Vec::with_capacity(alloc, 2)?;
+    chunks.push((coset(31, 4)?, column_of(alloc, &PI)?))?;
+    chunks.push((coset(1_414_256_219, 4)?, column_of(alloc, &E[..16])?))?;
+    if chunks.len() != 2 || !are_maskable(alloc, &chunks)? {
+        return Err(Fail::new("not chunks of a quotient"));
+    }
+    Ok(chunks)
 }

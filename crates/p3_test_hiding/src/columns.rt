@@ -1,6 +1,6 @@
 //! Columns of small numbers on their domains, and the points at which they are opened.
 
-ghost use Rattle.std.specs.Prelude.{◌≢◌, [], IfOk};
+ghost use Rattle.std.specs.Prelude.{◌≡◌, ◌≢◌, [], IfOk};
 ghost use Rattle.p3_fri_commit.specs.Extension.{FitsDomain};
 ghost use Rattle.p3_fri_hiding.specs.Trace.{FitsMasked};
 
@@ -31,7 +31,9 @@ pub(crate) fn column_of(
 }
 
 /// The coset of this shift and of `2^log_size` points.
-pub fn coset(shift: u64, log_size: usize) -> Result<Domain, Fail> {
+pub fn coset(shift: u64, log_size: usize) -> Result<Domain, Fail>
+    ensures { IfOk result (λ domain. domain.log_size ≡ log_size) }
+{
     match TwoAdicMultiplicativeCoset::new(BabyBear::from_u64(shift), log_size) {
         Some(coset) => Ok(coset),
         None => Err(Fail::new("not a domain")),
@@ -91,7 +93,7 @@ pub fn points(alloc: Global, coefficients: &[[u64; 4]]) -> Result<Vec<BabyBear4>
 }
 
 /// The element with these coefficients, that of one first.
-fn element(coefficients: [u64; 4]) -> BabyBear4 {
+pub fn element(coefficients: [u64; 4]) -> BabyBear4 {
     BabyBear4::from_coefficients(&[
         BabyBear::from_u64(coefficients[0]),
         BabyBear::from_u64(coefficients[1]),
