@@ -1,7 +1,7 @@
 //! The words of a quotient's chunks, opened beside a trace and random polynomials.
 
 ghost use Rattle.std.specs.Prelude.{◌≡◌, length, IfOk};
-ghost use Rattle.p3_fri_hiding.specs.Data.{IsUnopened};
+ghost use Rattle.p3_fri_hiding.specs.Data.{IsUnopened, shown_polynomials};
 
 use p3_challenger::Sha256Challenger;
 use p3_field::{BabyBear, BabyBear4, ExtensionField, Field};
@@ -28,8 +28,9 @@ fn commit_random(
     ensures openable { IfOk result (λ pair. IsUnopened
         ⟦<BabyBear4 as ChallengeField<BabyBear>>⟧.fields ⟦<Inputs as Mmcs<BabyBear>>⟧.committed
         scheme.new.fri.log_blowup scheme.new.num_random_codewords pair.1) }
-    ensures one_matrix { IfOk result (λ pair.
-        length (⟦<Inputs as Mmcs<BabyBear>>⟧.committed pair.1.inner) ≡ 1) }
+    ensures one_matrix { IfOk result (λ pair. length (shown_polynomials
+        ⟦<BabyBear4 as ChallengeField<BabyBear>>⟧.fields ⟦<Inputs as Mmcs<BabyBear>>⟧.committed
+        scheme.new.fri.log_blowup scheme.new.num_random_codewords pair.1) ≡ 1) }
 {
     let domain = coset(1, 5)?;
     let known_domains = listed(alloc, domain)?;

@@ -1,3 +1,1 @@
-mod Each
-mod Maskable
 mod Readable
