@@ -1,4 +1,4 @@
-//! What a verifier answers where the random values, the claims, its own numbers, or the index of
+//! What a verifier answers where the random values, the claims, its own numbers or the index of
 //! preprocessing aren't those of the opening.
 
 use crate::preprocessed::{ColumnsOpened, answer_to, open_columns};
@@ -25,7 +25,7 @@ enum Change {
     NoRandomValues,
     /// Preprocessing alone is claimed.
     OneRound,
-    /// The private column is claimed at a second point too, with a random value less there.
+    /// The private column is claimed at a second point too.
     SecondPoint,
     /// It is claimed on four points.
     LowDomain,

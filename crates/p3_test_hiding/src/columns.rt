@@ -69,8 +69,8 @@ pub fn plain_column(
     Ok((domain, matrix))
 }
 
-/// Coefficients of the points `5 + X^2` and `X`, which aren't elements of the base field, and so lie
-/// outside of each coset.
+/// Coefficients of the points `5 + X^2` and `X`, which aren't elements of the base field, and so
+/// lie outside of each coset.
 pub const POINTS: [[u64; 4]; 2] = [[5, 0, 1, 0], [0, 1, 0, 0]];
 
 /// The first of them.

@@ -1,5 +1,5 @@
-//! A hiding scheme of small parameters, at BabyBear, its quartic extension, SHA-256 and ChaCha, with
-//! columns and chunks of quotients that it commits to, for tests.
+//! A hiding scheme of small parameters, at BabyBear, its quartic extension, SHA-256 and ChaCha,
+//! with columns and chunks of quotients that it commits to, for tests.
 #![tactic(auto)]
 
 pub mod chunks;
