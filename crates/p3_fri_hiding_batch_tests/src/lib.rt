@@ -3,6 +3,4 @@
 #![tactic(auto)]
 
 #[cfg(test)]
-mod quotients;
-#[cfg(test)]
 mod unsolved;

@@ -9,5 +9,3 @@ mod headline;
 mod opened;
 #[cfg(test)]
 mod preprocessed;
-#[cfg(test)]
-mod reused;

@@ -1,1 +1,3 @@
+mod Each
+mod Maskable
 mod Readable

@@ -6,6 +6,8 @@ mod calls;
 #[cfg(test)]
 mod cases;
 #[cfg(test)]
+mod chunks;
+#[cfg(test)]
 mod committed;
 #[cfg(test)]
 mod forks;

@@ -5,6 +5,7 @@ ghost use Rattle.p3_fri_hiding.specs.Data.{CanRead};
 ghost use Rattle.p3_fri_two_adic.specs.Ldes.{HasLdeHeight};
 
 use crate::cases::{CASES, Case};
+use crate::chunks::are_maskable;
 use crate::matrices::{E, Entries, PI, are_numbers, coset, matrix, row_of};
 use crate::readings::{shown, whole};
 use crate::scheme::{Data, Evaluations, Inputs, Scheme, scheme, scheme_with};
@@ -14,7 +15,6 @@ use p3_fri_masks::HidingFriProverError;
 use p3_fri_relation::setting::ChallengeField;
 use p3_matrix::RowMajorMatrix;
 use p3_mmcs::Mmcs;
-use p3_test_hiding::chunks::are_maskable;
 use std::alloc::Global;
 use std::test::Fail;
 

@@ -1,6 +1,6 @@
 use Rattle.std.proofs.Common.{◌<◌, arith}
 use Rattle.p3_matrix.specs.Matrix.{matrix_width}
-use Rattle.p3_test_hiding.proofs.Each.{one_more, to_the_end}
+use Rattle.p3_fri_hiding_tests.proofs.Each.{one_more, to_the_end}
 use Rattle.p3_fri_hiding_tests.proofs.words.are_wider.Goals as goal
 
 pub loop-matrix-preserved : goal.loop-matrix-preserved
