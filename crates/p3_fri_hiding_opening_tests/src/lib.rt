@@ -9,3 +9,5 @@ mod headline;
 mod opened;
 #[cfg(test)]
 mod preprocessed;
+#[cfg(test)]
+mod reused;
