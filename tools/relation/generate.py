@@ -1,0 +1,87 @@
+"""Writes the altered openings with their answers, one file for each opening.
+
+    python3 tools/relation/generate.py FOLDER
+"""
+
+import json
+import sys
+from pathlib import Path
+
+import relation
+from alterations import all_changes, changed, compact
+from challenger import GREATEST_WIDTH, Challenger
+from openings import openings
+from plain_form import Parameters, Refused, claims_from_plain, proof_from_plain
+from relation import Hiding
+from rows import ACCEPTED, REFUSED, rows_of
+
+
+def verdict(document):
+    try:
+        proof = proof_from_plain(document["proof"])
+    except Refused as refused:
+        return relation.Verdict(refused.faults)
+    parameters = Parameters(**document["parameters"])
+    claims = claims_from_plain(document["claims"])
+    plain = document["hiding"]
+    if plain is None:
+        return relation.plain_verdict(parameters, claims, proof, Challenger())
+    random_values = [
+        [[[tuple(value) for value in point] for point in matrix] for matrix in claim]
+        for claim in plain["random_values"]
+    ]
+    hiding = Hiding(plain["num_random_codewords"], random_values, plain["preprocessing"])
+    return relation.hiding_verdict(parameters, hiding, claims, proof, Challenger())
+
+
+def answers(document):
+    """What may be answered: refusals, or acceptance with the next draw of the greatest width."""
+    found = verdict(document)
+    if found.faults:
+        return sorted(found.faults)
+    return [f"{ACCEPTED} {found.challenger.draw_bits(GREATEST_WIDTH)}"]
+
+
+def row_answers(name, row_answer, allowed):
+    """The one answer of a named change, which the relation must allow."""
+    accepted = allowed[0].startswith(ACCEPTED)
+    if row_answer in (ACCEPTED, REFUSED):
+        assert accepted == (row_answer == ACCEPTED), (name, allowed)
+        return allowed
+    assert row_answer in allowed, (name, row_answer, allowed)
+    return [row_answer]
+
+
+def groups_of(name, document):
+    """Named changes one by one, then all changes by what may be answered."""
+    base = answers(document)
+    for row_name, change, row_answer in rows_of(name, document):
+        allowed = row_answers(row_name, row_answer, answers(changed(document, change)))
+        assert row_answer != ACCEPTED or allowed == base, row_name
+        yield {"name": row_name, "answers": allowed, "changes": [change.text()]}
+    groups = {}
+    for change in all_changes(document):
+        allowed = tuple(answers(changed(document, change)))
+        groups.setdefault(allowed, []).append(change.text())
+    for allowed, changes in groups.items():
+        yield {"name": "", "answers": list(allowed), "changes": changes}
+
+
+def written(document, groups):
+    """One line for the opening, and one for each group."""
+    lines = ",\n".join(compact(group) for group in groups)
+    return f'{{"opening":{compact(document)},\n"groups":[\n{lines}\n]}}\n'
+
+
+def main(folder):
+    for name, document in openings():
+        groups = list(groups_of(name, document))
+        text = written(document, groups)
+        assert json.loads(text)["opening"] == document
+        Path(folder, f"{name}.json").write_text(text)
+        changes = sum(len(group["changes"]) for group in groups)
+        print(name, changes, "changes", len(groups), "groups", len(text), "bytes")
+
+
+if __name__ == "__main__":
+    main(sys.argv[1])
