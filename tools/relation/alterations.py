@@ -219,7 +219,7 @@ OPENING = Record(
     claims=List(CLAIM, CLAIM.sample),
     hiding=Record(
         num_random_codewords=Number(3, 5),
-        random_values=List(List(List(List(Element(has_length=True))))),
+        random_values=List(List(List(List(Element())))),
         preprocessing=Index(),
     ),
     proof=PROOF,

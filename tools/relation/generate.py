@@ -17,19 +17,16 @@ from rows import ACCEPTED, REFUSED, rows_of
 
 
 def verdict(document):
+    plain = document["hiding"]
     try:
-        proof = proof_from_plain(document["proof"])
+        proof, random_values = proof_from_plain(
+            document["proof"], plain["random_values"] if plain else ())
     except Refused as refused:
         return relation.Verdict(refused.faults)
     parameters = Parameters(**document["parameters"])
     claims = claims_from_plain(document["claims"])
-    plain = document["hiding"]
     if plain is None:
         return relation.plain_verdict(parameters, claims, proof, Challenger())
-    random_values = [
-        [[[tuple(value) for value in point] for point in matrix] for matrix in claim]
-        for claim in plain["random_values"]
-    ]
     hiding = Hiding(plain["num_random_codewords"], random_values, plain["preprocessing"])
     return relation.hiding_verdict(parameters, hiding, claims, proof, Challenger())
 

@@ -113,6 +113,12 @@ class Reader:
         values = [[self.element(value) for value in row] for row in plain["sibling_values"]]
         return RoundOpening(values, self.paths(plain["paths"]))
 
+    def random_values(self, plain):
+        return [
+            [[[self.element(value) for value in point] for point in matrix] for matrix in claim]
+            for claim in plain
+        ]
+
     def proof(self, plain):
         return Proof(
             self.number(plain["batch_pow_witness"]),
@@ -125,12 +131,13 @@ class Reader:
         )
 
 
-def proof_from_plain(plain):
+def proof_from_plain(plain, random_values=()):
+    """The proof, and the random values beside it."""
     reader = Reader()
-    proof = reader.proof(plain)
+    proof, values = reader.proof(plain), reader.random_values(random_values)
     if reader.faults:
         raise Refused(reader.faults)
-    return proof
+    return proof, values
 
 
 def plain_digests(digests):

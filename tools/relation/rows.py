@@ -94,7 +94,7 @@ def refused_witness(document, phase):
     """The least witness that fails in the state that the replay reaches at the phase."""
     parameters = Parameters(**document["parameters"])
     claims = claims_from_plain(document["claims"])
-    proof = proof_from_plain(document["proof"])
+    proof, _ = proof_from_plain(document["proof"])
     challenger = Challenger()
     observe_claims(parameters, claims, challenger)
     if phase == "Batch":
