@@ -1,0 +1,5 @@
+//! Tests of the plain form of proofs.
+#![tactic(auto)]
+
+#[cfg(test)]
+mod texts;
