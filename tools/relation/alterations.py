@@ -19,6 +19,11 @@ import field
 import tree
 
 
+OPERATIONS = (
+    "keep", "cut", "repeat", "empty", "swap", "add", "raise", "zero", "order", "turn", "set",
+)
+
+
 @dataclass(frozen=True)
 class Change:
     path: tuple

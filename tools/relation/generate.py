@@ -1,14 +1,16 @@
-"""Writes the altered openings with their answers, one file for each opening.
+"""Writes the altered openings with their answers, and what the program that reads them prints.
 
-    python3 tools/relation/generate.py FOLDER
+    python3 tools/relation/generate.py crates/altered_proofs
 """
 
-import json
 import sys
+from collections import Counter
+from dataclasses import dataclass
+from dataclasses import field as record_field
 from pathlib import Path
 
 import relation
-from alterations import all_changes, changed, compact
+from alterations import OPERATIONS, all_changes, changed, compact
 from challenger import GREATEST_WIDTH, Challenger
 from openings import openings
 from plain_form import Parameters, Refused, claims_from_plain, proof_from_plain
@@ -70,14 +72,36 @@ def written(document, groups):
     return f'{{"opening":{compact(document)},\n"groups":[\n{lines}\n]}}\n'
 
 
-def main(folder):
+@dataclass
+class Counts:
+    """How many changes there are: by operation, with a name, and accepted."""
+
+    by_operation: Counter = record_field(default_factory=Counter)
+    named: int = 0
+    accepted: int = 0
+
+    def add(self, group):
+        count = len(group["changes"])
+        self.by_operation.update(text.split(" ")[1] for text in group["changes"])
+        self.named += count if group["name"] else 0
+        self.accepted += count if group["answers"][0].startswith(ACCEPTED) else 0
+
+    def line(self, name):
+        total = self.by_operation.total()
+        return f"{name}: {total} changes, {self.named} of them named, {self.accepted} accepted"
+
+
+def main(crate):
+    lines, by_operation = [], Counter()
     for name, document in openings():
-        groups = list(groups_of(name, document))
-        text = written(document, groups)
-        assert json.loads(text)["opening"] == document
-        Path(folder, f"{name}.json").write_text(text)
-        changes = sum(len(group["changes"]) for group in groups)
-        print(name, changes, "changes", len(groups), "groups", len(text), "bytes")
+        groups, counts = list(groups_of(name, document)), Counts()
+        for group in groups:
+            counts.add(group)
+        Path(crate, "data", f"{name}.json").write_text(written(document, groups))
+        lines.append(counts.line(name))
+        by_operation += counts.by_operation
+    lines += [f"{operation}: {by_operation[operation]}" for operation in OPERATIONS]
+    Path(crate, "stdout").write_text("\n".join(lines) + "\n")
 
 
 if __name__ == "__main__":

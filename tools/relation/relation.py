@@ -6,7 +6,8 @@ is left as `Verdict.challenger`. What lies behind a fault that leaves it undefin
 no draws behind a proof of work that fails, no folds of rows that are missing.
 """
 
-from dataclasses import dataclass, field as record_field
+from dataclasses import dataclass
+from dataclasses import field as record_field
 
 import field
 import transcript
@@ -56,6 +57,11 @@ def schedule(heights, final, cap):
         if distance % cap:
             rounds.append(distance % cap)
     return rounds
+
+
+def can_fold(parameters, heights):
+    """Whether there are words, of log heights that the field has, and a cap to fold them by."""
+    return heights and heights[0] <= field.TWO_ADICITY and parameters.max_log_arity > 0
 
 
 # What stands whatever is drawn
@@ -168,18 +174,27 @@ class Draws:
     indices: list
 
 
+def replay_batching(parameters, claims, proof, challenger):
+    """The challenge that batches the claims; None where the proof of work before it fails."""
+    observe_claims(parameters, claims, challenger)
+    if not challenger.check_witness(parameters.batch_proof_of_work_bits, proof.batch_pow_witness):
+        return None
+    return challenger.draw_element()
+
+
 def replay(parameters, claims, proof, challenger):
     """All that is drawn on the way, or the refusal of a proof of work that fails.
 
-    The proof has as many commitments and witnesses as rounds, and coefficients as asked; None
-    where it hasn't, and the proof of work before `alpha` passes.
+    None where the proof hasn't as many commitments and witnesses as rounds, or coefficients as
+    asked, and no proof of work fails before.
     """
-    heights = log_heights(parameters, claims)
-    log_arities = schedule(heights, parameters.log_final_height, parameters.max_log_arity)
-    observe_claims(parameters, claims, challenger)
-    if not challenger.check_witness(parameters.batch_proof_of_work_bits, proof.batch_pow_witness):
+    alpha = replay_batching(parameters, claims, proof, challenger)
+    if alpha is None:
         return "InvalidPowWitness(Batch)"
-    alpha = challenger.draw_element()
+    heights = log_heights(parameters, claims)
+    if not can_fold(parameters, heights):
+        return None
+    log_arities = schedule(heights, parameters.log_final_height, parameters.max_log_arity)
     if not (len(proof.commit_phase_commits) == len(proof.commit_pow_witnesses) == len(log_arities)):
         return None
     transcript.observe_stream(
@@ -349,19 +364,15 @@ def plain_verdict(parameters, claims, proof, entry):
     found = parameter_faults(parameters) | witness_faults(parameters, proof)
     found |= height_faults(parameters, heights) | claim_faults(claims)
     found |= input_count_faults(parameters, claims, proof)
-    if not heights or parameters.max_log_arity == 0:
-        return Verdict(found)
-    log_arities = schedule(heights, parameters.log_final_height, parameters.max_log_arity)
-    found |= length_faults(parameters, log_arities, proof)
-    if heights[0] > field.TWO_ADICITY:
-        return Verdict(found)
+    if heights and parameters.max_log_arity:
+        log_arities = schedule(heights, parameters.log_final_height, parameters.max_log_arity)
+        found |= length_faults(parameters, log_arities, proof)
     challenger = entry.copy()
     draws = replay(parameters, claims, proof, challenger)
     if isinstance(draws, str):
-        return Verdict(found | {draws})
-    if draws is None:
-        return Verdict(found)
-    found |= opening_faults(parameters, claims, proof, log_arities, draws)
+        found.add(draws)
+    elif draws is not None:
+        found |= opening_faults(parameters, claims, proof, log_arities, draws)
     return Verdict(found, None if found else challenger)
 
 
