@@ -1,0 +1,3 @@
+pub mod Canonical
+pub mod Faultless
+pub mod Wider

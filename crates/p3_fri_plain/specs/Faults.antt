@@ -41,15 +41,15 @@ abbrev pub StepFault : PlainProofError → RoundOpening (List ℕ) Paths → Typ
 StepFault error o =
     Any (Any (ExtensionFault error)) o.siblings ⊎ Any (Any (DigestFault error)) o.path
 
-abbrev pub ProofFault : PlainProofError → ProofNumbers → Type 0
-ProofFault error p =
-    ElementFault error p.batch_witness
-    ⊎ Any (DigestFault error) p.commitments
-    ⊎ Any (ElementFault error) p.commit_witnesses
-    ⊎ Any (BatchFault error) p.inputs
-    ⊎ Any (StepFault error) p.rounds
-    ⊎ Any (ExtensionFault error) p.final_poly
-    ⊎ ElementFault error p.query_witness
+-- of a proof, by the field that shows it
+pub data ProofFault (error : PlainProofError) (p : ProofNumbers) : Type 0 where
+  InBatchWitness : ElementFault error p.batch_witness → ProofFault error p
+  InCommitments : Any (DigestFault error) p.commitments → ProofFault error p
+  InCommitWitnesses : Any (ElementFault error) p.commit_witnesses → ProofFault error p
+  InInputs : Any (BatchFault error) p.inputs → ProofFault error p
+  InRounds : Any (StepFault error) p.rounds → ProofFault error p
+  InFinalPoly : Any (ExtensionFault error) p.final_poly → ProofFault error p
+  InQueryWitness : ElementFault error p.query_witness → ProofFault error p
 
 -- of the values of the random columns, or of the proof beside them
 abbrev pub HidingProofFault : PlainProofError → HidingNumbers → Type 0

@@ -14,6 +14,7 @@ use p3_field_core::{ExtensionField, PrimeField64};
 use std::alloc::{AllocError, Global};
 
 /// The element with this canonical number.
+#[tactic(auto, using(crate::proofs::Canonical::number_of_multiple))]
 fn element(number: u64) -> Result<BabyBear, PlainProofError>
     ensures ok { IfOk result (λ x. x.value ≡ number) }
     ensures err { IfErr result (λ error. ElementFault error number) }

@@ -60,9 +60,9 @@ impl<T: Plain> Plain for Vec<T> {
 
     ghost listed = { λ forms. map T.listed forms.items };
 
-    ghost numbers = { map T.numbers };
+    ghost numbers = { λ values. map T.numbers values };
 
-    ghost has_fault = { λ error. Any (T.has_fault error) };
+    ghost has_fault = { λ error forms. Any (T.has_fault error) forms };
 
     fn to_plain(&self, alloc: Global) -> Result<Vec<T::Form>, AllocError> {
         let mut forms = Vec::with_capacity(alloc, self.len())?;

@@ -139,7 +139,7 @@ pub fn from_plain(alloc: Global, form: PlainFriProof) -> Result<TwoAdicFriProof,
     ensures err { IfErr result (λ error. error ≢ OutOfMemory
         → ProofFault error (proof_listed form)) }
 {
-    Plain::from_plain(alloc, &form)
+    FriProof::from_plain(alloc, &form)
 }
 
 /// The plain form of a proof of the scheme that hides.

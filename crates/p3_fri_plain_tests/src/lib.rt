@@ -2,4 +2,10 @@
 #![tactic(auto)]
 
 #[cfg(test)]
-mod texts;
+mod accepted;
+#[cfg(test)]
+mod forms;
+#[cfg(test)]
+mod line;
+#[cfg(test)]
+mod refused;
