@@ -115,13 +115,10 @@ fn hiding_answer(
         ChaCha20Rng::from_seed([0; 32]),
     );
     let mut challenger = Sha256Challenger::new();
-    let verdict = scheme.verify_with_preprocessing(
-        alloc,
-        claims,
-        &proof,
-        &mut challenger,
-        hiding.preprocessing,
-    );
+    let verdict = match hiding.preprocessing {
+        None => scheme.verify(alloc, claims, &proof, &mut challenger),
+        index => { scheme.verify_with_preprocessing(alloc, claims, &proof, &mut challenger, index) }
+    };
     told(alloc, verdict, challenger)
 }
 

@@ -45,7 +45,9 @@ impl Counts {
 
     /// All of them.
     pub fn total(&self) -> usize {
-        self.by_operation.iter().fold(0usize, |sum, count| sum.saturating_add(*count))
+        self.by_operation
+            .iter()
+            .fold(0usize, |sum, count| sum.saturating_add(*count))
     }
 }
 
