@@ -1,3 +1,4 @@
 pub mod Canonical
 pub mod Faultless
-pub mod Wider
+pub mod Nested
+pub mod Refused

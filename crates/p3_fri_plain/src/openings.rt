@@ -17,8 +17,14 @@ use p3_fri_relation::proof::{BatchMultiOpening, CommitPhaseMultiStep};
 use p3_mmcs::Sha256Mmcs;
 use std::alloc::{AllocError, Global};
 
+/// What is opened of one commitment.
+type BatchOpening = BatchMultiOpening<BabyBear, Sha256Mmcs<BabyBear>>;
+
+/// What one round opens.
+type StepOpening = CommitPhaseMultiStep<BabyBear4, Sha256Mmcs<BabyBear4>>;
+
 /// Field by field.
-impl Plain for BatchMultiOpening<BabyBear, Sha256Mmcs<BabyBear>> {
+impl Plain for BatchOpening {
     type Form = PlainBatch;
 
     ghost Seen = { InputOpening BabyBear Paths };
@@ -51,7 +57,7 @@ impl Plain for BatchMultiOpening<BabyBear, Sha256Mmcs<BabyBear>> {
 }
 
 /// Field by field.
-impl Plain for CommitPhaseMultiStep<BabyBear4, Sha256Mmcs<BabyBear4>> {
+impl Plain for StepOpening {
     type Form = PlainStep;
 
     ghost Seen = { RoundOpening BabyBear4 Paths };

@@ -32,13 +32,7 @@ pub type TwoAdicFriProof = FriProof<
 pub type HidingFriProof = (OpenedValues<BabyBear4>, TwoAdicFriProof);
 
 /// Field by field.
-impl Plain
-    for FriProof<
-        BabyBear4,
-        Sha256Mmcs<BabyBear4>,
-        BabyBear,
-        Vec<BatchMultiOpening<BabyBear, Sha256Mmcs<BabyBear>>>,
-    > {
+impl Plain for TwoAdicFriProof {
     type Form = PlainFriProof;
 
     ghost Seen = { SeenProof };
@@ -81,16 +75,7 @@ impl Plain
 }
 
 /// The two of the pair.
-impl Plain
-    for (
-        OpenedValues<BabyBear4>,
-        FriProof<
-            BabyBear4,
-            Sha256Mmcs<BabyBear4>,
-            BabyBear,
-            Vec<BatchMultiOpening<BabyBear, Sha256Mmcs<BabyBear>>>,
-        >,
-    ) {
+impl Plain for HidingFriProof {
     type Form = PlainHidingProof;
 
     ghost Seen = { HidingSeen };
@@ -139,7 +124,7 @@ pub fn from_plain(alloc: Global, form: PlainFriProof) -> Result<TwoAdicFriProof,
     ensures err { IfErr result (λ error. error ≢ OutOfMemory
         → ProofFault error (proof_listed form)) }
 {
-    FriProof::from_plain(alloc, &form)
+    TwoAdicFriProof::from_plain(alloc, &form)
 }
 
 /// The plain form of a proof of the scheme that hides.
@@ -151,7 +136,7 @@ pub fn hiding_to_plain(
         ≡ hiding_numbers (hiding_seen proof.now)) }
     ensures faultless { IfOk result (λ form. IsFaultless HidingProofFault (hiding_listed form)) }
 {
-    proof.to_plain(alloc)
+    Plain::to_plain(proof, alloc)
 }
 
 /// The proof of the scheme that hides that has this plain form. A form that isn't any proof's is

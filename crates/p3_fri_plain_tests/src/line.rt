@@ -1,6 +1,6 @@
 //! The column of `2 - X`, opened at 5.
 
-ghost use Rattle.std.specs.Prelude.{◌≡◌, All, IfOk, length};
+ghost use Rattle.std.specs.Prelude.{◌≡◌, [], ◌∷◌, IfOk, length};
 ghost use Rattle.p3_fri_commit.specs.Extension.{FitsDomain};
 ghost use Rattle.p3_fri_relation.specs.Views.{parameters_of};
 ghost use Rattle.p3_fri_two_adic.specs.Ranges.{InProverRange, InVerifierRange};
@@ -14,7 +14,7 @@ use p3_fri_two_adic::TwoAdicFriPcs;
 use p3_matrix::RowMajorMatrix;
 use p3_mmcs::{CommitmentOpening, MatrixOpening, Mmcs, PointOpening, Sha256Mmcs};
 use p3_pcs::{OpeningRequest, Pcs};
-use std::alloc::Global;
+use std::alloc::{AllocError, Global};
 use std::test::Fail;
 
 type Inputs = Sha256Mmcs<BabyBear>;
@@ -76,6 +76,15 @@ pub(crate) fn scheme() -> Scheme
     TwoAdicFriPcs::new(Radix2Dit::default(), Sha256Mmcs::new(), parameters)
 }
 
+/// A list of one value.
+fn listed<T: Drop>(alloc: Global, value: T) -> Result<Vec<T>, AllocError>
+    ensures { IfOk result (λ v. v.items ≡ value ∷ []) }
+{
+    let mut values = Vec::with_capacity(alloc, 1)?;
+    values.push(value)?;
+    Ok(values)
+}
+
 /// The domain of two points.
 fn domain() -> Result<Domain, Fail> {
     match TwoAdicMultiplicativeCoset::new(BabyBear::ONE, 1) {
@@ -115,11 +124,11 @@ fn open_at<EF: Copy, C, P: Pcs<EF, C>>(
     requires openable { P.CanOpen scheme.now committed.old }
     requires one_matrix { length (P.committed_polynomials scheme.now committed.old) ≡ 1 }
 {
-    let mut requests = Vec::with_capacity(alloc, 1)?;
-    requests.push(OpeningRequest {
+    let request = OpeningRequest {
         prover_data: committed,
-        points: vec![in alloc; vec![in alloc; point]?]?,
-    })?;
+        points: listed(alloc, listed(alloc, point)?)?,
+    };
+    let mut requests = listed(alloc, request)?;
     match scheme.open(alloc, requests.as_mut_slice(), challenger) {
         Ok((_, proof)) => Ok(proof),
         Err(_) => Err(Fail::new("the opening is refused")),
@@ -129,14 +138,15 @@ fn open_at<EF: Copy, C, P: Pcs<EF, C>>(
 /// The column committed to, and the proof of its opening.
 pub(crate) fn opened(alloc: Global) -> Result<([u8; 32], TwoAdicFriProof), Fail> {
     let mut scheme = scheme();
-    let evaluations = vec![in alloc; evaluation(alloc)?]?;
+    let evaluations = listed(alloc, evaluation(alloc)?)?;
     let answer = <Scheme as Pcs<BabyBear4, Sha256Challenger>>::commit(
         &mut scheme,
         alloc,
         evaluations,
     );
-    let Ok((commitment, mut data)) = answer else {
-        return Err(Fail::new("memory was refused"));
+    let (commitment, mut data) = match answer {
+        Ok(committed) => committed,
+        Err(_) => return Err(Fail::new("memory was refused")),
     };
     if Inputs::new().get_matrices(&data).len() != 1 {
         return Err(Fail::new("not one matrix"));

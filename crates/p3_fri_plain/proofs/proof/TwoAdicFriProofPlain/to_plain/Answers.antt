@@ -1,7 +1,7 @@
 use Rattle.std.proofs.lemmas.List.{map-id}
 use Rattle.p3_fri_plain.specs.Faults.{InBatchWitness, InCommitments, InCommitWitnesses, InInputs}
 use Rattle.p3_fri_plain.specs.Faults.{InRounds, InFinalPoly, InQueryWitness}
-use Rattle.p3_fri_plain.proofs.proof.FriProofBabyBear4Sha256MmcsBabyBear4BabyBearVecBatchMultiOpeningBabyBearSha256MmcsBabyBearPlain.to_plain.Goals as goal
+use Rattle.p3_fri_plain.proofs.proof.TwoAdicFriProofPlain.to_plain.Goals as goal
 
 pub returns-clause-numbers : goal.returns-clause-numbers
 returns-clause-numbers c = λ i. record {

@@ -1,0 +1,70 @@
+use Rattle.std.proofs.lemmas.List.{map-id}
+use Rattle.p3_fri_plain.specs.Faults.{ProofFault, InBatchWitness, InCommitments, InCommitWitnesses}
+use Rattle.p3_fri_plain.specs.Faults.{InInputs, InRounds, InFinalPoly, InQueryWitness}
+use Rattle.p3_fri_plain.specs.Views.{proof_listed}
+use Rattle.p3_fri_plain.proofs.Refused.{passed_on}
+use Rattle.p3_fri_plain.proofs.proof.TwoAdicFriProofPlain.from_plain.Goals as goal
+
+pub returns-in_err-from_plain-clause-err : goal.returns-in_err-from_plain-clause-err
+returns-in_err-from_plain-clause-err c =
+    passed_on c.from_residual.result c.in_err-from_plain.field-0.0
+    (λ e. ProofFault e (proof_listed c.args.form.now)) c.from_residual.ensures.1
+    (λ other. InBatchWitness (c.in_err-from_plain.ensures.err other))
+
+pub returns-in_err-from_plain-2-clause-err : goal.returns-in_err-from_plain-2-clause-err
+returns-in_err-from_plain-2-clause-err c =
+    passed_on c.from_residual-in_err-from_plain-2.result c.in_err-from_plain-2.field-0.0
+    (λ e. ProofFault e (proof_listed c.args.form.now)) c.from_residual-in_err-from_plain-2.ensures.1
+    (λ other. InCommitments (c.in_err-from_plain-2.ensures.err other))
+
+pub returns-in_err-from_plain-3-clause-err : goal.returns-in_err-from_plain-3-clause-err
+returns-in_err-from_plain-3-clause-err c =
+    passed_on c.from_residual-in_err-from_plain-3.result c.in_err-from_plain-3.field-0.0
+    (λ e. ProofFault e (proof_listed c.args.form.now)) c.from_residual-in_err-from_plain-3.ensures.1
+    (λ other. InCommitWitnesses (simp map-id at (c.in_err-from_plain-3.ensures.err other)))
+
+pub returns-in_err-from_plain-4-clause-err : goal.returns-in_err-from_plain-4-clause-err
+returns-in_err-from_plain-4-clause-err c =
+    passed_on c.from_residual-in_err-from_plain-4.result c.in_err-from_plain-4.field-0.0
+    (λ e. ProofFault e (proof_listed c.args.form.now)) c.from_residual-in_err-from_plain-4.ensures.1
+    (λ other. InInputs (c.in_err-from_plain-4.ensures.err other))
+
+pub returns-in_err-from_plain-5-clause-err : goal.returns-in_err-from_plain-5-clause-err
+returns-in_err-from_plain-5-clause-err c =
+    passed_on c.from_residual-in_err-from_plain-5.result c.in_err-from_plain-5.field-0.0
+    (λ e. ProofFault e (proof_listed c.args.form.now)) c.from_residual-in_err-from_plain-5.ensures.1
+    (λ other. InRounds (c.in_err-from_plain-5.ensures.err other))
+
+pub returns-in_err-from_plain-6-clause-err : goal.returns-in_err-from_plain-6-clause-err
+returns-in_err-from_plain-6-clause-err c =
+    passed_on c.from_residual-in_err-from_plain-6.result c.in_err-from_plain-6.field-0.0
+    (λ e. ProofFault e (proof_listed c.args.form.now)) c.from_residual-in_err-from_plain-6.ensures.1
+    (λ other. InFinalPoly (c.in_err-from_plain-6.ensures.err other))
+
+pub returns-in_err-from_plain-7-clause-err : goal.returns-in_err-from_plain-7-clause-err
+returns-in_err-from_plain-7-clause-err c =
+    passed_on c.from_residual-in_err-from_plain-7.result c.in_err-from_plain-7.field-0.0
+    (λ e. ProofFault e (proof_listed c.args.form.now)) c.from_residual-in_err-from_plain-7.ensures.1
+    (λ other. InQueryWitness (c.in_err-from_plain-7.ensures.err other))
+
+pub returns-clause-ok : goal.returns-clause-ok
+returns-clause-ok c = λ i. record {
+  batch_witness = c.in_ok-from_plain.ensures.ok i;
+  commitments = (simp map-id at c.in_ok-from_plain-2.ensures.ok) i;
+  commit_witnesses = (simp map-id at c.in_ok-from_plain-3.ensures.ok) i;
+  inputs = c.in_ok-from_plain-4.ensures.ok i;
+  rounds = c.in_ok-from_plain-5.ensures.ok i;
+  final_poly = (simp map-id at c.in_ok-from_plain-6.ensures.ok) i;
+  query_witness = c.in_ok-from_plain-7.ensures.ok i;
+}
+
+pub returns-clause-faultless : goal.returns-clause-faultless
+returns-clause-faultless c error fault = elim fault [
+  | InBatchWitness f ↦ c.in_ok-from_plain.ensures.faultless error f
+  | InCommitments f ↦ c.in_ok-from_plain-2.ensures.faultless error f
+  | InCommitWitnesses f ↦ (simp map-id at (c.in_ok-from_plain-3.ensures.faultless error)) f
+  | InInputs f ↦ c.in_ok-from_plain-4.ensures.faultless error f
+  | InRounds f ↦ c.in_ok-from_plain-5.ensures.faultless error f
+  | InFinalPoly f ↦ c.in_ok-from_plain-6.ensures.faultless error f
+  | InQueryWitness f ↦ c.in_ok-from_plain-7.ensures.faultless error f
+]
