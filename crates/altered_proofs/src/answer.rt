@@ -124,11 +124,17 @@ fn hiding_answer(
 
 /// What the opening's scheme answers about it.
 pub fn answer_to(alloc: Global, opening: PlainOpening) -> Result<String> {
-    let parameters = opening.parameters.read()?;
-    let claims = read_claims(alloc, &opening.claims)?;
-    let answer = match opening.hiding {
-        None => plain_answer(alloc, parameters, claims, opening.proof),
-        Some(hiding) => hiding_answer(alloc, parameters, claims, hiding, opening.proof),
+    let PlainOpening {
+        parameters,
+        claims,
+        hiding,
+        proof,
+    } = opening;
+    let parameters = parameters.read()?;
+    let claims = read_claims(alloc, &claims)?;
+    let answer = match hiding {
+        None => plain_answer(alloc, parameters, claims, proof),
+        Some(hiding) => hiding_answer(alloc, parameters, claims, hiding, proof),
     };
     Ok(answer?)
 }
