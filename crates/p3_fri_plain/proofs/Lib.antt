@@ -1,4 +1,4 @@
 pub mod Canonical
 pub mod Faultless
 pub mod Nested
-pub mod Refused
+pub mod Wider

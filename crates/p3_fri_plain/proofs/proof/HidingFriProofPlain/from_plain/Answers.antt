@@ -4,7 +4,7 @@ use Rattle.p3_fri_plain.specs.Faults.{HidingProofFault}
 use Rattle.p3_fri_plain.specs.Numbers.{AtPoints, coefficient_numbers}
 use Rattle.p3_fri_plain.specs.Views.{hiding_listed}
 use Rattle.p3_fri_plain.proofs.Nested.{deep_same}
-use Rattle.p3_fri_plain.proofs.Refused.{passed_on}
+use Rattle.p3_fri_plain.proofs.Wider.{passed_on}
 use Rattle.p3_fri_plain.proofs.proof.HidingFriProofPlain.from_plain.Goals as goal
 
 pub returns-in_err-from_plain-clause-err : goal.returns-in_err-from_plain-clause-err

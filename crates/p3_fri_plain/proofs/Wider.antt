@@ -1,11 +1,17 @@
--- Refusals that are passed on as they are.
+-- Refusals by a fault of a part, as refusals by a fault of the whole.
 use Rattle.std.specs.Prelude.{◌≡◌, ◌≢◌, Result, Ok, Err, IfErr}
 use Rattle.std.specs.Result.{IsErrAnd}
 use Rattle.std.proofs.Common.{sym, ◌∙◌, subst}
 use Rattle.p3_fri_plain.specs.declared.error.PlainProofError.{PlainProofError}
 use Rattle.p3_fri_plain.specs.declared.error.PlainProofError.TheVariants.{OutOfMemory}
 
--- where a part is refused by a fault of the whole, so is the whole
+pub wider : {T : Type 0} (r : Result T PlainProofError) (P Q : PlainProofError → Type 0)
+    → ((e : PlainProofError) → P e → Q e) → IfErr r (λ e. e ≢ OutOfMemory → P e)
+    → IfErr r (λ e. e ≢ OutOfMemory → Q e)
+wider (Ok x) P Q whole part = part
+wider (Err e) P Q whole part = λ other. whole e (part other)
+
+-- the same where the refusal is passed on as it is
 pub passed_on : {T : Type 0} (r : Result T PlainProofError) (e : PlainProofError)
     (Q : PlainProofError → Type 0) → IsErrAnd r (λ y. y ≡ e) → (e ≢ OutOfMemory → Q e)
     → IfErr r (λ y. y ≢ OutOfMemory → Q y)
