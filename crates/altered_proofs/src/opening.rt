@@ -4,7 +4,7 @@ ghost use Rattle.std.specs.Prelude.{IfOk};
 ghost use Rattle.p3_fri_relation.specs.Views.{parameters_of};
 ghost use Rattle.p3_fri_two_adic.specs.Ranges.{InVerifierRange};
 
-use crate::answer::{Claim, Domain, Inputs, Rounds};
+use crate::answer::{Claim, Domain, Rounds};
 use anyhow::{Context, Result, ensure};
 use p3_field::{BabyBear, BabyBear4};
 use p3_fri_folding::FriParameters;
