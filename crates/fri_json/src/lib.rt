@@ -1,0 +1,142 @@
+//! Requests, answers and statements of the plain scheme as JSON texts.
+#![tactic(auto)]
+
+mod records;
+
+use crate::records::{Answer, Statement};
+use fri_requests::{Fault, Place, Proof, Request, RequestError, VerifyError};
+use p3_fri_plain::{PlainFriProof, PlainProofError, from_plain, to_plain};
+use serde_json::Category;
+use std::alloc::{AllocError, AllocFailed, Global};
+use std::error::Error;
+use std::fmt;
+
+/// The status of what is well formed and refused.
+pub const REFUSED: u8 = 1;
+
+/// The status of what isn't well formed.
+pub const MALFORMED: u8 = 2;
+
+/// The status of want of memory.
+pub const OUT_OF_MEMORY: u8 = 3;
+
+/// Why a text has no answer.
+#[derive(Debug, Drop)]
+pub enum Failure {
+    /// It isn't JSON, or not of such a record.
+    Json(serde_json::Error),
+    /// The request isn't opened.
+    Request(RequestError),
+    /// The statement isn't accepted.
+    Statement(VerifyError),
+    /// Memory was refused.
+    OutOfMemory,
+}
+
+impl Failure {
+    /// 1 where good texts are refused, 2 where they aren't good, 3 for want of memory.
+    pub fn status(&self) -> u8 {
+        match self {
+            Failure::Request(RequestError::Refused(_)) => REFUSED,
+            Failure::Statement(VerifyError::Refused(_)) => REFUSED,
+            Failure::Request(RequestError::OutOfMemory) => OUT_OF_MEMORY,
+            Failure::Statement(VerifyError::OutOfMemory) => OUT_OF_MEMORY,
+            Failure::OutOfMemory => OUT_OF_MEMORY,
+            _ => MALFORMED,
+        }
+    }
+}
+
+impl fmt::Display for Failure {
+    fn fmt<W: fmt::Write>(&self, f: &mut fmt::Formatter<W>) -> fmt::Result {
+        match self {
+            Failure::Json(error) => write!(f, "Json: {error}"),
+            Failure::Request(error) => write!(f, "{error}"),
+            Failure::Statement(error) => write!(f, "{error}"),
+            Failure::OutOfMemory => f.write_str("OutOfMemory: out of memory"),
+        }
+    }
+}
+
+impl Error for Failure {}
+
+impl<T: Drop> From<AllocFailed<T>> for Failure {
+    fn from(_error: AllocFailed<T>) -> Failure {
+        Failure::OutOfMemory
+    }
+}
+
+impl From<AllocError> for Failure {
+    fn from(_error: AllocError) -> Failure {
+        Failure::OutOfMemory
+    }
+}
+
+impl From<serde_json::Error> for Failure {
+    fn from(error: serde_json::Error) -> Failure {
+        match error.classify() {
+            Category::Memory => Failure::OutOfMemory,
+            _ => Failure::Json(error),
+        }
+    }
+}
+
+/// The commitments of the request in this JSON text, each in hex.
+pub fn commit(alloc: Global, text: &str) -> Result<Vec<String>, Failure> {
+    let request: Request = serde_json::from_str(alloc, text)?;
+    let commitments = match fri_requests::commit(alloc, &request) {
+        Ok(commitments) => commitments,
+        Err(error) => return Err(Failure::Request(error)),
+    };
+    let mut texts = Vec::with_capacity(alloc, commitments.len())?;
+    for commitment in &commitments {
+        texts.push(hex::encode(alloc, commitment.as_slice())?)?;
+    }
+    Ok(texts)
+}
+
+/// The answer to the request in this JSON text, in JSON.
+pub fn open(alloc: Global, text: &str) -> Result<String, Failure> {
+    let request: Request = serde_json::from_str(alloc, text)?;
+    let opening = match fri_requests::open(alloc, &request) {
+        Ok(opening) => opening,
+        Err(error) => return Err(Failure::Request(error)),
+    };
+    let answer = Answer {
+        parameters: request.parameters,
+        claims: opening.claims,
+        proof: to_plain(alloc, &opening.proof)?,
+        next_challenge: opening.next_challenge,
+    };
+    Ok(serde_json::to_string(alloc, &answer)?)
+}
+
+/// The proof of its plain form.
+fn proof_of(alloc: Global, form: PlainFriProof) -> Result<Proof, VerifyError> {
+    let fault = match from_plain(alloc, form) {
+        Ok(proof) => return Ok(proof),
+        Err(PlainProofError::OutOfMemory) => return Err(VerifyError::OutOfMemory),
+        Err(PlainProofError::ElementOutOfRange) => Fault::Element,
+        Err(PlainProofError::ElementLength) => Fault::ExtensionElement,
+        Err(PlainProofError::DigestLength) => Fault::Digest,
+    };
+    Err(VerifyError::Malformed(Place::PROOF.lacks(fault)))
+}
+
+/// Verifies the statement in this JSON text, and answers what the challenger draws next.
+pub fn verify(alloc: Global, text: &str) -> Result<Vec<u64>, Failure> {
+    let statement: Statement = serde_json::from_str(alloc, text)?;
+    let Statement {
+        parameters,
+        claims,
+        proof,
+    } = statement;
+    let verified = match proof_of(alloc, proof) {
+        Ok(proof) => fri_requests::verify(alloc, &parameters, &claims, &proof),
+        Err(error) => Err(error),
+    };
+    match verified {
+        Ok(next_challenge) => Ok(next_challenge),
+        Err(error) => Err(Failure::Statement(error)),
+    }
+}

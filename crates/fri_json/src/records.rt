@@ -1,0 +1,23 @@
+//! The records of answers and statements.
+
+use fri_requests::{BatchClaims, Parameters};
+use p3_fri_plain::PlainFriProof;
+use serde::{Deserialize, Serialize};
+
+/// What comes of opening a request.
+#[derive(Drop, Serialize)]
+pub(crate) struct Answer {
+    pub parameters: Parameters,
+    pub claims: Vec<BatchClaims>,
+    pub proof: PlainFriProof,
+    /// What the challenger draws next, of which a verifier's is the same.
+    pub next_challenge: Vec<u64>,
+}
+
+/// What is verified: an answer's parameters, claims and proof.
+#[derive(Drop, Deserialize)]
+pub(crate) struct Statement {
+    pub parameters: Parameters,
+    pub claims: Vec<BatchClaims>,
+    pub proof: PlainFriProof,
+}

@@ -1,0 +1,64 @@
+-- Claims by their numbers, and those that records list.
+use Rattle.std.specs.Prelude.{ℕ, List, map, Ok, Result, string_bytes}
+use Rattle.algebra.specs.Nested.{lists}
+use Rattle.hex.specs.Hex.{decode_sized}
+use Rattle.hex.specs.declared.error.FromHexError.{FromHexError}
+use Rattle.p3_baby_bear.specs.declared.baby_bear.BabyBear.{BabyBear}
+use Rattle.p3_baby_bear.specs.declared.baby_bear4.BabyBear4.{BabyBear4}
+use Rattle.p3_pcs.specs.Claims.{PointClaim, MatrixClaim, Claim}
+use Rattle.fri_requests.specs.Numbers.{canonical_number, coefficient_numbers}
+use Rattle.fri_requests.specs.declared.records.PointClaims.{PointClaims}
+use Rattle.fri_requests.specs.declared.records.MatrixClaims.{MatrixClaims}
+use Rattle.fri_requests.specs.declared.records.BatchClaims.{BatchClaims}
+
+pub record PointNumbers : Type 0 where
+  pub point : List ℕ
+  pub values : List (List ℕ)
+
+pub record MatrixNumbers : Type 0 where
+  pub shift : ℕ
+  pub log_size : ℕ
+  pub points : List PointNumbers
+
+-- the commitment is what a hex text says
+pub record BatchNumbers : Type 0 where
+  pub commitment : Result (List ℕ) FromHexError
+  pub matrices : List MatrixNumbers
+
+-- the numbers of claims
+abbrev pub point_numbers : PointClaim BabyBear4 → PointNumbers
+point_numbers c = record {
+  point = coefficient_numbers c.point;
+  values = map coefficient_numbers c.values;
+}
+
+module _ {Domain : Type 0} (shift_of : Domain → BabyBear) (log_size_of : Domain → ℕ) where
+  abbrev pub matrix_numbers : MatrixClaim BabyBear4 Domain → MatrixNumbers
+  matrix_numbers c = record {
+    shift = canonical_number (shift_of c.domain);
+    log_size = log_size_of c.domain;
+    points = map point_numbers c.points;
+  }
+
+  abbrev pub batch_numbers : Claim BabyBear4 (List ℕ) Domain → BatchNumbers
+  batch_numbers c = record {
+    commitment = Ok c.commitment;
+    matrices = map matrix_numbers c.matrices;
+  }
+
+-- the numbers that records list
+abbrev pub point_listed : PointClaims → PointNumbers
+point_listed r = record { point = r.point.items; values = lists r.values.items }
+
+abbrev pub matrix_listed : MatrixClaims → MatrixNumbers
+matrix_listed r = record {
+  shift = r.domain.shift;
+  log_size = r.domain.log_size;
+  points = map point_listed r.points.items;
+}
+
+abbrev pub batch_listed : BatchClaims → BatchNumbers
+batch_listed r = record {
+  commitment = decode_sized (string_bytes r.commitment) 32;
+  matrices = map matrix_listed r.matrices.items;
+}

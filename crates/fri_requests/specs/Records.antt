@@ -1,0 +1,15 @@
+-- What the verified relation sees of records.
+use Rattle.fri_requests.specs.declared.records.Parameters.{Parameters}
+use Rattle.p3_fri_relation.specs.Setting as setting
+
+-- the parameters that the relation speaks of
+abbrev pub parameters_in : Parameters → setting.Parameters
+parameters_in p = record {
+  log_blowup = p.log_blowup;
+  log_final_poly_len = p.log_final_poly_len;
+  max_log_arity = p.max_log_arity;
+  num_queries = p.num_queries;
+  batch_pow_bits = p.batch_proof_of_work_bits;
+  commit_pow_bits = p.commit_proof_of_work_bits;
+  query_pow_bits = p.query_proof_of_work_bits;
+}

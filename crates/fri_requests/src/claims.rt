@@ -1,0 +1,151 @@
+//! Claims as records, and back.
+
+ghost use Rattle.std.specs.Prelude.{◌≡◌, map, IfOk};
+ghost use Rattle.p3_pcs.specs.Claims.{claim, matrix_claim, point_claim};
+ghost use Rattle.fri_requests.specs.Claims.{point_numbers, matrix_numbers, batch_numbers};
+ghost use Rattle.fri_requests.specs.Claims.{point_listed, matrix_listed, batch_listed};
+
+use crate::elements::{coefficients, coset, domain, extension_element, extension_elements};
+use crate::fault::{Fault, Place, ReadError};
+use crate::records::{BatchClaims, MatrixClaims, PointClaims};
+use crate::scheme::{Claims, Coset};
+use hex::FromHex;
+use p3_field::{BabyBear, BabyBear4, TwoAdicField};
+use p3_mmcs::{CommitmentOpening, MatrixOpening, PointOpening};
+use std::alloc::{AllocError, Global};
+
+/// The coefficients' numbers of elements of the extension.
+fn all_coefficients(alloc: Global, elements: &[BabyBear4]) -> Result<Vec<Vec<u64>>, AllocError> {
+    let mut all = Vec::with_capacity(alloc, elements.len())?;
+    for element in elements {
+        all.push(coefficients(alloc, *element)?)?;
+    }
+    Ok(all)
+}
+
+/// The values at a point as a record.
+fn point_claims(
+    alloc: Global,
+    opening: &PointOpening<BabyBear4>,
+) -> Result<PointClaims, AllocError> {
+    Ok(PointClaims {
+        point: coefficients(alloc, opening.point)?,
+        values: all_coefficients(alloc, &opening.values)?,
+    })
+}
+
+/// What is claimed of a matrix as a record.
+fn matrix_claims(
+    alloc: Global,
+    opening: &MatrixOpening<BabyBear4, Coset>,
+) -> Result<MatrixClaims, AllocError> {
+    let mut points = Vec::with_capacity(alloc, opening.points.len())?;
+    for point in &opening.points {
+        points.push(point_claims(alloc, point)?)?;
+    }
+    Ok(MatrixClaims {
+        domain: domain(opening.domain),
+        points,
+    })
+}
+
+/// What is claimed of a commitment's matrices as a record.
+fn batch_claims(
+    alloc: Global,
+    opening: &CommitmentOpening<BabyBear4, [u8; 32], Coset>,
+) -> Result<BatchClaims, AllocError> {
+    let mut matrices = Vec::with_capacity(alloc, opening.matrices.len())?;
+    for matrix in &opening.matrices {
+        matrices.push(matrix_claims(alloc, matrix)?)?;
+    }
+    Ok(BatchClaims {
+        commitment: hex::encode(alloc, opening.commitment.as_slice())?,
+        matrices,
+    })
+}
+
+/// Claims as records.
+pub(crate) fn claims_out(alloc: Global, claims: &Claims) -> Result<Vec<BatchClaims>, AllocError> {
+    let mut batches = Vec::with_capacity(alloc, claims.len())?;
+    for opening in claims {
+        batches.push(batch_claims(alloc, opening)?)?;
+    }
+    Ok(batches)
+}
+
+/// The values at a point, whose record is at this place.
+fn point_opening(
+    alloc: Global,
+    claims: &PointClaims,
+    place: Place,
+) -> Result<PointOpening<BabyBear4>, ReadError>
+    ensures { IfOk result (λ o. point_numbers (point_claim o) ≡ point_listed claims.now) }
+{
+    Ok(PointOpening {
+        point: extension_element(&claims.point, place)?,
+        values: extension_elements(alloc, &claims.values, place)?,
+    })
+}
+
+/// What is claimed of the matrix at this place.
+fn matrix_opening(
+    alloc: Global,
+    claims: &MatrixClaims,
+    place: Place,
+) -> Result<MatrixOpening<BabyBear4, Coset>, ReadError>
+    ensures { IfOk result (λ o. matrix_numbers (λ d. d.shift) (λ d. d.log_size) (matrix_claim o)
+        ≡ matrix_listed claims.now) }
+{
+    let domain = coset(&claims.domain, BabyBear::TWO_ADICITY, place)?;
+    let mut points = Vec::with_capacity(alloc, claims.points.len())?;
+    for (index, point) in claims.points.iter().enumerate() {
+        let place = Place {
+            point: Some(index),
+            ..place
+        };
+        points.push(point_opening(alloc, point, place)?)?;
+    }
+    Ok(MatrixOpening { domain, points })
+}
+
+/// What is claimed of the matrices of the commitment at this place.
+fn commitment_opening(
+    alloc: Global,
+    claims: &BatchClaims,
+    place: Place,
+) -> Result<CommitmentOpening<BabyBear4, [u8; 32], Coset>, ReadError>
+    ensures { IfOk result (λ o. batch_numbers (λ d. d.shift) (λ d. d.log_size) (claim o)
+        ≡ batch_listed claims.now) }
+{
+    let Ok(commitment) = <[u8; 32] as FromHex>::from_hex(claims.commitment.as_str()) else {
+        return Err(place.lacks(Fault::Commitment).into());
+    };
+    let mut matrices = Vec::with_capacity(alloc, claims.matrices.len())?;
+    for (index, matrix) in claims.matrices.iter().enumerate() {
+        let place = Place {
+            matrix: Some(index),
+            ..place
+        };
+        matrices.push(matrix_opening(alloc, matrix, place)?)?;
+    }
+    Ok(CommitmentOpening {
+        commitment,
+        matrices,
+    })
+}
+
+/// The claims of records.
+pub(crate) fn claims_in(alloc: Global, claims: &[BatchClaims]) -> Result<Claims, ReadError>
+    ensures { IfOk result (λ v. map (batch_numbers (λ d. d.shift) (λ d. d.log_size))
+        (map claim v.items) ≡ map batch_listed claims.now) }
+{
+    let mut openings = Vec::with_capacity(alloc, claims.len())?;
+    for (index, batch) in claims.iter().enumerate() {
+        let place = Place {
+            commitment: Some(index),
+            ..Place::NONE
+        };
+        openings.push(commitment_opening(alloc, batch, place)?)?;
+    }
+    Ok(openings)
+}

@@ -1,0 +1,264 @@
+//! Why a record is refused, and where.
+
+ghost use Rattle.std.specs.Prelude.{◌≡◌};
+ghost use Rattle.fri_requests.specs.declared.fault.RequestError.TheVariants as request;
+ghost use Rattle.fri_requests.specs.declared.fault.ReadError.TheVariants as read;
+
+use p3_fri_pow::FriProverError;
+use p3_fri_relation::error::FriError;
+use p3_mmcs::Sha256MmcsError;
+use std::alloc::{AllocError, AllocFailed};
+use std::error::Error;
+use std::fmt;
+
+/// What a number or a list isn't.
+#[derive(Clone, Copy, Debug)]
+pub enum Fault {
+    /// The blowup isn't one for which matrices have room within the two-adicity.
+    LogBlowup,
+    /// The blowup and the final polynomial together have no size.
+    LogFinalPolyLen,
+    /// Without a cap no round would fold.
+    MaxLogArity,
+    /// Without queries there is nothing to open.
+    NumQueries,
+    /// A difficulty is past what a challenger draws at once.
+    ProofOfWorkBits,
+    /// There is no matrix.
+    Matrices,
+    /// The field has no coset of this size, or its extension has none.
+    LogSize,
+    /// Zero moves no subgroup, and a number past the order is no element.
+    Shift,
+    /// A matrix has some column.
+    Width,
+    /// There isn't one value for each column of each row.
+    Values,
+    /// A matrix is opened at some point.
+    Points,
+    /// A number isn't below the order.
+    Element,
+    /// An element of the extension isn't given by four numbers.
+    ExtensionElement,
+    /// A commitment isn't the hex text of 32 bytes.
+    Commitment,
+    /// A digest of a proof hasn't 32 bytes.
+    Digest,
+}
+
+impl Fault {
+    /// What was expected at its place.
+    pub fn expected(&self) -> &'static str {
+        match self {
+            Fault::LogBlowup => "log_blowup from 1 to 27",
+            Fault::LogFinalPolyLen => "log_blowup and log_final_poly_len below 64 together",
+            Fault::MaxLogArity => "max_log_arity above 0",
+            Fault::NumQueries => "num_queries above 0",
+            Fault::ProofOfWorkBits => "proofs of work of at most 63 bits",
+            Fault::Matrices => "some matrix",
+            Fault::LogSize => "a log_size up to 27, with log_blowup where it is committed to",
+            Fault::Shift => "a shift from 1 to 2013265920",
+            Fault::Width => "a width above 0",
+            Fault::Values => "as many values as the domain has points, times the width",
+            Fault::Points => "some point",
+            Fault::Element => "a number below 2013265921",
+            Fault::ExtensionElement => "four numbers below 2013265921",
+            Fault::Commitment => "64 hex digits",
+            Fault::Digest => "digests of 32 bytes",
+        }
+    }
+}
+
+/// Where in a record, by positions that count from 0: the commitment, its matrix, and of that the
+/// point and the number. Without any it is in the parameters, in the proof or in the whole.
+#[derive(Clone, Copy, Debug)]
+pub struct Place {
+    pub is_in_proof: bool,
+    pub commitment: Option<usize>,
+    pub matrix: Option<usize>,
+    pub point: Option<usize>,
+    pub number: Option<usize>,
+}
+
+impl Place {
+    /// No place in particular.
+    pub const NONE: Place = Place {
+        is_in_proof: false,
+        commitment: None,
+        matrix: None,
+        point: None,
+        number: None,
+    };
+
+    /// Somewhere in the proof.
+    pub const PROOF: Place = Place {
+        is_in_proof: true,
+        commitment: None,
+        matrix: None,
+        point: None,
+        number: None,
+    };
+
+    /// The fault at this place.
+    pub fn lacks(self, fault: Fault) -> Misfit {
+        Misfit { fault, place: self }
+    }
+}
+
+/// A fault at its place.
+#[derive(Clone, Copy, Debug)]
+pub struct Misfit {
+    pub fault: Fault,
+    pub place: Place,
+}
+
+/// Prints one level of a place, if it is known.
+fn fmt_level<W: fmt::Write>(
+    f: &mut fmt::Formatter<W>,
+    name: &str,
+    index: Option<usize>,
+) -> fmt::Result {
+    match index {
+        Some(index) => write!(f, "{name} {index}, "),
+        None => Ok(()),
+    }
+}
+
+impl fmt::Display for Misfit {
+    fn fmt<W: fmt::Write>(&self, f: &mut fmt::Formatter<W>) -> fmt::Result {
+        let fault = self.fault;
+        write!(f, "{fault:?}: ")?;
+        if self.place.is_in_proof {
+            f.write_str("proof, ")?;
+        }
+        fmt_level(f, "commitment", self.place.commitment)?;
+        fmt_level(f, "matrix", self.place.matrix)?;
+        fmt_level(f, "point", self.place.point)?;
+        fmt_level(f, "number", self.place.number)?;
+        f.write_str("expected ")?;
+        f.write_str(fault.expected())
+    }
+}
+
+/// Why nothing was committed to or opened.
+#[derive(Debug, Drop)]
+pub enum RequestError {
+    /// The request isn't well formed.
+    Malformed(Misfit),
+    /// The scheme refused it.
+    Refused(FriProverError),
+    /// Memory was refused.
+    OutOfMemory,
+}
+
+/// Why the verifier refuses.
+pub type VerifierError = FriError<Sha256MmcsError, Sha256MmcsError>;
+
+/// Why claims and a proof weren't accepted.
+#[derive(Debug, Drop)]
+pub enum VerifyError {
+    /// They aren't well formed.
+    Malformed(Misfit),
+    /// They aren't accepted.
+    Refused(VerifierError),
+    /// Memory was refused.
+    OutOfMemory,
+}
+
+impl fmt::Display for RequestError {
+    fn fmt<W: fmt::Write>(&self, f: &mut fmt::Formatter<W>) -> fmt::Result {
+        match self {
+            RequestError::Malformed(misfit) => write!(f, "{misfit}"),
+            RequestError::Refused(error) => write!(f, "{error:?}: {error}"),
+            RequestError::OutOfMemory => f.write_str("OutOfMemory: out of memory"),
+        }
+    }
+}
+
+impl fmt::Display for VerifyError {
+    fn fmt<W: fmt::Write>(&self, f: &mut fmt::Formatter<W>) -> fmt::Result {
+        match self {
+            VerifyError::Malformed(misfit) => write!(f, "{misfit}"),
+            VerifyError::Refused(error) => write!(f, "{error:?}: {error}"),
+            VerifyError::OutOfMemory => f.write_str("OutOfMemory: out of memory"),
+        }
+    }
+}
+
+impl Error for RequestError {}
+
+impl Error for VerifyError {}
+
+/// What a record doesn't have, or want of memory to read it.
+#[derive(Clone, Copy)]
+pub enum ReadError {
+    Malformed(Misfit),
+    OutOfMemory,
+}
+
+impl From<Misfit> for ReadError {
+    ghost from_gives = { λ misfit e. e ≡ read.Malformed misfit };
+
+    fn from(misfit: Misfit) -> ReadError {
+        ReadError::Malformed(misfit)
+    }
+}
+
+impl<T: Drop> From<AllocFailed<T>> for ReadError {
+    ghost from_gives = { λ _ e. e ≡ read.OutOfMemory };
+
+    fn from(_error: AllocFailed<T>) -> ReadError {
+        ReadError::OutOfMemory
+    }
+}
+
+impl From<AllocError> for ReadError {
+    ghost from_gives = { λ _ e. e ≡ read.OutOfMemory };
+
+    fn from(_error: AllocError) -> ReadError {
+        ReadError::OutOfMemory
+    }
+}
+
+impl From<ReadError> for RequestError {
+    fn from(error: ReadError) -> RequestError {
+        match error {
+            ReadError::Malformed(misfit) => RequestError::Malformed(misfit),
+            ReadError::OutOfMemory => RequestError::OutOfMemory,
+        }
+    }
+}
+
+impl<T: Drop> From<AllocFailed<T>> for RequestError {
+    ghost from_gives = { λ _ e. e ≡ request.OutOfMemory };
+
+    fn from(_error: AllocFailed<T>) -> RequestError {
+        RequestError::OutOfMemory
+    }
+}
+
+impl From<AllocError> for RequestError {
+    ghost from_gives = { λ _ e. e ≡ request.OutOfMemory };
+
+    fn from(_error: AllocError) -> RequestError {
+        RequestError::OutOfMemory
+    }
+}
+
+impl From<FriProverError> for RequestError {
+    fn from(error: FriProverError) -> RequestError {
+        match error {
+            FriProverError::OutOfMemory => RequestError::OutOfMemory,
+            _ => RequestError::Refused(error),
+        }
+    }
+}
+
+impl From<ReadError> for VerifyError {
+    fn from(error: ReadError) -> VerifyError {
+        match error {
+            ReadError::Malformed(misfit) => VerifyError::Malformed(misfit),
+            ReadError::OutOfMemory => VerifyError::OutOfMemory,
+        }
+    }
+}

@@ -1,0 +1,29 @@
+//! The plain scheme over records of numbers and texts: a request is committed to and opened, claims
+//! and their proof are verified, at BabyBear, its extension of degree 4 and SHA-256, each from a
+//! fresh challenger. serde's formats write and read the records.
+//!
+//! Whatever comes from outside is tested and refused by name, with its place. No call halts. What a
+//! call takes of time and memory follows from the request: an opening makes `2^log_blowup` values of
+//! each that is committed to, and tries some `2^b` witnesses for a proof of work of `b` bits, at most
+//! all elements of BabyBear.
+#![tactic(auto)]
+
+mod claims;
+mod committed;
+mod elements;
+mod fault;
+mod matrices;
+mod openable;
+mod opening;
+mod records;
+mod scheme;
+mod verification;
+
+pub use crate::committed::commit;
+pub use crate::fault::{Fault, Misfit, Place, ReadError, RequestError, VerifierError, VerifyError};
+pub use crate::opening::{Opening, open};
+pub use crate::records::{
+    Batch, BatchClaims, Domain, Matrix, MatrixClaims, Parameters, PointClaims, Request,
+};
+pub use crate::scheme::Proof;
+pub use crate::verification::verify;

@@ -1,0 +1,115 @@
+//! The matrices of a request, and the points at which they are to be opened.
+
+ghost use Rattle.std.specs.Prelude.{◌≡◌, ◌≢◌, ◌*◌, ◌^◌, ◌<◌, ◌≤◌, All, IfOk, IsTrue, length};
+ghost use Rattle.std.specs.Prelude.{vec_len};
+ghost use Rattle.p3_matrix.specs.Matrix.{rows};
+ghost use Rattle.p3_fri_commit.specs.Extension.{FitsDomain};
+
+use crate::elements::{coset, elements, extension_element};
+use crate::fault::{Fault, Place, ReadError};
+use crate::records::{Batch, Matrix};
+use crate::scheme::Coset;
+use p3_field::{BabyBear, BabyBear4, TwoAdicField};
+use p3_matrix::RowMajorMatrix;
+use std::alloc::Global;
+
+/// A matrix on its domain.
+pub(crate) type Evaluations = (Coset, RowMajorMatrix<BabyBear>);
+
+/// Whether `count` is the product of the width and `2^log_size`.
+fn is_count(count: usize, width: usize, log_size: usize) -> bool
+    requires some { 0 < width }
+    requires low { log_size ≤ 27 }
+    ensures { IsTrue result → count ≡ width * 2 ^ log_size }
+{
+    count % width == 0 && count / width == 1 << log_size
+}
+
+/// The matrix of these values.
+fn matrix_of(values: Vec<BabyBear>, width: usize, log_size: usize) -> RowMajorMatrix<BabyBear>
+    requires some { 0 < width }
+    requires size { vec_len values ≡ width * 2 ^ log_size }
+    ensures { length (rows result) ≡ 2 ^ log_size }
+{
+    RowMajorMatrix::new(values, width)
+}
+
+/// A matrix with room for its extension.
+fn evaluations(
+    alloc: Global,
+    matrix: &Matrix,
+    log_blowup: usize,
+    place: Place,
+) -> Result<Evaluations, ReadError>
+    requires blowup { log_blowup ≤ 27 }
+    ensures { IfOk result (λ e. FitsDomain 27 log_blowup e.0.log_size e.1) }
+{
+    let domain = coset(&matrix.domain, BabyBear::TWO_ADICITY - log_blowup, place)?;
+    if matrix.width == 0 {
+        return Err(place.lacks(Fault::Width).into());
+    }
+    if !is_count(matrix.values.len(), matrix.width, domain.log_size()) {
+        return Err(place.lacks(Fault::Values).into());
+    }
+    let values = elements(alloc, &matrix.values, place)?;
+    Ok((domain, matrix_of(values, matrix.width, domain.log_size())))
+}
+
+/// The matrices of the commitment at this place.
+pub(crate) fn batch_evaluations(
+    alloc: Global,
+    batch: &Batch,
+    log_blowup: usize,
+    place: Place,
+) -> Result<Vec<Evaluations>, ReadError>
+    requires blowup { log_blowup ≤ 27 }
+    ensures { IfOk result (λ all.
+        All (λ e. FitsDomain 27 log_blowup e.0.log_size e.1) all.items) }
+{
+    let mut all = Vec::with_capacity(alloc, batch.matrices.len())?;
+    for (index, matrix) in batch.matrices.iter().enumerate() {
+        let place = Place {
+            matrix: Some(index),
+            ..place
+        };
+        all.push(evaluations(alloc, matrix, log_blowup, place)?)?;
+    }
+    Ok(all)
+}
+
+/// The points of a matrix, of which there are some.
+fn points(alloc: Global, matrix: &Matrix, place: Place) -> Result<Vec<BabyBear4>, ReadError>
+    ensures { IfOk result (λ v. length v.items ≢ 0) }
+{
+    if matrix.points.is_empty() {
+        return Err(place.lacks(Fault::Points).into());
+    }
+    let mut all = Vec::with_capacity(alloc, matrix.points.len())?;
+    for (index, point) in matrix.points.iter().enumerate() {
+        let place = Place {
+            point: Some(index),
+            ..place
+        };
+        all.push(extension_element(point, place)?)?;
+    }
+    Ok(all)
+}
+
+/// The points of each matrix of the commitment at this place.
+pub(crate) fn batch_points(
+    alloc: Global,
+    batch: &Batch,
+    place: Place,
+) -> Result<Vec<Vec<BabyBear4>>, ReadError>
+    ensures some { IfOk result (λ all. All (λ v. length v.items ≢ 0) all.items) }
+{
+    let mut all = Vec::with_capacity(alloc, batch.matrices.len())?;
+    for (index, matrix) in batch.matrices.iter().enumerate() {
+        let place = Place {
+            matrix: Some(index),
+            ..place
+        };
+        all.push(points(alloc, matrix, place)?)?;
+    }
+    Ok(all)
+}

@@ -1,0 +1,69 @@
+//! The records that cross a boundary. An element of BabyBear is its canonical number, one of the
+//! extension the list of its four coefficients' numbers, that of one first, and a commitment the
+//! hex text of its 32 bytes.
+
+use serde::{Deserialize, Serialize};
+
+/// The parameters of the scheme. Logarithms are to the base 2.
+#[derive(Clone, Copy, Serialize, Deserialize)]
+pub struct Parameters {
+    pub log_blowup: usize,
+    pub log_final_poly_len: usize,
+    pub max_log_arity: usize,
+    pub num_queries: usize,
+    pub batch_proof_of_work_bits: usize,
+    pub commit_proof_of_work_bits: usize,
+    pub query_proof_of_work_bits: usize,
+}
+
+/// A coset of `2^log_size` points.
+#[derive(Clone, Copy, Serialize, Deserialize)]
+pub struct Domain {
+    pub shift: u64,
+    pub log_size: usize,
+}
+
+/// A matrix, whose columns are functions on the domain, and the points to open it at.
+#[derive(Drop, Serialize, Deserialize)]
+pub struct Matrix {
+    pub domain: Domain,
+    /// The number of columns.
+    pub width: usize,
+    /// Row by row, the first row's at the domain's shift.
+    pub values: Vec<u64>,
+    pub points: Vec<Vec<u64>>,
+}
+
+/// The matrices under one commitment.
+#[derive(Drop, Serialize, Deserialize)]
+pub struct Batch {
+    pub matrices: Vec<Matrix>,
+}
+
+/// What is committed to and opened.
+#[derive(Drop, Serialize, Deserialize)]
+pub struct Request {
+    pub parameters: Parameters,
+    pub commitments: Vec<Batch>,
+}
+
+/// The values claimed at a point, one for each column.
+#[derive(Drop, Serialize, Deserialize)]
+pub struct PointClaims {
+    pub point: Vec<u64>,
+    pub values: Vec<Vec<u64>>,
+}
+
+/// What is claimed of a matrix.
+#[derive(Drop, Serialize, Deserialize)]
+pub struct MatrixClaims {
+    pub domain: Domain,
+    pub points: Vec<PointClaims>,
+}
+
+/// What is claimed of the matrices under a commitment.
+#[derive(Drop, Serialize, Deserialize)]
+pub struct BatchClaims {
+    pub commitment: String,
+    pub matrices: Vec<MatrixClaims>,
+}
