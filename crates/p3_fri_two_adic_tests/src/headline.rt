@@ -60,7 +60,7 @@ fn shown(
     );
     match answer {
         Ok(verified) => Ok((verified, challenger)),
-        Err(_) => Err(Fail::new("not accepted")),
+        Err(refusal) => Err(Fail::from(refusal)),
     }
 }
 
