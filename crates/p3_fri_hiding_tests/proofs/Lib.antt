@@ -1,3 +1,4 @@
 mod Each
 mod Maskable
+mod Randoms
 mod Readable

@@ -1,12 +1,13 @@
-//! Tests of `p3_fri_hiding`, at BabyBear, its quartic extension, SHA-256 and ChaCha.
+//! Tests of `p3_fri_hiding`, at BabyBear, its quartic extension, SHA-256 and ChaCha: what it commits to,
+//! what it opens, and, with the quotient and the random polynomials of a STARK prover, both.
 #![tactic(auto)]
 
+#[cfg(test)]
+mod batches;
 #[cfg(test)]
 mod calls;
 #[cfg(test)]
 mod cases;
-#[cfg(test)]
-mod chunks;
 #[cfg(test)]
 mod committed;
 #[cfg(test)]
@@ -15,6 +16,8 @@ mod forks;
 mod masked;
 #[cfg(test)]
 mod matrices;
+#[cfg(test)]
+mod openings;
 #[cfg(test)]
 mod preprocessed;
 #[cfg(test)]
@@ -25,5 +28,7 @@ mod randomization;
 mod readings;
 #[cfg(test)]
 mod scheme;
+#[cfg(test)]
+mod small;
 #[cfg(test)]
 mod words;

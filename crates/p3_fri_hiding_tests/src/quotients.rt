@@ -5,10 +5,10 @@ ghost use Rattle.p3_fri_hiding.specs.Data.{CanRead};
 ghost use Rattle.p3_fri_two_adic.specs.Ldes.{HasLdeHeight};
 
 use crate::cases::{CASES, Case};
-use crate::chunks::are_maskable;
 use crate::matrices::{E, Entries, PI, are_numbers, coset, matrix, row_of};
 use crate::readings::{shown, whole};
 use crate::scheme::{Data, Evaluations, Inputs, Scheme, scheme, scheme_with};
+use crate::small::chunks::are_maskable;
 use crate::words::are_wider;
 use p3_field::{BabyBear, BabyBear4, Field};
 use p3_fri_masks::HidingFriProverError;
