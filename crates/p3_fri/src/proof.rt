@@ -1,0 +1,8 @@
+//! Proofs of the low-degree test, and the plain forms of the proofs of both schemes: numbers and
+//! bytes, which can be written and read.
+
+pub use p3_fri_plain::{
+    HidingFriProof, Plain, PlainBatch, PlainFriProof, PlainHidingProof, PlainProofError, PlainStep,
+    TwoAdicFriProof, from_plain, hiding_from_plain, hiding_to_plain, to_plain,
+};
+pub use p3_fri_relation::proof::{BatchMultiOpening, CommitPhaseMultiStep, FriProof};
