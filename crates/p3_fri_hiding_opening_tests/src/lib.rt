@@ -2,14 +2,12 @@
 #![tactic(auto)]
 
 #[cfg(test)]
-mod columns;
+mod changed;
 #[cfg(test)]
 mod headline;
 #[cfg(test)]
-mod listed;
-#[cfg(test)]
-mod one;
-#[cfg(test)]
 mod opened;
 #[cfg(test)]
-mod scheme;
+mod preprocessed;
+#[cfg(test)]
+mod reused;

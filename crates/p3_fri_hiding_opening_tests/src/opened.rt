@@ -1,13 +1,14 @@
-//! A private column opened once, and one whose masks are too few.
+//! A private column opened once, and openings that are refused before anything is touched.
 
-use crate::columns::{E, PI, column, points};
-use crate::one::{Opened, commit_one, open_one};
-use crate::scheme::{Data, Domain, Proof, Scheme, scheme};
 use p3_challenger::Sha256Challenger;
 use p3_field::BabyBear4;
 use p3_fri_masks::HidingFriProverError;
+use p3_fri_pow::FriProverError;
 use p3_mmcs::OpenedValues;
 use p3_pcs::Pcs;
+use p3_test_hiding::columns::{E, PI, POINTS, column, points};
+use p3_test_hiding::scheme::{Data, Domain, Proof, SMALL, Scheme, Setting, scheme_of};
+use p3_test_openings::one::{Opened, commit_one, open_one};
 use std::alloc::Global;
 use std::test::Fail;
 
@@ -21,9 +22,17 @@ struct Opening {
     challenger: Sha256Challenger,
 }
 
-/// A private column committed to and opened at so many points, by a challenger that is new.
-fn open_column(alloc: Global, numbers: &[u64], num_points: usize) -> Result<Opening, Fail> {
-    let mut scheme = scheme();
+/// A private column committed to and opened at these points, by a challenger that is new.
+fn open_column(
+    alloc: Global,
+    setting: Setting,
+    numbers: &[u64],
+    coefficients: &[[u64; 4]],
+) -> Result<Opening, Fail> {
+    if setting.num_queries == 0 {
+        return Err(Fail::new("no queries"));
+    }
+    let mut scheme = scheme_of(setting);
     let column = column(alloc, numbers)?;
     let (known, mut held) = commit_one::<BabyBear4, Sha256Challenger, Scheme>(
         &mut scheme,
@@ -33,7 +42,7 @@ fn open_column(alloc: Global, numbers: &[u64], num_points: usize) -> Result<Open
     if held.is_opened() {
         return Err(Fail::new("opened before"));
     }
-    let points = points(alloc, num_points)?;
+    let points = points(alloc, coefficients)?;
     let mut challenger = Sha256Challenger::new();
     let answer = open_one(&scheme, alloc, known, &mut held, points, &mut challenger)?;
     Ok(Opening {
@@ -63,21 +72,54 @@ fn has_counts(values: &OpenedValues<BabyBear4>, num_points: usize, num_columns: 
     values.len() == 1
 }
 
-/// Whether a column of 32 rows is opened at two points and accepted by a verifier that ends as the
-/// prover, and its data counts as opened.
-fn is_opened(alloc: Global) -> Result<bool, Fail> {
+/// A column that is opened.
+#[derive(Clone, Copy, Debug)]
+struct Accepted {
+    num_queries: usize,
+    numbers: &'static [u64],
+    points: &'static [[u64; 4]],
+}
+
+/// The second and the third have just as many masks as their budget asks for.
+const ACCEPTED: [Accepted; 3] = [
+    Accepted {
+        num_queries: 2,
+        numbers: &E,
+        points: &POINTS,
+    },
+    Accepted {
+        num_queries: 4,
+        numbers: &PI,
+        points: &[[5, 0, 1, 0]],
+    },
+    Accepted {
+        num_queries: 8,
+        numbers: &E,
+        points: &POINTS,
+    },
+];
+
+/// Whether the column is opened and accepted by a verifier that ends as the prover, and its data
+/// counts as opened.
+fn is_opened(alloc: Global, case: &Accepted) -> Result<bool, Fail> {
+    let setting = Setting {
+        num_queries: case.num_queries,
+        ..SMALL
+    };
     let Opening {
         answer,
         held,
         challenger,
-    } = open_column(alloc, &E, 2)?;
+    } = open_column(alloc, setting, case.numbers, case.points)?;
     let Ok(opened) = answer else {
         return Err(Fail::new("the opening is refused"));
     };
-    let is_shown = has_counts(&opened.values, 2, 1) && has_counts(&opened.proof.0, 2, 4);
+    let num_points = case.points.len();
+    let is_shown = has_counts(&opened.values, num_points, 1)
+        && has_counts(&opened.proof.0, num_points, 4);
     let mut verifier = Sha256Challenger::new();
     let verified = <Scheme as Pcs<BabyBear4, Sha256Challenger>>::verify(
-        &scheme(),
+        &scheme_of(setting),
         alloc,
         opened.claims,
         &opened.proof,
@@ -94,34 +136,77 @@ fn is_opened(alloc: Global) -> Result<bool, Fail> {
 
 #[test]
 fn a_private_column_is_opened_and_accepted(rt: HostRuntime) -> Result<(), Fail> {
-    assert!(rt; is_opened(rt.alloc())?);
+    for case in &ACCEPTED {
+        assert!(rt; is_opened(rt.alloc(), case)?, "{case:?}");
+    }
     Ok(())
 }
 
-/// A budget that a column of 16 rows doesn't meet at two points.
-const LOW: HidingFriProverError = HidingFriProverError::HidingBudgetExceeded {
-    mask_height: 16,
-    num_queries: 2,
-    num_opening_points: 2,
-    extension_degree: 4,
-};
+/// Why a column of 16 rows isn't opened.
+#[derive(Clone, Copy, Debug)]
+struct Refused {
+    log_final_poly_len: usize,
+    points: &'static [[u64; 4]],
+    refusal: HidingFriProverError,
+}
 
-/// Whether a column of 16 rows is refused at two points, and its data and the challenger are left
-/// as they were.
-fn is_refused(alloc: Global) -> Result<bool, Fail> {
+/// The last point is that of the first row of the extended column.
+const REFUSED: [Refused; 4] = [
+    Refused {
+        log_final_poly_len: 0,
+        points: &POINTS,
+        refusal: HidingFriProverError::HidingBudgetExceeded {
+            mask_height: 16,
+            num_queries: 2,
+            num_opening_points: 2,
+            extension_degree: 4,
+        },
+    },
+    Refused {
+        log_final_poly_len: 5,
+        points: &POINTS,
+        refusal: HidingFriProverError::Fri(FriProverError::InputHeightTooSmall {
+            log_input_height: 7,
+            log_final_height: 7,
+        }),
+    },
+    Refused {
+        log_final_poly_len: usize::MAX,
+        points: &[[5, 0, 1, 0]],
+        refusal: HidingFriProverError::Fri(FriProverError::FinalHeightOverflow),
+    },
+    Refused {
+        log_final_poly_len: 0,
+        points: &[[31, 0, 0, 0]],
+        refusal: HidingFriProverError::Fri(FriProverError::PointInEvaluationDomain {
+            round: 0,
+            matrix: 0,
+            point: 0,
+        }),
+    },
+];
+
+/// Whether the column is refused so, and its data and the challenger are left as they were.
+fn is_refused(alloc: Global, case: &Refused) -> Result<bool, Fail> {
+    let setting = Setting {
+        log_final_poly_len: case.log_final_poly_len,
+        ..SMALL
+    };
     let Opening {
         answer,
         held,
         challenger,
-    } = open_column(alloc, &PI, 2)?;
+    } = open_column(alloc, setting, &PI, case.points)?;
     let Err(refusal) = answer else {
         return Err(Fail::new("opened"));
     };
-    Ok(refusal == LOW && !held.is_opened() && challenger == Sha256Challenger::new())
+    Ok(refusal == case.refusal && !held.is_opened() && challenger == Sha256Challenger::new())
 }
 
 #[test]
-fn points_past_the_budget_are_refused(rt: HostRuntime) -> Result<(), Fail> {
-    assert!(rt; is_refused(rt.alloc())?);
+fn what_does_not_pass_the_checks_is_left_as_it_was(rt: HostRuntime) -> Result<(), Fail> {
+    for case in &REFUSED {
+        assert!(rt; is_refused(rt.alloc(), case)?, "{case:?}");
+    }
     Ok(())
 }

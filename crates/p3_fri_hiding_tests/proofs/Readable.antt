@@ -18,7 +18,7 @@ use Rattle.p3_fri_completeness.specs.Requests.{held_in}
 use Rattle.p3_fri_random_openings.specs.Halves.{shown_of}
 use Rattle.p3_fri_commit.specs.Extension.{IsLowDegreeExtension}
 use Rattle.p3_fri_openings.specs.Committed.{committed, committed_column, committed_values}
-use Rattle.p3_fri_hiding.specs.declared.data.HidingFriPcsProverData.{HidingFriPcsProverData}
+use Rattle.p3_fri_hiding_prover.specs.declared.data.HidingFriPcsProverData.{HidingFriPcsProverData}
 use Rattle.p3_fri_hiding.specs.Commitments.{ExtendRandom}
 use Rattle.p3_fri_hiding.specs.Data.{IsOfScheme, CanRead, CanReadWhole, hidden_columns}
 use Rattle.p3_fri_hiding.specs.Data.{shown_polynomials}

@@ -2,10 +2,10 @@
 #![tactic(auto)]
 
 #[cfg(test)]
-mod always_one;
-#[cfg(test)]
 mod heights;
 #[cfg(test)]
 mod heights_joined;
 #[cfg(test)]
 mod proofs;
+#[cfg(test)]
+mod unsolved;

@@ -51,13 +51,3 @@ returns-clause-committed g c =
 
 pub returns-clause-recombined : goal.returns-clause-recombined
 returns-clause-recombined g c = c.in_ok-third.ensures.recombined
-
-pub commit_trace-requires : goal.commit_trace-requires
-commit_trace-requires g c =
-    g.met.P.Pcs.keeps_committable_law _ _ c.in_ok-first.ensures.kept _ c.requires.trace
-
-pub commit_quotient-requires : goal.commit_quotient-requires
-commit_quotient-requires g c =
-    let extendable = g.met.P.UnivariateStarkPcs.keeps_extendable_law in
-    extendable _ _ c.in_ok-second.ensures.kept _ _
-    (extendable _ _ c.in_ok-first.ensures.kept _ _ c.requires.quotient)

@@ -1,0 +1,113 @@
+//! The hiding scheme at these instances, and the plain one of the same parameters.
+
+ghost use Rattle.std.specs.Prelude.{◌≡◌, ◌<◌, ◌≤◌};
+ghost use Rattle.p3_fri_relation.specs.Views.{parameters_of};
+ghost use Rattle.p3_fri_two_adic.specs.Ranges.{InProverRange, InVerifierRange};
+
+use p3_dft::Radix2Dit;
+use p3_field::{BabyBear, BabyBear4, TwoAdicMultiplicativeCoset};
+use p3_fri_folding::FriParameters;
+use p3_fri_hiding::{HidingFriPcs, HidingFriPcsProverData};
+use p3_fri_pow::PowPhase;
+use p3_fri_relation::proof::{BatchMultiOpening, FriProof};
+use p3_fri_two_adic::TwoAdicFriPcs;
+use p3_mmcs::{Mmcs, OpenedValues, Sha256Mmcs};
+use rand_chacha::ChaCha20Rng;
+use rand_core::SeedableRng;
+
+pub type Inputs = Sha256Mmcs<BabyBear>;
+
+pub type Rounds = Sha256Mmcs<BabyBear4>;
+
+pub type Data = HidingFriPcsProverData<<Inputs as Mmcs<BabyBear>>::ProverData>;
+
+pub type Scheme = HidingFriPcs<BabyBear, Radix2Dit<BabyBear>, Inputs, Rounds, ChaCha20Rng>;
+
+pub type PlainScheme = TwoAdicFriPcs<BabyBear, Radix2Dit<BabyBear>, Inputs, Rounds>;
+
+pub type Domain = TwoAdicMultiplicativeCoset<BabyBear>;
+
+/// The random values, and the proof beside them.
+pub type Proof = (
+    OpenedValues<BabyBear4>,
+    FriProof<BabyBear4, Rounds, BabyBear, Vec<BatchMultiOpening<BabyBear, Inputs>>>,
+);
+
+/// What tests set of a scheme of a blowup of 4 that folds by two.
+#[derive(Clone, Copy, Debug)]
+pub struct Setting {
+    pub num_random_codewords: usize,
+    pub num_queries: usize,
+    pub log_final_poly_len: usize,
+    /// Where a proof of work of 3 bits is asked for.
+    pub work: Option<PowPhase>,
+}
+
+/// Four random codewords, two queries, folds to a constant, and no proof of work.
+pub const SMALL: Setting = Setting {
+    num_random_codewords: 4,
+    num_queries: 2,
+    log_final_poly_len: 0,
+    work: None,
+};
+
+/// The difficulty of that phase.
+fn bits(setting: Setting, phase: PowPhase) -> usize
+    ensures { result ≤ 3 }
+{
+    if setting.work == Some(phase) { 3 } else { 0 }
+}
+
+/// The parameters of both schemes.
+fn parameters(setting: Setting) -> FriParameters<Rounds>
+    ensures log_blowup { result.log_blowup ≡ 2 }
+    ensures prover_range { 0 < setting.num_queries → InProverRange (parameters_of result) 27 63 }
+    ensures verifier_range { setting.log_final_poly_len ≤ 31
+        → InVerifierRange (parameters_of result) 27 63 }
+{
+    FriParameters {
+        log_blowup: 2,
+        log_final_poly_len: setting.log_final_poly_len,
+        max_log_arity: 1,
+        num_queries: setting.num_queries,
+        batch_proof_of_work_bits: bits(setting, PowPhase::Batch),
+        commit_proof_of_work_bits: bits(setting, PowPhase::CommitPhase),
+        query_proof_of_work_bits: bits(setting, PowPhase::Query),
+        mmcs: Sha256Mmcs::new(),
+    }
+}
+
+/// The hiding scheme of that setting.
+pub fn scheme_of(setting: Setting) -> Scheme
+    ensures log_blowup { result.fri.log_blowup ≡ 2 }
+    ensures prover_range { 0 < setting.num_queries
+        → InProverRange (parameters_of result.fri) 27 63 }
+    ensures verifier_range { setting.log_final_poly_len ≤ 31
+        → InVerifierRange (parameters_of result.fri) 27 63 }
+{
+    HidingFriPcs::new(
+        Radix2Dit::default(),
+        Sha256Mmcs::new(),
+        parameters(setting),
+        setting.num_random_codewords,
+        ChaCha20Rng::from_seed([8; 32]),
+    )
+}
+
+/// That of `SMALL`.
+pub fn scheme() -> Scheme
+    ensures log_blowup { result.fri.log_blowup ≡ 2 }
+    ensures prover_range { InProverRange (parameters_of result.fri) 27 63 }
+    ensures verifier_range { InVerifierRange (parameters_of result.fri) 27 63 }
+{
+    scheme_of(SMALL)
+}
+
+/// The plain scheme of that setting, which has no random codewords.
+pub fn plain_scheme_of(setting: Setting) -> PlainScheme
+    ensures log_blowup { result.fri.log_blowup ≡ 2 }
+    ensures prover_range { 0 < setting.num_queries
+        → InProverRange (parameters_of result.fri) 27 63 }
+{
+    TwoAdicFriPcs::new(Radix2Dit::default(), Sha256Mmcs::new(), parameters(setting))
+}

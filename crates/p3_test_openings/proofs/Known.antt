@@ -1,0 +1,50 @@
+-- What is known of what was committed to.
+use Rattle.std.proofs.Common.{◌≡◌, ℕ, List, [], ◌∷◌, map, length, sym, ap, subst, ◌∙◌, arith}
+use Rattle.std.specs.List.{AllZip}
+use Rattle.p3_pcs.specs.declared.claims.KnownCommitment.{KnownCommitment}
+use Rattle.p3_pcs.specs.Requests.{Held}
+use Rattle.p3_stark_pcs.proofs.Batches.{domains_fit}
+use Rattle.p3_test_openings.specs.Known.{FitData}
+
+-- of one matrix on its domain
+module _ {E Domain Matrix : Type 0} (size : Domain → ℕ)
+    (Extends : Held E → Domain × Matrix → Type 0)
+    (extends_size : (m : Held E) (e : Domain × Matrix) → Extends m e → m.size ≡ size e.0) where
+  alone : (ms : List (Held E)) (e : Domain × Matrix) → AllZip Extends ms (e ∷ [])
+      → length ms ≡ 1
+  alone [] e h = absurd h
+  alone (m ∷ []) e h = omega arith
+  alone (m ∷ n ∷ ms) e h = absurd h.1
+
+  pub one_matrix : (ms : List (Held E)) (e : Domain × Matrix) (es : List (Domain × Matrix))
+      → es ≡ e ∷ [] → AllZip Extends ms es → length ms ≡ 1
+  one_matrix ms e es are extends =
+      alone ms e (subst (λ (xs : List (Domain × Matrix)). AllZip Extends ms xs) are extends)
+
+  pub fits : {D Com : Type 0} (held : D → List (Held E)) (commitment_of : D → Com)
+      (k : KnownCommitment Com Domain) (d : D) (e : Domain × Matrix)
+      (es : List (Domain × Matrix)) → es ≡ e ∷ [] → AllZip Extends (held d) es
+      → k.domains.items ≡ e.0 ∷ [] → commitment_of d ≡ k.commitment
+      → FitData held commitment_of size (k ∷ []) (d ∷ [])
+  fits held commitment_of k d e es es_are extends domains_are commitment =
+      let sizes = domains_fit size Extends extends_size (held d) es k.domains.items extends
+      (domains_are ∙ sym (ap (λ xs. map (λ e. e.0) xs) es_are)) in
+      record {
+        commitments = ap (λ c. c ∷ []) (sym commitment);
+        sizes = ap (λ ns. ns ∷ []) sizes;
+      }
+
+-- of two data, the first of which was known before
+pub fit_both : {D E Com Domain : Type 0} (size : Domain → ℕ) (old new : D → List (Held E))
+    (commitment_of : D → Com) (k l : KnownCommitment Com Domain) (d e : D)
+    (known : List (KnownCommitment Com Domain)) → known ≡ k ∷ l ∷ [] → new d ≡ old d
+    → FitData old commitment_of size (k ∷ []) (d ∷ [])
+    → FitData new commitment_of size (l ∷ []) (e ∷ [])
+    → FitData new commitment_of size known (d ∷ e ∷ [])
+fit_both {E = E} size old new commitment_of k l d e known are same first second =
+    let sizes = ap (λ (ms : List (Held E)). map (λ m. m.size) ms) same in
+    subst (λ ks. FitData new commitment_of size ks (d ∷ e ∷ [])) (sym are)
+    (record {
+      commitments = cc (first.commitments, second.commitments);
+      sizes = cc (first.sizes, second.sizes, sizes);
+    })

@@ -1,0 +1,142 @@
+//! Preprocessing and a private matrix, opened together by any scheme that a STARK prover uses.
+
+ghost use Rattle.std.specs.Prelude.{◌≡◌, [], ◌∷◌, length, IfOk};
+ghost use Rattle.p3_test_openings.specs.Known.{FitData};
+
+use crate::listed::{listed, pair};
+use crate::one::{Opened, commit_one};
+use crate::preprocessed::commit_preprocessed;
+use p3_matrix::RowMajorMatrix;
+use p3_pcs::{KnownCommitment, OpeningRequest, Verified, claims_of};
+use p3_stark_pcs::{UnivariateStarkPcs, open_and_verify_with_preprocessing};
+use std::alloc::Global;
+use std::test::Fail;
+
+/// What is known of commitments to a public matrix and to a private one, and their data.
+#[derive(Drop)]
+pub struct Both<Com, Domain, Data> {
+    pub known: Vec<KnownCommitment<Com, Domain>>,
+    pub preprocessed: Data,
+    pub private: Data,
+}
+
+/// Commits to both, preprocessing first, and both may be opened.
+pub fn commit_both<EF: Copy, C, P: UnivariateStarkPcs<EF, C>>(
+    scheme: &mut P,
+    alloc: Global,
+    preprocessed: (P::Domain, RowMajorMatrix<P::Val>),
+    private: (P::Domain, RowMajorMatrix<P::Val>),
+) -> Result<Both<P::Commitment, P::Domain, P::ProverData>, Fail>
+    requires preprocessed { P.CanCommit scheme.old (preprocessed ∷ []) }
+    requires private { P.CanCommit scheme.old (private ∷ []) }
+    ensures range { P.InProverRange scheme.old → P.InProverRange scheme.new }
+    ensures verifier_range { P.InVerifierRange scheme.old → P.InVerifierRange scheme.new }
+    ensures preprocessed { IfOk result (λ both.
+        P.CanOpenPreprocessed scheme.new both.preprocessed) }
+    ensures private { IfOk result (λ both. P.CanOpen scheme.new both.private) }
+    ensures honest { IfOk result (λ both.
+        P.IsHonest scheme.new both.preprocessed × P.IsHonest scheme.new both.private) }
+    ensures one_matrix { IfOk result (λ both.
+        (length (P.committed_polynomials scheme.new both.preprocessed) ≡ 1)
+        × (length (P.committed_polynomials scheme.new both.private) ≡ 1)) }
+    ensures known { IfOk result (λ both. FitData (P.committed_polynomials scheme.new)
+        P.commitment_of P.domain_size both.known.items
+        (both.preprocessed ∷ both.private ∷ [])) }
+{
+    let (first, preprocessed) = commit_preprocessed::<EF, C, P>(&mut *scheme, alloc, preprocessed)?;
+    let (second, private) = commit_one::<EF, C, P>(&mut *scheme, alloc, private)?;
+    let known = pair(alloc, first, second)?;
+    Ok(Both {
+        known,
+        preprocessed,
+        private,
+    })
+}
+
+/// Both opened at this point, preprocessing first, or why they aren't.
+pub fn open_both<EF: Copy, C, P: UnivariateStarkPcs<EF, C>>(
+    scheme: &P,
+    alloc: Global,
+    known: &[KnownCommitment<P::Commitment, P::Domain>],
+    preprocessed: &mut P::ProverData,
+    private: &mut P::ProverData,
+    point: EF,
+    challenger: &mut C,
+) -> Result<Result<Opened<EF, P::Commitment, P::Domain, P::Proof>, P::ProverError>, Fail>
+    requires prover { P.InProverRange scheme.now }
+    requires preprocessed { P.CanOpenPreprocessed scheme.now preprocessed.old }
+    requires private { P.CanOpen scheme.now private.old }
+    requires one_preprocessed { length (P.committed_polynomials scheme.now preprocessed.old) ≡ 1 }
+    requires one_private { length (P.committed_polynomials scheme.now private.old) ≡ 1 }
+{
+    let first = OpeningRequest {
+        prover_data: preprocessed,
+        points: listed(alloc, listed(alloc, point)?)?,
+    };
+    let second = OpeningRequest {
+        prover_data: private,
+        points: listed(alloc, listed(alloc, point)?)?,
+    };
+    let mut requests = pair(alloc, first, second)?;
+    let answer = scheme.open_with_preprocessing(
+        alloc,
+        requests.as_mut_slice(),
+        challenger,
+        Some(0),
+    );
+    let (values, proof) = match answer {
+        Ok(opening) => opening,
+        Err(refusal) => return Ok(Err(refusal)),
+    };
+    let claims = claims_of(alloc, known, &requests, &values)?;
+    Ok(Ok(Opened {
+        values,
+        proof,
+        claims,
+    }))
+}
+
+/// Both opened at this point, preprocessing first, and verified.
+pub fn show_both<EF: Copy, C: Clone, P: UnivariateStarkPcs<EF, C>>(
+    scheme: &P,
+    alloc: Global,
+    known: &[KnownCommitment<P::Commitment, P::Domain>],
+    preprocessed: &mut P::ProverData,
+    private: &mut P::ProverData,
+    point: EF,
+    challenger: &mut C,
+) -> Result<Verified<EF, P::Proof, C>, Fail>
+    requires copies { (x y : C) → C.is_clone x y → y ≡ x }
+    requires prover { P.InProverRange scheme.now }
+    requires verifier { P.InVerifierRange scheme.now }
+    requires preprocessed { P.CanOpenPreprocessed scheme.now preprocessed.old }
+    requires private { P.CanOpen scheme.now private.old }
+    requires preprocessed_honest { P.IsHonest scheme.now preprocessed.old }
+    requires private_honest { P.IsHonest scheme.now private.old }
+    requires one_preprocessed { length (P.committed_polynomials scheme.now preprocessed.old) ≡ 1 }
+    requires one_private { length (P.committed_polynomials scheme.now private.old) ≡ 1 }
+    requires known { FitData (P.committed_polynomials scheme.now) P.commitment_of P.domain_size
+        known.now (preprocessed.old ∷ private.old ∷ []) }
+{
+    let first = OpeningRequest {
+        prover_data: preprocessed,
+        points: listed(alloc, listed(alloc, point)?)?,
+    };
+    let second = OpeningRequest {
+        prover_data: private,
+        points: listed(alloc, listed(alloc, point)?)?,
+    };
+    let mut requests = pair(alloc, first, second)?;
+    let opened = open_and_verify_with_preprocessing(
+        scheme,
+        alloc,
+        known,
+        requests.as_mut_slice(),
+        challenger,
+        Some(0),
+    );
+    match opened {
+        Ok(verified) => Ok(verified),
+        Err(_) => Err(Fail::new("not accepted")),
+    }
+}
