@@ -1,6 +1,6 @@
 //! Runs of the commands, each with what it must write and answer.
 
-use fri_commands::{report_out_of_memory, run};
+use fri_commands::{WRITE_FAILED, report_out_of_memory, run};
 use std::alloc::Global;
 use std::io;
 use std::io::{ErrorKind, Write};
@@ -183,51 +183,92 @@ fn no_arguments(rt: HostRuntime) {
     assert!(rt; err.as_slice() == "fri_run: bad command\n".as_bytes());
 }
 
-/// A writer with room for so many bytes, a byte at a time, that may fail to flush them.
+/// A writer that takes a byte at a time, counts its calls, and fails at the one after so many.
 #[derive(Drop)]
-struct Disk {
-    room: usize,
-    can_flush: bool,
+struct Counting {
+    calls: usize,
+    fails_after: usize,
 }
 
-impl Write for Disk {
-    fn write(&mut self, buf: &[u8]) -> io::Result<usize> {
-        if buf.is_empty() {
-            return Ok(0);
+impl Counting {
+    fn new(fails_after: usize) -> Self {
+        Counting {
+            calls: 0,
+            fails_after,
         }
-        if self.room == 0 {
+    }
+
+    fn call(&mut self) -> io::Result<()> {
+        let fails = self.calls == self.fails_after;
+        self.calls = self.calls.saturating_add(1);
+        if fails {
             return Err(io::Error::from(ErrorKind::StorageFull));
         }
-        self.room -= 1;
-        Ok(1)
+        Ok(())
+    }
+}
+
+impl Write for Counting {
+    fn write(&mut self, buf: &[u8]) -> io::Result<usize> {
+        self.call()?;
+        Ok(buf.len().min(1))
     }
 
     fn flush(&mut self) -> io::Result<()> {
-        if self.can_flush {
-            Ok(())
-        } else {
-            Err(io::Error::from(ErrorKind::BrokenPipe))
-        }
+        self.call()
     }
 }
 
+/// A run's status, and how often it calls the stream that it writes to, and the other one. Each
+/// fails after so many calls.
+fn calls_of(
+    alloc: Global,
+    line: &str,
+    to_output: bool,
+    fails_after: usize,
+) -> io::Result<(u8, usize, usize)> {
+    let args = words(alloc, line)?;
+    let (mut out, mut err) = (Counting::new(fails_after), Counting::new(fails_after));
+    let status = run(alloc, &args, &mut out, &mut err);
+    let (own, other) = if to_output {
+        (out.calls, err.calls)
+    } else {
+        (err.calls, out.calls)
+    };
+    Ok((status, own, other))
+}
+
+/// Whether the run ends with this status after so many calls of one stream, and with 4 after the
+/// first of them that fails.
+fn ends_at_failures(alloc: Global, line: &str, status: u8, calls: usize) -> io::Result<bool> {
+    let to_output = status == 0;
+    for fails_after in 0..calls {
+        let expected = (WRITE_FAILED, fails_after + 1, 0);
+        if calls_of(alloc, line, to_output, fails_after)? != expected {
+            return Ok(false);
+        }
+    }
+    Ok(calls_of(alloc, line, to_output, calls)? == (status, calls, 0))
+}
+
+/// Each command and each kind of fault with its status and its calls: one for each byte, and one to
+/// flush.
+const CALLS: [(&str, u8, usize); 6] = [
+    ("schedule 10,6 2 3", 0, 9),
+    ("fold 0 3,5 1,1,2013265920,2013265920", 0, 7),
+    ("prove 1 0 5 1,3", 0, 34),
+    ("prove 1 0 31 1,3", 1, 46),
+    ("schedule 10 2 0", 2, 18),
+    ("prove 1 0 5", 2, 22),
+];
+
 #[test]
 fn failed_writes(rt: HostRuntime) -> io::Result<()> {
-    // `3 1 3 1` and its line feed are 8 bytes.
-    for (room, can_flush, status) in [(0, true, 4), (7, true, 4), (8, true, 0), (8, false, 4)] {
-        let args = words(rt.alloc(), "schedule 10,6 2 3")?;
-        let mut out = Disk { room, can_flush };
-        let mut err: Vec<u8> = Vec::new(rt.alloc());
-        assert_eq!(rt; run(rt.alloc(), &args, &mut out, &mut err), status);
-        assert!(rt; err.is_empty());
-    }
-    // `fri_run: bad cap` and its line feed are 17 bytes.
-    for (room, can_flush, status) in [(0, true, 4), (16, true, 4), (17, true, 2), (17, false, 4)] {
-        let args = words(rt.alloc(), "schedule 10 2 0")?;
-        let mut out: Vec<u8> = Vec::new(rt.alloc());
-        let mut err = Disk { room, can_flush };
-        assert_eq!(rt; run(rt.alloc(), &args, &mut out, &mut err), status);
-        assert!(rt; out.is_empty());
+    for (line, status, calls) in &CALLS {
+        assert!(rt;
+            ends_at_failures(rt.alloc(), *line, *status, *calls)?,
+            "{line}"
+        );
     }
     Ok(())
 }
@@ -237,10 +278,10 @@ fn want_of_memory(rt: HostRuntime) {
     let mut err: Vec<u8> = Vec::new(rt.alloc());
     assert_eq!(rt; report_out_of_memory(&mut err), 3);
     assert!(rt; err.as_slice() == "fri_run: out of memory\n".as_bytes());
-    // The line and its line feed are 23 bytes.
-    let mut full = Disk {
-        room: 22,
-        can_flush: true,
-    };
-    assert_eq!(rt; report_out_of_memory(&mut full), 4);
+    // The line and its line feed are 23 bytes, and are flushed.
+    for fails_after in 0..24 {
+        let mut failing = Counting::new(fails_after);
+        let status = report_out_of_memory(&mut failing);
+        assert!(rt; status == WRITE_FAILED && failing.calls == fails_after + 1);
+    }
 }
