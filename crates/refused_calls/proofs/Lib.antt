@@ -1,0 +1,3 @@
+pub mod Chunks
+pub mod Lists
+pub mod Requests

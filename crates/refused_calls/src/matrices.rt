@@ -1,0 +1,82 @@
+//! What the calls are made on.
+
+ghost use Rattle.std.specs.Prelude.{◌≡◌, ◌≤◌, ◌^◌, [], ◌∷◌, IfOk, length};
+ghost use Rattle.p3_matrix.specs.Matrix.{rows, matrix_width};
+
+use crate::answer::{Fault, Result};
+use p3_field::{
+    BabyBear, BabyBear4, ExtensionField, Field, TwoAdicMultiplicativeCoset, shifted_powers,
+};
+use p3_matrix::RowMajorMatrix;
+use std::alloc::{AllocError, Global};
+
+pub type Domain = TwoAdicMultiplicativeCoset<BabyBear>;
+
+/// Matrices, each beside the coset that its columns are functions on.
+pub type Evaluations = Vec<(Domain, RowMajorMatrix<BabyBear>)>;
+
+/// A list of one value.
+pub fn one_of<T: Drop>(alloc: Global, value: T) -> std::result::Result<Vec<T>, AllocError>
+    ensures { IfOk result (λ all. all.items ≡ value ∷ []) }
+{
+    let mut all = Vec::with_capacity(alloc, 1)?;
+    all.push(value)?;
+    Ok(all)
+}
+
+/// A list of two values.
+pub fn two_of<T: Drop>(
+    alloc: Global,
+    first: T,
+    second: T,
+) -> std::result::Result<Vec<T>, AllocError>
+    ensures { IfOk result (λ all. all.items ≡ first ∷ second ∷ []) }
+{
+    let mut all = Vec::with_capacity(alloc, 2)?;
+    all.push(first)?;
+    all.push(second)?;
+    Ok(all)
+}
+
+/// `2^log_height` rows of this width, of powers of the generator.
+pub fn matrix(alloc: Global, log_height: usize, width: usize) -> Result<RowMajorMatrix<BabyBear>>
+    ensures height { IfOk result (λ m. length (rows m) ≡ 2 ^ log_height) }
+    ensures width { IfOk result (λ m. matrix_width m ≡ width) }
+{
+    if width == 0 || width > 8 || log_height > 8 {
+        return Err(Fault::Inputs);
+    }
+    let (height, generator) = (1 << log_height, BabyBear::GENERATOR);
+    let values = shifted_powers(alloc, generator, generator, height * width)?;
+    if values.len() % width != 0 {
+        return Err(Fault::Inputs);
+    }
+    let matrix = RowMajorMatrix::new(values, width);
+    if matrix.height() != height {
+        return Err(Fault::Inputs);
+    }
+    Ok(matrix)
+}
+
+/// The coset of this shift of `2^log_size` points.
+pub fn coset(shift: u64, log_size: usize) -> Result<Domain>
+    ensures { IfOk result (λ domain. domain.log_size ≡ log_size) }
+{
+    Domain::new(BabyBear::from_u64(shift), log_size).ok_or(Fault::Inputs)
+}
+
+/// For each of so many matrices so many points, which lie in no coset of the base field.
+pub fn points(
+    alloc: Global,
+    num_matrices: usize,
+    num_points: usize,
+) -> std::result::Result<Vec<Vec<BabyBear4>>, AllocError>
+    ensures { IfOk result (λ all. length all.items ≡ num_matrices) }
+{
+    let point = BabyBear4::GENERATOR;
+    let mut all = Vec::with_capacity(alloc, num_matrices)?;
+    for _matrix in 0..num_matrices {
+        all.push(shifted_powers(alloc, point, point, num_points)?)?;
+    }
+    Ok(all)
+}

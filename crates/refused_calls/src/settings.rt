@@ -1,0 +1,135 @@
+//! The two schemes with what their calls are made on.
+
+ghost use Rattle.std.specs.Prelude.{◌≡◌, ◌<◌, All, IfOk, length};
+ghost use Rattle.p3_field.specs.BabyBear.{baby_bear};
+ghost use Rattle.p3_fri_commit.specs.Extension.{FitsDomain};
+ghost use Rattle.p3_fri_hiding.specs.Quotients.{CanExtend};
+ghost use Rattle.p3_fri_hiding.specs.Trace.{FitsMasked};
+ghost use Rattle.p3_fri_relation.specs.Views.{parameters_of};
+ghost use Rattle.p3_fri_two_adic.specs.Ranges.{InProverRange, InVerifierRange};
+
+use crate::answer::{Fault, Name, Result};
+use crate::matrices::{Evaluations, coset, matrix, two_of};
+use crate::schemes::{Calls, Marked};
+use p3_dft::Radix2Dit;
+use p3_field::{BabyBear, BabyBear4, Field};
+use p3_fri_folding::FriParameters;
+use p3_fri_hiding::{HidingFriPcs, HidingFriPcsProverData};
+use p3_fri_quotient_masks::are_disjoint;
+use p3_fri_two_adic::TwoAdicFriPcs;
+use p3_mmcs::{Sha256Mmcs, Sha256ProverData};
+use rand_chacha::ChaCha20Rng;
+use rand_core::SeedableRng;
+use std::alloc::Global;
+
+type Inputs = Sha256Mmcs<BabyBear>;
+
+type Rounds = Sha256Mmcs<BabyBear4>;
+
+type Plain = TwoAdicFriPcs<BabyBear, Radix2Dit<BabyBear>, Inputs, Rounds>;
+
+type Hiding = HidingFriPcs<BabyBear, Radix2Dit<BabyBear>, Inputs, Rounds, ChaCha20Rng>;
+
+/// Two queries, rounds that fold by two to a constant, and a proof of work of one bit everywhere.
+fn parameters(log_blowup: usize) -> FriParameters<Rounds>
+    ensures log_blowup { result.log_blowup ≡ log_blowup }
+    ensures log_final_poly_len { result.log_final_poly_len ≡ 0 }
+    ensures cap { result.max_log_arity ≡ 1 }
+    ensures queries { result.num_queries ≡ 2 }
+    ensures batch_bits { result.batch_proof_of_work_bits ≡ 1 }
+    ensures commit_bits { result.commit_proof_of_work_bits ≡ 1 }
+    ensures query_bits { result.query_proof_of_work_bits ≡ 1 }
+{
+    FriParameters {
+        log_blowup,
+        log_final_poly_len: 0,
+        max_log_arity: 1,
+        num_queries: 2,
+        batch_proof_of_work_bits: 1,
+        commit_proof_of_work_bits: 1,
+        query_proof_of_work_bits: 1,
+        mmcs: Rounds::new(),
+    }
+}
+
+/// The plain scheme, with a blowup of 2.
+fn plain() -> Plain
+    ensures log_blowup { result.fri.log_blowup ≡ 1 }
+    ensures prover { InProverRange (parameters_of result.fri) 27 63 }
+    ensures verifier { InVerifierRange (parameters_of result.fri) 27 63 }
+{
+    Plain::new(Radix2Dit::default(), Inputs::new(), parameters(1))
+}
+
+/// The hiding scheme, with a blowup of 4 and 4 random codewords.
+fn hiding() -> Hiding
+    ensures log_blowup { result.fri.log_blowup ≡ 2 }
+    ensures prover { InProverRange (parameters_of result.fri) 27 63 }
+    ensures verifier { InVerifierRange (parameters_of result.fri) 27 63 }
+{
+    let rng = ChaCha20Rng::from_seed([8; 32]);
+    Hiding::new(Radix2Dit::default(), Inputs::new(), parameters(2), 4, rng)
+}
+
+impl Marked for Sha256ProverData<BabyBear> {
+    fn mark(&self) -> &'static str {
+        ""
+    }
+}
+
+impl<T> Marked for HidingFriPcsProverData<T> {
+    fn mark(&self) -> &'static str {
+        if self.is_opened() {
+            ", opened"
+        } else {
+            ", not opened"
+        }
+    }
+}
+
+/// Two columns and one, that the plain scheme commits to.
+fn plain_columns(alloc: Global) -> Result<Evaluations>
+    ensures fit { IfOk result (λ all. All (λ e. FitsDomain 27 1 e.0.log_size e.1) all.items) }
+    ensures some { IfOk result (λ all. 0 < length all.items) }
+{
+    let first = (coset(1, 3)?, matrix(alloc, 3, 2)?);
+    let second = (coset(3, 1)?, matrix(alloc, 1, 1)?);
+    Ok(two_of(alloc, first, second)?)
+}
+
+/// Two columns and one, that the hiding scheme commits to: masks of 16 rows hide one point.
+fn hiding_columns(alloc: Global) -> Result<Evaluations>
+    ensures fit { IfOk result (λ all. All (λ e. FitsMasked 27 2 e.0.log_size e.1) all.items) }
+    ensures some { IfOk result (λ all. 0 < length all.items) }
+{
+    let first = (coset(1, 6)?, matrix(alloc, 5, 2)?);
+    let second = (coset(3, 5)?, matrix(alloc, 4, 1)?);
+    Ok(two_of(alloc, first, second)?)
+}
+
+/// Two chunks of a quotient, on the halves of a coset, that either scheme extends.
+fn chunks(alloc: Global) -> Result<Evaluations>
+    ensures plain { IfOk result (λ all. All (λ e. FitsDomain 27 1 e.0.log_size e.1) all.items) }
+    ensures hiding { IfOk result (λ all. CanExtend baby_bear (λ d. d.shift) (λ d. d.log_size)
+        27 2 all.items (length all.items)) }
+{
+    let (first, second) = (coset(31, 4)?, coset(1_414_256_219, 4)?);
+    if !are_disjoint(&[first, second]) {
+        return Err(Fault::Inputs);
+    }
+    let (upper, lower) = (matrix(alloc, 4, 1)?, matrix(alloc, 4, 1)?);
+    let all = two_of(alloc, (first, upper), (second, lower))?;
+    Ok(all)
+}
+
+/// Makes the plain scheme's call of this name.
+pub fn make_plain(rt: &HostRuntime, name: Name<'_>) -> Result<()> {
+    let (columns, chunks) = (plain_columns(rt.alloc())?, chunks(rt.alloc())?);
+    Calls::<Plain>::make(rt, name, &mut plain(), columns, chunks, coset(5, 2)?)
+}
+
+/// Makes the hiding scheme's call of this name.
+pub fn make_hiding(rt: &HostRuntime, name: Name<'_>) -> Result<()> {
+    let (columns, chunks) = (hiding_columns(rt.alloc())?, chunks(rt.alloc())?);
+    Calls::<Hiding>::make(rt, name, &mut hiding(), columns, chunks, coset(5, 2)?)
+}

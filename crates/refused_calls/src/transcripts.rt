@@ -1,0 +1,80 @@
+//! The beginnings of transcripts.
+
+use crate::answer::{Fault, Name, Result, drawn, kept, tell};
+use crate::matrices::{one_of, two_of};
+use p3_challenger::Sha256Challenger;
+use p3_challenger::fs::{Prover, Verifier};
+use p3_field::{BabyBear, BabyBear4};
+use p3_fri_pcs_transcript::pcs_transcript::{PcsShape, PcsTranscript};
+use p3_fri_transcript::transcript::{FriShape, FriTranscript};
+use std::alloc::{AllocError, Global};
+
+type Transcript<'a, Side> = FriTranscript<'a, Side, Sha256Challenger, BabyBear, BabyBear4>;
+
+type OpeningTranscript<'a, Side> = PcsTranscript<'a, Side, Sha256Challenger, BabyBear, BabyBear4>;
+
+/// The shape of two rounds, with proofs of work.
+fn shape(alloc: Global) -> Result<FriShape> {
+    Ok(FriShape {
+        log_arities: two_of(alloc, 3, 1)?,
+        final_poly_len: 1,
+        commit_pow_bits: 1,
+        query_pow_bits: 1,
+        num_queries: 4,
+        index_bits: 5,
+        log_blowup: 1,
+        max_log_arity: 3,
+    })
+}
+
+/// The shape of two matrices, of which the first is opened at two points.
+fn pcs_shape(alloc: Global) -> Result<PcsShape> {
+    let matrices = two_of(alloc, two_of(alloc, 2, 2)?, one_of(alloc, 3)?)?;
+    Ok(PcsShape {
+        claimed_evaluation_counts: one_of(alloc, matrices)?,
+        batch_pow_bits: 1,
+    })
+}
+
+/// Prints whether a transcript began, and what it leaves of the challenger.
+fn tell_begun(
+    rt: &HostRuntime,
+    name: Name<'_>,
+    begun: std::result::Result<(), AllocError>,
+    mut challenger: Sha256Challenger,
+) -> Result<()> {
+    let left = kept(&challenger);
+    let next = drawn(&mut challenger);
+    tell(rt, name, &begun.map(|()| next), [left, ""])
+}
+
+/// Begins a side's transcript of the low-degree test.
+fn begin<Side>(rt: &HostRuntime, name: Name<'_>) -> Result<()> {
+    let (shape, mut challenger) = (shape(rt.alloc())?, Sha256Challenger::new());
+    let begun = match Transcript::<'_, Side>::new(rt.alloc(), &mut challenger, shape) {
+        Ok(transcript) => Ok(transcript.abort()),
+        Err(refusal) => Err(refusal),
+    };
+    tell_begun(rt, name, begun, challenger)
+}
+
+/// Begins a side's transcript of an opening.
+fn begin_pcs<Side>(rt: &HostRuntime, name: Name<'_>) -> Result<()> {
+    let (shape, mut challenger) = (pcs_shape(rt.alloc())?, Sha256Challenger::new());
+    let begun = match OpeningTranscript::<'_, Side>::new(rt.alloc(), &mut challenger, shape) {
+        Ok(transcript) => Ok(transcript.abort()),
+        Err(refusal) => Err(refusal),
+    };
+    tell_begun(rt, name, begun, challenger)
+}
+
+/// Makes the transcript of this name.
+pub fn make(rt: &HostRuntime, name: Name<'_>) -> Result<()> {
+    match name.1 {
+        "prover" => begin::<Prover>(rt, name),
+        "verifier" => begin::<Verifier>(rt, name),
+        "pcs_prover" => begin_pcs::<Prover>(rt, name),
+        "pcs_verifier" => begin_pcs::<Verifier>(rt, name),
+        _ => Err(Fault::Name),
+    }
+}

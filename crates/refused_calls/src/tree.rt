@@ -1,0 +1,48 @@
+//! Calls of the tree over SHA-256.
+
+use crate::answer::{Fault, Name, Result, tell};
+use crate::matrices::{matrix, two_of};
+use p3_field::BabyBear;
+use p3_mmcs::{Mmcs, Sha256Mmcs, indices_are_below};
+use std::alloc::AllocError;
+
+type Tree = Sha256Mmcs<BabyBear>;
+
+type Committed = ([u8; 32], <Tree as Mmcs<BabyBear>>::ProverData);
+
+/// A commitment to two matrices of two heights, or the refusal of the call.
+fn committed(rt: &HostRuntime) -> Result<std::result::Result<Committed, AllocError>> {
+    let alloc = rt.alloc();
+    let (first, second) = (matrix(alloc, 3, 2)?, matrix(alloc, 1, 1)?);
+    let matrices = two_of(alloc, first, second)?;
+    Ok(Tree::new().commit(alloc, matrices))
+}
+
+fn commit(rt: &HostRuntime, name: Name<'_>) -> Result<()> {
+    let answer = committed(rt)?;
+    tell(
+        rt,
+        name,
+        &answer.map(|(commitment, _)| commitment),
+        ["", ""],
+    )
+}
+
+fn open_multi_batch(rt: &HostRuntime, name: Name<'_>) -> Result<()> {
+    let (_, held) = committed(rt)??;
+    let indices = [5, 0, 5];
+    if !indices_are_below(&indices, Tree::new().get_max_height(&held)) {
+        return Err(Fault::Inputs);
+    }
+    let answer = Tree::new().open_multi_batch(rt.alloc(), &indices, &held);
+    tell(rt, name, &answer, ["", ""])
+}
+
+/// Makes the call of this name.
+pub fn make(rt: &HostRuntime, name: Name<'_>) -> Result<()> {
+    match name.1 {
+        "commit" => commit(rt, name),
+        "open_multi_batch" => open_multi_batch(rt, name),
+        _ => Err(Fault::Name),
+    }
+}
