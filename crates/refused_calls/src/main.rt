@@ -9,6 +9,7 @@
 
 mod answer;
 mod converse;
+mod forms;
 mod matrices;
 mod schemes;
 mod settings;
@@ -20,7 +21,7 @@ use std::env;
 use std::process::ExitCode;
 
 /// All calls, by what they belong to.
-const CALLS: [Name<'static>; 25] = [
+const CALLS: [Name<'static>; 26] = [
     ("plain", "commit"),
     ("plain", "open"),
     ("plain", "open_at_two_points"),
@@ -41,6 +42,7 @@ const CALLS: [Name<'static>; 25] = [
     ("transcript", "pcs_verifier"),
     ("tree", "commit"),
     ("tree", "open_multi_batch"),
+    ("proof", "from_plain"),
     ("converse", "unfold"),
     ("converse", "unfold_with_input"),
     ("converse", "unbatch"),
@@ -55,6 +57,7 @@ fn make(rt: &HostRuntime, name: Name<'_>) -> Result<()> {
         "hiding" => settings::make_hiding(rt, name),
         "transcript" => transcripts::make(rt, name),
         "tree" => tree::make(rt, name),
+        "proof" => forms::make(rt, name),
         "converse" => converse::make(rt, name),
         _ => Err(Fault::Name),
     }
