@@ -3,9 +3,9 @@
 //! fresh challenger. serde's formats write and read the records.
 //!
 //! Whatever comes from outside is tested and refused by name, with its place. No call halts. What a
-//! call takes of time and memory follows from the request: an opening makes `2^log_blowup` values of
-//! each that is committed to, and tries some `2^b` witnesses for a proof of work of `b` bits, at most
-//! all elements of BabyBear.
+//! call takes of time and memory follows from the request: an opening makes `2^log_blowup` values
+//! of each that is committed to, and tries some `2^b` witnesses for a proof of work of `b` bits, at
+//! most all elements of BabyBear.
 #![tactic(auto)]
 
 mod claims;

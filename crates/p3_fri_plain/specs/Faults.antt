@@ -3,7 +3,12 @@ use Rattle.std.specs.Prelude.{ℕ, List, ◌≡◌, ◌≢◌, ◌≤◌, ◌⊎
 use Rattle.std.specs.List.{Any}
 use Rattle.p3_fri_relation.specs.Setting.{InputOpening, RoundOpening}
 use Rattle.p3_fri_plain.specs.declared.error.PlainProofError.{PlainProofError}
-use Rattle.p3_fri_plain.specs.declared.error.PlainProofError.TheVariants.{ElementOutOfRange, ElementLength, DigestLength, OutOfMemory}
+use Rattle.p3_fri_plain.specs.declared.error.PlainProofError.TheVariants.{
+  ElementOutOfRange,
+  ElementLength,
+  DigestLength,
+  OutOfMemory,
+}
 use Rattle.p3_fri_plain.specs.Numbers.{Digest, Paths, ProofNumbers, HidingNumbers}
 
 -- none of these faults is shown

@@ -1,4 +1,5 @@
-//! What comes of a value by way of its plain form, and of a form by way of its value: laws as calls.
+//! What comes of a value by way of its plain form, and of a form by way of its value: laws as
+//! calls.
 
 ghost use Rattle.std.specs.Prelude.{◌≡◌, ◌≢◌, IfOk, IfErr};
 ghost use Rattle.p3_fri_plain.specs.declared.error.PlainProofError.TheVariants.{OutOfMemory};

@@ -17,7 +17,8 @@ use p3_test_openings::one::Opened;
 use std::alloc::Global;
 use std::test::Fail;
 
-/// A commitment to random polynomials on one domain of 32 points, and its data, which may be opened.
+/// A commitment to random polynomials on one domain of 32 points, and its data, which may be
+/// opened.
 fn commit_random(scheme: &mut Scheme, alloc: Global) -> Result<([u8; 32], Data), Fail>
     requires { scheme.old.fri.log_blowup ≡ 2 }
     ensures kept { scheme.new ≡ record scheme.old { rng = scheme.new.rng } }
