@@ -1,7 +1,9 @@
 //! Times the hiding commitment to a matrix, beside the plain one to a matrix of the same size as
 //! the masked one, and the drawing of as many random elements as the masks take.
 
-ghost use Rattle.std.specs.Prelude.{◌<◌};
+ghost use Rattle.std.specs.Prelude.{◌≡◌, ◌<◌};
+ghost use Rattle.p3_fri_relation.specs.Views.{parameters_of};
+ghost use Rattle.p3_fri_two_adic.specs.Ranges.{InProverRange, InVerifierRange};
 
 use crate::scheme::{Scheme, commit};
 use crate::stages::{Inputs, matrix_of};
@@ -14,14 +16,29 @@ use p3_fri_masks::random_values;
 use rand_chacha::ChaCha20Rng;
 use rand_core::SeedableRng;
 
-type Hiding = HidingFriPcs<BabyBear, Radix2Dit<BabyBear>, Inputs, Rounds, ChaCha20Rng>;
+pub type Hiding = HidingFriPcs<BabyBear, Radix2Dit<BabyBear>, Inputs, Rounds, ChaCha20Rng>;
 
 /// How many rows are opened of each commitment.
-const QUERIES: usize = 100;
+pub const QUERIES: usize = 100;
 
 /// The generator of all that is random.
 fn generator() -> ChaCha20Rng {
     ChaCha20Rng::from_seed([7; 32])
+}
+
+/// The hiding scheme of so many random codewords.
+pub fn hiding_scheme(codewords: usize) -> Hiding
+    ensures blowup { result.fri.log_blowup ≡ 1 }
+    ensures prover { InProverRange (parameters_of result.fri) 27 63 }
+    ensures verifier { InVerifierRange (parameters_of result.fri) 27 63 }
+{
+    Hiding::new(
+        Radix2Dit::default(),
+        Inputs::new(),
+        parameters(1, QUERIES, 1),
+        codewords,
+        generator(),
+    )
 }
 
 /// Commits to one matrix of `2^log_height` rows, masked.
@@ -35,14 +52,7 @@ fn commit_masked(
     let matrix = matrix_of(rt.alloc(), log_height, width)?;
     let domain = Domain::new(BabyBear::ONE, log_height + 1).ok_or(Fault::Sizes)?;
     let evaluations = vec![in rt.alloc(); (domain, matrix)]?;
-    let (inputs, parameters) = (Inputs::new(), parameters(1, QUERIES, 1));
-    let mut scheme = Hiding::new(
-        Radix2Dit::default(),
-        inputs,
-        parameters,
-        codewords,
-        generator(),
-    );
+    let mut scheme = hiding_scheme(codewords);
     let made = timed!(rt, watch; scheme.commit::<BabyBear4>(rt.alloc(), evaluations));
     made.map(|_| ()).map_err(|_| Fault::Refused)
 }

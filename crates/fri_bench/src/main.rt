@@ -3,6 +3,7 @@
 #![tactic(auto)]
 
 mod hiding;
+mod openings;
 mod scheme;
 mod stages;
 mod verifier;
@@ -19,6 +20,7 @@ fri_bench fold LOG_SIZE [REPEATS]
 fri_bench rounds LOG_SIZE LOG_CAP [REPEATS]
 fri_bench scheme LOG_HEIGHT WIDTH LOG_BLOWUP QUERIES LOG_CAP [REPEATS]
 fri_bench hiding LOG_HEIGHT WIDTH CODEWORDS [REPEATS]
+fri_bench openings LOG_HEIGHT WIDTH CODEWORDS [REPEATS]
 fri_bench verifier LOG_HEIGHT WIDTH QUERIES LOG_CAP [REPEATS]
 fri_bench figures [REPEATS]";
 
@@ -58,6 +60,7 @@ fn run(rt: &HostRuntime, args: &[String]) -> Result<()> {
         "rounds" => verifier::rounds(rt, read(others, 5)?),
         "scheme" => scheme::print(rt, read(others, 5)?),
         "hiding" => hiding::print(rt, read(others, 5)?),
+        "openings" => openings::print(rt, read(others, 5)?),
         "verifier" => verifier::print(rt, read(others, 5)?),
         "figures" => figures(rt, read::<0>(others, 5)?.1),
         _ => stages::extension(rt, read(args, 5)?),

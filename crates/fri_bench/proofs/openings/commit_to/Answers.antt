@@ -1,0 +1,7 @@
+use Rattle.p3_test_openings.proofs.Known.{one_matrix}
+use Rattle.fri_bench.proofs.openings.commit_to.Goals as goal
+
+pub returns-clause-one_matrix : goal.returns-clause-one_matrix
+returns-clause-one_matrix g c =
+    one_matrix g.P.Pcs.domain_size _ (g.met.P.Pcs.extends_size_law _) _ _ _
+    c.in_ok-evaluations.ensures c.in-Ok.ensures.extends
