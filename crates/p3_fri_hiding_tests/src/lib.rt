@@ -1,5 +1,6 @@
 //! Tests of `p3_fri_hiding`, at BabyBear, its quartic extension, SHA-256 and ChaCha: what it
-//! commits to, what it opens, and, with the quotient and the random polynomials of a STARK prover, both.
+//! commits to, what it opens, and both, with the quotient and the random polynomials of a STARK
+//! prover.
 #![tactic(auto)]
 
 #[cfg(test)]
