@@ -50,18 +50,34 @@ fn figures(rt: &HostRuntime, repeats: usize) -> Result<()> {
     Ok(())
 }
 
+/// Times the pieces by themselves.
+fn run_piece(rt: &HostRuntime, name: &str, sizes: &[String]) -> Result<()> {
+    match name {
+        "transform" => stages::transform(rt, read(sizes, 5)?),
+        "tree" => stages::tree(rt, read(sizes, 5)?),
+        "fold" => stages::fold(rt, read(sizes, 9)?),
+        "rounds" => verifier::rounds(rt, read(sizes, 5)?),
+        _ => Err(Fault::Usage),
+    }
+}
+
+/// Times the schemes and the verifier.
+fn run_scheme(rt: &HostRuntime, name: &str, sizes: &[String]) -> Result<()> {
+    match name {
+        "scheme" => scheme::print(rt, read(sizes, 5)?),
+        "hiding" => hiding::print(rt, read(sizes, 5)?),
+        "openings" => openings::print(rt, read(sizes, 5)?),
+        "verifier" => verifier::print(rt, read(sizes, 5)?),
+        _ => Err(Fault::Usage),
+    }
+}
+
 /// Runs the mode that the first argument names.
 fn run(rt: &HostRuntime, args: &[String]) -> Result<()> {
     let (name, others) = args.split_first().ok_or(Fault::Usage)?;
     match name.as_str() {
-        "transform" => stages::transform(rt, read(others, 5)?),
-        "tree" => stages::tree(rt, read(others, 5)?),
-        "fold" => stages::fold(rt, read(others, 9)?),
-        "rounds" => verifier::rounds(rt, read(others, 5)?),
-        "scheme" => scheme::print(rt, read(others, 5)?),
-        "hiding" => hiding::print(rt, read(others, 5)?),
-        "openings" => openings::print(rt, read(others, 5)?),
-        "verifier" => verifier::print(rt, read(others, 5)?),
+        "transform" | "tree" | "fold" | "rounds" => run_piece(rt, name.as_str(), others),
+        "scheme" | "hiding" | "openings" | "verifier" => run_scheme(rt, name.as_str(), others),
         "figures" => figures(rt, read::<0>(others, 5)?.1),
         _ => stages::extension(rt, read(args, 5)?),
     }

@@ -226,6 +226,35 @@ fn columns_of(alloc: Global, log_height: usize, width: usize) -> Result<RowMajor
     rows_of(values, width, log_height)
 }
 
+/// The opening at so many indices, as the verifier takes it.
+fn openings_of(
+    alloc: Global,
+    made: &Committed<BabyBear>,
+    queries: usize,
+) -> Result<Vec<BatchMultiOpening<BabyBear, Inputs>>> {
+    let Opened { rows, paths, .. } = open(alloc, made, queries)?;
+    let opening = BatchMultiOpening {
+        opened_values: rows,
+        opening_proof: paths,
+    };
+    Ok(vec![in alloc; opening]?)
+}
+
+/// The openings of matrices of the sizes to which the rounds commit.
+fn opened_rounds(
+    alloc: Global,
+    log_height: usize,
+    log_cap: usize,
+    queries: usize,
+) -> Result<Vec<Opened<BabyBear4>>>
+    requires positive { 0 < log_cap }
+{
+    words_of_rounds(alloc, log_height, log_cap)?
+        .into_iter()
+        .map(|word| open(alloc, &commit(alloc, word)?, queries))
+        .try_collect(alloc)
+}
+
 /// An honest proof, at a blowup of 2, of one matrix whose columns all hold `X`. What is claimed of
 /// each at a point is the point, so that each quotient is 1 everywhere, and the words of all rounds
 /// are one constant. The point is also the challenge that batches quotients.
@@ -234,7 +263,8 @@ fn make_honest(alloc: Global, sizes: [usize; 4]) -> Result<Honest> {
     if log_height > 27 || log_cap == 0 {
         return Err(Fault::Usage);
     }
-    let made = commit(alloc, columns_of(alloc, log_height, width)?)?;
+    let columns = columns_of(alloc, log_height, width)?;
+    let made = commit(alloc, columns)?;
     if Inputs::new().get_max_height(&made.1) > 1 << log_height {
         return Err(Fault::Sizes);
     }
@@ -246,12 +276,6 @@ fn make_honest(alloc: Global, sizes: [usize; 4]) -> Result<Honest> {
         points: &Vec::new(alloc),
     }];
     let (values, log_size) = (vec![in alloc; point; width]?, log_height.saturating_sub(1));
-    let words = words_of_rounds(alloc, log_height, log_cap)?.into_iter();
-    let Opened { rows, paths, .. } = open(alloc, &made, queries)?;
-    let opening = BatchMultiOpening {
-        opened_values: rows,
-        opening_proof: paths,
-    };
     Ok(Honest {
         log_height,
         queries,
@@ -259,10 +283,8 @@ fn make_honest(alloc: Global, sizes: [usize; 4]) -> Result<Honest> {
         claims: claims_at(alloc, made.0, log_size, point, values)?,
         proof: prove(alloc, &parameters, word, log_height, &opened)?,
         inputs: open(alloc, &made, queries)?,
-        openings: vec![in alloc; opening]?,
-        rounds: words
-            .map(|word| open(alloc, &commit(alloc, word)?, queries))
-            .try_collect(alloc)?,
+        openings: openings_of(alloc, &made, queries)?,
+        rounds: opened_rounds(alloc, log_height, log_cap, queries)?,
     })
 }
 

@@ -21,6 +21,7 @@ pub use p3_fri_core::{
     compute_log_arity_for_round, config, fold_lanes, fold_schedule, folding, is_strictly_falling,
     lanes, laws, pcs_transcript, pow_phase, strategy, transcript,
 };
+pub use p3_fri_openable::are_openable;
 pub use p3_fri_plain::{
     PlainBatch, PlainFriProof, PlainHidingProof, PlainProofError, PlainStep, from_plain, to_plain,
 };

@@ -1,17 +1,31 @@
 //! The headline's function, at these instances.
 
+ghost use Rattle.std.specs.Prelude.{◌≢◌, All, IsTrue, length};
+
 use crate::accepted::{LINE, SQUARE};
 use crate::committed::{Committed, commit};
-use crate::openable::{are_openable, have_some_point};
 use crate::opened::{Points, are_values, points_of};
 use crate::scheme::{Inputs, PLAIN, Proof, Setting, scheme};
 use p3_challenger::Sha256Challenger;
 use p3_field::{BabyBear, BabyBear4};
+use p3_fri_openable::are_openable;
 use p3_pcs::{KnownCommitment, OpeningRequest, Verified, open_and_verify};
 use std::alloc::Global;
 use std::test::Fail;
 
 type Shown = Verified<BabyBear4, Proof, Sha256Challenger>;
+
+/// Whether each list has some point.
+fn have_some_point<EF>(points: &[Vec<EF>]) -> bool
+    ensures { IsTrue result → All (λ list. length list.items ≢ 0) points.now }
+{
+    for list in points {
+        if list.len() == 0 {
+            return false;
+        }
+    }
+    true
+}
 
 /// The columns under one commitment, opened at these points and verified, with the prover's
 /// challenger after it.

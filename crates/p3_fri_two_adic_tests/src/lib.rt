@@ -12,7 +12,6 @@ mod committed;
 #[cfg(test)]
 mod headline;
 #[cfg(test)]
-mod openable;
 #[cfg(test)]
 mod opened;
 #[cfg(test)]

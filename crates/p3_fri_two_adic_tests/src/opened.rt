@@ -1,12 +1,12 @@
 //! What comes of opening committed columns.
 
 use crate::committed::{Committed, commit_all};
-use crate::openable::are_openable;
 use crate::scheme::{
     Claims, Data, Domain, Inputs, Proof, Scheme, Setting, constant, constants, scheme,
 };
 use p3_challenger::Sha256Challenger;
 use p3_field::{BabyBear, BabyBear4};
+use p3_fri_openable::are_openable;
 use p3_fri_pow::FriProverError;
 use p3_mmcs::OpenedValues;
 use p3_pcs::{KnownCommitment, OpeningRequest, Pcs, claims_of};

@@ -4,7 +4,7 @@
 ghost use Rattle.std.specs.Prelude.{◌≡◌, [], ◌∷◌, length, IfOk};
 ghost use Rattle.p3_test_openings.specs.Batches.{AreReady};
 
-use crate::listed::{listed, pair};
+use crate::listed::{alone, listed, pair};
 use crate::one::{Opened, commit_one};
 use p3_matrix::RowMajorMatrix;
 use p3_pcs::{KnownCommitment, OpeningRequest, claims_of};
@@ -113,11 +113,11 @@ pub fn open_batches<EF: Copy, C, P: UnivariateStarkPcs<EF, C>>(
 {
     let first = OpeningRequest {
         prover_data: random,
-        points: listed(alloc, listed(alloc, point)?)?,
+        points: alone(alloc, point)?,
     };
     let second = OpeningRequest {
         prover_data: trace,
-        points: listed(alloc, listed(alloc, point)?)?,
+        points: alone(alloc, point)?,
     };
     let third = OpeningRequest {
         prover_data: quotient,

@@ -49,13 +49,14 @@ struct Opening {
 fn open_all(alloc: Global) -> Result<Opening, Fail> {
     let mut scheme = scheme();
     let (commitment, random) = commit_random(&mut scheme, alloc)?;
+    let domain = coset(1, 5)?;
     let known = KnownCommitment {
         commitment,
-        domains: listed(alloc, coset(1, 5)?)?,
+        domains: listed(alloc, domain)?,
     };
     let trace = column(alloc, &PI)?;
     let chunks = two_chunks(alloc)?;
-    let domains = pair(alloc, coset(1, 5)?, coset(1, 5)?)?;
+    let domains = pair(alloc, domain, domain)?;
     let Batches {
         known,
         mut random,

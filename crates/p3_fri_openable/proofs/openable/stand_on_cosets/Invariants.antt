@@ -1,6 +1,6 @@
 use Rattle.std.proofs.Common.{All, take}
 use Rattle.p3_fri_openings.specs.Rounds.{HasCoset}
-use Rattle.p3_fri_two_adic_tests.proofs.openable.stand_on_cosets.Given as goal
+use Rattle.p3_fri_openable.proofs.openable.stand_on_cosets.Given as goal
 
 abbrev pub invariant-loop-request : goal.invariant-loop-request
 invariant-loop-request g l =

@@ -1,6 +1,6 @@
 use Rattle.std.proofs.Common.{◌≢◌, length}
 use Rattle.p3_fri_openings.proofs.First.{to_the_end}
-use Rattle.p3_fri_two_adic_tests.proofs.openable.have_some_point.Goals as goal
+use Rattle.p3_fri_two_adic_tests.proofs.headline.have_some_point.Goals as goal
 
 pub returns : goal.returns
 returns g c = λ t.

@@ -1,5 +1,5 @@
 use Rattle.std.proofs.Common.{◌≡◌, All, take, length}
-use Rattle.p3_fri_two_adic_tests.proofs.openable.have_points.Given as goal
+use Rattle.p3_fri_openable.proofs.openable.have_points.Given as goal
 
 abbrev pub invariant-loop-request : goal.invariant-loop-request
 invariant-loop-request g l =

@@ -1,30 +1,31 @@
-//! Whether requests may be opened, found when the tests run.
+//! The test of what an opening asks of its requests.
 
-ghost use Rattle.std.specs.Prelude.{◌≡◌, ◌≢◌, [], All, IsTrue, length, map};
+ghost use Rattle.std.specs.Prelude.{◌≡◌, ◌≢◌, ◌↔◌, [], All, IsTrue, length, map};
 ghost use Rattle.std.specs.List.{flat_map};
 ghost use Rattle.p3_matrix.specs.declared.dense.RowMajorMatrix.{RowMajorMatrix};
 ghost use Rattle.p3_pcs.specs.Requests.{Held, AreOpenable, request};
 ghost use Rattle.p3_fri_openings.specs.Rounds.{HasCoset};
+ghost use Rattle.p3_fri_openable.specs.Openable.{MayBeOpened};
 
-use p3_field::{TwoAdicField, TwoAdicMultiplicativeCoset};
+use p3_field_core::{TwoAdicField, log2_strict_usize};
 use p3_matrix::RowMajorMatrix;
 use p3_mmcs::Mmcs;
 use p3_pcs::OpeningRequest;
 
 /// Whether the field has a coset on which the matrix stands.
 fn has_coset<F: TwoAdicField>(matrix: &RowMajorMatrix<F>) -> bool
-    ensures { IsTrue result → HasCoset F.TWO_ADICITY matrix.now }
+    ensures { IsTrue result ↔ HasCoset F.TWO_ADICITY matrix.now }
 {
-    let log_height = matrix.height().trailing_zeros() as usize;
-    match TwoAdicMultiplicativeCoset::new(F::GENERATOR, log_height) {
-        Some(coset) => coset.size() == matrix.height(),
-        None => false,
+    let height = matrix.height();
+    if !height.is_power_of_two() {
+        return false;
     }
+    log2_strict_usize(height) <= F::TWO_ADICITY
 }
 
 /// Whether it has one for each.
 fn have_cosets<F: TwoAdicField>(matrices: &[RowMajorMatrix<F>]) -> bool
-    ensures { IsTrue result → All (HasCoset F.TWO_ADICITY) matrices.now }
+    ensures { IsTrue result ↔ All (HasCoset F.TWO_ADICITY) matrices.now }
 {
     for matrix in matrices {
         if !has_coset(matrix) {
@@ -39,7 +40,7 @@ fn stand_on_cosets<F: TwoAdicField, EF: Copy, M: Mmcs<F>>(
     mmcs: &M,
     requests: &[OpeningRequest<'_, M::ProverData, EF>],
 ) -> bool
-    ensures { IsTrue result → All (λ r. All (HasCoset F.TWO_ADICITY)
+    ensures { IsTrue result ↔ All (λ r. All (HasCoset F.TWO_ADICITY)
         (M.committed r.prover_data.now)) requests.now }
 {
     for request in requests {
@@ -55,7 +56,7 @@ fn have_points<F: TwoAdicField, EF: Copy, M: Mmcs<F>>(
     mmcs: &M,
     requests: &[OpeningRequest<'_, M::ProverData, EF>],
 ) -> bool
-    ensures { IsTrue result → All (λ r. length r.points.items
+    ensures { IsTrue result ↔ All (λ r. length r.points.items
         ≡ length (M.committed r.prover_data.now)) requests.now }
 {
     for request in requests {
@@ -71,7 +72,7 @@ fn have_matrix<F: TwoAdicField, EF: Copy, M: Mmcs<F>>(
     mmcs: &M,
     requests: &[OpeningRequest<'_, M::ProverData, EF>],
 ) -> bool
-    ensures { IsTrue result → flat_map (λ r. M.committed r.prover_data.now) requests.now ≢ [] }
+    ensures { IsTrue result ↔ (flat_map (λ r. M.committed r.prover_data.now) requests.now ≢ []) }
 {
     for request in requests {
         if mmcs.get_matrices(&*request.prover_data).len() != 0 {
@@ -81,24 +82,15 @@ fn have_matrix<F: TwoAdicField, EF: Copy, M: Mmcs<F>>(
     false
 }
 
-/// Whether each list has some point.
-pub(crate) fn have_some_point<EF>(points: &[Vec<EF>]) -> bool
-    ensures { IsTrue result → All (λ list. length list.items ≢ 0) points.now }
-{
-    for list in points {
-        if list.len() == 0 {
-            return false;
-        }
-    }
-    true
-}
-
-/// Whether the requests may be opened, whatever of a matrix is held.
-pub(crate) fn are_openable<F: TwoAdicField, EF: Copy, M: Mmcs<F>>(
+/// Whether the requests may be opened: each matrix has a list of points and stands on a coset of
+/// the field, and there is some matrix. So an opening's condition holds, whatever of a matrix is
+/// held. Data of `commit` and `commit_ldes` stands on cosets.
+pub fn are_openable<F: TwoAdicField, EF: Copy, M: Mmcs<F>>(
     mmcs: &M,
     requests: &[OpeningRequest<'_, M::ProverData, EF>],
 ) -> bool
-    ensures { IsTrue result → (held : RowMajorMatrix F → Held EF)
+    ensures exactly { IsTrue result ↔ MayBeOpened (HasCoset F.TWO_ADICITY) M.committed requests.now }
+    ensures openable { IsTrue result → (held : RowMajorMatrix F → Held EF)
         → AreOpenable (λ d. All (HasCoset F.TWO_ADICITY) (M.committed d))
         (λ d. map held (M.committed d)) (map request requests.now) }
 {

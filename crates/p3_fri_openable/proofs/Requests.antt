@@ -3,10 +3,11 @@ use Rattle.std.proofs.Common.{◌≡◌, ◌≢◌, ◌<◌, ℕ, List, [], ◌�
 use Rattle.std.proofs.Common.{refl, sym, subst, ap, ◌∙◌, arith}
 use Rattle.std.specs.List.{flat_map}
 use Rattle.std.proofs.lemmas.List.{length-map}
-use Rattle.std.proofs.lemmas.List.Elements.{All-map}
+use Rattle.std.proofs.lemmas.List.Elements.{All-map, All-head, All-tail}
 use Rattle.std.proofs.lemmas.List.Folds.{flat_map-map, length-flat_map-take}
 use Rattle.p3_pcs.specs.declared.requests.OpeningRequest.{OpeningRequest}
 use Rattle.p3_pcs.specs.Requests.{Held, Request, AreOpenable, request}
+use Rattle.p3_fri_openable.specs.Openable.{MayBeOpened}
 
 -- a list joined of lists, of which one isn't empty
 pub joined_of_some : {X A : Type 0} (f : X → List A) (xs : List X) (i : ℕ) (x : X) → i < length xs
@@ -17,7 +18,15 @@ joined_of_some f xs i x h is some e =
     let size = ap (λ y. length (f y)) is in
     some (omega (arith, bound, none, size))
 
-module _ {D A E : Type 0} (Stands : A → Type 0) (committed : D → List A) (held : A → Held E) where
+-- a list joined of empty lists
+pub joined_of_none : {X A : Type 0} (f : X → List A) (xs : List X) → All (λ x. f x ≡ []) xs
+    → flat_map f xs ≡ []
+joined_of_none f [] none = refl
+joined_of_none f (x ∷ xs) none =
+    ap (λ ys. ys ++ flat_map f xs) (All-head (λ y. f y ≡ []) x xs none)
+    ∙ joined_of_none f xs (All-tail (λ y. f y ≡ []) x xs none)
+
+module _ {D A E : Type 0} (HasCoset : A → Type 0) (committed : D → List A) (held : A → Held E) where
   -- as many are held as committed, so that where some are held is where some are committed
   held_of_none : (rs : List (OpeningRequest D E))
       → flat_map (λ r. map held (committed r.prover_data.now)) rs ≡ []
@@ -33,19 +42,18 @@ module _ {D A E : Type 0} (Stands : A → Type 0) (committed : D → List A) (he
       split [] rest k = rest k
       split (m ∷ ms) rest k = cc
 
-  pub openable : (rs : List (OpeningRequest D E))
-      → All (λ r. All Stands (committed r.prover_data.now)) rs
-      → All (λ r. length r.points.items ≡ length (committed r.prover_data.now)) rs
-      → flat_map (λ r. committed r.prover_data.now) rs ≢ []
-      → AreOpenable (λ d. All Stands (committed d)) (λ d. map held (committed d)) (map request rs)
-  openable rs cosets points some = record {
-    data_openable = All-map (λ (r : Request D E). All Stands (committed r.datum)) request rs cosets;
+  -- they meet an opening's condition, whatever of a matrix is held
+  pub openable : (rs : List (OpeningRequest D E)) → MayBeOpened HasCoset committed rs
+      → AreOpenable (λ d. All HasCoset (committed d)) (λ d. map held (committed d)) (map request rs)
+  openable rs may = record {
+    data_openable = All-map (λ (r : Request D E). All HasCoset (committed r.datum)) request rs
+        may.cosets;
     points = All-map (λ (r : Request D E). length r.points ≡ length (map held (committed r.datum)))
         request rs
         (λ k d h. let r = get_or rs k d in
-        length-map r.points.items (λ v. v.items) ∙ points k d h
+        length-map r.points.items (λ v. v.items) ∙ may.points k d h
         ∙ sym (length-map (committed r.prover_data.now) held));
-    some_matrix = λ e. some (held_of_none rs
+    some_matrix = λ e. may.some_matrix (held_of_none rs
         (sym (flat_map-map (λ (r : Request D E). map held (committed r.datum)) request rs) ∙ e));
   }
 
