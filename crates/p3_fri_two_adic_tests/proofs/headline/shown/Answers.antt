@@ -6,7 +6,7 @@ use Rattle.p3_fri_two_adic_tests.proofs.headline.shown.Goals as goal
 pub open_and_verify-answer-requires-clause-shape : goal.open_and_verify-answer-requires-clause-shape
 open_and_verify-answer-requires-clause-shape c =
     openable_same (c.deref-2.ensures.value ∙ sym c.as_mut_slice.ensures.value)
-    (c.are_openable.ensures c.if-not-are_openable.false _)
+    (c.are_openable.ensures.openable c.if-not-are_openable.false _)
 
 pub open_and_verify-answer-requires-clause-honest :
     goal.open_and_verify-answer-requires-clause-honest
