@@ -150,9 +150,12 @@ fn an_altered_proof_is_refused() {
     }
 }
 
+/// Makes a request not well formed.
+type Change = fn(&mut Parameters, &mut Matrix);
+
 #[test]
 fn malformed_requests_are_refused_by_name() {
-    let cases: [(fn(&mut Parameters, &mut Matrix), Fault); 11] = [
+    let cases: [(Change, Fault); 11] = [
         (|parameters, _| parameters.log_blowup = 0, Fault::LogBlowup),
         (|parameters, _| parameters.max_log_arity = 0, Fault::MaxLogArity),
         (|parameters, _| parameters.num_queries = 0, Fault::NumQueries),

@@ -1,1 +1,3 @@
 pub mod Digests
+pub mod Parts
+pub mod Sizes

@@ -90,3 +90,24 @@ statement p claims proof = parameters p ++ counted batch_claims claims ++ proof
 -- what `open` answers
 abbrev pub answer : List ℕ → Parameters → List BatchClaims → List ℕ → List ℕ
 answer next_challenge p claims proof = words next_challenge ++ statement p claims proof
+
+-- bytes are a request, and others an answer of `open` to it
+pub record AnswersRequest (bytes out : List ℕ) : Type 0 where
+  pub asked : Request
+  pub claims : List BatchClaims
+  pub next_challenge : List ℕ
+  pub proof : List ℕ
+  pub is_asked : bytes ≡ request asked
+  pub is_answer : out ≡ answer next_challenge asked.parameters claims proof
+
+-- bytes are a request
+pub record IsRequestForm (bytes : List ℕ) : Type 0 where
+  pub asked : Request
+  pub is_asked : bytes ≡ request asked
+
+-- bytes are a statement
+pub record IsStatementForm (bytes : List ℕ) : Type 0 where
+  pub parameters_of : Parameters
+  pub claims : List BatchClaims
+  pub proof : List ℕ
+  pub is_stated : bytes ≡ statement parameters_of claims proof

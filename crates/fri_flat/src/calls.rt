@@ -1,5 +1,8 @@
 //! The calls over bytes.
 
+ghost use Rattle.std.specs.Prelude.{◌≡◌, IfOk, OnOk, vec_len};
+ghost use Rattle.fri_flat.specs.Flat.{AnswersRequest, IsRequestForm, IsStatementForm};
+
 use crate::failure::Failure;
 use crate::forms::{answer_of, request_of, statement_of};
 use crate::writer::push_element;
@@ -8,7 +11,9 @@ use p3_fri_plain::{PlainFriProof, PlainProofError, from_plain, to_plain};
 use std::alloc::Global;
 
 /// The commitments of the request in these bytes, 32 bytes each.
-pub fn commit(alloc: Global, bytes: &[u8]) -> Result<Vec<u8>, Failure> {
+pub fn commit(alloc: Global, bytes: &[u8]) -> Result<Vec<u8>, Failure>
+    ensures { OnOk result (IsRequestForm bytes.now) }
+{
     let request = request_of(alloc, bytes)?;
     let commitments = match fri_requests::commit(alloc, &request) {
         Ok(commitments) => commitments,
@@ -23,7 +28,9 @@ pub fn commit(alloc: Global, bytes: &[u8]) -> Result<Vec<u8>, Failure> {
 
 /// The answer to the request in these bytes: the next challenge, and the statement that `verify`
 /// takes.
-pub fn open(alloc: Global, bytes: &[u8]) -> Result<Vec<u8>, Failure> {
+pub fn open(alloc: Global, bytes: &[u8]) -> Result<Vec<u8>, Failure>
+    ensures { IfOk result (λ v. AnswersRequest bytes.now v.items) }
+{
     let request = request_of(alloc, bytes)?;
     let opening = match fri_requests::open(alloc, &request) {
         Ok(opening) => opening,
@@ -32,7 +39,14 @@ pub fn open(alloc: Global, bytes: &[u8]) -> Result<Vec<u8>, Failure> {
     let form = to_plain(alloc, &opening.proof)?;
     let proof = serde_json::to_vec(alloc, &form)?;
     let parameters = &request.parameters;
-    answer_of(alloc, &opening.next_challenge, parameters, &opening.claims, &proof)
+    let answer = answer_of(
+        alloc,
+        &opening.next_challenge,
+        parameters,
+        &opening.claims,
+        &proof,
+    )?;
+    Ok(answer)
 }
 
 /// The proof of its plain form.
@@ -49,7 +63,10 @@ fn proof_of(alloc: Global, form: PlainFriProof) -> Result<Proof, VerifyError> {
 
 /// Verifies the statement in these bytes, and answers the four numbers of what the challenger draws
 /// next.
-pub fn verify(alloc: Global, bytes: &[u8]) -> Result<Vec<u8>, Failure> {
+pub fn verify(alloc: Global, bytes: &[u8]) -> Result<Vec<u8>, Failure>
+    ensures statement { OnOk result (IsStatementForm bytes.now) }
+    ensures numbers { IfOk result (λ v. vec_len v ≡ 16) }
+{
     let statement = statement_of(alloc, bytes)?;
     let form: PlainFriProof = serde_json::from_slice(alloc, statement.proof)?;
     let verified = match proof_of(alloc, form) {

@@ -84,12 +84,16 @@ impl Flat for Matrix {
     }
 
     fn write(&self, out: &mut Vec<u8>) -> Result<(), WriteError> {
-        push_number(out, self.domain.shift)?;
-        push_count(out, self.domain.log_size)?;
-        push_count(out, self.width)?;
-        push_count(out, self.points.len())?;
+        let sizes = [
+            self.domain.shift,
+            self.domain.log_size as u64,
+            self.width as u64,
+            self.points.len() as u64,
+        ];
+        push_numbers(out, &sizes)?;
         push_numbers(out, &self.values)?;
-        push_elements(out, &self.points)
+        push_elements(out, &self.points)?;
+        Ok(())
     }
 }
 
