@@ -1,6 +1,6 @@
 //! The calls over bytes.
 
-ghost use Rattle.std.specs.Prelude.{◌≡◌, IfOk, OnOk, vec_len};
+ghost use Rattle.std.specs.Prelude.{◌≡◌, length, IfOk, OnOk};
 ghost use Rattle.fri_flat.specs.Flat.{AnswersRequest, IsRequestForm, IsStatementForm};
 
 use crate::failure::Failure;
@@ -65,7 +65,7 @@ fn proof_of(alloc: Global, form: PlainFriProof) -> Result<Proof, VerifyError> {
 /// next.
 pub fn verify(alloc: Global, bytes: &[u8]) -> Result<Vec<u8>, Failure>
     ensures statement { OnOk result (IsStatementForm bytes.now) }
-    ensures numbers { IfOk result (λ v. vec_len v ≡ 16) }
+    ensures numbers { IfOk result (λ v. length v.items ≡ 16) }
 {
     let statement = statement_of(alloc, bytes)?;
     let form: PlainFriProof = serde_json::from_slice(alloc, statement.proof)?;

@@ -1,6 +1,8 @@
 //! Replies in a caller's buffer.
 
-ghost use Rattle.std.specs.Prelude.{◌≡◌, ◌<◌, ◌≤◌, ◌++◌, length, drop};
+ghost use Rattle.std.specs.Prelude.{◌≡◌, ◌≢◌, ◌<◌, ◌≤◌, ◌++◌, length, take, drop, vec_len};
+ghost use Rattle.std.specs.Prelude.{IfOk, OnErr};
+ghost use Rattle.p3_fri_ffi.specs.Reply.{IsReply};
 
 use fri_flat::{ANSWERED, Failure, OUT_OF_MEMORY};
 use std::alloc::Global;
@@ -26,7 +28,34 @@ fn fill(bytes: &[u8], status: u8, buffer: &mut [u8], needed: &mut usize) -> u8
     status
 }
 
-/// Writes an answer, or the text of what is refused, to the front of a buffer, and answers the
+/// Writes bytes to the front of a buffer that has room for them, with a status below 4.
+fn place(bytes: &[u8], status: u8, buffer: &mut [u8], needed: &mut usize) -> u8
+    requires { status < 4 }
+    ensures reply { IsReply buffer.old buffer.new needed.new result }
+    ensures status { result ≢ 4 → result ≡ status }
+    ensures bytes { result ≢ 4 → take needed.new buffer.new ≡ bytes.now }
+    ensures length { needed.new ≡ length bytes.now }
+{
+    fill(bytes, status, buffer, needed)
+}
+
+/// Writes why there is no answer, and gives the status.
+fn refuse(alloc: Global, failure: Failure, buffer: &mut [u8], needed: &mut usize) -> u8
+    ensures reply { IsReply buffer.old buffer.new needed.new result }
+    ensures status { result ≢ 0 }
+{
+    let status = failure.status();
+    *needed = 0;
+    if status == OUT_OF_MEMORY {
+        return OUT_OF_MEMORY;
+    }
+    match format!(in alloc; "{failure}") {
+        Ok(text) => place(text.as_bytes(), status, buffer, needed),
+        Err(_) => OUT_OF_MEMORY,
+    }
+}
+
+/// Writes an answer, or the text of what is refused, to the front of a buffer, and gives the
 /// status.
 pub(crate) fn reply(
     alloc: Global,
@@ -34,23 +63,13 @@ pub(crate) fn reply(
     buffer: &mut [u8],
     needed: &mut usize,
 ) -> u8
-    ensures status { result ≤ 4 }
-    ensures room { result < 4 → needed.new ≤ length buffer.old }
-    ensures short { result ≡ 4 → length buffer.old < needed.new }
-    ensures kept { result ≡ 4 → buffer.new ≡ buffer.old }
-    ensures past { result < 4 → drop needed.new buffer.new ≡ drop needed.new buffer.old }
+    ensures reply { IsReply buffer.old buffer.new needed.new result }
+    ensures answered { IfOk outcome (λ v. result ≡ 0 → take needed.new buffer.new ≡ v.items) }
+    ensures length { IfOk outcome (λ v. result ≡ 0 → needed.new ≡ vec_len v) }
+    ensures refused { OnErr outcome (result ≢ 0) }
 {
-    let failure = match outcome {
-        Ok(bytes) => return fill(&bytes, ANSWERED, buffer, needed),
-        Err(failure) => failure,
-    };
-    let status = failure.status();
-    *needed = 0;
-    if status == OUT_OF_MEMORY {
-        return OUT_OF_MEMORY;
-    }
-    match format!(in alloc; "{failure}") {
-        Ok(text) => fill(text.as_bytes(), status, buffer, needed),
-        Err(_) => OUT_OF_MEMORY,
+    match outcome {
+        Ok(bytes) => place(&bytes, ANSWERED, buffer, needed),
+        Err(failure) => refuse(alloc, failure, buffer, needed),
     }
 }
