@@ -1,6 +1,7 @@
 -- What the status says of an outcome.
-use Rattle.std.proofs.Common.{◌≡◌, ◌≢◌, ℕ, List, Result, Ok, Err, subst, sym, ◌∙◌}
-use Rattle.std.specs.Prelude.{IfOk, OnOk, OnErr, Vec, Global, vec_len}
+use Rattle.std.proofs.Common.{◌≡◌, ◌≢◌, ℕ, List, length, Result, Ok, Err, subst, sym, ◌∙◌}
+use Rattle.std.specs.Prelude.{IfOk, OnOk, OnErr, Vec}
+use Rattle.std.specs.Global.{Global}
 use Rattle.fri_flat.specs.declared.failure.Failure.{Failure}
 
 -- what holds of an answer holds of what is written at status 0
@@ -19,8 +20,8 @@ was_answered P (Err e) status holds none is = absurd (none is)
 
 -- and so does how long it is
 pub answered_length : (outcome : Result (Vec ℕ Global) Failure) (status needed size : ℕ)
-    → IfOk outcome (λ v. vec_len v ≡ size)
-    → IfOk outcome (λ v. status ≡ 0 → needed ≡ vec_len v) → OnErr outcome (status ≢ 0)
+    → IfOk outcome (λ v. length v.items ≡ size)
+    → IfOk outcome (λ v. status ≡ 0 → needed ≡ length v.items) → OnErr outcome (status ≢ 0)
     → status ≡ 0 → needed ≡ size
 answered_length (Ok v) status needed size holds same none is = same is ∙ holds
 answered_length (Err e) status needed size holds same none is = absurd (none is)

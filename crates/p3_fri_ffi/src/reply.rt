@@ -1,6 +1,6 @@
 //! Replies in a caller's buffer.
 
-ghost use Rattle.std.specs.Prelude.{◌≡◌, ◌≢◌, ◌<◌, ◌≤◌, ◌++◌, length, take, drop, vec_len};
+ghost use Rattle.std.specs.Prelude.{◌≡◌, ◌≢◌, ◌<◌, ◌≤◌, ◌++◌, length, take, drop};
 ghost use Rattle.std.specs.Prelude.{IfOk, OnErr};
 ghost use Rattle.p3_fri_ffi.specs.Reply.{IsReply};
 
@@ -65,7 +65,7 @@ pub(crate) fn reply(
 ) -> u8
     ensures reply { IsReply buffer.old buffer.new needed.new result }
     ensures answered { IfOk outcome (λ v. result ≡ 0 → take needed.new buffer.new ≡ v.items) }
-    ensures length { IfOk outcome (λ v. result ≡ 0 → needed.new ≡ vec_len v) }
+    ensures length { IfOk outcome (λ v. result ≡ 0 → needed.new ≡ length v.items) }
     ensures refused { OnErr outcome (result ≢ 0) }
 {
     match outcome {
