@@ -16,7 +16,7 @@ pub(crate) struct Writer {
 fn too_long() -> Error {
     Error::Malformed {
         fault: Fault::NoForm,
-        text: "NoForm: a number has more than 32 bits".to_string(),
+        text: "NoForm: a list has more entries than a number of 32 bits counts".to_string(),
     }
 }
 

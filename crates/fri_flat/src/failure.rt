@@ -27,7 +27,9 @@ pub enum Failure {
     BytesMissing { at: usize },
     /// Bytes from this offset on follow what is whole.
     BytesLeft { at: usize },
-    /// What comes of it has no flat form, as a number of more than 32 bits has none.
+    /// What comes of it has no flat form: a number of more than 32 bits, an element of the extension
+    /// that isn't four numbers, or a commitment that isn't the hex text of 32 bytes. No answer of
+    /// `fri_requests` has any.
     NoForm,
     /// The proof isn't JSON, or not of a plain proof.
     Json(serde_json::Error),
@@ -75,7 +77,7 @@ impl fmt::Display for Failure {
             Failure::BytesLeft { at } => {
                 write!(f, "BytesLeft {{ at: {at} }}: bytes follow what is whole")
             },
-            Failure::NoForm => f.write_str("NoForm: a number has more than 32 bits"),
+            Failure::NoForm => f.write_str("NoForm: the answer has no flat form"),
             Failure::Json(error) => write!(f, "Json: {error}"),
             Failure::Request(error) => write!(f, "{error}"),
             Failure::Statement(error) => write!(f, "{error}"),
