@@ -1,20 +1,19 @@
 //! Times the three calls: `cargo run --release --example bench -- [LOG_HEIGHT WIDTH LOG_BLOWUP QUERIES
-//! REPEATS]`, by default `14 64 1 100 5`. Prints the median of each in milliseconds.
+//! REPEATS]`, by default `14 64 1 100 5`. Prints the least of each in milliseconds.
 
 use p3_fri_proved::{commit, open, verify, Domain, Error, Matrix, Parameters, ORDER};
 use std::time::Instant;
 
-/// The median time in milliseconds, and the last answer.
+/// The least time in milliseconds, and the last answer.
 fn timed<T>(repeats: usize, call: impl Fn() -> Result<T, Error>) -> Result<(f64, T), Error> {
-    let mut times = Vec::new();
+    let mut least = f64::INFINITY;
     let mut last = None;
     for _ in 0..repeats.max(1) {
         let start = Instant::now();
         last = Some(call()?);
-        times.push(start.elapsed().as_secs_f64() * 1000.0);
+        least = least.min(start.elapsed().as_secs_f64() * 1000.0);
     }
-    times.sort_by(f64::total_cmp);
-    Ok((times[times.len() / 2], last.expect("some call was made")))
+    Ok((least, last.expect("some call was made")))
 }
 
 /// A matrix of numbers that follow one another at random.

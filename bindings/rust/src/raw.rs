@@ -88,7 +88,7 @@ impl Call {
 
 #[cfg(test)]
 mod tests {
-    use super::Call;
+    use super::{Call, Error};
 
     /// The column 1, 3 opened at 5.
     const REQUEST: [u32; 19] = [1, 0, 1, 2, 0, 0, 0, 1, 1, 1, 1, 1, 1, 1, 3, 5, 0, 0, 0];
@@ -104,6 +104,38 @@ mod tests {
             assert_eq!(Call::Commit.answer(&request, room).unwrap(), answer);
         }
         assert_eq!(Call::Open.answer(&request, 0), Call::Open.answer(&request, 5000));
+    }
+
+    /// The statement that the request's opening is.
+    fn statement() -> Vec<u8> {
+        let request: Vec<u8> = REQUEST.iter().flat_map(|number| number.to_le_bytes()).collect();
+        Call::Open.answer(&request, 5000).unwrap().split_off(16)
+    }
+
+    #[test]
+    fn no_beginning_is_well_formed() {
+        let request: Vec<u8> = REQUEST.iter().flat_map(|number| number.to_le_bytes()).collect();
+        let statement = statement();
+        for (call, bytes) in [(Call::Open, request), (Call::Verify, statement)] {
+            for length in 0..bytes.len() {
+                let refused = call.answer(&bytes[..length], 5000);
+                assert!(matches!(refused, Err(Error::Malformed { .. })), "{length}");
+            }
+            assert!(call.answer(&bytes, 5000).is_ok());
+        }
+    }
+
+    #[test]
+    fn no_claim_with_another_bit_is_accepted() {
+        let statement = statement();
+        let claims = 28..116;
+        for place in claims {
+            for bit in 0..8 {
+                let mut changed = statement.clone();
+                changed[place] ^= 1 << bit;
+                assert!(Call::Verify.answer(&changed, 5000).is_err(), "{place} {bit}");
+            }
+        }
     }
 
     #[test]

@@ -14,4 +14,4 @@ pub digest-of_hex : {A : Type 0} (text : String A) (bytes : List ℕ)
 digest-of_hex text bytes said size fits =
     ap (λ (t : List ℕ). result_unwrap_or (decode_sized t 32) []) said
     ∙ ap (λ (r : Result (List ℕ) FromHexError). result_unwrap_or r [])
-      (decode_sized-encode_lower bytes 32 size fits)
+    (decode_sized-encode_lower bytes 32 size fits)

@@ -1,5 +1,6 @@
 -- The flat form of numbers, of lists and of the records of the plain scheme.
-use Rattle.std.specs.Prelude.{ℕ, List, [], ◌∷◌, ◌++◌, ◌≡◌, ◌*◌, ◌/◌, ◌%◌, ◌^◌, length, string_bytes, vec_len}
+use Rattle.std.specs.Prelude.{ℕ, List, [], ◌∷◌, ◌++◌, ◌≡◌, ◌*◌, ◌/◌, ◌%◌, ◌^◌, length}
+use Rattle.std.specs.Prelude.{string_bytes, vec_len}
 use Rattle.std.specs.List.{All, flat_map}
 use Rattle.std.specs.Result.{result_unwrap_or}
 use Rattle.std.specs.declared.vec.Vec.{Vec}
@@ -39,13 +40,13 @@ IsElement list = vec_len list ≡ 4
 
 abbrev pub parameters : Parameters → List ℕ
 parameters p = words (
-  p.log_blowup ∷ p.log_final_poly_len ∷ p.max_log_arity ∷ p.num_queries
-  ∷ p.batch_proof_of_work_bits ∷ p.commit_proof_of_work_bits ∷ p.query_proof_of_work_bits ∷ [])
+    p.log_blowup ∷ p.log_final_poly_len ∷ p.max_log_arity ∷ p.num_queries
+    ∷ p.batch_proof_of_work_bits ∷ p.commit_proof_of_work_bits ∷ p.query_proof_of_work_bits ∷ [])
 
 -- the values and the points have no counts of their own
 abbrev pub matrix : Matrix → List ℕ
 matrix m = words (m.domain.shift ∷ m.domain.log_size ∷ m.width ∷ vec_len m.points ∷ [])
-  ++ words m.values.items ++ elements m.points.items
+    ++ words m.values.items ++ elements m.points.items
 
 pub record IsMatrix (m : Matrix) : Type 0 where
   pub values : vec_len m.values ≡ m.width * 2 ^ m.domain.log_size
@@ -72,7 +73,7 @@ pub record IsPointClaims (c : PointClaims) : Type 0 where
 
 abbrev pub matrix_claims : MatrixClaims → List ℕ
 matrix_claims c = words (c.domain.shift ∷ c.domain.log_size ∷ [])
-  ++ counted point_claims c.points.items
+    ++ counted point_claims c.points.items
 
 abbrev pub IsMatrixClaims : MatrixClaims → Type 0
 IsMatrixClaims c = All IsPointClaims c.points.items

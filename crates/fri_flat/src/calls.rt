@@ -70,12 +70,7 @@ pub fn verify(alloc: Global, bytes: &[u8]) -> Result<Vec<u8>, Failure>
     let statement = statement_of(alloc, bytes)?;
     let form: PlainFriProof = serde_json::from_slice(alloc, statement.proof)?;
     let verified = match proof_of(alloc, form) {
-        Ok(proof) => fri_requests::verify(
-            alloc,
-            &statement.parameters,
-            &statement.claims,
-            &proof,
-        ),
+        Ok(proof) => fri_requests::verify(alloc, &statement.parameters, &statement.claims, &proof),
         Err(error) => Err(error),
     };
     let next_challenge = match verified {

@@ -27,9 +27,9 @@ pub enum Failure {
     BytesMissing { at: usize },
     /// Bytes from this offset on follow what is whole.
     BytesLeft { at: usize },
-    /// What comes of it has no flat form: a number of more than 32 bits, an element of the extension
-    /// that isn't four numbers, or a commitment that isn't the hex text of 32 bytes. No answer of
-    /// `fri_requests` has any.
+    /// What comes of it has no flat form, as a number of more than 32 bits, an element of the
+    /// extension that isn't four numbers, or a commitment that isn't the hex text of 32 bytes. No
+    /// answer of `fri_requests` has any of these.
     NoForm,
     /// The proof isn't JSON, or not of a plain proof.
     Json(serde_json::Error),
@@ -72,7 +72,10 @@ impl fmt::Display for Failure {
     fn fmt<W: fmt::Write>(&self, f: &mut fmt::Formatter<W>) -> fmt::Result {
         match self {
             Failure::BytesMissing { at } => {
-                write!(f, "BytesMissing {{ at: {at} }}: fewer bytes are left than have to come")
+                write!(
+                    f,
+                    "BytesMissing {{ at: {at} }}: fewer bytes are left than have to come"
+                )
             },
             Failure::BytesLeft { at } => {
                 write!(f, "BytesLeft {{ at: {at} }}: bytes follow what is whole")

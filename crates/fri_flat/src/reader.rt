@@ -1,6 +1,6 @@
 //! Numbers and digests at the front of bytes. Memory is asked for only as far as bytes are there.
 
-ghost use Rattle.std.specs.Prelude.{◌≡◌, ◌++◌, IfOk, length, vec_len};
+ghost use Rattle.std.specs.Prelude.{◌≡◌, ◌<◌, ◌++◌, IfOk, OnErr, length, vec_len};
 ghost use Rattle.std.specs.List.{All};
 ghost use Rattle.fri_flat.specs.Flat.{word, words, elements, digest, IsElement};
 
@@ -32,7 +32,8 @@ impl<'a> Reader<'a> {
 
     /// Reads a number.
     pub fn word(&mut self) -> Result<u32, ReadError>
-        ensures { IfOk result (λ n. self.old.left.now ≡ word n ++ self.new.left.now) }
+        ensures form { IfOk result (λ n. self.old.left.now ≡ word n ++ self.new.left.now) }
+        ensures missing { OnErr result (length self.old.left.now < 4) }
     {
         match self.left {
             [first, second, third, fourth, rest @ ..] => {

@@ -4,9 +4,7 @@
 use std::alloc::{AllocError, Global};
 
 /// The request, number by number: parameters, one commitment with one matrix, its values and point.
-pub const REQUEST: [u32; 19] = [
-    1, 0, 1, 2, 0, 0, 0, 1, 1, 1, 1, 1, 1, 1, 3, 5, 0, 0, 0,
-];
+pub const REQUEST: [u32; 19] = [1, 0, 1, 2, 0, 0, 0, 1, 1, 1, 1, 1, 1, 1, 3, 5, 0, 0, 0];
 
 /// What the challenger draws after the proof.
 pub const NEXT_CHALLENGE: [u32; 4] = [918215560, 649775709, 1984764229, 660091607];

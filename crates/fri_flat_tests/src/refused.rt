@@ -18,13 +18,51 @@ struct Case {
 }
 
 const CASES: [Case; 7] = [
-    Case { number: 18, value: 0, length: 75, text: "BytesMissing { at: 60 }: fewer bytes are left than have to come" },
-    Case { number: 18, value: 0, length: 77, text: "BytesLeft { at: 76 }: bytes follow what is whole" },
-    Case { number: 18, value: 0, length: 0, text: "BytesMissing { at: 0 }: fewer bytes are left than have to come" },
-    Case { number: 7, value: 4294967295, length: 76, text: "BytesMissing { at: 76 }: fewer bytes are left than have to come" },
-    Case { number: 10, value: 4294967295, length: 76, text: "BytesMissing { at: 52 }: fewer bytes are left than have to come" },
-    Case { number: 11, value: 4294967295, length: 76, text: "BytesMissing { at: 52 }: fewer bytes are left than have to come" },
-    Case { number: 3, value: 0, length: 76, text: "NumQueries: expected num_queries above 0" },
+    // the last byte is cut off, one is added, and all are cut off
+    Case {
+        number: 18,
+        value: 0,
+        length: 75,
+        text: "BytesMissing { at: 60 }: fewer bytes are left than have to come",
+    },
+    Case {
+        number: 18,
+        value: 0,
+        length: 77,
+        text: "BytesLeft { at: 76 }: bytes follow what is whole",
+    },
+    Case {
+        number: 18,
+        value: 0,
+        length: 0,
+        text: "BytesMissing { at: 0 }: fewer bytes are left than have to come",
+    },
+    // as many commitments, points of a domain and columns as a number names
+    Case {
+        number: 7,
+        value: 4294967295,
+        length: 76,
+        text: "BytesMissing { at: 76 }: fewer bytes are left than have to come",
+    },
+    Case {
+        number: 10,
+        value: 4294967295,
+        length: 76,
+        text: "BytesMissing { at: 52 }: fewer bytes are left than have to come",
+    },
+    Case {
+        number: 11,
+        value: 4294967295,
+        length: 76,
+        text: "BytesMissing { at: 52 }: fewer bytes are left than have to come",
+    },
+    // no query
+    Case {
+        number: 3,
+        value: 0,
+        length: 76,
+        text: "NumQueries: expected num_queries above 0",
+    },
 ];
 
 /// The bytes of a case.

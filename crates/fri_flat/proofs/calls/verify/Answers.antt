@@ -14,6 +14,6 @@ pub returns-clause-numbers : goal.returns-clause-numbers
 returns-clause-numbers c =
     let next = c.in-Ok-verified.next_challenge in
     let four : length next.items ≡ 4 =
-        omega (arith, next.ok.0, c.in_ok-push_element.ensures.length) in
+    omega (arith, next.ok.0, c.in_ok-push_element.ensures.length) in
     length-after_words c.push_element.new.out.items c.new-out.result.items next.items
     c.in_ok-push_element.ensures.form c.new-out.ensures.items four

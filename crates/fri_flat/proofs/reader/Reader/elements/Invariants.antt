@@ -5,5 +5,5 @@ use Rattle.fri_flat.proofs.reader.Reader.elements.Given as goal
 
 abbrev pub invariant-loop : goal.invariant-loop
 invariant-loop l = (l.fn.self.left.now ≡ elements l.elements.items ++ l.self.left.now)
-  × (vec_len l.elements ≡ l.counter)
-  × All IsElement l.elements.items
+    × (vec_len l.elements ≡ l.counter)
+    × All IsElement l.elements.items

@@ -4,4 +4,4 @@ use Rattle.fri_flat.proofs.reader.Reader.words.Given as goal
 
 abbrev pub invariant-loop : goal.invariant-loop
 invariant-loop l = (l.fn.self.left.now ≡ words l.numbers.items ++ l.self.left.now)
-  × (vec_len l.numbers ≡ l.counter)
+    × (vec_len l.numbers ≡ l.counter)

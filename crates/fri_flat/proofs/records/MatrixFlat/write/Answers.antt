@@ -9,7 +9,7 @@ returns c =
     let m = c.args.self.now in
     let out = c.args.out.now.items in
     let sizes = λ (points : ℕ).
-        words (m.domain.shift ∷ m.domain.log_size ∷ m.width ∷ points ∷ []) in
+    words (m.domain.shift ∷ m.domain.log_size ∷ m.width ∷ points ∷ []) in
     three_parts out (sizes (vec_len m.points)) (words m.values.items) (elements m.points.items)
     c.push_numbers.new.out.items c.push_numbers-2.new.out.items c.push_elements.new.out.items
     (c.in_ok-push_numbers.ensures ∙ ap (λ (n : ℕ). out ++ sizes n) c.len.ensures)
