@@ -109,15 +109,18 @@ fn an_altered_claim_is_refused() {
     let opening = opened();
     let mut value = opening.claims.clone();
     value[0].matrices[0].points[0].values[0][0] = 2013265917;
-    let mut point = opening.claims.clone();
-    point[0].matrices[0].points[0].point[0] = 6;
     let mut commitment = opening.claims.clone();
     commitment[0].commitment[31] ^= 1;
-    for claims in [value, point, commitment] {
-        // other indices are drawn, to which the proof's paths don't lead
+    // other indices are drawn after the value, and the paths end at the first commitment
+    for claims in [value, commitment] {
         let refused = verify(&PARAMETERS, &claims, &opening.proof);
         assert_eq!(named(refused), (Some(Refusal::InputError), None));
     }
+    // the point isn't sent: the same indices are drawn, and the quotient there is no constant
+    let mut point = opening.claims.clone();
+    point[0].matrices[0].points[0].point[0] = 6;
+    let refused = verify(&PARAMETERS, &point, &opening.proof);
+    assert_eq!(named(refused), (Some(Refusal::FinalPolyMismatch), None));
     let mut missing = opening.claims.clone();
     missing[0].matrices.clear();
     let refused = verify(&PARAMETERS, &missing, &opening.proof);
