@@ -39,9 +39,13 @@ fn main() -> Result<(), Error> {
     let (commit_time, _) = timed(repeats, || commit(&parameters, &matrices))?;
     let (open_time, opening) = timed(repeats, || open(&parameters, &matrices))?;
     let (verify_time, _) = timed(repeats, || verify(&parameters, &opening.claims, &opening.proof))?;
+    // other parameters are refused before any digest is made, so this is what reading takes
+    let others = Parameters { num_queries: parameters.num_queries + 1, ..parameters };
+    let (read_time, _) =
+        timed(repeats, || Ok(verify(&others, &opening.claims, &opening.proof).is_err()))?;
     println!("commit {commit_time:.1} ms");
     println!("open {open_time:.1} ms, which commits first");
-    println!("verify {verify_time:.1} ms");
+    println!("verify {verify_time:.1} ms, of which reading the proof takes {read_time:.1} ms");
     println!("proof {} bytes", opening.proof.as_json().len());
     Ok(())
 }
