@@ -1,0 +1,60 @@
+/* The plain FRI commitment scheme at BabyBear, its extension of degree 4 and SHA-256.
+ *
+ * Bytes go in and bytes come out, in the flat form of docs/FORMATS.md: a number is four bytes, the
+ * lowest first, and a digest 32. An element of BabyBear is its canonical number, below 2013265921;
+ * one of the extension is its four coefficients, that of one first.
+ *
+ * Each function reads `request`, and writes its answer, or the text of why it has none, to the front
+ * of `answer`. `*needed` then is how many bytes that takes; there is no byte 0 after them, and bytes
+ * past them stay. What comes back is one of the statuses below.
+ *
+ * The caller owns all memory that is passed; no pointer is kept once a call returns. No pointer is
+ * null, also where its length is 0, and the three don't overlap. Memory inside a call comes from
+ * malloc, and is given back before it returns. No call stops the program. Calls share nothing, so
+ * threads may call at once; a signal handler, or the child of a fork in a program with threads, may
+ * not call. How long a call takes follows from the request, which docs/USE.md describes.
+ */
+#ifndef P3_FRI_H
+#define P3_FRI_H
+
+#include <stddef.h>
+#include <stdint.h>
+
+#ifdef __cplusplus
+extern "C" {
+#endif
+
+enum p3_fri_status {
+    /* The answer is in the buffer. Of `p3_fri_verify`: the statement is accepted. */
+    P3_FRI_ANSWERED = 0,
+    /* The request is well formed, and refused: the buffer holds `Name { numbers }: words`. */
+    P3_FRI_REFUSED = 1,
+    /* The request isn't well formed: the buffer holds `Name: place, words`. */
+    P3_FRI_MALFORMED = 2,
+    /* Memory was refused. The buffer is as it was, and *needed is 0. */
+    P3_FRI_OUT_OF_MEMORY = 3,
+    /* The buffer is shorter than *needed, and as it was. A second call does the work again. */
+    P3_FRI_BUFFER_TOO_SHORT = 4
+};
+
+/* Commits to the matrices of a request: 32 bytes for each commitment. */
+uint8_t p3_fri_commit(const uint8_t *request, size_t request_length,
+                      uint8_t *answer, size_t answer_length, size_t *needed);
+
+/* Commits to the matrices of a request, and opens them at its points: the four numbers of the next
+ * challenge, then a statement, which `p3_fri_verify` accepts. */
+uint8_t p3_fri_open(const uint8_t *request, size_t request_length,
+                    uint8_t *answer, size_t answer_length, size_t *needed);
+
+/* Verifies a statement: the four numbers of the next challenge, the same as `p3_fri_open`'s. A
+ * statement names its own parameters, commitments and points: whoever relies on it being accepted
+ * compares these with the expected ones. They are at its front, in a form that is the only one of
+ * what it says, so it is enough to compare bytes. */
+uint8_t p3_fri_verify(const uint8_t *statement, size_t statement_length,
+                      uint8_t *answer, size_t answer_length, size_t *needed);
+
+#ifdef __cplusplus
+}
+#endif
+
+#endif

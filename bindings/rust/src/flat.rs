@@ -1,0 +1,165 @@
+//! The flat form: a number is four bytes, the lowest first, a digest 32.
+
+use crate::error::{Error, Fault};
+use crate::types::{
+    CommitmentClaims, Digest, Domain, ExtensionElement, Matrix, MatrixClaims, Opening, Parameters,
+    PointClaims, Proof,
+};
+
+/// Bytes that grow at their end.
+#[derive(Default)]
+pub(crate) struct Writer {
+    pub bytes: Vec<u8>,
+}
+
+/// A list is too long for its count to be a number of the form.
+fn too_long() -> Error {
+    Error::Malformed {
+        fault: Fault::NoForm,
+        text: "NoForm: a list has more entries than a number of 32 bits counts".to_string(),
+    }
+}
+
+impl Writer {
+    fn number(&mut self, number: u32) {
+        self.bytes.extend_from_slice(&number.to_le_bytes());
+    }
+
+    fn numbers(&mut self, numbers: &[u32]) {
+        for number in numbers {
+            self.number(*number);
+        }
+    }
+
+    fn count(&mut self, count: usize) -> Result<(), Error> {
+        self.number(u32::try_from(count).map_err(|_| too_long())?);
+        Ok(())
+    }
+
+    fn parameters(&mut self, parameters: &Parameters) {
+        self.numbers(&[
+            parameters.log_blowup,
+            parameters.log_final_poly_len,
+            parameters.max_log_arity,
+            parameters.num_queries,
+            parameters.batch_proof_of_work_bits,
+            parameters.commit_proof_of_work_bits,
+            parameters.query_proof_of_work_bits,
+        ]);
+    }
+
+    fn matrix(&mut self, matrix: &Matrix) -> Result<(), Error> {
+        self.numbers(&[matrix.domain.shift, matrix.domain.log_size, matrix.width]);
+        self.count(matrix.points.len())?;
+        self.numbers(&matrix.values);
+        self.numbers(matrix.points.as_flattened());
+        Ok(())
+    }
+
+    /// A request.
+    pub fn request(
+        &mut self,
+        parameters: &Parameters,
+        commitments: &[Vec<Matrix>],
+    ) -> Result<(), Error> {
+        self.parameters(parameters);
+        self.count(commitments.len())?;
+        for matrices in commitments {
+            self.count(matrices.len())?;
+            for matrix in matrices {
+                self.matrix(matrix)?;
+            }
+        }
+        Ok(())
+    }
+
+    fn matrix_claims(&mut self, claims: &MatrixClaims) -> Result<(), Error> {
+        self.numbers(&[claims.domain.shift, claims.domain.log_size]);
+        self.count(claims.points.len())?;
+        for at in &claims.points {
+            self.numbers(&at.point);
+            self.count(at.values.len())?;
+            self.numbers(at.values.as_flattened());
+        }
+        Ok(())
+    }
+
+    /// A statement.
+    pub fn statement(
+        &mut self,
+        parameters: &Parameters,
+        claims: &[CommitmentClaims],
+        proof: &Proof,
+    ) -> Result<(), Error> {
+        self.parameters(parameters);
+        self.count(claims.len())?;
+        for of_commitment in claims {
+            self.bytes.extend_from_slice(&of_commitment.commitment);
+            self.count(of_commitment.matrices.len())?;
+            for of_matrix in &of_commitment.matrices {
+                self.matrix_claims(of_matrix)?;
+            }
+        }
+        self.bytes.extend_from_slice(proof.as_json());
+        Ok(())
+    }
+}
+
+/// An answer's bytes, read from the front. `None` where they end too early.
+pub(crate) struct Reader<'a> {
+    pub left: &'a [u8],
+}
+
+impl Reader<'_> {
+    fn array<const N: usize>(&mut self) -> Option<[u8; N]> {
+        let (array, left) = self.left.split_first_chunk()?;
+        self.left = left;
+        Some(*array)
+    }
+
+    fn number(&mut self) -> Option<u32> {
+        self.array().map(u32::from_le_bytes)
+    }
+
+    /// An element of the extension.
+    pub fn element(&mut self) -> Option<ExtensionElement> {
+        Some([self.number()?, self.number()?, self.number()?, self.number()?])
+    }
+
+    /// A commitment.
+    pub fn digest(&mut self) -> Option<Digest> {
+        self.array()
+    }
+
+    /// So many items as a number says, as far as there are bytes for them.
+    fn counted<T>(&mut self, item: fn(&mut Self) -> Option<T>) -> Option<Vec<T>> {
+        let count = self.number()?;
+        (0..count).map(|_| item(self)).collect()
+    }
+
+    fn point_claims(&mut self) -> Option<PointClaims> {
+        Some(PointClaims { point: self.element()?, values: self.counted(Self::element)? })
+    }
+
+    fn matrix_claims(&mut self) -> Option<MatrixClaims> {
+        let domain = Domain { shift: self.number()?, log_size: self.number()? };
+        Some(MatrixClaims { domain, points: self.counted(Self::point_claims)? })
+    }
+
+    fn commitment_claims(&mut self) -> Option<CommitmentClaims> {
+        Some(CommitmentClaims {
+            commitment: self.digest()?,
+            matrices: self.counted(Self::matrix_claims)?,
+        })
+    }
+
+    /// What `open` answers. The parameters are those that were passed.
+    pub fn opening(mut self) -> Option<Opening> {
+        let next_challenge = self.element()?;
+        for _ in 0..7 {
+            self.number()?;
+        }
+        let claims = self.counted(Self::commitment_claims)?;
+        Some(Opening { claims, proof: Proof::from_json(self.left), next_challenge })
+    }
+}

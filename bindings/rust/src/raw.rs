@@ -1,0 +1,151 @@
+//! The library's functions.
+#![allow(unsafe_code)]
+
+use crate::error::Error;
+
+/// A function of the library: it reads the bytes at the first pointer, writes to those at the
+/// second, and the number of bytes that this takes to the last.
+type Raw = unsafe extern "C" fn(*const u8, usize, *mut u8, usize, *mut usize) -> u8;
+
+unsafe extern "C" {
+    fn p3_fri_commit(
+        request: *const u8,
+        request_length: usize,
+        answer: *mut u8,
+        answer_length: usize,
+        needed: *mut usize,
+    ) -> u8;
+    fn p3_fri_open(
+        request: *const u8,
+        request_length: usize,
+        answer: *mut u8,
+        answer_length: usize,
+        needed: *mut usize,
+    ) -> u8;
+    fn p3_fri_verify(
+        request: *const u8,
+        request_length: usize,
+        answer: *mut u8,
+        answer_length: usize,
+        needed: *mut usize,
+    ) -> u8;
+}
+
+/// Which function is called.
+#[derive(Clone, Copy)]
+pub(crate) enum Call {
+    Commit,
+    Open,
+    Verify,
+}
+
+impl Call {
+    fn raw(self) -> Raw {
+        match self {
+            Call::Commit => p3_fri_commit,
+            Call::Open => p3_fri_open,
+            Call::Verify => p3_fri_verify,
+        }
+    }
+
+    /// Calls the function with an answer of so much room, or where that is too short, once more with
+    /// as much as it says.
+    pub fn answer(self, request: &[u8], room: usize) -> Result<Vec<u8>, Error> {
+        let (mut status, mut answer, needed) = self.try_answer(request, room)?;
+        if status == 4 {
+            (status, answer, _) = self.try_answer(request, needed)?;
+        }
+        match status {
+            0 => Ok(answer),
+            1 => Err(Error::refused(String::from_utf8_lossy(&answer).into_owned())),
+            2 => Err(Error::malformed(String::from_utf8_lossy(&answer).into_owned())),
+            _ => Err(Error::OutOfMemory),
+        }
+    }
+
+    /// Calls the function once: the status, what it wrote, and how much that needs.
+    fn try_answer(self, request: &[u8], room: usize) -> Result<(u8, Vec<u8>, usize), Error> {
+        let mut answer = Vec::new();
+        answer.try_reserve_exact(room).map_err(|_| Error::OutOfMemory)?;
+        answer.resize(room, 0);
+        let mut needed = 0;
+        // SAFETY: the pointers are those of a slice, of a vector and of a local, each with its own
+        // length; they don't overlap, and the library keeps none. It reads the first, writes within
+        // the second and the third, takes its memory from malloc, and returns for any bytes.
+        let status = unsafe {
+            self.raw()(
+                request.as_ptr(),
+                request.len(),
+                answer.as_mut_ptr(),
+                answer.len(),
+                &mut needed,
+            )
+        };
+        answer.truncate(needed);
+        Ok((status, answer, needed))
+    }
+}
+
+#[cfg(test)]
+mod tests {
+    use super::{Call, Error};
+
+    /// The column 1, 3 opened at 5.
+    const REQUEST: [u32; 19] = [1, 0, 1, 2, 0, 0, 0, 1, 1, 1, 1, 1, 1, 1, 3, 5, 0, 0, 0];
+
+    #[test]
+    fn a_short_buffer_is_left_alone_and_made_longer() {
+        let request: Vec<u8> = REQUEST.iter().flat_map(|number| number.to_le_bytes()).collect();
+        let (status, answer, needed) = Call::Commit.try_answer(&request, 31).unwrap();
+        assert_eq!((status, answer, needed), (4, vec![0; 31], 32));
+        let (status, answer, needed) = Call::Commit.try_answer(&request, 32).unwrap();
+        assert_eq!((status, answer.len(), needed), (0, 32, 32));
+        for room in [0, 31, 32, 100] {
+            assert_eq!(Call::Commit.answer(&request, room).unwrap(), answer);
+        }
+        assert_eq!(Call::Open.answer(&request, 0), Call::Open.answer(&request, 5000));
+    }
+
+    /// The statement that the request's opening is.
+    fn statement() -> Vec<u8> {
+        let request: Vec<u8> = REQUEST.iter().flat_map(|number| number.to_le_bytes()).collect();
+        Call::Open.answer(&request, 5000).unwrap().split_off(16)
+    }
+
+    #[test]
+    fn no_beginning_is_well_formed() {
+        let request: Vec<u8> = REQUEST.iter().flat_map(|number| number.to_le_bytes()).collect();
+        let statement = statement();
+        for (call, bytes) in [(Call::Open, request), (Call::Verify, statement)] {
+            for length in 0..bytes.len() {
+                let refused = call.answer(&bytes[..length], 5000);
+                assert!(matches!(refused, Err(Error::Malformed { .. })), "{length}");
+            }
+            assert!(call.answer(&bytes, 5000).is_ok());
+        }
+    }
+
+    /// Commitment, size, point and value are bound by the proof. The shift is not: it says where the
+    /// committed values stood, and the polynomials that are claimed of don't depend on it.
+    #[test]
+    fn no_claim_with_another_bit_is_accepted() {
+        let statement = statement();
+        let shift = 68..72;
+        for place in (28..116).filter(|place| !shift.contains(place)) {
+            for bit in 0..8 {
+                let mut changed = statement.clone();
+                changed[place] ^= 1 << bit;
+                assert!(Call::Verify.answer(&changed, 5000).is_err(), "{place} {bit}");
+            }
+        }
+    }
+
+    #[test]
+    fn a_text_needs_room_too() {
+        let (status, answer, needed) = Call::Verify.try_answer(&[], 10).unwrap();
+        assert_eq!((status, answer), (4, vec![0; 10]));
+        let (status, text, _) = Call::Verify.try_answer(&[], needed).unwrap();
+        assert_eq!(status, 2);
+        assert!(text.starts_with(b"BytesMissing { at: 0 }: "));
+    }
+}

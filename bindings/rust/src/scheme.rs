@@ -1,0 +1,137 @@
+//! The three calls.
+
+use crate::error::{Error, Fault};
+use crate::flat::{Reader, Writer};
+use crate::raw::Call;
+use crate::room::{room_for_answer, ROOM_FOR_TEXT};
+use crate::types::{
+    CommitmentClaims, Digest, ExtensionElement, Matrix, Opening, Parameters, Proof,
+};
+
+/// The bytes of a request. The form takes a matrix's number of values from its size, so that is
+/// compared here.
+fn request(parameters: &Parameters, commitments: &[Vec<Matrix>]) -> Result<Vec<u8>, Error> {
+    for (commitment, matrices) in commitments.iter().enumerate() {
+        for (matrix, it) in matrices.iter().enumerate() {
+            let count = 1u64.checked_shl(it.domain.log_size).map(u128::from);
+            let count = count.map(|size| size * u128::from(it.width));
+            if count != Some(it.values.len() as u128) {
+                return Err(Error::Malformed {
+                    fault: Fault::Values,
+                    text: format!(
+                        "Values: commitment {commitment}, matrix {matrix}, expected as many values \
+                         as the domain has points, times the width"
+                    ),
+                });
+            }
+        }
+    }
+    let mut writer = Writer::default();
+    writer.request(parameters, commitments)?;
+    Ok(writer.bytes)
+}
+
+/// An answer that isn't in its form, which the library is proved not to give.
+fn unreadable() -> Error {
+    Error::malformed("Answer: the library's answer isn't in its form".to_string())
+}
+
+/// Commits to matrices, those of each list under one commitment.
+///
+/// ```
+/// use p3_fri_proved::{commit, Domain, Matrix, Parameters};
+///
+/// let column = Matrix {
+///     domain: Domain::subgroup(1),
+///     width: 1,
+///     values: vec![1, 3],
+///     points: vec![],
+/// };
+/// let commitments = commit(&Parameters::default(), &[vec![column]])?;
+/// assert_eq!(commitments[0][..4], [0x2a, 0xa4, 0x19, 0xf5]);
+/// # Ok::<(), p3_fri_proved::Error>(())
+/// ```
+///
+/// # Errors
+///
+/// [`Error::Malformed`] where a number is no element, or the parameters, a domain or a width has no
+/// place in the scheme; [`Error::OutOfMemory`].
+pub fn commit(parameters: &Parameters, commitments: &[Vec<Matrix>]) -> Result<Vec<Digest>, Error> {
+    let request = request(parameters, commitments)?;
+    let room = ROOM_FOR_TEXT.max(32 * commitments.len());
+    let answer = Call::Commit.answer(&request, room)?;
+    let mut reader = Reader { left: &answer };
+    commitments.iter().map(|_| reader.digest().ok_or_else(unreadable)).collect()
+}
+
+/// Commits to matrices, those of each list under one commitment, and opens each at its points.
+/// [`verify`] accepts what comes of it. The crate's page has an example.
+///
+/// # Errors
+///
+/// [`Error::Malformed`] as of [`commit`], and where a point is no element or a matrix has none;
+/// [`Error::Refused`] with one of the prover's refusals, as where a point lies in a matrix's coset of
+/// evaluation:
+///
+/// ```
+/// use p3_fri_proved::{open, Domain, Error, Matrix, Parameters, Refusal};
+///
+/// let column = Matrix {
+///     domain: Domain::subgroup(1),
+///     width: 1,
+///     values: vec![1, 3],
+///     points: vec![[31, 0, 0, 0]],
+/// };
+/// match open(&Parameters::default(), &[vec![column]]) {
+///     Err(Error::Refused { refusal, text }) => {
+///         assert_eq!(refusal, Refusal::PointInEvaluationDomain);
+///         assert!(text.starts_with("PointInEvaluationDomain { round: 0, matrix: 0, point: 0 }"));
+///     }
+///     _ => unreachable!(),
+/// }
+/// ```
+pub fn open(parameters: &Parameters, commitments: &[Vec<Matrix>]) -> Result<Opening, Error> {
+    let request = request(parameters, commitments)?;
+    let room = room_for_answer(parameters, commitments);
+    let answer = Call::Open.answer(&request, room)?;
+    Reader { left: &answer }.opening().ok_or_else(unreadable)
+}
+
+/// Verifies claims and their proof, and answers what the challenger draws next, which is the
+/// [`next_challenge`](Opening::next_challenge) of their opening.
+///
+/// What is verified is what is passed: a verifier passes its own parameters, and claims with the
+/// commitments and points that it knows.
+///
+/// # Errors
+///
+/// [`Error::Refused`] where the claims aren't accepted, by a refusal that stands of them;
+/// [`Error::Malformed`] where a number is no element or the proof is no plain proof in JSON;
+/// [`Error::OutOfMemory`], which says nothing of the claims.
+///
+/// ```
+/// use p3_fri_proved::{open, verify, Domain, Error, Matrix, Parameters, Refusal};
+///
+/// let parameters = Parameters::default();
+/// let column = Matrix {
+///     domain: Domain::subgroup(1),
+///     width: 1,
+///     values: vec![1, 3],
+///     points: vec![[5, 0, 0, 0]],
+/// };
+/// let mut opening = open(&parameters, &[vec![column]])?;
+/// opening.claims[0].matrices[0].points[0].values[0][0] -= 1;
+/// let refused = verify(&parameters, &opening.claims, &opening.proof);
+/// assert!(matches!(refused, Err(Error::Refused { .. })));
+/// # Ok::<(), Error>(())
+/// ```
+pub fn verify(
+    parameters: &Parameters,
+    claims: &[CommitmentClaims],
+    proof: &Proof,
+) -> Result<ExtensionElement, Error> {
+    let mut writer = Writer::default();
+    writer.statement(parameters, claims, proof)?;
+    let answer = Call::Verify.answer(&writer.bytes, ROOM_FOR_TEXT)?;
+    Reader { left: &answer }.element().ok_or_else(unreadable)
+}

@@ -1,0 +1,156 @@
+//! What is passed and answered.
+
+/// An element of BabyBear: its canonical number, below [`ORDER`].
+pub type Element = u32;
+
+/// An element of BabyBear's extension of degree 4, modulo `X^4 - 11`: the numbers of its four
+/// coefficients, that of one first.
+pub type ExtensionElement = [u32; 4];
+
+/// A commitment: a digest by SHA-256.
+pub type Digest = [u8; 32];
+
+/// The order of BabyBear, `2^31 - 2^27 + 1`.
+pub const ORDER: u32 = 2013265921;
+
+/// The parameters of the scheme. Logarithms are to the base 2. The default is for trying it out: a
+/// blowup of 2, folds by two to a constant, one query, no proofs of work.
+///
+/// ```
+/// use p3_fri_proved::Parameters;
+///
+/// let parameters = Parameters { num_queries: 100, ..Parameters::default() };
+/// assert_eq!(parameters.log_blowup, 1);
+/// ```
+#[derive(Clone, Copy, Debug, PartialEq, Eq, Hash)]
+pub struct Parameters {
+    /// How many times as long words are as what they encode: from 1 to 27.
+    pub log_blowup: u32,
+    /// The number of coefficients at which folding ends.
+    pub log_final_poly_len: u32,
+    /// By how much a round folds at most: above 0.
+    pub max_log_arity: u32,
+    /// The number of queries: above 0.
+    pub num_queries: u32,
+    /// The difficulty of the proof of work before the challenge that batches the openings. Each
+    /// difficulty is at most 63 bits.
+    pub batch_proof_of_work_bits: u32,
+    /// The difficulty of the proof of work before each round's challenge.
+    pub commit_proof_of_work_bits: u32,
+    /// The difficulty of the proof of work before the queries' indices.
+    pub query_proof_of_work_bits: u32,
+}
+
+impl Default for Parameters {
+    fn default() -> Parameters {
+        Parameters {
+            log_blowup: 1,
+            log_final_poly_len: 0,
+            max_log_arity: 1,
+            num_queries: 1,
+            batch_proof_of_work_bits: 0,
+            commit_proof_of_work_bits: 0,
+            query_proof_of_work_bits: 0,
+        }
+    }
+}
+
+/// A coset of `2^log_size` points: the shift times each power of the root of unity of that order.
+///
+/// ```
+/// use p3_fri_proved::Domain;
+///
+/// assert_eq!(Domain::subgroup(3), Domain { shift: 1, log_size: 3 });
+/// ```
+#[derive(Clone, Copy, Debug, PartialEq, Eq, Hash)]
+pub struct Domain {
+    /// An element that isn't 0.
+    pub shift: Element,
+    /// With the log blowup at most 27.
+    pub log_size: u32,
+}
+
+impl Domain {
+    /// The subgroup of `2^log_size` points.
+    pub fn subgroup(log_size: u32) -> Domain {
+        Domain { shift: 1, log_size }
+    }
+}
+
+/// Columns of values on a domain, and the points to open them at. [`commit`](crate::commit) doesn't
+/// read the points.
+#[derive(Clone, Debug, PartialEq, Eq, Hash)]
+pub struct Matrix {
+    /// Where the values stand.
+    pub domain: Domain,
+    /// The number of columns, above 0.
+    pub width: u32,
+    /// Row by row, `width * 2^log_size` values. Row `i` belongs to the point `shift * w^i`, where `w`
+    /// is the root of unity.
+    pub values: Vec<Element>,
+    /// The points that each column is opened at, at least one.
+    pub points: Vec<ExtensionElement>,
+}
+
+/// The values claimed at a point, one for each column.
+#[derive(Clone, Debug, PartialEq, Eq, Hash)]
+pub struct PointClaims {
+    /// The point.
+    pub point: ExtensionElement,
+    /// The value of each column's polynomial there.
+    pub values: Vec<ExtensionElement>,
+}
+
+/// What is claimed of a matrix.
+#[derive(Clone, Debug, PartialEq, Eq, Hash)]
+pub struct MatrixClaims {
+    /// Where the committed values stand.
+    pub domain: Domain,
+    /// The values at each point.
+    pub points: Vec<PointClaims>,
+}
+
+/// What is claimed of the matrices under one commitment.
+#[derive(Clone, Debug, PartialEq, Eq, Hash)]
+pub struct CommitmentClaims {
+    /// The commitment.
+    pub commitment: Digest,
+    /// The claims of each matrix, in the order in which they were committed to.
+    pub matrices: Vec<MatrixClaims>,
+}
+
+/// A proof of claims: its plain form in JSON, which docs/FORMATS.md describes.
+///
+/// ```
+/// use p3_fri_proved::Proof;
+///
+/// let proof = Proof::from_json("{}");
+/// assert_eq!(proof.as_json(), b"{}");
+/// ```
+#[derive(Clone, Debug, PartialEq, Eq, Hash)]
+pub struct Proof {
+    json: Vec<u8>,
+}
+
+impl Proof {
+    /// The proof with this text. Whether it is a proof's is tested where it is verified.
+    pub fn from_json(json: impl Into<Vec<u8>>) -> Proof {
+        Proof { json: json.into() }
+    }
+
+    /// Its text.
+    pub fn as_json(&self) -> &[u8] {
+        &self.json
+    }
+}
+
+/// What comes of opening matrices.
+#[derive(Clone, Debug, PartialEq, Eq, Hash)]
+pub struct Opening {
+    /// The values at the points, by commitment, matrix, point and column.
+    pub claims: Vec<CommitmentClaims>,
+    /// Their proof.
+    pub proof: Proof,
+    /// What the challenger draws after the proof. A verifier's is the same.
+    pub next_challenge: ExtensionElement,
+}

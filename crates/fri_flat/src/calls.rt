@@ -1,0 +1,83 @@
+//! The calls over bytes.
+
+ghost use Rattle.std.specs.Prelude.{◌≡◌, length, IfOk, OnOk};
+ghost use Rattle.fri_flat.specs.Flat.{AnswersRequest, IsRequestForm, IsStatementForm};
+
+use crate::failure::Failure;
+use crate::forms::{answer_of, request_of, statement_of};
+use crate::writer::push_element;
+use fri_requests::{Fault, Place, Proof, VerifyError};
+use p3_fri_plain::{PlainFriProof, PlainProofError, from_plain, to_plain};
+use std::alloc::Global;
+
+/// The commitments of the request in these bytes, 32 bytes each.
+pub fn commit(alloc: Global, bytes: &[u8]) -> Result<Vec<u8>, Failure>
+    ensures { OnOk result (IsRequestForm bytes.now) }
+{
+    let request = request_of(alloc, bytes)?;
+    let commitments = match fri_requests::commit(alloc, &request) {
+        Ok(commitments) => commitments,
+        Err(error) => return Err(Failure::Request(error)),
+    };
+    let mut out = Vec::new(alloc);
+    for commitment in &commitments {
+        out.extend_from_slice(commitment)?;
+    }
+    Ok(out)
+}
+
+/// The answer to the request in these bytes: the next challenge, and the statement that `verify`
+/// takes.
+pub fn open(alloc: Global, bytes: &[u8]) -> Result<Vec<u8>, Failure>
+    ensures { IfOk result (λ v. AnswersRequest bytes.now v.items) }
+{
+    let request = request_of(alloc, bytes)?;
+    let opening = match fri_requests::open(alloc, &request) {
+        Ok(opening) => opening,
+        Err(error) => return Err(Failure::Request(error)),
+    };
+    let form = to_plain(alloc, &opening.proof)?;
+    let proof = serde_json::to_vec(alloc, &form)?;
+    let parameters = &request.parameters;
+    let answer = answer_of(
+        alloc,
+        &opening.next_challenge,
+        parameters,
+        &opening.claims,
+        &proof,
+    )?;
+    Ok(answer)
+}
+
+/// The proof of its plain form.
+fn proof_of(alloc: Global, form: PlainFriProof) -> Result<Proof, VerifyError> {
+    let fault = match from_plain(alloc, form) {
+        Ok(proof) => return Ok(proof),
+        Err(PlainProofError::OutOfMemory) => return Err(VerifyError::OutOfMemory),
+        Err(PlainProofError::ElementOutOfRange) => Fault::Element,
+        Err(PlainProofError::ElementLength) => Fault::ExtensionElement,
+        Err(PlainProofError::DigestLength) => Fault::Digest,
+    };
+    Err(VerifyError::Malformed(Place::PROOF.lacks(fault)))
+}
+
+/// Verifies the statement in these bytes, and answers the four numbers of what the challenger draws
+/// next.
+pub fn verify(alloc: Global, bytes: &[u8]) -> Result<Vec<u8>, Failure>
+    ensures statement { OnOk result (IsStatementForm bytes.now) }
+    ensures numbers { IfOk result (λ v. length v.items ≡ 16) }
+{
+    let statement = statement_of(alloc, bytes)?;
+    let form: PlainFriProof = serde_json::from_slice(alloc, statement.proof)?;
+    let verified = match proof_of(alloc, form) {
+        Ok(proof) => fri_requests::verify(alloc, &statement.parameters, &statement.claims, &proof),
+        Err(error) => Err(error),
+    };
+    let next_challenge = match verified {
+        Ok(next_challenge) => next_challenge,
+        Err(error) => return Err(Failure::Statement(error)),
+    };
+    let mut out = Vec::new(alloc);
+    push_element(&mut out, &next_challenge)?;
+    Ok(out)
+}

@@ -1,0 +1,79 @@
+//! Whole requests and statements in the flat form.
+
+ghost use Rattle.std.specs.Prelude.{◌≡◌, ◌++◌, IfOk, OnOk};
+ghost use Rattle.std.specs.List.{All};
+ghost use Rattle.fri_flat.specs.Flat.{request, statement, answer, IsRequest, IsBatchClaims};
+
+use crate::failure::Failure;
+use crate::flat::Flat;
+use crate::reader::Reader;
+use crate::writer::push_element;
+use fri_requests::{BatchClaims, Parameters, Request};
+use std::alloc::Global;
+
+/// Parameters, claims, and the text of their proof.
+#[derive(Drop)]
+pub(crate) struct Statement<'a> {
+    pub parameters: Parameters,
+    pub claims: Vec<BatchClaims>,
+    pub proof: &'a [u8],
+}
+
+/// The request in these bytes, of which none is left.
+pub(crate) fn request_of(alloc: Global, bytes: &[u8]) -> Result<Request, Failure>
+    ensures form { IfOk result (λ r. bytes.now ≡ request r) }
+    ensures whole { IfOk result IsRequest }
+{
+    let mut reader = Reader { left: bytes };
+    let request = match Request::read(alloc, &mut reader) {
+        Ok(request) => request,
+        Err(error) => return Err(Failure::of_reading(error, bytes.len())),
+    };
+    if !reader.left.is_empty() {
+        return Err(Failure::BytesLeft {
+            at: bytes.len().saturating_sub(reader.left.len()),
+        });
+    }
+    Ok(request)
+}
+
+/// The statement in these bytes.
+pub(crate) fn statement_of(alloc: Global, bytes: &[u8]) -> Result<Statement<'_>, Failure>
+    ensures form { IfOk result (λ s. bytes.now
+        ≡ statement s.parameters s.claims.items s.proof.now) }
+    ensures whole { IfOk result (λ s. All IsBatchClaims s.claims.items) }
+{
+    let mut reader = Reader { left: bytes };
+    let parameters = match Parameters::read(alloc, &mut reader) {
+        Ok(parameters) => parameters,
+        Err(error) => return Err(Failure::of_reading(error, bytes.len())),
+    };
+    let claims: Vec<BatchClaims> = match Flat::read(alloc, &mut reader) {
+        Ok(claims) => claims,
+        Err(error) => return Err(Failure::of_reading(error, bytes.len())),
+    };
+    Ok(Statement {
+        parameters,
+        claims,
+        proof: reader.left,
+    })
+}
+
+/// The bytes of an answer: the next challenge, then the statement.
+pub(crate) fn answer_of(
+    alloc: Global,
+    next_challenge: &Vec<u64>,
+    parameters: &Parameters,
+    claims: &Vec<BatchClaims>,
+    proof: &[u8],
+) -> Result<Vec<u8>, Failure>
+    ensures { IfOk result (λ v. v.items
+        ≡ answer next_challenge.now.items parameters.now claims.now.items proof.now) }
+{
+    let mut out = Vec::new(alloc);
+    push_element(&mut out, next_challenge)?;
+    parameters.write(&mut out)?;
+    claims.write(&mut out)?;
+    out.extend_from_slice(proof)?;
+    Ok(out)
+}

@@ -1,0 +1,92 @@
+//! Numbers and digests at the front of bytes. Memory is asked for only as far as bytes are there.
+
+ghost use Rattle.std.specs.Prelude.{◌≡◌, ◌<◌, ◌++◌, IfOk, OnErr, length, vec_len};
+ghost use Rattle.std.specs.List.{All};
+ghost use Rattle.fri_flat.specs.Flat.{word, words, elements, digest, IsElement};
+
+use crate::fault::ReadError;
+use std::alloc::{AllocError, Global};
+
+/// The hex text of a digest.
+fn hex_of(alloc: Global, bytes: &[u8]) -> Result<String, AllocError>
+    requires { length bytes.now ≡ 32 }
+    ensures { IfOk result (λ text. digest text ≡ bytes.now) }
+{
+    let text = hex::encode(alloc, bytes)?;
+    Ok(text)
+}
+
+/// Bytes that are read from the front.
+#[derive(Drop)]
+pub(crate) struct Reader<'a> {
+    pub left: &'a [u8],
+}
+
+impl<'a> Reader<'a> {
+    /// Fewer bytes are left than have to come.
+    pub fn missing(&self) -> ReadError {
+        ReadError::Missing {
+            left: self.left.len(),
+        }
+    }
+
+    /// Reads a number.
+    pub fn word(&mut self) -> Result<u32, ReadError>
+        ensures form { IfOk result (λ n. self.old.left.now ≡ word n ++ self.new.left.now) }
+        ensures missing { OnErr result (length self.old.left.now < 4) }
+    {
+        match self.left {
+            [first, second, third, fourth, rest @ ..] => {
+                let number = u32::from_le_bytes([*first, *second, *third, *fourth]);
+                self.left = rest;
+                Ok(number)
+            },
+            _ => Err(self.missing()),
+        }
+    }
+
+    /// Reads so many numbers.
+    pub fn words(&mut self, alloc: Global, count: usize) -> Result<Vec<u64>, ReadError>
+        ensures form { IfOk result (λ v. self.old.left.now ≡ words v.items ++ self.new.left.now) }
+        ensures count { IfOk result (λ v. vec_len v ≡ count) }
+    {
+        if self.left.len() / 4 < count {
+            return Err(self.missing());
+        }
+        let mut numbers = Vec::with_capacity(alloc, count)?;
+        for _ in 0..count {
+            numbers.push(u64::from(self.word()?))?;
+        }
+        Ok(numbers)
+    }
+
+    /// Reads so many elements of the extension, four numbers each.
+    pub fn elements(&mut self, alloc: Global, count: usize) -> Result<Vec<Vec<u64>>, ReadError>
+        ensures form { IfOk result (λ v. self.old.left.now
+            ≡ elements v.items ++ self.new.left.now) }
+        ensures count { IfOk result (λ v. vec_len v ≡ count) }
+        ensures each { IfOk result (λ v. All IsElement v.items) }
+    {
+        if self.left.len() / 16 < count {
+            return Err(self.missing());
+        }
+        let mut elements = Vec::with_capacity(alloc, count)?;
+        for _ in 0..count {
+            elements.push(self.words(alloc, 4)?)?;
+        }
+        Ok(elements)
+    }
+
+    /// Reads a digest, as hex text.
+    pub fn digest(&mut self, alloc: Global) -> Result<String, ReadError>
+        ensures { IfOk result (λ text. self.old.left.now ≡ digest text ++ self.new.left.now) }
+    {
+        if self.left.len() < 32 {
+            return Err(self.missing());
+        }
+        let (digest, rest) = self.left.split_at(32);
+        let text = hex_of(alloc, digest)?;
+        self.left = rest;
+        Ok(text)
+    }
+}

@@ -1,0 +1,192 @@
+//! The records of the plain scheme in the flat form.
+
+ghost use Rattle.std.specs.Prelude.{◌≡◌, ◌*◌, ◌^◌, IfSome};
+ghost use Rattle.std.specs.List.{All};
+ghost use Rattle.fri_flat.specs.Flat.{parameters, matrix, IsMatrix, batch, IsBatch, request};
+ghost use Rattle.fri_flat.specs.Flat.{IsRequest, point_claims, IsPointClaims, matrix_claims};
+ghost use Rattle.fri_flat.specs.Flat.{IsMatrixClaims, batch_claims, IsBatchClaims};
+
+use crate::fault::{ReadError, WriteError};
+use crate::flat::Flat;
+use crate::reader::Reader;
+use crate::writer::{
+    push_count, push_counts, push_digest, push_element, push_elements, push_number, push_numbers,
+};
+use fri_requests::{
+    Batch, BatchClaims, Domain, Matrix, MatrixClaims, Parameters, PointClaims, Request,
+};
+use std::alloc::Global;
+
+impl Flat for Parameters {
+    ghost form = { parameters };
+
+    ghost IsWhole = { λ _. Unit {0} };
+
+    fn read(alloc: Global, reader: &mut Reader<'_>) -> Result<Parameters, ReadError> {
+        Ok(Parameters {
+            log_blowup: reader.word()? as usize,
+            log_final_poly_len: reader.word()? as usize,
+            max_log_arity: reader.word()? as usize,
+            num_queries: reader.word()? as usize,
+            batch_proof_of_work_bits: reader.word()? as usize,
+            commit_proof_of_work_bits: reader.word()? as usize,
+            query_proof_of_work_bits: reader.word()? as usize,
+        })
+    }
+
+    fn write(&self, out: &mut Vec<u8>) -> Result<(), WriteError> {
+        let sizes = [
+            self.log_blowup,
+            self.log_final_poly_len,
+            self.max_log_arity,
+            self.num_queries,
+            self.batch_proof_of_work_bits,
+            self.commit_proof_of_work_bits,
+            self.query_proof_of_work_bits,
+        ];
+        push_counts(out, &sizes)
+    }
+}
+
+/// The number of values in so many columns of `2^log_size`. More than 64 bits count there can't be.
+fn value_count(width: usize, log_size: usize) -> Option<usize>
+    ensures { IfSome result (λ count. count ≡ width * 2 ^ log_size) }
+{
+    if width == 0 {
+        return Some(0);
+    }
+    if log_size > 31 {
+        return None;
+    }
+    width.checked_mul(1 << log_size)
+}
+
+/// The shift, the size, the width and the number of points, then values and points.
+impl Flat for Matrix {
+    ghost form = { matrix };
+
+    ghost IsWhole = { IsMatrix };
+
+    fn read(alloc: Global, reader: &mut Reader<'_>) -> Result<Matrix, ReadError> {
+        let shift = u64::from(reader.word()?);
+        let log_size = reader.word()? as usize;
+        let width = reader.word()? as usize;
+        let points = reader.word()? as usize;
+        let Some(values) = value_count(width, log_size) else {
+            return Err(reader.missing());
+        };
+        Ok(Matrix {
+            domain: Domain { shift, log_size },
+            width,
+            values: reader.words(alloc, values)?,
+            points: reader.elements(alloc, points)?,
+        })
+    }
+
+    fn write(&self, out: &mut Vec<u8>) -> Result<(), WriteError> {
+        let sizes = [
+            self.domain.shift,
+            self.domain.log_size as u64,
+            self.width as u64,
+            self.points.len() as u64,
+        ];
+        push_numbers(out, &sizes)?;
+        push_numbers(out, &self.values)?;
+        push_elements(out, &self.points)?;
+        Ok(())
+    }
+}
+
+impl Flat for Batch {
+    ghost form = { batch };
+
+    ghost IsWhole = { IsBatch };
+
+    fn read(alloc: Global, reader: &mut Reader<'_>) -> Result<Batch, ReadError> {
+        Ok(Batch {
+            matrices: Flat::read(alloc, reader)?,
+        })
+    }
+
+    fn write(&self, out: &mut Vec<u8>) -> Result<(), WriteError> {
+        self.matrices.write(out)
+    }
+}
+
+impl Flat for Request {
+    ghost form = { request };
+
+    ghost IsWhole = { IsRequest };
+
+    fn read(alloc: Global, reader: &mut Reader<'_>) -> Result<Request, ReadError> {
+        Ok(Request {
+            parameters: Flat::read(alloc, reader)?,
+            commitments: Flat::read(alloc, reader)?,
+        })
+    }
+
+    fn write(&self, out: &mut Vec<u8>) -> Result<(), WriteError> {
+        self.parameters.write(out)?;
+        self.commitments.write(out)
+    }
+}
+
+impl Flat for PointClaims {
+    ghost form = { point_claims };
+
+    ghost IsWhole = { IsPointClaims };
+
+    fn read(alloc: Global, reader: &mut Reader<'_>) -> Result<PointClaims, ReadError> {
+        let point = reader.words(alloc, 4)?;
+        let columns = reader.word()? as usize;
+        Ok(PointClaims {
+            point,
+            values: reader.elements(alloc, columns)?,
+        })
+    }
+
+    fn write(&self, out: &mut Vec<u8>) -> Result<(), WriteError> {
+        push_element(out, &self.point)?;
+        push_count(out, self.values.len())?;
+        push_elements(out, &self.values)
+    }
+}
+
+impl Flat for MatrixClaims {
+    ghost form = { matrix_claims };
+
+    ghost IsWhole = { IsMatrixClaims };
+
+    fn read(alloc: Global, reader: &mut Reader<'_>) -> Result<MatrixClaims, ReadError> {
+        let shift = u64::from(reader.word()?);
+        let log_size = reader.word()? as usize;
+        Ok(MatrixClaims {
+            domain: Domain { shift, log_size },
+            points: Flat::read(alloc, reader)?,
+        })
+    }
+
+    fn write(&self, out: &mut Vec<u8>) -> Result<(), WriteError> {
+        push_number(out, self.domain.shift)?;
+        push_count(out, self.domain.log_size)?;
+        self.points.write(out)
+    }
+}
+
+impl Flat for BatchClaims {
+    ghost form = { batch_claims };
+
+    ghost IsWhole = { IsBatchClaims };
+
+    fn read(alloc: Global, reader: &mut Reader<'_>) -> Result<BatchClaims, ReadError> {
+        Ok(BatchClaims {
+            commitment: reader.digest(alloc)?,
+            matrices: Flat::read(alloc, reader)?,
+        })
+    }
+
+    fn write(&self, out: &mut Vec<u8>) -> Result<(), WriteError> {
+        push_digest(out, &self.commitment)?;
+        self.matrices.write(out)
+    }
+}

@@ -1,0 +1,88 @@
+//! Numbers and digests at the end of bytes.
+
+ghost use Rattle.std.specs.Prelude.{◌≡◌, ◌++◌, OnOk};
+ghost use Rattle.std.specs.List.{All};
+ghost use Rattle.fri_flat.specs.Flat.{word, words, elements, digest, IsElement};
+
+use crate::fault::WriteError;
+use hex::{FromHex, FromHexError};
+
+/// Adds a number.
+fn push_word(out: &mut Vec<u8>, number: u32) -> Result<(), WriteError>
+    ensures { OnOk result (out.new.items ≡ out.old.items ++ word number) }
+{
+    Ok(out.extend_from_slice(&number.to_le_bytes())?)
+}
+
+/// Adds a number that fits 32 bits.
+pub(crate) fn push_number(out: &mut Vec<u8>, number: u64) -> Result<(), WriteError>
+    ensures { OnOk result (out.new.items ≡ out.old.items ++ word number) }
+{
+    match u32::try_from(number) {
+        Ok(number) => push_word(out, number),
+        Err(_) => Err(WriteError::NoForm),
+    }
+}
+
+/// Adds a count or a size that fits 32 bits.
+pub(crate) fn push_count(out: &mut Vec<u8>, count: usize) -> Result<(), WriteError>
+    ensures { OnOk result (out.new.items ≡ out.old.items ++ word count) }
+{
+    match u32::try_from(count) {
+        Ok(count) => push_word(out, count),
+        Err(_) => Err(WriteError::NoForm),
+    }
+}
+
+/// Adds counts and sizes one after another.
+pub(crate) fn push_counts(out: &mut Vec<u8>, counts: &[usize]) -> Result<(), WriteError>
+    ensures { OnOk result (out.new.items ≡ out.old.items ++ words counts.now) }
+{
+    for count in counts {
+        push_count(out, *count)?;
+    }
+    Ok(())
+}
+
+/// Adds numbers one after another.
+pub(crate) fn push_numbers(out: &mut Vec<u8>, numbers: &[u64]) -> Result<(), WriteError>
+    ensures { OnOk result (out.new.items ≡ out.old.items ++ words numbers.now) }
+{
+    for number in numbers {
+        push_number(out, *number)?;
+    }
+    Ok(())
+}
+
+/// Adds an element of the extension.
+pub(crate) fn push_element(out: &mut Vec<u8>, element: &Vec<u64>) -> Result<(), WriteError>
+    ensures form { OnOk result (out.new.items ≡ out.old.items ++ words element.now.items) }
+    ensures length { OnOk result (IsElement element.now) }
+{
+    if element.len() != 4 {
+        return Err(WriteError::NoForm);
+    }
+    push_numbers(out, element)
+}
+
+/// Adds elements of the extension one after another.
+pub(crate) fn push_elements(out: &mut Vec<u8>, list: &[Vec<u64>]) -> Result<(), WriteError>
+    ensures form { OnOk result (out.new.items ≡ out.old.items ++ elements list.now) }
+    ensures lengths { OnOk result (All IsElement list.now) }
+{
+    for element in list {
+        push_element(out, element)?;
+    }
+    Ok(())
+}
+
+/// Adds the 32 bytes that a hex text says.
+pub(crate) fn push_digest(out: &mut Vec<u8>, text: &String) -> Result<(), WriteError>
+    ensures { OnOk result (out.new.items ≡ out.old.items ++ digest text.now) }
+{
+    let digest: Result<[u8; 32], FromHexError> = FromHex::from_hex(text.as_str());
+    match digest {
+        Ok(digest) => Ok(out.extend_from_slice(&digest)?),
+        Err(_) => Err(WriteError::NoForm),
+    }
+}

@@ -1,0 +1,9 @@
+//! Tests of the plain scheme over bytes.
+#![tactic(auto)]
+
+#[cfg(test)]
+mod answered;
+#[cfg(test)]
+mod forms;
+#[cfg(test)]
+mod refused;

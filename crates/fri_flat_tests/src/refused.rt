@@ -1,0 +1,127 @@
+//! What is refused, by which text and status.
+
+use crate::forms::{PROOF, REQUEST, bytes_of, claims_of};
+use fri_flat::{Failure, MALFORMED, REFUSED};
+use std::alloc::{AllocError, Global};
+use std::test::Fail;
+
+/// Where in the statement the claimed value begins.
+const LOWEST_BYTE_OF_VALUE: usize = 100;
+
+/// A request with one number changed, cut to so many bytes, or with one byte more, and what it is
+/// refused with.
+struct Case {
+    number: usize,
+    value: u32,
+    length: usize,
+    text: &'static str,
+}
+
+const CASES: [Case; 7] = [
+    // the last byte is cut off, one is added, and all are cut off
+    Case {
+        number: 18,
+        value: 0,
+        length: 75,
+        text: "BytesMissing { at: 60 }: fewer bytes are left than have to come",
+    },
+    Case {
+        number: 18,
+        value: 0,
+        length: 77,
+        text: "BytesLeft { at: 76 }: bytes follow what is whole",
+    },
+    Case {
+        number: 18,
+        value: 0,
+        length: 0,
+        text: "BytesMissing { at: 0 }: fewer bytes are left than have to come",
+    },
+    // as many commitments, points of a domain and columns as a number names
+    Case {
+        number: 7,
+        value: 4294967295,
+        length: 76,
+        text: "BytesMissing { at: 76 }: fewer bytes are left than have to come",
+    },
+    Case {
+        number: 10,
+        value: 4294967295,
+        length: 76,
+        text: "BytesMissing { at: 52 }: fewer bytes are left than have to come",
+    },
+    Case {
+        number: 11,
+        value: 4294967295,
+        length: 76,
+        text: "BytesMissing { at: 52 }: fewer bytes are left than have to come",
+    },
+    // no query
+    Case {
+        number: 3,
+        value: 0,
+        length: 76,
+        text: "NumQueries: expected num_queries above 0",
+    },
+];
+
+/// The bytes of a case.
+fn changed(alloc: Global, case: &Case) -> Result<Vec<u8>, AllocError> {
+    let mut numbers = Vec::from_slice(alloc, &REQUEST)?;
+    if let Some(number) = numbers.get_mut(case.number) {
+        *number = case.value;
+    }
+    let mut bytes = bytes_of(alloc, &numbers)?;
+    bytes.push(0)?;
+    bytes.truncate(case.length);
+    Ok(bytes)
+}
+
+/// Whether the failure has this status and text.
+fn says(alloc: Global, failure: &Failure, status: u8, text: &str) -> Result<bool, AllocError> {
+    let said = format!(in alloc; "{failure}")?;
+    Ok(failure.status() == status && said.as_str() == text)
+}
+
+/// The first case that isn't refused so.
+fn first_answered(alloc: Global) -> Result<Option<usize>, AllocError> {
+    for (index, case) in CASES.iter().enumerate() {
+        match fri_flat::open(alloc, &changed(alloc, case)?) {
+            Err(failure) if says(alloc, &failure, MALFORMED, case.text)? => {},
+            _ => return Ok(Some(index)),
+        }
+    }
+    Ok(None)
+}
+
+#[test]
+fn malformed_requests_are_refused(rt: HostRuntime) -> Result<(), Fail> {
+    assert!(rt; first_answered(rt.alloc())?.is_none());
+    Ok(())
+}
+
+#[test]
+fn an_altered_value_is_refused(rt: HostRuntime) -> Result<(), Fail> {
+    let mut statement = claims_of(rt.alloc())?;
+    if let Some(byte) = statement.get_mut(LOWEST_BYTE_OF_VALUE) {
+        *byte = 253;
+    }
+    statement.extend_from_slice(PROOF.as_bytes())?;
+    let refused = match fri_flat::verify(rt.alloc(), &statement) {
+        Err(failure) => failure.status() == REFUSED,
+        Ok(_) => false,
+    };
+    assert!(rt; refused);
+    Ok(())
+}
+
+#[test]
+fn a_cut_proof_is_refused(rt: HostRuntime) -> Result<(), Fail> {
+    let statement = claims_of(rt.alloc())?;
+    let refused = match fri_flat::verify(rt.alloc(), &statement) {
+        Err(failure) => matches!(&failure, Failure::Json(_)) && failure.status() == MALFORMED,
+        Ok(_) => false,
+    };
+    assert!(rt; refused);
+    Ok(())
+}

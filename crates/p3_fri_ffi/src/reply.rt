@@ -1,0 +1,75 @@
+//! Replies in a caller's buffer.
+
+ghost use Rattle.std.specs.Prelude.{◌≡◌, ◌≢◌, ◌<◌, ◌≤◌, ◌++◌, length, take, drop};
+ghost use Rattle.std.specs.Prelude.{IfOk, OnErr};
+ghost use Rattle.p3_fri_ffi.specs.Reply.{IsReply};
+
+use fri_flat::{ANSWERED, Failure, OUT_OF_MEMORY};
+use std::alloc::Global;
+
+/// The status of a buffer that is too short.
+pub const TOO_SHORT: u8 = 4;
+
+/// Writes bytes to the front of a buffer that has room for them, and answers the status.
+fn fill(bytes: &[u8], status: u8, buffer: &mut [u8], needed: &mut usize) -> u8
+    ensures needed { needed.new ≡ length bytes.now }
+    ensures status { length bytes.now ≤ length buffer.old → result ≡ status }
+    ensures bytes { length bytes.now ≤ length buffer.old
+        → buffer.new ≡ bytes.now ++ drop (length bytes.now) buffer.old }
+    ensures short { length buffer.old < length bytes.now → result ≡ 4 }
+    ensures kept { length buffer.old < length bytes.now → buffer.new ≡ buffer.old }
+{
+    *needed = bytes.len();
+    if buffer.len() < bytes.len() {
+        return TOO_SHORT;
+    }
+    let (front, _) = buffer.split_at_mut(bytes.len());
+    front.copy_from_slice(bytes);
+    status
+}
+
+/// Writes bytes to the front of a buffer that has room for them, with a status below 4.
+fn place(bytes: &[u8], status: u8, buffer: &mut [u8], needed: &mut usize) -> u8
+    requires { status < 4 }
+    ensures reply { IsReply buffer.old buffer.new needed.new result }
+    ensures status { result ≢ 4 → result ≡ status }
+    ensures bytes { result ≢ 4 → take needed.new buffer.new ≡ bytes.now }
+    ensures length { needed.new ≡ length bytes.now }
+{
+    fill(bytes, status, buffer, needed)
+}
+
+/// Writes why there is no answer, and gives the status.
+fn refuse(alloc: Global, failure: Failure, buffer: &mut [u8], needed: &mut usize) -> u8
+    ensures reply { IsReply buffer.old buffer.new needed.new result }
+    ensures status { result ≢ 0 }
+{
+    let status = failure.status();
+    *needed = 0;
+    if status == OUT_OF_MEMORY {
+        return OUT_OF_MEMORY;
+    }
+    match format!(in alloc; "{failure}") {
+        Ok(text) => place(text.as_bytes(), status, buffer, needed),
+        Err(_) => OUT_OF_MEMORY,
+    }
+}
+
+/// Writes an answer, or the text of what is refused, to the front of a buffer, and gives the
+/// status.
+pub(crate) fn reply(
+    alloc: Global,
+    outcome: Result<Vec<u8>, Failure>,
+    buffer: &mut [u8],
+    needed: &mut usize,
+) -> u8
+    ensures reply { IsReply buffer.old buffer.new needed.new result }
+    ensures answered { IfOk outcome (λ v. result ≡ 0 → take needed.new buffer.new ≡ v.items) }
+    ensures length { IfOk outcome (λ v. result ≡ 0 → needed.new ≡ length v.items) }
+    ensures refused { OnErr outcome (result ≢ 0) }
+{
+    match outcome {
+        Ok(bytes) => place(&bytes, ANSWERED, buffer, needed),
+        Err(failure) => refuse(alloc, failure, buffer, needed),
+    }
+}
