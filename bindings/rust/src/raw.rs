@@ -3,6 +3,18 @@
 
 use crate::error::Error;
 
+/// The answer is in the buffer.
+const ANSWERED: u8 = 0;
+
+/// The buffer says why well-formed bytes are refused.
+const REFUSED: u8 = 1;
+
+/// The buffer says why the bytes aren't well formed.
+const MALFORMED: u8 = 2;
+
+/// The buffer is shorter than what is needed.
+const BUFFER_TOO_SHORT: u8 = 4;
+
 /// A function of the library: it reads the bytes at the first pointer, writes to those at the
 /// second, and the number of bytes that this takes to the last.
 type Raw = unsafe extern "C" fn(*const u8, usize, *mut u8, usize, *mut usize) -> u8;
@@ -52,13 +64,13 @@ impl Call {
     /// as much as it says.
     pub fn answer(self, request: &[u8], room: usize) -> Result<Vec<u8>, Error> {
         let (mut status, mut answer, needed) = self.try_answer(request, room)?;
-        if status == 4 {
+        if status == BUFFER_TOO_SHORT {
             (status, answer, _) = self.try_answer(request, needed)?;
         }
         match status {
-            0 => Ok(answer),
-            1 => Err(Error::refused(String::from_utf8_lossy(&answer).into_owned())),
-            2 => Err(Error::malformed(String::from_utf8_lossy(&answer).into_owned())),
+            ANSWERED => Ok(answer),
+            REFUSED => Err(Error::refused(String::from_utf8_lossy(&answer).into_owned())),
+            MALFORMED => Err(Error::malformed(String::from_utf8_lossy(&answer).into_owned())),
             _ => Err(Error::OutOfMemory),
         }
     }
@@ -88,7 +100,7 @@ impl Call {
 
 #[cfg(test)]
 mod tests {
-    use super::{Call, Error};
+    use super::{Call, Error, ANSWERED, BUFFER_TOO_SHORT, MALFORMED};
 
     /// The column 1, 3 opened at 5.
     const REQUEST: [u32; 19] = [1, 0, 1, 2, 0, 0, 0, 1, 1, 1, 1, 1, 1, 1, 3, 5, 0, 0, 0];
@@ -97,9 +109,9 @@ mod tests {
     fn a_short_buffer_is_left_alone_and_made_longer() {
         let request: Vec<u8> = REQUEST.iter().flat_map(|number| number.to_le_bytes()).collect();
         let (status, answer, needed) = Call::Commit.try_answer(&request, 31).unwrap();
-        assert_eq!((status, answer, needed), (4, vec![0; 31], 32));
+        assert_eq!((status, answer, needed), (BUFFER_TOO_SHORT, vec![0; 31], 32));
         let (status, answer, needed) = Call::Commit.try_answer(&request, 32).unwrap();
-        assert_eq!((status, answer.len(), needed), (0, 32, 32));
+        assert_eq!((status, answer.len(), needed), (ANSWERED, 32, 32));
         for room in [0, 31, 32, 100] {
             assert_eq!(Call::Commit.answer(&request, room).unwrap(), answer);
         }
@@ -143,9 +155,9 @@ mod tests {
     #[test]
     fn a_text_needs_room_too() {
         let (status, answer, needed) = Call::Verify.try_answer(&[], 10).unwrap();
-        assert_eq!((status, answer), (4, vec![0; 10]));
+        assert_eq!((status, answer), (BUFFER_TOO_SHORT, vec![0; 10]));
         let (status, text, _) = Call::Verify.try_answer(&[], needed).unwrap();
-        assert_eq!(status, 2);
+        assert_eq!(status, MALFORMED);
         assert!(text.starts_with(b"BytesMissing { at: 0 }: "));
     }
 }

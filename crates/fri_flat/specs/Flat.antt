@@ -101,10 +101,16 @@ pub record AnswersRequest (bytes out : List ℕ) : Type 0 where
   pub is_asked : bytes ≡ request asked
   pub is_answer : out ≡ answer next_challenge asked.parameters claims proof
 
--- bytes are a request
-pub record IsRequestForm (bytes : List ℕ) : Type 0 where
+-- commitments one after another
+abbrev pub digests : List (List ℕ) → List ℕ
+digests commitments = flat_map (λ commitment. commitment) commitments
+
+-- bytes are a request, and others an answer of `commit` to it
+pub record CommitsRequest (bytes out : List ℕ) : Type 0 where
   pub asked : Request
+  pub commitments : List (List ℕ)
   pub is_asked : bytes ≡ request asked
+  pub is_answer : out ≡ digests commitments
 
 -- bytes are a statement
 pub record IsStatementForm (bytes : List ℕ) : Type 0 where

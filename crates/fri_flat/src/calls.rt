@@ -1,10 +1,12 @@
 //! The calls over bytes.
 
 ghost use Rattle.std.specs.Prelude.{◌≡◌, length, IfOk, OnOk};
-ghost use Rattle.fri_flat.specs.Flat.{AnswersRequest, IsRequestForm, IsStatementForm};
+ghost use Rattle.p3_fri_plain.specs.Numbers.{proof_numbers};
+ghost use Rattle.p3_fri_plain.specs.Views.{proof_seen, proof_listed};
+ghost use Rattle.fri_flat.specs.Flat.{AnswersRequest, CommitsRequest, IsStatementForm};
 
 use crate::failure::Failure;
-use crate::forms::{answer_of, request_of, statement_of};
+use crate::forms::{answer_of, digests_of, request_of, statement_of};
 use crate::writer::push_element;
 use fri_requests::{Fault, Place, Proof, VerifyError};
 use p3_fri_plain::{PlainFriProof, PlainProofError, from_plain, to_plain};
@@ -12,18 +14,15 @@ use std::alloc::Global;
 
 /// The commitments of the request in these bytes, 32 bytes each.
 pub fn commit(alloc: Global, bytes: &[u8]) -> Result<Vec<u8>, Failure>
-    ensures { OnOk result (IsRequestForm bytes.now) }
+    ensures { IfOk result (λ v. CommitsRequest bytes.now v.items) }
 {
     let request = request_of(alloc, bytes)?;
     let commitments = match fri_requests::commit(alloc, &request) {
         Ok(commitments) => commitments,
         Err(error) => return Err(Failure::Request(error)),
     };
-    let mut out = Vec::new(alloc);
-    for commitment in &commitments {
-        out.extend_from_slice(commitment)?;
-    }
-    Ok(out)
+    let answer = digests_of(alloc, &commitments)?;
+    Ok(answer)
 }
 
 /// The answer to the request in these bytes: the next challenge, and the statement that `verify`
@@ -50,7 +49,9 @@ pub fn open(alloc: Global, bytes: &[u8]) -> Result<Vec<u8>, Failure>
 }
 
 /// The proof of its plain form.
-fn proof_of(alloc: Global, form: PlainFriProof) -> Result<Proof, VerifyError> {
+fn proof_of(alloc: Global, form: PlainFriProof) -> Result<Proof, VerifyError>
+    ensures { IfOk result (λ proof. proof_numbers (proof_seen proof) ≡ proof_listed form) }
+{
     let fault = match from_plain(alloc, form) {
         Ok(proof) => return Ok(proof),
         Err(PlainProofError::OutOfMemory) => return Err(VerifyError::OutOfMemory),

@@ -2,14 +2,15 @@
 
 ghost use Rattle.std.specs.Prelude.{◌≡◌, ◌++◌, IfOk, OnOk};
 ghost use Rattle.std.specs.List.{All};
-ghost use Rattle.fri_flat.specs.Flat.{request, statement, answer, IsRequest, IsBatchClaims};
+ghost use Rattle.fri_flat.specs.Flat.{request, statement, answer, digests};
+ghost use Rattle.fri_flat.specs.Flat.{IsRequest, IsBatchClaims};
 
 use crate::failure::Failure;
 use crate::flat::Flat;
 use crate::reader::Reader;
 use crate::writer::push_element;
 use fri_requests::{BatchClaims, Parameters, Request};
-use std::alloc::Global;
+use std::alloc::{AllocError, Global};
 
 /// Parameters, claims, and the text of their proof.
 #[derive(Drop)]
@@ -59,7 +60,18 @@ pub(crate) fn statement_of(alloc: Global, bytes: &[u8]) -> Result<Statement<'_>,
     })
 }
 
-/// The bytes of an answer: the next challenge, then the statement.
+/// The bytes of an answer of `commit`: the commitments one after another.
+pub(crate) fn digests_of(alloc: Global, commitments: &[[u8; 32]]) -> Result<Vec<u8>, AllocError>
+    ensures { IfOk result (λ v. v.items ≡ digests commitments.now) }
+{
+    let mut out = Vec::new(alloc);
+    for commitment in commitments {
+        out.extend_from_slice(commitment)?;
+    }
+    Ok(out)
+}
+
+/// The bytes of an answer of `open`: the next challenge, then the statement.
 pub(crate) fn answer_of(
     alloc: Global,
     next_challenge: &Vec<u64>,

@@ -3,7 +3,7 @@
 #![tactic(auto)]
 
 ghost use Rattle.std.specs.Prelude.{◌≡◌, take};
-ghost use Rattle.fri_flat.specs.Flat.{AnswersRequest, IsRequestForm, IsStatementForm};
+ghost use Rattle.fri_flat.specs.Flat.{AnswersRequest, CommitsRequest, IsStatementForm};
 ghost use Rattle.p3_fri_ffi.specs.Reply.{IsReply};
 
 mod reply;
@@ -20,7 +20,7 @@ pub extern "C" fn p3_fri_commit(
     needed: &mut usize,
 ) -> u8
     ensures reply { IsReply answer.old answer.new needed.new result }
-    ensures answered { result ≡ 0 → IsRequestForm request.now }
+    ensures answered { result ≡ 0 → CommitsRequest request.now (take needed.new answer.new) }
 {
     let outcome = fri_flat::commit(alloc, request);
     reply(alloc, outcome, answer, needed)
