@@ -1,9 +1,11 @@
 //! Claims as records, and back.
 
-ghost use Rattle.std.specs.Prelude.{◌≡◌, map, IfOk};
+ghost use Rattle.std.specs.Prelude.{◌≡◌, map, IfOk, IfErr};
 ghost use Rattle.p3_pcs.specs.Claims.{claim, matrix_claim, point_claim};
 ghost use Rattle.fri_requests.specs.Claims.{point_numbers, matrix_numbers, batch_numbers};
 ghost use Rattle.fri_requests.specs.Claims.{point_listed, matrix_listed, batch_listed};
+ghost use Rattle.fri_requests.specs.Failures.{IfMalformed};
+ghost use Rattle.fri_requests.specs.Statements.{IsPointClaim, IsMatrixClaim, IsClaim, AreClaims};
 
 use crate::elements::{coefficients, coset, domain, extension_element, extension_elements};
 use crate::fault::{Fault, Place, ReadError};
@@ -79,7 +81,9 @@ fn point_opening(
     claims: &PointClaims,
     place: Place,
 ) -> Result<PointOpening<BabyBear4>, ReadError>
-    ensures { IfOk result (λ o. point_numbers (point_claim o) ≡ point_listed claims.now) }
+    ensures numbers { IfOk result (λ o.
+        point_numbers (point_claim o) ≡ point_listed claims.now) }
+    ensures refused { IfErr result (IfMalformed (¬ IsPointClaim (point_listed claims.now))) }
 {
     Ok(PointOpening {
         point: extension_element(&claims.point, place)?,
@@ -93,8 +97,10 @@ fn matrix_opening(
     claims: &MatrixClaims,
     place: Place,
 ) -> Result<MatrixOpening<BabyBear4, Coset>, ReadError>
-    ensures { IfOk result (λ o. matrix_numbers (λ d. d.shift) (λ d. d.log_size) (matrix_claim o)
+    ensures numbers { IfOk result (λ o.
+        matrix_numbers (λ d. d.shift) (λ d. d.log_size) (matrix_claim o)
         ≡ matrix_listed claims.now) }
+    ensures refused { IfErr result (IfMalformed (¬ IsMatrixClaim (matrix_listed claims.now))) }
 {
     let domain = coset(&claims.domain, BabyBear::TWO_ADICITY, place)?;
     let mut points = Vec::with_capacity(alloc, claims.points.len())?;
@@ -114,8 +120,9 @@ fn commitment_opening(
     claims: &BatchClaims,
     place: Place,
 ) -> Result<CommitmentOpening<BabyBear4, [u8; 32], Coset>, ReadError>
-    ensures { IfOk result (λ o. batch_numbers (λ d. d.shift) (λ d. d.log_size) (claim o)
-        ≡ batch_listed claims.now) }
+    ensures numbers { IfOk result (λ o.
+        batch_numbers (λ d. d.shift) (λ d. d.log_size) (claim o) ≡ batch_listed claims.now) }
+    ensures refused { IfErr result (IfMalformed (¬ IsClaim (batch_listed claims.now))) }
 {
     let Ok(commitment) = <[u8; 32] as FromHex>::from_hex(claims.commitment.as_str()) else {
         return Err(place.lacks(Fault::Commitment).into());
@@ -136,8 +143,10 @@ fn commitment_opening(
 
 /// The claims of records.
 pub(crate) fn claims_in(alloc: Global, claims: &[BatchClaims]) -> Result<Claims, ReadError>
-    ensures { IfOk result (λ v. map (batch_numbers (λ d. d.shift) (λ d. d.log_size))
+    ensures numbers { IfOk result (λ v. map (batch_numbers (λ d. d.shift) (λ d. d.log_size))
         (map claim v.items) ≡ map batch_listed claims.now) }
+    ensures well_formed { IfOk result (λ _. AreClaims claims.now) }
+    ensures refused { IfErr result (IfMalformed (¬ AreClaims claims.now)) }
 {
     let mut openings = Vec::with_capacity(alloc, claims.len())?;
     for (index, batch) in claims.iter().enumerate() {

@@ -6,15 +6,14 @@ ghost use Rattle.p3_fri_two_adic.specs.Ranges.{InProverRange};
 
 use crate::claims::claims_out;
 use crate::committed::{Committed, commit_all};
-use crate::elements::coefficients;
 use crate::fault::{Fault, Place, ReadError, RequestError};
 use crate::matrices::batch_points;
 use crate::openable::are_openable;
 use crate::records::{Batch, BatchClaims, Request};
 use crate::scheme::{Claims, Coset, Inputs, Proof, Scheme, proving_scheme};
-use p3_challenger_core::FieldChallenger;
+use crate::verification::next_drawn;
 use p3_challenger_sha256::Sha256Challenger;
-use p3_field::{BabyBear, BabyBear4};
+use p3_field::BabyBear4;
 use p3_pcs::{KnownCommitment, OpeningRequest, Pcs, claims_of};
 use std::alloc::{AllocError, Global};
 
@@ -98,10 +97,9 @@ pub fn open(alloc: Global, request: &Request) -> Result<Opening, RequestError> {
     let mut all = commit_all(alloc, &mut scheme, log_blowup, &request.commitments)?;
     let mut challenger = Sha256Challenger::new();
     let (claims, proof) = open_committed(alloc, &scheme, &mut all, points, &mut challenger)?;
-    let next: BabyBear4 = FieldChallenger::<BabyBear>::sample_algebra_element(&mut challenger);
     Ok(Opening {
         claims: claims_out(alloc, &claims)?,
         proof,
-        next_challenge: coefficients(alloc, next)?,
+        next_challenge: next_drawn(alloc, &mut challenger)?,
     })
 }
