@@ -1,5 +1,5 @@
 -- What holds of a scheme's parameters, claims and state holds of the records that they were read of.
-use Rattle.std.proofs.Common.{◌≡◌, ℕ, List, sym, subst, ap, ◌∙◌}
+use Rattle.std.proofs.Common.{◌≡◌, ◌≢◌, ◌<◌, ◌≤◌, ℕ, List, [], ◌∷◌, All, refl, sym, subst, ap, ◌∙◌, arith}
 use Rattle.std.specs.declared.vec.Vec.{Vec}
 use Rattle.p3_baby_bear.specs.declared.baby_bear.BabyBear.{BabyBear}
 use Rattle.p3_baby_bear.specs.declared.baby_bear4.BabyBear4.{BabyBear4}
@@ -9,6 +9,8 @@ use Rattle.p3_challenger_sha256.specs.Sha256.{start}
 use Rattle.p3_fri_relation.specs.Setting.{Proof, CommitmentClaim}
 use Rattle.p3_fri_relation.specs.Setting as setting
 use Rattle.p3_fri_relation.specs.Acceptance.{Accepts}
+use Rattle.p3_fri_relation.specs.Heights.{matrices_of, log_height}
+use Rattle.p3_fri_two_adic.specs.Ranges.{InProverRange, InVerifierRange}
 use Rattle.p3_fri_relation.specs.Faults.{StandsInScheme}
 use Rattle.p3_fri_relation.specs.declared.error.FriError.{FriError}
 use Rattle.p3_fri_opening_verifier.specs.Ends.{last_state}
@@ -60,3 +62,27 @@ module _ {X Y : Type 0} (parameters : Parameters) (records : List BatchClaims)
     fails = λ holds. h.0 (moved_back (λ q cs d. Accepts sha256_setting q cs proof d) holds);
     fault = moved (λ q cs d. StandsInScheme sha256_setting q cs proof d e) h.1;
   }
+
+-- some matrix is within the two-adicity and as tall as the final word, which so is below 64
+final_height_low : {A : Type 0} (final : ℕ) (height : A → ℕ) (ms : List A) → ms ≢ []
+    → All (λ m. final ≤ height m) ms → All (λ m. height m ≤ 27) ms → final < 64
+final_height_low final height [] some tall within = absurd (some refl)
+final_height_low final height (m ∷ ms) some tall within =
+    omega (arith, tall 0 m (omega arith), within 0 m (omega arith))
+
+-- what a prover opens is in the verifier's range
+pub verifier_range : {X Y : Type 0} (p : setting.Parameters)
+    (claims : List (CommitmentClaim BabyBear4 (List ℕ)))
+    (proof : Proof BabyBear BabyBear4 (List ℕ) (Vec (Vec (List ℕ) X) Y) (Vec (Vec (List ℕ) X) Y))
+    (c : Sha256Challenger) → InProverRange p 27 63 → Accepts sha256_setting p claims proof c
+    → InVerifierRange p 27 63
+verifier_range p claims proof c range holds =
+    let within = holds.accepts.instance_of.in_range in
+    record {
+      final_height_below_64 = final_height_low (setting.final_height p) (log_height p.log_blowup) (matrices_of claims)
+          within.some_matrix within.tall_enough within.within_two_adicity;
+      index_bits = range.index_bits;
+      batch_bits = range.batch_bits;
+      commit_bits = range.commit_bits;
+      query_bits = range.query_bits;
+    }

@@ -4,6 +4,7 @@ pub mod Commitments
 pub mod Failures
 pub mod Matrices
 pub mod Numbers
+pub mod Openings
 pub mod Records
 pub mod Setting
 pub mod Statements

@@ -1,13 +1,15 @@
 //! The matrices of a request, and the points at which they are to be opened.
 
 ghost use Rattle.std.specs.Prelude.{◌≡◌, ◌≢◌, ◌*◌, ◌^◌, ◌<◌, ◌≤◌, All, IfOk, IsTrue, length};
-ghost use Rattle.std.specs.Prelude.{map, vec_len};
+ghost use Rattle.std.specs.Prelude.{[], map, vec_len};
+ghost use Rattle.algebra.specs.Nested.{lists};
 ghost use Rattle.p3_matrix.specs.Matrix.{rows, matrix_width};
 ghost use Rattle.p3_matrix.specs.Rows.{rows_of};
 ghost use Rattle.p3_fri_commit.specs.Extension.{FitsDomain};
 ghost use Rattle.p3_fri_two_adic.specs.Chunks.{polynomials_on};
 ghost use Rattle.fri_requests.specs.Commitments.{domain_of};
 ghost use Rattle.fri_requests.specs.Matrices.{held_listed};
+ghost use Rattle.fri_requests.specs.Numbers.{coefficient_numbers};
 ghost use Rattle.fri_requests.specs.Setting.{fields};
 
 use crate::elements::{coset, elements, extension_element};
@@ -94,7 +96,9 @@ pub(crate) fn batch_evaluations(
 
 /// The points of a matrix, of which there are some.
 fn points(alloc: Global, matrix: &Matrix, place: Place) -> Result<Vec<BabyBear4>, ReadError>
-    ensures { IfOk result (λ v. length v.items ≢ 0) }
+    ensures some { IfOk result (λ v. v.items ≢ []) }
+    ensures numbers { IfOk result (λ v.
+        map coefficient_numbers v.items ≡ lists matrix.now.points.items) }
 {
     if matrix.points.is_empty() {
         return Err(place.lacks(Fault::Points).into());
@@ -116,7 +120,9 @@ pub(crate) fn batch_points(
     batch: &Batch,
     place: Place,
 ) -> Result<Vec<Vec<BabyBear4>>, ReadError>
-    ensures some { IfOk result (λ all. All (λ v. length v.items ≢ 0) all.items) }
+    ensures some { IfOk result (λ all. All (λ zs. zs ≢ []) (lists all.items)) }
+    ensures numbers { IfOk result (λ all. map (map coefficient_numbers) (lists all.items)
+        ≡ map (λ m. lists m.points.items) batch.now.matrices.items) }
 {
     let mut all = Vec::with_capacity(alloc, batch.matrices.len())?;
     for (index, matrix) in batch.matrices.iter().enumerate() {
