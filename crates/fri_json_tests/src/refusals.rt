@@ -18,7 +18,11 @@ const MOVED: &[&str] = &[
 
 const REFUSALS: [Refusal; 14] = [
     ("[[2013265918,0,0,0]]", "[[2013265917,0,0,0]]", MOVED),
-    ("\"point\":[5,", "\"point\":[6,", MOVED),
+    (
+        "\"point\":[5,",
+        "\"point\":[6,",
+        &["CommitPhaseMmcsError(RootMismatch)", "FinalPolyMismatch"],
+    ),
     ("2aa419f5", "3aa419f5", &["InputError(RootMismatch)"]),
     ("[[[137,", "[[[136,", &["InputError(RootMismatch)"]),
     ("[[[33]]", "[[[34]]", MOVED),
