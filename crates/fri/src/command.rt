@@ -1,15 +1,12 @@
 //! The commands of the program.
 
 use crate::files::text_of;
-use fri_json::{Failure, OUT_OF_MEMORY, REFUSED, commit, open, verify};
+use fri_json::{Command, OUT_OF_MEMORY, WRITE_FAILED, answer};
 use std::io::{ErrorKind, Write};
 use std::{env, io};
 
 /// The status where the arguments or a file aren't good.
 const BAD_ARGUMENTS: u8 = 2;
-
-/// The status where a write failed.
-const WRITE_FAILED: u8 = 4;
 
 /// What `--help` prints.
 const HELP: &str = "fri: the FRI polynomial commitment scheme over files.
@@ -20,7 +17,8 @@ const HELP: &str = "fri: the FRI polynomial commitment scheme over files.
 
 FILE is a file in JSON, or - for standard input. Files are taken in turn, up to the
 first that isn't answered. The status is 0, 1 where a file is refused, 2 where it isn't
-well formed, 3 for want of memory, and 4 where a write fails.
+well formed, 3 for want of memory, and 4 where a write fails. Before a commitment that
+takes a second or more, a line on standard error says to how many values.
 
 A request has parameters, and matrices by commitment, each on a domain of 2^log_size
 points, row by row, with the points to open it at. A number is an element of BabyBear,
@@ -38,68 +36,12 @@ four are one of its extension. The column 1, 3 opened at 5:
 relies on 'accepted' compares these with the expected ones.
 ";
 
-/// What is done with each file.
-#[derive(Clone, Copy)]
-enum Command {
-    Commit,
-    Open,
-    Verify,
-}
-
-/// The command of this name.
-fn command_of(name: &str) -> Option<Command> {
-    match name {
-        "commit" => Some(Command::Commit),
-        "open" => Some(Command::Open),
-        "verify" => Some(Command::Verify),
-        _ => None,
-    }
-}
-
-/// What a command prints for a file.
-fn answer(rt: &HostRuntime, command: Command, text: &str) -> Result<String, Failure> {
-    let alloc = rt.alloc();
-    match command {
-        Command::Commit => {
-            let mut lines = String::new(alloc);
-            for commitment in &commit(alloc, text)? {
-                writeln!(lines, "{commitment}")?;
-            }
-            Ok(lines)
-        },
-        Command::Open => {
-            let mut line = open(alloc, text)?;
-            line.push_str("\n")?;
-            Ok(line)
-        },
-        Command::Verify => {
-            let _ = verify(alloc, text)?;
-            Ok(String::from_str(alloc, "accepted\n")?)
-        },
-    }
-}
-
 /// Writes the text whole, and gives `status`, or `WRITE_FAILED` where that fails.
 fn report<W: Write>(to: &mut W, text: &str, status: u8) -> u8 {
     if to.write_all(text.as_bytes()).is_err() || to.flush().is_err() {
         return WRITE_FAILED;
     }
     status
-}
-
-/// Writes why a file has no answer, and gives the status. A refused statement's verdict is what
-/// `verify` is asked for, and goes to standard output.
-fn report_failure(rt: &HostRuntime, file: &str, failure: &Failure) -> u8 {
-    let status = failure.status();
-    let written = match failure {
-        Failure::Statement(error) if status == REFUSED => println!(rt; "refused: {error}"),
-        _ if status == REFUSED => eprintln!(rt; "fri: {file}: refused: {failure}"),
-        _ => eprintln!(rt; "fri: {file}: {failure}"),
-    };
-    match written {
-        Ok(()) => status,
-        Err(_) => WRITE_FAILED,
-    }
 }
 
 /// Writes that a file can't be read, and gives the status.
@@ -120,9 +62,18 @@ fn run_file(rt: &HostRuntime, command: Command, file: &str) -> u8 {
         Ok(text) => text,
         Err(error) => return report_unread(rt, file, error),
     };
-    match answer(rt, command, text.as_str()) {
-        Ok(lines) => report(&mut rt.stdout(), lines.as_str(), 0),
-        Err(failure) => report_failure(rt, file, &failure),
+    let mut out = rt.stdout();
+    let status = answer(
+        rt.alloc(),
+        command,
+        file,
+        text.as_str(),
+        &mut out,
+        &mut rt.stderr(),
+    );
+    match out.flush() {
+        Ok(()) => status,
+        Err(_) => WRITE_FAILED,
     }
 }
 
@@ -150,7 +101,7 @@ fn run_arguments(rt: &HostRuntime, args: &[String]) -> u8 {
     if name.as_str() == "--help" {
         return report(&mut rt.stdout(), HELP, 0);
     }
-    match command_of(name.as_str()) {
+    match Command::named(name.as_str()) {
         Some(command) if !files.is_empty() => run_files(rt, command, files),
         _ => report(&mut rt.stderr(), HELP, BAD_ARGUMENTS),
     }

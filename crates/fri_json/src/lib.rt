@@ -1,8 +1,10 @@
 //! Requests, answers and statements of the plain scheme as JSON texts.
 #![tactic(auto)]
 
+mod command;
 mod records;
 
+pub use crate::command::{Command, WRITE_FAILED, answer};
 use crate::records::{Answer, Statement};
 use fri_requests::{Fault, Place, Proof, Request, RequestError, VerifyError};
 use p3_fri_plain::{PlainFriProof, PlainProofError, from_plain, to_plain};
@@ -81,10 +83,14 @@ impl From<serde_json::Error> for Failure {
     }
 }
 
-/// The commitments of the request in this JSON text, each in hex.
-pub fn commit(alloc: Global, text: &str) -> Result<Vec<String>, Failure> {
-    let request: Request = serde_json::from_str(alloc, text)?;
-    let commitments = match fri_requests::commit(alloc, &request) {
+/// The request in this JSON text.
+fn request_of(alloc: Global, text: &str) -> Result<Request, Failure> {
+    Ok(serde_json::from_str(alloc, text)?)
+}
+
+/// The commitments of a request, each in hex.
+fn commit_request(alloc: Global, request: &Request) -> Result<Vec<String>, Failure> {
+    let commitments = match fri_requests::commit(alloc, request) {
         Ok(commitments) => commitments,
         Err(error) => return Err(Failure::Request(error)),
     };
@@ -95,10 +101,9 @@ pub fn commit(alloc: Global, text: &str) -> Result<Vec<String>, Failure> {
     Ok(texts)
 }
 
-/// The answer to the request in this JSON text, in JSON.
-pub fn open(alloc: Global, text: &str) -> Result<String, Failure> {
-    let request: Request = serde_json::from_str(alloc, text)?;
-    let opening = match fri_requests::open(alloc, &request) {
+/// The answer to a request, in JSON.
+fn open_request(alloc: Global, request: &Request) -> Result<String, Failure> {
+    let opening = match fri_requests::open(alloc, request) {
         Ok(opening) => opening,
         Err(error) => return Err(Failure::Request(error)),
     };
@@ -109,6 +114,16 @@ pub fn open(alloc: Global, text: &str) -> Result<String, Failure> {
         next_challenge: opening.next_challenge,
     };
     Ok(serde_json::to_string(alloc, &answer)?)
+}
+
+/// The commitments of the request in this JSON text, each in hex.
+pub fn commit(alloc: Global, text: &str) -> Result<Vec<String>, Failure> {
+    commit_request(alloc, &request_of(alloc, text)?)
+}
+
+/// The answer to the request in this JSON text, in JSON.
+pub fn open(alloc: Global, text: &str) -> Result<String, Failure> {
+    open_request(alloc, &request_of(alloc, text)?)
 }
 
 /// The proof of its plain form.

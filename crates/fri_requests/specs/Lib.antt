@@ -1,3 +1,10 @@
+pub mod Accepted
 pub mod Claims
+pub mod Commitments
+pub mod Failures
+pub mod Matrices
 pub mod Numbers
+pub mod Openings
 pub mod Records
+pub mod Setting
+pub mod Statements

@@ -1,8 +1,9 @@
 -- Elements by their numbers.
-use Rattle.std.specs.Prelude.{ℕ, List, map}
+use Rattle.std.specs.Prelude.{◌≡◌, ℕ, ◌<◌, List, map, length, All}
 use Rattle.p3_baby_bear.specs.declared.baby_bear.BabyBear.{BabyBear}
 use Rattle.p3_baby_bear.specs.declared.baby_bear4.BabyBear4.{BabyBear4}
-use Rattle.p3_baby_bear.specs.BabyBear4.{coefficients4}
+use Rattle.p3_baby_bear.specs.BabyBear.{element}
+use Rattle.p3_baby_bear.specs.BabyBear4.{coefficients4, of_coefficients4}
 
 -- the one number below the order
 abbrev pub canonical_number : BabyBear → ℕ
@@ -11,3 +12,16 @@ canonical_number x = x.value
 -- those of the coefficients, that of one first
 abbrev pub coefficient_numbers : BabyBear4 → List ℕ
 coefficient_numbers x = map canonical_number (coefficients4 x)
+
+-- the element of the extension with these coefficients, that of one first
+abbrev pub extension_of : List ℕ → BabyBear4
+extension_of numbers = of_coefficients4 (map element numbers)
+
+-- a number below the order
+abbrev pub IsElement : ℕ → Type 0
+IsElement number = number < 2013265921
+
+-- the numbers of four coefficients
+pub record IsExtensionElement (numbers : List ℕ) : Type 0 where
+  pub four : length numbers ≡ 4
+  pub elements : All IsElement numbers

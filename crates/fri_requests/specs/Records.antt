@@ -1,4 +1,5 @@
 -- What the verified relation sees of records.
+use Rattle.std.specs.Prelude.{◌≤◌}
 use Rattle.fri_requests.specs.declared.records.Parameters.{Parameters}
 use Rattle.p3_fri_relation.specs.Setting as setting
 
@@ -13,3 +14,9 @@ parameters_in p = record {
   commit_pow_bits = p.commit_proof_of_work_bits;
   query_pow_bits = p.query_proof_of_work_bits;
 }
+
+-- each difficulty is at most what the challenger draws at once
+pub record AreDifficultiesLow (p : Parameters) : Type 0 where
+  pub batch : p.batch_proof_of_work_bits ≤ 63
+  pub commit : p.commit_proof_of_work_bits ≤ 63
+  pub query : p.query_proof_of_work_bits ≤ 63

@@ -1,7 +1,8 @@
 //! Commitments to the matrices of a request.
 
-ghost use Rattle.std.specs.Prelude.{◌≡◌, ◌≤◌, ◌^◌, All, IfOk, map};
-ghost use Rattle.p3_fri_completeness.specs.Requests.{HoldsWords, held_of};
+ghost use Rattle.std.specs.Prelude.{◌≡◌, ◌≤◌, IfOk, map};
+ghost use Rattle.std.specs.List.{AllZip};
+ghost use Rattle.fri_requests.specs.Commitments.{Keeps, IsCommitmentTo};
 
 use crate::fault::{Place, RequestError};
 use crate::matrices::{Evaluations, batch_evaluations};
@@ -42,6 +43,7 @@ fn commit_batch(
     requires low { log_blowup ≤ 27 }
     requires blowup { scheme.old.fri.log_blowup ≡ log_blowup }
     ensures kept { scheme.new ≡ scheme.old }
+    ensures committed { IfOk result (λ c. Keeps log_blowup c batch.now) }
 {
     let evaluations = batch_evaluations(alloc, batch, log_blowup, place)?;
     let domains = domains_of(alloc, &evaluations)?;
@@ -67,6 +69,7 @@ pub(crate) fn commit_all(
     requires low { log_blowup ≤ 27 }
     requires blowup { scheme.old.fri.log_blowup ≡ log_blowup }
     ensures kept { scheme.new ≡ scheme.old }
+    ensures committed { IfOk result (λ all. AllZip (Keeps log_blowup) all.items batches.now) }
 {
     let mut all = Vec::with_capacity(alloc, batches.len())?;
     for (index, batch) in batches.iter().enumerate() {
@@ -80,7 +83,11 @@ pub(crate) fn commit_all(
 }
 
 /// The commitments of a request, each 32 bytes, in order. Its points aren't read.
-pub fn commit(alloc: Global, request: &Request) -> Result<Vec<[u8; 32]>, RequestError> {
+pub fn commit(alloc: Global, request: &Request) -> Result<Vec<[u8; 32]>, RequestError>
+    ensures { IfOk result (λ commitments.
+        AllZip (IsCommitmentTo request.now.parameters.log_blowup) commitments.items
+        request.now.commitments.items) }
+{
     let mut scheme = match proving_scheme(&request.parameters) {
         Ok(scheme) => scheme,
         Err(misfit) => return Err(RequestError::Malformed(misfit)),

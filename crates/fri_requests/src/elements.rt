@@ -1,8 +1,11 @@
 //! Elements and domains of their numbers.
 
 ghost use Rattle.std.specs.Prelude.{◌≡◌, ◌↔◌, ◌<◌, ◌≤◌, map, length, vec_len};
-ghost use Rattle.std.specs.Prelude.{IsSome, IfSome, IfOk};
+ghost use Rattle.std.specs.Prelude.{IsSome, IfSome, IfOk, IfErr, All};
 ghost use Rattle.fri_requests.specs.Numbers.{canonical_number, coefficient_numbers};
+ghost use Rattle.fri_requests.specs.Numbers.{IsElement, IsExtensionElement};
+ghost use Rattle.fri_requests.specs.Failures.{IfMalformed};
+ghost use Rattle.fri_requests.specs.Statements.{IsCoset};
 
 use crate::fault::{Fault, Misfit, Place, ReadError};
 use crate::records::Domain;
@@ -47,7 +50,8 @@ pub(crate) fn elements(
 
 /// The coefficient of this canonical number, of an element at this place.
 fn coefficient(number: u64, place: Place) -> Result<BabyBear, Misfit>
-    ensures { IfOk result (λ x. canonical_number x ≡ number) }
+    ensures number { IfOk result (λ x. canonical_number x ≡ number) }
+    ensures refused { IfErr result (λ _. ¬ IsElement number) }
 {
     match element(number) {
         Some(value) => Ok(value),
@@ -57,7 +61,8 @@ fn coefficient(number: u64, place: Place) -> Result<BabyBear, Misfit>
 
 /// The element of the extension with these coefficients, at this place.
 pub(crate) fn extension_element(numbers: &[u64], place: Place) -> Result<BabyBear4, Misfit>
-    ensures { IfOk result (λ x. coefficient_numbers x ≡ numbers.now) }
+    ensures numbers { IfOk result (λ x. coefficient_numbers x ≡ numbers.now) }
+    ensures refused { IfErr result (λ _. ¬ IsExtensionElement numbers.now) }
 {
     let [constant, linear, quadratic, cubic] = numbers else {
         return Err(place.lacks(Fault::ExtensionElement));
@@ -77,8 +82,10 @@ pub(crate) fn extension_elements(
     lists: &[Vec<u64>],
     place: Place,
 ) -> Result<Vec<BabyBear4>, ReadError>
-    ensures { IfOk result (λ v.
+    ensures numbers { IfOk result (λ v.
         map coefficient_numbers v.items ≡ map (λ numbers. numbers.items) lists.now) }
+    ensures refused { IfErr result (IfMalformed
+        (¬ All IsExtensionElement (map (λ numbers. numbers.items) lists.now))) }
 {
     let mut values = Vec::with_capacity(alloc, lists.len())?;
     for (index, numbers) in lists.iter().enumerate() {
@@ -113,6 +120,8 @@ pub(crate) fn coset(domain: &Domain, most: usize, place: Place) -> Result<Coset,
     ensures size { IfOk result (λ c. c.log_size ≡ domain.now.log_size) }
     ensures room { IfOk result (λ c. c.log_size ≤ most) }
     ensures shift { IfOk result (λ c. canonical_number c.shift ≡ domain.now.shift) }
+    ensures refused { IfErr result (λ _.
+        ¬ IsCoset most domain.now.shift domain.now.log_size) }
 {
     if domain.log_size > most {
         return Err(place.lacks(Fault::LogSize));

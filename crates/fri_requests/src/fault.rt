@@ -3,6 +3,8 @@
 ghost use Rattle.std.specs.Prelude.{◌≡◌};
 ghost use Rattle.fri_requests.specs.declared.fault.RequestError.TheVariants as request;
 ghost use Rattle.fri_requests.specs.declared.fault.ReadError.TheVariants as read;
+ghost use Rattle.fri_requests.specs.declared.fault.VerifyError.TheVariants as statement;
+ghost use Rattle.fri_requests.specs.Failures.{unread, failure_of};
 
 use p3_fri_pow::FriProverError;
 use p3_fri_relation::error::FriError;
@@ -255,10 +257,31 @@ impl From<FriProverError> for RequestError {
 }
 
 impl From<ReadError> for VerifyError {
+    ghost from_gives = { λ e f. f ≡ unread e };
+
     fn from(error: ReadError) -> VerifyError {
         match error {
             ReadError::Malformed(misfit) => VerifyError::Malformed(misfit),
             ReadError::OutOfMemory => VerifyError::OutOfMemory,
         }
+    }
+}
+
+impl From<VerifierError> for VerifyError {
+    ghost from_gives = { λ e f. f ≡ failure_of e };
+
+    fn from(error: VerifierError) -> VerifyError {
+        match error {
+            FriError::OutOfMemory => VerifyError::OutOfMemory,
+            _ => VerifyError::Refused(error),
+        }
+    }
+}
+
+impl From<AllocError> for VerifyError {
+    ghost from_gives = { λ _ e. e ≡ statement.OutOfMemory };
+
+    fn from(_error: AllocError) -> VerifyError {
+        VerifyError::OutOfMemory
     }
 }

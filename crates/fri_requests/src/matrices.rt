@@ -1,9 +1,16 @@
 //! The matrices of a request, and the points at which they are to be opened.
 
 ghost use Rattle.std.specs.Prelude.{◌≡◌, ◌≢◌, ◌*◌, ◌^◌, ◌<◌, ◌≤◌, All, IfOk, IsTrue, length};
-ghost use Rattle.std.specs.Prelude.{vec_len};
-ghost use Rattle.p3_matrix.specs.Matrix.{rows};
+ghost use Rattle.std.specs.Prelude.{[], map, vec_len};
+ghost use Rattle.algebra.specs.Nested.{lists};
+ghost use Rattle.p3_matrix.specs.Matrix.{rows, matrix_width};
+ghost use Rattle.p3_matrix.specs.Rows.{rows_of};
 ghost use Rattle.p3_fri_commit.specs.Extension.{FitsDomain};
+ghost use Rattle.p3_fri_two_adic.specs.Chunks.{polynomials_on};
+ghost use Rattle.fri_requests.specs.Commitments.{domain_of};
+ghost use Rattle.fri_requests.specs.Matrices.{held_listed};
+ghost use Rattle.fri_requests.specs.Numbers.{coefficient_numbers};
+ghost use Rattle.fri_requests.specs.Setting.{fields};
 
 use crate::elements::{coset, elements, extension_element};
 use crate::fault::{Fault, Place, ReadError};
@@ -29,7 +36,9 @@ fn is_count(count: usize, width: usize, log_size: usize) -> bool
 fn matrix_of(values: Vec<BabyBear>, width: usize, log_size: usize) -> RowMajorMatrix<BabyBear>
     requires some { 0 < width }
     requires size { vec_len values ≡ width * 2 ^ log_size }
-    ensures { length (rows result) ≡ 2 ^ log_size }
+    ensures height { length (rows result) ≡ 2 ^ log_size }
+    ensures rows { rows result ≡ rows_of width values.items }
+    ensures width { matrix_width result ≡ width }
 {
     RowMajorMatrix::new(values, width)
 }
@@ -42,7 +51,10 @@ fn evaluations(
     place: Place,
 ) -> Result<Evaluations, ReadError>
     requires blowup { log_blowup ≤ 27 }
-    ensures { IfOk result (λ e. FitsDomain 27 log_blowup e.0.log_size e.1) }
+    ensures fits { IfOk result (λ e. FitsDomain 27 log_blowup e.0.log_size e.1) }
+    ensures domain { IfOk result (λ e. domain_of e.0.shift e.0.log_size ≡ matrix.now.domain) }
+    ensures polynomials { IfOk result (λ e.
+        polynomials_on fields e.0.shift e.0.log_size e.1 ≡ held_listed matrix.now) }
 {
     let domain = coset(&matrix.domain, BabyBear::TWO_ADICITY - log_blowup, place)?;
     if matrix.width == 0 {
@@ -63,8 +75,13 @@ pub(crate) fn batch_evaluations(
     place: Place,
 ) -> Result<Vec<Evaluations>, ReadError>
     requires blowup { log_blowup ≤ 27 }
-    ensures { IfOk result (λ all.
+    ensures fit { IfOk result (λ all.
         All (λ e. FitsDomain 27 log_blowup e.0.log_size e.1) all.items) }
+    ensures domains { IfOk result (λ all. map (λ e. domain_of e.0.shift e.0.log_size) all.items
+        ≡ map (λ m. m.domain) batch.now.matrices.items) }
+    ensures polynomials { IfOk result (λ all.
+        map (λ e. polynomials_on fields e.0.shift e.0.log_size e.1) all.items
+        ≡ map held_listed batch.now.matrices.items) }
 {
     let mut all = Vec::with_capacity(alloc, batch.matrices.len())?;
     for (index, matrix) in batch.matrices.iter().enumerate() {
@@ -79,7 +96,9 @@ pub(crate) fn batch_evaluations(
 
 /// The points of a matrix, of which there are some.
 fn points(alloc: Global, matrix: &Matrix, place: Place) -> Result<Vec<BabyBear4>, ReadError>
-    ensures { IfOk result (λ v. length v.items ≢ 0) }
+    ensures some { IfOk result (λ v. v.items ≢ []) }
+    ensures numbers { IfOk result (λ v.
+        map coefficient_numbers v.items ≡ lists matrix.now.points.items) }
 {
     if matrix.points.is_empty() {
         return Err(place.lacks(Fault::Points).into());
@@ -101,7 +120,9 @@ pub(crate) fn batch_points(
     batch: &Batch,
     place: Place,
 ) -> Result<Vec<Vec<BabyBear4>>, ReadError>
-    ensures some { IfOk result (λ all. All (λ v. length v.items ≢ 0) all.items) }
+    ensures some { IfOk result (λ all. All (λ zs. zs ≢ []) (lists all.items)) }
+    ensures numbers { IfOk result (λ all. map (map coefficient_numbers) (lists all.items)
+        ≡ map (λ m. lists m.points.items) batch.now.matrices.items) }
 {
     let mut all = Vec::with_capacity(alloc, batch.matrices.len())?;
     for (index, matrix) in batch.matrices.iter().enumerate() {

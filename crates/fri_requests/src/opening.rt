@@ -1,25 +1,44 @@
 //! Openings of requests.
 
-ghost use Rattle.std.specs.Prelude.{◌≡◌, ◌≤◌, IfOk};
-ghost use Rattle.p3_fri_relation.specs.Views.{parameters_of};
+ghost use Rattle.std.specs.Prelude.{◌≡◌, ◌^◌, All, IfOk, length, map};
+ghost use Rattle.std.specs.List.{AllZip};
+ghost use Rattle.algebra.specs.Nested.{lists, nested};
+ghost use Rattle.p3_mmcs.specs.ProverData.{matrices_of, root_over};
+ghost use Rattle.p3_pcs.specs.Claims.{claim, zip_with};
+ghost use Rattle.p3_pcs.specs.Requests.{request, AreOpenable, AreHonest, FitDomains};
+ghost use Rattle.p3_pcs.specs.Requests.{honest_claims};
+ghost use Rattle.p3_fri_openings.specs.Rounds.{HasCoset};
+ghost use Rattle.p3_fri_completeness.specs.Requests.{held_of, HoldsWords, relation_claims};
+ghost use Rattle.p3_fri_opening_verifier.specs.Ends.{last_state};
+ghost use Rattle.p3_fri_relation.specs.Acceptance.{Accepts};
+ghost use Rattle.p3_fri_relation.specs.Views.{parameters_of, proof_of};
 ghost use Rattle.p3_fri_two_adic.specs.Ranges.{InProverRange};
+ghost use Rattle.fri_requests.specs.Accepted.{IsAccepted};
+ghost use Rattle.fri_requests.specs.Claims.{batch_listed};
+ghost use Rattle.fri_requests.specs.Commitments.{IsKept};
+ghost use Rattle.fri_requests.specs.Numbers.{coefficient_numbers};
+ghost use Rattle.fri_requests.specs.Openings.{HavePoints, IsOpened, request_for};
+ghost use Rattle.fri_requests.specs.Setting.{fields, sha256_setting};
 
 use crate::claims::claims_out;
 use crate::committed::{Committed, commit_all};
-use crate::elements::coefficients;
 use crate::fault::{Fault, Place, ReadError, RequestError};
 use crate::matrices::batch_points;
 use crate::openable::are_openable;
 use crate::records::{Batch, BatchClaims, Request};
-use crate::scheme::{Claims, Coset, Inputs, Proof, Scheme, proving_scheme};
-use p3_challenger_core::FieldChallenger;
+use crate::scheme::{Claims, Coset, Data, Inputs, Proof, Scheme, proving_scheme};
+use crate::verification::next_drawn;
 use p3_challenger_sha256::Sha256Challenger;
-use p3_field::{BabyBear, BabyBear4};
+use p3_field::BabyBear4;
 use p3_pcs::{KnownCommitment, OpeningRequest, Pcs, claims_of};
 use std::alloc::{AllocError, Global};
 
 /// The points of each matrix of each commitment.
-fn points_of(alloc: Global, batches: &[Batch]) -> Result<Vec<Vec<Vec<BabyBear4>>>, ReadError> {
+fn points_of(alloc: Global, batches: &[Batch]) -> Result<Vec<Vec<Vec<BabyBear4>>>, ReadError>
+    ensures numbers { IfOk result (λ all. map (map (map coefficient_numbers)) (nested all.items)
+        ≡ map (λ batch. map (λ m. lists m.points.items) batch.matrices.items) batches.now) }
+    ensures some { IfOk result (λ all. HavePoints (nested all.items)) }
+{
     let mut all = Vec::with_capacity(alloc, batches.len())?;
     for (index, batch) in batches.iter().enumerate() {
         let place = Place {
@@ -35,7 +54,12 @@ fn points_of(alloc: Global, batches: &[Batch]) -> Result<Vec<Vec<Vec<BabyBear4>>
 fn known_of(
     alloc: Global,
     all: &[Committed],
-) -> Result<Vec<KnownCommitment<[u8; 32], Coset>>, AllocError> {
+) -> Result<Vec<KnownCommitment<[u8; 32], Coset>>, AllocError>
+    ensures commitments { IfOk result (λ known.
+        map (λ k. k.commitment) known.items ≡ map (λ c. c.commitment) all.now) }
+    ensures domains { IfOk result (λ known.
+        map (λ k. k.domains.items) known.items ≡ map (λ c. c.domains.items) all.now) }
+{
     let mut known = Vec::with_capacity(alloc, all.len())?;
     for committed in all {
         known.push(KnownCommitment {
@@ -46,17 +70,15 @@ fn known_of(
     Ok(known)
 }
 
-/// Opens committed matrices at these points.
-fn open_committed(
+/// Requests to open committed data at these points.
+fn requests_of<'a>(
     alloc: Global,
-    scheme: &Scheme,
-    all: &mut Vec<Committed>,
+    all: &'a mut [Committed],
     points: Vec<Vec<Vec<BabyBear4>>>,
-    challenger: &mut Sha256Challenger,
-) -> Result<(Claims, Proof), RequestError>
-    requires range { InProverRange (parameters_of scheme.now.fri) 27 63 }
+) -> Result<Vec<OpeningRequest<'a, Data, BabyBear4>>, AllocError>
+    ensures { IfOk result (λ requests. map request requests.items
+        ≡ zip_with (λ c points. request_for c.data points) all.old (nested points.items)) }
 {
-    let known = known_of(alloc, &*all)?;
     let mut requests = Vec::with_capacity(alloc, all.len())?;
     for (committed, points) in all.iter_mut().zip(points) {
         requests.push(OpeningRequest {
@@ -64,16 +86,79 @@ fn open_committed(
             points,
         })?;
     }
-    if !are_openable(&Inputs::new(), &requests) {
-        return Err(RequestError::Malformed(Place::NONE.lacks(Fault::Matrices)));
-    }
+    Ok(requests)
+}
+
+/// Answers honest requests, of whose data a verifier knows these commitments and domains.
+fn open_requests(
+    alloc: Global,
+    scheme: &Scheme,
+    known: &[KnownCommitment<[u8; 32], Coset>],
+    requests: &mut [OpeningRequest<'_, Data, BabyBear4>],
+    challenger: &mut Sha256Challenger,
+) -> Result<(Claims, Proof), RequestError>
+    requires range { InProverRange (parameters_of scheme.now.fri) 27 63 }
+    requires shape { AreOpenable (λ d. All (HasCoset 27) (matrices_of d))
+        (held_of fields matrices_of scheme.now.fri.log_blowup) (map request requests.old) }
+    requires honest { AreHonest
+        (λ d. All (HoldsWords fields scheme.now.fri.log_blowup) (matrices_of d))
+        (map request requests.old) }
+    requires commitments { map (λ k. k.commitment) known.now
+        ≡ map (λ r. root_over r.prover_data.now) requests.old }
+    requires domains { FitDomains (held_of fields matrices_of scheme.now.fri.log_blowup)
+        (λ d. 2 ^ d.log_size) (map (λ k. k.domains.items) known.now) (map request requests.old) }
+    ensures claims { IfOk result (λ o. map claim o.0.items
+        ≡ honest_claims (held_of fields matrices_of scheme.now.fri.log_blowup) root_over
+        (map (λ k. k.domains.items) known.now) (map request requests.old)) }
+    ensures accepted { IfOk result (λ o. Accepts sha256_setting (parameters_of scheme.now.fri)
+        (relation_claims (λ d. d.log_size) (map claim o.0.items)) (proof_of o.1)
+        challenger.old) }
+    ensures state { IfOk result (λ o. challenger.new
+        ≡ last_state sha256_setting (parameters_of scheme.now.fri)
+        (relation_claims (λ d. d.log_size) (map claim o.0.items)) (proof_of o.1)
+        challenger.old) }
+{
     let (values, proof) = <Scheme as Pcs<BabyBear4, Sha256Challenger>>::open(
         scheme,
         alloc,
-        requests.as_mut_slice(),
+        &mut *requests,
         challenger,
     )?;
-    Ok((claims_of(alloc, &known, &requests, &values)?, proof))
+    let claims = claims_of(alloc, known, &*requests, values.as_slice())?;
+    Ok((claims, proof))
+}
+
+/// Opens what is kept under commitments at these points.
+fn open_committed(
+    alloc: Global,
+    scheme: &Scheme,
+    all: &mut [Committed],
+    points: Vec<Vec<Vec<BabyBear4>>>,
+    challenger: &mut Sha256Challenger,
+) -> Result<(Claims, Proof), RequestError>
+    requires range { InProverRange (parameters_of scheme.now.fri) 27 63 }
+    requires kept { All (IsKept scheme.now.fri.log_blowup) all.old }
+    requires counts { length (nested points.items) ≡ length all.old }
+    requires some { HavePoints (nested points.items) }
+    ensures claims { IfOk result (λ o. map claim o.0.items
+        ≡ honest_claims (held_of fields matrices_of scheme.now.fri.log_blowup) root_over
+        (map (λ c. c.domains.items) all.old)
+        (zip_with (λ c points. request_for c.data points) all.old (nested points.items))) }
+    ensures accepted { IfOk result (λ o. Accepts sha256_setting (parameters_of scheme.now.fri)
+        (relation_claims (λ d. d.log_size) (map claim o.0.items)) (proof_of o.1)
+        challenger.old) }
+    ensures state { IfOk result (λ o. challenger.new
+        ≡ last_state sha256_setting (parameters_of scheme.now.fri)
+        (relation_claims (λ d. d.log_size) (map claim o.0.items)) (proof_of o.1)
+        challenger.old) }
+{
+    let known = known_of(alloc, &*all)?;
+    let mut requests = requests_of(alloc, all, points)?;
+    if !are_openable(&Inputs::new(), &requests) {
+        return Err(RequestError::Malformed(Place::NONE.lacks(Fault::Matrices)));
+    }
+    let opened = open_requests(alloc, scheme, &known, requests.as_mut_slice(), challenger)?;
+    Ok(opened)
 }
 
 /// What comes of opening a request.
@@ -88,7 +173,12 @@ pub struct Opening {
 
 /// Commits to a request's matrices and opens them at its points, from a fresh challenger. `verify`
 /// accepts what comes of it.
-pub fn open(alloc: Global, request: &Request) -> Result<Opening, RequestError> {
+pub fn open(alloc: Global, request: &Request) -> Result<Opening, RequestError>
+    ensures accepted { IfOk result (λ o. IsAccepted request.now.parameters o.claims.items
+        (proof_of o.proof) o.next_challenge.items) }
+    ensures opened { IfOk result (λ o. AllZip (IsOpened request.now.parameters.log_blowup)
+        (map batch_listed o.claims.items) request.now.commitments.items) }
+{
     let mut scheme = match proving_scheme(&request.parameters) {
         Ok(scheme) => scheme,
         Err(misfit) => return Err(RequestError::Malformed(misfit)),
@@ -97,11 +187,16 @@ pub fn open(alloc: Global, request: &Request) -> Result<Opening, RequestError> {
     let log_blowup = request.parameters.log_blowup;
     let mut all = commit_all(alloc, &mut scheme, log_blowup, &request.commitments)?;
     let mut challenger = Sha256Challenger::new();
-    let (claims, proof) = open_committed(alloc, &scheme, &mut all, points, &mut challenger)?;
-    let next: BabyBear4 = FieldChallenger::<BabyBear>::sample_algebra_element(&mut challenger);
+    let (claims, proof) = open_committed(
+        alloc,
+        &scheme,
+        all.as_mut_slice(),
+        points,
+        &mut challenger,
+    )?;
     Ok(Opening {
         claims: claims_out(alloc, &claims)?,
         proof,
-        next_challenge: coefficients(alloc, next)?,
+        next_challenge: next_drawn(alloc, &mut challenger)?,
     })
 }

@@ -1,9 +1,9 @@
 //! The scheme at its instances, and the parameters for which it opens and verifies.
 
-ghost use Rattle.std.specs.Prelude.{◌≡◌, ◌<◌, ◌≤◌, IsTrue, IfOk};
+ghost use Rattle.std.specs.Prelude.{◌≡◌, ◌<◌, ◌≤◌, ◌↔◌, IsTrue, IfOk, IfErr};
 ghost use Rattle.p3_fri_relation.specs.Views.{parameters_of};
 ghost use Rattle.p3_fri_two_adic.specs.Ranges.{InProverRange, InVerifierRange};
-ghost use Rattle.fri_requests.specs.Records.{parameters_in};
+ghost use Rattle.fri_requests.specs.Records.{parameters_in, AreDifficultiesLow};
 
 use crate::fault::{Fault, Misfit, Place};
 use crate::records::Parameters;
@@ -53,9 +53,7 @@ fn scheme_of(parameters: &Parameters) -> Scheme
 
 /// Whether the challenger draws as many bits at once as each difficulty.
 fn are_difficulties_low(parameters: &Parameters) -> bool
-    ensures batch { IsTrue result → parameters.now.batch_proof_of_work_bits ≤ 63 }
-    ensures commit { IsTrue result → parameters.now.commit_proof_of_work_bits ≤ 63 }
-    ensures query { IsTrue result → parameters.now.query_proof_of_work_bits ≤ 63 }
+    ensures { IsTrue result ↔ AreDifficultiesLow parameters.now }
 {
     parameters.batch_proof_of_work_bits <= GREATEST_DIFFICULTY
         && parameters.commit_proof_of_work_bits <= GREATEST_DIFFICULTY
@@ -87,6 +85,8 @@ pub(crate) fn proving_scheme(parameters: &Parameters) -> Result<Scheme, Misfit>
 pub(crate) fn verifying_scheme(parameters: &Parameters) -> Result<Scheme, Misfit>
     ensures parameters { IfOk result (λ s. parameters_of s.fri ≡ parameters_in parameters.now) }
     ensures range { IfOk result (λ s. InVerifierRange (parameters_of s.fri) 27 63) }
+    ensures refused { IfErr result (λ _.
+        ¬ InVerifierRange (parameters_in parameters.now) 27 63) }
 {
     let final_height = parameters
         .log_blowup

@@ -1,18 +1,76 @@
 //! Verification of statements.
 
-ghost use Rattle.std.specs.Prelude.{◌≡◌, IfOk};
+ghost use Rattle.std.specs.Prelude.{◌≡◌, map, IsOk, IfOk, IfErr};
+ghost use Rattle.p3_challenger_core.specs.Run.{After};
+ghost use Rattle.p3_challenger_sha256.specs.Sha256.{start};
+ghost use Rattle.p3_pcs.specs.Claims.{claim};
+ghost use Rattle.p3_fri_completeness.specs.Requests.{relation_claims};
+ghost use Rattle.p3_fri_opening_verifier.specs.Ends.{last_state};
+ghost use Rattle.p3_fri_relation.specs.Acceptance.{Accepts};
+ghost use Rattle.p3_fri_relation.specs.Faults.{StandsInScheme};
+ghost use Rattle.p3_fri_relation.specs.Views.{parameters_of, proof_of};
+ghost use Rattle.p3_fri_two_adic.specs.Ranges.{InVerifierRange};
+ghost use Rattle.fri_requests.specs.Accepted.{IsAccepted, IsRefused};
+ghost use Rattle.fri_requests.specs.Failures.{MatchVerifyError};
+ghost use Rattle.fri_requests.specs.Numbers.{coefficient_numbers};
+ghost use Rattle.fri_requests.specs.Setting.{sha256_setting, sha256_moves};
+ghost use Rattle.fri_requests.specs.Statements.{IsStatement};
 
 use crate::claims::claims_in;
 use crate::elements::coefficients;
 use crate::fault::VerifyError;
 use crate::records::{BatchClaims, Parameters};
-use crate::scheme::{Proof, Scheme, verifying_scheme};
+use crate::scheme::{Claims, Proof, Scheme, verifying_scheme};
 use p3_challenger_core::FieldChallenger;
 use p3_challenger_sha256::Sha256Challenger;
 use p3_field::{BabyBear, BabyBear4};
-use p3_fri_relation::error::FriError;
 use p3_pcs::Pcs;
-use std::alloc::Global;
+use std::alloc::{AllocError, Global};
+
+/// Verifies claims from this challenger on.
+fn verify_claims(
+    alloc: Global,
+    scheme: &Scheme,
+    claims: Claims,
+    proof: &Proof,
+    challenger: &mut Sha256Challenger,
+) -> Result<(), VerifyError>
+    requires range { InVerifierRange (parameters_of scheme.now.fri) 27 63 }
+    ensures accepted { IsOk result → Accepts sha256_setting (parameters_of scheme.now.fri)
+        (relation_claims (λ d. d.log_size) (map claim claims.items)) (proof_of proof.now)
+        challenger.old }
+    ensures state { IsOk result → challenger.new
+        ≡ last_state sha256_setting (parameters_of scheme.now.fri)
+        (relation_claims (λ d. d.log_size) (map claim claims.items)) (proof_of proof.now)
+        challenger.old }
+    ensures refused { IfErr result (MatchVerifyError ⊥ (λ e.
+        (¬ Accepts sha256_setting (parameters_of scheme.now.fri)
+        (relation_claims (λ d. d.log_size) (map claim claims.items)) (proof_of proof.now)
+        challenger.old)
+        × StandsInScheme sha256_setting (parameters_of scheme.now.fri)
+        (relation_claims (λ d. d.log_size) (map claim claims.items)) (proof_of proof.now)
+        challenger.old e)) }
+{
+    let verified = <Scheme as Pcs<BabyBear4, Sha256Challenger>>::verify(
+        scheme, alloc, claims, proof, challenger,
+    );
+    match verified {
+        Ok(()) => Ok(()),
+        Err(error) => Err(error.into()),
+    }
+}
+
+/// The coefficients' numbers of the element of the extension that the challenger draws next.
+pub(crate) fn next_drawn(
+    alloc: Global,
+    challenger: &mut Sha256Challenger,
+) -> Result<Vec<u64>, AllocError>
+    ensures { IfOk result (λ v. v.items
+        ≡ coefficient_numbers (sha256_moves.draw_element challenger.old).value) }
+{
+    let next: BabyBear4 = FieldChallenger::<BabyBear>::sample_algebra_element(challenger);
+    coefficients(alloc, next)
+}
 
 /// Verifies claims and their proof from a fresh challenger, and answers what the challenger draws
 /// next: of what `open` answers its `next_challenge`.
@@ -21,31 +79,20 @@ pub fn verify(
     parameters: &Parameters,
     claims: &[BatchClaims],
     proof: &Proof,
-) -> Result<Vec<u64>, VerifyError> {
+) -> Result<Vec<u64>, VerifyError>
+    ensures accepted { IfOk result (λ next.
+        IsAccepted parameters.now claims.now (proof_of proof.now) next.items) }
+    // where it isn't well formed, where it is refused
+    ensures refused { IfErr result (MatchVerifyError
+        (¬ IsStatement parameters.now claims.now)
+        (IsRefused parameters.now claims.now (proof_of proof.now))) }
+{
     let scheme = match verifying_scheme(parameters) {
         Ok(scheme) => scheme,
         Err(misfit) => return Err(VerifyError::Malformed(misfit)),
     };
     let claims = claims_in(alloc, claims)?;
     let mut challenger = Sha256Challenger::new();
-    let verified = <Scheme as Pcs<BabyBear4, Sha256Challenger>>::verify(
-        &scheme,
-        alloc,
-        claims,
-        proof,
-        &mut challenger,
-    );
-    match verified {
-        Ok(()) => {
-            let next: BabyBear4 = FieldChallenger::<BabyBear>::sample_algebra_element(
-                &mut challenger,
-            );
-            match coefficients(alloc, next) {
-                Ok(numbers) => Ok(numbers),
-                Err(_) => Err(VerifyError::OutOfMemory),
-            }
-        },
-        Err(FriError::OutOfMemory) => Err(VerifyError::OutOfMemory),
-        Err(error) => Err(VerifyError::Refused(error)),
-    }
+    verify_claims(alloc, &scheme, claims, proof, &mut challenger)?;
+    Ok(next_drawn(alloc, &mut challenger)?)
 }

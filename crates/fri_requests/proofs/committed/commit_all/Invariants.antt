@@ -1,6 +1,11 @@
-use Rattle.std.proofs.Common.{◌≡◌}
+use Rattle.std.proofs.Common.{◌≡◌, take}
+use Rattle.std.specs.List.{AllZip}
+use Rattle.fri_requests.specs.Commitments.{Keeps}
 use Rattle.fri_requests.proofs.committed.commit_all.Given as goal
 
 abbrev pub invariant-loop-index : goal.invariant-loop-index
-invariant-loop-index l =
-    (l.scheme ≡ l.initial.scheme) × (l.scheme.fri.log_blowup ≡ l.log_blowup)
+invariant-loop-index l = record {
+  same : l.scheme ≡ l.initial.scheme;
+  blowup : l.scheme.fri.log_blowup ≡ l.log_blowup;
+  kept : AllZip (Keeps l.log_blowup) l.all.items (take l.index l.batches);
+}

@@ -1,11 +1,39 @@
 use Rattle.std.proofs.lemmas.List.Elements.{All-push}
-use Rattle.std.proofs.Common.{All, subst, sym}
+use Rattle.std.proofs.lemmas.List.{take_all}
+use Rattle.std.proofs.Common.{◌≡◌, ◌<◌, ◌≤◌, All, map, length, get_or, ap, subst, sym, ◌∙◌}
 use Rattle.p3_fri_commit.specs.Extension.{FitsDomain}
+use Rattle.p3_fri_two_adic.specs.Chunks.{polynomials_on}
+use Rattle.fri_requests.specs.Commitments.{domain_of}
+use Rattle.fri_requests.specs.Matrices.{held_listed}
+use Rattle.fri_requests.specs.Setting.{fields}
+use Rattle.fri_requests.proofs.Kept.{same_more}
 use Rattle.fri_requests.proofs.matrices.batch_evaluations.Goals as goal
 
 pub loop-index-preserved : goal.loop-index-preserved
 loop-index-preserved c =
-    subst (λ es. All (λ e. FitsDomain 27 c.args.log_blowup e.0.log_size e.1) es)
-    (sym c.in_ok-push.ensures.items)
-    (All-push (λ e. FitsDomain 27 c.args.log_blowup e.0.log_size e.1) c.loop-index.all.items
-    c.in_ok-evaluations.field-0 c.loop-index.invariant c.in_ok-evaluations.ensures)
+    let ms = c.args.batch.now.matrices.items in
+    let whole = c.deref-matrix-items.ensures.value in
+    let below = subst (λ ys. c.loop-index.index < length ys) whole c.loop-index-test.true in
+    let item = subst (λ ys. c.matrix-item.result ≡ get_or ys c.loop-index.index c.matrix-item.result) whole c.matrix-item.is in
+    record {
+      fit = subst (λ es. All (λ e. FitsDomain 27 c.args.log_blowup e.0.log_size e.1) es)
+          (sym c.in_ok-push.ensures.items)
+          (All-push (λ e. FitsDomain 27 c.args.log_blowup e.0.log_size e.1) c.loop-index.all.items
+          c.in_ok-evaluations.field-0 c.loop-index.invariant.fit c.in_ok-evaluations.ensures.fits);
+      domains = same_more (λ e. domain_of e.0.shift e.0.log_size) (λ m. m.domain) c.loop-index.all.items _ ms
+          c.loop-index.index c.in_ok-evaluations.field-0 c.matrix-item.result below item c.in_ok-push.ensures.items
+          c.in_ok-evaluations.ensures.domain c.loop-index.invariant.domains;
+      polynomials = same_more (λ e. polynomials_on fields e.0.shift e.0.log_size e.1) held_listed c.loop-index.all.items _ ms
+          c.loop-index.index c.in_ok-evaluations.field-0 c.matrix-item.result below item c.in_ok-push.ensures.items
+          c.in_ok-evaluations.ensures.polynomials c.loop-index.invariant.polynomials;
+    }
+
+pub returns-clause-domains : goal.returns-clause-domains
+returns-clause-domains c =
+    let ended = subst (λ ys. length ys ≤ c.loop-index.index) c.deref-matrix-items.ensures.value c.loop-index-test.false in
+    c.loop-index.invariant.domains ∙ ap (λ ms. map (λ m. m.domain) ms) (take_all c.loop-index.index c.args.batch.now.matrices.items ended)
+
+pub returns-clause-polynomials : goal.returns-clause-polynomials
+returns-clause-polynomials c =
+    let ended = subst (λ ys. length ys ≤ c.loop-index.index) c.deref-matrix-items.ensures.value c.loop-index-test.false in
+    c.loop-index.invariant.polynomials ∙ ap (λ ms. map held_listed ms) (take_all c.loop-index.index c.args.batch.now.matrices.items ended)

@@ -1,6 +1,16 @@
-use Rattle.std.proofs.Common.{All}
+use Rattle.std.proofs.Common.{◌≡◌, All, map, take}
 use Rattle.p3_fri_commit.specs.Extension.{FitsDomain}
+use Rattle.p3_fri_two_adic.specs.Chunks.{polynomials_on}
+use Rattle.fri_requests.specs.Commitments.{domain_of}
+use Rattle.fri_requests.specs.Matrices.{held_listed}
+use Rattle.fri_requests.specs.Setting.{fields}
 use Rattle.fri_requests.proofs.matrices.batch_evaluations.Given as goal
 
 abbrev pub invariant-loop-index : goal.invariant-loop-index
-invariant-loop-index l = All (λ e. FitsDomain 27 l.log_blowup e.0.log_size e.1) l.all.items
+invariant-loop-index l = record {
+  fit : All (λ e. FitsDomain 27 l.log_blowup e.0.log_size e.1) l.all.items;
+  domains : map (λ e. domain_of e.0.shift e.0.log_size) l.all.items
+      ≡ map (λ m. m.domain) (take l.index l.batch.matrices.items);
+  polynomials : map (λ e. polynomials_on fields e.0.shift e.0.log_size e.1) l.all.items
+      ≡ map held_listed (take l.index l.batch.matrices.items);
+}

@@ -1,5 +1,11 @@
-use Rattle.std.proofs.Common.{◌≢◌, All, length}
+use Rattle.std.proofs.Common.{◌≡◌, ◌≢◌, All, [], map, take}
+use Rattle.algebra.specs.Nested.{lists}
+use Rattle.fri_requests.specs.Numbers.{coefficient_numbers}
 use Rattle.fri_requests.proofs.matrices.batch_points.Given as goal
 
 abbrev pub invariant-loop-index : goal.invariant-loop-index
-invariant-loop-index l = All (λ v. length v.items ≢ 0) l.all.items
+invariant-loop-index l = record {
+  some : All (λ zs. zs ≢ []) (lists l.all.items);
+  numbers : map (map coefficient_numbers) (lists l.all.items)
+      ≡ map (λ m. lists m.points.items) (take l.index l.batch.matrices.items);
+}

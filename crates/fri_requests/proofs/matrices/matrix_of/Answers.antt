@@ -6,7 +6,7 @@ pub new-requires-clause-whole_rows : goal.new-requires-clause-whole_rows
 new-requires-clause-whole_rows c =
     whole_rows _ c.args.width (2 ^ c.args.log_size) c.requires.size c.requires.some
 
-pub returns : goal.returns
-returns c = ap length c.new.ensures.rows
+pub returns-clause-height : goal.returns-clause-height
+returns-clause-height c = ap length c.new.ensures.rows
     ∙ height_of c.args.width (2 ^ c.args.log_size) c.args.values.items
     (sym c.args.values.ok.0 ∙ c.requires.size) c.requires.some

@@ -1,8 +1,50 @@
-use Rattle.std.proofs.Common.{sym, ◌∙◌}
+use Rattle.std.proofs.Common.{◌≡◌, map, sym, subst, ap, ◌∙◌}
+use Rattle.std.specs.Prelude.{IfOk}
+use Rattle.algebra.specs.Nested.{nested}
+use Rattle.algebra.proofs.Lists.{map-map}
+use Rattle.p3_mmcs.specs.ProverData.{matrices_of, root_over}
+use Rattle.p3_pcs.specs.Claims.{claim}
+use Rattle.p3_pcs.specs.Requests.{AreHonest, FitDomains, honest_claims, request}
+use Rattle.p3_fri_completeness.specs.Requests.{held_of, HoldsWords}
+use Rattle.std.proofs.Common.{All, ◌^◌}
+use Rattle.fri_requests.specs.Setting.{fields}
 use Rattle.fri_requests.proofs.Requests.{openable_same}
+use Rattle.fri_requests.proofs.Opened.{honest, fits, roots}
 use Rattle.fri_requests.proofs.opening.open_committed.Goals as goal
 
-pub open-requires-clause-shape : goal.open-requires-clause-shape
-open-requires-clause-shape c =
-    openable_same (c.deref-2.ensures.value ∙ sym c.as_mut_slice.ensures.value)
+pub open_requests-requires-clause-shape : goal.open_requests-requires-clause-shape
+open_requests-requires-clause-shape c =
+    openable_same (c.deref.ensures.value ∙ sym c.as_mut_slice.ensures.value)
     (c.are_openable.ensures c.if-not-are_openable.false _)
+
+pub open_requests-requires-clause-honest : goal.open_requests-requires-clause-honest
+open_requests-requires-clause-honest c =
+    subst (λ qs. AreHonest (λ d. All (HoldsWords fields c.args.scheme.now.fri.log_blowup) (matrices_of d)) qs)
+    (sym c.in_ok-requests.ensures ∙ ap (λ rs. map request rs) (sym c.as_mut_slice.ensures.value))
+    (honest c.args.scheme.now.fri.log_blowup c.args.all.now (nested c.args.points.items) c.requires.kept c.requires.some)
+
+pub open_requests-requires-clause-commitments : goal.open_requests-requires-clause-commitments
+open_requests-requires-clause-commitments c =
+    ap (λ ks. map (λ k. k.commitment) ks) c.deref-2.ensures.value ∙ c.in_ok-known.ensures.commitments
+    ∙ roots c.args.scheme.now.fri.log_blowup c.args.all.now (nested c.args.points.items) c.requires.counts c.requires.kept
+    ∙ ap (λ qs. map (λ q. root_over q.datum) qs) (sym c.in_ok-requests.ensures)
+    ∙ map-map (λ q. root_over q.datum) request c.in_ok-requests.requests.items
+    ∙ ap (λ rs. map (λ r. root_over r.prover_data.now) rs) (sym c.as_mut_slice.ensures.value)
+
+pub open_requests-requires-clause-domains : goal.open_requests-requires-clause-domains
+open_requests-requires-clause-domains c =
+    let b = c.args.scheme.now.fri.log_blowup in
+    subst (λ qs. FitDomains (held_of fields matrices_of b) (λ d. 2 ^ d.log_size) (map (λ k. k.domains.items) c.deref-2.result.now) qs)
+    (sym c.in_ok-requests.ensures ∙ ap (λ rs. map request rs) (sym c.as_mut_slice.ensures.value))
+    (ap (λ ks. map (map (λ d. 2 ^ d.log_size)) (map (λ k. k.domains.items) ks)) c.deref-2.ensures.value
+    ∙ ap (λ ds. map (map (λ d. 2 ^ d.log_size)) ds) c.in_ok-known.ensures.domains
+    ∙ fits b c.args.all.now (nested c.args.points.items) c.requires.counts c.requires.kept)
+
+pub returns-clause-claims : goal.returns-clause-claims
+returns-clause-claims c =
+    let b = c.args.scheme.now.fri.log_blowup in
+    c.in_ok-opened.ensures.claims
+    ∙ ap (λ ks. honest_claims (held_of fields matrices_of b) root_over (map (λ k. k.domains.items) ks) (map request c.as_mut_slice.result.now)) c.deref-2.ensures.value
+    ∙ ap (λ ds. honest_claims (held_of fields matrices_of b) root_over ds (map request c.as_mut_slice.result.now)) c.in_ok-known.ensures.domains
+    ∙ ap (λ qs. honest_claims (held_of fields matrices_of b) root_over (map (λ committed. committed.domains.items) c.args.all.now) qs)
+    (ap (λ rs. map request rs) c.as_mut_slice.ensures.value ∙ c.in_ok-requests.ensures)

@@ -1,0 +1,127 @@
+//! The commands of the program `fri`, each over one text.
+
+use crate::{Failure, REFUSED, commit_request, open_request, request_of, verify};
+use fri_requests::Request;
+use std::alloc::Global;
+use std::io::Write;
+
+/// The status where a write failed.
+pub const WRITE_FAILED: u8 = 4;
+
+/// From so many values of extended matrices on a commitment takes about a second or more.
+const MANY_VALUES: usize = 1 << 24;
+
+/// What is done with a text.
+#[derive(Clone, Copy)]
+pub enum Command {
+    Commit,
+    Open,
+    Verify,
+}
+
+impl Command {
+    /// The command of this name.
+    pub fn named(name: &str) -> Option<Command> {
+        match name {
+            "commit" => Some(Command::Commit),
+            "open" => Some(Command::Open),
+            "verify" => Some(Command::Verify),
+            _ => None,
+        }
+    }
+}
+
+/// The number of values of a request's matrices.
+fn count_of(request: &Request) -> usize {
+    let mut count = 0usize;
+    for batch in &request.commitments {
+        for matrix in &batch.matrices {
+            count = count.saturating_add(matrix.values.len());
+        }
+    }
+    count
+}
+
+/// Says what is about to be committed to, where that takes a while. A progress that can't be
+/// written is passed over: no answer hangs on it.
+fn report_progress<W: Write>(err: &mut W, file: &str, request: &Request) {
+    let count = count_of(request);
+    let log_blowup = request.parameters.log_blowup;
+    if log_blowup < 28 && count.saturating_mul(1 << log_blowup) >= MANY_VALUES {
+        let _ = writeln!(
+            err,
+            "fri: {file}: committing to {count} values, extended 2^{log_blowup} times"
+        );
+    }
+}
+
+/// What a command prints for a text.
+fn lines<W: Write>(
+    alloc: Global,
+    command: Command,
+    file: &str,
+    text: &str,
+    err: &mut W,
+) -> Result<String, Failure> {
+    match command {
+        Command::Commit => {
+            let request = request_of(alloc, text)?;
+            report_progress(err, file, &request);
+            let mut lines = String::new(alloc);
+            for commitment in &commit_request(alloc, &request)? {
+                writeln!(lines, "{commitment}")?;
+            }
+            Ok(lines)
+        },
+        Command::Open => {
+            let request = request_of(alloc, text)?;
+            report_progress(err, file, &request);
+            let mut line = open_request(alloc, &request)?;
+            line.push_str("\n")?;
+            Ok(line)
+        },
+        Command::Verify => {
+            let _ = verify(alloc, text)?;
+            Ok(String::from_str(alloc, "accepted\n")?)
+        },
+    }
+}
+
+/// Writes why a file has no answer. A refused statement's verdict is what `verify` is asked for,
+/// and goes to the output.
+fn report_failure<W: Write, E: Write>(
+    file: &str,
+    failure: &Failure,
+    out: &mut W,
+    err: &mut E,
+) -> u8 {
+    let status = failure.status();
+    let written = match failure {
+        Failure::Statement(error) if status == REFUSED => writeln!(out, "refused: {error}"),
+        _ if status == REFUSED => writeln!(err, "fri: {file}: refused: {failure}"),
+        _ => writeln!(err, "fri: {file}: {failure}"),
+    };
+    match written {
+        Ok(()) => status,
+        Err(_) => WRITE_FAILED,
+    }
+}
+
+/// Writes to `out` what a command prints for the text of the file of this name, or to `err` why it
+/// prints nothing, and gives the status.
+pub fn answer<W: Write, E: Write>(
+    alloc: Global,
+    command: Command,
+    file: &str,
+    text: &str,
+    out: &mut W,
+    err: &mut E,
+) -> u8 {
+    match lines(alloc, command, file, text, err) {
+        Ok(lines) => match out.write_all(lines.as_bytes()) {
+            Ok(()) => 0,
+            Err(_) => WRITE_FAILED,
+        },
+        Err(failure) => report_failure(file, &failure, out, err),
+    }
+}

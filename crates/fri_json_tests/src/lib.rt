@@ -1,0 +1,9 @@
+//! Tests of requests, answers and statements over JSON texts.
+#![tactic(auto)]
+
+#[cfg(test)]
+mod openings;
+#[cfg(test)]
+mod refusals;
+#[cfg(test)]
+mod texts;

@@ -1,0 +1,374 @@
+//! Changed statements and requests, each with what is written of it.
+
+use crate::texts::{COLUMN, changed, is_written, written};
+use fri_json::{Command, Failure, open};
+use std::alloc::{AllocError, Global};
+
+/// What stands in the answer to the column's request, what is written there in its place, and the
+/// refusals that `tools/relation` finds true of the statement then, of which one is written.
+type Refusal = (&'static str, &'static str, &'static [&'static str]);
+
+/// Where a changed value, digest or coefficient is absorbed every later draw moves, so that other
+/// rows are asked for than the proof opens.
+const MOVED: &[&str] = &[
+    "CommitPhaseMmcsError(RootMismatch)",
+    "FinalPolyMismatch",
+    "InputError(RootMismatch)",
+];
+
+const REFUSALS: [Refusal; 14] = [
+    ("[[2013265918,0,0,0]]", "[[2013265917,0,0,0]]", MOVED),
+    (
+        "\"point\":[5,",
+        "\"point\":[6,",
+        &["CommitPhaseMmcsError(RootMismatch)", "FinalPolyMismatch"],
+    ),
+    ("2aa419f5", "3aa419f5", &["InputError(RootMismatch)"]),
+    ("[[[137,", "[[[136,", &["InputError(RootMismatch)"]),
+    ("[[[33]]", "[[[34]]", MOVED),
+    ("[[82,209", "[[83,209", MOVED),
+    (
+        "[[[183,",
+        "[[[182,",
+        &["CommitPhaseMmcsError(RootMismatch)"],
+    ),
+    (
+        "[[2013265920,0,0,0]],\"q",
+        "[[2013265919,0,0,0]],\"q",
+        MOVED,
+    ),
+    (
+        "\"batch_pow_witness\":0",
+        "\"batch_pow_witness\":1",
+        &["NonCanonicalPowWitness { phase: Batch }"],
+    ),
+    (
+        "\"commit_pow_witnesses\":[0]",
+        "\"commit_pow_witnesses\":[1]",
+        &["NonCanonicalPowWitness { phase: CommitPhase }"],
+    ),
+    (
+        "\"query_pow_witness\":0",
+        "\"query_pow_witness\":1",
+        &["NonCanonicalPowWitness { phase: Query }"],
+    ),
+    (
+        "\"max_log_arity\":1",
+        "\"max_log_arity\":0",
+        &["ZeroFoldingArity"],
+    ),
+    (
+        "{\"point\":[5,0,0,0],\"values\":[[2013265918,0,0,0]]}",
+        "",
+        &["MatrixWithoutOpeningPoints { batch: 0, matrix: 0 }"],
+    ),
+    (
+        "[[2013265918,0,0,0]]",
+        "[[2013265918,0,0,0],[0,0,0,0]]",
+        &["InputError(RowWidth)"],
+    ),
+];
+
+/// Whether what is written begins with one of these refusals, and ends its only line with words.
+fn names_refusal(alloc: Global, output: &str, names: &[&str]) -> Result<bool, AllocError> {
+    for name in names {
+        if output.starts_with(format!(in alloc; "refused: {name}: ")?.as_str()) {
+            return Ok(output.ends_with('\n'));
+        }
+    }
+    Ok(false)
+}
+
+/// Whether the changed statement is refused so, and nothing is written beside.
+fn is_refused(alloc: Global, statement: &str, refusal: &Refusal) -> Result<bool, AllocError> {
+    let (old, new, names) = *refusal;
+    let text = changed(alloc, statement, old, new)?;
+    let outcome = written(alloc, Command::Verify, text.as_str());
+    let Ok(output) = str::from_utf8(&outcome.output) else {
+        return Ok(false);
+    };
+    Ok(
+        statement.contains(old)
+            && names_refusal(alloc, output, names)?
+            && is_written(&outcome, output, "", 1),
+    )
+}
+
+/// The first refusal that isn't as it should be.
+fn first_unrefused(alloc: Global) -> Result<Option<&'static str>, Failure> {
+    let statement = open(alloc, COLUMN)?;
+    for refusal in &REFUSALS {
+        if !is_refused(alloc, statement.as_str(), refusal)? {
+            return Ok(Some(refusal.1));
+        }
+    }
+    Ok(None)
+}
+
+#[test]
+fn changed_statements_are_refused(rt: HostRuntime) -> Result<(), Failure> {
+    let first = first_unrefused(rt.alloc())?;
+    assert!(rt; first.is_none(), "{first:?}");
+    Ok(())
+}
+
+/// What stands in a text, what is written there in its place, the line that says why the text has
+/// no answer, and the status. Lines are the rules of `docs/FORMATS.md` and places are counted from
+/// 0, columns of what isn't JSON from 1.
+type Fault = (&'static str, &'static str, &'static str, u8);
+
+/// Of the column's request.
+const REQUESTS: [Fault; 20] = [
+    (
+        "\"log_blowup\":1",
+        "\"log_blowup\":0",
+        "LogBlowup: expected log_blowup from 1 to 27",
+        2,
+    ),
+    (
+        "\"log_blowup\":1",
+        "\"log_blowup\":28",
+        "LogBlowup: expected log_blowup from 1 to 27",
+        2,
+    ),
+    (
+        "\"max_log_arity\":1",
+        "\"max_log_arity\":0",
+        "MaxLogArity: expected max_log_arity above 0",
+        2,
+    ),
+    (
+        "\"num_queries\":2",
+        "\"num_queries\":0",
+        "NumQueries: expected num_queries above 0",
+        2,
+    ),
+    (
+        "\"query_proof_of_work_bits\":0",
+        "\"query_proof_of_work_bits\":64",
+        "ProofOfWorkBits: expected proofs of work of at most 63 bits",
+        2,
+    ),
+    (
+        "[{\"matrices\":[",
+        "[{\"matrices\":[],\"others\":[",
+        "Matrices: expected some matrix",
+        2,
+    ),
+    (
+        "\"log_size\":1",
+        "\"log_size\":27",
+        "LogSize: commitment 0, matrix 0, expected a log_size up to 27, with log_blowup where it \
+is committed to",
+        2,
+    ),
+    (
+        "\"shift\":1",
+        "\"shift\":0",
+        "Shift: commitment 0, matrix 0, expected a shift from 1 to 2013265920",
+        2,
+    ),
+    (
+        "\"shift\":1",
+        "\"shift\":2013265921",
+        "Shift: commitment 0, matrix 0, expected a shift from 1 to 2013265920",
+        2,
+    ),
+    (
+        "\"width\":1",
+        "\"width\":0",
+        "Width: commitment 0, matrix 0, expected a width above 0",
+        2,
+    ),
+    (
+        "[1,3]",
+        "[1]",
+        "Values: commitment 0, matrix 0, expected as many values as the domain has points, \
+times the width",
+        2,
+    ),
+    (
+        "[1,3]",
+        "[1,2013265921]",
+        "Element: commitment 0, matrix 0, number 1, expected a number below 2013265921",
+        2,
+    ),
+    (
+        "[[5,0,0,0]]",
+        "[]",
+        "Points: commitment 0, matrix 0, expected some point",
+        2,
+    ),
+    (
+        "[[5,0,0,0]]",
+        "[[5,0,0,0],[5,0,0]]",
+        "ExtensionElement: commitment 0, matrix 0, point 1, expected four numbers below 2013265921",
+        2,
+    ),
+    (
+        "[[5,0,0,0]]",
+        "[[5,0,2013265921,0]]",
+        "Element: commitment 0, matrix 0, point 0, expected a number below 2013265921",
+        2,
+    ),
+    (
+        "{\"parameters\":{",
+        "{\n\"parameters\":3,\"others\":{",
+        "Json: invalid type at line 2 column 14",
+        2,
+    ),
+    (
+        "\"commitments\":[",
+        "\"others\":[",
+        "Json: missing field `commitments` at line 1 column 284",
+        2,
+    ),
+    (
+        "\"log_final_poly_len\":0",
+        "\"log_final_poly_len\":1",
+        "refused: InputHeightTooSmall { log_input_height: 2, log_final_height: 2 }: the input's \
+log height 2 is not above the final log height 2",
+        1,
+    ),
+    (
+        "\"log_final_poly_len\":0",
+        "\"log_final_poly_len\":18446744073709551615",
+        "refused: FinalHeightOverflow: the final log height is past the greatest number",
+        1,
+    ),
+    (
+        "[[5,0,0,0]]",
+        "[[31,0,0,0]]",
+        "refused: PointInEvaluationDomain { round: 0, matrix: 0, point: 0 }: point 0 of matrix 0 \
+in round 0 lies in the evaluation domain",
+        1,
+    ),
+];
+
+/// Of the answer to it.
+const STATEMENTS: [Fault; 13] = [
+    (
+        "\"log_final_poly_len\":0",
+        "\"log_final_poly_len\":63",
+        "LogFinalPolyLen: expected log_blowup and log_final_poly_len below 64 together",
+        2,
+    ),
+    (
+        "\"commit_proof_of_work_bits\":0",
+        "\"commit_proof_of_work_bits\":64",
+        "ProofOfWorkBits: expected proofs of work of at most 63 bits",
+        2,
+    ),
+    (
+        "2aa419f5",
+        "2aa419f",
+        "Commitment: commitment 0, expected 64 hex digits",
+        2,
+    ),
+    (
+        "2aa419f5",
+        "2xa419f5",
+        "Commitment: commitment 0, expected 64 hex digits",
+        2,
+    ),
+    (
+        "\"shift\":1",
+        "\"shift\":0",
+        "Shift: commitment 0, matrix 0, expected a shift from 1 to 2013265920",
+        2,
+    ),
+    (
+        "\"log_size\":1",
+        "\"log_size\":28",
+        "LogSize: commitment 0, matrix 0, expected a log_size up to 27, with log_blowup where it \
+is committed to",
+        2,
+    ),
+    (
+        "\"point\":[5,",
+        "\"point\":[",
+        "ExtensionElement: commitment 0, matrix 0, point 0, expected four numbers below 2013265921",
+        2,
+    ),
+    (
+        "[[2013265918,0,0,0]]",
+        "[[2013265918,0,0,0],[2013265921,0,0,0]]",
+        "Element: commitment 0, matrix 0, point 0, number 1, expected a number below 2013265921",
+        2,
+    ),
+    (
+        "[[2013265918,0,0,0]]",
+        "[[2013265918,0,0]]",
+        "ExtensionElement: commitment 0, matrix 0, point 0, number 0, expected four numbers \
+below 2013265921",
+        2,
+    ),
+    (
+        "\"batch_pow_witness\":0",
+        "\"batch_pow_witness\":2013265921",
+        "Element: proof, expected a number below 2013265921",
+        2,
+    ),
+    (
+        "[[2013265920,0,0,0]],\"q",
+        "[[2013265920,0,0]],\"q",
+        "ExtensionElement: proof, expected four numbers below 2013265921",
+        2,
+    ),
+    (
+        "[[[137,",
+        "[[[",
+        "Digest: proof, expected digests of 32 bytes",
+        2,
+    ),
+    (
+        "{\"parameters\":{",
+        "{\n\"parameters\":3,\"others\":{",
+        "Json: invalid type at line 2 column 14",
+        2,
+    ),
+];
+
+/// Whether of the changed text this line and nothing else is written.
+fn is_faulty(
+    alloc: Global,
+    command: Command,
+    text: &str,
+    fault: &Fault,
+) -> Result<bool, AllocError> {
+    let (old, new, line, status) = *fault;
+    let faulty = changed(alloc, text, old, new)?;
+    let outcome = written(alloc, command, faulty.as_str());
+    let line = format!(in alloc; "fri: F: {line}\n")?;
+    Ok(text.contains(old) && is_written(&outcome, "", line.as_str(), status))
+}
+
+/// The first fault of the text that isn't named so.
+fn first_unnamed(
+    alloc: Global,
+    command: Command,
+    text: &str,
+    faults: &[Fault],
+) -> Result<Option<&'static str>, AllocError> {
+    for fault in faults {
+        if !is_faulty(alloc, command, text, fault)? {
+            return Ok(Some(fault.1));
+        }
+    }
+    Ok(None)
+}
+
+#[test]
+fn faulty_requests_are_named(rt: HostRuntime) -> Result<(), Failure> {
+    let first = first_unnamed(rt.alloc(), Command::Open, COLUMN, &REQUESTS)?;
+    assert!(rt; first.is_none(), "{first:?}");
+    Ok(())
+}
+
+#[test]
+fn faulty_statements_are_named(rt: HostRuntime) -> Result<(), Failure> {
+    let statement = open(rt.alloc(), COLUMN)?;
+    let first = first_unnamed(rt.alloc(), Command::Verify, statement.as_str(), &STATEMENTS)?;
+    assert!(rt; first.is_none(), "{first:?}");
+    Ok(())
+}

@@ -1,0 +1,23 @@
+use Rattle.std.proofs.Common.{map, ap, ◌∙◌}
+use Rattle.std.proofs.lemmas.List.{take_all}
+use Rattle.p3_pcs.specs.Claims.{claim}
+use Rattle.fri_requests.specs.Claims.{batch_listed}
+use Rattle.fri_requests.specs.Statements.{IsClaim}
+use Rattle.fri_requests.proofs.Failed.{malformed_part}
+use Rattle.fri_requests.proofs.Listed.{not_all, is_coset, are_claims}
+use Rattle.fri_requests.proofs.claims.claims_in.Goals as goal
+
+pub returns-in_err-commitment_opening-clause-refused :
+    goal.returns-in_err-commitment_opening-clause-refused
+returns-in_err-commitment_opening-clause-refused c =
+    malformed_part _ _ _ _ c.from_residual-in_err-commitment_opening.ensures.1
+    c.in_err-commitment_opening.ensures.refused
+    (λ fails whole. not_all IsClaim batch_listed _ c.loop-index.index c.index-claims-index.result
+    c.loop-index-test.true c.index-claims-index.is fails whole)
+
+pub returns-clause-well_formed : goal.returns-clause-well_formed
+returns-clause-well_formed c =
+    are_claims (λ d. d.shift) (λ d. d.log_size)
+    (λ d. is_coset d.shift d.log_size d.nonzero d.within_two_adicity)
+    (map claim c.loop-index.openings.items) c.args.claims.now
+    (c.loop-index.invariant ∙ ap (λ rs. map batch_listed rs) (take_all c.loop-index.index c.args.claims.now c.loop-index-test.false))

@@ -1,0 +1,8 @@
+use Rattle.std.proofs.Common.{◌≡◌, map, take}
+use Rattle.p3_pcs.specs.Claims.{point_claim}
+use Rattle.fri_requests.specs.Claims.{point_numbers, point_listed}
+use Rattle.fri_requests.proofs.claims.matrix_claims.Given as goal
+
+abbrev pub invariant-loop-point : goal.invariant-loop-point
+invariant-loop-point l = map point_listed l.points.items
+    ≡ map point_numbers (map point_claim (take l.point-index l.opening.points.items))

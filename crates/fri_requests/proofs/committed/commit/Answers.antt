@@ -1,0 +1,16 @@
+use Rattle.std.proofs.Common.{map, subst, sym, ap, ◌∙◌}
+use Rattle.std.proofs.lemmas.List.{take_all}
+use Rattle.std.specs.List.{AllZip}
+use Rattle.fri_requests.specs.Commitments.{IsCommitmentTo}
+use Rattle.fri_requests.proofs.Kept.{are_commitments}
+use Rattle.fri_requests.proofs.committed.commit.Goals as goal
+
+pub returns : goal.returns
+returns c =
+    let R = IsCommitmentTo c.args.request.now.parameters.log_blowup in
+    let kept = are_commitments c.args.request.now.parameters.log_blowup _ _ c.in_ok-all.ensures.committed in
+    let listed = c.loop-committed.invariant ∙ ap (λ all. map (λ committed. committed.commitment) all)
+    (take_all c.loop-committed.committed-index c.deref-committed-items.result.now c.loop-committed-test.false
+    ∙ c.deref-committed-items.ensures.value) in
+    subst (λ batches. AllZip R c.loop-committed.commitments.items batches) c.deref.ensures.value
+    (subst (λ cs. AllZip R cs c.deref.result.now) (sym listed) kept)

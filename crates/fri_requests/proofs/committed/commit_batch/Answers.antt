@@ -1,0 +1,35 @@
+use Rattle.std.proofs.Common.{◌≡◌, ◌^◌, All, map, ap, subst, ◌∙◌}
+use Rattle.std.specs.List.{AllZip}
+use Rattle.p3_mmcs.specs.ProverData.{matrices_of}
+use Rattle.p3_stark_pcs.specs.Evaluations.{HasPolynomials}
+use Rattle.p3_fri_completeness.specs.Requests.{held_in, HoldsWords}
+use Rattle.p3_fri_two_adic.specs.Chunks.{polynomials_on}
+use Rattle.p3_fri_two_adic.specs.Held.{Extends}
+use Rattle.fri_requests.specs.Commitments.{domain_of}
+use Rattle.fri_requests.specs.Setting.{fields}
+use Rattle.fri_requests.proofs.Kept.{pairs_same, pairs_mapped, through}
+use Rattle.fri_requests.proofs.committed.commit_batch.Goals as goal
+
+pub returns-clause-committed : goal.returns-clause-committed
+returns-clause-committed c =
+    let es = c.in_ok-evaluations.evaluations.items in
+    let words = matrices_of c.in_ok-commitment.data in
+    let held = map (held_in fields c.args.log_blowup) words in
+    let blowup = ap (λ s. s.fri.log_blowup) c.in_ok-commitment.ensures.kept ∙ c.requires.blowup in
+    let domains = c.in_ok-domains.ensures ∙ ap (λ all. map (λ e. e.0) all) c.deref.ensures.value in
+    let extends = subst (λ b. AllZip (λ m e. Extends fields e.0.shift e.0.log_size e.1 m)
+    (map (held_in fields b) words) es) blowup c.in_ok-commitment.ensures.extends in
+    record {
+      kept = record {
+        commitment = c.in_ok-commitment.ensures.commitment;
+        openable = c.in_ok-commitment.ensures.openable;
+        low_degree = subst (λ b. All (HoldsWords fields b) words) blowup c.in_ok-commitment.ensures.honest;
+        sizes = through (λ d. 2 ^ d.log_size) (λ e. e.0) es c.in_ok-domains.domains.items _ domains
+            (pairs_same (λ m e. Extends fields e.0.shift e.0.log_size e.1 m) (λ m. m.size)
+            (λ e. 2 ^ e.0.log_size) (λ m e h. h.size) held es extends);
+      };
+      polynomials = subst (λ listed. AllZip HasPolynomials held listed) c.in_ok-evaluations.ensures.polynomials
+          (pairs_mapped HasPolynomials (λ e. polynomials_on fields e.0.shift e.0.log_size e.1) held es extends);
+      domains = through (λ d. domain_of d.shift d.log_size) (λ e. e.0) es c.in_ok-domains.domains.items _ domains
+          c.in_ok-evaluations.ensures.domains;
+    }

@@ -1,0 +1,64 @@
+use Rattle.std.proofs.Common.{◌≡◌, map, sym, subst, ap, ◌∙◌, All}
+use Rattle.std.specs.List.{AllZip}
+use Rattle.algebra.specs.Nested.{lists, nested}
+use Rattle.p3_mmcs.specs.ProverData.{matrices_of, root_over}
+use Rattle.p3_pcs.specs.Claims.{claim, zip_with}
+use Rattle.p3_pcs.specs.Requests.{honest_claims}
+use Rattle.p3_fri_completeness.specs.Requests.{held_of, relation_claims}
+use Rattle.p3_fri_relation.specs.Views.{parameters_of, proof_of}
+use Rattle.p3_fri_two_adic.specs.Ranges.{InProverRange, InVerifierRange}
+use Rattle.fri_requests.specs.Claims.{batch_numbers}
+use Rattle.fri_requests.specs.Commitments.{IsKept, Keeps}
+use Rattle.fri_requests.specs.Openings.{IsOpened, request_for}
+use Rattle.fri_requests.specs.Setting.{fields}
+use Rattle.fri_requests.proofs.Listed.{claims_again, is_coset, are_claims}
+use Rattle.fri_requests.proofs.Opened.{all_kept, count_same, opened_each}
+use Rattle.fri_requests.proofs.Stated.{accepted, verifier_range}
+use Rattle.fri_requests.proofs.opening.open.Goals as goal
+
+pub open_committed-requires-clause-kept : goal.open_committed-requires-clause-kept
+open_committed-requires-clause-kept c =
+    let b = c.args.request.now.parameters.log_blowup in
+    let same = ap (λ s. s.fri.log_blowup) c.in_ok-all.ensures.kept ∙ ap (λ p. p.log_blowup) c.in-Ok.ensures.parameters in
+    subst (λ cs. All (IsKept c.commit_all.new.scheme.fri.log_blowup) cs) (sym c.as_mut_slice.ensures.value)
+    (subst (λ n. All (IsKept n) c.in_ok-all.all.items) (sym same)
+    (all_kept b c.in_ok-all.all.items _ c.in_ok-all.ensures.committed))
+
+pub open_committed-requires-clause-counts : goal.open_committed-requires-clause-counts
+open_committed-requires-clause-counts c =
+    count_same c.args.request.now.parameters.log_blowup c.as_mut_slice.result.now (nested c.in_ok-points.points.items) c.args.request.now.commitments.items
+    (subst (λ cs. AllZip (Keeps c.args.request.now.parameters.log_blowup) cs c.args.request.now.commitments.items) (sym c.as_mut_slice.ensures.value)
+    (subst (λ batches. AllZip (Keeps c.args.request.now.parameters.log_blowup) c.in_ok-all.all.items batches) c.deref-2.ensures.value c.in_ok-all.ensures.committed))
+    (c.in_ok-points.ensures.numbers ∙ ap (λ batches. map (λ batch. map (λ m. lists m.points.items) batch.matrices.items) batches) c.deref.ensures.value)
+
+pub returns-clause-accepted : goal.returns-clause-accepted
+returns-clause-accepted c =
+    let same = ap (λ s. parameters_of s.fri) c.in_ok-all.ensures.kept ∙ c.in-Ok.ensures.parameters in
+    let range = subst (λ s. InProverRange (parameters_of s.fri) 27 63) (sym c.in_ok-all.ensures.kept) c.in-Ok.ensures.range in
+    accepted c.args.request.now.parameters c.in_ok-claims_out.field-0.items (proof_of c.in_ok-claims.proof)
+    (parameters_of c.commit_all.new.scheme.fri) (relation_claims (λ d. d.log_size) (map claim c.in_ok-claims.claims.items)) c.new-challenger.result
+    same
+    (claims_again (λ d. d.shift) (λ d. d.log_size) (map claim c.in_ok-claims.claims.items) c.in_ok-claims_out.field-0.items (sym c.in_ok-claims_out.ensures))
+    c.new-challenger.ensures
+    (record {
+      range = subst (λ p. InVerifierRange p 27 63) same (verifier_range (parameters_of c.commit_all.new.scheme.fri) _ _ c.new-challenger.result range c.in_ok-claims.ensures.accepted);
+      claims = are_claims (λ d. d.shift) (λ d. d.log_size) (λ d. is_coset d.shift d.log_size d.nonzero d.within_two_adicity)
+          (map claim c.in_ok-claims.claims.items) c.in_ok-claims_out.field-0.items (sym c.in_ok-claims_out.ensures);
+    })
+    _ _ c.in_ok-claims.ensures.accepted c.in_ok-claims.ensures.state c.in_ok-next_drawn.ensures
+
+pub returns-clause-opened : goal.returns-clause-opened
+returns-clause-opened c =
+    let b = c.args.request.now.parameters.log_blowup in
+    let batches = c.args.request.now.commitments.items in
+    let points = nested c.in_ok-points.points.items in
+    let same = ap (λ s. s.fri.log_blowup) c.in_ok-all.ensures.kept ∙ ap (λ p. p.log_blowup) c.in-Ok.ensures.parameters in
+    let listed = c.in_ok-claims_out.ensures
+    ∙ ap (λ cs. map (batch_numbers (λ d. d.shift) (λ d. d.log_size)) cs)
+    (c.in_ok-claims.ensures.claims
+    ∙ ap (λ n. honest_claims (held_of fields matrices_of n) root_over (map (λ k. k.domains.items) c.as_mut_slice.result.now) (zip_with (λ k ps. request_for k.data ps) c.as_mut_slice.result.now points)) same
+    ∙ ap (λ ks. honest_claims (held_of fields matrices_of b) root_over (map (λ k. k.domains.items) ks) (zip_with (λ k ps. request_for k.data ps) ks points)) c.as_mut_slice.ensures.value) in
+    subst (λ ns. AllZip (IsOpened b) ns batches) (sym listed)
+    (opened_each b c.in_ok-all.all.items points batches
+    (subst (λ bs. AllZip (Keeps b) c.in_ok-all.all.items bs) c.deref-2.ensures.value c.in_ok-all.ensures.committed)
+    (c.in_ok-points.ensures.numbers ∙ ap (λ bs. map (λ batch. map (λ m. lists m.points.items) batch.matrices.items) bs) c.deref.ensures.value))

@@ -1,0 +1,39 @@
+use Rattle.std.proofs.Common.{◌≡◌, map, refl, sym, subst}
+use Rattle.p3_mmcs.specs.ProverData.{matrices_of, root_over}
+use Rattle.p3_pcs.proofs.Honest.{claims_honest}
+use Rattle.p3_fri_completeness.specs.Requests.{held_of, relation_claims}
+use Rattle.p3_fri_opening_verifier.specs.Ends.{last_state}
+use Rattle.p3_fri_relation.specs.Acceptance.{Accepts}
+use Rattle.p3_fri_relation.specs.Views.{parameters_of, proof_of}
+use Rattle.fri_requests.specs.Setting.{fields, sha256_setting}
+use Rattle.fri_requests.proofs.opening.open_requests.Goals as goal
+
+pub returns-clause-claims : goal.returns-clause-claims
+returns-clause-claims c =
+    claims_honest root_over (held_of fields matrices_of c.args.scheme.now.fri.log_blowup) (λ d. d)
+    c.args.known.now c.args.requests.now _ _ _ c.requires.commitments
+    (c.in_ok-values.ensures.opened (c.in_ok-values.ensures.checked refl))
+    (c.in_ok-values.ensures.values c.requires.honest)
+    (rw c.as_slice.ensures.value at c.in_ok-claims.ensures)
+
+pub returns-clause-accepted : goal.returns-clause-accepted
+returns-clause-accepted c =
+    let is = claims_honest root_over (held_of fields matrices_of c.args.scheme.now.fri.log_blowup) (λ d. d)
+    c.args.known.now c.args.requests.now _ _ _ c.requires.commitments
+    (c.in_ok-values.ensures.opened (c.in_ok-values.ensures.checked refl))
+    (c.in_ok-values.ensures.values c.requires.honest)
+    (rw c.as_slice.ensures.value at c.in_ok-claims.ensures) in
+    subst (λ cs. Accepts sha256_setting (parameters_of c.args.scheme.now.fri) (relation_claims (λ d. d.log_size) cs)
+    (proof_of c.in_ok-values.proof) c.args.challenger.now) (sym is)
+    (c.in_ok-values.ensures.accepted c.requires.honest _ c.requires.domains)
+
+pub returns-clause-state : goal.returns-clause-state
+returns-clause-state c =
+    let is = claims_honest root_over (held_of fields matrices_of c.args.scheme.now.fri.log_blowup) (λ d. d)
+    c.args.known.now c.args.requests.now _ _ _ c.requires.commitments
+    (c.in_ok-values.ensures.opened (c.in_ok-values.ensures.checked refl))
+    (c.in_ok-values.ensures.values c.requires.honest)
+    (rw c.as_slice.ensures.value at c.in_ok-claims.ensures) in
+    subst (λ cs. c.open.new.challenger ≡ last_state sha256_setting (parameters_of c.args.scheme.now.fri) (relation_claims (λ d. d.log_size) cs)
+    (proof_of c.in_ok-values.proof) c.args.challenger.now) (sym is)
+    (c.in_ok-values.ensures.state c.requires.honest _ c.requires.domains)

@@ -1,0 +1,33 @@
+use Rattle.std.proofs.Common.{map, subst, refl}
+use Rattle.p3_pcs.specs.Claims.{claim}
+use Rattle.p3_fri_relation.specs.Views.{proof_of}
+use Rattle.p3_fri_two_adic.specs.Ranges.{InVerifierRange}
+use Rattle.fri_requests.proofs.Failed.{refused_part}
+use Rattle.fri_requests.proofs.Listed.{claims_again}
+use Rattle.fri_requests.proofs.Stated.{accepted, refused}
+use Rattle.fri_requests.proofs.verification.verify.Goals as goal
+
+pub returns-in_err-verify_claims-clause-refused : goal.returns-in_err-verify_claims-clause-refused
+returns-in_err-verify_claims-clause-refused c =
+    refused_part _ _ _ _ _ _ c.from_residual-in_err-verify_claims.ensures.1
+    c.in_err-verify_claims.ensures.refused (λ never. absurd never)
+    (refused c.args.parameters.now c.args.claims.now (proof_of c.args.proof.now) _ _ _
+    c.in-Ok.ensures.parameters
+    (claims_again (λ d. d.shift) (λ d. d.log_size) (map claim c.in_ok-claims.claims.items) c.args.claims.now c.in_ok-claims.ensures.numbers)
+    c.new-challenger.ensures
+    (record {
+      range = subst (λ p. InVerifierRange p 27 63) c.in-Ok.ensures.parameters c.in-Ok.ensures.range;
+      claims = c.in_ok-claims.ensures.well_formed;
+    }))
+
+pub returns-clause-accepted : goal.returns-clause-accepted
+returns-clause-accepted c =
+    accepted c.args.parameters.now c.args.claims.now (proof_of c.args.proof.now) _ _ _
+    c.in-Ok.ensures.parameters
+    (claims_again (λ d. d.shift) (λ d. d.log_size) (map claim c.in_ok-claims.claims.items) c.args.claims.now c.in_ok-claims.ensures.numbers)
+    c.new-challenger.ensures
+    (record {
+      range = subst (λ p. InVerifierRange p 27 63) c.in-Ok.ensures.parameters c.in-Ok.ensures.range;
+      claims = c.in_ok-claims.ensures.well_formed;
+    })
+    _ _ (c.in_ok-verify_claims.ensures.accepted refl) (c.in_ok-verify_claims.ensures.state refl) c.in_ok-next_drawn.ensures

@@ -1,0 +1,44 @@
+-- Which statements are accepted, and what is drawn after them.
+use Rattle.std.specs.Prelude.{◌≡◌, ℕ, List}
+use Rattle.std.specs.declared.vec.Vec.{Vec}
+use Rattle.p3_baby_bear.specs.declared.baby_bear.BabyBear.{BabyBear}
+use Rattle.p3_baby_bear.specs.declared.baby_bear4.BabyBear4.{BabyBear4}
+use Rattle.p3_mmcs.specs.declared.sha256_mmcs.error.Sha256MmcsError.{Sha256MmcsError}
+use Rattle.p3_challenger_sha256.specs.Sha256.{start}
+use Rattle.p3_fri_relation.specs.Setting.{Proof}
+use Rattle.p3_fri_relation.specs.Acceptance.{Accepts}
+use Rattle.p3_fri_relation.specs.Faults.{StandsInScheme}
+use Rattle.p3_fri_relation.specs.declared.error.FriError.{FriError}
+use Rattle.p3_fri_opening_verifier.specs.Ends.{last_state}
+use Rattle.fri_requests.specs.declared.records.Parameters.{Parameters}
+use Rattle.fri_requests.specs.declared.records.BatchClaims.{BatchClaims}
+use Rattle.fri_requests.specs.Numbers.{coefficient_numbers}
+use Rattle.fri_requests.specs.Records.{parameters_in}
+use Rattle.fri_requests.specs.Setting.{sha256_setting, sha256_moves}
+use Rattle.fri_requests.specs.Statements.{IsStatement, claims_listed}
+
+module _ {X Y : Type 0} (parameters : Parameters) (records : List BatchClaims)
+    (proof : Proof BabyBear BabyBear4 (List ℕ) (Vec (Vec (List ℕ) X) Y) (Vec (Vec (List ℕ) X) Y))
+  where
+    -- the scheme's relation holds of the claims that the records list, from the fresh challenger
+    abbrev pub Holds : Type 0
+    Holds = Accepts sha256_setting (parameters_in parameters) (claims_listed records) proof start
+
+    -- the element of the extension that is drawn after the proof, by its coefficients' numbers
+    abbrev pub drawn_next : List ℕ
+    drawn_next = coefficient_numbers (sha256_moves.draw_element
+        (last_state sha256_setting (parameters_in parameters) (claims_listed records) proof start)
+        ).value
+
+    -- a statement that is accepted, and what is drawn next
+    pub record IsAccepted (next : List ℕ) : Type 0 where
+      pub statement : IsStatement parameters records
+      pub holds : Holds
+      pub drawn : next ≡ drawn_next
+
+    -- a statement that isn't, and a fault that it has
+    pub record IsRefused (e : FriError Sha256MmcsError Sha256MmcsError) : Type 0 where
+      pub statement : IsStatement parameters records
+      pub fails : ¬ Holds
+      pub fault : StandsInScheme sha256_setting (parameters_in parameters) (claims_listed records)
+          proof start e
