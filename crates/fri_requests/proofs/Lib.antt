@@ -3,7 +3,6 @@ pub mod Kept
 pub mod Listed
 pub mod Opened
 pub mod Polynomials
-pub mod Requests
 pub mod Sizes
 pub mod Stated
 pub mod Zipped

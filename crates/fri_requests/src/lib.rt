@@ -13,7 +13,6 @@ mod committed;
 mod elements;
 mod fault;
 mod matrices;
-mod openable;
 mod opening;
 mod records;
 mod scheme;

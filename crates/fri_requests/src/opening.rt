@@ -24,12 +24,12 @@ use crate::claims::claims_out;
 use crate::committed::{Committed, commit_all};
 use crate::fault::{Fault, Place, ReadError, RequestError};
 use crate::matrices::batch_points;
-use crate::openable::are_openable;
 use crate::records::{Batch, BatchClaims, Request};
 use crate::scheme::{Claims, Coset, Data, Inputs, Proof, Scheme, proving_scheme};
 use crate::verification::next_drawn;
 use p3_challenger_sha256::Sha256Challenger;
 use p3_field::BabyBear4;
+use p3_fri_openable::are_openable;
 use p3_pcs::{KnownCommitment, OpeningRequest, Pcs, claims_of};
 use std::alloc::{AllocError, Global};
 

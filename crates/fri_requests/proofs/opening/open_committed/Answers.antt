@@ -8,14 +8,14 @@ use Rattle.p3_pcs.specs.Requests.{AreHonest, FitDomains, honest_claims, request}
 use Rattle.p3_fri_completeness.specs.Requests.{held_of, HoldsWords}
 use Rattle.std.proofs.Common.{All, ◌^◌}
 use Rattle.fri_requests.specs.Setting.{fields}
-use Rattle.fri_requests.proofs.Requests.{openable_same}
+use Rattle.p3_fri_openable.proofs.Requests.{openable_same}
 use Rattle.fri_requests.proofs.Opened.{honest, fits, roots}
 use Rattle.fri_requests.proofs.opening.open_committed.Goals as goal
 
 pub open_requests-requires-clause-shape : goal.open_requests-requires-clause-shape
 open_requests-requires-clause-shape c =
     openable_same (c.deref.ensures.value ∙ sym c.as_mut_slice.ensures.value)
-    (c.are_openable.ensures c.if-not-are_openable.false _)
+    (c.are_openable.ensures.openable c.if-not-are_openable.false _)
 
 pub open_requests-requires-clause-honest : goal.open_requests-requires-clause-honest
 open_requests-requires-clause-honest c =
