@@ -89,7 +89,8 @@ pub fn are_openable<F: TwoAdicField, EF: Copy, M: Mmcs<F>>(
     mmcs: &M,
     requests: &[OpeningRequest<'_, M::ProverData, EF>],
 ) -> bool
-    ensures exactly { IsTrue result ↔ MayBeOpened (HasCoset F.TWO_ADICITY) M.committed requests.now }
+    ensures exactly { IsTrue result
+        ↔ MayBeOpened (HasCoset F.TWO_ADICITY) M.committed requests.now }
     ensures openable { IsTrue result → (held : RowMajorMatrix F → Held EF)
         → AreOpenable (λ d. All (HasCoset F.TWO_ADICITY) (M.committed d))
         (λ d. map held (M.committed d)) (map request requests.now) }
