@@ -1,5 +1,5 @@
 -- The digest of a hex text.
-use Rattle.std.proofs.Common.{◌≡◌, ℕ, List, [], ◌++◌, length, ap, ◌∙◌, Result, string_bytes}
+use Rattle.std.proofs.Common.{◌≡◌, ℕ, List, [], length, ap, ◌∙◌, Result, string_bytes}
 use Rattle.std.specs.Prelude.{String}
 use Rattle.std.specs.Result.{result_unwrap_or}
 use Rattle.hex.specs.declared.error.FromHexError.{FromHexError}
