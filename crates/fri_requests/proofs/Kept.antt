@@ -1,6 +1,6 @@
 -- What is kept of a batch that was committed to.
 use Rattle.std.proofs.Common.{◌≡◌, ℕ, ◌+◌, ◌<◌, ◌≤◌, List, [], ◌∷◌, ◌++◌, map, length, take, get_or, refl}
-use Rattle.std.proofs.Common.{sym, subst, ap, ap₂, ◌∙◌, arith}
+use Rattle.std.proofs.Common.{sym, subst, ap, ap₂, ◌∙◌}
 use Rattle.std.specs.List.{AllZip}
 use Rattle.std.proofs.lemmas.List.{take_all, take_more, map_more, map-append}
 use Rattle.algebra.proofs.Lists.{map-map, all_zip-push, all_zip-mapped, all_zip-weaker}

@@ -20,7 +20,7 @@ use Rattle.fri_requests.specs.Records.{parameters_in}
 use Rattle.fri_requests.specs.Numbers.{coefficient_numbers}
 use Rattle.fri_requests.specs.Setting.{sha256_setting, sha256_moves}
 use Rattle.fri_requests.specs.Statements.{IsStatement, claims_listed}
-use Rattle.fri_requests.specs.Accepted.{Holds, drawn_next, IsAccepted, IsRefused}
+use Rattle.fri_requests.specs.Accepted.{IsAccepted, IsRefused}
 
 module _ {X Y : Type 0} (parameters : Parameters) (records : List BatchClaims)
     (proof : Proof BabyBear BabyBear4 (List ℕ) (Vec (Vec (List ℕ) X) Y) (Vec (Vec (List ℕ) X) Y))

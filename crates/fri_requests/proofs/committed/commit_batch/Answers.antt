@@ -1,4 +1,4 @@
-use Rattle.std.proofs.Common.{◌≡◌, ◌^◌, All, map, ap, subst, ◌∙◌}
+use Rattle.std.proofs.Common.{◌^◌, All, map, ap, subst, ◌∙◌}
 use Rattle.std.specs.List.{AllZip}
 use Rattle.p3_mmcs.specs.ProverData.{matrices_of}
 use Rattle.p3_stark_pcs.specs.Evaluations.{HasPolynomials}

@@ -1,4 +1,4 @@
-use Rattle.std.proofs.Common.{ap, sym, subst}
+use Rattle.std.proofs.Common.{sym, subst}
 use Rattle.fri_requests.specs.Numbers.{IsExtensionElement}
 use Rattle.fri_requests.proofs.Failed.{malformed}
 use Rattle.fri_requests.proofs.Listed.{not_all}

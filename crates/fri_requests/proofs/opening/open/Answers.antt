@@ -1,4 +1,4 @@
-use Rattle.std.proofs.Common.{◌≡◌, map, sym, subst, ap, ◌∙◌, All}
+use Rattle.std.proofs.Common.{map, sym, subst, ap, ◌∙◌, All}
 use Rattle.std.specs.List.{AllZip}
 use Rattle.algebra.specs.Nested.{lists, nested}
 use Rattle.p3_mmcs.specs.ProverData.{matrices_of, root_over}

@@ -1,9 +1,7 @@
-use Rattle.std.proofs.Common.{◌≡◌, map, sym, subst, ap, ◌∙◌}
-use Rattle.std.specs.Prelude.{IfOk}
+use Rattle.std.proofs.Common.{map, sym, subst, ap, ◌∙◌}
 use Rattle.algebra.specs.Nested.{nested}
 use Rattle.algebra.proofs.Lists.{map-map}
 use Rattle.p3_mmcs.specs.ProverData.{matrices_of, root_over}
-use Rattle.p3_pcs.specs.Claims.{claim}
 use Rattle.p3_pcs.specs.Requests.{AreHonest, FitDomains, honest_claims, request}
 use Rattle.p3_fri_completeness.specs.Requests.{held_of, HoldsWords}
 use Rattle.std.proofs.Common.{All, ◌^◌}

@@ -1,4 +1,4 @@
-use Rattle.std.proofs.Common.{◌≡◌, map, refl, sym, subst}
+use Rattle.std.proofs.Common.{◌≡◌, refl, sym, subst}
 use Rattle.p3_mmcs.specs.ProverData.{matrices_of, root_over}
 use Rattle.p3_pcs.proofs.Honest.{claims_honest}
 use Rattle.p3_fri_completeness.specs.Requests.{held_of, relation_claims}
