@@ -17,8 +17,8 @@ const HELP: &str = "fri: the FRI polynomial commitment scheme over files.
 
 FILE is a file in JSON, or - for standard input. Files are taken in turn, up to the
 first that isn't answered. The status is 0, 1 where a file is refused, 2 where it isn't
-well formed, 3 for want of memory, and 4 where a write fails. Before a commitment that
-takes a second or more, a line on standard error says to how many values.
+well formed, 3 for want of memory, and 4 where a write fails. Before a commitment to 2^24
+extended values or more, a line on standard error says to how many.
 
 A request has parameters, and matrices by commitment, each on a domain of 2^log_size
 points, row by row, with the points to open it at. A number is an element of BabyBear,
