@@ -1,12 +1,13 @@
 //! The calls over bytes.
 
-ghost use Rattle.std.specs.Prelude.{◌≡◌, length, IfOk, OnOk};
+ghost use Rattle.std.specs.Prelude.{◌≡◌, length, IfOk};
 ghost use Rattle.p3_fri_plain.specs.Numbers.{proof_numbers};
 ghost use Rattle.p3_fri_plain.specs.Views.{proof_seen, proof_listed};
-ghost use Rattle.fri_flat.specs.Flat.{AnswersRequest, CommitsRequest, IsStatementForm};
+ghost use Rattle.fri_flat.specs.Answers.{AnswersRequest, AnswersStatement, CommitsRequest};
+ghost use Rattle.fri_flat.specs.Answers.{HasAcceptedProof};
 
 use crate::failure::Failure;
-use crate::forms::{answer_of, digests_of, request_of, statement_of};
+use crate::forms::{Statement, answer_of, digests_of, request_of, statement_of};
 use crate::writer::push_element;
 use fri_requests::{Fault, Place, Proof, VerifyError};
 use p3_fri_plain::{PlainFriProof, PlainProofError, from_plain, to_plain};
@@ -62,19 +63,28 @@ fn proof_of(alloc: Global, form: PlainFriProof) -> Result<Proof, VerifyError>
     Err(VerifyError::Malformed(Place::PROOF.lacks(fault)))
 }
 
+/// Verifies a statement whose proof has this plain form.
+fn verify_form(
+    alloc: Global,
+    statement: &Statement<'_>,
+    form: PlainFriProof,
+) -> Result<Vec<u64>, VerifyError>
+    ensures { IfOk result (λ next.
+        HasAcceptedProof statement.now.parameters statement.now.claims.items next.items) }
+{
+    let proof = proof_of(alloc, form)?;
+    fri_requests::verify(alloc, &statement.parameters, &statement.claims, &proof)
+}
+
 /// Verifies the statement in these bytes, and answers the four numbers of what the challenger draws
 /// next.
 pub fn verify(alloc: Global, bytes: &[u8]) -> Result<Vec<u8>, Failure>
-    ensures statement { OnOk result (IsStatementForm bytes.now) }
+    ensures statement { IfOk result (λ v. AnswersStatement bytes.now v.items) }
     ensures numbers { IfOk result (λ v. length v.items ≡ 16) }
 {
     let statement = statement_of(alloc, bytes)?;
     let form: PlainFriProof = serde_json::from_slice(alloc, statement.proof)?;
-    let verified = match proof_of(alloc, form) {
-        Ok(proof) => fri_requests::verify(alloc, &statement.parameters, &statement.claims, &proof),
-        Err(error) => Err(error),
-    };
-    let next_challenge = match verified {
+    let next_challenge = match verify_form(alloc, &statement, form) {
         Ok(next_challenge) => next_challenge,
         Err(error) => return Err(Failure::Statement(error)),
     };

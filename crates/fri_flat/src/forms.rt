@@ -2,7 +2,8 @@
 
 ghost use Rattle.std.specs.Prelude.{◌≡◌, ◌++◌, IfOk, OnOk};
 ghost use Rattle.std.specs.List.{All};
-ghost use Rattle.fri_flat.specs.Flat.{request, statement, answer, digests};
+ghost use Rattle.fri_flat.specs.Answers.{digests};
+ghost use Rattle.fri_flat.specs.Flat.{request, statement, answer};
 ghost use Rattle.fri_flat.specs.Flat.{IsRequest, IsBatchClaims};
 
 use crate::failure::Failure;

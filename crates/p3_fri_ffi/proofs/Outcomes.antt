@@ -1,6 +1,6 @@
 -- What the status says of an outcome.
 use Rattle.std.proofs.Common.{◌≡◌, ◌≢◌, ℕ, List, length, Result, Ok, Err, subst, sym, ◌∙◌}
-use Rattle.std.specs.Prelude.{IfOk, OnOk, OnErr, Vec}
+use Rattle.std.specs.Prelude.{IfOk, OnErr, Vec}
 use Rattle.std.specs.Global.{Global}
 use Rattle.fri_flat.specs.declared.failure.Failure.{Failure}
 
@@ -11,12 +11,6 @@ pub answered : (P : List ℕ → Type 0) (outcome : Result (Vec ℕ Global) Fail
     → status ≡ 0 → P written
 answered P (Ok v) status written holds same none is = subst P (sym (same is)) holds
 answered P (Err e) status written holds same none is = absurd (none is)
-
--- what holds if there is an answer holds at status 0
-pub was_answered : (P : Type 0) (outcome : Result (Vec ℕ Global) Failure) (status : ℕ)
-    → OnOk outcome P → OnErr outcome (status ≢ 0) → status ≡ 0 → P
-was_answered P (Ok v) status holds none is = holds
-was_answered P (Err e) status holds none is = absurd (none is)
 
 -- and so does how long it is
 pub answered_length : (outcome : Result (Vec ℕ Global) Failure) (status needed size : ℕ)

@@ -3,7 +3,7 @@
 #![tactic(auto)]
 
 ghost use Rattle.std.specs.Prelude.{◌≡◌, take};
-ghost use Rattle.fri_flat.specs.Flat.{AnswersRequest, CommitsRequest, IsStatementForm};
+ghost use Rattle.fri_flat.specs.Answers.{AnswersRequest, AnswersStatement, CommitsRequest};
 ghost use Rattle.p3_fri_ffi.specs.Reply.{IsReply};
 
 mod reply;
@@ -50,7 +50,7 @@ pub extern "C" fn p3_fri_verify(
     needed: &mut usize,
 ) -> u8
     ensures reply { IsReply answer.old answer.new needed.new result }
-    ensures answered { result ≡ 0 → IsStatementForm statement.now }
+    ensures answered { result ≡ 0 → AnswersStatement statement.now (take needed.new answer.new) }
     ensures numbers { result ≡ 0 → needed.new ≡ 16 }
 {
     let outcome = fri_flat::verify(alloc, statement);

@@ -1,5 +1,5 @@
 use Rattle.std.proofs.Common.{take}
-use Rattle.fri_flat.specs.Flat.{CommitsRequest}
+use Rattle.fri_flat.specs.Answers.{CommitsRequest}
 use Rattle.p3_fri_ffi.proofs.Outcomes.{answered}
 use Rattle.p3_fri_ffi.proofs.p3_fri_commit.Goals as goal
 

@@ -1,5 +1,5 @@
 use Rattle.std.proofs.Common.{take}
-use Rattle.fri_flat.specs.Flat.{AnswersRequest}
+use Rattle.fri_flat.specs.Answers.{AnswersRequest}
 use Rattle.p3_fri_ffi.proofs.Outcomes.{answered}
 use Rattle.p3_fri_ffi.proofs.p3_fri_open.Goals as goal
 

@@ -1,5 +1,5 @@
 use Rattle.std.proofs.Common.{◌≡◌, take}
-use Rattle.fri_flat.specs.Flat.{digests}
+use Rattle.fri_flat.specs.Answers.{digests}
 use Rattle.fri_flat.proofs.forms.digests_of.Given as goal
 
 abbrev pub invariant-loop-commitment : goal.invariant-loop-commitment
