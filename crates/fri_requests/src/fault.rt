@@ -4,7 +4,7 @@ ghost use Rattle.std.specs.Prelude.{◌≡◌};
 ghost use Rattle.fri_requests.specs.declared.fault.RequestError.TheVariants as request;
 ghost use Rattle.fri_requests.specs.declared.fault.ReadError.TheVariants as read;
 ghost use Rattle.fri_requests.specs.declared.fault.VerifyError.TheVariants as statement;
-ghost use Rattle.fri_requests.specs.Failures.{unread, failure_of};
+ghost use Rattle.fri_requests.specs.Failures.{unread_request, unopened, unread, failure_of};
 
 use p3_fri_pow::FriProverError;
 use p3_fri_relation::error::FriError;
@@ -223,6 +223,8 @@ impl From<AllocError> for ReadError {
 }
 
 impl From<ReadError> for RequestError {
+    ghost from_gives = { λ e f. f ≡ unread_request e };
+
     fn from(error: ReadError) -> RequestError {
         match error {
             ReadError::Malformed(misfit) => RequestError::Malformed(misfit),
@@ -248,6 +250,8 @@ impl From<AllocError> for RequestError {
 }
 
 impl From<FriProverError> for RequestError {
+    ghost from_gives = { λ e f. f ≡ unopened e };
+
     fn from(error: FriProverError) -> RequestError {
         match error {
             FriProverError::OutOfMemory => RequestError::OutOfMemory,
