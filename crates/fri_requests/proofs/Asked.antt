@@ -230,16 +230,19 @@ module _ (r : Request) (cs : List Committed) (pss : List (List (List BabyBear4))
     (e : map (map (map coefficient_numbers)) pss
     ≡ map (λ batch. map (λ m. lists m.points.items) batch.matrices.items) r.commitments.items)
   where
+  pub can_open : CanCommit r → HavePoints pss → HaveMatrix cs → CanOpen r
+  can_open commits some kept = record {
+    committed = commits;
+    points = have_points pss r.commitments.items e some;
+    some_matrix = matrix_listed r.parameters.log_blowup cs r.commitments.items pairs kept;
+  }
+
   pub refused_request : CanCommit r → HavePoints pss → (p : setting.Parameters)
       (c : Sha256Challenger) → p ≡ parameters_in r.parameters → c ≡ start → (x : FriProverError)
       → HaveMatrix cs × Refuses p c (zip_with (λ k zs. request_for k.data zs) cs pss) x
       → IsRefusedRequest r x
   refused_request commits some p c same fresh x h = record {
-    request_opens = record {
-      committed = commits;
-      points = have_points pss r.commitments.items e some;
-      some_matrix = matrix_listed r.parameters.log_blowup cs r.commitments.items pairs h.0;
-    };
+    request_opens = can_open commits some h.0;
     kept = cs;
     keeps = pairs;
     refused = subst (λ zss. Refuses (parameters_in r.parameters) start (asked cs zss) x)

@@ -95,7 +95,8 @@ pub fn commit(alloc: Global, request: &Request) -> Result<Vec<[u8; 32]>, Request
     ensures committed { IfOk result (λ commitments.
         AllZip (IsCommitmentTo request.now.parameters.log_blowup) commitments.items
         request.now.commitments.items) }
-    // the scheme commits to what is well formed, but for want of memory
+    ensures well_formed { IfOk result (λ _. CanCommit request.now) }
+    // the scheme itself refuses for want of memory alone
     ensures refused { IfErr result (MatchRequestError (¬ CanCommit request.now) (λ _. ⊥)) }
 {
     let mut scheme = match proving_scheme(&request.parameters) {

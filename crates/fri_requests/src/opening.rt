@@ -158,6 +158,7 @@ fn open_committed(
         ≡ last_state sha256_setting (parameters_of scheme.now.fri)
         (relation_claims (λ d. d.log_size) (map claim o.0.items)) (proof_of o.1)
         challenger.old) }
+    ensures some_matrix { IfOk result (λ _. HaveMatrix all.old) }
     ensures refused { IfErr result (MatchRequestError
         (¬ HaveMatrix all.old) (λ e. HaveMatrix all.old
         × Refuses (parameters_of scheme.now.fri) challenger.old
@@ -189,6 +190,7 @@ pub fn open(alloc: Global, request: &Request) -> Result<Opening, RequestError>
         (proof_of o.proof) o.next_challenge.items) }
     ensures opened { IfOk result (λ o. AllZip (IsOpened request.now.parameters.log_blowup)
         (map batch_listed o.claims.items) request.now.commitments.items) }
+    ensures well_formed { IfOk result (λ _. CanOpen request.now) }
     // where it can't be opened, where the scheme refuses it
     ensures refused { IfErr result (MatchRequestError (¬ CanOpen request.now)
         (IsRefusedRequest request.now)) }

@@ -3,6 +3,7 @@ use Rattle.std.proofs.lemmas.List.{take_all}
 use Rattle.std.specs.List.{AllZip}
 use Rattle.fri_requests.specs.Commitments.{IsCommitmentTo}
 use Rattle.fri_requests.specs.Requests.{IsMatrix, AllMatrices}
+use Rattle.fri_requests.proofs.Asked.{are_provers}
 use Rattle.fri_requests.proofs.Failed.{request_part}
 use Rattle.fri_requests.proofs.Kept.{are_commitments}
 use Rattle.fri_requests.proofs.committed.commit.Goals as goal
@@ -23,3 +24,10 @@ returns-in_err-all-clause-refused c =
     (λ fails can. fails (subst (λ bs. AllMatrices (IsMatrix c.args.request.now.parameters.log_blowup) bs)
     (sym c.deref.ensures.value) can.matrices))
     (λ e never. never)
+
+pub returns-clause-well_formed : goal.returns-clause-well_formed
+returns-clause-well_formed c = record {
+  parameters = are_provers c.args.request.now.parameters _ c.in-Ok.ensures.parameters c.in-Ok.ensures.range c.in-Ok.ensures.blowup;
+  matrices = subst (λ bs. AllMatrices (IsMatrix c.args.request.now.parameters.log_blowup) bs)
+      c.deref.ensures.value c.in_ok-all.ensures.well_formed;
+}

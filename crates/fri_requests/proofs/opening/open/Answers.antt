@@ -12,7 +12,7 @@ use Rattle.fri_requests.specs.Commitments.{IsKept, Keeps}
 use Rattle.fri_requests.specs.Openings.{IsOpened, request_for}
 use Rattle.fri_requests.specs.Setting.{fields}
 use Rattle.fri_requests.specs.Requests.{IsMatrix, HasPoints, AllMatrices, HasLists, HaveMatrix, Refuses}
-use Rattle.fri_requests.proofs.Asked.{are_provers, has_lists, matrix_kept, refused_request}
+use Rattle.fri_requests.proofs.Asked.{are_provers, has_lists, matrix_kept, can_open, refused_request}
 use Rattle.fri_requests.proofs.Failed.{unread_part, request_part}
 use Rattle.fri_requests.proofs.Listed.{claims_again, is_coset, are_claims}
 use Rattle.fri_requests.proofs.Opened.{all_kept, count_same, opened_each}
@@ -105,3 +105,16 @@ returns-in_err-claims-clause-refused c =
     (ap (λ s. parameters_of s.fri) c.in_ok-all.ensures.kept ∙ c.in-Ok.ensures.parameters) c.new-challenger.ensures e
     (subst (λ cs. HaveMatrix cs × Refuses (parameters_of c.commit_all.new.scheme.fri) c.new-challenger.result
     (zip_with (λ k zs. request_for k.data zs) cs (nested c.in_ok-points.points.items)) e) c.as_mut_slice.ensures.value h))
+
+pub returns-clause-well_formed : goal.returns-clause-well_formed
+returns-clause-well_formed c =
+    let b = c.args.request.now.parameters.log_blowup in
+    can_open c.args.request.now c.in_ok-all.all.items (nested c.in_ok-points.points.items)
+    (subst (λ bs. AllZip (Keeps b) c.in_ok-all.all.items bs) c.deref-2.ensures.value c.in_ok-all.ensures.committed)
+    (c.in_ok-points.ensures.numbers ∙ ap (λ bs. map (λ batch. map (λ m. lists m.points.items) batch.matrices.items) bs) c.deref.ensures.value)
+    (record {
+      parameters = are_provers c.args.request.now.parameters _ c.in-Ok.ensures.parameters c.in-Ok.ensures.range c.in-Ok.ensures.blowup;
+      matrices = subst (λ bs. AllMatrices (IsMatrix b) bs) c.deref-2.ensures.value c.in_ok-all.ensures.well_formed;
+    })
+    c.in_ok-points.ensures.some
+    (subst (λ cs. HaveMatrix cs) c.as_mut_slice.ensures.value c.in_ok-claims.ensures.some_matrix)
