@@ -1,4 +1,5 @@
--- What a request asks for: what is read of it, what is kept of its batches, and why it isn't opened.
+-- What a request asks for: what is read of it, what is kept of its batches, and when it isn't
+-- opened.
 use Rattle.std.proofs.Common.{◌≡◌, ◌≢◌, ℕ, ◌+◌, ◌≤◌, List, [], ◌∷◌, map, length, All, refl, sym}
 use Rattle.std.proofs.Common.{subst, ap, ap₂, ◌∙◌, ◌++◌, length-append}
 use Rattle.std.specs.List.{AllZip, flat_map}
@@ -151,8 +152,8 @@ module _ (b : ℕ) where
   has_lists (c ∷ cs) [] (batch ∷ batches) pairs e = cc
   has_lists (c ∷ cs) (ps ∷ pss) (batch ∷ batches) pairs e = (
     sym (length-map ps (map coefficient_numbers)) ∙ ap length (head_eq e)
-    ∙ length-map batch.matrices.items (λ m. lists m.points.items)
-    ∙ sym (kept_count c batch pairs.0),
+        ∙ length-map batch.matrices.items (λ m. lists m.points.items)
+        ∙ sym (kept_count c batch pairs.0),
     has_lists cs pss batches pairs.1 (tail_eq e),
   )
 
@@ -175,7 +176,8 @@ asked_matrices : (cs : List Committed) (pss : List (List (List BabyBear4)))
     → flat_map (λ q. matrices_of q.datum) (asked cs pss) ≡ flat_map (λ c. matrices_of c.data) cs
 asked_matrices [] pss pairs = refl
 asked_matrices (c ∷ cs) [] pairs = absurd pairs
-asked_matrices (c ∷ cs) (ps ∷ pss) pairs = ap (λ ms. matrices_of c.data ++ ms) (asked_matrices cs pss pairs.1)
+asked_matrices (c ∷ cs) (ps ∷ pss) pairs =
+    ap (λ ms. matrices_of c.data ++ ms) (asked_matrices cs pss pairs.1)
 
 each_mapped : {A B : Type 0} (P : B → Type 0) (f : A → B) (xs : List A) → Each P (map f xs)
     → Each (λ x. P (f x)) xs
@@ -230,23 +232,23 @@ module _ (r : Request) (cs : List Committed) (pss : List (List (List BabyBear4))
     (e : map (map (map coefficient_numbers)) pss
     ≡ map (λ batch. map (λ m. lists m.points.items) batch.matrices.items) r.commitments.items)
   where
-  pub can_open : CanCommit r → HavePoints pss → HaveMatrix cs → CanOpen r
-  can_open commits some kept = record {
-    committed = commits;
-    points = have_points pss r.commitments.items e some;
-    some_matrix = matrix_listed r.parameters.log_blowup cs r.commitments.items pairs kept;
-  }
+    pub can_open : CanCommit r → HavePoints pss → HaveMatrix cs → CanOpen r
+    can_open commits some kept = record {
+      committed = commits;
+      points = have_points pss r.commitments.items e some;
+      some_matrix = matrix_listed r.parameters.log_blowup cs r.commitments.items pairs kept;
+    }
 
-  pub refused_request : CanCommit r → HavePoints pss → (p : setting.Parameters)
-      (c : Sha256Challenger) → p ≡ parameters_in r.parameters → c ≡ start → (x : FriProverError)
-      → HaveMatrix cs × Refuses p c (zip_with (λ k zs. request_for k.data zs) cs pss) x
-      → IsRefusedRequest r x
-  refused_request commits some p c same fresh x h = record {
-    request_opens = can_open commits some h.0;
-    kept = cs;
-    keeps = pairs;
-    refused = subst (λ zss. Refuses (parameters_in r.parameters) start (asked cs zss) x)
-        (points_again pss r.commitments.items e)
-        (subst (λ d. Refuses (parameters_in r.parameters) d (asked cs pss) x) fresh
-        (subst (λ q. Refuses q c (asked cs pss) x) same h.1));
-  }
+    pub refused_request : CanCommit r → HavePoints pss → (p : setting.Parameters)
+        (c : Sha256Challenger) → p ≡ parameters_in r.parameters → c ≡ start → (x : FriProverError)
+        → HaveMatrix cs × Refuses p c (zip_with (λ k zs. request_for k.data zs) cs pss) x
+        → IsRefusedRequest r x
+    refused_request commits some p c same fresh x h = record {
+      request_opens = can_open commits some h.0;
+      kept = cs;
+      keeps = pairs;
+      refused = subst (λ zss. Refuses (parameters_in r.parameters) start (asked cs zss) x)
+          (points_again pss r.commitments.items e)
+          (subst (λ d. Refuses (parameters_in r.parameters) d (asked cs pss) x) fresh
+          (subst (λ q. Refuses q c (asked cs pss) x) same h.1));
+    }

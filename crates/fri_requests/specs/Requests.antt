@@ -36,26 +36,29 @@ pub record AreProvers (p : Parameters) : Type 0 where
   pub range : InProverRange (parameters_in p) 27 63
   pub blowup : p.log_blowup ≤ 27
 
--- a matrix on a coset with room for its extension: some column, and of each a number for each point
+-- a matrix on a coset with room for its extension: some column, and for each column and point of the
+-- coset an element
 pub record IsMatrix (log_blowup : ℕ) (m : Matrix) : Type 0 where
   pub domain : IsCoset (27 - log_blowup) m.domain.shift m.domain.log_size
   pub some_column : 0 < m.width
   pub count : length m.values.items ≡ m.width * 2 ^ m.domain.log_size
   pub elements : All IsElement m.values.items
 
--- there is some point to open it at, and each is an element of the extension
+-- there is some point to open the matrix at, and each is an element of the extension
 pub record HasPoints (m : Matrix) : Type 0 where
   pub some_point : m.points.items ≢ []
   pub elements : All IsExtensionElement (lists m.points.items)
 
--- of each matrix of each batch
+-- `P` of each matrix of each batch
 abbrev pub AllMatrices : (Matrix → Type 0) → List Batch → Type 0
 AllMatrices P batches = All (λ b. All P b.matrices.items) batches
 
+-- the request can be committed to
 pub record CanCommit (request : Request) : Type 0 where
   pub parameters : AreProvers request.parameters
   pub matrices : AllMatrices (IsMatrix request.parameters.log_blowup) request.commitments.items
 
+-- and opened: each matrix has points, and there is some matrix
 pub record CanOpen (request : Request) : Type 0 where
   pub committed : CanCommit request
   pub points : AllMatrices HasPoints request.commitments.items
@@ -66,7 +69,7 @@ abbrev pub points_listed : List Batch → List (List (List BabyBear4))
 points_listed batches =
     map (λ b. map (λ m. map extension_of (lists m.points.items)) b.matrices.items) batches
 
--- elements as bytes, those of the inputs and those of the rounds
+-- elements by their bytes, in trees of the inputs and of the rounds
 abbrev pub input_bytes : Ghosts BabyBear
 input_bytes = record { LEN = 4; bytes = number_bytes }
 

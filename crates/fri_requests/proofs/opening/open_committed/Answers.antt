@@ -64,10 +64,10 @@ returns-in_err-opened-clause-refused c =
     (λ never. absurd never)
     (λ e h. (
       matrix_asked c.args.all.now (nested c.args.points.items) c.deref.result.now c.requires.lists
-      (ap (λ rs. map request rs) c.deref.ensures.value ∙ c.in_ok-requests.ensures)
-      (c.are_openable.ensures.exactly.0 c.if-not-are_openable.false),
+          (ap (λ rs. map request rs) c.deref.ensures.value ∙ c.in_ok-requests.ensures)
+          (c.are_openable.ensures.exactly.0 c.if-not-are_openable.false),
       subst (λ qs. Refuses (parameters_of c.args.scheme.now.fri) c.args.challenger.now qs e)
-      (ap (λ rs. map request rs) c.as_mut_slice.ensures.value ∙ c.in_ok-requests.ensures) h,
+          (ap (λ rs. map request rs) c.as_mut_slice.ensures.value ∙ c.in_ok-requests.ensures) h,
     ))
 
 pub returns-clause-some_matrix : goal.returns-clause-some_matrix
