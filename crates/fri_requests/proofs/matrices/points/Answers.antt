@@ -1,4 +1,4 @@
-use Rattle.std.proofs.Common.{All, map, subst, sym}
+use Rattle.std.proofs.Common.{All, subst, sym}
 use Rattle.algebra.specs.Nested.{lists}
 use Rattle.fri_requests.specs.Numbers.{IsExtensionElement}
 use Rattle.fri_requests.proofs.Failed.{malformed}
