@@ -1,10 +1,13 @@
 -- What holds where records aren't read, where requests aren't committed to or opened, and where
 -- statements aren't accepted.
+use Rattle.std.specs.Prelude.{◌≡◌, ⊤}
 use Rattle.p3_mmcs.specs.declared.sha256_mmcs.error.Sha256MmcsError.{Sha256MmcsError}
 use Rattle.p3_fri_pow.specs.declared.error.FriProverError.{FriProverError}
 use Rattle.p3_fri_pow.specs.declared.error.FriProverError.TheVariants as prover
 use Rattle.p3_fri_relation.specs.declared.error.FriError.{FriError}
 use Rattle.p3_fri_relation.specs.declared.error.FriError.TheVariants as refusal
+use Rattle.p3_fri_plain.specs.declared.error.PlainProofError.{PlainProofError}
+use Rattle.p3_fri_plain.specs.declared.error.PlainProofError.TheVariants as form
 use Rattle.fri_requests.specs.declared.fault.ReadError.{ReadError}
 use Rattle.fri_requests.specs.declared.fault.ReadError.TheVariants as read
 use Rattle.fri_requests.specs.declared.fault.RequestError.{RequestError}
@@ -50,3 +53,13 @@ unread read.OutOfMemory = OutOfMemory
 abbrev pub failure_of : FriError Sha256MmcsError Sha256MmcsError → VerifyError
 failure_of refusal.OutOfMemory = OutOfMemory
 failure_of e = Refused e
+
+-- a statement that isn't well formed
+abbrev pub IsMalformed : VerifyError → Type 0
+IsMalformed (Malformed misfit) = ⊤
+IsMalformed _ = ⊥
+
+-- and what comes of a plain form that is no proof's
+abbrev pub IsUnformed : PlainProofError → VerifyError → Type 0
+IsUnformed form.OutOfMemory f = f ≡ OutOfMemory
+IsUnformed e f = IsMalformed f
