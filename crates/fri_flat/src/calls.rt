@@ -1,16 +1,14 @@
 //! The calls over bytes.
 
 ghost use Rattle.std.specs.Prelude.{◌≡◌, length, IfOk};
-ghost use Rattle.p3_fri_plain.specs.Numbers.{proof_numbers};
-ghost use Rattle.p3_fri_plain.specs.Views.{proof_seen, proof_listed};
 ghost use Rattle.fri_flat.specs.Answers.{AnswersRequest, AnswersStatement, CommitsRequest};
 ghost use Rattle.fri_flat.specs.Answers.{HasAcceptedProof};
 
 use crate::failure::Failure;
 use crate::forms::{Statement, answer_of, digests_of, request_of, statement_of};
 use crate::writer::push_element;
-use fri_requests::{Fault, Place, Proof, VerifyError};
-use p3_fri_plain::{PlainFriProof, PlainProofError, from_plain, to_plain};
+use fri_requests::VerifyError;
+use p3_fri_plain::{PlainFriProof, from_plain, to_plain};
 use std::alloc::Global;
 
 /// The commitments of the request in these bytes, 32 bytes each.
@@ -49,20 +47,6 @@ pub fn open(alloc: Global, bytes: &[u8]) -> Result<Vec<u8>, Failure>
     Ok(answer)
 }
 
-/// The proof of its plain form.
-fn proof_of(alloc: Global, form: PlainFriProof) -> Result<Proof, VerifyError>
-    ensures { IfOk result (λ proof. proof_numbers (proof_seen proof) ≡ proof_listed form) }
-{
-    let fault = match from_plain(alloc, form) {
-        Ok(proof) => return Ok(proof),
-        Err(PlainProofError::OutOfMemory) => return Err(VerifyError::OutOfMemory),
-        Err(PlainProofError::ElementOutOfRange) => Fault::Element,
-        Err(PlainProofError::ElementLength) => Fault::ExtensionElement,
-        Err(PlainProofError::DigestLength) => Fault::Digest,
-    };
-    Err(VerifyError::Malformed(Place::PROOF.lacks(fault)))
-}
-
 /// Verifies a statement whose proof has this plain form.
 fn verify_form(
     alloc: Global,
@@ -72,7 +56,7 @@ fn verify_form(
     ensures { IfOk result (λ next.
         HasAcceptedProof statement.now.parameters statement.now.claims.items next.items) }
 {
-    let proof = proof_of(alloc, form)?;
+    let proof = from_plain(alloc, form)?;
     fri_requests::verify(alloc, &statement.parameters, &statement.claims, &proof)
 }
 

@@ -6,8 +6,8 @@ mod records;
 
 pub use crate::command::{Command, WRITE_FAILED, answer};
 use crate::records::{Answer, Statement};
-use fri_requests::{Fault, Place, Proof, Request, RequestError, VerifyError};
-use p3_fri_plain::{PlainFriProof, PlainProofError, from_plain, to_plain};
+use fri_requests::{Request, RequestError, VerifyError};
+use p3_fri_plain::{from_plain, to_plain};
 use serde_json::Category;
 use std::alloc::{AllocError, AllocFailed, Global};
 use std::error::Error;
@@ -126,18 +126,6 @@ pub fn open(alloc: Global, text: &str) -> Result<String, Failure> {
     open_request(alloc, &request_of(alloc, text)?)
 }
 
-/// The proof of its plain form.
-fn proof_of(alloc: Global, form: PlainFriProof) -> Result<Proof, VerifyError> {
-    let fault = match from_plain(alloc, form) {
-        Ok(proof) => return Ok(proof),
-        Err(PlainProofError::OutOfMemory) => return Err(VerifyError::OutOfMemory),
-        Err(PlainProofError::ElementOutOfRange) => Fault::Element,
-        Err(PlainProofError::ElementLength) => Fault::ExtensionElement,
-        Err(PlainProofError::DigestLength) => Fault::Digest,
-    };
-    Err(VerifyError::Malformed(Place::PROOF.lacks(fault)))
-}
-
 /// Verifies the statement in this JSON text, and answers what the challenger draws next.
 pub fn verify(alloc: Global, text: &str) -> Result<Vec<u64>, Failure> {
     let statement: Statement = serde_json::from_str(alloc, text)?;
@@ -146,9 +134,9 @@ pub fn verify(alloc: Global, text: &str) -> Result<Vec<u64>, Failure> {
         claims,
         proof,
     } = statement;
-    let verified = match proof_of(alloc, proof) {
+    let verified = match from_plain(alloc, proof) {
         Ok(proof) => fri_requests::verify(alloc, &parameters, &claims, &proof),
-        Err(error) => Err(error),
+        Err(error) => Err(error.into()),
     };
     match verified {
         Ok(next_challenge) => Ok(next_challenge),

@@ -2,16 +2,21 @@
 use Rattle.std.proofs.Common.{◌≡◌, ◌≢◌, Result, Ok, Err, IfErr, refl, sym, subst, ap, ◌∙◌, inl, inr}
 use Rattle.std.specs.Prelude.{IsErrAnd}
 use Rattle.p3_mmcs.specs.declared.sha256_mmcs.error.Sha256MmcsError.{Sha256MmcsError}
+use Rattle.p3_fri_pow.specs.declared.error.FriProverError.{FriProverError}
+use Rattle.p3_fri_pow.specs.declared.error.FriProverError.TheVariants as prover
 use Rattle.p3_fri_relation.specs.declared.error.FriError.{FriError}
 use Rattle.p3_fri_relation.specs.declared.error.FriError.TheVariants as refusal
 use Rattle.p3_fri_two_adic.specs.ErrorLaws.{memory_cases}
 use Rattle.fri_requests.specs.declared.fault.Misfit.{Misfit}
 use Rattle.fri_requests.specs.declared.fault.ReadError.{ReadError}
 use Rattle.fri_requests.specs.declared.fault.ReadError.TheVariants.{Malformed, OutOfMemory}
+use Rattle.fri_requests.specs.declared.fault.RequestError.{RequestError}
+use Rattle.fri_requests.specs.declared.fault.RequestError.TheVariants as request
 use Rattle.fri_requests.specs.declared.fault.VerifyError.{VerifyError}
 use Rattle.fri_requests.specs.declared.fault.VerifyError.TheVariants as statement
 use Rattle.fri_requests.specs.declared.fault.VerifyError.TheVariants.{Refused}
-use Rattle.fri_requests.specs.Failures.{IfMalformed, MatchVerifyError, failure_of}
+use Rattle.fri_requests.specs.Failures.{IfMalformed, MatchRequestError, MatchVerifyError}
+use Rattle.fri_requests.specs.Failures.{unread_request, unopened, failure_of}
 
 pub given : {A E : Type 0} (Q R : E → Type 0) (r : Result A E) → IsErrAnd r Q
     → ((e : E) → Q e → R e) → IfErr r R
@@ -35,6 +40,48 @@ pub malformed_part : {A : Type 0} (r : Result A ReadError) (part : ReadError) (P
 malformed_part r part P Q gives p weaker =
     given (λ e. e ≡ part) (IfMalformed Q) r gives
     (λ e is. malformed_weaker P Q weaker e (subst (λ f. IfMalformed P f) (sym is) p))
+
+-- of a record of a request
+unread_fails : (P Q : Type 0) (R : FriProverError → Type 0) → (P → Q) → (e : ReadError)
+    → IfMalformed P e → MatchRequestError Q R (unread_request e)
+unread_fails P Q R weaker (Malformed misfit) p = weaker p
+unread_fails P Q R weaker OutOfMemory p = tt
+
+pub unread_part : {A : Type 0} (r : Result A RequestError) (part : ReadError) (P Q : Type 0)
+    (R : FriProverError → Type 0) → IsErrAnd r (λ f. f ≡ unread_request part) → IfMalformed P part
+    → (P → Q) → IfErr r (MatchRequestError Q R)
+unread_part r part P Q R gives p weaker =
+    given (λ f. f ≡ unread_request part) (MatchRequestError Q R) r gives
+    (λ f is. subst (λ g. MatchRequestError Q R g) (sym is) (unread_fails P Q R weaker part p))
+
+request_weaker : (P Q : Type 0) (R S : FriProverError → Type 0) → (P → Q)
+    → ((e : FriProverError) → R e → S e) → (f : RequestError)
+    → MatchRequestError P R f → MatchRequestError Q S f
+request_weaker P Q R S first second (request.Malformed misfit) h = first h
+request_weaker P Q R S first second (request.Refused e) h = second e h
+request_weaker P Q R S first second request.OutOfMemory h = tt
+
+-- of a request's failure
+pub request_part : {A : Type 0} (r : Result A RequestError) (part : RequestError) (P Q : Type 0)
+    (R S : FriProverError → Type 0) → IsErrAnd r (λ f. f ≡ part) → MatchRequestError P R part
+    → (P → Q) → ((e : FriProverError) → R e → S e) → IfErr r (MatchRequestError Q S)
+request_part r part P Q R S gives h first second =
+    given (λ f. f ≡ part) (MatchRequestError Q S) r gives
+    (λ f is. request_weaker P Q R S first second f
+    (subst (λ g. MatchRequestError P R g) (sym is) h))
+
+-- of a prover's refusal, of which `R` holds where it isn't want of memory
+unopened_fails : (P : Type 0) (R : FriProverError → Type 0) (e : FriProverError)
+    → (e ≢ prover.OutOfMemory → R e) → MatchRequestError P R (unopened e)
+unopened_fails P R prover.OutOfMemory holds = tt
+unopened_fails P R _ holds = holds (λ same. cc)
+
+pub unopened_part : {A : Type 0} (r : Result A RequestError) (e : FriProverError) (P : Type 0)
+    (R : FriProverError → Type 0) → IsErrAnd r (λ f. f ≡ unopened e)
+    → (e ≢ prover.OutOfMemory → R e) → IfErr r (MatchRequestError P R)
+unopened_part r e P R gives holds =
+    given (λ f. f ≡ unopened e) (MatchRequestError P R) r gives
+    (λ f is. subst (λ g. MatchRequestError P R g) (sym is) (unopened_fails P R e holds))
 
 -- a refusal that isn't want of memory stays one
 failure_refused : (e : FriError Sha256MmcsError Sha256MmcsError) → e ≢ refusal.OutOfMemory

@@ -1,3 +1,4 @@
+pub mod Asked
 pub mod Failed
 pub mod Kept
 pub mod Listed

@@ -48,18 +48,20 @@ extension_again x =
     same_coefficients (element_again x.constant) (element_again x.linear)
     (element_again x.quadratic) (element_again x.cubic)
 
-every_extension_again : (xs : List BabyBear4) → map extension_of (map coefficient_numbers xs) ≡ xs
+pub every_extension_again : (xs : List BabyBear4) → map extension_of (map coefficient_numbers xs) ≡ xs
 every_extension_again [] = refl
 every_extension_again (x ∷ xs) = ap₂ (λ y ys. y ∷ ys) (extension_again x) (every_extension_again xs)
+
+pub every_is_element : (xs : List BabyBear) → All IsElement (map canonical_number xs)
+every_is_element xs = All-map IsElement canonical_number xs (λ i d h. (get_or xs i d).canonical)
 
 pub is_extension : (x : BabyBear4) → IsExtensionElement (coefficient_numbers x)
 is_extension x = record {
   four = refl;
-  elements = All-map IsElement canonical_number (coefficients4 x)
-      (λ i d h. (get_or (coefficients4 x) i d).canonical);
+  elements = every_is_element (coefficients4 x);
 }
 
-every_is_extension : (xs : List BabyBear4) → All IsExtensionElement (map coefficient_numbers xs)
+pub every_is_extension : (xs : List BabyBear4) → All IsExtensionElement (map coefficient_numbers xs)
 every_is_extension xs = All-map IsExtensionElement coefficient_numbers xs
     (λ i d h. is_extension (get_or xs i d))
 

@@ -1,9 +1,17 @@
--- What holds where records aren't read, and where statements aren't accepted.
+-- What holds where records aren't read, where requests aren't committed to or opened, and where
+-- statements aren't accepted.
+use Rattle.std.specs.Prelude.{◌≡◌, ⊤}
 use Rattle.p3_mmcs.specs.declared.sha256_mmcs.error.Sha256MmcsError.{Sha256MmcsError}
+use Rattle.p3_fri_pow.specs.declared.error.FriProverError.{FriProverError}
+use Rattle.p3_fri_pow.specs.declared.error.FriProverError.TheVariants as prover
 use Rattle.p3_fri_relation.specs.declared.error.FriError.{FriError}
 use Rattle.p3_fri_relation.specs.declared.error.FriError.TheVariants as refusal
+use Rattle.p3_fri_plain.specs.declared.error.PlainProofError.{PlainProofError}
+use Rattle.p3_fri_plain.specs.declared.error.PlainProofError.TheVariants as form
 use Rattle.fri_requests.specs.declared.fault.ReadError.{ReadError}
 use Rattle.fri_requests.specs.declared.fault.ReadError.TheVariants as read
+use Rattle.fri_requests.specs.declared.fault.RequestError.{RequestError}
+use Rattle.fri_requests.specs.declared.fault.RequestError.TheVariants as request
 use Rattle.fri_requests.specs.declared.fault.VerifyError.{VerifyError}
 use Rattle.fri_requests.specs.declared.fault.VerifyError.TheVariants.{Malformed, Refused}
 use Rattle.fri_requests.specs.declared.fault.VerifyError.TheVariants.{OutOfMemory}
@@ -12,6 +20,22 @@ use Rattle.fri_requests.specs.declared.fault.VerifyError.TheVariants.{OutOfMemor
 abbrev pub IfMalformed : Type 0 → ReadError → Type 0
 IfMalformed P (read.Malformed misfit) = P
 IfMalformed P read.OutOfMemory = Unit {0}
+
+-- of a request, where it isn't well formed, and where the scheme refuses it
+abbrev pub MatchRequestError : Type 0 → (FriProverError → Type 0) → RequestError → Type 0
+MatchRequestError P R (request.Malformed misfit) = P
+MatchRequestError P R (request.Refused e) = R e
+MatchRequestError P R request.OutOfMemory = Unit {0}
+
+-- why nothing comes of a request whose records aren't read
+abbrev pub unread_request : ReadError → RequestError
+unread_request (read.Malformed misfit) = request.Malformed misfit
+unread_request read.OutOfMemory = request.OutOfMemory
+
+-- and of one that the scheme's prover refuses
+abbrev pub unopened : FriProverError → RequestError
+unopened prover.OutOfMemory = request.OutOfMemory
+unopened e = request.Refused e
 
 -- of a statement, where it isn't well formed, and where it is refused
 abbrev pub MatchVerifyError : Type 0 → (FriError Sha256MmcsError Sha256MmcsError → Type 0)
@@ -29,3 +53,13 @@ unread read.OutOfMemory = OutOfMemory
 abbrev pub failure_of : FriError Sha256MmcsError Sha256MmcsError → VerifyError
 failure_of refusal.OutOfMemory = OutOfMemory
 failure_of e = Refused e
+
+-- a statement that isn't well formed
+abbrev pub IsMalformed : VerifyError → Type 0
+IsMalformed (Malformed misfit) = ⊤
+IsMalformed _ = ⊥
+
+-- and what comes of a plain form that is no proof's
+abbrev pub IsUnformed : PlainProofError → VerifyError → Type 0
+IsUnformed form.OutOfMemory f = f ≡ OutOfMemory
+IsUnformed e f = IsMalformed f

@@ -6,5 +6,6 @@ pub mod Matrices
 pub mod Numbers
 pub mod Openings
 pub mod Records
+pub mod Requests
 pub mod Setting
 pub mod Statements

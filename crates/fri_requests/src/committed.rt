@@ -1,8 +1,10 @@
 //! Commitments to the matrices of a request.
 
-ghost use Rattle.std.specs.Prelude.{◌≡◌, ◌≤◌, IfOk, map};
+ghost use Rattle.std.specs.Prelude.{◌≡◌, ◌≤◌, All, IfOk, IfErr, map};
 ghost use Rattle.std.specs.List.{AllZip};
 ghost use Rattle.fri_requests.specs.Commitments.{Keeps, IsCommitmentTo};
+ghost use Rattle.fri_requests.specs.Failures.{MatchRequestError};
+ghost use Rattle.fri_requests.specs.Requests.{IsMatrix, AllMatrices, CanCommit};
 
 use crate::fault::{Place, RequestError};
 use crate::matrices::{Evaluations, batch_evaluations};
@@ -44,6 +46,9 @@ fn commit_batch(
     requires blowup { scheme.old.fri.log_blowup ≡ log_blowup }
     ensures kept { scheme.new ≡ scheme.old }
     ensures committed { IfOk result (λ c. Keeps log_blowup c batch.now) }
+    ensures well_formed { IfOk result (λ _. All (IsMatrix log_blowup) batch.now.matrices.items) }
+    ensures refused { IfErr result (MatchRequestError
+        (¬ All (IsMatrix log_blowup) batch.now.matrices.items) (λ _. ⊥)) }
 {
     let evaluations = batch_evaluations(alloc, batch, log_blowup, place)?;
     let domains = domains_of(alloc, &evaluations)?;
@@ -70,6 +75,9 @@ pub(crate) fn commit_all(
     requires blowup { scheme.old.fri.log_blowup ≡ log_blowup }
     ensures kept { scheme.new ≡ scheme.old }
     ensures committed { IfOk result (λ all. AllZip (Keeps log_blowup) all.items batches.now) }
+    ensures well_formed { IfOk result (λ _. AllMatrices (IsMatrix log_blowup) batches.now) }
+    ensures refused { IfErr result (MatchRequestError
+        (¬ AllMatrices (IsMatrix log_blowup) batches.now) (λ _. ⊥)) }
 {
     let mut all = Vec::with_capacity(alloc, batches.len())?;
     for (index, batch) in batches.iter().enumerate() {
@@ -84,9 +92,12 @@ pub(crate) fn commit_all(
 
 /// The commitments of a request, each 32 bytes, in order. Its points aren't read.
 pub fn commit(alloc: Global, request: &Request) -> Result<Vec<[u8; 32]>, RequestError>
-    ensures { IfOk result (λ commitments.
+    ensures committed { IfOk result (λ commitments.
         AllZip (IsCommitmentTo request.now.parameters.log_blowup) commitments.items
         request.now.commitments.items) }
+    ensures well_formed { IfOk result (λ _. CanCommit request.now) }
+    // the scheme itself refuses for want of memory alone
+    ensures refused { IfErr result (MatchRequestError (¬ CanCommit request.now) (λ _. ⊥)) }
 {
     let mut scheme = match proving_scheme(&request.parameters) {
         Ok(scheme) => scheme,

@@ -33,6 +33,7 @@ pub(crate) fn elements(
 ) -> Result<Vec<BabyBear>, ReadError>
     ensures numbers { IfOk result (λ v. map canonical_number v.items ≡ numbers.now) }
     ensures count { IfOk result (λ v. vec_len v ≡ length numbers.now) }
+    ensures refused { IfErr result (IfMalformed (¬ All IsElement numbers.now)) }
 {
     let mut values = Vec::with_capacity(alloc, numbers.len())?;
     for (index, number) in numbers.iter().enumerate() {
@@ -120,6 +121,7 @@ pub(crate) fn coset(domain: &Domain, most: usize, place: Place) -> Result<Coset,
     ensures size { IfOk result (λ c. c.log_size ≡ domain.now.log_size) }
     ensures room { IfOk result (λ c. c.log_size ≤ most) }
     ensures shift { IfOk result (λ c. canonical_number c.shift ≡ domain.now.shift) }
+    ensures well_formed { IfOk result (λ _. IsCoset most domain.now.shift domain.now.log_size) }
     ensures refused { IfErr result (λ _.
         ¬ IsCoset most domain.now.shift domain.now.log_size) }
 {

@@ -4,8 +4,10 @@ ghost use Rattle.std.specs.Prelude.{◌≡◌};
 ghost use Rattle.fri_requests.specs.declared.fault.RequestError.TheVariants as request;
 ghost use Rattle.fri_requests.specs.declared.fault.ReadError.TheVariants as read;
 ghost use Rattle.fri_requests.specs.declared.fault.VerifyError.TheVariants as statement;
-ghost use Rattle.fri_requests.specs.Failures.{unread, failure_of};
+ghost use Rattle.fri_requests.specs.Failures.{unread_request, unopened, unread, failure_of};
+ghost use Rattle.fri_requests.specs.Failures.{IsUnformed};
 
+use p3_fri_plain::PlainProofError;
 use p3_fri_pow::FriProverError;
 use p3_fri_relation::error::FriError;
 use p3_mmcs::Sha256MmcsError;
@@ -223,6 +225,8 @@ impl From<AllocError> for ReadError {
 }
 
 impl From<ReadError> for RequestError {
+    ghost from_gives = { λ e f. f ≡ unread_request e };
+
     fn from(error: ReadError) -> RequestError {
         match error {
             ReadError::Malformed(misfit) => RequestError::Malformed(misfit),
@@ -248,6 +252,8 @@ impl From<AllocError> for RequestError {
 }
 
 impl From<FriProverError> for RequestError {
+    ghost from_gives = { λ e f. f ≡ unopened e };
+
     fn from(error: FriProverError) -> RequestError {
         match error {
             FriProverError::OutOfMemory => RequestError::OutOfMemory,
@@ -283,5 +289,24 @@ impl From<AllocError> for VerifyError {
 
     fn from(_error: AllocError) -> VerifyError {
         VerifyError::OutOfMemory
+    }
+}
+
+/// The faults of a plain form have their place in the proof.
+impl From<PlainProofError> for VerifyError {
+    ghost from_gives = { IsUnformed };
+
+    fn from(error: PlainProofError) -> VerifyError {
+        let place = Place::PROOF;
+        match error {
+            PlainProofError::ElementOutOfRange => {
+                VerifyError::Malformed(place.lacks(Fault::Element))
+            },
+            PlainProofError::ElementLength => {
+                VerifyError::Malformed(place.lacks(Fault::ExtensionElement))
+            },
+            PlainProofError::DigestLength => VerifyError::Malformed(place.lacks(Fault::Digest)),
+            PlainProofError::OutOfMemory => VerifyError::OutOfMemory,
+        }
     }
 }

@@ -1,15 +1,17 @@
 //! The matrices of a request, and the points at which they are to be opened.
 
-ghost use Rattle.std.specs.Prelude.{◌≡◌, ◌≢◌, ◌*◌, ◌^◌, ◌<◌, ◌≤◌, All, IfOk, IsTrue, length};
-ghost use Rattle.std.specs.Prelude.{[], map, vec_len};
+ghost use Rattle.std.specs.Prelude.{◌≡◌, ◌≢◌, ◌↔◌, ◌*◌, ◌^◌, ◌<◌, ◌≤◌, All, IsTrue, IfOk, IfErr};
+ghost use Rattle.std.specs.Prelude.{[], length, map, vec_len};
 ghost use Rattle.algebra.specs.Nested.{lists};
 ghost use Rattle.p3_matrix.specs.Matrix.{rows, matrix_width};
 ghost use Rattle.p3_matrix.specs.Rows.{rows_of};
 ghost use Rattle.p3_fri_commit.specs.Extension.{FitsDomain};
 ghost use Rattle.p3_fri_two_adic.specs.Chunks.{polynomials_on};
 ghost use Rattle.fri_requests.specs.Commitments.{domain_of};
+ghost use Rattle.fri_requests.specs.Failures.{IfMalformed};
 ghost use Rattle.fri_requests.specs.Matrices.{held_listed};
 ghost use Rattle.fri_requests.specs.Numbers.{coefficient_numbers};
+ghost use Rattle.fri_requests.specs.Requests.{IsMatrix, HasPoints};
 ghost use Rattle.fri_requests.specs.Setting.{fields};
 
 use crate::elements::{coset, elements, extension_element};
@@ -27,7 +29,7 @@ pub(crate) type Evaluations = (Coset, RowMajorMatrix<BabyBear>);
 fn is_count(count: usize, width: usize, log_size: usize) -> bool
     requires some { 0 < width }
     requires low { log_size ≤ 27 }
-    ensures { IsTrue result → count ≡ width * 2 ^ log_size }
+    ensures { IsTrue result ↔ (count ≡ width * 2 ^ log_size) }
 {
     count % width == 0 && count / width == 1 << log_size
 }
@@ -55,6 +57,8 @@ fn evaluations(
     ensures domain { IfOk result (λ e. domain_of e.0.shift e.0.log_size ≡ matrix.now.domain) }
     ensures polynomials { IfOk result (λ e.
         polynomials_on fields e.0.shift e.0.log_size e.1 ≡ held_listed matrix.now) }
+    ensures well_formed { IfOk result (λ _. IsMatrix log_blowup matrix.now) }
+    ensures refused { IfErr result (IfMalformed (¬ IsMatrix log_blowup matrix.now)) }
 {
     let domain = coset(&matrix.domain, BabyBear::TWO_ADICITY - log_blowup, place)?;
     if matrix.width == 0 {
@@ -82,6 +86,9 @@ pub(crate) fn batch_evaluations(
     ensures polynomials { IfOk result (λ all.
         map (λ e. polynomials_on fields e.0.shift e.0.log_size e.1) all.items
         ≡ map held_listed batch.now.matrices.items) }
+    ensures well_formed { IfOk result (λ _. All (IsMatrix log_blowup) batch.now.matrices.items) }
+    ensures refused { IfErr result (IfMalformed
+        (¬ All (IsMatrix log_blowup) batch.now.matrices.items)) }
 {
     let mut all = Vec::with_capacity(alloc, batch.matrices.len())?;
     for (index, matrix) in batch.matrices.iter().enumerate() {
@@ -99,6 +106,7 @@ fn points(alloc: Global, matrix: &Matrix, place: Place) -> Result<Vec<BabyBear4>
     ensures some { IfOk result (λ v. v.items ≢ []) }
     ensures numbers { IfOk result (λ v.
         map coefficient_numbers v.items ≡ lists matrix.now.points.items) }
+    ensures refused { IfErr result (IfMalformed (¬ HasPoints matrix.now)) }
 {
     if matrix.points.is_empty() {
         return Err(place.lacks(Fault::Points).into());
@@ -123,6 +131,7 @@ pub(crate) fn batch_points(
     ensures some { IfOk result (λ all. All (λ zs. zs ≢ []) (lists all.items)) }
     ensures numbers { IfOk result (λ all. map (map coefficient_numbers) (lists all.items)
         ≡ map (λ m. lists m.points.items) batch.now.matrices.items) }
+    ensures refused { IfErr result (IfMalformed (¬ All HasPoints batch.now.matrices.items)) }
 {
     let mut all = Vec::with_capacity(alloc, batch.matrices.len())?;
     for (index, matrix) in batch.matrices.iter().enumerate() {

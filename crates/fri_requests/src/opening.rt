@@ -1,6 +1,6 @@
 //! Openings of requests.
 
-ghost use Rattle.std.specs.Prelude.{◌≡◌, ◌^◌, All, IfOk, length, map};
+ghost use Rattle.std.specs.Prelude.{◌≡◌, ◌^◌, All, IfOk, IfErr, length, map};
 ghost use Rattle.std.specs.List.{AllZip};
 ghost use Rattle.algebra.specs.Nested.{lists, nested};
 ghost use Rattle.p3_mmcs.specs.ProverData.{matrices_of, root_over};
@@ -16,8 +16,11 @@ ghost use Rattle.p3_fri_two_adic.specs.Ranges.{InProverRange};
 ghost use Rattle.fri_requests.specs.Accepted.{IsAccepted};
 ghost use Rattle.fri_requests.specs.Claims.{batch_listed};
 ghost use Rattle.fri_requests.specs.Commitments.{IsKept};
+ghost use Rattle.fri_requests.specs.Failures.{IfMalformed, MatchRequestError};
 ghost use Rattle.fri_requests.specs.Numbers.{coefficient_numbers};
 ghost use Rattle.fri_requests.specs.Openings.{HavePoints, IsOpened, request_for};
+ghost use Rattle.fri_requests.specs.Requests.{AllMatrices, HasPoints, CanOpen, IsRefusedRequest};
+ghost use Rattle.fri_requests.specs.Requests.{HasLists, HaveMatrix, Refuses};
 ghost use Rattle.fri_requests.specs.Setting.{fields, sha256_setting};
 
 use crate::claims::claims_out;
@@ -38,6 +41,7 @@ fn points_of(alloc: Global, batches: &[Batch]) -> Result<Vec<Vec<Vec<BabyBear4>>
     ensures numbers { IfOk result (λ all. map (map (map coefficient_numbers)) (nested all.items)
         ≡ map (λ batch. map (λ m. lists m.points.items) batch.matrices.items) batches.now) }
     ensures some { IfOk result (λ all. HavePoints (nested all.items)) }
+    ensures refused { IfErr result (IfMalformed (¬ AllMatrices HasPoints batches.now)) }
 {
     let mut all = Vec::with_capacity(alloc, batches.len())?;
     for (index, batch) in batches.iter().enumerate() {
@@ -117,6 +121,8 @@ fn open_requests(
         ≡ last_state sha256_setting (parameters_of scheme.now.fri)
         (relation_claims (λ d. d.log_size) (map claim o.0.items)) (proof_of o.1)
         challenger.old) }
+    ensures refused { IfErr result (MatchRequestError ⊥
+        (Refuses (parameters_of scheme.now.fri) challenger.old (map request requests.old))) }
 {
     let (values, proof) = <Scheme as Pcs<BabyBear4, Sha256Challenger>>::open(
         scheme,
@@ -140,6 +146,7 @@ fn open_committed(
     requires kept { All (IsKept scheme.now.fri.log_blowup) all.old }
     requires counts { length (nested points.items) ≡ length all.old }
     requires some { HavePoints (nested points.items) }
+    requires lists { AllZip HasLists all.old (nested points.items) }
     ensures claims { IfOk result (λ o. map claim o.0.items
         ≡ honest_claims (held_of fields matrices_of scheme.now.fri.log_blowup) root_over
         (map (λ c. c.domains.items) all.old)
@@ -151,6 +158,11 @@ fn open_committed(
         ≡ last_state sha256_setting (parameters_of scheme.now.fri)
         (relation_claims (λ d. d.log_size) (map claim o.0.items)) (proof_of o.1)
         challenger.old) }
+    ensures some_matrix { IfOk result (λ _. HaveMatrix all.old) }
+    ensures refused { IfErr result (MatchRequestError
+        (¬ HaveMatrix all.old) (λ e. HaveMatrix all.old
+        × Refuses (parameters_of scheme.now.fri) challenger.old
+        (zip_with (λ c points. request_for c.data points) all.old (nested points.items)) e)) }
 {
     let known = known_of(alloc, &*all)?;
     let mut requests = requests_of(alloc, all, points)?;
@@ -178,6 +190,10 @@ pub fn open(alloc: Global, request: &Request) -> Result<Opening, RequestError>
         (proof_of o.proof) o.next_challenge.items) }
     ensures opened { IfOk result (λ o. AllZip (IsOpened request.now.parameters.log_blowup)
         (map batch_listed o.claims.items) request.now.commitments.items) }
+    ensures well_formed { IfOk result (λ _. CanOpen request.now) }
+    // where it can't be opened, where the scheme refuses it
+    ensures refused { IfErr result (MatchRequestError (¬ CanOpen request.now)
+        (IsRefusedRequest request.now)) }
 {
     let mut scheme = match proving_scheme(&request.parameters) {
         Ok(scheme) => scheme,

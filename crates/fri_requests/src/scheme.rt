@@ -4,6 +4,7 @@ ghost use Rattle.std.specs.Prelude.{◌≡◌, ◌<◌, ◌≤◌, ◌↔◌, Is
 ghost use Rattle.p3_fri_relation.specs.Views.{parameters_of};
 ghost use Rattle.p3_fri_two_adic.specs.Ranges.{InProverRange, InVerifierRange};
 ghost use Rattle.fri_requests.specs.Records.{parameters_in, AreDifficultiesLow};
+ghost use Rattle.fri_requests.specs.Requests.{AreProvers};
 
 use crate::fault::{Fault, Misfit, Place};
 use crate::records::Parameters;
@@ -65,6 +66,7 @@ pub(crate) fn proving_scheme(parameters: &Parameters) -> Result<Scheme, Misfit>
     ensures parameters { IfOk result (λ s. parameters_of s.fri ≡ parameters_in parameters.now) }
     ensures range { IfOk result (λ s. InProverRange (parameters_of s.fri) 27 63) }
     ensures blowup { IfOk result (λ s. s.fri.log_blowup ≤ 27) }
+    ensures refused { IfErr result (λ _. ¬ AreProvers parameters.now) }
 {
     if parameters.log_blowup == 0 || parameters.log_blowup > BabyBear::TWO_ADICITY {
         return Err(Place::NONE.lacks(Fault::LogBlowup));

@@ -5,6 +5,6 @@ returns c = record {
   asked = c.in_ok-request.request;
   commitments = c.in-Ok.commitments.items;
   is_asked = c.in_ok-request.ensures.form;
-  committed = c.in-Ok.ensures;
+  committed = c.in-Ok.ensures.committed;
   is_answer = cc (c.in_ok-answer.ensures, c.deref.ensures.value);
 }

@@ -1,7 +1,11 @@
-use Rattle.std.proofs.Common.{ap, subst, sym, ◌∙◌}
+use Rattle.std.proofs.Common.{All, ap, subst, sym, ◌∙◌}
 use Rattle.std.specs.List.{AllZip}
 use Rattle.std.proofs.Common.{take, ◌+◌}
+use Rattle.p3_fri_openings.proofs.First.{one_more, to_the_end, at_item}
+use Rattle.fri_requests.specs.declared.records.Batch.{Batch}
 use Rattle.fri_requests.specs.Commitments.{Keeps}
+use Rattle.fri_requests.specs.Requests.{IsMatrix}
+use Rattle.fri_requests.proofs.Failed.{request_part}
 use Rattle.fri_requests.proofs.Kept.{pairs_more, pairs_done}
 use Rattle.fri_requests.proofs.committed.commit_all.Goals as goal
 
@@ -14,9 +18,24 @@ loop-index-preserved c = record {
       (pairs_more (Keeps c.args.log_blowup) c.loop-index.all.items c.args.batches.now c.loop-index.index
       c.in_ok-commit_batch.field-0 c.index-batches-index.result c.loop-index-test.true c.index-batches-index.is
       c.loop-index.invariant.kept c.in_ok-commit_batch.ensures.committed);
+  well_formed = one_more (λ (b : Batch). All (IsMatrix c.args.log_blowup) b.matrices.items) c.args.batches.now
+      c.loop-index.index c.index-batches-index.result c.loop-index-test.true c.index-batches-index.is
+      c.loop-index.invariant.well_formed c.in_ok-commit_batch.ensures.well_formed;
 }
+
+pub returns-in_err-commit_batch-clause-refused : goal.returns-in_err-commit_batch-clause-refused
+returns-in_err-commit_batch-clause-refused c =
+    request_part _ _ _ _ _ _ c.from_residual-in_err-commit_batch.ensures.1 c.in_err-commit_batch.ensures.refused
+    (λ fails whole. fails (at_item (λ (b : Batch). All (IsMatrix c.args.log_blowup) b.matrices.items) c.args.batches.now
+    c.loop-index.index c.index-batches-index.result c.loop-index-test.true c.index-batches-index.is whole))
+    (λ e never. never)
 
 pub returns-clause-committed : goal.returns-clause-committed
 returns-clause-committed c =
     pairs_done (Keeps c.args.log_blowup) c.loop-index.all.items c.args.batches.now c.loop-index.index
     c.loop-index-test.false c.loop-index.invariant.kept
+
+pub returns-clause-well_formed : goal.returns-clause-well_formed
+returns-clause-well_formed c =
+    to_the_end (λ (b : Batch). All (IsMatrix c.args.log_blowup) b.matrices.items) c.args.batches.now
+    c.loop-index.index c.loop-index-test.false c.loop-index.invariant.well_formed

@@ -7,6 +7,7 @@ use Rattle.p3_fri_two_adic.specs.Chunks.{polynomials_on}
 use Rattle.p3_fri_two_adic.specs.Held.{Extends}
 use Rattle.fri_requests.specs.Commitments.{domain_of}
 use Rattle.fri_requests.specs.Setting.{fields}
+use Rattle.fri_requests.proofs.Failed.{unread_part, unopened_part}
 use Rattle.fri_requests.proofs.Kept.{pairs_same, pairs_mapped, through}
 use Rattle.fri_requests.proofs.committed.commit_batch.Goals as goal
 
@@ -33,3 +34,13 @@ returns-clause-committed c =
       domains = through (λ d. domain_of d.shift d.log_size) (λ e. e.0) es c.in_ok-domains.domains.items _ domains
           c.in_ok-evaluations.ensures.domains;
     }
+
+pub returns-in_err-evaluations-clause-refused : goal.returns-in_err-evaluations-clause-refused
+returns-in_err-evaluations-clause-refused c =
+    unread_part _ _ _ _ _ c.from_residual.ensures.1
+    c.in_err-evaluations.ensures.refused (λ fails. fails)
+
+pub returns-in_err-commitment-clause-refused : goal.returns-in_err-commitment-clause-refused
+returns-in_err-commitment-clause-refused c =
+    unopened_part _ _ _ _ c.from_residual-in_err-commitment.ensures.1
+    (λ differs. absurd (differs c.in_err-commitment.ensures.refused))

@@ -4,7 +4,9 @@ use Rattle.std.proofs.Common.{◌≡◌, ◌<◌, ◌≤◌, All, map, length, g
 use Rattle.p3_fri_commit.specs.Extension.{FitsDomain}
 use Rattle.p3_fri_two_adic.specs.Chunks.{polynomials_on}
 use Rattle.fri_requests.specs.Commitments.{domain_of}
+use Rattle.p3_fri_openings.proofs.First.{one_more, to_the_end}
 use Rattle.fri_requests.specs.Matrices.{held_listed}
+use Rattle.fri_requests.specs.Requests.{IsMatrix}
 use Rattle.fri_requests.specs.Setting.{fields}
 use Rattle.fri_requests.proofs.Kept.{same_more}
 use Rattle.fri_requests.proofs.matrices.batch_evaluations.Goals as goal
@@ -26,6 +28,8 @@ loop-index-preserved c =
       polynomials = same_more (λ e. polynomials_on fields e.0.shift e.0.log_size e.1) held_listed c.loop-index.all.items _ ms
           c.loop-index.index c.in_ok-evaluations.field-0 c.matrix-item.result below item c.in_ok-push.ensures.items
           c.in_ok-evaluations.ensures.polynomials c.loop-index.invariant.polynomials;
+      well_formed = one_more (IsMatrix c.args.log_blowup) ms c.loop-index.index c.matrix-item.result below item
+          c.loop-index.invariant.well_formed c.in_ok-evaluations.ensures.well_formed;
     }
 
 pub returns-clause-domains : goal.returns-clause-domains
@@ -37,3 +41,8 @@ pub returns-clause-polynomials : goal.returns-clause-polynomials
 returns-clause-polynomials c =
     let ended = subst (λ ys. length ys ≤ c.loop-index.index) c.deref-matrix-items.ensures.value c.loop-index-test.false in
     c.loop-index.invariant.polynomials ∙ ap (λ ms. map held_listed ms) (take_all c.loop-index.index c.args.batch.now.matrices.items ended)
+
+pub returns-clause-well_formed : goal.returns-clause-well_formed
+returns-clause-well_formed c =
+    let ended = subst (λ ys. length ys ≤ c.loop-index.index) c.deref-matrix-items.ensures.value c.loop-index-test.false in
+    to_the_end (IsMatrix c.args.log_blowup) c.args.batch.now.matrices.items c.loop-index.index ended c.loop-index.invariant.well_formed

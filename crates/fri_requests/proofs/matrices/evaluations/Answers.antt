@@ -1,4 +1,6 @@
-use Rattle.std.proofs.Common.{◌∙◌}
+use Rattle.std.proofs.Common.{◌*◌, ◌^◌, All, arith, subst, sym, ap, ◌∙◌}
+use Rattle.fri_requests.specs.Numbers.{IsElement}
+use Rattle.fri_requests.proofs.Listed.{every_is_element}
 use Rattle.fri_requests.proofs.Polynomials.{held_same}
 use Rattle.fri_requests.proofs.matrices.evaluations.Goals as goal
 
@@ -7,3 +9,14 @@ returns-clause-polynomials c =
     held_same _ _ c.matrix_of.result c.in_ok-values.values.items c.args.matrix.now
     c.in_ok-domain.ensures.shift c.in_ok-domain.ensures.size c.matrix_of.ensures.width
     c.matrix_of.ensures.rows (c.in_ok-values.ensures.numbers ∙ c.deref.ensures.value)
+
+pub returns-clause-well_formed : goal.returns-clause-well_formed
+returns-clause-well_formed c = record {
+  domain = c.in_ok-domain.ensures.well_formed;
+  some_column = omega (arith, c.if-matrix-eq0.false);
+  count = sym c.args.matrix.now.values.ok.0 ∙ sym c.len.ensures
+      ∙ c.is_count.ensures.0 c.if-not-is_count.false
+      ∙ ap (λ k. c.args.matrix.now.width * 2 ^ k) (c.log_size.ensures ∙ c.in_ok-domain.ensures.size);
+  elements = subst (λ ns. All IsElement ns) (c.in_ok-values.ensures.numbers ∙ c.deref.ensures.value)
+      (every_is_element c.in_ok-values.values.items);
+}

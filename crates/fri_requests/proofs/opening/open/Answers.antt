@@ -11,6 +11,9 @@ use Rattle.fri_requests.specs.Claims.{batch_numbers}
 use Rattle.fri_requests.specs.Commitments.{IsKept, Keeps}
 use Rattle.fri_requests.specs.Openings.{IsOpened, request_for}
 use Rattle.fri_requests.specs.Setting.{fields}
+use Rattle.fri_requests.specs.Requests.{IsMatrix, HasPoints, AllMatrices, HasLists, HaveMatrix, Refuses}
+use Rattle.fri_requests.proofs.Asked.{are_provers, has_lists, matrix_kept, can_open, refused_request}
+use Rattle.fri_requests.proofs.Failed.{unread_part, request_part}
 use Rattle.fri_requests.proofs.Listed.{claims_again, is_coset, are_claims}
 use Rattle.fri_requests.proofs.Opened.{all_kept, count_same, opened_each}
 use Rattle.fri_requests.proofs.Stated.{accepted, verifier_range}
@@ -62,3 +65,56 @@ returns-clause-opened c =
     (opened_each b c.in_ok-all.all.items points batches
     (subst (λ bs. AllZip (Keeps b) c.in_ok-all.all.items bs) c.deref-2.ensures.value c.in_ok-all.ensures.committed)
     (c.in_ok-points.ensures.numbers ∙ ap (λ bs. map (λ batch. map (λ m. lists m.points.items) batch.matrices.items) bs) c.deref.ensures.value))
+
+pub open_committed-requires-clause-lists : goal.open_committed-requires-clause-lists
+open_committed-requires-clause-lists c =
+    let b = c.args.request.now.parameters.log_blowup in
+    let batches = c.args.request.now.commitments.items in
+    subst (λ cs. AllZip HasLists cs (nested c.in_ok-points.points.items)) (sym c.as_mut_slice.ensures.value)
+    (has_lists b c.in_ok-all.all.items (nested c.in_ok-points.points.items) batches
+    (subst (λ bs. AllZip (Keeps b) c.in_ok-all.all.items bs) c.deref-2.ensures.value c.in_ok-all.ensures.committed)
+    (c.in_ok-points.ensures.numbers ∙ ap (λ bs. map (λ batch. map (λ m. lists m.points.items) batch.matrices.items) bs) c.deref.ensures.value))
+
+pub returns-in_err-points-clause-refused : goal.returns-in_err-points-clause-refused
+returns-in_err-points-clause-refused c =
+    unread_part _ _ _ _ _ c.from_residual.ensures.1 c.in_err-points.ensures.refused
+    (λ fails can. fails (subst (λ bs. AllMatrices HasPoints bs) (sym c.deref.ensures.value) can.points))
+
+pub returns-in_err-all-clause-refused : goal.returns-in_err-all-clause-refused
+returns-in_err-all-clause-refused c =
+    request_part _ _ _ _ _ _ c.from_residual-in_err-all.ensures.1 c.in_err-all.ensures.refused
+    (λ fails can. fails (subst (λ bs. AllMatrices (IsMatrix c.args.request.now.parameters.log_blowup) bs)
+    (sym c.deref-2.ensures.value) can.committed.matrices))
+    (λ e never. absurd never)
+
+pub returns-in_err-claims-clause-refused : goal.returns-in_err-claims-clause-refused
+returns-in_err-claims-clause-refused c =
+    let b = c.args.request.now.parameters.log_blowup in
+    let batches = c.args.request.now.commitments.items in
+    let keeps = subst (λ bs. AllZip (Keeps b) c.in_ok-all.all.items bs) c.deref-2.ensures.value c.in_ok-all.ensures.committed in
+    let numbers = c.in_ok-points.ensures.numbers ∙ ap (λ bs. map (λ batch. map (λ m. lists m.points.items) batch.matrices.items) bs) c.deref.ensures.value in
+    request_part _ _ _ _ _ _ c.from_residual-in_err-claims.ensures.1 c.in_err-claims.ensures.refused
+    (λ fails can. fails (subst (λ cs. HaveMatrix cs) (sym c.as_mut_slice.ensures.value)
+    (matrix_kept b c.in_ok-all.all.items batches keeps can.some_matrix)))
+    (λ e h. refused_request c.args.request.now c.in_ok-all.all.items (nested c.in_ok-points.points.items) keeps numbers
+    (record {
+      parameters = are_provers c.args.request.now.parameters _ c.in-Ok.ensures.parameters c.in-Ok.ensures.range c.in-Ok.ensures.blowup;
+      matrices = subst (λ bs. AllMatrices (IsMatrix b) bs) c.deref-2.ensures.value c.in_ok-all.ensures.well_formed;
+    })
+    c.in_ok-points.ensures.some _ _
+    (ap (λ s. parameters_of s.fri) c.in_ok-all.ensures.kept ∙ c.in-Ok.ensures.parameters) c.new-challenger.ensures e
+    (subst (λ cs. HaveMatrix cs × Refuses (parameters_of c.commit_all.new.scheme.fri) c.new-challenger.result
+    (zip_with (λ k zs. request_for k.data zs) cs (nested c.in_ok-points.points.items)) e) c.as_mut_slice.ensures.value h))
+
+pub returns-clause-well_formed : goal.returns-clause-well_formed
+returns-clause-well_formed c =
+    let b = c.args.request.now.parameters.log_blowup in
+    can_open c.args.request.now c.in_ok-all.all.items (nested c.in_ok-points.points.items)
+    (subst (λ bs. AllZip (Keeps b) c.in_ok-all.all.items bs) c.deref-2.ensures.value c.in_ok-all.ensures.committed)
+    (c.in_ok-points.ensures.numbers ∙ ap (λ bs. map (λ batch. map (λ m. lists m.points.items) batch.matrices.items) bs) c.deref.ensures.value)
+    (record {
+      parameters = are_provers c.args.request.now.parameters _ c.in-Ok.ensures.parameters c.in-Ok.ensures.range c.in-Ok.ensures.blowup;
+      matrices = subst (λ bs. AllMatrices (IsMatrix b) bs) c.deref-2.ensures.value c.in_ok-all.ensures.well_formed;
+    })
+    c.in_ok-points.ensures.some
+    (subst (λ cs. HaveMatrix cs) c.as_mut_slice.ensures.value c.in_ok-claims.ensures.some_matrix)

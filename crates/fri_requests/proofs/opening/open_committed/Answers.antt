@@ -7,6 +7,10 @@ use Rattle.p3_fri_completeness.specs.Requests.{held_of, HoldsWords}
 use Rattle.std.proofs.Common.{All, ◌^◌}
 use Rattle.fri_requests.specs.Setting.{fields}
 use Rattle.p3_fri_openable.proofs.Requests.{openable_same}
+use Rattle.p3_fri_relation.specs.Views.{parameters_of}
+use Rattle.fri_requests.specs.Requests.{Refuses}
+use Rattle.fri_requests.proofs.Asked.{may_be_opened, matrix_asked}
+use Rattle.fri_requests.proofs.Failed.{request_part}
 use Rattle.fri_requests.proofs.Opened.{honest, fits, roots}
 use Rattle.fri_requests.proofs.opening.open_committed.Goals as goal
 
@@ -46,3 +50,28 @@ returns-clause-claims c =
     ∙ ap (λ ds. honest_claims (held_of fields matrices_of b) root_over ds (map request c.as_mut_slice.result.now)) c.in_ok-known.ensures.domains
     ∙ ap (λ qs. honest_claims (held_of fields matrices_of b) root_over (map (λ committed. committed.domains.items) c.args.all.now) qs)
     (ap (λ rs. map request rs) c.as_mut_slice.ensures.value ∙ c.in_ok-requests.ensures)
+
+pub returns-then-not-are_openable-clause-refused : goal.returns-then-not-are_openable-clause-refused
+returns-then-not-are_openable-clause-refused c = λ some.
+    let is = c.are_openable.ensures.exactly.1 (may_be_opened c.args.scheme.now.fri.log_blowup c.args.all.now (nested c.args.points.items)
+    c.deref.result.now c.requires.kept c.requires.lists
+    (ap (λ rs. map request rs) c.deref.ensures.value ∙ c.in_ok-requests.ensures) some) in
+    cc
+
+pub returns-in_err-opened-clause-refused : goal.returns-in_err-opened-clause-refused
+returns-in_err-opened-clause-refused c =
+    request_part _ _ _ _ _ _ c.from_residual-in_err-opened.ensures.1 c.in_err-opened.ensures.refused
+    (λ never. absurd never)
+    (λ e h. (
+      matrix_asked c.args.all.now (nested c.args.points.items) c.deref.result.now c.requires.lists
+          (ap (λ rs. map request rs) c.deref.ensures.value ∙ c.in_ok-requests.ensures)
+          (c.are_openable.ensures.exactly.0 c.if-not-are_openable.false),
+      subst (λ qs. Refuses (parameters_of c.args.scheme.now.fri) c.args.challenger.now qs e)
+          (ap (λ rs. map request rs) c.as_mut_slice.ensures.value ∙ c.in_ok-requests.ensures) h,
+    ))
+
+pub returns-clause-some_matrix : goal.returns-clause-some_matrix
+returns-clause-some_matrix c =
+    matrix_asked c.args.all.now (nested c.args.points.items) c.deref.result.now c.requires.lists
+    (ap (λ rs. map request rs) c.deref.ensures.value ∙ c.in_ok-requests.ensures)
+    (c.are_openable.ensures.exactly.0 c.if-not-are_openable.false)

@@ -6,6 +6,7 @@ use Rattle.p3_fri_opening_verifier.specs.Ends.{last_state}
 use Rattle.p3_fri_relation.specs.Acceptance.{Accepts}
 use Rattle.p3_fri_relation.specs.Views.{parameters_of, proof_of}
 use Rattle.fri_requests.specs.Setting.{fields, sha256_setting}
+use Rattle.fri_requests.proofs.Failed.{unopened_part}
 use Rattle.fri_requests.proofs.opening.open_requests.Goals as goal
 
 pub returns-clause-claims : goal.returns-clause-claims
@@ -37,3 +38,8 @@ returns-clause-state c =
     subst (λ cs. c.open.new.challenger ≡ last_state sha256_setting (parameters_of c.args.scheme.now.fri) (relation_claims (λ d. d.log_size) cs)
     (proof_of c.in_ok-values.proof) c.args.challenger.now) (sym is)
     (c.in_ok-values.ensures.state c.requires.honest _ c.requires.domains)
+
+pub returns-in_err-values-clause-refused : goal.returns-in_err-values-clause-refused
+returns-in_err-values-clause-refused c =
+    unopened_part _ _ _ _ c.from_residual.ensures.1
+    (λ differs. record { stands = c.in_err-values.ensures.refused; not_memory = differs })

@@ -1,0 +1,102 @@
+-- Which requests can be committed to and opened, and which the scheme refuses to open.
+use Rattle.std.specs.Prelude.{◌≢◌, ◌≡◌, ℕ, ◌*◌, ◌-◌, ◌^◌, ◌<◌, ◌≤◌, List, [], map, length, All}
+use Rattle.std.specs.List.{AllZip, flat_map}
+use Rattle.std.specs.declared.alloc.Global.{Global}
+use Rattle.algebra.specs.Nested.{lists}
+use Rattle.p3_field_core.specs.declared.element_bytes.ElementBytes.{Ghosts}
+use Rattle.p3_baby_bear.specs.declared.baby_bear.BabyBear.{BabyBear}
+use Rattle.p3_baby_bear.specs.declared.baby_bear4.BabyBear4.{BabyBear4}
+use Rattle.p3_baby_bear.specs.BabyBear.{number_bytes}
+use Rattle.p3_baby_bear.specs.BabyBear4.{coefficient_bytes}
+use Rattle.p3_challenger_sha256.specs.declared.sha256_challenger.Sha256Challenger.{Sha256Challenger}
+use Rattle.p3_challenger_sha256.specs.Sha256.{start, least_witness}
+use Rattle.p3_mmcs.specs.declared.sha256_mmcs.prover_data.Sha256ProverData.{Sha256ProverData}
+use Rattle.p3_mmcs.specs.ProverData.{matrices_of, root_over}
+use Rattle.p3_pcs.specs.Claims.{zip_with}
+use Rattle.p3_pcs.specs.Requests as plain
+use Rattle.p3_fri_pow.specs.declared.error.FriProverError.{FriProverError}
+use Rattle.p3_fri_pow.specs.declared.error.FriProverError.TheVariants.{OutOfMemory}
+use Rattle.p3_fri_relation.specs.Setting as setting
+use Rattle.p3_fri_opening_prover.specs.Refusals.{OpenRefusal}
+use Rattle.p3_fri_two_adic.specs.Ranges.{InProverRange}
+use Rattle.fri_requests.specs.declared.records.Parameters.{Parameters}
+use Rattle.fri_requests.specs.declared.records.Matrix.{Matrix}
+use Rattle.fri_requests.specs.declared.records.Batch.{Batch}
+use Rattle.fri_requests.specs.declared.records.Request.{Request}
+use Rattle.fri_requests.specs.declared.committed.Committed.{Committed}
+use Rattle.fri_requests.specs.Numbers.{extension_of, IsElement, IsExtensionElement}
+use Rattle.fri_requests.specs.Records.{parameters_in}
+use Rattle.fri_requests.specs.Statements.{IsCoset}
+use Rattle.fri_requests.specs.Commitments.{Keeps}
+use Rattle.fri_requests.specs.Openings.{request_for}
+use Rattle.fri_requests.specs.Setting.{sha256_setting}
+
+-- parameters of a prover: in its range, with a blowup within the two-adicity
+pub record AreProvers (p : Parameters) : Type 0 where
+  pub range : InProverRange (parameters_in p) 27 63
+  pub blowup : p.log_blowup ≤ 27
+
+-- a matrix on a coset with room for its extension: some column, and for each column and point of the
+-- coset an element
+pub record IsMatrix (log_blowup : ℕ) (m : Matrix) : Type 0 where
+  pub domain : IsCoset (27 - log_blowup) m.domain.shift m.domain.log_size
+  pub some_column : 0 < m.width
+  pub count : length m.values.items ≡ m.width * 2 ^ m.domain.log_size
+  pub elements : All IsElement m.values.items
+
+-- there is some point to open the matrix at, and each is an element of the extension
+pub record HasPoints (m : Matrix) : Type 0 where
+  pub some_point : m.points.items ≢ []
+  pub elements : All IsExtensionElement (lists m.points.items)
+
+-- `P` of each matrix of each batch
+abbrev pub AllMatrices : (Matrix → Type 0) → List Batch → Type 0
+AllMatrices P batches = All (λ b. All P b.matrices.items) batches
+
+-- the request can be committed to
+pub record CanCommit (request : Request) : Type 0 where
+  pub parameters : AreProvers request.parameters
+  pub matrices : AllMatrices (IsMatrix request.parameters.log_blowup) request.commitments.items
+
+-- and opened: each matrix has points, and there is some matrix
+pub record CanOpen (request : Request) : Type 0 where
+  pub committed : CanCommit request
+  pub points : AllMatrices HasPoints request.commitments.items
+  pub some_matrix : flat_map (λ b. b.matrices.items) request.commitments.items ≢ []
+
+-- the points that batches list, matrix by matrix
+abbrev pub points_listed : List Batch → List (List (List BabyBear4))
+points_listed batches =
+    map (λ b. map (λ m. map extension_of (lists m.points.items)) b.matrices.items) batches
+
+-- elements by their bytes, in trees of the inputs and of the rounds
+abbrev pub input_bytes : Ghosts BabyBear
+input_bytes = record { LEN = 4; bytes = number_bytes }
+
+abbrev pub round_bytes : Ghosts BabyBear4
+round_bytes = record { LEN = 16; bytes = coefficient_bytes }
+
+-- why the scheme refuses to open data from a challenger's state on, other than for want of memory
+pub record Refuses (p : setting.Parameters) (c : Sha256Challenger)
+    (requests : List (plain.Request (Sha256ProverData BabyBear input_bytes) BabyBear4))
+    (e : FriProverError) : Type 0 where
+  pub stands : OpenRefusal (sha256_setting {X = Global} {Y = Global}) p matrices_of
+      (matrices_of {G = round_bytes}) root_over least_witness c requests e
+  pub not_memory : e ≢ OutOfMemory
+
+-- there is a list of points for each matrix that is kept under a commitment
+abbrev pub HasLists : Committed → List (List BabyBear4) → Type 0
+HasLists c points = length points ≡ length (matrices_of c.data)
+
+-- some matrix is kept
+abbrev pub HaveMatrix : List Committed → Type 0
+HaveMatrix kept = flat_map (λ c. matrices_of c.data) kept ≢ []
+
+-- a request that can be opened, and isn't: what is kept of its batches, at the points that they
+-- list, the scheme refuses to open from the fresh challenger for this reason
+pub record IsRefusedRequest (request : Request) (e : FriProverError) : Type 0 where
+  pub request_opens : CanOpen request
+  pub kept : List Committed
+  pub keeps : AllZip (Keeps request.parameters.log_blowup) kept request.commitments.items
+  pub refused : Refuses (parameters_in request.parameters) start
+      (zip_with (λ c zs. request_for c.data zs) kept (points_listed request.commitments.items)) e
