@@ -36,8 +36,8 @@ pub record AreProvers (p : Parameters) : Type 0 where
   pub range : InProverRange (parameters_in p) 27 63
   pub blowup : p.log_blowup ≤ 27
 
--- a matrix on a coset with room for its extension: some column, and for each column and point of the
--- coset an element
+-- a matrix on a coset with room for its extension: some column, and for each column and point of
+-- the coset an element
 pub record IsMatrix (log_blowup : ℕ) (m : Matrix) : Type 0 where
   pub domain : IsCoset (27 - log_blowup) m.domain.shift m.domain.log_size
   pub some_column : 0 < m.width
