@@ -13,7 +13,7 @@ use Rattle.p3_fri_relation.specs.Heights.{matrices_of, log_height}
 use Rattle.p3_fri_two_adic.specs.Ranges.{InProverRange, InVerifierRange}
 use Rattle.p3_fri_relation.specs.Faults.{StandsInScheme}
 use Rattle.p3_fri_relation.specs.declared.error.FriError.{FriError}
-use Rattle.p3_fri_opening_verifier.specs.Ends.{last_state}
+use Rattle.p3_fri_two_adic.specs.Ends.{last_state}
 use Rattle.fri_requests.specs.declared.records.Parameters.{Parameters}
 use Rattle.fri_requests.specs.declared.records.BatchClaims.{BatchClaims}
 use Rattle.fri_requests.specs.Records.{parameters_in}

@@ -9,7 +9,7 @@ use Rattle.p3_fri_relation.specs.Setting.{Proof}
 use Rattle.p3_fri_relation.specs.Acceptance.{Accepts}
 use Rattle.p3_fri_relation.specs.Faults.{StandsInScheme}
 use Rattle.p3_fri_relation.specs.declared.error.FriError.{FriError}
-use Rattle.p3_fri_opening_verifier.specs.Ends.{last_state}
+use Rattle.p3_fri_two_adic.specs.Ends.{last_state}
 use Rattle.fri_requests.specs.declared.records.Parameters.{Parameters}
 use Rattle.fri_requests.specs.declared.records.BatchClaims.{BatchClaims}
 use Rattle.fri_requests.specs.Numbers.{coefficient_numbers}

@@ -17,7 +17,7 @@ use Rattle.p3_pcs.specs.Requests as plain
 use Rattle.p3_fri_pow.specs.declared.error.FriProverError.{FriProverError}
 use Rattle.p3_fri_pow.specs.declared.error.FriProverError.TheVariants.{OutOfMemory}
 use Rattle.p3_fri_relation.specs.Setting as setting
-use Rattle.p3_fri_opening_prover.specs.Refusals.{OpenRefusal}
+use Rattle.p3_fri_two_adic.specs.Refusals.{OpenRefusal}
 use Rattle.p3_fri_two_adic.specs.Ranges.{InProverRange}
 use Rattle.fri_requests.specs.declared.records.Parameters.{Parameters}
 use Rattle.fri_requests.specs.declared.records.Matrix.{Matrix}

@@ -9,7 +9,7 @@ ghost use Rattle.p3_pcs.specs.Requests.{request, AreOpenable, AreHonest, FitDoma
 ghost use Rattle.p3_pcs.specs.Requests.{honest_claims};
 ghost use Rattle.p3_fri_openings.specs.Rounds.{HasCoset};
 ghost use Rattle.p3_fri_completeness.specs.Requests.{held_of, HoldsWords, relation_claims};
-ghost use Rattle.p3_fri_opening_verifier.specs.Ends.{last_state};
+ghost use Rattle.p3_fri_two_adic.specs.Ends.{last_state};
 ghost use Rattle.p3_fri_relation.specs.Acceptance.{Accepts};
 ghost use Rattle.p3_fri_relation.specs.Views.{parameters_of, proof_of};
 ghost use Rattle.p3_fri_two_adic.specs.Ranges.{InProverRange};

@@ -5,7 +5,7 @@ ghost use Rattle.p3_challenger_core.specs.Run.{After};
 ghost use Rattle.p3_challenger_sha256.specs.Sha256.{start};
 ghost use Rattle.p3_pcs.specs.Claims.{claim};
 ghost use Rattle.p3_fri_completeness.specs.Requests.{relation_claims};
-ghost use Rattle.p3_fri_opening_verifier.specs.Ends.{last_state};
+ghost use Rattle.p3_fri_two_adic.specs.Ends.{last_state};
 ghost use Rattle.p3_fri_relation.specs.Acceptance.{Accepts};
 ghost use Rattle.p3_fri_relation.specs.Faults.{StandsInScheme};
 ghost use Rattle.p3_fri_relation.specs.Views.{parameters_of, proof_of};

@@ -3,17 +3,16 @@ use Rattle.std.proofs.Common.{◌≡◌, ℕ, List, [], ◌∷◌, length, map, 
 use Rattle.std.proofs.lemmas.List.{length-map}
 use Rattle.std.specs.List.{AllZip}
 use Rattle.algebra.specs.Nested.{lists}
-use Rattle.algebra.specs.Polynomial.{val}
-use Rattle.algebra.proofs.Lists.{Each, All_from_each, length-tabulate}
+use Rattle.algebra.proofs.Lists.{Each, All_from_each}
 use Rattle.p3_matrix.specs.declared.dense.RowMajorMatrix.{RowMajorMatrix}
 use Rattle.p3_matrix.specs.Matrix.{matrix_width}
-use Rattle.p3_dft.specs.Evaluations.{column}
 use Rattle.p3_pcs.specs.Claims.{zip_with}
 use Rattle.p3_fri_relation.specs.Setting.{Fields}
 use Rattle.p3_fri_openings.specs.declared.round.OpeningRound.{OpeningRound}
-use Rattle.p3_fri_openings.specs.Committed.{committed_column, committed, committed_values}
+use Rattle.p3_fri_openings.specs.Committed.{committed_values}
 use Rattle.p3_fri_openings.specs.Opened.{values_asked}
 use Rattle.p3_fri_openings.specs.Rounds.{ask}
+use Rattle.p3_fri_openings.proofs.Committed.{width_of_values}
 use Rattle.p3_fri_batch.specs.Words.{claim_at, claims_of}
 use Rattle.p3_fri_batch.specs.Rounds.{HasValues, HaveValues, opened_at, opened_by_round}
 use Rattle.p3_fri_batch.specs.Rounds.{opened_honestly}
@@ -46,17 +45,11 @@ module _ {F E : Type 0} (f : Fields F E) (log_blowup : ℕ) where
       ap₂ (λ os oss. os ∷ oss) (round_opened r.matrices.now (lists r.points.now))
       (rounds_opened rounds)
 
-  pub width_of_values : (matrix : RowMajorMatrix F) (z : E)
-      → length (committed_values f log_blowup matrix z) ≡ matrix_width matrix
-  width_of_values matrix z =
-      length-map (committed f log_blowup matrix) (λ c. val f.ext (map f.lift c) z)
-      ∙ length-tabulate (matrix_width matrix)
-      (λ j. committed_column f log_blowup (column f.base matrix j))
-
   widths_of_values : (matrix : RowMajorMatrix F) (points : List E)
       → Each (λ ys. length ys ≡ matrix_width matrix) (values_there matrix points)
   widths_of_values matrix [] = tt
-  widths_of_values matrix (z ∷ points) = (width_of_values matrix z, widths_of_values matrix points)
+  widths_of_values matrix (z ∷ points) =
+      (width_of_values f log_blowup matrix z, widths_of_values matrix points)
 
   round_has_values : (matrices : List (RowMajorMatrix F)) (points : List (List E))
       → AllZip HasValues (zip_with ask matrices points) (zip_with values_there matrices points)

@@ -18,7 +18,7 @@ use Rattle.p3_fri_openings.specs.Committed.{committed_values}
 use Rattle.p3_fri_batch.specs.Words.{Opened}
 use Rattle.p3_fri_batch.specs.Claimed.{IsClaimOf, AreClaimsOf, matrices_in}
 use Rattle.p3_fri_completeness.specs.Honest.{IsHonest}
-use Rattle.p3_fri_batch.proofs.Honest.{width_of_values}
+use Rattle.p3_fri_openings.proofs.Committed.{width_of_values}
 
 -- what holds of each of two lists one behind the other
 module _ {X : Type 0} (P : X → Type 0) where

@@ -7,7 +7,7 @@ use Rattle.algebra.specs.TwoAdic.{AreRoots}
 use Rattle.algebra.proofs.Lists.{Each, each_from_All, All_from_each, map-map}
 use Rattle.rand_core.specs.Stream.{Stream}
 use Rattle.p3_matrix.specs.declared.dense.RowMajorMatrix.{RowMajorMatrix}
-use Rattle.p3_matrix.specs.Matrix.{matrix_width}
+use Rattle.p3_matrix.specs.Matrix.{rows, matrix_width}
 use Rattle.p3_matrix.specs.Words.{past}
 use Rattle.p3_pcs.specs.Requests.{Held}
 use Rattle.p3_fri_commit.specs.Extension.{FitsDomain, IsLowDegreeExtension}
@@ -124,6 +124,13 @@ module _ {F E D : Type 0} (f : Fields F E) (L : IsField f.base) (M : IsField f.e
         (λ a w e is pad q. zeros_traced f L M H W nonzero b (shift e.0) (off_zero e.0) (log_size e.0) e.1 w.1 a q
         pad.1 (subst (λ d. IsLowDegreeExtension f.base f.root f.shift b (shift d) (log_size d) w.1 a) pad.0 is))
         matrices wider evaluations words zeros (each_from_All Fits evaluations fit))
+
+-- matrices fit their domains by their heights
+pub all_fit : {F D : Type 0} (top b : ℕ) (log_size : D → ℕ) (es : List (D × RowMajorMatrix F))
+    → All (λ e. length (rows e.1) ≡ 2 ^ log_size e.0) es → All (λ e. log_size e.0 + b ≤ top) es
+    → All (λ e. FitsDomain top b (log_size e.0) e.1) es
+all_fit top b log_size es heights within i d below =
+    record { height = heights i d below; within = within i d below }
 
 -- masked and padded matrices fit their domains, which are the given ones
 module _ {F D : Type 0} (top b : ℕ) (log_size : D → ℕ) (wider evaluations : List (D × RowMajorMatrix F))

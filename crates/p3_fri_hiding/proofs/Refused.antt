@@ -1,5 +1,5 @@
 -- Refusals for a budget, and for want of memory.
-use Rattle.std.proofs.Common.{◌≡◌, ◌≢◌, ℕ, List, Result, Ok, Err, map, refl, subst}
+use Rattle.std.proofs.Common.{◌≡◌, ◌≢◌, ℕ, List, Result, Ok, Err, map, refl, sym, subst}
 use Rattle.std.specs.Prelude.{IsErr, IsErrAnd, IfErr}
 use Rattle.p3_fri_pow.specs.declared.error.FriProverError.TheVariants as plain
 use Rattle.p3_fri_masks.specs.declared.error.HidingFriProverError.{HidingFriProverError}
@@ -35,12 +35,33 @@ module _ (r q d : ℕ) (heights : List ℕ) where
       → IfErr result (MaskRefusal r q d heights)
   memory_refused result on fit = handed_on (MaskRefusal r q d heights) result (Fri plain.OutOfMemory) on fit
 
+  -- the same of a call that refuses by it alone
+  pub memory_passed_on : {X : Type 0} (result : Result X HidingFriProverError)
+      → IfErr result (λ e. e ≡ Fri plain.OutOfMemory) → AllFit r q d heights
+      → IfErr result (MaskRefusal r q d heights)
+  memory_passed_on (Ok v) is fit = tt
+  memory_passed_on (Err e) is fit = subst (λ x. MaskRefusal r q d heights x) (sym is) fit
+
+-- the want of memory of a call, handed on
+pub memory_handed_on : {X : Type 0} (result : Result X HidingFriProverError)
+    (e : HidingFriProverError) → IsErr result × IsErrAnd result (λ x. x ≡ e)
+    → e ≡ Fri plain.OutOfMemory
+    → IsErr result × IsErrAnd result (λ x. x ≡ Fri plain.OutOfMemory)
+memory_handed_on result e on is =
+    subst (λ f. IsErr result × IsErrAnd result (λ x. x ≡ f)) is on
+
 -- what is said of other refusals than want of memory holds of that
 pub memory_alone : {X : Type 0} (A : Type 0) (result : Result X HidingFriProverError)
     → IsErr result × IsErrAnd result (λ x. x ≡ Fri plain.OutOfMemory)
     → IfErr result (λ e. e ≢ Fri plain.OutOfMemory → A)
 memory_alone A result on = handed_on (λ e. e ≢ Fri plain.OutOfMemory → A) result (Fri plain.OutOfMemory) on
     (λ other. absurd (other refl))
+
+pub no_other_than_memory : {X : Type 0} (A : Type 0) (result : Result X HidingFriProverError)
+    → IfErr result (λ e. e ≡ Fri plain.OutOfMemory)
+    → IfErr result (λ e. e ≢ Fri plain.OutOfMemory → A)
+no_other_than_memory A (Ok v) is = tt
+no_other_than_memory A (Err e) is = λ other. absurd (other is)
 
 -- what holds in any case holds where a test refuses
 pub in_any_case : {X : Type 0} (A : Type 0) (result : Result X HidingFriProverError) → A

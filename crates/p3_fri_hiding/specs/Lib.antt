@@ -1,6 +1,7 @@
 pub use Rattle.p3_fri_hiding_prover.specs.Budgets
 pub use Rattle.p3_fri_hiding_prover.specs.Shown
 pub use Rattle.p3_fri_hiding_prover.specs.Data
+pub use Rattle.p3_fri_hiding_prover.specs.Halves
 pub use Rattle.p3_fri_hiding_prover.specs.Requests
 pub use Rattle.p3_fri_hiding_prover.specs.Opening
 pub mod Trace

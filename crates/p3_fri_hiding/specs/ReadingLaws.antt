@@ -11,7 +11,7 @@ use Rattle.p3_pcs.specs.Requests.{Held, HasColumns}
 use Rattle.p3_stark_pcs.specs.Evaluations.{held_at, ShowsFirst}
 use Rattle.p3_fri_relation.specs.Setting.{Fields}
 use Rattle.p3_fri_openings.specs.Committed.{committed_values}
-use Rattle.p3_fri_batch.proofs.Honest.{width_of_values}
+use Rattle.p3_fri_openings.proofs.Committed.{width_of_values}
 use Rattle.p3_fri_completeness.specs.Requests.{held_in, held_of, HoldsWords}
 use Rattle.p3_fri_hiding_prover.specs.EvaluationLaws.{is_matrix_of, words_at}
 use Rattle.p3_fri_hiding_prover.specs.Evaluations.{HoldsWordsAt}

@@ -20,7 +20,6 @@ ghost use Rattle.p3_fri_hiding.specs.Trace.{FitsMasked, HasTrace, HasZerosBetwee
 
 use p3_dft::TwoAdicSubgroupDft;
 use p3_field_core::{ExtensionField, SampleField, TwoAdicField, TwoAdicMultiplicativeCoset};
-use p3_fri_commit::commit_evaluations;
 use p3_fri_folding::FriParameters;
 use p3_fri_hiding_prover::HidingFriPcsProverData;
 use p3_fri_hiding_prover::budgets::check_matrices;
@@ -164,16 +163,9 @@ impl<
         ensures unmoved { IfErr result (λ e. e ≢ Fri OutOfMemory → self.new ≡ self.old) }
     {
         let codewords = self.num_random_codewords;
-        let log_blowup = self.fri.log_blowup;
         check_matrices(codewords, self.fri.num_queries, EF::DIMENSION, &evaluations)?;
         let masked = mask_each(alloc, evaluations, codewords, &mut self.rng)?;
-        let (commitment, inner) = commit_evaluations(
-            &self.dft, &self.mmcs, alloc, log_blowup, masked,
-        )?;
-        Ok((
-            commitment,
-            HidingFriPcsProverData::new(inner, false, codewords, log_blowup),
-        ))
+        self.commit_extended::<EF>(alloc, masked, false)
     }
 
     /// Commits to a batch of public matrices that are the same in every run, each with a row of
@@ -226,15 +218,8 @@ impl<
             (map (λ e. length (rows e.1)) evaluations.items)) }
     {
         let codewords = self.num_random_codewords;
-        let log_blowup = self.fri.log_blowup;
         check_matrices(codewords, self.fri.num_queries, EF::DIMENSION, &evaluations)?;
         let padded = pad_each(alloc, evaluations)?;
-        let (commitment, inner) = commit_evaluations(
-            &self.dft, &self.mmcs, alloc, log_blowup, padded,
-        )?;
-        Ok((
-            commitment,
-            HidingFriPcsProverData::new(inner, true, codewords, log_blowup),
-        ))
+        self.commit_extended::<EF>(alloc, padded, true)
     }
 }

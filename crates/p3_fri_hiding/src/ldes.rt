@@ -9,7 +9,7 @@ ghost use Rattle.p3_fri_pow.specs.declared.error.FriProverError.TheVariants.{Out
 ghost use Rattle.p3_fri_completeness.specs.Requests.{HoldsWords};
 ghost use Rattle.p3_fri_hiding_prover.specs.Chunks.{polynomials_on, recombined_on};
 ghost use Rattle.p3_fri_hiding_prover.specs.Ldes.{HasLdeHeight};
-ghost use Rattle.p3_fri_masks.specs.Draws.{random_words};
+ghost use Rattle.p3_fri_masks.specs.Draws.{AreRandom, random_words};
 ghost use Rattle.p3_fri_masks.specs.declared.error.HidingFriProverError.TheVariants.{Fri};
 ghost use Rattle.p3_fri_quotient_masks.specs.QuotientLdes.{AreMaskedChunks, past_masks};
 ghost use Rattle.p3_fri_hiding_prover.specs.Budgets.{AllFit, MaskRefusal};
@@ -22,17 +22,37 @@ ghost use Rattle.p3_fri_hiding.specs.Quotients.{CanExtend};
 use crate::hiding_pcs::HidingFriPcs;
 use p3_dft::TwoAdicSubgroupDft;
 use p3_field_core::{ExtensionField, SampleField, TwoAdicField, TwoAdicMultiplicativeCoset};
-use p3_fri_commit::commit_evaluations;
 use p3_fri_hiding_prover::HidingFriPcsProverData;
 use p3_fri_hiding_prover::budgets::{check_domains, check_ldes, check_matrices};
 use p3_fri_masks::{HidingFriProverError, random_matrices};
-use p3_fri_pow::FriProverError;
 use p3_fri_quotient_masks::quotient_ldes;
 use p3_fri_relation::setting::ChallengeField;
 use p3_matrix::RowMajorMatrix;
 use p3_mmcs::Mmcs;
 use rand_core::CryptoRng;
-use std::alloc::Global;
+use std::alloc::{AllocError, Global};
+
+/// A random matrix beside each domain, as high as it is large, with a column for each random
+/// codeword and each coefficient of the extension.
+fn random_columns<F: TwoAdicField + SampleField, EF: ExtensionField<F>, R: CryptoRng>(
+    alloc: Global,
+    domains: Vec<TwoAdicMultiplicativeCoset<F>>,
+    num_random_codewords: usize,
+    rng: &mut R,
+) -> Result<Vec<(TwoAdicMultiplicativeCoset<F>, RowMajorMatrix<F>)>, AllocError>
+    ensures random { IfOk result (λ matrices. AreRandom F.from_word (λ d. 2 ^ d.log_size)
+        (num_random_codewords + EF.DIMENSION) domains.items (R.stream rng.old)
+        matrices.items) }
+    ensures past { IfOk result (λ _. R.stream rng.new
+        ≡ past (random_words F.from_word (λ d. 2 ^ d.log_size)
+        (num_random_codewords + EF.DIMENSION) domains.items) (R.stream rng.old)) }
+{
+    // no memory holds a row as wide as that
+    let Some(width) = num_random_codewords.checked_add(EF::DIMENSION) else {
+        return Err(AllocError);
+    };
+    random_matrices(alloc, domains, width, rng)
+}
 
 impl<
     F: TwoAdicField + SampleField,
@@ -223,18 +243,9 @@ impl<
         ensures unmoved { IfErr result (λ e. e ≢ Fri OutOfMemory → self.new ≡ self.old) }
     {
         let codewords = self.num_random_codewords;
-        let log_blowup = self.fri.log_blowup;
         check_domains(codewords, self.fri.num_queries, EF::DIMENSION, &domains)?;
-        let Some(width) = codewords.checked_add(EF::DIMENSION) else {
-            return Err(HidingFriProverError::Fri(FriProverError::OutOfMemory));
-        };
-        let random = random_matrices(alloc, domains, width, &mut self.rng)?;
-        let (commitment, inner) = commit_evaluations(
-            &self.dft, &self.mmcs, alloc, log_blowup, random,
-        )?;
-        Ok(Some((
-            commitment,
-            HidingFriPcsProverData::new(inner, false, codewords, log_blowup),
-        )))
+        let random = random_columns::<F, EF, R>(alloc, domains, codewords, &mut self.rng)?;
+        let pair = self.commit_extended::<EF>(alloc, random, false)?;
+        Ok(Some(pair))
     }
 }

@@ -3,6 +3,7 @@
 //! <https://eprint.iacr.org/2024/1037>).
 #![tactic(auto)]
 
+mod extended;
 pub mod hiding_pcs;
 pub mod ldes;
 pub mod pcs;

@@ -10,7 +10,7 @@ use Rattle.p3_fri_relation.specs.Setting.{Fields, Setting, Parameters, Proof, Co
 use Rattle.p3_fri_relation.specs.Acceptance.{Accepts}
 use Rattle.p3_fri_completeness.specs.Requests.{held_in, held_of, relation_claims}
 use Rattle.p3_fri_opening_prover.specs.Refusals.{asked_of}
-use Rattle.p3_fri_opening_verifier.specs.Ends.{last_state}
+use Rattle.p3_fri_two_adic.specs.Ends.{last_state}
 use Rattle.p3_fri_random_openings.specs.RandomValues.{MayAppend, with_random_values}
 use Rattle.p3_fri_random_openings.specs.Halves.{shown_of, shown_values, kept_values}
 use Rattle.p3_fri_random_openings.specs.Hiding.{HidingAccepts}

@@ -13,7 +13,7 @@ use Rattle.p3_pcs.specs.Requests.{Held, Request, FitDomains, honest_claims, hone
 use Rattle.p3_fri_relation.specs.Setting.{Fields, Parameters, PointClaim, MatrixClaim}
 use Rattle.p3_fri_relation.specs.Setting.{CommitmentClaim}
 use Rattle.p3_fri_openings.specs.Rounds.{ask}
-use Rattle.p3_fri_batch.proofs.Honest.{width_of_values}
+use Rattle.p3_fri_openings.proofs.Committed.{width_of_values}
 use Rattle.p3_fri_openings.specs.Committed.{committed_values}
 use Rattle.p3_fri_completeness.specs.Requests.{matrix_claim, point_claim, relation_claims}
 use Rattle.p3_fri_completeness.specs.Requests.{held_in, held_of}

@@ -4,7 +4,7 @@ pub mod Data
 pub mod Requests
 pub mod Opening
 -- what the scheme above names of the crates below
-pub use Rattle.p3_fri_opening_verifier.specs.Ends
+pub use Rattle.p3_fri_two_adic.specs.Ends
 pub use Rattle.p3_fri_two_adic.specs.Accepted
 pub use Rattle.p3_fri_two_adic.specs.Chunks
 pub use Rattle.p3_fri_two_adic.specs.ErrorLaws

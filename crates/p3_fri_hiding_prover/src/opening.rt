@@ -11,7 +11,7 @@ ghost use Rattle.p3_fri_relation.specs.Views.{parameters_of, proof_of};
 ghost use Rattle.p3_fri_openings.specs.Rounds.{HasCoset};
 ghost use Rattle.p3_fri_completeness.specs.Requests.{HoldsWords, held_of, relation_claims};
 ghost use Rattle.p3_fri_opening_prover.specs.Refusals.{PassesChecks, OpenRefusal, LeavesState};
-ghost use Rattle.p3_fri_opening_verifier.specs.Ends.{last_state};
+ghost use Rattle.p3_fri_two_adic.specs.Ends.{last_state};
 ghost use Rattle.p3_fri_two_adic.specs.Ranges.{InProverRange};
 ghost use Rattle.p3_fri_random_openings.specs.RandomValues.{with_random_values};
 ghost use Rattle.p3_fri_random_openings.specs.Hiding.{HidingAccepts};

@@ -9,7 +9,7 @@ use Rattle.p3_fri_masks.specs.Draws.{AreRandom}
 use Rattle.p3_fri_relation.specs.Setting.{Fields}
 use Rattle.p3_fri_completeness.specs.Requests.{held_in}
 use Rattle.p3_fri_commit.specs.Extension.{IsLowDegreeExtension}
-use Rattle.p3_fri_random_openings.specs.Halves.{shown_of}
+use Rattle.p3_fri_hiding.specs.Halves.{shown_of}
 use Rattle.p3_fri_hiding.specs.Commitments.{ExtendRandom}
 
 -- as many as there are domains

@@ -6,18 +6,16 @@ use Rattle.std.specs.List.{AllZip}
 use Rattle.std.proofs.lemmas.List.{length-take, length-map}
 use Rattle.std.proofs.lemmas.Slice.Zip.{AllZip-long}
 use Rattle.rand_core.specs.Stream.{Stream}
-use Rattle.algebra.specs.Polynomial.{val}
-use Rattle.algebra.proofs.Lists.{length-tabulate}
-use Rattle.p3_dft.specs.Evaluations.{column}
 use Rattle.p3_matrix.specs.declared.dense.RowMajorMatrix.{RowMajorMatrix}
 use Rattle.p3_matrix.specs.Matrix.{matrix_width}
 use Rattle.p3_matrix.specs.Words.{past}
 use Rattle.p3_fri_masks.specs.Draws.{AreRandom}
 use Rattle.p3_fri_relation.specs.Setting.{Fields}
 use Rattle.p3_fri_completeness.specs.Requests.{held_in}
-use Rattle.p3_fri_random_openings.specs.Halves.{shown_of}
+use Rattle.p3_fri_hiding.specs.Halves.{shown_of}
 use Rattle.p3_fri_commit.specs.Extension.{IsLowDegreeExtension}
-use Rattle.p3_fri_openings.specs.Committed.{committed, committed_column, committed_values}
+use Rattle.p3_fri_openings.specs.Committed.{committed_values}
+use Rattle.p3_fri_openings.proofs.Committed.{width_of_values}
 use Rattle.p3_fri_hiding_prover.specs.declared.data.HidingFriPcsProverData.{HidingFriPcsProverData}
 use Rattle.p3_fri_hiding.specs.Commitments.{ExtendRandom}
 use Rattle.p3_fri_hiding.specs.Data.{IsOfScheme, CanRead, CanReadWhole, hidden_columns}
@@ -30,14 +28,6 @@ some_column m = m.has_columns
 
 module _ {F E D : Type 0} (f : Fields F E) (log_blowup hidden : ℕ) (shift : D → F)
     (log_size : D → ℕ) where
-  -- a matrix has a value for each column
-  width_of : (m : RowMajorMatrix F) (z : E)
-      → length (committed_values f log_blowup m z) ≡ matrix_width m
-  width_of m z =
-      length-map (committed f log_blowup m) (λ c. val f.ext (map f.lift c) z)
-      ∙ length-tabulate (matrix_width m)
-      (λ j. committed_column f log_blowup (column f.base m j))
-
   -- what shows a trace has a column beside those that hide the others
   wider : (m : RowMajorMatrix F) (e : D × RowMajorMatrix F)
       → HasTrace f (shift e.0) (log_size e.0) e.1 (shown_of hidden (held_in f log_blowup m))
@@ -45,7 +35,7 @@ module _ {F E D : Type 0} (f : Fields F E) (log_blowup hidden : ℕ) (shift : D 
   wider m e trace =
       let values = committed_values f log_blowup m f.ext.zero in
       let shown = length-take (length values - hidden) values in
-      omega (arith, some_column e.1, sym shown ∙ trace.columns f.ext.zero, width_of m f.ext.zero)
+      omega (arith, some_column e.1, sym shown ∙ trace.columns f.ext.zero, width_of_values f log_blowup m f.ext.zero)
 
   wider_at : (ms : List (RowMajorMatrix F)) (es : List (D × RowMajorMatrix F))
       → AllZip (λ h e. HasTrace f (shift e.0) (log_size e.0) e.1 h)

@@ -1,7 +1,8 @@
 -- Openings that are good have none of the faults.
 use Rattle.std.proofs.Common.{◌≡◌, ◌≢◌, ℕ, zero, suc, ◌<◌, List, [], ◌∷◌, length, map, All}
 use Rattle.std.proofs.Common.{get_or, subst, refl, sym, ap, ◌∙◌, arith, ◌↔◌, ◌⊎◌, inl, inr}
-use Rattle.std.proofs.Common.{Result, Err, IsOk}
+use Rattle.std.proofs.Common.{Result, Ok, Err, IsOk}
+use Rattle.std.specs.Prelude.{IfErr}
 use Rattle.std.specs.List.{zip, AllZip}
 use Rattle.std.proofs.lemmas.Bool.{false≢true}
 use Rattle.std.proofs.lemmas.List.{length-map, get_or_default}
@@ -150,6 +151,22 @@ fault_is_exact f log_blowup alpha top cs inputs opens shape positions e fault n 
   λ good. absurd (fault_refutes f log_blowup alpha top cs inputs opens shape positions good e
       (λ q. n (ap (λ e. Err e) q)) fault),
 )
+
+-- and so is an answer that is given for good openings alone
+pub answer_is_exact : {F E InCom InPath A B V : Type 0} (f : Fields F E) (log_blowup : ℕ) (alpha : E)
+    (top : ℕ) (cs : List (CommitmentClaim E InCom)) (inputs : List (InputOpening F InPath))
+    (opens : Opening F InCom InPath)
+    → ((c : InCom) (dims : List Dimensions) (indices : List ℕ) (sets : List (List (List F)))
+    (path : InPath) → opens c dims indices sets path → HasShape dims indices sets)
+    → (positions : List ℕ) (answer : Result V (FriError A B))
+    → (IsOk answer → AreInputsGood f log_blowup alpha top cs inputs opens positions)
+    → IfErr answer (InputFault f log_blowup alpha top cs inputs opens positions)
+    → answer ≢ Err OutOfMemory
+    → IsOk answer ↔ AreInputsGood f log_blowup alpha top cs inputs opens positions
+answer_is_exact f log_blowup alpha top cs inputs opens shape positions (Ok v) good fault n =
+    (good, λ _. refl)
+answer_is_exact f log_blowup alpha top cs inputs opens shape positions (Err e) good fault n =
+    fault_is_exact f log_blowup alpha top cs inputs opens shape positions e fault n
 
 -- want of memory is never a wrong answer, and a fault at each challenge is one at this
 pub stands : {F E InCom InPath A B : Type 0} (f : Fields F E) (log_blowup : ℕ) (alpha : E)

@@ -5,7 +5,7 @@ ghost use Rattle.algebra.specs.Nested.{lists};
 ghost use Rattle.algebra.specs.Polynomial.{val};
 ghost use Rattle.p3_fri_relation.specs.Heights.{matrices_of, width};
 ghost use Rattle.p3_fri_relation.specs.Views.{claims_of, matrix_claim};
-ghost use Rattle.p3_fri_inputs.specs.Claims.{claim_of, combined_values, IsWithin};
+ghost use Rattle.p3_fri_inputs.specs.Claims.{combined_values, IsWithin};
 
 use crate::checks::claimed_width;
 use p3_field_core::{Field, TwoAdicField, TwoAdicMultiplicativeCoset};
@@ -60,19 +60,19 @@ fn push_combined<F: TwoAdicField, EF: Field>(
 }
 
 /// The same for all matrices under a commitment.
-fn combine_claim<F: TwoAdicField, EF: Field, Com>(
+fn combine_claim<F: TwoAdicField, EF: Field>(
     alloc: Global,
     ladder: &Ladder<EF>,
-    claim: &CommitmentOpening<EF, Com, TwoAdicMultiplicativeCoset<F>>,
+    matrices: &[MatrixOpening<EF, TwoAdicMultiplicativeCoset<F>>],
 ) -> Result<Vec<EF>, AllocError>
     requires { All (IsWithin (vec_len ladder.now.powers))
-        (claim_of (λ domain. domain.log_size) claim.now).matrices }
+        (map (matrix_claim (λ domain. domain.log_size)) matrices.now) }
     ensures { IfOk result (λ combined. combined.items ≡ combined_values EF.ops ladder.now.alpha
-        (claim_of (λ domain. domain.log_size) claim.now).matrices) }
+        (map (matrix_claim (λ domain. domain.log_size)) matrices.now)) }
 {
     let mut combined = Vec::new(alloc);
-    for k in 0..claim.matrices.len() {
-        push_combined(&mut combined, ladder, &claim.matrices[k])?;
+    for k in 0..matrices.len() {
+        push_combined(&mut combined, ladder, &matrices[k])?;
     }
     Ok(combined)
 }
@@ -91,7 +91,7 @@ pub fn combine_claims<F: TwoAdicField, EF: Field, Com>(
 {
     let mut combined = Vec::with_capacity(alloc, claims.len())?;
     for batch in 0..claims.len() {
-        combined.push(combine_claim(alloc, ladder, &claims[batch])?)?;
+        combined.push(combine_claim(alloc, ladder, &claims[batch].matrices)?)?;
     }
     Ok(combined)
 }

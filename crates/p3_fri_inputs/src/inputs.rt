@@ -2,7 +2,7 @@
 
 ghost use Rattle.std.specs.Prelude.{◌≡◌, ◌≢◌, ◌<◌, ◌≤◌, ◌+◌, ◌/◌, ◌^◌, ◌↔◌, ℕ, length, map, All};
 ghost use Rattle.std.specs.Prelude.{IsTrue, IsOk, IfOk, IfErr, Err, MatchOption, slice_index};
-ghost use Rattle.std.specs.Prelude.{SomeIndex, slice_index_or, vec_len};
+ghost use Rattle.std.specs.Prelude.{EachIndex, SomeIndex, slice_index_or, vec_len};
 ghost use Rattle.std.specs.List.{AllZip, flat_map};
 ghost use Rattle.algebra.specs.Nested.{lists};
 ghost use Rattle.algebra.specs.Polynomial.{tabulate};
@@ -11,7 +11,7 @@ ghost use Rattle.p3_fri_relation.specs.declared.error.FriError.TheVariants.{OutO
 ghost use Rattle.p3_fri_relation.specs.Faults.{InputFault};
 ghost use Rattle.p3_fri_relation.specs.Heights.{matrices_of, log_height, has_height, heights_of};
 ghost use Rattle.p3_fri_relation.specs.Inputs.{HasPoints, sum_at, sums_at, AreInputsGood};
-ghost use Rattle.p3_fri_relation.specs.QuotientSums.{point_read};
+ghost use Rattle.p3_fri_relation.specs.QuotientSums.{point_read, IsDefinedAt};
 ghost use Rattle.p3_fri_relation.specs.Views.{claims_of, inputs_opened};
 ghost use Rattle.p3_fri_inputs.specs.Claims.{distances, combined_values, HasRowsAt, IsReadable};
 
@@ -21,8 +21,8 @@ use crate::opening::check_openings;
 use crate::points::inverse_distances;
 use crate::sums::query_sums;
 use p3_field_core::{ExtensionField, Field, TwoAdicField, TwoAdicMultiplicativeCoset};
-use p3_fri_folding::FriParameters;
 use p3_fri_ladder::Ladder;
+use p3_fri_relation::FriParameters;
 use p3_fri_relation::error::{FriError, FriOpenings};
 use p3_fri_relation::proof::BatchMultiOpening;
 use p3_fri_relation::setting::ChallengeField;
@@ -127,6 +127,76 @@ fn inverses_per_index<EF: Field>(inverses: &[EF], indices: &[usize]) -> usize
     }
 }
 
+/// What each query meets, or `None` if some quotient sum of the constants isn't zero, by what all
+/// queries share. `inverses` are those of the claimed points' distances from the points read, query
+/// by query.
+fn openings_by_query<F: TwoAdicField, EF: ExtensionField<F>, InputMmcs: Mmcs<F>>(
+    alloc: Global,
+    ladder: &Ladder<EF>,
+    log_blowup: usize,
+    log_global_max_height: usize,
+    indices: &[usize],
+    claims: &[CommitmentOpening<EF, InputMmcs::Commitment, TwoAdicMultiplicativeCoset<F>>],
+    openings: &[BatchMultiOpening<F, InputMmcs>],
+    combined: &[Vec<EF>],
+    inverses: &[EF],
+    heights: &[usize],
+) -> Result<Option<Vec<FriOpenings<EF>>>, AllocError>
+    requires within_two_adicity { log_global_max_height ≤ F.TWO_ADICITY }
+    requires readable { All
+        (IsReadable log_blowup (log_global_max_height + 1) (vec_len ladder.now.powers))
+        (matrices_of (claims_of (λ domain. domain.log_size) claims.now)) }
+    requires rows { (j : ℕ) → j < length indices.now → AllZip (HasRowsAt log_blowup j)
+        (claims_of (λ domain. domain.log_size) claims.now) (inputs_opened openings.now) }
+    requires combined { lists combined.now
+        ≡ map (λ c. combined_values EF.ops ladder.now.alpha c.matrices)
+        (claims_of (λ domain. domain.log_size) claims.now) }
+    requires inverses { let f = ⟦<EF as ChallengeField<F>>⟧.fields in
+        inverses.now ≡ map EF.ops.inv (flat_map (λ q. distances EF.ops log_blowup
+        (point_read f log_global_max_height q)
+        (matrices_of (claims_of (λ domain. domain.log_size) claims.now))) indices.now) }
+    requires heights { heights.now ≡ heights_of log_blowup
+        (matrices_of (claims_of (λ domain. domain.log_size) claims.now)) }
+    ensures { let f = ⟦<EF as ChallengeField<F>>⟧.fields in
+        let cs = claims_of (λ domain. domain.log_size) claims.now in
+        let inputs = inputs_opened openings.now in
+        let sum = λ (j h : ℕ). sum_at f log_blowup ladder.now.alpha log_global_max_height
+        cs inputs j (slice_index indices.now j) h in
+        IfOk result (λ found. MatchOption found
+        (IsTrue (has_height log_blowup (matrices_of cs) log_blowup)
+        × SomeIndex indices.now (λ j. sum j log_blowup ≢ EF.ops.zero))
+        (λ answers. (lists answers.items ≡ tabulate (length indices.now) (λ j. sums_at f log_blowup
+        ladder.now.alpha log_global_max_height cs inputs j (slice_index indices.now j)))
+        × ((j : ℕ) → j < length indices.now →
+        IsTrue (has_height log_blowup (matrices_of cs) log_blowup) →
+        sum j log_blowup ≡ EF.ops.zero))) }
+{
+    let count = inverses_per_index(inverses, indices);
+    let mut answers = Vec::with_capacity(alloc, indices.len())?;
+    let mut start = 0;
+    for j in 0..indices.len() {
+        let end = start + count;
+        let found = query_openings(
+            alloc,
+            ladder,
+            log_blowup,
+            log_global_max_height,
+            claims,
+            openings,
+            j,
+            combined,
+            &inverses[start..end],
+            heights,
+        )?;
+        let Some(answer) = found else {
+            return Ok(None);
+        };
+        answers.push(answer)?;
+        start = end;
+    }
+    Ok(Some(answers))
+}
+
 /// What each query meets, or `None` if some quotient sum of the constants isn't zero. `inverses`
 /// are those of the claimed points' distances from the points read, query by query.
 fn all_openings<F: TwoAdicField, EF: ExtensionField<F>, InputMmcs: Mmcs<F>>(
@@ -167,30 +237,81 @@ fn all_openings<F: TwoAdicField, EF: ExtensionField<F>, InputMmcs: Mmcs<F>>(
     let ladder = Ladder::new(alloc, alpha, greatest_width(claims))?;
     let combined = combine_claims(alloc, &ladder, claims)?;
     let heights = falling_heights(alloc, claims, log_blowup, log_global_max_height)?;
-    let count = inverses_per_index(inverses, indices);
-    let mut answers = Vec::with_capacity(alloc, indices.len())?;
-    let mut start = 0;
-    for j in 0..indices.len() {
-        let end = start + count;
-        let found = query_openings(
-            alloc,
-            &ladder,
-            log_blowup,
-            log_global_max_height,
-            claims,
-            openings,
-            j,
-            &combined,
-            &inverses[start..end],
-            &heights,
-        )?;
-        let Some(answer) = found else {
-            return Ok(None);
-        };
-        answers.push(answer)?;
-        start = end;
+    openings_by_query(
+        alloc,
+        &ladder,
+        log_blowup,
+        log_global_max_height,
+        indices,
+        claims,
+        openings,
+        &combined,
+        inverses,
+        &heights,
+    )
+}
+
+/// The quotient sums of checked openings, query by query.
+fn sum_inputs<F: TwoAdicField, EF: ExtensionField<F>, InputMmcs: Mmcs<F>, A, B>(
+    alloc: Global,
+    log_blowup: usize,
+    log_global_max_height: usize,
+    indices: &[usize],
+    input_openings: &[BatchMultiOpening<F, InputMmcs>],
+    alpha: EF,
+    claims: &[CommitmentOpening<EF, InputMmcs::Commitment, TwoAdicMultiplicativeCoset<F>>],
+) -> Result<Vec<FriOpenings<EF>>, FriError<A, B>>
+    requires within_two_adicity { log_global_max_height ≤ F.TWO_ADICITY }
+    requires heights { All (λ m. log_height log_blowup m ≤ log_global_max_height)
+        (matrices_of (claims_of (λ domain. domain.log_size) claims.now)) }
+    requires points { All HasPoints
+        (matrices_of (claims_of (λ domain. domain.log_size) claims.now)) }
+    requires rows { (j : ℕ) → j < length indices.now → AllZip (HasRowsAt log_blowup j)
+        (claims_of (λ domain. domain.log_size) claims.now) (inputs_opened input_openings.now) }
+    ensures defined { let f = ⟦<EF as ChallengeField<F>>⟧.fields in
+        IsOk result → EachIndex indices.now (λ j. IsDefinedAt f log_blowup log_global_max_height
+        (claims_of (λ domain. domain.log_size) claims.now) (slice_index indices.now j)) }
+    ensures constants { let f = ⟦<EF as ChallengeField<F>>⟧.fields in
+        let cs = claims_of (λ domain. domain.log_size) claims.now in
+        IsOk result → (j : ℕ) → j < length indices.now →
+        IsTrue (has_height log_blowup (matrices_of cs) log_blowup) →
+        sum_at f log_blowup alpha log_global_max_height cs (inputs_opened input_openings.now) j
+        (slice_index indices.now j) log_blowup ≡ EF.ops.zero }
+    ensures sums { let f = ⟦<EF as ChallengeField<F>>⟧.fields in
+        IfOk result (λ openings. lists openings.items ≡ tabulate (length indices.now)
+        (λ j. sums_at f log_blowup alpha log_global_max_height
+        (claims_of (λ domain. domain.log_size) claims.now) (inputs_opened input_openings.now) j
+        (slice_index indices.now j))) }
+    ensures fault { let f = ⟦<EF as ChallengeField<F>>⟧.fields in
+        (mmcs : InputMmcs) → IfErr result (InputFault f log_blowup alpha log_global_max_height
+        (claims_of (λ domain. domain.log_size) claims.now)
+        (inputs_opened input_openings.now) (InputMmcs.opens mmcs) indices.now) }
+{
+    let found = inverse_distances(alloc, log_blowup, log_global_max_height, indices, claims)?;
+    let inverses = match found {
+        Ok(inverses) => inverses,
+        Err(at) => {
+            return Err(FriError::OpeningPointMatchesQueryPoint {
+                batch: at.batch,
+                matrix: at.matrix,
+                point: at.point,
+            });
+        },
+    };
+    let summed = all_openings(
+        alloc,
+        log_blowup,
+        log_global_max_height,
+        indices,
+        alpha,
+        claims,
+        input_openings,
+        &inverses,
+    )?;
+    match summed {
+        Some(openings) => Ok(openings),
+        None => Err(FriError::FinalPolyMismatch),
     }
-    Ok(Some(answers))
 }
 
 /// Opens the committed inputs at the queries' positions, and gives for each the quotient sums that
@@ -252,29 +373,13 @@ pub fn open_inputs<F: TwoAdicField, EF: ExtensionField<F>, M: Mmcs<EF>, InputMmc
     ) {
         return Err(error);
     }
-    let found = inverse_distances(alloc, log_blowup, log_global_max_height, indices, claims)?;
-    let inverses = match found {
-        Ok(inverses) => inverses,
-        Err(at) => {
-            return Err(FriError::OpeningPointMatchesQueryPoint {
-                batch: at.batch,
-                matrix: at.matrix,
-                point: at.point,
-            });
-        },
-    };
-    let summed = all_openings(
+    sum_inputs(
         alloc,
         log_blowup,
         log_global_max_height,
         indices,
+        input_openings,
         alpha,
         claims,
-        input_openings,
-        &inverses,
-    )?;
-    match summed {
-        Some(openings) => Ok(openings),
-        None => Err(FriError::FinalPolyMismatch),
-    }
+    )
 }

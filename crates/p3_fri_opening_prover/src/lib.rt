@@ -10,3 +10,4 @@ mod seeded;
 mod words;
 
 pub use crate::open::{open_requests, open_rounds};
+pub use p3_fri_prover::prover::ProverDataWithOpeningPoints;

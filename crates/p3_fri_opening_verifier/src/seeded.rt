@@ -1,11 +1,19 @@
 //! The transcript around the test, once its seed is made.
 
-ghost use Rattle.std.specs.Prelude.{◌≡◌, ◌≢◌, ◌+◌, ◌<◌, ◌≤◌, ◌↔◌, Err, IsOk, IfErr, map};
+ghost use Rattle.std.specs.Prelude.{◌≡◌, ◌≢◌, ◌+◌, ◌<◌, ◌≤◌, ◌↔◌, Some, Err, true, IsTrue, map};
+ghost use Rattle.std.specs.Prelude.{IsOk, IfOk, IfErr, OnOk};
+ghost use Rattle.std.specs.List.{flat_map};
+ghost use Rattle.p3_challenger_core.specs.Run.{observed_all};
 ghost use Rattle.p3_challenger_fs.specs.Pattern.{turn_of};
 ghost use Rattle.p3_challenger_fs.specs.Separator.{seed_bytes, seed_turns};
-ghost use Rattle.p3_fri_pcs_transcript.specs.Counts.{counts_of_claims};
+ghost use Rattle.p3_fri_pcs_transcript.specs.Counts.{counts_of_claims, all_claimed};
+ghost use Rattle.p3_fri_pcs_transcript.specs.Failures.{BatchFailure};
+ghost use Rattle.p3_fri_pcs_transcript.specs.Replay.{shown_batch_replay};
 ghost use Rattle.p3_fri_pcs_transcript.specs.Shapes.{pcs_shape};
 ghost use Rattle.p3_fri_pcs_transcript.specs.Steps.{pcs_steps, pcs_stream};
+ghost use Rattle.p3_fri_pcs_transcript.specs.Turns.{bracket_turns};
+ghost use Rattle.p3_fri_pcs_transcript.specs.Views.{state_of, left_of, shape_of, Kept};
+ghost use Rattle.p3_fri_pcs_transcript.specs.Views.{AllClaimsLeft};
 ghost use Rattle.p3_fri_relation.specs.declared.error.FriError.TheVariants.{OutOfMemory};
 ghost use Rattle.p3_fri_relation.specs.Acceptance.{Accepts, AreCanonical};
 ghost use Rattle.p3_fri_relation.specs.Failures.{of_pcs_transcript};
@@ -13,7 +21,7 @@ ghost use Rattle.p3_fri_relation.specs.Faults.{StandsInScheme};
 ghost use Rattle.p3_fri_relation.specs.Views.{parameters_of, claims_of, proof_of};
 ghost use Rattle.p3_fri_opening_verifier.specs.Ends.{last_state};
 
-use p3_challenger_core::{CanObserve, FieldChallenger, GrindingChallenger};
+use p3_challenger_core::{CanObserve, FieldChallenger, GrindingChallenger, Plays};
 use p3_challenger_fs::Seed;
 use p3_field_core::{ExtensionField, TwoAdicField, TwoAdicMultiplicativeCoset};
 use p3_fri_folding::{FriFoldingStrategy, FriParameters};
@@ -31,6 +39,43 @@ fn refused<A, B>(failure: PcsTranscriptFailure) -> FriError<A, B>
     ensures { result ≡ of_pcs_transcript failure }
 {
     FriError::from(failure)
+}
+
+/// Absorbs what is claimed, of which there is as much as described, checks the proof of work, and
+/// draws the challenge that batches the openings. After a refusal only `abort` may follow.
+fn draw_alpha<
+    F: TwoAdicField,
+    EF: ExtensionField<F>,
+    C: FieldChallenger<F> + GrindingChallenger<Witness = F>,
+    Com,
+>(
+    transcript: &mut PcsVerifierTranscript<'_, C, F, EF>,
+    claims: &[CommitmentOpening<EF, Com, TwoAdicMultiplicativeCoset<F>>],
+    witness: F,
+) -> Result<EF, PcsTranscriptFailure>
+    requires no_step_played { AllClaimsLeft EF.DIMENSION transcript.old }
+    requires counts { counts_of_claims claims.now ≡ (shape_of transcript.old).counts }
+    requires at_most_max { (shape_of transcript.old).batch_pow_bits ≤ C.MAX_SAMPLE_BITS }
+    ensures kept { Kept transcript.old transcript.new }
+    ensures passes { let claimed = observed_all C.observed (state_of transcript.old)
+        (flat_map EF.coefficients (all_claimed claims.now)) in
+        IsOk result ↔ IsTrue (shown_batch_replay ⟦<C as Plays<F, EF, F>>⟧.moves
+        (shape_of transcript.old).batch_pow_bits claimed (Some witness)).passes }
+    ensures batch { let claimed = observed_all C.observed (state_of transcript.old)
+        (flat_map EF.coefficients (all_claimed claims.now)) in
+        IfOk result (λ alpha. shown_batch_replay ⟦<C as Plays<F, EF, F>>⟧.moves
+        (shape_of transcript.old).batch_pow_bits claimed (Some witness)
+        ≡ record { passes = true; alpha = alpha; state = state_of transcript.new }) }
+    ensures steps { OnOk result (left_of transcript.new ≡ bracket_turns) }
+    ensures failure { let claimed = observed_all C.observed (state_of transcript.old)
+        (flat_map EF.coefficients (all_claimed claims.now)) in
+        IfErr result (BatchFailure ⟦<C as Plays<F, EF, F>>⟧.moves
+        (shape_of transcript.old).batch_pow_bits claimed (Some witness)) }
+{
+    match transcript.claimed_openings(claims) {
+        Ok(()) => transcript.batch_phase(Some(witness)),
+        Err(failure) => Err(failure),
+    }
 }
 
 /// Replays the transcript of these claims, whose shape and seed were made, and verifies the
@@ -82,14 +127,7 @@ pub(crate) fn verify_seeded<
         (claims_of (λ d. d.log_size) claims.now) (proof_of proof.now) challenger.old) }
 {
     let mut transcript = PcsVerifierTranscript::<C, F, EF>::start(challenger, seed, shape);
-    match transcript.claimed_openings(claims) {
-        Ok(()) => {},
-        Err(failure) => {
-            transcript.abort();
-            return Err(refused(failure));
-        },
-    }
-    let alpha = match transcript.batch_phase(Some(proof.batch_pow_witness)) {
+    let alpha = match draw_alpha(&mut transcript, claims, proof.batch_pow_witness) {
         Ok(alpha) => alpha,
         Err(failure) => {
             transcript.abort();

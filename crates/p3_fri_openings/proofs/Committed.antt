@@ -1,6 +1,7 @@
--- The committed polynomials are the only ones, and their values are barycentric sums.
+-- The committed polynomials are one for each column and the only ones, and their values are
+-- barycentric sums.
 use Rattle.std.proofs.Common.{◌≡◌, ◌≢◌, ◌≤◌, ◌<◌, ℕ, ◌+◌, ◌/◌, ◌^◌, List, length, map, take, get_or, sym, ap, ap₂, ◌∙◌, arith}
-use Rattle.std.proofs.lemmas.List.{get_or-take, length-take-le}
+use Rattle.std.proofs.lemmas.List.{get_or-take, length-map, length-take-le}
 use Rattle.std.proofs.Math.Nat.{pow-le-pow_right}
 use Rattle.algebra.specs.Field.{IsField, IsHomomorphism, sub}
 use Rattle.algebra.specs.Polynomial.{val, tabulate, sum_below}
@@ -14,9 +15,20 @@ use Rattle.algebra.proofs.PolynomialProduct.{sum_below-equal}
 use Rattle.algebra.proofs.Words.{coset_words}
 use Rattle.algebra.proofs.PointTest.{off_smaller_coset}
 use Rattle.algebra.proofs.Barycentric.{barycentric_value}
+use Rattle.p3_matrix.specs.declared.dense.RowMajorMatrix.{RowMajorMatrix}
+use Rattle.p3_matrix.specs.Matrix.{matrix_width}
+use Rattle.p3_dft.specs.Evaluations.{column}
 use Rattle.p3_fri_relation.specs.Setting.{Fields}
-use Rattle.p3_fri_openings.specs.Committed.{coset_of, committed_column}
+use Rattle.p3_fri_openings.specs.Committed.{coset_of, committed, committed_column, committed_values}
 use Rattle.p3_fri_openings.proofs.Log2.{log2-pow, pow-divided}
+
+-- at a point there are as many values as the matrix has columns
+pub width_of_values : {F E : Type 0} (f : Fields F E) (log_blowup : ℕ) (matrix : RowMajorMatrix F)
+    (z : E) → length (committed_values f log_blowup matrix z) ≡ matrix_width matrix
+width_of_values f log_blowup matrix z =
+    length-map (committed f log_blowup matrix) (λ c. val f.ext (map f.lift c) z)
+    ∙ length-tabulate (matrix_width matrix)
+    (λ j. committed_column f log_blowup (column f.base matrix j))
 
 -- the points of a coset by its log size
 pub coset_of_pow : {F E : Type 0} (f : Fields F E) (k : ℕ)

@@ -12,7 +12,6 @@ use Rattle.p3_challenger_fs.specs.StreamLaws.{FitsNumber, FitsText}
 use Rattle.p3_challenger_fs.proofs.Streams.{FitsWhole, cons_equal}
 use Rattle.p3_challenger_fs.proofs.Streams.{number_injective}
 use Rattle.p3_fri_pow.specs.Steps.{pow_steps}
-use Rattle.algebra.proofs.Lists.{head_eq, tail_eq}
 
 abbrev pub pow_step : List ℕ → ℕ → Step
 pow_step label bits = record { hierarchy = Atomic; kind = Pow; type_tag = Algebra 1; label = label; length = Fixed bits }
@@ -29,12 +28,12 @@ kind_equal s t e = ap (λ (x : Step). x.kind) e
 pub pow_determined : (label : List ℕ) (m n : ℕ) (x y : Step) (u v : List Step)
     → x.kind ≡ Challenge → y.kind ≡ Challenge
     → pow_steps label m ++ x ∷ u ≡ pow_steps label n ++ y ∷ v → (m ≡ n) × (x ≡ y) × (u ≡ v)
-pow_determined label zero zero x y u v k l e = (refl, head_eq e, tail_eq e)
-pow_determined label zero (suc n) x y u v k l e = let h = kind_equal x (pow_step label (suc n)) (head_eq e) in absurd cc
-pow_determined label (suc m) zero x y u v k l e = let h = kind_equal (pow_step label (suc m)) y (head_eq e) in absurd cc
+pow_determined label zero zero x y u v k l e = (refl, cc, cc)
+pow_determined label zero (suc n) x y u v k l e = let h = kind_equal x (pow_step label (suc n)) cc in absurd cc
+pow_determined label (suc m) zero x y u v k l e = let h = kind_equal (pow_step label (suc m)) y cc in absurd cc
 pow_determined label (suc m) (suc n) x y u v k l e =
-    let rest = tail_eq e in
-    (count_equal (pow_step label (suc m)) (pow_step label (suc n)) (suc m) (suc n) (head_eq e) refl refl, head_eq rest, tail_eq rest)
+    let same : pow_step label (suc m) ≡ pow_step label (suc n) = cc in
+    (count_equal (pow_step label (suc m)) (pow_step label (suc n)) (suc m) (suc n) same refl refl, cc, cc)
 
 pub pow_fits : (label : List ℕ) (bits : ℕ) → FitsText label → FitsNumber bits
     → All FitsWhole (pow_steps label bits)
@@ -53,5 +52,5 @@ labels_determined [] [] p q e = refl
 labels_determined [] (y ∷ ys) p q e = absurd cc
 labels_determined (x ∷ xs) [] p q e = absurd cc
 labels_determined (x ∷ xs) (y ∷ ys) p q e =
-    cons_equal x y xs ys (number_injective x y (All-head FitsNumber x xs p) (All-head FitsNumber y ys q) (head_eq e))
-    (labels_determined xs ys (All-tail FitsNumber x xs p) (All-tail FitsNumber y ys q) (tail_eq e))
+    cons_equal x y xs ys (number_injective x y (All-head FitsNumber x xs p) (All-head FitsNumber y ys q) cc)
+    (labels_determined xs ys (All-tail FitsNumber x xs p) (All-tail FitsNumber y ys q) cc)

@@ -99,11 +99,11 @@ module _ {F E C Com Path InCom InPath Data X : Type 0}
 
   same_betas : betas ≡ committed_rounds.betas
   same_betas = replayed_betas s p heights top inputs c proof seeded played.reached last
-      committed_rounds.betas indices start committed_rounds.replay played.queries
+      committed_rounds.betas indices start committed_rounds.replay played.ended.queries
 
   same_places : places ≡ ps
   same_places = replayed_positions s p heights top inputs c proof seeded played.reached last
-      committed_rounds.betas indices start committed_rounds.replay played.queries ps shifted
+      committed_rounds.betas indices start committed_rounds.replay played.ended.queries ps shifted
 
   drawn : length betas ≡ length arities
   drawn = ap length same_betas ∙ committed_rounds.drawn
@@ -111,12 +111,12 @@ module _ {F E C Com Path InCom InPath Data X : Type 0}
   many : length places ≡ p.num_queries
   many = ap length same_places
       ∙ positions_many (fri_numbers p heights top s.extra_bits) top s.extra_bits indices ps refl
-      played.drawn shifted
+      played.ended.drawn shifted
 
   below : (j : ℕ) → j < length places → get_or places j 0 < 2 ^ top
   below = subst (λ qs. (j : ℕ) → j < length qs → get_or qs j 0 < 2 ^ top) (sym same_places)
       (λ j l. positions_below (fri_numbers p heights top s.extra_bits) top s.extra_bits indices ps
-      refl played.drawn shifted j 0 l)
+      refl played.ended.drawn shifted j 0 l)
 
   keeps : KeepWords committed commitment_of arities folded_words proof.commitments kept
   keeps = subst (λ bs. KeepWords committed commitment_of arities
@@ -203,7 +203,7 @@ module _ {F E C Com Path InCom InPath Data X : Type 0}
     final_length : length proof.final_poly ≡ 2 ^ p.log_final_poly_len
     final_length =
         let some = some_height top inputs are_inputs heights have in
-        ap length played.polynomial
+        ap length played.ended.polynomial
         ∙ length-final_polynomial s.fields.ext ext s.fields.two_adicity lifted
         (lifted_roots s.fields.base s.fields.ext s.fields.lift base ext lifts s.fields.two_adicity
         s.fields.root roots) p.log_final_poly_len played.word
@@ -227,7 +227,7 @@ module _ {F E C Com Path InCom InPath Data X : Type 0}
     final : proof.final_poly ≡ final_polynomial s.fields.ext lifted p.log_final_poly_len
         (after_rounds s.fields.ext s.fold (input_of heights inputs) top (rounds_of arities betas)
         first)
-    final = played.polynomial
+    final = played.ended.polynomial
         ∙ ap (λ word. final_polynomial s.fields.ext lifted p.log_final_poly_len word)
         (committed_rounds.last_word
         ∙ ap (λ bs. after_rounds s.fields.ext s.fold (input_of heights inputs) top
@@ -259,12 +259,12 @@ module _ {F E C Com Path InCom InPath Data X : Type 0}
             committed_rounds.found;
         query = sent_zero s.fields.base.zero solution
             (polynomial_observed s.moves.observe_value s.fields.coefficients played.reached
-            proof.final_poly) p.query_pow_bits proof.query_witness played.found;
+            proof.final_poly) p.query_pow_bits proof.query_witness played.ended.found;
       };
       passes = replayed_passes s p heights top inputs c proof seeded played.reached last
-          committed_rounds.betas indices start committed_rounds.replay played.queries;
+          committed_rounds.betas indices start committed_rounds.replay played.ended.queries;
       state = replayed_state s p heights top inputs c proof seeded played.reached last
-          committed_rounds.betas indices start committed_rounds.replay played.queries;
+          committed_rounds.betas indices start committed_rounds.replay played.ended.queries;
       rounds_open = rounds_open s p heights top inputs c proof drawn whole within below many counted
           committed_rounds.commitments_made siblings opened;
       chains_end = ends;

@@ -96,7 +96,7 @@ module _ {F E C Com Path InCom InPath Data : Type 0}
     pub positions_of_proof : positions s p heights top inputs c proof ≡ places extra indices
     positions_of_proof =
         replayed_positions s p heights top inputs c proof seeded made.played.reached last
-        made.played.rounds.betas indices refl made.played.rounds.replay made.played.queries
+        made.played.rounds.betas indices refl made.played.rounds.replay made.played.ended.queries
         (places extra indices) shifted
 
     -- all that was proved

@@ -1,5 +1,5 @@
 -- What a plan gives: the conditions of what is played by it, and of what is opened then.
-use Rattle.std.proofs.Common.{◌≡◌, ℕ, ◌/◌, ◌^◌, ◌<◌, ◌≤◌, List, [], length, get_or, map, sym, ap}
+use Rattle.std.proofs.Common.{◌≡◌, ℕ, ◌+◌, ◌/◌, ◌^◌, ◌<◌, ◌≤◌, List, [], length, get_or, map, sym, ap}
 use Rattle.std.proofs.Common.{Option, ◌∙◌, subst, refl}
 use Rattle.std.specs.Prelude.{All}
 use Rattle.p3_matrix.specs.declared.dense.RowMajorMatrix.{RowMajorMatrix}
@@ -9,7 +9,7 @@ use Rattle.p3_fri_relation.specs.Setting.{Fields, Parameters}
 use Rattle.p3_fri_relation.specs.TallEnough.{IsTallEnough}
 use Rattle.p3_fri_prover.specs.Inputs.{HaveHeights, AreInputs}
 use Rattle.p3_fri_prover.specs.Openings.{IsOpenable}
-use Rattle.p3_fri_prover.specs.Played.{CanPlay, IsPlayed}
+use Rattle.p3_fri_prover.specs.Played.{CanPlay, Describes, IsPlayed}
 use Rattle.p3_fri_prover.specs.Proved.{log_arities, fri_numbers}
 use Rattle.p3_fri_prover.proofs.Inputs.{first_word}
 use Rattle.p3_fri_prover.proofs.Schedules.{arities_positive, arities_below_64, arities_playable}
@@ -47,9 +47,6 @@ module _ {E : Type 0} {p : Parameters} {top extra : ℕ} {inputs : List (List E)
   pub is_numbers : numbers ≡ fri_numbers p plan.are.heights top extra
   is_numbers = plan.described plan.are.heights plan.are.have
 
-  pub scheduled_by_numbers : arities ≡ numbers.log_arities
-  scheduled_by_numbers = here ∙ sym (ap (λ (n : FriNumbers). n.log_arities) is_numbers)
-
   pub planned_positive : All (λ a. 0 < a) arities
   planned_positive = subst (λ xs. All (λ a. 0 < a) xs) (sym here)
       (arities_positive p plan.are.heights top plan.are.falling plan.are.first plan.capped)
@@ -71,6 +68,19 @@ module _ {E : Type 0} {p : Parameters} {top extra : ℕ} {inputs : List (List E)
       final_polynomial_within p plan.are.heights top plan.are.falling plan.are.first plan.are.some
       (plan.tall plan.are.heights plan.are.have) bound small
 
+  pub planned_description : (max_bits : ℕ) → p.commit_pow_bits ≤ max_bits
+      → p.query_pow_bits ≤ max_bits → top + extra ≤ max_bits
+      → Describes numbers arities p.log_final_poly_len max_bits
+  planned_description max_bits commit query index =
+      subst (λ (n : FriNumbers). Describes n arities p.log_final_poly_len max_bits) (sym is_numbers)
+      (record {
+        schedule = here;
+        final_poly_len = refl;
+        commit_bits = commit;
+        query_bits = query;
+        index_bits = index;
+      })
+
   -- what was played by it
   module _ {F C Com Data : Type 0} {committed : Data → List (RowMajorMatrix E)}
       {commitment_of : Data → Com} {fields : Fields F E} {fold : ℕ → ℕ → ℕ → E → List E → E}
@@ -82,7 +92,7 @@ module _ {E : Type 0} {p : Parameters} {top extra : ℕ} {inputs : List (List E)
     pub planned_positions : All (λ q. q < 2 ^ top) (places extra indices)
     planned_positions =
         positions_below numbers top extra indices (places extra indices)
-        (ap (λ (n : FriNumbers). n.index_bits) is_numbers) played.drawn refl
+        (ap (λ (n : FriNumbers). n.index_bits) is_numbers) played.ended.drawn refl
 
     pub planned_data : length kept ≡ length arities
     planned_data = played.rounds.data_kept

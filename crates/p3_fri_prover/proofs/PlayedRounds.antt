@@ -53,7 +53,7 @@ module _ {F E C Com Data : Type 0} (committed : Data → List (RowMajorMatrix E)
   -- at each place
   pub position_below : (j : ℕ) → j < length ps → get_or ps j 0 < 2 ^ top
   position_below j l =
-      positions_below (fri_numbers p heights top extra) top extra indices ps refl played.drawn
+      positions_below (fri_numbers p heights top extra) top extra indices ps refl played.ended.drawn
       shifted j 0 l
 
   -- the rounds can be opened

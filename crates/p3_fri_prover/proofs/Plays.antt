@@ -1,28 +1,27 @@
 -- A test that was played, put together from its rounds and its queries.
-use Rattle.std.proofs.Common.{◌≡◌, ◌≢◌, ◌⊎◌, inl, inr, ℕ, zero, suc, ◌+◌, ◌-◌, ◌^◌, ◌<◌, ◌≤◌}
-use Rattle.std.proofs.Common.{true, List, [], ◌∷◌, length, get_or, sum, remove, Option, Some, IsSome}
-use Rattle.std.proofs.Common.{unwrap_or, refl, sym, ap, ◌∙◌, arith, subst}
+use Rattle.std.proofs.Common.{◌≡◌, ◌⊎◌, inl, inr, ℕ, zero, suc, ◌+◌, ◌-◌, ◌^◌, ◌<◌, ◌≤◌}
+use Rattle.std.proofs.Common.{List, [], ◌∷◌, length, get_or, sum, remove, Option, Some}
+use Rattle.std.proofs.Common.{refl, sym, ap, ◌∙◌, arith, subst}
 use Rattle.std.specs.declared.vec.Vec.{Vec}
 use Rattle.std.specs.Vec.{vec_len}
 use Rattle.std.proofs.Math.Pow.{pow_mono}
 use Rattle.algebra.specs.Nested.{lists}
 use Rattle.p3_matrix.specs.declared.dense.RowMajorMatrix.{RowMajorMatrix}
-use Rattle.p3_challenger_core.specs.Run.{After, Moves}
+use Rattle.p3_challenger_core.specs.Run.{After, Moves, moves}
 use Rattle.p3_fri_pow.specs.declared.error.FriProverError.{FriProverError}
 use Rattle.p3_fri_pow.specs.declared.error.FriProverError.TheVariants as Why
 use Rattle.p3_fri_pow.specs.declared.pow_phase.PowPhase.TheVariants.{Batch, CommitPhase, Query}
-use Rattle.p3_fri_pow.specs.Pow.{found_witness, sent_witness, NonePasses}
-use Rattle.p3_fri_pow.proofs.Found.{sent_is}
-use Rattle.p3_fri_transcript.specs.Indices.{AreIndices}
-use Rattle.p3_fri_transcript.specs.Replay.{RoundsReplay, rounds_replay, shown_queries_replay}
+use Rattle.p3_fri_pow.specs.Pow.{NonePasses}
+use Rattle.p3_fri_transcript.specs.Replay.{RoundsReplay, rounds_replay}
 use Rattle.p3_fri_transcript.specs.Replay.{polynomial_observed}
 use Rattle.p3_fri_transcript.specs.Steps.{FriNumbers}
+use Rattle.p3_fri_transcript.proofs.Replays.{queries_any}
 use Rattle.p3_fri_relation.specs.Setting.{Fields}
 use Rattle.p3_fri_prover.specs.Inputs.{of_length}
 use Rattle.p3_fri_prover.specs.Refusals.{RoundsRefusal}
 use Rattle.p3_fri_prover.specs.Rounds.{CanFold, AreCommitted, NoRoundWitness}
 use Rattle.p3_fri_prover.specs.Played.{CanPlay, AllCommitted, IsPlayed, PlayRefusal}
-use Rattle.p3_fri_prover.specs.Played.{polynomial_of}
+use Rattle.p3_fri_prover.specs.Played.{polynomial_of, AreQueriesPlayed, QueriesRefusal}
 use Rattle.p3_fri_prover.proofs.Committed.{word_so_far}
 use Rattle.p3_fri_prover.proofs.Lists.{list_at}
 
@@ -147,28 +146,18 @@ module _ {F E C Com Data : Type 0} {committed : Data → List (RowMajorMatrix E)
       )
 
   -- a refusal of the queries after them is one of the test
-  pub queries_stop : (final_poly : List E) (own : FriNumbers) (e : FriProverError)
-      → final_poly ≡ polynomial_of committed commitment_of fields fold m l numbers top words seeded
-      word
-      → own ≡ numbers
-      → (e ≡ Why.NoPowWitness Query) ⊎ (e ≡ Why.OutOfMemory)
-      → (e ≡ Why.NoPowWitness Query → NonePasses m.observe_value m.draw_bits
-      (polynomial_observed m.observe_value fields.coefficients reached final_poly)
-      own.query_pow_bits)
+  pub queries_stop : (own : FriNumbers) (e : FriProverError) → own ≡ numbers
+      → QueriesRefusal fields m l own word reached e
       → PlayRefusal committed commitment_of fields fold m l numbers top words seeded solution e
-  queries_stop final_poly own e is_polynomial same (inl is) none =
-      let P : FriProverError → Type 0 =
-      λ x. PlayRefusal committed commitment_of fields fold m l numbers top words seeded solution x in
-      let N : C → List E → FriNumbers → Type 0 =
-      λ c poly n. NonePasses m.observe_value m.draw_bits
-      (polynomial_observed m.observe_value fields.coefficients c poly) n.query_pow_bits in
-      let polynomial =
-      polynomial_of committed commitment_of fields fold m l numbers top words seeded word in
-      let none_passes = subst (λ poly. N reached poly numbers) is_polynomial
-      (subst (λ n. N reached final_poly n) same (none is)) in
-      subst P (sym is) (
+  queries_stop own (Why.NoPowWitness Query) same refused =
+      let N : C → FriNumbers → Type 0 =
+      λ c n. NonePasses m.observe_value m.draw_bits
+      (polynomial_observed m.observe_value fields.coefficients c (polynomial_of fields l word))
+      n.query_pow_bits in
+      let none_passes : N reached numbers = subst (N reached) same refused in (
         bits_asked m.observe_value m.draw_bits
-            (polynomial_observed m.observe_value fields.coefficients reached polynomial)
+            (polynomial_observed m.observe_value fields.coefficients reached
+            (polynomial_of fields l word))
             numbers.query_pow_bits fields.base.zero none_passes,
         record {
           commitments = commitments;
@@ -180,47 +169,65 @@ module _ {F E C Com Data : Type 0} {committed : Data → List (RowMajorMatrix E)
             count = rounds.witnesses_found ∙ sym rounds.commitments_made;
             found = rounds.found;
             passes = ap (λ (r : RoundsReplay _ _). r.passes) rounds.replay;
-            none_passes = subst (λ c. N c polynomial numbers)
+            none_passes = subst (λ c. N c numbers)
                 (sym (ap (λ (r : RoundsReplay _ _). r.state) rounds.replay)) none_passes;
           };
           rounds = rounds;
         },
       )
-  queries_stop final_poly own e is_polynomial same (inr is) none =
-      let P : FriProverError → Type 0 =
-      λ x. PlayRefusal committed commitment_of fields fold m l numbers top words seeded solution x in
-      subst P (sym is) tt
+  queries_stop own (Why.NoPowWitness Batch) same refused = absurd refused
+  queries_stop own (Why.NoPowWitness CommitPhase) same refused = absurd refused
+  queries_stop own (Why.InputHeightTooSmall _ _) same refused = absurd refused
+  queries_stop own Why.FinalHeightOverflow same refused = absurd refused
+  queries_stop own Why.OutOfMemory same refused = tt
+  queries_stop own (Why.PointInEvaluationDomain _ _ _) same refused = absurd refused
 
-  -- what was found at the queries ends the test
-  pub played_to_end : (drawn : Option F) (final_poly : List E) (witness : F) (indices : List ℕ)
-      (last : C) (own : FriNumbers)
-      → final_poly ≡ polynomial_of committed commitment_of fields fold m l numbers top words seeded
-      word
-      → own ≡ numbers
-      → shown_queries_replay m fields.coefficients own reached final_poly (Some witness)
-      ≡ record { passes = true; indices = indices; state = last }
-      → AreIndices own indices
-      → drawn ≡ found_witness solution
-      (polynomial_observed m.observe_value fields.coefficients reached final_poly)
-      own.query_pow_bits
-      → (own.query_pow_bits ≢ 0 → IsSome drawn)
-      → witness ≡ unwrap_or drawn fields.base.zero
+  -- the queries after them end the test
+  pub played_to_end : {final_poly : List E} {witness : F} {indices : List ℕ} {last : C}
+      (own : FriNumbers) → own ≡ numbers
+      → AreQueriesPlayed fields m l own word reached solution final_poly witness indices last
       → IsPlayed committed commitment_of fields fold m l numbers top words seeded solution
       commitments witnesses kept final_poly witness indices last
-  played_to_end drawn final_poly witness indices last own is_polynomial same queries drawn_indices
-      is_drawn some sent = record {
-        word = word;
-        reached = reached;
-        rounds = rounds;
-        polynomial = is_polynomial;
-        queries = subst (λ n. shown_queries_replay m fields.coefficients n reached final_poly
-            (Some witness) ≡ record { passes = true; indices = indices; state = last }) same
-            queries;
-        drawn = subst (λ n. AreIndices n indices) same drawn_indices;
-        found = ap (λ (n : FriNumbers). sent_witness fields.base.zero solution
-            (polynomial_observed m.observe_value fields.coefficients reached final_poly)
-            n.query_pow_bits) (sym same)
-            ∙ sent_is fields.base.zero solution
-            (polynomial_observed m.observe_value fields.coefficients reached final_poly)
-            own.query_pow_bits drawn is_drawn some ∙ ap Some (sym sent);
-      }
+  played_to_end {final_poly} {witness} {indices} {last} own same ended = record {
+    word = word;
+    reached = reached;
+    rounds = rounds;
+    ended = subst (λ n. AreQueriesPlayed fields m l n word reached solution final_poly witness
+        indices last) same ended;
+  }
+
+module _ {F E C A B : Type 0} (fields : Fields F E) (l : ℕ) (numbers : FriNumbers) (word : List E)
+    (reached : C) (observe : C → F → C) (first : C → A → C) (second : C → B → C)
+    (draw : C → After C F) (of_coefficients : List F → E) (dimension : ℕ)
+    (draw_bits : C → ℕ → After C ℕ) where
+  -- the queries don't look at how commitments are observed
+  pub queries_alike : {solution : C → ℕ → Option F} {final_poly : List E} {witness : F}
+      {indices : List ℕ} {last : C}
+      → AreQueriesPlayed fields (moves observe first draw of_coefficients dimension draw_bits) l
+      numbers word reached solution final_poly witness indices last
+      → AreQueriesPlayed fields (moves observe second draw of_coefficients dimension draw_bits) l
+      numbers word reached solution final_poly witness indices last
+  queries_alike {final_poly = poly} {witness} ended = record {
+    polynomial = ended.polynomial;
+    queries = queries_any observe second first draw of_coefficients dimension draw_bits
+        fields.coefficients numbers reached poly (Some witness) ∙ ended.queries;
+    drawn = ended.drawn;
+    found = ended.found;
+  }
+
+-- what a call refused, on the final polynomial of the word
+pub queries_refused : {F E C Com : Type 0} (fields : Fields F E) (m : Moves C F E Com) (l : ℕ)
+    (numbers : FriNumbers) (word : List E) (reached : C) (final_poly : List E) (e : FriProverError)
+    → final_poly ≡ polynomial_of fields l word
+    → (e ≡ Why.NoPowWitness Query) ⊎ (e ≡ Why.OutOfMemory)
+    → (e ≡ Why.NoPowWitness Query → NonePasses m.observe_value m.draw_bits
+    (polynomial_observed m.observe_value fields.coefficients reached final_poly)
+    numbers.query_pow_bits)
+    → QueriesRefusal fields m l numbers word reached e
+queries_refused fields m l numbers word reached final_poly e is_polynomial (inl is) none =
+    subst (QueriesRefusal fields m l numbers word reached) (sym is)
+    (subst (λ poly. NonePasses m.observe_value m.draw_bits
+    (polynomial_observed m.observe_value fields.coefficients reached poly) numbers.query_pow_bits)
+    is_polynomial (none is))
+queries_refused fields m l numbers word reached final_poly e is_polynomial (inr is) none =
+    subst (QueriesRefusal fields m l numbers word reached) (sym is) tt

@@ -7,7 +7,7 @@ use Rattle.p3_challenger_core.specs.Run.{Moves}
 use Rattle.p3_fri_pow.specs.declared.error.FriProverError.{FriProverError}
 use Rattle.p3_fri_pow.specs.declared.error.FriProverError.TheVariants.{NoPowWitness, OutOfMemory}
 use Rattle.p3_fri_pow.specs.declared.pow_phase.PowPhase.TheVariants.{CommitPhase, Query}
-use Rattle.p3_fri_pow.specs.Pow.{sent_witness}
+use Rattle.p3_fri_pow.specs.Pow.{sent_witness, NonePasses}
 use Rattle.p3_fri_transcript.specs.Found.{QueryNotFound}
 use Rattle.p3_fri_transcript.specs.Indices.{AreIndices}
 use Rattle.p3_fri_transcript.specs.Replay.{shown_queries_replay, polynomial_observed}
@@ -24,6 +24,45 @@ pub record CanPlay (log_arities : List ℕ) (log_final_poly_len most len : ℕ) 
   pub within : height + sum log_arities ≤ most
   pub long_enough : log_final_poly_len ≤ height
 
+-- the numbers that a transcript is bound to are those of rounds of these log arities, and of a
+-- final polynomial of `2^log_final_poly_len` coefficients, and no step draws more bits at once
+pub record Describes (numbers : FriNumbers) (log_arities : List ℕ)
+    (log_final_poly_len max_sample_bits : ℕ) : Type 0 where
+  pub schedule : log_arities ≡ numbers.log_arities
+  pub final_poly_len : numbers.final_poly_len ≡ 2 ^ log_final_poly_len
+  pub commit_bits : numbers.commit_pow_bits ≤ max_sample_bits
+  pub query_bits : numbers.query_pow_bits ≤ max_sample_bits
+  pub index_bits : numbers.index_bits ≤ max_sample_bits
+
+-- the final polynomial of a word
+abbrev pub polynomial_of : {F E : Type 0} → Fields F E → (log_final_poly_len : ℕ) → List E → List E
+polynomial_of fields log_final_poly_len word =
+    final_polynomial fields.ext (λ k. fields.lift (fields.root k)) log_final_poly_len word
+
+-- where `numbers` are those that the transcript is bound to, `word` is the word after the rounds,
+-- and `reached` the challenger's state then
+module _ {F E C Com : Type 0} (fields : Fields F E) (m : Moves C F E Com)
+    (log_final_poly_len : ℕ) (numbers : FriNumbers) (word : List E) (reached : C) where
+  -- the queries were played on the final polynomial of the word, by the witness that the search
+  -- `solution` gives: they led to the state `last`
+  pub record AreQueriesPlayed (solution : C → ℕ → Option F) (final_poly : List E)
+      (query_witness : F) (indices : List ℕ) (last : C) : Type 0 where
+    pub polynomial : final_poly ≡ polynomial_of fields log_final_poly_len word
+    pub queries : shown_queries_replay m fields.coefficients numbers reached final_poly
+        (Some query_witness) ≡ record { passes = true; indices = indices; state = last }
+    pub drawn : AreIndices numbers indices
+    pub found : sent_witness fields.base.zero solution
+        (polynomial_observed m.observe_value fields.coefficients reached final_poly)
+        numbers.query_pow_bits ≡ Some query_witness
+
+  -- why they weren't: no witness passes, or for want of memory
+  abbrev pub QueriesRefusal : FriProverError → Type 0
+  QueriesRefusal (NoPowWitness Query) = NonePasses m.observe_value m.draw_bits
+      (polynomial_observed m.observe_value fields.coefficients reached
+      (polynomial_of fields log_final_poly_len word)) numbers.query_pow_bits
+  QueriesRefusal OutOfMemory = ⊤
+  QueriesRefusal _ = ⊥
+
 -- where `numbers` are those that the transcript is bound to, `words` the inputs, the first of log
 -- height `top`, and `seeded` the challenger's state once it has absorbed the seed's stream, before
 -- the first round
@@ -38,10 +77,6 @@ module _ {F E C Com Data : Type 0} (committed : Data → List (RowMajorMatrix E)
   -- the words that are rolled in: all others
   abbrev pub further_words : ℕ → Option (List E)
   further_words k = of_length (remove words 0) (2 ^ k)
-
-  abbrev pub polynomial_of : (word : List E) → List E
-  polynomial_of word =
-      final_polynomial fields.ext (λ k. fields.lift (fields.root k)) log_final_poly_len word
 
   -- by the witnesses that the search `solution` gives
   module _ (solution : C → ℕ → Option F) where
@@ -60,13 +95,8 @@ module _ {F E C Com Data : Type 0} (committed : Data → List (RowMajorMatrix E)
       pub word : List E
       pub reached : C
       pub rounds : AllCommitted commitments witnesses kept word reached
-      pub polynomial : final_poly ≡ polynomial_of word
-      pub queries : shown_queries_replay m fields.coefficients numbers reached final_poly
-          (Some query_witness) ≡ record { passes = true; indices = indices; state = last }
-      pub drawn : AreIndices numbers indices
-      pub found : sent_witness fields.base.zero solution
-          (polynomial_observed m.observe_value fields.coefficients reached final_poly)
-          numbers.query_pow_bits ≡ Some query_witness
+      pub ended : AreQueriesPlayed fields m log_final_poly_len numbers word reached solution
+          final_poly query_witness indices last
 
     -- all rounds were played, and no witness is found after the final polynomial of the word then
     pub record NoQueryWitness : Type 0 where
@@ -75,7 +105,7 @@ module _ {F E C Com Data : Type 0} (committed : Data → List (RowMajorMatrix E)
       pub word : List E
       pub reached : C
       pub stops : QueryNotFound m fields.base.zero solution fields.coefficients numbers seeded
-          commitments (polynomial_of word)
+          commitments (polynomial_of fields log_final_poly_len word)
       pub rounds : AllCommitted commitments stops.witnesses kept word reached
 
     -- why it wasn't played to the end: a proof of work was asked for, and no witness passes, or for

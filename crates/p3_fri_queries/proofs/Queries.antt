@@ -1,8 +1,8 @@
 -- The queries that are folded so far.
 use Rattle.std.proofs.Common.{◌≡◌, ◌≢◌, ◌↔◌, ◌⊎◌, inl, inr, ℕ, ◌+◌, ◌/◌, ◌^◌, ◌<◌, List, [], ◌∷◌}
 use Rattle.std.proofs.Common.{length, map, get_or, ap, ap₂, sym, subst, ◌∙◌, zero-add, arith}
-use Rattle.std.proofs.Common.{below_none, below_more, Result, Err}
-use Rattle.std.specs.Prelude.{sum, slice_index, EachIndex, SomeIndex, IsOk, IsErr, IsErrAnd, IfErr}
+use Rattle.std.proofs.Common.{below_none, below_more}
+use Rattle.std.specs.Prelude.{sum, slice_index, EachIndex, SomeIndex, IsOk}
 use Rattle.std.specs.List.{enumerate_from}
 use Rattle.std.proofs.Math.ListN.{get_or-map}
 use Rattle.std.proofs.lemmas.List.{length-map}
@@ -26,8 +26,7 @@ use Rattle.p3_fri_queries.specs.Folded.{query_at, EndsAtFinal, indices_folded, r
 use Rattle.p3_fri_relation.proofs.ZippedLists.{gathered, gathered-next}
 use Rattle.p3_fri_relation.proofs.QueryLinks.{length-row_indices}
 use Rattle.p3_fri_queries.proofs.Gains.{tabulated}
-use Rattle.p3_fri_query.proofs.Refusals.{handed_on, refused}
-use Rattle.p3_fri_queries.proofs.Refusals.{handed_on_as}
+use Rattle.p3_fri_queries.proofs.Refusals.{failed, not_ok}
 use Rattle.p3_fri_queries.proofs.Lengths.{folded_all}
 
 -- collectors without a row
@@ -191,37 +190,33 @@ module _ {F E : Type 0} {f : Fields F E} {fold : ℕ → ℕ → ℕ → E → L
       (λ j _. get_or-map (λ (row : List E). row ∷ []) (group_rows (q j) f.ext fold) k []))
       ∙ ap (λ (m : ℕ). rows_folded f.ext fold (length log_arities) m q) e
 
--- a refusal at one query, handed on
+-- a refusal at one query
 module _ {F E : Type 0} (f : Fields F E) (fold : ℕ → ℕ → ℕ → E → List E → E) (final_poly : List E)
     {positions : List ℕ} {q : ℕ → QueryInput E} {n query : ℕ} {here : QueryInput E}
-    (next : IsNext positions q n query here) {T A B : Type 0} (r : Result T (FriError A B))
-    (e : FriError A B) (is_err : IsErr r × IsErrAnd r (λ x. x ≡ e))
+    (next : IsNext positions q n query here) {A B : Type 0} (e : FriError A B)
     (fault : (e ≡ OutOfMemory) ⊎ ((e ≡ FinalPolyMismatch) × (¬ EndsAtFinal f fold final_poly here)))
   where
-    pub refused_each : r ≢ Err OutOfMemory
-        → IsOk r ↔ EachIndex positions (λ j. EndsAtFinal f fold final_poly (q j))
-    refused_each memory = (
-      λ is_ok. absurd (refused r is_err.0 is_ok),
+    pub refused_each : (T : Type 0) → failed T e ≢ failed T OutOfMemory
+        → IsOk (failed T e) ↔ EachIndex positions (λ j. EndsAtFinal f fold final_poly (q j))
+    refused_each T memory = (
+      λ is_ok. absurd (not_ok is_ok),
       λ each. absurd (elim fault [
-        | inl out ↦ memory (handed_on_as r e OutOfMemory is_err out)
+        | inl out ↦ memory (ap (λ x. failed T x) out)
         | inr wrong ↦ wrong.1 (subst (λ (p : QueryInput E). EndsAtFinal f fold final_poly p)
             (sym next.is) (each n next.below))
       ]),
     )
 
-    pub refused_some : IfErr r (λ x. (x ≡ OutOfMemory) ⊎ ((x ≡ FinalPolyMismatch)
-        × SomeIndex positions (λ j. ¬ EndsAtFinal f fold final_poly (q j))))
-    refused_some =
-        let Fault : FriError A B → Type 0 = λ x. (x ≡ OutOfMemory) ⊎ ((x ≡ FinalPolyMismatch)
-        × SomeIndex positions (λ j. ¬ EndsAtFinal f fold final_poly (q j))) in
-        handed_on Fault r e is_err (elim fault as (λ _. Fault e) [
-          | inl out ↦ inl out
-          | inr wrong ↦ inr (
-            wrong.0,
-            (
-              n,
-              next.below,
-              subst (λ (p : QueryInput E). ¬ EndsAtFinal f fold final_poly p) next.is wrong.1,
-            ),
-          )
-        ])
+    pub refused_some : (e ≡ OutOfMemory) ⊎ ((e ≡ FinalPolyMismatch)
+        × SomeIndex positions (λ j. ¬ EndsAtFinal f fold final_poly (q j)))
+    refused_some = elim fault [
+      | inl out ↦ inl out
+      | inr wrong ↦ inr (
+        wrong.0,
+        (
+          n,
+          next.below,
+          subst (λ (p : QueryInput E). ¬ EndsAtFinal f fold final_poly p) next.is wrong.1,
+        ),
+      )
+    ]

@@ -92,7 +92,7 @@ fn fold_to_final<F: TwoAdicField, EF: ExtensionField<F>, M: Mmcs<EF>, S: FriFold
         (map (λ row. row ∷ []) (group_rows q EF.ops (S.row_fold folding.now))) }
 {
     let mut index = position;
-    let value = fold_query(
+    let value = match fold_query(
         alloc,
         folding,
         query,
@@ -105,7 +105,10 @@ fn fold_to_final<F: TwoAdicField, EF: ExtensionField<F>, M: Mmcs<EF>, S: FriFold
         log_final_height,
         &mut folded.group_indices_by_round,
         &mut folded.rows_by_round,
-    )?;
+    ) {
+        Ok(value) => value,
+        Err(refusal) => return Err(refusal),
+    };
     if ends_at_final::<F, EF>(value, final_poly, index, log_final_height) {
         Ok(())
     } else {
@@ -166,9 +169,12 @@ pub fn fold_queries<
         ≡ rows_folded EF.ops (S.row_fold folding.now)
         (length log_arities.now) (length positions.now) q) }
 {
-    let mut folded = empty_collectors(alloc, log_arities.len())?;
+    let mut folded = match empty_collectors(alloc, log_arities.len()) {
+        Ok(folded) => folded,
+        Err(AllocError) => return Err(FriError::OutOfMemory),
+    };
     for (query, inputs) in reduced_openings.into_iter().enumerate() {
-        fold_to_final(
+        match fold_to_final(
             alloc,
             folding,
             query,
@@ -181,7 +187,10 @@ pub fn fold_queries<
             log_final_height,
             final_poly,
             &mut folded,
-        )?;
+        ) {
+            Ok(()) => {},
+            Err(refusal) => return Err(refusal),
+        }
     }
     Ok(folded)
 }

@@ -57,12 +57,12 @@ module _ {A : Type 0} (F : FieldOps A) (fold : ℕ → ℕ → ℕ → A → Lis
 
   module _ {began : Link A} {old_indices : List (List ℕ)} {old_rows : List (List (List (List A)))} where
     -- one round more
-    pub folded_on : {k h i : ℕ} {value v b : A} {s row : List A} {input : Option A}
+    pub folded_on : {k h i : ℕ} {value v b : A} {s row : List A}
         {indices new_indices : List (List ℕ)} {rows new_rows : List (List (List (List A)))}
         → FoldedTo began old_indices old_rows k (record { index = i; log_height = h; value = value }) indices rows
         → k < length log_arities → k < length betas → k < length siblings
-        → b ≡ get_or betas k b → s ≡ get_or siblings k [] → input ≡ values (h - get_or log_arities k 0)
-        → v ≡ (next_link F fold (λ _. input) (record { log_arity = get_or log_arities k 0; beta = b }) s
+        → b ≡ get_or betas k b → s ≡ get_or siblings k []
+        → v ≡ (next_link F fold values (record { log_arity = get_or log_arities k 0; beta = b }) s
         (record { index = i; log_height = h; value = value })).value
         → row ≡ row_of_link (record { log_arity = get_or log_arities k 0; beta = b }) s
         (record { index = i; log_height = h; value = value })
@@ -71,8 +71,8 @@ module _ {A : Type 0} (F : FieldOps A) (fold : ℕ → ℕ → ℕ → A → Lis
         → FoldedTo began old_indices old_rows (k + 1)
         (record { index = i / 2 ^ get_or log_arities k 0; log_height = h - get_or log_arities k 0; value = v })
         new_indices new_rows
-    folded_on {k} {h} {i} {value} {v} {b} {s} {row} {input} {indices} {new_indices} {rows} {new_rows} t l₁ l₂ l₃
-        is_beta is_siblings is_input is_value is_row gain_index gain_row =
+    folded_on {k} {h} {i} {value} {v} {b} {s} {row} {indices} {new_indices} {rows} {new_rows} t l₁ l₂ l₃
+        is_beta is_siblings is_value is_row gain_index gain_row =
         let more = sum_by-drop_more (λ x. x) log_arities k 0 l₁ in
         let l₄ = t.indices_length in
         let l₅ = t.rows_length in
@@ -85,16 +85,16 @@ module _ {A : Type 0} (F : FieldOps A) (fold : ℕ → ℕ → ℕ → A → Lis
           index = index_step k log_arities i l₁ ∙ t.index;
           indices_length = omega (arith, ap length gain_index ∙ length-set indices k _);
           rows_length = omega (arith, ap length gain_row ∙ length-set rows k _);
-          value = chain_step F fold values k log_arities betas siblings b s input h i value v l₁ l₂ l₃
-              is_beta is_siblings is_input is_value
+          value = chain_step F fold values k log_arities betas siblings b s h i value v l₁ l₂ l₃
+              is_beta is_siblings is_value
               ∙ t.value;
           indices_gained = gained k indices new_indices _ _ _ (omega arith) gain_index
               (indices_step k log_arities i l₁)
               ∙ t.indices_gained;
           rows_gained = gained k rows new_rows _ _ _ (omega arith) gain_row
               (ap (λ (rs : List (List A)). map {A = List A} {B = List (List A)} (λ row. row ∷ []) rs)
-              (rows_step F fold values k log_arities betas siblings b s input h i value v row l₁ l₂ l₃
-              is_beta is_siblings is_input is_value is_row))
+              (rows_step F fold values k log_arities betas siblings b s h i value v row l₁ l₂ l₃
+              is_beta is_siblings is_value is_row))
               ∙ t.rows_gained;
         }
 
@@ -136,7 +136,7 @@ module _ (n m : ℕ) (log_arities folded : List ℕ) (are : folded ≡ take (min
       let l = ap length are ∙ length-take (min n m) log_arities in
       (omega arith, omega arith, omega arith)
 
-  pub sum_of_first : sum folded ≤ sum log_arities
-  sum_of_first =
+  pub sum_within : (h f : ℕ) → sum log_arities ≤ h - f → sum folded ≤ h
+  sum_within h f fits =
       let l = ap sum are in
       omega (arith, sum_by-take-le (λ x. x) log_arities (min n m))

@@ -59,12 +59,16 @@ have_take j (suc n) [] siblings h = tt
 have_take j (suc n) (a ∷ log_arities) [] h = tt
 have_take j (suc n) (a ∷ log_arities) (rows ∷ siblings) h = (h.0, have_take j n log_arities siblings h.1)
 
--- what the query has in a round
+-- what the query has in a round that was read
 pub siblings_at : {E O : Type 0} (f : O → List (List E)) (j k : ℕ) (os : List O) (o : O)
-    → k < length os → get_or (map (λ rows. get_or rows j []) (map f os)) k [] ≡ get_or (f (get_or os k o)) j []
-siblings_at f j k [] o l = absurd (omega arith)
-siblings_at f j zero (x ∷ os) o l = refl
-siblings_at f j (suc k) (x ∷ os) o l = siblings_at f j k os o (omega arith)
+    → k < length os → o ≡ get_or os k o
+    → (k < length (map (λ rows. get_or rows j []) (map f os)))
+    × (get_or (f o) j [] ≡ get_or (map (λ rows. get_or rows j []) (map f os)) k [])
+siblings_at f j k [] o l is = absurd (omega arith)
+siblings_at f j zero (x ∷ os) o l is = (omega arith, rw is refl)
+siblings_at f j (suc k) (x ∷ os) o l is =
+    let more = siblings_at f j k os o (omega arith) is in
+    (omega (arith, more.0), more.1)
 
 -- lists of which those from the `k`-th on gain
 abbrev pub gains_from : {A : Type 0} → (k : ℕ) (lists : List (List A)) (gained : List A) → List (List A)

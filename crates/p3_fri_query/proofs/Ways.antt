@@ -38,26 +38,26 @@ module _ {A : Type 0} (F : FieldOps A) (fold : ℕ → ℕ → ℕ → A → Lis
 
   -- a link after the `k`-th round, of a value that was computed from the round's parts
   pub chain_step : (k : ℕ) (log_arities : List ℕ) (betas : List A) (siblings : List (List A))
-      (b : A) (s : List A) (input : Option A) (h i : ℕ) (value v : A)
+      (b : A) (s : List A) (h i : ℕ) (value v : A)
       → k < length log_arities → k < length betas → k < length siblings
-      → b ≡ get_or betas k b → s ≡ get_or siblings k [] → input ≡ values (h - get_or log_arities k 0)
-      → v ≡ (next_link F fold (λ _. input) (record { log_arity = get_or log_arities k 0; beta = b }) s
+      → b ≡ get_or betas k b → s ≡ get_or siblings k []
+      → v ≡ (next_link F fold values (record { log_arity = get_or log_arities k 0; beta = b }) s
       (record { index = i; log_height = h; value = value })).value
       → chain F fold values (rounds_of (drop (k + 1) log_arities) (drop (k + 1) betas)) (drop (k + 1) siblings)
       (record { index = i / 2 ^ get_or log_arities k 0; log_height = h - get_or log_arities k 0; value = v })
       ≡ chain F fold values (rounds_of (drop k log_arities) (drop k betas)) (drop k siblings)
       (record { index = i; log_height = h; value = value })
-  chain_step k log_arities betas siblings b s input h i value v l₁ l₂ l₃ is_beta is_siblings is_input is_value =
+  chain_step k log_arities betas siblings b s h i value v l₁ l₂ l₃ is_beta is_siblings is_value =
       let here : Link A = record { index = i; log_height = h; value = value } in
       let step = chain_at k log_arities betas siblings b here l₁ l₂ l₃ in
-      rw (add-one, step, ← is_beta, ← is_siblings, ← is_input, is_value) refl
+      rw (add-one, step, ← is_beta, ← is_siblings, is_value) refl
 
   -- the rows from the `k`-th round on
   pub rows_step : (k : ℕ) (log_arities : List ℕ) (betas : List A) (siblings : List (List A))
-      (b : A) (s : List A) (input : Option A) (h i : ℕ) (value v : A) (row : List A)
+      (b : A) (s : List A) (h i : ℕ) (value v : A) (row : List A)
       → k < length log_arities → k < length betas → k < length siblings
-      → b ≡ get_or betas k b → s ≡ get_or siblings k [] → input ≡ values (h - get_or log_arities k 0)
-      → v ≡ (next_link F fold (λ _. input) (record { log_arity = get_or log_arities k 0; beta = b }) s
+      → b ≡ get_or betas k b → s ≡ get_or siblings k []
+      → v ≡ (next_link F fold values (record { log_arity = get_or log_arities k 0; beta = b }) s
       (record { index = i; log_height = h; value = value })).value
       → row ≡ row_of_link (record { log_arity = get_or log_arities k 0; beta = b }) s
       (record { index = i; log_height = h; value = value })
@@ -65,10 +65,10 @@ module _ {A : Type 0} (F : FieldOps A) (fold : ℕ → ℕ → ℕ → A → Lis
       (record { index = i / 2 ^ get_or log_arities k 0; log_height = h - get_or log_arities k 0; value = v })
       ≡ chain_rows F fold values (rounds_of (drop k log_arities) (drop k betas)) (drop k siblings)
       (record { index = i; log_height = h; value = value })
-  rows_step k log_arities betas siblings b s input h i value v row l₁ l₂ l₃ is_beta is_siblings is_input is_value is_row =
+  rows_step k log_arities betas siblings b s h i value v row l₁ l₂ l₃ is_beta is_siblings is_value is_row =
       let here : Link A = record { index = i; log_height = h; value = value } in
       let step = rows_at k log_arities betas siblings b here l₁ l₂ l₃ in
-      rw (add-one, step, ← is_beta, ← is_siblings, ← is_input, is_value, is_row) refl
+      rw (add-one, step, ← is_beta, ← is_siblings, is_value, is_row) refl
 
 row_at : (k : ℕ) (log_arities : List ℕ) (i : ℕ) → k < length log_arities
     → (i / 2 ^ get_or log_arities k 0) ∷ row_indices (drop (suc k) log_arities) (i / 2 ^ get_or log_arities k 0)

@@ -147,6 +147,31 @@ fn check_inputs<E: Copy, A, B>(
     }
 }
 
+/// The first input's value, where the query is in order.
+fn check_query<E: Copy, M: Mmcs<E>, A, B>(
+    query: usize,
+    betas: &[E],
+    log_arities: &[usize],
+    openings: &[CommitPhaseMultiStep<E, M>],
+    inputs: &[(usize, E)],
+    log_height: usize,
+    log_final_height: usize,
+) -> Result<E, FriError<A, B>>
+    requires query { query < usize.MAX }
+    ensures exact { (index : ℕ) → let q = query_input query index betas.now log_arities.now
+        openings.now inputs.now log_height log_final_height in
+        IsOk result ↔ IsInOrder q }
+    ensures fault { (index : ℕ) → let q = query_input query index betas.now log_arities.now
+        openings.now inputs.now log_height log_final_height in
+        IfErr result (QueryFault q) }
+    ensures value { (default : E) → IfOk result (λ value.
+        value ≡ slice_index_or (map (λ input. input.1) inputs.now) 0 default) }
+{
+    check_rounds(query, log_arities, openings, log_height, log_final_height)?;
+    let folded = folded_arities(betas, log_arities, openings);
+    check_inputs(folded, inputs, log_height, log_final_height)
+}
+
 /// Folds one query through the rounds that have a challenge, a log arity and an opening, and
 /// answers the value at which it ends (the query phase of FRI, ICALP 2018; further words are rolled
 /// in as in the crate p3-fri).
@@ -217,16 +242,17 @@ pub fn fold_query<
         IsOk result → rows_collected rows_by_round.new ≡ gains (rows_collected rows_by_round.old)
         (map (λ row. row ∷ []) (group_rows q EF.ops (S.row_fold folding.now))) }
 {
-    check_rounds(
+    let inputs = reduced_openings.as_slice();
+    let first = check_query(
         query,
+        betas,
         log_arities,
         commit_phase_openings,
+        inputs,
         log_global_max_height,
         log_final_height,
     )?;
     let folded = folded_arities(betas, log_arities, commit_phase_openings);
-    let inputs = reduced_openings.as_slice();
-    let first = check_inputs(folded, inputs, log_global_max_height, log_final_height)?;
     Ok(fold_rounds(
         alloc,
         folding,

@@ -7,7 +7,7 @@ ghost use Rattle.std.specs.List.{insert};
 ghost use Rattle.algebra.specs.Nested.{lists};
 ghost use Rattle.algebra.specs.Rounds.{Round, Link, next_link, row_of_link, chain, chain_rows};
 ghost use Rattle.p3_fri_relation.specs.Queries.{rounds_of, row_indices};
-ghost use Rattle.p3_fri_relation.specs.FoldedQuery.{AreInRange, HaveRows, value_at, gains};
+ghost use Rattle.p3_fri_relation.specs.FoldedQuery.{AreInRange, HasRow, HaveRows, value_at, gains};
 ghost use Rattle.p3_fri_relation.specs.Views.{siblings_opened, rows_collected};
 
 use crate::collect::collect;
@@ -101,6 +101,42 @@ fn fold_round<F: TwoAdicField, EF: ExtensionField<F>, S: FriFoldingStrategy<F, E
     }
 }
 
+/// One round of a query, of the row that its opening has for the query and the input of the log
+/// height that it leads to: the value after it, and the row that it folds.
+fn fold_opening<F: TwoAdicField, EF: ExtensionField<F>, M: Mmcs<EF>, S: FriFoldingStrategy<F, EF>>(
+    alloc: Global,
+    folding: &S,
+    query: usize,
+    log_height: usize,
+    index: usize,
+    value: EF,
+    log_arity: usize,
+    beta: EF,
+    opening: &CommitPhaseMultiStep<EF, M>,
+    inputs: &[(usize, EF)],
+) -> Result<(EF, Vec<EF>), AllocError>
+    requires positive { 0 < log_arity }
+    requires small { log_arity < 64 }
+    requires within_height { log_arity ≤ log_height }
+    requires within_max_height { log_height ≤ S.max_log_height folding.now }
+    requires within_word { index < 2 ^ log_height }
+    requires has_row { HasRow query log_arity (lists opening.now.sibling_values.items) }
+    ensures { let link : Link EF =
+        record { index = index; log_height = log_height; value = value } in
+        let round : Round EF = record { log_arity = log_arity; beta = beta } in
+        let siblings = slice_index_or (lists opening.now.sibling_values.items) query [] in
+        IfOk result (λ folded.
+        (folded.0 ≡ (next_link EF.ops (S.row_fold folding.now) (value_at inputs.now)
+        round siblings link).value)
+        × (folded.1.items ≡ row_of_link round siblings link)) }
+{
+    let siblings = siblings_of(opening, query);
+    let input = input_at(inputs, log_height - log_arity);
+    fold_round(
+        alloc, folding, log_height, index, value, log_arity, beta, siblings, input,
+    )
+}
+
 /// The rounds of a query that is in order, one after another, each with a challenge and an opening.
 pub(crate) fn fold_rounds<
     F: TwoAdicField,
@@ -151,18 +187,17 @@ pub(crate) fn fold_rounds<
     let mut value = first;
     for round in 0..log_arities.len() {
         let log_arity = log_arities[round];
-        let siblings = siblings_of(&openings[round], query);
-        let input = input_at(inputs, height - log_arity);
-        let (folded, row) = fold_round(
+        let (folded, row) = fold_opening(
             alloc,
             folding,
+            query,
             height,
             *start_index,
             value,
             log_arity,
             betas[round],
-            siblings,
-            input,
+            &openings[round],
+            inputs,
         )?;
         height -= log_arity;
         *start_index >>= log_arity;

@@ -6,3 +6,5 @@ pub mod error;
 pub mod laws;
 pub mod proof;
 pub mod setting;
+
+pub use p3_fri_folding::FriParameters;

@@ -7,3 +7,4 @@ mod rounds;
 pub mod transcript;
 
 pub use crate::transcript::FriShape;
+pub use p3_fri_folding::FriParameters;

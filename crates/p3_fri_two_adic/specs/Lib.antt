@@ -2,6 +2,8 @@ pub mod Chunks
 pub mod Held
 pub use Rattle.p3_fri_opening_verifier.specs.Ranges
 pub use Rattle.p3_fri_opening_verifier.specs.Accepted
+pub use Rattle.p3_fri_opening_verifier.specs.Ends
+pub use Rattle.p3_fri_opening_prover.specs.Refusals
 pub mod ErrorLaws
 pub mod Evaluations
 pub mod Ldes

@@ -39,12 +39,12 @@ use p3_field_core::{
 use p3_fri_commit::commit_evaluations;
 use p3_fri_folding::FriParameters;
 pub use p3_fri_folding::TwoAdicFriFolding;
+pub use p3_fri_opening_prover::ProverDataWithOpeningPoints;
 use p3_fri_opening_prover::open_requests;
 use p3_fri_opening_verifier::setting::PlaysTwoAdic;
 pub use p3_fri_opening_verifier::setting::TwoAdicFriFoldingForMmcs;
 use p3_fri_opening_verifier::verify_opening;
 use p3_fri_pow::FriProverError;
-pub use p3_fri_prover::prover::ProverDataWithOpeningPoints;
 use p3_fri_relation::error::FriError;
 use p3_fri_relation::proof::{BatchMultiOpening, FriProof};
 use p3_fri_relation::setting::ChallengeField;

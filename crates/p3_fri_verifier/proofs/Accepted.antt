@@ -1,20 +1,30 @@
 -- The test accepts, from its parts.
-use Rattle.std.proofs.Common.{◌≡◌, ℕ, ◌+◌, ◌/◌, ◌^◌, ◌<◌, ◌⊎◌, inl, inr, List, map, refl, sym, ap, ◌∙◌, subst, true}
-use Rattle.std.specs.Prelude.{All, IfErr, Some, Result, Err}
-use Rattle.p3_challenger_fs.specs.Turns.{bytes_observed}
+use Rattle.std.proofs.Common.{◌≡◌, ℕ, ◌+◌, ◌^◌, ◌<◌, ◌⊎◌, inl, inr, List, length, refl, sym, ap, ◌∙◌, subst}
+use Rattle.std.specs.Prelude.{All, IsTrue, IfErr, Result, Err}
 use Rattle.p3_fri_pow.specs.declared.pow_phase.PowPhase.{PowPhase}
 use Rattle.p3_fri_pow.specs.declared.pow_phase.PowPhase.TheVariants.{CommitPhase, Query}
-use Rattle.p3_fri_transcript.specs.Steps.{FriNumbers, fri_stream}
-use Rattle.p3_fri_transcript.specs.Replay.{fri_replay}
+use Rattle.p3_fri_transcript.specs.Steps.{FriNumbers}
+use Rattle.p3_fri_transcript.specs.Replay.{FriReplay}
 use Rattle.p3_fri_relation.specs.declared.error.FriError.{FriError}
 use Rattle.p3_fri_relation.specs.declared.error.FriError.TheVariants.{InvalidPowWitness, NonCanonicalPowWitness, OutOfMemory}
 use Rattle.p3_fri_relation.specs.Setting.{Setting, Parameters, CommitmentClaim, Proof}
+use Rattle.p3_fri_relation.specs.TestRounds.{bound_numbers}
 use Rattle.p3_fri_relation.specs.Acceptance.{FriAccepts, AreOpeningsGood, test_replay, positions, fri_numbers, top_height, log_arities}
 use Rattle.p3_fri_relation.specs.Faults.{Stands, OpeningsFault, WorkFault}
-use Rattle.p3_fri_relation.proofs.TestReplays.{positions-below}
-use Rattle.p3_fri_verifier.proofs.Replays.{Outcome}
+use Rattle.p3_fri_relation.proofs.TestReplays.{length-replay_betas, length-positions, positions-below}
+use Rattle.p3_fri_verifier.specs.Draws.{proof_replay, ReplayFault, AreDrawn}
 use Rattle.p3_fri_verifier.specs.Openings.{AreOpened}
 use Rattle.p3_fri_verifier.specs.Plans.{CanBegin, BeginningFault}
+
+-- the test passes from this state: these are its challenges and its positions, and the state after it
+pub record IsDrawn {F E C Com Path InCom InPath : Type 0} (s : Setting F E C Com Path InCom InPath) (p : Parameters)
+    (claims : List (CommitmentClaim E InCom)) (proof : Proof F E Com Path InPath) (c : C) (betas : List E)
+    (places : List ℕ) (after : C) : Type 0 where
+  pub passes : IsTrue (test_replay s p claims proof c).passes
+  pub betas_are : (test_replay s p claims proof c).betas ≡ betas
+  pub positions_are : positions s p claims proof c ≡ places
+  pub state_is : (test_replay s p claims proof c).state ≡ after
+  pub below : All (λ index. index < 2 ^ (top_height p claims + s.extra_bits)) (test_replay s p claims proof c).indices
 
 module _ {F E C Com Path InCom InPath : Type 0} (s : Setting F E C Com Path InCom InPath) (p : Parameters)
     (claims : List (CommitmentClaim E InCom)) (proof : Proof F E Com Path InPath) (c : C) (alpha : E) where
@@ -39,128 +49,97 @@ module _ {F E C Com Path InCom InPath : Type 0} (s : Setting F E C Com Path InCo
   beginning_stands {A} {B} e (inl (inr (inr h))) = inr (inr (inl (subst (λ (x : FriError A B). WorkFault s p claims proof c x) (sym h.1) h.2)))
   beginning_stands e (inr h) = inr (inr (inr (inr h)))
 
-  -- the replay of a shape with these numbers, and what the proof carries, is the test's
-  pub same_test : (shape : FriNumbers) (commitments : List Com) (witnesses : List F) (final_poly : List E)
-      → shape ≡ fri_numbers p claims s.extra_bits → commitments ≡ proof.commitments → witnesses ≡ proof.commit_witnesses
-      → final_poly ≡ proof.final_poly
-      → fri_replay s.moves s.fields.coefficients shape s.fields.base (fri_stream s.fields.degree shape) c commitments witnesses final_poly (Some proof.query_witness)
-      ≡ test_replay s p claims proof c
-  same_test shape commitments witnesses final_poly e₁ e₂ e₃ e₄ =
-      ap (λ n. fri_replay s.moves s.fields.coefficients n s.fields.base (fri_stream s.fields.degree n) c commitments witnesses final_poly (Some proof.query_witness)) e₁
-      ∙ ap (λ n. fri_replay s.moves s.fields.coefficients (fri_numbers p claims s.extra_bits) s.fields.base (fri_stream s.fields.degree (fri_numbers p claims s.extra_bits)) c n witnesses final_poly (Some proof.query_witness)) e₂
-      ∙ ap (λ n. fri_replay s.moves s.fields.coefficients (fri_numbers p claims s.extra_bits) s.fields.base (fri_stream s.fields.degree (fri_numbers p claims s.extra_bits)) c proof.commitments n final_poly (Some proof.query_witness)) e₃
-      ∙ ap (λ n. fri_replay s.moves s.fields.coefficients (fri_numbers p claims s.extra_bits) s.fields.base (fri_stream s.fields.degree (fri_numbers p claims s.extra_bits)) c proof.commitments proof.commit_witnesses n (Some proof.query_witness)) e₄
+  -- the replay of a test of these numbers
+  abbrev replay_of : FriNumbers → FriReplay C E
+  replay_of n = proof_replay s.moves s.fields.coefficients s.fields.base s.fields.degree n proof c
 
-  -- how the replay of a shape ends that is refused for this reason
-  abbrev Ended : {A B : Type 0} → FriError A B → FriNumbers → List Com → List F → List E → Type 0
-  Ended e n coms ws ys = Outcome s.moves s.fields.coefficients n
-      (bytes_observed s.fields.base s.moves.observe_value c (fri_stream s.fields.degree n)) coms ws ys proof.query_witness e
+  abbrev Fault : {A B : Type 0} → FriError A B → FriNumbers → Type 0
+  Fault e n = ReplayFault s.moves s.fields.coefficients s.fields.base s.fields.degree n proof c e
 
-  ended_stands : {A B : Type 0} (e : FriError A B)
-      → Ended e (fri_numbers p claims s.extra_bits) proof.commitments proof.commit_witnesses proof.final_poly
+  fault_stands : {A B : Type 0} (e : FriError A B) → Fault e (fri_numbers p claims s.extra_bits)
       → Stands s p claims proof c alpha e
-  ended_stands e (inl is) = inr (inr (inr (inr is)))
-  ended_stands {A} {B} e (inr (inl o)) = inr (inr (inl (subst (λ (x : FriError A B). WorkFault s p claims proof c x) (sym o.0) o.1)))
-  ended_stands {A} {B} e (inr (inr o)) = inr (inr (inl (subst (λ (x : FriError A B). WorkFault s p claims proof c x) (sym o.0) o.1)))
+  fault_stands e (inl is) = inr (inr (inr (inr is)))
+  fault_stands {A} {B} e (inr (inl o)) = inr (inr (inl (subst (λ (x : FriError A B). WorkFault s p claims proof c x) (sym o.0) o.1)))
+  fault_stands {A} {B} e (inr (inr o)) = inr (inr (inl (subst (λ (x : FriError A B). WorkFault s p claims proof c x) (sym o.0) o.1)))
 
-  -- of a shape with these numbers, and of what the proof carries, it stands
-  pub work_stands : {A B : Type 0} (shape : FriNumbers) (commitments : List Com) (witnesses : List F) (final_poly : List E)
-      → shape ≡ fri_numbers p claims s.extra_bits → commitments ≡ proof.commitments → witnesses ≡ proof.commit_witnesses
-      → final_poly ≡ proof.final_poly → (e : FriError A B) → Ended e shape commitments witnesses final_poly
-      → Stands s p claims proof c alpha e
-  work_stands shape commitments witnesses final_poly e₁ e₂ e₃ e₄ e h =
-      ended_stands e (subst (λ n. Ended e n proof.commitments proof.commit_witnesses proof.final_poly) e₁
-      (subst (λ coms. Ended e shape coms proof.commit_witnesses proof.final_poly) e₂
-      (subst (λ ws. Ended e shape commitments ws proof.final_poly) e₃
-      (subst (λ ys. Ended e shape commitments witnesses ys) e₄ h))))
+  -- a plan's numbers are the test's, and so is what is replayed of them
+  module _ {la : List ℕ} {top extra_bits : ℕ} (scheduled : la ≡ log_arities p claims)
+      (tallest : top ≡ top_height p claims) (extra : extra_bits ≡ s.extra_bits) where
+    numbers_are : bound_numbers p la top extra_bits ≡ fri_numbers p claims s.extra_bits
+    numbers_are = ap (λ xs. bound_numbers p xs top extra_bits) scheduled
+        ∙ ap (λ h. bound_numbers p (log_arities p claims) h extra_bits) tallest
+        ∙ ap (λ bits. bound_numbers p (log_arities p claims) (top_height p claims) bits) extra
 
-  abbrev numbers_with : List ℕ → ℕ → FriNumbers
-  numbers_with xs n = record {
-    log_arities = xs;
-    final_poly_len = 2 ^ p.log_final_poly_len;
-    commit_pow_bits = p.commit_pow_bits;
-    query_pow_bits = p.query_pow_bits;
-    num_queries = p.num_queries;
-    index_bits = n;
-    log_blowup = p.log_blowup;
-    max_log_arity = p.max_log_arity;
+    pub same_test : replay_of (bound_numbers p la top extra_bits) ≡ test_replay s p claims proof c
+    same_test = ap (λ n. replay_of n) numbers_are
+
+    pub work_stands : {A B : Type 0} (e : FriError A B) → Fault e (bound_numbers p la top extra_bits)
+        → Stands s p claims proof c alpha e
+    work_stands e h = fault_stands e (subst (λ n. Fault e n) numbers_are h)
+
+    -- where lists are equal to those that were drawn
+    pub drawn_in_test : {betas bs : List E} {places qs : List ℕ} {after : C}
+        → AreDrawn (bound_numbers p la top extra_bits) extra_bits (replay_of (bound_numbers p la top extra_bits)) bs qs after
+        → betas ≡ bs → places ≡ qs → IsDrawn s p claims proof c betas places after
+    drawn_in_test {betas} {bs} {places} {qs} {after} h same at =
+        let drawn : AreDrawn (fri_numbers p claims s.extra_bits) s.extra_bits (test_replay s p claims proof c) bs qs after =
+        subst (λ bits. AreDrawn (fri_numbers p claims s.extra_bits) bits (test_replay s p claims proof c) bs qs after) extra
+        (subst (λ n. AreDrawn n extra_bits (replay_of n) bs qs after) numbers_are h) in
+        record {
+          passes = drawn.passes;
+          betas_are = drawn.betas_are ∙ sym same;
+          positions_are = drawn.positions_are ∙ sym at;
+          state_is = drawn.state_is;
+          below = drawn.below;
+        }
+
+module _ {F E C Com Path InCom InPath : Type 0} {s : Setting F E C Com Path InCom InPath} {p : Parameters}
+    {claims : List (CommitmentClaim E InCom)} {proof : Proof F E Com Path InPath} {c : C} {betas : List E}
+    {places : List ℕ} {after : C} (drawn : IsDrawn s p claims proof c betas places after) where
+  pub accepts_from : {alpha : E} → CanBegin p claims proof s.fields.base.zero s.fields.two_adicity
+      → AreOpened s p claims proof alpha betas places → FriAccepts s p claims proof c alpha
+  accepts_from {alpha} b o = record {
+    instance_of = record { in_range = b.in_range; points = o.points };
+    counts = record {
+      commitments = b.counts.commitments;
+      commit_witnesses = b.counts.commit_witnesses;
+      rounds = b.counts.rounds;
+      inputs = o.count;
+      final_poly = b.counts.final_poly;
+    };
+    canonical = b.canonical;
+    passes = drawn.passes;
+    openings = subst (λ xs. AreOpeningsGood s p claims proof alpha xs (positions s p claims proof c)) (sym drawn.betas_are)
+        (subst (λ xs. AreOpeningsGood s p claims proof alpha betas xs) (sym drawn.positions_are) o.good);
   }
 
-  -- the numbers of a shape that has the schedule's rounds and the indices' width
-  pub numbers_are : (la : List ℕ) (bits : ℕ) → la ≡ log_arities p claims → bits ≡ top_height p claims + s.extra_bits
-      → ◌≡◌ {A = FriNumbers} (record {
-        log_arities = la;
-        final_poly_len = 2 ^ p.log_final_poly_len;
-        commit_pow_bits = p.commit_pow_bits;
-        query_pow_bits = p.query_pow_bits;
-        num_queries = p.num_queries;
-        index_bits = bits;
-        log_blowup = p.log_blowup;
-        max_log_arity = p.max_log_arity;
-      }) (fri_numbers p claims s.extra_bits)
-  numbers_are la bits e f =
-      ap (λ xs. numbers_with xs bits) e ∙ ap (λ n. numbers_with (log_arities p claims) n) f
+  pub opened_of : {alpha : E} → FriAccepts s p claims proof c alpha → AreOpened s p claims proof alpha betas places
+  opened_of {alpha} a = record {
+    points = a.instance_of.points;
+    count = a.counts.inputs;
+    good = subst (λ xs. AreOpeningsGood s p claims proof alpha betas xs) drawn.positions_are
+        (subst (λ xs. AreOpeningsGood s p claims proof alpha xs (positions s p claims proof c)) drawn.betas_are a.openings);
+  }
 
-  abbrev pub Replayed : (betas : List E) (indices : List ℕ) (after : C) → Type 0
-  Replayed betas indices after =
-      test_replay s p claims proof c ≡ record { passes = true; betas = betas; indices = indices; state = after }
+  pub openings_stand : {A B : Type 0} (alpha : E) (e : FriError A B)
+      → OpeningsFault s p claims proof alpha betas places e ⊎ (e ≡ OutOfMemory) → Stands s p claims proof c alpha e
+  openings_stand alpha e (inl h) = inr (inr (inr (inl
+      (subst (λ xs. OpeningsFault s p claims proof alpha xs (positions s p claims proof c) e) (sym drawn.betas_are)
+      (subst (λ xs. OpeningsFault s p claims proof alpha betas xs e) (sym drawn.positions_are) h)))))
+  openings_stand alpha e (inr h) = inr (inr (inr (inr h)))
 
-  abbrev pub shifted : List ℕ → List ℕ
-  shifted indices = map (λ index. index / 2 ^ s.extra_bits) indices
+  pub challenges_drawn : CanBegin p claims proof s.fields.base.zero s.fields.two_adicity
+      → length betas ≡ length (log_arities p claims)
+  challenges_drawn b = ap length (sym drawn.betas_are)
+      ∙ length-replay_betas s p claims proof c (b.counts.commitments ∙ sym b.counts.commit_witnesses)
+      ∙ b.counts.commitments
 
-  module _ (betas : List E) (indices : List ℕ) (after : C) (replayed : Replayed betas indices after) where
-    betas_are : (test_replay s p claims proof c).betas ≡ betas
-    betas_are = ap (λ r. r.betas) replayed
+  pub positions_drawn : length places ≡ p.num_queries
+  positions_drawn = ap length (sym drawn.positions_are) ∙ length-positions s p claims proof c
 
-    positions_are : positions s p claims proof c ≡ shifted indices
-    positions_are = ap (λ r. shifted r.indices) replayed
-
-    pub accepts_from : CanBegin p claims proof s.fields.base.zero s.fields.two_adicity
-        → AreOpened s p claims proof alpha betas (shifted indices) → FriAccepts s p claims proof c alpha
-    accepts_from b o = record {
-      instance_of = record { in_range = b.in_range; points = o.points };
-      counts = record {
-        commitments = b.counts.commitments;
-        commit_witnesses = b.counts.commit_witnesses;
-        rounds = b.counts.rounds;
-        inputs = o.count;
-        final_poly = b.counts.final_poly;
-      };
-      canonical = b.canonical;
-      passes = ap (λ r. r.passes) replayed;
-      openings = subst (λ xs. AreOpeningsGood s p claims proof alpha xs (positions s p claims proof c)) (sym betas_are)
-          (subst (λ xs. AreOpeningsGood s p claims proof alpha betas xs) (sym positions_are) o.good);
-    }
-
-    pub opened_of : FriAccepts s p claims proof c alpha → AreOpened s p claims proof alpha betas (shifted indices)
-    opened_of a = record {
-      points = a.instance_of.points;
-      count = a.counts.inputs;
-      good = subst (λ xs. AreOpeningsGood s p claims proof alpha betas xs) positions_are
-          (subst (λ xs. AreOpeningsGood s p claims proof alpha xs (positions s p claims proof c)) betas_are a.openings);
-    }
-
-    pub openings_stand : {A B : Type 0} (e : FriError A B)
-        → OpeningsFault s p claims proof alpha betas (shifted indices) e ⊎ (e ≡ OutOfMemory) → Stands s p claims proof c alpha e
-    openings_stand e (inl h) = inr (inr (inr (inl
-        (subst (λ xs. OpeningsFault s p claims proof alpha xs (positions s p claims proof c) e) (sym betas_are)
-        (subst (λ xs. OpeningsFault s p claims proof alpha betas xs e) (sym positions_are) h)))))
-    openings_stand e (inr h) = inr (inr (inr (inr h)))
-
-    pub within_word : All (λ index. index < 2 ^ (top_height p claims + s.extra_bits)) indices
-        → All (λ position. position < 2 ^ top_height p claims) (shifted indices)
-    within_word fit = subst (λ xs. All (λ position. position < 2 ^ top_height p claims) xs) positions_are
-        (positions-below s p claims proof c (subst (λ xs. All (λ index. index < 2 ^ (top_height p claims + s.extra_bits)) xs)
-        (sym (ap (λ r. r.indices) replayed)) fit))
-
--- a fault at equal challenges and positions
-pub opening_fault : {F E C Com Path InCom InPath A B : Type 0} (s : Setting F E C Com Path InCom InPath) (p : Parameters)
-    (claims : List (CommitmentClaim E InCom)) (proof : Proof F E Com Path InPath) (alpha : E) (bs bs' : List E) (ps ps' : List ℕ)
-    → bs ≡ bs' → ps ≡ ps' → (e : FriError A B)
-    → OpeningsFault s p claims proof alpha bs ps e ⊎ (e ≡ OutOfMemory) → OpeningsFault s p claims proof alpha bs' ps' e ⊎ (e ≡ OutOfMemory)
-opening_fault s p claims proof alpha bs bs' ps ps' same at e (inl h) =
-    inl (subst (λ x. OpeningsFault s p claims proof alpha x ps' e) same (subst (λ x. OpeningsFault s p claims proof alpha bs x e) at h))
-opening_fault s p claims proof alpha bs bs' ps ps' same at e (inr h) = inr h
+  pub within_word : All (λ position. position < 2 ^ top_height p claims) places
+  within_word = subst (λ xs. All (λ position. position < 2 ^ top_height p claims) xs) drawn.positions_are
+      (positions-below s p claims proof c drawn.below)
 
 -- neither a replay nor openings are refused for a witness that isn't canonical
 pub replay_canonical : {A B X Y : Type 0} (e : FriError A B) (phase : PowPhase) → e ≡ NonCanonicalPowWitness phase

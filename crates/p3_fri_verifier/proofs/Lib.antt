@@ -1,4 +1,5 @@
 pub mod Accepted
+pub mod Drawn
 pub mod Mapped
 pub mod Opened
 pub mod Plans

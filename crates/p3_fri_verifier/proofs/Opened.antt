@@ -25,8 +25,8 @@ use Rattle.p3_fri_relation.proofs.Instances.{instance_top, instance_sum}
 use Rattle.std.proofs.lemmas.List.{length-map, get_or-map}
 use Rattle.std.proofs.lemmas.Slice.Zip.{AllZip-long}
 use Rattle.p3_fri_verifier.specs.Openings.{AreOpened}
-use Rattle.p3_fri_queries.specs.Folded.{query_at, EndsAtFinal}
-use Rattle.p3_fri_queries.specs.Opened.{OpensRoundTo as OpensAt}
+use Rattle.p3_fri_queries.specs.Folded.{query_at, EndsAtFinal, indices_folded, rows_folded}
+use Rattle.p3_fri_queries.specs.Opened.{OpensRoundTo as OpensAt, RoundsOpenTo, SomeRoundFails}
 
 length_siblings : {E Path : Type 0} (j : ℕ) (rounds : List (RoundOpening E Path)) → length (siblings_at j rounds) ≡ length rounds
 length_siblings j [] = refl
@@ -164,14 +164,18 @@ module _ {F E C Com Path InCom InPath M Data Err : Type 0} (s : Setting F E C Co
     (counts : AllZip (HasSiblings p.num_queries) (log_arities p claims) proof.rounds)
     (drawn : length betas ≡ length (log_arities p claims)) (two_adicity : ℕ) (ranged : IsInRange p claims two_adicity)
     (sums : (j : ℕ) → j < length positions → HasReduced s p claims proof alpha betas positions arities openings reduced top scheduled opened tallest j)
-    (indices : List (List ℕ)) (rows : List (List (List (List E))))
-    (indices_are : indices ≡ tabulate (length arities) (λ k. map (λ position. slice_index (row_indices arities position) k) positions))
-    (rows_are : rows ≡ tabulate (length arities) (λ k. tabulate (length positions) (λ j. slice_index_or
-    (group_rows (query_at positions betas arities openings reduced top (final_height p) j) s.fields.ext s.fold) k [] ∷ [])))
   where
+    -- what all queries fold, round by round
+    abbrev indices : List (List ℕ)
+    indices = indices_folded arities positions
+
+    abbrev rows : List (List (List (List E)))
+    rows = rows_folded s.fields.ext s.fold (length arities) (length positions)
+        (query_at positions betas arities openings reduced top (final_height p))
+
     indices_at : (k : ℕ) → k < length arities → slice_index_or indices k []
         ≡ map (λ q. slice_index (row_indices (log_arities p claims) q) k) positions
-    indices_at k l = ap (λ t. get_or t k []) indices_are ∙ get_or-tabulate (length arities) _ k [] l
+    indices_at k l = get_or-tabulate (length arities) _ k [] l
         ∙ ap (λ la. map (λ q. slice_index (row_indices la q) k) positions) scheduled
 
     abbrev row_of : (j k : ℕ) → List E
@@ -179,7 +183,7 @@ module _ {F E C Com Path InCom InPath M Data Err : Type 0} (s : Setting F E C Co
 
     rows_at : (k : ℕ) → k < length arities → slice_index_or rows k []
         ≡ tabulate p.num_queries (λ j. row_of j k ∷ [])
-    rows_at k l = ap (λ t. get_or t k []) rows_are ∙ get_or-tabulate (length arities) _ k [] l
+    rows_at k l = get_or-tabulate (length arities) _ k [] l
         ∙ tabulate-equal (length positions) _ (λ j. row_of j k ∷ [])
         (λ j m. ap (λ row. row ∷ []) (ap (λ rs. slice_index_or rs k [])
         (ap (λ q. group_rows q s.fields.ext s.fold)
@@ -308,52 +312,53 @@ module _ {F E C Com Path InCom InPath M Data Err : Type 0} {s : Setting F E C Co
     abbrev GoodInputs : ℕ → List (InputOpening F InPath) → Type 0
     GoodInputs t i = AreInputsGood s.fields p.log_blowup alpha t claims i s.opens_input positions
 
-    pub way_fault_at : {A B : Type 0} → GoodInputs top inputs → (e : FriError A B)
-        → (e ≡ OutOfMemory) ⊎ ((e ≡ FinalPolyMismatch) × SomeIndex positions (λ j.
-        ¬ EndsAtFinal s.fields s.fold final_poly (query_at positions betas arities openings reduced top (final_height p) j)))
-        → OpeningsFault s p claims proof alpha betas positions e ⊎ (e ≡ OutOfMemory)
-    way_fault_at good e (inl is) = inr is
-    way_fault_at {A} {B} good e (inr h) =
-        let here : GoodInputs (top_height p claims) inputs = subst (λ t. GoodInputs t inputs) read.tallest good in
-        inl (inr (subst (λ (x : FriError A B). RoundsFault s p claims proof alpha betas positions x) (sym h.0)
-        (h.1.0, h.1.1, ((here.sums h.1.0 h.1.1).defined, λ ends. h.1.2 (ends_at h.1.0 h.1.1 ends)))))
+    abbrev indices_read : List (List ℕ)
+    indices_read = indices_folded arities positions
 
-    module _ {indices : List (List ℕ)} {rows : List (List (List (List E)))} {commitments : List Com}
-        (indices_are : indices ≡ tabulate (length arities) (λ k. map (λ position. slice_index (row_indices arities position) k) positions))
-        (rows_are : rows ≡ tabulate (length arities) (λ k. tabulate (length positions) (λ j. slice_index_or
-        (group_rows (query_at positions betas arities openings reduced top (final_height p) j) s.fields.ext s.fold) k [] ∷ [])))
-        (commitments_are : commitments ≡ proof.commitments)
-      where
-        abbrev numbered : List (Com × RoundOpening E Path)
-        numbered = zip proof.commitments proof.rounds
+    abbrev rows_read : List (List (List (List E)))
+    rows_read = rows_folded s.fields.ext s.fold (length arities) (length positions)
+        (query_at positions betas arities openings reduced top (final_height p))
 
-        pairs : zip commitments (rounds_opened openings) ≡ numbered
-        pairs = ap (λ coms. zip coms (rounds_opened openings)) commitments_are ∙ ap (λ rs. zip proof.commitments rs) (sym read.opened)
+    module _ {commitments : List Com} (commitments_are : commitments ≡ proof.commitments) where
+      abbrev numbered : List (Com × RoundOpening E Path)
+      numbered = zip proof.commitments proof.rounds
 
-        rounds_at : (k : ℕ) (y : Com × RoundOpening E Path) → k < length arities
-            → OpensRound s p claims proof alpha betas positions k y → OpensAt s.opens_round arities top indices rows k y
-        rounds_at = round_opens_at s p claims proof alpha betas positions arities openings reduced top read.scheduled read.opened read.tallest read.queries read.counts read.drawn two_adicity read.ranged each_sum indices rows indices_are rows_are
+      pairs : zip commitments (rounds_opened openings) ≡ numbered
+      pairs = ap (λ coms. zip coms (rounds_opened openings)) commitments_are ∙ ap (λ rs. zip proof.commitments rs) (sym read.opened)
 
-        rounds_of_at : (k : ℕ) (y : Com × RoundOpening E Path) → k < length arities
-            → OpensAt s.opens_round arities top indices rows k y → OpensRound s p claims proof alpha betas positions k y
-        rounds_of_at = round_opens s p claims proof alpha betas positions arities openings reduced top read.scheduled read.opened read.tallest read.queries read.counts read.drawn two_adicity read.ranged each_sum indices rows indices_are rows_are
+      rounds_at : (k : ℕ) (y : Com × RoundOpening E Path) → k < length arities
+          → OpensRound s p claims proof alpha betas positions k y → OpensAt s.opens_round arities top indices_read rows_read k y
+      rounds_at = round_opens_at s p claims proof alpha betas positions arities openings reduced top read.scheduled read.opened read.tallest read.queries read.counts read.drawn two_adicity read.ranged each_sum
 
-        pub rounds_open_at : AllZip (OpensAt s.opens_round arities top indices rows) (range_with_len 0 (length arities)) (zip commitments (rounds_opened openings))
-            → RoundsOpen s p claims proof alpha betas positions
-        rounds_open_at h' = let h = subst (λ ys. AllZip (OpensAt s.opens_round arities top indices rows) (range_with_len 0 (length arities)) ys) pairs h' in subst (λ n. AllZip (OpensRound s p claims proof alpha betas positions) (range_with_len 0 n) numbered) (ap length read.scheduled)
-            (all_numbered _ (OpensRound s p claims proof alpha betas positions) 0 (length arities) numbered (λ k y l. rounds_of_at k y (omega (arith, l))) h)
+      rounds_of_at : (k : ℕ) (y : Com × RoundOpening E Path) → k < length arities
+          → OpensAt s.opens_round arities top indices_read rows_read k y → OpensRound s p claims proof alpha betas positions k y
+      rounds_of_at = round_opens s p claims proof alpha betas positions arities openings reduced top read.scheduled read.opened read.tallest read.queries read.counts read.drawn two_adicity read.ranged each_sum
 
-        pub open_rounds_at : RoundsOpen s p claims proof alpha betas positions
-            → AllZip (OpensAt s.opens_round arities top indices rows) (range_with_len 0 (length arities)) (zip commitments (rounds_opened openings))
-        open_rounds_at h = subst (λ ys. AllZip (OpensAt s.opens_round arities top indices rows) (range_with_len 0 (length arities)) ys) (sym pairs) (all_numbered (OpensRound s p claims proof alpha betas positions) _ 0 (length arities) numbered (λ k y l. rounds_at k y (omega (arith, l)))
-            (subst (λ n. AllZip (OpensRound s p claims proof alpha betas positions) (range_with_len 0 n) numbered) (sym (ap length read.scheduled)) h))
+      pub rounds_open_at : RoundsOpenTo s.opens_round arities top indices_read rows_read commitments (rounds_opened openings)
+          → RoundsOpen s p claims proof alpha betas positions
+      rounds_open_at h' = let h = subst (λ ys. AllZip (OpensAt s.opens_round arities top indices_read rows_read) (range_with_len 0 (length arities)) ys) pairs h' in subst (λ n. AllZip (OpensRound s p claims proof alpha betas positions) (range_with_len 0 n) numbered) (ap length read.scheduled)
+          (all_numbered _ (OpensRound s p claims proof alpha betas positions) 0 (length arities) numbered (λ k y l. rounds_of_at k y (omega (arith, l))) h)
 
-        pub rounds_fault_at : {A B : Type 0} (e : FriError A B) (error : A) → e ≡ CommitPhaseMmcsError error
-            → Any (λ (k, opening). ¬ OpensAt s.opens_round arities top indices rows k opening) (zip (range_with_len 0 (length arities)) (zip commitments (rounds_opened openings)))
-            → OpeningsFault s p claims proof alpha betas positions e ⊎ (e ≡ OutOfMemory)
-        rounds_fault_at {A} {B} e error is some' = let some = subst (λ ys. Any (λ (k, opening). ¬ OpensAt s.opens_round arities top indices rows k opening) (zip (range_with_len 0 (length arities)) ys)) pairs some' in inl (inr (subst (λ (x : FriError A B). RoundsFault s p claims proof alpha betas positions x) (sym is)
-            (subst (λ n. Any (λ (k, opening). ¬ OpensRound s p claims proof alpha betas positions k opening) (zip (range_with_len 0 n) numbered)) (ap length read.scheduled)
-            (some_numbered _ _ (length arities) numbered (λ x l no opens. no (rounds_at x.0 x.1 l opens)) some))))
+      pub open_rounds_at : RoundsOpen s p claims proof alpha betas positions
+          → RoundsOpenTo s.opens_round arities top indices_read rows_read commitments (rounds_opened openings)
+      open_rounds_at h = subst (λ ys. AllZip (OpensAt s.opens_round arities top indices_read rows_read) (range_with_len 0 (length arities)) ys) (sym pairs) (all_numbered (OpensRound s p claims proof alpha betas positions) _ 0 (length arities) numbered (λ k y l. rounds_at k y (omega (arith, l)))
+          (subst (λ n. AllZip (OpensRound s p claims proof alpha betas positions) (range_with_len 0 n) numbered) (sym (ap length read.scheduled)) h))
+
+      -- why the queries or the rounds are refused
+      pub queries_fault_at : {A B : Type 0} → GoodInputs top inputs → (e : FriError A B)
+          → ((e ≡ OutOfMemory) ⊎ ((e ≡ FinalPolyMismatch) × SomeIndex positions (λ j.
+          ¬ EndsAtFinal s.fields s.fold final_poly (query_at positions betas arities openings reduced top (final_height p) j))))
+          ⊎ ((error : A) × (e ≡ CommitPhaseMmcsError error)
+          × SomeRoundFails s.opens_round arities top indices_read rows_read commitments (rounds_opened openings))
+          → OpeningsFault s p claims proof alpha betas positions e ⊎ (e ≡ OutOfMemory)
+      queries_fault_at good e (inl (inl is)) = inr is
+      queries_fault_at {A} {B} good e (inl (inr h)) =
+          let here : GoodInputs (top_height p claims) inputs = subst (λ t. GoodInputs t inputs) read.tallest good in
+          inl (inr (subst (λ (x : FriError A B). RoundsFault s p claims proof alpha betas positions x) (sym h.0)
+          (h.1.0, h.1.1, ((here.sums h.1.0 h.1.1).defined, λ ends. h.1.2 (ends_at h.1.0 h.1.1 ends)))))
+      queries_fault_at {A} {B} good e (inr h) = let some = subst (λ ys. Any (λ (k, opening). ¬ OpensAt s.opens_round arities top indices_read rows_read k opening) (zip (range_with_len 0 (length arities)) ys)) pairs h.2 in inl (inr (subst (λ (x : FriError A B). RoundsFault s p claims proof alpha betas positions x) (sym h.1)
+          (subst (λ n. Any (λ (k, opening). ¬ OpensRound s p claims proof alpha betas positions k opening) (zip (range_with_len 0 n) numbered)) (ap length read.scheduled)
+          (some_numbered _ _ (length arities) numbered (λ x l no opens. no (rounds_at x.0 x.1 l opens)) some))))
 
 -- numbers of an instance in range
 module _ {E Com : Type 0} (p : Parameters) (claims : List (CommitmentClaim E Com)) (two_adicity top : ℕ) where
@@ -368,7 +373,7 @@ module _ {E Com : Type 0} (p : Parameters) (claims : List (CommitmentClaim E Com
 
 -- each round's indices are those of the word that it folds to
 pub indices_below : (arities : List ℕ) (top : ℕ) (positions : List ℕ) (indices : List (List ℕ))
-    → indices ≡ tabulate (length arities) (λ k. map (λ position. slice_index (row_indices arities position) k) positions)
+    → indices ≡ indices_folded arities positions
     → sum arities ≤ top → All (λ position. position < 2 ^ top) positions
     → EachIndex arities (λ k. All (λ index. index < 2 ^ slice_index (heights_after arities top) k) (slice_index_or indices k []))
 indices_below arities top positions indices are within below k l =
@@ -378,3 +383,7 @@ indices_below arities top positions indices are within below k l =
     (λ i d m. let n : i < length positions = omega (arith, m, length-map positions (λ position. slice_index (row_indices arities position) k)) in
     subst (λ x. x < 2 ^ slice_index (heights_after arities top) k) (sym (get_or-map (λ position. slice_index (row_indices arities position) k) positions i 0 d n))
     (row_indices-below arities top (get_or positions i 0) k 0 within (below i 0 n) l))
+
+-- a fact of two values, at equal ones
+pub at_both : {A B : Type 0} (P : A → B → Type 0) {a a' : A} {b b' : B} → a ≡ a' → b ≡ b' → P a b → P a' b'
+at_both P {a} {a'} {b} {b'} e f h = subst (λ y. P a' y) f (subst (λ x. P x b) e h)

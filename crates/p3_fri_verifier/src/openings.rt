@@ -1,13 +1,19 @@
 //! The openings of a proof, once its positions and challenges are drawn.
 
-ghost use Rattle.std.specs.Prelude.{◌≡◌, ◌≢◌, ◌+◌, ◌^◌, ◌<◌, ◌≤◌, ◌↔◌, ◌⊎◌, All, length};
-ghost use Rattle.std.specs.Prelude.{Err, IsOk, IfErr};
+ghost use Rattle.std.specs.Prelude.{◌≡◌, ◌≢◌, ◌+◌, ◌^◌, ◌<◌, ◌≤◌, ◌↔◌, ◌⊎◌, All, length, sum};
+ghost use Rattle.std.specs.Prelude.{EachIndex, SomeIndex, Err, IsOk, IfErr};
+ghost use Rattle.algebra.specs.Nested.{lists};
+ghost use Rattle.p3_fri_relation.specs.declared.error.FriError.TheVariants.{CommitPhaseMmcsError};
+ghost use Rattle.p3_fri_relation.specs.declared.error.FriError.TheVariants.{FinalPolyMismatch};
 ghost use Rattle.p3_fri_relation.specs.declared.error.FriError.TheVariants.{OutOfMemory};
 ghost use Rattle.p3_fri_relation.specs.TestRounds.{HasCounts};
 ghost use Rattle.p3_fri_relation.specs.Acceptance.{IsInRange, top_height};
 ghost use Rattle.p3_fri_relation.specs.Acceptance.{log_arities as scheduled};
 ghost use Rattle.p3_fri_relation.specs.Faults.{OpeningsFault};
-ghost use Rattle.p3_fri_relation.specs.Views.{parameters_of, claims_of, proof_of};
+ghost use Rattle.p3_fri_relation.specs.FoldedQuery.{IsInOrder};
+ghost use Rattle.p3_fri_relation.specs.Views.{parameters_of, claims_of, proof_of, rounds_opened};
+ghost use Rattle.p3_fri_queries.specs.Folded.{query_at, EndsAtFinal, indices_folded, rows_folded};
+ghost use Rattle.p3_fri_queries.specs.Opened.{RoundsOpenTo, SomeRoundFails};
 ghost use Rattle.p3_fri_verifier.specs.Openings.{AreOpened};
 
 use p3_challenger_core::{CanObserve, FieldChallenger};
@@ -15,11 +21,87 @@ use p3_field_core::{ExtensionField, TwoAdicField, TwoAdicMultiplicativeCoset};
 use p3_fri_folding::{FriFoldingStrategy, FriParameters};
 use p3_fri_inputs::open_inputs;
 use p3_fri_queries::{fold_queries, verify_rounds};
-use p3_fri_relation::error::FriError;
-use p3_fri_relation::proof::{BatchMultiOpening, FriProof};
-use p3_fri_relation::setting::PlaysFri;
+use p3_fri_relation::error::{FriError, FriOpenings};
+use p3_fri_relation::proof::{BatchMultiOpening, CommitPhaseMultiStep, FriProof};
+use p3_fri_relation::setting::{ChallengeField, PlaysFri};
 use p3_mmcs::{CommitmentOpening, Mmcs};
 use std::alloc::Global;
+
+/// Verifies that each query, which is in order, ends at the final polynomial, and that the rounds'
+/// words open to the rows that the queries fold. `reduced_openings` has what each query meets.
+fn verify_queries<
+    F: TwoAdicField,
+    EF: ExtensionField<F>,
+    M: Mmcs<EF>,
+    S: FriFoldingStrategy<F, EF>,
+>(
+    alloc: Global,
+    folding: &S,
+    mmcs: &M,
+    positions: &[usize],
+    betas: &[EF],
+    log_arities: &[usize],
+    commitments: &[M::Commitment],
+    openings: &[CommitPhaseMultiStep<EF, M>],
+    reduced_openings: Vec<FriOpenings<EF>>,
+    log_global_max_height: usize,
+    log_final_height: usize,
+    final_poly: &[EF],
+) -> Result<(), FriError<M::Error, S::InputError>>
+    requires count { length reduced_openings.items ≡ length positions.now }
+    requires in_order { let q = query_at positions.now betas.now log_arities.now openings.now
+        (lists reduced_openings.items) log_global_max_height log_final_height in
+        EachIndex positions.now (λ j. IsInOrder (q j)) }
+    requires betas { length betas.now ≡ length log_arities.now }
+    requires commitments { length commitments.now ≡ length log_arities.now }
+    requires openings { length openings.now ≡ length log_arities.now }
+    requires within_max_height { log_global_max_height ≤ S.max_log_height folding.now }
+    requires within_two_adicity { log_global_max_height ≤ F.TWO_ADICITY }
+    requires within_word { All (λ position. position < 2 ^ log_global_max_height) positions.now }
+    requires within { sum log_arities.now ≤ log_global_max_height }
+    ensures exact { let q = query_at positions.now betas.now log_arities.now openings.now
+        (lists reduced_openings.items) log_global_max_height log_final_height in
+        result ≢ Err OutOfMemory → (IsOk result ↔ EachIndex positions.now (λ j.
+        EndsAtFinal ⟦<EF as ChallengeField<F>>⟧.fields (S.row_fold folding.now) final_poly.now
+        (q j)) × RoundsOpenTo (M.opens mmcs.now) log_arities.now log_global_max_height
+        (indices_folded log_arities.now positions.now)
+        (rows_folded EF.ops (S.row_fold folding.now) (length log_arities.now)
+        (length positions.now) q) commitments.now (rounds_opened openings.now)) }
+    ensures refusal { let q = query_at positions.now betas.now log_arities.now openings.now
+        (lists reduced_openings.items) log_global_max_height log_final_height in
+        IfErr result (λ e. ((e ≡ OutOfMemory) ⊎ ((e ≡ FinalPolyMismatch)
+        × SomeIndex positions.now (λ j. ¬ EndsAtFinal ⟦<EF as ChallengeField<F>>⟧.fields
+        (S.row_fold folding.now) final_poly.now (q j))))
+        ⊎ ((error : M.Error) × (e ≡ CommitPhaseMmcsError error)
+        × SomeRoundFails (M.opens mmcs.now) log_arities.now log_global_max_height
+        (indices_folded log_arities.now positions.now)
+        (rows_folded EF.ops (S.row_fold folding.now) (length log_arities.now)
+        (length positions.now) q) commitments.now (rounds_opened openings.now))) }
+{
+    let folded = match fold_queries(
+        alloc,
+        folding,
+        positions,
+        betas,
+        log_arities,
+        openings,
+        reduced_openings,
+        log_global_max_height,
+        log_final_height,
+        final_poly,
+    ) {
+        Ok(folded) => folded,
+        Err(refusal) => return Err(refusal),
+    };
+    verify_rounds(
+        mmcs,
+        commitments,
+        log_arities,
+        log_global_max_height,
+        openings,
+        &folded,
+    )
+}
 
 /// Verifies all that a proof opens at the queries' positions, with these folding challenges: the
 /// openings of the inputs, each query's way to the final polynomial, and the openings of the
@@ -68,8 +150,7 @@ pub(crate) fn verify_openings<
         (claims_of (λ d. d.log_size) claims.now) (proof_of proof.now) alpha betas.now
         positions.now e ⊎ (e ≡ OutOfMemory)) }
 {
-    let openings = proof.commit_phase_openings.as_slice();
-    let opened = open_inputs(
+    let reduced_openings = match open_inputs(
         alloc,
         params,
         log_global_max_height,
@@ -78,33 +159,22 @@ pub(crate) fn verify_openings<
         alpha,
         input_mmcs,
         claims,
-    );
-    let reduced_openings = match opened {
+    ) {
         Ok(reduced_openings) => reduced_openings,
         Err(refusal) => return Err(refusal),
     };
-    let way = fold_queries(
+    verify_queries(
         alloc,
         folding,
+        &params.mmcs,
         positions,
         betas,
         log_arities,
-        openings,
+        &proof.commit_phase_commits,
+        &proof.commit_phase_openings,
         reduced_openings,
         log_global_max_height,
         params.log_blowup + params.log_final_poly_len,
         &proof.final_poly,
-    );
-    let folded = match way {
-        Ok(folded) => folded,
-        Err(refusal) => return Err(refusal),
-    };
-    verify_rounds(
-        &params.mmcs,
-        &proof.commit_phase_commits,
-        log_arities,
-        log_global_max_height,
-        openings,
-        &folded,
     )
 }

@@ -8,19 +8,17 @@ ghost use Rattle.p3_fri_relation.specs.Acceptance.{FriAccepts, test_replay};
 ghost use Rattle.p3_fri_relation.specs.Faults.{Stands};
 ghost use Rattle.p3_fri_relation.specs.Views.{parameters_of, claims_of, proof_of};
 
+use crate::draws::draw;
 use crate::openings::verify_openings;
 use crate::plan::make_plan;
-use crate::positions::{index_bits, positions_of};
-use crate::replay::replay;
 use p3_challenger_core::{CanObserve, FieldChallenger, GrindingChallenger};
 use p3_field_core::{ExtensionField, TwoAdicField, TwoAdicMultiplicativeCoset};
 use p3_fri_folding::{FriFoldingStrategy, FriParameters};
 use p3_fri_relation::error::FriError;
 use p3_fri_relation::proof::{BatchMultiOpening, FriProof};
 use p3_fri_relation::setting::PlaysFri;
-use p3_fri_transcript::transcript::FriShape;
 use p3_mmcs::{CommitmentOpening, Mmcs};
-use std::alloc::{AllocError, Global};
+use std::alloc::Global;
 
 /// Verifies a proof of the low-degree test (FRI, ICALP 2018) of what is claimed of committed
 /// matrices, where `alpha` is the challenge that batches the claims' quotients.
@@ -84,24 +82,12 @@ pub fn verify_fri<
         Err(refusal) => return Err(refusal),
     };
     let extra_bits = folding.extra_query_index_bits();
-    let log_arities = match Vec::from_slice(alloc, &plan.log_arities) {
-        Ok(log_arities) => log_arities,
-        Err(AllocError) => return Err(FriError::OutOfMemory),
-    };
-    let width = index_bits(plan.log_global_max_height, extra_bits);
-    let replayed = match replay::<F, EF, M::Commitment, C, M::Error, InputMmcs::Error>(
-        alloc,
-        &mut *challenger,
-        FriShape::with_schedule(params, log_arities, width),
-        &proof.commit_phase_commits,
-        &proof.commit_pow_witnesses,
-        &proof.final_poly,
-        proof.query_pow_witness,
+    let draws = match draw::<F, EF, M, InputMmcs, C>(
+        alloc, params, &plan, proof, challenger, extra_bits,
     ) {
-        Ok(replayed) => replayed,
+        Ok(draws) => draws,
         Err(refusal) => return Err(refusal),
     };
-    let positions = positions_of(replayed.indices, extra_bits);
     verify_openings::<F, EF, M, InputMmcs, S, C>(
         alloc,
         folding,
@@ -112,7 +98,7 @@ pub fn verify_fri<
         alpha,
         &plan.log_arities,
         plan.log_global_max_height,
-        &replayed.betas,
-        &positions,
+        &draws.betas,
+        &draws.positions,
     )
 }

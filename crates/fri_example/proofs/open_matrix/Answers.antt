@@ -3,10 +3,6 @@ use Rattle.std.proofs.lemmas.Result.{IfOk-weaker}
 use Rattle.fri_example.proofs.Openings.{one_held, held_sizes, opened}
 use Rattle.fri_example.proofs.open_matrix.Goals as goal
 
-pub commit-requires : goal.commit-requires
-commit-requires g c =
-    subst (g.P.Pcs.CanCommit c.args.scheme.now) (sym c.in_ok-evaluations.ensures) c.requires.committable
-
 pub open_at-requires-clause-sizes : goal.open_at-requires-clause-sizes
 open_at-requires-clause-sizes g c =
     ap (λ ds. map g.P.Pcs.domain_size ds) c.in_ok-listed.ensures

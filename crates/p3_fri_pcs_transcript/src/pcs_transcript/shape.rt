@@ -12,8 +12,8 @@ use p3_challenger_fs::{
     DomainSeparator, Hierarchy, Interaction, InteractionPattern, Kind, Length, Seed,
 };
 use p3_field_core::{ExtensionField, Field};
-use p3_fri_folding::FriParameters;
 use p3_fri_pow::steps::push_pow;
+use p3_fri_transcript::FriParameters;
 use p3_mmcs::{CommitmentWithOpeningPoints, OpenedValues};
 use std::alloc::{AllocError, Global};
 

@@ -11,7 +11,7 @@ ghost use Rattle.p3_fri_transcript.specs.Turns.{SomeRoundLeft, RoundPlayed};
 ghost use Rattle.p3_fri_transcript.specs.Views.{state_of, left_of, shape_of, Kept};
 ghost use Rattle.p3_fri_prover.specs.Inputs.{of_length};
 ghost use Rattle.p3_fri_prover.specs.Refusals.{RoundRefusal};
-ghost use Rattle.p3_fri_prover.specs.Rounds.{CanFold, IsRound};
+ghost use Rattle.p3_fri_prover.specs.Rounds.{CanFold, KeepsWord, IsRound};
 
 use crate::prover::roll_in::{arity_of, roll_in};
 use p3_challenger_core::{CanObserve, FieldChallenger, GrindingChallenger, Plays};
@@ -30,6 +30,22 @@ pub(crate) struct CommittedRound<F, EF: Copy, M: Mmcs<EF>> {
     pub prover_data: M::ProverData,
     pub witness: F,
     pub word: Vec<EF>,
+}
+
+/// Commits to the word, in rows of the arity.
+fn commit_word<EF: Copy, M: Mmcs<EF>>(
+    alloc: Global,
+    mmcs: &M,
+    log_arity: usize,
+    word: Vec<EF>,
+) -> Result<(M::Commitment, M::ProverData), AllocError>
+    requires below_64 { log_arity < 64 }
+    requires power_of_two { (h : ℕ) × (vec_len word ≡ 2 ^ (h + log_arity)) }
+    ensures { IfOk result (λ made.
+        KeepsWord M.committed M.commitment_of log_arity word.items made.0 made.1) }
+{
+    let leaves = RowMajorMatrix::new(word, arity_of(log_arity));
+    mmcs.commit_matrix(alloc, leaves)
 }
 
 /// The word after a round: each row of the committed matrix is folded, and the input of the folded
@@ -94,8 +110,7 @@ pub(crate) fn commit_round<
         ⟦<C as Plays<F, EF, M::Commitment>>⟧.moves (shape_of transcript.old).commit_pow_bits
         log_arity word.items (state_of transcript.old)) }
 {
-    let leaves = RowMajorMatrix::new(word, arity_of(log_arity));
-    let (commitment, prover_data) = mmcs.commit_matrix(alloc, leaves)?;
+    let (commitment, prover_data) = commit_word(alloc, mmcs, log_arity, word)?;
     let (beta, witness) = match transcript.commit_round(commitment) {
         Ok(drawn) => drawn,
         Err(refusal) => return Err(refusal),

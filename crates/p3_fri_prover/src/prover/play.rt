@@ -10,7 +10,8 @@ ghost use Rattle.p3_fri_transcript.specs.Shapes.{fri_shape};
 ghost use Rattle.p3_fri_transcript.specs.Steps.{fri_steps};
 ghost use Rattle.p3_fri_transcript.specs.Turns.{RoundsLeft};
 ghost use Rattle.p3_fri_transcript.specs.Views.{state_of, left_of, shape_of, Kept};
-ghost use Rattle.p3_fri_prover.specs.Played.{CanPlay, IsPlayed, PlayRefusal};
+ghost use Rattle.p3_fri_prover.specs.Played.{CanPlay, Describes, IsPlayed, PlayRefusal};
+ghost use Rattle.p3_fri_prover.specs.Played.{AreQueriesPlayed, QueriesRefusal};
 
 use crate::prover::last_word::final_polynomial;
 use crate::prover::rounds::{CommittedRounds, commit_rounds};
@@ -37,6 +38,48 @@ pub(crate) struct Played<F, EF: Copy, M: Mmcs<EF>> {
     pub indices: Vec<usize>,
 }
 
+/// Plays the queries on the final polynomial of the word. Answers its coefficients, the witness
+/// before the queries, zero at no bits, and their indices.
+fn play_queries<
+    F: TwoAdicField,
+    EF: ExtensionField<F>,
+    M,
+    C: FieldChallenger<F> + GrindingChallenger<Witness = F>,
+>(
+    alloc: Global,
+    params: &FriParameters<M>,
+    word: Vec<EF>,
+    transcript: &mut ProverTranscript<'_, C, F, EF>,
+) -> Result<(Vec<EF>, F, Vec<usize>), FriProverError>
+    requires log_final_poly_len_below_64 { params.now.log_final_poly_len < 64 }
+    requires within_two_adicity { params.now.log_final_poly_len ≤ F.TWO_ADICITY }
+    requires long_enough { 2 ^ params.now.log_final_poly_len ≤ vec_len word }
+    requires described { (shape_of transcript.old).final_poly_len
+        ≡ 2 ^ params.now.log_final_poly_len }
+    requires all_rounds_played { RoundsLeft EF.DIMENSION (shape_of transcript.old) 0
+        (left_of transcript.old) }
+    requires query_bits_at_most_max { (shape_of transcript.old).query_pow_bits
+        ≤ C.MAX_SAMPLE_BITS }
+    requires index_bits_at_most_max { (shape_of transcript.old).index_bits ≤ C.MAX_SAMPLE_BITS }
+    ensures kept { Kept transcript.old transcript.new }
+    ensures steps { OnOk result (left_of transcript.new ≡ []) }
+    ensures played { IfOk result (λ played.
+        AreQueriesPlayed ⟦<EF as ChallengeField<F>>⟧.fields ⟦<C as Plays<F, EF, F>>⟧.moves
+        params.now.log_final_poly_len (shape_of transcript.old) word.items
+        (state_of transcript.old) C.solution played.0.items played.1 played.2.items
+        (state_of transcript.new)) }
+    ensures refused { IfErr result
+        (QueriesRefusal ⟦<EF as ChallengeField<F>>⟧.fields ⟦<C as Plays<F, EF, F>>⟧.moves
+        params.now.log_final_poly_len (shape_of transcript.old) word.items
+        (state_of transcript.old)) }
+{
+    let final_poly = final_polynomial::<F, EF, M>(alloc, params, word)?;
+    match transcript.query_phase(alloc, &final_poly) {
+        Ok((indices, witness)) => Ok((final_poly, witness.unwrap_or(F::ZERO), indices)),
+        Err(refusal) => Err(refusal),
+    }
+}
+
 /// Plays all rounds from the first input on, into which the others are rolled, then the final
 /// polynomial of the word after them and the queries.
 pub(crate) fn play<
@@ -60,16 +103,10 @@ pub(crate) fn play<
         (S.max_log_height folding.now) (length (slice_index_or (lists inputs.items) 0 [])) }
     requires log_final_poly_len_below_64 { params.now.log_final_poly_len < 64 }
     requires within_two_adicity { params.now.log_final_poly_len ≤ F.TWO_ADICITY }
-    requires schedule { log_arities.now ≡ (shape_of transcript.old).log_arities }
-    requires described { (shape_of transcript.old).final_poly_len
-        ≡ 2 ^ params.now.log_final_poly_len }
+    requires described { Describes (shape_of transcript.old) log_arities.now
+        params.now.log_final_poly_len C.MAX_SAMPLE_BITS }
     requires rounds_left { RoundsLeft EF.DIMENSION (shape_of transcript.old)
         (length log_arities.now) (left_of transcript.old) }
-    requires commit_bits_at_most_max { (shape_of transcript.old).commit_pow_bits
-        ≤ C.MAX_SAMPLE_BITS }
-    requires query_bits_at_most_max { (shape_of transcript.old).query_pow_bits
-        ≤ C.MAX_SAMPLE_BITS }
-    requires index_bits_at_most_max { (shape_of transcript.old).index_bits ≤ C.MAX_SAMPLE_BITS }
     ensures kept { Kept transcript.old transcript.new }
     ensures steps { OnOk result (left_of transcript.new ≡ []) }
     ensures played { IfOk result (λ played. (top : ℕ) →
@@ -87,32 +124,32 @@ pub(crate) fn play<
         params.now.log_final_poly_len (shape_of transcript.old) top (lists inputs.items)
         (state_of transcript.old) C.solution e) }
 {
-    let mut others = inputs;
-    let first = others.remove(0);
-    let committed = commit_rounds(
-        alloc,
-        folding,
-        &params.mmcs,
-        &others,
-        log_arities,
-        first,
-        &mut *transcript,
-    );
+    let committed = {
+        let mut others = inputs;
+        let first = others.remove(0);
+        commit_rounds(
+            alloc,
+            folding,
+            &params.mmcs,
+            &others,
+            log_arities,
+            first,
+            &mut *transcript,
+        )
+    };
     let (rounds, word) = match committed {
         Ok(committed) => committed,
         Err(refusal) => return Err(refusal),
     };
-    let final_poly = final_polynomial::<F, EF, M>(alloc, params, word)?;
-    let (indices, witness) = match transcript.query_phase(alloc, &final_poly) {
-        Ok(drawn) => drawn,
-        Err(refusal) => return Err(refusal),
-    };
-    Ok(Played {
-        rounds,
-        final_poly,
-        query_witness: witness.unwrap_or(F::ZERO),
-        indices,
-    })
+    match play_queries(alloc, params, word, transcript) {
+        Ok((final_poly, query_witness, indices)) => Ok(Played {
+            rounds,
+            final_poly,
+            query_witness,
+            indices,
+        }),
+        Err(refusal) => Err(refusal),
+    }
 }
 
 /// Plays the transcript of this shape, of which this is the seed, over the challenger. A refusal
@@ -140,12 +177,9 @@ pub(crate) fn play_test<
         (S.max_log_height folding.now) (length (slice_index_or (lists inputs.items) 0 [])) }
     requires log_final_poly_len_below_64 { params.now.log_final_poly_len < 64 }
     requires within_two_adicity { params.now.log_final_poly_len ≤ F.TWO_ADICITY }
-    requires schedule { log_arities.now ≡ (fri_shape shape).log_arities }
-    requires described { (fri_shape shape).final_poly_len ≡ 2 ^ params.now.log_final_poly_len }
+    requires described { Describes (fri_shape shape) log_arities.now params.now.log_final_poly_len
+        C.MAX_SAMPLE_BITS }
     requires turns { seed_turns seed ≡ map turn_of (fri_steps EF.DIMENSION (fri_shape shape)) }
-    requires commit_bits_at_most_max { (fri_shape shape).commit_pow_bits ≤ C.MAX_SAMPLE_BITS }
-    requires query_bits_at_most_max { (fri_shape shape).query_pow_bits ≤ C.MAX_SAMPLE_BITS }
-    requires index_bits_at_most_max { (fri_shape shape).index_bits ≤ C.MAX_SAMPLE_BITS }
     ensures played { IfOk result (λ played. (top : ℕ) →
         length (slice_index_or (lists inputs.items) 0 []) ≡ 2 ^ top →
         IsPlayed M.committed M.commitment_of ⟦<EF as ChallengeField<F>>⟧.fields

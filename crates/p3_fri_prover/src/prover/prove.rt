@@ -22,10 +22,76 @@ use p3_challenger_core::{CanObserve, FieldChallenger, GrindingChallenger};
 use p3_field_core::{ExtensionField, TwoAdicField};
 use p3_fri_folding::{FriFoldingStrategy, FriParameters};
 use p3_fri_pow::FriProverError;
-use p3_fri_relation::proof::{BatchMultiOpening, FriProof};
+use p3_fri_relation::proof::{BatchMultiOpening, CommitPhaseMultiStep, FriProof};
 use p3_fri_relation::setting::PlaysFri;
 use p3_mmcs::Mmcs;
 use std::alloc::{AllocError, Global};
+
+/// The inputs and the rounds opened at the positions, which are the indices without their lowest
+/// `extra_bits` bits.
+fn open_at_indices<EF: Copy, F: Copy, M: Mmcs<EF>, InputMmcs: Mmcs<F>>(
+    alloc: Global,
+    params: &FriParameters<M>,
+    indices: &[usize],
+    prover_data: &[M::ProverData],
+    log_arities: &[usize],
+    log_global_max_height: usize,
+    extra_bits: usize,
+    data_with_points: &[ProverDataWithOpeningPoints<'_, EF, InputMmcs::ProverData>],
+    input_mmcs: &InputMmcs,
+) -> Result<
+    (
+        Vec<BatchMultiOpening<F, InputMmcs>>,
+        Vec<CommitPhaseMultiStep<EF, M>>,
+    ),
+    AllocError,
+>
+    requires extra_bits_below_64 { extra_bits < 64 }
+    requires top_below_64 { log_global_max_height < 64 }
+    requires positions { All (λ q. q < 2 ^ log_global_max_height)
+        (map (λ i. i / 2 ^ extra_bits) indices.now) }
+    requires data_heights { All (λ datum. max_height
+        (dimensions_of (InputMmcs.committed datum.prover_data.now)) ≤ 2 ^ log_global_max_height)
+        data_with_points.now }
+    requires data_for_each { length prover_data.now ≡ length log_arities.now }
+    requires openable { (k : ℕ) (datum : M.ProverData) → k < length log_arities.now →
+        IsOpenable log_arities.now (map (λ i. i / 2 ^ extra_bits) indices.now) k
+        (M.committed (slice_index_or prover_data.now k datum)) }
+    ensures inputs_opened { IfOk result (λ opened. AllZip (λ datum o.
+        OpensBatch (InputMmcs.opens input_mmcs.now) log_global_max_height
+        (map (λ i. i / 2 ^ extra_bits) indices.now)
+        (InputMmcs.committed datum.prover_data.now)
+        (InputMmcs.commitment_of datum.prover_data.now)
+        (record { rows = nested o.opened_values.items; path = o.opening_proof }))
+        data_with_points.now opened.0.items) }
+    ensures rounds_counted { IfOk result (λ opened.
+        vec_len opened.1 ≡ length log_arities.now) }
+    ensures rounds_opened { IfOk result (λ opened. (k : ℕ) (o : _) (datum : M.ProverData)
+        (matrix : RowMajorMatrix EF) → k < length log_arities.now →
+        M.committed (slice_index_or prover_data.now k datum) ≡ matrix ∷ [] →
+        OpensRows (M.opens params.now.mmcs) (slice_index log_arities.now k) matrix
+        (map (λ q. index_into log_arities.now q k) (map (λ i. i / 2 ^ extra_bits) indices.now))
+        (M.commitment_of (slice_index_or prover_data.now k datum))
+        (lists (slice_index_or opened.1.items k o).sibling_values.items)
+        (slice_index_or opened.1.items k o).opening_proof) }
+{
+    let positions = shifted(alloc, indices, extra_bits)?;
+    let input_openings = open_inputs(
+        alloc,
+        input_mmcs,
+        log_global_max_height,
+        &positions,
+        data_with_points,
+    )?;
+    let commit_phase_openings = answer_queries(
+        alloc,
+        &params.mmcs,
+        log_arities,
+        prover_data,
+        &positions,
+    )?;
+    Ok((input_openings, commit_phase_openings))
+}
 
 /// The proof of what was played: the inputs and the rounds opened at the positions, which are the
 /// drawn indices without their lowest `extra_bits` bits.
@@ -89,20 +155,16 @@ fn open_played<F: TwoAdicField, EF: ExtensionField<F>, M: Mmcs<EF>, InputMmcs: M
         prover_data,
         witnesses,
     } = rounds;
-    let positions = shifted(alloc, &indices, extra_bits)?;
-    let input_openings = open_inputs(
+    let (input_openings, commit_phase_openings) = open_at_indices(
         alloc,
-        input_mmcs,
-        log_global_max_height,
-        &positions,
-        data_with_points,
-    )?;
-    let commit_phase_openings = answer_queries(
-        alloc,
-        &params.mmcs,
-        log_arities,
+        params,
+        &indices,
         &prover_data,
-        &positions,
+        log_arities,
+        log_global_max_height,
+        extra_bits,
+        data_with_points,
+        input_mmcs,
     )?;
     Ok(FriProof {
         batch_pow_witness,

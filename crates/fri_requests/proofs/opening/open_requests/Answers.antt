@@ -2,7 +2,7 @@ use Rattle.std.proofs.Common.{◌≡◌, refl, sym, subst}
 use Rattle.p3_mmcs.specs.ProverData.{matrices_of, root_over}
 use Rattle.p3_pcs.proofs.Honest.{claims_honest}
 use Rattle.p3_fri_completeness.specs.Requests.{held_of, relation_claims}
-use Rattle.p3_fri_opening_verifier.specs.Ends.{last_state}
+use Rattle.p3_fri_two_adic.specs.Ends.{last_state}
 use Rattle.p3_fri_relation.specs.Acceptance.{Accepts}
 use Rattle.p3_fri_relation.specs.Views.{parameters_of, proof_of}
 use Rattle.fri_requests.specs.Setting.{fields, sha256_setting}

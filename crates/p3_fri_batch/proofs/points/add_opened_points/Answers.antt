@@ -16,7 +16,20 @@ use Rattle.p3_fri_openings.proofs.First.{at_item}
 use Rattle.p3_fri_batch.specs.Words.{claim_at, claims_of, terms_at}
 use Rattle.p3_fri_batch.proofs.Terms.{entry_more, terms_length, claims_wide, claims_taken}
 use Rattle.p3_fri_batch.proofs.Terms.{step_more}
+use Rattle.p3_fri_batch.proofs.points.add_opened_points.Given.{Over}
 use Rattle.p3_fri_batch.proofs.points.add_opened_points.Goals as goal
+
+abbrev fields_of : (g : Over) → Fields g.row.F.Denot g.row.EF.Denot
+fields_of g = record {
+  base = g.F.Field.ops;
+  ext = g.EF.Field.ops;
+  lift = g.EF.ExtensionField.lift;
+  coefficients = g.EF.ExtensionField.coefficients;
+  degree = g.EF.ExtensionField.DIMENSION;
+  root = g.F.TwoAdicField.root;
+  two_adicity = g.F.TwoAdicField.TWO_ADICITY;
+  shift = g.F.Field.GENERATOR;
+}
 
 pub loop-point-init : goal.loop-point-init
 loop-point-init g c = record {
@@ -46,49 +59,29 @@ combine-claimed-requires g c =
     let e = c.deref.ensures.value in let is = c.index-values-point.is in cc in
     omega (arith, ap length s, wide, c.requires.ladder)
 
-pub inverses_at-inverses-requires : goal.inverses_at-inverses-requires
-inverses_at-inverses-requires g c = record {
-  power_of_two = c.requires.height;
-  inverses = c.requires.inverses;
-  covered = at_item (λ z. IsCovered (length c.args.word.now) c.args.table.now z) c.args.points.now
-      c.loop-point.point c.index-points-point.result c.loop-point-test.true c.index-points-point.is
-      c.requires.covered;
-}
+pub inverses_at-inverses-requires-clause-covered : goal.inverses_at-inverses-requires-clause-covered
+inverses_at-inverses-requires-clause-covered g c =
+    at_item (λ z. IsCovered (length c.args.word.now) c.args.table.now z) c.args.points.now
+    c.loop-point.point c.index-points-point.result c.loop-point-test.true c.index-points-point.is
+    c.requires.covered
 
-pub add_quotients-requires : goal.add_quotients-requires
-add_quotients-requires g c =
-    let f : Fields g.row.F.Denot g.row.EF.Denot = record {
-      base = g.F.Field.ops;
-      ext = g.EF.Field.ops;
-      lift = g.EF.ExtensionField.lift;
-      coefficients = g.EF.ExtensionField.coefficients;
-      degree = g.EF.ExtensionField.DIMENSION;
-      root = g.F.TwoAdicField.root;
-      two_adicity = g.F.TwoAdicField.TWO_ADICITY;
-      shift = g.F.Field.GENERATOR;
-    } in
+pub add_quotients-requires-clause-compressed : goal.add_quotients-requires-clause-compressed
+add_quotients-requires-clause-compressed g c =
+    omega arith
+
+pub add_quotients-requires-clause-inverses : goal.add_quotients-requires-clause-inverses
+add_quotients-requires-clause-inverses g c =
+    let f = fields_of g in
     let n = length c.args.word.now in
     let z = c.index-points-point.result in
-    record {
-      compressed = omega arith;
-      inverses = ap length c.inverses_at-inverses.ensures
-          ∙ length-map (coset_of f n) (λ x. f.ext.inv (sub f.ext z (f.lift x)))
-          ∙ length-tabulate n (λ i. coset_pt f.base f.root f.shift i (log2 n))
-          ∙ sym c.loop-point.auto.word;
-    }
+    ap length c.inverses_at-inverses.ensures
+    ∙ length-map (coset_of f n) (λ x. f.ext.inv (sub f.ext z (f.lift x)))
+    ∙ length-tabulate n (λ i. coset_pt f.base f.root f.shift i (log2 n))
+    ∙ sym c.loop-point.auto.word
 
 pub loop-point-preserved : goal.loop-point-preserved
 loop-point-preserved g c =
-    let f : Fields g.row.F.Denot g.row.EF.Denot = record {
-      base = g.F.Field.ops;
-      ext = g.EF.Field.ops;
-      lift = g.EF.ExtensionField.lift;
-      coefficients = g.EF.ExtensionField.coefficients;
-      degree = g.EF.ExtensionField.DIMENSION;
-      root = g.F.TwoAdicField.root;
-      two_adicity = g.F.TwoAdicField.TWO_ADICITY;
-      shift = g.F.Field.GENERATOR;
-    } in
+    let f = fields_of g in
     let p = c.loop-point.point in
     let points = c.args.points.now in
     let values = c.args.values.now in
@@ -147,16 +140,7 @@ loop-point-preserved g c =
 
 pub returns : goal.returns
 returns g c =
-    let f : Fields g.row.F.Denot g.row.EF.Denot = record {
-      base = g.F.Field.ops;
-      ext = g.EF.Field.ops;
-      lift = g.EF.ExtensionField.lift;
-      coefficients = g.EF.ExtensionField.coefficients;
-      degree = g.EF.ExtensionField.DIMENSION;
-      root = g.F.TwoAdicField.root;
-      two_adicity = g.F.TwoAdicField.TWO_ADICITY;
-      shift = g.F.Field.GENERATOR;
-    } in
+    let f = fields_of g in
     let K = g.EF.Field.ops in
     let alpha = c.args.ladder.now.alpha in
     let p = c.loop-point.point in

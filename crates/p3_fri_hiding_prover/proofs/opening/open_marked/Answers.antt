@@ -10,7 +10,7 @@ use Rattle.p3_fri_relation.specs.Views.{parameters_of, proof_of}
 use Rattle.p3_fri_openings.specs.Rounds.{HasCoset}
 use Rattle.p3_fri_completeness.specs.Requests.{HoldsWords, held_of, relation_claims}
 use Rattle.p3_fri_opening_prover.specs.Refusals.{PassesChecks}
-use Rattle.p3_fri_opening_verifier.specs.Ends.{last_state}
+use Rattle.p3_fri_two_adic.specs.Ends.{last_state}
 use Rattle.p3_fri_hiding_prover.specs.Requests.{inside, inner_request}
 use Rattle.p3_fri_hiding_prover.proofs.Inside.{inside_marked}
 use Rattle.p3_fri_hiding_prover.proofs.Passed.{refused_fails}

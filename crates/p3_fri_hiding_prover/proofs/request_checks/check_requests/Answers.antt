@@ -21,13 +21,15 @@ fields_of g = record {
   shift = g.F.Field.GENERATOR;
 }
 
-pub check_points-requires : goal.check_points-requires
-check_points-requires g c = record {
-  cosets = c.requires.openable.data_openable;
-  points = points_counted (fields_of g) (parameters_of c.args.params.now)
-      g.InputMmcs.Mmcs.committed (map inside (map request c.args.requests.now))
-      c.requires.openable.points;
-}
+pub check_points-requires-clause-cosets : goal.check_points-requires-clause-cosets
+check_points-requires-clause-cosets g c =
+    c.requires.openable.data_openable
+
+pub check_points-requires-clause-points : goal.check_points-requires-clause-points
+check_points-requires-clause-points g c =
+    points_counted (fields_of g) (parameters_of c.args.params.now)
+    g.InputMmcs.Mmcs.committed (map inside (map request c.args.requests.now))
+    c.requires.openable.points
 
 pub returns-in_err-check_matrices : goal.returns-in_err-check_matrices
 returns-in_err-check_matrices g c =

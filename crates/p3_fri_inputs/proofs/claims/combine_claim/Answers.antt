@@ -13,25 +13,25 @@ use Rattle.p3_fri_inputs.proofs.claims.combine_claim.Goals as goal
 pub push_combined-requires : goal.push_combined-requires
 push_combined-requires g c =
     let size = λ (domain : Coset g.row.F.Denot g.row.F-Prepared.Denot g.F.TwoAdicField g.F.Field g.F.PartialEq g.F.Add g.F.Sub g.F.Mul g.F.Neg). domain.log_size in
-    let items = c.args.claim.now.matrices.items in
+    let items = c.args.matrices.now in
     let f = matrix_claim size in
     let ms = map f items in
     let k = c.loop-k.k in
-    let r = c.index.result.now in
-    let below : k < length items = omega (arith, c.args.claim.now.matrices.ok.0) in
-    all_mapped_at f (IsWithin c.args.ladder.now.powers.len) items c.requires k r below c.index.ensures
+    let r = c.index-matrices-k.result in
+    let below : k < length items = omega arith in
+    all_mapped_at f (IsWithin c.args.ladder.now.powers.len) items c.requires k r below c.index-matrices-k.is
 
 pub loop-k-preserved : goal.loop-k-preserved
 loop-k-preserved g c =
     let size = λ (domain : Coset g.row.F.Denot g.row.F-Prepared.Denot g.F.TwoAdicField g.F.Field g.F.PartialEq g.F.Add g.F.Sub g.F.Mul g.F.Neg). domain.log_size in
-    let items = c.args.claim.now.matrices.items in
+    let items = c.args.matrices.now in
     let f = matrix_claim size in
     let ms = map f items in
     let k = c.loop-k.k in
-    let r = c.index.result.now in
-    let below : k < length items = omega (arith, c.args.claim.now.matrices.ok.0) in
+    let r = c.index-matrices-k.result in
+    let below : k < length items = omega arith in
     let values = λ (m : MatrixClaim g.row.EF.Denot).
     map (λ z. val g.EF.Field.ops z.values c.args.ladder.now.alpha) m.points in
     joined_pushed values ms k (f r) [] c.loop-k.combined.items c.push_combined.new.combined.items
-    (omega (arith, below, length-map items f)) (entry_of_map f items k r below c.index.ensures)
+    (omega (arith, below, length-map items f)) (entry_of_map f items k r below c.index-matrices-k.is)
     c.loop-k.invariant c.in_ok-push_combined.ensures

@@ -1,9 +1,9 @@
-use Rattle.std.proofs.Common.{◌++◌, ◌∷◌, ◌<◌, ◌∙◌, [], length, ap, arith}
+use Rattle.std.proofs.Common.{All, ◌++◌, ◌∷◌, ◌<◌, ◌∙◌, [], length, map, ap, sym, subst, arith}
 use Rattle.std.proofs.lemmas.List.{length-map, map-append}
 use Rattle.algebra.specs.Nested.{lists}
 use Rattle.p3_field_core.specs.declared.coset.TwoAdicMultiplicativeCoset.{TwoAdicMultiplicativeCoset as Coset}
 use Rattle.p3_fri_relation.specs.Setting.{CommitmentClaim}
-use Rattle.p3_fri_relation.specs.Views.{claims_of}
+use Rattle.p3_fri_relation.specs.Views.{matrix_claim, claims_of}
 use Rattle.p3_fri_inputs.specs.Claims.{claim_of, combined_values, IsWithin}
 use Rattle.algebra.proofs.Growing.{mapped_more, mapped_end}
 use Rattle.algebra.proofs.Lists.{entry_of_map}
@@ -22,7 +22,9 @@ combine_claim-requires g c =
     let here : i < length cs = omega (arith, below, length-map claims (claim_of size)) in
     let e = claim_of size it in
     let is_c = entry_of_map (claim_of size) claims i it below is in
-    all_of_one (IsWithin c.args.ladder.now.powers.len) cs c.requires i e here is_c
+    let items = c.deref.ensures.value ∙ ap (λ x. x.matrices.items) (sym is) in
+    subst (λ xs. All (IsWithin c.args.ladder.now.powers.len) (map (matrix_claim size) xs)) (sym items)
+    (all_of_one (IsWithin c.args.ladder.now.powers.len) cs c.requires i e here is_c)
 
 pub loop-batch-preserved : goal.loop-batch-preserved
 loop-batch-preserved g c =
@@ -43,7 +45,9 @@ loop-batch-preserved g c =
     mapped_more under cs i e (lists old) (lists c.push.new.self.items) here is_c
     c.loop-batch.invariant
     (ap lists c.in_ok-push.ensures.items ∙ map-append (λ v. v.items) old (new ∷ [])
-    ∙ ap (λ v. lists old ++ v ∷ []) c.in_ok-combine_claim.ensures)
+    ∙ ap (λ v. lists old ++ v ∷ []) (c.in_ok-combine_claim.ensures
+    ∙ ap (λ xs. combined_values g.EF.Field.ops c.args.ladder.now.alpha (map (matrix_claim size) xs))
+    (c.deref.ensures.value ∙ ap (λ x. x.matrices.items) (sym is))))
 
 pub returns : goal.returns
 returns g c =

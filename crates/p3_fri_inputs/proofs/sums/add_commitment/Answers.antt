@@ -47,24 +47,41 @@ bounds-rows-k g c =
     let known = its g (goal.at.bounds-rows-k g c).After-index in
     omega (arith, known.row_there, length-lists c.args.rows.now)
 
-pub add_block-end-requires : goal.add_block-end-requires
-add_block-end-requires g c =
-    let at = goal.at.add_block-end-requires g c in
+pub add_block-end-requires-clause-height : goal.add_block-end-requires-clause-height
+add_block-end-requires-clause-height g c =
+    let known = its g (goal.at.add_block-end-requires-clause-height g c).After-index in
+    omega (arith, known.height, c.loop-k.invariant.count)
+
+pub add_block-end-requires-clause-width : goal.add_block-end-requires-clause-width
+add_block-end-requires-clause-width g c =
+    let at = goal.at.add_block-end-requires-clause-width g c in
     let known = its g at.After-index in
     let row = row_is g at.After-as_slice
     (omega (arith, known.row_there, length-lists c.args.rows.now)) in
-    let matrix = c.index.result.now in
+    omega (arith, ap length row, known.row_width, known.within)
+
+pub add_block-end-requires-clause-points : goal.add_block-end-requires-clause-points
+add_block-end-requires-clause-points g c =
+    let known = its g (goal.at.add_block-end-requires-clause-points g c).After-index in
     let next : c.loop-k.k ≡ c.loop-k.k - 1 + 1 = omega arith in
-    let ends = ends_before g.EF.Field.ops g.EF.ExtensionField.lift c.args.log_blowup
-    c.loop-k.invariant known next in
-    let points = length-map matrix.points.items point_claim in
-    record {
-      height = omega (arith, known.height, c.loop-k.invariant.count);
-      width = omega (arith, ap length row, known.row_width, known.within);
-      points = omega (arith, ends, points, matrix.points.ok.0);
-      end = omega (arith, ends, known.inside, ap length c.requires.claimed);
-      inverses = c.requires.inverses;
-    }
+    let points = c.index.result.now.points in
+    omega (
+      arith,
+      ends_before g.EF.Field.ops g.EF.ExtensionField.lift c.args.log_blowup c.loop-k.invariant known next,
+      length-map points.items point_claim,
+      points.ok.0,
+    )
+
+pub add_block-end-requires-clause-end : goal.add_block-end-requires-clause-end
+add_block-end-requires-clause-end g c =
+    let known = its g (goal.at.add_block-end-requires-clause-end g c).After-index in
+    let next : c.loop-k.k ≡ c.loop-k.k - 1 + 1 = omega arith in
+    omega (
+      arith,
+      ends_before g.EF.Field.ops g.EF.ExtensionField.lift c.args.log_blowup c.loop-k.invariant known next,
+      known.inside,
+      ap length c.requires.claimed,
+    )
 
 pub loop-k-preserved : goal.loop-k-preserved
 loop-k-preserved g c =

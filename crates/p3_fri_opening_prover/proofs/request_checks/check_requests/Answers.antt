@@ -19,12 +19,14 @@ fields_of g = record {
   shift = g.F.Field.GENERATOR;
 }
 
-pub check_request_points-requires : goal.check_request_points-requires
-check_request_points-requires g c = record {
-  cosets = c.requires.openable.data_openable;
-  points = points_counted (fields_of g) (parameters_of c.args.params.now)
-      g.InputMmcs.Mmcs.committed (map request c.args.requests.now) c.requires.openable.points;
-}
+pub check_request_points-requires-clause-cosets : goal.check_request_points-requires-clause-cosets
+check_request_points-requires-clause-cosets g c =
+    c.requires.openable.data_openable
+
+pub check_request_points-requires-clause-points : goal.check_request_points-requires-clause-points
+check_request_points-requires-clause-points g c =
+    points_counted (fields_of g) (parameters_of c.args.params.now)
+    g.InputMmcs.Mmcs.committed (map request c.args.requests.now) c.requires.openable.points
 
 pub returns-in-Ok : goal.returns-in-Ok
 returns-in-Ok g c =

@@ -1,9 +1,12 @@
-use Rattle.std.proofs.Common.{refl, sym, ap, ◌∙◌, rules}
-use Rattle.p3_challenger_core.specs.Run.{moves}
+use Rattle.std.proofs.Common.{◌≡◌, true, refl, sym, ap, ◌∙◌, rules}
+use Rattle.std.specs.List.{flat_map}
+use Rattle.p3_challenger_core.specs.Run.{moves, observed_all}
 use Rattle.p3_challenger_fs.specs.Turns.{bytes_observed}
 use Rattle.p3_fri_pcs_transcript.specs.Counts.{all_claimed}
 use Rattle.p3_fri_pcs_transcript.specs.Shapes.{pcs_shape}
+use Rattle.p3_fri_pcs_transcript.specs.Steps.{PcsNumbers}
 use Rattle.p3_fri_pcs_transcript.proofs.ClaimTurns.{all_claims_left}
+use Rattle.p3_fri_relation.specs.Acceptance.{batch_replayed}
 use Rattle.p3_fri_relation.specs.Setting.{Setting}
 use Rattle.p3_fri_relation.specs.Views.{parameters_of, claims_of, proof_of}
 use Rattle.p3_fri_relation.proofs.WholeReplays.{values-of_claims}
@@ -11,6 +14,7 @@ use Rattle.p3_fri_opening_verifier.proofs.Composed.{Absorbed, batch_is, batch_pa
 use Rattle.p3_fri_opening_verifier.proofs.Composed.{accepted_inside, ends, stands_inside}
 use Rattle.p3_fri_opening_verifier.proofs.Composed.{not_accepted, batch_stands, numbers_are}
 use Rattle.p3_fri_opening_verifier.proofs.seeded.verify_seeded.Given.{Over}
+use Rattle.p3_fri_opening_verifier.proofs.seeded.verify_seeded.Goals.{After-start-transcript, After-begin_delegate}
 use Rattle.p3_fri_opening_verifier.proofs.seeded.verify_seeded.Goals as goal
 
 -- what the layers below compute and accept, named once
@@ -38,183 +42,117 @@ setting_at g folding mmcs input_mmcs = record {
   opens_round = g.M.Mmcs.opens mmcs;
 }
 
-pub claimed_openings-requires : goal.claimed_openings-requires
-claimed_openings-requires g c = record {
-  no_step_played = all_claims_left g.EF.ExtensionField.DIMENSION (pcs_shape c.args.shape)
-      (pcs_shape c.start-transcript.result.shape) _
-      c.start-transcript.ensures.starts.shape (c.start-transcript.ensures.steps ∙ c.requires.turns);
+-- the claims are those that the relation counts and absorbs
+absorbed : (g : Over) (c : After-start-transcript g)
+    → Absorbed (setting_at g c.args.folding.now c.args.params.now.mmcs c.args.input_mmcs.now)
+    (parameters_of c.args.params.now) (claims_of (λ d. d.log_size) c.args.claims.now) (proof_of c.args.proof.now)
+    c.args.challenger.now (pcs_shape c.args.shape) (all_claimed c.args.claims.now)
+    c.start-transcript.result.challenger.now
+    (observed_all g.C.CanObserve-1.observed c.start-transcript.result.challenger.now
+    (flat_map g.EF.ExtensionField.coefficients (all_claimed c.args.claims.now)))
+absorbed g c = record {
+  numbers_are = numbers_are (λ d. d.log_size) (parameters_of c.args.params.now) c.args.claims.now
+      (pcs_shape c.args.shape) c.requires.shape;
+  values_are = sym (values-of_claims (λ d. d.log_size) c.args.claims.now);
+  begun = c.start-transcript.ensures.starts.state
+      ∙ ap (λ bytes. bytes_observed g.F.Field.ops g.C.CanObserve-1.observed
+      c.args.challenger.now bytes) c.requires.stream;
+  all_observed = refl;
 }
 
-pub returns-in-Err-batch_phase-clause-exact : goal.returns-in-Err-batch_phase-clause-exact
-returns-in-Err-batch_phase-clause-exact g c other =
-    let s = setting_at g c.args.folding.now c.args.params.now.mmcs c.args.input_mmcs.now in
-    let p = parameters_of c.args.params.now in
-    let claims = claims_of (λ d. d.log_size) c.args.claims.now in
-    let proof = proof_of c.args.proof.now in
-    let numbers = pcs_shape c.args.shape in
-    let values = all_claimed c.args.claims.now in
-    let started = c.start-transcript.result.challenger.now in
-    let claimed = c.claimed_openings.new.self.challenger.now in
-    let absorbed : Absorbed s p claims proof c.args.challenger.now numbers values started claimed =
-    record {
-      numbers_are = numbers_are (λ d. d.log_size) p c.args.claims.now numbers c.requires.shape;
-      values_are = sym (values-of_claims (λ d. d.log_size) c.args.claims.now);
-      begun = c.start-transcript.ensures.starts.state
-          ∙ ap (λ bytes. bytes_observed g.F.Field.ops g.C.CanObserve-1.observed
-          c.args.challenger.now bytes) c.requires.stream;
-      all_observed = c.in-Ok.ensures.state;
-    } in (
-      (λ e. cc),
-      (λ a. absurd (not_accepted s p claims proof c.args.challenger.now _
-          (batch_is s p claims proof c.args.challenger.now numbers values started claimed absorbed)
-          (λ passes. let no = (rw (
-            c.in-Ok.ensures.kept.shape,
-            c.start-transcript.ensures.starts.shape,
-          ) at c.in-Err-batch_phase.ensures.passes).1
-          passes in cc)
-          a)),
-    )
+-- the test begins where the batching challenge was drawn
+drawn : (g : Over) (c : After-begin_delegate g)
+    → batch_replayed (setting_at g c.args.folding.now c.args.params.now.mmcs c.args.input_mmcs.now)
+    (parameters_of c.args.params.now) (claims_of (λ d. d.log_size) c.args.claims.now) (proof_of c.args.proof.now)
+    c.args.challenger.now
+    ≡ record { passes = true; alpha = c.in-Ok.alpha; state = c.begin_delegate.result.now }
+drawn g c =
+    batch_passed (setting_at g c.args.folding.now c.args.params.now.mmcs c.args.input_mmcs.now)
+    (parameters_of c.args.params.now) (claims_of (λ d. d.log_size) c.args.claims.now) (proof_of c.args.proof.now)
+    c.args.challenger.now (pcs_shape c.args.shape) (all_claimed c.args.claims.now)
+    c.start-transcript.result.challenger.now _ _ c.begin_delegate.result.now c.in-Ok.alpha
+    (absorbed g (goal.at.After-begin_delegate g c).After-start-transcript)
+    (rw c.start-transcript.ensures.starts.shape at c.in-Ok.ensures.batch)
+    c.begin_delegate.ensures.value
 
-pub returns-in-Err-batch_phase-clause-refusal : goal.returns-in-Err-batch_phase-clause-refusal
-returns-in-Err-batch_phase-clause-refusal g c =
-    let s = setting_at g c.args.folding.now c.args.params.now.mmcs c.args.input_mmcs.now in
-    let p = parameters_of c.args.params.now in
-    let claims = claims_of (λ d. d.log_size) c.args.claims.now in
-    let proof = proof_of c.args.proof.now in
-    let numbers = pcs_shape c.args.shape in
-    let values = all_claimed c.args.claims.now in
-    let started = c.start-transcript.result.challenger.now in
-    let claimed = c.claimed_openings.new.self.challenger.now in
-    let absorbed : Absorbed s p claims proof c.args.challenger.now numbers values started claimed =
-    record {
-      numbers_are = numbers_are (λ d. d.log_size) p c.args.claims.now numbers c.requires.shape;
-      values_are = sym (values-of_claims (λ d. d.log_size) c.args.claims.now);
-      begun = c.start-transcript.ensures.starts.state
-          ∙ ap (λ bytes. bytes_observed g.F.Field.ops g.C.CanObserve-1.observed
-          c.args.challenger.now bytes) c.requires.stream;
-      all_observed = c.in-Ok.ensures.state;
-    } in
-    batch_stands s p claims proof c.args.challenger.now numbers claimed
-    c.in-Err-batch_phase.failure c.refused-in-Err-batch_phase.result
-    (rw (c.in-Ok.ensures.kept.shape, c.start-transcript.ensures.starts.shape) at
-    c.in-Err-batch_phase.ensures.failure)
-    _ (batch_is s p claims proof c.args.challenger.now numbers values started claimed absorbed)
-    (λ passes. let no = (rw (c.in-Ok.ensures.kept.shape, c.start-transcript.ensures.starts.shape)
-    at c.in-Err-batch_phase.ensures.passes).1 passes in cc)
-    c.refused-in-Err-batch_phase.ensures
+pub draw_alpha-requires-clause-no_step_played : goal.draw_alpha-requires-clause-no_step_played
+draw_alpha-requires-clause-no_step_played g c =
+    all_claims_left g.EF.ExtensionField.DIMENSION (pcs_shape c.args.shape)
+    (pcs_shape c.start-transcript.result.shape) _ c.start-transcript.ensures.starts.shape
+    (c.start-transcript.ensures.steps ∙ c.requires.turns)
+
+pub draw_alpha-requires-clause-counts : goal.draw_alpha-requires-clause-counts
+draw_alpha-requires-clause-counts g c =
+    sym (ap (λ (n : PcsNumbers). n.counts)
+    (c.start-transcript.ensures.starts.shape ∙ c.requires.shape))
+
+pub draw_alpha-requires-clause-at_most_max : goal.draw_alpha-requires-clause-at_most_max
+draw_alpha-requires-clause-at_most_max g c =
+    rw (c.start-transcript.ensures.starts.shape, c.requires.shape) c.requires.batch_bits_at_most_max
+
+pub returns-in-Err-clause-exact : goal.returns-in-Err-clause-exact
+returns-in-Err-clause-exact g c other = (
+  (λ e. cc),
+  (λ a. absurd (not_accepted (setting_at g c.args.folding.now c.args.params.now.mmcs c.args.input_mmcs.now)
+      (parameters_of c.args.params.now) (claims_of (λ d. d.log_size) c.args.claims.now) (proof_of c.args.proof.now)
+      c.args.challenger.now _
+      (batch_is (setting_at g c.args.folding.now c.args.params.now.mmcs c.args.input_mmcs.now)
+      (parameters_of c.args.params.now) (claims_of (λ d. d.log_size) c.args.claims.now) (proof_of c.args.proof.now)
+      c.args.challenger.now _ _ _ _
+      (absorbed g (goal.at.returns-in-Err-clause-exact g c).After-start-transcript))
+      (λ passes. let no =
+      (rw c.start-transcript.ensures.starts.shape at c.in-Err.ensures.passes).1 passes in cc)
+      a)),
+)
+
+pub returns-in-Err-clause-refusal : goal.returns-in-Err-clause-refusal
+returns-in-Err-clause-refusal g c =
+    batch_stands (setting_at g c.args.folding.now c.args.params.now.mmcs c.args.input_mmcs.now)
+    (parameters_of c.args.params.now) (claims_of (λ d. d.log_size) c.args.claims.now) (proof_of c.args.proof.now)
+    c.args.challenger.now (pcs_shape c.args.shape) _
+    c.in-Err.failure c.refused.result
+    (rw c.start-transcript.ensures.starts.shape at c.in-Err.ensures.failure)
+    _
+    (batch_is (setting_at g c.args.folding.now c.args.params.now.mmcs c.args.input_mmcs.now)
+    (parameters_of c.args.params.now) (claims_of (λ d. d.log_size) c.args.claims.now) (proof_of c.args.proof.now)
+    c.args.challenger.now _ _ _ _
+    (absorbed g (goal.at.returns-in-Err-clause-refusal g c).After-start-transcript))
+    (λ passes. let no =
+    (rw c.start-transcript.ensures.starts.shape at c.in-Err.ensures.passes).1 passes in cc)
+    c.refused.ensures
 
 pub returns-in-Ok-tested-clause-exact : goal.returns-in-Ok-tested-clause-exact
-returns-in-Ok-tested-clause-exact g c other =
-    let s = setting_at g c.args.folding.now c.args.params.now.mmcs c.args.input_mmcs.now in
-    let p = parameters_of c.args.params.now in
-    let claims = claims_of (λ d. d.log_size) c.args.claims.now in
-    let proof = proof_of c.args.proof.now in
-    let numbers = pcs_shape c.args.shape in
-    let values = all_claimed c.args.claims.now in
-    let started = c.start-transcript.result.challenger.now in
-    let claimed = c.claimed_openings.new.self.challenger.now in
-    let absorbed : Absorbed s p claims proof c.args.challenger.now numbers values started claimed =
-    record {
-      numbers_are = numbers_are (λ d. d.log_size) p c.args.claims.now numbers c.requires.shape;
-      values_are = sym (values-of_claims (λ d. d.log_size) c.args.claims.now);
-      begun = c.start-transcript.ensures.starts.state
-          ∙ ap (λ bytes. bytes_observed g.F.Field.ops g.C.CanObserve-1.observed
-          c.args.challenger.now bytes) c.requires.stream;
-      all_observed = c.in-Ok.ensures.state;
-    } in
-    let alpha = c.in-Ok-batch_phase.alpha in
-    let lent = c.begin_delegate.result.now in
-    let drawn = batch_passed s p claims proof c.args.challenger.now numbers values started claimed
-    _ lent alpha absorbed
-    (rw (c.in-Ok.ensures.kept.shape, c.start-transcript.ensures.starts.shape) at
-    c.in-Ok-batch_phase.ensures.batch) c.begin_delegate.ensures.value in (
-      (λ e. accepted s p claims proof c.args.challenger.now alpha lent drawn
-          ((c.in-Ok-tested.ensures.exact (λ same. cc)).0 refl)),
-      (λ a. refl),
-    )
+returns-in-Ok-tested-clause-exact g c other = (
+  (λ e. accepted (setting_at g c.args.folding.now c.args.params.now.mmcs c.args.input_mmcs.now)
+      (parameters_of c.args.params.now) (claims_of (λ d. d.log_size) c.args.claims.now) (proof_of c.args.proof.now)
+      c.args.challenger.now c.in-Ok.alpha c.begin_delegate.result.now
+      (drawn g (goal.at.returns-in-Ok-tested-clause-exact g c).After-begin_delegate)
+      ((c.in-Ok-tested.ensures.exact (λ same. cc)).0 refl)),
+  (λ a. refl),
+)
 
 pub returns-in-Ok-tested-clause-state : goal.returns-in-Ok-tested-clause-state
 returns-in-Ok-tested-clause-state g c ok =
-    let s = setting_at g c.args.folding.now c.args.params.now.mmcs c.args.input_mmcs.now in
-    let p = parameters_of c.args.params.now in
-    let claims = claims_of (λ d. d.log_size) c.args.claims.now in
-    let proof = proof_of c.args.proof.now in
-    let numbers = pcs_shape c.args.shape in
-    let values = all_claimed c.args.claims.now in
-    let started = c.start-transcript.result.challenger.now in
-    let claimed = c.claimed_openings.new.self.challenger.now in
-    let absorbed : Absorbed s p claims proof c.args.challenger.now numbers values started claimed =
-    record {
-      numbers_are = numbers_are (λ d. d.log_size) p c.args.claims.now numbers c.requires.shape;
-      values_are = sym (values-of_claims (λ d. d.log_size) c.args.claims.now);
-      begun = c.start-transcript.ensures.starts.state
-          ∙ ap (λ bytes. bytes_observed g.F.Field.ops g.C.CanObserve-1.observed
-          c.args.challenger.now bytes) c.requires.stream;
-      all_observed = c.in-Ok.ensures.state;
-    } in
-    let alpha = c.in-Ok-batch_phase.alpha in
-    let lent = c.begin_delegate.result.now in
-    let drawn = batch_passed s p claims proof c.args.challenger.now numbers values started claimed
-    _ lent alpha absorbed
-    (rw (c.in-Ok.ensures.kept.shape, c.start-transcript.ensures.starts.shape) at
-    c.in-Ok-batch_phase.ensures.batch) c.begin_delegate.ensures.value in
-    ends s p claims proof c.args.challenger.now alpha lent drawn c.verify_fri-tested.new.challenger
-    _ (c.in-Ok-tested.ensures.state refl) (search rules)
+    ends (setting_at g c.args.folding.now c.args.params.now.mmcs c.args.input_mmcs.now)
+    (parameters_of c.args.params.now) (claims_of (λ d. d.log_size) c.args.claims.now) (proof_of c.args.proof.now)
+    c.args.challenger.now c.in-Ok.alpha c.begin_delegate.result.now
+    (drawn g (goal.at.returns-in-Ok-tested-clause-state g c).After-begin_delegate)
+    c.verify_fri-tested.new.challenger _ (c.in-Ok-tested.ensures.state refl) (search rules)
 
 pub returns-in-Err-tested-clause-exact : goal.returns-in-Err-tested-clause-exact
-returns-in-Err-tested-clause-exact g c other =
-    let s = setting_at g c.args.folding.now c.args.params.now.mmcs c.args.input_mmcs.now in
-    let p = parameters_of c.args.params.now in
-    let claims = claims_of (λ d. d.log_size) c.args.claims.now in
-    let proof = proof_of c.args.proof.now in
-    let numbers = pcs_shape c.args.shape in
-    let values = all_claimed c.args.claims.now in
-    let started = c.start-transcript.result.challenger.now in
-    let claimed = c.claimed_openings.new.self.challenger.now in
-    let absorbed : Absorbed s p claims proof c.args.challenger.now numbers values started claimed =
-    record {
-      numbers_are = numbers_are (λ d. d.log_size) p c.args.claims.now numbers c.requires.shape;
-      values_are = sym (values-of_claims (λ d. d.log_size) c.args.claims.now);
-      begun = c.start-transcript.ensures.starts.state
-          ∙ ap (λ bytes. bytes_observed g.F.Field.ops g.C.CanObserve-1.observed
-          c.args.challenger.now bytes) c.requires.stream;
-      all_observed = c.in-Ok.ensures.state;
-    } in
-    let alpha = c.in-Ok-batch_phase.alpha in
-    let lent = c.begin_delegate.result.now in
-    let drawn = batch_passed s p claims proof c.args.challenger.now numbers values started claimed
-    _ lent alpha absorbed
-    (rw (c.in-Ok.ensures.kept.shape, c.start-transcript.ensures.starts.shape) at
-    c.in-Ok-batch_phase.ensures.batch) c.begin_delegate.ensures.value in (
-      (λ e. cc),
-      (λ a. (c.in-Err-tested.ensures.exact other).1 (accepted_inside s p claims proof
-          c.args.challenger.now alpha lent drawn a)),
-    )
+returns-in-Err-tested-clause-exact g c other = (
+  (λ e. cc),
+  (λ a. (c.in-Err-tested.ensures.exact other).1
+      (accepted_inside (setting_at g c.args.folding.now c.args.params.now.mmcs c.args.input_mmcs.now)
+      (parameters_of c.args.params.now) (claims_of (λ d. d.log_size) c.args.claims.now) (proof_of c.args.proof.now)
+      c.args.challenger.now c.in-Ok.alpha c.begin_delegate.result.now
+      (drawn g (goal.at.returns-in-Err-tested-clause-exact g c).After-begin_delegate) a)),
+)
 
 pub returns-in-Err-tested-clause-refusal : goal.returns-in-Err-tested-clause-refusal
 returns-in-Err-tested-clause-refusal g c =
-    let s = setting_at g c.args.folding.now c.args.params.now.mmcs c.args.input_mmcs.now in
-    let p = parameters_of c.args.params.now in
-    let claims = claims_of (λ d. d.log_size) c.args.claims.now in
-    let proof = proof_of c.args.proof.now in
-    let numbers = pcs_shape c.args.shape in
-    let values = all_claimed c.args.claims.now in
-    let started = c.start-transcript.result.challenger.now in
-    let claimed = c.claimed_openings.new.self.challenger.now in
-    let absorbed : Absorbed s p claims proof c.args.challenger.now numbers values started claimed =
-    record {
-      numbers_are = numbers_are (λ d. d.log_size) p c.args.claims.now numbers c.requires.shape;
-      values_are = sym (values-of_claims (λ d. d.log_size) c.args.claims.now);
-      begun = c.start-transcript.ensures.starts.state
-          ∙ ap (λ bytes. bytes_observed g.F.Field.ops g.C.CanObserve-1.observed
-          c.args.challenger.now bytes) c.requires.stream;
-      all_observed = c.in-Ok.ensures.state;
-    } in
-    let alpha = c.in-Ok-batch_phase.alpha in
-    let lent = c.begin_delegate.result.now in
-    let drawn = batch_passed s p claims proof c.args.challenger.now numbers values started claimed
-    _ lent alpha absorbed
-    (rw (c.in-Ok.ensures.kept.shape, c.start-transcript.ensures.starts.shape) at
-    c.in-Ok-batch_phase.ensures.batch) c.begin_delegate.ensures.value in
-    stands_inside s p claims proof c.args.challenger.now alpha lent drawn c.in-Err-tested.refusal
-    c.in-Err-tested.ensures.refusal
+    stands_inside (setting_at g c.args.folding.now c.args.params.now.mmcs c.args.input_mmcs.now)
+    (parameters_of c.args.params.now) (claims_of (λ d. d.log_size) c.args.claims.now) (proof_of c.args.proof.now)
+    c.args.challenger.now c.in-Ok.alpha c.begin_delegate.result.now
+    (drawn g (goal.at.returns-in-Err-tested-clause-refusal g c).After-begin_delegate)
+    c.in-Err-tested.refusal c.in-Err-tested.ensures.refusal

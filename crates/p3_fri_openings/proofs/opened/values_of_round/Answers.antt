@@ -10,20 +10,67 @@ use Rattle.p3_fri_openings.specs.Refusals.{IsOff, HasPointsOff}
 use Rattle.p3_fri_openings.specs.Rounds.{ask, asked_in, log_height}
 use Rattle.p3_fri_openings.proofs.First.{at_item}
 use Rattle.algebra.proofs.Lists.{entry_of_map}
+use Rattle.p3_fri_openings.proofs.opened.values_of_round.Given.{Over}
 use Rattle.p3_fri_openings.proofs.opened.values_of_round.Goals as goal
 
-pub values_at_points-requires : goal.values_at_points-requires
-values_at_points-requires g c =
-    let f : Fields g.row.F.Denot g.row.EF.Denot = record {
-      base = g.F.Field.ops;
-      ext = g.EF.Field.ops;
-      lift = g.EF.ExtensionField.lift;
-      coefficients = g.EF.ExtensionField.coefficients;
-      degree = g.EF.ExtensionField.DIMENSION;
-      root = g.F.TwoAdicField.root;
-      two_adicity = g.F.TwoAdicField.TWO_ADICITY;
-      shift = g.F.Field.GENERATOR;
-    } in
+abbrev fields_of : (g : Over) → Fields g.row.F.Denot g.row.EF.Denot
+fields_of g = record {
+  base = g.F.Field.ops;
+  ext = g.EF.Field.ops;
+  lift = g.EF.ExtensionField.lift;
+  coefficients = g.EF.ExtensionField.coefficients;
+  degree = g.EF.ExtensionField.DIMENSION;
+  root = g.F.TwoAdicField.root;
+  two_adicity = g.F.TwoAdicField.TWO_ADICITY;
+  shift = g.F.Field.GENERATOR;
+}
+
+pub values_at_points-requires-clause-height : goal.values_at_points-requires-clause-height
+values_at_points-requires-clause-height g c =
+    let round = c.args.round.now in
+    let matrices = round.matrices.now in
+    let i = c.loop-index.index in
+    let m = c.index-round-index.result in
+    let one : i < length matrices = omega arith in
+    c.requires.round.cosets i m one
+
+pub values_at_points-requires-clause-off : goal.values_at_points-requires-clause-off
+values_at_points-requires-clause-off g c =
+    let f = fields_of g in
+    let round = c.args.round.now in
+    let matrices = round.matrices.now in
+    let i = c.loop-index.index in
+    let m = c.index-round-index.result in
+    let v = c.index-round-index-in-loop-index.result in
+    let n = length-map round.points.now (λ v. v.items) in
+    let same = c.requires.round.lists_of_points in
+    let one : i < length matrices = omega arith in
+    let two : i < length round.points.now = omega arith in
+    let three : i < length (lists round.points.now) = omega arith in
+    let slice = c.as_slice-points.ensures.value
+    ∙ ap (λ v. v.items) (sym c.index-round-index-in-loop-index.is) in
+    let within = within_zip_with ask matrices (lists round.points.now) i one three in
+    let entry = entry_of_zip_with ask matrices
+    (lists round.points.now) i m v.items one three c.index-round-index.is
+    (entry_of_map (λ v. v.items) round.points.now i v two c.index-round-index-in-loop-index.is) in
+    let off = at_item (HasPointsOff f) (asked_in round) i
+    (ask m v.items) within entry c.requires.off in
+    let is = c.index-round-index.is in
+    let here = get_or matrices i m in
+    subst (λ zs. All (IsOff f (log_height here)) zs) (sym slice)
+    (subst (λ m. All (IsOff f (log_height m)) v.items) is off)
+
+pub values_at_points-requires-clause-coset : goal.values_at_points-requires-clause-coset
+values_at_points-requires-clause-coset g c =
+    let round = c.args.round.now in
+    let matrices = round.matrices.now in
+    let i = c.loop-index.index in
+    let m = c.index-round-index.result in
+    let one : i < length matrices = omega arith in
+    c.requires.coset i m one
+
+pub values_at_points-requires-clause-covered : goal.values_at_points-requires-clause-covered
+values_at_points-requires-clause-covered g c =
     let round = c.args.round.now in
     let matrices = round.matrices.now in
     let i = c.loop-index.index in
@@ -41,35 +88,17 @@ values_at_points-requires g c =
     let entry = entry_of_zip_with ask matrices
     (lists round.points.now) i m v.items one three c.index-round-index.is
     (entry_of_map (λ v. v.items) round.points.now i v two c.index-round-index-in-loop-index.is) in
-    let off = at_item (HasPointsOff f) (asked_in round) i
-    (ask m v.items) within entry c.requires.off in
     let covered = at_item (HasPointsCovered d.entries.items) (asked_in round) i
     (ask m v.items) within entry
     c.requires.covered in
     let is = c.index-round-index.is in
     let here = get_or matrices i m in
-    record {
-      height = c.requires.round.cosets i m one;
-      off = subst (λ zs. All (IsOff f (log_height here)) zs) (sym slice)
-          (subst (λ m. All (IsOff f (log_height m)) v.items) is off);
-      coset = c.requires.coset i m one;
-      inverses = c.requires.inverses;
-      covered = subst (λ zs. All (IsCovered (length (rows here)) d.entries.items) zs) (sym slice)
-          (subst (λ m. All (IsCovered (length (rows m)) d.entries.items) v.items) is covered);
-    }
+    subst (λ zs. All (IsCovered (length (rows here)) d.entries.items) zs) (sym slice)
+    (subst (λ m. All (IsCovered (length (rows m)) d.entries.items) v.items) is covered)
 
 pub loop-index-preserved : goal.loop-index-preserved
 loop-index-preserved g c =
-    let f : Fields g.row.F.Denot g.row.EF.Denot = record {
-      base = g.F.Field.ops;
-      ext = g.EF.Field.ops;
-      lift = g.EF.ExtensionField.lift;
-      coefficients = g.EF.ExtensionField.coefficients;
-      degree = g.EF.ExtensionField.DIMENSION;
-      root = g.F.TwoAdicField.root;
-      two_adicity = g.F.TwoAdicField.TWO_ADICITY;
-      shift = g.F.Field.GENERATOR;
-    } in
+    let f = fields_of g in
     let round = c.args.round.now in
     let matrices = round.matrices.now in
     let i = c.loop-index.index in
@@ -94,16 +123,7 @@ loop-index-preserved g c =
 
 pub returns : goal.returns
 returns g c =
-    let f : Fields g.row.F.Denot g.row.EF.Denot = record {
-      base = g.F.Field.ops;
-      ext = g.EF.Field.ops;
-      lift = g.EF.ExtensionField.lift;
-      coefficients = g.EF.ExtensionField.coefficients;
-      degree = g.EF.ExtensionField.DIMENSION;
-      root = g.F.TwoAdicField.root;
-      two_adicity = g.F.TwoAdicField.TWO_ADICITY;
-      shift = g.F.Field.GENERATOR;
-    } in
+    let f = fields_of g in
     let round = c.args.round.now in
     let n = length-map round.points.now (λ v. v.items) in
     let same = c.requires.round.lists_of_points in

@@ -1,4 +1,4 @@
-use Rattle.std.proofs.Common.{◌≡◌, ◌<◌, ◌∙◌, length, get_or, rules, arith, refl, sym, subst}
+use Rattle.std.proofs.Common.{◌≡◌, ◌<◌, ◌∙◌, length, get_or, rules, arith, inl, refl, sym, subst}
 use Rattle.std.proofs.lemmas.List.{length-map, length_push}
 use Rattle.algebra.specs.Nested.{lists}
 use Rattle.p3_fri_relation.specs.FoldedQuery.{QueryInput, IsInOrder}
@@ -42,7 +42,13 @@ all_read : (g : Over) (c : In-None g) → length c.loop-query.yielded ≡ length
 all_read g c = read_all (turn g (goal.at.In-None g c).After-next) c.in-None.is ∙ c.requires.count
 
 pub loop-query-init : goal.loop-query-init
-loop-query-init g c = folded_none c.in_ok-folded.ensures.indices c.in_ok-folded.ensures.rows
+loop-query-init g c = folded_none c.in-Ok.ensures.indices c.in-Ok.ensures.rows
+
+pub returns-in-Err-clause-exact : goal.returns-in-Err-clause-exact
+returns-in-Err-clause-exact g c remembered = absurd (remembered refl)
+
+pub returns-in-Err-clause-refusal : goal.returns-in-Err-clause-refusal
+returns-in-Err-clause-refusal g c = inl refl
 
 pub bounds-positions-query : goal.bounds-positions-query
 bounds-positions-query g c =
@@ -55,6 +61,17 @@ offset_bounds-positions-query g c =
     let below : c.in-Some.query < length c.args.positions.now =
     omega (arith, here.below, here.number) in
     search rules
+
+pub fold_to_final-requires-clause-query : goal.fold_to_final-requires-clause-query
+fold_to_final-requires-clause-query g c =
+    let here = next g (goal.at.fold_to_final-requires-clause-query g c).In-Some in
+    omega (arith, here.below, here.number, c.requires.count, c.args.reduced_openings.ok.0)
+
+pub fold_to_final-requires-clause-betas : goal.fold_to_final-requires-clause-betas
+fold_to_final-requires-clause-betas g c = c.requires.betas
+
+pub fold_to_final-requires-clause-openings : goal.fold_to_final-requires-clause-openings
+fold_to_final-requires-clause-openings g c = c.requires.openings
 
 pub fold_to_final-requires-clause-in_order : goal.fold_to_final-requires-clause-in_order
 fold_to_final-requires-clause-in_order g c =
@@ -86,24 +103,20 @@ loop-query-preserved g c =
     (length_push c.loop-query.yielded (c.in-Some.query, c.in-Some.inputs))
     (length_group_rows here g.EF.Field.ops (g.S.FriFoldingStrategy.row_fold c.args.folding.now)
     c.requires.betas openings)
-    (c.in_ok-fold_to_final.ensures.indices refl) (c.in_ok-fold_to_final.ensures.rows refl)
-    ((c.in_ok-fold_to_final.ensures.exact (λ e. cc)).0 refl)
+    (c.in-Ok-fold_to_final.ensures.indices refl) (c.in-Ok-fold_to_final.ensures.rows refl)
+    ((c.in-Ok-fold_to_final.ensures.exact (λ e. cc)).0 refl)
 
-pub returns-in_err-fold_to_final-clause-exact : goal.returns-in_err-fold_to_final-clause-exact
-returns-in_err-fold_to_final-clause-exact g c =
+pub returns-in-Err-fold_to_final-clause-exact : goal.returns-in-Err-fold_to_final-clause-exact
+returns-in-Err-fold_to_final-clause-exact g c =
     refused_each (fields_of g) (g.S.FriFoldingStrategy.row_fold c.args.folding.now)
-    c.args.final_poly.now
-    (next g (goal.at.returns-in_err-fold_to_final-clause-exact g c).In-Some)
-    c.from_residual-in_err-fold_to_final.result c.in_err-fold_to_final.field-0.0
-    c.from_residual-in_err-fold_to_final.ensures c.in_err-fold_to_final.ensures.refusal
+    c.args.final_poly.now (next g (goal.at.returns-in-Err-fold_to_final-clause-exact g c).In-Some)
+    c.in-Err-fold_to_final.refusal c.in-Err-fold_to_final.ensures.refusal _
 
-pub returns-in_err-fold_to_final-clause-refusal : goal.returns-in_err-fold_to_final-clause-refusal
-returns-in_err-fold_to_final-clause-refusal g c =
+pub returns-in-Err-fold_to_final-clause-refusal : goal.returns-in-Err-fold_to_final-clause-refusal
+returns-in-Err-fold_to_final-clause-refusal g c =
     refused_some (fields_of g) (g.S.FriFoldingStrategy.row_fold c.args.folding.now)
-    c.args.final_poly.now
-    (next g (goal.at.returns-in_err-fold_to_final-clause-refusal g c).In-Some)
-    c.from_residual-in_err-fold_to_final.result c.in_err-fold_to_final.field-0.0
-    c.from_residual-in_err-fold_to_final.ensures c.in_err-fold_to_final.ensures.refusal
+    c.args.final_poly.now (next g (goal.at.returns-in-Err-fold_to_final-clause-refusal g c).In-Some)
+    c.in-Err-fold_to_final.refusal c.in-Err-fold_to_final.ensures.refusal
 
 pub returns-clause-exact : goal.returns-clause-exact
 returns-clause-exact g c =

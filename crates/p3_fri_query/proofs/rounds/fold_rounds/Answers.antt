@@ -1,10 +1,8 @@
-use Rattle.std.proofs.Common.{suc, ◌<◌, List, [], length, map, arith, ap, sym, refl, ◌∙◌}
+use Rattle.std.proofs.Common.{arith, refl}
 use Rattle.std.proofs.lemmas.List.{length-map}
 use Rattle.std.proofs.lemmas.List.Sums.{sum_by-drop_more}
-use Rattle.std.specs.Prelude.{slice_index_or}
 use Rattle.algebra.specs.Nested.{lists, nested}
 use Rattle.algebra.proofs.Nested.{length-lists}
-use Rattle.p3_fri_relation.specs.Views.{siblings_opened}
 use Rattle.p3_fri_query.proofs.Lists.{siblings_at, row_at, in_range_at}
 use Rattle.p3_fri_query.proofs.FoldedRounds.{none_folded, folded_on, value_reached, index_reached, indices_reached, rows_reached}
 use Rattle.p3_fri_query.proofs.rounds.fold_rounds.Goals as goal
@@ -18,40 +16,27 @@ loop-round-init g c =
 pub loop-round-preserved : goal.loop-round-preserved
 loop-round-preserved g c =
     let k = c.loop-round.round in
-    let l₄ : k < length c.args.openings.now = omega arith in
-    let l₃ : k < length (map (λ rows. slice_index_or rows c.args.query []) (siblings_opened c.args.openings.now)) =
-    simp (
-      length-map (siblings_opened c.args.openings.now) (λ rows. slice_index_or rows c.args.query []),
-      length-map c.args.openings.now (λ o. lists o.sibling_values.items),
-    ) l₄ in
-    let is_siblings = c.siblings_of-siblings.ensures
-    ∙ ap (λ (o : _). slice_index_or (lists o.sibling_values.items) c.args.query []) c.index-openings-round.is
-    ∙ sym (siblings_at (λ o. lists o.sibling_values.items) c.args.query k c.args.openings.now c.index-openings-round.result l₄) in
-    folded_on _ _ _ _ _ _ c.loop-round.invariant (omega arith) (omega arith) l₃ c.index-betas-round.is
-    is_siblings c.input_at-input.ensures c.in_ok-folded.ensures.0 c.in_ok-folded.ensures.1
+    let has = siblings_at (λ o. lists o.sibling_values.items) c.args.query k c.args.openings.now
+    c.index-openings-round.result (omega arith) c.index-openings-round.is in
+    folded_on _ _ _ _ _ _ c.loop-round.invariant (omega arith) (omega arith) has.0 c.index-betas-round.is has.1
+    c.in_ok-folded.ensures.0 c.in_ok-folded.ensures.1
     (c.in_ok-collect.ensures.indices refl) (c.in_ok-collect.ensures.rows refl)
 
-pub siblings_of-siblings-requires : goal.siblings_of-siblings-requires
-siblings_of-siblings-requires g c =
-    (row_at (λ o. lists o.sibling_values.items) c.args.query c.loop-round.round c.args.log_arities.now c.args.openings.now
-    c.index-openings-round.result c.requires.have_rows (omega arith) (omega arith) c.index-openings-round.is).0
+pub fold_opening-requires-clause-has_row : goal.fold_opening-requires-clause-has_row
+fold_opening-requires-clause-has_row g c =
+    row_at (λ o. lists o.sibling_values.items) c.args.query c.loop-round.round c.args.log_arities.now c.args.openings.now
+    c.index-openings-round.result c.requires.have_rows (omega arith) (omega arith) c.index-openings-round.is
 
-pub fold_round-requires-clause-siblings : goal.fold_round-requires-clause-siblings
-fold_round-requires-clause-siblings g c =
-    ap (λ (s : List g.row.EF.Denot). suc (length s)) c.siblings_of-siblings.ensures
-    ∙ (row_at (λ o. lists o.sibling_values.items) c.args.query c.loop-round.round c.args.log_arities.now c.args.openings.now
-    c.index-openings-round.result c.requires.have_rows (omega arith) (omega arith) c.index-openings-round.is).1
-
-pub fold_round-requires-clause-positive : goal.fold_round-requires-clause-positive
-fold_round-requires-clause-positive g c =
+pub fold_opening-requires-clause-positive : goal.fold_opening-requires-clause-positive
+fold_opening-requires-clause-positive g c =
     (in_range_at c.loop-round.round c.args.log_arities.now c.requires.range (omega arith)).0
 
-pub fold_round-requires-clause-small : goal.fold_round-requires-clause-small
-fold_round-requires-clause-small g c =
+pub fold_opening-requires-clause-small : goal.fold_opening-requires-clause-small
+fold_opening-requires-clause-small g c =
     (in_range_at c.loop-round.round c.args.log_arities.now c.requires.range (omega arith)).1
 
-pub fold_round-requires-clause-within_word : goal.fold_round-requires-clause-within_word
-fold_round-requires-clause-within_word g c = c.loop-round.invariant.within
+pub fold_opening-requires-clause-within_word : goal.fold_opening-requires-clause-within_word
+fold_opening-requires-clause-within_word g c = c.loop-round.invariant.within
 
 pub overflow_shr-start_index : goal.overflow_shr-start_index
 overflow_shr-start_index g c =
@@ -81,10 +66,6 @@ pub overflow_sub-height : goal.overflow_sub-height
 overflow_sub-height g c =
     omega (arith, sum_by-drop_more (λ x. x) c.args.log_arities.now c.loop-round.round 0 (omega arith))
 
-pub fold_round-requires-clause-within_height : goal.fold_round-requires-clause-within_height
-fold_round-requires-clause-within_height g c =
-    omega (arith, sum_by-drop_more (λ x. x) c.args.log_arities.now c.loop-round.round 0 (omega arith))
-
-pub overflow_sub-height-in-loop-round : goal.overflow_sub-height-in-loop-round
-overflow_sub-height-in-loop-round g c =
+pub fold_opening-requires-clause-within_height : goal.fold_opening-requires-clause-within_height
+fold_opening-requires-clause-within_height g c =
     omega (arith, sum_by-drop_more (λ x. x) c.args.log_arities.now c.loop-round.round 0 (omega arith))

@@ -1,22 +1,22 @@
-use Rattle.std.proofs.Common.{ℕ, ◌<◌, ◌≤◌, ◌∙◌, sym, ap, arith, subst, length, Err, refl}
+use Rattle.std.proofs.Common.{ℕ, ◌≤◌, ◌∙◌, sym, ap, arith, subst, length, Err, refl}
 use Rattle.std.specs.List.{AllZip}
 use Rattle.p3_fri_relation.specs.TestRounds.{HasSiblings}
 use Rattle.std.proofs.lemmas.List.{length-map}
 use Rattle.std.proofs.lemmas.Slice.Zip.{AllZip-long}
-use Rattle.algebra.specs.Nested.{lists, nested}
+use Rattle.algebra.specs.Nested.{lists}
 use Rattle.algebra.proofs.Lists.{length-tabulate}
 use Rattle.algebra.proofs.Nested.{length-lists}
 use Rattle.p3_fri_relation.specs.Heights.{matrices_of}
 use Rattle.p3_fri_relation.specs.Views.{claims_of, parameters_of, proof_of, round_opened, rounds_opened, inputs_opened}
 use Rattle.p3_fri_relation.proofs.ClaimedHeights.{greatest_height-bounds}
 use Rattle.p3_fri_verifier.proofs.Replays.{false_true, same_err, ok_err, refused_as}
-use Rattle.p3_fri_verifier.proofs.Opened.{IsRead, inputs_good_at, input_fault_at, in_order_at, ends_at, ends_of, way_fault_at}
-use Rattle.p3_fri_verifier.proofs.Opened.{opened_at, rounds_open_at, open_rounds_at, rounds_fault_at, indices_below}
+use Rattle.p3_fri_verifier.proofs.Opened.{IsRead, inputs_good_at, input_fault_at, in_order_at, ends_at, ends_of}
+use Rattle.p3_fri_verifier.proofs.Opened.{opened_at, rounds_open_at, open_rounds_at, queries_fault_at}
 use Rattle.p3_fri_verifier.proofs.Opened.{top_within, rounds_within}
 use Rattle.p3_challenger_core.specs.Run.{moves}
 use Rattle.p3_fri_relation.specs.Setting.{Setting}
 use Rattle.p3_fri_verifier.proofs.openings.verify_openings.Given.{Over}
-use Rattle.p3_fri_verifier.proofs.openings.verify_openings.Goals.{After-deref-2}
+use Rattle.p3_fri_verifier.proofs.openings.verify_openings.Goals.{After-deref-4}
 use Rattle.p3_fri_verifier.proofs.openings.verify_openings.Goals as goal
 
 -- what the layers below compute and accept, named once
@@ -42,39 +42,36 @@ setting_at g folding mmcs input_mmcs = record {
   opens_round = g.M.Mmcs.opens mmcs;
 }
 
--- what was read of the proof, where its final polynomial is at hand
-read : (g : Over) (c : After-deref-2 g)
+-- what was read of the proof
+read : (g : Over) (c : After-deref-4 g)
     → IsRead (setting_at g c.args.folding.now c.args.params.now.mmcs c.args.input_mmcs.now)
     (parameters_of c.args.params.now) (claims_of (λ d. d.log_size) c.args.claims.now)
     (proof_of c.args.proof.now) c.args.alpha c.args.betas.now c.args.positions.now
     c.args.log_global_max_height (inputs_opened c.deref.result.now) c.args.log_arities.now
-    c.as_slice-openings.result.now (lists c.in-Ok.reduced_openings.items) c.deref-2.result.now
+    c.deref-3.result.now (lists c.in-Ok.reduced_openings.items) c.deref-4.result.now
     g.F.TwoAdicField.TWO_ADICITY
 read g c = record {
   tallest = c.requires.top;
   inputs_are = ap inputs_opened c.deref.ensures.value;
   scheduled = c.requires.schedule;
-  opened = ap rounds_opened (sym c.as_slice-openings.ensures.value);
+  opened = ap rounds_opened (sym c.deref-3.ensures.value);
   queries = c.requires.positions;
   counts = subst (λ la. AllZip (HasSiblings c.args.params.now.num_queries) la (rounds_opened c.args.proof.now.commit_phase_openings.items)) c.requires.schedule c.requires.counts.rounds;
   drawn = c.requires.betas ∙ ap length c.requires.schedule;
   ranged = c.requires.in_range;
   sums = c.in-Ok.ensures.sums;
-  final_is = c.deref-2.ensures.value;
+  final_is = c.deref-4.ensures.value;
 }
 
 not_more : {a b c : ℕ} → a ≤ b → b ≤ c → a ≤ c
 not_more l m = omega arith
 
-below : {a b n : ℕ} → a ≤ b → b < n → a < n
-below l m = omega arith
-
-pub open_inputs-opened-requires-clause-within_two_adicity : goal.open_inputs-opened-requires-clause-within_two_adicity
-open_inputs-opened-requires-clause-within_two_adicity g c =
+pub open_inputs-requires-clause-within_two_adicity : goal.open_inputs-requires-clause-within_two_adicity
+open_inputs-requires-clause-within_two_adicity g c =
     top_within _ _ _ _ c.requires.in_range c.requires.top
 
-pub open_inputs-opened-requires-clause-heights : goal.open_inputs-opened-requires-clause-heights
-open_inputs-opened-requires-clause-heights g c k d l =
+pub open_inputs-requires-clause-heights : goal.open_inputs-requires-clause-heights
+open_inputs-requires-clause-heights g c k d l =
     let h = greatest_height-bounds c.args.params.now.log_blowup (matrices_of (claims_of (λ d. d.log_size) c.args.claims.now)) k d l in
     omega (arith, h, c.requires.top)
 
@@ -91,87 +88,55 @@ returns-in-Err-clause-refusal g c =
     (proof_of c.args.proof.now) c.args.alpha c.args.betas.now c.args.positions.now c.args.log_global_max_height c.requires.top
     (inputs_opened c.deref.result.now) (ap inputs_opened c.deref.ensures.value) c.in-Err.refusal c.in-Err.ensures.fault
 
-pub fold_queries-way-requires-clause-count : goal.fold_queries-way-requires-clause-count
-fold_queries-way-requires-clause-count g c = sym (length-lists c.in-Ok.reduced_openings.items)
+pub verify_queries-requires-clause-count : goal.verify_queries-requires-clause-count
+verify_queries-requires-clause-count g c = sym (length-lists c.in-Ok.reduced_openings.items)
     ∙ ap length c.in-Ok.ensures.sums ∙ length-tabulate _ _
 
-pub fold_queries-way-requires-clause-in_order : goal.fold_queries-way-requires-clause-in_order
-fold_queries-way-requires-clause-in_order g c =
-    in_order_at (read g (goal.at.fold_queries-way-requires-clause-in_order g c).After-deref-2)
+pub verify_queries-requires-clause-in_order : goal.verify_queries-requires-clause-in_order
+verify_queries-requires-clause-in_order g c =
+    in_order_at (read g (goal.at.verify_queries-requires-clause-in_order g c).After-deref-4)
     g.met.F.TwoAdicField.two_adicity_law
 
-pub fold_queries-way-requires-clause-openings : goal.fold_queries-way-requires-clause-openings
-fold_queries-way-requires-clause-openings g c =
-    ap length c.as_slice-openings.ensures.value
+pub verify_queries-requires-clause-commitments : goal.verify_queries-requires-clause-commitments
+verify_queries-requires-clause-commitments g c =
+    ap length c.deref-2.ensures.value ∙ c.requires.counts.commitments
+
+pub verify_queries-requires-clause-openings : goal.verify_queries-requires-clause-openings
+verify_queries-requires-clause-openings g c =
+    ap length c.deref-3.ensures.value
     ∙ sym (length-map c.args.proof.now.commit_phase_openings.items round_opened)
     ∙ AllZip-long _ _ _ c.requires.counts.rounds
 
-pub fold_queries-way-requires-clause-within_max_height : goal.fold_queries-way-requires-clause-within_max_height
-fold_queries-way-requires-clause-within_max_height g c =
+pub verify_queries-requires-clause-within_max_height : goal.verify_queries-requires-clause-within_max_height
+verify_queries-requires-clause-within_max_height g c =
     not_more (top_within _ _ _ _ c.requires.in_range c.requires.top) c.requires.max_log_height
 
-pub fold_queries-way-requires-clause-within_two_adicity : goal.fold_queries-way-requires-clause-within_two_adicity
-fold_queries-way-requires-clause-within_two_adicity g c =
+pub verify_queries-requires-clause-within_two_adicity : goal.verify_queries-requires-clause-within_two_adicity
+verify_queries-requires-clause-within_two_adicity g c =
     top_within _ _ _ _ c.requires.in_range c.requires.top
 
-pub returns-in-Err-way-clause-exact : goal.returns-in-Err-way-clause-exact
-returns-in-Err-way-clause-exact g c other = (
-  (λ e. absurd (false_true e)),
-  (λ o. (c.in-Err-way.ensures.exact (λ e. other (ap Err (same_err _ _ e)))).1 (λ j l.
-      ends_at (read g (goal.at.returns-in-Err-way-clause-exact g c).After-deref-2) j l (o.good.queries_hold j l).ends)),
-)
-
-pub returns-in-Err-way-clause-refusal : goal.returns-in-Err-way-clause-refusal
-returns-in-Err-way-clause-refusal g c =
-    way_fault_at (read g (goal.at.returns-in-Err-way-clause-refusal g c).After-deref-2)
-    ((c.in-Ok.ensures.exact (λ e. ok_err _ _ e)).0 refl) c.in-Err-way.refusal c.in-Err-way.ensures.refusal
-
-pub verify_rounds-requires-clause-openings : goal.verify_rounds-requires-clause-openings
-verify_rounds-requires-clause-openings g c =
-    ap length c.as_slice-openings.ensures.value
-    ∙ sym (length-map c.args.proof.now.commit_phase_openings.items round_opened)
-    ∙ AllZip-long _ _ _ c.requires.counts.rounds
-
-pub verify_rounds-requires-clause-indices : goal.verify_rounds-requires-clause-indices
-verify_rounds-requires-clause-indices g c =
-    sym (length-lists c.in-Ok-way.folded.group_indices_by_round.items)
-    ∙ ap length c.in-Ok-way.ensures.indices ∙ length-tabulate _ _
-
-pub verify_rounds-requires-clause-rows : goal.verify_rounds-requires-clause-rows
-verify_rounds-requires-clause-rows g c =
-    sym (length-map c.in-Ok-way.folded.rows_by_round.items (λ round. nested round.items))
-    ∙ ap length c.in-Ok-way.ensures.rows ∙ length-tabulate _ _
-
-pub verify_rounds-requires-clause-within : goal.verify_rounds-requires-clause-within
-verify_rounds-requires-clause-within g c =
+pub verify_queries-requires-clause-within : goal.verify_queries-requires-clause-within
+verify_queries-requires-clause-within g c =
     rounds_within _ _ _ _ _ c.requires.in_range c.requires.schedule c.requires.top
 
-pub verify_rounds-requires-clause-small : goal.verify_rounds-requires-clause-small
-verify_rounds-requires-clause-small g c =
-    below (top_within _ _ _ _ c.requires.in_range c.requires.top) g.met.F.TwoAdicField.two_adicity_law
-
-pub verify_rounds-requires-clause-below : goal.verify_rounds-requires-clause-below
-verify_rounds-requires-clause-below g c =
-    indices_below c.args.log_arities.now c.args.log_global_max_height c.args.positions.now
-    (lists c.in-Ok-way.folded.group_indices_by_round.items) c.in-Ok-way.ensures.indices
-    (rounds_within _ _ _ _ _ c.requires.in_range c.requires.schedule c.requires.top) c.requires.within_word
-
 pub returns-clause-exact : goal.returns-clause-exact
-returns-clause-exact g c _ =
-    let known = read g (goal.at.returns-clause-exact g c).After-deref-2 in (
+returns-clause-exact g c other =
+    let known = read g (goal.at.returns-clause-exact g c).After-deref-4 in
+    let exact = c.verify_queries.ensures.exact other in (
       (λ ok. opened_at (setting_at g c.args.folding.now c.args.params.now.mmcs c.args.input_mmcs.now) (parameters_of c.args.params.now) (claims_of (λ d. d.log_size) c.args.claims.now)
           (proof_of c.args.proof.now) c.args.alpha c.args.betas.now c.args.positions.now c.args.log_global_max_height c.requires.top
           (inputs_opened c.deref.result.now) (ap inputs_opened c.deref.ensures.value)
           ((c.in-Ok.ensures.exact (λ e. ok_err _ _ e)).0 refl)
-          (λ j l. ends_of known j l ((c.in-Ok-way.ensures.exact (λ e. ok_err _ _ e)).0 refl j l))
-          (rounds_open_at known c.in-Ok-way.ensures.indices c.in-Ok-way.ensures.rows
-          c.deref-3.ensures.value (c.verify_rounds.ensures.exact.0 ok))),
-      (λ o. c.verify_rounds.ensures.exact.1 (open_rounds_at known c.in-Ok-way.ensures.indices
-          c.in-Ok-way.ensures.rows c.deref-3.ensures.value o.good.rounds_open)),
+          (λ j l. ends_of known j l ((exact.0 ok).0 j l))
+          (rounds_open_at known c.deref-2.ensures.value (exact.0 ok).1)),
+      (λ o. exact.1 (
+        (λ j l. ends_at known j l (o.good.queries_hold j l).ends),
+        open_rounds_at known c.deref-2.ensures.value o.good.rounds_open,
+      )),
     )
 
 pub returns-clause-refusal : goal.returns-clause-refusal
 returns-clause-refusal g c =
-    refused_as _ _ c.verify_rounds.result (λ e h.
-    rounds_fault_at (read g (goal.at.returns-clause-refusal g c).After-deref-2) c.in-Ok-way.ensures.indices
-    c.in-Ok-way.ensures.rows c.deref-3.ensures.value e h.0 h.1 h.2) c.verify_rounds.ensures.refusal
+    refused_as _ _ c.verify_queries.result
+    (queries_fault_at (read g (goal.at.returns-clause-refusal g c).After-deref-4) c.deref-2.ensures.value
+    ((c.in-Ok.ensures.exact (λ e. ok_err _ _ e)).0 refl)) c.verify_queries.ensures.refusal

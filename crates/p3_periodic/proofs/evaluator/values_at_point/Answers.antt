@@ -3,13 +3,15 @@ use Rattle.p3_periodic.specs.Values.{IsValueOf, IsValueAt}
 use Rattle.p3_periodic.proofs.Tables.{period_of_slice, values_more, values_of_all}
 use Rattle.p3_periodic.proofs.evaluator.values_at_point.Goals as goal
 
-pub column_at_point-requires : goal.column_at_point-requires
-column_at_point-requires g c = record {
-  period = period_of_slice (2 ^ c.args.log_rows) c.args.columns.now c.loop-i.i
-      c.index-columns-i.result c.as_slice.result.now c.loop-i-test.true c.index-columns-i.is
-      c.as_slice.ensures.value c.index-columns-i.result.ok.0 c.requires.periods;
-  within_two_adicity = c.requires.within_two_adicity;
-}
+pub column_at_point-requires-clause-period : goal.column_at_point-requires-clause-period
+column_at_point-requires-clause-period g c =
+    period_of_slice (2 ^ c.args.log_rows) c.args.columns.now c.loop-i.i
+    c.index-columns-i.result c.as_slice.result.now c.loop-i-test.true c.index-columns-i.is
+    c.as_slice.ensures.value c.index-columns-i.result.ok.0 c.requires.periods
+
+pub column_at_point-requires-clause-within_two_adicity : goal.column_at_point-requires-clause-within_two_adicity
+column_at_point-requires-clause-within_two_adicity g c =
+    c.requires.within_two_adicity
 
 pub loop-i-preserved : goal.loop-i-preserved
 loop-i-preserved g c =

@@ -1,4 +1,5 @@
 use Rattle.std.proofs.Common.{List, map, sym, ap, ◌∙◌}
+use Rattle.std.proofs.lemmas.Result.{IfOk-from_err}
 use Rattle.p3_pcs.specs.Requests.{Held}
 use Rattle.p3_stark_pcs.proofs.Zips.{zip_equal}
 use Rattle.p3_stark_pcs.proofs.Batches.{domains_fit, still_extended}
@@ -51,3 +52,28 @@ returns-clause-committed g c =
 
 pub returns-clause-recombined : goal.returns-clause-recombined
 returns-clause-recombined g c = c.in_ok-third.ensures.recombined
+
+-- where nothing is answered nothing is said of the answer
+pub returns-in_err-first-clause-committed : goal.returns-in_err-first-clause-committed
+returns-in_err-first-clause-committed g c =
+    IfOk-from_err c.from_residual.result _ c.from_residual.ensures.0
+
+pub returns-in_err-first-clause-recombined : goal.returns-in_err-first-clause-recombined
+returns-in_err-first-clause-recombined g c =
+    IfOk-from_err c.from_residual.result _ c.from_residual.ensures.0
+
+pub returns-in_err-second-clause-committed : goal.returns-in_err-second-clause-committed
+returns-in_err-second-clause-committed g c =
+    IfOk-from_err c.from_residual-in_err-second.result _ c.from_residual-in_err-second.ensures.0
+
+pub returns-in_err-second-clause-recombined : goal.returns-in_err-second-clause-recombined
+returns-in_err-second-clause-recombined g c =
+    IfOk-from_err c.from_residual-in_err-second.result _ c.from_residual-in_err-second.ensures.0
+
+pub returns-in_err-third-clause-committed : goal.returns-in_err-third-clause-committed
+returns-in_err-third-clause-committed g c =
+    IfOk-from_err c.from_residual-in_err-third.result _ c.from_residual-in_err-third.ensures.0
+
+pub returns-in_err-third-clause-recombined : goal.returns-in_err-third-clause-recombined
+returns-in_err-third-clause-recombined g c =
+    IfOk-from_err c.from_residual-in_err-third.result _ c.from_residual-in_err-third.ensures.0

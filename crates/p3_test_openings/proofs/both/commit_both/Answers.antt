@@ -2,10 +2,6 @@ use Rattle.std.proofs.Common.{length, ap, ◌∙◌}
 use Rattle.p3_test_openings.proofs.Known.{fit_both}
 use Rattle.p3_test_openings.proofs.both.commit_both.Goals as goal
 
-pub commit_one-requires : goal.commit_one-requires
-commit_one-requires g c =
-    g.met.P.Pcs.keeps_committable_law _ _ c.commit_preprocessed.ensures.kept _ c.requires.private
-
 pub returns-clause-preprocessed : goal.returns-clause-preprocessed
 returns-clause-preprocessed g c =
     g.met.P.UnivariateStarkPcs.keeps_preprocessed_law _ _ c.commit_one.ensures.kept _

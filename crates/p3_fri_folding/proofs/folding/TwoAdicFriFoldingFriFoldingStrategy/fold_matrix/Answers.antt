@@ -8,11 +8,13 @@ use Rattle.p3_matrix.proofs.Widths.{row_width}
 use Rattle.algebra.specs.Folds.{fold_value}
 use Rattle.p3_fri_folding.proofs.folding.TwoAdicFriFoldingFriFoldingStrategy.fold_matrix.Goals as goal
 
-pub fold_first_rows-requires : goal.fold_first_rows-requires
-fold_first_rows-requires g c = record {
-  width = c.requires.width ∙ ap (λ n. 2 ^ n) (sym c.in_ok-table.ensures.log_arity);
-  height = sym (ap (λ n. 2 ^ n) c.in_ok-table.ensures.log_height ∙ c.log2_strict_usize-log_height.ensures.power ∙ c.height.ensures);
-}
+pub fold_first_rows-requires-clause-width : goal.fold_first_rows-requires-clause-width
+fold_first_rows-requires-clause-width g c =
+    c.requires.width ∙ ap (λ n. 2 ^ n) (sym c.in_ok-table.ensures.log_arity)
+
+pub fold_first_rows-requires-clause-height : goal.fold_first_rows-requires-clause-height
+fold_first_rows-requires-clause-height g c =
+    sym (ap (λ n. 2 ^ n) c.in_ok-table.ensures.log_height ∙ c.log2_strict_usize-log_height.ensures.power ∙ c.height.ensures)
 
 pub fold_row-requires-clause-width : goal.fold_row-requires-clause-width
 fold_row-requires-clause-width g c =

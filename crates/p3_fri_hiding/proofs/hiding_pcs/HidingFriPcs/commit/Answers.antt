@@ -1,14 +1,13 @@
-use Rattle.std.proofs.Common.{false, length, map, sym, subst, refl}
+use Rattle.std.proofs.Common.{false, length, map, refl}
+use Rattle.std.proofs.lemmas.Result.{IfOk-from_err, IfOk-weaker}
 use Rattle.p3_matrix.specs.Matrix.{rows}
 use Rattle.p3_fri_relation.specs.Setting.{Fields}
-use Rattle.p3_fri_completeness.specs.Requests.{HoldsWords}
-use Rattle.std.specs.Prelude.{All}
-use Rattle.p3_fri_hiding_prover.proofs.Committed.{have_cosets, hold_words}
-use Rattle.p3_fri_hiding.specs.Commitments.{ExtendMasked}
+use Rattle.p3_fri_hiding.specs.Commitments.{AreExtended}
 use Rattle.p3_fri_hiding.specs.Trace.{HasTrace}
 use Rattle.p3_fri_hiding.proofs.Committed.{masked_all_fit, masked_wide, masked_all_traced}
-use Rattle.p3_fri_hiding.proofs.NewData.{zip_shown, is_unopened}
-use Rattle.p3_fri_hiding.proofs.Refused.{budget_refused, memory_refused, fit_of, misfit_of}
+use Rattle.p3_fri_hiding.proofs.NewData.{if_unopened, if_shown}
+use Rattle.p3_fri_hiding.proofs.Refused.{budget_refused, memory_refused, memory_passed_on}
+use Rattle.p3_fri_hiding.proofs.Refused.{fit_of, misfit_of, no_other_than_memory}
 use Rattle.p3_fri_hiding.proofs.Refused.{memory_alone, in_any_case}
 use Rattle.p3_fri_hiding.proofs.hiding_pcs.HidingFriPcs.commit.Given.{Over}
 use Rattle.p3_fri_hiding.proofs.hiding_pcs.HidingFriPcs.commit.Goals as goal
@@ -28,9 +27,8 @@ fields_of g = record {
 pub returns-in_err-check_matrices-clause-refused : goal.returns-in_err-check_matrices-clause-refused
 returns-in_err-check_matrices-clause-refused g c =
     budget_refused c.args.self.now.num_random_codewords c.args.self.now.fri.num_queries
-    g.EF.ExtensionField.DIMENSION
-    (map (λ e. length (rows e.1)) c.args.evaluations.items) c.from_residual.result c.in_err-check_matrices.field-0.0
-    c.from_residual.ensures
+    g.EF.ExtensionField.DIMENSION (map (λ e. length (rows e.1)) c.args.evaluations.items)
+    c.from_residual.result c.in_err-check_matrices.field-0.0 c.from_residual.ensures
     (misfit_of c.args.self.now.num_random_codewords c.args.self.now.fri.num_queries _ _
     c.DIMENSION.ensures _ _ c.deref.ensures.value (λ e. length (rows e.1)) c.in_err-check_matrices.field-0.0
     c.in_err-check_matrices.ensures)
@@ -38,86 +36,77 @@ returns-in_err-check_matrices-clause-refused g c =
 pub returns-in_err-masked-clause-refused : goal.returns-in_err-masked-clause-refused
 returns-in_err-masked-clause-refused g c =
     memory_refused c.args.self.now.num_random_codewords c.args.self.now.fri.num_queries
-    g.EF.ExtensionField.DIMENSION
-    (map (λ e. length (rows e.1)) c.args.evaluations.items) c.from_residual-in_err-masked.result
-    c.from_residual-in_err-masked.ensures (fit_of c.args.self.now.num_random_codewords c.args.self.now.fri.num_queries _ _
+    g.EF.ExtensionField.DIMENSION (map (λ e. length (rows e.1)) c.args.evaluations.items)
+    c.from_residual-in_err-masked.result c.from_residual-in_err-masked.ensures
+    (fit_of c.args.self.now.num_random_codewords c.args.self.now.fri.num_queries _ _
     c.DIMENSION.ensures _ _ c.deref.ensures.value (λ e. length (rows e.1)) c.in_ok-check_matrices.ensures)
 
-pub returns-in_err-commitment-clause-refused : goal.returns-in_err-commitment-clause-refused
-returns-in_err-commitment-clause-refused g c =
-    memory_refused c.args.self.now.num_random_codewords c.args.self.now.fri.num_queries
-    g.EF.ExtensionField.DIMENSION
-    (map (λ e. length (rows e.1)) c.args.evaluations.items) c.from_residual-in_err-commitment.result
-    c.from_residual-in_err-commitment.ensures (fit_of c.args.self.now.num_random_codewords c.args.self.now.fri.num_queries _ _
+pub returns-clause-refused : goal.returns-clause-refused
+returns-clause-refused g c =
+    memory_passed_on c.args.self.now.num_random_codewords c.args.self.now.fri.num_queries
+    g.EF.ExtensionField.DIMENSION (map (λ e. length (rows e.1)) c.args.evaluations.items)
+    c.commit_extended.result c.commit_extended.ensures.refused
+    (fit_of c.args.self.now.num_random_codewords c.args.self.now.fri.num_queries _ _
     c.DIMENSION.ensures _ _ c.deref.ensures.value (λ e. length (rows e.1)) c.in_ok-check_matrices.ensures)
 
 pub returns-clause-budget : goal.returns-clause-budget
-returns-clause-budget g c ok = fit_of c.args.self.now.num_random_codewords c.args.self.now.fri.num_queries _ _
+returns-clause-budget g c ok =
+    fit_of c.args.self.now.num_random_codewords c.args.self.now.fri.num_queries _ _
     c.DIMENSION.ensures _ _ c.deref.ensures.value (λ e. length (rows e.1)) c.in_ok-check_matrices.ensures
 
-pub commit_evaluations-requires : goal.commit_evaluations-requires
-commit_evaluations-requires g c = record {
-  fits = masked_all_fit g.F.TwoAdicField.TWO_ADICITY c.args.self.now.fri.log_blowup (λ d. d.log_size)
-      c.in_ok-masked.masked.items c.args.evaluations.items c.requires g.F.SampleField.from_word c.args.self.now.num_random_codewords
-      (g.R.Rng.stream c.args.self.now.rng) c.in_ok-masked.ensures.masked;
-}
+pub commit_extended-requires-clause-heights : goal.commit_extended-requires-clause-heights
+commit_extended-requires-clause-heights g c i d below =
+    (masked_all_fit g.F.TwoAdicField.TWO_ADICITY c.args.self.now.fri.log_blowup (λ d. d.log_size)
+    c.in_ok-masked.masked.items c.args.evaluations.items c.requires g.F.SampleField.from_word
+    c.args.self.now.num_random_codewords (g.R.Rng.stream c.args.self.now.rng)
+    c.in_ok-masked.ensures.masked i d below).height
+
+pub commit_extended-requires-clause-within : goal.commit_extended-requires-clause-within
+commit_extended-requires-clause-within g c i d below =
+    (masked_all_fit g.F.TwoAdicField.TWO_ADICITY c.args.self.now.fri.log_blowup (λ d. d.log_size)
+    c.in_ok-masked.masked.items c.args.evaluations.items c.requires g.F.SampleField.from_word
+    c.args.self.now.num_random_codewords (g.R.Rng.stream c.args.self.now.rng)
+    c.in_ok-masked.ensures.masked i d below).within
 
 pub returns-clause-masked : goal.returns-clause-masked
-returns-clause-masked g c = subst (λ t. ExtendMasked (fields_of g) (λ d. d.shift) (λ d. d.log_size)
-    c.args.self.now.fri.log_blowup g.F.SampleField.from_word c.args.self.now.num_random_codewords c.args.evaluations.items
-    (g.R.Rng.stream c.args.self.now.rng) (g.InputMmcs.Mmcs.committed t))
-    (sym c.new.ensures.inner) (record {
+returns-clause-masked g c =
+    IfOk-weaker c.commit_extended.result _ _
+    (λ pair words. record {
       masked = c.in_ok-masked.masked.items;
       masks = c.in_ok-masked.ensures.masked;
-      words = c.in_ok-commitment.ensures.words;
+      words = words;
     })
+    c.commit_extended.ensures.words
 
 pub returns-clause-openable : goal.returns-clause-openable
 returns-clause-openable g c =
-    is_unopened (fields_of g) g.InputMmcs.Mmcs.committed c.args.self.now.fri.log_blowup
-    c.args.self.now.num_random_codewords c.new.result c.in_ok-commitment.inner c.new.ensures.inner
-    c.new.ensures.codewords c.new.ensures.blowup
-    (have_cosets (fields_of g) g.met.F.Field.laws g.met.F.TwoAdicField.roots_law
-    g.met.F.Field.generator_law c.args.self.now.fri.log_blowup (λ d. d.shift) (λ d. d.log_size)
-    (λ d. d.nonzero)
-    (g.InputMmcs.Mmcs.committed c.in_ok-commitment.inner) c.in_ok-masked.masked.items
-    (masked_all_fit g.F.TwoAdicField.TWO_ADICITY c.args.self.now.fri.log_blowup (λ d. d.log_size)
-    c.in_ok-masked.masked.items c.args.evaluations.items c.requires g.F.SampleField.from_word c.args.self.now.num_random_codewords
-    (g.R.Rng.stream c.args.self.now.rng) c.in_ok-masked.ensures.masked)
-    c.in_ok-commitment.ensures.words)
-    (masked_wide (fields_of g) g.met.F.Field.laws g.met.EF.Field.laws
+    if_unopened (fields_of g) g.InputMmcs.Mmcs.committed c.args.self.now.fri.log_blowup
+    c.args.self.now.num_random_codewords c.commit_extended.result
+    (AreExtended (fields_of g) (λ d. d.shift) (λ d. d.log_size)
+    c.args.self.now.fri.log_blowup c.in_ok-masked.masked.items)
+    (λ ms words. masked_wide (fields_of g) g.met.F.Field.laws g.met.EF.Field.laws
     g.met.EF.ExtensionField.lift_law g.met.F.TwoAdicField.roots_law g.met.F.Field.generator_law
-    c.args.self.now.fri.log_blowup (λ d. d.shift) (λ d. d.log_size) (λ d. d.nonzero)
-    (g.InputMmcs.Mmcs.committed c.in_ok-commitment.inner) c.in_ok-masked.masked.items c.args.evaluations.items c.requires c.in_ok-commitment.ensures.words
-    g.F.SampleField.from_word c.args.self.now.num_random_codewords (g.R.Rng.stream c.args.self.now.rng)
-    c.in_ok-masked.ensures.masked)
-    c.new.ensures.preprocessed c.new.ensures.unopened
-
-pub returns-clause-honest : goal.returns-clause-honest
-returns-clause-honest g c =
-    subst (λ t. All (HoldsWords (fields_of g) c.args.self.now.fri.log_blowup)
-    (g.InputMmcs.Mmcs.committed t)) (sym c.new.ensures.inner)
-    (hold_words (fields_of g) g.met.F.Field.laws g.met.F.TwoAdicField.roots_law
-    g.met.F.Field.generator_law c.args.self.now.fri.log_blowup (λ d. d.shift) (λ d. d.log_size)
-    (λ d. d.nonzero)
-    (g.InputMmcs.Mmcs.committed c.in_ok-commitment.inner) c.in_ok-masked.masked.items
-    (masked_all_fit g.F.TwoAdicField.TWO_ADICITY c.args.self.now.fri.log_blowup (λ d. d.log_size)
-    c.in_ok-masked.masked.items c.args.evaluations.items c.requires g.F.SampleField.from_word c.args.self.now.num_random_codewords
+    c.args.self.now.fri.log_blowup (λ d. d.shift) (λ d. d.log_size) (λ d. d.nonzero) ms
+    c.in_ok-masked.masked.items c.args.evaluations.items c.requires words
+    g.F.SampleField.from_word c.args.self.now.num_random_codewords
     (g.R.Rng.stream c.args.self.now.rng) c.in_ok-masked.ensures.masked)
-    c.in_ok-commitment.ensures.words)
+    c.commit_extended.ensures.words c.commit_extended.ensures.data
+    c.commit_extended.ensures.of_scheme
 
 pub returns-clause-extends : goal.returns-clause-extends
 returns-clause-extends g c =
-    zip_shown (fields_of g) g.InputMmcs.Mmcs.committed c.args.self.now.fri.log_blowup
-    c.args.self.now.num_random_codewords c.new.result c.in_ok-commitment.inner c.new.ensures.inner
+    if_shown (fields_of g) g.InputMmcs.Mmcs.committed c.args.self.now.fri.log_blowup
+    c.args.self.now.num_random_codewords c.commit_extended.result false
+    (AreExtended (fields_of g) (λ d. d.shift) (λ d. d.log_size)
+    c.args.self.now.fri.log_blowup c.in_ok-masked.masked.items)
     (λ m e. HasTrace (fields_of g) e.0.shift e.0.log_size e.1 m) c.args.evaluations.items
-    false c.new.ensures.preprocessed
-    (masked_all_traced (fields_of g) g.met.F.Field.laws g.met.EF.Field.laws
+    (λ ms words. masked_all_traced (fields_of g) g.met.F.Field.laws g.met.EF.Field.laws
     g.met.EF.ExtensionField.lift_law g.met.F.TwoAdicField.roots_law g.met.F.Field.generator_law
-    c.args.self.now.fri.log_blowup (λ d. d.shift) (λ d. d.log_size) (λ d. d.nonzero)
-    (g.InputMmcs.Mmcs.committed c.in_ok-commitment.inner) c.in_ok-masked.masked.items c.args.evaluations.items c.requires c.in_ok-commitment.ensures.words
-    g.F.SampleField.from_word c.args.self.now.num_random_codewords (g.R.Rng.stream c.args.self.now.rng)
-    c.in_ok-masked.ensures.masked)
+    c.args.self.now.fri.log_blowup (λ d. d.shift) (λ d. d.log_size) (λ d. d.nonzero) ms
+    c.in_ok-masked.masked.items c.args.evaluations.items c.requires words
+    g.F.SampleField.from_word c.args.self.now.num_random_codewords
+    (g.R.Rng.stream c.args.self.now.rng) c.in_ok-masked.ensures.masked)
+    c.commit_extended.ensures.words c.commit_extended.ensures.data
 
 pub returns-in_err-check_matrices-clause-unmoved : goal.returns-in_err-check_matrices-clause-unmoved
 returns-in_err-check_matrices-clause-unmoved g c = in_any_case _ c.from_residual.result refl
@@ -126,6 +115,63 @@ pub returns-in_err-masked-clause-unmoved : goal.returns-in_err-masked-clause-unm
 returns-in_err-masked-clause-unmoved g c =
     memory_alone _ c.from_residual-in_err-masked.result c.from_residual-in_err-masked.ensures
 
-pub returns-in_err-commitment-clause-unmoved : goal.returns-in_err-commitment-clause-unmoved
-returns-in_err-commitment-clause-unmoved g c =
-    memory_alone _ c.from_residual-in_err-commitment.result c.from_residual-in_err-commitment.ensures
+pub returns-clause-unmoved : goal.returns-clause-unmoved
+returns-clause-unmoved g c =
+    no_other_than_memory _ c.commit_extended.result c.commit_extended.ensures.refused
+
+-- where nothing is answered nothing is said of the answer
+pub returns-in_err-check_matrices-clause-masked : goal.returns-in_err-check_matrices-clause-masked
+returns-in_err-check_matrices-clause-masked g c =
+    IfOk-from_err c.from_residual.result _ c.from_residual.ensures.0
+
+pub returns-in_err-check_matrices-clause-past : goal.returns-in_err-check_matrices-clause-past
+returns-in_err-check_matrices-clause-past g c =
+    IfOk-from_err c.from_residual.result _ c.from_residual.ensures.0
+
+pub returns-in_err-check_matrices-clause-data : goal.returns-in_err-check_matrices-clause-data
+returns-in_err-check_matrices-clause-data g c =
+    IfOk-from_err c.from_residual.result _ c.from_residual.ensures.0
+
+pub returns-in_err-check_matrices-clause-commitment : goal.returns-in_err-check_matrices-clause-commitment
+returns-in_err-check_matrices-clause-commitment g c =
+    IfOk-from_err c.from_residual.result _ c.from_residual.ensures.0
+
+pub returns-in_err-check_matrices-clause-openable : goal.returns-in_err-check_matrices-clause-openable
+returns-in_err-check_matrices-clause-openable g c =
+    IfOk-from_err c.from_residual.result _ c.from_residual.ensures.0
+
+pub returns-in_err-check_matrices-clause-honest : goal.returns-in_err-check_matrices-clause-honest
+returns-in_err-check_matrices-clause-honest g c =
+    IfOk-from_err c.from_residual.result _ c.from_residual.ensures.0
+
+pub returns-in_err-check_matrices-clause-extends : goal.returns-in_err-check_matrices-clause-extends
+returns-in_err-check_matrices-clause-extends g c =
+    IfOk-from_err c.from_residual.result _ c.from_residual.ensures.0
+
+pub returns-in_err-masked-clause-masked : goal.returns-in_err-masked-clause-masked
+returns-in_err-masked-clause-masked g c =
+    IfOk-from_err c.from_residual-in_err-masked.result _ c.from_residual-in_err-masked.ensures.0
+
+pub returns-in_err-masked-clause-past : goal.returns-in_err-masked-clause-past
+returns-in_err-masked-clause-past g c =
+    IfOk-from_err c.from_residual-in_err-masked.result _ c.from_residual-in_err-masked.ensures.0
+
+pub returns-in_err-masked-clause-data : goal.returns-in_err-masked-clause-data
+returns-in_err-masked-clause-data g c =
+    IfOk-from_err c.from_residual-in_err-masked.result _ c.from_residual-in_err-masked.ensures.0
+
+pub returns-in_err-masked-clause-commitment : goal.returns-in_err-masked-clause-commitment
+returns-in_err-masked-clause-commitment g c =
+    IfOk-from_err c.from_residual-in_err-masked.result _ c.from_residual-in_err-masked.ensures.0
+
+pub returns-in_err-masked-clause-openable : goal.returns-in_err-masked-clause-openable
+returns-in_err-masked-clause-openable g c =
+    IfOk-from_err c.from_residual-in_err-masked.result _ c.from_residual-in_err-masked.ensures.0
+
+pub returns-in_err-masked-clause-honest : goal.returns-in_err-masked-clause-honest
+returns-in_err-masked-clause-honest g c =
+    IfOk-from_err c.from_residual-in_err-masked.result _ c.from_residual-in_err-masked.ensures.0
+
+pub returns-in_err-masked-clause-extends : goal.returns-in_err-masked-clause-extends
+returns-in_err-masked-clause-extends g c =
+    IfOk-from_err c.from_residual-in_err-masked.result _ c.from_residual-in_err-masked.ensures.0

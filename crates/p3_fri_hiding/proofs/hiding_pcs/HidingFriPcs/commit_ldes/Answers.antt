@@ -1,4 +1,5 @@
 use Rattle.std.proofs.Common.{◌/◌, ◌^◌, ◌∙◌, false, length, map, sym, ap, subst}
+use Rattle.std.proofs.lemmas.Result.{IfOk-from_err}
 use Rattle.std.specs.Prelude.{All}
 use Rattle.p3_matrix.specs.Matrix.{rows}
 use Rattle.p3_fri_relation.specs.Setting.{Fields}
@@ -87,3 +88,44 @@ returns-clause-honest g c words =
     subst (λ ms. All (HoldsWords (fields_of g) c.args.self.now.fri.log_blowup) ms)
     (sym (ap (λ t. g.InputMmcs.Mmcs.committed t) c.new.ensures.inner
     ∙ c.in_ok-commitment.ensures.matrices)) words
+
+-- where nothing is answered nothing is said of the answer
+pub returns-in_err-check_ldes-clause-matrices : goal.returns-in_err-check_ldes-clause-matrices
+returns-in_err-check_ldes-clause-matrices g c =
+    IfOk-from_err c.from_residual.result _ c.from_residual.ensures.0
+
+pub returns-in_err-check_ldes-clause-data : goal.returns-in_err-check_ldes-clause-data
+returns-in_err-check_ldes-clause-data g c =
+    IfOk-from_err c.from_residual.result _ c.from_residual.ensures.0
+
+pub returns-in_err-check_ldes-clause-commitment : goal.returns-in_err-check_ldes-clause-commitment
+returns-in_err-check_ldes-clause-commitment g c =
+    IfOk-from_err c.from_residual.result _ c.from_residual.ensures.0
+
+pub returns-in_err-check_ldes-clause-polynomials : goal.returns-in_err-check_ldes-clause-polynomials
+returns-in_err-check_ldes-clause-polynomials g c =
+    IfOk-from_err c.from_residual.result _ c.from_residual.ensures.0
+
+pub returns-in_err-check_ldes-clause-readable : goal.returns-in_err-check_ldes-clause-readable
+returns-in_err-check_ldes-clause-readable g c =
+    IfOk-from_err c.from_residual.result _ c.from_residual.ensures.0
+
+pub returns-in_err-commitment-clause-matrices : goal.returns-in_err-commitment-clause-matrices
+returns-in_err-commitment-clause-matrices g c =
+    IfOk-from_err c.from_residual-in_err-commitment.result _ c.from_residual-in_err-commitment.ensures.0
+
+pub returns-in_err-commitment-clause-data : goal.returns-in_err-commitment-clause-data
+returns-in_err-commitment-clause-data g c =
+    IfOk-from_err c.from_residual-in_err-commitment.result _ c.from_residual-in_err-commitment.ensures.0
+
+pub returns-in_err-commitment-clause-commitment : goal.returns-in_err-commitment-clause-commitment
+returns-in_err-commitment-clause-commitment g c =
+    IfOk-from_err c.from_residual-in_err-commitment.result _ c.from_residual-in_err-commitment.ensures.0
+
+pub returns-in_err-commitment-clause-polynomials : goal.returns-in_err-commitment-clause-polynomials
+returns-in_err-commitment-clause-polynomials g c =
+    IfOk-from_err c.from_residual-in_err-commitment.result _ c.from_residual-in_err-commitment.ensures.0
+
+pub returns-in_err-commitment-clause-readable : goal.returns-in_err-commitment-clause-readable
+returns-in_err-commitment-clause-readable g c =
+    IfOk-from_err c.from_residual-in_err-commitment.result _ c.from_residual-in_err-commitment.ensures.0

@@ -1,4 +1,5 @@
 use Rattle.std.proofs.Common.{length, map, refl}
+use Rattle.std.proofs.lemmas.Result.{IfOk-from_err}
 use Rattle.p3_matrix.specs.Matrix.{rows}
 use Rattle.p3_fri_relation.specs.Setting.{Fields}
 use Rattle.p3_fri_hiding.proofs.QuotientsHeld.{ldes_have_heights, ldes_hold_words, ldes_are_wide}
@@ -93,3 +94,60 @@ returns-in_err-check_matrices-clause-unmoved g c = in_any_case _ c.from_residual
 pub returns-in_err-quotient_ldes-clause-unmoved : goal.returns-in_err-quotient_ldes-clause-unmoved
 returns-in_err-quotient_ldes-clause-unmoved g c =
     memory_alone _ c.from_residual-in_err-quotient_ldes.result c.from_residual-in_err-quotient_ldes.ensures
+
+-- where nothing is answered nothing is said of the answer
+pub returns-in_err-check_matrices-clause-words : goal.returns-in_err-check_matrices-clause-words
+returns-in_err-check_matrices-clause-words g c =
+    IfOk-from_err c.from_residual.result _ c.from_residual.ensures.0
+
+pub returns-in_err-check_matrices-clause-past : goal.returns-in_err-check_matrices-clause-past
+returns-in_err-check_matrices-clause-past g c =
+    IfOk-from_err c.from_residual.result _ c.from_residual.ensures.0
+
+pub returns-in_err-check_matrices-clause-sizes : goal.returns-in_err-check_matrices-clause-sizes
+returns-in_err-check_matrices-clause-sizes g c =
+    IfOk-from_err c.from_residual.result _ c.from_residual.ensures.0
+
+pub returns-in_err-check_matrices-clause-recombined : goal.returns-in_err-check_matrices-clause-recombined
+returns-in_err-check_matrices-clause-recombined g c =
+    IfOk-from_err c.from_residual.result _ c.from_residual.ensures.0
+
+pub returns-in_err-check_matrices-clause-committable : goal.returns-in_err-check_matrices-clause-committable
+returns-in_err-check_matrices-clause-committable g c =
+    IfOk-from_err c.from_residual.result _ c.from_residual.ensures.0
+
+pub returns-in_err-check_matrices-clause-openable : goal.returns-in_err-check_matrices-clause-openable
+returns-in_err-check_matrices-clause-openable g c =
+    IfOk-from_err c.from_residual.result _ c.from_residual.ensures.0
+
+pub returns-in_err-check_matrices-clause-low_degree : goal.returns-in_err-check_matrices-clause-low_degree
+returns-in_err-check_matrices-clause-low_degree g c =
+    IfOk-from_err c.from_residual.result _ c.from_residual.ensures.0
+
+pub returns-in_err-quotient_ldes-clause-words : goal.returns-in_err-quotient_ldes-clause-words
+returns-in_err-quotient_ldes-clause-words g c =
+    IfOk-from_err c.from_residual-in_err-quotient_ldes.result _ c.from_residual-in_err-quotient_ldes.ensures.0
+
+pub returns-in_err-quotient_ldes-clause-past : goal.returns-in_err-quotient_ldes-clause-past
+returns-in_err-quotient_ldes-clause-past g c =
+    IfOk-from_err c.from_residual-in_err-quotient_ldes.result _ c.from_residual-in_err-quotient_ldes.ensures.0
+
+pub returns-in_err-quotient_ldes-clause-sizes : goal.returns-in_err-quotient_ldes-clause-sizes
+returns-in_err-quotient_ldes-clause-sizes g c =
+    IfOk-from_err c.from_residual-in_err-quotient_ldes.result _ c.from_residual-in_err-quotient_ldes.ensures.0
+
+pub returns-in_err-quotient_ldes-clause-recombined : goal.returns-in_err-quotient_ldes-clause-recombined
+returns-in_err-quotient_ldes-clause-recombined g c =
+    IfOk-from_err c.from_residual-in_err-quotient_ldes.result _ c.from_residual-in_err-quotient_ldes.ensures.0
+
+pub returns-in_err-quotient_ldes-clause-committable : goal.returns-in_err-quotient_ldes-clause-committable
+returns-in_err-quotient_ldes-clause-committable g c =
+    IfOk-from_err c.from_residual-in_err-quotient_ldes.result _ c.from_residual-in_err-quotient_ldes.ensures.0
+
+pub returns-in_err-quotient_ldes-clause-openable : goal.returns-in_err-quotient_ldes-clause-openable
+returns-in_err-quotient_ldes-clause-openable g c =
+    IfOk-from_err c.from_residual-in_err-quotient_ldes.result _ c.from_residual-in_err-quotient_ldes.ensures.0
+
+pub returns-in_err-quotient_ldes-clause-low_degree : goal.returns-in_err-quotient_ldes-clause-low_degree
+returns-in_err-quotient_ldes-clause-low_degree g c =
+    IfOk-from_err c.from_residual-in_err-quotient_ldes.result _ c.from_residual-in_err-quotient_ldes.ensures.0

@@ -7,27 +7,15 @@ use Rattle.p3_fri_transcript.specs.Replay.{round_replay}
 use Rattle.p3_fri_transcript.specs.Views.{state_of, shape_of}
 use Rattle.p3_fri_prover.specs.Refusals.{RoundRefusal}
 use Rattle.p3_matrix.specs.Matrix.{rows, matrix_width}
-use Rattle.p3_matrix.specs.Rows.{rows_of}
-use Rattle.p3_fri_prover.proofs.Folding.{whole_rows, height_of_rows, one_power_height}
+use Rattle.p3_fri_prover.proofs.Folding.{height_of_rows}
 use Rattle.p3_field_core.proofs.IndexPowers.{exponents_agree}
 use Rattle.p3_fri_prover.proofs.prover.commit_phase.commit_round.Given.{Over}
 use Rattle.p3_fri_prover.proofs.prover.commit_phase.commit_round.Goals.{After-index-get_matrices-0}
 use Rattle.p3_fri_prover.proofs.prover.commit_phase.commit_round.Goals as goal
 
-pub new-leaves-requires-clause-whole_rows : goal.new-leaves-requires-clause-whole_rows
-new-leaves-requires-clause-whole_rows g c =
-    let f = c.requires.foldable in
-    rw c.arity_of.ensures (whole_rows c.args.word.len f.height c.args.log_arity f.length_of_word)
-
-pub commit_matrix-requires : goal.commit_matrix-requires
-commit_matrix-requires g c =
-    let f = c.requires.foldable in
-    let a = c.args.log_arity in
-    let ys = c.args.word.items in
-    let height : length (rows c.new-leaves.result) ≡ 2 ^ f.height =
-    ap length (c.new-leaves.ensures.rows ∙ ap (λ w. rows_of w ys) c.arity_of.ensures)
-    ∙ height_of_rows a f.height ys (sym c.args.word.ok.0 ∙ f.length_of_word) in
-    record { height = one_power_height c.new-leaves.result f.height height }
+pub commit_word-requires-clause-power_of_two : goal.commit_word-requires-clause-power_of_two
+commit_word-requires-clause-power_of_two g c =
+    (c.requires.foldable.height, c.requires.foldable.length_of_word)
 
 pub returns-in-Err-clause-refused : goal.returns-in-Err-clause-refused
 returns-in-Err-clause-refused g c =
@@ -41,35 +29,30 @@ returns-in-Err-clause-refused g c =
     subst P (sym c.in-Err.ensures.refused) (record {
       commitment = made.commitment;
       datum = made.prover_data;
-      keeps = record {
-        matrix = c.new-leaves.result;
-        only = made.ensures.matrices;
-        rows_of_word = c.new-leaves.ensures.rows ∙ ap (λ w. rows_of w ys) c.arity_of.ensures;
-        width = c.new-leaves.ensures.width ∙ c.arity_of.ensures;
-        same = made.ensures.commitment;
-      };
+      keeps = made.ensures;
       none_passes = c.in-Err.ensures.none_passes;
     })
 
 -- the matrix that is folded is the one that was committed to
-same_leaves : (g : Over) (c : After-index-get_matrices-0 g) → c.index-get_matrices-0.result ≡ c.new-leaves.result
+same_leaves : (g : Over) (c : After-index-get_matrices-0 g)
+    → c.index-get_matrices-0.result ≡ c.in_ok-commitment.ensures.matrix
 same_leaves g c =
     c.index-get_matrices-0.is ∙ ap (λ xs. get_or xs 0 c.index-get_matrices-0.result)
-    (c.get_matrices.ensures ∙ c.in_ok-commitment.ensures.matrices)
+    (c.get_matrices.ensures ∙ c.in_ok-commitment.ensures.only)
 
 leaves_height : (g : Over) (c : After-index-get_matrices-0 g)
     → length (rows c.index-get_matrices-0.result) ≡ 2 ^ c.requires.foldable.height
 leaves_height g c =
     let ys = c.args.word.items in
     ap (λ (x : RowMajorMatrix _). length (rows x)) (same_leaves g c)
-    ∙ ap length (c.new-leaves.ensures.rows ∙ ap (λ w. rows_of w ys) c.arity_of.ensures)
+    ∙ ap length c.in_ok-commitment.ensures.rows_of_word
     ∙ height_of_rows c.args.log_arity c.requires.foldable.height ys
     (sym c.args.word.ok.0 ∙ c.requires.foldable.length_of_word)
 
 pub fold_leaves-requires-clause-width : goal.fold_leaves-requires-clause-width
 fold_leaves-requires-clause-width g c =
     ap matrix_width (same_leaves g (goal.at.fold_leaves-requires-clause-width g c).After-index-get_matrices-0)
-    ∙ c.new-leaves.ensures.width ∙ c.arity_of.ensures
+    ∙ c.in_ok-commitment.ensures.width
 
 pub fold_leaves-requires-clause-power_of_two : goal.fold_leaves-requires-clause-power_of_two
 fold_leaves-requires-clause-power_of_two g c = (
@@ -96,21 +79,13 @@ returns-clause-round g c = λ h whole.
     let drawn = c.in-Ok.drawn in
     let found : c.unwrap_or.result ≡ unwrap_or drawn.1 zero = search rules in
     let same = same_leaves g (goal.at.returns-clause-round g c).After-index-get_matrices-0 in
-    let is_rows : rows c.new-leaves.result ≡ rows_of (2 ^ a) ys =
-    c.new-leaves.ensures.rows ∙ ap (λ w. rows_of w ys) c.arity_of.ensures in
     record {
       beta = drawn.0;
       replay = ap (λ w. round_replay m bits before made.commitment w) found ∙ c.in-Ok.ensures.round;
       found = sent_is zero g.C.GrindingChallenger.solution
           (m.observe_commitment before made.commitment) bits drawn.1 c.in-Ok.ensures.witness
           c.in-Ok.ensures.found ∙ ap Some (sym found);
-      keeps = record {
-        matrix = c.new-leaves.result;
-        only = made.ensures.matrices;
-        rows_of_word = is_rows;
-        width = c.new-leaves.ensures.width ∙ c.arity_of.ensures;
-        same = made.ensures.commitment;
-      };
+      keeps = made.ensures;
       word_after = c.in_ok-word.ensures h ys (sym c.args.word.ok.0 ∙ whole)
-          (ap (λ (x : RowMajorMatrix _). rows x) same ∙ is_rows);
+          (ap (λ (x : RowMajorMatrix _). rows x) same ∙ made.ensures.rows_of_word);
     }

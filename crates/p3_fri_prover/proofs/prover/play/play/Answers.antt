@@ -1,19 +1,14 @@
-use Rattle.std.proofs.Common.{rules, ◌≡◌, ℕ, ◌+◌, ◌^◌, ◌≤◌, ◌∙◌, [], length, sum, get_or, Some}
-use Rattle.std.proofs.Common.{true, unwrap_or, sym, ap, arith, Err}
+use Rattle.std.proofs.Common.{◌≡◌, ℕ, ◌+◌, ◌^◌, ◌≤◌, ◌∙◌, [], length, sum, get_or, ap, arith}
 use Rattle.algebra.specs.Nested.{lists}
-use Rattle.algebra.proofs.FinalPolynomials.{length-final_polynomial}
-use Rattle.algebra.proofs.Points.{lifted_roots}
 use Rattle.p3_challenger_core.specs.Run.{Moves, moves}
-use Rattle.p3_fri_pow.specs.Pow.{found_witness}
-use Rattle.p3_fri_transcript.specs.Replay.{shown_queries_replay, polynomial_observed}
 use Rattle.p3_fri_transcript.specs.Shapes.{fri_shape}
 use Rattle.p3_fri_transcript.specs.Steps.{FriNumbers}
 use Rattle.p3_fri_transcript.specs.Views.{state_of}
-use Rattle.p3_fri_transcript.proofs.Replays.{queries_any}
 use Rattle.p3_fri_relation.specs.Setting.{Fields}
 use Rattle.p3_fri_prover.specs.Played.{AllCommitted}
 use Rattle.p3_fri_prover.proofs.Plays.{AreSplit, first_length, playable_folds, last_word_long}
 use Rattle.p3_fri_prover.proofs.Plays.{rounds_stop, all_committed, queries_stop, played_to_end}
+use Rattle.p3_fri_prover.proofs.Plays.{queries_alike}
 use Rattle.p3_fri_prover.proofs.prover.play.play.Given.{Over}
 use Rattle.p3_fri_prover.proofs.prover.play.play.Goals.{After-deref, In-Ok}
 use Rattle.p3_fri_prover.proofs.prover.play.play.Goals as goal
@@ -60,7 +55,7 @@ rounds_played g c top whole =
     (g.S.FriFoldingStrategy.row_fold c.args.folding.now) (moves_at g)
     c.args.params.now.log_final_poly_len (fri_shape c.args.transcript.now.shape) top
     (state_of c.args.transcript.now) g.C.GrindingChallenger.solution c.args.log_arities.now
-    c.requires.schedule (c.in-Ok.ensures.rounds top (first_length parts ∙ whole))
+    c.requires.described.schedule (c.in-Ok.ensures.rounds top (first_length parts ∙ whole))
 
 -- the word after the rounds is long enough for the final polynomial
 long_enough : (g : Over) (c : In-Ok g)
@@ -71,7 +66,7 @@ long_enough g c =
     last_word_long (fields_at g) c.args.params.now.log_final_poly_len
     (fri_shape c.args.transcript.now.shape) (lists c.args.inputs.items)
     (rounds_played g c top can.length_of_word) can.height
-    (ap (λ arities. can.height + sum arities) c.requires.schedule) can.long_enough
+    (ap (λ arities. can.height + sum arities) c.requires.described.schedule) can.long_enough
     can.length_of_word
 
 pub commit_rounds-committed-requires-clause-foldable :
@@ -89,66 +84,34 @@ returns-in-Err-clause-refused g c = λ top whole.
     (g.S.FriFoldingStrategy.row_fold c.args.folding.now) (moves_at g)
     c.args.params.now.log_final_poly_len (fri_shape c.args.transcript.now.shape) top
     (state_of c.args.transcript.now) g.C.GrindingChallenger.solution c.args.log_arities.now
-    c.requires.schedule c.in-Err.refusal
+    c.requires.described.schedule c.in-Err.refusal
     (c.in-Err.ensures.refused top (first_length parts ∙ whole))
 
-pub final_polynomial-requires-clause-long_enough :
-    goal.final_polynomial-requires-clause-long_enough
-final_polynomial-requires-clause-long_enough g c =
-    let long = long_enough g (goal.at.final_polynomial-requires-clause-long_enough g c).In-Ok in
+pub play_queries-requires-clause-long_enough : goal.play_queries-requires-clause-long_enough
+play_queries-requires-clause-long_enough g c =
+    let long = long_enough g (goal.at.play_queries-requires-clause-long_enough g c).In-Ok in
     omega (arith, c.in-Ok.committed.1.ok.0, long)
 
-pub query_phase-requires-clause-described : goal.query_phase-requires-clause-described
-query_phase-requires-clause-described g c =
-    let fields = fields_at g in
-    ap length (c.deref-2.ensures.value ∙ c.in_ok-final_poly.ensures)
-    ∙ length-final_polynomial fields.ext g.met.EF.Field.laws fields.two_adicity
-    (λ k. fields.lift (fields.root k))
-    (lifted_roots fields.base fields.ext fields.lift g.met.F.Field.laws g.met.EF.Field.laws
-    g.met.EF.ExtensionField.lift_law fields.two_adicity fields.root
-    g.met.F.TwoAdicField.roots_law) c.args.params.now.log_final_poly_len
-    c.in-Ok.committed.1.items c.requires.within_two_adicity
-    (long_enough g (goal.at.query_phase-requires-clause-described g c).In-Ok)
-    ∙ sym c.requires.described
-    ∙ sym (ap (λ (s : FriNumbers). s.final_poly_len) c.in-Ok.ensures.kept.shape)
+pub play_queries-requires-clause-described : goal.play_queries-requires-clause-described
+play_queries-requires-clause-described g c =
+    ap (λ (s : FriNumbers). s.final_poly_len) c.in-Ok.ensures.kept.shape ∙ c.requires.described.final_poly_len
 
-pub returns-in-Err-query_phase-clause-refused : goal.returns-in-Err-query_phase-clause-refused
-returns-in-Err-query_phase-clause-refused g c = λ top whole.
+pub returns-in-Err-play_queries-clause-refused : goal.returns-in-Err-play_queries-clause-refused
+returns-in-Err-play_queries-clause-refused g c = λ top whole.
     queries_stop (fields_at g) c.args.params.now.log_final_poly_len
     (fri_shape c.args.transcript.now.shape) (lists c.args.inputs.items)
-    (rounds_played g (goal.at.returns-in-Err-query_phase-clause-refused g c).In-Ok top whole)
-    c.deref-2.result.now (fri_shape c.commit_rounds-committed.new.transcript.shape)
-    c.in-Err-query_phase.refusal (c.deref-2.ensures.value ∙ c.in_ok-final_poly.ensures)
-    c.in-Ok.ensures.kept.shape c.in-Err-query_phase.ensures.refused
-    (λ same. c.in-Err-query_phase.ensures.none_passes (ap Err same))
+    (rounds_played g (goal.at.returns-in-Err-play_queries-clause-refused g c).In-Ok top whole)
+    (fri_shape c.commit_rounds-committed.new.transcript.shape) c.in-Err-play_queries.refusal
+    c.in-Ok.ensures.kept.shape c.in-Err-play_queries.ensures.refused
 
-pub returns-clause-played : goal.returns-clause-played
-returns-clause-played g c = λ top whole.
-    let m = moves_at g in
-    let coefficients = g.EF.ExtensionField.coefficients in
-    let reached = state_of c.commit_rounds-committed.new.transcript in
+pub returns-in-Ok-play_queries-clause-played : goal.returns-in-Ok-play_queries-clause-played
+returns-in-Ok-play_queries-clause-played g c = λ top whole.
     let own = fri_shape c.commit_rounds-committed.new.transcript.shape in
-    let poly = c.in_ok-final_poly.final_poly.items in
-    let shown = c.deref-2.result.now in
-    let found = c.in-Ok-query_phase.drawn in
-    let last = state_of c.query_phase.new.self in
-    let sent : c.unwrap_or.result ≡ unwrap_or found.1 g.F.Field.ops.zero = search rules in
-    let queries : shown_queries_replay m coefficients own reached shown (Some c.unwrap_or.result)
-    ≡ record { passes = true; indices = found.0.items; state = last } =
-    ap (λ w. shown_queries_replay m coefficients own reached shown (Some w)) sent
-    ∙ queries_any g.C.CanObserve-1.observed g.C.CanObserve-2.observed g.C.CanObserve-1.observed
-    g.C.CanSample.sampled g.EF.ExtensionField.of_coefficients g.EF.ExtensionField.DIMENSION
-    g.C.CanSampleBits.sampled_bits coefficients own reached shown
-    (Some (unwrap_or found.1 g.F.Field.ops.zero)) ∙ c.in-Ok-query_phase.ensures.queries in
     played_to_end (fields_at g) c.args.params.now.log_final_poly_len
     (fri_shape c.args.transcript.now.shape) (lists c.args.inputs.items)
-    (rounds_played g (goal.at.returns-clause-played g c).In-Ok top whole)
-    found.1 poly c.unwrap_or.result found.0.items last own c.in_ok-final_poly.ensures
-    c.in-Ok.ensures.kept.shape
-    (ap (λ ys. shown_queries_replay m coefficients own reached ys (Some c.unwrap_or.result))
-    (sym c.deref-2.ensures.value) ∙ queries)
-    c.in-Ok-query_phase.ensures.indices
-    (c.in-Ok-query_phase.ensures.witness
-    ∙ ap (λ ys. found_witness g.C.GrindingChallenger.solution
-    (polynomial_observed g.C.CanObserve-1.observed coefficients reached ys) own.query_pow_bits)
-    c.deref-2.ensures.value) c.in-Ok-query_phase.ensures.found sent
+    (rounds_played g (goal.at.returns-in-Ok-play_queries-clause-played g c).In-Ok top whole) own
+    c.in-Ok.ensures.kept.shape (queries_alike (fields_at g) c.args.params.now.log_final_poly_len
+    own c.in-Ok.committed.1.items (state_of c.commit_rounds-committed.new.transcript)
+    g.C.CanObserve-1.observed g.C.CanObserve-1.observed g.C.CanObserve-2.observed
+    g.C.CanSample.sampled g.EF.ExtensionField.of_coefficients g.EF.ExtensionField.DIMENSION
+    g.C.CanSampleBits.sampled_bits c.in-Ok-play_queries.ensures.played)

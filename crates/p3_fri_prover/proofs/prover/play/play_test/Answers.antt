@@ -1,4 +1,4 @@
-use Rattle.std.proofs.Common.{rules, ◌∙◌, arith, sym, ap, subst, length}
+use Rattle.std.proofs.Common.{rules, ◌∙◌, sym, ap, subst, length}
 use Rattle.algebra.specs.Nested.{lists}
 use Rattle.p3_challenger_core.specs.Run.{moves}
 use Rattle.p3_challenger_fs.specs.Separator.{seed_bytes}
@@ -8,7 +8,7 @@ use Rattle.p3_fri_transcript.specs.Steps.{FriNumbers}
 use Rattle.p3_fri_transcript.specs.Views.{state_of}
 use Rattle.p3_fri_transcript.proofs.TurnLists.{these_rounds_left}
 use Rattle.p3_fri_relation.specs.Setting.{Fields}
-use Rattle.p3_fri_prover.specs.Played.{IsPlayed}
+use Rattle.p3_fri_prover.specs.Played.{Describes, IsPlayed}
 use Rattle.p3_fri_prover.proofs.prover.play.play_test.Given.{Over}
 use Rattle.p3_fri_prover.proofs.prover.play.play_test.Goals as goal
 
@@ -28,7 +28,7 @@ pub play-requires-clause-rounds_left : goal.play-requires-clause-rounds_left
 play-requires-clause-rounds_left g c =
     these_rounds_left g.EF.ExtensionField.DIMENSION (fri_shape c.args.shape)
     (fri_shape c.start-transcript.result.shape) (length c.args.log_arities.now) _
-    c.start-transcript.ensures.starts.shape (ap length c.requires.schedule)
+    c.start-transcript.ensures.starts.shape (ap length c.requires.described.schedule)
     (c.start-transcript.ensures.steps ∙ c.requires.turns)
 
 pub returns-in-Ok-clause-played : goal.returns-in-Ok-clause-played
@@ -51,36 +51,8 @@ returns-in-Ok-clause-played g c = λ top whole.
     (subst (λ n. P n (state_of c.start-transcript.result) (state_of c.play.new.transcript))
     c.start-transcript.ensures.starts.shape (c.in-Ok.ensures.played top whole)))
 
-pub play-requires-clause-schedule : goal.play-requires-clause-schedule
-play-requires-clause-schedule g c =
-    c.requires.schedule
-    ∙ sym (ap (λ (n : FriNumbers). n.log_arities) c.start-transcript.ensures.starts.shape)
-
 pub play-requires-clause-described : goal.play-requires-clause-described
 play-requires-clause-described g c =
-    ap (λ (n : FriNumbers). n.final_poly_len) c.start-transcript.ensures.starts.shape
-    ∙ c.requires.described
-
-pub play-requires-clause-commit_bits_at_most_max : goal.play-requires-clause-commit_bits_at_most_max
-play-requires-clause-commit_bits_at_most_max g c =
-    omega (
-      arith,
-      ap (λ (n : FriNumbers). n.commit_pow_bits) c.start-transcript.ensures.starts.shape,
-      c.requires.commit_bits_at_most_max,
-    )
-
-pub play-requires-clause-query_bits_at_most_max : goal.play-requires-clause-query_bits_at_most_max
-play-requires-clause-query_bits_at_most_max g c =
-    omega (
-      arith,
-      ap (λ (n : FriNumbers). n.query_pow_bits) c.start-transcript.ensures.starts.shape,
-      c.requires.query_bits_at_most_max,
-    )
-
-pub play-requires-clause-index_bits_at_most_max : goal.play-requires-clause-index_bits_at_most_max
-play-requires-clause-index_bits_at_most_max g c =
-    omega (
-      arith,
-      ap (λ (n : FriNumbers). n.index_bits) c.start-transcript.ensures.starts.shape,
-      c.requires.index_bits_at_most_max,
-    )
+    subst (λ (n : FriNumbers). Describes n c.args.log_arities.now c.args.params.now.log_final_poly_len
+    g.C.CanSampleBits.MAX_SAMPLE_BITS) (sym c.start-transcript.ensures.starts.shape)
+    c.requires.described

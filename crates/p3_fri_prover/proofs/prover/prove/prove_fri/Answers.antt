@@ -7,7 +7,6 @@ use Rattle.p3_challenger_core.specs.Run.{moves}
 use Rattle.p3_challenger_fs.specs.Separator.{seed_bytes}
 use Rattle.p3_challenger_fs.specs.Turns.{bytes_observed}
 use Rattle.p3_fri_transcript.specs.Shapes.{fri_shape}
-use Rattle.p3_fri_transcript.specs.Steps.{FriNumbers}
 use Rattle.p3_fri_relation.specs.Setting.{Setting}
 use Rattle.p3_fri_relation.specs.Views.{parameters_of, proof_of, round_opened, inputs_opened}
 use Rattle.p3_fri_prover.specs.Inputs.{HaveHeights, AreInputs}
@@ -16,7 +15,7 @@ use Rattle.p3_fri_prover.specs.Played.{IsPlayed}
 use Rattle.p3_fri_prover.proofs.Inputs.{some_word}
 use Rattle.p3_fri_prover.proofs.Concluded.{IsMade, made_of_played, zip_viewed}
 use Rattle.p3_fri_prover.proofs.Concluded.{positions_of_proof, proof_is_proved}
-use Rattle.p3_fri_prover.proofs.Planned.{IsPlan, places, is_numbers, scheduled_by_numbers}
+use Rattle.p3_fri_prover.proofs.Planned.{IsPlan, places, is_numbers, planned_description}
 use Rattle.p3_fri_prover.proofs.Planned.{planned_positive, planned_below_64, planned_playable}
 use Rattle.p3_fri_prover.proofs.Planned.{planned_final_polynomial, planned_positions}
 use Rattle.p3_fri_prover.proofs.Planned.{planned_data, planned_openable, first_input_length}
@@ -181,50 +180,17 @@ play_test-test-requires-clause-within_two_adicity g c =
     (planned g (goal.at.play_test-test-requires-clause-within_two_adicity g c).In-Ok refl)
     g.F.TwoAdicField.TWO_ADICITY c.requires.within_two_adicity
 
-pub play_test-test-requires-clause-schedule : goal.play_test-test-requires-clause-schedule
-play_test-test-requires-clause-schedule g c =
-    scheduled_by_numbers (planned g (goal.at.play_test-test-requires-clause-schedule g c).In-Ok
-    c.deref-2.ensures.value)
-
 pub play_test-test-requires-clause-described : goal.play_test-test-requires-clause-described
 play_test-test-requires-clause-described g c =
-    ap (λ (n : FriNumbers). n.final_poly_len)
-    (is_numbers (planned g (goal.at.play_test-test-requires-clause-described g c).In-Ok refl))
-
-pub play_test-test-requires-clause-commit_bits_at_most_max :
-    goal.play_test-test-requires-clause-commit_bits_at_most_max
-play_test-test-requires-clause-commit_bits_at_most_max g c =
-    let plan =
-    planned g (goal.at.play_test-test-requires-clause-commit_bits_at_most_max g c).In-Ok refl in
-    omega (
+    planned_description (planned g (goal.at.play_test-test-requires-clause-described g c).In-Ok
+    c.deref-2.ensures.value) g.C.CanSampleBits.MAX_SAMPLE_BITS c.requires.in_range.commit_bits
+    c.requires.in_range.query_bits
+    (omega (
       arith,
-      ap (λ (n : FriNumbers). n.commit_pow_bits) (is_numbers plan),
-      c.requires.in_range.commit_bits,
-    )
-
-pub play_test-test-requires-clause-query_bits_at_most_max :
-    goal.play_test-test-requires-clause-query_bits_at_most_max
-play_test-test-requires-clause-query_bits_at_most_max g c =
-    let plan =
-    planned g (goal.at.play_test-test-requires-clause-query_bits_at_most_max g c).In-Ok refl in
-    omega (
-      arith,
-      ap (λ (n : FriNumbers). n.query_pow_bits) (is_numbers plan),
-      c.requires.in_range.query_bits,
-    )
-
-pub play_test-test-requires-clause-index_bits_at_most_max :
-    goal.play_test-test-requires-clause-index_bits_at_most_max
-play_test-test-requires-clause-index_bits_at_most_max g c =
-    let plan =
-    planned g (goal.at.play_test-test-requires-clause-index_bits_at_most_max g c).In-Ok refl in
-    omega (
-      arith,
-      ap (λ (n : FriNumbers). n.index_bits) (is_numbers plan),
       c.requires.in_range.index_bits,
       c.requires.within_two_adicity,
       c.extra_query_index_bits-extra_bits.ensures,
-    )
+    ))
 
 pub returns-in-Err-test-clause-refused : goal.returns-in-Err-test-clause-refused
 returns-in-Err-test-clause-refused g c = λ heights have.

@@ -1,5 +1,6 @@
-use Rattle.std.proofs.Common.{◌≡◌, ◌+◌, ◌-◌, ◌^◌, ◌∙◌, ℕ, suc, length, take, sum, get_or, sym, ap}
-use Rattle.std.proofs.Common.{refl, arith, Vec}
+use Rattle.std.proofs.Common.{◌≡◌, ◌+◌, ◌-◌, ◌^◌, ◌<◌, ◌≤◌, ◌∙◌, ℕ, suc, length, take, sum, get_or}
+use Rattle.std.proofs.Common.{refl, sym, ap, subst, arith, Vec}
+use Rattle.std.proofs.Math.Nat.{le-add_left}
 use Rattle.std.proofs.lemmas.List.{take_all}
 use Rattle.p3_fri_transcript.specs.Steps.{FriNumbers}
 use Rattle.p3_fri_transcript.specs.Turns.{RoundsLeft}
@@ -12,6 +13,11 @@ use Rattle.p3_fri_prover.proofs.prover.rounds.commit_rounds.Given.{Over}
 use Rattle.p3_fri_prover.proofs.prover.rounds.commit_rounds.Goals.{In-loop-log_arity}
 use Rattle.p3_field_core.proofs.IndexPowers.{exponents_agree}
 use Rattle.p3_fri_prover.proofs.prover.rounds.commit_rounds.Goals as goal
+
+-- a round is left
+below : (g : Over) (c : In-loop-log_arity g)
+    → c.loop-log_arity.log_arity-index < length c.args.log_arities.now
+below g c = omega arith
 
 -- so long is the word that the next round folds
 size : (g : Over) (c : In-loop-log_arity g) (top : ℕ) → c.args.word.len ≡ 2 ^ top
@@ -30,7 +36,7 @@ left : (g : Over) (c : In-loop-log_arity g)
 left g c =
     one_round_left g.EF.ExtensionField.DIMENSION (shape_of c.args.transcript.now)
     (shape_of c.loop-log_arity.transcript) (length c.args.log_arities.now)
-    c.loop-log_arity.log_arity-index _ (omega arith) c.loop-log_arity.invariant.kept.shape
+    c.loop-log_arity.log_arity-index _ (below g c) c.loop-log_arity.invariant.kept.shape
     c.loop-log_arity.invariant.steps
 
 pub loop-log_arity-init : goal.loop-log_arity-init
@@ -45,21 +51,23 @@ loop-log_arity-init g c =
 
 pub commit_round-played-requires-clause-positive : goal.commit_round-played-requires-clause-positive
 commit_round-played-requires-clause-positive g c =
-    c.requires.positive c.loop-log_arity.log_arity-index 0 (omega arith)
+    c.requires.positive c.loop-log_arity.log_arity-index 0
+    (below g (goal.at.commit_round-played-requires-clause-positive g c).In-loop-log_arity)
 
 pub commit_round-played-requires-clause-below_64 : goal.commit_round-played-requires-clause-below_64
 commit_round-played-requires-clause-below_64 g c =
-    c.requires.below_64 c.loop-log_arity.log_arity-index 0 (omega arith)
+    c.requires.below_64 c.loop-log_arity.log_arity-index 0
+    (below g (goal.at.commit_round-played-requires-clause-below_64 g c).In-loop-log_arity)
 
 pub commit_round-played-requires-clause-foldable : goal.commit_round-played-requires-clause-foldable
 commit_round-played-requires-clause-foldable g c =
+    let turn = (goal.at.commit_round-played-requires-clause-foldable g c).In-loop-log_arity in
     let f = c.requires.foldable in
-    let top = f.height + sum c.args.log_arities.now in
-    can_fold_next c.args.log_arities.now c.loop-log_arity.log_arity-index top
+    let total = sum c.args.log_arities.now in
+    can_fold_next c.args.log_arities.now c.loop-log_arity.log_arity-index (f.height + total)
     (g.S.FriFoldingStrategy.max_log_height c.args.folding.now) c.loop-log_arity.word.len
-    (omega arith) (omega arith) f.within
-    (size g (goal.at.commit_round-played-requires-clause-foldable g c).In-loop-log_arity top
-    f.length_of_word)
+    (below g turn) (le-add_left total f.height) f.within
+    (size g turn (f.height + total) f.length_of_word)
 
 pub commit_round-played-requires-clause-some_round_left :
     goal.commit_round-played-requires-clause-some_round_left
@@ -71,11 +79,8 @@ commit_round-played-requires-clause-some_round_left g c = (
 pub commit_round-played-requires-clause-at_most_max :
     goal.commit_round-played-requires-clause-at_most_max
 commit_round-played-requires-clause-at_most_max g c =
-    omega (
-      arith,
-      ap (λ (s : FriNumbers). s.commit_pow_bits) c.loop-log_arity.invariant.kept.shape,
-      c.requires.at_most_max,
-    )
+    subst (λ (s : FriNumbers). s.commit_pow_bits ≤ g.C.CanSampleBits.MAX_SAMPLE_BITS)
+    (sym c.loop-log_arity.invariant.kept.shape) c.requires.at_most_max
 
 pub returns-in-Err-clause-kept : goal.returns-in-Err-clause-kept
 returns-in-Err-clause-kept g c =
@@ -87,7 +92,8 @@ pub returns-in-Err-clause-refused : goal.returns-in-Err-clause-refused
 returns-in-Err-clause-refused g c = λ top whole.
     let here = c.loop-log_arity.invariant in
     rounds_refused c.args.log_arities.now c.loop-log_arity.log_arity-index (here.so_far top whole)
-    (omega arith) (ap (λ (s : FriNumbers). s.commit_pow_bits) here.kept.shape) c.in-Err.refusal
+    (below g (goal.at.returns-in-Err-clause-refused g c).In-loop-log_arity)
+    (ap (λ (s : FriNumbers). s.commit_pow_bits) here.kept.shape) c.in-Err.refusal
     c.in-Err.ensures.refused
 
 pub returns-in_err-word-clause-kept : goal.returns-in_err-word-clause-kept
@@ -116,9 +122,10 @@ loop-log_arity-preserved g c =
       so_far = λ top whole.
           let is_top : top ≡ f.height + sum arities =
           exponents_agree top (f.height + sum arities) (sym whole ∙ f.length_of_word) in
-          let folds = next_size arities i top c.loop-log_arity.word.len (omega arith)
-          (omega (arith, is_top)) (size g turn top whole) in
-          next_committed arities i (here.so_far top whole) (omega arith)
+          let folds = next_size arities i top c.loop-log_arity.word.len (below g turn)
+          (subst (λ t. sum arities ≤ t) (sym is_top) (le-add_left (sum arities) f.height))
+          (size g turn top whole) in
+          next_committed arities i (here.so_far top whole) (below g turn)
           (ap (λ (s : FriNumbers). s.commit_pow_bits) here.kept.shape)
           (round.round (top - sum (take i arities) - get_or arities i 0) folds) pushed.commitments
           pushed.witnesses pushed.prover_data (ap (λ (v : Vec _ _). v.items) pushed.word);

@@ -16,18 +16,23 @@ fields_of g = record {
   shift = g.F.Field.GENERATOR;
 }
 
-pub evaluations_on_domain-requires : goal.evaluations_on_domain-requires
-evaluations_on_domain-requires g c =
+pub evaluations_on_domain-requires-clause-power_of_two : goal.evaluations_on_domain-requires-clause-power_of_two
+evaluations_on_domain-requires-clause-power_of_two g c =
     let matrix = c.index-matrices-index.result in
     let is = c.index-matrices-index.is
     ∙ ap (λ ms. get_or ms c.args.index matrix) c.get_matrices-matrices.ensures in
     let held = g.InputMmcs.Mmcs.committed c.args.prover_data.now in
-    record {
-      power_of_two = (coset_at g.F.TwoAdicField.TWO_ADICITY held c.args.index
-          c.requires matrix is).power;
-      within_two_adicity = within_at g.F.TwoAdicField.TWO_ADICITY held c.args.index
-          c.requires matrix is;
-    }
+    (coset_at g.F.TwoAdicField.TWO_ADICITY held c.args.index
+    c.requires matrix is).power
+
+pub evaluations_on_domain-requires-clause-within_two_adicity : goal.evaluations_on_domain-requires-clause-within_two_adicity
+evaluations_on_domain-requires-clause-within_two_adicity g c =
+    let matrix = c.index-matrices-index.result in
+    let is = c.index-matrices-index.is
+    ∙ ap (λ ms. get_or ms c.args.index matrix) c.get_matrices-matrices.ensures in
+    let held = g.InputMmcs.Mmcs.committed c.args.prover_data.now in
+    within_at g.F.TwoAdicField.TWO_ADICITY held c.args.index
+    c.requires matrix is
 
 pub returns-in-Ok-clause-values : goal.returns-in-Ok-clause-values
 returns-in-Ok-clause-values g c words =

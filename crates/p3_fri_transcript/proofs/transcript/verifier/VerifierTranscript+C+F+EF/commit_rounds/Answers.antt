@@ -1,4 +1,5 @@
 use Rattle.std.proofs.Common.{◌+◌, ◌-◌, length, refl, sym, ap, ◌∙◌, arith, subst}
+use Rattle.std.proofs.lemmas.Result.{IfOk-from_err}
 use Rattle.std.proofs.lemmas.List.{length-append}
 use Rattle.p3_challenger_core.specs.Run.{moves}
 use Rattle.p3_fri_pow.proofs.Reached.{reaches_join}
@@ -131,3 +132,28 @@ returns-clause-rounds g c =
     g.C.CanSampleBits.sampled_bits) (fri_shape c.args.self.now.shape).commit_pow_bits
     c.args.self.now.challenger.now here.self.challenger.now c.args.commitments.now
     c.args.witnesses.now here.round here.betas.items (omega arith) here.invariant.along
+
+-- where nothing is answered nothing is said of the answer
+pub returns-in_err-betas-clause-rounds : goal.returns-in_err-betas-clause-rounds
+returns-in_err-betas-clause-rounds g c =
+    IfOk-from_err c.from_residual.result _ c.from_residual.ensures.0
+
+pub returns-in_err-betas-clause-count : goal.returns-in_err-betas-clause-count
+returns-in_err-betas-clause-count g c =
+    IfOk-from_err c.from_residual.result _ c.from_residual.ensures.0
+
+pub returns-in_err-betas-clause-steps : goal.returns-in_err-betas-clause-steps
+returns-in_err-betas-clause-steps g c =
+    IfOk-from_err c.from_residual.result _ c.from_residual.ensures.0
+
+pub returns-in_err-push-in-Ok-clause-rounds : goal.returns-in_err-push-in-Ok-clause-rounds
+returns-in_err-push-in-Ok-clause-rounds g c =
+    IfOk-from_err c.from_residual-in_err-push-in-Ok.result _ c.from_residual-in_err-push-in-Ok.ensures.0
+
+pub returns-in_err-push-in-Ok-clause-count : goal.returns-in_err-push-in-Ok-clause-count
+returns-in_err-push-in-Ok-clause-count g c =
+    IfOk-from_err c.from_residual-in_err-push-in-Ok.result _ c.from_residual-in_err-push-in-Ok.ensures.0
+
+pub returns-in_err-push-in-Ok-clause-steps : goal.returns-in_err-push-in-Ok-clause-steps
+returns-in_err-push-in-Ok-clause-steps g c =
+    IfOk-from_err c.from_residual-in_err-push-in-Ok.result _ c.from_residual-in_err-push-in-Ok.ensures.0

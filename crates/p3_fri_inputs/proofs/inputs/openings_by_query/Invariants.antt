@@ -8,7 +8,7 @@ use Rattle.algebra.specs.Nested.{lists}
 use Rattle.p3_fri_relation.specs.QuotientSums.{point_read}
 use Rattle.p3_fri_relation.specs.Inputs.{sum_at, sums_at}
 use Rattle.algebra.specs.Polynomial.{tabulate}
-use Rattle.p3_fri_inputs.proofs.inputs.all_openings.Given as goal
+use Rattle.p3_fri_inputs.proofs.inputs.openings_by_query.Given as goal
 
 abbrev pub invariant-loop-j : goal.invariant-loop-j
 invariant-loop-j g l =
@@ -27,9 +27,9 @@ invariant-loop-j g l =
     let inputs = inputs_opened l.openings in record {
       start : l.start ≡ length (flat_map (λ q. distances g.EF.Field.ops l.log_blowup
           (point_read f l.log_global_max_height q) ms) (take l.j l.indices));
-      answers : lists l.answers.items ≡ tabulate l.j (λ j. sums_at f l.log_blowup l.fn.alpha
+      answers : lists l.answers.items ≡ tabulate l.j (λ j. sums_at f l.log_blowup l.ladder.alpha
           l.log_global_max_height cs inputs j (get_or l.indices j 0));
       constants : (j : ℕ) → j < l.j → IsTrue (has_height l.log_blowup ms l.log_blowup)
-          → sum_at f l.log_blowup l.fn.alpha l.log_global_max_height cs inputs j
+          → sum_at f l.log_blowup l.ladder.alpha l.log_global_max_height cs inputs j
           (get_or l.indices j 0) l.log_blowup ≡ g.EF.Field.ops.zero;
     }
