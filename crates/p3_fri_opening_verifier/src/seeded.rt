@@ -1,7 +1,7 @@
 //! The transcript around the test, once its seed is made.
 
 ghost use Rattle.std.specs.Prelude.{◌≡◌, ◌≢◌, ◌+◌, ◌<◌, ◌≤◌, ◌↔◌, Some, Err, true, IsTrue, map};
-ghost use Rattle.std.specs.Prelude.{IsOk, IfOk, IfErr, OnOk};
+ghost use Rattle.std.specs.Prelude.{[], IsOk, IfOk, IfErr, OnOk};
 ghost use Rattle.std.specs.List.{flat_map};
 ghost use Rattle.p3_challenger_core.specs.Run.{observed_all};
 ghost use Rattle.p3_challenger_fs.specs.Pattern.{turn_of};
@@ -15,9 +15,9 @@ ghost use Rattle.p3_fri_pcs_transcript.specs.Turns.{bracket_turns};
 ghost use Rattle.p3_fri_pcs_transcript.specs.Views.{state_of, left_of, shape_of, Kept};
 ghost use Rattle.p3_fri_pcs_transcript.specs.Views.{AllClaimsLeft};
 ghost use Rattle.p3_fri_relation.specs.declared.error.FriError.TheVariants.{OutOfMemory};
-ghost use Rattle.p3_fri_relation.specs.Acceptance.{Accepts, AreCanonical};
+ghost use Rattle.p3_fri_relation.specs.Acceptance.{Accepts, AreCanonical, FriAccepts, test_replay};
 ghost use Rattle.p3_fri_relation.specs.Failures.{of_pcs_transcript};
-ghost use Rattle.p3_fri_relation.specs.Faults.{StandsInScheme};
+ghost use Rattle.p3_fri_relation.specs.Faults.{Stands, StandsInScheme};
 ghost use Rattle.p3_fri_relation.specs.Views.{parameters_of, claims_of, proof_of};
 ghost use Rattle.p3_fri_opening_verifier.specs.Ends.{last_state};
 
@@ -78,6 +78,68 @@ fn draw_alpha<
     }
 }
 
+/// Verifies the low-degree test on the transcript's challenger, from the state in which `alpha` was
+/// drawn. After `Ok` all steps were played; after a refusal only `abort` may follow.
+fn test_inside<
+    F: TwoAdicField,
+    EF: ExtensionField<F>,
+    M: Mmcs<EF>,
+    InputMmcs: Mmcs<F>,
+    S: FriFoldingStrategy<F, EF, InputError = InputMmcs::Error>,
+    C: FieldChallenger<F> + GrindingChallenger<Witness = F> + CanObserve<M::Commitment>,
+>(
+    alloc: Global,
+    folding: &S,
+    params: &FriParameters<M>,
+    input_mmcs: &InputMmcs,
+    claims: &[CommitmentOpening<EF, InputMmcs::Commitment, TwoAdicMultiplicativeCoset<F>>],
+    proof: &FriProof<EF, M, F, Vec<BatchMultiOpening<F, InputMmcs>>>,
+    alpha: EF,
+    transcript: &mut PcsVerifierTranscript<'_, C, F, EF>,
+) -> Result<(), FriError<M::Error, InputMmcs::Error>>
+    requires final_height_below_64 { params.now.log_blowup + params.now.log_final_poly_len < 64 }
+    requires index_bits_at_most_max { F.TWO_ADICITY + S.extra_query_index_bits folding.now
+        ≤ C.MAX_SAMPLE_BITS }
+    requires commit_bits_at_most_max { params.now.commit_proof_of_work_bits ≤ C.MAX_SAMPLE_BITS }
+    requires query_bits_at_most_max { params.now.query_proof_of_work_bits ≤ C.MAX_SAMPLE_BITS }
+    requires max_log_height { F.TWO_ADICITY ≤ S.max_log_height folding.now }
+    requires bracket_left { left_of transcript.old ≡ bracket_turns }
+    ensures kept { Kept transcript.old transcript.new }
+    ensures exact { let s = ⟦<C as PlaysFri<F, EF, S, M, InputMmcs>>⟧.setting folding.now
+        params.now.mmcs input_mmcs.now in
+        result ≢ Err OutOfMemory → (IsOk result
+        ↔ FriAccepts s (parameters_of params.now) (claims_of (λ d. d.log_size) claims.now)
+        (proof_of proof.now) (state_of transcript.old) alpha) }
+    ensures state { let s = ⟦<C as PlaysFri<F, EF, S, M, InputMmcs>>⟧.setting folding.now
+        params.now.mmcs input_mmcs.now in
+        IsOk result → state_of transcript.new
+        ≡ (test_replay s (parameters_of params.now) (claims_of (λ d. d.log_size) claims.now)
+        (proof_of proof.now) (state_of transcript.old)).state }
+    ensures steps { IsOk result → left_of transcript.new ≡ [] }
+    ensures refusal { let s = ⟦<C as PlaysFri<F, EF, S, M, InputMmcs>>⟧.setting folding.now
+        params.now.mmcs input_mmcs.now in
+        IfErr result (Stands s (parameters_of params.now) (claims_of (λ d. d.log_size) claims.now)
+        (proof_of proof.now) (state_of transcript.old) alpha) }
+{
+    let tested = verify_fri::<F, EF, M, InputMmcs, S, C>(
+        alloc,
+        folding,
+        params,
+        proof,
+        transcript.begin_delegate(),
+        claims,
+        input_mmcs,
+        alpha,
+    );
+    match tested {
+        Ok(()) => {
+            transcript.end_delegate();
+            Ok(())
+        },
+        Err(refusal) => Err(refusal),
+    }
+}
+
 /// Replays the transcript of these claims, whose shape and seed were made, and verifies the
 /// low-degree test inside it. No witness of a proof of work without bits is other than zero.
 pub(crate) fn verify_seeded<
@@ -134,19 +196,18 @@ pub(crate) fn verify_seeded<
             return Err(refused(failure));
         },
     };
-    let tested = verify_fri::<F, EF, M, InputMmcs, S, C>(
+    let tested = test_inside::<F, EF, M, InputMmcs, S, C>(
         alloc,
         folding,
         params,
-        proof,
-        transcript.begin_delegate(),
-        claims,
         input_mmcs,
+        claims,
+        proof,
         alpha,
+        &mut transcript,
     );
     match tested {
         Ok(()) => {
-            transcript.end_delegate();
             transcript.finish();
             Ok(())
         },

@@ -14,7 +14,7 @@ use Rattle.p3_fri_opening_verifier.proofs.Composed.{Absorbed, batch_is, batch_pa
 use Rattle.p3_fri_opening_verifier.proofs.Composed.{accepted_inside, ends, stands_inside}
 use Rattle.p3_fri_opening_verifier.proofs.Composed.{not_accepted, batch_stands, numbers_are}
 use Rattle.p3_fri_opening_verifier.proofs.seeded.verify_seeded.Given.{Over}
-use Rattle.p3_fri_opening_verifier.proofs.seeded.verify_seeded.Goals.{After-start-transcript, After-begin_delegate}
+use Rattle.p3_fri_opening_verifier.proofs.seeded.verify_seeded.Goals.{After-start-transcript, In-Ok}
 use Rattle.p3_fri_opening_verifier.proofs.seeded.verify_seeded.Goals as goal
 
 -- what the layers below compute and accept, named once
@@ -61,19 +61,19 @@ absorbed g c = record {
 }
 
 -- the test begins where the batching challenge was drawn
-drawn : (g : Over) (c : After-begin_delegate g)
+drawn : (g : Over) (c : In-Ok g)
     → batch_replayed (setting_at g c.args.folding.now c.args.params.now.mmcs c.args.input_mmcs.now)
     (parameters_of c.args.params.now) (claims_of (λ d. d.log_size) c.args.claims.now) (proof_of c.args.proof.now)
     c.args.challenger.now
-    ≡ record { passes = true; alpha = c.in-Ok.alpha; state = c.begin_delegate.result.now }
+    ≡ record { passes = true; alpha = c.in-Ok.alpha; state = c.draw_alpha.new.transcript.challenger.now }
 drawn g c =
     batch_passed (setting_at g c.args.folding.now c.args.params.now.mmcs c.args.input_mmcs.now)
     (parameters_of c.args.params.now) (claims_of (λ d. d.log_size) c.args.claims.now) (proof_of c.args.proof.now)
     c.args.challenger.now (pcs_shape c.args.shape) (all_claimed c.args.claims.now)
-    c.start-transcript.result.challenger.now _ _ c.begin_delegate.result.now c.in-Ok.alpha
-    (absorbed g (goal.at.After-begin_delegate g c).After-start-transcript)
+    c.start-transcript.result.challenger.now _ _ c.draw_alpha.new.transcript.challenger.now c.in-Ok.alpha
+    (absorbed g (goal.at.In-Ok g c).After-start-transcript)
     (rw c.start-transcript.ensures.starts.shape at c.in-Ok.ensures.batch)
-    c.begin_delegate.ensures.value
+    refl
 
 pub draw_alpha-requires-clause-no_step_played : goal.draw_alpha-requires-clause-no_step_played
 draw_alpha-requires-clause-no_step_played g c =
@@ -125,8 +125,8 @@ pub returns-in-Ok-tested-clause-exact : goal.returns-in-Ok-tested-clause-exact
 returns-in-Ok-tested-clause-exact g c other = (
   (λ e. accepted (setting_at g c.args.folding.now c.args.params.now.mmcs c.args.input_mmcs.now)
       (parameters_of c.args.params.now) (claims_of (λ d. d.log_size) c.args.claims.now) (proof_of c.args.proof.now)
-      c.args.challenger.now c.in-Ok.alpha c.begin_delegate.result.now
-      (drawn g (goal.at.returns-in-Ok-tested-clause-exact g c).After-begin_delegate)
+      c.args.challenger.now c.in-Ok.alpha c.draw_alpha.new.transcript.challenger.now
+      (drawn g (goal.at.returns-in-Ok-tested-clause-exact g c).In-Ok)
       ((c.in-Ok-tested.ensures.exact (λ same. cc)).0 refl)),
   (λ a. refl),
 )
@@ -135,9 +135,9 @@ pub returns-in-Ok-tested-clause-state : goal.returns-in-Ok-tested-clause-state
 returns-in-Ok-tested-clause-state g c ok =
     ends (setting_at g c.args.folding.now c.args.params.now.mmcs c.args.input_mmcs.now)
     (parameters_of c.args.params.now) (claims_of (λ d. d.log_size) c.args.claims.now) (proof_of c.args.proof.now)
-    c.args.challenger.now c.in-Ok.alpha c.begin_delegate.result.now
-    (drawn g (goal.at.returns-in-Ok-tested-clause-state g c).After-begin_delegate)
-    c.verify_fri-tested.new.challenger _ (c.in-Ok-tested.ensures.state refl) (search rules)
+    c.args.challenger.now c.in-Ok.alpha c.draw_alpha.new.transcript.challenger.now
+    (drawn g (goal.at.returns-in-Ok-tested-clause-state g c).In-Ok)
+    c.test_inside-tested.new.transcript.challenger.now _ (c.in-Ok-tested.ensures.state refl) (search rules)
 
 pub returns-in-Err-tested-clause-exact : goal.returns-in-Err-tested-clause-exact
 returns-in-Err-tested-clause-exact g c other = (
@@ -145,14 +145,14 @@ returns-in-Err-tested-clause-exact g c other = (
   (λ a. (c.in-Err-tested.ensures.exact other).1
       (accepted_inside (setting_at g c.args.folding.now c.args.params.now.mmcs c.args.input_mmcs.now)
       (parameters_of c.args.params.now) (claims_of (λ d. d.log_size) c.args.claims.now) (proof_of c.args.proof.now)
-      c.args.challenger.now c.in-Ok.alpha c.begin_delegate.result.now
-      (drawn g (goal.at.returns-in-Err-tested-clause-exact g c).After-begin_delegate) a)),
+      c.args.challenger.now c.in-Ok.alpha c.draw_alpha.new.transcript.challenger.now
+      (drawn g (goal.at.returns-in-Err-tested-clause-exact g c).In-Ok) a)),
 )
 
 pub returns-in-Err-tested-clause-refusal : goal.returns-in-Err-tested-clause-refusal
 returns-in-Err-tested-clause-refusal g c =
     stands_inside (setting_at g c.args.folding.now c.args.params.now.mmcs c.args.input_mmcs.now)
     (parameters_of c.args.params.now) (claims_of (λ d. d.log_size) c.args.claims.now) (proof_of c.args.proof.now)
-    c.args.challenger.now c.in-Ok.alpha c.begin_delegate.result.now
-    (drawn g (goal.at.returns-in-Err-tested-clause-refusal g c).After-begin_delegate)
+    c.args.challenger.now c.in-Ok.alpha c.draw_alpha.new.transcript.challenger.now
+    (drawn g (goal.at.returns-in-Err-tested-clause-refusal g c).In-Ok)
     c.in-Err-tested.refusal c.in-Err-tested.ensures.refusal
