@@ -2,6 +2,8 @@
 use Rattle.std.proofs.Common.{◌≡◌, ℕ, zero, suc, ◌+◌, ◌<◌, ◌≤◌, List, [], ◌∷◌, take, length, map}
 use Rattle.std.proofs.Common.{get_or, All, Contains}
 use Rattle.std.proofs.Common.{refl, sym, ap₂, ◌∙◌, arith}
+use Rattle.std.specs.declared.vec.Vec.{Vec}
+use Rattle.std.specs.Global.{Global}
 use Rattle.std.proofs.lemmas.Nat.{pow_pos}
 use Rattle.std.proofs.lemmas.List.{length-map, get_or_default}
 use Rattle.std.proofs.lemmas.List.Elements.{All-nil, All-head, All-tail, All-cons, All-map}
@@ -10,6 +12,7 @@ use Rattle.algebra.specs.Nested.{lists}
 use Rattle.p3_matrix.specs.declared.dense.RowMajorMatrix.{RowMajorMatrix}
 use Rattle.p3_matrix.specs.Matrix.{rows}
 use Rattle.p3_pcs.specs.Claims.{zip_with}
+use Rattle.p3_pcs.proofs.Zipped.{entry_of_zip_with, within_zip_with}
 use Rattle.p3_fri_relation.specs.Setting.{Fields}
 use Rattle.p3_fri_openings.specs.declared.asked_points.AskedPoint.{AskedPoint}
 use Rattle.p3_fri_openings.specs.declared.round.OpeningRound.{OpeningRound}
@@ -20,7 +23,7 @@ use Rattle.p3_fri_openings.specs.Sums.{StartsWith}
 use Rattle.p3_fri_openings.specs.Points.{asked_point, IsTallest, points_of, points_in, asked_points}
 use Rattle.p3_fri_openings.specs.Denominators.{HoldsCosets, HasDenominators}
 use Rattle.p3_fri_openings.proofs.Log2.{pow-log2}
-use Rattle.p3_fri_openings.proofs.First.{one_more}
+use Rattle.p3_fri_openings.proofs.First.{one_more, at_item}
 use Rattle.p3_fri_openings.proofs.Pushed.{all_joined}
 use Rattle.algebra.proofs.Lists.{entry_of_map}
 
@@ -35,6 +38,21 @@ module _ {F E : Type 0} where
       All-cons (λ (a : Asked F E). P a.matrix) (ask m zs) (zip_with ask matrices points)
       (All-head P m matrices h)
       (all_asked P matrices points (All-tail P m matrices h))
+
+  -- what holds of all that a round asks for holds of each matrix and the points beside it
+  pub asked_at : (P : Asked F E → Type 0) (round : OpeningRound F E) (i : ℕ)
+      (matrix : RowMajorMatrix F) (points : Vec E Global)
+      → length round.points.now ≡ length round.matrices.now → i < length round.matrices.now
+      → matrix ≡ get_or round.matrices.now i matrix → points ≡ get_or round.points.now i points
+      → All P (asked_in round) → P (ask matrix points.items)
+  asked_at P round i matrix points same one first second holds =
+      let n = length-map round.points.now (λ v. v.items) in
+      let two : i < length round.points.now = omega (arith, same, one) in
+      let three : i < length (lists round.points.now) = omega (arith, n, two) in
+      at_item P (asked_in round) i (ask matrix points.items)
+      (within_zip_with ask round.matrices.now (lists round.points.now) i one three)
+      (entry_of_zip_with ask round.matrices.now (lists round.points.now) i matrix points.items
+      one three first (entry_of_map (λ v. v.items) round.points.now i points two second)) holds
 
 -- two properties of each element
 pub all_two : {A : Type 0} (P Q R : A → Type 0) (xs : List A) → ((x : A) → P x → Q x → R x)

@@ -2,13 +2,13 @@ use Rattle.std.proofs.Common.{◌<◌, All, length, map, get_or, sym, ap, ap₂,
 use Rattle.std.proofs.lemmas.List.{length-map}
 use Rattle.algebra.specs.Nested.{lists}
 use Rattle.p3_matrix.specs.Matrix.{rows}
-use Rattle.p3_pcs.proofs.Zipped.{entry_of_zip_with, within_zip_with, step, done}
+use Rattle.p3_pcs.proofs.Zipped.{step, done}
 use Rattle.p3_fri_relation.specs.Setting.{Fields}
 use Rattle.p3_fri_openings.specs.Committed.{committed_values}
 use Rattle.p3_fri_openings.specs.Denominators.{IsCovered, HasPointsCovered}
 use Rattle.p3_fri_openings.specs.Refusals.{IsOff, HasPointsOff}
-use Rattle.p3_fri_openings.specs.Rounds.{ask, asked_in, log_height}
-use Rattle.p3_fri_openings.proofs.First.{at_item}
+use Rattle.p3_fri_openings.specs.Rounds.{log_height}
+use Rattle.p3_fri_openings.proofs.AskedPoints.{asked_at}
 use Rattle.algebra.proofs.Lists.{entry_of_map}
 use Rattle.p3_fri_openings.proofs.opened.values_of_round.Given.{Over}
 use Rattle.p3_fri_openings.proofs.opened.values_of_round.Goals as goal
@@ -42,19 +42,12 @@ values_at_points-requires-clause-off g c =
     let i = c.loop-index.index in
     let m = c.index-round-index.result in
     let v = c.index-round-index-in-loop-index.result in
-    let n = length-map round.points.now (λ v. v.items) in
     let same = c.requires.round.lists_of_points in
     let one : i < length matrices = omega arith in
-    let two : i < length round.points.now = omega arith in
-    let three : i < length (lists round.points.now) = omega arith in
     let slice = c.as_slice-points.ensures.value
     ∙ ap (λ v. v.items) (sym c.index-round-index-in-loop-index.is) in
-    let within = within_zip_with ask matrices (lists round.points.now) i one three in
-    let entry = entry_of_zip_with ask matrices
-    (lists round.points.now) i m v.items one three c.index-round-index.is
-    (entry_of_map (λ v. v.items) round.points.now i v two c.index-round-index-in-loop-index.is) in
-    let off = at_item (HasPointsOff f) (asked_in round) i
-    (ask m v.items) within entry c.requires.off in
+    let off = asked_at (HasPointsOff f) round i m v same one c.index-round-index.is
+    c.index-round-index-in-loop-index.is c.requires.off in
     let is = c.index-round-index.is in
     let here = get_or matrices i m in
     subst (λ zs. All (IsOff f (log_height here)) zs) (sym slice)
@@ -77,20 +70,12 @@ values_at_points-requires-clause-covered g c =
     let m = c.index-round-index.result in
     let v = c.index-round-index-in-loop-index.result in
     let d = c.args.denominators.now in
-    let n = length-map round.points.now (λ v. v.items) in
     let same = c.requires.round.lists_of_points in
     let one : i < length matrices = omega arith in
-    let two : i < length round.points.now = omega arith in
-    let three : i < length (lists round.points.now) = omega arith in
     let slice = c.as_slice-points.ensures.value
     ∙ ap (λ v. v.items) (sym c.index-round-index-in-loop-index.is) in
-    let within = within_zip_with ask matrices (lists round.points.now) i one three in
-    let entry = entry_of_zip_with ask matrices
-    (lists round.points.now) i m v.items one three c.index-round-index.is
-    (entry_of_map (λ v. v.items) round.points.now i v two c.index-round-index-in-loop-index.is) in
-    let covered = at_item (HasPointsCovered d.entries.items) (asked_in round) i
-    (ask m v.items) within entry
-    c.requires.covered in
+    let covered = asked_at (HasPointsCovered d.entries.items) round i m v same one
+    c.index-round-index.is c.index-round-index-in-loop-index.is c.requires.covered in
     let is = c.index-round-index.is in
     let here = get_or matrices i m in
     subst (λ zs. All (IsCovered (length (rows here)) d.entries.items) zs) (sym slice)
