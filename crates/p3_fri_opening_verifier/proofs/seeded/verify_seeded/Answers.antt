@@ -1,9 +1,11 @@
 use Rattle.std.proofs.Common.{◌≡◌, true, refl, sym, ap, ◌∙◌, rules}
+use Rattle.std.specs.Prelude.{IsTrue}
 use Rattle.std.specs.List.{flat_map}
 use Rattle.p3_challenger_core.specs.Run.{moves, observed_all}
 use Rattle.p3_challenger_fs.specs.Turns.{bytes_observed}
 use Rattle.p3_fri_pcs_transcript.specs.Counts.{all_claimed}
 use Rattle.p3_fri_pcs_transcript.specs.Shapes.{pcs_shape}
+use Rattle.p3_fri_pcs_transcript.specs.Replay.{BatchReplay}
 use Rattle.p3_fri_pcs_transcript.specs.Steps.{PcsNumbers}
 use Rattle.p3_fri_pcs_transcript.proofs.ClaimTurns.{all_claims_left}
 use Rattle.p3_fri_relation.specs.Acceptance.{batch_replayed}
@@ -14,7 +16,7 @@ use Rattle.p3_fri_opening_verifier.proofs.Composed.{Absorbed, batch_is, batch_pa
 use Rattle.p3_fri_opening_verifier.proofs.Composed.{accepted_inside, ends, stands_inside}
 use Rattle.p3_fri_opening_verifier.proofs.Composed.{not_accepted, batch_stands, numbers_are}
 use Rattle.p3_fri_opening_verifier.proofs.seeded.verify_seeded.Given.{Over}
-use Rattle.p3_fri_opening_verifier.proofs.seeded.verify_seeded.Goals.{After-start-transcript, In-Ok}
+use Rattle.p3_fri_opening_verifier.proofs.seeded.verify_seeded.Goals.{After-start-transcript, In-Ok, In-Err}
 use Rattle.p3_fri_opening_verifier.proofs.seeded.verify_seeded.Goals as goal
 
 -- what the layers below compute and accept, named once
@@ -75,6 +77,23 @@ drawn g c =
     (rw c.start-transcript.ensures.starts.shape at c.in-Ok.ensures.batch)
     refl
 
+-- the proof of work isn't passed, as the relation has it
+stopped : (g : Over) (c : In-Err g)
+    → (shown : BatchReplay g.row.C.Denot g.row.EF.Denot)
+    × (shown ≡ batch_replayed (setting_at g c.args.folding.now c.args.params.now.mmcs c.args.input_mmcs.now)
+    (parameters_of c.args.params.now) (claims_of (λ d. d.log_size) c.args.claims.now) (proof_of c.args.proof.now)
+    c.args.challenger.now)
+    × (IsTrue shown.passes → ⊥)
+stopped g c = (
+  _,
+  batch_is (setting_at g c.args.folding.now c.args.params.now.mmcs c.args.input_mmcs.now)
+      (parameters_of c.args.params.now) (claims_of (λ d. d.log_size) c.args.claims.now) (proof_of c.args.proof.now)
+      c.args.challenger.now _ _ _ _
+      (absorbed g (goal.at.In-Err g c).After-start-transcript),
+  λ passes. let no =
+      (rw c.start-transcript.ensures.starts.shape at c.in-Err.ensures.passes).1 passes in cc,
+)
+
 pub draw_alpha-requires-clause-no_step_played : goal.draw_alpha-requires-clause-no_step_played
 draw_alpha-requires-clause-no_step_played g c =
     all_claims_left g.EF.ExtensionField.DIMENSION (pcs_shape c.args.shape)
@@ -91,35 +110,24 @@ draw_alpha-requires-clause-at_most_max g c =
     rw (c.start-transcript.ensures.starts.shape, c.requires.shape) c.requires.batch_bits_at_most_max
 
 pub returns-in-Err-clause-exact : goal.returns-in-Err-clause-exact
-returns-in-Err-clause-exact g c other = (
-  (λ e. cc),
-  (λ a. absurd (not_accepted (setting_at g c.args.folding.now c.args.params.now.mmcs c.args.input_mmcs.now)
-      (parameters_of c.args.params.now) (claims_of (λ d. d.log_size) c.args.claims.now) (proof_of c.args.proof.now)
-      c.args.challenger.now _
-      (batch_is (setting_at g c.args.folding.now c.args.params.now.mmcs c.args.input_mmcs.now)
-      (parameters_of c.args.params.now) (claims_of (λ d. d.log_size) c.args.claims.now) (proof_of c.args.proof.now)
-      c.args.challenger.now _ _ _ _
-      (absorbed g (goal.at.returns-in-Err-clause-exact g c).After-start-transcript))
-      (λ passes. let no =
-      (rw c.start-transcript.ensures.starts.shape at c.in-Err.ensures.passes).1 passes in cc)
-      a)),
-)
+returns-in-Err-clause-exact g c other =
+    let no = stopped g (goal.at.returns-in-Err-clause-exact g c).In-Err in
+    (
+      (λ e. cc),
+      (λ a. absurd (not_accepted (setting_at g c.args.folding.now c.args.params.now.mmcs c.args.input_mmcs.now)
+          (parameters_of c.args.params.now) (claims_of (λ d. d.log_size) c.args.claims.now) (proof_of c.args.proof.now)
+          c.args.challenger.now no.0 no.1 no.2 a)),
+    )
 
 pub returns-in-Err-clause-refusal : goal.returns-in-Err-clause-refusal
 returns-in-Err-clause-refusal g c =
+    let no = stopped g (goal.at.returns-in-Err-clause-refusal g c).In-Err in
     batch_stands (setting_at g c.args.folding.now c.args.params.now.mmcs c.args.input_mmcs.now)
     (parameters_of c.args.params.now) (claims_of (λ d. d.log_size) c.args.claims.now) (proof_of c.args.proof.now)
     c.args.challenger.now (pcs_shape c.args.shape) _
     c.in-Err.failure c.refused.result
     (rw c.start-transcript.ensures.starts.shape at c.in-Err.ensures.failure)
-    _
-    (batch_is (setting_at g c.args.folding.now c.args.params.now.mmcs c.args.input_mmcs.now)
-    (parameters_of c.args.params.now) (claims_of (λ d. d.log_size) c.args.claims.now) (proof_of c.args.proof.now)
-    c.args.challenger.now _ _ _ _
-    (absorbed g (goal.at.returns-in-Err-clause-refusal g c).After-start-transcript))
-    (λ passes. let no =
-    (rw c.start-transcript.ensures.starts.shape at c.in-Err.ensures.passes).1 passes in cc)
-    c.refused.ensures
+    no.0 no.1 no.2 c.refused.ensures
 
 pub returns-in-Ok-tested-clause-exact : goal.returns-in-Ok-tested-clause-exact
 returns-in-Ok-tested-clause-exact g c other = (
