@@ -1,4 +1,5 @@
 use Rattle.std.proofs.Common.{map, refl}
+use Rattle.std.proofs.lemmas.Result.{IfOk-from_err}
 use Rattle.p3_challenger_core.specs.Run.{moves}
 use Rattle.p3_pcs.specs.Claims.{opened_values}
 use Rattle.p3_pcs.specs.Requests.{request}
@@ -77,3 +78,22 @@ returns-clause-state g c honest log_sizes fits =
     (c.in_ok-values.ensures.state
     (honest_inside (fields_of g) committed p.log_blowup r asked honest) log_sizes
     (sizes_inside (fields_of g) committed p.log_blowup r log_sizes asked fits))
+
+-- where nothing is opened nothing is said of the opening
+pub returns-in_err-values-clause-values : goal.returns-in_err-values-clause-values
+returns-in_err-values-clause-values g c = IfOk-from_err c.from_residual.result _ c.from_residual.ensures.0
+
+pub returns-in_err-values-clause-accepted : goal.returns-in_err-values-clause-accepted
+returns-in_err-values-clause-accepted g c honest = IfOk-from_err c.from_residual.result _ c.from_residual.ensures.0
+
+pub returns-in_err-values-clause-state : goal.returns-in_err-values-clause-state
+returns-in_err-values-clause-state g c honest = IfOk-from_err c.from_residual.result _ c.from_residual.ensures.0
+
+pub returns-in_err-shown-clause-values : goal.returns-in_err-shown-clause-values
+returns-in_err-shown-clause-values g c = IfOk-from_err c.from_residual-in_err-shown.result _ c.from_residual-in_err-shown.ensures.0
+
+pub returns-in_err-shown-clause-accepted : goal.returns-in_err-shown-clause-accepted
+returns-in_err-shown-clause-accepted g c honest = IfOk-from_err c.from_residual-in_err-shown.result _ c.from_residual-in_err-shown.ensures.0
+
+pub returns-in_err-shown-clause-state : goal.returns-in_err-shown-clause-state
+returns-in_err-shown-clause-state g c honest = IfOk-from_err c.from_residual-in_err-shown.result _ c.from_residual-in_err-shown.ensures.0
