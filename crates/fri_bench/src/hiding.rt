@@ -5,7 +5,7 @@ ghost use Rattle.std.specs.Prelude.{◌≡◌, ◌<◌};
 ghost use Rattle.p3_fri_relation.specs.Views.{parameters_of};
 ghost use Rattle.p3_fri_two_adic.specs.Ranges.{InProverRange, InVerifierRange};
 
-use crate::scheme::{Scheme, commit};
+use crate::scheme::{Scheme, commit, evaluations_of};
 use crate::stages::{Inputs, matrix_of};
 use crate::verifier::{Domain, Rounds, parameters};
 use crate::watch::{Fault, Result, Run, Watch, timed};
@@ -70,7 +70,8 @@ fn commit_plain(
     let width = width.checked_add(codewords).ok_or(Fault::Sizes)?;
     let parameters = parameters(1, QUERIES, 1);
     let mut scheme = Scheme::new(Radix2Dit::default(), Inputs::new(), parameters);
-    commit(rt, watch, &mut scheme, log_height + 1, width)?;
+    let evaluations = evaluations_of(rt.alloc(), 1, log_height + 1, width)?;
+    commit(rt, watch, &mut scheme, evaluations)?;
     Ok(())
 }
 

@@ -3,6 +3,7 @@
 
 ghost use Rattle.std.specs.Prelude.{◌≡◌, ◌+◌, ◌≤◌, All, IfOk};
 ghost use Rattle.p3_mmcs.specs.ProverData.{matrices_of};
+ghost use Rattle.p3_fri_commit.specs.Extension.{FitsDomain};
 ghost use Rattle.p3_fri_openings.specs.Rounds.{HasCoset};
 ghost use Rattle.p3_fri_relation.specs.Views.{parameters_of};
 ghost use Rattle.p3_fri_two_adic.specs.Ranges.{InProverRange, InVerifierRange};
@@ -14,8 +15,10 @@ use p3_challenger::Sha256Challenger;
 use p3_dft::Radix2Dit;
 use p3_field::{BabyBear, BabyBear4, Field};
 use p3_fri_two_adic::TwoAdicFriPcs;
+use p3_matrix::RowMajorMatrix;
 use p3_mmcs::Mmcs;
 use p3_pcs::{OpeningRequest, Pcs};
+use std::alloc::Global;
 
 pub type Scheme = TwoAdicFriPcs<BabyBear, Radix2Dit<BabyBear>, Inputs, Rounds>;
 
@@ -23,21 +26,36 @@ pub type Committed = ([u8; 32], InputData);
 
 type Opened = (Claims, Proof);
 
-/// Commits to one matrix.
+pub type Evaluations = Vec<(Domain, RowMajorMatrix<BabyBear>)>;
+
+/// One matrix of `2^log_height` rows on its domain, which a scheme of this blowup extends.
+pub fn evaluations_of(
+    alloc: Global,
+    log_blowup: usize,
+    log_height: usize,
+    width: usize,
+) -> Result<Evaluations>
+    requires blowup { log_blowup ≤ 3 }
+    ensures { IfOk result (λ es. All (λ e. FitsDomain 27 log_blowup e.0.log_size e.1) es.items) }
+{
+    let domain = Domain::new(BabyBear::ONE, log_height).ok_or(Fault::Sizes)?;
+    let matrix = matrix_of(alloc, log_height, width)?;
+    let evaluations = vec![in alloc; (domain, matrix)]?;
+    Ok(evaluations)
+}
+
+/// Commits to these.
 pub fn commit(
     rt: &HostRuntime,
     watch: &mut Watch,
     scheme: &mut Scheme,
-    log_height: usize,
-    width: usize,
+    evaluations: Evaluations,
 ) -> Result<Committed>
-    requires blowup { scheme.old.fri.log_blowup ≤ 3 }
+    requires extendable { All (λ e. FitsDomain 27 scheme.old.fri.log_blowup e.0.log_size e.1)
+        evaluations.items }
     ensures openable { IfOk result (λ made. All (HasCoset 27) (matrices_of made.1)) }
     ensures kept { scheme.new ≡ scheme.old }
 {
-    let domain = Domain::new(BabyBear::ONE, log_height).ok_or(Fault::Sizes)?;
-    let matrix = matrix_of(rt.alloc(), log_height, width)?;
-    let evaluations = vec![in rt.alloc(); (domain, matrix)]?;
     let made = timed!(rt, watch;
         <Scheme as Pcs<BabyBear4, Sha256Challenger>>::commit(scheme, rt.alloc(), evaluations));
     made.map_err(|_| Fault::Refused)
@@ -98,7 +116,8 @@ pub fn print(rt: &HostRuntime, (sizes, repeats): Run<5>) -> Result<()> {
     for _ in 0..repeats {
         let parameters = parameters(log_blowup, queries, log_cap);
         let mut scheme = Scheme::new(Radix2Dit::default(), Inputs::new(), parameters);
-        let made = commit(rt, &mut commits, &mut scheme, log_height, width)?;
+        let evaluations = evaluations_of(rt.alloc(), log_blowup, log_height, width)?;
+        let made = commit(rt, &mut commits, &mut scheme, evaluations)?;
         let opened = open(rt, &mut opens, &scheme, log_height, made)?;
         verify(rt, &mut verifies, &scheme, opened)?;
     }

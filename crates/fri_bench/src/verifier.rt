@@ -324,25 +324,58 @@ fn verify_proof(alloc: Global, made: &Honest) -> Result<()> {
     .map_err(|_| Fault::Refused)
 }
 
+/// Verifies the openings of the inputs and of all rounds.
+fn verify_openings(made: &Honest) -> Result<()> {
+    verify(&made.inputs)?;
+    for round in &made.rounds {
+        verify(round)?;
+    }
+    Ok(())
+}
+
+/// The least times of the openings alone and of the call that takes them.
+#[derive(Clone, Copy)]
+struct Both {
+    alone: Watch,
+    within: Watch,
+}
+
+impl Both {
+    fn new() -> Self {
+        Both {
+            alone: Watch::new(),
+            within: Watch::new(),
+        }
+    }
+}
+
+/// Times the openings of the inputs, and `open_inputs`.
+fn time_inputs(rt: &HostRuntime, both: &mut Both, made: &Honest) -> Result<()> {
+    timed!(rt, both.alone; verify(&made.inputs)?);
+    timed!(rt, both.within; verify_inputs(rt.alloc(), made)?);
+    Ok(())
+}
+
+/// Times all openings, and `verify_fri`.
+fn time_proof(rt: &HostRuntime, both: &mut Both, made: &Honest) -> Result<()> {
+    timed!(rt, both.alone; verify_openings(made)?);
+    timed!(rt, both.within; verify_proof(rt.alloc(), made)?);
+    Ok(())
+}
+
 /// Prints the least times of both, each beside that of the openings alone.
 pub fn print(rt: &HostRuntime, (sizes, repeats): Run<4>) -> Result<()> {
     let made = make_honest(rt.alloc(), sizes)?;
-    let [mut inputs_alone, mut inputs, mut all_alone, mut all] = [Watch::new(); 4];
+    let (mut inputs, mut all) = (Both::new(), Both::new());
     for _ in 0..repeats {
-        timed!(rt, inputs_alone; verify(&made.inputs)?);
-        timed!(rt, inputs; verify_inputs(rt.alloc(), &made)?);
-        timed!(rt, all_alone; {
-            verify(&made.inputs)?;
-            for round in &made.rounds {
-                verify(round)?;
-            }
-        });
-        timed!(rt, all; verify_proof(rt.alloc(), &made)?);
+        time_inputs(rt, &mut inputs, &made)?;
+        time_proof(rt, &mut all, &made)?;
     }
     let [log_height, width, _, log_cap] = sizes;
     println!(rt;
-        "verifier, 2^{log_height} rows of {width}, cap {log_cap}: {inputs_alone}, \
-         open_inputs {inputs}; {all_alone}, verify_fri {all}"
+        "verifier, 2^{log_height} rows of {width}, cap {log_cap}: {}, open_inputs {}; {}, \
+         verify_fri {}",
+        inputs.alone, inputs.within, all.alone, all.within
     )?;
     Ok(())
 }

@@ -135,3 +135,50 @@ pub fn open_batches<EF: Copy, C, P: UnivariateStarkPcs<EF, C>>(
         claims,
     }))
 }
+
+/// A trace and two chunks committed to beside random polynomials of one matrix, and all three opened
+/// at this point, with what that leaves of their data, random polynomials first and the chunks last.
+pub fn commit_and_open_batches<EF: Copy, C, P: UnivariateStarkPcs<EF, C>>(
+    scheme: &mut P,
+    alloc: Global,
+    random: (KnownCommitment<P::Commitment, P::Domain>, P::ProverData),
+    trace: (P::Domain, RowMajorMatrix<P::Val>),
+    chunks: Vec<(P::Domain, RowMajorMatrix<P::Val>)>,
+    domains: Vec<P::Domain>,
+    point: EF,
+    challenger: &mut C,
+) -> Result<
+    (
+        Opened<EF, P::Commitment, P::Domain, P::Proof>,
+        [P::ProverData; 3],
+    ),
+    Fail,
+>
+    requires prover { P.InProverRange scheme.old }
+    requires random { P.CanOpen scheme.old random.1 }
+    requires one_matrix { length (P.committed_polynomials scheme.old random.1) ≡ 1 }
+    requires trace { P.CanCommit scheme.old (trace ∷ []) }
+    requires chunks { P.CanExtend scheme.old chunks.items (length chunks.items) }
+    requires two_chunks { length chunks.items ≡ 2 }
+{
+    let Batches {
+        known,
+        mut random,
+        mut trace,
+        mut quotient,
+    } = commit_batches::<EF, C, P>(&mut *scheme, alloc, random, trace, chunks, domains)?;
+    let answer = open_batches(
+        &*scheme,
+        alloc,
+        &known,
+        &mut random,
+        &mut trace,
+        &mut quotient,
+        point,
+        challenger,
+    )?;
+    match answer {
+        Ok(opened) => Ok((opened, [random, trace, quotient])),
+        Err(_) => Err(Fail::new("the opening is refused")),
+    }
+}

@@ -140,3 +140,84 @@ pub fn show_both<EF: Copy, C: Clone, P: UnivariateStarkPcs<EF, C>>(
         Err(_) => Err(Fail::new("not accepted")),
     }
 }
+
+/// What came of opening both, and what that leaves of their data.
+#[derive(Drop)]
+pub struct OfBoth<T, Data> {
+    pub made: T,
+    pub preprocessed: Data,
+    pub private: Data,
+}
+
+/// Both committed to and opened at this point, preprocessing first.
+pub fn commit_and_open_both<EF: Copy, C, P: UnivariateStarkPcs<EF, C>>(
+    scheme: &mut P,
+    alloc: Global,
+    preprocessed: (P::Domain, RowMajorMatrix<P::Val>),
+    private: (P::Domain, RowMajorMatrix<P::Val>),
+    point: EF,
+    challenger: &mut C,
+) -> Result<OfBoth<Opened<EF, P::Commitment, P::Domain, P::Proof>, P::ProverData>, Fail>
+    requires prover { P.InProverRange scheme.old }
+    requires preprocessed { P.CanCommit scheme.old (preprocessed ∷ []) }
+    requires private { P.CanCommit scheme.old (private ∷ []) }
+{
+    let Both {
+        known,
+        mut preprocessed,
+        mut private,
+    } = commit_both::<EF, C, P>(&mut *scheme, alloc, preprocessed, private)?;
+    let answer = open_both(
+        &*scheme,
+        alloc,
+        &known,
+        &mut preprocessed,
+        &mut private,
+        point,
+        challenger,
+    )?;
+    match answer {
+        Ok(made) => Ok(OfBoth {
+            made,
+            preprocessed,
+            private,
+        }),
+        Err(_) => Err(Fail::new("the opening is refused")),
+    }
+}
+
+/// Both committed to, opened at this point, preprocessing first, and verified.
+pub fn commit_and_show_both<EF: Copy, C: Clone, P: UnivariateStarkPcs<EF, C>>(
+    scheme: &mut P,
+    alloc: Global,
+    preprocessed: (P::Domain, RowMajorMatrix<P::Val>),
+    private: (P::Domain, RowMajorMatrix<P::Val>),
+    point: EF,
+    challenger: &mut C,
+) -> Result<OfBoth<Verified<EF, P::Proof, C>, P::ProverData>, Fail>
+    requires copies { (x y : C) → C.is_clone x y → y ≡ x }
+    requires prover { P.InProverRange scheme.old }
+    requires verifier { P.InVerifierRange scheme.old }
+    requires preprocessed { P.CanCommit scheme.old (preprocessed ∷ []) }
+    requires private { P.CanCommit scheme.old (private ∷ []) }
+{
+    let Both {
+        known,
+        mut preprocessed,
+        mut private,
+    } = commit_both::<EF, C, P>(&mut *scheme, alloc, preprocessed, private)?;
+    let made = show_both(
+        &*scheme,
+        alloc,
+        &known,
+        &mut preprocessed,
+        &mut private,
+        point,
+        challenger,
+    )?;
+    Ok(OfBoth {
+        made,
+        preprocessed,
+        private,
+    })
+}

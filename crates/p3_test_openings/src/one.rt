@@ -109,3 +109,22 @@ pub fn show_one<EF: Copy, C: Clone, P: Pcs<EF, C>>(
         Err(_) => Err(Fail::new("not accepted")),
     }
 }
+
+/// A matrix committed to, opened at these points and verified, and what that leaves of its data.
+pub fn commit_and_show<EF: Copy, C: Clone, P: Pcs<EF, C>>(
+    scheme: &mut P,
+    alloc: Global,
+    evaluation: (P::Domain, RowMajorMatrix<P::Val>),
+    points: Vec<EF>,
+    challenger: &mut C,
+) -> Result<(Verified<EF, P::Proof, C>, P::ProverData), Fail>
+    requires copies { (x y : C) → C.is_clone x y → y ≡ x }
+    requires prover { P.InProverRange scheme.old }
+    requires verifier { P.InVerifierRange scheme.old }
+    requires committable { P.CanCommit scheme.old (evaluation ∷ []) }
+    requires some_point { points.items ≢ [] }
+{
+    let (known, mut held) = commit_one::<EF, C, P>(&mut *scheme, alloc, evaluation)?;
+    let verified = show_one(&*scheme, alloc, known, &mut held, points, challenger)?;
+    Ok((verified, held))
+}

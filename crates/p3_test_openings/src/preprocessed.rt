@@ -79,3 +79,31 @@ pub fn open_preprocessed<EF: Copy, C, P: UnivariateStarkPcs<EF, C>>(
     let _found = &mut *found;
     Ok(answer)
 }
+
+/// What comes of opening one matrix as preprocessing.
+type Answer<EF, Proof, Refusal> = Result<(OpenedValues<EF>, Proof), Refusal>;
+
+/// A public matrix committed to as preprocessing and opened at this point, and again, and what that
+/// leaves of its data. What was opened so may be opened again.
+pub fn open_twice<EF: Copy, C, P: UnivariateStarkPcs<EF, C>>(
+    scheme: &mut P,
+    alloc: Global,
+    evaluation: (P::Domain, RowMajorMatrix<P::Val>),
+    point: EF,
+    challenger: &mut C,
+) -> Result<([Answer<EF, P::Proof, P::ProverError>; 2], P::ProverData), Fail>
+    requires prover { P.InProverRange scheme.old }
+    requires committable { P.CanCommit scheme.old (evaluation ∷ []) }
+    requires reusable { (s : P) (d : P.ProverData) → P.CanOpenPreprocessed s d
+        → P.CanOpenPreprocessed s (P.after_opening d)
+        × (length (P.committed_polynomials s (P.after_opening d))
+        ≡ length (P.committed_polynomials s d)) }
+{
+    let (_known, mut held) = commit_preprocessed::<EF, C, P>(&mut *scheme, alloc, evaluation)?;
+    let first = open_preprocessed(&*scheme, alloc, &mut held, point, &mut *challenger)?;
+    if first.is_err() {
+        return Err(Fail::new("the first opening is refused"));
+    }
+    let second = open_preprocessed(&*scheme, alloc, &mut held, point, challenger)?;
+    Ok(([first, second], held))
+}

@@ -11,16 +11,21 @@ use p3_field::{BabyBear, BabyBear4, ExtensionField, Field};
 use p3_fri_relation::setting::ChallengeField;
 use p3_mmcs::{Mmcs, OpenedValues};
 use p3_pcs::{KnownCommitment, Pcs};
-use p3_test_openings::batches::{Batches, commit_batches, open_batches};
+use p3_test_openings::batches::commit_and_open_batches;
 use p3_test_openings::listed::{listed, pair};
 use p3_test_openings::one::Opened;
 use std::alloc::Global;
 use std::test::Fail;
 
-/// A commitment to random polynomials on one domain of 32 points, and its data, which may be
-/// opened.
-fn commit_random(scheme: &mut Scheme, alloc: Global) -> Result<([u8; 32], Data), Fail>
-    requires { scheme.old.fri.log_blowup ≡ 2 }
+/// What is known of a commitment to random polynomials on this domain of 32 points, and its data,
+/// which may be opened.
+fn commit_random(
+    scheme: &mut Scheme,
+    alloc: Global,
+    domain: Domain,
+) -> Result<(KnownCommitment<[u8; 32], Domain>, Data), Fail>
+    requires blowup { scheme.old.fri.log_blowup ≡ 2 }
+    requires size { domain.log_size ≡ 5 }
     ensures kept { scheme.new ≡ record scheme.old { rng = scheme.new.rng } }
     ensures openable { IfOk result (λ pair. IsUnopened
         ⟦<BabyBear4 as ChallengeField<BabyBear>>⟧.fields ⟦<Inputs as Mmcs<BabyBear>>⟧.committed
@@ -29,9 +34,17 @@ fn commit_random(scheme: &mut Scheme, alloc: Global) -> Result<([u8; 32], Data),
         ⟦<BabyBear4 as ChallengeField<BabyBear>>⟧.fields ⟦<Inputs as Mmcs<BabyBear>>⟧.committed
         scheme.new.fri.log_blowup scheme.new.num_random_codewords pair.1) ≡ 1) }
 {
-    let domains = listed(alloc, coset(1, 5)?)?;
+    let domains = listed(alloc, domain)?;
+    let known_domains = listed(alloc, domain)?;
     match scheme.get_opt_randomization_poly_commitment::<BabyBear4>(alloc, domains) {
-        Ok(Some(pair)) => Ok(pair),
+        Ok(Some(pair)) => {
+            let (commitment, held) = pair;
+            let known = KnownCommitment {
+                commitment,
+                domains: known_domains,
+            };
+            Ok((known, held))
+        },
         Ok(None) => Err(Fail::new("no commitment")),
         Err(_) => Err(Fail::new("not committed to")),
     }
@@ -48,47 +61,27 @@ struct Opening {
 /// Random polynomials, a trace of 16 rows and the two chunks, opened by a challenger that is new.
 fn open_all(alloc: Global) -> Result<Opening, Fail> {
     let mut scheme = scheme();
-    let (commitment, random) = commit_random(&mut scheme, alloc)?;
     let domain = coset(1, 5)?;
-    let known = KnownCommitment {
-        commitment,
-        domains: listed(alloc, domain)?,
-    };
+    let random = commit_random(&mut scheme, alloc, domain)?;
     let trace = column(alloc, &PI)?;
     let chunks = two_chunks(alloc)?;
     let domains = pair(alloc, domain, domain)?;
-    let Batches {
-        known,
-        mut random,
-        mut trace,
-        mut quotient,
-    } = commit_batches::<BabyBear4, Sha256Challenger, Scheme>(
+    let mut challenger = Sha256Challenger::new();
+    let (opened, held) = commit_and_open_batches::<BabyBear4, Sha256Challenger, Scheme>(
         &mut scheme,
         alloc,
-        (known, random),
+        random,
         trace,
         chunks,
         domains,
-    )?;
-    let mut challenger = Sha256Challenger::new();
-    let answer = open_batches(
-        &scheme,
-        alloc,
-        &known,
-        &mut random,
-        &mut trace,
-        &mut quotient,
         BabyBear4::ONE,
         &mut challenger,
     )?;
-    match answer {
-        Ok(opened) => Ok(Opening {
-            opened,
-            held: [random, trace, quotient],
-            challenger,
-        }),
-        Err(_) => Err(Fail::new("the opening is refused")),
-    }
+    Ok(Opening {
+        opened,
+        held,
+        challenger,
+    })
 }
 
 /// The first value of this matrix at its first point.

@@ -5,7 +5,7 @@ use crate::small::scheme::{Data, Domain, Proof, SMALL, Scheme, Setting, scheme, 
 use p3_challenger::Sha256Challenger;
 use p3_field::BabyBear4;
 use p3_stark_pcs::UnivariateStarkPcs;
-use p3_test_openings::both::{Both, commit_both, open_both};
+use p3_test_openings::both::{OfBoth, commit_and_open_both};
 use p3_test_openings::one::Opened;
 use std::alloc::Global;
 use std::test::Fail;
@@ -24,38 +24,27 @@ pub(crate) struct Opening {
 
 /// Preprocessing and a private column, of 16 rows each, opened by a challenger that is new.
 pub(crate) fn open_columns(alloc: Global) -> Result<Opening, Fail> {
-    let mut scheme = scheme();
     let public_column = column(alloc, &PI)?;
     let private_column = column(alloc, &E[16..])?;
-    let Both {
-        known,
-        mut preprocessed,
-        mut private,
-    } = commit_both::<BabyBear4, Sha256Challenger, Scheme>(
-        &mut scheme,
+    let mut challenger = Sha256Challenger::new();
+    let OfBoth {
+        made,
+        preprocessed,
+        private,
+    } = commit_and_open_both::<BabyBear4, Sha256Challenger, Scheme>(
+        &mut scheme(),
         alloc,
         public_column,
         private_column,
-    )?;
-    let mut challenger = Sha256Challenger::new();
-    let answer = open_both(
-        &scheme,
-        alloc,
-        &known,
-        &mut preprocessed,
-        &mut private,
         point(),
         &mut challenger,
     )?;
-    match answer {
-        Ok(opened) => Ok(Opening {
-            opened,
-            preprocessed,
-            private,
-            challenger,
-        }),
-        Err(_) => Err(Fail::new("the opening is refused")),
-    }
+    Ok(Opening {
+        opened: made,
+        preprocessed,
+        private,
+        challenger,
+    })
 }
 
 /// What a verifier of that setting answers to the opening, where this index is told to be that of

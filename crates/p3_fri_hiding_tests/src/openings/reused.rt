@@ -6,7 +6,7 @@ use p3_challenger::Sha256Challenger;
 use p3_field::{BabyBear4, Field};
 use p3_fri_masks::HidingFriProverError;
 use p3_mmcs::OpenedValues;
-use p3_test_openings::preprocessed::{commit_preprocessed, open_preprocessed};
+use p3_test_openings::preprocessed::open_twice;
 use std::alloc::Global;
 use std::test::Fail;
 
@@ -36,19 +36,15 @@ fn is_zero(answer: Answer) -> bool {
 
 /// Whether preprocessing of zeros is opened twice, and doesn't count as opened.
 fn is_reused(alloc: Global) -> Result<bool, Fail> {
-    let mut scheme = scheme();
     let column = column(alloc, &[0; 16])?;
-    let (_known, mut held) = commit_preprocessed::<BabyBear4, Sha256Challenger, Scheme>(
-        &mut scheme,
+    let mut challenger = Sha256Challenger::new();
+    let ([first, second], held) = open_twice::<BabyBear4, Sha256Challenger, Scheme>(
+        &mut scheme(),
         alloc,
         column,
+        point(),
+        &mut challenger,
     )?;
-    let mut challenger = Sha256Challenger::new();
-    let first = open_preprocessed(&scheme, alloc, &mut held, point(), &mut challenger)?;
-    if first.is_err() {
-        return Err(Fail::new("the first opening is refused"));
-    }
-    let second = open_preprocessed(&scheme, alloc, &mut held, point(), &mut challenger)?;
     Ok(is_zero(first) && is_zero(second) && !held.is_opened())
 }
 
