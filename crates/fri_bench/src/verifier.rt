@@ -2,7 +2,7 @@
 //! words of its rounds alone, and `open_inputs` and `verify_fri`, beside the verifications alone of
 //! openings of their sizes.
 
-ghost use Rattle.std.specs.Prelude.{◌≡◌, ◌<◌, ◌≤◌, ◌^◌, All, vec_len};
+ghost use Rattle.std.specs.Prelude.{◌≡◌, ◌<◌, ◌≤◌, ◌^◌, All, IfOk, vec_len};
 ghost use Rattle.p3_mmcs.specs.Batch.{max_height, dimensions_of};
 ghost use Rattle.p3_mmcs.specs.ProverData.{matrices_of};
 ghost use Rattle.p3_fri_relation.specs.Views.{parameters_of};
@@ -226,6 +226,19 @@ fn columns_of(alloc: Global, log_height: usize, width: usize) -> Result<RowMajor
     rows_of(values, width, log_height)
 }
 
+/// A commitment to that matrix.
+fn commit_columns(alloc: Global, log_height: usize, width: usize) -> Result<Committed<BabyBear>>
+    requires low { log_height < 64 }
+    ensures { IfOk result
+        (λ made. max_height (dimensions_of (matrices_of made.1)) ≤ 2 ^ log_height) }
+{
+    let made = commit(alloc, columns_of(alloc, log_height, width)?)?;
+    if Inputs::new().get_max_height(&made.1) > 1 << log_height {
+        return Err(Fault::Sizes);
+    }
+    Ok(made)
+}
+
 /// The opening at so many indices, as the verifier takes it.
 fn openings_of(
     alloc: Global,
@@ -263,11 +276,7 @@ fn make_honest(alloc: Global, sizes: [usize; 4]) -> Result<Honest> {
     if log_height > 27 || log_cap == 0 {
         return Err(Fault::Usage);
     }
-    let columns = columns_of(alloc, log_height, width)?;
-    let made = commit(alloc, columns)?;
-    if Inputs::new().get_max_height(&made.1) > 1 << log_height {
-        return Err(Fault::Sizes);
-    }
+    let made = commit_columns(alloc, log_height, width)?;
     let (point, parameters) = (BabyBear4::GENERATOR, parameters(1, queries, log_cap));
     let sum = (0..width).fold(BabyBear4::ZERO, |sum, _| sum * point + BabyBear4::ONE);
     let word = vec![in alloc; sum; 1 << log_height]?;
