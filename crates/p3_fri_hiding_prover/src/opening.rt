@@ -297,14 +297,7 @@ pub fn open_hiding_requests<
     ensures unmoved { IfErr result (λ e. LeavesHidingState e → challenger.new ≡ challenger.old) }
 {
     let folding: TwoAdicFriFoldingForMmcs<F, InputMmcs> = TwoAdicFriFolding(PhantomData);
-    let (values, proof) = open_marked::<
-        F,
-        EF,
-        M,
-        InputMmcs,
-        TwoAdicFriFoldingForMmcs<F, InputMmcs>,
-        C,
-    >(
+    let opened = open_marked::<F, EF, M, InputMmcs, TwoAdicFriFoldingForMmcs<F, InputMmcs>, C>(
         alloc,
         &folding,
         params,
@@ -312,7 +305,11 @@ pub fn open_hiding_requests<
         num_random_codewords,
         requests,
         challenger,
-    )?;
+    );
+    let (values, proof) = match opened {
+        Ok(opening) => opening,
+        Err(refusal) => return Err(refusal),
+    };
     let (shown, random) = split_random_values(alloc, values, num_random_codewords, preprocessing)?;
     Ok((shown, (random, proof)))
 }

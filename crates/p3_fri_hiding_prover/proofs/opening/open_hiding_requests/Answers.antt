@@ -33,8 +33,29 @@ setting_at g input_mmcs mmcs = two_adic (fields_of g)
     g.C.CanSampleBits.sampled_bits)
     (g.InputMmcs.Mmcs.opens input_mmcs) (g.M.Mmcs.opens mmcs)
 
-pub open_marked-requires-clause-openable : goal.open_marked-requires-clause-openable
-open_marked-requires-clause-openable g c =
+pub open_marked-opened-requires-clause-positive_blowup : goal.open_marked-opened-requires-clause-positive_blowup
+open_marked-opened-requires-clause-positive_blowup g c = c.requires.range.blowup
+
+pub open_marked-opened-requires-clause-blowup_below_64 : goal.open_marked-opened-requires-clause-blowup_below_64
+open_marked-opened-requires-clause-blowup_below_64 g c = c.requires.range.blowup_below_64
+
+pub open_marked-opened-requires-clause-positive_cap : goal.open_marked-opened-requires-clause-positive_cap
+open_marked-opened-requires-clause-positive_cap g c = c.requires.range.cap
+
+pub open_marked-opened-requires-clause-some_query : goal.open_marked-opened-requires-clause-some_query
+open_marked-opened-requires-clause-some_query g c = c.requires.range.queries
+
+pub open_marked-opened-requires-clause-batch_bits_at_most_max : goal.open_marked-opened-requires-clause-batch_bits_at_most_max
+open_marked-opened-requires-clause-batch_bits_at_most_max g c = c.requires.range.batch_bits
+
+pub open_marked-opened-requires-clause-commit_bits_at_most_max : goal.open_marked-opened-requires-clause-commit_bits_at_most_max
+open_marked-opened-requires-clause-commit_bits_at_most_max g c = c.requires.range.commit_bits
+
+pub open_marked-opened-requires-clause-query_bits_at_most_max : goal.open_marked-opened-requires-clause-query_bits_at_most_max
+open_marked-opened-requires-clause-query_bits_at_most_max g c = c.requires.range.query_bits
+
+pub open_marked-opened-requires-clause-openable : goal.open_marked-opened-requires-clause-openable
+open_marked-opened-requires-clause-openable g c =
     openable_inside (fields_of g) g.InputMmcs.Mmcs.committed c.args.params.now.log_blowup
     c.args.num_random_codewords c.args.preprocessing (map request c.args.requests.now)
     c.requires.shape
@@ -43,8 +64,8 @@ pub returns-clause-values : goal.returns-clause-values
 returns-clause-values g c =
     honest_shown (fields_of g) g.InputMmcs.Mmcs.committed c.args.params.now.log_blowup
     c.args.num_random_codewords c.args.preprocessing (map request c.args.requests.now)
-    c.requires.shape (opened_values c.in_ok-values.values.items)
-    (opened_values c.in_ok-shown.shown.items) c.in_ok-values.ensures.values
+    c.requires.shape (opened_values c.in-Ok.opening.0.items)
+    (opened_values c.in_ok-shown.shown.items) c.in-Ok.ensures.values
     c.in_ok-shown.ensures.shown
 
 pub returns-clause-accepted : goal.returns-clause-accepted
@@ -55,11 +76,11 @@ returns-clause-accepted g c honest log_sizes fits =
     let asked = map request c.args.requests.now in
     accepted_shown (setting_at g c.args.input_mmcs.now c.args.params.now.mmcs) p committed
     g.InputMmcs.Mmcs.commitment_of r c.args.preprocessing asked c.requires.shape
-    (c.in_ok-values.ensures.checked refl) log_sizes fits
-    (opened_values c.in_ok-values.values.items) (opened_values c.in_ok-shown.random.items)
-    c.in_ok-values.ensures.values c.in_ok-shown.ensures.kept (proof_of c.in_ok-values.proof)
+    (c.in-Ok.ensures.checked refl) log_sizes fits
+    (opened_values c.in-Ok.opening.0.items) (opened_values c.in_ok-shown.random.items)
+    c.in-Ok.ensures.values c.in_ok-shown.ensures.kept (proof_of c.in-Ok.opening.1)
     c.args.challenger.now
-    (c.in_ok-values.ensures.accepted
+    (c.in-Ok.ensures.accepted
     (honest_inside (fields_of g) committed p.log_blowup r asked honest) log_sizes
     (sizes_inside (fields_of g) committed p.log_blowup r log_sizes asked fits))
 
@@ -71,29 +92,48 @@ returns-clause-state g c honest log_sizes fits =
     let asked = map request c.args.requests.now in
     ends_shown (setting_at g c.args.input_mmcs.now c.args.params.now.mmcs) p committed
     g.InputMmcs.Mmcs.commitment_of r c.args.preprocessing asked c.requires.shape
-    (c.in_ok-values.ensures.checked refl) log_sizes fits
-    (opened_values c.in_ok-values.values.items) (opened_values c.in_ok-shown.random.items)
-    c.in_ok-values.ensures.values c.in_ok-shown.ensures.kept (proof_of c.in_ok-values.proof)
-    c.args.challenger.now c.open_marked.new.challenger
-    (c.in_ok-values.ensures.state
+    (c.in-Ok.ensures.checked refl) log_sizes fits
+    (opened_values c.in-Ok.opening.0.items) (opened_values c.in_ok-shown.random.items)
+    c.in-Ok.ensures.values c.in_ok-shown.ensures.kept (proof_of c.in-Ok.opening.1)
+    c.args.challenger.now c.open_marked-opened.new.challenger
+    (c.in-Ok.ensures.state
     (honest_inside (fields_of g) committed p.log_blowup r asked honest) log_sizes
     (sizes_inside (fields_of g) committed p.log_blowup r log_sizes asked fits))
 
 -- where nothing is opened nothing is said of the opening
-pub returns-in_err-values-clause-values : goal.returns-in_err-values-clause-values
-returns-in_err-values-clause-values g c = IfOk-from_err c.from_residual.result _ c.from_residual.ensures.0
-
-pub returns-in_err-values-clause-accepted : goal.returns-in_err-values-clause-accepted
-returns-in_err-values-clause-accepted g c honest = IfOk-from_err c.from_residual.result _ c.from_residual.ensures.0
-
-pub returns-in_err-values-clause-state : goal.returns-in_err-values-clause-state
-returns-in_err-values-clause-state g c honest = IfOk-from_err c.from_residual.result _ c.from_residual.ensures.0
-
 pub returns-in_err-shown-clause-values : goal.returns-in_err-shown-clause-values
-returns-in_err-shown-clause-values g c = IfOk-from_err c.from_residual-in_err-shown.result _ c.from_residual-in_err-shown.ensures.0
+returns-in_err-shown-clause-values g c = IfOk-from_err c.from_residual.result _ c.from_residual.ensures.0
 
 pub returns-in_err-shown-clause-accepted : goal.returns-in_err-shown-clause-accepted
-returns-in_err-shown-clause-accepted g c honest = IfOk-from_err c.from_residual-in_err-shown.result _ c.from_residual-in_err-shown.ensures.0
+returns-in_err-shown-clause-accepted g c honest = IfOk-from_err c.from_residual.result _ c.from_residual.ensures.0
 
 pub returns-in_err-shown-clause-state : goal.returns-in_err-shown-clause-state
-returns-in_err-shown-clause-state g c honest = IfOk-from_err c.from_residual-in_err-shown.result _ c.from_residual-in_err-shown.ensures.0
+returns-in_err-shown-clause-state g c honest = IfOk-from_err c.from_residual.result _ c.from_residual.ensures.0
+
+-- what the opening inside left of requests stays
+pub returns-clause-opened : goal.returns-clause-opened
+returns-clause-opened g c passes = c.open_marked-opened.ensures.opened passes
+
+pub returns-clause-unopened : goal.returns-clause-unopened
+returns-clause-unopened g c fails = c.open_marked-opened.ensures.unopened fails
+
+pub returns-in-Err-clause-opened : goal.returns-in-Err-clause-opened
+returns-in-Err-clause-opened g c passes = c.open_marked-opened.ensures.opened passes
+
+pub returns-in-Err-clause-unopened : goal.returns-in-Err-clause-unopened
+returns-in-Err-clause-unopened g c fails = c.open_marked-opened.ensures.unopened fails
+
+pub returns-in_err-shown-clause-opened : goal.returns-in_err-shown-clause-opened
+returns-in_err-shown-clause-opened g c passes = c.open_marked-opened.ensures.opened passes
+
+pub returns-in_err-shown-clause-unopened : goal.returns-in_err-shown-clause-unopened
+returns-in_err-shown-clause-unopened g c fails = c.open_marked-opened.ensures.unopened fails
+
+pub returns-in-Err-clause-refused : goal.returns-in-Err-clause-refused
+returns-in-Err-clause-refused g c = c.in-Err.ensures.refused
+
+pub returns-in-Err-clause-unmoved : goal.returns-in-Err-clause-unmoved
+returns-in-Err-clause-unmoved g c = c.in-Err.ensures.unmoved
+
+pub returns-clause-checked : goal.returns-clause-checked
+returns-clause-checked g c ok = c.in-Ok.ensures.checked refl
