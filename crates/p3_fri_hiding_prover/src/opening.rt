@@ -13,6 +13,9 @@ ghost use Rattle.p3_fri_completeness.specs.Requests.{HoldsWords, held_of, relati
 ghost use Rattle.p3_fri_opening_prover.specs.Refusals.{PassesChecks, OpenRefusal, LeavesState};
 ghost use Rattle.p3_fri_two_adic.specs.Ends.{last_state};
 ghost use Rattle.p3_fri_two_adic.specs.Ranges.{InProverRange};
+ghost use Rattle.p3_fri_pow.specs.declared.error.FriProverError.TheVariants.{OutOfMemory};
+ghost use Rattle.p3_fri_masks.specs.declared.error.HidingFriProverError.TheVariants.{Fri};
+ghost use Rattle.p3_fri_random_openings.specs.Halves.{shown_values, kept_values};
 ghost use Rattle.p3_fri_random_openings.specs.RandomValues.{with_random_values};
 ghost use Rattle.p3_fri_random_openings.specs.Hiding.{HidingAccepts};
 ghost use Rattle.p3_fri_hiding_prover.specs.Data.{IsUnopened, IsPreprocessing, shown_polynomials};
@@ -209,6 +212,27 @@ fn open_marked<
     Ok(opening)
 }
 
+/// The opening of all columns, with the random values of private data beside the proof.
+fn split_opening<EF: Copy, P: Drop>(
+    alloc: Global,
+    opening: (OpenedValues<EF>, P),
+    num_random_codewords: usize,
+    preprocessing: Option<usize>,
+) -> Result<(OpenedValues<EF>, (OpenedValues<EF>, P)), HidingFriProverError>
+    ensures shown { IfOk result (λ halves. opened_values halves.0.items
+        ≡ shown_values num_random_codewords preprocessing (opened_values opening.0.items)) }
+    ensures kept { IfOk result (λ halves. (opened_values halves.1.0.items
+        ≡ kept_values num_random_codewords preprocessing (opened_values opening.0.items))
+        × (halves.1.1 ≡ opening.1)) }
+    ensures refused { IfErr result (λ e. e ≡ Fri OutOfMemory) }
+{
+    let (values, proof) = opening;
+    match split_random_values(alloc, values, num_random_codewords, preprocessing) {
+        Ok((shown, kept)) => Ok((shown, (kept, proof))),
+        Err(error) => Err(HidingFriProverError::from(error)),
+    }
+}
+
 /// Opens requests to the scheme: answers the values of the committed polynomials at the points, of
 /// private data without the columns that only hide others, and a proof, which has the values of
 /// these beside. The index names the request of preprocessing, if there is one. Once the checks
@@ -306,10 +330,8 @@ pub fn open_hiding_requests<
         requests,
         challenger,
     );
-    let (values, proof) = match opened {
-        Ok(opening) => opening,
-        Err(refusal) => return Err(refusal),
-    };
-    let (shown, random) = split_random_values(alloc, values, num_random_codewords, preprocessing)?;
-    Ok((shown, (random, proof)))
+    match opened {
+        Ok(opening) => split_opening(alloc, opening, num_random_codewords, preprocessing),
+        Err(refusal) => Err(refusal),
+    }
 }

@@ -1,5 +1,5 @@
 use Rattle.std.proofs.Common.{map, refl}
-use Rattle.std.proofs.lemmas.Result.{IfOk-from_err}
+use Rattle.std.proofs.lemmas.Result.{IfOk-weaker}
 use Rattle.p3_challenger_core.specs.Run.{moves}
 use Rattle.p3_pcs.specs.Claims.{opened_values}
 use Rattle.p3_pcs.specs.Requests.{request}
@@ -60,62 +60,62 @@ open_marked-opened-requires-clause-openable g c =
     c.args.num_random_codewords c.args.preprocessing (map request c.args.requests.now)
     c.requires.shape
 
-pub returns-clause-values : goal.returns-clause-values
-returns-clause-values g c =
-    honest_shown (fields_of g) g.InputMmcs.Mmcs.committed c.args.params.now.log_blowup
-    c.args.num_random_codewords c.args.preprocessing (map request c.args.requests.now)
-    c.requires.shape (opened_values c.in-Ok.opening.0.items)
-    (opened_values c.in_ok-shown.shown.items) c.in-Ok.ensures.values
-    c.in_ok-shown.ensures.shown
+pub returns-in-Ok-clause-values : goal.returns-in-Ok-clause-values
+returns-in-Ok-clause-values g c =
+    IfOk-weaker c.split_opening.result _ _
+    (λ halves shown. honest_shown (fields_of g) g.InputMmcs.Mmcs.committed
+    c.args.params.now.log_blowup c.args.num_random_codewords c.args.preprocessing
+    (map request c.args.requests.now) c.requires.shape (opened_values c.in-Ok.opening.0.items)
+    (opened_values halves.0.items) c.in-Ok.ensures.values shown)
+    c.split_opening.ensures.shown
 
-pub returns-clause-accepted : goal.returns-clause-accepted
-returns-clause-accepted g c honest log_sizes fits =
+pub returns-in-Ok-clause-accepted : goal.returns-in-Ok-clause-accepted
+returns-in-Ok-clause-accepted g c honest =
     let committed = g.InputMmcs.Mmcs.committed in
     let p = parameters_of c.args.params.now in
     let r = c.args.num_random_codewords in
     let asked = map request c.args.requests.now in
-    accepted_shown (setting_at g c.args.input_mmcs.now c.args.params.now.mmcs) p committed
+    IfOk-weaker c.split_opening.result _ _
+    (λ halves kept log_sizes fits. rw kept.1
+    (accepted_shown (setting_at g c.args.input_mmcs.now c.args.params.now.mmcs) p committed
     g.InputMmcs.Mmcs.commitment_of r c.args.preprocessing asked c.requires.shape
     (c.in-Ok.ensures.checked refl) log_sizes fits
-    (opened_values c.in-Ok.opening.0.items) (opened_values c.in_ok-shown.random.items)
-    c.in-Ok.ensures.values c.in_ok-shown.ensures.kept (proof_of c.in-Ok.opening.1)
+    (opened_values c.in-Ok.opening.0.items) (opened_values halves.1.0.items)
+    c.in-Ok.ensures.values kept.0 (proof_of c.in-Ok.opening.1)
     c.args.challenger.now
     (c.in-Ok.ensures.accepted
     (honest_inside (fields_of g) committed p.log_blowup r asked honest) log_sizes
-    (sizes_inside (fields_of g) committed p.log_blowup r log_sizes asked fits))
+    (sizes_inside (fields_of g) committed p.log_blowup r log_sizes asked fits))))
+    c.split_opening.ensures.kept
 
-pub returns-clause-state : goal.returns-clause-state
-returns-clause-state g c honest log_sizes fits =
+pub returns-in-Ok-clause-state : goal.returns-in-Ok-clause-state
+returns-in-Ok-clause-state g c honest =
     let committed = g.InputMmcs.Mmcs.committed in
     let p = parameters_of c.args.params.now in
     let r = c.args.num_random_codewords in
     let asked = map request c.args.requests.now in
-    ends_shown (setting_at g c.args.input_mmcs.now c.args.params.now.mmcs) p committed
+    IfOk-weaker c.split_opening.result _ _
+    (λ halves kept log_sizes fits. rw kept.1
+    (ends_shown (setting_at g c.args.input_mmcs.now c.args.params.now.mmcs) p committed
     g.InputMmcs.Mmcs.commitment_of r c.args.preprocessing asked c.requires.shape
     (c.in-Ok.ensures.checked refl) log_sizes fits
-    (opened_values c.in-Ok.opening.0.items) (opened_values c.in_ok-shown.random.items)
-    c.in-Ok.ensures.values c.in_ok-shown.ensures.kept (proof_of c.in-Ok.opening.1)
+    (opened_values c.in-Ok.opening.0.items) (opened_values halves.1.0.items)
+    c.in-Ok.ensures.values kept.0 (proof_of c.in-Ok.opening.1)
     c.args.challenger.now c.open_marked-opened.new.challenger
     (c.in-Ok.ensures.state
     (honest_inside (fields_of g) committed p.log_blowup r asked honest) log_sizes
-    (sizes_inside (fields_of g) committed p.log_blowup r log_sizes asked fits))
+    (sizes_inside (fields_of g) committed p.log_blowup r log_sizes asked fits))))
+    c.split_opening.ensures.kept
 
--- where nothing is opened nothing is said of the opening
-pub returns-in_err-shown-clause-values : goal.returns-in_err-shown-clause-values
-returns-in_err-shown-clause-values g c = IfOk-from_err c.from_residual.result _ c.from_residual.ensures.0
-
-pub returns-in_err-shown-clause-accepted : goal.returns-in_err-shown-clause-accepted
-returns-in_err-shown-clause-accepted g c honest = IfOk-from_err c.from_residual.result _ c.from_residual.ensures.0
-
-pub returns-in_err-shown-clause-state : goal.returns-in_err-shown-clause-state
-returns-in_err-shown-clause-state g c honest = IfOk-from_err c.from_residual.result _ c.from_residual.ensures.0
+pub returns-in-Ok-clause-checked : goal.returns-in-Ok-clause-checked
+returns-in-Ok-clause-checked g c ok = c.in-Ok.ensures.checked refl
 
 -- what the opening inside left of requests stays
-pub returns-clause-opened : goal.returns-clause-opened
-returns-clause-opened g c passes = c.open_marked-opened.ensures.opened passes
+pub returns-in-Ok-clause-opened : goal.returns-in-Ok-clause-opened
+returns-in-Ok-clause-opened g c passes = c.open_marked-opened.ensures.opened passes
 
-pub returns-clause-unopened : goal.returns-clause-unopened
-returns-clause-unopened g c fails = c.open_marked-opened.ensures.unopened fails
+pub returns-in-Ok-clause-unopened : goal.returns-in-Ok-clause-unopened
+returns-in-Ok-clause-unopened g c fails = c.open_marked-opened.ensures.unopened fails
 
 pub returns-in-Err-clause-opened : goal.returns-in-Err-clause-opened
 returns-in-Err-clause-opened g c passes = c.open_marked-opened.ensures.opened passes
@@ -123,17 +123,8 @@ returns-in-Err-clause-opened g c passes = c.open_marked-opened.ensures.opened pa
 pub returns-in-Err-clause-unopened : goal.returns-in-Err-clause-unopened
 returns-in-Err-clause-unopened g c fails = c.open_marked-opened.ensures.unopened fails
 
-pub returns-in_err-shown-clause-opened : goal.returns-in_err-shown-clause-opened
-returns-in_err-shown-clause-opened g c passes = c.open_marked-opened.ensures.opened passes
-
-pub returns-in_err-shown-clause-unopened : goal.returns-in_err-shown-clause-unopened
-returns-in_err-shown-clause-unopened g c fails = c.open_marked-opened.ensures.unopened fails
-
 pub returns-in-Err-clause-refused : goal.returns-in-Err-clause-refused
 returns-in-Err-clause-refused g c = c.in-Err.ensures.refused
 
 pub returns-in-Err-clause-unmoved : goal.returns-in-Err-clause-unmoved
 returns-in-Err-clause-unmoved g c = c.in-Err.ensures.unmoved
-
-pub returns-clause-checked : goal.returns-clause-checked
-returns-clause-checked g c ok = c.in-Ok.ensures.checked refl
