@@ -1,11 +1,12 @@
-use Rattle.std.proofs.Common.{map, refl}
-use Rattle.std.proofs.lemmas.Result.{IfOk-weaker}
+use Rattle.std.proofs.Common.{map, refl, subst}
+use Rattle.std.proofs.lemmas.Result.{IfOk-weaker, IfErr-weaker}
 use Rattle.p3_challenger_core.specs.Run.{moves}
 use Rattle.p3_pcs.specs.Claims.{opened_values}
 use Rattle.p3_pcs.specs.Requests.{request}
 use Rattle.p3_fri_relation.specs.Setting.{Fields, Setting}
 use Rattle.p3_fri_relation.specs.Views.{parameters_of, proof_of}
 use Rattle.p3_fri_two_adic.specs.Accepted.{two_adic}
+use Rattle.p3_fri_hiding_prover.specs.Opening.{LeavesHidingState}
 use Rattle.p3_fri_hiding_prover.proofs.Accepted.{accepted_shown, ends_shown, honest_shown, sizes_inside}
 use Rattle.p3_fri_hiding_prover.proofs.Openable.{honest_inside, openable_inside}
 use Rattle.p3_fri_hiding_prover.proofs.opening.open_hiding_requests.Given.{Over}
@@ -128,3 +129,27 @@ returns-in-Err-clause-refused g c = c.in-Err.ensures.refused
 
 pub returns-in-Err-clause-unmoved : goal.returns-in-Err-clause-unmoved
 returns-in-Err-clause-unmoved g c = c.in-Err.ensures.unmoved
+
+pub returns-in-Ok-clause-refused : goal.returns-in-Ok-clause-refused
+returns-in-Ok-clause-refused g c =
+    IfErr-weaker c.split_opening.result _ _ (λ e is. rw is (c.in-Ok.ensures.checked refl))
+    c.split_opening.ensures.refused
+
+pub returns-in-Ok-clause-unmoved : goal.returns-in-Ok-clause-unmoved
+returns-in-Ok-clause-unmoved g c =
+    IfErr-weaker c.split_opening.result _ _
+    (λ e is leaves. absurd (subst (λ x. LeavesHidingState x) is leaves))
+    c.split_opening.ensures.refused
+
+-- where nothing is opened nothing is said of the opening
+pub returns-in-Err-clause-values : goal.returns-in-Err-clause-values
+returns-in-Err-clause-values g c = tt
+
+pub returns-in-Err-clause-accepted : goal.returns-in-Err-clause-accepted
+returns-in-Err-clause-accepted g c honest = tt
+
+pub returns-in-Err-clause-state : goal.returns-in-Err-clause-state
+returns-in-Err-clause-state g c honest = tt
+
+pub returns-in-Err-clause-checked : goal.returns-in-Err-clause-checked
+returns-in-Err-clause-checked g c ok = cc
