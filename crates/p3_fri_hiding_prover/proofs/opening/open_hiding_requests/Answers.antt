@@ -34,27 +34,6 @@ setting_at g input_mmcs mmcs = two_adic (fields_of g)
     g.C.CanSampleBits.sampled_bits)
     (g.InputMmcs.Mmcs.opens input_mmcs) (g.M.Mmcs.opens mmcs)
 
-pub open_marked-opened-requires-clause-positive_blowup : goal.open_marked-opened-requires-clause-positive_blowup
-open_marked-opened-requires-clause-positive_blowup g c = c.requires.range.blowup
-
-pub open_marked-opened-requires-clause-blowup_below_64 : goal.open_marked-opened-requires-clause-blowup_below_64
-open_marked-opened-requires-clause-blowup_below_64 g c = c.requires.range.blowup_below_64
-
-pub open_marked-opened-requires-clause-positive_cap : goal.open_marked-opened-requires-clause-positive_cap
-open_marked-opened-requires-clause-positive_cap g c = c.requires.range.cap
-
-pub open_marked-opened-requires-clause-some_query : goal.open_marked-opened-requires-clause-some_query
-open_marked-opened-requires-clause-some_query g c = c.requires.range.queries
-
-pub open_marked-opened-requires-clause-batch_bits_at_most_max : goal.open_marked-opened-requires-clause-batch_bits_at_most_max
-open_marked-opened-requires-clause-batch_bits_at_most_max g c = c.requires.range.batch_bits
-
-pub open_marked-opened-requires-clause-commit_bits_at_most_max : goal.open_marked-opened-requires-clause-commit_bits_at_most_max
-open_marked-opened-requires-clause-commit_bits_at_most_max g c = c.requires.range.commit_bits
-
-pub open_marked-opened-requires-clause-query_bits_at_most_max : goal.open_marked-opened-requires-clause-query_bits_at_most_max
-open_marked-opened-requires-clause-query_bits_at_most_max g c = c.requires.range.query_bits
-
 pub open_marked-opened-requires-clause-openable : goal.open_marked-opened-requires-clause-openable
 open_marked-opened-requires-clause-openable g c =
     openable_inside (fields_of g) g.InputMmcs.Mmcs.committed c.args.params.now.log_blowup
