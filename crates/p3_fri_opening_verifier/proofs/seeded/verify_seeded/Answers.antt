@@ -111,8 +111,7 @@ draw_alpha-requires-clause-at_most_max g c =
 
 pub returns-in-Err-clause-exact : goal.returns-in-Err-clause-exact
 returns-in-Err-clause-exact g c other =
-    let no = stopped g (goal.at.returns-in-Err-clause-exact g c).In-Err in
-    (
+    let no = stopped g (goal.at.returns-in-Err-clause-exact g c).In-Err in (
       (λ e. cc),
       (λ a. absurd (not_accepted (setting_at g c.args.folding.now c.args.params.now.mmcs c.args.input_mmcs.now)
           (parameters_of c.args.params.now) (claims_of (λ d. d.log_size) c.args.claims.now) (proof_of c.args.proof.now)
