@@ -1,7 +1,7 @@
 //! Times the scheme over two-adic fields: a commitment to one matrix, its opening at a point, and
 //! the verification of that.
 
-ghost use Rattle.std.specs.Prelude.{◌≡◌, ◌+◌, ◌≤◌, All, IfOk};
+ghost use Rattle.std.specs.Prelude.{◌≡◌, ◌+◌, ◌≤◌, All, IfOk, length};
 ghost use Rattle.p3_mmcs.specs.ProverData.{matrices_of};
 ghost use Rattle.p3_fri_commit.specs.Extension.{FitsDomain};
 ghost use Rattle.p3_fri_openings.specs.Rounds.{HasCoset};
@@ -36,7 +36,9 @@ pub fn evaluations_of(
     width: usize,
 ) -> Result<Evaluations>
     requires blowup { log_blowup ≤ 3 }
-    ensures { IfOk result (λ es. All (λ e. FitsDomain 27 log_blowup e.0.log_size e.1) es.items) }
+    ensures one { IfOk result (λ es. length es.items ≡ 1) }
+    ensures extendable { IfOk result (λ es.
+        All (λ e. FitsDomain 27 log_blowup e.0.log_size e.1) es.items) }
 {
     let domain = Domain::new(BabyBear::ONE, log_height).ok_or(Fault::Sizes)?;
     let matrix = matrix_of(alloc, log_height, width)?;

@@ -212,7 +212,8 @@ fn open_marked<
     Ok(opening)
 }
 
-/// The opening of all columns, with the random values of private data beside the proof.
+/// The opening of all columns, with the random values of private data moved beside the proof. Want
+/// of memory is `Fri(OutOfMemory)`.
 fn split_opening<EF: Copy, P: Drop>(
     alloc: Global,
     opening: (OpenedValues<EF>, P),

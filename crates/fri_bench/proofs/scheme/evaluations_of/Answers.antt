@@ -21,8 +21,11 @@ one_fits size_of h blowup found r d m es was ok known height low little only =
       within = omega (arith, size, low, little);
     })
 
-pub returns : goal.returns
-returns c =
+pub returns-clause-one : goal.returns-clause-one
+returns-clause-one c = ap length c.in_ok-evaluations.ensures.items
+
+pub returns-clause-extendable : goal.returns-clause-extendable
+returns-clause-extendable c =
     one_fits (λ d. d.log_size) c.args.log_height c.args.log_blowup c.new.result
     c.ok_or.result c.in_ok-domain.domain c.in_ok-matrix.matrix c.in_ok-evaluations.evaluations.items
     c.ok_or.ensures.ok_part c.in_ok-domain.was c.new.ensures.log_size c.in_ok-matrix.ensures.height
