@@ -137,8 +137,8 @@ pub fn open_batches<EF: Copy, C, P: UnivariateStarkPcs<EF, C>>(
 }
 
 /// A trace and two chunks committed to beside random polynomials of one matrix, and all three
-/// opened at this point, with what that leaves of their data: of the random polynomials first and of
-/// the chunks last.
+/// opened at this point, with what that leaves of their data: of the random polynomials first, and
+/// of the chunks last.
 pub fn commit_and_open_batches<EF: Copy, C, P: UnivariateStarkPcs<EF, C>>(
     scheme: &mut P,
     alloc: Global,
