@@ -39,6 +39,10 @@ pub enum OpenAndVerifyError<ProverError, Error> {
 /// What is opened are the values of the committed polynomials, the proof is accepted of them, and
 /// prover and verifier end in the last state of that proof. It refuses only what `open` refuses,
 /// and for want of memory.
+///
+/// The proof is bound to the challenger's state: the caller has absorbed what is public and each
+/// commitment before, and has drawn the points after. From a fresh challenger it shows nothing to
+/// others, since commitments could be made after the queries.
 pub fn open_and_verify<EF: Copy, C: Clone, P: Pcs<EF, C>>(
     scheme: &P,
     alloc: Global,

@@ -22,6 +22,11 @@ use std::alloc::Global;
 /// committed polynomials and a proof that is accepted of these claims from the state in which it
 /// began, and it leaves the challenger in the last state of that; `verify` is Ok exactly where a
 /// proof is accepted, memory aside, and then leaves the same state.
+///
+/// A proof is bound to that state and to the claimed values, and to nothing else. So both sides have
+/// to bring the challenger there in the same way: absorb what is public and each commitment, draw
+/// the points after, then open. Where a commitment isn't absorbed before, whoever proves can choose
+/// it once the queries are known, and show any values.
 pub trait Pcs<EF: Copy, C> {
     /// The elements of the matrices.
     type Val: Copy;
@@ -136,6 +141,9 @@ pub trait Pcs<EF: Copy, C> {
 
     /// The values of the committed polynomials at the points that are asked for, and a proof of
     /// them. Each datum has one list of points for each of its matrices, and some datum a matrix.
+    ///
+    /// Of all this the challenger absorbs the values alone. The caller has absorbed what is public
+    /// and each commitment before, and has drawn the points after.
     fn open(
         &self,
         alloc: Global,
@@ -174,6 +182,10 @@ pub trait Pcs<EF: Copy, C> {
         ensures unmoved { IfErr result (λ e. LeavesState e → challenger.new ≡ challenger.old) };
 
     /// Whether the claims hold, by the proof.
+    ///
+    /// Of the claims the challenger absorbs the values alone: neither commitments nor points nor
+    /// domains. So acceptance says what is committed to only where the caller has absorbed what is
+    /// public and each commitment before, and has drawn the points after, or absorbed them too.
     fn verify(
         &self,
         alloc: Global,
