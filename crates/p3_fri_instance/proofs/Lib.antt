@@ -1,4 +1,5 @@
 pub mod Heights
+pub mod InputOpenings
 pub mod Instances
 pub mod Lists
 pub mod LowHeights

@@ -1,14 +1,16 @@
 //! What the verifier of the low-degree test compares before its transcript begins: the parameters
-//! and the claimed log heights, the lengths of the proof's lists, and its witnesses of proofs of
-//! work that have no bits.
+//! and the claimed log heights, the lengths of the proof's lists, how often it opens the
+//! commitments, and its witnesses of proofs of work that have no bits.
 #![tactic(auto)]
 
 mod canonical;
 mod claimed;
 mod counts;
+mod inputs;
 mod instance;
 mod siblings;
 
 pub use crate::canonical::check_canonical;
 pub use crate::counts::check_counts;
+pub use crate::inputs::check_inputs;
 pub use crate::instance::check_instance;
