@@ -1,17 +1,26 @@
 -- The test accepts, from its parts.
-use Rattle.std.proofs.Common.{◌≡◌, ℕ, ◌+◌, ◌^◌, ◌<◌, ◌⊎◌, inl, inr, List, length, refl, sym, ap, ◌∙◌, subst}
+use Rattle.std.proofs.Common.{◌≡◌, ℕ, ◌+◌, ◌^◌, ◌<◌, ◌⊎◌, inl, inr, List, length, map, get_or, refl, sym, ap, ◌∙◌, subst}
 use Rattle.std.specs.Prelude.{All, IsTrue, IfErr, Result, Err}
+use Rattle.std.proofs.lemmas.List.{length-map, get_or_default}
+use Rattle.p3_matrix.specs.declared.Dimensions.{Dimensions}
+use Rattle.p3_mmcs.specs.Batch.{HasShape}
+use Rattle.p3_mmcs.proofs.Shapes.{sets_count}
+use Rattle.p3_fri_pow.specs.Counts.{IsWrongCount}
 use Rattle.p3_fri_pow.specs.declared.pow_phase.PowPhase.{PowPhase}
 use Rattle.p3_fri_pow.specs.declared.pow_phase.PowPhase.TheVariants.{CommitPhase, Query}
 use Rattle.p3_fri_transcript.specs.Steps.{FriNumbers}
 use Rattle.p3_fri_transcript.specs.Replay.{FriReplay}
 use Rattle.p3_fri_relation.specs.declared.error.FriError.{FriError}
 use Rattle.p3_fri_relation.specs.declared.error.FriError.TheVariants.{InvalidPowWitness, NonCanonicalPowWitness, OutOfMemory}
-use Rattle.p3_fri_relation.specs.Setting.{Setting, Parameters, CommitmentClaim, Proof}
+use Rattle.p3_fri_relation.specs.Setting.{Setting, Parameters, CommitmentClaim, InputOpening, Proof}
+use Rattle.p3_fri_relation.specs.Heights.{dimensions, opened_index}
+use Rattle.p3_fri_relation.specs.Inputs.{OpensInput}
 use Rattle.p3_fri_relation.specs.TestRounds.{bound_numbers}
 use Rattle.p3_fri_relation.specs.Acceptance.{FriAccepts, AreOpeningsGood, test_replay, positions, fri_numbers, top_height, log_arities}
-use Rattle.p3_fri_relation.specs.Faults.{Stands, OpeningsFault, WorkFault}
+use Rattle.p3_fri_relation.specs.Faults.{At, Stands, InputFault, OpeningsFault, WorkFault}
 use Rattle.p3_fri_relation.proofs.TestReplays.{length-replay_betas, length-positions, positions-below}
+use Rattle.p3_fri_instance.specs.Counts.{HasInputs, InputCountFault}
+use Rattle.p3_fri_inputs.proofs.Refutations.{all_zip_right}
 use Rattle.p3_fri_verifier.specs.Draws.{proof_replay, ReplayFault, AreDrawn}
 use Rattle.p3_fri_verifier.specs.Openings.{AreOpened}
 use Rattle.p3_fri_verifier.specs.Plans.{CanBegin, BeginningFault}
@@ -28,25 +37,61 @@ pub record IsDrawn {F E C Com Path InCom InPath : Type 0} (s : Setting F E C Com
 
 module _ {F E C Com Path InCom InPath : Type 0} (s : Setting F E C Com Path InCom InPath) (p : Parameters)
     (claims : List (CommitmentClaim E InCom)) (proof : Proof F E Com Path InPath) (c : C) (alpha : E) where
-  pub can_begin : FriAccepts s p claims proof c alpha → CanBegin p claims proof s.fields.base.zero s.fields.two_adicity
-  can_begin a = record {
-    in_range = a.instance_of.in_range;
-    counts = record {
-      commitments = a.counts.commitments;
-      commit_witnesses = a.counts.commit_witnesses;
-      rounds = a.counts.rounds;
-      inputs = refl;
-      final_poly = a.counts.final_poly;
-    };
-    canonical = a.canonical;
-  }
+  -- rows that a scheme takes for a commitment's are a set for each query
+  module _ (shape : (commitment : InCom) (dims : List Dimensions) (indices : List ℕ) (sets : List (List (List F)))
+      (path : InPath) → s.opens_input commitment dims indices sets path → HasShape dims indices sets) where
+    sets_opened : (places : List ℕ) (claim : CommitmentClaim E InCom) (o : InputOpening F InPath)
+        → OpensInput s.opens_input p.log_blowup (top_height p claims) places claim o → length o.rows ≡ length places
+    sets_opened places claim o h =
+        let dims = map (dimensions p.log_blowup) claim.matrices in
+        let indices = map (opened_index p.log_blowup (top_height p claims) claim.matrices) places in
+        sets_count dims indices o.rows (shape claim.commitment dims indices o.rows o.path h)
+        ∙ length-map places (opened_index p.log_blowup (top_height p claims) claim.matrices)
+
+    inputs_counted : FriAccepts s p claims proof c alpha → HasInputs p.num_queries (length claims) proof.inputs
+    inputs_counted a = record {
+      count = a.counts.inputs;
+      rows = λ k d l.
+          let o = get_or proof.inputs k d in
+          let places = positions s p claims proof c in
+          let opened = all_zip_right (OpensInput s.opens_input p.log_blowup (top_height p claims) places) claims proof.inputs
+          a.openings.inputs_open k o l (get_or_default proof.inputs k o d l) in
+          sets_opened places opened.0 o opened.1 ∙ length-positions s p claims proof c;
+    }
+
+    pub can_begin : FriAccepts s p claims proof c alpha → CanBegin p claims proof s.fields.base.zero s.fields.two_adicity
+    can_begin a = record {
+      in_range = a.instance_of.in_range;
+      counts = record {
+        commitments = a.counts.commitments;
+        commit_witnesses = a.counts.commit_witnesses;
+        rounds = a.counts.rounds;
+        inputs = refl;
+        final_poly = a.counts.final_poly;
+      };
+      inputs = inputs_counted a;
+      canonical = a.canonical;
+    }
+
+  -- a wrong number of openings, or of their rows, is a fault of the openings wherever the queries are
+  input_count_stands : {A B : Type 0} (e : FriError A B) → InputCountFault p.num_queries (length claims) proof.inputs e
+      → InputFault s.fields p.log_blowup alpha (top_height p claims) claims proof.inputs s.opens_input (positions s p claims proof c) e
+  input_count_stands {A} {B} e (inl h) =
+      subst (λ (x : FriError A B). InputFault s.fields p.log_blowup alpha (top_height p claims) claims proof.inputs
+      s.opens_input (positions s p claims proof c) x) (sym h.2) h.3
+  input_count_stands {A} {B} e (inr h) =
+      subst (λ (x : FriError A B). InputFault s.fields p.log_blowup alpha (top_height p claims) claims proof.inputs
+      s.opens_input (positions s p claims proof c) x) (sym h.3)
+      (subst (λ (n : ℕ). At h.0 (λ o. IsWrongCount n (length o.rows) h.1 h.2) proof.inputs)
+      (sym (length-positions s p claims proof c)) h.4)
 
   pub beginning_stands : {A B : Type 0} (e : FriError A B)
       → BeginningFault p claims proof s.fields.base.zero s.fields.two_adicity e ⊎ (e ≡ OutOfMemory)
       → Stands s p claims proof c alpha e
   beginning_stands e (inl (inl h)) = inl h
   beginning_stands e (inl (inr (inl h))) = inr (inl h)
-  beginning_stands {A} {B} e (inl (inr (inr h))) = inr (inr (inl (subst (λ (x : FriError A B). WorkFault s p claims proof c x) (sym h.1) h.2)))
+  beginning_stands e (inl (inr (inr (inl h)))) = inr (inr (inr (inl (inl (input_count_stands e h)))))
+  beginning_stands {A} {B} e (inl (inr (inr (inr h)))) = inr (inr (inl (subst (λ (x : FriError A B). WorkFault s p claims proof c x) (sym h.1) h.2)))
   beginning_stands e (inr h) = inr (inr (inr (inr h)))
 
   -- the replay of a test of these numbers

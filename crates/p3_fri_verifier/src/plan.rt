@@ -9,7 +9,7 @@ ghost use Rattle.p3_fri_verifier.specs.Plans.{CanBegin, BeginningFault};
 
 use p3_field_core::{ExtensionField, TwoAdicField, TwoAdicMultiplicativeCoset};
 use p3_fri_folding::{FriParameters, fold_schedule};
-use p3_fri_instance::{check_canonical, check_counts, check_instance};
+use p3_fri_instance::{check_canonical, check_counts, check_inputs, check_instance};
 use p3_fri_relation::error::FriError;
 use p3_fri_relation::proof::{BatchMultiOpening, FriProof};
 use p3_mmcs::{CommitmentOpening, Mmcs};
@@ -25,7 +25,8 @@ pub(crate) struct Plan {
 }
 
 /// The plan of a test of these claims, if it can begin: the parameters and the claims are in range,
-/// and the proof has the lists and the witnesses that they ask for. No challenger is touched.
+/// the proof has the lists and the witnesses that they ask for, and it opens each commitment once
+/// for each query. No challenger is touched.
 pub(crate) fn make_plan<F: TwoAdicField, EF: ExtensionField<F>, M: Mmcs<EF>, InputMmcs: Mmcs<F>>(
     alloc: Global,
     params: &FriParameters<M>,
@@ -55,6 +56,10 @@ pub(crate) fn make_plan<F: TwoAdicField, EF: ExtensionField<F>, M: Mmcs<EF>, Inp
         Err(AllocError) => return Err(FriError::OutOfMemory),
     };
     match check_counts(params, &log_arities, proof) {
+        Ok(()) => {},
+        Err(refusal) => return Err(refusal),
+    }
+    match check_inputs(params.num_queries, claims.len(), &proof.input_openings) {
         Ok(()) => {},
         Err(refusal) => return Err(refusal),
     }

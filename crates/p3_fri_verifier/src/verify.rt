@@ -25,7 +25,8 @@ use std::alloc::Global;
 ///
 /// Memory aside it is `Ok` exactly where the test accepts, and then the challenger is left in the
 /// last state of the test's transcript. No index, sum or size is taken from the proof before it was
-/// compared with what the parameters and the claims ask for.
+/// compared with what the parameters and the claims ask for, and no query is drawn before the proof
+/// was found to open each commitment for all of them.
 ///
 /// The final height is below 64. The challenger draws as many bits at once as the two-adicity and
 /// the strategy's extra bits together, and as each difficulty. The strategy folds words of each log

@@ -1,22 +1,30 @@
-//! Parameters and claims that are refused by name, before anything of the proof is looked at.
+//! Parameters, claims, openings and witnesses that are refused by name, before anything is drawn.
 
 use crate::answers::{
     Claims, Domain, Parameters, Proof, answer, challenger_after, constant, plain_parameters,
 };
+use crate::honest::make_honest;
 use p3_field::{BabyBear, Field, TwoAdicMultiplicativeCoset};
-use p3_fri_relation::proof::FriProof;
+use p3_fri_relation::proof::{BatchMultiOpening, FriProof};
 use p3_mmcs::{CommitmentOpening, MatrixOpening, PointOpening};
 use std::alloc::Global;
 use std::process::Abort;
 use std::test::Fail;
 
-/// A proof without rounds and openings.
-fn bare_proof(alloc: Global) -> Result<Proof, Fail> {
+/// A proof without rounds, and with so many openings of inputs, without rows.
+fn bare_proof(alloc: Global, num_openings: usize) -> Result<Proof, Fail> {
+    let mut input_openings = Vec::new(alloc);
+    for _ in 0..num_openings {
+        input_openings.push(BatchMultiOpening {
+            opened_values: Vec::new(alloc),
+            opening_proof: Vec::new(alloc),
+        })?;
+    }
     Ok(FriProof {
         batch_pow_witness: BabyBear::ZERO,
         commit_phase_commits: Vec::new(alloc),
         commit_pow_witnesses: Vec::new(alloc),
-        input_openings: Vec::new(alloc),
+        input_openings,
         commit_phase_openings: Vec::new(alloc),
         final_poly: vec![in alloc; constant(0)]?,
         query_pow_witness: BabyBear::ZERO,
@@ -40,7 +48,7 @@ fn claims_on(alloc: Global, log_size: usize) -> Result<Claims, Fail> {
     Ok(claims)
 }
 
-/// Parameters and the log size of a claimed domain, and the refusal.
+/// Parameters, the log size of a claimed domain and how many openings a proof has, and the refusal.
 #[derive(Clone, Copy)]
 struct Case {
     num_queries: usize,
@@ -48,6 +56,7 @@ struct Case {
     max_log_arity: usize,
     log_final_poly_len: usize,
     log_size: Option<usize>,
+    num_openings: usize,
     refusal: &'static str,
 }
 
@@ -57,6 +66,7 @@ const PLAIN: Case = Case {
     max_log_arity: 1,
     log_final_poly_len: 0,
     log_size: Some(0),
+    num_openings: 0,
     refusal: "",
 };
 
@@ -97,6 +107,21 @@ const RANGES: [Case; 3] = [
     },
 ];
 
+/// More queries than can be drawn within the time of a test, without a round.
+const UNOPENED: [Case; 2] = [
+    Case {
+        num_queries: 1 << 30,
+        refusal: "InputProofBatchCountMismatch { expected: 1, got: 0 }",
+        ..PLAIN
+    },
+    Case {
+        num_queries: 1 << 30,
+        num_openings: 1,
+        refusal: "InputOpeningsQueryCountMismatch { batch: 0, expected: 1073741824, got: 0 }",
+        ..PLAIN
+    },
+];
+
 /// The parameters of the case.
 fn parameters_of(case: &Case) -> Parameters {
     let mut parameters = plain_parameters();
@@ -113,7 +138,7 @@ fn is_met(alloc: Global, case: &Case) -> Result<bool, Fail> {
         Some(log_size) => claims_on(alloc, log_size)?,
         None => Vec::new(alloc),
     };
-    let proof = bare_proof(alloc)?;
+    let proof = bare_proof(alloc, case.num_openings)?;
     let parameters = parameters_of(case);
     let text = answer(
         alloc,
@@ -142,13 +167,24 @@ fn claims_out_of_range_are_named(rt: HostRuntime) -> Result<(), Fail> {
     assert_all(&rt, rt.alloc(), &RANGES)
 }
 
+#[test]
+fn missing_openings_are_named_before_any_query_is_drawn(rt: HostRuntime) -> Result<(), Fail> {
+    assert_all(&rt, rt.alloc(), &UNOPENED)
+}
+
 /// Whether a batch witness at no bits is refused by its name, with the challenger as it was.
 fn is_witness_named(alloc: Global) -> Result<bool, Fail> {
-    let claims = claims_on(alloc, 0)?;
-    let mut proof = bare_proof(alloc)?;
-    proof.batch_pow_witness = BabyBear::ONE;
+    let parameters = plain_parameters();
+    let mut honest = make_honest(alloc, &parameters, 1, 0, 1)?;
+    honest.proof.batch_pow_witness = BabyBear::ONE;
     let mut challenger = challenger_after(1);
-    let text = answer(alloc, &plain_parameters(), &proof, &mut challenger, &claims)?;
+    let text = answer(
+        alloc,
+        &parameters,
+        &honest.proof,
+        &mut challenger,
+        &honest.claims,
+    )?;
     Ok(
         text.as_str() == "NonCanonicalPowWitness { phase: Batch }"
             && challenger == challenger_after(1),

@@ -148,8 +148,13 @@ fn change_list(
 }
 
 /// The answer to an honest proof of two rounds, which fold by four and by two to a final polynomial
-/// of two coefficients, with one list changed or as it is.
-fn answer_to(alloc: Global, list: Option<(List, Change)>) -> Result<String, Fail> {
+/// of two coefficients, with one list changed or as it is. It is made without proofs of work, and
+/// verified with one of so many bits before the queries.
+fn answer_to(
+    alloc: Global,
+    list: Option<(List, Change)>,
+    query_bits: usize,
+) -> Result<String, Fail> {
     let mut parameters = plain_parameters();
     parameters.log_final_poly_len = 1;
     parameters.max_log_arity = 2;
@@ -157,6 +162,7 @@ fn answer_to(alloc: Global, list: Option<(List, Change)>) -> Result<String, Fail
     if let Some((list, how)) = list {
         change_list(alloc, &mut honest.proof, list, how)?;
     }
+    parameters.query_proof_of_work_bits = query_bits;
     answer(
         alloc,
         &parameters,
@@ -166,8 +172,9 @@ fn answer_to(alloc: Global, list: Option<(List, Change)>) -> Result<String, Fail
     )
 }
 
-/// What the verifier answers to each change of a list.
-const NAMED: [(List, [&str; 3]); 9] = [
+/// What the verifier answers to each change of a list whose length the parameters and the claims
+/// fix.
+const COUNTED: [(List, [&str; 3]); 8] = [
     (
         List::Rounds,
         [
@@ -232,15 +239,17 @@ const NAMED: [(List, [&str; 3]); 9] = [
             "InputOpeningsQueryCountMismatch { batch: 0, expected: 2, got: 0 }",
         ],
     ),
-    (
-        List::Rows,
-        [
-            "BatchOpenedValuesCountMismatch { batch: 0, expected: 2, got: 1 }",
-            "BatchOpenedValuesCountMismatch { batch: 0, expected: 2, got: 3 }",
-            "BatchOpenedValuesCountMismatch { batch: 0, expected: 2, got: 0 }",
-        ],
-    ),
 ];
+
+/// The same of rows that are opened of one matrix each.
+const ROWS: [(List, [&str; 3]); 1] = [(
+    List::Rows,
+    [
+        "BatchOpenedValuesCountMismatch { batch: 0, expected: 2, got: 1 }",
+        "BatchOpenedValuesCountMismatch { batch: 0, expected: 2, got: 3 }",
+        "BatchOpenedValuesCountMismatch { batch: 0, expected: 2, got: 0 }",
+    ],
+)];
 
 const REFUSED_BY_SCHEMES: [(List, [&str; 3]); 5] = [
     (List::Row, ["InputError(RowWidth)"; 3]),
@@ -250,19 +259,32 @@ const REFUSED_BY_SCHEMES: [(List, [&str; 3]); 5] = [
     (List::RoundPath, ["CommitPhaseMmcsError(PathLength)"; 3]),
 ];
 
+/// Bits of a proof of work that the honest proof doesn't have.
+const MISSING_BITS: usize = 16;
+
 /// The first change of the list to which this isn't the answer.
-fn first_unmet(alloc: Global, list: List, texts: &[&str; 3]) -> Result<Option<Change>, Fail> {
+fn first_unmet(
+    alloc: Global,
+    list: List,
+    texts: &[&str; 3],
+    query_bits: usize,
+) -> Result<Option<Change>, Fail> {
     for (change, expected) in CHANGES.iter().zip(texts) {
-        if answer_to(alloc, Some((list, *change)))?.as_str() != *expected {
+        if answer_to(alloc, Some((list, *change)), query_bits)?.as_str() != *expected {
             return Ok(Some(*change));
         }
     }
     Ok(None)
 }
 
-fn assert_all(rt: &impl Abort, alloc: Global, cases: &[(List, [&str; 3])]) -> Result<(), Fail> {
+fn assert_all(
+    rt: &impl Abort,
+    alloc: Global,
+    cases: &[(List, [&str; 3])],
+    query_bits: usize,
+) -> Result<(), Fail> {
     for (list, texts) in cases {
-        let unmet = first_unmet(alloc, *list, texts)?;
+        let unmet = first_unmet(alloc, *list, texts, query_bits)?;
         assert!(rt; unmet.is_none(), "{list:?}, {unmet:?}");
     }
     Ok(())
@@ -270,16 +292,29 @@ fn assert_all(rt: &impl Abort, alloc: Global, cases: &[(List, [&str; 3])]) -> Re
 
 #[test]
 fn the_honest_proof_is_accepted(rt: HostRuntime) -> Result<(), Fail> {
-    assert!(rt; answer_to(rt.alloc(), None)?.as_str() == "accepted");
+    assert!(rt; answer_to(rt.alloc(), None, 0)?.as_str() == "accepted");
     Ok(())
 }
 
 #[test]
 fn lists_of_another_length_are_named(rt: HostRuntime) -> Result<(), Fail> {
-    assert_all(&rt, rt.alloc(), &NAMED)
+    assert_all(&rt, rt.alloc(), &COUNTED, 0)?;
+    assert_all(&rt, rt.alloc(), &ROWS, 0)
+}
+
+#[test]
+fn missing_work_of_the_queries_is_named(rt: HostRuntime) -> Result<(), Fail> {
+    let text = answer_to(rt.alloc(), None, MISSING_BITS)?;
+    assert!(rt; text.as_str() == "InvalidPowWitness(Query)");
+    Ok(())
+}
+
+#[test]
+fn lists_are_counted_before_work_is_verified(rt: HostRuntime) -> Result<(), Fail> {
+    assert_all(&rt, rt.alloc(), &COUNTED, MISSING_BITS)
 }
 
 #[test]
 fn lists_that_the_schemes_refuse_are_named(rt: HostRuntime) -> Result<(), Fail> {
-    assert_all(&rt, rt.alloc(), &REFUSED_BY_SCHEMES)
+    assert_all(&rt, rt.alloc(), &REFUSED_BY_SCHEMES, 0)
 }

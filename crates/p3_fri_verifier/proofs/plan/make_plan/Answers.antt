@@ -1,4 +1,4 @@
-use Rattle.std.proofs.Common.{◌≡◌, ◌<◌, ◌∷◌, ◌∙◌, sym, ap, refl, arith, subst, length, get_or}
+use Rattle.std.proofs.Common.{◌≡◌, ◌<◌, ◌∷◌, ◌∙◌, inl, inr, sym, ap, refl, arith, rules, subst, length, get_or}
 use Rattle.p3_fri_folding.specs.Schedule.{IsStrictlyFalling}
 use Rattle.p3_fri_relation.specs.Heights.{matrices_of}
 use Rattle.std.specs.Prelude.{All}
@@ -6,8 +6,8 @@ use Rattle.p3_fri_relation.specs.Acceptance.{IsInRange, top_height}
 use Rattle.p3_fri_relation.specs.Views.{claims_of, parameters_of}
 use Rattle.p3_fri_relation.proofs.ClaimedHeights.{heights_of-falling}
 use Rattle.p3_fri_relation.proofs.Instances.{instance_heights, instance_top, further_heights}
-use Rattle.p3_fri_verifier.proofs.Plans.{small_rounds}
-use Rattle.p3_fri_verifier.proofs.Replays.{ok_err}
+use Rattle.p3_fri_verifier.proofs.Plans.{small_rounds, inputs_claimed, fault_claimed}
+use Rattle.p3_fri_verifier.proofs.Replays.{false_true, ok_err}
 use Rattle.p3_fri_verifier.proofs.plan.make_plan.Goals as goal
 
 pub fold_schedule-requires-clause-falling : goal.fold_schedule-requires-clause-falling
@@ -29,6 +29,18 @@ check_counts-requires-clause-small g c =
     c.in-Ok-fold_schedule.ensures.value c.in-Ok-fold_schedule.ensures.leads_down
     (omega (arith, first, bounds.1, g.met.F.TwoAdicField.two_adicity_law)))
 
+pub returns-in-Err-check_inputs-clause-exact : goal.returns-in-Err-check_inputs-clause-exact
+returns-in-Err-check_inputs-clause-exact g c other = (
+  (λ e. absurd (false_true e)),
+  (λ b. c.in-Err-check_inputs.ensures.exact.1
+      ((inputs_claimed (λ d. d.log_size) c.args.params.now.num_queries c.args.claims.now c.deref-3.ensures.value).1 b.inputs)),
+)
+
+pub returns-in-Err-check_inputs-clause-refusal : goal.returns-in-Err-check_inputs-clause-refusal
+returns-in-Err-check_inputs-clause-refusal g c =
+    inl (inr (inr (inl (fault_claimed (λ d. d.log_size) c.args.params.now.num_queries c.args.claims.now
+    c.deref-3.ensures.value c.in-Err-check_inputs.refusal c.in-Err-check_inputs.ensures.refusal))))
+
 pub index-requires : goal.index-requires
 index-requires g c =
     let p = parameters_of c.args.params.now in
@@ -38,6 +50,18 @@ index-requires g c =
     let whole : c.in-Ok.heights.items ≡ top_height p claims ∷ further_heights p claims =
     c.in-Ok.ensures.heights ∙ instance_heights p claims two_adicity ranged in
     omega (arith, c.in-Ok.heights.ok.0, ap length whole)
+
+pub returns-in-Ok-check_canonical-clause-exact : goal.returns-in-Ok-check_canonical-clause-exact
+returns-in-Ok-check_canonical-clause-exact g c other = (
+  (λ _. record {
+    in_range = (c.in-Ok.ensures.exact (λ e. ok_err _ _ e)).0 refl;
+    counts = search rules;
+    inputs = (inputs_claimed (λ d. d.log_size) c.args.params.now.num_queries c.args.claims.now c.deref-3.ensures.value).0
+        (c.in-Ok-check_inputs.ensures.exact.0 refl);
+    canonical = c.in-Ok-check_canonical.ensures.exact.0 refl;
+  }),
+  (λ _. refl),
+)
 
 pub returns-in-Ok-check_canonical-clause-top : goal.returns-in-Ok-check_canonical-clause-top
 returns-in-Ok-check_canonical-clause-top g c =

@@ -106,7 +106,8 @@ returns-in-Err-clause-exact g c other = (
   (λ e. absurd (false_true e)),
   (λ a. (c.in-Err.ensures.exact (λ e. other (ap Err (same_err _ _ e)))).1
       (can_begin (setting_at g c.args.folding.now c.args.params.now.mmcs c.args.input_mmcs.now) (parameters_of c.args.params.now) (claims_of (λ d. d.log_size) c.args.claims.now)
-      (proof_of c.args.proof.now) c.args.challenger.now c.args.alpha a)),
+      (proof_of c.args.proof.now) c.args.challenger.now c.args.alpha
+      (g.met.InputMmcs.Mmcs.shape_law c.args.input_mmcs.now) a)),
 )
 
 pub returns-in-Err-clause-state : goal.returns-in-Err-clause-state
