@@ -1,0 +1,5 @@
+pub mod Context
+pub mod Numbers
+pub mod Stated
+pub mod Statement
+pub mod StatementLaws

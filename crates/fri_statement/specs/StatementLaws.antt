@@ -1,0 +1,38 @@
+-- What the streams determine: the whole statement, and the whole context.
+use Rattle.std.specs.Prelude.{◌≡◌, ℕ, List, length}
+use Rattle.std.specs.List.{All}
+use Rattle.p3_challenger_fs.specs.StreamLaws.{FitsNumber, FitsText}
+use Rattle.fri_statement.specs.Statement.{OpenedMatrix, OpenedCommitment, Statement}
+use Rattle.fri_statement.specs.Statement.{parameter_numbers, statement_stream}
+use Rattle.fri_statement.specs.Context.{context_stream}
+
+-- the numbers of an element of the extension
+pub record IsPoint (numbers : List ℕ) : Type 0 where
+  pub four : length numbers ≡ 4
+  pub fit : All FitsNumber numbers
+
+-- eight bytes hold each number, as they hold each `usize`
+pub record FitsMatrix (m : OpenedMatrix) : Type 0 where
+  pub shift : FitsNumber m.shift
+  pub log_size : FitsNumber m.log_size
+  pub width : FitsNumber m.width
+  pub points : All IsPoint m.points
+
+pub record FitsCommitment (c : OpenedCommitment) : Type 0 where
+  pub digest : length c.digest ≡ 32
+  pub count : FitsNumber (length c.matrices)
+  pub matrices : All FitsMatrix c.matrices
+
+-- a statement of numbers that a machine holds, whose stream is within memory
+pub record FitsStatement (s : Statement) : Type 0 where
+  pub parameters : All FitsNumber (parameter_numbers s.parameters)
+  pub commitments : All FitsCommitment s.commitments
+  pub stream : FitsText (statement_stream s)
+
+-- statements of one stream are one statement
+abbrev pub IsDeterminedStatement : Statement → Statement → Type 0
+IsDeterminedStatement a b =
+    FitsStatement a → FitsStatement b → statement_stream a ≡ statement_stream b → a ≡ b
+
+abbrev pub IsDeterminedContext : (a b : List ℕ) → Type 0
+IsDeterminedContext a b = FitsText a → FitsText b → context_stream a ≡ context_stream b → a ≡ b
