@@ -11,9 +11,10 @@ from relation import Hiding, log_heights, schedule
 
 @dataclass
 class Committed:
-    """Committed matrices: for each the log size of its domain and its columns' coefficients."""
+    """Committed matrices: for each its domain's log size and shift, its columns' coefficients."""
 
     log_sizes: list
+    shifts: list
     columns: list
     tree: tree.Tree
 
@@ -22,18 +23,19 @@ class Committed:
         return self.tree.root
 
 
-def commit(parameters, matrices):
-    """Matrices, as lists of rows, on their natural domains."""
+def commit(parameters, matrices, shifts=None):
+    """Matrices, as lists of rows, on the cosets of these shifts, else on the subgroups."""
+    shifts = shifts or [1] * len(matrices)
     log_sizes = [len(matrix).bit_length() - 1 for matrix in matrices]
     columns = [
-        [field.coefficients_on_coset(list(column)) for column in zip(*matrix)]
-        for matrix in matrices
+        [field.coefficients_on_coset(list(column), shift) for column in zip(*matrix)]
+        for matrix, shift in zip(matrices, shifts)
     ]
     extended = [
         extension(matrix_columns, log_size + parameters.log_blowup)
         for matrix_columns, log_size in zip(columns, log_sizes)
     ]
-    return Committed(log_sizes, columns, tree.Tree(extended, tree.base_bytes))
+    return Committed(log_sizes, shifts, columns, tree.Tree(extended, tree.base_bytes))
 
 
 def extension(columns, log_height):
@@ -64,12 +66,13 @@ def claims_of(requests):
     """The claims of data with the points at which each of its matrices is opened."""
     return [
         Claim(data.commitment, [
-            MatrixClaim(log_size, 1, [
+            MatrixClaim(log_size, shift, [
                 PointClaim(point, [field.value(list(map(field.lift, column)), point)
                                    for column in columns])
                 for point in points
             ])
-            for log_size, columns, points in zip(data.log_sizes, data.columns, matrix_points)
+            for log_size, shift, columns, points in zip(
+                data.log_sizes, data.shifts, data.columns, matrix_points)
         ])
         for data, matrix_points in requests
     ]

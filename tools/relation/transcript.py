@@ -42,11 +42,16 @@ def proof_of_work(label, difficulty):
     return [step(PROOF_OF_WORK, algebra(1), label, fixed(difficulty))] if difficulty else []
 
 
+def bracket(label):
+    """Begin and end of a protocol that runs inside."""
+    return [step(BRACKET, MARKER, label, SCALAR, hierarchy) for hierarchy in (BEGIN, END)]
+
+
 def stream(name, steps, labels):
     return (
         b"\x01" + text(name)
         + number(len(steps)) + b"".join(steps)
-        + number(len(labels)) + b"".join(text(number(label)) for label in labels)
+        + number(len(labels)) + b"".join(map(text, labels))
     )
 
 
@@ -63,7 +68,7 @@ def test_stream(parameters, log_arities, index_width):
     queries = fixed(parameters.num_queries)
     steps.append(step(CHALLENGE, bits(index_width), b"query_indices", queries))
     labels = [parameters.log_blowup, parameters.max_log_arity, *log_arities]
-    return stream(b"p3-fri", steps, labels)
+    return stream(b"p3-fri", steps, [number(label) for label in labels])
 
 
 def opening_stream(counts, batch_bits):
@@ -76,12 +81,11 @@ def opening_stream(counts, batch_bits):
     ]
     steps += proof_of_work(b"batch_pow", batch_bits)
     steps.append(step(CHALLENGE, algebra(field.DEGREE), b"alpha", SCALAR))
-    for hierarchy in (BEGIN, END):
-        steps.append(step(BRACKET, MARKER, b"low_degree_test", SCALAR, hierarchy))
+    steps += bracket(b"low_degree_test")
     labels = [len(counts)]
     for matrices in counts:
         labels += [len(matrices), *(len(points) for points in matrices)]
-    return stream(b"p3-fri-pcs", steps, labels)
+    return stream(b"p3-fri-pcs", steps, [number(label) for label in labels])
 
 
 def observe_stream(challenger, stream_bytes):

@@ -1,0 +1,80 @@
+"""Verifies a statement, as `fri verify` does, by `docs/PROTOCOL.md` and without the toolchain.
+
+    python3 tools/relation/verify.py [--without-statement] STATEMENT.json
+
+The file is `-` for standard input; an answer of `fri open` is a statement. Prints `accepted` and
+below it what was accepted, or `refused: ` and why, with the status 1: each refusal named is true of
+the statement. A file that isn't a statement is named on standard error, with the status 2.
+
+`--without-statement` begins from a challenger that has absorbed nothing. It is UNSAFE: statements
+that `forge.py` makes are accepted so. It is there to show that, and for nothing else.
+"""
+
+import sys
+
+import relation
+from answer import text_of
+from challenger import Challenger
+from documents import Malformed, statement_from
+from statement import statement_challenger
+
+FEW_BITS = 80
+
+
+def verdict(statement, without_statement=False):
+    """Whether a statement is accepted. Counts come first: no proof has 2^30 indices drawn."""
+    parameters, claims, proof = statement.parameters, statement.claims, statement.proof
+    heights = relation.log_heights(parameters, claims)
+    found = relation.parameter_faults(parameters) | relation.height_faults(parameters, heights)
+    found |= relation.input_count_faults(parameters, claims, proof)
+    if found:
+        return relation.Verdict(found)
+    challenger = (Challenger() if without_statement
+                  else statement_challenger(statement.context, parameters, claims))
+    return relation.plain_verdict(parameters, claims, proof, challenger)
+
+
+def conjectured_soundness_bits(parameters):
+    return (parameters.log_blowup * parameters.num_queries
+            + parameters.query_proof_of_work_bits)
+
+
+def accepted_lines(statement):
+    """What was accepted, in short."""
+    yield "accepted"
+    yield f"context {statement.context.hex() or 'empty'}"
+    for claim in statement.claims:
+        yield f"commitment {claim.commitment.hex()}"
+        for matrix in claim.matrices:
+            yield (f"matrix log_size {matrix.log_size} width {matrix.width} "
+                   f"points {len(matrix.points)}")
+    yield f"conjectured soundness bits {conjectured_soundness_bits(statement.parameters)}"
+
+
+def main(file, without_statement=False):
+    try:
+        statement = statement_from(text_of(file))
+    except Malformed as error:
+        print(f"verify: {file}: {error}", file=sys.stderr)
+        return 2
+    found = verdict(statement, without_statement)
+    if found.faults:
+        print("refused: " + ", ".join(sorted(found.faults)))
+        return 1
+    for line in accepted_lines(statement):
+        print(line)
+    bits = conjectured_soundness_bits(statement.parameters)
+    if bits < FEW_BITS:
+        print(f"verify: {file}: {bits} bits of security are conjectured, fewer than {FEW_BITS}",
+              file=sys.stderr)
+    return 0
+
+
+if __name__ == "__main__":
+    arguments = sys.argv[1:]
+    unbound = "--without-statement" in arguments
+    files = [argument for argument in arguments if argument != "--without-statement"]
+    if len(files) != 1:
+        print(__doc__, file=sys.stderr)
+        sys.exit(2)
+    sys.exit(main(files[0], unbound))
