@@ -313,12 +313,20 @@ def plain_claims(claims):
     ]
 
 
-def answer_text(statement, next_challenge):
-    """A statement with what is drawn after its proof, on one line."""
-    return compact({
+def plain_statement(statement):
+    return {
         "context": statement.context.hex(),
         "parameters": vars(statement.parameters),
         "claims": plain_claims(statement.claims),
         "proof": plain_from_proof(statement.proof),
-        "next_challenge": list(next_challenge),
-    })
+    }
+
+
+def statement_text(statement):
+    """A statement on one line."""
+    return compact(plain_statement(statement))
+
+
+def answer_text(statement, next_challenge):
+    """A statement with what is drawn after its proof, on one line."""
+    return compact(plain_statement(statement) | {"next_challenge": list(next_challenge)})
