@@ -1,5 +1,6 @@
-//! Times the three calls: `cargo run --release --example bench -- [LOG_HEIGHT WIDTH LOG_BLOWUP QUERIES
-//! REPEATS]`, by default `14 64 1 100 5`. Prints the least of each in milliseconds.
+//! Times `commit`, `open` and `verify`: `cargo run --release --example bench -- [LOG_HEIGHT WIDTH
+//! LOG_BLOWUP QUERIES REPEATS]`, by default `14 64 1 100 5`. Prints the least of each in
+//! milliseconds.
 
 use p3_fri_proved::{commit, open, verify, Domain, Error, Matrix, Parameters, ORDER};
 use std::time::Instant;
@@ -33,16 +34,17 @@ fn main() -> Result<(), Error> {
     let given = |place: usize, default: u32| arguments.get(place).copied().unwrap_or(default);
     let matrices = [vec![matrix(given(0, 14), given(1, 64))]];
     let parameters =
-        Parameters { log_blowup: given(2, 1), num_queries: given(3, 100), ..Parameters::default() };
+        Parameters { log_blowup: given(2, 1), num_queries: given(3, 100), ..Parameters::toy() };
     let repeats = given(4, 5) as usize;
 
     let (commit_time, _) = timed(repeats, || commit(&parameters, &matrices))?;
-    let (open_time, opening) = timed(repeats, || open(&parameters, &matrices))?;
-    let (verify_time, _) = timed(repeats, || verify(&parameters, &opening.claims, &opening.proof))?;
+    let (open_time, opening) = timed(repeats, || open(&parameters, &[], &matrices))?;
+    let (verify_time, _) =
+        timed(repeats, || verify(&parameters, &[], &opening.claims, &opening.proof))?;
     // other parameters are refused before any digest is made, so this is what reading takes
     let others = Parameters { num_queries: parameters.num_queries + 1, ..parameters };
     let (read_time, _) =
-        timed(repeats, || Ok(verify(&others, &opening.claims, &opening.proof).is_err()))?;
+        timed(repeats, || Ok(verify(&others, &[], &opening.claims, &opening.proof).is_err()))?;
     println!("commit {commit_time:.1} ms");
     println!("open {open_time:.1} ms, which commits first");
     println!("verify {verify_time:.1} ms, of which reading the proof takes {read_time:.1} ms");

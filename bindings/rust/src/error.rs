@@ -30,8 +30,8 @@ macro_rules! names {
 }
 
 names! {
-    /// Why well-formed matrices aren't opened, or claims aren't accepted. docs/USE.md says where each
-    /// stands.
+    /// Why well-formed matrices aren't opened, or claims aren't accepted. docs/USE.md says where
+    /// each stands.
     pub enum Refusal {
         /// Of `open`: a matrix is too low for the final polynomial.
         InputHeightTooSmall,
@@ -125,7 +125,7 @@ names! {
         Digest,
         /// The proof isn't JSON, or not of a plain proof.
         Json,
-        /// A list is too long for its length to be a number of 32 bits.
+        /// A list or the context is too long for its length to be a number of 32 bits.
         NoForm,
     }
 }

@@ -16,7 +16,7 @@ pub(crate) struct Writer {
 fn too_long() -> Error {
     Error::Malformed {
         fault: Fault::NoForm,
-        text: "NoForm: a list has more entries than a number of 32 bits counts".to_string(),
+        text: "NoForm: a list or the context is longer than a number of 32 bits counts".to_string(),
     }
 }
 
@@ -33,6 +33,12 @@ impl Writer {
 
     fn count(&mut self, count: usize) -> Result<(), Error> {
         self.number(u32::try_from(count).map_err(|_| too_long())?);
+        Ok(())
+    }
+
+    fn context(&mut self, context: &[u8]) -> Result<(), Error> {
+        self.count(context.len())?;
+        self.bytes.extend_from_slice(context);
         Ok(())
     }
 
@@ -60,8 +66,10 @@ impl Writer {
     pub fn request(
         &mut self,
         parameters: &Parameters,
+        context: &[u8],
         commitments: &[Vec<Matrix>],
     ) -> Result<(), Error> {
+        self.context(context)?;
         self.parameters(parameters);
         self.count(commitments.len())?;
         for matrices in commitments {
@@ -88,9 +96,11 @@ impl Writer {
     pub fn statement(
         &mut self,
         parameters: &Parameters,
+        context: &[u8],
         claims: &[CommitmentClaims],
         proof: &Proof,
     ) -> Result<(), Error> {
+        self.context(context)?;
         self.parameters(parameters);
         self.count(claims.len())?;
         for of_commitment in claims {
@@ -153,9 +163,11 @@ impl Reader<'_> {
         })
     }
 
-    /// What `open` answers. The parameters are those that were passed.
+    /// What `open` answers. Context and parameters are those that were passed.
     pub fn opening(mut self) -> Option<Opening> {
         let next_challenge = self.element()?;
+        let context_length = usize::try_from(self.number()?).ok()?;
+        self.left = self.left.get(context_length..)?;
         for _ in 0..7 {
             self.number()?;
         }

@@ -41,6 +41,13 @@ unsafe extern "C" {
         answer_length: usize,
         needed: *mut usize,
     ) -> u8;
+    fn p3_fri_challenge(
+        request: *const u8,
+        request_length: usize,
+        answer: *mut u8,
+        answer_length: usize,
+        needed: *mut usize,
+    ) -> u8;
 }
 
 /// Which function is called.
@@ -49,6 +56,7 @@ pub(crate) enum Call {
     Commit,
     Open,
     Verify,
+    Challenge,
 }
 
 impl Call {
@@ -57,11 +65,12 @@ impl Call {
             Call::Commit => p3_fri_commit,
             Call::Open => p3_fri_open,
             Call::Verify => p3_fri_verify,
+            Call::Challenge => p3_fri_challenge,
         }
     }
 
-    /// Calls the function with an answer of so much room, or where that is too short, once more with
-    /// as much as it says.
+    /// Calls the function with an answer of so much room, or where that is too short, once more
+    /// with as much as it says.
     pub fn answer(self, request: &[u8], room: usize) -> Result<Vec<u8>, Error> {
         let (mut status, mut answer, needed) = self.try_answer(request, room)?;
         if status == BUFFER_TOO_SHORT {
@@ -102,12 +111,28 @@ impl Call {
 mod tests {
     use super::{Call, Error, ANSWERED, BUFFER_TOO_SHORT, MALFORMED};
 
-    /// The column 1, 3 opened at 5.
-    const REQUEST: [u32; 19] = [1, 0, 1, 2, 0, 0, 0, 1, 1, 1, 1, 1, 1, 1, 3, 5, 0, 0, 0];
+    const CONTEXT: [u8; 3] = [0, 0xff, b'x'];
+
+    /// Parameters with one commitment, one matrix and one point: the column 1, 3 opened at 5.
+    const NUMBERS: [u32; 19] = [1, 0, 1, 2, 0, 0, 0, 1, 1, 1, 1, 1, 1, 1, 3, 5, 0, 0, 0];
+
+    fn request(num_queries: u32) -> Vec<u8> {
+        let mut numbers = NUMBERS;
+        numbers[3] = num_queries;
+        let mut bytes = vec![CONTEXT.len() as u8, 0, 0, 0];
+        bytes.extend_from_slice(&CONTEXT);
+        bytes.extend(numbers.iter().flat_map(|number| number.to_le_bytes()));
+        bytes
+    }
+
+    /// The statement that the request's opening is.
+    fn statement(num_queries: u32) -> Vec<u8> {
+        Call::Open.answer(&request(num_queries), 5000).unwrap().split_off(16)
+    }
 
     #[test]
     fn a_short_buffer_is_left_alone_and_made_longer() {
-        let request: Vec<u8> = REQUEST.iter().flat_map(|number| number.to_le_bytes()).collect();
+        let request = request(2);
         let (status, answer, needed) = Call::Commit.try_answer(&request, 31).unwrap();
         assert_eq!((status, answer, needed), (BUFFER_TOO_SHORT, vec![0; 31], 32));
         let (status, answer, needed) = Call::Commit.try_answer(&request, 32).unwrap();
@@ -118,17 +143,18 @@ mod tests {
         assert_eq!(Call::Open.answer(&request, 0), Call::Open.answer(&request, 5000));
     }
 
-    /// The statement that the request's opening is.
-    fn statement() -> Vec<u8> {
-        let request: Vec<u8> = REQUEST.iter().flat_map(|number| number.to_le_bytes()).collect();
-        Call::Open.answer(&request, 5000).unwrap().split_off(16)
+    #[test]
+    fn a_challenge_takes_any_bytes_and_answers_four_numbers() {
+        for context in [&[][..], &CONTEXT, &request(2)] {
+            let (status, answer, needed) = Call::Challenge.try_answer(context, 16).unwrap();
+            assert_eq!((status, answer.len(), needed), (ANSWERED, 16, 16));
+            assert_eq!(Call::Challenge.answer(context, 0), Ok(answer));
+        }
     }
 
     #[test]
     fn no_beginning_is_well_formed() {
-        let request: Vec<u8> = REQUEST.iter().flat_map(|number| number.to_le_bytes()).collect();
-        let statement = statement();
-        for (call, bytes) in [(Call::Open, request), (Call::Verify, statement)] {
+        for (call, bytes) in [(Call::Open, request(2)), (Call::Verify, statement(2))] {
             for length in 0..bytes.len() {
                 let refused = call.answer(&bytes[..length], 5000);
                 assert!(matches!(refused, Err(Error::Malformed { .. })), "{length}");
@@ -137,13 +163,17 @@ mod tests {
         }
     }
 
-    /// Commitment, size, point and value are bound by the proof. The shift is not: it says where the
-    /// committed values stood, and the polynomials that are claimed of don't depend on it.
+    /// All of a statement is absorbed before indices are drawn: context, parameters, commitment,
+    /// domain, width, point and values. So with another bit before the proof others are drawn,
+    /// which all of 40 queries are the same by no chance to be met.
     #[test]
-    fn no_claim_with_another_bit_is_accepted() {
-        let statement = statement();
-        let shift = 68..72;
-        for place in (28..116).filter(|place| !shift.contains(place)) {
+    fn no_statement_with_another_bit_before_its_proof_is_accepted() {
+        let statement = statement(40);
+        assert!(Call::Verify.answer(&statement, 5000).is_ok());
+        let proof = statement.iter().position(|byte| *byte == b'{').unwrap();
+        // the context, eight numbers, a digest, thirteen numbers
+        assert_eq!(proof, 7 + 8 * 4 + 32 + 13 * 4);
+        for place in 0..proof {
             for bit in 0..8 {
                 let mut changed = statement.clone();
                 changed[place] ^= 1 << bit;

@@ -34,8 +34,12 @@ fn room_for_commitment(log_blowup: usize, queries: usize, matrices: &[Matrix]) -
     claims + 2 * LIST + queries * (2 * LIST + rows + height * DIGEST)
 }
 
-/// At least as much as `open` answers, where that is below [`MOST`].
-pub(crate) fn room_for_answer(parameters: &Parameters, commitments: &[Vec<Matrix>]) -> usize {
+/// At least as much as `open` answers, where that is below [`MOST`] without the context.
+pub(crate) fn room_for_answer(
+    parameters: &Parameters,
+    context: &[u8],
+    commitments: &[Vec<Matrix>],
+) -> usize {
     let log_blowup = parameters.log_blowup.min(27) as usize;
     let queries = parameters.num_queries.min(1 << 16) as usize;
     let sizes = commitments.iter().flatten().map(|matrix| matrix.domain.log_size.min(27) as usize);
@@ -49,5 +53,5 @@ pub(crate) fn room_for_answer(parameters: &Parameters, commitments: &[Vec<Matrix
     for matrices in commitments {
         room += room_for_commitment(log_blowup, queries, matrices);
     }
-    room.min(MOST)
+    room.min(MOST) + context.len()
 }

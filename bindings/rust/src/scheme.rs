@@ -1,4 +1,4 @@
-//! The three calls.
+//! The four calls.
 
 use crate::error::{Error, Fault};
 use crate::flat::{Reader, Writer};
@@ -10,7 +10,11 @@ use crate::types::{
 
 /// The bytes of a request. The form takes a matrix's number of values from its size, so that is
 /// compared here.
-fn request(parameters: &Parameters, commitments: &[Vec<Matrix>]) -> Result<Vec<u8>, Error> {
+fn request(
+    parameters: &Parameters,
+    context: &[u8],
+    commitments: &[Vec<Matrix>],
+) -> Result<Vec<u8>, Error> {
     for (commitment, matrices) in commitments.iter().enumerate() {
         for (matrix, it) in matrices.iter().enumerate() {
             let count = 1u64.checked_shl(it.domain.log_size).map(u128::from);
@@ -27,7 +31,7 @@ fn request(parameters: &Parameters, commitments: &[Vec<Matrix>]) -> Result<Vec<u
         }
     }
     let mut writer = Writer::default();
-    writer.request(parameters, commitments)?;
+    writer.request(parameters, context, commitments)?;
     Ok(writer.bytes)
 }
 
@@ -47,7 +51,7 @@ fn unreadable() -> Error {
 ///     values: vec![1, 3],
 ///     points: vec![],
 /// };
-/// let commitments = commit(&Parameters::default(), &[vec![column]])?;
+/// let commitments = commit(&Parameters::toy(), &[vec![column]])?;
 /// assert_eq!(commitments[0][..4], [0x2a, 0xa4, 0x19, 0xf5]);
 /// # Ok::<(), p3_fri_proved::Error>(())
 /// ```
@@ -57,7 +61,7 @@ fn unreadable() -> Error {
 /// [`Error::Malformed`] where a number is no element, or the parameters, a domain or a width has no
 /// place in the scheme; [`Error::OutOfMemory`].
 pub fn commit(parameters: &Parameters, commitments: &[Vec<Matrix>]) -> Result<Vec<Digest>, Error> {
-    let request = request(parameters, commitments)?;
+    let request = request(parameters, &[], commitments)?;
     let room = ROOM_FOR_TEXT.max(32 * commitments.len());
     let answer = Call::Commit.answer(&request, room)?;
     let mut reader = Reader { left: &answer };
@@ -65,13 +69,19 @@ pub fn commit(parameters: &Parameters, commitments: &[Vec<Matrix>]) -> Result<Ve
 }
 
 /// Commits to matrices, those of each list under one commitment, and opens each at its points.
-/// [`verify`] accepts what comes of it. The crate's page has an example.
+/// [`verify`] accepts what comes of it, with these parameters and this context. The crate's page
+/// has an example.
+///
+/// The context is what the application absorbed before, as the bytes of a
+/// [`Transcript`](crate::Transcript); it may be empty. Points have to be drawn after each
+/// commitment was absorbed. An opening takes no commitment that was made before: it commits anew,
+/// to the same digests where parameters and matrices are the same.
 ///
 /// # Errors
 ///
 /// [`Error::Malformed`] as of [`commit`], and where a point is no element or a matrix has none;
-/// [`Error::Refused`] with one of the prover's refusals, as where a point lies in a matrix's coset of
-/// evaluation:
+/// [`Error::Refused`] with one of the prover's refusals, as where a point lies in a matrix's coset
+/// of evaluation:
 ///
 /// ```
 /// use p3_fri_proved::{open, Domain, Error, Matrix, Parameters, Refusal};
@@ -82,7 +92,7 @@ pub fn commit(parameters: &Parameters, commitments: &[Vec<Matrix>]) -> Result<Ve
 ///     values: vec![1, 3],
 ///     points: vec![[31, 0, 0, 0]],
 /// };
-/// match open(&Parameters::default(), &[vec![column]]) {
+/// match open(&Parameters::toy(), &[], &[vec![column]]) {
 ///     Err(Error::Refused { refusal, text }) => {
 ///         assert_eq!(refusal, Refusal::PointInEvaluationDomain);
 ///         assert!(text.starts_with("PointInEvaluationDomain { round: 0, matrix: 0, point: 0 }"));
@@ -90,9 +100,13 @@ pub fn commit(parameters: &Parameters, commitments: &[Vec<Matrix>]) -> Result<Ve
 ///     _ => unreachable!(),
 /// }
 /// ```
-pub fn open(parameters: &Parameters, commitments: &[Vec<Matrix>]) -> Result<Opening, Error> {
-    let request = request(parameters, commitments)?;
-    let room = room_for_answer(parameters, commitments);
+pub fn open(
+    parameters: &Parameters,
+    context: &[u8],
+    commitments: &[Vec<Matrix>],
+) -> Result<Opening, Error> {
+    let request = request(parameters, context, commitments)?;
+    let room = room_for_answer(parameters, context, commitments);
     let answer = Call::Open.answer(&request, room)?;
     Reader { left: &answer }.opening().ok_or_else(unreadable)
 }
@@ -100,8 +114,10 @@ pub fn open(parameters: &Parameters, commitments: &[Vec<Matrix>]) -> Result<Open
 /// Verifies claims and their proof, and answers what the challenger draws next, which is the
 /// [`next_challenge`](Opening::next_challenge) of their opening.
 ///
-/// What is verified is what is passed: a verifier passes its own parameters, and claims with the
-/// commitments and points that it knows.
+/// What is verified is what is passed, and all of it but the proof is absorbed before anything is
+/// drawn. So a verifier passes its own parameters, the context that it made by itself, and claims
+/// with the commitments, the domains and the points that it knows. The crate's page says [what
+/// acceptance means](crate#what-acceptance-means).
 ///
 /// # Errors
 ///
@@ -110,28 +126,53 @@ pub fn open(parameters: &Parameters, commitments: &[Vec<Matrix>]) -> Result<Open
 /// [`Error::OutOfMemory`], which says nothing of the claims.
 ///
 /// ```
-/// use p3_fri_proved::{open, verify, Domain, Error, Matrix, Parameters, Refusal};
+/// use p3_fri_proved::{open, verify, Domain, Error, Matrix, Parameters};
 ///
-/// let parameters = Parameters::default();
+/// let parameters = Parameters { num_queries: 40, ..Parameters::toy() };
 /// let column = Matrix {
 ///     domain: Domain::subgroup(1),
 ///     width: 1,
 ///     values: vec![1, 3],
 ///     points: vec![[5, 0, 0, 0]],
 /// };
-/// let mut opening = open(&parameters, &[vec![column]])?;
+/// let mut opening = open(&parameters, b"here", &[vec![column]])?;
+/// let elsewhere = verify(&parameters, b"there", &opening.claims, &opening.proof);
+/// assert!(matches!(elsewhere, Err(Error::Refused { .. })));
+///
 /// opening.claims[0].matrices[0].points[0].values[0][0] -= 1;
-/// let refused = verify(&parameters, &opening.claims, &opening.proof);
+/// let refused = verify(&parameters, b"here", &opening.claims, &opening.proof);
 /// assert!(matches!(refused, Err(Error::Refused { .. })));
 /// # Ok::<(), Error>(())
 /// ```
 pub fn verify(
     parameters: &Parameters,
+    context: &[u8],
     claims: &[CommitmentClaims],
     proof: &Proof,
 ) -> Result<ExtensionElement, Error> {
     let mut writer = Writer::default();
-    writer.statement(parameters, claims, proof)?;
+    writer.statement(parameters, context, claims, proof)?;
     let answer = Call::Verify.answer(&writer.bytes, ROOM_FOR_TEXT)?;
+    Reader { left: &answer }.element().ok_or_else(unreadable)
+}
+
+/// The element of the extension that is drawn after a context, of any bytes. It takes time in
+/// proportion to them.
+///
+/// A [`Transcript`](crate::Transcript) draws by it, and sees to it that different calls have
+/// different bytes. Whoever makes the bytes in another way has to see to that.
+///
+/// ```
+/// use p3_fri_proved::challenge;
+///
+/// assert_eq!(challenge(b"")?, [1656580281, 788222061, 931621667, 1078137329]);
+/// # Ok::<(), p3_fri_proved::Error>(())
+/// ```
+///
+/// # Errors
+///
+/// [`Error::OutOfMemory`].
+pub fn challenge(context: &[u8]) -> Result<ExtensionElement, Error> {
+    let answer = Call::Challenge.answer(context, ROOM_FOR_TEXT)?;
     Reader { left: &answer }.element().ok_or_else(unreadable)
 }

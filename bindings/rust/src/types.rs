@@ -13,14 +13,22 @@ pub type Digest = [u8; 32];
 /// The order of BabyBear, `2^31 - 2^27 + 1`.
 pub const ORDER: u32 = 2013265921;
 
-/// The parameters of the scheme. Logarithms are to the base 2. The default is for trying it out: a
-/// blowup of 2, folds by two to a constant, one query, no proofs of work.
+/// The parameters of the scheme. Logarithms are to the base 2. A verifier has its own: it takes
+/// none from a prover.
 ///
 /// ```
 /// use p3_fri_proved::Parameters;
 ///
-/// let parameters = Parameters { num_queries: 100, ..Parameters::default() };
-/// assert_eq!(parameters.log_blowup, 1);
+/// let parameters = Parameters {
+///     log_blowup: 1,
+///     log_final_poly_len: 0,
+///     max_log_arity: 3,
+///     num_queries: 100,
+///     batch_proof_of_work_bits: 0,
+///     commit_proof_of_work_bits: 0,
+///     query_proof_of_work_bits: 16,
+/// };
+/// assert_eq!(parameters.conjectured_soundness_bits(), 116);
 /// ```
 #[derive(Clone, Copy, Debug, PartialEq, Eq, Hash)]
 pub struct Parameters {
@@ -41,8 +49,18 @@ pub struct Parameters {
     pub query_proof_of_work_bits: u32,
 }
 
-impl Default for Parameters {
-    fn default() -> Parameters {
+impl Parameters {
+    /// Parameters for tests and examples, which give no security: a blowup of 2, folds by two to a
+    /// constant, one query, no proofs of work.
+    ///
+    /// ```
+    /// use p3_fri_proved::Parameters;
+    ///
+    /// assert_eq!(Parameters::toy().conjectured_soundness_bits(), 1);
+    /// let parameters = Parameters { num_queries: 40, ..Parameters::toy() };
+    /// assert_eq!(parameters.conjectured_soundness_bits(), 40);
+    /// ```
+    pub const fn toy() -> Parameters {
         Parameters {
             log_blowup: 1,
             log_final_poly_len: 0,
@@ -52,6 +70,17 @@ impl Default for Parameters {
             commit_proof_of_work_bits: 0,
             query_proof_of_work_bits: 0,
         }
+    }
+
+    /// The bits of soundness by the conjecture of [ethSTARK](https://eprint.iacr.org/2021/582):
+    /// `log_blowup` for each query, and the proof of work before the queries. The other two proofs
+    /// of work don't count.
+    ///
+    /// Only the sum is the library's; what it says of soundness isn't proved, and what is proved of
+    /// FRI elsewhere is less. Nor does the sum see other bounds: the extension has some `2^123`
+    /// elements, and a collision of the digests takes some `2^128` attempts.
+    pub const fn conjectured_soundness_bits(&self) -> u64 {
+        self.log_blowup as u64 * self.num_queries as u64 + self.query_proof_of_work_bits as u64
     }
 }
 
@@ -72,7 +101,7 @@ pub struct Domain {
 
 impl Domain {
     /// The subgroup of `2^log_size` points.
-    pub fn subgroup(log_size: u32) -> Domain {
+    pub const fn subgroup(log_size: u32) -> Domain {
         Domain { shift: 1, log_size }
     }
 }
@@ -85,8 +114,8 @@ pub struct Matrix {
     pub domain: Domain,
     /// The number of columns, above 0.
     pub width: u32,
-    /// Row by row, `width * 2^log_size` values. Row `i` belongs to the point `shift * w^i`, where `w`
-    /// is the root of unity.
+    /// Row by row, `width * 2^log_size` values. Row `i` belongs to the point `shift * w^i`, where
+    /// `w` is the root of unity.
     pub values: Vec<Element>,
     /// The points that each column is opened at, at least one.
     pub points: Vec<ExtensionElement>,
@@ -101,7 +130,7 @@ pub struct PointClaims {
     pub values: Vec<ExtensionElement>,
 }
 
-/// What is claimed of a matrix.
+/// What is claimed of a matrix. Its width is the number of values at its first point.
 #[derive(Clone, Debug, PartialEq, Eq, Hash)]
 pub struct MatrixClaims {
     /// Where the committed values stand.
@@ -151,6 +180,7 @@ pub struct Opening {
     pub claims: Vec<CommitmentClaims>,
     /// Their proof.
     pub proof: Proof,
-    /// What the challenger draws after the proof. A verifier's is the same.
+    /// What the challenger draws after the proof, and so after all that the statement and the proof
+    /// say. A verifier's is the same. Whoever goes on with a transcript absorbs it.
     pub next_challenge: ExtensionElement,
 }

@@ -1,18 +1,14 @@
-//! The scheme through the binding. Expected values are those of tools/relation, an independent program.
+//! The scheme through the binding. Expected values are those of tools/relation, an independent
+//! program.
 
 use p3_fri_proved::{
     commit, open, verify, Digest, Domain, Error, Fault, Matrix, Opening, Parameters, Proof, Refusal,
 };
 
-const PARAMETERS: Parameters = Parameters {
-    log_blowup: 1,
-    log_final_poly_len: 0,
-    max_log_arity: 1,
-    num_queries: 2,
-    batch_proof_of_work_bits: 0,
-    commit_proof_of_work_bits: 0,
-    query_proof_of_work_bits: 0,
-};
+const PARAMETERS: Parameters = Parameters { num_queries: 2, ..Parameters::toy() };
+
+/// So many queries don't all read the same by chance, where others are drawn.
+const MANY: Parameters = Parameters { num_queries: 40, ..PARAMETERS };
 
 /// The column 1, 3 on the domain 1, -1: the polynomial 2 - X. Opened at 5.
 fn column() -> Matrix {
@@ -41,7 +37,7 @@ fn digest(hex: &str) -> Digest {
 }
 
 fn opened() -> Opening {
-    open(&PARAMETERS, &[vec![column()]]).unwrap()
+    open(&PARAMETERS, &[], &[vec![column()]]).unwrap()
 }
 
 /// The refusal or the fault, whichever it is.
@@ -69,15 +65,15 @@ fn the_column_is_opened_and_verified() {
     assert_eq!(claims.domain, Domain::subgroup(1));
     assert_eq!(claims.points[0].point, [5, 0, 0, 0]);
     assert_eq!(claims.points[0].values, [[2013265918, 0, 0, 0]]);
-    assert_eq!(opening.next_challenge, [918215560, 649775709, 1984764229, 660091607]);
-    let next_challenge = verify(&PARAMETERS, &opening.claims, &opening.proof);
+    assert_eq!(opening.next_challenge, [1575306697, 1677209360, 273931704, 799075703]);
+    let next_challenge = verify(&PARAMETERS, &[], &opening.claims, &opening.proof);
     assert_eq!(next_challenge, Ok(opening.next_challenge));
 }
 
 #[test]
 fn several_matrices_are_opened_and_verified() {
     let parameters = Parameters { log_blowup: 2, max_log_arity: 2, num_queries: 3, ..PARAMETERS };
-    let opening = open(&parameters, &[two_heights()]).unwrap();
+    let opening = open(&parameters, &[], &[two_heights()]).unwrap();
     let commitment = "7f4fca6d4493d5b5c6d99dc7d5f180786f7292ad26f89708b9d69b69690bb1a0";
     assert_eq!(opening.claims[0].commitment, digest(commitment));
     let [tall, low] = &opening.claims[0].matrices[..] else { panic!("two matrices are claimed") };
@@ -90,45 +86,55 @@ fn several_matrices_are_opened_and_verified() {
         ]
     );
     assert_eq!(low.points[0].values[1], [1342177291, 335544321, 0, 671088642]);
-    assert_eq!(opening.next_challenge, [1274236137, 1925244695, 28861410, 1287798314]);
-    let next_challenge = verify(&parameters, &opening.claims, &opening.proof);
+    assert_eq!(opening.next_challenge, [1306391120, 602489802, 218582372, 1043326126]);
+    let next_challenge = verify(&parameters, &[], &opening.claims, &opening.proof);
     assert_eq!(next_challenge, Ok(opening.next_challenge));
 }
 
 #[test]
 fn several_commitments_are_opened_and_verified() {
     let parameters = Parameters { num_queries: 3, query_proof_of_work_bits: 3, ..PARAMETERS };
-    let opening = open(&parameters, &[two_heights(), vec![column()]]).unwrap();
+    let opening = open(&parameters, &[], &[two_heights(), vec![column()]]).unwrap();
     assert_eq!(opening.claims.len(), 2);
-    let next_challenge = verify(&parameters, &opening.claims, &opening.proof);
+    let next_challenge = verify(&parameters, &[], &opening.claims, &opening.proof);
     assert_eq!(next_challenge, Ok(opening.next_challenge));
 }
 
 #[test]
-fn an_altered_claim_is_refused() {
-    let opening = opened();
+fn altered_claims_are_refused_by_name() {
+    let opening = open(&MANY, &[], &[vec![column()]]).unwrap();
     let mut value = opening.claims.clone();
     value[0].matrices[0].points[0].values[0][0] = 2013265917;
     let mut commitment = opening.claims.clone();
     commitment[0].commitment[31] ^= 1;
-    // other indices are drawn after the value, and the paths end at the first commitment
-    for claims in [value, commitment] {
-        let refused = verify(&PARAMETERS, &claims, &opening.proof);
-        assert_eq!(named(refused), (Some(Refusal::InputError), None));
-    }
-    // the point isn't sent: the same indices are drawn, and the quotient there is no constant
     let mut point = opening.claims.clone();
     point[0].matrices[0].points[0].point[0] = 6;
-    let refused = verify(&PARAMETERS, &point, &opening.proof);
-    assert_eq!(named(refused), (Some(Refusal::FinalPolyMismatch), None));
+    // other indices are drawn, whose rows aren't those of the proof
+    for claims in [value, commitment, point] {
+        let refused = verify(&MANY, &[], &claims, &opening.proof);
+        assert_eq!(named(refused), (Some(Refusal::InputError), None));
+    }
     let mut missing = opening.claims.clone();
     missing[0].matrices.clear();
-    let refused = verify(&PARAMETERS, &missing, &opening.proof);
+    let refused = verify(&MANY, &[], &missing, &opening.proof);
     assert_eq!(named(refused), (Some(Refusal::NoCommittedMatrices), None));
 }
 
+/// The first value that a proof opens, as it is written.
+fn opened_value(text: &str) -> &str {
+    let (_, values) = text.split_once("\"opened_values\":[[[").unwrap();
+    values.split_once(']').unwrap().0
+}
+
+/// The text with another first opened value.
+fn with_opened_value(text: &str, value: u32) -> String {
+    let old = format!("\"opened_values\":[[[{}]]", opened_value(text));
+    assert_eq!(text.matches(&old).count(), 1);
+    text.replacen(&old, &format!("\"opened_values\":[[[{value}]]"), 1)
+}
+
 #[test]
-fn an_altered_proof_is_refused() {
+fn altered_proofs_are_refused_by_name() {
     let opening = opened();
     let text = std::str::from_utf8(opening.proof.as_json()).unwrap();
     let cases = [
@@ -143,14 +149,17 @@ fn an_altered_proof_is_refused() {
             "\"commit_pow_witnesses\":[]",
             Refusal::CommitPowWitnessCountMismatch,
         ),
-        ("[[[33]],", "[[[34]],", Refusal::InputError),
     ];
     for (old, new, refusal) in cases {
         assert_eq!(text.matches(old).count(), 1, "{old}");
         let proof = Proof::from_json(text.replacen(old, new, 1));
-        let refused = verify(&PARAMETERS, &opening.claims, &proof);
+        let refused = verify(&PARAMETERS, &[], &opening.claims, &proof);
         assert_eq!(named(refused), (Some(refusal), None), "{new}");
     }
+    let value = opened_value(text).parse::<u32>().unwrap();
+    let proof = Proof::from_json(with_opened_value(text, value - 1));
+    let refused = verify(&PARAMETERS, &[], &opening.claims, &proof);
+    assert_eq!(named(refused), (Some(Refusal::InputError), None));
 }
 
 /// Makes a request not well formed.
@@ -174,20 +183,20 @@ fn malformed_requests_are_refused_by_name() {
     for (index, (change, fault)) in cases.into_iter().enumerate() {
         let (mut parameters, mut matrix) = (PARAMETERS, column());
         change(&mut parameters, &mut matrix);
-        let refused = open(&parameters, &[vec![matrix]]);
+        let refused = open(&parameters, &[], &[vec![matrix]]);
         assert_eq!(named(refused), (None, Some(fault)), "case {index}");
     }
-    assert_eq!(named(open(&PARAMETERS, &[])), (None, Some(Fault::Matrices)));
+    assert_eq!(named(open(&PARAMETERS, &[], &[])), (None, Some(Fault::Matrices)));
 }
 
 #[test]
 fn malformed_proofs_are_refused_by_name() {
     let opening = opened();
     let text = std::str::from_utf8(opening.proof.as_json()).unwrap();
-    let large = text.replacen("[[33]]", "[[2013265921]]", 1);
+    let large = with_opened_value(text, 2013265921);
     let cases = [("", Fault::Json), ("{}", Fault::Json), (&large, Fault::Element)];
     for (json, fault) in cases {
-        let refused = verify(&PARAMETERS, &opening.claims, &Proof::from_json(json));
+        let refused = verify(&PARAMETERS, &[], &opening.claims, &Proof::from_json(json));
         assert_eq!(named(refused), (None, Some(fault)), "{json}");
     }
 }
