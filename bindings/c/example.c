@@ -1,22 +1,48 @@
-/* Opens the column 1, 3 on the domain 1, -1 at the point 5, and verifies the opening. The polynomial
- * is 2 - X, so the value is -3 = 2013265918. Prints the value, and `accepted`. */
+/* Commits to the column 1, 3 on the domain 1, -1, whose polynomial is 2 - X; draws a point after
+ * the commitment; opens the column there, and verifies the opening as one who has only what was
+ * sent and what is known before. Prints `accepted`, and why it isn't with a changed value and with
+ * a changed commitment. */
 #include <stdio.h>
 #include <stdlib.h>
+#include <string.h>
 
 #include "p3_fri.h"
 
-/* Parameters, one commitment with one matrix of one column and one point, values and point. */
-static const uint32_t NUMBERS[19] = {
-    1, 0, 1, 2, 0, 0, 0,  1, 1,  1, 1, 1, 1,  1, 3,  5, 0, 0, 0,
+enum { ORDER = 2013265921, DIGEST = 32, POINT = 16 };
+
+/* Parameters, which the verifier knows: blowup 2, folds by two to a constant, 100 queries. */
+static const uint32_t PARAMETERS[7] = {1, 0, 1, 100, 0, 0, 0};
+
+/* The domain, which the verifier knows too: shift and log size. */
+static const uint32_t DOMAIN[2] = {1, 1};
+
+static const uint32_t COLUMN[2] = {1, 3};
+
+/* A label that no other program uses. */
+static const char LABEL[] = "p3_fri example, version 1";
+
+/* Bytes in the flat form, enough for what is written here. */
+struct flat {
+    uint8_t bytes[256];
+    size_t length;
 };
 
-/* The answer's bytes before the claimed value: the next challenge, the parameters, the number of
- * commitments, the digest, then nine numbers. */
-static const size_t VALUE_AT = 4 * 4 + 7 * 4 + 4 + 32 + 9 * 4;
+static void put_bytes(struct flat *flat, const void *bytes, size_t length) {
+    memcpy(flat->bytes + flat->length, bytes, length);
+    flat->length += length;
+}
 
-static void put(uint8_t *bytes, uint32_t number) {
+static void put(struct flat *flat, uint32_t number) {
+    uint8_t bytes[4];
     for (int i = 0; i < 4; i++) {
         bytes[i] = (uint8_t)(number >> 8 * i);
+    }
+    put_bytes(flat, bytes, sizeof bytes);
+}
+
+static void put_numbers(struct flat *flat, const uint32_t *numbers, size_t count) {
+    for (size_t i = 0; i < count; i++) {
+        put(flat, numbers[i]);
     }
 }
 
@@ -24,45 +50,125 @@ static uint32_t get(const uint8_t *bytes) {
     return bytes[0] | bytes[1] << 8 | bytes[2] << 16 | (uint32_t)bytes[3] << 24;
 }
 
-/* The text of a refusal is in the buffer. */
-static int fail(const char *call, int status, const uint8_t *text, size_t length) {
-    fprintf(stderr, "%s: status %d: %.*s\n", call, status, (int)length, (const char *)text);
-    return EXIT_FAILURE;
+/* What is absorbed before the opening: the label and the commitment, both as long as always. */
+static void put_context(struct flat *flat, const uint8_t *commitment) {
+    put(flat, sizeof LABEL + DIGEST);
+    put_bytes(flat, LABEL, sizeof LABEL);
+    put_bytes(flat, commitment, DIGEST);
+}
+
+/* The point that is drawn after the context. */
+static int draw(const uint8_t *commitment, uint8_t *point) {
+    struct flat context = {.length = 0};
+    size_t needed;
+    put_context(&context, commitment);
+    return p3_fri_challenge(context.bytes + 4, context.length - 4, point, POINT, &needed);
+}
+
+/* A request to commit to the column, or to open it at the point. */
+static void put_request(struct flat *flat, const uint8_t *point) {
+    put_numbers(flat, PARAMETERS, 7);
+    put(flat, 1); /* one commitment */
+    put(flat, 1); /* to one matrix */
+    put_numbers(flat, DOMAIN, 2);
+    put(flat, 1); /* of one column */
+    put(flat, point ? 1 : 0);
+    put_numbers(flat, COLUMN, 2);
+    if (point) {
+        put_bytes(flat, point, POINT);
+    }
+}
+
+/* What the statement says up to the value. */
+static void put_front(struct flat *flat, const uint8_t *commitment, const uint8_t *point) {
+    put_context(flat, commitment);
+    put_numbers(flat, PARAMETERS, 7);
+    put(flat, 1); /* one commitment */
+    put_bytes(flat, commitment, DIGEST);
+    put(flat, 1); /* to one matrix */
+    put_numbers(flat, DOMAIN, 2);
+    put(flat, 1); /* at one point */
+    put_bytes(flat, point, POINT);
+    put(flat, 1); /* one value */
+}
+
+/* Whether the value is that of 2 - X. */
+static int is_value(const uint8_t *value, const uint8_t *point) {
+    for (int i = 0; i < 4; i++) {
+        uint32_t sum = (i == 0 ? 2 : 0) + (ORDER - get(point + 4 * i));
+        if (get(value + 4 * i) != sum % ORDER) {
+            return 0;
+        }
+    }
+    return 1;
+}
+
+/* Verifies what was sent, and prints what comes of it. */
+static void verify(const uint8_t *commitment, const uint8_t *statement, size_t length) {
+    uint8_t point[POINT], reply[256];
+    struct flat front = {.length = 0};
+    size_t needed;
+    int status = draw(commitment, point);
+    if (status != P3_FRI_ANSWERED) {
+        printf("status %d\n", status);
+        return;
+    }
+    put_front(&front, commitment, point);
+    if (length < front.length + POINT || memcmp(statement, front.bytes, front.length) != 0) {
+        puts("another statement than the expected one");
+        return;
+    }
+    status = p3_fri_verify(statement, length, reply, sizeof reply, &needed);
+    if (status == P3_FRI_REFUSED || status == P3_FRI_MALFORMED) {
+        printf("status %d: %.*s\n", status, (int)needed, (const char *)reply);
+    } else if (status != P3_FRI_ANSWERED) {
+        printf("status %d\n", status);
+    } else {
+        puts(is_value(statement + front.length, point) ? "accepted" : "not the value of 2 - X");
+    }
 }
 
 int main(void) {
-    uint8_t request[sizeof NUMBERS];
-    for (size_t i = 0; i < sizeof NUMBERS / sizeof NUMBERS[0]; i++) {
-        put(request + 4 * i, NUMBERS[i]);
-    }
+    static const uint8_t NO_CONTEXT[4] = {0};
+    uint8_t commitment[DIGEST], point[POINT], *answer = NULL;
+    struct flat request = {.length = 0}, front = {.length = 0};
+    size_t room = 1 << 16, length;
 
-    size_t room = 64, length;
-    uint8_t *answer = malloc(room);
-    int status = answer ? p3_fri_open(request, sizeof request, answer, room, &length)
-                        : P3_FRI_OUT_OF_MEMORY;
-    if (status == P3_FRI_BUFFER_TOO_SHORT) {
-        room = length;
+    put_bytes(&request, NO_CONTEXT, sizeof NO_CONTEXT);
+    put_request(&request, NULL);
+    int status = p3_fri_commit(request.bytes, request.length, commitment, DIGEST, &length);
+    if (status == P3_FRI_ANSWERED) {
+        status = draw(commitment, point);
+    }
+    if (status == P3_FRI_ANSWERED) {
+        request.length = 0;
+        put_context(&request, commitment);
+        put_request(&request, point);
+        status = P3_FRI_BUFFER_TOO_SHORT;
+    }
+    while (status == P3_FRI_BUFFER_TOO_SHORT) {
         free(answer);
         answer = malloc(room);
-        status = answer ? p3_fri_open(request, sizeof request, answer, room, &length)
+        status = answer ? p3_fri_open(request.bytes, request.length, answer, room, &length)
                         : P3_FRI_OUT_OF_MEMORY;
+        room = length;
     }
     if (status != P3_FRI_ANSWERED) {
-        return fail("open", status, answer, answer ? length : 0);
+        fprintf(stderr, "status %d\n", status);
+        free(answer);
+        return EXIT_FAILURE;
     }
-    printf("%u\n", (unsigned)get(answer + VALUE_AT));
 
-    uint8_t reply[256];
-    size_t reply_length;
-    status = p3_fri_verify(answer + 16, length - 16, reply, sizeof reply, &reply_length);
-    if (status != P3_FRI_ANSWERED) {
-        return fail("verify", status, reply, reply_length);
-    }
-    puts("accepted");
-
-    put(answer + VALUE_AT, 2013265917);
-    status = p3_fri_verify(answer + 16, length - 16, reply, sizeof reply, &reply_length);
-    printf("status %d: %.*s\n", status, (int)reply_length, (const char *)reply);
+    /* The commitment and the statement are sent; the next challenge before it isn't. */
+    uint8_t *statement = answer + 16;
+    length -= 16;
+    verify(commitment, statement, length);
+    put_front(&front, commitment, point);
+    statement[front.length] ^= 1;
+    verify(commitment, statement, length);
+    statement[front.length] ^= 1;
+    commitment[0] ^= 1;
+    verify(commitment, statement, length);
     free(answer);
-    return status == P3_FRI_REFUSED ? EXIT_SUCCESS : EXIT_FAILURE;
+    return EXIT_SUCCESS;
 }

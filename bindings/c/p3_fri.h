@@ -8,6 +8,15 @@
  * of `answer`. `*needed` then is how many bytes that takes; there is no byte 0 after them, and bytes
  * past them stay. What comes back is one of the statuses below.
  *
+ * An accepted statement says, but for an error that its parameters bound, that the claimed values
+ * are those of the polynomials committed to, at the claimed points. Its context, parameters,
+ * commitments, domains, widths and points are absorbed before anything is drawn, so none of them
+ * can be chosen by what is drawn. That they are what an application needs them to be is the
+ * application's to see to. It keeps bytes, its context: a name and version that no other has, all
+ * that is public, each commitment once it is made, and each challenge that was drawn, in a form
+ * that can be read in one way alone. It draws challenges and points after these bytes by
+ * `p3_fri_challenge`, and opens with them as the context. A verifier makes these bytes by itself.
+ *
  * The caller owns all memory that is passed; no pointer is kept once a call returns. No pointer is
  * null, also where its length is 0, and the three don't overlap. Memory inside a call comes from
  * malloc, and is given back before it returns. No call stops the program. Calls share nothing, so
@@ -37,21 +46,27 @@ enum p3_fri_status {
     P3_FRI_BUFFER_TOO_SHORT = 4
 };
 
-/* Commits to the matrices of a request: 32 bytes for each commitment. */
+/* Commits to the matrices of a request: 32 bytes for each commitment. Context and points of the
+ * request say nothing here. */
 uint8_t p3_fri_commit(const uint8_t *request, size_t request_length,
                       uint8_t *answer, size_t answer_length, size_t *needed);
 
-/* Commits to the matrices of a request, and opens them at its points: the four numbers of the next
- * challenge, then a statement, which `p3_fri_verify` accepts. */
+/* Commits to the matrices of a request, and opens them at its points under its context: the four
+ * numbers of the next challenge, then a statement, which `p3_fri_verify` accepts. */
 uint8_t p3_fri_open(const uint8_t *request, size_t request_length,
                     uint8_t *answer, size_t answer_length, size_t *needed);
 
 /* Verifies a statement: the four numbers of the next challenge, the same as `p3_fri_open`'s. A
- * statement names its own parameters, commitments and points: whoever relies on it being accepted
- * compares these with the expected ones. They are at its front, in a form that is the only one of
- * what it says, so it is enough to compare bytes. */
+ * statement names its own context, parameters, commitments, domains and points: whoever relies on
+ * it being accepted compares these with the expected ones. They stand before the proof, in a form
+ * that is the only one of what it says, so it is enough to compare bytes. */
 uint8_t p3_fri_verify(const uint8_t *statement, size_t statement_length,
                       uint8_t *answer, size_t answer_length, size_t *needed);
+
+/* Draws a challenge after a context: the four numbers of an element of the extension. The bytes of
+ * the context, any bytes, are the whole request. */
+uint8_t p3_fri_challenge(const uint8_t *context, size_t context_length,
+                         uint8_t *answer, size_t answer_length, size_t *needed);
 
 #ifdef __cplusplus
 }
