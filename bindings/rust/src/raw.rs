@@ -127,7 +127,7 @@ mod tests {
 
     /// The statement that the request's opening is.
     fn statement(num_queries: u32) -> Vec<u8> {
-        Call::Open.answer(&request(num_queries), 5000).unwrap().split_off(16)
+        Call::Open.answer(&request(num_queries), 20000).unwrap().split_off(16)
     }
 
     #[test]

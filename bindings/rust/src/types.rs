@@ -76,9 +76,9 @@ impl Parameters {
     /// `log_blowup` for each query, and the proof of work before the queries. The other two proofs
     /// of work don't count.
     ///
-    /// Only the sum is the library's; what it says of soundness isn't proved, and what is proved of
-    /// FRI elsewhere is less. Nor does the sum see other bounds: the extension has some `2^123`
-    /// elements, and a collision of the digests takes some `2^128` attempts.
+    /// Only the sum is the library's. What it says of soundness is a conjecture, and what is proved
+    /// of FRI gives fewer bits. Nor does the sum see what bounds it elsewhere: the extension has
+    /// some `2^123` elements, and a collision of the digests takes some `2^128` attempts.
     pub const fn conjectured_soundness_bits(&self) -> u64 {
         self.log_blowup as u64 * self.num_queries as u64 + self.query_proof_of_work_bits as u64
     }

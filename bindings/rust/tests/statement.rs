@@ -175,10 +175,10 @@ fn a_context_is_any_bytes() {
 fn challenges_are_drawn_between_commitments() {
     let first = vec![column([1, 3])];
     let mut transcript = Transcript::new(CONTEXT);
-    transcript.absorb(&commit(&PARAMETERS, &[first.clone()]).unwrap()[0]);
+    transcript.absorb(&commit(&PARAMETERS, std::slice::from_ref(&first)).unwrap()[0]);
     let alpha = transcript.challenge().unwrap();
     let second = vec![column([alpha[0], alpha[1]])];
-    transcript.absorb(&commit(&PARAMETERS, &[second.clone()]).unwrap()[0]);
+    transcript.absorb(&commit(&PARAMETERS, std::slice::from_ref(&second)).unwrap()[0]);
     let zeta = transcript.challenge().unwrap();
     let batches = [first, second].map(|mut matrices| {
         matrices[0].points = vec![zeta];
