@@ -203,6 +203,7 @@ mod tests {
             absorbed(b"", &[b"", b"ab"]),
             absorbed(b"", &[b"ab", b""]),
             // as parts look like
+            absorbed(b"", &[b"a\x01b"]),
             absorbed(b"", &[b"a\x01\0\0\0\0\0\0\0\x01b"]),
             absorbed(b"", &[b"abcdabcdabcdabcd"]),
             with_drawn,

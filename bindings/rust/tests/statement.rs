@@ -155,6 +155,44 @@ fn an_opening_of_constants_fits_all_contexts() {
     assert!(is_refused(&PARAMETERS, CONTEXT, &claims, &opening));
 }
 
+/// The witness of the proof of work before the first challenge.
+fn first_witness(parameters: &Parameters, context: &[u8], matrix: Matrix) -> String {
+    let opening = open(parameters, context, &[vec![matrix]]).unwrap();
+    let of_point = &opening.claims[0].matrices[0].points[0];
+    assert_eq!(of_point.values, [[2013265918, 0, 0, 0]]);
+    let text = std::str::from_utf8(opening.proof.as_json()).unwrap();
+    let (_, witness) = text.split_once("\"batch_pow_witness\":").unwrap();
+    witness.split_once(',').unwrap().0.to_string()
+}
+
+/// Openings with the same value, -3. What is searched for before anything is drawn depends on all
+/// that they differ in, a commitment by itself too.
+#[test]
+fn all_of_a_statement_comes_before_the_first_challenge() {
+    let parameters = Parameters { batch_proof_of_work_bits: 12, ..PARAMETERS };
+    let arity = Parameters { max_log_arity: 2, ..parameters };
+    let queries = Parameters { num_queries: 41, ..parameters };
+    let work = Parameters { query_proof_of_work_bits: 1, ..parameters };
+    let at = |point| Matrix { points: vec![point], ..column([2013265918; 2]) };
+    let constant = at([5, 0, 0, 0]);
+    let line = Matrix { values: vec![1, 3], ..constant.clone() };
+    let shifted = Matrix { domain: Domain { shift: 31, log_size: 1 }, ..constant.clone() };
+    let witnesses = [
+        first_witness(&parameters, CONTEXT, constant.clone()),
+        first_witness(&parameters, b"another", constant.clone()),
+        first_witness(&arity, CONTEXT, constant.clone()),
+        first_witness(&queries, CONTEXT, constant.clone()),
+        first_witness(&work, CONTEXT, constant),
+        first_witness(&parameters, CONTEXT, line),
+        first_witness(&parameters, CONTEXT, shifted),
+        first_witness(&parameters, CONTEXT, at([6, 0, 0, 0])),
+        first_witness(&parameters, CONTEXT, at([5, 0, 0, 1])),
+    ];
+    for (index, witness) in witnesses.iter().enumerate() {
+        assert!(!witnesses[index + 1..].contains(witness), "{witnesses:?}");
+    }
+}
+
 #[test]
 fn a_context_may_be_long() {
     let context = vec![0xa5; 1 << 20];
