@@ -108,6 +108,7 @@ fn open_request(alloc: Global, request: &Request) -> Result<String, Failure> {
         Err(error) => return Err(Failure::Request(error)),
     };
     let answer = Answer {
+        context: &request.context,
         parameters: request.parameters,
         claims: opening.claims,
         proof: to_plain(alloc, &opening.proof)?,
@@ -130,12 +131,13 @@ pub fn open(alloc: Global, text: &str) -> Result<String, Failure> {
 pub fn verify(alloc: Global, text: &str) -> Result<Vec<u64>, Failure> {
     let statement: Statement = serde_json::from_str(alloc, text)?;
     let Statement {
+        context,
         parameters,
         claims,
         proof,
     } = statement;
     let verified = match from_plain(alloc, proof) {
-        Ok(proof) => fri_requests::verify(alloc, &parameters, &claims, &proof),
+        Ok(proof) => fri_requests::verify(alloc, &context, &parameters, &claims, &proof),
         Err(error) => Err(error.into()),
     };
     match verified {

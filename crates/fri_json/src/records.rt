@@ -6,7 +6,9 @@ use serde::{Deserialize, Serialize};
 
 /// What comes of opening a request.
 #[derive(Drop, Serialize)]
-pub(crate) struct Answer {
+pub(crate) struct Answer<'a> {
+    /// In hex.
+    pub context: &'a str,
     pub parameters: Parameters,
     pub claims: Vec<BatchClaims>,
     pub proof: PlainFriProof,
@@ -14,9 +16,12 @@ pub(crate) struct Answer {
     pub next_challenge: Vec<u64>,
 }
 
-/// What is verified: an answer's parameters, claims and proof.
+/// What is verified: an answer's context, parameters, claims and proof.
 #[derive(Drop, Deserialize)]
 pub(crate) struct Statement {
+    /// In hex; empty if it isn't there.
+    #[serde(default)]
+    pub context: String,
     pub parameters: Parameters,
     pub claims: Vec<BatchClaims>,
     pub proof: PlainFriProof,

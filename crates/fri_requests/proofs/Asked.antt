@@ -2,6 +2,7 @@
 -- opened.
 use Rattle.std.proofs.Common.{◌≡◌, ◌≢◌, ℕ, ◌+◌, ◌≤◌, List, [], ◌∷◌, map, length, All, refl, sym}
 use Rattle.std.proofs.Common.{subst, ap, ap₂, ◌∙◌, ◌++◌, length-append}
+use Rattle.std.specs.Prelude.{string_bytes}
 use Rattle.std.specs.List.{AllZip, flat_map}
 use Rattle.std.proofs.lemmas.List.{length-map}
 use Rattle.std.proofs.lemmas.List.Folds.{flat_map-map}
@@ -11,7 +12,6 @@ use Rattle.algebra.proofs.Lists.{Each, each_from_All, All_from_each, head_eq, ta
 use Rattle.p3_baby_bear.specs.declared.baby_bear.BabyBear.{BabyBear}
 use Rattle.p3_baby_bear.specs.declared.baby_bear4.BabyBear4.{BabyBear4}
 use Rattle.p3_challenger_sha256.specs.declared.sha256_challenger.Sha256Challenger.{Sha256Challenger}
-use Rattle.p3_challenger_sha256.specs.Sha256.{start}
 use Rattle.p3_mmcs.specs.declared.sha256_mmcs.prover_data.Sha256ProverData.{Sha256ProverData}
 use Rattle.p3_mmcs.specs.ProverData.{matrices_of}
 use Rattle.p3_pcs.specs.declared.requests.OpeningRequest.{OpeningRequest}
@@ -30,8 +30,10 @@ use Rattle.fri_requests.specs.declared.records.Matrix.{Matrix}
 use Rattle.fri_requests.specs.declared.records.Batch.{Batch}
 use Rattle.fri_requests.specs.declared.records.Request.{Request}
 use Rattle.fri_requests.specs.declared.committed.Committed.{Committed}
+use Rattle.fri_requests.specs.Bound.{IsContext, context_listed, batch_asked, bound}
 use Rattle.fri_requests.specs.Records.{parameters_in}
-use Rattle.fri_requests.specs.Numbers.{coefficient_numbers, extension_of, IsExtensionElement}
+use Rattle.fri_statement.specs.Numbers.{coefficient_numbers}
+use Rattle.fri_requests.specs.Numbers.{extension_of, IsExtensionElement}
 use Rattle.fri_requests.specs.Setting.{fields}
 use Rattle.fri_requests.specs.Matrices.{held_listed}
 use Rattle.fri_requests.specs.Commitments.{IsKept, Keeps}
@@ -88,7 +90,7 @@ has_points zs m some e = record {
   elements = subst (λ ns. All IsExtensionElement ns) e (every_is_extension zs);
 }
 
-have_points : (pss : List (List (List BabyBear4))) (batches : List Batch)
+pub have_points : (pss : List (List (List BabyBear4))) (batches : List Batch)
     → map numbers_in pss ≡ map numbers_of batches → HavePoints pss → AllMatrices HasPoints batches
 have_points pss batches e some =
     all_read numbers_in numbers_of (λ ps. All (λ zs. zs ≢ []) ps)
@@ -232,23 +234,31 @@ module _ (r : Request) (cs : List Committed) (pss : List (List (List BabyBear4))
     (e : map (map (map coefficient_numbers)) pss
     ≡ map (λ batch. map (λ m. lists m.points.items) batch.matrices.items) r.commitments.items)
   where
-    pub can_open : CanCommit r → HavePoints pss → HaveMatrix cs → CanOpen r
-    can_open commits some kept = record {
+    pub can_open : IsContext (string_bytes r.context) → CanCommit r → HavePoints pss → HaveMatrix cs
+        → CanOpen r
+    can_open context commits some kept = record {
+      context = context;
       committed = commits;
       points = have_points pss r.commitments.items e some;
       some_matrix = matrix_listed r.parameters.log_blowup cs r.commitments.items pairs kept;
     }
 
-    pub refused_request : CanCommit r → HavePoints pss → (p : setting.Parameters)
-        (c : Sha256Challenger) → p ≡ parameters_in r.parameters → c ≡ start → (x : FriProverError)
+    -- the state that is bound to the request, once these are kept
+    abbrev at_start : Sha256Challenger
+    at_start = bound (context_listed (string_bytes r.context)) (parameters_in r.parameters)
+        (zip_with batch_asked (map (λ k. k.commitment) cs) r.commitments.items)
+
+    pub refused_request : IsContext (string_bytes r.context) → CanCommit r → HavePoints pss
+        → (p : setting.Parameters) (c : Sha256Challenger) → p ≡ parameters_in r.parameters
+        → c ≡ at_start → (x : FriProverError)
         → HaveMatrix cs × Refuses p c (zip_with (λ k zs. request_for k.data zs) cs pss) x
         → IsRefusedRequest r x
-    refused_request commits some p c same fresh x h = record {
-      request_opens = can_open commits some h.0;
+    refused_request context commits some p c same begins x h = record {
+      request_opens = can_open context commits some h.0;
       kept = cs;
       keeps = pairs;
-      refused = subst (λ zss. Refuses (parameters_in r.parameters) start (asked cs zss) x)
+      refused = subst (λ zss. Refuses (parameters_in r.parameters) at_start (asked cs zss) x)
           (points_again pss r.commitments.items e)
-          (subst (λ d. Refuses (parameters_in r.parameters) d (asked cs pss) x) fresh
+          (subst (λ d. Refuses (parameters_in r.parameters) d (asked cs pss) x) begins
           (subst (λ q. Refuses q c (asked cs pss) x) same h.1));
     }

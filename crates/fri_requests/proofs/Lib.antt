@@ -1,4 +1,5 @@
 pub mod Asked
+pub mod Bound
 pub mod Failed
 pub mod Kept
 pub mod Listed

@@ -15,7 +15,8 @@ use Rattle.p3_pcs.specs.Claims.{PointClaim, MatrixClaim, Claim}
 use Rattle.p3_fri_openings.proofs.First.{at_item}
 use Rattle.p3_fri_completeness.specs.Requests as relation
 use Rattle.fri_requests.specs.declared.records.BatchClaims.{BatchClaims}
-use Rattle.fri_requests.specs.Numbers.{canonical_number, coefficient_numbers, extension_of}
+use Rattle.fri_statement.specs.Numbers.{canonical_number, coefficient_numbers}
+use Rattle.fri_requests.specs.Numbers.{extension_of}
 use Rattle.fri_requests.specs.Numbers.{IsElement, IsExtensionElement}
 use Rattle.fri_requests.specs.Claims.{point_numbers, matrix_numbers, batch_numbers, batch_listed}
 use Rattle.fri_requests.specs.Statements.{IsCoset, IsPointClaim, IsMatrixClaim, IsClaim, AreClaims}

@@ -17,7 +17,8 @@ use Rattle.fri_requests.specs.declared.records.Matrix.{Matrix}
 use Rattle.fri_requests.specs.declared.records.Batch.{Batch}
 use Rattle.fri_requests.specs.declared.records.Domain.{Domain}
 use Rattle.fri_requests.specs.declared.committed.Committed.{Committed}
-use Rattle.fri_requests.specs.Numbers.{coefficient_numbers, extension_of}
+use Rattle.fri_statement.specs.Numbers.{coefficient_numbers}
+use Rattle.fri_requests.specs.Numbers.{extension_of}
 use Rattle.fri_requests.specs.Claims.{PointNumbers, point_numbers, matrix_numbers, batch_numbers}
 use Rattle.fri_requests.specs.Setting.{fields}
 use Rattle.fri_requests.specs.Matrices.{held_listed, values_listed}
@@ -92,7 +93,7 @@ module _ (b : ℕ) where
       ∙ length-map batches (λ batch. map (λ m. lists m.points.items) batch.matrices.items)
       ∙ AllZip-long (Keeps b) cs batches pairs
 
-abbrev numbers_at : Matrix → List ℕ → PointNumbers
+abbrev pub numbers_at : Matrix → List ℕ → PointNumbers
 numbers_at m z = record { point = z; values = map coefficient_numbers (values_listed m (extension_of z)) }
 
 points_opened : (h : Held BabyBear4) (m : Matrix) → HasPolynomials h (held_listed m) → (ps : List BabyBear4)
@@ -104,7 +105,7 @@ points_opened h m same (p ∷ ps) =
     (points_opened h m same ps)
 
 module _ {Coset : Type 0} (shift_of : Coset → BabyBear) (log_size_of : Coset → ℕ) where
-  matrices_opened : (domains : List Coset) (ms : List Matrix) (hs : List (Held BabyBear4)) (pss : List (List BabyBear4))
+  pub matrices_opened : (domains : List Coset) (ms : List Matrix) (hs : List (Held BabyBear4)) (pss : List (List BabyBear4))
       → map (λ d. domain_of (shift_of d) (log_size_of d)) domains ≡ map (λ m. m.domain) ms
       → AllZip HasPolynomials hs (map held_listed ms)
       → map (map coefficient_numbers) pss ≡ map (λ m. lists m.points.items) ms

@@ -5,7 +5,6 @@ use Rattle.p3_baby_bear.specs.declared.baby_bear.BabyBear.{BabyBear}
 use Rattle.p3_baby_bear.specs.declared.baby_bear4.BabyBear4.{BabyBear4}
 use Rattle.p3_mmcs.specs.declared.sha256_mmcs.error.Sha256MmcsError.{Sha256MmcsError}
 use Rattle.p3_challenger_sha256.specs.declared.sha256_challenger.Sha256Challenger.{Sha256Challenger}
-use Rattle.p3_challenger_sha256.specs.Sha256.{start}
 use Rattle.p3_fri_relation.specs.Setting.{Proof, CommitmentClaim}
 use Rattle.p3_fri_relation.specs.Setting as setting
 use Rattle.p3_fri_relation.specs.Acceptance.{Accepts}
@@ -16,37 +15,42 @@ use Rattle.p3_fri_relation.specs.declared.error.FriError.{FriError}
 use Rattle.p3_fri_two_adic.specs.Ends.{last_state}
 use Rattle.fri_requests.specs.declared.records.Parameters.{Parameters}
 use Rattle.fri_requests.specs.declared.records.BatchClaims.{BatchClaims}
+use Rattle.fri_requests.specs.Bound.{state_bound}
 use Rattle.fri_requests.specs.Records.{parameters_in}
-use Rattle.fri_requests.specs.Numbers.{coefficient_numbers}
+use Rattle.fri_statement.specs.Numbers.{coefficient_numbers}
 use Rattle.fri_requests.specs.Setting.{sha256_setting, sha256_moves}
 use Rattle.fri_requests.specs.Statements.{IsStatement, claims_listed}
 use Rattle.fri_requests.specs.Accepted.{IsAccepted, IsRefused}
 
-module _ {X Y : Type 0} (parameters : Parameters) (records : List BatchClaims)
+module _ {X Y : Type 0} (context : List ℕ) (parameters : Parameters) (records : List BatchClaims)
     (proof : Proof BabyBear BabyBear4 (List ℕ) (Vec (Vec (List ℕ) X) Y) (Vec (Vec (List ℕ) X) Y))
     (p : setting.Parameters) (claims : List (CommitmentClaim BabyBear4 (List ℕ)))
     (c : Sha256Challenger) (same : p ≡ parameters_in parameters)
-    (listed : claims ≡ claims_listed records) (fresh : c ≡ start)
-    (statement : IsStatement parameters records) where
+    (listed : claims ≡ claims_listed records) (begins : c ≡ state_bound context parameters records)
+    (statement : IsStatement context parameters records) where
+  -- where the statement is absorbed
+  abbrev at_start : Sha256Challenger
+  at_start = state_bound context parameters records
+
   abbrev At : Type 1
   At = setting.Parameters → List (CommitmentClaim BabyBear4 (List ℕ)) → Sha256Challenger → Type 0
 
-  moved : (P : At) → P p claims c → P (parameters_in parameters) (claims_listed records) start
+  moved : (P : At) → P p claims c → P (parameters_in parameters) (claims_listed records) at_start
   moved P h =
-      subst (λ d. P (parameters_in parameters) (claims_listed records) d) fresh
+      subst (λ d. P (parameters_in parameters) (claims_listed records) d) begins
       (subst (λ cs. P (parameters_in parameters) cs c) listed (subst (λ q. P q claims c) same h))
 
-  moved_back : (P : At) → P (parameters_in parameters) (claims_listed records) start → P p claims c
+  moved_back : (P : At) → P (parameters_in parameters) (claims_listed records) at_start → P p claims c
   moved_back P h =
       subst (λ q. P q claims c) (sym same)
       (subst (λ cs. P (parameters_in parameters) cs c) (sym listed)
-      (subst (λ d. P (parameters_in parameters) (claims_listed records) d) (sym fresh) h))
+      (subst (λ d. P (parameters_in parameters) (claims_listed records) d) (sym begins) h))
 
   pub accepted : (last : Sha256Challenger) (next : List ℕ)
       → Accepts sha256_setting p claims proof c
       → last ≡ last_state sha256_setting p claims proof c
       → next ≡ coefficient_numbers (sha256_moves.draw_element last).value
-      → IsAccepted parameters records proof next
+      → IsAccepted context parameters records proof next
   accepted last next holds ends drawn = record {
     statement = statement;
     holds = moved (λ q cs d. Accepts sha256_setting q cs proof d) holds;
@@ -56,7 +60,7 @@ module _ {X Y : Type 0} (parameters : Parameters) (records : List BatchClaims)
 
   pub refused : (e : FriError Sha256MmcsError Sha256MmcsError)
       → (¬ Accepts sha256_setting p claims proof c)
-      × StandsInScheme sha256_setting p claims proof c e → IsRefused parameters records proof e
+      × StandsInScheme sha256_setting p claims proof c e → IsRefused context parameters records proof e
   refused e h = record {
     statement = statement;
     fails = λ holds. h.0 (moved_back (λ q cs d. Accepts sha256_setting q cs proof d) holds);

@@ -4,7 +4,7 @@ use Rattle.std.specs.declared.vec.Vec.{Vec}
 use Rattle.p3_baby_bear.specs.declared.baby_bear.BabyBear.{BabyBear}
 use Rattle.p3_baby_bear.specs.declared.baby_bear4.BabyBear4.{BabyBear4}
 use Rattle.p3_mmcs.specs.declared.sha256_mmcs.error.Sha256MmcsError.{Sha256MmcsError}
-use Rattle.p3_challenger_sha256.specs.Sha256.{start}
+use Rattle.p3_challenger_sha256.specs.declared.sha256_challenger.Sha256Challenger.{Sha256Challenger}
 use Rattle.p3_fri_relation.specs.Setting.{Proof}
 use Rattle.p3_fri_relation.specs.Acceptance.{Accepts}
 use Rattle.p3_fri_relation.specs.Faults.{StandsInScheme}
@@ -12,33 +12,39 @@ use Rattle.p3_fri_relation.specs.declared.error.FriError.{FriError}
 use Rattle.p3_fri_two_adic.specs.Ends.{last_state}
 use Rattle.fri_requests.specs.declared.records.Parameters.{Parameters}
 use Rattle.fri_requests.specs.declared.records.BatchClaims.{BatchClaims}
-use Rattle.fri_requests.specs.Numbers.{coefficient_numbers}
+use Rattle.fri_statement.specs.Numbers.{coefficient_numbers}
+use Rattle.fri_requests.specs.Bound.{state_bound}
 use Rattle.fri_requests.specs.Records.{parameters_in}
 use Rattle.fri_requests.specs.Setting.{sha256_setting, sha256_moves}
 use Rattle.fri_requests.specs.Statements.{IsStatement, claims_listed}
 
-module _ {X Y : Type 0} (parameters : Parameters) (records : List BatchClaims)
+-- of a context, as a hex text
+module _ {X Y : Type 0} (context : List ℕ) (parameters : Parameters) (records : List BatchClaims)
     (proof : Proof BabyBear BabyBear4 (List ℕ) (Vec (Vec (List ℕ) X) Y) (Vec (Vec (List ℕ) X) Y))
   where
-    -- the scheme's relation holds of the claims that the records list, from the fresh challenger
+    -- the state in which a fresh challenger has absorbed the statement
+    abbrev pub begins : Sha256Challenger
+    begins = state_bound context parameters records
+
+    -- the scheme's relation holds of the claims that the records list, from that state
     abbrev pub Holds : Type 0
-    Holds = Accepts sha256_setting (parameters_in parameters) (claims_listed records) proof start
+    Holds = Accepts sha256_setting (parameters_in parameters) (claims_listed records) proof begins
 
     -- the element of the extension that is drawn after the proof, by its coefficients' numbers
     abbrev pub drawn_next : List ℕ
     drawn_next = coefficient_numbers (sha256_moves.draw_element
-        (last_state sha256_setting (parameters_in parameters) (claims_listed records) proof start)
-        ).value
+        (last_state sha256_setting (parameters_in parameters) (claims_listed records) proof
+        begins)).value
 
     -- a statement that is accepted, and what is drawn next
     pub record IsAccepted (next : List ℕ) : Type 0 where
-      pub statement : IsStatement parameters records
+      pub statement : IsStatement context parameters records
       pub holds : Holds
       pub drawn : next ≡ drawn_next
 
     -- a statement that isn't, and a fault that it has
     pub record IsRefused (e : FriError Sha256MmcsError Sha256MmcsError) : Type 0 where
-      pub statement : IsStatement parameters records
+      pub statement : IsStatement context parameters records
       pub fails : ¬ Holds
       pub fault : StandsInScheme sha256_setting (parameters_in parameters) (claims_listed records)
-          proof start e
+          proof begins e

@@ -13,7 +13,7 @@ use Rattle.p3_fri_completeness.specs.Requests.{held_in, held_of, HoldsWords}
 use Rattle.fri_requests.specs.declared.records.Batch.{Batch}
 use Rattle.fri_requests.specs.declared.records.Domain.{Domain}
 use Rattle.fri_requests.specs.declared.committed.Committed.{Committed}
-use Rattle.fri_requests.specs.Numbers.{canonical_number}
+use Rattle.fri_statement.specs.Numbers.{canonical_number}
 use Rattle.fri_requests.specs.Setting.{fields}
 use Rattle.fri_requests.specs.Matrices.{held_listed}
 

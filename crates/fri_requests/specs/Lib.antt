@@ -1,4 +1,5 @@
 pub mod Accepted
+pub mod Bound
 pub mod Claims
 pub mod Commitments
 pub mod Failures

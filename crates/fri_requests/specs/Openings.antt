@@ -5,7 +5,8 @@ use Rattle.p3_baby_bear.specs.declared.baby_bear4.BabyBear4.{BabyBear4}
 use Rattle.p3_pcs.specs.Requests.{Request}
 use Rattle.fri_requests.specs.declared.records.Matrix.{Matrix}
 use Rattle.fri_requests.specs.declared.records.Batch.{Batch}
-use Rattle.fri_requests.specs.Numbers.{coefficient_numbers, extension_of}
+use Rattle.fri_statement.specs.Numbers.{coefficient_numbers}
+use Rattle.fri_requests.specs.Numbers.{extension_of}
 use Rattle.fri_requests.specs.Claims.{MatrixNumbers, BatchNumbers}
 use Rattle.fri_requests.specs.Matrices.{values_listed}
 use Rattle.fri_requests.specs.Commitments.{IsCommitmentTo}

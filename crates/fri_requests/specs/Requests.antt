@@ -1,5 +1,6 @@
 -- Which requests can be committed to and opened, and which the scheme refuses to open.
 use Rattle.std.specs.Prelude.{◌≢◌, ◌≡◌, ℕ, ◌*◌, ◌-◌, ◌^◌, ◌<◌, ◌≤◌, List, [], map, length, All}
+use Rattle.std.specs.Prelude.{string_bytes}
 use Rattle.std.specs.List.{AllZip, flat_map}
 use Rattle.std.specs.declared.alloc.Global.{Global}
 use Rattle.algebra.specs.Nested.{lists}
@@ -9,7 +10,7 @@ use Rattle.p3_baby_bear.specs.declared.baby_bear4.BabyBear4.{BabyBear4}
 use Rattle.p3_baby_bear.specs.BabyBear.{number_bytes}
 use Rattle.p3_baby_bear.specs.BabyBear4.{coefficient_bytes}
 use Rattle.p3_challenger_sha256.specs.declared.sha256_challenger.Sha256Challenger.{Sha256Challenger}
-use Rattle.p3_challenger_sha256.specs.Sha256.{start, least_witness}
+use Rattle.p3_challenger_sha256.specs.Sha256.{least_witness}
 use Rattle.p3_mmcs.specs.declared.sha256_mmcs.prover_data.Sha256ProverData.{Sha256ProverData}
 use Rattle.p3_mmcs.specs.ProverData.{matrices_of, root_over}
 use Rattle.p3_pcs.specs.Claims.{zip_with}
@@ -26,6 +27,7 @@ use Rattle.fri_requests.specs.declared.records.Request.{Request}
 use Rattle.fri_requests.specs.declared.committed.Committed.{Committed}
 use Rattle.fri_requests.specs.Numbers.{extension_of, IsElement, IsExtensionElement}
 use Rattle.fri_requests.specs.Records.{parameters_in}
+use Rattle.fri_requests.specs.Bound.{IsContext, context_listed, batch_asked, bound}
 use Rattle.fri_requests.specs.Statements.{IsCoset}
 use Rattle.fri_requests.specs.Commitments.{Keeps}
 use Rattle.fri_requests.specs.Openings.{request_for}
@@ -58,8 +60,9 @@ pub record CanCommit (request : Request) : Type 0 where
   pub parameters : AreProvers request.parameters
   pub matrices : AllMatrices (IsMatrix request.parameters.log_blowup) request.commitments.items
 
--- and opened: each matrix has points, and there is some matrix
+-- and opened: the context is bytes, each matrix has points, and there is some matrix
 pub record CanOpen (request : Request) : Type 0 where
+  pub context : IsContext (string_bytes request.context)
   pub committed : CanCommit request
   pub points : AllMatrices HasPoints request.commitments.items
   pub some_matrix : flat_map (λ b. b.matrices.items) request.commitments.items ≢ []
@@ -93,10 +96,12 @@ abbrev pub HaveMatrix : List Committed → Type 0
 HaveMatrix kept = flat_map (λ c. matrices_of c.data) kept ≢ []
 
 -- a request that can be opened, and isn't: what is kept of its batches, at the points that they
--- list, the scheme refuses to open from the fresh challenger for this reason
+-- list, the scheme refuses to open for this reason, from the state that is bound to the request
 pub record IsRefusedRequest (request : Request) (e : FriProverError) : Type 0 where
   pub request_opens : CanOpen request
   pub kept : List Committed
   pub keeps : AllZip (Keeps request.parameters.log_blowup) kept request.commitments.items
-  pub refused : Refuses (parameters_in request.parameters) start
+  pub refused : Refuses (parameters_in request.parameters)
+      (bound (context_listed (string_bytes request.context)) (parameters_in request.parameters)
+      (zip_with batch_asked (map (λ c. c.commitment) kept) request.commitments.items))
       (zip_with (λ c zs. request_for c.data zs) kept (points_listed request.commitments.items)) e

@@ -7,6 +7,7 @@ use Rattle.p3_baby_bear.specs.declared.baby_bear4.BabyBear4.{BabyBear4}
 use Rattle.fri_requests.specs.declared.records.Parameters.{Parameters}
 use Rattle.fri_requests.specs.declared.records.BatchClaims.{BatchClaims}
 use Rattle.fri_requests.specs.Records.{parameters_in}
+use Rattle.fri_requests.specs.Bound.{IsContext}
 use Rattle.fri_requests.specs.Numbers.{extension_of, IsElement, IsExtensionElement}
 use Rattle.fri_requests.specs.Claims.{PointNumbers, MatrixNumbers, BatchNumbers, batch_listed}
 
@@ -32,8 +33,10 @@ pub record IsClaim (b : BatchNumbers) : Type 0 where
 abbrev pub AreClaims : List BatchClaims → Type 0
 AreClaims records = All IsClaim (map batch_listed records)
 
--- and the parameters are in the verifier's range
-pub record IsStatement (parameters : Parameters) (records : List BatchClaims) : Type 0 where
+-- and the parameters are in the verifier's range, and the context is bytes
+pub record IsStatement (context : List ℕ) (parameters : Parameters) (records : List BatchClaims)
+    : Type 0 where
+  pub bytes : IsContext context
   pub range : InVerifierRange (parameters_in parameters) 27 63
   pub claims : AreClaims records
 

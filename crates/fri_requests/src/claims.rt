@@ -7,7 +7,7 @@ ghost use Rattle.p3_pcs.specs.Claims.{claim, matrix_claim, point_claim};
 ghost use Rattle.fri_requests.specs.Claims.{point_numbers, matrix_numbers, batch_numbers};
 ghost use Rattle.fri_requests.specs.Claims.{point_listed, matrix_listed, batch_listed};
 ghost use Rattle.fri_requests.specs.Failures.{IfMalformed};
-ghost use Rattle.fri_requests.specs.Numbers.{coefficient_numbers};
+ghost use Rattle.fri_statement.specs.Numbers.{coefficient_numbers};
 ghost use Rattle.fri_requests.specs.Statements.{IsPointClaim, IsMatrixClaim, IsClaim, AreClaims};
 
 use crate::elements::{coefficients, coset, domain, extension_element, extension_elements};

@@ -2,7 +2,7 @@
 
 ghost use Rattle.std.specs.Prelude.{◌≡◌, ◌↔◌, ◌<◌, ◌≤◌, map, length, vec_len};
 ghost use Rattle.std.specs.Prelude.{IsSome, IfSome, IfOk, IfErr, All};
-ghost use Rattle.fri_requests.specs.Numbers.{canonical_number, coefficient_numbers};
+ghost use Rattle.fri_statement.specs.Numbers.{canonical_number, coefficient_numbers};
 ghost use Rattle.fri_requests.specs.Numbers.{IsElement, IsExtensionElement};
 ghost use Rattle.fri_requests.specs.Failures.{IfMalformed};
 ghost use Rattle.fri_requests.specs.Statements.{IsCoset};

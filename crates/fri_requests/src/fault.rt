@@ -48,6 +48,8 @@ pub enum Fault {
     Commitment,
     /// A digest of a proof hasn't 32 bytes.
     Digest,
+    /// A context isn't the hex text of bytes.
+    Context,
 }
 
 impl Fault {
@@ -69,12 +71,13 @@ impl Fault {
             Fault::ExtensionElement => "four numbers below 2013265921",
             Fault::Commitment => "64 hex digits",
             Fault::Digest => "digests of 32 bytes",
+            Fault::Context => "an even number of hex digits",
         }
     }
 }
 
 /// Where in a record, by positions that count from 0: the commitment, its matrix, and of that the
-/// point and the number. Without any it is in the parameters, in the proof or in the whole.
+/// point and the number. Without any it is in the parameters, the context, the proof or the whole.
 #[derive(Clone, Copy, Debug)]
 pub struct Place {
     pub is_in_proof: bool,

@@ -1,6 +1,11 @@
 //! The plain scheme over records of numbers and texts: a request is committed to and opened, claims
 //! and their proof are verified, at BabyBear, its extension of degree 4 and SHA-256, each from a
-//! fresh challenger. serde's formats write and read the records.
+//! fresh challenger that first absorbs the whole statement: context, parameters, commitments,
+//! domains, widths and points. serde's formats write and read the records.
+//!
+//! So what is accepted are values of the polynomials committed to, for this context. A point that
+//! has to be random is drawn after the commitments: by `challenge`, from the bytes of what was sent
+//! so far, which are then the context.
 //!
 //! Whatever comes from outside is tested and refused by name, with its place. No call halts. What a
 //! call takes of time and memory follows from the request: an opening makes `2^log_blowup` values
@@ -16,6 +21,7 @@ mod matrices;
 mod opening;
 mod records;
 mod scheme;
+mod statement;
 mod verification;
 
 pub use crate::committed::commit;
@@ -25,4 +31,5 @@ pub use crate::records::{
     Batch, BatchClaims, Domain, Matrix, MatrixClaims, Parameters, PointClaims, Request,
 };
 pub use crate::scheme::Proof;
+pub use crate::statement::challenge;
 pub use crate::verification::verify;

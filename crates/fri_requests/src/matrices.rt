@@ -10,7 +10,7 @@ ghost use Rattle.p3_fri_two_adic.specs.Chunks.{polynomials_on};
 ghost use Rattle.fri_requests.specs.Commitments.{domain_of};
 ghost use Rattle.fri_requests.specs.Failures.{IfMalformed};
 ghost use Rattle.fri_requests.specs.Matrices.{held_listed};
-ghost use Rattle.fri_requests.specs.Numbers.{coefficient_numbers};
+ghost use Rattle.fri_statement.specs.Numbers.{coefficient_numbers};
 ghost use Rattle.fri_requests.specs.Requests.{IsMatrix, HasPoints};
 ghost use Rattle.fri_requests.specs.Setting.{fields};
 

@@ -1,6 +1,6 @@
 //! Openings of requests.
 
-ghost use Rattle.std.specs.Prelude.{◌≡◌, ◌^◌, All, IfOk, IfErr, length, map};
+ghost use Rattle.std.specs.Prelude.{◌≡◌, ◌^◌, All, IfOk, IfErr, length, map, string_bytes};
 ghost use Rattle.std.specs.List.{AllZip};
 ghost use Rattle.algebra.specs.Nested.{lists, nested};
 ghost use Rattle.p3_mmcs.specs.ProverData.{matrices_of, root_over};
@@ -17,7 +17,7 @@ ghost use Rattle.fri_requests.specs.Accepted.{IsAccepted};
 ghost use Rattle.fri_requests.specs.Claims.{batch_listed};
 ghost use Rattle.fri_requests.specs.Commitments.{IsKept};
 ghost use Rattle.fri_requests.specs.Failures.{IfMalformed, MatchRequestError};
-ghost use Rattle.fri_requests.specs.Numbers.{coefficient_numbers};
+ghost use Rattle.fri_statement.specs.Numbers.{coefficient_numbers};
 ghost use Rattle.fri_requests.specs.Openings.{HavePoints, IsOpened, request_for};
 ghost use Rattle.fri_requests.specs.Requests.{AllMatrices, HasPoints, CanOpen, IsRefusedRequest};
 ghost use Rattle.fri_requests.specs.Requests.{HasLists, HaveMatrix, Refuses};
@@ -29,6 +29,7 @@ use crate::fault::{Fault, Place, ReadError, RequestError};
 use crate::matrices::batch_points;
 use crate::records::{Batch, BatchClaims, Request};
 use crate::scheme::{Claims, Coset, Data, Inputs, Proof, Scheme, proving_scheme};
+use crate::statement::{batches_stated, bound_challenger};
 use crate::verification::next_drawn;
 use p3_challenger_sha256::Sha256Challenger;
 use p3_field::BabyBear4;
@@ -183,11 +184,12 @@ pub struct Opening {
     pub next_challenge: Vec<u64>,
 }
 
-/// Commits to a request's matrices and opens them at its points, from a fresh challenger. `verify`
-/// accepts what comes of it.
+/// Commits to a request's matrices and opens them at its points. The challenger begins with the
+/// whole statement: the context, the parameters, and the commitments with the domains, widths and
+/// points of their matrices. `verify` accepts what comes of it under that context.
 pub fn open(alloc: Global, request: &Request) -> Result<Opening, RequestError>
-    ensures accepted { IfOk result (λ o. IsAccepted request.now.parameters o.claims.items
-        (proof_of o.proof) o.next_challenge.items) }
+    ensures accepted { IfOk result (λ o. IsAccepted (string_bytes request.now.context)
+        request.now.parameters o.claims.items (proof_of o.proof) o.next_challenge.items) }
     ensures opened { IfOk result (λ o. AllZip (IsOpened request.now.parameters.log_blowup)
         (map batch_listed o.claims.items) request.now.commitments.items) }
     ensures well_formed { IfOk result (λ _. CanOpen request.now) }
@@ -202,7 +204,8 @@ pub fn open(alloc: Global, request: &Request) -> Result<Opening, RequestError>
     let points = points_of(alloc, &request.commitments)?;
     let log_blowup = request.parameters.log_blowup;
     let mut all = commit_all(alloc, &mut scheme, log_blowup, &request.commitments)?;
-    let mut challenger = Sha256Challenger::new();
+    let stated = batches_stated(alloc, log_blowup, &all, &points, &request.commitments)?;
+    let mut challenger = bound_challenger(alloc, &request.context, &request.parameters, &stated)?;
     let (claims, proof) = open_committed(
         alloc,
         &scheme,

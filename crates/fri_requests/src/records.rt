@@ -1,6 +1,8 @@
 //! The records that cross a boundary. An element of BabyBear is its canonical number, one of the
-//! extension the list of its four coefficients' numbers, that of one first, and a commitment the
-//! hex text of its 32 bytes.
+//! extension the list of its four coefficients' numbers, that of one first, a commitment the hex
+//! text of its 32 bytes, and a context that of its bytes.
+
+ghost use Rattle.std.specs.Prelude.{◌≡◌, ◌+◌, ◌*◌, ◌^◌, ◌-◌, min};
 
 use serde::{Deserialize, Serialize};
 
@@ -14,6 +16,20 @@ pub struct Parameters {
     pub batch_proof_of_work_bits: usize,
     pub commit_proof_of_work_bits: usize,
     pub query_proof_of_work_bits: usize,
+}
+
+impl Parameters {
+    /// The bits of soundness by the conjecture of [ethSTARK](https://eprint.iacr.org/2021/582):
+    /// those of the queries, and those of the proof of work before them; at most as many as a
+    /// number holds. Only the sum is proved here, and not what it says of soundness.
+    pub fn conjectured_soundness_bits(&self) -> usize
+        ensures { result ≡ min (min (self.now.log_blowup * self.now.num_queries) (2 ^ 64 - 1)
+            + self.now.query_proof_of_work_bits) (2 ^ 64 - 1) }
+    {
+        self.log_blowup
+            .saturating_mul(self.num_queries)
+            .saturating_add(self.query_proof_of_work_bits)
+    }
 }
 
 /// A coset of `2^log_size` points.
@@ -43,6 +59,10 @@ pub struct Batch {
 /// What is committed to and opened.
 #[derive(Drop, Serialize, Deserialize)]
 pub struct Request {
+    /// What the application binds the proof to beside the rest: its name, public data, and what was
+    /// sent before. Empty if it isn't there.
+    #[serde(default)]
+    pub context: String,
     pub parameters: Parameters,
     pub commitments: Vec<Batch>,
 }

@@ -35,11 +35,11 @@ pub type Proof = FriProof<BabyBear4, Rounds, BabyBear, Vec<BatchMultiOpening<Bab
 /// The greatest difficulty: as many bits as the challenger draws at once.
 const GREATEST_DIFFICULTY: usize = 63;
 
-/// The scheme of these parameters.
-fn scheme_of(parameters: &Parameters) -> Scheme
-    ensures { parameters_of result.fri ≡ parameters_in parameters.now }
+/// The parameters of the low-degree test.
+pub(crate) fn fri_of(parameters: &Parameters) -> FriParameters<Rounds>
+    ensures { parameters_of result ≡ parameters_in parameters.now }
 {
-    let fri = FriParameters {
+    FriParameters {
         log_blowup: parameters.log_blowup,
         log_final_poly_len: parameters.log_final_poly_len,
         max_log_arity: parameters.max_log_arity,
@@ -48,8 +48,14 @@ fn scheme_of(parameters: &Parameters) -> Scheme
         commit_proof_of_work_bits: parameters.commit_proof_of_work_bits,
         query_proof_of_work_bits: parameters.query_proof_of_work_bits,
         mmcs: Sha256Mmcs::new(),
-    };
-    TwoAdicFriPcs::new(Radix2Dit::default(), Sha256Mmcs::new(), fri)
+    }
+}
+
+/// The scheme of these parameters.
+fn scheme_of(parameters: &Parameters) -> Scheme
+    ensures { parameters_of result.fri ≡ parameters_in parameters.now }
+{
+    TwoAdicFriPcs::new(Radix2Dit::default(), Sha256Mmcs::new(), fri_of(parameters))
 }
 
 /// Whether the challenger draws as many bits at once as each difficulty.

@@ -2,7 +2,6 @@
 
 ghost use Rattle.std.specs.Prelude.{◌≡◌, map, IsOk, IfOk, IfErr};
 ghost use Rattle.p3_challenger_core.specs.Run.{After};
-ghost use Rattle.p3_challenger_sha256.specs.Sha256.{start};
 ghost use Rattle.p3_pcs.specs.Claims.{claim};
 ghost use Rattle.p3_fri_completeness.specs.Requests.{relation_claims};
 ghost use Rattle.p3_fri_two_adic.specs.Ends.{last_state};
@@ -12,7 +11,7 @@ ghost use Rattle.p3_fri_relation.specs.Views.{parameters_of, proof_of};
 ghost use Rattle.p3_fri_two_adic.specs.Ranges.{InVerifierRange};
 ghost use Rattle.fri_requests.specs.Accepted.{IsAccepted, IsRefused};
 ghost use Rattle.fri_requests.specs.Failures.{MatchVerifyError};
-ghost use Rattle.fri_requests.specs.Numbers.{coefficient_numbers};
+ghost use Rattle.fri_statement.specs.Numbers.{coefficient_numbers};
 ghost use Rattle.fri_requests.specs.Setting.{sha256_setting, sha256_moves};
 ghost use Rattle.fri_requests.specs.Statements.{IsStatement};
 
@@ -21,6 +20,7 @@ use crate::elements::coefficients;
 use crate::fault::VerifyError;
 use crate::records::{BatchClaims, Parameters};
 use crate::scheme::{Claims, Proof, Scheme, verifying_scheme};
+use crate::statement::{bound_challenger, claims_stated};
 use p3_challenger_core::FieldChallenger;
 use p3_challenger_sha256::Sha256Challenger;
 use p3_field::{BabyBear, BabyBear4};
@@ -72,27 +72,32 @@ pub(crate) fn next_drawn(
     coefficients(alloc, next)
 }
 
-/// Verifies claims and their proof from a fresh challenger, and answers what the challenger draws
-/// next: of what `open` answers its `next_challenge`.
+/// Verifies claims and their proof, and answers what the challenger draws next: of what `open`
+/// answers its `next_challenge`. The challenger begins with the whole statement: the context, a hex
+/// text, the parameters, and the claims' commitments, domains, widths and points. So what is
+/// accepted was proved for just these, and only a verifier that has fixed them itself, or compares
+/// them with what it expects, knows what it accepts.
 pub fn verify(
     alloc: Global,
+    context: &str,
     parameters: &Parameters,
     claims: &[BatchClaims],
     proof: &Proof,
 ) -> Result<Vec<u64>, VerifyError>
     ensures accepted { IfOk result (λ next.
-        IsAccepted parameters.now claims.now (proof_of proof.now) next.items) }
+        IsAccepted context.now parameters.now claims.now (proof_of proof.now) next.items) }
     // where it isn't well formed, where it is refused
     ensures refused { IfErr result (MatchVerifyError
-        (¬ IsStatement parameters.now claims.now)
-        (IsRefused parameters.now claims.now (proof_of proof.now))) }
+        (¬ IsStatement context.now parameters.now claims.now)
+        (IsRefused context.now parameters.now claims.now (proof_of proof.now))) }
 {
     let scheme = match verifying_scheme(parameters) {
         Ok(scheme) => scheme,
         Err(misfit) => return Err(VerifyError::Malformed(misfit)),
     };
     let claims = claims_in(alloc, claims)?;
-    let mut challenger = Sha256Challenger::new();
+    let stated = claims_stated(alloc, &claims)?;
+    let mut challenger = bound_challenger(alloc, context, parameters, &stated)?;
     verify_claims(alloc, &scheme, claims, proof, &mut challenger)?;
     Ok(next_drawn(alloc, &mut challenger)?)
 }

@@ -1,6 +1,7 @@
 use Rattle.std.proofs.Common.{◌<◌, subst, sym, ap, ◌∙◌, arith}
 use Rattle.p3_baby_bear.specs.BabyBearLaws.{positive}
-use Rattle.fri_requests.specs.Numbers.{canonical_number, IsElement}
+use Rattle.fri_statement.specs.Numbers.{canonical_number}
+use Rattle.fri_requests.specs.Numbers.{IsElement}
 use Rattle.fri_requests.proofs.Listed.{not_zero}
 use Rattle.fri_requests.proofs.elements.coset.Goals as goal
 

@@ -1,5 +1,5 @@
 use Rattle.std.proofs.Common.{◌≡◌, map, take, vec_len}
-use Rattle.fri_requests.specs.Numbers.{canonical_number}
+use Rattle.fri_statement.specs.Numbers.{canonical_number}
 use Rattle.fri_requests.proofs.elements.elements.Given as goal
 
 abbrev pub invariant-loop-index : goal.invariant-loop-index

@@ -1,5 +1,5 @@
 use Rattle.std.proofs.Common.{◌≡◌, map, take}
-use Rattle.fri_requests.specs.Numbers.{coefficient_numbers}
+use Rattle.fri_statement.specs.Numbers.{coefficient_numbers}
 use Rattle.fri_requests.proofs.elements.extension_elements.Given as goal
 
 abbrev pub invariant-loop-index : goal.invariant-loop-index

@@ -1,6 +1,6 @@
 use Rattle.std.proofs.Common.{◌≡◌, ◌≢◌, All, [], map, take}
 use Rattle.algebra.specs.Nested.{lists}
-use Rattle.fri_requests.specs.Numbers.{coefficient_numbers}
+use Rattle.fri_statement.specs.Numbers.{coefficient_numbers}
 use Rattle.fri_requests.proofs.matrices.batch_points.Given as goal
 
 abbrev pub invariant-loop-index : goal.invariant-loop-index

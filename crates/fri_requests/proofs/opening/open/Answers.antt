@@ -1,4 +1,5 @@
 use Rattle.std.proofs.Common.{map, sym, subst, ap, ◌∙◌, All}
+use Rattle.std.specs.Prelude.{string_bytes}
 use Rattle.std.specs.List.{AllZip}
 use Rattle.algebra.specs.Nested.{lists, nested}
 use Rattle.p3_mmcs.specs.ProverData.{matrices_of, root_over}
@@ -7,12 +8,15 @@ use Rattle.p3_pcs.specs.Requests.{honest_claims}
 use Rattle.p3_fri_completeness.specs.Requests.{held_of, relation_claims}
 use Rattle.p3_fri_relation.specs.Views.{parameters_of, proof_of}
 use Rattle.p3_fri_two_adic.specs.Ranges.{InProverRange, InVerifierRange}
+use Rattle.fri_statement.specs.Stated.{opened_commitment}
+use Rattle.fri_requests.specs.Bound.{IsContext, batch_asked, batch_claimed}
 use Rattle.fri_requests.specs.Claims.{batch_numbers}
 use Rattle.fri_requests.specs.Commitments.{IsKept, Keeps}
 use Rattle.fri_requests.specs.Openings.{IsOpened, request_for}
 use Rattle.fri_requests.specs.Setting.{fields}
 use Rattle.fri_requests.specs.Requests.{IsMatrix, HasPoints, AllMatrices, HasLists, HaveMatrix, Refuses}
-use Rattle.fri_requests.proofs.Asked.{are_provers, has_lists, matrix_kept, can_open, refused_request}
+use Rattle.fri_requests.proofs.Bound.{state_again, request_state, stated_all}
+use Rattle.fri_requests.proofs.Asked.{are_provers, have_points, has_lists, matrix_kept, can_open, refused_request}
 use Rattle.fri_requests.proofs.Failed.{unread_part, request_part}
 use Rattle.fri_requests.proofs.Listed.{claims_again, is_coset, are_claims}
 use Rattle.fri_requests.proofs.Opened.{all_kept, count_same, opened_each}
@@ -36,15 +40,36 @@ open_committed-requires-clause-counts c =
 
 pub returns-clause-accepted : goal.returns-clause-accepted
 returns-clause-accepted c =
+    let r = c.args.request.now in
+    let b = r.parameters.log_blowup in
+    let batches = r.commitments.items in
+    let points = nested c.in_ok-points.points.items in
     let same = ap (λ s. parameters_of s.fri) c.in_ok-all.ensures.kept ∙ c.in-Ok.ensures.parameters in
+    let low = ap (λ s. s.fri.log_blowup) c.in_ok-all.ensures.kept ∙ ap (λ p. p.log_blowup) c.in-Ok.ensures.parameters in
     let range = subst (λ s. InProverRange (parameters_of s.fri) 27 63) (sym c.in_ok-all.ensures.kept) c.in-Ok.ensures.range in
-    accepted c.args.request.now.parameters c.in_ok-claims_out.field-0.items (proof_of c.in_ok-claims.proof)
-    (parameters_of c.commit_all.new.scheme.fri) (relation_claims (λ d. d.log_size) (map claim c.in_ok-claims.claims.items)) c.new-challenger.result
+    let keeps = subst (λ bs. AllZip (Keeps b) c.in_ok-all.all.items bs) c.deref-2.ensures.value c.in_ok-all.ensures.committed in
+    let numbers = c.in_ok-points.ensures.numbers ∙ ap (λ bs. map (λ batch. map (λ m. lists m.points.items) batch.matrices.items) bs) c.deref.ensures.value in
+    let listed = c.in_ok-claims_out.ensures
+    ∙ ap (λ cs. map (batch_numbers (λ d. d.shift) (λ d. d.log_size)) cs)
+    (c.in_ok-claims.ensures.claims
+    ∙ ap (λ n. honest_claims (held_of fields matrices_of n) root_over (map (λ k. k.domains.items) c.as_mut_slice.result.now) (zip_with (λ k ps. request_for k.data ps) c.as_mut_slice.result.now points)) low
+    ∙ ap (λ ks. honest_claims (held_of fields matrices_of b) root_over (map (λ k. k.domains.items) ks) (zip_with (λ k ps. request_for k.data ps) ks points)) c.as_mut_slice.ensures.value) in
+    accepted (string_bytes r.context) r.parameters c.in_ok-claims_out.field-0.items (proof_of c.in_ok-claims.proof)
+    (parameters_of c.commit_all.new.scheme.fri) (relation_claims (λ d. d.log_size) (map claim c.in_ok-claims.claims.items)) c.in_ok-challenger.challenger
     same
     (claims_again (λ d. d.shift) (λ d. d.log_size) (map claim c.in_ok-claims.claims.items) c.in_ok-claims_out.field-0.items (sym c.in_ok-claims_out.ensures))
-    c.new-challenger.ensures
+    (state_again (string_bytes r.context) r.parameters c.in_ok-claims_out.field-0.items c.in_ok-challenger.challenger
+    (zip_with batch_asked (map (λ k. k.commitment) c.in_ok-all.all.items) batches)
+    (request_state (string_bytes r.context) c.deref-6.result.now r.parameters _ (map opened_commitment c.in_ok-stated.stated.items)
+    c.in_ok-all.all.items c.deref-3.result.now batches c.deref-5.result.now c.in_ok-challenger.challenger
+    c.in_ok-challenger.ensures.state c.deref-6.ensures (ap (λ ss. map opened_commitment ss) c.deref-7.ensures.value)
+    c.in_ok-stated.ensures c.deref-3.ensures.value c.deref-5.ensures.value)
+    (sym (ap (λ ns. map batch_claimed ns) listed
+    ∙ stated_all b c.in_ok-all.all.items points batches keeps numbers
+    (have_points points batches numbers c.in_ok-points.ensures.some))))
     (record {
-      range = subst (λ p. InVerifierRange p 27 63) same (verifier_range (parameters_of c.commit_all.new.scheme.fri) _ _ c.new-challenger.result range c.in_ok-claims.ensures.accepted);
+      bytes = subst (λ t. IsContext t) c.deref-6.ensures c.in_ok-challenger.ensures.well_formed;
+      range = subst (λ p. InVerifierRange p 27 63) same (verifier_range (parameters_of c.commit_all.new.scheme.fri) _ _ c.in_ok-challenger.challenger range c.in_ok-claims.ensures.accepted);
       claims = are_claims (λ d. d.shift) (λ d. d.log_size) (λ d. is_coset d.shift d.log_size d.nonzero d.within_two_adicity)
           (map claim c.in_ok-claims.claims.items) c.in_ok-claims_out.field-0.items (sym c.in_ok-claims_out.ensures);
     })
@@ -97,13 +122,18 @@ returns-in_err-claims-clause-refused c =
     (λ fails can. fails (subst (λ cs. HaveMatrix cs) (sym c.as_mut_slice.ensures.value)
     (matrix_kept b c.in_ok-all.all.items batches keeps can.some_matrix)))
     (λ e h. refused_request c.args.request.now c.in_ok-all.all.items (nested c.in_ok-points.points.items) keeps numbers
+    (subst (λ t. IsContext t) c.deref-6.ensures c.in_ok-challenger.ensures.well_formed)
     (record {
       parameters = are_provers c.args.request.now.parameters _ c.in-Ok.ensures.parameters c.in-Ok.ensures.range c.in-Ok.ensures.blowup;
       matrices = subst (λ bs. AllMatrices (IsMatrix b) bs) c.deref-2.ensures.value c.in_ok-all.ensures.well_formed;
     })
     c.in_ok-points.ensures.some _ _
-    (ap (λ s. parameters_of s.fri) c.in_ok-all.ensures.kept ∙ c.in-Ok.ensures.parameters) c.new-challenger.ensures e
-    (subst (λ cs. HaveMatrix cs × Refuses (parameters_of c.commit_all.new.scheme.fri) c.new-challenger.result
+    (ap (λ s. parameters_of s.fri) c.in_ok-all.ensures.kept ∙ c.in-Ok.ensures.parameters)
+    (request_state (string_bytes c.args.request.now.context) c.deref-6.result.now c.args.request.now.parameters _ (map opened_commitment c.in_ok-stated.stated.items)
+    c.in_ok-all.all.items c.deref-3.result.now batches c.deref-5.result.now c.in_ok-challenger.challenger
+    c.in_ok-challenger.ensures.state c.deref-6.ensures (ap (λ ss. map opened_commitment ss) c.deref-7.ensures.value)
+    c.in_ok-stated.ensures c.deref-3.ensures.value c.deref-5.ensures.value) e
+    (subst (λ cs. HaveMatrix cs × Refuses (parameters_of c.commit_all.new.scheme.fri) c.in_ok-challenger.challenger
     (zip_with (λ k zs. request_for k.data zs) cs (nested c.in_ok-points.points.items)) e) c.as_mut_slice.ensures.value h))
 
 pub returns-clause-well_formed : goal.returns-clause-well_formed
@@ -112,6 +142,7 @@ returns-clause-well_formed c =
     can_open c.args.request.now c.in_ok-all.all.items (nested c.in_ok-points.points.items)
     (subst (λ bs. AllZip (Keeps b) c.in_ok-all.all.items bs) c.deref-2.ensures.value c.in_ok-all.ensures.committed)
     (c.in_ok-points.ensures.numbers ∙ ap (λ bs. map (λ batch. map (λ m. lists m.points.items) batch.matrices.items) bs) c.deref.ensures.value)
+    (subst (λ t. IsContext t) c.deref-6.ensures c.in_ok-challenger.ensures.well_formed)
     (record {
       parameters = are_provers c.args.request.now.parameters _ c.in-Ok.ensures.parameters c.in-Ok.ensures.range c.in-Ok.ensures.blowup;
       matrices = subst (λ bs. AllMatrices (IsMatrix b) bs) c.deref-2.ensures.value c.in_ok-all.ensures.well_formed;

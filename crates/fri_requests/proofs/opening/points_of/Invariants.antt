@@ -1,6 +1,6 @@
 use Rattle.std.proofs.Common.{◌≡◌, map, take}
 use Rattle.algebra.specs.Nested.{lists, nested}
-use Rattle.fri_requests.specs.Numbers.{coefficient_numbers}
+use Rattle.fri_statement.specs.Numbers.{coefficient_numbers}
 use Rattle.fri_requests.specs.Openings.{HavePoints}
 use Rattle.fri_requests.proofs.opening.points_of.Given as goal
 

@@ -1,0 +1,26 @@
+use Rattle.std.proofs.Common.{ap, ◌∙◌, map}
+use Rattle.p3_pcs.specs.Claims.{point_claim, matrix_claim}
+use Rattle.fri_statement.specs.Numbers.{canonical_number, coefficient_numbers}
+use Rattle.fri_statement.specs.Stated.{opened_matrix}
+use Rattle.fri_requests.specs.Bound.{width_claimed, matrix_claimed}
+use Rattle.fri_requests.specs.Claims.{point_numbers, matrix_numbers}
+use Rattle.fri_requests.proofs.Bound.{points_stated, opened_same, matrices_ended}
+use Rattle.fri_requests.proofs.Kept.{same_more}
+use Rattle.fri_requests.proofs.statement.matrices_claimed.Goals as goal
+
+pub loop-matrix-preserved : goal.loop-matrix-preserved
+loop-matrix-preserved c =
+    let m = c.matrix-item.result in
+    same_more opened_matrix (λ n. matrix_claimed (matrix_numbers (λ d. d.shift) (λ d. d.log_size) (matrix_claim n)))
+    c.loop-matrix.all.items c.push.new.self.items c.args.matrices.now c.loop-matrix.matrix-index _ m
+    c.loop-matrix-test.true c.matrix-item.is c.in_ok-push.ensures.items
+    (opened_same (canonical_number m.domain.shift) m.domain.log_size _ _ _ _
+    (c.width_of.ensures ∙ ap (λ ps. width_claimed (map point_numbers (map point_claim ps))) c.deref.ensures.value)
+    (ap (λ ps. map coefficient_numbers ps) (c.in_ok-points_claimed.ensures
+    ∙ ap (λ ps. map (λ p. p.point) ps) c.deref-in-loop-matrix.ensures.value)
+    ∙ points_stated m.points.items))
+    c.loop-matrix.invariant
+
+pub returns : goal.returns
+returns c = matrices_ended (λ d. d.shift) (λ d. d.log_size) (map opened_matrix c.loop-matrix.all.items) c.args.matrices.now
+    c.loop-matrix.matrix-index c.loop-matrix-test.false c.loop-matrix.invariant

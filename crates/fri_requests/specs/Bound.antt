@@ -1,0 +1,68 @@
+-- What a proof is bound to: the statement that records make, and the state in which the opening
+-- begins.
+use Rattle.std.specs.Prelude.{ℕ, List, [], ◌∷◌, map, length, IsOk}
+use Rattle.std.specs.Result.{result_unwrap_or}
+use Rattle.algebra.specs.Nested.{lists}
+use Rattle.hex.specs.Hex.{decode_of}
+use Rattle.p3_challenger_sha256.specs.declared.sha256_challenger.Sha256Challenger.{Sha256Challenger}
+use Rattle.p3_challenger_sha256.specs.Sha256.{start}
+use Rattle.p3_fri_relation.specs.Setting as setting
+use Rattle.fri_statement.specs.Statement.{OpenedMatrix, OpenedCommitment, statement_absorbed}
+use Rattle.fri_requests.specs.declared.records.Parameters.{Parameters}
+use Rattle.fri_requests.specs.declared.records.Matrix.{Matrix}
+use Rattle.fri_requests.specs.declared.records.Batch.{Batch}
+use Rattle.fri_requests.specs.declared.records.BatchClaims.{BatchClaims}
+use Rattle.fri_requests.specs.Records.{parameters_in}
+use Rattle.fri_requests.specs.Claims.{PointNumbers, MatrixNumbers, BatchNumbers, batch_listed}
+
+-- a context is the hex text of bytes
+abbrev pub IsContext : (text : List ℕ) → Type 0
+IsContext text = IsOk (decode_of text)
+
+-- these bytes
+abbrev pub context_listed : (text : List ℕ) → List ℕ
+context_listed text = result_unwrap_or (decode_of text) []
+
+-- as many columns as values at the first point
+abbrev pub width_claimed : List PointNumbers → ℕ
+width_claimed [] = 0
+width_claimed (p ∷ _) = length p.values
+
+-- what claims state
+abbrev pub matrix_claimed : MatrixNumbers → OpenedMatrix
+matrix_claimed m = record {
+  shift = m.shift;
+  log_size = m.log_size;
+  width = width_claimed m.points;
+  points = map (λ p. p.point) m.points;
+}
+
+abbrev pub batch_claimed : BatchNumbers → OpenedCommitment
+batch_claimed b = record {
+  digest = result_unwrap_or b.commitment [];
+  matrices = map matrix_claimed b.matrices;
+}
+
+-- what a request states, once its batches have commitments
+abbrev pub matrix_asked : Matrix → OpenedMatrix
+matrix_asked m = record {
+  shift = m.domain.shift;
+  log_size = m.domain.log_size;
+  width = m.width;
+  points = lists m.points.items;
+}
+
+abbrev pub batch_asked : (commitment : List ℕ) → Batch → OpenedCommitment
+batch_asked commitment batch =
+    record { digest = commitment; matrices = map matrix_asked batch.matrices.items }
+
+-- the state of a fresh challenger that has absorbed a statement
+abbrev pub bound : (context : List ℕ) → setting.Parameters → List OpenedCommitment
+    → Sha256Challenger
+bound context p commitments = statement_absorbed start
+    (record { context = context; parameters = p; commitments = commitments })
+
+-- the statement of these records
+abbrev pub state_bound : (context : List ℕ) → Parameters → List BatchClaims → Sha256Challenger
+state_bound context parameters records = bound (context_listed context) (parameters_in parameters)
+    (map batch_claimed (map batch_listed records))
