@@ -1,15 +1,11 @@
 //! Tables of cases with names.
 
-/// The name of the first case whose value isn't the one found in its place.
+/// The name of the first case at which something else was found than is wanted.
 pub(crate) fn first_wrong<T: Copy + PartialEq>(
-    found: &[T],
-    cases: &[(&'static str, T)],
+    cases: &[(&'static str, T, T)],
 ) -> Option<&'static str> {
-    if found.len() != cases.len() {
-        return Some("the number of cases");
-    }
-    for (value, (name, wanted)) in found.iter().zip(cases) {
-        if *value != *wanted {
+    for (name, found, wanted) in cases {
+        if *found != *wanted {
             return Some(*name);
         }
     }

@@ -1,4 +1,6 @@
-//! Tests of the parameters, the folds and the transcripts.
+//! Tests of the parameters, the folds and the transcripts. A check is a function that answers the
+//! first case that is wrong, by name, and each file has one test that makes all of its checks: each
+//! test and each early return is proved too.
 #![tactic(auto)]
 
 #[cfg(test)]

@@ -1,22 +1,17 @@
 //! Streams of shapes, one of them byte for byte by the format, and the shapes of parameters.
 
+use crate::cases::first_wrong;
 use crate::transcript::shape_of;
 use p3_field::{BabyBear, BabyBear4};
 use p3_fri_core::FriParameters;
 use p3_fri_core::transcript::FriShape;
 use std::alloc::{AllocError, Global};
-use std::test::Fail;
 
 /// The stream of a shape.
 fn stream_of(alloc: Global, shape: &FriShape) -> Result<Vec<u8>, AllocError> {
     shape
         .domain_separator::<BabyBear, BabyBear4>(alloc)?
         .seed_stream(alloc)
-}
-
-/// The stream of rounds of these log arities.
-fn stream_of_rounds(alloc: Global, log_arities: &[usize]) -> Result<Vec<u8>, AllocError> {
-    stream_of(alloc, &shape_of(alloc, log_arities, 0, 0)?)
 }
 
 const STREAM_WITHOUT_ROUNDS: [u8; 142] = [
@@ -31,24 +26,22 @@ const STREAM_WITHOUT_ROUNDS: [u8; 142] = [
     0x00, 0x00, 0x00, 0x00, 0x00, 0x08, 0x00, 0x00, 0x00, 0x00, 0x00, 0x00, 0x00, 0x01,
 ];
 
-#[test]
-fn streams_of_shapes(rt: HostRuntime) -> Result<(), Fail> {
-    let mut shape = shape_of(rt.alloc(), &[], 0, 0)?;
+/// Whether this is the stream of two queries without rounds, with so many bits of proof of work in
+/// the commit phase.
+fn has_stream_without_rounds(alloc: Global, commit_pow_bits: usize) -> Result<bool, AllocError> {
+    let mut shape = shape_of(alloc, &[], commit_pow_bits, 0)?;
     shape.num_queries = 2;
     shape.index_bits = 1;
     shape.max_log_arity = 1;
-    assert!(rt; stream_of(rt.alloc(), &shape)?.as_slice() == STREAM_WITHOUT_ROUNDS.as_slice());
-    shape.commit_pow_bits = 5;
-    assert!(rt; stream_of(rt.alloc(), &shape)?.as_slice() == STREAM_WITHOUT_ROUNDS.as_slice());
-    Ok(())
+    Ok(stream_of(alloc, &shape)?.as_slice() == STREAM_WITHOUT_ROUNDS.as_slice())
 }
 
-#[test]
-fn streams_tell_the_order_of_rounds(rt: HostRuntime) -> Result<(), Fail> {
-    let falling = stream_of_rounds(rt.alloc(), &[3, 3, 2])?;
-    let rising = stream_of_rounds(rt.alloc(), &[2, 3, 3])?;
-    assert!(rt; falling != rising);
-    Ok(())
+/// Whether rounds of these log arities, one after the other and the other way round, have streams
+/// of their own.
+fn streams_tell_the_order_of_rounds(alloc: Global) -> Result<bool, AllocError> {
+    let falling = stream_of(alloc, &shape_of(alloc, &[3, 3, 2], 0, 0)?)?;
+    let rising = stream_of(alloc, &shape_of(alloc, &[2, 3, 3], 0, 0)?)?;
+    Ok(falling != rising)
 }
 
 /// The number of steps that a shape describes.
@@ -56,15 +49,41 @@ fn step_count(alloc: Global, shape: &FriShape) -> Result<usize, AllocError> {
     Ok(shape.pattern::<BabyBear, BabyBear4>(alloc)?.steps().len())
 }
 
-#[test]
-fn shapes_of_parameters(rt: HostRuntime) -> Result<(), Fail> {
+/// Whether a shape of parameters is its clone and has the schedule of its heights, of three rounds.
+fn shapes_of_parameters(alloc: Global) -> Result<bool, AllocError> {
     let mut parameters = FriParameters::new_testing((), 0);
     parameters.max_log_arity = 3;
-    let shape = FriShape::new(rt.alloc(), &parameters, &[10], 12)?;
-    assert!(rt; shape.clone(rt.alloc())? == shape);
-    let rounds = Vec::from_slice(rt.alloc(), &[3, 3, 2])?;
-    assert!(rt; FriShape::with_schedule(&parameters, rounds, 12) == shape);
-    assert!(rt; shape.log_arities.as_slice() == [3, 3, 2].as_slice());
-    assert!(rt; step_count(rt.alloc(), &shape)? == 12);
-    Ok(())
+    let shape = FriShape::new(alloc, &parameters, &[10], 12)?;
+    let same = shape.clone(alloc)? == shape;
+    let rounds = Vec::from_slice(alloc, &[3, 3, 2])?;
+    let scheduled = FriShape::with_schedule(&parameters, rounds, 12) == shape;
+    let of_three_rounds = shape.log_arities.as_slice() == [3, 3, 2].as_slice();
+    Ok(same && scheduled && of_three_rounds && step_count(alloc, &shape)? == 12)
+}
+
+#[test]
+fn shapes(rt: HostRuntime) {
+    let wrong = first_wrong(&[
+        (
+            "a stream",
+            has_stream_without_rounds(rt.alloc(), 0) == Ok(true),
+            true,
+        ),
+        (
+            "bits without rounds",
+            has_stream_without_rounds(rt.alloc(), 5) == Ok(true),
+            true,
+        ),
+        (
+            "rounds in order",
+            streams_tell_the_order_of_rounds(rt.alloc()) == Ok(true),
+            true,
+        ),
+        (
+            "parameters",
+            shapes_of_parameters(rt.alloc()) == Ok(true),
+            true,
+        ),
+    ]);
+    assert!(rt; wrong.is_none(), "{wrong:?}");
 }

@@ -3,6 +3,6 @@ use Rattle.p3_fri_pcs_transcript.specs.Steps.{PcsNumbers}
 use Rattle.p3_fri_core_tests.proofs.pcs_transcript.verify.Goals as goal
 
 pub batch_phase-requires-clause-all_claims_played : goal.batch_phase-requires-clause-all_claims_played
-batch_phase-requires-clause-all_claims_played c =
+batch_phase-requires-clause-all_claims_played g c =
     c.in-Ok.ensures.whole
     (sym (ap (λ (s : PcsNumbers). s.counts) (c.in_ok-transcript.ensures.starts.shape ∙ c.in_ok-shape.ensures)))

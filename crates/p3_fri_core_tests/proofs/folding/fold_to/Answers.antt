@@ -1,6 +1,6 @@
 use Rattle.std.proofs.Common.{◌≡◌, sym, ◌∙◌, arith}
 use Rattle.p3_field.proofs.IndexPowers.{exponents_agree}
-use Rattle.p3_fri_core_tests.proofs.folding.folded.Goals as goal
+use Rattle.p3_fri_core_tests.proofs.folding.fold_to.Goals as goal
 
 pub fold_matrix-requires-clause-within_max_height : goal.fold_matrix-requires-clause-within_max_height
 fold_matrix-requires-clause-within_max_height g c h e =
