@@ -1,1 +1,2 @@
+pub mod Acceptance
 pub mod Openings

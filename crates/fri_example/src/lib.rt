@@ -1,27 +1,35 @@
 //! The scheme in use, by the names of the crates for users: a column is committed to on its natural
-//! domain, opened at a point, and the opening verified.
+//! domain, both sides absorb the commitment with all else that is public, and then the column is
+//! opened at a point and the opening verified.
 #![tactic(auto)]
 
 ghost use Rattle.std.specs.Prelude.{◌≡◌, ◌+◌, ◌^◌, ◌<◌, ◌≤◌, [], ◌∷◌, true, map, length, vec_len};
-ghost use Rattle.std.specs.Prelude.{IfOk, Some};
+ghost use Rattle.std.specs.Prelude.{All, IfOk, Some};
+ghost use Rattle.std.specs.List.{AllZip};
 ghost use Rattle.algebra.specs.Polynomial.{val};
+ghost use Rattle.p3_challenger.specs.Sha256.{start};
 ghost use Rattle.p3_field.specs.BabyBear.{baby_bear, root, element};
 ghost use Rattle.p3_fri_commit.specs.Extension.{polynomial_on};
+ghost use Rattle.p3_fri_relation.specs.Views.{parameters_of, proof_of};
 ghost use Rattle.p3_pcs.specs.Claims.{opened_values};
-ghost use Rattle.p3_pcs.specs.Requests.{Held, honest_values};
-ghost use Rattle.fri_example.specs.Opened.{IsOpened};
+ghost use Rattle.p3_pcs.specs.Requests.{honest_values, honest_claims};
+ghost use Rattle.fri_statement.specs.Numbers.{canonical_number};
+ghost use Rattle.fri_statement.specs.Statement.{statement_absorbed};
+ghost use Rattle.fri_example.specs.Opened.{IsAcceptedOpening, opening_parameters};
+ghost use Rattle.fri_example.specs.Opened.{single_claim, single_statement};
 
+use fri_statement::{StatedCommitment, StatedMatrix, absorb_statement};
 use p3_challenger::Sha256Challenger;
 use p3_commit::{KnownCommitment, OpeningRequest, Pcs, Sha256Mmcs, Verified, open_and_verify};
 use p3_dft::Radix2Dit;
-use p3_field::{BabyBear, BabyBear4, ExtensionField};
+use p3_field::{BabyBear, BabyBear4, ExtensionField, TwoAdicMultiplicativeCoset};
 use p3_fri_folding::FriParameters;
 use p3_fri_two_adic::TwoAdicFriPcs;
 use p3_matrix::RowMajorMatrix;
 use std::alloc::{AllocError, Global};
 
 /// The scheme, with the tree over SHA-256 for both commitments.
-type Scheme = TwoAdicFriPcs<
+pub type Scheme = TwoAdicFriPcs<
     BabyBear,
     Radix2Dit<BabyBear>,
     Sha256Mmcs<BabyBear>,
@@ -30,13 +38,7 @@ type Scheme = TwoAdicFriPcs<
 
 /// Parameters of these sizes: folds by two, two queries, and no proof of work.
 fn parameters(log_blowup: usize, log_final_poly_len: usize) -> FriParameters<Sha256Mmcs<BabyBear4>>
-    ensures log_blowup { result.log_blowup ≡ log_blowup }
-    ensures log_final_poly_len { result.log_final_poly_len ≡ log_final_poly_len }
-    ensures max_log_arity { result.max_log_arity ≡ 1 }
-    ensures num_queries { result.num_queries ≡ 2 }
-    ensures batch_bits { result.batch_proof_of_work_bits ≡ 0 }
-    ensures commit_bits { result.commit_proof_of_work_bits ≡ 0 }
-    ensures query_bits { result.query_proof_of_work_bits ≡ 0 }
+    ensures { parameters_of result ≡ opening_parameters log_blowup log_final_poly_len }
 {
     FriParameters {
         log_blowup,
@@ -59,8 +61,33 @@ fn listed<T: Drop>(alloc: Global, value: T) -> Result<Vec<T>, AllocError>
     Ok(values)
 }
 
-/// Opens the one matrix of committed data at one point, and verifies what comes of it. Honest data
-/// is refused for want of memory alone, or by what the caller has tested.
+/// Commits to one matrix on its domain, by any scheme. Refused for want of memory alone, or by what
+/// the caller has tested.
+fn commit_matrix<EF: Copy, C, P: Pcs<EF, C>>(
+    scheme: &mut P,
+    alloc: Global,
+    evaluation: (P::Domain, RowMajorMatrix<P::Val>),
+) -> Result<(P::Commitment, P::ProverData), AllocError>
+    requires { P.CanCommit scheme.old (evaluation ∷ []) }
+    ensures kept { P.Keeps scheme.old scheme.new }
+    ensures openable { IfOk result (λ pair. P.CanOpen scheme.new pair.1) }
+    ensures honest { IfOk result (λ pair. P.IsHonest scheme.new pair.1) }
+    ensures commitment { IfOk result (λ pair. P.commitment_of pair.1 ≡ pair.0) }
+    ensures extends { IfOk result (λ pair. AllZip (P.Extends scheme.new)
+        (P.committed_polynomials scheme.new pair.1) (evaluation ∷ [])) }
+    ensures sizes { IfOk result (λ pair. map (λ m. m.size)
+        (P.committed_polynomials scheme.new pair.1) ≡ P.domain_size evaluation.0 ∷ []) }
+{
+    let evaluations = listed(alloc, evaluation)?;
+    match scheme.commit(alloc, evaluations) {
+        Ok(committed) => Ok(committed),
+        Err(_) => Err(AllocError),
+    }
+}
+
+/// Opens the one matrix of committed data at one point, and verifies what comes of it, by any
+/// scheme. The challenger has absorbed what is public and the commitment. Honest data is refused for
+/// want of memory alone, or by what the caller has tested.
 fn open_at<EF: Copy, C: Clone, P: Pcs<EF, C>>(
     scheme: &P,
     alloc: Global,
@@ -81,6 +108,10 @@ fn open_at<EF: Copy, C: Clone, P: Pcs<EF, C>>(
     ensures values { IfOk result (λ v. opened_values v.values.items ≡ honest_values
         (P.committed_polynomials scheme.now)
         (record { datum = committed.old; points = (point ∷ []) ∷ [] }) ∷ []) }
+    ensures accepted { let claims = honest_claims (P.committed_polynomials scheme.now)
+        P.commitment_of (known.domains.items ∷ [])
+        (record { datum = committed.old; points = (point ∷ []) ∷ [] } ∷ []) in
+        IfOk result (λ v. P.Accepts scheme.now challenger.old claims v.proof) }
     ensures states { IfOk result (λ v. v.challenger ≡ challenger.new) }
 {
     let known = listed(alloc, known)?;
@@ -94,36 +125,6 @@ fn open_at<EF: Copy, C: Clone, P: Pcs<EF, C>>(
         Ok(verified) => Ok(verified),
         Err(_) => Err(AllocError),
     }
-}
-
-/// Commits to a matrix on its domain, opens it at one point, and verifies what comes of it, by any
-/// scheme. Honest data is refused for want of memory alone, or by what the caller has tested.
-fn open_matrix<EF: Copy, C: Clone, P: Pcs<EF, C>>(
-    scheme: &mut P,
-    alloc: Global,
-    evaluation: (P::Domain, RowMajorMatrix<P::Val>),
-    point: EF,
-    challenger: &mut C,
-) -> Result<Verified<EF, P::Proof, C>, AllocError>
-    requires copies { (x y : C) → C.is_clone x y → y ≡ x }
-    requires prover { P.InProverRange scheme.old }
-    requires verifier { P.InVerifierRange scheme.old }
-    requires committable { P.CanCommit scheme.old (evaluation ∷ []) }
-    ensures values { IfOk result (λ v.
-        IsOpened (P.Extends scheme.new) evaluation point (opened_values v.values.items)) }
-    ensures states { IfOk result (λ v. v.challenger ≡ challenger.new) }
-{
-    let domain = evaluation.0;
-    let evaluations = listed(alloc, evaluation)?;
-    let (commitment, mut data) = match scheme.commit(alloc, evaluations) {
-        Ok(committed) => committed,
-        Err(_) => return Err(AllocError),
-    };
-    let known = KnownCommitment {
-        commitment,
-        domains: listed(alloc, domain)?,
-    };
-    open_at(&*scheme, alloc, known, &mut data, point, challenger)
 }
 
 /// The value, where there is one in all.
@@ -148,42 +149,86 @@ fn only_value<EF: Copy>(values: &[Vec<Vec<Vec<EF>>>]) -> Option<EF>
     Some(*value)
 }
 
-/// The value at one point of a matrix of one column, and the challenger that the verifier used, by
-/// any scheme. Refused as `open_matrix` is, and where there is another number of values than one.
+/// Opens committed data of one column at one point, by any scheme: the value there, the proof, and
+/// the challenger that the verifier used. Refused as `open_at` is, and where there is another number
+/// of values than one.
 fn open_value<EF: Copy, C: Clone, P: Pcs<EF, C>>(
-    scheme: &mut P,
+    scheme: &P,
     alloc: Global,
-    evaluation: (P::Domain, RowMajorMatrix<P::Val>),
+    commitment: P::Commitment,
+    domain: P::Domain,
+    mut committed: P::ProverData,
     point: EF,
     challenger: &mut C,
-) -> Result<(EF, C), AllocError>
+) -> Result<(EF, P::Proof, C), AllocError>
     requires copies { (x y : C) → C.is_clone x y → y ≡ x }
-    requires prover { P.InProverRange scheme.old }
-    requires verifier { P.InVerifierRange scheme.old }
-    requires committable { P.CanCommit scheme.old (evaluation ∷ []) }
-    ensures value { IfOk result (λ opened. (y : EF) →
-        ((m : Held EF) → P.Extends scheme.new m evaluation → m.values_at point ≡ y ∷ [])
-        → opened.0 ≡ y) }
-    ensures state { IfOk result (λ opened. opened.1 ≡ challenger.new) }
+    requires prover { P.InProverRange scheme.now }
+    requires verifier { P.InVerifierRange scheme.now }
+    requires openable { P.CanOpen scheme.now committed }
+    requires honest { P.IsHonest scheme.now committed }
+    requires commitment { P.commitment_of committed ≡ commitment }
+    requires sizes { map (λ m. m.size) (P.committed_polynomials scheme.now committed)
+        ≡ P.domain_size domain ∷ [] }
+    ensures value { IfOk result (λ o. All (λ m. m.values_at point ≡ o.0 ∷ [])
+        (P.committed_polynomials scheme.now committed)) }
+    ensures accepted { IfOk result (λ o. P.Accepts scheme.now challenger.old
+        (single_claim commitment domain point o.0 ∷ []) o.1) }
+    ensures states { IfOk result (λ o. o.2 ≡ challenger.new) }
 {
-    let verified = open_matrix(scheme, alloc, evaluation, point, challenger)?;
+    let known = KnownCommitment {
+        commitment,
+        domains: listed(alloc, domain)?,
+    };
+    let verified = open_at(scheme, alloc, known, &mut committed, point, challenger)?;
     let Some(value) = only_value(&verified.values) else {
         return Err(AllocError);
     };
-    Ok((value, verified.challenger))
+    Ok((value, verified.proof, verified.challenger))
+}
+
+/// A fresh challenger that has absorbed what is known before a column is opened: the parameters, the
+/// commitment, and the column's domain and point.
+fn bound_challenger(
+    alloc: Global,
+    params: &FriParameters<Sha256Mmcs<BabyBear4>>,
+    commitment: [u8; 32],
+    domain: TwoAdicMultiplicativeCoset<BabyBear>,
+    point: BabyBear4,
+) -> Result<Sha256Challenger, AllocError>
+    ensures { IfOk result (λ c. c ≡ statement_absorbed start
+        (single_statement (parameters_of params.now) commitment
+        (canonical_number domain.shift) domain.log_size point)) }
+{
+    let matrix = StatedMatrix {
+        domain,
+        width: 1,
+        points: listed(alloc, point)?,
+    };
+    let stated = StatedCommitment {
+        commitment,
+        matrices: listed(alloc, matrix)?,
+    };
+    let mut challenger = Sha256Challenger::new();
+    absorb_statement(alloc, &mut challenger, &[], params, &[stated])?;
+    Ok(challenger)
 }
 
 /// An opening that was accepted.
 #[derive(Drop)]
 pub struct Opening {
+    /// What was committed to the column by.
+    pub commitment: [u8; 32],
     /// The value at the point.
     pub value: BabyBear,
+    /// What shows that the column under the commitment has that value.
+    pub proof: <Scheme as Pcs<BabyBear4, Sha256Challenger>>::Proof,
     /// Whether prover and verifier ended in one state.
     pub are_states_equal: bool,
 }
 
-/// Commits to a column of `2^log_size` entries on its natural domain and opens it at a point of the
-/// base field, in a fresh transcript, which is then verified in another.
+/// Commits to a column of `2^log_size` entries on its natural domain, absorbs the statement, which
+/// is the parameters, the commitment, and its one column's domain and point, and opens the column at
+/// that point of the base field. A verifier that began in the same state has accepted the opening.
 pub fn open_column(
     alloc: Global,
     log_blowup: usize,
@@ -198,6 +243,8 @@ pub fn open_column(
     requires height { log_size + log_blowup ≤ 27 }
     ensures value { IfOk result (λ o. o.value
         ≡ val baby_bear (polynomial_on baby_bear root (element 1) log_size column.items) point) }
+    ensures accepted { IfOk result (λ o. IsAcceptedOpening log_blowup log_final_poly_len log_size
+        o.commitment point o.value (proof_of o.proof)) }
     ensures states { IfOk result (λ o. o.are_states_equal ≡ true) }
 {
     let mut scheme: Scheme = TwoAdicFriPcs::new(
@@ -210,17 +257,27 @@ pub fn open_column(
         column.len(),
     );
     let matrix = RowMajorMatrix::new(column, 1);
-    let lifted: BabyBear4 = ExtensionField::<BabyBear>::from_base(point);
-    let mut challenger = Sha256Challenger::new();
-    let (value, verifier) = open_value(
+    let (commitment, committed) = commit_matrix::<BabyBear4, Sha256Challenger, Scheme>(
         &mut scheme,
         alloc,
         (domain, matrix),
+    )?;
+    let lifted: BabyBear4 = ExtensionField::<BabyBear>::from_base(point);
+    let params = parameters(log_blowup, log_final_poly_len);
+    let mut challenger = bound_challenger(alloc, &params, commitment, domain, lifted)?;
+    let (value, proof, verifier) = open_value(
+        &scheme,
+        alloc,
+        commitment,
+        domain,
+        committed,
         lifted,
         &mut challenger,
     )?;
     Ok(Opening {
+        commitment,
         value: ExtensionField::<BabyBear>::coefficient(value, 0),
+        proof,
         are_states_equal: verifier == challenger,
     })
 }

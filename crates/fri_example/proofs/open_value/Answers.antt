@@ -1,10 +1,19 @@
-use Rattle.std.proofs.Common.{[], ◌∷◌, ap, ◌∙◌}
+use Rattle.std.proofs.Common.{ap, refl, sym, subst, ◌∙◌}
 use Rattle.p3_pcs.specs.Claims.{opened_values}
+use Rattle.fri_example.proofs.Openings.{same_entry, one_value, one_claim}
 use Rattle.fri_example.proofs.open_value.Goals as goal
 
 pub returns-clause-value : goal.returns-clause-value
-returns-clause-value g c = λ y every.
-    let opened = c.in_ok-verified.ensures.values in
-    let there = ap opened_values c.deref.ensures.value ∙ opened.values_there
-    ∙ ap (λ v. ((v ∷ []) ∷ []) ∷ []) (every opened.held opened.extends) in
-    cc (c.in-Some.ensures.one y there)
+returns-clause-value g c =
+    one_value c.args.point c.in-Some.value _ _ c.requires.sizes
+    (same_entry _ _ (sym c.in_ok-verified.ensures.values ∙ sym (ap opened_values c.deref.ensures.value)
+    ∙ c.in-Some.ensures.no_other c.in-Some.value refl))
+
+pub returns-clause-accepted : goal.returns-clause-accepted
+returns-clause-accepted g c =
+    subst (λ claims. g.P.Pcs.Accepts c.args.scheme.now c.args.challenger.now claims c.in_ok-verified.verified.proof)
+    (one_claim c.args.point c.in-Some.value (g.P.Pcs.committed_polynomials c.args.scheme.now) g.P.Pcs.commitment_of c.args.committed
+    c.args.commitment c.args.domain _ c.requires.commitment c.in_ok-listed.ensures
+    (same_entry _ _ (sym c.in_ok-verified.ensures.values ∙ sym (ap opened_values c.deref.ensures.value)
+    ∙ c.in-Some.ensures.no_other c.in-Some.value refl)))
+    c.in_ok-verified.ensures.accepted
