@@ -187,7 +187,8 @@ fn open_value<EF: Copy, C: Clone, P: Pcs<EF, C>>(
 }
 
 /// A fresh challenger that has absorbed what is known before a column is opened: the parameters, the
-/// commitment, and the column's domain and point.
+/// commitment, and the column's domain and point. The context is empty; an application puts its name
+/// and its public data there.
 fn bound_challenger(
     alloc: Global,
     params: &FriParameters<Sha256Mmcs<BabyBear4>>,
@@ -216,7 +217,7 @@ fn bound_challenger(
 /// An opening that was accepted.
 #[derive(Drop)]
 pub struct Opening {
-    /// What was committed to the column by.
+    /// The commitment to the column.
     pub commitment: [u8; 32],
     /// The value at the point.
     pub value: BabyBear,
@@ -226,9 +227,9 @@ pub struct Opening {
     pub are_states_equal: bool,
 }
 
-/// Commits to a column of `2^log_size` entries on its natural domain, absorbs the statement, which
-/// is the parameters, the commitment, and its one column's domain and point, and opens the column at
-/// that point of the base field. A verifier that began in the same state has accepted the opening.
+/// Commits to a column of `2^log_size` entries on its natural domain, absorbs the statement (the
+/// parameters, the commitment, the column's domain and the point), and opens the column at that
+/// point of the base field. A verifier that began in the same state has accepted the opening.
 pub fn open_column(
     alloc: Global,
     log_blowup: usize,
