@@ -86,8 +86,8 @@ fn commit_matrix<EF: Copy, C, P: Pcs<EF, C>>(
 }
 
 /// Opens the one matrix of committed data at one point, and verifies what comes of it, by any
-/// scheme. The challenger has absorbed what is public and the commitment. Honest data is refused for
-/// want of memory alone, or by what the caller has tested.
+/// scheme. The challenger has absorbed what is public, the commitment too. Honest data is refused
+/// for want of memory alone, or by what the caller has tested.
 fn open_at<EF: Copy, C: Clone, P: Pcs<EF, C>>(
     scheme: &P,
     alloc: Global,
@@ -150,8 +150,8 @@ fn only_value<EF: Copy>(values: &[Vec<Vec<Vec<EF>>>]) -> Option<EF>
 }
 
 /// Opens committed data of one column at one point, by any scheme: the value there, the proof, and
-/// the challenger that the verifier used. Refused as `open_at` is, and where there is another number
-/// of values than one.
+/// the challenger that the verifier used. Refused as `open_at` is, and where there is another
+/// number of values than one.
 fn open_value<EF: Copy, C: Clone, P: Pcs<EF, C>>(
     scheme: &P,
     alloc: Global,
@@ -186,9 +186,9 @@ fn open_value<EF: Copy, C: Clone, P: Pcs<EF, C>>(
     Ok((value, verified.proof, verified.challenger))
 }
 
-/// A fresh challenger that has absorbed what is known before a column is opened: the parameters, the
-/// commitment, and the column's domain and point. The context is empty; an application puts its name
-/// and its public data there.
+/// A fresh challenger that has absorbed what is known before a column is opened: the parameters,
+/// the commitment, and the column's domain and point. The context is empty; an application puts its
+/// name and its public data there.
 fn bound_challenger(
     alloc: Global,
     params: &FriParameters<Sha256Mmcs<BabyBear4>>,
