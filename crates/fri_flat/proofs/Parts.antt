@@ -1,5 +1,5 @@
 -- Parts one after another.
-use Rattle.std.proofs.Common.{◌≡◌, ℕ, List, ◌++◌, ap, ◌∙◌, append_assoc}
+use Rattle.std.proofs.Common.{◌≡◌, ℕ, List, ◌++◌, ap, sym, ◌∙◌, append_assoc}
 
 -- three parts that were added one by one
 pub three_parts : (bytes first second third one two three : List ℕ) → one ≡ bytes ++ first
@@ -10,3 +10,13 @@ three_parts bytes first second third one two three a b c =
     ∙ ap (λ (x : List ℕ). (x ++ second) ++ third) a
     ∙ ap (λ (x : List ℕ). x ++ third) (append_assoc bytes first second)
     ∙ append_assoc bytes (first ++ second) third
+
+-- three parts that were read one by one
+pub three_read : (bytes first second third after_first after_second rest : List ℕ)
+    → bytes ≡ first ++ after_first → after_first ≡ second ++ after_second
+    → after_second ≡ third ++ rest → bytes ≡ first ++ second ++ third ++ rest
+three_read bytes first second third after_first after_second rest a b c =
+    a ∙ ap (λ (x : List ℕ). first ++ x) b
+    ∙ sym (append_assoc first second after_second)
+    ∙ ap (λ (x : List ℕ). (first ++ second) ++ x) c
+    ∙ sym (append_assoc (first ++ second) third rest)

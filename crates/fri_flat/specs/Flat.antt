@@ -6,6 +6,7 @@ use Rattle.std.specs.Result.{result_unwrap_or}
 use Rattle.std.specs.declared.vec.Vec.{Vec}
 use Rattle.std.specs.declared.string.String.{String}
 use Rattle.hex.specs.Hex.{decode_sized}
+use Rattle.fri_requests.specs.Bound.{IsContext, context_listed}
 use Rattle.fri_requests.specs.declared.records.Parameters.{Parameters}
 use Rattle.fri_requests.specs.declared.records.Matrix.{Matrix}
 use Rattle.fri_requests.specs.declared.records.Batch.{Batch}
@@ -34,6 +35,10 @@ counted form entries = word (length entries) ++ flat_map form entries
 abbrev pub digest : {A : Type 0} → String A → List ℕ
 digest text = result_unwrap_or (decode_sized (string_bytes text) 32) []
 
+-- how many bytes a hex text says, and then these
+abbrev pub context : (text : List ℕ) → List ℕ
+context text = word (length (context_listed text)) ++ context_listed text
+
 -- a list of numbers that stands for an element of the extension
 abbrev pub IsElement : {A : Type 0} → Vec ℕ A → Type 0
 IsElement list = vec_len list ≡ 4
@@ -59,10 +64,12 @@ abbrev pub IsBatch : Batch → Type 0
 IsBatch b = All IsMatrix b.matrices.items
 
 abbrev pub request : Request → List ℕ
-request r = parameters r.parameters ++ counted batch r.commitments.items
+request r = context (string_bytes r.context) ++ parameters r.parameters
+    ++ counted batch r.commitments.items
 
-abbrev pub IsRequest : Request → Type 0
-IsRequest r = All IsBatch r.commitments.items
+pub record IsRequest (r : Request) : Type 0 where
+  pub context : IsContext (string_bytes r.context)
+  pub commitments : All IsBatch r.commitments.items
 
 abbrev pub point_claims : PointClaims → List ℕ
 point_claims c = words c.point.items ++ word (vec_len c.values) ++ elements c.values.items
@@ -84,10 +91,12 @@ batch_claims c = digest c.commitment ++ counted matrix_claims c.matrices.items
 abbrev pub IsBatchClaims : BatchClaims → Type 0
 IsBatchClaims c = All IsMatrixClaims c.matrices.items
 
--- what is verified; the proof is a text that goes to the end
-abbrev pub statement : Parameters → List BatchClaims → List ℕ → List ℕ
-statement p claims proof = parameters p ++ counted batch_claims claims ++ proof
+-- what is verified, of a context as a hex text; the proof is a text that goes to the end
+abbrev pub statement : (text : List ℕ) → Parameters → List BatchClaims → List ℕ → List ℕ
+statement text p claims proof =
+    context text ++ parameters p ++ counted batch_claims claims ++ proof
 
 -- what `open` answers
-abbrev pub answer : List ℕ → Parameters → List BatchClaims → List ℕ → List ℕ
-answer next_challenge p claims proof = words next_challenge ++ statement p claims proof
+abbrev pub answer : List ℕ → (text : List ℕ) → Parameters → List BatchClaims → List ℕ → List ℕ
+answer next_challenge text p claims proof =
+    words next_challenge ++ statement text p claims proof

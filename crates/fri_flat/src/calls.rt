@@ -1,8 +1,8 @@
 //! The calls over bytes.
 
-ghost use Rattle.std.specs.Prelude.{◌≡◌, length, IfOk};
+ghost use Rattle.std.specs.Prelude.{◌≡◌, length, IfOk, string_bytes};
 ghost use Rattle.fri_flat.specs.Answers.{AnswersRequest, AnswersStatement, CommitsRequest};
-ghost use Rattle.fri_flat.specs.Answers.{HasAcceptedProof};
+ghost use Rattle.fri_flat.specs.Answers.{HasAcceptedProof, drawn_after};
 
 use crate::failure::Failure;
 use crate::forms::{Statement, answer_of, digests_of, request_of, statement_of};
@@ -25,7 +25,8 @@ pub fn commit(alloc: Global, bytes: &[u8]) -> Result<Vec<u8>, Failure>
 }
 
 /// The answer to the request in these bytes: the next challenge, and the statement that `verify`
-/// takes.
+/// takes. The proof is bound to the whole statement: context, parameters, commitments, domains,
+/// widths and points.
 pub fn open(alloc: Global, bytes: &[u8]) -> Result<Vec<u8>, Failure>
     ensures { IfOk result (λ v. AnswersRequest bytes.now v.items) }
 {
@@ -36,11 +37,10 @@ pub fn open(alloc: Global, bytes: &[u8]) -> Result<Vec<u8>, Failure>
     };
     let form = to_plain(alloc, &opening.proof)?;
     let proof = serde_json::to_vec(alloc, &form)?;
-    let parameters = &request.parameters;
     let answer = answer_of(
         alloc,
+        &request,
         &opening.next_challenge,
-        parameters,
         &opening.claims,
         &proof,
     )?;
@@ -53,15 +53,22 @@ fn verify_form(
     statement: &Statement<'_>,
     form: PlainFriProof,
 ) -> Result<Vec<u64>, VerifyError>
-    ensures { IfOk result (λ next.
-        HasAcceptedProof statement.now.parameters statement.now.claims.items next.items) }
+    ensures { IfOk result (λ next. HasAcceptedProof (string_bytes statement.now.context)
+        statement.now.parameters statement.now.claims.items next.items) }
 {
     let proof = from_plain(alloc, form)?;
-    fri_requests::verify(alloc, &statement.parameters, &statement.claims, &proof)
+    let context = statement.context.as_str();
+    fri_requests::verify(
+        alloc,
+        context,
+        &statement.parameters,
+        &statement.claims,
+        &proof,
+    )
 }
 
-/// Verifies the statement in these bytes, and answers the four numbers of what the challenger draws
-/// next.
+/// Verifies the statement in these bytes under the context that it states, and answers the four
+/// numbers of what the challenger draws next.
 pub fn verify(alloc: Global, bytes: &[u8]) -> Result<Vec<u8>, Failure>
     ensures statement { IfOk result (λ v. AnswersStatement bytes.now v.items) }
     ensures numbers { IfOk result (λ v. length v.items ≡ 16) }
@@ -74,5 +81,18 @@ pub fn verify(alloc: Global, bytes: &[u8]) -> Result<Vec<u8>, Failure>
     };
     let mut out = Vec::new(alloc);
     push_element(&mut out, &next_challenge)?;
+    Ok(out)
+}
+
+/// The four numbers of what a fresh challenger draws after this context, any bytes. Whoever keeps
+/// the bytes of all that was sent draws challenges between commitments so, and states the same
+/// bytes as the context of what is opened.
+pub fn challenge(alloc: Global, context: &[u8]) -> Result<Vec<u8>, Failure>
+    ensures challenge { IfOk result (λ v. v.items ≡ drawn_after context.now) }
+    ensures numbers { IfOk result (λ v. length v.items ≡ 16) }
+{
+    let challenge = fri_requests::challenge(alloc, context)?;
+    let mut out = Vec::new(alloc);
+    push_element(&mut out, &challenge)?;
     Ok(out)
 }

@@ -1,21 +1,24 @@
 //! Whole requests and statements in the flat form.
 
-ghost use Rattle.std.specs.Prelude.{◌≡◌, ◌++◌, IfOk, OnOk};
+ghost use Rattle.std.specs.Prelude.{◌≡◌, ◌++◌, IfOk, OnOk, string_bytes};
 ghost use Rattle.std.specs.List.{All};
+ghost use Rattle.fri_requests.specs.Bound.{IsContext};
 ghost use Rattle.fri_flat.specs.Answers.{digests};
 ghost use Rattle.fri_flat.specs.Flat.{request, statement, answer};
 ghost use Rattle.fri_flat.specs.Flat.{IsRequest, IsBatchClaims};
 
 use crate::failure::Failure;
+use crate::fault::ReadError;
 use crate::flat::Flat;
 use crate::reader::Reader;
-use crate::writer::push_element;
+use crate::writer::{push_context, push_element};
 use fri_requests::{BatchClaims, Parameters, Request};
 use std::alloc::{AllocError, Global};
 
-/// Parameters, claims, and the text of their proof.
+/// A context, parameters, claims, and the text of their proof.
 #[derive(Drop)]
 pub(crate) struct Statement<'a> {
+    pub context: String,
     pub parameters: Parameters,
     pub claims: Vec<BatchClaims>,
     pub proof: &'a [u8],
@@ -39,26 +42,33 @@ pub(crate) fn request_of(alloc: Global, bytes: &[u8]) -> Result<Request, Failure
     Ok(request)
 }
 
+/// Reads a statement, whose proof goes to the end.
+fn read_statement<'a>(alloc: Global, reader: &mut Reader<'a>) -> Result<Statement<'a>, ReadError>
+    ensures form { IfOk result (λ s. reader.old.left.now
+        ≡ statement (string_bytes s.context) s.parameters s.claims.items s.proof.now) }
+    ensures context { IfOk result (λ s. IsContext (string_bytes s.context)) }
+    ensures whole { IfOk result (λ s. All IsBatchClaims s.claims.items) }
+{
+    Ok(Statement {
+        context: reader.context(alloc)?,
+        parameters: Flat::read(alloc, reader)?,
+        claims: Flat::read(alloc, reader)?,
+        proof: reader.left,
+    })
+}
+
 /// The statement in these bytes.
 pub(crate) fn statement_of(alloc: Global, bytes: &[u8]) -> Result<Statement<'_>, Failure>
     ensures form { IfOk result (λ s. bytes.now
-        ≡ statement s.parameters s.claims.items s.proof.now) }
+        ≡ statement (string_bytes s.context) s.parameters s.claims.items s.proof.now) }
+    ensures context { IfOk result (λ s. IsContext (string_bytes s.context)) }
     ensures whole { IfOk result (λ s. All IsBatchClaims s.claims.items) }
 {
     let mut reader = Reader { left: bytes };
-    let parameters = match Parameters::read(alloc, &mut reader) {
-        Ok(parameters) => parameters,
-        Err(error) => return Err(Failure::of_reading(error, bytes.len())),
-    };
-    let claims: Vec<BatchClaims> = match Flat::read(alloc, &mut reader) {
-        Ok(claims) => claims,
-        Err(error) => return Err(Failure::of_reading(error, bytes.len())),
-    };
-    Ok(Statement {
-        parameters,
-        claims,
-        proof: reader.left,
-    })
+    match read_statement(alloc, &mut reader) {
+        Ok(statement) => Ok(statement),
+        Err(error) => Err(Failure::of_reading(error, bytes.len())),
+    }
 }
 
 /// The bytes of an answer of `commit`: the commitments one after another.
@@ -72,20 +82,22 @@ pub(crate) fn digests_of(alloc: Global, commitments: &[[u8; 32]]) -> Result<Vec<
     Ok(out)
 }
 
-/// The bytes of an answer of `open`: the next challenge, then the statement.
+/// The bytes of an answer of `open` to a request: the next challenge, then the statement.
 pub(crate) fn answer_of(
     alloc: Global,
+    request: &Request,
     next_challenge: &Vec<u64>,
-    parameters: &Parameters,
     claims: &Vec<BatchClaims>,
     proof: &[u8],
 ) -> Result<Vec<u8>, Failure>
     ensures { IfOk result (λ v. v.items
-        ≡ answer next_challenge.now.items parameters.now claims.now.items proof.now) }
+        ≡ answer next_challenge.now.items (string_bytes request.now.context)
+        request.now.parameters claims.now.items proof.now) }
 {
     let mut out = Vec::new(alloc);
     push_element(&mut out, next_challenge)?;
-    parameters.write(&mut out)?;
+    push_context(&mut out, &request.context)?;
+    request.parameters.write(&mut out)?;
     claims.write(&mut out)?;
     out.extend_from_slice(proof)?;
     Ok(out)

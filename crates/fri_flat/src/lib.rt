@@ -1,6 +1,10 @@
 //! The plain scheme over bytes that a caller without a JSON reader can write and read: requests,
-//! answers and statements in the flat form, in which a number is four bytes and a digest 32. Only a
-//! proof is JSON.
+//! answers and statements in the flat form, in which a number is four bytes, a digest 32, and a
+//! context as many as its count says. Only a proof is JSON.
+//!
+//! What is accepted is accepted under the context that a statement names, with its parameters,
+//! commitments, domains, widths and points: a challenger absorbs all of them first. `challenge`
+//! draws what has to be random after a commitment, as its point, from the bytes of what was sent.
 //!
 //! Any bytes may come: memory is asked for only as far as bytes are there, and bytes that are
 //! missing or left over are refused by name and offset.
@@ -15,5 +19,5 @@ mod reader;
 mod records;
 mod writer;
 
-pub use crate::calls::{commit, open, verify};
+pub use crate::calls::{challenge, commit, open, verify};
 pub use crate::failure::{ANSWERED, Failure, MALFORMED, OUT_OF_MEMORY, REFUSED};

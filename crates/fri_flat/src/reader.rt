@@ -1,8 +1,11 @@
 //! Numbers and digests at the front of bytes. Memory is asked for only as far as bytes are there.
 
-ghost use Rattle.std.specs.Prelude.{◌≡◌, ◌<◌, ◌++◌, IfOk, OnErr, length, vec_len};
+ghost use Rattle.std.specs.Prelude.{◌≡◌, ◌<◌, ◌++◌, IfOk, Ok, OnErr, length, vec_len};
+ghost use Rattle.std.specs.Prelude.{string_bytes};
 ghost use Rattle.std.specs.List.{All};
-ghost use Rattle.fri_flat.specs.Flat.{word, words, elements, digest, IsElement};
+ghost use Rattle.hex.specs.Hex.{decode_of};
+ghost use Rattle.fri_requests.specs.Bound.{IsContext};
+ghost use Rattle.fri_flat.specs.Flat.{word, words, elements, digest, context, IsElement};
 
 use crate::fault::ReadError;
 use std::alloc::{AllocError, Global};
@@ -11,6 +14,14 @@ use std::alloc::{AllocError, Global};
 fn hex_of(alloc: Global, bytes: &[u8]) -> Result<String, AllocError>
     requires { length bytes.now ≡ 32 }
     ensures { IfOk result (λ text. digest text ≡ bytes.now) }
+{
+    let text = hex::encode(alloc, bytes)?;
+    Ok(text)
+}
+
+/// The hex text of a context.
+fn context_of(alloc: Global, bytes: &[u8]) -> Result<String, AllocError>
+    ensures { IfOk result (λ text. decode_of (string_bytes text) ≡ Ok bytes.now) }
 {
     let text = hex::encode(alloc, bytes)?;
     Ok(text)
@@ -86,6 +97,22 @@ impl<'a> Reader<'a> {
         }
         let (digest, rest) = self.left.split_at(32);
         let text = hex_of(alloc, digest)?;
+        self.left = rest;
+        Ok(text)
+    }
+
+    /// Reads a context, as hex text: the number of its bytes, then these.
+    pub fn context(&mut self, alloc: Global) -> Result<String, ReadError>
+        ensures form { IfOk result (λ text. self.old.left.now
+            ≡ context (string_bytes text) ++ self.new.left.now) }
+        ensures whole { IfOk result (λ text. IsContext (string_bytes text)) }
+    {
+        let count = self.word()? as usize;
+        if self.left.len() < count {
+            return Err(self.missing());
+        }
+        let (context, rest) = self.left.split_at(count);
+        let text = context_of(alloc, context)?;
         self.left = rest;
         Ok(text)
     }

@@ -10,7 +10,8 @@ use crate::fault::{ReadError, WriteError};
 use crate::flat::Flat;
 use crate::reader::Reader;
 use crate::writer::{
-    push_count, push_counts, push_digest, push_element, push_elements, push_number, push_numbers,
+    push_context, push_count, push_counts, push_digest, push_element, push_elements, push_number,
+    push_numbers,
 };
 use fri_requests::{
     Batch, BatchClaims, Domain, Matrix, MatrixClaims, Parameters, PointClaims, Request,
@@ -120,12 +121,14 @@ impl Flat for Request {
 
     fn read(alloc: Global, reader: &mut Reader<'_>) -> Result<Request, ReadError> {
         Ok(Request {
+            context: reader.context(alloc)?,
             parameters: Flat::read(alloc, reader)?,
             commitments: Flat::read(alloc, reader)?,
         })
     }
 
     fn write(&self, out: &mut Vec<u8>) -> Result<(), WriteError> {
+        push_context(out, &self.context)?;
         self.parameters.write(out)?;
         self.commitments.write(out)
     }

@@ -1,8 +1,9 @@
 //! Numbers and digests at the end of bytes.
 
-ghost use Rattle.std.specs.Prelude.{◌≡◌, ◌++◌, OnOk};
+ghost use Rattle.std.specs.Prelude.{◌≡◌, ◌++◌, OnOk, string_bytes};
 ghost use Rattle.std.specs.List.{All};
-ghost use Rattle.fri_flat.specs.Flat.{word, words, elements, digest, IsElement};
+ghost use Rattle.fri_requests.specs.Bound.{IsContext};
+ghost use Rattle.fri_flat.specs.Flat.{word, words, elements, digest, context, IsElement};
 
 use crate::fault::WriteError;
 use hex::{FromHex, FromHexError};
@@ -83,6 +84,21 @@ pub(crate) fn push_digest(out: &mut Vec<u8>, text: &String) -> Result<(), WriteE
     let digest: Result<[u8; 32], FromHexError> = FromHex::from_hex(text.as_str());
     match digest {
         Ok(digest) => Ok(out.extend_from_slice(&digest)?),
+        Err(_) => Err(WriteError::NoForm),
+    }
+}
+
+/// Adds the number of bytes that a hex text says, and these.
+pub(crate) fn push_context(out: &mut Vec<u8>, text: &String) -> Result<(), WriteError>
+    ensures { OnOk result (out.new.items ≡ out.old.items ++ context (string_bytes text.now)) }
+{
+    let alloc = *out.allocator();
+    match hex::decode(alloc, text.as_str()) {
+        Ok(context) => {
+            push_count(out, context.len())?;
+            Ok(out.extend_from_slice(&context)?)
+        },
+        Err(FromHexError::OutOfMemory) => Err(WriteError::OutOfMemory),
         Err(_) => Err(WriteError::NoForm),
     }
 }

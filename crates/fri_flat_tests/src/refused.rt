@@ -1,12 +1,12 @@
 //! What is refused, by which text and status.
 
-use crate::forms::{PROOF, REQUEST, bytes_of, claims_of};
+use crate::forms::{EMPTY, OPENED, REQUEST, bytes_of, claims_of, statement_of};
 use fri_flat::{Failure, MALFORMED, REFUSED};
 use std::alloc::{AllocError, Global};
 use std::test::Fail;
 
 /// Where in the statement the claimed value begins.
-const LOWEST_BYTE_OF_VALUE: usize = 100;
+const LOWEST_BYTE_OF_VALUE: usize = 104;
 
 /// A request with one number changed, cut to so many bytes, or with one byte more, and what it is
 /// refused with.
@@ -17,50 +17,69 @@ struct Case {
     text: &'static str,
 }
 
-const CASES: [Case; 7] = [
+const CASES: [Case; 10] = [
     // the last byte is cut off, one is added, and all are cut off
     Case {
-        number: 18,
+        number: 19,
         value: 0,
-        length: 75,
-        text: "BytesMissing { at: 60 }: fewer bytes are left than have to come",
+        length: 79,
+        text: "BytesMissing { at: 64 }: fewer bytes are left than have to come",
     },
     Case {
-        number: 18,
+        number: 19,
         value: 0,
-        length: 77,
-        text: "BytesLeft { at: 76 }: bytes follow what is whole",
+        length: 81,
+        text: "BytesLeft { at: 80 }: bytes follow what is whole",
     },
     Case {
-        number: 18,
+        number: 19,
         value: 0,
         length: 0,
         text: "BytesMissing { at: 0 }: fewer bytes are left than have to come",
     },
-    // as many commitments, points of a domain and columns as a number names
+    // a context of as many bytes as a number names, of one more than there are, and of all
     Case {
-        number: 7,
+        number: 0,
         value: 4294967295,
-        length: 76,
-        text: "BytesMissing { at: 76 }: fewer bytes are left than have to come",
+        length: 80,
+        text: "BytesMissing { at: 4 }: fewer bytes are left than have to come",
     },
     Case {
-        number: 10,
+        number: 0,
+        value: 77,
+        length: 80,
+        text: "BytesMissing { at: 4 }: fewer bytes are left than have to come",
+    },
+    Case {
+        number: 0,
+        value: 76,
+        length: 80,
+        text: "BytesMissing { at: 80 }: fewer bytes are left than have to come",
+    },
+    // as many commitments, points of a domain and columns as a number names
+    Case {
+        number: 8,
         value: 4294967295,
-        length: 76,
-        text: "BytesMissing { at: 52 }: fewer bytes are left than have to come",
+        length: 80,
+        text: "BytesMissing { at: 80 }: fewer bytes are left than have to come",
     },
     Case {
         number: 11,
         value: 4294967295,
-        length: 76,
-        text: "BytesMissing { at: 52 }: fewer bytes are left than have to come",
+        length: 80,
+        text: "BytesMissing { at: 56 }: fewer bytes are left than have to come",
+    },
+    Case {
+        number: 12,
+        value: 4294967295,
+        length: 80,
+        text: "BytesMissing { at: 56 }: fewer bytes are left than have to come",
     },
     // no query
     Case {
-        number: 3,
+        number: 4,
         value: 0,
-        length: 76,
+        length: 80,
         text: "NumQueries: expected num_queries above 0",
     },
 ];
@@ -102,11 +121,10 @@ fn malformed_requests_are_refused(rt: HostRuntime) -> Result<(), Fail> {
 
 #[test]
 fn an_altered_value_is_refused(rt: HostRuntime) -> Result<(), Fail> {
-    let mut statement = claims_of(rt.alloc())?;
+    let mut statement = statement_of(rt.alloc(), EMPTY.context, EMPTY.proof)?;
     if let Some(byte) = statement.get_mut(LOWEST_BYTE_OF_VALUE) {
         *byte = 253;
     }
-    statement.extend_from_slice(PROOF.as_bytes())?;
     let refused = match fri_flat::verify(rt.alloc(), &statement) {
         Err(failure) => failure.status() == REFUSED,
         Ok(_) => false,
@@ -115,11 +133,46 @@ fn an_altered_value_is_refused(rt: HostRuntime) -> Result<(), Fail> {
     Ok(())
 }
 
+/// Whether the proof of one context is refused under each other.
+fn is_bound(alloc: Global, proven: usize) -> Result<bool, AllocError> {
+    for (index, opened) in OPENED.iter().enumerate() {
+        let statement = statement_of(alloc, opened.context, OPENED[proven].proof)?;
+        match fri_flat::verify(alloc, &statement) {
+            Ok(_) if index == proven => {},
+            Err(failure) if index != proven && failure.status() == REFUSED => {},
+            _ => return Ok(false),
+        }
+    }
+    Ok(true)
+}
+
+#[test]
+fn another_context_is_refused(rt: HostRuntime) -> Result<(), Fail> {
+    for proven in 0..OPENED.len() {
+        assert!(rt; is_bound(rt.alloc(), proven)?);
+    }
+    Ok(())
+}
+
 #[test]
 fn a_cut_proof_is_refused(rt: HostRuntime) -> Result<(), Fail> {
-    let statement = claims_of(rt.alloc())?;
+    let statement = claims_of(rt.alloc(), EMPTY.context)?;
     let refused = match fri_flat::verify(rt.alloc(), &statement) {
         Err(failure) => matches!(&failure, Failure::Json(_)) && failure.status() == MALFORMED,
+        Ok(_) => false,
+    };
+    assert!(rt; refused);
+    Ok(())
+}
+
+/// The statement cut within its context.
+#[test]
+fn a_cut_context_is_refused(rt: HostRuntime) -> Result<(), Fail> {
+    let mut statement = claims_of(rt.alloc(), &[1, 2, 3])?;
+    statement.truncate(6);
+    let text = "BytesMissing { at: 4 }: fewer bytes are left than have to come";
+    let refused = match fri_flat::verify(rt.alloc(), &statement) {
+        Err(failure) => says(rt.alloc(), &failure, MALFORMED, text)?,
         Ok(_) => false,
     };
     assert!(rt; refused);

@@ -1,9 +1,14 @@
-//! The plain scheme for callers that aren't Rattle: three functions over bytes, in the flat form.
+//! The plain scheme for callers that aren't Rattle: four functions over bytes, in the flat form.
 //! Nothing is required of what the bytes are, no call halts, and none keeps a pointer.
+//!
+//! A proof is bound to the whole statement: its context, parameters, commitments, domains, widths
+//! and points. A point that has to be random is drawn after the commitments, by `p3_fri_challenge`
+//! from the bytes of what was sent, which are then the context.
 #![tactic(auto)]
 
 ghost use Rattle.std.specs.Prelude.{◌≡◌, take};
 ghost use Rattle.fri_flat.specs.Answers.{AnswersRequest, AnswersStatement, CommitsRequest};
+ghost use Rattle.fri_flat.specs.Answers.{drawn_after};
 ghost use Rattle.p3_fri_ffi.specs.Reply.{IsReply};
 
 mod reply;
@@ -26,7 +31,8 @@ pub extern "C" fn p3_fri_commit(
     reply(alloc, outcome, answer, needed)
 }
 
-/// Opens what a request commits to, and answers the next challenge and a statement.
+/// Opens what a request commits to, and answers the next challenge and a statement, to which the
+/// proof is bound.
 #[unsafe(no_mangle)]
 pub extern "C" fn p3_fri_open(
     alloc: Global,
@@ -41,7 +47,7 @@ pub extern "C" fn p3_fri_open(
     reply(alloc, outcome, answer, needed)
 }
 
-/// Verifies a statement, and answers the next challenge.
+/// Verifies a statement under the context that it names, and answers the next challenge.
 #[unsafe(no_mangle)]
 pub extern "C" fn p3_fri_verify(
     alloc: Global,
@@ -54,5 +60,21 @@ pub extern "C" fn p3_fri_verify(
     ensures numbers { result ≡ 0 → needed.new ≡ 16 }
 {
     let outcome = fri_flat::verify(alloc, statement);
+    reply(alloc, outcome, answer, needed)
+}
+
+/// Answers the challenge that is drawn after a context, any bytes.
+#[unsafe(no_mangle)]
+pub extern "C" fn p3_fri_challenge(
+    alloc: Global,
+    context: &[u8],
+    answer: &mut [u8],
+    needed: &mut usize,
+) -> u8
+    ensures reply { IsReply answer.old answer.new needed.new result }
+    ensures answered { result ≡ 0 → take needed.new answer.new ≡ drawn_after context.now }
+    ensures numbers { result ≡ 0 → needed.new ≡ 16 }
+{
+    let outcome = fri_flat::challenge(alloc, context);
     reply(alloc, outcome, answer, needed)
 }

@@ -1,5 +1,5 @@
 use Rattle.std.proofs.Common.{◌≡◌, ℕ, List, Result, Ok, Err, subst}
-use Rattle.std.specs.Prelude.{IfOk}
+use Rattle.std.specs.Prelude.{IfOk, string_bytes}
 use Rattle.std.specs.Global.{Global}
 use Rattle.std.specs.declared.vec.Vec.{Vec}
 use Rattle.p3_baby_bear.specs.declared.baby_bear.BabyBear.{BabyBear}
@@ -14,18 +14,21 @@ use Rattle.fri_flat.specs.Answers.{HasAcceptedProof}
 use Rattle.fri_flat.proofs.calls.verify_form.Goals as goal
 
 -- the proof that is verified is some proof
-has_proof : (p : Parameters) (read claims : List BatchClaims)
+has_proof : (said text : List ℕ) (p : Parameters) (read claims : List BatchClaims)
     (proof : Proof BabyBear BabyBear4 (List ℕ) (Vec (Vec (List ℕ) Global) Global)
     (Vec (Vec (List ℕ) Global) Global)) (verified : Result (Vec ℕ Global) VerifyError)
-    → read ≡ claims → IfOk verified (λ next. IsAccepted p read proof next.items)
-    → IfOk verified (λ next. HasAcceptedProof p claims next.items)
-has_proof p read claims proof (Ok next) same accepted = record {
+    → said ≡ text → read ≡ claims
+    → IfOk verified (λ next. IsAccepted said p read proof next.items)
+    → IfOk verified (λ next. HasAcceptedProof text p claims next.items)
+has_proof said text p read claims proof (Ok next) is_text same accepted = record {
   proof = proof;
-  accepted = subst (λ cs. IsAccepted p cs proof next.items) same accepted;
+  accepted = subst (λ t. IsAccepted t p claims proof next.items) is_text
+      (subst (λ cs. IsAccepted said p cs proof next.items) same accepted);
 }
-has_proof p read claims proof (Err e) same accepted = tt
+has_proof said text p read claims proof (Err e) is_text same accepted = tt
 
 pub returns : goal.returns
-returns c = has_proof c.args.statement.now.parameters c.deref.result.now
+returns c = has_proof c.as_str-context.result.now
+    (string_bytes c.args.statement.now.context) c.args.statement.now.parameters c.deref.result.now
     c.args.statement.now.claims.items (proof_of c.in_ok-proof.proof) c.verify.result
-    c.deref.ensures.value c.verify.ensures.accepted
+    c.as_str-context.ensures.value c.deref.ensures.value c.verify.ensures.accepted
