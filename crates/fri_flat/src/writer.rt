@@ -2,7 +2,6 @@
 
 ghost use Rattle.std.specs.Prelude.{◌≡◌, ◌++◌, OnOk, string_bytes};
 ghost use Rattle.std.specs.List.{All};
-ghost use Rattle.fri_requests.specs.Bound.{IsContext};
 ghost use Rattle.fri_flat.specs.Flat.{word, words, elements, digest, context, IsElement};
 
 use crate::fault::WriteError;
