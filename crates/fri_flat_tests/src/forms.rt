@@ -66,7 +66,8 @@ pub fn bytes_of(alloc: Global, numbers: &[u32]) -> Result<Vec<u8>, AllocError> {
 /// A context's form: the number of its bytes, then these.
 fn context_of(alloc: Global, context: &[u8]) -> Result<Vec<u8>, AllocError> {
     let mut bytes = Vec::new(alloc);
-    bytes.extend_from_slice(&(context.len() as u32).to_le_bytes())?;
+    let count = u32::try_from(context.len()).unwrap_or(u32::MAX);
+    bytes.extend_from_slice(&count.to_le_bytes())?;
     bytes.extend_from_slice(context)?;
     Ok(bytes)
 }
