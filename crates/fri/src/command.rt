@@ -1,7 +1,7 @@
 //! The commands of the program.
 
 use crate::files::text_of;
-use fri_json::{Command, OUT_OF_MEMORY, WRITE_FAILED, answer};
+use fri_json::{Command, OUT_OF_MEMORY, WRITE_FAILED, answer, read_expected};
 use std::io::{ErrorKind, Write};
 use std::{env, io};
 
@@ -13,18 +13,23 @@ const HELP: &str = "fri: the FRI polynomial commitment scheme over files.
 
     fri commit FILE..    prints the commitments of a request, one a line
     fri open FILE..      prints a request's values with their proof, as one line of JSON
-    fri verify FILE..    prints 'accepted', or 'refused: ' and why
+    fri verify FILE..    prints 'accepted' and what was, or 'refused: ' and why
+    fri verify --expect EXPECTED FILE..
+                         and refuses what isn't the expected statement
 
 FILE is a file in JSON, or - for standard input. Files are taken in turn, up to the
 first that isn't answered. The status is 0, 1 where a file is refused, 2 where it isn't
 well formed, 3 for want of memory, and 4 where a write fails. Before a commitment to 2^24
-extended values or more, a line on standard error says to how many.
+extended values or more, a line on standard error says to how many; and after a proof of
+fewer than 80 conjectured bits of soundness one says of how many.
 
-A request has parameters, and matrices by commitment, each on a domain of 2^log_size
-points, row by row, with the points to open it at. A number is an element of BabyBear,
-four are one of its extension. The column 1, 3 opened at 5:
+A request has a context, which is any bytes in hex that the proof is bound to, parameters,
+and matrices by commitment, each on a domain of 2^log_size points, row by row, with the
+points to open it at. A number is an element of BabyBear, four are one of its extension.
+The column 1, 3 opened at 5:
 
-    {\"parameters\": {\"log_blowup\": 1, \"log_final_poly_len\": 0, \"max_log_arity\": 1,
+    {\"context\": \"\",
+     \"parameters\": {\"log_blowup\": 1, \"log_final_poly_len\": 0, \"max_log_arity\": 1,
        \"num_queries\": 2, \"batch_proof_of_work_bits\": 0,
        \"commit_proof_of_work_bits\": 0, \"query_proof_of_work_bits\": 0},
      \"commitments\": [{\"matrices\": [{\"domain\": {\"shift\": 1, \"log_size\": 1},
@@ -32,9 +37,13 @@ four are one of its extension. The column 1, 3 opened at 5:
 
     fri open column.json | fri verify -
 
-'fri verify' takes the parameters, commitments and points that the file names: whoever
-relies on 'accepted' compares these with the expected ones.
+'fri verify' takes the context, parameters, commitments, domains and points that the file
+names: whoever relies on 'accepted' compares what is printed below it with what was
+expected, or has EXPECTED: a statement without its proof, and if need be without values.
 ";
+
+/// What comes before the name of what is expected.
+const EXPECT: &str = "--expect";
 
 /// Writes the text whole, and gives `status`, or `WRITE_FAILED` where that fails.
 fn report<W: Write>(to: &mut W, text: &str, status: u8) -> u8 {
@@ -57,7 +66,7 @@ fn report_unread(rt: &HostRuntime, file: &str, error: io::Error) -> u8 {
 }
 
 /// Answers one file.
-fn run_file(rt: &HostRuntime, command: Command, file: &str) -> u8 {
+fn run_file(rt: &HostRuntime, command: Command<'_>, file: &str) -> u8 {
     let text = match text_of(rt, file) {
         Ok(text) => text,
         Err(error) => return report_unread(rt, file, error),
@@ -78,7 +87,7 @@ fn run_file(rt: &HostRuntime, command: Command, file: &str) -> u8 {
 }
 
 /// Answers the files in turn, up to the first that isn't answered.
-fn run_files(rt: &HostRuntime, command: Command, files: &[String]) -> u8 {
+fn run_files(rt: &HostRuntime, command: Command<'_>, files: &[String]) -> u8 {
     for file in files {
         let status = run_file(rt, command, file.as_str());
         if status != 0 {
@@ -88,6 +97,47 @@ fn run_files(rt: &HostRuntime, command: Command, files: &[String]) -> u8 {
     0
 }
 
+/// Verifies the files, and compares each with the expected statement of a file.
+fn verify_expected(rt: &HostRuntime, expected: &str, files: &[String]) -> u8 {
+    let text = match text_of(rt, expected) {
+        Ok(text) => text,
+        Err(error) => return report_unread(rt, expected, error),
+    };
+    match read_expected(rt.alloc(), expected, text.as_str(), &mut rt.stderr()) {
+        Ok(expected) => run_files(rt, Command::VerifyExpected(&expected), files),
+        Err(status) => status,
+    }
+}
+
+/// Whether an argument names a file: a flag doesn't.
+fn is_file(name: &str) -> bool {
+    name == "-" || !name.starts_with('-')
+}
+
+/// Whether the arguments name some files, and nothing else.
+fn are_files(args: &[String]) -> bool {
+    for file in args {
+        if !is_file(file.as_str()) {
+            return false;
+        }
+    }
+    !args.is_empty()
+}
+
+/// Does what the command's arguments ask for, and gives the status.
+fn run_command(rt: &HostRuntime, command: Command<'_>, args: &[String]) -> u8 {
+    if are_files(args) {
+        return run_files(rt, command, args);
+    }
+    match (command, args) {
+        (Command::Verify, [flag, expected, files @ ..])
+            if flag.as_str() == EXPECT && is_file(expected.as_str()) && are_files(files) => {
+            verify_expected(rt, expected.as_str(), files)
+        },
+        _ => report(&mut rt.stderr(), HELP, BAD_ARGUMENTS),
+    }
+}
+
 /// The arguments past the program's name.
 fn arguments(rt: &HostRuntime) -> io::Result<Vec<String>> {
     Ok(env::args(rt)?.skip(1).collect(rt.alloc())?)
@@ -95,15 +145,15 @@ fn arguments(rt: &HostRuntime) -> io::Result<Vec<String>> {
 
 /// Does what the arguments ask for, and gives the status.
 fn run_arguments(rt: &HostRuntime, args: &[String]) -> u8 {
-    let Some((name, files)) = args.split_first() else {
+    let Some((name, args)) = args.split_first() else {
         return report(&mut rt.stderr(), HELP, BAD_ARGUMENTS);
     };
     if name.as_str() == "--help" {
         return report(&mut rt.stdout(), HELP, 0);
     }
     match Command::named(name.as_str()) {
-        Some(command) if !files.is_empty() => run_files(rt, command, files),
-        _ => report(&mut rt.stderr(), HELP, BAD_ARGUMENTS),
+        Some(command) => run_command(rt, command, args),
+        None => report(&mut rt.stderr(), HELP, BAD_ARGUMENTS),
     }
 }
 

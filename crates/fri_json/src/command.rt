@@ -1,6 +1,10 @@
 //! The commands of the program `fri`, each over one text.
 
-use crate::{Failure, REFUSED, commit_request, open_request, request_of, verify};
+use crate::difference::first_difference;
+use crate::expected::Expected;
+use crate::records::Accepted;
+use crate::summary::accepted_lines;
+use crate::{Failure, REFUSED, accept, commit_request, expected_of, open_request, request_of};
 use fri_requests::Request;
 use std::alloc::Global;
 use std::io::Write;
@@ -11,17 +15,22 @@ pub const WRITE_FAILED: u8 = 4;
 /// From so many values of extended matrices on a commitment takes about a second or more.
 const MANY_VALUES: usize = 1 << 24;
 
+/// Of fewer conjectured bits of soundness a verifier warns.
+const FEW_BITS: usize = 80;
+
 /// What is done with a text.
 #[derive(Clone, Copy)]
-pub enum Command {
+pub enum Command<'a> {
     Commit,
     Open,
     Verify,
+    /// And compares what was accepted with what was expected.
+    VerifyExpected(&'a Expected),
 }
 
-impl Command {
+impl Command<'_> {
     /// The command of this name.
-    pub fn named(name: &str) -> Option<Command> {
+    pub fn named(name: &str) -> Option<Command<'static>> {
         match name {
             "commit" => Some(Command::Commit),
             "open" => Some(Command::Open),
@@ -55,10 +64,29 @@ fn report_progress<W: Write>(err: &mut W, file: &str, request: &Request) {
     }
 }
 
+/// What is printed of an accepted statement, and a warning where its parameters promise little. As
+/// of a progress, the answer doesn't hang on it: its last line has the number.
+fn verified_lines<W: Write>(
+    alloc: Global,
+    file: &str,
+    accepted: &Accepted,
+    err: &mut W,
+) -> Result<String, Failure> {
+    let lines = accepted_lines(alloc, accepted)?;
+    let bits = accepted.parameters.conjectured_soundness_bits();
+    if bits < FEW_BITS {
+        let _ = writeln!(
+            err,
+            "fri: {file}: {bits} conjectured bits of soundness, below {FEW_BITS}"
+        );
+    }
+    Ok(lines)
+}
+
 /// What a command prints for a text.
 fn lines<W: Write>(
     alloc: Global,
-    command: Command,
+    command: Command<'_>,
     file: &str,
     text: &str,
     err: &mut W,
@@ -80,9 +108,13 @@ fn lines<W: Write>(
             line.push_str("\n")?;
             Ok(line)
         },
-        Command::Verify => {
-            let _ = verify(alloc, text)?;
-            Ok(String::from_str(alloc, "accepted\n")?)
+        Command::Verify => verified_lines(alloc, file, &accept(alloc, text)?, err),
+        Command::VerifyExpected(expected) => {
+            let accepted = accept(alloc, text)?;
+            match first_difference(&accepted, expected) {
+                Some(difference) => Err(Failure::Unexpected(difference)),
+                None => verified_lines(alloc, file, &accepted, err),
+            }
         },
     }
 }
@@ -98,6 +130,7 @@ fn report_failure<W: Write, E: Write>(
     let status = failure.status();
     let written = match failure {
         Failure::Statement(error) if status == REFUSED => writeln!(out, "refused: {error}"),
+        Failure::Unexpected(difference) => writeln!(out, "refused: {difference}"),
         _ if status == REFUSED => writeln!(err, "fri: {file}: refused: {failure}"),
         _ => writeln!(err, "fri: {file}: {failure}"),
     };
@@ -111,7 +144,7 @@ fn report_failure<W: Write, E: Write>(
 /// prints nothing, and gives the status.
 pub fn answer<W: Write, E: Write>(
     alloc: Global,
-    command: Command,
+    command: Command<'_>,
     file: &str,
     text: &str,
     out: &mut W,
@@ -123,5 +156,25 @@ pub fn answer<W: Write, E: Write>(
             Err(_) => WRITE_FAILED,
         },
         Err(failure) => report_failure(file, &failure, out, err),
+    }
+}
+
+/// The expected statement in the text of the file of this name; or writes to `err` why it is none,
+/// and gives the status.
+pub fn read_expected<E: Write>(
+    alloc: Global,
+    file: &str,
+    text: &str,
+    err: &mut E,
+) -> Result<Expected, u8> {
+    match expected_of(alloc, text) {
+        Ok(expected) => Ok(expected),
+        Err(failure) => {
+            let status = failure.status();
+            match writeln!(err, "fri: {file}: {failure}") {
+                Ok(()) => Err(status),
+                Err(_) => Err(WRITE_FAILED),
+            }
+        },
     }
 }

@@ -2,10 +2,16 @@
 #![tactic(auto)]
 
 mod command;
+mod difference;
+mod expected;
 mod records;
+mod summary;
 
-pub use crate::command::{Command, WRITE_FAILED, answer};
-use crate::records::{Answer, Statement};
+pub use crate::command::{Command, WRITE_FAILED, answer, read_expected};
+pub use crate::difference::{Difference, Part};
+pub use crate::expected::Expected;
+use crate::expected::test_expected;
+use crate::records::{Accepted, Answer, Statement};
 use fri_requests::{Request, RequestError, VerifyError};
 use p3_fri_plain::{from_plain, to_plain};
 use serde_json::Category;
@@ -31,6 +37,8 @@ pub enum Failure {
     Request(RequestError),
     /// The statement isn't accepted.
     Statement(VerifyError),
+    /// The statement is accepted, and isn't the expected one.
+    Unexpected(Difference),
     /// Memory was refused.
     OutOfMemory,
 }
@@ -41,6 +49,7 @@ impl Failure {
         match self {
             Failure::Request(RequestError::Refused(_)) => REFUSED,
             Failure::Statement(VerifyError::Refused(_)) => REFUSED,
+            Failure::Unexpected(_) => REFUSED,
             Failure::Request(RequestError::OutOfMemory) => OUT_OF_MEMORY,
             Failure::Statement(VerifyError::OutOfMemory) => OUT_OF_MEMORY,
             Failure::OutOfMemory => OUT_OF_MEMORY,
@@ -55,6 +64,7 @@ impl fmt::Display for Failure {
             Failure::Json(error) => write!(f, "Json: {error}"),
             Failure::Request(error) => write!(f, "{error}"),
             Failure::Statement(error) => write!(f, "{error}"),
+            Failure::Unexpected(difference) => write!(f, "{difference}"),
             Failure::OutOfMemory => f.write_str("OutOfMemory: out of memory"),
         }
     }
@@ -108,7 +118,7 @@ fn open_request(alloc: Global, request: &Request) -> Result<String, Failure> {
         Err(error) => return Err(Failure::Request(error)),
     };
     let answer = Answer {
-        context: &request.context,
+        context: request.context.to_ascii_lowercase(alloc)?,
         parameters: request.parameters,
         claims: opening.claims,
         proof: to_plain(alloc, &opening.proof)?,
@@ -127,8 +137,17 @@ pub fn open(alloc: Global, text: &str) -> Result<String, Failure> {
     open_request(alloc, &request_of(alloc, text)?)
 }
 
-/// Verifies the statement in this JSON text, and answers what the challenger draws next.
-pub fn verify(alloc: Global, text: &str) -> Result<Vec<u64>, Failure> {
+/// The expected statement in this JSON text.
+fn expected_of(alloc: Global, text: &str) -> Result<Expected, Failure> {
+    let expected: Expected = serde_json::from_str(alloc, text)?;
+    match test_expected(&expected) {
+        Ok(()) => Ok(expected),
+        Err(misfit) => Err(Failure::Statement(VerifyError::Malformed(misfit))),
+    }
+}
+
+/// Verifies the statement in this JSON text, and answers what was accepted.
+fn accept(alloc: Global, text: &str) -> Result<Accepted, Failure> {
     let statement: Statement = serde_json::from_str(alloc, text)?;
     let Statement {
         context,
@@ -141,7 +160,23 @@ pub fn verify(alloc: Global, text: &str) -> Result<Vec<u64>, Failure> {
         Err(error) => Err(error.into()),
     };
     match verified {
-        Ok(next_challenge) => Ok(next_challenge),
+        Ok(next_challenge) => Ok(Accepted {
+            context,
+            parameters,
+            claims,
+            next_challenge,
+        }),
         Err(error) => Err(Failure::Statement(error)),
     }
+}
+
+/// Verifies the statement in this JSON text, and answers what the challenger draws next.
+pub fn verify(alloc: Global, text: &str) -> Result<Vec<u64>, Failure> {
+    let Accepted {
+        context: _,
+        parameters: _,
+        claims: _,
+        next_challenge,
+    } = accept(alloc, text)?;
+    Ok(next_challenge)
 }

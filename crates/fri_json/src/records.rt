@@ -6,9 +6,9 @@ use serde::{Deserialize, Serialize};
 
 /// What comes of opening a request.
 #[derive(Drop, Serialize)]
-pub(crate) struct Answer<'a> {
+pub(crate) struct Answer {
     /// In hex.
-    pub context: &'a str,
+    pub context: String,
     pub parameters: Parameters,
     pub claims: Vec<BatchClaims>,
     pub proof: PlainFriProof,
@@ -25,4 +25,14 @@ pub(crate) struct Statement {
     pub parameters: Parameters,
     pub claims: Vec<BatchClaims>,
     pub proof: PlainFriProof,
+}
+
+/// What was accepted, and what the challenger draws next.
+#[derive(Drop)]
+pub(crate) struct Accepted {
+    /// In hex.
+    pub context: String,
+    pub parameters: Parameters,
+    pub claims: Vec<BatchClaims>,
+    pub next_challenge: Vec<u64>,
 }

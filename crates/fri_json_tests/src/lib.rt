@@ -2,6 +2,10 @@
 #![tactic(auto)]
 
 #[cfg(test)]
+mod expectations;
+#[cfg(test)]
+mod forgeries;
+#[cfg(test)]
 mod openings;
 #[cfg(test)]
 mod refusals;

@@ -1,89 +1,204 @@
-//! Answers of the example requests, which are accepted, and their commitments.
+//! Answers of the example requests under several contexts, which are accepted, and their commitments.
 
-use crate::texts::{COLUMN, TWO_COMMITMENTS, TWO_HEIGHTS, changed, is_written, written};
+use crate::texts::{COLUMN, TWO_COMMITMENTS, TWO_HEIGHTS, changed, is_written, warning, written};
 use fri_json::{Command, Failure, WRITE_FAILED, answer, open, verify};
-use std::alloc::Global;
+use std::alloc::{AllocError, Global};
 use std::io;
 use std::io::{ErrorKind, Write};
 
-/// A request, the lines of its commitments, and the coefficients of what is drawn after its proof.
-/// Commitments and draws are those that `tools/relation` found, as `crates/fri/stdout` has them.
+/// A request, the lines of its commitments, the lines that say what was accepted below its context,
+/// and its bits of soundness. All are those that `tools/relation` found, commitments as
+/// `crates/fri/stdout` has them.
 #[derive(Clone, Copy)]
 struct Case {
     request: &'static str,
     commitments: &'static str,
+    summary: &'static str,
+    bits: usize,
+}
+
+const COLUMN_CASE: Case = Case {
+    request: COLUMN,
+    commitments: "2aa419f58ea1802d8a714e88157918d5c64c948cbbf6d57fa86161ecdece7203\n",
+    summary: "commitment 2aa419f58ea1802d8a714e88157918d5c64c948cbbf6d57fa86161ecdece7203\n\
+matrix log_size 1 width 1 points 1\n",
+    bits: 2,
+};
+
+const TWO_HEIGHTS_CASE: Case = Case {
+    request: TWO_HEIGHTS,
+    commitments: "7f4fca6d4493d5b5c6d99dc7d5f180786f7292ad26f89708b9d69b69690bb1a0\n",
+    summary: "commitment 7f4fca6d4493d5b5c6d99dc7d5f180786f7292ad26f89708b9d69b69690bb1a0\n\
+matrix log_size 3 width 2 points 2\n\
+matrix log_size 1 width 3 points 1\n",
+    bits: 6,
+};
+
+const TWO_COMMITMENTS_CASE: Case = Case {
+    request: TWO_COMMITMENTS,
+    commitments: "1a560aee673507d4f0709ed50a3cd7c6bd0a9461c8d56af0ecd5b75f7dde4ff3\n\
+fc1219dd27ab78ab0db55f6138ea57242a4c81bc26edcd88be1a15d16dd047af\n",
+    summary: "commitment 1a560aee673507d4f0709ed50a3cd7c6bd0a9461c8d56af0ecd5b75f7dde4ff3\n\
+matrix log_size 4 width 1 points 1\n\
+commitment fc1219dd27ab78ab0db55f6138ea57242a4c81bc26edcd88be1a15d16dd047af\n\
+matrix log_size 2 width 2 points 2\n",
+    bits: 8,
+};
+
+/// A case under a context, which is a hex text so many times over, the context's line, and the
+/// coefficients of what is drawn after the proof, as `tools/relation` found them.
+#[derive(Clone, Copy)]
+struct Bound {
+    case: Case,
+    context: &'static str,
+    times: usize,
+    line: &'static str,
     next_challenge: [u64; 4],
 }
 
-const CASES: [Case; 3] = [
-    Case {
-        request: COLUMN,
-        commitments: "2aa419f58ea1802d8a714e88157918d5c64c948cbbf6d57fa86161ecdece7203\n",
-        next_challenge: [918215560, 649775709, 1984764229, 660091607],
+const BOUND: [Bound; 8] = [
+    Bound {
+        case: COLUMN_CASE,
+        context: "",
+        times: 1,
+        line: "context empty\n",
+        next_challenge: [1575306697, 1677209360, 273931704, 799075703],
     },
-    Case {
-        request: TWO_HEIGHTS,
-        commitments: "7f4fca6d4493d5b5c6d99dc7d5f180786f7292ad26f89708b9d69b69690bb1a0\n",
-        next_challenge: [1274236137, 1925244695, 28861410, 1287798314],
+    Bound {
+        case: TWO_HEIGHTS_CASE,
+        context: "",
+        times: 1,
+        line: "context empty\n",
+        next_challenge: [1306391120, 602489802, 218582372, 1043326126],
     },
-    Case {
-        request: TWO_COMMITMENTS,
-        commitments: "1a560aee673507d4f0709ed50a3cd7c6bd0a9461c8d56af0ecd5b75f7dde4ff3\n\
-fc1219dd27ab78ab0db55f6138ea57242a4c81bc26edcd88be1a15d16dd047af\n",
-        next_challenge: [1327165226, 323022836, 924961147, 1855503707],
+    Bound {
+        case: TWO_COMMITMENTS_CASE,
+        context: "",
+        times: 1,
+        line: "context empty\n",
+        next_challenge: [1118608469, 1542791781, 213118713, 1870654046],
+    },
+    Bound {
+        case: COLUMN_CASE,
+        context: "00",
+        times: 1,
+        line: "context 00\n",
+        next_challenge: [746189083, 1495596827, 1817467402, 212980258],
+    },
+    Bound {
+        case: COLUMN_CASE,
+        context: "ABCdef",
+        times: 1,
+        line: "context abcdef\n",
+        next_challenge: [487689348, 729776954, 1493495339, 49009106],
+    },
+    Bound {
+        case: COLUMN_CASE,
+        context: "Ff",
+        times: 32,
+        line: "context ffffffffffffffffffffffffffffffffffffffffffffffffffffffffffffffff\n",
+        next_challenge: [1483188845, 1802249898, 1509146620, 1862883339],
+    },
+    Bound {
+        case: COLUMN_CASE,
+        context: "07",
+        times: 300,
+        line: "context 0707070707070707070707070707070707070707070707070707070707070707 \
+.. 300 bytes\n",
+        next_challenge: [944552100, 641884498, 1316492725, 782360372],
+    },
+    Bound {
+        case: TWO_COMMITMENTS_CASE,
+        context: "00010203040506070809",
+        times: 1,
+        line: "context 00010203040506070809\n",
+        next_challenge: [1863030146, 427337452, 459439267, 228119812],
     },
 ];
 
-/// Whether the request has these commitments.
-fn has_commitments(alloc: Global, case: &Case) -> bool {
-    let committed = written(alloc, Command::Commit, case.request);
-    is_written(&committed, case.commitments, "", 0)
-}
-
-/// Whether the answer to the request is accepted, with this next draw.
-fn is_accepted(alloc: Global, case: &Case) -> Result<bool, Failure> {
-    let answer = open(alloc, case.request)?;
-    let next = verify(alloc, answer.as_str())?;
-    let verified = written(alloc, Command::Verify, answer.as_str());
-    Ok(
-        next.as_slice() == case.next_challenge.as_slice()
-            && is_written(&verified, "accepted\n", "", 0),
-    )
-}
-
-/// Whether each case holds.
-fn each_holds(alloc: Global) -> Result<bool, Failure> {
-    for case in &CASES {
-        if !has_commitments(alloc, case) || !is_accepted(alloc, case)? {
+/// Whether each request has its commitments, and is committed to without its points.
+fn each_is_committed(alloc: Global) -> Result<bool, AllocError> {
+    for case in &[COLUMN_CASE, TWO_HEIGHTS_CASE, TWO_COMMITMENTS_CASE] {
+        let committed = written(alloc, Command::Commit, case.request);
+        if !is_written(&committed, case.commitments, "", 0) {
             return Ok(false);
         }
     }
-    Ok(true)
+    let unopened = changed(alloc, COLUMN, "[[5,0,0,0]]", "[]")?;
+    let committed = written(alloc, Command::Commit, unopened.as_str());
+    Ok(is_written(&committed, COLUMN_CASE.commitments, "", 0))
+}
+
+#[test]
+fn requests_are_committed_to(rt: HostRuntime) -> Result<(), Failure> {
+    assert!(rt; each_is_committed(rt.alloc())?);
+    Ok(())
+}
+
+/// The hex text of a context.
+fn context_of(alloc: Global, bound: &Bound) -> Result<String, AllocError> {
+    let mut context = String::new(alloc);
+    for _ in 0..bound.times {
+        context.push_str(bound.context)?;
+    }
+    Ok(context)
+}
+
+/// Whether a command writes of the answer that it is accepted, and what was.
+fn is_told(alloc: Global, bound: &Bound, answer: &str) -> Result<bool, AllocError> {
+    let Bound { case, line, .. } = *bound;
+    let (summary, bits) = (case.summary, case.bits);
+    let lines = format!(in alloc; "accepted\n{line}{summary}conjectured soundness bits {bits}\n")?;
+    let verified = written(alloc, Command::Verify, answer);
+    Ok(is_written(&verified, lines.as_str(), warning(alloc, bits)?.as_str(), 0))
+}
+
+/// Whether the answer to a request under a context has that context, in lower case, and is accepted
+/// with this next draw.
+fn is_accepted(alloc: Global, bound: &Bound) -> Result<bool, Failure> {
+    let context = context_of(alloc, bound)?;
+    let front = format!(in alloc; "{{\"context\":\"{context}\",\"parameters\"")?;
+    let request = changed(alloc, bound.case.request, "{\"parameters\"", front.as_str())?;
+    let answer = open(alloc, request.as_str())?;
+    let next = verify(alloc, answer.as_str())?;
+    Ok(
+        answer.starts_with(front.to_ascii_lowercase(alloc)?.as_str())
+            && next.as_slice() == bound.next_challenge.as_slice()
+            && is_told(alloc, bound, answer.as_str())?,
+    )
+}
+
+/// The first context under which no answer is accepted.
+fn first_unaccepted(alloc: Global) -> Result<Option<&'static str>, Failure> {
+    for bound in &BOUND {
+        if !is_accepted(alloc, bound)? {
+            return Ok(Some(bound.line));
+        }
+    }
+    Ok(None)
 }
 
 #[test]
 fn answers_are_accepted(rt: HostRuntime) -> Result<(), Failure> {
-    assert!(rt; each_holds(rt.alloc())?);
+    let first = first_unaccepted(rt.alloc())?;
+    assert!(rt; first.is_none(), "{first:?}");
     Ok(())
 }
 
-/// Whether a request is committed to without its points, and a statement accepted whose domain is
-/// another coset of as many points: the relation reads a domain's size alone.
-fn are_unread(alloc: Global) -> Result<bool, Failure> {
-    let unopened = changed(alloc, COLUMN, "[[5,0,0,0]]", "[]")?;
-    let committed = written(alloc, Command::Commit, unopened.as_str());
+/// Whether an answer is accepted without its empty context, as a statement has none where it is
+/// empty.
+fn is_context_left_out(alloc: Global) -> Result<bool, Failure> {
     let answer = open(alloc, COLUMN)?;
-    let moved = changed(alloc, answer.as_str(), "\"shift\":1", "\"shift\":2")?;
-    let verified = written(alloc, Command::Verify, moved.as_str());
+    let shorter = changed(alloc, answer.as_str(), "\"context\":\"\",", "")?;
     Ok(
-        is_written(&committed, CASES[0].commitments, "", 0)
-            && is_written(&verified, "accepted\n", "", 0),
+        shorter.len() < answer.len()
+            && verify(alloc, shorter.as_str())?.as_slice() == BOUND[0].next_challenge.as_slice(),
     )
 }
 
 #[test]
-fn points_and_shifts_are_unread(rt: HostRuntime) -> Result<(), Failure> {
-    assert!(rt; are_unread(rt.alloc())?);
+fn an_empty_context_may_be_left_out(rt: HostRuntime) -> Result<(), Failure> {
+    assert!(rt; is_context_left_out(rt.alloc())?);
     Ok(())
 }
 
@@ -102,7 +217,7 @@ impl Write for Closed {
 }
 
 /// The status where nothing is taken.
-fn status_closed(alloc: Global, command: Command, text: &str) -> u8 {
+fn status_closed(alloc: Global, command: Command<'_>, text: &str) -> u8 {
     answer(alloc, command, "F", text, &mut Closed, &mut Closed)
 }
 

@@ -6,26 +6,26 @@ use std::alloc::{AllocError, Global};
 
 /// What stands in the answer to the column's request, what is written there in its place, and the
 /// refusals that `tools/relation` finds true of the statement then, of which one is written.
-type Refusal = (&'static str, &'static str, &'static [&'static str]);
+pub(crate) type Refusal = (&'static str, &'static str, &'static [&'static str]);
 
-/// Where a changed value, digest or coefficient is absorbed every later draw moves, so that other
-/// rows are asked for than the proof opens.
-const MOVED: &[&str] = &[
+/// Where a changed part of the statement, digest or coefficient is absorbed every later draw moves,
+/// so that other rows are asked for than the proof opens.
+pub(crate) const MOVED: &[&str] = &[
     "CommitPhaseMmcsError(RootMismatch)",
     "FinalPolyMismatch",
     "InputError(RootMismatch)",
 ];
 
-const REFUSALS: [Refusal; 14] = [
+const REFUSALS: [Refusal; 20] = [
     ("[[2013265918,0,0,0]]", "[[2013265917,0,0,0]]", MOVED),
     (
         "\"point\":[5,",
         "\"point\":[6,",
         &["CommitPhaseMmcsError(RootMismatch)", "FinalPolyMismatch"],
     ),
-    ("2aa419f5", "3aa419f5", &["InputError(RootMismatch)"]),
-    ("[[[137,", "[[[136,", &["InputError(RootMismatch)"]),
-    ("[[[33]]", "[[[34]]", MOVED),
+    ("2aa419f5", "3aa419f5", MOVED),
+    ("[[[30,", "[[[31,", &["InputError(RootMismatch)"]),
+    ("[[[2013265892]]", "[[[2013265893]]", MOVED),
     ("[[82,209", "[[83,209", MOVED),
     (
         "[[[183,",
@@ -67,6 +67,20 @@ const REFUSALS: [Refusal; 14] = [
         "[[2013265918,0,0,0],[0,0,0,0]]",
         &["InputError(RowWidth)"],
     ),
+    ("\"shift\":1", "\"shift\":2", MOVED),
+    ("\"context\":\"\"", "\"context\":\"00\"", MOVED),
+    ("\"context\":\"\"", "\"context\":\"AbcD\"", MOVED),
+    ("\"max_log_arity\":1", "\"max_log_arity\":2", MOVED),
+    (
+        "\"num_queries\":2",
+        "\"num_queries\":3",
+        &["InputOpeningsQueryCountMismatch { batch: 0, expected: 3, got: 2 }"],
+    ),
+    (
+        "\"num_queries\":2",
+        "\"num_queries\":1073741824",
+        &["InputOpeningsQueryCountMismatch { batch: 0, expected: 1073741824, got: 2 }"],
+    ),
 ];
 
 /// Whether what is written begins with one of these refusals, and ends its only line with words.
@@ -80,7 +94,11 @@ fn names_refusal(alloc: Global, output: &str, names: &[&str]) -> Result<bool, Al
 }
 
 /// Whether the changed statement is refused so, and nothing is written beside.
-fn is_refused(alloc: Global, statement: &str, refusal: &Refusal) -> Result<bool, AllocError> {
+pub(crate) fn is_refused(
+    alloc: Global,
+    statement: &str,
+    refusal: &Refusal,
+) -> Result<bool, AllocError> {
     let (old, new, names) = *refusal;
     let text = changed(alloc, statement, old, new)?;
     let outcome = written(alloc, Command::Verify, text.as_str());
@@ -118,7 +136,7 @@ fn changed_statements_are_refused(rt: HostRuntime) -> Result<(), Failure> {
 type Fault = (&'static str, &'static str, &'static str, u8);
 
 /// Of the column's request.
-const REQUESTS: [Fault; 20] = [
+const REQUESTS: [Fault; 24] = [
     (
         "\"log_blowup\":1",
         "\"log_blowup\":0",
@@ -243,10 +261,34 @@ log height 2 is not above the final log height 2",
 in round 0 lies in the evaluation domain",
         1,
     ),
+    (
+        "{\"parameters\":{",
+        "{\"context\":\"000\",\"parameters\":{",
+        "Context: expected an even number of hex digits",
+        2,
+    ),
+    (
+        "{\"parameters\":{",
+        "{\"context\":\"0g\",\"parameters\":{",
+        "Context: expected an even number of hex digits",
+        2,
+    ),
+    (
+        "{\"parameters\":{",
+        "{\"context\":\"é\",\"parameters\":{",
+        "Context: expected an even number of hex digits",
+        2,
+    ),
+    (
+        "{\"parameters\":{",
+        "{\"context\":[],\"parameters\":{",
+        "Json: invalid type at line 1 column 12",
+        2,
+    ),
 ];
 
 /// Of the answer to it.
-const STATEMENTS: [Fault; 13] = [
+const STATEMENTS: [Fault; 16] = [
     (
         "\"log_final_poly_len\":0",
         "\"log_final_poly_len\":63",
@@ -316,15 +358,33 @@ below 2013265921",
         2,
     ),
     (
-        "[[[137,",
+        "[[[30,",
         "[[[",
         "Digest: proof, expected digests of 32 bytes",
         2,
     ),
     (
-        "{\"parameters\":{",
-        "{\n\"parameters\":3,\"others\":{",
+        "\"context\":\"\",\"parameters\":{",
+        "\"context\":\"\",\n\"parameters\":3,\"others\":{",
         "Json: invalid type at line 2 column 14",
+        2,
+    ),
+    (
+        "\"context\":\"\"",
+        "\"context\":\"0\"",
+        "Context: expected an even number of hex digits",
+        2,
+    ),
+    (
+        "\"context\":\"\"",
+        "\"context\":\"0x\"",
+        "Context: expected an even number of hex digits",
+        2,
+    ),
+    (
+        "\"context\":\"\"",
+        "\"context\":\"é\"",
+        "Context: expected an even number of hex digits",
         2,
     ),
 ];
@@ -332,7 +392,7 @@ below 2013265921",
 /// Whether of the changed text this line and nothing else is written.
 fn is_faulty(
     alloc: Global,
-    command: Command,
+    command: Command<'_>,
     text: &str,
     fault: &Fault,
 ) -> Result<bool, AllocError> {
@@ -346,7 +406,7 @@ fn is_faulty(
 /// The first fault of the text that isn't named so.
 fn first_unnamed(
     alloc: Global,
-    command: Command,
+    command: Command<'_>,
     text: &str,
     faults: &[Fault],
 ) -> Result<Option<&'static str>, AllocError> {

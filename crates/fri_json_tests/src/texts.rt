@@ -27,6 +27,21 @@ pub(crate) const TWO_COMMITMENTS: &str = "{\"parameters\":{\"log_blowup\":1,\
 \"points\":[[2013265920,0,0,1]]}]},{\"matrices\":[{\"domain\":{\"shift\":31,\"log_size\":2},\
 \"width\":2,\"values\":[2,3,5,7,11,13,17,19],\"points\":[[2013265920,0,0,1],[0,1,0,0]]}]}]}";
 
+/// The column and the two matrices under a commitment each.
+pub(crate) const SEVERAL: &str = "{\"parameters\":{\"log_blowup\":2,\"log_final_poly_len\":0,\
+\"max_log_arity\":2,\"num_queries\":3,\"batch_proof_of_work_bits\":0,\
+\"commit_proof_of_work_bits\":0,\"query_proof_of_work_bits\":0},\"commitments\":[{\"matrices\":[\
+{\"domain\":{\"shift\":1,\"log_size\":1},\"width\":1,\"values\":[1,3],\"points\":[[5,0,0,0]]}]},\
+{\"matrices\":[{\"domain\":{\"shift\":1,\"log_size\":3},\"width\":2,\
+\"values\":[3,1,4,1,5,9,2,6,5,3,5,8,9,7,9,3],\"points\":[[5,0,0,0],[7,1,0,2]]},\
+{\"domain\":{\"shift\":3,\"log_size\":1},\"width\":3,\"values\":[2,7,1,8,2,8],\
+\"points\":[[7,1,0,2]]}]}]}";
+
+/// What is written of few bits of soundness, of a file named `F`.
+pub(crate) fn warning(alloc: Global, bits: usize) -> Result<String, AllocError> {
+    format!(in alloc; "fri: F: {bits} conjectured bits of soundness, below 80\n")
+}
+
 /// What a command writes for a text, and the status.
 #[derive(Drop)]
 pub(crate) struct Outcome {
@@ -36,7 +51,7 @@ pub(crate) struct Outcome {
 }
 
 /// Runs the command over the text, of a file named `F`.
-pub(crate) fn written(alloc: Global, command: Command, text: &str) -> Outcome {
+pub(crate) fn written(alloc: Global, command: Command<'_>, text: &str) -> Outcome {
     let mut output = Vec::new(alloc);
     let mut fault = Vec::new(alloc);
     let status = answer(alloc, command, "F", text, &mut output, &mut fault);

@@ -1,0 +1,243 @@
+//! Where an accepted statement differs from what was expected.
+
+use crate::expected::{Expected, ExpectedBatch, ExpectedMatrix, ExpectedPoint};
+use crate::records::Accepted;
+use fri_requests::{BatchClaims, Domain, MatrixClaims, Parameters, Place, PointClaims};
+use std::fmt;
+
+/// A part of a statement.
+#[derive(Clone, Copy, Debug)]
+pub enum Part {
+    Context,
+    LogBlowup,
+    LogFinalPolyLen,
+    MaxLogArity,
+    NumQueries,
+    BatchProofOfWorkBits,
+    CommitProofOfWorkBits,
+    QueryProofOfWorkBits,
+    CommitmentCount,
+    Commitment,
+    MatrixCount,
+    Shift,
+    LogSize,
+    PointCount,
+    Point,
+    ValueCount,
+    Value,
+}
+
+impl Part {
+    /// What it is called.
+    fn name(&self) -> &'static str {
+        match self {
+            Part::Context => "context",
+            Part::LogBlowup => "log_blowup",
+            Part::LogFinalPolyLen => "log_final_poly_len",
+            Part::MaxLogArity => "max_log_arity",
+            Part::NumQueries => "num_queries",
+            Part::BatchProofOfWorkBits => "batch_proof_of_work_bits",
+            Part::CommitProofOfWorkBits => "commit_proof_of_work_bits",
+            Part::QueryProofOfWorkBits => "query_proof_of_work_bits",
+            Part::CommitmentCount => "number of commitments",
+            Part::Commitment => "commitment",
+            Part::MatrixCount => "number of matrices",
+            Part::Shift => "shift",
+            Part::LogSize => "log_size",
+            Part::PointCount => "number of points",
+            Part::Point => "point",
+            Part::ValueCount => "number of values",
+            Part::Value => "value",
+        }
+    }
+
+    /// This part at a place.
+    fn differs_at(self, place: Place) -> Option<Difference> {
+        Some(Difference { part: self, place })
+    }
+}
+
+/// What was expected to be another, and where.
+#[derive(Clone, Copy, Debug)]
+pub struct Difference {
+    pub part: Part,
+    pub place: Place,
+}
+
+/// Prints one level of a place, if it is known.
+fn fmt_level<W: fmt::Write>(
+    f: &mut fmt::Formatter<W>,
+    name: &str,
+    index: Option<usize>,
+) -> fmt::Result {
+    match index {
+        Some(index) => write!(f, "{name} {index}, "),
+        None => Ok(()),
+    }
+}
+
+impl fmt::Display for Difference {
+    fn fmt<W: fmt::Write>(&self, f: &mut fmt::Formatter<W>) -> fmt::Result {
+        f.write_str("Unexpected: ")?;
+        fmt_level(f, "commitment", self.place.commitment)?;
+        fmt_level(f, "matrix", self.place.matrix)?;
+        fmt_level(f, "point", self.place.point)?;
+        fmt_level(f, "number", self.place.number)?;
+        f.write_str("expected another ")?;
+        f.write_str(self.part.name())
+    }
+}
+
+/// The first value that isn't the expected one.
+fn values_difference(
+    values: &[Vec<u64>],
+    expected: &[Vec<u64>],
+    place: Place,
+) -> Option<Difference> {
+    if values.len() != expected.len() {
+        return Part::ValueCount.differs_at(place);
+    }
+    for (index, value) in values.iter().enumerate() {
+        if value.as_slice() != expected[index].as_slice() {
+            let place = Place {
+                number: Some(index),
+                ..place
+            };
+            return Part::Value.differs_at(place);
+        }
+    }
+    None
+}
+
+/// The first difference at a point.
+fn point_difference(
+    claims: &PointClaims,
+    expected: &ExpectedPoint,
+    place: Place,
+) -> Option<Difference> {
+    if claims.point.as_slice() != expected.point.as_slice() {
+        return Part::Point.differs_at(place);
+    }
+    match &expected.values {
+        Some(values) => values_difference(&claims.values, values, place),
+        None => None,
+    }
+}
+
+/// The part of a domain that isn't the expected one.
+fn domain_difference(domain: Domain, expected: Domain) -> Option<Part> {
+    if domain.shift != expected.shift {
+        return Some(Part::Shift);
+    }
+    if domain.log_size != expected.log_size {
+        return Some(Part::LogSize);
+    }
+    None
+}
+
+/// The first difference of a matrix.
+fn matrix_difference(
+    claims: &MatrixClaims,
+    expected: &ExpectedMatrix,
+    place: Place,
+) -> Option<Difference> {
+    if let Some(part) = domain_difference(claims.domain, expected.domain) {
+        return part.differs_at(place);
+    }
+    if claims.points.len() != expected.points.len() {
+        return Part::PointCount.differs_at(place);
+    }
+    for (index, point) in claims.points.iter().enumerate() {
+        let place = Place {
+            point: Some(index),
+            ..place
+        };
+        let difference = point_difference(point, &expected.points[index], place);
+        if difference.is_some() {
+            return difference;
+        }
+    }
+    None
+}
+
+/// The first difference of a commitment or its matrices.
+fn batch_difference(
+    claims: &BatchClaims,
+    expected: &ExpectedBatch,
+    place: Place,
+) -> Option<Difference> {
+    if !claims.commitment.eq_ignore_ascii_case(&expected.commitment) {
+        return Part::Commitment.differs_at(place);
+    }
+    if claims.matrices.len() != expected.matrices.len() {
+        return Part::MatrixCount.differs_at(place);
+    }
+    for (index, matrix) in claims.matrices.iter().enumerate() {
+        let place = Place {
+            matrix: Some(index),
+            ..place
+        };
+        let difference = matrix_difference(matrix, &expected.matrices[index], place);
+        if difference.is_some() {
+            return difference;
+        }
+    }
+    None
+}
+
+/// The first parameter that isn't the expected one.
+fn parameters_difference(parameters: &Parameters, expected: &Parameters) -> Option<Part> {
+    if parameters.log_blowup != expected.log_blowup {
+        return Some(Part::LogBlowup);
+    }
+    if parameters.log_final_poly_len != expected.log_final_poly_len {
+        return Some(Part::LogFinalPolyLen);
+    }
+    if parameters.max_log_arity != expected.max_log_arity {
+        return Some(Part::MaxLogArity);
+    }
+    if parameters.num_queries != expected.num_queries {
+        return Some(Part::NumQueries);
+    }
+    if parameters.batch_proof_of_work_bits != expected.batch_proof_of_work_bits {
+        return Some(Part::BatchProofOfWorkBits);
+    }
+    if parameters.commit_proof_of_work_bits != expected.commit_proof_of_work_bits {
+        return Some(Part::CommitProofOfWorkBits);
+    }
+    if parameters.query_proof_of_work_bits != expected.query_proof_of_work_bits {
+        return Some(Part::QueryProofOfWorkBits);
+    }
+    None
+}
+
+/// The first difference of commitments and what is claimed of them.
+fn claims_difference(claims: &[BatchClaims], expected: &[ExpectedBatch]) -> Option<Difference> {
+    if claims.len() != expected.len() {
+        return Part::CommitmentCount.differs_at(Place::NONE);
+    }
+    for (index, batch) in claims.iter().enumerate() {
+        let place = Place {
+            commitment: Some(index),
+            ..Place::NONE
+        };
+        let difference = batch_difference(batch, &expected[index], place);
+        if difference.is_some() {
+            return difference;
+        }
+    }
+    None
+}
+
+/// The first part of a statement that isn't the expected one: the context, then the parameters,
+/// then commitment by commitment the matrices' domains, points and values. Counts come before what
+/// they count. Hex is the same in either case.
+pub(crate) fn first_difference(accepted: &Accepted, expected: &Expected) -> Option<Difference> {
+    if !accepted.context.eq_ignore_ascii_case(&expected.context) {
+        return Part::Context.differs_at(Place::NONE);
+    }
+    if let Some(part) = parameters_difference(&accepted.parameters, &expected.parameters) {
+        return part.differs_at(Place::NONE);
+    }
+    claims_difference(&accepted.claims, &expected.claims)
+}

@@ -1,0 +1,303 @@
+//! An answer compared with what was expected.
+
+use crate::texts::{Outcome, SEVERAL, changed, is_written, warning, written};
+use fri_json::{Command, Failure, open, read_expected};
+use std::alloc::{AllocError, Global};
+
+/// What is expected of the answer to `SEVERAL`: commitments in upper case, no context, no proof,
+/// and at one point no values.
+const EXPECTED: &str = "{\"parameters\":{\"log_blowup\":2,\"log_final_poly_len\":0,\
+\"max_log_arity\":2,\"num_queries\":3,\"batch_proof_of_work_bits\":0,\
+\"commit_proof_of_work_bits\":0,\"query_proof_of_work_bits\":0},\"claims\":[{\"commitment\":\
+\"26BCE7536E76248F01F14A525A4C4E007979E67A61DC7A9BDD4873C54D1A9320\",\"matrices\":[{\"domain\":\
+{\"shift\":1,\"log_size\":1},\"points\":[{\"point\":[5,0,0,0],\"values\":[[2013265918,0,0,0]]}]}]},\
+{\"commitment\":\"7F4FCA6D4493D5B5C6D99DC7D5F180786F7292AD26F89708B9D69B69690BB1A0\",\
+\"matrices\":[{\"domain\":{\"shift\":1,\"log_size\":3},\"points\":[{\"point\":[5,0,0,0]},\
+{\"point\":[7,1,0,2],\"values\":[[1558977350,112890481,1028726872,261441804],\
+[435550421,735035206,867237736,1395585587]]}]},{\"domain\":{\"shift\":3,\"log_size\":1},\
+\"points\":[{\"point\":[7,1,0,2],\"values\":[[2013265919,2013265920,0,2013265919],\
+[1342177291,335544321,0,671088642],[1342177277,335544319,0,671088638]]}]}]}]}";
+
+/// What is printed of that answer, as `tools/relation` found it.
+const SUMMARY: &str = "accepted\n\
+context empty\n\
+commitment 26bce7536e76248f01f14a525a4c4e007979e67a61dc7a9bdd4873c54d1a9320\n\
+matrix log_size 1 width 1 points 1\n\
+commitment 7f4fca6d4493d5b5c6d99dc7d5f180786f7292ad26f89708b9d69b69690bb1a0\n\
+matrix log_size 3 width 2 points 2\n\
+matrix log_size 1 width 3 points 1\n\
+conjectured soundness bits 6\n";
+
+/// What stands in `EXPECTED`, what is written there in its place, and how the refusal ends.
+type Difference = (&'static str, &'static str, &'static str);
+
+const DIFFERENCES: [Difference; 24] = [
+    (
+        "{\"parameters\"",
+        "{\"context\":\"00\",\"parameters\"",
+        "expected another context",
+    ),
+    (
+        "\"log_blowup\":2",
+        "\"log_blowup\":1",
+        "expected another log_blowup",
+    ),
+    (
+        "\"log_final_poly_len\":0",
+        "\"log_final_poly_len\":1",
+        "expected another log_final_poly_len",
+    ),
+    (
+        "\"max_log_arity\":2",
+        "\"max_log_arity\":1",
+        "expected another max_log_arity",
+    ),
+    (
+        "\"num_queries\":3",
+        "\"num_queries\":100",
+        "expected another num_queries",
+    ),
+    (
+        "\"batch_proof_of_work_bits\":0",
+        "\"batch_proof_of_work_bits\":1",
+        "expected another batch_proof_of_work_bits",
+    ),
+    (
+        "\"commit_proof_of_work_bits\":0",
+        "\"commit_proof_of_work_bits\":1",
+        "expected another commit_proof_of_work_bits",
+    ),
+    (
+        "\"query_proof_of_work_bits\":0",
+        "\"query_proof_of_work_bits\":1",
+        "expected another query_proof_of_work_bits",
+    ),
+    (
+        "\"claims\":[",
+        "\"claims\":[],\"others\":[",
+        "expected another number of commitments",
+    ),
+    (
+        "\"claims\":[",
+        "\"claims\":[{\"commitment\":\
+\"26BCE7536E76248F01F14A525A4C4E007979E67A61DC7A9BDD4873C54D1A9320\",\"matrices\":[]},",
+        "expected another number of commitments",
+    ),
+    (
+        "26BCE7",
+        "26BCE8",
+        "commitment 0, expected another commitment",
+    ),
+    (
+        "7F4FCA",
+        "7F4FCB",
+        "commitment 1, expected another commitment",
+    ),
+    (
+        "\"matrices\":[",
+        "\"matrices\":[],\"others\":[",
+        "commitment 0, expected another number of matrices",
+    ),
+    (
+        "\"matrices\":[",
+        "\"matrices\":[{\"domain\":{\"shift\":1,\"log_size\":1},\"points\":[]},",
+        "commitment 0, expected another number of matrices",
+    ),
+    (
+        "\"shift\":3",
+        "\"shift\":1",
+        "commitment 1, matrix 1, expected another shift",
+    ),
+    (
+        "\"log_size\":3",
+        "\"log_size\":2",
+        "commitment 1, matrix 0, expected another log_size",
+    ),
+    (
+        "\"points\":[",
+        "\"points\":[],\"others\":[",
+        "commitment 0, matrix 0, expected another number of points",
+    ),
+    (
+        "\"points\":[{\"point\":[5,0,0,0]},",
+        "\"points\":[{\"point\":[5,0,0,0]},{\"point\":[6,0,0,0]},",
+        "commitment 1, matrix 0, expected another number of points",
+    ),
+    (
+        "{\"point\":[5,0,0,0]}",
+        "{\"point\":[5,0,0,1]}",
+        "commitment 1, matrix 0, point 0, expected another point",
+    ),
+    (
+        "{\"point\":[7,1,0,2]",
+        "{\"point\":[7,1,0,3]",
+        "commitment 1, matrix 0, point 1, expected another point",
+    ),
+    (
+        "[[2013265918,0,0,0]]",
+        "[[2013265917,0,0,0]]",
+        "commitment 0, matrix 0, point 0, number 0, expected another value",
+    ),
+    (
+        "1395585587",
+        "1395585586",
+        "commitment 1, matrix 0, point 1, number 1, expected another value",
+    ),
+    (
+        "[[2013265918,0,0,0]]",
+        "[]",
+        "commitment 0, matrix 0, point 0, expected another number of values",
+    ),
+    (
+        ",[1342177277,335544319,0,671088638]",
+        "",
+        "commitment 1, matrix 1, point 0, expected another number of values",
+    ),
+];
+
+/// What stands in `EXPECTED`, what is written there in its place, and why that is no statement.
+/// Lines are the rules of `docs/FORMATS.md`.
+const FAULTS: [Difference; 14] = [
+    (
+        "{\"parameters\"",
+        "{\"context\":\"0\",\"parameters\"",
+        "Context: expected an even number of hex digits",
+    ),
+    (
+        "{\"parameters\"",
+        "{\"context\":\"0x\",\"parameters\"",
+        "Context: expected an even number of hex digits",
+    ),
+    (
+        "{\"parameters\":{",
+        "{\n\"parameters\":3,\"others\":{",
+        "Json: invalid type at line 2 column 14",
+    ),
+    (
+        "{\"parameters\"",
+        "{\"claims\":[],\"parameters\"",
+        "Json: duplicate field `claims` at line 1 column 229",
+    ),
+    (
+        "26BCE7",
+        "26BCE",
+        "Commitment: commitment 0, expected 64 hex digits",
+    ),
+    (
+        "7F4FCA",
+        "xF4FCA",
+        "Commitment: commitment 1, expected 64 hex digits",
+    ),
+    (
+        "\"shift\":3",
+        "\"shift\":0",
+        "Shift: commitment 1, matrix 1, expected a shift from 1 to 2013265920",
+    ),
+    (
+        "\"shift\":3",
+        "\"shift\":2013265921",
+        "Shift: commitment 1, matrix 1, expected a shift from 1 to 2013265920",
+    ),
+    (
+        "\"log_size\":3",
+        "\"log_size\":28",
+        "LogSize: commitment 1, matrix 0, expected a log_size up to 27, with log_blowup where it \
+is committed to",
+    ),
+    (
+        "{\"point\":[5,0,0,0]}",
+        "{\"point\":[5,0,0]}",
+        "ExtensionElement: commitment 1, matrix 0, point 0, expected four numbers below 2013265921",
+    ),
+    (
+        "{\"point\":[7,1,0,2]",
+        "{\"point\":[7,1,0,2013265921]",
+        "Element: commitment 1, matrix 0, point 1, expected a number below 2013265921",
+    ),
+    (
+        ",1395585587]",
+        "]",
+        "ExtensionElement: commitment 1, matrix 0, point 1, number 1, expected four numbers \
+below 2013265921",
+    ),
+    (
+        "1395585587",
+        "2013265921",
+        "Element: commitment 1, matrix 0, point 1, number 1, expected a number below 2013265921",
+    ),
+    (
+        "{\"parameters\"",
+        "",
+        "Json: invalid type at line 1 column 1",
+    ),
+];
+
+/// What `verify` writes of an answer that is compared with what is in the text of a file named `E`.
+fn compared(alloc: Global, expected: &str, answer: &str) -> Outcome {
+    let mut fault = Vec::new(alloc);
+    match read_expected(alloc, "E", expected, &mut fault) {
+        Ok(expected) => written(alloc, Command::VerifyExpected(&expected), answer),
+        Err(status) => Outcome {
+            output: Vec::new(alloc),
+            fault,
+            status,
+        },
+    }
+}
+
+/// The first difference from the answer that isn't named so.
+fn first_unnamed(alloc: Global, answer: &str) -> Result<Option<&'static str>, AllocError> {
+    for (old, new, place) in &DIFFERENCES {
+        let expected = changed(alloc, EXPECTED, old, new)?;
+        let outcome = compared(alloc, expected.as_str(), answer);
+        let line = format!(in alloc; "refused: Unexpected: {place}\n")?;
+        if !is_written(&outcome, line.as_str(), "", 1) {
+            return Ok(Some(*place));
+        }
+    }
+    Ok(None)
+}
+
+/// Whether the answer is accepted where it is what was expected, the answer itself too.
+fn is_expected(alloc: Global, answer: &str) -> Result<bool, AllocError> {
+    let warning = warning(alloc, 6)?;
+    for expected in [EXPECTED, answer] {
+        let outcome = compared(alloc, expected, answer);
+        if !is_written(&outcome, SUMMARY, warning.as_str(), 0) {
+            return Ok(false);
+        }
+    }
+    Ok(true)
+}
+
+#[test]
+fn differences_are_named(rt: HostRuntime) -> Result<(), Failure> {
+    let alloc = rt.alloc();
+    let answer = open(alloc, SEVERAL)?;
+    let first = first_unnamed(alloc, answer.as_str())?;
+    assert!(rt;
+        first.is_none() && is_expected(alloc, answer.as_str())?,
+        "{first:?}"
+    );
+    Ok(())
+}
+
+/// The first fault of the text of what is expected that isn't named so.
+fn first_unfound(alloc: Global) -> Result<Option<&'static str>, AllocError> {
+    for (old, new, fault) in &FAULTS {
+        let expected = changed(alloc, EXPECTED, old, new)?;
+        let outcome = compared(alloc, expected.as_str(), "");
+        let line = format!(in alloc; "fri: E: {fault}\n")?;
+        if !is_written(&outcome, "", line.as_str(), 2) {
+            return Ok(Some(*fault));
+        }
+    }
+    Ok(None)
+}
+
+#[test]
+fn faulty_expectations_are_named(rt: HostRuntime) -> Result<(), Failure> {
+    let first = first_unfound(rt.alloc())?;
+    assert!(rt; first.is_none(), "{first:?}");
+    Ok(())
+}
