@@ -176,7 +176,7 @@ const FAULTS: [Difference; 14] = [
     (
         "{\"parameters\"",
         "{\"claims\":[],\"parameters\"",
-        "Json: duplicate field `claims` at line 1 column 229",
+        "Json: duplicate field `claims` at line 1 column 196",
     ),
     (
         "26BCE7",

@@ -74,12 +74,18 @@ const REFUSALS: [Refusal; 20] = [
     (
         "\"num_queries\":2",
         "\"num_queries\":3",
-        &["InputOpeningsQueryCountMismatch { batch: 0, expected: 3, got: 2 }"],
+        &[
+            "CommitPhaseQueryCountMismatch { round: 0, expected: 3, got: 2 }",
+            "InputOpeningsQueryCountMismatch { batch: 0, expected: 3, got: 2 }",
+        ],
     ),
     (
         "\"num_queries\":2",
         "\"num_queries\":1073741824",
-        &["InputOpeningsQueryCountMismatch { batch: 0, expected: 1073741824, got: 2 }"],
+        &[
+            "CommitPhaseQueryCountMismatch { round: 0, expected: 1073741824, got: 2 }",
+            "InputOpeningsQueryCountMismatch { batch: 0, expected: 1073741824, got: 2 }",
+        ],
     ),
 ];
 
