@@ -19,6 +19,7 @@ from documents import Malformed, statement_from
 from statement import statement_challenger
 
 FEW_BITS = 80
+MOST_BYTES = 32
 
 
 def verdict(statement, without_statement=False):
@@ -39,10 +40,17 @@ def conjectured_soundness_bits(parameters):
             + parameters.query_proof_of_work_bits)
 
 
+def context_line(context):
+    """A context, of a long one its first bytes and the number of all."""
+    if len(context) > MOST_BYTES:
+        return f"context {context[:MOST_BYTES].hex()} .. {len(context)} bytes"
+    return f"context {context.hex() or 'empty'}"
+
+
 def accepted_lines(statement):
-    """What was accepted, in short."""
+    """What was accepted, in short, as `fri verify` prints it."""
     yield "accepted"
-    yield f"context {statement.context.hex() or 'empty'}"
+    yield context_line(statement.context)
     for claim in statement.claims:
         yield f"commitment {claim.commitment.hex()}"
         for matrix in claim.matrices:
@@ -65,7 +73,7 @@ def main(file, without_statement=False):
         print(line)
     bits = conjectured_soundness_bits(statement.parameters)
     if bits < FEW_BITS:
-        print(f"verify: {file}: {bits} bits of security are conjectured, fewer than {FEW_BITS}",
+        print(f"verify: {file}: {bits} conjectured bits of soundness, below {FEW_BITS}",
               file=sys.stderr)
     return 0
 
