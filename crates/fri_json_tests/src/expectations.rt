@@ -174,9 +174,9 @@ const FAULTS: [Difference; 14] = [
         "Json: invalid type at line 2 column 14",
     ),
     (
-        "{\"parameters\"",
-        "{\"claims\":[],\"parameters\"",
-        "Json: duplicate field `claims` at line 1 column 196",
+        "\"claims\":[",
+        "\"others\":[",
+        "Json: missing field `claims` at line 1 column 844",
     ),
     (
         "26BCE7",
