@@ -1,5 +1,9 @@
 //! Where an accepted statement differs from what was expected.
 
+ghost use Rattle.std.specs.Prelude.{◌≡◌, IsSome, IfNone, OnSome};
+ghost use Rattle.fri_json.specs.Difference.{AreExpected, IsExpectedPoint, IsExpectedMatrix};
+ghost use Rattle.fri_json.specs.Difference.{IsExpectedBatch, IsExpected};
+
 use crate::expected::{Expected, ExpectedBatch, ExpectedMatrix, ExpectedPoint};
 use crate::records::Accepted;
 use fri_requests::{BatchClaims, Domain, MatrixClaims, Parameters, Place, PointClaims};
@@ -52,7 +56,9 @@ impl Part {
     }
 
     /// This part at a place.
-    fn differs_at(self, place: Place) -> Option<Difference> {
+    fn differs_at(self, place: Place) -> Option<Difference>
+        ensures { IsSome result }
+    {
         Some(Difference { part: self, place })
     }
 }
@@ -89,11 +95,12 @@ impl fmt::Display for Difference {
 }
 
 /// The first value that isn't the expected one.
-fn values_difference(
-    values: &[Vec<u64>],
-    expected: &[Vec<u64>],
-    place: Place,
-) -> Option<Difference> {
+fn values_difference(values: &[Vec<u64>], expected: &[Vec<u64>], place: Place) -> Option<Difference>
+    ensures same { IfNone result
+        (AreExpected (λ v w. v.items ≡ w.items) values.now expected.now) }
+    ensures differs { OnSome result
+        (¬ AreExpected (λ v w. v.items ≡ w.items) values.now expected.now) }
+{
     if values.len() != expected.len() {
         return Part::ValueCount.differs_at(place);
     }
@@ -114,7 +121,10 @@ fn point_difference(
     claims: &PointClaims,
     expected: &ExpectedPoint,
     place: Place,
-) -> Option<Difference> {
+) -> Option<Difference>
+    ensures same { IfNone result (IsExpectedPoint claims.now expected.now) }
+    ensures differs { OnSome result (¬ IsExpectedPoint claims.now expected.now) }
+{
     if claims.point.as_slice() != expected.point.as_slice() {
         return Part::Point.differs_at(place);
     }
@@ -125,7 +135,10 @@ fn point_difference(
 }
 
 /// The part of a domain that isn't the expected one.
-fn domain_difference(domain: Domain, expected: Domain) -> Option<Part> {
+fn domain_difference(domain: Domain, expected: Domain) -> Option<Part>
+    ensures same { IfNone result (domain ≡ expected) }
+    ensures differs { OnSome result (¬ domain ≡ expected) }
+{
     if domain.shift != expected.shift {
         return Some(Part::Shift);
     }
@@ -140,7 +153,10 @@ fn matrix_difference(
     claims: &MatrixClaims,
     expected: &ExpectedMatrix,
     place: Place,
-) -> Option<Difference> {
+) -> Option<Difference>
+    ensures same { IfNone result (IsExpectedMatrix claims.now expected.now) }
+    ensures differs { OnSome result (¬ IsExpectedMatrix claims.now expected.now) }
+{
     if let Some(part) = domain_difference(claims.domain, expected.domain) {
         return part.differs_at(place);
     }
@@ -152,9 +168,8 @@ fn matrix_difference(
             point: Some(index),
             ..place
         };
-        let difference = point_difference(point, &expected.points[index], place);
-        if difference.is_some() {
-            return difference;
+        if let Some(difference) = point_difference(point, &expected.points[index], place) {
+            return Some(difference);
         }
     }
     None
@@ -165,7 +180,10 @@ fn batch_difference(
     claims: &BatchClaims,
     expected: &ExpectedBatch,
     place: Place,
-) -> Option<Difference> {
+) -> Option<Difference>
+    ensures same { IfNone result (IsExpectedBatch claims.now expected.now) }
+    ensures differs { OnSome result (¬ IsExpectedBatch claims.now expected.now) }
+{
     if !claims.commitment.eq_ignore_ascii_case(&expected.commitment) {
         return Part::Commitment.differs_at(place);
     }
@@ -177,16 +195,18 @@ fn batch_difference(
             matrix: Some(index),
             ..place
         };
-        let difference = matrix_difference(matrix, &expected.matrices[index], place);
-        if difference.is_some() {
-            return difference;
+        if let Some(difference) = matrix_difference(matrix, &expected.matrices[index], place) {
+            return Some(difference);
         }
     }
     None
 }
 
 /// The first parameter that isn't the expected one.
-fn parameters_difference(parameters: &Parameters, expected: &Parameters) -> Option<Part> {
+fn parameters_difference(parameters: &Parameters, expected: &Parameters) -> Option<Part>
+    ensures same { IfNone result (parameters.now ≡ expected.now) }
+    ensures differs { OnSome result (¬ parameters.now ≡ expected.now) }
+{
     if parameters.log_blowup != expected.log_blowup {
         return Some(Part::LogBlowup);
     }
@@ -212,7 +232,10 @@ fn parameters_difference(parameters: &Parameters, expected: &Parameters) -> Opti
 }
 
 /// The first difference of commitments and what is claimed of them.
-fn claims_difference(claims: &[BatchClaims], expected: &[ExpectedBatch]) -> Option<Difference> {
+fn claims_difference(claims: &[BatchClaims], expected: &[ExpectedBatch]) -> Option<Difference>
+    ensures same { IfNone result (AreExpected IsExpectedBatch claims.now expected.now) }
+    ensures differs { OnSome result (¬ AreExpected IsExpectedBatch claims.now expected.now) }
+{
     if claims.len() != expected.len() {
         return Part::CommitmentCount.differs_at(Place::NONE);
     }
@@ -221,9 +244,8 @@ fn claims_difference(claims: &[BatchClaims], expected: &[ExpectedBatch]) -> Opti
             commitment: Some(index),
             ..Place::NONE
         };
-        let difference = batch_difference(batch, &expected[index], place);
-        if difference.is_some() {
-            return difference;
+        if let Some(difference) = batch_difference(batch, &expected[index], place) {
+            return Some(difference);
         }
     }
     None
@@ -231,8 +253,11 @@ fn claims_difference(claims: &[BatchClaims], expected: &[ExpectedBatch]) -> Opti
 
 /// The first part of a statement that isn't the expected one: the context, then the parameters,
 /// then commitment by commitment the matrices' domains, points and values. Counts come before what
-/// they count. Hex is the same in either case.
-pub(crate) fn first_difference(accepted: &Accepted, expected: &Expected) -> Option<Difference> {
+/// they count. Hex is the same in either case. Which part is named isn't promised.
+pub(crate) fn first_difference(accepted: &Accepted, expected: &Expected) -> Option<Difference>
+    ensures same { IfNone result (IsExpected accepted.now expected.now) }
+    ensures differs { OnSome result (¬ IsExpected accepted.now expected.now) }
+{
     if !accepted.context.eq_ignore_ascii_case(&expected.context) {
         return Part::Context.differs_at(Place::NONE);
     }
