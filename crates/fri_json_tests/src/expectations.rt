@@ -228,7 +228,7 @@ below 2013265921",
     (
         "{\"parameters\"",
         "",
-        "Json: expected value at line 1 column 1",
+        "Json: invalid JSON at line 1 column 1",
     ),
 ];
 
