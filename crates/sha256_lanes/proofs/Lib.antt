@@ -1,0 +1,5 @@
+pub mod Lanewise
+pub mod Bitwise
+pub mod Windows
+pub mod Pieces
+pub mod Ends
