@@ -29,7 +29,7 @@ loop-group-preserved g c =
     let leaves = leaf_at g.T.ElementBytes.bytes c.args.matrices.now in
     c.in_ok-extend_from_slice.ensures.items
     ∙ ap (λ ds. ds ++ c.as_slice.result.now) c.loop-group.invariant
-    ∙ ap (λ ds. tabulate (8 * c.loop-group.group) leaves ++ ds) c.as_slice.ensures.value
+    ∙ ap (λ ds. tabulate (8 * c.loop-group.group) leaves ++ ds) c.as_slice.ensures
     ∙ tabulate_more (8 * c.loop-group.group) 8 leaves c.leaf_digests_of_eight-eight.result []
     (omega arith) c.leaf_digests_of_eight-eight.ensures
     ∙ ap (λ n. tabulate n leaves) (omega arith)
