@@ -2,7 +2,7 @@
 use borrow.Rule.Slice.PartMut.{put_mid}
 use Rattle.std.proofs.Common.{◌≡◌, ℕ, ◌+◌, ◌-◌, ◌*◌, ◌<◌, ◌≤◌, List, [], ◌∷◌, ◌++◌, length, get_or}
 use Rattle.std.proofs.Common.{take, drop, ap, ap₂, sym, ◌∙◌, arith, below_more, slice_set, slice_index_or, map, ◌/◌}
-use Rattle.std.specs.List.{flat_map, between}
+use Rattle.std.specs.List.{flat_map}
 use Rattle.std.proofs.lemmas.List.{take_more, flat_map_more, drop-take, take_at, drop_at, drop_all, length-drop, append-nil}
 use Rattle.std.proofs.lemmas.List.{length-append, length-take, length-map, at_drop_more}
 use Rattle.std.proofs.lemmas.List.{get_or_default}

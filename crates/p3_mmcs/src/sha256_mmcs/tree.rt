@@ -7,8 +7,9 @@ ghost use Rattle.p3_mmcs.specs.Encoding.{rows_length};
 ghost use Rattle.p3_mmcs.specs.Tree.{leaf_at, path_of, sibling_of};
 ghost use Rattle.p3_mmcs.specs.Digests.{IsTree};
 
-use super::digests::{leaf_digest_at, leaf_digest_through, leaf_digests_of_eight};
-use super::digests::{node_digest, node_digests_of_eight};
+use super::digests::{
+    leaf_digest_at, leaf_digest_through, leaf_digests_of_eight, node_digest, node_digests_of_eight,
+};
 use super::encoding::leaf_len;
 use p3_field_core::ElementBytes;
 use p3_matrix::RowMajorMatrix;

@@ -1,4 +1,4 @@
-use Rattle.std.proofs.Common.{◌≡◌, ◌<◌, ◌+◌, ◌*◌, ◌^◌, arith, sym, ap, ◌∙◌, ◌++◌, ◌∷◌, []}
+use Rattle.std.proofs.Common.{◌<◌, ◌*◌, ◌^◌, arith, sym, ap, ◌∙◌, ◌++◌, ◌∷◌, []}
 use Rattle.algebra.specs.Polynomial.{tabulate}
 use Rattle.algebra.proofs.Lists.{tabulate-next}
 use Rattle.p3_mmcs.specs.Batch.{max_height, dimensions_of}

@@ -1,4 +1,4 @@
-use Rattle.std.proofs.Common.{◌≡◌, ◌*◌, length}
+use Rattle.std.proofs.Common.{◌≡◌, ◌*◌}
 use Rattle.algebra.specs.Polynomial.{tabulate}
 use Rattle.p3_mmcs.specs.Tree.{leaf_at}
 use Rattle.p3_mmcs.proofs.sha256_mmcs.tree.leaves_by_eights.Given as goal

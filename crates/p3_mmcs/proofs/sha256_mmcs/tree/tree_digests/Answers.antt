@@ -1,5 +1,4 @@
-use Rattle.std.proofs.Common.{◌≡◌, ◌<◌, length, arith, ap, ◌∙◌}
-use Rattle.algebra.specs.Polynomial.{tabulate}
+use Rattle.std.proofs.Common.{length, arith, ap, ◌∙◌}
 use Rattle.algebra.proofs.Lists.{length-tabulate}
 use Rattle.p3_mmcs.specs.Batch.{dimensions_of}
 use Rattle.p3_mmcs.specs.Tree.{leaf_at}
