@@ -1,5 +1,6 @@
 pub mod Paths
 pub mod Messages
+pub mod Buffers
 pub mod Heights
 pub mod Trees
 pub mod Shapes

@@ -1,5 +1,6 @@
 pub mod Batch
 pub mod Tree
+pub mod Encoding
 pub mod Buffer
 pub mod Digests
 pub mod TreeLaws

@@ -2,6 +2,7 @@
 
 mod buffer;
 mod digests;
+mod encoding;
 mod error;
 mod heights;
 mod opening;

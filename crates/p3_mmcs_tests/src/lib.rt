@@ -7,3 +7,5 @@ mod cases;
 mod openings;
 #[cfg(test)]
 mod sha256_mmcs;
+#[cfg(test)]
+mod trees;

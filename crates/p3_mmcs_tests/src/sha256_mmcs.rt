@@ -268,7 +268,14 @@ fn wide_values(alloc: Global) -> Result<Vec<BabyBear>, AllocError> {
 
 /// The root of the commitment to one matrix in a list.
 fn root_of(alloc: Global, matrix: RowMajorMatrix<BabyBear>) -> Result<[u8; 32], Fail> {
-    let matrices = vec![in alloc; matrix]?;
+    root_of_all(alloc, vec![in alloc; matrix]?)
+}
+
+/// The root of the commitment to these matrices.
+pub(crate) fn root_of_all(
+    alloc: Global,
+    matrices: Vec<RowMajorMatrix<BabyBear>>,
+) -> Result<[u8; 32], Fail> {
     let (root, _data) = commitment_to(alloc, &Sha256Mmcs::new(), matrices)?.ok_or("heights")?;
     Ok(root)
 }

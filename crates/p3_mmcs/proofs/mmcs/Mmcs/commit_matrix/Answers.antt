@@ -1,4 +1,4 @@
-use Rattle.std.proofs.Common.{◌≡◌, ◌++◌, ◌∷◌, [], ap, sym, subst, ◌∙◌}
+use Rattle.std.proofs.Common.{◌++◌, ◌∷◌, [], ap, sym, subst, ◌∙◌}
 use Rattle.p3_mmcs.specs.Batch.{HavePowerHeights, dimensions_of}
 use Rattle.p3_mmcs.proofs.mmcs.Mmcs.commit_matrix.Goals as goal
 

@@ -1,0 +1,110 @@
+//! Trees of up to 32 leaves, whose digests are made eight at a time and one by one, against roots that
+//! were computed with the hashlib module of Python's standard library.
+
+use crate::sha256_mmcs::{element, root_of_all};
+use p3_field::BabyBear;
+use p3_matrix::RowMajorMatrix;
+use std::alloc::{AllocError, Global};
+use std::test::Fail;
+
+/// Of each tree the widths and heights of its matrices, whose numbers count on from the last given,
+/// and the root.
+const TREES: [([(usize, usize, u64); 3], [u8; 32]); 6] = [
+    (
+        [(3, 1, 1), (1, 1, 4), (2, 1, 5)],
+        [
+            0x21, 0x21, 0x56, 0x90, 0xb3, 0xbb, 0x4c, 0xbc, 0x60, 0xbd, 0xb9, 0xd8,
+            0x8e, 0xdc, 0x10, 0x80, 0x1b, 0x81, 0x7f, 0x14, 0x63, 0x31, 0x50, 0x1b,
+            0xe8, 0x22, 0x9f, 0xb5, 0x29, 0x30, 0xbc, 0xaf,
+        ],
+    ),
+    (
+        [(3, 2, 1), (1, 1, 7), (2, 1, 8)],
+        [
+            0xcb, 0xc9, 0x0f, 0xd5, 0x7a, 0xff, 0x5a, 0x69, 0x70, 0x1e, 0xac, 0x3d,
+            0x0b, 0x8a, 0xe7, 0x93, 0xfb, 0xac, 0xb2, 0x8b, 0xf3, 0x38, 0xc1, 0x3d,
+            0x7e, 0x5a, 0xa3, 0xd2, 0x7d, 0x88, 0xf4, 0xeb,
+        ],
+    ),
+    (
+        [(3, 4, 1), (1, 2, 13), (2, 1, 15)],
+        [
+            0x40, 0x28, 0x8c, 0xe6, 0xa7, 0xfb, 0x34, 0xf3, 0x0a, 0x88, 0x56, 0x16,
+            0x20, 0x12, 0x33, 0xf8, 0xc9, 0x4c, 0x30, 0x9a, 0x7e, 0x77, 0x8f, 0x3e,
+            0xc9, 0x2c, 0x52, 0xe1, 0xa0, 0xd0, 0x37, 0xf7,
+        ],
+    ),
+    (
+        [(3, 8, 1), (1, 2, 25), (2, 1, 27)],
+        [
+            0x6c, 0x95, 0x88, 0xd5, 0x96, 0x25, 0xe7, 0x38, 0x67, 0x85, 0xc4, 0x7f,
+            0x71, 0x10, 0x90, 0x32, 0xb7, 0x5e, 0x53, 0x4d, 0x98, 0x06, 0x1c, 0xa2,
+            0x61, 0x54, 0xde, 0xb6, 0xe8, 0x93, 0x56, 0xac,
+        ],
+    ),
+    (
+        [(3, 16, 1), (1, 4, 49), (2, 1, 53)],
+        [
+            0xb5, 0x51, 0x00, 0xaa, 0x5b, 0x9a, 0xb2, 0x2c, 0xbb, 0x2d, 0xab, 0xb6,
+            0xe9, 0x1d, 0x04, 0x51, 0x36, 0xb3, 0xd7, 0x6f, 0xec, 0xd1, 0x04, 0x4d,
+            0x75, 0x3c, 0x91, 0x32, 0x00, 0x29, 0x89, 0x27,
+        ],
+    ),
+    (
+        [(3, 32, 1), (1, 4, 97), (2, 1, 101)],
+        [
+            0x19, 0x2b, 0xde, 0x0b, 0x85, 0x8e, 0x4a, 0xb3, 0x8c, 0x38, 0x74, 0x30,
+            0xf1, 0x85, 0x34, 0x74, 0x5b, 0x7e, 0xe1, 0xd0, 0x67, 0x10, 0x32, 0x3a,
+            0xaa, 0x31, 0x2b, 0x0a, 0x73, 0x60, 0x0a, 0xfd,
+        ],
+    ),
+];
+
+/// A matrix of numbers that count on from `first`.
+fn counting(
+    alloc: Global,
+    width: usize,
+    height: usize,
+    first: u64,
+) -> Result<Option<RowMajorMatrix<BabyBear>>, AllocError> {
+    let mut values = Vec::new(alloc);
+    let mut number = first;
+    for _row in 0..height {
+        for _column in 0..width {
+            values.push(element(number))?;
+            number = number.wrapping_add(1);
+        }
+    }
+    Ok(if width > 0 && values.len() % width == 0 {
+        Some(RowMajorMatrix::new(values, width))
+    } else {
+        None
+    })
+}
+
+/// The root of the tree over matrices of these sizes.
+fn root_over(alloc: Global, sizes: &[(usize, usize, u64)]) -> Result<[u8; 32], Fail> {
+    let mut matrices = Vec::new(alloc);
+    for (width, height, first) in sizes {
+        matrices.push(counting(alloc, *width, *height, *first)?.ok_or("width")?)?;
+    }
+    root_of_all(alloc, matrices)
+}
+
+/// The first tree whose root is another than the table's.
+fn first_wrong_tree(alloc: Global) -> Result<Option<usize>, Fail> {
+    for index in 0..TREES.len() {
+        let (sizes, root) = TREES[index];
+        if root_over(alloc, &sizes)? != root {
+            return Ok(Some(index));
+        }
+    }
+    Ok(None)
+}
+
+#[test]
+fn roots_of_trees_by_eights(rt: HostRuntime) -> Result<(), Fail> {
+    let wrong = first_wrong_tree(rt.alloc())?;
+    assert!(rt; wrong.is_none(), "{wrong:?}");
+    Ok(())
+}
