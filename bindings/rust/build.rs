@@ -1,12 +1,24 @@
-//! Proves and builds the static library `crates/p3_fri_ffi`, and links it with the toolchain's C
-//! part, through which it reaches `malloc`.
+//! Links the static library `p3_fri_ffi`, and the toolchain's C part, through which it reaches
+//! `malloc`. It is taken from the folder that `P3_FRI_LIB` names, or from `lib` beside a package
+//! that `tools/package` wrote, or, with the feature `build`, proved and built here.
 
+use std::io::Write;
 use std::path::{Path, PathBuf};
 use std::process::Command;
 use std::{env, fs};
 
 /// What is missing, in one line.
 type Missing = String;
+
+/// The library, and the toolchain's C part.
+const LIBRARY: &str = "libp3_fri_ffi.a";
+const C_PART: &str = "liblibc_c.a";
+
+/// Where both libraries lie.
+struct Folders {
+    library: PathBuf,
+    c_part: PathBuf,
+}
 
 /// The folder of the toolchain: `RATTLE_KIT`, or the one whose page `rt doc` names.
 fn toolchain() -> Result<PathBuf, Missing> {
@@ -23,44 +35,89 @@ fn toolchain() -> Result<PathBuf, Missing> {
     }
 }
 
-/// Builds the library, and gives the folder that it lies in.
-fn library(repository: &Path) -> Result<PathBuf, Missing> {
+/// A folder with both libraries.
+fn built(folder: PathBuf) -> Result<Folders, Missing> {
+    for file in [LIBRARY, C_PART] {
+        let path = folder.join(file);
+        println!("cargo::rerun-if-changed={}", path.display());
+        if !path.is_file() {
+            return Err(format!("{} is missing", path.display()));
+        }
+    }
+    Ok(Folders {
+        library: folder.clone(),
+        c_part: folder,
+    })
+}
+
+/// Says on the terminal that what follows takes long: cargo shows what a build script prints only
+/// once it has ended.
+fn announce() {
+    let text = "p3-fri-proved: proving and building its library, in a fresh clone some tens of \
+                minutes (P3_FRI_LIB names a folder with a built one)";
+    if let Ok(mut terminal) = fs::OpenOptions::new().write(true).open("/dev/tty") {
+        let _ = writeln!(terminal, "{text}");
+    }
+    println!("cargo::warning={text}");
+}
+
+/// Proves and builds the library.
+fn prove(repository: &Path) -> Result<Folders, Missing> {
+    println!("cargo::rerun-if-env-changed=RATTLE_KIT");
+    println!("cargo::rerun-if-changed={}", repository.join("crates.txt").display());
+    for part in fs::read_dir(repository.join("crates")).into_iter().flatten().flatten() {
+        println!("cargo::rerun-if-changed={}", part.path().join("src").display());
+    }
+    let kit = toolchain()?;
     let library = repository.join("crates/p3_fri_ffi");
     let rt = env::var_os("RATTLE_KIT").map_or("rt".into(), |kit| PathBuf::from(kit).join("bin/rt"));
+    if !library.join("out").join(LIBRARY).is_file() {
+        announce();
+    }
     let status = Command::new(&rt)
         .arg("lib")
         .current_dir(&library)
         .status()
         .map_err(|error| format!("`{}` doesn't start: {error}", rt.display()))?;
     if status.success() {
-        Ok(library.join("out"))
+        Ok(Folders {
+            library: library.join("out"),
+            c_part: kit.join("c"),
+        })
     } else {
         Err(format!("`rt lib` failed in {}", library.display()))
     }
 }
 
-/// Watches what the library is made of.
-fn watch(repository: &Path) {
-    println!("cargo::rerun-if-env-changed=RATTLE_KIT");
-    println!("cargo::rerun-if-changed={}", repository.join("crates.txt").display());
-    for part in fs::read_dir(repository.join("crates")).into_iter().flatten().flatten() {
-        println!("cargo::rerun-if-changed={}", part.path().join("src").display());
+/// The folders to link from: none where there is no library and none is to be proved.
+fn folders() -> Result<Option<Folders>, Missing> {
+    println!("cargo::rerun-if-env-changed=P3_FRI_LIB");
+    println!("cargo::rerun-if-changed=build.rs");
+    let package = PathBuf::from(env!("CARGO_MANIFEST_DIR"));
+    let beside = package.join("../lib");
+    if let Some(folder) = env::var_os("P3_FRI_LIB") {
+        built(PathBuf::from(folder)).map(Some)
+    } else if beside.join(LIBRARY).is_file() {
+        built(beside).map(Some)
+    } else if env::var_os("CARGO_FEATURE_BUILD").is_some() && env::var_os("DOCS_RS").is_none() {
+        prove(&package.join("../..")).map(Some)
+    } else {
+        Ok(None)
     }
 }
 
-fn link() -> Result<(), Missing> {
-    let repository = PathBuf::from(env!("CARGO_MANIFEST_DIR")).join("../..");
-    watch(&repository);
-    let kit = toolchain()?;
-    println!("cargo::rustc-link-search=native={}", library(&repository)?.display());
-    println!("cargo::rustc-link-lib=static=p3_fri_ffi");
-    println!("cargo::rustc-link-search=native={}", kit.join("c").display());
-    println!("cargo::rustc-link-lib=static=libc_c");
-    Ok(())
-}
-
 fn main() {
-    if let Err(missing) = link() {
-        println!("cargo::error={missing}");
+    match folders() {
+        Ok(Some(folders)) => {
+            println!("cargo::rustc-link-search=native={}", folders.library.display());
+            println!("cargo::rustc-link-lib=static=p3_fri_ffi");
+            println!("cargo::rustc-link-search=native={}", folders.c_part.display());
+            println!("cargo::rustc-link-lib=static=libc_c");
+        }
+        Ok(None) => println!(
+            "cargo::warning=without its library this package can be checked, and not linked: \
+             P3_FRI_LIB names a folder with one, and the feature `build` proves one"
+        ),
+        Err(missing) => println!("cargo::error={missing}"),
     }
 }

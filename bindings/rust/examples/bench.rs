@@ -1,6 +1,6 @@
-//! Times `commit`, `open` and `verify`: `cargo run --release --example bench -- [LOG_HEIGHT WIDTH
-//! LOG_BLOWUP QUERIES REPEATS]`, by default `14 64 1 100 5`. Prints the least of each in
-//! milliseconds.
+//! Times `commit`, `open` and `verify`: `cargo run --features build --release --example bench --
+//! [LOG_HEIGHT WIDTH LOG_BLOWUP QUERIES REPEATS]`, by default `14 64 1 100 5`. Prints the least of
+//! each in milliseconds.
 
 use p3_fri_proved::{commit, open, verify, Domain, Error, Matrix, Parameters, ORDER};
 use std::time::Instant;

@@ -5,9 +5,11 @@
 //! written down. This package is a thin, unproved layer over it: it writes requests as bytes, calls
 //! the library, and reads the answers.
 //!
-//! Building it runs `rt lib` in `crates/p3_fri_ffi`, which in a fresh clone proves the whole
-//! library first, in some tens of minutes; later builds take what was proved. `rt` has to be on
-//! `PATH`, or `RATTLE_KIT` to name the toolchain's folder.
+//! The library is the one in the folder that the variable `P3_FRI_LIB` names, or in `lib` beside a
+//! package that `tools/package` wrote. With the feature `build` it is made where none is named:
+//! `rt lib` in `crates/p3_fri_ffi` proves it first, in a fresh clone for some tens of minutes, and
+//! later takes what was proved; `rt` has to be on `PATH`, or `RATTLE_KIT` to name the toolchain's
+//! folder. With neither, the package can be checked and documented, and not linked.
 //!
 //! The polynomial through 1 at 1 and 3 at -1 is `2 - X`, whose value at 5 is -3:
 //!
