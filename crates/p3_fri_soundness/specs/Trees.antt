@@ -7,7 +7,7 @@ use Rattle.algebra.specs.Polynomial.{tabulate}
 use Rattle.p3_mmcs.specs.Tree.{Opens}
 use Rattle.p3_mmcs_binding.specs.Collisions.{NoneCollides}
 use Rattle.p3_fri_relation.specs.Setting.{Setting, Opening, Parameters, CommitmentClaim}
-use Rattle.p3_fri_relation.specs.Setting.{InputOpening, RoundOpening, Proof}
+use Rattle.p3_fri_relation.specs.Setting.{InputOpening, Proof}
 use Rattle.p3_fri_relation.specs.Heights.{opened_index}
 use Rattle.p3_fri_relation.specs.Inputs.{OpensInput}
 use Rattle.p3_fri_relation.specs.Queries.{heights_after, row_indices}

@@ -31,8 +31,7 @@ returns-clause-trees g start f extra_bits moves input_tree round_tree input_len 
     let before = batch_replayed s p claims proof c in
     let from = opened_from_trees f extra_bits moves input_tree round_tree input_len round_len
     input_encoded round_encoded p claims proof words tables before.state before.alpha input_paths
-    round_paths accepts.accepts are tables_fit rounds inputs in
-    (
+    round_paths accepts.accepts are tables_fit rounds inputs in (
       from,
       is_sound s
           (polynomial_setting f extra_bits moves (opened_by input_tree) (opened_by round_tree) laws)
