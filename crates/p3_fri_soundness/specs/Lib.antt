@@ -1,0 +1,5 @@
+pub mod Bound
+pub mod BoundInputs
+pub mod Soundness
+pub mod Trees
+pub mod Laws
