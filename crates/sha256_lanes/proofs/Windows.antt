@@ -45,8 +45,8 @@ later_round block hash lane before after v w word turn place low high lt held va
     ap (λ rows. lane_words rows lane) window ∙ map-set (λ words. lane_word words lane) before place word
     ∙ ap (λ i. set (lane_words before lane) i (lane_word word lane)) at in
     let both = rounds_window block hash (lane_words before lane) (lane_hash v lane) t (slice_index round_constants t) (lane_word word lane)
-        (lane_words after lane) (lane_hash w lane) (omega arith) (omega arith) held.words held.variables
-        (value ∙ window_word_place (lane_words before lane) turn place) moved refl r in
+    (lane_words after lane) (lane_hash w lane) (omega arith) (omega arith) held.words held.variables
+    (value ∙ window_word_place (lane_words before lane) turn place) moved refl r in
     record { words = both.0; variables = both.1 }
 
 -- the same round, counted in another way

@@ -1,7 +1,11 @@
 -- What stands in one lane of words.
-use Rattle.std.specs.Prelude.{◌≡◌, ◌<◌, ◌*◌, ℕ, List, map, slice_index}
+use Rattle.std.specs.Prelude.{◌≡◌, ◌<◌, ◌*◌, ◌%◌, ◌^◌, ℕ, List, map, slice_index}
 use Rattle.sha2.specs.Sha256.{word_at}
 use Rattle.sha256_lanes.specs.declared.words.Words.{Words}
+
+-- a word shifted to the left, without what leaves it
+abbrev pub left : ℕ → ℕ → ℕ
+left word bits = word * 2 ^ bits % 2 ^ 32
 
 -- the word in this lane
 abbrev pub lane_word : Words → ℕ → ℕ

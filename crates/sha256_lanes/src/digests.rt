@@ -49,8 +49,18 @@ fn bytes_of_each(hash: Variables) -> [[u8; 32]; 8]
     ensures { (lane : ℕ) → lane < 8
         → slice_index_or result lane [] ≡ digest_bytes (lane_hash hash lane) 8 }
 {
-    let (a, b, c, d) = (to_array(hash.a), to_array(hash.b), to_array(hash.c), to_array(hash.d));
-    let (e, f, g, h) = (to_array(hash.e), to_array(hash.f), to_array(hash.g), to_array(hash.h));
+    let (a, b, c, d) = (
+        to_array(hash.a),
+        to_array(hash.b),
+        to_array(hash.c),
+        to_array(hash.d),
+    );
+    let (e, f, g, h) = (
+        to_array(hash.e),
+        to_array(hash.f),
+        to_array(hash.g),
+        to_array(hash.h),
+    );
     let mut digests = [[0; 32]; 8];
     'lanes: for l in 0..8 {
         digests[l] = bytes_of([a[l], b[l], c[l], d[l], e[l], f[l], g[l], h[l]]);

@@ -8,9 +8,7 @@ ghost use Rattle.sha256_lanes.specs.Hash.{lane_hash, AreRoundsAt};
 pub(crate) mod variables;
 
 use self::variables::Variables;
-use crate::functions::{
-    choose, lower_sigma0, lower_sigma1, majority, upper_sigma0, upper_sigma1,
-};
+use crate::functions::{choose, lower_sigma0, lower_sigma1, majority, upper_sigma0, upper_sigma1};
 use crate::words::Words;
 use crate::words::operations::{splat, sum};
 
@@ -35,7 +33,10 @@ fn schedule_word(window: &mut [Words; 16], place: usize) -> Words
         → lane_word result lane ≡ window_word (lane_words window.old lane) place }
     ensures window { window.new ≡ slice_set window.old place result }
 {
-    let recent = sum(lower_sigma1(window[(place + 14) % 16]), window[(place + 9) % 16]);
+    let recent = sum(
+        lower_sigma1(window[(place + 14) % 16]),
+        window[(place + 9) % 16],
+    );
     let old = sum(recent, lower_sigma0(window[(place + 1) % 16]));
     let word = sum(old, window[place]);
     window[place] = word;

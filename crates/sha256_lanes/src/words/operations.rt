@@ -1,9 +1,8 @@
 //! Operations on eight words, lane by lane.
 
-ghost use Rattle.std.specs.Prelude.{◌≡◌, ◌<◌, ◌≤◌, ◌/◌, ◌^◌, ℕ, bit_and, bit_xor, slice_index};
-ghost use Rattle.std.specs.Int.{w32, rotate_right};
+ghost use Rattle.std.specs.Prelude.{◌≡◌, ◌<◌, ◌/◌, ◌^◌, ℕ, bit_and, bit_xor, slice_index};
 ghost use Rattle.sha2.specs.Sha256.{add32};
-ghost use Rattle.sha256_lanes.specs.Words.{lane_word};
+ghost use Rattle.sha256_lanes.specs.Words.{lane_word, left};
 
 use super::Words;
 use std::simd::prelude::*;
@@ -69,15 +68,14 @@ pub(crate) fn shifted_right(x: Words, bits: u32) -> Words
     }
 }
 
-/// The words rotated to the right.
+/// The words shifted to the left, without what leaves the word.
 #[inline(always)]
-pub(crate) fn rotated_right(x: Words, bits: u32) -> Words
-    requires positive { 1 ≤ bits }
-    requires within { bits < 32 }
-    ensures { (lane : ℕ) → lane < 8 → lane_word result lane ≡ rotate_right w32 (lane_word x lane) bits }
+pub(crate) fn shifted_left(x: Words, bits: u32) -> Words
+    requires { bits < 32 }
+    ensures { (lane : ℕ) → lane < 8 → lane_word result lane ≡ left (lane_word x lane) bits }
 {
     Words {
-        lanes: (x.lanes >> u32x8::splat(bits)) | (x.lanes << u32x8::splat(32 - bits)),
+        lanes: x.lanes << u32x8::splat(bits),
     }
 }
 

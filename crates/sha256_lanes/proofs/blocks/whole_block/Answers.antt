@@ -8,7 +8,7 @@ pub words-preserved : goal.words-preserved
 words-preserved c = (
   length-set c.words.rows c.words.k c.message_words.result ∙ c.words.invariant.0,
   rows_next (λ (lane j : ℕ). word_at (message_of c.args.len lane c.args.messages.now) (64 * c.args.n + 4 * j))
-  c.words.rows c.words.k c.message_words.result c.words.invariant.0 (omega arith) c.words.invariant.1 c.message_words.ensures,
+      c.words.rows c.words.k c.message_words.result c.words.invariant.0 (omega arith) c.words.invariant.1 c.message_words.ensures,
 )
 
 pub returns : goal.returns
