@@ -17,4 +17,5 @@ lane_words rows lane = map (λ words. lane_word words lane) rows
 
 -- the rows hold the sixteen words of the block in this lane
 abbrev pub HoldsBlock : List Words → ℕ → List ℕ → Type 0
-HoldsBlock rows lane block = (k : ℕ) → k < 16 → slice_index (lane_words rows lane) k ≡ word_at block (4 * k)
+HoldsBlock rows lane block =
+    (k : ℕ) → k < 16 → slice_index (lane_words rows lane) k ≡ word_at block (4 * k)

@@ -30,8 +30,8 @@ pub(crate) fn majority(x: Words, y: Words, z: Words) -> Words
     xor(y, turned)
 }
 
-/// The words shifted to the right by three numbers of bits, under exclusive or. Each shift goes inside
-/// the next, which takes fewer copies than three of their own.
+/// The words shifted to the right by three numbers of bits, under exclusive or. Each shift goes
+/// inside the next, which takes fewer copies than three of their own.
 #[inline(always)]
 fn three_right(x: Words, a: u32, b: u32, c: u32) -> Words
     requires a { a < 32 }

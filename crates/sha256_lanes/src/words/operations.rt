@@ -30,7 +30,8 @@ pub(crate) fn from_array(values: [u32; 8]) -> Words
 /// The sums, without the carry out of the word.
 #[inline(always)]
 pub(crate) fn sum(x: Words, y: Words) -> Words
-    ensures { (lane : ℕ) → lane < 8 → lane_word result lane ≡ add32 (lane_word x lane) (lane_word y lane) }
+    ensures { (lane : ℕ) → lane < 8
+        → lane_word result lane ≡ add32 (lane_word x lane) (lane_word y lane) }
 {
     Words {
         lanes: x.lanes + y.lanes,
@@ -40,7 +41,8 @@ pub(crate) fn sum(x: Words, y: Words) -> Words
 /// The bits that one of the two words has.
 #[inline(always)]
 pub(crate) fn xor(x: Words, y: Words) -> Words
-    ensures { (lane : ℕ) → lane < 8 → lane_word result lane ≡ bit_xor (lane_word x lane) (lane_word y lane) }
+    ensures { (lane : ℕ) → lane < 8
+        → lane_word result lane ≡ bit_xor (lane_word x lane) (lane_word y lane) }
 {
     Words {
         lanes: x.lanes ^ y.lanes,
@@ -50,7 +52,8 @@ pub(crate) fn xor(x: Words, y: Words) -> Words
 /// The bits that both words have.
 #[inline(always)]
 pub(crate) fn and(x: Words, y: Words) -> Words
-    ensures { (lane : ℕ) → lane < 8 → lane_word result lane ≡ bit_and (lane_word x lane) (lane_word y lane) }
+    ensures { (lane : ℕ) → lane < 8
+        → lane_word result lane ≡ bit_and (lane_word x lane) (lane_word y lane) }
 {
     Words {
         lanes: x.lanes & y.lanes,
