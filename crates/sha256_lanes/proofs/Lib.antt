@@ -3,3 +3,4 @@ pub mod Bitwise
 pub mod Windows
 pub mod Pieces
 pub mod Ends
+pub mod Shifts

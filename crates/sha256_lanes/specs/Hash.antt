@@ -13,7 +13,7 @@ lane_hash v lane =
 
 -- after `t` rounds over the block from the hash value, the window of this lane is the one before
 -- round `s`, and its working variables are those of the rounds
-pub record AreRoundsAt (block hash : List ℕ) (lane : ℕ) (window : List Words) (s : ℕ) (v : Variables)
-    (t : ℕ) : Type 0 where
+pub record AreRoundsAt (block hash : List ℕ) (lane : ℕ) (window : List Words) (s : ℕ)
+    (v : Variables) (t : ℕ) : Type 0 where
   pub words : IsWindow (lane_words window lane) (schedule block 48) s
   pub variables : lane_hash v lane ≡ rounds hash (schedule block 48) t

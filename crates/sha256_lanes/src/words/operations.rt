@@ -1,9 +1,8 @@
 //! Operations on eight words, lane by lane.
 
-ghost use Rattle.std.specs.Prelude.{◌≡◌, ◌<◌, ◌≤◌, ◌/◌, ◌^◌, ℕ, bit_and, bit_xor, slice_index};
-ghost use Rattle.std.specs.Int.{w32, rotate_right};
+ghost use Rattle.std.specs.Prelude.{◌≡◌, ◌<◌, ◌/◌, ◌^◌, ℕ, bit_and, bit_xor, slice_index};
 ghost use Rattle.sha2.specs.Sha256.{add32};
-ghost use Rattle.sha256_lanes.specs.Words.{lane_word};
+ghost use Rattle.sha256_lanes.specs.Words.{lane_word, left};
 
 use super::Words;
 use std::simd::prelude::*;
@@ -31,7 +30,8 @@ pub(crate) fn from_array(values: [u32; 8]) -> Words
 /// The sums, without the carry out of the word.
 #[inline(always)]
 pub(crate) fn sum(x: Words, y: Words) -> Words
-    ensures { (lane : ℕ) → lane < 8 → lane_word result lane ≡ add32 (lane_word x lane) (lane_word y lane) }
+    ensures { (lane : ℕ) → lane < 8
+        → lane_word result lane ≡ add32 (lane_word x lane) (lane_word y lane) }
 {
     Words {
         lanes: x.lanes + y.lanes,
@@ -41,7 +41,8 @@ pub(crate) fn sum(x: Words, y: Words) -> Words
 /// The bits that one of the two words has.
 #[inline(always)]
 pub(crate) fn xor(x: Words, y: Words) -> Words
-    ensures { (lane : ℕ) → lane < 8 → lane_word result lane ≡ bit_xor (lane_word x lane) (lane_word y lane) }
+    ensures { (lane : ℕ) → lane < 8
+        → lane_word result lane ≡ bit_xor (lane_word x lane) (lane_word y lane) }
 {
     Words {
         lanes: x.lanes ^ y.lanes,
@@ -51,7 +52,8 @@ pub(crate) fn xor(x: Words, y: Words) -> Words
 /// The bits that both words have.
 #[inline(always)]
 pub(crate) fn and(x: Words, y: Words) -> Words
-    ensures { (lane : ℕ) → lane < 8 → lane_word result lane ≡ bit_and (lane_word x lane) (lane_word y lane) }
+    ensures { (lane : ℕ) → lane < 8
+        → lane_word result lane ≡ bit_and (lane_word x lane) (lane_word y lane) }
 {
     Words {
         lanes: x.lanes & y.lanes,
@@ -69,15 +71,14 @@ pub(crate) fn shifted_right(x: Words, bits: u32) -> Words
     }
 }
 
-/// The words rotated to the right.
+/// The words shifted to the left, without what leaves the word.
 #[inline(always)]
-pub(crate) fn rotated_right(x: Words, bits: u32) -> Words
-    requires positive { 1 ≤ bits }
-    requires within { bits < 32 }
-    ensures { (lane : ℕ) → lane < 8 → lane_word result lane ≡ rotate_right w32 (lane_word x lane) bits }
+pub(crate) fn shifted_left(x: Words, bits: u32) -> Words
+    requires { bits < 32 }
+    ensures { (lane : ℕ) → lane < 8 → lane_word result lane ≡ left (lane_word x lane) bits }
 {
     Words {
-        lanes: (x.lanes >> u32x8::splat(bits)) | (x.lanes << u32x8::splat(32 - bits)),
+        lanes: x.lanes << u32x8::splat(bits),
     }
 }
 
