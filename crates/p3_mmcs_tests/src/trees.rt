@@ -1,5 +1,5 @@
-//! Trees of up to 32 leaves, whose digests are made eight at a time and one by one, against roots that
-//! were computed with the hashlib module of Python's standard library.
+//! Trees of up to 32 leaves, whose digests are made eight at a time and one by one, against roots
+//! that were computed with the hashlib module of Python's standard library.
 
 use crate::sha256_mmcs::{element, root_of_all};
 use p3_field::BabyBear;

@@ -17,7 +17,8 @@ const NODE_TAG: u8 = 1;
 
 /// How many bytes a leaf over these matrices has, where that many times eight fit a word.
 pub(super) fn leaf_len<T: ElementBytes>(matrices: &[RowMajorMatrix<T>]) -> Option<usize>
-    ensures length { IfSome result (λ len. len ≡ 1 + rows_length T.LEN (dimensions_of matrices.now)) }
+    ensures length { IfSome result (λ len.
+        len ≡ 1 + rows_length T.LEN (dimensions_of matrices.now)) }
     ensures fits { IfSome result (λ len. 8 * len < 2 ^ 64) }
 {
     let mut len: usize = 1;

@@ -1,6 +1,7 @@
 //! The digests of a tree, and the paths through it.
 
-ghost use Rattle.std.specs.Prelude.{◌≡◌, ◌<◌, ◌+◌, ◌*◌, ◌^◌, ℕ, List, [], length, IfOk, slice_index_or};
+ghost use Rattle.std.specs.Prelude.{◌≡◌, ◌<◌, ◌+◌, ◌*◌, ◌^◌, ℕ, List, [], length, slice_index_or};
+ghost use Rattle.std.specs.Prelude.{IfOk};
 ghost use Rattle.p3_mmcs.specs.Batch.{max_height, HavePowerHeights, dimensions_of};
 ghost use Rattle.algebra.specs.Polynomial.{tabulate};
 ghost use Rattle.p3_mmcs.specs.Encoding.{rows_length};
