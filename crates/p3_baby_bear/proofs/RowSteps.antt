@@ -1,15 +1,15 @@
 -- Two elements of the extension in eight lanes, whose coefficients are numbers.
-use Rattle.std.specs.Prelude.{ℕ, zero, suc, ◌+◌, ◌*◌, ◌%◌, ◌<◌, ◌≤◌, ◌≡◌, List, [], ◌∷◌, length, replicate, map}
+use Rattle.std.specs.Prelude.{ℕ, suc, ◌+◌, ◌%◌, ◌<◌, ◌≡◌, List, [], ◌∷◌, length, replicate, map}
 use Rattle.std.proofs.Common.{sym, ◌∙◌, ap, ap₂, arith, get_or, refl}
-use Rattle.std.specs.Simd.Lanes.{zip2, Each1}
+use Rattle.std.specs.Simd.Lanes.{zip2}
 use Rattle.std.proofs.lemmas.Simd.{get_or-zip2}
 use Rattle.algebra.specs.Field.{multiple}
 use Rattle.algebra.proofs.RingLaws.{multiple-add, multiple-zero}
 use Rattle.p3_lanes.specs.Halves.{totals}
 use Rattle.p3_baby_bear.specs.declared.baby_bear.BabyBear.{BabyBear}
 use Rattle.p3_baby_bear.specs.declared.baby_bear4.BabyBear4.{BabyBear4}
-use Rattle.p3_baby_bear.specs.BabyBear.{baby_bear, element}
-use Rattle.p3_baby_bear.specs.BabyBearLaws.{baby_bear_laws, zero_is}
+use Rattle.p3_baby_bear.specs.BabyBear.{baby_bear}
+use Rattle.p3_baby_bear.specs.BabyBearLaws.{baby_bear_laws}
 use Rattle.p3_baby_bear.specs.BabyBear4.{baby_bear4, lift4}
 use Rattle.p3_baby_bear.specs.BabyBear4Laws.{same_coefficients}
 use Rattle.p3_baby_bear.specs.Lanes.{lane_of}

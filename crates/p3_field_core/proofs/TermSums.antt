@@ -1,4 +1,4 @@
--- Sums of terms, one term or four more at a time.
+-- Sums of terms, one, two or eight terms more at a time.
 use Rattle.std.proofs.Common.{◌≡◌, ℕ, zero, suc, ◌+◌, ◌<◌, List, length, get_or, refl, sym, ap, ap₂, ◌∙◌, arith}
 use Rattle.std.proofs.Common.{add-one}
 use Rattle.std.proofs.lemmas.List.{get_or_default}

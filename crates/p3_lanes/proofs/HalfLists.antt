@@ -55,6 +55,7 @@ halves_leave (l ∷ ls) (h ∷ hs) =
 
 pub within_weaker : (count more : ℕ) (low high : List ℕ) → count ≤ more → AreWithin count low high
     → AreWithin more low high
-within_weaker count more low high l t =
-    (Each1-weaker (Within count) (Within more) (λ n k. omega (arith, k, l)) low t.0,
-    Each1-weaker (Within count) (Within more) (λ n k. omega (arith, k, l)) high t.1)
+within_weaker count more low high l t = (
+  Each1-weaker (Within count) (Within more) (λ n k. omega (arith, k, l)) low t.0,
+  Each1-weaker (Within count) (Within more) (λ n k. omega (arith, k, l)) high t.1,
+)

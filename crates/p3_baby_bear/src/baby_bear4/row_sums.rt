@@ -30,7 +30,12 @@ fn two_products(first: BabyBear4, x: BabyBear, second: BabyBear4, y: BabyBear) -
 {
     let coefficients = lanes_of(
         (first.constant, first.linear, first.quadratic, first.cubic),
-        (second.constant, second.linear, second.quadratic, second.cubic),
+        (
+            second.constant,
+            second.linear,
+            second.quadratic,
+            second.cubic,
+        ),
     );
     product(coefficients, lanes_of((x, x, x, x), (y, y, y, y)))
 }

@@ -1,4 +1,4 @@
-use Rattle.std.proofs.Common.{ℕ, ◌+◌, ◌/◌, ◌%◌, map, ap₂, ◌∙◌, arith}
+use Rattle.std.proofs.Common.{◌+◌, ◌/◌, ◌%◌, ap₂, ◌∙◌, arith}
 use Rattle.std.specs.Simd.Lanes.{zip2}
 use Rattle.p3_lanes.specs.Halves.{totals}
 use Rattle.p3_lanes.proofs.HalfLists.{halves_added, half_fits, half_within}
@@ -20,6 +20,7 @@ returns-clause-value c =
 
 pub returns-clause-within : goal.returns-clause-within
 returns-clause-within c count t =
-    rw (c.low_parts.ensures, c.shifted.ensures)
-    (half_within (λ n. n % 4294967296) (λ n l. omega arith) count c.args.sums.low c.args.numbers t.0 c.requires.numbers,
-    half_within (λ n. n / 4294967296) (λ n l. omega (arith, l)) count c.args.sums.high c.args.numbers t.1 c.requires.numbers)
+    rw (c.low_parts.ensures, c.shifted.ensures) (
+      half_within (λ n. n % 4294967296) (λ n l. omega arith) count c.args.sums.low c.args.numbers t.0 c.requires.numbers,
+      half_within (λ n. n / 4294967296) (λ n l. omega (arith, l)) count c.args.sums.high c.args.numbers t.1 c.requires.numbers,
+    )

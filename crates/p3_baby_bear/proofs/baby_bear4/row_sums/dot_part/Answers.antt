@@ -1,4 +1,4 @@
-use Rattle.std.proofs.Common.{◌+◌, ◌*◌, length, ap, ap₂, sym, ◌∙◌, arith}
+use Rattle.std.proofs.Common.{length, ap, ap₂, sym, ◌∙◌, arith}
 use Rattle.algebra.specs.Polynomial.{sum_below}
 use Rattle.p3_field_core.specs.RowSums.{row_term}
 use Rattle.p3_field_core.proofs.TermSums.{sum_next, item}

@@ -1,4 +1,4 @@
-use Rattle.std.proofs.Common.{ap, ◌∙◌, arith}
+use Rattle.std.proofs.Common.{◌≡◌, length, ◌∙◌, arith}
 use Rattle.p3_lanes.specs.Halves.{totals}
 use Rattle.p3_baby_bear.specs.BabyBear4Laws.{same_coefficients}
 use Rattle.p3_baby_bear.proofs.LaneSteps.{canonical_map}
@@ -12,7 +12,7 @@ invariant_of-lanes c =
 pub returns : goal.returns
 returns c =
     let ns = totals c.args.sums.low c.args.sums.high in
-    let n8 = totals_length c.args.sums.low c.args.sums.high (omega arith) ∙ omega arith in
+    let n8 : length ns ≡ 8 = totals_length c.args.sums.low c.args.sums.high (omega arith) ∙ omega arith in
     let is = c.reduced_halves.ensures in
     same_coefficients
     (lanes_added ns c.reduced_halves.result 0 4 c.lane.result c.lane-2.result c.add.result (omega arith) (omega arith) n8 is c.lane.ensures c.lane-2.ensures c.add.ensures)
