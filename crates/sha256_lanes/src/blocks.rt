@@ -39,18 +39,16 @@ fn message_words(messages: &[u8], len: usize, at: usize) -> Words
     ])
 }
 
-/// Block `n` of each message, where it is one of its own bytes alone.
-pub(crate) fn whole_block(messages: &[u8], len: usize, n: usize) -> [Words; 16]
+/// Loads block `n` of each message, where it is one of its own bytes alone.
+pub(crate) fn load_whole_block(window: &mut [Words; 16], messages: &[u8], len: usize, n: usize)
     requires length { length messages.now ≡ 8 * len }
     requires within { n < len / 64 }
-    ensures { (lane : ℕ) → lane < 8
-        → HoldsBlock result lane (block_of n (padded_message (message_of len lane messages.now))) }
+    ensures { (lane : ℕ) → lane < 8 → let message = message_of len lane messages.now in
+        HoldsBlock window.new lane (block_of n (padded_message message)) }
 {
-    let mut rows = [splat(0); 16];
     'words: for k in 0..16 {
-        rows[k] = message_words(messages, len, BLOCK * n + 4 * k);
+        window[k] = message_words(messages, len, BLOCK * n + 4 * k);
     }
-    rows
 }
 
 /// The byte at `at` of the padded message in a lane, of those behind its whole blocks.
@@ -115,18 +113,22 @@ fn padded_words(messages: &[u8], len: usize, end: &[u8; 128], at: usize) -> Word
     }
 }
 
-/// Block `n` of each padded message, one behind its whole blocks.
-pub(crate) fn last_block(messages: &[u8], len: usize, end: &[u8; 128], n: usize) -> [Words; 16]
+/// Loads block `n` of each padded message, one behind its whole blocks.
+pub(crate) fn load_last_block(
+    window: &mut [Words; 16],
+    messages: &[u8],
+    len: usize,
+    end: &[u8; 128],
+    n: usize,
+)
     requires length { length messages.now ≡ 8 * len }
     requires end { IsEndOf len end.now }
     requires behind { len / 64 ≤ n }
     requires within { n < blocks_of len }
-    ensures { (lane : ℕ) → lane < 8
-        → HoldsBlock result lane (block_of n (padded_message (message_of len lane messages.now))) }
+    ensures { (lane : ℕ) → lane < 8 → let message = message_of len lane messages.now in
+        HoldsBlock window.new lane (block_of n (padded_message message)) }
 {
-    let mut rows = [splat(0); 16];
     'words: for k in 0..16 {
-        rows[k] = padded_words(messages, len, end, BLOCK * n + 4 * k);
+        window[k] = padded_words(messages, len, end, BLOCK * n + 4 * k);
     }
-    rows
 }

@@ -5,7 +5,7 @@ ghost use Rattle.sha2.specs.Sha256.{digest_bytes, initial_hash_256, sha256};
 ghost use Rattle.sha256_lanes.specs.Lanes.{message_of};
 ghost use Rattle.sha256_lanes.specs.Hash.{lane_hash};
 
-use crate::blocks::{last_block, whole_block};
+use crate::blocks::{load_last_block, load_whole_block};
 use crate::padding::{BLOCK, padded_end};
 use crate::rounds::compress;
 use crate::rounds::variables::Variables;
@@ -76,13 +76,14 @@ pub fn digests_of_eight(messages: &[u8], len: usize) -> [[u8; 32]; 8]
 {
     let whole = len / BLOCK;
     let mut hash = initial();
+    let mut window = [splat(0); 16];
     'whole: for n in 0..whole {
-        let mut window = whole_block(messages, len, n);
+        load_whole_block(&mut window, messages, len, n);
         hash = compress(&mut window, hash);
     }
     let end = padded_end(len);
     'last: for n in whole..whole + (len % BLOCK + 72) / BLOCK {
-        let mut window = last_block(messages, len, &end, n);
+        load_last_block(&mut window, messages, len, &end, n);
         hash = compress(&mut window, hash);
     }
     bytes_of_each(hash)

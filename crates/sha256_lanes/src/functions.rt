@@ -18,7 +18,7 @@ pub(crate) fn choose(x: Words, y: Words, z: Words) -> Words
     xor(z, chosen)
 }
 
-/// The bits that two of the three words have.
+/// The bits that at least two of the three words have.
 #[inline(always)]
 pub(crate) fn majority(x: Words, y: Words, z: Words) -> Words
     ensures { (lane : ℕ) → lane < 8

@@ -144,7 +144,7 @@ pub(crate) fn compress(window: &mut [Words; 16], state: Variables) -> Variables
     v = four_block_rounds(window, v, 4);
     v = four_block_rounds(window, v, 8);
     v = four_block_rounds(window, v, 12);
-    // Sixteen rounds a turn, so that the place of each word in the window is a constant.
+    // After sixteen rounds the places in the window come again, so one turn can name them all.
     'turns: for turn in 1..4 {
         v = four_schedule_rounds(window, v, turn, 0);
         v = four_schedule_rounds(window, v, turn, 4);

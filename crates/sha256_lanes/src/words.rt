@@ -10,6 +10,8 @@ use std::simd::prelude::*;
 #[derive(Clone, Copy)]
 pub(crate) struct Words {
     lanes: u32x8,
+    // They are eight.
     ghost eight: { length lanes ≡ 8 },
+    // Each has 32 bits.
     ghost small: { (lane : ℕ) → slice_index lanes lane < 4294967296 },
 }

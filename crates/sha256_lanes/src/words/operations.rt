@@ -38,7 +38,7 @@ pub(crate) fn sum(x: Words, y: Words) -> Words
     }
 }
 
-/// The bits that one of the two words has.
+/// The bits that just one of the two words has.
 #[inline(always)]
 pub(crate) fn xor(x: Words, y: Words) -> Words
     ensures { (lane : ℕ) → lane < 8

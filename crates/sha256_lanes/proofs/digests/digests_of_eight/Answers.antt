@@ -15,7 +15,7 @@ pub whole-preserved : goal.whole-preserved
 whole-preserved c = λ lane lt.
     let padded = padded_message (message_of c.args.len lane c.args.messages.now) in
     hashed padded (lane_hash c.whole.hash lane) _ c.whole.n (c.whole.invariant lane lt)
-    (c.compress-hash.ensures (block_of c.whole.n padded) lane lt (c.whole_block-window.ensures lane lt))
+    (c.compress-hash.ensures (block_of c.whole.n padded) lane lt (c.load_whole_block.ensures lane lt))
 
 pub last-init : goal.last-init
 last-init c = λ lane lt.
@@ -27,7 +27,7 @@ pub last-preserved : goal.last-preserved
 last-preserved c = λ lane lt.
     let padded = padded_message (message_of c.args.len lane c.args.messages.now) in
     hashed padded (lane_hash c.last.hash lane) _ c.last.n (c.last.invariant lane lt)
-    (c.compress-hash-in-last.ensures (block_of c.last.n padded) lane lt (c.last_block-window.ensures lane lt))
+    (c.compress-hash-in-last.ensures (block_of c.last.n padded) lane lt (c.load_last_block.ensures lane lt))
 
 pub returns : goal.returns
 unfolding sha256

@@ -2,13 +2,13 @@ use Rattle.std.proofs.Common.{ℕ, ◌+◌, ◌*◌, length, length-set, ◌∙�
 use Rattle.sha2.specs.Sha256.{padded_message, padding, word_at}
 use Rattle.sha256_lanes.specs.Lanes.{message_of}
 use Rattle.sha256_lanes.proofs.Pieces.{block_word, message_length, rows_next, word_in_front}
-use Rattle.sha256_lanes.proofs.blocks.whole_block.Goals as goal
+use Rattle.sha256_lanes.proofs.blocks.load_whole_block.Goals as goal
 
 pub words-preserved : goal.words-preserved
 words-preserved c = (
-  length-set c.words.rows c.words.k c.message_words.result ∙ c.words.invariant.0,
+  length-set c.words.window c.words.k c.message_words.result ∙ c.words.invariant.0,
   rows_next (λ (lane j : ℕ). word_at (message_of c.args.len lane c.args.messages.now) (64 * c.args.n + 4 * j))
-      c.words.rows c.words.k c.message_words.result c.words.invariant.0 (omega arith) c.words.invariant.1 c.message_words.ensures,
+      c.words.window c.words.k c.message_words.result c.words.invariant.0 (omega arith) c.words.invariant.1 c.message_words.ensures,
 )
 
 pub returns : goal.returns

@@ -2,13 +2,13 @@ use Rattle.std.proofs.Common.{ℕ, ◌+◌, ◌*◌, length-set, ◌∙◌, arit
 use Rattle.sha2.specs.Sha256.{padded_message, word_at}
 use Rattle.sha256_lanes.specs.Lanes.{message_of}
 use Rattle.sha256_lanes.proofs.Pieces.{block_word, rows_next}
-use Rattle.sha256_lanes.proofs.blocks.last_block.Goals as goal
+use Rattle.sha256_lanes.proofs.blocks.load_last_block.Goals as goal
 
 pub words-preserved : goal.words-preserved
 words-preserved c = (
-  length-set c.words.rows c.words.k c.padded_words.result ∙ c.words.invariant.0,
+  length-set c.words.window c.words.k c.padded_words.result ∙ c.words.invariant.0,
   rows_next (λ (lane j : ℕ). word_at (padded_message (message_of c.args.len lane c.args.messages.now)) (64 * c.args.n + 4 * j))
-      c.words.rows c.words.k c.padded_words.result c.words.invariant.0 (omega arith) c.words.invariant.1 c.padded_words.ensures,
+      c.words.window c.words.k c.padded_words.result c.words.invariant.0 (omega arith) c.words.invariant.1 c.padded_words.ensures,
 )
 
 pub returns : goal.returns
