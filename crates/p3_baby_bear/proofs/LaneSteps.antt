@@ -11,8 +11,9 @@ use Rattle.std.proofs.Math.Facts.{Fits-of_lt}
 use Rattle.algebra.specs.Field.{multiple, sub}
 use Rattle.algebra.proofs.RingLaws.{multiple-add}
 use Rattle.p3_lanes.proofs.LaneLists.{each_zip2}
+use Rattle.p3_baby_bear.specs.declared.baby_bear.BabyBear.{BabyBear}
 use Rattle.p3_baby_bear.specs.BabyBear.{element, baby_bear}
-use Rattle.p3_baby_bear.specs.BabyBearLaws.{same_number, multiple_is, baby_bear_laws}
+use Rattle.p3_baby_bear.specs.BabyBearLaws.{same_number, multiple_is, zero_is, baby_bear_laws}
 use Rattle.p3_baby_bear.specs.Lanes.{lane_of}
 
 abbrev pub Below : ℕ → Type 0
@@ -56,6 +57,18 @@ opposite_is n l =
 product_is : (m n : ℕ) → element (m * n % 2013265921) ≡ baby_bear.mul (element m) (element n)
 unfolding baby_bear
 product_is m n = same_number _ _ (mod-mod (m * n) 2013265921 ∙ mul-mod m n 2013265921)
+
+-- elements by their numbers, one to a lane
+pub values_below : (xs : List BabyBear) (l : ℕ) → get_or (map (λ (x : BabyBear). x.value) xs) l 0 < 2013265921
+values_below [] l = lit< tt
+values_below (x ∷ xs) zero = x.canonical
+values_below (x ∷ xs) (suc l) = values_below xs l
+
+pub lane_of_values : (xs : List BabyBear) (l : ℕ)
+    → lane_of (map (λ (x : BabyBear). x.value) xs) l ≡ get_or xs l baby_bear.zero
+lane_of_values [] l = zero_is
+lane_of_values (x ∷ xs) zero = same_number _ _ (mod-eq_of_lt x.canonical)
+lane_of_values (x ∷ xs) (suc l) = lane_of_values xs l
 
 rest_is : (n : ℕ) → element (n % 2013265921) ≡ element n
 rest_is n = same_number _ _ (mod-mod n 2013265921)

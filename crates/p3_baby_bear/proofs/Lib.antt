@@ -1,3 +1,4 @@
 pub mod Factors
 pub mod LaneSteps
 pub mod QuarticSteps
+pub mod RowSteps

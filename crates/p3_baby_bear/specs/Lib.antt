@@ -4,6 +4,7 @@ pub mod BabyBear4
 pub mod BabyBear4Laws
 pub mod Lanes
 pub mod Lanes4
+pub mod RowSums
 pub use Rattle.algebra.specs.Field
 pub use Rattle.algebra.specs.PolynomialProduct
 pub use Rattle.algebra.specs.Primes

@@ -14,6 +14,7 @@ mod two_adic;
 
 pub use self::factor::BabyBearFactor;
 pub use self::lanes::BabyBear8Lanes;
+pub(crate) use self::lanes::lanes_of;
 
 /// An element of the prime field of 2013265921 elements, kept as its canonical number.
 #[derive(Clone, Copy, Debug, PartialEq, Eq)]

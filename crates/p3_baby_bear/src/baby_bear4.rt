@@ -6,6 +6,7 @@ mod extension;
 mod field;
 mod lanes;
 pub mod laws;
+mod row_sums;
 
 pub use self::lanes::BabyBear4x8Lanes;
 use crate::baby_bear::BabyBear;

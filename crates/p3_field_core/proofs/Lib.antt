@@ -7,3 +7,4 @@ pub mod IndexSteps
 pub mod IndexSwaps
 pub mod Inverses
 pub mod Orders
+pub mod TermSums

@@ -2,6 +2,7 @@ pub mod Coset
 pub mod ExtensionLaws
 pub mod Index
 pub mod Order
+pub mod RowSums
 pub use Rattle.algebra.specs.Digits
 pub use Rattle.algebra.specs.Field
 pub use Rattle.algebra.specs.Interpolation

@@ -1,10 +1,13 @@
 //! Extensions of a field.
 
-ghost use Rattle.std.specs.Prelude.{◌≡◌, ◌<◌, ℕ, List, [], ◌∷◌, length, slice_index_or, slice_set};
+ghost use Rattle.std.specs.Prelude.{◌≡◌, ◌<◌, ◌≤◌, ℕ, List, [], ◌∷◌, length};
+ghost use Rattle.std.specs.Prelude.{slice_index_or, slice_set};
 ghost use Rattle.algebra.specs.Field.{IsHomomorphism};
+ghost use Rattle.algebra.specs.Polynomial.{sum_below};
 ghost use Rattle.algebra.proofs.Lifting.{identity_homomorphism};
 ghost use Rattle.p3_field_core.specs.ExtensionLaws.{self_lift, self_length, self_injective};
 ghost use Rattle.p3_field_core.specs.ExtensionLaws.{self_of_coefficients};
+ghost use Rattle.p3_field_core.specs.RowSums.{row_term};
 
 use crate::field::Field;
 
@@ -54,6 +57,20 @@ pub trait ExtensionField<F: Field>: Field {
         ensures { result ≡ Self.ops.add (Self.ops.add (Self.ops.add
             (Self.ops.mul values.0 (lift factors.0)) (Self.ops.mul values.1 (lift factors.1)))
             (Self.ops.mul values.2 (lift factors.2))) (Self.ops.mul values.3 (lift factors.3)) };
+
+    /// The sum of a row's entries, each times the value beside it; values past the row's end count
+    /// nothing. An extension can add up many products before it reduces a coefficient.
+    fn dot_row(values: &[Self], row: &[F]) -> Self
+        requires values { length row.now ≤ length values.now }
+        ensures { result ≡ sum_below Self.ops (length row.now)
+            (row_term F.ops Self.ops lift values.now row.now) }
+    {
+        let mut sum = Self::ZERO;
+        for i in 0..row.len() {
+            sum = sum + values[i].scale(row[i]);
+        }
+        sum
+    }
 
     ghost lift_law: { IsHomomorphism F.ops Self.ops lift };
 

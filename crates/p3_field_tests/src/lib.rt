@@ -18,4 +18,6 @@ mod powers;
 #[cfg(test)]
 mod prepared;
 #[cfg(test)]
+mod row_sums;
+#[cfg(test)]
 mod sample_field;

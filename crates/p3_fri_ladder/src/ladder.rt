@@ -53,22 +53,11 @@ impl<EF: Field> Ladder<EF> {
     }
 }
 
-/// The same of an opened row, whose values lie in the base field, four at a time.
+/// The same of an opened row, whose values lie in the base field.
 pub fn combine_row<F: Field, EF: ExtensionField<F>>(ladder: &Ladder<EF>, row: &[F]) -> EF
     requires { length row.now ≤ vec_len ladder.now.powers }
     ensures { result ≡ val EF.ops (map EF.lift row.now) ladder.now.alpha }
 {
     let powers = ladder.powers.as_slice();
-    let blocks = row.len() / 4;
-    let mut sum = EF::ZERO;
-    for block in 0..blocks {
-        let k = 4 * block;
-        let four_powers = (powers[k], powers[k + 1], powers[k + 2], powers[k + 3]);
-        let four_entries = (row[k], row[k + 1], row[k + 2], row[k + 3]);
-        sum = sum + EF::mixed_dot_product(four_powers, four_entries);
-    }
-    for k in 4 * blocks..row.len() {
-        sum = sum + powers[k].scale(row[k]);
-    }
-    sum
+    EF::dot_row(powers, row)
 }

@@ -1,2 +1,3 @@
+pub mod HalfLists
 pub mod LaneLists
 pub mod Reductions

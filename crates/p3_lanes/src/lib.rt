@@ -5,6 +5,9 @@
 ghost use Rattle.std.specs.Prelude.{◌≡◌, ◌<◌, ◌+◌, ◌-◌, ◌*◌, ◌/◌, ◌%◌, ◌^◌, ℕ, map};
 ghost use Rattle.std.specs.Simd.Lanes.{zip2, Each1};
 
+mod halves;
+
+pub use crate::halves::{HalfSums, add_halves, no_halves, reduced_halves};
 use std::simd::prelude::*;
 
 /// The order.

@@ -1,6 +1,6 @@
 //! Eight elements of BabyBear in one value.
 
-ghost use Rattle.std.specs.Prelude.{◌≡◌, ◌<◌, ℕ, slice_index_or};
+ghost use Rattle.std.specs.Prelude.{◌≡◌, ◌<◌, ℕ, [], ◌∷◌, slice_index_or};
 ghost use Rattle.std.proofs.Common.{lit<};
 ghost use Rattle.algebra.specs.Field.{sub};
 ghost use Rattle.p3_baby_bear.specs.BabyBear.{baby_bear};
@@ -19,6 +19,28 @@ use std::simd::prelude::*;
 pub struct BabyBear8Lanes {
     pub(crate) numbers: u64x8,
     ghost canonical: { (l : ℕ) → slice_index_or numbers l 0 < 2013265921 },
+}
+
+/// Eight elements, one to a lane.
+pub(crate) fn lanes_of(
+    first: (BabyBear, BabyBear, BabyBear, BabyBear),
+    others: (BabyBear, BabyBear, BabyBear, BabyBear),
+) -> BabyBear8Lanes
+    ensures { (l : ℕ) → l < 8 → lane_of result.numbers l ≡ slice_index_or (first.0 ∷ first.1
+        ∷ first.2 ∷ first.3 ∷ others.0 ∷ others.1 ∷ others.2 ∷ others.3 ∷ []) l baby_bear.zero }
+{
+    BabyBear8Lanes {
+        numbers: u64x8::from_array([
+            first.0.value as u64,
+            first.1.value as u64,
+            first.2.value as u64,
+            first.3.value as u64,
+            others.0.value as u64,
+            others.1.value as u64,
+            others.2.value as u64,
+            others.3.value as u64,
+        ]),
+    }
 }
 
 impl Add for BabyBear8Lanes {

@@ -8,6 +8,7 @@ ghost use Rattle.p3_baby_bear.specs.BabyBear4Laws.{of_coefficients4_law};
 
 use super::BabyBear4;
 use super::arithmetic::four_products;
+use super::row_sums::dot;
 use crate::baby_bear::constants::ZERO;
 use crate::baby_bear::{BabyBear, BabyBearFactor};
 use p3_field_core::extension::ExtensionField;
@@ -100,6 +101,11 @@ impl ExtensionField<BabyBear> for BabyBear4 {
             ),
             cubic: four_products((a.cubic, b.cubic, c.cubic, d.cubic), factors),
         }
+    }
+
+    /// By lanes.
+    fn dot_row(values: &[BabyBear4], row: &[BabyBear]) -> BabyBear4 {
+        dot(values, row)
     }
 
     ghost lift_law = { lift4_homomorphism };

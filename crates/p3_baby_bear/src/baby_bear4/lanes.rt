@@ -3,6 +3,7 @@
 mod arithmetic;
 mod packing;
 
+pub(crate) use self::arithmetic::product;
 use crate::baby_bear::BabyBear8Lanes;
 
 /// Eight elements, coefficient by coefficient.

@@ -16,7 +16,7 @@ use std::simd::prelude::*;
 
 /// The products of the canonical numbers. Four of these fit 64 bits, so that a sum of four is
 /// reduced once.
-fn product(a: BabyBear8Lanes, b: BabyBear8Lanes) -> u64x8
+pub(crate) fn product(a: BabyBear8Lanes, b: BabyBear8Lanes) -> u64x8
     ensures value { (l : ℕ) → l < 8 → multiple baby_bear (slice_index_or result l 0)
         ≡ baby_bear.mul (lane_of a.numbers l) (lane_of b.numbers l) }
     ensures small { Each1 (λ n. n ≤ 4053239664633446400) result }
