@@ -7,4 +7,4 @@ pub mod laws;
 pub mod soundness;
 
 pub use crate::errors::{BatchError, RoundError};
-pub use crate::soundness::{SoundnessError, soundness_error};
+pub use crate::soundness::{SoundnessError, soundness_error, tallest_of};

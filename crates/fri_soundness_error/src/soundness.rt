@@ -147,7 +147,7 @@ pub fn soundness_error<M>(
 }
 
 /// The tallest of falling log heights, 0 where there is none.
-fn tallest_of(heights: &[usize]) -> usize
+pub fn tallest_of(heights: &[usize]) -> usize
     ensures { result ≡ tallest heights.now }
 {
     match heights.first() {
