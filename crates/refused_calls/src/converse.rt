@@ -66,7 +66,12 @@ pub fn tell_unfold_with_input(rt: &HostRuntime, name: Name<'_>) -> Result<()> {
 pub fn tell_unbatch(rt: &HostRuntime, name: Name<'_>) -> Result<()> {
     let challenges = [1, 2, 3].map(BabyBear4::from_u64);
     let polys = polynomials(rt.alloc(), &challenges, 4)?;
-    tell(rt, name, &unbatch(rt.alloc(), &challenges, &polys), ["", ""])
+    tell(
+        rt,
+        name,
+        &unbatch(rt.alloc(), &challenges, &polys),
+        ["", ""],
+    )
 }
 
 /// `unquotient`.

@@ -48,7 +48,12 @@ where
         name: Name<'_>,
         answer: std::result::Result<(P::Commitment, P::ProverData), P::ProverError>,
     ) -> Result<()> {
-        tell(rt, name, &answer.map(|(commitment, _)| commitment), ["", ""])
+        tell(
+            rt,
+            name,
+            &answer.map(|(commitment, _)| commitment),
+            ["", ""],
+        )
     }
 
     /// What is known of a commitment to the columns, and the data, which may be opened.

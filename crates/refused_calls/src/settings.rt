@@ -102,7 +102,10 @@ fn evaluation(
     ensures height { IfOk result (λ e. length (rows e.1) ≡ 2 ^ log_height) }
     ensures width { IfOk result (λ e. matrix_width e.1 ≡ width) }
 {
-    Ok((coset(shift, log_height + extra)?, matrix(alloc, log_height, width)?))
+    Ok((
+        coset(shift, log_height + extra)?,
+        matrix(alloc, log_height, width)?,
+    ))
 }
 
 /// Two columns and one, that the plain scheme commits to.
