@@ -23,3 +23,19 @@ three_words tallest middle lowest words h k m all one two three first second =
       some = λ e. absurd cc;
       first = refl;
     })
+
+falls_once : (h k : ℕ) → k < h → IsStrictlyFalling (h ∷ k ∷ [])
+falls_once h k first zero l = first
+falls_once h k first (suc i) l = absurd (omega (arith, l))
+
+pub two_words : {E A : Type 0} (taller lower : Vec E A) (words : List (Vec E A)) (h k : ℕ)
+    → words ≡ taller ∷ lower ∷ [] → length taller.items ≡ 2 ^ h → length lower.items ≡ 2 ^ k
+    → k < h → AreInputs h (lists words)
+two_words taller lower words h k all one two first =
+    subst (λ ws. AreInputs h ws) (sym (ap lists all)) (record {
+      heights = h ∷ k ∷ [];
+      have = (one, (two, tt));
+      falling = falls_once h k first;
+      some = λ e. absurd cc;
+      first = refl;
+    })

@@ -101,12 +101,23 @@ pub(crate) fn word(alloc: Global) -> Result<Vec<Vec<BabyBear4>>, Fail>
     Ok(words)
 }
 
+/// Words of 16 and of 4 entries that each are 0.
+fn two_words(alloc: Global) -> Result<Vec<Vec<BabyBear4>>, Fail>
+    ensures { IfOk result (λ words. AreInputs 4 (lists words.items)) }
+{
+    let taller = vec![in alloc; constant(0); 16]?;
+    let lower = vec![in alloc; constant(0); 4]?;
+    let mut words = Vec::new(alloc);
+    words.push(taller)?;
+    words.push(lower)?;
+    Ok(words)
+}
+
 /// Whether these parameters are as small as the tests', and the words' log height too, so that they
-/// may be proved and verified.
+/// may be proved, and with a short final polynomial verified.
 fn are_small(parameters: &Parameters, extra_bits: usize, log_height: usize) -> bool
     ensures blowup { IsTrue result → parameters.now.log_blowup ≤ 2 }
     ensures cap { IsTrue result → 0 < parameters.now.max_log_arity }
-    ensures final_polynomial { IsTrue result → parameters.now.log_final_poly_len ≤ 3 }
     ensures commit_bits { IsTrue result → parameters.now.commit_proof_of_work_bits ≤ 3 }
     ensures query_bits { IsTrue result → parameters.now.query_proof_of_work_bits ≤ 3 }
     ensures extra_bits { IsTrue result → extra_bits ≤ 3 }
@@ -114,7 +125,6 @@ fn are_small(parameters: &Parameters, extra_bits: usize, log_height: usize) -> b
 {
     parameters.log_blowup <= 2
         && parameters.max_log_arity > 0
-        && parameters.log_final_poly_len <= 3
         && parameters.commit_proof_of_work_bits <= 3
         && parameters.query_proof_of_work_bits <= 3
         && extra_bits <= 3
@@ -177,7 +187,7 @@ pub(crate) fn is_accepted(
     proof: &Proof,
     challenger: &mut Sha256Challenger,
 ) -> Result<bool, Fail> {
-    if !are_small(parameters, extra_bits, 0) {
+    if parameters.log_final_poly_len > 3 || !are_small(parameters, extra_bits, 0) {
         return Err(Fail::new("other parameters"));
     }
     let plain: Plain = TwoAdicFriFolding(PhantomData);
@@ -287,31 +297,84 @@ fn a_word_is_proved_with_work(rt: HostRuntime) -> Result<(), Fail> {
     Ok(())
 }
 
-/// Whether that word, lower than a final polynomial of four coefficients, is refused before the
-/// challenger is touched.
-fn is_low_word_refused(alloc: Global) -> Result<bool, Fail> {
+/// The words that are handed in: that one, or two.
+#[derive(Clone, Copy, Debug)]
+enum Words {
+    One,
+    Two,
+}
+
+/// The logarithm of the final polynomial's length, the words, and the refusal.
+type Low = (usize, Words, FriProverError);
+
+const LOW: [Low; 4] = [
+    (
+        2,
+        Words::One,
+        FriProverError::InputHeightTooSmall {
+            log_input_height: 2,
+            log_final_height: 3,
+        },
+    ),
+    (
+        1,
+        Words::One,
+        FriProverError::InputHeightTooSmall {
+            log_input_height: 2,
+            log_final_height: 2,
+        },
+    ),
+    (
+        1,
+        Words::Two,
+        FriProverError::InputHeightTooSmall {
+            log_input_height: 2,
+            log_final_height: 2,
+        },
+    ),
+    (usize::MAX, Words::One, FriProverError::FinalHeightOverflow),
+];
+
+/// Whether these words are refused so with such a final polynomial, and the challenger is left as
+/// it was.
+fn are_refused(
+    alloc: Global,
+    log_final_poly_len: usize,
+    words: Vec<Vec<BabyBear4>>,
+    log_height: usize,
+    refusal: FriProverError,
+) -> Result<bool, Fail>
+    requires { AreInputs log_height (lists words.items) }
+{
     let mut parameters = plain_parameters();
-    parameters.log_final_poly_len = 2;
+    parameters.log_final_poly_len = log_final_poly_len;
     let (_commitment, data) = committed_column(alloc)?;
     let mut challenger = Sha256Challenger::new();
     let proved = prove(
         alloc,
         &parameters,
         3,
-        word(alloc)?,
-        2,
+        words,
+        log_height,
         &data,
         &mut challenger,
     )?;
-    let too_small = FriProverError::InputHeightTooSmall {
-        log_input_height: 2,
-        log_final_height: 3,
-    };
-    Ok(proved.err() == Some(too_small) && challenger == Sha256Challenger::new())
+    Ok(proved.err() == Some(refusal) && challenger == Sha256Challenger::new())
+}
+
+/// Whether the words of the case are.
+fn is_met(alloc: Global, case: &Low) -> Result<bool, Fail> {
+    let (log_final_poly_len, words, refusal) = *case;
+    match words {
+        Words::One => are_refused(alloc, log_final_poly_len, word(alloc)?, 2, refusal),
+        Words::Two => are_refused(alloc, log_final_poly_len, two_words(alloc)?, 4, refusal),
+    }
 }
 
 #[test]
 fn a_low_word_is_refused_before_the_challenger_is_touched(rt: HostRuntime) -> Result<(), Fail> {
-    assert!(rt; is_low_word_refused(rt.alloc())?);
+    for case in &LOW {
+        assert!(rt; is_met(rt.alloc(), case)?, "{case:?}");
+    }
     Ok(())
 }

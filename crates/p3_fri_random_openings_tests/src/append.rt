@@ -130,7 +130,7 @@ const COUNTS: [Case; 8] = [
 ];
 
 /// How many random codewords and queries there are, with what comes of it.
-const NUMBERS: [(usize, usize, Case); 6] = [
+const NUMBERS: [(usize, usize, Case); 8] = [
     (
         3,
         2,
@@ -160,6 +160,32 @@ const NUMBERS: [(usize, usize, Case); 6] = [
             preprocessing: Some(2),
             outcome: Outcome::Refused(
                 "HidingPreprocessedCommitmentOutOfBounds { index: 2, num_rounds: 2 }",
+            ),
+        },
+    ),
+    (
+        5,
+        2,
+        Case {
+            claimed: &[&[(5, &[1])]],
+            random: &[&[&[4]]],
+            preprocessing: None,
+            outcome: Outcome::Refused(
+                "HidingRandomOpeningValueCountMismatch { round: 0, matrix: 0, point: 0, expected: 5, \
+                 got: 4 }",
+            ),
+        },
+    ),
+    (
+        8,
+        2,
+        Case {
+            claimed: &[&[(5, &[1])]],
+            random: &[&[&[4]]],
+            preprocessing: None,
+            outcome: Outcome::Refused(
+                "HidingRandomOpeningValueCountMismatch { round: 0, matrix: 0, point: 0, expected: 8, \
+                 got: 4 }",
             ),
         },
     ),

@@ -52,42 +52,79 @@ fn empty_proof(alloc: Global) -> Proof {
 /// Preprocessing and a private matrix, each of one column and opened at a point.
 const CLAIMED: Claimed = &[&[(5, &[1])], &[(5, &[1])]];
 
-/// Whether an empty proof is refused beside as many random values as these counts say, for a fault
-/// of these or of the proof.
-fn is_refused(
-    alloc: Global,
-    counts: &[&[&[usize]]],
-    is_of_random_values: bool,
-) -> Result<bool, Fail> {
+/// How many random codewords the verifier has, how many random values are given by commitment,
+/// matrix and point, and the fault of these, if they have one.
+#[derive(Clone, Copy, Debug)]
+struct Case {
+    codewords: usize,
+    random: &'static [&'static [&'static [usize]]],
+    fault: Option<&'static str>,
+}
+
+const CASES: [Case; 4] = [
+    Case {
+        codewords: 4,
+        random: &[&[&[4]], &[&[4]]],
+        fault: Some(
+            "HidingRandomOpeningValueCountMismatch { round: 0, matrix: 0, point: 0, expected: 0, \
+             got: 4 }",
+        ),
+    },
+    Case {
+        codewords: 4,
+        random: &[&[&[0]], &[&[4]]],
+        fault: None,
+    },
+    Case {
+        codewords: 5,
+        random: &[&[&[0]], &[&[4]]],
+        fault: Some(
+            "HidingRandomOpeningValueCountMismatch { round: 1, matrix: 0, point: 0, expected: 5, \
+             got: 4 }",
+        ),
+    },
+    Case {
+        codewords: 8,
+        random: &[&[&[0]], &[&[4]]],
+        fault: Some(
+            "HidingRandomOpeningValueCountMismatch { round: 1, matrix: 0, point: 0, expected: 8, \
+             got: 4 }",
+        ),
+    },
+];
+
+/// Whether an empty proof is refused beside these random values for their fault, which leaves the
+/// challenger as it was, or for one of its own.
+fn is_refused(alloc: Global, case: &Case) -> Result<bool, Fail> {
     let claims = claims_of(alloc, [0; 32], CLAIMED)?;
-    let random = numbered_all(alloc, counts, 101)?;
+    let random = numbered_all(alloc, case.random, 101)?;
     let proof = empty_proof(alloc);
     let mut challenger = Sha256Challenger::new();
     let answer = verify_with_random_values(
         alloc,
         &parameters(),
         &Inputs::new(),
-        4,
+        case.codewords,
         claims,
         random.as_slice(),
         &proof,
         &mut challenger,
         Some(0),
     );
-    match answer {
-        Ok(()) => Ok(false),
-        Err(refusal) => {
-            let text = format!(in alloc; "{refusal:?}")?;
-            Ok(text.as_str().starts_with("HidingRandomOpening") == is_of_random_values)
-        },
+    let Err(refusal) = answer else {
+        return Ok(false);
+    };
+    let text = format!(in alloc; "{refusal:?}")?;
+    match case.fault {
+        Some(fault) => Ok(text.as_str() == fault && challenger == Sha256Challenger::new()),
+        None => Ok(!text.as_str().starts_with("HidingRandomOpening")),
     }
 }
 
 #[test]
 fn random_values_are_looked_at_before_the_proof(rt: HostRuntime) -> Result<(), Fail> {
-    let alloc = rt.alloc();
-    let before = is_refused(alloc, &[&[&[4]], &[&[4]]], true)?;
-    let after = is_refused(alloc, &[&[&[0]], &[&[4]]], false)?;
-    assert!(rt; before && after);
+    for case in &CASES {
+        assert!(rt; is_refused(rt.alloc(), case)?, "{case:?}");
+    }
     Ok(())
 }

@@ -1,13 +1,15 @@
-//! What a prover refuses, before its challenger is touched.
+//! What a prover refuses, before its challenger is touched; the same data are opened afterwards.
 
 use crate::accepted::{LINE, SQUARE};
-use crate::opened::{Opening, Points, open};
+use crate::answers::answer_to;
+use crate::committed::{Committed, commit_all};
+use crate::opened::{Opening, Points, open_committed};
 use crate::scheme::{PLAIN, Setting};
 use std::alloc::Global;
 use std::process::Abort;
 use std::test::Fail;
 
-/// What is opened, and the refusal.
+/// What is opened, the refusal, and points at which it is opened afterwards in the plain setting.
 #[derive(Clone, Copy)]
 struct Case {
     name: &'static str,
@@ -15,6 +17,7 @@ struct Case {
     batches: Points<'static>,
     points: Points<'static>,
     refusal: &'static str,
+    later: Points<'static>,
 }
 
 const POINTS_OF_COSETS: [Case; 4] = [
@@ -24,6 +27,7 @@ const POINTS_OF_COSETS: [Case; 4] = [
         batches: &[&[&[9]]],
         points: &[&[&[31]]],
         refusal: "PointInEvaluationDomain { round: 0, matrix: 0, point: 0 }",
+        later: &[&[&[7]]],
     },
     Case {
         name: "of a line",
@@ -31,6 +35,7 @@ const POINTS_OF_COSETS: [Case; 4] = [
         batches: &[&[&LINE]],
         points: &[&[&[31]]],
         refusal: "PointInEvaluationDomain { round: 0, matrix: 0, point: 0 }",
+        later: &[&[&[7]]],
     },
     Case {
         name: "of a square",
@@ -38,6 +43,7 @@ const POINTS_OF_COSETS: [Case; 4] = [
         batches: &[&[&SQUARE]],
         points: &[&[&[31]]],
         refusal: "PointInEvaluationDomain { round: 0, matrix: 0, point: 0 }",
+        later: &[&[&[7]]],
     },
     Case {
         name: "the third point of the second commitment's second matrix",
@@ -45,6 +51,7 @@ const POINTS_OF_COSETS: [Case; 4] = [
         batches: &[&[&LINE], &[&SQUARE, &LINE]],
         points: &[&[&[5]], &[&[5], &[7, 5, 31]]],
         refusal: "PointInEvaluationDomain { round: 1, matrix: 1, point: 2 }",
+        later: &[&[&[5]], &[&[5], &[7, 5]]],
     },
 ];
 
@@ -59,13 +66,14 @@ const LONGEST: Setting = Setting {
     ..PLAIN
 };
 
-const HEIGHTS: [Case; 3] = [
+const HEIGHTS: [Case; 5] = [
     Case {
         name: "a low word, at a point off its coset",
         setting: LONGER,
         batches: &[&[&[1, 1]]],
         points: &[&[&[2]]],
         refusal: "InputHeightTooSmall { log_input_height: 2, log_final_height: 2 }",
+        later: &[&[&[2]]],
     },
     Case {
         name: "a low word, at a point of its coset",
@@ -73,6 +81,23 @@ const HEIGHTS: [Case; 3] = [
         batches: &[&[&[1, 1]]],
         points: &[&[&[31]]],
         refusal: "InputHeightTooSmall { log_input_height: 2, log_final_height: 2 }",
+        later: &[&[&[7]]],
+    },
+    Case {
+        name: "a word of two entries",
+        setting: LONGER,
+        batches: &[&[&[1]]],
+        points: &[&[&[2]]],
+        refusal: "InputHeightTooSmall { log_input_height: 1, log_final_height: 2 }",
+        later: &[&[&[2]]],
+    },
+    Case {
+        name: "a low word beside a taller one",
+        setting: LONGER,
+        batches: &[&[&[1; 8], &[1; 2]]],
+        points: &[&[&[2], &[2]]],
+        refusal: "InputHeightTooSmall { log_input_height: 2, log_final_height: 2 }",
+        later: &[&[&[2], &[2]]],
     },
     Case {
         name: "a final polynomial longer than any number",
@@ -80,17 +105,35 @@ const HEIGHTS: [Case; 3] = [
         batches: &[&[&[1, 1]]],
         points: &[&[&[2]]],
         refusal: "FinalHeightOverflow",
+        later: &[&[&[2]]],
     },
 ];
 
 /// Whether the prover refuses so, and leaves its challenger as it was.
-fn is_met(alloc: Global, case: &Case) -> Result<bool, Fail> {
-    match open(alloc, case.setting, case.batches, case.points)? {
+fn is_refused(alloc: Global, case: &Case, all: &mut Vec<Committed>) -> Result<bool, Fail> {
+    match open_committed(alloc, case.setting, all, case.points)? {
         Opening::Opened(_) => Ok(false),
         Opening::Refused(refusal, unmoved) => {
             Ok(unmoved && format!(in alloc; "{refusal:?}")?.as_str() == case.refusal)
         },
     }
+}
+
+/// Whether the data are opened, and that is accepted by a verifier that ends as the prover.
+fn is_opened(alloc: Global, case: &Case, all: &mut Vec<Committed>) -> Result<bool, Fail> {
+    match open_committed(alloc, PLAIN, all, case.later)? {
+        Opening::Opened(opened) => {
+            let answer = answer_to(alloc, PLAIN, opened)?;
+            Ok(answer.same && answer.text.as_str() == "accepted")
+        },
+        Opening::Refused(_, _) => Ok(false),
+    }
+}
+
+/// Whether what is committed to is refused so, and opened afterwards.
+fn is_met(alloc: Global, case: &Case) -> Result<bool, Fail> {
+    let mut all = commit_all(alloc, case.setting, case.batches)?;
+    Ok(is_refused(alloc, case, &mut all)? && is_opened(alloc, case, &mut all)?)
 }
 
 fn assert_all(rt: &impl Abort, alloc: Global, cases: &[Case]) -> Result<(), Fail> {

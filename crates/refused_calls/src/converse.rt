@@ -1,11 +1,11 @@
 //! Calls of the converse of folding.
 
-ghost use Rattle.std.specs.Prelude.{◌≡◌, ◌≤◌, All, IsTrue, vec_len};
+ghost use Rattle.std.specs.Prelude.{◌≡◌, ◌≤◌, All, IfOk, IsTrue, length, vec_len};
 ghost use Rattle.p3_converse.specs.Unfolding.{common_length};
 ghost use Rattle.algebra.specs.Interpolation.{AreDistinct};
 
 use crate::answer::{Fault, Name, Result, tell};
-use crate::matrices::{points, two_of};
+use crate::matrices::points;
 use p3_converse::{
     FoldTree, are_distinct, challenges_fit, have_one_length, leaf_length, leaves_fit,
     log_arities_fit, log_arity_sum, paths_fit, unbatch, unfold, unfold_tree, unfold_with_input,
@@ -15,6 +15,8 @@ use p3_field::{BabyBear4, Field};
 use std::alloc::{AllocError, Global};
 
 type Tree = FoldTree<BabyBear4>;
+
+type Polynomials = Vec<Vec<BabyBear4>>;
 
 /// Whether the challenges are distinct, and the polynomials short and of one length.
 fn fit(challenges: &[BabyBear4], polys: &[Vec<BabyBear4>]) -> bool
@@ -29,40 +31,41 @@ fn fit(challenges: &[BabyBear4], polys: &[Vec<BabyBear4>]) -> bool
     first.len() <= 8 && have_one_length(polys) && are_distinct(challenges)
 }
 
-fn tell_unfold(rt: &HostRuntime, name: Name<'_>) -> Result<()> {
+/// For each challenge a polynomial of so many coefficients.
+fn polynomials(alloc: Global, challenges: &[BabyBear4], count: usize) -> Result<Polynomials>
+    ensures as_many { IfOk result (λ polys. length polys.items ≡ length challenges.now) }
+    ensures distinct { IfOk result (λ _. AreDistinct challenges.now) }
+    ensures one_length { IfOk result (λ polys.
+        All (λ p. vec_len p ≡ common_length polys.items) polys.items) }
+    ensures short { IfOk result (λ polys. common_length polys.items ≤ 8) }
+{
+    let polys = points(alloc, challenges.len(), count)?;
+    if !fit(challenges, &polys) {
+        return Err(Fault::Inputs);
+    }
+    Ok(polys)
+}
+
+/// `unfold`.
+pub fn tell_unfold(rt: &HostRuntime, name: Name<'_>) -> Result<()> {
     let challenges = [0, 1, 2, 3].map(BabyBear4::from_u64);
-    let polys = points(rt.alloc(), 4, 3)?;
-    if !fit(&challenges, &polys) {
-        return Err(Fault::Inputs);
-    }
-    tell(
-        rt,
-        name,
-        &unfold(rt.alloc(), 2, &challenges, &polys),
-        ["", ""],
-    )
+    let polys = polynomials(rt.alloc(), &challenges, 3)?;
+    let answer = unfold(rt.alloc(), 2, &challenges, &polys);
+    tell(rt, name, &answer, ["", ""])
 }
 
-fn tell_unfold_with_input(rt: &HostRuntime, name: Name<'_>) -> Result<()> {
+/// `unfold_with_input`.
+pub fn tell_unfold_with_input(rt: &HostRuntime, name: Name<'_>) -> Result<()> {
     let challenges = [0, 1, 2, 3, 4].map(BabyBear4::from_u64);
-    let polys = points(rt.alloc(), 5, 3)?;
-    if !fit(&challenges, &polys) {
-        return Err(Fault::Inputs);
-    }
-    tell(
-        rt,
-        name,
-        &unfold_with_input(rt.alloc(), 2, &challenges, &polys),
-        ["", ""],
-    )
+    let polys = polynomials(rt.alloc(), &challenges, 3)?;
+    let answer = unfold_with_input(rt.alloc(), 2, &challenges, &polys);
+    tell(rt, name, &answer, ["", ""])
 }
 
-fn tell_unbatch(rt: &HostRuntime, name: Name<'_>) -> Result<()> {
+/// `unbatch`.
+pub fn tell_unbatch(rt: &HostRuntime, name: Name<'_>) -> Result<()> {
     let challenges = [1, 2, 3].map(BabyBear4::from_u64);
-    let polys = points(rt.alloc(), 3, 4)?;
-    if !fit(&challenges, &polys) {
-        return Err(Fault::Inputs);
-    }
+    let polys = polynomials(rt.alloc(), &challenges, 4)?;
     tell(
         rt,
         name,
@@ -71,21 +74,18 @@ fn tell_unbatch(rt: &HostRuntime, name: Name<'_>) -> Result<()> {
     )
 }
 
-fn tell_unquotient(rt: &HostRuntime, name: Name<'_>) -> Result<()> {
+/// `unquotient`.
+pub fn tell_unquotient(rt: &HostRuntime, name: Name<'_>) -> Result<()> {
     let [shift, z, y] = [3, 5, 7].map(BabyBear4::from_u64);
     if shift.is_zero() {
         return Err(Fault::Inputs);
     }
     let quotient = [1, 2, 3].map(BabyBear4::from_u64);
-    tell(
-        rt,
-        name,
-        &unquotient(rt.alloc(), shift, z, y, &quotient),
-        ["", ""],
-    )
+    let answer = unquotient(rt.alloc(), shift, z, y, &quotient);
+    tell(rt, name, &answer, ["", ""])
 }
 
-/// A node over so many leaves or nodes.
+/// A node over these leaves or nodes.
 fn node(alloc: Global, trees: Vec<Tree>) -> std::result::Result<Tree, AllocError> {
     let mut subtrees = Vec::with_capacity(alloc, trees.len())?;
     for (index, tree) in trees.into_iter().enumerate() {
@@ -94,20 +94,26 @@ fn node(alloc: Global, trees: Vec<Tree>) -> std::result::Result<Tree, AllocError
     Ok(FoldTree::Node(subtrees))
 }
 
-/// Three nodes of two leaves each.
+/// A node over two leaves.
+fn lower_node(alloc: Global) -> std::result::Result<Tree, AllocError> {
+    let mut leaves = Vec::with_capacity(alloc, 2)?;
+    for leaf in points(alloc, 2, 2)? {
+        leaves.push(FoldTree::Leaf(leaf))?;
+    }
+    node(alloc, leaves)
+}
+
+/// A node over three such nodes.
 fn tree(alloc: Global) -> std::result::Result<Tree, AllocError> {
     let mut nodes = Vec::with_capacity(alloc, 3)?;
     for _ in 0..3 {
-        let mut leaves = Vec::with_capacity(alloc, 2)?;
-        for leaf in points(alloc, 2, 2)? {
-            leaves.push(FoldTree::Leaf(leaf))?;
-        }
-        nodes.push(node(alloc, leaves)?)?;
+        nodes.push(lower_node(alloc)?)?;
     }
     node(alloc, nodes)
 }
 
-fn tell_unfold_tree(rt: &HostRuntime, name: Name<'_>) -> Result<()> {
+/// `unfold_tree`.
+pub fn tell_unfold_tree(rt: &HostRuntime, name: Name<'_>) -> Result<()> {
     let (tree, rounds) = (tree(rt.alloc())?, [(1, true), (1, false)]);
     if !log_arities_fit(&rounds) || !paths_fit(&rounds, &tree) {
         return Err(Fault::Inputs);
@@ -120,16 +126,4 @@ fn tell_unfold_tree(rt: &HostRuntime, name: Name<'_>) -> Result<()> {
         return Err(Fault::Inputs);
     }
     tell(rt, name, &unfold_tree(rt.alloc(), &rounds, &tree), ["", ""])
-}
-
-/// Makes the call of this name.
-pub fn make(rt: &HostRuntime, name: Name<'_>) -> Result<()> {
-    match name.1 {
-        "unfold" => tell_unfold(rt, name),
-        "unfold_with_input" => tell_unfold_with_input(rt, name),
-        "unbatch" => tell_unbatch(rt, name),
-        "unquotient" => tell_unquotient(rt, name),
-        "unfold_tree" => tell_unfold_tree(rt, name),
-        _ => Err(Fault::Name),
-    }
 }

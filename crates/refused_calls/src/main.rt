@@ -17,6 +17,7 @@ mod transcripts;
 mod tree;
 
 use crate::answer::{Fault, Name, Result};
+use p3_challenger::fs::{Prover, Verifier};
 use std::env;
 use std::process::ExitCode;
 
@@ -52,13 +53,21 @@ const CALLS: [Name<'static>; 26] = [
 
 /// Makes the call of this name.
 fn make(rt: &HostRuntime, name: Name<'_>) -> Result<()> {
-    match name.0 {
-        "plain" => settings::make_plain(rt, name),
-        "hiding" => settings::make_hiding(rt, name),
-        "transcript" => transcripts::make(rt, name),
-        "tree" => tree::make(rt, name),
-        "proof" => forms::make(rt, name),
-        "converse" => converse::make(rt, name),
+    match name {
+        ("plain", _) => settings::make_plain(rt, name),
+        ("hiding", _) => settings::make_hiding(rt, name),
+        ("transcript", "prover") => transcripts::begin::<Prover>(rt, name),
+        ("transcript", "verifier") => transcripts::begin::<Verifier>(rt, name),
+        ("transcript", "pcs_prover") => transcripts::begin_pcs::<Prover>(rt, name),
+        ("transcript", "pcs_verifier") => transcripts::begin_pcs::<Verifier>(rt, name),
+        ("tree", "commit") => tree::tell_commit(rt, name),
+        ("tree", "open_multi_batch") => tree::tell_open_multi_batch(rt, name),
+        ("proof", "from_plain") => forms::tell_from_plain(rt, name),
+        ("converse", "unfold") => converse::tell_unfold(rt, name),
+        ("converse", "unfold_with_input") => converse::tell_unfold_with_input(rt, name),
+        ("converse", "unbatch") => converse::tell_unbatch(rt, name),
+        ("converse", "unquotient") => converse::tell_unquotient(rt, name),
+        ("converse", "unfold_tree") => converse::tell_unfold_tree(rt, name),
         _ => Err(Fault::Name),
     }
 }

@@ -42,15 +42,12 @@ where
     P::ProverError: Debug,
     P::Error: Debug,
 {
-    fn commit(
+    /// Prints what a call answers that commits.
+    fn tell_commitment(
         rt: &HostRuntime,
         name: Name<'_>,
-        scheme: &mut P,
-        columns: Columns<P::Domain, P::Val>,
-    ) -> Result<()>
-        requires { P.CanCommit scheme.old columns.items }
-    {
-        let answer = scheme.commit(rt.alloc(), columns);
+        answer: std::result::Result<(P::Commitment, P::ProverData), P::ProverError>,
+    ) -> Result<()> {
         tell(
             rt,
             name,
@@ -115,7 +112,24 @@ where
         Ok(Ok((values, proof, claims)))
     }
 
-    /// `open`, at so many points of each matrix.
+    /// `verify` of what was opened.
+    fn verify(
+        rt: &HostRuntime,
+        name: Name<'_>,
+        scheme: &P,
+        opened: std::result::Result<Opened<P::Commitment, P::Domain, P::Proof>, P::ProverError>,
+    ) -> Result<()>
+        requires { P.InVerifierRange scheme.now }
+    {
+        let Ok((_, proof, claims)) = opened else {
+            return Err(Fault::Memory);
+        };
+        let mut verifier = Sha256Challenger::new();
+        let answer = scheme.verify(rt.alloc(), claims, &proof, &mut verifier);
+        tell(rt, name, &answer.map(|()| drawn(&mut verifier)), ["", ""])
+    }
+
+    /// `open`, at so many points of each matrix, or `verify` of that.
     fn open(
         rt: &HostRuntime,
         name: Name<'_>,
@@ -126,39 +140,19 @@ where
         requires columns { P.CanCommit scheme.old columns.items }
         requires some { 0 < length columns.items }
         requires prover { P.InProverRange scheme.old }
+        requires verifier { P.InVerifierRange scheme.old }
     {
         let alloc = rt.alloc();
         let points = points(alloc, columns.len(), num_points)?;
         let (known, mut held) = Self::committed(alloc, scheme, columns)?;
         let mut challenger = Sha256Challenger::new();
         let answer = Self::opened(alloc, scheme, known, &mut held, points, &mut challenger)?;
+        if name.1 == "verify" {
+            return Self::verify(rt, name, scheme, answer);
+        }
         let left = [held.mark(), kept(&challenger)];
         let answer = answer.map(|(values, _, _)| (values, drawn(&mut challenger)));
         tell(rt, name, &answer, left)
-    }
-
-    fn verify(
-        rt: &HostRuntime,
-        name: Name<'_>,
-        scheme: &mut P,
-        columns: Columns<P::Domain, P::Val>,
-    ) -> Result<()>
-        requires columns { P.CanCommit scheme.old columns.items }
-        requires some { 0 < length columns.items }
-        requires prover { P.InProverRange scheme.old }
-        requires verifier { P.InVerifierRange scheme.old }
-    {
-        let alloc = rt.alloc();
-        let points = points(alloc, columns.len(), 1)?;
-        let (known, mut held) = Self::committed(alloc, scheme, columns)?;
-        let mut prover = Sha256Challenger::new();
-        let opened = Self::opened(alloc, scheme, known, &mut held, points, &mut prover)?;
-        let Ok((_, proof, claims)) = opened else {
-            return Err(Fault::Memory);
-        };
-        let mut verifier = Sha256Challenger::new();
-        let answer = scheme.verify(alloc, claims, &proof, &mut verifier);
-        tell(rt, name, &answer.map(|_| drawn(&mut verifier)), ["", ""])
     }
 
     fn get_quotient_ldes(
@@ -187,12 +181,7 @@ where
             return Err(Fault::Memory);
         };
         let answer = scheme.commit_ldes(rt.alloc(), words);
-        tell(
-            rt,
-            name,
-            &answer.map(|(commitment, _)| commitment),
-            ["", ""],
-        )
+        Self::tell_commitment(rt, name, answer)
     }
 
     /// `get_evaluations_on_domain`, of the first matrix.
@@ -229,10 +218,12 @@ where
         requires verifier { P.InVerifierRange scheme.old }
     {
         match name.1 {
-            "commit" => Self::commit(rt, name, scheme, columns),
-            "open" => Self::open(rt, name, scheme, columns, 1),
+            "commit" => {
+                let answer = scheme.commit(rt.alloc(), columns);
+                Self::tell_commitment(rt, name, answer)
+            }
+            "open" | "verify" => Self::open(rt, name, scheme, columns, 1),
             "open_at_two_points" => Self::open(rt, name, scheme, columns, 2),
-            "verify" => Self::verify(rt, name, scheme, columns),
             "get_quotient_ldes" => Self::get_quotient_ldes(rt, name, scheme, chunks),
             "commit_ldes" => Self::commit_ldes(rt, name, scheme, chunks),
             "get_evaluations_on_domain" => {

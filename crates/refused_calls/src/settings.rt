@@ -1,15 +1,16 @@
 //! The two schemes with what their calls are made on.
 
-ghost use Rattle.std.specs.Prelude.{◌≡◌, ◌<◌, All, IfOk, length};
+ghost use Rattle.std.specs.Prelude.{◌≡◌, ◌<◌, ◌≤◌, ◌+◌, ◌^◌, All, IfOk, length};
 ghost use Rattle.p3_field.specs.BabyBear.{baby_bear};
 ghost use Rattle.p3_fri_commit.specs.Extension.{FitsDomain};
 ghost use Rattle.p3_fri_hiding.specs.Quotients.{CanExtend};
 ghost use Rattle.p3_fri_hiding.specs.Trace.{FitsMasked};
 ghost use Rattle.p3_fri_relation.specs.Views.{parameters_of};
 ghost use Rattle.p3_fri_two_adic.specs.Ranges.{InProverRange, InVerifierRange};
+ghost use Rattle.p3_matrix.specs.Matrix.{rows, matrix_width};
 
 use crate::answer::{Fault, Name, Result};
-use crate::matrices::{Evaluations, coset, matrix, two_of};
+use crate::matrices::{Domain, Evaluations, coset, matrix, two_of};
 use crate::schemes::{Calls, Marked};
 use p3_dft::Radix2Dit;
 use p3_field::{BabyBear, BabyBear4, Field};
@@ -17,6 +18,7 @@ use p3_fri_folding::FriParameters;
 use p3_fri_hiding::{HidingFriPcs, HidingFriPcsProverData};
 use p3_fri_quotient_masks::are_disjoint;
 use p3_fri_two_adic::TwoAdicFriPcs;
+use p3_matrix::RowMajorMatrix;
 use p3_mmcs::{Sha256Mmcs, Sha256ProverData};
 use rand_chacha::ChaCha20Rng;
 use rand_core::SeedableRng;
@@ -32,13 +34,11 @@ type Hiding = HidingFriPcs<BabyBear, Radix2Dit<BabyBear>, Inputs, Rounds, ChaCha
 
 /// Two queries, rounds that fold by two to a constant, and a proof of work of one bit everywhere.
 fn parameters(log_blowup: usize) -> FriParameters<Rounds>
+    requires positive { 0 < log_blowup }
+    requires small { log_blowup ≤ 2 }
     ensures log_blowup { result.log_blowup ≡ log_blowup }
-    ensures log_final_poly_len { result.log_final_poly_len ≡ 0 }
-    ensures cap { result.max_log_arity ≡ 1 }
-    ensures queries { result.num_queries ≡ 2 }
-    ensures batch_bits { result.batch_proof_of_work_bits ≡ 1 }
-    ensures commit_bits { result.commit_proof_of_work_bits ≡ 1 }
-    ensures query_bits { result.query_proof_of_work_bits ≡ 1 }
+    ensures prover { InProverRange (parameters_of result) 27 63 }
+    ensures verifier { InVerifierRange (parameters_of result) 27 63 }
 {
     FriParameters {
         log_blowup,
@@ -87,13 +87,34 @@ impl<T> Marked for HidingFriPcsProverData<T> {
     }
 }
 
+/// `2^log_height` rows of this width, beside the coset of this shift of `2^extra` times as many
+/// points.
+fn evaluation(
+    alloc: Global,
+    shift: u64,
+    log_height: usize,
+    width: usize,
+    extra: usize,
+) -> Result<(Domain, RowMajorMatrix<BabyBear>)>
+    requires height { log_height ≤ 8 }
+    requires extra { extra ≤ 1 }
+    ensures size { IfOk result (λ e. e.0.log_size ≡ log_height + extra) }
+    ensures height { IfOk result (λ e. length (rows e.1) ≡ 2 ^ log_height) }
+    ensures width { IfOk result (λ e. matrix_width e.1 ≡ width) }
+{
+    Ok((
+        coset(shift, log_height + extra)?,
+        matrix(alloc, log_height, width)?,
+    ))
+}
+
 /// Two columns and one, that the plain scheme commits to.
 fn plain_columns(alloc: Global) -> Result<Evaluations>
     ensures fit { IfOk result (λ all. All (λ e. FitsDomain 27 1 e.0.log_size e.1) all.items) }
     ensures some { IfOk result (λ all. 0 < length all.items) }
 {
-    let first = (coset(1, 3)?, matrix(alloc, 3, 2)?);
-    let second = (coset(3, 1)?, matrix(alloc, 1, 1)?);
+    let first = evaluation(alloc, 1, 3, 2, 0)?;
+    let second = evaluation(alloc, 3, 1, 1, 0)?;
     Ok(two_of(alloc, first, second)?)
 }
 
@@ -102,8 +123,8 @@ fn hiding_columns(alloc: Global) -> Result<Evaluations>
     ensures fit { IfOk result (λ all. All (λ e. FitsMasked 27 2 e.0.log_size e.1) all.items) }
     ensures some { IfOk result (λ all. 0 < length all.items) }
 {
-    let first = (coset(1, 6)?, matrix(alloc, 5, 2)?);
-    let second = (coset(3, 5)?, matrix(alloc, 4, 1)?);
+    let first = evaluation(alloc, 1, 5, 2, 1)?;
+    let second = evaluation(alloc, 3, 4, 1, 1)?;
     Ok(two_of(alloc, first, second)?)
 }
 
@@ -113,12 +134,12 @@ fn chunks(alloc: Global) -> Result<Evaluations>
     ensures hiding { IfOk result (λ all. CanExtend baby_bear (λ d. d.shift) (λ d. d.log_size)
         27 2 all.items (length all.items)) }
 {
-    let (first, second) = (coset(31, 4)?, coset(1_414_256_219, 4)?);
-    if !are_disjoint(&[first, second]) {
+    let first = evaluation(alloc, 31, 4, 1, 0)?;
+    let second = evaluation(alloc, 1_414_256_219, 4, 1, 0)?;
+    if !are_disjoint(&[first.0, second.0]) {
         return Err(Fault::Inputs);
     }
-    let (upper, lower) = (matrix(alloc, 4, 1)?, matrix(alloc, 4, 1)?);
-    let all = two_of(alloc, (first, upper), (second, lower))?;
+    let all = two_of(alloc, first, second)?;
     Ok(all)
 }
 

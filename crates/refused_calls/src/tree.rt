@@ -18,17 +18,14 @@ fn committed(rt: &HostRuntime) -> Result<std::result::Result<Committed, AllocErr
     Ok(Tree::new().commit(alloc, matrices))
 }
 
-fn commit(rt: &HostRuntime, name: Name<'_>) -> Result<()> {
-    let answer = committed(rt)?;
-    tell(
-        rt,
-        name,
-        &answer.map(|(commitment, _)| commitment),
-        ["", ""],
-    )
+/// `commit`.
+pub fn tell_commit(rt: &HostRuntime, name: Name<'_>) -> Result<()> {
+    let answer = committed(rt)?.map(|(commitment, _)| commitment);
+    tell(rt, name, &answer, ["", ""])
 }
 
-fn open_multi_batch(rt: &HostRuntime, name: Name<'_>) -> Result<()> {
+/// `open_multi_batch`.
+pub fn tell_open_multi_batch(rt: &HostRuntime, name: Name<'_>) -> Result<()> {
     let (_, held) = committed(rt)??;
     let indices = [5, 0, 5];
     if !indices_are_below(&indices, Tree::new().get_max_height(&held)) {
@@ -36,13 +33,4 @@ fn open_multi_batch(rt: &HostRuntime, name: Name<'_>) -> Result<()> {
     }
     let answer = Tree::new().open_multi_batch(rt.alloc(), &indices, &held);
     tell(rt, name, &answer, ["", ""])
-}
-
-/// Makes the call of this name.
-pub fn make(rt: &HostRuntime, name: Name<'_>) -> Result<()> {
-    match name.1 {
-        "commit" => commit(rt, name),
-        "open_multi_batch" => open_multi_batch(rt, name),
-        _ => Err(Fault::Name),
-    }
 }

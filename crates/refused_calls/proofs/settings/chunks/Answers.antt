@@ -8,10 +8,10 @@ pub returns-clause-hiding : goal.returns-clause-hiding
 returns-clause-hiding c =
     subst (λ es. CanExtend baby_bear (λ d. d.shift) (λ d. d.log_size) 27 2 es (length es))
     (sym c.in_ok-all.ensures)
-    (extendable baby_bear (λ d. d.shift) (λ d. d.log_size) 27 2
-    (c.in_ok-first.first, c.in_ok-upper.upper) (c.in_ok-second.second, c.in_ok-lower.lower)
-    (c.in_ok-upper.ensures.height ∙ ap (λ k. 2 ^ k) (sym c.in_ok-first.ensures))
-    (c.in_ok-lower.ensures.height ∙ ap (λ k. 2 ^ k) (sym c.in_ok-second.ensures))
-    (c.in_ok-lower.ensures.width ∙ sym c.in_ok-upper.ensures.width)
-    (omega (arith, c.in_ok-first.ensures)) (omega (arith, c.in_ok-second.ensures))
+    (extendable baby_bear (λ d. d.shift) (λ d. d.log_size) 27 2 c.in_ok-first.first
+    c.in_ok-second.second
+    (c.in_ok-first.ensures.height ∙ ap (λ k. 2 ^ k) (sym c.in_ok-first.ensures.size))
+    (c.in_ok-second.ensures.height ∙ ap (λ k. 2 ^ k) (sym c.in_ok-second.ensures.size))
+    (c.in_ok-second.ensures.width ∙ sym c.in_ok-first.ensures.width)
+    (omega (arith, c.in_ok-first.ensures.size)) (omega (arith, c.in_ok-second.ensures.size))
     (c.are_disjoint.ensures.0 c.if-not-are_disjoint.false))
