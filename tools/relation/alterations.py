@@ -8,7 +8,7 @@ is a JSON pointer (RFC 6901): names and places, a slash before each.
     repeat   a list, its last entry twice    order    a number, to the field's order
     empty    a list, all entries             turn     a byte, its lowest bit
     swap     a list, its first two entries   set      anything, to the value
-    add      a list, the value at its end
+    add      a list, the value at its end    next     a byte, by one, and 255 to 0
 """
 
 import copy
@@ -20,7 +20,8 @@ import tree
 
 
 OPERATIONS = (
-    "keep", "cut", "repeat", "empty", "swap", "add", "raise", "zero", "order", "turn", "set",
+    "keep", "cut", "repeat", "empty", "swap", "add", "raise", "zero", "order", "turn", "next",
+    "set",
 )
 
 
@@ -67,6 +68,8 @@ def new_value(old, change):
             return field.ORDER
         case "turn":
             return old ^ 1
+        case "next":
+            return (old + 1) % 256
         case "set":
             return json.loads(change.value)
     raise ValueError(change.operation)
@@ -139,6 +142,7 @@ class Digest:
 
     def changes(self, value, path):
         yield Change((*path, sum(map(len, map(str, path))) % len(value)), "turn")
+        yield from (Change((*path, place), "next") for place in range(len(value)))
         if not self.has_length:
             yield from (Change(path, operation) for operation in ("cut", "repeat", "empty"))
 

@@ -31,12 +31,14 @@ pub enum Operation {
     Order,
     /// Turns the lowest bit of a byte.
     Turn,
+    /// Adds one to a byte, and makes 255 zero.
+    Next,
     /// Puts the value there.
     Set,
 }
 
 /// Each operation with its name, in order.
-pub const OPERATIONS: [(&str, Operation); 11] = [
+pub const OPERATIONS: [(&str, Operation); 12] = [
     ("keep", Operation::Keep),
     ("cut", Operation::Cut),
     ("repeat", Operation::Repeat),
@@ -47,90 +49,97 @@ pub const OPERATIONS: [(&str, Operation); 11] = [
     ("zero", Operation::Zero),
     ("order", Operation::Order),
     ("turn", Operation::Turn),
+    ("next", Operation::Next),
     ("set", Operation::Set),
 ];
 
 /// The operation of this name.
-fn operation_named(name: &str) -> Result<Operation> {
-    for (other, operation) in OPERATIONS {
-        if name == other {
-            return Ok(operation);
+fn operation_named(name: &str) -> Option<Operation> {
+    for (other, operation) in &OPERATIONS {
+        if name == *other {
+            return Some(*operation);
         }
     }
-    Err(anyhow!("no operation {name:?}"))
+    None
 }
 
 /// A change of a JSON value.
-#[derive(Drop)]
+#[derive(Clone, Copy)]
 pub struct Change<'a> {
     path: &'a str,
     pub operation: Operation,
-    value: Value,
+    value: &'a str,
 }
 
 impl<'a> Change<'a> {
     /// The change that a text writes: a path, an operation and, where one is asked for, a value.
-    pub fn parse(alloc: Global, text: &'a str) -> Result<Self> {
-        let (path, others) = text.split_once(' ').context("no operation")?;
-        let (name, value) = others.split_once(' ').unwrap_or((others, "null"));
-        Ok(Change {
+    pub fn parse(text: &'a str) -> Option<Self> {
+        let (path, others) = text.split_once(' ')?;
+        let (name, value) = others.split_once(' ').unwrap_or((others, ""));
+        let operation = operation_named(name)?;
+        Some(Change {
             path,
-            operation: operation_named(name)?,
-            value: Value::from_str(alloc, value)?,
+            operation,
+            value,
         })
     }
 
     /// Makes the change.
-    pub fn apply(self, document: &mut Value) -> Result<()> {
+    pub fn apply(self, alloc: Global, document: &mut Value) -> Result<()> {
         let place = document.pointer_mut(self.path).context("no such place")?;
         match self.operation {
             Operation::Keep => Ok(()),
-            Operation::Set => {
-                *place = self.value;
-                Ok(())
+            Operation::Cut | Operation::Repeat | Operation::Empty | Operation::Swap => {
+                change_list(self.operation, place)
             }
-            Operation::Raise | Operation::Zero | Operation::Order | Operation::Turn => {
-                let number = place.as_u64().context("no number")?;
-                *place = Value::from(changed_number(self.operation, number));
-                Ok(())
+            Operation::Add | Operation::Set => {
+                put(self.operation, place, Value::from_str(alloc, self.value)?)
             }
-            _ => {
-                let list = place.as_array_mut().context("no list")?;
-                change_list(self.operation, list, self.value)
-            }
+            _ => change_number(self.operation, place),
         }
     }
 }
 
-/// A number after an operation on numbers.
-fn changed_number(operation: Operation, number: u64) -> u64 {
-    match operation {
+/// Makes a change of a number.
+fn change_number(operation: Operation, place: &mut Value) -> Result<()> {
+    let number = place.as_u64().context("no number")?;
+    *place = Value::from(match operation {
         Operation::Raise => number.saturating_add(1),
         Operation::Zero => 0,
         Operation::Order => ORDER,
         Operation::Turn => number ^ 1,
-        _ => number,
-    }
+        _ => number.saturating_add(1) % 256,
+    });
+    Ok(())
 }
 
-/// Makes a change of a list.
-fn change_list(operation: Operation, list: &mut Vec<Value>, value: Value) -> Result<()> {
-    match operation {
-        Operation::Cut => {
-            list.pop().context("an empty list")?;
-        }
-        Operation::Repeat => {
-            let last = list.last().context("an empty list")?.clone()?;
-            list.push(last)?;
-        }
-        Operation::Empty => list.clear(),
-        Operation::Swap => {
-            let [first, second, ..] = list.as_mut_slice() else {
-                return Err(anyhow!("a list of less than two entries"));
-            };
-            std::mem::swap(first, second);
-        }
-        _ => list.push(value)?,
+/// Puts the value at the list's end, or in its place.
+fn put(operation: Operation, place: &mut Value, value: Value) -> Result<()> {
+    if operation == Operation::Set {
+        *place = value;
+        return Ok(());
+    }
+    let list = place.as_array_mut().context("no list")?;
+    list.push(value)?;
+    Ok(())
+}
+
+/// Lengthens a list by its last entry.
+fn repeat(list: &mut Vec<Value>) -> Result<()> {
+    let last = list.last().context("an empty list")?.clone()?;
+    list.push(last)?;
+    Ok(())
+}
+
+/// Makes a change of a list that takes no value.
+fn change_list(operation: Operation, place: &mut Value) -> Result<()> {
+    let list = place.as_array_mut().context("no list")?;
+    match (operation, list.as_mut_slice()) {
+        (Operation::Empty, _) => list.clear(),
+        (Operation::Cut, [_, ..]) => list.truncate(list.len().saturating_sub(1)),
+        (Operation::Repeat, [_, ..]) => repeat(list)?,
+        (Operation::Swap, [first, second, ..]) => std::mem::swap(first, second),
+        _ => return Err(anyhow!("a list that is too short")),
     }
     Ok(())
 }

@@ -1,33 +1,21 @@
 //! The answers to altered openings, beside those that may be given.
+//!
+//! The data of an opening are the opening and groups of changes. A group has a name, the answers
+//! that may be given to each of its changes, and the changes. Where the name isn't empty, it is one
+//! change.
 
 use crate::answer::answer_to;
 use crate::change::{Change, OPERATIONS, Operation};
-use anyhow::{Result, anyhow};
-use serde::Deserialize;
+use crate::places::{entries, place};
+use anyhow::{Context, Result, anyhow};
 use serde_json::Value;
 use std::alloc::Global;
-
-/// Changes of one opening, and what may be answered to each of them. Where there is a name, it is
-/// one change.
-#[derive(Drop, Deserialize)]
-struct Group {
-    name: String,
-    answers: Vec<String>,
-    changes: Vec<String>,
-}
-
-/// An opening and its changes.
-#[derive(Drop, Deserialize)]
-pub struct Altered {
-    opening: Value,
-    groups: Vec<Group>,
-}
 
 /// How many changes were made.
 #[derive(Clone, Copy, Default)]
 pub struct Counts {
     /// By operation, in the order of `OPERATIONS`.
-    pub by_operation: [usize; 11],
+    pub by_operation: [usize; 12],
     /// Those that have a name.
     pub named: usize,
     /// Those after which the opening was accepted.
@@ -54,40 +42,59 @@ impl Counts {
 /// What is answered to a change of the opening.
 fn answer_after(alloc: Global, opening: &Value, change: Change<'_>) -> Result<String> {
     let mut changed = opening.clone()?;
-    change.apply(&mut changed)?;
-    answer_to(alloc, serde_json::from_value(alloc, changed)?)
+    change.apply(alloc, &mut changed)?;
+    answer_to(alloc, &changed)
 }
 
-impl Group {
-    /// Compares the answers to all changes. One that may not be given is told, and is the last.
-    fn compare(
-        &self,
-        rt: &(impl Print + AllocGlobal),
-        opening: &Value,
-        counts: &mut Counts,
-    ) -> Result<()> {
-        for text in &self.changes {
-            let change = Change::parse(rt.alloc(), text.as_str())?;
-            let operation = change.operation;
-            let answer = answer_after(rt.alloc(), opening, change)?;
-            if !self.answers.contains(&answer) {
-                let (name, allowed) = (&self.name, &self.answers);
-                println!(rt; "{text} {name:?}: answered {answer:?}, and not one of {allowed:?}")?;
-                return Err(anyhow!("an answer that may not be given"));
-            }
-            let is_accepted = answer.as_str().starts_with("accepted");
-            counts.add(operation, !self.name.is_empty(), is_accepted);
-        }
-        Ok(())
-    }
+/// The text that a value is.
+fn text(value: &Value) -> Result<&str> {
+    value.as_str().context("no text")
 }
 
-impl Altered {
-    /// Compares the answers to all changes of the opening, and tells how many there were.
-    pub fn compare(&self, rt: &(impl Print + AllocGlobal), counts: &mut Counts) -> Result<()> {
-        for group in &self.groups {
-            group.compare(rt, &self.opening, counts)?;
+/// Whether a text is among these.
+fn is_among(answer: &str, texts: &[Value]) -> bool {
+    for text in texts {
+        if text.as_str() == Some(answer) {
+            return true;
         }
-        Ok(())
     }
+    false
+}
+
+/// Whether an answer accepts, where it may be given; one that may not is told.
+fn accepts(rt: &impl Print, group: &Value, change: &str, answer: &str) -> Result<bool> {
+    let allowed = entries(group, "/answers")?;
+    if is_among(answer, allowed) {
+        return Ok(answer.starts_with("accepted"));
+    }
+    let name = place(group, "/name")?;
+    println!(rt; "{change} {name:?}: answered {answer:?}, and not one of {allowed:?}")?;
+    Err(anyhow!("an answer that may not be given"))
+}
+
+/// Compares the answers to the changes of a group. One that may not be given is the last.
+fn compare_group(
+    rt: &(impl Print + AllocGlobal),
+    opening: &Value,
+    group: &Value,
+    counts: &mut Counts,
+) -> Result<()> {
+    let is_named = !text(place(group, "/name")?)?.is_empty();
+    for change in entries(group, "/changes")? {
+        let written = text(change)?;
+        let change = Change::parse(written).context("no change")?;
+        let answer = answer_after(rt.alloc(), opening, change)?;
+        let is_accepted = accepts(rt, group, written, answer.as_str())?;
+        counts.add(change.operation, is_named, is_accepted);
+    }
+    Ok(())
+}
+
+/// Compares the answers to all changes of an opening, and counts them.
+pub fn compare(rt: &(impl Print + AllocGlobal), data: &Value, counts: &mut Counts) -> Result<()> {
+    let opening = place(data, "/opening")?;
+    for group in entries(data, "/groups")? {
+        compare_group(rt, opening, group, counts)?;
+    }
+    Ok(())
 }

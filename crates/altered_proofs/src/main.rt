@@ -7,10 +7,12 @@ mod answer;
 mod change;
 mod comparison;
 mod opening;
+mod places;
 
 use crate::change::OPERATIONS;
-use crate::comparison::{Altered, Counts};
+use crate::comparison::{Counts, compare};
 use anyhow::Result;
+use serde_json::Value;
 use std::fs;
 use std::rt::Files;
 
@@ -34,17 +36,17 @@ const OPENINGS: [&str; 15] = [
 ];
 
 /// The opening of this name, with its changes.
-fn read(rt: &(impl Files + AllocGlobal), name: &str) -> Result<Altered> {
+fn read(rt: &(impl Files + AllocGlobal), name: &str) -> Result<Value> {
     let path = format!(in rt.alloc(); "{name}.json")?;
     let text = fs::read_to_string(rt, path.as_str())?;
-    Ok(serde_json::from_str(rt.alloc(), text.as_str())?)
+    Ok(Value::from_str(rt.alloc(), text.as_str())?)
 }
 
 fn main(rt: HostRuntime) -> Result<()> {
     let mut counts = Counts::default();
     for name in OPENINGS {
         let before = counts;
-        read(&rt, name)?.compare(&rt, &mut counts)?;
+        compare(&rt, &read(&rt, name)?, &mut counts)?;
         let total = counts.total().saturating_sub(before.total());
         let named = counts.named.saturating_sub(before.named);
         let accepted = counts.accepted.saturating_sub(before.accepted);
