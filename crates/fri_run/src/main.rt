@@ -2,7 +2,8 @@
 //! from the command line.
 #![tactic(auto)]
 
-use fri_commands::{report_out_of_memory, run};
+use fri_commands::report_out_of_memory;
+pub use fri_commands::run;
 use std::io::ErrorKind;
 use std::process::ExitCode;
 use std::{env, io};

@@ -6,7 +6,6 @@
 #![tactic(auto)]
 
 pub mod hiding_pcs;
-pub mod proof;
 pub mod prover;
 pub mod verifier;
 
@@ -17,14 +16,12 @@ pub use p3_fri_core::pcs_transcript::{
 pub use p3_fri_core::transcript::{ProverTranscript, TranscriptFailure, VerifierTranscript};
 pub use p3_fri_core::{
     BatchMultiOpening, CommitPhaseMultiStep, FriFoldingStrategy, FriParameters, FriProof,
-    FriProverError, FriShape, PcsShape, TwoAdicFriFolding, WithExtraBits,
-    compute_log_arity_for_round, config, fold_lanes, fold_schedule, folding, is_strictly_falling,
-    lanes, laws, pcs_transcript, pow_phase, strategy, transcript,
+    FriProverError, FriShape, PcsShape, PlainBatch, PlainFriProof, PlainHidingProof,
+    PlainProofError, PlainStep, TwoAdicFriFolding, WithExtraBits, compute_log_arity_for_round,
+    config, fold_lanes, fold_schedule, folding, from_plain, is_strictly_falling, lanes, laws,
+    pcs_transcript, pow_phase, proof, strategy, to_plain, transcript,
 };
 pub use p3_fri_openable::are_openable;
-pub use p3_fri_plain::{
-    PlainBatch, PlainFriProof, PlainHidingProof, PlainProofError, PlainStep, from_plain, to_plain,
-};
 pub use p3_fri_two_adic::two_adic_pcs;
 pub use p3_fri_two_adic::two_adic_pcs::{
     CommitmentWithOpeningPoints, ProverDataWithOpeningPoints, TwoAdicFriFoldingForMmcs,

@@ -8,7 +8,12 @@
 
 pub mod config;
 pub mod laws;
+pub mod proof;
 
+pub use crate::proof::{
+    BatchMultiOpening, CommitPhaseMultiStep, FriProof, PlainBatch, PlainFriProof, PlainHidingProof,
+    PlainProofError, PlainStep, from_plain, to_plain,
+};
 pub use p3_fri_folding::{
     FriFoldingStrategy, FriParameters, TwoAdicFriFolding, WithExtraBits,
     compute_log_arity_for_round, fold_lanes, fold_schedule, folding, is_strictly_falling, lanes,
@@ -16,6 +21,4 @@ pub use p3_fri_folding::{
 };
 pub use p3_fri_pcs_transcript::{PcsShape, pcs_transcript};
 pub use p3_fri_pow::{FriProverError, PowPhase, pow_phase};
-pub use p3_fri_relation::proof;
-pub use p3_fri_relation::proof::{BatchMultiOpening, CommitPhaseMultiStep, FriProof};
 pub use p3_fri_transcript::{FriShape, transcript};
