@@ -1,33 +1,33 @@
-//! Times the layers of the scheme, from the extension of a matrix, as a commitment takes it, to the
-//! scheme itself: in microseconds, the least of several.
+//! Times the layers of the schemes, from the extension of a matrix, as a commitment takes it, to the
+//! schemes themselves: in microseconds, the least of several.
 #![tactic(auto)]
 
+mod calls;
+mod folds;
 mod hiding;
-mod openings;
+mod matrices;
 mod scheme;
 mod stages;
-mod verifier;
 mod watch;
 
 use crate::watch::{Fault, Result, Run};
+use std::process::ExitCode;
 use std::{env, io};
 
 /// What the program takes.
-const USAGE: &str = "fri_bench LOG_HEIGHT WIDTH ADDED_BITS [REPEATS]
-fri_bench transform LOG_HEIGHT WIDTH [REPEATS]
-fri_bench tree LOG_HEIGHT WIDTH [REPEATS]
+const USAGE: &str = "fri_bench stages LOG_HEIGHT WIDTH ADDED_BITS [REPEATS]
 fri_bench fold LOG_SIZE [REPEATS]
-fri_bench rounds LOG_SIZE LOG_CAP [REPEATS]
 fri_bench scheme LOG_HEIGHT WIDTH LOG_BLOWUP QUERIES LOG_CAP [REPEATS]
 fri_bench hiding LOG_HEIGHT WIDTH CODEWORDS [REPEATS]
-fri_bench openings LOG_HEIGHT WIDTH CODEWORDS [REPEATS]
-fri_bench verifier LOG_HEIGHT WIDTH QUERIES LOG_CAP [REPEATS]
 fri_bench figures [REPEATS]";
 
 /// The sizes that the arguments name, and then how often to time: `otherwise` where they don't say,
 /// and at least once.
 fn read<const N: usize>(args: &[String], otherwise: usize) -> Result<Run<N>> {
     let number = |arg: &String| arg.as_str().parse::<usize>().map_err(|_| Fault::Usage);
+    if args.len() > N.saturating_add(1) {
+        return Err(Fault::Usage);
+    }
     let mut sizes = [0; N];
     for (i, size) in sizes.iter_mut().enumerate() {
         *size = number(args.get(i).ok_or(Fault::Usage)?)?;
@@ -36,13 +36,11 @@ fn read<const N: usize>(args: &[String], otherwise: usize) -> Result<Run<N>> {
     Ok((sizes, repeats.max(1)))
 }
 
-/// Prints all times of the protocol that are kept: of `2^16` rows of 64 columns, then the growth
+/// Prints the times of the plain scheme that are kept: of `2^16` rows of 64 columns, then the growth
 /// over rows of one column.
 fn figures(rt: &HostRuntime, repeats: usize) -> Result<()> {
     for log_cap in [1, 3] {
         scheme::print(rt, ([16, 64, 1, 100, log_cap], repeats))?;
-        verifier::print(rt, ([16, 64, 100, log_cap], repeats))?;
-        verifier::rounds(rt, ([17, log_cap], repeats))?;
     }
     for log_height in 14..21 {
         scheme::print(rt, ([log_height, 1, 1, 100, 1], repeats))?;
@@ -50,44 +48,31 @@ fn figures(rt: &HostRuntime, repeats: usize) -> Result<()> {
     Ok(())
 }
 
-/// Times the pieces by themselves.
-fn run_piece(rt: &HostRuntime, name: &str, sizes: &[String]) -> Result<()> {
-    match name {
-        "transform" => stages::transform(rt, read(sizes, 5)?),
-        "tree" => stages::tree(rt, read(sizes, 5)?),
-        "fold" => stages::fold(rt, read(sizes, 9)?),
-        "rounds" => verifier::rounds(rt, read(sizes, 5)?),
-        _ => Err(Fault::Usage),
-    }
-}
-
-/// Times the schemes and the verifier.
-fn run_scheme(rt: &HostRuntime, name: &str, sizes: &[String]) -> Result<()> {
-    match name {
-        "scheme" => scheme::print(rt, read(sizes, 5)?),
-        "hiding" => hiding::print(rt, read(sizes, 5)?),
-        "openings" => openings::print(rt, read(sizes, 5)?),
-        "verifier" => verifier::print(rt, read(sizes, 5)?),
-        _ => Err(Fault::Usage),
-    }
-}
-
 /// Runs the mode that the first argument names.
 fn run(rt: &HostRuntime, args: &[String]) -> Result<()> {
-    let (name, others) = args.split_first().ok_or(Fault::Usage)?;
+    let (name, sizes) = args.split_first().ok_or(Fault::Usage)?;
     match name.as_str() {
-        "transform" | "tree" | "fold" | "rounds" => run_piece(rt, name.as_str(), others),
-        "scheme" | "hiding" | "openings" | "verifier" => run_scheme(rt, name.as_str(), others),
-        "figures" => figures(rt, read::<0>(others, 5)?.1),
-        _ => stages::extension(rt, read(args, 5)?),
+        "stages" => stages::print(rt, read(sizes, 5)?),
+        "fold" => folds::print(rt, read(sizes, 9)?),
+        "scheme" => scheme::print(rt, read(sizes, 5)?),
+        "hiding" => hiding::print(rt, read(sizes, 5)?),
+        "figures" => figures(rt, read::<0>(sizes, 5)?.1),
+        _ => Err(Fault::Usage),
     }
 }
 
-fn main(rt: HostRuntime) -> io::Result<()> {
+fn main(rt: HostRuntime) -> io::Result<ExitCode> {
     let args: Vec<String> = env::args(&rt)?.skip(1).collect(rt.alloc())?;
-    match run(&rt, &args) {
-        Ok(()) => Ok(()),
-        Err(Fault::Usage) => println!(rt; "{USAGE}"),
-        Err(fault) => println!(rt; "{fault:?}"),
+    if args.is_empty() {
+        println!(rt; "{USAGE}")?;
+        return Ok(ExitCode::SUCCESS);
     }
+    let Err(fault) = run(&rt, &args) else {
+        return Ok(ExitCode::SUCCESS);
+    };
+    eprintln!(rt; "fri_bench: {fault:?}")?;
+    if fault == Fault::Usage {
+        eprintln!(rt; "{USAGE}")?;
+    }
+    Ok(ExitCode::from(fault.status()))
 }

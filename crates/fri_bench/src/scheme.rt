@@ -1,131 +1,64 @@
-//! Times the scheme over two-adic fields: a commitment to one matrix, its opening at a point, and
-//! the verification of that.
+//! Times the plain scheme.
 
-ghost use Rattle.std.specs.Prelude.{◌≡◌, ◌+◌, ◌≤◌, All, IfOk, length};
-ghost use Rattle.p3_mmcs.specs.ProverData.{matrices_of};
-ghost use Rattle.p3_fri_commit.specs.Extension.{FitsDomain};
-ghost use Rattle.p3_fri_openings.specs.Rounds.{HasCoset};
-ghost use Rattle.p3_fri_relation.specs.Views.{parameters_of};
-ghost use Rattle.p3_fri_two_adic.specs.Ranges.{InProverRange, InVerifierRange};
+ghost use Rattle.std.specs.Prelude.{◌≡◌};
 
-use crate::stages::{Inputs, matrix_of};
-use crate::verifier::{Claims, Domain, InputData, Proof, Rounds, claims_at, parameters};
-use crate::watch::{Fault, Result, Run, Watch, timed};
-use p3_challenger::Sha256Challenger;
+use crate::calls::{Watches, time};
+use crate::matrices::matrix_of;
+use crate::stages::Inputs;
+use crate::watch::{Fault, Result, Run};
 use p3_dft::Radix2Dit;
-use p3_field::{BabyBear, BabyBear4, Field};
+use p3_field::{BabyBear, BabyBear4, Field, TwoAdicMultiplicativeCoset};
+use p3_fri_folding::FriParameters;
 use p3_fri_two_adic::TwoAdicFriPcs;
-use p3_matrix::RowMajorMatrix;
-use p3_mmcs::Mmcs;
-use p3_pcs::{OpeningRequest, Pcs};
-use std::alloc::Global;
+use p3_mmcs::Sha256Mmcs;
 
-pub type Scheme = TwoAdicFriPcs<BabyBear, Radix2Dit<BabyBear>, Inputs, Rounds>;
+pub type Rounds = Sha256Mmcs<BabyBear4>;
 
-pub type Committed = ([u8; 32], InputData);
+pub type Domain = TwoAdicMultiplicativeCoset<BabyBear>;
 
-type Opened = (Claims, Proof);
+type Scheme = TwoAdicFriPcs<BabyBear, Radix2Dit<BabyBear>, Inputs, Rounds>;
 
-pub type Evaluations = Vec<(Domain, RowMajorMatrix<BabyBear>)>;
-
-/// One matrix of `2^log_height` rows on its domain, which a scheme of this blowup extends.
-pub fn evaluations_of(
-    alloc: Global,
-    log_blowup: usize,
-    log_height: usize,
-    width: usize,
-) -> Result<Evaluations>
-    requires blowup { log_blowup ≤ 3 }
-    ensures one { IfOk result (λ es. length es.items ≡ 1) }
-    ensures extendable { IfOk result (λ es.
-        All (λ e. FitsDomain 27 log_blowup e.0.log_size e.1) es.items) }
+/// The parameters of so many queries, with a constant as final polynomial and no proofs of work.
+pub fn parameters(log_blowup: usize, queries: usize, log_cap: usize) -> FriParameters<Rounds>
+    ensures log_blowup { result.log_blowup ≡ log_blowup }
+    ensures log_final_poly_len { result.log_final_poly_len ≡ 0 }
+    ensures max_log_arity { result.max_log_arity ≡ log_cap }
+    ensures num_queries { result.num_queries ≡ queries }
+    ensures batch_bits { result.batch_proof_of_work_bits ≡ 0 }
+    ensures commit_bits { result.commit_proof_of_work_bits ≡ 0 }
+    ensures query_bits { result.query_proof_of_work_bits ≡ 0 }
 {
-    let domain = Domain::new(BabyBear::ONE, log_height).ok_or(Fault::Sizes)?;
-    let matrix = matrix_of(alloc, log_height, width)?;
-    let evaluations = vec![in alloc; (domain, matrix)]?;
-    Ok(evaluations)
+    FriParameters {
+        log_blowup,
+        log_final_poly_len: 0,
+        max_log_arity: log_cap,
+        num_queries: queries,
+        batch_proof_of_work_bits: 0,
+        commit_proof_of_work_bits: 0,
+        query_proof_of_work_bits: 0,
+        mmcs: Rounds::new(),
+    }
 }
 
-/// Commits to these.
-pub fn commit(
-    rt: &HostRuntime,
-    watch: &mut Watch,
-    scheme: &mut Scheme,
-    evaluations: Evaluations,
-) -> Result<Committed>
-    requires extendable { All (λ e. FitsDomain 27 scheme.old.fri.log_blowup e.0.log_size e.1)
-        evaluations.items }
-    ensures openable { IfOk result (λ made. All (HasCoset 27) (matrices_of made.1)) }
-    ensures kept { scheme.new ≡ scheme.old }
-{
-    let made = timed!(rt, watch;
-        <Scheme as Pcs<BabyBear4, Sha256Challenger>>::commit(scheme, rt.alloc(), evaluations));
-    made.map_err(|_| Fault::Refused)
-}
-
-/// The last of these.
-fn last<T: Drop>(values: Vec<T>) -> Result<T> {
-    let mut values = values;
-    values.pop().ok_or(Fault::Refused)
-}
-
-/// Opens the matrix at one point.
-fn open(
-    rt: &HostRuntime,
-    watch: &mut Watch,
-    scheme: &Scheme,
-    log_height: usize,
-    made: Committed,
-) -> Result<Opened>
-    requires range { InProverRange (parameters_of scheme.now.fri) 27 63 }
-    requires openable { All (HasCoset 27) (matrices_of made.1) }
-{
-    let (commitment, mut held) = made;
-    if Inputs::new().get_matrices(&held).len() != 1 {
+/// Times the plain scheme over a matrix of `2^log_height` rows.
+pub fn time_plain(rt: &HostRuntime, watches: &mut Watches, sizes: [usize; 5]) -> Result<()> {
+    let [log_height, width, log_blowup, queries, log_cap] = sizes;
+    if log_blowup == 0 || log_blowup > 3 || queries == 0 || log_cap == 0 {
         return Err(Fault::Sizes);
     }
-    let (alloc, point) = (rt.alloc(), BabyBear4::GENERATOR);
-    let mut challenger = Sha256Challenger::new();
-    let points = vec![in alloc; vec![in alloc; point]?]?;
-    let mut requests = Vec::new(alloc);
-    requests.push(OpeningRequest {
-        prover_data: &mut held,
-        points,
-    })?;
-    let opened = timed!(rt, watch; scheme.open(alloc, requests.as_mut_slice(), &mut challenger));
-    let (values, proof) = opened.map_err(|_| Fault::Refused)?;
-    let values = last(last(last(values)?)?)?;
-    let claims = claims_at(alloc, commitment, log_height, point, values)?;
-    Ok((claims, proof))
+    let matrix = matrix_of(rt.alloc(), log_height, width)?;
+    let domain = Domain::new(BabyBear::ONE, log_height).ok_or(Fault::Sizes)?;
+    let parameters = parameters(log_blowup, queries, log_cap);
+    let mut scheme = Scheme::new(Radix2Dit::default(), Inputs::new(), parameters);
+    time(rt, watches, &mut scheme, (domain, matrix))
 }
 
-/// Verifies the opening.
-fn verify(rt: &HostRuntime, watch: &mut Watch, scheme: &Scheme, made: Opened) -> Result<()>
-    requires range { InVerifierRange (parameters_of scheme.now.fri) 27 63 }
-{
-    let ((claims, proof), mut challenger) = (made, Sha256Challenger::new());
-    let verified = timed!(rt, watch; scheme.verify(rt.alloc(), claims, &proof, &mut challenger));
-    verified.map_err(|_| Fault::Refused)
-}
-
-/// Prints the least times of all three.
+/// Prints the least times of the plain scheme.
 pub fn print(rt: &HostRuntime, (sizes, repeats): Run<5>) -> Result<()> {
-    let [log_height, width, log_blowup, queries, log_cap] = sizes;
-    if log_height > 24 || log_blowup == 0 || log_blowup > 3 || queries == 0 || log_cap == 0 {
-        return Err(Fault::Usage);
-    }
-    let (mut commits, mut opens, mut verifies) = (Watch::new(), Watch::new(), Watch::new());
+    let ([log_height, width, _, _, log_cap], mut watches) = (sizes, Watches::new());
     for _ in 0..repeats {
-        let parameters = parameters(log_blowup, queries, log_cap);
-        let mut scheme = Scheme::new(Radix2Dit::default(), Inputs::new(), parameters);
-        let evaluations = evaluations_of(rt.alloc(), log_blowup, log_height, width)?;
-        let made = commit(rt, &mut commits, &mut scheme, evaluations)?;
-        let opened = open(rt, &mut opens, &scheme, log_height, made)?;
-        verify(rt, &mut verifies, &scheme, opened)?;
+        time_plain(rt, &mut watches, sizes)?;
     }
-    println!(rt;
-        "scheme, 2^{log_height} rows of {width}, cap {log_cap}: commit {commits}, open {opens}, \
-         verify {verifies}"
-    )?;
+    println!(rt; "scheme, 2^{log_height} rows of {width}, cap {log_cap}: {watches}")?;
     Ok(())
 }

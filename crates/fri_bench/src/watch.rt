@@ -1,7 +1,7 @@
 //! What a mode is run with, the least of several times, and why nothing was timed.
 
 use std::alloc::{AllocError, AllocFailed};
-use std::time::Duration;
+use std::time::{Duration, Instant};
 use std::{fmt, io};
 
 /// The sizes of a run, and how often to time.
@@ -11,18 +11,30 @@ pub type Run<const N: usize> = ([usize; N], usize);
 pub type Result<T> = std::result::Result<T, Fault>;
 
 /// Why nothing was timed.
-#[derive(Clone, Copy, Debug)]
+#[derive(Clone, Copy, Debug, PartialEq, Eq)]
 pub enum Fault {
     /// The arguments name no run.
     Usage,
-    /// The sizes are none that a proof is made for.
+    /// The sizes are none that a matrix or a word has here.
     Sizes,
-    /// What was to be proved or verified is refused.
+    /// What was to be committed to, opened or verified is refused: so few random columns, or rows
+    /// for so many queries, hide nothing.
     Refused,
     /// Memory was refused.
     Memory,
-    /// The clock was, or the output.
-    Clock,
+    /// A write failed.
+    Output,
+}
+
+impl Fault {
+    /// The program's status.
+    pub fn status(self) -> u8 {
+        match self {
+            Fault::Usage | Fault::Sizes | Fault::Refused => 2,
+            Fault::Memory => 3,
+            Fault::Output => 4,
+        }
+    }
 }
 
 impl From<AllocError> for Fault {
@@ -39,38 +51,39 @@ impl<T: Drop> From<AllocFailed<T>> for Fault {
 
 impl From<io::Error> for Fault {
     fn from(_error: io::Error) -> Self {
-        Fault::Clock
+        Fault::Output
     }
 }
 
-/// The least of the times that it saw.
+/// When something begins, if the clock says it.
+pub fn now(rt: &HostRuntime) -> Option<Instant> {
+    Instant::now(rt).ok()
+}
+
+/// The least of the times that it saw, if the clock said any.
 #[derive(Clone, Copy)]
-pub struct Watch(Duration);
+pub struct Watch(Option<Duration>);
 
 impl Watch {
     pub fn new() -> Self {
-        Watch(Duration::MAX)
+        Watch(None)
     }
 
-    pub fn see(&mut self, time: Duration) {
-        self.0 = self.0.min(time);
+    /// Sees the time since then.
+    pub fn see(&mut self, rt: &HostRuntime, start: Option<Instant>) {
+        let time = start.and_then(|start| start.elapsed(rt).ok());
+        self.0 = match (self.0, time) {
+            (Some(least), Some(time)) => Some(least.min(time)),
+            (least, time) => least.or(time),
+        };
     }
 }
 
 impl fmt::Display for Watch {
     fn fmt<W: fmt::Write>(&self, f: &mut fmt::Formatter<W>) -> fmt::Result {
-        write!(f, "{} us", self.0.as_micros())
+        match self.0 {
+            Some(time) => write!(f, "{} us", time.as_micros()),
+            None => write!(f, "no time"),
+        }
     }
 }
-
-/// What a stage makes, whose time the watch sees.
-macro_rules! timed {
-    ($rt:expr, $watch:expr; $stage:expr) => {{
-        let start = std::time::Instant::now($rt)?;
-        let made = $stage;
-        $watch.see(start.elapsed($rt)?);
-        made
-    }};
-}
-
-pub(crate) use timed;

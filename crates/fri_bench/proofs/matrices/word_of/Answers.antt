@@ -1,7 +1,7 @@
 use Rattle.std.proofs.Common.{◌∙◌, length, ap, arith}
 use Rattle.std.proofs.lemmas.Nat.{one_shl}
 use Rattle.algebra.proofs.Lists.{length-tabulate}
-use Rattle.fri_bench.proofs.stages.word_of.Goals as goal
+use Rattle.fri_bench.proofs.matrices.word_of.Goals as goal
 
 pub returns-clause-size : goal.returns-clause-size
 returns-clause-size c =

@@ -1,5 +1,5 @@
 use Rattle.p3_test_openings.proofs.Known.{one_matrix}
-use Rattle.fri_bench.proofs.openings.commit_to.Goals as goal
+use Rattle.fri_bench.proofs.calls.commit_to.Goals as goal
 
 pub returns-clause-one_matrix : goal.returns-clause-one_matrix
 returns-clause-one_matrix g c =

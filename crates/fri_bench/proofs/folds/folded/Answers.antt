@@ -1,6 +1,6 @@
 use Rattle.std.proofs.Common.{sym, arith, ◌∙◌}
 use Rattle.p3_field.proofs.IndexPowers.{exponents_agree}
-use Rattle.fri_bench.proofs.stages.folded.Goals as goal
+use Rattle.fri_bench.proofs.folds.folded.Goals as goal
 
 pub fold_matrix-requires-clause-within_max_height :
     goal.fold_matrix-requires-clause-within_max_height
