@@ -5,7 +5,7 @@ use Rattle.p3_fri_completeness.specs.Requests.{held_of, relation_claims}
 use Rattle.p3_fri_two_adic.specs.Ends.{last_state}
 use Rattle.p3_fri_relation.specs.Acceptance.{Accepts}
 use Rattle.p3_fri_relation.specs.Views.{parameters_of, proof_of}
-use Rattle.fri_requests.specs.Setting.{fields, sha256_setting}
+use Rattle.fri_statement.specs.Setting.{fields, sha256_setting}
 use Rattle.fri_requests.proofs.Failed.{unopened_part}
 use Rattle.fri_requests.proofs.opening.open_requests.Goals as goal
 
