@@ -12,6 +12,7 @@ import documents
 import field
 import prover
 from challenger import Challenger
+from readers import end_with_reader
 from relation import log_heights
 from statement import statement_challenger
 
@@ -85,6 +86,7 @@ def main(file):
 
 
 if __name__ == "__main__":
+    end_with_reader()
     if len(sys.argv) != 2:
         sys.exit(__doc__)
     sys.exit(main(sys.argv[1]))

@@ -26,6 +26,7 @@ import tree
 from answer import opened
 from challenger import Challenger
 from plain_form import Claim, Parameters
+from readers import end_with_reader
 from verify import verdict
 
 
@@ -145,4 +146,5 @@ def main(chosen):
 
 
 if __name__ == "__main__":
+    end_with_reader()
     main(options())

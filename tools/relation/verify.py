@@ -16,6 +16,7 @@ import relation
 from answer import text_of
 from challenger import Challenger
 from documents import Malformed, statement_from
+from readers import end_with_reader
 from statement import statement_challenger
 
 FEW_BITS = 80
@@ -79,6 +80,7 @@ def main(file, without_statement=False):
 
 
 if __name__ == "__main__":
+    end_with_reader()
     arguments = sys.argv[1:]
     unbound = "--without-statement" in arguments
     files = [argument for argument in arguments if argument != "--without-statement"]

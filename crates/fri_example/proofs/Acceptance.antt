@@ -10,7 +10,7 @@ use Rattle.p3_fri_relation.specs.Setting.{Parameters, Proof}
 use Rattle.p3_fri_relation.specs.Acceptance.{Accepts}
 use Rattle.fri_statement.specs.Statement.{statement_absorbed}
 use Rattle.fri_example.specs.Opened.{IsAcceptedOpening, opening_parameters, single_statement}
-use Rattle.fri_example.specs.Setting.{sha256_setting}
+use Rattle.fri_statement.specs.Setting.{sha256_setting}
 
 module _ {X Y : Type 0} (b l k : ℕ) (commitment : List ℕ) (z y : BabyBear)
     (proof : Proof BabyBear BabyBear4 (List ℕ) (Vec (Vec (List ℕ) X) Y) (Vec (Vec (List ℕ) X) Y))

@@ -10,7 +10,7 @@ use Rattle.p3_fri_relation.specs.Setting.{Parameters, CommitmentClaim, Proof}
 use Rattle.p3_fri_relation.specs.Acceptance.{Accepts}
 use Rattle.fri_statement.specs.Numbers.{coefficient_numbers}
 use Rattle.fri_statement.specs.Statement.{Statement, statement_absorbed}
-use Rattle.fri_example.specs.Setting.{sha256_setting}
+use Rattle.fri_statement.specs.Setting.{sha256_setting}
 
 -- folds by two, two queries, and no proof of work
 abbrev pub opening_parameters : (log_blowup log_final_poly_len : ℕ) → Parameters

@@ -70,25 +70,10 @@ pub struct Difference {
     pub place: Place,
 }
 
-/// Prints one level of a place, if it is known.
-fn fmt_level<W: fmt::Write>(
-    f: &mut fmt::Formatter<W>,
-    name: &str,
-    index: Option<usize>,
-) -> fmt::Result {
-    match index {
-        Some(index) => write!(f, "{name} {index}, "),
-        None => Ok(()),
-    }
-}
-
 impl fmt::Display for Difference {
     fn fmt<W: fmt::Write>(&self, f: &mut fmt::Formatter<W>) -> fmt::Result {
         f.write_str("Unexpected: ")?;
-        fmt_level(f, "commitment", self.place.commitment)?;
-        fmt_level(f, "matrix", self.place.matrix)?;
-        fmt_level(f, "point", self.place.point)?;
-        fmt_level(f, "number", self.place.number)?;
+        self.place.fmt_levels(f)?;
         f.write_str("expected another ")?;
         f.write_str(self.part.name())
     }

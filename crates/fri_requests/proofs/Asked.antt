@@ -34,7 +34,7 @@ use Rattle.fri_requests.specs.Bound.{IsContext, context_listed, batch_asked, bou
 use Rattle.fri_requests.specs.Records.{parameters_in}
 use Rattle.fri_statement.specs.Numbers.{coefficient_numbers}
 use Rattle.fri_requests.specs.Numbers.{extension_of, IsExtensionElement}
-use Rattle.fri_requests.specs.Setting.{fields}
+use Rattle.fri_statement.specs.Setting.{fields}
 use Rattle.fri_requests.specs.Matrices.{held_listed}
 use Rattle.fri_requests.specs.Commitments.{IsKept, Keeps}
 use Rattle.fri_requests.specs.Openings.{HavePoints, request_for}

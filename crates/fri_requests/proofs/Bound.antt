@@ -29,7 +29,7 @@ use Rattle.fri_requests.specs.Records.{parameters_in}
 use Rattle.fri_requests.specs.Bound.{context_listed, bound, state_bound}
 use Rattle.fri_requests.specs.Bound.{width_claimed, matrix_claimed, batch_claimed, matrix_asked, batch_asked}
 use Rattle.fri_requests.specs.Claims.{point_numbers, batch_numbers, matrix_numbers, batch_listed}
-use Rattle.fri_requests.specs.Setting.{fields}
+use Rattle.fri_statement.specs.Setting.{fields}
 use Rattle.fri_requests.specs.Matrices.{values_listed, polynomial_listed}
 use Rattle.fri_requests.specs.Commitments.{Keeps}
 use Rattle.fri_requests.specs.Openings.{opened_numbers, request_for}

@@ -34,6 +34,13 @@ malformed r misfit P gives p =
     given (λ e. e ≡ Malformed misfit) (IfMalformed P) r gives
     (λ e is. subst (λ f. IfMalformed P f) (sym is) p)
 
+-- of want of memory
+pub read_wants : {A : Type 0} (r : Result A ReadError) (P : Type 0)
+    → IsErrAnd r (λ e. e ≡ OutOfMemory) → IfErr r (IfMalformed P)
+read_wants r P gives =
+    given (λ e. e ≡ OutOfMemory) (IfMalformed P) r gives
+    (λ e is. subst (λ f. IfMalformed P f) (sym is) tt)
+
 -- of the failure of a part
 pub malformed_part : {A : Type 0} (r : Result A ReadError) (part : ReadError) (P Q : Type 0)
     → IsErrAnd r (λ e. e ≡ part) → IfMalformed P part → (P → Q) → IfErr r (IfMalformed Q)
@@ -69,6 +76,13 @@ request_part r part P Q R S gives h first second =
     given (λ f. f ≡ part) (MatchRequestError Q S) r gives
     (λ f is. request_weaker P Q R S first second f
     (subst (λ g. MatchRequestError P R g) (sym is) h))
+
+pub request_wants : {A : Type 0} (r : Result A RequestError) (P : Type 0)
+    (R : FriProverError → Type 0) → IsErrAnd r (λ f. f ≡ request.OutOfMemory)
+    → IfErr r (MatchRequestError P R)
+request_wants r P R gives =
+    given (λ f. f ≡ request.OutOfMemory) (MatchRequestError P R) r gives
+    (λ f is. subst (λ g. MatchRequestError P R g) (sym is) tt)
 
 -- of a prover's refusal, of which `R` holds where it isn't want of memory
 unopened_fails : (P : Type 0) (R : FriProverError → Type 0) (e : FriProverError)
@@ -116,3 +130,10 @@ refused_part r part P Q R S gives h first second =
     given (λ f. f ≡ part) (MatchVerifyError Q S) r gives
     (λ f is. refused_weaker P Q R S first second f
     (subst (λ g. MatchVerifyError P R g) (sym is) h))
+
+pub statement_wants : {A : Type 0} (r : Result A VerifyError) (P : Type 0)
+    (R : FriError Sha256MmcsError Sha256MmcsError → Type 0)
+    → IsErrAnd r (λ f. f ≡ statement.OutOfMemory) → IfErr r (MatchVerifyError P R)
+statement_wants r P R gives =
+    given (λ f. f ≡ statement.OutOfMemory) (MatchVerifyError P R) r gives
+    (λ f is. subst (λ g. MatchVerifyError P R g) (sym is) tt)

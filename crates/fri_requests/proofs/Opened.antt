@@ -20,7 +20,7 @@ use Rattle.fri_requests.specs.declared.committed.Committed.{Committed}
 use Rattle.fri_statement.specs.Numbers.{coefficient_numbers}
 use Rattle.fri_requests.specs.Numbers.{extension_of}
 use Rattle.fri_requests.specs.Claims.{PointNumbers, point_numbers, matrix_numbers, batch_numbers}
-use Rattle.fri_requests.specs.Setting.{fields}
+use Rattle.fri_statement.specs.Setting.{fields}
 use Rattle.fri_requests.specs.Matrices.{held_listed, values_listed}
 use Rattle.fri_requests.specs.Commitments.{IsKept, Keeps, domain_of}
 use Rattle.fri_requests.specs.Openings.{opened_numbers, IsOpened, HavePoints, request_for}

@@ -14,7 +14,7 @@ use Rattle.p3_fri_commit.specs.Extension.{polynomial_on}
 use Rattle.p3_fri_two_adic.specs.Chunks.{polynomials_on}
 use Rattle.fri_requests.specs.declared.records.Matrix.{Matrix}
 use Rattle.fri_statement.specs.Numbers.{canonical_number}
-use Rattle.fri_requests.specs.Setting.{fields}
+use Rattle.fri_statement.specs.Setting.{fields}
 use Rattle.fri_requests.specs.Matrices.{held_listed}
 use Rattle.fri_requests.proofs.Listed.{element_again}
 

@@ -15,7 +15,7 @@ use Rattle.fri_requests.specs.declared.records.BatchClaims.{BatchClaims}
 use Rattle.fri_statement.specs.Numbers.{coefficient_numbers}
 use Rattle.fri_requests.specs.Bound.{state_bound}
 use Rattle.fri_requests.specs.Records.{parameters_in}
-use Rattle.fri_requests.specs.Setting.{sha256_setting, sha256_moves}
+use Rattle.fri_statement.specs.Setting.{sha256_setting, sha256_moves}
 use Rattle.fri_requests.specs.Statements.{IsStatement, claims_listed}
 
 -- of a context, as a hex text

@@ -14,7 +14,7 @@ use Rattle.fri_requests.specs.declared.records.Batch.{Batch}
 use Rattle.fri_requests.specs.declared.records.Domain.{Domain}
 use Rattle.fri_requests.specs.declared.committed.Committed.{Committed}
 use Rattle.fri_statement.specs.Numbers.{canonical_number}
-use Rattle.fri_requests.specs.Setting.{fields}
+use Rattle.fri_statement.specs.Setting.{fields}
 use Rattle.fri_requests.specs.Matrices.{held_listed}
 
 module _ (log_blowup : ℕ) where

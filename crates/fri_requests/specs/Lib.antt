@@ -8,5 +8,4 @@ pub mod Numbers
 pub mod Openings
 pub mod Records
 pub mod Requests
-pub mod Setting
 pub mod Statements

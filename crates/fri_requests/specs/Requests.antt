@@ -31,7 +31,7 @@ use Rattle.fri_requests.specs.Bound.{IsContext, context_listed, batch_asked, bou
 use Rattle.fri_requests.specs.Statements.{IsCoset}
 use Rattle.fri_requests.specs.Commitments.{Keeps}
 use Rattle.fri_requests.specs.Openings.{request_for}
-use Rattle.fri_requests.specs.Setting.{sha256_setting}
+use Rattle.fri_statement.specs.Setting.{sha256_setting}
 
 -- parameters of a prover: in its range, with a blowup within the two-adicity
 pub record AreProvers (p : Parameters) : Type 0 where

@@ -110,13 +110,17 @@ impl Place {
     pub fn lacks(self, fault: Fault) -> Misfit {
         Misfit { fault, place: self }
     }
-}
 
-/// A fault at its place.
-#[derive(Clone, Copy, Debug)]
-pub struct Misfit {
-    pub fault: Fault,
-    pub place: Place,
+    /// Prints each level that is known, with a comma after it.
+    pub fn fmt_levels<W: fmt::Write>(&self, f: &mut fmt::Formatter<W>) -> fmt::Result {
+        if self.is_in_proof {
+            f.write_str("proof, ")?;
+        }
+        fmt_level(f, "commitment", self.commitment)?;
+        fmt_level(f, "matrix", self.matrix)?;
+        fmt_level(f, "point", self.point)?;
+        fmt_level(f, "number", self.number)
+    }
 }
 
 /// Prints one level of a place, if it is known.
@@ -131,17 +135,18 @@ fn fmt_level<W: fmt::Write>(
     }
 }
 
+/// A fault at its place.
+#[derive(Clone, Copy, Debug)]
+pub struct Misfit {
+    pub fault: Fault,
+    pub place: Place,
+}
+
 impl fmt::Display for Misfit {
     fn fmt<W: fmt::Write>(&self, f: &mut fmt::Formatter<W>) -> fmt::Result {
         let fault = self.fault;
         write!(f, "{fault:?}: ")?;
-        if self.place.is_in_proof {
-            f.write_str("proof, ")?;
-        }
-        fmt_level(f, "commitment", self.place.commitment)?;
-        fmt_level(f, "matrix", self.place.matrix)?;
-        fmt_level(f, "point", self.place.point)?;
-        fmt_level(f, "number", self.place.number)?;
+        self.place.fmt_levels(f)?;
         f.write_str("expected ")?;
         f.write_str(fault.expected())
     }

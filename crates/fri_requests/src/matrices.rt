@@ -12,7 +12,7 @@ ghost use Rattle.fri_requests.specs.Failures.{IfMalformed};
 ghost use Rattle.fri_requests.specs.Matrices.{held_listed};
 ghost use Rattle.fri_statement.specs.Numbers.{coefficient_numbers};
 ghost use Rattle.fri_requests.specs.Requests.{IsMatrix, HasPoints};
-ghost use Rattle.fri_requests.specs.Setting.{fields};
+ghost use Rattle.fri_statement.specs.Setting.{fields};
 
 use crate::elements::{coset, elements, extension_element};
 use crate::fault::{Fault, Place, ReadError};

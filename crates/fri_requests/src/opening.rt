@@ -21,7 +21,7 @@ ghost use Rattle.fri_statement.specs.Numbers.{coefficient_numbers};
 ghost use Rattle.fri_requests.specs.Openings.{HavePoints, IsOpened, request_for};
 ghost use Rattle.fri_requests.specs.Requests.{AllMatrices, HasPoints, CanOpen, IsRefusedRequest};
 ghost use Rattle.fri_requests.specs.Requests.{HasLists, HaveMatrix, Refuses};
-ghost use Rattle.fri_requests.specs.Setting.{fields, sha256_setting};
+ghost use Rattle.fri_statement.specs.Setting.{fields, sha256_setting};
 
 use crate::claims::claims_out;
 use crate::committed::{Committed, commit_all};

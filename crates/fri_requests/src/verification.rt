@@ -12,7 +12,7 @@ ghost use Rattle.p3_fri_two_adic.specs.Ranges.{InVerifierRange};
 ghost use Rattle.fri_requests.specs.Accepted.{IsAccepted, IsRefused};
 ghost use Rattle.fri_requests.specs.Failures.{MatchVerifyError};
 ghost use Rattle.fri_statement.specs.Numbers.{coefficient_numbers};
-ghost use Rattle.fri_requests.specs.Setting.{sha256_setting, sha256_moves};
+ghost use Rattle.fri_statement.specs.Setting.{sha256_setting, sha256_moves};
 ghost use Rattle.fri_requests.specs.Statements.{IsStatement};
 
 use crate::claims::claims_in;

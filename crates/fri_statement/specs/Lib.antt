@@ -1,5 +1,6 @@
 pub mod Context
 pub mod Numbers
+pub mod Setting
 pub mod Stated
 pub mod Statement
 pub mod StatementLaws

@@ -6,7 +6,7 @@ use Rattle.p3_fri_completeness.specs.Requests.{held_in, HoldsWords}
 use Rattle.p3_fri_two_adic.specs.Chunks.{polynomials_on}
 use Rattle.p3_fri_two_adic.specs.Held.{Extends}
 use Rattle.fri_requests.specs.Commitments.{domain_of}
-use Rattle.fri_requests.specs.Setting.{fields}
+use Rattle.fri_statement.specs.Setting.{fields}
 use Rattle.fri_requests.proofs.Failed.{unread_part, unopened_part}
 use Rattle.fri_requests.proofs.Kept.{pairs_same, pairs_mapped, through}
 use Rattle.fri_requests.proofs.committed.commit_batch.Goals as goal

@@ -7,7 +7,7 @@ use Rattle.fri_requests.specs.Commitments.{domain_of}
 use Rattle.p3_fri_openings.proofs.First.{one_more, to_the_end}
 use Rattle.fri_requests.specs.Matrices.{held_listed}
 use Rattle.fri_requests.specs.Requests.{IsMatrix}
-use Rattle.fri_requests.specs.Setting.{fields}
+use Rattle.fri_statement.specs.Setting.{fields}
 use Rattle.fri_requests.proofs.Kept.{same_more}
 use Rattle.fri_requests.proofs.matrices.batch_evaluations.Goals as goal
 

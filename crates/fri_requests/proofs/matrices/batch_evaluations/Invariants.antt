@@ -4,7 +4,7 @@ use Rattle.p3_fri_two_adic.specs.Chunks.{polynomials_on}
 use Rattle.fri_requests.specs.Commitments.{domain_of}
 use Rattle.fri_requests.specs.Matrices.{held_listed}
 use Rattle.fri_requests.specs.Requests.{IsMatrix}
-use Rattle.fri_requests.specs.Setting.{fields}
+use Rattle.fri_statement.specs.Setting.{fields}
 use Rattle.fri_requests.proofs.matrices.batch_evaluations.Given as goal
 
 abbrev pub invariant-loop-index : goal.invariant-loop-index

@@ -1,4 +1,5 @@
 use Rattle.std.proofs.Common.{◌*◌, ◌^◌, All, arith, subst, sym, ap, ◌∙◌}
+use Rattle.std.proofs.lemmas.Result.{IfOk-from_err}
 use Rattle.fri_requests.specs.Numbers.{IsElement}
 use Rattle.fri_requests.proofs.Listed.{every_is_element}
 use Rattle.fri_requests.proofs.Polynomials.{held_same}
@@ -20,3 +21,28 @@ returns-clause-well_formed c = record {
   elements = subst (λ ns. All IsElement ns) (c.in_ok-values.ensures.numbers ∙ c.deref.ensures.value)
       (every_is_element c.in_ok-values.values.items);
 }
+
+-- where nothing is answered nothing is said of the answer
+pub returns-in_err-domain-clause-fits : goal.returns-in_err-domain-clause-fits
+returns-in_err-domain-clause-fits c = IfOk-from_err c.from_residual.result _ c.from_residual.ensures.0
+
+pub returns-in_err-domain-clause-domain : goal.returns-in_err-domain-clause-domain
+returns-in_err-domain-clause-domain c = IfOk-from_err c.from_residual.result _ c.from_residual.ensures.0
+
+pub returns-in_err-domain-clause-polynomials : goal.returns-in_err-domain-clause-polynomials
+returns-in_err-domain-clause-polynomials c = IfOk-from_err c.from_residual.result _ c.from_residual.ensures.0
+
+pub returns-in_err-domain-clause-well_formed : goal.returns-in_err-domain-clause-well_formed
+returns-in_err-domain-clause-well_formed c = IfOk-from_err c.from_residual.result _ c.from_residual.ensures.0
+
+pub returns-in_err-values-clause-fits : goal.returns-in_err-values-clause-fits
+returns-in_err-values-clause-fits c = IfOk-from_err c.from_residual-in_err-values.result _ c.from_residual-in_err-values.ensures.0
+
+pub returns-in_err-values-clause-domain : goal.returns-in_err-values-clause-domain
+returns-in_err-values-clause-domain c = IfOk-from_err c.from_residual-in_err-values.result _ c.from_residual-in_err-values.ensures.0
+
+pub returns-in_err-values-clause-polynomials : goal.returns-in_err-values-clause-polynomials
+returns-in_err-values-clause-polynomials c = IfOk-from_err c.from_residual-in_err-values.result _ c.from_residual-in_err-values.ensures.0
+
+pub returns-in_err-values-clause-well_formed : goal.returns-in_err-values-clause-well_formed
+returns-in_err-values-clause-well_formed c = IfOk-from_err c.from_residual-in_err-values.result _ c.from_residual-in_err-values.ensures.0

@@ -13,7 +13,7 @@ use Rattle.fri_requests.specs.Bound.{IsContext, batch_asked, batch_claimed}
 use Rattle.fri_requests.specs.Claims.{batch_numbers}
 use Rattle.fri_requests.specs.Commitments.{IsKept, Keeps}
 use Rattle.fri_requests.specs.Openings.{IsOpened, request_for}
-use Rattle.fri_requests.specs.Setting.{fields}
+use Rattle.fri_statement.specs.Setting.{fields}
 use Rattle.fri_requests.specs.Requests.{IsMatrix, HasPoints, AllMatrices, HasLists, HaveMatrix, Refuses}
 use Rattle.fri_requests.proofs.Bound.{state_again, request_state, stated_all}
 use Rattle.fri_requests.proofs.Asked.{are_provers, have_points, has_lists, matrix_kept, can_open, refused_request}

@@ -1,6 +1,7 @@
 use Rattle.std.proofs.Common.{◌≡◌, ℕ, List, [], Result, Ok, refl, sym, subst, ap, ◌∙◌, map}
 use Rattle.std.specs.Prelude.{IsOk}
 use Rattle.std.specs.Result.{result_unwrap_or}
+use Rattle.std.proofs.lemmas.Result.{IfOk-from_err}
 use Rattle.hex.specs.Hex.{decode_of}
 use Rattle.p3_challenger_sha256.specs.declared.sha256_challenger.Sha256Challenger.{Sha256Challenger}
 use Rattle.p3_challenger_sha256.specs.Sha256.{start}
@@ -10,6 +11,7 @@ use Rattle.fri_statement.specs.Stated.{opened_commitment}
 use Rattle.fri_statement.specs.Statement.{OpenedCommitment, statement_absorbed}
 use Rattle.fri_requests.specs.Bound.{context_listed, bound}
 use Rattle.fri_requests.specs.Records.{parameters_in}
+use Rattle.fri_requests.proofs.Failed.{read_wants}
 use Rattle.fri_requests.proofs.statement.bound_challenger.Goals as goal
 
 -- what a fresh challenger absorbs of a context's bytes is bound to its text
@@ -35,3 +37,19 @@ returns-clause-state c =
 
 pub returns-clause-well_formed : goal.returns-clause-well_formed
 returns-clause-well_formed c = subst (λ r. IsOk r) (sym c.in_ok-context.ensures.bytes) refl
+
+-- where nothing is answered nothing is said of the answer
+pub returns-in_err-context-clause-state : goal.returns-in_err-context-clause-state
+returns-in_err-context-clause-state c = IfOk-from_err c.from_residual.result _ c.from_residual.ensures.0
+
+pub returns-in_err-context-clause-well_formed : goal.returns-in_err-context-clause-well_formed
+returns-in_err-context-clause-well_formed c = IfOk-from_err c.from_residual.result _ c.from_residual.ensures.0
+
+pub returns-in_err-absorb_statement-clause-state : goal.returns-in_err-absorb_statement-clause-state
+returns-in_err-absorb_statement-clause-state c = IfOk-from_err c.from_residual-in_err-absorb_statement.result _ c.from_residual-in_err-absorb_statement.ensures.0
+
+pub returns-in_err-absorb_statement-clause-well_formed : goal.returns-in_err-absorb_statement-clause-well_formed
+returns-in_err-absorb_statement-clause-well_formed c = IfOk-from_err c.from_residual-in_err-absorb_statement.result _ c.from_residual-in_err-absorb_statement.ensures.0
+
+pub returns-in_err-absorb_statement-clause-refused : goal.returns-in_err-absorb_statement-clause-refused
+returns-in_err-absorb_statement-clause-refused c = read_wants c.from_residual-in_err-absorb_statement.result _ c.from_residual-in_err-absorb_statement.ensures.1

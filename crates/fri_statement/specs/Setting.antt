@@ -13,7 +13,7 @@ use Rattle.p3_challenger_sha256.specs.Sha256.{absorbed, element_observed, elemen
 use Rattle.p3_challenger_sha256.specs.Sha256.{bits_sampled}
 use Rattle.p3_mmcs.specs.Tree.{Opens}
 use Rattle.p3_fri_relation.specs.Setting.{Fields, Opening, Setting}
-use Rattle.p3_fri_two_adic.specs.Accepted.{two_adic}
+use Rattle.p3_fri_opening_verifier.specs.Accepted.{two_adic}
 
 abbrev pub fields : Fields BabyBear BabyBear4
 fields = record {
