@@ -6,7 +6,7 @@ use Rattle.p3_fri_relation.specs.Views.{parameters_of, proof_of}
 use Rattle.p3_fri_completeness.specs.Requests.{relation_claims}
 use Rattle.p3_fri_random_openings.specs.RandomValues.{with_random_values}
 use Rattle.p3_fri_soundness.specs.Laws.{AreTwoAdicFields}
-use Rattle.p3_fri_scheme_soundness.proofs.Accepted.{sound_for_all}
+use Rattle.p3_fri_scheme_soundness.proofs.Accepted.{sound_proof}
 use Rattle.p3_fri_scheme_soundness.proofs.hiding_law.Given.{Over}
 use Rattle.p3_fri_scheme_soundness.proofs.hiding_law.Goals as goal
 
@@ -39,7 +39,7 @@ two_adic_fields g = record {
 
 pub returns-clause-accepted : goal.returns-clause-accepted
 returns-clause-accepted g c accepted =
-    sound_for_all (fields_of g) (moves_of g) (g.InputMmcs.Mmcs.opens c.args.scheme.now.mmcs)
+    sound_proof (fields_of g) (moves_of g) (g.InputMmcs.Mmcs.opens c.args.scheme.now.mmcs)
     (g.M.Mmcs.opens c.args.scheme.now.fri.mmcs) (two_adic_fields g)
     g.C.CanSampleBits.MAX_SAMPLE_BITS c.requires.index_bits g.met.C.CanSampleBits.width_law
     (parameters_of c.args.scheme.now.fri)
@@ -50,7 +50,7 @@ returns-clause-accepted g c accepted =
 
 pub returns-clause-preprocessed : goal.returns-clause-preprocessed
 returns-clause-preprocessed g c index accepted =
-    sound_for_all (fields_of g) (moves_of g) (g.InputMmcs.Mmcs.opens c.args.scheme.now.mmcs)
+    sound_proof (fields_of g) (moves_of g) (g.InputMmcs.Mmcs.opens c.args.scheme.now.mmcs)
     (g.M.Mmcs.opens c.args.scheme.now.fri.mmcs) (two_adic_fields g)
     g.C.CanSampleBits.MAX_SAMPLE_BITS c.requires.index_bits g.met.C.CanSampleBits.width_law
     (parameters_of c.args.scheme.now.fri)
