@@ -1,4 +1,4 @@
--- What is accepted of two-adic words, by any challenger that draws numbers of as many bits as asked.
+-- What acceptance shows of two-adic words, by challengers that draw as many bits as asked.
 use Rattle.std.proofs.Common.{ℕ, ◌+◌, ◌^◌, ◌<◌, ◌≤◌, List, arith}
 use Rattle.p3_challenger_core.specs.Run.{Moves}
 use Rattle.p3_fri_relation.specs.Setting.{Fields, Opening, Parameters, CommitmentClaim, Proof}

@@ -102,9 +102,9 @@ pub type PlainOverTrees<F, EF, Dft> = TwoAdicFriPcs<F, Dft, Sha256Mmcs<F>, Sha25
 /// The hiding scheme over trees of SHA-256.
 pub type HidingOverTrees<F, EF, Dft, R> = HidingFriPcs<F, Dft, Sha256Mmcs<F>, Sha256Mmcs<EF>, R>;
 
-/// Over trees of SHA-256, with or without preprocessing: a proof that the plain scheme accepts opens
-/// the rows of whatever words and tables the same commitments have another opening to, at the drawn
-/// positions, or one of its openings collides with the other.
+/// Over trees of SHA-256, with or without preprocessing. Where the same commitments have another
+/// opening at the drawn positions, to the rows of words and tables, a proof that the plain scheme
+/// accepts opens the rows of these, or one of its openings collides with the other.
 pub fn plain_trees_law<
     F: TwoAdicField + PackableField + ElementBytes,
     EF: PackableExtension<F> + ElementBytes,
