@@ -1,10 +1,11 @@
 use Rattle.std.proofs.Common.{map, subst, sym, ap, ◌∙◌}
 use Rattle.std.proofs.lemmas.List.{take_all}
 use Rattle.std.specs.List.{AllZip}
+use Rattle.std.proofs.lemmas.Result.{IfOk-from_err}
 use Rattle.fri_requests.specs.Commitments.{IsCommitmentTo}
 use Rattle.fri_requests.specs.Requests.{IsMatrix, AllMatrices}
 use Rattle.fri_requests.proofs.Asked.{are_provers}
-use Rattle.fri_requests.proofs.Failed.{request_part}
+use Rattle.fri_requests.proofs.Failed.{request_part, request_wants}
 use Rattle.fri_requests.proofs.Kept.{are_commitments}
 use Rattle.fri_requests.proofs.committed.commit.Goals as goal
 
@@ -31,3 +32,28 @@ returns-clause-well_formed c = record {
   matrices = subst (λ bs. AllMatrices (IsMatrix c.args.request.now.parameters.log_blowup) bs)
       c.deref.ensures.value c.in_ok-all.ensures.well_formed;
 }
+
+-- where nothing is answered nothing is said of the answer
+pub returns-in_err-all-clause-committed : goal.returns-in_err-all-clause-committed
+returns-in_err-all-clause-committed c = IfOk-from_err c.from_residual.result _ c.from_residual.ensures.0
+
+pub returns-in_err-all-clause-well_formed : goal.returns-in_err-all-clause-well_formed
+returns-in_err-all-clause-well_formed c = IfOk-from_err c.from_residual.result _ c.from_residual.ensures.0
+
+pub returns-in_err-commitments-clause-committed : goal.returns-in_err-commitments-clause-committed
+returns-in_err-commitments-clause-committed c = IfOk-from_err c.from_residual-in_err-commitments.result _ c.from_residual-in_err-commitments.ensures.0
+
+pub returns-in_err-commitments-clause-well_formed : goal.returns-in_err-commitments-clause-well_formed
+returns-in_err-commitments-clause-well_formed c = IfOk-from_err c.from_residual-in_err-commitments.result _ c.from_residual-in_err-commitments.ensures.0
+
+pub returns-in_err-push-clause-committed : goal.returns-in_err-push-clause-committed
+returns-in_err-push-clause-committed c = IfOk-from_err c.from_residual-in_err-push.result _ c.from_residual-in_err-push.ensures.0
+
+pub returns-in_err-push-clause-well_formed : goal.returns-in_err-push-clause-well_formed
+returns-in_err-push-clause-well_formed c = IfOk-from_err c.from_residual-in_err-push.result _ c.from_residual-in_err-push.ensures.0
+
+pub returns-in_err-commitments-clause-refused : goal.returns-in_err-commitments-clause-refused
+returns-in_err-commitments-clause-refused c = request_wants c.from_residual-in_err-commitments.result _ _ c.from_residual-in_err-commitments.ensures.1
+
+pub returns-in_err-push-clause-refused : goal.returns-in_err-push-clause-refused
+returns-in_err-push-clause-refused c = request_wants c.from_residual-in_err-push.result _ _ c.from_residual-in_err-push.ensures.1

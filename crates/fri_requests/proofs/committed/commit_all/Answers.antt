@@ -1,11 +1,12 @@
 use Rattle.std.proofs.Common.{All, ap, subst, sym, ◌∙◌}
 use Rattle.std.specs.List.{AllZip}
 use Rattle.std.proofs.Common.{take, ◌+◌}
+use Rattle.std.proofs.lemmas.Result.{IfOk-from_err}
 use Rattle.p3_fri_openings.proofs.First.{one_more, to_the_end, at_item}
 use Rattle.fri_requests.specs.declared.records.Batch.{Batch}
 use Rattle.fri_requests.specs.Commitments.{Keeps}
 use Rattle.fri_requests.specs.Requests.{IsMatrix}
-use Rattle.fri_requests.proofs.Failed.{request_part}
+use Rattle.fri_requests.proofs.Failed.{request_part, request_wants}
 use Rattle.fri_requests.proofs.Kept.{pairs_more, pairs_done}
 use Rattle.fri_requests.proofs.committed.commit_all.Goals as goal
 
@@ -39,3 +40,28 @@ pub returns-clause-well_formed : goal.returns-clause-well_formed
 returns-clause-well_formed c =
     to_the_end (λ (b : Batch). All (IsMatrix c.args.log_blowup) b.matrices.items) c.args.batches.now
     c.loop-index.index c.loop-index-test.false c.loop-index.invariant.well_formed
+
+-- where nothing is answered nothing is said of the answer
+pub returns-in_err-all-clause-committed : goal.returns-in_err-all-clause-committed
+returns-in_err-all-clause-committed c = IfOk-from_err c.from_residual.result _ c.from_residual.ensures.0
+
+pub returns-in_err-all-clause-well_formed : goal.returns-in_err-all-clause-well_formed
+returns-in_err-all-clause-well_formed c = IfOk-from_err c.from_residual.result _ c.from_residual.ensures.0
+
+pub returns-in_err-commit_batch-clause-committed : goal.returns-in_err-commit_batch-clause-committed
+returns-in_err-commit_batch-clause-committed c = IfOk-from_err c.from_residual-in_err-commit_batch.result _ c.from_residual-in_err-commit_batch.ensures.0
+
+pub returns-in_err-commit_batch-clause-well_formed : goal.returns-in_err-commit_batch-clause-well_formed
+returns-in_err-commit_batch-clause-well_formed c = IfOk-from_err c.from_residual-in_err-commit_batch.result _ c.from_residual-in_err-commit_batch.ensures.0
+
+pub returns-in_err-push-clause-committed : goal.returns-in_err-push-clause-committed
+returns-in_err-push-clause-committed c = IfOk-from_err c.from_residual-in_err-push.result _ c.from_residual-in_err-push.ensures.0
+
+pub returns-in_err-push-clause-well_formed : goal.returns-in_err-push-clause-well_formed
+returns-in_err-push-clause-well_formed c = IfOk-from_err c.from_residual-in_err-push.result _ c.from_residual-in_err-push.ensures.0
+
+pub returns-in_err-all-clause-refused : goal.returns-in_err-all-clause-refused
+returns-in_err-all-clause-refused c = request_wants c.from_residual.result _ _ c.from_residual.ensures.1
+
+pub returns-in_err-push-clause-refused : goal.returns-in_err-push-clause-refused
+returns-in_err-push-clause-refused c = request_wants c.from_residual-in_err-push.result _ _ c.from_residual-in_err-push.ensures.1

@@ -1,5 +1,6 @@
 use Rattle.std.proofs.Common.{◌^◌, All, map, ap, subst, ◌∙◌}
 use Rattle.std.specs.List.{AllZip}
+use Rattle.std.proofs.lemmas.Result.{IfOk-from_err}
 use Rattle.p3_mmcs.specs.ProverData.{matrices_of}
 use Rattle.p3_stark_pcs.specs.Evaluations.{HasPolynomials}
 use Rattle.p3_fri_completeness.specs.Requests.{held_in, HoldsWords}
@@ -7,7 +8,7 @@ use Rattle.p3_fri_two_adic.specs.Chunks.{polynomials_on}
 use Rattle.p3_fri_two_adic.specs.Held.{Extends}
 use Rattle.fri_requests.specs.Commitments.{domain_of}
 use Rattle.fri_statement.specs.Setting.{fields}
-use Rattle.fri_requests.proofs.Failed.{unread_part, unopened_part}
+use Rattle.fri_requests.proofs.Failed.{unread_part, unopened_part, request_wants}
 use Rattle.fri_requests.proofs.Kept.{pairs_same, pairs_mapped, through}
 use Rattle.fri_requests.proofs.committed.commit_batch.Goals as goal
 
@@ -44,3 +45,25 @@ pub returns-in_err-commitment-clause-refused : goal.returns-in_err-commitment-cl
 returns-in_err-commitment-clause-refused c =
     unopened_part _ _ _ _ c.from_residual-in_err-commitment.ensures.1
     (λ differs. absurd (differs c.in_err-commitment.ensures.refused))
+
+-- where nothing is answered nothing is said of the answer
+pub returns-in_err-evaluations-clause-committed : goal.returns-in_err-evaluations-clause-committed
+returns-in_err-evaluations-clause-committed c = IfOk-from_err c.from_residual.result _ c.from_residual.ensures.0
+
+pub returns-in_err-evaluations-clause-well_formed : goal.returns-in_err-evaluations-clause-well_formed
+returns-in_err-evaluations-clause-well_formed c = IfOk-from_err c.from_residual.result _ c.from_residual.ensures.0
+
+pub returns-in_err-domains-clause-committed : goal.returns-in_err-domains-clause-committed
+returns-in_err-domains-clause-committed c = IfOk-from_err c.from_residual-in_err-domains.result _ c.from_residual-in_err-domains.ensures.0
+
+pub returns-in_err-domains-clause-well_formed : goal.returns-in_err-domains-clause-well_formed
+returns-in_err-domains-clause-well_formed c = IfOk-from_err c.from_residual-in_err-domains.result _ c.from_residual-in_err-domains.ensures.0
+
+pub returns-in_err-commitment-clause-committed : goal.returns-in_err-commitment-clause-committed
+returns-in_err-commitment-clause-committed c = IfOk-from_err c.from_residual-in_err-commitment.result _ c.from_residual-in_err-commitment.ensures.0
+
+pub returns-in_err-commitment-clause-well_formed : goal.returns-in_err-commitment-clause-well_formed
+returns-in_err-commitment-clause-well_formed c = IfOk-from_err c.from_residual-in_err-commitment.result _ c.from_residual-in_err-commitment.ensures.0
+
+pub returns-in_err-domains-clause-refused : goal.returns-in_err-domains-clause-refused
+returns-in_err-domains-clause-refused c = request_wants c.from_residual-in_err-domains.result _ _ c.from_residual-in_err-domains.ensures.1

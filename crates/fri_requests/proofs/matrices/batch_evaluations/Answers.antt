@@ -1,6 +1,7 @@
 use Rattle.std.proofs.lemmas.List.Elements.{All-push}
 use Rattle.std.proofs.lemmas.List.{take_all}
 use Rattle.std.proofs.Common.{◌≡◌, ◌<◌, ◌≤◌, All, map, length, get_or, ap, subst, sym, ◌∙◌}
+use Rattle.std.proofs.lemmas.Result.{IfOk-from_err}
 use Rattle.p3_fri_commit.specs.Extension.{FitsDomain}
 use Rattle.p3_fri_two_adic.specs.Chunks.{polynomials_on}
 use Rattle.fri_requests.specs.Commitments.{domain_of}
@@ -9,6 +10,7 @@ use Rattle.fri_requests.specs.Matrices.{held_listed}
 use Rattle.fri_requests.specs.Requests.{IsMatrix}
 use Rattle.fri_statement.specs.Setting.{fields}
 use Rattle.fri_requests.proofs.Kept.{same_more}
+use Rattle.fri_requests.proofs.Failed.{read_wants}
 use Rattle.fri_requests.proofs.matrices.batch_evaluations.Goals as goal
 
 pub loop-index-preserved : goal.loop-index-preserved
@@ -46,3 +48,46 @@ pub returns-clause-well_formed : goal.returns-clause-well_formed
 returns-clause-well_formed c =
     let ended = subst (λ ys. length ys ≤ c.loop-index.index) c.deref-matrix-items.ensures.value c.loop-index-test.false in
     to_the_end (IsMatrix c.args.log_blowup) c.args.batch.now.matrices.items c.loop-index.index ended c.loop-index.invariant.well_formed
+
+-- where nothing is answered nothing is said of the answer
+pub returns-in_err-all-clause-fit : goal.returns-in_err-all-clause-fit
+returns-in_err-all-clause-fit c = IfOk-from_err c.from_residual.result _ c.from_residual.ensures.0
+
+pub returns-in_err-all-clause-domains : goal.returns-in_err-all-clause-domains
+returns-in_err-all-clause-domains c = IfOk-from_err c.from_residual.result _ c.from_residual.ensures.0
+
+pub returns-in_err-all-clause-polynomials : goal.returns-in_err-all-clause-polynomials
+returns-in_err-all-clause-polynomials c = IfOk-from_err c.from_residual.result _ c.from_residual.ensures.0
+
+pub returns-in_err-all-clause-well_formed : goal.returns-in_err-all-clause-well_formed
+returns-in_err-all-clause-well_formed c = IfOk-from_err c.from_residual.result _ c.from_residual.ensures.0
+
+pub returns-in_err-evaluations-clause-fit : goal.returns-in_err-evaluations-clause-fit
+returns-in_err-evaluations-clause-fit c = IfOk-from_err c.from_residual-in_err-evaluations.result _ c.from_residual-in_err-evaluations.ensures.0
+
+pub returns-in_err-evaluations-clause-domains : goal.returns-in_err-evaluations-clause-domains
+returns-in_err-evaluations-clause-domains c = IfOk-from_err c.from_residual-in_err-evaluations.result _ c.from_residual-in_err-evaluations.ensures.0
+
+pub returns-in_err-evaluations-clause-polynomials : goal.returns-in_err-evaluations-clause-polynomials
+returns-in_err-evaluations-clause-polynomials c = IfOk-from_err c.from_residual-in_err-evaluations.result _ c.from_residual-in_err-evaluations.ensures.0
+
+pub returns-in_err-evaluations-clause-well_formed : goal.returns-in_err-evaluations-clause-well_formed
+returns-in_err-evaluations-clause-well_formed c = IfOk-from_err c.from_residual-in_err-evaluations.result _ c.from_residual-in_err-evaluations.ensures.0
+
+pub returns-in_err-push-clause-fit : goal.returns-in_err-push-clause-fit
+returns-in_err-push-clause-fit c = IfOk-from_err c.from_residual-in_err-push.result _ c.from_residual-in_err-push.ensures.0
+
+pub returns-in_err-push-clause-domains : goal.returns-in_err-push-clause-domains
+returns-in_err-push-clause-domains c = IfOk-from_err c.from_residual-in_err-push.result _ c.from_residual-in_err-push.ensures.0
+
+pub returns-in_err-push-clause-polynomials : goal.returns-in_err-push-clause-polynomials
+returns-in_err-push-clause-polynomials c = IfOk-from_err c.from_residual-in_err-push.result _ c.from_residual-in_err-push.ensures.0
+
+pub returns-in_err-push-clause-well_formed : goal.returns-in_err-push-clause-well_formed
+returns-in_err-push-clause-well_formed c = IfOk-from_err c.from_residual-in_err-push.result _ c.from_residual-in_err-push.ensures.0
+
+pub returns-in_err-all-clause-refused : goal.returns-in_err-all-clause-refused
+returns-in_err-all-clause-refused c = read_wants c.from_residual.result _ c.from_residual.ensures.1
+
+pub returns-in_err-push-clause-refused : goal.returns-in_err-push-clause-refused
+returns-in_err-push-clause-refused c = read_wants c.from_residual-in_err-push.result _ c.from_residual-in_err-push.ensures.1

@@ -1,6 +1,7 @@
 use Rattle.std.proofs.Common.{map, sym, subst, ap, ◌∙◌, All}
 use Rattle.std.specs.Prelude.{string_bytes}
 use Rattle.std.specs.List.{AllZip}
+use Rattle.std.proofs.lemmas.Result.{IfOk-from_err}
 use Rattle.algebra.specs.Nested.{lists, nested}
 use Rattle.p3_mmcs.specs.ProverData.{matrices_of, root_over}
 use Rattle.p3_pcs.specs.Claims.{claim, zip_with}
@@ -17,7 +18,7 @@ use Rattle.fri_statement.specs.Setting.{fields}
 use Rattle.fri_requests.specs.Requests.{IsMatrix, HasPoints, AllMatrices, HasLists, HaveMatrix, Refuses}
 use Rattle.fri_requests.proofs.Bound.{state_again, request_state, stated_all}
 use Rattle.fri_requests.proofs.Asked.{are_provers, have_points, has_lists, matrix_kept, can_open, refused_request}
-use Rattle.fri_requests.proofs.Failed.{unread_part, request_part}
+use Rattle.fri_requests.proofs.Failed.{unread_part, request_part, request_wants}
 use Rattle.fri_requests.proofs.Listed.{claims_again, is_coset, are_claims}
 use Rattle.fri_requests.proofs.Opened.{all_kept, count_same, opened_each}
 use Rattle.fri_requests.proofs.Stated.{accepted, verifier_range}
@@ -149,3 +150,76 @@ returns-clause-well_formed c =
     })
     c.in_ok-points.ensures.some
     (subst (λ cs. HaveMatrix cs) c.as_mut_slice.ensures.value c.in_ok-claims.ensures.some_matrix)
+
+-- where nothing is answered nothing is said of the answer
+pub returns-in_err-points-clause-accepted : goal.returns-in_err-points-clause-accepted
+returns-in_err-points-clause-accepted c = IfOk-from_err c.from_residual.result _ c.from_residual.ensures.0
+
+pub returns-in_err-points-clause-opened : goal.returns-in_err-points-clause-opened
+returns-in_err-points-clause-opened c = IfOk-from_err c.from_residual.result _ c.from_residual.ensures.0
+
+pub returns-in_err-points-clause-well_formed : goal.returns-in_err-points-clause-well_formed
+returns-in_err-points-clause-well_formed c = IfOk-from_err c.from_residual.result _ c.from_residual.ensures.0
+
+pub returns-in_err-all-clause-accepted : goal.returns-in_err-all-clause-accepted
+returns-in_err-all-clause-accepted c = IfOk-from_err c.from_residual-in_err-all.result _ c.from_residual-in_err-all.ensures.0
+
+pub returns-in_err-all-clause-opened : goal.returns-in_err-all-clause-opened
+returns-in_err-all-clause-opened c = IfOk-from_err c.from_residual-in_err-all.result _ c.from_residual-in_err-all.ensures.0
+
+pub returns-in_err-all-clause-well_formed : goal.returns-in_err-all-clause-well_formed
+returns-in_err-all-clause-well_formed c = IfOk-from_err c.from_residual-in_err-all.result _ c.from_residual-in_err-all.ensures.0
+
+pub returns-in_err-stated-clause-accepted : goal.returns-in_err-stated-clause-accepted
+returns-in_err-stated-clause-accepted c = IfOk-from_err c.from_residual-in_err-stated.result _ c.from_residual-in_err-stated.ensures.0
+
+pub returns-in_err-stated-clause-opened : goal.returns-in_err-stated-clause-opened
+returns-in_err-stated-clause-opened c = IfOk-from_err c.from_residual-in_err-stated.result _ c.from_residual-in_err-stated.ensures.0
+
+pub returns-in_err-stated-clause-well_formed : goal.returns-in_err-stated-clause-well_formed
+returns-in_err-stated-clause-well_formed c = IfOk-from_err c.from_residual-in_err-stated.result _ c.from_residual-in_err-stated.ensures.0
+
+pub returns-in_err-challenger-clause-accepted : goal.returns-in_err-challenger-clause-accepted
+returns-in_err-challenger-clause-accepted c = IfOk-from_err c.from_residual-in_err-challenger.result _ c.from_residual-in_err-challenger.ensures.0
+
+pub returns-in_err-challenger-clause-opened : goal.returns-in_err-challenger-clause-opened
+returns-in_err-challenger-clause-opened c = IfOk-from_err c.from_residual-in_err-challenger.result _ c.from_residual-in_err-challenger.ensures.0
+
+pub returns-in_err-challenger-clause-well_formed : goal.returns-in_err-challenger-clause-well_formed
+returns-in_err-challenger-clause-well_formed c = IfOk-from_err c.from_residual-in_err-challenger.result _ c.from_residual-in_err-challenger.ensures.0
+
+pub returns-in_err-claims-clause-accepted : goal.returns-in_err-claims-clause-accepted
+returns-in_err-claims-clause-accepted c = IfOk-from_err c.from_residual-in_err-claims.result _ c.from_residual-in_err-claims.ensures.0
+
+pub returns-in_err-claims-clause-opened : goal.returns-in_err-claims-clause-opened
+returns-in_err-claims-clause-opened c = IfOk-from_err c.from_residual-in_err-claims.result _ c.from_residual-in_err-claims.ensures.0
+
+pub returns-in_err-claims-clause-well_formed : goal.returns-in_err-claims-clause-well_formed
+returns-in_err-claims-clause-well_formed c = IfOk-from_err c.from_residual-in_err-claims.result _ c.from_residual-in_err-claims.ensures.0
+
+pub returns-in_err-claims_out-clause-accepted : goal.returns-in_err-claims_out-clause-accepted
+returns-in_err-claims_out-clause-accepted c = IfOk-from_err c.from_residual-in_err-claims_out.result _ c.from_residual-in_err-claims_out.ensures.0
+
+pub returns-in_err-claims_out-clause-opened : goal.returns-in_err-claims_out-clause-opened
+returns-in_err-claims_out-clause-opened c = IfOk-from_err c.from_residual-in_err-claims_out.result _ c.from_residual-in_err-claims_out.ensures.0
+
+pub returns-in_err-claims_out-clause-well_formed : goal.returns-in_err-claims_out-clause-well_formed
+returns-in_err-claims_out-clause-well_formed c = IfOk-from_err c.from_residual-in_err-claims_out.result _ c.from_residual-in_err-claims_out.ensures.0
+
+pub returns-in_err-next_drawn-clause-accepted : goal.returns-in_err-next_drawn-clause-accepted
+returns-in_err-next_drawn-clause-accepted c = IfOk-from_err c.from_residual-in_err-next_drawn.result _ c.from_residual-in_err-next_drawn.ensures.0
+
+pub returns-in_err-next_drawn-clause-opened : goal.returns-in_err-next_drawn-clause-opened
+returns-in_err-next_drawn-clause-opened c = IfOk-from_err c.from_residual-in_err-next_drawn.result _ c.from_residual-in_err-next_drawn.ensures.0
+
+pub returns-in_err-next_drawn-clause-well_formed : goal.returns-in_err-next_drawn-clause-well_formed
+returns-in_err-next_drawn-clause-well_formed c = IfOk-from_err c.from_residual-in_err-next_drawn.result _ c.from_residual-in_err-next_drawn.ensures.0
+
+pub returns-in_err-stated-clause-refused : goal.returns-in_err-stated-clause-refused
+returns-in_err-stated-clause-refused c = request_wants c.from_residual-in_err-stated.result _ _ c.from_residual-in_err-stated.ensures.1
+
+pub returns-in_err-claims_out-clause-refused : goal.returns-in_err-claims_out-clause-refused
+returns-in_err-claims_out-clause-refused c = request_wants c.from_residual-in_err-claims_out.result _ _ c.from_residual-in_err-claims_out.ensures.1
+
+pub returns-in_err-next_drawn-clause-refused : goal.returns-in_err-next_drawn-clause-refused
+returns-in_err-next_drawn-clause-refused c = request_wants c.from_residual-in_err-next_drawn.result _ _ c.from_residual-in_err-next_drawn.ensures.1

@@ -1,4 +1,5 @@
 use Rattle.std.proofs.Common.{map, sym, subst, ap, ◌∙◌}
+use Rattle.std.proofs.lemmas.Result.{IfOk-from_err}
 use Rattle.algebra.specs.Nested.{nested}
 use Rattle.algebra.proofs.Lists.{map-map}
 use Rattle.p3_mmcs.specs.ProverData.{matrices_of, root_over}
@@ -10,7 +11,7 @@ use Rattle.p3_fri_openable.proofs.Requests.{openable_same}
 use Rattle.p3_fri_relation.specs.Views.{parameters_of}
 use Rattle.fri_requests.specs.Requests.{Refuses}
 use Rattle.fri_requests.proofs.Asked.{may_be_opened, matrix_asked}
-use Rattle.fri_requests.proofs.Failed.{request_part}
+use Rattle.fri_requests.proofs.Failed.{request_part, request_wants}
 use Rattle.fri_requests.proofs.Opened.{honest, fits, roots}
 use Rattle.fri_requests.proofs.opening.open_committed.Goals as goal
 
@@ -75,3 +76,46 @@ returns-clause-some_matrix c =
     matrix_asked c.args.all.now (nested c.args.points.items) c.deref.result.now c.requires.lists
     (ap (λ rs. map request rs) c.deref.ensures.value ∙ c.in_ok-requests.ensures)
     (c.are_openable.ensures.exactly.0 c.if-not-are_openable.false)
+
+-- where nothing is answered nothing is said of the answer
+pub returns-in_err-known-clause-claims : goal.returns-in_err-known-clause-claims
+returns-in_err-known-clause-claims c = IfOk-from_err c.from_residual.result _ c.from_residual.ensures.0
+
+pub returns-in_err-known-clause-accepted : goal.returns-in_err-known-clause-accepted
+returns-in_err-known-clause-accepted c = IfOk-from_err c.from_residual.result _ c.from_residual.ensures.0
+
+pub returns-in_err-known-clause-state : goal.returns-in_err-known-clause-state
+returns-in_err-known-clause-state c = IfOk-from_err c.from_residual.result _ c.from_residual.ensures.0
+
+pub returns-in_err-known-clause-some_matrix : goal.returns-in_err-known-clause-some_matrix
+returns-in_err-known-clause-some_matrix c = IfOk-from_err c.from_residual.result _ c.from_residual.ensures.0
+
+pub returns-in_err-requests-clause-claims : goal.returns-in_err-requests-clause-claims
+returns-in_err-requests-clause-claims c = IfOk-from_err c.from_residual-in_err-requests.result _ c.from_residual-in_err-requests.ensures.0
+
+pub returns-in_err-requests-clause-accepted : goal.returns-in_err-requests-clause-accepted
+returns-in_err-requests-clause-accepted c = IfOk-from_err c.from_residual-in_err-requests.result _ c.from_residual-in_err-requests.ensures.0
+
+pub returns-in_err-requests-clause-state : goal.returns-in_err-requests-clause-state
+returns-in_err-requests-clause-state c = IfOk-from_err c.from_residual-in_err-requests.result _ c.from_residual-in_err-requests.ensures.0
+
+pub returns-in_err-requests-clause-some_matrix : goal.returns-in_err-requests-clause-some_matrix
+returns-in_err-requests-clause-some_matrix c = IfOk-from_err c.from_residual-in_err-requests.result _ c.from_residual-in_err-requests.ensures.0
+
+pub returns-in_err-opened-clause-claims : goal.returns-in_err-opened-clause-claims
+returns-in_err-opened-clause-claims c = IfOk-from_err c.from_residual-in_err-opened.result _ c.from_residual-in_err-opened.ensures.0
+
+pub returns-in_err-opened-clause-accepted : goal.returns-in_err-opened-clause-accepted
+returns-in_err-opened-clause-accepted c = IfOk-from_err c.from_residual-in_err-opened.result _ c.from_residual-in_err-opened.ensures.0
+
+pub returns-in_err-opened-clause-state : goal.returns-in_err-opened-clause-state
+returns-in_err-opened-clause-state c = IfOk-from_err c.from_residual-in_err-opened.result _ c.from_residual-in_err-opened.ensures.0
+
+pub returns-in_err-opened-clause-some_matrix : goal.returns-in_err-opened-clause-some_matrix
+returns-in_err-opened-clause-some_matrix c = IfOk-from_err c.from_residual-in_err-opened.result _ c.from_residual-in_err-opened.ensures.0
+
+pub returns-in_err-known-clause-refused : goal.returns-in_err-known-clause-refused
+returns-in_err-known-clause-refused c = request_wants c.from_residual.result _ _ c.from_residual.ensures.1
+
+pub returns-in_err-requests-clause-refused : goal.returns-in_err-requests-clause-refused
+returns-in_err-requests-clause-refused c = request_wants c.from_residual-in_err-requests.result _ _ c.from_residual-in_err-requests.ensures.1
