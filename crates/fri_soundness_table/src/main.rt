@@ -95,7 +95,8 @@ fn main(rt: HostRuntime) -> Result<()> {
         let bad = bad_challenges(&error);
         let (room, more_room) = (has_room(&error, log_blowup), has_room(&more, log_blowup));
         println!(rt;
-            "log blowup {log_blowup}, log arity {max_log_arity}, columns {columns:?} at {heights:?}: \
+            "log blowup {log_blowup}, log arity {max_log_arity}, \
+             columns {columns:?} at {heights:?}: \
              {failing} failing, {bad} bad, room {room}, with one more {more_room}"
         )?;
     }
