@@ -131,23 +131,30 @@ const TOO_LOW: [Entries; 2] = [
     },
 ];
 
-/// Whether two commitments, after a refused one or not, are masked by the first words of the
-/// generator, in turn.
-fn masks_are_the_next_words(alloc: Global, after_refusal: bool) -> Result<bool, Fail> {
-    let mut scheme = scheme_of(SMALL);
-    let mut as_wanted = true;
-    if after_refusal {
-        let input = Input::Private(evaluations(alloc, &TOO_LOW)?);
-        as_wanted = match commit_and_read(&mut scheme, alloc, input, &[])? {
-            Ok(_) => false,
-            Err(refusal) => refusal.is_some(),
-        };
-    }
+/// Whether the next two commitments are masked by the first words of the generator, in turn.
+fn are_masked_in_turn(scheme: &mut Scheme, alloc: Global) -> Result<bool, Fail>
+    requires { scheme.old.fri.log_blowup ≡ 2 }
+{
     let mut words = generator();
-    for _ in 0..2 {
-        as_wanted = as_wanted && are_masked_by(&mut scheme, alloc, &mut words)?;
-    }
-    Ok(as_wanted)
+    let first = are_masked_by(&mut *scheme, alloc, &mut words)?;
+    let second = are_masked_by(&mut *scheme, alloc, &mut words)?;
+    Ok(first && second)
+}
+
+/// Whether a new scheme's masks are the words of its generator.
+fn masks_are_the_next_words(alloc: Global) -> Result<bool, Fail> {
+    are_masked_in_turn(&mut scheme_of(SMALL), alloc)
+}
+
+/// Whether a refused commitment takes none of those words.
+fn a_refusal_takes_no_words(alloc: Global) -> Result<bool, Fail> {
+    let mut scheme = scheme_of(SMALL);
+    let input = Input::Private(evaluations(alloc, &TOO_LOW)?);
+    let is_refused = match commit_and_read(&mut scheme, alloc, input, &[])? {
+        Ok(_) => false,
+        Err(refusal) => refusal.is_some(),
+    };
+    Ok(is_refused && are_masked_in_turn(&mut scheme, alloc)?)
 }
 
 /// What is committed to by forks.
@@ -336,10 +343,10 @@ fn committed_matrices_are_read(rt: HostRuntime) -> Result<(), Fail> {
             "zeros",
             preprocessing_has_zeros_between_its_rows(rt.alloc())?,
         ),
-        ("words", masks_are_the_next_words(rt.alloc(), false)?),
+        ("words", masks_are_the_next_words(rt.alloc())?),
         (
             "words after a refusal",
-            masks_are_the_next_words(rt.alloc(), true)?,
+            a_refusal_takes_no_words(rt.alloc())?,
         ),
         ("forks", forks_draw_masks_of_their_own(rt.alloc())?),
         (

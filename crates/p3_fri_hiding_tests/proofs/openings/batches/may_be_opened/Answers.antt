@@ -1,4 +1,5 @@
-use Rattle.std.proofs.Common.{sym, ◌∙◌, arith}
+use Rattle.std.proofs.Common.{sym, ap, ◌∙◌, arith}
+use Rattle.p3_matrix.specs.Matrix.{matrix_width}
 use Rattle.p3_fri_hiding_tests.proofs.Readable.{unopened, one_shown}
 use Rattle.p3_fri_hiding_tests.proofs.openings.batches.may_be_opened.Goals as goal
 
@@ -10,6 +11,7 @@ returns-clause-openable c = λ t.
       arith,
       c.if-width-num_random_codewords.false,
       c.width.ensures.columns,
+      ap matrix_width c.index-matrices-0.is,
       c.num_random_codewords.ensures,
       c.requires.codewords,
     ))
