@@ -23,7 +23,7 @@ fn as_rows<EF: ExtensionField<BabyBear>>(
     log_height: usize,
     log_arity: usize,
 ) -> Option<RowMajorMatrix<EF>>
-    requires arity { log_arity ≤ 3 }
+    requires arity { log_arity ≤ 4 }
     requires height { log_height < 24 }
     ensures height { IfSome result (λ matrix. length (rows matrix) ≡ 2 ^ log_height) }
     ensures width { IfSome result (λ matrix. matrix_width matrix ≡ 2 ^ log_arity) }
@@ -45,7 +45,7 @@ fn numbers<EF: ExtensionField<BabyBear>>(
     log_height: usize,
     log_arity: usize,
 ) -> Option<RowMajorMatrix<EF>>
-    requires arity { log_arity ≤ 3 }
+    requires arity { log_arity ≤ 4 }
     requires height { log_height < 24 }
     ensures height { IfSome result (λ matrix. length (rows matrix) ≡ 2 ^ log_height) }
     ensures width { IfSome result (λ matrix. matrix_width matrix ≡ 2 ^ log_arity) }
@@ -67,7 +67,7 @@ fn rows_agree<EF: PackableExtension<BabyBear>>(
     log_arity: usize,
 ) -> bool
     requires positive { 1 ≤ log_arity }
-    requires arity { log_arity ≤ 3 }
+    requires arity { log_arity ≤ 4 }
     requires height { log_height < 24 }
 {
     let (folding, beta) = (FOLDING, EF::GENERATOR);
@@ -101,7 +101,7 @@ fn matrices_fold_row_by_row<EF: PackableExtension<BabyBear>>(
         ("16 rows", 4),
         ("64 rows", 6),
     ] {
-        for log_arity in 1..4 {
+        for log_arity in 1..5 {
             if !rows_agree::<EF>(alloc, log_height, log_arity) {
                 return Some(name);
             }
@@ -138,7 +138,7 @@ fn fold_to<S: FriFoldingStrategy<BabyBear, BabyBear>>(
     wanted: &[BabyBear],
 ) -> bool
     requires positive { 1 ≤ log_arity }
-    requires arity { log_arity ≤ 3 }
+    requires arity { log_arity ≤ 4 }
     requires height { log_height < 24 }
     requires within_max_height { log_height + log_arity ≤ S.max_log_height folding.now }
 {

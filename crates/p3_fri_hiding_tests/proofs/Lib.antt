@@ -1,4 +1,3 @@
 mod Each
 mod Maskable
-mod Randoms
 mod Readable

@@ -1,35 +1,26 @@
 //! Tests of `p3_fri_hiding`, at BabyBear, its quartic extension, SHA-256 and ChaCha: what it
 //! commits to, what it opens, and both, with the quotient and the random polynomials of a STARK
-//! prover.
+//! prover. `input` stands without the tests too, since the specs speak of it.
 #![tactic(auto)]
 
 #[cfg(test)]
-mod batches;
+mod budgets;
 #[cfg(test)]
-mod calls;
+mod chunks;
 #[cfg(test)]
-mod cases;
+mod commitments;
 #[cfg(test)]
 mod committed;
+pub mod input;
 #[cfg(test)]
-mod forks;
+mod judged;
 #[cfg(test)]
-mod masked;
+mod masks;
 #[cfg(test)]
 mod matrices;
 #[cfg(test)]
 mod openings;
 #[cfg(test)]
-mod preprocessed;
-#[cfg(test)]
-mod quotients;
-#[cfg(test)]
-mod randomization;
-#[cfg(test)]
-mod readings;
+mod periodic;
 #[cfg(test)]
 mod scheme;
-#[cfg(test)]
-mod small;
-#[cfg(test)]
-mod words;

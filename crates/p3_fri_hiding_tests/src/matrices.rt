@@ -1,9 +1,13 @@
-//! Matrices of small numbers, and the domains beside them.
+//! Matrices of small numbers, the domains beside them, and points.
 
-use crate::scheme::Domain;
-use p3_field::{BabyBear, Field, TwoAdicMultiplicativeCoset};
+ghost use Rattle.std.specs.Prelude.{◌≢◌, [], IfOk, IsTrue};
+ghost use Rattle.p3_fri_commit.specs.Extension.{FitsDomain};
+ghost use Rattle.p3_fri_hiding.specs.Trace.{FitsMasked};
+
+use crate::scheme::{Domain, Evaluations};
+use p3_field::{BabyBear, BabyBear4, ExtensionField, Field, TwoAdicMultiplicativeCoset};
 use p3_matrix::RowMajorMatrix;
-use std::alloc::Global;
+use std::alloc::{AllocError, Global};
 use std::test::Fail;
 
 /// Rows of this width of the numbers, on the coset of this shift.
@@ -18,6 +22,9 @@ pub(crate) struct Entries {
 pub(crate) const PI: [u64; 32] = [
     3, 1, 4, 1, 5, 9, 2, 6, 5, 3, 5, 8, 9, 7, 9, 3, 2, 3, 8, 4, 6, 2, 6, 4, 3, 3, 8, 3, 2, 7, 9, 5,
 ];
+
+/// The first 16 of them.
+pub(crate) const SHORT_PI: [u64; 16] = [3, 1, 4, 1, 5, 9, 2, 6, 5, 3, 5, 8, 9, 7, 9, 3];
 
 /// The first 32 digits of the base of natural logarithms.
 pub(crate) const E: [u64; 32] = [
@@ -39,7 +46,7 @@ pub(crate) const TRACES: [Entries; 2] = [
 ];
 
 /// Elements that are these numbers.
-pub(crate) fn elements(alloc: Global, numbers: &[u64]) -> Result<Vec<BabyBear>, Fail> {
+pub(crate) fn elements(alloc: Global, numbers: &[u64]) -> Result<Vec<BabyBear>, AllocError> {
     let mut elements = Vec::with_capacity(alloc, numbers.len())?;
     for number in numbers {
         elements.push(BabyBear::from_u64(*number))?;
@@ -47,13 +54,17 @@ pub(crate) fn elements(alloc: Global, numbers: &[u64]) -> Result<Vec<BabyBear>, 
     Ok(elements)
 }
 
-/// The matrix of these entries.
-pub(crate) fn matrix(alloc: Global, entries: &Entries) -> Result<RowMajorMatrix<BabyBear>, Fail> {
-    let values = elements(alloc, entries.numbers)?;
-    if entries.width == 0 || values.len() % entries.width != 0 {
+/// The numbers as rows of this width.
+pub(crate) fn matrix(
+    alloc: Global,
+    numbers: &[u64],
+    width: usize,
+) -> Result<RowMajorMatrix<BabyBear>, Fail> {
+    let values = elements(alloc, numbers)?;
+    if width == 0 || values.len() % width != 0 {
         return Err(Fail::new("the numbers aren't whole rows"));
     }
-    Ok(RowMajorMatrix::new(values, entries.width))
+    Ok(RowMajorMatrix::new(values, width))
 }
 
 /// The coset of this shift and of `2^log_size` points.
@@ -67,6 +78,81 @@ pub(crate) fn coset(shift: u64, log_size: usize) -> Result<Domain, Fail> {
 /// The coset of this shift of twice as many points as a matrix of this height has rows.
 pub(crate) fn doubled_domain(shift: u64, height: usize) -> Result<Domain, Fail> {
     coset(shift, height.trailing_zeros() as usize + 1)
+}
+
+/// The matrices of these entries, each beside its domain of twice as many points.
+pub(crate) fn evaluations(alloc: Global, each: &[Entries]) -> Result<Evaluations, Fail> {
+    let mut all = Vec::new(alloc);
+    for entries in each {
+        let matrix = matrix(alloc, entries.numbers, entries.width)?;
+        all.push((doubled_domain(entries.shift, matrix.height())?, matrix))?;
+    }
+    Ok(all)
+}
+
+/// Whether the domain has twice as many points as the matrix has rows, and both are small.
+pub(crate) fn is_doubled(domain: Domain, matrix: &RowMajorMatrix<BabyBear>) -> bool
+    ensures { IsTrue result → FitsMasked 27 2 domain.log_size matrix.now }
+{
+    let height = matrix.height();
+    if height > 128 || domain.size() != 2 * height || domain.log_size() > 8 {
+        return false;
+    }
+    true
+}
+
+/// The numbers as a column beside the subgroup of twice as many points, on which a hiding scheme
+/// has it.
+pub(crate) fn column(
+    alloc: Global,
+    numbers: &[u64],
+) -> Result<(Domain, RowMajorMatrix<BabyBear>), Fail>
+    ensures { IfOk result (λ e. FitsMasked 27 2 e.0.log_size e.1) }
+{
+    let matrix = matrix(alloc, numbers, 1)?;
+    let domain = doubled_domain(1, numbers.len())?;
+    if !is_doubled(domain, &matrix) {
+        return Err(Fail::new("not twice as many points"));
+    }
+    Ok((domain, matrix))
+}
+
+/// The numbers as a column on the subgroup of as many points, on which a plain scheme has it.
+pub(crate) fn plain_column(
+    alloc: Global,
+    numbers: &[u64],
+) -> Result<(Domain, RowMajorMatrix<BabyBear>), Fail>
+    ensures { IfOk result (λ e. FitsDomain 27 2 e.0.log_size e.1) }
+{
+    let matrix = matrix(alloc, numbers, 1)?;
+    let domain = coset(1, numbers.len().trailing_zeros() as usize)?;
+    if matrix.height() != domain.size() || domain.log_size() > 8 {
+        return Err(Fail::new("not a column on its domain"));
+    }
+    Ok((domain, matrix))
+}
+
+/// Coefficients of the points `5 + X^2` and `X`, which aren't elements of the base field, and so
+/// lie outside of each coset.
+pub(crate) const POINTS: [[u64; 4]; 2] = [[5, 0, 1, 0], [0, 1, 0, 0]];
+
+/// The element with these coefficients, that of one first.
+pub(crate) fn element(coefficients: [u64; 4]) -> BabyBear4 {
+    BabyBear4::from_coefficients(&coefficients.map(BabyBear::from_u64))
+}
+
+/// The points with these coefficients, of which there are some.
+pub(crate) fn points(alloc: Global, coefficients: &[[u64; 4]]) -> Result<Vec<BabyBear4>, Fail>
+    ensures { IfOk result (λ points. points.items ≢ []) }
+{
+    let mut points = Vec::with_capacity(alloc, coefficients.len())?;
+    for coefficients in coefficients {
+        points.push(element(*coefficients))?;
+    }
+    if points.is_empty() {
+        return Err(Fail::new("no points"));
+    }
+    Ok(points)
 }
 
 /// The row at this index, if the matrix has it.
@@ -100,4 +186,18 @@ pub(crate) fn has_rows_between(
         }
     }
     values.height() % 2 == 0 && values.height() / 2 == matrix.height()
+}
+
+/// Whether the rows of odd index, counted from 0, are zero.
+pub(crate) fn has_zeros_between(values: &RowMajorMatrix<BabyBear>) -> bool {
+    for index in 0..values.height() {
+        if index % 2 == 1 {
+            for value in row_of(values, index) {
+                if *value != BabyBear::ZERO {
+                    return false;
+                }
+            }
+        }
+    }
+    true
 }

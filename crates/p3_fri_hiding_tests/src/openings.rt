@@ -1,7 +1,8 @@
-//! Tests of openings by the hiding scheme, at BabyBear, its quartic extension, SHA-256 and ChaCha.
+//! Openings by the hiding scheme, of a private column, of preprocessing beside one, and of a
+//! quotient's chunks beside a trace and random polynomials.
 
-mod changed;
+mod batches;
 mod headline;
 mod opened;
 mod preprocessed;
-mod reused;
+mod unsolved;

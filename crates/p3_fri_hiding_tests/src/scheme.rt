@@ -1,13 +1,19 @@
-//! The hiding scheme at these instances.
+//! The hiding scheme of small parameters, at BabyBear, its quartic extension, SHA-256 and ChaCha,
+//! and the plain one of the same parameters.
 
-ghost use Rattle.std.specs.Prelude.{◌≡◌};
+ghost use Rattle.std.specs.Prelude.{◌≡◌, ◌<◌, ◌≤◌};
+ghost use Rattle.p3_fri_relation.specs.Views.{parameters_of};
+ghost use Rattle.p3_fri_two_adic.specs.Ranges.{InProverRange, InVerifierRange};
 
 use p3_dft::Radix2Dit;
 use p3_field::{BabyBear, BabyBear4, Field, TwoAdicMultiplicativeCoset};
 use p3_fri_folding::FriParameters;
 use p3_fri_hiding::{HidingFriPcs, HidingFriPcsProverData};
+use p3_fri_pow::PowPhase;
+use p3_fri_relation::proof::{BatchMultiOpening, FriProof};
+use p3_fri_two_adic::TwoAdicFriPcs;
 use p3_matrix::RowMajorMatrix;
-use p3_mmcs::{Mmcs, Sha256Mmcs};
+use p3_mmcs::{Mmcs, OpenedValues, Sha256Mmcs};
 use rand_chacha::ChaCha20Rng;
 use rand_core::{Rng, SeedableRng};
 
@@ -19,9 +25,17 @@ pub(crate) type Data = HidingFriPcsProverData<<Inputs as Mmcs<BabyBear>>::Prover
 
 pub(crate) type Scheme = HidingFriPcs<BabyBear, Radix2Dit<BabyBear>, Inputs, Rounds, ChaCha20Rng>;
 
+pub(crate) type PlainScheme = TwoAdicFriPcs<BabyBear, Radix2Dit<BabyBear>, Inputs, Rounds>;
+
 pub(crate) type Domain = TwoAdicMultiplicativeCoset<BabyBear>;
 
 pub(crate) type Evaluations = Vec<(Domain, RowMajorMatrix<BabyBear>)>;
+
+/// The random values, and the proof beside them.
+pub(crate) type Proof = (
+    OpenedValues<BabyBear4>,
+    FriProof<BabyBear4, Rounds, BabyBear, Vec<BatchMultiOpening<BabyBear, Inputs>>>,
+);
 
 /// The generator that the scheme begins with.
 pub(crate) fn generator() -> ChaCha20Rng {
@@ -33,34 +47,74 @@ pub(crate) fn next_element(rng: &mut ChaCha20Rng) -> BabyBear {
     BabyBear::from_u64(rng.next_u64() % 2_013_265_921)
 }
 
-/// The scheme of a blowup of 4, with so many random codewords and queries.
-pub(crate) fn scheme_with(num_random_codewords: usize, num_queries: usize) -> Scheme
-    ensures codewords { result.num_random_codewords ≡ num_random_codewords }
-    ensures log_blowup { result.fri.log_blowup ≡ 2 }
+/// What tests set of a scheme of a blowup of 4 that folds by two.
+#[derive(Clone, Copy, Debug)]
+pub(crate) struct Setting {
+    pub num_random_codewords: usize,
+    pub num_queries: usize,
+    pub log_final_poly_len: usize,
+    /// Where a proof of work of 3 bits is asked for.
+    pub work: Option<PowPhase>,
+}
+
+/// Four random codewords, two queries, folds to a constant, and no proof of work.
+pub(crate) const SMALL: Setting = Setting {
+    num_random_codewords: 4,
+    num_queries: 2,
+    log_final_poly_len: 0,
+    work: None,
+};
+
+/// The difficulty of that phase.
+fn bits(setting: Setting, phase: PowPhase) -> usize
+    ensures { result ≤ 3 }
 {
-    let fri = FriParameters {
+    if setting.work == Some(phase) { 3 } else { 0 }
+}
+
+/// The parameters of both schemes.
+fn parameters(setting: Setting) -> FriParameters<Rounds>
+    ensures log_blowup { result.log_blowup ≡ 2 }
+    ensures prover_range { 0 < setting.num_queries → InProverRange (parameters_of result) 27 63 }
+    ensures verifier_range { setting.log_final_poly_len ≤ 31
+        → InVerifierRange (parameters_of result) 27 63 }
+{
+    FriParameters {
         log_blowup: 2,
-        log_final_poly_len: 0,
+        log_final_poly_len: setting.log_final_poly_len,
         max_log_arity: 1,
-        num_queries,
-        batch_proof_of_work_bits: 0,
-        commit_proof_of_work_bits: 0,
-        query_proof_of_work_bits: 0,
+        num_queries: setting.num_queries,
+        batch_proof_of_work_bits: bits(setting, PowPhase::Batch),
+        commit_proof_of_work_bits: bits(setting, PowPhase::CommitPhase),
+        query_proof_of_work_bits: bits(setting, PowPhase::Query),
         mmcs: Sha256Mmcs::new(),
-    };
+    }
+}
+
+/// The hiding scheme of that setting.
+pub(crate) fn scheme_of(setting: Setting) -> Scheme
+    ensures log_blowup { result.fri.log_blowup ≡ 2 }
+    ensures prover_range { 0 < setting.num_queries
+        → InProverRange (parameters_of result.fri) 27 63 }
+    ensures verifier_range { setting.log_final_poly_len ≤ 31
+        → InVerifierRange (parameters_of result.fri) 27 63 }
+{
     HidingFriPcs::new(
         Radix2Dit::default(),
         Sha256Mmcs::new(),
-        fri,
-        num_random_codewords,
+        parameters(setting),
+        setting.num_random_codewords,
         generator(),
     )
 }
 
-/// That of four random codewords and two queries.
-pub(crate) fn scheme() -> Scheme
-    ensures codewords { result.num_random_codewords ≡ 4 }
+/// The plain scheme of that setting, which has no random codewords.
+pub(crate) fn plain_scheme_of(setting: Setting) -> PlainScheme
     ensures log_blowup { result.fri.log_blowup ≡ 2 }
+    ensures prover_range { 0 < setting.num_queries
+        → InProverRange (parameters_of result.fri) 27 63 }
+    ensures verifier_range { setting.log_final_poly_len ≤ 31
+        → InVerifierRange (parameters_of result.fri) 27 63 }
 {
-    scheme_with(4, 2)
+    TwoAdicFriPcs::new(Radix2Dit::default(), Sha256Mmcs::new(), parameters(setting))
 }

@@ -1,7 +1,7 @@
 //! The headline at a scheme that hides.
 
-use crate::small::columns::{E, PI, POINTS, column, point, points};
-use crate::small::scheme::{Scheme, scheme};
+use crate::matrices::{E, POINTS, SHORT_PI, column, element, points};
+use crate::scheme::{SMALL, Scheme, scheme_of};
 use p3_challenger::Sha256Challenger;
 use p3_field::BabyBear4;
 use p3_test_openings::both::{OfBoth, commit_and_show_both};
@@ -16,7 +16,7 @@ fn is_shown(alloc: Global) -> Result<bool, Fail> {
     let points = points(alloc, &POINTS)?;
     let mut challenger = Sha256Challenger::new();
     let (verified, held) = commit_and_show::<BabyBear4, Sha256Challenger, Scheme>(
-        &mut scheme(),
+        &mut scheme_of(SMALL),
         alloc,
         column,
         points,
@@ -29,16 +29,10 @@ fn is_shown(alloc: Global) -> Result<bool, Fail> {
     )
 }
 
-#[test]
-fn what_is_opened_is_accepted(rt: HostRuntime) -> Result<(), Fail> {
-    assert!(rt; is_shown(rt.alloc())?);
-    Ok(())
-}
-
 /// Whether preprocessing and a private column are opened at one point and verified, of the data the
 /// private alone counts as opened, and both sides end in one state that isn't the first.
-fn are_both_shown(alloc: Global) -> Result<bool, Fail> {
-    let public_column = column(alloc, &PI)?;
+fn what_is_opened_with_preprocessing_is_accepted(alloc: Global) -> Result<bool, Fail> {
+    let public_column = column(alloc, &SHORT_PI)?;
     let private_column = column(alloc, &E[16..])?;
     let mut challenger = Sha256Challenger::new();
     let OfBoth {
@@ -46,11 +40,11 @@ fn are_both_shown(alloc: Global) -> Result<bool, Fail> {
         preprocessed,
         private,
     } = commit_and_show_both::<BabyBear4, Sha256Challenger, Scheme>(
-        &mut scheme(),
+        &mut scheme_of(SMALL),
         alloc,
         public_column,
         private_column,
-        point(),
+        element(POINTS[0]),
         &mut challenger,
     )?;
     Ok(
@@ -62,7 +56,11 @@ fn are_both_shown(alloc: Global) -> Result<bool, Fail> {
 }
 
 #[test]
-fn what_is_opened_with_preprocessing_is_accepted(rt: HostRuntime) -> Result<(), Fail> {
-    assert!(rt; are_both_shown(rt.alloc())?);
+fn what_is_opened_is_accepted(rt: HostRuntime) -> Result<(), Fail> {
+    assert!(rt; is_shown(rt.alloc())?, "a column");
+    assert!(rt;
+        what_is_opened_with_preprocessing_is_accepted(rt.alloc())?,
+        "with preprocessing"
+    );
     Ok(())
 }

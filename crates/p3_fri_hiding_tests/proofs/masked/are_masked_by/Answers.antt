@@ -1,5 +1,0 @@
-use Rattle.p3_fri_hiding_tests.proofs.masked.are_masked_by.Goals as goal
-
-pub whole-requires : goal.whole-requires
-whole-requires c =
-    (c.in_ok-held.ensures.readable c.loop-index.index c.loop-index-test.true).whole

@@ -1,0 +1,209 @@
+//! What the calls that commit refuse, and the data that they give.
+
+use crate::committed::{Committing, commit_and_read};
+use crate::input::Input;
+use crate::matrices::{coset, doubled_domain};
+use crate::scheme::{Data, Domain, Evaluations, SMALL, Setting, scheme_of};
+use p3_field::{BabyBear, Field};
+use p3_fri_masks::HidingFriProverError;
+use p3_matrix::RowMajorMatrix;
+use std::alloc::{AllocError, Global};
+use std::test::Fail;
+
+/// A call that commits.
+#[derive(Clone, Copy, Debug, PartialEq)]
+enum Call {
+    Commit,
+    Preprocessing,
+    Ldes,
+    Randomization,
+    /// That which extends chunks of a quotient.
+    Quotient,
+}
+
+const CALLS: [Call; 5] = [
+    Call::Commit,
+    Call::Preprocessing,
+    Call::Ldes,
+    Call::Randomization,
+    Call::Quotient,
+];
+
+/// A budget that masks of 8 rows don't meet.
+const LOW: HidingFriProverError = HidingFriProverError::HidingBudgetExceeded {
+    mask_height: 8,
+    num_queries: 2,
+    num_opening_points: 1,
+    extension_degree: 4,
+};
+
+/// Random codewords that are too few for an extension of degree 4.
+const FEW_CODEWORDS: HidingFriProverError = HidingFriProverError::InsufficientRandomCodewords {
+    required: 4,
+    got: 3,
+};
+
+/// The numbers of random codewords and of queries, the heights of masks, and the refusal, if any.
+#[derive(Clone, Copy, Debug)]
+struct Case {
+    num_random_codewords: usize,
+    num_queries: usize,
+    heights: &'static [usize],
+    refusal: Option<HidingFriProverError>,
+}
+
+const CASES: [Case; 9] = [
+    Case {
+        num_random_codewords: 4,
+        num_queries: 2,
+        heights: &[8],
+        refusal: Some(LOW),
+    },
+    Case {
+        num_random_codewords: 4,
+        num_queries: 2,
+        heights: &[16],
+        refusal: None,
+    },
+    // a budget that 16 rows meet exactly, and one that they miss by two
+    Case {
+        num_random_codewords: 4,
+        num_queries: 4,
+        heights: &[32, 16],
+        refusal: None,
+    },
+    Case {
+        num_random_codewords: 4,
+        num_queries: 5,
+        heights: &[32, 16],
+        refusal: Some(HidingFriProverError::HidingBudgetExceeded {
+            mask_height: 16,
+            num_queries: 5,
+            num_opening_points: 1,
+            extension_degree: 4,
+        }),
+    },
+    Case {
+        num_random_codewords: 3,
+        num_queries: 2,
+        heights: &[16],
+        refusal: Some(FEW_CODEWORDS),
+    },
+    Case {
+        num_random_codewords: 4,
+        num_queries: usize::MAX,
+        heights: &[16],
+        refusal: Some(HidingFriProverError::BudgetOverflow),
+    },
+    Case {
+        num_random_codewords: 3,
+        num_queries: usize::MAX,
+        heights: &[8],
+        refusal: Some(FEW_CODEWORDS),
+    },
+    // of no matrices no budget is asked
+    Case {
+        num_random_codewords: 4,
+        num_queries: 2,
+        heights: &[],
+        refusal: None,
+    },
+    Case {
+        num_random_codewords: 0,
+        num_queries: usize::MAX,
+        heights: &[],
+        refusal: None,
+    },
+];
+
+/// A column of so many zeros.
+fn zeros(alloc: Global, height: usize) -> Result<RowMajorMatrix<BabyBear>, AllocError> {
+    Ok(RowMajorMatrix::new(vec![in alloc; BabyBear::ZERO; height]?, 1))
+}
+
+/// The domains of twice as many points as masks of these heights have rows.
+fn doubled_domains(alloc: Global, heights: &[usize]) -> Result<Vec<Domain>, Fail> {
+    let mut domains = Vec::new(alloc);
+    for height in heights {
+        domains.push(doubled_domain(1, *height)?)?;
+    }
+    Ok(domains)
+}
+
+/// Columns of zeros of these heights, each beside its domain.
+fn columns(alloc: Global, heights: &[usize]) -> Result<Evaluations, Fail> {
+    let mut all = Vec::new(alloc);
+    for height in heights {
+        all.push((doubled_domain(1, *height)?, zeros(alloc, *height)?))?;
+    }
+    Ok(all)
+}
+
+/// Words of zeros in which the masks have these heights, with a blowup of 4.
+fn words(alloc: Global, heights: &[usize]) -> Result<Vec<RowMajorMatrix<BabyBear>>, AllocError> {
+    let mut words = Vec::new(alloc);
+    for height in heights {
+        words.push(zeros(alloc, height.saturating_mul(8))?)?;
+    }
+    Ok(words)
+}
+
+/// Two chunks of zeros, of the last of these heights.
+fn chunks(alloc: Global, heights: &[usize]) -> Result<Evaluations, Fail> {
+    let mut all = Vec::new(alloc);
+    if let Some(height) = heights.last() {
+        for shift in [1, 31] {
+            let domain = coset(shift, height.trailing_zeros() as usize)?;
+            all.push((domain, zeros(alloc, *height)?))?;
+        }
+    }
+    Ok(all)
+}
+
+/// What the call is handed where the masks have these heights.
+fn input_of(alloc: Global, call: Call, heights: &[usize]) -> Result<Committing, Fail> {
+    match call {
+        Call::Commit => Ok(Input::Private(columns(alloc, heights)?)),
+        Call::Preprocessing => Ok(Input::Preprocessed(columns(alloc, heights)?)),
+        Call::Ldes => Ok(Input::Ldes(words(alloc, heights)?)),
+        Call::Randomization => Ok(Input::Random(doubled_domains(alloc, heights)?)),
+        Call::Quotient => Ok(Input::Chunks(chunks(alloc, heights)?)),
+    }
+}
+
+/// Whether the data is new, and this scheme's.
+fn is_new(held: &Data, call: Call, num_random_codewords: usize) -> bool {
+    !held.is_opened()
+        && held.is_preprocessing() == (call == Call::Preprocessing)
+        && held.num_random_codewords() == num_random_codewords
+        && held.log_blowup() == 2
+}
+
+/// Whether the call answers so. A quotient has chunks.
+fn is_answered(alloc: Global, call: Call, case: &Case) -> Result<bool, Fail> {
+    if call == Call::Quotient && case.heights.is_empty() {
+        return Ok(true);
+    }
+    let mut scheme = scheme_of(Setting {
+        num_random_codewords: case.num_random_codewords,
+        num_queries: case.num_queries,
+        ..SMALL
+    });
+    let input = input_of(alloc, call, case.heights)?;
+    match commit_and_read(&mut scheme, alloc, input, &[])? {
+        Ok(committed) => Ok(
+            case.refusal.is_none() && is_new(&committed.held, call, case.num_random_codewords),
+        ),
+        Err(refusal) => Ok(refusal.is_some() && case.refusal == refusal),
+    }
+}
+
+#[test]
+fn the_budget_is_met_or_refused(rt: HostRuntime) -> Result<(), Fail> {
+    for call in CALLS {
+        for case in &CASES {
+            assert!(rt; is_answered(rt.alloc(), call, case)?, "{call:?}, {case:?}");
+        }
+    }
+    Ok(())
+}
