@@ -150,6 +150,9 @@ pub enum Error {
     },
     /// Memory was refused.
     OutOfMemory,
+    /// The library that is linked was built for newer processors than this one: for those with AVX2
+    /// where `P3_FRI_CPU` was `x86-64-v3`, else for those with SSE4.2.
+    ProcessorTooOld,
 }
 
 /// The name that a text begins with.
@@ -174,6 +177,9 @@ impl fmt::Display for Error {
         match self {
             Error::Refused { text, .. } | Error::Malformed { text, .. } => f.write_str(text),
             Error::OutOfMemory => f.write_str("OutOfMemory: out of memory"),
+            Error::ProcessorTooOld => {
+                f.write_str("ProcessorTooOld: the linked library was built for newer processors")
+            }
         }
     }
 }

@@ -11,6 +11,11 @@
 //! later takes what was proved; `rt` has to be on `PATH`, or `RATTLE_KIT` to name the toolchain's
 //! folder. With neither, the package can be checked and documented, and not linked.
 //!
+//! Where the variable `P3_FRI_CPU` is `x86-64-v3` while the package is built, it links a library for
+//! processors with AVX2, which is faster: from the folder `x86-64-v3` in the one that is named, or made
+//! so by `rt lib`. Each call asks the processor first, and one that is too old gets
+//! [`Error::ProcessorTooOld`].
+//!
 //! The polynomial through 1 at 1 and 3 at -1 is `2 - X`, whose value at 5 is -3:
 //!
 //! ```
@@ -70,6 +75,7 @@
 
 mod error;
 mod flat;
+mod processor;
 mod raw;
 mod room;
 mod scheme;

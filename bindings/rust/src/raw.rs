@@ -2,6 +2,7 @@
 #![allow(unsafe_code)]
 
 use crate::error::Error;
+use crate::processor::runs_library;
 
 /// The answer is in the buffer.
 const ANSWERED: u8 = 0;
@@ -72,6 +73,9 @@ impl Call {
     /// Calls the function with an answer of so much room, or where that is too short, once more
     /// with as much as it says.
     pub fn answer(self, request: &[u8], room: usize) -> Result<Vec<u8>, Error> {
+        if !runs_library() {
+            return Err(Error::ProcessorTooOld);
+        }
         let (mut status, mut answer, needed) = self.try_answer(request, room)?;
         if status == BUFFER_TOO_SHORT {
             (status, answer, _) = self.try_answer(request, needed)?;

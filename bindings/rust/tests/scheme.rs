@@ -45,7 +45,7 @@ fn named<T: std::fmt::Debug>(result: Result<T, Error>) -> (Option<Refusal>, Opti
     match result.unwrap_err() {
         Error::Refused { refusal, .. } => (Some(refusal), None),
         Error::Malformed { fault, .. } => (None, Some(fault)),
-        Error::OutOfMemory => (None, None),
+        Error::OutOfMemory | Error::ProcessorTooOld => (None, None),
     }
 }
 

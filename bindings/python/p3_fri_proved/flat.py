@@ -1,0 +1,159 @@
+"""The flat form of docs/FORMATS.md: a number is four bytes, the lowest first, a digest 32."""
+from __future__ import annotations
+
+import struct
+import sys
+from array import array
+from typing import Callable, List, Sequence, TypeVar
+
+from .errors import Error, Malformed
+from .types import CommitmentClaims, Domain, ExtensionElement, Matrix, MatrixClaims, Opening, Parameters, PointClaims
+
+T = TypeVar("T")
+
+NUMBERS_OF_PARAMETERS = (
+    "log_blowup",
+    "log_final_poly_len",
+    "max_log_arity",
+    "num_queries",
+    "batch_proof_of_work_bits",
+    "commit_proof_of_work_bits",
+    "query_proof_of_work_bits",
+)
+
+
+def no_number(place: str) -> Malformed:
+    return Malformed(f"NoForm: {place}, expected a number from 0 to 4294967295")
+
+
+def bytes_of(numbers: Sequence[int], place: str) -> bytes:
+    """The numbers' bytes. An array of numpy is told by its methods, so that numpy needn't be there."""
+    if hasattr(numbers, "astype") and hasattr(numbers, "tobytes"):
+        if numbers.dtype.kind not in "iu" or (numbers.size and not 0 <= numbers.min() <= numbers.max() < 2**32):
+            raise no_number(place)
+        return numbers.astype("<u4").tobytes()
+    try:
+        held = array("I", numbers)
+    except (OverflowError, TypeError):
+        raise no_number(place) from None
+    if held.itemsize != 4:
+        return struct.pack(f"<{len(held)}I", *held)
+    if sys.byteorder == "big":
+        held.byteswap()
+    return held.tobytes()
+
+
+def elements(points: Sequence[ExtensionElement], place: str) -> List[int]:
+    """The coefficients of elements of the extension, one after another."""
+    if any(len(point) != 4 for point in points):
+        raise Malformed(f"ExtensionElement: {place}, expected four numbers")
+    return [int(number) for point in points for number in point]
+
+
+def number_of_values(values: Sequence[int]) -> int:
+    return values.size if hasattr(values, "astype") else len(values)
+
+
+class Writer:
+    """Bytes that grow at their end."""
+
+    def __init__(self) -> None:
+        self.parts: List[bytes] = []
+
+    def bytes(self) -> bytes:
+        return b"".join(self.parts)
+
+    def numbers(self, numbers: Sequence[int], place: str) -> None:
+        self.parts.append(bytes_of(numbers, place))
+
+    def parameters(self, parameters: Parameters) -> None:
+        self.numbers([getattr(parameters, name) for name in NUMBERS_OF_PARAMETERS], "parameters")
+
+    def context(self, context: bytes) -> None:
+        self.numbers([len(context)], "length of the context")
+        self.parts.append(bytes(context))
+
+    def matrix(self, matrix: Matrix, place: str) -> None:
+        domain = matrix.domain
+        log_size = min(domain.log_size, 64)
+        if number_of_values(matrix.values) != matrix.width << log_size:
+            raise Malformed(f"Values: {place}, expected as many values as the domain has points, times the width")
+        self.numbers([domain.shift, domain.log_size, matrix.width, len(matrix.points)], place)
+        self.numbers(matrix.values, place)
+        self.numbers(elements(matrix.points, place), place)
+
+    def request(self, parameters: Parameters, context: bytes, commitments: Sequence[Sequence[Matrix]]) -> None:
+        self.context(context)
+        self.parameters(parameters)
+        self.numbers([len(commitments)], "commitments")
+        for commitment, matrices in enumerate(commitments):
+            self.numbers([len(matrices)], f"commitment {commitment}")
+            for matrix, it in enumerate(matrices):
+                self.matrix(it, f"commitment {commitment}, matrix {matrix}")
+
+    def matrix_claims(self, claims: MatrixClaims, place: str) -> None:
+        self.numbers([claims.domain.shift, claims.domain.log_size, len(claims.points)], place)
+        for at in claims.points:
+            self.numbers([*elements([at.point], place), len(at.values), *elements(at.values, place)], place)
+
+    def statement(
+        self, parameters: Parameters, context: bytes, claims: Sequence[CommitmentClaims], proof: bytes
+    ) -> None:
+        self.context(context)
+        self.parameters(parameters)
+        self.numbers([len(claims)], "claims")
+        for commitment, it in enumerate(claims):
+            if len(it.commitment) != 32:
+                raise Malformed(f"Digest: commitment {commitment}, expected 32 bytes")
+            self.parts.append(bytes(it.commitment))
+            self.numbers([len(it.matrices)], f"commitment {commitment}")
+            for matrix, of_matrix in enumerate(it.matrices):
+                self.matrix_claims(of_matrix, f"commitment {commitment}, matrix {matrix}")
+        self.parts.append(bytes(proof))
+
+
+class Reader:
+    """An answer's bytes, read from the front."""
+
+    def __init__(self, answer: bytes) -> None:
+        self.answer = answer
+        self.at = 0
+
+    def take(self, count: int) -> bytes:
+        taken = self.answer[self.at : self.at + count]
+        if len(taken) != count:
+            raise Error("Answer: the library's answer isn't in its form")
+        self.at += count
+        return taken
+
+    def number(self) -> int:
+        return struct.unpack("<I", self.take(4))[0]
+
+    def digest(self) -> bytes:
+        return self.take(32)
+
+    def element(self) -> ExtensionElement:
+        return struct.unpack("<4I", self.take(16))
+
+    def counted(self, item: Callable[[], T]) -> List[T]:
+        return [item() for _ in range(self.number())]
+
+    def point_claims(self) -> PointClaims:
+        point = self.element()
+        return PointClaims(point, self.counted(self.element))
+
+    def matrix_claims(self) -> MatrixClaims:
+        domain = Domain(self.number(), self.number())
+        return MatrixClaims(domain, self.counted(self.point_claims))
+
+    def commitment_claims(self) -> CommitmentClaims:
+        commitment = self.digest()
+        return CommitmentClaims(commitment, self.counted(self.matrix_claims))
+
+    def opening(self) -> Opening:
+        """What `open` answers. Context and parameters are those that were passed."""
+        next_challenge = self.element()
+        self.take(self.number())
+        self.take(4 * len(NUMBERS_OF_PARAMETERS))
+        claims = self.counted(self.commitment_claims)
+        return Opening(claims, self.answer[self.at :], next_challenge)
