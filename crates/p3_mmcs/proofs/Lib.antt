@@ -1,9 +1,11 @@
 pub mod Paths
 pub mod Messages
 pub mod Buffers
+pub mod Eights
 pub mod Heights
 pub mod Trees
 pub mod Shapes
+pub mod Slices
 pub mod Queries
 pub mod OpenedTree
 pub mod Refusals

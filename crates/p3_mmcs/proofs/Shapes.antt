@@ -1,8 +1,11 @@
 -- Rows and their widths, by place.
-use Rattle.std.proofs.Common.{◌≡◌, ◌≢◌, ℕ, zero, suc, ◌<◌, List, [], ◌∷◌, length, get_or, refl, ap}
-use Rattle.std.proofs.Common.{arith, inl, inr}
+use Rattle.std.proofs.Common.{◌≡◌, ◌≢◌, ℕ, zero, suc, ◌^◌, ◌<◌, List, [], ◌∷◌, length, get_or, refl, ap}
+use Rattle.std.proofs.Common.{arith, sym, ◌∙◌, inl, inr}
 use Rattle.p3_matrix.specs.declared.Dimensions.{Dimensions}
-use Rattle.p3_mmcs.specs.Batch.{HasRows, HasShape, SomeWidthDiffers}
+use Rattle.p3_field_core.proofs.IndexPowers.{exponents_agree}
+use Rattle.p3_mmcs.specs.Batch.{max_height, HasRows, HasShape, SomeWidthDiffers}
+use Rattle.p3_mmcs.specs.Tree.{OpensAt}
+use Rattle.p3_mmcs.specs.Shape.{IsShaped}
 
 module _ {T : Type 0} where
   -- a set of rows has as many as there are matrices
@@ -40,6 +43,16 @@ module _ {T : Type 0} where
   widths_differ (d ∷ dims) [] h s = s
   widths_differ (d ∷ dims) (row ∷ set) h s =
       elim s [ inl n ↦ n h.0 | inr other ↦ widths_differ dims set h.1 other ]
+
+  -- what belongs to a commitment has the right shape
+  pub opening_shaped : (bytes : T → List ℕ) (commitment : List ℕ) (dims : List Dimensions)
+      (log_height index : ℕ) (set : List (List T)) (path : List (List ℕ))
+      → 2 ^ log_height ≡ max_height dims → OpensAt bytes commitment dims index set path
+      → IsShaped dims log_height set path
+  opening_shaped bytes commitment dims log_height index set path greatest opens = record {
+    widths = opens.widths;
+    levels = exponents_agree (length path) log_height (opens.levels ∙ sym greatest);
+  }
 
   -- an opening has as many sets of rows as there are indices
   pub sets_count : (dims : List Dimensions) (indices : List ℕ) (sets : List (List (List T)))

@@ -1,6 +1,8 @@
 pub mod Batch
 pub mod Tree
 pub mod Encoding
+pub mod Shape
+pub mod Siblings
 pub mod Buffer
 pub mod Digests
 pub mod TreeLaws

@@ -2,6 +2,7 @@
 
 mod buffer;
 mod digests;
+mod eights;
 mod encoding;
 mod error;
 mod heights;

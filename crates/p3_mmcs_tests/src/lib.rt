@@ -4,6 +4,8 @@
 #[cfg(test)]
 mod cases;
 #[cfg(test)]
+mod many_openings;
+#[cfg(test)]
 mod openings;
 #[cfg(test)]
 mod sha256_mmcs;

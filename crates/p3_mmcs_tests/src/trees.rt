@@ -9,7 +9,7 @@ use std::test::Fail;
 
 /// Of each tree the widths and heights of its matrices, whose numbers count on from the last given,
 /// and the root.
-const TREES: [([(usize, usize, u64); 3], [u8; 32]); 6] = [
+pub(crate) const TREES: [([(usize, usize, u64); 3], [u8; 32]); 6] = [
     (
         [(3, 1, 1), (1, 1, 4), (2, 1, 5)],
         [
@@ -82,20 +82,23 @@ fn counting(
     })
 }
 
-/// The root of the tree over matrices of these sizes.
-fn root_over(alloc: Global, sizes: &[(usize, usize, u64)]) -> Result<[u8; 32], Fail> {
+/// The matrices of these sizes.
+pub(crate) fn matrices_of(
+    alloc: Global,
+    sizes: &[(usize, usize, u64)],
+) -> Result<Vec<RowMajorMatrix<BabyBear>>, Fail> {
     let mut matrices = Vec::new(alloc);
     for (width, height, first) in sizes {
         matrices.push(counting(alloc, *width, *height, *first)?.ok_or("width")?)?;
     }
-    root_of_all(alloc, matrices)
+    Ok(matrices)
 }
 
 /// The first tree whose root is another than the table's.
 fn first_wrong_tree(alloc: Global) -> Result<Option<usize>, Fail> {
     for index in 0..TREES.len() {
         let (sizes, root) = TREES[index];
-        if root_over(alloc, &sizes)? != root {
+        if root_of_all(alloc, matrices_of(alloc, &sizes)?)? != root {
             return Ok(Some(index));
         }
     }
