@@ -8,7 +8,6 @@ use Rattle.algebra.specs.Field.{FieldOps, IsRing, multiple}
 use Rattle.algebra.specs.Polynomial.{sum_below}
 use Rattle.algebra.proofs.RingLaws.{add_four, multiple-zero}
 use Rattle.algebra.proofs.PolynomialProduct.{sum_below-equal}
-use Rattle.algebra.proofs.Reduction.{sum_below-append}
 use Rattle.p3_field_core.specs.RowSums.{column_term}
 use Rattle.p3_field_core.proofs.ColumnSums.{term_is}
 use Rattle.p3_field_core.proofs.TermSums.{one_more, item}
@@ -17,7 +16,7 @@ use Rattle.p3_baby_bear.specs.declared.baby_bear4.BabyBear4.{BabyBear4}
 use Rattle.p3_baby_bear.specs.BabyBear.{baby_bear}
 use Rattle.p3_baby_bear.specs.BabyBearLaws.{baby_bear_laws}
 use Rattle.p3_baby_bear.specs.BabyBear4.{baby_bear4, lift4, coefficients4}
-use Rattle.p3_baby_bear.specs.BabyBear4Laws.{baby_bear4_laws, scaled_is}
+use Rattle.p3_baby_bear.specs.BabyBear4Laws.{scaled_is}
 
 module _ {A : Type 0} (F : FieldOps A) (R : IsRing F) where
   -- four terms more
@@ -159,15 +158,3 @@ none_counts ns k l e =
 pub item_at : (rows : List BabyBear) (i j : ℕ) (x : BabyBear) → i ≡ j → i < length rows
     → x ≡ get_or rows i x → x ≡ get_or rows j baby_bear.zero
 item_at rows i j x e l is = item rows i x baby_bear.zero l is ∙ ap (λ k. get_or rows k baby_bear.zero) e
-
--- a sum that gains the terms of one part and then of another
-pub two_parts : (s n m : ℕ) (f : ℕ → BabyBear4) (old here new : BabyBear4) → s + n ≡ m
-    → here ≡ baby_bear4.add old (sum_below baby_bear4 s f)
-    → new ≡ baby_bear4.add here (sum_below baby_bear4 n (λ i. f (s + i)))
-    → new ≡ baby_bear4.add old (sum_below baby_bear4 m f)
-two_parts s n m f old here new all e h =
-    let R = baby_bear4_laws.ring in
-    h ∙ ap (λ t. baby_bear4.add t (sum_below baby_bear4 n (λ i. f (s + i)))) e
-    ∙ R.add_assoc old (sum_below baby_bear4 s f) (sum_below baby_bear4 n (λ i. f (s + i)))
-    ∙ ap (λ t. baby_bear4.add old t) (sym (sum_below-append baby_bear4 R s n f)
-    ∙ ap (λ k. sum_below baby_bear4 k f) all)

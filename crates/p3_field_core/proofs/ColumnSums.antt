@@ -5,6 +5,7 @@ use Rattle.std.proofs.lemmas.List.Edits.{fill_by_more}
 use Rattle.std.proofs.Math.Nat.{mul-le-mul_right}
 use Rattle.algebra.specs.Field.{FieldOps, IsRing}
 use Rattle.algebra.specs.Polynomial.{sum_below}
+use Rattle.algebra.proofs.Reduction.{sum_below-append}
 use Rattle.p3_field_core.specs.RowSums.{column_term}
 use Rattle.p3_field_core.proofs.TermSums.{sum_next}
 
@@ -25,6 +26,15 @@ pub gained : {A : Type 0} (F : FieldOps A) → IsRing F → (n : ℕ) (f : ℕ �
 gained F R n f s o t e h =
     ap (λ a. F.add a t) e ∙ R.add_assoc o (sum_below F n f) t
     ∙ ap (λ a. F.add o a) (ap (λ b. F.add (sum_below F n f) b) h ∙ sym (sum_next F R n f))
+
+-- a sum that gains the terms of one part and then those of another
+pub two_parts : {A : Type 0} (F : FieldOps A) → IsRing F → (s n m : ℕ) (f : ℕ → A) (old here new : A)
+    → s + n ≡ m → here ≡ F.add old (sum_below F s f)
+    → new ≡ F.add here (sum_below F n (λ i. f (s + i))) → new ≡ F.add old (sum_below F m f)
+two_parts F R s n m f old here new all e h =
+    h ∙ ap (λ t. F.add t (sum_below F n (λ i. f (s + i)))) e
+    ∙ R.add_assoc old (sum_below F s f) (sum_below F n (λ i. f (s + i)))
+    ∙ ap (λ t. F.add old t) (sym (sum_below-append F R s n f) ∙ ap (λ k. sum_below F k f) all)
 
 -- `i` is one of `n` rows of `w` entries
 pub row_within : (n i w long : ℕ) → long ≡ n * w → i < n → (i + 1) * w ≤ long
