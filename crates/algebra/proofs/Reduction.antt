@@ -25,7 +25,8 @@ module _ {A : Type 0} (F : FieldOps A) (R : IsRing F) where
   infixl 70 ◌⊗◌
   open F use {zero as 𝟘, add as ◌⊕◌, mul as ◌⊗◌}
 
-  sum_below-append : (m n : ℕ) (f : ℕ → A)
+  -- a sum in two parts
+  pub sum_below-append : (m n : ℕ) (f : ℕ → A)
       → sum_below F (m + n) f ≡ sum_below F m f ⊕ sum_below F n (λ i. f (m + i))
   unfolding sum_below
   sum_below-append zero n f =

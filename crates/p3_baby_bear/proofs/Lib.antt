@@ -1,3 +1,4 @@
+pub mod ColumnSteps
 pub mod Factors
 pub mod LaneSteps
 pub mod QuarticSteps

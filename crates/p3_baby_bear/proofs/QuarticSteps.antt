@@ -7,7 +7,7 @@ use Rattle.std.proofs.lemmas.List.{get_or_append_left, get_or-append_right}
 use Rattle.std.proofs.Math.Nat.{mul-add-mod_self_right}
 use Rattle.algebra.specs.Field.{multiple}
 use Rattle.algebra.specs.QuarticExtension.{even_norm, base_norm}
-use Rattle.algebra.proofs.QuarticExtension.{base_norm_not_zero, quartic_mul-constant}
+use Rattle.algebra.proofs.QuarticExtension.{base_norm_not_zero}
 use Rattle.algebra.proofs.Powers.{homomorphism-multiple}
 use Rattle.algebra.proofs.RingLaws.{multiple-mul}
 use Rattle.p3_baby_bear.specs.declared.baby_bear.BabyBear.{BabyBear}
@@ -22,20 +22,6 @@ use Rattle.p3_baby_bear.specs.BabyBear4Laws.{minus_one_is_square}
 
 pub zero_number : (x : BabyBear) → x.value ≡ 0 → x ≡ baby_bear.zero
 zero_number x e = same_number x (element 0) e ∙ zero_is
-
--- to multiply by a constant polynomial scales each coefficient
-pub scaled_is : (x : BabyBear4) (k : BabyBear)
-    → of_quartic (record {
-      constant = baby_bear.mul x.constant k;
-      linear = baby_bear.mul x.linear k;
-      quadratic = baby_bear.mul x.quadratic k;
-      cubic = baby_bear.mul x.cubic k;
-    })
-    ≡ baby_bear4.mul x (lift4 k)
-unfolding baby_bear4
-scaled_is x k =
-    rw zero_is (ap of_quartic (sym (quartic_mul-constant baby_bear baby_bear_laws.ring (element 11)
-    (quartic_of x) k)))
 
 pub multiple4_is : (n : ℕ) → lift4 (multiple baby_bear n) ≡ multiple baby_bear4 n
 multiple4_is n = homomorphism-multiple baby_bear baby_bear4 lift4 lift4_homomorphism n

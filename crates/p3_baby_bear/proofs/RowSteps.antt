@@ -15,7 +15,7 @@ use Rattle.p3_baby_bear.specs.BabyBear4Laws.{same_coefficients}
 use Rattle.p3_baby_bear.specs.Lanes.{lane_of}
 use Rattle.p3_baby_bear.specs.RowSums.{pair_of}
 use Rattle.p3_baby_bear.proofs.LaneSteps.{lane_rest}
-use Rattle.p3_baby_bear.proofs.QuarticSteps.{scaled_is}
+use Rattle.p3_baby_bear.specs.BabyBear4Laws.{scaled_is}
 
 -- one coefficient of both
 both : (m n : ℕ) (a b : BabyBear) → multiple baby_bear m ≡ a → multiple baby_bear n ≡ b

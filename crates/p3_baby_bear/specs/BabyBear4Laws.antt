@@ -1,12 +1,16 @@
 -- BabyBear4 is a field that extends BabyBear, since 11 is no square there and -1 is one.
 use Rattle.std.specs.Prelude.{ℕ, zero, suc, ◌*◌, ◌%◌, ◌^◌, ◌<◌, ◌≡◌, ◌≢◌, ◌==◌, ◌&&◌, ◌↔◌, IsTrue}
 use Rattle.std.specs.Prelude.{List, [], ◌∷◌, length, take, drop, slice_index_or, refl}
-use Rattle.std.proofs.Common.{sym, ◌∙◌, ap, arith, lit<}
+use Rattle.std.proofs.Common.{sym, ◌∙◌, ap, ap₂, arith, lit<}
 use Rattle.std.proofs.lemmas.Bool.Decides.{Decides-eqb, Decides-and}
 use Rattle.algebra.specs.Field.{IsField, IsHomomorphism}
+use Rattle.algebra.specs.Polynomial.{sum_below}
 use Rattle.algebra.specs.QuarticExtension.{quartic}
 use Rattle.algebra.proofs.Fermat.{square_half_power, squared_modulo, pow-squared_modulo}
 use Rattle.algebra.proofs.QuarticExtension.{quartic_field, constants_homomorphism}
+use Rattle.algebra.proofs.QuarticExtension.{quartic_mul-constant}
+use Rattle.algebra.proofs.Ring.{◌:+◌, ◌:*◌, ◌:=◌, ring, o, :1}
+use Rattle.p3_field_core.specs.Basis.{unit_vector}
 use Rattle.p3_baby_bear.specs.declared.baby_bear.BabyBear.{BabyBear}
 use Rattle.p3_baby_bear.specs.declared.baby_bear4.BabyBear4.{BabyBear4}
 use Rattle.p3_baby_bear.specs.BabyBear.{baby_bear, element, root}
@@ -138,6 +142,48 @@ of_coefficients4_law (a ∷ b ∷ []) e = absurd (omega arith)
 of_coefficients4_law (a ∷ b ∷ c ∷ []) e = absurd (omega arith)
 of_coefficients4_law (a ∷ b ∷ c ∷ d ∷ []) e = refl
 of_coefficients4_law (a ∷ b ∷ c ∷ d ∷ x ∷ xs) e = absurd (omega arith)
+
+-- to multiply by a constant polynomial scales each coefficient
+pub scaled_is : (x : BabyBear4) (k : BabyBear)
+    → of_quartic (record {
+      constant = baby_bear.mul x.constant k;
+      linear = baby_bear.mul x.linear k;
+      quadratic = baby_bear.mul x.quadratic k;
+      cubic = baby_bear.mul x.cubic k;
+    })
+    ≡ baby_bear4.mul x (lift4 k)
+unfolding baby_bear4
+scaled_is x k =
+    rw zero_is (ap of_quartic (sym (quartic_mul-constant baby_bear baby_bear_laws.ring (element 11)
+    (quartic_of x) k)))
+
+-- the powers of the root
+abbrev basis : ℕ → BabyBear4
+basis k = of_coefficients4 (unit_vector baby_bear 4 k)
+
+-- each element is the sum of its coefficients times these
+pub coefficients4_basis : (x : BabyBear4) → x ≡ sum_below baby_bear4 4 (λ k. baby_bear4.mul
+    (lift4 (slice_index_or (coefficients4 x) k baby_bear.zero))
+    (basis k))
+unfolding sum_below baby_bear4
+coefficients4_basis x =
+    let R = baby_bear_laws.ring in
+    let term = λ (a : BabyBear) (k : ℕ).
+    baby_bear4_laws.mul_comm (basis k) (lift4 a) in
+    same_coefficients
+    (sym (ring baby_bear R 4 (λ a b c d. :1 :* a :+ (o :* b :+ (o :* c :+ (o :* d :+ o))) := a) refl
+    x.constant x.linear x.quadratic x.cubic))
+    (sym (ring baby_bear R 4 (λ a b c d. o :* a :+ (:1 :* b :+ (o :* c :+ (o :* d :+ o))) := b) refl
+    x.constant x.linear x.quadratic x.cubic))
+    (sym (ring baby_bear R 4 (λ a b c d. o :* a :+ (o :* b :+ (:1 :* c :+ (o :* d :+ o))) := c) refl
+    x.constant x.linear x.quadratic x.cubic))
+    (sym (ring baby_bear R 4 (λ a b c d. o :* a :+ (o :* b :+ (o :* c :+ (:1 :* d :+ o))) := d) refl
+    x.constant x.linear x.quadratic x.cubic))
+    ∙ ap₂ baby_bear4.add (scaled_is (basis 0) x.constant ∙ term x.constant 0)
+    (ap₂ baby_bear4.add (scaled_is (basis 1) x.linear ∙ term x.linear 1)
+    (ap₂ baby_bear4.add (scaled_is (basis 2) x.quadratic ∙ term x.quadratic 2)
+    (ap (λ t. baby_bear4.add t baby_bear4.zero)
+    (scaled_is (basis 3) x.cubic ∙ term x.cubic 3))))
 
 pub coefficient_bytes_length : (x : BabyBear4) → length (coefficient_bytes x) ≡ 16
 coefficient_bytes_length x = refl

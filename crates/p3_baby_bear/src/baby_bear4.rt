@@ -2,6 +2,7 @@
 
 mod arithmetic;
 mod bytes;
+mod column_sums;
 mod extension;
 mod field;
 mod lanes;

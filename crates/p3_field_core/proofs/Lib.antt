@@ -1,3 +1,5 @@
+pub mod Bases
+pub mod ColumnSums
 pub mod Cosets
 pub mod Halving
 pub mod IndexBlocks

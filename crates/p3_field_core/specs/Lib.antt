@@ -1,3 +1,4 @@
+pub mod Basis
 pub mod Coset
 pub mod ExtensionLaws
 pub mod Index

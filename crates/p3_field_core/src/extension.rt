@@ -1,13 +1,14 @@
 //! Extensions of a field.
 
-ghost use Rattle.std.specs.Prelude.{◌≡◌, ◌<◌, ◌≤◌, ℕ, List, [], ◌∷◌, length};
+ghost use Rattle.std.specs.Prelude.{◌≡◌, ◌<◌, ◌≤◌, ◌*◌, ℕ, List, [], ◌∷◌, length};
 ghost use Rattle.std.specs.Prelude.{slice_index_or, slice_set};
 ghost use Rattle.algebra.specs.Field.{IsHomomorphism};
 ghost use Rattle.algebra.specs.Polynomial.{sum_below};
 ghost use Rattle.algebra.proofs.Lifting.{identity_homomorphism};
 ghost use Rattle.p3_field_core.specs.ExtensionLaws.{self_lift, self_length, self_injective};
-ghost use Rattle.p3_field_core.specs.ExtensionLaws.{self_of_coefficients};
-ghost use Rattle.p3_field_core.specs.RowSums.{row_term};
+ghost use Rattle.p3_field_core.specs.ExtensionLaws.{self_of_coefficients, self_basis};
+ghost use Rattle.p3_field_core.specs.Basis.{unit_vector};
+ghost use Rattle.p3_field_core.specs.RowSums.{row_term, column_term};
 
 use crate::field::Field;
 
@@ -43,6 +44,14 @@ pub trait ExtensionField<F: Field>: Field {
         requires below_dimension { index < DIMENSION }
         ensures { coefficients result ≡ slice_set (coefficients self) index value };
 
+    /// The element whose coefficient at `index` is one, and whose others are zero.
+    fn ith_basis_element(index: usize) -> Self
+        requires below_dimension { index < DIMENSION }
+        ensures { coefficients result ≡ unit_vector F.ops DIMENSION index }
+    {
+        Self::ZERO.with_coefficient(index, F::ONE)
+    }
+
     /// The product with an element of the base field.
     fn scale(self, factor: F) -> Self
         ensures { result ≡ Self.ops.mul self (lift factor) };
@@ -50,13 +59,6 @@ pub trait ExtensionField<F: Field>: Field {
     /// The product with an element of the base field that was made ready.
     fn scale_prepared(self, factor: F::Prepared) -> Self
         ensures { result ≡ Self.ops.mul self (lift (F.factor_of factor)) };
-
-    /// The sum of four products with elements of the base field, each value times the factor beside
-    /// it. An extension can add up such products before it reduces a coefficient.
-    fn mixed_dot_product(values: (Self, Self, Self, Self), factors: (F, F, F, F)) -> Self
-        ensures { result ≡ Self.ops.add (Self.ops.add (Self.ops.add
-            (Self.ops.mul values.0 (lift factors.0)) (Self.ops.mul values.1 (lift factors.1)))
-            (Self.ops.mul values.2 (lift factors.2))) (Self.ops.mul values.3 (lift factors.3)) };
 
     /// The sum of a row's entries, each times the value beside it; values past the row's end count
     /// nothing. An extension can add up many products before it reduces a coefficient.
@@ -72,6 +74,24 @@ pub trait ExtensionField<F: Field>: Field {
         sum
     }
 
+    /// Adds to each column's sum its entries in rows that follow one another, each as long as
+    /// `sums`, every entry times the weight of its row. An extension can add up many products
+    /// before it reduces a coefficient.
+    fn add_weighted_rows(sums: &mut [Self], rows: &[F], weights: &[Self])
+        requires rows { length rows.now ≡ length weights.now * length sums.old }
+        ensures { (j : ℕ) (d : Self) → j < length sums.old → slice_index_or sums.new j d
+            ≡ Self.ops.add (slice_index_or sums.old j d) (sum_below Self.ops (length weights.now)
+            (column_term F.ops Self.ops lift (length sums.old) weights.now rows.now j)) }
+    {
+        let width = sums.len();
+        for i in 0..weights.len() {
+            let row = &rows[i * width..(i + 1) * width];
+            for j in 0..width {
+                sums[j] = sums[j] + weights[i].scale(row[j]);
+            }
+        }
+    }
+
     ghost lift_law: { IsHomomorphism F.ops Self.ops lift };
 
     ghost coefficient_of_lift: { (x : F) →
@@ -83,6 +103,10 @@ pub trait ExtensionField<F: Field>: Field {
 
     ghost of_coefficients_law: { (xs : List F) → length xs ≡ DIMENSION →
         coefficients (of_coefficients xs) ≡ xs };
+
+    ghost basis_law: { (x : Self) → x ≡ sum_below Self.ops DIMENSION (λ k. Self.ops.mul
+        (lift (slice_index_or (coefficients x) k F.ops.zero))
+        (of_coefficients (unit_vector F.ops DIMENSION k))) };
 }
 
 /// Every field extends itself, with one coefficient.
@@ -121,14 +145,6 @@ impl<F: Field> ExtensionField<F> for F {
         self.times(factor)
     }
 
-    fn mixed_dot_product(values: (F, F, F, F), factors: (F, F, F, F)) -> F
-        ensures { result ≡ F.ops.add (F.ops.add (F.ops.add (F.ops.mul values.0 factors.0)
-            (F.ops.mul values.1 factors.1)) (F.ops.mul values.2 factors.2))
-            (F.ops.mul values.3 factors.3) }
-    {
-        values.0 * factors.0 + values.1 * factors.1 + values.2 * factors.2 + values.3 * factors.3
-    }
-
     ghost lift_law = { identity_homomorphism F.ops };
 
     ghost coefficient_of_lift = { self_lift };
@@ -138,4 +154,6 @@ impl<F: Field> ExtensionField<F> for F {
     ghost coefficients_injective = { self_injective };
 
     ghost of_coefficients_law = { self_of_coefficients F.ops.zero };
+
+    ghost basis_law = { self_basis F.ops F.Field.laws };
 }

@@ -28,9 +28,22 @@ pub fn compress<F: Field, EF: ExtensionField<F>>(
     Ok(compressed)
 }
 
-/// Adds to each entry of the word the quotient of the claimed value and the compressed row's, times
-/// `step`.
-pub(crate) fn add_quotients<EF: Field>(
+/// Adds to each entry of the word the quotient of the claimed value and the compressed row's.
+fn add_plain_quotients<EF: Field>(word: &mut [EF], claimed: EF, compressed: &[EF], inverses: &[EF])
+    requires compressed { length compressed.now ≡ length word.old }
+    requires inverses { length inverses.now ≡ length word.old }
+    ensures { (i : ℕ) (d : EF) → i < length word.old → slice_index_or word.new i d
+        ≡ EF.ops.add (slice_index_or word.old i d) (EF.ops.mul
+        (sub EF.ops claimed (slice_index_or compressed.now i d))
+        (slice_index_or inverses.now i d)) }
+{
+    for i in 0..word.len() {
+        word[i] = word[i] + (claimed - compressed[i]) * inverses[i];
+    }
+}
+
+/// The same, times `step`.
+fn add_scaled_quotients<EF: Field>(
     word: &mut [EF],
     step: EF,
     claimed: EF,
@@ -46,5 +59,28 @@ pub(crate) fn add_quotients<EF: Field>(
 {
     for i in 0..word.len() {
         word[i] = word[i] + step * ((claimed - compressed[i]) * inverses[i]);
+    }
+}
+
+/// Adds to each entry of the word the quotient of the claimed value and the compressed row's, times
+/// `step`, which is often one.
+pub(crate) fn add_quotients<EF: Field>(
+    word: &mut [EF],
+    step: EF,
+    claimed: EF,
+    compressed: &[EF],
+    inverses: &[EF],
+)
+    requires compressed { length compressed.now ≡ length word.old }
+    requires inverses { length inverses.now ≡ length word.old }
+    ensures { (i : ℕ) (d : EF) → i < length word.old → slice_index_or word.new i d
+        ≡ EF.ops.add (slice_index_or word.old i d) (EF.ops.mul step (EF.ops.mul
+        (sub EF.ops claimed (slice_index_or compressed.now i d))
+        (slice_index_or inverses.now i d))) }
+{
+    if step == EF::ONE {
+        add_plain_quotients(word, claimed, compressed, inverses);
+    } else {
+        add_scaled_quotients(word, step, claimed, compressed, inverses);
     }
 }

@@ -1,19 +1,20 @@
--- One more row in the sums over rows.
-use Rattle.std.proofs.Common.{◌≡◌, ℕ, zero, suc, ◌+◌, List, [], get_or, refl, sym, ap, ap₂, ◌∙◌, arith}
-use Rattle.std.proofs.Common.{add-one}
+-- More rows in the sums over rows.
+use Rattle.std.proofs.Common.{◌≡◌, ℕ, ◌+◌, ◌-◌, ◌/◌, ◌≤◌, ◌<◌, List, [], length, take, drop, get_or}
+use Rattle.std.proofs.Common.{sym, ap, ap₂, ◌∙◌, arith}
+use Rattle.std.proofs.lemmas.List.{get_or-take, get_or-drop, length-drop, length-take-le}
 use Rattle.algebra.specs.Field.{FieldOps, IsRing}
 use Rattle.algebra.specs.Polynomial.{sum_below}
-use Rattle.algebra.proofs.RingLaws.{add_four, zero_add}
+use Rattle.algebra.proofs.PolynomialProduct.{sum_below-equal}
+use Rattle.p3_field_core.specs.RowSums.{column_term}
+use Rattle.p3_field_core.proofs.ColumnSums.{two_parts}
+use Rattle.p3_matrix.specs.Rows.{rows_of}
+use Rattle.p3_matrix.proofs.Rows.{length-rows_of, get_or-entry}
 use Rattle.p3_fri_openings.specs.Sums.{weighted, weighted_sum}
 
--- one term more
-module _ {A : Type 0} (F : FieldOps A) (R : IsRing F) where
-  pub sum_next : (n : ℕ) (f : ℕ → A) → sum_below F (n + 1) f ≡ F.add (sum_below F n f) (f n)
-  unfolding sum_below
-  sum_next zero f = R.add_zero (f zero) ∙ sym (zero_add F R (f zero))
-  sum_next (suc n) f =
-      rw add-one (ap (λ s. F.add (f zero) s) (rw add-one at (sum_next n (λ i. f (suc i))))
-      ∙ sym (R.add_assoc (f zero) (sum_below F n (λ i. f (suc i))) (f (suc n))))
+-- an entry of some of a list's entries
+pub entry_between : {X : Type 0} (xs : List X) (s n i : ℕ) (d : X) → i < n
+    → get_or (take n (drop s xs)) i d ≡ get_or xs (s + i) d
+entry_between xs s n i d l = get_or-take n (drop s xs) i d l ∙ get_or-drop s xs i d
 
 module _ {F E : Type 0} (B : FieldOps F) (K : FieldOps E) (R : IsRing K) (lift : F → E)
     (points : List F) (inverses : List E) (rows : List (List F)) (j : ℕ) where
@@ -21,48 +22,32 @@ module _ {F E : Type 0} (B : FieldOps F) (K : FieldOps E) (R : IsRing K) (lift :
   unfolding sum_below
   weighted_none s = sym (R.add_zero s)
 
-  pub weighted_next : (i : ℕ) (first cur new weight : E) (row : List F)
-      → cur ≡ K.add first (weighted_sum B K lift i points inverses rows j)
-      → new ≡ K.add cur (K.mul weight (lift (get_or row j B.zero)))
-      → weight ≡ K.mul (get_or inverses i K.zero) (lift (get_or points i B.zero))
-      → row ≡ get_or rows i []
-      → new ≡ K.add first (weighted_sum B K lift (i + 1) points inverses rows j)
-  weighted_next i first cur new weight row c n w r =
-      n
-      ∙ ap₂ (λ a b. K.add a b) c (ap₂ (λ u v. K.mul u (lift (get_or v j B.zero))) w r)
-      ∙ R.add_assoc first (weighted_sum B K lift i points inverses rows j)
-      (K.mul (K.mul (get_or inverses i K.zero) (lift (get_or points i B.zero))) (lift (get_or (get_or rows i []) j B.zero)))
-      ∙ ap (λ s. K.add first s) (sym (sum_next K R i (λ i. K.mul
-      (K.mul (get_or inverses i K.zero) (lift (get_or points i B.zero)))
-      (lift (get_or (get_or rows i []) j B.zero)))))
+  -- the row `i`, times the inverse difference and the point beside it
+  abbrev term : ℕ → E
+  term i = weighted B K lift j (K.mul (get_or inverses i K.zero) (lift (get_or points i B.zero)))
+      (get_or rows i [])
 
-  -- four rows more
-  pub weighted_next_four : (i : ℕ) (first cur new w₀ w₁ w₂ w₃ : E) (r₀ r₁ r₂ r₃ : List F)
-      → cur ≡ K.add first (weighted_sum B K lift i points inverses rows j)
-      → new ≡ K.add cur (K.add (K.add (K.add (weighted B K lift j w₀ r₀)
-      (weighted B K lift j w₁ r₁)) (weighted B K lift j w₂ r₂)) (weighted B K lift j w₃ r₃))
-      → w₀ ≡ K.mul (get_or inverses i K.zero) (lift (get_or points i B.zero))
-      → w₁ ≡ K.mul (get_or inverses (i + 1) K.zero) (lift (get_or points (i + 1) B.zero))
-      → w₂ ≡ K.mul (get_or inverses (i + 2) K.zero) (lift (get_or points (i + 2) B.zero))
-      → w₃ ≡ K.mul (get_or inverses (i + 3) K.zero) (lift (get_or points (i + 3) B.zero))
-      → r₀ ≡ get_or rows i [] → r₁ ≡ get_or rows (i + 1) []
-      → r₂ ≡ get_or rows (i + 2) [] → r₃ ≡ get_or rows (i + 3) []
-      → new ≡ K.add first (weighted_sum B K lift (i + 4) points inverses rows j)
-  weighted_next_four i first cur new w₀ w₁ w₂ w₃ r₀ r₁ r₂ r₃ c n e₀ e₁ e₂ e₃ a₀ a₁ a₂ a₃ =
-      let one = weighted_next i first cur (K.add cur (term w₀ r₀)) w₀ r₀ c refl e₀ a₀ in
-      let two = weighted_next (i + 1) first (K.add cur (term w₀ r₀))
-      (K.add (K.add cur (term w₀ r₀)) (term w₁ r₁)) w₁ r₁ one refl e₁ a₁ in
-      let three = weighted_next (i + 2) first (K.add (K.add cur (term w₀ r₀)) (term w₁ r₁))
-      (K.add (K.add (K.add cur (term w₀ r₀)) (term w₁ r₁)) (term w₂ r₂)) w₂ r₂
-      (two ∙ ap so_far (omega arith)) refl e₂ a₂ in
-      weighted_next (i + 3) first
-      (K.add (K.add (K.add cur (term w₀ r₀)) (term w₁ r₁)) (term w₂ r₂)) new w₃ r₃
-      (three ∙ ap so_far (omega arith))
-      (n ∙ add_four K R cur (term w₀ r₀) (term w₁ r₁) (term w₂ r₂) (term w₃ r₃)) e₃ a₃
-      ∙ ap so_far (omega arith)
-    where
-      term : E → List F → E
-      term = weighted B K lift j
+  module _ (s e w : ℕ) (order : s ≤ e) (within : e ≤ length rows) (column : j < w)
+      (weights : List E) (block : List F)
+      (are : (i : ℕ) → i < e - s → get_or weights i K.zero
+      ≡ K.mul (get_or inverses (s + i) K.zero) (lift (get_or points (s + i) B.zero)))
+      (lie : rows_of w block ≡ take (e - s) (drop s rows)) where
+    many : length block / w ≡ e - s
+    many =
+        sym (length-rows_of w block) ∙ ap length lie
+        ∙ length-take-le (e - s) (drop s rows) (omega (arith, within, length-drop s rows))
 
-      so_far : ℕ → E
-      so_far m = K.add first (weighted_sum B K lift m points inverses rows j)
+    term_is : (i : ℕ) → i < e - s → column_term B K lift w weights block j i ≡ term (s + i)
+    term_is i l = ap₂ (λ a b. K.mul a (lift b)) (are i l)
+        (sym (get_or-entry w block i j [] B.zero (omega (arith, l, many)) column)
+        ∙ ap (λ rs. get_or (get_or rs i []) j B.zero) lie
+        ∙ ap (λ r. get_or r j B.zero) (entry_between rows s (e - s) i [] l))
+
+    -- a block of rows more
+    pub weighted_block : (first old new : E)
+        → old ≡ K.add first (weighted_sum B K lift s points inverses rows j)
+        → new ≡ K.add old (sum_below K (e - s) (column_term B K lift w weights block j))
+        → new ≡ K.add first (weighted_sum B K lift e points inverses rows j)
+    weighted_block first old new c n = two_parts K R s (e - s) e term first old new (omega (arith, order)) c
+        (n ∙ ap (λ t. K.add old t) (sum_below-equal K (e - s) (column_term B K lift w weights block j)
+        (λ i. term (s + i)) term_is))

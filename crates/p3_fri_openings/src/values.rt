@@ -1,13 +1,14 @@
 //! The values of the committed polynomials at a point off the coset, by barycentric sums.
 
-ghost use Rattle.std.specs.Prelude.{◌≡◌, ◌≤◌, ◌<◌, ◌^◌, ℕ, List, [], IfOk, length, slice_index_or};
-ghost use Rattle.algebra.specs.Polynomial.{tabulate, sum_below};
+ghost use Rattle.std.specs.Prelude.{◌≡◌, ◌≤◌, ◌<◌, ◌+◌, ◌^◌, ℕ, List, [], IfOk, length};
+ghost use Rattle.std.specs.Prelude.{slice_index_or};
+ghost use Rattle.algebra.specs.Polynomial.{tabulate};
 ghost use Rattle.algebra.specs.Barycentric.{barycentric_factor};
 ghost use Rattle.p3_matrix.specs.Matrix.{rows, matrix_width};
 ghost use Rattle.p3_fri_openings.specs.Rounds.{HasCoset, log_height};
 ghost use Rattle.p3_fri_openings.specs.Refusals.{IsOff};
 ghost use Rattle.p3_fri_openings.specs.Committed.{coset_of, inverse_differences, committed_values};
-ghost use Rattle.p3_fri_openings.specs.Sums.{StartsWith, weighted, weighted_sum};
+ghost use Rattle.p3_fri_openings.specs.Sums.{StartsWith, weighted_sum};
 
 use p3_field_core::{
     ExtensionField, Field, TwoAdicField, TwoAdicMultiplicativeCoset, log2_strict_usize,
@@ -15,6 +16,9 @@ use p3_field_core::{
 use p3_fri_relation::setting::ChallengeField;
 use p3_matrix::RowMajorMatrix;
 use std::alloc::{AllocError, Global};
+
+/// How many rows' weights are made at once.
+const BLOCK: usize = 128;
 
 /// So many zeros.
 fn zeros<F: Field>(alloc: Global, count: usize) -> Result<Vec<F>, AllocError>
@@ -27,44 +31,6 @@ fn zeros<F: Field>(alloc: Global, count: usize) -> Result<Vec<F>, AllocError>
     Ok(values)
 }
 
-/// Adds the row times `weight` to the sums, column by column.
-fn add_weighted_row<F: Field, EF: ExtensionField<F>>(sums: &mut [EF], row: &[F], weight: EF)
-    requires width { length row.now ≡ length sums.old }
-    ensures { (j : ℕ) (d : EF) → j < length sums.old → slice_index_or sums.new j d
-        ≡ EF.ops.add (slice_index_or sums.old j d)
-        (weighted F.ops EF.ops EF.lift j weight row.now) }
-{
-    for j in 0..sums.len() {
-        sums[j] = sums[j] + weight.scale(row[j]);
-    }
-}
-
-/// The same of four rows at once, each times the weight in its place.
-fn add_four_weighted_rows<F: Field, EF: ExtensionField<F>>(
-    sums: &mut [EF],
-    first: &[F],
-    second: &[F],
-    third: &[F],
-    fourth: &[F],
-    weights: (EF, EF, EF, EF),
-)
-    requires first { length first.now ≡ length sums.old }
-    requires second { length second.now ≡ length sums.old }
-    requires third { length third.now ≡ length sums.old }
-    requires fourth { length fourth.now ≡ length sums.old }
-    ensures { (j : ℕ) (d : EF) → j < length sums.old → slice_index_or sums.new j d
-        ≡ EF.ops.add (slice_index_or sums.old j d) (EF.ops.add (EF.ops.add (EF.ops.add
-        (weighted F.ops EF.ops EF.lift j weights.0 first.now)
-        (weighted F.ops EF.ops EF.lift j weights.1 second.now))
-        (weighted F.ops EF.ops EF.lift j weights.2 third.now))
-        (weighted F.ops EF.ops EF.lift j weights.3 fourth.now)) }
-{
-    for j in 0..sums.len() {
-        let entries = (first[j], second[j], third[j], fourth[j]);
-        sums[j] = sums[j] + EF::mixed_dot_product(weights, entries);
-    }
-}
-
 /// Each value times the factor.
 fn scale_all<F: Field>(values: &mut [F], factor: F)
     ensures { (j : ℕ) (d : F) → j < length values.old → slice_index_or values.new j d
@@ -75,25 +41,59 @@ fn scale_all<F: Field>(values: &mut [F], factor: F)
     }
 }
 
-/// What the entries of one row are multiplied by: the inverse difference and the coset's point.
-fn row_weight<F: Field, EF: ExtensionField<F>>(coset: &[F], inverses: &[EF], i: usize) -> EF
-    requires coset { i < length coset.now }
-    requires inverses { i < length inverses.now }
-    ensures { result ≡ EF.ops.mul (slice_index_or inverses.now i EF.ops.zero)
+/// Writes what the entries of rows are multiplied by: each inverse difference times the coset's
+/// point beside it.
+fn write_weights<F: Field, EF: ExtensionField<F>>(weights: &mut [EF], coset: &[F], inverses: &[EF])
+    requires coset { length coset.now ≡ length weights.old }
+    requires inverses { length inverses.now ≡ length weights.old }
+    ensures { (i : ℕ) (d : EF) → i < length weights.old → slice_index_or weights.new i d
+        ≡ EF.ops.mul (slice_index_or inverses.now i EF.ops.zero)
         (EF.lift (slice_index_or coset.now i F.ops.zero)) }
 {
-    inverses[i].scale(coset[i])
+    for i in 0..weights.len() {
+        weights[i] = inverses[i].scale(coset[i]);
+    }
+}
+
+/// Adds the rows from `start` on, before `end`, to sums of each column's first `start` entries,
+/// each times the inverse difference and the coset's point beside it. Overwrites `weights`.
+fn add_block<F: TwoAdicField, EF: ExtensionField<F>>(
+    sums: &mut [EF],
+    weights: &mut [EF],
+    matrix: &RowMajorMatrix<F>,
+    coset: &[F],
+    inverses: &[EF],
+    start: usize,
+    end: usize,
+)
+    requires order { start ≤ end }
+    requires few { end ≤ start + length weights.old }
+    requires width { length sums.old ≡ matrix_width matrix.now }
+    requires rows { end ≤ length (rows matrix.now) }
+    requires coset { end ≤ length coset.now }
+    requires inverses { end ≤ length inverses.now }
+    ensures { (j : ℕ) (d before : EF) → j < length sums.old
+        → slice_index_or sums.old j d ≡ EF.ops.add before (weighted_sum F.ops EF.ops EF.lift start
+        coset.now inverses.now (rows matrix.now) j)
+        → slice_index_or sums.new j d ≡ EF.ops.add before (weighted_sum F.ops EF.ops EF.lift end
+        coset.now inverses.now (rows matrix.now) j) }
+{
+    let weights = &mut weights[..end - start];
+    write_weights(weights, &coset[start..end], &inverses[start..end]);
+    EF::add_weighted_rows(sums, matrix.row_block(start, end), weights);
 }
 
 /// Adds to each column's sum its first `count` entries, each times the inverse difference and the
-/// coset's point beside it.
+/// coset's point beside it. Overwrites `weights`.
 fn add_weighted_rows<F: TwoAdicField, EF: ExtensionField<F>>(
     sums: &mut [EF],
+    weights: &mut [EF],
     matrix: &RowMajorMatrix<F>,
     count: usize,
     coset: &[F],
     inverses: &[EF],
 )
+    requires weights { length weights.old ≡ 128 }
     requires width { length sums.old ≡ matrix_width matrix.now }
     requires rows { count ≤ length (rows matrix.now) }
     requires coset { count ≤ length coset.now }
@@ -102,27 +102,13 @@ fn add_weighted_rows<F: TwoAdicField, EF: ExtensionField<F>>(
         ≡ EF.ops.add (slice_index_or sums.old j d) (weighted_sum F.ops EF.ops EF.lift count
         coset.now inverses.now (rows matrix.now) j) }
 {
-    let blocks = count / 4;
+    let blocks = count / BLOCK;
     for block in 0..blocks {
-        let i = 4 * block;
-        let weights = (
-            row_weight(coset, inverses, i),
-            row_weight(coset, inverses, i + 1),
-            row_weight(coset, inverses, i + 2),
-            row_weight(coset, inverses, i + 3),
-        );
-        add_four_weighted_rows(
-            sums,
-            matrix.row(i),
-            matrix.row(i + 1),
-            matrix.row(i + 2),
-            matrix.row(i + 3),
-            weights,
-        );
+        let start = BLOCK * block;
+        add_block(sums, weights, matrix, coset, inverses, start, start + BLOCK);
     }
-    for i in 4 * blocks..count {
-        add_weighted_row(sums, matrix.row(i), row_weight(coset, inverses, i));
-    }
+    let start = BLOCK * blocks;
+    add_block(sums, weights, matrix, coset, inverses, start, count);
 }
 
 /// `((point / g)^n - 1) / n`, for the coset of the shift `g` and `n = 2^log_size` points.
@@ -165,8 +151,9 @@ pub fn values_at_point<F: TwoAdicField, EF: ExtensionField<F>>(
         return zeros(alloc, matrix.width());
     }
     let count = matrix.height() >> log_blowup;
+    let mut weights = zeros(alloc, BLOCK)?;
     let mut values = zeros(alloc, matrix.width())?;
-    add_weighted_rows(&mut values, matrix, count, coset, inverses);
+    add_weighted_rows(&mut values, &mut weights, matrix, count, coset, inverses);
     scale_all(
         &mut values,
         barycentric_factor::<F, EF>(log_height - log_blowup, point),

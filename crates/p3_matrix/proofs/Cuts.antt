@@ -4,6 +4,7 @@ use Rattle.std.proofs.Common.{arith, take, drop, length-drop}
 use Rattle.std.specs.List.{between}
 use Rattle.std.proofs.lemmas.List.{same_lists, take-take, drop-drop, length-take-le, get_or-take}
 use Rattle.std.proofs.lemmas.List.{get_or-drop}
+use Rattle.std.proofs.lemmas.List.Edits.{length-between}
 use Rattle.std.proofs.lemmas.Slice.{between_is}
 use Rattle.std.proofs.lemmas.Nat.{row_fits, div-add-mod', div-mul-add, mod-mul-add, mul-le}
 use Rattle.p3_matrix.specs.Rows.{rows_of}
@@ -70,3 +71,30 @@ module _ {A : Type 0} (w : ℕ) (some : 0 < w) (xs : List A) (whole : length xs 
       same_part i =
           ap (λ ys. take (i * w + w - i * w) ys) (drop-drop (i * w) (at * w) xs ∙ ap (λ n. drop n xs) (let e : at * w + i * w ≡ (at + i) * w = omega arith in e))
           ∙ ap (λ n. take n (drop ((at + i) * w) xs)) (let e : i * w + w - i * w ≡ (at + i) * w + w - (at + i) * w = omega arith in e)
+
+-- the rows from `first` on, before `end`
+module _ {A : Type 0} (w : ℕ) (some : 0 < w) (xs : List A) (whole : length xs % w ≡ 0) (first end : ℕ)
+    (order : first ≤ end) (within : end ≤ length xs / w) where
+  first_within : first ≤ length xs / w
+  first_within = omega (arith, order, within)
+
+  last_within : end - first ≤ length (drop (first * w) xs) / w
+  last_within = omega (arith, within, rest_height w some xs whole first first_within)
+
+  block_width : end * w - first * w ≡ (end - first) * w
+  block_width = omega (arith, ap (λ n. n * w) (let split : end ≡ first + (end - first) = omega (arith, order) in split))
+
+  pub block_order : first * w ≤ end * w
+  block_order = omega (arith, ap (λ n. n * w) (let split : end ≡ first + (end - first) = omega (arith, order) in split))
+
+  pub block_within : end * w ≤ length xs
+  block_within = cut_within w some xs whole end within
+
+  pub length-block : length (between (first * w) (end * w) xs) ≡ (end - first) * w
+  length-block = length-between xs (first * w) (end * w) block_within ∙ block_width
+
+  pub rows_of-block : rows_of w (between (first * w) (end * w) xs) ≡ between first end (rows_of w xs)
+  rows_of-block =
+      ap (λ n. rows_of w (take n (drop (first * w) xs))) block_width
+      ∙ rows_of-take w some (drop (first * w) xs) (whole_rest w some xs whole first first_within) (end - first) last_within
+      ∙ ap (λ rs. take (end - first) rs) (rows_of-drop w some xs whole first first_within)

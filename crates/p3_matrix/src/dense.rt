@@ -1,8 +1,8 @@
 //! Matrices whose rows lie one after another in one list.
 
-ghost use Rattle.std.specs.Prelude.{◌≡◌, ◌<◌, ◌≤◌, ◌+◌, ◌*◌, ◌/◌, ◌%◌, ◌^◌, ◌↔◌, ⊤, ℕ};
+ghost use Rattle.std.specs.Prelude.{◌≡◌, ◌<◌, ◌≤◌, ◌+◌, ◌-◌, ◌*◌, ◌/◌, ◌%◌, ◌^◌, ◌↔◌, ⊤, ℕ};
 ghost use Rattle.std.specs.Prelude.{IsSome, IfSome, IfOk, [], length, take, drop};
-ghost use Rattle.std.specs.Prelude.{slice_index_or, vec_len};
+ghost use Rattle.std.specs.Prelude.{slice_index_or, slice_range, vec_len};
 ghost use Rattle.std.specs.Int.{IsPowerOfTwo};
 ghost use Rattle.std.specs.List.{SwappedAt};
 ghost use Rattle.p3_field_core.specs.Index.{bit_reversed};
@@ -68,6 +68,17 @@ impl<'a, T: Copy> RowMajorMatrixView<'a, T> {
     {
         let start = index * self.width;
         &self.values[start..start + self.width]
+    }
+
+    /// The entries of the rows from `first` on, before `end`, row after row.
+    pub fn row_block(&self, first: usize, end: usize) -> &'a [T]
+        requires order { first ≤ end }
+        requires within { end ≤ length (view_rows self.now) }
+        ensures rows { rows_of (view_width self.now) result.now
+            ≡ slice_range (view_rows self.now) first end }
+        ensures len { length result.now ≡ (end - first) * view_width self.now }
+    {
+        &self.values[first * self.width..end * self.width]
     }
 
     /// The first `at` rows, and the others.
@@ -172,6 +183,17 @@ impl<T: Copy> RowMajorMatrix<T> {
         ensures width { length result.now ≡ matrix_width self.now }
     {
         self.as_view().row(index)
+    }
+
+    /// The entries of the rows from `first` on, before `end`, row after row.
+    pub fn row_block(&self, first: usize, end: usize) -> &[T]
+        requires order { first ≤ end }
+        requires within { end ≤ length (rows self.now) }
+        ensures rows { rows_of (matrix_width self.now) result.now
+            ≡ slice_range (rows self.now) first end }
+        ensures len { length result.now ≡ (end - first) * matrix_width self.now }
+    {
+        self.as_view().row_block(first, end)
     }
 
     /// The entry at this row and column, or `None` outside the matrix.

@@ -4,10 +4,10 @@ ghost use Rattle.std.specs.Prelude.{◌≡◌, ◌<◌, length, slice_index_or, 
 ghost use Rattle.p3_baby_bear.specs.BabyBear4.{baby_bear4, lift4, coefficients4, of_coefficients4};
 ghost use Rattle.p3_baby_bear.specs.BabyBear4Laws.{lift4_homomorphism, lift4_constant};
 ghost use Rattle.p3_baby_bear.specs.BabyBear4Laws.{coefficients4_length, coefficients4_injective};
-ghost use Rattle.p3_baby_bear.specs.BabyBear4Laws.{of_coefficients4_law};
+ghost use Rattle.p3_baby_bear.specs.BabyBear4Laws.{of_coefficients4_law, coefficients4_basis};
 
 use super::BabyBear4;
-use super::arithmetic::four_products;
+use super::column_sums::add_rows;
 use super::row_sums::dot;
 use crate::baby_bear::constants::ZERO;
 use crate::baby_bear::{BabyBear, BabyBearFactor};
@@ -81,31 +81,14 @@ impl ExtensionField<BabyBear> for BabyBear4 {
         }
     }
 
-    /// Each coefficient is a sum of four products, which is reduced once.
-    fn mixed_dot_product(
-        values: (BabyBear4, BabyBear4, BabyBear4, BabyBear4),
-        factors: (BabyBear, BabyBear, BabyBear, BabyBear),
-    ) -> BabyBear4
-        ensures { result ≡ baby_bear4.add (baby_bear4.add (baby_bear4.add
-            (baby_bear4.mul values.0 (lift4 factors.0)) (baby_bear4.mul values.1 (lift4 factors.1)))
-            (baby_bear4.mul values.2 (lift4 factors.2)))
-            (baby_bear4.mul values.3 (lift4 factors.3)) }
-    {
-        let (a, b, c, d) = values;
-        BabyBear4 {
-            constant: four_products((a.constant, b.constant, c.constant, d.constant), factors),
-            linear: four_products((a.linear, b.linear, c.linear, d.linear), factors),
-            quadratic: four_products(
-                (a.quadratic, b.quadratic, c.quadratic, d.quadratic),
-                factors,
-            ),
-            cubic: four_products((a.cubic, b.cubic, c.cubic, d.cubic), factors),
-        }
-    }
-
     /// By lanes.
     fn dot_row(values: &[BabyBear4], row: &[BabyBear]) -> BabyBear4 {
         dot(values, row)
+    }
+
+    /// By lanes.
+    fn add_weighted_rows(sums: &mut [BabyBear4], rows: &[BabyBear], weights: &[BabyBear4]) {
+        add_rows(sums, rows, weights);
     }
 
     ghost lift_law = { lift4_homomorphism };
@@ -117,4 +100,6 @@ impl ExtensionField<BabyBear> for BabyBear4 {
     ghost coefficients_injective = { coefficients4_injective };
 
     ghost of_coefficients_law = { of_coefficients4_law };
+
+    ghost basis_law = { coefficients4_basis };
 }

@@ -25,7 +25,7 @@ pub(crate) fn product(a: BabyBear8Lanes, b: BabyBear8Lanes) -> u64x8
 }
 
 /// Sums of up to three products, and one product more.
-fn add_product(sums: u64x8, a: BabyBear8Lanes, b: BabyBear8Lanes) -> u64x8
+pub(crate) fn add_product(sums: u64x8, a: BabyBear8Lanes, b: BabyBear8Lanes) -> u64x8
     requires { Each1 (λ n. n ≤ 12159718993900339200) sums }
     ensures value { (l : ℕ) → l < 8 → multiple baby_bear (slice_index_or result l 0)
         ≡ baby_bear.add (multiple baby_bear (slice_index_or sums l 0))

@@ -1,5 +1,6 @@
 use Rattle.std.proofs.Common.{◌<◌, get_or, length, arith, ap, ◌∙◌}
-use Rattle.p3_fri_openings.proofs.Writes.{item, written, unwritten}
+use Rattle.p3_field_core.proofs.TermSums.{item}
+use Rattle.p3_field_core.proofs.ColumnSums.{written, unwritten}
 use Rattle.p3_fri_openings.proofs.values.scale_all.Goals as goal
 
 pub loop-j-preserved : goal.loop-j-preserved
@@ -14,6 +15,6 @@ loop-j-preserved g c =
           ∙ ap (λ a. F.mul c.args.factor a)
           (item c.loop-j.values j c.index-values-j.result d here c.index-values-j.is ∙ c.loop-j.invariant.others j d (omega arith)))
           (λ k l. c.loop-j.invariant.scaled k d l) k l;
-      others = λ k d l. unwritten c.loop-j.values c.args.values.now j c.mul.result d k l
+      others = λ k d l. unwritten c.loop-j.values (get_or c.args.values.now k d) j c.mul.result d k l
           (c.loop-j.invariant.others k d (omega (arith, l)));
     }

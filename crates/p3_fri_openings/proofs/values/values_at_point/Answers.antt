@@ -118,7 +118,7 @@ returns g c =
     c.add_weighted_rows.auto.sums ∙ ap length c.deref_mut.ensures.value in
     let first = given_back c.in_ok-values.values.len c.add_weighted_rows.new.sums items lent long in
     let again : length c.scale_all.new.values ≡ length c.add_weighted_rows.new.sums =
-    c.scale_all.auto.values ∙ ap length (c.deref_mut-2.ensures.value ∙ first) in
+    c.scale_all.auto.values ∙ ap length (c.deref_mut-3.ensures.value ∙ first) in
     let second = given_back c.in_ok-values.values.len c.scale_all.new.values c.add_weighted_rows.new.sums again (long ∙ sym lent) in
     let count : c.height-2.result / 2 ^ b ≡ 2 ^ k = ap (λ m. m / 2 ^ b) (c.height-2.ensures ∙ size) ∙ pow-divided k b in
     ap (λ xs. take c.in_ok-values.values.len (c.scale_all.new.values ++ drop (length c.scale_all.new.values) xs)) first
@@ -128,9 +128,9 @@ returns g c =
     c.args.point off c.args.coset.now c.requires.coset c.args.inverses.now c.requires.inverses
     c.scale_all.new.values (again ∙ lent ∙ wide)
     (λ j d l.
-    c.scale_all.ensures j d (omega (arith, l, wide, lent, ap length (c.deref_mut-2.ensures.value ∙ first)))
+    c.scale_all.ensures j d (omega (arith, l, wide, lent, ap length (c.deref_mut-3.ensures.value ∙ first)))
     ∙ ap₂ (λ a x. g.EF.Field.ops.mul a x) c.barycentric_factor.ensures
-    (ap (λ xs. get_or xs j d) (c.deref_mut-2.ensures.value ∙ first)
+    (ap (λ xs. get_or xs j d) (c.deref_mut-3.ensures.value ∙ first)
     ∙ c.add_weighted_rows.ensures j d (omega (arith, l, wide, ap length c.deref_mut.ensures.value))
     ∙ ap₂ (λ s m. g.EF.Field.ops.add s (weighted_sum g.F.Field.ops g.EF.Field.ops
     g.EF.ExtensionField.lift m c.args.coset.now c.args.inverses.now (rows c.args.matrix.now) j))

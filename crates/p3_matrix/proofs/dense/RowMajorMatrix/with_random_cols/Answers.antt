@@ -1,7 +1,6 @@
-use Rattle.std.proofs.Common.{rules, arith, ◌≡◌, ◌<◌, ◌≤◌, ◌+◌, ◌*◌, ◌++◌, ℕ, length, refl, ap, ◌∙◌}
-use Rattle.std.proofs.lemmas.Grind.{common_steps}
-use Rattle.p3_matrix.specs.Matrix.{rows, matrix_width}
-use Rattle.p3_matrix.proofs.Columns.{IsWidening, row_widened, past_all_rows, random_rows_written, whole_rows}
+use Rattle.std.proofs.Common.{arith, ◌≡◌, ◌*◌, length, ap, ◌∙◌}
+use Rattle.p3_matrix.specs.Matrix.{rows}
+use Rattle.p3_matrix.proofs.Columns.{row_widened, past_all_rows, random_rows_written, whole_rows}
 use Rattle.p3_matrix.proofs.dense.RowMajorMatrix.with_random_cols.Goals as goal
 
 pub loop-index-preserved : goal.loop-index-preserved

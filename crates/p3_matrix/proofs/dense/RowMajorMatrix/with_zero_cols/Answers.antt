@@ -1,5 +1,5 @@
-use Rattle.std.proofs.Common.{arith, ◌≡◌, ◌<◌, ◌≤◌, ◌+◌, ◌*◌, ℕ, length, ap, ◌∙◌}
-use Rattle.p3_matrix.specs.Matrix.{rows, matrix_width}
+use Rattle.std.proofs.Common.{arith, ◌≡◌, ◌*◌, length, ap, ◌∙◌}
+use Rattle.p3_matrix.specs.Matrix.{rows}
 use Rattle.p3_matrix.proofs.Columns.{zero_rows_written, whole_rows}
 use Rattle.p3_matrix.proofs.dense.RowMajorMatrix.with_zero_cols.Goals as goal
 

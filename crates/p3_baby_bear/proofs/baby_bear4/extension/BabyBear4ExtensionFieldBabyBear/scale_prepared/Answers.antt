@@ -1,6 +1,6 @@
 use Rattle.std.proofs.Common.{◌∙◌}
 use Rattle.p3_baby_bear.specs.BabyBear4Laws.{same_coefficients}
-use Rattle.p3_baby_bear.proofs.QuarticSteps.{scaled_is}
+use Rattle.p3_baby_bear.specs.BabyBear4Laws.{scaled_is}
 use Rattle.p3_baby_bear.proofs.baby_bear4.extension.BabyBear4ExtensionFieldBabyBear.scale_prepared.Goals as goal
 
 pub returns : goal.returns

@@ -2,7 +2,7 @@ use Rattle.std.proofs.Common.{◌∙◌}
 use Rattle.p3_baby_bear.specs.Lanes.{lane_of}
 use Rattle.p3_baby_bear.specs.Lanes4.{lane4_of}
 use Rattle.p3_baby_bear.specs.BabyBear4Laws.{same_coefficients}
-use Rattle.p3_baby_bear.proofs.QuarticSteps.{scaled_is}
+use Rattle.p3_baby_bear.specs.BabyBear4Laws.{scaled_is}
 use Rattle.p3_baby_bear.proofs.baby_bear4.lanes.packing.BabyBear4x8LanesPackedExtensionBabyBearBabyBear4BabyBear8Lanes.scale_lanes.Goals as goal
 
 pub returns : goal.returns

@@ -1,7 +1,8 @@
 use Rattle.std.proofs.Common.{◌<◌, get_or, length, arith, ap, ap₂, ◌∙◌}
 use Rattle.algebra.specs.Field.{sub}
-use Rattle.p3_fri_openings.proofs.Writes.{item, written, unwritten}
-use Rattle.p3_fri_batch.proofs.compression.add_quotients.Goals as goal
+use Rattle.p3_field_core.proofs.TermSums.{item}
+use Rattle.p3_field_core.proofs.ColumnSums.{written, unwritten}
+use Rattle.p3_fri_batch.proofs.compression.add_scaled_quotients.Goals as goal
 
 pub loop-i-preserved : goal.loop-i-preserved
 loop-i-preserved g c =
@@ -29,6 +30,6 @@ loop-i-preserved g c =
           c.index-compressed-i.is))
           (item c.args.inverses.now i c.index-inverses-i.result d beside c.index-inverses-i.is))))
           (λ k l. c.loop-i.invariant.added k d l) k l;
-      others = λ k d l. unwritten c.loop-i.word c.args.word.now i c.add.result d k l
+      others = λ k d l. unwritten c.loop-i.word (get_or c.args.word.now k d) i c.add.result d k l
           (c.loop-i.invariant.others k d (omega (arith, l)));
     }

@@ -1,6 +1,6 @@
 use Rattle.std.proofs.Common.{◌≡◌, ◌<◌, ◌≤◌, ℕ, get_or}
 use Rattle.algebra.specs.Field.{sub}
-use Rattle.p3_fri_batch.proofs.compression.add_quotients.Given as goal
+use Rattle.p3_fri_batch.proofs.compression.add_scaled_quotients.Given as goal
 
 abbrev pub invariant-loop-i : goal.invariant-loop-i
 invariant-loop-i g l =

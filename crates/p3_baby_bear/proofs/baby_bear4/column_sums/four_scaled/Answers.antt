@@ -1,8 +1,8 @@
 use Rattle.std.proofs.Common.{ap₂, ◌∙◌}
 use Rattle.p3_baby_bear.specs.BabyBear4.{baby_bear4}
 use Rattle.p3_baby_bear.specs.BabyBear4Laws.{same_coefficients}
-use Rattle.p3_baby_bear.proofs.QuarticSteps.{scaled_is}
-use Rattle.p3_baby_bear.proofs.baby_bear4.extension.BabyBear4ExtensionFieldBabyBear.mixed_dot_product.Goals as goal
+use Rattle.p3_baby_bear.specs.BabyBear4Laws.{scaled_is}
+use Rattle.p3_baby_bear.proofs.baby_bear4.column_sums.four_scaled.Goals as goal
 
 pub returns : goal.returns
 unfolding baby_bear4
