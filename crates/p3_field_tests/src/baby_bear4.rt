@@ -110,6 +110,26 @@ fn calls_of_an_extension(rt: HostRuntime) {
     assert!(rt; coefficients(BabyBear4::GENERATOR) == [8, 1, 0, 0]);
 }
 
+/// The coefficients of the elements of the basis, by index.
+const BASIS: [(&str, [u64; 4]); 4] = [
+    ("1", [1, 0, 0, 0]),
+    ("X", [0, 1, 0, 0]),
+    ("X^2", [0, 0, 1, 0]),
+    ("X^3", [0, 0, 0, 1]),
+];
+
+#[test]
+fn coefficients_of_a_basis(rt: HostRuntime) {
+    let found = [
+        <BabyBear4 as ExtensionField<BabyBear>>::ith_basis_element(0),
+        <BabyBear4 as ExtensionField<BabyBear>>::ith_basis_element(1),
+        <BabyBear4 as ExtensionField<BabyBear>>::ith_basis_element(2),
+        <BabyBear4 as ExtensionField<BabyBear>>::ith_basis_element(3),
+    ];
+    let wrong = first_wrong(&found.map(coefficients), &BASIS);
+    assert!(rt; wrong.is_none(), "{wrong:?}");
+}
+
 /// The encoding, byte by byte, of a type with sixteen of them.
 fn sixteen_bytes<T: ElementBytes>(value: T) -> [u8; 16] {
     let mut bytes = [0; 16];

@@ -54,38 +54,3 @@ fn one_product_with_a_prepared_factor(rt: HostRuntime) {
     let product = BabyBear::from_u64(2013265920).times(factor);
     assert!(rt; product.as_canonical_u64() == 1572701632);
 }
-
-/// Whether four elements' products with four of the base field add up one by one to the same.
-fn dot_products_agree<F: Field, E: ExtensionField<F>>(first: F) -> bool {
-    let mut agree_throughout = true;
-    let (mut a, mut x) = (E::GENERATOR, first);
-    for _ in 0..50 {
-        let (b, c, d) = (a * E::GENERATOR, -a, a + E::ONE);
-        let (y, z, w) = (x * F::GENERATOR, -x, x + F::ONE);
-        let sum = a.scale(x) + b.scale(y) + c.scale(z) + d.scale(w);
-        let dot = E::mixed_dot_product((a, b, c, d), (x, y, z, w));
-        agree_throughout = agree_throughout && dot == sum;
-        a = a * E::GENERATOR + E::TWO;
-        x = x * F::GENERATOR + F::TWO;
-    }
-    agree_throughout
-}
-
-/// The first of the factors from which on the sums differ, in the field or its extension.
-fn first_wrong_dot_product() -> Option<u64> {
-    for n in FACTORS {
-        let first = BabyBear::from_u64(n);
-        let right = dot_products_agree::<BabyBear, BabyBear>(first)
-            && dot_products_agree::<BabyBear, BabyBear4>(first);
-        if !right {
-            return Some(n);
-        }
-    }
-    None
-}
-
-#[test]
-fn dot_products_with_the_base_field(rt: HostRuntime) {
-    let wrong = first_wrong_dot_product();
-    assert!(rt; wrong.is_none(), "from {wrong:?}");
-}
