@@ -1,5 +1,5 @@
-//! Sums of a row's entries, and of columns' entries, each times an element of the extension, against
-//! sums one by one.
+//! Sums of a row's entries, and of columns' entries, each times an element of the extension,
+//! against sums one by one.
 
 use p3_field::{BabyBear, BabyBear4, ExtensionField, Field, shifted_powers};
 use std::alloc::{AllocError, Global};
