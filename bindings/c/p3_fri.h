@@ -2,7 +2,8 @@
  *
  * Bytes go in and bytes come out, in the flat form of docs/FORMATS.md: a number is four bytes, the
  * lowest first, and a digest 32. An element of BabyBear is its canonical number, below 2013265921;
- * one of the extension is its four coefficients, that of one first.
+ * one of the extension is its four coefficients, that of one first. A list is the number of its
+ * entries, and these. A proof is of this form too: a statement's last part, to its end.
  *
  * Each function reads `request`, and writes its answer, or the text of why it has none, to the front
  * of `answer`. `*needed` then is how many bytes that takes; there is no byte 0 after them, and bytes
@@ -17,11 +18,12 @@
  * that can be read in one way alone. It draws challenges and points after these bytes by
  * `p3_fri_challenge`, and opens with them as the context. A verifier makes these bytes by itself.
  *
- * The caller owns all memory that is passed; no pointer is kept once a call returns. No pointer is
- * null, also where its length is 0, and the three don't overlap. Memory inside a call comes from
- * malloc, and is given back before it returns. No call stops the program. Calls share nothing, so
- * threads may call at once; a signal handler, or the child of a fork in a program with threads, may
- * not call. How long a call takes follows from the request, which docs/USE.md describes.
+ * The caller owns all memory that is passed; no pointer is kept once a call returns. A pointer whose
+ * length is 0 may be null; `needed` is never null, and the three don't overlap. Memory inside a call
+ * comes from malloc, and is given back before it returns. No call stops the program. Calls share
+ * nothing, so threads may call at once; a signal handler, or the child of a fork in a program with
+ * threads, may not call. How long a call takes follows from the request, which docs/USE.md
+ * describes.
  */
 #ifndef P3_FRI_H
 #define P3_FRI_H

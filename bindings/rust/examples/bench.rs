@@ -48,6 +48,6 @@ fn main() -> Result<(), Error> {
     println!("commit {commit_time:.1} ms");
     println!("open {open_time:.1} ms, which commits first");
     println!("verify {verify_time:.1} ms, of which reading the proof takes {read_time:.1} ms");
-    println!("proof {} bytes", opening.proof.as_json().len());
+    println!("proof {} bytes", opening.proof.as_bytes().len());
     Ok(())
 }

@@ -119,12 +119,10 @@ names! {
         Points,
         /// A number isn't below the order.
         Element,
-        /// An element of the extension isn't four numbers.
-        ExtensionElement,
-        /// A digest of the proof isn't 32 bytes.
-        Digest,
-        /// The proof isn't JSON, or not of a plain proof.
-        Json,
+        /// The proof's bytes end too early, or a count in them is of more than there are.
+        BytesMissing,
+        /// Bytes follow a whole proof.
+        BytesLeft,
         /// A list or the context is too long for its length to be a number of 32 bits.
         NoForm,
     }

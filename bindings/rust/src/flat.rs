@@ -110,7 +110,7 @@ impl Writer {
                 self.matrix_claims(of_matrix)?;
             }
         }
-        self.bytes.extend_from_slice(proof.as_json());
+        self.bytes.extend_from_slice(proof.as_bytes());
         Ok(())
     }
 }
@@ -172,6 +172,6 @@ impl Reader<'_> {
             self.number()?;
         }
         let claims = self.counted(Self::commitment_claims)?;
-        Some(Opening { claims, proof: Proof::from_json(self.left), next_challenge })
+        Some(Opening { claims, proof: Proof::from_bytes(self.left), next_challenge })
     }
 }

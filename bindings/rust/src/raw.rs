@@ -114,11 +114,17 @@ impl Call {
 #[cfg(test)]
 mod tests {
     use super::{Call, Error, ANSWERED, BUFFER_TOO_SHORT, MALFORMED};
+    use std::ops::Range;
+    use std::ptr;
 
     const CONTEXT: [u8; 3] = [0, 0xff, b'x'];
 
     /// Parameters with one commitment, one matrix and one point: the column 1, 3 opened at 5.
     const NUMBERS: [u32; 19] = [1, 0, 1, 2, 0, 0, 0, 1, 1, 1, 1, 1, 1, 1, 3, 5, 0, 0, 0];
+
+    /// Where the proof begins in its statement: after the context, eight numbers, a digest and
+    /// thirteen numbers.
+    const PROOF: usize = 7 + 8 * 4 + 32 + 13 * 4;
 
     fn request(num_queries: u32) -> Vec<u8> {
         let mut numbers = NUMBERS;
@@ -174,15 +180,43 @@ mod tests {
     fn no_statement_with_another_bit_before_its_proof_is_accepted() {
         let statement = statement(40);
         assert!(Call::Verify.answer(&statement, 5000).is_ok());
-        let proof = statement.iter().position(|byte| *byte == b'{').unwrap();
-        // the context, eight numbers, a digest, thirteen numbers
-        assert_eq!(proof, 7 + 8 * 4 + 32 + 13 * 4);
-        for place in 0..proof {
-            for bit in 0..8 {
-                let mut changed = statement.clone();
-                changed[place] ^= 1 << bit;
-                assert!(Call::Verify.answer(&changed, 5000).is_err(), "{place} {bit}");
-            }
+        assert_eq!(first_accepted(&statement, 0..PROOF), None);
+    }
+
+    /// All of a proof is tested too: its numbers and digests are read by some query, witnesses of no
+    /// work are 0, and a form says one thing only.
+    #[test]
+    fn no_proof_with_another_bit_is_accepted() {
+        let statement = statement(2);
+        assert!(Call::Verify.answer(&statement, 5000).is_ok());
+        assert_eq!(first_accepted(&statement, PROOF..statement.len()), None);
+    }
+
+    /// The first of these places with a bit that may be turned in the statement.
+    fn first_accepted(statement: &[u8], mut places: Range<usize>) -> Option<usize> {
+        places.find(|place| {
+            (0..8).any(|bit| {
+                let mut changed = statement.to_vec();
+                changed[*place] ^= 1 << bit;
+                Call::Verify.answer(&changed, 5000).is_ok()
+            })
+        })
+    }
+
+    #[test]
+    fn pointers_to_no_bytes_may_be_null() {
+        let expected = Call::Challenge.answer(&[], 16).unwrap();
+        let mut answer = [0; 16];
+        let mut needed = 0;
+        let call = Call::Challenge.raw();
+        // SAFETY: as above, but that pointers to no bytes are null, which the library allows
+        let status = unsafe { call(ptr::null(), 0, answer.as_mut_ptr(), 16, &mut needed) };
+        assert_eq!((status, needed, &answer[..]), (ANSWERED, 16, &expected[..]));
+        let text = "BytesMissing { at: 0 }: fewer bytes are left than have to come";
+        for call in [Call::Commit, Call::Open, Call::Verify] {
+            // SAFETY: as before
+            let status = unsafe { call.raw()(ptr::null(), 0, ptr::null_mut(), 0, &mut needed) };
+            assert_eq!((status, needed), (BUFFER_TOO_SHORT, text.len()));
         }
     }
 

@@ -8,17 +8,17 @@ pub(crate) const ROOM_FOR_TEXT: usize = 1024;
 /// The most that is set aside before it is known to be needed.
 const MOST: usize = 1 << 26;
 
-/// An element in JSON: ten digits and a comma.
-const ELEMENT: usize = 11;
+/// An element.
+const ELEMENT: usize = 4;
 
-/// An element of the extension in JSON.
-const EXTENSION_ELEMENT: usize = 4 * ELEMENT + 3;
+/// An element of the extension.
+const EXTENSION_ELEMENT: usize = 4 * ELEMENT;
 
-/// A digest in JSON: 32 numbers of three digits, each with a comma.
-const DIGEST: usize = 32 * 4 + 3;
+/// A digest.
+const DIGEST: usize = 32;
 
-/// What a list takes beside its entries, with the names that stand around it.
-const LIST: usize = 64;
+/// What a list takes beside its entries.
+const LIST: usize = 4;
 
 /// The claims on one commitment, and what one query opens of it.
 fn room_for_commitment(log_blowup: usize, queries: usize, matrices: &[Matrix]) -> usize {
@@ -54,4 +54,41 @@ pub(crate) fn room_for_answer(
         room += room_for_commitment(log_blowup, queries, matrices);
     }
     room.min(MOST) + context.len()
+}
+
+#[cfg(test)]
+mod tests {
+    use super::room_for_answer;
+    use crate::flat::Writer;
+    use crate::raw::Call;
+    use crate::types::{Domain, Matrix, Parameters};
+
+    /// Two commitments, to a matrix on a coset of this size, and to two smaller ones.
+    fn commitments(log_size: u32) -> Vec<Vec<Matrix>> {
+        let matrix = |log_size: u32, width: u32| Matrix {
+            domain: Domain { shift: 3, log_size },
+            width,
+            values: (0..width << log_size).collect(),
+            points: vec![[5, 0, 0, 0], [7, 1, 0, 2]],
+        };
+        vec![vec![matrix(log_size, 3)], vec![matrix(log_size - 1, 1), matrix(log_size - 1, 7)]]
+    }
+
+    #[test]
+    fn an_answer_has_room() {
+        let toy = Parameters::toy();
+        for parameters in [
+            toy,
+            Parameters { num_queries: 30, ..toy },
+            Parameters { max_log_arity: 3, num_queries: 5, ..toy },
+            Parameters { log_blowup: 3, log_final_poly_len: 2, num_queries: 20, ..toy },
+        ] {
+            let (context, commitments) = ([7; 100], commitments(6));
+            let mut writer = Writer::default();
+            writer.request(&parameters, &context, &commitments).unwrap();
+            let room = room_for_answer(&parameters, &context, &commitments);
+            let answer = Call::Open.answer(&writer.bytes, 0).unwrap();
+            assert!(answer.len() <= room, "{} in {room}", answer.len());
+        }
+    }
 }

@@ -122,7 +122,9 @@ pub fn open(
 /// # Errors
 ///
 /// [`Error::Refused`] where the claims aren't accepted, by a refusal that stands of them;
-/// [`Error::Malformed`] where a number is no element or the proof is no plain proof in JSON;
+/// [`Error::Malformed`] where a number is no element or the bytes of the proof are none's: of
+/// [`Fault::BytesMissing`] and [`Fault::BytesLeft`] the text says where, counted from the beginning
+/// of the statement, whose context, parameters and claims stand before the proof;
 /// [`Error::OutOfMemory`], which says nothing of the claims.
 ///
 /// ```

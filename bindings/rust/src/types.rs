@@ -148,28 +148,45 @@ pub struct CommitmentClaims {
     pub matrices: Vec<MatrixClaims>,
 }
 
-/// A proof of claims: its plain form in JSON, which docs/FORMATS.md describes.
+/// A proof of claims: bytes in the flat form, which docs/FORMATS.md describes.
 ///
 /// ```
-/// use p3_fri_proved::Proof;
+/// use p3_fri_proved::{open, verify, Domain, Matrix, Parameters, Proof};
 ///
-/// let proof = Proof::from_json("{}");
-/// assert_eq!(proof.as_json(), b"{}");
+/// let parameters = Parameters { num_queries: 40, ..Parameters::toy() };
+/// let column = Matrix {
+///     domain: Domain::subgroup(1),
+///     width: 1,
+///     values: vec![1, 3],
+///     points: vec![[5, 0, 0, 0]],
+/// };
+/// let opening = open(&parameters, b"here", &[vec![column]])?;
+/// let sent: Vec<u8> = opening.proof.into_bytes();
+///
+/// let proof = Proof::from_bytes(sent);
+/// verify(&parameters, b"here", &opening.claims, &proof)?;
+/// # Ok::<(), p3_fri_proved::Error>(())
 /// ```
 #[derive(Clone, Debug, PartialEq, Eq, Hash)]
 pub struct Proof {
-    json: Vec<u8>,
+    bytes: Vec<u8>,
 }
 
 impl Proof {
-    /// The proof with this text. Whether it is a proof's is tested where it is verified.
-    pub fn from_json(json: impl Into<Vec<u8>>) -> Proof {
-        Proof { json: json.into() }
+    /// The proof with these bytes. Any may be passed: [`verify`](crate::verify) tests whether they
+    /// are a proof's, and refuses others by name.
+    pub fn from_bytes(bytes: impl Into<Vec<u8>>) -> Proof {
+        Proof { bytes: bytes.into() }
     }
 
-    /// Its text.
-    pub fn as_json(&self) -> &[u8] {
-        &self.json
+    /// Its bytes.
+    pub fn as_bytes(&self) -> &[u8] {
+        &self.bytes
+    }
+
+    /// Its bytes, without a copy.
+    pub fn into_bytes(self) -> Vec<u8> {
+        self.bytes
     }
 }
 

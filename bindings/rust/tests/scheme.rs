@@ -4,6 +4,7 @@
 use p3_fri_proved::{
     commit, open, verify, Digest, Domain, Error, Fault, Matrix, Opening, Parameters, Proof, Refusal,
 };
+use std::ops::Range;
 
 const PARAMETERS: Parameters = Parameters { num_queries: 2, ..Parameters::toy() };
 
@@ -120,46 +121,56 @@ fn altered_claims_are_refused_by_name() {
     assert_eq!(named(refused), (Some(Refusal::NoCommittedMatrices), None));
 }
 
-/// The first value that a proof opens, as it is written.
-fn opened_value(text: &str) -> &str {
-    let (_, values) = text.split_once("\"opened_values\":[[[").unwrap();
-    values.split_once(']').unwrap().0
+/// Where parts of the proof of the column stand: one round with its witness, one commitment of which
+/// two queries open a value each, one coefficient, the last witness.
+const COMMIT_POW_WITNESSES: Range<usize> = 40..48;
+const INPUT_OPENINGS: Range<usize> = 48..52;
+const OPENED_VALUE: Range<usize> = 64..68;
+const FINAL_POLYNOMIAL: Range<usize> = 344..364;
+const QUERY_POW_WITNESS: Range<usize> = 364..368;
+
+/// The proof with these numbers in place of a part of it.
+fn with_part(proof: &Proof, part: Range<usize>, numbers: &[u32]) -> Proof {
+    let mut bytes = proof.as_bytes().to_vec();
+    bytes.splice(part, numbers.iter().flat_map(|number| number.to_le_bytes()));
+    Proof::from_bytes(bytes)
 }
 
-/// The text with another first opened value.
-fn with_opened_value(text: &str, value: u32) -> String {
-    let old = format!("\"opened_values\":[[[{}]]", opened_value(text));
-    assert_eq!(text.matches(&old).count(), 1);
-    text.replacen(&old, &format!("\"opened_values\":[[[{value}]]"), 1)
+/// As `flat_form.py` of tools/relation prints it.
+#[test]
+fn the_columns_proof_has_known_bytes() {
+    let expected = "\
+        000000000100000052d101b35620570de417d01f2b6f8efb7af41ad8970036c020fe03a6d7b4f67b01000000\
+        0000000001000000020000000100000001000000e4ffff770100000001000000210000000200000002000000\
+        1e3144d4e28e34c9213c887875dcb9f5456c1c5880b09c07c9840425f4b3e84c44ec42dfa91c93be09ed1459\
+        08a1879880aea4fa90a99b5d9b2f0ca1559e4854020000008916ac0f8d6a8afaa013eaf72da912063d36d804\
+        36a5a1f0deee5a3c2264612d44ec42dfa91c93be09ed145908a1879880aea4fa90a99b5d9b2f0ca1559e4854\
+        0100000002000000010000000000007800000000000000000000000001000000000000780000000000000000\
+        000000000200000001000000b72888178bbc22fc623b506384339cf5ac64b87658241520290542b156fb8734\
+        01000000b72888178bbc22fc623b506384339cf5ac64b87658241520290542b156fb87340100000000000078\
+        00000000000000000000000000000000";
+    let proof = opened().proof;
+    let hex: String = proof.as_bytes().iter().map(|byte| format!("{byte:02x}")).collect();
+    assert_eq!(hex, expected);
+    assert_eq!(Proof::from_bytes(proof.as_bytes()), proof);
+    assert_eq!(Proof::from_bytes(proof.clone().into_bytes()), proof);
 }
 
 #[test]
 fn altered_proofs_are_refused_by_name() {
     let opening = opened();
-    let text = std::str::from_utf8(opening.proof.as_json()).unwrap();
+    let value = opening.proof.as_bytes()[OPENED_VALUE].try_into().map(u32::from_le_bytes).unwrap();
     let cases = [
-        (
-            "\"final_poly\":[[2013265920,0,0,0]]",
-            "\"final_poly\":[]",
-            Refusal::FinalPolyLengthMismatch,
-        ),
-        ("\"query_pow_witness\":0", "\"query_pow_witness\":1", Refusal::NonCanonicalPowWitness),
-        (
-            "\"commit_pow_witnesses\":[0]",
-            "\"commit_pow_witnesses\":[]",
-            Refusal::CommitPowWitnessCountMismatch,
-        ),
+        (FINAL_POLYNOMIAL, vec![0], Refusal::FinalPolyLengthMismatch),
+        (QUERY_POW_WITNESS, vec![1], Refusal::NonCanonicalPowWitness),
+        (COMMIT_POW_WITNESSES, vec![0], Refusal::CommitPowWitnessCountMismatch),
+        (OPENED_VALUE, vec![value - 1], Refusal::InputError),
     ];
-    for (old, new, refusal) in cases {
-        assert_eq!(text.matches(old).count(), 1, "{old}");
-        let proof = Proof::from_json(text.replacen(old, new, 1));
+    for (part, numbers, refusal) in cases {
+        let proof = with_part(&opening.proof, part, &numbers);
         let refused = verify(&PARAMETERS, &[], &opening.claims, &proof);
-        assert_eq!(named(refused), (Some(refusal), None), "{new}");
+        assert_eq!(named(refused), (Some(refusal), None), "{numbers:?}");
     }
-    let value = opened_value(text).parse::<u32>().unwrap();
-    let proof = Proof::from_json(with_opened_value(text, value - 1));
-    let refused = verify(&PARAMETERS, &[], &opening.claims, &proof);
-    assert_eq!(named(refused), (Some(Refusal::InputError), None));
 }
 
 /// Makes a request not well formed.
@@ -192,12 +203,19 @@ fn malformed_requests_are_refused_by_name() {
 #[test]
 fn malformed_proofs_are_refused_by_name() {
     let opening = opened();
-    let text = std::str::from_utf8(opening.proof.as_json()).unwrap();
-    let large = with_opened_value(text, 2013265921);
-    let cases = [("", Fault::Json), ("{}", Fault::Json), (&large, Fault::Element)];
-    for (json, fault) in cases {
-        let refused = verify(&PARAMETERS, &[], &opening.claims, &Proof::from_json(json));
-        assert_eq!(named(refused), (None, Some(fault)), "{json}");
+    let proof = &opening.proof;
+    let cases = [
+        (Proof::from_bytes([]), Fault::BytesMissing),
+        (Proof::from_bytes(*b"{}"), Fault::BytesMissing),
+        (with_part(proof, 367..368, &[]), Fault::BytesMissing),
+        (with_part(proof, INPUT_OPENINGS, &[u32::MAX]), Fault::BytesMissing),
+        (with_part(proof, 368..368, &[0]), Fault::BytesLeft),
+        (with_part(proof, FINAL_POLYNOMIAL, &[0, 0]), Fault::BytesLeft),
+        (with_part(proof, OPENED_VALUE, &[2013265921]), Fault::Element),
+    ];
+    for (index, (proof, fault)) in cases.iter().enumerate() {
+        let refused = verify(&PARAMETERS, &[], &opening.claims, proof);
+        assert_eq!(named(refused), (None, Some(*fault)), "case {index}");
     }
 }
 

@@ -156,13 +156,12 @@ fn an_opening_of_constants_fits_all_contexts() {
 }
 
 /// The witness of the proof of work before the first challenge.
-fn first_witness(parameters: &Parameters, context: &[u8], matrix: Matrix) -> String {
+fn first_witness(parameters: &Parameters, context: &[u8], matrix: Matrix) -> u32 {
     let opening = open(parameters, context, &[vec![matrix]]).unwrap();
     let of_point = &opening.claims[0].matrices[0].points[0];
     assert_eq!(of_point.values, [[2013265918, 0, 0, 0]]);
-    let text = std::str::from_utf8(opening.proof.as_json()).unwrap();
-    let (_, witness) = text.split_once("\"batch_pow_witness\":").unwrap();
-    witness.split_once(',').unwrap().0.to_string()
+    let witness = opening.proof.as_bytes().first_chunk().unwrap();
+    u32::from_le_bytes(*witness)
 }
 
 /// Openings with the same value, -3. What is searched for before anything is drawn depends on all

@@ -1,3 +1,4 @@
 pub mod Digests
 pub mod Parts
+pub mod ProofNumbers
 pub mod Sizes

@@ -1,4 +1,4 @@
--- The flat form of numbers, of lists and of the records of the plain scheme.
+-- The flat form of numbers, of lists, and of the records of the plain scheme and of its proofs.
 use Rattle.std.specs.Prelude.{ℕ, List, [], ◌∷◌, ◌++◌, ◌≡◌, ◌*◌, ◌/◌, ◌%◌, ◌^◌, length}
 use Rattle.std.specs.Prelude.{string_bytes, vec_len}
 use Rattle.std.specs.List.{All, flat_map}
@@ -14,6 +14,10 @@ use Rattle.fri_requests.specs.declared.records.Request.{Request}
 use Rattle.fri_requests.specs.declared.records.PointClaims.{PointClaims}
 use Rattle.fri_requests.specs.declared.records.MatrixClaims.{MatrixClaims}
 use Rattle.fri_requests.specs.declared.records.BatchClaims.{BatchClaims}
+use Rattle.p3_fri_plain.specs.declared.forms.PlainBatch.{PlainBatch}
+use Rattle.p3_fri_plain.specs.declared.forms.PlainStep.{PlainStep}
+use Rattle.p3_fri_plain.specs.declared.forms.PlainFriProof.{PlainFriProof}
+use Rattle.fri_flat.specs.declared.statement.Statement.{Statement}
 
 -- a number in four bytes, the lowest first; one past them has a last byte that is none
 abbrev pub word : ℕ → List ℕ
@@ -23,13 +27,27 @@ word n = n % 256 ∷ n / 256 % 256 ∷ n / 65536 % 256 ∷ n / 16777216 ∷ []
 abbrev pub words : List ℕ → List ℕ
 words numbers = flat_map word numbers
 
--- lists of numbers one after another, without their lengths
-abbrev pub elements : {A : Type 0} → List (Vec ℕ A) → List ℕ
-elements lists = flat_map (λ list. words list.items) lists
+-- how many entries there are, and then the form of each
+abbrev pub list : {A B : Type 0} → (A → List ℕ) → Vec A B → List ℕ
+list form entries = word (vec_len entries) ++ flat_map form entries.items
 
--- how many there are, and then the form of each
-abbrev pub counted : {A : Type 0} → (A → List ℕ) → List A → List ℕ
-counted form entries = word (length entries) ++ flat_map form entries
+-- an element of the extension, its numbers without their count
+abbrev pub element : {A : Type 0} → Vec ℕ A → List ℕ
+element numbers = words numbers.items
+
+abbrev pub IsElement : {A : Type 0} → Vec ℕ A → Type 0
+IsElement numbers = vec_len numbers ≡ 4
+
+-- elements one after another
+abbrev pub elements : {A : Type 0} → List (Vec ℕ A) → List ℕ
+elements lists = flat_map element lists
+
+-- a digest, its bytes without their count
+abbrev pub digest_bytes : {A : Type 0} → Vec ℕ A → List ℕ
+digest_bytes bytes = bytes.items
+
+abbrev pub IsDigest : {A : Type 0} → Vec ℕ A → Type 0
+IsDigest bytes = vec_len bytes ≡ 32
 
 -- the 32 bytes that a hex text says
 abbrev pub digest : {A : Type 0} → String A → List ℕ
@@ -38,10 +56,6 @@ digest text = result_unwrap_or (decode_sized (string_bytes text) 32) []
 -- how many bytes a hex text says, and then these
 abbrev pub context : (text : List ℕ) → List ℕ
 context text = word (length (context_listed text)) ++ context_listed text
-
--- a list of numbers that stands for an element of the extension
-abbrev pub IsElement : {A : Type 0} → Vec ℕ A → Type 0
-IsElement list = vec_len list ≡ 4
 
 abbrev pub parameters : Parameters → List ℕ
 parameters p = words (
@@ -58,21 +72,21 @@ pub record IsMatrix (m : Matrix) : Type 0 where
   pub points : All IsElement m.points.items
 
 abbrev pub batch : Batch → List ℕ
-batch b = counted matrix b.matrices.items
+batch b = list matrix b.matrices
 
 abbrev pub IsBatch : Batch → Type 0
 IsBatch b = All IsMatrix b.matrices.items
 
 abbrev pub request : Request → List ℕ
 request r = context (string_bytes r.context) ++ parameters r.parameters
-    ++ counted batch r.commitments.items
+    ++ list batch r.commitments
 
 pub record IsRequest (r : Request) : Type 0 where
   pub context : IsContext (string_bytes r.context)
   pub commitments : All IsBatch r.commitments.items
 
 abbrev pub point_claims : PointClaims → List ℕ
-point_claims c = words c.point.items ++ word (vec_len c.values) ++ elements c.values.items
+point_claims c = element c.point ++ list element c.values
 
 pub record IsPointClaims (c : PointClaims) : Type 0 where
   pub point : IsElement c.point
@@ -80,23 +94,57 @@ pub record IsPointClaims (c : PointClaims) : Type 0 where
 
 abbrev pub matrix_claims : MatrixClaims → List ℕ
 matrix_claims c = words (c.domain.shift ∷ c.domain.log_size ∷ [])
-    ++ counted point_claims c.points.items
+    ++ list point_claims c.points
 
 abbrev pub IsMatrixClaims : MatrixClaims → Type 0
 IsMatrixClaims c = All IsPointClaims c.points.items
 
 abbrev pub batch_claims : BatchClaims → List ℕ
-batch_claims c = digest c.commitment ++ counted matrix_claims c.matrices.items
+batch_claims c = digest c.commitment ++ list matrix_claims c.matrices
 
 abbrev pub IsBatchClaims : BatchClaims → Type 0
 IsBatchClaims c = All IsMatrixClaims c.matrices.items
 
--- what is verified, of a context as a hex text; the proof is a text that goes to the end
-abbrev pub statement : (text : List ℕ) → Parameters → List BatchClaims → List ℕ → List ℕ
-statement text p claims proof =
-    context text ++ parameters p ++ counted batch_claims claims ++ proof
+-- what is opened of one commitment: for each query the rows, and for each the path's digests
+abbrev pub batch_opening : PlainBatch → List ℕ
+batch_opening b = list (list (list word)) b.opened_values ++ list (list digest_bytes) b.paths
+
+-- for each query the digests of its path
+abbrev pub ArePaths : {A B C : Type 0} → Vec (Vec (Vec ℕ A) B) C → Type 0
+ArePaths paths = All (λ path. All IsDigest path.items) paths.items
+
+abbrev pub IsBatchOpening : PlainBatch → Type 0
+IsBatchOpening b = ArePaths b.paths
+
+-- what one round opens: for each query the siblings, and for each the path's digests
+abbrev pub round_opening : PlainStep → List ℕ
+round_opening s = list (list element) s.sibling_values ++ list (list digest_bytes) s.paths
+
+pub record IsRoundOpening (s : PlainStep) : Type 0 where
+  pub siblings : All (λ row. All IsElement row.items) s.sibling_values.items
+  pub paths : ArePaths s.paths
+
+abbrev pub proof : PlainFriProof → List ℕ
+proof p = word p.batch_pow_witness ++ list digest_bytes p.commit_phase_commits
+    ++ list word p.commit_pow_witnesses ++ list batch_opening p.input_openings
+    ++ list round_opening p.commit_phase_openings ++ list element p.final_poly
+    ++ word p.query_pow_witness
+
+pub record IsProof (p : PlainFriProof) : Type 0 where
+  pub commitments : All IsDigest p.commit_phase_commits.items
+  pub inputs : All IsBatchOpening p.input_openings.items
+  pub rounds : All IsRoundOpening p.commit_phase_openings.items
+  pub final_poly : All IsElement p.final_poly.items
+
+abbrev pub statement : Statement → List ℕ
+statement s = context (string_bytes s.context) ++ parameters s.parameters
+    ++ list batch_claims s.claims ++ proof s.proof
+
+pub record IsStatement (s : Statement) : Type 0 where
+  pub context : IsContext (string_bytes s.context)
+  pub claims : All IsBatchClaims s.claims.items
+  pub proof : IsProof s.proof
 
 -- what `open` answers
-abbrev pub answer : List ℕ → (text : List ℕ) → Parameters → List BatchClaims → List ℕ → List ℕ
-answer next_challenge text p claims proof =
-    words next_challenge ++ statement text p claims proof
+abbrev pub answer : (next_challenge : List ℕ) → Statement → List ℕ
+answer next_challenge s = words next_challenge ++ statement s

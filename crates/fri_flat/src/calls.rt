@@ -1,21 +1,22 @@
 //! The calls over bytes.
 
-ghost use Rattle.std.specs.Prelude.{◌≡◌, length, IfOk, string_bytes};
+ghost use Rattle.std.specs.Prelude.{◌≡◌, length, IfOk};
 ghost use Rattle.fri_flat.specs.Answers.{AnswersRequest, AnswersStatement, CommitsRequest};
-ghost use Rattle.fri_flat.specs.Answers.{HasAcceptedProof, drawn_after};
+ghost use Rattle.fri_flat.specs.Answers.{IsAcceptedStatement, drawn_after};
 
 use crate::failure::Failure;
-use crate::forms::{Statement, answer_of, digests_of, request_of, statement_of};
+use crate::forms::{answer_of, digests_of, value_of};
+use crate::statement::Statement;
 use crate::writer::push_element;
-use fri_requests::VerifyError;
-use p3_fri_plain::{PlainFriProof, from_plain, to_plain};
+use fri_requests::{Request, VerifyError};
+use p3_fri_plain::{from_plain, to_plain};
 use std::alloc::Global;
 
 /// The commitments of the request in these bytes, 32 bytes each.
 pub fn commit(alloc: Global, bytes: &[u8]) -> Result<Vec<u8>, Failure>
     ensures { IfOk result (λ v. CommitsRequest bytes.now v.items) }
 {
-    let request = request_of(alloc, bytes)?;
+    let request = value_of::<Request>(alloc, bytes)?;
     let commitments = match fri_requests::commit(alloc, &request) {
         Ok(commitments) => commitments,
         Err(error) => return Err(Failure::Request(error)),
@@ -30,37 +31,29 @@ pub fn commit(alloc: Global, bytes: &[u8]) -> Result<Vec<u8>, Failure>
 pub fn open(alloc: Global, bytes: &[u8]) -> Result<Vec<u8>, Failure>
     ensures { IfOk result (λ v. AnswersRequest bytes.now v.items) }
 {
-    let request = request_of(alloc, bytes)?;
+    let request = value_of::<Request>(alloc, bytes)?;
     let opening = match fri_requests::open(alloc, &request) {
         Ok(opening) => opening,
         Err(error) => return Err(Failure::Request(error)),
     };
-    let form = to_plain(alloc, &opening.proof)?;
-    let proof = serde_json::to_vec(alloc, &form)?;
-    let answer = answer_of(
-        alloc,
-        &request,
-        &opening.next_challenge,
-        &opening.claims,
-        &proof,
-    )?;
+    let statement = Statement {
+        context: request.context,
+        parameters: request.parameters,
+        claims: opening.claims,
+        proof: to_plain(alloc, &opening.proof)?,
+    };
+    let answer = answer_of(alloc, &opening.next_challenge, &statement)?;
     Ok(answer)
 }
 
-/// Verifies a statement whose proof has this plain form.
-fn verify_form(
-    alloc: Global,
-    statement: &Statement<'_>,
-    form: PlainFriProof,
-) -> Result<Vec<u64>, VerifyError>
-    ensures { IfOk result (λ next. HasAcceptedProof (string_bytes statement.now.context)
-        statement.now.parameters statement.now.claims.items next.items) }
+/// Verifies a statement.
+fn verify_statement(alloc: Global, statement: Statement) -> Result<Vec<u64>, VerifyError>
+    ensures { IfOk result (λ next. IsAcceptedStatement statement next.items) }
 {
-    let proof = from_plain(alloc, form)?;
-    let context = statement.context.as_str();
+    let proof = from_plain(alloc, statement.proof)?;
     fri_requests::verify(
         alloc,
-        context,
+        &statement.context,
         &statement.parameters,
         &statement.claims,
         &proof,
@@ -73,9 +66,8 @@ pub fn verify(alloc: Global, bytes: &[u8]) -> Result<Vec<u8>, Failure>
     ensures statement { IfOk result (λ v. AnswersStatement bytes.now v.items) }
     ensures numbers { IfOk result (λ v. length v.items ≡ 16) }
 {
-    let statement = statement_of(alloc, bytes)?;
-    let form: PlainFriProof = serde_json::from_slice(alloc, statement.proof)?;
-    let next_challenge = match verify_form(alloc, &statement, form) {
+    let statement = value_of::<Statement>(alloc, bytes)?;
+    let next_challenge = match verify_statement(alloc, statement) {
         Ok(next_challenge) => next_challenge,
         Err(error) => return Err(Failure::Statement(error)),
     };

@@ -31,8 +31,6 @@ pub enum Failure {
     /// extension that isn't four numbers, or a commitment that isn't the hex text of 32 bytes. No
     /// answer of `fri_requests` has any of these.
     NoForm,
-    /// The proof isn't JSON, or not of a plain proof.
-    Json(serde_json::Error),
     /// The request isn't opened.
     Request(RequestError),
     /// The statement isn't accepted.
@@ -81,7 +79,6 @@ impl fmt::Display for Failure {
                 write!(f, "BytesLeft {{ at: {at} }}: bytes follow what is whole")
             },
             Failure::NoForm => f.write_str("NoForm: the answer has no flat form"),
-            Failure::Json(error) => write!(f, "Json: {error}"),
             Failure::Request(error) => write!(f, "{error}"),
             Failure::Statement(error) => write!(f, "{error}"),
             Failure::OutOfMemory => f.write_str("OutOfMemory: out of memory"),
@@ -108,15 +105,6 @@ impl From<WriteError> for Failure {
         match error {
             WriteError::NoForm => Failure::NoForm,
             WriteError::OutOfMemory => Failure::OutOfMemory,
-        }
-    }
-}
-
-impl From<serde_json::Error> for Failure {
-    fn from(error: serde_json::Error) -> Failure {
-        match error.classify() {
-            serde_json::Category::Memory => Failure::OutOfMemory,
-            _ => Failure::Json(error),
         }
     }
 }

@@ -1,6 +1,6 @@
 //! The plain scheme over bytes that a caller without a JSON reader can write and read: requests,
 //! answers and statements in the flat form, in which a number is four bytes, a digest 32, and a
-//! context as many as its count says. Only a proof is JSON.
+//! list or a context as long as its count says.
 //!
 //! What is accepted is accepted under the context that a statement names, with its parameters,
 //! commitments, domains, widths and points: a challenger absorbs all of them first. `challenge`
@@ -15,8 +15,11 @@ mod failure;
 mod fault;
 mod flat;
 mod forms;
+mod numbers;
+mod proof;
 mod reader;
 mod records;
+mod statement;
 mod writer;
 
 pub use crate::calls::{challenge, commit, open, verify};

@@ -1,6 +1,6 @@
 //! Numbers and digests at the front of bytes. Memory is asked for only as far as bytes are there.
 
-ghost use Rattle.std.specs.Prelude.{◌≡◌, ◌<◌, ◌++◌, IfOk, Ok, OnErr, length, vec_len};
+ghost use Rattle.std.specs.Prelude.{◌≡◌, ◌<◌, ◌≤◌, ◌*◌, ◌++◌, IfOk, Ok, OnErr, length, vec_len};
 ghost use Rattle.std.specs.Prelude.{string_bytes};
 ghost use Rattle.std.specs.List.{All};
 ghost use Rattle.hex.specs.Hex.{decode_of};
@@ -56,6 +56,32 @@ impl<'a> Reader<'a> {
         }
     }
 
+    /// Reads the number of a list's entries, each of which takes four bytes or more.
+    pub fn count(&mut self) -> Result<usize, ReadError>
+        ensures form { IfOk result (λ n. self.old.left.now ≡ word n ++ self.new.left.now) }
+        ensures room { IfOk result (λ n. 4 * n ≤ length self.new.left.now) }
+    {
+        let count = self.word()? as usize;
+        if self.left.len() / 4 < count {
+            return Err(self.missing());
+        }
+        Ok(count)
+    }
+
+    /// Reads so many bytes.
+    pub fn bytes(&mut self, count: usize) -> Result<&'a [u8], ReadError>
+        ensures form { IfOk result (λ bytes. self.old.left.now ≡ bytes.now ++ self.new.left.now) }
+        ensures count { IfOk result (λ bytes. length bytes.now ≡ count) }
+        ensures missing { OnErr result (length self.old.left.now < count) }
+    {
+        if self.left.len() < count {
+            return Err(self.missing());
+        }
+        let (bytes, rest) = self.left.split_at(count);
+        self.left = rest;
+        Ok(bytes)
+    }
+
     /// Reads so many numbers.
     pub fn words(&mut self, alloc: Global, count: usize) -> Result<Vec<u64>, ReadError>
         ensures form { IfOk result (λ v. self.old.left.now ≡ words v.items ++ self.new.left.now) }
@@ -92,13 +118,8 @@ impl<'a> Reader<'a> {
     pub fn digest(&mut self, alloc: Global) -> Result<String, ReadError>
         ensures { IfOk result (λ text. self.old.left.now ≡ digest text ++ self.new.left.now) }
     {
-        if self.left.len() < 32 {
-            return Err(self.missing());
-        }
-        let (digest, rest) = self.left.split_at(32);
-        let text = hex_of(alloc, digest)?;
-        self.left = rest;
-        Ok(text)
+        let digest = self.bytes(32)?;
+        Ok(hex_of(alloc, digest)?)
     }
 
     /// Reads a context, as hex text: the number of its bytes, then these.
@@ -108,12 +129,7 @@ impl<'a> Reader<'a> {
         ensures whole { IfOk result (λ text. IsContext (string_bytes text)) }
     {
         let count = self.word()? as usize;
-        if self.left.len() < count {
-            return Err(self.missing());
-        }
-        let (context, rest) = self.left.split_at(count);
-        let text = context_of(alloc, context)?;
-        self.left = rest;
-        Ok(text)
+        let context = self.bytes(count)?;
+        Ok(context_of(alloc, context)?)
     }
 }

@@ -19,6 +19,8 @@ use fri_requests::{
 use std::alloc::Global;
 
 impl Flat for Parameters {
+    type Value = Parameters;
+
     ghost form = { parameters };
 
     ghost IsWhole = { λ _. Unit {0} };
@@ -35,15 +37,15 @@ impl Flat for Parameters {
         })
     }
 
-    fn write(&self, out: &mut Vec<u8>) -> Result<(), WriteError> {
+    fn write(parameters: &Parameters, out: &mut Vec<u8>) -> Result<(), WriteError> {
         let sizes = [
-            self.log_blowup,
-            self.log_final_poly_len,
-            self.max_log_arity,
-            self.num_queries,
-            self.batch_proof_of_work_bits,
-            self.commit_proof_of_work_bits,
-            self.query_proof_of_work_bits,
+            parameters.log_blowup,
+            parameters.log_final_poly_len,
+            parameters.max_log_arity,
+            parameters.num_queries,
+            parameters.batch_proof_of_work_bits,
+            parameters.commit_proof_of_work_bits,
+            parameters.query_proof_of_work_bits,
         ];
         push_counts(out, &sizes)
     }
@@ -64,6 +66,8 @@ fn value_count(width: usize, log_size: usize) -> Option<usize>
 
 /// The shift, the size, the width and the number of points, then values and points.
 impl Flat for Matrix {
+    type Value = Matrix;
+
     ghost form = { matrix };
 
     ghost IsWhole = { IsMatrix };
@@ -84,37 +88,41 @@ impl Flat for Matrix {
         })
     }
 
-    fn write(&self, out: &mut Vec<u8>) -> Result<(), WriteError> {
+    fn write(matrix: &Matrix, out: &mut Vec<u8>) -> Result<(), WriteError> {
         let sizes = [
-            self.domain.shift,
-            self.domain.log_size as u64,
-            self.width as u64,
-            self.points.len() as u64,
+            matrix.domain.shift,
+            matrix.domain.log_size as u64,
+            matrix.width as u64,
+            matrix.points.len() as u64,
         ];
         push_numbers(out, &sizes)?;
-        push_numbers(out, &self.values)?;
-        push_elements(out, &self.points)?;
+        push_numbers(out, &matrix.values)?;
+        push_elements(out, &matrix.points)?;
         Ok(())
     }
 }
 
 impl Flat for Batch {
+    type Value = Batch;
+
     ghost form = { batch };
 
     ghost IsWhole = { IsBatch };
 
     fn read(alloc: Global, reader: &mut Reader<'_>) -> Result<Batch, ReadError> {
         Ok(Batch {
-            matrices: Flat::read(alloc, reader)?,
+            matrices: Vec::<Matrix>::read(alloc, reader)?,
         })
     }
 
-    fn write(&self, out: &mut Vec<u8>) -> Result<(), WriteError> {
-        self.matrices.write(out)
+    fn write(batch: &Batch, out: &mut Vec<u8>) -> Result<(), WriteError> {
+        Vec::<Matrix>::write(&batch.matrices, out)
     }
 }
 
 impl Flat for Request {
+    type Value = Request;
+
     ghost form = { request };
 
     ghost IsWhole = { IsRequest };
@@ -122,19 +130,21 @@ impl Flat for Request {
     fn read(alloc: Global, reader: &mut Reader<'_>) -> Result<Request, ReadError> {
         Ok(Request {
             context: reader.context(alloc)?,
-            parameters: Flat::read(alloc, reader)?,
-            commitments: Flat::read(alloc, reader)?,
+            parameters: Parameters::read(alloc, reader)?,
+            commitments: Vec::<Batch>::read(alloc, reader)?,
         })
     }
 
-    fn write(&self, out: &mut Vec<u8>) -> Result<(), WriteError> {
-        push_context(out, &self.context)?;
-        self.parameters.write(out)?;
-        self.commitments.write(out)
+    fn write(request: &Request, out: &mut Vec<u8>) -> Result<(), WriteError> {
+        push_context(out, &request.context)?;
+        Parameters::write(&request.parameters, out)?;
+        Vec::<Batch>::write(&request.commitments, out)
     }
 }
 
 impl Flat for PointClaims {
+    type Value = PointClaims;
+
     ghost form = { point_claims };
 
     ghost IsWhole = { IsPointClaims };
@@ -148,14 +158,16 @@ impl Flat for PointClaims {
         })
     }
 
-    fn write(&self, out: &mut Vec<u8>) -> Result<(), WriteError> {
-        push_element(out, &self.point)?;
-        push_count(out, self.values.len())?;
-        push_elements(out, &self.values)
+    fn write(claims: &PointClaims, out: &mut Vec<u8>) -> Result<(), WriteError> {
+        push_element(out, &claims.point)?;
+        push_count(out, claims.values.len())?;
+        push_elements(out, &claims.values)
     }
 }
 
 impl Flat for MatrixClaims {
+    type Value = MatrixClaims;
+
     ghost form = { matrix_claims };
 
     ghost IsWhole = { IsMatrixClaims };
@@ -165,18 +177,20 @@ impl Flat for MatrixClaims {
         let log_size = reader.word()? as usize;
         Ok(MatrixClaims {
             domain: Domain { shift, log_size },
-            points: Flat::read(alloc, reader)?,
+            points: Vec::<PointClaims>::read(alloc, reader)?,
         })
     }
 
-    fn write(&self, out: &mut Vec<u8>) -> Result<(), WriteError> {
-        push_number(out, self.domain.shift)?;
-        push_count(out, self.domain.log_size)?;
-        self.points.write(out)
+    fn write(claims: &MatrixClaims, out: &mut Vec<u8>) -> Result<(), WriteError> {
+        push_number(out, claims.domain.shift)?;
+        push_count(out, claims.domain.log_size)?;
+        Vec::<PointClaims>::write(&claims.points, out)
     }
 }
 
 impl Flat for BatchClaims {
+    type Value = BatchClaims;
+
     ghost form = { batch_claims };
 
     ghost IsWhole = { IsBatchClaims };
@@ -184,12 +198,12 @@ impl Flat for BatchClaims {
     fn read(alloc: Global, reader: &mut Reader<'_>) -> Result<BatchClaims, ReadError> {
         Ok(BatchClaims {
             commitment: reader.digest(alloc)?,
-            matrices: Flat::read(alloc, reader)?,
+            matrices: Vec::<MatrixClaims>::read(alloc, reader)?,
         })
     }
 
-    fn write(&self, out: &mut Vec<u8>) -> Result<(), WriteError> {
-        push_digest(out, &self.commitment)?;
-        self.matrices.write(out)
+    fn write(claims: &BatchClaims, out: &mut Vec<u8>) -> Result<(), WriteError> {
+        push_digest(out, &claims.commitment)?;
+        Vec::<MatrixClaims>::write(&claims.matrices, out)
     }
 }

@@ -3,6 +3,7 @@
 ghost use Rattle.std.specs.Prelude.{◌≡◌, ◌++◌, OnOk, string_bytes};
 ghost use Rattle.std.specs.List.{All};
 ghost use Rattle.fri_flat.specs.Flat.{word, words, elements, digest, context, IsElement};
+ghost use Rattle.fri_flat.specs.Flat.{digest_bytes, IsDigest};
 
 use crate::fault::WriteError;
 use hex::{FromHex, FromHexError};
@@ -74,6 +75,17 @@ pub(crate) fn push_elements(out: &mut Vec<u8>, list: &[Vec<u64>]) -> Result<(), 
         push_element(out, element)?;
     }
     Ok(())
+}
+
+/// Adds a digest.
+pub(crate) fn push_digest_bytes(out: &mut Vec<u8>, digest: &Vec<u8>) -> Result<(), WriteError>
+    ensures form { OnOk result (out.new.items ≡ out.old.items ++ digest_bytes digest.now) }
+    ensures length { OnOk result (IsDigest digest.now) }
+{
+    if digest.len() != 32 {
+        return Err(WriteError::NoForm);
+    }
+    Ok(out.extend_from_slice(digest)?)
 }
 
 /// Adds the 32 bytes that a hex text says.

@@ -7,3 +7,5 @@ mod answered;
 mod forms;
 #[cfg(test)]
 mod refused;
+#[cfg(test)]
+mod statements;

@@ -2,6 +2,7 @@
 
 use crate::forms::{EMPTY, OPENED, REQUEST, bytes_of, claims_of, statement_of};
 use fri_flat::{Failure, MALFORMED, REFUSED};
+use hex::FromHexError;
 use std::alloc::{AllocError, Global};
 use std::test::Fail;
 
@@ -61,7 +62,7 @@ const CASES: [Case; 10] = [
         number: 8,
         value: 4294967295,
         length: 80,
-        text: "BytesMissing { at: 80 }: fewer bytes are left than have to come",
+        text: "BytesMissing { at: 36 }: fewer bytes are left than have to come",
     },
     Case {
         number: 11,
@@ -97,7 +98,7 @@ fn changed(alloc: Global, case: &Case) -> Result<Vec<u8>, AllocError> {
 }
 
 /// Whether the failure has this status and text.
-fn says(alloc: Global, failure: &Failure, status: u8, text: &str) -> Result<bool, AllocError> {
+pub fn says(alloc: Global, failure: &Failure, status: u8, text: &str) -> Result<bool, AllocError> {
     let said = format!(in alloc; "{failure}")?;
     Ok(failure.status() == status && said.as_str() == text)
 }
@@ -134,7 +135,7 @@ fn an_altered_value_is_refused(rt: HostRuntime) -> Result<(), Fail> {
 }
 
 /// Whether the proof of the context at this index is refused under each other.
-fn is_bound(alloc: Global, proven: usize, proof: &str) -> Result<bool, AllocError> {
+fn is_bound(alloc: Global, proven: usize, proof: &str) -> Result<bool, FromHexError> {
     for (index, opened) in OPENED.iter().enumerate() {
         let statement = statement_of(alloc, opened.context, proof)?;
         match fri_flat::verify(alloc, &statement) {
@@ -154,11 +155,13 @@ fn another_context_is_refused(rt: HostRuntime) -> Result<(), Fail> {
     Ok(())
 }
 
+/// The statement without its proof.
 #[test]
 fn a_cut_proof_is_refused(rt: HostRuntime) -> Result<(), Fail> {
     let statement = claims_of(rt.alloc(), EMPTY.context)?;
+    let text = "BytesMissing { at: 120 }: fewer bytes are left than have to come";
     let refused = match fri_flat::verify(rt.alloc(), &statement) {
-        Err(failure) => matches!(&failure, Failure::Json(_)) && failure.status() == MALFORMED,
+        Err(failure) => says(rt.alloc(), &failure, MALFORMED, text)?,
         Ok(_) => false,
     };
     assert!(rt; refused);

@@ -1,17 +1,14 @@
 use Rattle.std.proofs.Common.{◌≡◌, ℕ, List, ◌++◌, length, ap, ◌∙◌, arith}
-use Rattle.std.specs.Prelude.{string_bytes}
 use Rattle.fri_flat.specs.Flat.{words}
 use Rattle.fri_flat.proofs.Sizes.{length-after_words}
 use Rattle.fri_flat.proofs.calls.verify.Goals as goal
 
 pub returns-clause-statement : goal.returns-clause-statement
 returns-clause-statement c = record {
-  context = string_bytes c.in_ok-statement.statement.context;
-  stated = c.in_ok-statement.statement.parameters;
-  claims = c.in_ok-statement.statement.claims.items;
+  stated = c.in_ok-statement.statement;
   next_challenge = c.in-Ok.next_challenge.items;
-  text = c.in_ok-statement.statement.proof.now;
   is_stated = c.in_ok-statement.ensures.form;
+  is_whole = c.in_ok-statement.ensures.whole;
   accepted = c.in-Ok.ensures;
   is_answer = c.in_ok-push_element.ensures.form
       ∙ ap (λ (x : List ℕ). x ++ words c.in-Ok.next_challenge.items) c.new-out.ensures.items;

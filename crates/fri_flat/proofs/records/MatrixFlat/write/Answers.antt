@@ -6,7 +6,7 @@ use Rattle.fri_flat.proofs.records.MatrixFlat.write.Goals as goal
 
 pub returns : goal.returns
 returns c =
-    let m = c.args.self.now in
+    let m = c.args.matrix.now in
     let out = c.args.out.now.items in
     let sizes = λ (points : ℕ).
     words (m.domain.shift ∷ m.domain.log_size ∷ m.width ∷ points ∷ []) in

@@ -1,0 +1,32 @@
+-- The numbers of the proof that the scheme makes and takes.
+use Rattle.std.proofs.Common.{◌≡◌}
+use Rattle.std.specs.Global.{Global}
+use Rattle.std.specs.declared.vec.Vec.{Vec}
+use Rattle.algebra.specs.Nested.{lists, nested}
+use Rattle.algebra.proofs.Lists.{map-map}
+use Rattle.p3_baby_bear.specs.declared.baby_bear.BabyBear.{BabyBear}
+use Rattle.p3_baby_bear.specs.declared.baby_bear4.BabyBear4.{BabyBear4}
+use Rattle.p3_fri_relation.specs.declared.proof.BatchMultiOpening.{BatchMultiOpening}
+use Rattle.p3_fri_relation.specs.declared.proof.FriProof.{FriProof}
+use Rattle.p3_fri_relation.specs.Views.{proof_of, round_opened}
+use Rattle.p3_fri_plain.specs.Numbers.{Digest, proof_numbers}
+use Rattle.p3_fri_plain.specs.Views.{proof_seen}
+use Rattle.fri_flat.specs.Answers.{VectorPaths, numbers_of, input_shown, round_shown}
+
+-- those of its lists are those that its plain form lists
+pub numbers-proof_of : {M Data Err InM InCom InData InErr X : Type 0}
+    (p : FriProof BabyBear4 M BabyBear
+      (Vec (BatchMultiOpening BabyBear InM InCom InData VectorPaths InErr) X)
+      Digest Data VectorPaths Err)
+    → numbers_of (proof_of p) ≡ proof_numbers (proof_seen p)
+numbers-proof_of p = λ i. proof_numbers (record {
+  batch_witness = p.batch_pow_witness;
+  commitments = p.commit_phase_commits.items;
+  commit_witnesses = p.commit_pow_witnesses.items;
+  inputs = map-map input_shown
+      (λ o. record { rows = nested o.opened_values.items; path = o.opening_proof })
+      p.input_openings.items i;
+  rounds = map-map round_shown round_opened p.commit_phase_openings.items i;
+  final_poly = p.final_poly.items;
+  query_witness = p.query_pow_witness;
+})
