@@ -107,7 +107,7 @@ class Scheme(unittest.TestCase):
         cases = [
             (fri.Refused, "PointInEvaluationDomain", TWO_QUERIES, dataclasses.replace(COLUMN, points=[(31, 0, 0, 0)])),
             (fri.Malformed, "Points", TWO_QUERIES, dataclasses.replace(COLUMN, points=[])),
-            (fri.Malformed, "Values", TWO_QUERIES, dataclasses.replace(COLUMN, values=[1, fri.ORDER])),
+            (fri.Malformed, "Element", TWO_QUERIES, dataclasses.replace(COLUMN, values=[1, fri.ORDER])),
             (fri.Malformed, "Values", TWO_QUERIES, dataclasses.replace(COLUMN, values=[1])),
             (fri.Malformed, "Values", TWO_QUERIES, dataclasses.replace(COLUMN, domain=fri.Domain.subgroup(1 << 31))),
             (fri.Malformed, "NoForm", TWO_QUERIES, dataclasses.replace(COLUMN, values=[1, -1])),
