@@ -16,8 +16,8 @@ use Rattle.fri_flat.specs.Answers.{VectorPaths, numbers_of, input_shown, round_s
 -- those of its lists are those that its plain form lists
 pub numbers-proof_of : {M Data Err InM InCom InData InErr X : Type 0}
     (p : FriProof BabyBear4 M BabyBear
-      (Vec (BatchMultiOpening BabyBear InM InCom InData VectorPaths InErr) X)
-      Digest Data VectorPaths Err)
+    (Vec (BatchMultiOpening BabyBear InM InCom InData VectorPaths InErr) X)
+    Digest Data VectorPaths Err)
     → numbers_of (proof_of p) ≡ proof_numbers (proof_seen p)
 numbers-proof_of p = λ i. proof_numbers (record {
   batch_witness = p.batch_pow_witness;
