@@ -1,9 +1,10 @@
 //! The headline of every scheme.
 
-ghost use Rattle.std.specs.Prelude.{◌≡◌, List, map, IfOk, IfErr};
+ghost use Rattle.std.specs.Prelude.{◌≡◌, ⊤, None, map, IsOk, IfOk, IfErr, MatchResult};
 ghost use Rattle.p3_pcs.specs.Claims.{opened_values};
-ghost use Rattle.p3_pcs.specs.Requests.{request, AreOpenable, AreHonest, FitDomains};
-ghost use Rattle.p3_pcs.specs.Requests.{honest_values, honest_claims};
+ghost use Rattle.p3_pcs.specs.Requests.{request, with_data};
+ghost use Rattle.p3_pcs.specs.Scheme.{CanBeOpened, AreHonestIn, values_asked, FitRequests};
+ghost use Rattle.p3_pcs.specs.Scheme.{claims_asked};
 ghost use Rattle.p3_pcs.specs.Headline.{MatchOpenAndVerifyError};
 
 use crate::claims::{KnownCommitment, claims_of};
@@ -51,28 +52,42 @@ pub fn open_and_verify<EF: Copy, C: Clone, P: Pcs<EF, C>>(
     challenger: &mut C,
 ) -> Result<Verified<EF, P::Proof, C>, OpenAndVerifyError<P::ProverError, P::Error>>
     requires copies { (x y : C) → C.is_clone x y → y ≡ x }
-    requires prover { P.InProverRange scheme.now }
-    requires verifier { P.InVerifierRange scheme.now }
-    requires shape { AreOpenable (P.CanOpen scheme.now) (P.committed_polynomials scheme.now)
+    requires prover { (P.rules scheme.now).InProverRange }
+    requires verifier { (P.rules scheme.now).InVerifierRange }
+    requires shape { CanBeOpened (P.rules scheme.now) (map request requests.old) }
+    requires honest { AreHonestIn (P.rules scheme.now) (map request requests.old) }
+    requires commitments { let r = P.rules scheme.now in map (λ k. k.commitment) known.now
+        ≡ map (λ o. r.commitment_of o.prover_data.now) requests.old }
+    requires domains { FitRequests (P.rules scheme.now) (map (λ k. k.domains.items) known.now)
         (map request requests.old) }
-    requires honest { AreHonest (P.IsHonest scheme.now) (map request requests.old) }
-    requires commitments { map (λ k. k.commitment) known.now
-        ≡ map (λ r. P.commitment_of r.prover_data.now) requests.old }
-    requires domains { FitDomains (P.committed_polynomials scheme.now) P.domain_size
-        (map (λ k. k.domains.items) known.now) (map request requests.old) }
     ensures values { IfOk result (λ verified. opened_values verified.values.items
-        ≡ map (honest_values (P.committed_polynomials scheme.now)) (map request requests.old)) }
-    ensures accepted { let claims = honest_claims (P.committed_polynomials scheme.now)
-        P.commitment_of (map (λ k. k.domains.items) known.now) (map request requests.old) in
-        IfOk result (λ verified. P.Accepts scheme.now challenger.old claims verified.proof) }
-    ensures prover_state { let claims = honest_claims (P.committed_polynomials scheme.now)
-        P.commitment_of (map (λ k. k.domains.items) known.now) (map request requests.old) in
-        IfOk result (λ verified. challenger.new
-        ≡ P.last_state scheme.now challenger.old claims verified.proof) }
+        ≡ values_asked (P.rules scheme.now) (map request requests.old)) }
+    ensures accepted { let r = P.rules scheme.now in
+        let claims = claims_asked r (map (λ k. k.domains.items) known.now)
+        (map request requests.old) in
+        IfOk result (λ verified. r.Accepts None challenger.old claims verified.proof) }
+    ensures prover_state { let r = P.rules scheme.now in
+        let claims = claims_asked r (map (λ k. k.domains.items) known.now)
+        (map request requests.old) in
+        IfOk result (λ verified.
+        challenger.new ≡ r.last_state None challenger.old claims verified.proof) }
     ensures verifier_state { IfOk result (λ verified. verified.challenger ≡ challenger.new) }
-    ensures refused { IfErr result (MatchOpenAndVerifyError
-        (P.Refuses scheme.now challenger.old (map request requests.old))
-        (λ e. e ≡ P.out_of_memory)) }
+    ensures checked { IsOk result
+        → (P.rules scheme.now).PassesChecks None (map request requests.old) }
+    ensures opened { let r = P.rules scheme.now in
+        let left = map (with_data r.after_opening) requests.old in
+        MatchResult result (λ _. requests.new ≡ left) (MatchOpenAndVerifyError
+        (λ _. r.PassesChecks None (map request requests.old) → requests.new ≡ left)
+        (λ _. requests.new ≡ left)) }
+    ensures unopened { ¬ (P.rules scheme.now).PassesChecks None (map request requests.old)
+        → requests.new ≡ requests.old }
+    ensures refused { let r = P.rules scheme.now in IfErr result (MatchOpenAndVerifyError
+        (r.Refuses None challenger.old (map request requests.old))
+        (λ e. e ≡ r.out_of_memory)) }
+    ensures unmoved { IfErr result (MatchOpenAndVerifyError
+        (λ e. (P.rules scheme.now).LeavesState e → challenger.new ≡ challenger.old) (λ _. ⊤)) }
+    ensures untouched { IfErr result (MatchOpenAndVerifyError
+        (λ e. (P.rules scheme.now).LeavesState e → requests.new ≡ requests.old) (λ _. ⊤)) }
 {
     let mut verifier = match challenger.clone() {
         Ok(copy) => copy,

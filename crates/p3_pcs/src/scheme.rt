@@ -1,13 +1,11 @@
 //! The trait of schemes.
 
-ghost use Rattle.std.specs.Prelude.{◌≡◌, ◌≢◌, ◌↔◌, ◌⊎◌, ℕ, List, map, length, All};
-ghost use Rattle.std.specs.Prelude.{IsOk, IfOk, IfErr, Err};
+ghost use Rattle.std.specs.Prelude.{◌≡◌, ◌≢◌, ◌↔◌, List, None, map, IsOk, IfOk, IfErr, Err};
 ghost use Rattle.std.specs.List.{AllZip};
-ghost use Rattle.p3_matrix.specs.declared.dense.RowMajorMatrix.{RowMajorMatrix};
-ghost use Rattle.p3_pcs.specs.Claims.{Claim, claim, opened_values};
-ghost use Rattle.p3_pcs.specs.Requests.{Held, HasColumns, Request, request, with_data};
-ghost use Rattle.p3_pcs.specs.Requests.{AreOpenable, AreHonest};
-ghost use Rattle.p3_pcs.specs.Requests.{honest_values, honest_claims, FitDomains};
+ghost use Rattle.p3_pcs.specs.Claims.{claim, opened_values};
+ghost use Rattle.p3_pcs.specs.Requests.{request, with_data};
+ghost use Rattle.p3_pcs.specs.Scheme.{Scheme, IsLawful, AreKept, CanBeOpened, AreHonestIn};
+ghost use Rattle.p3_pcs.specs.Scheme.{values_asked, FitRequests, claims_asked};
 
 use crate::requests::OpeningRequest;
 use p3_matrix::RowMajorMatrix;
@@ -49,76 +47,17 @@ pub trait Pcs<EF: Copy, C> {
     /// Why the proving side refuses.
     type ProverError: Drop;
 
-    /// How many points a domain has.
-    ghost domain_size: { Self.Domain → ℕ };
-
-    /// There is a domain of that many points.
-    ghost HasDomain: { Self → ℕ → Type 0 };
-
-    /// The commitment to a datum.
-    ghost commitment_of: { Self.ProverData → Self.Commitment };
-
-    /// What a datum is a commitment to, matrix by matrix.
-    ghost committed_polynomials: { Self → Self.ProverData → List (Held EF) };
-
-    /// A datum may be opened.
-    ghost CanOpen: { Self → Self.ProverData → Type 0 };
-
-    /// A datum holds what was committed to: its words are of low degree.
-    ghost IsHonest: { Self → Self.ProverData → Type 0 };
-
-    /// What an opening leaves of a datum.
-    ghost after_opening: { Self.ProverData → Self.ProverData };
+    /// What the scheme opens, accepts and refuses.
+    ghost rules: { Self → Scheme EF C Self.Val Self.Domain Self.Commitment Self.ProverData
+        Self.Proof Self.Error Self.ProverError };
 
     /// What is known of data under the old scheme is known under the new one.
     ghost Keeps: { Self → Self → Type 0 };
 
-    /// Matrices on these domains may be committed to.
-    ghost CanCommit: { Self → List (Self.Domain × RowMajorMatrix Self.Val) → Type 0 };
-
-    /// The committed polynomials of a matrix are those of its columns on the domain.
-    ghost Extends: { Self → Held EF → Self.Domain × RowMajorMatrix Self.Val → Type 0 };
-
-    /// A commitment to these matrices may be refused for this reason.
-    ghost CommitRefuses: { Self → List (Self.Domain × RowMajorMatrix Self.Val)
-        → Self.ProverError → Type 0 };
-
-    /// The parameters for which the scheme opens.
-    ghost InProverRange: { Self → Type 0 };
-
-    /// The parameters for which the scheme verifies.
-    ghost InVerifierRange: { Self → Type 0 };
-
-    /// What is asked of requests before a challenger is touched holds.
-    ghost PassesChecks: { Self → List (Request Self.ProverData EF) → Type 0 };
-
-    /// An opening that begins in this state may be refused for this reason.
-    ghost Refuses: { Self → C → List (Request Self.ProverData EF) → Self.ProverError → Type 0 };
-
-    /// The refusals of an opening that leave the challenger as it was.
-    ghost LeavesState: { Self.ProverError → Type 0 };
-
-    /// The relation that is verified: the claims hold, by the proof, from this state.
-    ghost Accepts: { Self → C → List (Claim EF Self.Commitment Self.Domain) → Self.Proof
-        → Type 0 };
-
-    /// The state in which a proof of claims ends that begins in this one.
-    ghost last_state: { Self → C → List (Claim EF Self.Commitment Self.Domain) → Self.Proof → C };
-
-    /// A refusal names a fault that the claims or the proof have.
-    ghost IsTrueRefusal: { Self → List (Claim EF Self.Commitment Self.Domain) → Self.Proof → C
-        → Self.Error → Type 0 };
-
-    /// The refusals of a verifier that leave the challenger as it was.
-    ghost LeavesVerifier: { Self.Error → Type 0 };
-
-    /// A verifier's want of memory, which says nothing of the relation.
-    ghost out_of_memory: { Self.Error };
-
     /// The domain of `degree` points on which a trace of that height is committed to.
     fn natural_domain_for_degree(&self, degree: usize) -> Self::Domain
-        requires degree { HasDomain self.now degree }
-        ensures size { domain_size result ≡ degree };
+        requires degree { (rules self.now).HasDomain degree }
+        ensures size { (rules self.now).domain_size result ≡ degree };
 
     /// Commits to a batch of matrices, each of the values of its columns on the domain beside it.
     /// What was known of data before is known afterwards.
@@ -127,17 +66,15 @@ pub trait Pcs<EF: Copy, C> {
         alloc: Global,
         evaluations: Vec<(Self::Domain, RowMajorMatrix<Self::Val>)>,
     ) -> Result<(Self::Commitment, Self::ProverData), Self::ProverError>
-        requires { CanCommit self.old evaluations.items }
-        ensures range { InProverRange self.old → InProverRange self.new }
-        ensures verifier_range { InVerifierRange self.old → InVerifierRange self.new }
+        requires { (rules self.old).CanCommit evaluations.items }
         ensures kept { Keeps self.old self.new }
-        ensures commitment { IfOk result (λ pair. commitment_of pair.1 ≡ pair.0) }
-        ensures openable { IfOk result (λ pair. CanOpen self.new pair.1) }
-        ensures honest { IfOk result (λ pair. IsHonest self.new pair.1) }
-        ensures extends { IfOk result (λ pair.
-            AllZip (Extends self.new) (committed_polynomials self.new pair.1)
-            evaluations.items) }
-        ensures refused { IfErr result (CommitRefuses self.old evaluations.items) };
+        ensures commitment { let r = rules self.new in
+            IfOk result (λ pair. r.commitment_of pair.1 ≡ pair.0) }
+        ensures openable { let r = rules self.new in IfOk result (λ pair. r.CanOpen pair.1) }
+        ensures honest { let r = rules self.new in IfOk result (λ pair. r.IsHonest pair.1) }
+        ensures extends { let r = rules self.new in IfOk result (λ pair.
+            AllZip r.Extends (r.committed_polynomials pair.1) evaluations.items) }
+        ensures refused { IfErr result ((rules self.old).CommitRefuses evaluations.items) };
 
     /// The values of the committed polynomials at the points that are asked for, and a proof of
     /// them. Each datum has one list of points for each of its matrices, and some datum a matrix.
@@ -150,36 +87,32 @@ pub trait Pcs<EF: Copy, C> {
         requests: &mut [OpeningRequest<'_, Self::ProverData, EF>],
         challenger: &mut C,
     ) -> Result<(OpenedValues<EF>, Self::Proof), Self::ProverError>
-        requires range { InProverRange self.now }
-        requires shape { AreOpenable (CanOpen self.now) (committed_polynomials self.now)
-            (map request requests.old) }
-        ensures values { AreHonest (IsHonest self.now) (map request requests.old)
-            → IfOk result (λ opening. opened_values opening.0.items
-            ≡ map (honest_values (committed_polynomials self.now)) (map request requests.old)) }
-        ensures accepted { AreHonest (IsHonest self.now) (map request requests.old)
-            → IfOk result (λ opening. (domains : List (List Self.Domain))
-            → FitDomains (committed_polynomials self.now) domain_size domains
-            (map request requests.old)
-            → Accepts self.now challenger.old
-            (honest_claims (committed_polynomials self.now) commitment_of domains
-            (map request requests.old))
-            opening.1) }
-        ensures state { AreHonest (IsHonest self.now) (map request requests.old)
-            → IfOk result (λ opening. (domains : List (List Self.Domain))
-            → FitDomains (committed_polynomials self.now) domain_size domains
-            (map request requests.old)
-            → challenger.new ≡ last_state self.now challenger.old
-            (honest_claims (committed_polynomials self.now) commitment_of domains
-            (map request requests.old))
-            opening.1) }
-        ensures checked { IsOk result → PassesChecks self.now (map request requests.old) }
-        ensures opened { PassesChecks self.now (map request requests.old)
-            → requests.new ≡ map (with_data after_opening) requests.old }
-        ensures unopened { ¬ PassesChecks self.now (map request requests.old)
+        requires range { (rules self.now).InProverRange }
+        requires shape { CanBeOpened (rules self.now) (map request requests.old) }
+        ensures values { let r = rules self.now in let asked = map request requests.old in
+            AreHonestIn r asked
+            → IfOk result (λ opening. opened_values opening.0.items ≡ values_asked r asked) }
+        ensures accepted { let r = rules self.now in let asked = map request requests.old in
+            AreHonestIn r asked → IfOk result (λ opening. (domains : List (List Self.Domain))
+            → FitRequests r domains asked
+            → r.Accepts None challenger.old (claims_asked r domains asked) opening.1) }
+        ensures state { let r = rules self.now in let asked = map request requests.old in
+            AreHonestIn r asked → IfOk result (λ opening. (domains : List (List Self.Domain))
+            → FitRequests r domains asked → challenger.new
+            ≡ r.last_state None challenger.old (claims_asked r domains asked) opening.1) }
+        ensures checked { IsOk result
+            → (rules self.now).PassesChecks None (map request requests.old) }
+        ensures opened { let r = rules self.now in
+            r.PassesChecks None (map request requests.old)
+            → requests.new ≡ map (with_data r.after_opening) requests.old }
+        ensures unopened { ¬ (rules self.now).PassesChecks None (map request requests.old)
             → requests.new ≡ requests.old }
         ensures refused { IfErr result
-            (Refuses self.now challenger.old (map request requests.old)) }
-        ensures unmoved { IfErr result (λ e. LeavesState e → challenger.new ≡ challenger.old) };
+            ((rules self.now).Refuses None challenger.old (map request requests.old)) }
+        ensures unmoved { IfErr result (λ e.
+            (rules self.now).LeavesState e → challenger.new ≡ challenger.old) }
+        ensures untouched { IfErr result (λ e.
+            (rules self.now).LeavesState e → requests.new ≡ requests.old) };
 
     /// Whether the claims hold, by the proof.
     ///
@@ -193,38 +126,19 @@ pub trait Pcs<EF: Copy, C> {
         proof: &Self::Proof,
         challenger: &mut C,
     ) -> Result<(), Self::Error>
-        requires range { InVerifierRange self.now }
-        ensures exactly { result ≢ Err out_of_memory
-            → (IsOk result ↔ Accepts self.now challenger.old (map claim claims.items) proof.now) }
-        ensures state { IsOk result → challenger.new
-            ≡ last_state self.now challenger.old (map claim claims.items) proof.now }
-        ensures stands { IfErr result (IsTrueRefusal self.now (map claim claims.items) proof.now
-            challenger.old) }
-        ensures unmoved { IfErr result (λ e. LeavesVerifier e → challenger.new ≡ challenger.old) };
+        requires range { (rules self.now).InVerifierRange }
+        ensures exactly { let r = rules self.now in result ≢ Err r.out_of_memory
+            → (IsOk result ↔ r.Accepts None challenger.old (map claim claims.items) proof.now) }
+        ensures state { IsOk result → challenger.new ≡ (rules self.now).last_state None
+            challenger.old (map claim claims.items) proof.now }
+        ensures stands { IfErr result ((rules self.now).IsTrueRefusal None
+            (map claim claims.items) proof.now challenger.old) }
+        ensures unmoved { IfErr result (λ e.
+            (rules self.now).LeavesVerifier e → challenger.new ≡ challenger.old) };
 
     ghost keeps_itself_law: { (s : Self) → Keeps s s };
 
-    ghost keeps_polynomials_law: { (old new : Self) → Keeps old new → (d : Self.ProverData)
-        → committed_polynomials new d ≡ committed_polynomials old d };
+    ghost keeps_law: { (old new : Self) → Keeps old new → AreKept (rules old) (rules new) };
 
-    ghost keeps_openable_law: { (old new : Self) → Keeps old new → (d : Self.ProverData)
-        → CanOpen old d → CanOpen new d };
-
-    ghost keeps_honest_law: { (old new : Self) → Keeps old new → (d : Self.ProverData)
-        → IsHonest old d → IsHonest new d };
-
-    ghost keeps_committable_law: { (old new : Self) → Keeps old new
-        → (evaluations : List (Self.Domain × RowMajorMatrix Self.Val))
-        → CanCommit old evaluations → CanCommit new evaluations };
-
-    ghost keeps_extends_law: { (old new : Self) → Keeps old new → (m : Held EF)
-        (e : Self.Domain × RowMajorMatrix Self.Val) → Extends old m e → Extends new m e };
-
-    ghost extends_size_law: { (s : Self) (m : Held EF) (e : Self.Domain × RowMajorMatrix Self.Val)
-        → Extends s m e → m.size ≡ domain_size e.0 };
-
-    ghost extends_columns_law: { (s : Self) (m : Held EF)
-        (e : Self.Domain × RowMajorMatrix Self.Val) → Extends s m e → HasColumns m };
-
-    ghost memory_law: { (e : Self.Error) → (e ≡ out_of_memory) ⊎ (e ≢ out_of_memory) };
+    ghost rules_law: { (s : Self) → IsLawful (rules s) };
 }

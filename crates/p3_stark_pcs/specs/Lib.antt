@@ -1,4 +1,4 @@
 pub mod Heights
 pub mod Preprocessing
 pub mod Evaluations
-pub mod Stark
+pub mod Scheme

@@ -9,7 +9,7 @@ use crate::values::{Coefficients, Values, are_values, element};
 use p3_challenger::Sha256Challenger;
 use p3_field::BabyBear;
 use p3_pcs::Verified;
-use p3_stark_pcs::{StarkColumns, open_stark_columns};
+use p3_stark_columns::{StarkColumns, open_stark_columns};
 use std::alloc::Global;
 use std::test::Fail;
 

@@ -3,6 +3,7 @@ use Rattle.std.proofs.Common.{◌≡◌, ℕ, List, [], ◌∷◌, map, length, 
 use Rattle.std.specs.List.{AllZip}
 use Rattle.p3_pcs.specs.declared.claims.KnownCommitment.{KnownCommitment}
 use Rattle.p3_pcs.specs.Requests.{Held}
+use Rattle.p3_pcs.specs.Scheme.{Scheme, AreKept}
 use Rattle.p3_stark_pcs.proofs.Batches.{domains_fit}
 use Rattle.p3_test_openings.specs.Known.{FitData}
 
@@ -35,16 +36,23 @@ module _ {E Domain Matrix : Type 0} (size : Domain → ℕ)
       }
 
 -- of two data, the first of which was known before
-pub fit_both : {D E Com Domain : Type 0} (size : Domain → ℕ) (old new : D → List (Held E))
-    (commitment_of : D → Com) (k l : KnownCommitment Com Domain) (d e : D)
-    (known : List (KnownCommitment Com Domain)) → known ≡ k ∷ l ∷ [] → new d ≡ old d
-    → FitData old commitment_of size (k ∷ []) (d ∷ [])
-    → FitData new commitment_of size (l ∷ []) (e ∷ [])
-    → FitData new commitment_of size known (d ∷ e ∷ [])
-fit_both {E = E} size old new commitment_of k l d e known are same first second =
-    let sizes = ap (λ (ms : List (Held E)). map (λ m. m.size) ms) same in
-    subst (λ ks. FitData new commitment_of size ks (d ∷ e ∷ [])) (sym are)
+pub fit_both : {E C V Dom Com D Proof Error ProverError : Type 0}
+    (old new : Scheme E C V Dom Com D Proof Error ProverError) → AreKept old new
+    → (k l : KnownCommitment Com Dom) (d e : D)
+    (known : List (KnownCommitment Com Dom)) → known ≡ k ∷ l ∷ []
+    → FitData old.committed_polynomials old.commitment_of old.domain_size (k ∷ []) (d ∷ [])
+    → FitData new.committed_polynomials new.commitment_of new.domain_size (l ∷ []) (e ∷ [])
+    → FitData new.committed_polynomials new.commitment_of new.domain_size known (d ∷ e ∷ [])
+fit_both {E = E} {Dom = Dom} {Com = Com} {D = D} old new kept k l d e known are first second =
+    let same = ap (λ (ms : List (Held E)). map (λ m. m.size) ms) (kept.polynomials d) in
+    let before : FitData old.committed_polynomials new.commitment_of new.domain_size (k ∷ []) (d ∷ []) =
+    subst (λ (f : D → Com). FitData old.committed_polynomials f new.domain_size (k ∷ []) (d ∷ []))
+    (sym kept.commitments)
+    (subst (λ (f : Dom → ℕ). FitData old.committed_polynomials old.commitment_of f (k ∷ [])
+    (d ∷ [])) (sym kept.sizes) first) in
+    subst (λ ks. FitData new.committed_polynomials new.commitment_of new.domain_size ks (d ∷ e ∷ []))
+    (sym are)
     (record {
-      commitments = cc (first.commitments, second.commitments);
-      sizes = cc (first.sizes, second.sizes, sizes);
+      commitments = cc (before.commitments, second.commitments);
+      sizes = cc (before.sizes, second.sizes, same);
     })

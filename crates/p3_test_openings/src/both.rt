@@ -27,20 +27,21 @@ pub fn commit_both<EF: Copy, C, P: UnivariateStarkPcs<EF, C>>(
     preprocessed: (P::Domain, RowMajorMatrix<P::Val>),
     private: (P::Domain, RowMajorMatrix<P::Val>),
 ) -> Result<Both<P::Commitment, P::Domain, P::ProverData>, Fail>
-    requires preprocessed { P.CanCommit scheme.old (preprocessed ∷ []) }
-    requires private { P.CanCommit scheme.old (private ∷ []) }
-    ensures range { P.InProverRange scheme.old → P.InProverRange scheme.new }
-    ensures verifier_range { P.InVerifierRange scheme.old → P.InVerifierRange scheme.new }
+    requires preprocessed { (P.rules scheme.old).CanCommit (preprocessed ∷ []) }
+    requires private { (P.rules scheme.old).CanCommit (private ∷ []) }
+    ensures range { (P.rules scheme.old).InProverRange → (P.rules scheme.new).InProverRange }
+    ensures verifier_range { (P.rules scheme.old).InVerifierRange → (P.rules scheme.new).InVerifierRange }
     ensures preprocessed { IfOk result (λ both.
-        P.CanOpenPreprocessed scheme.new both.preprocessed) }
-    ensures private { IfOk result (λ both. P.CanOpen scheme.new both.private) }
+        (P.stark_rules scheme.new).CanOpenPreprocessed both.preprocessed) }
+    ensures private { IfOk result (λ both. (P.rules scheme.new).CanOpen both.private) }
     ensures honest { IfOk result (λ both.
-        P.IsHonest scheme.new both.preprocessed × P.IsHonest scheme.new both.private) }
+        (P.rules scheme.new).IsHonest both.preprocessed ×
+        (P.rules scheme.new).IsHonest both.private) }
     ensures one_matrix { IfOk result (λ both.
-        (length (P.committed_polynomials scheme.new both.preprocessed) ≡ 1)
-        × (length (P.committed_polynomials scheme.new both.private) ≡ 1)) }
-    ensures known { IfOk result (λ both. FitData (P.committed_polynomials scheme.new)
-        P.commitment_of P.domain_size both.known.items
+        (length ((P.rules scheme.new).committed_polynomials both.preprocessed) ≡ 1)
+        × (length ((P.rules scheme.new).committed_polynomials both.private) ≡ 1)) }
+    ensures known { IfOk result (λ both. FitData (P.rules scheme.new).committed_polynomials
+        (P.rules scheme.new).commitment_of (P.rules scheme.new).domain_size both.known.items
         (both.preprocessed ∷ both.private ∷ [])) }
 {
     let (first, preprocessed) = commit_preprocessed::<EF, C, P>(&mut *scheme, alloc, preprocessed)?;
@@ -63,11 +64,12 @@ pub fn open_both<EF: Copy, C, P: UnivariateStarkPcs<EF, C>>(
     point: EF,
     challenger: &mut C,
 ) -> Result<Result<Opened<EF, P::Commitment, P::Domain, P::Proof>, P::ProverError>, Fail>
-    requires prover { P.InProverRange scheme.now }
-    requires preprocessed { P.CanOpenPreprocessed scheme.now preprocessed.old }
-    requires private { P.CanOpen scheme.now private.old }
-    requires one_preprocessed { length (P.committed_polynomials scheme.now preprocessed.old) ≡ 1 }
-    requires one_private { length (P.committed_polynomials scheme.now private.old) ≡ 1 }
+    requires prover { (P.rules scheme.now).InProverRange }
+    requires preprocessed { (P.stark_rules scheme.now).CanOpenPreprocessed preprocessed.old }
+    requires private { (P.rules scheme.now).CanOpen private.old }
+    requires one_preprocessed { length
+        ((P.rules scheme.now).committed_polynomials preprocessed.old) ≡ 1 }
+    requires one_private { length ((P.rules scheme.now).committed_polynomials private.old) ≡ 1 }
 {
     let first = OpeningRequest {
         prover_data: preprocessed,
@@ -107,15 +109,17 @@ pub fn show_both<EF: Copy, C: Clone, P: UnivariateStarkPcs<EF, C>>(
     challenger: &mut C,
 ) -> Result<Verified<EF, P::Proof, C>, Fail>
     requires copies { (x y : C) → C.is_clone x y → y ≡ x }
-    requires prover { P.InProverRange scheme.now }
-    requires verifier { P.InVerifierRange scheme.now }
-    requires preprocessed { P.CanOpenPreprocessed scheme.now preprocessed.old }
-    requires private { P.CanOpen scheme.now private.old }
-    requires preprocessed_honest { P.IsHonest scheme.now preprocessed.old }
-    requires private_honest { P.IsHonest scheme.now private.old }
-    requires one_preprocessed { length (P.committed_polynomials scheme.now preprocessed.old) ≡ 1 }
-    requires one_private { length (P.committed_polynomials scheme.now private.old) ≡ 1 }
-    requires known { FitData (P.committed_polynomials scheme.now) P.commitment_of P.domain_size
+    requires prover { (P.rules scheme.now).InProverRange }
+    requires verifier { (P.rules scheme.now).InVerifierRange }
+    requires preprocessed { (P.stark_rules scheme.now).CanOpenPreprocessed preprocessed.old }
+    requires private { (P.rules scheme.now).CanOpen private.old }
+    requires preprocessed_honest { (P.rules scheme.now).IsHonest preprocessed.old }
+    requires private_honest { (P.rules scheme.now).IsHonest private.old }
+    requires one_preprocessed { length
+        ((P.rules scheme.now).committed_polynomials preprocessed.old) ≡ 1 }
+    requires one_private { length ((P.rules scheme.now).committed_polynomials private.old) ≡ 1 }
+    requires known { FitData (P.rules scheme.now).committed_polynomials
+        (P.rules scheme.now).commitment_of (P.rules scheme.now).domain_size
         known.now (preprocessed.old ∷ private.old ∷ []) }
 {
     let first = OpeningRequest {
@@ -158,9 +162,9 @@ pub fn commit_and_open_both<EF: Copy, C, P: UnivariateStarkPcs<EF, C>>(
     point: EF,
     challenger: &mut C,
 ) -> Result<OfBoth<Opened<EF, P::Commitment, P::Domain, P::Proof>, P::ProverData>, Fail>
-    requires prover { P.InProverRange scheme.old }
-    requires preprocessed { P.CanCommit scheme.old (preprocessed ∷ []) }
-    requires private { P.CanCommit scheme.old (private ∷ []) }
+    requires prover { (P.rules scheme.old).InProverRange }
+    requires preprocessed { (P.rules scheme.old).CanCommit (preprocessed ∷ []) }
+    requires private { (P.rules scheme.old).CanCommit (private ∷ []) }
 {
     let Both {
         known,
@@ -196,10 +200,10 @@ pub fn commit_and_show_both<EF: Copy, C: Clone, P: UnivariateStarkPcs<EF, C>>(
     challenger: &mut C,
 ) -> Result<OfBoth<Verified<EF, P::Proof, C>, P::ProverData>, Fail>
     requires copies { (x y : C) → C.is_clone x y → y ≡ x }
-    requires prover { P.InProverRange scheme.old }
-    requires verifier { P.InVerifierRange scheme.old }
-    requires preprocessed { P.CanCommit scheme.old (preprocessed ∷ []) }
-    requires private { P.CanCommit scheme.old (private ∷ []) }
+    requires prover { (P.rules scheme.old).InProverRange }
+    requires verifier { (P.rules scheme.old).InVerifierRange }
+    requires preprocessed { (P.rules scheme.old).CanCommit (preprocessed ∷ []) }
+    requires private { (P.rules scheme.old).CanCommit (private ∷ []) }
 {
     let Both {
         known,

@@ -1,14 +1,16 @@
-use Rattle.std.proofs.Common.{map, refl, inl, inr}
+use Rattle.std.proofs.Common.{map, None, refl, inl, inr}
 use Rattle.p3_pcs.specs.Claims.{claim}
 use Rattle.p3_pcs.proofs.Honest.{claims_honest}
 use Rattle.p3_pcs.proofs.headline.open_and_verify.Goals as goal
 
 pub returns-in-Ok-verify : goal.returns-in-Ok-verify
 returns-in-Ok-verify g c =
+    let r = g.P.Pcs.rules c.args.scheme.now in
+    let passed = c.in-Ok-open.ensures.checked refl in
     let values = c.in-Ok-open.ensures.values c.requires.honest in
-    let is = claims_honest g.P.Pcs.commitment_of (g.P.Pcs.committed_polynomials c.args.scheme.now) g.P.Pcs.after_opening
+    let is = claims_honest r.commitment_of r.committed_polynomials r.after_opening
     c.args.known.now c.args.requests.now _ _ _ c.requires.commitments
-    (c.in-Ok-open.ensures.opened (c.in-Ok-open.ensures.checked refl)) values
+    (c.in-Ok-open.ensures.opened passed) values
     (rw c.as_slice.ensures.value at c.in-Ok-claims_of.ensures) in
     let left = c.in-Ok-open.ensures.state c.requires.honest _ c.requires.domains in
     let ends = c.in-Ok-verify.ensures.state refl in
@@ -19,26 +21,38 @@ returns-in-Ok-verify g c =
       accepted = accepted;
       prover_state = left;
       verifier_state = cc;
+      checked = λ _. passed;
+      opened = c.in-Ok-open.ensures.opened passed;
+      unopened = λ no. absurd (no passed);
       refused = tt;
+      unmoved = tt;
+      untouched = tt;
     }
 
 pub returns-in-Err-verify : goal.returns-in-Err-verify
 returns-in-Err-verify g c =
+    let r = g.P.Pcs.rules c.args.scheme.now in
+    let passed = c.in-Ok-open.ensures.checked refl in
     let values = c.in-Ok-open.ensures.values c.requires.honest in
-    let is = claims_honest g.P.Pcs.commitment_of (g.P.Pcs.committed_polynomials c.args.scheme.now) g.P.Pcs.after_opening
+    let is = claims_honest r.commitment_of r.committed_polynomials r.after_opening
     c.args.known.now c.args.requests.now _ _ _ c.requires.commitments
-    (c.in-Ok-open.ensures.opened (c.in-Ok-open.ensures.checked refl)) values
+    (c.in-Ok-open.ensures.opened passed) values
     (rw c.as_slice.ensures.value at c.in-Ok-claims_of.ensures) in
     let same = c.requires.copies _ _ c.in-Ok.ensures.cases in
     let holds = c.in-Ok-open.ensures.accepted c.requires.honest _ c.requires.domains in
-    let holds' : g.P.Pcs.Accepts c.args.scheme.now c.in-Ok.copy
+    let holds' : r.Accepts None c.in-Ok.copy
     (map claim c.in-Ok-claims_of.claims.items) c.in-Ok-open.opening.1 = rw (same, is) holds in
     record {
       values = tt;
       accepted = tt;
       prover_state = tt;
       verifier_state = tt;
-      refused = elim (g.met.P.Pcs.memory_law c.in-Err-verify.error) [
+      checked = cc;
+      opened = c.in-Ok-open.ensures.opened passed;
+      unopened = λ no. absurd (no passed);
+      unmoved = tt;
+      untouched = tt;
+      refused = elim ((g.met.P.Pcs.rules_law c.args.scheme.now).memory c.in-Err-verify.error) [
         | inl e ↦ e
         | inr n ↦
             let exact = c.in-Err-verify.ensures.exactly (λ r. n (cc)) in

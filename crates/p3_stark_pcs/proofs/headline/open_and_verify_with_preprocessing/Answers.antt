@@ -5,10 +5,12 @@ use Rattle.p3_stark_pcs.proofs.headline.open_and_verify_with_preprocessing.Goals
 
 pub returns-in-Ok-verified : goal.returns-in-Ok-verified
 returns-in-Ok-verified g c =
+    let r = g.P.Pcs.rules c.args.scheme.now in
+    let passed = c.in-Ok-opened.ensures.checked refl in
     let values = c.in-Ok-opened.ensures.values c.requires.honest in
-    let is = claims_honest g.P.Pcs.commitment_of (g.P.Pcs.committed_polynomials c.args.scheme.now) g.P.Pcs.after_opening
+    let is = claims_honest r.commitment_of r.committed_polynomials r.after_opening
     c.args.known.now c.args.requests.now _ _ _ c.requires.commitments
-    (c.in-Ok-opened.ensures.opened (c.in-Ok-opened.ensures.checked refl)) values
+    (c.in-Ok-opened.ensures.opened passed) values
     (rw c.as_slice.ensures.value at c.in-Ok-claims_of.ensures) in
     let left = c.in-Ok-opened.ensures.state c.requires.honest _ c.requires.domains in
     let ends = c.in-Ok-verified.ensures.state refl in
@@ -19,19 +21,26 @@ returns-in-Ok-verified g c =
       accepted = accepted;
       prover_state = left;
       verifier_state = cc;
+      checked = λ _. passed;
+      opened = c.in-Ok-opened.ensures.opened passed;
+      unopened = λ no. absurd (no passed);
       refused = tt;
+      unmoved = tt;
+      untouched = tt;
     }
 
 pub returns-in-Err-verified : goal.returns-in-Err-verified
 returns-in-Err-verified g c =
+    let r = g.P.Pcs.rules c.args.scheme.now in
+    let passed = c.in-Ok-opened.ensures.checked refl in
     let values = c.in-Ok-opened.ensures.values c.requires.honest in
-    let is = claims_honest g.P.Pcs.commitment_of (g.P.Pcs.committed_polynomials c.args.scheme.now) g.P.Pcs.after_opening
+    let is = claims_honest r.commitment_of r.committed_polynomials r.after_opening
     c.args.known.now c.args.requests.now _ _ _ c.requires.commitments
-    (c.in-Ok-opened.ensures.opened (c.in-Ok-opened.ensures.checked refl)) values
+    (c.in-Ok-opened.ensures.opened passed) values
     (rw c.as_slice.ensures.value at c.in-Ok-claims_of.ensures) in
     let same = c.requires.copies _ _ c.in-Ok.ensures.cases in
     let holds = c.in-Ok-opened.ensures.accepted c.requires.honest _ c.requires.domains in
-    let holds' : g.P.UnivariateStarkPcs.AcceptsAt c.args.scheme.now c.args.preprocessing
+    let holds' : r.Accepts c.args.preprocessing
     c.in-Ok.copy (map claim c.in-Ok-claims_of.claims.items) c.in-Ok-opened.opening.1 =
     rw (same, is) holds in
     record {
@@ -39,7 +48,12 @@ returns-in-Err-verified g c =
       accepted = tt;
       prover_state = tt;
       verifier_state = tt;
-      refused = elim (g.met.P.Pcs.memory_law c.in-Err-verified.error) [
+      checked = cc;
+      opened = c.in-Ok-opened.ensures.opened passed;
+      unopened = λ no. absurd (no passed);
+      unmoved = tt;
+      untouched = tt;
+      refused = elim ((g.met.P.Pcs.rules_law c.args.scheme.now).memory c.in-Err-verified.error) [
         | inl e ↦ e
         | inr n ↦
             let exact = c.in-Err-verified.ensures.exactly (λ r. n (cc)) in

@@ -1,15 +1,15 @@
 use Rattle.std.proofs.Common.{◌∙◌}
-use Rattle.p3_stark_pcs.proofs.Requests.{count_of, openable, honest, values}
-use Rattle.p3_stark_pcs.proofs.stark.open_batches.Goals as goal
+use Rattle.p3_stark_columns.proofs.Requests.{count_of, openable, honest, values}
+use Rattle.p3_stark_columns.proofs.stark.open_batches.Goals as goal
 
 pub open_and_verify_with_preprocessing-opened-requires-clause-shape : goal.open_and_verify_with_preprocessing-opened-requires-clause-shape
 open_and_verify_with_preprocessing-opened-requires-clause-shape g c =
-    let held = g.P.Pcs.committed_polynomials c.args.scheme.now in
-    let size = g.P.Pcs.domain_size in
+    let held = (g.P.Pcs.rules c.args.scheme.now).committed_polynomials in
+    let size = (g.P.Pcs.rules c.args.scheme.now).domain_size in
     let i = c.len.ensures ∙ c.args.batches.preprocessed.known.domains.ok.0 ∙ count_of size _ _ c.requires.first_batch.domains in
     let j = c.len-2.ensures ∙ c.args.batches.trace.known.domains.ok.0 ∙ count_of size _ _ c.requires.second_batch.domains in
     let k = c.len-3.ensures ∙ c.args.batches.quotient.known.domains.ok.0 ∙ count_of size _ _ c.requires.third_batch.domains in
-    g.met.P.UnivariateStarkPcs.openable_law c.args.scheme.now _ _
+    (g.met.P.UnivariateStarkPcs.stark_law c.args.scheme.now).openable _ _
     (openable held c.args.both.now c.args.one.now _ _ _ _ _ _ c.in_ok-first_points.ensures.first
     c.in_ok-first_points.ensures.second c.in_ok-first_points.ensures.third i j k c.as_mut_slice.result.now
     (c.as_mut_slice.ensures.value ∙ c.in_ok-requests.ensures) _ _ c.requires.preprocessed
@@ -17,8 +17,8 @@ open_and_verify_with_preprocessing-opened-requires-clause-shape g c =
 
 pub open_and_verify_with_preprocessing-opened-requires-clause-honest : goal.open_and_verify_with_preprocessing-opened-requires-clause-honest
 open_and_verify_with_preprocessing-opened-requires-clause-honest g c =
-    let held = g.P.Pcs.committed_polynomials c.args.scheme.now in
-    let size = g.P.Pcs.domain_size in
+    let held = (g.P.Pcs.rules c.args.scheme.now).committed_polynomials in
+    let size = (g.P.Pcs.rules c.args.scheme.now).domain_size in
     let i = c.len.ensures ∙ c.args.batches.preprocessed.known.domains.ok.0 ∙ count_of size _ _ c.requires.first_batch.domains in
     let j = c.len-2.ensures ∙ c.args.batches.trace.known.domains.ok.0 ∙ count_of size _ _ c.requires.second_batch.domains in
     let k = c.len-3.ensures ∙ c.args.batches.quotient.known.domains.ok.0 ∙ count_of size _ _ c.requires.third_batch.domains in
@@ -30,8 +30,8 @@ open_and_verify_with_preprocessing-opened-requires-clause-honest g c =
 
 pub returns-in-Ok-clause-values : goal.returns-in-Ok-clause-values
 returns-in-Ok-clause-values g c =
-    let held = g.P.Pcs.committed_polynomials c.args.scheme.now in
-    let size = g.P.Pcs.domain_size in
+    let held = (g.P.Pcs.rules c.args.scheme.now).committed_polynomials in
+    let size = (g.P.Pcs.rules c.args.scheme.now).domain_size in
     let i = c.len.ensures ∙ c.args.batches.preprocessed.known.domains.ok.0 ∙ count_of size _ _ c.requires.first_batch.domains in
     let j = c.len-2.ensures ∙ c.args.batches.trace.known.domains.ok.0 ∙ count_of size _ _ c.requires.second_batch.domains in
     let k = c.len-3.ensures ∙ c.args.batches.quotient.known.domains.ok.0 ∙ count_of size _ _ c.requires.third_batch.domains in

@@ -7,15 +7,15 @@ ghost use Rattle.std.specs.Prelude.{replicate, slice_index_or};
 ghost use Rattle.std.specs.Prelude.{IfOk, IfErr};
 ghost use Rattle.std.specs.List.{AllZip};
 ghost use Rattle.algebra.specs.Nested.{lists};
-ghost use Rattle.p3_stark_pcs.specs.Stark.{IsHonestRefusal, IsBatch, AreCommitted};
-ghost use Rattle.p3_stark_pcs.specs.Stark.{AreColumnValues, AreChunkValues};
+ghost use Rattle.p3_stark_columns.specs.Stark.{IsHonestRefusal, IsBatch, AreCommitted};
+ghost use Rattle.p3_stark_columns.specs.Stark.{AreColumnValues, AreChunkValues};
 ghost use Rattle.p3_pcs.specs.Claims.{opened_values};
-ghost use Rattle.p3_stark_pcs.specs.declared.stark.StarkError.TheVariants.{OutOfMemory};
+ghost use Rattle.p3_pcs.specs.Scheme.{AreKept};
+ghost use Rattle.p3_stark_columns.specs.declared.stark.StarkError.TheVariants.{OutOfMemory};
 
-use crate::headline::open_and_verify_with_preprocessing;
-use crate::univariate::UnivariateStarkPcs;
 use p3_matrix::RowMajorMatrix;
 use p3_pcs::{KnownCommitment, OpenAndVerifyError, OpeningRequest, Verified};
+use p3_stark_pcs::{UnivariateStarkPcs, open_and_verify_with_preprocessing};
 use std::alloc::{AllocError, Global};
 
 /// The columns of a STARK, each matrix on its domain, and domains for the claims on the quotient.
@@ -84,17 +84,17 @@ fn commit_preprocessed<EF: Copy, C, P: UnivariateStarkPcs<EF, C>>(
     alloc: Global,
     evaluations: Vec<(P::Domain, RowMajorMatrix<P::Val>)>,
 ) -> Result<Batch<P::Commitment, P::Domain, P::ProverData>, StarkError<P::ProverError, P::Error>>
-    requires { P.CanCommit scheme.old evaluations.items }
+    requires { (P.rules scheme.old).CanCommit evaluations.items }
     ensures kept { P.Keeps scheme.old scheme.new }
-    ensures range { P.InProverRange scheme.old → P.InProverRange scheme.new }
-    ensures verifier_range { P.InVerifierRange scheme.old → P.InVerifierRange scheme.new }
-    ensures commitment { IfOk result (λ b. P.commitment_of b.prover_data ≡ b.known.commitment) }
+    ensures commitment { IfOk result (λ b. (P.rules scheme.new).commitment_of b.prover_data
+        ≡ b.known.commitment) }
     ensures domains { IfOk result (λ b. b.known.domains.items ≡ map (λ e. e.0) evaluations.items) }
-    ensures openable { IfOk result (λ b. P.CanOpenPreprocessed scheme.new b.prover_data) }
-    ensures honest { IfOk result (λ b. P.IsHonest scheme.new b.prover_data) }
-    ensures extends { IfOk result (λ b. AllZip (P.Extends scheme.new)
-        (P.committed_polynomials scheme.new b.prover_data) evaluations.items) }
-    ensures refused { IfErr result (λ e. IsHonestRefusal P.out_of_memory e) }
+    ensures openable { IfOk result (λ b.
+        (P.stark_rules scheme.new).CanOpenPreprocessed b.prover_data) }
+    ensures honest { IfOk result (λ b. (P.rules scheme.new).IsHonest b.prover_data) }
+    ensures extends { IfOk result (λ b. AllZip (P.rules scheme.new).Extends
+        ((P.rules scheme.new).committed_polynomials b.prover_data) evaluations.items) }
+    ensures refused { IfErr result (λ e. IsHonestRefusal (P.rules scheme.new).out_of_memory e) }
 {
     let domains = domains_of(alloc, &evaluations)?;
     match scheme.commit_preprocessing(alloc, evaluations) {
@@ -115,17 +115,16 @@ fn commit_trace<EF: Copy, C, P: UnivariateStarkPcs<EF, C>>(
     alloc: Global,
     evaluations: Vec<(P::Domain, RowMajorMatrix<P::Val>)>,
 ) -> Result<Batch<P::Commitment, P::Domain, P::ProverData>, StarkError<P::ProverError, P::Error>>
-    requires { P.CanCommit scheme.old evaluations.items }
+    requires { (P.rules scheme.old).CanCommit evaluations.items }
     ensures kept { P.Keeps scheme.old scheme.new }
-    ensures range { P.InProverRange scheme.old → P.InProverRange scheme.new }
-    ensures verifier_range { P.InVerifierRange scheme.old → P.InVerifierRange scheme.new }
-    ensures commitment { IfOk result (λ b. P.commitment_of b.prover_data ≡ b.known.commitment) }
+    ensures commitment { IfOk result (λ b. (P.rules scheme.new).commitment_of b.prover_data
+        ≡ b.known.commitment) }
     ensures domains { IfOk result (λ b. b.known.domains.items ≡ map (λ e. e.0) evaluations.items) }
-    ensures openable { IfOk result (λ b. P.CanOpen scheme.new b.prover_data) }
-    ensures honest { IfOk result (λ b. P.IsHonest scheme.new b.prover_data) }
-    ensures extends { IfOk result (λ b. AllZip (P.Extends scheme.new)
-        (P.committed_polynomials scheme.new b.prover_data) evaluations.items) }
-    ensures refused { IfErr result (λ e. IsHonestRefusal P.out_of_memory e) }
+    ensures openable { IfOk result (λ b. (P.rules scheme.new).CanOpen b.prover_data) }
+    ensures honest { IfOk result (λ b. (P.rules scheme.new).IsHonest b.prover_data) }
+    ensures extends { IfOk result (λ b. AllZip (P.rules scheme.new).Extends
+        ((P.rules scheme.new).committed_polynomials b.prover_data) evaluations.items) }
+    ensures refused { IfErr result (λ e. IsHonestRefusal (P.rules scheme.new).out_of_memory e) }
 {
     let domains = domains_of(alloc, &evaluations)?;
     match scheme.commit(alloc, evaluations) {
@@ -147,23 +146,22 @@ fn commit_quotient<EF: Copy, C, P: UnivariateStarkPcs<EF, C>>(
     evaluations: Vec<(P::Domain, RowMajorMatrix<P::Val>)>,
     domains: Vec<P::Domain>,
 ) -> Result<Batch<P::Commitment, P::Domain, P::ProverData>, StarkError<P::ProverError, P::Error>>
-    requires { P.CanExtend scheme.old evaluations.items (length evaluations.items) }
+    requires { (P.stark_rules scheme.old).CanExtend evaluations.items (length evaluations.items) }
     ensures kept { P.Keeps scheme.old scheme.new }
-    ensures range { P.InProverRange scheme.old → P.InProverRange scheme.new }
-    ensures verifier_range { P.InVerifierRange scheme.old → P.InVerifierRange scheme.new }
-    ensures commitment { IfOk result (λ b. P.commitment_of b.prover_data ≡ b.known.commitment) }
+    ensures commitment { IfOk result (λ b. (P.rules scheme.new).commitment_of b.prover_data
+        ≡ b.known.commitment) }
     ensures domains { IfOk result (λ b. b.known.domains.items ≡ domains.items) }
-    ensures openable { IfOk result (λ b. P.CanOpen scheme.new b.prover_data) }
-    ensures honest { IfOk result (λ b. P.IsHonest scheme.new b.prover_data) }
+    ensures openable { IfOk result (λ b. (P.rules scheme.new).CanOpen b.prover_data) }
+    ensures honest { IfOk result (λ b. (P.rules scheme.new).IsHonest b.prover_data) }
     ensures sizes { IfOk result (λ b. AllZip
-        (λ m e. m.size ≡ (if P.ZK then 2 else 1) * P.domain_size e.0)
-        (P.committed_polynomials scheme.new b.prover_data) evaluations.items) }
+        (λ m e. m.size ≡ (if P.ZK then 2 else 1) * (P.rules scheme.new).domain_size e.0)
+        ((P.rules scheme.new).committed_polynomials b.prover_data) evaluations.items) }
     ensures recombined { IfOk result (λ b. (z : EF)
         → P.recombined (map (λ e. e.0) evaluations.items)
-        (map (λ m. m.values_at z) (P.committed_polynomials scheme.new b.prover_data)) z
+        (map (λ m. m.values_at z) ((P.rules scheme.new).committed_polynomials b.prover_data)) z
         ≡ P.recombined (map (λ e. e.0) evaluations.items)
         (map (λ e. (P.chunk_polynomials e).values_at z) evaluations.items) z) }
-    ensures refused { IfErr result (λ e. IsHonestRefusal P.out_of_memory e) }
+    ensures refused { IfErr result (λ e. IsHonestRefusal (P.rules scheme.new).out_of_memory e) }
 {
     let count = evaluations.len();
     let ldes = match scheme.get_quotient_ldes(alloc, evaluations, count) {
@@ -188,26 +186,24 @@ fn commit_columns<EF: Copy, C, P: UnivariateStarkPcs<EF, C>>(
     alloc: Global,
     columns: StarkColumns<P::Domain, P::Val>,
 ) -> Result<Batches<P::Commitment, P::Domain, P::ProverData>, StarkError<P::ProverError, P::Error>>
-    requires preprocessed { P.CanCommit scheme.old columns.preprocessed.items }
-    requires trace { P.CanCommit scheme.old columns.trace.items }
-    requires quotient { P.CanExtend scheme.old columns.quotient.items
+    requires preprocessed { (P.rules scheme.old).CanCommit columns.preprocessed.items }
+    requires trace { (P.rules scheme.old).CanCommit columns.trace.items }
+    requires quotient { (P.stark_rules scheme.old).CanExtend columns.quotient.items
         (length columns.quotient.items) }
-    requires quotient_domains { map P.domain_size columns.quotient_domains.items
-        ≡ map (λ e. (if P.ZK then 2 else 1) * P.domain_size e.0) columns.quotient.items }
-    ensures range { P.InProverRange scheme.old → P.InProverRange scheme.new }
-    ensures verifier_range { P.InVerifierRange scheme.old → P.InVerifierRange scheme.new }
-    ensures committed { IfOk result (λ b. AreCommitted (P.CanOpenPreprocessed scheme.new)
-        (P.CanOpen scheme.new) (P.Extends scheme.new) (P.IsHonest scheme.new)
-        (P.committed_polynomials scheme.new) P.commitment_of P.domain_size
-        columns.preprocessed.items columns.trace.items
-        (b.preprocessed.known, b.preprocessed.prover_data) (b.trace.known, b.trace.prover_data)
-        (b.quotient.known, b.quotient.prover_data)) }
+    requires quotient_domains { map (P.rules scheme.old).domain_size columns.quotient_domains.items
+        ≡ map (λ e. (if P.ZK then 2 else 1) *
+        (P.rules scheme.old).domain_size e.0) columns.quotient.items }
+    ensures kept { AreKept (P.rules scheme.old) (P.rules scheme.new) }
+    ensures committed { IfOk result (λ b.
+        AreCommitted (P.rules scheme.new) (P.stark_rules scheme.new) columns.preprocessed.items
+        columns.trace.items (b.preprocessed.known, b.preprocessed.prover_data)
+        (b.trace.known, b.trace.prover_data) (b.quotient.known, b.quotient.prover_data)) }
     ensures recombined { let domains = map (λ e. e.0) columns.quotient.items in
         IfOk result (λ b. (z : EF) → P.recombined domains (map (λ m. m.values_at z)
-        (P.committed_polynomials scheme.new b.quotient.prover_data)) z
+        ((P.rules scheme.new).committed_polynomials b.quotient.prover_data)) z
         ≡ P.recombined domains
         (map (λ e. (P.chunk_polynomials e).values_at z) columns.quotient.items) z) }
-    ensures refused { IfErr result (λ e. IsHonestRefusal P.out_of_memory e) }
+    ensures refused { IfErr result (λ e. IsHonestRefusal (P.rules scheme.new).out_of_memory e) }
 {
     let StarkColumns {
         preprocessed,
@@ -280,33 +276,30 @@ fn open_batches<EF: Copy, C: Clone, P: UnivariateStarkPcs<EF, C>>(
     challenger: &mut C,
 ) -> Result<Verified<EF, P::Proof, C>, StarkError<P::ProverError, P::Error>>
     requires copies { (x y : C) → C.is_clone x y → y ≡ x }
-    requires prover { P.InProverRange scheme.now }
-    requires verifier { P.InVerifierRange scheme.now }
-    requires preprocessed { P.CanOpenPreprocessed scheme.now batches.preprocessed.prover_data }
-    requires some_matrix { let held = P.committed_polynomials scheme.now in
+    requires prover { (P.rules scheme.now).InProverRange }
+    requires verifier { (P.rules scheme.now).InVerifierRange }
+    requires preprocessed { (P.stark_rules scheme.now).CanOpenPreprocessed batches.preprocessed.prover_data }
+    requires some_matrix { let held = (P.rules scheme.now).committed_polynomials in
         held batches.preprocessed.prover_data ≢ [] }
-    requires trace { P.CanOpen scheme.now batches.trace.prover_data }
-    requires quotient { P.CanOpen scheme.now batches.quotient.prover_data }
-    requires first_batch { IsBatch (P.IsHonest scheme.now)
-        (P.committed_polynomials scheme.now) P.commitment_of P.domain_size
-        batches.preprocessed.known batches.preprocessed.prover_data }
-    requires second_batch { IsBatch (P.IsHonest scheme.now)
-        (P.committed_polynomials scheme.now) P.commitment_of P.domain_size batches.trace.known
+    requires trace { (P.rules scheme.now).CanOpen batches.trace.prover_data }
+    requires quotient { (P.rules scheme.now).CanOpen batches.quotient.prover_data }
+    requires first_batch { IsBatch (P.rules scheme.now) batches.preprocessed.known
+        batches.preprocessed.prover_data }
+    requires second_batch { IsBatch (P.rules scheme.now) batches.trace.known
         batches.trace.prover_data }
-    requires third_batch { IsBatch (P.IsHonest scheme.now)
-        (P.committed_polynomials scheme.now) P.commitment_of P.domain_size batches.quotient.known
+    requires third_batch { IsBatch (P.rules scheme.now) batches.quotient.known
         batches.quotient.prover_data }
     requires some_point { both.now ≢ [] }
     requires first_point { one.now ≢ [] }
     ensures values { IfOk result (λ verified. opened_values verified.values.items
         ≡ map (λ m. map m.values_at both.now)
-        (P.committed_polynomials scheme.now batches.preprocessed.prover_data)
+        ((P.rules scheme.now).committed_polynomials batches.preprocessed.prover_data)
         ∷ map (λ m. map m.values_at both.now)
-        (P.committed_polynomials scheme.now batches.trace.prover_data)
+        ((P.rules scheme.now).committed_polynomials batches.trace.prover_data)
         ∷ map (λ m. map m.values_at one.now)
-        (P.committed_polynomials scheme.now batches.quotient.prover_data)
+        ((P.rules scheme.now).committed_polynomials batches.quotient.prover_data)
         ∷ []) }
-    ensures refused { IfErr result (λ e. IsHonestRefusal P.out_of_memory e) }
+    ensures refused { IfErr result (λ e. IsHonestRefusal (P.rules scheme.now).out_of_memory e) }
 {
     let Batches {
         preprocessed,
@@ -397,19 +390,20 @@ pub fn open_stark_columns<EF: Copy, C: Clone, P: UnivariateStarkPcs<EF, C>>(
     challenger: &mut C,
 ) -> Result<Verified<EF, P::Proof, C>, StarkError<P::ProverError, P::Error>>
     requires copies { (x y : C) → C.is_clone x y → y ≡ x }
-    requires prover { P.InProverRange scheme.old }
-    requires verifier { P.InVerifierRange scheme.old }
-    requires preprocessed { P.CanCommit scheme.old columns.preprocessed.items }
+    requires prover { (P.rules scheme.old).InProverRange }
+    requires verifier { (P.rules scheme.old).InVerifierRange }
+    requires preprocessed { (P.rules scheme.old).CanCommit columns.preprocessed.items }
     requires some_matrix { columns.preprocessed.items ≢ [] }
-    requires trace { P.CanCommit scheme.old columns.trace.items }
-    requires quotient { P.CanExtend scheme.old columns.quotient.items
+    requires trace { (P.rules scheme.old).CanCommit columns.trace.items }
+    requires quotient { (P.stark_rules scheme.old).CanExtend columns.quotient.items
         (length columns.quotient.items) }
-    requires quotient_domains { map P.domain_size columns.quotient_domains.items
-        ≡ map (λ e. (if P.ZK then 2 else 1) * P.domain_size e.0) columns.quotient.items }
-    ensures preprocessed { IfOk result (λ verified. AreColumnValues (P.Extends scheme.new)
+    requires quotient_domains { map (P.rules scheme.old).domain_size columns.quotient_domains.items
+        ≡ map (λ e. (if P.ZK then 2 else 1) *
+        (P.rules scheme.old).domain_size e.0) columns.quotient.items }
+    ensures preprocessed { IfOk result (λ verified. AreColumnValues (P.rules scheme.new).Extends
         columns.preprocessed.items point successor
         (slice_index_or (opened_values verified.values.items) 0 [])) }
-    ensures trace { IfOk result (λ verified. AreColumnValues (P.Extends scheme.new)
+    ensures trace { IfOk result (λ verified. AreColumnValues (P.rules scheme.new).Extends
         columns.trace.items point successor
         (slice_index_or (opened_values verified.values.items) 1 [])) }
     ensures quotient { let domains = map (λ e. e.0) columns.quotient.items in
@@ -417,7 +411,7 @@ pub fn open_stark_columns<EF: Copy, C: Clone, P: UnivariateStarkPcs<EF, C>>(
         (P.recombined domains
         (map (λ e. (P.chunk_polynomials e).values_at point) columns.quotient.items) point)
         (slice_index_or (opened_values verified.values.items) 2 [])) }
-    ensures refused { IfErr result (λ e. IsHonestRefusal P.out_of_memory e) }
+    ensures refused { IfErr result (λ e. IsHonestRefusal (P.rules scheme.new).out_of_memory e) }
 {
     let (both, one) = points_at(alloc, point, successor)?;
     let batches = commit_columns(scheme, alloc, columns)?;

@@ -1,0 +1,95 @@
+-- What is known of committed batches under a later scheme.
+use Rattle.std.proofs.Common.{◌≡◌, ℕ, ◌*◌, List, [], ◌∷◌, map, sym, ap, ◌∙◌, subst}
+use Rattle.std.specs.List.{AllZip}
+use Rattle.p3_pcs.specs.Requests.{Held}
+use Rattle.p3_pcs.specs.declared.claims.KnownCommitment.{KnownCommitment}
+use Rattle.p3_matrix.specs.declared.dense.RowMajorMatrix.{RowMajorMatrix}
+use Rattle.p3_pcs.specs.Scheme.{Scheme, IsLawful, AreKept}
+use Rattle.p3_stark_columns.specs.Stark.{IsBatch, AreColumnValues, AreChunkValues}
+use Rattle.p3_stark_columns.proofs.Zips.{zip_equal, zip_leads, mapped_twice}
+
+module _ {EF Domain Matrix : Type 0} (size : Domain → ℕ)
+    (R : Held EF → Domain × Matrix → Type 0)
+    (R_size : (m : Held EF) (e : Domain × Matrix) → R m e → m.size ≡ size e.0) where
+  -- the domains of matrices have the sizes of what extends them
+  pub domains_fit : (held : List (Held EF)) (columns : List (Domain × Matrix))
+      (domains : List Domain) → AllZip R held columns → domains ≡ map (λ e. e.0) columns
+      → map size domains ≡ map (λ m. m.size) held
+  domains_fit held columns domains extends are =
+      ap (λ ds. map size ds) are ∙ mapped_twice (λ e. e.0) size columns
+      ∙ sym (zip_equal (λ m. m.size) (λ e. size e.0) held columns
+      (zip_leads R (λ m e. m.size ≡ size e.0) R_size held columns extends))
+
+-- what extends columns does so under a later scheme
+pub still_extended : {EF Matrix : Type 0} (R S : Held EF → Matrix → Type 0)
+    → ((m : Held EF) (e : Matrix) → R m e → S m e) → (held kept : List (Held EF))
+    → (columns : List Matrix) → AllZip R held columns → kept ≡ held → AllZip S kept columns
+still_extended R S R_S held kept columns extends same =
+    subst (λ hs. AllZip S hs columns) (sym same) (zip_leads R S R_S held columns extends)
+
+-- the values of columns
+pub column_values : {EF Matrix : Type 0} (S : Held EF → Matrix → Type 0) (point next : EF)
+    (held : List (Held EF)) (columns : List Matrix) (values : List (List (List EF)))
+    (zs : List EF) → AllZip S held columns → zs ≡ point ∷ next ∷ []
+    → values ≡ map (λ m. map m.values_at zs) held → AreColumnValues S columns point next values
+column_values S point next held columns values zs extends are is = record {
+  polynomials = held;
+  extends = extends;
+  values_there = is ∙ ap (λ ps. map (λ m. map m.values_at ps) held) are;
+}
+
+-- the values of chunks
+pub chunk_values : {EF : Type 0} (recombined : List (List EF) → List EF) (quotient : List EF)
+    (point : EF) (held : List (Held EF)) (values : List (List (List EF))) (zs : List EF)
+    → zs ≡ point ∷ [] → values ≡ map (λ m. map m.values_at zs) held
+    → recombined (map (λ m. m.values_at point) held) ≡ quotient
+    → AreChunkValues recombined quotient values
+chunk_values recombined quotient point held values zs are is same = record {
+  chunks = map (λ m. m.values_at point) held;
+  values_there = is ∙ ap (λ ps. map (λ m. map m.values_at ps) held) are
+      ∙ sym (mapped_twice (λ m. m.values_at point) (λ row. row ∷ []) held);
+  recombine = same;
+}
+
+-- what is known once a batch is committed to
+pub batch_made : {E C V Dom Com D Proof Error ProverError : Type 0}
+    (r : Scheme E C V Dom Com D Proof Error ProverError) → IsLawful r
+    → (columns : List (Dom × RowMajorMatrix V)) (known : KnownCommitment Com Dom) (d : D)
+    → r.IsHonest d → r.commitment_of d ≡ known.commitment
+    → known.domains.items ≡ map (λ e. e.0) columns
+    → AllZip r.Extends (r.committed_polynomials d) columns → IsBatch r known d
+batch_made r lawful columns known d honest commitment domains extends = record {
+  honest = honest;
+  commitment = sym commitment;
+  domains = domains_fit r.domain_size r.Extends lawful.extends_size (r.committed_polynomials d)
+      columns known.domains.items extends domains;
+}
+
+module _ {E C V Dom Com D Proof Error ProverError : Type 0}
+    (old new : Scheme E C V Dom Com D Proof Error ProverError) (kept : AreKept old new) where
+  -- it is known under a later scheme
+  pub batch_kept : (known : KnownCommitment Com Dom) (d : D)
+      → IsBatch old known d → IsBatch new known d
+  batch_kept known d batch = record {
+    honest = kept.honest d batch.honest;
+    commitment = batch.commitment ∙ sym (ap (λ (f : D → Com). f d) kept.commitments);
+    domains = ap (λ (f : Dom → ℕ). map f known.domains.items) kept.sizes ∙ batch.domains
+        ∙ ap (λ (hs : List (Held E)). map (λ m. m.size) hs) (sym (kept.polynomials d));
+  }
+
+  pub extends_kept : (columns : List (Dom × RowMajorMatrix V)) (d : D)
+      → AllZip old.Extends (old.committed_polynomials d) columns
+      → AllZip new.Extends (new.committed_polynomials d) columns
+  extends_kept columns d extends = still_extended old.Extends new.Extends kept.extends
+      (old.committed_polynomials d) (new.committed_polynomials d) columns extends
+      (kept.polynomials d)
+
+-- domains that fit the chunks of a quotient fit what is committed to for them
+pub quotient_fits : {EF Dom Matrix : Type 0} (times : ℕ) (old new : Dom → ℕ) → new ≡ old
+    → (domains known : List Dom) (columns : List (Dom × Matrix)) (held : List (Held EF))
+    → known ≡ domains → map old domains ≡ map (λ e. times * old e.0) columns
+    → AllZip (λ m e. m.size ≡ times * new e.0) held columns → map new known ≡ map (λ m. m.size) held
+quotient_fits times old new same domains known columns held is fits sizes =
+    ap (λ ds. map new ds) is
+    ∙ subst (λ f. map f domains ≡ map (λ e. times * f e.0) columns) (sym same) fits
+    ∙ sym (zip_equal (λ m. m.size) (λ e. times * new e.0) held columns sizes)
