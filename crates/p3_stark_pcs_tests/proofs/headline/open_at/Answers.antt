@@ -1,5 +1,5 @@
 use Rattle.std.proofs.Common.{length, sym, ap, ◌∙◌}
-use Rattle.p3_stark_pcs.proofs.Requests.{count_of}
+use Rattle.p3_stark_columns.proofs.Requests.{count_of}
 use Rattle.p3_stark_pcs_tests.proofs.Requests.{openable}
 use Rattle.p3_stark_pcs_tests.proofs.headline.open_at.Goals as goal
 

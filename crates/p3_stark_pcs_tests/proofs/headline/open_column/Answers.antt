@@ -1,5 +1,5 @@
 use Rattle.std.proofs.Common.{map, sym, ap, ◌∙◌}
-use Rattle.p3_stark_pcs.proofs.Batches.{domains_fit}
+use Rattle.p3_stark_columns.proofs.Batches.{domains_fit}
 use Rattle.p3_stark_pcs_tests.proofs.headline.open_column.Goals as goal
 
 pub open_at-requires-clause-openable : goal.open_at-requires-clause-openable
