@@ -1,15 +1,15 @@
 -- The extension by a square root of `w` is a field where `w` is no square.
 use Rattle.std.specs.Prelude.{ℕ, ◌==◌, ◌&&◌, ◌↔◌, IsTrue, length, slice_index_or}
-use Rattle.std.proofs.Common.{◌≡◌, List, [], ◌∷◌, refl, sym, ap, ◌∙◌, arith}
+use Rattle.std.proofs.Common.{◌≡◌, List, [], ◌∷◌, refl, ap, ◌∙◌, arith}
 use Rattle.std.proofs.lemmas.Bool.Decides.{Decides-eqb, Decides-and}
-use Rattle.algebra.specs.Field.{FieldOps, IsRing, IsField, IsHomomorphism, sub}
+use Rattle.algebra.specs.Field.{FieldOps, IsRing, IsField, IsHomomorphism}
 use Rattle.algebra.specs.Polynomial.{sum_below}
 use Rattle.algebra.proofs.Ring.{Expr, var, ◌:+◌, ◌:*◌, ◌:-◌, ◌:=◌, norm, eval, solve, ring}
 use Rattle.algebra.proofs.Ring.{terms, o, :1, minus}
-use Rattle.algebra.proofs.Combine.{combine2, sub-eq, cancel_zero}
+use Rattle.algebra.proofs.Combine.{sub-eq, cancel_zero}
 use Rattle.p3_field_core.specs.Basis.{unit_vector}
 use Rattle.p3_prime_field.specs.Residues.{Residues}
-use Rattle.p3_binomial_extension.specs.Quadratic.{Quadratic, quadratic, quadratic_mul, quadratic_inv}
+use Rattle.p3_binomial_extension.specs.Quadratic.{Quadratic, quadratic, quadratic_mul}
 use Rattle.p3_binomial_extension.specs.Quadratic.{quadratic_norm, quadratic_coefficients}
 use Rattle.p3_binomial_extension.specs.Quadratic.{quadratic_of_list}
 

@@ -106,10 +106,10 @@ quadratic_modulus_no_factors {A} F R w apart K a b short_a short_b is =
     let y = element_of F b in
     let cs = λ (t : Quadratic A). quadratic_coefficients t in
     let at : (k : ℕ) → product_coefficient F (cs x) (cs y) k
-        ≡ coefficient F (quadratic_modulus F w) k
+    ≡ coefficient F (quadratic_modulus F w) k
     = λ k. sym (product_coefficient-equal F a b (cs x) (cs y)
-        (element_coefficients F a short_a) (element_coefficients F b short_b) k)
-        ∙ sym (coefficient-polynomial_product F R a b k) ∙ is k in
+    (element_coefficients F a short_a) (element_coefficients F b short_b) k)
+    ∙ sym (coefficient-polynomial_product F R a b k) ∙ is k in
     let vanishes : quadratic_mul F w x y ≡ (quadratic F w).zero
     = quadratic_mul_wraps F R w x y
     ∙ quadratic_equal (ap₂ (λ s t. F.add s (F.mul w t)) (at 0) (at 2)) (at 1)

@@ -1,7 +1,7 @@
 -- Elements of a quartic extension by their coefficients.
 use Rattle.std.specs.Prelude.{ℕ, ◌≡◌, ◌==◌, ◌&&◌, ◌↔◌, IsTrue, List, [], ◌∷◌, length}
 use Rattle.std.specs.Prelude.{slice_index_or, refl}
-use Rattle.std.proofs.Common.{sym, ap, arith}
+use Rattle.std.proofs.Common.{ap, arith}
 use Rattle.std.proofs.lemmas.Bool.Decides.{Decides-eqb, Decides-and}
 use Rattle.algebra.specs.Field.{FieldOps, IsRing}
 use Rattle.algebra.specs.Polynomial.{sum_below}

@@ -5,6 +5,7 @@ use Rattle.std.proofs.Common.{lit<, lit≤, sym, ◌∙◌, ap, arith}
 use Rattle.algebra.specs.Field.{IsField, multiple, pow}
 use Rattle.algebra.specs.TwoAdic.{AreRoots}
 use Rattle.algebra.specs.Primes.{IsPrime}
+use Rattle.algebra.proofs.Powers.{pow-one}
 use Rattle.p3_prime_field.specs.Proth.{IsProth}
 use Rattle.p3_prime_field.proofs.Modular.{power_modulo, power_is}
 use Rattle.p3_prime_field.proofs.ProthTest.{proth_prime}
@@ -76,25 +77,25 @@ multiple_canonical x = multiple_of_value 2130706433 koala_bear_numbers x
 pub generator_power : pow koala_bear (element 3) 127 ≡ element 1791270792
 unfolding koala_bear
 generator_power =
-    pow_is 2130706433 koala_bear_numbers 3 127 ∙ equal 2130706433 koala_bear_numbers _ _ refl
+    pow_is 2130706433 koala_bear_numbers 3 127 ∙ equal 2130706433 koala_bear_numbers (3 ^ 127) 1791270792 refl
 
 pub koala_bear_roots : AreRoots koala_bear 24 root
 unfolding koala_bear root
 koala_bear_roots = residue_roots 2130706433 koala_bear_numbers 23 127 3 order_is_proth
+
+turned : pow koala_bear (element 3) (127 * 2 ^ 23) ≡ koala_bear.neg koala_bear.one
+unfolding koala_bear
+turned = half_power 2130706433 koala_bear_numbers 23 127 3 order_is_proth
 
 pub root_is : (k : ℕ) → pow koala_bear (element 1791270792) (2 ^ (24 - k)) ≡ root k
 unfolding root
 root_is k =
     ap (λ x. pow koala_bear x (2 ^ (24 - k))) (sym generator_power)
     ∙ power_root_is koala_bear koala_bear_laws.ring (element 3) 127 23 turned (24 - k)
-  where
-    turned : pow koala_bear (element 3) (127 * 2 ^ 23) ≡ koala_bear.neg koala_bear.one
-    unfolding koala_bear
-    turned = half_power 2130706433 koala_bear_numbers 23 127 3 order_is_proth
 
 -- the root of order `2^24`
 pub root_first : root 24 ≡ element 1791270792
-root_first = ?
+root_first = sym (root_is 24) ∙ pow-one koala_bear koala_bear_laws.ring (element 1791270792)
 
 pub three_is_no_square : (s : KoalaBear) → koala_bear.mul s s ≢ element 3
 unfolding koala_bear

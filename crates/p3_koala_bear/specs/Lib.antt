@@ -1,5 +1,7 @@
 pub mod KoalaBear
 pub mod KoalaBearLaws
+pub mod KoalaBear4
+pub mod KoalaBear4Laws
 pub use Rattle.algebra.specs.Field
 pub use Rattle.algebra.specs.PolynomialProduct
 pub use Rattle.algebra.specs.Primes

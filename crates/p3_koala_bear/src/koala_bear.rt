@@ -9,6 +9,7 @@ mod factor;
 mod field;
 mod inverse;
 pub mod laws;
+mod packing;
 mod two_adic;
 
 pub use self::factor::KoalaBearFactor;

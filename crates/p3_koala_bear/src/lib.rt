@@ -3,5 +3,7 @@
 #![tactic(auto)]
 
 pub mod koala_bear;
+pub mod koala_bear4;
 
 pub use crate::koala_bear::{KoalaBear, KoalaBearFactor};
+pub use crate::koala_bear4::KoalaBear4;

@@ -2,8 +2,8 @@
 -- is greater than the root of `p`.
 use Rattle.std.specs.Prelude.{ℕ, zero, suc, ◌+◌, ◌-◌, ◌*◌, ◌/◌, ◌%◌, ◌^◌, ◌<◌, ◌≤◌, ◌≡◌, ◌≢◌, ◌⊎◌}
 use Rattle.std.proofs.Common.{refl, sym, ◌∙◌, ap, inl, inr, arith, mul_comm}
-use Rattle.std.proofs.Math.Nat.{mod-eq_of_lt, mod-lt, mod_self, mul-mod_left, mul-add-mod_self_right}
-use Rattle.std.proofs.Math.Nat.{div-add-mod, mul-le-mul, pow-zero, pow-suc, pow-succ', mul-mod_right}
+use Rattle.std.proofs.Math.Nat.{mod-eq_of_lt, mod-lt, mod_self, mul-mod_left}
+use Rattle.std.proofs.Math.Nat.{div-add-mod, mul-le-mul, pow-zero, pow-suc, pow-succ'}
 use Rattle.std.proofs.Math.Nat.{mul-add-mod_self_left}
 use Rattle.std.proofs.lemmas.Nat.{mul-mod_second, pow-add, mul-pow, pow-mod, pow_pos}
 use Rattle.std.proofs.lemmas.Bool.Decides.{eqb_tells}
@@ -23,11 +23,11 @@ divisor_below e zero = inr (λ d one less. absurd (omega arith))
 divisor_below e (suc b) =
     elim (divisor_below e b) [
       | inl w ↦ inl (record {
-          number = w.number;
-          above = w.above;
-          below = omega (arith, w.below);
-          divides = w.divides;
-        })
+        number = w.number;
+        above = w.above;
+        below = omega (arith, w.below);
+        divides = w.divides;
+      })
       | inr none ↦ elim (eqb_tells (e % b) 0) [
         | inl y ↦
             let s : (1 < b) ⊎ (b ≤ 1) = grind arith in
@@ -103,7 +103,7 @@ module _ (d : ℕ) (big : 2 < d) where
   -- of an odd power of -1
   odd_power : (h : ℕ) → (d - 1) ^ suc (h + h) % d ≡ d - 1
   odd_power h =
-      ap (λ x. x % d) (pow-succ' (d - 1) (h + h)) 
+      ap (λ x. x % d) (pow-succ' (d - 1) (h + h))
       ∙ ap (λ x. (d - 1) * x % d) (pow-add (d - 1) h h ∙ sym (mul-pow (d - 1) (d - 1) h))
       ∙ sym (mul-mod_second (d - 1) (((d - 1) * (d - 1)) ^ h) d)
       ∙ ap (λ x. (d - 1) * x % d) (sym (pow-mod ((d - 1) * (d - 1)) h d)

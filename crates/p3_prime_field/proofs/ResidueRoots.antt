@@ -1,10 +1,9 @@
 -- Roots of unity of a prime field, and what is no square there, by one power of -1.
-use Rattle.std.specs.Prelude.{ℕ, zero, suc, ◌+◌, ◌-◌, ◌*◌, ◌%◌, ◌^◌, ◌<◌, ◌≤◌, ◌≡◌, ◌≢◌}
+use Rattle.std.specs.Prelude.{ℕ, zero, suc, ◌+◌, ◌-◌, ◌*◌, ◌%◌, ◌^◌, ◌<◌, ◌≡◌, ◌≢◌}
 use Rattle.std.proofs.Common.{sym, ◌∙◌, ap, ap₂, arith, refl, mul_comm}
 use Rattle.std.proofs.Math.Nat.{mod-eq_of_lt}
 use Rattle.algebra.specs.Field.{FieldOps, IsRing, pow}
 use Rattle.algebra.specs.TwoAdic.{AreRoots}
-use Rattle.algebra.specs.Primes.{IsPrime}
 use Rattle.algebra.proofs.Fermat.{square_half_power}
 use Rattle.algebra.proofs.Powers.{pow-add, pow-mul, double}
 use Rattle.algebra.proofs.Ring.{◌:*◌, ◌:=◌, ring, :1, minus}

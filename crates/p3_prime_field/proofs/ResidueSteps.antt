@@ -1,12 +1,11 @@
 -- What the calls of a prime field keep, in plain numbers.
-use Rattle.std.specs.Prelude.{ℕ, zero, suc, ◌+◌, ◌-◌, ◌*◌, ◌/◌, ◌%◌, ◌^◌, ◌<◌, ◌≤◌, ◌≡◌, ◌≢◌, ◌⊎◌}
-use Rattle.std.proofs.Common.{sym, ◌∙◌, ap, arith, inl, inr, mul-one}
-use Rattle.std.proofs.Math.Nat.{div-add-mod, mod-lt, mod-eq_of_lt, mul_assoc, add-mod, add-mod_right}
+use Rattle.std.specs.Prelude.{ℕ, ◌+◌, ◌-◌, ◌*◌, ◌/◌, ◌%◌, ◌^◌, ◌<◌, ◌≤◌, ◌≡◌, ◌⊎◌}
+use Rattle.std.proofs.Common.{sym, ◌∙◌, ap, arith, inl, inr}
+use Rattle.std.proofs.Math.Nat.{div-add-mod, mod-lt, mod-eq_of_lt, mul_assoc, add-mod_right}
 use Rattle.std.proofs.Math.Nat.{add-mul-mod_self_right, mul-le-mul}
 use Rattle.std.proofs.lemmas.Nat.{mul-mod_first, mul-mod_second}
 use Rattle.std.specs.Int.{from_le_bytes, to_le_bytes, w32, w64}
 use Rattle.std.proofs.lemmas.Nat.{from_le_bytes-to_le_bytes_4, from_le_bytes-to_le_bytes_8}
-use Rattle.algebra.specs.Field.{multiple}
 use Rattle.algebra.specs.Primes.{IsPrime}
 use Rattle.algebra.proofs.Primes.{descend}
 use Rattle.p3_prime_field.specs.Residues.{Residues, modulo}

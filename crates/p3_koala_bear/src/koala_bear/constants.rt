@@ -7,5 +7,3 @@ pub(crate) const ZERO: KoalaBear = KoalaBear { value: 0 };
 pub(crate) const ONE: KoalaBear = KoalaBear { value: 1 };
 
 pub(crate) const TWO: KoalaBear = KoalaBear { value: 2 };
-
-

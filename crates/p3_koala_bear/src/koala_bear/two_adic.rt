@@ -9,8 +9,8 @@ use super::arithmetic::from_number;
 use p3_field_core::field::Field;
 use p3_field_core::two_adic::TwoAdicField;
 
-/// `3^124`, a root of unity of order `2^24`.
-const GREATEST_ROOT: u32 = 1_791_240_792;
+/// `3^127`, a root of unity of order `2^24`.
+const GREATEST_ROOT: u32 = 1_791_270_792;
 
 impl TwoAdicField for KoalaBear {
     ghost TWO_ADICITY = { 24 };

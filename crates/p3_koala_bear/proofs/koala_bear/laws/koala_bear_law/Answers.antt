@@ -15,5 +15,5 @@ returns-clause-generator_power c = generator_power
 
 pub returns-clause-root_order : goal.returns-clause-root_order
 returns-clause-root_order c =
-    subst (λ (x : KoalaBear). HasOrder koala_bear x (2 ^ 27)) root_first
-    (root_order koala_bear koala_bear_laws 27 root koala_bear_roots 27 (lit≤ tt))
+    subst (λ (x : KoalaBear). HasOrder koala_bear x (2 ^ 24)) root_first
+    (root_order koala_bear koala_bear_laws 24 root koala_bear_roots 24 (lit≤ tt))

@@ -2,7 +2,7 @@
 use Rattle.std.proofs.Common.{◌≡◌, ◌-◌, ◌*◌, ◌/◌, ◌%◌, ◌∙◌, ap, refl}
 use Rattle.p3_koala_bear.specs.KoalaBear.{koala_bear}
 use Rattle.p3_koala_bear.specs.KoalaBearLaws.{same_number}
-use Rattle.p3_koala_bear.proofs.Factors.{rest_is}
+use Rattle.p3_prime_field.proofs.ResidueSteps.{left_is}
 use Rattle.p3_koala_bear.proofs.koala_bear.factor.KoalaBearFactor.times.Goals as goal
 
 pub returns : goal.returns
@@ -18,4 +18,4 @@ returns c =
     refl in
     c.reduced_once.ensures
     ∙ same_number _ _ (ap (λ n. n % 2130706433) left
-    ∙ rest_is x f.factor.value f.quotient h f.rounded_down refl)
+    ∙ left_is 2130706433 x f.factor.value f.quotient h f.rounded_down refl)

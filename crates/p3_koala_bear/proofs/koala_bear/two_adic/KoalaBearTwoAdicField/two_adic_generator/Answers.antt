@@ -7,4 +7,4 @@ use Rattle.p3_koala_bear.proofs.koala_bear.two_adic.KoalaBearTwoAdicField.two_ad
 pub returns : goal.returns
 returns c =
     c.exp_power_of_2.ensures ∙ ap
-    (λ x. pow koala_bear x (2 ^ (27 - c.args.bits))) c.from_number.ensures ∙ root_is c.args.bits
+    (λ x. pow koala_bear x (2 ^ (24 - c.args.bits))) c.from_number.ensures ∙ root_is c.args.bits
