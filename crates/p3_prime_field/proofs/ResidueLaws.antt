@@ -121,6 +121,11 @@ module _ {E : Type 0} (p : ℕ) (N : Residues p E) where
       ap (λ x. (modulo p N).mul (element w) x) (pow_is w n) ∙ sym (product_is w (w ^ n))
       ∙ ap element (sym (pow-succ' w n))
 
+  -- a power that is known of a variable, so that nothing computes it outright
+  pub known_power : (w n m : ℕ) → ((v : ℕ) → v ≡ w → v ^ n % p ≡ m % p)
+      → pow (modulo p N) (element w) n ≡ element m
+  known_power w n m known = pow_is w n ∙ equal (w ^ n) m (known w refl)
+
   pub residue_inverse : IsPrime p → 2 < p → (x y : E) → x ≢ element 0
       → (value x * value y) % p ≡ 1 → y ≡ (modulo p N).inv x
   residue_inverse prime above x y h e =
