@@ -57,10 +57,15 @@ pub two_is : element 2 ≡ goldilocks.add goldilocks.one goldilocks.one
 unfolding goldilocks
 two_is = residue_two 18446744069414584321 goldilocks_numbers
 
-pub generator_is : element 7 ≢ goldilocks.zero
+-- an element whose number isn't a multiple of the order isn't zero
+pub not_zero : (n : ℕ) → 0 < n → n < 18446744069414584321 → element n ≢ goldilocks.zero
 unfolding goldilocks
-generator_is =
-    residues_apart 18446744069414584321 goldilocks_numbers 7 0 (lit< tt) (lit< tt) (λ e. omega (arith, e))
+not_zero n pos less =
+    residues_apart 18446744069414584321 goldilocks_numbers n 0 less (lit< tt)
+    (λ e. omega (arith, e, pos))
+
+pub generator_is : element 7 ≢ goldilocks.zero
+generator_is = not_zero 7 (lit< tt) (lit< tt)
 
 -- multiples of one are the elements of their numbers
 pub multiple_is : (n : ℕ) → multiple goldilocks n ≡ element n

@@ -11,6 +11,8 @@ pub mod laws;
 mod packing;
 mod two_adic;
 
+pub(crate) use self::arithmetic::reduced;
+
 /// An element of the prime field of 18446744069414584321 elements, kept as its canonical number.
 #[derive(Clone, Copy, Debug, PartialEq, Eq)]
 pub struct Goldilocks {

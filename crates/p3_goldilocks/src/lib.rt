@@ -3,5 +3,7 @@
 #![tactic(auto)]
 
 pub mod goldilocks;
+pub mod goldilocks2;
 
 pub use crate::goldilocks::Goldilocks;
+pub use crate::goldilocks2::Goldilocks2;
