@@ -9,7 +9,8 @@ use Rattle.algebra.proofs.Powers.{pow-one}
 use Rattle.p3_prime_field.specs.Proth.{IsProth}
 use Rattle.p3_prime_field.proofs.Modular.{power_modulo, power_is}
 use Rattle.p3_prime_field.proofs.ProthTest.{proth_prime}
-use Rattle.p3_prime_field.proofs.ResidueLaws.{residue_field, residue_eq, residue_two, equal, rest_is}
+use Rattle.p3_prime_field.proofs.ResidueLaws.{residue_field, residue_eq, residue_two, equal}
+use Rattle.p3_prime_field.proofs.ResidueLaws.{rest_is}
 use Rattle.p3_prime_field.proofs.ResidueLaws.{residues_apart, value_of_multiple, multiple_of_value}
 use Rattle.p3_prime_field.proofs.ResidueLaws.{residue_inverse, residue_positive, pow_is}
 use Rattle.p3_prime_field.proofs.ResidueLaws.{multiple_is as residue_multiple}
@@ -77,7 +78,8 @@ multiple_canonical x = multiple_of_value 2013265921 baby_bear_numbers x
 pub generator_power : pow baby_bear (element 31) 15 ≡ element 440564289
 unfolding baby_bear
 generator_power =
-    pow_is 2013265921 baby_bear_numbers 31 15 ∙ equal 2013265921 baby_bear_numbers (31 ^ 15) 440564289 refl
+    pow_is 2013265921 baby_bear_numbers 31 15
+    ∙ equal 2013265921 baby_bear_numbers (31 ^ 15) 440564289 refl
 
 pub baby_bear_roots : AreRoots baby_bear 27 root
 unfolding baby_bear root

@@ -31,8 +31,8 @@ goldilocks_numbers = record {
 unfoldable pub goldilocks : FieldOps Goldilocks
 goldilocks = modulo 18446744069414584321 goldilocks_numbers
 
--- the root of unity of order `2^k`: since the order of the group is `(2^32 - 1) * 2^32`, a power of the
--- generator 3
+-- the root of unity of order `2^k`: since the order of the group is `(2^32 - 1) * 2^32`, a power
+-- of the generator 7
 unfoldable pub root : ℕ → Goldilocks
 root k = pow goldilocks (element 7) (4294967295 * 2 ^ (32 - k))
 

@@ -19,7 +19,8 @@ use Rattle.p3_goldilocks.specs.Goldilocks.{number_bytes}
 use Rattle.p3_goldilocks.specs.GoldilocksLaws.{goldilocks_laws, zero_is, one_is}
 use Rattle.p3_goldilocks.specs.GoldilocksLaws.{two_is, bytes_length, bytes_injective, not_zero}
 use Rattle.p3_goldilocks.specs.GoldilocksLaws.{seven_is_no_square}
-use Rattle.p3_goldilocks.specs.Goldilocks2.{goldilocks2, goldilocks2_copies, quadratic_of, of_quadratic}
+use Rattle.p3_goldilocks.specs.Goldilocks2.{goldilocks2, goldilocks2_copies}
+use Rattle.p3_goldilocks.specs.Goldilocks2.{quadratic_of, of_quadratic}
 use Rattle.p3_goldilocks.specs.Goldilocks2.{coefficients2, of_coefficients2, lift2, generator2}
 use Rattle.p3_goldilocks.specs.Goldilocks2.{coefficient_bytes}
 
@@ -38,7 +39,8 @@ same_coefficients p q = λ i. record { constant = p i; linear = q i }
 pub eq2_same : (x y : Goldilocks2)
     → IsTrue (x.constant.value == y.constant.value && x.linear.value == y.linear.value) ↔ (x ≡ y)
 eq2_same x y =
-    let same = quadratic_eq 18446744069414584321 goldilocks_numbers (quadratic_of x) (quadratic_of y) in
+    let same =
+    quadratic_eq 18446744069414584321 goldilocks_numbers (quadratic_of x) (quadratic_of y) in
     (λ t. ap of_quadratic (same.0 t), λ e. same.1 (ap quadratic_of e))
 
 pub zero2_is : lift2 (element 0) ≡ goldilocks2.zero
@@ -79,7 +81,8 @@ pub coefficients2_length : (x : Goldilocks2) → length (coefficients2 x) ≡ 2
 coefficients2_length x = refl
 
 pub coefficients2_injective : (x y : Goldilocks2) → coefficients2 x ≡ coefficients2 y → x ≡ y
-coefficients2_injective x y e = ap of_quadratic (quadratic_injective (quadratic_of x) (quadratic_of y) e)
+coefficients2_injective x y e =
+    ap of_quadratic (quadratic_injective (quadratic_of x) (quadratic_of y) e)
 
 pub of_coefficients2_law : (xs : List Goldilocks) → length xs ≡ 2
     → coefficients2 (of_coefficients2 xs) ≡ xs
@@ -94,8 +97,8 @@ pub scaled_is : (x : Goldilocks2) (k : Goldilocks)
     ≡ goldilocks2.mul x (lift2 k)
 unfolding goldilocks2
 scaled_is x k =
-    rw zero_is (ap of_quadratic (sym (quadratic_mul-constant goldilocks goldilocks_laws.ring (element 7)
-    (quadratic_of x) k)))
+    rw zero_is (ap of_quadratic
+    (sym (quadratic_mul-constant goldilocks goldilocks_laws.ring (element 7) (quadratic_of x) k)))
 
 -- each element is the sum of its coefficients times one and the root
 pub coefficients2_basis : (x : Goldilocks2) → x ≡ sum_below goldilocks2 2 (λ k. goldilocks2.mul

@@ -89,7 +89,8 @@ generator_power =
 
 pub goldilocks_roots : AreRoots goldilocks 32 root
 unfolding goldilocks root
-goldilocks_roots = residue_roots 18446744069414584321 goldilocks_numbers 31 4294967295 7 order_is_proth
+goldilocks_roots =
+    residue_roots 18446744069414584321 goldilocks_numbers 31 4294967295 7 order_is_proth
 
 turned : pow goldilocks (element 7) (4294967295 * 2 ^ 31) ≡ goldilocks.neg goldilocks.one
 unfolding goldilocks
@@ -103,12 +104,14 @@ root_is k =
 
 -- the root of order `2^32`
 pub root_first : root 32 ≡ element 1753635133440165772
-root_first = sym (root_is 32) ∙ pow-one goldilocks goldilocks_laws.ring (element 1753635133440165772)
+root_first =
+    sym (root_is 32) ∙ pow-one goldilocks goldilocks_laws.ring (element 1753635133440165772)
 
 pub seven_is_no_square : (s : Goldilocks) → goldilocks.mul s s ≢ element 7
 unfolding goldilocks
 seven_is_no_square =
-    no_residue_square 18446744069414584321 goldilocks_numbers 31 4294967295 7 order_is_proth (lit< tt) (lit< tt)
+    no_residue_square 18446744069414584321 goldilocks_numbers 31 4294967295 7 order_is_proth
+    (lit< tt) (lit< tt)
 
 pub two_adicity_small : 32 < 64
 two_adicity_small = lit< tt
@@ -124,8 +127,8 @@ unfolding goldilocks
 positive = residue_positive 18446744069414584321 goldilocks_numbers
 
 -- the only inverse
-pub inverse_is : (x y : Goldilocks) → x ≢ goldilocks.zero → x.value * y.value % 18446744069414584321 ≡ 1
-    → y ≡ goldilocks.inv x
+pub inverse_is : (x y : Goldilocks) → x ≢ goldilocks.zero
+    → x.value * y.value % 18446744069414584321 ≡ 1 → y ≡ goldilocks.inv x
 unfolding goldilocks
 inverse_is = residue_inverse 18446744069414584321 goldilocks_numbers order_is_prime (lit< tt)
 

@@ -9,7 +9,8 @@ use Rattle.algebra.proofs.Powers.{pow-one}
 use Rattle.p3_prime_field.specs.Proth.{IsProth}
 use Rattle.p3_prime_field.proofs.Modular.{power_modulo, power_is}
 use Rattle.p3_prime_field.proofs.ProthTest.{proth_prime}
-use Rattle.p3_prime_field.proofs.ResidueLaws.{residue_field, residue_eq, residue_two, equal, rest_is}
+use Rattle.p3_prime_field.proofs.ResidueLaws.{residue_field, residue_eq, residue_two, equal}
+use Rattle.p3_prime_field.proofs.ResidueLaws.{rest_is}
 use Rattle.p3_prime_field.proofs.ResidueLaws.{residues_apart, value_of_multiple, multiple_of_value}
 use Rattle.p3_prime_field.proofs.ResidueLaws.{residue_inverse, residue_positive, pow_is}
 use Rattle.p3_prime_field.proofs.ResidueLaws.{multiple_is as residue_multiple}
@@ -77,7 +78,8 @@ multiple_canonical x = multiple_of_value 2130706433 koala_bear_numbers x
 pub generator_power : pow koala_bear (element 3) 127 ≡ element 1791270792
 unfolding koala_bear
 generator_power =
-    pow_is 2130706433 koala_bear_numbers 3 127 ∙ equal 2130706433 koala_bear_numbers (3 ^ 127) 1791270792 refl
+    pow_is 2130706433 koala_bear_numbers 3 127
+    ∙ equal 2130706433 koala_bear_numbers (3 ^ 127) 1791270792 refl
 
 pub koala_bear_roots : AreRoots koala_bear 24 root
 unfolding koala_bear root

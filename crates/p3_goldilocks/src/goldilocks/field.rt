@@ -3,9 +3,11 @@
 ghost use Rattle.std.specs.Prelude.{◌≡◌, ◌≢◌, ◌%◌, refl};
 ghost use Rattle.algebra.specs.Field.{multiple};
 ghost use Rattle.p3_goldilocks.specs.Goldilocks.{goldilocks, element};
-ghost use Rattle.p3_goldilocks.specs.GoldilocksLaws.{goldilocks_laws, eq_same, zero_is, one_is, two_is};
+ghost use Rattle.p3_goldilocks.specs.GoldilocksLaws.{goldilocks_laws, eq_same, zero_is, one_is};
+ghost use Rattle.p3_goldilocks.specs.GoldilocksLaws.{two_is};
 ghost use Rattle.p3_goldilocks.specs.GoldilocksLaws.{generator_is, canonical_multiple};
-ghost use Rattle.p3_goldilocks.specs.GoldilocksLaws.{multiple_canonical, bits_at_least, bits_at_most};
+ghost use Rattle.p3_goldilocks.specs.GoldilocksLaws.{multiple_canonical, bits_at_least};
+ghost use Rattle.p3_goldilocks.specs.GoldilocksLaws.{bits_at_most};
 
 use super::Goldilocks;
 use super::arithmetic::{from_number, reduced_once};

@@ -1,16 +1,17 @@
 //! Goldilocks2 is an extension of Goldilocks, of dimension 2.
 
 ghost use Rattle.std.specs.Prelude.{◌≡◌, ◌<◌, length, slice_index_or, slice_set};
-ghost use Rattle.p3_goldilocks.specs.Goldilocks2.{goldilocks2, lift2, coefficients2, of_coefficients2};
+ghost use Rattle.p3_goldilocks.specs.Goldilocks2.{goldilocks2, lift2, coefficients2};
+ghost use Rattle.p3_goldilocks.specs.Goldilocks2.{of_coefficients2};
 ghost use Rattle.p3_goldilocks.specs.Goldilocks2Laws.{lift2_homomorphism, lift2_constant};
-ghost use Rattle.p3_goldilocks.specs.Goldilocks2Laws.{coefficients2_length, coefficients2_injective};
+ghost use Rattle.p3_goldilocks.specs.Goldilocks2Laws.{coefficients2_length};
+ghost use Rattle.p3_goldilocks.specs.Goldilocks2Laws.{coefficients2_injective};
 ghost use Rattle.p3_goldilocks.specs.Goldilocks2Laws.{of_coefficients2_law, coefficients2_basis};
 
 use super::Goldilocks2;
 use crate::goldilocks::constants::ZERO;
 use crate::goldilocks::Goldilocks;
 use p3_field_core::extension::ExtensionField;
-use p3_field_core::field::Field;
 
 impl ExtensionField<Goldilocks> for Goldilocks2 {
     ghost DIMENSION = { 2 };
@@ -61,10 +62,7 @@ impl ExtensionField<Goldilocks> for Goldilocks2 {
     }
 
     fn scale_prepared(self, factor: Goldilocks) -> Goldilocks2 {
-        Goldilocks2 {
-            constant: self.constant * factor,
-            linear: self.linear * factor,
-        }
+        self.scale(factor)
     }
 
     ghost lift_law = { lift2_homomorphism };

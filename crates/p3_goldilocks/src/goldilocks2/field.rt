@@ -4,7 +4,8 @@ ghost use Rattle.std.specs.Prelude.{◌≡◌, ◌≢◌};
 ghost use Rattle.p3_binomial_extension.specs.Quadratic.{quadratic_norm};
 ghost use Rattle.p3_goldilocks.specs.Goldilocks.{goldilocks, element};
 ghost use Rattle.p3_goldilocks.specs.Goldilocks2.{goldilocks2, lift2, generator2, quadratic_of};
-ghost use Rattle.p3_goldilocks.specs.Goldilocks2Laws.{goldilocks2_laws, eq2_same, zero2_is, one2_is};
+ghost use Rattle.p3_goldilocks.specs.Goldilocks2Laws.{goldilocks2_laws, eq2_same, zero2_is};
+ghost use Rattle.p3_goldilocks.specs.Goldilocks2Laws.{one2_is};
 ghost use Rattle.p3_goldilocks.specs.Goldilocks2Laws.{two2_is, generator2_is};
 
 use super::Goldilocks2;

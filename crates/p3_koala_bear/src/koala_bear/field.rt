@@ -3,9 +3,11 @@
 ghost use Rattle.std.specs.Prelude.{◌≡◌, ◌≢◌, ◌%◌, refl};
 ghost use Rattle.algebra.specs.Field.{multiple};
 ghost use Rattle.p3_koala_bear.specs.KoalaBear.{koala_bear, element};
-ghost use Rattle.p3_koala_bear.specs.KoalaBearLaws.{koala_bear_laws, eq_same, zero_is, one_is, two_is};
+ghost use Rattle.p3_koala_bear.specs.KoalaBearLaws.{koala_bear_laws, eq_same, zero_is, one_is};
+ghost use Rattle.p3_koala_bear.specs.KoalaBearLaws.{two_is};
 ghost use Rattle.p3_koala_bear.specs.KoalaBearLaws.{generator_is, canonical_multiple};
-ghost use Rattle.p3_koala_bear.specs.KoalaBearLaws.{multiple_canonical, bits_at_least, bits_at_most};
+ghost use Rattle.p3_koala_bear.specs.KoalaBearLaws.{multiple_canonical, bits_at_least};
+ghost use Rattle.p3_koala_bear.specs.KoalaBearLaws.{bits_at_most};
 
 use super::KoalaBear;
 use super::arithmetic::{P, from_number};

@@ -23,23 +23,6 @@ fn product(a: KoalaBear, b: KoalaBear) -> u64
     a.as_canonical_u64() * b.as_canonical_u64()
 }
 
-/// The sum of four products, each of a value and the factor beside it, reduced once.
-pub(super) fn four_products(
-    values: (KoalaBear, KoalaBear, KoalaBear, KoalaBear),
-    factors: (KoalaBear, KoalaBear, KoalaBear, KoalaBear),
-) -> KoalaBear
-    ensures { result ≡ koala_bear.add (koala_bear.add (koala_bear.add
-        (koala_bear.mul values.0 factors.0) (koala_bear.mul values.1 factors.1))
-        (koala_bear.mul values.2 factors.2)) (koala_bear.mul values.3 factors.3) }
-{
-    KoalaBear::from_u64(
-        product(values.0, factors.0)
-            + product(values.1, factors.1)
-            + product(values.2, factors.2)
-            + product(values.3, factors.3),
-    )
-}
-
 /// 3 times a sum of up to three products, reduced so far that it is no greater than one product.
 fn three_times(sum: u64) -> u64
     requires { sum ≤ 3 * (2130706432 * 2130706432) }

@@ -1,7 +1,8 @@
 //! KoalaBear4 is an extension of KoalaBear, of dimension 4.
 
 ghost use Rattle.std.specs.Prelude.{◌≡◌, ◌<◌, length, slice_index_or, slice_set};
-ghost use Rattle.p3_koala_bear.specs.KoalaBear4.{koala_bear4, lift4, coefficients4, of_coefficients4};
+ghost use Rattle.p3_koala_bear.specs.KoalaBear4.{koala_bear4, lift4, coefficients4};
+ghost use Rattle.p3_koala_bear.specs.KoalaBear4.{of_coefficients4};
 ghost use Rattle.p3_koala_bear.specs.KoalaBear4Laws.{lift4_homomorphism, lift4_constant};
 ghost use Rattle.p3_koala_bear.specs.KoalaBear4Laws.{coefficients4_length, coefficients4_injective};
 ghost use Rattle.p3_koala_bear.specs.KoalaBear4Laws.{of_coefficients4_law, coefficients4_basis};
