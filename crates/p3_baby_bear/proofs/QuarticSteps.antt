@@ -1,24 +1,24 @@
 -- What the calls of BabyBear4 keep, in the terms of its field's operations.
-use Rattle.std.specs.Prelude.{ℕ, zero, suc, ◌+◌, ◌-◌, ◌*◌, ◌/◌, ◌%◌, ◌<◌, ◌≡◌, ◌≢◌, List, [], ◌∷◌}
-use Rattle.std.specs.Prelude.{length, slice_index, slice_index_or}
-use Rattle.std.specs.List.{flat_map}
+use Rattle.std.specs.Prelude.{ℕ, ◌+◌, ◌*◌, ◌/◌, ◌%◌, ◌<◌, ◌≡◌, ◌≢◌, slice_index, slice_index_or}
 use Rattle.std.proofs.Common.{sym, ◌∙◌, ap, ap₂, arith, get_or}
-use Rattle.std.proofs.lemmas.List.{get_or_append_left, get_or-append_right}
 use Rattle.std.proofs.Math.Nat.{mul-add-mod_self_right}
 use Rattle.algebra.specs.Field.{multiple}
 use Rattle.algebra.specs.QuarticExtension.{even_norm, base_norm}
 use Rattle.algebra.proofs.QuarticExtension.{base_norm_not_zero}
 use Rattle.algebra.proofs.Powers.{homomorphism-multiple}
 use Rattle.algebra.proofs.RingLaws.{multiple-mul}
+use Rattle.p3_prime_field.proofs.ResidueLaws.{equal}
+use Rattle.p3_binomial_extension.proofs.Pieces.{piece_entry}
 use Rattle.p3_baby_bear.specs.declared.baby_bear.BabyBear.{BabyBear}
 use Rattle.p3_baby_bear.specs.declared.baby_bear4.BabyBear4.{BabyBear4}
-use Rattle.p3_baby_bear.specs.BabyBear.{baby_bear, element, root, number_bytes}
+use Rattle.p3_baby_bear.specs.BabyBear.{baby_bear, baby_bear_numbers, element, root}
+use Rattle.p3_baby_bear.specs.BabyBear.{number_bytes}
 use Rattle.p3_baby_bear.specs.BabyBearLaws.{baby_bear_laws, same_number, zero_is, multiple_is}
 use Rattle.p3_baby_bear.specs.BabyBearLaws.{multiple_canonical, bytes_length}
-use Rattle.p3_baby_bear.specs.BabyBear4.{baby_bear4, quartic_of, of_quartic, lift4, coefficients4}
-use Rattle.p3_baby_bear.specs.BabyBear4.{coefficient_bytes}
-use Rattle.p3_baby_bear.specs.BabyBear4Laws.{lift4_homomorphism, eleven_is_no_square}
-use Rattle.p3_baby_bear.specs.BabyBear4Laws.{minus_one_is_square}
+use Rattle.p3_baby_bear.specs.BabyBearLaws.{eleven_is_no_square}
+use Rattle.p3_baby_bear.specs.BabyBear4.{baby_bear4, quartic_of, of_quartic, lift4}
+use Rattle.p3_baby_bear.specs.BabyBear4.{coefficients4, coefficient_bytes}
+use Rattle.p3_baby_bear.specs.BabyBear4Laws.{lift4_homomorphism, minus_one_is_square}
 
 pub zero_number : (x : BabyBear) → x.value ≡ 0 → x ≡ baby_bear.zero
 zero_number x e = same_number x (element 0) e ∙ zero_is
@@ -50,7 +50,7 @@ pub eleven_times_is : (s h l : ℕ) → h * 4294967296 + l ≡ s
     ≡ baby_bear.mul (element 11) (multiple baby_bear s)
 eleven_times_is s h l e =
     multiple_is (h * 939524073 + l * 11)
-    ∙ same_number (element (h * 939524073 + l * 11)) (element (11 * s))
+    ∙ equal 2013265921 baby_bear_numbers (h * 939524073 + l * 11) (11 * s)
     (sym (ap (λ n. n % 2013265921)
     (let o : 11 * s ≡ h * 23 * 2013265921 + (h * 939524073 + l * 11) = omega (arith, e) in o)
     ∙ mul-add-mod_self_right (h * 23) 2013265921 (h * 939524073 + l * 11)))
@@ -58,24 +58,10 @@ eleven_times_is s h l e =
     ∙ multiple-mul baby_bear baby_bear_laws.ring 11 s
     ∙ ap (λ x. baby_bear.mul x (multiple baby_bear s)) eleven_is
 
--- an entry of a list made of pieces of four
-get_or-fours : {A : Type 0} (f : A → List ℕ) → ((x : A) → length (f x) ≡ 4)
-    → (xs : List A) (q r : ℕ) (e : A) → q < length xs → r < 4
-    → get_or (flat_map f xs) (q * 4 + r) 0 ≡ get_or (f (get_or xs q e)) r 0
-get_or-fours f four [] q r e less small = absurd (omega (arith, less))
-get_or-fours f four (x ∷ xs) zero r e less small =
-    ap (λ i. get_or (flat_map f (x ∷ xs)) i 0) (let o : 0 * 4 + r ≡ r = omega arith in o)
-    ∙ get_or_append_left (f x) (flat_map f xs) 0 r (omega (arith, four x))
-get_or-fours f four (x ∷ xs) (suc q) r e less small =
-    get_or-append_right (f x) (flat_map f xs) 4 (suc q * 4 + r) 0 (four x) (omega arith)
-    ∙ ap (λ i. get_or (flat_map f xs) i 0)
-    (let o : suc q * 4 + r - 4 ≡ q * 4 + r = omega arith in o)
-    ∙ get_or-fours f four xs q r e (omega (arith, less)) small
-
 pub coefficient_byte_is : (x : BabyBear4) (i : ℕ) → i < 16
     → slice_index (number_bytes (slice_index_or (coefficients4 x) (i / 4) baby_bear.zero)) (i % 4)
     ≡ slice_index (coefficient_bytes x) i
 coefficient_byte_is x i less =
-    sym (get_or-fours number_bytes bytes_length (coefficients4 x) (i / 4) (i % 4) baby_bear.zero
-    (let o : i / 4 < 4 = omega arith in o) (let o : i % 4 < 4 = omega arith in o))
+    sym (piece_entry number_bytes 4 bytes_length (coefficients4 x) (i / 4) (i % 4) baby_bear.zero
+    (let o : i / 4 < 4 = omega (arith, less) in o) (let o : i % 4 < 4 = omega arith in o))
     ∙ ap (λ k. get_or (coefficient_bytes x) k 0) (let o : i / 4 * 4 + i % 4 ≡ i = omega arith in o)

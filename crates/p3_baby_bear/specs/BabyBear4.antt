@@ -1,8 +1,9 @@
 -- The extension of BabyBear by a root of `X^4 - 11`.
-use Rattle.std.specs.Prelude.{ℕ, List, slice_index_or}
+use Rattle.std.specs.Prelude.{ℕ, List, slice_index_or, refl}
 use Rattle.std.specs.List.{flat_map}
 use Rattle.algebra.specs.Field.{FieldOps}
 use Rattle.algebra.specs.QuarticExtension.{Quartic, quartic, quartic_coefficients, quartic_modulus}
+use Rattle.p3_binomial_extension.specs.Copies.{Copies}
 use Rattle.p3_baby_bear.specs.declared.baby_bear.BabyBear.{BabyBear}
 use Rattle.p3_baby_bear.specs.declared.baby_bear4.BabyBear4.{BabyBear4}
 use Rattle.p3_baby_bear.specs.BabyBear.{baby_bear, element, number_bytes}
@@ -15,6 +16,14 @@ quartic_of x =
 abbrev pub of_quartic : Quartic BabyBear → BabyBear4
 of_quartic x =
     record { constant = x.constant; linear = x.linear; quadratic = x.quadratic; cubic = x.cubic }
+
+abbrev pub baby_bear4_copies : Copies (Quartic BabyBear) BabyBear4
+baby_bear4_copies = record {
+  original = quartic_of;
+  copy = of_quartic;
+  copy_original = λ x. refl;
+  original_copy = λ a. refl;
+}
 
 -- the operations modulo `X^4 - 11`
 unfoldable pub baby_bear4 : FieldOps BabyBear4

@@ -2,7 +2,7 @@
 use Rattle.std.proofs.Common.{◌≡◌, ◌-◌, ◌*◌, ◌/◌, ◌%◌, ◌∙◌, ap, refl}
 use Rattle.p3_baby_bear.specs.BabyBear.{baby_bear}
 use Rattle.p3_baby_bear.specs.BabyBearLaws.{same_number}
-use Rattle.p3_baby_bear.proofs.Factors.{rest_is}
+use Rattle.p3_prime_field.proofs.ResidueSteps.{left_is}
 use Rattle.p3_baby_bear.proofs.baby_bear.factor.BabyBearFactor.times.Goals as goal
 
 pub returns : goal.returns
@@ -18,4 +18,4 @@ returns c =
     refl in
     c.reduced_once.ensures
     ∙ same_number _ _ (ap (λ n. n % 2013265921) left
-    ∙ rest_is x f.factor.value f.quotient h f.rounded_down refl)
+    ∙ left_is 2013265921 x f.factor.value f.quotient h f.rounded_down refl)

@@ -1,0 +1,10 @@
+pub mod Goldilocks
+pub mod GoldilocksLaws
+pub mod Goldilocks2
+pub mod Goldilocks2Laws
+pub use Rattle.algebra.specs.Field
+pub use Rattle.algebra.specs.PolynomialProduct
+pub use Rattle.algebra.specs.Primes
+pub use Rattle.algebra.specs.TwoAdic
+pub use Rattle.p3_binomial_extension.specs.Quadratic
+pub use Rattle.p3_field_core.specs.Order

@@ -1,0 +1,2 @@
+pub mod Factors
+pub mod QuarticSteps

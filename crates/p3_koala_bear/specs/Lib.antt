@@ -1,0 +1,10 @@
+pub mod KoalaBear
+pub mod KoalaBearLaws
+pub mod KoalaBear4
+pub mod KoalaBear4Laws
+pub use Rattle.algebra.specs.Field
+pub use Rattle.algebra.specs.PolynomialProduct
+pub use Rattle.algebra.specs.Primes
+pub use Rattle.algebra.specs.QuarticExtension
+pub use Rattle.algebra.specs.TwoAdic
+pub use Rattle.p3_field_core.specs.Order

@@ -1,0 +1,5 @@
+pub mod Modular
+pub mod ProthTest
+pub mod ResidueLaws
+pub mod ResidueRoots
+pub mod ResidueSteps

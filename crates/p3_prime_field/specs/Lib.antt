@@ -1,0 +1,5 @@
+pub mod Proth
+pub mod Residues
+pub use Rattle.algebra.specs.Field
+pub use Rattle.algebra.specs.Primes
+pub use Rattle.algebra.specs.TwoAdic
