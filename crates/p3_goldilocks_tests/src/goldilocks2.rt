@@ -38,10 +38,7 @@ const PRODUCTS: [(&str, [u64; 2]); 4] = [
 const VALUES: [(&str, [u64; 2]); 10] = [
     ("plus 2", [3, 2]),
     ("minus 3", [18446744069414584319, 2]),
-    (
-        "the negative",
-        [18446744069414584320, 18446744069414584319],
-    ),
+    ("the negative", [18446744069414584320, 18446744069414584319]),
     ("doubled", [2, 4]),
     ("halved", [9223372034707292161, 1]),
     ("squared", [29, 4]),
@@ -148,7 +145,11 @@ fn scaled_lane<F: PackableField, E: PackableExtension<F>>(x: E, factor: F) -> Op
         return None;
     }
     let factors = F::Packing::broadcast(factor);
-    Some(E::ExtensionPacking::broadcast(x).scale_lanes(factors).lane(0))
+    Some(
+        E::ExtensionPacking::broadcast(x)
+            .scale_lanes(factors)
+            .lane(0),
+    )
 }
 
 #[test]
@@ -156,4 +157,15 @@ fn lanes_of_a_packing(rt: HostRuntime) {
     let seven = Goldilocks::from_u64(7);
     let found = scaled_lane::<Goldilocks, Goldilocks2>(polynomial([1, 2]), seven);
     assert!(rt; found == Some(polynomial([7, 14])));
+}
+
+#[test]
+fn sums_of_rows_and_columns(rt: HostRuntime) {
+    let values = [polynomial([1, 2]), polynomial([5, 6])];
+    let row = [3, 18446744069414584320].map(Goldilocks::from_u64);
+    let dot = <Goldilocks2 as ExtensionField<Goldilocks>>::dot_row(&values, &row);
+    assert!(rt; coefficients(dot) == [18446744069414584319, 0]);
+    let mut sums = [Goldilocks2::ONE];
+    <Goldilocks2 as ExtensionField<Goldilocks>>::add_weighted_rows(&mut sums, &row, &values);
+    assert!(rt; coefficients(sums[0]) == [18446744069414584320, 0]);
 }

@@ -87,10 +87,7 @@ fn calls_of_an_extension(rt: HostRuntime) {
 /// The coefficients of inverses.
 const INVERSES: [(&str, [u64; 4]); 3] = [
     ("one over X", [0, 0, 0, 710235478]),
-    (
-        "1, 2, 3, 4",
-        [476435702, 408373459, 502227710, 126094261],
-    ),
+    ("1, 2, 3, 4", [476435702, 408373459, 502227710, 126094261]),
     (
         "one drawn by lot",
         [1300213507, 1365709072, 1483094325, 1203659998],
@@ -153,7 +150,11 @@ fn scaled_lane<F: PackableField, E: PackableExtension<F>>(x: E, factor: F) -> Op
         return None;
     }
     let factors = F::Packing::broadcast(factor);
-    Some(E::ExtensionPacking::broadcast(x).scale_lanes(factors).lane(0))
+    Some(
+        E::ExtensionPacking::broadcast(x)
+            .scale_lanes(factors)
+            .lane(0),
+    )
 }
 
 #[test]
@@ -162,4 +163,15 @@ fn lanes_of_a_packing(rt: HostRuntime) {
     let seven = KoalaBear::from_u64(7);
     let found = scaled_lane::<KoalaBear, KoalaBear4>(x, seven);
     assert!(rt; found == Some(polynomial([7, 14, 21, 28])));
+}
+
+#[test]
+fn sums_of_rows_and_columns(rt: HostRuntime) {
+    let values = [polynomial([1, 2, 3, 4]), polynomial([5, 6, 7, 8])];
+    let row = [3, 2130706432].map(KoalaBear::from_u64);
+    let dot = <KoalaBear4 as ExtensionField<KoalaBear>>::dot_row(&values, &row);
+    assert!(rt; coefficients(dot) == [2130706431, 0, 2, 4]);
+    let mut sums = [KoalaBear4::ONE];
+    <KoalaBear4 as ExtensionField<KoalaBear>>::add_weighted_rows(&mut sums, &row, &values);
+    assert!(rt; coefficients(sums[0]) == [2130706432, 0, 2, 4]);
 }

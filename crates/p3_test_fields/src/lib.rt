@@ -8,5 +8,7 @@ pub mod field;
 
 pub use crate::cases::first_wrong;
 pub use crate::extension::{comes_back, extension_values, first_wrong_basis};
-pub use crate::field::{agree, agree_throughout, field_values, first_wrong_inverse};
-pub use crate::field::{first_wrong_product, first_wrong_root, first_wrong_word};
+pub use crate::field::{
+    agree, agree_throughout, field_values, first_wrong_inverse, first_wrong_product,
+    first_wrong_root, first_wrong_word,
+};

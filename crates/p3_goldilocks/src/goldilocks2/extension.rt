@@ -9,8 +9,8 @@ ghost use Rattle.p3_goldilocks.specs.Goldilocks2Laws.{coefficients2_injective};
 ghost use Rattle.p3_goldilocks.specs.Goldilocks2Laws.{of_coefficients2_law, coefficients2_basis};
 
 use super::Goldilocks2;
-use crate::goldilocks::constants::ZERO;
 use crate::goldilocks::Goldilocks;
+use crate::goldilocks::constants::ZERO;
 use p3_field_core::extension::ExtensionField;
 
 impl ExtensionField<Goldilocks> for Goldilocks2 {

@@ -1,4 +1,4 @@
-use Rattle.std.proofs.Common.{refl, ap, ap₂, sym, ◌∙◌}
+use Rattle.std.proofs.Common.{ap, sym, ◌∙◌}
 use Rattle.p3_goldilocks.specs.Goldilocks.{goldilocks}
 use Rattle.p3_goldilocks.specs.Goldilocks2.{goldilocks2}
 use Rattle.p3_goldilocks.specs.Goldilocks2Laws.{same_coefficients}
