@@ -1,8 +1,10 @@
 -- What constraints see at a point of a coset.
-use Rattle.std.proofs.Common.{◌≡◌, ◌≢◌, ℕ, ◌+◌, ◌-◌, ◌%◌, ◌<◌, ◌≤◌, List, [], ◌∷◌, length, get_or}
+use Rattle.std.proofs.Common.{◌≡◌, ◌≢◌, ℕ, ◌+◌, ◌-◌, ◌*◌, ◌%◌, ◌^◌, ◌<◌, ◌≤◌, List, [], ◌∷◌, length, get_or}
 use Rattle.std.proofs.Common.{All, refl, sym, ap, subst, ◌∙◌, ◌⊎◌, inl, inr, arith, mod-lt}
 use Rattle.std.proofs.Math.Nat.{mod-eq_of_lt, add-mod_right}
 use Rattle.std.proofs.lemmas.List.{get_or_past}
+use Rattle.std.proofs.lemmas.Nat.{pow_below}
+use Rattle.std.proofs.Math.Pow.{pow_mono}
 use Rattle.p3_air.specs.declared.air.AirLayout.{AirLayout}
 use Rattle.p3_air.specs.Nodes.{Entries}
 use Rattle.p3_air.specs.Satisfied.{row_at}
@@ -85,3 +87,12 @@ module _ {V : Type 0} (layout : AirLayout) (size step : ℕ) (given : OnCoset V)
             (i % length given.periodic) fits.periodic_widths
             (λ n. mod-lt i (fits.periodic_height n));
       }
+
+-- a power of two that fits a word, as a shift gives it
+pub shifted_one : (d top : ℕ) → d ≤ top → top < 64 → (1 * 2 ^ d) % 2 ^ 64 ≡ 2 ^ d
+shifted_one d top l few =
+    let small : 2 ^ d < 2 ^ 64 = pow_below d 64 (omega (arith, l, few)) in
+    ap (λ n. n % 2 ^ 64) (let e : 1 * 2 ^ d ≡ 2 ^ d = omega arith in e) ∙ mod-eq_of_lt small
+
+pub power_at_most : (i j : ℕ) → i ≤ j → 2 ^ i ≤ 2 ^ j
+power_at_most i j l = pow_mono l

@@ -1,3 +1,4 @@
+pub mod Chunking
 pub mod Entries
 pub mod Folded
 pub mod Selecting

@@ -78,8 +78,12 @@ module _ {A : Type 0} (F : FieldOps A) (L : IsField F) (top : ℕ) (w : ℕ → 
       powers_at : (i : ℕ) (d : A) → i < length powers → get_or powers i d ≡ pow F (point i) (2 ^ k)
       powers_at i d l = ap (λ xs. get_or xs i d) powers_are
           ∙ get_or-tabulate N (λ i. F.mul (pow F shift (2 ^ k)) (pow F (pow F r (2 ^ k)) i)) i d
-          (omega (arith, l, ap length powers_are,
-          length-tabulate N (λ i. F.mul (pow F shift (2 ^ k)) (pow F (pow F r (2 ^ k)) i))))
+          (omega (
+            arith,
+            l,
+            ap length powers_are,
+            length-tabulate N (λ i. F.mul (pow F shift (2 ^ k)) (pow F (pow F r (2 ^ k)) i)),
+          ))
           ∙ power_is i
 
       pub powers_off : (c : A) → c ≡ F.one → All (λ x. sub F x c ≢ F.zero) powers

@@ -24,6 +24,19 @@ fn push_coefficients<F: Field, EF: ExtensionField<F>>(
     Ok(())
 }
 
+/// The place, among the values on the whole coset, of a chunk's value at this row.
+fn place_of(log_size: usize, log_num_chunks: usize, chunk: usize, row: usize) -> usize
+    requires sizes { log_size + log_num_chunks < 64 }
+    requires chunk { chunk < 2 ^ log_num_chunks }
+    requires row { row < 2 ^ log_size }
+    ensures place { result ≡ chunk + row * 2 ^ log_num_chunks }
+    ensures within { result < 2 ^ (log_size + log_num_chunks) }
+{
+    let step = 1usize << log_num_chunks;
+    let start = row * step;
+    chunk + start
+}
+
 /// The coefficients of every `2^log_num_chunks`-th value, from the one at `chunk` on, a row to a
 /// value.
 fn quotient_chunk<F: Field, EF: ExtensionField<F>>(
@@ -46,8 +59,8 @@ fn quotient_chunk<F: Field, EF: ExtensionField<F>>(
     };
     let mut coefficients = Vec::with_capacity(alloc, len)?;
     for row in 0..num_rows {
-        let value = values[chunk + (row << log_num_chunks)];
-        push_coefficients(&mut coefficients, value)?;
+        let place = place_of(log_size, log_num_chunks, chunk, row);
+        push_coefficients(&mut coefficients, values[place])?;
     }
     Ok(RowMajorMatrix::new(coefficients, EF::DIMENSION))
 }

@@ -7,17 +7,14 @@ ghost use Rattle.p3_field_core.specs.Coset.{coset_point};
 ghost use Rattle.p3_uni_stark_identity.specs.Selectors.{AreSelectorsAt};
 ghost use Rattle.p3_uni_stark_identity.specs.Laws.{IsOffSubgroup};
 
-use p3_field_core::{Field, TwoAdicField, TwoAdicMultiplicativeCoset};
-use p3_field_core::{batch_multiplicative_inverse, shifted_powers};
+use p3_field_core::{
+    Field, TwoAdicField, TwoAdicMultiplicativeCoset, batch_multiplicative_inverse, shifted_powers,
+};
 use p3_uni_stark_identity::LagrangeSelectors;
 use std::alloc::{AllocError, Global};
 
 /// Each value minus the same element.
-fn differences<F: Field>(
-    alloc: Global,
-    values: &[F],
-    subtrahend: F,
-) -> Result<Vec<F>, AllocError>
+fn differences<F: Field>(alloc: Global, values: &[F], subtrahend: F) -> Result<Vec<F>, AllocError>
     ensures { IfOk result (λ differences.
         differences.items ≡ map (λ x. sub F.ops x subtrahend) values.now) }
 {
@@ -109,8 +106,7 @@ pub fn selectors_on_coset<F: TwoAdicField>(
     let inv_last = all_inv_last.as_slice();
     let mut selectors = Vec::with_capacity(alloc, count)?;
     for i in 0..count {
-        let here =
-            selectors_at_index(vanishing, inv_vanishing, inv_first, from_last, inv_last, i);
+        let here = selectors_at_index(vanishing, inv_vanishing, inv_first, from_last, inv_last, i);
         selectors.push(here)?;
     }
     Ok(selectors)

@@ -10,7 +10,8 @@ use crate::columns::{CosetColumns, window_at};
 use crate::row::quotient_at_row;
 use crate::selectors::selectors_on_coset;
 use p3_air::{Air, Constraint};
-use p3_field_core::{ExtensionField, TwoAdicField, TwoAdicMultiplicativeCoset, powers::powers};
+use p3_field_core::powers::powers;
+use p3_field_core::{ExtensionField, TwoAdicField, TwoAdicMultiplicativeCoset};
 use std::alloc::{AllocError, Global};
 
 /// The constraints, the last one first.

@@ -26,7 +26,7 @@ dot_row-sum-requires g c =
     ∙ length-map c.args.reversed.now (λ (x : Constraint). selected_by g.F.Field.ops
     c.args.selectors.now x.rows
     (slice_index_or c.as_slice-values.result.now x.node g.F.Field.ops.zero)) in
-    record { values = omega (arith, long, c.requires.powers); }
+    record { values = omega (arith, long, c.requires.powers) }
 
 pub returns : goal.returns
 returns g c h x n alpha powers at off there first last =

@@ -149,8 +149,12 @@ loop-i-preserved g c =
     (c.exp_power_of_2-step_power.ensures
     ∙ ap (λ x. pow F x (2 ^ k)) c.two_adic_generator-generator.ensures) in
     record {
-      len = omega (arith, ap length c.in_ok-push.ensures.items,
-          length_push c.loop-i.selectors.items h.result, invariant.len);
+      len = omega (
+        arith,
+        ap length c.in_ok-push.ensures.items,
+        length_push c.loop-i.selectors.items h.result,
+        invariant.len,
+      );
       each = each_pushed
           (λ j x. AreSelectorsAt F (w k) (2 ^ k) (coset_point F r s j) x)
           c.loop-i.selectors.items c.push.new.self.items h.result i c.in_ok-push.ensures.items
