@@ -30,8 +30,8 @@ periodic_entry [] row p h e f = refl
 periodic_entry (r ∷ rows) row p h e f =
     ap (λ n. get_or (r ∷ rows) n []) (f (omega (arith, e)) ∙ ap (λ n. row % n) e)
 
-module _ {V : Type 0} (v : List V) where
-  abbrev entries_of_lists : (l n p q r : List V) → Entries V V
+module _ {V E : Type 0} (v : List V) where
+  abbrev entries_of_lists : (l n p q r : List E) → Entries V E
   entries_of_lists l n p q r = record {
     local = l;
     next = n;
@@ -42,9 +42,9 @@ module _ {V : Type 0} (v : List V) where
   }
 
   -- entries are the same where they are kind by kind
-  pub entries_same : (l l' n n' p p' q q' r r' : List V) → l ≡ l' → n ≡ n' → p ≡ p' → q ≡ q'
+  pub entries_same_in : (l l' n n' p p' q q' r r' : List E) → l ≡ l' → n ≡ n' → p ≡ p' → q ≡ q'
       → r ≡ r' → entries_of_lists l n p q r ≡ entries_of_lists l' n' p' q' r'
-  entries_same l l' n n' p p' q q' r r' a b c d e =
+  entries_same_in l l' n n' p p' q q' r r' a b c d e =
       ap (λ x. entries_of_lists x n p q r) a ∙ ap (λ x. entries_of_lists l' x p q r) b
       ∙ ap (λ x. entries_of_lists l' n' x q r) c ∙ ap (λ x. entries_of_lists l' n' p' x r) d
       ∙ ap (λ x. entries_of_lists l' n' p' q' x) e
