@@ -1,0 +1,5 @@
+pub mod Chunking
+pub mod Entries
+pub mod Folded
+pub mod Honest
+pub mod Selecting

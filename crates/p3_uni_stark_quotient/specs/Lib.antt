@@ -1,0 +1,4 @@
+pub mod Chunked
+pub mod Given
+pub mod Laws
+pub mod Quotient
