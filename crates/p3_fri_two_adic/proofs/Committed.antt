@@ -5,6 +5,7 @@ use Rattle.std.specs.List.{AllZip}
 use Rattle.std.proofs.lemmas.List.{length-map}
 use Rattle.algebra.specs.Field.{IsField}
 use Rattle.algebra.specs.Polynomial.{tabulate}
+use Rattle.algebra.specs.Interpolation.{Interpolates}
 use Rattle.algebra.specs.TwoAdic.{AreRoots}
 use Rattle.algebra.specs.Quotients.{values_at}
 use Rattle.algebra.specs.Words.{IsCosetWord}
@@ -27,7 +28,6 @@ use Rattle.p3_fri_completeness.specs.Requests.{held_in, HoldsWords}
 use Rattle.p3_pcs.specs.Requests.{Held}
 use Rattle.p3_stark_pcs.specs.Evaluations.{HasPolynomials}
 use Rattle.p3_fri_two_adic.specs.Chunks.{polynomials_on}
-use Rattle.p3_fri_two_adic.specs.Held.{Extends}
 use Rattle.p3_fri_two_adic.specs.Ldes.{HasLdeHeight}
 
 module _ {F E : Type 0} (f : Fields F E) (L : IsField f.base)
@@ -40,19 +40,23 @@ module _ {F E : Type 0} (f : Fields F E) (L : IsField f.base)
     abbrev polynomial : ℕ → List F
     polynomial j = polynomial_on f.base f.root s k (column f.base values j)
 
-    degree : (j : ℕ) → length (polynomial j) ≡ 2 ^ k
-    degree j = (interpolant_interpolates f.base L (coset_points f.base (f.root k) s k)
+    -- the polynomial of a column has its values on the domain
+    pub interpolates : (j : ℕ) → Interpolates f.base (coset_points f.base (f.root k) s k)
+        (column f.base values j) (polynomial j)
+    interpolates j = interpolant_interpolates f.base L (coset_points f.base (f.root k) s k)
         (column f.base values j)
         (length-tabulate (2 ^ k) (coset_point f.base (f.root k) s) ∙ sym fits.height
         ∙ sym (column_length values j))
         (distinct_from_AllPairs (coset_points f.base (f.root k) s k)
         (natural_distinct f.base L f.two_adicity f.root W k (omega
-        (arith, fits.within)) s off_zero))).count
-        ∙ length-tabulate (2 ^ k) (coset_point f.base (f.root k) s)
+        (arith, fits.within)) s off_zero))
       where
         column_length : (m : RowMajorMatrix F) (j : ℕ)
             → length (column f.base m j) ≡ length (rows m)
         column_length m j = length-map (rows m) (λ entries. get_or entries j f.base.zero)
+
+    degree : (j : ℕ) → length (polynomial j) ≡ 2 ^ k
+    degree j = (interpolates j).count ∙ length-tabulate (2 ^ k) (coset_point f.base (f.root k) s)
 
     pub has_coset : HasCoset f.two_adicity matrix
     has_coset = record {
@@ -75,7 +79,7 @@ module _ {F E : Type 0} (f : Fields F E) (L : IsField f.base)
     pub holds_words : HoldsWords f b matrix
     holds_words = record { log_size = k; height = extended.height; columns = word_of }
 
-    pub extends : Extends f s k values (held_in f b matrix)
+    pub extends : HasPolynomials (held_in f b matrix) (polynomials_on f s k values)
     unfolding word_of
     extends = record {
       size = ap (λ n. n / 2 ^ b) extended.height ∙ pow-divided k b;
@@ -94,7 +98,7 @@ each_first R Q P f [] ys h q = tt
 each_first R Q P f (a ∷ xs) [] h q = absurd h
 each_first R Q P f (a ∷ xs) (b ∷ ys) h q = (f a b h.0 q.0, each_first R Q P f xs ys h.1 q.1)
 
-each_mapped : {A A' B : Type 0} (R : A → B → Type 0) (Q : B → Type 0) (S : A' → B
+pub each_mapped : {A A' B : Type 0} (R : A → B → Type 0) (Q : B → Type 0) (S : A' → B
     → Type 0) (g : A → A')
     → ((a : A) (b : B) → R a b → Q b → S (g a) b) → (xs : List A) (ys : List B) → AllZip R xs ys
     → Each Q ys → AllZip S (map g xs) ys
@@ -153,13 +157,6 @@ module _ {F E Domain : Type 0} (f : Fields F E) (L : IsField f.base)
       (each_first IsWordOf Fits (HoldsWords f b)
       (λ m e h q. holds_words f L W nonzero b (shift e.0) (off_zero e.0) (log_size e.0) e.1 m q h)
       matrices evaluations words (each_from_All Fits evaluations fit))
-
-  pub all_extend : AllZip (λ m e. Extends f (shift e.0) (log_size e.0) e.1 m) (map
-      (held_in f b) matrices) evaluations
-  all_extend = each_mapped IsWordOf Fits (λ m e. Extends f (shift e.0) (log_size e.0) e.1 m)
-      (held_in f b)
-      (λ m e h q. extends f L W nonzero b (shift e.0) (off_zero e.0) (log_size e.0) e.1 m q h)
-      matrices evaluations words (each_from_All Fits evaluations fit)
 
   abbrev Chunk : Domain × RowMajorMatrix F → Held E
   Chunk e = polynomials_on f (shift e.0) (log_size e.0) e.1

@@ -26,7 +26,7 @@ module _ {F E : Type 0} (f : Fields F E) where
       → Extends f shift k values m → HasColumns m
   unfolding matrix_width
   extended_columns shift k values m h z e =
-      some_entry (matrix_width values) _ _ values.has_columns (sym (h.values z) ∙ e)
+      some_entry (matrix_width values) _ _ values.has_columns (sym (h.polynomials.values z) ∙ e)
 
   module _ (b : ℕ) where
     -- an index at which a column is held names a matrix

@@ -9,3 +9,5 @@ pub mod Evaluations
 pub mod Ldes
 pub mod EvaluationLaws
 pub mod UnivariateLaws
+pub mod Rules
+pub mod RuleLaws

@@ -1,6 +1,7 @@
 //! The polynomial commitment scheme over two-adic fields.
 #![tactic(auto)]
 
+pub mod rules;
 pub mod two_adic_pcs;
 pub mod univariate;
 

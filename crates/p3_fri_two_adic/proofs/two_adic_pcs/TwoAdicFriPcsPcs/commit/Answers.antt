@@ -1,5 +1,6 @@
 use Rattle.p3_fri_relation.specs.Setting.{Fields}
-use Rattle.p3_fri_two_adic.proofs.Committed.{have_cosets, hold_words, all_extend}
+use Rattle.p3_fri_two_adic.proofs.Committed.{have_cosets, hold_words}
+use Rattle.p3_fri_two_adic.proofs.Rows.{all_extend}
 use Rattle.p3_fri_two_adic.proofs.two_adic_pcs.TwoAdicFriPcsPcs.commit.Given.{Over}
 use Rattle.p3_fri_two_adic.proofs.two_adic_pcs.TwoAdicFriPcsPcs.commit.Goals as goal
 
@@ -33,8 +34,8 @@ returns-in-Ok-clause-honest g c =
 
 pub returns-in-Ok-clause-extends : goal.returns-in-Ok-clause-extends
 returns-in-Ok-clause-extends g c =
-    all_extend (fields_of g) g.met.F.Field.laws g.met.F.TwoAdicField.roots_law
-    g.met.F.Field.generator_law c.args.self.now.fri.log_blowup
+    all_extend (fields_of g) g.met.F.Field.laws g.met.EF.Field.laws
+    g.met.EF.ExtensionField.lift_law g.met.F.TwoAdicField.roots_law g.met.F.Field.generator_law c.args.self.now.fri.log_blowup
     (λ d. d.shift) (λ d. d.log_size) (λ d. d.nonzero)
     (g.InputMmcs.Mmcs.committed c.in-Ok.committed.1) c.args.evaluations.items
     c.requires c.in-Ok.ensures.words

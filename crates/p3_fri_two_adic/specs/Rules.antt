@@ -1,0 +1,116 @@
+-- What the scheme over two-adic fields opens, accepts and refuses, and what it has for a STARK.
+use Rattle.std.specs.Prelude.{◌≡◌, ◌^◌, ℕ, List, Option, All, ⊤}
+use Rattle.std.specs.List.{AllZip}
+use Rattle.p3_matrix.specs.declared.dense.RowMajorMatrix.{RowMajorMatrix}
+use Rattle.p3_pcs.specs.Requests.{AreOpenable}
+use Rattle.p3_pcs.specs.Scheme.{Scheme}
+use Rattle.p3_stark_pcs.specs.Scheme.{StarkScheme}
+use Rattle.p3_fri_commit.specs.Extension.{FitsDomain, IsLowDegreeExtension}
+use Rattle.p3_fri_pow.specs.declared.error.FriProverError.{FriProverError}
+use Rattle.p3_fri_pow.specs.declared.error.FriProverError.TheVariants as refusal
+use Rattle.p3_fri_relation.specs.declared.error.FriError.{FriError}
+use Rattle.p3_fri_relation.specs.declared.error.FriError.TheVariants as fault
+use Rattle.p3_fri_relation.specs.Setting.{Setting, Parameters, Proof}
+use Rattle.p3_fri_relation.specs.Acceptance.{Accepts}
+use Rattle.p3_fri_relation.specs.Faults.{StandsInScheme}
+use Rattle.p3_fri_openings.specs.Rounds.{HasCoset}
+use Rattle.p3_fri_completeness.specs.Requests.{held_in, held_of, HoldsWords, relation_claims}
+use Rattle.p3_fri_opening_verifier.specs.Ranges.{InProverRange, InVerifierRange}
+use Rattle.p3_fri_opening_verifier.specs.Ends.{last_state}
+use Rattle.p3_fri_opening_verifier.specs.Accepted.{LeavesVerifier}
+use Rattle.p3_fri_opening_prover.specs.Refusals.{PassesChecks, OpenRefusal, LeavesState}
+use Rattle.p3_fri_two_adic.specs.Evaluations.{IsMatrixOf, HoldsWordsAt}
+use Rattle.p3_fri_two_adic.specs.Held.{IsSubgroupSize, Extends}
+use Rattle.p3_fri_two_adic.specs.Ldes.{HasLdeHeight}
+
+-- What an opening of two-adic words stands on: the setting of the low-degree test and its
+-- parameters, what the data of batches (`D`) and those of rounds (`Data`) are commitments to, and
+-- what the challenger finds and draws.
+pub record TwoAdic (F E C D Data Com Path InCom InPath : Type 0) : Type 1 where
+  pub setting : Setting F E C Com Path InCom InPath
+  pub parameters : Parameters
+  -- the matrices and the commitment of a batch's data
+  pub committed : D → List (RowMajorMatrix F)
+  pub commitment_of : D → InCom
+  -- those of a round's
+  pub round_committed : Data → List (RowMajorMatrix E)
+  pub round_commitment_of : Data → Com
+  -- the witness that a search at so many bits finds
+  pub solution : C → ℕ → Option F
+  -- how many bits are drawn at once at most
+  pub most_bits : ℕ
+
+module _ {F E C D Data Com Path InCom InPath : Type 0}
+    (r : TwoAdic F E C D Data Com Path InCom InPath) where
+  -- a datum's matrices stand on cosets of the field
+  abbrev pub StandsOnCosets : D → Type 0
+  StandsOnCosets d = All (HasCoset r.setting.fields.two_adicity) (r.committed d)
+
+-- over domains with these shifts and log sizes, and proofs that are read so
+module _ {F E C D Data Domain Com Path InCom InPath Shown A B : Type 0} (shift : Domain → F)
+    (log_size : Domain → ℕ) (proof_of : Shown → Proof F E Com Path InPath)
+    (r : TwoAdic F E C D Data Com Path InCom InPath) where
+  -- what the scheme opens, accepts and refuses
+  abbrev pub two_adic_rules : Scheme E C F Domain InCom D Shown (FriError A B) FriProverError
+  two_adic_rules = record {
+    domain_size = λ d. 2 ^ log_size d;
+    HasDomain = λ n. IsSubgroupSize r.setting.fields.two_adicity n;
+    commitment_of = r.commitment_of;
+    committed_polynomials = λ d. held_of r.setting.fields r.committed r.parameters.log_blowup d;
+    CanOpen = λ d. StandsOnCosets r d;
+    IsHonest = λ d. All (HoldsWords r.setting.fields r.parameters.log_blowup) (r.committed d);
+    after_opening = λ d. d;
+    CanCommit = λ evaluations. All (λ e. FitsDomain r.setting.fields.two_adicity
+        r.parameters.log_blowup (log_size e.0) e.1) evaluations;
+    Extends = λ m e. Extends r.setting.fields (shift e.0) (log_size e.0) e.1 m;
+    CommitRefuses = λ _ e. e ≡ refusal.OutOfMemory;
+    InProverRange = InProverRange r.parameters r.setting.fields.two_adicity r.most_bits;
+    InVerifierRange = InVerifierRange r.parameters r.setting.fields.two_adicity r.most_bits;
+    PassesChecks = λ _ asked. PassesChecks r.setting.fields r.parameters r.committed asked;
+    Refuses = λ _ c asked e. OpenRefusal r.setting r.parameters r.committed r.round_committed
+        r.round_commitment_of r.solution c asked e;
+    LeavesState = λ e. LeavesState e;
+    Accepts = λ _ c claims proof.
+        Accepts r.setting r.parameters (relation_claims log_size claims) (proof_of proof) c;
+    last_state = λ _ c claims proof.
+        last_state r.setting r.parameters (relation_claims log_size claims) (proof_of proof) c;
+    IsTrueRefusal = λ _ claims proof c e. StandsInScheme r.setting r.parameters
+        (relation_claims log_size claims) (proof_of proof) c e;
+    LeavesVerifier = λ e. LeavesVerifier e;
+    out_of_memory = fault.OutOfMemory;
+  }
+
+-- over domains with these shifts and log sizes
+module _ {F E C D Data Domain Com Path InCom InPath : Type 0} (shift : Domain → F)
+    (log_size : Domain → ℕ) (r : TwoAdic F E C D Data Com Path InCom InPath) where
+  -- what it has for a STARK: the index of preprocessing says nothing, and no column is random
+  abbrev pub two_adic_stark_rules : StarkScheme E F Domain D FriProverError
+  two_adic_stark_rules = record {
+    least_log_height = 0;
+    greatest_log_height = r.setting.fields.two_adicity;
+    CanOpenPreprocessed = λ d. StandsOnCosets r d;
+    CanOpenAt = λ _ asked. AreOpenable (λ d. StandsOnCosets r d)
+        (λ d. held_of r.setting.fields r.committed r.parameters.log_blowup d) asked;
+    PreprocessingRefuses = λ _ e. e ≡ refusal.OutOfMemory;
+    CanCommitLdes = λ ldes.
+        All (HasLdeHeight r.setting.fields.two_adicity r.parameters.log_blowup) ldes;
+    CanOpenLdes = λ _. ⊤;
+    AreLdes = λ ldes. All (HoldsWords r.setting.fields r.parameters.log_blowup) ldes;
+    LdesRefuse = λ _ e. e ≡ refusal.OutOfMemory;
+    polynomials_of = λ m. held_in r.setting.fields r.parameters.log_blowup m;
+    CanExtend = λ evaluations _. All (λ e. FitsDomain r.setting.fields.two_adicity
+        r.parameters.log_blowup (log_size e.0) e.1) evaluations;
+    ExtendQuotients = λ evaluations ldes. AllZip (λ matrix e. IsLowDegreeExtension
+        r.setting.fields.base r.setting.fields.root r.setting.fields.shift r.parameters.log_blowup
+        (shift e.0) (log_size e.0) e.1 matrix) ldes evaluations;
+    QuotientsRefuse = λ _ e. e ≡ refusal.OutOfMemory;
+    IsReadable = λ d. StandsOnCosets r d;
+    CanEvaluate = λ d index _. IsMatrixOf r.setting.fields.two_adicity (r.committed d) index;
+    CanEvaluateWhole = λ d index _. IsMatrixOf r.setting.fields.two_adicity (r.committed d) index;
+    IsHonestAt = λ d index.
+        HoldsWordsAt r.setting.fields r.parameters.log_blowup (r.committed d) index;
+    whole_polynomials = λ d. held_of r.setting.fields r.committed r.parameters.log_blowup d;
+    CanRandomize = λ _. ⊤;
+    random_columns = 0;
+    RandomizationRefuses = λ _ _. ⊥;
+  }
