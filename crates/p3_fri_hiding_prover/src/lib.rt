@@ -16,4 +16,4 @@ pub use crate::data::{
 };
 pub use crate::opening::open_hiding_requests;
 pub use p3_fri_random_openings::verify_with_random_values;
-pub use p3_fri_two_adic::setting::PlaysTwoAdic;
+pub use p3_fri_two_adic::rules::OpensTwoAdic;

@@ -1,4 +1,4 @@
-use Rattle.std.proofs.Common.{◌≡◌, ◌+◌, ◌^◌, ◌∙◌, ap, subst, arith}
+use Rattle.std.proofs.Common.{◌≡◌, ◌≤◌, ◌+◌, ◌^◌, ◌∙◌, ap, subst, arith}
 use Rattle.std.specs.Prelude.{IfOk}
 use Rattle.p3_matrix.specs.Words.{past}
 use Rattle.p3_fri_masks.specs.Draws.{AreRandom, random_words}
@@ -27,3 +27,7 @@ returns-clause-past g c =
     (g.R.Rng.stream c.args.rng.now)))
     (c.in-Some.ensures.1 ∙ ap (λ n. c.args.num_random_codewords + n) c.DIMENSION.ensures)
     c.random_matrices.ensures.past
+
+pub returns-clause-too_wide : goal.returns-clause-too_wide
+returns-clause-too_wide g c wide =
+    absurd (omega (arith, wide, c.in-Some.ensures.0, c.DIMENSION.ensures))
