@@ -77,7 +77,7 @@ fn judged<P: UnivariateStarkPcs<BabyBear4, Sha256Challenger>>(
     proof: &P::Proof,
     preprocessing: Option<usize>,
 ) -> (Result<(), P::Error>, Sha256Challenger)
-    requires range { P.InVerifierRange scheme.now }
+    requires range { (P.rules scheme.now).InVerifierRange }
 {
     let mut challenger = Sha256Challenger::new();
     let verdict = match preprocessing {

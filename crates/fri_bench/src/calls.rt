@@ -55,12 +55,12 @@ fn commit_to<P: Pcs<BabyBear4, Sha256Challenger>>(
     scheme: &mut P,
     evaluation: (P::Domain, RowMajorMatrix<P::Val>),
 ) -> Result<(KnownCommitment<P::Commitment, P::Domain>, P::ProverData)>
-    requires { P.CanCommit scheme.old (evaluation ∷ []) }
-    ensures prover { P.InProverRange scheme.old → P.InProverRange scheme.new }
-    ensures verifier { P.InVerifierRange scheme.old → P.InVerifierRange scheme.new }
-    ensures openable { IfOk result (λ made. P.CanOpen scheme.new made.1) }
+    requires { (P.rules scheme.old).CanCommit (evaluation ∷ []) }
+    ensures prover { (P.rules scheme.old).InProverRange → (P.rules scheme.new).InProverRange }
+    ensures verifier { (P.rules scheme.old).InVerifierRange → (P.rules scheme.new).InVerifierRange }
+    ensures openable { IfOk result (λ made. (P.rules scheme.new).CanOpen made.1) }
     ensures one_matrix { IfOk result (λ made.
-        length (P.committed_polynomials scheme.new made.1) ≡ 1) }
+        length ((P.rules scheme.new).committed_polynomials made.1) ≡ 1) }
 {
     let alloc = rt.alloc();
     let domains = listed(alloc, evaluation.0)?;
@@ -85,10 +85,10 @@ fn open_and_verify<P: Pcs<BabyBear4, Sha256Challenger>>(
     known: KnownCommitment<P::Commitment, P::Domain>,
     held: &mut P::ProverData,
 ) -> Result<()>
-    requires prover { P.InProverRange scheme.now }
-    requires verifier { P.InVerifierRange scheme.now }
-    requires openable { P.CanOpen scheme.now held.old }
-    requires one_matrix { length (P.committed_polynomials scheme.now held.old) ≡ 1 }
+    requires prover { (P.rules scheme.now).InProverRange }
+    requires verifier { (P.rules scheme.now).InVerifierRange }
+    requires openable { (P.rules scheme.now).CanOpen held.old }
+    requires one_matrix { length ((P.rules scheme.now).committed_polynomials held.old) ≡ 1 }
 {
     let (alloc, mut prover) = (rt.alloc(), Sha256Challenger::new());
     let known = listed(alloc, known)?;
@@ -116,9 +116,9 @@ pub fn time<P: Pcs<BabyBear4, Sha256Challenger>>(
     scheme: &mut P,
     evaluation: (P::Domain, RowMajorMatrix<P::Val>),
 ) -> Result<()>
-    requires committable { P.CanCommit scheme.old (evaluation ∷ []) }
-    requires prover { P.InProverRange scheme.old }
-    requires verifier { P.InVerifierRange scheme.old }
+    requires committable { (P.rules scheme.old).CanCommit (evaluation ∷ []) }
+    requires prover { (P.rules scheme.old).InProverRange }
+    requires verifier { (P.rules scheme.old).InVerifierRange }
 {
     let (known, mut held) = commit_to(rt, &mut watches.commits, &mut *scheme, evaluation)?;
     open_and_verify(rt, watches, &*scheme, known, &mut held)

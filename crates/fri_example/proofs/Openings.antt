@@ -94,7 +94,7 @@ module _ {F E : Type 0} (f : Fields F E) (R : IsRing f.base) (S : IsRing f.ext)
 
   value_there : Extends f shift k values m → m.values_at (f.lift z) ≡ f.lift value ∷ []
   value_there extends =
-      extends.values (f.lift z)
+      extends.polynomials.values (f.lift z)
       ∙ ap (λ n. values_at f.base f.ext f.lift (tabulate n (λ j. polynomial_on f.base f.root shift k (column f.base values j))) (f.lift z)) holds.columns
       ∙ ap (λ c. val f.ext (map f.lift (polynomial_on f.base f.root shift k c)) (f.lift z) ∷ []) (column-single f.base values (2 ^ k) ys holds)
       ∙ ap (λ v. v ∷ []) (sym (homomorphism-val f.base f.ext f.lift R S H (polynomial_on f.base f.root shift k ys) z))

@@ -4,7 +4,7 @@
 #![tactic(auto)]
 
 ghost use Rattle.std.specs.Prelude.{◌≡◌, ◌+◌, ◌^◌, ◌<◌, ◌≤◌, [], ◌∷◌, true, map, length, vec_len};
-ghost use Rattle.std.specs.Prelude.{All, IfOk, Some};
+ghost use Rattle.std.specs.Prelude.{All, IfOk, None, Some};
 ghost use Rattle.std.specs.List.{AllZip};
 ghost use Rattle.algebra.specs.Polynomial.{val};
 ghost use Rattle.p3_challenger.specs.Sha256.{start};
@@ -68,15 +68,15 @@ fn commit_matrix<EF: Copy, C, P: Pcs<EF, C>>(
     alloc: Global,
     evaluation: (P::Domain, RowMajorMatrix<P::Val>),
 ) -> Result<(P::Commitment, P::ProverData), AllocError>
-    requires { P.CanCommit scheme.old (evaluation ∷ []) }
+    requires { (P.rules scheme.old).CanCommit (evaluation ∷ []) }
     ensures kept { P.Keeps scheme.old scheme.new }
-    ensures openable { IfOk result (λ pair. P.CanOpen scheme.new pair.1) }
-    ensures honest { IfOk result (λ pair. P.IsHonest scheme.new pair.1) }
-    ensures commitment { IfOk result (λ pair. P.commitment_of pair.1 ≡ pair.0) }
-    ensures extends { IfOk result (λ pair. AllZip (P.Extends scheme.new)
-        (P.committed_polynomials scheme.new pair.1) (evaluation ∷ [])) }
-    ensures sizes { IfOk result (λ pair. map (λ m. m.size)
-        (P.committed_polynomials scheme.new pair.1) ≡ P.domain_size evaluation.0 ∷ []) }
+    ensures openable { IfOk result (λ pair. (P.rules scheme.new).CanOpen pair.1) }
+    ensures honest { IfOk result (λ pair. (P.rules scheme.new).IsHonest pair.1) }
+    ensures commitment { IfOk result (λ pair. (P.rules scheme.new).commitment_of pair.1 ≡ pair.0) }
+    ensures extends { let r = P.rules scheme.new in IfOk result (λ pair.
+        AllZip r.Extends (r.committed_polynomials pair.1) (evaluation ∷ [])) }
+    ensures sizes { let r = P.rules scheme.new in IfOk result (λ pair.
+        map (λ m. m.size) (r.committed_polynomials pair.1) ≡ r.domain_size evaluation.0 ∷ []) }
 {
     let evaluations = listed(alloc, evaluation)?;
     match scheme.commit(alloc, evaluations) {
@@ -97,21 +97,21 @@ fn open_at<EF: Copy, C: Clone, P: Pcs<EF, C>>(
     challenger: &mut C,
 ) -> Result<Verified<EF, P::Proof, C>, AllocError>
     requires copies { (x y : C) → C.is_clone x y → y ≡ x }
-    requires prover { P.InProverRange scheme.now }
-    requires verifier { P.InVerifierRange scheme.now }
-    requires openable { P.CanOpen scheme.now committed.old }
-    requires honest { P.IsHonest scheme.now committed.old }
-    requires commitment { known.commitment ≡ P.commitment_of committed.old }
-    requires sizes { map P.domain_size known.domains.items
-        ≡ map (λ m. m.size) (P.committed_polynomials scheme.now committed.old) }
-    requires one_matrix { length (P.committed_polynomials scheme.now committed.old) ≡ 1 }
+    requires prover { (P.rules scheme.now).InProverRange }
+    requires verifier { (P.rules scheme.now).InVerifierRange }
+    requires openable { (P.rules scheme.now).CanOpen committed.old }
+    requires honest { (P.rules scheme.now).IsHonest committed.old }
+    requires commitment { known.commitment ≡ (P.rules scheme.now).commitment_of committed.old }
+    requires sizes { map (P.rules scheme.now).domain_size known.domains.items
+        ≡ map (λ m. m.size) ((P.rules scheme.now).committed_polynomials committed.old) }
+    requires one_matrix { length ((P.rules scheme.now).committed_polynomials committed.old) ≡ 1 }
     ensures values { IfOk result (λ v. opened_values v.values.items ≡ honest_values
-        (P.committed_polynomials scheme.now)
+        (P.rules scheme.now).committed_polynomials
         (record { datum = committed.old; points = (point ∷ []) ∷ [] }) ∷ []) }
-    ensures accepted { let claims = honest_claims (P.committed_polynomials scheme.now)
-        P.commitment_of (known.domains.items ∷ [])
+    ensures accepted { let claims = honest_claims (P.rules scheme.now).committed_polynomials
+        (P.rules scheme.now).commitment_of (known.domains.items ∷ [])
         (record { datum = committed.old; points = (point ∷ []) ∷ [] } ∷ []) in
-        IfOk result (λ v. P.Accepts scheme.now challenger.old claims v.proof) }
+        IfOk result (λ v. (P.rules scheme.now).Accepts None challenger.old claims v.proof) }
     ensures states { IfOk result (λ v. v.challenger ≡ challenger.new) }
 {
     let known = listed(alloc, known)?;
@@ -162,16 +162,16 @@ fn open_value<EF: Copy, C: Clone, P: Pcs<EF, C>>(
     challenger: &mut C,
 ) -> Result<(EF, P::Proof, C), AllocError>
     requires copies { (x y : C) → C.is_clone x y → y ≡ x }
-    requires prover { P.InProverRange scheme.now }
-    requires verifier { P.InVerifierRange scheme.now }
-    requires openable { P.CanOpen scheme.now committed }
-    requires honest { P.IsHonest scheme.now committed }
-    requires commitment { P.commitment_of committed ≡ commitment }
-    requires sizes { map (λ m. m.size) (P.committed_polynomials scheme.now committed)
-        ≡ P.domain_size domain ∷ [] }
+    requires prover { (P.rules scheme.now).InProverRange }
+    requires verifier { (P.rules scheme.now).InVerifierRange }
+    requires openable { (P.rules scheme.now).CanOpen committed }
+    requires honest { (P.rules scheme.now).IsHonest committed }
+    requires commitment { (P.rules scheme.now).commitment_of committed ≡ commitment }
+    requires sizes { map (λ m. m.size) ((P.rules scheme.now).committed_polynomials committed)
+        ≡ (P.rules scheme.now).domain_size domain ∷ [] }
     ensures value { IfOk result (λ o. All (λ m. m.values_at point ≡ o.0 ∷ [])
-        (P.committed_polynomials scheme.now committed)) }
-    ensures accepted { IfOk result (λ o. P.Accepts scheme.now challenger.old
+        ((P.rules scheme.now).committed_polynomials committed)) }
+    ensures accepted { IfOk result (λ o. (P.rules scheme.now).Accepts None challenger.old
         (single_claim commitment domain point o.0 ∷ []) o.1) }
     ensures states { IfOk result (λ o. o.2 ≡ challenger.new) }
 {

@@ -120,9 +120,9 @@ fn open_at<EF: Copy, C, P: Pcs<EF, C>>(
     point: EF,
     challenger: &mut C,
 ) -> Result<P::Proof, Fail>
-    requires prover { P.InProverRange scheme.now }
-    requires openable { P.CanOpen scheme.now committed.old }
-    requires one_matrix { length (P.committed_polynomials scheme.now committed.old) ≡ 1 }
+    requires prover { (P.rules scheme.now).InProverRange }
+    requires openable { (P.rules scheme.now).CanOpen committed.old }
+    requires one_matrix { length ((P.rules scheme.now).committed_polynomials committed.old) ≡ 1 }
 {
     let request = OpeningRequest {
         prover_data: committed,

@@ -22,7 +22,6 @@ use p3_fri_relation::proof::{BatchMultiOpening, FriProof};
 use p3_fri_two_adic::TwoAdicFriPcs;
 use p3_mmcs::{CommitmentOpening, Mmcs, OpenedValues, Sha256Mmcs};
 use p3_pcs::Pcs;
-use p3_stark_pcs::UnivariateStarkPcs;
 use rand_core::CryptoRng;
 
 /// What the plain scheme accepts is sound, with or without preprocessing: for all words and tables
@@ -44,15 +43,15 @@ pub fn plain_law<
     requires index_bits { F.TWO_ADICITY ≤ C.MAX_SAMPLE_BITS }
     ensures accepted { let s = ⟦<C as PlaysTwoAdic<F, EF, InputMmcs, M>>⟧.setting
         scheme.now.mmcs scheme.now.fri.mmcs in
-        ⟦<TwoAdicFriPcs<F, Dft, InputMmcs, M> as Pcs<EF, C>>⟧.Accepts scheme.now challenger.now
-        (map claim claims.now) proof.now
+        (⟦<TwoAdicFriPcs<F, Dft, InputMmcs, M> as Pcs<EF, C>>⟧.rules scheme.now).Accepts None
+        challenger.now (map claim claims.now) proof.now
         → IsSoundProof s (parameters_of scheme.now.fri)
         (relation_claims (λ d. d.log_size) (map claim claims.now)) (proof_of proof.now)
         challenger.now }
     ensures preprocessed { (index : Option ℕ) →
         let s = ⟦<C as PlaysTwoAdic<F, EF, InputMmcs, M>>⟧.setting scheme.now.mmcs
         scheme.now.fri.mmcs in
-        ⟦<TwoAdicFriPcs<F, Dft, InputMmcs, M> as UnivariateStarkPcs<EF, C>>⟧.AcceptsAt scheme.now
+        (⟦<TwoAdicFriPcs<F, Dft, InputMmcs, M> as Pcs<EF, C>>⟧.rules scheme.now).Accepts
         index challenger.now (map claim claims.now) proof.now
         → IsSoundProof s (parameters_of scheme.now.fri)
         (relation_claims (λ d. d.log_size) (map claim claims.now)) (proof_of proof.now)
@@ -81,15 +80,15 @@ pub fn hiding_law<
     requires index_bits { F.TWO_ADICITY ≤ C.MAX_SAMPLE_BITS }
     ensures accepted { let s = ⟦<C as PlaysTwoAdic<F, EF, InputMmcs, M>>⟧.setting
         scheme.now.mmcs scheme.now.fri.mmcs in
-        ⟦<HidingFriPcs<F, Dft, InputMmcs, M, R> as Pcs<EF, C>>⟧.Accepts scheme.now challenger.now
-        (map claim claims.now) proof.now
+        (⟦<HidingFriPcs<F, Dft, InputMmcs, M, R> as Pcs<EF, C>>⟧.rules scheme.now).Accepts None
+        challenger.now (map claim claims.now) proof.now
         → IsSoundProof s (parameters_of scheme.now.fri)
         (with_random_values (relation_claims (λ d. d.log_size) (map claim claims.now))
         (opened_values proof.now.0.items)) (proof_of proof.now.1) challenger.now }
     ensures preprocessed { (index : Option ℕ) →
         let s = ⟦<C as PlaysTwoAdic<F, EF, InputMmcs, M>>⟧.setting scheme.now.mmcs
         scheme.now.fri.mmcs in
-        ⟦<HidingFriPcs<F, Dft, InputMmcs, M, R> as UnivariateStarkPcs<EF, C>>⟧.AcceptsAt scheme.now
+        (⟦<HidingFriPcs<F, Dft, InputMmcs, M, R> as Pcs<EF, C>>⟧.rules scheme.now).Accepts
         index challenger.now (map claim claims.now) proof.now
         → IsSoundProof s (parameters_of scheme.now.fri)
         (with_random_values (relation_claims (λ d. d.log_size) (map claim claims.now))
@@ -119,8 +118,8 @@ pub fn plain_trees_law<
     ensures { (index : Option ℕ) →
         let s = ⟦<C as PlaysTwoAdic<F, EF, Sha256Mmcs<F>, Sha256Mmcs<EF>>>⟧.setting
         scheme.now.mmcs scheme.now.fri.mmcs in
-        ⟦<PlainOverTrees<F, EF, Dft> as UnivariateStarkPcs<EF, C>>⟧.AcceptsAt scheme.now index
-        challenger.now (map claim claims.now) proof.now
+        (⟦<PlainOverTrees<F, EF, Dft> as Pcs<EF, C>>⟧.rules scheme.now).Accepts
+        index challenger.now (map claim claims.now) proof.now
         → OpensOrCollides s (parameters_of scheme.now.fri)
         (relation_claims (λ d. d.log_size) (map claim claims.now)) (proof_of proof.now)
         challenger.now (tree_of F.bytes) (tree_of EF.bytes) }
@@ -145,8 +144,8 @@ pub fn hiding_trees_law<
     ensures { (index : Option ℕ) →
         let s = ⟦<C as PlaysTwoAdic<F, EF, Sha256Mmcs<F>, Sha256Mmcs<EF>>>⟧.setting
         scheme.now.mmcs scheme.now.fri.mmcs in
-        ⟦<HidingOverTrees<F, EF, Dft, R> as UnivariateStarkPcs<EF, C>>⟧.AcceptsAt scheme.now index
-        challenger.now (map claim claims.now) proof.now
+        (⟦<HidingOverTrees<F, EF, Dft, R> as Pcs<EF, C>>⟧.rules scheme.now).Accepts
+        index challenger.now (map claim claims.now) proof.now
         → OpensOrCollides s (parameters_of scheme.now.fri)
         (with_random_values (relation_claims (λ d. d.log_size) (map claim claims.now))
         (opened_values proof.now.0.items)) (proof_of proof.now.1) challenger.now

@@ -7,22 +7,20 @@ use Rattle.algebra.specs.Nested.{lists}
 use Rattle.p3_pcs.specs.declared.claims.KnownCommitment.{KnownCommitment}
 use Rattle.p3_pcs.specs.declared.requests.OpeningRequest.{OpeningRequest}
 use Rattle.p3_pcs.specs.Requests.{Held, Request, AreHonest, FitDomains, request}
-use Rattle.p3_stark_pcs.specs.Evaluations.{HasPolynomials}
 
--- what has the polynomials of evaluations has the sizes of their domains
-module _ {E Domain Values : Type 0} (log_size : Domain → ℕ) (extended : Domain × Values → Held E)
-  where
-    pub sizes_extended : (ms : List (Held E)) (es : List (Domain × Values))
-        → AllZip (λ m e. HasPolynomials m (extended e)) ms es
-        → ((e : Domain × Values) → (extended e).size ≡ 2 ^ log_size e.0)
-        → map (λ d. 2 ^ log_size d) (map (λ e. e.0) es) ≡ map (λ m. m.size) ms
-    sizes_extended [] [] h sized = refl
-    sizes_extended [] (e ∷ es) h sized = absurd h
-    sizes_extended (m ∷ ms) [] h sized = absurd h
-    sizes_extended (m ∷ ms) (e ∷ es) (here, rest) sized =
-        let first : 2 ^ log_size e.0 ≡ m.size = sym (here.size ∙ sized e) in
-        let others = sizes_extended ms es rest sized in
-        cc
+-- what extends evaluations has the sizes of their domains
+module _ {E Domain Values : Type 0} (log_size : Domain → ℕ)
+    (Extends : Held E → Domain × Values → Type 0) where
+  pub sizes_extended : (ms : List (Held E)) (es : List (Domain × Values)) → AllZip Extends ms es
+      → ((m : Held E) (e : Domain × Values) → Extends m e → m.size ≡ 2 ^ log_size e.0)
+      → map (λ d. 2 ^ log_size d) (map (λ e. e.0) es) ≡ map (λ m. m.size) ms
+  sizes_extended [] [] h sized = refl
+  sizes_extended [] (e ∷ es) h sized = absurd h
+  sizes_extended (m ∷ ms) [] h sized = absurd h
+  sizes_extended (m ∷ ms) (e ∷ es) (here, rest) sized =
+      let first : 2 ^ log_size e.0 ≡ m.size = sym (sized m e here) in
+      let others = sizes_extended ms es rest sized in
+      cc
 
 -- one request
 module _ {D E : Type 0} (r : OpeningRequest D E) where

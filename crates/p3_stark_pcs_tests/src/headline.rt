@@ -36,13 +36,13 @@ fn open_at<EF: Copy, C: Clone, P: UnivariateStarkPcs<EF, C>>(
 ) -> Result<Verified<EF, P::Proof, C>, Fail>
     requires plain { P.ZK ≡ false }
     requires copies { (x y : C) → C.is_clone x y → y ≡ x }
-    requires prover { P.InProverRange scheme.now }
-    requires verifier { P.InVerifierRange scheme.now }
-    requires openable { P.CanOpen scheme.now held.old }
-    requires honest { P.IsHonest scheme.now held.old }
-    requires commitment { known.commitment ≡ P.commitment_of held.old }
-    requires sizes { map P.domain_size known.domains.items
-        ≡ map (λ m. m.size) (P.committed_polynomials scheme.now held.old) }
+    requires prover { (P.rules scheme.now).InProverRange }
+    requires verifier { (P.rules scheme.now).InVerifierRange }
+    requires openable { (P.rules scheme.now).CanOpen held.old }
+    requires honest { (P.rules scheme.now).IsHonest held.old }
+    requires commitment { known.commitment ≡ (P.rules scheme.now).commitment_of held.old }
+    requires sizes { map (P.rules scheme.now).domain_size known.domains.items
+        ≡ map (λ m. m.size) ((P.rules scheme.now).committed_polynomials held.old) }
     requires one_matrix { length known.domains.items ≡ 1 }
 {
     let known = listed(alloc, known)?;
@@ -76,9 +76,9 @@ fn open_column<EF: Copy, C: Clone, P: UnivariateStarkPcs<EF, C>>(
 ) -> Result<Verified<EF, P::Proof, C>, Fail>
     requires plain { P.ZK ≡ false }
     requires copies { (x y : C) → C.is_clone x y → y ≡ x }
-    requires prover { P.InProverRange scheme.old }
-    requires verifier { P.InVerifierRange scheme.old }
-    requires committable { P.CanCommit scheme.old (evaluation ∷ []) }
+    requires prover { (P.rules scheme.old).InProverRange }
+    requires verifier { (P.rules scheme.old).InVerifierRange }
+    requires committable { (P.rules scheme.old).CanCommit (evaluation ∷ []) }
 {
     let domains = listed(alloc, evaluation.0)?;
     let evaluations = listed(alloc, evaluation)?;

@@ -62,12 +62,10 @@ where
         scheme: &mut P,
         columns: Columns<P::Domain, P::Val>,
     ) -> Result<(KnownCommitment<P::Commitment, P::Domain>, P::ProverData)>
-        requires { P.CanCommit scheme.old columns.items }
-        ensures range { P.InProverRange scheme.old → P.InProverRange scheme.new }
-        ensures verifier_range { P.InVerifierRange scheme.old → P.InVerifierRange scheme.new }
-        ensures openable { IfOk result (λ pair. P.CanOpen scheme.new pair.1) }
-        ensures extends { IfOk result (λ pair. AllZip (P.Extends scheme.new)
-            (P.committed_polynomials scheme.new pair.1) columns.items) }
+        requires { (P.rules scheme.old).CanCommit columns.items }
+        ensures openable { IfOk result (λ pair. (P.rules scheme.new).CanOpen pair.1) }
+        ensures extends { IfOk result (λ pair. AllZip (P.rules scheme.new).Extends
+            ((P.rules scheme.new).committed_polynomials pair.1) columns.items) }
     {
         let mut domains = Vec::with_capacity(alloc, columns.len())?;
         for column in &columns {
@@ -92,10 +90,10 @@ where
         points: Vec<Vec<BabyBear4>>,
         challenger: &mut Sha256Challenger,
     ) -> Result<std::result::Result<Opened<P::Commitment, P::Domain, P::Proof>, P::ProverError>>
-        requires prover { P.InProverRange scheme.now }
-        requires openable { P.CanOpen scheme.now held.old }
+        requires prover { (P.rules scheme.now).InProverRange }
+        requires openable { (P.rules scheme.now).CanOpen held.old }
         requires one_each { length points.items
-            ≡ length (P.committed_polynomials scheme.now held.old) }
+            ≡ length ((P.rules scheme.now).committed_polynomials held.old) }
         requires some { 0 < length points.items }
     {
         let known = one_of(alloc, known)?;
@@ -119,7 +117,7 @@ where
         scheme: &P,
         opened: std::result::Result<Opened<P::Commitment, P::Domain, P::Proof>, P::ProverError>,
     ) -> Result<()>
-        requires { P.InVerifierRange scheme.now }
+        requires { (P.rules scheme.now).InVerifierRange }
     {
         let Ok((_, proof, claims)) = opened else {
             return Err(Fault::Memory);
@@ -137,10 +135,10 @@ where
         columns: Columns<P::Domain, P::Val>,
         num_points: usize,
     ) -> Result<()>
-        requires columns { P.CanCommit scheme.old columns.items }
+        requires columns { (P.rules scheme.old).CanCommit columns.items }
         requires some { 0 < length columns.items }
-        requires prover { P.InProverRange scheme.old }
-        requires verifier { P.InVerifierRange scheme.old }
+        requires prover { (P.rules scheme.old).InProverRange }
+        requires verifier { (P.rules scheme.old).InVerifierRange }
     {
         let alloc = rt.alloc();
         let points = points(alloc, columns.len(), num_points)?;
@@ -161,7 +159,7 @@ where
         scheme: &mut P,
         chunks: Columns<P::Domain, P::Val>,
     ) -> Result<()>
-        requires { P.CanExtend scheme.old chunks.items (length chunks.items) }
+        requires { (P.stark_rules scheme.old).CanExtend chunks.items (length chunks.items) }
     {
         let count = chunks.len();
         let answer = scheme.get_quotient_ldes(rt.alloc(), chunks, count);
@@ -174,7 +172,7 @@ where
         scheme: &mut P,
         chunks: Columns<P::Domain, P::Val>,
     ) -> Result<()>
-        requires { P.CanExtend scheme.old chunks.items (length chunks.items) }
+        requires { (P.stark_rules scheme.old).CanExtend chunks.items (length chunks.items) }
     {
         let count = chunks.len();
         let Ok(words) = scheme.get_quotient_ldes(rt.alloc(), chunks, count) else {
@@ -192,7 +190,7 @@ where
         columns: Columns<P::Domain, P::Val>,
         domain: P::Domain,
     ) -> Result<()>
-        requires columns { P.CanCommit scheme.old columns.items }
+        requires columns { (P.rules scheme.old).CanCommit columns.items }
         requires some { 0 < length columns.items }
     {
         let alloc = rt.alloc();
@@ -211,11 +209,11 @@ where
         chunks: Columns<P::Domain, P::Val>,
         domain: P::Domain,
     ) -> Result<()>
-        requires columns { P.CanCommit scheme.old columns.items }
+        requires columns { (P.rules scheme.old).CanCommit columns.items }
         requires some { 0 < length columns.items }
-        requires chunks { P.CanExtend scheme.old chunks.items (length chunks.items) }
-        requires prover { P.InProverRange scheme.old }
-        requires verifier { P.InVerifierRange scheme.old }
+        requires chunks { (P.stark_rules scheme.old).CanExtend chunks.items (length chunks.items) }
+        requires prover { (P.rules scheme.old).InProverRange }
+        requires verifier { (P.rules scheme.old).InVerifierRange }
     {
         match name.1 {
             "commit" => {

@@ -3,5 +3,5 @@ use Rattle.fri_bench.proofs.calls.commit_to.Goals as goal
 
 pub returns-clause-one_matrix : goal.returns-clause-one_matrix
 returns-clause-one_matrix g c =
-    one_matrix g.P.Pcs.domain_size _ (g.met.P.Pcs.extends_size_law _) _ _ _
+    one_matrix _ _ (g.met.P.Pcs.rules_law _).extends_size _ _ _
     c.in_ok-evaluations.ensures c.in-Ok.ensures.extends

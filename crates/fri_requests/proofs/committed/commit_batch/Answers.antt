@@ -1,6 +1,7 @@
 use Rattle.std.proofs.Common.{◌^◌, All, map, ap, subst, ◌∙◌}
 use Rattle.std.specs.List.{AllZip}
 use Rattle.std.proofs.lemmas.Result.{IfOk-from_err}
+use Rattle.algebra.proofs.Lists.{all_zip-weaker}
 use Rattle.p3_mmcs.specs.ProverData.{matrices_of}
 use Rattle.p3_stark_pcs.specs.Evaluations.{HasPolynomials}
 use Rattle.p3_fri_completeness.specs.Requests.{held_in, HoldsWords}
@@ -28,10 +29,13 @@ returns-clause-committed c =
         low_degree = subst (λ b. All (HoldsWords fields b) words) blowup c.in_ok-commitment.ensures.honest;
         sizes = through (λ d. 2 ^ d.log_size) (λ e. e.0) es c.in_ok-domains.domains.items _ domains
             (pairs_same (λ m e. Extends fields e.0.shift e.0.log_size e.1 m) (λ m. m.size)
-            (λ e. 2 ^ e.0.log_size) (λ m e h. h.size) held es extends);
+            (λ e. 2 ^ e.0.log_size) (λ m e h. h.polynomials.size) held es extends);
       };
       polynomials = subst (λ listed. AllZip HasPolynomials held listed) c.in_ok-evaluations.ensures.polynomials
-          (pairs_mapped HasPolynomials (λ e. polynomials_on fields e.0.shift e.0.log_size e.1) held es extends);
+          (pairs_mapped HasPolynomials (λ e. polynomials_on fields e.0.shift e.0.log_size e.1) held es
+          (all_zip-weaker (λ m e. Extends fields e.0.shift e.0.log_size e.1 m)
+          (λ m e. HasPolynomials m (polynomials_on fields e.0.shift e.0.log_size e.1)) held es
+          (λ m e h. h.polynomials) extends));
       domains = through (λ d. domain_of d.shift d.log_size) (λ e. e.0) es c.in_ok-domains.domains.items _ domains
           c.in_ok-evaluations.ensures.domains;
     }
