@@ -56,8 +56,7 @@ fn commit_to<P: Pcs<BabyBear4, Sha256Challenger>>(
     evaluation: (P::Domain, RowMajorMatrix<P::Val>),
 ) -> Result<(KnownCommitment<P::Commitment, P::Domain>, P::ProverData)>
     requires { (P.rules scheme.old).CanCommit (evaluation ∷ []) }
-    ensures prover { (P.rules scheme.old).InProverRange → (P.rules scheme.new).InProverRange }
-    ensures verifier { (P.rules scheme.old).InVerifierRange → (P.rules scheme.new).InVerifierRange }
+    ensures kept { P.Keeps scheme.old scheme.new }
     ensures openable { IfOk result (λ made. (P.rules scheme.new).CanOpen made.1) }
     ensures one_matrix { IfOk result (λ made.
         length ((P.rules scheme.new).committed_polynomials made.1) ≡ 1) }

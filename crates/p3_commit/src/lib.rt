@@ -13,5 +13,5 @@ pub use p3_pcs::{
     KnownCommitment, OpenAndVerifyError, OpeningRequest, Pcs, Verified, claims_of, open_and_verify,
 };
 pub use p3_periodic::{PeriodicColumns, PeriodicError, PeriodicEvaluator, PeriodicLdeTable};
-pub use p3_stark_columns::{StarkColumns, StarkError, open_stark_columns};
+pub use p3_stark_columns::{StarkColumns, StarkError, StarkOpening, open_stark_columns};
 pub use p3_stark_pcs::{UnivariateStarkPcs, open_and_verify_with_preprocessing};

@@ -3,8 +3,6 @@ use Rattle.std.specs.Prelude.{◌≡◌, ℕ}
 use Rattle.std.proofs.Common.{refl, sym, subst}
 use Rattle.p3_pcs.specs.Scheme.{Scheme, IsLawful, AreKept, still_kept}
 use Rattle.p3_stark_pcs.specs.Scheme.{StarkScheme, IsLawfulStark, IsPlain, AreKeptStark}
-use Rattle.p3_fri_pow.specs.declared.error.FriProverError.{FriProverError}
-use Rattle.p3_fri_relation.specs.declared.error.FriError.{FriError}
 use Rattle.p3_fri_relation.specs.Setting.{Proof}
 use Rattle.p3_fri_completeness.specs.Requests.{held_of}
 use Rattle.p3_fri_two_adic.specs.ErrorLaws.{memory_cases}
@@ -47,13 +45,7 @@ same_kept_stark old new same rules =
 module _ {F E C D Data Domain Com Path InCom InPath Shown A B : Type 0} (shift : Domain → F)
     (log_size : Domain → ℕ) (proof_of : Shown → Proof F E Com Path InPath)
     (r : TwoAdic F E C D Data Com Path InCom InPath) where
-  abbrev rules : Scheme E C F Domain InCom D Shown (FriError A B) FriProverError
-  rules = two_adic_rules shift log_size proof_of r
-
-  abbrev stark_rules : StarkScheme E F Domain D FriProverError
-  stark_rules = two_adic_stark_rules shift log_size r
-
-  pub two_adic_lawful : IsLawful rules
+  pub two_adic_lawful : IsLawful (two_adic_rules {A = A} {B = B} shift log_size proof_of r)
   two_adic_lawful = record {
     extends_size = λ m e h. h.polynomials.size;
     extends_columns = λ m e h. extended_columns r.setting.fields (shift e.0) (log_size e.0) e.1 m h;
@@ -63,7 +55,9 @@ module _ {F E C D Data Domain Com Path InCom InPath Shown A B : Type 0} (shift :
     memory = memory_cases;
   }
 
-  pub two_adic_lawful_stark : IsLawfulStark rules stark_rules
+  pub two_adic_lawful_stark : IsLawfulStark
+      (two_adic_rules {A = A} {B = B} shift log_size proof_of r)
+      (two_adic_stark_rules shift log_size r)
   two_adic_lawful_stark = record {
     heights = λ n. trace_heights r.setting.fields.two_adicity n;
     openable = λ index asked h. openable_at (λ d. StandsOnCosets r d)
@@ -81,7 +75,8 @@ module _ {F E C D Data Domain Com Path InCom InPath Shown A B : Type 0} (shift :
     whole = λ d. all_shown (held_of r.setting.fields r.committed r.parameters.log_blowup d);
   }
 
-  pub two_adic_plain : IsPlain rules stark_rules
+  pub two_adic_plain : IsPlain (two_adic_rules {A = A} {B = B} shift log_size proof_of r)
+      (two_adic_stark_rules shift log_size r)
   two_adic_plain = record {
     of_data = λ d. ((λ h. h), (λ h. h));
     commit = λ evaluations e. ((λ h. h), (λ h. h));

@@ -144,7 +144,8 @@ impl<
         alloc: Global,
         ldes: Vec<RowMajorMatrix<F>>,
     ) -> Result<(InputMmcs::Commitment, InputMmcs::ProverData), FriProverError>
-        requires { (⟦<Self as UnivariateStarkPcs<EF, C>>⟧.stark_rules self.now).CanCommitLdes ldes.items }
+        requires { let t = ⟦<Self as UnivariateStarkPcs<EF, C>>⟧.stark_rules self.now in
+            t.CanCommitLdes ldes.items }
         ensures matrices { let matrices_of = ⟦<Self as UnivariateStarkPcs<EF, C>>⟧.matrices_of in
             IfOk result (λ pair. matrices_of pair.1 ≡ ldes.items) }
         ensures commitment { let r = ⟦<Self as Pcs<EF, C>>⟧.rules self.now in
@@ -156,8 +157,9 @@ impl<
             IfOk result (λ pair. r.CanOpen pair.1) }
         ensures readable { let t = ⟦<Self as UnivariateStarkPcs<EF, C>>⟧.stark_rules self.now in
             IfOk result (λ pair. t.IsReadable pair.1) }
-        ensures honest { let r = ⟦<Self as Pcs<EF, C>>⟧.rules self.now in
-            (⟦<Self as UnivariateStarkPcs<EF, C>>⟧.stark_rules self.now).AreLdes ldes.items → IfOk result (λ pair. r.IsHonest pair.1) }
+        ensures honest { let t = ⟦<Self as UnivariateStarkPcs<EF, C>>⟧.stark_rules self.now in
+            let r = ⟦<Self as Pcs<EF, C>>⟧.rules self.now in
+            t.AreLdes ldes.items → IfOk result (λ pair. r.IsHonest pair.1) }
         ensures refused { let t = ⟦<Self as UnivariateStarkPcs<EF, C>>⟧.stark_rules self.now in
             IfErr result (t.LdesRefuse ldes.items) }
     {

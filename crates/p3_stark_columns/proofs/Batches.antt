@@ -1,11 +1,14 @@
 -- What is known of committed batches under a later scheme.
-use Rattle.std.proofs.Common.{◌≡◌, ℕ, ◌*◌, List, [], ◌∷◌, map, sym, ap, ◌∙◌, subst}
+use Rattle.std.proofs.Common.{◌≡◌, ℕ, ◌*◌, List, [], ◌∷◌, map, sym, ap, ◌∙◌, subst, ◌⊎◌, inl, inr}
 use Rattle.std.specs.List.{AllZip}
 use Rattle.p3_pcs.specs.Requests.{Held}
 use Rattle.p3_pcs.specs.declared.claims.KnownCommitment.{KnownCommitment}
 use Rattle.p3_matrix.specs.declared.dense.RowMajorMatrix.{RowMajorMatrix}
 use Rattle.p3_pcs.specs.Scheme.{Scheme, IsLawful, AreKept}
-use Rattle.p3_stark_columns.specs.Stark.{IsBatch, AreColumnValues, AreChunkValues}
+use Rattle.p3_stark_pcs.specs.Scheme.{StarkScheme}
+use Rattle.p3_stark_columns.specs.Stark.{IsBatch, IsCommitRefusal, CommitsRefuse}
+use Rattle.p3_stark_columns.specs.declared.stark.StarkError.{StarkError}
+use Rattle.p3_stark_columns.specs.declared.stark.StarkError.TheVariants.{Commit, Open, OutOfMemory}
 use Rattle.p3_stark_columns.proofs.Zips.{zip_equal, zip_leads, mapped_twice}
 
 module _ {EF Domain Matrix : Type 0} (size : Domain → ℕ)
@@ -26,30 +29,6 @@ pub still_extended : {EF Matrix : Type 0} (R S : Held EF → Matrix → Type 0)
     → (columns : List Matrix) → AllZip R held columns → kept ≡ held → AllZip S kept columns
 still_extended R S R_S held kept columns extends same =
     subst (λ hs. AllZip S hs columns) (sym same) (zip_leads R S R_S held columns extends)
-
--- the values of columns
-pub column_values : {EF Matrix : Type 0} (S : Held EF → Matrix → Type 0) (point next : EF)
-    (held : List (Held EF)) (columns : List Matrix) (values : List (List (List EF)))
-    (zs : List EF) → AllZip S held columns → zs ≡ point ∷ next ∷ []
-    → values ≡ map (λ m. map m.values_at zs) held → AreColumnValues S columns point next values
-column_values S point next held columns values zs extends are is = record {
-  polynomials = held;
-  extends = extends;
-  values_there = is ∙ ap (λ ps. map (λ m. map m.values_at ps) held) are;
-}
-
--- the values of chunks
-pub chunk_values : {EF : Type 0} (recombined : List (List EF) → List EF) (quotient : List EF)
-    (point : EF) (held : List (Held EF)) (values : List (List (List EF))) (zs : List EF)
-    → zs ≡ point ∷ [] → values ≡ map (λ m. map m.values_at zs) held
-    → recombined (map (λ m. m.values_at point) held) ≡ quotient
-    → AreChunkValues recombined quotient values
-chunk_values recombined quotient point held values zs are is same = record {
-  chunks = map (λ m. m.values_at point) held;
-  values_there = is ∙ ap (λ ps. map (λ m. map m.values_at ps) held) are
-      ∙ sym (mapped_twice (λ m. m.values_at point) (λ row. row ∷ []) held);
-  recombine = same;
-}
 
 -- what is known once a batch is committed to
 pub batch_made : {E C V Dom Com D Proof Error ProverError : Type 0}
@@ -93,3 +72,23 @@ quotient_fits times old new same domains known columns held is fits sizes =
     ap (λ ds. map new ds) is
     ∙ subst (λ f. map f domains ≡ map (λ e. times * f e.0) columns) (sym same) fits
     ∙ sym (zip_equal (λ m. m.size) (λ e. times * new e.0) held columns sizes)
+
+-- a commitment's refusal stays one for a reason that follows
+pub refused_for : {P E : Type 0} (Q R : P → Type 0) → ((e : P) → Q e → R e) → (e : StarkError P E)
+    → IsCommitRefusal Q e → IsCommitRefusal R e
+refused_for Q R f (Commit e) h = f e h
+refused_for Q R f (Open e) h = h
+refused_for Q R f OutOfMemory h = tt
+
+-- a refusal of chunks, or of their words, is one of a STARK's commitments
+pub chunks_refused : {E C V Dom Com D Proof Error ProverError : Type 0}
+    (r : Scheme E C V Dom Com D Proof Error ProverError) (t : StarkScheme E V Dom D ProverError)
+    (preprocessed trace chunks : List (Dom × RowMajorMatrix V)) (Q : ProverError → Type 0)
+    (L : List (RowMajorMatrix V) → ProverError → Type 0)
+    → ((e : ProverError) → Q e → t.QuotientsRefuse chunks e)
+    → ((ldes : List (RowMajorMatrix V)) (e : ProverError) → L ldes e → t.LdesRefuse ldes e)
+    → (e : ProverError) → Q e ⊎ ((ldes : List (RowMajorMatrix V)) × L ldes e)
+    → CommitsRefuse r t preprocessed trace chunks e
+chunks_refused r t preprocessed trace chunks Q L f g e (inl h) = inr (inr (inl (f e h)))
+chunks_refused r t preprocessed trace chunks Q L f g e (inr (ldes, h)) =
+    inr (inr (inr (ldes, g ldes e h)))

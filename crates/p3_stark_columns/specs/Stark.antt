@@ -1,19 +1,27 @@
 -- What a STARK prover opens.
-use Rattle.std.specs.Prelude.{◌≡◌, ⊤, ℕ, List, [], ◌∷◌, map}
+use Rattle.std.specs.Prelude.{◌≡◌, ◌⊎◌, ⊤, List, [], ◌∷◌, map, length, replicate, Some}
 use Rattle.std.specs.List.{AllZip}
-use Rattle.p3_pcs.specs.Requests.{Held}
-use Rattle.p3_pcs.specs.declared.claims.KnownCommitment.{KnownCommitment}
-use Rattle.p3_pcs.specs.declared.headline.OpenAndVerifyError.TheVariants as opening
-use Rattle.p3_pcs.specs.Scheme.{Scheme}
-use Rattle.p3_stark_pcs.specs.Scheme.{StarkScheme}
 use Rattle.p3_matrix.specs.declared.dense.RowMajorMatrix.{RowMajorMatrix}
+use Rattle.p3_pcs.specs.Claims.{Claim, zip_with}
+use Rattle.p3_pcs.specs.Headline.{claims_of, MatchOpenAndVerifyError}
+use Rattle.p3_pcs.specs.Requests.{Held, Request}
+use Rattle.p3_pcs.specs.Scheme.{Scheme}
+use Rattle.p3_pcs.specs.declared.claims.KnownCommitment.{KnownCommitment}
+use Rattle.p3_stark_pcs.specs.Scheme.{StarkScheme}
 use Rattle.p3_stark_columns.specs.declared.stark.StarkError.{StarkError}
-use Rattle.p3_stark_columns.specs.declared.stark.StarkError.TheVariants.{Open}
+use Rattle.p3_stark_columns.specs.declared.stark.StarkError.TheVariants.{Commit, Open, OutOfMemory}
 
--- a refusal that comes to an honest prover: no proof of its own is refused but for want of memory
-abbrev pub IsHonestRefusal : {P E : Type 0} → (out_of_memory : E) → StarkError P E → Type 0
-IsHonestRefusal out_of_memory (Open (opening.Verify e)) = e ≡ out_of_memory
-IsHonestRefusal out_of_memory _ = ⊤
+-- a list of these points for each of the domains
+abbrev pub points_for : {EF Com Dom : Type 0} → List EF → KnownCommitment Com Dom → List (List EF)
+points_for points k = map (λ _. points) k.domains.items
+
+-- the claims of these values, where of three commitments the first two were opened at `both` points
+-- and the third at `one`
+abbrev pub stark_claims : {EF Com Dom : Type 0} → (both one : List EF)
+    → List (KnownCommitment Com Dom) → (values : List (List (List (List EF))))
+    → List (Claim EF Com Dom)
+stark_claims both one known values =
+    claims_of known (zip_with points_for (both ∷ both ∷ one ∷ []) known) values
 
 module _ {E C V Dom Com D Proof Error ProverError : Type 0}
     (r : Scheme E C V Dom Com D Proof Error ProverError) where
@@ -24,6 +32,15 @@ module _ {E C V Dom Com D Proof Error ProverError : Type 0}
     pub commitment : known.commitment ≡ r.commitment_of datum
     pub domains : map r.domain_size known.domains.items
         ≡ map (λ m. m.size) (r.committed_polynomials datum)
+
+  -- the values, matrix by matrix, of what a datum is a commitment to
+  abbrev pub values_at_points : List E → D → List (List (List E))
+  values_at_points points datum = map (λ m. map m.values_at points) (r.committed_polynomials datum)
+
+  -- a datum of which each matrix is asked for at these points
+  abbrev pub asked_at : List E → D → Request D E
+  asked_at points datum =
+      record { datum = datum; points = replicate (length (r.committed_polynomials datum)) points }
 
   -- what is known of a STARK's batches, each of a commitment and its data, once all are committed
   -- to: each may be opened, and the first two hold polynomials that extend these columns
@@ -40,19 +57,55 @@ module _ {E C V Dom Com D Proof Error ProverError : Type 0}
         AllZip r.Extends (r.committed_polynomials preprocessed.1) preprocessed_columns
     pub trace_extends : AllZip r.Extends (r.committed_polynomials trace.1) trace_columns
 
-module _ {EF Matrix : Type 0} (Extends : Held EF → Matrix → Type 0) where
-  -- the values are those of the polynomials that have the columns of these matrices, at the point
-  -- and at its successor
-  pub record AreColumnValues (columns : List Matrix) (point next : EF)
-      (values : List (List (List EF))) : Type 0 where
-    pub polynomials : List (Held EF)
-    pub extends : AllZip Extends polynomials columns
-    pub values_there :
-        values ≡ map (λ m. m.values_at point ∷ m.values_at next ∷ []) polynomials
+  -- The values are those of what the known commitments are commitments to: of data whose polynomials
+  -- extend the preprocessed columns and the trace, at both points, and of chunks, at the first, that
+  -- recombine to `quotient`.
+  pub record AreStarkValues (preprocessed_columns trace_columns : List (Dom × RowMajorMatrix V))
+      (recombined : List (List E) → List E) (quotient : List E) (point next : E)
+      (known : List (KnownCommitment Com Dom)) (values : List (List (List (List E)))) : Type 0
+    where
+      pub preprocessed : D
+      pub trace : D
+      pub chunks : D
+      pub batches : AllZip IsBatch known (preprocessed ∷ trace ∷ chunks ∷ [])
+      pub preprocessed_extends :
+          AllZip r.Extends (r.committed_polynomials preprocessed) preprocessed_columns
+      pub trace_extends : AllZip r.Extends (r.committed_polynomials trace) trace_columns
+      pub recombine : recombined (map (λ m. m.values_at point) (r.committed_polynomials chunks))
+          ≡ quotient
+      pub values_there : values ≡ values_at_points (point ∷ next ∷ []) preprocessed
+          ∷ values_at_points (point ∷ next ∷ []) trace
+          ∷ values_at_points (point ∷ []) chunks ∷ []
 
--- the values, of chunks at the point, recombine to `quotient`
-pub record AreChunkValues {EF : Type 0} (recombined : List (List EF) → List EF)
-    (quotient : List EF) (values : List (List (List EF))) : Type 0 where
-  pub chunks : List (List EF)
-  pub values_there : values ≡ map (λ row. row ∷ []) chunks
-  pub recombine : recombined chunks ≡ quotient
+  -- why commitments to these columns are refused: one of them, or that to the words of the chunks
+  abbrev pub CommitsRefuse : (t : StarkScheme E V Dom D ProverError)
+      → (preprocessed trace quotient : List (Dom × RowMajorMatrix V)) → ProverError → Type 0
+  CommitsRefuse t preprocessed trace quotient e =
+      t.PreprocessingRefuses preprocessed e ⊎ (r.CommitRefuses trace e
+      ⊎ (t.QuotientsRefuse quotient e
+      ⊎ ((ldes : List (RowMajorMatrix V)) × t.LdesRefuse ldes e)))
+
+  -- why an opening from the state `c` on is refused, of data whose polynomials extend these columns
+  pub record OpeningRefuses (preprocessed_columns trace_columns : List (Dom × RowMajorMatrix V))
+      (both one : List E) (c : C) (e : ProverError) : Type 0 where
+    pub preprocessed : D
+    pub trace : D
+    pub chunks : D
+    pub preprocessed_extends :
+        AllZip r.Extends (r.committed_polynomials preprocessed) preprocessed_columns
+    pub trace_extends : AllZip r.Extends (r.committed_polynomials trace) trace_columns
+    pub refused : r.Refuses (Some 0) c
+        (asked_at both preprocessed ∷ asked_at both trace ∷ asked_at one chunks ∷ []) e
+
+module _ {P E : Type 0} where
+  -- want of memory, or a commitment's refusal for such a reason
+  abbrev pub IsCommitRefusal : (P → Type 0) → StarkError P E → Type 0
+  IsCommitRefusal Q (Commit e) = Q e
+  IsCommitRefusal Q (Open e) = ⊥
+  IsCommitRefusal Q OutOfMemory = ⊤
+
+  -- want of memory, or the refusal of an opening or of its proof for such a reason
+  abbrev pub IsOpenRefusal : (P → Type 0) → (E → Type 0) → StarkError P E → Type 0
+  IsOpenRefusal Q R (Commit e) = ⊥
+  IsOpenRefusal Q R (Open e) = MatchOpenAndVerifyError Q R e
+  IsOpenRefusal Q R OutOfMemory = ⊤

@@ -4,4 +4,4 @@
 
 pub mod stark;
 
-pub use crate::stark::{StarkColumns, StarkError, open_stark_columns};
+pub use crate::stark::{StarkColumns, StarkError, StarkOpening, open_stark_columns};

@@ -2,13 +2,14 @@
 //! columns, to a trace and to the chunks of a quotient, and opens all of them at one point, and the
 //! first two at its successor too.
 
-ghost use Rattle.std.specs.Prelude.{◌≡◌, ◌≢◌, ◌*◌, [], ◌∷◌, if◌then◌else◌, map, length};
-ghost use Rattle.std.specs.Prelude.{replicate, slice_index_or};
-ghost use Rattle.std.specs.Prelude.{IfOk, IfErr};
+ghost use Rattle.std.specs.Prelude.{◌≡◌, ◌≢◌, ◌⊎◌, ◌*◌, List, [], ◌∷◌, if◌then◌else◌, map, length};
+ghost use Rattle.std.specs.Prelude.{replicate, Some, IfOk, IfErr};
 ghost use Rattle.std.specs.List.{AllZip};
 ghost use Rattle.algebra.specs.Nested.{lists};
-ghost use Rattle.p3_stark_columns.specs.Stark.{IsHonestRefusal, IsBatch, AreCommitted};
-ghost use Rattle.p3_stark_columns.specs.Stark.{AreColumnValues, AreChunkValues};
+ghost use Rattle.p3_matrix.specs.declared.dense.RowMajorMatrix.{RowMajorMatrix};
+ghost use Rattle.p3_stark_columns.specs.Stark.{IsBatch, AreCommitted, asked_at, values_at_points};
+ghost use Rattle.p3_stark_columns.specs.Stark.{AreStarkValues, stark_claims, CommitsRefuse};
+ghost use Rattle.p3_stark_columns.specs.Stark.{OpeningRefuses, IsCommitRefusal, IsOpenRefusal};
 ghost use Rattle.p3_pcs.specs.Claims.{opened_values};
 ghost use Rattle.p3_pcs.specs.Scheme.{AreKept};
 ghost use Rattle.p3_stark_columns.specs.declared.stark.StarkError.TheVariants.{OutOfMemory};
@@ -28,6 +29,14 @@ pub struct StarkColumns<Domain, Val> {
     /// For each chunk a domain of the size of the polynomials that are committed to for it: the
     /// chunk's, and twice that where the scheme hides.
     pub quotient_domains: Vec<Domain>,
+}
+
+/// The columns of a STARK, opened, and the proof verified.
+#[derive(Drop)]
+pub struct StarkOpening<EF, Com, Domain, Proof, C> {
+    /// What is known of the commitments to preprocessed columns, trace and quotient, in this order.
+    pub known: Vec<KnownCommitment<Com, Domain>>,
+    pub verified: Verified<EF, Proof, C>,
 }
 
 /// Why a STARK's columns weren't shown to be opened.
@@ -94,7 +103,8 @@ fn commit_preprocessed<EF: Copy, C, P: UnivariateStarkPcs<EF, C>>(
     ensures honest { IfOk result (λ b. (P.rules scheme.new).IsHonest b.prover_data) }
     ensures extends { IfOk result (λ b. AllZip (P.rules scheme.new).Extends
         ((P.rules scheme.new).committed_polynomials b.prover_data) evaluations.items) }
-    ensures refused { IfErr result (λ e. IsHonestRefusal (P.rules scheme.new).out_of_memory e) }
+    ensures refused { IfErr result
+        (IsCommitRefusal ((P.stark_rules scheme.old).PreprocessingRefuses evaluations.items)) }
 {
     let domains = domains_of(alloc, &evaluations)?;
     match scheme.commit_preprocessing(alloc, evaluations) {
@@ -124,7 +134,8 @@ fn commit_trace<EF: Copy, C, P: UnivariateStarkPcs<EF, C>>(
     ensures honest { IfOk result (λ b. (P.rules scheme.new).IsHonest b.prover_data) }
     ensures extends { IfOk result (λ b. AllZip (P.rules scheme.new).Extends
         ((P.rules scheme.new).committed_polynomials b.prover_data) evaluations.items) }
-    ensures refused { IfErr result (λ e. IsHonestRefusal (P.rules scheme.new).out_of_memory e) }
+    ensures refused { IfErr result
+        (IsCommitRefusal ((P.rules scheme.old).CommitRefuses evaluations.items)) }
 {
     let domains = domains_of(alloc, &evaluations)?;
     match scheme.commit(alloc, evaluations) {
@@ -161,7 +172,9 @@ fn commit_quotient<EF: Copy, C, P: UnivariateStarkPcs<EF, C>>(
         (map (λ m. m.values_at z) ((P.rules scheme.new).committed_polynomials b.prover_data)) z
         ≡ P.recombined (map (λ e. e.0) evaluations.items)
         (map (λ e. (P.chunk_polynomials e).values_at z) evaluations.items) z) }
-    ensures refused { IfErr result (λ e. IsHonestRefusal (P.rules scheme.new).out_of_memory e) }
+    ensures refused { let t = P.stark_rules scheme.old in IfErr result (IsCommitRefusal
+        (λ e. t.QuotientsRefuse evaluations.items e
+        ⊎ ((ldes : List (RowMajorMatrix P.Val)) × t.LdesRefuse ldes e))) }
 {
     let count = evaluations.len();
     let ldes = match scheme.get_quotient_ldes(alloc, evaluations, count) {
@@ -203,7 +216,9 @@ fn commit_columns<EF: Copy, C, P: UnivariateStarkPcs<EF, C>>(
         ((P.rules scheme.new).committed_polynomials b.quotient.prover_data)) z
         ≡ P.recombined domains
         (map (λ e. (P.chunk_polynomials e).values_at z) columns.quotient.items) z) }
-    ensures refused { IfErr result (λ e. IsHonestRefusal (P.rules scheme.new).out_of_memory e) }
+    ensures refused { IfErr result (IsCommitRefusal (CommitsRefuse (P.rules scheme.old)
+        (P.stark_rules scheme.old) columns.preprocessed.items columns.trace.items
+        columns.quotient.items)) }
 {
     let StarkColumns {
         preprocessed,
@@ -274,7 +289,10 @@ fn open_batches<EF: Copy, C: Clone, P: UnivariateStarkPcs<EF, C>>(
     both: &[EF],
     one: &[EF],
     challenger: &mut C,
-) -> Result<Verified<EF, P::Proof, C>, StarkError<P::ProverError, P::Error>>
+) -> Result<
+    StarkOpening<EF, P::Commitment, P::Domain, P::Proof, C>,
+    StarkError<P::ProverError, P::Error>,
+>
     requires copies { (x y : C) → C.is_clone x y → y ≡ x }
     requires prover { (P.rules scheme.now).InProverRange }
     requires verifier { (P.rules scheme.now).InVerifierRange }
@@ -291,15 +309,26 @@ fn open_batches<EF: Copy, C: Clone, P: UnivariateStarkPcs<EF, C>>(
         batches.quotient.prover_data }
     requires some_point { both.now ≢ [] }
     requires first_point { one.now ≢ [] }
-    ensures values { IfOk result (λ verified. opened_values verified.values.items
-        ≡ map (λ m. map m.values_at both.now)
-        ((P.rules scheme.now).committed_polynomials batches.preprocessed.prover_data)
-        ∷ map (λ m. map m.values_at both.now)
-        ((P.rules scheme.now).committed_polynomials batches.trace.prover_data)
-        ∷ map (λ m. map m.values_at one.now)
-        ((P.rules scheme.now).committed_polynomials batches.quotient.prover_data)
-        ∷ []) }
-    ensures refused { IfErr result (λ e. IsHonestRefusal (P.rules scheme.now).out_of_memory e) }
+    ensures known { IfOk result (λ opened. opened.known.items ≡ batches.preprocessed.known
+        ∷ batches.trace.known ∷ batches.quotient.known ∷ []) }
+    ensures values { let r = P.rules scheme.now in
+        IfOk result (λ opened. opened_values opened.verified.values.items
+        ≡ values_at_points r both.now batches.preprocessed.prover_data
+        ∷ values_at_points r both.now batches.trace.prover_data
+        ∷ values_at_points r one.now batches.quotient.prover_data ∷ []) }
+    ensures accepted { IfOk result (λ opened. (P.rules scheme.now).Accepts (Some 0) challenger.old
+        (stark_claims both.now one.now opened.known.items
+        (opened_values opened.verified.values.items)) opened.verified.proof) }
+    ensures prover_state { IfOk result (λ opened.
+        challenger.new ≡ (P.rules scheme.now).last_state (Some 0) challenger.old
+        (stark_claims both.now one.now opened.known.items
+        (opened_values opened.verified.values.items)) opened.verified.proof) }
+    ensures verifier_state { IfOk result (λ opened.
+        opened.verified.challenger ≡ challenger.new) }
+    ensures refused { let r = P.rules scheme.now in IfErr result (IsOpenRefusal
+        (r.Refuses (Some 0) challenger.old (asked_at r both.now batches.preprocessed.prover_data
+        ∷ asked_at r both.now batches.trace.prover_data
+        ∷ asked_at r one.now batches.quotient.prover_data ∷ [])) (λ e. e ≡ r.out_of_memory)) }
 {
     let Batches {
         preprocessed,
@@ -349,7 +378,7 @@ fn open_batches<EF: Copy, C: Clone, P: UnivariateStarkPcs<EF, C>>(
         Some(0),
     );
     match opened {
-        Ok(verified) => Ok(verified),
+        Ok(verified) => Ok(StarkOpening { known, verified }),
         Err(error) => Err(StarkError::Open(error)),
     }
 }
@@ -374,9 +403,10 @@ fn points_at<EF: Copy>(
 /// Opens the columns of a STARK at the point, and those of its trace and the preprocessed ones at
 /// its successor too, and verifies what comes of it from a copy of the challenger.
 ///
-/// The opened values are those of the polynomials that have the columns on their domains, and of
-/// chunks that recombine to the quotient of the given ones. No proof of its own is refused but for
-/// want of memory.
+/// The opened values are those of what was committed to: of polynomials that have the columns on
+/// their domains, and of chunks that recombine to the quotient of the given ones. The proof is
+/// accepted of them, and prover and verifier end in its last state. No proof of its own is refused
+/// but for want of memory.
 ///
 /// It commits to all columns and opens them at once, so it shows that a scheme serves a STARK and is
 /// none: nothing is absorbed between. In a protocol the challenger absorbs what is public and the
@@ -388,7 +418,10 @@ pub fn open_stark_columns<EF: Copy, C: Clone, P: UnivariateStarkPcs<EF, C>>(
     point: EF,
     successor: EF,
     challenger: &mut C,
-) -> Result<Verified<EF, P::Proof, C>, StarkError<P::ProverError, P::Error>>
+) -> Result<
+    StarkOpening<EF, P::Commitment, P::Domain, P::Proof, C>,
+    StarkError<P::ProverError, P::Error>,
+>
     requires copies { (x y : C) → C.is_clone x y → y ≡ x }
     requires prover { (P.rules scheme.old).InProverRange }
     requires verifier { (P.rules scheme.old).InVerifierRange }
@@ -400,18 +433,25 @@ pub fn open_stark_columns<EF: Copy, C: Clone, P: UnivariateStarkPcs<EF, C>>(
     requires quotient_domains { map (P.rules scheme.old).domain_size columns.quotient_domains.items
         ≡ map (λ e. (if P.ZK then 2 else 1) *
         (P.rules scheme.old).domain_size e.0) columns.quotient.items }
-    ensures preprocessed { IfOk result (λ verified. AreColumnValues (P.rules scheme.new).Extends
-        columns.preprocessed.items point successor
-        (slice_index_or (opened_values verified.values.items) 0 [])) }
-    ensures trace { IfOk result (λ verified. AreColumnValues (P.rules scheme.new).Extends
-        columns.trace.items point successor
-        (slice_index_or (opened_values verified.values.items) 1 [])) }
-    ensures quotient { let domains = map (λ e. e.0) columns.quotient.items in
-        IfOk result (λ verified. AreChunkValues (λ rows. P.recombined domains rows point)
-        (P.recombined domains
+    ensures values { let domains = map (λ e. e.0) columns.quotient.items in
+        IfOk result (λ opened. AreStarkValues (P.rules scheme.new) columns.preprocessed.items
+        columns.trace.items (λ rows. P.recombined domains rows point) (P.recombined domains
         (map (λ e. (P.chunk_polynomials e).values_at point) columns.quotient.items) point)
-        (slice_index_or (opened_values verified.values.items) 2 [])) }
-    ensures refused { IfErr result (λ e. IsHonestRefusal (P.rules scheme.new).out_of_memory e) }
+        point successor opened.known.items (opened_values opened.verified.values.items)) }
+    ensures accepted { IfOk result (λ opened. (P.rules scheme.new).Accepts (Some 0) challenger.old
+        (stark_claims (point ∷ successor ∷ []) (point ∷ []) opened.known.items
+        (opened_values opened.verified.values.items)) opened.verified.proof) }
+    ensures prover_state { IfOk result (λ opened.
+        challenger.new ≡ (P.rules scheme.new).last_state (Some 0) challenger.old
+        (stark_claims (point ∷ successor ∷ []) (point ∷ []) opened.known.items
+        (opened_values opened.verified.values.items)) opened.verified.proof) }
+    ensures verifier_state { IfOk result (λ opened.
+        opened.verified.challenger ≡ challenger.new) }
+    ensures refused { let r = P.rules scheme.new in IfErr result (λ e.
+        IsCommitRefusal (CommitsRefuse (P.rules scheme.old) (P.stark_rules scheme.old)
+        columns.preprocessed.items columns.trace.items columns.quotient.items) e
+        ⊎ IsOpenRefusal (OpeningRefuses r columns.preprocessed.items columns.trace.items
+        (point ∷ successor ∷ []) (point ∷ []) challenger.old) (λ e. e ≡ r.out_of_memory) e) }
 {
     let (both, one) = points_at(alloc, point, successor)?;
     let batches = commit_columns(scheme, alloc, columns)?;

@@ -8,7 +8,6 @@ use crate::scheme::{Domain, Proof, scheme};
 use crate::values::{Coefficients, Values, are_values, element};
 use p3_challenger::Sha256Challenger;
 use p3_field::BabyBear;
-use p3_pcs::Verified;
 use p3_stark_columns::{StarkColumns, open_stark_columns};
 use std::alloc::Global;
 use std::test::Fail;
@@ -71,9 +70,10 @@ fn are_opened(alloc: Global, case: &Case) -> Result<bool, Fail> {
         element(case.successor),
         &mut challenger,
     );
-    let Ok(verified) = opened else {
+    let Ok(shown) = opened else {
         return Err(Fail::new("not accepted"));
     };
+    let verified = &shown.verified;
     Ok(
         are_values(&verified.values, case.values)
             && verified.challenger == challenger

@@ -4,7 +4,7 @@ use Rattle.std.specs.List.{AllZip}
 use Rattle.p3_pcs.specs.declared.claims.KnownCommitment.{KnownCommitment}
 use Rattle.p3_pcs.specs.Requests.{Held}
 use Rattle.p3_pcs.specs.Scheme.{Scheme, AreKept}
-use Rattle.p3_stark_pcs.proofs.Batches.{domains_fit}
+use Rattle.p3_stark_columns.proofs.Batches.{domains_fit}
 use Rattle.p3_test_openings.specs.Known.{FitData}
 
 -- of one matrix on its domain

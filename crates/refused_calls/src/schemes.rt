@@ -63,6 +63,7 @@ where
         columns: Columns<P::Domain, P::Val>,
     ) -> Result<(KnownCommitment<P::Commitment, P::Domain>, P::ProverData)>
         requires { (P.rules scheme.old).CanCommit columns.items }
+        ensures kept { P.Keeps scheme.old scheme.new }
         ensures openable { IfOk result (λ pair. (P.rules scheme.new).CanOpen pair.1) }
         ensures extends { IfOk result (λ pair. AllZip (P.rules scheme.new).Extends
             ((P.rules scheme.new).committed_polynomials pair.1) columns.items) }

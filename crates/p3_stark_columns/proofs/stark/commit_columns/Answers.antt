@@ -1,8 +1,8 @@
-use Rattle.std.proofs.Common.{sym}
-use Rattle.std.proofs.lemmas.Result.{IfOk-from_err}
+use Rattle.std.proofs.Common.{sym, inl, inr}
+use Rattle.std.proofs.lemmas.Result.{IfOk-from_err, err_from_is_err_and}
 use Rattle.p3_pcs.specs.Scheme.{kept_since}
 use Rattle.p3_stark_columns.proofs.Batches.{batch_made, batch_kept, extends_kept}
-use Rattle.p3_stark_columns.proofs.Batches.{quotient_fits}
+use Rattle.p3_stark_columns.proofs.Batches.{quotient_fits, refused_for, chunks_refused}
 use Rattle.p3_stark_columns.proofs.stark.commit_columns.Goals as goal
 
 pub returns-clause-kept : goal.returns-clause-kept
@@ -79,3 +79,29 @@ returns-in_err-third-clause-committed g c =
 pub returns-in_err-third-clause-recombined : goal.returns-in_err-third-clause-recombined
 returns-in_err-third-clause-recombined g c =
     IfOk-from_err c.from_residual-in_err-third.result _ c.from_residual-in_err-third.ensures.0
+
+-- each refusal is one of what was known at first
+pub returns-in_err-second-clause-refused : goal.returns-in_err-second-clause-refused
+returns-in_err-second-clause-refused g c =
+    let kept = g.met.P.Pcs.keeps_law _ _ c.in_ok-first.ensures.kept in
+    let p = err_from_is_err_and c.from_residual-in_err-second.result
+    c.from_residual-in_err-second.ensures.1 in
+    rw (p.1, p.2) (refused_for _ _ (λ e h. inr (inl (kept.refusals _ e h))) _
+    c.in_err-second.ensures.refused)
+
+pub returns-in_err-third-clause-refused : goal.returns-in_err-third-clause-refused
+returns-in_err-third-clause-refused g c =
+    let stark = g.met.P.UnivariateStarkPcs.keeps_stark_law in
+    let first = stark _ _ c.in_ok-first.ensures.kept in
+    let second = stark _ _ c.in_ok-second.ensures.kept in
+    let p = err_from_is_err_and c.from_residual-in_err-third.result
+    c.from_residual-in_err-third.ensures.1 in
+    let chunks = c.args.columns.quotient.items in
+    let third = g.P.UnivariateStarkPcs.stark_rules c.commit_trace.new.scheme in
+    rw (p.1, p.2) (refused_for _ _
+    (chunks_refused (g.P.Pcs.rules c.args.scheme.now) (g.P.UnivariateStarkPcs.stark_rules c.args.scheme.now)
+    c.args.columns.preprocessed.items c.args.columns.trace.items chunks
+    (third.QuotientsRefuse chunks) third.LdesRefuse
+    (λ e q. first.quotient_refusals chunks e (second.quotient_refusals chunks e q))
+    (λ ldes e l. first.lde_refusals ldes e (second.lde_refusals ldes e l)))
+    _ c.in_err-third.ensures.refused)
