@@ -1,11 +1,9 @@
 -- What holds of the scheme's rules.
-use Rattle.std.specs.Prelude.{◌≡◌, ℕ, List}
+use Rattle.std.specs.Prelude.{ℕ, List}
 use Rattle.std.proofs.Common.{refl}
-use Rattle.p3_pcs.specs.Scheme.{Scheme, IsLawful}
-use Rattle.p3_stark_pcs.specs.Scheme.{StarkScheme, IsLawfulStark}
-use Rattle.p3_fri_relation.specs.declared.error.FriError.{FriError}
+use Rattle.p3_pcs.specs.Scheme.{IsLawful}
+use Rattle.p3_stark_pcs.specs.Scheme.{IsLawfulStark}
 use Rattle.p3_fri_relation.specs.Setting.{Proof}
-use Rattle.p3_fri_masks.specs.declared.error.HidingFriProverError.{HidingFriProverError}
 use Rattle.p3_fri_hiding_prover.specs.declared.data.HidingFriPcsProverData.{HidingFriPcsProverData}
 use Rattle.p3_fri_hiding_prover.specs.Data.{IsOfScheme}
 use Rattle.p3_fri_hiding_prover.specs.ErrorLaws.{memory_cases}
@@ -16,8 +14,7 @@ use Rattle.p3_fri_hiding.specs.ReadingLaws.{traced_columns, readable, whole_read
 use Rattle.p3_fri_hiding.specs.ReadingLaws.{shown_words_at, shown_first}
 use Rattle.p3_fri_hiding.specs.Rules.{hiding_rules, hiding_stark_rules}
 
-module _ {F E C D Data Domain Com Path InCom InPath : Type 0} (shift : Domain → F)
-    (log_size : Domain → ℕ) (num_random : ℕ)
+module _ {F E C D Data Com Path InCom InPath : Type 0} (num_random : ℕ)
     (r : TwoAdic F E C D Data Com Path InCom InPath) where
   -- an opening leaves data of the scheme
   opened_of_scheme : (d : HidingFriPcsProverData D)
@@ -30,46 +27,40 @@ module _ {F E C D Data Domain Com Path InCom InPath : Type 0} (shift : Domain �
     cosets = h.cosets;
   }
 
-  module _ {Shown A B : Type 0} (random_of : Shown → List (List (List (List E))))
-      (proof_of : Shown → Proof F E Com Path InPath) where
-    abbrev rules : Scheme E C F Domain InCom (HidingFriPcsProverData D) Shown (FriError A B)
-        HidingFriProverError
-    rules = hiding_rules shift log_size num_random r random_of proof_of
+module _ {F E C D Data Domain Com Path InCom InPath Shown A B : Type 0} (shift : Domain → F)
+    (log_size : Domain → ℕ) (random_of : Shown → List (List (List (List E))))
+    (proof_of : Shown → Proof F E Com Path InPath) (num_random : ℕ)
+    (r : TwoAdic F E C D Data Com Path InCom InPath) where
+  pub hiding_lawful : IsLawful
+      (hiding_rules {A = A} {B = B} shift log_size random_of proof_of num_random r)
+  hiding_lawful = record {
+    extends_size = λ m e h. h.size;
+    extends_columns = λ m e h.
+        traced_columns r.setting.fields (shift e.0) (log_size e.0) e.1 m h;
+    opened_commitment = λ d. refl;
+    opened_polynomials = λ d. refl;
+    opened_honest = λ d h. h;
+    memory = memory_cases;
+  }
 
-    pub hiding_lawful : IsLawful rules
-    hiding_lawful = record {
-      extends_size = λ m e h. h.size;
-      extends_columns = λ m e h.
-          traced_columns r.setting.fields (shift e.0) (log_size e.0) e.1 m h;
-      opened_commitment = λ d. refl;
-      opened_polynomials = λ d. refl;
-      opened_honest = λ d h. h;
-      memory = memory_cases;
-    }
-
-    module _ (from_word : ℕ → F) where
-      abbrev stark_rules : StarkScheme E F Domain (HidingFriPcsProverData D)
-          HidingFriProverError
-      stark_rules = hiding_stark_rules shift log_size num_random r from_word
-
-      pub hiding_lawful_stark : IsLawfulStark rules stark_rules
-      hiding_lawful_stark = record {
-        heights = λ n. trace_heights r.setting.fields.two_adicity n;
-        openable = λ index asked h. h;
-        openable_readable = λ d h. h.of_scheme;
-        preprocessed_readable = λ d h. h.of_scheme;
-        opened_readable = λ d h. opened_of_scheme d h;
-        preprocessed_again = λ d h. record {
-          of_scheme = opened_of_scheme d h.of_scheme;
-          public = h.public;
-        };
-        evaluable = λ d index domain of_scheme columns. readable r.setting.fields r.committed
-            r.parameters.log_blowup num_random d index of_scheme columns;
-        evaluable_whole = λ d index domain of_scheme columns. whole_readable
-            r.setting.fields r.committed r.parameters.log_blowup num_random d index of_scheme
-            columns;
-        honest_at = λ d index honest below. shown_words_at r.setting.fields r.committed
-            r.parameters.log_blowup num_random d index honest below;
-        whole = λ d. shown_first r.setting.fields r.committed r.parameters.log_blowup
-            num_random d;
-      }
+  pub hiding_lawful_stark : (from_word : ℕ → F) → IsLawfulStark
+      (hiding_rules {A = A} {B = B} shift log_size random_of proof_of num_random r)
+      (hiding_stark_rules shift log_size num_random r from_word)
+  hiding_lawful_stark from_word = record {
+    heights = λ n. trace_heights r.setting.fields.two_adicity n;
+    openable = λ index asked h. h;
+    openable_readable = λ d h. h.of_scheme;
+    preprocessed_readable = λ d h. h.of_scheme;
+    opened_readable = λ d h. opened_of_scheme num_random r d h;
+    preprocessed_again = λ d h. record {
+      of_scheme = opened_of_scheme num_random r d h.of_scheme;
+      public = h.public;
+    };
+    evaluable = λ d index domain of_scheme columns. readable r.setting.fields r.committed
+        r.parameters.log_blowup num_random d index of_scheme columns;
+    evaluable_whole = λ d index domain of_scheme columns. whole_readable r.setting.fields
+        r.committed r.parameters.log_blowup num_random d index of_scheme columns;
+    honest_at = λ d index honest below. shown_words_at r.setting.fields r.committed
+        r.parameters.log_blowup num_random d index honest below;
+    whole = λ d. shown_first r.setting.fields r.committed r.parameters.log_blowup num_random d;
+  }

@@ -61,9 +61,9 @@ impl<
 
     type ProverError = HidingFriProverError;
 
-    ghost rules = { λ s. hiding_rules (λ d. d.shift) (λ d. d.log_size) s.num_random_codewords
-        (⟦<C as OpensTwoAdic<F, EF, InputMmcs, M>>⟧.parts s.mmcs s.fri)
-        (λ proof. opened_values proof.0.items) (λ proof. proof_of proof.1) };
+    ghost rules = { λ s. hiding_rules (λ d. d.shift) (λ d. d.log_size)
+        (λ proof. opened_values proof.0.items) (λ proof. proof_of proof.1)
+        s.num_random_codewords (⟦<C as OpensTwoAdic<F, EF, InputMmcs, M>>⟧.parts s.mmcs s.fri) };
 
     ghost Keeps = { λ old new. new ≡ record old { rng = new.rng } };
 
@@ -160,11 +160,11 @@ impl<
     ghost keeps_itself_law = { λ _. refl };
 
     ghost keeps_law = { λ old new same. same_kept (record old { rng = new.rng }) new same
-        (λ s. hiding_rules (λ d. d.shift) (λ d. d.log_size) s.num_random_codewords
-        (⟦<C as OpensTwoAdic<F, EF, InputMmcs, M>>⟧.parts s.mmcs s.fri)
-        (λ proof. opened_values proof.0.items) (λ proof. proof_of proof.1)) };
+        (λ s. hiding_rules (λ d. d.shift) (λ d. d.log_size)
+        (λ proof. opened_values proof.0.items) (λ proof. proof_of proof.1)
+        s.num_random_codewords (⟦<C as OpensTwoAdic<F, EF, InputMmcs, M>>⟧.parts s.mmcs s.fri)) };
 
     ghost rules_law = { λ s. hiding_lawful (λ d. d.shift) (λ d. d.log_size)
-        s.num_random_codewords (⟦<C as OpensTwoAdic<F, EF, InputMmcs, M>>⟧.parts s.mmcs s.fri)
-        (λ proof. opened_values proof.0.items) (λ proof. proof_of proof.1) };
+        (λ proof. opened_values proof.0.items) (λ proof. proof_of proof.1)
+        s.num_random_codewords (⟦<C as OpensTwoAdic<F, EF, InputMmcs, M>>⟧.parts s.mmcs s.fri) };
 }

@@ -320,8 +320,9 @@ impl<
     }
 
     ghost stark_law = { λ s. hiding_lawful_stark (λ d. d.shift) (λ d. d.log_size)
+        (λ proof. opened_values proof.0.items) (λ proof. proof_of proof.1)
         s.num_random_codewords (⟦<C as OpensTwoAdic<F, EF, InputMmcs, M>>⟧.parts s.mmcs s.fri)
-        (λ proof. opened_values proof.0.items) (λ proof. proof_of proof.1) F.from_word };
+        F.from_word };
 
     ghost rows_law = { λ _ _ _ extends. extends.trace };
 
