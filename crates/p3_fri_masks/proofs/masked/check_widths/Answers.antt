@@ -28,8 +28,12 @@ loop-evaluation-preserved g c =
     c.loop-evaluation.evaluation-index c.evaluation-item.result c.loop-evaluation-test.true
     c.loop-evaluation.invariant
     (subst (λ e. ¬ IsTooWide c.args.num_random_codewords e.1) c.evaluation-item.is
-    (λ wide. omega (arith, c.in-Some-checked_add.ensures.0, c.in-Some.ensures.1,
-    c.width.ensures.columns)))
+    (λ wide. omega (
+      arith,
+      c.in-Some-checked_add.ensures.0,
+      c.in-Some.ensures.1,
+      c.width.ensures.columns,
+    )))
 
 pub returns : goal.returns
 returns g c =
