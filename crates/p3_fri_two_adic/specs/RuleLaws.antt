@@ -3,7 +3,6 @@ use Rattle.std.specs.Prelude.{◌≡◌, ℕ}
 use Rattle.std.proofs.Common.{refl, sym, subst}
 use Rattle.p3_pcs.specs.Scheme.{Scheme, IsLawful, AreKept, still_kept}
 use Rattle.p3_stark_pcs.specs.Scheme.{StarkScheme, IsLawfulStark, IsPlain, AreKeptStark}
-use Rattle.p3_fri_relation.specs.Setting.{Proof}
 use Rattle.p3_fri_completeness.specs.Requests.{held_of}
 use Rattle.p3_fri_two_adic.specs.ErrorLaws.{memory_cases}
 use Rattle.p3_fri_two_adic.specs.EvaluationLaws.{extended_columns, is_matrix_of, words_at}
@@ -42,10 +41,9 @@ pub same_kept_stark : {S E V Dom D ProverError : Type 0} (old new : S) → new �
 same_kept_stark old new same rules =
     subst (λ s. AreKeptStark (rules old) (rules s)) (sym same) (stark_still_kept (rules old))
 
-module _ {F E C D Data Domain Com Path InCom InPath Shown A B : Type 0} (shift : Domain → F)
-    (log_size : Domain → ℕ) (proof_of : Shown → Proof F E Com Path InPath)
-    (r : TwoAdic F E C D Data Com Path InCom InPath) where
-  pub two_adic_lawful : IsLawful (two_adic_rules {A = A} {B = B} shift log_size proof_of r)
+module _ {F E C D Data Domain Com Path InCom InPath M InM A B X : Type 0} (shift : Domain → F)
+    (log_size : Domain → ℕ) (r : TwoAdic F E C D Data Com Path InCom InPath) where
+  pub two_adic_lawful : IsLawful (two_adic_rules {M = M} {InM = InM} {A = A} {B = B} {X = X} shift log_size r)
   two_adic_lawful = record {
     extends_size = λ m e h. h.polynomials.size;
     extends_columns = λ m e h. extended_columns r.setting.fields (shift e.0) (log_size e.0) e.1 m h;
@@ -56,7 +54,7 @@ module _ {F E C D Data Domain Com Path InCom InPath Shown A B : Type 0} (shift :
   }
 
   pub two_adic_lawful_stark : IsLawfulStark
-      (two_adic_rules {A = A} {B = B} shift log_size proof_of r)
+      (two_adic_rules {M = M} {InM = InM} {A = A} {B = B} {X = X} shift log_size r)
       (two_adic_stark_rules shift log_size r)
   two_adic_lawful_stark = record {
     heights = λ n. trace_heights r.setting.fields.two_adicity n;
@@ -75,7 +73,7 @@ module _ {F E C D Data Domain Com Path InCom InPath Shown A B : Type 0} (shift :
     whole = λ d. all_shown (held_of r.setting.fields r.committed r.parameters.log_blowup d);
   }
 
-  pub two_adic_plain : IsPlain (two_adic_rules {A = A} {B = B} shift log_size proof_of r)
+  pub two_adic_plain : IsPlain (two_adic_rules {M = M} {InM = InM} {A = A} {B = B} {X = X} shift log_size r)
       (two_adic_stark_rules shift log_size r)
   two_adic_plain = record {
     of_data = λ d. ((λ h. h), (λ h. h));

@@ -1,6 +1,7 @@
 -- What the scheme over two-adic fields opens, accepts and refuses, and what it has for a STARK.
 use Rattle.std.specs.Prelude.{◌≡◌, ◌^◌, ℕ, List, Option, All, ⊤}
 use Rattle.std.specs.List.{AllZip}
+use Rattle.std.specs.declared.vec.Vec.{Vec}
 use Rattle.p3_matrix.specs.declared.dense.RowMajorMatrix.{RowMajorMatrix}
 use Rattle.p3_pcs.specs.Requests.{AreOpenable}
 use Rattle.p3_pcs.specs.Scheme.{Scheme}
@@ -10,7 +11,10 @@ use Rattle.p3_fri_pow.specs.declared.error.FriProverError.{FriProverError}
 use Rattle.p3_fri_pow.specs.declared.error.FriProverError.TheVariants as refusal
 use Rattle.p3_fri_relation.specs.declared.error.FriError.{FriError}
 use Rattle.p3_fri_relation.specs.declared.error.FriError.TheVariants as fault
-use Rattle.p3_fri_relation.specs.Setting.{Setting, Parameters, Proof}
+use Rattle.p3_fri_relation.specs.declared.proof.BatchMultiOpening.{BatchMultiOpening}
+use Rattle.p3_fri_relation.specs.declared.proof.FriProof.{FriProof}
+use Rattle.p3_fri_relation.specs.Setting.{Setting, Parameters}
+use Rattle.p3_fri_relation.specs.Views.{proof_of}
 use Rattle.p3_fri_relation.specs.Acceptance.{Accepts}
 use Rattle.p3_fri_relation.specs.Faults.{StandsInScheme}
 use Rattle.p3_fri_openings.specs.Rounds.{HasCoset}
@@ -46,12 +50,14 @@ module _ {F E C D Data Com Path InCom InPath : Type 0}
   abbrev pub StandsOnCosets : D → Type 0
   StandsOnCosets d = All (HasCoset r.setting.fields.two_adicity) (r.committed d)
 
--- over domains with these shifts and log sizes, and proofs that are read so
-module _ {F E C D Data Domain Com Path InCom InPath Shown A B : Type 0} (shift : Domain → F)
-    (log_size : Domain → ℕ) (proof_of : Shown → Proof F E Com Path InPath)
-    (r : TwoAdic F E C D Data Com Path InCom InPath) where
+-- over domains with these shifts and log sizes, and commitments with the errors `A` of rounds and
+-- `B` of batches
+module _ {F E C D Data Domain Com Path InCom InPath M InM A B X : Type 0} (shift : Domain → F)
+    (log_size : Domain → ℕ) (r : TwoAdic F E C D Data Com Path InCom InPath) where
   -- what the scheme opens, accepts and refuses
-  abbrev pub two_adic_rules : Scheme E C F Domain InCom D Shown (FriError A B) FriProverError
+  abbrev pub two_adic_rules : Scheme E C F Domain InCom D
+      (FriProof E M F (Vec (BatchMultiOpening F InM InCom D InPath B) X) Com Data Path A)
+      (FriError A B) FriProverError
   two_adic_rules = record {
     domain_size = λ d. 2 ^ log_size d;
     HasDomain = λ n. IsSubgroupSize r.setting.fields.two_adicity n;

@@ -9,7 +9,6 @@
 ghost use Rattle.std.specs.Prelude.{◌≡◌, ◌≢◌, ◌↔◌, ◌^◌, map, IsOk, IfOk, IfErr, None, Err, refl};
 ghost use Rattle.std.specs.List.{AllZip};
 ghost use Rattle.p3_pcs.specs.Claims.{claim};
-ghost use Rattle.p3_fri_relation.specs.Views.{proof_of};
 ghost use Rattle.p3_fri_two_adic.specs.Held.{IsSubgroupSize};
 ghost use Rattle.p3_fri_two_adic.specs.Rules.{two_adic_rules};
 ghost use Rattle.p3_fri_two_adic.specs.RuleLaws.{same_kept, two_adic_lawful};
@@ -93,7 +92,7 @@ impl<
 
     type ProverError = FriProverError;
 
-    ghost rules = { λ s. two_adic_rules (λ d. d.shift) (λ d. d.log_size) (λ proof. proof_of proof)
+    ghost rules = { λ s. two_adic_rules (λ d. d.shift) (λ d. d.log_size)
         (⟦<C as OpensTwoAdic<F, EF, InputMmcs, M>>⟧.parts s.mmcs s.fri) };
 
     ghost Keeps = { λ old new. new ≡ old };
@@ -182,10 +181,10 @@ impl<
     ghost keeps_itself_law = { λ _. refl };
 
     ghost keeps_law = { λ old new same. same_kept old new same (λ s. two_adic_rules
-        (λ d. d.shift) (λ d. d.log_size) (λ proof. proof_of proof)
+        (λ d. d.shift) (λ d. d.log_size)
         (⟦<C as OpensTwoAdic<F, EF, InputMmcs, M>>⟧.parts s.mmcs s.fri)) };
 
     ghost rules_law = { λ s. two_adic_lawful
-        (λ d. d.shift) (λ d. d.log_size) (λ proof. proof_of proof)
+        (λ d. d.shift) (λ d. d.log_size)
         (⟦<C as OpensTwoAdic<F, EF, InputMmcs, M>>⟧.parts s.mmcs s.fri) };
 }

@@ -8,7 +8,6 @@ ghost use Rattle.p3_pcs.specs.Claims.{claim};
 ghost use Rattle.p3_periodic.specs.Values.{IsColumnValue};
 ghost use Rattle.p3_stark_pcs.specs.Evaluations.{HasPolynomials};
 ghost use Rattle.p3_fri_pow.specs.declared.error.FriProverError.TheVariants as refusal;
-ghost use Rattle.p3_fri_relation.specs.Views.{proof_of};
 ghost use Rattle.p3_fri_two_adic.specs.Chunks.{polynomials_on, recombined_on};
 ghost use Rattle.p3_fri_two_adic.specs.Rules.{two_adic_stark_rules};
 ghost use Rattle.p3_fri_two_adic.specs.RuleLaws.{same_kept_stark, two_adic_lawful_stark};
@@ -271,13 +270,13 @@ impl<
     }
 
     ghost stark_law = { λ s. two_adic_lawful_stark
-        (λ d. d.shift) (λ d. d.log_size) (λ proof. proof_of proof)
+        (λ d. d.shift) (λ d. d.log_size)
         (⟦<C as OpensTwoAdic<F, EF, InputMmcs, M>>⟧.parts s.mmcs s.fri) };
 
     ghost rows_law = { λ _ _ _ extends. extends.have_rows };
 
     ghost plain_law = { λ _ s. two_adic_plain
-        (λ d. d.shift) (λ d. d.log_size) (λ proof. proof_of proof)
+        (λ d. d.shift) (λ d. d.log_size)
         (⟦<C as OpensTwoAdic<F, EF, InputMmcs, M>>⟧.parts s.mmcs s.fri) };
 
     ghost keeps_stark_law = { λ old new same. same_kept_stark old new same

@@ -1,4 +1,4 @@
-use Rattle.std.proofs.Common.{◌≡◌, ◌^◌, ℕ, List, map, ap, ◌∙◌, subst}
+use Rattle.std.proofs.Common.{◌≡◌, ◌^◌, ℕ, List, map, subst}
 use Rattle.std.proofs.lemmas.Result.{IfOk-weaker}
 use Rattle.p3_field_core.specs.declared.coset.TwoAdicMultiplicativeCoset.{TwoAdicMultiplicativeCoset}
 use Rattle.p3_challenger_core.specs.Run.{moves}
@@ -82,11 +82,12 @@ returns-clause-state g c honest =
     → c.open_requests.new.challenger ≡ last_state s p (relation_claims (λ
     (d : Domain g). d.log_size) (honest_claims held commitment_of domains requests))
     (proof_of opening.1) c.args.challenger.now)
-    (λ opening ends domains fits. ends (map (map (λ (d : Domain g). d.log_size)) domains)
-    (domains_sized held commitment_of (λ (d : Domain g). d.log_size) domains requests fits)
-    ∙ ap (λ (cs : List (CommitmentClaim g.row.EF.Denot g.row.InputMmcs-Commitment.Denot)).
-    last_state s p cs (proof_of opening.1) c.args.challenger.now)
-    (claims_sized held commitment_of (λ (d : Domain g). d.log_size) domains requests))
+    (λ opening ends domains fits.
+    subst (λ (cs : List (CommitmentClaim g.row.EF.Denot g.row.InputMmcs-Commitment.Denot)).
+    c.open_requests.new.challenger ≡ last_state s p cs (proof_of opening.1) c.args.challenger.now)
+    (claims_sized held commitment_of (λ (d : Domain g). d.log_size) domains requests)
+    (ends (map (map (λ (d : Domain g). d.log_size)) domains)
+    (domains_sized held commitment_of (λ (d : Domain g). d.log_size) domains requests fits)))
     (c.open_requests.ensures.state honest)
 
 pub returns-clause-opened : goal.returns-clause-opened

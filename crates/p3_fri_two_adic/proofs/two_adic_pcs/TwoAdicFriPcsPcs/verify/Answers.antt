@@ -1,4 +1,4 @@
-use Rattle.std.proofs.Common.{List, sym, ap, ◌∙◌, subst}
+use Rattle.std.proofs.Common.{◌≡◌, List, sym, ap, ◌∙◌, subst}
 use Rattle.std.specs.Prelude.{◌↔◌, IsOk, IfErr}
 use Rattle.p3_challenger_core.specs.Run.{moves}
 use Rattle.p3_fri_relation.specs.Setting.{Setting, CommitmentClaim}
@@ -46,10 +46,10 @@ returns-clause-state g c ok =
     let s = setting_at g c.args.self.now.mmcs c.args.self.now.fri.mmcs in
     let same = ap (claims_of (λ d. d.log_size)) c.deref.ensures.value
     ∙ sym (claims_are (λ d. d.log_size) c.args.claims.items) in
-    c.verify_opening.ensures.state ok
-    ∙ ap (λ (cs : List (CommitmentClaim g.row.EF.Denot g.row.InputMmcs-Commitment.Denot)).
-    last_state s (parameters_of c.args.self.now.fri) cs
-    (proof_of c.args.proof.now) c.args.challenger.now) same
+    subst (λ (cs : List (CommitmentClaim g.row.EF.Denot g.row.InputMmcs-Commitment.Denot)).
+    c.verify_opening.new.challenger ≡ last_state s (parameters_of c.args.self.now.fri) cs
+    (proof_of c.args.proof.now) c.args.challenger.now)
+    same (c.verify_opening.ensures.state ok)
 
 pub returns-clause-stands : goal.returns-clause-stands
 returns-clause-stands g c =
