@@ -10,10 +10,12 @@ use Rattle.p3_matrix.specs.declared.dense.RowMajorMatrix.{RowMajorMatrix}
 use Rattle.p3_matrix.specs.Matrix.{rows, matrix_width}
 use Rattle.p3_matrix.specs.Words.{past}
 use Rattle.p3_pcs.specs.Requests.{Held}
+use Rattle.p3_stark_pcs.specs.Evaluations.{HasShape}
 use Rattle.p3_fri_commit.specs.Extension.{FitsDomain, IsLowDegreeExtension}
 use Rattle.p3_fri_relation.specs.Setting.{Fields}
 use Rattle.p3_fri_completeness.specs.Requests.{held_in}
 use Rattle.p3_fri_hiding_prover.specs.Halves.{shown_of}
+use Rattle.p3_fri_hiding_prover.proofs.Committed.{extends}
 use Rattle.p3_fri_masks.specs.Draws.{IsRandom, AreRandom}
 use Rattle.p3_fri_masks.specs.Masked.{mask_words, IsMasked, AreMasked}
 use Rattle.p3_fri_masks.specs.Padded.{IsPadded}
@@ -21,7 +23,7 @@ use Rattle.p3_fri_masks.proofs.RandomRows.{length-random_rows}
 use Rattle.p3_fri_hiding.specs.Commitments.{AreExtended}
 use Rattle.p3_fri_hiding_prover.specs.Shown.{shown_in}
 use Rattle.p3_fri_hiding.specs.Trace.{FitsMasked, HasTrace, HasZerosBetween}
-use Rattle.p3_fri_hiding.proofs.Traced.{masked_fits, padded_fits, masked_traced, padded_traced, zeros_traced}
+use Rattle.p3_fri_hiding.proofs.Traced.{masked_fits, padded_fits, masked_traced, padded_traced, zeros_traced, shown_columns}
 
 -- from neighbours in two pairs of lists to neighbours of the outer ones, and to entries
 module _ {A B C : Type 0} (R : A → B → Type 0) (S : B → C → Type 0) (Q : C → Type 0) where
@@ -198,6 +200,41 @@ module _ {F D : Type 0} (from_word : ℕ → F) (log_size : D → ℕ) (width : 
         IsRandomOf FitsTop (λ m. r ≤ matrix_width m)
         (λ m e d word is within. omega (arith, word.width, is.2.columns, less))
         matrices ms ds words (each_random ds ms s random) (each_from_All FitsTop ds fit))
+
+-- of extensions of random matrices, the columns beside those that hide them are shown
+module _ {F E D : Type 0} (f : Fields F E) (L : IsField f.base) (M : IsField f.ext)
+    (H : IsHomomorphism f.base f.ext f.lift) (W : AreRoots f.base f.two_adicity f.root)
+    (nonzero : f.shift ≢ f.base.zero) (b : ℕ) (shift : D → F) (log_size : D → ℕ)
+    (off_zero : (d : D) → shift d ≢ f.base.zero) (from_word : ℕ → F) (r columns : ℕ) (ds : List D)
+    (fit : All (λ d. log_size d + b ≤ f.two_adicity) ds) (ms : List (D × RowMajorMatrix F)) (s : Stream)
+    (random : AreRandom from_word (λ d. 2 ^ log_size d) (r + columns) ds s ms)
+    (matrices : List (RowMajorMatrix F)) (words : AreExtended f shift log_size b ms matrices) where
+  abbrev IsShaped : Held E → D → Type 0
+  IsShaped m d = HasShape (2 ^ log_size d) columns m
+
+  shaped : (m : RowMajorMatrix F) (e : D × RowMajorMatrix F) (d : D)
+      → IsLowDegreeExtension f.base f.root f.shift b (shift e.0) (log_size e.0) e.1 m
+      → IsRandomOf from_word log_size (r + columns) e d → log_size d + b ≤ f.two_adicity
+      → IsShaped (shown_in f b r m) d
+  shaped m e d word is within =
+      let fits : FitsDomain f.two_adicity b (log_size e.0) e.1 =
+      subst (λ x. FitsDomain f.two_adicity b (log_size x) e.1) (sym is.0) (record {
+        height = ap length is.2.entries ∙ length-random_rows from_word (2 ^ log_size d) (r + columns) is.1;
+        within = within;
+      }) in
+      subst (λ x. IsShaped (shown_in f b r m) x) is.0 (record {
+        size = (extends f L W nonzero b (shift e.0) (off_zero e.0) (log_size e.0) e.1 m fits word).size;
+        columns = shown_columns f L M H W nonzero b (shift e.0) (off_zero e.0) (log_size e.0) e.1 m fits word r
+            columns (omega (arith, is.2.columns));
+      })
+
+  pub random_shaped : AllZip IsShaped (map (shown_of r) (map (held_in f b) matrices)) ds
+  random_shaped = subst (λ hs. AllZip IsShaped hs ds) (sym (map-map (shown_of r) (held_in f b) matrices))
+      (zip_through
+      (λ m (e : D × RowMajorMatrix F). IsLowDegreeExtension f.base f.root f.shift b (shift e.0) (log_size e.0) e.1 m)
+      (IsRandomOf from_word log_size (r + columns)) (λ d. log_size d + b ≤ f.two_adicity) (shown_in f b r) IsShaped
+      shaped matrices ms ds words (each_random from_word log_size (r + columns) ds ms s random)
+      (each_from_All (λ d. log_size d + b ≤ f.two_adicity) ds fit))
 
 -- an extension has a coefficient, since zero and one differ
 pub some_coefficient : {F E : Type 0} (degree : ℕ) (coefficients : E → List F) (none one : E) → one ≢ none

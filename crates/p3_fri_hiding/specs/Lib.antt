@@ -8,3 +8,5 @@ pub mod Trace
 pub mod Commitments
 pub mod Quotients
 pub mod ReadingLaws
+pub mod Rules
+pub mod RuleLaws

@@ -12,7 +12,7 @@ use crate::hiding_pcs::HidingFriPcs;
 use p3_dft::TwoAdicSubgroupDft;
 use p3_field_core::{ExtensionField, SampleField, TwoAdicField, TwoAdicMultiplicativeCoset};
 use p3_fri_commit::commit_evaluations;
-use p3_fri_hiding_prover::HidingFriPcsProverData;
+use p3_fri_hiding_prover::{HidingFriPcsProverData, new_prover_data};
 use p3_fri_masks::HidingFriProverError;
 use p3_fri_relation::setting::ChallengeField;
 use p3_matrix::RowMajorMatrix;
@@ -67,7 +67,7 @@ impl<
             evaluations,
         )?;
         let codewords = self.num_random_codewords;
-        let data = HidingFriPcsProverData::new(inner, preprocessed, codewords, log_blowup);
+        let data = new_prover_data(inner, preprocessed, codewords, log_blowup);
         Ok((commitment, data))
     }
 }

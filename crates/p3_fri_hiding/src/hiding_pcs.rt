@@ -4,14 +4,14 @@
 
 ghost use Rattle.std.specs.Prelude.{◌≡◌, ◌≢◌, map, length, All};
 ghost use Rattle.std.specs.Prelude.{IsOk, IfOk, IfErr, false, true};
-ghost use Rattle.std.specs.List.{AllZip};
+ghost use Rattle.std.specs.List.{AllZip, Any};
 ghost use Rattle.rand_core.specs.Stream.{fill_bytes};
 ghost use Rattle.p3_matrix.specs.Matrix.{rows};
 ghost use Rattle.p3_matrix.specs.Words.{past};
 ghost use Rattle.p3_fri_completeness.specs.Requests.{HoldsWords};
 ghost use Rattle.p3_fri_pow.specs.declared.error.FriProverError.TheVariants.{OutOfMemory};
 ghost use Rattle.p3_fri_masks.specs.declared.error.HidingFriProverError.TheVariants.{Fri};
-ghost use Rattle.p3_fri_masks.specs.Masked.{mask_words_of_all};
+ghost use Rattle.p3_fri_masks.specs.Masked.{mask_words_of_all, IsTooWide};
 ghost use Rattle.p3_fri_hiding_prover.specs.Budgets.{AllFit, MaskRefusal};
 ghost use Rattle.p3_fri_hiding.specs.Commitments.{ExtendMasked, ExtendPadded};
 ghost use Rattle.p3_fri_hiding_prover.specs.Data.{IsNew, IsUnopened, IsPreprocessing};
@@ -119,7 +119,7 @@ impl<
     ///
     /// `InsufficientRandomCodewords`, `BudgetOverflow` or `HidingBudgetExceeded` where the masks of
     /// a matrix, as high as it is, can't hide one opening, and then nothing was drawn; else
-    /// `Fri(OutOfMemory)` alone.
+    /// `Fri(OutOfMemory)` alone. Nothing is drawn either where a matrix is too wide to be masked.
     pub fn commit<EF: ExtensionField<F>>(
         &mut self,
         alloc: Global,
@@ -161,6 +161,8 @@ impl<
             self.old.fri.num_queries EF.DIMENSION
             (map (λ e. length (rows e.1)) evaluations.items)) }
         ensures unmoved { IfErr result (λ e. e ≢ Fri OutOfMemory → self.new ≡ self.old) }
+        ensures too_wide { Any (λ e. IsTooWide self.old.num_random_codewords e.1)
+            evaluations.items → self.new ≡ self.old }
     {
         let codewords = self.num_random_codewords;
         check_matrices(codewords, self.fri.num_queries, EF::DIMENSION, &evaluations)?;

@@ -1,10 +1,11 @@
 //! Words of a quotient's chunks, words that are committed to as they are, and random polynomials.
 
-ghost use Rattle.std.specs.Prelude.{◌≡◌, ◌≢◌, ◌≤◌, ◌+◌, ◌*◌, ◌/◌, ◌^◌, false, map, length, All};
-ghost use Rattle.std.specs.Prelude.{IsOk, IfOk, IfErr, IsSome, IfSome};
+ghost use Rattle.std.specs.Prelude.{◌≡◌, ◌≢◌, ◌≤◌, ◌+◌, ◌*◌, ◌/◌, ◌^◌, [], false, map, length};
+ghost use Rattle.std.specs.Prelude.{All, IsOk, IfOk, IfErr, IsSome, IfSome};
 ghost use Rattle.std.specs.List.{AllZip};
 ghost use Rattle.p3_matrix.specs.Matrix.{rows};
 ghost use Rattle.p3_matrix.specs.Words.{past};
+ghost use Rattle.p3_stark_pcs.specs.Evaluations.{HasShape};
 ghost use Rattle.p3_fri_pow.specs.declared.error.FriProverError.TheVariants.{OutOfMemory};
 ghost use Rattle.p3_fri_completeness.specs.Requests.{HoldsWords};
 ghost use Rattle.p3_fri_hiding_prover.specs.Chunks.{polynomials_on, recombined_on};
@@ -22,8 +23,8 @@ ghost use Rattle.p3_fri_hiding.specs.Quotients.{CanExtend};
 use crate::hiding_pcs::HidingFriPcs;
 use p3_dft::TwoAdicSubgroupDft;
 use p3_field_core::{ExtensionField, SampleField, TwoAdicField, TwoAdicMultiplicativeCoset};
-use p3_fri_hiding_prover::HidingFriPcsProverData;
 use p3_fri_hiding_prover::budgets::{check_domains, check_ldes, check_matrices};
+use p3_fri_hiding_prover::{HidingFriPcsProverData, new_prover_data};
 use p3_fri_masks::{HidingFriProverError, random_matrices};
 use p3_fri_quotient_masks::quotient_ldes;
 use p3_fri_relation::setting::ChallengeField;
@@ -33,7 +34,8 @@ use rand_core::CryptoRng;
 use std::alloc::{AllocError, Global};
 
 /// A random matrix beside each domain, as high as it is large, with a column for each random
-/// codeword and each coefficient of the extension.
+/// codeword and each coefficient of the extension. Without domains there is none, however wide it
+/// would be; where there is some and no row can be so wide, nothing is drawn.
 fn random_columns<F: TwoAdicField + SampleField, EF: ExtensionField<F>, R: CryptoRng>(
     alloc: Global,
     domains: Vec<TwoAdicMultiplicativeCoset<F>>,
@@ -46,7 +48,12 @@ fn random_columns<F: TwoAdicField + SampleField, EF: ExtensionField<F>, R: Crypt
     ensures past { IfOk result (λ _. R.stream rng.new
         ≡ past (random_words F.from_word (λ d. 2 ^ d.log_size)
         (num_random_codewords + EF.DIMENSION) domains.items) (R.stream rng.old)) }
+    ensures none { domains.items ≡ [] → IsOk result }
+    ensures too_wide { 2 ^ 64 ≤ num_random_codewords + EF.DIMENSION → rng.new ≡ rng.old }
 {
+    if domains.is_empty() {
+        return Ok(Vec::new(alloc));
+    }
     // no memory holds a row as wide as that
     let Some(width) = num_random_codewords.checked_add(EF::DIMENSION) else {
         return Err(AllocError);
@@ -189,7 +196,7 @@ impl<
         let (commitment, inner) = self.mmcs.commit(alloc, ldes)?;
         Ok((
             commitment,
-            HidingFriPcsProverData::new(inner, false, codewords, log_blowup),
+            new_prover_data(inner, false, codewords, log_blowup),
         ))
     }
 
@@ -237,10 +244,17 @@ impl<
         ensures honest { IfOk result (λ found. IfSome found (λ pair.
             All (HoldsWords ⟦<EF as ChallengeField<F>>⟧.fields self.new.fri.log_blowup)
             (InputMmcs.committed pair.1.inner))) }
+        ensures shapes { let fields = ⟦<EF as ChallengeField<F>>⟧.fields in
+            IfOk result (λ found. IfSome found (λ pair. AllZip
+            (λ m d. HasShape (2 ^ d.log_size) EF.DIMENSION m)
+            (shown_polynomials fields InputMmcs.committed self.new.fri.log_blowup
+            self.new.num_random_codewords pair.1) domains.items)) }
         ensures refused { IfErr result (MaskRefusal self.old.num_random_codewords
             self.old.fri.num_queries EF.DIMENSION
             (map (λ d. 2 ^ d.log_size / 2) domains.items)) }
         ensures unmoved { IfErr result (λ e. e ≢ Fri OutOfMemory → self.new ≡ self.old) }
+        ensures too_wide { 2 ^ 64 ≤ self.old.num_random_codewords + EF.DIMENSION
+            → self.new ≡ self.old }
     {
         let codewords = self.num_random_codewords;
         check_domains(codewords, self.fri.num_queries, EF::DIMENSION, &domains)?;

@@ -1,6 +1,6 @@
-//! Hiding commitments over two-adic fields: what is committed to is masked by random values, so
-//! that an opening shows nothing of a trace but the opened values (section 4.2 of
-//! <https://eprint.iacr.org/2024/1037>).
+//! Hiding commitments over two-adic fields: what is committed to is masked by random values, as
+//! section 4.2 of <https://eprint.iacr.org/2024/1037> has it. What is proved is what stands where
+//! and what is opened of it; that an opening shows nothing else is no part of it.
 #![tactic(auto)]
 
 mod extended;

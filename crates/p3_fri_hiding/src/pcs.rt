@@ -1,34 +1,13 @@
 //! The hiding scheme over two-adic fields as a polynomial commitment scheme.
 
-ghost use Rattle.std.specs.Prelude.{◌≡◌, ◌≢◌, ◌↔◌, ◌≤◌, ◌^◌, ℕ, List, map, length, All};
-ghost use Rattle.std.specs.Prelude.{IsOk, IfOk, IfErr, Err, None, false, refl};
-ghost use Rattle.std.proofs.Common.{ap, sym, subst};
+ghost use Rattle.std.specs.Prelude.{◌≡◌, ◌≢◌, ◌↔◌, ◌^◌, map, IsOk, IfOk, IfErr, Err, None, refl};
 ghost use Rattle.std.specs.List.{AllZip};
-ghost use Rattle.p3_matrix.specs.Matrix.{rows};
-ghost use Rattle.p3_matrix.specs.Words.{past};
 ghost use Rattle.p3_pcs.specs.Claims.{claim, opened_values};
-ghost use Rattle.p3_fri_pow.specs.declared.error.FriProverError.TheVariants as refusal;
-ghost use Rattle.p3_fri_relation.specs.declared.error.FriError.TheVariants.{OutOfMemory};
-ghost use Rattle.p3_fri_relation.specs.Views.{parameters_of, proof_of};
-ghost use Rattle.p3_fri_completeness.specs.Requests.{HoldsWords, relation_claims};
-ghost use Rattle.p3_fri_hiding_prover.specs.Ends.{last_state as state_after};
+ghost use Rattle.p3_fri_relation.specs.Views.{proof_of};
 ghost use Rattle.p3_fri_hiding_prover.specs.Held.{IsSubgroupSize};
-ghost use Rattle.p3_fri_hiding_prover.specs.Ranges.{InProverRange as prover_range};
-ghost use Rattle.p3_fri_hiding_prover.specs.Ranges.{InVerifierRange as verifier_range};
-ghost use Rattle.p3_fri_hiding_prover.specs.ErrorLaws.{memory_cases};
-ghost use Rattle.p3_fri_masks.specs.declared.error.HidingFriProverError.TheVariants.{Fri};
-ghost use Rattle.p3_fri_masks.specs.Masked.{mask_words_of_all};
-ghost use Rattle.p3_fri_hiding_prover.specs.RandomValues.{with_random_values};
-ghost use Rattle.p3_fri_hiding_prover.specs.Hiding.{HidingAccepts, StandsInHidingScheme};
-ghost use Rattle.p3_fri_hiding_prover.specs.Hiding.{LeavesHidingVerifier};
-ghost use Rattle.p3_fri_hiding_prover.specs.Budgets.{AllFit, MaskRefusal};
-ghost use Rattle.p3_fri_hiding_prover.specs.Data.{IsNew, IsUnopened, shown_polynomials};
-ghost use Rattle.p3_fri_hiding_prover.specs.Requests.{after_opening as left_of};
-ghost use Rattle.p3_fri_hiding_prover.specs.Opening.{PassesHidingChecks, HidingRefusal};
-ghost use Rattle.p3_fri_hiding_prover.specs.Opening.{LeavesHidingState};
-ghost use Rattle.p3_fri_hiding.specs.Commitments.{ExtendMasked};
-ghost use Rattle.p3_fri_hiding.specs.Trace.{FitsMasked, HasTrace};
-ghost use Rattle.p3_fri_hiding.specs.ReadingLaws.{traced_columns};
+ghost use Rattle.p3_fri_hiding_prover.specs.RuleLaws.{same_kept};
+ghost use Rattle.p3_fri_hiding.specs.Rules.{hiding_rules};
+ghost use Rattle.p3_fri_hiding.specs.RuleLaws.{hiding_lawful};
 
 use crate::hiding_pcs::HidingFriPcs;
 use p3_challenger_core::{CanObserve, FieldChallenger, GrindingChallenger};
@@ -38,12 +17,11 @@ use p3_field_core::{
     log2_strict_usize,
 };
 use p3_fri_hiding_prover::{
-    HidingFriPcsProverData, PlaysTwoAdic, open_hiding_requests, verify_with_random_values,
+    HidingFriPcsProverData, OpensTwoAdic, open_hiding_requests, verify_with_random_values,
 };
 use p3_fri_masks::HidingFriProverError;
 use p3_fri_relation::error::FriError;
 use p3_fri_relation::proof::{BatchMultiOpening, FriProof};
-use p3_fri_relation::setting::ChallengeField;
 use p3_matrix::RowMajorMatrix;
 use p3_mmcs::{CommitmentOpening, Mmcs, OpenedValues};
 use p3_pcs::{OpeningRequest, Pcs};
@@ -83,72 +61,11 @@ impl<
 
     type ProverError = HidingFriProverError;
 
-    ghost domain_size = { λ d. 2 ^ d.log_size };
-
-    ghost HasDomain = { λ _ n. IsSubgroupSize F.TWO_ADICITY n };
-
-    ghost commitment_of = { λ d. InputMmcs.commitment_of d.inner };
-
-    ghost committed_polynomials = { λ s d. shown_polynomials ⟦<EF as ChallengeField<F>>⟧.fields
-        InputMmcs.committed s.fri.log_blowup s.num_random_codewords d };
-
-    ghost CanOpen = { λ s d. IsUnopened ⟦<EF as ChallengeField<F>>⟧.fields InputMmcs.committed
-        s.fri.log_blowup s.num_random_codewords d };
-
-    ghost IsHonest = { λ s d. All
-        (HoldsWords ⟦<EF as ChallengeField<F>>⟧.fields s.fri.log_blowup)
-        (InputMmcs.committed d.inner) };
-
-    ghost after_opening = { λ d. left_of d };
+    ghost rules = { λ s. hiding_rules (λ d. d.shift) (λ d. d.log_size)
+        (λ proof. opened_values proof.0.items) (λ proof. proof_of proof.1)
+        s.num_random_codewords (⟦<C as OpensTwoAdic<F, EF, InputMmcs, M>>⟧.parts s.mmcs s.fri) };
 
     ghost Keeps = { λ old new. new ≡ record old { rng = new.rng } };
-
-    ghost CanCommit = { λ s evaluations.
-        All (λ e. FitsMasked F.TWO_ADICITY s.fri.log_blowup e.0.log_size e.1) evaluations };
-
-    ghost Extends = { λ _ m e.
-        HasTrace ⟦<EF as ChallengeField<F>>⟧.fields e.0.shift e.0.log_size e.1 m };
-
-    ghost CommitRefuses = { λ s evaluations e. MaskRefusal s.num_random_codewords
-        s.fri.num_queries EF.DIMENSION (map (λ e. length (rows e.1)) evaluations) e };
-
-    ghost InProverRange = { λ s.
-        prover_range (parameters_of s.fri) F.TWO_ADICITY C.MAX_SAMPLE_BITS };
-
-    ghost InVerifierRange = { λ s.
-        verifier_range (parameters_of s.fri) F.TWO_ADICITY C.MAX_SAMPLE_BITS };
-
-    ghost PassesChecks = { λ s requests. PassesHidingChecks ⟦<EF as ChallengeField<F>>⟧.fields
-        (parameters_of s.fri) s.num_random_codewords InputMmcs.committed requests };
-
-    ghost Refuses = { λ s c requests e.
-        HidingRefusal (⟦<C as PlaysTwoAdic<F, EF, InputMmcs, M>>⟧.setting s.mmcs s.fri.mmcs)
-        (parameters_of s.fri) s.num_random_codewords InputMmcs.committed M.committed
-        M.commitment_of C.solution c requests e };
-
-    ghost LeavesState = { λ e. LeavesHidingState e };
-
-    ghost Accepts = { λ s c claims proof.
-        HidingAccepts (⟦<C as PlaysTwoAdic<F, EF, InputMmcs, M>>⟧.setting s.mmcs s.fri.mmcs)
-        (parameters_of s.fri) s.num_random_codewords None
-        (relation_claims (λ d. d.log_size) claims) (opened_values proof.0.items)
-        (proof_of proof.1) c };
-
-    ghost last_state = { λ s c claims proof.
-        state_after (⟦<C as PlaysTwoAdic<F, EF, InputMmcs, M>>⟧.setting s.mmcs s.fri.mmcs)
-        (parameters_of s.fri) (with_random_values (relation_claims (λ d. d.log_size) claims)
-        (opened_values proof.0.items)) (proof_of proof.1) c };
-
-    ghost IsTrueRefusal = { λ s claims proof c e.
-        StandsInHidingScheme
-        (⟦<C as PlaysTwoAdic<F, EF, InputMmcs, M>>⟧.setting s.mmcs s.fri.mmcs)
-        (parameters_of s.fri) s.num_random_codewords None
-        (relation_claims (λ d. d.log_size) claims) (opened_values proof.0.items)
-        (proof_of proof.1) c e };
-
-    ghost LeavesVerifier = { λ e. LeavesHidingVerifier e };
-
-    ghost out_of_memory = { OutOfMemory };
 
     /// Beside what the trait says, the domain is the subgroup itself.
     fn natural_domain_for_degree(&self, degree: usize) -> TwoAdicMultiplicativeCoset<F>
@@ -173,41 +90,18 @@ impl<
         ),
         HidingFriProverError,
     >
-        requires { All (λ e. FitsMasked F.TWO_ADICITY self.old.fri.log_blowup e.0.log_size e.1)
-            evaluations.items }
+        requires { (⟦<Self as Pcs<EF, C>>⟧.rules self.old).CanCommit evaluations.items }
         ensures kept { self.new ≡ record self.old { rng = self.new.rng } }
-        ensures range { prover_range (parameters_of self.old.fri) F.TWO_ADICITY C.MAX_SAMPLE_BITS
-            → prover_range (parameters_of self.new.fri) F.TWO_ADICITY C.MAX_SAMPLE_BITS }
-        ensures verifier_range { let n = F.TWO_ADICITY in
-            verifier_range (parameters_of self.old.fri) n C.MAX_SAMPLE_BITS
-            → verifier_range (parameters_of self.new.fri) n C.MAX_SAMPLE_BITS }
-        ensures masked { IfOk result (λ pair. ExtendMasked ⟦<EF as ChallengeField<F>>⟧.fields
-            (λ d. d.shift) (λ d. d.log_size) self.old.fri.log_blowup F.from_word
-            self.old.num_random_codewords evaluations.items (R.stream self.old.rng)
-            (InputMmcs.committed pair.1.inner)) }
-        ensures past { IfOk result (λ _. R.stream self.new.rng
-            ≡ past (mask_words_of_all F.from_word self.old.num_random_codewords evaluations.items)
-            (R.stream self.old.rng)) }
-        ensures data { IfOk result (λ pair. IsNew self.old.num_random_codewords
-            self.old.fri.log_blowup false pair.1) }
-        ensures budget { IsOk result → AllFit self.old.num_random_codewords
-            self.old.fri.num_queries EF.DIMENSION
-            (map (λ e. length (rows e.1)) evaluations.items) }
-        ensures commitment { IfOk result (λ pair.
-            InputMmcs.commitment_of pair.1.inner ≡ pair.0) }
-        ensures openable { IfOk result (λ pair. IsUnopened ⟦<EF as ChallengeField<F>>⟧.fields
-            InputMmcs.committed self.new.fri.log_blowup self.new.num_random_codewords pair.1) }
-        ensures honest { IfOk result (λ pair.
-            All (HoldsWords ⟦<EF as ChallengeField<F>>⟧.fields self.new.fri.log_blowup)
-            (InputMmcs.committed pair.1.inner)) }
-        ensures extends { IfOk result (λ pair. AllZip
-            (λ m e. HasTrace ⟦<EF as ChallengeField<F>>⟧.fields e.0.shift e.0.log_size e.1 m)
-            (shown_polynomials ⟦<EF as ChallengeField<F>>⟧.fields InputMmcs.committed
-            self.new.fri.log_blowup self.new.num_random_codewords pair.1) evaluations.items) }
-        ensures refused { IfErr result (MaskRefusal self.old.num_random_codewords
-            self.old.fri.num_queries EF.DIMENSION
-            (map (λ e. length (rows e.1)) evaluations.items)) }
-        ensures unmoved { IfErr result (λ e. e ≢ Fri refusal.OutOfMemory → self.new ≡ self.old) }
+        ensures commitment { let r = ⟦<Self as Pcs<EF, C>>⟧.rules self.new in
+            IfOk result (λ pair. r.commitment_of pair.1 ≡ pair.0) }
+        ensures openable { let r = ⟦<Self as Pcs<EF, C>>⟧.rules self.new in
+            IfOk result (λ pair. r.CanOpen pair.1) }
+        ensures honest { let r = ⟦<Self as Pcs<EF, C>>⟧.rules self.new in
+            IfOk result (λ pair. r.IsHonest pair.1) }
+        ensures extends { let r = ⟦<Self as Pcs<EF, C>>⟧.rules self.new in IfOk result (λ pair.
+            AllZip r.Extends (r.committed_polynomials pair.1) evaluations.items) }
+        ensures refused { IfErr result
+            ((⟦<Self as Pcs<EF, C>>⟧.rules self.old).CommitRefuses evaluations.items) }
     {
         self.commit::<EF>(alloc, evaluations)
     }
@@ -243,26 +137,17 @@ impl<
         ),
         challenger: &mut C,
     ) -> Result<(), FriError<M::Error, InputMmcs::Error>>
-        requires range { verifier_range (parameters_of self.now.fri) F.TWO_ADICITY
-            C.MAX_SAMPLE_BITS }
-        ensures exactly { let s = ⟦<C as PlaysTwoAdic<F, EF, InputMmcs, M>>⟧.setting self.now.mmcs
-            self.now.fri.mmcs in
-            result ≢ Err OutOfMemory → (IsOk result ↔ HidingAccepts s
-            (parameters_of self.now.fri) self.now.num_random_codewords None
-            (relation_claims (λ d. d.log_size) (map claim claims.items))
-            (opened_values proof.now.0.items) (proof_of proof.now.1) challenger.old) }
-        ensures state { let s = ⟦<C as PlaysTwoAdic<F, EF, InputMmcs, M>>⟧.setting self.now.mmcs
-            self.now.fri.mmcs in
-            IsOk result → challenger.new ≡ state_after s (parameters_of self.now.fri)
-            (with_random_values (relation_claims (λ d. d.log_size) (map claim claims.items))
-            (opened_values proof.now.0.items)) (proof_of proof.now.1) challenger.old }
-        ensures stands { let s = ⟦<C as PlaysTwoAdic<F, EF, InputMmcs, M>>⟧.setting self.now.mmcs
-            self.now.fri.mmcs in
-            IfErr result (StandsInHidingScheme s (parameters_of self.now.fri)
-            self.now.num_random_codewords None
-            (relation_claims (λ d. d.log_size) (map claim claims.items))
-            (opened_values proof.now.0.items) (proof_of proof.now.1) challenger.old) }
-        ensures unmoved { IfErr result (λ e. LeavesHidingVerifier e
+        requires range { (⟦<Self as Pcs<EF, C>>⟧.rules self.now).InVerifierRange }
+        ensures exactly { let r = ⟦<Self as Pcs<EF, C>>⟧.rules self.now in
+            result ≢ Err r.out_of_memory
+            → (IsOk result ↔ r.Accepts None challenger.old (map claim claims.items) proof.now) }
+        ensures state { let r = ⟦<Self as Pcs<EF, C>>⟧.rules self.now in
+            IsOk result → challenger.new
+            ≡ r.last_state None challenger.old (map claim claims.items) proof.now }
+        ensures stands { IfErr result ((⟦<Self as Pcs<EF, C>>⟧.rules self.now).IsTrueRefusal None
+            (map claim claims.items) proof.now challenger.old) }
+        ensures unmoved { IfErr result (λ e.
+            (⟦<Self as Pcs<EF, C>>⟧.rules self.now).LeavesVerifier e
             → challenger.new ≡ challenger.old) }
     {
         let codewords = self.num_random_codewords;
@@ -274,27 +159,12 @@ impl<
 
     ghost keeps_itself_law = { λ _. refl };
 
-    ghost keeps_polynomials_law = { λ _ _ same d. ap (λ s. shown_polynomials
-        ⟦<EF as ChallengeField<F>>⟧.fields InputMmcs.committed s.fri.log_blowup
-        s.num_random_codewords d) same };
+    ghost keeps_law = { λ old new same. same_kept (record old { rng = new.rng }) new same
+        (λ s. hiding_rules (λ d. d.shift) (λ d. d.log_size)
+        (λ proof. opened_values proof.0.items) (λ proof. proof_of proof.1)
+        s.num_random_codewords (⟦<C as OpensTwoAdic<F, EF, InputMmcs, M>>⟧.parts s.mmcs s.fri)) };
 
-    ghost keeps_openable_law = { λ _ _ same d h. subst (λ s. IsUnopened
-        ⟦<EF as ChallengeField<F>>⟧.fields InputMmcs.committed s.fri.log_blowup
-        s.num_random_codewords d) (sym same) h };
-
-    ghost keeps_honest_law = { λ _ _ same d h. subst (λ s. All (HoldsWords
-        ⟦<EF as ChallengeField<F>>⟧.fields s.fri.log_blowup) (InputMmcs.committed d.inner))
-        (sym same) h };
-
-    ghost keeps_committable_law = { λ _ _ same evaluations h. subst (λ s. All (λ e. FitsMasked
-        F.TWO_ADICITY s.fri.log_blowup e.0.log_size e.1) evaluations) (sym same) h };
-
-    ghost keeps_extends_law = { λ _ _ _ _ _ h. h };
-
-    ghost extends_size_law = { λ _ _ _ h. h.size };
-
-    ghost extends_columns_law = { λ _ m e h. traced_columns ⟦<EF as ChallengeField<F>>⟧.fields
-        e.0.shift e.0.log_size e.1 m h };
-
-    ghost memory_law = { λ e. memory_cases e };
+    ghost rules_law = { λ s. hiding_lawful (λ d. d.shift) (λ d. d.log_size)
+        (λ proof. opened_values proof.0.items) (λ proof. proof_of proof.1)
+        s.num_random_codewords (⟦<C as OpensTwoAdic<F, EF, InputMmcs, M>>⟧.parts s.mmcs s.fri) };
 }

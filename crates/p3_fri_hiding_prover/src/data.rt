@@ -19,24 +19,31 @@ pub struct HidingFriPcsProverData<T> {
     pub(crate) opened: bool,
 }
 
-impl<T> HidingFriPcsProverData<T> {
-    /// Data that no opening has used.
-    pub fn new(inner: T, preprocessed: bool, num_random_codewords: usize, log_blowup: usize) -> Self
-        ensures inner { result.inner ≡ inner }
-        ensures preprocessed { result.preprocessed ≡ preprocessed }
-        ensures codewords { result.num_random_codewords ≡ num_random_codewords }
-        ensures blowup { result.log_blowup ≡ log_blowup }
-        ensures unopened { result.opened ≡ false }
-    {
-        HidingFriPcsProverData {
-            inner,
-            preprocessed,
-            num_random_codewords,
-            log_blowup,
-            opened: false,
-        }
+/// Data that no opening has used, over the data of a commitment. That the matrices inside are masked
+/// as the scheme masks them, and that they are committed to with so many codewords and this blowup,
+/// is known to the committing calls of the scheme alone: so this isn't a method.
+pub fn new_prover_data<T>(
+    inner: T,
+    preprocessed: bool,
+    num_random_codewords: usize,
+    log_blowup: usize,
+) -> HidingFriPcsProverData<T>
+    ensures inner { result.inner ≡ inner }
+    ensures preprocessed { result.preprocessed ≡ preprocessed }
+    ensures codewords { result.num_random_codewords ≡ num_random_codewords }
+    ensures blowup { result.log_blowup ≡ log_blowup }
+    ensures unopened { result.opened ≡ false }
+{
+    HidingFriPcsProverData {
+        inner,
+        preprocessed,
+        num_random_codewords,
+        log_blowup,
+        opened: false,
     }
+}
 
+impl<T> HidingFriPcsProverData<T> {
     /// Whether an opening has used it. Preprocessing is never marked.
     pub fn is_opened(&self) -> bool
         ensures { result ≡ self.now.opened }

@@ -11,7 +11,9 @@ pub mod opening;
 pub mod request_checks;
 
 pub use crate::columns::without_last_cols;
-pub use crate::data::{HidingFriPcsProverData, committed_matrices, hidden_columns};
+pub use crate::data::{
+    HidingFriPcsProverData, committed_matrices, hidden_columns, new_prover_data,
+};
 pub use crate::opening::open_hiding_requests;
 pub use p3_fri_random_openings::verify_with_random_values;
-pub use p3_fri_two_adic::setting::PlaysTwoAdic;
+pub use p3_fri_two_adic::rules::OpensTwoAdic;

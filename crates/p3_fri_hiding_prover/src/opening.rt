@@ -205,6 +205,7 @@ fn open_marked<
         InputMmcs.committed M.committed M.commitment_of C.solution challenger.old
         (map request requests.old)) }
     ensures unmoved { IfErr result (λ e. LeavesHidingState e → challenger.new ≡ challenger.old) }
+    ensures untouched { IfErr result (λ e. LeavesHidingState e → requests.new ≡ requests.old) }
 {
     check_requests(num_random_codewords, params, input_mmcs, &*requests)?;
     mark_all(&mut *requests);
@@ -236,8 +237,8 @@ fn split_opening<EF: Copy, P: Drop>(
 
 /// Opens requests to the scheme: answers the values of the committed polynomials at the points, of
 /// private data without the columns that only hide others, and a proof, which has the values of
-/// these beside. The index names the request of preprocessing, if there is one. Once the checks
-/// have passed, private data counts as opened, whatever comes then.
+/// these at the same points beside. The index names the request of preprocessing, if there is one.
+/// Once the checks have passed, private data counts as opened, whatever comes then.
 ///
 /// # Errors
 ///
@@ -279,6 +280,11 @@ pub fn open_hiding_requests<
     ensures values { IfOk result (λ opening. opened_values opening.0.items ≡ map (honest_values
         (shown_polynomials ⟦<EF as ChallengeField<F>>⟧.fields InputMmcs.committed
         params.now.log_blowup num_random_codewords)) (map request requests.old)) }
+    ensures kept { let fields = ⟦<EF as ChallengeField<F>>⟧.fields in
+        IfOk result (λ opening. opened_values opening.1.0.items
+        ≡ kept_values num_random_codewords preprocessing (map (honest_values
+        (held_of fields InputMmcs.committed params.now.log_blowup))
+        (map inside (map request requests.old)))) }
     ensures accepted { let s = ⟦<C as PlaysTwoAdic<F, EF, InputMmcs, M>>⟧.setting input_mmcs.now
         params.now.mmcs in
         let b = params.now.log_blowup in
@@ -320,6 +326,7 @@ pub fn open_hiding_requests<
         InputMmcs.committed M.committed M.commitment_of C.solution challenger.old
         (map request requests.old)) }
     ensures unmoved { IfErr result (λ e. LeavesHidingState e → challenger.new ≡ challenger.old) }
+    ensures untouched { IfErr result (λ e. LeavesHidingState e → requests.new ≡ requests.old) }
 {
     let folding: TwoAdicFriFoldingForMmcs<F, InputMmcs> = TwoAdicFriFolding(PhantomData);
     let opened = open_marked::<F, EF, M, InputMmcs, TwoAdicFriFoldingForMmcs<F, InputMmcs>, C>(

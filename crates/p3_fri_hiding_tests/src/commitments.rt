@@ -18,9 +18,9 @@ fn commit_chunks<EF: Copy, C, P: UnivariateStarkPcs<EF, C>>(
     alloc: Global,
     chunks: Vec<(P::Domain, RowMajorMatrix<P::Val>)>,
 ) -> Committed<P::Commitment, P::ProverData, P::ProverError>
-    requires { P.CanExtend scheme.old chunks.items (length chunks.items) }
+    requires { (P.stark_rules scheme.old).CanExtend chunks.items (length chunks.items) }
     ensures kept { P.Keeps scheme.old scheme.new }
-    ensures readable { IfOk result (λ pair. P.IsReadable scheme.new pair.1) }
+    ensures readable { IfOk result (λ pair. (P.stark_rules scheme.new).IsReadable pair.1) }
 {
     let count = chunks.len();
     match scheme.get_quotient_ldes(alloc, chunks, count) {
@@ -38,10 +38,10 @@ pub(crate) fn commit_to<EF: Copy, C, P: UnivariateStarkPcs<EF, C>>(
     alloc: Global,
     input: Input<P::Domain, P::Val>,
 ) -> Committed<P::Commitment, P::ProverData, P::ProverError>
-    requires { CanCommitTo (P.CanCommit scheme.old) (λ es. P.CanExtend scheme.old es (length es))
-        (P.CanCommitLdes scheme.old) (P.CanRandomize scheme.old) input }
+    requires { let t = P.stark_rules scheme.old in CanCommitTo (P.rules scheme.old).CanCommit
+        (λ es. t.CanExtend es (length es)) t.CanCommitLdes t.CanRandomize input }
     ensures kept { P.Keeps scheme.old scheme.new }
-    ensures readable { IfOk result (λ pair. P.IsReadable scheme.new pair.1) }
+    ensures readable { IfOk result (λ pair. (P.stark_rules scheme.new).IsReadable pair.1) }
 {
     match input {
         Input::Private(evaluations) => match scheme.commit(alloc, evaluations) {
@@ -82,8 +82,8 @@ pub(crate) fn read<EF: Copy, C, P: UnivariateStarkPcs<EF, C>>(
     index: usize,
     domain: P::Domain,
 ) -> Result<Reading<P::Val>, P::ProverError>
-    requires shown { P.CanEvaluate scheme.now held.now index domain }
-    requires whole { P.CanEvaluateWhole scheme.now held.now index domain }
+    requires shown { (P.stark_rules scheme.now).CanEvaluate held.now index domain }
+    requires whole { (P.stark_rules scheme.now).CanEvaluateWhole held.now index domain }
 {
     let shown = match scheme.get_evaluations_on_domain(alloc, held, index, domain) {
         Ok(values) => values,

@@ -34,9 +34,9 @@ pub(crate) fn open_and_judge<EF: Copy, C, P: Pcs<EF, C>>(
     proving: &mut C,
     verifying: &mut C,
 ) -> Result<JudgedData<EF, P::Proof, P::Error, P::ProverError, P::ProverData>, Fail>
-    requires prover { P.InProverRange scheme.old }
-    requires verifier { P.InVerifierRange verifier.now }
-    requires committable { P.CanCommit scheme.old (evaluation ∷ []) }
+    requires prover { (P.rules scheme.old).InProverRange }
+    requires verifier { (P.rules verifier.now).InVerifierRange }
+    requires committable { (P.rules scheme.old).CanCommit (evaluation ∷ []) }
 {
     let (known, mut held) = commit_one::<EF, C, P>(&mut *scheme, alloc, evaluation)?;
     match open_one(&*scheme, alloc, known, &mut held, points, proving)? {
@@ -66,7 +66,7 @@ pub(crate) fn judge<EF: Copy, C, P: UnivariateStarkPcs<EF, C>>(
     index: Option<usize>,
     challenger: &mut C,
 ) -> Result<(), P::Error>
-    requires { P.InVerifierRange verifier.now }
+    requires { (P.rules verifier.now).InVerifierRange }
 {
     let Opened {
         values: _values,

@@ -1,5 +1,5 @@
 -- Masked matrices.
-use Rattle.std.specs.Prelude.{◌≡◌, ℕ, ◌+◌, ◌*◌, List, [], ◌∷◌, ◌++◌, length, sum_by}
+use Rattle.std.specs.Prelude.{◌≡◌, ◌≤◌, ℕ, ◌+◌, ◌*◌, ◌^◌, List, [], ◌∷◌, ◌++◌, length, sum_by}
 use Rattle.rand_core.specs.Stream.{Stream}
 use Rattle.p3_matrix.specs.declared.dense.RowMajorMatrix.{RowMajorMatrix}
 use Rattle.p3_matrix.specs.Matrix.{rows, matrix_width}
@@ -39,3 +39,8 @@ module _ {T : Type 0} (from_word : ℕ → T) (r : ℕ) where
   -- how many words the masks of all of them take
   abbrev pub mask_words_of_all : {D : Type 0} → List (D × RowMajorMatrix T) → ℕ
   mask_words_of_all evaluations = sum_by (λ e. mask_words e.1) evaluations
+
+-- too wide to be masked: the random values of two rows with the row before them are as many as no
+-- `usize` says
+abbrev pub IsTooWide : {T : Type 0} → (r : ℕ) → RowMajorMatrix T → Type 0
+IsTooWide r matrix = 2 ^ 64 ≤ matrix_width matrix + 2 * r

@@ -1,4 +1,4 @@
-//! The hiding budget: how many masks a column needs, so that what is opened of it shows nothing.
+//! The hiding budget: how many masks a column has to have for what is opened of it.
 
 ghost use Rattle.std.specs.Prelude.{◌≡◌, ◌≤◌, ◌↔◌, ◌/◌, ◌^◌, IsOk, IfErr, MatchOption};
 ghost use Rattle.p3_fri_masks.specs.Budget.{required_height, FitsBudget, BudgetRefusal};

@@ -155,6 +155,16 @@ fn masks_are_the_next_words(rt: HostRuntime) -> Result<(), Fail> {
     Ok(())
 }
 
+/// No row holds so many random values.
+#[test]
+fn a_refused_width_takes_no_words(rt: HostRuntime) -> Result<(), Fail> {
+    let mut rng = ChaCha20Rng::from_seed([7; 32]);
+    let mut unused = ChaCha20Rng::from_seed([7; 32]);
+    let masked = mask_each(rt.alloc(), evaluations(rt.alloc())?, usize::MAX, &mut rng);
+    assert!(rt; masked.is_err() && rng.next_u64() == unused.next_u64());
+    Ok(())
+}
+
 #[test]
 fn preprocessing_has_rows_of_zeros_between(rt: HostRuntime) -> Result<(), Fail> {
     let padded = pad_each(rt.alloc(), evaluations(rt.alloc())?)?;

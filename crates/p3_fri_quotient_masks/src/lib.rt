@@ -1,7 +1,7 @@
 //! The masks of a quotient's chunks. What a STARK prover commits to of its quotient is cut into
 //! chunks, each on a coset of its own. Here each chunk gets a random multiple of the polynomial
-//! that vanishes on its coset, so that its values elsewhere show nothing of it, while the chunks
-//! together make the quotient that they made before (section 4.2 of
+//! that vanishes on its coset, which leaves its values there and changes those elsewhere, while the
+//! chunks together make the quotient that they made before (section 4.2 of
 //! <https://eprint.iacr.org/2024/1037>).
 #![tactic(auto)]
 

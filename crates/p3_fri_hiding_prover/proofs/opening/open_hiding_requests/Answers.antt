@@ -1,4 +1,4 @@
-use Rattle.std.proofs.Common.{map, refl, subst}
+use Rattle.std.proofs.Common.{◌∙◌, ap, map, refl, subst}
 use Rattle.std.proofs.lemmas.Result.{IfOk-weaker, IfErr-weaker}
 use Rattle.p3_challenger_core.specs.Run.{moves}
 use Rattle.p3_pcs.specs.Claims.{opened_values}
@@ -6,6 +6,7 @@ use Rattle.p3_pcs.specs.Requests.{request}
 use Rattle.p3_fri_relation.specs.Setting.{Fields, Setting}
 use Rattle.p3_fri_relation.specs.Views.{parameters_of, proof_of}
 use Rattle.p3_fri_two_adic.specs.Accepted.{two_adic}
+use Rattle.p3_fri_random_openings.specs.Halves.{kept_values}
 use Rattle.p3_fri_hiding_prover.specs.Opening.{LeavesHidingState}
 use Rattle.p3_fri_hiding_prover.proofs.Accepted.{accepted_shown, ends_shown, honest_shown, sizes_inside}
 use Rattle.p3_fri_hiding_prover.proofs.Openable.{honest_inside, openable_inside}
@@ -48,6 +49,14 @@ returns-in-Ok-clause-values g c =
     (map request c.args.requests.now) c.requires.shape (opened_values c.in-Ok.opening.0.items)
     (opened_values halves.0.items) c.in-Ok.ensures.values shown)
     c.split_opening.ensures.shown
+
+pub returns-in-Ok-clause-kept : goal.returns-in-Ok-clause-kept
+returns-in-Ok-clause-kept g c =
+    IfOk-weaker c.split_opening.result _ _
+    (λ halves kept. kept.0
+    ∙ ap (λ values. kept_values c.args.num_random_codewords c.args.preprocessing values)
+    c.in-Ok.ensures.values)
+    c.split_opening.ensures.kept
 
 pub returns-in-Ok-clause-accepted : goal.returns-in-Ok-clause-accepted
 returns-in-Ok-clause-accepted g c honest =
@@ -109,6 +118,9 @@ returns-in-Err-clause-refused g c = c.in-Err.ensures.refused
 pub returns-in-Err-clause-unmoved : goal.returns-in-Err-clause-unmoved
 returns-in-Err-clause-unmoved g c = c.in-Err.ensures.unmoved
 
+pub returns-in-Err-clause-untouched : goal.returns-in-Err-clause-untouched
+returns-in-Err-clause-untouched g c = c.in-Err.ensures.untouched
+
 pub returns-in-Ok-clause-refused : goal.returns-in-Ok-clause-refused
 returns-in-Ok-clause-refused g c =
     IfErr-weaker c.split_opening.result _ _ (λ e is. rw is (c.in-Ok.ensures.checked refl))
@@ -120,7 +132,16 @@ returns-in-Ok-clause-unmoved g c =
     (λ e is leaves. absurd (subst (λ x. LeavesHidingState x) is leaves))
     c.split_opening.ensures.refused
 
+pub returns-in-Ok-clause-untouched : goal.returns-in-Ok-clause-untouched
+returns-in-Ok-clause-untouched g c =
+    IfErr-weaker c.split_opening.result _ _
+    (λ e is leaves. absurd (subst (λ x. LeavesHidingState x) is leaves))
+    c.split_opening.ensures.refused
+
 -- where nothing is opened nothing is said of the opening
+pub returns-in-Err-clause-kept : goal.returns-in-Err-clause-kept
+returns-in-Err-clause-kept g c = tt
+
 pub returns-in-Err-clause-values : goal.returns-in-Err-clause-values
 returns-in-Err-clause-values g c = tt
 

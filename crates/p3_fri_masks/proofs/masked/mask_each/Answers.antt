@@ -1,6 +1,8 @@
-use Rattle.std.proofs.Common.{◌≡◌, length, refl, sym, ap, arith}
+use Rattle.std.proofs.Common.{◌≡◌, List, All, length, refl, sym, ap, subst, arith}
+use Rattle.std.specs.List.{Any}
 use Rattle.p3_matrix.proofs.Words.{past_none}
 use Rattle.p3_fri_masks.proofs.Batches.{none_masked, one_more_masked, past_one_more, all_left, one_fewer, none_left}
+use Rattle.p3_fri_masks.specs.Masked.{IsTooWide}
 use Rattle.p3_fri_masks.proofs.masked.mask_each.Goals as goal
 
 pub loop-domain-init : goal.loop-domain-init
@@ -44,3 +46,30 @@ returns-clause-past g c =
     let all = none_left c.loop-domain.yielded c.loop-domain.domain-iterator.rest.items c.args.evaluations.items
     c.loop-domain.domain-iterator.rest.len c.loop-domain.invariant.left c.in-None.ensures.steps.0 in
     rw (← all) c.loop-domain.invariant.drawn
+
+-- what holds of none holds of no element
+none : {X A : Type 0} (P : X → Type 0) (xs : List X) → All (λ x. ¬ P x) xs → Any P xs → A
+none P xs all some = absurd (all some.0 some.1 some.2 (subst P (sym some.3) some.4))
+
+pub returns-in_err-mask-clause-too_wide : goal.returns-in_err-mask-clause-too_wide
+returns-in_err-mask-clause-too_wide g c wide =
+    none (λ e. IsTooWide c.args.num_random_codewords e.1) c.args.evaluations.items
+    (subst (λ es. All (λ e. ¬ IsTooWide c.args.num_random_codewords e.1) es)
+    c.deref.ensures.value c.in_ok-check_widths.ensures) wide
+
+pub returns-in_err-push-clause-too_wide : goal.returns-in_err-push-clause-too_wide
+returns-in_err-push-clause-too_wide g c wide =
+    none (λ e. IsTooWide c.args.num_random_codewords e.1) c.args.evaluations.items
+    (subst (λ es. All (λ e. ¬ IsTooWide c.args.num_random_codewords e.1) es)
+    c.deref.ensures.value c.in_ok-check_widths.ensures) wide
+
+pub returns-clause-narrow : goal.returns-clause-narrow
+returns-clause-narrow g c ok =
+    subst (λ es. All (λ e. ¬ IsTooWide c.args.num_random_codewords e.1) es)
+    c.deref.ensures.value c.in_ok-check_widths.ensures
+
+pub returns-clause-too_wide : goal.returns-clause-too_wide
+returns-clause-too_wide g c wide =
+    none (λ e. IsTooWide c.args.num_random_codewords e.1) c.args.evaluations.items
+    (subst (λ es. All (λ e. ¬ IsTooWide c.args.num_random_codewords e.1) es)
+    c.deref.ensures.value c.in_ok-check_widths.ensures) wide

@@ -1,6 +1,7 @@
-use Rattle.std.proofs.Common.{false, length, map, refl}
+use Rattle.std.proofs.Common.{false, length, map, refl, sym, ap, subst}
 use Rattle.std.proofs.lemmas.Result.{IfOk-from_err, IfOk-weaker}
 use Rattle.p3_matrix.specs.Matrix.{rows}
+use Rattle.p3_fri_masks.specs.Masked.{IsTooWide}
 use Rattle.p3_fri_relation.specs.Setting.{Fields}
 use Rattle.p3_fri_hiding.specs.Commitments.{AreExtended}
 use Rattle.p3_fri_hiding.specs.Trace.{HasTrace}
@@ -118,6 +119,18 @@ returns-in_err-masked-clause-unmoved g c =
 pub returns-clause-unmoved : goal.returns-clause-unmoved
 returns-clause-unmoved g c =
     no_other_than_memory _ c.commit_extended.result c.commit_extended.ensures.refused
+
+pub returns-in_err-check_matrices-clause-too_wide : goal.returns-in_err-check_matrices-clause-too_wide
+returns-in_err-check_matrices-clause-too_wide g c wide = refl
+
+pub returns-in_err-masked-clause-too_wide : goal.returns-in_err-masked-clause-too_wide
+returns-in_err-masked-clause-too_wide g c wide =
+    ap (λ rng. record c.args.self.now { rng = rng }) (c.in_err-masked.ensures.too_wide wide)
+
+pub returns-clause-too_wide : goal.returns-clause-too_wide
+returns-clause-too_wide g c wide =
+    absurd (c.in_ok-masked.ensures.narrow refl wide.0 wide.1 wide.2
+    (subst (λ e. IsTooWide c.args.self.now.num_random_codewords e.1) (sym wide.3) wide.4))
 
 -- where nothing is answered nothing is said of the answer
 pub returns-in_err-check_matrices-clause-masked : goal.returns-in_err-check_matrices-clause-masked

@@ -31,13 +31,13 @@ pub returns-clause-words : goal.returns-clause-words
 returns-clause-words g c =
     subst (λ t. AreExtended (fields_of g) (λ d. d.shift) (λ d. d.log_size)
     c.args.self.now.fri.log_blowup c.args.evaluations.items (g.InputMmcs.Mmcs.committed t))
-    (sym c.new-data.ensures.inner) c.in_ok-commitment.ensures.words
+    (sym c.new_prover_data-data.ensures.inner) c.in_ok-commitment.ensures.words
 
 pub returns-clause-of_scheme : goal.returns-clause-of_scheme
 returns-clause-of_scheme g c =
     of_scheme (fields_of g) g.InputMmcs.Mmcs.committed c.args.self.now.fri.log_blowup
-    c.args.self.now.num_random_codewords c.new-data.result c.in_ok-commitment.inner
-    c.new-data.ensures.inner c.new-data.ensures.codewords c.new-data.ensures.blowup
+    c.args.self.now.num_random_codewords c.new_prover_data-data.result c.in_ok-commitment.inner
+    c.new_prover_data-data.ensures.inner c.new_prover_data-data.ensures.codewords c.new_prover_data-data.ensures.blowup
     (have_cosets (fields_of g) g.met.F.Field.laws g.met.F.TwoAdicField.roots_law
     g.met.F.Field.generator_law c.args.self.now.fri.log_blowup (λ d. d.shift) (λ d. d.log_size)
     (λ d. d.nonzero) (g.InputMmcs.Mmcs.committed c.in_ok-commitment.inner)
@@ -49,7 +49,7 @@ returns-clause-of_scheme g c =
 pub returns-clause-honest : goal.returns-clause-honest
 returns-clause-honest g c =
     subst (λ t. All (HoldsWords (fields_of g) c.args.self.now.fri.log_blowup)
-    (g.InputMmcs.Mmcs.committed t)) (sym c.new-data.ensures.inner)
+    (g.InputMmcs.Mmcs.committed t)) (sym c.new_prover_data-data.ensures.inner)
     (hold_words (fields_of g) g.met.F.Field.laws g.met.F.TwoAdicField.roots_law
     g.met.F.Field.generator_law c.args.self.now.fri.log_blowup (λ d. d.shift) (λ d. d.log_size)
     (λ d. d.nonzero) (g.InputMmcs.Mmcs.committed c.in_ok-commitment.inner)

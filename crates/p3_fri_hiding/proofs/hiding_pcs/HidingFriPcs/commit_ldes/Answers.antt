@@ -57,8 +57,8 @@ commit-requires g c = record {
 pub returns-clause-polynomials : goal.returns-clause-polynomials
 returns-clause-polynomials g c =
     shown_is (fields_of g) g.InputMmcs.Mmcs.committed c.args.self.now.fri.log_blowup
-    c.args.self.now.num_random_codewords c.new.result c.in_ok-commitment.inner c.new.ensures.inner
-    false c.new.ensures.preprocessed
+    c.args.self.now.num_random_codewords c.new_prover_data.result c.in_ok-commitment.inner c.new_prover_data.ensures.inner
+    false c.new_prover_data.ensures.preprocessed
     ∙ ap (λ ms. map (shown_of c.args.self.now.num_random_codewords)
     (map (held_in (fields_of g) c.args.self.now.fri.log_blowup) ms)) c.in_ok-commitment.ensures.matrices
     ∙ map-map (shown_of c.args.self.now.num_random_codewords)
@@ -67,26 +67,26 @@ returns-clause-polynomials g c =
 pub returns-clause-openable : goal.returns-clause-openable
 returns-clause-openable g c wide =
     is_unopened (fields_of g) g.InputMmcs.Mmcs.committed c.args.self.now.fri.log_blowup
-    c.args.self.now.num_random_codewords c.new.result c.in_ok-commitment.inner c.new.ensures.inner
-    c.new.ensures.codewords c.new.ensures.blowup (subst (λ ms. All (HasCoset g.F.TwoAdicField.TWO_ADICITY) ms) (sym c.in_ok-commitment.ensures.matrices)
+    c.args.self.now.num_random_codewords c.new_prover_data.result c.in_ok-commitment.inner c.new_prover_data.ensures.inner
+    c.new_prover_data.ensures.codewords c.new_prover_data.ensures.blowup (subst (λ ms. All (HasCoset g.F.TwoAdicField.TWO_ADICITY) ms) (sym c.in_ok-commitment.ensures.matrices)
     (cosets_of_ldes g.F.TwoAdicField.TWO_ADICITY c.args.self.now.fri.log_blowup c.args.ldes.items
     c.requires))
     (subst (λ ms. AreWide c.args.self.now.num_random_codewords ms)
     (sym c.in_ok-commitment.ensures.matrices) wide)
-    c.new.ensures.preprocessed c.new.ensures.unopened
+    c.new_prover_data.ensures.preprocessed c.new_prover_data.ensures.unopened
 
 pub returns-clause-readable : goal.returns-clause-readable
 returns-clause-readable g c =
     of_scheme (fields_of g) g.InputMmcs.Mmcs.committed c.args.self.now.fri.log_blowup
-    c.args.self.now.num_random_codewords c.new.result c.in_ok-commitment.inner c.new.ensures.inner
-    c.new.ensures.codewords c.new.ensures.blowup (subst (λ ms. All (HasCoset g.F.TwoAdicField.TWO_ADICITY) ms) (sym c.in_ok-commitment.ensures.matrices)
+    c.args.self.now.num_random_codewords c.new_prover_data.result c.in_ok-commitment.inner c.new_prover_data.ensures.inner
+    c.new_prover_data.ensures.codewords c.new_prover_data.ensures.blowup (subst (λ ms. All (HasCoset g.F.TwoAdicField.TWO_ADICITY) ms) (sym c.in_ok-commitment.ensures.matrices)
     (cosets_of_ldes g.F.TwoAdicField.TWO_ADICITY c.args.self.now.fri.log_blowup c.args.ldes.items
     c.requires))
 
 pub returns-clause-honest : goal.returns-clause-honest
 returns-clause-honest g c words =
     subst (λ ms. All (HoldsWords (fields_of g) c.args.self.now.fri.log_blowup) ms)
-    (sym (ap (λ t. g.InputMmcs.Mmcs.committed t) c.new.ensures.inner
+    (sym (ap (λ t. g.InputMmcs.Mmcs.committed t) c.new_prover_data.ensures.inner
     ∙ c.in_ok-commitment.ensures.matrices)) words
 
 -- where nothing is answered nothing is said of the answer

@@ -1,7 +1,9 @@
-use Rattle.std.proofs.Common.{◌+◌, ◌/◌, ◌^◌, map, arith, refl}
+use Rattle.std.proofs.Common.{◌+◌, ◌/◌, ◌^◌, false, map, ap, arith, refl}
 use Rattle.std.proofs.lemmas.Result.{IfOk-from_err}
+use Rattle.p3_stark_pcs.specs.Evaluations.{HasShape}
 use Rattle.p3_fri_relation.specs.Setting.{Fields}
-use Rattle.p3_fri_hiding.proofs.Committed.{random_all_fit, random_wide}
+use Rattle.p3_fri_hiding.proofs.Committed.{random_all_fit, random_wide, random_shaped}
+use Rattle.p3_fri_hiding.proofs.NewData.{zip_shown}
 use Rattle.p3_fri_hiding.proofs.Refused.{budget_refused, memory_refused, fit_of, misfit_of}
 use Rattle.p3_fri_hiding.proofs.Refused.{memory_alone, memory_handed_on, in_any_case}
 use Rattle.p3_fri_hiding.proofs.hiding_pcs.HidingFriPcs.get_opt_randomization_poly_commitment.Given.{Over}
@@ -88,6 +90,34 @@ returns-clause-openable g c = record {
   unopened = c.in_ok-pair.ensures.data.unopened;
 }
 
+pub returns-clause-shapes : goal.returns-clause-shapes
+returns-clause-shapes g c =
+    let r = c.args.self.now.num_random_codewords in
+    let pair = c.in_ok-pair.pair in
+    zip_shown (fields_of g) g.InputMmcs.Mmcs.committed c.args.self.now.fri.log_blowup r pair.1 pair.1.inner refl
+    (λ m d. HasShape (2 ^ d.log_size) g.EF.ExtensionField.DIMENSION m) c.args.domains.items false
+    c.in_ok-pair.ensures.data.kind
+    (random_shaped (fields_of g) g.met.F.Field.laws g.met.EF.Field.laws g.met.EF.ExtensionField.lift_law
+    g.met.F.TwoAdicField.roots_law g.met.F.Field.generator_law c.args.self.now.fri.log_blowup (λ d. d.shift)
+    (λ d. d.log_size) (λ d. d.nonzero) g.F.SampleField.from_word r g.EF.ExtensionField.DIMENSION
+    c.args.domains.items c.requires c.in_ok-random.random.items (g.R.Rng.stream c.args.self.now.rng)
+    c.in_ok-random.ensures.random (g.InputMmcs.Mmcs.committed pair.1.inner) c.in_ok-pair.ensures.words)
+
+pub returns-in_err-check_domains-clause-too_wide : goal.returns-in_err-check_domains-clause-too_wide
+returns-in_err-check_domains-clause-too_wide g c wide = refl
+
+pub returns-in_err-random-clause-too_wide : goal.returns-in_err-random-clause-too_wide
+returns-in_err-random-clause-too_wide g c wide =
+    ap (λ rng. record c.args.self.now { rng = rng }) (c.in_err-random.ensures.too_wide wide)
+
+pub returns-in_err-pair-clause-too_wide : goal.returns-in_err-pair-clause-too_wide
+returns-in_err-pair-clause-too_wide g c wide =
+    ap (λ rng. record c.args.self.now { rng = rng }) (c.in_ok-random.ensures.too_wide wide)
+
+pub returns-clause-too_wide : goal.returns-clause-too_wide
+returns-clause-too_wide g c wide =
+    ap (λ rng. record c.args.self.now { rng = rng }) (c.in_ok-random.ensures.too_wide wide)
+
 pub returns-in_err-check_domains-clause-unmoved : goal.returns-in_err-check_domains-clause-unmoved
 returns-in_err-check_domains-clause-unmoved g c = in_any_case _ c.from_residual.result refl
 
@@ -129,6 +159,18 @@ returns-in_err-check_domains-clause-openable g c =
 pub returns-in_err-check_domains-clause-honest : goal.returns-in_err-check_domains-clause-honest
 returns-in_err-check_domains-clause-honest g c =
     IfOk-from_err c.from_residual.result _ c.from_residual.ensures.0
+
+pub returns-in_err-check_domains-clause-shapes : goal.returns-in_err-check_domains-clause-shapes
+returns-in_err-check_domains-clause-shapes g c =
+    IfOk-from_err c.from_residual.result _ c.from_residual.ensures.0
+
+pub returns-in_err-random-clause-shapes : goal.returns-in_err-random-clause-shapes
+returns-in_err-random-clause-shapes g c =
+    IfOk-from_err c.from_residual-in_err-random.result _ c.from_residual-in_err-random.ensures.0
+
+pub returns-in_err-pair-clause-shapes : goal.returns-in_err-pair-clause-shapes
+returns-in_err-pair-clause-shapes g c =
+    IfOk-from_err c.from_residual-in_err-pair.result _ c.from_residual-in_err-pair.ensures.0
 
 pub returns-in_err-random-clause-some : goal.returns-in_err-random-clause-some
 returns-in_err-random-clause-some g c =
