@@ -1,7 +1,7 @@
 //! The chunks of a quotient.
 
 ghost use Rattle.std.specs.Prelude.{◌≡◌, ◌≢◌, ◌<◌, ◌≤◌, ◌+◌, ◌^◌, ℕ, All, IfOk, length, map};
-ghost use Rattle.std.specs.Prelude.{[], slice_index_or, ◌==◌, if◌then◌else◌};
+ghost use Rattle.std.specs.Prelude.{[], slice_index_or, ◌==◌, if◌then◌else◌, MatchBool};
 ghost use Rattle.algebra.specs.Cosets.{vanishing};
 ghost use Rattle.algebra.specs.Nested.{lists};
 ghost use Rattle.algebra.specs.Polynomial.{tabulate, sum_below};
@@ -141,6 +141,20 @@ fn combine_columns<F: Field, EF: ExtensionField<F>>(chunks: &[Vec<EF>], factors:
         quotient = quotient + element * recombine_column(chunks, factors, column);
     }
     quotient
+}
+
+/// Whether each chunk has as many values as an element has coefficients over the base field.
+pub fn have_dimension<F: Field, EF: ExtensionField<F>>(chunks: &[Vec<EF>]) -> bool
+    ensures { MatchBool result
+        (All (λ values. length values ≡ EF.DIMENSION) (lists chunks.now))
+        (¬ All (λ values. length values ≡ EF.DIMENSION) (lists chunks.now)) }
+{
+    for i in 0..chunks.len() {
+        if chunks[i].len() != EF::DIMENSION {
+            return false;
+        }
+    }
+    true
 }
 
 /// The quotient's value at a point, where the chunks' columns have these values there, a list to a

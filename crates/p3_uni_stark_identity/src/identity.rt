@@ -1,7 +1,7 @@
 //! Whether what a proof opens at a point agrees with its quotient.
 
 ghost use Rattle.std.specs.Prelude.{◌≡◌, ◌≢◌, ◌<◌, ◌≤◌, ◌^◌, ◌↔◌, ℕ, All, IfOk, IsTrue, length};
-ghost use Rattle.std.specs.Prelude.{map, slice_index_or};
+ghost use Rattle.std.specs.Prelude.{map, slice_index_or, MatchBool};
 ghost use Rattle.algebra.specs.Nested.{lists};
 ghost use Rattle.stark_algebra.specs.Selectors.{zerofier};
 ghost use Rattle.p3_field_core.specs.Basis.{unit_vector};
@@ -15,7 +15,7 @@ ghost use Rattle.p3_uni_stark_identity.specs.Identity.{IsQuotientOf};
 use crate::chunks::recombine_quotient;
 use crate::folding::fold_constraints;
 use crate::selectors::{LagrangeSelectors, selectors_at_point};
-use p3_air::{Air, Window};
+use p3_air::{Air, AirLayout, Window};
 use p3_field_core::{ExtensionField, Field, TwoAdicField, TwoAdicMultiplicativeCoset};
 use std::alloc::{AllocError, Global};
 
@@ -26,6 +26,19 @@ pub struct Challenges<EF> {
     pub alpha: EF,
     /// The point, off the trace's domain, at which columns are opened.
     pub zeta: EF,
+}
+
+/// Whether a window has as many entries of each kind as the layout tells.
+pub fn has_widths<F, EF>(layout: &AirLayout, window: &Window<'_, F, EF>) -> bool
+    ensures { MatchBool result (HasWidths layout.now (entries_of window.now))
+        (¬ HasWidths layout.now (entries_of window.now)) }
+{
+    window.local.len() == layout.width
+        && window.next.len() == layout.width
+        && window.preprocessed.len() == layout.preprocessed_width
+        && window.preprocessed_next.len() == layout.preprocessed_width
+        && window.public_values.len() == layout.num_public_values
+        && window.periodic.len() == layout.num_periodic_columns
 }
 
 /// The constraints' sum by powers of `alpha` at the point of these selectors, where constraints see

@@ -10,8 +10,8 @@ pub mod identity;
 pub mod laws;
 pub mod selectors;
 
-pub use crate::chunks::{quotient_chunk_domains, recombine_quotient};
+pub use crate::chunks::{have_dimension, quotient_chunk_domains, recombine_quotient};
 pub use crate::folding::{fold_constraints, select};
-pub use crate::identity::{Challenges, folded_constraints, identity_holds};
+pub use crate::identity::{Challenges, folded_constraints, has_widths, identity_holds};
 pub use crate::laws::quotient_chunks_law;
-pub use crate::selectors::{LagrangeSelectors, selectors_at_point};
+pub use crate::selectors::{LagrangeSelectors, is_on_domain, selectors_at_point};

@@ -1,10 +1,10 @@
 //! What selects rows of a trace, at a point.
 
-ghost use Rattle.std.specs.Prelude.{◌≢◌, ◌≤◌, ◌^◌};
+ghost use Rattle.std.specs.Prelude.{◌≡◌, ◌≢◌, ◌≤◌, ◌^◌, ◌↔◌, IsTrue};
 ghost use Rattle.stark_algebra.specs.Selectors.{zerofier};
 ghost use Rattle.p3_uni_stark_identity.specs.Selectors.{AreSelectorsAt};
 
-use p3_field_core::{ExtensionField, TwoAdicField};
+use p3_field_core::{ExtensionField, Field, TwoAdicField};
 
 /// The values at a point of what selects rows of a trace, and the inverse of the value of the
 /// polynomial that vanishes on its domain.
@@ -18,6 +18,15 @@ pub struct LagrangeSelectors<EF> {
     pub is_transition: EF,
     /// The inverse of the vanishing polynomial's value.
     pub inv_vanishing: EF,
+}
+
+/// Whether the polynomial that vanishes on the subgroup of `2^log_size` points is zero at the point:
+/// exactly at the points of that subgroup.
+pub fn is_on_domain<EF: Field>(log_size: usize, point: EF) -> bool
+    ensures { IsTrue result ↔ (zerofier EF.ops (2 ^ log_size) point ≡ EF.ops.zero) }
+{
+    let vanishing = point.exp_power_of_2(log_size) - EF::ONE;
+    vanishing.is_zero()
 }
 
 /// The selectors of the subgroup of `2^log_size` points, at a point that isn't one of them
