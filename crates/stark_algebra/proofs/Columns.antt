@@ -46,7 +46,7 @@ module _ {E : Type 0} (K : FieldOps E) (M : IsField K) (n k d : ℕ) (s : ℕ �
 module _ {A E : Type 0} (F : FieldOps A) (L : IsField F) (K : FieldOps E) (M : IsField K) (lift : A → E)
     (H : IsHomomorphism F K lift) (top : ℕ) (w : ℕ → A) (W : AreRoots F top w) (k : ℕ) (t : k ≤ top) where
   -- lifted vanishing polynomials
-  lifted_vanishing : (s x : A) → s ≢ F.zero → lift (vanishing F s k x) ≡ vanishing K (lift s) k (lift x)
+  pub lifted_vanishing : (s x : A) → s ≢ F.zero → lift (vanishing F s k x) ≡ vanishing K (lift s) k (lift x)
   lifted_vanishing s x n =
       homomorphism-sub F K lift L.ring M.ring H (pow F (F.mul x (F.inv s)) (2 ^ k)) F.one
       ∙ ap₂ (λ a b. K.add a (K.neg b))
@@ -88,32 +88,58 @@ module _ {A E : Type 0} (F : FieldOps A) (L : IsField F) (K : FieldOps E) (M : I
         ∙ ap (λ xs. get_or xs j F.zero) (sym (map-tabulate (λ x. val F c x) (2 ^ k) (λ j. F.mul s (pow F (w k) j))) ∙ h.values)
         ∙ get_or-tabulate (2 ^ k) ys j F.zero l
 
-  pub columns_recombine : (n : ℕ) (s : ℕ → A) → ((i : ℕ) → i < n → s i ≢ F.zero) → ChunksApart F n k s
-      → (d : ℕ) (basis : ℕ → E) (coefficient : E → ℕ → A) → HasBasis K lift d basis coefficient
-      → (q : E → E) → HasDegreeBelow K (n * 2 ^ k) q
+  -- polynomials over the base field that have, on the cosets of chunks, the coefficients of the
+  -- values of `q`, put together by the basis and recombined, are `q`
+  pub given_columns_recombine : (n : ℕ) (s : ℕ → A) → ((i : ℕ) → i < n → s i ≢ F.zero)
+      → ChunksApart F n k s → (d : ℕ) (basis : ℕ → E) (coefficient : E → ℕ → A)
+      → HasBasis K lift d basis coefficient → (q : E → E) → HasDegreeBelow K (n * 2 ^ k) q
+      → (column : ℕ → ℕ → List A)
+      → ((i e : ℕ) → i < n → e < d → length (column i e) ≡ 2 ^ k)
+      → ((i j e : ℕ) → i < n → j < 2 ^ k → e < d → val F (column i e) (F.mul (s i) (pow F (w k) j))
+      ≡ coefficient (q (lift (F.mul (s i) (pow F (w k) j)))) e)
+      → (z : E) → sum_below K d (λ e. K.mul (basis e) (recombined K n k (λ i. lift (s i))
+      (λ i. val K (map lift (column i e)) z) z)) ≡ q z
+  given_columns_recombine n s nonzero apart d basis coefficient has q dq column long holds z =
+      recombined-sum K M n k d (λ i. lift (s i)) basis (λ i e. u i e z) z
+      ∙ chunks_recombine K M top (λ j. lift (w j)) (lifted_roots F K lift L M H top w W) k t
+      (λ i. lift (s i)) n (λ i l. homomorphism-nonzero F K lift L M H (s i) (nonzero i l))
+      (lifted_apart n s nonzero apart) q dq
+      (λ i x. sum_below K d (λ e. K.mul (basis e) (u i e x)))
+      (λ i l. sum-degree K M.ring d (2 ^ k) (λ e x. K.mul (basis e) (u i e x))
+      (λ e b. degree-scale K M.ring (2 ^ k) (basis e) (u i e) (record {
+        polynomial = map lift (column i e);
+        degree = length-map (column i e) lift ∙ long i e l b;
+        values = λ x. refl;
+      })))
+      (λ i j li lj. sum_below-equal K d
+      (λ e. K.mul (basis e) (u i e (K.mul (lift (s i)) (pow K (lift (w k)) j))))
+      (λ e. K.mul (basis e)
+      (lift (coefficient (q (K.mul (lift (s i)) (pow K (lift (w k)) j))) e)))
+      (λ e b. ap (λ v. K.mul (basis e) v) (there i j e li lj b))
+      ∙ sym (has.sum (q (K.mul (lift (s i)) (pow K (lift (w k)) j))))) z
+    where
+      u : ℕ → ℕ → E → E
+      u i e x = val K (map lift (column i e)) x
+
+      there : (i j e : ℕ) → i < n → j < 2 ^ k → e < d
+          → u i e (K.mul (lift (s i)) (pow K (lift (w k)) j))
+          ≡ lift (coefficient (q (K.mul (lift (s i)) (pow K (lift (w k)) j))) e)
+      there i j e li lj le =
+          ap (λ x. val K (map lift (column i e)) x) (lifted_point (s i) j)
+          ∙ sym (homomorphism-val F K lift L.ring M.ring H (column i e)
+          (F.mul (s i) (pow F (w k) j)))
+          ∙ ap lift (holds i j e li lj le)
+          ∙ ap (λ x. lift (coefficient (q x) e)) (sym (lifted_point (s i) j))
+
+  pub columns_recombine : (n : ℕ) (s : ℕ → A) → ((i : ℕ) → i < n → s i ≢ F.zero)
+      → ChunksApart F n k s → (d : ℕ) (basis : ℕ → E) (coefficient : E → ℕ → A)
+      → HasBasis K lift d basis coefficient → (q : E → E) → HasDegreeBelow K (n * 2 ^ k) q
       → (z : E) → sum_below K d (λ e. K.mul (basis e) (recombined K n k (λ i. lift (s i))
       (λ i. val K (map lift (chunk_column F lift w k coefficient q (s i) e)) z) z)) ≡ q z
   columns_recombine n s nonzero apart d basis coefficient has q dq z =
-      recombined-sum K M n k d (λ i. lift (s i)) basis (λ i e. u i e z) z
-      ∙ chunks_recombine K M top (λ j. lift (w j)) (lifted_roots F K lift L M H top w W) k t (λ i. lift (s i)) n
-      (λ i l. homomorphism-nonzero F K lift L M H (s i) (nonzero i l)) (lifted_apart n s nonzero apart) q dq
-      (λ i x. sum_below K d (λ e. K.mul (basis e) (u i e x)))
-      (λ i l. sum-degree K M.ring d (2 ^ k) (λ e x. K.mul (basis e) (u i e x)) (λ e _. degree-scale K M.ring (2 ^ k) (basis e) (u i e)
-      (record { polynomial = map lift (column i e); degree = length-map (column i e) lift ∙ column-length (s i) (nonzero i l) (λ j. coefficient (q (lift (F.mul (s i) (pow F (w k) j)))) e); values = λ x. refl })))
-      (λ i j li lj. sum_below-equal K d (λ e. K.mul (basis e) (u i e (K.mul (lift (s i)) (pow K (lift (w k)) j))))
-      (λ e. K.mul (basis e) (lift (coefficient (q (K.mul (lift (s i)) (pow K (lift (w k)) j))) e)))
-      (λ e _. ap (λ v. K.mul (basis e) v) (there i j e li lj))
-      ∙ sym (has.sum (q (K.mul (lift (s i)) (pow K (lift (w k)) j))))) z
-    where
-      column : ℕ → ℕ → List A
-      column i e = chunk_column F lift w k coefficient q (s i) e
-
-      u : ℕ → ℕ → E → E
-      u i e x = val K (map lift (chunk_column F lift w k coefficient q (s i) e)) x
-
-      there : (i j e : ℕ) → i < n → j < 2 ^ k → u i e (K.mul (lift (s i)) (pow K (lift (w k)) j)) ≡ lift (coefficient (q (K.mul (lift (s i)) (pow K (lift (w k)) j))) e)
-      there i j e li lj =
-          ap (λ x. val K (map lift (chunk_column F lift w k coefficient q (s i) e)) x) (lifted_point (s i) j)
-          ∙ sym (homomorphism-val F K lift L.ring M.ring H (chunk_column F lift w k coefficient q (s i) e) (F.mul (s i) (pow F (w k) j)))
-          ∙ ap lift (column-there (s i) (nonzero i li) (λ j. coefficient (q (lift (F.mul (s i) (pow F (w k) j)))) e) j lj)
-          ∙ ap (λ x. lift (coefficient (q x) e)) (sym (lifted_point (s i) j))
+      given_columns_recombine n s nonzero apart d basis coefficient has q dq
+      (λ i e. chunk_column F lift w k coefficient q (s i) e)
+      (λ i e l b. column-length (s i) (nonzero i l)
+      (λ j. coefficient (q (lift (F.mul (s i) (pow F (w k) j)))) e))
+      (λ i j e li lj le. column-there (s i) (nonzero i li)
+      (λ j. coefficient (q (lift (F.mul (s i) (pow F (w k) j)))) e) j lj) z
