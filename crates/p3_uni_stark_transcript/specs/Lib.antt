@@ -1,0 +1,4 @@
+pub mod Instance
+pub mod Steps
+pub mod Replay
+pub mod Views
