@@ -20,9 +20,11 @@
 #![tactic(auto)]
 
 pub mod instance;
+pub mod laws;
 mod numbers;
 pub mod transcript;
 
 pub use crate::instance::StarkInstance;
+pub use crate::laws::stark_instance_law;
 pub use crate::transcript::{StarkCommitments, StarkChallenges, replay_stark};
 pub use crate::transcript::{absorb_instance, draw_alpha, draw_zeta};

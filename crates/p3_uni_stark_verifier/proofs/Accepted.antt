@@ -1,0 +1,2 @@
+-- Refusals, and what is accepted.
+use Rattle.std.proofs.Common.{◌≡◌, ℕ, ◌<◌, ◌^◌, All}

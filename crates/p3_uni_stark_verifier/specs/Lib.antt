@@ -1,0 +1,4 @@
+pub mod Chunks
+pub mod Claimed
+pub mod Relation
+pub mod Setting
