@@ -12,6 +12,7 @@ use Rattle.p3_air.specs.declared.air.Rows.{Rows}
 use Rattle.p3_air.specs.declared.air.Rows.TheVariants as rows
 use Rattle.p3_air.specs.declared.air.Constraint.{Constraint}
 use Rattle.p3_air.specs.declared.air.AirLayout.{AirLayout}
+use Rattle.p3_challenger_fs.specs.declared.pattern.Hierarchy.{Hierarchy}
 use Rattle.p3_challenger_fs.specs.declared.pattern.Hierarchy.TheVariants.{Begin, End}
 use Rattle.p3_challenger_fs.specs.Pattern.{Step, number_bytes}
 use Rattle.p3_challenger_fs.specs.StreamLaws.{FitsNumber, FitsStep}
@@ -190,24 +191,36 @@ module _ {V : Type 0} (canonical : V → ℕ) (injective : (x y : V) → canonic
     of_challenge : (label : List ℕ) → FitsNumber d → FitsStep (challenge_step d label)
     of_challenge label f = record { type_tag = f; length = tt }
 
-    last_fit : FitsNumber d
-        → All FitsStep (challenge_step d (codes "zeta") ∷ opening_step Begin ∷ opening_step End ∷ [])
-    last_fit f = one _ _ (of_challenge (codes "zeta") f)
-        (one _ _ (record { type_tag = tt; length = tt })
-        (one _ _ (record { type_tag = tt; length = tt }) (All-nil FitsStep)))
+    of_opening : (hierarchy : Hierarchy) → FitsStep (opening_step hierarchy)
+    of_opening hierarchy = record { type_tag = tt; length = tt }
+
+    abbrev last : List Step
+    last = challenge_step d (codes "zeta") ∷ opening_step Begin ∷ opening_step End ∷ []
+
+    last_fit : FitsNumber d → All FitsStep last
+    last_fit f = one (challenge_step d (codes "zeta")) (opening_step Begin ∷ opening_step End ∷ [])
+        (of_challenge (codes "zeta") f)
+        (one (opening_step Begin) (opening_step End ∷ []) (of_opening Begin)
+        (one (opening_step End) [] (of_opening End) (All-nil FitsStep)))
 
     random_fit : (h : Bool) → FitsNumber d → All FitsStep (last_steps d h)
-    random_fit true f = one _ _ (of_commitment (codes "quotient"))
-        (one _ _ (of_commitment (codes "random")) (last_fit f))
-    random_fit false f = one _ _ (of_commitment (codes "quotient")) (last_fit f)
+    random_fit true f = one (commitment_step (codes "quotient")) (commitment_step (codes "random") ∷ last)
+        (of_commitment (codes "quotient"))
+        (one (commitment_step (codes "random")) last (of_commitment (codes "random")) (last_fit f))
+    random_fit false f = one (commitment_step (codes "quotient")) last
+        (of_commitment (codes "quotient")) (last_fit f)
 
     trace_fit : (h : Bool) → FitsNumber d → All FitsStep
         (commitment_step (codes "trace") ∷ challenge_step d (codes "alpha") ∷ last_steps d h)
-    trace_fit h f = one _ _ (of_commitment (codes "trace"))
-        (one _ _ (of_challenge (codes "alpha") f) (random_fit h f))
+    trace_fit h f = one (commitment_step (codes "trace")) (challenge_step d (codes "alpha") ∷ last_steps d h)
+        (of_commitment (codes "trace"))
+        (one (challenge_step d (codes "alpha")) (last_steps d h) (of_challenge (codes "alpha") f)
+        (random_fit h f))
 
     steps_fit : (p h : Bool) → FitsNumber d → All FitsStep (stark_steps d p h)
-    steps_fit true h f = one _ _ (of_commitment (codes "preprocessed")) (trace_fit h f)
+    steps_fit true h f = one (commitment_step (codes "preprocessed"))
+        (commitment_step (codes "trace") ∷ challenge_step d (codes "alpha") ∷ last_steps d h)
+        (of_commitment (codes "preprocessed")) (trace_fit h f)
     steps_fit false h f = trace_fit h f
 
     pub instance_determined : (a b : Instance V) → IsDeterminedInstance canonical d preprocessed hides a b

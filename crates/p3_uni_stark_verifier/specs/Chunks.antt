@@ -6,6 +6,10 @@ use Rattle.p3_air.specs.declared.air.Constraint.{Constraint}
 use Rattle.p3_air.specs.declared.air.Air.{Air}
 use Rattle.p3_air.specs.Degrees.{node_degrees}
 
+-- one more where a scheme hides, which doubles each number of rows
+abbrev pub hiding_bits : (zk : Bool) → ℕ
+hiding_bits zk = if zk then 1 else 0
+
 -- the degree that a constraint on these rows may have with one chunk: its selector may count one
 abbrev pub allowed_degree : Rows → ℕ
 allowed_degree rows.All = 2

@@ -1,6 +1,6 @@
 -- When a STARK's proof is accepted, and why it is refused.
-use Rattle.std.specs.Prelude.{◌≡◌, ◌≢◌, ◌⊎◌, ◌==◌, not, ⊤, ℕ, ◌+◌, ◌<◌, ◌≤◌, ◌^◌, Bool, true, false}
-use Rattle.std.specs.Prelude.{List, length, map, All, Option, Some, None, if◌then◌else◌}
+use Rattle.std.specs.Prelude.{◌≡◌, ◌≢◌, ◌⊎◌, ◌==◌, not, ⊤, ℕ, ◌+◌, ◌<◌, ◌≤◌, ◌^◌, Bool, false}
+use Rattle.std.specs.Prelude.{List, length, map, All, Option}
 use Rattle.std.specs.Option.{is_some}
 use Rattle.std.specs.List.{AllZip}
 use Rattle.std.specs.declared.vec.Vec.{Vec}
@@ -24,7 +24,7 @@ use Rattle.p3_uni_stark_verifier.specs.declared.proof.Statement.{Statement}
 use Rattle.p3_uni_stark_verifier.specs.declared.proof.Proof.{Proof}
 use Rattle.p3_uni_stark_verifier.specs.declared.proof.VerificationError.{VerificationError}
 use Rattle.p3_uni_stark_verifier.specs.declared.proof.VerificationError.TheVariants as fault
-use Rattle.p3_uni_stark_verifier.specs.Chunks.{IsBelow, NeedsChunks}
+use Rattle.p3_uni_stark_verifier.specs.Chunks.{hiding_bits, IsBelow, NeedsChunks}
 use Rattle.p3_uni_stark_verifier.specs.Claimed.{preprocessed_index, stark_claims}
 
 -- what a STARK stands on: a field and an extension, a challenger, and a scheme
@@ -47,10 +47,6 @@ pub record StarkSetting (V E C Com Dom Opening Error : Type 0) : Type 1 where
   pub Faults : Option ℕ → List (Claim E Com Dom) → Opening → C → Error → Type 0
   -- the subgroup of `2^k` points
   pub domain : ℕ → Dom
-
--- the logarithm of the number of rows that a scheme adds for each one
-abbrev pub hiding_bits : (zk : Bool) → ℕ
-hiding_bits zk = if zk then 1 else 0
 
 -- why a number of chunks is refused
 abbrev pub ChunkFault : {V Error : Type 0} → (zk : Bool) → Air V → VerificationError Error

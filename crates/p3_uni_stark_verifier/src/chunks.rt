@@ -1,9 +1,18 @@
 //! How many chunks a quotient has.
 
-ghost use Rattle.std.specs.Prelude.{◌≡◌, ◌<◌, ◌≤◌, ◌^◌, ◌↔◌, ℕ, length, All, IsTrue, IfSome, IfNone};
+ghost use Rattle.std.specs.Prelude.{◌≡◌, ◌+◌, ◌<◌, ◌^◌, ◌↔◌, ℕ, length, All, IsTrue, IfSome, IfNone};
 ghost use Rattle.p3_uni_stark_verifier.specs.Chunks.{excess, IsBelow, IsLogChunks};
+ghost use Rattle.p3_uni_stark_verifier.specs.Chunks.{hiding_bits};
 
 use p3_air::{Constraint, Rows};
+
+/// One more where the scheme hides, which doubles each number of rows.
+pub(crate) fn with_hiding(log: usize, zk: bool) -> usize
+    requires { log < 2 ^ 63 }
+    ensures { result ≡ log + hiding_bits zk }
+{
+    if zk { log + 1 } else { log }
+}
 
 /// How far a constraint's degree, with its selector and with the randomness of a scheme that hides,
 /// is above two, and zero where it isn't.

@@ -8,7 +8,7 @@ ghost use Rattle.p3_uni_stark_verifier.specs.Chunks.{NeedsChunks};
 ghost use Rattle.p3_uni_stark_verifier.specs.Relation.{HasProofShape, IsRandomized, IsReady};
 ghost use Rattle.p3_uni_stark_verifier.specs.Relation.{InputFault, ChunkFault};
 
-use crate::chunks::log_num_chunks;
+use crate::chunks::{log_num_chunks, with_hiding};
 use crate::proof::{Proof, Statement, VerificationError};
 use p3_air::{Air, DegreeError};
 use p3_field_core::{ExtensionField, TwoAdicField};
@@ -77,7 +77,7 @@ fn has_proof_shape<F: TwoAdicField, EF: Copy, Com, Opening>(
 {
     let layout = statement.air.layout;
     let opened = &proof.opened_values;
-    let log_num_chunks = if zk { log + 1 } else { log };
+    let log_num_chunks = with_hiding(log, zk);
     log_num_chunks <= F::TWO_ADICITY
         && proof.log_height <= F::TWO_ADICITY - log_num_chunks
         && opened.trace_local.len() == layout.width

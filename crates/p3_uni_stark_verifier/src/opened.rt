@@ -1,19 +1,20 @@
 //! What is asked of opened values once the challenges are drawn.
 
-ghost use Rattle.std.specs.Prelude.{◌≡◌, ◌≢◌, ◌<◌, ◌+◌, ◌^◌, ◌↔◌, length, map, All, IsTrue, IsOk};
-ghost use Rattle.std.specs.Prelude.{IfOk, IfErr, Err};
+ghost use Rattle.std.specs.Prelude.{◌≡◌, ◌≢◌, ◌≤◌, ◌+◌, ◌^◌, ◌↔◌, length, map, All, IsTrue, IsOk};
+ghost use Rattle.std.specs.Prelude.{IfOk, IfErr};
 ghost use Rattle.algebra.specs.Nested.{lists};
 ghost use Rattle.stark_algebra.specs.Selectors.{zerofier};
-ghost use Rattle.p3_challenger_core.specs.Run.{Moves};
 ghost use Rattle.p3_field_core.specs.Basis.{unit_vector};
 ghost use Rattle.p3_periodic.specs.Columns.{HasPeriod};
 ghost use Rattle.p3_periodic.specs.Values.{IsValueAt};
 ghost use Rattle.std.specs.List.{AllZip};
 ghost use Rattle.p3_uni_stark_identity.specs.Chunks.{chunk_shifts, quotient_at};
 ghost use Rattle.p3_uni_stark_identity.specs.Identity.{IsQuotientOf};
-ghost use Rattle.p3_uni_stark_verifier.specs.Relation.{IsReady, entries_shown, hiding_bits};
+ghost use Rattle.p3_uni_stark_verifier.specs.Relation.{IsReady, entries_shown};
+ghost use Rattle.p3_uni_stark_verifier.specs.Chunks.{hiding_bits};
 ghost use Rattle.p3_uni_stark_verifier.specs.Relation.{PeriodicFault};
 
+use crate::chunks::with_hiding;
 use crate::proof::{Proof, Statement, VerificationError};
 use p3_air::Window;
 use p3_dft::TwoAdicSubgroupDft;
@@ -100,7 +101,7 @@ pub(crate) fn agrees<F: TwoAdicField, EF: ExtensionField<F>, Com: Copy, Opening>
         challenges.zeta)) }
 {
     let opened = &proof.opened_values;
-    let log_num_chunks = if zk { log_chunks + 1 } else { log_chunks };
+    let log_num_chunks = with_hiding(log_chunks, zk);
     let domains = quotient_chunk_domains::<F>(alloc, proof.log_height, log_num_chunks)?;
     let window = Window {
         local: opened.trace_local.as_slice(),

@@ -1,6 +1,6 @@
 //! The verifier.
 
-ghost use Rattle.std.specs.Prelude.{◌≡◌, ◌≢◌, ◌<◌, ◌↔◌, IsOk, IfErr, Err};
+ghost use Rattle.std.specs.Prelude.{◌≡◌, ◌≢◌, ◌↔◌, IsOk, IfErr, Err};
 ghost use Rattle.p3_field_core.specs.Basis.{unit_vector};
 ghost use Rattle.p3_uni_stark_verifier.specs.Claimed.{preprocessed_index};
 ghost use Rattle.p3_uni_stark_verifier.specs.Setting.{stark_setting};
@@ -8,6 +8,7 @@ ghost use Rattle.p3_uni_stark_verifier.specs.Relation.{IsReady, HoldsAt, FaultAt
 ghost use Rattle.p3_uni_stark_verifier.specs.Relation.{claims_at, StarkFault, stark_last_state};
 ghost use Rattle.p3_uni_stark_verifier.specs.declared.proof.VerificationError.TheVariants as fault;
 
+use crate::chunks::with_hiding;
 use crate::claims::stark_claims;
 use crate::inputs::check_inputs;
 use crate::opened::{agrees, periodic_values, subgroup};
@@ -81,7 +82,7 @@ fn verify_at<
     if vanishing.is_zero() {
         return Err(VerificationError::PointOnTraceDomain);
     }
-    let log_rows = if P::ZK { proof.log_height + 1 } else { proof.log_height };
+    let log_rows = with_hiding(proof.log_height, P::ZK);
     let generator = EF::from_base(F::two_adic_generator(proof.log_height));
     let found = periodic_values::<F, EF, Dft, P::Error>(
         alloc,
