@@ -45,8 +45,8 @@ pub record StarkSetting (V E C Com Dom Opening Error : Type 0) : Type 1 where
   pub Opens : Option ℕ → C → List (Claim E Com Dom) → Opening → Type 0
   -- a refusal names a fault of it
   pub Faults : Option ℕ → List (Claim E Com Dom) → Opening → C → Error → Type 0
-  -- the subgroup of `2^k` points
-  pub domain : ℕ → Dom
+  -- the domain is the subgroup of `2^k` points
+  pub IsSubgroup : ℕ → Dom → Type 0
 
 -- why a number of chunks is refused
 abbrev pub ChunkFault : {V Error : Type 0} → (zk : Bool) → Air V → VerificationError Error
@@ -159,10 +159,14 @@ module _ {V E C Com Dom Opening Error : Type 0} (S : StarkSetting V E C Com Dom 
   abbrev pub trace_generator : E
   trace_generator = S.lift (S.root p.log_height)
 
+  -- the domain on which all columns are committed to: a scheme that hides adds as many rows
+  abbrev pub IsTraceDomain : Dom → Type 0
+  IsTraceDomain domain = S.IsSubgroup (p.log_height + hiding_bits S.zk) domain
+
   -- what is opened at the point `z` and the next one
-  abbrev pub claims_at : (z : E) → List (Claim E Com Dom)
-  claims_at z = stark_claims (S.domain (p.log_height + hiding_bits S.zk)) s.preprocessed
-      p.commitments p.opened_values z (S.ext.mul trace_generator z)
+  abbrev pub claims_at : Dom → (z : E) → List (Claim E Com Dom)
+  claims_at domain z = stark_claims domain s.preprocessed p.commitments p.opened_values z
+      (S.ext.mul trace_generator z)
 
   -- these are the values of the periodic columns at `z`
   abbrev pub ArePeriodic : (z : E) (periodic : List E) → Type 0
@@ -182,7 +186,9 @@ module _ {V E C Com Dom Opening Error : Type 0} (S : StarkSetting V E C Com Dom 
   pub record HoldsAt (log : ℕ) (alpha z : E) (c : C) : Type 0 where
     pub off : zerofier S.ext (2 ^ p.log_height) z ≢ S.ext.zero
     pub periods : All (HasPeriod (2 ^ p.log_height)) s.periodic.now
-    pub opened : S.Opens (preprocessed_index s.preprocessed) c (claims_at z) p.opening_proof
+    pub domain : Dom
+    pub is_domain : IsTraceDomain domain
+    pub opened : S.Opens (preprocessed_index s.preprocessed) c (claims_at domain z) p.opening_proof
     pub periodic : List E
     pub are_periodic : ArePeriodic z periodic
     pub identity : Agrees log alpha z periodic
@@ -198,8 +204,8 @@ module _ {V E C Com Dom Opening Error : Type 0} (S : StarkSetting V E C Com Dom 
   FaultAt log alpha z c fault.PointOnTraceDomain = zerofier S.ext (2 ^ p.log_height) z ≡ S.ext.zero
   FaultAt log alpha z c (fault.InvalidPeriodicColumns f) =
       FirstPeriodFault (2 ^ p.log_height) s.periodic.now f
-  FaultAt log alpha z c (fault.InvalidOpeningArgument e) =
-      S.Faults (preprocessed_index s.preprocessed) (claims_at z) p.opening_proof c e
+  FaultAt log alpha z c (fault.InvalidOpeningArgument e) = (domain : Dom) × (IsTraceDomain domain
+      × S.Faults (preprocessed_index s.preprocessed) (claims_at domain z) p.opening_proof c e)
   FaultAt log alpha z c fault.OodEvaluationMismatch =
       (periodic : List E) × ArePeriodic z periodic × (¬ Agrees log alpha z periodic)
   FaultAt log alpha z c fault.OutOfMemory = ⊤
@@ -211,7 +217,9 @@ module _ {V E C Com Dom Opening Error : Type 0} (S : StarkSetting V E C Com Dom 
       ⊎ ((log : ℕ) × (IsReady S.two_adicity S.dimension S.zk s p log
       × FaultAt log (drawn c).alpha (drawn c).zeta (drawn c).state e))
 
-  -- the state in which an accepted proof ends
-  abbrev pub stark_last_state : (Option ℕ → C → List (Claim E Com Dom) → Opening → C) → C → C
-  stark_last_state last_state c = last_state (preprocessed_index s.preprocessed) (drawn c).state
-      (claims_at (drawn c).zeta) p.opening_proof
+  -- the state in which an opening at `z` ends that begins in this one
+  abbrev pub IsLastState : (Option ℕ → C → List (Claim E Com Dom) → Opening → C) → (z : E)
+      → (c last : C) → Type 0
+  IsLastState last_state z c last = (domain : Dom) × (IsTraceDomain domain
+      × (last ≡ last_state (preprocessed_index s.preprocessed) c (claims_at domain z)
+      p.opening_proof))

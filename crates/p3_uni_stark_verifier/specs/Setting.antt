@@ -9,10 +9,10 @@ abbrev pub stark_setting : {V E C Com Dom Opening Error : Type 0} → FieldOps V
     → (lift : V → E) (root : ℕ → V) (two_adicity : ℕ) (generator : V) (dimension : ℕ)
     (basis : ℕ → E) (canonical : V → ℕ) → Moves C V E Com → (zk : Bool)
     → (Option ℕ → C → List (Claim E Com Dom) → Opening → Type 0)
-    → (Option ℕ → List (Claim E Com Dom) → Opening → C → Error → Type 0) → (ℕ → Dom)
+    → (Option ℕ → List (Claim E Com Dom) → Opening → C → Error → Type 0) → (ℕ → Dom → Type 0)
     → StarkSetting V E C Com Dom Opening Error
 stark_setting base ext lift root two_adicity generator dimension basis canonical moves zk opens
-    faults domain = record {
+    faults is_subgroup = record {
   base = base;
   ext = ext;
   lift = lift;
@@ -26,5 +26,5 @@ stark_setting base ext lift root two_adicity generator dimension basis canonical
   zk = zk;
   Opens = opens;
   Faults = faults;
-  domain = domain;
+  IsSubgroup = is_subgroup;
 }

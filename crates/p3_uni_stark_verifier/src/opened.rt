@@ -26,7 +26,8 @@ use std::alloc::{AllocError, Global};
 /// The subgroup of `2^log_size` points.
 pub(crate) fn subgroup<F: TwoAdicField>(log_size: usize) -> TwoAdicMultiplicativeCoset<F>
     requires within_two_adicity { log_size ≤ F.TWO_ADICITY }
-    ensures { result ≡ record { shift = F.ONE; log_size = log_size } }
+    ensures shift { result.shift ≡ F.ONE }
+    ensures size { result.log_size ≡ log_size }
 {
     TwoAdicMultiplicativeCoset {
         shift: F::ONE,

@@ -5,7 +5,7 @@ ghost use Rattle.p3_field_core.specs.Basis.{unit_vector};
 ghost use Rattle.p3_uni_stark_verifier.specs.Claimed.{preprocessed_index};
 ghost use Rattle.p3_uni_stark_verifier.specs.Setting.{stark_setting};
 ghost use Rattle.p3_uni_stark_verifier.specs.Relation.{IsReady, HoldsAt, FaultAt, StarkAccepts};
-ghost use Rattle.p3_uni_stark_verifier.specs.Relation.{claims_at, StarkFault, stark_last_state};
+ghost use Rattle.p3_uni_stark_verifier.specs.Relation.{drawn, StarkFault, IsLastState};
 ghost use Rattle.p3_uni_stark_verifier.specs.declared.proof.VerificationError.TheVariants as fault;
 
 use crate::chunks::with_hiding;
@@ -62,20 +62,19 @@ fn verify_at<
         → (IsOk result ↔ HoldsAt (stark_setting F.ops EF.ops EF.lift F.root F.TWO_ADICITY
         F.GENERATOR EF.DIMENSION (λ e. EF.of_coefficients (unit_vector F.ops EF.DIMENSION e))
         F.canonical ⟦<C as Plays<F, EF, Com>>⟧.moves P.ZK r.Accepts r.IsTrueRefusal
-        (λ k. record { shift = F.ONE; log_size = k })) statement.now proof.now log_chunks
+        (λ k d. (d.shift ≡ F.ONE) × (d.log_size ≡ k))) statement.now proof.now log_chunks
         challenges.alpha challenges.zeta challenger.old) }
-    ensures state { let r = P.rules scheme.now in IsOk result
-        → challenger.new ≡ r.last_state (preprocessed_index statement.now.preprocessed)
-        challenger.old (claims_at (stark_setting F.ops EF.ops EF.lift F.root F.TWO_ADICITY
-        F.GENERATOR EF.DIMENSION (λ e. EF.of_coefficients (unit_vector F.ops EF.DIMENSION e))
+    ensures state { let r = P.rules scheme.now in IsOk result → IsLastState (stark_setting F.ops EF.ops EF.lift F.root
+        F.TWO_ADICITY F.GENERATOR EF.DIMENSION
+        (λ e. EF.of_coefficients (unit_vector F.ops EF.DIMENSION e))
         F.canonical ⟦<C as Plays<F, EF, Com>>⟧.moves P.ZK r.Accepts r.IsTrueRefusal
-        (λ k. record { shift = F.ONE; log_size = k })) statement.now proof.now challenges.zeta)
-        proof.now.opening_proof }
+        (λ k d. (d.shift ≡ F.ONE) × (d.log_size ≡ k)))
+        statement.now proof.now r.last_state challenges.zeta challenger.old challenger.new }
     ensures stands { let r = P.rules scheme.now in IfErr result (FaultAt (stark_setting F.ops
         EF.ops EF.lift F.root F.TWO_ADICITY F.GENERATOR EF.DIMENSION
         (λ e. EF.of_coefficients (unit_vector F.ops EF.DIMENSION e))
         F.canonical ⟦<C as Plays<F, EF, Com>>⟧.moves P.ZK r.Accepts r.IsTrueRefusal
-        (λ k. record { shift = F.ONE; log_size = k })) statement.now proof.now log_chunks
+        (λ k d. (d.shift ≡ F.ONE) × (d.log_size ≡ k))) statement.now proof.now log_chunks
         challenges.alpha challenges.zeta challenger.old) }
 {
     let vanishing = challenges.zeta.exp_power_of_2(proof.log_height) - EF::ONE;
@@ -149,19 +148,20 @@ pub fn verify<
         → (IsOk result ↔ StarkAccepts (stark_setting F.ops EF.ops EF.lift F.root F.TWO_ADICITY
         F.GENERATOR EF.DIMENSION (λ e. EF.of_coefficients (unit_vector F.ops EF.DIMENSION e))
         F.canonical ⟦<C as Plays<F, EF, Com>>⟧.moves P.ZK r.Accepts r.IsTrueRefusal
-        (λ k. record { shift = F.ONE; log_size = k })) statement.now proof.now challenger.old) }
-    ensures state { let r = P.rules scheme.now in IsOk result
-        → challenger.new ≡ stark_last_state (stark_setting F.ops EF.ops EF.lift F.root
+        (λ k d. (d.shift ≡ F.ONE) × (d.log_size ≡ k))) statement.now proof.now challenger.old) }
+    ensures state { let r = P.rules scheme.now in let S = stark_setting F.ops EF.ops EF.lift F.root
         F.TWO_ADICITY F.GENERATOR EF.DIMENSION
         (λ e. EF.of_coefficients (unit_vector F.ops EF.DIMENSION e))
         F.canonical ⟦<C as Plays<F, EF, Com>>⟧.moves P.ZK r.Accepts r.IsTrueRefusal
-        (λ k. record { shift = F.ONE; log_size = k })) statement.now proof.now r.last_state
-        challenger.old }
+        (λ k d. (d.shift ≡ F.ONE) × (d.log_size ≡ k)) in
+        let begun = drawn S statement.now proof.now challenger.old in
+        IsOk result → IsLastState S statement.now proof.now r.last_state begun.zeta begun.state
+        challenger.new }
     ensures stands { let r = P.rules scheme.now in IfErr result (StarkFault (stark_setting F.ops
         EF.ops EF.lift F.root F.TWO_ADICITY F.GENERATOR EF.DIMENSION
         (λ e. EF.of_coefficients (unit_vector F.ops EF.DIMENSION e))
         F.canonical ⟦<C as Plays<F, EF, Com>>⟧.moves P.ZK r.Accepts r.IsTrueRefusal
-        (λ k. record { shift = F.ONE; log_size = k })) statement.now proof.now challenger.old) }
+        (λ k d. (d.shift ≡ F.ONE) × (d.log_size ≡ k))) statement.now proof.now challenger.old) }
 {
     let checked = check_inputs::<F, EF, Com, P::Proof, P::Error>(alloc, statement, proof, P::ZK);
     let log_chunks = match checked {
