@@ -1,4 +1,0 @@
-pub mod Chunks
-pub mod Claimed
-pub mod Relation
-pub mod Setting
