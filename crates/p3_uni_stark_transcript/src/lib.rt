@@ -26,5 +26,6 @@ pub mod transcript;
 
 pub use crate::instance::StarkInstance;
 pub use crate::laws::stark_instance_law;
-pub use crate::transcript::{StarkCommitments, StarkChallenges, replay_stark};
-pub use crate::transcript::{absorb_instance, draw_alpha, draw_zeta};
+pub use crate::transcript::{
+    StarkChallenges, StarkCommitments, absorb_instance, draw_alpha, draw_zeta, replay_stark,
+};

@@ -57,10 +57,7 @@ fn push_nodes<F: PrimeField64>(numbers: &mut Vec<u64>, nodes: &[Node<F>]) -> Res
 }
 
 /// Appends the numbers of constraints.
-fn push_constraints(
-    numbers: &mut Vec<u64>,
-    constraints: &[Constraint],
-) -> Result<(), AllocError>
+fn push_constraints(numbers: &mut Vec<u64>, constraints: &[Constraint]) -> Result<(), AllocError>
     ensures { OnOk result (numbers.new.items
         ≡ numbers.old.items ++ flat_map constraint_numbers constraints.now) }
 {
@@ -71,10 +68,7 @@ fn push_constraints(
 }
 
 /// Appends the numbers of elements.
-fn push_elements<F: PrimeField64>(
-    numbers: &mut Vec<u64>,
-    elements: &[F],
-) -> Result<(), AllocError>
+fn push_elements<F: PrimeField64>(numbers: &mut Vec<u64>, elements: &[F]) -> Result<(), AllocError>
     ensures { OnOk result (numbers.new.items
         ≡ numbers.old.items ++ map F.canonical elements.now) }
 {

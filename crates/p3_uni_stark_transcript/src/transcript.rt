@@ -14,8 +14,9 @@ ghost use Rattle.p3_uni_stark_transcript.specs.Views.{instance_of};
 use crate::instance::StarkInstance;
 use crate::numbers::instance_label;
 use p3_challenger_core::{CanObserve, FieldChallenger, Plays};
-use p3_challenger_fs::{DomainSeparator, Hierarchy, Interaction, InteractionPattern, Kind, Length};
-use p3_challenger_fs::Script;
+use p3_challenger_fs::{
+    DomainSeparator, Hierarchy, Interaction, InteractionPattern, Kind, Length, Script,
+};
 use p3_field_core::{ExtensionField, Field, PrimeField64};
 use std::alloc::{AllocError, Global};
 
@@ -82,11 +83,7 @@ fn challenge_step<F: Field, EF: ExtensionField<F>>(label: &'static str) -> Inter
 }
 
 /// Appends a step that there may be.
-fn push_if(
-    steps: &mut Vec<Interaction>,
-    present: bool,
-    step: Interaction,
-) -> Result<(), AllocError>
+fn push_if(steps: &mut Vec<Interaction>, present: bool, step: Interaction) -> Result<(), AllocError>
     ensures { OnOk result (map step_of steps.new.items
         ≡ map step_of steps.old.items ++ step_if present (step_of step)) }
 {
@@ -193,11 +190,7 @@ pub fn draw_alpha<
     EF: ExtensionField<F>,
     Com: Copy,
     C: FieldChallenger<F> + CanObserve<Com>,
->(
-    challenger: &mut C,
-    preprocessed: Option<Com>,
-    trace: Com,
-) -> EF
+>(challenger: &mut C, preprocessed: Option<Com>, trace: Com) -> EF
     ensures { alpha_drawn ⟦<C as Plays<F, EF, Com>>⟧.moves challenger.old preprocessed trace
         ≡ record { value = result; state = challenger.new } }
 {
@@ -212,11 +205,7 @@ pub fn draw_zeta<
     EF: ExtensionField<F>,
     Com: Copy,
     C: FieldChallenger<F> + CanObserve<Com>,
->(
-    challenger: &mut C,
-    quotient: Com,
-    random: Option<Com>,
-) -> EF
+>(challenger: &mut C, quotient: Com, random: Option<Com>) -> EF
     ensures { zeta_drawn ⟦<C as Plays<F, EF, Com>>⟧.moves challenger.old quotient random
         ≡ record { value = result; state = challenger.new } }
 {
