@@ -1,5 +1,5 @@
 -- The stream determines the instance.
-use Rattle.std.proofs.Common.{◌≡◌, ℕ, ◌*◌, ◌+◌, Bool, true, false, List, [], ◌∷◌, ◌++◌, length, map, refl, sym, ap, ◌∙◌, arith, append_assoc, append-nil, codes}
+use Rattle.std.proofs.Common.{◌≡◌, ℕ, Bool, true, false, List, [], ◌∷◌, ◌++◌, length, map, refl, sym, ap, ◌∙◌, arith, append_assoc, append-nil, codes}
 use Rattle.std.specs.List.{All, flat_map}
 use Rattle.std.proofs.lemmas.List.{length-map}
 use Rattle.std.proofs.lemmas.List.Elements.{All-nil, All-cons}
@@ -22,7 +22,7 @@ use Rattle.p3_uni_stark_transcript.specs.Instance.{Instance, rows_number, constr
 use Rattle.p3_uni_stark_transcript.specs.Instance.{node_numbers, column_numbers, instance_numbers, numbers_bytes}
 use Rattle.p3_uni_stark_transcript.specs.Steps.{commitment_step, challenge_step, opening_step, last_steps}
 use Rattle.p3_uni_stark_transcript.specs.Steps.{stark_steps, stark_description, stark_stream}
-use Rattle.p3_uni_stark_transcript.specs.InstanceLaws.{FitsInstance, IsDeterminedInstance}
+use Rattle.p3_uni_stark_transcript.specs.InstanceLaws.{IsDeterminedInstance}
 
 numbers_determined : (xs ys : List ℕ) → All FitsNumber xs → All FitsNumber ys
     → numbers_bytes xs ≡ numbers_bytes ys → xs ≡ ys

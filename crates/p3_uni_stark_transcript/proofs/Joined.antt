@@ -1,5 +1,5 @@
 -- What is appended part by part.
-use Rattle.std.proofs.Common.{◌≡◌, ℕ, List, [], ◌∷◌, ◌++◌, map, sym, ap, ap₂, ◌∙◌, append_assoc}
+use Rattle.std.proofs.Common.{◌≡◌, ℕ, List, [], ◌∷◌, ◌++◌, map, ap, ap₂, ◌∙◌, append_assoc}
 use Rattle.std.proofs.lemmas.List.{map-append}
 
 pub five_parts : (v w x y z t h n c p q : List ℕ) → v ≡ [] → w ≡ v ++ h → x ≡ w ++ n → y ≡ x ++ c
