@@ -10,8 +10,7 @@ returns g c =
     let vanishing : c.sub-vanishing.result ≡ zerofier K (2 ^ c.args.log_size) c.args.point =
     field.sub_law c.exp_power_of_2.result c.ONE.result c.sub-vanishing.result
     c.sub-vanishing.ensures
-    ∙ ap₂ (λ x y. sub K x y) c.exp_power_of_2.ensures (c.ONE.ensures ∙ field.one_law) in
-    (
+    ∙ ap₂ (λ x y. sub K x y) c.exp_power_of_2.ensures (c.ONE.ensures ∙ field.one_law) in (
       λ h. sym vanishing ∙ c.is_zero.ensures.0 h,
       λ h. c.is_zero.ensures.1 (vanishing ∙ h),
     )
