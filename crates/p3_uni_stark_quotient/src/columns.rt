@@ -3,10 +3,13 @@
 ghost use Rattle.std.specs.Prelude.{◌≡◌, ◌<◌, ◌≤◌, ◌+◌, ◌%◌, [], length, slice_index_or};
 ghost use Rattle.p3_matrix.specs.Matrix.{rows};
 ghost use Rattle.p3_air.specs.Shapes.{entries_of};
-ghost use Rattle.p3_uni_stark_quotient.specs.Given.{rows_if_any, on_coset, entries_on};
+ghost use Rattle.std.specs.Prelude.{All};
+ghost use Rattle.std.specs.Bool.{OnTrue};
+ghost use Rattle.p3_uni_stark_quotient.specs.Given.{rows_if_any, on_coset, entries_on, FitsCoset};
 
-use p3_air::Window;
+use p3_air::{AirLayout, Window};
 use p3_matrix::RowMajorMatrix;
+use p3_matrix::laws::rows_law;
 
 /// Columns by their values at the points of a coset, in natural order, a row to a point.
 #[derive(Clone, Copy, Debug)]
@@ -38,6 +41,46 @@ fn height_of<F: Copy>(matrix: Option<&RowMajorMatrix<F>>) -> usize
     match matrix {
         Some(matrix) => matrix.height(),
         None => 0,
+    }
+}
+
+/// Whether a matrix, if there is one, has so many columns.
+fn has_width<F: Copy>(matrix: Option<&RowMajorMatrix<F>>, width: usize) -> bool
+    ensures { OnTrue result (All (λ row. length row ≡ width) (rows_if_any matrix.entry)) }
+{
+    match matrix {
+        Some(matrix) => {
+            rows_law(matrix);
+            matrix.width() == width
+        },
+        None => true,
+    }
+}
+
+impl<'a, F: Copy> CosetColumns<'a, F> {
+    /// Whether there is a row at each of `size` points, and rows have the layout's widths.
+    pub fn fits(&self, layout: &AirLayout, size: usize) -> bool
+        ensures { OnTrue result (FitsCoset layout.now size (on_coset self.now)) }
+    {
+        let height = self.trace.height();
+        let preprocessed_height = height_of(self.preprocessed);
+        let periodic_height = height_of(self.periodic);
+        if height != size || !has_width(Some(self.trace), layout.width) {
+            return false;
+        }
+        if layout.preprocessed_width != 0 && preprocessed_height != size {
+            return false;
+        }
+        if layout.num_periodic_columns != 0 && periodic_height == 0 {
+            return false;
+        }
+        if !has_width(self.preprocessed, layout.preprocessed_width) {
+            return false;
+        }
+        if !has_width(self.periodic, layout.num_periodic_columns) {
+            return false;
+        }
+        self.public_values.len() == layout.num_public_values
     }
 }
 

@@ -12,5 +12,5 @@ pub mod values;
 pub use crate::chunks::quotient_chunks;
 pub use crate::columns::CosetColumns;
 pub use crate::laws::{coset_off_law, quotient_values_law};
-pub use crate::selectors::selectors_on_coset;
+pub use crate::selectors::{is_off_subgroups, selectors_on_coset};
 pub use crate::values::quotient_values;

@@ -1,8 +1,9 @@
 //! The selectors of a trace's rows, at each point of a coset.
 
 ghost use Rattle.std.specs.Prelude.{◌≡◌, ◌≢◌, ◌<◌, ◌≤◌, ◌^◌, ℕ, All, IfOk, length, map, vec_len};
-ghost use Rattle.std.specs.Prelude.{slice_index_or};
-ghost use Rattle.algebra.specs.Field.{sub};
+ghost use Rattle.std.specs.Prelude.{slice_index_or, IsTrue, ◌↔◌};
+ghost use Rattle.std.specs.Bool.{OnTrue};
+ghost use Rattle.algebra.specs.Field.{sub, pow};
 ghost use Rattle.p3_field_core.specs.Coset.{coset_point};
 ghost use Rattle.p3_uni_stark_identity.specs.Selectors.{AreSelectorsAt};
 ghost use Rattle.p3_uni_stark_identity.specs.Laws.{IsOffSubgroup};
@@ -12,6 +13,21 @@ use p3_field_core::{
 };
 use p3_uni_stark_identity::LagrangeSelectors;
 use std::alloc::{AllocError, Global};
+
+/// Whether the coset's shift, to the power of the greatest two-adic order, isn't one. Then the coset
+/// meets no subgroup whose order is a power of two.
+pub fn is_off_subgroups<F: TwoAdicField>(coset: TwoAdicMultiplicativeCoset<F>) -> bool
+    ensures power { IsTrue result ↔ (pow F.ops coset.shift (2 ^ F.TWO_ADICITY) ≢ F.ops.one) }
+    ensures off { OnTrue result ((k : ℕ) → k ≤ F.TWO_ADICITY
+        → IsOffSubgroup F.ops (F.root coset.log_size) coset.shift k) }
+{
+    let power = coset.shift.exp_power_of_2(F::TWO_ADICITY);
+    let difference = power - F::ONE;
+    if difference.is_zero() {
+        return false;
+    }
+    true
+}
 
 /// Each value minus the same element.
 fn differences<F: Field>(alloc: Global, values: &[F], subtrahend: F) -> Result<Vec<F>, AllocError>

@@ -1,0 +1,178 @@
+//! A quotient's values on a coset and their chunks, against values by coefficients.
+
+use crate::numbers::{elements, extension, numbers};
+use crate::systems::{cubes, fibonacci};
+use p3_air::Air;
+use p3_field::{BabyBear, BabyBear4, Field, PrimeField64, TwoAdicMultiplicativeCoset};
+use p3_matrix::RowMajorMatrix;
+use p3_uni_stark_quotient::{CosetColumns, is_off_subgroups, quotient_chunks, quotient_values};
+use std::alloc::{AllocError, Global};
+use std::test::Fail;
+
+/// Columns on a coset, row after row, and the quotient's values at the first points.
+#[derive(Clone, Copy, Debug)]
+struct Values {
+    log_size: usize,
+    width: usize,
+    trace: &'static [u64],
+    preprocessed: &'static [u64],
+    public_values: &'static [u64],
+    alpha: [u64; 4],
+    quotient: &'static [[u64; 4]],
+}
+
+/// Fibonacci numbers, eight rows, on a coset of sixteen points.
+const FIBONACCI: Values = Values {
+    log_size: 3,
+    width: 2,
+    trace: &[
+        1108103215, 1255266142, 1194686748, 21652724, 1232187421, 1410483304, 1320040706,
+        1144684256, 735063605, 1171390141, 894178425, 773637107, 213936270, 339711048, 1550378048,
+        1291628591, 1566336609, 1279683559, 1484155055, 1509832372, 288393757, 674837059,
+        1714143018, 1132023843, 611487314, 310495073, 580799103, 1944162741, 284289626, 1611197445,
+        1327948556, 235442137,
+    ],
+    preprocessed: &[],
+    public_values: &[1, 1, 34],
+    alpha: [3, 1, 4, 1],
+    quotient: &[
+        [422473080, 384451185, 1146844527, 259049764],
+        [1449673804, 1443269701, 1353292613, 128060701],
+        [860209688, 1747645438, 297830293, 2003025625],
+        [816288310, 1051439321, 1788593093, 1678161407],
+        [1552249994, 1813522003, 1878153576, 1096902401],
+    ],
+};
+
+/// Cubes with a summand on selected rows, four rows, on a coset of eight points.
+const CUBES: Values = Values {
+    log_size: 2,
+    width: 1,
+    trace: &[
+        1207934152, 887396509, 1758150605, 452737608, 1589877432, 1385609836, 1675145849,
+        1492098164,
+    ],
+    preprocessed: &[
+        481, 1032809045, 2013265441, 980456877, 481, 1032809045, 2013265441, 980456877,
+    ],
+    public_values: &[2, 7],
+    alpha: [5, 0, 2, 9],
+    quotient: &[
+        [1273608227, 0, 1422706224, 362380245],
+        [785827465, 0, 170798395, 1775225738],
+        [774349521, 0, 1100053748, 923710024],
+        [1331822822, 0, 867576388, 1890827825],
+        [990699801, 0, 655607381, 1943600254],
+        [919651464, 0, 860131059, 850690884],
+        [267569363, 0, 465543955, 1088314837],
+        [781020898, 0, 1745405466, 1814526834],
+    ],
+};
+
+/// The matrix of these numbers, if rows are whole.
+fn matrix(
+    alloc: Global,
+    numbers: &[u64],
+    width: usize,
+) -> Result<Option<RowMajorMatrix<BabyBear>>, AllocError> {
+    let values = elements(alloc, numbers)?;
+    if width == 0 || values.len() % width != 0 {
+        return Ok(None);
+    }
+    Ok(Some(RowMajorMatrix::new(values, width)))
+}
+
+/// The quotient's values, of columns that fit.
+fn found(
+    alloc: Global,
+    air: &Air<BabyBear>,
+    case: &Values,
+) -> Result<Option<Vec<BabyBear4>>, AllocError> {
+    let log_size = case.log_size;
+    if log_size > 25 || air.check().is_err() {
+        return Ok(None);
+    }
+    let Some(coset) = TwoAdicMultiplicativeCoset::new(BabyBear::GENERATOR, log_size + 1) else {
+        return Ok(None);
+    };
+    let Some(trace) = matrix(alloc, case.trace, case.width)? else {
+        return Ok(None);
+    };
+    let preprocessed = if case.preprocessed.is_empty() {
+        None
+    } else {
+        matrix(alloc, case.preprocessed, 1)?
+    };
+    let public_values = elements(alloc, case.public_values)?;
+    let columns = CosetColumns {
+        trace: &trace,
+        preprocessed: preprocessed.as_ref(),
+        periodic: None,
+        public_values: &public_values,
+    };
+    if !is_off_subgroups(coset) || !columns.fits(&air.layout, coset.size()) {
+        return Ok(None);
+    }
+    let alpha = extension(case.alpha);
+    Ok(Some(quotient_values(alloc, air, &columns, log_size, 1, coset, alpha)?))
+}
+
+/// Whether the first values are those.
+fn begins(values: &[BabyBear4], expected: &[[u64; 4]]) -> bool {
+    for i in 0..expected.len() {
+        if i >= values.len() || numbers(values[i]) != expected[i] {
+            return false;
+        }
+    }
+    true
+}
+
+/// Whether the case's values are found.
+fn is_found(alloc: Global, air: &Air<BabyBear>, case: &Values) -> Result<bool, AllocError> {
+    match found(alloc, air, case)? {
+        Some(values) => Ok(begins(&values, case.quotient)),
+        None => Ok(false),
+    }
+}
+
+#[test]
+fn fibonacci_numbers(rt: HostRuntime) -> Result<(), Fail> {
+    let air = fibonacci(rt.alloc())?;
+    assert!(rt; is_found(rt.alloc(), &air, &FIBONACCI)?);
+    Ok(())
+}
+
+#[test]
+fn selected_cubes(rt: HostRuntime) -> Result<(), Fail> {
+    let air = cubes(rt.alloc())?;
+    assert!(rt; is_found(rt.alloc(), &air, &CUBES)?);
+    Ok(())
+}
+
+/// The value at this place of the second chunk of eight values, in numbers.
+fn second_chunk_entry(
+    alloc: Global,
+    values: &[BabyBear4],
+    row: usize,
+    column: usize,
+) -> Result<Option<u64>, AllocError> {
+    if values.len() != 8 {
+        return Ok(None);
+    }
+    let chunks = quotient_chunks(alloc, values, 2, 1)?;
+    let Some(chunk) = chunks.get(1) else {
+        return Ok(None);
+    };
+    let entry: Option<BabyBear> = chunk.get(row, column);
+    Ok(entry.map(|entry| entry.as_canonical_u64()))
+}
+
+#[test]
+fn a_chunk_has_every_second_value(rt: HostRuntime) -> Result<(), Fail> {
+    let mut values = Vec::new(rt.alloc());
+    for coefficients in CUBES.quotient {
+        values.push(extension(*coefficients))?;
+    }
+    assert!(rt; second_chunk_entry(rt.alloc(), &values, 2, 3)? == Some(850690884));
+    Ok(())
+}
