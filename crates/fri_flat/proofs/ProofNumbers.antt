@@ -1,8 +1,7 @@
 -- The numbers of the proof that the scheme makes and takes.
 use Rattle.std.proofs.Common.{◌≡◌}
-use Rattle.std.specs.Global.{Global}
 use Rattle.std.specs.declared.vec.Vec.{Vec}
-use Rattle.algebra.specs.Nested.{lists, nested}
+use Rattle.algebra.specs.Nested.{nested}
 use Rattle.algebra.proofs.Lists.{map-map}
 use Rattle.p3_baby_bear.specs.declared.baby_bear.BabyBear.{BabyBear}
 use Rattle.p3_baby_bear.specs.declared.baby_bear4.BabyBear4.{BabyBear4}

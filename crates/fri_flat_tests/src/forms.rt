@@ -1,6 +1,6 @@
 //! Bytes of the column 1, 3 on the domain 1, -1, opened at 5, under several contexts. Expected
-//! values are those that `flat_form.py` of tools/relation prints of `data/column.json` of `fri` with
-//! these contexts.
+//! values are those that `flat_form.py` of tools/relation prints of `data/column.json` of `fri`
+//! with these contexts.
 
 use hex::FromHexError;
 use std::alloc::{AllocError, Global};

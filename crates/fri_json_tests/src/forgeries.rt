@@ -3,7 +3,8 @@
 use crate::refusals::{MOVED, Refusal, is_refused};
 use std::alloc::{AllocError, Global};
 
-/// A commitment opened at a point, by `tools/relation/forge.py --seed 71 --log-size 4 --num-queries 6`.
+/// A commitment opened at a point, by `tools/relation/forge.py --seed 71 --log-size 4 --num-queries
+/// 6`.
 const FORGED_FIRST: &str = "\
 {\"context\":\"\",\"parameters\":{\"log_blowup\":2,\"log_final_poly_len\":0,\"max_log_arity\":2,\"\
 num_queries\":6,\"batch_proof_of_work_bits\":1,\"commit_proof_of_work_bits\":0,\"query_proof_of_wo\

@@ -1,4 +1,5 @@
-//! Answers of the example requests under several contexts, which are accepted, and their commitments.
+//! Answers of the example requests under several contexts, which are accepted, and their
+//! commitments.
 
 use crate::texts::{COLUMN, TWO_COMMITMENTS, TWO_HEIGHTS, changed, is_written, warning, written};
 use fri_json::{Command, Failure, WRITE_FAILED, answer, open, verify};
