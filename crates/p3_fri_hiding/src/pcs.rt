@@ -3,9 +3,9 @@
 ghost use Rattle.std.specs.Prelude.{◌≡◌, ◌≢◌, ◌↔◌, ◌^◌, map, IsOk, IfOk, IfErr, Err, None, refl};
 ghost use Rattle.std.specs.List.{AllZip};
 ghost use Rattle.p3_pcs.specs.Claims.{claim, opened_values};
+ghost use Rattle.p3_pcs.specs.Scheme.{same_kept};
 ghost use Rattle.p3_fri_relation.specs.Views.{proof_of};
 ghost use Rattle.p3_fri_hiding_prover.specs.Held.{IsSubgroupSize};
-ghost use Rattle.p3_fri_hiding_prover.specs.RuleLaws.{same_kept};
 ghost use Rattle.p3_fri_hiding.specs.Rules.{hiding_rules};
 ghost use Rattle.p3_fri_hiding.specs.RuleLaws.{hiding_lawful};
 

@@ -14,7 +14,6 @@ pub use Rattle.p3_fri_two_adic.specs.Held
 pub use Rattle.p3_fri_two_adic.specs.Ldes
 pub use Rattle.p3_fri_two_adic.specs.Ranges
 pub use Rattle.p3_fri_two_adic.specs.Rules
-pub use Rattle.p3_fri_two_adic.specs.RuleLaws
 pub use Rattle.p3_fri_two_adic.specs.UnivariateLaws
 pub use Rattle.p3_fri_random_openings.specs.Halves
 pub use Rattle.p3_fri_random_openings.specs.Hiding

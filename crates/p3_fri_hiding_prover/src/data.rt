@@ -19,9 +19,9 @@ pub struct HidingFriPcsProverData<T> {
     pub(crate) opened: bool,
 }
 
-/// Data that no opening has used, over the data of a commitment. That the matrices inside are masked
-/// as the scheme masks them, and that they are committed to with so many codewords and this blowup,
-/// is known to the committing calls of the scheme alone: so this isn't a method.
+/// Data that no opening has used, over the data of a commitment. That the matrices inside are
+/// masked as the scheme masks them, and that they are committed to with so many codewords and this
+/// blowup, is known to the committing calls of the scheme alone: so this isn't a method.
 pub fn new_prover_data<T>(
     inner: T,
     preprocessed: bool,

@@ -1,6 +1,6 @@
 -- What of the input makes each refusal a true one.
 use Rattle.std.specs.Prelude.{◌≡◌, ◌≢◌, ◌⊎◌, ℕ, suc, ◌+◌, ◌-◌, ◌^◌, ◌<◌, ◌≤◌, min, Bool, false}
-use Rattle.std.specs.Prelude.{IsTrue, List, [], ◌∷◌, map, length, sum, ⊤, SomeIndex}
+use Rattle.std.specs.Prelude.{IsTrue, List, [], ◌∷◌, map, length, sum, ⊤, EachIndex, SomeIndex}
 use Rattle.std.specs.Prelude.{slice_index, slice_index_or}
 use Rattle.std.specs.List.{Any, zip, range_with_len}
 use Rattle.p3_fri_pow.specs.Counts.{IsWrongCount}
@@ -189,11 +189,15 @@ module _ {A B F E C Com Path InCom InPath : Type 0} (s : Setting F E C Com Path 
         IsNotCanonical p proof s.fields.base.zero phase
     WorkFault c _ = ⊥
 
-    -- of the openings, at these positions and with these folding challenges
+    -- of the openings, at these positions and with these folding challenges: rows of a round aren't
+    -- those that the queries fold where all their quotient sums are defined, or a query ends
+    -- elsewhere
     module _ (alpha : E) (betas : List E) (positions : List ℕ) where
       abbrev pub RoundsFault : FriError A B → Type 0
       RoundsFault (CommitPhaseMmcsError _) =
-          Any (λ (k, opening). ¬ OpensRound s p claims proof alpha betas positions k opening)
+          EachIndex positions (λ j.
+          IsDefinedAt s.fields p.log_blowup (top_height p claims) claims (slice_index positions j))
+          × Any (λ (k, opening). ¬ OpensRound s p claims proof alpha betas positions k opening)
           (zip (range_with_len 0 (length (log_arities p claims)))
           (zip proof.commitments proof.rounds))
       RoundsFault FinalPolyMismatch =

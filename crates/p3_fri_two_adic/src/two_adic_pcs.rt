@@ -9,9 +9,10 @@
 ghost use Rattle.std.specs.Prelude.{◌≡◌, ◌≢◌, ◌↔◌, ◌^◌, map, IsOk, IfOk, IfErr, None, Err, refl};
 ghost use Rattle.std.specs.List.{AllZip};
 ghost use Rattle.p3_pcs.specs.Claims.{claim};
+ghost use Rattle.p3_pcs.specs.Scheme.{same_kept};
 ghost use Rattle.p3_fri_two_adic.specs.Held.{IsSubgroupSize};
 ghost use Rattle.p3_fri_two_adic.specs.Rules.{two_adic_rules};
-ghost use Rattle.p3_fri_two_adic.specs.RuleLaws.{same_kept, two_adic_lawful};
+ghost use Rattle.p3_fri_two_adic.specs.RuleLaws.{two_adic_lawful};
 
 use crate::rules::OpensTwoAdic;
 use p3_challenger_core::{CanObserve, FieldChallenger, GrindingChallenger};

@@ -7,11 +7,11 @@ ghost use Rattle.p3_field_core.specs.Coset.{coset_point};
 ghost use Rattle.p3_pcs.specs.Claims.{claim};
 ghost use Rattle.p3_periodic.specs.Values.{IsColumnValue};
 ghost use Rattle.p3_stark_pcs.specs.Evaluations.{HasPolynomials};
+ghost use Rattle.p3_stark_pcs.specs.Scheme.{same_kept_stark};
 ghost use Rattle.p3_fri_pow.specs.declared.error.FriProverError.TheVariants as refusal;
 ghost use Rattle.p3_fri_two_adic.specs.Chunks.{polynomials_on, recombined_on};
 ghost use Rattle.p3_fri_two_adic.specs.Rules.{two_adic_stark_rules};
-ghost use Rattle.p3_fri_two_adic.specs.RuleLaws.{same_kept_stark, two_adic_lawful_stark};
-ghost use Rattle.p3_fri_two_adic.specs.RuleLaws.{two_adic_plain};
+ghost use Rattle.p3_fri_two_adic.specs.RuleLaws.{two_adic_lawful_stark, two_adic_plain};
 
 use crate::rules::OpensTwoAdic;
 use crate::two_adic_pcs::TwoAdicFriPcs;

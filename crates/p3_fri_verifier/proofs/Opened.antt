@@ -356,9 +356,14 @@ module _ {F E C Com Path InCom InPath M Data Err : Type 0} {s : Setting F E C Co
           let here : GoodInputs (top_height p claims) inputs = subst (λ t. GoodInputs t inputs) read.tallest good in
           inl (inr (subst (λ (x : FriError A B). RoundsFault s p claims proof alpha betas positions x) (sym h.0)
           (h.1.0, h.1.1, ((here.sums h.1.0 h.1.1).defined, λ ends. h.1.2 (ends_at h.1.0 h.1.1 ends)))))
-      queries_fault_at {A} {B} good e (inr h) = let some = subst (λ ys. Any (λ (k, opening). ¬ OpensAt s.opens_round arities top indices_read rows_read k opening) (zip (range_with_len 0 (length arities)) ys)) pairs h.2 in inl (inr (subst (λ (x : FriError A B). RoundsFault s p claims proof alpha betas positions x) (sym h.1)
-          (subst (λ n. Any (λ (k, opening). ¬ OpensRound s p claims proof alpha betas positions k opening) (zip (range_with_len 0 n) numbered)) (ap length read.scheduled)
-          (some_numbered _ _ (length arities) numbered (λ x l no opens. no (rounds_at x.0 x.1 l opens)) some))))
+      queries_fault_at {A} {B} good e (inr h) =
+          let here : GoodInputs (top_height p claims) inputs = subst (λ t. GoodInputs t inputs) read.tallest good in
+          let some = subst (λ ys. Any (λ (k, opening). ¬ OpensAt s.opens_round arities top indices_read rows_read k opening) (zip (range_with_len 0 (length arities)) ys)) pairs h.2 in
+          inl (inr (subst (λ (x : FriError A B). RoundsFault s p claims proof alpha betas positions x) (sym h.1) (
+            (λ j l. (here.sums j l).defined),
+            subst (λ n. Any (λ (k, opening). ¬ OpensRound s p claims proof alpha betas positions k opening) (zip (range_with_len 0 n) numbered)) (ap length read.scheduled)
+                (some_numbered _ _ (length arities) numbered (λ x l no opens. no (rounds_at x.0 x.1 l opens)) some),
+          )))
 
 -- numbers of an instance in range
 module _ {E Com : Type 0} (p : Parameters) (claims : List (CommitmentClaim E Com)) (two_adicity top : ℕ) where

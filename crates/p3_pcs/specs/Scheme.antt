@@ -1,6 +1,6 @@
 -- What a scheme opens, accepts and refuses, named once.
 use Rattle.std.specs.Prelude.{◌≡◌, ◌≢◌, ◌⊎◌, ℕ, List, Option, map}
-use Rattle.std.proofs.Common.{refl, ◌∙◌}
+use Rattle.std.proofs.Common.{refl, sym, subst, ◌∙◌}
 use Rattle.p3_matrix.specs.declared.dense.RowMajorMatrix.{RowMajorMatrix}
 use Rattle.p3_pcs.specs.Claims.{Claim}
 use Rattle.p3_pcs.specs.Requests.{Held, HasColumns, Request, AreOpenable, AreHonest}
@@ -120,6 +120,13 @@ still_kept r = record {
   verifier_range = λ h. h;
   memory = refl;
 }
+
+-- the same where two schemes are equal
+pub same_kept : {S E C V Dom Com D Proof Error ProverError : Type 0}
+    (old new : S) → new ≡ old → (rules : S → Scheme E C V Dom Com D Proof Error ProverError)
+    → AreKept (rules old) (rules new)
+same_kept old new same rules =
+    subst (λ s. AreKept (rules old) (rules s)) (sym same) (still_kept (rules old))
 
 -- what is known under one scheme and kept under the next is known under a later one
 pub kept_since : {E C V Dom Com D Proof Error ProverError : Type 0}

@@ -21,10 +21,10 @@ use std::alloc::Global;
 /// began, and it leaves the challenger in the last state of that; `verify` is Ok exactly where a
 /// proof is accepted, memory aside, and then leaves the same state.
 ///
-/// A proof is bound to that state and to the claimed values, and to nothing else. So both sides have
-/// to bring the challenger there in the same way: absorb what is public and each commitment, draw
-/// the points after, then open. Where a commitment isn't absorbed before, whoever proves can choose
-/// it once the queries are known, and show any values.
+/// A proof is bound to that state and to the claimed values, and to nothing else. So both sides
+/// have to bring the challenger there in the same way: absorb what is public and each commitment,
+/// draw the points after, then open. Where a commitment isn't absorbed before, whoever proves can
+/// choose it once the queries are known, and show any values.
 pub trait Pcs<EF: Copy, C> {
     /// The elements of the matrices.
     type Val: Copy;

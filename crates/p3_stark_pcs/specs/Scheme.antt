@@ -1,4 +1,5 @@
 -- What a scheme offers to a STARK beside its openings, named once.
+use Rattle.std.proofs.Common.{refl, sym, subst}
 use Rattle.std.specs.Prelude.{◌≡◌, ◌↔◌, ◌<◌, ℕ, List, Option, None, map, length}
 use Rattle.std.specs.List.{AllZip}
 use Rattle.std.specs.declared.alloc.Global.{Global}
@@ -124,3 +125,28 @@ pub record AreKeptStark {E V Dom D ProverError : Type 0}
       → new.LdesRefuse ldes e → old.LdesRefuse ldes e
   pub random_refusals : (domains : List Dom) (e : ProverError)
       → new.RandomizationRefuses domains e → old.RandomizationRefuses domains e
+
+-- a scheme that stays as it is keeps what is known
+pub still_kept_stark : {E V Dom D ProverError : Type 0} (t : StarkScheme E V Dom D ProverError)
+    → AreKeptStark t t
+still_kept_stark t = record {
+  preprocessed = λ d h. h;
+  readable = λ d h. h;
+  extendable = λ evaluations num_chunks h. h;
+  words = λ m. refl;
+  committable = λ ldes h. h;
+  openable = λ ldes h. h;
+  low_degree = λ ldes h. h;
+  randomizable = λ domains h. h;
+  random = refl;
+  preprocessing_refusals = λ evaluations e h. h;
+  quotient_refusals = λ evaluations e h. h;
+  lde_refusals = λ ldes e h. h;
+  random_refusals = λ domains e h. h;
+}
+
+-- the same where two schemes are equal
+pub same_kept_stark : {S E V Dom D ProverError : Type 0} (old new : S) → new ≡ old
+    → (rules : S → StarkScheme E V Dom D ProverError) → AreKeptStark (rules old) (rules new)
+same_kept_stark old new same rules =
+    subst (λ s. AreKeptStark (rules old) (rules s)) (sym same) (still_kept_stark (rules old))

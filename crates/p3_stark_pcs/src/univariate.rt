@@ -31,7 +31,8 @@ use std::alloc::Global;
 /// One round of an opening may be named as preprocessing. A scheme that hides opens it without
 /// masks; to one that doesn't the name says nothing, which the laws state.
 pub trait UnivariateStarkPcs<EF: Copy, C>: Pcs<EF, C> {
-    /// Whether an opening hides all but the opened values.
+    /// Whether the scheme adds random columns and rows to what it commits to, as a hiding scheme
+    /// does.
     const ZK: bool;
 
     ghost ZK: { Bool };
@@ -156,10 +157,11 @@ pub trait UnivariateStarkPcs<EF: Copy, C>: Pcs<EF, C> {
         domain: Self::Domain,
     ) -> Result<RowMajorMatrix<Self::Val>, Self::ProverError>
         requires { (stark_rules self.now).CanEvaluate prover_data.now index domain }
-        ensures values { (stark_rules self.now).IsHonestAt prover_data.now index
+        ensures values { let r = Self.rules self.now in
+            (stark_rules self.now).IsHonestAt prover_data.now index
             → IfOk result (HoldsEvaluations embed (λ i. embed (point domain i))
-            ((Self.rules self.now).domain_size domain)
-            (held_at ((Self.rules self.now).committed_polynomials prover_data.now) index).values_at) }
+            (r.domain_size domain)
+            (held_at (r.committed_polynomials prover_data.now) index).values_at) }
         ensures refused { IfErr result EvaluationRefuses };
 
     /// The same of all columns.
@@ -197,7 +199,8 @@ pub trait UnivariateStarkPcs<EF: Copy, C>: Pcs<EF, C> {
             (λ index. IsPeriodicValue trace_domain (point quotient_domain index))
             (table_rows table)) }
         ensures exactly { MatchResult result
-            (λ _. All (HasPeriod ((Self.rules self.now).domain_size trace_domain)) periodic_table.now)
+            (λ _. All (HasPeriod ((Self.rules self.now).domain_size trace_domain))
+            periodic_table.now)
             (Refuses ((Self.rules self.now).domain_size trace_domain) periodic_table.now) };
 
     /// A commitment to random polynomials, on each domain as many as `random_columns` says, where
@@ -222,7 +225,8 @@ pub trait UnivariateStarkPcs<EF: Copy, C>: Pcs<EF, C> {
             IfSome found (λ pair. AllZip (λ m d. HasShape (r.domain_size d)
             (stark_rules self.new).random_columns m) (r.committed_polynomials pair.1)
             domains.items)) }
-        ensures refused { IfErr result ((stark_rules self.old).RandomizationRefuses domains.items) };
+        ensures refused { IfErr result
+            ((stark_rules self.old).RandomizationRefuses domains.items) };
 
     /// As `open`, where the index names the request of preprocessed columns, if there is one.
     fn open_with_preprocessing(
