@@ -1,4 +1,3 @@
-pub mod RowBlocks
 pub mod Fewest
 pub mod Halves
 pub mod Rounds

@@ -5,7 +5,6 @@ ghost use Rattle.algebra.specs.Folds.{fold_value, IsHalfInverse};
 ghost use Rattle.algebra.proofs.FoldedWords.{two_adic_lowers_degrees};
 ghost use Rattle.p3_fri_folding.specs.Rows.{StartsRow, AreFirstHalfInverses};
 
-use crate::blocks::fold_first_rows;
 use crate::challenges::Challenges;
 use crate::strategy::FriFoldingStrategy;
 use crate::table::FoldTable;
@@ -84,8 +83,8 @@ impl<
     ) -> Result<Vec<EF>, AllocError> {
         let log_height = log2_strict_usize(matrix.height());
         let table = FoldTable::<F, EF>::new(alloc, log_height, log_arity, beta)?;
-        let mut word = fold_first_rows(alloc, &table, matrix)?;
-        for i in word.len()..matrix.height() {
+        let mut word = Vec::with_capacity(alloc, matrix.height())?;
+        for i in 0..matrix.height() {
             word.push(table.fold_row(i, matrix.row(i)))?;
         }
         Ok(word)

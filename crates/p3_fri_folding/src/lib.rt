@@ -1,7 +1,6 @@
 //! The parameters of FRI, the schedule of its folds, and the fold itself.
 #![tactic(auto)]
 
-mod blocks;
 mod challenges;
 pub mod config;
 pub mod folding;

@@ -1,13 +1,12 @@
 //! What the rows of a matrix are folded by.
 
-ghost use Rattle.std.specs.Prelude.{◌≡◌, ◌+◌, ◌-◌, ◌*◌, ◌<◌, ◌≤◌, ◌^◌, ℕ, length, map};
+ghost use Rattle.std.specs.Prelude.{◌≡◌, ◌+◌, ◌-◌, ◌*◌, ◌<◌, ◌≤◌, ◌^◌, ℕ, length};
 ghost use Rattle.std.specs.Prelude.{slice_index_or, IfOk};
 ghost use Rattle.algebra.specs.Folds.{fold_value, IsHalfInverse};
 
 use crate::challenges::Challenges;
 use crate::folding::{fold_halves, half_inverses, root_inverse};
-use crate::lanes::fold_halves_by_lanes;
-use p3_field_core::{ExtensionField, PackableExtension, PackableField, PackedField, TwoAdicField};
+use p3_field_core::{ExtensionField, TwoAdicField};
 use std::alloc::{AllocError, Global};
 
 /// The challenges of the rounds in which each of `2^log_height` rows of `2^log_arity` values is
@@ -69,41 +68,5 @@ impl<F: TwoAdicField, EF: ExtensionField<F>> FoldTable<F, EF> {
             &self.challenges,
         );
         fold
-    }
-}
-
-impl<F: TwoAdicField + PackableField, EF: PackableExtension<F>> FoldTable<F, EF> {
-    /// The folds of the rows from `first` on, one to a lane.
-    pub fn fold_lanes(&self, first: usize, values: &[EF::ExtensionPacking]) -> EF::ExtensionPacking
-        requires within_word { first + EF.ExtensionPacking.WIDTH ≤ 2 ^ self.now.log_height }
-        requires width { length values.now ≡ 2 ^ self.now.log_arity }
-        ensures { (l : ℕ) → l < EF.ExtensionPacking.WIDTH → EF.ExtensionPacking.lane result l
-            ≡ fold_value EF.ops (λ k. EF.lift (F.root k)) (first + l)
-            self.now.log_height self.now.log_arity self.now.challenges.beta
-            (map (λ v. EF.ExtensionPacking.lane v l) values.now) }
-    {
-        let (fold, _) = fold_halves_by_lanes::<F, EF>(
-            values,
-            self.log_arity,
-            self.halves_from(first),
-            self.root_inverse,
-            &self.challenges,
-        );
-        fold
-    }
-
-    /// Half the inverses of the rows from `first` on, one to a lane.
-    fn halves_from(&self, first: usize) -> F::Packing
-        requires within_word { first + F.Packing.WIDTH ≤ 2 ^ self.now.log_height }
-        ensures { (l : ℕ) → l < F.Packing.WIDTH → F.Packing.lane result l
-            ≡ slice_index_or self.now.halves.items (first + l) F.ops.zero }
-    {
-        let halves = self.halves.as_slice();
-        F::Packing::from_fn(
-            |lane: usize| -> F
-                requires { first + lane < length halves.now }
-                ensures { result ≡ slice_index_or halves.entry.now (first + lane) result }
-            { halves[first + lane] },
-        )
     }
 }

@@ -8,14 +8,6 @@ use Rattle.p3_matrix.proofs.Widths.{row_width}
 use Rattle.algebra.specs.Folds.{fold_value}
 use Rattle.p3_fri_folding.proofs.folding.TwoAdicFriFoldingFriFoldingStrategy.fold_matrix.Goals as goal
 
-pub fold_first_rows-requires-clause-width : goal.fold_first_rows-requires-clause-width
-fold_first_rows-requires-clause-width g c =
-    c.requires.width ∙ ap (λ n. 2 ^ n) (sym c.in_ok-table.ensures.log_arity)
-
-pub fold_first_rows-requires-clause-height : goal.fold_first_rows-requires-clause-height
-fold_first_rows-requires-clause-height g c =
-    sym (ap (λ n. 2 ^ n) c.in_ok-table.ensures.log_height ∙ c.log2_strict_usize-log_height.ensures.power ∙ c.height.ensures)
-
 pub fold_row-requires-clause-width : goal.fold_row-requires-clause-width
 fold_row-requires-clause-width g c =
     ap length c.row.ensures.row
@@ -26,16 +18,6 @@ pub fold_row-requires-clause-within_word : goal.fold_row-requires-clause-within_
 fold_row-requires-clause-within_word g c =
     let size = ap (λ n. 2 ^ n) c.in_ok-table.ensures.log_height ∙ c.log2_strict_usize-log_height.ensures.power ∙ c.height.ensures in
     omega (arith, size, c.loop-i-test.true, c.height-i-end.ensures)
-
-pub loop-i-init : goal.loop-i-init
-loop-i-init g c h e =
-    let table = c.in_ok-table.table in
-    let fold : ℕ → ℕ → g.row.EF.Denot → ℕ → g.row.EF.Denot = λ n a x i. fold_value g.EF.Field.ops (λ k. g.EF.ExtensionField.lift (g.F.TwoAdicField.root k)) i n a x (slice_index_or (rows c.args.matrix.now) i []) in
-    let heights : table.log_height ≡ h = c.in_ok-table.ensures.log_height ∙ exponents_agree c.log2_strict_usize-log_height.result h (c.log2_strict_usize-log_height.ensures.power ∙ c.height.ensures ∙ e) in
-    c.in_ok-word.ensures.folds
-    ∙ ap (λ n. tabulate (vec_len c.in_ok-word.word) (fold n table.log_arity table.challenges.beta)) heights
-    ∙ ap₂ (λ a x. tabulate (vec_len c.in_ok-word.word) (fold h a x)) c.in_ok-table.ensures.log_arity c.in_ok-table.ensures.beta
-    ∙ ap (λ n. tabulate n (fold h c.args.log_arity c.args.beta)) (sym c.len-i.ensures)
 
 pub loop-i-preserved : goal.loop-i-preserved
 loop-i-preserved g c h e =
@@ -54,7 +36,6 @@ loop-i-preserved g c h e =
 pub returns : goal.returns
 returns g c h e =
     let size = ap (λ n. 2 ^ n) c.in_ok-table.ensures.log_height ∙ c.log2_strict_usize-log_height.ensures.power ∙ c.height.ensures in
-    let inside : c.len-i.result ≤ c.height-i-end.result = omega (arith, size, c.height-i-end.ensures, c.len-i.ensures, c.in_ok-word.ensures.within) in
-    let whole : c.loop-i.i ≡ 2 ^ h = omega (arith, e, c.height-i-end.ensures, c.loop-i-test.false, c.loop-i.auto.i-end inside) in
+    let whole : c.loop-i.i ≡ 2 ^ h = omega (arith, e, c.height-i-end.ensures, c.loop-i-test.false, c.loop-i.auto.i-end) in
     c.loop-i.invariant h e
     ∙ ap (λ n. tabulate n (λ i. fold_value g.EF.Field.ops (λ k. g.EF.ExtensionField.lift (g.F.TwoAdicField.root k)) i h c.args.log_arity c.args.beta (slice_index_or (rows c.args.matrix.now) i []))) whole
