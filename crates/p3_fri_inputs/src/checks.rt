@@ -67,7 +67,7 @@ pub fn claimed_width<F: TwoAdicField, EF: Field>(
     }
 }
 
-/// The first point with another number of values than `width`, and that number.
+/// A point with another number of values than `width`, and that number.
 fn uneven_point<EF: Field>(points: &[PointOpening<EF>], width: usize) -> Option<(usize, usize)>
     ensures { MatchOption result
         ((k : ℕ) (d : PointOpening EF) → k < length points.now →

@@ -42,7 +42,7 @@ fn are_canonical<F: Field>(bits: usize, witnesses: &[F]) -> bool
 ///
 /// # Errors
 ///
-/// `NonCanonicalPowWitness`, with the first phase whose witness isn't.
+/// `NonCanonicalPowWitness`, with a phase whose witness isn't.
 pub fn check_canonical<F: Field, EF: Copy, M: Mmcs<EF>, InputMmcs: Mmcs<F>>(
     params: &FriParameters<M>,
     proof: &FriProof<EF, M, F, Vec<BatchMultiOpening<F, InputMmcs>>>,

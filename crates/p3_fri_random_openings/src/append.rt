@@ -247,10 +247,9 @@ fn append_at_rounds<F: TwoAdicField, EF: ExtensionField<F>, Com, A, B>(
 ///
 /// # Errors
 ///
-/// A refusal names a fault that stands. The first is named in this order: the index, the number of
-/// random codewords, that of commitments, and then commitment by commitment that of matrices, and
-/// matrix by matrix the budget, the number of points and, point by point, of values. Want of memory
-/// is `OutOfMemory`. After a refusal some values may have been appended.
+/// A refusal names a fault of the claims or of the random values: of the index, of the number of
+/// random codewords, of a number of commitments, matrices, points or values, or of a budget. It is
+/// `OutOfMemory` where memory is refused. After a refusal some values may have been appended.
 pub fn append_random_values<F: TwoAdicField, EF: ExtensionField<F>, Com, A, B>(
     claims: &mut [CommitmentOpening<EF, Com, TwoAdicMultiplicativeCoset<F>>],
     random: &[Vec<Vec<Vec<EF>>>],

@@ -2,8 +2,7 @@
 
 use thiserror::Error;
 
-/// Why an opening is refused. The number of row sets and paths is looked at first, and then each
-/// index in order, by the order of these variants.
+/// Why an opening is refused: for a number of row sets or paths, or for what is shown at an index.
 #[derive(Clone, Copy, Debug, PartialEq, Eq, Error)]
 pub enum Sha256MmcsError {
     /// There aren't as many sets of rows, or not as many paths, as indices.
