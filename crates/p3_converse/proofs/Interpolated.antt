@@ -8,7 +8,7 @@ use Rattle.algebra.proofs.Lists.{Each, map-tabulate, tabulate-get_or, tabulate-e
 use Rattle.algebra.proofs.Interpolation.{interpolant_interpolates, equal_from_values}
 use Rattle.algebra.proofs.Blocks.{block_values, block_sum, length-block_sum, val-block_sum}
 use Rattle.p3_converse.specs.Positions.{part, concatenated, coefficients_at, interleaved, interpolated, stepped}
-use Rattle.p3_converse.specs.Batching.{IsUnbatching}
+use Rattle.p3_converse.specs.Batching.{unbatched, IsUnbatching}
 use Rattle.p3_converse.proofs.Positions.{length-coefficients_at}
 use Rattle.p3_converse.proofs.Concatenated.{length-concatenated, concatenated-equal, part-of_concatenated}
 use Rattle.p3_converse.proofs.Blocks.{get_or-concatenated, across, block_sum-concatenated}
@@ -87,13 +87,18 @@ module _ {A : Type 0} (F : FieldOps A) (L : IsField F) (n d : ℕ) (points : Lis
       (map-each (λ b. val F us b) (λ b. val F (block_sum F n d entries x) b) points (h ∙ sym (values_at_points x)))
 
   -- their places, as polynomials
-  pub unbatched : IsUnbatching F points polys (tabulate n (λ s. stepped F (interpolated F points polys d) s n d))
-  unbatched = record {
+  pub places : tabulate n (λ s. stepped F (interpolated F points polys d) s n d) ≡ unbatched F points polys d
+  places =
+      tabulate-equal n (λ s. stepped F (interpolated F points polys d) s n d) (λ s. across F L.ring d through_position s)
+      (λ s l. tabulate-equal d (λ m. get_or (interpolated F points polys d) (m * n + s) F.zero) (λ m. get_or (through_position m) s F.zero)
+      (λ m k. get_or-concatenated n d m s through_position F.zero (λ i _. length-through_position i) k l))
+      ∙ ap (λ k. tabulate k (λ s. across F L.ring d through_position s)) (sym count)
+
+  pub is_unbatching : IsUnbatching F points polys (unbatched F points polys d)
+  is_unbatching = record {
     values = λ x us e h.
         only_block_sum x us (e ∙ count) h
         ∙ block_sum-concatenated F L.ring n d through_position x (λ m l. length-through_position m)
-        ∙ tabulate-equal n (λ s. val F (across F L.ring d through_position s) x) (λ s. val F (stepped F (interpolated F points polys d) s n d) x)
-        (λ s l. ap (λ c. val F c x) (tabulate-equal d (λ m. get_or (through_position m) s F.zero) (λ m. get_or (interpolated F points polys d) (m * n + s) F.zero)
-        (λ m k. sym (get_or-concatenated n d m s through_position F.zero (λ i _. length-through_position i) k l))))
-        ∙ sym (map-tabulate (λ p. val F p x) n (λ s. stepped F (interpolated F points polys d) s n d));
+        ∙ sym (map-tabulate (λ p. val F p x) n (λ s. across F L.ring d through_position s))
+        ∙ ap (λ k. map (λ p. val F p x) (tabulate k (λ s. across F L.ring d through_position s))) (sym count);
   }

@@ -1,7 +1,8 @@
 -- The interleaved of polynomials that stand in vectors.
-use Rattle.std.proofs.Common.{◌≡◌, ℕ, zero, suc, ◌+◌, ◌^◌, ◌<◌, List, [], ◌∷◌, ◌++◌, Vec, All, vec_len, length, get_or, take, subst, sym, ap, ◌∙◌, arith, inl, inr}
+use Rattle.std.proofs.Common.{◌≡◌, ℕ, zero, suc, ◌+◌, ◌^◌, ◌<◌, List, [], ◌∷◌, ◌++◌, Vec, All, vec_len, length, get_or, take, subst, sym, ap, ap₂, ◌∙◌, arith, inl, inr}
 use Rattle.std.proofs.Common.{length-append}
-use Rattle.std.proofs.lemmas.List.{get_or_append_left, length-map, map-append, take_more}
+use Rattle.std.proofs.lemmas.List.{get_or_append_left, length-map, map-append, take_at, take_more}
+use Rattle.std.proofs.Math.Seq.{get_or-append_seam}
 use Rattle.std.proofs.lemmas.Bool.{cases_lt}
 use Rattle.std.proofs.Math.Nat.{pow-le-pow_right}
 use Rattle.algebra.specs.Field.{FieldOps}
@@ -49,3 +50,10 @@ all-tabulate P n f h k e l = subst P (sym (get_or-tabulate n f k e (omega (arith
 -- of each but the last, and of the last
 pub all-front : {A : Type 0} (P : A → Type 0) (xs : List A) (y : A) → All P (xs ++ y ∷ []) → All P xs
 all-front P xs y h k e l = subst P (get_or_append_left xs (y ∷ []) e k l) (h k e (omega (arith, l, length-append xs (y ∷ []))))
+
+-- a list, by its front of `n` and its last
+pub front_and_last : {A : Type 0} (n : ℕ) (xs : List A) (y : A) (all : List A) (e : A) → length xs ≡ n → all ≡ xs ++ y ∷ [] → (xs ≡ take n all) × (y ≡ get_or all n e)
+front_and_last n xs y all e count is = (
+  sym (ap (λ ys. take n ys) is ∙ take_at xs (y ∷ []) n count),
+  sym (ap₂ (λ ys k. get_or ys k e) is (sym count) ∙ get_or-append_seam xs y [] e),
+)

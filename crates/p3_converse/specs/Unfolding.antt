@@ -1,10 +1,13 @@
 -- The converse of folding.
 use Rattle.std.specs.Prelude.{◌≡◌, ℕ, ◌+◌, ◌*◌, ◌^◌, ◌<◌, ◌≤◌, List, [], ◌∷◌, length, map, vec_len}
+use Rattle.std.specs.Prelude.{take, slice_index_or}
 use Rattle.std.specs.declared.vec.Vec.{Vec}
 use Rattle.algebra.specs.Field.{FieldOps, pow}
 use Rattle.algebra.specs.Polynomial.{val, tabulate}
 use Rattle.algebra.specs.TwoAdic.{AreRoots, pt}
 use Rattle.p3_fri_core.specs.Folds.{fold_value}
+use Rattle.p3_converse.specs.Batching.{unbatched}
+use Rattle.p3_converse.specs.Positions.{interleaved}
 
 -- the length of the first vector, where all have one length
 abbrev pub common_length : {T Z : Type 0} → List (Vec T Z) → ℕ
@@ -46,3 +49,12 @@ module _ {A : Type 0} (F : FieldOps A) where
         → (i h : ℕ) (ys : List A) (u : A) → h + k ≤ top → i < 2 ^ h → length ys ≡ 2 ^ k
         → FoldsWithInput F w i h k ys u betas polys
         → (ys ≡ row_values F w i h k word) × (u ≡ val F input (pt F w i h))
+
+  -- with an input, the word's polynomial is the first `2^k` of the unbatched ones, of `d`
+  -- coefficients each, position by position
+  abbrev pub unfolded_word : (k : ℕ) (betas : List A) (polys : List (List A)) (d : ℕ) → List A
+  unfolded_word k betas polys d = interleaved F (take (2 ^ k) (unbatched F betas polys d)) d
+
+  -- and the input's is the one after them
+  abbrev pub unfolded_input : (k : ℕ) (betas : List A) (polys : List (List A)) (d : ℕ) → List A
+  unfolded_input k betas polys d = slice_index_or (unbatched F betas polys d) (2 ^ k) []

@@ -2,7 +2,7 @@
 
 ghost use Rattle.std.specs.Prelude.{◌≡◌, ◌<◌, length, vec_len, All, IfOk};
 ghost use Rattle.algebra.specs.Interpolation.{AreDistinct};
-ghost use Rattle.p3_converse.specs.Batching.{IsUnbatching};
+ghost use Rattle.p3_converse.specs.Batching.{unbatched, IsUnbatching};
 ghost use Rattle.algebra.specs.Nested.{lists};
 ghost use Rattle.p3_converse.specs.Unfolding.{common_length};
 
@@ -32,6 +32,8 @@ pub fn unbatch<EF: Field>(
     ensures count { IfOk result (λ ps. vec_len ps ≡ length alphas.now) }
     ensures lengths { IfOk result
         (λ ps. All (λ p. vec_len p ≡ common_length polys.now) ps.items) }
+    ensures coefficients { IfOk result (λ ps. lists ps.items
+        ≡ unbatched EF.ops alphas.now (lists polys.now) (common_length polys.now)) }
     ensures values { IfOk result
         (λ ps. IsUnbatching EF.ops alphas.now (lists polys.now) (lists ps.items)) }
 {

@@ -5,6 +5,7 @@ ghost use Rattle.p3_converse.specs.Branches.{log_sum, input_logs, IsTreeUnfoldin
 ghost use Rattle.p3_converse.specs.Branches.{with_input, IsRoundUnfolding};
 ghost use Rattle.p3_converse.specs.Trees.{tree_of, leaf_length, HasPaths, HasLeaves};
 ghost use Rattle.p3_converse.specs.Trees.{beta_count, HasBetas};
+ghost use Rattle.p3_converse.specs.TreeWords.{round_word, round_inputs, tree_word, tree_inputs};
 ghost use Rattle.algebra.specs.Interpolation.{AreDistinct};
 ghost use Rattle.algebra.specs.Nested.{lists};
 ghost use Rattle.p3_converse.specs.Unfolding.{common_length};
@@ -55,6 +56,10 @@ pub fn unfold_tree<EF: Field>(
         (λ u. vec_len u.0 ≡ leaf_length (tree_of tree.now) * 2 ^ log_sum rounds.now) }
     ensures input_lengths { IfOk result (λ u. map (λ v. vec_len v) u.1.items
         ≡ map (λ s. leaf_length (tree_of tree.now) * 2 ^ s) (input_logs rounds.now)) }
+    ensures word_coefficients { IfOk result (λ u. u.0.items
+        ≡ tree_word EF.ops (leaf_length (tree_of tree.now)) rounds.now (tree_of tree.now)) }
+    ensures input_coefficients { IfOk result (λ u. lists u.1.items
+        ≡ tree_inputs EF.ops (leaf_length (tree_of tree.now)) rounds.now (tree_of tree.now)) }
     ensures values { IfOk result (λ u. IsTreeUnfolding EF.ops rounds.now (tree_of tree.now)
         u.0.items (lists u.1.items)) }
 {
@@ -94,6 +99,11 @@ fn undo_round<EF: Field>(
         (λ u. vec_len u.0 ≡ common_length polys.now * 2 ^ log_arity) }
     ensures input_lengths { IfOk result (λ u. map (λ v. vec_len v) u.1.items
         ≡ with_input has_input (common_length polys.now) (map (λ v. vec_len v) later.items)) }
+    ensures word_coefficients { IfOk result (λ u. u.0.items ≡ round_word EF.ops
+        (log_arity, has_input) betas.now (lists polys.now) (common_length polys.now)) }
+    ensures input_coefficients { IfOk result (λ u. lists u.1.items
+        ≡ round_inputs EF.ops (log_arity, has_input) betas.now (lists polys.now)
+            (common_length polys.now) (lists later.items)) }
     ensures undone { IfOk result (λ u. IsRoundUnfolding EF.ops (log_arity, has_input) betas.now
         (lists polys.now) u.0.items (lists later.items) (lists u.1.items)) }
 {

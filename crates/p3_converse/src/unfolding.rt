@@ -7,7 +7,9 @@ ghost use Rattle.p3_converse.specs.Branches.{IsTreeUnfolding};
 ghost use Rattle.p3_converse.specs.Trees.{one_round};
 ghost use Rattle.algebra.specs.Nested.{lists};
 ghost use Rattle.p3_converse.specs.Unfolding.{common_length};
+ghost use Rattle.p3_converse.specs.Positions.{interpolated};
 ghost use Rattle.p3_converse.specs.Unfolding.{IsUnfolding, IsUnfoldingWithInput};
+ghost use Rattle.p3_converse.specs.Unfolding.{unfolded_word, unfolded_input};
 
 use crate::batching::unbatch;
 use crate::by_position::{interleave, interpolate_positions};
@@ -39,6 +41,8 @@ pub fn unfold<EF: Field>(
     requires one_length { All (λ p. vec_len p ≡ common_length polys.now) polys.now }
     requires fits { common_length polys.now * 2 ^ log_arity < 2 ^ 64 }
     ensures length { IfOk result (λ p. vec_len p ≡ common_length polys.now * 2 ^ log_arity) }
+    ensures coefficients { IfOk result (λ p. p.items
+        ≡ interpolated EF.ops betas.now (lists polys.now) (common_length polys.now)) }
     ensures rows { IfOk result
         (λ p. IsUnfolding EF.ops log_arity betas.now (lists polys.now) p.items) }
     ensures one_round { IfOk result (λ p. IsTreeUnfolding EF.ops ((log_arity, false) ∷ [])
@@ -75,6 +79,10 @@ pub fn unfold_with_input<EF: Field>(
     ensures word_length { IfOk result
         (λ u. vec_len u.0 ≡ common_length polys.now * 2 ^ log_arity) }
     ensures input_length { IfOk result (λ u. vec_len u.1 ≡ common_length polys.now) }
+    ensures word_coefficients { IfOk result (λ u. u.0.items
+        ≡ unfolded_word EF.ops log_arity betas.now (lists polys.now) (common_length polys.now)) }
+    ensures input_coefficients { IfOk result (λ u. u.1.items
+        ≡ unfolded_input EF.ops log_arity betas.now (lists polys.now) (common_length polys.now)) }
     ensures rows { IfOk result (λ u. IsUnfoldingWithInput EF.ops log_arity betas.now
         (lists polys.now) u.0.items u.1.items) }
     ensures one_round { IfOk result (λ u. IsTreeUnfolding EF.ops ((log_arity, true) ∷ [])

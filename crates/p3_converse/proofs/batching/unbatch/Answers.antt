@@ -3,12 +3,12 @@ use Rattle.std.proofs.lemmas.List.{map-append}
 use Rattle.algebra.specs.Polynomial.{tabulate}
 use Rattle.algebra.proofs.Lists.{each_from_All, tabulate-next, length-tabulate}
 use Rattle.algebra.proofs.Nested.{length-lists}
-use Rattle.p3_converse.specs.Batching.{IsUnbatching}
+use Rattle.p3_converse.specs.Batching.{unbatched, IsUnbatching}
 use Rattle.p3_converse.specs.Positions.{stepped}
 use Rattle.algebra.specs.Nested.{lists}
 use Rattle.p3_converse.specs.Unfolding.{common_length}
 use Rattle.p3_converse.proofs.Positions.{common_length-first, one_length-lists, one_length-vectors, all-tabulate}
-use Rattle.p3_converse.proofs.Interpolated.{length-interpolated, unbatched}
+use Rattle.p3_converse.proofs.Interpolated.{length-interpolated, places, is_unbatching}
 use Rattle.p3_converse.proofs.batching.unbatch.Goals as goal
 
 pub stepped-requires-clause-count : goal.stepped-requires-clause-count
@@ -55,8 +55,8 @@ returns-clause-lengths g c =
     (subst (λ ps. All (λ p. length p ≡ common_length polys) ps) (sym here.invariant)
     (all-tabulate (λ p. length p ≡ common_length polys) here.s places (λ s. length-tabulate d (λ m. get_or c.in_ok-entries.entries.items (m * length c.args.alphas.now + s) F.zero) ∙ degree)))
 
-pub returns-clause-values : goal.returns-clause-values
-returns-clause-values g c =
+pub returns-clause-coefficients : goal.returns-clause-coefficients
+returns-clause-coefficients g c =
     let F = g.EF.Field.ops in
     let here = c.loop-s in
     let alphas = c.args.alphas.now in
@@ -66,7 +66,19 @@ returns-clause-values g c =
     let some : 0 < length polys = omega (arith, c.requires.as_many, c.requires.some) in
     let degree : d ≡ common_length polys = c.len-degree_bound.ensures ∙ common_length-first polys c.index-polys-0.result some c.index-polys-0.is in
     let all : here.s ≡ n = omega (arith, here.auto.s-end, c.loop-s-test.false) in
+    here.invariant
+    ∙ ap₂ (λ m xs. tabulate m (λ s. stepped F xs s n d)) all c.in_ok-entries.ensures
+    ∙ places F g.met.EF.Field.laws n d alphas (lists polys) c.requires.distinct (let same : length alphas ≡ length alphas = omega arith in same) (length-lists polys ∙ c.requires.as_many)
+    (each_from_All (λ p. length p ≡ d) (lists polys) (one_length-lists polys d (λ t z l. c.requires.one_length t z l ∙ sym degree)))
+    ∙ ap (λ k. unbatched F alphas (lists polys) k) degree
+
+pub returns-clause-values : goal.returns-clause-values
+returns-clause-values g c =
+    let F = g.EF.Field.ops in
+    let alphas = c.args.alphas.now in
+    let polys = c.args.polys.now in
+    let d = common_length polys in
     subst (λ ps. IsUnbatching F alphas (lists polys) ps)
-    (sym (here.invariant ∙ ap₂ (λ m xs. tabulate m (λ s. stepped F xs s n d)) all c.in_ok-entries.ensures))
-    (unbatched F g.met.EF.Field.laws n d alphas (lists polys) c.requires.distinct (let same : length alphas ≡ length alphas = omega arith in same) (length-lists polys ∙ c.requires.as_many)
-    (each_from_All (λ p. length p ≡ d) (lists polys) (one_length-lists polys d (λ t z l. c.requires.one_length t z l ∙ sym degree))))
+    (sym (returns-clause-coefficients g c))
+    (is_unbatching F g.met.EF.Field.laws (length alphas) d alphas (lists polys) c.requires.distinct (let same : length alphas ≡ length alphas = omega arith in same) (length-lists polys ∙ c.requires.as_many)
+    (each_from_All (λ p. length p ≡ d) (lists polys) (one_length-lists polys d c.requires.one_length)))

@@ -34,6 +34,18 @@ returns-clause-length g c =
     ∙ ap (λ n. n * 2 ^ k) degree)
     c.interpolate_positions.ensures
 
+pub returns-clause-coefficients : goal.returns-clause-coefficients
+returns-clause-coefficients g c =
+    let F = g.EF.Field.ops in
+    let betas = c.args.betas.now in
+    let polys = c.args.polys.now in
+    let d = c.len-degree_bound.result in
+    let some : 0 < length polys = omega (arith, c.requires.as_many, pow_pos c.args.log_arity) in
+    let degree : d ≡ common_length polys = c.len-degree_bound.ensures ∙ common_length-first polys c.index-polys-0.result some c.index-polys-0.is in
+    IfOk-weaker c.interpolate_positions.result (λ v. v.items ≡ interpolated F betas (lists polys) d) (λ v. v.items ≡ interpolated F betas (lists polys) (common_length polys))
+    (λ v e. e ∙ ap (λ n. interpolated F betas (lists polys) n) degree)
+    c.interpolate_positions.ensures
+
 pub returns-clause-rows : goal.returns-clause-rows
 returns-clause-rows g c =
     let F = g.EF.Field.ops in
