@@ -54,7 +54,7 @@ is_node_of rounds later tree v d is e paths betas leaves =
           leaves = l;
         })
 
-views-more : {A : Type 0} (trees : List (A × FoldTree A)) (k : ℕ) (t : A × FoldTree A) → k < length trees → t ≡ get_or trees k t → views (take (k + 1) trees) ≡ views (take k trees) ++ (t.0, tree_of t.1) ∷ []
+pub views-more : {A : Type 0} (trees : List (A × FoldTree A)) (k : ℕ) (t : A × FoldTree A) → k < length trees → t ≡ get_or trees k t → views (take (k + 1) trees) ≡ views (take k trees) ++ (t.0, tree_of t.1) ∷ []
 views-more trees k t l e =
     ap (λ ts. views ts) (take_more trees k t l ∙ ap (λ u. take k trees ++ u ∷ []) (sym e)) ∙ map-append (λ u. (u.0, tree_of u.1)) (take k trees) (t ∷ [])
 

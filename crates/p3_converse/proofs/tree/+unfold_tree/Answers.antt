@@ -4,12 +4,15 @@ use Rattle.std.specs.List.{AllZip}
 use Rattle.std.proofs.lemmas.Result.{IfOk-weaker}
 use Rattle.std.proofs.lemmas.List.Elements.{All-push}
 use Rattle.p3_converse.specs.Branches.{log_sum, input_logs, with_input, IsTreeUnfolding, IsRoundUnfolding}
-use Rattle.p3_converse.specs.Trees.{tree_of, leaf_length, leaf}
+use Rattle.p3_converse.specs.Trees.{tree_of, leaf_length, leaf, subtrees}
+use Rattle.p3_converse.specs.TreeWords.{round_word, round_inputs, tree_word, tree_words, tree_inputs, last_inputs}
+use Rattle.std.proofs.lemmas.List.{take_all}
 use Rattle.algebra.specs.Nested.{lists}
 use Rattle.p3_converse.specs.Unfolding.{common_length}
 use Rattle.p3_converse.proofs.Trees.{views, tree_of-Leaf}
 use Rattle.p3_converse.proofs.Branches.{UnfoldsTo, is_leaf_unfolding}
 use Rattle.p3_converse.proofs.Nodes.{first_round, IsNodeOf, is_node_of, IsFit, subtree_fits, conditions, no_rounds, one_tree_more, its_inputs, with_input-map, node_unfolds, AreUnfolded, are_unfolded}
+use Rattle.p3_converse.proofs.TreeWords.{words_next, inputs_next, node_word, node_inputs}
 use Rattle.p3_converse.proofs.tree.+unfold_tree.Given.{Over}
 use Rattle.p3_converse.proofs.tree.+unfold_tree.Goals.{After-deref-in-Node-3}
 use Rattle.p3_converse.proofs.tree.+unfold_tree.Goals as goal
@@ -61,6 +64,11 @@ loop-subtree-preserved g t c =
           (one_tree_more F later ts k x here.polys.items word (lists inputs.items) c.loop-subtree-test.true c.subtree-item.is found.values here.invariant.words);
       lengths = subst (λ ps. All (λ p. vec_len p ≡ d * 2 ^ log_sum later) ps) (sym pushed)
           (All-push (λ p. vec_len p ≡ d * 2 ^ log_sum later) here.polys.items word here.invariant.lengths (found.word_length ∙ ap (λ n. n * 2 ^ log_sum later) fit.leaf));
+      word_coefficients = subst (λ ps. lists ps ≡ tree_words F d later (subtrees (views (take (k + 1) ts)))) (sym pushed)
+          (words_next F d later ts k x c.loop-subtree-test.true c.subtree-item.is here.polys.items word here.invariant.word_coefficients
+          (found.word_coefficients ∙ ap (λ n. tree_word F n later (tree_of x.1)) fit.leaf));
+      input_coefficients = inputs_next F d later ts k x c.loop-subtree-test.true c.subtree-item.is (lists inputs.items)
+          (found.input_coefficients ∙ ap (λ n. tree_inputs F n later (tree_of x.1)) fit.leaf);
       inputs = λ _. its_inputs F later ts k x word.items (lists inputs.items) c.loop-subtree-test.true c.subtree-item.is found.values;
       input_lengths = λ _. found.input_lengths ∙ ap (λ n. map (λ s. n * 2 ^ s) (input_logs later)) fit.leaf;
     }
@@ -127,6 +135,62 @@ returns-after-loop-subtree-clause-input_lengths g t c =
     ∙ sym (with_input-map (λ s. d * 2 ^ s) has_input (log_sum later) (input_logs later))
     ∙ ap (λ rs. map (λ s. d * 2 ^ s) (input_logs rs)) (sym known.split))
     c.undo_round.ensures.input_lengths
+
+-- what is behind all subtrees: the words and the last one's inputs
+all_words : (g : Over) (t : ℕ) (c : After-deref-in-Node-3 g t)
+    → let F = g.EF.Field.ops in
+    let d = leaf_length (tree_of c.args.tree.now) in
+    let later = slice_range c.args.rounds.now 1 (length c.args.rounds.now) in
+    let trees = subtrees (views c.deref-subtree-items.result.now) in
+    (lists c.deref-in-Node-3.result.now ≡ tree_words F d later trees) × (lists c.loop-subtree.inputs.items ≡ last_inputs F d later [] trees)
+all_words g t c =
+    let F = g.EF.Field.ops in
+    let d = leaf_length (tree_of c.args.tree.now) in
+    let later = slice_range c.args.rounds.now 1 (length c.args.rounds.now) in
+    let ts = c.deref-subtree-items.result.now in
+    let whole : take c.loop-subtree.subtree-index ts ≡ ts = take_all c.loop-subtree.subtree-index ts (omega (arith, c.loop-subtree-test.false)) in (
+      ap (λ vs. lists vs) c.deref-in-Node-3.ensures.value
+          ∙ c.loop-subtree.invariant.word_coefficients
+          ∙ ap (λ us. tree_words F d later (subtrees (views us))) whole,
+      c.loop-subtree.invariant.input_coefficients
+          ∙ ap (λ us. last_inputs F d later [] (subtrees (views us))) whole,
+    )
+
+pub returns-after-loop-subtree-clause-word_coefficients : goal.returns-after-loop-subtree-clause-word_coefficients
+returns-after-loop-subtree-clause-word_coefficients g t c =
+    let F = g.EF.Field.ops in
+    let rounds = c.args.rounds.now in
+    let later = slice_range rounds 1 (length rounds) in
+    let tree = c.args.tree.now in
+    let d = leaf_length (tree_of tree) in
+    let given = c.deref-in-Node-3.result.now in
+    let here = (goal.at.returns-after-loop-subtree-clause-word_coefficients g t c).After-deref-in-Node-3 in
+    let known = unfolded g t here in
+    IfOk-weaker c.undo_round.result
+    (λ u. u.0.items ≡ round_word F (first_round rounds) c.deref-in-Node-2.result.now (lists given) (common_length given))
+    (λ u. u.0.items ≡ tree_word F d rounds (tree_of tree))
+    (λ u e. e ∙ node_word F d rounds later tree c.in-Node.subtrees c.deref-subtree-items.result.now c.deref-in-Node-2.result.now given
+    c.in-Node.is c.deref-subtree-items.ensures.value known.split known.challenges (all_words g t here).0 known.common)
+    c.undo_round.ensures.word_coefficients
+
+pub returns-after-loop-subtree-clause-input_coefficients : goal.returns-after-loop-subtree-clause-input_coefficients
+returns-after-loop-subtree-clause-input_coefficients g t c =
+    let F = g.EF.Field.ops in
+    let rounds = c.args.rounds.now in
+    let later = slice_range rounds 1 (length rounds) in
+    let tree = c.args.tree.now in
+    let d = leaf_length (tree_of tree) in
+    let given = c.deref-in-Node-3.result.now in
+    let inputs = c.loop-subtree.inputs.items in
+    let here = (goal.at.returns-after-loop-subtree-clause-input_coefficients g t c).After-deref-in-Node-3 in
+    let known = unfolded g t here in
+    let behind = all_words g t here in
+    IfOk-weaker c.undo_round.result
+    (λ u. lists u.1.items ≡ round_inputs F (first_round rounds) c.deref-in-Node-2.result.now (lists given) (common_length given) (lists inputs))
+    (λ u. lists u.1.items ≡ tree_inputs F d rounds (tree_of tree))
+    (λ u e. e ∙ node_inputs F d rounds later tree c.in-Node.subtrees c.deref-subtree-items.result.now c.deref-in-Node-2.result.now given
+    c.in-Node.is c.deref-subtree-items.ensures.value known.split known.challenges behind.0 known.common (lists inputs) behind.1)
+    c.undo_round.ensures.input_coefficients
 
 pub returns-after-loop-subtree-clause-values : goal.returns-after-loop-subtree-clause-values
 returns-after-loop-subtree-clause-values g t c =
