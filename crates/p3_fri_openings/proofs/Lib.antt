@@ -8,6 +8,7 @@ pub mod ValueSums
 pub mod Tables
 pub mod Pushed
 pub mod AskedPoints
+pub mod Attained
 pub mod RoundTables
 pub mod RequestRounds
 pub mod Example

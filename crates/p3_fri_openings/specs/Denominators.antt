@@ -1,13 +1,14 @@
 -- Tables of inverse differences.
-use Rattle.std.specs.Prelude.{◌≡◌, ◌≤◌, ◌<◌, ◌^◌, ℕ, List, length, map, All, vec_len}
-use Rattle.std.specs.List.{HoldsAt}
+use Rattle.std.specs.Prelude.{◌≡◌, ◌≤◌, ◌<◌, ◌^◌, ◌⊎◌, ℕ, List, length, map, All, vec_len}
+use Rattle.std.specs.List.{Any, HoldsAt}
 use Rattle.algebra.specs.Interpolation.{AreDistinct}
+use Rattle.p3_field_core.specs.Coset.{bit_reversed_points}
 use Rattle.p3_matrix.specs.Matrix.{rows}
 use Rattle.p3_fri_relation.specs.Setting.{Fields}
 use Rattle.p3_fri_openings.specs.declared.asked_points.AskedPoint.{AskedPoint}
 use Rattle.p3_fri_openings.specs.declared.denominators.PointDenominators.{PointDenominators}
 use Rattle.p3_fri_openings.specs.declared.round.OpeningRound.{OpeningRound}
-use Rattle.p3_fri_openings.specs.Rounds.{Asked, asked_in}
+use Rattle.p3_fri_openings.specs.Rounds.{Asked, HasHeight, asked_in, log_height}
 use Rattle.p3_fri_openings.specs.Points.{asked_point, IsTallest}
 use Rattle.p3_fri_openings.specs.Refusals.{IsOff}
 use Rattle.p3_fri_openings.specs.Committed.{coset_of, inverse_differences}
@@ -50,6 +51,14 @@ module _ {F E : Type 0} (f : Fields F E) where
   abbrev pub HoldsCosets : (coset : List F) → OpeningRound F E → Type 0
   HoldsCosets coset round =
       All (λ matrix. StartsWith coset (coset_of f (length (rows matrix)))) round.matrices.now
+
+  -- the evaluation coset of the greatest log height of the rounds' matrices, in bit-reversed order,
+  -- and of one point where there is no matrix
+  pub record IsGreatestCoset (coset : List F) (rounds : List (OpeningRound F E)) : Type 0 where
+    pub log_size : ℕ
+    pub greatest : All (λ r. All (λ m. log_height m ≤ log_size) r.matrices.now) rounds
+    pub attained : (log_size ≡ 0) ⊎ Any (HasHeight log_size) rounds
+    pub points : coset ≡ bit_reversed_points f.base (f.root log_size) f.shift log_size
 
   -- the point lies off the coset of the matrix's height, with which `coset` begins
   pub record HasDenominators (coset : List F) (asked : AskedPoint E) : Type 0 where

@@ -1,5 +1,6 @@
 -- The matrices that a prover opens, and the points at which it does.
 use Rattle.std.specs.Prelude.{◌≡◌, ◌≤◌, ℕ, List, length, All}
+use Rattle.std.specs.List.{Any}
 use Rattle.std.specs.Int.{IsPowerOfTwo}
 use Rattle.algebra.specs.Nested.{lists}
 use Rattle.p3_matrix.specs.declared.dense.RowMajorMatrix.{RowMajorMatrix}
@@ -29,6 +30,10 @@ module _ {F E : Type 0} where
   -- the matrices of a round with their points
   abbrev pub asked_in : OpeningRound F E → List (Asked F E)
   asked_in round = zip_with ask round.matrices.now (lists round.points.now)
+
+  -- some matrix of a round has this log height
+  abbrev pub HasHeight : ℕ → OpeningRound F E → Type 0
+  HasHeight height round = Any (λ m. log_height m ≡ height) round.matrices.now
 
   -- a round that may be opened, over a field of this two-adicity: one list of points for each
   -- matrix, and each on a coset

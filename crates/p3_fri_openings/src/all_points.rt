@@ -1,13 +1,14 @@
 //! The inverse differences of all points at which matrices are opened.
 
-ghost use Rattle.std.specs.Prelude.{◌≡◌, ◌≤◌, ◌↔◌, All, Contains, IsTrue, IfOk, map, vec_len};
+ghost use Rattle.std.specs.Prelude.{◌≡◌, ◌≤◌, ◌↔◌, ◌⊎◌, All, Contains, IsTrue, IfOk, map, vec_len};
+ghost use Rattle.std.specs.List.{Any};
 ghost use Rattle.algebra.specs.Interpolation.{AreDistinct};
-ghost use Rattle.p3_fri_openings.specs.Rounds.{HasCoset, IsRound, log_height};
+ghost use Rattle.p3_fri_openings.specs.Rounds.{HasCoset, HasHeight, IsRound, log_height};
 ghost use Rattle.p3_fri_openings.specs.Refusals.{ArePointsOff};
 ghost use Rattle.p3_fri_openings.specs.Points.{asked_points};
 ghost use Rattle.p3_fri_openings.specs.Denominators.{AreInverses, ArePointsCovered, HoldsCosets};
 ghost use Rattle.p3_fri_openings.specs.Denominators.{points_of_table, size_of};
-ghost use Rattle.p3_fri_openings.specs.Denominators.{HasDenominators, IsTableFor};
+ghost use Rattle.p3_fri_openings.specs.Denominators.{HasDenominators, IsGreatestCoset, IsTableFor};
 
 use crate::asked_points::{AskedPoint, asked_points, tallest_at};
 use crate::checks::are_equal;
@@ -34,6 +35,7 @@ pub struct Denominators<F, EF> {
 fn greatest_log_height_of<F: TwoAdicField>(matrices: &[RowMajorMatrix<F>]) -> usize
     requires cosets { All (HasCoset F.TWO_ADICITY) matrices.now }
     ensures greatest { All (λ m. log_height m ≤ result) matrices.now }
+    ensures attained { (result ≡ 0) ⊎ Any (λ m. log_height m ≡ result) matrices.now }
     ensures within { result ≤ F.TWO_ADICITY }
 {
     let mut greatest = 0;
@@ -49,6 +51,7 @@ fn greatest_log_height<F: TwoAdicField, EF: ExtensionField<F>>(
 ) -> usize
     requires rounds { All (IsRound F.TWO_ADICITY) rounds.now }
     ensures greatest { All (λ r. All (λ m. log_height m ≤ result) r.matrices.now) rounds.now }
+    ensures attained { (result ≡ 0) ⊎ Any (HasHeight result) rounds.now }
     ensures within { result ≤ F.TWO_ADICITY }
 {
     let mut greatest = 0;
@@ -64,8 +67,10 @@ fn greatest_coset<F: TwoAdicField, EF: ExtensionField<F>>(
     rounds: &[OpeningRound<'_, F, EF>],
 ) -> Result<Vec<F>, AllocError>
     requires rounds { All (IsRound F.TWO_ADICITY) rounds.now }
-    ensures { IfOk result (λ coset.
+    ensures holds { IfOk result (λ coset.
         All (HoldsCosets ⟦<EF as ChallengeField<F>>⟧.fields coset.items) rounds.now) }
+    ensures greatest { IfOk result (λ coset.
+        IsGreatestCoset ⟦<EF as ChallengeField<F>>⟧.fields coset.items rounds.now) }
 {
     let coset = TwoAdicMultiplicativeCoset {
         shift: F::GENERATOR,
@@ -141,6 +146,8 @@ pub fn denominators_of_rounds<F: TwoAdicField, EF: ExtensionField<F>>(
     requires off { All (ArePointsOff ⟦<EF as ChallengeField<F>>⟧.fields) rounds.now }
     ensures coset { IfOk result (λ d.
         All (HoldsCosets ⟦<EF as ChallengeField<F>>⟧.fields d.coset.items) rounds.now) }
+    ensures greatest { IfOk result (λ d.
+        IsGreatestCoset ⟦<EF as ChallengeField<F>>⟧.fields d.coset.items rounds.now) }
     ensures inverses { IfOk result (λ d.
         All (AreInverses ⟦<EF as ChallengeField<F>>⟧.fields) d.entries.items) }
     ensures covered { IfOk result (λ d. All (ArePointsCovered d.entries.items) rounds.now) }

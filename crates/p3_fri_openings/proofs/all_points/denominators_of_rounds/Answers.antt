@@ -23,7 +23,7 @@ entries_for-requires g c =
     (subst (λ xs. All (HasDenominators f xs) (asked_points c.args.rounds.now))
     (sym c.deref.ensures.value)
     (all_served f c.in_ok-coset.coset.items c.args.rounds.now c.requires.rounds c.requires.off
-    c.in_ok-coset.ensures))
+    c.in_ok-coset.ensures.holds))
 
 pub returns-clause-inverses : goal.returns-clause-inverses
 returns-clause-inverses g c = c.in_ok-entries.ensures.table.inverses

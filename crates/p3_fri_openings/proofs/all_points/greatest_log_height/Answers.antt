@@ -1,5 +1,6 @@
 use Rattle.std.proofs.Common.{◌≤◌, All, arith}
-use Rattle.p3_fri_openings.specs.Rounds.{IsRound, log_height}
+use Rattle.p3_fri_openings.specs.Rounds.{HasHeight, IsRound, log_height}
+use Rattle.p3_fri_openings.proofs.Attained.{attained_next}
 use Rattle.p3_fri_openings.proofs.First.{at_item, to_the_end}
 use Rattle.p3_fri_openings.proofs.Pushed.{weaker_next}
 use Rattle.p3_fri_openings.proofs.all_points.greatest_log_height.Goals as goal
@@ -23,6 +24,11 @@ loop-round-preserved g c =
           c.loop-round.invariant.greatest
           (λ k d l. let b = c.greatest_log_height_of.ensures.greatest k d l in
           omega (arith, b, c.max-greatest.ensures));
+      attained = attained_next (λ n r. HasHeight n r) c.args.rounds.now c.loop-round.round-index
+          c.round-item.result old c.greatest_log_height_of.result new c.loop-round-test.true
+          c.round-item.is (omega (arith, c.max-greatest.ensures))
+          (λ l. omega (arith, l, c.max-greatest.ensures))
+          c.greatest_log_height_of.ensures.attained c.loop-round.invariant.attained;
       within = omega (
         arith,
         c.greatest_log_height_of.ensures.within,

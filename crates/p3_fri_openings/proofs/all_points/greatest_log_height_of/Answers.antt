@@ -1,5 +1,6 @@
-use Rattle.std.proofs.Common.{◌≤◌, arith, ◌∙◌}
+use Rattle.std.proofs.Common.{◌≡◌, ◌≤◌, inr, arith, sym, ◌∙◌}
 use Rattle.p3_fri_openings.specs.Rounds.{HasCoset, log_height}
+use Rattle.p3_fri_openings.proofs.Attained.{attained_next}
 use Rattle.p3_fri_openings.proofs.First.{at_item, to_the_end}
 use Rattle.p3_fri_openings.proofs.Log2.{log2_is}
 use Rattle.p3_fri_openings.proofs.Pushed.{weaker_next}
@@ -20,6 +21,11 @@ loop-matrix-preserved g c =
           c.loop-matrix.matrix-index matrix c.loop-matrix-test.true c.matrix-item.is
           (λ m h. omega (arith, h, c.max-greatest.ensures)) c.loop-matrix.invariant.greatest
           (omega (arith, is, c.max-greatest.ensures));
+      attained = attained_next (λ n m. log_height m ≡ n) c.args.matrices.now
+          c.loop-matrix.matrix-index matrix old c.log2_strict_usize.result new
+          c.loop-matrix-test.true c.matrix-item.is (omega (arith, c.max-greatest.ensures))
+          (λ l. omega (arith, l, c.max-greatest.ensures)) (inr (sym is))
+          c.loop-matrix.invariant.attained;
       within = omega (arith, is, own, c.loop-matrix.invariant.within, c.max-greatest.ensures);
     }
 
