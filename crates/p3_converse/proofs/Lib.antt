@@ -8,5 +8,5 @@ pub mod Quotients
 pub mod Trees
 pub mod Branches
 pub mod Nodes
-pub mod TreeWords
+pub mod TreeCoefficients
 pub mod EachTree

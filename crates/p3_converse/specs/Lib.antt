@@ -5,4 +5,4 @@ pub mod Batching
 pub mod Quotients
 pub mod Trees
 pub mod Branches
-pub mod TreeWords
+pub mod TreeCoefficients

@@ -50,11 +50,11 @@ module _ {A : Type 0} (F : FieldOps A) where
         → FoldsWithInput F w i h k ys u betas polys
         → (ys ≡ row_values F w i h k word) × (u ≡ val F input (pt F w i h))
 
-  -- with an input, the word's polynomial is the first `2^k` of the unbatched ones, of `d`
-  -- coefficients each, position by position
+  -- the word's polynomial of a round with an input: the first `2^k` of the unbatched polynomials,
+  -- of `d` coefficients each, position by position
   abbrev pub unfolded_word : (k : ℕ) (betas : List A) (polys : List (List A)) (d : ℕ) → List A
   unfolded_word k betas polys d = interleaved F (take (2 ^ k) (unbatched F betas polys d)) d
 
-  -- and the input's is the one after them
+  -- the input's polynomial of that round: the unbatched one after those of the word
   abbrev pub unfolded_input : (k : ℕ) (betas : List A) (polys : List (List A)) (d : ℕ) → List A
   unfolded_input k betas polys d = slice_index_or (unbatched F betas polys d) (2 ^ k) []

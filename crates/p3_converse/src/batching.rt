@@ -19,7 +19,9 @@ use std::alloc::{AllocError, Global};
 /// length, as coefficients, the constant first; the answer has as many polynomials of that length.
 /// `Err` means that memory was wanting.
 ///
-/// For `n` alphas that takes some `d * n^2` multiplications and one inversion.
+/// Coefficient `s` of the polynomial through the points `(alphas[t], polys[t][m])` becomes
+/// coefficient `m` of polynomial `s`. For `n` alphas that takes some `d * n^2` multiplications and
+/// one inversion.
 pub fn unbatch<EF: Field>(
     alloc: Global,
     alphas: &[EF],

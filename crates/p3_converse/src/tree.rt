@@ -5,7 +5,8 @@ ghost use Rattle.p3_converse.specs.Branches.{log_sum, input_logs, IsTreeUnfoldin
 ghost use Rattle.p3_converse.specs.Branches.{with_input, IsRoundUnfolding};
 ghost use Rattle.p3_converse.specs.Trees.{tree_of, leaf_length, HasPaths, HasLeaves};
 ghost use Rattle.p3_converse.specs.Trees.{beta_count, HasBetas};
-ghost use Rattle.p3_converse.specs.TreeWords.{round_word, round_inputs, tree_word, tree_inputs};
+ghost use Rattle.p3_converse.specs.TreeCoefficients.{round_word, round_inputs};
+ghost use Rattle.p3_converse.specs.TreeCoefficients.{tree_word, tree_inputs};
 ghost use Rattle.algebra.specs.Interpolation.{AreDistinct};
 ghost use Rattle.algebra.specs.Nested.{lists};
 ghost use Rattle.p3_converse.specs.Unfolding.{common_length};
@@ -39,8 +40,9 @@ pub enum FoldTree<EF> {
 /// polynomial has `d * 2^s` coefficients, and that of an input `d * 2^s'`, `s'` the sum of
 /// those after its round. `Err` means that memory was wanting.
 ///
-/// Each node is undone by `unfold` or `unfold_with_input`, from the leaves up; what its
-/// subtrees gave is freed then. The calls nest as deep as there are rounds, fewer than 64.
+/// Each node is undone by `unfold` or `unfold_with_input`, from the leaves up, and the later
+/// inputs are those of its last subtree; what its subtrees gave is freed then. The calls nest as
+/// deep as there are rounds, fewer than 64.
 pub fn unfold_tree<EF: Field>(
     alloc: Global,
     rounds: &[(usize, bool)],
@@ -103,7 +105,7 @@ fn undo_round<EF: Field>(
         (log_arity, has_input) betas.now (lists polys.now) (common_length polys.now)) }
     ensures input_coefficients { IfOk result (λ u. lists u.1.items
         ≡ round_inputs EF.ops (log_arity, has_input) betas.now (lists polys.now)
-            (common_length polys.now) (lists later.items)) }
+        (common_length polys.now) (lists later.items)) }
     ensures undone { IfOk result (λ u. IsRoundUnfolding EF.ops (log_arity, has_input) betas.now
         (lists polys.now) u.0.items (lists later.items) (lists u.1.items)) }
 {

@@ -63,8 +63,9 @@ pub fn unfold<EF: Field>(
 /// `d`, as coefficients, the constant first; the word's polynomial has `d * 2^log_arity`
 /// coefficients, the input's `d`. `Err` means that memory was wanting.
 ///
-/// The input's polynomial is the part of `unbatch` that stands beside the highest power of a beta.
-/// That takes some `d * 4^log_arity` multiplications and one inversion.
+/// The input's polynomial is the part of `unbatch` that stands beside the highest power of a beta;
+/// the word's has the coefficients of the others, position by position. That takes some
+/// `d * 4^log_arity` multiplications and one inversion.
 pub fn unfold_with_input<EF: Field>(
     alloc: Global,
     log_arity: usize,

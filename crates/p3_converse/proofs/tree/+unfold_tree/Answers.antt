@@ -5,14 +5,14 @@ use Rattle.std.proofs.lemmas.Result.{IfOk-weaker}
 use Rattle.std.proofs.lemmas.List.Elements.{All-push}
 use Rattle.p3_converse.specs.Branches.{log_sum, input_logs, with_input, IsTreeUnfolding, IsRoundUnfolding}
 use Rattle.p3_converse.specs.Trees.{tree_of, leaf_length, leaf, subtrees}
-use Rattle.p3_converse.specs.TreeWords.{round_word, round_inputs, tree_word, tree_words, tree_inputs, last_inputs}
+use Rattle.p3_converse.specs.TreeCoefficients.{round_word, round_inputs, tree_word, tree_words, tree_inputs, last_inputs}
 use Rattle.std.proofs.lemmas.List.{take_all}
 use Rattle.algebra.specs.Nested.{lists}
 use Rattle.p3_converse.specs.Unfolding.{common_length}
 use Rattle.p3_converse.proofs.Trees.{views, tree_of-Leaf}
 use Rattle.p3_converse.proofs.Branches.{UnfoldsTo, is_leaf_unfolding}
 use Rattle.p3_converse.proofs.Nodes.{first_round, IsNodeOf, is_node_of, IsFit, subtree_fits, conditions, no_rounds, one_tree_more, its_inputs, with_input-map, node_unfolds, AreUnfolded, are_unfolded}
-use Rattle.p3_converse.proofs.TreeWords.{words_next, inputs_next, node_word, node_inputs}
+use Rattle.p3_converse.proofs.TreeCoefficients.{words_next, inputs_next, node_word, node_inputs}
 use Rattle.p3_converse.proofs.tree.+unfold_tree.Given.{Over}
 use Rattle.p3_converse.proofs.tree.+unfold_tree.Goals.{After-deref-in-Node-3}
 use Rattle.p3_converse.proofs.tree.+unfold_tree.Goals as goal

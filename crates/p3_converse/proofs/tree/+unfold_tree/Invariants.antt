@@ -2,7 +2,7 @@ use Rattle.std.proofs.Common.{◌≡◌, [], ◌*◌, ◌^◌, ◌<◌, All, len
 use Rattle.std.specs.List.{AllZip}
 use Rattle.p3_converse.specs.Branches.{log_sum, input_logs}
 use Rattle.p3_converse.specs.Trees.{tree_of, leaf_length, subtrees}
-use Rattle.p3_converse.specs.TreeWords.{tree_words, last_inputs}
+use Rattle.p3_converse.specs.TreeCoefficients.{tree_words, last_inputs}
 use Rattle.algebra.specs.Nested.{lists}
 use Rattle.p3_converse.proofs.Trees.{views}
 use Rattle.p3_converse.proofs.Branches.{UnfoldsTo, HasInputsOf}

@@ -5,7 +5,7 @@ use Rattle.algebra.specs.Field.{FieldOps}
 use Rattle.algebra.specs.Nested.{lists}
 use Rattle.p3_converse.specs.Branches.{log_sum}
 use Rattle.p3_converse.specs.Trees.{Tree, node, subtrees, tree_of, betas_of}
-use Rattle.p3_converse.specs.TreeWords.{round_word, round_inputs, tree_word, tree_words, tree_inputs, last_inputs}
+use Rattle.p3_converse.specs.TreeCoefficients.{round_word, round_inputs, tree_word, tree_words, tree_inputs, last_inputs}
 use Rattle.p3_converse.specs.Unfolding.{common_length}
 use Rattle.p3_converse.specs.declared.tree.FoldTree.{FoldTree, Node}
 use Rattle.p3_converse.proofs.Trees.{views, tree_of-Node, betas-views}

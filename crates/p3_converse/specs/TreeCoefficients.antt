@@ -1,4 +1,4 @@
--- The coefficients behind a tree, round by round from the leaves.
+-- The coefficients of what a tree unfolds to, round by round from the leaves.
 use Rattle.std.specs.Prelude.{ℕ, ◌*◌, ◌^◌, List, [], ◌∷◌, Bool, true, false}
 use Rattle.algebra.specs.Field.{FieldOps}
 use Rattle.p3_converse.specs.Positions.{interpolated}
@@ -13,7 +13,7 @@ module _ {A : Type 0} (F : FieldOps A) where
   round_word (a, false) betas polys n = interpolated F betas polys n
   round_word (a, true) betas polys n = unfolded_word F a betas polys n
 
-  -- and the inputs' polynomials: this round's, if it has one, in front of the later ones
+  -- one round undone: the inputs' polynomials, with this round's, if it has one, in front
   abbrev pub round_inputs : (round : ℕ × Bool) (betas : List A) (polys : List (List A)) (n : ℕ)
       (later : List (List A)) → List (List A)
   round_inputs (a, false) betas polys n later = later
@@ -21,7 +21,7 @@ module _ {A : Type 0} (F : FieldOps A) where
 
 -- where the leaves have `d` coefficients
 module _ {A : Type 0} (F : FieldOps A) (d : ℕ) where
-  -- a leaf is the word itself; at a node the round is undone from the words of its trees
+  -- the word's polynomial: a leaf's own; a node's by its round, undone from those of its trees
   abbrev mutual
     pub tree_word : (rounds : List (ℕ × Bool)) → Tree A → List A
     tree_word rounds (leaf p) = p
@@ -33,7 +33,7 @@ module _ {A : Type 0} (F : FieldOps A) (d : ℕ) where
     tree_words rounds no_subtrees = []
     tree_words rounds (subtree beta t ts) = tree_word rounds t ∷ tree_words rounds ts
 
-  -- the inputs in the order of their rounds: at a node this round's and those of its last tree
+  -- the inputs' polynomials in the order of their rounds: a node's own, and those of its last tree
   abbrev mutual
     pub tree_inputs : (rounds : List (ℕ × Bool)) → Tree A → List (List A)
     tree_inputs rounds (leaf p) = []
