@@ -8,4 +8,6 @@ mod forms;
 #[cfg(test)]
 mod line;
 #[cfg(test)]
+mod refusals;
+#[cfg(test)]
 mod refused;

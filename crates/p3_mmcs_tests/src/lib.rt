@@ -8,6 +8,8 @@ mod many_openings;
 #[cfg(test)]
 mod openings;
 #[cfg(test)]
+mod refusals;
+#[cfg(test)]
 mod sha256_mmcs;
 #[cfg(test)]
 mod trees;
