@@ -39,7 +39,7 @@ fn first_wrong_refusal(alloc: Global) -> Result<Option<&'static str>, Fail> {
 }
 
 #[test]
-fn refusals_say_what_is_wrong(rt: HostRuntime) -> Result<(), Fail> {
+fn refusals_of_the_tree_are_printed(rt: HostRuntime) -> Result<(), Fail> {
     let wrong = first_wrong_refusal(rt.alloc())?;
     assert!(rt; wrong.is_none(), "{wrong:?}");
     Ok(())
