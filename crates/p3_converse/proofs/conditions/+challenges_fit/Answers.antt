@@ -1,9 +1,8 @@
 use Rattle.std.proofs.Common.{◌≡◌, ◌<◌, length, map, refl, subst, sym, ap, ◌∙◌, arith}
 use Rattle.std.specs.Prelude.{slice_range}
 use Rattle.algebra.specs.Interpolation.{AreDistinct}
-use Rattle.p3_converse.specs.Trees.{subtrees, tree_of, beta_count, HasBetas, EachHasBetas}
+use Rattle.p3_converse.specs.Trees.{subtrees, tree_of, HasBetas, EachHasBetas}
 use Rattle.p3_converse.proofs.Trees.{views}
-use Rattle.p3_converse.proofs.Nodes.{first_round}
 use Rattle.p3_converse.proofs.EachTree.{not_empty, challenges_open, challenges_close, one_fails, one_holds, all_hold}
 use Rattle.p3_converse.proofs.conditions.+challenges_fit.Goals as goal
 

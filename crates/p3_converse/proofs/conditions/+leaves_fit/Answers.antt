@@ -1,4 +1,4 @@
-use Rattle.std.proofs.Common.{◌≡◌, ◌<◌, refl, subst, sym, ap, ◌∙◌, arith}
+use Rattle.std.proofs.Common.{◌≡◌, refl, subst, sym, ap, ◌∙◌, arith}
 use Rattle.p3_converse.specs.Trees.{node, subtrees, tree_of, HasLeaves, EachHasLeaves}
 use Rattle.p3_converse.proofs.Trees.{views, tree_of-Node}
 use Rattle.p3_converse.proofs.EachTree.{one_fails, one_holds, all_hold}

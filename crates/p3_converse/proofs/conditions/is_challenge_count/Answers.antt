@@ -1,4 +1,4 @@
-use Rattle.std.proofs.Common.{◌≡◌, ◌^◌, ◌≤◌, ◌<◌, arith}
+use Rattle.std.proofs.Common.{arith}
 use Rattle.p3_converse.proofs.Trees.{beta_count-large}
 use Rattle.p3_converse.proofs.conditions.is_challenge_count.Goals as goal
 
