@@ -9,8 +9,8 @@ pub attained_next : {X : Type 0} (Has : ℕ → X → Type 0) (xs : List X) (i :
     → (own ≡ 0) ⊎ Has own x → (old ≡ 0) ⊎ Any (Has old) xs → (new ≡ 0) ⊎ Any (Has new) xs
 attained_next Has xs i x old own new within is most otherwise here before =
     elim (eq-or-lt_of_le {n = own} {m = new} most) [
-      inl e ↦ subst (λ n. (n ≡ 0) ⊎ Any (Has n) xs) e (elim here [
-        inl none ↦ inl none
+      | inl e ↦ subst (λ n. (n ≡ 0) ⊎ Any (Has n) xs) e (elim here [
+        | inl none ↦ inl none
         | inr has ↦ inr (i, x, within, sym is, has)
       ])
       | inr l ↦ subst (λ n. (n ≡ 0) ⊎ Any (Has n) xs) (sym (otherwise l)) before
