@@ -2,7 +2,6 @@
 
 ghost use Rattle.std.specs.Prelude.{◌+◌, ◌*◌, ◌<◌, ◌^◌};
 
-use crate::cases::first_wrong;
 use p3_fri_core::config::{
     FriParameters, compute_log_arity_for_round, fold_schedule, is_strictly_falling,
 };
@@ -10,123 +9,225 @@ use p3_mmcs::GrindingSites;
 use std::alloc::Global;
 
 /// Heights, the most that a round folds, and the schedule from them down to 2.
-const SCHEDULES: [(&str, &[usize], usize, &[usize]); 8] = [
-    ("one input", &[10], 3, &[3, 3, 2]),
-    ("an input within a round", &[10, 6], 3, &[3, 1, 3, 1]),
-    ("an input within the first round", &[10, 8], 3, &[2, 3, 3]),
-    ("no input", &[], 3, &[]),
-    ("an input at the final height", &[2], 3, &[]),
-    ("an input below it", &[1], 3, &[]),
-    ("two inputs, one below it", &[10, 1], 3, &[3, 3, 2]),
-    ("rounds by two", &[10], 1, &[1, 1, 1, 1, 1, 1, 1, 1]),
+#[derive(Clone, Copy)]
+struct Schedule {
+    name: &'static str,
+    heights: &'static [usize],
+    max_log_arity: usize,
+    rounds: &'static [usize],
+}
+
+const SCHEDULES: [Schedule; 8] = [
+    Schedule {
+        name: "one input",
+        heights: &[10],
+        max_log_arity: 3,
+        rounds: &[3, 3, 2],
+    },
+    Schedule {
+        name: "an input within a round",
+        heights: &[10, 6],
+        max_log_arity: 3,
+        rounds: &[3, 1, 3, 1],
+    },
+    Schedule {
+        name: "an input within the first round",
+        heights: &[10, 8],
+        max_log_arity: 3,
+        rounds: &[2, 3, 3],
+    },
+    Schedule {
+        name: "no input",
+        heights: &[],
+        max_log_arity: 3,
+        rounds: &[],
+    },
+    Schedule {
+        name: "an input at the final height",
+        heights: &[2],
+        max_log_arity: 3,
+        rounds: &[],
+    },
+    Schedule {
+        name: "an input below it",
+        heights: &[1],
+        max_log_arity: 3,
+        rounds: &[],
+    },
+    Schedule {
+        name: "two inputs, one below it",
+        heights: &[10, 1],
+        max_log_arity: 3,
+        rounds: &[3, 3, 2],
+    },
+    Schedule {
+        name: "rounds by two",
+        heights: &[10],
+        max_log_arity: 1,
+        rounds: &[1, 1, 1, 1, 1, 1, 1, 1],
+    },
 ];
 
 /// Whether the heights fall and a round may fold, and this is the schedule down to 2.
-fn has_schedule(alloc: Global, heights: &[usize], max_log_arity: usize, wanted: &[usize]) -> bool {
-    if !is_strictly_falling(heights) || max_log_arity == 0 {
+fn has_schedule(alloc: Global, case: &Schedule) -> bool {
+    if !is_strictly_falling(case.heights) || case.max_log_arity == 0 {
         return false;
     }
-    match fold_schedule(alloc, heights, 2, max_log_arity) {
-        Ok(schedule) => schedule.as_slice() == wanted,
+    match fold_schedule(alloc, case.heights, 2, case.max_log_arity) {
+        Ok(schedule) => schedule.as_slice() == case.rounds,
         Err(_) => false,
     }
 }
 
-fn schedules_stop_where_an_input_joins(alloc: Global) -> Option<&'static str> {
-    for (name, heights, max_log_arity, wanted) in SCHEDULES {
-        if !has_schedule(alloc, heights, max_log_arity, wanted) {
-            return Some(name);
-        }
+#[test]
+fn schedules_stop_where_an_input_joins(rt: HostRuntime) {
+    for case in &SCHEDULES {
+        assert!(rt; has_schedule(rt.alloc(), case), "{}", case.name);
     }
-    None
 }
 
-fn equal_and_rising_heights_do_not_fall() -> Option<&'static str> {
-    first_wrong(&[
-        ("no heights fall", is_strictly_falling(&[]), true),
-        ("heights fall", is_strictly_falling(&[10, 6, 0]), true),
-        ("equal heights", is_strictly_falling(&[10, 10]), false),
-        ("rising heights", is_strictly_falling(&[10, 6, 7]), false),
-    ])
+const HEIGHTS: [(&str, &[usize], bool); 4] = [
+    ("no heights fall", &[], true),
+    ("heights fall", &[10, 6, 0], true),
+    ("equal heights", &[10, 10], false),
+    ("rising heights", &[10, 6, 7], false),
+];
+
+#[test]
+fn equal_and_rising_heights_do_not_fall(rt: HostRuntime) {
+    for (name, heights, falling) in &HEIGHTS {
+        assert!(rt; is_strictly_falling(*heights) == *falling, "{name}");
+    }
 }
 
-fn a_round_takes_the_least_of_cap_and_distances() -> Option<&'static str> {
-    first_wrong(&[
-        ("at the cap", compute_log_arity_for_round(10, None, 2, 3), 3),
-        (
-            "at the final height",
-            compute_log_arity_for_round(4, None, 2, 3),
-            2,
-        ),
-        (
-            "at the next input",
-            compute_log_arity_for_round(7, Some(6), 2, 3),
-            1,
-        ),
-        (
-            "above a low input",
-            compute_log_arity_for_round(10, Some(1), 2, 9),
-            8,
-        ),
-    ])
+/// The cap, the distance to the final height, that to the next input, and one above a low input.
+fn a_round_takes_the_least_of_cap_and_distances() -> bool {
+    compute_log_arity_for_round(10, None, 2, 3) == 3
+        && compute_log_arity_for_round(4, None, 2, 3) == 2
+        && compute_log_arity_for_round(7, Some(6), 2, 3) == 1
+        && compute_log_arity_for_round(10, Some(1), 2, 9) == 8
 }
 
-/// The soundness bits of the parameters, and what stands for their tree.
-fn bits_of(parameters: FriParameters<u8>) -> (usize, u8)
-    requires { parameters.log_blowup * parameters.num_queries
-        + parameters.query_proof_of_work_bits < 2 ^ 64 }
+/// A constructor of parameters.
+#[derive(Clone, Copy)]
+enum Preset {
+    Testing(usize),
+    TestingZk,
+    Benchmark,
+    BenchmarkHighArity,
+    BenchmarkZk,
+}
+
+/// Its parameters, with 7 for the tree.
+fn parameters_of(preset: Preset) -> FriParameters<u8>
+    ensures { result.log_blowup * result.num_queries + result.query_proof_of_work_bits < 2 ^ 64 }
 {
-    (parameters.conjectured_soundness_bits(), parameters.mmcs)
+    match preset {
+        Preset::Testing(log_final_poly_len) => FriParameters::new_testing(7, log_final_poly_len),
+        Preset::TestingZk => FriParameters::new_testing_zk(7),
+        Preset::Benchmark => FriParameters::new_benchmark(7),
+        Preset::BenchmarkHighArity => FriParameters::new_benchmark_high_arity(7),
+        Preset::BenchmarkZk => FriParameters::new_benchmark_zk(7),
+    }
 }
 
-fn constructors_have_their_soundness_bits() -> Option<&'static str> {
-    first_wrong(&[
-        (
-            "bits for tests",
-            bits_of(FriParameters::new_testing(7, 0)),
-            (5, 7),
-        ),
-        (
-            "bits for tests, longer",
-            bits_of(FriParameters::new_testing(7, 12)),
-            (5, 7),
-        ),
-        (
-            "bits for tests, hiding",
-            bits_of(FriParameters::new_testing_zk(7)),
-            (5, 7),
-        ),
-        (
-            "bits for figures",
-            bits_of(FriParameters::new_benchmark(7)),
-            (116, 7),
-        ),
-        (
-            "bits for figures, high",
-            bits_of(FriParameters::new_benchmark_high_arity(7)),
-            (116, 7),
-        ),
-        (
-            "bits for figures, hiding",
-            bits_of(FriParameters::new_benchmark_zk(7)),
-            (216, 7),
-        ),
-    ])
+/// A constructor's soundness bits and its regime: logarithms of blowup, bits of the final
+/// polynomial and of the arity, the number of queries, and the bits of proof of work in the commit
+/// phase and in the query phase.
+#[derive(Clone, Copy)]
+struct Constructed {
+    name: &'static str,
+    preset: Preset,
+    bits: usize,
+    regime: [usize; 6],
 }
 
-fn accessors_are_powers_of_two() -> Option<&'static str> {
-    let parameters = FriParameters::new_testing(7, 3);
-    let high_arity = FriParameters::new_benchmark_high_arity(7);
-    first_wrong(&[
-        ("blowup", parameters.blowup(), 4),
-        (
-            "length of the final polynomial",
-            parameters.final_poly_len(),
-            8,
-        ),
-        ("greatest arity", parameters.max_arity(), 2),
-        ("greatest arity, high", high_arity.max_arity(), 8),
-    ])
+const CONSTRUCTED: [Constructed; 7] = [
+    Constructed {
+        name: "for tests",
+        preset: Preset::Testing(0),
+        bits: 5,
+        regime: [2, 0, 1, 2, 1, 1],
+    },
+    Constructed {
+        name: "for tests, long",
+        preset: Preset::Testing(3),
+        bits: 5,
+        regime: [2, 3, 1, 2, 1, 1],
+    },
+    Constructed {
+        name: "for tests, longer",
+        preset: Preset::Testing(12),
+        bits: 5,
+        regime: [2, 12, 1, 2, 1, 1],
+    },
+    Constructed {
+        name: "for tests, hiding",
+        preset: Preset::TestingZk,
+        bits: 5,
+        regime: [2, 0, 1, 2, 1, 1],
+    },
+    Constructed {
+        name: "for figures",
+        preset: Preset::Benchmark,
+        bits: 116,
+        regime: [1, 0, 1, 100, 0, 16],
+    },
+    Constructed {
+        name: "for figures, high",
+        preset: Preset::BenchmarkHighArity,
+        bits: 116,
+        regime: [1, 0, 3, 100, 0, 16],
+    },
+    Constructed {
+        name: "for figures, hiding",
+        preset: Preset::BenchmarkZk,
+        bits: 216,
+        regime: [2, 0, 1, 100, 0, 16],
+    },
+];
+
+/// Whether the constructor's parameters have these bits and this regime, and the tree.
+fn is_constructed(case: &Constructed) -> bool {
+    let parameters = parameters_of(case.preset);
+    let regime = parameters.security_regime();
+    let numbers = [
+        regime.log_blowup,
+        regime.log_final_poly_len,
+        regime.max_log_arity,
+        regime.num_queries,
+        regime.commit_pow_bits,
+        regime.query_pow_bits,
+    ];
+    parameters.conjectured_soundness_bits() == case.bits
+        && numbers == case.regime
+        && parameters.mmcs == 7
+}
+
+#[test]
+fn constructors_have_their_bits_and_regimes(rt: HostRuntime) {
+    for case in &CONSTRUCTED {
+        assert!(rt; is_constructed(case), "{}", case.name);
+    }
+}
+
+fn accessors_are_powers_of_two() -> bool {
+    let parameters = FriParameters::new_testing(7u8, 3);
+    let high_arity = FriParameters::new_benchmark_high_arity(7u8);
+    parameters.blowup() == 4
+        && parameters.final_poly_len() == 8
+        && parameters.max_arity() == 2
+        && high_arity.max_arity() == 8
+}
+
+fn the_batch_bits_are_a_site_of_their_own() -> bool {
+    let mut parameters = FriParameters::new_testing(7u8, 0);
+    let without = parameters.grinding_sites();
+    parameters.batch_proof_of_work_bits = 7;
+    let sites = GrindingSites {
+        batch_combination: 7,
+    };
+    without == GrindingSites::NONE && parameters.grinding_sites() == sites
 }
 
 /// How parameters are printed.
@@ -134,83 +235,20 @@ const PRINTED: &str = "FriParameters { log_blowup: 2, log_final_poly_len: 0, max
     num_queries: 100, batch_proof_of_work_bits: 10, commit_proof_of_work_bits: 0, \
     query_proof_of_work_bits: 16, mmcs: 7 }";
 
-fn parameters_are_cloned_and_printed(alloc: Global) -> Option<&'static str> {
-    let Ok(parameters) = FriParameters::new_benchmark_zk(7).clone() else {
-        return Some("a clone");
+fn parameters_are_cloned_and_printed(alloc: Global) -> bool {
+    let Ok(parameters) = FriParameters::new_benchmark_zk(7u8).clone() else {
+        return false;
     };
     match format!(in alloc; "{parameters:?}") {
-        Ok(text) if text.as_str() == PRINTED => None,
-        _ => Some("how they are printed"),
+        Ok(text) => text.as_str() == PRINTED,
+        Err(_) => false,
     }
-}
-
-/// The parameters' regime: logarithms of blowup, bits of the final polynomial and of the arity, the
-/// number of queries, and the bits of proof of work in the commit phase and in the query phase.
-fn regime_of(parameters: FriParameters<u8>) -> [usize; 6] {
-    let regime = parameters.security_regime();
-    [
-        regime.log_blowup,
-        regime.log_final_poly_len,
-        regime.max_log_arity,
-        regime.num_queries,
-        regime.commit_pow_bits,
-        regime.query_pow_bits,
-    ]
-}
-
-fn constructors_have_their_regimes() -> Option<&'static str> {
-    let high_arity = regime_of(FriParameters::new_benchmark_high_arity(7));
-    first_wrong(&[
-        (
-            "testing",
-            regime_of(FriParameters::new_testing(7, 3)),
-            [2, 3, 1, 2, 1, 1],
-        ),
-        (
-            "testing, hiding",
-            regime_of(FriParameters::new_testing_zk(7)),
-            [2, 0, 1, 2, 1, 1],
-        ),
-        (
-            "benchmark",
-            regime_of(FriParameters::new_benchmark(7)),
-            [1, 0, 1, 100, 0, 16],
-        ),
-        ("benchmark, high arity", high_arity, [1, 0, 3, 100, 0, 16]),
-        (
-            "benchmark, hiding",
-            regime_of(FriParameters::new_benchmark_zk(7)),
-            [2, 0, 1, 100, 0, 16],
-        ),
-    ])
-}
-
-fn the_batch_bits_are_a_site_of_their_own() -> Option<&'static str> {
-    let mut parameters = FriParameters::new_testing(7, 0);
-    let without = parameters.grinding_sites();
-    parameters.batch_proof_of_work_bits = 7;
-    let sites = GrindingSites {
-        batch_combination: 7,
-    };
-    first_wrong(&[
-        ("no batch bits", without, GrindingSites::NONE),
-        ("batch bits", parameters.grinding_sites(), sites),
-    ])
 }
 
 #[test]
-fn parameters_and_schedules(rt: HostRuntime) {
-    let found = [
-        schedules_stop_where_an_input_joins(rt.alloc()),
-        equal_and_rising_heights_do_not_fall(),
-        a_round_takes_the_least_of_cap_and_distances(),
-        constructors_have_their_soundness_bits(),
-        accessors_are_powers_of_two(),
-        parameters_are_cloned_and_printed(rt.alloc()),
-        constructors_have_their_regimes(),
-        the_batch_bits_are_a_site_of_their_own(),
-    ];
-    for wrong in found {
-        assert!(rt; wrong.is_none(), "{wrong:?}");
-    }
+fn parameters_are_read_cloned_and_printed(rt: HostRuntime) {
+    assert!(rt; a_round_takes_the_least_of_cap_and_distances());
+    assert!(rt; accessors_are_powers_of_two());
+    assert!(rt; the_batch_bits_are_a_site_of_their_own());
+    assert!(rt; parameters_are_cloned_and_printed(rt.alloc()));
 }

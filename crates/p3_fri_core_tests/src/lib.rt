@@ -1,10 +1,7 @@
-//! Tests of the parameters, the folds and the transcripts. A check is a function that answers the
-//! first case that is wrong, by name, and each file has one test that makes all of its checks: each
-//! test and each early return is proved too.
+//! Tests of the parameters, the folds and the transcripts. Like cases stand in a table, and one
+//! function runs each of them, since every function, call and early return is proved too.
 #![tactic(auto)]
 
-#[cfg(test)]
-mod cases;
 #[cfg(test)]
 mod config;
 #[cfg(test)]
@@ -19,7 +16,3 @@ mod shapes;
 mod texts;
 #[cfg(test)]
 mod transcript;
-#[cfg(test)]
-mod whole_openings;
-#[cfg(test)]
-mod whole_transcripts;

@@ -1,6 +1,5 @@
 //! How phases and failures are printed.
 
-use crate::cases::first_wrong;
 use p3_fri_core::PowPhase;
 use p3_fri_core::transcript::TranscriptFailure;
 use std::alloc::Global;
@@ -14,44 +13,18 @@ fn prints(alloc: Global, value: impl Display + Copy, wanted: &str) -> bool {
     }
 }
 
-fn phases_and_failures_are_printed(alloc: Global) -> Option<&'static str> {
+#[test]
+fn phases_and_failures_are_printed(rt: HostRuntime) {
     let count = TranscriptFailure::CommitRoundCount {
         expected: 3,
         got: 50,
     };
     let missing = TranscriptFailure::MissingPowWitness(PowPhase::Query);
     let no_witness = "the proof of work of the query phase has no witness";
-    first_wrong(&[
-        (
-            "the batch's phase",
-            prints(alloc, PowPhase::Batch, "opening-batching"),
-            true,
-        ),
-        (
-            "the commit phase",
-            prints(alloc, PowPhase::CommitPhase, "commit"),
-            true,
-        ),
-        (
-            "the query phase",
-            prints(alloc, PowPhase::Query, "query"),
-            true,
-        ),
-        (
-            "a count",
-            prints(alloc, count, "there are 50 commitments for 3 rounds"),
-            true,
-        ),
-        (
-            "a missing witness",
-            prints(alloc, missing, no_witness),
-            true,
-        ),
-    ])
-}
-
-#[test]
-fn texts(rt: HostRuntime) {
-    let wrong = phases_and_failures_are_printed(rt.alloc());
-    assert!(rt; wrong.is_none(), "{wrong:?}");
+    let are_printed = prints(rt.alloc(), PowPhase::Batch, "opening-batching")
+        && prints(rt.alloc(), PowPhase::CommitPhase, "commit")
+        && prints(rt.alloc(), PowPhase::Query, "query")
+        && prints(rt.alloc(), count, "there are 50 commitments for 3 rounds")
+        && prints(rt.alloc(), missing, no_witness);
+    assert!(rt; are_printed);
 }

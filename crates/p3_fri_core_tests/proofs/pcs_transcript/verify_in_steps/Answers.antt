@@ -1,8 +1,8 @@
 use Rattle.std.proofs.Common.{sym, ap, ◌∙◌}
 use Rattle.p3_fri_pcs_transcript.specs.Steps.{PcsNumbers}
-use Rattle.p3_fri_core_tests.proofs.pcs_transcript.verify.Goals as goal
+use Rattle.p3_fri_core_tests.proofs.pcs_transcript.verify_in_steps.Goals as goal
 
 pub batch_phase-requires-clause-all_claims_played : goal.batch_phase-requires-clause-all_claims_played
 batch_phase-requires-clause-all_claims_played g c =
-    c.in-Ok.ensures.whole
-    (sym (ap (λ (s : PcsNumbers). s.counts) (c.in_ok-transcript.ensures.starts.shape ∙ c.in_ok-shape.ensures)))
+    c.in-Ok-claimed_openings.ensures.whole
+    (sym (ap (λ (s : PcsNumbers). s.counts) (c.in-Ok-new.ensures.starts.shape ∙ c.in-Ok.ensures)))

@@ -1,13 +1,13 @@
 use Rattle.std.proofs.Common.{◌≡◌, ap, ◌∙◌, arith}
 use Rattle.p3_fri_pcs_transcript.specs.Shapes.{pcs_shape}
 use Rattle.p3_fri_pcs_transcript.specs.Steps.{PcsNumbers}
-use Rattle.p3_fri_core_tests.proofs.pcs_transcript.prove.Goals as goal
+use Rattle.p3_fri_core_tests.proofs.pcs_transcript.proves_in_steps.Goals as goal
 
 pub batch_phase-requires-clause-at_most_max : goal.batch_phase-requires-clause-at_most_max
 batch_phase-requires-clause-at_most_max g c =
     let same : (pcs_shape c.claimed_openings.new.self.shape).batch_pow_bits ≡ c.args.bits =
     ap (λ (s : PcsNumbers). s.batch_pow_bits)
-    (c.claimed_openings.ensures.kept.shape ∙ c.in_ok-transcript.ensures.starts.shape ∙ c.in_ok-shape.ensures)
+    (c.claimed_openings.ensures.kept.shape ∙ c.in-Ok-new.ensures.starts.shape ∙ c.in-Ok.ensures)
     ∙ c.parameters.ensures in
     let within = c.requires in
     omega (arith, same, within)

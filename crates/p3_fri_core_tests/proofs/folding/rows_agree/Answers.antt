@@ -1,8 +1,0 @@
-use Rattle.std.proofs.Common.{◌≡◌, sym, ◌∙◌, arith}
-use Rattle.p3_field.proofs.IndexPowers.{exponents_agree}
-use Rattle.p3_fri_core_tests.proofs.folding.rows_agree.Goals as goal
-
-pub fold_matrix-requires-clause-within_max_height : goal.fold_matrix-requires-clause-within_max_height
-fold_matrix-requires-clause-within_max_height g c h e =
-    let same : c.args.log_height ≡ h = exponents_agree c.args.log_height h (sym c.in-Some.ensures.height ∙ e) in
-    omega (arith, same, c.requires.height, c.requires.arity)
