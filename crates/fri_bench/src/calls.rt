@@ -7,8 +7,9 @@ use crate::watch::{Fault, Result, Watch, now};
 use p3_challenger::Sha256Challenger;
 use p3_field::{BabyBear4, Field};
 use p3_matrix::RowMajorMatrix;
+use p3_mmcs::CommitmentOpening;
 use p3_pcs::{KnownCommitment, OpeningRequest, Pcs, claims_of};
-use std::alloc::Global;
+use p3_test_openings::listed::{alone, listed};
 use std::fmt;
 
 /// The least times of the three calls.
@@ -39,22 +40,18 @@ impl fmt::Display for Watches {
     }
 }
 
-/// A list of one value.
-fn listed<T: Drop>(alloc: Global, value: T) -> Result<Vec<T>>
-    ensures { IfOk result (λ values. values.items ≡ value ∷ []) }
-{
-    let mut values = Vec::with_capacity(alloc, 1)?;
-    values.push(value)?;
-    Ok(values)
-}
-
 /// What is known of a commitment to the matrix, and the data, which may be opened.
 fn commit_to<P: Pcs<BabyBear4, Sha256Challenger>>(
     rt: &HostRuntime,
     watch: &mut Watch,
     scheme: &mut P,
     evaluation: (P::Domain, RowMajorMatrix<P::Val>),
-) -> Result<(KnownCommitment<P::Commitment, P::Domain>, P::ProverData)>
+) -> Result<
+    (
+        Vec<KnownCommitment<P::Commitment, P::Domain>>,
+        P::ProverData,
+    ),
+>
     requires { (P.rules scheme.old).CanCommit (evaluation ∷ []) }
     ensures kept { P.Keeps scheme.old scheme.new }
     ensures openable { IfOk result (λ made. (P.rules scheme.new).CanOpen made.1) }
@@ -73,39 +70,40 @@ fn commit_to<P: Pcs<BabyBear4, Sha256Challenger>>(
         commitment,
         domains,
     };
-    Ok((known, held))
+    Ok((listed(alloc, known)?, held))
 }
 
-/// Times that the data is opened at a point, and that this is verified.
-fn open_and_verify<P: Pcs<BabyBear4, Sha256Challenger>>(
+/// Times that the data is opened at a point, and returns the proof and the claims that it shows.
+fn open_to<P: Pcs<BabyBear4, Sha256Challenger>>(
     rt: &HostRuntime,
-    watches: &mut Watches,
+    watch: &mut Watch,
     scheme: &P,
-    known: KnownCommitment<P::Commitment, P::Domain>,
+    known: &[KnownCommitment<P::Commitment, P::Domain>],
     held: &mut P::ProverData,
-) -> Result<()>
+) -> Result<
+    (
+        P::Proof,
+        Vec<CommitmentOpening<BabyBear4, P::Commitment, P::Domain>>,
+    ),
+>
     requires prover { (P.rules scheme.now).InProverRange }
-    requires verifier { (P.rules scheme.now).InVerifierRange }
     requires openable { (P.rules scheme.now).CanOpen held.old }
     requires one_matrix { length ((P.rules scheme.now).committed_polynomials held.old) ≡ 1 }
 {
-    let (alloc, mut prover) = (rt.alloc(), Sha256Challenger::new());
-    let known = listed(alloc, known)?;
     let request = OpeningRequest {
         prover_data: held,
-        points: listed(alloc, listed(alloc, BabyBear4::GENERATOR)?)?,
+        points: alone(rt.alloc(), BabyBear4::GENERATOR)?,
     };
-    let mut requests = listed(alloc, request)?;
+    let mut requests = listed(rt.alloc(), request)?;
+    let mut challenger = Sha256Challenger::new();
     let start = now(rt);
-    let opened = scheme.open(alloc, requests.as_mut_slice(), &mut prover);
-    watches.opens.see(rt, start);
-    let (values, proof) = opened.map_err(|_| Fault::Refused)?;
-    let claims = claims_of(alloc, &known, &requests, &values)?;
-    let mut verifier = Sha256Challenger::new();
-    let start = now(rt);
-    let verified = scheme.verify(alloc, claims, &proof, &mut verifier);
-    watches.verifies.see(rt, start);
-    verified.map_err(|_| Fault::Refused)
+    let opened = scheme.open(rt.alloc(), requests.as_mut_slice(), &mut challenger);
+    let Ok((values, proof)) = opened else {
+        return Err(Fault::Refused);
+    };
+    watch.see(rt, start);
+    let claims = claims_of(rt.alloc(), known, &requests, &values)?;
+    Ok((proof, claims))
 }
 
 /// Times all three over one matrix.
@@ -120,5 +118,12 @@ pub fn time<P: Pcs<BabyBear4, Sha256Challenger>>(
     requires verifier { (P.rules scheme.old).InVerifierRange }
 {
     let (known, mut held) = commit_to(rt, &mut watches.commits, &mut *scheme, evaluation)?;
-    open_and_verify(rt, watches, &*scheme, known, &mut held)
+    let (proof, claims) = open_to(rt, &mut watches.opens, &*scheme, &known, &mut held)?;
+    let mut challenger = Sha256Challenger::new();
+    let start = now(rt);
+    let Ok(()) = scheme.verify(rt.alloc(), claims, &proof, &mut challenger) else {
+        return Err(Fault::Refused);
+    };
+    watches.verifies.see(rt, start);
+    Ok(())
 }

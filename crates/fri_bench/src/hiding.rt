@@ -38,19 +38,22 @@ fn time_masked(rt: &HostRuntime, watches: &mut Watches, sizes: [usize; 3]) -> Re
     time(rt, watches, &mut scheme, (domain, matrix))
 }
 
-/// Times the drawing of what masks a matrix of `2^log_height` rows: of each row a row beside it, and
-/// the random columns of both.
-fn time_words(rt: &HostRuntime, watch: &mut Watch, sizes: [usize; 3]) -> Result<()> {
+/// How many elements mask a matrix of `2^log_height` rows: of each row a row beside it, and the
+/// random columns of both.
+fn mask_count(sizes: [usize; 3]) -> Option<usize> {
     let [log_height, width, codewords] = sizes;
     if log_height > 23 {
-        return Err(Fault::Sizes);
+        return None;
     }
-    let a_row = codewords
-        .checked_mul(2)
-        .and_then(|both| both.checked_add(width));
-    let count = a_row
-        .and_then(|a_row| a_row.checked_mul(1 << log_height))
-        .ok_or(Fault::Sizes)?;
+    codewords
+        .checked_mul(2)?
+        .checked_add(width)?
+        .checked_mul(1 << log_height)
+}
+
+/// Times the drawing of what masks a matrix.
+fn time_words(rt: &HostRuntime, watch: &mut Watch, sizes: [usize; 3]) -> Result<()> {
+    let count = mask_count(sizes).ok_or(Fault::Sizes)?;
     let mut rng = generator();
     let start = now(rt);
     let _drawn: Vec<BabyBear> = random_values(rt.alloc(), count, &mut rng)?;

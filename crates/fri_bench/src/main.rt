@@ -1,5 +1,5 @@
-//! Times the layers of the schemes, from the extension of a matrix, as a commitment takes it, to the
-//! schemes themselves: in microseconds, the least of several.
+//! Times the layers of the schemes, from the extension of a matrix, as a commitment takes it, to
+//! the schemes themselves: in microseconds, the least of several.
 #![tactic(auto)]
 
 mod calls;
@@ -21,23 +21,32 @@ fri_bench scheme LOG_HEIGHT WIDTH LOG_BLOWUP QUERIES LOG_CAP [REPEATS]
 fri_bench hiding LOG_HEIGHT WIDTH CODEWORDS [REPEATS]
 fri_bench figures [REPEATS]";
 
+/// The number that an argument writes.
+fn number(arg: &String) -> Result<usize> {
+    match arg.as_str().parse() {
+        Ok(number) => Ok(number),
+        Err(_) => Err(Fault::Usage),
+    }
+}
+
 /// The sizes that the arguments name, and then how often to time: `otherwise` where they don't say,
 /// and at least once.
 fn read<const N: usize>(args: &[String], otherwise: usize) -> Result<Run<N>> {
-    let number = |arg: &String| arg.as_str().parse::<usize>().map_err(|_| Fault::Usage);
-    if args.len() > N.saturating_add(1) {
+    if args.len() < N || args.len() - N > 1 {
         return Err(Fault::Usage);
     }
     let mut sizes = [0; N];
-    for (i, size) in sizes.iter_mut().enumerate() {
-        *size = number(args.get(i).ok_or(Fault::Usage)?)?;
+    for (size, arg) in sizes.iter_mut().zip(args) {
+        *size = number(arg)?;
     }
-    let repeats = args.get(N).map_or(Ok(otherwise), |arg| number(arg))?;
-    Ok((sizes, repeats.max(1)))
+    match args.get(N) {
+        Some(arg) => Ok((sizes, number(arg)?.max(1))),
+        None => Ok((sizes, otherwise)),
+    }
 }
 
-/// Prints the times of the plain scheme that are kept: of `2^16` rows of 64 columns, then the growth
-/// over rows of one column.
+/// Prints the times of the plain scheme that are kept: of `2^16` rows of 64 columns, then the
+/// growth over rows of one column.
 fn figures(rt: &HostRuntime, repeats: usize) -> Result<()> {
     for log_cap in [1, 3] {
         scheme::print(rt, ([16, 64, 1, 100, log_cap], repeats))?;
@@ -48,9 +57,17 @@ fn figures(rt: &HostRuntime, repeats: usize) -> Result<()> {
     Ok(())
 }
 
+/// Prints what the program takes.
+fn print_usage(rt: &HostRuntime) -> Result<()> {
+    println!(rt; "{USAGE}")?;
+    Ok(())
+}
+
 /// Runs the mode that the first argument names.
 fn run(rt: &HostRuntime, args: &[String]) -> Result<()> {
-    let (name, sizes) = args.split_first().ok_or(Fault::Usage)?;
+    let Some((name, sizes)) = args.split_first() else {
+        return print_usage(rt);
+    };
     match name.as_str() {
         "stages" => stages::print(rt, read(sizes, 5)?),
         "fold" => folds::print(rt, read(sizes, 9)?),
@@ -61,18 +78,19 @@ fn run(rt: &HostRuntime, args: &[String]) -> Result<()> {
     }
 }
 
-fn main(rt: HostRuntime) -> io::Result<ExitCode> {
-    let args: Vec<String> = env::args(&rt)?.skip(1).collect(rt.alloc())?;
-    if args.is_empty() {
-        println!(rt; "{USAGE}")?;
-        return Ok(ExitCode::SUCCESS);
-    }
-    let Err(fault) = run(&rt, &args) else {
-        return Ok(ExitCode::SUCCESS);
-    };
+/// Says why nothing was timed, and gives the status.
+fn report(rt: &HostRuntime, fault: Fault) -> io::Result<ExitCode> {
     eprintln!(rt; "fri_bench: {fault:?}")?;
-    if fault == Fault::Usage {
+    if let Fault::Usage = fault {
         eprintln!(rt; "{USAGE}")?;
     }
     Ok(ExitCode::from(fault.status()))
+}
+
+fn main(rt: HostRuntime) -> io::Result<ExitCode> {
+    let args: Vec<String> = env::args(&rt)?.skip(1).collect(rt.alloc())?;
+    match run(&rt, &args) {
+        Ok(()) => Ok(ExitCode::SUCCESS),
+        Err(fault) => report(&rt, fault),
+    }
 }

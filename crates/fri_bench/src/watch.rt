@@ -11,7 +11,7 @@ pub type Run<const N: usize> = ([usize; N], usize);
 pub type Result<T> = std::result::Result<T, Fault>;
 
 /// Why nothing was timed.
-#[derive(Clone, Copy, Debug, PartialEq, Eq)]
+#[derive(Clone, Copy, Debug)]
 pub enum Fault {
     /// The arguments name no run.
     Usage,
