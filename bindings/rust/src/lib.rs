@@ -73,8 +73,8 @@
 //! # serde
 //!
 //! The package in `bindings/rust-serde` is this one, with a feature `serde`: all that is passed and
-//! answered is `Serialize` and `Deserialize`, by field, and a proof is its bytes. As with a
-//! constructor, any numbers and any bytes are read, and the calls refuse by name those that are none.
+//! answered is `Serialize` and `Deserialize`, by field, and a proof is its bytes. As without serde,
+//! any numbers and any bytes may be passed: the calls refuse by name those that are none.
 #![forbid(unsafe_op_in_unsafe_fn)]
 #![deny(unsafe_code)]
 #![warn(missing_docs)]
