@@ -115,7 +115,6 @@ fn prove(repository: &Path, flags: &[&str]) -> Result<Folders, Missing> {
 /// The folders to link from: none where there is no library and none is to be proved.
 fn folders(processors: &str, flags: &[&str]) -> Result<Option<Folders>, Missing> {
     println!("cargo::rerun-if-env-changed=P3_FRI_LIB");
-    println!("cargo::rerun-if-changed=build.rs");
     let package = PathBuf::from(env!("CARGO_MANIFEST_DIR"));
     let beside = package.join("../lib");
     if let Some(folder) = env::var_os("P3_FRI_LIB") {
@@ -140,6 +139,8 @@ fn link(folders: &Folders, processors: &str) {
 
 fn main() {
     println!("cargo::rustc-check-cfg=cfg(p3_fri_cpu, values(\"x86-64-v2\", \"x86-64-v3\"))");
+    // a feature that only the package in rust-serde has
+    println!("cargo::rustc-check-cfg=cfg(feature, values(\"serde\"))");
     let found = processors().and_then(|(processors, flags)| {
         Ok(folders(processors, flags)?.map(|folders| (folders, processors)))
     });

@@ -69,6 +69,12 @@
 //! asked for: an opening makes `2^log_blowup` values of each that is committed to, a proof of work
 //! of `b` bits tries some `2^b` witnesses, and a context of a million bytes takes some half a
 //! second.
+//!
+//! # serde
+//!
+//! The package in `bindings/rust-serde` is this one, with a feature `serde`: all that is passed and
+//! answered is `Serialize` and `Deserialize`, by field, and a proof is its bytes. As without serde,
+//! any numbers and any bytes may be passed: the calls refuse by name those that are none.
 #![forbid(unsafe_op_in_unsafe_fn)]
 #![deny(unsafe_code)]
 #![warn(missing_docs)]
@@ -76,6 +82,8 @@
 mod error;
 mod flat;
 mod processor;
+#[cfg(feature = "serde")]
+mod proof_serde;
 mod raw;
 mod room;
 mod scheme;

@@ -31,6 +31,7 @@ pub const ORDER: u32 = 2013265921;
 /// assert_eq!(parameters.conjectured_soundness_bits(), 116);
 /// ```
 #[derive(Clone, Copy, Debug, PartialEq, Eq, Hash)]
+#[cfg_attr(feature = "serde", derive(serde::Serialize, serde::Deserialize))]
 pub struct Parameters {
     /// How many times as long words are as what they encode: from 1 to 27.
     pub log_blowup: u32,
@@ -92,6 +93,7 @@ impl Parameters {
 /// assert_eq!(Domain::subgroup(3), Domain { shift: 1, log_size: 3 });
 /// ```
 #[derive(Clone, Copy, Debug, PartialEq, Eq, Hash)]
+#[cfg_attr(feature = "serde", derive(serde::Serialize, serde::Deserialize))]
 pub struct Domain {
     /// An element that isn't 0.
     pub shift: Element,
@@ -109,6 +111,7 @@ impl Domain {
 /// Columns of values on a domain, and the points to open them at. [`commit`](crate::commit) doesn't
 /// read the points.
 #[derive(Clone, Debug, PartialEq, Eq, Hash)]
+#[cfg_attr(feature = "serde", derive(serde::Serialize, serde::Deserialize))]
 pub struct Matrix {
     /// Where the values stand.
     pub domain: Domain,
@@ -123,6 +126,7 @@ pub struct Matrix {
 
 /// The values claimed at a point, one for each column.
 #[derive(Clone, Debug, PartialEq, Eq, Hash)]
+#[cfg_attr(feature = "serde", derive(serde::Serialize, serde::Deserialize))]
 pub struct PointClaims {
     /// The point.
     pub point: ExtensionElement,
@@ -132,6 +136,7 @@ pub struct PointClaims {
 
 /// What is claimed of a matrix. Its width is the number of values at its first point.
 #[derive(Clone, Debug, PartialEq, Eq, Hash)]
+#[cfg_attr(feature = "serde", derive(serde::Serialize, serde::Deserialize))]
 pub struct MatrixClaims {
     /// Where the committed values stand.
     pub domain: Domain,
@@ -141,6 +146,7 @@ pub struct MatrixClaims {
 
 /// What is claimed of the matrices under one commitment.
 #[derive(Clone, Debug, PartialEq, Eq, Hash)]
+#[cfg_attr(feature = "serde", derive(serde::Serialize, serde::Deserialize))]
 pub struct CommitmentClaims {
     /// The commitment.
     pub commitment: Digest,
@@ -192,6 +198,7 @@ impl Proof {
 
 /// What comes of opening matrices.
 #[derive(Clone, Debug, PartialEq, Eq, Hash)]
+#[cfg_attr(feature = "serde", derive(serde::Serialize, serde::Deserialize))]
 pub struct Opening {
     /// The values at the points, by commitment, matrix, point and column.
     pub claims: Vec<CommitmentClaims>,
