@@ -1,17 +1,19 @@
 //! What the calls that commit refuse, and the data that they give.
 
+use crate::chunks::domains_of;
 use crate::committed::{Committing, commit_and_read};
 use crate::input::Input;
-use crate::matrices::{coset, doubled_domain};
+use crate::matrices::coset;
 use crate::scheme::{Data, Domain, Evaluations, SMALL, Setting, scheme_of};
 use p3_field::{BabyBear, Field};
 use p3_fri_masks::HidingFriProverError;
 use p3_matrix::RowMajorMatrix;
+use p3_test_openings::listed::pair;
 use std::alloc::{AllocError, Global};
 use std::test::Fail;
 
 /// A call that commits.
-#[derive(Clone, Copy, Debug, PartialEq)]
+#[derive(Clone, Copy, PartialEq)]
 enum Call {
     Commit,
     Preprocessing,
@@ -21,12 +23,12 @@ enum Call {
     Quotient,
 }
 
-const CALLS: [Call; 5] = [
-    Call::Commit,
-    Call::Preprocessing,
-    Call::Ldes,
-    Call::Randomization,
-    Call::Quotient,
+const CALLS: [(Call, &str); 5] = [
+    (Call::Commit, "columns"),
+    (Call::Preprocessing, "preprocessing"),
+    (Call::Ldes, "words"),
+    (Call::Randomization, "random polynomials"),
+    (Call::Quotient, "a quotient"),
 ];
 
 /// A budget that masks of 8 rows don't meet.
@@ -44,7 +46,6 @@ const FEW_CODEWORDS: HidingFriProverError = HidingFriProverError::InsufficientRa
 };
 
 /// The numbers of random codewords and of queries, the heights of masks, and the refusal, if any.
-#[derive(Clone, Copy, Debug)]
 struct Case {
     num_random_codewords: usize,
     num_queries: usize,
@@ -52,7 +53,7 @@ struct Case {
     refusal: Option<HidingFriProverError>,
 }
 
-const CASES: [Case; 9] = [
+static CASES: [Case; 9] = [
     Case {
         num_random_codewords: 4,
         num_queries: 2,
@@ -121,20 +122,26 @@ fn zeros(alloc: Global, height: usize) -> Result<RowMajorMatrix<BabyBear>, Alloc
     Ok(RowMajorMatrix::new(vec![in alloc; BabyBear::ZERO; height]?, 1))
 }
 
-/// The domains of twice as many points as masks of these heights have rows.
-fn doubled_domains(alloc: Global, heights: &[usize]) -> Result<Vec<Domain>, Fail> {
-    let mut domains = Vec::new(alloc);
-    for height in heights {
-        domains.push(doubled_domain(1, *height)?)?;
-    }
-    Ok(domains)
+/// A column of so many zeros beside the coset of this shift of as many points, times
+/// `2^log_factor`.
+fn zeros_on(
+    alloc: Global,
+    shift: u64,
+    height: usize,
+    log_factor: u8,
+) -> Result<(Domain, RowMajorMatrix<BabyBear>), Fail> {
+    let domain = coset(
+        shift,
+        height.trailing_zeros() as usize + log_factor as usize,
+    )?;
+    Ok((domain, zeros(alloc, height)?))
 }
 
-/// Columns of zeros of these heights, each beside its domain.
+/// Columns of zeros of these heights, each beside its domain of twice as many points.
 fn columns(alloc: Global, heights: &[usize]) -> Result<Evaluations, Fail> {
     let mut all = Vec::new(alloc);
     for height in heights {
-        all.push((doubled_domain(1, *height)?, zeros(alloc, *height)?))?;
+        all.push(zeros_on(alloc, 1, *height, 1)?)?;
     }
     Ok(all)
 }
@@ -148,16 +155,13 @@ fn words(alloc: Global, heights: &[usize]) -> Result<Vec<RowMajorMatrix<BabyBear
     Ok(words)
 }
 
-/// Two chunks of zeros, of the last of these heights.
-fn chunks(alloc: Global, heights: &[usize]) -> Result<Evaluations, Fail> {
-    let mut all = Vec::new(alloc);
-    if let Some(height) = heights.last() {
-        for shift in [1, 31] {
-            let domain = coset(shift, height.trailing_zeros() as usize)?;
-            all.push((domain, zeros(alloc, *height)?))?;
-        }
-    }
-    Ok(all)
+/// Two chunks of zeros, of this height.
+fn chunks(alloc: Global, height: usize) -> Result<Evaluations, Fail> {
+    Ok(pair(
+        alloc,
+        zeros_on(alloc, 1, height, 0)?,
+        zeros_on(alloc, 31, height, 0)?,
+    )?)
 }
 
 /// What the call is handed where the masks have these heights.
@@ -166,8 +170,14 @@ fn input_of(alloc: Global, call: Call, heights: &[usize]) -> Result<Committing, 
         Call::Commit => Ok(Input::Private(columns(alloc, heights)?)),
         Call::Preprocessing => Ok(Input::Preprocessed(columns(alloc, heights)?)),
         Call::Ldes => Ok(Input::Ldes(words(alloc, heights)?)),
-        Call::Randomization => Ok(Input::Random(doubled_domains(alloc, heights)?)),
-        Call::Quotient => Ok(Input::Chunks(chunks(alloc, heights)?)),
+        Call::Randomization => {
+            let columns = columns(alloc, heights)?;
+            Ok(Input::Random(domains_of(alloc, &columns)?))
+        },
+        Call::Quotient => match heights.last() {
+            Some(height) => Ok(Input::Chunks(chunks(alloc, *height)?)),
+            None => Err(Fail::new("a quotient has chunks")),
+        },
     }
 }
 
@@ -184,25 +194,28 @@ fn is_answered(alloc: Global, call: Call, case: &Case) -> Result<bool, Fail> {
     if call == Call::Quotient && case.heights.is_empty() {
         return Ok(true);
     }
+    let input = input_of(alloc, call, case.heights)?;
     let mut scheme = scheme_of(Setting {
         num_random_codewords: case.num_random_codewords,
         num_queries: case.num_queries,
         ..SMALL
     });
-    let input = input_of(alloc, call, case.heights)?;
     match commit_and_read(&mut scheme, alloc, input, &[])? {
         Ok(committed) => Ok(
             case.refusal.is_none() && is_new(&committed.held, call, case.num_random_codewords),
         ),
-        Err(refusal) => Ok(refusal.is_some() && case.refusal == refusal),
+        Err(refusal) => Ok(case.refusal == Some(refusal)),
     }
 }
 
 #[test]
 fn the_budget_is_met_or_refused(rt: HostRuntime) -> Result<(), Fail> {
-    for call in CALLS {
-        for case in &CASES {
-            assert!(rt; is_answered(rt.alloc(), call, case)?, "{call:?}, {case:?}");
+    for (call, name) in CALLS {
+        for (index, case) in CASES.iter().enumerate() {
+            assert!(rt;
+                is_answered(rt.alloc(), call, case)?,
+                "{name}, case {index}"
+            );
         }
     }
     Ok(())

@@ -1,6 +1,6 @@
 //! Whatever a scheme commits to, by one call, and what it reads of it.
 
-ghost use Rattle.std.specs.Prelude.{length, IfOk};
+ghost use Rattle.std.specs.Prelude.{length, IfOk, IfSome};
 ghost use Rattle.p3_fri_hiding_tests.specs.Inputs.{CanCommitTo};
 
 use crate::input::Input;
@@ -8,9 +8,9 @@ use p3_matrix::RowMajorMatrix;
 use p3_stark_pcs::UnivariateStarkPcs;
 use std::alloc::Global;
 
-/// A commitment and its data, or why there is none: where the words of chunks are refused that were
-/// extended, or the scheme commits to no random polynomials, `None`.
-type Committed<Commitment, Data, Refusal> = Result<(Commitment, Data), Option<Refusal>>;
+/// A commitment and its data, or why there is none; `None` where the words of chunks are refused
+/// that were extended, or the scheme commits to no random polynomials.
+type Committed<Commitment, Data, Refusal> = Result<Option<(Commitment, Data)>, Refusal>;
 
 /// The words of chunks, committed to.
 fn commit_chunks<EF: Copy, C, P: UnivariateStarkPcs<EF, C>>(
@@ -20,15 +20,16 @@ fn commit_chunks<EF: Copy, C, P: UnivariateStarkPcs<EF, C>>(
 ) -> Committed<P::Commitment, P::ProverData, P::ProverError>
     requires { (P.stark_rules scheme.old).CanExtend chunks.items (length chunks.items) }
     ensures kept { P.Keeps scheme.old scheme.new }
-    ensures readable { IfOk result (λ pair. (P.stark_rules scheme.new).IsReadable pair.1) }
+    ensures readable { IfOk result (λ found.
+        IfSome found (λ pair. (P.stark_rules scheme.new).IsReadable pair.1)) }
 {
     let count = chunks.len();
     match scheme.get_quotient_ldes(alloc, chunks, count) {
         Ok(words) => match scheme.commit_ldes(alloc, words) {
-            Ok(committed) => Ok(committed),
-            Err(_) => Err(None),
+            Ok(committed) => Ok(Some(committed)),
+            Err(_) => Ok(None),
         },
-        Err(refusal) => Err(Some(refusal)),
+        Err(refusal) => Err(refusal),
     }
 }
 
@@ -41,29 +42,24 @@ pub(crate) fn commit_to<EF: Copy, C, P: UnivariateStarkPcs<EF, C>>(
     requires { let t = P.stark_rules scheme.old in CanCommitTo (P.rules scheme.old).CanCommit
         (λ es. t.CanExtend es (length es)) t.CanCommitLdes t.CanRandomize input }
     ensures kept { P.Keeps scheme.old scheme.new }
-    ensures readable { IfOk result (λ pair. (P.stark_rules scheme.new).IsReadable pair.1) }
+    ensures readable { IfOk result (λ found.
+        IfSome found (λ pair. (P.stark_rules scheme.new).IsReadable pair.1)) }
 {
     match input {
         Input::Private(evaluations) => match scheme.commit(alloc, evaluations) {
-            Ok(committed) => Ok(committed),
-            Err(refusal) => Err(Some(refusal)),
+            Ok(committed) => Ok(Some(committed)),
+            Err(refusal) => Err(refusal),
         },
         Input::Preprocessed(evaluations) => match scheme.commit_preprocessing(alloc, evaluations) {
-            Ok(committed) => Ok(committed),
-            Err(refusal) => Err(Some(refusal)),
+            Ok(committed) => Ok(Some(committed)),
+            Err(refusal) => Err(refusal),
         },
         Input::Ldes(ldes) => match scheme.commit_ldes(alloc, ldes) {
-            Ok(committed) => Ok(committed),
-            Err(refusal) => Err(Some(refusal)),
+            Ok(committed) => Ok(Some(committed)),
+            Err(refusal) => Err(refusal),
         },
         Input::Chunks(chunks) => commit_chunks(scheme, alloc, chunks),
-        Input::Random(domains) => {
-            match scheme.get_opt_randomization_poly_commitment(alloc, domains) {
-                Ok(Some(committed)) => Ok(committed),
-                Ok(None) => Err(None),
-                Err(refusal) => Err(Some(refusal)),
-            }
-        }
+        Input::Random(domains) => scheme.get_opt_randomization_poly_commitment(alloc, domains),
     }
 }
 

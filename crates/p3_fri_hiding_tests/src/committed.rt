@@ -130,41 +130,33 @@ fn readings(
     Ok(all)
 }
 
-/// A commitment, its data, and what is read of that.
+/// The data of a commitment, and what is read of it.
 #[derive(Drop)]
 pub(crate) struct Committed {
-    pub commitment: [u8; 32],
     pub held: Data,
     pub readings: Vec<Reading<BabyBear>>,
 }
 
-/// Commits to this, and reads each matrix on the domain of its index, or says why it can't. `None`
-/// is no refusal of the call that is asked for.
+/// Commits to this, and reads each matrix on the domain of its index, or says why it can't.
 pub(crate) fn commit_and_read(
     scheme: &mut Scheme,
     alloc: Global,
     input: Committing,
     domains: &[Domain],
-) -> Result<Result<Committed, Option<HidingFriProverError>>, Fail>
+) -> Result<Result<Committed, HidingFriProverError>, Fail>
     requires { scheme.old.fri.log_blowup ≡ 2 }
-    ensures kept { scheme.new ≡ record scheme.old { rng = scheme.new.rng } }
-    ensures readable { IfOk result (λ answer. IfOk answer (λ committed. IsOfScheme
-        ⟦<BabyBear4 as ChallengeField<BabyBear>>⟧.fields ⟦<Inputs as Mmcs<BabyBear>>⟧.committed
-        scheme.new.fri.log_blowup scheme.new.num_random_codewords committed.held)) }
+    ensures { scheme.new ≡ record scheme.old { rng = scheme.new.rng } }
 {
     if !is_committable(alloc, &input)? {
         return Err(Fail::new("this can't be committed to"));
     }
     match commit_to::<BabyBear4, Sha256Challenger, Scheme>(&mut *scheme, alloc, input) {
-        Ok(pair) => {
-            let (commitment, held) = pair;
+        Ok(Some(pair)) => {
+            let (_commitment, held) = pair;
             let readings = readings(&*scheme, alloc, &held, domains)?;
-            Ok(Ok(Committed {
-                commitment,
-                held,
-                readings,
-            }))
+            Ok(Ok(Committed { held, readings }))
         }
+        Ok(None) => Err(Fail::new("nothing is committed to")),
         Err(refusal) => Ok(Err(refusal)),
     }
 }

@@ -24,3 +24,5 @@ mod openings;
 mod periodic;
 #[cfg(test)]
 mod scheme;
+#[cfg(test)]
+mod tested;

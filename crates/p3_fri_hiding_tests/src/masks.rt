@@ -4,118 +4,148 @@ ghost use Rattle.std.specs.Prelude.{◌≡◌};
 
 use crate::chunks::domains_of;
 use crate::commitments::Reading;
-use crate::committed::{Committed, Committing, commit_and_read};
+use crate::committed::{Committing, commit_and_read};
 use crate::input::Input;
-use crate::matrices::{
-    E, Entries, PI, TRACES, are_numbers, coset, doubled_domain, evaluations, has_rows_between,
-    has_zeros_between, matrix, row_of,
-};
-use crate::scheme::{Domain, Evaluations, SMALL, Scheme, generator, next_element, scheme_of};
+use crate::matrices::{E, Entries, PI, are_numbers, coset, evaluations, matrix, row_of};
+use crate::scheme::{Domain, SMALL, Scheme, generator, next_element, scheme_of};
 use p3_field::{BabyBear, Field};
 use p3_matrix::RowMajorMatrix;
 use rand_chacha::ChaCha20Rng;
-use std::alloc::{AllocError, Global};
+use std::alloc::Global;
 use std::test::Fail;
 
 type Readings = Vec<Reading<BabyBear>>;
 
-/// What is read of a commitment to this.
-fn read_of(
-    scheme: &mut Scheme,
-    alloc: Global,
-    input: Committing,
-    domains: &[Domain],
-) -> Result<Readings, Fail>
-    requires { scheme.old.fri.log_blowup ≡ 2 }
-    ensures { scheme.new.fri.log_blowup ≡ 2 }
-{
-    match commit_and_read(scheme, alloc, input, domains)? {
-        Ok(Committed { readings, .. }) => Ok(readings),
+/// What is read of a new scheme's commitment to this.
+fn read_of(alloc: Global, input: Committing, domains: &[Domain]) -> Result<Readings, Fail> {
+    match commit_and_read(&mut scheme_of(SMALL), alloc, input, domains)? {
+        Ok(committed) => Ok(committed.readings),
         Err(_) => Err(Fail::new("not committed to")),
     }
 }
 
-/// What is read of these matrices on their domains.
-fn read_private(scheme: &mut Scheme, alloc: Global, each: &[Entries]) -> Result<Readings, Fail>
+/// What is read on their domains of these matrices, committed to now, if that isn't refused.
+fn read_next(scheme: &mut Scheme, alloc: Global, each: &[Entries]) -> Result<Option<Readings>, Fail>
     requires { scheme.old.fri.log_blowup ≡ 2 }
     ensures { scheme.new.fri.log_blowup ≡ 2 }
 {
-    let evaluations = evaluations(alloc, each)?;
+    let evaluations = evaluations(alloc, each, 1)?;
     let domains = domains_of(alloc, &evaluations)?;
-    read_of(scheme, alloc, Input::Private(evaluations), &domains)
+    match commit_and_read(scheme, alloc, Input::Private(evaluations), &domains)? {
+        Ok(committed) => Ok(Some(committed.readings)),
+        Err(_) => Ok(None),
+    }
 }
 
-/// Whether each matrix stands in the rows of even index of what is shown of it.
-fn masked_matrices_keep_their_rows(alloc: Global) -> Result<bool, Fail> {
-    let readings = read_private(&mut scheme_of(SMALL), alloc, &TRACES)?;
-    for (reading, entries) in readings.iter().zip(&TRACES) {
-        let trace = matrix(alloc, entries.numbers, entries.width)?;
-        if !has_rows_between(&reading.shown, &trace) {
-            return Ok(false);
+/// What stands between the rows of a matrix and, where it is private, in four columns beside them.
+#[derive(Drop)]
+enum Masks {
+    Zeros,
+    Words(ChaCha20Rng),
+}
+
+/// Whether the elements are the next masks.
+fn are_next(elements: &[BabyBear], masks: &mut Masks) -> bool {
+    for element in elements {
+        let mask = match masks {
+            Masks::Zeros => BabyBear::ZERO,
+            Masks::Words(words) => next_element(words),
+        };
+        if *element != mask {
+            return false;
         }
     }
-    Ok(readings.len() == TRACES.len())
+    true
 }
 
-/// Whether all columns of each preprocessed matrix are shown, its rows at even indices and zeros
-/// between.
-fn preprocessing_has_zeros_between_its_rows(alloc: Global) -> Result<bool, Fail> {
-    let evaluations = evaluations(alloc, &TRACES)?;
-    let domains = domains_of(alloc, &evaluations)?;
-    let input = Input::Preprocessed(evaluations);
-    let readings = read_of(&mut scheme_of(SMALL), alloc, input, &domains)?;
-    for (reading, entries) in readings.iter().zip(&TRACES) {
+/// What stands in the row of this index after that of the trace, which rows of even index begin
+/// with, counted from 0.
+fn rest_of<'a>(
+    row: &'a [BabyBear],
+    trace: &RowMajorMatrix<BabyBear>,
+    index: usize,
+) -> Option<&'a [BabyBear]> {
+    if index % 2 == 0 {
+        row.strip_prefix(row_of(trace, index / 2))
+    } else {
+        Some(row)
+    }
+}
+
+/// Whether all that stands after and between the rows of the trace are the next masks.
+fn is_masked(
+    whole: &RowMajorMatrix<BabyBear>,
+    trace: &RowMajorMatrix<BabyBear>,
+    masks: &mut Masks,
+) -> bool {
+    for index in 0..whole.height() {
+        let Some(rest) = rest_of(row_of(whole, index), trace, index) else {
+            return false;
+        };
+        if !are_next(rest, masks) {
+            return false;
+        }
+    }
+    whole.height() % 2 == 0 && whole.height() / 2 == trace.height()
+}
+
+/// Whether the shown matrix has so many columns, and these are the first of the whole one.
+fn are_first_columns(
+    shown: &RowMajorMatrix<BabyBear>,
+    whole: &RowMajorMatrix<BabyBear>,
+    width: usize,
+) -> bool {
+    for index in 0..whole.height() {
+        if !row_of(whole, index).starts_with(row_of(shown, index)) {
+            return false;
+        }
+    }
+    shown.height() == whole.height() && shown.width() == width
+}
+
+/// Whether all columns of each matrix, with so many more than it has, are read with the next masks,
+/// and without those that only hide others as many as it has.
+fn are_masked(
+    alloc: Global,
+    readings: &[Reading<BabyBear>],
+    each: &[Entries],
+    hidden: u8,
+    masks: &mut Masks,
+) -> Result<bool, Fail> {
+    for (index, entries) in each.iter().enumerate() {
         let trace = matrix(alloc, entries.numbers, entries.width)?;
-        if !has_rows_between(&reading.whole, &trace)
-            || !has_zeros_between(&reading.whole)
-            || reading.shown != reading.whole
+        let Some(reading) = readings.get(index) else {
+            return Ok(false);
+        };
+        if !is_masked(&reading.whole, &trace, masks)
+            || !are_first_columns(&reading.shown, &reading.whole, trace.width())
+            || reading.whole.width().checked_sub(trace.width()) != Some(hidden as usize)
         {
             return Ok(false);
         }
     }
-    Ok(readings.len() == TRACES.len())
+    Ok(readings.len() == each.len())
 }
 
-/// The masked matrix, value by value: each row with 4 words after it, and then a row of words.
-fn masked_by_words(
-    alloc: Global,
-    trace: &RowMajorMatrix<BabyBear>,
-    rng: &mut ChaCha20Rng,
-) -> Result<Vec<BabyBear>, AllocError> {
-    let mut values = Vec::new(alloc);
-    for index in 0..trace.height() {
-        values.extend_from_slice(trace.row(index))?;
-        // 4 codewords beside the row, a row of words below it, and 4 codewords beside that
-        for _ in 0..4 {
-            values.push(next_element(rng))?;
-        }
-        for _ in 0..trace.width() {
-            values.push(next_element(rng))?;
-        }
-        for _ in 0..4 {
-            values.push(next_element(rng))?;
-        }
-    }
-    Ok(values)
+/// Matrices that are committed to in turn, and whether that is refused.
+struct Turn {
+    each: &'static [Entries],
+    is_refused: bool,
 }
 
-/// Whether all columns of both matrices, committed to now, are masked by the next words.
-fn are_masked_by(scheme: &mut Scheme, alloc: Global, words: &mut ChaCha20Rng) -> Result<bool, Fail>
-    requires { scheme.old.fri.log_blowup ≡ 2 }
-    ensures { scheme.new.fri.log_blowup ≡ 2 }
-{
-    let readings = read_private(scheme, alloc, &TRACES)?;
-    if readings.len() != TRACES.len() {
-        return Ok(false);
-    }
-    for (reading, entries) in readings.into_iter().zip(&TRACES) {
-        let trace = matrix(alloc, entries.numbers, entries.width)?;
-        if reading.whole.into_values() != masked_by_words(alloc, &trace, words)? {
-            return Ok(false);
-        }
-    }
-    Ok(true)
-}
+/// 16 rows and 32 rows.
+const TRACES: [Entries; 2] = [
+    Entries {
+        shift: 1,
+        width: 2,
+        numbers: &PI,
+    },
+    Entries {
+        shift: 5,
+        width: 1,
+        numbers: &E,
+    },
+];
 
 /// Matrices of which the second is too low for the budget.
 const TOO_LOW: [Entries; 2] = [
@@ -131,38 +161,74 @@ const TOO_LOW: [Entries; 2] = [
     },
 ];
 
-/// Whether the next two commitments are masked by the first words of the generator, in turn.
-fn are_masked_in_turn(scheme: &mut Scheme, alloc: Global) -> Result<bool, Fail>
-    requires { scheme.old.fri.log_blowup ≡ 2 }
-{
-    let mut words = generator();
-    let first = are_masked_by(&mut *scheme, alloc, &mut words)?;
-    let second = are_masked_by(&mut *scheme, alloc, &mut words)?;
-    Ok(first && second)
+static TWICE: [Turn; 2] = [
+    Turn {
+        each: &TRACES,
+        is_refused: false,
+    },
+    Turn {
+        each: &TRACES,
+        is_refused: false,
+    },
+];
+
+static AFTER_A_REFUSAL: [Turn; 3] = [
+    Turn {
+        each: &TOO_LOW,
+        is_refused: true,
+    },
+    Turn {
+        each: &TRACES,
+        is_refused: false,
+    },
+    Turn {
+        each: &TRACES,
+        is_refused: false,
+    },
+];
+
+/// Whether what is read is masked by the next words, or nothing is where that is refused.
+fn is_met(
+    alloc: Global,
+    found: &Option<Readings>,
+    turn: &Turn,
+    masks: &mut Masks,
+) -> Result<bool, Fail> {
+    match found {
+        Some(readings) if !turn.is_refused => are_masked(alloc, readings, turn.each, 4, masks),
+        Some(_) => Ok(false),
+        None => Ok(turn.is_refused),
+    }
 }
 
-/// Whether a new scheme's masks are the words of its generator.
-fn masks_are_the_next_words(alloc: Global) -> Result<bool, Fail> {
-    are_masked_in_turn(&mut scheme_of(SMALL), alloc)
-}
-
-/// Whether a refused commitment takes none of those words.
-fn a_refusal_takes_no_words(alloc: Global) -> Result<bool, Fail> {
+/// Whether the masks of a new scheme's commitments are the words of its generator in turn, of
+/// which a refusal takes none.
+fn masks_are_the_next_words(alloc: Global, turns: &[Turn]) -> Result<bool, Fail> {
     let mut scheme = scheme_of(SMALL);
-    let input = Input::Private(evaluations(alloc, &TOO_LOW)?);
-    let is_refused = match commit_and_read(&mut scheme, alloc, input, &[])? {
-        Ok(_) => false,
-        Err(refusal) => refusal.is_some(),
-    };
-    Ok(is_refused && are_masked_in_turn(&mut scheme, alloc)?)
+    let mut masks = Masks::Words(generator());
+    for turn in turns {
+        let found = read_next(&mut scheme, alloc, turn.each)?;
+        if !is_met(alloc, &found, turn, &mut masks)? {
+            return Ok(false);
+        }
+    }
+    Ok(true)
+}
+
+/// Whether all columns of preprocessed matrices are shown, with zeros between their rows.
+fn preprocessing_has_zeros_between_its_rows(alloc: Global) -> Result<bool, Fail> {
+    let evaluations = evaluations(alloc, &TRACES, 1)?;
+    let domains = domains_of(alloc, &evaluations)?;
+    let readings = read_of(alloc, Input::Preprocessed(evaluations), &domains)?;
+    are_masked(alloc, &readings, &TRACES, 0, &mut Masks::Zeros)
 }
 
 /// What is committed to by forks.
-const FORKED: Entries = Entries {
+static FORKED: [Entries; 1] = [Entries {
     shift: 5,
     width: 1,
     numbers: &E,
-};
+}];
 
 /// Its first two rows with masks, by the generators of two forks and by that of the scheme itself
 /// thereafter.
@@ -203,7 +269,9 @@ const ROWS: [[[u64; 5]; 2]; 3] = [
 fn commits_to(alloc: Global, scheme: &mut Scheme, rows: &[[u64; 5]; 2]) -> Result<bool, Fail>
     requires { scheme.old.fri.log_blowup ≡ 2 }
 {
-    let readings = read_private(scheme, alloc, &[FORKED])?;
+    let Some(readings) = read_next(scheme, alloc, &FORKED)? else {
+        return Ok(false);
+    };
     let Some(reading) = readings.first() else {
         return Ok(false);
     };
@@ -228,7 +296,7 @@ fn forks_draw_masks_of_their_own(alloc: Global) -> Result<bool, Fail> {
 }
 
 /// Two chunks of 16 rows, on the halves of the coset of 31 of 32 points.
-const CHUNKS: [Entries; 2] = [
+static CHUNKS: [Entries; 2] = [
     Entries {
         shift: 31,
         width: 2,
@@ -268,94 +336,76 @@ const FACTORS_AT_FIVE: [u64; 2] = [198_688_671, 1_814_577_251];
 /// The recombined quotient at 5 of each column of the chunks as they were handed in.
 const RECOMBINED_AT_FIVE: [u64; 2] = [699_564_735, 1_070_878_612];
 
-/// The chunks beside their domains.
-fn chunks(alloc: Global) -> Result<Evaluations, Fail> {
-    let mut all = Vec::new(alloc);
-    for entries in &CHUNKS {
-        let chunk = matrix(alloc, entries.numbers, entries.width)?;
-        all.push((coset(entries.shift, 4)?, chunk))?;
-    }
-    Ok(all)
-}
-
-/// Adds to each sum the factor times the value beside it.
-fn add_times(sums: &mut [BabyBear], factor: BabyBear, values: &[BabyBear]) {
-    for (sum, value) in sums.iter_mut().zip(values) {
-        *sum = *sum + factor * *value;
-    }
+/// A column's value at 5, recombined of both chunks.
+fn recombined(
+    first: &RowMajorMatrix<BabyBear>,
+    second: &RowMajorMatrix<BabyBear>,
+    column: usize,
+) -> Option<BabyBear> {
+    let [of_first, of_second] = FACTORS_AT_FIVE;
+    let first = first.get(0, column)?;
+    let second = second.get(0, column)?;
+    Some(BabyBear::from_u64(of_first) * first + BabyBear::from_u64(of_second) * second)
 }
 
 /// Whether each masked chunk has these values at 5, and their columns recombine to what they did
 /// before.
 fn masked_chunks_recombine_to_the_quotient(alloc: Global) -> Result<bool, Fail> {
     let five = coset(5, 0)?;
-    let input = Input::Chunks(chunks(alloc)?);
-    let readings = read_of(&mut scheme_of(SMALL), alloc, input, &[five, five])?;
-    let mut sums = [BabyBear::ZERO; 2];
-    for index in 0..2 {
-        let Some(reading) = readings.get(index) else {
-            return Ok(false);
-        };
-        if !are_numbers(row_of(&reading.whole, 0), &MASKED_AT_FIVE[index])
-            || reading.shown.width() != 2
-        {
-            return Ok(false);
-        }
-        let factor = BabyBear::from_u64(FACTORS_AT_FIVE[index]);
-        add_times(&mut sums, factor, row_of(&reading.shown, 0));
-    }
-    Ok(are_numbers(&sums, &RECOMBINED_AT_FIVE))
+    let input = Input::Chunks(evaluations(alloc, &CHUNKS, 0)?);
+    let readings = read_of(alloc, input, &[five, five])?;
+    let [first, second] = readings.as_slice() else {
+        return Ok(false);
+    };
+    let [of_first, of_second] = RECOMBINED_AT_FIVE;
+    Ok(
+        are_numbers(row_of(&first.whole, 0), &MASKED_AT_FIVE[0])
+            && are_numbers(row_of(&second.whole, 0), &MASKED_AT_FIVE[1])
+            && recombined(&first.shown, &second.shown, 0) == Some(BabyBear::from_u64(of_first))
+            && recombined(&first.shown, &second.shown, 1) == Some(BabyBear::from_u64(of_second))
+            && first.shown.width() == 2
+            && second.shown.width() == 2,
+    )
 }
 
-/// Whether the elements are those of the next words.
-fn are_next_words(elements: &[BabyBear], words: &mut ChaCha20Rng) -> bool {
-    for element in elements {
-        if *element != next_element(words) {
+/// Whether the matrix has 8 columns on a domain of so many points, of the next words.
+fn is_random(matrix: &RowMajorMatrix<BabyBear>, size: usize, words: &mut Masks) -> bool {
+    for index in 0..matrix.height() {
+        if !are_next(row_of(matrix, index), words) {
             return false;
         }
     }
-    true
+    matrix.width() == 8 && matrix.height() == size
 }
 
 /// Whether each matrix of random polynomials, for domains of 32 and of 64 points, has 8 columns,
 /// and on its domain the elements of the next words.
 fn random_polynomials_are_of_the_next_words(alloc: Global) -> Result<bool, Fail> {
-    let mut words = generator();
-    let domains = [doubled_domain(1, 16)?, doubled_domain(1, 32)?];
+    let domains = [coset(1, 5)?, coset(1, 6)?];
     let input = Input::Random(Vec::from_slice(alloc, &domains)?);
-    let readings = read_of(&mut scheme_of(SMALL), alloc, input, &domains)?;
-    let mut as_wanted = readings.len() == 2;
-    for (reading, domain) in readings.into_iter().zip(domains) {
-        let values = reading.whole;
-        as_wanted = as_wanted
-            && values.width() == 8
-            && values.height() == domain.size()
-            && are_next_words(&values.into_values(), &mut words);
-    }
-    Ok(as_wanted)
+    let readings = read_of(alloc, input, &domains)?;
+    let [first, second] = readings.as_slice() else {
+        return Ok(false);
+    };
+    let mut words = Masks::Words(generator());
+    Ok(is_random(&first.whole, 32, &mut words) && is_random(&second.whole, 64, &mut words))
 }
 
 #[test]
 fn committed_matrices_are_read(rt: HostRuntime) -> Result<(), Fail> {
+    let alloc = rt.alloc();
     let found = [
-        ("rows", masked_matrices_keep_their_rows(rt.alloc())?),
-        (
-            "zeros",
-            preprocessing_has_zeros_between_its_rows(rt.alloc())?,
-        ),
-        ("words", masks_are_the_next_words(rt.alloc())?),
+        ("words", masks_are_the_next_words(alloc, &TWICE)?),
         (
             "words after a refusal",
-            a_refusal_takes_no_words(rt.alloc())?,
+            masks_are_the_next_words(alloc, &AFTER_A_REFUSAL)?,
         ),
-        ("forks", forks_draw_masks_of_their_own(rt.alloc())?),
-        (
-            "chunks",
-            masked_chunks_recombine_to_the_quotient(rt.alloc())?,
-        ),
+        ("zeros", preprocessing_has_zeros_between_its_rows(alloc)?),
+        ("forks", forks_draw_masks_of_their_own(alloc)?),
+        ("chunks", masked_chunks_recombine_to_the_quotient(alloc)?),
         (
             "random polynomials",
-            random_polynomials_are_of_the_next_words(rt.alloc())?,
+            random_polynomials_are_of_the_next_words(alloc)?,
         ),
     ];
     for (name, holds) in found {

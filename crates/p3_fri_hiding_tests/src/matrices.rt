@@ -1,6 +1,6 @@
 //! Matrices of small numbers, the domains beside them, and points.
 
-ghost use Rattle.std.specs.Prelude.{◌≢◌, [], IfOk, IsTrue};
+ghost use Rattle.std.specs.Prelude.{◌≡◌, ◌≢◌, [], IfOk, IsTrue};
 ghost use Rattle.p3_fri_commit.specs.Extension.{FitsDomain};
 ghost use Rattle.p3_fri_hiding.specs.Trace.{FitsMasked};
 
@@ -11,7 +11,6 @@ use std::alloc::{AllocError, Global};
 use std::test::Fail;
 
 /// Rows of this width of the numbers, on the coset of this shift.
-#[derive(Clone, Copy, Debug)]
 pub(crate) struct Entries {
     pub shift: u64,
     pub width: usize,
@@ -31,19 +30,8 @@ pub(crate) const E: [u64; 32] = [
     2, 7, 1, 8, 2, 8, 1, 8, 2, 8, 4, 5, 9, 0, 4, 5, 2, 3, 5, 3, 6, 0, 2, 8, 7, 4, 7, 1, 3, 5, 2, 6,
 ];
 
-/// 16 rows and 32 rows.
-pub(crate) const TRACES: [Entries; 2] = [
-    Entries {
-        shift: 1,
-        width: 2,
-        numbers: &PI,
-    },
-    Entries {
-        shift: 5,
-        width: 1,
-        numbers: &E,
-    },
-];
+/// The first 16 of them.
+pub(crate) const SHORT_E: [u64; 16] = [2, 7, 1, 8, 2, 8, 1, 8, 2, 8, 4, 5, 9, 0, 4, 5];
 
 /// Elements that are these numbers.
 pub(crate) fn elements(alloc: Global, numbers: &[u64]) -> Result<Vec<BabyBear>, AllocError> {
@@ -68,24 +56,39 @@ pub(crate) fn matrix(
 }
 
 /// The coset of this shift and of `2^log_size` points.
-pub(crate) fn coset(shift: u64, log_size: usize) -> Result<Domain, Fail> {
+pub(crate) fn coset(shift: u64, log_size: usize) -> Result<Domain, Fail>
+    ensures { IfOk result (λ domain. domain.log_size ≡ log_size) }
+{
     match TwoAdicMultiplicativeCoset::new(BabyBear::from_u64(shift), log_size) {
         Some(coset) => Ok(coset),
         None => Err(Fail::new("not a domain")),
     }
 }
 
-/// The coset of this shift of twice as many points as a matrix of this height has rows.
-pub(crate) fn doubled_domain(shift: u64, height: usize) -> Result<Domain, Fail> {
-    coset(shift, height.trailing_zeros() as usize + 1)
+/// The matrix of these entries, beside its domain of as many points as it has rows, times
+/// `2^log_factor`.
+fn evaluation(
+    alloc: Global,
+    entries: &Entries,
+    log_factor: u8,
+) -> Result<(Domain, RowMajorMatrix<BabyBear>), Fail> {
+    let matrix = matrix(alloc, entries.numbers, entries.width)?;
+    let log_height = matrix.height().trailing_zeros() as usize;
+    Ok((
+        coset(entries.shift, log_height + log_factor as usize)?,
+        matrix,
+    ))
 }
 
-/// The matrices of these entries, each beside its domain of twice as many points.
-pub(crate) fn evaluations(alloc: Global, each: &[Entries]) -> Result<Evaluations, Fail> {
+/// The same of each.
+pub(crate) fn evaluations(
+    alloc: Global,
+    each: &[Entries],
+    log_factor: u8,
+) -> Result<Evaluations, Fail> {
     let mut all = Vec::new(alloc);
     for entries in each {
-        let matrix = matrix(alloc, entries.numbers, entries.width)?;
-        all.push((doubled_domain(entries.shift, matrix.height())?, matrix))?;
+        all.push(evaluation(alloc, entries, log_factor)?)?;
     }
     Ok(all)
 }
@@ -109,8 +112,8 @@ pub(crate) fn column(
 ) -> Result<(Domain, RowMajorMatrix<BabyBear>), Fail>
     ensures { IfOk result (λ e. FitsMasked 27 2 e.0.log_size e.1) }
 {
+    let domain = coset(1, numbers.len().trailing_zeros() as usize + 1)?;
     let matrix = matrix(alloc, numbers, 1)?;
-    let domain = doubled_domain(1, numbers.len())?;
     if !is_doubled(domain, &matrix) {
         return Err(Fail::new("not twice as many points"));
     }
@@ -124,8 +127,8 @@ pub(crate) fn plain_column(
 ) -> Result<(Domain, RowMajorMatrix<BabyBear>), Fail>
     ensures { IfOk result (λ e. FitsDomain 27 2 e.0.log_size e.1) }
 {
-    let matrix = matrix(alloc, numbers, 1)?;
     let domain = coset(1, numbers.len().trailing_zeros() as usize)?;
+    let matrix = matrix(alloc, numbers, 1)?;
     if matrix.height() != domain.size() || domain.log_size() > 8 {
         return Err(Fail::new("not a column on its domain"));
     }
@@ -155,6 +158,17 @@ pub(crate) fn points(alloc: Global, coefficients: &[[u64; 4]]) -> Result<Vec<Bab
     Ok(points)
 }
 
+/// The same, or `None` where there are none.
+pub(crate) fn points_if_any(
+    alloc: Global,
+    coefficients: &[[u64; 4]],
+) -> Result<Option<Vec<BabyBear4>>, Fail> {
+    if coefficients.is_empty() {
+        return Ok(None);
+    }
+    Ok(Some(points(alloc, coefficients)?))
+}
+
 /// The row at this index, if the matrix has it.
 pub(crate) fn row_of(matrix: &RowMajorMatrix<BabyBear>, index: usize) -> &[BabyBear] {
     if index < matrix.height() {
@@ -166,37 +180,12 @@ pub(crate) fn row_of(matrix: &RowMajorMatrix<BabyBear>, index: usize) -> &[BabyB
 
 /// Whether the elements are these numbers.
 pub(crate) fn are_numbers(elements: &[BabyBear], numbers: &[u64]) -> bool {
-    for (element, number) in elements.iter().zip(numbers) {
-        if *element != BabyBear::from_u64(*number) {
-            return false;
-        }
+    if elements.len() != numbers.len() {
+        return false;
     }
-    elements.len() == numbers.len()
-}
-
-/// Whether the values stand on twice as many points, and in the rows of even index, counted from
-/// 0, are those of the matrix.
-pub(crate) fn has_rows_between(
-    values: &RowMajorMatrix<BabyBear>,
-    matrix: &RowMajorMatrix<BabyBear>,
-) -> bool {
-    for index in 0..values.height() {
-        if index % 2 == 0 && row_of(values, index) != row_of(matrix, index / 2) {
+    for index in 0..elements.len() {
+        if elements[index] != BabyBear::from_u64(numbers[index]) {
             return false;
-        }
-    }
-    values.height() % 2 == 0 && values.height() / 2 == matrix.height()
-}
-
-/// Whether the rows of odd index, counted from 0, are zero.
-pub(crate) fn has_zeros_between(values: &RowMajorMatrix<BabyBear>) -> bool {
-    for index in 0..values.height() {
-        if index % 2 == 1 {
-            for value in row_of(values, index) {
-                if *value != BabyBear::ZERO {
-                    return false;
-                }
-            }
         }
     }
     true

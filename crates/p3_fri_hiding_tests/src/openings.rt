@@ -5,4 +5,5 @@ mod batches;
 mod headline;
 mod opened;
 mod preprocessed;
+mod shapes;
 mod unsolved;

@@ -48,7 +48,7 @@ pub(crate) fn next_element(rng: &mut ChaCha20Rng) -> BabyBear {
 }
 
 /// What tests set of a scheme of a blowup of 4 that folds by two.
-#[derive(Clone, Copy, Debug)]
+#[derive(Clone, Copy)]
 pub(crate) struct Setting {
     pub num_random_codewords: usize,
     pub num_queries: usize,

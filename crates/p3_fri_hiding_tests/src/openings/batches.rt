@@ -1,31 +1,81 @@
 //! The words of a quotient's chunks, opened beside a trace and random polynomials.
 
-ghost use Rattle.std.specs.Prelude.{◌≡◌, IfOk, IsTrue, length};
-ghost use Rattle.p3_fri_hiding.specs.Data.{IsOfScheme, IsUnopened, shown_polynomials};
+ghost use Rattle.std.specs.Prelude.{◌≡◌, [], ◌∷◌, length, IfOk};
 
 use crate::chunks::are_maskable;
-use crate::committed::{Committed, commit_and_read};
-use crate::input::Input;
-use crate::matrices::{E, SHORT_PI, column, coset, matrix};
-use crate::openings::preprocessed::answer_to;
-use crate::scheme::{Data, Domain, Evaluations, Inputs, Proof, SMALL, Scheme, scheme_of};
+use crate::matrices::{Entries, SHORT_E, SHORT_PI, column, coset, evaluations};
+use crate::openings::preprocessed::is_answer;
+use crate::openings::shapes::{first_value, have_counts};
+use crate::scheme::{Data, Domain, Proof, SMALL, Scheme, scheme_of};
 use p3_challenger::Sha256Challenger;
 use p3_field::{BabyBear, BabyBear4, ExtensionField, Field};
-use p3_fri_hiding_prover::committed_matrices;
-use p3_fri_relation::setting::ChallengeField;
-use p3_mmcs::{Mmcs, OpenedValues};
+use p3_matrix::RowMajorMatrix;
+use p3_mmcs::OpenedValues;
 use p3_pcs::KnownCommitment;
+use p3_stark_pcs::UnivariateStarkPcs;
 use p3_test_openings::batches::commit_and_open_batches;
 use p3_test_openings::listed::{listed, pair};
 use p3_test_openings::one::Opened;
 use std::alloc::Global;
 use std::test::Fail;
 
-/// The first value of this matrix at its first point.
-fn first_value(matrices: &[Vec<Vec<BabyBear4>>], matrix: usize) -> Option<BabyBear4> {
-    let points = matrices.get(matrix)?;
-    let columns = points.first()?;
-    columns.first().copied()
+/// What is known of a commitment to random polynomials on this domain, and the data, which may be
+/// opened.
+fn commit_random<EF: Copy, C, P: UnivariateStarkPcs<EF, C>>(
+    scheme: &mut P,
+    alloc: Global,
+    domain: P::Domain,
+) -> Result<(KnownCommitment<P::Commitment, P::Domain>, P::ProverData), Fail>
+    requires { (P.stark_rules scheme.old).CanRandomize (domain ∷ []) }
+    ensures kept { P.Keeps scheme.old scheme.new }
+    ensures openable { IfOk result (λ pair. (P.rules scheme.new).CanOpen pair.1) }
+    ensures one_matrix { IfOk result (λ pair.
+        length ((P.rules scheme.new).committed_polynomials pair.1) ≡ 1) }
+{
+    let domains = listed(alloc, domain)?;
+    let randomized = listed(alloc, domain)?;
+    match scheme.get_opt_randomization_poly_commitment(alloc, randomized) {
+        Ok(Some((commitment, held))) => {
+            let known = KnownCommitment {
+                commitment,
+                domains,
+            };
+            Ok((known, held))
+        }
+        Ok(None) => Err(Fail::new("the scheme doesn't hide")),
+        Err(_) => Err(Fail::new("the commitment is refused")),
+    }
+}
+
+/// Random polynomials on a domain, a trace and two chunks committed to, and all three opened at
+/// this point, with what that leaves of their data: of the random polynomials first, and of the
+/// chunks last. Both chunks are claimed on the domain of the random polynomials.
+fn commit_and_open_all<EF: Copy, C, P: UnivariateStarkPcs<EF, C>>(
+    scheme: &mut P,
+    alloc: Global,
+    domain: P::Domain,
+    trace: (P::Domain, RowMajorMatrix<P::Val>),
+    chunks: Vec<(P::Domain, RowMajorMatrix<P::Val>)>,
+    point: EF,
+    challenger: &mut C,
+) -> Result<
+    (
+        Opened<EF, P::Commitment, P::Domain, P::Proof>,
+        [P::ProverData; 3],
+    ),
+    Fail,
+>
+    requires prover { (P.rules scheme.old).InProverRange }
+    requires random { (P.stark_rules scheme.old).CanRandomize (domain ∷ []) }
+    requires trace { (P.rules scheme.old).CanCommit (trace ∷ []) }
+    requires chunks { (P.stark_rules scheme.old).CanExtend chunks.items (length chunks.items) }
+    requires two_chunks { length chunks.items ≡ 2 }
+{
+    let claimed = pair(alloc, domain, domain)?;
+    let random = commit_random::<EF, C, P>(&mut *scheme, alloc, domain)?;
+    commit_and_open_batches::<EF, C, P>(
+        scheme, alloc, random, trace, chunks, claimed, point, challenger,
+    )
 }
 
 /// What the chunks' values at 1 are multiplied by where they are recombined.
@@ -45,63 +95,29 @@ fn recombine(first: BabyBear4, second: BabyBear4) -> bool {
 
 /// Whether the trace has its first row at 1, and the chunks recombine.
 fn are_values(values: &OpenedValues<BabyBear4>) -> bool {
-    if values.len() != 3 {
-        return false;
-    }
-    let Some(row) = first_value(&values[1], 0) else {
-        return false;
-    };
-    let Some(first) = first_value(&values[2], 0) else {
-        return false;
-    };
-    let Some(second) = first_value(&values[2], 1) else {
-        return false;
-    };
-    row == BabyBear4::from_base(BabyBear::from_u64(SHORT_PI[0])) && recombine(first, second)
-}
-
-/// Whether each list of values has so many.
-fn are_of_width(values: &OpenedValues<BabyBear4>, width: usize) -> bool {
-    for points in values.iter().flatten() {
-        for columns in points {
-            if columns.len() != width {
-                return false;
-            }
+    let row = BabyBear4::from_base(BabyBear::from_u64(SHORT_PI[0]));
+    match (first_value(values, 2, 0), first_value(values, 2, 1)) {
+        (Some(first), Some(second)) => {
+            values.len() == 3 && first_value(values, 1, 0) == Some(row) && recombine(first, second)
         }
+        _ => false,
     }
-    true
 }
 
 /// Two chunks of a quotient, each a column of 16 rows, on the halves of the coset of 31 of 32
 /// points.
-fn two_chunks(alloc: Global) -> Result<Evaluations, Fail> {
-    let mut chunks = Vec::with_capacity(alloc, 2)?;
-    chunks.push((coset(31, 4)?, matrix(alloc, &SHORT_PI, 1)?))?;
-    chunks.push((coset(1_414_256_219, 4)?, matrix(alloc, &E[..16], 1)?))?;
-    Ok(chunks)
-}
-
-/// Whether the data holds one matrix, and may be opened.
-fn may_be_opened(scheme: &Scheme, held: &Data) -> bool
-    requires { IsOfScheme ⟦<BabyBear4 as ChallengeField<BabyBear>>⟧.fields
-        ⟦<Inputs as Mmcs<BabyBear>>⟧.committed scheme.now.fri.log_blowup
-        scheme.now.num_random_codewords held.now }
-    ensures openable { IsTrue result → IsUnopened ⟦<BabyBear4 as ChallengeField<BabyBear>>⟧.fields
-        ⟦<Inputs as Mmcs<BabyBear>>⟧.committed scheme.now.fri.log_blowup
-        scheme.now.num_random_codewords held.now }
-    ensures one_matrix { IsTrue result → length (shown_polynomials
-        ⟦<BabyBear4 as ChallengeField<BabyBear>>⟧.fields ⟦<Inputs as Mmcs<BabyBear>>⟧.committed
-        scheme.now.fri.log_blowup scheme.now.num_random_codewords held.now) ≡ 1 }
-{
-    let matrices = committed_matrices(&Inputs::new(), held);
-    if matrices.len() != 1 || held.is_preprocessing() || held.is_opened() {
-        return false;
-    }
-    if matrices[0].width() < held.num_random_codewords() {
-        return false;
-    }
-    true
-}
+static CHUNKS: [Entries; 2] = [
+    Entries {
+        shift: 31,
+        width: 1,
+        numbers: &SHORT_PI,
+    },
+    Entries {
+        shift: 1_414_256_219,
+        width: 1,
+        numbers: &SHORT_E,
+    },
+];
 
 /// An opening of all three at 1, their data, and the challenger that it leaves.
 #[derive(Drop)]
@@ -113,39 +129,19 @@ struct Opening {
 
 /// Random polynomials, a trace of 16 rows and the two chunks, opened by a challenger that is new.
 fn open_all(alloc: Global) -> Result<Opening, Fail> {
-    let chunks = two_chunks(alloc)?;
-    let trace = column(alloc, &SHORT_PI)?;
     let domain = coset(1, 5)?;
-    let of_random = listed(alloc, domain)?;
-    let of_chunks = pair(alloc, domain, domain)?;
-    let input = Input::Random(listed(alloc, domain)?);
+    let trace = column(alloc, &SHORT_PI)?;
+    let chunks = evaluations(alloc, &CHUNKS, 0)?;
     if chunks.len() != 2 || !are_maskable(alloc, &chunks)? {
         return Err(Fail::new("not chunks of a quotient"));
     }
-    let mut scheme = scheme_of(SMALL);
-    let Ok(committed) = commit_and_read(&mut scheme, alloc, input, &[])? else {
-        return Err(Fail::new("no commitment"));
-    };
-    let Committed {
-        commitment,
-        held,
-        readings: _readings,
-    } = committed;
-    if !may_be_opened(&scheme, &held) {
-        return Err(Fail::new("not to be opened"));
-    }
-    let known = KnownCommitment {
-        commitment,
-        domains: of_random,
-    };
     let mut challenger = Sha256Challenger::new();
-    let (opened, held) = commit_and_open_batches::<BabyBear4, Sha256Challenger, Scheme>(
-        &mut scheme,
+    let (opened, held) = commit_and_open_all::<BabyBear4, Sha256Challenger, Scheme>(
+        &mut scheme_of(SMALL),
         alloc,
-        (known, held),
+        domain,
         trace,
         chunks,
-        of_chunks,
         BabyBear4::ONE,
         &mut challenger,
     )?;
@@ -164,15 +160,18 @@ fn is_opened(alloc: Global) -> Result<bool, Fail> {
         held,
         challenger,
     } = open_all(alloc)?;
-    let is_shown = are_values(&opened.values) && are_of_width(&opened.proof.0, 4);
+    let is_shown = are_values(&opened.values)
+        && have_counts(&opened.proof.0, &[[1, 1, 4], [1, 1, 4], [2, 1, 4]]);
+    let [random, trace, quotient] = &held;
+    let is_marked = random.is_opened() && trace.is_opened() && quotient.is_opened();
     let mut verifier = Sha256Challenger::new();
-    let answer = answer_to(alloc, SMALL, opened, None, &mut verifier)?;
+    let is_accepted = is_answer(alloc, SMALL, opened, None, &mut verifier, "accepted")?;
     Ok(
         is_shown
-            && answer.as_str() == "accepted"
+            && is_marked
+            && is_accepted
             && verifier == challenger
-            && challenger != Sha256Challenger::new()
-            && held.iter().all(|data| data.is_opened()),
+            && challenger != Sha256Challenger::new(),
     )
 }
 

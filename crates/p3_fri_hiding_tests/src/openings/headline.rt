@@ -1,7 +1,8 @@
 //! The headline at a scheme that hides.
 
-use crate::matrices::{E, POINTS, SHORT_PI, column, element, points};
-use crate::scheme::{SMALL, Scheme, scheme_of};
+use crate::matrices::{E, POINTS, SHORT_PI, element, points};
+use crate::scheme::{SMALL, Scheme};
+use crate::tested::Tested;
 use p3_challenger::Sha256Challenger;
 use p3_field::BabyBear4;
 use p3_test_openings::both::{OfBoth, commit_and_show_both};
@@ -9,48 +10,66 @@ use p3_test_openings::one::commit_and_show;
 use std::alloc::Global;
 use std::test::Fail;
 
-/// Whether a column is opened at two points and verified, its data counts as opened, and both sides
-/// end in one state that isn't the first.
-fn is_shown(alloc: Global) -> Result<bool, Fail> {
-    let column = column(alloc, &E)?;
+/// A column opened at two points and verified: the verifier's challenger, and the data.
+fn show_column<P: Tested>(
+    alloc: Global,
+    challenger: &mut Sha256Challenger,
+) -> Result<(Sha256Challenger, P::ProverData), Fail> {
+    let column = P::column_of(alloc, &E)?;
     let points = points(alloc, &POINTS)?;
-    let mut challenger = Sha256Challenger::new();
-    let (verified, held) = commit_and_show::<BabyBear4, Sha256Challenger, Scheme>(
-        &mut scheme_of(SMALL),
+    let (verified, held) = commit_and_show::<BabyBear4, Sha256Challenger, P>(
+        &mut P::of(SMALL),
         alloc,
         column,
         points,
-        &mut challenger,
+        challenger,
     )?;
-    Ok(
-        held.is_opened()
-            && verified.challenger == challenger
-            && challenger != Sha256Challenger::new(),
-    )
+    Ok((verified.challenger, held))
 }
 
-/// Whether preprocessing and a private column are opened at one point and verified, of the data the
-/// private alone counts as opened, and both sides end in one state that isn't the first.
-fn what_is_opened_with_preprocessing_is_accepted(alloc: Global) -> Result<bool, Fail> {
-    let public_column = column(alloc, &SHORT_PI)?;
-    let private_column = column(alloc, &E[16..])?;
-    let mut challenger = Sha256Challenger::new();
+/// Preprocessing and a private column opened at one point and verified: the verifier's challenger,
+/// and their data.
+fn show_columns<P: Tested>(
+    alloc: Global,
+    challenger: &mut Sha256Challenger,
+) -> Result<OfBoth<Sha256Challenger, P::ProverData>, Fail> {
+    let public_column = P::column_of(alloc, &SHORT_PI)?;
+    let private_column = P::column_of(alloc, &E[16..])?;
     let OfBoth {
         made,
         preprocessed,
         private,
-    } = commit_and_show_both::<BabyBear4, Sha256Challenger, Scheme>(
-        &mut scheme_of(SMALL),
+    } = commit_and_show_both::<BabyBear4, Sha256Challenger, P>(
+        &mut P::of(SMALL),
         alloc,
         public_column,
         private_column,
         element(POINTS[0]),
-        &mut challenger,
+        challenger,
     )?;
+    Ok(OfBoth {
+        made: made.challenger,
+        preprocessed,
+        private,
+    })
+}
+
+/// Whether the data counts as opened, and both sides end in one state that isn't the first.
+fn is_shown(alloc: Global) -> Result<bool, Fail> {
+    let mut challenger = Sha256Challenger::new();
+    let (verifier, held) = show_column::<Scheme>(alloc, &mut challenger)?;
+    Ok(held.is_opened() && verifier == challenger && challenger != Sha256Challenger::new())
+}
+
+/// Whether of the data the private alone counts as opened, and both sides end in one state that
+/// isn't the first.
+fn what_is_opened_with_preprocessing_is_accepted(alloc: Global) -> Result<bool, Fail> {
+    let mut challenger = Sha256Challenger::new();
+    let shown = show_columns::<Scheme>(alloc, &mut challenger)?;
     Ok(
-        private.is_opened()
-            && !preprocessed.is_opened()
-            && made.challenger == challenger
+        shown.private.is_opened()
+            && !shown.preprocessed.is_opened()
+            && shown.made == challenger
             && challenger != Sha256Challenger::new(),
     )
 }

@@ -1,169 +1,181 @@
-//! A private column opened once, and openings that are refused before anything is touched.
+//! A private column opened once, and openings that are refused before anything is touched, after
+//! which the same column is opened.
 
-use crate::judged::open_and_judge;
-use crate::matrices::{E, POINTS, SHORT_PI, column, points};
-use crate::scheme::{SMALL, Scheme, Setting, scheme_of};
+use crate::judged::{Answered, open_and_judge};
+use crate::matrices::{E, POINTS, SHORT_PI};
+use crate::openings::shapes::{Counts, have_counts};
+use crate::scheme::{Data, Proof, SMALL, Scheme, Setting};
 use p3_challenger::Sha256Challenger;
-use p3_field::BabyBear4;
 use p3_fri_masks::HidingFriProverError;
 use p3_fri_pow::FriProverError;
-use p3_mmcs::OpenedValues;
 use std::alloc::Global;
 use std::test::Fail;
 
-/// Whether there is one matrix, of so many values at each of so many points.
-fn has_counts(values: &OpenedValues<BabyBear4>, num_points: usize, num_columns: usize) -> bool {
-    for matrices in values {
-        for points in matrices {
-            for columns in points {
-                if columns.len() != num_columns {
-                    return false;
-                }
-            }
-            if points.len() != num_points {
-                return false;
-            }
-        }
-        if matrices.len() != 1 {
-            return false;
-        }
-    }
-    values.len() == 1
-}
-
 /// A column that is opened by a scheme of that setting, or refused so.
-#[derive(Clone, Copy, Debug)]
 struct Case {
     setting: Setting,
     numbers: &'static [u64],
+    /// At these points, if there are some, an opening is refused so before.
+    earlier: &'static [[u64; 4]],
+    earlier_refusal: Option<HidingFriProverError>,
     points: &'static [[u64; 4]],
     refusal: Option<HidingFriProverError>,
+    /// How many values are opened, and how many random ones beside the proof.
+    values: Counts,
+    random: Counts,
 }
 
-const CASES: [Case; 8] = [
-    Case {
-        setting: SMALL,
-        numbers: &E,
-        points: &POINTS,
-        refusal: None,
+/// Opened at once, at one point.
+const AT_ONE: Case = Case {
+    setting: SMALL,
+    numbers: &SHORT_PI,
+    earlier: &[],
+    earlier_refusal: None,
+    points: &[[5, 0, 1, 0]],
+    refusal: None,
+    values: [1, 1, 1],
+    random: [1, 1, 4],
+};
+
+/// A higher column, opened at once, at two points.
+const AT_TWO: Case = Case {
+    numbers: &E,
+    points: &POINTS,
+    values: [1, 2, 1],
+    random: [1, 2, 4],
+    ..AT_ONE
+};
+
+/// That two points are past the budget of masks of 16 rows.
+const OVER_BUDGET: HidingFriProverError = HidingFriProverError::HidingBudgetExceeded {
+    mask_height: 16,
+    num_queries: 2,
+    num_opening_points: 2,
+    extension_degree: 4,
+};
+
+const IN_COSET: HidingFriProverError = HidingFriProverError::Fri(
+    FriProverError::PointInEvaluationDomain {
+        round: 0,
+        matrix: 0,
+        point: 0,
     },
+);
+
+static CASES: [Case; 10] = [
+    AT_TWO,
     // just as many masks as their budget asks for
     Case {
         setting: Setting {
             num_queries: 4,
             ..SMALL
         },
-        numbers: &SHORT_PI,
-        points: &[[5, 0, 1, 0]],
-        refusal: None,
+        ..AT_ONE
     },
     Case {
         setting: Setting {
             num_queries: 8,
             ..SMALL
         },
-        numbers: &E,
-        points: &POINTS,
-        refusal: None,
+        ..AT_TWO
     },
     Case {
         setting: Setting {
             num_random_codewords: 8,
             ..SMALL
         },
-        numbers: &E,
-        points: &POINTS,
-        refusal: None,
+        random: [1, 2, 8],
+        ..AT_TWO
     },
     Case {
-        setting: SMALL,
-        numbers: &SHORT_PI,
         points: &POINTS,
-        refusal: Some(HidingFriProverError::HidingBudgetExceeded {
-            mask_height: 16,
-            num_queries: 2,
-            num_opening_points: 2,
-            extension_degree: 4,
-        }),
+        refusal: Some(OVER_BUDGET),
+        ..AT_ONE
     },
     Case {
         setting: Setting {
             log_final_poly_len: 5,
             ..SMALL
         },
-        numbers: &SHORT_PI,
         points: &POINTS,
         refusal: Some(HidingFriProverError::Fri(FriProverError::InputHeightTooSmall {
             log_input_height: 7,
             log_final_height: 7,
         })),
+        ..AT_ONE
     },
     Case {
         setting: Setting {
             log_final_poly_len: usize::MAX,
             ..SMALL
         },
-        numbers: &SHORT_PI,
-        points: &[[5, 0, 1, 0]],
         refusal: Some(HidingFriProverError::Fri(FriProverError::FinalHeightOverflow)),
+        ..AT_ONE
     },
     // the point of the first row of the extended column
     Case {
-        setting: SMALL,
-        numbers: &SHORT_PI,
         points: &[[31, 0, 0, 0]],
-        refusal: Some(HidingFriProverError::Fri(FriProverError::PointInEvaluationDomain {
-            round: 0,
-            matrix: 0,
-            point: 0,
-        })),
+        refusal: Some(IN_COSET),
+        ..AT_ONE
+    },
+    Case {
+        earlier: &POINTS,
+        earlier_refusal: Some(OVER_BUDGET),
+        ..AT_ONE
+    },
+    Case {
+        earlier: &[[31, 0, 0, 0]],
+        earlier_refusal: Some(IN_COSET),
+        ..AT_ONE
     },
 ];
 
 /// Whether the column is opened, accepted by a verifier that ends as the prover, and its data
 /// counts as opened; or is refused so, and its data and the challenger are left as they were.
-fn is_answered(alloc: Global, case: &Case) -> Result<bool, Fail> {
-    let setting = case.setting;
-    if setting.num_queries == 0 {
-        return Err(Fail::new("no queries"));
+fn is_as_wanted(
+    case: &Case,
+    answered: &Answered<Proof, HidingFriProverError, Data>,
+    prover: &Sha256Challenger,
+    verifier: &Sha256Challenger,
+) -> bool {
+    let is_untouched = *prover == Sha256Challenger::new();
+    let is_opened = answered.held.is_opened();
+    match &answered.answer {
+        Ok(judged) => {
+            case.refusal.is_none()
+                && have_counts(&judged.values, &[case.values])
+                && have_counts(&judged.proof.0, &[case.random])
+                && judged.is_accepted
+                && *verifier == *prover
+                && !is_untouched
+                && is_opened
+        }
+        Err(refusal) => case.refusal == Some(*refusal) && !is_opened && is_untouched,
     }
-    let column = column(alloc, case.numbers)?;
-    let points = points(alloc, case.points)?;
+}
+
+/// Whether that holds of a case, by challengers that are new, and an earlier opening is refused so.
+fn is_answered(alloc: Global, case: &Case) -> Result<bool, Fail> {
     let (mut prover, mut verifier) = (Sha256Challenger::new(), Sha256Challenger::new());
-    let (answer, held) = open_and_judge::<BabyBear4, Sha256Challenger, Scheme>(
-        &mut scheme_of(setting),
-        &scheme_of(Setting {
-            log_final_poly_len: 0,
-            ..setting
-        }),
+    let answered = open_and_judge::<Scheme>(
         alloc,
-        column,
-        points,
+        case.setting,
+        case.numbers,
+        case.earlier,
+        case.points,
         &mut prover,
         &mut verifier,
     )?;
-    let is_untouched = prover == Sha256Challenger::new();
-    match answer {
-        Ok(judged) => {
-            let num_points = case.points.len();
-            Ok(
-                case.refusal.is_none()
-                    && has_counts(&judged.values, num_points, 1)
-                    && has_counts(&judged.proof.0, num_points, setting.num_random_codewords)
-                    && judged.verified.is_ok()
-                    && verifier == prover
-                    && !is_untouched
-                    && held.is_opened(),
-            )
-        }
-        Err(refusal) => Ok(case.refusal == Some(refusal) && !held.is_opened() && is_untouched),
-    }
+    Ok(
+        answered.earlier == case.earlier_refusal
+            && is_as_wanted(case, &answered, &prover, &verifier),
+    )
 }
 
 #[test]
 fn a_private_column_is_opened_or_left_as_it_was(rt: HostRuntime) -> Result<(), Fail> {
-    for case in &CASES {
-        assert!(rt; is_answered(rt.alloc(), case)?, "{case:?}");
+    for (index, case) in CASES.iter().enumerate() {
+        assert!(rt; is_answered(rt.alloc(), case)?, "case {index}");
     }
     Ok(())
 }

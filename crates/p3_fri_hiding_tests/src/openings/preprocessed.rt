@@ -3,12 +3,15 @@
 //! preprocessing opened again and again.
 
 use crate::judged::judge;
-use crate::matrices::{E, POINTS, SHORT_PI, column, coset, element};
-use crate::scheme::{Domain, Proof, SMALL, Scheme, Setting, scheme_of};
+use crate::matrices::{E, POINTS, SHORT_PI, coset, element};
+use crate::openings::shapes::{first_value, have_counts};
+use crate::scheme::{Domain, Proof, SMALL, Scheme, Setting};
+use crate::tested::Tested;
 use p3_challenger::Sha256Challenger;
 use p3_field::{BabyBear4, Field};
 use p3_fri_masks::HidingFriProverError;
-use p3_mmcs::{CommitmentOpening, MatrixOpening, OpenedValues, PointOpening};
+use p3_mmcs::{CommitmentOpening, OpenedValues, PointOpening};
+use p3_pcs::Pcs;
 use p3_test_openings::both::{OfBoth, commit_and_open_both};
 use p3_test_openings::one::Opened;
 use p3_test_openings::preprocessed::open_twice;
@@ -19,7 +22,7 @@ use std::test::Fail;
 type ColumnsOpened = Opened<BabyBear4, [u8; 32], Domain, Proof>;
 
 /// What is changed in an opening of preprocessing and a private column.
-#[derive(Clone, Copy, Debug, PartialEq)]
+#[derive(Clone, Copy, PartialEq)]
 enum Change {
     Nothing,
     /// Of the private column's random values one is missing.
@@ -41,7 +44,6 @@ enum Change {
 
 /// A change, the index that the verifier is told, its numbers, and what it answers: `accepted` or
 /// the refusal.
-#[derive(Clone, Copy, Debug)]
 struct Case {
     change: Change,
     index: Option<usize>,
@@ -49,7 +51,7 @@ struct Case {
     answer: &'static str,
 }
 
-const CASES: [Case; 17] = [
+static CASES: [Case; 17] = [
     Case {
         change: Change::Nothing,
         index: Some(0),
@@ -180,68 +182,49 @@ const CASES: [Case; 17] = [
     },
 ];
 
-/// Takes the last random value of a round's first matrix at its first point.
-fn shorten(round: &mut Vec<Vec<Vec<BabyBear4>>>) {
+/// Changes the random values of a round.
+fn change_round(round: &mut Vec<Vec<Vec<BabyBear4>>>, change: Change) {
+    if change == Change::NoMatrices {
+        round.clear();
+    }
     if let Some(points) = round.first_mut() {
+        if change == Change::NoPoints {
+            points.clear();
+        }
         if let Some(values) = points.first_mut() {
-            let _ = values.pop();
+            match change {
+                Change::OneValueLess => {
+                    let _ = values.pop();
+                },
+                Change::OneValueMore => {
+                    let _pushed = values.push(BabyBear4::ZERO).is_ok();
+                },
+                _ => {},
+            }
         }
     }
 }
 
-/// Puts one more there, where memory is given.
-fn lengthen(round: &mut Vec<Vec<Vec<BabyBear4>>>) {
-    if let Some(points) = round.first_mut() {
-        if let Some(values) = points.first_mut() {
-            let _pushed = values.push(BabyBear4::ZERO).is_ok();
-        }
-    }
-}
-
-/// Changes the random values.
+/// Changes the random values: those of preprocessing where there is to be one more, else those of
+/// the private column.
 fn change_random(random: &mut OpenedValues<BabyBear4>, change: Change) {
     match change {
         Change::NoRandomValues => random.clear(),
         Change::OneRound => random.truncate(1),
         Change::OneValueMore => {
             if let Some(round) = random.first_mut() {
-                lengthen(round);
+                change_round(round, change);
             }
         },
-        Change::OneValueLess => {
+        _ => {
             if let Some(round) = random.last_mut() {
-                shorten(round);
+                change_round(round, change);
             }
         },
-        Change::NoPoints => {
-            if let Some(round) = random.last_mut() {
-                if let Some(points) = round.first_mut() {
-                    points.clear();
-                }
-            }
-        },
-        Change::NoMatrices => {
-            if let Some(round) = random.last_mut() {
-                round.clear();
-            }
-        },
-        Change::Nothing | Change::SecondPoint | Change::LowDomain => {},
     }
 }
 
-/// A matrix with claims.
-type ClaimedMatrix = MatrixOpening<BabyBear4, Domain>;
-
-/// Claims a second point of the matrix too, where memory is given.
-fn claim_more(alloc: Global, matrix: &mut ClaimedMatrix) {
-    let more = PointOpening {
-        point: element(POINTS[0]),
-        values: Vec::new(alloc),
-    };
-    let _pushed = matrix.points.push(more).is_ok();
-}
-
-/// Changes the claims.
+/// Changes the claims. Where memory is refused a second point isn't claimed.
 fn change_claims(
     alloc: Global,
     claims: &mut Vec<CommitmentOpening<BabyBear4, [u8; 32], Domain>>,
@@ -254,7 +237,13 @@ fn change_claims(
     if let Some(claim) = claims.last_mut() {
         if let Some(matrix) = claim.matrices.first_mut() {
             match change {
-                Change::SecondPoint => claim_more(alloc, matrix),
+                Change::SecondPoint => {
+                    let more = PointOpening {
+                        point: element(POINTS[0]),
+                        values: Vec::new(alloc),
+                    };
+                    let _pushed = matrix.points.push(more).is_ok();
+                },
                 Change::LowDomain => matrix.domain = low,
                 _ => {},
             }
@@ -262,73 +251,48 @@ fn change_claims(
     }
 }
 
-/// An opening of both at one point, whether of the data the private alone counts as opened, and the
-/// challenger that it leaves.
-#[derive(Drop)]
-struct Opening {
-    opened: ColumnsOpened,
-    is_marked: bool,
-    challenger: Sha256Challenger,
-}
+/// What comes of opening both at one point, with their data.
+type Both<P> = OfBoth<
+    Opened<
+        BabyBear4,
+        <P as Pcs<BabyBear4, Sha256Challenger>>::Commitment,
+        <P as Pcs<BabyBear4, Sha256Challenger>>::Domain,
+        <P as Pcs<BabyBear4, Sha256Challenger>>::Proof,
+    >,
+    <P as Pcs<BabyBear4, Sha256Challenger>>::ProverData,
+>;
 
-/// Preprocessing and a private column, of 16 rows each, opened by a challenger that is new.
-fn open_columns(alloc: Global) -> Result<Opening, Fail> {
-    let public_column = column(alloc, &SHORT_PI)?;
-    let private_column = column(alloc, &E[16..])?;
-    let mut challenger = Sha256Challenger::new();
-    let OfBoth {
-        made,
-        preprocessed,
-        private,
-    } = commit_and_open_both::<BabyBear4, Sha256Challenger, Scheme>(
-        &mut scheme_of(SMALL),
+/// Preprocessing and a private column, of 16 rows each, opened at one point.
+fn open_columns<P: Tested>(
+    alloc: Global,
+    challenger: &mut Sha256Challenger,
+) -> Result<Both<P>, Fail> {
+    let public_column = P::column_of(alloc, &SHORT_PI)?;
+    let private_column = P::column_of(alloc, &E[16..])?;
+    commit_and_open_both::<BabyBear4, Sha256Challenger, P>(
+        &mut P::of(SMALL),
         alloc,
         public_column,
         private_column,
         element(POINTS[0]),
-        &mut challenger,
-    )?;
-    let is_marked = private.is_opened() && !preprocessed.is_opened();
-    Ok(Opening {
-        opened: made,
-        is_marked,
         challenger,
-    })
+    )
 }
 
-/// What a verifier of that setting answers to the opening, where this index is told to be that of
-/// preprocessing: `accepted` or the refusal.
-pub(crate) fn answer_to(
+/// Whether a verifier of that setting answers so to the opening, where this index is told to be
+/// that of preprocessing: `accepted` or the refusal.
+pub(crate) fn is_answer(
     alloc: Global,
     setting: Setting,
     opened: ColumnsOpened,
     index: Option<usize>,
     verifier: &mut Sha256Challenger,
-) -> Result<String, Fail> {
-    if setting.log_final_poly_len > 31 {
-        return Err(Fail::new("a final polynomial too long"));
+    answer: &str,
+) -> Result<bool, Fail> {
+    match judge::<Scheme>(alloc, setting, opened, index, verifier)? {
+        Ok(()) => Ok(answer == "accepted"),
+        Err(refusal) => Ok(format!(in alloc; "{refusal:?}")?.as_str() == answer),
     }
-    match judge::<BabyBear4, Sha256Challenger, Scheme>(
-        &scheme_of(setting),
-        alloc,
-        opened,
-        index,
-        verifier,
-    ) {
-        Ok(()) => Ok(format!(in alloc; "accepted")?),
-        Err(refusal) => Ok(format!(in alloc; "{refusal:?}")?),
-    }
-}
-
-/// How many random values there are in a round.
-fn count_of(random: &OpenedValues<BabyBear4>, round: usize) -> usize {
-    let mut count: usize = 0;
-    if let Some(matrices) = random.get(round) {
-        for values in matrices.iter().flatten() {
-            count = count.saturating_add(values.len());
-        }
-    }
-    count
 }
 
 /// Whether preprocessing has no random values and the private column one for each codeword, and of
@@ -336,66 +300,78 @@ fn count_of(random: &OpenedValues<BabyBear4>, round: usize) -> usize {
 /// opening: where it accepts it ends as the prover, and else it leaves its challenger as it was.
 fn is_answered(alloc: Global, case: &Case) -> Result<bool, Fail> {
     let low = coset(1, 2)?;
-    let Opening {
-        mut opened,
-        is_marked,
-        challenger,
-    } = open_columns(alloc)?;
-    let random = &mut opened.proof.0;
-    let is_shown = random.len() == 2 && count_of(random, 0) == 0 && count_of(random, 1) == 4;
-    change_random(random, case.change);
+    let mut challenger = Sha256Challenger::new();
+    let OfBoth {
+        made: mut opened,
+        preprocessed,
+        private,
+    } = open_columns::<Scheme>(alloc, &mut challenger)?;
+    let is_marked = private.is_opened() && !preprocessed.is_opened();
+    let is_shown = have_counts(&opened.proof.0, &[[1, 1, 0], [1, 1, 4]]);
+    change_random(&mut opened.proof.0, case.change);
     change_claims(alloc, &mut opened.claims, low, case.change);
     let mut verifier = Sha256Challenger::new();
-    let answer = answer_to(alloc, case.setting, opened, case.index, &mut verifier)?;
+    let is_so = is_answer(
+        alloc,
+        case.setting,
+        opened,
+        case.index,
+        &mut verifier,
+        case.answer,
+    )?;
+    let is_moved = verifier != Sha256Challenger::new();
     let is_left = if case.answer == "accepted" {
-        verifier == challenger && verifier != Sha256Challenger::new()
+        is_moved && verifier == challenger
     } else {
-        verifier == Sha256Challenger::new()
+        !is_moved
     };
-    Ok(is_marked && is_shown && is_left && answer.as_str() == case.answer)
+    Ok(is_marked && is_shown && is_so && is_left)
 }
 
 type Answer = Result<(OpenedValues<BabyBear4>, Proof), HidingFriProverError>;
 
 /// Whether the one value is zero, with no random values beside it.
 fn is_zero(answer: &Answer) -> bool {
-    let Ok((values, proof)) = answer else {
-        return false;
-    };
-    for points in values.iter().flatten() {
-        for columns in points {
-            if columns.as_slice() != [BabyBear4::ZERO].as_slice() {
-                return false;
-            }
+    match answer {
+        Ok((values, proof)) => {
+            have_counts(values, &[[1, 1, 1]])
+                && have_counts(&proof.0, &[[1, 1, 0]])
+                && first_value(values, 0, 0) == Some(BabyBear4::ZERO)
         }
+        Err(_) => false,
     }
-    for points in proof.0.iter().flatten() {
-        for columns in points {
-            if !columns.is_empty() {
-                return false;
-            }
-        }
-    }
-    values.len() == 1 && proof.0.len() == 1
 }
 
-/// Whether preprocessing of zeros is opened twice, and doesn't count as opened.
-fn preprocessing_is_opened_twice(alloc: Global) -> Result<bool, Fail> {
-    let column = column(alloc, &[0; 16])?;
-    let (answers, held) = open_twice::<BabyBear4, Sha256Challenger, Scheme>(
-        &mut scheme_of(SMALL),
+/// Preprocessing of zeros opened twice at one point, with what that leaves of its data.
+fn open_zeros_twice<P: Tested>(
+    alloc: Global,
+) -> Result<
+    (
+        [Result<(OpenedValues<BabyBear4>, P::Proof), P::ProverError>; 2],
+        P::ProverData,
+    ),
+    Fail,
+> {
+    let column = P::column_of(alloc, &[0; 16])?;
+    open_twice::<BabyBear4, Sha256Challenger, P>(
+        &mut P::of(SMALL),
         alloc,
         column,
         element(POINTS[0]),
         &mut Sha256Challenger::new(),
-    )?;
+    )
+}
+
+/// Whether preprocessing of zeros is opened twice, and doesn't count as opened.
+fn preprocessing_is_opened_twice(alloc: Global) -> Result<bool, Fail> {
+    let (answers, held) = open_zeros_twice::<Scheme>(alloc)?;
     Ok(is_zero(&answers[0]) && is_zero(&answers[1]) && !held.is_opened())
 }
 
 #[test]
 fn changed_openings_are_refused(rt: HostRuntime) -> Result<(), Fail> {
-    for case in &CASES {
-        assert!(rt; is_answered(rt.alloc(), case)?, "{case:?}");
+    for (index, case) in CASES.iter().enumerate() {
+        assert!(rt; is_answered(rt.alloc(), case)?, "case {index}");
     }
     assert!(rt; preprocessing_is_opened_twice(rt.alloc())?, "opened twice");
     Ok(())

@@ -1,6 +1,6 @@
 //! Openings by both schemes where a proof of work has no solution.
 
-use crate::judged::open_and_judge;
+use crate::judged::commit_and_open;
 use crate::matrices::{POINTS, SHORT_PI, column, plain_column, points};
 use crate::scheme::{PlainScheme, SMALL, Scheme, Setting, plain_scheme_of, scheme_of};
 use p3_field::BabyBear4;
@@ -18,60 +18,59 @@ const WORKS: [Option<PowPhase>; 4] = [
     Some(PowPhase::Query),
 ];
 
-/// The refusal that names a proof of work without a solution.
-fn unsolved(work: Option<PowPhase>) -> Option<FriProverError> {
-    match work {
-        Some(phase) => Some(FriProverError::NoPowWitness { phase }),
-        None => None,
-    }
-}
-
-/// Whether the hiding scheme refuses so, and its data counts as opened.
-fn data_without_a_solution_is_opened(alloc: Global, work: Option<PowPhase>) -> Result<bool, Fail> {
-    let setting = Setting { work, ..SMALL };
+/// Why the hiding scheme doesn't open a column where that is asked for, and whether its data counts
+/// as opened then.
+fn refusal_and_mark(
+    alloc: Global,
+    work: Option<PowPhase>,
+) -> Result<(Option<HidingFriProverError>, bool), Fail> {
+    let points = points(alloc, &POINTS[..1])?;
     let column = column(alloc, &SHORT_PI)?;
-    let points = points(alloc, &POINTS[..1])?;
-    let (answer, held) = open_and_judge::<BabyBear4, AlwaysOne, Scheme>(
-        &mut scheme_of(setting),
-        &scheme_of(setting),
+    let (refusal, held) = commit_and_open::<BabyBear4, AlwaysOne, Scheme>(
+        &mut scheme_of(Setting { work, ..SMALL }),
         alloc,
         column,
         points,
         &mut AlwaysOne {},
-        &mut AlwaysOne {},
     )?;
-    let wanted = match unsolved(work) {
-        Some(error) => Some(HidingFriProverError::Fri(error)),
-        None => None,
-    };
-    Ok(answer.err() == wanted && held.is_opened())
+    Ok((refusal, held.is_opened()))
 }
 
-/// Whether the plain scheme refuses so.
-fn is_named_plainly(alloc: Global, work: Option<PowPhase>) -> Result<bool, Fail> {
-    let setting = Setting { work, ..SMALL };
-    let column = plain_column(alloc, &SHORT_PI)?;
+/// Why the plain scheme doesn't.
+fn plain_refusal(alloc: Global, work: Option<PowPhase>) -> Result<Option<FriProverError>, Fail> {
     let points = points(alloc, &POINTS[..1])?;
-    let (answer, _held) = open_and_judge::<BabyBear4, AlwaysOne, PlainScheme>(
-        &mut plain_scheme_of(setting),
-        &plain_scheme_of(setting),
+    let column = plain_column(alloc, &SHORT_PI)?;
+    let (refusal, _held) = commit_and_open::<BabyBear4, AlwaysOne, PlainScheme>(
+        &mut plain_scheme_of(Setting { work, ..SMALL }),
         alloc,
         column,
         points,
         &mut AlwaysOne {},
-        &mut AlwaysOne {},
     )?;
-    Ok(answer.err() == unsolved(work))
+    Ok(refusal)
+}
+
+/// Whether both schemes name the work that has no solution, and the hiding one's data counts as
+/// opened.
+fn is_named(alloc: Global, work: Option<PowPhase>) -> Result<bool, Fail> {
+    let (hiding, is_opened) = refusal_and_mark(alloc, work)?;
+    let plain = plain_refusal(alloc, work)?;
+    Ok(
+        is_opened
+            && match work {
+                Some(phase) => {
+                    let unsolved = FriProverError::NoPowWitness { phase };
+                    plain == Some(unsolved) && hiding == Some(HidingFriProverError::Fri(unsolved))
+                },
+                None => plain.is_none() && hiding.is_none(),
+            },
+    )
 }
 
 #[test]
 fn work_without_a_solution_is_named_by_its_phase(rt: HostRuntime) -> Result<(), Fail> {
     for work in WORKS {
-        assert!(rt;
-            data_without_a_solution_is_opened(rt.alloc(), work)?,
-            "{work:?}"
-        );
-        assert!(rt; is_named_plainly(rt.alloc(), work)?, "plain, {work:?}");
+        assert!(rt; is_named(rt.alloc(), work)?, "{work:?}");
     }
     Ok(())
 }
