@@ -11,7 +11,7 @@ use p3_converse::{
     log_arities_fit, log_arity_sum, paths_fit, unbatch, unfold, unfold_tree, unfold_with_input,
     unfolds_within_range, unquotient,
 };
-use p3_field::{BabyBear4, Field};
+use p3_field::{BabyBear4, Field, shifted_powers};
 use std::alloc::{AllocError, Global};
 
 type Tree = FoldTree<BabyBear4>;
@@ -66,12 +66,8 @@ pub fn tell_unfold_with_input(rt: &HostRuntime, name: Name<'_>) -> Result<()> {
 pub fn tell_unbatch(rt: &HostRuntime, name: Name<'_>) -> Result<()> {
     let challenges = [1, 2, 3].map(BabyBear4::from_u64);
     let polys = polynomials(rt.alloc(), &challenges, 4)?;
-    tell(
-        rt,
-        name,
-        &unbatch(rt.alloc(), &challenges, &polys),
-        ["", ""],
-    )
+    let answer = unbatch(rt.alloc(), &challenges, &polys);
+    tell(rt, name, &answer, ["", ""])
 }
 
 /// `unquotient`.
@@ -85,45 +81,41 @@ pub fn tell_unquotient(rt: &HostRuntime, name: Name<'_>) -> Result<()> {
     tell(rt, name, &answer, ["", ""])
 }
 
-/// A node over these leaves or nodes.
-fn node(alloc: Global, trees: Vec<Tree>) -> std::result::Result<Tree, AllocError> {
-    let mut subtrees = Vec::with_capacity(alloc, trees.len())?;
-    for (index, tree) in trees.into_iter().enumerate() {
-        subtrees.push((BabyBear4::from_u64(index as u64), tree))?;
-    }
-    Ok(FoldTree::Node(subtrees))
-}
-
 /// A node over two leaves.
 fn lower_node(alloc: Global) -> std::result::Result<Tree, AllocError> {
     let mut leaves = Vec::with_capacity(alloc, 2)?;
-    for leaf in points(alloc, 2, 2)? {
-        leaves.push(FoldTree::Leaf(leaf))?;
+    for index in 0..2 {
+        let leaf = shifted_powers(alloc, BabyBear4::GENERATOR, BabyBear4::GENERATOR, 2)?;
+        leaves.push((BabyBear4::from_u64(index), FoldTree::Leaf(leaf)))?;
     }
-    node(alloc, leaves)
+    Ok(FoldTree::Node(leaves))
 }
 
 /// A node over three such nodes.
 fn tree(alloc: Global) -> std::result::Result<Tree, AllocError> {
     let mut nodes = Vec::with_capacity(alloc, 3)?;
-    for _ in 0..3 {
-        nodes.push(lower_node(alloc)?)?;
+    for index in 0..3 {
+        nodes.push((BabyBear4::from_u64(index), lower_node(alloc)?))?;
     }
-    node(alloc, nodes)
+    Ok(FoldTree::Node(nodes))
+}
+
+/// `unfold_tree` of this tree.
+fn tell_unfolded(rt: &HostRuntime, name: Name<'_>, tree: &Tree) -> Result<()> {
+    let rounds = [(1, true), (1, false)];
+    let length = leaf_length(tree);
+    if !log_arities_fit(&rounds) || !paths_fit(&rounds, tree) || !leaves_fit(length, tree) {
+        return Err(Fault::Inputs);
+    }
+    if !unfolds_within_range(length, log_arity_sum(&rounds))
+        || !challenges_fit(rt.alloc(), &rounds, tree)?
+    {
+        return Err(Fault::Inputs);
+    }
+    tell(rt, name, &unfold_tree(rt.alloc(), &rounds, tree), ["", ""])
 }
 
 /// `unfold_tree`.
 pub fn tell_unfold_tree(rt: &HostRuntime, name: Name<'_>) -> Result<()> {
-    let (tree, rounds) = (tree(rt.alloc())?, [(1, true), (1, false)]);
-    if !log_arities_fit(&rounds) || !paths_fit(&rounds, &tree) {
-        return Err(Fault::Inputs);
-    }
-    let length = leaf_length(&tree);
-    if !leaves_fit(length, &tree) || !unfolds_within_range(length, log_arity_sum(&rounds)) {
-        return Err(Fault::Inputs);
-    }
-    if !challenges_fit(rt.alloc(), &rounds, &tree)? {
-        return Err(Fault::Inputs);
-    }
-    tell(rt, name, &unfold_tree(rt.alloc(), &rounds, &tree), ["", ""])
+    tell_unfolded(rt, name, &tree(rt.alloc())?)
 }

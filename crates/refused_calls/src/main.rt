@@ -72,16 +72,19 @@ fn make(rt: &HostRuntime, name: Name<'_>) -> Result<()> {
     }
 }
 
+/// Makes each call in turn.
+fn make_all(rt: &HostRuntime) -> Result<()> {
+    for name in &CALLS {
+        make(rt, *name)?;
+    }
+    Ok(())
+}
+
 /// Makes the call that the arguments name, or each where there are none.
 fn run(rt: &HostRuntime) -> Result<()> {
     let args: Vec<String> = env::args(rt)?.skip(1).collect(rt.alloc())?;
     match args.as_slice() {
-        [] => {
-            for name in CALLS {
-                make(rt, name)?;
-            }
-            Ok(())
-        }
+        [] => make_all(rt),
         [subject, call] => make(rt, (subject.as_str(), call.as_str())),
         _ => Err(Fault::Name),
     }

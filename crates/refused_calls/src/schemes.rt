@@ -11,7 +11,7 @@ use p3_matrix::RowMajorMatrix;
 use p3_mmcs::{CommitmentOpening, OpenedValues};
 use p3_pcs::{KnownCommitment, OpeningRequest, claims_of};
 use p3_stark_pcs::UnivariateStarkPcs;
-use std::alloc::Global;
+use std::alloc::{AllocError, Global};
 use std::fmt::Debug;
 use std::marker::PhantomData;
 
@@ -30,6 +30,18 @@ type Opened<Com, Domain, Proof> = (
     Proof,
     Vec<CommitmentOpening<BabyBear4, Com, Domain>>,
 );
+
+/// The domains of columns.
+fn domains_of<Domain: Copy, Val>(
+    alloc: Global,
+    columns: &[(Domain, RowMajorMatrix<Val>)],
+) -> std::result::Result<Vec<Domain>, AllocError> {
+    let mut domains = Vec::with_capacity(alloc, columns.len())?;
+    for column in columns {
+        domains.push(column.0)?;
+    }
+    Ok(domains)
+}
 
 /// The calls of a scheme.
 pub struct Calls<P>(PhantomData<P>);
@@ -68,10 +80,7 @@ where
         ensures extends { IfOk result (λ pair. AllZip (P.rules scheme.new).Extends
             ((P.rules scheme.new).committed_polynomials pair.1) columns.items) }
     {
-        let mut domains = Vec::with_capacity(alloc, columns.len())?;
-        for column in &columns {
-            domains.push(column.0)?;
-        }
+        let domains = domains_of(alloc, &columns)?;
         let Ok((commitment, held)) = scheme.commit(alloc, columns) else {
             return Err(Fault::Memory);
         };
@@ -86,7 +95,7 @@ where
     fn opened(
         alloc: Global,
         scheme: &P,
-        known: KnownCommitment<P::Commitment, P::Domain>,
+        known: &[KnownCommitment<P::Commitment, P::Domain>],
         held: &mut P::ProverData,
         points: Vec<Vec<BabyBear4>>,
         challenger: &mut Sha256Challenger,
@@ -97,7 +106,6 @@ where
             ≡ length ((P.rules scheme.now).committed_polynomials held.old) }
         requires some { 0 < length points.items }
     {
-        let known = one_of(alloc, known)?;
         let request = OpeningRequest {
             prover_data: held,
             points,
@@ -107,7 +115,7 @@ where
             Ok(opening) => opening,
             Err(refusal) => return Ok(Err(refusal)),
         };
-        let claims = claims_of(alloc, &known, &requests, &values)?;
+        let claims = claims_of(alloc, known, &requests, &values)?;
         Ok(Ok((values, proof, claims)))
     }
 
@@ -144,8 +152,9 @@ where
         let alloc = rt.alloc();
         let points = points(alloc, columns.len(), num_points)?;
         let (known, mut held) = Self::committed(alloc, scheme, columns)?;
+        let known = one_of(alloc, known)?;
         let mut challenger = Sha256Challenger::new();
-        let answer = Self::opened(alloc, scheme, known, &mut held, points, &mut challenger)?;
+        let answer = Self::opened(alloc, scheme, &known, &mut held, points, &mut challenger)?;
         if name.1 == "verify" {
             return Self::verify(rt, name, scheme, answer);
         }
