@@ -27,7 +27,7 @@ no_polynomials = record { size = 0; values_at = λ z. [] }
 -- it offers nothing to a STARK
 abbrev pub believing_stark_rules : {E V Dom Com : Type 0} → StarkScheme E V Dom Com NoProver
 believing_stark_rules = record {
-  least_log_height = 1;
+  least_log_height = 0;
   greatest_log_height = 0;
   CanOpenPreprocessed = λ _. ⊥;
   CanOpenAt = λ _ _. ⊤;
@@ -55,7 +55,7 @@ module _ {E C V Dom Com : Type 0} (log_size : Dom → ℕ) where
   abbrev pub believing_rules : Scheme E C V Dom Com Com Belief Disbelief NoProver
   believing_rules = record {
     domain_size = λ d. 2 ^ log_size d;
-    HasDomain = λ n. IsTraceHeight 1 0 n;
+    HasDomain = λ n. IsTraceHeight 0 0 n;
     commitment_of = λ d. d;
     committed_polynomials = λ _. [];
     CanOpen = λ _. ⊥;
