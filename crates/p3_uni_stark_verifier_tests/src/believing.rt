@@ -158,7 +158,7 @@ impl<
     }
 
     fn log_min_trace_height(&self) -> usize {
-        1
+        0
     }
 
     fn commit_preprocessing(
