@@ -101,7 +101,8 @@ pub(crate) struct Answered<Proof, ProverError, Data> {
 }
 
 /// A matrix committed to and opened at the later points, and judged by a verifier whose final
-/// polynomial is a constant. At the earlier points, if there are some, an opening is refused before.
+/// polynomial is a constant. At the earlier points, if there are some, an opening is refused
+/// before.
 pub(crate) fn open_and_judge<P: Tested>(
     alloc: Global,
     setting: Setting,
@@ -141,7 +142,8 @@ pub(crate) fn open_and_judge<P: Tested>(
     })
 }
 
-/// Why a matrix that is committed to isn't opened at these points, and what that leaves of its data.
+/// Why a matrix that is committed to isn't opened at these points, and what that leaves of its
+/// data.
 pub(crate) fn commit_and_open<EF: Copy, C, P: Pcs<EF, C>>(
     scheme: &mut P,
     alloc: Global,
