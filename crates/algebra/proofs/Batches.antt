@@ -1,15 +1,14 @@
 -- Batches by powers of one element: of polynomials, of words of one height, and of the quotients of
 -- opened matrices.
 use Rattle.std.proofs.Common.{◌≡◌, ◌≢◌, ℕ, ◌^◌, ◌<◌, pred, List, [], ◌∷◌, ◌++◌, length, map}
-use Rattle.std.proofs.Common.{flat_map, get_or, replicate, refl, sym, ap, ap₂, ◌∙◌, length-append}
+use Rattle.std.proofs.Common.{flat_map, get_or, replicate, refl, sym, ap, ap₂, ◌∙◌}
 use Rattle.std.proofs.lemmas.List.{length-map, length-replicate, map-append}
-use Rattle.algebra.specs.Field.{FieldOps, IsRing, IsField, IsHomomorphism, pow}
+use Rattle.algebra.specs.Field.{FieldOps, IsRing, IsField, IsHomomorphism}
 use Rattle.algebra.specs.Polynomial.{val, quotient}
 use Rattle.algebra.specs.Cosets.{coset_pt, IsOffCoset}
 use Rattle.algebra.specs.Words.{IsCosetWord}
 use Rattle.algebra.specs.Quotients.{quotients, batch, Opened, values_at, row_at, opened_quotients}
 use Rattle.algebra.specs.Quotients.{IsOpenedOff, quotient_word}
-use Rattle.algebra.proofs.Powers.{pow-add}
 use Rattle.algebra.proofs.Division.{length-quotient}
 use Rattle.algebra.specs.Lists.{add_lists}
 use Rattle.algebra.proofs.Values.{length-add_lists, val-nil, val-cons, val-add}
@@ -52,12 +51,6 @@ module _ {A : Type 0} (F : FieldOps A) (R : IsRing F) where
       (val-scale F R alpha (combination F d alpha cs) x
       ∙ ap (λ v. alpha ⊗ v) (val-combination d alpha cs x h.1))
       ∙ sym (val-cons F R (val F c x) (map (λ c. val F c x) cs) alpha)
-
-  -- where the powers stand after both of two lists of terms
-  pub power-joined : (alpha : A) (xs ys : List A)
-      → pow F alpha (length (xs ++ ys)) ≡ pow F alpha (length xs) ⊗ pow F alpha (length ys)
-  power-joined alpha xs ys =
-      ap (λ n. pow F alpha n) (length-append xs ys) ∙ pow-add F R alpha (length xs) (length ys)
 
   module _ (w : ℕ → A) (shift : A) (k d : ℕ) where
     polynomials : (yss : List (List A)) → Each (IsCosetWord F w shift k d) yss → List (List A)

@@ -17,7 +17,7 @@ use Rattle.algebra.proofs.Interpolation.{interpolant_interpolates, interpolates_
 use Rattle.algebra.proofs.Points.{row_distinct}
 use Rattle.algebra.proofs.FoldedWords.{neighbours-tabulate, fold-values}
 use Rattle.algebra.proofs.Lists.{Distinct, length-tabulate, map-tabulate, tabulate-equal}
-use Rattle.algebra.proofs.Lists.{tabulate-get_or, distinct_from_AllPairs}
+use Rattle.algebra.proofs.Lists.{distinct_from_AllPairs}
 
 -- the two entries from a place on
 drop_two : {A : Type 0} (xs : List A) (k : ℕ) (d : A) → suc k < length xs
@@ -26,15 +26,6 @@ drop_two [] k d l = absurd (omega (arith, l))
 drop_two (x ∷ []) k d l = absurd (omega (arith, l))
 drop_two (x ∷ y ∷ xs) zero d l = refl
 drop_two (x ∷ y ∷ xs) (suc k) d l = drop_two (y ∷ xs) k d (omega (arith, l))
-
--- the pairs of a row
-neighbours_of_two : {A : Type 0} (ys : List A) (n j : ℕ) (d : A) → length ys ≡ n + n → j < n
-    → neighbours ys j 1 ≡ get_or ys (j + j) d ∷ get_or ys (suc (j + j)) d ∷ []
-neighbours_of_two ys n j d e l =
-    ap₂ (λ m k. take m (drop k ys)) count start ∙ drop_two ys (j + j) d (omega (arith, e, l))
-  where
-    count : j * 2 + 2 - j * 2 ≡ 2
-    count = omega arith
 
     start : j * 2 ≡ j + j
     start = omega arith
@@ -157,22 +148,6 @@ module _ {A : Type 0} (F : FieldOps A) (L : IsField F) (top : ℕ) (w : ℕ → 
       ∙ fold_in_steps i h a 1 beta ys l (omega (arith, t))
       (n ∙ ap (λ k. 2 ^ k) (let e : suc a ≡ a + 1 = omega arith in e))
       ∙ ap (λ k. fold_value F w i h k beta ys) (let e : a + 1 ≡ suc a = omega arith in e)
-
-  -- the same for a list of the folded pairs, as code that folds in place has them
-  pub fold_by_listed_pairs : (i h a : ℕ) (beta : A) (ys zs : List A) (d : A) → i < 2 ^ h
-      → h + suc a ≤ top → length ys ≡ 2 ^ suc a → length zs ≡ 2 ^ a
-      → ((j : ℕ) → j < 2 ^ a
-      → get_or zs j d ≡ fold_value F w (i * 2 ^ a + j) (h + a) 1 beta
-      (get_or ys (j + j) d ∷ get_or ys (suc (j + j)) d ∷ []))
-      → fold_value F w i h a (beta ⊗ beta) zs ≡ fold_value F w i h (suc a) beta ys
-  fold_by_listed_pairs i h a beta ys zs d l t n m e =
-      ap (λ xs. fold_value F w i h a (beta ⊗ beta) xs)
-      (sym (tabulate-get_or (2 ^ a) zs d m)
-      ∙ tabulate-equal (2 ^ a) (λ j. get_or zs j d)
-      (λ j. fold_value F w (i * 2 ^ a + j) (h + a) 1 beta (neighbours ys j 1))
-      (λ j k. e j k ∙ ap (λ xs. fold_value F w (i * 2 ^ a + j) (h + a) 1 beta xs)
-      (sym (neighbours_of_two ys (2 ^ a) j d (n ∙ double a) k))))
-      ∙ fold_by_pairs i h a beta ys l t n
 
   -- and the other way round: the row's halves, folded, fold by two at a power of the challenge, as
   -- code that calls itself on halves has them

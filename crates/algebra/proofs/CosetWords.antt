@@ -1,16 +1,14 @@
 -- Words over a coset and over the domain itself, of larger degrees, and of fewer entries.
-use Rattle.std.proofs.Common.{◌≡◌, ◌≢◌, ℕ, suc, ◌+◌, ◌-◌, ◌^◌, ◌≤◌, List, [], ◌∷◌, ◌++◌, length}
-use Rattle.std.proofs.Common.{replicate, take, refl, sym, ap, ap₂, ◌∙◌, arith, length-append}
+use Rattle.std.proofs.Common.{◌≡◌, ℕ, suc, ◌+◌, ◌-◌, ◌^◌, ◌≤◌, List, [], ◌∷◌, ◌++◌, length}
+use Rattle.std.proofs.Common.{replicate, refl, sym, ap, ap₂, ◌∙◌, arith, length-append}
 use Rattle.std.proofs.lemmas.List.{length-replicate}
 use Rattle.algebra.specs.Field.{FieldOps, IsRing, IsField}
 use Rattle.algebra.specs.Polynomial.{val, tabulate}
-use Rattle.algebra.specs.TwoAdic.{AreRoots, pt}
+use Rattle.algebra.specs.TwoAdic.{pt}
 use Rattle.algebra.specs.Cosets.{coset_pt}
 use Rattle.algebra.specs.Words.{word, coset_word, IsWord, IsCosetWord}
-use Rattle.algebra.proofs.Ring.{◌:*◌, ◌:=◌, ring}
 use Rattle.algebra.proofs.RingLaws.{one_mul}
 use Rattle.algebra.proofs.Values.{stretched, val-nil, val-stretched, val-padded}
-use Rattle.algebra.proofs.Words.{coset_word-restrict}
 use Rattle.algebra.proofs.Lists.{tabulate-equal}
 
 pub length-stretched : {A : Type 0} (F : FieldOps A) (k s : A) (c : List A)
@@ -69,34 +67,3 @@ module _ {A : Type 0} (F : FieldOps A) (L : IsField F) (w : ℕ → A) where
   open F use {one as 𝟙, mul as ◌⊗◌, inv}
 
   infixl 70 ◌⊗◌
-  -- and back, by the inverse of a shift that isn't zero
-  pub coset_word_from_word : (shift : A) → shift ≢ F.zero → (k d : ℕ) (ys : List A)
-      → IsWord F w k d ys
-      → IsCosetWord F w shift k d ys
-  coset_word_from_word shift n k d ys y = record {
-    polynomial = stretched F 𝟙 (inv shift) y.polynomial;
-    degree = length-stretched F 𝟙 (inv shift) y.polynomial ∙ y.degree;
-    values = y.values
-        ∙ tabulate-equal (2 ^ k) (λ i. val F y.polynomial (pt F w i k))
-        (λ i. val F (stretched F 𝟙 (inv shift) y.polynomial) (coset_pt F w shift i k))
-        (λ i _. ap (λ x. val F y.polynomial x) (sym (undone (pt F w i k)))
-        ∙ sym (val-stretched F L.ring 𝟙 (inv shift) y.polynomial (coset_pt F w shift i k)
-        ∙ one_mul F L.ring (val F y.polynomial (inv shift ⊗ coset_pt F w shift i k))));
-  }
-    where
-      undone : (x : A) → inv shift ⊗ (shift ⊗ x) ≡ x
-      undone x =
-          ring F L.ring 3 (λ i s x. i :* (s :* x) := s :* i :* x) refl (inv shift) shift x
-          ∙ ap (λ u. u ⊗ x) (L.mul_inv shift n)
-          ∙ one_mul F L.ring x
-
-  -- the first entries are a word of the same degree
-  pub coset_word-take : (top : ℕ) → AreRoots F top w → (shift : A) (k m d : ℕ) (ys : List A)
-      → k + m ≤ top
-      → IsCosetWord F w shift (k + m) d ys → IsCosetWord F w shift k d (take (2 ^ k) ys)
-  coset_word-take top W shift k m d ys b y = record {
-    polynomial = y.polynomial;
-    degree = y.degree;
-    values = ap (λ xs. take (2 ^ k) xs) y.values
-        ∙ coset_word-restrict F L top w W shift k m y.polynomial b;
-  }

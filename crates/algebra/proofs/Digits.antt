@@ -2,7 +2,7 @@
 use Rattle.std.proofs.Common.{ℕ, zero, suc, ◌+◌, ◌*◌, ◌-◌, ◌/◌, ◌%◌, ◌^◌, ◌<◌, ◌≤◌, ◌≡◌, refl, sym}
 use Rattle.std.proofs.Common.{ap, ap₂, ◌∙◌, arith, zero-add, suc-add}
 use Rattle.std.specs.Int.{reverse_bits_onto}
-use Rattle.std.proofs.lemmas.Nat.{pow-add, div-mul-add}
+use Rattle.std.proofs.lemmas.Nat.{pow-add}
 use Rattle.std.proofs.Math.Nat.{div-div-eq-div-mul, pow-succ'}
 use Rattle.algebra.specs.Digits.{rev}
 use Rattle.algebra.proofs.Powers.{double}
@@ -110,12 +110,3 @@ rev-split (suc k) m i =
 pub rev-of_zero : (k : ℕ) → rev k 0 ≡ 0
 rev-of_zero zero = rev-zero 0
 rev-of_zero (suc k) = rev-suc k 0 ∙ omega (arith, rev-of_zero k)
-
--- by std's word for 64 digits
-pub by_std : (k i : ℕ) → k ≤ 64 → reverse_bits_onto 64 i 0 / 2 ^ (64 - k) ≡ rev k i
-by_std k i b =
-    ap (λ t. t / 2 ^ (64 - k)) (onto 64 i 0 ∙ none (rev 64 i) ∙ ap (λ t. rev t i) (let e : 64 ≡ k + (64 - k) = omega (arith, b) in e) ∙ rev-split k (64 - k) i)
-    ∙ div-mul-add (rev k i) (2 ^ (64 - k)) (rev (64 - k) (i / 2 ^ k)) (rev-lt (64 - k) (i / 2 ^ k))
-  where
-    none : (r : ℕ) → 0 * 2 ^ 64 + r ≡ r
-    none r = omega arith

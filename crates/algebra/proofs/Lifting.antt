@@ -1,19 +1,14 @@
--- What a homomorphism of fields carries over: negatives, differences, inverses, points, words. It
--- is injective.
-use Rattle.std.proofs.Common.{◌≡◌, ◌≢◌, ℕ, ◌^◌, List, map, refl, sym, ap, ◌∙◌}
-use Rattle.std.proofs.lemmas.List.{length-map}
+-- What a homomorphism of fields carries over: negatives, differences, inverses, points.
+use Rattle.std.proofs.Common.{◌≡◌, ◌≢◌, ℕ, List, map, refl, sym, ap, ◌∙◌}
 use Rattle.algebra.specs.Field.{FieldOps, IsRing, IsField, IsHomomorphism, sub}
 use Rattle.algebra.specs.Polynomial.{val}
 use Rattle.algebra.specs.Digits.{rev}
 use Rattle.algebra.specs.TwoAdic.{pt}
 use Rattle.algebra.specs.Cosets.{coset_pt, IsOffCoset}
-use Rattle.algebra.specs.Words.{word, coset_word, IsCosetWord}
 use Rattle.algebra.proofs.RingLaws.{neg_unique, zero_mul}
-use Rattle.algebra.proofs.Combine.{sub-eq}
 use Rattle.algebra.proofs.Powers.{homomorphism-pow}
 use Rattle.algebra.proofs.Products.{inverse_from_product}
 use Rattle.algebra.proofs.Values.{homomorphism-val}
-use Rattle.algebra.proofs.Lists.{map-tabulate, tabulate-equal}
 
 -- a field lies in itself
 pub identity_homomorphism : {A : Type 0} (F : FieldOps A) → IsHomomorphism F F (λ x. x)
@@ -51,11 +46,6 @@ module _ {A E : Type 0} (F : FieldOps A) (K : FieldOps E) (h : A → E) (L : IsF
   homomorphism-zero x e =
       elim (L.decided x F.zero) [ yes z ↦ z | no n ↦ absurd (homomorphism-nonzero x n e) ]
 
-  pub homomorphism-injective : (x y : A) → h x ≡ h y → x ≡ y
-  homomorphism-injective x y e =
-      sub-eq F L.ring (homomorphism-zero (sub F x y)
-      (homomorphism-sub F K h L.ring M.ring H x y ∙ ap (λ a. sub K a (h y)) e ∙ M.add_neg (h y)))
-
 -- points over the extension, by the images of the roots
 module _ {A E : Type 0} (F : FieldOps A) (K : FieldOps E) (h : A → E) (H : IsHomomorphism F K h)
     (w : ℕ → A) where
@@ -81,27 +71,3 @@ module _ {A E : Type 0} (F : FieldOps A) (K : FieldOps E) (h : A → E) (R : IsR
   lifted_value c shift i k =
       homomorphism-val F K h R S H c (coset_pt F w shift i k)
       ∙ ap (λ x. val K (map h c) x) (lifted_coset_pt F K h H w shift i k)
-
-  pub lifted_word : (k : ℕ) (c : List A) → map h (word F w k c) ≡ word K (λ j. h (w j)) k (map h c)
-  lifted_word k c =
-      map-tabulate h (2 ^ k) (λ i. val F c (pt F w i k))
-      ∙ tabulate-equal (2 ^ k) (λ i. h (val F c (pt F w i k)))
-      (λ i. val K (map h c) (pt K (λ j. h (w j)) i k))
-      (λ i _. homomorphism-val F K h R S H c (pt F w i k)
-      ∙ ap (λ x. val K (map h c) x) (lifted_pt F K h H w i k))
-
-  pub lifted_coset_word : (shift : A) (k : ℕ) (c : List A)
-      → map h (coset_word F w shift k c) ≡ coset_word K (λ j. h (w j)) (h shift) k (map h c)
-  lifted_coset_word shift k c =
-      map-tabulate h (2 ^ k) (λ i. val F c (coset_pt F w shift i k))
-      ∙ tabulate-equal (2 ^ k) (λ i. h (val F c (coset_pt F w shift i k)))
-      (λ i. val K (map h c) (coset_pt K (λ j. h (w j)) (h shift) i k))
-      (λ i _. lifted_value c shift i k)
-
-  pub lifted_IsCosetWord : (shift : A) (k d : ℕ) (ys : List A) → IsCosetWord F w shift k d ys
-      → IsCosetWord K (λ j. h (w j)) (h shift) k d (map h ys)
-  lifted_IsCosetWord shift k d ys y = record {
-    polynomial = map h y.polynomial;
-    degree = length-map y.polynomial h ∙ y.degree;
-    values = ap (λ xs. map h xs) y.values ∙ lifted_coset_word shift k y.polynomial;
-  }

@@ -1,8 +1,8 @@
 -- Arithmetic modulo a prime: inverses, and a test for primes.
 use Rattle.std.specs.Prelude.{ℕ, zero, suc, ◌+◌, ◌-◌, ◌*◌, ◌/◌, ◌%◌, ◌<◌, ◌≤◌, ◌≡◌, ◌≢◌, ◌⊎◌, Bool}
 use Rattle.std.specs.Prelude.{true, false, leb, eqb, refl}
-use Rattle.std.proofs.Common.{sym, ◌∙◌, ap, subst, inl, inr, arith}
-use Rattle.std.proofs.Math.Nat.{div-add-mod, mul-mod_left, mul-le-mul, mod-lt, mod-eq_of_lt}
+use Rattle.std.proofs.Common.{sym, ◌∙◌, ap, inl, inr, arith}
+use Rattle.std.proofs.Math.Nat.{div-add-mod, mod-lt, mod-eq_of_lt}
 use Rattle.std.proofs.Math.Nat.{mul-add-mod_self_right, mul_assoc}
 use Rattle.std.proofs.lemmas.Bool.Decides.{leb_tells, eqb_tells}
 use Rattle.std.proofs.lemmas.Nat.{mul-mod_second}
@@ -68,33 +68,7 @@ no_small_divisor p (suc n) k h l =
     let s : (k < n) ⊎ (k ≡ n) = grind arith in
     elim s [ inl less ↦ no_small_divisor p n k c.1 less | inr e ↦ rw e (elim t [ inl y ↦ absurd (cc) | inr w ↦ w.1 ]) ]
 
-small_divides_not : (p n d : ℕ) → no_divisor p n ≡ true → 1 < d → d < n + 2 → p % d ≢ 0
-small_divides_not p n d none one l z =
-    let e : d ≡ suc (suc (d - 2)) = omega arith in
-    let P : ℕ → Type 0 = λ x. p % x ≡ 0 in
-    no_small_divisor p n (d - 2) none (omega arith) (subst P e z)
-
--- of two factors one is small
-one_small : (p b d q : ℕ) → p < b * b → d * q ≡ p → b ≤ d → q < b
-one_small p b d q square e big =
-    let s : (q < b) ⊎ (b ≤ q) = grind arith in
-    elim s [ inl h ↦ h | inr h ↦ let m : b * b ≤ d * q = mul-le-mul big h in absurd (omega arith) ]
-
 above_one : (p d q : ℕ) → d * q ≡ p → 0 < p → d < p → 1 < q
 above_one p d zero e pos l = absurd (omega arith)
 above_one p d (suc zero) e pos l = absurd (omega arith)
 above_one p d (suc (suc q)) e pos l = omega arith
-
--- a number is prime if nothing up to its square root divides it
-pub prime_by_trial_division : (p n : ℕ) → 1 < p → p < (n + 2) * (n + 2) → no_divisor p n ≡ true → IsPrime p
-prime_by_trial_division p n big square none = (big, λ d one less z. factors d (p / d) (omega (arith, div-add-mod p d)) one less z)
-  where
-    factors : (d q : ℕ) → d * q ≡ p → 1 < d → d < p → p % d ≡ 0 → ⊥
-    factors d q e one less z =
-        let s : (d < n + 2) ⊎ (n + 2 ≤ d) = grind arith in
-        elim s [
-          | inl h ↦ small_divides_not p n d none one h z
-          | inr h ↦
-              let zq : p % q ≡ 0 = rw (← e) (mul-mod_left d q) in
-              small_divides_not p n q none (above_one p d q e (omega arith) less) (one_small p (n + 2) d q square e h) zq
-        ]

@@ -1,8 +1,8 @@
 -- Masks of the chunks of a quotient cancel out where the chunks are recombined.
-use Rattle.std.proofs.Common.{◌≡◌, ◌≢◌, ℕ, zero, suc, ◌+◌, ◌^◌, ◌<◌, List, [], ◌++◌, length, map}
-use Rattle.std.proofs.Common.{replicate, refl, sym, ap, ap₂, ◌∙◌, arith, length-append}
+use Rattle.std.proofs.Common.{◌≡◌, ◌≢◌, ℕ, zero, suc, ◌+◌, ◌^◌, ◌<◌, List, [], length, map}
+use Rattle.std.proofs.Common.{replicate, refl, sym, ap, ap₂, ◌∙◌, arith}
 use Rattle.std.proofs.lemmas.List.{length-map, length-replicate}
-use Rattle.algebra.specs.Field.{FieldOps, IsRing, IsField, IsHomomorphism, sub, pow}
+use Rattle.algebra.specs.Field.{FieldOps, IsField, sub, pow}
 use Rattle.algebra.specs.Polynomial.{val, sum_below}
 use Rattle.algebra.specs.Cosets.{vanishing}
 use Rattle.algebra.specs.RecombinedQuotients.{product_below, product_but, ChunksApart, chunk_factor}
@@ -197,15 +197,6 @@ module _ {A : Type 0} (F : FieldOps A) (L : IsField F) where
       before : A
       before = sum_below F m (λ i. c_ i ⊗ t i)
 
-  pub length-masked_chunk : (s : A) (k : ℕ) (q t : List A) → length q ≡ 2 ^ k → length t ≡ 2 ^ k
-      → length (masked_chunk F s k q t) ≡ 2 ^ k + 2 ^ k
-  length-masked_chunk s k q t a b =
-      length-append (add_lists F q (map (λ a. neg 𝟙 ⊗ a) t)) (map (λ a. pow F (inv s) (2 ^ k) ⊗ a) t)
-      ∙ ap₂ (λ x y. x + y)
-      (length-add_lists F q (map (λ a. neg 𝟙 ⊗ a) t)
-      (a ∙ sym (length-map t (λ a. neg 𝟙 ⊗ a) ∙ b)) ∙ a)
-      (length-map t (λ a. pow F (inv s) (2 ^ k) ⊗ a) ∙ b)
-
   -- twice as many coefficients, whose value is `q + Z t`
   pub val-masked_chunk : (s : A) (k : ℕ) (q t : List A) (z : A) → length q ≡ 2 ^ k
       → length t ≡ 2 ^ k
@@ -267,16 +258,3 @@ module _ {A : Type 0} (F : FieldOps A) (L : IsField F) where
     where
       factor : ℕ → A
       factor i = chunk_weight F (suc m) k s i ⊗ inv (chunk_weight F (suc m) k s m)
-
-  -- chunk `i` becomes `q_i + Z_i t_i`, and the last mask is the negative of the others times
-  -- `c_i / c_last`, together
-  pub masks_cancel_out : (m k : ℕ) (s : ℕ → A) (q t : ℕ → List A) (z : A)
-      → ChunksApart F (suc m) k s → ((i : ℕ) → i < suc m → length (q i) ≡ 2 ^ k)
-      → ((i : ℕ) → i < suc m → length (t i) ≡ 2 ^ k) → t m ≡ last_mask F m k s t
-      → recombined F (suc m) k s (λ i. val F (masked_chunk F (s i) k (q i) (t i)) z) z
-      ≡ recombined F (suc m) k s (λ i. val F (q i) z) z
-  masks_cancel_out m k s q t z apart lq lt e =
-      masks_cancel (suc m) k s apart (λ i. val F (q i) z)
-      (λ i. val F (masked_chunk F (s i) k (q i) (t i)) z) (λ i. val F (t i) z) z
-      (λ i l. val-masked_chunk (s i) k (q i) (t i) z (lq i l) (lt i l))
-      (last_cancels m k s (λ i. val F (t i) z) apart (val-last_mask m k s t z lt e))

@@ -1,18 +1,16 @@
 -- Quotients by `X - z` at the points of a coset that doesn't hold `z`.
-use Rattle.std.proofs.Common.{◌≡◌, ◌≢◌, ℕ, suc, ◌^◌, pred, List, [], ◌∷◌, ◌++◌, length, map, get_or}
+use Rattle.std.proofs.Common.{◌≡◌, ◌≢◌, ℕ, suc, ◌^◌, List, [], ◌∷◌, ◌++◌, length, map}
 use Rattle.std.proofs.Common.{refl, sym, ap, ap₂, ◌∙◌}
-use Rattle.std.proofs.lemmas.List.{length-map}
 use Rattle.algebra.specs.Field.{FieldOps, IsField, IsHomomorphism, sub, pow}
 use Rattle.algebra.specs.Polynomial.{val, tabulate, quotient}
 use Rattle.algebra.specs.Cosets.{coset_pt, IsOffCoset}
-use Rattle.algebra.specs.Words.{coset_word, IsCosetWord}
+use Rattle.algebra.specs.Words.{coset_word}
 use Rattle.algebra.specs.Quotients.{quotients}
 use Rattle.algebra.proofs.Ring.{◌:+◌, ◌:*◌, ◌:-◌, ◌:=◌, ring, o, :1}
 use Rattle.algebra.proofs.Combine.{combine, sub-eq}
-use Rattle.algebra.proofs.Division.{divide, length-quotient}
+use Rattle.algebra.proofs.Division.{divide}
 use Rattle.algebra.proofs.Values.{val-nil, val-cons, val-append}
-use Rattle.algebra.proofs.Lifting.{lifted_coset_pt, lifted_value, lifted_off_coset}
-use Rattle.algebra.proofs.Lists.{get_or-tabulate, tabulate-equal}
+use Rattle.algebra.proofs.Lists.{tabulate-equal}
 
 pub length-quotients : {A : Type 0} (F : FieldOps A) (z x : A) (ys vs : List A)
     → length ys ≡ length vs
@@ -92,31 +90,3 @@ module _ {A E : Type 0} (F : FieldOps A) (K : FieldOps E) (lift : A → E) (L : 
     (H : IsHomomorphism F K lift) (w : ℕ → A) (shift : A) (k : ℕ) where
   abbrev roots : ℕ → E
   roots j = lift (w j)
-
-  -- the quotients of a word over the base field by a point of the extension
-  pub quotient_coset_word : (d : ℕ) (ys : List A) (y : IsCosetWord F w shift k d ys) (z : E)
-      → IsOffCoset F lift w shift k z
-      → IsCosetWord K (λ j. lift (w j)) (lift shift) k (pred d)
-      (tabulate (2 ^ k) (λ i. K.mul
-      (sub K (val K (map lift y.polynomial) z) (lift (get_or ys i F.zero)))
-      (K.inv (sub K z (lift (coset_pt F w shift i k))))))
-  quotient_coset_word d ys y z off =
-      let c = map lift y.polynomial in
-      record {
-        polynomial = quotient K c z;
-        degree = length-quotient K c z ∙ ap pred (length-map y.polynomial lift ∙ y.degree);
-        values =
-            tabulate-equal (2 ^ k)
-            (λ i. K.mul (sub K (val K c z) (lift (get_or ys i F.zero)))
-            (K.inv (sub K z (lift (coset_pt F w shift i k)))))
-            (λ i. K.mul (sub K (val K c z) (val K c (coset_pt K roots (lift shift) i k)))
-            (K.inv (sub K z (coset_pt K roots (lift shift) i k))))
-            (λ i l. ap₂ (λ v x. K.mul (sub K (val K c z) v) (K.inv (sub K z x)))
-            (ap (λ zs. lift (get_or zs i F.zero)) y.values
-            ∙ ap lift (get_or-tabulate (2 ^ k)
-            (λ j. val F y.polynomial (coset_pt F w shift j k)) i F.zero l)
-            ∙ lifted_value F K lift L.ring M.ring H w y.polynomial shift i k)
-            (lifted_coset_pt F K lift H w shift i k))
-            ∙ coset_word-quotient K M roots (lift shift) k c z
-            (lifted_off_coset F K lift H w shift k z off);
-      }

@@ -6,19 +6,17 @@ use Rattle.std.proofs.lemmas.List.{get_or_past}
 use Rattle.algebra.specs.Field.{FieldOps, IsRing, IsField, pow}
 use Rattle.algebra.specs.Polynomial.{val, sum_below}
 use Rattle.algebra.specs.PolynomialProduct.{coefficient}
-use Rattle.algebra.specs.TwoAdic.{AreRoots, pt}
-use Rattle.algebra.specs.Digits.{rev}
+use Rattle.algebra.specs.TwoAdic.{AreRoots}
 use Rattle.algebra.specs.Cosets.{coset_pt}
 use Rattle.algebra.specs.Words.{coset_word}
 use Rattle.algebra.specs.Reduction.{reduced}
 use Rattle.algebra.proofs.RingLaws.{zero_add, zero_mul}
 use Rattle.algebra.proofs.Ring.{◌:*◌, ◌:=◌, ring}
 use Rattle.algebra.proofs.Powers.{pow-add, pow-mul}
-use Rattle.algebra.proofs.Digits.{rev-rev}
 use Rattle.algebra.proofs.PointTest.{coset_power}
 use Rattle.algebra.proofs.PolynomialProduct.{sum_below-equal, sum_below-zero}
 use Rattle.algebra.proofs.Sums.{val-tabulate, sum_below-factor, sum_below-swap}
-use Rattle.algebra.proofs.Lists.{length-tabulate, tabulate-equal}
+use Rattle.algebra.proofs.Lists.{tabulate-equal}
 
 module _ {A : Type 0} (F : FieldOps A) (R : IsRing F) where
   infixl 65 ◌⊕◌
@@ -67,11 +65,6 @@ module _ {A : Type 0} (F : FieldOps A) (R : IsRing F) where
       ∙ ap (λ s. sum_below F m f ⊕ s)
       (sum_below-zero F R (n - m) (λ i. f (m + i)) (λ i _. h (m + i) (omega arith)))
       ∙ R.add_zero (sum_below F m f)
-
-  pub length-reduced : (n : ℕ) (z : A) (c : List A) → length (reduced F n z c) ≡ n
-  unfolding reduced
-  length-reduced n z c =
-      length-tabulate n (λ i. sum_below F (length c) (λ j. coefficient F c (i + j * n) ⊗ pow F z j))
 
   -- where `x^n` is `z`, the polynomial has there the value of what it is modulo `X^n - z`
   pub val-reduced : (n : ℕ) (z : A) (c : List A) (x : A) → 0 < n → pow F x n ≡ z
@@ -129,14 +122,3 @@ module _ {A : Type 0} (F : FieldOps A) (L : IsField F) (top : ℕ) (w : ℕ → 
       (λ i. val F (reduced F (2 ^ k) (pow F shift (2 ^ k)) c) (coset_pt F w shift i k))
       (λ i. val F c (coset_pt F w shift i k))
       (λ i _. at_point shift k i c b)
-
-  -- in natural order
-  pub reduced_in_natural_order : (shift : A) (k i : ℕ) (c : List A) → k ≤ top → i < 2 ^ k
-      → val F (reduced F (2 ^ k) (pow F shift (2 ^ k)) c) (shift ⊗ pow F (w k) i)
-      ≡ val F c (shift ⊗ pow F (w k) i)
-  unfolding pt
-  reduced_in_natural_order shift k i c b l =
-      ap (λ n. val F (reduced F (2 ^ k) (pow F shift (2 ^ k)) c) (shift ⊗ pow F (w k) n))
-      (sym (rev-rev k i l))
-      ∙ at_point shift k (rev k i) c b
-      ∙ ap (λ n. val F c (shift ⊗ pow F (w k) n)) (rev-rev k i l)

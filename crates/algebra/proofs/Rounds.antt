@@ -45,31 +45,6 @@ module _ {A : Type 0} (F : FieldOps A) (fold : ℕ → ℕ → ℕ → A → Lis
       get_or-tabulate (2 ^ h)
       (λ i. rolled_in F r (entry_of F (inputs h) i) (folded_entry fold h r ys i)) i d l
 
-  -- without an input of that log height the word is the folded one
-  pub after_round-alone : (h : ℕ) (r : Round A) (ys : List A) → inputs h ≡ None
-      → after_round F fold inputs h r ys ≡ folded_by fold h r.log_arity r.beta ys
-  unfolding after_round
-  after_round-alone h r ys e =
-      ap (λ u. tabulate (2 ^ h) (λ i. rolled_in F r (entry_of F u i) (folded_entry fold h r ys i)))
-      e
-
-  -- with one, each entry has the input's added, times a power of the challenge
-  pub after_round-with : (h : ℕ) (r : Round A) (ys us : List A) → inputs h ≡ Some us
-      → after_round F fold inputs h r ys
-      ≡ tabulate (2 ^ h) (λ i. F.add (get_or (folded_by fold h r.log_arity r.beta ys) i 𝟘)
-      (F.mul (pow F r.beta (2 ^ r.log_arity)) (get_or us i 𝟘)))
-  unfolding after_round
-  after_round-with h r ys us e =
-      ap (λ u. tabulate (2 ^ h) (λ i. rolled_in F r (entry_of F u i) (folded_entry fold h r ys i)))
-      e
-      ∙ tabulate-equal (2 ^ h)
-      (λ i. F.add (folded_entry fold h r ys i)
-      (F.mul (pow F r.beta (2 ^ r.log_arity)) (get_or us i 𝟘)))
-      (λ i. F.add (get_or (folded_by fold h r.log_arity r.beta ys) i 𝟘)
-      (F.mul (pow F r.beta (2 ^ r.log_arity)) (get_or us i 𝟘)))
-      (λ i l. ap (λ v. F.add v (F.mul (pow F r.beta (2 ^ r.log_arity)) (get_or us i 𝟘)))
-      (sym (get_or-tabulate (2 ^ h) (folded_entry fold h r ys) i 𝟘 l)))
-
   -- one round more
   pub after_rounds-next : (k : ℕ) (rounds : List (Round A)) (r : Round A) (ys : List A)
       → after_rounds F fold inputs k (rounds ++ r ∷ []) ys

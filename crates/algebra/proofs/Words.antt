@@ -62,13 +62,6 @@ module _ {A : Type 0} (F : FieldOps A) (L : IsField F) (top : ℕ) (w : ℕ → 
   not_below : (i j : ℕ) → i < j → i ≡ j → ⊥
   not_below i j p e = omega (arith, p, e)
 
-  -- a word has one polynomial, where it has at least as many entries as coefficients
-  pub word_injective : (k : ℕ) (c d : List A) → k ≤ top → length c ≡ length d → length c ≤ 2 ^ k → word F w k c ≡ word F w k d → c ≡ d
-  word_injective k c d b e n h =
-      equal_from_values F L c d (tabulate (2 ^ k) (λ i. pt F w i k)) e (omega (arith, n, length-tabulate (2 ^ k) (λ i. pt F w i k)))
-      (distinct-tabulate (2 ^ k) (λ i. pt F w i k) (λ i j p q s. not_below i j p (points_differ F L top w W k i j b (omega (arith, p, q)) q s)))
-      (each-tabulate (2 ^ k) (λ x. val F c x) (λ x. val F d x) (λ i. pt F w i k) h)
-
   pub coset_word_injective : (shift : A) → ¬ (shift ≡ 𝟘) → (k : ℕ) (c d : List A) → k ≤ top → length c ≡ length d → length c ≤ 2 ^ k → coset_word F w shift k c ≡ coset_word F w shift k d → c ≡ d
   coset_word_injective shift z k c d b e n h =
       equal_from_values F L c d (tabulate (2 ^ k) (λ i. shift ⊗ pt F w i k)) e (omega (arith, n, length-tabulate (2 ^ k) (λ i. shift ⊗ pt F w i k)))

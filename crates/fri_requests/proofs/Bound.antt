@@ -162,11 +162,6 @@ entries_alike f g (u ∷ xs) (v ∷ ys) zero x y e l p q = ap f p ∙ head_eq e 
 entries_alike f g (u ∷ xs) (v ∷ ys) (suc i) x y e l p q =
     entries_alike f g xs ys i x y (tail_eq e) (omega (arith, l)) p q
 
--- lists that are read alike are of one length
-pub lengths_alike : {A B C : Type 0} (f : A → C) (g : B → C) (xs : List A) (ys : List B)
-    → map f xs ≡ map g ys → length xs ≡ length ys
-lengths_alike f g xs ys e = sym (length-map xs f) ∙ ap length e ∙ length-map ys g
-
 pub pair_at : {A B : Type 0} (R : A → B → Type 0) (xs : List A) (ys : List B) (i : ℕ) (x : A) (y : B)
     → AllZip R xs ys → i < length ys → x ≡ get_or xs i x → y ≡ get_or ys i y → R x y
 pair_at R [] [] i x y pairs l p q = absurd (omega (arith, l))

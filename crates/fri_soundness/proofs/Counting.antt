@@ -35,10 +35,6 @@ pub to_yes : {P : Type 0} (d : Dec P) → P → is_yes d ≡ true
 to_yes (yes p) q = refl
 to_yes (no n) q = absurd (n q)
 
-pub to_no : {P : Type 0} (d : Dec P) → (P → ⊥) → is_yes d ≡ false
-to_no (yes p) q = absurd (q p)
-to_no (no n) q = refl
-
 module _ {X : Type 0} where
   abbrev pub count : (X → Bool) → List X → ℕ
   count p [] = 0

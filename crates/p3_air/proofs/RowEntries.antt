@@ -1,7 +1,6 @@
 -- What constraints see at a row of what has the shape.
-use Rattle.std.proofs.Common.{◌≡◌, ◌≢◌, ℕ, zero, suc, ◌<◌, ◌≤◌, ◌+◌, ◌%◌, List, [], ◌∷◌, length, get_or, All, arith}
-use Rattle.std.proofs.Common.{◌∙◌, refl, sym, subst}
-use Rattle.std.proofs.lemmas.List.{length-map}
+use Rattle.std.proofs.Common.{◌≡◌, ◌≢◌, ℕ, zero, suc, ◌<◌, ◌≤◌, List, [], ◌∷◌, length, get_or, All, arith}
+use Rattle.std.proofs.Common.{refl, sym, subst}
 use Rattle.std.proofs.lemmas.List.Elements.{All-tail}
 use Rattle.algebra.specs.Field.{FieldOps}
 use Rattle.p3_air.specs.declared.air.AirLayout.{AirLayout}
@@ -14,8 +13,8 @@ use Rattle.p3_air.specs.declared.error.TraceError.TheVariants.{PeriodicColumns}
 use Rattle.p3_air.specs.declared.error.TraceError.TheVariants.{EmptyPeriodicColumn, Unsatisfied}
 use Rattle.p3_air.specs.declared.error.TraceError.TheVariants.{OutOfMemory}
 use Rattle.p3_air.specs.Satisfied.{Assigned, HasShape, HoldsOn, HoldAtRow, IsSatisfied, node_values}
-use Rattle.p3_air.specs.Satisfied.{row_at, entries_at}
-use Rattle.p3_air.specs.Shapes.{HasWidths, RowFault, IsFirstFailure, TraceFault}
+use Rattle.p3_air.specs.Satisfied.{row_at}
+use Rattle.p3_air.specs.Shapes.{RowFault, IsFirstFailure, TraceFault}
 
 -- rows of `width` entries, of which those that matter are there
 row_width : {V : Type 0} (rows : List (List V)) (width i : ℕ)
@@ -29,26 +28,6 @@ row_width (row ∷ rows) width zero all there = all 0 [] (omega arith)
 row_width (row ∷ rows) width (suc i) all there =
     row_width rows width i (All-tail (λ r. length r ≡ width) row rows all)
     (λ some. omega (arith, there some))
-
-module _ {V : Type 0} (K : FieldOps V) (layout : AirLayout) (given : Assigned V) where
-  pub widths_at : HasShape layout given → (i : ℕ) → i < length given.trace
-      → HasWidths layout (entries_at K given i)
-  widths_at shape i l =
-      let after : (i + 1) % length given.trace < length given.trace = omega arith in
-      let within : (j : ℕ) → j < length given.trace → layout.preprocessed_width ≢ 0
-      → j < length given.preprocessed =
-      λ j b some. omega (arith, b, shape.rows.height some) in
-      record {
-        local = shape.rows.widths i [] l;
-        next = shape.rows.widths ((i + 1) % length given.trace) [] after;
-        preprocessed = row_width given.preprocessed layout.preprocessed_width i
-            shape.rows.preprocessed_widths (within i l);
-        preprocessed_next = row_width given.preprocessed layout.preprocessed_width
-            ((i + 1) % length given.trace) shape.rows.preprocessed_widths
-            (within ((i + 1) % length given.trace) after);
-        public_values = shape.counts.values;
-        periodic = length-map given.periodic _ ∙ shape.counts.columns;
-      }
 
 module _ {V : Type 0} (K : FieldOps V) (air : Air V) (given : Assigned V) where
   -- why a row is refused is why the trace is, where all rows before hold

@@ -2,7 +2,7 @@
 use Rattle.std.proofs.Common.{◌≡◌, ℕ, zero, suc, ◌+◌, ◌-◌, ◌*◌, ◌<◌, ◌≤◌, List, ◌++◌, length, take, drop, refl, sym, ap, ap₂, subst, ◌∙◌, arith, suc-add, append-nil, append_assoc, length-append, length-drop}
 use Rattle.std.specs.Prelude.{slice_range}
 use borrow.Rule.Slice.PartMut.{put_mid}
-use Rattle.std.proofs.lemmas.List.{take_at, drop_at, drop-drop, take_all, length-take-le}
+use Rattle.std.proofs.lemmas.List.{take_at, drop_at, drop-drop, length-take-le}
 use Rattle.std.proofs.lemmas.Nat.{mul-le}
 use Rattle.std.proofs.lemmas.Slice.{take-put_mid, drop-put_mid}
 use Rattle.p3_converse.specs.Positions.{part, concatenated}
@@ -43,9 +43,6 @@ module _ {A : Type 0} (a n : ℕ) (given : List A) (g : ℕ → List A) where
     pub done : take (m * a) entries ≡ concatenated m g
     pub rest : drop (m * a) entries ≡ drop (m * a) given
 
-  pub written_start : length given ≡ n * a → IsWrittenUpTo 0 given
-  written_start e = record { lengths = e; done = ap (λ k. take k given) (let none : 0 * a ≡ 0 = omega arith in none); rest = refl }
-
   pub written_part : (m : ℕ) (entries : List A) → IsWrittenUpTo m entries → part entries m a ≡ part given m a
   written_part m entries here = range_take entries (m * a) a ∙ ap (λ xs. take a xs) here.rest ∙ sym (range_take given (m * a) a)
 
@@ -84,6 +81,3 @@ module _ {A : Type 0} (a n : ℕ) (given : List A) (g : ℕ → List A) where
             ∙ drop-drop a (m * a) given
             ∙ ap (λ j. drop j given) (sym next);
       }
-
-  pub written_end : (entries : List A) → IsWrittenUpTo n entries → entries ≡ concatenated n g
-  written_end entries here = sym (take_all (n * a) entries (omega (arith, here.lengths))) ∙ here.done

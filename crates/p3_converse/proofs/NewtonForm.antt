@@ -2,7 +2,7 @@
 use Rattle.std.proofs.Common.{All, ◌≡◌, ◌≢◌, ℕ, zero, suc, ◌+◌, ◌-◌, ◌<◌, ◌≤◌, List, [], ◌∷◌, ◌++◌, length, get_or, take, drop, map, refl, sym, ap, ap₂, ◌∙◌, arith, length-take, length-drop, append-nil}
 use borrow.Rule.Slice.PartMut.{put_mid}
 use Rattle.std.proofs.Math.ListN.{set}
-use Rattle.std.proofs.lemmas.List.{get_or-map, get_or-take, get_or_default, length-map, length-set, map-append, take_more, take_more_set, drop-set-lt, drop_more, length-take-le, take_at, drop_at, append_assoc, take_all, drop_all, drop-drop}
+use Rattle.std.proofs.lemmas.List.{get_or-map, get_or-take, get_or_default, length-map, length-set, map-append, take_more, take_more_set, drop-set-lt, drop_more, length-take-le, take_at, drop_at, append_assoc, drop_all, drop-drop}
 use Rattle.algebra.specs.Field.{FieldOps, IsRing, IsField, sub}
 use Rattle.algebra.specs.Polynomial.{val, tabulate}
 use Rattle.algebra.specs.Interpolation.{AreDistinct, Interpolates, interpolant, plus_multiple}
@@ -37,15 +37,6 @@ module _ {A : Type 0} (F : FieldOps A) (R : IsRing F) where
   infixl 65 ◌⊕◌
   infixl 70 ◌⊗◌
   open F use {zero as 𝟘, add as ◌⊕◌, mul as ◌⊗◌}
-
-  -- from a coefficient on, by those after it
-  pub newton_val-drop : (ps cs : List A) (j : ℕ) (x c p : A) → j < length cs → length cs ≤ length ps → c ≡ get_or cs j c → p ≡ get_or ps j p
-      → newton_val F (drop j ps) (drop j cs) x ≡ c ⊕ sub F x p ⊗ newton_val F (drop (j + 1) ps) (drop (j + 1) cs) x
-  newton_val-drop ps cs j x c p l m ec ep =
-      ap₂ (λ qs bs. newton_val F qs bs x) (drop_more ps j p (omega (arith, l, m)) ∙ ap (λ q. q ∷ drop (j + 1) ps) (sym ep)) (drop_more cs j c l ∙ ap (λ b. b ∷ drop (j + 1) cs) (sym ec))
-
-  pub newton_val-past : (ps cs : List A) (j : ℕ) (x : A) → length cs ≤ j → newton_val F ps (drop j cs) x ≡ 𝟘
-  newton_val-past ps cs j x l = ap (λ bs. newton_val F ps bs x) (drop_all j cs l)
 
   -- one coefficient more
   pub newton_val-append : (ps cs : List A) (c x : A) → length cs < length ps → newton_val F ps (cs ++ c ∷ []) x ≡ newton_val F ps cs x ⊕ difference_product F x (take (length cs) ps) ⊗ c
@@ -184,13 +175,6 @@ module _ {A : Type 0} (F : FieldOps A) (L : IsField F) (ps : List A) (distinct :
 
       value : y ≡ get_or ys t y
       value = ey ∙ head_eq (sym (drop_more entries t y inside) ∙ here.rest ∙ drop_more ys t y (omega (arith, n, l)))
-
-  -- all of them
-  pub newton_end : (ys entries : List A) (t : ℕ) → length ys ≡ length ps → length ps ≤ t → IsNewtonUpTo F ps ys t entries → map (λ x. newton_val F ps entries x) ps ≡ ys
-  newton_end ys entries t n l here =
-      ap₂ (λ cs qs. map (λ x. newton_val F ps cs x) qs) (sym (take_all t entries (omega (arith, here.lengths, n, l)))) (sym (take_all t ps l))
-      ∙ here.done
-      ∙ take_all t ys (omega (arith, n, l))
 
   -- what has Newton's form with the values is their interpolant
   pub expanded_interpolant : (ys cs : List A) → length ys ≡ length ps → length cs ≡ length ps → map (λ x. newton_val F ps cs x) ps ≡ ys → expanded F ps cs ≡ interpolant F ps ys

@@ -82,9 +82,6 @@ pub with_input-map : {X Y : Type 0} (f : X → Y) (b : Bool) (x : X) (xs : List 
 with_input-map f false x xs = refl
 with_input-map f true x xs = refl
 
-pub log_sum-first : (rounds later : List (ℕ × Bool)) → rounds ≡ first_round rounds ∷ later → log_sum rounds ≡ (first_round rounds).0 + log_sum later
-log_sum-first rounds later e = ap log_sum e
-
 -- the length of a word's polynomial
 pub scaled : (d a s : ℕ) → d * 2 ^ s * 2 ^ a ≡ d * 2 ^ (a + s)
 scaled d a s = mul_assoc d (2 ^ s) (2 ^ a) ∙ ap (λ n. d * n) (sym (pow-add 2 s a) ∙ ap (λ k. 2 ^ k) (let turned : s + a ≡ a + s = omega arith in turned))

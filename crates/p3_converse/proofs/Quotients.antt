@@ -1,6 +1,6 @@
 -- The converse of a quotient by a point.
-use Rattle.std.proofs.Common.{◌≡◌, ◌≢◌, ℕ, ◌+◌, ◌<◌, ◌≤◌, List, [], ◌∷◌, ◌++◌, length, get_or, drop, refl, sym, ap, ◌∙◌, append-nil}
-use Rattle.std.proofs.lemmas.List.{append_assoc, drop_more, drop_all}
+use Rattle.std.proofs.Common.{◌≡◌, ◌≢◌, ℕ, ◌+◌, ◌≤◌, List, ◌++◌, length, drop, refl, sym, ap, ◌∙◌, append-nil}
+use Rattle.std.proofs.lemmas.List.{drop_all}
 use Rattle.algebra.specs.Field.{FieldOps, IsField, sub}
 use Rattle.algebra.specs.Polynomial.{val}
 use Rattle.algebra.specs.Interpolation.{plus_multiple}
@@ -39,13 +39,6 @@ module _ {A : Type 0} (F : FieldOps A) (L : IsField F) where
             value_elsewhere z y (shift ⊗ x) u (val F q x) off e
             ∙ sym (val-plus_multiple F L.ring z y p (shift ⊗ x) ∙ ap (λ v. y ⊕ sub F (shift ⊗ x) z ⊗ v) (unstretched shift q x nonzero));
       }
-
--- one coefficient more
-pub stretched_next : {A : Type 0} (F : FieldOps A) (front : List A) (k s : A) (c : List A) (i : ℕ) (a : A) → i < length c → a ≡ get_or c i a
-    → (front ++ F.mul k a ∷ []) ++ stretched F (F.mul k s) s (drop (i + 1) c) ≡ front ++ stretched F k s (drop i c)
-stretched_next F front k s c i a l e =
-    append_assoc front (F.mul k a ∷ []) (stretched F (F.mul k s) s (drop (i + 1) c))
-    ∙ ap (λ xs. front ++ stretched F k s xs) (sym (drop_more c i a l ∙ ap (λ x. x ∷ drop (i + 1) c) (sym e)))
 
 -- no coefficient more
 pub stretched_end : {A : Type 0} (F : FieldOps A) (front all : List A) (k s : A) (c : List A) (i : ℕ) → length c ≤ i → front ++ stretched F k s (drop i c) ≡ all → front ≡ all

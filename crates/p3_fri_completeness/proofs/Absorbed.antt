@@ -158,19 +158,6 @@ module _ {F E C Com Path InCom InPath : Type 0} (s : Setting F E C Com Path InCo
       (record { counts = map counts_in values; batch_pow_bits = p.batch_pow_bits })) c
       (flat_map all_in values) (Some witness)
 
-  -- in the words of the prover's transcript
-  pub begun_of_vectors : (values : List (Vec (Vec (Vec E Global) Global) Global))
-      → claims_replay s.moves s.fields.coefficients s.fields.base p.batch_pow_bits
-      (pcs_stream s.fields.degree
-      (record { counts = counts_of_values values; batch_pow_bits = p.batch_pow_bits })) c
-      (all_values values) (Some witness)
-      ≡ begun (opened_values values)
-  begun_of_vectors values =
-      ap₂ (λ counts ys. claims_replay s.moves s.fields.coefficients s.fields.base p.batch_pow_bits
-      (pcs_stream s.fields.degree
-      (record { counts = counts; batch_pow_bits = p.batch_pow_bits })) c ys (Some witness))
-      (counts_of_all values) (values_of_all values)
-
 module _ {F E D C Com Path InCom InPath Domain : Type 0} (s : Setting F E C Com Path InCom InPath)
     (p : Parameters) (committed : D → List (RowMajorMatrix F)) (commitment_of : D → InCom)
     (log_size : Domain → ℕ) (c : C) (proof : Proof F E Com Path InPath) where

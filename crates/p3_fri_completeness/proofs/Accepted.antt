@@ -19,7 +19,6 @@ use Rattle.p3_fri_pcs_transcript.specs.Replay.{BatchReplay}
 use Rattle.p3_fri_transcript.specs.Replay.{fri_replay, shown_queries_replay}
 use Rattle.p3_fri_transcript.proofs.Indices.{draws_are_indices}
 use Rattle.p3_fri_relation.proofs.TestReplays.{length-positions, positions-below}
-use Rattle.p3_fri_relation.proofs.WholeReplays.{whole_replay, whole-state}
 use Rattle.p3_fri_relation.specs.Acceptance.{IsInRange, IsInstance, top_height, test_replay}
 use Rattle.p3_fri_relation.specs.Acceptance.{FriAccepts}
 use Rattle.p3_fri_relation.specs.Acceptance.{Accepts, batch_replayed, AreOpeningsGood}
@@ -229,8 +228,3 @@ module _ {F E C Com Path InCom InPath : Type 0} (s : Setting F E C Com Path InCo
       passes = passes;
       accepts = honest_accepted s p claims rounds before.alpha before.state proof last laws fit o;
     }
-
-    -- and the whole replay ends in the prover's last state
-    pub honest_last_state : (whole_replay s p claims proof c).state ≡ last
-    honest_last_state = whole-state s p claims proof c
-        ∙ honest_state s p claims rounds before.alpha before.state proof last laws fit o

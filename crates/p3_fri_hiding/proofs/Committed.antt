@@ -80,9 +80,6 @@ module _ {F E D : Type 0} (f : Fields F E) (L : IsField f.base) (M : IsField f.e
   abbrev IsWord : RowMajorMatrix F → D × RowMajorMatrix F → Type 0
   IsWord m e = IsLowDegreeExtension f.base f.root f.shift b (shift e.0) (log_size e.0) e.1 m
 
-  abbrev FitsWide : D × RowMajorMatrix F → Type 0
-  FitsWide e = FitsDomain f.two_adicity b (log_size e.0) e.1
-
   abbrev Traced : Held E → D × RowMajorMatrix F → Type 0
   Traced m e = HasTrace f (shift e.0) (log_size e.0) e.1 m
 

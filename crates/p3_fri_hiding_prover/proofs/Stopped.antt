@@ -10,15 +10,10 @@ use Rattle.p3_fri_pow.specs.declared.error.FriProverError.TheVariants.{NoPowWitn
 use Rattle.p3_fri_relation.specs.Setting.{Setting, Parameters}
 use Rattle.p3_fri_opening_prover.specs.Refusals.{OpenRefusal, LeavesState}
 use Rattle.p3_fri_masks.specs.declared.error.HidingFriProverError.{HidingFriProverError}
-use Rattle.p3_fri_masks.specs.declared.error.HidingFriProverError.TheVariants.{
-  Fri,
-  InsufficientRandomCodewords,
-  BudgetOverflow,
-  HidingBudgetExceeded,
-}
+use Rattle.p3_fri_masks.specs.declared.error.HidingFriProverError.TheVariants.{Fri}
 use Rattle.p3_fri_hiding_prover.specs.declared.data.HidingFriPcsProverData.{HidingFriPcsProverData}
 use Rattle.p3_fri_hiding_prover.specs.Requests.{inside}
-use Rattle.p3_fri_hiding_prover.specs.Opening.{PassesHidingChecks, HidingCheckRefusal, HidingRefusal}
+use Rattle.p3_fri_hiding_prover.specs.Opening.{PassesHidingChecks, HidingRefusal}
 use Rattle.p3_fri_hiding_prover.specs.Opening.{LeavesHidingState}
 
 module _ {F E C D Data Com Path InCom InPath : Type 0} (s : Setting F E C Com Path InCom InPath)
@@ -29,17 +24,6 @@ module _ {F E C D Data Com Path InCom InPath : Type 0} (s : Setting F E C Com Pa
   abbrev Refused : HidingFriProverError → Type 0
   Refused e = HidingRefusal s p r committed committed_in_test commitment_in_test solution c
       requests e
-
-  pub by_checks : (e : HidingFriProverError) → HidingCheckRefusal s.fields p r committed requests e
-      → Refused e
-  by_checks (Fri OutOfMemory) h = absurd h
-  by_checks (Fri (NoPowWitness phase)) h = absurd h
-  by_checks (Fri (PointInEvaluationDomain a b d)) h = h
-  by_checks (Fri (InputHeightTooSmall a b)) h = h
-  by_checks (Fri FinalHeightOverflow) h = h
-  by_checks (InsufficientRandomCodewords required got) h = h
-  by_checks BudgetOverflow h = h
-  by_checks (HidingBudgetExceeded height queries points degree) h = h
 
   module _ (passed : PassesHidingChecks s.fields p r committed requests) where
     past_checks : (e : FriProverError)

@@ -4,8 +4,6 @@ use Rattle.std.proofs.Common.{◌≡◌, ◌≢◌, ℕ, suc, ◌≤◌, List, [
 use Rattle.std.proofs.Common.{arith}
 use Rattle.p3_fri_folding.specs.Schedule.{tallest, schedule}
 use Rattle.p3_fri_relation.specs.declared.error.FriError.{FriError}
-use Rattle.p3_fri_relation.specs.declared.error.FriError.TheVariants.{ZeroQueries, ZeroBlowup}
-use Rattle.p3_fri_relation.specs.declared.error.FriError.TheVariants.{ZeroFoldingArity}
 use Rattle.p3_fri_relation.specs.declared.error.FriError.TheVariants.{NoCommittedMatrices}
 use Rattle.p3_fri_relation.specs.declared.error.FriError.TheVariants.{GlobalMaxHeightTooLarge}
 use Rattle.p3_fri_relation.specs.declared.error.FriError.TheVariants.{FinalFoldHeightMismatch}
@@ -15,7 +13,7 @@ use Rattle.p3_fri_relation.specs.Heights.{matrices_of, log_height, heights_of}
 use Rattle.p3_fri_relation.specs.Heights.{heights_below}
 use Rattle.p3_fri_relation.specs.Acceptance.{IsInRange, top_height, log_arities}
 use Rattle.p3_fri_relation.specs.Faults.{InstanceFault}
-use Rattle.p3_fri_instance.specs.Claimed.{ArePositive, ParameterFault, AreHeightsInRange, HeightFault}
+use Rattle.p3_fri_instance.specs.Claimed.{ArePositive, AreHeightsInRange, HeightFault}
 use Rattle.p3_fri_relation.proofs.ClaimedHeights.{greatest_height-bounds, has_height-greatest}
 use Rattle.p3_fri_relation.proofs.ClaimedHeights.{some_has_height, heights_below-fall}
 use Rattle.p3_fri_relation.proofs.ClaimedHeights.{strictly_falling, heights_of-first}
@@ -33,9 +31,6 @@ no_matrices b (m ∷ ms) none = let first = heights_of-first b (m ∷ ms) (λ e.
 module _ {E InCom : Type 0} (p : Parameters) (claims : List (CommitmentClaim E InCom)) (two_adicity : ℕ) where
   abbrev matrices : List (MatrixClaim E)
   matrices = matrices_of claims
-
-  pub positive_from : IsInRange p claims two_adicity → ArePositive p
-  positive_from ranged = record { queries = ranged.queries; blowup = ranged.blowup; cap = ranged.cap }
 
   module _ (heights : List ℕ) (are : heights ≡ heights_of p.log_blowup (matrices_of claims)) (bound : ℕ) (is_bound : bound ≡ two_adicity) where
     tallest-is : tallest heights ≡ top_height p claims
@@ -91,9 +86,3 @@ module _ {E InCom : Type 0} (p : Parameters) (claims : List (CommitmentClaim E I
         no_place : heights ≡ [] → ⊥
         no_place none = let l : length heights ≡ 0 = rw none refl in omega (arith, l, first.within)
     height_fault _ fault = absurd fault
-
-  pub parameter_fault : {A B : Type 0} (e : FriError A B) → ParameterFault p e → InstanceFault p claims two_adicity e
-  parameter_fault ZeroQueries fault = fault
-  parameter_fault ZeroBlowup fault = fault
-  parameter_fault ZeroFoldingArity fault = fault
-  parameter_fault _ fault = absurd fault

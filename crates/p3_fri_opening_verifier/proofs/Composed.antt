@@ -1,13 +1,12 @@
 -- What the transcript around the test did, and what the test answered, put together.
-use Rattle.std.proofs.Common.{◌≡◌, ℕ, inl, inr, Bool, true, false, List, Result, Err, Some, refl}
+use Rattle.std.proofs.Common.{◌≡◌, ℕ, inl, inr, Bool, true, false, List, Some, refl}
 use Rattle.std.proofs.Common.{sym, ap, ◌∙◌, subst}
-use Rattle.std.specs.Prelude.{IsTrue, IfErr}
+use Rattle.std.specs.Prelude.{IsTrue}
 use Rattle.std.specs.List.{flat_map}
 use Rattle.p3_mmcs.specs.declared.openings.CommitmentOpening.{CommitmentOpening}
 use Rattle.p3_challenger_core.specs.Run.{observed_all}
 use Rattle.p3_challenger_fs.specs.Turns.{bytes_observed}
-use Rattle.p3_fri_pow.specs.declared.pow_phase.PowPhase.{PowPhase}
-use Rattle.p3_fri_pow.specs.declared.pow_phase.PowPhase.TheVariants.{Batch, CommitPhase, Query}
+use Rattle.p3_fri_pow.specs.declared.pow_phase.PowPhase.TheVariants.{Batch}
 use Rattle.p3_fri_pcs_transcript.specs.Steps.{PcsNumbers, pcs_stream}
 use Rattle.p3_fri_pcs_transcript.specs.Replay.{BatchReplay, shown_batch_replay}
 use Rattle.p3_fri_pcs_transcript.specs.declared.pcs_transcript.failure.PcsTranscriptFailure.{PcsTranscriptFailure}
@@ -20,16 +19,14 @@ use Rattle.p3_fri_pcs_transcript.specs.Failures.{BatchFailure}
 use Rattle.p3_fri_pcs_transcript.proofs.PcsReplays.{batch_joined}
 use Rattle.p3_fri_relation.specs.declared.error.FriError.{FriError}
 use Rattle.p3_fri_relation.specs.declared.error.FriError.TheVariants.{InvalidPowWitness}
-use Rattle.p3_fri_relation.specs.declared.error.FriError.TheVariants.{NonCanonicalPowWitness}
-use Rattle.p3_fri_relation.specs.declared.error.FriError.TheVariants.{OutOfMemory}
 use Rattle.p3_fri_relation.specs.Setting.{Setting, Parameters, CommitmentClaim, Proof}
-use Rattle.p3_fri_relation.specs.Acceptance.{Accepts, FriAccepts, AreCanonical, pcs_numbers}
+use Rattle.p3_fri_relation.specs.Acceptance.{Accepts, FriAccepts, pcs_numbers}
 use Rattle.p3_fri_relation.specs.Acceptance.{values_claimed, batch_replayed, test_replay}
 use Rattle.p3_fri_relation.specs.Acceptance.{fri_numbers}
 use Rattle.p3_fri_relation.specs.Failures.{of_pcs_transcript}
 use Rattle.p3_fri_relation.specs.Views.{claims_of}
 use Rattle.p3_fri_relation.proofs.WholeReplays.{counts-of_claims}
-use Rattle.p3_fri_relation.specs.Faults.{Stands, StandsInScheme, IsNotCanonical}
+use Rattle.p3_fri_relation.specs.Faults.{Stands, StandsInScheme}
 use Rattle.p3_fri_opening_verifier.specs.Ends.{last_state}
 
 module _ {F E C Com Path InCom InPath : Type 0} (s : Setting F E C Com Path InCom InPath)
@@ -132,51 +129,9 @@ module _ {F E C Com Path InCom InPath : Type 0} (s : Setting F E C Com Path InCo
       not_true true n = absurd (n refl)
       not_true false n = refl
 
-  -- a witness at no bits that isn't zero
-  pub not_canonical : (phase : PowPhase) → IsNotCanonical p proof s.fields.base.zero phase
-      → ¬ AreCanonical p proof s.fields.base.zero
-  not_canonical Batch wrong are = wrong.1 (are.batch wrong.0)
-  not_canonical CommitPhase wrong are = wrong.1.4 (sym wrong.1.3
-      ∙ are.in_test.commit wrong.0 wrong.1.0 wrong.1.1 wrong.1.2)
-  not_canonical Query wrong are = wrong.1 (are.in_test.query wrong.0)
-
 module _ {A B F E C Com Path InCom InPath : Type 0} (s : Setting F E C Com Path InCom InPath)
     (p : Parameters)
     (claims : List (CommitmentClaim E InCom)) (proof : Proof F E Com Path InPath) (c : C) where
-  -- a refusal of such a witness stands, and only where there is one
-  pub canonical_stands : (e : FriError A B) (phase : PowPhase) → e ≡ NonCanonicalPowWitness phase
-      → IsNotCanonical p proof s.fields.base.zero phase → StandsInScheme s p claims proof c e
-  canonical_stands e phase same wrong =
-      subst (λ (x : FriError A B). StandsInScheme s p claims proof c x) (sym same) (inr (inr (inr
-      (inl wrong))))
-
-  canonical_inside : (state : C) (alpha : E) (phase : PowPhase)
-      → Stands {A = A} {B = B} s p claims proof state alpha (NonCanonicalPowWitness phase)
-      → IsNotCanonical p proof s.fields.base.zero phase
-  canonical_inside state alpha phase (inl h) = absurd h
-  canonical_inside state alpha phase (inr (inl h)) = absurd h
-  canonical_inside state alpha phase (inr (inr (inl h))) = h
-  canonical_inside state alpha phase (inr (inr (inr (inl (inl h))))) = absurd h
-  canonical_inside state alpha phase (inr (inr (inr (inl (inr h))))) = absurd h
-  canonical_inside state alpha phase (inr (inr (inr (inr h)))) = absurd
-      (let k : ◌≡◌ {A = FriError A B} (NonCanonicalPowWitness phase) OutOfMemory = h in cc)
-
-  stands_for_canonical : (phase : PowPhase)
-      → StandsInScheme {A = A} {B = B} s p claims proof c (NonCanonicalPowWitness phase)
-      → IsNotCanonical p proof s.fields.base.zero phase
-  stands_for_canonical phase (inl h) = absurd (let k : ◌≡◌ {A = FriError A B}
-      (NonCanonicalPowWitness phase) (InvalidPowWitness Batch) = h.0 in cc)
-  stands_for_canonical phase (inr h) = canonical_inside (batch_replayed s p claims proof c).state
-      (batch_replayed s p claims proof c).alpha phase h
-
-  pub none_is_refused : (result : Result Unit (FriError A B)) (phase : PowPhase)
-      → AreCanonical p proof s.fields.base.zero
-      → IfErr result (StandsInScheme s p claims proof c)
-      → result ≡ Err (NonCanonicalPowWitness phase) → ⊥
-  none_is_refused result phase are stands is =
-      not_canonical s p claims proof c phase (stands_for_canonical phase
-      (subst (λ (r : Result Unit (FriError A B)). IfErr r
-      (StandsInScheme s p claims proof c)) is stands)) are
 
 -- what the transcript is told of the claims
 module _ {E InCom Domain : Type 0} (log_size : Domain

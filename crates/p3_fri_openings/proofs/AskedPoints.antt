@@ -54,11 +54,6 @@ module _ {F E : Type 0} where
       (entry_of_zip_with ask round.matrices.now (lists round.points.now) i matrix points.items
       one three first (entry_of_map (λ v. v.items) round.points.now i points two second)) holds
 
--- two properties of each element
-pub all_two : {A : Type 0} (P Q R : A → Type 0) (xs : List A) → ((x : A) → P x → Q x → R x)
-    → All P xs → All Q xs → All R xs
-all_two P Q R xs g p q = λ k d l. g (get_or xs k d) (p k d l) (q k d l)
-
 module _ {F E : Type 0} (f : Fields F E) (coset : List F) where
   served : (n : ℕ) (z : E) (matrix : RowMajorMatrix F) → n ≡ length (rows matrix)
       → HasCoset f.two_adicity matrix

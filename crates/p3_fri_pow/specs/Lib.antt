@@ -1,7 +1,6 @@
 pub mod Steps
 pub mod Counts
 pub mod Fits
-pub mod Failures
 pub mod Labels
 pub mod Phases
 pub mod Pow

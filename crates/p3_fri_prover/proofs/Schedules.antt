@@ -11,7 +11,6 @@ use Rattle.p3_fri_folding.proofs.Fewest.{schedule-in_range, schedule-leads_down}
 use Rattle.p3_fri_relation.specs.Setting.{Parameters, final_height}
 use Rattle.p3_fri_prover.specs.Proved.{log_arities}
 use Rattle.p3_fri_relation.specs.TallEnough.{IsTallEnough}
-use Rattle.p3_fri_prover.specs.Rounds.{CanFold}
 use Rattle.p3_fri_prover.specs.Played.{CanPlay}
 
 -- they lower the tallest height by no more than it is
@@ -57,17 +56,6 @@ module _ (p : Parameters) (heights : List ℕ) (top : ℕ) (falling : IsStrictly
   pub arities_below_64 : top < 64 → All (λ a. a < 64) arities
   arities_below_64 small k d l =
       omega (arith, small, arities_within, get_or-le-sum_by (λ a. a) arities k d l)
-
-  -- the first word can be folded by all of them
-  pub arities_foldable : (most len : ℕ) → top ≤ most → len ≡ 2 ^ top
-      → CanFold (sum arities) most len
-  arities_foldable most len small size =
-      let e : top ≡ top - sum arities + sum arities = omega (arith, arities_within) in
-      record {
-        height = top - sum arities;
-        length_of_word = size ∙ ap (λ m. 2 ^ m) e;
-        within = omega (arith, small, arities_within);
-      }
 
   -- where each word can be proved, the final polynomial is no taller than what is left
   module _ (some : heights ≢ []) (tall : All (IsTallEnough p) heights) where

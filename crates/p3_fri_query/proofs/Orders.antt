@@ -1,8 +1,7 @@
 -- When a query is in order, by what is found of its rounds and of its inputs.
-use Rattle.std.proofs.Common.{◌≡◌, ℕ, ◌+◌, ◌-◌, ◌<◌, ◌≤◌, sym, subst, ap, ◌∙◌}
-use Rattle.std.proofs.Common.{List, length, map, get_or}
+use Rattle.std.proofs.Common.{◌≡◌, ℕ, ◌+◌, ◌-◌, ◌≤◌, sym, subst, ap, ◌∙◌}
+use Rattle.std.proofs.Common.{List, map}
 use Rattle.std.specs.Prelude.{sum, slice_index_or}
-use Rattle.std.proofs.lemmas.List.{get_or-map}
 use Rattle.p3_fri_relation.specs.FoldedQuery.{QueryInput, AreInRange, HaveRows, AreInputsMet, IsInOrder, folded}
 use Rattle.p3_fri_relation.specs.FoldedQuery.{value_at, siblings_of_query, folded_value, group_rows}
 use Rattle.p3_fri_relation.specs.Queries.{rounds_of}
@@ -35,12 +34,6 @@ module _ {E : Type 0} (q : QueryInput E) where
     ends = subst (λ (arities : List ℕ). sum arities + q.final_height ≡ q.log_height) (sym e) ends.0;
     inputs = subst (λ (us : List (ℕ × E)). AreInputsMet q (map (λ input. input.0) us)) (sym f) ends.1;
   }
-
--- the value of an input that was read
-pub value_read : {E : Type 0} (inputs : List (ℕ × E)) (input : ℕ × E) (d : E) → 0 < length inputs
-    → input ≡ get_or inputs 0 input → input.1 ≡ slice_index_or (map (λ u. u.1) inputs) 0 d
-value_read {E} inputs input d l e =
-    ap (λ (u : ℕ × E). u.1) e ∙ sym (get_or-map (λ (u : ℕ × E). u.1) inputs 0 input d l)
 
 -- the way from the first input's value is the query's
 module _ {E : Type 0} (q : QueryInput E) (F : FieldOps E) (fold : ℕ → ℕ → ℕ → E → List E → E) where

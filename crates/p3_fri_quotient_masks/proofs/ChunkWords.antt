@@ -91,13 +91,6 @@ moved F w g b n k s t v width c d old new m made h size_is shift_is width_is chu
 
 module _ {A : Type 0} (F : FieldOps A) (w : ℕ → A) (k : ℕ) (g : A) (b : ℕ) (shifts : List A)
     (width : ℕ) (masks : List (List A)) where
-  pub none_held : (matrices : List (RowMajorMatrix A)) → matrices ≡ []
-      → HoldMaskedChunks F w k g b shifts width [] masks matrices
-  none_held matrices e = record {
-    count = ap length e;
-    held = λ i m l. absurd (omega (arith, l, ap length e));
-  }
-
   pub one_more_held : (given : List (RowMajorMatrix A)) (x : RowMajorMatrix A)
       (matrices grown : List (RowMajorMatrix A)) (made : RowMajorMatrix A) (n v : ℕ) (s : A)
       (mask : List A) → HoldMaskedChunks F w k g b shifts width (map rows given) masks matrices

@@ -40,14 +40,6 @@ module _ {X V K W : Type 0} (v : X → V) (w : K → W) (f : ℕ → V → V) (g
     pub long : length ys ≡ length xs
     pub left : drop i ys ≡ drop i xs
 
-  pub cut_none : (xs : List X) (kept : List K) → kept ≡ [] → IsCutTo 0 xs xs kept
-  cut_none xs kept e = record {
-    cut = refl;
-    collected = ap (map w) e;
-    long = refl;
-    left = refl;
-  }
-
   -- one more is cut
   pub cut_more : (i : ℕ) (xs ys : List X) (kept more : List K) (y new : X) (k : K) → i < length xs
       → y ≡ get_or ys i y → v new ≡ f i (v y) → w k ≡ g i (v y) → more ≡ kept ++ k ∷ []

@@ -1,10 +1,10 @@
 -- A list written place by place, each element with what stands beside it in another list.
 use Rattle.std.proofs.Common.{◌≡◌, ℕ, ◌+◌, ◌<◌, ◌≤◌, List, [], ◌∷◌, ◌++◌, map, length}
-use Rattle.std.proofs.Common.{take, drop, get_or, refl, sym, ap, ap₂, ◌∙◌, arith, append_assoc}
+use Rattle.std.proofs.Common.{take, drop, get_or, sym, ap, ap₂, ◌∙◌, arith, append_assoc}
 use Rattle.std.specs.List.{AllZip, enumerate_from}
 use Rattle.std.proofs.Math.ListN.{set}
 use Rattle.std.proofs.lemmas.List.{take_more, take_more_set, drop-set-lt, drop-drop, drop_more}
-use Rattle.std.proofs.lemmas.List.{drop_all, take_all, map-append, append-nil, length-set, length-map}
+use Rattle.std.proofs.lemmas.List.{take_all, map-append, length-set, length-map}
 use Rattle.std.proofs.lemmas.List.FromFn.{length-enumerate_from, get_or-enumerate_from}
 use Rattle.algebra.proofs.Lists.{all_zip-push, entry_of_map}
 use Rattle.p3_pcs.specs.Claims.{zip_with}
@@ -52,9 +52,6 @@ module _ {X R V Y : Type 0} (v : X → V) (u : R → Y) (f : V → Y → V) wher
     pub long : length ys ≡ length xs
     pub left : drop i ys ≡ drop i xs
 
-  pub written_none : (xs : List X) (rs : List R) → IsWrittenTo 0 xs xs rs
-  written_none xs rs = record { written = refl; long = refl; left = refl }
-
   step_written : (i : ℕ) (ys : List X) (rs : List R) (y new : X) (r : R) → i < length ys
       → i < length rs → y ≡ get_or ys i y → r ≡ get_or rs i r → v new ≡ f (v y) (u r)
       → ends_as (i + 1) (set ys i new) rs ≡ ends_as i ys rs
@@ -81,14 +78,6 @@ module _ {X R V Y : Type 0} (v : X → V) (u : R → Y) (f : V → Y → V) wher
     long = length-set ys i new ∙ so_far.long;
     left = drop-set-lt (i + 1) ys i new (omega arith) ∙ left_alike i ys xs so_far.left;
   }
-
-  -- all are
-  pub written_all : (i : ℕ) (xs ys : List X) (rs : List R) → length xs ≤ i
-      → IsWrittenTo i xs ys rs → map v ys ≡ zip_with f (map v xs) (map u rs)
-  written_all i xs ys rs l so_far =
-      let past : length ys ≤ i = omega (arith, so_far.long) in
-      sym (ap₂ (λ a b. map v a ++ zip_with f (map v b) (map u (drop i rs)))
-      (take_all i ys past) (drop_all i ys past) ∙ append-nil (map v ys)) ∙ so_far.written
 
   -- what is seen of the element of this place is seen of the list as it was
   pub seen_before : (i : ℕ) (xs ys : List X) (rs : List R) (y : X) → i < length xs

@@ -12,26 +12,24 @@ use Rattle.p3_fri_relation.specs.Setting.{Setting, Parameters, MatrixClaim, Comm
 use Rattle.p3_fri_relation.specs.Setting.{RoundOpening, final_height}
 use Rattle.p3_fri_relation.specs.Heights.{matrices_of, greatest_height, heights_below, heights_of, has_height}
 use Rattle.p3_fri_relation.specs.Inputs.{sum_at, sums_at}
-use Rattle.p3_fri_relation.specs.Queries.{rounds_of, row_indices, siblings_at, last_link, rows_folded}
+use Rattle.p3_fri_relation.specs.Queries.{rounds_of, siblings_at, last_link, rows_folded}
 use Rattle.algebra.specs.Nested.{lists}
 use Rattle.p3_fri_relation.specs.declared.proof.CommitPhaseMultiStep.{CommitPhaseMultiStep}
-use Rattle.p3_fri_relation.specs.Views.{siblings_opened, rounds_opened, query_input}
-use Rattle.std.specs.List.{sum}
-use Rattle.std.proofs.Common.{◌/◌, ◌-◌}
+use Rattle.p3_fri_relation.specs.Views.{siblings_opened, rounds_opened}
+use Rattle.std.proofs.Common.{◌-◌}
 use Rattle.std.proofs.lemmas.List.{length-map}
 use Rattle.std.proofs.lemmas.Slice.Zip.{AllZip-long}
-use Rattle.p3_fri_relation.proofs.QueryLinks.{chain-index, chain-log_height}
+use Rattle.p3_fri_relation.proofs.QueryLinks.{chain-log_height}
 use Rattle.p3_fri_relation.specs.Queries.{first_link}
 use Rattle.algebra.specs.Rounds.{Round, Link, chain, chain_rows}
 use Rattle.p3_fri_relation.specs.FoldedQuery.{QueryInput, HaveRows, AreMet, reaches}
 use Rattle.p3_fri_relation.specs.FoldedQuery.{value_at, folded, AreInputsMet, IsInOrder, folded_value}
-use Rattle.p3_fri_relation.specs.FoldedQuery.{group_indices, group_rows, siblings_of_query, start}
+use Rattle.p3_fri_relation.specs.FoldedQuery.{group_rows, siblings_of_query, start}
 use Rattle.p3_fri_relation.specs.TestRounds.{HasSiblings}
 use Rattle.p3_fri_relation.specs.Acceptance.{IsInRange, top_height, log_arities, source}
 use Rattle.p3_fri_relation.proofs.ClaimedHeights.{has_height-bound}
 use Rattle.p3_fri_relation.proofs.Instances.{instance_heights, instance_sum, instance_range}
 use Rattle.p3_fri_relation.proofs.Instances.{instance_met, further_heights}
-use Rattle.p3_field_core.proofs.IndexPowers.{index_cut}
 
 -- values by log height, of the log heights of some matrices
 module _ (b : ℕ) {E : Type 0} (ms : List (MatrixClaim E)) {A : Type 0} (v : ℕ → A) where
@@ -125,9 +123,6 @@ module _ {F E C Com Path InCom InPath : Type 0} (s : Setting F E C Com Path InCo
     query-folded = take_all (min (length betas) (length (map (λ r. r.siblings) proof.rounds))) (log_arities p claims)
         (let opened = AllZip-long (HasSiblings p.num_queries) (log_arities p claims) proof.rounds counts in let mapped = length_siblings proof.rounds in omega arith)
 
-    pub query-group_indices : group_indices query_of s.fields.ext s.fold ≡ row_indices (log_arities p claims) position
-    query-group_indices = ap (λ arities. row_indices arities position) query-folded
-
   abbrev query_rounds : List (Round E)
   query_rounds = rounds_of (log_arities p claims) betas
 
@@ -194,34 +189,6 @@ module _ {E M Com Data Path Err : Type 0} where
   siblings-of_rounds [] = refl
   siblings-of_rounds (o ∷ openings) = ap (λ rest. lists o.sibling_values.items ∷ rest) (siblings-of_rounds openings)
 
-  -- where its rounds are those of the proof, its log arities the schedule's and its inputs the
-  -- quotient sums, it is the proof's query
-  pub query_input-is : {F C InCom InPath : Type 0} (s : Setting F E C Com Path InCom InPath)
-      (p : Parameters) (claims : List (CommitmentClaim E InCom)) (proof : Proof F E Com Path InPath)
-      (alpha : E) (betas : List E) (j position : ℕ)
-      (openings : List (CommitPhaseMultiStep E M Com Data Path Err)) (arities : List ℕ) (inputs : List (ℕ × E)) (log_height final : ℕ)
-      → proof.rounds ≡ rounds_opened openings → arities ≡ log_arities p claims
-      → inputs ≡ sums_at s.fields p.log_blowup alpha (top_height p claims) claims proof.inputs j position
-      → log_height ≡ top_height p claims → final ≡ final_height p
-      → query_input j position betas arities openings inputs log_height final ≡ query_of s p claims proof alpha betas j position
-  query_input-is s p claims proof alpha betas j position openings arities inputs log_height final same_rounds same_arities same_inputs same_height same_final =
-      let siblings = siblings-of_rounds openings ∙ ap (λ rs. map (λ r. r.siblings) rs) (sym same_rounds) in
-      let make : List ℕ → List (List (List E)) → List (ℕ × E) → ℕ → ℕ → QueryInput E = λ ars rows sums h f. record {
-        query = j;
-        index = position;
-        betas = betas;
-        log_arities = ars;
-        siblings = rows;
-        inputs = sums;
-        log_height = h;
-        final_height = f;
-      } in
-      ap (λ ars. make ars (siblings_opened openings) inputs log_height final) same_arities
-      ∙ ap (λ rows. make (log_arities p claims) rows inputs log_height final) siblings
-      ∙ ap (λ sums. make (log_arities p claims) (map (λ r. r.siblings) proof.rounds) sums log_height final) same_inputs
-      ∙ ap (λ h. make (log_arities p claims) (map (λ r. r.siblings) proof.rounds) (sums_at s.fields p.log_blowup alpha (top_height p claims) claims proof.inputs j position) h final) same_height
-      ∙ ap (λ f. make (log_arities p claims) (map (λ r. r.siblings) proof.rounds) (sums_at s.fields p.log_blowup alpha (top_height p claims) claims proof.inputs j position) (top_height p claims) f) same_final
-
 -- where the query of an instance ends
 module _ {F E C Com Path InCom InPath : Type 0} (s : Setting F E C Com Path InCom InPath)
     (p : Parameters) (claims : List (CommitmentClaim E InCom)) (proof : Proof F E Com Path InPath)
@@ -233,20 +200,8 @@ module _ {F E C Com Path InCom InPath : Type 0} (s : Setting F E C Com Path InCo
   opened_each : length (siblings_at j proof.rounds) ≡ length (log_arities p claims)
   opened_each = length-map proof.rounds (λ r. get_or r.siblings j []) ∙ AllZip-long (HasSiblings p.num_queries) (log_arities p claims) proof.rounds counts
 
-  pub last-index : last.index ≡ position / 2 ^ sum (log_arities p claims)
-  last-index = chain-index s.fields.ext s.fold ((source s p claims proof alpha).met j position)
-      (log_arities p claims) betas (siblings_at j proof.rounds) (first_link s p (top_height p claims) (source s p claims proof alpha) proof (rounds_of (log_arities p claims) betas) j position) drawn opened_each
-
   pub last-log_height : last.log_height ≡ final_height p
   last-log_height =
       chain-log_height s.fields.ext s.fold ((source s p claims proof alpha).met j position)
       (log_arities p claims) betas (siblings_at j proof.rounds) (first_link s p (top_height p claims) (source s p claims proof alpha) proof (rounds_of (log_arities p claims) betas) j position) drawn opened_each
       ∙ (let whole = instance_sum p claims two_adicity ranged in omega arith)
-
-  -- at an index of the word of the final log height
-  pub last-below : position < 2 ^ top_height p claims → last.index < 2 ^ final_height p
-  last-below below =
-      let whole = instance_sum p claims two_adicity ranged in
-      let left : top_height p claims - sum (log_arities p claims) ≡ final_height p = omega arith in
-      let fits = index_cut position (top_height p claims) (sum (log_arities p claims)) below (omega arith) in
-      rw last-index (rw left at fits)

@@ -1,6 +1,6 @@
 -- The replay of a test by its rounds and its queries: what is drawn, how many, and where positions
 -- lie.
-use Rattle.std.proofs.Common.{◌≡◌, ℕ, suc, ◌+◌, ◌/◌, ◌^◌, ◌<◌, ◌&&◌, List, [], ◌∷◌, length}
+use Rattle.std.proofs.Common.{◌≡◌, ℕ, suc, ◌+◌, ◌/◌, ◌^◌, ◌<◌, List, [], ◌∷◌, length}
 use Rattle.std.proofs.Common.{refl, ap, ◌∙◌, arith, pow_pos}
 use Rattle.std.specs.List.{All}
 use Rattle.std.proofs.Math.Nat.{div-lt_iff_lt-mul}
@@ -11,7 +11,7 @@ use Rattle.p3_challenger_core.specs.Run.{Moves}
 use Rattle.p3_fri_transcript.specs.Replay.{rounds_replay, round_replay, shown_queries_replay, fri_replay}
 use Rattle.p3_fri_relation.specs.Setting.{Setting, Parameters, CommitmentClaim, Proof}
 use Rattle.p3_fri_relation.specs.Acceptance.{top_height, test_replay, rounds_replayed}
-use Rattle.p3_fri_relation.specs.Acceptance.{queries_replayed, positions}
+use Rattle.p3_fri_relation.specs.Acceptance.{positions}
 use Rattle.p3_fri_transcript.proofs.Indices.{length-draws}
 
 module _ {C F E Com : Type 0} (m : Moves C F E Com) where
@@ -33,19 +33,6 @@ module _ {F E C Com Path InCom InPath : Type 0} (s : Setting F E C Com Path InCo
   pub replay-betas : (test_replay s p claims proof c).betas ≡ (rounds_replayed s p claims proof c).betas
   unfolding fri_replay
   replay-betas = refl
-
-  pub replay-indices : (test_replay s p claims proof c).indices ≡ (queries_replayed s p claims proof c).indices
-  unfolding fri_replay
-  replay-indices = refl
-
-  pub replay-state : (test_replay s p claims proof c).state ≡ (queries_replayed s p claims proof c).state
-  unfolding fri_replay
-  replay-state = refl
-
-  pub replay-passes : (test_replay s p claims proof c).passes
-      ≡ ((rounds_replayed s p claims proof c).passes && (queries_replayed s p claims proof c).passes)
-  unfolding fri_replay
-  replay-passes = refl
 
   -- as many challenges as commitments
   pub length-replay_betas : length proof.commitments ≡ length proof.commit_witnesses

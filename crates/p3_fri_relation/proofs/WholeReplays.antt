@@ -1,5 +1,5 @@
 -- Claims as the transcript around the test sees them, and that transcript's replay by its two parts.
-use Rattle.std.proofs.Common.{◌≡◌, ℕ, ◌&&◌, List, [], ◌∷◌, ◌++◌, length, map, Some, refl, sym, ap, ◌∙◌}
+use Rattle.std.proofs.Common.{◌≡◌, ℕ, List, [], ◌∷◌, ◌++◌, length, map, refl, sym, ap, ◌∙◌}
 use Rattle.std.specs.List.{flat_map}
 use Rattle.std.proofs.lemmas.Grind.{flat_map-append}
 use Rattle.p3_fri_relation.specs.Heights.{matrices_of}
@@ -11,10 +11,8 @@ use Rattle.p3_fri_pcs_transcript.specs.Counts.{counts_of_claims, claimed_at_poin
 use Rattle.p3_fri_pcs_transcript.specs.Counts.{claimed_in_matrices, all_claimed}
 use Rattle.p3_fri_pcs_transcript.specs.Counts.{claimed_lists_at_points, claimed_lists_in_matrices}
 use Rattle.p3_fri_pcs_transcript.specs.Counts.{lists_of_claims}
-use Rattle.p3_fri_pcs_transcript.specs.Replay.{PcsReplay, pcs_replay}
 use Rattle.p3_fri_relation.specs.Setting.{Setting, Parameters, CommitmentClaim, Proof}
-use Rattle.p3_fri_relation.specs.Acceptance.{fri_numbers, pcs_numbers, values_claimed}
-use Rattle.p3_fri_relation.specs.Acceptance.{test_replay, batch_replayed}
+use Rattle.p3_fri_relation.specs.Acceptance.{pcs_numbers, values_claimed}
 use Rattle.p3_fri_relation.specs.Views.{point_claim, matrix_claim, claims_of}
 
 module _ {E : Type 0} where
@@ -64,21 +62,3 @@ module _ {E InCom Domain : Type 0} (log_size : Domain → ℕ) where
 module _ {F E C Com Path InCom InPath : Type 0} (s : Setting F E C Com Path InCom InPath)
     (p : Parameters) (claims : List (CommitmentClaim E InCom)) (proof : Proof F E Com Path InPath)
     (c : C) where
-  -- the replay of the whole is that before the test, and the test's from the state after it
-  abbrev pub whole_replay : PcsReplay C E
-  whole_replay = pcs_replay s.moves s.fields.coefficients s.fields.base s.fields.degree (pcs_numbers p claims)
-      (fri_numbers p claims s.extra_bits) c (values_claimed claims) (Some proof.batch_witness)
-      proof.commitments proof.commit_witnesses proof.final_poly (Some proof.query_witness)
-
-  pub whole-passes : whole_replay.passes
-      ≡ ((batch_replayed s p claims proof c).passes && (test_replay s p claims proof (batch_replayed s p claims proof c).state).passes)
-  unfolding pcs_replay
-  whole-passes = refl
-
-  pub whole-alpha : whole_replay.alpha ≡ (batch_replayed s p claims proof c).alpha
-  unfolding pcs_replay
-  whole-alpha = refl
-
-  pub whole-state : whole_replay.state ≡ (test_replay s p claims proof (batch_replayed s p claims proof c).state).state
-  unfolding pcs_replay
-  whole-state = refl

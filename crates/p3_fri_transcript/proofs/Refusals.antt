@@ -11,7 +11,7 @@ use Rattle.p3_fri_pow.specs.Pow.{found_witness, sent_witness, NonePasses}
 use Rattle.p3_fri_pow.proofs.Found.{sent_is}
 use Rattle.p3_fri_pow.proofs.Lists.{next_item}
 use Rattle.p3_fri_transcript.specs.declared.transcript.failure.TranscriptFailure.{TranscriptFailure}
-use Rattle.p3_fri_transcript.specs.Failures.{RoundsFailure, QueriesFailure, FriFailure}
+use Rattle.p3_fri_transcript.specs.Failures.{QueriesFailure, FriFailure}
 use Rattle.p3_fri_transcript.specs.Steps.{FriNumbers}
 use Rattle.p3_fri_transcript.specs.Replay.{RoundsReplay, rounds_replay, polynomial_observed}
 use Rattle.p3_fri_transcript.specs.Found.{RoundsFound, FriFound, RoundNotFound, RoundsRefused}
@@ -118,15 +118,6 @@ module _ {C F E Com : Type 0} (m : Moves C F E Com) where
           }
 
   module _ (shape : FriNumbers) (start : C) (commitments : List Com) (witnesses : List F) where
-    -- the same failure of the rounds, and the same last state, under other names
-    pub rounds_failure_is : (last after : C) (failure e : TranscriptFailure)
-        → RoundsFailure m shape start commitments witnesses last failure
-        → failure ≡ e → last ≡ after → RoundsFailure m shape start commitments witnesses after e
-    rounds_failure_is last after failure e stands named same =
-        let P : C → TranscriptFailure → Type 0 =
-        λ s x. RoundsFailure m shape start commitments witnesses s x in
-        subst (P after) named (subst (λ s. P s failure) same stands)
-
     -- and of the queries
     pub queries_failure_is : (coefficients : E → List F) (final_poly : List E) (witness : Option F)
         (before last after : C) (failure e : TranscriptFailure)

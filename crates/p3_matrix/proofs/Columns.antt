@@ -5,7 +5,7 @@ use Rattle.std.proofs.Common.{length-append, append_assoc, zero-add, suc-add}
 use Rattle.std.specs.List.{between}
 use Rattle.std.proofs.Math.Nat.{mod-lt}
 use Rattle.std.proofs.lemmas.List.{append-nil, drop_more, drop_all, length-replicate, take_at, drop_at, drop-drop}
-use Rattle.std.proofs.lemmas.Nat.{div-mul-add, div-add-mod', mod-mul-add, row_fits}
+use Rattle.std.proofs.lemmas.Nat.{div-mul-add, div-add-mod', mod-mul-add}
 use Rattle.std.proofs.lemmas.Slice.{between_is}
 use Rattle.rand_core.specs.Stream.{Stream}
 use Rattle.algebra.specs.Nested.{joined}
@@ -59,12 +59,6 @@ module _ {A : Type 0} (w : ℕ) (some : 0 < w) where
       (tabulate-equal (length ys / w) (λ i. between (suc i * w) (suc i * w + w) (x ++ ys))
       (λ i. between (i * w) (i * w + w) ys) (λ i l. later_row x ys i e))
 
-  rows_of-nil : rows_of {A = A} w [] ≡ []
-  unfolding rows_of
-  rows_of-nil =
-      ap (λ n. tabulate n (λ i. between (i * w) (i * w + w) []))
-      (ap (λ k. k / w) (let s : 0 ≡ 0 * w + 0 = omega arith in s) ∙ div-mul-add 0 w 0 some)
-
   pub rows_of-joined : (rs : List (List A)) → Each (λ r. length r ≡ w) rs → rows_of w (joined rs) ≡ rs
   rows_of-joined [] h = rows_of-nil
   rows_of-joined (r ∷ rs) h = rows_of-append r (joined rs) h.0 ∙ ap (λ t. r ∷ t) (rows_of-joined rs h.1)
@@ -80,10 +74,6 @@ each_width m = each_by_entry (λ row. length row ≡ matrix_width m) [] (rows m)
 -- so many whole rows
 pub whole_rows : (n w len : ℕ) → 0 < w → len ≡ n * w → len % w ≡ 0
 whole_rows n w len some e = ap (λ t. t % w) (let s : len ≡ n * w + 0 = omega (arith, e) in s) ∙ mod-mul-add n w 0 some
-
--- room for all rows is room for one more
-pub room_for_row : (i n w room len : ℕ) → i < n → n * w ≤ room → len ≡ i * w → len + w ≤ room
-room_for_row i n w room len l fits is = omega (arith, row_fits i w n w l (omega arith), fits, is)
 
 -- rows with random columns
 module _ {T : Type 0} (f : ℕ → T) (count : ℕ) where

@@ -1,9 +1,8 @@
 -- Where the digests of a tree stand in their list.
 use Rattle.std.proofs.Common.{◌≡◌, ℕ, zero, suc, ◌+◌, ◌-◌, ◌*◌, ◌/◌, ◌^◌, ◌<◌, ◌≤◌, List, []}
-use Rattle.std.proofs.Common.{length, slice_index_or, refl, sym, ◌++◌, ap, ap₂, ◌∙◌, arith, inl, inr, ◌%◌, cond}
+use Rattle.std.proofs.Common.{length, slice_index_or, sym, ◌++◌, ap, ap₂, ◌∙◌, arith, inl, inr, ◌%◌, cond}
 use Rattle.std.proofs.Common.{eq-eqb, ◌∷◌, suc-add, zero-add}
-use Rattle.std.proofs.lemmas.Bool.{cases_eq, cases_lt, ne_eqb}
-use Rattle.std.proofs.lemmas.List.{length-append, get_or_append_left, get_or-append_right}
+use Rattle.std.proofs.lemmas.Bool.{cases_eq, ne_eqb}
 use Rattle.std.proofs.lemmas.Nat.{pow_pos}
 use Rattle.std.proofs.Math.Nat.{pow-le-pow_right}
 use Rattle.std.proofs.Math.Pow.{shr-shr, shr_lt}
@@ -33,14 +32,6 @@ pub record TreeUpTo (leaves : ℕ → List ℕ) (count made : ℕ) (digests : Li
   pub parent : (k : ℕ) → k < made → slice_index_or digests (count + k) []
       ≡ node (slice_index_or digests (2 * k) []) (slice_index_or digests (2 * k + 1) [])
 
-pub tree_of_leaves : (leaves : List (List ℕ)) (count : ℕ) → length leaves ≡ count
-    → TreeUpTo (λ i. slice_index_or leaves i []) count 0 leaves
-tree_of_leaves leaves count all = record {
-  len = omega (arith, all);
-  leaf = λ i l. refl;
-  parent = λ k l. absurd (omega (arith, l));
-}
-
 -- a tree over listed leaves is one over those that are listed
 pub tree_over : (leaves : ℕ → List ℕ) (count : ℕ) (listed digests : List (List ℕ))
     → listed ≡ tabulate count leaves
@@ -51,46 +42,6 @@ tree_over leaves count listed digests is tree = record {
       ∙ get_or-tabulate count leaves i [] l;
   parent = tree.parent;
 }
-
-pub tree_whole : (leaves : ℕ → List ℕ) (count made : ℕ) (digests : List (List ℕ)) → 0 < count
-    → made + 1 ≡ count → TreeUpTo leaves count made digests → IsTree leaves count digests
-tree_whole leaves count made digests some all tree = record {
-  len = omega (arith, tree.len, all);
-  leaf = tree.leaf;
-  parent = λ k l. tree.parent k (omega (arith, l, all));
-}
-
--- with the next parents, of neighbours that stand in the list already
-pub tree_more : (leaves : ℕ → List ℕ) (count made more : ℕ) (digests parents : List (List ℕ))
-    → made + 2 * more ≤ count → length parents ≡ more
-    → ((k : ℕ) → k < more → slice_index_or parents k []
-    ≡ node (slice_index_or digests (2 * (made + k)) [])
-    (slice_index_or digests (2 * (made + k) + 1) []))
-    → TreeUpTo leaves count made digests → TreeUpTo leaves count (made + more) (digests ++ parents)
-tree_more leaves count made more digests parents room len parent tree = record {
-  len = omega (arith, length-append digests parents, len, tree.len);
-  leaf = λ i l. get_or_append_left digests parents [] i (omega (arith, l, tree.len)) ∙ tree.leaf i l;
-  parent = λ k l. elim (cases_lt k made) [
-    | inl below ↦ get_or_append_left digests parents [] (count + k) (omega (arith, below, tree.len))
-        ∙ tree.parent k below ∙ sym (children k l)
-    | inr above ↦
-        get_or-append_right digests parents (count + made) (count + k) [] tree.len
-        (omega (arith, above))
-        ∙ ap (λ j. slice_index_or parents j []) (omega (arith, above))
-        ∙ parent (k - made) (omega (arith, l, above))
-        ∙ ap₂ node (ap (λ j. slice_index_or digests j []) (omega (arith, above)))
-        (ap (λ j. slice_index_or digests j []) (omega (arith, above)))
-        ∙ sym (children k l)
-  ];
-}
-  where
-    children : (k : ℕ) → k < made + more
-        → node (slice_index_or (digests ++ parents) (2 * k) [])
-        (slice_index_or (digests ++ parents) (2 * k + 1) [])
-        ≡ node (slice_index_or digests (2 * k) []) (slice_index_or digests (2 * k + 1) [])
-    children k l = ap₂ node
-        (get_or_append_left digests parents [] (2 * k) (omega (arith, l, room, tree.len)))
-        (get_or_append_left digests parents [] (2 * k + 1) (omega (arith, l, room, tree.len)))
 
 module _ (leaves : ℕ → List ℕ) (log : ℕ) (digests : List (List ℕ))
     (tree : IsTree leaves (2 ^ log) digests) where

@@ -1,16 +1,15 @@
 -- Two ways up to one root, from different digests, meet in a collision.
-use Rattle.std.proofs.Common.{◌≡◌, ◌≢◌, ℕ, ◌/◌, ◌%◌, ◌==◌, ◌<◌, List, [], ◌∷◌, ◌++◌, length, drop}
-use Rattle.std.proofs.Common.{if◌then◌else◌, Bool, true, false, inl, inr, refl, sym, ap, ap₂, ◌∙◌, arith, get_or}
-use Rattle.std.proofs.Common.{◌+◌, ◌≤◌, ◌⊎◌, subst, length-drop, rules, Option, Some, None}
+use Rattle.std.proofs.Common.{◌≡◌, ◌≢◌, ℕ, ◌/◌, ◌%◌, ◌==◌, List, [], ◌∷◌, ◌++◌, length, drop}
+use Rattle.std.proofs.Common.{if◌then◌else◌, Bool, true, false, inl, inr, refl, sym, ap, ap₂, ◌∙◌, arith}
+use Rattle.std.proofs.Common.{◌+◌, ◌≤◌, ◌⊎◌, length-drop, rules, Option, Some, None}
 use Rattle.std.specs.Prelude.{MatchOption, IsSome}
-use Rattle.std.proofs.lemmas.List.{drop_more}
 use Rattle.sha2.specs.Sha256.{sha256}
 use Rattle.sha2.proofs.Facts256.{length-sha256}
 use Rattle.algebra.proofs.Lists.{tail_eq}
 use Rattle.p3_field_core.proofs.IndexPowers.{exponents_agree}
 use Rattle.p3_matrix.specs.declared.Dimensions.{Dimensions}
 use Rattle.p3_mmcs.specs.Tree.{node, climb, leaf, OpensAt, Opens}
-use Rattle.p3_mmcs_binding.specs.Collisions.{IsCollision, parent_message, CollidesAbove}
+use Rattle.p3_mmcs_binding.specs.Collisions.{parent_message, CollidesAbove}
 use Rattle.p3_mmcs_binding.specs.Collisions.{leaf_message, Collides, NoneCollides}
 use Rattle.p3_mmcs_binding.proofs.Bytes.{decided, fronts, behind, leaf_told}
 
@@ -98,18 +97,6 @@ module _ {T : Type 0} (bytes : T → List ℕ) (width : ℕ) (long : (x : T) →
   same_sets (i ∷ is) (s ∷ sets) (p ∷ ps) (o ∷ os) [] h k none = absurd k
   same_sets (i ∷ is) (s ∷ sets) (p ∷ ps) (o ∷ os) (q ∷ qs) h k none = ap₂ (λ z zs. z ∷ zs)
       (agree i s p o q h.0 k.0 none.0) (same_sets is sets ps os qs h.1 k.1 none.1)
-
--- the ways from a level on, with the collision there apart
-pub above-step : (n at : ℕ) (first second : List ℕ) (path other : List (List ℕ)) → n < length path
-    → n < length other → CollidesAbove at first second (drop n path) (drop n other)
-    → IsCollision (parent_message at first (get_or path n []))
-    (parent_message at second (get_or other n []))
-    ⊎ CollidesAbove (at / 2) (sha256 (parent_message at first (get_or path n [])))
-    (sha256 (parent_message at second (get_or other n []))) (drop (n + 1) path) (drop (n + 1) other)
-above-step n at first second path other l m h =
-    subst (λ ps. CollidesAbove at first second ps (get_or other n [] ∷ drop (n + 1) other))
-    (drop_more path n [] l)
-    (subst (λ ps. CollidesAbove at first second (drop n path) ps) (drop_more other n [] m) h)
 
 -- past the end of either there is none
 pub above-end : (n at : ℕ) (first second : List ℕ) (path other : List (List ℕ))

@@ -12,22 +12,6 @@ use Rattle.p3_uni_stark_verifier.proofs.Refused.{not_periodic, same_periodic}
 module _ {V E C Com Dom D Opening Error ProverError : Type 0}
     (S : StarkSetting V E C Com Dom D Opening Error ProverError)
     (s : Statement V Com) (p : Proof E Com Opening) (log : ℕ) (alpha z : E) (c : C) where
-  -- periodic columns that are refused
-  pub of_periodic : (e : VerificationError Error)
-      → PeriodicFault (2 ^ p.log_height) s.periodic.now e → FaultAt S s p log alpha z c e
-  of_periodic (fault.InvalidPeriodicColumns f) h = h
-  of_periodic fault.OutOfMemory h = tt
-  of_periodic (fault.InvalidAir f) h = absurd h
-  of_periodic fault.DegreeTooLarge h = absurd h
-  of_periodic fault.InvalidPublicValues h = absurd h
-  of_periodic fault.InvalidPeriodicCount h = absurd h
-  of_periodic fault.InvalidPreprocessed h = absurd h
-  of_periodic fault.InvalidProofShape h = absurd h
-  of_periodic fault.RandomizationError h = absurd h
-  of_periodic fault.PointOnTraceDomain h = absurd h
-  of_periodic (fault.InvalidOpeningArgument o) h = absurd h
-  of_periodic fault.OodEvaluationMismatch h = absurd h
-
   -- opened values that don't agree
   pub of_identity : (e : VerificationError Error) (periodic : List E)
       → ArePeriodic S.fields p.log_height s.periodic.now z periodic

@@ -27,10 +27,6 @@ padded_blocks m len e =
 one_in_zeros : (n i k b : ℕ) → i < n → k ≢ i → k < n → get_or (set (replicate n 0) i b) k 0 ≡ 0
 one_in_zeros n i k b lt ne le = get_or-set_other (replicate n 0) i k b 0 ne ∙ get_or-replicate n k 0 0 le
 
--- a byte of the padding: the first, a zero, or one of the length
-padding_first : (z : ℕ) (bits : List ℕ) → get_or (0x80 ∷ replicate z 0 ++ bits) 0 0 ≡ 0x80
-padding_first z bits = refl
-
 padding_zero : (z k : ℕ) (bits : List ℕ) → 1 ≤ k → k ≤ z → get_or (0x80 ∷ replicate z 0 ++ bits) k 0 ≡ 0
 padding_zero z zero bits low high = absurd (omega (arith, low))
 padding_zero z (suc k) bits low high =
