@@ -1,7 +1,7 @@
 -- Folds in steps: a fold of log arity `b + a` is one of log arity `a` and then one of `b` at the
 -- challenge's `2^a`-th power, so a fold of log arity `a` is `a` binary folds.
 use Rattle.std.proofs.Common.{◌≡◌, ℕ, zero, suc, ◌+◌, ◌-◌, ◌*◌, ◌^◌, ◌<◌, ◌≤◌, List, [], ◌∷◌}
-use Rattle.std.proofs.Common.{length, take, drop, get_or, refl, sym, ap, ap₂, ◌∙◌, arith, mul_comm}
+use Rattle.std.proofs.Common.{length, take, drop, sym, ap, ap₂, ◌∙◌, arith, mul_comm}
 use Rattle.std.proofs.Common.{take_all, length-drop}
 use Rattle.std.proofs.lemmas.Nat.{pow-add, mul-add-lt}
 use Rattle.algebra.specs.Field.{FieldOps, IsField, pow}
@@ -18,17 +18,6 @@ use Rattle.algebra.proofs.Points.{row_distinct}
 use Rattle.algebra.proofs.FoldedWords.{neighbours-tabulate, fold-values}
 use Rattle.algebra.proofs.Lists.{Distinct, length-tabulate, map-tabulate, tabulate-equal}
 use Rattle.algebra.proofs.Lists.{distinct_from_AllPairs}
-
--- the two entries from a place on
-drop_two : {A : Type 0} (xs : List A) (k : ℕ) (d : A) → suc k < length xs
-    → take 2 (drop k xs) ≡ get_or xs k d ∷ get_or xs (suc k) d ∷ []
-drop_two [] k d l = absurd (omega (arith, l))
-drop_two (x ∷ []) k d l = absurd (omega (arith, l))
-drop_two (x ∷ y ∷ xs) zero d l = refl
-drop_two (x ∷ y ∷ xs) (suc k) d l = drop_two (y ∷ xs) k d (omega (arith, l))
-
-    start : j * 2 ≡ j + j
-    start = omega arith
 
 module _ {A : Type 0} (F : FieldOps A) (L : IsField F) (top : ℕ) (w : ℕ → A)
     (W : AreRoots F top w) where

@@ -1,7 +1,6 @@
 -- Laws of turned digits: twice is once, and how they split at a digit.
 use Rattle.std.proofs.Common.{ℕ, zero, suc, ◌+◌, ◌*◌, ◌-◌, ◌/◌, ◌%◌, ◌^◌, ◌<◌, ◌≤◌, ◌≡◌, refl, sym}
 use Rattle.std.proofs.Common.{ap, ap₂, ◌∙◌, arith, zero-add, suc-add}
-use Rattle.std.specs.Int.{reverse_bits_onto}
 use Rattle.std.proofs.lemmas.Nat.{pow-add}
 use Rattle.std.proofs.Math.Nat.{div-div-eq-div-mul, pow-succ'}
 use Rattle.algebra.specs.Digits.{rev}
@@ -84,15 +83,6 @@ rev-rev (suc k) i l =
   where
     half : i < 2 ^ k + 2 ^ k → i / 2 < 2 ^ k
     half m = omega (arith, m)
-
--- std's word
-onto : (k n a : ℕ) → reverse_bits_onto k n a ≡ a * 2 ^ k + rev k n
-unfolding reverse_bits_onto
-onto zero n a = rw (rev-zero n) (omega arith)
-onto (suc k) n a = onto k (n / 2) (a * 2 + n % 2) ∙ rw (rev-suc k n, double k) (step a (n % 2) (2 ^ k) (rev k (n / 2)))
-  where
-    step : (a b p r : ℕ) → (a * 2 + b) * p + r ≡ a * (p + p) + (b * p + r)
-    step a b p r = omega arith
 
 -- split between the digits: the lowest `k` come to the top
 pub rev-split : (k m i : ℕ) → rev (k + m) i ≡ rev k i * 2 ^ m + rev m (i / 2 ^ k)

@@ -144,18 +144,3 @@ module _ (p : ℕ) (prime : IsPrime p) where
       pow-mod (s * s) h p
       ∙ ap (λ t. t % p) (mul-pow s s h ∙ sym (pow-add s h h))
       ∙ fermat_one (h + h) s e pos less
-
--- `v` squared `k` times modulo `p`
-abbrev pub squared_modulo : ℕ → ℕ → ℕ → ℕ
-squared_modulo p zero v = v
-squared_modulo p (suc k) v = squared_modulo p k (v * v % p)
-
--- a great power by squaring, over a variable base so that nothing computes it outright
-pub pow-squared_modulo : (p w k e : ℕ) → w ^ (e * 2 ^ k) % p ≡ squared_modulo p k (w ^ e % p)
-pow-squared_modulo p w zero e = ap (λ t. w ^ t % p) (rw pow-zero (mul-one e))
-pow-squared_modulo p w (suc k) e =
-    ap (λ t. w ^ t % p) (ap (λ t. e * t) (pow-succ' 2 k) ∙ sym (mul_assoc e 2 (2 ^ k)))
-    ∙ pow-squared_modulo p w k (e * 2)
-    ∙ ap (λ t. squared_modulo p k t)
-    (ap (λ t. w ^ t % p) (let o : e * 2 ≡ e + e = omega arith in o) ∙ ap (λ t. t % p) (pow-add w e e)
-    ∙ sym (mul-mod_second (w ^ e) (w ^ e) p) ∙ sym (mul-mod_first (w ^ e) (w ^ e % p) p))

@@ -1,10 +1,10 @@
 -- Arithmetic modulo a prime: inverses, and a test for primes.
-use Rattle.std.specs.Prelude.{ℕ, zero, suc, ◌+◌, ◌-◌, ◌*◌, ◌/◌, ◌%◌, ◌<◌, ◌≤◌, ◌≡◌, ◌≢◌, ◌⊎◌, Bool}
-use Rattle.std.specs.Prelude.{true, false, leb, eqb, refl}
+use Rattle.std.specs.Prelude.{ℕ, zero, suc, ◌+◌, ◌-◌, ◌*◌, ◌/◌, ◌%◌, ◌<◌, ◌≤◌, ◌≡◌, Bool}
+use Rattle.std.specs.Prelude.{true, false, leb, refl}
 use Rattle.std.proofs.Common.{sym, ◌∙◌, ap, inl, inr, arith}
 use Rattle.std.proofs.Math.Nat.{div-add-mod, mod-lt, mod-eq_of_lt}
 use Rattle.std.proofs.Math.Nat.{mul-add-mod_self_right, mul_assoc}
-use Rattle.std.proofs.lemmas.Bool.Decides.{leb_tells, eqb_tells}
+use Rattle.std.proofs.lemmas.Bool.Decides.{leb_tells}
 use Rattle.std.proofs.lemmas.Nat.{mul-mod_second}
 use Rattle.algebra.specs.Primes.{IsPrime, inverse_modulo}
 
@@ -51,22 +51,9 @@ inverse_modulo-mul p prime (suc n) a pos less le =
           (inverse_modulo-mul p prime n (p % a) r_pos (omega arith) (omega arith))
     ]
 
--- none of 2 .. n + 1 divides `p`
-abbrev pub no_divisor : ℕ → ℕ → Bool
-no_divisor p zero = true
-no_divisor p (suc k) = elim (eqb (p % suc (suc k)) 0) [ true ↦ false | false ↦ no_divisor p k ]
-
 chosen : (b t : Bool) → (elim b as (λ _. Bool) [ true ↦ false | false ↦ t ]) ≡ true → (b ≡ false) × (t ≡ true)
 chosen true t h = absurd (cc)
 chosen false t h = (refl, h)
-
-no_small_divisor : (p n k : ℕ) → no_divisor p n ≡ true → k < n → p % suc (suc k) ≢ 0
-no_small_divisor p zero k h l = absurd (omega arith)
-no_small_divisor p (suc n) k h l =
-    let c = chosen (eqb (p % suc (suc n)) 0) (no_divisor p n) h in
-    let t = eqb_tells (p % suc (suc n)) 0 in
-    let s : (k < n) ⊎ (k ≡ n) = grind arith in
-    elim s [ inl less ↦ no_small_divisor p n k c.1 less | inr e ↦ rw e (elim t [ inl y ↦ absurd (cc) | inr w ↦ w.1 ]) ]
 
 above_one : (p d q : ℕ) → d * q ≡ p → 0 < p → d < p → 1 < q
 above_one p d zero e pos l = absurd (omega arith)

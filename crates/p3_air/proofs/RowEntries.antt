@@ -3,7 +3,6 @@ use Rattle.std.proofs.Common.{◌≡◌, ◌≢◌, ℕ, zero, suc, ◌<◌, ◌
 use Rattle.std.proofs.Common.{refl, sym, subst}
 use Rattle.std.proofs.lemmas.List.Elements.{All-tail}
 use Rattle.algebra.specs.Field.{FieldOps}
-use Rattle.p3_air.specs.declared.air.AirLayout.{AirLayout}
 use Rattle.p3_air.specs.declared.air.Air.{Air}
 use Rattle.p3_air.specs.declared.air.Constraint.{Constraint}
 use Rattle.p3_air.specs.declared.error.TraceError.{TraceError}

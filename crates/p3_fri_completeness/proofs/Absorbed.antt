@@ -7,12 +7,10 @@ use Rattle.std.specs.List.{flat_map}
 use Rattle.std.specs.declared.vec.Vec.{Vec}
 use Rattle.std.proofs.lemmas.Grind.{flat_map-append}
 use Rattle.algebra.specs.Nested.{lists, nested, joined}
-use Rattle.algebra.proofs.Lists.{Each, head_eq, tail_eq, map-map}
+use Rattle.algebra.proofs.Lists.{Each, head_eq, tail_eq}
 use Rattle.p3_matrix.specs.declared.dense.RowMajorMatrix.{RowMajorMatrix}
 use Rattle.p3_pcs.specs.Claims.{zip_with, matrix_claims, opened_values}
 use Rattle.p3_pcs.specs.Requests.{Request, honest_claims, honest_values}
-use Rattle.p3_fri_pcs_transcript.specs.Counts.{counts_in_matrices}
-use Rattle.p3_fri_pcs_transcript.specs.Counts.{counts_of_values}
 use Rattle.p3_fri_pcs_transcript.specs.Counts.{lists_in_matrices, lists_of_values, all_values}
 use Rattle.p3_fri_pcs_transcript.specs.Steps.{pcs_stream}
 use Rattle.p3_fri_pcs_transcript.specs.Replay.{BatchReplay, claims_replay}
@@ -32,19 +30,6 @@ module _ {E : Type 0} where
   all_in values = flat_map (λ points. joined points) values
 
   -- those in vectors are those in lists
-
-  counts_of_matrices : (matrices : List (Vec (Vec E Global) Global))
-      → counts_in_matrices matrices ≡ counts_in (nested matrices)
-  counts_of_matrices [] = refl
-  counts_of_matrices (points ∷ matrices) =
-      ap₂ (λ n ns. n ∷ ns) (sym (map-map (λ ys. length ys) (λ v. v.items) points.items))
-      (counts_of_matrices matrices)
-
-  pub counts_of_all : (values : List (Vec (Vec (Vec E Global) Global) Global))
-      → counts_of_values values ≡ map counts_in (opened_values values)
-  counts_of_all [] = refl
-  counts_of_all (matrices ∷ values) =
-      ap₂ (λ n ns. n ∷ ns) (counts_of_matrices matrices.items) (counts_of_all values)
 
   values_of_matrices : (matrices : List (Vec (Vec E Global) Global))
       → joined (lists_in_matrices matrices) ≡ all_in (nested matrices)

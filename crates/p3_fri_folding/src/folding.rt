@@ -9,8 +9,7 @@ use crate::challenges::Challenges;
 use crate::strategy::FriFoldingStrategy;
 use crate::table::FoldTable;
 use p3_field_core::{
-    ExtensionField, Field, PackableExtension, PackableField, TwoAdicField, bit_reversed_powers,
-    log2_strict_usize, reverse_bits_len,
+    ExtensionField, Field, TwoAdicField, bit_reversed_powers, log2_strict_usize, reverse_bits_len,
 };
 use p3_matrix::RowMajorMatrix;
 use std::alloc::{AllocError, Global};
@@ -28,12 +27,8 @@ pub struct TwoAdicFriFolding<InputProof, InputError>(pub PhantomData<(InputProof
 ///
 /// A row is that of a word in bit-reversed order: row `index` holds the neighbours from `index *
 /// 2^log_arity` on.
-impl<
-    F: TwoAdicField + PackableField,
-    EF: PackableExtension<F>,
-    InputProof,
-    InputError,
-> FriFoldingStrategy<F, EF> for TwoAdicFriFolding<InputProof, InputError> {
+impl<F: TwoAdicField, EF: ExtensionField<F>, InputProof, InputError> FriFoldingStrategy<F, EF>
+    for TwoAdicFriFolding<InputProof, InputError> {
     type InputProof = InputProof;
 
     type InputError = InputError;

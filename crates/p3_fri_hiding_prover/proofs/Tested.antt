@@ -16,7 +16,12 @@ use Rattle.p3_fri_openings.specs.First.{FirstAt}
 use Rattle.p3_fri_openings.specs.Rounds.{Asked, IsRound, ask, asked_in, log_height}
 use Rattle.p3_fri_openings.proofs.First.{first_at, one_more, to_the_end}
 use Rattle.p3_fri_masks.specs.declared.error.HidingFriProverError.{HidingFriProverError}
-use Rattle.p3_fri_masks.specs.declared.error.HidingFriProverError.TheVariants.{Fri}
+use Rattle.p3_fri_masks.specs.declared.error.HidingFriProverError.TheVariants.{
+  Fri,
+  InsufficientRandomCodewords,
+  BudgetOverflow,
+  HidingBudgetExceeded,
+}
 use Rattle.p3_fri_masks.specs.Budget.{FitsBudget, BudgetRefusal}
 use Rattle.p3_fri_hiding_prover.specs.Opening.{CanHide, MatrixRefusal, MeetsBudget, mask_height}
 
@@ -34,6 +39,15 @@ module _ {F E : Type 0} (f : Fields F E) (p : Parameters) (r : ℕ) (a : Asked F
     Refuses e =
         BudgetRefusal r p.num_queries f.degree (mask_height p.log_blowup a.matrix)
         (length a.points) e
+
+    refused_by_budget : (e : HidingFriProverError) → (¬ MeetsBudget f p r a) → Refuses e
+        → MatrixRefusal f p r e a
+    refused_by_budget (Fri e) fails h = absurd h
+    refused_by_budget (InsufficientRandomCodewords required got) fails h =
+        (λ can. fails can.budget, tall, h)
+    refused_by_budget BudgetOverflow fails h = (λ can. fails can.budget, tall, h)
+    refused_by_budget (HidingBudgetExceeded height queries points degree) fails h =
+        (λ can. fails can.budget, tall, h)
 
     told : {U : Type 0} (tested : Result U HidingFriProverError)
         → (IsOk tested ↔ MeetsBudget f p r a) → IfErr tested Refuses

@@ -1,19 +1,12 @@
 -- Rounds that come of requests: what may be opened, and the values asked for.
-use Rattle.std.proofs.Common.{◌≡◌, ℕ, List, [], ◌∷◌, map, refl, ap}
+use Rattle.std.proofs.Common.{◌≡◌, ℕ, List, map}
 use Rattle.p3_matrix.specs.declared.dense.RowMajorMatrix.{RowMajorMatrix}
 use Rattle.p3_pcs.specs.declared.requests.OpeningRequest.{OpeningRequest}
-use Rattle.p3_pcs.specs.Claims.{zip_with}
 use Rattle.p3_pcs.specs.Requests.{Held}
 use Rattle.p3_fri_relation.specs.Setting.{Fields}
 use Rattle.p3_fri_openings.specs.declared.round.OpeningRound.{OpeningRound}
 use Rattle.p3_fri_openings.specs.Committed.{committed_values}
 use Rattle.p3_fri_openings.specs.Requests.{round_request, matrices_request}
-
-both_of_map : {S T U V : Type 0} (g : T → U → V) (h : S → T) (xs : List S) (ys : List U)
-    → zip_with g (map h xs) ys ≡ zip_with (λ x y. g (h x) y) xs ys
-both_of_map g h [] ys = refl
-both_of_map g h (x ∷ xs) [] = refl
-both_of_map g h (x ∷ xs) (y ∷ ys) = ap (λ vs. g (h x) y ∷ vs) (both_of_map g h xs ys)
 
 -- a matrix as a scheme holds it
 abbrev pub held : {F E : Type 0} → Fields F E → (log_blowup : ℕ) → (size : RowMajorMatrix F → ℕ)

@@ -5,6 +5,10 @@ use Rattle.std.specs.Prelude.{slice_set}
 use Rattle.std.proofs.lemmas.List.{get_or-map, length-map}
 use Rattle.p3_fri_relation.specs.FoldedQuery.{AreInRange, HasRow, HaveRows, gains}
 
+have_none : (E : Type 0) (j : ℕ) (log_arities : List ℕ) → HaveRows {E = E} j log_arities []
+have_none E j [] = tt
+have_none E j (a ∷ log_arities) = tt
+
 -- past the end of one of the lists nothing is left to have
 pub have_end : {E O : Type 0} (f : O → List (List E)) (j k : ℕ) (log_arities : List ℕ) (os : List O)
     → min (length log_arities) (length os) ≤ k → HaveRows j (drop k log_arities) (map f (drop k os))

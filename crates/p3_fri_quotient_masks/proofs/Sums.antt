@@ -165,6 +165,10 @@ module _ {A : Type 0} (F : FieldOps A) (R : IsRing F) where
       ∙ ap (λ xs. xs ++ replicate size value) (take_none size)
       ∙ ap (λ v. replicate size v) null
     where
+      take_none : (n : ℕ) → take {A = A} n [] ≡ []
+      take_none zero = refl
+      take_none (suc n) = refl
+
   -- the given masks, and the one that balances them
   pub masks_are : (n size : ℕ) (factors wanted : List A) (masks random all : List (List A))
       (last : List A) → factors ≡ wanted → length wanted ≡ n → masks ≡ random

@@ -2,7 +2,6 @@ pub mod ClaimedHeights
 mod Example
 pub mod InstanceQueries
 pub mod Instances
-pub mod LowHeights
 pub mod QueryLinks
 pub mod ScheduledRounds
 pub mod Sources

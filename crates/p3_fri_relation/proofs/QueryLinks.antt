@@ -52,10 +52,6 @@ pub length-row_indices : (arities : List ℕ) (index : ℕ) → length (row_indi
 length-row_indices [] index = refl
 length-row_indices (a ∷ arities) index = ap (λ n. suc n) (length-row_indices arities (index / 2 ^ a))
 
-pub length-heights_after : (arities : List ℕ) (h : ℕ) → length (heights_after arities h) ≡ length arities
-length-heights_after [] h = refl
-length-heights_after (a ∷ arities) h = ap (λ n. suc n) (length-heights_after arities (h - a))
-
 pub row_indices-below : (arities : List ℕ) (h index k d : ℕ) → sum arities ≤ h → index < 2 ^ h → k < length arities
     → get_or (row_indices arities index) k d < 2 ^ get_or (heights_after arities h) k d
 row_indices-below [] h index k d within below inside = absurd (omega arith)

@@ -3,6 +3,7 @@
 #![tactic(auto)]
 
 pub mod error;
+mod error_text;
 pub mod laws;
 pub mod proof;
 pub mod setting;

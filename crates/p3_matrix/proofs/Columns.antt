@@ -59,6 +59,12 @@ module _ {A : Type 0} (w : ℕ) (some : 0 < w) where
       (tabulate-equal (length ys / w) (λ i. between (suc i * w) (suc i * w + w) (x ++ ys))
       (λ i. between (i * w) (i * w + w) ys) (λ i l. later_row x ys i e))
 
+  rows_of-nil : rows_of {A = A} w [] ≡ []
+  unfolding rows_of
+  rows_of-nil =
+      ap (λ n. tabulate n (λ i. between (i * w) (i * w + w) []))
+      (ap (λ k. k / w) (let s : 0 ≡ 0 * w + 0 = omega arith in s) ∙ div-mul-add 0 w 0 some)
+
   pub rows_of-joined : (rs : List (List A)) → Each (λ r. length r ≡ w) rs → rows_of w (joined rs) ≡ rs
   rows_of-joined [] h = rows_of-nil
   rows_of-joined (r ∷ rs) h = rows_of-append r (joined rs) h.0 ∙ ap (λ t. r ∷ t) (rows_of-joined rs h.1)

@@ -4,7 +4,7 @@ use Rattle.std.specs.List.{AllZip}
 use Rattle.p3_matrix.specs.declared.dense.RowMajorMatrix.{RowMajorMatrix}
 use Rattle.p3_pcs.specs.Claims.{Claim, zip_with}
 use Rattle.p3_pcs.specs.Headline.{claims_of, MatchOpenAndVerifyError}
-use Rattle.p3_pcs.specs.Requests.{Held, Request}
+use Rattle.p3_pcs.specs.Requests.{Request}
 use Rattle.p3_pcs.specs.Scheme.{Scheme}
 use Rattle.p3_pcs.specs.declared.claims.KnownCommitment.{KnownCommitment}
 use Rattle.p3_stark_pcs.specs.Scheme.{StarkScheme}
@@ -57,9 +57,9 @@ module _ {E C V Dom Com D Proof Error ProverError : Type 0}
         AllZip r.Extends (r.committed_polynomials preprocessed.1) preprocessed_columns
     pub trace_extends : AllZip r.Extends (r.committed_polynomials trace.1) trace_columns
 
-  -- The values are those of what the known commitments are commitments to: of data whose polynomials
-  -- extend the preprocessed columns and the trace, at both points, and of chunks, at the first, that
-  -- recombine to `quotient`.
+  -- The values are those of what the known commitments are commitments to: of data whose
+  -- polynomials extend the preprocessed columns and the trace, at both points, and of chunks, at
+  -- the first, that recombine to `quotient`.
   pub record AreStarkValues (preprocessed_columns trace_columns : List (Dom × RowMajorMatrix V))
       (recombined : List (List E) → List E) (quotient : List E) (point next : E)
       (known : List (KnownCommitment Com Dom)) (values : List (List (List (List E)))) : Type 0

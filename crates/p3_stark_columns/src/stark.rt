@@ -408,9 +408,10 @@ fn points_at<EF: Copy>(
 /// accepted of them, and prover and verifier end in its last state. No proof of its own is refused
 /// but for want of memory.
 ///
-/// It commits to all columns and opens them at once, so it shows that a scheme serves a STARK and is
-/// none: nothing is absorbed between. In a protocol the challenger absorbs what is public and the
-/// trace's commitment before the quotient is made, and the quotient's before the point is drawn.
+/// It commits to all columns and opens them at once, so it shows that a scheme serves a STARK and
+/// is none: nothing is absorbed between. In a protocol the challenger absorbs what is public and
+/// the trace's commitment before the quotient is made, and the quotient's before the point is
+/// drawn.
 pub fn open_stark_columns<EF: Copy, C: Clone, P: UnivariateStarkPcs<EF, C>>(
     scheme: &mut P,
     alloc: Global,

@@ -1,5 +1,5 @@
 -- The statements of the law functions.
-use Rattle.std.specs.Prelude.{◌≡◌, ◌≢◌, ◌≤◌, ◌<◌, ℕ, ◌+◌, ◌*◌, ◌^◌, List, [], length, map}
+use Rattle.std.specs.Prelude.{◌≡◌, ◌≢◌, ◌≤◌, ◌<◌, ℕ, ◌+◌, ◌^◌, List, [], length, map}
 use Rattle.std.specs.Prelude.{slice_index_or}
 use Rattle.algebra.specs.Field.{FieldOps, IsField, IsHomomorphism, pow}
 use Rattle.algebra.specs.Polynomial.{val}
@@ -20,8 +20,8 @@ use Rattle.p3_uni_stark_identity.specs.Identity.{IsQuotientOf}
 abbrev pub IsOffSubgroup : {A : Type 0} (F : FieldOps A) (w shift : A) (k : ℕ) → Type 0
 IsOffSubgroup F w shift k = (i : ℕ) → zerofier F (2 ^ k) (coset_point F w shift i) ≢ F.zero
 
--- where columns are these polynomials: the constraints' sum at `z`, over the value of the polynomial
--- that vanishes on the powers of `g`, of which there are `n`
+-- where columns are these polynomials: the constraints' sum at `z`, over the value of the
+-- polynomial that vanishes on the powers of `g`, of which there are `n`
 abbrev pub quotient_value : {V A : Type 0} (F : FieldOps V) (K : FieldOps A) (lift : V → A)
     (air : Air V) (columns : Columns V A) (public_values : List V) (g : A) (n : ℕ) (alpha z : A) → A
 quotient_value F K lift air columns public_values g n alpha z = K.mul
@@ -46,9 +46,9 @@ module _ {V A : Type 0} (F : FieldOps V) (lift : V → A) (w : ℕ → V) (shift
         (chunk_point F w shift k d i j)
         ≡ coefficient (value (lift (chunk_point F w shift k d i j))) e
 
--- Of a trace that satisfies its constraints: chunks of the coefficients of the quotient's values, on
--- the cosets into which one is split that is off the trace's domain, agree at each point off that
--- domain with what the constraints see of the columns there.
+-- Of a trace that satisfies its constraints: chunks of the coefficients of the quotient's values,
+-- on the cosets into which one is split that is off the trace's domain, agree at each point off
+-- that domain with what the constraints see of the columns there.
 abbrev pub QuotientChunksAgree : Type 0 → Type 0 → Type 0
 QuotientChunksAgree V A = (F : FieldOps V) → IsField F → (K : FieldOps A) → IsField K
     → (lift : V → A) → IsHomomorphism F K lift → (top : ℕ) (w : ℕ → V) → AreRoots F top w

@@ -20,8 +20,8 @@ pub struct LagrangeSelectors<EF> {
     pub inv_vanishing: EF,
 }
 
-/// Whether the polynomial that vanishes on the subgroup of `2^log_size` points is zero at the point:
-/// exactly at the points of that subgroup.
+/// Whether the polynomial that vanishes on the subgroup of `2^log_size` points is zero at the
+/// point: exactly at the points of that subgroup.
 pub fn is_on_domain<EF: Field>(log_size: usize, point: EF) -> bool
     ensures { IsTrue result ↔ (zerofier EF.ops (2 ^ log_size) point ≡ EF.ops.zero) }
 {

@@ -2,8 +2,8 @@
 
 ghost use Rattle.p3_uni_stark_quotient.specs.Laws.{QuotientOfColumns, CosetsAreOff};
 
-/// Where the rows are the values of the columns' polynomials, the prover's values are the quotient's
-/// at the points of the coset.
+/// Where the rows are the values of the columns' polynomials, the prover's values are the
+/// quotient's at the points of the coset.
 pub fn quotient_values_law<V, A>()
     ensures { QuotientOfColumns V A }
 {}

@@ -1,5 +1,6 @@
-//! A STARK prover's quotient: the values on a coset of the constraints' sum over the polynomial that
-//! vanishes on the trace's domain, by the columns' values there, and the chunks of these values.
+//! A STARK prover's quotient: the values on a coset of the constraints' sum over the polynomial
+//! that vanishes on the trace's domain, by the columns' values there, and the chunks of these
+//! values.
 #![tactic(auto)]
 
 pub mod chunks;

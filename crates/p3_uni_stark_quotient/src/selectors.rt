@@ -14,8 +14,8 @@ use p3_field_core::{
 use p3_uni_stark_identity::LagrangeSelectors;
 use std::alloc::{AllocError, Global};
 
-/// Whether the coset's shift, to the power of the greatest two-adic order, isn't one. Then the coset
-/// meets no subgroup whose order is a power of two.
+/// Whether the coset's shift, to the power of the greatest two-adic order, isn't one. Then the
+/// coset meets no subgroup whose order is a power of two.
 pub fn is_off_subgroups<F: TwoAdicField>(coset: TwoAdicMultiplicativeCoset<F>) -> bool
     ensures power { IsTrue result ↔ (pow F.ops coset.shift (2 ^ F.TWO_ADICITY) ≢ F.ops.one) }
     ensures off { OnTrue result ((k : ℕ) → k ≤ F.TWO_ADICITY

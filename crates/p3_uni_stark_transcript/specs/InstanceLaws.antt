@@ -14,5 +14,5 @@ module _ {V : Type 0} (canonical : V → ℕ) (d : ℕ) (preprocessed hides : Bo
   -- instances of one stream are one instance
   abbrev pub IsDeterminedInstance : Instance V → Instance V → Type 0
   IsDeterminedInstance a b = FitsInstance a → FitsInstance b
-      → stark_stream d canonical preprocessed hides a ≡ stark_stream d canonical preprocessed hides b
-      → a ≡ b
+      → stark_stream d canonical preprocessed hides a
+      ≡ stark_stream d canonical preprocessed hides b → a ≡ b
