@@ -2,7 +2,7 @@
 use Rattle.std.proofs.Common.{◌≡◌, ℕ, suc, ◌+◌, ◌-◌, ◌^◌, ◌≤◌, List, [], ◌∷◌, ◌++◌, length}
 use Rattle.std.proofs.Common.{replicate, refl, sym, ap, ap₂, ◌∙◌, arith, length-append}
 use Rattle.std.proofs.lemmas.List.{length-replicate}
-use Rattle.algebra.specs.Field.{FieldOps, IsRing, IsField}
+use Rattle.algebra.specs.Field.{FieldOps, IsRing}
 use Rattle.algebra.specs.Polynomial.{val, tabulate}
 use Rattle.algebra.specs.TwoAdic.{pt}
 use Rattle.algebra.specs.Cosets.{coset_pt}
@@ -62,8 +62,3 @@ module _ {A : Type 0} (F : FieldOps A) (R : IsRing F) (w : ℕ → A) where
       zeros [] e = tabulate-equal (2 ^ k) (λ i. val F [] (coset_pt F w shift i k)) (λ i. F.zero)
           (λ i _. val-nil F R (coset_pt F w shift i k))
       zeros (c ∷ cs) e = absurd (omega (arith, e))
-
-module _ {A : Type 0} (F : FieldOps A) (L : IsField F) (w : ℕ → A) where
-  open F use {one as 𝟙, mul as ◌⊗◌, inv}
-
-  infixl 70 ◌⊗◌

@@ -16,10 +16,10 @@ use Rattle.p3_mmcs.specs.declared.sha256_mmcs.prover_data.Sha256ProverData.{Sha2
 use Rattle.p3_mmcs.specs.ProverData.{matrices_of}
 use Rattle.p3_pcs.specs.declared.requests.OpeningRequest.{OpeningRequest}
 use Rattle.p3_pcs.specs.Claims.{zip_with}
-use Rattle.p3_pcs.specs.Requests.{Held, request}
+use Rattle.p3_pcs.specs.Requests.{request}
 use Rattle.p3_pcs.specs.Requests as plain
 use Rattle.p3_stark_pcs.specs.Evaluations.{HasPolynomials}
-use Rattle.p3_fri_pow.specs.declared.error.FriProverError.{FriProverError}
+use Rattle.p3_fri_folding.specs.declared.error.FriProverError.{FriProverError}
 use Rattle.p3_fri_relation.specs.Setting as setting
 use Rattle.p3_fri_openings.specs.Rounds.{HasCoset}
 use Rattle.p3_fri_openable.specs.Openable.{MayBeOpened}

@@ -7,8 +7,8 @@ ghost use Rattle.fri_requests.specs.declared.fault.VerifyError.TheVariants as st
 ghost use Rattle.fri_requests.specs.Failures.{unread_request, unopened, unread, failure_of};
 ghost use Rattle.fri_requests.specs.Failures.{IsUnformed};
 
+use p3_fri_folding::FriProverError;
 use p3_fri_plain::PlainProofError;
-use p3_fri_pow::FriProverError;
 use p3_fri_relation::error::FriError;
 use p3_mmcs::Sha256MmcsError;
 use std::alloc::{AllocError, AllocFailed};

@@ -15,10 +15,9 @@ pub use crate::proof::{
     PlainProofError, PlainStep, from_plain, to_plain,
 };
 pub use p3_fri_folding::{
-    FriFoldingStrategy, FriParameters, TwoAdicFriFolding, WithExtraBits,
+    FriFoldingStrategy, FriParameters, FriProverError, PowPhase, TwoAdicFriFolding, WithExtraBits,
     compute_log_arity_for_round, fold_lanes, fold_schedule, folding, is_strictly_falling, lanes,
-    strategy,
+    pow_phase, strategy,
 };
 pub use p3_fri_pcs_transcript::{PcsShape, pcs_transcript};
-pub use p3_fri_pow::{FriProverError, PowPhase, pow_phase};
 pub use p3_fri_transcript::{FriShape, transcript};

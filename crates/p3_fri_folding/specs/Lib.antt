@@ -1,4 +1,5 @@
 pub use Rattle.algebra.specs.Folds
+pub mod Phases
 pub mod Rows
 pub mod Schedule
 pub mod Strategy

@@ -1,7 +1,7 @@
 -- Refusals for a budget, and for want of memory.
 use Rattle.std.proofs.Common.{◌≡◌, ◌≢◌, ℕ, List, Result, Ok, Err, map, refl, sym, subst}
 use Rattle.std.specs.Prelude.{IsErr, IsErrAnd, IfErr}
-use Rattle.p3_fri_pow.specs.declared.error.FriProverError.TheVariants as plain
+use Rattle.p3_fri_folding.specs.declared.error.FriProverError.TheVariants as plain
 use Rattle.p3_fri_masks.specs.declared.error.HidingFriProverError.{HidingFriProverError}
 use Rattle.p3_fri_masks.specs.declared.error.HidingFriProverError.TheVariants.{
   Fri,

@@ -6,7 +6,7 @@ ghost use Rattle.std.specs.List.{AllZip};
 ghost use Rattle.p3_matrix.specs.Matrix.{rows};
 ghost use Rattle.p3_matrix.specs.Words.{past};
 ghost use Rattle.p3_stark_pcs.specs.Evaluations.{HasShape};
-ghost use Rattle.p3_fri_pow.specs.declared.error.FriProverError.TheVariants.{OutOfMemory};
+ghost use Rattle.p3_fri_folding.specs.declared.error.FriProverError.TheVariants.{OutOfMemory};
 ghost use Rattle.p3_fri_completeness.specs.Requests.{HoldsWords};
 ghost use Rattle.p3_fri_hiding_prover.specs.Chunks.{polynomials_on, recombined_on};
 ghost use Rattle.p3_fri_hiding_prover.specs.Ldes.{HasLdeHeight};

@@ -8,7 +8,7 @@ ghost use Rattle.p3_pcs.specs.Claims.{claim, opened_values};
 ghost use Rattle.p3_periodic.specs.Values.{IsColumnValue};
 ghost use Rattle.p3_stark_pcs.specs.Evaluations.{HasShape};
 ghost use Rattle.p3_stark_pcs.specs.Scheme.{same_kept_stark};
-ghost use Rattle.p3_fri_pow.specs.declared.error.FriProverError.TheVariants.{OutOfMemory};
+ghost use Rattle.p3_fri_folding.specs.declared.error.FriProverError.TheVariants.{OutOfMemory};
 ghost use Rattle.p3_fri_relation.specs.Views.{proof_of};
 ghost use Rattle.p3_fri_masks.specs.declared.error.HidingFriProverError.TheVariants.{Fri};
 ghost use Rattle.p3_fri_hiding_prover.specs.Chunks.{polynomials_on, recombined_on};

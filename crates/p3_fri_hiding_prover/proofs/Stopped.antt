@@ -2,11 +2,11 @@
 use Rattle.std.proofs.Common.{◌≡◌, ℕ, List, map, Option, sym, subst}
 use Rattle.p3_matrix.specs.declared.dense.RowMajorMatrix.{RowMajorMatrix}
 use Rattle.p3_pcs.specs.Requests.{Request}
-use Rattle.p3_fri_pow.specs.declared.error.FriProverError.{FriProverError}
-use Rattle.p3_fri_pow.specs.declared.error.FriProverError.TheVariants.{InputHeightTooSmall}
-use Rattle.p3_fri_pow.specs.declared.error.FriProverError.TheVariants.{FinalHeightOverflow}
-use Rattle.p3_fri_pow.specs.declared.error.FriProverError.TheVariants.{PointInEvaluationDomain}
-use Rattle.p3_fri_pow.specs.declared.error.FriProverError.TheVariants.{NoPowWitness, OutOfMemory}
+use Rattle.p3_fri_folding.specs.declared.error.FriProverError.{FriProverError}
+use Rattle.p3_fri_folding.specs.declared.error.FriProverError.TheVariants.{InputHeightTooSmall}
+use Rattle.p3_fri_folding.specs.declared.error.FriProverError.TheVariants.{FinalHeightOverflow}
+use Rattle.p3_fri_folding.specs.declared.error.FriProverError.TheVariants.{PointInEvaluationDomain}
+use Rattle.p3_fri_folding.specs.declared.error.FriProverError.TheVariants.{NoPowWitness, OutOfMemory}
 use Rattle.p3_fri_relation.specs.Setting.{Setting, Parameters}
 use Rattle.p3_fri_opening_prover.specs.Refusals.{OpenRefusal, LeavesState}
 use Rattle.p3_fri_masks.specs.declared.error.HidingFriProverError.{HidingFriProverError}

@@ -9,7 +9,7 @@ use Rattle.algebra.proofs.Lists.{entry_of_map}
 use Rattle.p3_matrix.specs.declared.dense.RowMajorMatrix.{RowMajorMatrix}
 use Rattle.p3_pcs.proofs.Zipped.{entry_of_zip_with, within_zip_with, length_of_zip_with}
 use Rattle.p3_fri_relation.specs.Setting.{Fields, Parameters}
-use Rattle.p3_fri_pow.specs.declared.error.FriProverError.{FriProverError}
+use Rattle.p3_fri_folding.specs.declared.error.FriProverError.{FriProverError}
 use Rattle.p3_fri_relation.specs.TallEnough.{IsTallEnough, HeightRefusal}
 use Rattle.p3_fri_openings.specs.declared.round.OpeningRound.{OpeningRound}
 use Rattle.p3_fri_openings.specs.First.{FirstAt}

@@ -1,7 +1,7 @@
 -- The budget of all that is committed to at once, by the heights of the masks.
 use Rattle.std.specs.Prelude.{ℕ, List, All}
 use Rattle.std.specs.List.{Any}
-use Rattle.p3_fri_pow.specs.declared.error.FriProverError.TheVariants.{OutOfMemory}
+use Rattle.p3_fri_folding.specs.declared.error.FriProverError.TheVariants.{OutOfMemory}
 use Rattle.p3_fri_masks.specs.declared.error.HidingFriProverError.{HidingFriProverError}
 use Rattle.p3_fri_masks.specs.declared.error.HidingFriProverError.TheVariants.{Fri}
 use Rattle.p3_fri_masks.specs.Budget.{FitsBudget, BudgetRefusal}

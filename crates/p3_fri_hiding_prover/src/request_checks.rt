@@ -15,10 +15,9 @@ ghost use Rattle.p3_fri_hiding_prover.specs.Opening.{HidingCheckRefusal};
 
 use crate::data::HidingFriPcsProverData;
 use p3_field_core::{ExtensionField, TwoAdicField, log2_strict_usize};
-use p3_fri_folding::FriParameters;
+use p3_fri_folding::{FriParameters, FriProverError};
 use p3_fri_masks::{HidingFriProverError, check_hiding_budget, lde_mask_height};
 use p3_fri_openings::{OpeningRound, check_height, check_round_points};
-use p3_fri_pow::FriProverError;
 use p3_fri_relation::setting::ChallengeField;
 use p3_matrix::RowMajorMatrix;
 use p3_mmcs::Mmcs;

@@ -2,15 +2,14 @@
 
 ghost use Rattle.std.specs.Prelude.{◌≡◌, ◌≢◌, ◌↔◌, All, true, false, IsTrue, IsOk, IfErr};
 ghost use Rattle.std.specs.List.{Any};
-ghost use Rattle.p3_fri_pow.specs.declared.pow_phase.PowPhase.{PowPhase};
+ghost use Rattle.p3_fri_folding.specs.declared.pow_phase.PowPhase.{PowPhase};
 ghost use Rattle.p3_fri_relation.specs.Acceptance.{AreCanonical};
 ghost use Rattle.p3_fri_relation.specs.Faults.{IsNotCanonical};
 ghost use Rattle.p3_fri_relation.specs.Views.{parameters_of, proof_of};
 ghost use Rattle.p3_fri_relation.specs.declared.error.FriError.TheVariants.{NonCanonicalPowWitness};
 
 use p3_field_core::Field;
-use p3_fri_folding::FriParameters;
-use p3_fri_pow::PowPhase;
+use p3_fri_folding::{FriParameters, PowPhase};
 use p3_fri_relation::error::FriError;
 use p3_fri_relation::proof::{BatchMultiOpening, FriProof};
 use p3_mmcs::Mmcs;

@@ -1,10 +1,10 @@
 //! Why a prover refuses to hide.
 
 ghost use Rattle.std.specs.Prelude.{◌≡◌};
-ghost use Rattle.p3_fri_pow.specs.declared.error.FriProverError.TheVariants.{OutOfMemory};
+ghost use Rattle.p3_fri_folding.specs.declared.error.FriProverError.TheVariants.{OutOfMemory};
 ghost use Rattle.p3_fri_masks.specs.declared.error.HidingFriProverError.TheVariants.{Fri};
 
-use p3_fri_pow::FriProverError;
+use p3_fri_folding::FriProverError;
 use std::alloc::AllocError;
 use thiserror::Error;
 

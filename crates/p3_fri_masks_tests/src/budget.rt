@@ -1,7 +1,7 @@
 //! The hiding budget, and how its refusals are printed.
 
+use p3_fri_folding::FriProverError;
 use p3_fri_masks::{HidingFriProverError, check_hiding_budget, lde_mask_height};
-use p3_fri_pow::FriProverError;
 use std::alloc::Global;
 use std::test::Fail;
 

@@ -10,9 +10,9 @@ use Rattle.p3_matrix.specs.declared.dense.RowMajorMatrix.{RowMajorMatrix}
 use Rattle.p3_challenger_core.specs.Run.{observed_all}
 use Rattle.p3_challenger_fs.specs.Turns.{bytes_observed}
 use Rattle.p3_pcs.specs.Claims.{opened_values}
-use Rattle.p3_fri_pow.specs.declared.error.FriProverError.{FriProverError}
-use Rattle.p3_fri_pow.specs.declared.error.FriProverError.TheVariants.{NoPowWitness}
-use Rattle.p3_fri_pow.specs.declared.pow_phase.PowPhase.TheVariants.{Batch}
+use Rattle.p3_fri_folding.specs.declared.error.FriProverError.{FriProverError}
+use Rattle.p3_fri_folding.specs.declared.error.FriProverError.TheVariants.{NoPowWitness}
+use Rattle.p3_fri_folding.specs.declared.pow_phase.PowPhase.TheVariants.{Batch}
 use Rattle.p3_fri_pow.specs.Pow.{NonePasses, found_witness, sent_witness}
 use Rattle.p3_fri_pow.proofs.Found.{sent_is}
 use Rattle.p3_fri_pcs_transcript.specs.Counts.{counts_in_matrices, counts_of_values}

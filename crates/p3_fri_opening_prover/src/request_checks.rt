@@ -11,9 +11,8 @@ ghost use Rattle.p3_fri_opening_prover.specs.Refusals.{CheckRefusal, GatherRefus
 ghost use Rattle.p3_fri_opening_prover.specs.Refusals.{IsFirstLow, PointsRefusal, asked_of};
 
 use p3_field_core::{ExtensionField, TwoAdicField};
-use p3_fri_folding::FriParameters;
+use p3_fri_folding::{FriParameters, FriProverError};
 use p3_fri_openings::{OpeningRound, check_round_heights, check_round_points, rounds_of_requests};
-use p3_fri_pow::FriProverError;
 use p3_fri_relation::setting::ChallengeField;
 use p3_mmcs::Mmcs;
 use p3_pcs::OpeningRequest;

@@ -6,7 +6,7 @@ use Rattle.std.specs.List.{flat_map}
 use Rattle.p3_mmcs.specs.declared.openings.CommitmentOpening.{CommitmentOpening}
 use Rattle.p3_challenger_core.specs.Run.{observed_all}
 use Rattle.p3_challenger_fs.specs.Turns.{bytes_observed}
-use Rattle.p3_fri_pow.specs.declared.pow_phase.PowPhase.TheVariants.{Batch}
+use Rattle.p3_fri_folding.specs.declared.pow_phase.PowPhase.TheVariants.{Batch}
 use Rattle.p3_fri_pcs_transcript.specs.Steps.{PcsNumbers, pcs_stream}
 use Rattle.p3_fri_pcs_transcript.specs.Replay.{BatchReplay, shown_batch_replay}
 use Rattle.p3_fri_pcs_transcript.specs.declared.pcs_transcript.failure.PcsTranscriptFailure.{PcsTranscriptFailure}
@@ -128,10 +128,6 @@ module _ {F E C Com Path InCom InPath : Type 0} (s : Setting F E C Com Path InCo
       not_true : (b : Bool) → (b ≡ true → ⊥) → b ≡ false
       not_true true n = absurd (n refl)
       not_true false n = refl
-
-module _ {A B F E C Com Path InCom InPath : Type 0} (s : Setting F E C Com Path InCom InPath)
-    (p : Parameters)
-    (claims : List (CommitmentClaim E InCom)) (proof : Proof F E Com Path InPath) (c : C) where
 
 -- what the transcript is told of the claims
 module _ {E InCom Domain : Type 0} (log_size : Domain

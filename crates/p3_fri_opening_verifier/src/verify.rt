@@ -1,7 +1,7 @@
 //! The verifier of openings.
 
 ghost use Rattle.std.specs.Prelude.{◌≡◌, ◌≢◌, ◌+◌, ◌<◌, ◌≤◌, ◌↔◌, Err, IsOk, IfErr};
-ghost use Rattle.p3_fri_pow.specs.declared.pow_phase.PowPhase.{PowPhase};
+ghost use Rattle.p3_fri_folding.specs.declared.pow_phase.PowPhase.{PowPhase};
 ghost use Rattle.p3_fri_relation.specs.declared.error.FriError.TheVariants.{OutOfMemory};
 ghost use Rattle.p3_fri_relation.specs.declared.error.FriError.TheVariants.{NonCanonicalPowWitness};
 ghost use Rattle.p3_fri_relation.specs.Acceptance.{Accepts};

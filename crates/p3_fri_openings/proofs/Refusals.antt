@@ -1,10 +1,10 @@
 -- The refusal of a round is that of all, where the rounds before it pass.
 use Rattle.std.proofs.Common.{◌≡◌, ℕ, ◌<◌, List, length, take, get_or, All, sym, subst}
-use Rattle.p3_fri_pow.specs.declared.error.FriProverError.TheVariants.{InputHeightTooSmall}
-use Rattle.p3_fri_pow.specs.declared.error.FriProverError.TheVariants.{FinalHeightOverflow}
-use Rattle.p3_fri_pow.specs.declared.error.FriProverError.TheVariants.{OutOfMemory, NoPowWitness}
-use Rattle.p3_fri_pow.specs.declared.error.FriProverError.TheVariants.{PointInEvaluationDomain}
-use Rattle.p3_fri_pow.specs.declared.error.FriProverError.{FriProverError}
+use Rattle.p3_fri_folding.specs.declared.error.FriProverError.TheVariants.{InputHeightTooSmall}
+use Rattle.p3_fri_folding.specs.declared.error.FriProverError.TheVariants.{FinalHeightOverflow}
+use Rattle.p3_fri_folding.specs.declared.error.FriProverError.TheVariants.{OutOfMemory, NoPowWitness}
+use Rattle.p3_fri_folding.specs.declared.error.FriProverError.TheVariants.{PointInEvaluationDomain}
+use Rattle.p3_fri_folding.specs.declared.error.FriProverError.{FriProverError}
 use Rattle.p3_fri_relation.specs.Setting.{Fields}
 use Rattle.p3_fri_openings.specs.declared.round.OpeningRound.{OpeningRound}
 use Rattle.p3_fri_openings.specs.Refusals.{ArePointsOff, IsFirstInRound, IsFirstOfAll, RoundPointRefusal, PointRefusal}

@@ -1,19 +1,12 @@
 -- Rounds that come of requests: what may be opened, and the values asked for.
-use Rattle.std.proofs.Common.{◌≡◌, ℕ, List, map}
+use Rattle.std.proofs.Common.{ℕ}
 use Rattle.p3_matrix.specs.declared.dense.RowMajorMatrix.{RowMajorMatrix}
-use Rattle.p3_pcs.specs.declared.requests.OpeningRequest.{OpeningRequest}
 use Rattle.p3_pcs.specs.Requests.{Held}
 use Rattle.p3_fri_relation.specs.Setting.{Fields}
-use Rattle.p3_fri_openings.specs.declared.round.OpeningRound.{OpeningRound}
 use Rattle.p3_fri_openings.specs.Committed.{committed_values}
-use Rattle.p3_fri_openings.specs.Requests.{round_request, matrices_request}
 
 -- a matrix as a scheme holds it
 abbrev pub held : {F E : Type 0} → Fields F E → (log_blowup : ℕ) → (size : RowMajorMatrix F → ℕ)
     → RowMajorMatrix F → Held E
 held f log_blowup size matrix =
     record { size = size matrix; values_at = committed_values f log_blowup matrix }
-
-module _ {F E D : Type 0} (committed : D → List (RowMajorMatrix F))
-    (rounds : List (OpeningRound F E)) (requests : List (OpeningRequest D E))
-    (same : map round_request rounds ≡ map (matrices_request committed) requests) where

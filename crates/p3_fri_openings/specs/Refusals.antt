@@ -1,8 +1,8 @@
 -- Why a prover refuses to open: heights, and points in the evaluation coset.
 use Rattle.std.specs.Prelude.{◌≡◌, ℕ, List, All}
 use Rattle.algebra.specs.Cosets.{IsOnCoset, IsOffCoset}
-use Rattle.p3_fri_pow.specs.declared.error.FriProverError.{FriProverError}
-use Rattle.p3_fri_pow.specs.declared.error.FriProverError.TheVariants.{PointInEvaluationDomain}
+use Rattle.p3_fri_folding.specs.declared.error.FriProverError.{FriProverError}
+use Rattle.p3_fri_folding.specs.declared.error.FriProverError.TheVariants.{PointInEvaluationDomain}
 use Rattle.p3_matrix.specs.declared.dense.RowMajorMatrix.{RowMajorMatrix}
 use Rattle.p3_fri_relation.specs.TallEnough.{IsTallEnough, HeightRefusal}
 use Rattle.p3_fri_relation.specs.Setting.{Fields, Parameters}

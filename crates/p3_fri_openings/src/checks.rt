@@ -14,7 +14,7 @@ ghost use Rattle.p3_fri_openings.specs.Refusals.{RoundPointRefusal, PointRefusal
 
 use crate::round::OpeningRound;
 use p3_field_core::{ExtensionField, Field, TwoAdicField, log2_strict_usize};
-use p3_fri_pow::FriProverError;
+use p3_fri_folding::FriProverError;
 use p3_fri_relation::FriParameters;
 use p3_fri_relation::setting::ChallengeField;
 use p3_matrix::RowMajorMatrix;

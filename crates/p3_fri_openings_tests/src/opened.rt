@@ -3,10 +3,10 @@
 
 use crate::rounds::{are_rounds, extended};
 use p3_field::{BabyBear, BabyBear4, ExtensionField, Field};
+use p3_fri_folding::FriProverError;
 use p3_fri_openings::{
     Denominators, OpeningRound, check_points, denominators_of_rounds, open_values,
 };
-use p3_fri_pow::FriProverError;
 use p3_matrix::RowMajorMatrix;
 use p3_mmcs::OpenedValues;
 use std::alloc::{AllocError, Global};

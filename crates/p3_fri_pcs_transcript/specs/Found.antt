@@ -3,10 +3,10 @@ use Rattle.std.specs.Prelude.{◌≡◌, ℕ, IsTrue, List, Option, Some, ⊤}
 use Rattle.algebra.specs.Field.{FieldOps}
 use Rattle.p3_challenger_core.specs.Run.{Moves}
 use Rattle.p3_challenger_fs.specs.Turns.{bytes_observed}
-use Rattle.p3_fri_pow.specs.declared.error.FriProverError.{FriProverError}
-use Rattle.p3_fri_pow.specs.declared.error.FriProverError.TheVariants.{NoPowWitness}
-use Rattle.p3_fri_pow.specs.declared.error.FriProverError.TheVariants.{OutOfMemory}
-use Rattle.p3_fri_pow.specs.declared.pow_phase.PowPhase.TheVariants.{Batch}
+use Rattle.p3_fri_folding.specs.declared.error.FriProverError.{FriProverError}
+use Rattle.p3_fri_folding.specs.declared.error.FriProverError.TheVariants.{NoPowWitness}
+use Rattle.p3_fri_folding.specs.declared.error.FriProverError.TheVariants.{OutOfMemory}
+use Rattle.p3_fri_folding.specs.declared.pow_phase.PowPhase.TheVariants.{Batch}
 use Rattle.p3_fri_pow.specs.Pow.{sent_witness, NonePasses}
 use Rattle.p3_fri_transcript.specs.Found.{FriFound, PlayRefused}
 use Rattle.p3_fri_transcript.specs.Steps.{FriNumbers, fri_stream}

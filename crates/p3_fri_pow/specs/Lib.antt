@@ -2,6 +2,5 @@ pub mod Steps
 pub mod Counts
 pub mod Fits
 pub mod Labels
-pub mod Phases
 pub mod Pow
 pub mod Reached

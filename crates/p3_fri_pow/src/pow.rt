@@ -4,12 +4,10 @@ ghost use Rattle.std.specs.Prelude.{◌≡◌, ◌≢◌, ◌≤◌, ◌↔◌, 
 ghost use Rattle.std.specs.Prelude.{OnOk, OnErr, IsSome, unwrap_or};
 ghost use Rattle.p3_challenger_core.specs.Run.{grind_attempt, Passes};
 ghost use Rattle.p3_challenger_fs.specs.Script.{remaining};
-ghost use Rattle.p3_fri_pow.specs.declared.error.FriProverError.TheVariants.{NoPowWitness};
+ghost use Rattle.p3_fri_folding.specs.declared.error.FriProverError.TheVariants.{NoPowWitness};
 ghost use Rattle.p3_fri_pow.specs.Pow.{IsPowNext, PowPlayed, found_witness, shown_attempt};
 ghost use Rattle.p3_fri_pow.specs.Pow.{NonePasses, IsMissing, IsWrongWitness};
 
-use crate::error::FriProverError;
-use crate::pow_phase::PowPhase;
 use p3_challenger_core::{FieldChallenger, GrindingChallenger};
 use p3_challenger_fs::Script;
 use p3_field_core::Field;

@@ -14,12 +14,12 @@ use Rattle.p3_fri_transcript.specs.Found.{RoundsFound}
 use Rattle.p3_fri_transcript.specs.Replay.{RoundsReplay, rounds_replay}
 use Rattle.p3_fri_transcript.proofs.Joining.{no_rounds, round_joined, found_joined}
 use Rattle.p3_fri_relation.specs.Queries.{rounds_of}
-use Rattle.p3_fri_pow.specs.declared.error.FriProverError.{FriProverError}
-use Rattle.p3_fri_pow.specs.declared.error.FriProverError.TheVariants.{InputHeightTooSmall}
-use Rattle.p3_fri_pow.specs.declared.error.FriProverError.TheVariants.{FinalHeightOverflow}
-use Rattle.p3_fri_pow.specs.declared.error.FriProverError.TheVariants.{OutOfMemory, NoPowWitness}
-use Rattle.p3_fri_pow.specs.declared.error.FriProverError.TheVariants.{PointInEvaluationDomain}
-use Rattle.p3_fri_pow.specs.declared.pow_phase.PowPhase.TheVariants.{Batch, CommitPhase, Query}
+use Rattle.p3_fri_folding.specs.declared.error.FriProverError.{FriProverError}
+use Rattle.p3_fri_folding.specs.declared.error.FriProverError.TheVariants.{InputHeightTooSmall}
+use Rattle.p3_fri_folding.specs.declared.error.FriProverError.TheVariants.{FinalHeightOverflow}
+use Rattle.p3_fri_folding.specs.declared.error.FriProverError.TheVariants.{OutOfMemory, NoPowWitness}
+use Rattle.p3_fri_folding.specs.declared.error.FriProverError.TheVariants.{PointInEvaluationDomain}
+use Rattle.p3_fri_folding.specs.declared.pow_phase.PowPhase.TheVariants.{Batch, CommitPhase, Query}
 use Rattle.p3_fri_prover.specs.Rounds.{CanFold, KeepsWord, IsRound, AreCommitted}
 use Rattle.p3_fri_prover.specs.Rounds.{IsRoundRefused, NoRoundWitness}
 use Rattle.p3_fri_prover.specs.Refusals.{RoundRefusal, RoundsRefusal}

@@ -3,8 +3,8 @@ use Rattle.std.proofs.Common.{◌≡◌, ◌⊎◌, inl, inr, ℕ, List, Option,
 use Rattle.std.specs.Prelude.{All}
 use Rattle.p3_challenger_fs.specs.Turns.{bytes_observed}
 use Rattle.p3_matrix.specs.declared.dense.RowMajorMatrix.{RowMajorMatrix}
-use Rattle.p3_fri_pow.specs.declared.error.FriProverError.{FriProverError}
-use Rattle.p3_fri_pow.specs.declared.error.FriProverError.TheVariants as Why
+use Rattle.p3_fri_folding.specs.declared.error.FriProverError.{FriProverError}
+use Rattle.p3_fri_folding.specs.declared.error.FriProverError.TheVariants as Why
 use Rattle.p3_fri_transcript.specs.Steps.{FriNumbers, fri_stream}
 use Rattle.p3_fri_relation.specs.Setting.{Setting, Parameters}
 use Rattle.p3_fri_prover.specs.Played.{PlayRefusal}

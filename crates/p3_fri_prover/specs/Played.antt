@@ -4,9 +4,9 @@ use Rattle.std.specs.Prelude.{Option, slice_index_or, ⊤}
 use Rattle.algebra.specs.Rounds.{final_polynomial}
 use Rattle.p3_matrix.specs.declared.dense.RowMajorMatrix.{RowMajorMatrix}
 use Rattle.p3_challenger_core.specs.Run.{Moves}
-use Rattle.p3_fri_pow.specs.declared.error.FriProverError.{FriProverError}
-use Rattle.p3_fri_pow.specs.declared.error.FriProverError.TheVariants.{NoPowWitness, OutOfMemory}
-use Rattle.p3_fri_pow.specs.declared.pow_phase.PowPhase.TheVariants.{CommitPhase, Query}
+use Rattle.p3_fri_folding.specs.declared.error.FriProverError.{FriProverError}
+use Rattle.p3_fri_folding.specs.declared.error.FriProverError.TheVariants.{NoPowWitness, OutOfMemory}
+use Rattle.p3_fri_folding.specs.declared.pow_phase.PowPhase.TheVariants.{CommitPhase, Query}
 use Rattle.p3_fri_pow.specs.Pow.{sent_witness, NonePasses}
 use Rattle.p3_fri_transcript.specs.Found.{QueryNotFound}
 use Rattle.p3_fri_transcript.specs.Indices.{AreIndices}

@@ -3,9 +3,9 @@ use Rattle.std.specs.Prelude.{ℕ, ◌<◌, List, length, slice_index, Option, �
 use Rattle.algebra.specs.Field.{FieldOps}
 use Rattle.p3_challenger_core.specs.Run.{Moves}
 use Rattle.p3_matrix.specs.declared.dense.RowMajorMatrix.{RowMajorMatrix}
-use Rattle.p3_fri_pow.specs.declared.error.FriProverError.TheVariants.{NoPowWitness, OutOfMemory}
-use Rattle.p3_fri_pow.specs.declared.pow_phase.PowPhase.TheVariants.{CommitPhase}
-use Rattle.p3_fri_pow.specs.declared.error.FriProverError.{FriProverError}
+use Rattle.p3_fri_folding.specs.declared.error.FriProverError.TheVariants.{NoPowWitness, OutOfMemory}
+use Rattle.p3_fri_folding.specs.declared.pow_phase.PowPhase.TheVariants.{CommitPhase}
+use Rattle.p3_fri_folding.specs.declared.error.FriProverError.{FriProverError}
 use Rattle.p3_fri_relation.specs.TallEnough.{HeightRefusal}
 use Rattle.p3_fri_relation.specs.Setting.{Parameters}
 use Rattle.p3_fri_prover.specs.Rounds.{IsRoundRefused, NoRoundWitness}

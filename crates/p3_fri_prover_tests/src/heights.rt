@@ -1,7 +1,6 @@
 //! Which heights a prover takes.
 
-use p3_fri_folding::FriParameters;
-use p3_fri_pow::FriProverError;
+use p3_fri_folding::{FriParameters, FriProverError};
 use p3_fri_prover::prover::validate_input_height;
 use std::process::Abort;
 

@@ -6,8 +6,7 @@ ghost use Rattle.p3_fri_prover.specs.Inputs.{AreInputs};
 
 use p3_challenger::{CanObserve, FieldChallenger, GrindingChallenger, Sha256Challenger};
 use p3_field::{BabyBear, BabyBear4, ExtensionField, Field, TwoAdicMultiplicativeCoset};
-use p3_fri_folding::{FriParameters, TwoAdicFriFolding, WithExtraBits};
-use p3_fri_pow::FriProverError;
+use p3_fri_folding::{FriParameters, FriProverError, TwoAdicFriFolding, WithExtraBits};
 use p3_fri_prover::prover::{ProverDataWithOpeningPoints, prove_fri};
 use p3_fri_relation::error::FriError;
 use p3_fri_relation::proof::{BatchMultiOpening, CommitPhaseMultiStep, FriProof};

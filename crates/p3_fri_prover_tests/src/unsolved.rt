@@ -1,7 +1,7 @@
 //! Proofs of work without a solution.
 
 use crate::proofs::{committed_column, plain_parameters, prove, word};
-use p3_fri_pow::{FriProverError, PowPhase};
+use p3_fri_folding::{FriProverError, PowPhase};
 use p3_test_challengers::AlwaysOne;
 use std::alloc::Global;
 use std::test::Fail;

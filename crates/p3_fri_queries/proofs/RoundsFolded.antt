@@ -1,9 +1,6 @@
 -- What is folded is verified: for a caller of one call after the other.
 use Rattle.std.proofs.Common.{◌≡◌, ℕ, zero, suc, ◌+◌, ◌<◌, List, [], ◌∷◌, subst, arith}
 use Rattle.std.specs.List.{AllZip, range_with_len}
-use Rattle.algebra.specs.Field.{FieldOps}
-use Rattle.p3_fri_relation.specs.Setting.{Opening}
-use Rattle.p3_fri_relation.specs.FoldedQuery.{QueryInput}
 
 -- what holds of each number below `a + n` and the element at its place
 all_mapped : {A : Type 0} (P Q : ℕ → A → Type 0) (a n : ℕ) (xs : List A)
@@ -19,6 +16,3 @@ all_mapped {A} P Q a (suc n) (x ∷ xs) h all =
           let there : a + suc k ≡ a + 1 + k = omega arith in
           subst (λ (i : ℕ). P i y → Q i y) there (h (suc k) y (omega (arith, l)))) all.1,
     )
-
-module _ {E Com Path : Type 0} (opens : Opening E Com Path) (log_arities positions : List ℕ) (h : ℕ)
-    (F : FieldOps E) (fold : ℕ → ℕ → ℕ → E → List E → E) (n : ℕ) (q : ℕ → QueryInput E) where

@@ -3,8 +3,8 @@ use Rattle.std.proofs.Common.{◌≡◌, ◌≢◌, ◌⊎◌, inl, inr, ℕ, Li
 use Rattle.std.proofs.Common.{◌++◌, length, take, drop, refl, sym, ap, ◌∙◌, subst, arith}
 use Rattle.std.specs.Prelude.{◌↔◌, IsOk, IfErr}
 use Rattle.std.proofs.lemmas.List.{take_all, drop_all, append-nil}
-use Rattle.p3_fri_pow.specs.declared.pow_phase.PowPhase.{PowPhase}
-use Rattle.p3_fri_pow.specs.declared.pow_phase.PowPhase.TheVariants.{Batch}
+use Rattle.p3_fri_folding.specs.declared.pow_phase.PowPhase.{PowPhase}
+use Rattle.p3_fri_folding.specs.declared.pow_phase.PowPhase.TheVariants.{Batch}
 use Rattle.p3_fri_relation.specs.declared.error.FriError.{FriError}
 use Rattle.p3_fri_relation.specs.declared.error.FriError as refusal
 use refusal.TheVariants.{HidingRandomOpeningRoundCountMismatch}

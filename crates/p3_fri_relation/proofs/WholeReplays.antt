@@ -11,7 +11,7 @@ use Rattle.p3_fri_pcs_transcript.specs.Counts.{counts_of_claims, claimed_at_poin
 use Rattle.p3_fri_pcs_transcript.specs.Counts.{claimed_in_matrices, all_claimed}
 use Rattle.p3_fri_pcs_transcript.specs.Counts.{claimed_lists_at_points, claimed_lists_in_matrices}
 use Rattle.p3_fri_pcs_transcript.specs.Counts.{lists_of_claims}
-use Rattle.p3_fri_relation.specs.Setting.{Setting, Parameters, CommitmentClaim, Proof}
+use Rattle.p3_fri_relation.specs.Setting.{Parameters}
 use Rattle.p3_fri_relation.specs.Acceptance.{pcs_numbers, values_claimed}
 use Rattle.p3_fri_relation.specs.Views.{point_claim, matrix_claim, claims_of}
 
@@ -58,7 +58,3 @@ module _ {E InCom Domain : Type 0} (log_size : Domain → ℕ) where
       ∙ ap (λ first. first ++ values_claimed (claims_of log_size claims)) (values-in_matrices log_size c.matrices.items)
       ∙ ap (λ rest. joined (claimed_lists_in_matrices c.matrices.items) ++ rest) (values-of_claims claims)
       ∙ sym (flat_map-append (λ part. part) (claimed_lists_in_matrices c.matrices.items) (lists_of_claims claims))
-
-module _ {F E C Com Path InCom InPath : Type 0} (s : Setting F E C Com Path InCom InPath)
-    (p : Parameters) (claims : List (CommitmentClaim E InCom)) (proof : Proof F E Com Path InPath)
-    (c : C) where

@@ -1,5 +1,5 @@
 -- Which refusal a failure along a transcript becomes.
-use Rattle.p3_fri_pow.specs.declared.pow_phase.PowPhase.TheVariants.{Batch}
+use Rattle.p3_fri_folding.specs.declared.pow_phase.PowPhase.TheVariants.{Batch}
 use Rattle.p3_fri_transcript.specs.declared.transcript.failure.TranscriptFailure as test_failure
 use test_failure.TheVariants.{PowWitness}
 use test_failure.TheVariants.{MissingPowWitness}

@@ -4,8 +4,8 @@ use Rattle.std.specs.Prelude.{IsTrue, List, [], ◌∷◌, map, length, sum, ⊤
 use Rattle.std.specs.Prelude.{slice_index, slice_index_or}
 use Rattle.std.specs.List.{Any, zip, range_with_len}
 use Rattle.p3_fri_pow.specs.Counts.{IsWrongCount}
-use Rattle.p3_fri_pow.specs.declared.pow_phase.PowPhase.{PowPhase}
-use Rattle.p3_fri_pow.specs.declared.pow_phase.PowPhase.TheVariants.{Batch, CommitPhase, Query}
+use Rattle.p3_fri_folding.specs.declared.pow_phase.PowPhase.{PowPhase}
+use Rattle.p3_fri_folding.specs.declared.pow_phase.PowPhase.TheVariants.{Batch, CommitPhase, Query}
 use Rattle.p3_fri_relation.specs.declared.error.FriError.{FriError}
 use Rattle.p3_fri_relation.specs.declared.error.FriError as refusal
 use refusal.TheVariants.{CommitPhaseOpeningsCountMismatch, CommitRoundCountMismatch}

@@ -4,8 +4,8 @@ ghost use Rattle.std.specs.Prelude.{◌≡◌};
 ghost use Rattle.p3_fri_relation.specs.Failures.{of_transcript, of_pcs_transcript};
 ghost use Rattle.p3_fri_relation.specs.declared.error.FriError.TheVariants.{OutOfMemory};
 
+use p3_fri_folding::PowPhase;
 use p3_fri_pcs_transcript::pcs_transcript::PcsTranscriptFailure;
-use p3_fri_pow::PowPhase;
 use p3_fri_transcript::transcript::TranscriptFailure;
 use std::alloc::AllocError;
 use std::error::Error;

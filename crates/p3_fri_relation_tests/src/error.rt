@@ -1,7 +1,7 @@
 //! Which refusal a failure becomes where `?` converts it, and how refusals print.
 
+use p3_fri_folding::PowPhase;
 use p3_fri_pcs_transcript::pcs_transcript::PcsTranscriptFailure;
-use p3_fri_pow::PowPhase;
 use p3_fri_relation::error::FriError;
 use p3_fri_transcript::transcript::TranscriptFailure;
 use p3_mmcs::Sha256MmcsError;

@@ -2,7 +2,7 @@
 use Rattle.std.specs.Prelude.{◌≡◌, ◌⊎◌, ℕ, IsTrue, List, length, Option, ⊤}
 use Rattle.algebra.specs.Field.{FieldOps}
 use Rattle.p3_challenger_core.specs.Run.{Moves}
-use Rattle.p3_fri_pow.specs.declared.pow_phase.PowPhase.TheVariants.{CommitPhase, Query}
+use Rattle.p3_fri_folding.specs.declared.pow_phase.PowPhase.TheVariants.{CommitPhase, Query}
 use Rattle.p3_fri_pow.specs.Counts.{IsWrongCount}
 use Rattle.p3_fri_pow.specs.Pow.{IsMissing, IsWrongWitness}
 use Rattle.p3_fri_transcript.specs.declared.transcript.failure.TranscriptFailure.{TranscriptFailure}

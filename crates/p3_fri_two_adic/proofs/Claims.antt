@@ -1,7 +1,7 @@
 -- Refusals that leave a verifier's challenger.
 use Rattle.std.proofs.Common.{◌≡◌, Result, Ok, Err, refl}
 use Rattle.std.specs.Prelude.{IfErr}
-use Rattle.p3_fri_pow.specs.declared.pow_phase.PowPhase.{PowPhase}
+use Rattle.p3_fri_folding.specs.declared.pow_phase.PowPhase.{PowPhase}
 use Rattle.p3_fri_relation.specs.declared.error.FriError.{FriError}
 use Rattle.p3_fri_relation.specs.declared.error.FriError.TheVariants.{NonCanonicalPowWitness}
 use Rattle.p3_fri_opening_verifier.specs.Accepted.{LeavesVerifier}

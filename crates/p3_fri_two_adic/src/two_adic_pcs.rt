@@ -21,13 +21,12 @@ use p3_field_core::{
     PackableExtension, PackableField, TwoAdicField, TwoAdicMultiplicativeCoset, log2_strict_usize,
 };
 use p3_fri_commit::commit_evaluations;
-use p3_fri_folding::FriParameters;
 pub use p3_fri_folding::TwoAdicFriFolding;
+use p3_fri_folding::{FriParameters, FriProverError};
 pub use p3_fri_opening_prover::ProverDataWithOpeningPoints;
 use p3_fri_opening_prover::open_requests;
 pub use p3_fri_opening_verifier::setting::TwoAdicFriFoldingForMmcs;
 use p3_fri_opening_verifier::verify_opening;
-use p3_fri_pow::FriProverError;
 use p3_fri_relation::error::FriError;
 use p3_fri_relation::proof::{BatchMultiOpening, FriProof};
 use p3_matrix::RowMajorMatrix;

@@ -6,8 +6,7 @@ ghost use Rattle.p3_fri_two_adic.specs.Ranges.{InProverRange, InVerifierRange};
 
 use p3_dft::Radix2Dit;
 use p3_field::{BabyBear, BabyBear4, ExtensionField, Field, TwoAdicMultiplicativeCoset};
-use p3_fri_folding::FriParameters;
-use p3_fri_pow::PowPhase;
+use p3_fri_folding::{FriParameters, PowPhase};
 use p3_fri_relation::proof::{BatchMultiOpening, FriProof};
 use p3_fri_two_adic::TwoAdicFriPcs;
 use p3_mmcs::{CommitmentOpening, Mmcs, Sha256Mmcs};

@@ -6,7 +6,7 @@ use crate::opened::{Opened, open_well};
 use crate::replayed::passes;
 use crate::scheme::{PLAIN, Proof, Setting};
 use p3_field::{BabyBear, Field};
-use p3_fri_pow::PowPhase;
+use p3_fri_folding::PowPhase;
 use std::alloc::Global;
 use std::process::Abort;
 use std::test::Fail;

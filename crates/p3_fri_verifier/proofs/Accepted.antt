@@ -6,8 +6,8 @@ use Rattle.p3_matrix.specs.declared.Dimensions.{Dimensions}
 use Rattle.p3_mmcs.specs.Batch.{HasShape}
 use Rattle.p3_mmcs.proofs.Shapes.{sets_count}
 use Rattle.p3_fri_pow.specs.Counts.{IsWrongCount}
-use Rattle.p3_fri_pow.specs.declared.pow_phase.PowPhase.{PowPhase}
-use Rattle.p3_fri_pow.specs.declared.pow_phase.PowPhase.TheVariants.{CommitPhase, Query}
+use Rattle.p3_fri_folding.specs.declared.pow_phase.PowPhase.{PowPhase}
+use Rattle.p3_fri_folding.specs.declared.pow_phase.PowPhase.TheVariants.{CommitPhase, Query}
 use Rattle.p3_fri_transcript.specs.Steps.{FriNumbers}
 use Rattle.p3_fri_transcript.specs.Replay.{FriReplay}
 use Rattle.p3_fri_relation.specs.declared.error.FriError.{FriError}

@@ -4,7 +4,7 @@ use Rattle.std.specs.Prelude.{IsTrue, IfErr, Some, None, Result}
 use Rattle.p3_challenger_core.specs.Run.{Moves, Passes}
 use Rattle.p3_fri_pow.specs.Counts.{IsWrongCount}
 use Rattle.p3_fri_pow.specs.Pow.{IsWrongWitness}
-use Rattle.p3_fri_pow.specs.declared.pow_phase.PowPhase.TheVariants.{Batch, CommitPhase, Query}
+use Rattle.p3_fri_folding.specs.declared.pow_phase.PowPhase.TheVariants.{Batch, CommitPhase, Query}
 use Rattle.p3_fri_transcript.specs.declared.transcript.play.Refusal.{Refusal}
 use Rattle.p3_fri_transcript.specs.declared.transcript.play.Refusal.TheVariants.{Seed, Step}
 use Rattle.p3_fri_transcript.specs.declared.transcript.failure.TranscriptFailure.{TranscriptFailure}

@@ -1,6 +1,6 @@
 -- What can be told before the transcript of a test begins.
 use Rattle.std.specs.Prelude.{◌≡◌, ◌⊎◌, ℕ, List, length}
-use Rattle.p3_fri_pow.specs.declared.pow_phase.PowPhase.{PowPhase}
+use Rattle.p3_fri_folding.specs.declared.pow_phase.PowPhase.{PowPhase}
 use Rattle.p3_fri_relation.specs.declared.error.FriError.{FriError}
 use Rattle.p3_fri_relation.specs.declared.error.FriError.TheVariants.{NonCanonicalPowWitness}
 use Rattle.p3_fri_relation.specs.Setting.{Parameters, CommitmentClaim, Proof}

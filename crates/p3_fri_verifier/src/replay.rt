@@ -3,7 +3,7 @@
 ghost use Rattle.std.specs.Prelude.{◌≡◌, ◌≢◌, ◌≤◌, ◌↔◌, ◌⊎◌, true, false, Some, length};
 ghost use Rattle.std.specs.Prelude.{Err, IsOk, IfOk, IfErr, IsTrue};
 ghost use Rattle.p3_challenger_fs.specs.Turns.{bytes_observed};
-ghost use Rattle.p3_fri_pow.specs.declared.pow_phase.PowPhase.TheVariants.{CommitPhase, Query};
+ghost use Rattle.p3_fri_folding.specs.declared.pow_phase.PowPhase.TheVariants.{CommitPhase, Query};
 ghost use Rattle.p3_fri_transcript.specs.declared.transcript.play.Refusal.TheVariants.{Seed, Step};
 ghost use Rattle.p3_fri_transcript.specs.Indices.{AreIndices};
 ghost use Rattle.p3_fri_transcript.specs.Replay.{rounds_replay, shown_queries_replay, fri_replay};

@@ -6,8 +6,8 @@ use crate::matrices::{E, POINTS, SHORT_PI};
 use crate::openings::shapes::{Counts, have_counts};
 use crate::scheme::{Data, Proof, SMALL, Scheme, Setting};
 use p3_challenger::Sha256Challenger;
+use p3_fri_folding::FriProverError;
 use p3_fri_masks::HidingFriProverError;
-use p3_fri_pow::FriProverError;
 use std::alloc::Global;
 use std::test::Fail;
 

@@ -20,7 +20,7 @@ use crate::pcs_transcript::state::{PcsProverTranscript, PcsVerifierTranscript};
 use crate::pcs_transcript::steps::{play_steps, replay_steps};
 use p3_challenger_core::{CanObserve, FieldChallenger, GrindingChallenger, Plays};
 use p3_field_core::{ExtensionField, Field};
-use p3_fri_pow::FriProverError;
+use p3_fri_folding::FriProverError;
 use p3_fri_transcript::transcript::{FriMessages, FriShape, PlayedFri, Refusal, TranscriptFailure};
 use p3_mmcs::{CommitmentWithOpeningPoints, OpenedValues};
 use std::alloc::{AllocError, Global};

@@ -5,8 +5,8 @@ ghost use Rattle.std.specs.Prelude.{length, map, unwrap_or};
 ghost use Rattle.std.specs.List.{flat_map};
 ghost use Rattle.p3_challenger_core.specs.Run.{observed_all};
 ghost use Rattle.p3_challenger_fs.specs.Script.{remaining};
-ghost use Rattle.p3_fri_pow.specs.declared.error.FriProverError.TheVariants.{NoPowWitness};
-ghost use Rattle.p3_fri_pow.specs.declared.pow_phase.PowPhase.TheVariants.{Batch};
+ghost use Rattle.p3_fri_folding.specs.declared.error.FriProverError.TheVariants.{NoPowWitness};
+ghost use Rattle.p3_fri_folding.specs.declared.pow_phase.PowPhase.TheVariants.{Batch};
 ghost use Rattle.p3_fri_pow.specs.Pow.{found_witness, NonePasses};
 ghost use Rattle.p3_fri_pcs_transcript.specs.Absorption.{ClaimsThen, Absorbs};
 ghost use Rattle.p3_fri_pcs_transcript.specs.Counts.{counts_of_values, lists_of_values, all_values};
@@ -19,8 +19,8 @@ use crate::pcs_transcript::state::PcsProverTranscript;
 use p3_challenger_core::{FieldChallenger, GrindingChallenger, Plays};
 use p3_challenger_fs::Script;
 use p3_field_core::{ExtensionField, Field};
+use p3_fri_folding::{FriProverError, PowPhase};
 use p3_fri_pow::pow::grind;
-use p3_fri_pow::{FriProverError, PowPhase};
 use p3_mmcs::OpenedValues;
 
 #[tactic(auto, unfolding(crate::specs::Shapes::pcs_shape))]

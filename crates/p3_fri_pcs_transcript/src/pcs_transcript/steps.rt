@@ -24,7 +24,7 @@ use crate::pcs_transcript::play::{PcsFailure, PlayedPcs, ReplayedPcs};
 use crate::pcs_transcript::state::{PcsProverTranscript, PcsVerifierTranscript};
 use p3_challenger_core::{CanObserve, FieldChallenger, GrindingChallenger, Plays};
 use p3_field_core::{ExtensionField, Field};
-use p3_fri_pow::FriProverError;
+use p3_fri_folding::FriProverError;
 use p3_fri_transcript::transcript::{
     FriMessages, FriShape, PlayedFri, ReplayedFri, TranscriptFailure, play_fri, replay_fri,
 };

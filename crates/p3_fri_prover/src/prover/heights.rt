@@ -9,8 +9,7 @@ ghost use Rattle.p3_fri_relation.specs.TallEnough.{IsTallEnough, HeightRefusal};
 ghost use Rattle.p3_fri_prover.specs.Refusals.{HeightsRefusal};
 
 use p3_field_core::log2_strict_usize;
-use p3_fri_folding::FriParameters;
-use p3_fri_pow::FriProverError;
+use p3_fri_folding::{FriParameters, FriProverError};
 use std::alloc::{AllocError, Global};
 
 /// Whether a word of this log height can be proved: a final polynomial that is not constant is sent

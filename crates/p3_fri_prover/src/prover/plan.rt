@@ -4,7 +4,7 @@ ghost use Rattle.std.specs.Prelude.{◌≡◌, ◌+◌, ◌^◌, ◌<◌, ◌⊎
 ghost use Rattle.algebra.specs.Nested.{lists};
 ghost use Rattle.p3_challenger_fs.specs.Pattern.{turn_of};
 ghost use Rattle.p3_challenger_fs.specs.Separator.{seed_bytes, seed_turns};
-ghost use Rattle.p3_fri_pow.specs.declared.error.FriProverError.TheVariants.{OutOfMemory};
+ghost use Rattle.p3_fri_folding.specs.declared.error.FriProverError.TheVariants.{OutOfMemory};
 ghost use Rattle.p3_fri_transcript.specs.Shapes.{fri_shape};
 ghost use Rattle.p3_fri_transcript.specs.Steps.{fri_steps, fri_stream};
 ghost use Rattle.p3_fri_relation.specs.Views.{parameters_of};
@@ -17,8 +17,7 @@ ghost use Rattle.p3_fri_prover.specs.Refusals.{HeightsRefusal};
 use crate::prover::heights::{check_heights, log_heights};
 use p3_challenger_fs::Seed;
 use p3_field_core::{ExtensionField, Field};
-use p3_fri_folding::FriParameters;
-use p3_fri_pow::FriProverError;
+use p3_fri_folding::{FriParameters, FriProverError};
 use p3_fri_transcript::transcript::FriShape;
 use std::alloc::Global;
 

@@ -5,7 +5,7 @@ ghost use Rattle.p3_fri_transcript.specs.declared.transcript.failure.TranscriptF
   OutOfMemory,
 };
 
-use p3_fri_pow::PowPhase;
+use p3_fri_folding::PowPhase;
 use std::alloc::AllocError;
 use thiserror::Error;
 

@@ -17,7 +17,7 @@ use crate::transcript::state::{ProverTranscript, VerifierTranscript};
 use crate::transcript::steps::{play_steps, replay_steps};
 use p3_challenger_core::{CanObserve, FieldChallenger, GrindingChallenger, Plays};
 use p3_field_core::{ExtensionField, Field};
-use p3_fri_pow::FriProverError;
+use p3_fri_folding::FriProverError;
 use std::alloc::{AllocError, Global};
 
 /// Why a whole transcript is refused.

@@ -2,9 +2,9 @@
 
 ghost use Rattle.std.specs.Prelude.{◌≡◌, ◌≢◌, ◌≤◌, ◌⊎◌, [], ◌∷◌, true, Err};
 ghost use Rattle.std.specs.Prelude.{IfOk, IfErr, OnOk, OnErr, IsSome, length, unwrap_or};
-ghost use Rattle.p3_fri_pow.specs.declared.error.FriProverError.TheVariants.{NoPowWitness};
-ghost use Rattle.p3_fri_pow.specs.declared.error.FriProverError.TheVariants.{OutOfMemory};
-ghost use Rattle.p3_fri_pow.specs.declared.pow_phase.PowPhase.TheVariants.{CommitPhase, Query};
+ghost use Rattle.p3_fri_folding.specs.declared.error.FriProverError.TheVariants.{NoPowWitness};
+ghost use Rattle.p3_fri_folding.specs.declared.error.FriProverError.TheVariants.{OutOfMemory};
+ghost use Rattle.p3_fri_folding.specs.declared.pow_phase.PowPhase.TheVariants.{CommitPhase, Query};
 ghost use Rattle.p3_fri_transcript.specs.Indices.{AreIndices};
 ghost use Rattle.p3_fri_pow.specs.Pow.{found_witness, NonePasses};
 ghost use Rattle.p3_fri_pow.specs.Reached.{Reaches};
@@ -15,8 +15,8 @@ ghost use Rattle.p3_fri_transcript.specs.Views.{state_of, left_of, shape_of, Kep
 use crate::transcript::state::ProverTranscript;
 use p3_challenger_core::{CanObserve, FieldChallenger, GrindingChallenger, Plays};
 use p3_field_core::{ExtensionField, Field};
+use p3_fri_folding::{FriProverError, PowPhase};
 use p3_fri_pow::pow::grind;
-use p3_fri_pow::{FriProverError, PowPhase};
 use std::alloc::Global;
 
 #[tactic(auto, unfolding(crate::specs::Shapes::fri_shape))]

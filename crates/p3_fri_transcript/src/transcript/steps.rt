@@ -16,7 +16,7 @@ use crate::transcript::state::{ProverTranscript, VerifierTranscript};
 use crate::transcript::verifier::push;
 use p3_challenger_core::{CanObserve, FieldChallenger, GrindingChallenger, Plays};
 use p3_field_core::{ExtensionField, Field};
-use p3_fri_pow::FriProverError;
+use p3_fri_folding::FriProverError;
 use std::alloc::Global;
 
 /// What a prover draws and finds along the rounds.

@@ -2,7 +2,7 @@
 
 ghost use Rattle.std.specs.Prelude.{◌≡◌, ◌≢◌, ◌≤◌, ◌↔◌, [], ◌∷◌, ◌++◌, true, Some, Err};
 ghost use Rattle.std.specs.Prelude.{IsTrue, IsOk, IfOk, IfErr, OnOk, length};
-ghost use Rattle.p3_fri_pow.specs.declared.pow_phase.PowPhase.TheVariants.{CommitPhase, Query};
+ghost use Rattle.p3_fri_folding.specs.declared.pow_phase.PowPhase.TheVariants.{CommitPhase, Query};
 ghost use Rattle.p3_fri_transcript.specs.Indices.{AreIndices};
 ghost use Rattle.p3_fri_pow.specs.Reached.{Reaches};
 ghost use Rattle.p3_fri_transcript.specs.Failures.{RoundsPass, RoundsFailure};
@@ -15,7 +15,7 @@ use crate::transcript::failure::TranscriptFailure;
 use crate::transcript::state::VerifierTranscript;
 use p3_challenger_core::{CanObserve, FieldChallenger, GrindingChallenger, Plays};
 use p3_field_core::{ExtensionField, Field};
-use p3_fri_pow::PowPhase;
+use p3_fri_folding::PowPhase;
 use p3_fri_pow::pow::{PowFailure, check};
 use std::alloc::{AllocError, Global};
 

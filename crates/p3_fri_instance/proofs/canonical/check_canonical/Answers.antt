@@ -1,7 +1,7 @@
 use Rattle.std.proofs.Common.{◌≡◌, ◌≢◌, ◌∙◌, sym, refl, subst}
 use Rattle.std.specs.List.{Any}
 use Rattle.std.proofs.lemmas.List.Elements.{All-same}
-use Rattle.p3_fri_pow.specs.declared.pow_phase.PowPhase.TheVariants.{CommitPhase}
+use Rattle.p3_fri_folding.specs.declared.pow_phase.PowPhase.TheVariants.{CommitPhase}
 use Rattle.p3_fri_instance.proofs.canonical.check_canonical.Goals as goal
 
 pub returns-then-not-are_canonical-clause-exact : goal.returns-then-not-are_canonical-clause-exact

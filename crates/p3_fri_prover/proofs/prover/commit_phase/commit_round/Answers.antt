@@ -1,7 +1,7 @@
 use Rattle.std.proofs.Common.{◌≡◌, ◌^◌, ◌+◌, ◌≤◌, length, Some, sym, ap, ◌∙◌, subst, get_or, rules, unwrap_or}
 use Rattle.p3_matrix.specs.declared.dense.RowMajorMatrix.{RowMajorMatrix}
 use Rattle.p3_challenger_core.specs.Run.{moves}
-use Rattle.p3_fri_pow.specs.declared.error.FriProverError.{FriProverError}
+use Rattle.p3_fri_folding.specs.declared.error.FriProverError.{FriProverError}
 use Rattle.p3_fri_pow.proofs.Found.{sent_is}
 use Rattle.p3_fri_transcript.specs.Replay.{round_replay}
 use Rattle.p3_fri_transcript.specs.Views.{state_of, shape_of}

@@ -1,7 +1,7 @@
 use Rattle.std.proofs.Common.{◌≡◌, Some, sym, ap, ◌∙◌, rules, subst}
 use Rattle.p3_challenger_core.specs.Run.{Moves, moves}
 use Rattle.p3_challenger_fs.specs.Turns.{bytes_observed}
-use Rattle.p3_fri_pow.specs.declared.error.FriProverError.{FriProverError}
+use Rattle.p3_fri_folding.specs.declared.error.FriProverError.{FriProverError}
 use Rattle.p3_fri_pow.proofs.Reached.{reaches_same}
 use Rattle.p3_fri_transcript.specs.Found.{PlayRefused}
 use Rattle.p3_fri_transcript.specs.Shapes.{fri_shape}

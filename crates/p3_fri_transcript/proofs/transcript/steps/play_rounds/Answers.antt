@@ -2,7 +2,7 @@ use Rattle.std.proofs.Common.{◌≡◌, ◌+◌, ◌-◌, length, unwrap_or, So
 use Rattle.std.proofs.Common.{rules, subst}
 use Rattle.std.proofs.lemmas.List.{length-append, take_all}
 use Rattle.p3_challenger_core.specs.Run.{moves}
-use Rattle.p3_fri_pow.specs.declared.error.FriProverError.{FriProverError}
+use Rattle.p3_fri_folding.specs.declared.error.FriProverError.{FriProverError}
 use Rattle.p3_fri_pow.specs.Pow.{sent_witness}
 use Rattle.p3_fri_pow.proofs.Found.{sent_is}
 use Rattle.p3_fri_pow.proofs.Reached.{reaches_itself, reaches_join}

@@ -1,7 +1,7 @@
 //! Why a prover refuses.
 
 ghost use Rattle.std.specs.Prelude.{◌≡◌};
-ghost use Rattle.p3_fri_pow.specs.declared.error.FriProverError.TheVariants.{OutOfMemory};
+ghost use Rattle.p3_fri_folding.specs.declared.error.FriProverError.TheVariants.{OutOfMemory};
 
 use crate::pow_phase::PowPhase;
 use std::alloc::AllocError;

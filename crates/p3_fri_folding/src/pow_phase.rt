@@ -16,7 +16,7 @@ pub enum PowPhase {
 }
 
 impl fmt::Display for PowPhase {
-    ghost use Rattle.p3_fri_pow.specs.Phases.{phase_name};
+    ghost use Rattle.p3_fri_folding.specs.Phases.{phase_name};
 
     ghost output = { λ phase. Some (phase_name phase) };
 
