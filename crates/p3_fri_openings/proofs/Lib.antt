@@ -10,5 +10,4 @@ pub mod Pushed
 pub mod AskedPoints
 pub mod Attained
 pub mod RoundTables
-pub mod RequestRounds
 pub mod Example

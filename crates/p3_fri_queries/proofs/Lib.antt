@@ -4,5 +4,4 @@ pub mod Queries
 pub mod Turns
 pub mod Heights
 pub mod Openings
-pub mod RoundsFolded
 pub mod Refusals
