@@ -5,7 +5,7 @@ use Rattle.algebra.specs.Field.{multiple, pow}
 use Rattle.algebra.specs.Polynomial.{val}
 use Rattle.p3_field.specs.BabyBear.{baby_bear, root, element}
 use Rattle.p3_field.specs.baby_bear.BabyBear.{BabyBear}
-use Rattle.p3_fri_commit.specs.Extension.{polynomial_on}
+use Rattle.p3_fri_extensions.specs.Extension.{polynomial_on}
 use Rattle.std.specs.Fmt.{decimal}
 use Rattle.fri_commands.specs.Texts.{parsed_number, parsed_list}
 use Rattle.fri_commands.specs.Steps.{or_fault, unless, ◌>>=◌, exact_log2, elements}

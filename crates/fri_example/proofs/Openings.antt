@@ -14,7 +14,7 @@ use Rattle.p3_pcs.specs.Claims.{Claim, zip_with, matrix_claims}
 use Rattle.p3_pcs.specs.Requests.{Held, Request, honest_values, honest_claims}
 use Rattle.p3_fri_relation.specs.Setting.{Fields}
 use Rattle.p3_fri_openings.proofs.Log2.{log2_is}
-use Rattle.p3_fri_commit.specs.Extension.{polynomial_on}
+use Rattle.p3_fri_extensions.specs.Extension.{polynomial_on}
 use Rattle.p3_fri_two_adic.specs.Held.{Extends}
 use Rattle.fri_example.specs.Opened.{single_claim}
 

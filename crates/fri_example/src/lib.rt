@@ -9,7 +9,7 @@ ghost use Rattle.std.specs.List.{AllZip};
 ghost use Rattle.algebra.specs.Polynomial.{val};
 ghost use Rattle.p3_challenger.specs.Sha256.{start};
 ghost use Rattle.p3_field.specs.BabyBear.{baby_bear, root, element};
-ghost use Rattle.p3_fri_commit.specs.Extension.{polynomial_on};
+ghost use Rattle.p3_fri_extensions.specs.Extension.{polynomial_on};
 ghost use Rattle.p3_fri_relation.specs.Views.{parameters_of, proof_of};
 ghost use Rattle.p3_pcs.specs.Claims.{opened_values};
 ghost use Rattle.p3_pcs.specs.Requests.{honest_values, honest_claims};

@@ -10,7 +10,7 @@ use Rattle.p3_matrix.specs.declared.dense.RowMajorMatrix.{RowMajorMatrix}
 use Rattle.p3_matrix.specs.Matrix.{rows, matrix_width}
 use Rattle.p3_matrix.specs.Rows.{rows_of}
 use Rattle.p3_pcs.specs.Requests.{Held}
-use Rattle.p3_fri_commit.specs.Extension.{polynomial_on}
+use Rattle.p3_fri_extensions.specs.Extension.{polynomial_on}
 use Rattle.p3_fri_two_adic.specs.Chunks.{polynomials_on}
 use Rattle.fri_requests.specs.declared.records.Matrix.{Matrix}
 use Rattle.fri_statement.specs.Numbers.{canonical_number}

@@ -5,7 +5,7 @@ ghost use Rattle.std.specs.Prelude.{[], length, map, vec_len};
 ghost use Rattle.algebra.specs.Nested.{lists};
 ghost use Rattle.p3_matrix.specs.Matrix.{rows, matrix_width};
 ghost use Rattle.p3_matrix.specs.Rows.{rows_of};
-ghost use Rattle.p3_fri_commit.specs.Extension.{FitsDomain};
+ghost use Rattle.p3_fri_extensions.specs.Extension.{FitsDomain};
 ghost use Rattle.p3_fri_two_adic.specs.Chunks.{polynomials_on};
 ghost use Rattle.fri_requests.specs.Commitments.{domain_of};
 ghost use Rattle.fri_requests.specs.Failures.{IfMalformed};

@@ -33,7 +33,7 @@ use crate::statement::{batches_stated, bound_challenger};
 use crate::verification::next_drawn;
 use p3_challenger_sha256::Sha256Challenger;
 use p3_field::BabyBear4;
-use p3_fri_openable::are_openable;
+use p3_fri_openings::are_openable;
 use p3_pcs::{KnownCommitment, OpeningRequest, Pcs, claims_of};
 use std::alloc::{AllocError, Global};
 

@@ -2,5 +2,4 @@
 //! the domains of a quotient's chunks are disjoint.
 
 pub use p3_fri_hiding::{HidingFriPcs, HidingFriPcsProverData};
-pub use p3_fri_masks::HidingFriProverError;
-pub use p3_fri_quotient_masks::are_disjoint;
+pub use p3_fri_masks::{HidingFriProverError, are_disjoint};

@@ -21,7 +21,7 @@ pub use p3_fri_core::{
     config, fold_lanes, fold_schedule, folding, from_plain, is_strictly_falling, lanes, laws,
     pcs_transcript, pow_phase, proof, strategy, to_plain, transcript,
 };
-pub use p3_fri_openable::are_openable;
+pub use p3_fri_openings::are_openable;
 pub use p3_fri_two_adic::two_adic_pcs;
 pub use p3_fri_two_adic::two_adic_pcs::{
     CommitmentWithOpeningPoints, ProverDataWithOpeningPoints, TwoAdicFriFoldingForMmcs,

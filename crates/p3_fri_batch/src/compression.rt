@@ -6,7 +6,7 @@ ghost use Rattle.algebra.specs.Polynomial.{val};
 ghost use Rattle.p3_matrix.specs.Matrix.{rows, matrix_width};
 
 use p3_field_core::{ExtensionField, Field};
-use p3_fri_ladder::{Ladder, combine_row};
+use p3_fri_relation::{Ladder, combine_row};
 use p3_matrix::RowMajorMatrix;
 use std::alloc::{AllocError, Global};
 

@@ -19,7 +19,7 @@ use crate::opened::{
 };
 use crate::points::add_matrix;
 use p3_field_core::{ExtensionField, Field, TwoAdicField};
-use p3_fri_ladder::Ladder;
+use p3_fri_relation::Ladder;
 use p3_fri_openings::{OpeningRound, PointDenominators};
 use p3_fri_relation::setting::ChallengeField;
 use std::alloc::{AllocError, Global};

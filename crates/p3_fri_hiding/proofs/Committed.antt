@@ -11,17 +11,17 @@ use Rattle.p3_matrix.specs.Matrix.{rows, matrix_width}
 use Rattle.p3_matrix.specs.Words.{past}
 use Rattle.p3_pcs.specs.Requests.{Held}
 use Rattle.p3_stark_pcs.specs.Evaluations.{HasShape}
-use Rattle.p3_fri_commit.specs.Extension.{FitsDomain, IsLowDegreeExtension}
+use Rattle.p3_fri_extensions.specs.Extension.{FitsDomain, IsLowDegreeExtension}
 use Rattle.p3_fri_relation.specs.Setting.{Fields}
 use Rattle.p3_fri_completeness.specs.Requests.{held_in}
-use Rattle.p3_fri_hiding_prover.specs.Halves.{shown_of}
-use Rattle.p3_fri_hiding_prover.proofs.Committed.{extends}
+use Rattle.p3_fri_hiding_openings.specs.Halves.{shown_of}
+use Rattle.p3_fri_hiding_openings.proofs.Committed.{extends}
 use Rattle.p3_fri_masks.specs.Draws.{IsRandom, AreRandom}
 use Rattle.p3_fri_masks.specs.Masked.{mask_words, IsMasked, AreMasked}
 use Rattle.p3_fri_masks.specs.Padded.{IsPadded}
 use Rattle.p3_fri_masks.proofs.RandomRows.{length-random_rows}
 use Rattle.p3_fri_hiding.specs.Commitments.{AreExtended}
-use Rattle.p3_fri_hiding_prover.specs.Shown.{shown_in}
+use Rattle.p3_fri_hiding_openings.specs.Shown.{shown_in}
 use Rattle.p3_fri_hiding.specs.Trace.{FitsMasked, HasTrace, HasZerosBetween}
 use Rattle.p3_fri_hiding.proofs.Traced.{masked_fits, padded_fits, masked_traced, padded_traced, zeros_traced, shown_columns}
 

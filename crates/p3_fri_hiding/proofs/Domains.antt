@@ -3,7 +3,7 @@ use Rattle.std.proofs.Common.{◌^◌, ℕ, List, map, subst}
 use Rattle.p3_pcs.specs.Requests.{Held, Request, honest_claims, FitDomains}
 use Rattle.p3_fri_relation.specs.Setting.{CommitmentClaim}
 use Rattle.p3_fri_completeness.specs.Requests.{relation_claims}
-use Rattle.p3_fri_hiding_prover.proofs.Sizes.{claims_sized, domains_sized}
+use Rattle.p3_fri_hiding_openings.proofs.Sizes.{claims_sized, domains_sized}
 
 module _ {D E Com Domain : Type 0} (held : D → List (Held E)) (commitment_of : D → Com)
     (log_size : Domain → ℕ) (requests : List (Request D E)) (P : List (CommitmentClaim E Com) → Type 0)

@@ -8,10 +8,10 @@ use Rattle.p3_pcs.specs.Requests.{Held}
 use Rattle.p3_fri_relation.specs.Setting.{Fields}
 use Rattle.p3_fri_openings.specs.Rounds.{HasCoset}
 use Rattle.p3_fri_completeness.specs.Requests.{held_in}
-use Rattle.p3_fri_hiding_prover.specs.Halves.{shown_of}
-use Rattle.p3_fri_hiding_prover.specs.declared.data.HidingFriPcsProverData.{HidingFriPcsProverData}
-use Rattle.p3_fri_hiding_prover.specs.Data.{AreWide, IsNew, IsOfScheme, IsUnopened, IsPreprocessing}
-use Rattle.p3_fri_hiding_prover.specs.Data.{hidden_columns, shown_polynomials}
+use Rattle.p3_fri_hiding_openings.specs.Halves.{shown_of}
+use Rattle.p3_fri_hiding_openings.specs.declared.data.HidingFriPcsProverData.{HidingFriPcsProverData}
+use Rattle.p3_fri_hiding_openings.specs.Data.{AreWide, IsNew, IsOfScheme, IsUnopened, IsPreprocessing}
+use Rattle.p3_fri_hiding_openings.specs.Data.{hidden_columns, shown_polynomials}
 
 module _ {F E T : Type 0} (f : Fields F E) (committed : T → List (RowMajorMatrix F)) (b r : ℕ)
     (d : HidingFriPcsProverData T) (inner : T) (is : d.inner ≡ inner) where

@@ -19,21 +19,21 @@ use Rattle.p3_matrix.specs.declared.dense.RowMajorMatrix.{RowMajorMatrix}
 use Rattle.p3_matrix.specs.Matrix.{rows, matrix_width}
 use Rattle.p3_dft.specs.Evaluations.{column}
 use Rattle.p3_dft.proofs.Sizes.{double_next}
-use Rattle.p3_fri_commit.specs.Extension.{polynomial_on}
+use Rattle.p3_fri_extensions.specs.Extension.{polynomial_on}
 use Rattle.p3_fri_relation.specs.Setting.{Fields}
 use Rattle.p3_fri_openings.specs.Committed.{committed_column, committed_values}
 use Rattle.p3_fri_openings.proofs.Committed.{committed_is}
 use Rattle.p3_fri_openings.proofs.Log2.{pow-divided}
 use Rattle.p3_fri_completeness.specs.Requests.{HoldsWords}
-use Rattle.p3_fri_hiding_prover.specs.Chunks.{polynomials_on, recombined_on}
-use Rattle.p3_fri_hiding_prover.specs.Ldes.{HasLdeHeight}
-use Rattle.p3_fri_quotient_masks.specs.Draws.{chunks_with_random_columns}
-use Rattle.p3_fri_quotient_masks.specs.MaskedChunks.{HoldsMaskedChunk, column_of}
-use Rattle.p3_fri_quotient_masks.specs.QuotientLdes.{CanBeMasked, AreMaskedChunks, first_log_size, first_width, masks_drawn}
-use Rattle.p3_fri_quotient_masks.proofs.DrawnQuotient.{EntryOf, entry_of, image_of, recombined_agree}
-use Rattle.p3_fri_quotient_masks.proofs.DrawnQuotient.{masked_at, given_at, masked_degree, recombined_kept}
-use Rattle.p3_fri_quotient_masks.proofs.ManyMasks.{many_chunks, first_within}
-use Rattle.p3_fri_hiding_prover.specs.Shown.{shown_in}
+use Rattle.p3_fri_hiding_openings.specs.Chunks.{polynomials_on, recombined_on}
+use Rattle.p3_fri_hiding_openings.specs.Ldes.{HasLdeHeight}
+use Rattle.p3_fri_masks.specs.QuotientDraws.{chunks_with_random_columns}
+use Rattle.p3_fri_masks.specs.MaskedChunks.{HoldsMaskedChunk, column_of}
+use Rattle.p3_fri_masks.specs.QuotientLdes.{CanBeMasked, AreMaskedChunks, first_log_size, first_width, masks_drawn}
+use Rattle.p3_fri_masks.proofs.DrawnQuotient.{EntryOf, entry_of, image_of, recombined_agree}
+use Rattle.p3_fri_masks.proofs.DrawnQuotient.{masked_at, given_at, masked_degree, recombined_kept}
+use Rattle.p3_fri_masks.proofs.ManyMasks.{many_chunks, first_within}
+use Rattle.p3_fri_hiding_openings.specs.Shown.{shown_in}
 
 -- lists entry by entry
 zip_by_entries : {A B : Type 0} (R : A → B → Type 0) (xs : List A) (ys : List B)

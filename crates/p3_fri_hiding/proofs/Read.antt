@@ -7,10 +7,10 @@ use Rattle.p3_matrix.proofs.Widths.{row_width}
 use Rattle.p3_pcs.specs.Requests.{Held}
 use Rattle.p3_stark_pcs.specs.Evaluations.{HoldsEvaluations, held_at}
 use Rattle.p3_fri_relation.specs.Setting.{Fields}
-use Rattle.p3_fri_hiding_prover.specs.Evaluations.{IsMatrixOf}
-use Rattle.p3_fri_hiding_prover.specs.Halves.{shown_of}
-use Rattle.p3_fri_hiding_prover.specs.declared.data.HidingFriPcsProverData.{HidingFriPcsProverData}
-use Rattle.p3_fri_hiding_prover.specs.Data.{CanReadWhole}
+use Rattle.p3_fri_hiding_openings.specs.Evaluations.{IsMatrixOf}
+use Rattle.p3_fri_hiding_openings.specs.Halves.{shown_of}
+use Rattle.p3_fri_hiding_openings.specs.declared.data.HidingFriPcsProverData.{HidingFriPcsProverData}
+use Rattle.p3_fri_hiding_openings.specs.Data.{CanReadWhole}
 
 pub is_matrix_of : {F E T : Type 0} (f : Fields F E) (committed : T → List (RowMajorMatrix F)) (b r : ℕ)
     (d : HidingFriPcsProverData T) (index : ℕ) → CanReadWhole f committed b r d index

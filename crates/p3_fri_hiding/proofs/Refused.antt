@@ -9,8 +9,8 @@ use Rattle.p3_fri_masks.specs.declared.error.HidingFriProverError.TheVariants.{
   BudgetOverflow,
   HidingBudgetExceeded,
 }
-use Rattle.p3_fri_query.proofs.Refusals.{handed_on}
-use Rattle.p3_fri_hiding_prover.specs.Budgets.{AllFit, SomeDoesNotFit, MaskRefusal}
+use Rattle.p3_fri_queries.proofs.QueryRefusals.{handed_on}
+use Rattle.p3_fri_hiding_openings.specs.Budgets.{AllFit, SomeDoesNotFit, MaskRefusal}
 
 module _ (r q d : ℕ) (heights : List ℕ) where
   named : (e : HidingFriProverError) → SomeDoesNotFit r q d heights e → MaskRefusal r q d heights e

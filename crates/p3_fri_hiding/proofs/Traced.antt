@@ -18,15 +18,15 @@ use Rattle.p3_matrix.specs.Matrix.{rows, matrix_width}
 use Rattle.p3_matrix.specs.Words.{past, randoms}
 use Rattle.p3_matrix.proofs.Widths.{row_width}
 use Rattle.p3_dft.specs.Evaluations.{column}
-use Rattle.p3_fri_commit.specs.Extension.{FitsDomain, IsLowDegreeExtension, polynomial_on}
+use Rattle.p3_fri_extensions.specs.Extension.{FitsDomain, IsLowDegreeExtension, polynomial_on}
 use Rattle.p3_fri_relation.specs.Setting.{Fields}
 use Rattle.p3_fri_openings.specs.Committed.{committed_values}
-use Rattle.p3_fri_hiding_prover.proofs.Committed.{extends}
+use Rattle.p3_fri_hiding_openings.proofs.Committed.{extends}
 use Rattle.p3_fri_masks.specs.Masked.{IsMasked}
 use Rattle.p3_fri_masks.specs.Padded.{IsPadded}
 use Rattle.p3_fri_masks.proofs.KeptRows.{length-masked_rows, length-padded_rows, masks_between, zeros_between}
 use Rattle.p3_fri_masks.proofs.KeptValues.{value_at}
-use Rattle.p3_fri_hiding_prover.specs.Shown.{shown_in}
+use Rattle.p3_fri_hiding_openings.specs.Shown.{shown_in}
 use Rattle.p3_fri_hiding.specs.Trace.{FitsMasked, HasTrace, HasZerosBetween}
 
 map-replicate : {A B : Type 0} (f : A → B) (n : ℕ) (x : A) → map f (replicate n x) ≡ replicate n (f x)

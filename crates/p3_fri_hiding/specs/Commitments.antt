@@ -4,7 +4,7 @@ use Rattle.std.specs.List.{AllZip}
 use Rattle.rand_core.specs.Stream.{Stream}
 use Rattle.p3_matrix.specs.declared.dense.RowMajorMatrix.{RowMajorMatrix}
 use Rattle.p3_fri_relation.specs.Setting.{Fields}
-use Rattle.p3_fri_commit.specs.Extension.{IsLowDegreeExtension}
+use Rattle.p3_fri_extensions.specs.Extension.{IsLowDegreeExtension}
 use Rattle.p3_fri_masks.specs.Draws.{AreRandom}
 use Rattle.p3_fri_masks.specs.Masked.{AreMasked}
 use Rattle.p3_fri_masks.specs.Padded.{IsPadded}

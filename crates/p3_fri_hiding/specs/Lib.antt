@@ -1,9 +1,9 @@
-pub use Rattle.p3_fri_hiding_prover.specs.Budgets
-pub use Rattle.p3_fri_hiding_prover.specs.Shown
-pub use Rattle.p3_fri_hiding_prover.specs.Data
-pub use Rattle.p3_fri_hiding_prover.specs.Halves
-pub use Rattle.p3_fri_hiding_prover.specs.Requests
-pub use Rattle.p3_fri_hiding_prover.specs.Opening
+pub use Rattle.p3_fri_hiding_openings.specs.Budgets
+pub use Rattle.p3_fri_hiding_openings.specs.Shown
+pub use Rattle.p3_fri_hiding_openings.specs.Data
+pub use Rattle.p3_fri_hiding_openings.specs.Halves
+pub use Rattle.p3_fri_hiding_openings.specs.Requests
+pub use Rattle.p3_fri_hiding_openings.specs.Opening
 pub mod Trace
 pub mod Commitments
 pub mod Quotients

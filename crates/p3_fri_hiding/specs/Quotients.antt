@@ -2,7 +2,7 @@
 use Rattle.std.specs.Prelude.{◌≡◌, ◌<◌, ℕ, List, length}
 use Rattle.algebra.specs.Field.{FieldOps}
 use Rattle.p3_matrix.specs.declared.dense.RowMajorMatrix.{RowMajorMatrix}
-use Rattle.p3_fri_quotient_masks.specs.QuotientLdes.{CanBeMasked}
+use Rattle.p3_fri_masks.specs.QuotientLdes.{CanBeMasked}
 
 -- the chunks are as many as is said, more than one, and can be masked: of one height and width, on
 -- disjoint cosets of that size

@@ -13,12 +13,12 @@ use Rattle.p3_fri_relation.specs.Setting.{Fields}
 use Rattle.p3_fri_openings.specs.Committed.{committed_values}
 use Rattle.p3_fri_openings.proofs.Committed.{width_of_values}
 use Rattle.p3_fri_completeness.specs.Requests.{held_in, held_of, HoldsWords}
-use Rattle.p3_fri_hiding_prover.specs.EvaluationLaws.{is_matrix_of, words_at}
-use Rattle.p3_fri_hiding_prover.specs.Evaluations.{HoldsWordsAt}
-use Rattle.p3_fri_hiding_prover.specs.Halves.{shown_of}
-use Rattle.p3_fri_hiding_prover.specs.declared.data.HidingFriPcsProverData.{HidingFriPcsProverData}
-use Rattle.p3_fri_hiding_prover.specs.Data.{hidden_columns, shown_polynomials, IsOfScheme}
-use Rattle.p3_fri_hiding_prover.specs.Data.{CanRead, CanReadWhole}
+use Rattle.p3_fri_hiding_openings.specs.EvaluationLaws.{is_matrix_of, words_at}
+use Rattle.p3_fri_hiding_openings.specs.Evaluations.{HoldsWordsAt}
+use Rattle.p3_fri_hiding_openings.specs.Halves.{shown_of}
+use Rattle.p3_fri_hiding_openings.specs.declared.data.HidingFriPcsProverData.{HidingFriPcsProverData}
+use Rattle.p3_fri_hiding_openings.specs.Data.{hidden_columns, shown_polynomials, IsOfScheme}
+use Rattle.p3_fri_hiding_openings.specs.Data.{CanRead, CanReadWhole}
 use Rattle.p3_fri_hiding.specs.Trace.{HasTrace}
 
 -- a scheme that hides isn't one that doesn't

@@ -4,12 +4,12 @@ use Rattle.std.proofs.Common.{refl}
 use Rattle.p3_pcs.specs.Scheme.{IsLawful}
 use Rattle.p3_stark_pcs.specs.Scheme.{IsLawfulStark}
 use Rattle.p3_fri_relation.specs.Setting.{Proof}
-use Rattle.p3_fri_hiding_prover.specs.declared.data.HidingFriPcsProverData.{HidingFriPcsProverData}
-use Rattle.p3_fri_hiding_prover.specs.Data.{IsOfScheme}
-use Rattle.p3_fri_hiding_prover.specs.ErrorLaws.{memory_cases}
-use Rattle.p3_fri_hiding_prover.specs.Requests.{after_opening}
-use Rattle.p3_fri_hiding_prover.specs.Rules.{TwoAdic}
-use Rattle.p3_fri_hiding_prover.specs.UnivariateLaws.{trace_heights}
+use Rattle.p3_fri_hiding_openings.specs.declared.data.HidingFriPcsProverData.{HidingFriPcsProverData}
+use Rattle.p3_fri_hiding_openings.specs.Data.{IsOfScheme}
+use Rattle.p3_fri_hiding_openings.specs.ErrorLaws.{memory_cases}
+use Rattle.p3_fri_hiding_openings.specs.Requests.{after_opening}
+use Rattle.p3_fri_hiding_openings.specs.Rules.{TwoAdic}
+use Rattle.p3_fri_hiding_openings.specs.UnivariateLaws.{trace_heights}
 use Rattle.p3_fri_hiding.specs.ReadingLaws.{traced_columns, readable, whole_readable}
 use Rattle.p3_fri_hiding.specs.ReadingLaws.{shown_words_at, shown_first}
 use Rattle.p3_fri_hiding.specs.Rules.{hiding_rules, hiding_stark_rules}

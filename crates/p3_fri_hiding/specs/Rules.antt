@@ -12,24 +12,24 @@ use Rattle.p3_fri_relation.specs.declared.error.FriError.TheVariants.{OutOfMemor
 use Rattle.p3_fri_relation.specs.Setting.{Proof}
 use Rattle.p3_fri_completeness.specs.Requests.{held_of, HoldsWords, relation_claims}
 use Rattle.p3_fri_masks.specs.declared.error.HidingFriProverError.{HidingFriProverError}
-use Rattle.p3_fri_quotient_masks.specs.QuotientLdes.{AreMaskedChunks}
-use Rattle.p3_fri_hiding_prover.specs.declared.data.HidingFriPcsProverData.{HidingFriPcsProverData}
-use Rattle.p3_fri_hiding_prover.specs.Budgets.{MaskRefusal}
-use Rattle.p3_fri_hiding_prover.specs.Data.{AreWide, CanRead, CanReadWhole, IsOfScheme}
-use Rattle.p3_fri_hiding_prover.specs.Data.{IsPreprocessing, IsUnopened, shown_polynomials}
-use Rattle.p3_fri_hiding_prover.specs.Ends.{last_state}
-use Rattle.p3_fri_hiding_prover.specs.Evaluations.{HoldsWordsAt}
-use Rattle.p3_fri_hiding_prover.specs.Held.{IsSubgroupSize}
-use Rattle.p3_fri_hiding_prover.specs.Hiding.{HidingAccepts, StandsInHidingScheme}
-use Rattle.p3_fri_hiding_prover.specs.Hiding.{LeavesHidingVerifier}
-use Rattle.p3_fri_hiding_prover.specs.Ldes.{HasLdeHeight}
-use Rattle.p3_fri_hiding_prover.specs.Opening.{PassesHidingChecks, HidingRefusal}
-use Rattle.p3_fri_hiding_prover.specs.Opening.{LeavesHidingState}
-use Rattle.p3_fri_hiding_prover.specs.RandomValues.{with_random_values}
-use Rattle.p3_fri_hiding_prover.specs.Ranges.{InProverRange, InVerifierRange}
-use Rattle.p3_fri_hiding_prover.specs.Requests.{after_opening}
-use Rattle.p3_fri_hiding_prover.specs.Rules.{TwoAdic}
-use Rattle.p3_fri_hiding_prover.specs.Shown.{shown_in}
+use Rattle.p3_fri_masks.specs.QuotientLdes.{AreMaskedChunks}
+use Rattle.p3_fri_hiding_openings.specs.declared.data.HidingFriPcsProverData.{HidingFriPcsProverData}
+use Rattle.p3_fri_hiding_openings.specs.Budgets.{MaskRefusal}
+use Rattle.p3_fri_hiding_openings.specs.Data.{AreWide, CanRead, CanReadWhole, IsOfScheme}
+use Rattle.p3_fri_hiding_openings.specs.Data.{IsPreprocessing, IsUnopened, shown_polynomials}
+use Rattle.p3_fri_hiding_openings.specs.Ends.{last_state}
+use Rattle.p3_fri_hiding_openings.specs.Evaluations.{HoldsWordsAt}
+use Rattle.p3_fri_hiding_openings.specs.Held.{IsSubgroupSize}
+use Rattle.p3_fri_hiding_openings.specs.Hiding.{HidingAccepts, StandsInHidingScheme}
+use Rattle.p3_fri_hiding_openings.specs.Hiding.{LeavesHidingVerifier}
+use Rattle.p3_fri_hiding_openings.specs.Ldes.{HasLdeHeight}
+use Rattle.p3_fri_hiding_openings.specs.Opening.{PassesHidingChecks, HidingRefusal}
+use Rattle.p3_fri_hiding_openings.specs.Opening.{LeavesHidingState}
+use Rattle.p3_fri_hiding_openings.specs.RandomValues.{with_random_values}
+use Rattle.p3_fri_hiding_openings.specs.Ranges.{InProverRange, InVerifierRange}
+use Rattle.p3_fri_hiding_openings.specs.Requests.{after_opening}
+use Rattle.p3_fri_hiding_openings.specs.Rules.{TwoAdic}
+use Rattle.p3_fri_hiding_openings.specs.Shown.{shown_in}
 use Rattle.p3_fri_hiding.specs.Quotients.{CanExtend}
 use Rattle.p3_fri_hiding.specs.Trace.{FitsMasked, HasTrace}
 

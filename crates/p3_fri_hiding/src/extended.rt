@@ -5,14 +5,14 @@ ghost use Rattle.p3_matrix.specs.Matrix.{rows};
 ghost use Rattle.p3_fri_completeness.specs.Requests.{HoldsWords};
 ghost use Rattle.p3_fri_folding.specs.declared.error.FriProverError.TheVariants.{OutOfMemory};
 ghost use Rattle.p3_fri_masks.specs.declared.error.HidingFriProverError.TheVariants.{Fri};
-ghost use Rattle.p3_fri_hiding_prover.specs.Data.{IsNew, IsOfScheme};
+ghost use Rattle.p3_fri_hiding_openings.specs.Data.{IsNew, IsOfScheme};
 ghost use Rattle.p3_fri_hiding.specs.Commitments.{AreExtended};
 
 use crate::hiding_pcs::HidingFriPcs;
 use p3_dft::TwoAdicSubgroupDft;
 use p3_field_core::{ExtensionField, SampleField, TwoAdicField, TwoAdicMultiplicativeCoset};
-use p3_fri_commit::commit_evaluations;
-use p3_fri_hiding_prover::{HidingFriPcsProverData, new_prover_data};
+use p3_fri_extensions::commit_evaluations;
+use p3_fri_hiding_openings::{HidingFriPcsProverData, new_prover_data};
 use p3_fri_masks::HidingFriProverError;
 use p3_fri_relation::setting::ChallengeField;
 use p3_matrix::RowMajorMatrix;

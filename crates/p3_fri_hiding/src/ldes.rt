@@ -8,25 +8,24 @@ ghost use Rattle.p3_matrix.specs.Words.{past};
 ghost use Rattle.p3_stark_pcs.specs.Evaluations.{HasShape};
 ghost use Rattle.p3_fri_folding.specs.declared.error.FriProverError.TheVariants.{OutOfMemory};
 ghost use Rattle.p3_fri_completeness.specs.Requests.{HoldsWords};
-ghost use Rattle.p3_fri_hiding_prover.specs.Chunks.{polynomials_on, recombined_on};
-ghost use Rattle.p3_fri_hiding_prover.specs.Ldes.{HasLdeHeight};
+ghost use Rattle.p3_fri_hiding_openings.specs.Chunks.{polynomials_on, recombined_on};
+ghost use Rattle.p3_fri_hiding_openings.specs.Ldes.{HasLdeHeight};
 ghost use Rattle.p3_fri_masks.specs.Draws.{AreRandom, random_words};
 ghost use Rattle.p3_fri_masks.specs.declared.error.HidingFriProverError.TheVariants.{Fri};
-ghost use Rattle.p3_fri_quotient_masks.specs.QuotientLdes.{AreMaskedChunks, past_masks};
-ghost use Rattle.p3_fri_hiding_prover.specs.Budgets.{AllFit, MaskRefusal};
-ghost use Rattle.p3_fri_hiding_prover.specs.Data.{AreWide, IsNew, IsOfScheme, IsUnopened};
-ghost use Rattle.p3_fri_hiding_prover.specs.Data.{shown_polynomials};
-ghost use Rattle.p3_fri_hiding_prover.specs.Shown.{shown_in};
+ghost use Rattle.p3_fri_masks.specs.QuotientLdes.{AreMaskedChunks, past_masks};
+ghost use Rattle.p3_fri_hiding_openings.specs.Budgets.{AllFit, MaskRefusal};
+ghost use Rattle.p3_fri_hiding_openings.specs.Data.{AreWide, IsNew, IsOfScheme, IsUnopened};
+ghost use Rattle.p3_fri_hiding_openings.specs.Data.{shown_polynomials};
+ghost use Rattle.p3_fri_hiding_openings.specs.Shown.{shown_in};
 ghost use Rattle.p3_fri_hiding.specs.Commitments.{ExtendRandom};
 ghost use Rattle.p3_fri_hiding.specs.Quotients.{CanExtend};
 
 use crate::hiding_pcs::HidingFriPcs;
 use p3_dft::TwoAdicSubgroupDft;
 use p3_field_core::{ExtensionField, SampleField, TwoAdicField, TwoAdicMultiplicativeCoset};
-use p3_fri_hiding_prover::budgets::{check_domains, check_ldes, check_matrices};
-use p3_fri_hiding_prover::{HidingFriPcsProverData, new_prover_data};
-use p3_fri_masks::{HidingFriProverError, random_matrices};
-use p3_fri_quotient_masks::quotient_ldes;
+use p3_fri_hiding_openings::budgets::{check_domains, check_ldes, check_matrices};
+use p3_fri_hiding_openings::{HidingFriPcsProverData, new_prover_data};
+use p3_fri_masks::{HidingFriProverError, quotient_ldes, random_matrices};
 use p3_fri_relation::setting::ChallengeField;
 use p3_matrix::RowMajorMatrix;
 use p3_mmcs::Mmcs;
@@ -75,7 +74,7 @@ impl<
     ///
     /// There is more than one chunk, and `num_chunks` says how many; they have one height and one
     /// width, and disjoint domains of that size, whose twofold extension lies within the
-    /// two-adicity. `p3_fri_quotient_masks::are_disjoint` tests domains.
+    /// two-adicity. `p3_fri_masks::are_disjoint` tests domains.
     ///
     /// # Errors
     ///

@@ -11,4 +11,4 @@ pub mod readings;
 pub mod univariate;
 
 pub use crate::hiding_pcs::HidingFriPcs;
-pub use p3_fri_hiding_prover::HidingFriPcsProverData;
+pub use p3_fri_hiding_openings::HidingFriPcsProverData;

@@ -5,7 +5,7 @@ ghost use Rattle.std.specs.List.{AllZip};
 ghost use Rattle.p3_pcs.specs.Claims.{claim, opened_values};
 ghost use Rattle.p3_pcs.specs.Scheme.{same_kept};
 ghost use Rattle.p3_fri_relation.specs.Views.{proof_of};
-ghost use Rattle.p3_fri_hiding_prover.specs.Held.{IsSubgroupSize};
+ghost use Rattle.p3_fri_hiding_openings.specs.Held.{IsSubgroupSize};
 ghost use Rattle.p3_fri_hiding.specs.Rules.{hiding_rules};
 ghost use Rattle.p3_fri_hiding.specs.RuleLaws.{hiding_lawful};
 
@@ -16,7 +16,7 @@ use p3_field_core::{
     PackableExtension, PackableField, SampleField, TwoAdicField, TwoAdicMultiplicativeCoset,
     log2_strict_usize,
 };
-use p3_fri_hiding_prover::{
+use p3_fri_hiding_openings::{
     HidingFriPcsProverData, OpensTwoAdic, open_hiding_requests, verify_with_random_values,
 };
 use p3_fri_masks::HidingFriProverError;

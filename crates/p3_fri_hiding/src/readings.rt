@@ -6,14 +6,14 @@ ghost use Rattle.p3_stark_pcs.specs.Evaluations.{HoldsEvaluations, held_at};
 ghost use Rattle.p3_fri_folding.specs.declared.error.FriProverError.TheVariants.{OutOfMemory};
 ghost use Rattle.p3_fri_masks.specs.declared.error.HidingFriProverError.TheVariants.{Fri};
 ghost use Rattle.p3_fri_completeness.specs.Requests.{held_of};
-ghost use Rattle.p3_fri_hiding_prover.specs.Evaluations.{HoldsWordsAt};
-ghost use Rattle.p3_fri_hiding_prover.specs.Data.{CanRead, CanReadWhole, shown_polynomials};
+ghost use Rattle.p3_fri_hiding_openings.specs.Evaluations.{HoldsWordsAt};
+ghost use Rattle.p3_fri_hiding_openings.specs.Data.{CanRead, CanReadWhole, shown_polynomials};
 
 use crate::hiding_pcs::HidingFriPcs;
 use p3_dft::TwoAdicSubgroupDft;
 use p3_field_core::{ExtensionField, SampleField, TwoAdicField, TwoAdicMultiplicativeCoset};
-use p3_fri_evaluations::evaluations_on_domain;
-use p3_fri_hiding_prover::{
+use p3_fri_extensions::evaluations_on_domain;
+use p3_fri_hiding_openings::{
     HidingFriPcsProverData, committed_matrices, hidden_columns, without_last_cols,
 };
 use p3_fri_masks::HidingFriProverError;

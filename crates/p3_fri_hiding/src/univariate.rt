@@ -11,7 +11,7 @@ ghost use Rattle.p3_stark_pcs.specs.Scheme.{same_kept_stark};
 ghost use Rattle.p3_fri_folding.specs.declared.error.FriProverError.TheVariants.{OutOfMemory};
 ghost use Rattle.p3_fri_relation.specs.Views.{proof_of};
 ghost use Rattle.p3_fri_masks.specs.declared.error.HidingFriProverError.TheVariants.{Fri};
-ghost use Rattle.p3_fri_hiding_prover.specs.Chunks.{polynomials_on, recombined_on};
+ghost use Rattle.p3_fri_hiding_openings.specs.Chunks.{polynomials_on, recombined_on};
 ghost use Rattle.p3_fri_hiding.specs.ReadingLaws.{hides};
 ghost use Rattle.p3_fri_hiding.specs.Rules.{hiding_stark_rules};
 ghost use Rattle.p3_fri_hiding.specs.RuleLaws.{hiding_lawful_stark};
@@ -22,7 +22,7 @@ use p3_dft::TwoAdicSubgroupDft;
 use p3_field_core::{
     PackableExtension, PackableField, SampleField, TwoAdicField, TwoAdicMultiplicativeCoset,
 };
-use p3_fri_hiding_prover::{
+use p3_fri_hiding_openings::{
     HidingFriPcsProverData, OpensTwoAdic, open_hiding_requests, verify_with_random_values,
 };
 use p3_fri_masks::HidingFriProverError;

@@ -6,7 +6,7 @@ use Rattle.algebra.specs.Field.{FieldOps}
 use Rattle.p3_matrix.specs.declared.dense.RowMajorMatrix.{RowMajorMatrix}
 use Rattle.p3_matrix.specs.Matrix.{matrix_width}
 use Rattle.p3_fri_hiding.specs.Quotients.{CanExtend}
-use Rattle.p3_fri_quotient_masks.specs.QuotientMasks.{AreDisjoint}
+use Rattle.p3_fri_masks.specs.QuotientMasks.{AreDisjoint}
 use Rattle.p3_fri_hiding_tests.specs.Chunks.{IsChunk}
 
 heads : {D M B : Type 0} (f : D → B) (es : List (D × M))

@@ -5,7 +5,7 @@ ghost use Rattle.p3_fri_hiding.specs.Quotients.{CanExtend};
 ghost use Rattle.p3_fri_hiding_tests.specs.Chunks.{IsChunk};
 
 use p3_field::{TwoAdicField, TwoAdicMultiplicativeCoset};
-use p3_fri_quotient_masks::are_disjoint;
+use p3_fri_masks::are_disjoint;
 use p3_matrix::RowMajorMatrix;
 use std::alloc::{AllocError, Global};
 

@@ -13,7 +13,7 @@ use crate::matrices::is_doubled;
 use crate::scheme::{Data, Domain, Inputs, Scheme};
 use p3_challenger::Sha256Challenger;
 use p3_field::{BabyBear, BabyBear4, Field, TwoAdicMultiplicativeCoset};
-use p3_fri_hiding_prover::{committed_matrices, hidden_columns};
+use p3_fri_hiding_openings::{committed_matrices, hidden_columns};
 use p3_fri_masks::HidingFriProverError;
 use p3_fri_relation::setting::ChallengeField;
 use p3_matrix::RowMajorMatrix;

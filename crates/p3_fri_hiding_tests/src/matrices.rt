@@ -1,7 +1,7 @@
 //! Matrices of small numbers, the domains beside them, and points.
 
 ghost use Rattle.std.specs.Prelude.{◌≡◌, ◌≢◌, [], IfOk, IsTrue};
-ghost use Rattle.p3_fri_commit.specs.Extension.{FitsDomain};
+ghost use Rattle.p3_fri_extensions.specs.Extension.{FitsDomain};
 ghost use Rattle.p3_fri_hiding.specs.Trace.{FitsMasked};
 
 use crate::scheme::{Domain, Evaluations};

@@ -9,7 +9,7 @@ ghost use Rattle.p3_fri_inputs.specs.Claims.{combined_values, IsWithin};
 
 use crate::checks::claimed_width;
 use p3_field_core::{Field, TwoAdicField, TwoAdicMultiplicativeCoset};
-use p3_fri_ladder::Ladder;
+use p3_fri_relation::Ladder;
 use p3_mmcs::{CommitmentOpening, MatrixOpening};
 use std::alloc::{AllocError, Global};
 

@@ -1,3 +1,14 @@
+pub mod Drawn
+pub mod Sums
+pub mod Columns
+pub mod Weights
+pub mod MaskedWords
+pub mod Recombination
+pub mod Firsts
+pub mod Apart
+pub mod ChunkWords
+pub mod ManyMasks
+pub mod DrawnQuotient
 pub mod RowHalves
 pub mod Masks
 pub mod KeptRows

@@ -1,3 +1,8 @@
+pub mod QuotientDraws
+pub mod QuotientMasks
+pub mod MaskedChunks
+pub mod Recombination
+pub mod QuotientLdes
 pub mod Budget
 pub mod Draws
 pub mod Halves
@@ -5,7 +10,10 @@ pub mod Masked
 pub mod Padded
 pub mod KeptRows
 pub mod KeptValues
+pub use Rattle.algebra.specs.Field
+pub use Rattle.algebra.specs.Lists
+pub use Rattle.algebra.specs.RecombinedQuotients
+pub use Rattle.p3_matrix.specs.Words
 pub use Rattle.p3_dft.specs.Evaluations
 pub use Rattle.p3_field_core.specs.Coset
 pub use Rattle.p3_matrix.specs.Matrix
-pub use Rattle.p3_matrix.specs.Words

@@ -1,3 +1,5 @@
+mod Passes
+pub mod Requests
 pub mod Log2
 pub mod First
 pub mod Refusals

@@ -1,3 +1,4 @@
+pub mod Openable
 pub mod Log2
 pub mod First
 pub mod Rounds

@@ -6,6 +6,7 @@ pub mod all_points;
 pub mod asked_points;
 pub mod checks;
 pub mod denominators;
+pub mod openable;
 pub mod opened;
 pub mod requests;
 pub mod round;
@@ -16,6 +17,7 @@ pub use crate::checks::{
     check_height, check_points, check_round_heights, check_round_points, is_in_evaluation_domain,
 };
 pub use crate::denominators::{PointDenominators, denominators_of_point, inverses_at};
+pub use crate::openable::are_openable;
 pub use crate::opened::open_values;
 pub use crate::requests::rounds_of_requests;
 pub use crate::round::OpeningRound;

@@ -7,7 +7,7 @@ ghost use Rattle.p3_fri_openings.specs.Rounds.{HasCoset, IsRound};
 
 use p3_dft::Radix2Dit;
 use p3_field::{BabyBear, ExtensionField, Field, TwoAdicField, TwoAdicMultiplicativeCoset};
-use p3_fri_commit::extend;
+use p3_fri_extensions::extend;
 use p3_fri_openings::OpeningRound;
 use p3_matrix::RowMajorMatrix;
 use std::alloc::Global;

@@ -1,7 +1,7 @@
 //! The column of `2 - X`, opened at 5.
 
 ghost use Rattle.std.specs.Prelude.{◌≡◌, [], ◌∷◌, IfOk, length};
-ghost use Rattle.p3_fri_commit.specs.Extension.{FitsDomain};
+ghost use Rattle.p3_fri_extensions.specs.Extension.{FitsDomain};
 ghost use Rattle.p3_fri_relation.specs.Views.{parameters_of};
 ghost use Rattle.p3_fri_two_adic.specs.Ranges.{InProverRange, InVerifierRange};
 

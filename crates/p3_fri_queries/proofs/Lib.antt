@@ -1,3 +1,9 @@
+pub mod Rows
+pub mod Lists
+pub mod Ways
+pub mod FoldedRounds
+pub mod Orders
+pub mod QueryRefusals
 pub mod Gains
 pub mod Lengths
 pub mod Queries

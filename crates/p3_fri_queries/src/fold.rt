@@ -13,10 +13,10 @@ ghost use Rattle.p3_fri_relation.specs.Views.{query_input, rows_collected};
 ghost use Rattle.p3_fri_queries.specs.Folded.{query_at, EndsAtFinal, indices_folded, rows_folded};
 
 use crate::final_value::ends_at_final;
+use crate::fold_query;
 use crate::folded::FoldedQueries;
 use p3_field_core::{ExtensionField, TwoAdicField};
 use p3_fri_folding::FriFoldingStrategy;
-use p3_fri_query::fold_query;
 use p3_fri_relation::error::{FriError, FriOpenings};
 use p3_fri_relation::proof::CommitPhaseMultiStep;
 use p3_fri_relation::setting::ChallengeField;

@@ -1,6 +1,8 @@
-//! Tests of all queries together.
+//! Tests of a query that is folded by itself, and of all queries together.
 #![tactic(auto)]
 
+#[cfg(test)]
+mod fold_query;
 #[cfg(test)]
 mod queries;
 #[cfg(test)]

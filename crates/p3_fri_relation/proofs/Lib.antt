@@ -1,3 +1,4 @@
+pub mod PowerSums
 pub mod ClaimedHeights
 mod Example
 pub mod InstanceQueries

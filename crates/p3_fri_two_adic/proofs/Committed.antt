@@ -17,7 +17,7 @@ use Rattle.p3_field_core.proofs.Cosets.{natural_distinct}
 use Rattle.p3_matrix.specs.declared.dense.RowMajorMatrix.{RowMajorMatrix}
 use Rattle.p3_matrix.specs.Matrix.{rows, matrix_width}
 use Rattle.p3_dft.specs.Evaluations.{column}
-use Rattle.p3_fri_commit.specs.Extension.{FitsDomain, IsLowDegreeExtension, polynomial_on}
+use Rattle.p3_fri_extensions.specs.Extension.{FitsDomain, IsLowDegreeExtension, polynomial_on}
 use Rattle.p3_fri_relation.specs.Setting.{Fields}
 use Rattle.p3_fri_openings.specs.Log2.{log2}
 use Rattle.p3_fri_openings.specs.Rounds.{HasCoset}

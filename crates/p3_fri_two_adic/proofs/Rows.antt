@@ -15,7 +15,7 @@ use Rattle.p3_matrix.specs.declared.dense.RowMajorMatrix.{RowMajorMatrix}
 use Rattle.p3_matrix.specs.Matrix.{rows, matrix_width}
 use Rattle.p3_matrix.proofs.Widths.{row_width}
 use Rattle.p3_dft.specs.Evaluations.{column}
-use Rattle.p3_fri_commit.specs.Extension.{FitsDomain, IsLowDegreeExtension, polynomial_on}
+use Rattle.p3_fri_extensions.specs.Extension.{FitsDomain, IsLowDegreeExtension, polynomial_on}
 use Rattle.p3_fri_relation.specs.Setting.{Fields}
 use Rattle.p3_fri_completeness.specs.Requests.{held_in}
 use Rattle.p3_fri_two_adic.specs.Held.{Extends}

@@ -7,7 +7,7 @@ use Rattle.p3_matrix.specs.declared.dense.RowMajorMatrix.{RowMajorMatrix}
 use Rattle.p3_matrix.specs.Matrix.{matrix_width}
 use Rattle.p3_dft.specs.Evaluations.{column}
 use Rattle.p3_pcs.specs.Requests.{Held}
-use Rattle.p3_fri_commit.specs.Extension.{polynomial_on}
+use Rattle.p3_fri_extensions.specs.Extension.{polynomial_on}
 use Rattle.p3_fri_relation.specs.Setting.{Fields}
 
 module _ {F E : Type 0} (f : Fields F E) where

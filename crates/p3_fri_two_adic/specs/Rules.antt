@@ -6,7 +6,7 @@ use Rattle.p3_matrix.specs.declared.dense.RowMajorMatrix.{RowMajorMatrix}
 use Rattle.p3_pcs.specs.Requests.{AreOpenable}
 use Rattle.p3_pcs.specs.Scheme.{Scheme}
 use Rattle.p3_stark_pcs.specs.Scheme.{StarkScheme}
-use Rattle.p3_fri_commit.specs.Extension.{FitsDomain, IsLowDegreeExtension}
+use Rattle.p3_fri_extensions.specs.Extension.{FitsDomain, IsLowDegreeExtension}
 use Rattle.p3_fri_folding.specs.declared.error.FriProverError.{FriProverError}
 use Rattle.p3_fri_folding.specs.declared.error.FriProverError.TheVariants as refusal
 use Rattle.p3_fri_relation.specs.declared.error.FriError.{FriError}

@@ -20,7 +20,7 @@ use p3_dft::TwoAdicSubgroupDft;
 use p3_field_core::{
     PackableExtension, PackableField, TwoAdicField, TwoAdicMultiplicativeCoset, log2_strict_usize,
 };
-use p3_fri_commit::commit_evaluations;
+use p3_fri_extensions::commit_evaluations;
 pub use p3_fri_folding::TwoAdicFriFolding;
 use p3_fri_folding::{FriParameters, FriProverError};
 pub use p3_fri_opening_prover::ProverDataWithOpeningPoints;

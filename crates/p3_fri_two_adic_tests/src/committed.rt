@@ -1,7 +1,7 @@
 //! Columns committed to.
 
 ghost use Rattle.std.specs.Prelude.{◌≡◌, ◌^◌, All, IfOk, map};
-ghost use Rattle.p3_fri_commit.specs.Extension.{FitsDomain};
+ghost use Rattle.p3_fri_extensions.specs.Extension.{FitsDomain};
 ghost use Rattle.p3_fri_completeness.specs.Requests.{HoldsWords, held_of};
 
 use crate::scheme::{Data, Domain, Inputs, Scheme, Setting, scheme};

@@ -8,7 +8,7 @@ use crate::opened::{Points, are_values, points_of};
 use crate::scheme::{Inputs, PLAIN, Proof, Setting, scheme};
 use p3_challenger::Sha256Challenger;
 use p3_field::{BabyBear, BabyBear4};
-use p3_fri_openable::are_openable;
+use p3_fri_openings::are_openable;
 use p3_pcs::{KnownCommitment, OpeningRequest, Verified, open_and_verify};
 use std::alloc::Global;
 use std::test::Fail;

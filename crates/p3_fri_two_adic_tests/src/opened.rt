@@ -7,7 +7,7 @@ use crate::scheme::{
 use p3_challenger::Sha256Challenger;
 use p3_field::{BabyBear, BabyBear4};
 use p3_fri_folding::FriProverError;
-use p3_fri_openable::are_openable;
+use p3_fri_openings::are_openable;
 use p3_mmcs::OpenedValues;
 use p3_pcs::{KnownCommitment, OpeningRequest, Pcs, claims_of};
 use std::alloc::{AllocError, Global};

@@ -19,7 +19,7 @@ use Rattle.p3_fri_relation.specs.TestRounds.{bound_numbers}
 use Rattle.p3_fri_relation.specs.Acceptance.{FriAccepts, AreOpeningsGood, test_replay, positions, fri_numbers, top_height, log_arities}
 use Rattle.p3_fri_relation.specs.Faults.{At, Stands, InputFault, OpeningsFault, WorkFault}
 use Rattle.p3_fri_relation.proofs.TestReplays.{length-replay_betas, length-positions, positions-below}
-use Rattle.p3_fri_instance.specs.Counts.{HasInputs, InputCountFault}
+use Rattle.p3_fri_verifier.specs.Counts.{HasInputs, InputCountFault}
 use Rattle.p3_fri_inputs.proofs.Refutations.{all_zip_right}
 use Rattle.p3_fri_verifier.specs.Draws.{proof_replay, ReplayFault, AreDrawn}
 use Rattle.p3_fri_verifier.specs.Openings.{AreOpened}

@@ -1,3 +1,10 @@
+pub mod Heights
+pub mod InputOpenings
+pub mod Instances
+pub mod Lists
+pub mod LowHeights
+pub mod Openings
+pub mod Sizes
 pub mod Accepted
 pub mod Drawn
 pub mod Mapped

@@ -11,7 +11,7 @@ use Rattle.p3_fri_folding.proofs.Rounds.{schedule-nil, schedule-low}
 use Rattle.p3_fri_relation.specs.declared.error.FriError.{FriError}
 use Rattle.p3_fri_relation.specs.declared.proof.BatchMultiOpening.{BatchMultiOpening}
 use Rattle.p3_fri_relation.specs.Views.{claims_of, inputs_opened}
-use Rattle.p3_fri_instance.specs.Counts.{HasInputs, InputCountFault}
+use Rattle.p3_fri_verifier.specs.Counts.{HasInputs, InputCountFault}
 use Rattle.p3_fri_inputs.specs.Claims.{claim_of}
 
 -- the rounds of a schedule are within its tallest height, whatever its final height and its cap

@@ -7,7 +7,7 @@ use Rattle.p3_fri_relation.specs.Setting.{Parameters, CommitmentClaim, Proof}
 use Rattle.p3_fri_relation.specs.TestRounds.{HasCounts}
 use Rattle.p3_fri_relation.specs.Acceptance.{IsInRange, AreCanonical, log_arities}
 use Rattle.p3_fri_relation.specs.Faults.{InstanceFault, CountFault, IsNotCanonical}
-use Rattle.p3_fri_instance.specs.Counts.{HasInputs, InputCountFault}
+use Rattle.p3_fri_verifier.specs.Counts.{HasInputs, InputCountFault}
 
 module _ {F E Com Path InCom InPath : Type 0} (p : Parameters)
     (claims : List (CommitmentClaim E InCom)) (proof : Proof F E Com Path InPath) (zero : F)

@@ -7,9 +7,9 @@ ghost use Rattle.p3_fri_relation.specs.Acceptance.{log_arities as scheduled};
 ghost use Rattle.p3_fri_relation.specs.Views.{parameters_of, claims_of, proof_of};
 ghost use Rattle.p3_fri_verifier.specs.Plans.{CanBegin, BeginningFault};
 
+use crate::{check_canonical, check_counts, check_inputs, check_instance};
 use p3_field_core::{ExtensionField, TwoAdicField, TwoAdicMultiplicativeCoset};
 use p3_fri_folding::{FriParameters, fold_schedule};
-use p3_fri_instance::{check_canonical, check_counts, check_inputs, check_instance};
 use p3_fri_relation::error::FriError;
 use p3_fri_relation::proof::{BatchMultiOpening, FriProof};
 use p3_mmcs::{CommitmentOpening, Mmcs};

@@ -1,7 +1,7 @@
 //! Columns of numbers, and whether matrices are such.
 
 ghost use Rattle.std.specs.Prelude.{◌≡◌, All, map, IfOk};
-ghost use Rattle.p3_fri_commit.specs.Extension.{FitsDomain};
+ghost use Rattle.p3_fri_extensions.specs.Extension.{FitsDomain};
 
 use crate::scheme::Domain;
 use p3_field::{BabyBear, Field, TwoAdicMultiplicativeCoset};

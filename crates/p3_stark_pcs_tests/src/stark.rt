@@ -1,7 +1,7 @@
 //! The columns of a STARK, opened by one function over any scheme.
 
 ghost use Rattle.std.specs.Prelude.{◌≡◌, ◌≢◌, [], All, map, IfOk};
-ghost use Rattle.p3_fri_commit.specs.Extension.{FitsDomain};
+ghost use Rattle.p3_fri_extensions.specs.Extension.{FitsDomain};
 
 use crate::columns::{columns, domains_of};
 use crate::scheme::{Domain, Proof, scheme};

@@ -3,8 +3,8 @@ use Rattle.std.proofs.Common.{◌≡◌, ◌≤◌, ◌+◌, ◌^◌, ℕ, [], �
 use Rattle.algebra.specs.Field.{FieldOps}
 use Rattle.p3_matrix.specs.declared.dense.RowMajorMatrix.{RowMajorMatrix}
 use Rattle.p3_matrix.specs.Matrix.{rows, matrix_width}
-use Rattle.p3_fri_quotient_masks.specs.QuotientLdes.{first_width}
-use Rattle.p3_fri_quotient_masks.specs.QuotientMasks.{AreDisjoint}
+use Rattle.p3_fri_masks.specs.QuotientLdes.{first_width}
+use Rattle.p3_fri_masks.specs.QuotientMasks.{AreDisjoint}
 use Rattle.p3_fri_hiding.specs.Quotients.{CanExtend}
 use Rattle.refused_calls.proofs.Lists.{both}
 

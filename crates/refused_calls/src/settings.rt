@@ -2,7 +2,7 @@
 
 ghost use Rattle.std.specs.Prelude.{◌≡◌, ◌<◌, ◌≤◌, ◌+◌, ◌^◌, All, IfOk, length};
 ghost use Rattle.p3_field.specs.BabyBear.{baby_bear};
-ghost use Rattle.p3_fri_commit.specs.Extension.{FitsDomain};
+ghost use Rattle.p3_fri_extensions.specs.Extension.{FitsDomain};
 ghost use Rattle.p3_fri_hiding.specs.Quotients.{CanExtend};
 ghost use Rattle.p3_fri_hiding.specs.Trace.{FitsMasked};
 ghost use Rattle.p3_fri_relation.specs.Views.{parameters_of};
@@ -16,7 +16,7 @@ use p3_dft::Radix2Dit;
 use p3_field::{BabyBear, BabyBear4, Field};
 use p3_fri_folding::FriParameters;
 use p3_fri_hiding::{HidingFriPcs, HidingFriPcsProverData};
-use p3_fri_quotient_masks::are_disjoint;
+use p3_fri_masks::are_disjoint;
 use p3_fri_two_adic::TwoAdicFriPcs;
 use p3_matrix::RowMajorMatrix;
 use p3_mmcs::{Sha256Mmcs, Sha256ProverData};

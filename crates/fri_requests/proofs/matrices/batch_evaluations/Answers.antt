@@ -2,7 +2,7 @@ use Rattle.std.proofs.lemmas.List.Elements.{All-push}
 use Rattle.std.proofs.lemmas.List.{take_all}
 use Rattle.std.proofs.Common.{◌≡◌, ◌<◌, ◌≤◌, All, map, length, get_or, ap, subst, sym, ◌∙◌}
 use Rattle.std.proofs.lemmas.Result.{IfOk-from_err}
-use Rattle.p3_fri_commit.specs.Extension.{FitsDomain}
+use Rattle.p3_fri_extensions.specs.Extension.{FitsDomain}
 use Rattle.p3_fri_two_adic.specs.Chunks.{polynomials_on}
 use Rattle.fri_requests.specs.Commitments.{domain_of}
 use Rattle.p3_fri_openings.proofs.First.{one_more, to_the_end}

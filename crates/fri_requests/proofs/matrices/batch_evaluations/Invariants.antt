@@ -1,5 +1,5 @@
 use Rattle.std.proofs.Common.{◌≡◌, All, map, take}
-use Rattle.p3_fri_commit.specs.Extension.{FitsDomain}
+use Rattle.p3_fri_extensions.specs.Extension.{FitsDomain}
 use Rattle.p3_fri_two_adic.specs.Chunks.{polynomials_on}
 use Rattle.fri_requests.specs.Commitments.{domain_of}
 use Rattle.fri_requests.specs.Matrices.{held_listed}

@@ -1,5 +1,5 @@
 use Rattle.std.proofs.Common.{map, subst}
-use Rattle.p3_fri_quotient_masks.specs.QuotientMasks.{AreDisjoint}
+use Rattle.p3_fri_masks.specs.QuotientMasks.{AreDisjoint}
 use Rattle.p3_fri_hiding_tests.proofs.Maskable.{extendable}
 use Rattle.p3_fri_hiding_tests.proofs.chunks.are_maskable.Goals as goal
 

@@ -2,7 +2,7 @@ use Rattle.std.proofs.Common.{◌-◌, get_or, refl, ap, arith, below_more}
 use Rattle.std.proofs.lemmas.Grind.{common_steps}
 use Rattle.algebra.specs.Nested.{lists, nested}
 use Rattle.p3_fri_relation.specs.Views.{round_opened, rows_collected}
-use Rattle.p3_fri_query.proofs.Refusals.{handed_on, refused}
+use Rattle.p3_fri_queries.proofs.QueryRefusals.{handed_on, refused}
 use Rattle.p3_fri_queries.proofs.Heights.{height_here, height_next}
 use Rattle.p3_fri_queries.proofs.Openings.{OpensAt, IsRead, opens_read, rounds_all, rounds_none}
 use Rattle.p3_fri_queries.proofs.Openings.{round_fails}

@@ -1,5 +1,5 @@
 use Rattle.std.proofs.Common.{All}
-use Rattle.p3_fri_commit.specs.Extension.{FitsDomain}
+use Rattle.p3_fri_extensions.specs.Extension.{FitsDomain}
 use Rattle.p3_fri_two_adic_tests.proofs.committed.evaluations.Given as goal
 
 abbrev pub invariant-loop-numbers : goal.invariant-loop-numbers

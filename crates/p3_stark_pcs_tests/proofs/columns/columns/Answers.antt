@@ -1,6 +1,6 @@
 use Rattle.std.proofs.lemmas.List.Elements.{All-push}
 use Rattle.std.proofs.Common.{All, subst, sym}
-use Rattle.p3_fri_commit.specs.Extension.{FitsDomain}
+use Rattle.p3_fri_extensions.specs.Extension.{FitsDomain}
 use Rattle.p3_stark_pcs_tests.proofs.columns.columns.Goals as goal
 
 pub loop-shift-preserved : goal.loop-shift-preserved

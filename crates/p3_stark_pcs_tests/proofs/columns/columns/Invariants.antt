@@ -1,5 +1,5 @@
 use Rattle.std.proofs.Common.{All}
-use Rattle.p3_fri_commit.specs.Extension.{FitsDomain}
+use Rattle.p3_fri_extensions.specs.Extension.{FitsDomain}
 use Rattle.p3_stark_pcs_tests.proofs.columns.columns.Given as goal
 
 abbrev pub invariant-loop-shift : goal.invariant-loop-shift

@@ -5,10 +5,10 @@ use Rattle.p3_matrix.specs.Matrix.{rows}
 use Rattle.p3_fri_relation.specs.Setting.{Fields}
 use Rattle.p3_fri_completeness.specs.Requests.{held_in, HoldsWords}
 use Rattle.p3_fri_openings.specs.Rounds.{HasCoset}
-use Rattle.p3_fri_hiding_prover.specs.Halves.{shown_of}
+use Rattle.p3_fri_hiding_openings.specs.Halves.{shown_of}
 use Rattle.algebra.proofs.Lists.{map-map}
-use Rattle.p3_fri_hiding_prover.proofs.Ldes.{power_heights, cosets_of_ldes}
-use Rattle.p3_fri_hiding_prover.specs.Data.{AreWide}
+use Rattle.p3_fri_hiding_openings.proofs.Ldes.{power_heights, cosets_of_ldes}
+use Rattle.p3_fri_hiding_openings.specs.Data.{AreWide}
 use Rattle.p3_fri_hiding.proofs.NewData.{shown_is, of_scheme, is_unopened}
 use Rattle.p3_fri_hiding.proofs.Refused.{budget_refused, memory_refused, fit_of, misfit_of}
 use Rattle.p3_fri_hiding.proofs.hiding_pcs.HidingFriPcs.commit_ldes.Given.{Over}

@@ -4,9 +4,9 @@ use Rattle.p3_field_core.specs.Coset.{coset_point}
 use Rattle.p3_matrix.specs.Matrix.{rows, matrix_width}
 use Rattle.p3_stark_pcs.specs.Evaluations.{HoldsEvaluations, held_at}
 use Rattle.p3_fri_completeness.specs.Requests.{held_in}
-use Rattle.p3_fri_hiding_prover.specs.Data.{hidden_columns}
+use Rattle.p3_fri_hiding_openings.specs.Data.{hidden_columns}
 use Rattle.p3_fri_relation.specs.Setting.{Fields}
-use Rattle.p3_fri_hiding_prover.proofs.Evaluated.{coset_at, within_at, evaluated}
+use Rattle.p3_fri_hiding_openings.proofs.Evaluated.{coset_at, within_at, evaluated}
 use Rattle.p3_fri_hiding.proofs.Read.{is_matrix_of, shown_at, shown_read}
 use Rattle.p3_fri_hiding.proofs.hiding_pcs.HidingFriPcs.get_evaluations_on_domain.Given.{Over}
 use Rattle.p3_fri_hiding.proofs.hiding_pcs.HidingFriPcs.get_evaluations_on_domain.Goals as goal

@@ -1,6 +1,6 @@
 use Rattle.std.proofs.Common.{get_or, ap, ◌∙◌}
 use Rattle.p3_fri_relation.specs.Setting.{Fields}
-use Rattle.p3_fri_hiding_prover.proofs.Evaluated.{coset_at, within_at, evaluated}
+use Rattle.p3_fri_hiding_openings.proofs.Evaluated.{coset_at, within_at, evaluated}
 use Rattle.p3_fri_hiding.proofs.Read.{is_matrix_of}
 use Rattle.p3_fri_hiding.proofs.hiding_pcs.HidingFriPcs.get_evaluations_on_domain_no_random.Given.{Over}
 use Rattle.p3_fri_hiding.proofs.hiding_pcs.HidingFriPcs.get_evaluations_on_domain_no_random.Goals as goal

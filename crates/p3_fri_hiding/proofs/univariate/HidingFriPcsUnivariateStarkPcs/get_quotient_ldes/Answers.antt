@@ -3,7 +3,7 @@ use Rattle.std.proofs.lemmas.Result.{IfOk-weaker}
 use Rattle.rand_core.specs.Stream.{Stream}
 use Rattle.p3_field_core.specs.declared.coset.TwoAdicMultiplicativeCoset.{TwoAdicMultiplicativeCoset}
 use Rattle.p3_matrix.specs.declared.dense.RowMajorMatrix.{RowMajorMatrix}
-use Rattle.p3_fri_quotient_masks.specs.QuotientLdes.{AreMaskedChunks}
+use Rattle.p3_fri_masks.specs.QuotientLdes.{AreMaskedChunks}
 use Rattle.p3_fri_hiding.proofs.univariate.HidingFriPcsUnivariateStarkPcs.get_quotient_ldes.Given.{Over}
 use Rattle.p3_fri_hiding.proofs.univariate.HidingFriPcsUnivariateStarkPcs.get_quotient_ldes.Goals as goal
 

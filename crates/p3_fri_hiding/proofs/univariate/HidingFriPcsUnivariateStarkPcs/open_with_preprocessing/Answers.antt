@@ -7,11 +7,11 @@ use Rattle.p3_pcs.specs.Requests.{request, honest_claims, FitDomains}
 use Rattle.p3_fri_relation.specs.Setting.{Fields, Setting, CommitmentClaim}
 use Rattle.p3_fri_relation.specs.Views.{parameters_of, proof_of}
 use Rattle.p3_fri_completeness.specs.Requests.{relation_claims}
-use Rattle.p3_fri_hiding_prover.specs.Ends.{last_state}
-use Rattle.p3_fri_hiding_prover.specs.Accepted.{two_adic}
-use Rattle.p3_fri_hiding_prover.specs.RandomValues.{with_random_values}
-use Rattle.p3_fri_hiding_prover.specs.Hiding.{HidingAccepts}
-use Rattle.p3_fri_hiding_prover.specs.Data.{shown_polynomials}
+use Rattle.p3_fri_hiding_openings.specs.Ends.{last_state}
+use Rattle.p3_fri_hiding_openings.specs.Accepted.{two_adic}
+use Rattle.p3_fri_hiding_openings.specs.RandomValues.{with_random_values}
+use Rattle.p3_fri_hiding_openings.specs.Hiding.{HidingAccepts}
+use Rattle.p3_fri_hiding_openings.specs.Data.{shown_polynomials}
 use Rattle.p3_fri_hiding.proofs.Domains.{on_domains}
 use Rattle.p3_fri_hiding.proofs.univariate.HidingFriPcsUnivariateStarkPcs.open_with_preprocessing.Given.{Over}
 use Rattle.p3_fri_hiding.proofs.univariate.HidingFriPcsUnivariateStarkPcs.open_with_preprocessing.Goals as goal

@@ -7,10 +7,10 @@ use Rattle.p3_pcs.specs.Claims.{claim, opened_values}
 use Rattle.p3_fri_relation.specs.Setting.{Setting}
 use Rattle.p3_fri_relation.specs.Views.{parameters_of, proof_of}
 use Rattle.p3_fri_completeness.specs.Requests.{relation_claims}
-use Rattle.p3_fri_hiding_prover.specs.Ends.{last_state}
-use Rattle.p3_fri_hiding_prover.specs.Accepted.{two_adic}
-use Rattle.p3_fri_hiding_prover.specs.RandomValues.{with_random_values}
-use Rattle.p3_fri_hiding_prover.specs.Hiding.{HidingAccepts, StandsInHidingScheme}
+use Rattle.p3_fri_hiding_openings.specs.Ends.{last_state}
+use Rattle.p3_fri_hiding_openings.specs.Accepted.{two_adic}
+use Rattle.p3_fri_hiding_openings.specs.RandomValues.{with_random_values}
+use Rattle.p3_fri_hiding_openings.specs.Hiding.{HidingAccepts, StandsInHidingScheme}
 use Rattle.p3_fri_hiding.proofs.univariate.HidingFriPcsUnivariateStarkPcs.verify_with_preprocessing.Given.{Over}
 use Rattle.p3_fri_hiding.proofs.univariate.HidingFriPcsUnivariateStarkPcs.verify_with_preprocessing.Goals as goal
 

@@ -1,2 +1,0 @@
-pub mod Shifted
-pub mod Batches

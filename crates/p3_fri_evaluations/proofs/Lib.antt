@@ -1,3 +1,0 @@
-pub mod Fitted
-pub mod Halving
-pub mod Recovered

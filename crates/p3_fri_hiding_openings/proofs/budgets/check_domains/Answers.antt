@@ -1,0 +1,22 @@
+use Rattle.std.proofs.Common.{◌/◌, ◌^◌, refl, ap, subst}
+use Rattle.p3_fri_masks.specs.Budget.{FitsBudget}
+use Rattle.p3_fri_openings.proofs.First.{one_more, to_the_end}
+use Rattle.p3_fri_hiding_openings.proofs.Mapped.{all_mapped}
+use Rattle.p3_fri_hiding_openings.proofs.budgets.check_domains.Goals as goal
+
+pub loop-domain-preserved : goal.loop-domain-preserved
+loop-domain-preserved g c =
+    one_more (λ e. FitsBudget c.args.num_random_codewords c.args.num_queries c.args.extension_degree
+    (2 ^ e.log_size / 2) 1) c.args.domains.now c.loop-domain.domain-index
+    c.domain-item.result c.loop-domain-test.true c.domain-item.is c.loop-domain.invariant
+    (subst (λ h. FitsBudget c.args.num_random_codewords c.args.num_queries c.args.extension_degree h 1)
+    (ap (λ n. n / 2) c.size-height.ensures) (c.in_ok-check_hiding_budget.ensures.exactly.0 refl))
+
+pub returns : goal.returns
+returns g c =
+    all_mapped (λ e. 2 ^ e.log_size / 2)
+    (λ h. FitsBudget c.args.num_random_codewords c.args.num_queries c.args.extension_degree h 1)
+    c.args.domains.now
+    (to_the_end (λ e. FitsBudget c.args.num_random_codewords c.args.num_queries c.args.extension_degree
+    (2 ^ e.log_size / 2) 1) c.args.domains.now c.loop-domain.domain-index
+    c.loop-domain-test.false c.loop-domain.invariant)

@@ -1,0 +1,21 @@
+pub mod RandomValues
+pub mod RandomFaults
+pub mod Hiding
+pub mod Halves
+pub mod Budgets
+pub mod Shown
+pub mod Data
+pub mod Requests
+pub mod Opening
+-- what the scheme above names of the crates below
+pub use Rattle.p3_fri_two_adic.specs.Ends
+pub use Rattle.p3_fri_two_adic.specs.Accepted
+pub use Rattle.p3_fri_two_adic.specs.Chunks
+pub use Rattle.p3_fri_two_adic.specs.ErrorLaws
+pub use Rattle.p3_fri_two_adic.specs.EvaluationLaws
+pub use Rattle.p3_fri_two_adic.specs.Evaluations
+pub use Rattle.p3_fri_two_adic.specs.Held
+pub use Rattle.p3_fri_two_adic.specs.Ldes
+pub use Rattle.p3_fri_two_adic.specs.Ranges
+pub use Rattle.p3_fri_two_adic.specs.Rules
+pub use Rattle.p3_fri_two_adic.specs.UnivariateLaws

@@ -1,0 +1,344 @@
+//! The prover of openings that hide: what is inside of requests is opened, once all checks have
+//! passed and private data is marked.
+
+ghost use Rattle.std.specs.Prelude.{◌≡◌, ◌+◌, ◌^◌, ◌<◌, ◌≤◌, ℕ, List, All, IsOk, IfOk, IfErr, map};
+ghost use Rattle.p3_pcs.specs.Claims.{opened_values};
+ghost use Rattle.p3_pcs.specs.Requests.{AreOpenable, AreHonest, FitDomains, request, with_data};
+ghost use Rattle.p3_pcs.specs.Requests.{honest_values, honest_claims};
+ghost use Rattle.p3_stark_pcs.specs.Preprocessing.{AreOpenableAt};
+ghost use Rattle.p3_fri_relation.specs.Acceptance.{Accepts, batch_replayed, test_replay};
+ghost use Rattle.p3_fri_relation.specs.Views.{parameters_of, proof_of};
+ghost use Rattle.p3_fri_openings.specs.Rounds.{HasCoset};
+ghost use Rattle.p3_fri_completeness.specs.Requests.{HoldsWords, held_of, relation_claims};
+ghost use Rattle.p3_fri_opening_prover.specs.Refusals.{PassesChecks, OpenRefusal, LeavesState};
+ghost use Rattle.p3_fri_two_adic.specs.Ends.{last_state};
+ghost use Rattle.p3_fri_two_adic.specs.Ranges.{InProverRange};
+ghost use Rattle.p3_fri_folding.specs.declared.error.FriProverError.TheVariants.{OutOfMemory};
+ghost use Rattle.p3_fri_masks.specs.declared.error.HidingFriProverError.TheVariants.{Fri};
+ghost use Rattle.p3_fri_hiding_openings.specs.Halves.{shown_values, kept_values};
+ghost use Rattle.p3_fri_hiding_openings.specs.RandomValues.{with_random_values};
+ghost use Rattle.p3_fri_hiding_openings.specs.Hiding.{HidingAccepts};
+ghost use Rattle.p3_fri_hiding_openings.specs.Data.{IsUnopened, IsPreprocessing, shown_polynomials};
+ghost use Rattle.p3_fri_hiding_openings.specs.Requests.{inside, inner_request, after_opening};
+ghost use Rattle.p3_fri_hiding_openings.specs.Opening.{PassesHidingChecks, HidingRefusal};
+ghost use Rattle.p3_fri_hiding_openings.specs.Opening.{LeavesHidingState};
+
+use crate::data::HidingFriPcsProverData;
+use crate::gather::{hidden_data, hidden_rounds};
+use crate::marks::mark_all;
+use crate::request_checks::check_requests;
+use crate::split_random_values;
+use p3_challenger_core::{CanObserve, FieldChallenger, GrindingChallenger};
+use p3_field_core::{ExtensionField, PackableExtension, PackableField, TwoAdicField};
+use p3_fri_folding::{FriFoldingStrategy, FriParameters, FriProverError};
+use p3_fri_masks::HidingFriProverError;
+use p3_fri_opening_prover::open_rounds;
+use p3_fri_relation::proof::{BatchMultiOpening, FriProof};
+use p3_fri_relation::setting::{ChallengeField, PlaysFri};
+use p3_fri_two_adic::setting::PlaysTwoAdic;
+use p3_fri_two_adic::{TwoAdicFriFolding, TwoAdicFriFoldingForMmcs};
+use p3_mmcs::{Mmcs, OpenedValues};
+use p3_pcs::OpeningRequest;
+use std::alloc::{AllocError, Global};
+use std::marker::PhantomData;
+
+/// Opens what is inside of requests that passed the checks: all columns, with those that only hide
+/// others.
+fn open_hidden<
+    F: TwoAdicField,
+    EF: ExtensionField<F>,
+    M: Mmcs<EF>,
+    InputMmcs: Mmcs<F>,
+    S: FriFoldingStrategy<F, EF>,
+    C: FieldChallenger<F> + GrindingChallenger<Witness = F> + CanObserve<M::Commitment>,
+>(
+    alloc: Global,
+    folding: &S,
+    params: &FriParameters<M>,
+    input_mmcs: &InputMmcs,
+    requests: &[OpeningRequest<'_, HidingFriPcsProverData<InputMmcs::ProverData>, EF>],
+    challenger: &mut C,
+) -> Result<
+    (
+        OpenedValues<EF>,
+        FriProof<EF, M, F, Vec<BatchMultiOpening<F, InputMmcs>>>,
+    ),
+    FriProverError,
+>
+    requires positive_blowup { 0 < params.now.log_blowup }
+    requires blowup_below_64 { params.now.log_blowup < 64 }
+    requires positive_cap { 0 < params.now.max_log_arity }
+    requires some_query { 0 < params.now.num_queries }
+    requires index_bits_at_most_max { F.TWO_ADICITY + S.extra_query_index_bits folding.now
+        ≤ C.MAX_SAMPLE_BITS }
+    requires batch_bits_at_most_max { params.now.batch_proof_of_work_bits ≤ C.MAX_SAMPLE_BITS }
+    requires commit_bits_at_most_max { params.now.commit_proof_of_work_bits ≤ C.MAX_SAMPLE_BITS }
+    requires query_bits_at_most_max { params.now.query_proof_of_work_bits ≤ C.MAX_SAMPLE_BITS }
+    requires max_log_height { F.TWO_ADICITY ≤ S.max_log_height folding.now }
+    requires openable { AreOpenable (λ d. All (HasCoset F.TWO_ADICITY) (InputMmcs.committed d))
+        (held_of ⟦<EF as ChallengeField<F>>⟧.fields InputMmcs.committed params.now.log_blowup)
+        (map request (map inner_request requests.now)) }
+    requires passes { PassesChecks ⟦<EF as ChallengeField<F>>⟧.fields
+        (parameters_of params.now) InputMmcs.committed
+        (map request (map inner_request requests.now)) }
+    ensures values { IfOk result (λ opening. opened_values opening.0.items ≡ map (honest_values
+        (held_of ⟦<EF as ChallengeField<F>>⟧.fields InputMmcs.committed params.now.log_blowup))
+        (map request (map inner_request requests.now))) }
+    ensures accepted { let s = ⟦<C as PlaysFri<F, EF, S, M, InputMmcs>>⟧.setting folding.now
+        params.now.mmcs input_mmcs.now in
+        let held = held_of s.fields InputMmcs.committed params.now.log_blowup in
+        let asked = map request (map inner_request requests.now) in
+        AreHonest (λ d. All (HoldsWords s.fields params.now.log_blowup) (InputMmcs.committed d))
+        asked → IfOk result (λ opening. (log_sizes : List (List ℕ))
+        → FitDomains held (λ n. 2 ^ n) log_sizes asked
+        → Accepts s (parameters_of params.now) (relation_claims (λ n. n)
+        (honest_claims held InputMmcs.commitment_of log_sizes asked)) (proof_of opening.1)
+        challenger.old) }
+    ensures state { let s = ⟦<C as PlaysFri<F, EF, S, M, InputMmcs>>⟧.setting folding.now
+        params.now.mmcs input_mmcs.now in
+        let p = parameters_of params.now in
+        let held = held_of s.fields InputMmcs.committed params.now.log_blowup in
+        let asked = map request (map inner_request requests.now) in
+        AreHonest (λ d. All (HoldsWords s.fields params.now.log_blowup) (InputMmcs.committed d))
+        asked → IfOk result (λ opening. (log_sizes : List (List ℕ))
+        → FitDomains held (λ n. 2 ^ n) log_sizes asked
+        → let claims = relation_claims (λ n. n)
+        (honest_claims held InputMmcs.commitment_of log_sizes asked) in
+        challenger.new ≡ (test_replay s p claims (proof_of opening.1)
+        (batch_replayed s p claims (proof_of opening.1) challenger.old).state).state) }
+    ensures refused { let s = ⟦<C as PlaysFri<F, EF, S, M, InputMmcs>>⟧.setting folding.now
+        params.now.mmcs input_mmcs.now in
+        IfErr result (OpenRefusal s (parameters_of params.now) InputMmcs.committed M.committed
+        M.commitment_of C.solution challenger.old (map request (map inner_request requests.now))) }
+    ensures not_checked { IfErr result (λ e. ¬ LeavesState e) }
+{
+    let rounds = match hidden_rounds(alloc, input_mmcs, requests) {
+        Ok(rounds) => rounds,
+        Err(AllocError) => return Err(FriProverError::OutOfMemory),
+    };
+    let opened = match hidden_data(alloc, requests) {
+        Ok(opened) => opened,
+        Err(AllocError) => return Err(FriProverError::OutOfMemory),
+    };
+    open_rounds(
+        alloc, folding, params, input_mmcs, &rounds, &opened, challenger,
+    )
+}
+
+/// Opens what is inside of requests: all columns. Once the checks have passed, private data counts
+/// as opened, whatever comes then.
+fn open_marked<
+    F: TwoAdicField,
+    EF: ExtensionField<F>,
+    M: Mmcs<EF>,
+    InputMmcs: Mmcs<F>,
+    S: FriFoldingStrategy<F, EF>,
+    C: FieldChallenger<F> + GrindingChallenger<Witness = F> + CanObserve<M::Commitment>,
+>(
+    alloc: Global,
+    folding: &S,
+    params: &FriParameters<M>,
+    input_mmcs: &InputMmcs,
+    num_random_codewords: usize,
+    requests: &mut [OpeningRequest<'_, HidingFriPcsProverData<InputMmcs::ProverData>, EF>],
+    challenger: &mut C,
+) -> Result<
+    (
+        OpenedValues<EF>,
+        FriProof<EF, M, F, Vec<BatchMultiOpening<F, InputMmcs>>>,
+    ),
+    HidingFriProverError,
+>
+    requires positive_blowup { 0 < params.now.log_blowup }
+    requires blowup_below_64 { params.now.log_blowup < 64 }
+    requires positive_cap { 0 < params.now.max_log_arity }
+    requires some_query { 0 < params.now.num_queries }
+    requires index_bits_at_most_max { F.TWO_ADICITY + S.extra_query_index_bits folding.now
+        ≤ C.MAX_SAMPLE_BITS }
+    requires batch_bits_at_most_max { params.now.batch_proof_of_work_bits ≤ C.MAX_SAMPLE_BITS }
+    requires commit_bits_at_most_max { params.now.commit_proof_of_work_bits ≤ C.MAX_SAMPLE_BITS }
+    requires query_bits_at_most_max { params.now.query_proof_of_work_bits ≤ C.MAX_SAMPLE_BITS }
+    requires max_log_height { F.TWO_ADICITY ≤ S.max_log_height folding.now }
+    requires openable { AreOpenable (λ d. All (HasCoset F.TWO_ADICITY) (InputMmcs.committed d))
+        (held_of ⟦<EF as ChallengeField<F>>⟧.fields InputMmcs.committed params.now.log_blowup)
+        (map inside (map request requests.old)) }
+    ensures values { IfOk result (λ opening. opened_values opening.0.items ≡ map (honest_values
+        (held_of ⟦<EF as ChallengeField<F>>⟧.fields InputMmcs.committed params.now.log_blowup))
+        (map inside (map request requests.old))) }
+    ensures accepted { let s = ⟦<C as PlaysFri<F, EF, S, M, InputMmcs>>⟧.setting folding.now
+        params.now.mmcs input_mmcs.now in
+        let held = held_of s.fields InputMmcs.committed params.now.log_blowup in
+        let asked = map inside (map request requests.old) in
+        AreHonest (λ d. All (HoldsWords s.fields params.now.log_blowup) (InputMmcs.committed d))
+        asked → IfOk result (λ opening. (log_sizes : List (List ℕ))
+        → FitDomains held (λ n. 2 ^ n) log_sizes asked
+        → Accepts s (parameters_of params.now) (relation_claims (λ n. n)
+        (honest_claims held InputMmcs.commitment_of log_sizes asked)) (proof_of opening.1)
+        challenger.old) }
+    ensures state { let s = ⟦<C as PlaysFri<F, EF, S, M, InputMmcs>>⟧.setting folding.now
+        params.now.mmcs input_mmcs.now in
+        let p = parameters_of params.now in
+        let held = held_of s.fields InputMmcs.committed params.now.log_blowup in
+        let asked = map inside (map request requests.old) in
+        AreHonest (λ d. All (HoldsWords s.fields params.now.log_blowup) (InputMmcs.committed d))
+        asked → IfOk result (λ opening. (log_sizes : List (List ℕ))
+        → FitDomains held (λ n. 2 ^ n) log_sizes asked
+        → let claims = relation_claims (λ n. n)
+        (honest_claims held InputMmcs.commitment_of log_sizes asked) in
+        challenger.new ≡ (test_replay s p claims (proof_of opening.1)
+        (batch_replayed s p claims (proof_of opening.1) challenger.old).state).state) }
+    ensures checked { IsOk result → PassesHidingChecks ⟦<EF as ChallengeField<F>>⟧.fields
+        (parameters_of params.now) num_random_codewords InputMmcs.committed
+        (map request requests.old) }
+    ensures opened { PassesHidingChecks ⟦<EF as ChallengeField<F>>⟧.fields
+        (parameters_of params.now) num_random_codewords InputMmcs.committed
+        (map request requests.old)
+        → requests.new ≡ map (with_data after_opening) requests.old }
+    ensures unopened { ¬ PassesHidingChecks ⟦<EF as ChallengeField<F>>⟧.fields
+        (parameters_of params.now) num_random_codewords InputMmcs.committed
+        (map request requests.old)
+        → requests.new ≡ requests.old }
+    ensures refused { let s = ⟦<C as PlaysFri<F, EF, S, M, InputMmcs>>⟧.setting folding.now
+        params.now.mmcs input_mmcs.now in
+        IfErr result (HidingRefusal s (parameters_of params.now) num_random_codewords
+        InputMmcs.committed M.committed M.commitment_of C.solution challenger.old
+        (map request requests.old)) }
+    ensures unmoved { IfErr result (λ e. LeavesHidingState e → challenger.new ≡ challenger.old) }
+    ensures untouched { IfErr result (λ e. LeavesHidingState e → requests.new ≡ requests.old) }
+{
+    check_requests(num_random_codewords, params, input_mmcs, &*requests)?;
+    mark_all(&mut *requests);
+    let opening = open_hidden(alloc, folding, params, input_mmcs, &*requests, challenger)?;
+    Ok(opening)
+}
+
+/// The opening of all columns, with the random values of private data moved beside the proof. Want
+/// of memory is `Fri(OutOfMemory)`.
+fn split_opening<EF: Copy, P: Drop>(
+    alloc: Global,
+    opening: (OpenedValues<EF>, P),
+    num_random_codewords: usize,
+    preprocessing: Option<usize>,
+) -> Result<(OpenedValues<EF>, (OpenedValues<EF>, P)), HidingFriProverError>
+    ensures shown { IfOk result (λ halves. opened_values halves.0.items
+        ≡ shown_values num_random_codewords preprocessing (opened_values opening.0.items)) }
+    ensures kept { IfOk result (λ halves. (opened_values halves.1.0.items
+        ≡ kept_values num_random_codewords preprocessing (opened_values opening.0.items))
+        × (halves.1.1 ≡ opening.1)) }
+    ensures refused { IfErr result (λ e. e ≡ Fri OutOfMemory) }
+{
+    let (values, proof) = opening;
+    match split_random_values(alloc, values, num_random_codewords, preprocessing) {
+        Ok((shown, kept)) => Ok((shown, (kept, proof))),
+        Err(error) => Err(HidingFriProverError::from(error)),
+    }
+}
+
+/// Opens requests to the scheme: answers the values of the committed polynomials at the points, of
+/// private data without the columns that only hide others, and a proof, which has the values of
+/// these at the same points beside. The index names the request of preprocessing, if there is one.
+/// Once the checks have passed, private data counts as opened, whatever comes then.
+///
+/// # Errors
+///
+/// Matrix by matrix, request by request, the height is tested and then the hiding budget for the
+/// matrix's points, and after them all points, before any data is marked or the challenger touched.
+/// `Fri(NoPowWitness)` where no element passes a proof of work that is asked for. Want of memory is
+/// `Fri(OutOfMemory)`.
+pub fn open_hiding_requests<
+    F: TwoAdicField + PackableField,
+    EF: PackableExtension<F>,
+    M: Mmcs<EF>,
+    InputMmcs: Mmcs<F>,
+    C: FieldChallenger<F> + GrindingChallenger<Witness = F> + CanObserve<M::Commitment>,
+>(
+    alloc: Global,
+    params: &FriParameters<M>,
+    input_mmcs: &InputMmcs,
+    num_random_codewords: usize,
+    requests: &mut [OpeningRequest<'_, HidingFriPcsProverData<InputMmcs::ProverData>, EF>],
+    challenger: &mut C,
+    preprocessing: Option<usize>,
+) -> Result<
+    (
+        OpenedValues<EF>,
+        (
+            OpenedValues<EF>,
+            FriProof<EF, M, F, Vec<BatchMultiOpening<F, InputMmcs>>>,
+        ),
+    ),
+    HidingFriProverError,
+>
+    requires range { InProverRange (parameters_of params.now) F.TWO_ADICITY C.MAX_SAMPLE_BITS }
+    requires shape { let fields = ⟦<EF as ChallengeField<F>>⟧.fields in
+        let b = params.now.log_blowup in
+        AreOpenableAt (IsUnopened fields InputMmcs.committed b num_random_codewords)
+        (IsPreprocessing fields InputMmcs.committed b num_random_codewords)
+        (shown_polynomials fields InputMmcs.committed b num_random_codewords) preprocessing
+        (map request requests.old) }
+    ensures values { IfOk result (λ opening. opened_values opening.0.items ≡ map (honest_values
+        (shown_polynomials ⟦<EF as ChallengeField<F>>⟧.fields InputMmcs.committed
+        params.now.log_blowup num_random_codewords)) (map request requests.old)) }
+    ensures kept { let fields = ⟦<EF as ChallengeField<F>>⟧.fields in
+        IfOk result (λ opening. opened_values opening.1.0.items
+        ≡ kept_values num_random_codewords preprocessing (map (honest_values
+        (held_of fields InputMmcs.committed params.now.log_blowup))
+        (map inside (map request requests.old)))) }
+    ensures accepted { let s = ⟦<C as PlaysTwoAdic<F, EF, InputMmcs, M>>⟧.setting input_mmcs.now
+        params.now.mmcs in
+        let b = params.now.log_blowup in
+        let shown = shown_polynomials s.fields InputMmcs.committed b num_random_codewords in
+        let asked = map request requests.old in
+        AreHonest (λ d. All (HoldsWords s.fields b) (InputMmcs.committed d.inner)) asked
+        → IfOk result (λ opening. (log_sizes : List (List ℕ))
+        → FitDomains shown (λ n. 2 ^ n) log_sizes asked
+        → HidingAccepts s (parameters_of params.now) num_random_codewords preprocessing
+        (relation_claims (λ n. n)
+        (honest_claims shown (λ d. InputMmcs.commitment_of d.inner) log_sizes asked))
+        (opened_values opening.1.0.items) (proof_of opening.1.1) challenger.old) }
+    ensures state { let s = ⟦<C as PlaysTwoAdic<F, EF, InputMmcs, M>>⟧.setting input_mmcs.now
+        params.now.mmcs in
+        let b = params.now.log_blowup in
+        let shown = shown_polynomials s.fields InputMmcs.committed b num_random_codewords in
+        let asked = map request requests.old in
+        AreHonest (λ d. All (HoldsWords s.fields b) (InputMmcs.committed d.inner)) asked
+        → IfOk result (λ opening. (log_sizes : List (List ℕ))
+        → FitDomains shown (λ n. 2 ^ n) log_sizes asked
+        → challenger.new ≡ last_state s (parameters_of params.now)
+        (with_random_values (relation_claims (λ n. n)
+        (honest_claims shown (λ d. InputMmcs.commitment_of d.inner) log_sizes asked))
+        (opened_values opening.1.0.items)) (proof_of opening.1.1) challenger.old) }
+    ensures checked { IsOk result → PassesHidingChecks ⟦<EF as ChallengeField<F>>⟧.fields
+        (parameters_of params.now) num_random_codewords InputMmcs.committed
+        (map request requests.old) }
+    ensures opened { PassesHidingChecks ⟦<EF as ChallengeField<F>>⟧.fields
+        (parameters_of params.now) num_random_codewords InputMmcs.committed
+        (map request requests.old)
+        → requests.new ≡ map (with_data after_opening) requests.old }
+    ensures unopened { ¬ PassesHidingChecks ⟦<EF as ChallengeField<F>>⟧.fields
+        (parameters_of params.now) num_random_codewords InputMmcs.committed
+        (map request requests.old)
+        → requests.new ≡ requests.old }
+    ensures refused { let s = ⟦<C as PlaysTwoAdic<F, EF, InputMmcs, M>>⟧.setting input_mmcs.now
+        params.now.mmcs in
+        IfErr result (HidingRefusal s (parameters_of params.now) num_random_codewords
+        InputMmcs.committed M.committed M.commitment_of C.solution challenger.old
+        (map request requests.old)) }
+    ensures unmoved { IfErr result (λ e. LeavesHidingState e → challenger.new ≡ challenger.old) }
+    ensures untouched { IfErr result (λ e. LeavesHidingState e → requests.new ≡ requests.old) }
+{
+    let folding: TwoAdicFriFoldingForMmcs<F, InputMmcs> = TwoAdicFriFolding(PhantomData);
+    let opened = open_marked::<F, EF, M, InputMmcs, TwoAdicFriFoldingForMmcs<F, InputMmcs>, C>(
+        alloc,
+        &folding,
+        params,
+        input_mmcs,
+        num_random_codewords,
+        requests,
+        challenger,
+    );
+    match opened {
+        Ok(opening) => split_opening(alloc, opening, num_random_codewords, preprocessing),
+        Err(refusal) => Err(refusal),
+    }
+}

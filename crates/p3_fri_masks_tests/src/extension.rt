@@ -1,0 +1,125 @@
+//! The words of masked chunks, against another program's, which interpolates and evaluates by the
+//! definitions.
+
+use crate::chunks::coset;
+use crate::matrices::{Entries, elements, has_entries, matrix};
+use p3_dft::Radix2Dit;
+use p3_fri_masks::masked_extension;
+use std::alloc::Global;
+use std::test::Fail;
+
+/// A chunk on the coset of this shift of `2^log_size` points, its mask, and the words with this
+/// blowup.
+#[derive(Clone, Copy, Debug)]
+struct Case {
+    shift: u64,
+    log_size: usize,
+    chunk: Entries,
+    mask: &'static [u64],
+    log_blowup: usize,
+    words: Entries,
+}
+
+const CASES: [Case; 3] = [
+    Case {
+        shift: 5,
+        log_size: 1,
+        chunk: (2, &[1, 2, 3, 4]),
+        mask: &[5, 6, 7, 8],
+        log_blowup: 1,
+        words: (
+            2,
+            &[
+                241_600_218,
+                1_288_499_696,
+                966_359_713,
+                1_369_011_775,
+                795_936_338,
+                622_822_570,
+                9_369_640,
+                746_197_789,
+                346_076_774,
+                1_392_338_567,
+                1_285_476_824,
+                968_178_936,
+                374_736_039,
+                2_007_227_286,
+                6_976_272,
+                1_672_052_962,
+            ],
+        ),
+    },
+    // `2 + 3 * (X / 31 - 1)`
+    Case {
+        shift: 31,
+        log_size: 0,
+        chunk: (1, &[2]),
+        mask: &[3],
+        log_blowup: 2,
+        words: (
+            1,
+            &[
+                2,
+                2_013_265_917,
+                1_158_681_696,
+                854_584_223,
+                750_566_799,
+                1_262_699_120,
+                635_169_581,
+                1_378_096_338,
+            ],
+        ),
+    },
+    Case {
+        shift: 1_000_000_007,
+        log_size: 2,
+        chunk: (1, &[9, 8, 7, 6]),
+        mask: &[0, 0, 0, 0],
+        log_blowup: 0,
+        words: (
+            1,
+            &[
+                11_428_600,
+                1_350_678_636,
+                530_524_069,
+                120_634_646,
+                1_167_516_546,
+                291_822_878,
+                1_436_142_989,
+                1_131_049_459,
+            ],
+        ),
+    },
+];
+
+/// Whether these are the words.
+fn has_words(alloc: Global, case: &Case) -> Result<bool, Fail> {
+    let domain = coset(case.shift, case.log_size)?;
+    let chunk = matrix(alloc, case.chunk)?;
+    let mask = elements(alloc, case.mask)?;
+    if case.log_blowup > 8 || domain.log_size() > 8 {
+        return Err(Fail::new("too large a coset"));
+    }
+    if chunk.height() != domain.size()
+        || chunk.height().checked_mul(chunk.width()) != Some(mask.len())
+    {
+        return Err(Fail::new("not a chunk on its domain with its mask"));
+    }
+    let words = masked_extension(
+        &Radix2Dit::default(),
+        alloc,
+        case.log_blowup,
+        domain,
+        chunk,
+        &mask,
+    )?;
+    Ok(has_entries(words, case.words))
+}
+
+#[test]
+fn words_are_values_of_masked_polynomials(rt: HostRuntime) -> Result<(), Fail> {
+    for case in &CASES {
+        assert!(rt; has_words(rt.alloc(), case)?, "{case:?}");
+    }
+    Ok(())
+}

@@ -1,0 +1,130 @@
+//! The factors of masks, and the masks of a quotient's chunks, against another program's.
+
+use crate::chunks::{Chunks, are_apart, coset};
+use crate::matrices::{are_lists, are_numbers, matrix};
+use p3_fri_masks::factors::mask_factors;
+use p3_fri_masks::quotient_masks;
+use rand_chacha::ChaCha20Rng;
+use rand_core::{Rng, SeedableRng};
+use std::alloc::Global;
+use std::test::Fail;
+
+/// The base-2 logarithm of the size of disjoint cosets, their shifts, and for each but the last its
+/// factor.
+#[derive(Clone, Copy, Debug)]
+struct Factors {
+    log_size: usize,
+    shifts: &'static [u64],
+    factors: &'static [u64],
+}
+
+const FACTORS: [Factors; 5] = [
+    Factors {
+        log_size: 3,
+        shifts: &[31],
+        factors: &[],
+    },
+    // the two halves of a coset of 32 points
+    Factors {
+        log_size: 4,
+        shifts: &[31, 1_414_256_219],
+        factors: &[1],
+    },
+    // at 1, 2, 3 and 4 the products over the others are -1/4, 1/6, -1/4 and 1
+    Factors {
+        log_size: 0,
+        shifts: &[1, 2, 3, 4],
+        factors: &[2_013_265_917, 6, 2_013_265_917],
+    },
+    Factors {
+        log_size: 1,
+        shifts: &[3, 5, 7],
+        factors: &[1_677_721_609, 1_811_939_324],
+    },
+    // the four quarters of a coset of 8 points
+    Factors {
+        log_size: 1,
+        shifts: &[31, 1_044_970_530, 1_235_625_957, 523_621_251],
+        factors: &[1, 1, 1],
+    },
+];
+
+/// Chunks of zeros on the cosets of these shifts.
+fn zeros(alloc: Global, log_size: usize, shifts: &[u64]) -> Result<Chunks, Fail> {
+    let mut all = Vec::new(alloc);
+    for shift in shifts {
+        all.push((coset(*shift, log_size)?, matrix(alloc, (1, &[0]))?))?;
+    }
+    Ok(all)
+}
+
+/// Whether these are the factors.
+fn has_factors(alloc: Global, case: &Factors) -> Result<bool, Fail> {
+    let chunks = zeros(alloc, case.log_size, case.shifts)?;
+    if chunks.is_empty() || !are_apart(alloc, &chunks)? {
+        return Err(Fail::new("the cosets aren't disjoint"));
+    }
+    Ok(are_numbers(&mask_factors(alloc, &chunks)?, case.factors))
+}
+
+#[test]
+fn factors_are_quotients_of_weights(rt: HostRuntime) -> Result<(), Fail> {
+    for case in &FACTORS {
+        assert!(rt; has_factors(rt.alloc(), case)?, "{case:?}");
+    }
+    Ok(())
+}
+
+/// Shifts of disjoint cosets of two points, how many coefficients a mask has, the masks by the
+/// words of a generator whose seed is `[9; 32]`, and its next word.
+#[derive(Clone, Copy, Debug)]
+struct Masks {
+    shifts: &'static [u64],
+    size: usize,
+    masks: &'static [&'static [u64]],
+    next_word: u64,
+}
+
+const MASKS: [Masks; 3] = [
+    Masks {
+        shifts: &[31],
+        size: 2,
+        masks: &[&[0, 0]],
+        next_word: 10_566_790_388_464_068_594,
+    },
+    Masks {
+        shifts: &[31, 1_235_625_957],
+        size: 2,
+        masks: &[&[127_051_834, 747_866_774], &[1_886_214_087, 1_265_399_147]],
+        next_word: 15_082_324_987_131_953_635,
+    },
+    Masks {
+        shifts: &[3, 5, 7],
+        size: 4,
+        masks: &[
+            &[127_051_834, 747_866_774, 1_316_534_259, 1_277_982_000],
+            &[1_067_978_113, 1_128_847_239, 1_391_540_510, 1_164_139_008],
+            &[101_862_070, 1_906_800_786, 1_100_016_853, 904_572_718],
+        ],
+        next_word: 4_923_800_621_691_045_022,
+    },
+];
+
+/// Whether these are the masks, and the generator stands just past them.
+fn has_masks(alloc: Global, case: &Masks) -> Result<bool, Fail> {
+    let chunks = zeros(alloc, 1, case.shifts)?;
+    if chunks.is_empty() || !are_apart(alloc, &chunks)? {
+        return Err(Fail::new("the cosets aren't disjoint"));
+    }
+    let mut rng = ChaCha20Rng::from_seed([9; 32]);
+    let masks = quotient_masks(alloc, &chunks, case.size, &mut rng)?;
+    Ok(are_lists(&masks, case.masks) && rng.next_u64() == case.next_word)
+}
+
+#[test]
+fn the_last_mask_makes_up_for_the_others(rt: HostRuntime) -> Result<(), Fail> {
+    for case in &MASKS {
+        assert!(rt; has_masks(rt.alloc(), case)?, "{case:?}");
+    }
+    Ok(())
+}

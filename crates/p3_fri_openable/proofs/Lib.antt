@@ -1,2 +1,0 @@
-mod Passes
-pub mod Requests

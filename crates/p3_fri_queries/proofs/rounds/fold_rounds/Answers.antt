@@ -1,0 +1,71 @@
+use Rattle.std.proofs.Common.{arith, refl}
+use Rattle.std.proofs.lemmas.List.{length-map}
+use Rattle.std.proofs.lemmas.List.Sums.{sum_by-drop_more}
+use Rattle.algebra.specs.Nested.{lists, nested}
+use Rattle.algebra.proofs.Nested.{length-lists}
+use Rattle.p3_fri_queries.proofs.Lists.{siblings_at, row_at, in_range_at}
+use Rattle.p3_fri_queries.proofs.FoldedRounds.{none_folded, folded_on, value_reached, index_reached, indices_reached, rows_reached}
+use Rattle.p3_fri_queries.proofs.rounds.fold_rounds.Goals as goal
+
+pub loop-round-init : goal.loop-round-init
+loop-round-init g c =
+    none_folded _ _ _ _ _ _ _ _ _ c.requires.distance c.requires.within_word
+    (omega (arith, c.requires.indices, length-lists c.args.group_indices_by_round.now))
+    (omega (arith, c.requires.rows, length-map c.args.rows_by_round.now (λ round. nested round.items)))
+
+pub loop-round-preserved : goal.loop-round-preserved
+loop-round-preserved g c =
+    let k = c.loop-round.round in
+    let has = siblings_at (λ o. lists o.sibling_values.items) c.args.query k c.args.openings.now
+    c.index-openings-round.result (omega arith) c.index-openings-round.is in
+    folded_on _ _ _ _ _ _ c.loop-round.invariant (omega arith) (omega arith) has.0 c.index-betas-round.is has.1
+    c.in_ok-folded.ensures.0 c.in_ok-folded.ensures.1
+    (c.in_ok-collect.ensures.indices refl) (c.in_ok-collect.ensures.rows refl)
+
+pub fold_opening-requires-clause-has_row : goal.fold_opening-requires-clause-has_row
+fold_opening-requires-clause-has_row g c =
+    row_at (λ o. lists o.sibling_values.items) c.args.query c.loop-round.round c.args.log_arities.now c.args.openings.now
+    c.index-openings-round.result c.requires.have_rows (omega arith) (omega arith) c.index-openings-round.is
+
+pub fold_opening-requires-clause-positive : goal.fold_opening-requires-clause-positive
+fold_opening-requires-clause-positive g c =
+    (in_range_at c.loop-round.round c.args.log_arities.now c.requires.range (omega arith)).0
+
+pub fold_opening-requires-clause-small : goal.fold_opening-requires-clause-small
+fold_opening-requires-clause-small g c =
+    (in_range_at c.loop-round.round c.args.log_arities.now c.requires.range (omega arith)).1
+
+pub fold_opening-requires-clause-within_word : goal.fold_opening-requires-clause-within_word
+fold_opening-requires-clause-within_word g c = c.loop-round.invariant.within
+
+pub overflow_shr-start_index : goal.overflow_shr-start_index
+overflow_shr-start_index g c =
+    (in_range_at c.loop-round.round c.args.log_arities.now c.requires.range (omega arith)).1
+
+pub collect-requires-clause-indices : goal.collect-requires-clause-indices
+collect-requires-clause-indices g c =
+    omega (arith, c.loop-round.invariant.indices_length, length-lists c.loop-round.group_indices_by_round)
+
+pub collect-requires-clause-rows : goal.collect-requires-clause-rows
+collect-requires-clause-rows g c =
+    omega (arith, c.loop-round.invariant.rows_length, length-map c.loop-round.rows_by_round (λ round. nested round.items))
+
+pub returns-clause-value : goal.returns-clause-value
+returns-clause-value g c = value_reached _ _ _ _ _ _ c.loop-round.invariant (omega arith)
+
+pub returns-clause-index : goal.returns-clause-index
+returns-clause-index g c = λ _. index_reached _ _ _ _ _ _ c.loop-round.invariant (omega arith)
+
+pub returns-clause-indices : goal.returns-clause-indices
+returns-clause-indices g c = λ _. indices_reached _ _ _ _ _ _ c.loop-round.invariant (omega arith)
+
+pub returns-clause-rows : goal.returns-clause-rows
+returns-clause-rows g c = λ _. rows_reached _ _ _ _ _ _ c.loop-round.invariant (omega arith)
+
+pub overflow_sub-height : goal.overflow_sub-height
+overflow_sub-height g c =
+    omega (arith, sum_by-drop_more (λ x. x) c.args.log_arities.now c.loop-round.round 0 (omega arith))
+
+pub fold_opening-requires-clause-within_height : goal.fold_opening-requires-clause-within_height
+fold_opening-requires-clause-within_height g c =
+    omega (arith, sum_by-drop_more (λ x. x) c.args.log_arities.now c.loop-round.round 0 (omega arith))

@@ -1,5 +1,0 @@
-use Rattle.std.proofs.Common.{rules}
-use Rattle.p3_fri_random_openings.proofs.append.expected_count.Goals as goal
-
-pub returns-then-index-round : goal.returns-then-index-round
-returns-then-index-round c = search rules

@@ -1,4 +1,0 @@
-pub mod RandomValues
-pub mod RandomFaults
-pub mod Hiding
-pub mod Halves
