@@ -23,7 +23,7 @@ use Rattle.p3_fri_folding.specs.declared.error.FriProverError.{FriProverError}
 use Rattle.p3_fri_relation.specs.Setting as setting
 use Rattle.p3_fri_openings.specs.Rounds.{HasCoset}
 use Rattle.p3_fri_openings.specs.Openable.{MayBeOpened}
-use Rattle.p3_fri_completeness.specs.Requests.{held_in}
+use Rattle.p3_fri_openings.specs.Held.{held_in}
 use Rattle.p3_fri_two_adic.specs.Ranges.{InProverRange}
 use Rattle.fri_requests.specs.declared.records.Parameters.{Parameters}
 use Rattle.fri_requests.specs.declared.records.Matrix.{Matrix}

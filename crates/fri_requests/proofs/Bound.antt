@@ -15,7 +15,7 @@ use Rattle.p3_mmcs.specs.declared.openings.MatrixOpening.{MatrixOpening}
 use Rattle.p3_mmcs.specs.declared.openings.CommitmentOpening.{CommitmentOpening}
 use Rattle.p3_pcs.specs.Claims.{zip_with, point_claim, matrix_claim, claim}
 use Rattle.p3_pcs.specs.Requests.{honest_claims}
-use Rattle.p3_fri_completeness.specs.Requests.{held_of}
+use Rattle.p3_fri_openings.specs.Held.{held_of}
 use Rattle.fri_statement.specs.Numbers.{coefficient_numbers}
 use Rattle.fri_statement.specs.Statement.{OpenedMatrix, OpenedCommitment}
 use Rattle.p3_challenger_sha256.specs.declared.sha256_challenger.Sha256Challenger.{Sha256Challenger}

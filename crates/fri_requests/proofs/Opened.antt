@@ -12,7 +12,7 @@ use Rattle.p3_mmcs.specs.ProverData.{matrices_of, root_over}
 use Rattle.p3_pcs.specs.Claims.{zip_with, point_claims, matrix_claims}
 use Rattle.p3_pcs.specs.Requests.{Held, AreHonest, FitDomains, honest_claims}
 use Rattle.p3_stark_pcs.specs.Evaluations.{HasPolynomials}
-use Rattle.p3_fri_completeness.specs.Requests.{held_of, HoldsWords}
+use Rattle.p3_fri_openings.specs.Held.{held_of, HoldsWords}
 use Rattle.fri_requests.specs.declared.records.Matrix.{Matrix}
 use Rattle.fri_requests.specs.declared.records.Batch.{Batch}
 use Rattle.fri_requests.specs.declared.records.Domain.{Domain}

@@ -9,7 +9,7 @@ use Rattle.p3_mmcs.specs.Tree.{leaf_at, root_of}
 use Rattle.p3_mmcs.specs.ProverData.{matrices_of, root_over}
 use Rattle.p3_stark_pcs.specs.Evaluations.{HasPolynomials}
 use Rattle.p3_fri_openings.specs.Rounds.{HasCoset}
-use Rattle.p3_fri_completeness.specs.Requests.{held_in, held_of, HoldsWords}
+use Rattle.p3_fri_openings.specs.Held.{held_in, held_of, HoldsWords}
 use Rattle.fri_requests.specs.declared.records.Batch.{Batch}
 use Rattle.fri_requests.specs.declared.records.Domain.{Domain}
 use Rattle.fri_requests.specs.declared.committed.Committed.{Committed}

@@ -3,7 +3,7 @@
 ghost use Rattle.std.specs.Prelude.{◌≡◌, map, IsOk, IfOk, IfErr};
 ghost use Rattle.p3_challenger_core.specs.Run.{After};
 ghost use Rattle.p3_pcs.specs.Claims.{claim};
-ghost use Rattle.p3_fri_completeness.specs.Requests.{relation_claims};
+ghost use Rattle.p3_fri_openings.specs.SchemeClaims.{relation_claims};
 ghost use Rattle.p3_fri_two_adic.specs.Ends.{last_state};
 ghost use Rattle.p3_fri_relation.specs.Acceptance.{Accepts};
 ghost use Rattle.p3_fri_relation.specs.Faults.{StandsInScheme};

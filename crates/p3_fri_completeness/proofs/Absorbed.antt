@@ -17,8 +17,9 @@ use Rattle.p3_fri_pcs_transcript.specs.Replay.{BatchReplay, claims_replay}
 use Rattle.p3_fri_relation.specs.Setting.{Fields, Setting, Parameters, CommitmentClaim, Proof}
 use Rattle.p3_fri_relation.specs.Heights.{matrices_of}
 use Rattle.p3_fri_relation.specs.Acceptance.{pcs_numbers, values_claimed, batch_replayed}
-use Rattle.p3_fri_completeness.specs.Requests.{point_claim, matrix_claim, relation_claims, held_in}
-use Rattle.p3_fri_completeness.specs.Requests.{held_of, IsHonestRequest}
+use Rattle.p3_fri_openings.specs.Held.{held_in, held_of}
+use Rattle.p3_fri_openings.specs.SchemeClaims.{point_claim, matrix_claim, relation_claims}
+use Rattle.p3_fri_completeness.specs.Requests.{IsHonestRequest}
 use Rattle.p3_fri_completeness.proofs.Requests.{Fit}
 
 -- values by matrix and point: how many there are at each point, and all of them in order

@@ -27,9 +27,9 @@ use Rattle.p3_fri_batch.specs.Claimed.{IsClaimOf, AreClaimsOf, matrices_in}
 use Rattle.p3_fri_batch.specs.Rounds.{opened_honestly}
 use Rattle.p3_fri_prover.specs.Openings.{OpensBatch}
 use Rattle.p3_fri_completeness.specs.Honest.{IsHonest}
-use Rattle.p3_fri_completeness.specs.Requests.{point_claim, matrix_claim, relation_claims, held_in}
-use Rattle.p3_fri_completeness.specs.Requests.{HoldsWords, held_of, round_opened}
-use Rattle.p3_fri_completeness.specs.Requests.{IsHonestRequest}
+use Rattle.p3_fri_openings.specs.Held.{held_in, HoldsWords, held_of}
+use Rattle.p3_fri_openings.specs.SchemeClaims.{point_claim, matrix_claim, relation_claims}
+use Rattle.p3_fri_completeness.specs.Requests.{round_opened, IsHonestRequest}
 use Rattle.p3_field_core.proofs.IndexPowers.{exponents_agree}
 
 module _ {F E : Type 0} (f : Fields F E) (p : Parameters) where

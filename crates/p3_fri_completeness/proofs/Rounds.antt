@@ -12,7 +12,8 @@ use Rattle.p3_fri_openings.specs.Requests.{round_request, matrices_request}
 use Rattle.p3_fri_batch.specs.Words.{Opened}
 use Rattle.p3_fri_batch.specs.Rounds.{opened_by_round, opened_honestly}
 use Rattle.p3_fri_batch.proofs.Honest.{rounds_opened}
-use Rattle.p3_fri_completeness.specs.Requests.{held_in, held_of, round_opened}
+use Rattle.p3_fri_openings.specs.Held.{held_in, held_of}
+use Rattle.p3_fri_completeness.specs.Requests.{round_opened}
 use Rattle.algebra.proofs.Lists.{map-agree, map-map}
 
 module _ {F E : Type 0} (f : Fields F E) (log_blowup : ℕ) where

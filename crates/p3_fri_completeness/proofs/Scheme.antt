@@ -22,8 +22,9 @@ use Rattle.p3_fri_prover.specs.Openings.{OpensBatch}
 use Rattle.p3_fri_prover.specs.Proved.{positions, IsProved}
 use Rattle.p3_fri_completeness.specs.Honest.{AreTwoAdic, DrawsFit, IsHonest, IsHonestlyOpened}
 use Rattle.p3_fri_completeness.specs.Honest.{heights_claimed, words_claimed}
-use Rattle.p3_fri_completeness.specs.Requests.{relation_claims, held_of, round_opened}
-use Rattle.p3_fri_completeness.specs.Requests.{IsHonestRequest}
+use Rattle.p3_fri_openings.specs.Held.{held_of}
+use Rattle.p3_fri_openings.specs.SchemeClaims.{relation_claims}
+use Rattle.p3_fri_completeness.specs.Requests.{round_opened, IsHonestRequest}
 use Rattle.p3_fri_completeness.proofs.Claims.{each_claimed}
 use Rattle.p3_fri_completeness.proofs.Inputs.{greatest_within}
 use Rattle.p3_fri_completeness.proofs.Accepted.{honest_opening_accepted, honest_state}

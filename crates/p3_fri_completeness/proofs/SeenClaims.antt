@@ -6,7 +6,7 @@ use Rattle.p3_mmcs.specs.declared.openings.CommitmentOpening.{CommitmentOpening}
 use Rattle.p3_pcs.specs.Claims as claimed
 use Rattle.p3_fri_relation.specs.Setting.{PointClaim, MatrixClaim, CommitmentClaim}
 use Rattle.p3_fri_relation.specs.Views as view
-use Rattle.p3_fri_completeness.specs.Requests.{point_claim, matrix_claim, relation_claims}
+use Rattle.p3_fri_openings.specs.SchemeClaims.{point_claim, matrix_claim, relation_claims}
 
 module _ {E : Type 0} where
   points_are : (points : List (PointOpening E))

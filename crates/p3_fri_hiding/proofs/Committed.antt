@@ -13,7 +13,7 @@ use Rattle.p3_pcs.specs.Requests.{Held}
 use Rattle.p3_stark_pcs.specs.Evaluations.{HasShape}
 use Rattle.p3_fri_extensions.specs.Extension.{FitsDomain, IsLowDegreeExtension}
 use Rattle.p3_fri_relation.specs.Setting.{Fields}
-use Rattle.p3_fri_completeness.specs.Requests.{held_in}
+use Rattle.p3_fri_openings.specs.Held.{held_in}
 use Rattle.p3_fri_hiding_openings.specs.Halves.{shown_of}
 use Rattle.p3_fri_hiding_openings.proofs.Committed.{extends}
 use Rattle.p3_fri_masks.specs.Draws.{IsRandom, AreRandom}

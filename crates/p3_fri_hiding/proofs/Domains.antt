@@ -2,7 +2,7 @@
 use Rattle.std.proofs.Common.{◌^◌, ℕ, List, map, subst}
 use Rattle.p3_pcs.specs.Requests.{Held, Request, honest_claims, FitDomains}
 use Rattle.p3_fri_relation.specs.Setting.{CommitmentClaim}
-use Rattle.p3_fri_completeness.specs.Requests.{relation_claims}
+use Rattle.p3_fri_openings.specs.SchemeClaims.{relation_claims}
 use Rattle.p3_fri_hiding_openings.proofs.Sizes.{claims_sized, domains_sized}
 
 module _ {D E Com Domain : Type 0} (held : D → List (Held E)) (commitment_of : D → Com)

@@ -7,7 +7,7 @@ use Rattle.p3_matrix.specs.declared.dense.RowMajorMatrix.{RowMajorMatrix}
 use Rattle.p3_pcs.specs.Requests.{Held}
 use Rattle.p3_fri_relation.specs.Setting.{Fields}
 use Rattle.p3_fri_openings.specs.Rounds.{HasCoset}
-use Rattle.p3_fri_completeness.specs.Requests.{held_in}
+use Rattle.p3_fri_openings.specs.Held.{held_in}
 use Rattle.p3_fri_hiding_openings.specs.Halves.{shown_of}
 use Rattle.p3_fri_hiding_openings.specs.declared.data.HidingFriPcsProverData.{HidingFriPcsProverData}
 use Rattle.p3_fri_hiding_openings.specs.Data.{AreWide, IsNew, IsOfScheme, IsUnopened, IsPreprocessing}

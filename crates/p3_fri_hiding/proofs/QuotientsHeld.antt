@@ -24,7 +24,7 @@ use Rattle.p3_fri_relation.specs.Setting.{Fields}
 use Rattle.p3_fri_openings.specs.Committed.{committed_column, committed_values}
 use Rattle.p3_fri_openings.proofs.Committed.{committed_is}
 use Rattle.p3_fri_openings.proofs.Log2.{pow-divided}
-use Rattle.p3_fri_completeness.specs.Requests.{HoldsWords}
+use Rattle.p3_fri_openings.specs.Held.{HoldsWords}
 use Rattle.p3_fri_hiding_openings.specs.Chunks.{polynomials_on, recombined_on}
 use Rattle.p3_fri_hiding_openings.specs.Ldes.{HasLdeHeight}
 use Rattle.p3_fri_masks.specs.QuotientDraws.{chunks_with_random_columns}

@@ -12,7 +12,7 @@ use Rattle.p3_stark_pcs.specs.Evaluations.{held_at, ShowsFirst}
 use Rattle.p3_fri_relation.specs.Setting.{Fields}
 use Rattle.p3_fri_openings.specs.Committed.{committed_values}
 use Rattle.p3_fri_openings.proofs.Committed.{width_of_values}
-use Rattle.p3_fri_completeness.specs.Requests.{held_in, held_of, HoldsWords}
+use Rattle.p3_fri_openings.specs.Held.{held_in, held_of, HoldsWords}
 use Rattle.p3_fri_hiding_openings.specs.EvaluationLaws.{is_matrix_of, words_at}
 use Rattle.p3_fri_hiding_openings.specs.Evaluations.{HoldsWordsAt}
 use Rattle.p3_fri_hiding_openings.specs.Halves.{shown_of}

@@ -10,7 +10,8 @@ use Rattle.p3_stark_pcs.specs.Scheme.{StarkScheme}
 use Rattle.p3_fri_relation.specs.declared.error.FriError.{FriError}
 use Rattle.p3_fri_relation.specs.declared.error.FriError.TheVariants.{OutOfMemory}
 use Rattle.p3_fri_relation.specs.Setting.{Proof}
-use Rattle.p3_fri_completeness.specs.Requests.{held_of, HoldsWords, relation_claims}
+use Rattle.p3_fri_openings.specs.Held.{held_of, HoldsWords}
+use Rattle.p3_fri_openings.specs.SchemeClaims.{relation_claims}
 use Rattle.p3_fri_masks.specs.declared.error.HidingFriProverError.{HidingFriProverError}
 use Rattle.p3_fri_masks.specs.QuotientLdes.{AreMaskedChunks}
 use Rattle.p3_fri_hiding_openings.specs.declared.data.HidingFriPcsProverData.{HidingFriPcsProverData}

@@ -2,7 +2,7 @@
 
 ghost use Rattle.std.specs.Prelude.{◌≡◌, ◌+◌, ◌^◌, ◌≤◌, length, All, IfOk, IfErr};
 ghost use Rattle.p3_matrix.specs.Matrix.{rows};
-ghost use Rattle.p3_fri_completeness.specs.Requests.{HoldsWords};
+ghost use Rattle.p3_fri_openings.specs.Held.{HoldsWords};
 ghost use Rattle.p3_fri_folding.specs.declared.error.FriProverError.TheVariants.{OutOfMemory};
 ghost use Rattle.p3_fri_masks.specs.declared.error.HidingFriProverError.TheVariants.{Fri};
 ghost use Rattle.p3_fri_hiding_openings.specs.Data.{IsNew, IsOfScheme};

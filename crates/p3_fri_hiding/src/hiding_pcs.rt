@@ -8,7 +8,7 @@ ghost use Rattle.std.specs.List.{AllZip, Any};
 ghost use Rattle.rand_core.specs.Stream.{fill_bytes};
 ghost use Rattle.p3_matrix.specs.Matrix.{rows};
 ghost use Rattle.p3_matrix.specs.Words.{past};
-ghost use Rattle.p3_fri_completeness.specs.Requests.{HoldsWords};
+ghost use Rattle.p3_fri_openings.specs.Held.{HoldsWords};
 ghost use Rattle.p3_fri_folding.specs.declared.error.FriProverError.TheVariants.{OutOfMemory};
 ghost use Rattle.p3_fri_masks.specs.declared.error.HidingFriProverError.TheVariants.{Fri};
 ghost use Rattle.p3_fri_masks.specs.Masked.{mask_words_of_all, IsTooWide};

@@ -7,7 +7,7 @@ ghost use Rattle.p3_matrix.specs.Matrix.{rows};
 ghost use Rattle.p3_matrix.specs.Words.{past};
 ghost use Rattle.p3_stark_pcs.specs.Evaluations.{HasShape};
 ghost use Rattle.p3_fri_folding.specs.declared.error.FriProverError.TheVariants.{OutOfMemory};
-ghost use Rattle.p3_fri_completeness.specs.Requests.{HoldsWords};
+ghost use Rattle.p3_fri_openings.specs.Held.{HoldsWords};
 ghost use Rattle.p3_fri_hiding_openings.specs.Chunks.{polynomials_on, recombined_on};
 ghost use Rattle.p3_fri_hiding_openings.specs.Ldes.{HasLdeHeight};
 ghost use Rattle.p3_fri_masks.specs.Draws.{AreRandom, random_words};

@@ -5,7 +5,7 @@ ghost use Rattle.p3_field_core.specs.Coset.{coset_point};
 ghost use Rattle.p3_stark_pcs.specs.Evaluations.{HoldsEvaluations, held_at};
 ghost use Rattle.p3_fri_folding.specs.declared.error.FriProverError.TheVariants.{OutOfMemory};
 ghost use Rattle.p3_fri_masks.specs.declared.error.HidingFriProverError.TheVariants.{Fri};
-ghost use Rattle.p3_fri_completeness.specs.Requests.{held_of};
+ghost use Rattle.p3_fri_openings.specs.Held.{held_of};
 ghost use Rattle.p3_fri_hiding_openings.specs.Evaluations.{HoldsWordsAt};
 ghost use Rattle.p3_fri_hiding_openings.specs.Data.{CanRead, CanReadWhole, shown_polynomials};
 

@@ -8,7 +8,8 @@ use Rattle.p3_pcs.specs.Requests.{Held, Request, FitDomains, honest_claims, hone
 use Rattle.p3_stark_pcs.specs.Preprocessing.{AreOpenableAt}
 use Rattle.p3_fri_relation.specs.Setting.{Fields, Setting, Parameters, Proof, CommitmentClaim}
 use Rattle.p3_fri_relation.specs.Acceptance.{Accepts}
-use Rattle.p3_fri_completeness.specs.Requests.{held_in, held_of, relation_claims}
+use Rattle.p3_fri_openings.specs.Held.{held_in, held_of}
+use Rattle.p3_fri_openings.specs.SchemeClaims.{relation_claims}
 use Rattle.p3_fri_opening_prover.specs.Refusals.{asked_of}
 use Rattle.p3_fri_two_adic.specs.Ends.{last_state}
 use Rattle.p3_fri_hiding_openings.specs.RandomValues.{MayAppend, with_random_values}

@@ -15,8 +15,8 @@ use Rattle.p3_fri_relation.specs.Setting.{CommitmentClaim}
 use Rattle.p3_fri_openings.specs.Rounds.{ask}
 use Rattle.p3_fri_openings.proofs.Committed.{width_of_values}
 use Rattle.p3_fri_openings.specs.Committed.{committed_values}
-use Rattle.p3_fri_completeness.specs.Requests.{matrix_claim, point_claim, relation_claims}
-use Rattle.p3_fri_completeness.specs.Requests.{held_in, held_of}
+use Rattle.p3_fri_openings.specs.SchemeClaims.{matrix_claim, point_claim, relation_claims}
+use Rattle.p3_fri_openings.specs.Held.{held_in, held_of}
 use Rattle.p3_fri_opening_prover.specs.Refusals.{asked_of}
 use Rattle.p3_fri_masks.specs.Budget.{required_height}
 use Rattle.p3_fri_hiding_openings.specs.RandomValues.{count_at, FitsMatrix, NestInMatrix}

@@ -7,8 +7,8 @@ use Rattle.std.proofs.lemmas.List.{take-append-drop}
 use Rattle.algebra.proofs.Lists.{map-map}
 use Rattle.p3_pcs.specs.Claims.{zip_with, point_claims, matrix_claims}
 use Rattle.p3_pcs.specs.Requests.{Held, Request, honest_values, honest_claim, honest_claims}
-use Rattle.p3_fri_completeness.specs.Requests.{point_claim, matrix_claim, relation_claim}
-use Rattle.p3_fri_completeness.specs.Requests.{relation_claims}
+use Rattle.p3_fri_openings.specs.SchemeClaims.{point_claim, matrix_claim, relation_claim}
+use Rattle.p3_fri_openings.specs.SchemeClaims.{relation_claims}
 use Rattle.p3_fri_hiding_openings.specs.RandomValues.{count_at, with_values, with_points}
 use Rattle.p3_fri_hiding_openings.specs.RandomValues.{with_matrices, with_random_values}
 use Rattle.p3_fri_hiding_openings.specs.Halves.{shown, kept_back, shown_of, shown_values}

@@ -12,7 +12,7 @@ use Rattle.p3_pcs.specs.Requests.{Held, Request, AreOpenable, AreHonest}
 use Rattle.p3_stark_pcs.specs.Preprocessing.{AreOpenableAt}
 use Rattle.p3_fri_relation.specs.Setting.{Fields}
 use Rattle.p3_fri_openings.specs.Rounds.{HasCoset}
-use Rattle.p3_fri_completeness.specs.Requests.{HoldsWords, held_of}
+use Rattle.p3_fri_openings.specs.Held.{HoldsWords, held_of}
 use Rattle.p3_fri_hiding_openings.specs.Halves.{shown_of}
 use Rattle.p3_fri_hiding_openings.specs.declared.data.HidingFriPcsProverData.{HidingFriPcsProverData}
 use Rattle.p3_fri_hiding_openings.specs.Data.{IsUnopened, IsPreprocessing, hidden_columns, shown_polynomials}

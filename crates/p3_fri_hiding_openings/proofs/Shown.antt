@@ -5,7 +5,8 @@ use Rattle.std.proofs.lemmas.List.Elements.{All-cons, All-nil}
 use Rattle.p3_matrix.specs.declared.dense.RowMajorMatrix.{RowMajorMatrix}
 use Rattle.p3_pcs.specs.Requests.{Held, Request, honest_values, honest_claims}
 use Rattle.p3_fri_relation.specs.Setting.{Fields}
-use Rattle.p3_fri_completeness.specs.Requests.{held_of, relation_claims}
+use Rattle.p3_fri_openings.specs.Held.{held_of}
+use Rattle.p3_fri_openings.specs.SchemeClaims.{relation_claims}
 use Rattle.p3_fri_hiding_openings.specs.RandomValues.{count_at, with_random_values}
 use Rattle.p3_fri_hiding_openings.specs.Halves.{shown_values, kept_values}
 use Rattle.p3_fri_hiding_openings.proofs.InsideClaims.{shown_inside, claims_inside}

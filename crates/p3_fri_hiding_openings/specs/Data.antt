@@ -6,7 +6,7 @@ use Rattle.p3_matrix.specs.Matrix.{matrix_width}
 use Rattle.p3_pcs.specs.Requests.{Held}
 use Rattle.p3_fri_relation.specs.Setting.{Fields}
 use Rattle.p3_fri_openings.specs.Rounds.{HasCoset}
-use Rattle.p3_fri_completeness.specs.Requests.{held_of}
+use Rattle.p3_fri_openings.specs.Held.{held_of}
 use Rattle.p3_fri_hiding_openings.specs.Halves.{held_shown}
 use Rattle.p3_fri_hiding_openings.specs.declared.data.HidingFriPcsProverData.{HidingFriPcsProverData}
 

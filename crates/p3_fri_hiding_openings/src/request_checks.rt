@@ -5,7 +5,7 @@ ghost use Rattle.p3_pcs.specs.Requests.{AreOpenable, request};
 ghost use Rattle.p3_fri_relation.specs.Views.{parameters_of};
 ghost use Rattle.p3_fri_openings.specs.Rounds.{HasCoset, IsRound, ask, asked_in};
 ghost use Rattle.p3_fri_openings.specs.Refusals.{HasPointsOff};
-ghost use Rattle.p3_fri_completeness.specs.Requests.{held_of};
+ghost use Rattle.p3_fri_openings.specs.Held.{held_of};
 ghost use Rattle.p3_fri_opening_prover.specs.Refusals.{PointsRefusal, asked_of};
 ghost use Rattle.p3_fri_hiding_openings.specs.Requests.{inside};
 ghost use Rattle.p3_fri_hiding_openings.specs.Opening.{CanHide, MatrixRefusal, RoundRefusal};

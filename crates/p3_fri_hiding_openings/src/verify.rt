@@ -4,7 +4,7 @@ ghost use Rattle.std.specs.Prelude.{◌≡◌, ◌≢◌, ◌↔◌, Err, IsOk, 
 ghost use Rattle.p3_pcs.specs.Claims.{claim, opened_values};
 ghost use Rattle.p3_fri_relation.specs.declared.error.FriError.TheVariants.{OutOfMemory};
 ghost use Rattle.p3_fri_relation.specs.Views.{parameters_of, proof_of};
-ghost use Rattle.p3_fri_completeness.specs.Requests.{relation_claims};
+ghost use Rattle.p3_fri_openings.specs.SchemeClaims.{relation_claims};
 ghost use Rattle.p3_fri_opening_verifier.specs.Ends.{last_state};
 ghost use Rattle.p3_fri_opening_verifier.specs.Ranges.{InVerifierRange as verifier_range};
 ghost use Rattle.p3_fri_hiding_openings.specs.RandomValues.{with_random_values};

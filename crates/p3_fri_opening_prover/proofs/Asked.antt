@@ -25,7 +25,8 @@ use Rattle.p3_fri_relation.specs.TallEnough.{HeightRefusal}
 use Rattle.p3_fri_openings.specs.Refusals.{RoundHeightRefusal, RoundPointRefusal}
 use Rattle.p3_fri_openings.specs.Refusals.{IsFirstPoint}
 use Rattle.p3_fri_batch.specs.Rounds.{opened_of, opened_honestly}
-use Rattle.p3_fri_completeness.specs.Requests.{held_in, held_of, round_opened}
+use Rattle.p3_fri_openings.specs.Held.{held_in, held_of}
+use Rattle.p3_fri_completeness.specs.Requests.{round_opened}
 use Rattle.p3_fri_completeness.proofs.Rounds.{opened_by_request}
 use Rattle.p3_fri_opening_prover.specs.Refusals.{IsFirstLow, PointsRefusal, asked_of}
 use Rattle.p3_fri_opening_prover.specs.Refusals.{CheckRefusal, GatherRefusal}

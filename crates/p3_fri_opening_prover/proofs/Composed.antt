@@ -27,7 +27,9 @@ use Rattle.p3_fri_batch.specs.Rounds.{opened_of}
 use Rattle.p3_fri_prover.specs.Openings.{OpensBatch}
 use Rattle.p3_fri_prover.specs.Proved.{positions}
 use Rattle.p3_fri_completeness.specs.Honest.{AreTwoAdic, DrawsFit}
-use Rattle.p3_fri_completeness.specs.Requests.{relation_claims, held_of, HoldsWords, round_opened}
+use Rattle.p3_fri_openings.specs.Held.{held_of, HoldsWords}
+use Rattle.p3_fri_openings.specs.SchemeClaims.{relation_claims}
+use Rattle.p3_fri_completeness.specs.Requests.{round_opened}
 use Rattle.p3_fri_completeness.proofs.Requests.{Fit}
 use Rattle.p3_fri_completeness.proofs.Rounds.{opened_by_request, values_by_request}
 use Rattle.p3_fri_completeness.proofs.Opening.{opening_accepted, opening_last_state}

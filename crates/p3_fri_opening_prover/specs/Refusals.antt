@@ -14,7 +14,8 @@ use Rattle.p3_fri_openings.specs.First.{FirstAt}
 use Rattle.p3_fri_openings.specs.Rounds.{Asked, ask}
 use Rattle.p3_fri_openings.specs.Refusals.{AreTallEnough, RoundHeightRefusal}
 use Rattle.p3_fri_openings.specs.Refusals.{HasPointsOff, IsFirstPoint}
-use Rattle.p3_fri_completeness.specs.Requests.{held_of, round_opened}
+use Rattle.p3_fri_openings.specs.Held.{held_of}
+use Rattle.p3_fri_completeness.specs.Requests.{round_opened}
 use Rattle.p3_fri_opening_prover.specs.Opening.{OpeningStops}
 
 module _ {F E D : Type 0} (committed : D → List (RowMajorMatrix F)) where

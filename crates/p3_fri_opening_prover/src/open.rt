@@ -12,7 +12,8 @@ ghost use Rattle.p3_fri_openings.specs.Rounds.{HasCoset, IsRound};
 ghost use Rattle.p3_fri_openings.specs.Refusals.{AreTallEnough, ArePointsOff};
 ghost use Rattle.p3_fri_batch.specs.Rounds.{opened_of};
 ghost use Rattle.p3_fri_prover.specs.Prover.{IsInProverRange};
-ghost use Rattle.p3_fri_completeness.specs.Requests.{HoldsWords, held_of, relation_claims};
+ghost use Rattle.p3_fri_openings.specs.Held.{HoldsWords, held_of};
+ghost use Rattle.p3_fri_openings.specs.SchemeClaims.{relation_claims};
 ghost use Rattle.p3_fri_opening_prover.specs.Opening.{IsOpening, OpeningStops};
 ghost use Rattle.p3_fri_opening_prover.specs.Refusals.{PassesChecks, OpenRefusal, LeavesState};
 

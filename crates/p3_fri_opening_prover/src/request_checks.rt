@@ -6,7 +6,7 @@ ghost use Rattle.p3_fri_relation.specs.Views.{parameters_of};
 ghost use Rattle.p3_fri_openings.specs.Requests.{round_request, matrices_request};
 ghost use Rattle.p3_fri_openings.specs.Rounds.{HasCoset, IsRound};
 ghost use Rattle.p3_fri_openings.specs.Refusals.{AreTallEnough, ArePointsOff, HasPointsOff};
-ghost use Rattle.p3_fri_completeness.specs.Requests.{held_of};
+ghost use Rattle.p3_fri_openings.specs.Held.{held_of};
 ghost use Rattle.p3_fri_opening_prover.specs.Refusals.{CheckRefusal, GatherRefusal, PassesChecks};
 ghost use Rattle.p3_fri_opening_prover.specs.Refusals.{IsFirstLow, PointsRefusal, asked_of};
 

@@ -1,11 +1,13 @@
-pub mod Openable
 pub mod Log2
 pub mod First
 pub mod Rounds
+pub mod SchemeClaims
 pub mod Refusals
 pub mod Committed
+pub mod Held
 pub mod Sums
 pub mod Points
 pub mod Denominators
 pub mod Opened
 pub mod Requests
+pub mod Openable

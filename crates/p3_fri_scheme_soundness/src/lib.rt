@@ -6,7 +6,7 @@
 ghost use Rattle.std.specs.Prelude.{◌≤◌, ℕ, Option, map};
 ghost use Rattle.p3_pcs.specs.Claims.{claim, opened_values};
 ghost use Rattle.p3_fri_relation.specs.Views.{parameters_of, proof_of};
-ghost use Rattle.p3_fri_completeness.specs.Requests.{relation_claims};
+ghost use Rattle.p3_fri_openings.specs.SchemeClaims.{relation_claims};
 ghost use Rattle.p3_fri_hiding_openings.specs.RandomValues.{with_random_values};
 ghost use Rattle.p3_fri_scheme_soundness.specs.Shown.{IsSoundProof, OpensOrCollides, tree_of};
 

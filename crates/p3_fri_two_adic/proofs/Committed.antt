@@ -24,7 +24,7 @@ use Rattle.p3_fri_openings.specs.Rounds.{HasCoset}
 use Rattle.p3_fri_openings.specs.Committed.{committed_column}
 use Rattle.p3_fri_openings.proofs.Committed.{committed_is}
 use Rattle.p3_fri_openings.proofs.Log2.{log2-pow, pow-divided}
-use Rattle.p3_fri_completeness.specs.Requests.{held_in, HoldsWords}
+use Rattle.p3_fri_openings.specs.Held.{held_in, HoldsWords}
 use Rattle.p3_pcs.specs.Requests.{Held}
 use Rattle.p3_stark_pcs.specs.Evaluations.{HasPolynomials}
 use Rattle.p3_fri_two_adic.specs.Chunks.{polynomials_on}

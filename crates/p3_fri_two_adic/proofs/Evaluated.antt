@@ -19,7 +19,7 @@ use Rattle.p3_fri_openings.specs.Log2.{log2}
 use Rattle.p3_fri_openings.specs.Rounds.{HasCoset}
 use Rattle.p3_fri_openings.proofs.Committed.{committed_is}
 use Rattle.p3_fri_openings.proofs.Log2.{log2-pow, pow-divided}
-use Rattle.p3_fri_completeness.specs.Requests.{held_in, HoldsWords}
+use Rattle.p3_fri_openings.specs.Held.{held_in, HoldsWords}
 use Rattle.p3_fri_extensions.specs.Committed.{AreCommittedValues}
 use Rattle.p3_stark_pcs.specs.Evaluations.{HoldsEvaluations, held_at}
 use Rattle.p3_fri_two_adic.specs.Evaluations.{IsMatrixOf, HoldsWordsAt}

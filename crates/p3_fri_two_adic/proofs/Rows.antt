@@ -17,7 +17,7 @@ use Rattle.p3_matrix.proofs.Widths.{row_width}
 use Rattle.p3_dft.specs.Evaluations.{column}
 use Rattle.p3_fri_extensions.specs.Extension.{FitsDomain, IsLowDegreeExtension, polynomial_on}
 use Rattle.p3_fri_relation.specs.Setting.{Fields}
-use Rattle.p3_fri_completeness.specs.Requests.{held_in}
+use Rattle.p3_fri_openings.specs.Held.{held_in}
 use Rattle.p3_fri_two_adic.specs.Held.{Extends}
 use Rattle.p3_fri_two_adic.proofs.Committed.{interpolates, extends, each_mapped}
 

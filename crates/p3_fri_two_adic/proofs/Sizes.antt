@@ -3,7 +3,7 @@ use Rattle.std.proofs.Common.{◌≡◌, ◌^◌, ℕ, List, [], ◌∷◌, map,
 use Rattle.std.proofs.Common.{ap₂, ◌∙◌}
 use Rattle.p3_pcs.specs.Claims.{PointClaim, zip_with, claim_on}
 use Rattle.p3_pcs.specs.Requests.{Held, Request, honest_values, honest_claims, FitDomains}
-use Rattle.p3_fri_completeness.specs.Requests.{point_claim, matrix_claim, relation_claims}
+use Rattle.p3_fri_openings.specs.SchemeClaims.{point_claim, matrix_claim, relation_claims}
 use Rattle.p3_fri_completeness.proofs.SeenClaims.{of_matrices}
 
 module _ {E Domain : Type 0} (log_size : Domain → ℕ) where

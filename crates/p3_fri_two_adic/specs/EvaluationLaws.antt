@@ -11,7 +11,7 @@ use Rattle.p3_pcs.specs.Requests.{Held, HasColumns}
 use Rattle.p3_stark_pcs.specs.Evaluations.{held_at, ShowsFirst}
 use Rattle.p3_fri_relation.specs.Setting.{Fields}
 use Rattle.p3_fri_openings.specs.Rounds.{HasCoset}
-use Rattle.p3_fri_completeness.specs.Requests.{held_in, HoldsWords}
+use Rattle.p3_fri_openings.specs.Held.{held_in, HoldsWords}
 use Rattle.p3_fri_two_adic.specs.Held.{Extends}
 use Rattle.p3_fri_two_adic.specs.Evaluations.{IsMatrixOf, HoldsWordsAt}
 

@@ -3,7 +3,7 @@ use Rattle.std.specs.Prelude.{◌<◌, ℕ, List, length, slice_index_or}
 use Rattle.p3_matrix.specs.declared.dense.RowMajorMatrix.{RowMajorMatrix}
 use Rattle.p3_fri_relation.specs.Setting.{Fields}
 use Rattle.p3_fri_openings.specs.Rounds.{HasCoset}
-use Rattle.p3_fri_completeness.specs.Requests.{HoldsWords}
+use Rattle.p3_fri_openings.specs.Held.{HoldsWords}
 
 -- the index names one of these matrices, and that one stands on a coset
 pub record IsMatrixOf {F : Type 0} (two_adicity : ℕ) (matrices : List (RowMajorMatrix F))

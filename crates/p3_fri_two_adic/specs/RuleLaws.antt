@@ -3,7 +3,7 @@ use Rattle.std.specs.Prelude.{ℕ}
 use Rattle.std.proofs.Common.{refl}
 use Rattle.p3_pcs.specs.Scheme.{IsLawful}
 use Rattle.p3_stark_pcs.specs.Scheme.{IsLawfulStark, IsPlain}
-use Rattle.p3_fri_completeness.specs.Requests.{held_of}
+use Rattle.p3_fri_openings.specs.Held.{held_of}
 use Rattle.p3_fri_two_adic.specs.ErrorLaws.{memory_cases}
 use Rattle.p3_fri_two_adic.specs.EvaluationLaws.{extended_columns, is_matrix_of, words_at}
 use Rattle.p3_fri_two_adic.specs.EvaluationLaws.{all_shown}

@@ -18,7 +18,8 @@ use Rattle.p3_fri_relation.specs.Views.{proof_of}
 use Rattle.p3_fri_relation.specs.Acceptance.{Accepts}
 use Rattle.p3_fri_relation.specs.Faults.{StandsInScheme}
 use Rattle.p3_fri_openings.specs.Rounds.{HasCoset}
-use Rattle.p3_fri_completeness.specs.Requests.{held_in, held_of, HoldsWords, relation_claims}
+use Rattle.p3_fri_openings.specs.Held.{held_in, held_of, HoldsWords}
+use Rattle.p3_fri_openings.specs.SchemeClaims.{relation_claims}
 use Rattle.p3_fri_opening_verifier.specs.Ranges.{InProverRange, InVerifierRange}
 use Rattle.p3_fri_opening_verifier.specs.Ends.{last_state}
 use Rattle.p3_fri_opening_verifier.specs.Accepted.{LeavesVerifier}

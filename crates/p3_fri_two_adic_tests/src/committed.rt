@@ -2,7 +2,7 @@
 
 ghost use Rattle.std.specs.Prelude.{◌≡◌, ◌^◌, All, IfOk, map};
 ghost use Rattle.p3_fri_extensions.specs.Extension.{FitsDomain};
-ghost use Rattle.p3_fri_completeness.specs.Requests.{HoldsWords, held_of};
+ghost use Rattle.p3_fri_openings.specs.Held.{HoldsWords, held_of};
 
 use crate::scheme::{Data, Domain, Inputs, Scheme, Setting, scheme};
 use p3_challenger::Sha256Challenger;

@@ -3,7 +3,7 @@ use Rattle.p3_challenger_core.specs.Run.{Moves, moves}
 use Rattle.p3_pcs.specs.Claims.{claim}
 use Rattle.p3_fri_relation.specs.Setting.{Fields}
 use Rattle.p3_fri_relation.specs.Views.{parameters_of, proof_of}
-use Rattle.p3_fri_completeness.specs.Requests.{relation_claims}
+use Rattle.p3_fri_openings.specs.SchemeClaims.{relation_claims}
 use Rattle.p3_fri_soundness.specs.Laws.{AreTwoAdicFields}
 use Rattle.p3_fri_scheme_soundness.proofs.Accepted.{sound_proof}
 use Rattle.p3_fri_scheme_soundness.proofs.plain_law.Given.{Over}

@@ -4,7 +4,7 @@ use Rattle.std.proofs.lemmas.Result.{IfOk-from_err}
 use Rattle.algebra.proofs.Lists.{all_zip-weaker}
 use Rattle.p3_mmcs.specs.ProverData.{matrices_of}
 use Rattle.p3_stark_pcs.specs.Evaluations.{HasPolynomials}
-use Rattle.p3_fri_completeness.specs.Requests.{held_in, HoldsWords}
+use Rattle.p3_fri_openings.specs.Held.{held_in, HoldsWords}
 use Rattle.p3_fri_two_adic.specs.Chunks.{polynomials_on}
 use Rattle.p3_fri_two_adic.specs.Held.{Extends}
 use Rattle.fri_requests.specs.Commitments.{domain_of}

@@ -6,7 +6,8 @@ use Rattle.algebra.specs.Nested.{lists, nested}
 use Rattle.p3_mmcs.specs.ProverData.{matrices_of, root_over}
 use Rattle.p3_pcs.specs.Claims.{claim, zip_with}
 use Rattle.p3_pcs.specs.Requests.{honest_claims}
-use Rattle.p3_fri_completeness.specs.Requests.{held_of, relation_claims}
+use Rattle.p3_fri_openings.specs.Held.{held_of}
+use Rattle.p3_fri_openings.specs.SchemeClaims.{relation_claims}
 use Rattle.p3_fri_relation.specs.Views.{parameters_of, proof_of}
 use Rattle.p3_fri_two_adic.specs.Ranges.{InProverRange, InVerifierRange}
 use Rattle.fri_statement.specs.Stated.{opened_commitment}

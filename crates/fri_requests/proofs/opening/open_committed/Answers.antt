@@ -4,7 +4,7 @@ use Rattle.algebra.specs.Nested.{nested}
 use Rattle.algebra.proofs.Lists.{map-map}
 use Rattle.p3_mmcs.specs.ProverData.{matrices_of, root_over}
 use Rattle.p3_pcs.specs.Requests.{AreHonest, FitDomains, honest_claims, request}
-use Rattle.p3_fri_completeness.specs.Requests.{held_of, HoldsWords}
+use Rattle.p3_fri_openings.specs.Held.{held_of, HoldsWords}
 use Rattle.std.proofs.Common.{All, ◌^◌}
 use Rattle.fri_statement.specs.Setting.{fields}
 use Rattle.p3_fri_openings.proofs.Requests.{openable_same}

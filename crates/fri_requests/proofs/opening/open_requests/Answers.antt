@@ -2,7 +2,8 @@ use Rattle.std.proofs.Common.{◌≡◌, refl, sym, subst}
 use Rattle.std.proofs.lemmas.Result.{IfOk-from_err}
 use Rattle.p3_mmcs.specs.ProverData.{matrices_of, root_over}
 use Rattle.p3_pcs.proofs.Honest.{claims_honest}
-use Rattle.p3_fri_completeness.specs.Requests.{held_of, relation_claims}
+use Rattle.p3_fri_openings.specs.Held.{held_of}
+use Rattle.p3_fri_openings.specs.SchemeClaims.{relation_claims}
 use Rattle.p3_fri_two_adic.specs.Ends.{last_state}
 use Rattle.p3_fri_relation.specs.Acceptance.{Accepts}
 use Rattle.p3_fri_relation.specs.Views.{parameters_of, proof_of}

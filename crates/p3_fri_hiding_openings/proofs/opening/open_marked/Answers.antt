@@ -8,7 +8,8 @@ use Rattle.p3_fri_relation.specs.Acceptance.{Accepts}
 use Rattle.p3_fri_relation.specs.Setting.{Fields, Setting}
 use Rattle.p3_fri_relation.specs.Views.{parameters_of, proof_of}
 use Rattle.p3_fri_openings.specs.Rounds.{HasCoset}
-use Rattle.p3_fri_completeness.specs.Requests.{HoldsWords, held_of, relation_claims}
+use Rattle.p3_fri_openings.specs.Held.{HoldsWords, held_of}
+use Rattle.p3_fri_openings.specs.SchemeClaims.{relation_claims}
 use Rattle.p3_fri_opening_prover.specs.Refusals.{PassesChecks}
 use Rattle.p3_fri_two_adic.specs.Ends.{last_state}
 use Rattle.p3_fri_hiding_openings.specs.Requests.{inside, inner_request}

@@ -3,7 +3,7 @@ use Rattle.p3_challenger_core.specs.Run.{moves}
 use Rattle.p3_pcs.specs.Claims.{claim, opened_values}
 use Rattle.p3_fri_relation.specs.Setting.{Setting, CommitmentClaim}
 use Rattle.p3_fri_relation.specs.Views.{parameters_of, claims_of, proof_of}
-use Rattle.p3_fri_completeness.specs.Requests.{relation_claims}
+use Rattle.p3_fri_openings.specs.SchemeClaims.{relation_claims}
 use Rattle.p3_fri_opening_verifier.specs.Ends.{last_state}
 use Rattle.p3_fri_completeness.proofs.SeenClaims.{claims_are}
 use Rattle.p3_fri_opening_verifier.specs.Accepted.{two_adic}

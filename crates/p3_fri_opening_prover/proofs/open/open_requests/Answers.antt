@@ -7,7 +7,8 @@ use Rattle.p3_fri_relation.specs.Setting.{Fields, Setting}
 use Rattle.p3_fri_relation.specs.Views.{parameters_of, proof_of}
 use Rattle.p3_fri_openings.specs.Requests.{round_request, matrices_request}
 use Rattle.p3_fri_completeness.specs.Honest.{AreTwoAdic}
-use Rattle.p3_fri_completeness.specs.Requests.{HoldsWords, held_of, relation_claims}
+use Rattle.p3_fri_openings.specs.Held.{HoldsWords, held_of}
+use Rattle.p3_fri_openings.specs.SchemeClaims.{relation_claims}
 use Rattle.p3_fri_opening_prover.proofs.Asked.{data_seen, some_matrix}
 use Rattle.p3_fri_opening_prover.proofs.Composed.{AllVerify, all_honest, all_refused, all_verify}
 use Rattle.p3_fri_opening_prover.proofs.Composed.{read_alike, same_opened}

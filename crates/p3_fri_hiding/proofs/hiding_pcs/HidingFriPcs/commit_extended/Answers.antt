@@ -1,7 +1,7 @@
 use Rattle.std.proofs.Common.{sym, subst}
 use Rattle.std.specs.Prelude.{All}
 use Rattle.p3_fri_relation.specs.Setting.{Fields}
-use Rattle.p3_fri_completeness.specs.Requests.{HoldsWords}
+use Rattle.p3_fri_openings.specs.Held.{HoldsWords}
 use Rattle.p3_fri_hiding_openings.proofs.Committed.{have_cosets, hold_words}
 use Rattle.p3_fri_hiding.specs.Commitments.{AreExtended}
 use Rattle.p3_fri_hiding.proofs.Committed.{all_fit}

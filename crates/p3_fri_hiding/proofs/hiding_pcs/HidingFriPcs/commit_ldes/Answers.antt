@@ -3,7 +3,7 @@ use Rattle.std.proofs.lemmas.Result.{IfOk-from_err}
 use Rattle.std.specs.Prelude.{All}
 use Rattle.p3_matrix.specs.Matrix.{rows}
 use Rattle.p3_fri_relation.specs.Setting.{Fields}
-use Rattle.p3_fri_completeness.specs.Requests.{held_in, HoldsWords}
+use Rattle.p3_fri_openings.specs.Held.{held_in, HoldsWords}
 use Rattle.p3_fri_openings.specs.Rounds.{HasCoset}
 use Rattle.p3_fri_hiding_openings.specs.Halves.{shown_of}
 use Rattle.algebra.proofs.Lists.{map-map}

@@ -3,7 +3,7 @@ use Rattle.std.proofs.lemmas.List.{length-map}
 use Rattle.p3_field_core.specs.Coset.{coset_point}
 use Rattle.p3_matrix.specs.Matrix.{rows, matrix_width}
 use Rattle.p3_stark_pcs.specs.Evaluations.{HoldsEvaluations, held_at}
-use Rattle.p3_fri_completeness.specs.Requests.{held_in}
+use Rattle.p3_fri_openings.specs.Held.{held_in}
 use Rattle.p3_fri_hiding_openings.specs.Data.{hidden_columns}
 use Rattle.p3_fri_relation.specs.Setting.{Fields}
 use Rattle.p3_fri_hiding_openings.proofs.Evaluated.{coset_at, within_at, evaluated}

@@ -6,7 +6,7 @@ use Rattle.p3_pcs.specs.Claims.{opened_values}
 use Rattle.p3_pcs.specs.Requests.{request, honest_claims, FitDomains}
 use Rattle.p3_fri_relation.specs.Setting.{Fields, Setting, CommitmentClaim}
 use Rattle.p3_fri_relation.specs.Views.{parameters_of, proof_of}
-use Rattle.p3_fri_completeness.specs.Requests.{relation_claims}
+use Rattle.p3_fri_openings.specs.SchemeClaims.{relation_claims}
 use Rattle.p3_fri_hiding_openings.specs.Ends.{last_state}
 use Rattle.p3_fri_hiding_openings.specs.Accepted.{two_adic}
 use Rattle.p3_fri_hiding_openings.specs.RandomValues.{with_random_values}

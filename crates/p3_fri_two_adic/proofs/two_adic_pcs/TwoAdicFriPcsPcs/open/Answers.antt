@@ -6,7 +6,8 @@ use Rattle.p3_pcs.specs.Requests.{request, honest_claims, FitDomains}
 use Rattle.p3_fri_relation.specs.Setting.{Fields, Setting, CommitmentClaim}
 use Rattle.p3_fri_relation.specs.Acceptance.{Accepts}
 use Rattle.p3_fri_relation.specs.Views.{parameters_of, proof_of}
-use Rattle.p3_fri_completeness.specs.Requests.{held_of, relation_claims}
+use Rattle.p3_fri_openings.specs.Held.{held_of}
+use Rattle.p3_fri_openings.specs.SchemeClaims.{relation_claims}
 use Rattle.p3_fri_opening_verifier.specs.Ends.{last_state}
 use Rattle.p3_fri_opening_verifier.specs.Accepted.{two_adic}
 use Rattle.p3_fri_two_adic.proofs.Sizes.{claims_sized, domains_sized}

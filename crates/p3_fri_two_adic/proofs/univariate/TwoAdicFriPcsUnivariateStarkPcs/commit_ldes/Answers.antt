@@ -1,7 +1,7 @@
 use Rattle.std.proofs.Common.{All, map, sym, ap, subst}
 use Rattle.p3_fri_openings.specs.Rounds.{HasCoset}
 use Rattle.p3_fri_relation.specs.Setting.{Fields}
-use Rattle.p3_fri_completeness.specs.Requests.{held_in, HoldsWords}
+use Rattle.p3_fri_openings.specs.Held.{held_in, HoldsWords}
 use Rattle.p3_fri_two_adic.proofs.Ldes.{power_heights, cosets_of_ldes}
 use Rattle.p3_fri_two_adic.proofs.univariate.TwoAdicFriPcsUnivariateStarkPcs.commit_ldes.Given.{Over}
 use Rattle.p3_fri_two_adic.proofs.univariate.TwoAdicFriPcsUnivariateStarkPcs.commit_ldes.Goals as goal
