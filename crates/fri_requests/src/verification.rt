@@ -1,7 +1,6 @@
 //! Verification of statements.
 
 ghost use Rattle.std.specs.Prelude.{◌≡◌, map, IsOk, IfOk, IfErr};
-ghost use Rattle.p3_challenger_core.specs.Run.{After};
 ghost use Rattle.p3_pcs.specs.Claims.{claim};
 ghost use Rattle.p3_fri_openings.specs.SchemeClaims.{relation_claims};
 ghost use Rattle.p3_fri_two_adic.specs.Ends.{last_state};

@@ -14,8 +14,8 @@ ghost use Rattle.p3_fri_batch.specs.Words.{point_of_entry, claims_of, terms_at};
 
 use crate::compression::{add_quotients, compress};
 use p3_field_core::{ExtensionField, TwoAdicField};
-use p3_fri_relation::Ladder;
 use p3_fri_openings::{PointDenominators, inverses_at};
+use p3_fri_relation::Ladder;
 use p3_fri_relation::setting::ChallengeField;
 use p3_matrix::RowMajorMatrix;
 use std::alloc::{AllocError, Global};

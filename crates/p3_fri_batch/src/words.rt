@@ -1,6 +1,6 @@
 //! The words of all log heights.
 
-ghost use Rattle.std.specs.Prelude.{◌≡◌, ◌≤◌, ◌<◌, ◌+◌, ◌++◌, ◌∷◌, ◌^◌, ℕ, suc, List, []};
+ghost use Rattle.std.specs.Prelude.{◌≡◌, ◌≤◌, ◌<◌, ◌+◌, ◌++◌, ◌∷◌, ◌^◌, suc, List, []};
 ghost use Rattle.std.specs.Prelude.{All, IfOk, map, length, vec_len, if◌then◌else◌};
 ghost use Rattle.std.specs.List.{AllZip};
 ghost use Rattle.algebra.specs.Nested.{lists};
@@ -19,8 +19,8 @@ use crate::opened::{
 };
 use crate::points::add_matrix;
 use p3_field_core::{ExtensionField, Field, TwoAdicField};
-use p3_fri_relation::Ladder;
 use p3_fri_openings::{OpeningRound, PointDenominators};
+use p3_fri_relation::Ladder;
 use p3_fri_relation::setting::ChallengeField;
 use std::alloc::{AllocError, Global};
 

@@ -1,8 +1,7 @@
 //! Low-degree extensions of matrices, and the commitment to them.
 
-ghost use Rattle.std.specs.Prelude.{◌≡◌, ◌≤◌, ◌+◌, ◌^◌, All, IfOk, length};
+ghost use Rattle.std.specs.Prelude.{◌≡◌, All, IfOk};
 ghost use Rattle.std.specs.List.{AllZip};
-ghost use Rattle.p3_matrix.specs.Matrix.{rows};
 ghost use Rattle.p3_fri_extensions.specs.Extension.{FitsDomain, IsLowDegreeExtension};
 
 use p3_dft::TwoAdicSubgroupDft;

@@ -1,6 +1,6 @@
 //! Random values appended to claims, point by point.
 
-ghost use Rattle.std.specs.Prelude.{◌≡◌, ◌≢◌, ◌↔◌, ◌<◌, ◌≤◌, ℕ, Err, IsTrue, IsOk, IfErr, OnOk};
+ghost use Rattle.std.specs.Prelude.{◌≡◌, ◌≢◌, ◌↔◌, ◌<◌, ◌≤◌, Err, IsTrue, IsOk, IfErr, OnOk};
 ghost use Rattle.std.specs.Prelude.{MatchOption, All, map, length, vec_len};
 ghost use Rattle.std.specs.List.{AllZip, zip};
 ghost use Rattle.algebra.specs.Nested.{lists, nested};

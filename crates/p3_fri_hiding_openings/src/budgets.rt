@@ -1,7 +1,7 @@
 //! The hiding budget of all that is committed to at once. One opening point is counted. The tests
 //! take no memory.
 
-ghost use Rattle.std.specs.Prelude.{◌≡◌, ◌/◌, ◌^◌, map, length, MatchResult};
+ghost use Rattle.std.specs.Prelude.{◌/◌, ◌^◌, map, length, MatchResult};
 ghost use Rattle.p3_matrix.specs.Matrix.{rows};
 ghost use Rattle.p3_fri_hiding_openings.specs.Budgets.{AllFit, SomeDoesNotFit};
 

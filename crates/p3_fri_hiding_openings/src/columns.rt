@@ -1,6 +1,6 @@
 //! Matrices without their last columns.
 
-ghost use Rattle.std.specs.Prelude.{◌≡◌, ◌≤◌, ◌<◌, ◌*◌, ◌-◌, map, take, IfOk};
+ghost use Rattle.std.specs.Prelude.{◌≡◌, ◌<◌, ◌-◌, map, take, IfOk};
 ghost use Rattle.p3_matrix.specs.Matrix.{rows, matrix_width};
 
 use p3_matrix::RowMajorMatrix;

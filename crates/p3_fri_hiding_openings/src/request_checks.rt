@@ -17,8 +17,9 @@ use crate::data::HidingFriPcsProverData;
 use p3_field_core::{ExtensionField, TwoAdicField, log2_strict_usize};
 use p3_fri_folding::{FriParameters, FriProverError};
 use p3_fri_masks::{HidingFriProverError, check_hiding_budget, lde_mask_height};
-use p3_fri_openings::{OpeningRound, check_height, check_round_points};
+use p3_fri_openings::{OpeningRound, check_round_points};
 use p3_fri_relation::setting::ChallengeField;
+use p3_fri_relation::validate_input_height;
 use p3_matrix::RowMajorMatrix;
 use p3_mmcs::Mmcs;
 use p3_pcs::OpeningRequest;
@@ -38,7 +39,7 @@ fn check_matrix<F: TwoAdicField, EF: ExtensionField<F>, M>(
         (λ e. MatrixRefusal fields p num_random_codewords e asked) }
 {
     let height = matrix.height();
-    check_height(params, log2_strict_usize(height))?;
+    validate_input_height(params, log2_strict_usize(height))?;
     let mask_height = lde_mask_height(height, params.log_blowup);
     check_hiding_budget(
         num_random_codewords,

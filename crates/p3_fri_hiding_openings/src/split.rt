@@ -3,7 +3,6 @@
 ghost use Rattle.std.specs.Prelude.{◌≡◌, IfOk, OnOk, map};
 ghost use Rattle.algebra.specs.Nested.{lists, nested};
 ghost use Rattle.p3_pcs.specs.Claims.{opened_values};
-ghost use Rattle.p3_fri_hiding_openings.specs.RandomValues.{count_at};
 ghost use Rattle.p3_fri_hiding_openings.specs.Halves.{shown, kept_back, shown_values, kept_values};
 
 use crate::append::expected_count;

@@ -1,7 +1,7 @@
 //! The masks of a quotient's chunks.
 
-ghost use Rattle.std.specs.Prelude.{◌≡◌, ◌≤◌, ◌<◌, ◌-◌, ◌*◌, All, IfOk, length, map};
-ghost use Rattle.std.specs.Prelude.{slice_index_or, vec_len};
+ghost use Rattle.std.specs.Prelude.{◌≡◌, ◌<◌, ◌-◌, ◌*◌, All, IfOk, length, map};
+ghost use Rattle.std.specs.Prelude.{slice_index_or};
 ghost use Rattle.algebra.specs.Lists.{add_lists};
 ghost use Rattle.algebra.specs.Nested.{lists};
 ghost use Rattle.p3_matrix.specs.Words.{past};

@@ -1,12 +1,11 @@
 //! Whether a prover may open: the heights of the matrices, and the points.
 
-ghost use Rattle.std.specs.Prelude.{◌≡◌, ◌↔◌, ◌≤◌, All, IsTrue, IsOk, IfErr, MatchOption};
+ghost use Rattle.std.specs.Prelude.{◌≡◌, ◌↔◌, ◌≤◌, All, IsTrue, MatchOption};
 ghost use Rattle.std.specs.Prelude.{MatchResult};
-ghost use Rattle.algebra.specs.Cosets.{IsOnCoset, IsOffCoset};
+ghost use Rattle.algebra.specs.Cosets.{IsOnCoset};
 ghost use Rattle.p3_fri_relation.specs.Views.{parameters_of};
-ghost use Rattle.p3_fri_openings.specs.Rounds.{asked_in, HasCoset, IsRound};
+ghost use Rattle.p3_fri_openings.specs.Rounds.{HasCoset, IsRound};
 ghost use Rattle.p3_fri_openings.specs.First.{FirstAt};
-ghost use Rattle.p3_fri_relation.specs.TallEnough.{IsTallEnough, HeightRefusal};
 ghost use Rattle.p3_fri_openings.specs.Refusals.{AreTallEnough};
 ghost use Rattle.p3_fri_openings.specs.Refusals.{RoundHeightRefusal};
 ghost use Rattle.p3_fri_openings.specs.Refusals.{IsOn, IsOff, ArePointsOff};
@@ -15,38 +14,9 @@ ghost use Rattle.p3_fri_openings.specs.Refusals.{RoundPointRefusal, PointRefusal
 use crate::round::OpeningRound;
 use p3_field_core::{ExtensionField, Field, TwoAdicField, log2_strict_usize};
 use p3_fri_folding::FriProverError;
-use p3_fri_relation::FriParameters;
 use p3_fri_relation::setting::ChallengeField;
+use p3_fri_relation::{FriParameters, validate_input_height};
 use p3_matrix::RowMajorMatrix;
-
-/// Whether a matrix of this log height can be opened: a final polynomial that isn't constant is
-/// sent only of a taller word than its own.
-///
-/// # Errors
-///
-/// `InputHeightTooSmall` with both log heights, or `FinalHeightOverflow` where the final one has no
-/// number.
-pub fn check_height<M>(
-    params: &FriParameters<M>,
-    log_input_height: usize,
-) -> Result<(), FriProverError>
-    ensures tall_enough { IsOk result ↔ IsTallEnough (parameters_of params.now) log_input_height }
-    ensures refused { IfErr result (HeightRefusal (parameters_of params.now) log_input_height) }
-{
-    if params.log_final_poly_len == 0 {
-        return Ok(());
-    }
-    let Some(log_final_height) = params.log_blowup.checked_add(params.log_final_poly_len) else {
-        return Err(FriProverError::FinalHeightOverflow);
-    };
-    if log_input_height <= log_final_height {
-        return Err(FriProverError::InputHeightTooSmall {
-            log_input_height,
-            log_final_height,
-        });
-    }
-    Ok(())
-}
 
 /// Whether each of these matrices is tall enough to be opened. Otherwise the refusal is that of the
 /// first which isn't.
@@ -60,7 +30,7 @@ pub fn check_round_heights<M, F: TwoAdicField>(
         (λ e. RoundHeightRefusal (parameters_of params.now) e matrices.now) }
 {
     for matrix in matrices {
-        if let Err(refusal) = check_height(params, log2_strict_usize(matrix.height())) {
+        if let Err(refusal) = validate_input_height(params, log2_strict_usize(matrix.height())) {
             return Err(refusal);
         }
     }

@@ -14,7 +14,7 @@ pub mod values;
 
 pub use crate::all_points::{Denominators, denominators_of_rounds};
 pub use crate::checks::{
-    check_height, check_points, check_round_heights, check_round_points, is_in_evaluation_domain,
+    check_points, check_round_heights, check_round_points, is_in_evaluation_domain,
 };
 pub use crate::denominators::{PointDenominators, denominators_of_point, inverses_at};
 pub use crate::openable::are_openable;

@@ -1,6 +1,6 @@
 //! Matrices and points to open, and what has to hold of them, found when the tests run.
 
-ghost use Rattle.std.specs.Prelude.{◌≡◌, All, IfOk, IsTrue, length};
+ghost use Rattle.std.specs.Prelude.{All, IfOk, IsTrue, length};
 ghost use Rattle.std.specs.Int.{IsPowerOfTwo};
 ghost use Rattle.p3_matrix.specs.Matrix.{rows};
 ghost use Rattle.p3_fri_openings.specs.Rounds.{HasCoset, IsRound};

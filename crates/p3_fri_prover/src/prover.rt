@@ -11,6 +11,6 @@ mod prove;
 mod roll_in;
 mod rounds;
 
-pub use crate::prover::heights::validate_input_height;
 pub use crate::prover::openings::ProverDataWithOpeningPoints;
 pub use crate::prover::prove::prove_fri;
+pub use p3_fri_relation::validate_input_height;

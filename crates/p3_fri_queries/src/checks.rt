@@ -1,7 +1,7 @@
 //! Whether a query that is folded by itself is in order.
 
-ghost use Rattle.std.specs.Prelude.{◌≡◌, ◌≢◌, ℕ, suc, ◌+◌, ◌-◌, ◌^◌, ◌<◌, ◌≤◌, ◌⊎◌, ◌↔◌, min};
-ghost use Rattle.std.specs.Prelude.{List, [], ◌∷◌, map, length, sum, slice_index, slice_index_or};
+ghost use Rattle.std.specs.Prelude.{◌≡◌, ◌-◌, ◌^◌, ◌<◌, ◌≤◌, ◌⊎◌, ◌↔◌, min};
+ghost use Rattle.std.specs.Prelude.{[], map, length, sum, slice_index, slice_index_or};
 ghost use Rattle.std.specs.Prelude.{IsTrue, IsNone, IfSome};
 ghost use Rattle.algebra.specs.Nested.{lists};
 ghost use Rattle.p3_fri_relation.specs.FoldedQuery.{AreInRange, HasRow, HaveRows, AreMet, reaches};

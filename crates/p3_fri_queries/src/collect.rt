@@ -1,6 +1,6 @@
 //! What the rounds' collectors gain at a query.
 
-ghost use Rattle.std.specs.Prelude.{◌≡◌, ◌<◌, List, [], ◌∷◌, ◌++◌, length, IsOk, slice_set};
+ghost use Rattle.std.specs.Prelude.{◌≡◌, ◌<◌, [], ◌∷◌, ◌++◌, length, IsOk, slice_set};
 ghost use Rattle.std.specs.Prelude.{slice_index_or};
 ghost use Rattle.algebra.specs.Nested.{lists};
 ghost use Rattle.p3_fri_relation.specs.Views.{rows_collected};

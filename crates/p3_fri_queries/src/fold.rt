@@ -1,7 +1,7 @@
 //! The queries, folded one after another.
 
-ghost use Rattle.std.specs.Prelude.{◌≡◌, ◌≢◌, ℕ, ◌/◌, ◌^◌, ◌<◌, ◌≤◌, ◌↔◌, ◌⊎◌, List, [], ◌∷◌};
-ghost use Rattle.std.specs.Prelude.{map, sum, length, All, EachIndex, SomeIndex};
+ghost use Rattle.std.specs.Prelude.{◌≡◌, ◌≢◌, ◌^◌, ◌<◌, ◌≤◌, ◌↔◌, ◌⊎◌, [], ◌∷◌};
+ghost use Rattle.std.specs.Prelude.{map, length, All, EachIndex, SomeIndex};
 ghost use Rattle.std.specs.Prelude.{Err, IsOk, IfOk, IfErr};
 ghost use Rattle.algebra.specs.Nested.{lists};
 ghost use Rattle.algebra.specs.Polynomial.{tabulate};

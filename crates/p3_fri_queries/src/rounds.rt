@@ -1,8 +1,8 @@
 //! The rounds of one query.
 
-ghost use Rattle.std.specs.Prelude.{◌≡◌, ℕ, suc, ◌+◌, ◌-◌, ◌/◌, ◌%◌, ◌^◌, ◌<◌, ◌≤◌, List, [], ◌∷◌};
-ghost use Rattle.std.specs.Prelude.{◌++◌, map, sum, length};
-ghost use Rattle.std.specs.Prelude.{IfOk, IsOk, slice_index, slice_index_or};
+ghost use Rattle.std.specs.Prelude.{◌≡◌, suc, ◌+◌, ◌-◌, ◌/◌, ◌%◌, ◌^◌, ◌<◌, ◌≤◌, [], ◌∷◌};
+ghost use Rattle.std.specs.Prelude.{map, sum, length};
+ghost use Rattle.std.specs.Prelude.{IfOk, IsOk, slice_index_or};
 ghost use Rattle.std.specs.List.{insert};
 ghost use Rattle.algebra.specs.Nested.{lists};
 ghost use Rattle.algebra.specs.Rounds.{Round, Link, next_link, row_of_link, chain, chain_rows};

@@ -1,7 +1,7 @@
 //! Two queries through two rounds of a word, opened from real commitments, and what is refused of
 //! them.
 
-ghost use Rattle.std.specs.Prelude.{◌≡◌, ◌<◌, ◌≤◌, ◌^◌, IfOk, IsTrue, List, [], ◌∷◌};
+ghost use Rattle.std.specs.Prelude.{◌≡◌, ◌<◌, ◌^◌, IfOk, IsTrue, [], ◌∷◌};
 ghost use Rattle.std.specs.Prelude.{length, All, EachIndex};
 ghost use Rattle.algebra.specs.Nested.{lists};
 ghost use Rattle.p3_fri_relation.specs.FoldedQuery.{IsInOrder};

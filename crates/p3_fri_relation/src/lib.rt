@@ -5,10 +5,12 @@
 
 pub mod error;
 mod error_text;
+pub mod heights;
 pub mod ladder;
 pub mod laws;
 pub mod proof;
 pub mod setting;
 
+pub use crate::heights::validate_input_height;
 pub use crate::ladder::{Ladder, combine_row};
 pub use p3_fri_folding::FriParameters;

@@ -1,6 +1,6 @@
 //! Whether the lengths of a proof's lists are those that an instance asks for.
 
-ghost use Rattle.std.specs.Prelude.{◌≡◌, ◌<◌, ◌^◌, ◌↔◌, All, length, IsOk, IfErr};
+ghost use Rattle.std.specs.Prelude.{◌<◌, ◌↔◌, All, length, IsOk, IfErr};
 ghost use Rattle.p3_fri_relation.specs.TestRounds.{HasCounts};
 ghost use Rattle.p3_fri_relation.specs.Faults.{CountFault};
 ghost use Rattle.p3_fri_relation.specs.Views.{parameters_of, proof_of};

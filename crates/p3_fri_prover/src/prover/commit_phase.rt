@@ -1,6 +1,6 @@
 //! A round: it commits to its word, draws a challenge, and folds the word at it.
 
-ghost use Rattle.std.specs.Prelude.{◌≡◌, ◌<◌, ◌≤◌, ◌+◌, ◌*◌, ◌^◌, ℕ, List};
+ghost use Rattle.std.specs.Prelude.{◌≡◌, ◌<◌, ◌≤◌, ◌+◌, ◌^◌, ℕ, List};
 ghost use Rattle.std.specs.Prelude.{IfOk, IfErr, OnOk, length, vec_len};
 ghost use Rattle.std.specs.Int.{IsPowerOfTwo};
 ghost use Rattle.algebra.specs.Nested.{lists};

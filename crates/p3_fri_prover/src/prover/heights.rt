@@ -1,40 +1,16 @@
 //! The heights of the words that are folded.
 
-ghost use Rattle.std.specs.Prelude.{◌≡◌, ◌↔◌, ℕ, List, All, IsOk, IfOk, IfErr, OnOk};
-ghost use Rattle.std.specs.Int.{IsPowerOfTwo};
+ghost use Rattle.std.specs.Prelude.{ℕ, List, All, IfOk, IfErr, OnOk};
 ghost use Rattle.algebra.specs.Nested.{lists};
 ghost use Rattle.p3_fri_relation.specs.Views.{parameters_of};
 ghost use Rattle.p3_fri_prover.specs.Inputs.{HaveHeights, HavePowerLengths};
-ghost use Rattle.p3_fri_relation.specs.TallEnough.{IsTallEnough, HeightRefusal};
+ghost use Rattle.p3_fri_relation.specs.TallEnough.{IsTallEnough};
 ghost use Rattle.p3_fri_prover.specs.Refusals.{HeightsRefusal};
 
 use p3_field_core::log2_strict_usize;
 use p3_fri_folding::{FriParameters, FriProverError};
+use p3_fri_relation::validate_input_height;
 use std::alloc::{AllocError, Global};
-
-/// Whether a word of this log height can be proved: a final polynomial that is not constant is sent
-/// only of a taller word than its own.
-pub fn validate_input_height<M>(
-    params: &FriParameters<M>,
-    log_input_height: usize,
-) -> Result<(), FriProverError>
-    ensures tall_enough { IsOk result ↔ IsTallEnough (parameters_of params.now) log_input_height }
-    ensures refused { IfErr result (HeightRefusal (parameters_of params.now) log_input_height) }
-{
-    if params.log_final_poly_len == 0 {
-        return Ok(());
-    }
-    let Some(log_final_height) = params.log_blowup.checked_add(params.log_final_poly_len) else {
-        return Err(FriProverError::FinalHeightOverflow);
-    };
-    if log_input_height <= log_final_height {
-        return Err(FriProverError::InputHeightTooSmall {
-            log_input_height,
-            log_final_height,
-        });
-    }
-    Ok(())
-}
 
 /// Whether each of these words, whose lengths are powers of two, can be proved.
 pub(crate) fn check_heights<M, EF>(

@@ -1,6 +1,6 @@
 //! All rounds of the commit phase.
 
-ghost use Rattle.std.specs.Prelude.{◌≡◌, ◌<◌, ◌≤◌, ◌+◌, ◌^◌, ◌++◌, ◌∷◌, [], ℕ, List, All};
+ghost use Rattle.std.specs.Prelude.{◌≡◌, ◌<◌, ◌≤◌, ◌+◌, ◌^◌, ◌++◌, ◌∷◌, [], ℕ, All};
 ghost use Rattle.std.specs.Prelude.{IfOk, IfErr, OnOk, length, sum, vec_len};
 ghost use Rattle.algebra.specs.Nested.{lists};
 ghost use Rattle.p3_fri_transcript.specs.Turns.{RoundsLeft};

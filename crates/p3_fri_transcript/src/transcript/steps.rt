@@ -1,6 +1,6 @@
 //! What follows the seed in whole transcripts, by both sides: the rounds and the queries.
 
-ghost use Rattle.std.specs.Prelude.{◌≡◌, ◌≢◌, ◌≤◌, ◌↔◌, ◌++◌, [], ◌∷◌, true, Some, Err};
+ghost use Rattle.std.specs.Prelude.{◌≡◌, ◌≢◌, ◌≤◌, ◌↔◌, [], true, Some, Err};
 ghost use Rattle.std.specs.Prelude.{IsOk, IfOk, IfErr, OnOk, length};
 ghost use Rattle.p3_fri_pow.specs.Reached.{Reaches};
 ghost use Rattle.p3_fri_transcript.specs.Failures.{FriPasses, FriFailure};

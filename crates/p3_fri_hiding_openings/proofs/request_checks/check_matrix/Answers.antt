@@ -28,18 +28,18 @@ is_log : (g : Over) (c : After-log2_strict_usize g)
     → c.log2_strict_usize.result ≡ log_height c.args.matrix.now
 is_log g c = log2_is _ _ (c.log2_strict_usize.ensures.power ∙ c.height-height.ensures)
 
-pub returns-in_err-check_height : goal.returns-in_err-check_height
-returns-in_err-check_height g c =
+pub returns-in_err-validate_input_height : goal.returns-in_err-validate_input_height
+returns-in_err-validate_input_height g c =
     let p = parameters_of c.args.params.now in
-    let is = is_log g (goal.at.returns-in_err-check_height g c).After-log2_strict_usize in
+    let is = is_log g (goal.at.returns-in_err-validate_input_height g c).After-log2_strict_usize in
     let made = err_from_is_err_and c.from_residual.result c.from_residual.ensures.1 in
     rw made.1
     (by_height (fields_of g) p c.args.num_random_codewords
-    (ask c.args.matrix.now c.args.points.now) c.in_err-check_height.field-0.0 made.0 made.2
-    (λ tall. let ok = c.in_err-check_height.ensures.tall_enough.1
+    (ask c.args.matrix.now c.args.points.now) c.in_err-validate_input_height.field-0.0 made.0 made.2
+    (λ tall. let ok = c.in_err-validate_input_height.ensures.tall_enough.1
     (subst (λ h. IsTallEnough p h) (sym is) tall) in cc)
-    (subst (λ h. HeightRefusal p h c.in_err-check_height.field-0.0) is
-    c.in_err-check_height.ensures.refused))
+    (subst (λ h. HeightRefusal p h c.in_err-validate_input_height.field-0.0) is
+    c.in_err-validate_input_height.ensures.refused))
 
 pub returns : goal.returns
 returns g c =
@@ -47,7 +47,7 @@ returns g c =
     let is = is_log g (goal.at.returns g c).After-log2_strict_usize in
     by_budget (fields_of g) p c.args.num_random_codewords
     (ask c.args.matrix.now c.args.points.now)
-    (subst (λ h. IsTallEnough p h) is (c.in_ok-check_height.ensures.tall_enough.0 refl))
+    (subst (λ h. IsTallEnough p h) is (c.in_ok-validate_input_height.ensures.tall_enough.0 refl))
     c.check_hiding_budget.result c.DIMENSION.result c.lde_mask_height-mask_height.result
     (length c.args.points.now) c.DIMENSION.ensures
     (c.lde_mask_height-mask_height.ensures
