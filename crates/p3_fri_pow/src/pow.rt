@@ -11,6 +11,7 @@ ghost use Rattle.p3_fri_pow.specs.Pow.{NonePasses, IsMissing, IsWrongWitness};
 use p3_challenger_core::{FieldChallenger, GrindingChallenger};
 use p3_challenger_fs::Script;
 use p3_field_core::Field;
+use p3_fri_folding::{FriProverError, PowPhase};
 
 /// Makes the proof of work, of which there is none at no bits: answers what the challenger's search
 /// gives. Where no element passes it is refused, with the challenger unchanged.
