@@ -8,7 +8,7 @@ use Rattle.p3_matrix.specs.declared.dense.RowMajorMatrix.{RowMajorMatrix}
 use Rattle.p3_matrix.specs.Matrix.{rows, matrix_width}
 use Rattle.p3_matrix.specs.Rows.{rows_of}
 use Rattle.p3_matrix.proofs.Columns.{rows_of-joined}
-use Rattle.p3_fri_masks.proofs.Masks.{each_width}
+use Rattle.p3_fri_masks.proofs.WiderRows.{each_width}
 
 module _ {T : Type 0} (kept : ℕ) where
   abbrev pub kept_rows : List (List T) → List (List T)

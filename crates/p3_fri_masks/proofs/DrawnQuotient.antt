@@ -20,7 +20,7 @@ use Rattle.p3_matrix.specs.Words.{past, randoms}
 use Rattle.p3_dft.specs.Strided.{strided}
 use Rattle.p3_dft.proofs.Sizes.{double_next}
 use Rattle.p3_fri_masks.specs.Draws.{random_rows}
-use Rattle.p3_fri_masks.proofs.Masks.{each_width}
+use Rattle.p3_fri_masks.proofs.WiderRows.{each_width}
 use Rattle.p3_fri_masks.proofs.RandomRows.{length-random_rows, length-random_row}
 use Rattle.p3_fri_masks.specs.QuotientDraws.{chunks_with_random_columns, past_columns}
 use Rattle.p3_fri_masks.specs.MaskedChunks.{column_of, masked_polynomial}

@@ -1,4 +1,4 @@
-pub mod Drawn
+pub mod ChunksDrawn
 pub mod Sums
 pub mod Columns
 pub mod Weights
@@ -10,7 +10,7 @@ pub mod ChunkWords
 pub mod ManyMasks
 pub mod DrawnQuotient
 pub mod RowHalves
-pub mod Masks
+pub mod WiderRows
 pub mod KeptRows
 pub mod KeptValues
 pub mod Batches

@@ -12,7 +12,7 @@ use Rattle.p3_matrix.specs.Words.{past, randoms}
 use Rattle.p3_matrix.proofs.Columns.{rows_of-joined, whole_rows}
 use Rattle.p3_matrix.proofs.Words.{past_none, past-add, length-randoms}
 use Rattle.p3_fri_masks.specs.Draws.{random_rows, IsRandom, AreRandom, random_words}
-use Rattle.p3_fri_masks.proofs.Masks.{drawn_in_parts}
+use Rattle.p3_fri_masks.proofs.WiderRows.{drawn_in_parts}
 
 module _ {T : Type 0} (f : ℕ → T) where
   past_more : (n width : ℕ) (s : Stream) → past width (past (n * width) s) ≡ past ((n + 1) * width) s

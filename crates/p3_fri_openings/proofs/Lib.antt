@@ -1,5 +1,5 @@
 mod Passes
-pub mod Requests
+pub mod OpenableRequests
 pub mod Log2
 pub mod First
 pub mod Refusals

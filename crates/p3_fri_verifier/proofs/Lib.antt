@@ -3,7 +3,7 @@ pub mod InputOpenings
 pub mod Instances
 pub mod Lists
 pub mod LowHeights
-pub mod Openings
+pub mod RoundOpenings
 pub mod Sizes
 pub mod Accepted
 pub mod Drawn

@@ -7,7 +7,7 @@ use Rattle.p3_pcs.specs.Requests.{AreHonest, FitDomains, honest_claims, request}
 use Rattle.p3_fri_openings.specs.Held.{held_of, HoldsWords}
 use Rattle.std.proofs.Common.{All, ◌^◌}
 use Rattle.fri_statement.specs.Setting.{fields}
-use Rattle.p3_fri_openings.proofs.Requests.{openable_same}
+use Rattle.p3_fri_openings.proofs.OpenableRequests.{openable_same}
 use Rattle.p3_fri_relation.specs.Views.{parameters_of}
 use Rattle.fri_requests.specs.Requests.{Refuses}
 use Rattle.fri_requests.proofs.Asked.{may_be_opened, matrix_asked}

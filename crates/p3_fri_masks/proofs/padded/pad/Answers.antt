@@ -1,5 +1,5 @@
 use Rattle.std.proofs.Common.{rules}
-use Rattle.p3_fri_masks.proofs.Masks.{padded_by_halves}
+use Rattle.p3_fri_masks.proofs.WiderRows.{padded_by_halves}
 use Rattle.p3_fri_masks.proofs.padded.pad.Goals as goal
 
 pub returns : goal.returns

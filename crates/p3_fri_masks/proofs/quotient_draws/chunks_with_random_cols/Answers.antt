@@ -1,5 +1,5 @@
 use Rattle.std.proofs.Common.{arith}
-use Rattle.p3_fri_masks.proofs.Drawn.{one_more_chunk}
+use Rattle.p3_fri_masks.proofs.ChunksDrawn.{one_more_chunk}
 use Rattle.p3_fri_masks.proofs.quotient_draws.chunks_with_random_cols.Goals as goal
 
 pub loop-chunk-preserved : goal.loop-chunk-preserved

@@ -1,5 +1,5 @@
 use Rattle.p3_matrix.specs.Matrix.{rows, matrix_width}
-use Rattle.p3_fri_masks.proofs.Drawn.{AreWidened}
+use Rattle.p3_fri_masks.proofs.ChunksDrawn.{AreWidened}
 use Rattle.p3_fri_masks.proofs.quotient_draws.chunks_with_random_cols.Given as goal
 
 -- the chunks before the index have their random columns

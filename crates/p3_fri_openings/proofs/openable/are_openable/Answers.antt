@@ -1,6 +1,6 @@
 use Rattle.p3_fri_openings.specs.Rounds.{HasCoset}
 use Rattle.p3_fri_openings.specs.Openable.{MayBeOpened}
-use Rattle.p3_fri_openings.proofs.Requests.{openable}
+use Rattle.p3_fri_openings.proofs.OpenableRequests.{openable}
 use Rattle.p3_fri_openings.proofs.openable.are_openable.Goals as goal
 
 pub returns-clause-exactly : goal.returns-clause-exactly

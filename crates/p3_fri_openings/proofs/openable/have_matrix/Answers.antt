@@ -2,7 +2,7 @@ use Rattle.std.proofs.Common.{◌≡◌, [], length, sym, ap, ◌∙◌}
 use Rattle.std.proofs.lemmas.List.{nil_from_length}
 use Rattle.p3_fri_openings.proofs.First.{one_more, to_the_end}
 use Rattle.p3_fri_openings.proofs.Passes.{passed, failed}
-use Rattle.p3_fri_openings.proofs.Requests.{joined_of_some, joined_of_none}
+use Rattle.p3_fri_openings.proofs.OpenableRequests.{joined_of_some, joined_of_none}
 use Rattle.p3_fri_openings.proofs.openable.have_matrix.Goals as goal
 
 pub returns-then-get_matrices-ne0 : goal.returns-then-get_matrices-ne0

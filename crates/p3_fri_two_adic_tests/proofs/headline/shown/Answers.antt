@@ -1,6 +1,6 @@
 use Rattle.std.proofs.Common.{◌≢◌, ◌∷◌, [], All, length, ap, sym, subst, ◌∙◌}
 use Rattle.p3_fri_two_adic_tests.proofs.Known.{one_is_honest, one_fits}
-use Rattle.p3_fri_openings.proofs.Requests.{openable_same}
+use Rattle.p3_fri_openings.proofs.OpenableRequests.{openable_same}
 use Rattle.p3_fri_two_adic_tests.proofs.headline.shown.Goals as goal
 
 pub open_and_verify-answer-requires-clause-shape : goal.open_and_verify-answer-requires-clause-shape

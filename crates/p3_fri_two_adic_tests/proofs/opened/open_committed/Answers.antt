@@ -1,5 +1,5 @@
 use Rattle.std.proofs.Common.{sym, ◌∙◌}
-use Rattle.p3_fri_openings.proofs.Requests.{openable_same}
+use Rattle.p3_fri_openings.proofs.OpenableRequests.{openable_same}
 use Rattle.p3_fri_two_adic_tests.proofs.opened.open_committed.Goals as goal
 
 pub open-answer-requires-clause-shape : goal.open-answer-requires-clause-shape

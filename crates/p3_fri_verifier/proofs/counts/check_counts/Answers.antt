@@ -4,7 +4,7 @@ use Rattle.std.proofs.lemmas.Result.{err_from_is_err_and, IfErr-weaker}
 use Rattle.p3_fri_relation.specs.Faults.{At, CountFault}
 use Rattle.p3_fri_relation.specs.Views.{parameters_of, proof_of, rounds_opened}
 use Rattle.p3_fri_verifier.specs.Counts.{SiblingFault}
-use Rattle.p3_fri_verifier.proofs.Openings.{lengths_from_counts, count_fault}
+use Rattle.p3_fri_verifier.proofs.RoundOpenings.{lengths_from_counts, count_fault}
 use Rattle.p3_fri_verifier.proofs.counts.check_counts.Goals as goal
 
 pub returns-in_err-check_lengths-clause-exact : goal.returns-in_err-check_lengths-clause-exact

@@ -6,7 +6,7 @@ use Rattle.p3_fri_relation.specs.TestRounds.{HasSiblings}
 use Rattle.p3_fri_relation.specs.Views.{round_opened, rounds_opened}
 use Rattle.p3_fri_verifier.specs.Counts.{SiblingFault}
 use Rattle.p3_fri_verifier.proofs.Lists.{all_zip_from, all_zip_at, one_more, get_at}
-use Rattle.p3_fri_verifier.proofs.Openings.{opened_at, at_opened}
+use Rattle.p3_fri_verifier.proofs.RoundOpenings.{opened_at, at_opened}
 use Rattle.p3_fri_verifier.proofs.siblings.check_siblings.Goals as goal
 
 pub returns-in_err-check_round-clause-exact : goal.returns-in_err-check_round-clause-exact
