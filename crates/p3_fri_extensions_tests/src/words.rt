@@ -6,8 +6,7 @@ ghost use Rattle.p3_matrix.specs.Matrix.{rows};
 
 use p3_dft::Radix2Dit;
 use p3_field::{BabyBear, Field, TwoAdicField, TwoAdicMultiplicativeCoset};
-use p3_fri_extensions::extend;
-use p3_fri_extensions::evaluations_on_domain;
+use p3_fri_extensions::{evaluations_on_domain, extend};
 use p3_matrix::RowMajorMatrix;
 use std::alloc::{AllocError, Global};
 use std::test::Fail;

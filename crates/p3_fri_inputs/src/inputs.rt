@@ -21,11 +21,10 @@ use crate::opening::check_openings;
 use crate::points::inverse_distances;
 use crate::sums::query_sums;
 use p3_field_core::{ExtensionField, Field, TwoAdicField, TwoAdicMultiplicativeCoset};
-use p3_fri_relation::Ladder;
-use p3_fri_relation::FriParameters;
 use p3_fri_relation::error::{FriError, FriOpenings};
 use p3_fri_relation::proof::BatchMultiOpening;
 use p3_fri_relation::setting::ChallengeField;
+use p3_fri_relation::{FriParameters, Ladder};
 use p3_mmcs::{CommitmentOpening, Mmcs};
 use std::alloc::{AllocError, Global};
 

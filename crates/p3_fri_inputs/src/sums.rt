@@ -18,9 +18,9 @@ ghost use Rattle.p3_fri_inputs.specs.Claims.{IsReadable, HasRowsAt};
 ghost use Rattle.p3_fri_inputs.specs.Points.{AreCombined};
 
 use p3_field_core::{ExtensionField, Field, TwoAdicField, TwoAdicMultiplicativeCoset};
-use p3_fri_relation::{Ladder, combine_row};
 use p3_fri_relation::proof::BatchMultiOpening;
 use p3_fri_relation::setting::ChallengeField;
+use p3_fri_relation::{Ladder, combine_row};
 use p3_mmcs::{CommitmentOpening, MatrixOpening, Mmcs};
 use std::alloc::{AllocError, Global};
 
