@@ -3,6 +3,7 @@ use Rattle.std.specs.Prelude.{◌≢◌, ◌≡◌, ℕ, ◌*◌, ◌-◌, ◌^�
 use Rattle.std.specs.Prelude.{string_bytes}
 use Rattle.std.specs.List.{AllZip, flat_map}
 use Rattle.std.specs.declared.alloc.Global.{Global}
+use Rattle.std.specs.declared.vec.Vec.{Vec}
 use Rattle.algebra.specs.Nested.{lists}
 use Rattle.p3_field_core.specs.declared.element_bytes.ElementBytes.{Ghosts}
 use Rattle.p3_baby_bear.specs.declared.baby_bear.BabyBear.{BabyBear}
@@ -18,6 +19,7 @@ use Rattle.p3_pcs.specs.Requests as plain
 use Rattle.p3_fri_folding.specs.declared.error.FriProverError.{FriProverError}
 use Rattle.p3_fri_folding.specs.declared.error.FriProverError.TheVariants.{OutOfMemory}
 use Rattle.p3_fri_relation.specs.Setting as setting
+use Rattle.p3_fri_opening_prover.specs.Setting.{OpeningSetting}
 use Rattle.p3_fri_two_adic.specs.Refusals.{OpenRefusal}
 use Rattle.p3_fri_two_adic.specs.Ranges.{InProverRange}
 use Rattle.fri_requests.specs.declared.records.Parameters.{Parameters}
@@ -79,12 +81,29 @@ input_bytes = record { LEN = 4; bytes = number_bytes }
 abbrev pub round_bytes : Ghosts BabyBear4
 round_bytes = record { LEN = 16; bytes = coefficient_bytes }
 
+-- what the scheme's openings stand on with these parameters: trees over both fields, and the least
+-- witness that passes
+abbrev pub sha256_opening : setting.Parameters
+    → OpeningSetting BabyBear BabyBear4 Sha256Challenger (Sha256ProverData BabyBear input_bytes)
+    (Sha256ProverData BabyBear4 round_bytes) (List ℕ) (Vec (Vec (List ℕ) Global) Global) (List ℕ)
+    (Vec (Vec (List ℕ) Global) Global)
+sha256_opening p = record {
+  setting = sha256_setting;
+  parameters = p;
+  committed = matrices_of;
+  commitment_of = root_over;
+  round_committed = matrices_of;
+  round_commitment_of = root_over;
+  solution = least_witness;
+  most_bits = 63;
+  max_log_height = 27;
+}
+
 -- why the scheme refuses to open data from a challenger's state on, other than for want of memory
 pub record Refuses (p : setting.Parameters) (c : Sha256Challenger)
     (requests : List (plain.Request (Sha256ProverData BabyBear input_bytes) BabyBear4))
     (e : FriProverError) : Type 0 where
-  pub stands : OpenRefusal (sha256_setting {X = Global} {Y = Global}) p matrices_of
-      (matrices_of {G = round_bytes}) root_over least_witness c requests e
+  pub stands : OpenRefusal (sha256_opening p) c requests e
   pub not_memory : e ≢ OutOfMemory
 
 -- there is a list of points for each matrix that is kept under a commitment

@@ -8,14 +8,14 @@ use Rattle.p3_fri_hiding_openings.specs.declared.data.HidingFriPcsProverData.{Hi
 use Rattle.p3_fri_hiding_openings.specs.Data.{IsOfScheme}
 use Rattle.p3_fri_hiding_openings.specs.ErrorLaws.{memory_cases}
 use Rattle.p3_fri_hiding_openings.specs.Requests.{after_opening}
-use Rattle.p3_fri_hiding_openings.specs.Rules.{TwoAdic}
+use Rattle.p3_fri_hiding_openings.specs.Setting.{OpeningSetting}
 use Rattle.p3_fri_hiding_openings.specs.UnivariateLaws.{trace_heights}
 use Rattle.p3_fri_hiding.specs.ReadingLaws.{traced_columns, readable, whole_readable}
 use Rattle.p3_fri_hiding.specs.ReadingLaws.{shown_words_at, shown_first}
 use Rattle.p3_fri_hiding.specs.Rules.{hiding_rules, hiding_stark_rules}
 
 module _ {F E C D Data Com Path InCom InPath : Type 0} (num_random : ℕ)
-    (r : TwoAdic F E C D Data Com Path InCom InPath) where
+    (r : OpeningSetting F E C D Data Com Path InCom InPath) where
   -- an opening leaves data of the scheme
   opened_of_scheme : (d : HidingFriPcsProverData D)
       → IsOfScheme r.setting.fields r.committed r.parameters.log_blowup num_random d
@@ -30,7 +30,7 @@ module _ {F E C D Data Com Path InCom InPath : Type 0} (num_random : ℕ)
 module _ {F E C D Data Domain Com Path InCom InPath Shown A B : Type 0} (shift : Domain → F)
     (log_size : Domain → ℕ) (random_of : Shown → List (List (List (List E))))
     (proof_of : Shown → Proof F E Com Path InPath) (num_random : ℕ)
-    (r : TwoAdic F E C D Data Com Path InCom InPath) where
+    (r : OpeningSetting F E C D Data Com Path InCom InPath) where
   pub hiding_lawful : IsLawful
       (hiding_rules {A = A} {B = B} shift log_size random_of proof_of num_random r)
   hiding_lawful = record {

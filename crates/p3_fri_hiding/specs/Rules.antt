@@ -10,7 +10,7 @@ use Rattle.p3_stark_pcs.specs.Scheme.{StarkScheme}
 use Rattle.p3_fri_relation.specs.declared.error.FriError.{FriError}
 use Rattle.p3_fri_relation.specs.declared.error.FriError.TheVariants.{OutOfMemory}
 use Rattle.p3_fri_relation.specs.Setting.{Proof}
-use Rattle.p3_fri_openings.specs.Held.{held_of, HoldsWords}
+use Rattle.p3_fri_openings.specs.Held.{HoldsWords}
 use Rattle.p3_fri_openings.specs.SchemeClaims.{relation_claims}
 use Rattle.p3_fri_masks.specs.declared.error.HidingFriProverError.{HidingFriProverError}
 use Rattle.p3_fri_masks.specs.QuotientLdes.{AreMaskedChunks}
@@ -29,7 +29,7 @@ use Rattle.p3_fri_hiding_openings.specs.Opening.{LeavesHidingState}
 use Rattle.p3_fri_hiding_openings.specs.RandomValues.{with_random_values}
 use Rattle.p3_fri_hiding_openings.specs.Ranges.{InProverRange, InVerifierRange}
 use Rattle.p3_fri_hiding_openings.specs.Requests.{after_opening}
-use Rattle.p3_fri_hiding_openings.specs.Rules.{TwoAdic}
+use Rattle.p3_fri_hiding_openings.specs.Setting.{OpeningSetting, held, IsHonest}
 use Rattle.p3_fri_hiding_openings.specs.Shown.{shown_in}
 use Rattle.p3_fri_hiding.specs.Quotients.{CanExtend}
 use Rattle.p3_fri_hiding.specs.Trace.{FitsMasked, HasTrace}
@@ -37,7 +37,7 @@ use Rattle.p3_fri_hiding.specs.Trace.{FitsMasked, HasTrace}
 -- with so many random codewords, where data and openings of the matrices inside are those of the
 -- two-adic scheme
 module _ {F E C D Data Com Path InCom InPath : Type 0} (num_random : ℕ)
-    (r : TwoAdic F E C D Data Com Path InCom InPath) where
+    (r : OpeningSetting F E C D Data Com Path InCom InPath) where
   -- why matrices whose masks have these heights are refused
   abbrev pub RefusesHeights : (heights : List ℕ) → HidingFriProverError → Type 0
   RefusesHeights heights e =
@@ -51,7 +51,7 @@ module _ {F E C D Data Com Path InCom InPath : Type 0} (num_random : ℕ)
 -- over domains with these shifts and log sizes
 module _ {F E C D Data Domain Com Path InCom InPath : Type 0} (shift : Domain → F)
     (log_size : Domain → ℕ) (num_random : ℕ)
-    (r : TwoAdic F E C D Data Com Path InCom InPath) where
+    (r : OpeningSetting F E C D Data Com Path InCom InPath) where
   -- what the scheme has for a STARK, where `from_word` is the element of a random word
   abbrev pub hiding_stark_rules : (from_word : ℕ → F)
       → StarkScheme E F Domain (HidingFriPcsProverData D) HidingFriProverError
@@ -87,8 +87,7 @@ module _ {F E C D Data Domain Com Path InCom InPath : Type 0} (shift : Domain �
         r.parameters.log_blowup num_random d index;
     IsHonestAt = λ d index.
         HoldsWordsAt r.setting.fields r.parameters.log_blowup (r.committed d.inner) index;
-    whole_polynomials = λ d.
-        held_of r.setting.fields r.committed r.parameters.log_blowup d.inner;
+    whole_polynomials = λ d. held r d.inner;
     CanRandomize = λ domains. All
         (λ d. log_size d + r.parameters.log_blowup ≤ r.setting.fields.two_adicity) domains;
     random_columns = r.setting.fields.degree;
@@ -100,7 +99,7 @@ module _ {F E C D Data Domain Com Path InCom InPath : Type 0} (shift : Domain �
 module _ {F E C D Data Domain Com Path InCom InPath Shown A B : Type 0} (shift : Domain → F)
     (log_size : Domain → ℕ) (random_of : Shown → List (List (List (List E))))
     (proof_of : Shown → Proof F E Com Path InPath) (num_random : ℕ)
-    (r : TwoAdic F E C D Data Com Path InCom InPath) where
+    (r : OpeningSetting F E C D Data Com Path InCom InPath) where
   -- what the scheme opens, accepts and refuses
   abbrev pub hiding_rules : Scheme E C F Domain InCom (HidingFriPcsProverData D) Shown
       (FriError A B) HidingFriProverError
@@ -112,8 +111,7 @@ module _ {F E C D Data Domain Com Path InCom InPath Shown A B : Type 0} (shift :
         r.parameters.log_blowup num_random d;
     CanOpen = λ d. IsUnopened r.setting.fields r.committed r.parameters.log_blowup
         num_random d;
-    IsHonest = λ d. All (HoldsWords r.setting.fields r.parameters.log_blowup)
-        (r.committed d.inner);
+    IsHonest = λ d. IsHonest r d.inner;
     after_opening = λ d. after_opening d;
     CanCommit = λ evaluations. All (λ e. FitsMasked r.setting.fields.two_adicity
         r.parameters.log_blowup (log_size e.0) e.1) evaluations;
@@ -123,8 +121,7 @@ module _ {F E C D Data Domain Com Path InCom InPath Shown A B : Type 0} (shift :
     InVerifierRange = InVerifierRange r.parameters r.setting.fields.two_adicity r.most_bits;
     PassesChecks = λ _ asked.
         PassesHidingChecks r.setting.fields r.parameters num_random r.committed asked;
-    Refuses = λ _ c asked e. HidingRefusal r.setting r.parameters num_random r.committed
-        r.round_committed r.round_commitment_of r.solution c asked e;
+    Refuses = λ _ c asked e. HidingRefusal r num_random c asked e;
     LeavesState = λ e. LeavesHidingState e;
     Accepts = λ index c claims proof. HidingAccepts r.setting r.parameters num_random index
         (relation_claims log_size claims) (random_of proof) (proof_of proof) c;

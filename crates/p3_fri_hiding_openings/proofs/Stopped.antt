@@ -1,13 +1,12 @@
 -- Why requests aren't opened: the checks refuse them, or what is inside is not opened.
-use Rattle.std.proofs.Common.{◌≡◌, ℕ, List, map, Option, sym, subst}
-use Rattle.p3_matrix.specs.declared.dense.RowMajorMatrix.{RowMajorMatrix}
+use Rattle.std.proofs.Common.{◌≡◌, ℕ, List, map, sym, subst}
 use Rattle.p3_pcs.specs.Requests.{Request}
 use Rattle.p3_fri_folding.specs.declared.error.FriProverError.{FriProverError}
 use Rattle.p3_fri_folding.specs.declared.error.FriProverError.TheVariants.{InputHeightTooSmall}
 use Rattle.p3_fri_folding.specs.declared.error.FriProverError.TheVariants.{FinalHeightOverflow}
 use Rattle.p3_fri_folding.specs.declared.error.FriProverError.TheVariants.{PointInEvaluationDomain}
 use Rattle.p3_fri_folding.specs.declared.error.FriProverError.TheVariants.{NoPowWitness, OutOfMemory}
-use Rattle.p3_fri_relation.specs.Setting.{Setting, Parameters}
+use Rattle.p3_fri_opening_prover.specs.Setting.{OpeningSetting}
 use Rattle.p3_fri_opening_prover.specs.Refusals.{OpenRefusal, LeavesState}
 use Rattle.p3_fri_masks.specs.declared.error.HidingFriProverError.{HidingFriProverError}
 use Rattle.p3_fri_masks.specs.declared.error.HidingFriProverError.TheVariants.{Fri}
@@ -16,20 +15,13 @@ use Rattle.p3_fri_hiding_openings.specs.Requests.{inside}
 use Rattle.p3_fri_hiding_openings.specs.Opening.{PassesHidingChecks, HidingRefusal}
 use Rattle.p3_fri_hiding_openings.specs.Opening.{LeavesHidingState}
 
-module _ {F E C D Data Com Path InCom InPath : Type 0} (s : Setting F E C Com Path InCom InPath)
-    (p : Parameters) (r : ℕ) (committed : D → List (RowMajorMatrix F))
-    (committed_in_test : Data → List (RowMajorMatrix E)) (commitment_in_test : Data → Com)
-    (solution : C → ℕ → Option F) (c : C)
+module _ {F E C D Data Com Path InCom InPath : Type 0}
+    (r : OpeningSetting F E C D Data Com Path InCom InPath) (num_random : ℕ) (c : C)
     (requests : List (Request (HidingFriPcsProverData D) E)) where
-  abbrev Refused : HidingFriProverError → Type 0
-  Refused e = HidingRefusal s p r committed committed_in_test commitment_in_test solution c
-      requests e
-
-  module _ (passed : PassesHidingChecks s.fields p r committed requests) where
-    past_checks : (e : FriProverError)
-        → OpenRefusal s p committed committed_in_test commitment_in_test solution c
-        (map inside requests) e
-        → (¬ LeavesState e) → Refused (Fri e)
+  module _ (passed : PassesHidingChecks r.setting.fields r.parameters num_random r.committed
+      requests) where
+    past_checks : (e : FriProverError) → OpenRefusal r c (map inside requests) e
+        → (¬ LeavesState e) → HidingRefusal r num_random c requests (Fri e)
     past_checks OutOfMemory h not = passed
     past_checks (NoPowWitness phase) h not = (passed, h.1)
     past_checks (InputHeightTooSmall a b) h not = absurd (not tt)
@@ -39,15 +31,10 @@ module _ {F E C D Data Com Path InCom InPath : Type 0} (s : Setting F E C Com Pa
     -- where the requests inside are seen as `asked`, and a conversion made `made` of the refusal
     pub by_opening : (asked : List (Request D E)) → asked ≡ map inside requests
         → (e : FriProverError) (made : HidingFriProverError) → made ≡ Fri e
-        → OpenRefusal s p committed committed_in_test commitment_in_test solution c asked e
-        → (¬ LeavesState e) → Refused made
+        → OpenRefusal r c asked e → (¬ LeavesState e) → HidingRefusal r num_random c requests made
     by_opening asked same e made is h not =
-        subst (λ x. Refused x) (sym is)
-        (past_checks e
-        (subst
-        (λ qs. OpenRefusal s p committed committed_in_test commitment_in_test solution c qs e)
-        same h)
-        not)
+        subst (λ x. HidingRefusal r num_random c requests x) (sym is)
+        (past_checks e (subst (λ qs. OpenRefusal r c qs e) same h) not)
 
 -- it doesn't leave the state then
 pub moved : {X : Type 0} (e : FriProverError) (made : HidingFriProverError) → made ≡ Fri e

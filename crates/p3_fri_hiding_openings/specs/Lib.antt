@@ -8,6 +8,7 @@ pub mod Data
 pub mod Requests
 pub mod Opening
 -- what the scheme above names of the crates below
+pub use Rattle.p3_fri_opening_prover.specs.Setting
 pub use Rattle.p3_fri_two_adic.specs.Ends
 pub use Rattle.p3_fri_two_adic.specs.Accepted
 pub use Rattle.p3_fri_two_adic.specs.Chunks
@@ -17,5 +18,4 @@ pub use Rattle.p3_fri_two_adic.specs.Evaluations
 pub use Rattle.p3_fri_two_adic.specs.Held
 pub use Rattle.p3_fri_two_adic.specs.Ldes
 pub use Rattle.p3_fri_two_adic.specs.Ranges
-pub use Rattle.p3_fri_two_adic.specs.Rules
 pub use Rattle.p3_fri_two_adic.specs.UnivariateLaws

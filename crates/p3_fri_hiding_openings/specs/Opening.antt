@@ -1,14 +1,15 @@
 -- When a scheme that hides opens, and why it refuses to.
-use Rattle.std.specs.Prelude.{ℕ, ◌/◌, ◌^◌, List, Option, map, length, All, ⊤}
+use Rattle.std.specs.Prelude.{ℕ, ◌/◌, ◌^◌, List, map, length, All, ⊤}
 use Rattle.p3_matrix.specs.declared.dense.RowMajorMatrix.{RowMajorMatrix}
 use Rattle.p3_matrix.specs.Matrix.{rows}
 use Rattle.p3_pcs.specs.Requests.{Request}
 use Rattle.p3_fri_folding.specs.declared.error.FriProverError.TheVariants.{NoPowWitness, OutOfMemory}
 use Rattle.p3_fri_folding.specs.declared.error.FriProverError.TheVariants.{PointInEvaluationDomain}
-use Rattle.p3_fri_relation.specs.Setting.{Fields, Parameters, Setting}
+use Rattle.p3_fri_relation.specs.Setting.{Fields, Parameters}
 use Rattle.p3_fri_relation.specs.TallEnough.{IsTallEnough, HeightRefusal}
 use Rattle.p3_fri_openings.specs.First.{FirstAt}
 use Rattle.p3_fri_openings.specs.Rounds.{Asked, log_height}
+use Rattle.p3_fri_opening_prover.specs.Setting.{OpeningSetting}
 use Rattle.p3_fri_opening_prover.specs.Refusals.{PassesChecks, RequestsStop, LeavesState}
 use Rattle.p3_fri_opening_prover.specs.Refusals.{asked_of, IsFirstOn}
 use Rattle.p3_fri_masks.specs.declared.error.HidingFriProverError.{HidingFriProverError}
@@ -75,21 +76,20 @@ module _ {F E : Type 0} (f : Fields F E) (p : Parameters) (num_random_codewords 
     HidingCheckRefusal requests (Fri OutOfMemory) = ⊥
     HidingCheckRefusal requests e = IsFirstRefused e (map inside requests)
 
-module _ {F E C D Data Com Path InCom InPath : Type 0} (s : Setting F E C Com Path InCom InPath)
-    (p : Parameters) (num_random_codewords : ℕ) (committed : D → List (RowMajorMatrix F))
-    (committed_in_test : Data → List (RowMajorMatrix E)) (commitment_in_test : Data → Com)
-    (solution : C → ℕ → Option F) (c : C)
+-- with so many random codewords
+module _ {F E C D Data Com Path InCom InPath : Type 0}
+    (r : OpeningSetting F E C D Data Com Path InCom InPath) (num_random_codewords : ℕ) (c : C)
     (requests : List (Request (HidingFriPcsProverData D) E)) where
   -- why requests aren't opened from the challenger's state `c` on: the checks refuse them, which
   -- comes first, or those that pass are stopped by a proof of work or for want of memory
   abbrev pub HidingRefusal : HidingFriProverError → Type 0
-  HidingRefusal (Fri OutOfMemory) =
-      PassesHidingChecks s.fields p num_random_codewords committed requests
+  HidingRefusal (Fri OutOfMemory) = PassesHidingChecks r.setting.fields r.parameters
+      num_random_codewords r.committed requests
   HidingRefusal (Fri (NoPowWitness phase)) =
-      PassesHidingChecks s.fields p num_random_codewords committed requests
-      × RequestsStop s p committed committed_in_test commitment_in_test solution c
-      (map inside requests) (NoPowWitness phase)
-  HidingRefusal e = HidingCheckRefusal s.fields p num_random_codewords committed requests e
+      PassesHidingChecks r.setting.fields r.parameters num_random_codewords r.committed requests
+      × RequestsStop r c (map inside requests) (NoPowWitness phase)
+  HidingRefusal e = HidingCheckRefusal r.setting.fields r.parameters num_random_codewords
+      r.committed requests e
 
 -- the refusals that leave the challenger, and what counts as opened, as they were
 abbrev pub LeavesHidingState : HidingFriProverError → Type 0

@@ -1,16 +1,16 @@
 //! The prover of openings that hide: what is inside of requests is opened, once all checks have
 //! passed and private data is marked.
 
-ghost use Rattle.std.specs.Prelude.{◌≡◌, ◌+◌, ◌^◌, ◌<◌, ◌≤◌, ℕ, List, All, IsOk, IfOk, IfErr, map};
+ghost use Rattle.std.specs.Prelude.{◌≡◌, ◌^◌, ℕ, List, IsOk, IfOk, IfErr, map};
 ghost use Rattle.p3_pcs.specs.Claims.{opened_values};
 ghost use Rattle.p3_pcs.specs.Requests.{AreOpenable, AreHonest, FitDomains, request, with_data};
 ghost use Rattle.p3_pcs.specs.Requests.{honest_values, honest_claims};
 ghost use Rattle.p3_stark_pcs.specs.Preprocessing.{AreOpenableAt};
 ghost use Rattle.p3_fri_relation.specs.Acceptance.{Accepts, batch_replayed, test_replay};
 ghost use Rattle.p3_fri_relation.specs.Views.{parameters_of, proof_of};
-ghost use Rattle.p3_fri_openings.specs.Rounds.{HasCoset};
-ghost use Rattle.p3_fri_openings.specs.Held.{HoldsWords, held_of};
 ghost use Rattle.p3_fri_openings.specs.SchemeClaims.{relation_claims};
+ghost use Rattle.p3_fri_opening_prover.specs.Setting.{IsInOpeningRange, held};
+ghost use Rattle.p3_fri_opening_prover.specs.Setting.{StandsOnCosets, IsHonest};
 ghost use Rattle.p3_fri_opening_prover.specs.Refusals.{PassesChecks, OpenRefusal, LeavesState};
 ghost use Rattle.p3_fri_two_adic.specs.Ends.{last_state};
 ghost use Rattle.p3_fri_two_adic.specs.Ranges.{InProverRange};
@@ -34,9 +34,9 @@ use p3_field_core::{ExtensionField, PackableExtension, PackableField, TwoAdicFie
 use p3_fri_folding::{FriFoldingStrategy, FriParameters, FriProverError};
 use p3_fri_masks::HidingFriProverError;
 use p3_fri_opening_prover::open_rounds;
+use p3_fri_opening_prover::setting::OpensFri;
 use p3_fri_relation::proof::{BatchMultiOpening, FriProof};
-use p3_fri_relation::setting::{ChallengeField, PlaysFri};
-use p3_fri_two_adic::setting::PlaysTwoAdic;
+use p3_fri_two_adic::rules::OpensTwoAdic;
 use p3_fri_two_adic::{TwoAdicFriFolding, TwoAdicFriFoldingForMmcs};
 use p3_mmcs::{Mmcs, OpenedValues};
 use p3_pcs::OpeningRequest;
@@ -66,51 +66,40 @@ fn open_hidden<
     ),
     FriProverError,
 >
-    requires positive_blowup { 0 < params.now.log_blowup }
-    requires blowup_below_64 { params.now.log_blowup < 64 }
-    requires positive_cap { 0 < params.now.max_log_arity }
-    requires some_query { 0 < params.now.num_queries }
-    requires index_bits_at_most_max { F.TWO_ADICITY + S.extra_query_index_bits folding.now
-        ≤ C.MAX_SAMPLE_BITS }
-    requires batch_bits_at_most_max { params.now.batch_proof_of_work_bits ≤ C.MAX_SAMPLE_BITS }
-    requires commit_bits_at_most_max { params.now.commit_proof_of_work_bits ≤ C.MAX_SAMPLE_BITS }
-    requires query_bits_at_most_max { params.now.query_proof_of_work_bits ≤ C.MAX_SAMPLE_BITS }
-    requires max_log_height { F.TWO_ADICITY ≤ S.max_log_height folding.now }
-    requires openable { AreOpenable (λ d. All (HasCoset F.TWO_ADICITY) (InputMmcs.committed d))
-        (held_of ⟦<EF as ChallengeField<F>>⟧.fields InputMmcs.committed params.now.log_blowup)
+    requires in_range { IsInOpeningRange (⟦<C as OpensFri<F, EF, S, M, InputMmcs>>⟧.parts
+        folding.now params.now input_mmcs.now) }
+    requires openable { let r = ⟦<C as OpensFri<F, EF, S, M, InputMmcs>>⟧.parts folding.now
+        params.now input_mmcs.now in
+        AreOpenable (StandsOnCosets r) (held r) (map request (map inner_request requests.now)) }
+    requires passes { let r = ⟦<C as OpensFri<F, EF, S, M, InputMmcs>>⟧.parts folding.now
+        params.now input_mmcs.now in
+        PassesChecks r.setting.fields r.parameters r.committed
         (map request (map inner_request requests.now)) }
-    requires passes { PassesChecks ⟦<EF as ChallengeField<F>>⟧.fields
-        (parameters_of params.now) InputMmcs.committed
-        (map request (map inner_request requests.now)) }
-    ensures values { IfOk result (λ opening. opened_values opening.0.items ≡ map (honest_values
-        (held_of ⟦<EF as ChallengeField<F>>⟧.fields InputMmcs.committed params.now.log_blowup))
-        (map request (map inner_request requests.now))) }
-    ensures accepted { let s = ⟦<C as PlaysFri<F, EF, S, M, InputMmcs>>⟧.setting folding.now
-        params.now.mmcs input_mmcs.now in
-        let held = held_of s.fields InputMmcs.committed params.now.log_blowup in
+    ensures values { let r = ⟦<C as OpensFri<F, EF, S, M, InputMmcs>>⟧.parts folding.now
+        params.now input_mmcs.now in
+        IfOk result (λ opening. opened_values opening.0.items
+        ≡ map (honest_values (held r)) (map request (map inner_request requests.now))) }
+    ensures accepted { let r = ⟦<C as OpensFri<F, EF, S, M, InputMmcs>>⟧.parts folding.now
+        params.now input_mmcs.now in
         let asked = map request (map inner_request requests.now) in
-        AreHonest (λ d. All (HoldsWords s.fields params.now.log_blowup) (InputMmcs.committed d))
-        asked → IfOk result (λ opening. (log_sizes : List (List ℕ))
-        → FitDomains held (λ n. 2 ^ n) log_sizes asked
-        → Accepts s (parameters_of params.now) (relation_claims (λ n. n)
-        (honest_claims held InputMmcs.commitment_of log_sizes asked)) (proof_of opening.1)
+        AreHonest (IsHonest r) asked → IfOk result (λ opening. (log_sizes : List (List ℕ))
+        → FitDomains (held r) (λ n. 2 ^ n) log_sizes asked
+        → Accepts r.setting r.parameters (relation_claims (λ n. n)
+        (honest_claims (held r) r.commitment_of log_sizes asked)) (proof_of opening.1)
         challenger.old) }
-    ensures state { let s = ⟦<C as PlaysFri<F, EF, S, M, InputMmcs>>⟧.setting folding.now
-        params.now.mmcs input_mmcs.now in
-        let p = parameters_of params.now in
-        let held = held_of s.fields InputMmcs.committed params.now.log_blowup in
+    ensures state { let r = ⟦<C as OpensFri<F, EF, S, M, InputMmcs>>⟧.parts folding.now
+        params.now input_mmcs.now in
         let asked = map request (map inner_request requests.now) in
-        AreHonest (λ d. All (HoldsWords s.fields params.now.log_blowup) (InputMmcs.committed d))
-        asked → IfOk result (λ opening. (log_sizes : List (List ℕ))
-        → FitDomains held (λ n. 2 ^ n) log_sizes asked
+        AreHonest (IsHonest r) asked → IfOk result (λ opening. (log_sizes : List (List ℕ))
+        → FitDomains (held r) (λ n. 2 ^ n) log_sizes asked
         → let claims = relation_claims (λ n. n)
-        (honest_claims held InputMmcs.commitment_of log_sizes asked) in
-        challenger.new ≡ (test_replay s p claims (proof_of opening.1)
-        (batch_replayed s p claims (proof_of opening.1) challenger.old).state).state) }
-    ensures refused { let s = ⟦<C as PlaysFri<F, EF, S, M, InputMmcs>>⟧.setting folding.now
-        params.now.mmcs input_mmcs.now in
-        IfErr result (OpenRefusal s (parameters_of params.now) InputMmcs.committed M.committed
-        M.commitment_of C.solution challenger.old (map request (map inner_request requests.now))) }
+        (honest_claims (held r) r.commitment_of log_sizes asked) in
+        challenger.new ≡ (test_replay r.setting r.parameters claims (proof_of opening.1)
+        (batch_replayed r.setting r.parameters claims (proof_of opening.1)
+        challenger.old).state).state) }
+    ensures refused { let r = ⟦<C as OpensFri<F, EF, S, M, InputMmcs>>⟧.parts folding.now
+        params.now input_mmcs.now in
+        IfErr result (OpenRefusal r challenger.old (map request (map inner_request requests.now))) }
     ensures not_checked { IfErr result (λ e. ¬ LeavesState e) }
 {
     let rounds = match hidden_rounds(alloc, input_mmcs, requests) {
@@ -150,59 +139,50 @@ fn open_marked<
     ),
     HidingFriProverError,
 >
-    requires positive_blowup { 0 < params.now.log_blowup }
-    requires blowup_below_64 { params.now.log_blowup < 64 }
-    requires positive_cap { 0 < params.now.max_log_arity }
-    requires some_query { 0 < params.now.num_queries }
-    requires index_bits_at_most_max { F.TWO_ADICITY + S.extra_query_index_bits folding.now
-        ≤ C.MAX_SAMPLE_BITS }
-    requires batch_bits_at_most_max { params.now.batch_proof_of_work_bits ≤ C.MAX_SAMPLE_BITS }
-    requires commit_bits_at_most_max { params.now.commit_proof_of_work_bits ≤ C.MAX_SAMPLE_BITS }
-    requires query_bits_at_most_max { params.now.query_proof_of_work_bits ≤ C.MAX_SAMPLE_BITS }
-    requires max_log_height { F.TWO_ADICITY ≤ S.max_log_height folding.now }
-    requires openable { AreOpenable (λ d. All (HasCoset F.TWO_ADICITY) (InputMmcs.committed d))
-        (held_of ⟦<EF as ChallengeField<F>>⟧.fields InputMmcs.committed params.now.log_blowup)
-        (map inside (map request requests.old)) }
-    ensures values { IfOk result (λ opening. opened_values opening.0.items ≡ map (honest_values
-        (held_of ⟦<EF as ChallengeField<F>>⟧.fields InputMmcs.committed params.now.log_blowup))
-        (map inside (map request requests.old))) }
-    ensures accepted { let s = ⟦<C as PlaysFri<F, EF, S, M, InputMmcs>>⟧.setting folding.now
-        params.now.mmcs input_mmcs.now in
-        let held = held_of s.fields InputMmcs.committed params.now.log_blowup in
+    requires in_range { IsInOpeningRange (⟦<C as OpensFri<F, EF, S, M, InputMmcs>>⟧.parts
+        folding.now params.now input_mmcs.now) }
+    requires openable { let r = ⟦<C as OpensFri<F, EF, S, M, InputMmcs>>⟧.parts folding.now
+        params.now input_mmcs.now in
+        AreOpenable (StandsOnCosets r) (held r) (map inside (map request requests.old)) }
+    ensures values { let r = ⟦<C as OpensFri<F, EF, S, M, InputMmcs>>⟧.parts folding.now
+        params.now input_mmcs.now in
+        IfOk result (λ opening. opened_values opening.0.items
+        ≡ map (honest_values (held r)) (map inside (map request requests.old))) }
+    ensures accepted { let r = ⟦<C as OpensFri<F, EF, S, M, InputMmcs>>⟧.parts folding.now
+        params.now input_mmcs.now in
         let asked = map inside (map request requests.old) in
-        AreHonest (λ d. All (HoldsWords s.fields params.now.log_blowup) (InputMmcs.committed d))
-        asked → IfOk result (λ opening. (log_sizes : List (List ℕ))
-        → FitDomains held (λ n. 2 ^ n) log_sizes asked
-        → Accepts s (parameters_of params.now) (relation_claims (λ n. n)
-        (honest_claims held InputMmcs.commitment_of log_sizes asked)) (proof_of opening.1)
+        AreHonest (IsHonest r) asked → IfOk result (λ opening. (log_sizes : List (List ℕ))
+        → FitDomains (held r) (λ n. 2 ^ n) log_sizes asked
+        → Accepts r.setting r.parameters (relation_claims (λ n. n)
+        (honest_claims (held r) r.commitment_of log_sizes asked)) (proof_of opening.1)
         challenger.old) }
-    ensures state { let s = ⟦<C as PlaysFri<F, EF, S, M, InputMmcs>>⟧.setting folding.now
-        params.now.mmcs input_mmcs.now in
-        let p = parameters_of params.now in
-        let held = held_of s.fields InputMmcs.committed params.now.log_blowup in
+    ensures state { let r = ⟦<C as OpensFri<F, EF, S, M, InputMmcs>>⟧.parts folding.now
+        params.now input_mmcs.now in
         let asked = map inside (map request requests.old) in
-        AreHonest (λ d. All (HoldsWords s.fields params.now.log_blowup) (InputMmcs.committed d))
-        asked → IfOk result (λ opening. (log_sizes : List (List ℕ))
-        → FitDomains held (λ n. 2 ^ n) log_sizes asked
+        AreHonest (IsHonest r) asked → IfOk result (λ opening. (log_sizes : List (List ℕ))
+        → FitDomains (held r) (λ n. 2 ^ n) log_sizes asked
         → let claims = relation_claims (λ n. n)
-        (honest_claims held InputMmcs.commitment_of log_sizes asked) in
-        challenger.new ≡ (test_replay s p claims (proof_of opening.1)
-        (batch_replayed s p claims (proof_of opening.1) challenger.old).state).state) }
-    ensures checked { IsOk result → PassesHidingChecks ⟦<EF as ChallengeField<F>>⟧.fields
-        (parameters_of params.now) num_random_codewords InputMmcs.committed
+        (honest_claims (held r) r.commitment_of log_sizes asked) in
+        challenger.new ≡ (test_replay r.setting r.parameters claims (proof_of opening.1)
+        (batch_replayed r.setting r.parameters claims (proof_of opening.1)
+        challenger.old).state).state) }
+    ensures checked { let r = ⟦<C as OpensFri<F, EF, S, M, InputMmcs>>⟧.parts folding.now
+        params.now input_mmcs.now in
+        IsOk result → PassesHidingChecks r.setting.fields r.parameters num_random_codewords r.committed
         (map request requests.old) }
-    ensures opened { PassesHidingChecks ⟦<EF as ChallengeField<F>>⟧.fields
-        (parameters_of params.now) num_random_codewords InputMmcs.committed
+    ensures opened { let r = ⟦<C as OpensFri<F, EF, S, M, InputMmcs>>⟧.parts folding.now
+        params.now input_mmcs.now in
+        PassesHidingChecks r.setting.fields r.parameters num_random_codewords r.committed
         (map request requests.old)
         → requests.new ≡ map (with_data after_opening) requests.old }
-    ensures unopened { ¬ PassesHidingChecks ⟦<EF as ChallengeField<F>>⟧.fields
-        (parameters_of params.now) num_random_codewords InputMmcs.committed
+    ensures unopened { let r = ⟦<C as OpensFri<F, EF, S, M, InputMmcs>>⟧.parts folding.now
+        params.now input_mmcs.now in
+        ¬ PassesHidingChecks r.setting.fields r.parameters num_random_codewords r.committed
         (map request requests.old)
         → requests.new ≡ requests.old }
-    ensures refused { let s = ⟦<C as PlaysFri<F, EF, S, M, InputMmcs>>⟧.setting folding.now
-        params.now.mmcs input_mmcs.now in
-        IfErr result (HidingRefusal s (parameters_of params.now) num_random_codewords
-        InputMmcs.committed M.committed M.commitment_of C.solution challenger.old
+    ensures refused { let r = ⟦<C as OpensFri<F, EF, S, M, InputMmcs>>⟧.parts folding.now
+        params.now input_mmcs.now in
+        IfErr result (HidingRefusal r num_random_codewords challenger.old
         (map request requests.old)) }
     ensures unmoved { IfErr result (λ e. LeavesHidingState e → challenger.new ≡ challenger.old) }
     ensures untouched { IfErr result (λ e. LeavesHidingState e → requests.new ≡ requests.old) }
@@ -271,59 +251,64 @@ pub fn open_hiding_requests<
     HidingFriProverError,
 >
     requires range { InProverRange (parameters_of params.now) F.TWO_ADICITY C.MAX_SAMPLE_BITS }
-    requires shape { let fields = ⟦<EF as ChallengeField<F>>⟧.fields in
-        let b = params.now.log_blowup in
-        AreOpenableAt (IsUnopened fields InputMmcs.committed b num_random_codewords)
-        (IsPreprocessing fields InputMmcs.committed b num_random_codewords)
-        (shown_polynomials fields InputMmcs.committed b num_random_codewords) preprocessing
+    requires shape { let r = ⟦<C as OpensTwoAdic<F, EF, InputMmcs, M>>⟧.parts input_mmcs.now
+        params.now in
+        let b = r.parameters.log_blowup in
+        AreOpenableAt (IsUnopened r.setting.fields r.committed b num_random_codewords)
+        (IsPreprocessing r.setting.fields r.committed b num_random_codewords)
+        (shown_polynomials r.setting.fields r.committed b num_random_codewords) preprocessing
         (map request requests.old) }
-    ensures values { IfOk result (λ opening. opened_values opening.0.items ≡ map (honest_values
-        (shown_polynomials ⟦<EF as ChallengeField<F>>⟧.fields InputMmcs.committed
-        params.now.log_blowup num_random_codewords)) (map request requests.old)) }
-    ensures kept { let fields = ⟦<EF as ChallengeField<F>>⟧.fields in
+    ensures values { let r = ⟦<C as OpensTwoAdic<F, EF, InputMmcs, M>>⟧.parts input_mmcs.now
+        params.now in
+        IfOk result (λ opening. opened_values opening.0.items ≡ map (honest_values
+        (shown_polynomials r.setting.fields r.committed r.parameters.log_blowup
+        num_random_codewords)) (map request requests.old)) }
+    ensures kept { let r = ⟦<C as OpensTwoAdic<F, EF, InputMmcs, M>>⟧.parts input_mmcs.now
+        params.now in
         IfOk result (λ opening. opened_values opening.1.0.items
-        ≡ kept_values num_random_codewords preprocessing (map (honest_values
-        (held_of fields InputMmcs.committed params.now.log_blowup))
-        (map inside (map request requests.old)))) }
-    ensures accepted { let s = ⟦<C as PlaysTwoAdic<F, EF, InputMmcs, M>>⟧.setting input_mmcs.now
-        params.now.mmcs in
-        let b = params.now.log_blowup in
-        let shown = shown_polynomials s.fields InputMmcs.committed b num_random_codewords in
+        ≡ kept_values num_random_codewords preprocessing
+        (map (honest_values (held r)) (map inside (map request requests.old)))) }
+    ensures accepted { let r = ⟦<C as OpensTwoAdic<F, EF, InputMmcs, M>>⟧.parts input_mmcs.now
+        params.now in
+        let shown = shown_polynomials r.setting.fields r.committed r.parameters.log_blowup
+        num_random_codewords in
         let asked = map request requests.old in
-        AreHonest (λ d. All (HoldsWords s.fields b) (InputMmcs.committed d.inner)) asked
+        AreHonest (λ d. IsHonest r d.inner) asked
         → IfOk result (λ opening. (log_sizes : List (List ℕ))
         → FitDomains shown (λ n. 2 ^ n) log_sizes asked
-        → HidingAccepts s (parameters_of params.now) num_random_codewords preprocessing
+        → HidingAccepts r.setting r.parameters num_random_codewords preprocessing
         (relation_claims (λ n. n)
-        (honest_claims shown (λ d. InputMmcs.commitment_of d.inner) log_sizes asked))
+        (honest_claims shown (λ d. r.commitment_of d.inner) log_sizes asked))
         (opened_values opening.1.0.items) (proof_of opening.1.1) challenger.old) }
-    ensures state { let s = ⟦<C as PlaysTwoAdic<F, EF, InputMmcs, M>>⟧.setting input_mmcs.now
-        params.now.mmcs in
-        let b = params.now.log_blowup in
-        let shown = shown_polynomials s.fields InputMmcs.committed b num_random_codewords in
+    ensures state { let r = ⟦<C as OpensTwoAdic<F, EF, InputMmcs, M>>⟧.parts input_mmcs.now
+        params.now in
+        let shown = shown_polynomials r.setting.fields r.committed r.parameters.log_blowup
+        num_random_codewords in
         let asked = map request requests.old in
-        AreHonest (λ d. All (HoldsWords s.fields b) (InputMmcs.committed d.inner)) asked
+        AreHonest (λ d. IsHonest r d.inner) asked
         → IfOk result (λ opening. (log_sizes : List (List ℕ))
         → FitDomains shown (λ n. 2 ^ n) log_sizes asked
-        → challenger.new ≡ last_state s (parameters_of params.now)
+        → challenger.new ≡ last_state r.setting r.parameters
         (with_random_values (relation_claims (λ n. n)
-        (honest_claims shown (λ d. InputMmcs.commitment_of d.inner) log_sizes asked))
+        (honest_claims shown (λ d. r.commitment_of d.inner) log_sizes asked))
         (opened_values opening.1.0.items)) (proof_of opening.1.1) challenger.old) }
-    ensures checked { IsOk result → PassesHidingChecks ⟦<EF as ChallengeField<F>>⟧.fields
-        (parameters_of params.now) num_random_codewords InputMmcs.committed
+    ensures checked { let r = ⟦<C as OpensTwoAdic<F, EF, InputMmcs, M>>⟧.parts input_mmcs.now
+        params.now in
+        IsOk result → PassesHidingChecks r.setting.fields r.parameters num_random_codewords r.committed
         (map request requests.old) }
-    ensures opened { PassesHidingChecks ⟦<EF as ChallengeField<F>>⟧.fields
-        (parameters_of params.now) num_random_codewords InputMmcs.committed
+    ensures opened { let r = ⟦<C as OpensTwoAdic<F, EF, InputMmcs, M>>⟧.parts input_mmcs.now
+        params.now in
+        PassesHidingChecks r.setting.fields r.parameters num_random_codewords r.committed
         (map request requests.old)
         → requests.new ≡ map (with_data after_opening) requests.old }
-    ensures unopened { ¬ PassesHidingChecks ⟦<EF as ChallengeField<F>>⟧.fields
-        (parameters_of params.now) num_random_codewords InputMmcs.committed
+    ensures unopened { let r = ⟦<C as OpensTwoAdic<F, EF, InputMmcs, M>>⟧.parts input_mmcs.now
+        params.now in
+        ¬ PassesHidingChecks r.setting.fields r.parameters num_random_codewords r.committed
         (map request requests.old)
         → requests.new ≡ requests.old }
-    ensures refused { let s = ⟦<C as PlaysTwoAdic<F, EF, InputMmcs, M>>⟧.setting input_mmcs.now
-        params.now.mmcs in
-        IfErr result (HidingRefusal s (parameters_of params.now) num_random_codewords
-        InputMmcs.committed M.committed M.commitment_of C.solution challenger.old
+    ensures refused { let r = ⟦<C as OpensTwoAdic<F, EF, InputMmcs, M>>⟧.parts input_mmcs.now
+        params.now in
+        IfErr result (HidingRefusal r num_random_codewords challenger.old
         (map request requests.old)) }
     ensures unmoved { IfErr result (λ e. LeavesHidingState e → challenger.new ≡ challenger.old) }
     ensures untouched { IfErr result (λ e. LeavesHidingState e → requests.new ≡ requests.old) }

@@ -12,6 +12,7 @@ use Rattle.p3_fri_relation.specs.Setting.{Setting, Parameters}
 use Rattle.p3_fri_batch.specs.Words.{Opened}
 use Rattle.p3_fri_prover.specs.Prover.{ProverRefusal}
 use Rattle.p3_fri_relation.specs.TallEnough.{IsTallEnough}
+use Rattle.p3_fri_opening_prover.specs.Setting.{OpeningSetting}
 use Rattle.p3_fri_opening_prover.specs.Opening.{StopsInTest, OpeningStops}
 use Rattle.p3_fri_opening_prover.specs.Refusals.{LeavesState}
 
@@ -45,20 +46,18 @@ module _ {F E C Com Data Path InCom InPath : Type 0} (s : Setting F E C Com Path
     no_check_refused tall below (Ok proof) h = tt
     no_check_refused tall below (Err e) h = not_of_checks tall below e h
 
-  -- what stops the test stops the opening
-  module _ (ms : List (Opened F E)) (values : List (List (List (List E)))) (c : C)
-      (solution : C → ℕ → Option F) where
-    batch_not_inside :
-        StopsInTest s p ms values c committed commitment_of solution (NoPowWitness Batch) → ⊥
-    batch_not_inside x = elim (x.refused) [ inl r ↦ absurd r.cause | inr r ↦ absurd r.1 ]
+-- what stops the test stops the opening
+module _ {F E C D Data Com Path InCom InPath : Type 0}
+    (r : OpeningSetting F E C D Data Com Path InCom InPath) (ms : List (Opened F E))
+    (values : List (List (List (List E)))) (c : C) where
+  batch_not_inside : StopsInTest r ms values c (NoPowWitness Batch) → ⊥
+  batch_not_inside x = elim (x.refused) [ inl h ↦ absurd h.cause | inr h ↦ absurd h.1 ]
 
-    pub stops : (e : FriProverError)
-        → StopsInTest s p ms values c committed commitment_of solution e
-        → OpeningStops s p ms values c committed commitment_of solution e
-    stops (NoPowWitness Batch) x = absurd (batch_not_inside x)
-    stops (NoPowWitness CommitPhase) x = x
-    stops (NoPowWitness Query) x = x
-    stops OutOfMemory x = tt
-    stops (InputHeightTooSmall h final) x = x
-    stops FinalHeightOverflow x = x
-    stops (PointInEvaluationDomain a b d) x = x
+  pub stops : (e : FriProverError) → StopsInTest r ms values c e → OpeningStops r ms values c e
+  stops (NoPowWitness Batch) x = absurd (batch_not_inside x)
+  stops (NoPowWitness CommitPhase) x = x
+  stops (NoPowWitness Query) x = x
+  stops OutOfMemory x = tt
+  stops (InputHeightTooSmall h final) x = x
+  stops FinalHeightOverflow x = x
+  stops (PointInEvaluationDomain a b d) x = x

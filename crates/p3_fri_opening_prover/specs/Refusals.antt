@@ -1,5 +1,5 @@
 -- When a prover of openings refuses.
-use Rattle.std.specs.Prelude.{ℕ, List, Option, map, All, ⊤}
+use Rattle.std.specs.Prelude.{ℕ, List, map, All, ⊤}
 use Rattle.algebra.specs.Nested.{joined}
 use Rattle.p3_matrix.specs.declared.dense.RowMajorMatrix.{RowMajorMatrix}
 use Rattle.p3_pcs.specs.Claims.{zip_with}
@@ -9,13 +9,13 @@ use Rattle.p3_fri_folding.specs.declared.error.FriProverError.TheVariants.{Input
 use Rattle.p3_fri_folding.specs.declared.error.FriProverError.TheVariants.{FinalHeightOverflow}
 use Rattle.p3_fri_folding.specs.declared.error.FriProverError.TheVariants.{PointInEvaluationDomain}
 use Rattle.p3_fri_folding.specs.declared.error.FriProverError.TheVariants.{NoPowWitness, OutOfMemory}
-use Rattle.p3_fri_relation.specs.Setting.{Fields, Parameters, Setting}
+use Rattle.p3_fri_relation.specs.Setting.{Fields, Parameters}
 use Rattle.p3_fri_openings.specs.First.{FirstAt}
 use Rattle.p3_fri_openings.specs.Rounds.{Asked, ask}
 use Rattle.p3_fri_openings.specs.Refusals.{AreTallEnough, RoundHeightRefusal}
 use Rattle.p3_fri_openings.specs.Refusals.{HasPointsOff, IsFirstPoint}
-use Rattle.p3_fri_openings.specs.Held.{held_of}
 use Rattle.p3_fri_completeness.specs.Requests.{round_opened}
+use Rattle.p3_fri_opening_prover.specs.Setting.{OpeningSetting, held}
 use Rattle.p3_fri_opening_prover.specs.Opening.{OpeningStops}
 
 module _ {F E D : Type 0} (committed : D → List (RowMajorMatrix F)) where
@@ -66,23 +66,22 @@ module _ {F E D : Type 0} (f : Fields F E) (p : Parameters)
   GatherRefusal requests OutOfMemory = PassesChecks requests
   GatherRefusal requests e = CheckRefusal requests e
 
-module _ {F E C D Data Com Path InCom InPath : Type 0} (s : Setting F E C Com Path InCom InPath)
-    (p : Parameters) (committed : D → List (RowMajorMatrix F))
-    (committed_in_test : Data → List (RowMajorMatrix E)) (commitment_in_test : Data → Com)
-    (solution : C → ℕ → Option F) (c : C) (requests : List (Request D E)) where
+module _ {F E C D Data Com Path InCom InPath : Type 0}
+    (r : OpeningSetting F E C D Data Com Path InCom InPath) (c : C)
+    (requests : List (Request D E)) where
   -- why requests that pass the checks aren't opened from the challenger's state `c` on
   abbrev pub RequestsStop : FriProverError → Type 0
-  RequestsStop e =
-      OpeningStops s p (joined (map (round_opened s.fields committed p.log_blowup) requests))
-      (map (honest_values (held_of s.fields committed p.log_blowup)) requests) c
-      committed_in_test commitment_in_test solution e
+  RequestsStop e = OpeningStops r
+      (joined (map (round_opened r.setting.fields r.committed r.parameters.log_blowup) requests))
+      (map (honest_values (held r)) requests) c e
 
   -- why requests aren't opened: the checks refuse them, which comes first, or what stops those that
   -- pass
   abbrev pub OpenRefusal : FriProverError → Type 0
   OpenRefusal (NoPowWitness phase) =
-      PassesChecks s.fields p committed requests × RequestsStop (NoPowWitness phase)
-  OpenRefusal e = GatherRefusal s.fields p committed requests e
+      PassesChecks r.setting.fields r.parameters r.committed requests
+      × RequestsStop (NoPowWitness phase)
+  OpenRefusal e = GatherRefusal r.setting.fields r.parameters r.committed requests e
 
 -- the refusals that leave a prover's challenger as it was
 abbrev pub LeavesState : FriProverError → Type 0

@@ -7,6 +7,7 @@ mod opened_data;
 mod prepared;
 mod request_checks;
 mod seeded;
+pub mod setting;
 mod words;
 
 pub use crate::open::{open_requests, open_rounds};

@@ -1,19 +1,18 @@
 //! The prover of openings.
 
-ghost use Rattle.std.specs.Prelude.{◌≡◌, ◌≢◌, ◌+◌, ◌^◌, ◌<◌, ◌≤◌, ℕ, [], List, All, IsOk, IfOk};
-ghost use Rattle.std.specs.Prelude.{IfErr, map};
+ghost use Rattle.std.specs.Prelude.{◌≡◌, ◌≢◌, ◌^◌, ℕ, [], List, All, IsOk, IfOk, IfErr, map};
 ghost use Rattle.p3_pcs.specs.Claims.{opened_values};
 ghost use Rattle.p3_pcs.specs.Requests.{AreOpenable, AreHonest, FitDomains, request};
 ghost use Rattle.p3_pcs.specs.Requests.{honest_values, honest_claims};
 ghost use Rattle.p3_fri_relation.specs.Acceptance.{Accepts, batch_replayed, test_replay};
 ghost use Rattle.p3_fri_relation.specs.Views.{parameters_of, proof_of};
 ghost use Rattle.p3_fri_openings.specs.Opened.{values_asked};
-ghost use Rattle.p3_fri_openings.specs.Rounds.{HasCoset, IsRound};
+ghost use Rattle.p3_fri_openings.specs.Rounds.{IsRound};
 ghost use Rattle.p3_fri_openings.specs.Refusals.{AreTallEnough, ArePointsOff};
-ghost use Rattle.p3_fri_batch.specs.Rounds.{opened_of};
-ghost use Rattle.p3_fri_prover.specs.Prover.{IsInProverRange};
-ghost use Rattle.p3_fri_openings.specs.Held.{HoldsWords, held_of};
 ghost use Rattle.p3_fri_openings.specs.SchemeClaims.{relation_claims};
+ghost use Rattle.p3_fri_batch.specs.Rounds.{opened_of};
+ghost use Rattle.p3_fri_opening_prover.specs.Setting.{IsInRoundsRange, IsInOpeningRange, held};
+ghost use Rattle.p3_fri_opening_prover.specs.Setting.{StandsOnCosets, IsHonest};
 ghost use Rattle.p3_fri_opening_prover.specs.Opening.{IsOpening, OpeningStops};
 ghost use Rattle.p3_fri_opening_prover.specs.Refusals.{PassesChecks, OpenRefusal, LeavesState};
 
@@ -21,13 +20,14 @@ use crate::opened_data::data_of_requests;
 use crate::prepared::{Prepared, prepare};
 use crate::request_checks::checked_rounds;
 use crate::seeded::open_seeded;
+use crate::setting::OpensFri;
 use p3_challenger_core::{CanObserve, FieldChallenger, GrindingChallenger};
 use p3_field_core::{ExtensionField, TwoAdicField};
 use p3_fri_folding::{FriFoldingStrategy, FriParameters, FriProverError};
 use p3_fri_openings::OpeningRound;
 use p3_fri_prover::prover::ProverDataWithOpeningPoints;
 use p3_fri_relation::proof::{BatchMultiOpening, FriProof};
-use p3_fri_relation::setting::{ChallengeField, PlaysFri};
+use p3_fri_relation::setting::ChallengeField;
 use p3_mmcs::{Mmcs, OpenedValues};
 use p3_pcs::OpeningRequest;
 use std::alloc::{AllocError, Global};
@@ -66,10 +66,8 @@ pub fn open_rounds<
     ),
     FriProverError,
 >
-    requires in_range { IsInProverRange (parameters_of params.now) F.TWO_ADICITY
-        (S.extra_query_index_bits folding.now) C.MAX_SAMPLE_BITS }
-    requires batch_bits_at_most_max { params.now.batch_proof_of_work_bits ≤ C.MAX_SAMPLE_BITS }
-    requires max_log_height { F.TWO_ADICITY ≤ S.max_log_height folding.now }
+    requires in_range { IsInRoundsRange (⟦<C as OpensFri<F, EF, S, M, InputMmcs>>⟧.parts
+        folding.now params.now input_mmcs.now) }
     requires rounds { All (IsRound F.TWO_ADICITY) rounds.now }
     requires tall_enough { All (λ r. AreTallEnough (parameters_of params.now) r.matrices.now)
         rounds.now }
@@ -80,18 +78,15 @@ pub fn open_rounds<
         ≡ map (λ r. r.matrices.now) rounds.now }
     ensures values { IfOk result (λ opening. opened_values opening.0.items ≡ map (values_asked
         ⟦<EF as ChallengeField<F>>⟧.fields params.now.log_blowup) rounds.now) }
-    ensures opening { let s = ⟦<C as PlaysFri<F, EF, S, M, InputMmcs>>⟧.setting folding.now
-        params.now.mmcs input_mmcs.now in
-        let ys = map (values_asked s.fields params.now.log_blowup) rounds.now in
-        IfOk result (λ opening. IsOpening s (parameters_of params.now) (opened_of rounds.now ys) ys
-        challenger.old (λ d. InputMmcs.committed d.prover_data.now)
-        (λ d. InputMmcs.commitment_of d.prover_data.now) opened.now (proof_of opening.1)
-        challenger.new) }
-    ensures stops { let s = ⟦<C as PlaysFri<F, EF, S, M, InputMmcs>>⟧.setting folding.now
-        params.now.mmcs input_mmcs.now in
-        let ys = map (values_asked s.fields params.now.log_blowup) rounds.now in
-        IfErr result (OpeningStops s (parameters_of params.now) (opened_of rounds.now ys) ys
-        challenger.old M.committed M.commitment_of C.solution) }
+    ensures opening { let r = ⟦<C as OpensFri<F, EF, S, M, InputMmcs>>⟧.parts folding.now
+        params.now input_mmcs.now in
+        let ys = map (values_asked r.setting.fields r.parameters.log_blowup) rounds.now in
+        IfOk result (λ opening. IsOpening r (opened_of rounds.now ys) ys challenger.old
+        (map (λ d. d.prover_data.now) opened.now) (proof_of opening.1) challenger.new) }
+    ensures stops { let r = ⟦<C as OpensFri<F, EF, S, M, InputMmcs>>⟧.parts folding.now
+        params.now input_mmcs.now in
+        let ys = map (values_asked r.setting.fields r.parameters.log_blowup) rounds.now in
+        IfErr result (OpeningStops r (opened_of rounds.now ys) ys challenger.old) }
     ensures not_checked { IfErr result (λ e. ¬ LeavesState e) }
 {
     let prepared = match prepare(alloc, params, rounds) {
@@ -164,50 +159,40 @@ pub fn open_requests<
     ),
     FriProverError,
 >
-    requires positive_blowup { 0 < params.now.log_blowup }
-    requires blowup_below_64 { params.now.log_blowup < 64 }
-    requires positive_cap { 0 < params.now.max_log_arity }
-    requires some_query { 0 < params.now.num_queries }
-    requires index_bits_at_most_max { F.TWO_ADICITY + S.extra_query_index_bits folding.now
-        ≤ C.MAX_SAMPLE_BITS }
-    requires batch_bits_at_most_max { params.now.batch_proof_of_work_bits ≤ C.MAX_SAMPLE_BITS }
-    requires commit_bits_at_most_max { params.now.commit_proof_of_work_bits ≤ C.MAX_SAMPLE_BITS }
-    requires query_bits_at_most_max { params.now.query_proof_of_work_bits ≤ C.MAX_SAMPLE_BITS }
-    requires max_log_height { F.TWO_ADICITY ≤ S.max_log_height folding.now }
-    requires openable { AreOpenable (λ d. All (HasCoset F.TWO_ADICITY) (InputMmcs.committed d))
-        (held_of ⟦<EF as ChallengeField<F>>⟧.fields InputMmcs.committed params.now.log_blowup)
-        (map request requests.now) }
-    ensures values { IfOk result (λ opening. opened_values opening.0.items ≡ map (honest_values
-        (held_of ⟦<EF as ChallengeField<F>>⟧.fields InputMmcs.committed params.now.log_blowup))
-        (map request requests.now)) }
-    ensures accepted { let s = ⟦<C as PlaysFri<F, EF, S, M, InputMmcs>>⟧.setting folding.now
-        params.now.mmcs input_mmcs.now in
-        let held = held_of s.fields InputMmcs.committed params.now.log_blowup in
+    requires in_range { IsInOpeningRange (⟦<C as OpensFri<F, EF, S, M, InputMmcs>>⟧.parts
+        folding.now params.now input_mmcs.now) }
+    requires openable { let r = ⟦<C as OpensFri<F, EF, S, M, InputMmcs>>⟧.parts folding.now
+        params.now input_mmcs.now in
+        AreOpenable (StandsOnCosets r) (held r) (map request requests.now) }
+    ensures values { let r = ⟦<C as OpensFri<F, EF, S, M, InputMmcs>>⟧.parts folding.now
+        params.now input_mmcs.now in
+        IfOk result (λ opening. opened_values opening.0.items
+        ≡ map (honest_values (held r)) (map request requests.now)) }
+    ensures accepted { let r = ⟦<C as OpensFri<F, EF, S, M, InputMmcs>>⟧.parts folding.now
+        params.now input_mmcs.now in
         let asked = map request requests.now in
-        AreHonest (λ d. All (HoldsWords s.fields params.now.log_blowup) (InputMmcs.committed d))
-        asked → IfOk result (λ opening. (log_sizes : List (List ℕ))
-        → FitDomains held (λ n. 2 ^ n) log_sizes asked
-        → Accepts s (parameters_of params.now) (relation_claims (λ n. n)
-        (honest_claims held InputMmcs.commitment_of log_sizes asked)) (proof_of opening.1)
+        AreHonest (IsHonest r) asked → IfOk result (λ opening. (log_sizes : List (List ℕ))
+        → FitDomains (held r) (λ n. 2 ^ n) log_sizes asked
+        → Accepts r.setting r.parameters (relation_claims (λ n. n)
+        (honest_claims (held r) r.commitment_of log_sizes asked)) (proof_of opening.1)
         challenger.old) }
-    ensures state { let s = ⟦<C as PlaysFri<F, EF, S, M, InputMmcs>>⟧.setting folding.now
-        params.now.mmcs input_mmcs.now in
-        let p = parameters_of params.now in
-        let held = held_of s.fields InputMmcs.committed params.now.log_blowup in
+    ensures state { let r = ⟦<C as OpensFri<F, EF, S, M, InputMmcs>>⟧.parts folding.now
+        params.now input_mmcs.now in
         let asked = map request requests.now in
-        AreHonest (λ d. All (HoldsWords s.fields params.now.log_blowup) (InputMmcs.committed d))
-        asked → IfOk result (λ opening. (log_sizes : List (List ℕ))
-        → FitDomains held (λ n. 2 ^ n) log_sizes asked
+        AreHonest (IsHonest r) asked → IfOk result (λ opening. (log_sizes : List (List ℕ))
+        → FitDomains (held r) (λ n. 2 ^ n) log_sizes asked
         → let claims = relation_claims (λ n. n)
-        (honest_claims held InputMmcs.commitment_of log_sizes asked) in
-        challenger.new ≡ (test_replay s p claims (proof_of opening.1)
-        (batch_replayed s p claims (proof_of opening.1) challenger.old).state).state) }
-    ensures checked { IsOk result → PassesChecks ⟦<EF as ChallengeField<F>>⟧.fields
-        (parameters_of params.now) InputMmcs.committed (map request requests.now) }
-    ensures refused { let s = ⟦<C as PlaysFri<F, EF, S, M, InputMmcs>>⟧.setting folding.now
-        params.now.mmcs input_mmcs.now in
-        IfErr result (OpenRefusal s (parameters_of params.now) InputMmcs.committed M.committed
-        M.commitment_of C.solution challenger.old (map request requests.now)) }
+        (honest_claims (held r) r.commitment_of log_sizes asked) in
+        challenger.new ≡ (test_replay r.setting r.parameters claims (proof_of opening.1)
+        (batch_replayed r.setting r.parameters claims (proof_of opening.1)
+        challenger.old).state).state) }
+    ensures checked { let r = ⟦<C as OpensFri<F, EF, S, M, InputMmcs>>⟧.parts folding.now
+        params.now input_mmcs.now in
+        IsOk result → PassesChecks r.setting.fields r.parameters r.committed
+        (map request requests.now) }
+    ensures refused { let r = ⟦<C as OpensFri<F, EF, S, M, InputMmcs>>⟧.parts folding.now
+        params.now input_mmcs.now in
+        IfErr result (OpenRefusal r challenger.old (map request requests.now)) }
     ensures unmoved { IfErr result (λ e. LeavesState e → challenger.new ≡ challenger.old) }
 {
     let rounds = match checked_rounds(alloc, params, input_mmcs, requests) {

@@ -1,6 +1,6 @@
 //! The transcript around the test, once its seed is made.
 
-ghost use Rattle.std.specs.Prelude.{◌≡◌, ◌≢◌, ◌≤◌, [], All, IfOk, IfErr, map};
+ghost use Rattle.std.specs.Prelude.{◌≡◌, ◌≢◌, [], All, IfOk, IfErr, map};
 ghost use Rattle.std.specs.List.{AllZip};
 ghost use Rattle.p3_challenger_fs.specs.Pattern.{turn_of};
 ghost use Rattle.p3_challenger_fs.specs.Separator.{seed_bytes, seed_turns};
@@ -13,10 +13,11 @@ ghost use Rattle.p3_fri_openings.specs.Rounds.{IsRound};
 ghost use Rattle.p3_fri_openings.specs.Refusals.{AreTallEnough};
 ghost use Rattle.p3_fri_openings.specs.Denominators.{AreInverses, ArePointsCovered};
 ghost use Rattle.p3_fri_batch.specs.Rounds.{HaveValues, opened_of};
-ghost use Rattle.p3_fri_prover.specs.Prover.{IsInProverRange};
+ghost use Rattle.p3_fri_opening_prover.specs.Setting.{IsInRoundsRange};
 ghost use Rattle.p3_fri_opening_prover.specs.Opening.{IsOpening, OpeningStops};
 ghost use Rattle.p3_fri_opening_prover.specs.Refusals.{LeavesState};
 
+use crate::setting::OpensFri;
 use crate::words::prove_words;
 use p3_challenger_core::{CanObserve, FieldChallenger, GrindingChallenger};
 use p3_challenger_fs::Seed;
@@ -27,7 +28,7 @@ use p3_fri_pcs_transcript::PcsShape;
 use p3_fri_pcs_transcript::pcs_transcript::PcsProverTranscript;
 use p3_fri_prover::prover::ProverDataWithOpeningPoints;
 use p3_fri_relation::proof::{BatchMultiOpening, FriProof};
-use p3_fri_relation::setting::{ChallengeField, PlaysFri};
+use p3_fri_relation::setting::ChallengeField;
 use p3_mmcs::{Mmcs, OpenedValues};
 use std::alloc::Global;
 
@@ -53,10 +54,8 @@ pub(crate) fn open_seeded<
     seed: Seed,
     shape: PcsShape,
 ) -> Result<FriProof<EF, M, F, Vec<BatchMultiOpening<F, InputMmcs>>>, FriProverError>
-    requires in_range { IsInProverRange (parameters_of params.now) F.TWO_ADICITY
-        (S.extra_query_index_bits folding.now) C.MAX_SAMPLE_BITS }
-    requires batch_bits_at_most_max { params.now.batch_proof_of_work_bits ≤ C.MAX_SAMPLE_BITS }
-    requires max_log_height { F.TWO_ADICITY ≤ S.max_log_height folding.now }
+    requires in_range { IsInRoundsRange (⟦<C as OpensFri<F, EF, S, M, InputMmcs>>⟧.parts
+        folding.now params.now input_mmcs.now) }
     requires rounds { All (IsRound F.TWO_ADICITY) rounds.now }
     requires tall_enough { All (λ r. AreTallEnough (parameters_of params.now) r.matrices.now)
         rounds.now }
@@ -72,18 +71,15 @@ pub(crate) fn open_seeded<
     } }
     requires stream { seed_bytes seed ≡ pcs_stream EF.DIMENSION (pcs_shape shape) }
     requires turns { seed_turns seed ≡ map turn_of (pcs_steps EF.DIMENSION (pcs_shape shape)) }
-    ensures opening { let s = ⟦<C as PlaysFri<F, EF, S, M, InputMmcs>>⟧.setting folding.now
-        params.now.mmcs input_mmcs.now in
+    ensures opening { let r = ⟦<C as OpensFri<F, EF, S, M, InputMmcs>>⟧.parts folding.now
+        params.now input_mmcs.now in
         let ys = opened_values values.now.items in
-        IfOk result (λ proof. IsOpening s (parameters_of params.now) (opened_of rounds.now ys) ys
-        challenger.old (λ d. InputMmcs.committed d.prover_data.now)
-        (λ d. InputMmcs.commitment_of d.prover_data.now) opened.now (proof_of proof)
-        challenger.new) }
-    ensures stops { let s = ⟦<C as PlaysFri<F, EF, S, M, InputMmcs>>⟧.setting folding.now
-        params.now.mmcs input_mmcs.now in
+        IfOk result (λ proof. IsOpening r (opened_of rounds.now ys) ys challenger.old
+        (map (λ d. d.prover_data.now) opened.now) (proof_of proof) challenger.new) }
+    ensures stops { let r = ⟦<C as OpensFri<F, EF, S, M, InputMmcs>>⟧.parts folding.now
+        params.now input_mmcs.now in
         let ys = opened_values values.now.items in
-        IfErr result (OpeningStops s (parameters_of params.now) (opened_of rounds.now ys) ys
-        challenger.old M.committed M.commitment_of C.solution) }
+        IfErr result (OpeningStops r (opened_of rounds.now ys) ys challenger.old) }
     ensures not_checked { IfErr result (λ e. ¬ LeavesState e) }
 {
     let mut transcript = PcsProverTranscript::<C, F, EF>::start(challenger, seed, shape);

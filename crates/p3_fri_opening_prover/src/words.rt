@@ -18,6 +18,7 @@ ghost use Rattle.p3_fri_opening_prover.specs.Opening.{heights, top};
 ghost use Rattle.p3_fri_opening_prover.specs.Opening.{words as words_of};
 ghost use Rattle.p3_fri_opening_prover.specs.Refusals.{LeavesState};
 
+use crate::setting::OpensFri;
 use p3_challenger_core::{CanObserve, FieldChallenger, GrindingChallenger};
 use p3_field_core::{ExtensionField, TwoAdicField, log2_strict_usize};
 use p3_fri_batch::batch_words;
@@ -25,7 +26,7 @@ use p3_fri_folding::{FriFoldingStrategy, FriParameters, FriProverError};
 use p3_fri_openings::{OpeningRound, PointDenominators};
 use p3_fri_prover::prover::{ProverDataWithOpeningPoints, prove_fri};
 use p3_fri_relation::proof::{BatchMultiOpening, FriProof};
-use p3_fri_relation::setting::{ChallengeField, PlaysFri};
+use p3_fri_relation::setting::ChallengeField;
 use p3_mmcs::{Mmcs, OpenedValues};
 use std::alloc::{AllocError, Global};
 
@@ -73,27 +74,28 @@ pub(crate) fn prove_words<
     requires some_matrix { opened_of rounds.now (opened_values values.now.items) ≢ [] }
     requires opened { map (λ d. InputMmcs.committed d.prover_data.now) opened.now
         ≡ map (λ r. r.matrices.now) rounds.now }
-    ensures proved { let s = ⟦<C as PlaysFri<F, EF, S, M, InputMmcs>>⟧.setting folding.now
-        params.now.mmcs input_mmcs.now in
+    ensures proved { let r = ⟦<C as OpensFri<F, EF, S, M, InputMmcs>>⟧.parts folding.now
+        params.now input_mmcs.now in
+        let f = r.setting.fields in
         let ms = opened_of rounds.now (opened_values values.now.items) in
-        IfOk result (λ proof. IsProved s (parameters_of params.now) (heights s.fields ms)
-        (top s.fields ms) (words_of s.fields ms alpha) challenger.old (proof_of proof)
-        (length opened.now) challenger.new) }
-    ensures inputs_opened { let s = ⟦<C as PlaysFri<F, EF, S, M, InputMmcs>>⟧.setting folding.now
-        params.now.mmcs input_mmcs.now in
+        IfOk result (λ proof. IsProved r.setting r.parameters (heights f ms) (top f ms)
+        (words_of f ms alpha) challenger.old (proof_of proof) (length opened.now)
+        challenger.new) }
+    ensures inputs_opened { let r = ⟦<C as OpensFri<F, EF, S, M, InputMmcs>>⟧.parts folding.now
+        params.now input_mmcs.now in
+        let f = r.setting.fields in
         let ms = opened_of rounds.now (opened_values values.now.items) in
-        IfOk result (λ proof. AllZip (λ d o. OpensBatch s.opens_input (top s.fields ms)
-        (positions s (parameters_of params.now) (heights s.fields ms) (top s.fields ms)
-        (words_of s.fields ms alpha) challenger.old (proof_of proof))
-        (InputMmcs.committed d.prover_data.now) (InputMmcs.commitment_of d.prover_data.now) o)
-        opened.now (proof_of proof).inputs) }
+        IfOk result (λ proof. AllZip (λ d o. OpensBatch r.setting.opens_input (top f ms)
+        (positions r.setting r.parameters (heights f ms) (top f ms) (words_of f ms alpha)
+        challenger.old (proof_of proof)) (r.committed d.prover_data.now)
+        (r.commitment_of d.prover_data.now) o) opened.now (proof_of proof).inputs) }
     ensures batch_witness { IfOk result (λ proof. proof.batch_pow_witness ≡ batch_pow_witness) }
-    ensures refused { let s = ⟦<C as PlaysFri<F, EF, S, M, InputMmcs>>⟧.setting folding.now
-        params.now.mmcs input_mmcs.now in
+    ensures refused { let r = ⟦<C as OpensFri<F, EF, S, M, InputMmcs>>⟧.parts folding.now
+        params.now input_mmcs.now in
+        let f = r.setting.fields in
         let ms = opened_of rounds.now (opened_values values.now.items) in
-        IfErr result (ProverRefusal s M.committed M.commitment_of (parameters_of params.now)
-        (heights s.fields ms) (top s.fields ms) (words_of s.fields ms alpha) challenger.old
-        C.solution) }
+        IfErr result (ProverRefusal r.setting r.round_committed r.round_commitment_of r.parameters
+        (heights f ms) (top f ms) (words_of f ms alpha) challenger.old r.solution) }
     ensures not_checked { IfErr result (λ e. ¬ LeavesState e) }
 {
     let batched = batch_words(alloc, alpha, rounds, values, table);

@@ -1,6 +1,7 @@
 pub mod Claims
 pub mod Committed
 pub mod Evaluated
+pub mod InRange
 pub mod Ldes
 pub mod Rows
 pub mod Sizes

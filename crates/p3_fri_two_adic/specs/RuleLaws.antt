@@ -3,16 +3,15 @@ use Rattle.std.specs.Prelude.{ℕ}
 use Rattle.std.proofs.Common.{refl}
 use Rattle.p3_pcs.specs.Scheme.{IsLawful}
 use Rattle.p3_stark_pcs.specs.Scheme.{IsLawfulStark, IsPlain}
-use Rattle.p3_fri_openings.specs.Held.{held_of}
+use Rattle.p3_fri_opening_prover.specs.Setting.{OpeningSetting, StandsOnCosets, held}
 use Rattle.p3_fri_two_adic.specs.ErrorLaws.{memory_cases}
 use Rattle.p3_fri_two_adic.specs.EvaluationLaws.{extended_columns, is_matrix_of, words_at}
 use Rattle.p3_fri_two_adic.specs.EvaluationLaws.{all_shown}
-use Rattle.p3_fri_two_adic.specs.Rules.{TwoAdic, StandsOnCosets}
 use Rattle.p3_fri_two_adic.specs.Rules.{two_adic_rules, two_adic_stark_rules}
 use Rattle.p3_fri_two_adic.specs.UnivariateLaws.{trace_heights, openable_at}
 
 module _ {F E C D Data Domain Com Path InCom InPath M InM A B X : Type 0} (shift : Domain → F)
-    (log_size : Domain → ℕ) (r : TwoAdic F E C D Data Com Path InCom InPath) where
+    (log_size : Domain → ℕ) (r : OpeningSetting F E C D Data Com Path InCom InPath) where
   pub two_adic_lawful : IsLawful
       (two_adic_rules {M = M} {InM = InM} {A = A} {B = B} {X = X} shift log_size r)
   two_adic_lawful = record {
@@ -29,8 +28,8 @@ module _ {F E C D Data Domain Com Path InCom InPath M InM A B X : Type 0} (shift
       (two_adic_stark_rules shift log_size r)
   two_adic_lawful_stark = record {
     heights = λ n. trace_heights r.setting.fields.two_adicity n;
-    openable = λ index asked h. openable_at (λ d. StandsOnCosets r d)
-        (λ d. held_of r.setting.fields r.committed r.parameters.log_blowup d) index asked h;
+    openable = λ index asked h.
+        openable_at (λ d. StandsOnCosets r d) (λ d. held r d) index asked h;
     openable_readable = λ d h. h;
     preprocessed_readable = λ d h. h;
     opened_readable = λ d h. h;
@@ -41,7 +40,7 @@ module _ {F E C D Data Domain Com Path InCom InPath M InM A B X : Type 0} (shift
         r.parameters.log_blowup (r.committed d) index readable columns;
     honest_at = λ d index honest below. words_at r.setting.fields r.parameters.log_blowup
         (r.committed d) index honest below;
-    whole = λ d. all_shown (held_of r.setting.fields r.committed r.parameters.log_blowup d);
+    whole = λ d. all_shown (held r d);
   }
 
   pub two_adic_plain : IsPlain

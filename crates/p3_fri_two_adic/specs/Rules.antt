@@ -1,8 +1,7 @@
 -- What the scheme over two-adic fields opens, accepts and refuses, and what it has for a STARK.
-use Rattle.std.specs.Prelude.{◌≡◌, ◌^◌, ℕ, List, Option, All, ⊤}
+use Rattle.std.specs.Prelude.{◌≡◌, ◌^◌, ℕ, All, ⊤}
 use Rattle.std.specs.List.{AllZip}
 use Rattle.std.specs.declared.vec.Vec.{Vec}
-use Rattle.p3_matrix.specs.declared.dense.RowMajorMatrix.{RowMajorMatrix}
 use Rattle.p3_pcs.specs.Requests.{AreOpenable}
 use Rattle.p3_pcs.specs.Scheme.{Scheme}
 use Rattle.p3_stark_pcs.specs.Scheme.{StarkScheme}
@@ -13,48 +12,25 @@ use Rattle.p3_fri_relation.specs.declared.error.FriError.{FriError}
 use Rattle.p3_fri_relation.specs.declared.error.FriError.TheVariants as fault
 use Rattle.p3_fri_relation.specs.declared.proof.BatchMultiOpening.{BatchMultiOpening}
 use Rattle.p3_fri_relation.specs.declared.proof.FriProof.{FriProof}
-use Rattle.p3_fri_relation.specs.Setting.{Setting, Parameters}
 use Rattle.p3_fri_relation.specs.Views.{proof_of}
 use Rattle.p3_fri_relation.specs.Acceptance.{Accepts}
 use Rattle.p3_fri_relation.specs.Faults.{StandsInScheme}
-use Rattle.p3_fri_openings.specs.Rounds.{HasCoset}
-use Rattle.p3_fri_openings.specs.Held.{held_in, held_of, HoldsWords}
+use Rattle.p3_fri_openings.specs.Held.{held_in, HoldsWords}
 use Rattle.p3_fri_openings.specs.SchemeClaims.{relation_claims}
 use Rattle.p3_fri_opening_verifier.specs.Ranges.{InProverRange, InVerifierRange}
 use Rattle.p3_fri_opening_verifier.specs.Ends.{last_state}
 use Rattle.p3_fri_opening_verifier.specs.Accepted.{LeavesVerifier}
+use Rattle.p3_fri_opening_prover.specs.Setting.{OpeningSetting, held}
+use Rattle.p3_fri_opening_prover.specs.Setting.{StandsOnCosets, IsHonest}
 use Rattle.p3_fri_opening_prover.specs.Refusals.{PassesChecks, OpenRefusal, LeavesState}
 use Rattle.p3_fri_two_adic.specs.Evaluations.{IsMatrixOf, HoldsWordsAt}
 use Rattle.p3_fri_two_adic.specs.Held.{IsSubgroupSize, Extends}
 use Rattle.p3_fri_two_adic.specs.Ldes.{HasLdeHeight}
 
--- What an opening of two-adic words stands on: the setting of the low-degree test and its
--- parameters, what the data of batches (`D`) and those of rounds (`Data`) are commitments to, and
--- what the challenger finds and draws.
-pub record TwoAdic (F E C D Data Com Path InCom InPath : Type 0) : Type 1 where
-  pub setting : Setting F E C Com Path InCom InPath
-  pub parameters : Parameters
-  -- the matrices and the commitment of a batch's data
-  pub committed : D → List (RowMajorMatrix F)
-  pub commitment_of : D → InCom
-  -- those of a round's
-  pub round_committed : Data → List (RowMajorMatrix E)
-  pub round_commitment_of : Data → Com
-  -- the witness that a search at so many bits finds
-  pub solution : C → ℕ → Option F
-  -- how many bits are drawn at once at most
-  pub most_bits : ℕ
-
-module _ {F E C D Data Com Path InCom InPath : Type 0}
-    (r : TwoAdic F E C D Data Com Path InCom InPath) where
-  -- a datum's matrices stand on cosets of the field
-  abbrev pub StandsOnCosets : D → Type 0
-  StandsOnCosets d = All (HasCoset r.setting.fields.two_adicity) (r.committed d)
-
 -- over domains with these shifts and log sizes, and commitments with the errors `A` of rounds and
 -- `B` of batches
 module _ {F E C D Data Domain Com Path InCom InPath M InM A B X : Type 0} (shift : Domain → F)
-    (log_size : Domain → ℕ) (r : TwoAdic F E C D Data Com Path InCom InPath) where
+    (log_size : Domain → ℕ) (r : OpeningSetting F E C D Data Com Path InCom InPath) where
   -- what the scheme opens, accepts and refuses
   abbrev pub two_adic_rules : Scheme E C F Domain InCom D
       (FriProof E M F (Vec (BatchMultiOpening F InM InCom D InPath B) X) Com Data Path A)
@@ -63,9 +39,9 @@ module _ {F E C D Data Domain Com Path InCom InPath M InM A B X : Type 0} (shift
     domain_size = λ d. 2 ^ log_size d;
     HasDomain = λ n. IsSubgroupSize r.setting.fields.two_adicity n;
     commitment_of = r.commitment_of;
-    committed_polynomials = λ d. held_of r.setting.fields r.committed r.parameters.log_blowup d;
+    committed_polynomials = λ d. held r d;
     CanOpen = λ d. StandsOnCosets r d;
-    IsHonest = λ d. All (HoldsWords r.setting.fields r.parameters.log_blowup) (r.committed d);
+    IsHonest = λ d. IsHonest r d;
     after_opening = λ d. d;
     CanCommit = λ evaluations. All (λ e. FitsDomain r.setting.fields.two_adicity
         r.parameters.log_blowup (log_size e.0) e.1) evaluations;
@@ -74,8 +50,7 @@ module _ {F E C D Data Domain Com Path InCom InPath M InM A B X : Type 0} (shift
     InProverRange = InProverRange r.parameters r.setting.fields.two_adicity r.most_bits;
     InVerifierRange = InVerifierRange r.parameters r.setting.fields.two_adicity r.most_bits;
     PassesChecks = λ _ asked. PassesChecks r.setting.fields r.parameters r.committed asked;
-    Refuses = λ _ c asked e. OpenRefusal r.setting r.parameters r.committed r.round_committed
-        r.round_commitment_of r.solution c asked e;
+    Refuses = λ _ c asked e. OpenRefusal r c asked e;
     LeavesState = λ e. LeavesState e;
     Accepts = λ _ c claims proof.
         Accepts r.setting r.parameters (relation_claims log_size claims) (proof_of proof) c;
@@ -89,15 +64,14 @@ module _ {F E C D Data Domain Com Path InCom InPath M InM A B X : Type 0} (shift
 
 -- over domains with these shifts and log sizes
 module _ {F E C D Data Domain Com Path InCom InPath : Type 0} (shift : Domain → F)
-    (log_size : Domain → ℕ) (r : TwoAdic F E C D Data Com Path InCom InPath) where
+    (log_size : Domain → ℕ) (r : OpeningSetting F E C D Data Com Path InCom InPath) where
   -- what it has for a STARK: the index of preprocessing says nothing, and no column is random
   abbrev pub two_adic_stark_rules : StarkScheme E F Domain D FriProverError
   two_adic_stark_rules = record {
     least_log_height = 0;
     greatest_log_height = r.setting.fields.two_adicity;
     CanOpenPreprocessed = λ d. StandsOnCosets r d;
-    CanOpenAt = λ _ asked. AreOpenable (λ d. StandsOnCosets r d)
-        (λ d. held_of r.setting.fields r.committed r.parameters.log_blowup d) asked;
+    CanOpenAt = λ _ asked. AreOpenable (λ d. StandsOnCosets r d) (λ d. held r d) asked;
     PreprocessingRefuses = λ _ e. e ≡ refusal.OutOfMemory;
     CanCommitLdes = λ ldes.
         All (HasLdeHeight r.setting.fields.two_adicity r.parameters.log_blowup) ldes;
@@ -116,7 +90,7 @@ module _ {F E C D Data Domain Com Path InCom InPath : Type 0} (shift : Domain �
     CanEvaluateWhole = λ d index _. IsMatrixOf r.setting.fields.two_adicity (r.committed d) index;
     IsHonestAt = λ d index.
         HoldsWordsAt r.setting.fields r.parameters.log_blowup (r.committed d) index;
-    whole_polynomials = λ d. held_of r.setting.fields r.committed r.parameters.log_blowup d;
+    whole_polynomials = λ d. held r d;
     CanRandomize = λ _. ⊤;
     random_columns = 0;
     RandomizationRefuses = λ _ _. ⊥;

@@ -2,7 +2,7 @@
 
 ghost use Rattle.p3_fri_folding.specs.declared.config.FriParameters.{FriParameters};
 ghost use Rattle.p3_fri_relation.specs.Views.{parameters_of};
-ghost use Rattle.p3_fri_two_adic.specs.Rules.{TwoAdic};
+ghost use Rattle.p3_fri_opening_prover.specs.Setting.{OpeningSetting};
 
 use p3_challenger_core::{CanObserve, FieldChallenger, GrindingChallenger};
 use p3_field_core::{ExtensionField, TwoAdicField};
@@ -21,7 +21,7 @@ pub trait OpensTwoAdic<
     + GrindingChallenger<Witness = F>
     + CanObserve<M::Commitment> {
     /// What an opening stands on.
-    ghost parts: { InputMmcs → FriParameters M → TwoAdic F EF Self InputMmcs.ProverData
+    ghost parts: { InputMmcs → FriParameters M → OpeningSetting F EF Self InputMmcs.ProverData
         M.ProverData M.Commitment M.MultiProof InputMmcs.Commitment InputMmcs.MultiProof };
 }
 
@@ -41,5 +41,6 @@ impl<
       round_commitment_of = M.commitment_of;
       solution = C.solution;
       most_bits = C.MAX_SAMPLE_BITS;
+      max_log_height = F.TWO_ADICITY;
     } };
 }

@@ -1,17 +1,17 @@
 use Rattle.std.proofs.Common.{sym, ◌≡◌, ◌∙◌, ◌^◌, ℕ, List, map, ap, arith}
-use Rattle.std.specs.Prelude.{All}
 use Rattle.p3_challenger_core.specs.Run.{moves}
 use Rattle.p3_pcs.specs.Claims.{opened_values}
 use Rattle.p3_pcs.specs.Requests.{AreHonest, FitDomains, honest_claims, request}
+use Rattle.p3_fri_folding.specs.declared.config.FriParameters.{FriParameters}
 use Rattle.p3_fri_relation.specs.Setting.{Fields, Setting}
 use Rattle.p3_fri_relation.specs.Views.{parameters_of, proof_of}
 use Rattle.p3_fri_openings.specs.Requests.{round_request, matrices_request}
 use Rattle.p3_fri_completeness.specs.Honest.{AreTwoAdic}
-use Rattle.p3_fri_openings.specs.Held.{HoldsWords, held_of}
 use Rattle.p3_fri_openings.specs.SchemeClaims.{relation_claims}
+use Rattle.p3_fri_opening_prover.specs.Setting.{OpeningSetting, held, IsHonest}
 use Rattle.p3_fri_opening_prover.proofs.Asked.{data_seen, some_matrix}
 use Rattle.p3_fri_opening_prover.proofs.Composed.{AllVerify, all_honest, all_refused, all_verify}
-use Rattle.p3_fri_opening_prover.proofs.Composed.{read_alike, same_opened}
+use Rattle.p3_fri_opening_prover.proofs.Composed.{read_alike}
 use Rattle.p3_fri_hiding_openings.proofs.opening.open_hidden.Given.{Over}
 use Rattle.p3_fri_hiding_openings.proofs.opening.open_hidden.Goals.{After-deref, After-deref-2}
 use Rattle.p3_fri_hiding_openings.proofs.opening.open_hidden.Goals.{After-open_rounds}
@@ -45,6 +45,24 @@ setting_at g folding mmcs input_mmcs = record {
       g.C.CanSampleBits.sampled_bits;
   opens_input = g.InputMmcs.Mmcs.opens input_mmcs;
   opens_round = g.M.Mmcs.opens mmcs;
+}
+
+-- and what openings stand on
+abbrev parts_at : (g : Over) → g.row.S.Denot
+    → FriParameters g.row.M.Denot → g.row.InputMmcs.Denot
+    → OpeningSetting g.row.F.Denot g.row.EF.Denot g.row.C.Denot g.row.InputMmcs-ProverData.Denot
+    g.row.M-ProverData.Denot g.row.M-Commitment.Denot g.row.M-MultiProof.Denot
+    g.row.InputMmcs-Commitment.Denot g.row.InputMmcs-MultiProof.Denot
+parts_at g folding params input_mmcs = record {
+  setting = setting_at g folding params.mmcs input_mmcs;
+  parameters = parameters_of params;
+  committed = g.InputMmcs.Mmcs.committed;
+  commitment_of = g.InputMmcs.Mmcs.commitment_of;
+  round_committed = g.M.Mmcs.committed;
+  round_commitment_of = g.M.Mmcs.commitment_of;
+  solution = g.C.GrindingChallenger.solution;
+  most_bits = g.C.CanSampleBits.MAX_SAMPLE_BITS;
+  max_log_height = g.S.FriFoldingStrategy.max_log_height folding;
 }
 
 two_adic : (g : Over) → AreTwoAdic (fields_of g)
@@ -92,45 +110,36 @@ open_rounds-requires-clause-opened g c =
 pub returns-clause-values :
     goal.returns-clause-values
 returns-clause-values g c =
-    all_honest (setting_at g c.args.folding.now c.args.params.now.mmcs c.args.input_mmcs.now)
-    (parameters_of c.args.params.now) g.InputMmcs.Mmcs.committed c.deref.result.now
-    (map inner_request c.args.requests.now) (same g (goal.at.returns-clause-values g c).After-deref)
+    all_honest (parts_at g c.args.folding.now c.args.params.now c.args.input_mmcs.now)
+    c.deref.result.now (map inner_request c.args.requests.now)
+    (same g (goal.at.returns-clause-values g c).After-deref)
     c.open_rounds.result (λ opening. opened_values opening.0.items) c.open_rounds.ensures.values
 
 -- an opening of honest requests is accepted
 verifies : (g : Over) (c : After-open_rounds g)
-    → let s = setting_at g c.args.folding.now c.args.params.now.mmcs c.args.input_mmcs.now in
-    let p = parameters_of c.args.params.now in
-    let committed = g.InputMmcs.Mmcs.committed in
-    let held = held_of s.fields committed p.log_blowup in
+    → let r = parts_at g c.args.folding.now c.args.params.now c.args.input_mmcs.now in
     let asked = map request (map inner_request c.args.requests.now) in
-    AreHonest (λ d. All (HoldsWords s.fields p.log_blowup) (committed d)) asked
-    → AllVerify s p c.open_rounds.result (λ opening. proof_of opening.1)
-    (λ (log_sizes : List (List ℕ)). FitDomains held (λ n. 2 ^ n) log_sizes asked)
+    AreHonest (IsHonest r) asked
+    → AllVerify r.setting r.parameters c.open_rounds.result (λ opening. proof_of opening.1)
+    (λ (log_sizes : List (List ℕ)). FitDomains (held r) (λ n. 2 ^ n) log_sizes asked)
     (λ log_sizes. relation_claims (λ n. n)
-    (honest_claims held g.InputMmcs.Mmcs.commitment_of log_sizes asked))
+    (honest_claims (held r) r.commitment_of log_sizes asked))
     c.args.challenger.now c.open_rounds.new.challenger
 verifies g c honest =
-    all_verify (setting_at g c.args.folding.now c.args.params.now.mmcs c.args.input_mmcs.now)
-    (parameters_of c.args.params.now) g.InputMmcs.Mmcs.committed c.deref.result.now
-    (map inner_request c.args.requests.now)
+    all_verify (parts_at g c.args.folding.now c.args.params.now c.args.input_mmcs.now)
+    c.deref.result.now (map inner_request c.args.requests.now)
     (ap (λ rounds. map round_request rounds) c.deref.ensures.value ∙ c.in-Ok.ensures
     ∙ sym (map-map (matrices_request g.InputMmcs.Mmcs.committed) inner_request c.args.requests.now))
-    g.InputMmcs.Mmcs.commitment_of (λ (n : ℕ). n) (two_adic g)
+    (λ (n : ℕ). n) (two_adic g)
     (λ bits few state. g.met.C.CanSampleBits.width_law state bits
-    (omega (arith, few, c.requires.index_bits_at_most_max)))
-    c.requires.some_query c.requires.positive_blowup c.requires.positive_cap c.requires.openable
-    honest c.requires.passes c.args.challenger.now c.open_rounds.new.challenger
-    c.open_rounds.result (λ opening. proof_of opening.1)
-    (same_opened (setting_at g c.args.folding.now c.args.params.now.mmcs c.args.input_mmcs.now)
-    (parameters_of c.args.params.now) _ _ c.args.challenger.now g.InputMmcs.Mmcs.committed
-    g.InputMmcs.Mmcs.commitment_of c.deref-2.result.now (map inner_request c.args.requests.now)
-    (λ d. d.prover_data.now) (λ r. r.prover_data.now)
+    (omega (arith, few, c.requires.in_range.rounds.test.index_bits)))
+    c.requires.in_range c.requires.openable honest c.requires.passes
+    (map (λ d. d.prover_data.now) c.deref-2.result.now)
     (ap (λ ds. map (λ d. d.prover_data.now) ds) c.deref-2.ensures.value
     ∙ (c.in-Ok-hidden_data.ensures
     ∙ sym (map-map (λ r. r.prover_data.now) inner_request c.args.requests.now)))
-    c.open_rounds.new.challenger c.open_rounds.result
-    (λ opening. proof_of opening.1) c.open_rounds.ensures.opening)
+    c.args.challenger.now c.open_rounds.new.challenger
+    c.open_rounds.result (λ opening. proof_of opening.1) c.open_rounds.ensures.opening
 
 pub returns-clause-accepted :
     goal.returns-clause-accepted
@@ -145,13 +154,11 @@ returns-clause-state g c honest =
 pub returns-clause-refused :
     goal.returns-clause-refused
 returns-clause-refused g c =
-    all_refused (setting_at g c.args.folding.now c.args.params.now.mmcs c.args.input_mmcs.now)
-    (parameters_of c.args.params.now) g.InputMmcs.Mmcs.committed c.deref.result.now
-    (map inner_request c.args.requests.now)
-    (same g (goal.at.returns-clause-refused g c).After-deref)
-    g.M.Mmcs.committed g.M.Mmcs.commitment_of g.C.GrindingChallenger.solution
-    c.args.challenger.now c.open_rounds.result
-    c.requires.passes c.open_rounds.ensures.stops c.open_rounds.ensures.not_checked
+    all_refused (parts_at g c.args.folding.now c.args.params.now c.args.input_mmcs.now)
+    c.deref.result.now (map inner_request c.args.requests.now)
+    (same g (goal.at.returns-clause-refused g c).After-deref) c.args.challenger.now
+    c.open_rounds.result c.requires.passes c.open_rounds.ensures.stops
+    c.open_rounds.ensures.not_checked
 
 pub open_rounds-requires-clause-rounds :
     goal.open_rounds-requires-clause-rounds

@@ -1,15 +1,14 @@
 use Rattle.std.proofs.Common.{◌≡◌, ◌∙◌, ◌^◌, ℕ, List, map, sym, ap, subst}
-use Rattle.std.specs.Prelude.{All}
 use Rattle.std.proofs.lemmas.Result.{err_from_is_err_and}
 use Rattle.p3_challenger_core.specs.Run.{moves}
 use Rattle.p3_pcs.specs.Requests.{Request, AreOpenable, AreHonest, FitDomains, request}
 use Rattle.p3_pcs.specs.Requests.{honest_values, honest_claims}
+use Rattle.p3_fri_folding.specs.declared.config.FriParameters.{FriParameters}
 use Rattle.p3_fri_relation.specs.Acceptance.{Accepts}
 use Rattle.p3_fri_relation.specs.Setting.{Fields, Setting}
 use Rattle.p3_fri_relation.specs.Views.{parameters_of, proof_of}
-use Rattle.p3_fri_openings.specs.Rounds.{HasCoset}
-use Rattle.p3_fri_openings.specs.Held.{HoldsWords, held_of}
 use Rattle.p3_fri_openings.specs.SchemeClaims.{relation_claims}
+use Rattle.p3_fri_opening_prover.specs.Setting.{OpeningSetting, held, StandsOnCosets, IsHonest}
 use Rattle.p3_fri_opening_prover.specs.Refusals.{PassesChecks}
 use Rattle.p3_fri_two_adic.specs.Ends.{last_state}
 use Rattle.p3_fri_hiding_openings.specs.Requests.{inside, inner_request}
@@ -47,6 +46,24 @@ setting_at g folding mmcs input_mmcs = record {
   opens_round = g.M.Mmcs.opens mmcs;
 }
 
+-- and what openings stand on
+abbrev parts_at : (g : Over) → g.row.S.Denot
+    → FriParameters g.row.M.Denot → g.row.InputMmcs.Denot
+    → OpeningSetting g.row.F.Denot g.row.EF.Denot g.row.C.Denot g.row.InputMmcs-ProverData.Denot
+    g.row.M-ProverData.Denot g.row.M-Commitment.Denot g.row.M-MultiProof.Denot
+    g.row.InputMmcs-Commitment.Denot g.row.InputMmcs-MultiProof.Denot
+parts_at g folding params input_mmcs = record {
+  setting = setting_at g folding params.mmcs input_mmcs;
+  parameters = parameters_of params;
+  committed = g.InputMmcs.Mmcs.committed;
+  commitment_of = g.InputMmcs.Mmcs.commitment_of;
+  round_committed = g.M.Mmcs.committed;
+  round_commitment_of = g.M.Mmcs.commitment_of;
+  solution = g.C.GrindingChallenger.solution;
+  most_bits = g.C.CanSampleBits.MAX_SAMPLE_BITS;
+  max_log_height = g.S.FriFoldingStrategy.max_log_height folding;
+}
+
 -- a request for the data inside
 abbrev Inner : Over → Type 0
 Inner g = Request g.row.InputMmcs-ProverData.Denot g.row.EF.Denot
@@ -65,10 +82,8 @@ returns-in_err-check_requests-clause-opened g c passed =
 
 pub open_hidden-requires-clause-openable : goal.open_hidden-requires-clause-openable
 open_hidden-requires-clause-openable g c =
-    let committed = g.InputMmcs.Mmcs.committed in
-    subst (λ (asked : List (Inner g)). AreOpenable
-    (λ d. All (HasCoset g.F.TwoAdicField.TWO_ADICITY) (committed d))
-    (held_of (fields_of g) committed c.args.params.now.log_blowup) asked)
+    let r = parts_at g c.args.folding.now c.args.params.now c.args.input_mmcs.now in
+    subst (λ (asked : List (Inner g)). AreOpenable (StandsOnCosets r) (held r) asked)
     (sym (same g (goal.at.open_hidden-requires-clause-openable g c).After-mark_all))
     c.requires.openable
 
@@ -84,48 +99,38 @@ returns-in_err-opening-clause-refused g c =
     let residual = c.from_residual-in_err-opening in
     let made = err_from_is_err_and residual.result residual.ensures.1 in
     rw made.1
-    (by_opening (setting_at g c.args.folding.now c.args.params.now.mmcs c.args.input_mmcs.now)
-    (parameters_of c.args.params.now) c.args.num_random_codewords g.InputMmcs.Mmcs.committed
-    g.M.Mmcs.committed g.M.Mmcs.commitment_of g.C.GrindingChallenger.solution
-    c.args.challenger.now (map request c.args.requests.now) c.in_ok-check_requests.ensures
-    (map request (map inner_request c.mark_all.new.requests))
+    (by_opening (parts_at g c.args.folding.now c.args.params.now c.args.input_mmcs.now)
+    c.args.num_random_codewords c.args.challenger.now (map request c.args.requests.now)
+    c.in_ok-check_requests.ensures (map request (map inner_request c.mark_all.new.requests))
     (same g (goal.at.returns-in_err-opening-clause-refused g c).After-mark_all)
     c.in_err-opening.field-0.0 made.0 made.2 c.in_err-opening.ensures.refused
     c.in_err-opening.ensures.not_checked)
 
 pub returns-clause-values : goal.returns-clause-values
 returns-clause-values g c =
+    let r = parts_at g c.args.folding.now c.args.params.now c.args.input_mmcs.now in
     c.in_ok-opening.ensures.values
-    ∙ ap (λ (asked : List (Inner g)). map (honest_values
-    (held_of (fields_of g) g.InputMmcs.Mmcs.committed c.args.params.now.log_blowup)) asked)
+    ∙ ap (λ (asked : List (Inner g)). map (honest_values (held r)) asked)
     (same g (goal.at.returns-clause-values g c).After-mark_all)
 
 pub returns-clause-accepted : goal.returns-clause-accepted
 returns-clause-accepted g c =
-    let s = setting_at g c.args.folding.now c.args.params.now.mmcs c.args.input_mmcs.now in
-    let p = parameters_of c.args.params.now in
-    let committed = g.InputMmcs.Mmcs.committed in
-    let held = held_of s.fields committed p.log_blowup in
-    subst (λ (asked : List (Inner g)).
-    AreHonest (λ d. All (HoldsWords s.fields p.log_blowup) (committed d)) asked
-    → (log_sizes : List (List ℕ)) → FitDomains held (λ n. 2 ^ n) log_sizes asked
-    → Accepts s p (relation_claims (λ n. n)
-    (honest_claims held g.InputMmcs.Mmcs.commitment_of log_sizes asked))
+    let r = parts_at g c.args.folding.now c.args.params.now c.args.input_mmcs.now in
+    subst (λ (asked : List (Inner g)). AreHonest (IsHonest r) asked
+    → (log_sizes : List (List ℕ)) → FitDomains (held r) (λ n. 2 ^ n) log_sizes asked
+    → Accepts r.setting r.parameters (relation_claims (λ n. n)
+    (honest_claims (held r) r.commitment_of log_sizes asked))
     (proof_of c.in_ok-opening.opening.1) c.args.challenger.now)
     (same g (goal.at.returns-clause-accepted g c).After-mark_all)
     c.in_ok-opening.ensures.accepted
 
 pub returns-clause-state : goal.returns-clause-state
 returns-clause-state g c =
-    let s = setting_at g c.args.folding.now c.args.params.now.mmcs c.args.input_mmcs.now in
-    let p = parameters_of c.args.params.now in
-    let committed = g.InputMmcs.Mmcs.committed in
-    let held = held_of s.fields committed p.log_blowup in
-    subst (λ (asked : List (Inner g)).
-    AreHonest (λ d. All (HoldsWords s.fields p.log_blowup) (committed d)) asked
-    → (log_sizes : List (List ℕ)) → FitDomains held (λ n. 2 ^ n) log_sizes asked
-    → c.open_hidden.new.challenger ≡ last_state s p (relation_claims (λ n. n)
-    (honest_claims held g.InputMmcs.Mmcs.commitment_of log_sizes asked))
+    let r = parts_at g c.args.folding.now c.args.params.now c.args.input_mmcs.now in
+    subst (λ (asked : List (Inner g)). AreHonest (IsHonest r) asked
+    → (log_sizes : List (List ℕ)) → FitDomains (held r) (λ n. 2 ^ n) log_sizes asked
+    → c.open_hidden.new.challenger ≡ last_state r.setting r.parameters (relation_claims (λ n. n)
+    (honest_claims (held r) r.commitment_of log_sizes asked))
     (proof_of c.in_ok-opening.opening.1) c.args.challenger.now)
     (same g (goal.at.returns-clause-state g c).After-mark_all)
     c.in_ok-opening.ensures.state

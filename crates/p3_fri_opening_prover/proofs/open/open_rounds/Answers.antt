@@ -2,12 +2,13 @@ use Rattle.std.proofs.Common.{◌≡◌, ◌∙◌, map, sym, ap, subst}
 use Rattle.std.specs.Prelude.{All}
 use Rattle.std.specs.List.{AllZip}
 use Rattle.p3_challenger_core.specs.Run.{moves}
-use Rattle.p3_pcs.specs.Claims.{opened_values}
+use Rattle.p3_fri_folding.specs.declared.config.FriParameters.{FriParameters}
 use Rattle.p3_fri_relation.specs.Setting.{Fields, Setting}
 use Rattle.p3_fri_relation.specs.Views.{parameters_of, proof_of}
 use Rattle.p3_fri_openings.specs.Denominators.{AreInverses, ArePointsCovered}
 use Rattle.p3_fri_batch.specs.Rounds.{HaveValues, opened_of}
 use Rattle.p3_fri_batch.proofs.Honest.{rounds_have_values}
+use Rattle.p3_fri_opening_prover.specs.Setting.{OpeningSetting}
 use Rattle.p3_fri_opening_prover.specs.Opening.{IsOpening}
 use Rattle.p3_fri_opening_prover.proofs.open.open_rounds.Given.{Over}
 use Rattle.p3_fri_opening_prover.proofs.open.open_rounds.Goals as goal
@@ -39,6 +40,24 @@ setting_at g folding mmcs input_mmcs = record {
   opens_round = g.M.Mmcs.opens mmcs;
 }
 
+-- and what openings stand on
+abbrev parts_at : (g : Over) → g.row.S.Denot
+    → FriParameters g.row.M.Denot → g.row.InputMmcs.Denot
+    → OpeningSetting g.row.F.Denot g.row.EF.Denot g.row.C.Denot g.row.InputMmcs-ProverData.Denot
+    g.row.M-ProverData.Denot g.row.M-Commitment.Denot g.row.M-MultiProof.Denot
+    g.row.InputMmcs-Commitment.Denot g.row.InputMmcs-MultiProof.Denot
+parts_at g folding params input_mmcs = record {
+  setting = setting_at g folding params.mmcs input_mmcs;
+  parameters = parameters_of params;
+  committed = g.InputMmcs.Mmcs.committed;
+  commitment_of = g.InputMmcs.Mmcs.commitment_of;
+  round_committed = g.M.Mmcs.committed;
+  round_commitment_of = g.M.Mmcs.commitment_of;
+  solution = g.C.GrindingChallenger.solution;
+  most_bits = g.C.CanSampleBits.MAX_SAMPLE_BITS;
+  max_log_height = g.S.FriFoldingStrategy.max_log_height folding;
+}
+
 pub open_seeded-proved-requires-clause-values :
     goal.open_seeded-proved-requires-clause-values
 open_seeded-proved-requires-clause-values g c =
@@ -60,14 +79,10 @@ open_seeded-proved-requires-clause-covered g c =
 pub returns-in-Ok-proved-clause-opening :
     goal.returns-in-Ok-proved-clause-opening
 returns-in-Ok-proved-clause-opening g c =
-    let s = setting_at g c.args.folding.now c.args.params.now.mmcs c.args.input_mmcs.now in
-    let p = parameters_of c.args.params.now in
-    let committed = g.InputMmcs.Mmcs.committed in
-    let commitment_of = g.InputMmcs.Mmcs.commitment_of in
+    let r = parts_at g c.args.folding.now c.args.params.now c.args.input_mmcs.now in
     let rounds = c.args.rounds.now in
-    let ys = opened_values c.in-Ok.prepared.values.items in
     let proof = proof_of c.in-Ok-proved.proof in
     let last = c.open_seeded-proved.new.challenger in
-    subst (λ ys. IsOpening s p (opened_of rounds ys) ys c.args.challenger.now
-    (λ d. committed d.prover_data.now) (λ d. commitment_of d.prover_data.now)
-    c.args.opened.now proof last) c.in-Ok.ensures.values c.in-Ok-proved.ensures.opening
+    subst (λ ys. IsOpening r (opened_of rounds ys) ys c.args.challenger.now
+    (map (λ d. d.prover_data.now) c.args.opened.now) proof last) c.in-Ok.ensures.values
+    c.in-Ok-proved.ensures.opening

@@ -4,9 +4,11 @@ use Rattle.p3_challenger_fs.specs.Separator.{seed_bytes}
 use Rattle.p3_pcs.specs.Claims.{opened_values}
 use Rattle.p3_fri_pcs_transcript.specs.Shapes.{pcs_shape}
 use Rattle.p3_fri_pcs_transcript.proofs.ClaimTurns.{all_claims_left}
+use Rattle.p3_fri_folding.specs.declared.config.FriParameters.{FriParameters}
 use Rattle.p3_fri_relation.specs.Setting.{Setting}
 use Rattle.p3_fri_relation.specs.Views.{parameters_of, proof_of}
 use Rattle.p3_fri_batch.specs.Rounds.{opened_of}
+use Rattle.p3_fri_opening_prover.specs.Setting.{OpeningSetting}
 use Rattle.p3_fri_opening_prover.proofs.Drawn.{IsClaimed, is_claimed, is_drawn, opening_made}
 use Rattle.p3_fri_opening_prover.proofs.Drawn.{stopped, no_witness, is_sent, zero_at_no_bits}
 use Rattle.p3_fri_opening_prover.proofs.seeded.open_seeded.Given.{Over}
@@ -38,19 +40,37 @@ setting_at g folding mmcs input_mmcs = record {
   opens_round = g.M.Mmcs.opens mmcs;
 }
 
+-- and what openings stand on
+abbrev parts_at : (g : Over) → g.row.S.Denot
+    → FriParameters g.row.M.Denot → g.row.InputMmcs.Denot
+    → OpeningSetting g.row.F.Denot g.row.EF.Denot g.row.C.Denot g.row.InputMmcs-ProverData.Denot
+    g.row.M-ProverData.Denot g.row.M-Commitment.Denot g.row.M-MultiProof.Denot
+    g.row.InputMmcs-Commitment.Denot g.row.InputMmcs-MultiProof.Denot
+parts_at g folding params input_mmcs = record {
+  setting = setting_at g folding params.mmcs input_mmcs;
+  parameters = parameters_of params;
+  committed = g.InputMmcs.Mmcs.committed;
+  commitment_of = g.InputMmcs.Mmcs.commitment_of;
+  round_committed = g.M.Mmcs.committed;
+  round_commitment_of = g.M.Mmcs.commitment_of;
+  solution = g.C.GrindingChallenger.solution;
+  most_bits = g.C.CanSampleBits.MAX_SAMPLE_BITS;
+  max_log_height = g.S.FriFoldingStrategy.max_log_height folding;
+}
+
 -- the transcript once the values are claimed
 claimed : (g : Over) (c : After-claimed_openings g)
     → let ys = opened_values c.args.values.now.items in
-    IsClaimed (setting_at g c.args.folding.now c.args.params.now.mmcs c.args.input_mmcs.now)
-    (parameters_of c.args.params.now) (opened_of c.args.rounds.now ys) ys c.args.challenger.now
+    IsClaimed (parts_at g c.args.folding.now c.args.params.now c.args.input_mmcs.now)
+    (opened_of c.args.rounds.now ys) ys c.args.challenger.now
     c.claimed_openings.new.self.challenger.now
     (pcs_shape c.claimed_openings.new.self.shape).batch_pow_bits
 claimed g c =
-    let s = setting_at g c.args.folding.now c.args.params.now.mmcs c.args.input_mmcs.now in
+    let r = parts_at g c.args.folding.now c.args.params.now c.args.input_mmcs.now in
     let vectors = c.args.values.now.items in
     let begun = c.start-transcript in
     let claims = c.claimed_openings in
-    is_claimed s (parameters_of c.args.params.now)
+    is_claimed r
     (opened_of c.args.rounds.now (opened_values vectors)) vectors c.args.challenger.now
     (pcs_shape c.args.shape) (pcs_shape begun.result.shape) (pcs_shape claims.new.self.shape)
     (seed_bytes c.args.seed) begun.result.challenger.now claims.new.self.challenger.now
@@ -75,9 +95,7 @@ pub returns-in-Err-clause-stops :
     goal.returns-in-Err-clause-stops
 returns-in-Err-clause-stops g c =
     no_witness (claimed g (goal.at.returns-in-Err-clause-stops g c).After-claimed_openings)
-    g.M.Mmcs.committed g.M.Mmcs.commitment_of g.C.GrindingChallenger.solution c.in-Err.refusal
-    c.in-Err.ensures.refused
-    c.in-Err.ensures.none_passes
+    c.in-Err.refusal c.in-Err.ensures.refused c.in-Err.ensures.none_passes
 
 pub returns-in-Ok-tested-clause-opening :
     goal.returns-in-Ok-tested-clause-opening
@@ -88,12 +106,10 @@ returns-in-Ok-tested-clause-opening g c =
     let drawn = is_drawn claims c.unwrap_or.result _ c.in-Ok.drawn.0
     c.batch_phase.new.self.challenger.now c.begin_delegate.result.now carried
     c.in-Ok.ensures.batch c.begin_delegate.ensures.value in
-    opening_made drawn (λ d. g.InputMmcs.Mmcs.committed d.prover_data.now)
-    (λ d. g.InputMmcs.Mmcs.commitment_of d.prover_data.now) c.args.opened.now
+    opening_made drawn c.args.opened.now (λ d. d.prover_data.now)
     (proof_of c.in-Ok-tested.proof) c.prove_words-tested.new.challenger _
     c.in-Ok-tested.ensures.batch_witness
-    (zero_at_no_bits claims g.C.GrindingChallenger.solution c.in-Ok.drawn.1 c.unwrap_or.result
-    carried c.in-Ok.ensures.witness)
+    (zero_at_no_bits claims c.in-Ok.drawn.1 c.unwrap_or.result carried c.in-Ok.ensures.witness)
     c.in-Ok-tested.ensures.proved c.in-Ok-tested.ensures.inputs_opened (search rules)
 
 pub returns-in-Err-tested-clause-stops :
@@ -105,8 +121,7 @@ returns-in-Err-tested-clause-stops g c =
     let drawn = is_drawn claims c.unwrap_or.result _ c.in-Ok.drawn.0
     c.batch_phase.new.self.challenger.now c.begin_delegate.result.now carried
     c.in-Ok.ensures.batch c.begin_delegate.ensures.value in
-    stopped drawn g.M.Mmcs.committed g.M.Mmcs.commitment_of g.C.GrindingChallenger.solution
-    c.in-Err-tested.refusal
-    (is_sent claims g.C.GrindingChallenger.solution c.in-Ok.drawn.1 c.unwrap_or.result carried
-    c.in-Ok.ensures.witness c.in-Ok.ensures.found)
+    stopped drawn c.in-Err-tested.refusal
+    (is_sent claims c.in-Ok.drawn.1 c.unwrap_or.result carried c.in-Ok.ensures.witness
+    c.in-Ok.ensures.found)
     c.in-Err-tested.ensures.refused
