@@ -7,7 +7,7 @@ ghost use Rattle.p3_uni_stark_verifier.specs.Chunks.{hiding_bits};
 use p3_air::{Constraint, Rows};
 
 /// One more where the scheme hides, which doubles each number of rows.
-pub(crate) fn with_hiding(log: usize, zk: bool) -> usize
+pub fn with_hiding(log: usize, zk: bool) -> usize
     requires { log < 2 ^ 63 }
     ensures { result ≡ log + hiding_bits zk }
 {

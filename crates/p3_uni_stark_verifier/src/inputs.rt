@@ -24,7 +24,7 @@ fn all_small(numbers: &[usize]) -> bool
 }
 
 /// The logarithm of the number of chunks that the constraints need.
-fn needed_chunks<F: Copy, OpeningError>(
+pub fn needed_chunks<F: Copy, OpeningError>(
     alloc: Global,
     air: &Air<F>,
     zk: bool,

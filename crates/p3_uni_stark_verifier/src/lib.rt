@@ -2,11 +2,11 @@
 //! exactly where the written relation holds, for any proof and any constraint system.
 #![tactic(auto)]
 
-mod chunks;
+pub mod chunks;
 mod claims;
 pub mod error;
-mod inputs;
-mod opened;
+pub mod inputs;
+pub mod opened;
 pub mod proof;
 pub mod setting;
 pub mod verifier;

@@ -21,7 +21,7 @@ use p3_uni_stark_identity::{Challenges, identity_holds, quotient_chunk_domains};
 use std::alloc::{AllocError, Global};
 
 /// The subgroup of `2^log_size` points.
-pub(crate) fn subgroup<F: TwoAdicField>(log_size: usize) -> TwoAdicMultiplicativeCoset<F>
+pub fn subgroup<F: TwoAdicField>(log_size: usize) -> TwoAdicMultiplicativeCoset<F>
     requires within_two_adicity { log_size ≤ F.TWO_ADICITY }
     ensures shift { result.shift ≡ F.ONE }
     ensures size { result.log_size ≡ log_size }

@@ -32,7 +32,7 @@ use p3_uni_stark_transcript::{StarkCommitments, StarkInstance, replay_stark};
 use std::alloc::{AllocError, Global};
 
 /// The commitment of a key, if there is one.
-fn commitment_of<Com: Copy>(key: Option<PreprocessedVerifierKey<Com>>) -> Option<Com>
+pub fn commitment_of<Com: Copy>(key: Option<PreprocessedVerifierKey<Com>>) -> Option<Com>
     ensures { result ≡ key_commitment key }
 {
     match key {
