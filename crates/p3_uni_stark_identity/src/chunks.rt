@@ -12,9 +12,39 @@ ghost use Rattle.p3_uni_stark_identity.specs.Chunks.{chunk_shifts, AreChunkDomai
 use p3_field_core::{ExtensionField, Field, TwoAdicField, TwoAdicMultiplicativeCoset};
 use std::alloc::{AllocError, Global};
 
+/// The cosets of `2^log_size` points into which the coset of `shift` of `2^log_num_pieces` times as
+/// many points is split. Point `j` of the piece at `i` is the point `i + j * 2^log_num_pieces` of
+/// the whole.
+pub fn split_coset<F: TwoAdicField>(
+    alloc: Global,
+    shift: F,
+    log_size: usize,
+    log_num_pieces: usize,
+) -> Result<Vec<TwoAdicMultiplicativeCoset<F>>, AllocError>
+    requires nonzero { shift ≢ F.ops.zero }
+    requires within_two_adicity { log_size + log_num_pieces ≤ F.TWO_ADICITY }
+    ensures shifts { IfOk result (λ pieces. map (λ d. d.shift) pieces.items
+        ≡ chunk_shifts F.ops F.root shift log_size log_num_pieces) }
+    ensures sizes { IfOk result (λ pieces.
+        All (λ n. n ≡ log_size) (map (λ d. d.log_size) pieces.items)) }
+    ensures disjoint { IfOk result (λ pieces. AreChunkDomains F.ops
+        (map (λ d. d.log_size) pieces.items) (map (λ d. d.shift) pieces.items)) }
+{
+    let generator = F::two_adic_generator(log_size + log_num_pieces);
+    let mut pieces = Vec::with_capacity(alloc, 1 << log_num_pieces)?;
+    let mut first = shift;
+    for _ in 0..1usize << log_num_pieces {
+        pieces.push(TwoAdicMultiplicativeCoset {
+            shift: first,
+            log_size,
+        })?;
+        first = first * generator;
+    }
+    Ok(pieces)
+}
+
 /// The domains of a quotient's chunks: the cosets of `2^log_size` points into which the coset of
-/// the field's `GENERATOR` of `2^log_num_chunks` times as many points is split. Point `j` of the
-/// chunk at `i` is the point `i + j * 2^log_num_chunks` of the whole.
+/// the field's `GENERATOR` of `2^log_num_chunks` times as many points is split.
 pub fn quotient_chunk_domains<F: TwoAdicField>(
     alloc: Global,
     log_size: usize,
@@ -28,14 +58,8 @@ pub fn quotient_chunk_domains<F: TwoAdicField>(
     ensures disjoint { IfOk result (λ domains. AreChunkDomains F.ops
         (map (λ d. d.log_size) domains.items) (map (λ d. d.shift) domains.items)) }
 {
-    let generator = F::two_adic_generator(log_size + log_num_chunks);
-    let mut domains = Vec::with_capacity(alloc, 1 << log_num_chunks)?;
-    let mut shift = F::GENERATOR;
-    for _ in 0..1usize << log_num_chunks {
-        domains.push(TwoAdicMultiplicativeCoset { shift, log_size })?;
-        shift = shift * generator;
-    }
-    Ok(domains)
+    let generator = F::GENERATOR;
+    split_coset(alloc, generator, log_size, log_num_chunks)
 }
 
 /// The values at a point of the polynomials that vanish on these domains.

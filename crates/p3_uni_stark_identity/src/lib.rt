@@ -10,7 +10,7 @@ pub mod identity;
 pub mod laws;
 pub mod selectors;
 
-pub use crate::chunks::{have_dimension, quotient_chunk_domains, recombine_quotient};
+pub use crate::chunks::{have_dimension, quotient_chunk_domains, recombine_quotient, split_coset};
 pub use crate::folding::{fold_constraints, select};
 pub use crate::identity::{Challenges, folded_constraints, has_widths, identity_holds};
 pub use crate::laws::quotient_chunks_law;
