@@ -11,6 +11,7 @@ use Rattle.algebra.specs.Polynomial.{tabulate}
 use Rattle.algebra.proofs.Lists.{Each, tabulate-next}
 use Rattle.p3_matrix.specs.Rows.{rows_of}
 use Rattle.p3_matrix.proofs.Columns.{rows_of-joined, whole_rows}
+use Rattle.stark_algebra.proofs.Vanishing.{each-tabulate}
 
 -- an extension has a coefficient
 pub dimension_some : {A E : Type 0} (F : FieldOps A) → IsField F → (lift : A → E)
@@ -53,20 +54,12 @@ module _ (k d chunk row : ℕ) (c : chunk < 2 ^ d) (r : row < 2 ^ k) where
       omega (arith, h, place_within)
 
 -- rows one after another
-module _ {A : Type 0} (w : ℕ) (f : ℕ → List A) (long : (i : ℕ) → length (f i) ≡ w) where
-  widths : (n : ℕ) → Each (λ r. length r ≡ w) (tabulate n f)
-  widths n = each n f long
-    where
-      each : (n : ℕ) (f : ℕ → List A) → ((i : ℕ) → length (f i) ≡ w)
-          → Each (λ r. length r ≡ w) (tabulate n f)
-      each zero f h = tt
-      each (suc n) f h = (h zero, each n (λ i. f (suc i)) (λ i. h (suc i)))
+joined_next : {A : Type 0} (xs ys : List (List A)) → joined (xs ++ ys) ≡ joined xs ++ joined ys
+joined_next [] ys = refl
+joined_next (x ∷ xs) ys = ap (λ zs. x ++ zs) (joined_next xs ys)
+    ∙ sym (append_assoc x (joined xs) (joined ys))
 
-  joined_next : (xs ys : List (List A)) → joined (xs ++ ys) ≡ joined xs ++ joined ys
-  joined_next [] ys = refl
-  joined_next (x ∷ xs) ys = ap (λ zs. x ++ zs) (joined_next xs ys)
-      ∙ sym (append_assoc x (joined xs) (joined ys))
-
+module _ {A : Type 0} (f : ℕ → List A) where
   pub row_next : (n : ℕ) (now new : List A) → now ≡ joined (tabulate n f) → new ≡ now ++ f n
       → new ≡ joined (tabulate (n + 1) f)
   row_next n now new before grown =
@@ -75,22 +68,24 @@ module _ {A : Type 0} (w : ℕ) (f : ℕ → List A) (long : (i : ℕ) → lengt
       ∙ joined_next (tabulate n f) (f n ∷ [])
       ∙ ap (λ xs. joined (tabulate n f) ++ xs) (append-nil (f n)))
 
-  joined_length : (rs : List (List A)) → Each (λ r. length r ≡ w) rs
-      → length (joined rs) ≡ length rs * w
-  joined_length [] h = omega arith
-  joined_length (r ∷ rs) h =
-      length-append r (joined rs) ∙ ap₂ (λ a b. a + b) h.0 (joined_length rs h.1) ∙ omega arith
+  module _ (w n : ℕ) (long : (i : ℕ) → i < n → length (f i) ≡ w) (some : 0 < w) (xs : List A)
+      (is : xs ≡ joined (tabulate n f)) where
+    widths : Each (λ r. length r ≡ w) (tabulate n f)
+    widths = each-tabulate (λ r. length r ≡ w) n f long
 
-  pub rows_are : 0 < w → (n : ℕ) (xs : List A) → xs ≡ joined (tabulate n f)
-      → rows_of w xs ≡ tabulate n f
-  rows_are some n xs is = ap (λ ys. rows_of w ys) is
-      ∙ rows_of-joined w some (tabulate n f) (widths n)
+    joined_length : (rs : List (List A)) → Each (λ r. length r ≡ w) rs
+        → length (joined rs) ≡ length rs * w
+    joined_length [] h = omega arith
+    joined_length (r ∷ rs) h =
+        length-append r (joined rs) ∙ ap₂ (λ a b. a + b) h.0 (joined_length rs h.1) ∙ omega arith
 
-  pub rows_whole : 0 < w → (n : ℕ) (xs : List A) → xs ≡ joined (tabulate n f)
-      → length xs % w ≡ 0
-  rows_whole some n xs is =
-      whole_rows (length (tabulate n f)) w (length xs) some
-      (ap length is ∙ joined_length (tabulate n f) (widths n))
+    pub rows_are : rows_of w xs ≡ tabulate n f
+    rows_are = ap (λ ys. rows_of w ys) is ∙ rows_of-joined w some (tabulate n f) widths
+
+    pub rows_whole : length xs % w ≡ 0
+    rows_whole =
+        whole_rows (length (tabulate n f)) w (length xs) some
+        (ap length is ∙ joined_length (tabulate n f) widths)
 
 -- one more of a list whose images are known
 pub mapped_next : {X Y : Type 0} (f : X → Y) (xs ys : List X) (x : X) (n : ℕ) (h : ℕ → Y)

@@ -13,10 +13,8 @@ loop-row-preserved g c =
     let K = g.EF.Field.ops in
     let values = c.args.values.now in
     let place = c.place_of-place in
-    row_next extension.DIMENSION
+    row_next
     (λ j. extension.coefficients (slice_index_or values
-    (c.args.chunk + j * 2 ^ c.args.log_num_chunks) K.zero))
-    (λ j. g.met.EF.ExtensionField.dimension_law (slice_index_or values
     (c.args.chunk + j * 2 ^ c.args.log_num_chunks) K.zero))
     c.loop-row.row c.loop-row.coefficients.items c.push_coefficients.new.coefficients.items
     c.loop-row.invariant
@@ -40,12 +38,13 @@ new-requires g c =
       has_columns = subst (λ n. 0 < n) e some;
       whole_rows = ap (λ n. n % c.DIMENSION-2.result) c.loop-row.coefficients.ok.0
           ∙ subst (λ n. length c.loop-row.coefficients.items % n ≡ 0) e
-          (rows_whole extension.DIMENSION
+          (rows_whole
           (λ j. extension.coefficients (slice_index_or values
           (c.args.chunk + j * 2 ^ c.args.log_num_chunks) K.zero))
-          (λ j. g.met.EF.ExtensionField.dimension_law (slice_index_or values
+          extension.DIMENSION c.loop-row.row
+          (λ j _. g.met.EF.ExtensionField.dimension_law (slice_index_or values
           (c.args.chunk + j * 2 ^ c.args.log_num_chunks) K.zero))
-          some c.loop-row.row c.loop-row.coefficients.items c.loop-row.invariant);
+          some c.loop-row.coefficients.items c.loop-row.invariant);
     }
 
 pub returns : goal.returns
@@ -64,12 +63,13 @@ returns g c =
     record {
       rows = c.new.ensures.rows
           ∙ ap (λ w. rows_of w c.loop-row.coefficients.items) c.DIMENSION-2.ensures
-          ∙ rows_are extension.DIMENSION
+          ∙ rows_are
           (λ j. extension.coefficients (slice_index_or values
           (c.args.chunk + j * 2 ^ c.args.log_num_chunks) K.zero))
-          (λ j. g.met.EF.ExtensionField.dimension_law (slice_index_or values
+          extension.DIMENSION c.loop-row.row
+          (λ j _. g.met.EF.ExtensionField.dimension_law (slice_index_or values
           (c.args.chunk + j * 2 ^ c.args.log_num_chunks) K.zero))
-          some c.loop-row.row c.loop-row.coefficients.items c.loop-row.invariant
+          some c.loop-row.coefficients.items c.loop-row.invariant
           ∙ ap (λ n. tabulate n (λ j. extension.coefficients (slice_index_or values
           (c.args.chunk + j * 2 ^ c.args.log_num_chunks) K.zero))) end;
       width = c.new.ensures.width ∙ c.DIMENSION-2.ensures;
