@@ -1,9 +1,10 @@
 //! Commitments: the trait of commitments to batches of matrices with its tree over SHA-256, the
-//! traits of polynomial commitment schemes, and the types of periodic columns.
+//! traits of polynomial commitment schemes and of their domains, and the types of periodic columns.
 //!
 //! This crate has no code of its own: it shows the crates below under one name.
 #![tactic(auto)]
 
+pub use p3_domain::{LagrangeSelectors, PolynomialSpace};
 pub use p3_mmcs::{
     CommitmentOpening, CommitmentWithOpeningPoints, FriRegime, GrindingSites, MatrixOpening, Mmcs,
     OpenedValues, PointOpening, Sha256Mmcs, Sha256MmcsError, Sha256ProverData, have_power_heights,
