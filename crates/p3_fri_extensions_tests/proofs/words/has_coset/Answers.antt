@@ -1,7 +1,7 @@
 use Rattle.std.proofs.Common.{◌≡◌, ◌^◌, length, arith, sym, eqb-true, ◌∙◌}
 use Rattle.std.proofs.Math.Pow.{pow_mono}
 use Rattle.p3_matrix.specs.Matrix.{rows}
-use Rattle.p3_fri_evaluations_tests.proofs.words.has_coset.Goals as goal
+use Rattle.p3_fri_extensions_tests.proofs.words.has_coset.Goals as goal
 
 pub returns-in-Some : goal.returns-in-Some
 returns-in-Some g c = record {
