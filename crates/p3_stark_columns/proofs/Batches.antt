@@ -1,14 +1,16 @@
 -- What is known of committed batches under a later scheme.
-use Rattle.std.proofs.Common.{◌≡◌, ℕ, ◌*◌, List, [], ◌∷◌, map, sym, ap, ◌∙◌, subst, ◌⊎◌, inl, inr}
+use Rattle.std.proofs.Common.{◌≡◌, ℕ, ◌*◌, List, map, sym, ap, ◌∙◌, subst, ◌⊎◌, inl, inr}
+use Rattle.std.proofs.Common.{Bool, true, Option}
 use Rattle.std.specs.List.{AllZip}
 use Rattle.p3_pcs.specs.Requests.{Held}
 use Rattle.p3_pcs.specs.declared.claims.KnownCommitment.{KnownCommitment}
 use Rattle.p3_matrix.specs.declared.dense.RowMajorMatrix.{RowMajorMatrix}
 use Rattle.p3_pcs.specs.Scheme.{Scheme, IsLawful, AreKept}
-use Rattle.p3_stark_pcs.specs.Scheme.{StarkScheme}
-use Rattle.p3_stark_columns.specs.Stark.{IsBatch, IsCommitRefusal, CommitsRefuse}
-use Rattle.p3_stark_columns.specs.declared.stark.StarkError.{StarkError}
-use Rattle.p3_stark_columns.specs.declared.stark.StarkError.TheVariants.{Commit, Open, OutOfMemory}
+use Rattle.p3_stark_pcs.specs.Evaluations.{HasShape}
+use Rattle.p3_stark_pcs.specs.Scheme.{StarkScheme, AreKeptStark}
+use Rattle.p3_stark_columns.specs.Stark.{IsBatch, IsRandom, IsCommitRefusal, CommitsRefuse}
+use Rattle.p3_stark_columns.specs.declared.error.StarkError.{StarkError}
+use Rattle.p3_stark_columns.specs.declared.error.StarkError.TheVariants.{Commit, Open, OutOfMemory}
 use Rattle.p3_stark_columns.proofs.Zips.{zip_equal, zip_leads, mapped_twice}
 
 module _ {EF Domain Matrix : Type 0} (size : Domain → ℕ)
@@ -73,6 +75,35 @@ quotient_fits times old new same domains known columns held is fits sizes =
     ∙ subst (λ f. map f domains ≡ map (λ e. times * f e.0) columns) (sym same) fits
     ∙ sym (zip_equal (λ m. m.size) (λ e. times * new e.0) held columns sizes)
 
+-- what is known once random polynomials are committed to, so many on each domain
+pub random_batch : {E C V Dom Com D Proof Error ProverError : Type 0}
+    (r : Scheme E C V Dom Com D Proof Error ProverError) (width : ℕ)
+    (known : KnownCommitment Com Dom) (d : D) (domains random : List Dom)
+    → known.domains.items ≡ domains → random ≡ domains → r.IsHonest d
+    → r.commitment_of d ≡ known.commitment
+    → AllZip (λ m domain. HasShape (r.domain_size domain) width m) (r.committed_polynomials d)
+    random → IsBatch r known d
+random_batch {E = E} {Dom = Dom} r width known d domains random known_are random_are honest commitment shapes =
+    let HasShapeOn : Held E → Dom → Type 0 = λ m domain.
+    HasShape (r.domain_size domain) width m in
+    let sizes = zip_leads HasShapeOn (λ m domain. m.size ≡ r.domain_size domain)
+    (λ m domain h. h.size) (r.committed_polynomials d) random shapes in
+    record {
+      honest = honest;
+      commitment = sym commitment;
+      domains = ap (λ (ds : List Dom). map r.domain_size ds) (known_are ∙ sym random_are)
+          ∙ sym (zip_equal (λ (m : Held E). m.size) r.domain_size (r.committed_polynomials d)
+          random sizes);
+    }
+
+-- random polynomials on domains are such on the same domains
+pub random_on : {E C V Dom Com D Proof Error ProverError : Type 0}
+    (r : Scheme E C V Dom Com D Proof Error ProverError) (t : StarkScheme E V Dom D ProverError)
+    (hides : Bool) (random : Option D) (known domains : List Dom) → known ≡ domains
+    → IsRandom r t hides known random → IsRandom r t hides domains random
+random_on r t hides random known domains are h =
+    subst (λ ds. IsRandom r t hides ds random) are h
+
 -- a commitment's refusal stays one for a reason that follows
 pub refused_for : {P E : Type 0} (Q R : P → Type 0) → ((e : P) → Q e → R e) → (e : StarkError P E)
     → IsCommitRefusal Q e → IsCommitRefusal R e
@@ -83,12 +114,41 @@ refused_for Q R f OutOfMemory h = tt
 -- a refusal of chunks, or of their words, is one of a STARK's commitments
 pub chunks_refused : {E C V Dom Com D Proof Error ProverError : Type 0}
     (r : Scheme E C V Dom Com D Proof Error ProverError) (t : StarkScheme E V Dom D ProverError)
-    (preprocessed trace chunks : List (Dom × RowMajorMatrix V)) (Q : ProverError → Type 0)
+    (hides : Bool) (preprocessed trace chunks : List (Dom × RowMajorMatrix V))
+    (Q : ProverError → Type 0)
     (L : List (RowMajorMatrix V) → ProverError → Type 0)
     → ((e : ProverError) → Q e → t.QuotientsRefuse chunks e)
     → ((ldes : List (RowMajorMatrix V)) (e : ProverError) → L ldes e → t.LdesRefuse ldes e)
     → (e : ProverError) → Q e ⊎ ((ldes : List (RowMajorMatrix V)) × L ldes e)
-    → CommitsRefuse r t preprocessed trace chunks e
-chunks_refused r t preprocessed trace chunks Q L f g e (inl h) = inr (inr (inl (f e h)))
-chunks_refused r t preprocessed trace chunks Q L f g e (inr (ldes, h)) =
-    inr (inr (inr (ldes, g ldes e h)))
+    → CommitsRefuse r t hides preprocessed trace chunks e
+chunks_refused r t hides preprocessed trace chunks Q L f g e (inl h) = inr (inr (inl (f e h)))
+chunks_refused r t hides preprocessed trace chunks Q L f g e (inr (ldes, h)) =
+    inr (inr (inr (inl (ldes, g ldes e h))))
+
+-- so is one of random polynomials
+pub random_refused : {E C V Dom Com D Proof Error ProverError : Type 0}
+    (r : Scheme E C V Dom Com D Proof Error ProverError)
+    (old first second new : StarkScheme E V Dom D ProverError) → AreKeptStark old first
+    → AreKeptStark first second → AreKeptStark second new → (hides : Bool)
+    → (preprocessed trace chunks : List (Dom × RowMajorMatrix V)) (domains : List Dom)
+    → domains ≡ map (λ e. e.0) trace → (e : ProverError)
+    → (hides ≡ true) × new.RandomizationRefuses domains e
+    → CommitsRefuse r old hides preprocessed trace chunks e
+random_refused r old first second new kept since last hides preprocessed trace chunks domains are e h =
+    let on_trace = subst (λ ds. new.RandomizationRefuses ds e) are h.1 in
+    inr (inr (inr (inr (
+      h.0,
+      kept.random_refusals (map (λ e. e.0) trace) e
+          (since.random_refusals (map (λ e. e.0) trace) e
+          (last.random_refusals (map (λ e. e.0) trace) e on_trace)),
+    ))))
+
+-- random polynomials may be committed to still, on the same domains
+pub still_random : {E V Dom D ProverError : Type 0}
+    (old first second new : StarkScheme E V Dom D ProverError) → AreKeptStark old first
+    → AreKeptStark first second → AreKeptStark second new → (hides : Bool)
+    → (domains known : List Dom) → known ≡ domains → (hides ≡ true → old.CanRandomize domains)
+    → hides ≡ true → new.CanRandomize known
+still_random old first second new kept since last hides domains known are can zk =
+    subst (λ ds. new.CanRandomize ds) (sym are) (last.randomizable domains
+    (since.randomizable domains (kept.randomizable domains (can zk))))

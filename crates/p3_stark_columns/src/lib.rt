@@ -1,7 +1,14 @@
 //! What a STARK prover does with a scheme, over any scheme: it commits to preprocessed columns, to
-//! a trace and to the chunks of a quotient, and opens them.
+//! a trace, to the chunks of a quotient and, where the scheme hides, to random polynomials, and
+//! opens them.
 #![tactic(auto)]
 
+pub mod commit;
+pub mod error;
+pub mod opening;
 pub mod stark;
 
-pub use crate::stark::{StarkColumns, StarkError, StarkOpening, open_stark_columns};
+pub use crate::commit::StarkColumns;
+pub use crate::error::StarkError;
+pub use crate::opening::StarkOpening;
+pub use crate::stark::open_stark_columns;
