@@ -1,45 +1,63 @@
-//! Elements from numbers.
+//! Elements from numbers, of any field.
 
-use p3_field::{BabyBear, BabyBear4, ExtensionField, Field, PrimeField64};
+use p3_field::{ExtensionField, Field, PrimeField64};
 use std::alloc::{AllocError, Global};
 
-/// The element of the extension with these coefficients.
-pub(crate) fn extension([constant, linear, quadratic, cubic]: [u64; 4]) -> BabyBear4 {
-    BabyBear4::from_coefficients(&[
-        BabyBear::from_u64(constant),
-        BabyBear::from_u64(linear),
-        BabyBear::from_u64(quadratic),
-        BabyBear::from_u64(cubic),
-    ])
+/// The element of the extension with these coefficients, of which it has at most four.
+pub(crate) fn extension<F: Field, EF: ExtensionField<F>>(coefficients: [u64; 4]) -> EF {
+    let mut element = EF::ZERO;
+    for index in 0..4 {
+        if index < EF::DIMENSION {
+            element = element.with_coefficient(index, F::from_u64(coefficients[index]));
+        }
+    }
+    element
 }
 
-/// The canonical numbers of an element's coefficients.
-pub(crate) fn numbers(element: BabyBear4) -> [u64; 4] {
-    let mut numbers = [0; 4];
+/// Whether the canonical numbers of an element's coefficients are these.
+pub(crate) fn has_coefficients<F: PrimeField64, EF: ExtensionField<F>>(
+    element: EF,
+    numbers: [u64; 4],
+) -> bool {
     for index in 0..4 {
-        let coefficient: BabyBear = element.coefficient(index);
-        numbers[index] = coefficient.as_canonical_u64();
+        if index >= EF::DIMENSION
+            || element.coefficient(index).as_canonical_u64() != numbers[index]
+        {
+            return false;
+        }
     }
-    numbers
+    EF::DIMENSION == 4
 }
 
 /// The elements of these numbers.
-pub(crate) fn elements(alloc: Global, numbers: &[u64]) -> Result<Vec<BabyBear>, AllocError> {
+pub(crate) fn elements<F: Field>(alloc: Global, numbers: &[u64]) -> Result<Vec<F>, AllocError> {
     let mut elements = Vec::new(alloc);
     for number in numbers {
-        elements.push(BabyBear::from_u64(*number))?;
+        elements.push(F::from_u64(*number))?;
     }
     Ok(elements)
 }
 
 /// The elements of the extension of these coefficients.
-pub(crate) fn extensions(
+pub(crate) fn extensions<F: Field, EF: ExtensionField<F>>(
     alloc: Global,
     numbers: &[[u64; 4]],
-) -> Result<Vec<BabyBear4>, AllocError> {
+) -> Result<Vec<EF>, AllocError> {
     let mut elements = Vec::new(alloc);
     for coefficients in numbers {
-        elements.push(extension(*coefficients))?;
+        elements.push(extension::<F, EF>(*coefficients))?;
     }
     Ok(elements)
+}
+
+/// The same of several lists.
+pub(crate) fn extension_lists<F: Field, EF: ExtensionField<F>>(
+    alloc: Global,
+    each: &[&[[u64; 4]]],
+) -> Result<Vec<Vec<EF>>, AllocError> {
+    let mut lists = Vec::new(alloc);
+    for numbers in each {
+        lists.push(extensions::<F, EF>(alloc, *numbers)?)?;
+    }
+    Ok(lists)
 }

@@ -1,17 +1,21 @@
 //! A quotient's values on a coset and their chunks, against values by coefficients.
 
-use crate::numbers::{elements, extension, numbers};
-use crate::systems::{cubes, fibonacci};
+use crate::numbers::{elements, extension, extensions, has_coefficients};
+use crate::systems::{self, System, air_of};
 use p3_air::Air;
-use p3_field::{BabyBear, BabyBear4, Field, PrimeField64, TwoAdicMultiplicativeCoset};
+use p3_field::{
+    BabyBear, BabyBear4, ExtensionField, Field, PrimeField64, TwoAdicField,
+    TwoAdicMultiplicativeCoset,
+};
 use p3_matrix::RowMajorMatrix;
 use p3_uni_stark_quotient::{CosetColumns, is_off_subgroups, quotient_chunks, quotient_values};
 use std::alloc::{AllocError, Global};
 use std::test::Fail;
 
 /// Columns on a coset, row after row, and the quotient's values at the first points.
-#[derive(Clone, Copy, Debug)]
+#[derive(Clone, Copy)]
 struct Values {
+    system: System,
     log_size: usize,
     width: usize,
     trace: &'static [u64],
@@ -23,6 +27,7 @@ struct Values {
 
 /// Fibonacci numbers, eight rows, on a coset of sixteen points.
 const FIBONACCI: Values = Values {
+    system: systems::FIBONACCI,
     log_size: 3,
     width: 2,
     trace: &[
@@ -46,6 +51,7 @@ const FIBONACCI: Values = Values {
 
 /// Cubes with a summand on selected rows, four rows, on a coset of eight points.
 const CUBES: Values = Values {
+    system: systems::CUBES,
     log_size: 2,
     width: 1,
     trace: &[
@@ -70,109 +76,122 @@ const CUBES: Values = Values {
 };
 
 /// The matrix of these numbers, if rows are whole.
-fn matrix(
+fn matrix<F: Field>(
     alloc: Global,
     numbers: &[u64],
     width: usize,
-) -> Result<Option<RowMajorMatrix<BabyBear>>, AllocError> {
-    let values = elements(alloc, numbers)?;
+) -> Result<RowMajorMatrix<F>, Fail> {
+    let values = elements::<F>(alloc, numbers)?;
     if width == 0 || values.len() % width != 0 {
-        return Ok(None);
+        return Err(Fail::new("rows aren't whole"));
     }
-    Ok(Some(RowMajorMatrix::new(values, width)))
-}
-
-/// The quotient's values, of columns that fit.
-fn found(
-    alloc: Global,
-    air: &Air<BabyBear>,
-    case: &Values,
-) -> Result<Option<Vec<BabyBear4>>, AllocError> {
-    let log_size = case.log_size;
-    if log_size > 25 || air.check().is_err() {
-        return Ok(None);
-    }
-    let Some(coset) = TwoAdicMultiplicativeCoset::new(BabyBear::GENERATOR, log_size + 1) else {
-        return Ok(None);
-    };
-    let Some(trace) = matrix(alloc, case.trace, case.width)? else {
-        return Ok(None);
-    };
-    let preprocessed = if case.preprocessed.is_empty() {
-        None
-    } else {
-        matrix(alloc, case.preprocessed, 1)?
-    };
-    let public_values = elements(alloc, case.public_values)?;
-    let columns = CosetColumns {
-        trace: &trace,
-        preprocessed: preprocessed.as_ref(),
-        periodic: None,
-        public_values: &public_values,
-    };
-    if !is_off_subgroups(coset) || !columns.fits(&air.layout, coset.size()) {
-        return Ok(None);
-    }
-    let alpha = extension(case.alpha);
-    Ok(Some(quotient_values(alloc, air, &columns, log_size, 1, coset, alpha)?))
+    Ok(RowMajorMatrix::new(values, width))
 }
 
 /// Whether the first values are those.
-fn begins(values: &[BabyBear4], expected: &[[u64; 4]]) -> bool {
+fn begin<F: PrimeField64, EF: ExtensionField<F>>(values: &[EF], expected: &[[u64; 4]]) -> bool {
     for i in 0..expected.len() {
-        if i >= values.len() || numbers(values[i]) != expected[i] {
+        if i >= values.len() || !has_coefficients::<F, EF>(values[i], expected[i]) {
             return false;
         }
     }
     true
 }
 
-/// Whether the case's values are found.
-fn is_found(alloc: Global, air: &Air<BabyBear>, case: &Values) -> Result<bool, AllocError> {
-    match found(alloc, air, case)? {
-        Some(values) => Ok(begins(&values, case.quotient)),
-        None => Ok(false),
+/// Whether columns fit a coset of twice as many points, and the quotient's values there are the
+/// case's.
+fn give_values<F: TwoAdicField + PrimeField64, EF: ExtensionField<F>>(
+    alloc: Global,
+    air: &Air<F>,
+    columns: &CosetColumns<'_, F>,
+    case: &Values,
+) -> Result<bool, AllocError> {
+    let log_size = case.log_size;
+    if log_size >= F::TWO_ADICITY || air.check().is_err() {
+        return Ok(false);
     }
+    let Some(coset) = TwoAdicMultiplicativeCoset::new(F::GENERATOR, log_size + 1) else {
+        return Ok(false);
+    };
+    if !is_off_subgroups(coset) || !columns.fits(&air.layout, coset.size()) {
+        return Ok(false);
+    }
+    let alpha = extension::<F, EF>(case.alpha);
+    let values = quotient_values(alloc, air, columns, log_size, 1, coset, alpha)?;
+    Ok(begin::<F, EF>(&values, case.quotient))
+}
+
+/// Whether the case's columns give its values.
+fn is_met_over<F: TwoAdicField + PrimeField64, EF: ExtensionField<F>>(
+    alloc: Global,
+    case: &Values,
+) -> Result<bool, Fail> {
+    let trace = matrix::<F>(alloc, case.trace, case.width)?;
+    let preprocessed = matrix::<F>(alloc, case.preprocessed, 1)?;
+    let public_values = elements::<F>(alloc, case.public_values)?;
+    let air = air_of::<F>(alloc, &case.system)?;
+    let columns = CosetColumns {
+        trace: &trace,
+        preprocessed: if preprocessed.height() == 0 {
+            None
+        } else {
+            Some(&preprocessed)
+        },
+        periodic: None,
+        public_values: &public_values,
+    };
+    Ok(give_values::<F, EF>(alloc, &air, &columns, case)?)
+}
+
+/// The same over BabyBear.
+fn is_met(alloc: Global, case: &Values) -> Result<bool, Fail> {
+    is_met_over::<BabyBear, BabyBear4>(alloc, case)
 }
 
 #[test]
 fn fibonacci_numbers(rt: HostRuntime) -> Result<(), Fail> {
-    let air = fibonacci(rt.alloc())?;
-    assert!(rt; is_found(rt.alloc(), &air, &FIBONACCI)?);
+    assert!(rt; is_met(rt.alloc(), &FIBONACCI)?);
     Ok(())
 }
 
 #[test]
 fn selected_cubes(rt: HostRuntime) -> Result<(), Fail> {
-    let air = cubes(rt.alloc())?;
-    assert!(rt; is_found(rt.alloc(), &air, &CUBES)?);
+    assert!(rt; is_met(rt.alloc(), &CUBES)?);
     Ok(())
 }
 
-/// The value at this place of the second chunk of eight values, in numbers.
-fn second_chunk_entry(
+/// Whether the second chunk of eight values has this number at a place.
+fn second_chunk_has<F: PrimeField64, EF: ExtensionField<F>>(
     alloc: Global,
-    values: &[BabyBear4],
-    row: usize,
-    column: usize,
-) -> Result<Option<u64>, AllocError> {
+    values: &[EF],
+    (row, column): (usize, usize),
+    expected: u64,
+) -> Result<bool, AllocError> {
     if values.len() != 8 {
-        return Ok(None);
+        return Ok(false);
     }
-    let chunks = quotient_chunks(alloc, values, 2, 1)?;
+    let chunks = quotient_chunks::<F, EF>(alloc, values, 2, 1)?;
     let Some(chunk) = chunks.get(1) else {
-        return Ok(None);
+        return Ok(false);
     };
-    let entry: Option<BabyBear> = chunk.get(row, column);
-    Ok(entry.map(|entry| entry.as_canonical_u64()))
+    match chunk.get(row, column) {
+        Some(entry) => Ok(entry.as_canonical_u64() == expected),
+        None => Ok(false),
+    }
+}
+
+/// Whether that of the cubes' values does.
+fn cubes_chunk_has<F: PrimeField64, EF: ExtensionField<F>>(
+    alloc: Global,
+    place: (usize, usize),
+    expected: u64,
+) -> Result<bool, AllocError> {
+    let values = extensions::<F, EF>(alloc, CUBES.quotient)?;
+    second_chunk_has::<F, EF>(alloc, &values, place, expected)
 }
 
 #[test]
 fn a_chunk_has_every_second_value(rt: HostRuntime) -> Result<(), Fail> {
-    let mut values = Vec::new(rt.alloc());
-    for coefficients in CUBES.quotient {
-        values.push(extension(*coefficients))?;
-    }
-    assert!(rt; second_chunk_entry(rt.alloc(), &values, 2, 3)? == Some(850690884));
+    assert!(rt; cubes_chunk_has::<BabyBear, BabyBear4>(rt.alloc(), (2, 3), 850690884)?);
     Ok(())
 }

@@ -1,66 +1,130 @@
 //! Constraint systems.
 
-use p3_air::{Air, AirBuilder, AirLayout};
-use p3_field::BabyBear;
+use p3_air::{Air, AirLayout, Constraint, Node, Rows};
+use p3_field::Field;
 use std::alloc::{AllocError, Global};
-use std::test::Fail;
+
+/// A constraint system in tables, with numbers in the place of elements.
+#[derive(Clone, Copy)]
+pub(crate) struct System {
+    layout: AirLayout,
+    nodes: &'static [Node<u64>],
+    constraints: &'static [Constraint],
+}
+
+/// The node of an element in the place of a number.
+fn node_of<F: Field>(node: Node<u64>) -> Node<F> {
+    match node {
+        Node::Constant(number) => Node::Constant(F::from_u64(number)),
+        Node::Local(column) => Node::Local(column),
+        Node::Next(column) => Node::Next(column),
+        Node::Preprocessed(column) => Node::Preprocessed(column),
+        Node::PreprocessedNext(column) => Node::PreprocessedNext(column),
+        Node::Public(index) => Node::Public(index),
+        Node::Periodic(column) => Node::Periodic(column),
+        Node::Add(a, b) => Node::Add(a, b),
+        Node::Sub(a, b) => Node::Sub(a, b),
+        Node::Mul(a, b) => Node::Mul(a, b),
+        Node::Neg(a) => Node::Neg(a),
+    }
+}
+
+/// The nodes of elements.
+fn nodes_of<F: Field>(alloc: Global, nodes: &[Node<u64>]) -> Result<Vec<Node<F>>, AllocError> {
+    let mut made = Vec::new(alloc);
+    for node in nodes {
+        made.push(node_of(*node))?;
+    }
+    Ok(made)
+}
+
+/// The constraint system over any field.
+pub(crate) fn air_of<F: Field>(alloc: Global, system: &System) -> Result<Air<F>, AllocError> {
+    Ok(Air {
+        layout: system.layout,
+        nodes: nodes_of(alloc, system.nodes)?,
+        constraints: Vec::from_slice(alloc, system.constraints)?,
+    })
+}
 
 /// The first row is the first two public values, each next row has the second entry and the sum of
 /// both, and the second entry of the last row is the third public value.
-fn write_fibonacci(builder: &mut AirBuilder<BabyBear>) -> Result<(), AllocError> {
-    let left = builder.local(0)?;
-    let right = builder.local(1)?;
-    let first = builder.public(0)?;
-    let second = builder.public(1)?;
-    builder.when_first_row().assert_eq(left, first)?;
-    builder.when_first_row().assert_eq(right, second)?;
-    let next_left = builder.next(0)?;
-    let next_right = builder.next(1)?;
-    let sum = builder.add(left, right)?;
-    builder.when_transition().assert_eq(next_left, right)?;
-    builder.when_transition().assert_eq(next_right, sum)?;
-    let last = builder.public(2)?;
-    builder.when_last_row().assert_eq(right, last)
-}
-
-/// Fibonacci numbers.
-pub(crate) fn fibonacci(alloc: Global) -> Result<Air<BabyBear>, Fail> {
-    let layout = AirLayout {
+pub(crate) const FIBONACCI: System = System {
+    layout: AirLayout {
         width: 2,
         preprocessed_width: 0,
         num_public_values: 3,
         num_periodic_columns: 0,
-    };
-    let mut builder = AirBuilder::new(alloc, layout);
-    write_fibonacci(&mut builder)?;
-    Ok(builder.build()?)
-}
+    },
+    nodes: &[
+        Node::Local(0),
+        Node::Local(1),
+        Node::Public(0),
+        Node::Public(1),
+        Node::Sub(0, 2),
+        Node::Sub(1, 3),
+        Node::Next(0),
+        Node::Next(1),
+        Node::Add(0, 1),
+        Node::Sub(6, 1),
+        Node::Sub(7, 8),
+        Node::Public(2),
+        Node::Sub(1, 11),
+    ],
+    constraints: &[
+        Constraint {
+            rows: Rows::First,
+            node: 4,
+        },
+        Constraint {
+            rows: Rows::First,
+            node: 5,
+        },
+        Constraint {
+            rows: Rows::Transition,
+            node: 9,
+        },
+        Constraint {
+            rows: Rows::Transition,
+            node: 10,
+        },
+        Constraint {
+            rows: Rows::Last,
+            node: 12,
+        },
+    ],
+};
 
 /// The first entry is the first public value, and each next one is the cube of this one and, where
 /// the preprocessed column is one, the second public value.
-fn write_cubes(builder: &mut AirBuilder<BabyBear>) -> Result<(), AllocError> {
-    let entry = builder.local(0)?;
-    let first = builder.public(0)?;
-    builder.when_first_row().assert_eq(entry, first)?;
-    let next = builder.next(0)?;
-    let square = builder.mul(entry, entry)?;
-    let cube = builder.mul(square, entry)?;
-    let selector = builder.preprocessed(0)?;
-    let summand = builder.public(1)?;
-    let selected = builder.mul(selector, summand)?;
-    let sum = builder.add(cube, selected)?;
-    builder.when_transition().assert_eq(next, sum)
-}
-
-/// Cubes with a summand on selected rows.
-pub(crate) fn cubes(alloc: Global) -> Result<Air<BabyBear>, Fail> {
-    let layout = AirLayout {
+pub(crate) const CUBES: System = System {
+    layout: AirLayout {
         width: 1,
         preprocessed_width: 1,
         num_public_values: 2,
         num_periodic_columns: 0,
-    };
-    let mut builder = AirBuilder::new(alloc, layout);
-    write_cubes(&mut builder)?;
-    Ok(builder.build()?)
-}
+    },
+    nodes: &[
+        Node::Local(0),
+        Node::Public(0),
+        Node::Sub(0, 1),
+        Node::Next(0),
+        Node::Mul(0, 0),
+        Node::Mul(4, 0),
+        Node::Preprocessed(0),
+        Node::Public(1),
+        Node::Mul(6, 7),
+        Node::Add(5, 8),
+        Node::Sub(3, 9),
+    ],
+    constraints: &[
+        Constraint {
+            rows: Rows::First,
+            node: 2,
+        },
+        Constraint {
+            rows: Rows::Transition,
+            node: 10,
+        },
+    ],
+};
