@@ -1,17 +1,17 @@
 //! Statements and proofs, made of what is shown in numbers.
 
 use crate::belief::Belief;
-use crate::numbers::{columns, elements, extension_lists, extensions};
+use crate::numbers::{push_columns, push_elements, push_extension_lists, push_extensions};
 use crate::shown::Shown;
 use p3_air::{Air, Node};
-use p3_field::{BabyBear, BabyBear4, Field};
+use p3_field::{BabyBear, BabyBear4, ExtensionField, Field};
 use p3_uni_stark_verifier::{Commitments, OpenedValues, PreprocessedVerifierKey, Proof};
 use std::alloc::{AllocError, Global};
 
 /// The node of an element in the place of a number.
-fn node_of(node: Node<u64>) -> Node<BabyBear> {
+fn node_of<F: Field>(node: Node<u64>) -> Node<F> {
     match node {
-        Node::Constant(number) => Node::Constant(BabyBear::from_u64(number)),
+        Node::Constant(number) => Node::Constant(F::from_u64(number)),
         Node::Local(column) => Node::Local(column),
         Node::Next(column) => Node::Next(column),
         Node::Preprocessed(column) => Node::Preprocessed(column),
@@ -25,75 +25,103 @@ fn node_of(node: Node<u64>) -> Node<BabyBear> {
     }
 }
 
-/// The nodes of elements.
-pub(crate) fn nodes_of(
-    alloc: Global,
-    nodes: &[Node<u64>],
-) -> Result<Vec<Node<BabyBear>>, AllocError> {
-    let mut made = Vec::new(alloc);
-    for node in nodes {
-        made.push(node_of(*node))?;
+/// Appends the nodes of elements.
+fn push_nodes<F: Field>(nodes: &mut Vec<Node<F>>, each: &[Node<u64>]) -> Result<(), AllocError> {
+    for node in each {
+        nodes.push(node_of(*node))?;
     }
-    Ok(made)
+    Ok(())
 }
 
-/// The constraint system, well formed or not.
-pub(crate) fn air_of(alloc: Global, shown: &Shown) -> Result<Air<BabyBear>, AllocError> {
-    Ok(Air {
-        layout: shown.layout,
-        nodes: nodes_of(alloc, shown.nodes)?,
-        constraints: Vec::from_slice(alloc, shown.constraints)?,
-    })
+/// A proof, and the parts of its statement. The system is well formed or not.
+#[derive(Drop)]
+pub(crate) struct Parts<F, EF> {
+    pub(crate) air: Air<F>,
+    pub(crate) public_values: Vec<F>,
+    pub(crate) periodic: Vec<Vec<F>>,
+    pub(crate) preprocessed: Option<PreprocessedVerifierKey<[u8; 32]>>,
+    pub(crate) proof: Proof<EF, [u8; 32], Belief>,
 }
 
-/// The opened values.
-fn values_of(alloc: Global, shown: &Shown) -> Result<OpenedValues<BabyBear4>, AllocError> {
-    Ok(OpenedValues {
-        trace_local: extensions(alloc, shown.trace_local)?,
-        trace_next: extensions(alloc, shown.trace_next)?,
-        preprocessed_local: extensions(alloc, shown.preprocessed_local)?,
-        preprocessed_next: extensions(alloc, shown.preprocessed_next)?,
-        quotient_chunks: extension_lists(alloc, shown.quotient_chunks)?,
-        random: extensions(alloc, shown.random_values)?,
-    })
+/// No opened values yet.
+fn no_values<EF>(alloc: Global) -> OpenedValues<EF> {
+    OpenedValues {
+        trace_local: Vec::new(alloc),
+        trace_next: Vec::new(alloc),
+        preprocessed_local: Vec::new(alloc),
+        preprocessed_next: Vec::new(alloc),
+        quotient_chunks: Vec::new(alloc),
+        random: Vec::new(alloc),
+    }
 }
 
-/// The proof.
-fn proof_of(
+/// The parts of what is shown, with empty lists.
+fn outline<F, EF>(alloc: Global, shown: &Shown) -> Parts<F, EF> {
+    Parts {
+        air: Air {
+            layout: shown.layout,
+            nodes: Vec::new(alloc),
+            constraints: Vec::new(alloc),
+        },
+        public_values: Vec::new(alloc),
+        periodic: Vec::new(alloc),
+        preprocessed: shown.preprocessed,
+        proof: Proof {
+            commitments: Commitments {
+                trace: shown.trace,
+                quotient_chunks: shown.quotient,
+                random: shown.random,
+            },
+            opened_values: no_values(alloc),
+            opening_proof: Belief {
+                claims: shown.claims,
+            },
+            log_height: shown.log_height,
+        },
+    }
+}
+
+/// Fills the statement's lists.
+fn fill_statement<F: Field, EF>(
+    alloc: Global,
+    parts: &mut Parts<F, EF>,
+    shown: &Shown,
+) -> Result<(), AllocError> {
+    push_nodes(&mut parts.air.nodes, shown.nodes)?;
+    parts.air.constraints.extend_from_slice(shown.constraints)?;
+    push_elements(&mut parts.public_values, shown.public_values)?;
+    push_columns(alloc, &mut parts.periodic, shown.periodic)
+}
+
+/// Fills the lists of opened values.
+fn fill_values<F: Field, EF: ExtensionField<F>>(
+    alloc: Global,
+    values: &mut OpenedValues<EF>,
+    shown: &Shown,
+) -> Result<(), AllocError> {
+    push_extensions::<F, EF>(&mut values.trace_local, shown.trace_local)?;
+    push_extensions::<F, EF>(&mut values.trace_next, shown.trace_next)?;
+    push_extensions::<F, EF>(&mut values.preprocessed_local, shown.preprocessed_local)?;
+    push_extensions::<F, EF>(&mut values.preprocessed_next, shown.preprocessed_next)?;
+    push_extension_lists::<F, EF>(alloc, &mut values.quotient_chunks, shown.quotient_chunks)?;
+    push_extensions::<F, EF>(&mut values.random, shown.random_values)
+}
+
+/// The parts of what is shown, over any field.
+fn parts_over<F: Field, EF: ExtensionField<F>>(
     alloc: Global,
     shown: &Shown,
-) -> Result<Proof<BabyBear4, [u8; 32], Belief>, AllocError> {
-    Ok(Proof {
-        commitments: Commitments {
-            trace: shown.trace,
-            quotient_chunks: shown.quotient,
-            random: shown.random,
-        },
-        opened_values: values_of(alloc, shown)?,
-        opening_proof: Belief {
-            claims: shown.claims,
-        },
-        log_height: shown.log_height,
-    })
+) -> Result<Parts<F, EF>, AllocError> {
+    let mut parts = outline(alloc, shown);
+    fill_statement(alloc, &mut parts, shown)?;
+    fill_values::<F, EF>(alloc, &mut parts.proof.opened_values, shown)?;
+    Ok(parts)
 }
 
-/// A proof, and the parts of its statement.
-#[derive(Drop)]
-pub(crate) struct Parts {
-    pub(crate) air: Air<BabyBear>,
-    pub(crate) public_values: Vec<BabyBear>,
-    pub(crate) periodic: Vec<Vec<BabyBear>>,
-    pub(crate) preprocessed: Option<PreprocessedVerifierKey<[u8; 32]>>,
-    pub(crate) proof: Proof<BabyBear4, [u8; 32], Belief>,
-}
-
-/// The parts of what is shown.
-pub(crate) fn parts_of(alloc: Global, shown: &Shown) -> Result<Parts, AllocError> {
-    Ok(Parts {
-        air: air_of(alloc, shown)?,
-        public_values: elements(alloc, shown.public_values)?,
-        periodic: columns(alloc, shown.periodic)?,
-        preprocessed: shown.preprocessed,
-        proof: proof_of(alloc, shown)?,
-    })
+/// The same over BabyBear.
+pub(crate) fn parts_of(
+    alloc: Global,
+    shown: &Shown,
+) -> Result<Parts<BabyBear, BabyBear4>, AllocError> {
+    parts_over::<BabyBear, BabyBear4>(alloc, shown)
 }

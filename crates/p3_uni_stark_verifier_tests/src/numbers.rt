@@ -1,56 +1,65 @@
-//! Elements from numbers.
+//! Elements from numbers, of any field.
 
-use p3_field::{BabyBear, BabyBear4, ExtensionField, Field};
+use p3_field::{ExtensionField, Field};
 use std::alloc::{AllocError, Global};
 
-/// The element of the extension with these coefficients.
-pub(crate) fn extension([constant, linear, quadratic, cubic]: [u64; 4]) -> BabyBear4 {
-    BabyBear4::from_coefficients(&[
-        BabyBear::from_u64(constant),
-        BabyBear::from_u64(linear),
-        BabyBear::from_u64(quadratic),
-        BabyBear::from_u64(cubic),
-    ])
+/// The element of the extension with these coefficients, of which it has at most four.
+pub(crate) fn extension<F: Field, EF: ExtensionField<F>>(coefficients: [u64; 4]) -> EF {
+    let mut element = EF::ZERO;
+    for index in 0..4 {
+        if index < EF::DIMENSION {
+            element = element.with_coefficient(index, F::from_u64(coefficients[index]));
+        }
+    }
+    element
 }
 
-/// The elements of these numbers.
-pub(crate) fn elements(alloc: Global, numbers: &[u64]) -> Result<Vec<BabyBear>, AllocError> {
-    let mut elements = Vec::new(alloc);
+/// Appends the elements of these numbers.
+pub(crate) fn push_elements<F: Field>(
+    elements: &mut Vec<F>,
+    numbers: &[u64],
+) -> Result<(), AllocError> {
     for number in numbers {
-        elements.push(BabyBear::from_u64(*number))?;
+        elements.push(F::from_u64(*number))?;
     }
-    Ok(elements)
+    Ok(())
 }
 
-/// Columns of the elements of these numbers.
-pub(crate) fn columns(alloc: Global, each: &[&[u64]]) -> Result<Vec<Vec<BabyBear>>, AllocError> {
-    let mut columns = Vec::new(alloc);
-    for numbers in each {
-        columns.push(elements(alloc, *numbers)?)?;
-    }
-    Ok(columns)
-}
-
-/// The elements of the extension of these coefficients.
-pub(crate) fn extensions(
+/// Appends columns of the elements of these numbers.
+pub(crate) fn push_columns<F: Field>(
     alloc: Global,
+    columns: &mut Vec<Vec<F>>,
+    each: &[&[u64]],
+) -> Result<(), AllocError> {
+    for numbers in each {
+        let mut column = Vec::new(alloc);
+        push_elements(&mut column, *numbers)?;
+        columns.push(column)?;
+    }
+    Ok(())
+}
+
+/// Appends the elements of the extension of these coefficients.
+pub(crate) fn push_extensions<F: Field, EF: ExtensionField<F>>(
+    elements: &mut Vec<EF>,
     numbers: &[[u64; 4]],
-) -> Result<Vec<BabyBear4>, AllocError> {
-    let mut elements = Vec::new(alloc);
+) -> Result<(), AllocError> {
     for coefficients in numbers {
-        elements.push(extension(*coefficients))?;
+        elements.push(extension::<F, EF>(*coefficients))?;
     }
-    Ok(elements)
+    Ok(())
 }
 
-/// The same of several lists.
-pub(crate) fn extension_lists(
+/// Appends lists of them.
+pub(crate) fn push_extension_lists<F: Field, EF: ExtensionField<F>>(
     alloc: Global,
+    lists: &mut Vec<Vec<EF>>,
     each: &[&[[u64; 4]]],
-) -> Result<Vec<Vec<BabyBear4>>, AllocError> {
-    let mut lists = Vec::new(alloc);
+) -> Result<(), AllocError> {
     for numbers in each {
-        lists.push(extensions(alloc, *numbers)?)?;
+        let mut list = Vec::new(alloc);
+        push_extensions::<F, EF>(&mut list, *numbers)?;
+        lists.push(list)?;
     }
-    Ok(lists)
+    Ok(())
 }

@@ -4,9 +4,11 @@
 use p3_air::{AirLayout, Constraint, Node, Rows};
 use p3_uni_stark_verifier::PreprocessedVerifierKey;
 
-/// A statement and a proof in numbers, and how many claims its opening is believed of.
+/// A statement and a proof in numbers, whether they are of a scheme that hides, and how many claims
+/// its opening is believed of.
 #[derive(Clone, Copy)]
 pub(crate) struct Shown {
+    pub(crate) hides: bool,
     pub(crate) layout: AirLayout,
     pub(crate) nodes: &'static [Node<u64>],
     pub(crate) constraints: &'static [Constraint],
@@ -116,7 +118,8 @@ const CUBES_CONSTRAINTS: [Constraint; 2] = [
 ];
 
 /// Fibonacci numbers, eight rows.
-pub(crate) const FIBONACCI: Shown = Shown {
+const FIBONACCI: Shown = Shown {
+    hides: false,
     layout: FIBONACCI_LAYOUT,
     nodes: &FIBONACCI_NODES,
     constraints: &FIBONACCI_CONSTRAINTS,
@@ -147,8 +150,17 @@ pub(crate) const FIBONACCI: Shown = Shown {
     claims: 2,
 };
 
+/// The values of the first chunk of the cubes' quotient.
+pub(crate) const FIRST_CHUNK: &[[u64; 4]] = &[
+    [1960851861, 833953499, 430976579, 1408031934],
+    [527301029, 1213501275, 911378975, 1893726070],
+    [1262714499, 379497818, 1933636718, 295135163],
+    [1082273227, 984502204, 1908294098, 1443228750],
+];
+
 /// Cubes with a summand on selected rows and a periodic one, four rows.
-pub(crate) const CUBES: Shown = Shown {
+const CUBES: Shown = Shown {
+    hides: false,
     layout: CUBES_LAYOUT,
     nodes: &CUBES_NODES,
     constraints: &CUBES_CONSTRAINTS,
@@ -167,12 +179,7 @@ pub(crate) const CUBES: Shown = Shown {
     preprocessed_local: &[[1542266689, 1519219512, 730118562, 1077415223]],
     preprocessed_next: &[[470999233, 494046409, 1283147359, 935850698]],
     quotient_chunks: &[
-        &[
-            [1960851861, 833953499, 430976579, 1408031934],
-            [527301029, 1213501275, 911378975, 1893726070],
-            [1262714499, 379497818, 1933636718, 295135163],
-            [1082273227, 984502204, 1908294098, 1443228750],
-        ],
+        FIRST_CHUNK,
         &[
             [1441166047, 1469872129, 1185876633, 709168897],
             [527301029, 1213501275, 911378975, 1893726070],
@@ -186,7 +193,8 @@ pub(crate) const CUBES: Shown = Shown {
 
 /// The same by a scheme that hides: the degrees ask for twice as many chunks, and there are
 /// twice as many again.
-pub(crate) const HIDDEN_CUBES: Shown = Shown {
+const HIDDEN_CUBES: Shown = Shown {
+    hides: true,
     layout: CUBES_LAYOUT,
     nodes: &CUBES_NODES,
     constraints: &CUBES_CONSTRAINTS,
@@ -257,3 +265,20 @@ pub(crate) const HIDDEN_CUBES: Shown = Shown {
     random_values: &[[5, 6, 7, 8]; 4],
     claims: 4,
 };
+
+/// Which of them is shown.
+#[derive(Clone, Copy, Debug)]
+pub(crate) enum Proven {
+    Fibonacci,
+    Cubes,
+    HiddenCubes,
+}
+
+/// What is shown. The tables are named here alone, since each mention of one is proved anew.
+pub(crate) fn shown_of(proven: Proven) -> Shown {
+    match proven {
+        Proven::Fibonacci => FIBONACCI,
+        Proven::Cubes => CUBES,
+        Proven::HiddenCubes => HIDDEN_CUBES,
+    }
+}

@@ -1,10 +1,10 @@
 //! Both challenges and the state after them, against values by a program apart.
 
-use crate::made::air_of;
-use crate::numbers::{columns, elements, extension};
-use crate::shown::{CUBES, FIBONACCI, HIDDEN_CUBES, Shown};
-use p3_challenger::{FieldChallenger, Sha256Challenger};
-use p3_field::{BabyBear, BabyBear4};
+use crate::made::{Parts, parts_of};
+use crate::numbers::extension;
+use crate::shown::{Proven, shown_of};
+use p3_challenger::{CanObserve, FieldChallenger, Sha256Challenger};
+use p3_field::{ExtensionField, PrimeField64};
 use p3_uni_stark_transcript::{StarkCommitments, StarkInstance, replay_stark};
 use std::alloc::{AllocError, Global};
 use std::test::Fail;
@@ -38,48 +38,63 @@ const OF_HIDDEN_CUBES: Drawn = Drawn {
     next: [1814151340, 1079498010, 1726296485, 1965930360],
 };
 
-/// Both challenges of what is shown, and the element that is drawn after them.
-fn draw(alloc: Global, shown: &Shown) -> Result<(BabyBear4, BabyBear4, BabyBear4), AllocError> {
-    let air = air_of(alloc, shown)?;
-    let public_values = elements(alloc, shown.public_values)?;
-    let periodic = columns(alloc, shown.periodic)?;
+/// Whether these are drawn of the parts' statement and commitments.
+fn are_drawn<F: PrimeField64, EF: ExtensionField<F>, C: FieldChallenger<F> + CanObserve<[u8; 32]>>(
+    alloc: Global,
+    challenger: &mut C,
+    parts: &Parts<F, EF>,
+    drawn: &Drawn,
+) -> Result<bool, AllocError> {
     let instance = StarkInstance {
-        air: &air,
-        public_values: &public_values,
-        periodic: &periodic,
-        log_height: shown.log_height,
+        air: &parts.air,
+        public_values: &parts.public_values,
+        periodic: &parts.periodic,
+        log_height: parts.proof.log_height,
     };
     let commitments = StarkCommitments {
-        preprocessed: shown.preprocessed.map(|key| key.commitment),
-        trace: shown.trace,
-        quotient: shown.quotient,
-        random: shown.random,
+        preprocessed: match parts.preprocessed {
+            Some(key) => Some(key.commitment),
+            None => None,
+        },
+        trace: parts.proof.commitments.trace,
+        quotient: parts.proof.commitments.quotient_chunks,
+        random: parts.proof.commitments.random,
     };
-    let mut challenger = Sha256Challenger::new();
-    let drawn = replay_stark::<BabyBear, BabyBear4, [u8; 32], Sha256Challenger>(
-        alloc,
-        &mut challenger,
-        &instance,
-        commitments,
-    )?;
-    let next = challenger.sample_algebra_element::<BabyBear4>();
-    Ok((drawn.alpha, drawn.zeta, next))
+    let found = replay_stark::<F, EF, [u8; 32], C>(alloc, challenger, &instance, commitments)?;
+    let next = challenger.sample_algebra_element::<EF>();
+    Ok(
+        found.alpha == extension::<F, EF>(drawn.alpha)
+            && found.zeta == extension::<F, EF>(drawn.zeta)
+            && next == extension::<F, EF>(drawn.next),
+    )
 }
 
-/// Whether these are drawn of what is shown.
-fn is_drawn(alloc: Global, shown: &Shown, drawn: &Drawn) -> Result<bool, AllocError> {
-    let (alpha, zeta, next) = draw(alloc, shown)?;
-    Ok(
-        alpha == extension(drawn.alpha)
-            && zeta == extension(drawn.zeta)
-            && next == extension(drawn.next),
-    )
+/// Whether these are drawn of what is shown, over BabyBear and by SHA-256.
+fn is_drawn(alloc: Global, proven: Proven, drawn: &Drawn) -> Result<bool, AllocError> {
+    let parts = parts_of(alloc, &shown_of(proven))?;
+    are_drawn(alloc, &mut Sha256Challenger::new(), &parts, drawn)
+}
+
+/// What is shown, and what is drawn of it.
+const CASES: [(Proven, Drawn); 3] = [
+    (Proven::Fibonacci, OF_FIBONACCI),
+    (Proven::Cubes, OF_CUBES),
+    (Proven::HiddenCubes, OF_HIDDEN_CUBES),
+];
+
+/// The first of these of which something else is drawn.
+fn first_wrong(alloc: Global) -> Result<Option<Proven>, AllocError> {
+    for (proven, drawn) in &CASES {
+        if !is_drawn(alloc, *proven, drawn)? {
+            return Ok(Some(*proven));
+        }
+    }
+    Ok(None)
 }
 
 #[test]
 fn challenges_are_drawn(rt: HostRuntime) -> Result<(), Fail> {
-    assert!(rt; is_drawn(rt.alloc(), &FIBONACCI, &OF_FIBONACCI)?);
-    assert!(rt; is_drawn(rt.alloc(), &CUBES, &OF_CUBES)?);
-    assert!(rt; is_drawn(rt.alloc(), &HIDDEN_CUBES, &OF_HIDDEN_CUBES)?);
+    let wrong = first_wrong(rt.alloc())?;
+    assert!(rt; wrong.is_none(), "{wrong:?}");
     Ok(())
 }

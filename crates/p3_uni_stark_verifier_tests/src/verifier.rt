@@ -1,15 +1,14 @@
 //! Proofs that are accepted, and such that are refused by name.
 
-use crate::belief::{Belief, Disbelief};
+use crate::belief::Disbelief;
 use crate::believing::Believing;
-use crate::made::{Parts, nodes_of, parts_of};
-use crate::numbers::{columns, elements, extensions};
-use crate::shown::{CUBES, FIBONACCI, HIDDEN_CUBES, Shown};
+use crate::made::{Parts, parts_of};
+use crate::shown::{FIRST_CHUNK, Proven, Shown, shown_of};
 use p3_air::Node;
 use p3_challenger::Sha256Challenger;
 use p3_dft::Radix2Dit;
 use p3_field::{BabyBear, BabyBear4};
-use p3_uni_stark_verifier::{PreprocessedVerifierKey, Proof, Statement, VerificationError, verify};
+use p3_uni_stark_verifier::{PreprocessedVerifierKey, Statement, VerificationError, verify};
 use std::alloc::{AllocError, Global};
 use std::marker::PhantomData;
 use std::test::Fail;
@@ -33,7 +32,7 @@ enum Verdict {
 }
 
 /// What an answer says.
-fn verdict_of(answer: Result<(), VerificationError<Disbelief>>) -> Verdict {
+fn verdict_of(answer: &Result<(), VerificationError<Disbelief>>) -> Verdict {
     match answer {
         Ok(()) => Verdict::Accepted,
         Err(VerificationError::InvalidAir(_)) => Verdict::InvalidAir,
@@ -52,7 +51,7 @@ fn verdict_of(answer: Result<(), VerificationError<Disbelief>>) -> Verdict {
 }
 
 /// What the verifier says, by a scheme that hides or doesn't.
-fn judge<const HIDES: bool>(alloc: Global, parts: &Parts) -> Verdict {
+fn judge_by<const HIDES: bool>(alloc: Global, parts: &Parts<BabyBear, BabyBear4>) -> Verdict {
     let statement = Statement {
         air: &parts.air,
         preprocessed: parts.preprocessed,
@@ -72,29 +71,52 @@ fn judge<const HIDES: bool>(alloc: Global, parts: &Parts) -> Verdict {
         Radix2Dit<BabyBear>,
         Believing<BabyBear, Radix2Dit<BabyBear>, HIDES>,
     >(&scheme, alloc, &statement, &parts.proof, &mut challenger);
-    verdict_of(answer)
+    verdict_of(&answer)
 }
 
-/// The same of what is shown.
-fn judge_shown<const HIDES: bool>(alloc: Global, shown: &Shown) -> Result<Verdict, AllocError> {
+/// The same, where this says whether the scheme hides.
+fn judge(alloc: Global, parts: &Parts<BabyBear, BabyBear4>, hides: bool) -> Verdict {
+    if hides {
+        judge_by::<true>(alloc, parts)
+    } else {
+        judge_by::<false>(alloc, parts)
+    }
+}
+
+/// Whether the verifier says this of what is shown.
+fn is_judged(alloc: Global, shown: &Shown, verdict: Verdict) -> Result<bool, AllocError> {
     let parts = parts_of(alloc, shown)?;
-    Ok(judge::<HIDES>(alloc, &parts))
+    Ok(judge(alloc, &parts, shown.hides) == verdict)
+}
+
+/// The first of these proofs that is refused.
+fn first_refused(alloc: Global) -> Result<Option<Proven>, AllocError> {
+    for proven in [Proven::Fibonacci, Proven::Cubes, Proven::HiddenCubes] {
+        if !is_judged(alloc, &shown_of(proven), Verdict::Accepted)? {
+            return Ok(Some(proven));
+        }
+    }
+    Ok(None)
 }
 
 #[test]
 fn honest_proofs_are_accepted(rt: HostRuntime) -> Result<(), Fail> {
-    let of_fibonacci = judge_shown::<false>(rt.alloc(), &FIBONACCI)?;
-    assert!(rt; of_fibonacci == Verdict::Accepted);
-    let of_cubes = judge_shown::<false>(rt.alloc(), &CUBES)?;
-    assert!(rt; of_cubes == Verdict::Accepted);
-    let of_hidden_cubes = judge_shown::<true>(rt.alloc(), &HIDDEN_CUBES)?;
-    assert!(rt; of_hidden_cubes == Verdict::Accepted);
+    let refused = first_refused(rt.alloc())?;
+    assert!(rt; refused.is_none(), "{refused:?}");
     Ok(())
 }
 
-/// What is changed of a statement.
+/// A key.
+fn key(commitment: [u8; 32], log_height: usize) -> Option<PreprocessedVerifierKey<[u8; 32]>> {
+    Some(PreprocessedVerifierKey {
+        commitment,
+        log_height,
+    })
+}
+
+/// What is changed of the cubes' statement, or of their proof.
 #[derive(Clone, Copy)]
-enum StatementChange {
+enum Change {
     NodeOfItself,
     OnePublicValue,
     OtherPublicValue,
@@ -104,89 +126,6 @@ enum StatementChange {
     NoKey,
     KeyOfOtherHeight,
     OtherKey,
-}
-
-/// Changes a statement of cubes.
-fn change_statement(
-    alloc: Global,
-    change: StatementChange,
-    parts: &mut Parts,
-) -> Result<(), AllocError> {
-    match change {
-        StatementChange::NodeOfItself => parts.air.nodes = nodes_of(alloc, &[Node::Neg(0)])?,
-        StatementChange::OnePublicValue => parts.public_values = elements(alloc, &[2])?,
-        StatementChange::OtherPublicValue => parts.public_values = elements(alloc, &[2, 8])?,
-        StatementChange::NoPeriodicColumn => parts.periodic = columns(alloc, &[])?,
-        StatementChange::PeriodOfThree => parts.periodic = columns(alloc, &[&[3, 5, 3]])?,
-        StatementChange::OtherPeriodicColumn => parts.periodic = columns(alloc, &[&[3, 6]])?,
-        StatementChange::NoKey => parts.preprocessed = None,
-        StatementChange::KeyOfOtherHeight => parts.preprocessed = Some(key([3; 32], 3)),
-        StatementChange::OtherKey => parts.preprocessed = Some(key([5; 32], 2)),
-    }
-    Ok(())
-}
-
-/// A key.
-fn key(commitment: [u8; 32], log_height: usize) -> PreprocessedVerifierKey<[u8; 32]> {
-    PreprocessedVerifierKey {
-        commitment,
-        log_height,
-    }
-}
-
-/// What the verifier says of each.
-const STATEMENT_CHANGES: [(StatementChange, Verdict); 9] = [
-    (StatementChange::NodeOfItself, Verdict::InvalidAir),
-    (
-        StatementChange::OnePublicValue,
-        Verdict::InvalidPublicValues,
-    ),
-    (
-        StatementChange::OtherPublicValue,
-        Verdict::OodEvaluationMismatch,
-    ),
-    (
-        StatementChange::NoPeriodicColumn,
-        Verdict::InvalidPeriodicCount,
-    ),
-    (
-        StatementChange::PeriodOfThree,
-        Verdict::InvalidPeriodicColumns,
-    ),
-    (
-        StatementChange::OtherPeriodicColumn,
-        Verdict::OodEvaluationMismatch,
-    ),
-    (StatementChange::NoKey, Verdict::InvalidPreprocessed),
-    (
-        StatementChange::KeyOfOtherHeight,
-        Verdict::InvalidProofShape,
-    ),
-    (StatementChange::OtherKey, Verdict::OodEvaluationMismatch),
-];
-
-/// Whether the verifier says this of cubes with a changed statement.
-fn is_statement_judged(
-    alloc: Global,
-    change: StatementChange,
-    verdict: Verdict,
-) -> Result<bool, AllocError> {
-    let mut parts = parts_of(alloc, &CUBES)?;
-    change_statement(alloc, change, &mut parts)?;
-    Ok(judge::<false>(alloc, &parts) == verdict)
-}
-
-#[test]
-fn changed_statements_are_refused_by_name(rt: HostRuntime) -> Result<(), Fail> {
-    for (change, verdict) in &STATEMENT_CHANGES {
-        assert!(rt; is_statement_judged(rt.alloc(), *change, *verdict)?);
-    }
-    Ok(())
-}
-
-/// What is changed of a proof.
-#[derive(Clone, Copy)]
-enum ProofChange {
     HeightPastTwoAdicity,
     ChunkTooFew,
     RandomValue,
@@ -196,66 +135,144 @@ enum ProofChange {
     OtherNextRow,
 }
 
-/// Changes a proof.
-fn change_proof(
-    alloc: Global,
-    change: ProofChange,
-    proof: &mut Proof<BabyBear4, [u8; 32], Belief>,
-) -> Result<(), AllocError> {
-    let other = extensions(alloc, &[[1, 2, 3, 4]])?;
+/// Makes the change.
+fn change_shown(shown: &mut Shown, change: Change) {
     match change {
-        ProofChange::HeightPastTwoAdicity => proof.log_height = 28,
-        ProofChange::ChunkTooFew => proof.opened_values.quotient_chunks.truncate(1),
-        ProofChange::RandomValue => proof.opened_values.random = other,
-        ProofChange::RandomPolynomials => proof.commitments.random = Some([4; 32]),
-        ProofChange::OtherNumberOfClaims => proof.opening_proof.claims = 4,
-        ProofChange::OtherTrace => proof.commitments.trace = [5; 32],
-        ProofChange::OtherNextRow => proof.opened_values.trace_next = other,
+        Change::NodeOfItself => shown.nodes = &[Node::Neg(0)],
+        Change::OnePublicValue => shown.public_values = &[2],
+        Change::OtherPublicValue => shown.public_values = &[2, 8],
+        Change::NoPeriodicColumn => shown.periodic = &[],
+        Change::PeriodOfThree => shown.periodic = &[&[3, 5, 3]],
+        Change::OtherPeriodicColumn => shown.periodic = &[&[3, 6]],
+        Change::NoKey => shown.preprocessed = None,
+        Change::KeyOfOtherHeight => shown.preprocessed = key([3; 32], 3),
+        Change::OtherKey => shown.preprocessed = key([5; 32], 2),
+        Change::HeightPastTwoAdicity => shown.log_height = 28,
+        Change::ChunkTooFew => shown.quotient_chunks = &[FIRST_CHUNK],
+        Change::RandomValue => shown.random_values = &[[1, 2, 3, 4]],
+        Change::RandomPolynomials => shown.random = Some([4; 32]),
+        Change::OtherNumberOfClaims => shown.claims = 4,
+        Change::OtherTrace => shown.trace = [5; 32],
+        Change::OtherNextRow => shown.trace_next = &[[1, 2, 3, 4]],
     }
+}
+
+/// A change, its name, and what the verifier says of the cubes with it.
+type Case = (&'static str, Change, Verdict);
+
+/// The first change of which the verifier says something else.
+fn first_misjudged(alloc: Global, cases: &[Case]) -> Result<Option<&'static str>, AllocError> {
+    for (name, change, verdict) in cases {
+        let mut shown = shown_of(Proven::Cubes);
+        change_shown(&mut shown, *change);
+        if !is_judged(alloc, &shown, *verdict)? {
+            return Ok(Some(*name));
+        }
+    }
+    Ok(None)
+}
+
+const STATEMENTS: [Case; 9] = [
+    (
+        "a node of itself",
+        Change::NodeOfItself,
+        Verdict::InvalidAir,
+    ),
+    (
+        "one public value",
+        Change::OnePublicValue,
+        Verdict::InvalidPublicValues,
+    ),
+    (
+        "another public value",
+        Change::OtherPublicValue,
+        Verdict::OodEvaluationMismatch,
+    ),
+    (
+        "no periodic column",
+        Change::NoPeriodicColumn,
+        Verdict::InvalidPeriodicCount,
+    ),
+    (
+        "a period of three",
+        Change::PeriodOfThree,
+        Verdict::InvalidPeriodicColumns,
+    ),
+    (
+        "another periodic column",
+        Change::OtherPeriodicColumn,
+        Verdict::OodEvaluationMismatch,
+    ),
+    ("no key", Change::NoKey, Verdict::InvalidPreprocessed),
+    (
+        "a key of another height",
+        Change::KeyOfOtherHeight,
+        Verdict::InvalidProofShape,
+    ),
+    (
+        "another key",
+        Change::OtherKey,
+        Verdict::OodEvaluationMismatch,
+    ),
+];
+
+#[test]
+fn changed_statements_are_refused_by_name(rt: HostRuntime) -> Result<(), Fail> {
+    let misjudged = first_misjudged(rt.alloc(), &STATEMENTS)?;
+    assert!(rt; misjudged.is_none(), "{misjudged:?}");
     Ok(())
 }
 
-/// What the verifier says of each.
-const PROOF_CHANGES: [(ProofChange, Verdict); 7] = [
+const PROOFS: [Case; 7] = [
     (
-        ProofChange::HeightPastTwoAdicity,
+        "a height past the two-adicity",
+        Change::HeightPastTwoAdicity,
         Verdict::InvalidProofShape,
     ),
-    (ProofChange::ChunkTooFew, Verdict::InvalidProofShape),
-    (ProofChange::RandomValue, Verdict::InvalidProofShape),
-    (ProofChange::RandomPolynomials, Verdict::RandomizationError),
     (
-        ProofChange::OtherNumberOfClaims,
+        "a chunk too few",
+        Change::ChunkTooFew,
+        Verdict::InvalidProofShape,
+    ),
+    (
+        "a random value",
+        Change::RandomValue,
+        Verdict::InvalidProofShape,
+    ),
+    (
+        "random polynomials",
+        Change::RandomPolynomials,
+        Verdict::RandomizationError,
+    ),
+    (
+        "another number of claims",
+        Change::OtherNumberOfClaims,
         Verdict::InvalidOpeningArgument,
     ),
-    (ProofChange::OtherTrace, Verdict::OodEvaluationMismatch),
-    (ProofChange::OtherNextRow, Verdict::OodEvaluationMismatch),
+    (
+        "another trace",
+        Change::OtherTrace,
+        Verdict::OodEvaluationMismatch,
+    ),
+    (
+        "another next row",
+        Change::OtherNextRow,
+        Verdict::OodEvaluationMismatch,
+    ),
 ];
-
-/// Whether the verifier says this of cubes with a changed proof.
-fn is_proof_judged(
-    alloc: Global,
-    change: ProofChange,
-    verdict: Verdict,
-) -> Result<bool, AllocError> {
-    let mut parts = parts_of(alloc, &CUBES)?;
-    change_proof(alloc, change, &mut parts.proof)?;
-    Ok(judge::<false>(alloc, &parts) == verdict)
-}
 
 #[test]
 fn changed_proofs_are_refused_by_name(rt: HostRuntime) -> Result<(), Fail> {
-    for (change, verdict) in &PROOF_CHANGES {
-        assert!(rt; is_proof_judged(rt.alloc(), *change, *verdict)?);
-    }
+    let misjudged = first_misjudged(rt.alloc(), &PROOFS)?;
+    assert!(rt; misjudged.is_none(), "{misjudged:?}");
     Ok(())
 }
 
 /// Whether a scheme that hides asks for random polynomials.
 fn is_hiding_judged(alloc: Global) -> Result<bool, AllocError> {
-    let mut parts = parts_of(alloc, &HIDDEN_CUBES)?;
-    parts.proof.commitments.random = None;
-    Ok(judge::<true>(alloc, &parts) == Verdict::RandomizationError)
+    let mut shown = shown_of(Proven::HiddenCubes);
+    shown.random = None;
+    is_judged(alloc, &shown, Verdict::RandomizationError)
 }
 
 #[test]
@@ -264,27 +281,41 @@ fn a_scheme_that_hides_asks_for_random_polynomials(rt: HostRuntime) -> Result<()
     Ok(())
 }
 
-/// A column, squared so many times.
-fn squares(alloc: Global, count: usize) -> Result<Vec<Node<BabyBear>>, AllocError> {
-    let mut nodes = Vec::new(alloc);
+/// Appends the nodes of a column that is squared so many times.
+fn push_squares(nodes: &mut Vec<Node<BabyBear>>, count: usize) -> Result<(), AllocError> {
     nodes.push(Node::Local(0))?;
     for square in 0..count {
         nodes.push(Node::Mul(square, square))?;
     }
-    Ok(nodes)
+    Ok(())
 }
 
-/// What the verifier says of Fibonacci numbers with these nodes and no constraints.
-fn judge_squares(alloc: Global, count: usize) -> Result<Verdict, AllocError> {
-    let mut parts = parts_of(alloc, &FIBONACCI)?;
-    parts.air.nodes = squares(alloc, count)?;
-    parts.air.constraints = Vec::new(alloc);
-    Ok(judge::<false>(alloc, &parts))
+/// Whether the verifier says this of Fibonacci numbers with these nodes and no constraints.
+fn are_squares_judged(alloc: Global, count: usize, verdict: Verdict) -> Result<bool, AllocError> {
+    let mut shown = shown_of(Proven::Fibonacci);
+    shown.nodes = &[];
+    shown.constraints = &[];
+    let mut parts = parts_of(alloc, &shown)?;
+    push_squares(&mut parts.air.nodes, count)?;
+    Ok(judge(alloc, &parts, false) == verdict)
+}
+
+/// The first number of squares of which the verifier says something else.
+fn first_misjudged_degree(alloc: Global) -> Result<Option<usize>, AllocError> {
+    for (count, verdict) in [
+        (62, Verdict::OodEvaluationMismatch),
+        (63, Verdict::DegreeTooLarge),
+    ] {
+        if !are_squares_judged(alloc, count, verdict)? {
+            return Ok(Some(count));
+        }
+    }
+    Ok(None)
 }
 
 #[test]
 fn degrees_are_below_two_to_63(rt: HostRuntime) -> Result<(), Fail> {
-    assert!(rt; judge_squares(rt.alloc(), 62)? == Verdict::OodEvaluationMismatch);
-    assert!(rt; judge_squares(rt.alloc(), 63)? == Verdict::DegreeTooLarge);
+    let misjudged = first_misjudged_degree(rt.alloc())?;
+    assert!(rt; misjudged.is_none(), "{misjudged:?}");
     Ok(())
 }
