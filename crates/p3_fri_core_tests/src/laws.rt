@@ -1,5 +1,5 @@
-use crate::pcs_transcript::shape_of as opening_of;
-use crate::transcript::shape_of as test_of;
+use crate::pcs_transcript::shapes::shape_of as opening_of;
+use crate::run::shape_of as test_of;
 use p3_challenger::Sha256Challenger;
 use p3_field::{BabyBear, BabyBear4, Field};
 use p3_fri_core::laws::{

@@ -11,6 +11,8 @@ mod laws;
 #[cfg(test)]
 mod pcs_transcript;
 #[cfg(test)]
+mod run;
+#[cfg(test)]
 mod shapes;
 #[cfg(test)]
 mod texts;

@@ -1,6 +1,6 @@
 //! Streams of shapes, one of them byte for byte by the format, and the shapes of parameters.
 
-use crate::transcript::shape_of;
+use crate::run::shape_of;
 use p3_field::{BabyBear, BabyBear4};
 use p3_fri_core::FriParameters;
 use p3_fri_core::transcript::FriShape;

@@ -3,7 +3,7 @@ use Rattle.p3_challenger.specs.Script.{remaining}
 use Rattle.p3_fri_transcript.specs.Shapes.{fri_shape}
 use Rattle.p3_fri_transcript.specs.Turns.{RoundsLeft}
 use Rattle.p3_fri_transcript.proofs.TurnLists.{other_rounds_left}
-use Rattle.p3_fri_core_tests.proofs.transcript.proves_in_steps.Goals as goal
+use Rattle.p3_fri_core_tests.proofs.transcript.prover.proves_in_steps.Goals as goal
 
 pub commit_round-requires-clause-some_round_left : goal.commit_round-requires-clause-some_round_left
 commit_round-requires-clause-some_round_left g c =

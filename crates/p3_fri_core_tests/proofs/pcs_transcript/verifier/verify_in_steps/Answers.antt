@@ -1,6 +1,6 @@
 use Rattle.std.proofs.Common.{sym, ap, ◌∙◌}
 use Rattle.p3_fri_pcs_transcript.specs.Steps.{PcsNumbers}
-use Rattle.p3_fri_core_tests.proofs.pcs_transcript.verify_in_steps.Goals as goal
+use Rattle.p3_fri_core_tests.proofs.pcs_transcript.verifier.verify_in_steps.Goals as goal
 
 pub batch_phase-requires-clause-all_claims_played : goal.batch_phase-requires-clause-all_claims_played
 batch_phase-requires-clause-all_claims_played g c =

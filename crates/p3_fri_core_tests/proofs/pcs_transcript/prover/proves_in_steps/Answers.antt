@@ -1,7 +1,7 @@
 use Rattle.std.proofs.Common.{◌≡◌, ap, ◌∙◌, arith}
 use Rattle.p3_fri_pcs_transcript.specs.Shapes.{pcs_shape}
 use Rattle.p3_fri_pcs_transcript.specs.Steps.{PcsNumbers}
-use Rattle.p3_fri_core_tests.proofs.pcs_transcript.proves_in_steps.Goals as goal
+use Rattle.p3_fri_core_tests.proofs.pcs_transcript.prover.proves_in_steps.Goals as goal
 
 pub batch_phase-requires-clause-at_most_max : goal.batch_phase-requires-clause-at_most_max
 batch_phase-requires-clause-at_most_max g c =

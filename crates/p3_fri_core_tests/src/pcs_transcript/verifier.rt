@@ -1,0 +1,135 @@
+//! The verifier's side of an opening: its claims alone, step by step and as a whole.
+
+ghost use Rattle.std.specs.Prelude.{◌≤◌};
+
+use crate::pcs_transcript::cases::{Answer, Case, Claim, Counts, Form, PcsRun};
+use crate::pcs_transcript::shapes::{parameters, shape_of};
+use crate::run::{shape_of as test_of, sole, witness_of};
+use p3_challenger::{CanObserve, FieldChallenger, GrindingChallenger};
+use p3_field::{ExtensionField, Field};
+use p3_fri_core::pcs_transcript::{
+    PcsFailure, PcsShape, PcsTranscriptFailure, PcsVerifierTranscript, replay_pcs,
+};
+use p3_fri_core::transcript::{FriMessages, Refusal};
+use std::alloc::Global;
+
+/// A step around the test that is refused.
+fn refused(failure: PcsTranscriptFailure) -> Answer {
+    Err(Refusal::Step(PcsFailure::Pcs(failure)))
+}
+
+/// What the verifier returns for claims where these counts are described.
+fn compare<
+    F: Field,
+    EF: ExtensionField<F>,
+    C: FieldChallenger<F> + GrindingChallenger<Witness = F>,
+>(alloc: Global, challenger: &mut C, described: Counts, claims: &[Claim<EF>]) -> Answer {
+    let Ok(shape) = shape_of(alloc, described) else {
+        return Err(Refusal::Seed);
+    };
+    let Ok(mut transcript) = PcsVerifierTranscript::<C, F, EF>::new(alloc, challenger, shape) else {
+        return Err(Refusal::Seed);
+    };
+    let answer = transcript.claimed_openings(claims);
+    transcript.abort();
+    match answer {
+        Ok(()) => Ok(false),
+        Err(failure) => refused(failure),
+    }
+}
+
+/// The verifier's steps, with nothing inside the bracket.
+fn verify_in_steps<
+    F: Field,
+    EF: ExtensionField<F>,
+    C: FieldChallenger<F> + GrindingChallenger<Witness = F>,
+>(
+    alloc: Global,
+    challenger: &mut C,
+    bits: usize,
+    claims: &[Claim<EF>],
+    witness: Option<F>,
+    run: &PcsRun<F, EF>,
+) -> Answer
+    requires { bits ≤ C.MAX_SAMPLE_BITS }
+{
+    let Ok(shape) = PcsShape::from_claims(alloc, &parameters(bits), claims) else {
+        return Err(Refusal::Seed);
+    };
+    let Ok(mut transcript) = PcsVerifierTranscript::<C, F, EF>::new(alloc, challenger, shape) else {
+        return Err(Refusal::Seed);
+    };
+    match transcript.claimed_openings(claims) {
+        Ok(()) => {}
+        Err(failure) => {
+            transcript.abort();
+            return refused(failure);
+        }
+    }
+    match transcript.batch_phase(witness) {
+        Ok(alpha) => {
+            let _lent = transcript.begin_delegate();
+            transcript.end_delegate();
+            transcript.finish();
+            Ok(alpha == run.alpha)
+        }
+        Err(failure) => {
+            transcript.abort();
+            refused(failure)
+        }
+    }
+}
+
+/// The verifier's whole opening behind four bits, with a test of one round.
+fn verify_as_a_whole<
+    F: Field,
+    EF: ExtensionField<F>,
+    C: FieldChallenger<F> + GrindingChallenger<Witness = F> + CanObserve<[u8; 32]>,
+>(
+    alloc: Global,
+    challenger: &mut C,
+    claims: &[Claim<EF>],
+    batch_witness: Option<F>,
+    sent: FriMessages<'_, F, EF, [u8; 32]>,
+    run: &PcsRun<F, EF>,
+) -> Answer
+    requires { 4 ≤ C.MAX_SAMPLE_BITS }
+{
+    let Ok(shape) = PcsShape::from_claims(alloc, &parameters(4), claims) else {
+        return Err(Refusal::Seed);
+    };
+    let Ok(test) = test_of(alloc, &[3], 2, 3) else {
+        return Err(Refusal::Seed);
+    };
+    match replay_pcs(alloc, challenger, shape, claims, batch_witness, test, sent) {
+        Ok(replayed) => {
+            let beta = sole(&replayed.betas);
+            Ok(replayed.alpha == run.alpha && run.test.draws(beta, &replayed.indices))
+        }
+        Err(refusal) => Err(refusal),
+    }
+}
+
+/// What the verifier returns in this case.
+pub(crate) fn verify<
+    F: Field,
+    EF: ExtensionField<F>,
+    C: FieldChallenger<F> + GrindingChallenger<Witness = F> + CanObserve<[u8; 32]>,
+>(
+    alloc: Global,
+    challenger: &mut C,
+    case: &Case,
+    claims: &[Claim<EF>],
+    sent: FriMessages<'_, F, EF, [u8; 32]>,
+    run: &PcsRun<F, EF>,
+) -> Answer
+    requires { 63 ≤ C.MAX_SAMPLE_BITS }
+{
+    let (bits, witness) = (case.bits.min(63), witness_of(case.batch_witness));
+    match case.form {
+        Form::Claims => return compare::<F, EF, C>(alloc, challenger, case.described, claims),
+        Form::Steps => return verify_in_steps(alloc, challenger, bits, claims, witness, run),
+        Form::Whole => {}
+    }
+    verify_as_a_whole(alloc, challenger, claims, witness, sent, run)
+}

@@ -1,0 +1,104 @@
+//! The verifier's side of a test, step by step and as a whole, and its seed alone.
+
+ghost use Rattle.std.specs.Prelude.{◌≤◌};
+
+use crate::run::{Run, shape_of, sole};
+use crate::transcript::cases::{Answer, Case};
+use p3_challenger::fs::Script;
+use p3_challenger::{CanObserve, FieldChallenger, GrindingChallenger};
+use p3_field::{ExtensionField, Field};
+use p3_fri_core::transcript::{FriMessages, Refusal, VerifierTranscript, replay_fri};
+use std::alloc::{AllocError, Global};
+
+/// The verifier's steps in this case.
+pub(crate) fn verify_in_steps<
+    F: Field,
+    EF: ExtensionField<F>,
+    C: FieldChallenger<F> + GrindingChallenger<Witness = F> + CanObserve<[u8; 32]>,
+>(
+    alloc: Global,
+    challenger: &mut C,
+    case: &Case,
+    sent: FriMessages<'_, F, EF, [u8; 32]>,
+    run: &Run<F, EF>,
+) -> Answer
+    requires commit_bits { case.now.commit_pow_bits ≤ C.MAX_SAMPLE_BITS }
+    requires query_bits { case.now.query_pow_bits ≤ C.MAX_SAMPLE_BITS }
+    requires index_bits { 3 ≤ C.MAX_SAMPLE_BITS }
+{
+    let Ok(shape) = shape_of(
+        alloc,
+        case.log_arities,
+        case.commit_pow_bits,
+        case.query_pow_bits,
+    ) else {
+        return Err(Refusal::Seed);
+    };
+    let Ok(mut transcript) = VerifierTranscript::<C, F, EF>::new(alloc, challenger, shape) else {
+        return Err(Refusal::Seed);
+    };
+    let beta = match transcript.commit_rounds(alloc, sent.commitments, sent.commit_witnesses) {
+        Ok(betas) => sole(&betas),
+        Err(failure) => {
+            transcript.abort();
+            return Err(Refusal::Step(failure));
+        }
+    };
+    match transcript.query_phase(alloc, sent.final_poly, sent.query_witness) {
+        Ok(indices) => {
+            transcript.finish();
+            Ok(run.draws(beta, &indices))
+        }
+        Err(failure) => {
+            transcript.abort();
+            Err(Refusal::Step(failure))
+        }
+    }
+}
+
+/// The verifier's whole transcript in this case.
+pub(crate) fn verify_as_a_whole<
+    F: Field,
+    EF: ExtensionField<F>,
+    C: FieldChallenger<F> + GrindingChallenger<Witness = F> + CanObserve<[u8; 32]>,
+>(
+    alloc: Global,
+    challenger: &mut C,
+    case: &Case,
+    sent: FriMessages<'_, F, EF, [u8; 32]>,
+    run: &Run<F, EF>,
+) -> Answer
+    requires commit_bits { case.now.commit_pow_bits ≤ C.MAX_SAMPLE_BITS }
+    requires query_bits { case.now.query_pow_bits ≤ C.MAX_SAMPLE_BITS }
+    requires index_bits { 3 ≤ C.MAX_SAMPLE_BITS }
+{
+    let Ok(shape) = shape_of(
+        alloc,
+        case.log_arities,
+        case.commit_pow_bits,
+        case.query_pow_bits,
+    ) else {
+        return Err(Refusal::Seed);
+    };
+    match replay_fri(alloc, challenger, shape, sent) {
+        Ok(replayed) => Ok(run.draws(sole(&replayed.betas), &replayed.indices)),
+        Err(refusal) => Err(refusal),
+    }
+}
+
+/// Leaves the challenger as the seed of the verifier's transcript leaves it.
+pub(crate) fn absorb_seed<F: Field, EF: ExtensionField<F>, C: FieldChallenger<F>>(
+    alloc: Global,
+    challenger: &mut C,
+    case: &Case,
+) -> Result<(), AllocError> {
+    let shape = shape_of(
+        alloc,
+        case.log_arities,
+        case.commit_pow_bits,
+        case.query_pow_bits,
+    )?;
+    let seed = shape.seed::<F, EF>(alloc)?;
+    let _script = Script::start::<F, C>(challenger, seed);
+    Ok(())
+}
