@@ -96,9 +96,8 @@ const ROWS: [(usize, &[&[u64]]); 3] = [
 /// The rows `(0, 1), (2, 3), (4, 5), (6, 7)`.
 fn four_rows(alloc: Global) -> Result<RowMajorMatrix<BabyBear>, AllocError> {
     let mut values = Vec::new(alloc);
-    for number in 0..4u64 {
-        values.push(BabyBear::from_u64(2 * number))?;
-        values.push(BabyBear::from_u64(2 * number + 1))?;
+    for number in 0..8u64 {
+        values.push(BabyBear::from_u64(number))?;
     }
     Ok(RowMajorMatrix::new(values, 2))
 }
@@ -108,7 +107,10 @@ fn first_wrong_rows(alloc: Global) -> Result<Option<usize>, Fail> {
     let whole = domain(31, 2)?;
     let evals = four_rows(alloc)?;
     for (num_chunks, wanted) in &ROWS {
-        if !num_chunks.is_power_of_two() || *num_chunks > 4 || evals.height() != 4 {
+        if !num_chunks.is_power_of_two() || *num_chunks > whole.size() {
+            return Ok(Some(*num_chunks));
+        }
+        if evals.height() != whole.size() {
             return Ok(Some(*num_chunks));
         }
         let mut found = Vec::new(alloc);
