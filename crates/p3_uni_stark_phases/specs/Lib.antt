@@ -1,0 +1,5 @@
+pub mod Chunks
+pub mod Commits
+pub mod Evaluated
+pub mod Refusals
+pub mod Split

@@ -1,0 +1,11 @@
+pub mod Degrees
+pub mod Columns
+pub mod Kept
+pub mod Chunks
+pub mod Recombined
+pub mod Complete
+pub mod Openable
+pub mod Agreed
+pub mod Accepted
+pub mod Fits
+pub mod Finishing

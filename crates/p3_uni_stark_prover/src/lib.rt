@@ -1,0 +1,7 @@
+//! The prover of a STARK over any scheme of polynomials in one variable: where the trace satisfies
+//! the constraints, what it returns is a proof that the verifier accepts.
+#![tactic(auto)]
+
+pub mod prover;
+
+pub use p3_uni_stark_phases::ProvingError;
