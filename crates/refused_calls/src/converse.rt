@@ -47,7 +47,7 @@ fn polynomials(alloc: Global, challenges: &[BabyBear4], count: usize) -> Result<
 }
 
 /// `unfold`.
-pub fn tell_unfold(rt: &HostRuntime, name: Name<'_>) -> Result<()> {
+fn tell_unfold(rt: &HostRuntime, name: Name<'_>) -> Result<()> {
     let challenges = [0, 1, 2, 3].map(BabyBear4::from_u64);
     let polys = polynomials(rt.alloc(), &challenges, 3)?;
     let answer = unfold(rt.alloc(), 2, &challenges, &polys);
@@ -55,7 +55,7 @@ pub fn tell_unfold(rt: &HostRuntime, name: Name<'_>) -> Result<()> {
 }
 
 /// `unfold_with_input`.
-pub fn tell_unfold_with_input(rt: &HostRuntime, name: Name<'_>) -> Result<()> {
+fn tell_unfold_with_input(rt: &HostRuntime, name: Name<'_>) -> Result<()> {
     let challenges = [0, 1, 2, 3, 4].map(BabyBear4::from_u64);
     let polys = polynomials(rt.alloc(), &challenges, 3)?;
     let answer = unfold_with_input(rt.alloc(), 2, &challenges, &polys);
@@ -63,7 +63,7 @@ pub fn tell_unfold_with_input(rt: &HostRuntime, name: Name<'_>) -> Result<()> {
 }
 
 /// `unbatch`.
-pub fn tell_unbatch(rt: &HostRuntime, name: Name<'_>) -> Result<()> {
+fn tell_unbatch(rt: &HostRuntime, name: Name<'_>) -> Result<()> {
     let challenges = [1, 2, 3].map(BabyBear4::from_u64);
     let polys = polynomials(rt.alloc(), &challenges, 4)?;
     let answer = unbatch(rt.alloc(), &challenges, &polys);
@@ -71,7 +71,7 @@ pub fn tell_unbatch(rt: &HostRuntime, name: Name<'_>) -> Result<()> {
 }
 
 /// `unquotient`.
-pub fn tell_unquotient(rt: &HostRuntime, name: Name<'_>) -> Result<()> {
+fn tell_unquotient(rt: &HostRuntime, name: Name<'_>) -> Result<()> {
     let [shift, z, y] = [3, 5, 7].map(BabyBear4::from_u64);
     if shift.is_zero() {
         return Err(Fault::Inputs);
@@ -116,6 +116,18 @@ fn tell_unfolded(rt: &HostRuntime, name: Name<'_>, tree: &Tree) -> Result<()> {
 }
 
 /// `unfold_tree`.
-pub fn tell_unfold_tree(rt: &HostRuntime, name: Name<'_>) -> Result<()> {
+fn tell_unfold_tree(rt: &HostRuntime, name: Name<'_>) -> Result<()> {
     tell_unfolded(rt, name, &tree(rt.alloc())?)
+}
+
+/// Makes the call of this name.
+pub fn make(rt: &HostRuntime, name: Name<'_>) -> Result<()> {
+    match name.1 {
+        "unfold" => tell_unfold(rt, name),
+        "unfold_with_input" => tell_unfold_with_input(rt, name),
+        "unbatch" => tell_unbatch(rt, name),
+        "unquotient" => tell_unquotient(rt, name),
+        "unfold_tree" => tell_unfold_tree(rt, name),
+        _ => Err(Fault::Name),
+    }
 }

@@ -17,7 +17,8 @@ mod transcripts;
 mod tree;
 
 use crate::answer::{Fault, Name, Result};
-use p3_challenger::fs::{Prover, Verifier};
+use p3_field::BabyBear;
+use p3_mmcs::Sha256Mmcs;
 use std::env;
 use std::process::ExitCode;
 
@@ -56,18 +57,10 @@ fn make(rt: &HostRuntime, name: Name<'_>) -> Result<()> {
     match name {
         ("plain", _) => settings::make_plain(rt, name),
         ("hiding", _) => settings::make_hiding(rt, name),
-        ("transcript", "prover") => transcripts::begin::<Prover>(rt, name),
-        ("transcript", "verifier") => transcripts::begin::<Verifier>(rt, name),
-        ("transcript", "pcs_prover") => transcripts::begin_pcs::<Prover>(rt, name),
-        ("transcript", "pcs_verifier") => transcripts::begin_pcs::<Verifier>(rt, name),
-        ("tree", "commit") => tree::tell_commit(rt, name),
-        ("tree", "open_multi_batch") => tree::tell_open_multi_batch(rt, name),
+        ("transcript", _) => transcripts::make(rt, name),
+        ("tree", _) => tree::make(rt, name, &Sha256Mmcs::<BabyBear>::new()),
         ("proof", "from_plain") => forms::tell_from_plain(rt, name),
-        ("converse", "unfold") => converse::tell_unfold(rt, name),
-        ("converse", "unfold_with_input") => converse::tell_unfold_with_input(rt, name),
-        ("converse", "unbatch") => converse::tell_unbatch(rt, name),
-        ("converse", "unquotient") => converse::tell_unquotient(rt, name),
-        ("converse", "unfold_tree") => converse::tell_unfold_tree(rt, name),
+        ("converse", _) => converse::make(rt, name),
         _ => Err(Fault::Name),
     }
 }

@@ -79,6 +79,8 @@ where
         ensures openable { IfOk result (λ pair. (P.rules scheme.new).CanOpen pair.1) }
         ensures extends { IfOk result (λ pair. AllZip (P.rules scheme.new).Extends
             ((P.rules scheme.new).committed_polynomials pair.1) columns.items) }
+        ensures verifier { IfOk result (λ _.
+            (P.rules scheme.old).InVerifierRange → (P.rules scheme.new).InVerifierRange) }
     {
         let domains = domains_of(alloc, &columns)?;
         let Ok((commitment, held)) = scheme.commit(alloc, columns) else {
@@ -89,6 +91,21 @@ where
             domains,
         };
         Ok((known, held))
+    }
+
+    /// The data of a commitment to the columns, whose first matrix can be evaluated on any domain.
+    fn readable(
+        alloc: Global,
+        scheme: &mut P,
+        columns: Columns<P::Domain, P::Val>,
+    ) -> Result<P::ProverData>
+        requires columns { (P.rules scheme.old).CanCommit columns.items }
+        requires some { 0 < length columns.items }
+        ensures readable { IfOk result (λ held.
+            (domain : P.Domain) → (P.stark_rules scheme.new).CanEvaluate held 0 domain) }
+    {
+        let (_, held) = Self::committed(alloc, scheme, columns)?;
+        Ok(held)
     }
 
     /// The data opened at these points of its matrices, with the claims, or why it isn't.
@@ -204,7 +221,7 @@ where
         requires some { 0 < length columns.items }
     {
         let alloc = rt.alloc();
-        let (_, held) = Self::committed(alloc, scheme, columns)?;
+        let held = Self::readable(alloc, scheme, columns)?;
         let answer = scheme.get_evaluations_on_domain(alloc, &held, 0, domain);
         tell(rt, name, &answer, ["", ""])
     }

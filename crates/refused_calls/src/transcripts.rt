@@ -1,8 +1,9 @@
 //! The beginnings of transcripts.
 
-use crate::answer::{Name, Result, drawn, kept, tell};
+use crate::answer::{Fault, Name, Result, drawn, kept, tell};
 use crate::matrices::{one_of, two_of};
 use p3_challenger::Sha256Challenger;
+use p3_challenger::fs::{Prover, Verifier};
 use p3_field::{BabyBear, BabyBear4};
 use p3_fri_pcs_transcript::pcs_transcript::{PcsShape, PcsTranscript};
 use p3_fri_transcript::transcript::{FriShape, FriTranscript};
@@ -48,7 +49,7 @@ fn tell_begun(
 }
 
 /// Begins a side's transcript of the low-degree test.
-pub fn begin<Side>(rt: &HostRuntime, name: Name<'_>) -> Result<()> {
+fn begin<Side>(rt: &HostRuntime, name: Name<'_>) -> Result<()> {
     let (shape, mut challenger) = (shape(rt.alloc())?, Sha256Challenger::new());
     let begun = match Transcript::<'_, Side>::new(rt.alloc(), &mut challenger, shape) {
         Ok(transcript) => Ok(transcript.abort()),
@@ -58,11 +59,22 @@ pub fn begin<Side>(rt: &HostRuntime, name: Name<'_>) -> Result<()> {
 }
 
 /// Begins a side's transcript of an opening.
-pub fn begin_pcs<Side>(rt: &HostRuntime, name: Name<'_>) -> Result<()> {
+fn begin_pcs<Side>(rt: &HostRuntime, name: Name<'_>) -> Result<()> {
     let (shape, mut challenger) = (pcs_shape(rt.alloc())?, Sha256Challenger::new());
     let begun = match OpeningTranscript::<'_, Side>::new(rt.alloc(), &mut challenger, shape) {
         Ok(transcript) => Ok(transcript.abort()),
         Err(refusal) => Err(refusal),
     };
     tell_begun(rt, name, begun, challenger)
+}
+
+/// Makes the call of this name.
+pub fn make(rt: &HostRuntime, name: Name<'_>) -> Result<()> {
+    match name.1 {
+        "prover" => begin::<Prover>(rt, name),
+        "verifier" => begin::<Verifier>(rt, name),
+        "pcs_prover" => begin_pcs::<Prover>(rt, name),
+        "pcs_verifier" => begin_pcs::<Verifier>(rt, name),
+        _ => Err(Fault::Name),
+    }
 }

@@ -1,36 +1,56 @@
-//! Calls of the tree over SHA-256.
+//! Calls of any tree.
 
 use crate::answer::{Fault, Name, Result, tell};
 use crate::matrices::{matrix, two_of};
 use p3_field::BabyBear;
-use p3_mmcs::{Mmcs, Sha256Mmcs, indices_are_below};
+use p3_mmcs::{Mmcs, indices_are_below};
 use std::alloc::AllocError;
+use std::fmt::Debug;
 
-type Tree = Sha256Mmcs<BabyBear>;
+/// A commitment and its data, or the refusal of the call.
+type Committed<Com, Data> = std::result::Result<(Com, Data), AllocError>;
 
-type Committed = ([u8; 32], <Tree as Mmcs<BabyBear>>::ProverData);
-
-/// A commitment to two matrices of two heights, or the refusal of the call.
-fn committed(rt: &HostRuntime) -> Result<std::result::Result<Committed, AllocError>> {
+/// A commitment to two matrices of two heights.
+fn committed<M: Mmcs<BabyBear>>(
+    rt: &HostRuntime,
+    tree: &M,
+) -> Result<Committed<M::Commitment, M::ProverData>> {
     let alloc = rt.alloc();
     let (first, second) = (matrix(alloc, 3, 2)?, matrix(alloc, 1, 1)?);
     let matrices = two_of(alloc, first, second)?;
-    Ok(Tree::new().commit(alloc, matrices))
+    Ok(tree.commit(alloc, matrices))
 }
 
-/// `commit`.
-pub fn tell_commit(rt: &HostRuntime, name: Name<'_>) -> Result<()> {
-    let answer = committed(rt)?.map(|(commitment, _)| commitment);
+fn commit<M: Mmcs<BabyBear>>(rt: &HostRuntime, name: Name<'_>, tree: &M) -> Result<()>
+where
+    M::Commitment: Debug,
+{
+    let answer = committed(rt, tree)?.map(|(commitment, _)| commitment);
     tell(rt, name, &answer, ["", ""])
 }
 
-/// `open_multi_batch`.
-pub fn tell_open_multi_batch(rt: &HostRuntime, name: Name<'_>) -> Result<()> {
-    let (_, held) = committed(rt)??;
+fn open_multi_batch<M: Mmcs<BabyBear>>(rt: &HostRuntime, name: Name<'_>, tree: &M) -> Result<()>
+where
+    M::MultiProof: Debug,
+{
+    let (_, held) = committed(rt, tree)??;
     let indices = [5, 0, 5];
-    if !indices_are_below(&indices, Tree::new().get_max_height(&held)) {
+    if !indices_are_below(&indices, tree.get_max_height(&held)) {
         return Err(Fault::Inputs);
     }
-    let answer = Tree::new().open_multi_batch(rt.alloc(), &indices, &held);
+    let answer = tree.open_multi_batch(rt.alloc(), &indices, &held);
     tell(rt, name, &answer, ["", ""])
+}
+
+/// Makes the call of this name.
+pub fn make<M: Mmcs<BabyBear>>(rt: &HostRuntime, name: Name<'_>, tree: &M) -> Result<()>
+where
+    M::Commitment: Debug,
+    M::MultiProof: Debug,
+{
+    match name.1 {
+        "commit" => commit(rt, name, tree),
+        "open_multi_batch" => open_multi_batch(rt, name, tree),
+        _ => Err(Fault::Name),
+    }
 }

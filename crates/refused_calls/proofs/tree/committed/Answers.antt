@@ -4,7 +4,7 @@ use Rattle.refused_calls.proofs.Lists.{power_heights}
 use Rattle.refused_calls.proofs.tree.committed.Goals as goal
 
 pub commit-requires : goal.commit-requires
-commit-requires c = record {
+commit-requires g c = record {
   heights = subst (λ ms. HavePowerHeights (dimensions_of ms)) (sym c.in_ok-matrices.ensures)
       (power_heights c.in_ok-first.first c.in_ok-second.second 3 1 c.in_ok-first.ensures.height
       c.in_ok-second.ensures.height);

@@ -2,9 +2,6 @@ use Rattle.std.proofs.Common.{arith, ◌∙◌}
 use Rattle.std.proofs.lemmas.Slice.Zip.{AllZip-long}
 use Rattle.refused_calls.proofs.schemes.Calls.open.Goals as goal
 
-pub committed-requires : goal.committed-requires
-committed-requires g c = c.requires.columns
-
 pub opened-requires-clause-prover : goal.opened-requires-clause-prover
 opened-requires-clause-prover g c =
     (g.met.P.Pcs.keeps_law _ _ c.in_ok-known.ensures.kept).prover_range c.requires.prover
@@ -20,7 +17,3 @@ opened-requires-clause-one_each g c =
 pub opened-requires-clause-some : goal.opened-requires-clause-some
 opened-requires-clause-some g c =
     omega (arith, c.in_ok-points.ensures ∙ c.len.ensures ∙ c.args.columns.ok.0, c.requires.some)
-
-pub verify-requires : goal.verify-requires
-verify-requires g c =
-    (g.met.P.Pcs.keeps_law _ _ c.in_ok-known.ensures.kept).verifier_range c.requires.verifier
