@@ -31,11 +31,11 @@ pub trait PolynomialSpace: Copy {
 
     /// The number of points.
     fn size(&self) -> usize
-        ensures { result ≡ 2 ^ log_size self.now };
+        ensures points { result ≡ 2 ^ log_size self.now };
 
     /// The point at index 0.
     fn first_point(&self) -> Self::Val
-        ensures { result ≡ shift self.now };
+        ensures first { result ≡ shift self.now };
 
     /// From the point at an index the one at the next index, where after the last comes the first;
     /// and what of any point of an extension a polynomial is read at for the next row.
@@ -65,7 +65,7 @@ pub trait PolynomialSpace: Copy {
     fn split_domains(&self, alloc: Global, num_chunks: usize) -> Result<Vec<Self>, AllocError>
         requires power_of_two { IsPowerOfTwo num_chunks }
         requires within { num_chunks ≤ 2 ^ log_size self.now }
-        ensures { IfOk result (λ pieces. (d : ℕ) → num_chunks ≡ 2 ^ d
+        ensures pieces { IfOk result (λ pieces. (d : ℕ) → num_chunks ≡ 2 ^ d
             → IsSplitInto Self.Val.ops Self.Val.root (log_size self.now) (shift self.now) d
             (map log_size pieces.items) (map shift pieces.items)) };
 
@@ -97,7 +97,7 @@ pub trait PolynomialSpace: Copy {
     fn selectors_at_point<EF: ExtensionField<Self::Val>>(&self, point: EF) -> LagrangeSelectors<EF>
         requires off { vanishing EF.ops (EF.lift (shift self.now)) (log_size self.now) point
             ≢ EF.ops.zero }
-        ensures { AreSelectorsAt EF.ops (EF.lift (Self.Val.root (log_size self.now)))
+        ensures selectors { AreSelectorsAt EF.ops (EF.lift (Self.Val.root (log_size self.now)))
             (2 ^ log_size self.now) (EF.ops.mul point (EF.ops.inv (EF.lift (shift self.now))))
             result };
 

@@ -90,7 +90,7 @@ impl<
         ),
         HidingFriProverError,
     >
-        requires { (⟦<Self as Pcs<EF, C>>⟧.rules self.old).CanCommit evaluations.items }
+        requires room { (⟦<Self as Pcs<EF, C>>⟧.rules self.old).CanCommit evaluations.items }
         ensures kept { self.new ≡ record self.old { rng = self.new.rng } }
         ensures commitment { let r = ⟦<Self as Pcs<EF, C>>⟧.rules self.new in
             IfOk result (λ pair. r.commitment_of pair.1 ≡ pair.0) }

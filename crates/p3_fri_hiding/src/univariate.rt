@@ -95,7 +95,7 @@ impl<
         ),
         HidingFriProverError,
     >
-        requires { (⟦<Self as Pcs<EF, C>>⟧.rules self.old).CanCommit evaluations.items }
+        requires room { (⟦<Self as Pcs<EF, C>>⟧.rules self.old).CanCommit evaluations.items }
         ensures kept { self.new ≡ record self.old { rng = self.new.rng } }
         ensures commitment { let r = ⟦<Self as Pcs<EF, C>>⟧.rules self.new in
             IfOk result (λ pair. r.commitment_of pair.1 ≡ pair.0) }
@@ -117,7 +117,7 @@ impl<
         evaluations: Vec<(TwoAdicMultiplicativeCoset<F>, RowMajorMatrix<F>)>,
         num_chunks: usize,
     ) -> Result<Vec<RowMajorMatrix<F>>, HidingFriProverError>
-        requires { let t = ⟦<Self as UnivariateStarkPcs<EF, C>>⟧.stark_rules self.old in
+        requires room { let t = ⟦<Self as UnivariateStarkPcs<EF, C>>⟧.stark_rules self.old in
             t.CanExtend evaluations.items num_chunks }
         ensures kept { self.new ≡ record self.old { rng = self.new.rng } }
         ensures words { let t = ⟦<Self as UnivariateStarkPcs<EF, C>>⟧.stark_rules self.new in
@@ -157,7 +157,7 @@ impl<
         ),
         HidingFriProverError,
     >
-        requires { let t = ⟦<Self as UnivariateStarkPcs<EF, C>>⟧.stark_rules self.now in
+        requires room { let t = ⟦<Self as UnivariateStarkPcs<EF, C>>⟧.stark_rules self.now in
             t.CanCommitLdes ldes.items }
         ensures matrices { let matrices_of = ⟦<Self as UnivariateStarkPcs<EF, C>>⟧.matrices_of in
             IfOk result (λ pair. matrices_of pair.1 ≡ ldes.items) }
@@ -231,7 +231,7 @@ impl<
         >,
         HidingFriProverError,
     >
-        requires { let t = ⟦<Self as UnivariateStarkPcs<EF, C>>⟧.stark_rules self.old in
+        requires room { let t = ⟦<Self as UnivariateStarkPcs<EF, C>>⟧.stark_rules self.old in
             t.CanRandomize domains.items }
         ensures kept { self.new ≡ record self.old { rng = self.new.rng } }
         ensures some { IfOk result (λ found. IsSome found) }

@@ -114,7 +114,7 @@ impl<
         alloc: Global,
         evaluations: Vec<(TwoAdicMultiplicativeCoset<F>, RowMajorMatrix<F>)>,
     ) -> Result<(InputMmcs::Commitment, InputMmcs::ProverData), FriProverError>
-        requires { (⟦<Self as Pcs<EF, C>>⟧.rules self.old).CanCommit evaluations.items }
+        requires room { (⟦<Self as Pcs<EF, C>>⟧.rules self.old).CanCommit evaluations.items }
         ensures kept { self.new ≡ self.old }
         ensures commitment { let r = ⟦<Self as Pcs<EF, C>>⟧.rules self.new in
             IfOk result (λ pair. r.commitment_of pair.1 ≡ pair.0) }

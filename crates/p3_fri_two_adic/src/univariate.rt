@@ -79,7 +79,7 @@ impl<
         alloc: Global,
         evaluations: Vec<(TwoAdicMultiplicativeCoset<F>, RowMajorMatrix<F>)>,
     ) -> Result<(InputMmcs::Commitment, InputMmcs::ProverData), FriProverError>
-        requires { (⟦<Self as Pcs<EF, C>>⟧.rules self.old).CanCommit evaluations.items }
+        requires room { (⟦<Self as Pcs<EF, C>>⟧.rules self.old).CanCommit evaluations.items }
         ensures kept { self.new ≡ self.old }
         ensures unchanged { self.new ≡ self.old }
         ensures commitment { let r = ⟦<Self as Pcs<EF, C>>⟧.rules self.new in
@@ -102,7 +102,7 @@ impl<
         evaluations: Vec<(TwoAdicMultiplicativeCoset<F>, RowMajorMatrix<F>)>,
         num_chunks: usize,
     ) -> Result<Vec<RowMajorMatrix<F>>, FriProverError>
-        requires { let t = ⟦<Self as UnivariateStarkPcs<EF, C>>⟧.stark_rules self.old in
+        requires room { let t = ⟦<Self as UnivariateStarkPcs<EF, C>>⟧.stark_rules self.old in
             t.CanExtend evaluations.items num_chunks }
         ensures kept { self.new ≡ self.old }
         ensures unchanged { self.new ≡ self.old }
@@ -142,7 +142,7 @@ impl<
         alloc: Global,
         ldes: Vec<RowMajorMatrix<F>>,
     ) -> Result<(InputMmcs::Commitment, InputMmcs::ProverData), FriProverError>
-        requires { let t = ⟦<Self as UnivariateStarkPcs<EF, C>>⟧.stark_rules self.now in
+        requires room { let t = ⟦<Self as UnivariateStarkPcs<EF, C>>⟧.stark_rules self.now in
             t.CanCommitLdes ldes.items }
         ensures matrices { let matrices_of = ⟦<Self as UnivariateStarkPcs<EF, C>>⟧.matrices_of in
             IfOk result (λ pair. matrices_of pair.1 ≡ ldes.items) }

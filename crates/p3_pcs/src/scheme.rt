@@ -66,7 +66,7 @@ pub trait Pcs<EF: Copy, C> {
         alloc: Global,
         evaluations: Vec<(Self::Domain, RowMajorMatrix<Self::Val>)>,
     ) -> Result<(Self::Commitment, Self::ProverData), Self::ProverError>
-        requires { (rules self.old).CanCommit evaluations.items }
+        requires room { (rules self.old).CanCommit evaluations.items }
         ensures kept { Keeps self.old self.new }
         ensures commitment { let r = rules self.new in
             IfOk result (λ pair. r.commitment_of pair.1 ≡ pair.0) }

@@ -65,11 +65,11 @@ pub trait UnivariateStarkPcs<EF: Copy, C>: Pcs<EF, C> {
 
     /// The logarithm of the greatest height of a trace.
     fn log_max_trace_height(&self) -> usize
-        ensures { result ≡ (stark_rules self.now).greatest_log_height };
+        ensures greatest { result ≡ (stark_rules self.now).greatest_log_height };
 
     /// The logarithm of the least height of a trace.
     fn log_min_trace_height(&self) -> usize
-        ensures { result ≡ (stark_rules self.now).least_log_height };
+        ensures least { result ≡ (stark_rules self.now).least_log_height };
 
     /// Commits to columns that are the same in every run, as `commit` does.
     fn commit_preprocessing(
@@ -77,7 +77,7 @@ pub trait UnivariateStarkPcs<EF: Copy, C>: Pcs<EF, C> {
         alloc: Global,
         evaluations: Vec<(Self::Domain, RowMajorMatrix<Self::Val>)>,
     ) -> Result<(Self::Commitment, Self::ProverData), Self::ProverError>
-        requires { (Self.rules self.old).CanCommit evaluations.items }
+        requires room { (Self.rules self.old).CanCommit evaluations.items }
         ensures kept { Self.Keeps self.old self.new }
         ensures unchanged { ZK ≡ false → self.new ≡ self.old }
         ensures commitment { IfOk result (λ pair. (Self.rules self.new).commitment_of pair.1
@@ -101,7 +101,7 @@ pub trait UnivariateStarkPcs<EF: Copy, C>: Pcs<EF, C> {
         evaluations: Vec<(Self::Domain, RowMajorMatrix<Self::Val>)>,
         num_chunks: usize,
     ) -> Result<Vec<RowMajorMatrix<Self::Val>>, Self::ProverError>
-        requires { (stark_rules self.old).CanExtend evaluations.items num_chunks }
+        requires room { (stark_rules self.old).CanExtend evaluations.items num_chunks }
         ensures kept { Self.Keeps self.old self.new }
         ensures unchanged { ZK ≡ false → self.new ≡ self.old }
         ensures words { IfOk result (λ ldes.
@@ -133,7 +133,7 @@ pub trait UnivariateStarkPcs<EF: Copy, C>: Pcs<EF, C> {
         alloc: Global,
         ldes: Vec<RowMajorMatrix<Self::Val>>,
     ) -> Result<(Self::Commitment, Self::ProverData), Self::ProverError>
-        requires { (stark_rules self.now).CanCommitLdes ldes.items }
+        requires room { (stark_rules self.now).CanCommitLdes ldes.items }
         ensures matrices { IfOk result (λ pair. matrices_of pair.1 ≡ ldes.items) }
         ensures commitment { IfOk result (λ pair. (Self.rules self.now).commitment_of pair.1
             ≡ pair.0) }
@@ -156,7 +156,7 @@ pub trait UnivariateStarkPcs<EF: Copy, C>: Pcs<EF, C> {
         index: usize,
         domain: Self::Domain,
     ) -> Result<RowMajorMatrix<Self::Val>, Self::ProverError>
-        requires { (stark_rules self.now).CanEvaluate prover_data.now index domain }
+        requires readable { (stark_rules self.now).CanEvaluate prover_data.now index domain }
         ensures values { let r = Self.rules self.now in
             (stark_rules self.now).IsHonestAt prover_data.now index
             → IfOk result (HoldsEvaluations embed (λ i. embed (point domain i))
@@ -172,7 +172,7 @@ pub trait UnivariateStarkPcs<EF: Copy, C>: Pcs<EF, C> {
         index: usize,
         domain: Self::Domain,
     ) -> Result<RowMajorMatrix<Self::Val>, Self::ProverError>
-        requires { (stark_rules self.now).CanEvaluateWhole prover_data.now index domain }
+        requires readable { (stark_rules self.now).CanEvaluateWhole prover_data.now index domain }
         ensures values { (stark_rules self.now).IsHonestAt prover_data.now index
             → IfOk result (HoldsEvaluations embed (λ i. embed (point domain i))
             ((Self.rules self.now).domain_size domain)
@@ -191,7 +191,7 @@ pub trait UnivariateStarkPcs<EF: Copy, C>: Pcs<EF, C> {
         trace_domain: Self::Domain,
         quotient_domain: Self::Domain,
     ) -> Result<PeriodicLdeTable<Self::Val>, PeriodicError>
-        requires { (Self.rules self.now).domain_size trace_domain ≤
+        requires larger { (Self.rules self.now).domain_size trace_domain ≤
             (Self.rules self.now).domain_size quotient_domain }
         ensures table { IfOk result (λ table. AreTabulated periodic_table.now
             ((Self.rules self.now).domain_size quotient_domain /
@@ -210,7 +210,7 @@ pub trait UnivariateStarkPcs<EF: Copy, C>: Pcs<EF, C> {
         alloc: Global,
         domains: Vec<Self::Domain>,
     ) -> Result<Option<(Self::Commitment, Self::ProverData)>, Self::ProverError>
-        requires { (stark_rules self.old).CanRandomize domains.items }
+        requires room { (stark_rules self.old).CanRandomize domains.items }
         ensures kept { Self.Keeps self.old self.new }
         ensures unchanged { ZK ≡ false → self.new ≡ self.old }
         ensures none { ZK ≡ false → IfOk result (λ found. found ≡ None) }

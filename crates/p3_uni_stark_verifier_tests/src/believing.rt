@@ -68,7 +68,7 @@ impl<F: TwoAdicField, EF: ExtensionField<F>, Dft: TwoAdicSubgroupDft<F>, C, cons
         alloc: Global,
         evaluations: Vec<(TwoAdicMultiplicativeCoset<F>, RowMajorMatrix<F>)>,
     ) -> Result<([u8; 32], [u8; 32]), NoProver>
-        requires { (⟦<Self as Pcs<EF, C>>⟧.rules self.old).CanCommit evaluations.items }
+        requires room { (⟦<Self as Pcs<EF, C>>⟧.rules self.old).CanCommit evaluations.items }
         ensures kept { ⟦<Self as Pcs<EF, C>>⟧.Keeps self.old self.new }
         ensures commitment { let r = ⟦<Self as Pcs<EF, C>>⟧.rules self.new in
             IfOk result (λ pair. r.commitment_of pair.1 ≡ pair.0) }
@@ -166,7 +166,7 @@ impl<
         alloc: Global,
         evaluations: Vec<(TwoAdicMultiplicativeCoset<F>, RowMajorMatrix<F>)>,
     ) -> Result<([u8; 32], [u8; 32]), NoProver>
-        requires { (⟦<Self as Pcs<EF, C>>⟧.rules self.old).CanCommit evaluations.items }
+        requires room { (⟦<Self as Pcs<EF, C>>⟧.rules self.old).CanCommit evaluations.items }
         ensures kept { ⟦<Self as Pcs<EF, C>>⟧.Keeps self.old self.new }
         ensures unchanged { self.new ≡ self.old }
         ensures commitment { let r = ⟦<Self as Pcs<EF, C>>⟧.rules self.new in
@@ -189,7 +189,7 @@ impl<
         evaluations: Vec<(TwoAdicMultiplicativeCoset<F>, RowMajorMatrix<F>)>,
         num_chunks: usize,
     ) -> Result<Vec<RowMajorMatrix<F>>, NoProver>
-        requires { (⟦<Self as UnivariateStarkPcs<EF, C>>⟧.stark_rules self.old).CanExtend
+        requires room { (⟦<Self as UnivariateStarkPcs<EF, C>>⟧.stark_rules self.old).CanExtend
             evaluations.items num_chunks }
         ensures kept { ⟦<Self as Pcs<EF, C>>⟧.Keeps self.old self.new }
         ensures unchanged { self.new ≡ self.old }
@@ -227,7 +227,7 @@ impl<
         alloc: Global,
         ldes: Vec<RowMajorMatrix<F>>,
     ) -> Result<([u8; 32], [u8; 32]), NoProver>
-        requires { (⟦<Self as UnivariateStarkPcs<EF, C>>⟧.stark_rules self.now).CanCommitLdes
+        requires room { (⟦<Self as UnivariateStarkPcs<EF, C>>⟧.stark_rules self.now).CanCommitLdes
             ldes.items }
         ensures matrices { let matrices_of = ⟦<Self as UnivariateStarkPcs<EF, C>>⟧.matrices_of in
             IfOk result (λ pair. matrices_of pair.1 ≡ ldes.items) }
@@ -289,7 +289,7 @@ impl<
         alloc: Global,
         domains: Vec<TwoAdicMultiplicativeCoset<F>>,
     ) -> Result<Option<([u8; 32], [u8; 32])>, NoProver>
-        requires { (⟦<Self as UnivariateStarkPcs<EF, C>>⟧.stark_rules self.old).CanRandomize
+        requires room { (⟦<Self as UnivariateStarkPcs<EF, C>>⟧.stark_rules self.old).CanRandomize
             domains.items }
         ensures kept { ⟦<Self as Pcs<EF, C>>⟧.Keeps self.old self.new }
         ensures unchanged { self.new ≡ self.old }

@@ -12,8 +12,8 @@ selectors_at_point-requires-clause-off g c = λ e.
     g.EF.ExtensionField.lift g.met.EF.ExtensionField.lift_law self.shift self.nonzero c.args.point
     c.scale-unshifted.result c.inverse.result c.inverse.ensures c.scale-unshifted.ensures)) ∙ e)
 
-pub returns : goal.returns
-returns g c =
+pub returns-clause-selectors : goal.returns-clause-selectors
+returns-clause-selectors g c =
     let self = c.args.self.now in
     let K = g.EF.Field.ops in
     subst (λ y. AreSelectorsAt K (g.EF.ExtensionField.lift (g.F.TwoAdicField.root self.log_size))

@@ -20,8 +20,8 @@ split_coset-requires-clause-within_two_adicity g c =
     let few = c.args.self.now.within_two_adicity in
     omega (arith, below, few)
 
-pub returns : goal.returns
-returns g c d count =
+pub returns-clause-pieces : goal.returns-clause-pieces
+returns-clause-pieces g c d count =
     let self = c.args.self.now in
     let e = c.log2_strict_usize-log_num_chunks.result in
     let below : e ≤ self.log_size = exponent_at_most e self.log_size

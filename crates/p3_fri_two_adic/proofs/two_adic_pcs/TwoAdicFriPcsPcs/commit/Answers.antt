@@ -22,7 +22,7 @@ returns-in-Ok-clause-openable g c =
     g.met.F.Field.generator_law c.args.self.now.fri.log_blowup
     (λ d. d.shift) (λ d. d.log_size) (λ d. d.nonzero)
     (g.InputMmcs.Mmcs.committed c.in-Ok.committed.1) c.args.evaluations.items
-    c.requires c.in-Ok.ensures.words
+    c.requires.room c.in-Ok.ensures.words
 
 pub returns-in-Ok-clause-honest : goal.returns-in-Ok-clause-honest
 returns-in-Ok-clause-honest g c =
@@ -30,7 +30,7 @@ returns-in-Ok-clause-honest g c =
     g.met.F.Field.generator_law c.args.self.now.fri.log_blowup
     (λ d. d.shift) (λ d. d.log_size) (λ d. d.nonzero)
     (g.InputMmcs.Mmcs.committed c.in-Ok.committed.1) c.args.evaluations.items
-    c.requires c.in-Ok.ensures.words
+    c.requires.room c.in-Ok.ensures.words
 
 pub returns-in-Ok-clause-extends : goal.returns-in-Ok-clause-extends
 returns-in-Ok-clause-extends g c =
@@ -38,4 +38,4 @@ returns-in-Ok-clause-extends g c =
     g.met.EF.ExtensionField.lift_law g.met.F.TwoAdicField.roots_law g.met.F.Field.generator_law c.args.self.now.fri.log_blowup
     (λ d. d.shift) (λ d. d.log_size) (λ d. d.nonzero)
     (g.InputMmcs.Mmcs.committed c.in-Ok.committed.1) c.args.evaluations.items
-    c.requires c.in-Ok.ensures.words
+    c.requires.room c.in-Ok.ensures.words

@@ -21,7 +21,7 @@ fields_of g = record {
 pub commit-requires : goal.commit-requires
 commit-requires g c = record {
   heights = power_heights g.F.TwoAdicField.TWO_ADICITY c.args.self.now.fri.log_blowup
-      c.args.ldes.items c.requires;
+      c.args.ldes.items c.requires.room;
 }
 
 pub returns-in-Ok-clause-openable : goal.returns-in-Ok-clause-openable
@@ -29,7 +29,7 @@ returns-in-Ok-clause-openable g c =
     subst (λ matrices. All (HasCoset g.F.TwoAdicField.TWO_ADICITY) matrices)
     (sym c.in-Ok.ensures.matrices)
     (cosets_of_ldes g.F.TwoAdicField.TWO_ADICITY c.args.self.now.fri.log_blowup
-    c.args.ldes.items c.requires)
+    c.args.ldes.items c.requires.room)
 
 pub returns-in-Ok-clause-honest : goal.returns-in-Ok-clause-honest
 returns-in-Ok-clause-honest g c words =

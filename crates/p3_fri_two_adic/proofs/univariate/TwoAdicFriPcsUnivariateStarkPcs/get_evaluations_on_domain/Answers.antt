@@ -23,7 +23,7 @@ evaluations_on_domain-requires-clause-power_of_two g c =
     ∙ ap (λ ms. get_or ms c.args.index matrix) c.get_matrices-matrices.ensures in
     let held = g.InputMmcs.Mmcs.committed c.args.prover_data.now in
     (coset_at g.F.TwoAdicField.TWO_ADICITY held c.args.index
-    c.requires matrix is).power
+    c.requires.readable matrix is).power
 
 pub evaluations_on_domain-requires-clause-within_two_adicity : goal.evaluations_on_domain-requires-clause-within_two_adicity
 evaluations_on_domain-requires-clause-within_two_adicity g c =
@@ -32,7 +32,7 @@ evaluations_on_domain-requires-clause-within_two_adicity g c =
     ∙ ap (λ ms. get_or ms c.args.index matrix) c.get_matrices-matrices.ensures in
     let held = g.InputMmcs.Mmcs.committed c.args.prover_data.now in
     within_at g.F.TwoAdicField.TWO_ADICITY held c.args.index
-    c.requires matrix is
+    c.requires.readable matrix is
 
 pub returns-in-Ok-clause-values : goal.returns-in-Ok-clause-values
 returns-in-Ok-clause-values g c words =
@@ -42,5 +42,5 @@ returns-in-Ok-clause-values g c words =
     evaluated (fields_of g) g.met.F.Field.laws g.met.EF.Field.laws
     g.met.EF.ExtensionField.lift_law g.met.F.TwoAdicField.roots_law g.met.F.Field.generator_law
     c.args.self.now.fri.log_blowup (g.InputMmcs.Mmcs.committed c.args.prover_data.now)
-    c.args.index c.requires matrix c.in-Ok.values is words c.args.domain.shift
+    c.args.index c.requires.readable matrix c.in-Ok.values is words c.args.domain.shift
     c.args.domain.log_size c.in-Ok.ensures

@@ -23,28 +23,28 @@ returns-in-Ok-clause-committable g c =
     have_lde_heights (fields_of g) g.met.F.Field.laws g.met.F.TwoAdicField.roots_law
     g.met.F.Field.generator_law c.args.self.now.fri.log_blowup
     (λ d. d.shift) (λ d. d.log_size) (λ d. d.nonzero)
-    c.in-Ok.ldes.items c.args.evaluations.items c.requires c.in-Ok.ensures.words
+    c.in-Ok.ldes.items c.args.evaluations.items c.requires.room c.in-Ok.ensures.words
 
 pub returns-in-Ok-clause-low_degree : goal.returns-in-Ok-clause-low_degree
 returns-in-Ok-clause-low_degree g c =
     hold_words (fields_of g) g.met.F.Field.laws g.met.F.TwoAdicField.roots_law
     g.met.F.Field.generator_law c.args.self.now.fri.log_blowup
     (λ d. d.shift) (λ d. d.log_size) (λ d. d.nonzero)
-    c.in-Ok.ldes.items c.args.evaluations.items c.requires c.in-Ok.ensures.words
+    c.in-Ok.ldes.items c.args.evaluations.items c.requires.room c.in-Ok.ensures.words
 
 pub returns-in-Ok-clause-sizes : goal.returns-in-Ok-clause-sizes
 returns-in-Ok-clause-sizes g c =
     sizes_held (fields_of g) g.met.F.Field.laws g.met.F.TwoAdicField.roots_law
     g.met.F.Field.generator_law c.args.self.now.fri.log_blowup
     (λ d. d.shift) (λ d. d.log_size) (λ d. d.nonzero)
-    c.in-Ok.ldes.items c.args.evaluations.items c.requires c.in-Ok.ensures.words
+    c.in-Ok.ldes.items c.args.evaluations.items c.requires.room c.in-Ok.ensures.words
 
 pub returns-in-Ok-clause-chunks : goal.returns-in-Ok-clause-chunks
 returns-in-Ok-clause-chunks g c =
     chunks_held (fields_of g) g.met.F.Field.laws g.met.F.TwoAdicField.roots_law
     g.met.F.Field.generator_law c.args.self.now.fri.log_blowup
     (λ d. d.shift) (λ d. d.log_size) (λ d. d.nonzero)
-    c.in-Ok.ldes.items c.args.evaluations.items c.requires c.in-Ok.ensures.words
+    c.in-Ok.ldes.items c.args.evaluations.items c.requires.room c.in-Ok.ensures.words
 
 pub returns-in-Ok-clause-recombined : goal.returns-in-Ok-clause-recombined
 returns-in-Ok-clause-recombined g c z =
@@ -54,4 +54,4 @@ returns-in-Ok-clause-recombined g c z =
     (values_held (fields_of g) g.met.F.Field.laws g.met.F.TwoAdicField.roots_law
     g.met.F.Field.generator_law c.args.self.now.fri.log_blowup
     (λ d. d.shift) (λ d. d.log_size) (λ d. d.nonzero)
-    c.in-Ok.ldes.items c.args.evaluations.items c.requires c.in-Ok.ensures.words z)
+    c.in-Ok.ldes.items c.args.evaluations.items c.requires.room c.in-Ok.ensures.words z)

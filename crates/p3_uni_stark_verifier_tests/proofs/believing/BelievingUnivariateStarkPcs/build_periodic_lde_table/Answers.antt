@@ -7,11 +7,11 @@ use Rattle.p3_uni_stark_verifier_tests.proofs.believing.BelievingUnivariateStark
 
 pub build_periodic_lde_table_two_adic-requires : goal.build_periodic_lde_table_two_adic-requires
 build_periodic_lde_table_two_adic-requires g c =
-    exponent_within c.args.trace_domain.log_size c.args.quotient_domain.log_size _ refl c.requires
+    exponent_within c.args.trace_domain.log_size c.args.quotient_domain.log_size _ refl c.requires.larger
 
 pub returns-clause-table : goal.returns-clause-table
 returns-clause-table g c =
-    tabulated_by_sizes c.args.trace_domain.log_size c.args.quotient_domain.log_size c.requires
+    tabulated_by_sizes c.args.trace_domain.log_size c.args.quotient_domain.log_size c.requires.larger
     c.args.periodic_table.now
     (λ index. IsColumnValue g.F.Field.ops g.F.TwoAdicField.root c.args.trace_domain.log_size
     (coset_point g.F.Field.ops (g.F.TwoAdicField.root c.args.quotient_domain.log_size)
