@@ -9,8 +9,8 @@ ghost use Rattle.p3_stark_pcs.specs.Preprocessing.{AreOpenableAt};
 ghost use Rattle.p3_fri_relation.specs.Acceptance.{Accepts, batch_replayed, test_replay};
 ghost use Rattle.p3_fri_relation.specs.Views.{parameters_of, proof_of};
 ghost use Rattle.p3_fri_openings.specs.SchemeClaims.{relation_claims};
-ghost use Rattle.p3_fri_opening_prover.specs.Setting.{IsInOpeningRange, held};
-ghost use Rattle.p3_fri_opening_prover.specs.Setting.{StandsOnCosets, IsHonest};
+ghost use Rattle.p3_fri_opening_prover.specs.Ranges.{IsInOpeningRange};
+ghost use Rattle.p3_fri_opening_prover.specs.Setting.{StandsOnCosets, IsHonest, held};
 ghost use Rattle.p3_fri_opening_prover.specs.Refusals.{PassesChecks, OpenRefusal, LeavesState};
 ghost use Rattle.p3_fri_two_adic.specs.Ends.{last_state};
 ghost use Rattle.p3_fri_two_adic.specs.Ranges.{InProverRange};
@@ -66,8 +66,8 @@ fn open_hidden<
     ),
     FriProverError,
 >
-    requires in_range { IsInOpeningRange (⟦<C as OpensFri<F, EF, S, M, InputMmcs>>⟧.parts
-        folding.now params.now input_mmcs.now) }
+    requires in_range { IsInOpeningRange (parameters_of params.now) F.TWO_ADICITY
+        (S.extra_query_index_bits folding.now) (S.max_log_height folding.now) C.MAX_SAMPLE_BITS }
     requires openable { let r = ⟦<C as OpensFri<F, EF, S, M, InputMmcs>>⟧.parts folding.now
         params.now input_mmcs.now in
         AreOpenable (StandsOnCosets r) (held r) (map request (map inner_request requests.now)) }
@@ -139,8 +139,8 @@ fn open_marked<
     ),
     HidingFriProverError,
 >
-    requires in_range { IsInOpeningRange (⟦<C as OpensFri<F, EF, S, M, InputMmcs>>⟧.parts
-        folding.now params.now input_mmcs.now) }
+    requires in_range { IsInOpeningRange (parameters_of params.now) F.TWO_ADICITY
+        (S.extra_query_index_bits folding.now) (S.max_log_height folding.now) C.MAX_SAMPLE_BITS }
     requires openable { let r = ⟦<C as OpensFri<F, EF, S, M, InputMmcs>>⟧.parts folding.now
         params.now input_mmcs.now in
         AreOpenable (StandsOnCosets r) (held r) (map inside (map request requests.old)) }

@@ -30,8 +30,8 @@ use Rattle.p3_fri_completeness.specs.Requests.{round_opened}
 use Rattle.p3_fri_completeness.proofs.Requests.{Fit}
 use Rattle.p3_fri_completeness.proofs.Rounds.{opened_by_request, values_by_request}
 use Rattle.p3_fri_completeness.proofs.Opening.{opening_accepted, opening_last_state}
-use Rattle.p3_fri_opening_prover.specs.Setting.{OpeningSetting, IsInOpeningRange, held}
-use Rattle.p3_fri_opening_prover.specs.Setting.{StandsOnCosets, IsHonest}
+use Rattle.p3_fri_opening_prover.specs.Ranges.{IsInOpeningRange}
+use Rattle.p3_fri_opening_prover.specs.Setting.{OpeningSetting, StandsOnCosets, IsHonest, held}
 use Rattle.p3_fri_opening_prover.specs.Opening.{heights, top, words, batch}
 use Rattle.p3_fri_opening_prover.specs.Opening.{IsOpening, OpeningStops}
 use Rattle.p3_fri_opening_prover.specs.Refusals.{PassesChecks, RequestsStop, OpenRefusal}
@@ -119,7 +119,9 @@ module _ {F E C D Data Com Path InCom InPath : Type 0}
   -- an opening of honest requests
   module _ {Domain : Type 0} (log_size : Domain → ℕ) (laws : AreTwoAdic r.setting.fields)
       (fit : (bits : ℕ) → bits ≤ r.setting.fields.two_adicity + r.setting.extra_bits
-      → DrawsFit r.setting.moves bits) (in_range : IsInOpeningRange r)
+      → DrawsFit r.setting.moves bits)
+      (in_range : IsInOpeningRange r.parameters r.setting.fields.two_adicity r.setting.extra_bits
+      r.max_log_height r.most_bits)
       (openable : AreOpenable (StandsOnCosets r) (held r) asked)
       (are_honest : AreHonest (IsHonest r) asked)
       (passes : PassesChecks r.setting.fields r.parameters r.committed asked) (batches : List D)

@@ -1,3 +1,4 @@
 pub mod Setting
+pub mod Ranges
 pub mod Opening
 pub mod Refusals

@@ -11,8 +11,8 @@ ghost use Rattle.p3_fri_openings.specs.Rounds.{IsRound};
 ghost use Rattle.p3_fri_openings.specs.Refusals.{AreTallEnough, ArePointsOff};
 ghost use Rattle.p3_fri_openings.specs.SchemeClaims.{relation_claims};
 ghost use Rattle.p3_fri_batch.specs.Rounds.{opened_of};
-ghost use Rattle.p3_fri_opening_prover.specs.Setting.{IsInRoundsRange, IsInOpeningRange, held};
-ghost use Rattle.p3_fri_opening_prover.specs.Setting.{StandsOnCosets, IsHonest};
+ghost use Rattle.p3_fri_opening_prover.specs.Ranges.{IsInRoundsRange, IsInOpeningRange};
+ghost use Rattle.p3_fri_opening_prover.specs.Setting.{StandsOnCosets, IsHonest, held};
 ghost use Rattle.p3_fri_opening_prover.specs.Opening.{IsOpening, OpeningStops};
 ghost use Rattle.p3_fri_opening_prover.specs.Refusals.{PassesChecks, OpenRefusal, LeavesState};
 
@@ -66,8 +66,8 @@ pub fn open_rounds<
     ),
     FriProverError,
 >
-    requires in_range { IsInRoundsRange (⟦<C as OpensFri<F, EF, S, M, InputMmcs>>⟧.parts
-        folding.now params.now input_mmcs.now) }
+    requires in_range { IsInRoundsRange (parameters_of params.now) F.TWO_ADICITY
+        (S.extra_query_index_bits folding.now) (S.max_log_height folding.now) C.MAX_SAMPLE_BITS }
     requires rounds { All (IsRound F.TWO_ADICITY) rounds.now }
     requires tall_enough { All (λ r. AreTallEnough (parameters_of params.now) r.matrices.now)
         rounds.now }
@@ -159,8 +159,8 @@ pub fn open_requests<
     ),
     FriProverError,
 >
-    requires in_range { IsInOpeningRange (⟦<C as OpensFri<F, EF, S, M, InputMmcs>>⟧.parts
-        folding.now params.now input_mmcs.now) }
+    requires in_range { IsInOpeningRange (parameters_of params.now) F.TWO_ADICITY
+        (S.extra_query_index_bits folding.now) (S.max_log_height folding.now) C.MAX_SAMPLE_BITS }
     requires openable { let r = ⟦<C as OpensFri<F, EF, S, M, InputMmcs>>⟧.parts folding.now
         params.now input_mmcs.now in
         AreOpenable (StandsOnCosets r) (held r) (map request requests.now) }

@@ -1,4 +1,4 @@
-use Rattle.std.proofs.Common.{◌∙◌, ap, arith, map, refl, subst}
+use Rattle.std.proofs.Common.{◌∙◌, ap, map, refl, subst}
 use Rattle.std.proofs.lemmas.Result.{IfOk-weaker, IfErr-weaker}
 use Rattle.p3_challenger_core.specs.Run.{moves}
 use Rattle.p3_pcs.specs.Claims.{opened_values}
@@ -6,7 +6,6 @@ use Rattle.p3_pcs.specs.Requests.{request}
 use Rattle.p3_fri_relation.specs.Setting.{Fields, Setting}
 use Rattle.p3_fri_relation.specs.Views.{parameters_of, proof_of}
 use Rattle.p3_fri_two_adic.specs.Accepted.{two_adic}
-use Rattle.p3_fri_two_adic.proofs.InRange.{opening_range}
 use Rattle.p3_fri_hiding_openings.specs.Halves.{kept_values}
 use Rattle.p3_fri_hiding_openings.specs.Opening.{LeavesHidingState}
 use Rattle.p3_fri_hiding_openings.proofs.Accepted.{accepted_shown, ends_shown, honest_shown, sizes_inside}
@@ -35,10 +34,6 @@ setting_at g input_mmcs mmcs = two_adic (fields_of g)
     g.EF.ExtensionField.of_coefficients g.EF.ExtensionField.DIMENSION
     g.C.CanSampleBits.sampled_bits)
     (g.InputMmcs.Mmcs.opens input_mmcs) (g.M.Mmcs.opens mmcs)
-
-pub open_marked-opened-requires-clause-in_range : goal.open_marked-opened-requires-clause-in_range
-open_marked-opened-requires-clause-in_range g c =
-    opening_range _ refl (omega arith) c.requires.range
 
 pub open_marked-opened-requires-clause-openable : goal.open_marked-opened-requires-clause-openable
 open_marked-opened-requires-clause-openable g c =

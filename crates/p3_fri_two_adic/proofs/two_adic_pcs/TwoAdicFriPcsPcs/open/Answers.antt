@@ -1,4 +1,4 @@
-use Rattle.std.proofs.Common.{◌≡◌, ◌^◌, ℕ, List, arith, map, refl, subst}
+use Rattle.std.proofs.Common.{◌≡◌, ◌^◌, ℕ, List, map, subst}
 use Rattle.std.proofs.lemmas.Result.{IfOk-weaker}
 use Rattle.p3_field_core.specs.declared.coset.TwoAdicMultiplicativeCoset.{TwoAdicMultiplicativeCoset}
 use Rattle.p3_challenger_core.specs.Run.{moves}
@@ -10,7 +10,6 @@ use Rattle.p3_fri_openings.specs.Held.{held_of}
 use Rattle.p3_fri_openings.specs.SchemeClaims.{relation_claims}
 use Rattle.p3_fri_opening_verifier.specs.Ends.{last_state}
 use Rattle.p3_fri_opening_verifier.specs.Accepted.{two_adic}
-use Rattle.p3_fri_two_adic.proofs.InRange.{opening_range}
 use Rattle.p3_fri_two_adic.proofs.Sizes.{claims_sized, domains_sized}
 use Rattle.p3_fri_two_adic.proofs.Unspent.{data_kept}
 use Rattle.p3_fri_two_adic.proofs.two_adic_pcs.TwoAdicFriPcsPcs.open.Given.{Over}
@@ -42,10 +41,6 @@ setting_at g input_mmcs mmcs = two_adic (fields_of g)
     g.EF.ExtensionField.of_coefficients g.EF.ExtensionField.DIMENSION
     g.C.CanSampleBits.sampled_bits)
     (g.InputMmcs.Mmcs.opens input_mmcs) (g.M.Mmcs.opens mmcs)
-
-pub open_requests-requires-clause-in_range : goal.open_requests-requires-clause-in_range
-open_requests-requires-clause-in_range g c =
-    opening_range _ refl (omega arith) c.requires.range
 
 pub returns-clause-accepted : goal.returns-clause-accepted
 returns-clause-accepted g c honest =
