@@ -13,6 +13,7 @@ use Rattle.p3_fri_two_adic.specs.Ranges.{InProverRange, InVerifierRange}
 use Rattle.p3_fri_relation.specs.Faults.{StandsInScheme}
 use Rattle.p3_fri_relation.specs.declared.error.FriError.{FriError}
 use Rattle.p3_fri_two_adic.specs.Ends.{last_state}
+use Rattle.p3_fri_two_adic.proofs.Ranges.{in_verifier_range}
 use Rattle.fri_requests.specs.declared.records.Parameters.{Parameters}
 use Rattle.fri_requests.specs.declared.records.BatchClaims.{BatchClaims}
 use Rattle.fri_requests.specs.Bound.{state_bound}
@@ -82,11 +83,6 @@ pub verifier_range : {X Y : Type 0} (p : setting.Parameters)
     → InVerifierRange p 27 63
 verifier_range p claims proof c range holds =
     let within = holds.accepts.instance_of.in_range in
-    record {
-      final_height_below_64 = final_height_low (setting.final_height p) (log_height p.log_blowup) (matrices_of claims)
-          within.some_matrix within.tall_enough within.within_two_adicity;
-      index_bits = range.index_bits;
-      batch_bits = range.batch_bits;
-      commit_bits = range.commit_bits;
-      query_bits = range.query_bits;
-    }
+    in_verifier_range p 27 63 range
+    (final_height_low (setting.final_height p) (log_height p.log_blowup) (matrices_of claims)
+    within.some_matrix within.tall_enough within.within_two_adicity)

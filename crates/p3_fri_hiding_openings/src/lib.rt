@@ -1,7 +1,7 @@
-//! Openings of a scheme that hides. Its prover: what it keeps of a commitment, whether its masks are
-//! enough for what is committed to and for what is to be opened, and its openings, whose random
-//! values are cut off. Its verifier: the random values are appended to what is claimed, and verified
-//! with it.
+//! Openings of a scheme that hides. Its prover: what it keeps of a commitment, whether its masks
+//! are enough for what is committed to and for what is to be opened, and its openings, whose random
+//! values are cut off. Its verifier: the random values are appended to what is claimed, and
+//! verified with it.
 #![tactic(auto)]
 
 pub mod append;

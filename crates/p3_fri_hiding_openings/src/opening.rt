@@ -6,11 +6,11 @@ ghost use Rattle.p3_pcs.specs.Claims.{opened_values};
 ghost use Rattle.p3_pcs.specs.Requests.{AreOpenable, AreHonest, FitDomains, request, with_data};
 ghost use Rattle.p3_pcs.specs.Requests.{honest_values, honest_claims};
 ghost use Rattle.p3_stark_pcs.specs.Preprocessing.{AreOpenableAt};
-ghost use Rattle.p3_fri_relation.specs.Acceptance.{Accepts, batch_replayed, test_replay};
 ghost use Rattle.p3_fri_relation.specs.Views.{parameters_of, proof_of};
 ghost use Rattle.p3_fri_openings.specs.SchemeClaims.{relation_claims};
-ghost use Rattle.p3_fri_opening_prover.specs.Setting.{IsInOpeningRange, held};
-ghost use Rattle.p3_fri_opening_prover.specs.Setting.{StandsOnCosets, IsHonest};
+ghost use Rattle.p3_fri_opening_prover.specs.Ranges.{IsInOpeningRange};
+ghost use Rattle.p3_fri_opening_prover.specs.Setting.{StandsOnCosets, IsHonest, held};
+ghost use Rattle.p3_fri_opening_prover.specs.Opened.{IsOpened};
 ghost use Rattle.p3_fri_opening_prover.specs.Refusals.{PassesChecks, OpenRefusal, LeavesState};
 ghost use Rattle.p3_fri_two_adic.specs.Ends.{last_state};
 ghost use Rattle.p3_fri_two_adic.specs.Ranges.{InProverRange};
@@ -66,8 +66,8 @@ fn open_hidden<
     ),
     FriProverError,
 >
-    requires in_range { IsInOpeningRange (⟦<C as OpensFri<F, EF, S, M, InputMmcs>>⟧.parts
-        folding.now params.now input_mmcs.now) }
+    requires in_range { IsInOpeningRange (parameters_of params.now) F.TWO_ADICITY
+        (S.extra_query_index_bits folding.now) (S.max_log_height folding.now) C.MAX_SAMPLE_BITS }
     requires openable { let r = ⟦<C as OpensFri<F, EF, S, M, InputMmcs>>⟧.parts folding.now
         params.now input_mmcs.now in
         AreOpenable (StandsOnCosets r) (held r) (map request (map inner_request requests.now)) }
@@ -75,28 +75,10 @@ fn open_hidden<
         params.now input_mmcs.now in
         PassesChecks r.setting.fields r.parameters r.committed
         (map request (map inner_request requests.now)) }
-    ensures values { let r = ⟦<C as OpensFri<F, EF, S, M, InputMmcs>>⟧.parts folding.now
+    ensures opened { let r = ⟦<C as OpensFri<F, EF, S, M, InputMmcs>>⟧.parts folding.now
         params.now input_mmcs.now in
-        IfOk result (λ opening. opened_values opening.0.items
-        ≡ map (honest_values (held r)) (map request (map inner_request requests.now))) }
-    ensures accepted { let r = ⟦<C as OpensFri<F, EF, S, M, InputMmcs>>⟧.parts folding.now
-        params.now input_mmcs.now in
-        let asked = map request (map inner_request requests.now) in
-        AreHonest (IsHonest r) asked → IfOk result (λ opening. (log_sizes : List (List ℕ))
-        → FitDomains (held r) (λ n. 2 ^ n) log_sizes asked
-        → Accepts r.setting r.parameters (relation_claims (λ n. n)
-        (honest_claims (held r) r.commitment_of log_sizes asked)) (proof_of opening.1)
-        challenger.old) }
-    ensures state { let r = ⟦<C as OpensFri<F, EF, S, M, InputMmcs>>⟧.parts folding.now
-        params.now input_mmcs.now in
-        let asked = map request (map inner_request requests.now) in
-        AreHonest (IsHonest r) asked → IfOk result (λ opening. (log_sizes : List (List ℕ))
-        → FitDomains (held r) (λ n. 2 ^ n) log_sizes asked
-        → let claims = relation_claims (λ n. n)
-        (honest_claims (held r) r.commitment_of log_sizes asked) in
-        challenger.new ≡ (test_replay r.setting r.parameters claims (proof_of opening.1)
-        (batch_replayed r.setting r.parameters claims (proof_of opening.1)
-        challenger.old).state).state) }
+        IfOk result (λ opening. IsOpened r (map request (map inner_request requests.now))
+        challenger.old challenger.new (opened_values opening.0.items) (proof_of opening.1)) }
     ensures refused { let r = ⟦<C as OpensFri<F, EF, S, M, InputMmcs>>⟧.parts folding.now
         params.now input_mmcs.now in
         IfErr result (OpenRefusal r challenger.old (map request (map inner_request requests.now))) }
@@ -113,84 +95,6 @@ fn open_hidden<
     open_rounds(
         alloc, folding, params, input_mmcs, &rounds, &opened, challenger,
     )
-}
-
-/// Opens what is inside of requests: all columns. Once the checks have passed, private data counts
-/// as opened, whatever comes then.
-fn open_marked<
-    F: TwoAdicField,
-    EF: ExtensionField<F>,
-    M: Mmcs<EF>,
-    InputMmcs: Mmcs<F>,
-    S: FriFoldingStrategy<F, EF>,
-    C: FieldChallenger<F> + GrindingChallenger<Witness = F> + CanObserve<M::Commitment>,
->(
-    alloc: Global,
-    folding: &S,
-    params: &FriParameters<M>,
-    input_mmcs: &InputMmcs,
-    num_random_codewords: usize,
-    requests: &mut [OpeningRequest<'_, HidingFriPcsProverData<InputMmcs::ProverData>, EF>],
-    challenger: &mut C,
-) -> Result<
-    (
-        OpenedValues<EF>,
-        FriProof<EF, M, F, Vec<BatchMultiOpening<F, InputMmcs>>>,
-    ),
-    HidingFriProverError,
->
-    requires in_range { IsInOpeningRange (⟦<C as OpensFri<F, EF, S, M, InputMmcs>>⟧.parts
-        folding.now params.now input_mmcs.now) }
-    requires openable { let r = ⟦<C as OpensFri<F, EF, S, M, InputMmcs>>⟧.parts folding.now
-        params.now input_mmcs.now in
-        AreOpenable (StandsOnCosets r) (held r) (map inside (map request requests.old)) }
-    ensures values { let r = ⟦<C as OpensFri<F, EF, S, M, InputMmcs>>⟧.parts folding.now
-        params.now input_mmcs.now in
-        IfOk result (λ opening. opened_values opening.0.items
-        ≡ map (honest_values (held r)) (map inside (map request requests.old))) }
-    ensures accepted { let r = ⟦<C as OpensFri<F, EF, S, M, InputMmcs>>⟧.parts folding.now
-        params.now input_mmcs.now in
-        let asked = map inside (map request requests.old) in
-        AreHonest (IsHonest r) asked → IfOk result (λ opening. (log_sizes : List (List ℕ))
-        → FitDomains (held r) (λ n. 2 ^ n) log_sizes asked
-        → Accepts r.setting r.parameters (relation_claims (λ n. n)
-        (honest_claims (held r) r.commitment_of log_sizes asked)) (proof_of opening.1)
-        challenger.old) }
-    ensures state { let r = ⟦<C as OpensFri<F, EF, S, M, InputMmcs>>⟧.parts folding.now
-        params.now input_mmcs.now in
-        let asked = map inside (map request requests.old) in
-        AreHonest (IsHonest r) asked → IfOk result (λ opening. (log_sizes : List (List ℕ))
-        → FitDomains (held r) (λ n. 2 ^ n) log_sizes asked
-        → let claims = relation_claims (λ n. n)
-        (honest_claims (held r) r.commitment_of log_sizes asked) in
-        challenger.new ≡ (test_replay r.setting r.parameters claims (proof_of opening.1)
-        (batch_replayed r.setting r.parameters claims (proof_of opening.1)
-        challenger.old).state).state) }
-    ensures checked { let r = ⟦<C as OpensFri<F, EF, S, M, InputMmcs>>⟧.parts folding.now
-        params.now input_mmcs.now in
-        IsOk result → PassesHidingChecks r.setting.fields r.parameters num_random_codewords r.committed
-        (map request requests.old) }
-    ensures opened { let r = ⟦<C as OpensFri<F, EF, S, M, InputMmcs>>⟧.parts folding.now
-        params.now input_mmcs.now in
-        PassesHidingChecks r.setting.fields r.parameters num_random_codewords r.committed
-        (map request requests.old)
-        → requests.new ≡ map (with_data after_opening) requests.old }
-    ensures unopened { let r = ⟦<C as OpensFri<F, EF, S, M, InputMmcs>>⟧.parts folding.now
-        params.now input_mmcs.now in
-        ¬ PassesHidingChecks r.setting.fields r.parameters num_random_codewords r.committed
-        (map request requests.old)
-        → requests.new ≡ requests.old }
-    ensures refused { let r = ⟦<C as OpensFri<F, EF, S, M, InputMmcs>>⟧.parts folding.now
-        params.now input_mmcs.now in
-        IfErr result (HidingRefusal r num_random_codewords challenger.old
-        (map request requests.old)) }
-    ensures unmoved { IfErr result (λ e. LeavesHidingState e → challenger.new ≡ challenger.old) }
-    ensures untouched { IfErr result (λ e. LeavesHidingState e → requests.new ≡ requests.old) }
-{
-    check_requests(num_random_codewords, params, input_mmcs, &*requests)?;
-    mark_all(&mut *requests);
-    let opening = open_hidden(alloc, folding, params, input_mmcs, &*requests, challenger)?;
-    Ok(opening)
 }
 
 /// The opening of all columns, with the random values of private data moved beside the proof. Want
@@ -294,8 +198,8 @@ pub fn open_hiding_requests<
         (opened_values opening.1.0.items)) (proof_of opening.1.1) challenger.old) }
     ensures checked { let r = ⟦<C as OpensTwoAdic<F, EF, InputMmcs, M>>⟧.parts input_mmcs.now
         params.now in
-        IsOk result → PassesHidingChecks r.setting.fields r.parameters num_random_codewords r.committed
-        (map request requests.old) }
+        IsOk result → PassesHidingChecks r.setting.fields r.parameters num_random_codewords
+        r.committed (map request requests.old) }
     ensures opened { let r = ⟦<C as OpensTwoAdic<F, EF, InputMmcs, M>>⟧.parts input_mmcs.now
         params.now in
         PassesHidingChecks r.setting.fields r.parameters num_random_codewords r.committed
@@ -313,18 +217,11 @@ pub fn open_hiding_requests<
     ensures unmoved { IfErr result (λ e. LeavesHidingState e → challenger.new ≡ challenger.old) }
     ensures untouched { IfErr result (λ e. LeavesHidingState e → requests.new ≡ requests.old) }
 {
+    check_requests(num_random_codewords, params, input_mmcs, &*requests)?;
+    mark_all(&mut *requests);
     let folding: TwoAdicFriFoldingForMmcs<F, InputMmcs> = TwoAdicFriFolding(PhantomData);
-    let opened = open_marked::<F, EF, M, InputMmcs, TwoAdicFriFoldingForMmcs<F, InputMmcs>, C>(
-        alloc,
-        &folding,
-        params,
-        input_mmcs,
-        num_random_codewords,
-        requests,
-        challenger,
-    );
-    match opened {
-        Ok(opening) => split_opening(alloc, opening, num_random_codewords, preprocessing),
-        Err(refusal) => Err(refusal),
-    }
+    let opening = open_hidden::<F, EF, M, InputMmcs, TwoAdicFriFoldingForMmcs<F, InputMmcs>, C>(
+        alloc, &folding, params, input_mmcs, &*requests, challenger,
+    )?;
+    split_opening(alloc, opening, num_random_codewords, preprocessing)
 }

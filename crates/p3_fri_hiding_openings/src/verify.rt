@@ -6,7 +6,7 @@ ghost use Rattle.p3_fri_relation.specs.declared.error.FriError.TheVariants.{OutO
 ghost use Rattle.p3_fri_relation.specs.Views.{parameters_of, proof_of};
 ghost use Rattle.p3_fri_openings.specs.SchemeClaims.{relation_claims};
 ghost use Rattle.p3_fri_opening_verifier.specs.Ends.{last_state};
-ghost use Rattle.p3_fri_opening_verifier.specs.Ranges.{InVerifierRange as verifier_range};
+ghost use Rattle.p3_fri_two_adic.specs.Ranges.{InVerifierRange};
 ghost use Rattle.p3_fri_hiding_openings.specs.RandomValues.{with_random_values};
 ghost use Rattle.p3_fri_hiding_openings.specs.Hiding.{HidingAccepts, StandsInHidingScheme};
 ghost use Rattle.p3_fri_hiding_openings.specs.Hiding.{LeavesHidingVerifier};
@@ -55,7 +55,7 @@ pub fn verify_with_random_values<
     challenger: &mut C,
     preprocessing: Option<usize>,
 ) -> Result<(), FriError<M::Error, InputMmcs::Error>>
-    requires range { verifier_range (parameters_of params.now) F.TWO_ADICITY C.MAX_SAMPLE_BITS }
+    requires range { InVerifierRange (parameters_of params.now) F.TWO_ADICITY C.MAX_SAMPLE_BITS }
     ensures exactly { let s = ⟦<C as PlaysTwoAdic<F, EF, InputMmcs, M>>⟧.setting input_mmcs.now
         params.now.mmcs in
         result ≢ Err OutOfMemory → (IsOk result ↔ HidingAccepts s (parameters_of params.now)

@@ -1,5 +1,5 @@
 -- An opening of rounds is one of the requests that they come of, and honest ones are accepted.
-use Rattle.std.proofs.Common.{◌≡◌, ◌≤◌, ◌+◌, ℕ, List, [], ◌∷◌, map, length, refl}
+use Rattle.std.proofs.Common.{◌≡◌, ◌≤◌, ◌+◌, ◌^◌, ℕ, List, [], ◌∷◌, map, length, refl}
 use Rattle.std.proofs.Common.{sym, ap, ◌∙◌, subst}
 use Rattle.std.proofs.Common.{Result, Ok, Err}
 use Rattle.std.specs.Prelude.{IfOk, IfErr}
@@ -7,7 +7,7 @@ use Rattle.std.specs.List.{AllZip}
 use Rattle.std.proofs.lemmas.List.{length-map}
 use Rattle.algebra.specs.Nested.{joined}
 use Rattle.p3_pcs.specs.declared.requests.OpeningRequest.{OpeningRequest}
-use Rattle.p3_pcs.specs.Requests.{Request, request, AreOpenable, AreHonest, honest_claims}
+use Rattle.p3_pcs.specs.Requests.{Request, request, AreOpenable, AreHonest, FitDomains}
 use Rattle.p3_pcs.specs.Requests.{honest_values}
 use Rattle.p3_fri_folding.specs.declared.error.FriProverError.{FriProverError}
 use Rattle.p3_fri_folding.specs.declared.error.FriProverError.TheVariants.{InputHeightTooSmall}
@@ -15,7 +15,7 @@ use Rattle.p3_fri_folding.specs.declared.error.FriProverError.TheVariants.{Final
 use Rattle.p3_fri_folding.specs.declared.error.FriProverError.TheVariants.{PointInEvaluationDomain}
 use Rattle.p3_fri_folding.specs.declared.error.FriProverError.TheVariants.{NoPowWitness, OutOfMemory}
 use Rattle.p3_fri_pcs_transcript.specs.Replay.{BatchReplay}
-use Rattle.p3_fri_relation.specs.Setting.{Setting, Parameters, CommitmentClaim, Proof, InputOpening}
+use Rattle.p3_fri_relation.specs.Setting.{Proof, InputOpening}
 use Rattle.p3_fri_relation.specs.Acceptance.{Accepts, batch_replayed, test_replay}
 use Rattle.p3_fri_openings.specs.declared.round.OpeningRound.{OpeningRound}
 use Rattle.p3_fri_openings.specs.Opened.{values_asked}
@@ -25,15 +25,14 @@ use Rattle.p3_fri_batch.specs.Rounds.{opened_of}
 use Rattle.p3_fri_prover.specs.Openings.{OpensBatch}
 use Rattle.p3_fri_prover.specs.Proved.{IsProved, positions}
 use Rattle.p3_fri_completeness.specs.Honest.{AreTwoAdic, DrawsFit}
-use Rattle.p3_fri_openings.specs.SchemeClaims.{relation_claims}
 use Rattle.p3_fri_completeness.specs.Requests.{round_opened}
-use Rattle.p3_fri_completeness.proofs.Requests.{Fit}
 use Rattle.p3_fri_completeness.proofs.Rounds.{opened_by_request, values_by_request}
 use Rattle.p3_fri_completeness.proofs.Opening.{opening_accepted, opening_last_state}
-use Rattle.p3_fri_opening_prover.specs.Setting.{OpeningSetting, IsInOpeningRange, held}
-use Rattle.p3_fri_opening_prover.specs.Setting.{StandsOnCosets, IsHonest}
+use Rattle.p3_fri_opening_prover.specs.Ranges.{IsInOpeningRange}
+use Rattle.p3_fri_opening_prover.specs.Setting.{OpeningSetting, StandsOnCosets, IsHonest, held}
 use Rattle.p3_fri_opening_prover.specs.Opening.{heights, top, words, batch}
 use Rattle.p3_fri_opening_prover.specs.Opening.{IsOpening, OpeningStops}
+use Rattle.p3_fri_opening_prover.specs.Opened.{IsOpened, claims_asked}
 use Rattle.p3_fri_opening_prover.specs.Refusals.{PassesChecks, RequestsStop, OpenRefusal}
 use Rattle.p3_fri_opening_prover.specs.Refusals.{LeavesState}
 use Rattle.algebra.proofs.Lists.{map-map}
@@ -50,16 +49,6 @@ zip_unmapped g R [] [] h = tt
 zip_unmapped g R [] (z ∷ zs) h = absurd h
 zip_unmapped g R (x ∷ xs) [] h = absurd h
 zip_unmapped g R (x ∷ xs) (z ∷ zs) h = (h.0, zip_unmapped g R xs zs h.1)
-
--- a verifier accepts each proof of all claims that fit, and is left in the state `last`
-pub record AllVerify {F E C Com Path InCom InPath T X Domains : Type 0}
-    (s : Setting F E C Com Path InCom InPath) (p : Parameters) (result : Result T X)
-    (view : T → Proof F E Com Path InPath) (Fits : Domains → Type 0)
-    (claims : Domains → List (CommitmentClaim E InCom)) (c last : C) : Type 0 where
-  pub accepted : IfOk result (λ o. (ds : Domains) → Fits ds → Accepts s p (claims ds) (view o) c)
-  pub state : IfOk result (λ o. (ds : Domains) → Fits ds
-      → last ≡ (test_replay s p (claims ds) (view o)
-      (batch_replayed s p (claims ds) (view o) c).state).state)
 
 module _ {F E C D Data Com Path InCom InPath : Type 0}
     (r : OpeningSetting F E C D Data Com Path InCom InPath) (rounds : List (OpeningRound F E))
@@ -80,11 +69,6 @@ module _ {F E C D Data Com Path InCom InPath : Type 0}
   values_are_honest : values ≡ honest
   values_are_honest = values_by_request r.setting.fields r.parameters.log_blowup r.committed rounds
       requests rounds_are
-
-  pub all_honest : {T X : Type 0} (result : Result T X) (view : T → List (List (List (List E))))
-      → IfOk result (λ o. view o ≡ values) → IfOk result (λ o. view o ≡ honest)
-  all_honest (Ok o) view is = is ∙ values_are_honest
-  all_honest (Err e) view is = tt
 
   -- what stops an opening of the rounds
   module _ (c : C) where
@@ -116,19 +100,16 @@ module _ {F E C D Data Com Path InCom InPath : Type 0}
     all_refused (Ok o) passes h not = tt
     all_refused (Err e) passes h not = refused_asked e passes h not
 
-  -- an opening of honest requests
-  module _ {Domain : Type 0} (log_size : Domain → ℕ) (laws : AreTwoAdic r.setting.fields)
+  -- an opening of the rounds
+  module _ (laws : AreTwoAdic r.setting.fields)
       (fit : (bits : ℕ) → bits ≤ r.setting.fields.two_adicity + r.setting.extra_bits
-      → DrawsFit r.setting.moves bits) (in_range : IsInOpeningRange r)
+      → DrawsFit r.setting.moves bits)
+      (in_range : IsInOpeningRange r.parameters r.setting.fields.two_adicity r.setting.extra_bits
+      r.max_log_height r.most_bits)
       (openable : AreOpenable (StandsOnCosets r) (held r) asked)
-      (are_honest : AreHonest (IsHonest r) asked)
       (passes : PassesChecks r.setting.fields r.parameters r.committed asked) (batches : List D)
       (batches_are : batches ≡ map (λ (q : OpeningRequest D E). q.prover_data.now) requests)
       (c last : C) where
-    abbrev claims : List (List Domain) → List (CommitmentClaim E InCom)
-    claims domains =
-        relation_claims log_size (honest_claims (held r) r.commitment_of domains asked)
-
     module _ (proof : Proof F E Com Path InPath)
         (opening : IsOpening r opened values c batches proof last) where
       abbrev drawn : BatchReplay C E
@@ -157,32 +138,37 @@ module _ {F E C D Data Com Path InCom InPath : Type 0}
       inputs_asked = zip_unmapped (λ q. q.prover_data.now) Opens requests proof.inputs
           (subst (λ ds. AllZip Opens ds proof.inputs) batches_are opening.tested.inputs)
 
-      module _ (domains : List (List Domain))
-          (fits : Fit r.setting.fields r.parameters r.committed r.commitment_of log_size domains
-          asked) where
-        accepted_asked : Accepts r.setting r.parameters (claims domains) proof c
+      -- of honest data
+      module _ (are_honest : AreHonest (IsHonest r) asked) (log_sizes : List (List ℕ))
+          (fits : FitDomains (held r) (λ n. 2 ^ n) log_sizes asked) where
+        accepted_asked : Accepts r.setting r.parameters (claims_asked r asked log_sizes) proof c
         accepted_asked = opening_accepted r.setting r.parameters r.committed r.commitment_of
-            log_size rounds requests values c proof last laws fit in_range.queries
+            (λ (n : ℕ). n) rounds requests values c proof last laws fit in_range.queries
             in_range.blowup in_range.rounds.test.cap openable are_honest passes.heights
             passes.points rounds_are refl opening.tested.passes opening.canonical
-            (top r.setting.fields opened) quotients refl refl proved_asked inputs_asked domains fits
+            (top r.setting.fields opened) quotients refl refl proved_asked inputs_asked log_sizes
+            fits
 
-        state_asked : last ≡ (test_replay r.setting r.parameters (claims domains) proof
-            (batch_replayed r.setting r.parameters (claims domains) proof c).state).state
+        state_asked : last ≡ (test_replay r.setting r.parameters (claims_asked r asked log_sizes)
+            proof (batch_replayed r.setting r.parameters (claims_asked r asked log_sizes) proof
+            c).state).state
         state_asked = sym (opening_last_state r.setting r.parameters r.committed r.commitment_of
-            log_size rounds requests values c proof last laws fit in_range.queries
+            (λ (n : ℕ). n) rounds requests values c proof last laws fit in_range.queries
             in_range.blowup in_range.rounds.test.cap openable are_honest passes.heights
             passes.points rounds_are refl opening.tested.passes opening.canonical
-            (top r.setting.fields opened) quotients refl refl proved_asked inputs_asked domains fits)
+            (top r.setting.fields opened) quotients refl refl proved_asked inputs_asked log_sizes
+            fits)
 
-    -- is accepted, and leaves a verifier in the prover's last state
-    pub all_verify : {T X : Type 0} (result : Result T X) (view : T → Proof F E Com Path InPath)
+    -- is one of the requests
+    pub all_opened : {T X : Type 0} (result : Result T X)
+        (shown : T → List (List (List (List E)))) (view : T → Proof F E Com Path InPath)
+        → IfOk result (λ o. shown o ≡ values)
         → IfOk result (λ o. IsOpening r opened values c batches (view o) last)
-        → AllVerify r.setting r.parameters result view
-        (λ ds. Fit r.setting.fields r.parameters r.committed r.commitment_of log_size ds asked)
-        claims c last
-    all_verify (Ok o) view opening = record {
-      accepted = λ domains fits. accepted_asked (view o) opening domains fits;
-      state = λ domains fits. state_asked (view o) opening domains fits;
+        → IfOk result (λ o. IsOpened r asked c last (shown o) (view o))
+    all_opened (Ok o) shown view is opening = record {
+      honest = is ∙ values_are_honest;
+      accepted = λ are_honest log_sizes fits.
+          accepted_asked (view o) opening are_honest log_sizes fits;
+      state = λ are_honest log_sizes fits. state_asked (view o) opening are_honest log_sizes fits;
     }
-    all_verify (Err e) view opening = record { accepted = tt; state = tt }
+    all_opened (Err e) shown view is opening = tt

@@ -1,3 +1,5 @@
 pub mod Setting
+pub mod Ranges
 pub mod Opening
+pub mod Opened
 pub mod Refusals

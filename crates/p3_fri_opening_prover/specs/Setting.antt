@@ -1,9 +1,8 @@
--- What an opening stands on, and for which parameters one is made.
-use Rattle.std.specs.Prelude.{ℕ, ◌<◌, ◌≤◌, List, Option, All}
+-- What an opening stands on.
+use Rattle.std.specs.Prelude.{ℕ, List, Option, All}
 use Rattle.p3_matrix.specs.declared.dense.RowMajorMatrix.{RowMajorMatrix}
 use Rattle.p3_pcs.specs.Requests.{Held}
 use Rattle.p3_fri_relation.specs.Setting.{Setting, Parameters}
-use Rattle.p3_fri_prover.specs.Prover.{IsInProverRange}
 use Rattle.p3_fri_openings.specs.Held.{held_of, HoldsWords}
 use Rattle.p3_fri_openings.specs.Rounds.{HasCoset}
 
@@ -39,19 +38,3 @@ module _ {F E C D Data Com Path InCom InPath : Type 0}
   -- a datum's matrices are words of polynomials of low degree
   abbrev pub IsHonest : D → Type 0
   IsHonest = λ d. All (HoldsWords r.setting.fields r.parameters.log_blowup) (r.committed d)
-
-  -- the parameters are in the range of a prover of rounds: in that of the test's prover, the
-  -- challenger draws as many bits at once as the difficulty before the batching challenge, and all
-  -- words on the field's cosets can be folded
-  pub record IsInRoundsRange : Type 0 where
-    pub test : IsInProverRange r.parameters r.setting.fields.two_adicity r.setting.extra_bits
-        r.most_bits
-    pub batch_bits : r.parameters.batch_pow_bits ≤ r.most_bits
-    pub max_log_height : r.setting.fields.two_adicity ≤ r.max_log_height
-
-  -- and in that of a prover of requests: words are longer than what they are words of, and some
-  -- position of theirs is queried
-  pub record IsInOpeningRange : Type 0 where
-    pub blowup : 0 < r.parameters.log_blowup
-    pub queries : 0 < r.parameters.num_queries
-    pub rounds : IsInRoundsRange

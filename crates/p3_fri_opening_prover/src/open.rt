@@ -1,18 +1,16 @@
 //! The prover of openings.
 
-ghost use Rattle.std.specs.Prelude.{◌≡◌, ◌≢◌, ◌^◌, ℕ, [], List, All, IsOk, IfOk, IfErr, map};
+ghost use Rattle.std.specs.Prelude.{◌≡◌, ◌≢◌, [], All, IsOk, IfOk, IfErr, map};
 ghost use Rattle.p3_pcs.specs.Claims.{opened_values};
-ghost use Rattle.p3_pcs.specs.Requests.{AreOpenable, AreHonest, FitDomains, request};
-ghost use Rattle.p3_pcs.specs.Requests.{honest_values, honest_claims};
-ghost use Rattle.p3_fri_relation.specs.Acceptance.{Accepts, batch_replayed, test_replay};
+ghost use Rattle.p3_pcs.specs.Requests.{AreOpenable, request};
 ghost use Rattle.p3_fri_relation.specs.Views.{parameters_of, proof_of};
 ghost use Rattle.p3_fri_openings.specs.Opened.{values_asked};
 ghost use Rattle.p3_fri_openings.specs.Rounds.{IsRound};
 ghost use Rattle.p3_fri_openings.specs.Refusals.{AreTallEnough, ArePointsOff};
-ghost use Rattle.p3_fri_openings.specs.SchemeClaims.{relation_claims};
 ghost use Rattle.p3_fri_batch.specs.Rounds.{opened_of};
-ghost use Rattle.p3_fri_opening_prover.specs.Setting.{IsInRoundsRange, IsInOpeningRange, held};
-ghost use Rattle.p3_fri_opening_prover.specs.Setting.{StandsOnCosets, IsHonest};
+ghost use Rattle.p3_fri_opening_prover.specs.Ranges.{IsInRoundsRange, IsInOpeningRange};
+ghost use Rattle.p3_fri_opening_prover.specs.Setting.{StandsOnCosets, held};
+ghost use Rattle.p3_fri_opening_prover.specs.Opened.{IsOpened};
 ghost use Rattle.p3_fri_opening_prover.specs.Opening.{IsOpening, OpeningStops};
 ghost use Rattle.p3_fri_opening_prover.specs.Refusals.{PassesChecks, OpenRefusal, LeavesState};
 
@@ -66,8 +64,8 @@ pub fn open_rounds<
     ),
     FriProverError,
 >
-    requires in_range { IsInRoundsRange (⟦<C as OpensFri<F, EF, S, M, InputMmcs>>⟧.parts
-        folding.now params.now input_mmcs.now) }
+    requires in_range { IsInRoundsRange (parameters_of params.now) F.TWO_ADICITY
+        (S.extra_query_index_bits folding.now) (S.max_log_height folding.now) C.MAX_SAMPLE_BITS }
     requires rounds { All (IsRound F.TWO_ADICITY) rounds.now }
     requires tall_enough { All (λ r. AreTallEnough (parameters_of params.now) r.matrices.now)
         rounds.now }
@@ -159,33 +157,15 @@ pub fn open_requests<
     ),
     FriProverError,
 >
-    requires in_range { IsInOpeningRange (⟦<C as OpensFri<F, EF, S, M, InputMmcs>>⟧.parts
-        folding.now params.now input_mmcs.now) }
+    requires in_range { IsInOpeningRange (parameters_of params.now) F.TWO_ADICITY
+        (S.extra_query_index_bits folding.now) (S.max_log_height folding.now) C.MAX_SAMPLE_BITS }
     requires openable { let r = ⟦<C as OpensFri<F, EF, S, M, InputMmcs>>⟧.parts folding.now
         params.now input_mmcs.now in
         AreOpenable (StandsOnCosets r) (held r) (map request requests.now) }
-    ensures values { let r = ⟦<C as OpensFri<F, EF, S, M, InputMmcs>>⟧.parts folding.now
+    ensures opened { let r = ⟦<C as OpensFri<F, EF, S, M, InputMmcs>>⟧.parts folding.now
         params.now input_mmcs.now in
-        IfOk result (λ opening. opened_values opening.0.items
-        ≡ map (honest_values (held r)) (map request requests.now)) }
-    ensures accepted { let r = ⟦<C as OpensFri<F, EF, S, M, InputMmcs>>⟧.parts folding.now
-        params.now input_mmcs.now in
-        let asked = map request requests.now in
-        AreHonest (IsHonest r) asked → IfOk result (λ opening. (log_sizes : List (List ℕ))
-        → FitDomains (held r) (λ n. 2 ^ n) log_sizes asked
-        → Accepts r.setting r.parameters (relation_claims (λ n. n)
-        (honest_claims (held r) r.commitment_of log_sizes asked)) (proof_of opening.1)
-        challenger.old) }
-    ensures state { let r = ⟦<C as OpensFri<F, EF, S, M, InputMmcs>>⟧.parts folding.now
-        params.now input_mmcs.now in
-        let asked = map request requests.now in
-        AreHonest (IsHonest r) asked → IfOk result (λ opening. (log_sizes : List (List ℕ))
-        → FitDomains (held r) (λ n. 2 ^ n) log_sizes asked
-        → let claims = relation_claims (λ n. n)
-        (honest_claims (held r) r.commitment_of log_sizes asked) in
-        challenger.new ≡ (test_replay r.setting r.parameters claims (proof_of opening.1)
-        (batch_replayed r.setting r.parameters claims (proof_of opening.1)
-        challenger.old).state).state) }
+        IfOk result (λ opening. IsOpened r (map request requests.now) challenger.old
+        challenger.new (opened_values opening.0.items) (proof_of opening.1)) }
     ensures checked { let r = ⟦<C as OpensFri<F, EF, S, M, InputMmcs>>⟧.parts folding.now
         params.now input_mmcs.now in
         IsOk result → PassesChecks r.setting.fields r.parameters r.committed

@@ -13,7 +13,7 @@ ghost use Rattle.p3_fri_openings.specs.Rounds.{IsRound};
 ghost use Rattle.p3_fri_openings.specs.Refusals.{AreTallEnough};
 ghost use Rattle.p3_fri_openings.specs.Denominators.{AreInverses, ArePointsCovered};
 ghost use Rattle.p3_fri_batch.specs.Rounds.{HaveValues, opened_of};
-ghost use Rattle.p3_fri_opening_prover.specs.Setting.{IsInRoundsRange};
+ghost use Rattle.p3_fri_opening_prover.specs.Ranges.{IsInRoundsRange};
 ghost use Rattle.p3_fri_opening_prover.specs.Opening.{IsOpening, OpeningStops};
 ghost use Rattle.p3_fri_opening_prover.specs.Refusals.{LeavesState};
 
@@ -54,8 +54,8 @@ pub(crate) fn open_seeded<
     seed: Seed,
     shape: PcsShape,
 ) -> Result<FriProof<EF, M, F, Vec<BatchMultiOpening<F, InputMmcs>>>, FriProverError>
-    requires in_range { IsInRoundsRange (⟦<C as OpensFri<F, EF, S, M, InputMmcs>>⟧.parts
-        folding.now params.now input_mmcs.now) }
+    requires in_range { IsInRoundsRange (parameters_of params.now) F.TWO_ADICITY
+        (S.extra_query_index_bits folding.now) (S.max_log_height folding.now) C.MAX_SAMPLE_BITS }
     requires rounds { All (IsRound F.TWO_ADICITY) rounds.now }
     requires tall_enough { All (λ r. AreTallEnough (parameters_of params.now) r.matrices.now)
         rounds.now }

@@ -1,6 +1,6 @@
 //! The transcript around the test, once its seed is made.
 
-ghost use Rattle.std.specs.Prelude.{◌≡◌, ◌≢◌, ◌+◌, ◌<◌, ◌≤◌, ◌↔◌, Some, Err, true, IsTrue, map};
+ghost use Rattle.std.specs.Prelude.{◌≡◌, ◌≢◌, ◌≤◌, ◌↔◌, Some, Err, true, IsTrue, map};
 ghost use Rattle.std.specs.Prelude.{[], IsOk, IfOk, IfErr, OnOk};
 ghost use Rattle.std.specs.List.{flat_map};
 ghost use Rattle.p3_challenger_core.specs.Run.{observed_all};
@@ -20,6 +20,7 @@ ghost use Rattle.p3_fri_relation.specs.Failures.{of_pcs_transcript};
 ghost use Rattle.p3_fri_relation.specs.Faults.{Stands, StandsInScheme};
 ghost use Rattle.p3_fri_relation.specs.Views.{parameters_of, claims_of, proof_of};
 ghost use Rattle.p3_fri_opening_verifier.specs.Ends.{last_state};
+ghost use Rattle.p3_fri_opening_verifier.specs.Ranges.{IsInVerifierRange};
 
 use p3_challenger_core::{CanObserve, FieldChallenger, GrindingChallenger, Plays};
 use p3_challenger_fs::Seed;
@@ -97,12 +98,8 @@ fn test_inside<
     alpha: EF,
     transcript: &mut PcsVerifierTranscript<'_, C, F, EF>,
 ) -> Result<(), FriError<M::Error, InputMmcs::Error>>
-    requires final_height_below_64 { params.now.log_blowup + params.now.log_final_poly_len < 64 }
-    requires index_bits_at_most_max { F.TWO_ADICITY + S.extra_query_index_bits folding.now
-        ≤ C.MAX_SAMPLE_BITS }
-    requires commit_bits_at_most_max { params.now.commit_proof_of_work_bits ≤ C.MAX_SAMPLE_BITS }
-    requires query_bits_at_most_max { params.now.query_proof_of_work_bits ≤ C.MAX_SAMPLE_BITS }
-    requires max_log_height { F.TWO_ADICITY ≤ S.max_log_height folding.now }
+    requires range { IsInVerifierRange (parameters_of params.now) F.TWO_ADICITY
+        (S.extra_query_index_bits folding.now) (S.max_log_height folding.now) C.MAX_SAMPLE_BITS }
     requires bracket_left { left_of transcript.old ≡ bracket_turns }
     ensures kept { Kept transcript.old transcript.new }
     ensures exact { let s = ⟦<C as PlaysFri<F, EF, S, M, InputMmcs>>⟧.setting folding.now
@@ -160,13 +157,8 @@ pub(crate) fn verify_seeded<
     seed: Seed,
     shape: PcsShape,
 ) -> Result<(), FriError<M::Error, InputMmcs::Error>>
-    requires final_height_below_64 { params.now.log_blowup + params.now.log_final_poly_len < 64 }
-    requires index_bits_at_most_max { F.TWO_ADICITY + S.extra_query_index_bits folding.now
-        ≤ C.MAX_SAMPLE_BITS }
-    requires batch_bits_at_most_max { params.now.batch_proof_of_work_bits ≤ C.MAX_SAMPLE_BITS }
-    requires commit_bits_at_most_max { params.now.commit_proof_of_work_bits ≤ C.MAX_SAMPLE_BITS }
-    requires query_bits_at_most_max { params.now.query_proof_of_work_bits ≤ C.MAX_SAMPLE_BITS }
-    requires max_log_height { F.TWO_ADICITY ≤ S.max_log_height folding.now }
+    requires range { IsInVerifierRange (parameters_of params.now) F.TWO_ADICITY
+        (S.extra_query_index_bits folding.now) (S.max_log_height folding.now) C.MAX_SAMPLE_BITS }
     requires shape { pcs_shape shape ≡ record {
       counts = counts_of_claims claims.now;
       batch_pow_bits = params.now.batch_proof_of_work_bits;

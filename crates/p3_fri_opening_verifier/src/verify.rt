@@ -1,6 +1,6 @@
 //! The verifier of openings.
 
-ghost use Rattle.std.specs.Prelude.{◌≡◌, ◌≢◌, ◌+◌, ◌<◌, ◌≤◌, ◌↔◌, Err, IsOk, IfErr};
+ghost use Rattle.std.specs.Prelude.{◌≡◌, ◌≢◌, ◌↔◌, Err, IsOk, IfErr};
 ghost use Rattle.p3_fri_folding.specs.declared.pow_phase.PowPhase.{PowPhase};
 ghost use Rattle.p3_fri_relation.specs.declared.error.FriError.TheVariants.{OutOfMemory};
 ghost use Rattle.p3_fri_relation.specs.declared.error.FriError.TheVariants.{NonCanonicalPowWitness};
@@ -8,6 +8,7 @@ ghost use Rattle.p3_fri_relation.specs.Acceptance.{Accepts};
 ghost use Rattle.p3_fri_relation.specs.Faults.{StandsInScheme};
 ghost use Rattle.p3_fri_relation.specs.Views.{parameters_of, claims_of, proof_of};
 ghost use Rattle.p3_fri_opening_verifier.specs.Ends.{last_state};
+ghost use Rattle.p3_fri_opening_verifier.specs.Ranges.{IsInVerifierRange};
 
 use crate::seeded::verify_seeded;
 use p3_challenger_core::{CanObserve, FieldChallenger, GrindingChallenger};
@@ -54,13 +55,8 @@ pub fn verify_opening<
     proof: &FriProof<EF, M, F, Vec<BatchMultiOpening<F, InputMmcs>>>,
     challenger: &mut C,
 ) -> Result<(), FriError<M::Error, InputMmcs::Error>>
-    requires final_height_below_64 { params.now.log_blowup + params.now.log_final_poly_len < 64 }
-    requires index_bits_at_most_max { F.TWO_ADICITY + S.extra_query_index_bits folding.now
-        ≤ C.MAX_SAMPLE_BITS }
-    requires batch_bits_at_most_max { params.now.batch_proof_of_work_bits ≤ C.MAX_SAMPLE_BITS }
-    requires commit_bits_at_most_max { params.now.commit_proof_of_work_bits ≤ C.MAX_SAMPLE_BITS }
-    requires query_bits_at_most_max { params.now.query_proof_of_work_bits ≤ C.MAX_SAMPLE_BITS }
-    requires max_log_height { F.TWO_ADICITY ≤ S.max_log_height folding.now }
+    requires range { IsInVerifierRange (parameters_of params.now) F.TWO_ADICITY
+        (S.extra_query_index_bits folding.now) (S.max_log_height folding.now) C.MAX_SAMPLE_BITS }
     ensures exact { let s = ⟦<C as PlaysFri<F, EF, S, M, InputMmcs>>⟧.setting folding.now
         params.now.mmcs input_mmcs.now in
         result ≢ Err OutOfMemory → (IsOk result

@@ -1,6 +1,6 @@
 pub mod Chunks
 pub mod Held
-pub use Rattle.p3_fri_opening_verifier.specs.Ranges
+pub mod Ranges
 pub use Rattle.p3_fri_opening_verifier.specs.Accepted
 pub use Rattle.p3_fri_opening_verifier.specs.Ends
 pub use Rattle.p3_fri_opening_prover.specs.Refusals

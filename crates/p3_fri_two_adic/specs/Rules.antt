@@ -17,7 +17,6 @@ use Rattle.p3_fri_relation.specs.Acceptance.{Accepts}
 use Rattle.p3_fri_relation.specs.Faults.{StandsInScheme}
 use Rattle.p3_fri_openings.specs.Held.{held_in, HoldsWords}
 use Rattle.p3_fri_openings.specs.SchemeClaims.{relation_claims}
-use Rattle.p3_fri_opening_verifier.specs.Ranges.{InProverRange, InVerifierRange}
 use Rattle.p3_fri_opening_verifier.specs.Ends.{last_state}
 use Rattle.p3_fri_opening_verifier.specs.Accepted.{LeavesVerifier}
 use Rattle.p3_fri_opening_prover.specs.Setting.{OpeningSetting, held}
@@ -26,6 +25,7 @@ use Rattle.p3_fri_opening_prover.specs.Refusals.{PassesChecks, OpenRefusal, Leav
 use Rattle.p3_fri_two_adic.specs.Evaluations.{IsMatrixOf, HoldsWordsAt}
 use Rattle.p3_fri_two_adic.specs.Held.{IsSubgroupSize, Extends}
 use Rattle.p3_fri_two_adic.specs.Ldes.{HasLdeHeight}
+use Rattle.p3_fri_two_adic.specs.Ranges.{InProverRange, InVerifierRange}
 
 -- over domains with these shifts and log sizes, and commitments with the errors `A` of rounds and
 -- `B` of batches

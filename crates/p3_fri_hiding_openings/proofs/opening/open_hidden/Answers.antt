@@ -1,20 +1,17 @@
-use Rattle.std.proofs.Common.{sym, ◌≡◌, ◌∙◌, ◌^◌, ℕ, List, map, ap, arith}
+use Rattle.std.proofs.Common.{◌≡◌, ◌∙◌, map, sym, ap, arith}
 use Rattle.p3_challenger_core.specs.Run.{moves}
 use Rattle.p3_pcs.specs.Claims.{opened_values}
-use Rattle.p3_pcs.specs.Requests.{AreHonest, FitDomains, honest_claims, request}
 use Rattle.p3_fri_folding.specs.declared.config.FriParameters.{FriParameters}
 use Rattle.p3_fri_relation.specs.Setting.{Fields, Setting}
 use Rattle.p3_fri_relation.specs.Views.{parameters_of, proof_of}
 use Rattle.p3_fri_openings.specs.Requests.{round_request, matrices_request}
 use Rattle.p3_fri_completeness.specs.Honest.{AreTwoAdic}
-use Rattle.p3_fri_openings.specs.SchemeClaims.{relation_claims}
-use Rattle.p3_fri_opening_prover.specs.Setting.{OpeningSetting, held, IsHonest}
+use Rattle.p3_fri_opening_prover.specs.Setting.{OpeningSetting}
 use Rattle.p3_fri_opening_prover.proofs.Asked.{data_seen, some_matrix}
-use Rattle.p3_fri_opening_prover.proofs.Composed.{AllVerify, all_honest, all_refused, all_verify}
+use Rattle.p3_fri_opening_prover.proofs.Composed.{all_opened, all_refused}
 use Rattle.p3_fri_opening_prover.proofs.Composed.{read_alike}
 use Rattle.p3_fri_hiding_openings.proofs.opening.open_hidden.Given.{Over}
 use Rattle.p3_fri_hiding_openings.proofs.opening.open_hidden.Goals.{After-deref, After-deref-2}
-use Rattle.p3_fri_hiding_openings.proofs.opening.open_hidden.Goals.{After-open_rounds}
 use Rattle.algebra.proofs.Lists.{map-map}
 use Rattle.p3_fri_hiding_openings.specs.Requests.{inner_request}
 use Rattle.p3_fri_opening_prover.proofs.Asked.{are_rounds, tall_rounds, off_rounds}
@@ -107,49 +104,18 @@ open_rounds-requires-clause-opened g c =
     c.deref.result.now (map inner_request c.args.requests.now)
     (same g (goal.at.open_rounds-requires-clause-opened g c).After-deref)
 
-pub returns-clause-values :
-    goal.returns-clause-values
-returns-clause-values g c =
-    all_honest (parts_at g c.args.folding.now c.args.params.now c.args.input_mmcs.now)
+pub returns-clause-opened : goal.returns-clause-opened
+returns-clause-opened g c =
+    all_opened (parts_at g c.args.folding.now c.args.params.now c.args.input_mmcs.now)
     c.deref.result.now (map inner_request c.args.requests.now)
-    (same g (goal.at.returns-clause-values g c).After-deref)
-    c.open_rounds.result (λ opening. opened_values opening.0.items) c.open_rounds.ensures.values
-
--- an opening of honest requests is accepted
-verifies : (g : Over) (c : After-open_rounds g)
-    → let r = parts_at g c.args.folding.now c.args.params.now c.args.input_mmcs.now in
-    let asked = map request (map inner_request c.args.requests.now) in
-    AreHonest (IsHonest r) asked
-    → AllVerify r.setting r.parameters c.open_rounds.result (λ opening. proof_of opening.1)
-    (λ (log_sizes : List (List ℕ)). FitDomains (held r) (λ n. 2 ^ n) log_sizes asked)
-    (λ log_sizes. relation_claims (λ n. n)
-    (honest_claims (held r) r.commitment_of log_sizes asked))
-    c.args.challenger.now c.open_rounds.new.challenger
-verifies g c honest =
-    all_verify (parts_at g c.args.folding.now c.args.params.now c.args.input_mmcs.now)
-    c.deref.result.now (map inner_request c.args.requests.now)
-    (ap (λ rounds. map round_request rounds) c.deref.ensures.value ∙ c.in-Ok.ensures
-    ∙ sym (map-map (matrices_request g.InputMmcs.Mmcs.committed) inner_request c.args.requests.now))
-    (λ (n : ℕ). n) (two_adic g)
+    (same g (goal.at.returns-clause-opened g c).After-deref) (two_adic g)
     (λ bits few state. g.met.C.CanSampleBits.width_law state bits
     (omega (arith, few, c.requires.in_range.rounds.test.index_bits)))
-    c.requires.in_range c.requires.openable honest c.requires.passes
+    c.requires.in_range c.requires.openable c.requires.passes
     (map (λ d. d.prover_data.now) c.deref-2.result.now)
-    (ap (λ ds. map (λ d. d.prover_data.now) ds) c.deref-2.ensures.value
-    ∙ (c.in-Ok-hidden_data.ensures
-    ∙ sym (map-map (λ r. r.prover_data.now) inner_request c.args.requests.now)))
-    c.args.challenger.now c.open_rounds.new.challenger
-    c.open_rounds.result (λ opening. proof_of opening.1) c.open_rounds.ensures.opening
-
-pub returns-clause-accepted :
-    goal.returns-clause-accepted
-returns-clause-accepted g c honest =
-    (verifies g (goal.at.returns-clause-accepted g c).After-open_rounds honest).accepted
-
-pub returns-clause-state :
-    goal.returns-clause-state
-returns-clause-state g c honest =
-    (verifies g (goal.at.returns-clause-state g c).After-open_rounds honest).state
+    (same_data g (goal.at.returns-clause-opened g c).After-deref-2) c.args.challenger.now
+    c.open_rounds.new.challenger c.open_rounds.result (λ opening. opened_values opening.0.items)
+    (λ opening. proof_of opening.1) c.open_rounds.ensures.values c.open_rounds.ensures.opening
 
 pub returns-clause-refused :
     goal.returns-clause-refused

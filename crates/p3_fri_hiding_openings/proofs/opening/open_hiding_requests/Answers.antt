@@ -1,17 +1,27 @@
-use Rattle.std.proofs.Common.{◌∙◌, ap, arith, map, refl, subst}
-use Rattle.std.proofs.lemmas.Result.{IfOk-weaker, IfErr-weaker}
+use Rattle.std.proofs.Common.{◌≡◌, ◌∙◌, List, map, sym, ap, subst}
+use Rattle.std.proofs.lemmas.Result.{IfOk-weaker, IfErr-weaker, err_from_is_err_and}
 use Rattle.p3_challenger_core.specs.Run.{moves}
 use Rattle.p3_pcs.specs.Claims.{opened_values}
-use Rattle.p3_pcs.specs.Requests.{request}
+use Rattle.p3_pcs.specs.Requests.{Request, AreOpenable, request}
+use Rattle.p3_fri_folding.specs.declared.config.FriParameters.{FriParameters}
 use Rattle.p3_fri_relation.specs.Setting.{Fields, Setting}
 use Rattle.p3_fri_relation.specs.Views.{parameters_of, proof_of}
+use Rattle.p3_fri_opening_prover.specs.Setting.{OpeningSetting, StandsOnCosets, held}
+use Rattle.p3_fri_opening_prover.specs.Opened.{IsOpened}
+use Rattle.p3_fri_opening_prover.specs.Refusals.{PassesChecks}
 use Rattle.p3_fri_two_adic.specs.Accepted.{two_adic}
-use Rattle.p3_fri_two_adic.proofs.InRange.{opening_range}
 use Rattle.p3_fri_hiding_openings.specs.Halves.{kept_values}
+use Rattle.p3_fri_hiding_openings.specs.Requests.{inside, inner_request}
 use Rattle.p3_fri_hiding_openings.specs.Opening.{LeavesHidingState}
-use Rattle.p3_fri_hiding_openings.proofs.Accepted.{accepted_shown, ends_shown, honest_shown, sizes_inside}
+use Rattle.p3_fri_hiding_openings.proofs.Accepted.{accepted_shown, ends_shown}
+use Rattle.p3_fri_hiding_openings.proofs.Accepted.{honest_shown, sizes_inside}
+use Rattle.p3_fri_hiding_openings.proofs.Inside.{inside_marked}
 use Rattle.p3_fri_hiding_openings.proofs.Openable.{honest_inside, openable_inside}
+use Rattle.p3_fri_hiding_openings.proofs.Passed.{refused_fails}
+use Rattle.p3_fri_hiding_openings.proofs.Stopped.{by_opening}
 use Rattle.p3_fri_hiding_openings.proofs.opening.open_hiding_requests.Given.{Over}
+use Rattle.p3_fri_hiding_openings.proofs.opening.open_hiding_requests.Goals.{After-mark_all}
+use Rattle.p3_fri_hiding_openings.proofs.opening.open_hiding_requests.Goals.{After-split_opening}
 use Rattle.p3_fri_hiding_openings.proofs.opening.open_hiding_requests.Goals as goal
 
 abbrev fields_of : (g : Over) → Fields g.row.F.Denot g.row.EF.Denot
@@ -36,125 +46,157 @@ setting_at g input_mmcs mmcs = two_adic (fields_of g)
     g.C.CanSampleBits.sampled_bits)
     (g.InputMmcs.Mmcs.opens input_mmcs) (g.M.Mmcs.opens mmcs)
 
-pub open_marked-opened-requires-clause-in_range : goal.open_marked-opened-requires-clause-in_range
-open_marked-opened-requires-clause-in_range g c =
-    opening_range _ refl (omega arith) c.requires.range
+-- and what its openings stand on
+abbrev parts_at : (g : Over) → FriParameters g.row.M.Denot → g.row.InputMmcs.Denot
+    → OpeningSetting g.row.F.Denot g.row.EF.Denot g.row.C.Denot g.row.InputMmcs-ProverData.Denot
+    g.row.M-ProverData.Denot g.row.M-Commitment.Denot g.row.M-MultiProof.Denot
+    g.row.InputMmcs-Commitment.Denot g.row.InputMmcs-MultiProof.Denot
+parts_at g params input_mmcs = record {
+  setting = setting_at g input_mmcs params.mmcs;
+  parameters = parameters_of params;
+  committed = g.InputMmcs.Mmcs.committed;
+  commitment_of = g.InputMmcs.Mmcs.commitment_of;
+  round_committed = g.M.Mmcs.committed;
+  round_commitment_of = g.M.Mmcs.commitment_of;
+  solution = g.C.GrindingChallenger.solution;
+  most_bits = g.C.CanSampleBits.MAX_SAMPLE_BITS;
+  max_log_height = g.F.TwoAdicField.TWO_ADICITY;
+}
 
-pub open_marked-opened-requires-clause-openable : goal.open_marked-opened-requires-clause-openable
-open_marked-opened-requires-clause-openable g c =
+-- a request for the data inside
+abbrev Inner : Over → Type 0
+Inner g = Request g.row.InputMmcs-ProverData.Denot g.row.EF.Denot
+
+-- a mark changes nothing inside
+same : (g : Over) (c : After-mark_all g) → map request (map inner_request c.mark_all.new.requests)
+    ≡ map inside (map request c.args.requests.now)
+same g c = inside_marked c.args.requests.now c.mark_all.new.requests c.mark_all.ensures
+
+pub check_requests-requires-clause-openable : goal.check_requests-requires-clause-openable
+check_requests-requires-clause-openable g c =
     openable_inside (fields_of g) g.InputMmcs.Mmcs.committed c.args.params.now.log_blowup
     c.args.num_random_codewords c.args.preprocessing (map request c.args.requests.now)
     c.requires.shape
 
-pub returns-in-Ok-clause-values : goal.returns-in-Ok-clause-values
-returns-in-Ok-clause-values g c =
+pub returns-in_err-check_requests-clause-opened :
+    goal.returns-in_err-check_requests-clause-opened
+returns-in_err-check_requests-clause-opened g c passed =
+    absurd (refused_fails (fields_of g) (parameters_of c.args.params.now)
+    c.args.num_random_codewords g.InputMmcs.Mmcs.committed (map request c.args.requests.now)
+    c.in_err-check_requests.field-0.0 c.in_err-check_requests.ensures passed)
+
+pub open_hidden-requires-clause-openable : goal.open_hidden-requires-clause-openable
+open_hidden-requires-clause-openable g c =
+    let r = parts_at g c.args.params.now c.args.input_mmcs.now in
+    subst (λ (asked : List (Inner g)). AreOpenable (StandsOnCosets r) (held r) asked)
+    (sym (same g (goal.at.open_hidden-requires-clause-openable g c).After-mark_all))
+    (openable_inside (fields_of g) g.InputMmcs.Mmcs.committed c.args.params.now.log_blowup
+    c.args.num_random_codewords c.args.preprocessing (map request c.args.requests.now)
+    c.requires.shape)
+
+pub open_hidden-requires-clause-passes : goal.open_hidden-requires-clause-passes
+open_hidden-requires-clause-passes g c =
+    subst (λ (asked : List (Inner g)). PassesChecks (fields_of g)
+    (parameters_of c.args.params.now) g.InputMmcs.Mmcs.committed asked)
+    (sym (same g (goal.at.open_hidden-requires-clause-passes g c).After-mark_all))
+    c.in_ok-check_requests.ensures.checks
+
+pub returns-in_err-opening-clause-refused : goal.returns-in_err-opening-clause-refused
+returns-in_err-opening-clause-refused g c =
+    let residual = c.from_residual-in_err-opening in
+    let made = err_from_is_err_and residual.result residual.ensures.1 in
+    rw made.1
+    (by_opening (parts_at g c.args.params.now c.args.input_mmcs.now)
+    c.args.num_random_codewords c.args.challenger.now (map request c.args.requests.now)
+    c.in_ok-check_requests.ensures (map request (map inner_request c.mark_all.new.requests))
+    (same g (goal.at.returns-in_err-opening-clause-refused g c).After-mark_all)
+    c.in_err-opening.field-0.0 made.0 made.2 c.in_err-opening.ensures.refused
+    c.in_err-opening.ensures.not_checked)
+
+-- what was opened inside is so of the requests as they were
+opened_inside : (g : Over) (c : After-split_opening g)
+    → IsOpened (parts_at g c.args.params.now c.args.input_mmcs.now)
+    (map inside (map request c.args.requests.now)) c.args.challenger.now
+    c.open_hidden.new.challenger (opened_values c.in_ok-opening.opening.0.items)
+    (proof_of c.in_ok-opening.opening.1)
+opened_inside g c =
+    subst (λ (asked : List (Inner g)).
+    IsOpened (parts_at g c.args.params.now c.args.input_mmcs.now) asked c.args.challenger.now
+    c.open_hidden.new.challenger (opened_values c.in_ok-opening.opening.0.items)
+    (proof_of c.in_ok-opening.opening.1))
+    (inside_marked c.args.requests.now c.mark_all.new.requests c.mark_all.ensures)
+    c.in_ok-opening.ensures.opened
+
+pub returns-clause-values : goal.returns-clause-values
+returns-clause-values g c =
+    let opened = opened_inside g (goal.at.returns-clause-values g c).After-split_opening in
     IfOk-weaker c.split_opening.result _ _
     (λ halves shown. honest_shown (fields_of g) g.InputMmcs.Mmcs.committed
     c.args.params.now.log_blowup c.args.num_random_codewords c.args.preprocessing
-    (map request c.args.requests.now) c.requires.shape (opened_values c.in-Ok.opening.0.items)
-    (opened_values halves.0.items) c.in-Ok.ensures.values shown)
+    (map request c.args.requests.now) c.requires.shape
+    (opened_values c.in_ok-opening.opening.0.items) (opened_values halves.0.items) opened.honest
+    shown)
     c.split_opening.ensures.shown
 
-pub returns-in-Ok-clause-kept : goal.returns-in-Ok-clause-kept
-returns-in-Ok-clause-kept g c =
+pub returns-clause-kept : goal.returns-clause-kept
+returns-clause-kept g c =
+    let opened = opened_inside g (goal.at.returns-clause-kept g c).After-split_opening in
     IfOk-weaker c.split_opening.result _ _
     (λ halves kept. kept.0
     ∙ ap (λ values. kept_values c.args.num_random_codewords c.args.preprocessing values)
-    c.in-Ok.ensures.values)
+    opened.honest)
     c.split_opening.ensures.kept
 
-pub returns-in-Ok-clause-accepted : goal.returns-in-Ok-clause-accepted
-returns-in-Ok-clause-accepted g c honest =
+pub returns-clause-accepted : goal.returns-clause-accepted
+returns-clause-accepted g c honest =
     let committed = g.InputMmcs.Mmcs.committed in
     let p = parameters_of c.args.params.now in
     let r = c.args.num_random_codewords in
     let asked = map request c.args.requests.now in
+    let opened = opened_inside g (goal.at.returns-clause-accepted g c).After-split_opening in
     IfOk-weaker c.split_opening.result _ _
     (λ halves kept log_sizes fits. rw kept.1
     (accepted_shown (setting_at g c.args.input_mmcs.now c.args.params.now.mmcs) p committed
     g.InputMmcs.Mmcs.commitment_of r c.args.preprocessing asked c.requires.shape
-    (c.in-Ok.ensures.checked refl) log_sizes fits
-    (opened_values c.in-Ok.opening.0.items) (opened_values halves.1.0.items)
-    c.in-Ok.ensures.values kept.0 (proof_of c.in-Ok.opening.1)
-    c.args.challenger.now
-    (c.in-Ok.ensures.accepted
-    (honest_inside (fields_of g) committed p.log_blowup r asked honest) log_sizes
+    c.in_ok-check_requests.ensures log_sizes fits
+    (opened_values c.in_ok-opening.opening.0.items) (opened_values halves.1.0.items)
+    opened.honest kept.0 (proof_of c.in_ok-opening.opening.1) c.args.challenger.now
+    (opened.accepted (honest_inside (fields_of g) committed p.log_blowup r asked honest) log_sizes
     (sizes_inside (fields_of g) committed p.log_blowup r log_sizes asked fits))))
     c.split_opening.ensures.kept
 
-pub returns-in-Ok-clause-state : goal.returns-in-Ok-clause-state
-returns-in-Ok-clause-state g c honest =
+pub returns-clause-state : goal.returns-clause-state
+returns-clause-state g c honest =
     let committed = g.InputMmcs.Mmcs.committed in
     let p = parameters_of c.args.params.now in
     let r = c.args.num_random_codewords in
     let asked = map request c.args.requests.now in
+    let opened = opened_inside g (goal.at.returns-clause-state g c).After-split_opening in
     IfOk-weaker c.split_opening.result _ _
     (λ halves kept log_sizes fits. rw kept.1
     (ends_shown (setting_at g c.args.input_mmcs.now c.args.params.now.mmcs) p committed
     g.InputMmcs.Mmcs.commitment_of r c.args.preprocessing asked c.requires.shape
-    (c.in-Ok.ensures.checked refl) log_sizes fits
-    (opened_values c.in-Ok.opening.0.items) (opened_values halves.1.0.items)
-    c.in-Ok.ensures.values kept.0 (proof_of c.in-Ok.opening.1)
-    c.args.challenger.now c.open_marked-opened.new.challenger
-    (c.in-Ok.ensures.state
-    (honest_inside (fields_of g) committed p.log_blowup r asked honest) log_sizes
+    c.in_ok-check_requests.ensures log_sizes fits
+    (opened_values c.in_ok-opening.opening.0.items) (opened_values halves.1.0.items)
+    opened.honest kept.0 (proof_of c.in_ok-opening.opening.1) c.args.challenger.now
+    c.open_hidden.new.challenger
+    (opened.state (honest_inside (fields_of g) committed p.log_blowup r asked honest) log_sizes
     (sizes_inside (fields_of g) committed p.log_blowup r log_sizes asked fits))))
     c.split_opening.ensures.kept
 
-pub returns-in-Ok-clause-checked : goal.returns-in-Ok-clause-checked
-returns-in-Ok-clause-checked g c ok = c.in-Ok.ensures.checked refl
-
--- what the opening inside left of requests stays
-pub returns-in-Ok-clause-opened : goal.returns-in-Ok-clause-opened
-returns-in-Ok-clause-opened g c passes = c.open_marked-opened.ensures.opened passes
-
-pub returns-in-Ok-clause-unopened : goal.returns-in-Ok-clause-unopened
-returns-in-Ok-clause-unopened g c fails = c.open_marked-opened.ensures.unopened fails
-
-pub returns-in-Err-clause-opened : goal.returns-in-Err-clause-opened
-returns-in-Err-clause-opened g c passes = c.open_marked-opened.ensures.opened passes
-
-pub returns-in-Err-clause-unopened : goal.returns-in-Err-clause-unopened
-returns-in-Err-clause-unopened g c fails = c.open_marked-opened.ensures.unopened fails
-
-pub returns-in-Err-clause-refused : goal.returns-in-Err-clause-refused
-returns-in-Err-clause-refused g c = c.in-Err.ensures.refused
-
-pub returns-in-Err-clause-unmoved : goal.returns-in-Err-clause-unmoved
-returns-in-Err-clause-unmoved g c = c.in-Err.ensures.unmoved
-
-pub returns-in-Err-clause-untouched : goal.returns-in-Err-clause-untouched
-returns-in-Err-clause-untouched g c = c.in-Err.ensures.untouched
-
-pub returns-in-Ok-clause-refused : goal.returns-in-Ok-clause-refused
-returns-in-Ok-clause-refused g c =
-    IfErr-weaker c.split_opening.result _ _ (λ e is. rw is (c.in-Ok.ensures.checked refl))
+pub returns-clause-refused : goal.returns-clause-refused
+returns-clause-refused g c =
+    IfErr-weaker c.split_opening.result _ _ (λ e is. rw is c.in_ok-check_requests.ensures)
     c.split_opening.ensures.refused
 
-pub returns-in-Ok-clause-unmoved : goal.returns-in-Ok-clause-unmoved
-returns-in-Ok-clause-unmoved g c =
+pub returns-clause-unmoved : goal.returns-clause-unmoved
+returns-clause-unmoved g c =
     IfErr-weaker c.split_opening.result _ _
     (λ e is leaves. absurd (subst (λ x. LeavesHidingState x) is leaves))
     c.split_opening.ensures.refused
 
-pub returns-in-Ok-clause-untouched : goal.returns-in-Ok-clause-untouched
-returns-in-Ok-clause-untouched g c =
+pub returns-clause-untouched : goal.returns-clause-untouched
+returns-clause-untouched g c =
     IfErr-weaker c.split_opening.result _ _
     (λ e is leaves. absurd (subst (λ x. LeavesHidingState x) is leaves))
     c.split_opening.ensures.refused
-
--- where nothing is opened nothing is said of the opening
-pub returns-in-Err-clause-kept : goal.returns-in-Err-clause-kept
-returns-in-Err-clause-kept g c = tt
-
-pub returns-in-Err-clause-values : goal.returns-in-Err-clause-values
-returns-in-Err-clause-values g c = tt
-
-pub returns-in-Err-clause-accepted : goal.returns-in-Err-clause-accepted
-returns-in-Err-clause-accepted g c honest = tt
-
-pub returns-in-Err-clause-state : goal.returns-in-Err-clause-state
-returns-in-Err-clause-state g c honest = tt
-
-pub returns-in-Err-clause-checked : goal.returns-in-Err-clause-checked
-returns-in-Err-clause-checked g c ok = cc

@@ -107,7 +107,8 @@ draw_alpha-requires-clause-counts g c =
 
 pub draw_alpha-requires-clause-at_most_max : goal.draw_alpha-requires-clause-at_most_max
 draw_alpha-requires-clause-at_most_max g c =
-    rw (c.start-transcript.ensures.starts.shape, c.requires.shape) c.requires.batch_bits_at_most_max
+    rw (c.start-transcript.ensures.starts.shape, c.requires.shape)
+    c.requires.range.batch_bits_at_most_max
 
 pub returns-in-Err-clause-exact : goal.returns-in-Err-clause-exact
 returns-in-Err-clause-exact g c other =

@@ -1,16 +1,14 @@
-use Rattle.std.proofs.Common.{◌≡◌, ◌^◌, ℕ, List, arith, map, refl, subst}
+use Rattle.std.proofs.Common.{◌≡◌, List, map, subst}
 use Rattle.std.proofs.lemmas.Result.{IfOk-weaker}
 use Rattle.p3_field_core.specs.declared.coset.TwoAdicMultiplicativeCoset.{TwoAdicMultiplicativeCoset}
 use Rattle.p3_challenger_core.specs.Run.{moves}
-use Rattle.p3_pcs.specs.Requests.{request, honest_claims, FitDomains}
+use Rattle.p3_pcs.specs.Requests.{request}
 use Rattle.p3_fri_relation.specs.Setting.{Fields, Setting, CommitmentClaim}
 use Rattle.p3_fri_relation.specs.Acceptance.{Accepts}
 use Rattle.p3_fri_relation.specs.Views.{parameters_of, proof_of}
 use Rattle.p3_fri_openings.specs.Held.{held_of}
-use Rattle.p3_fri_openings.specs.SchemeClaims.{relation_claims}
 use Rattle.p3_fri_opening_verifier.specs.Ends.{last_state}
 use Rattle.p3_fri_opening_verifier.specs.Accepted.{two_adic}
-use Rattle.p3_fri_two_adic.proofs.InRange.{opening_range}
 use Rattle.p3_fri_two_adic.proofs.Sizes.{claims_sized, domains_sized}
 use Rattle.p3_fri_two_adic.proofs.Unspent.{data_kept}
 use Rattle.p3_fri_two_adic.proofs.two_adic_pcs.TwoAdicFriPcsPcs.open.Given.{Over}
@@ -43,9 +41,10 @@ setting_at g input_mmcs mmcs = two_adic (fields_of g)
     g.C.CanSampleBits.sampled_bits)
     (g.InputMmcs.Mmcs.opens input_mmcs) (g.M.Mmcs.opens mmcs)
 
-pub open_requests-requires-clause-in_range : goal.open_requests-requires-clause-in_range
-open_requests-requires-clause-in_range g c =
-    opening_range _ refl (omega arith) c.requires.range
+pub returns-clause-values : goal.returns-clause-values
+returns-clause-values g c honest =
+    IfOk-weaker c.open_requests.result _ _ (λ opening opened. opened.honest)
+    c.open_requests.ensures.opened
 
 pub returns-clause-accepted : goal.returns-clause-accepted
 returns-clause-accepted g c honest =
@@ -54,22 +53,14 @@ returns-clause-accepted g c honest =
     let commitment_of = g.InputMmcs.Mmcs.commitment_of in
     let requests = map request c.args.requests.now in
     let held = held_of (fields_of g) g.InputMmcs.Mmcs.committed c.args.self.now.fri.log_blowup in
-    IfOk-weaker c.open_requests.result
-    (λ opening. (sizes : List (List ℕ)) → FitDomains held (λ k. 2 ^ k) sizes requests
-    → Accepts s p (relation_claims (λ k. k) (honest_claims held commitment_of sizes requests))
-    (proof_of opening.1) c.args.challenger.now)
-    (λ opening. (domains : List (List (Domain g)))
-    → FitDomains held (λ (d : Domain g). 2 ^ d.log_size) domains requests
-    → Accepts s p (relation_claims (λ (d : Domain g). d.log_size)
-    (honest_claims held commitment_of domains requests))
-    (proof_of opening.1) c.args.challenger.now)
-    (λ opening accepts domains fits.
+    IfOk-weaker c.open_requests.result _ _
+    (λ opening opened domains fits.
     subst (λ (cs : List (CommitmentClaim g.row.EF.Denot g.row.InputMmcs-Commitment.Denot)). Accepts
     s p cs (proof_of opening.1) c.args.challenger.now)
     (claims_sized held commitment_of (λ (d : Domain g). d.log_size) domains requests)
-    (accepts (map (map (λ (d : Domain g). d.log_size)) domains)
+    (opened.accepted honest (map (map (λ (d : Domain g). d.log_size)) domains)
     (domains_sized held commitment_of (λ (d : Domain g). d.log_size) domains requests fits)))
-    (c.open_requests.ensures.accepted honest)
+    c.open_requests.ensures.opened
 
 pub returns-clause-state : goal.returns-clause-state
 returns-clause-state g c honest =
@@ -78,23 +69,14 @@ returns-clause-state g c honest =
     let commitment_of = g.InputMmcs.Mmcs.commitment_of in
     let requests = map request c.args.requests.now in
     let held = held_of (fields_of g) g.InputMmcs.Mmcs.committed c.args.self.now.fri.log_blowup in
-    IfOk-weaker c.open_requests.result
-    (λ opening. (sizes : List (List ℕ)) → FitDomains held (λ k. 2 ^ k) sizes requests
-    → c.open_requests.new.challenger ≡ last_state s p (relation_claims (λ k. k)
-    (honest_claims held commitment_of sizes requests))
-    (proof_of opening.1) c.args.challenger.now)
-    (λ opening. (domains : List (List (Domain g)))
-    → FitDomains held (λ (d : Domain g). 2 ^ d.log_size) domains requests
-    → c.open_requests.new.challenger ≡ last_state s p (relation_claims (λ
-    (d : Domain g). d.log_size) (honest_claims held commitment_of domains requests))
-    (proof_of opening.1) c.args.challenger.now)
-    (λ opening ends domains fits.
+    IfOk-weaker c.open_requests.result _ _
+    (λ opening opened domains fits.
     subst (λ (cs : List (CommitmentClaim g.row.EF.Denot g.row.InputMmcs-Commitment.Denot)).
     c.open_requests.new.challenger ≡ last_state s p cs (proof_of opening.1) c.args.challenger.now)
     (claims_sized held commitment_of (λ (d : Domain g). d.log_size) domains requests)
-    (ends (map (map (λ (d : Domain g). d.log_size)) domains)
+    (opened.state honest (map (map (λ (d : Domain g). d.log_size)) domains)
     (domains_sized held commitment_of (λ (d : Domain g). d.log_size) domains requests fits)))
-    (c.open_requests.ensures.state honest)
+    c.open_requests.ensures.opened
 
 pub returns-clause-opened : goal.returns-clause-opened
 returns-clause-opened g c passed = data_kept c.args.requests.now
