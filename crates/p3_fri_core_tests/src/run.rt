@@ -1,5 +1,5 @@
-//! What a test of a transcript runs by: a shape, what both sides draw along it, and a challenger for
-//! each of them.
+//! What a test of a transcript runs by: a shape, what both sides draw along it, and a challenger
+//! for each of them.
 
 ghost use Rattle.std.specs.Prelude.{◌≡◌, IfOk};
 ghost use Rattle.p3_fri_transcript.specs.Shapes.{fri_shape};

@@ -9,16 +9,17 @@ ghost use Rattle.p3_fri_relation.specs.declared.error.FriError.TheVariants.{Fina
 ghost use Rattle.p3_fri_relation.specs.declared.error.FriError.TheVariants.{OutOfMemory};
 ghost use Rattle.p3_fri_relation.specs.Queries.{row_indices};
 ghost use Rattle.p3_fri_relation.specs.FoldedQuery.{IsInOrder, group_rows, gains};
-ghost use Rattle.p3_fri_relation.specs.Views.{query_input, rows_collected};
-ghost use Rattle.p3_fri_queries.specs.Folded.{query_at, EndsAtFinal, indices_folded, rows_folded};
+ghost use Rattle.p3_fri_relation.specs.Views.{rows_collected};
+ghost use Rattle.p3_fri_queries.specs.Folded.{EndsAtFinal, indices_folded, rows_folded};
+ghost use Rattle.p3_fri_queries.specs.Settings.{query_in, queries_in};
 
 use crate::final_value::ends_at_final;
 use crate::fold_query;
 use crate::folded::FoldedQueries;
+use crate::setting::QuerySetting;
 use p3_field_core::{ExtensionField, TwoAdicField};
 use p3_fri_folding::FriFoldingStrategy;
 use p3_fri_relation::error::{FriError, FriOpenings};
-use p3_fri_relation::proof::CommitPhaseMultiStep;
 use p3_fri_relation::setting::ChallengeField;
 use p3_mmcs::Mmcs;
 use std::alloc::{AllocError, Global};
@@ -51,76 +52,64 @@ fn empty_collectors<EF: Copy>(alloc: Global, rounds: usize) -> Result<FoldedQuer
 /// polynomial's. What is folded gains its rows.
 fn fold_to_final<F: TwoAdicField, EF: ExtensionField<F>, M: Mmcs<EF>, S: FriFoldingStrategy<F, EF>>(
     alloc: Global,
-    folding: &S,
+    setting: &QuerySetting<'_, EF, M, S>,
     query: usize,
     position: usize,
-    betas: &[EF],
-    log_arities: &[usize],
-    openings: &[CommitPhaseMultiStep<EF, M>],
     reduced_openings: FriOpenings<EF>,
-    log_global_max_height: usize,
-    log_final_height: usize,
     final_poly: &[EF],
     folded: &mut FoldedQueries<EF>,
 ) -> Result<(), FriError<M::Error, S::InputError>>
     requires query { query < usize.MAX }
-    requires in_order { IsInOrder (query_input query position betas.now log_arities.now
-        openings.now reduced_openings.items log_global_max_height log_final_height) }
-    requires betas { length betas.now ≡ length log_arities.now }
-    requires openings { length openings.now ≡ length log_arities.now }
-    requires within_max_height { log_global_max_height ≤ S.max_log_height folding.now }
-    requires within_two_adicity { log_global_max_height ≤ F.TWO_ADICITY }
-    requires within_word { position < 2 ^ log_global_max_height }
-    requires indices { length folded.old.group_indices_by_round.items ≡ length log_arities.now }
-    requires rows { length folded.old.rows_by_round.items ≡ length log_arities.now }
-    ensures exact { let q = query_input query position betas.now log_arities.now
-        openings.now reduced_openings.items log_global_max_height log_final_height in
+    requires in_order { IsInOrder (query_in setting.now query position reduced_openings.items) }
+    requires betas { length setting.now.betas.now ≡ length setting.now.log_arities.now }
+    requires openings { length setting.now.openings.now ≡ length setting.now.log_arities.now }
+    requires within_max_height { setting.now.log_global_max_height
+        ≤ S.max_log_height setting.now.folding.now }
+    requires within_two_adicity { setting.now.log_global_max_height ≤ F.TWO_ADICITY }
+    requires within_word { position < 2 ^ setting.now.log_global_max_height }
+    requires indices { length folded.old.group_indices_by_round.items
+        ≡ length setting.now.log_arities.now }
+    requires rows { length folded.old.rows_by_round.items ≡ length setting.now.log_arities.now }
+    ensures exact { let q = query_in setting.now query position reduced_openings.items in
         result ≢ Err OutOfMemory → (IsOk result ↔ EndsAtFinal ⟦<EF as ChallengeField<F>>⟧.fields
-        (S.row_fold folding.now) final_poly.now q) }
-    ensures refusal { let q = query_input query position betas.now log_arities.now
-        openings.now reduced_openings.items log_global_max_height log_final_height in
+        (S.row_fold setting.now.folding.now) final_poly.now q) }
+    ensures refusal { let q = query_in setting.now query position reduced_openings.items in
         IfErr result (λ e. (e ≡ OutOfMemory) ⊎ ((e ≡ FinalPolyMismatch)
         × (¬ EndsAtFinal ⟦<EF as ChallengeField<F>>⟧.fields
-        (S.row_fold folding.now) final_poly.now q))) }
+        (S.row_fold setting.now.folding.now) final_poly.now q))) }
     ensures indices { IsOk result → lists folded.new.group_indices_by_round.items
         ≡ gains (lists folded.old.group_indices_by_round.items)
-        (row_indices log_arities.now position) }
-    ensures rows { let q = query_input query position betas.now log_arities.now
-        openings.now reduced_openings.items log_global_max_height log_final_height in
+        (row_indices setting.now.log_arities.now position) }
+    ensures rows { let q = query_in setting.now query position reduced_openings.items in
         IsOk result → rows_collected folded.new.rows_by_round.items
         ≡ gains (rows_collected folded.old.rows_by_round.items)
-        (map (λ row. row ∷ []) (group_rows q EF.ops (S.row_fold folding.now))) }
+        (map (λ row. row ∷ []) (group_rows q EF.ops (S.row_fold setting.now.folding.now))) }
 {
     let mut index = position;
     let value = match fold_query(
         alloc,
-        folding,
+        setting,
         query,
         &mut index,
-        betas,
-        log_arities,
-        openings,
         reduced_openings,
-        log_global_max_height,
-        log_final_height,
         &mut folded.group_indices_by_round,
         &mut folded.rows_by_round,
     ) {
         Ok(value) => value,
         Err(refusal) => return Err(refusal),
     };
-    if ends_at_final::<F, EF>(value, final_poly, index, log_final_height) {
+    if ends_at_final::<F, EF>(value, final_poly, index, setting.log_final_height) {
         Ok(())
     } else {
         Err(FriError::FinalPolyMismatch)
     }
 }
 
-/// Folds the queries, which are in order, one after another, and compares the value that each ends
-/// at with the final polynomial's. `reduced_openings` has what each meets.
+/// Folds the queries, which are in order in this setting, one after another, and compares the value
+/// that each ends at with the final polynomial's. `reduced_openings` has what each meets.
 ///
-/// There is a challenge and an opening for each log arity. The greatest log height is at most the
-/// strategy's and the two-adicity, and the positions are below 2 to it.
+/// The setting has a challenge and an opening for each log arity. Its greatest log height is at
+/// most the strategy's and the two-adicity, and the positions are below 2 to it.
 ///
 /// # Errors
 ///
@@ -132,59 +121,47 @@ pub fn fold_queries<
     S: FriFoldingStrategy<F, EF>,
 >(
     alloc: Global,
-    folding: &S,
+    setting: &QuerySetting<'_, EF, M, S>,
     positions: &[usize],
-    betas: &[EF],
-    log_arities: &[usize],
-    openings: &[CommitPhaseMultiStep<EF, M>],
     reduced_openings: Vec<FriOpenings<EF>>,
-    log_global_max_height: usize,
-    log_final_height: usize,
     final_poly: &[EF],
 ) -> Result<FoldedQueries<EF>, FriError<M::Error, S::InputError>>
     requires count { length reduced_openings.items ≡ length positions.now }
-    requires in_order { let q = query_at positions.now betas.now log_arities.now openings.now
-        (lists reduced_openings.items) log_global_max_height log_final_height in
-        EachIndex positions.now (λ j. IsInOrder (q j)) }
-    requires betas { length betas.now ≡ length log_arities.now }
-    requires openings { length openings.now ≡ length log_arities.now }
-    requires within_max_height { log_global_max_height ≤ S.max_log_height folding.now }
-    requires within_two_adicity { log_global_max_height ≤ F.TWO_ADICITY }
-    requires positions { All (λ position. position < 2 ^ log_global_max_height) positions.now }
-    ensures exact { let q = query_at positions.now betas.now log_arities.now openings.now
-        (lists reduced_openings.items) log_global_max_height log_final_height in
+    requires in_order { EachIndex positions.now (λ j.
+        IsInOrder (queries_in setting.now positions.now (lists reduced_openings.items) j)) }
+    requires betas { length setting.now.betas.now ≡ length setting.now.log_arities.now }
+    requires openings { length setting.now.openings.now ≡ length setting.now.log_arities.now }
+    requires within_max_height { setting.now.log_global_max_height
+        ≤ S.max_log_height setting.now.folding.now }
+    requires within_two_adicity { setting.now.log_global_max_height ≤ F.TWO_ADICITY }
+    requires positions { All (λ position. position < 2 ^ setting.now.log_global_max_height)
+        positions.now }
+    ensures exact { let q = queries_in setting.now positions.now (lists reduced_openings.items) in
         result ≢ Err OutOfMemory → (IsOk result ↔ EachIndex positions.now (λ j.
         EndsAtFinal ⟦<EF as ChallengeField<F>>⟧.fields
-        (S.row_fold folding.now) final_poly.now (q j))) }
-    ensures refusal { let q = query_at positions.now betas.now log_arities.now openings.now
-        (lists reduced_openings.items) log_global_max_height log_final_height in
+        (S.row_fold setting.now.folding.now) final_poly.now (q j))) }
+    ensures refusal { let q = queries_in setting.now positions.now (lists reduced_openings.items) in
         IfErr result (λ e. (e ≡ OutOfMemory) ⊎ ((e ≡ FinalPolyMismatch)
         × SomeIndex positions.now (λ j. ¬ EndsAtFinal ⟦<EF as ChallengeField<F>>⟧.fields
-        (S.row_fold folding.now) final_poly.now (q j)))) }
+        (S.row_fold setting.now.folding.now) final_poly.now (q j)))) }
     ensures indices { IfOk result (λ folded. lists folded.group_indices_by_round.items
-        ≡ indices_folded log_arities.now positions.now) }
-    ensures rows { let q = query_at positions.now betas.now log_arities.now openings.now
-        (lists reduced_openings.items) log_global_max_height log_final_height in
+        ≡ indices_folded setting.now.log_arities.now positions.now) }
+    ensures rows { let q = queries_in setting.now positions.now (lists reduced_openings.items) in
         IfOk result (λ folded. rows_collected folded.rows_by_round.items
-        ≡ rows_folded EF.ops (S.row_fold folding.now)
-        (length log_arities.now) (length positions.now) q) }
+        ≡ rows_folded EF.ops (S.row_fold setting.now.folding.now)
+        (length setting.now.log_arities.now) (length positions.now) q) }
 {
-    let mut folded = match empty_collectors(alloc, log_arities.len()) {
+    let mut folded = match empty_collectors(alloc, setting.log_arities.len()) {
         Ok(folded) => folded,
         Err(AllocError) => return Err(FriError::OutOfMemory),
     };
     for (query, inputs) in reduced_openings.into_iter().enumerate() {
         match fold_to_final(
             alloc,
-            folding,
+            setting,
             query,
             positions[query],
-            betas,
-            log_arities,
-            openings,
             inputs,
-            log_global_max_height,
-            log_final_height,
             final_poly,
             &mut folded,
         ) {

@@ -10,11 +10,14 @@ ghost use Rattle.p3_fri_relation.specs.FoldedQuery.{IsInOrder, AreInputsMet, fol
 ghost use Rattle.p3_fri_relation.specs.FoldedQuery.{group_indices, group_rows, gains};
 ghost use Rattle.p3_fri_relation.specs.Faults.{QueryFault};
 ghost use Rattle.p3_fri_relation.specs.Views.{query_input, siblings_opened, rows_collected};
+ghost use Rattle.p3_fri_queries.specs.Settings.{query_in};
 
 use crate::checks::{
     first_out_of_range, first_unmet, first_without_row, last_height, saturated_sum, sums_within,
 };
+use crate::link::QueryLink;
 use crate::rounds::fold_rounds;
+use crate::setting::QuerySetting;
 use p3_field_core::{ExtensionField, TwoAdicField};
 use p3_fri_folding::FriFoldingStrategy;
 use p3_fri_relation::error::{FriError, FriOpenings};
@@ -148,33 +151,35 @@ fn check_inputs<E: Copy, A, B>(
 }
 
 /// The first input's value, where the query is in order.
-fn check_query<E: Copy, M: Mmcs<E>, A, B>(
+fn check_query<E: Copy, M: Mmcs<E>, S, A, B>(
+    setting: &QuerySetting<'_, E, M, S>,
     query: usize,
-    betas: &[E],
-    log_arities: &[usize],
-    openings: &[CommitPhaseMultiStep<E, M>],
     inputs: &[(usize, E)],
-    log_height: usize,
-    log_final_height: usize,
 ) -> Result<E, FriError<A, B>>
     requires query { query < usize.MAX }
-    ensures exact { (index : ℕ) → let q = query_input query index betas.now log_arities.now
-        openings.now inputs.now log_height log_final_height in
-        IsOk result ↔ IsInOrder q }
-    ensures fault { (index : ℕ) → let q = query_input query index betas.now log_arities.now
-        openings.now inputs.now log_height log_final_height in
-        IfErr result (QueryFault q) }
+    ensures exact { (index : ℕ) → IsOk result
+        ↔ IsInOrder (query_in setting.now query index inputs.now) }
+    ensures fault { (index : ℕ) → IfErr result
+        (QueryFault (query_in setting.now query index inputs.now)) }
     ensures value { (default : E) → IfOk result (λ value.
         value ≡ slice_index_or (map (λ input. input.1) inputs.now) 0 default) }
 {
-    check_rounds(query, log_arities, openings, log_height, log_final_height)?;
-    let folded = folded_arities(betas, log_arities, openings);
+    let log_height = setting.log_global_max_height;
+    let log_final_height = setting.log_final_height;
+    check_rounds(
+        query,
+        setting.log_arities,
+        setting.openings,
+        log_height,
+        log_final_height,
+    )?;
+    let folded = folded_arities(setting.betas, setting.log_arities, setting.openings);
     check_inputs(folded, inputs, log_height, log_final_height)
 }
 
-/// Folds one query through the rounds that have a challenge, a log arity and an opening, and
-/// answers the value at which it ends (the query phase of FRI, ICALP 2018; further words are rolled
-/// in as in the crate p3-fri).
+/// Folds one query through the rounds of the setting that have a challenge, a log arity and an
+/// opening, and returns the value at which it ends (the query phase of FRI, ICALP 2018; further
+/// words are rolled in as in the crate p3-fri).
 ///
 /// The reduced openings are the values of the query's words, by log height. The way begins with the
 /// first, at the position `start_index` of a word of log height `log_global_max_height`. A round of
@@ -203,68 +208,61 @@ pub fn fold_query<
     S: FriFoldingStrategy<F, EF>,
 >(
     alloc: Global,
-    folding: &S,
+    setting: &QuerySetting<'_, EF, M, S>,
     query: usize,
     start_index: &mut usize,
-    betas: &[EF],
-    log_arities: &[usize],
-    commit_phase_openings: &[CommitPhaseMultiStep<EF, M>],
     reduced_openings: FriOpenings<EF>,
-    log_global_max_height: usize,
-    log_final_height: usize,
     group_indices_by_round: &mut [Vec<usize>],
     rows_by_round: &mut [Vec<Vec<Vec<EF>>>],
 ) -> Result<EF, FriError<M::Error, S::InputError>>
     requires query { query < usize.MAX }
-    requires within_max_height { log_global_max_height ≤ S.max_log_height folding.now }
-    requires within_word { start_index.old < 2 ^ log_global_max_height }
-    requires indices { length group_indices_by_round.old ≡ length log_arities.now }
-    requires rows { length rows_by_round.old ≡ length log_arities.now }
-    ensures exact { let q = query_input query start_index.old betas.now log_arities.now
-        commit_phase_openings.now reduced_openings.items log_global_max_height log_final_height in
+    requires within_max_height { setting.now.log_global_max_height
+        ≤ S.max_log_height setting.now.folding.now }
+    requires within_word { start_index.old < 2 ^ setting.now.log_global_max_height }
+    requires indices { length group_indices_by_round.old ≡ length setting.now.log_arities.now }
+    requires rows { length rows_by_round.old ≡ length setting.now.log_arities.now }
+    ensures exact { let q = query_in setting.now query start_index.old reduced_openings.items in
         result ≢ Err OutOfMemory → (IsOk result ↔ IsInOrder q) }
-    ensures refusal { let q = query_input query start_index.old betas.now log_arities.now
-        commit_phase_openings.now reduced_openings.items log_global_max_height log_final_height in
+    ensures refusal { let q = query_in setting.now query start_index.old reduced_openings.items in
         IfErr result (QueryFault q) }
-    ensures value { let q = query_input query start_index.old betas.now log_arities.now
-        commit_phase_openings.now reduced_openings.items log_global_max_height log_final_height in
-        IfOk result (λ value. value ≡ folded_value q EF.ops (S.row_fold folding.now)) }
-    ensures index { let q = query_input query start_index.old betas.now log_arities.now
-        commit_phase_openings.now reduced_openings.items log_global_max_height log_final_height in
+    ensures value { let q = query_in setting.now query start_index.old reduced_openings.items in
+        IfOk result (λ value.
+        value ≡ folded_value q EF.ops (S.row_fold setting.now.folding.now)) }
+    ensures index { let q = query_in setting.now query start_index.old reduced_openings.items in
         IsOk result → start_index.new ≡ start_index.old / 2 ^ sum (folded q) }
-    ensures indices { let q = query_input query start_index.old betas.now log_arities.now
-        commit_phase_openings.now reduced_openings.items log_global_max_height log_final_height in
+    ensures indices { let q = query_in setting.now query start_index.old reduced_openings.items in
         IsOk result → lists group_indices_by_round.new
         ≡ gains (lists group_indices_by_round.old)
-        (group_indices q EF.ops (S.row_fold folding.now)) }
-    ensures rows { let q = query_input query start_index.old betas.now log_arities.now
-        commit_phase_openings.now reduced_openings.items log_global_max_height log_final_height in
+        (group_indices q EF.ops (S.row_fold setting.now.folding.now)) }
+    ensures rows { let q = query_in setting.now query start_index.old reduced_openings.items in
         IsOk result → rows_collected rows_by_round.new ≡ gains (rows_collected rows_by_round.old)
-        (map (λ row. row ∷ []) (group_rows q EF.ops (S.row_fold folding.now))) }
+        (map (λ row. row ∷ []) (group_rows q EF.ops (S.row_fold setting.now.folding.now))) }
 {
     let inputs = reduced_openings.as_slice();
-    let first = check_query(
-        query,
-        betas,
-        log_arities,
-        commit_phase_openings,
-        inputs,
-        log_global_max_height,
-        log_final_height,
-    )?;
-    let folded = folded_arities(betas, log_arities, commit_phase_openings);
-    Ok(fold_rounds(
+    let first = check_query(setting, query, inputs)?;
+    let folded = folded_arities(setting.betas, setting.log_arities, setting.openings);
+    let rounds = QuerySetting {
+        folding: setting.folding,
+        betas: setting.betas,
+        log_arities: folded,
+        openings: setting.openings,
+        log_global_max_height: setting.log_global_max_height,
+        log_final_height: setting.log_final_height,
+    };
+    let start = QueryLink {
+        index: *start_index,
+        log_height: setting.log_global_max_height,
+        value: first,
+    };
+    let link = fold_rounds(
         alloc,
-        folding,
+        &rounds,
         query,
-        start_index,
-        betas,
-        folded,
-        commit_phase_openings,
+        start,
         inputs,
-        log_global_max_height,
-        first,
         group_indices_by_round,
         rows_by_round,
-    )?)
+    )?;
+    *start_index = link.index;
+    Ok(link.value)
 }

@@ -5,12 +5,15 @@ ghost use Rattle.std.specs.Prelude.{map, sum, length};
 ghost use Rattle.std.specs.Prelude.{IfOk, IsOk, slice_index_or};
 ghost use Rattle.std.specs.List.{insert};
 ghost use Rattle.algebra.specs.Nested.{lists};
-ghost use Rattle.algebra.specs.Rounds.{Round, Link, next_link, row_of_link, chain, chain_rows};
+ghost use Rattle.algebra.specs.Rounds.{next_link, row_of_link, chain, chain_rows};
 ghost use Rattle.p3_fri_relation.specs.Queries.{rounds_of, row_indices};
 ghost use Rattle.p3_fri_relation.specs.FoldedQuery.{AreInRange, HasRow, HaveRows, value_at, gains};
 ghost use Rattle.p3_fri_relation.specs.Views.{siblings_opened, rows_collected};
+ghost use Rattle.p3_fri_queries.specs.Settings.{siblings_in, link_of, round_of};
 
 use crate::collect::collect;
+use crate::link::{FoldRound, QueryLink};
+use crate::setting::QuerySetting;
 use p3_field_core::{ExtensionField, TwoAdicField};
 use p3_fri_folding::FriFoldingStrategy;
 use p3_fri_relation::proof::CommitPhaseMultiStep;
@@ -65,39 +68,34 @@ fn input_at<E: Copy>(inputs: &[(usize, E)], log_height: usize) -> Option<E>
 fn fold_round<F: TwoAdicField, EF: ExtensionField<F>, S: FriFoldingStrategy<F, EF>>(
     alloc: Global,
     folding: &S,
-    log_height: usize,
-    index: usize,
-    value: EF,
-    log_arity: usize,
-    beta: EF,
+    link: QueryLink<EF>,
+    round: FoldRound<EF>,
     siblings: &[EF],
     input: Option<EF>,
 ) -> Result<(EF, Vec<EF>), AllocError>
-    requires positive { 0 < log_arity }
-    requires small { log_arity < 64 }
-    requires within_height { log_arity ≤ log_height }
-    requires within_max_height { log_height ≤ S.max_log_height folding.now }
-    requires within_word { index < 2 ^ log_height }
-    requires siblings { suc (length siblings.now) ≡ 2 ^ log_arity }
-    ensures { let link : Link EF =
-        record { index = index; log_height = log_height; value = value } in
-        let round : Round EF = record { log_arity = log_arity; beta = beta } in
-        IfOk result (λ folded.
-        (folded.0 ≡
-        (next_link EF.ops (S.row_fold folding.now) (λ _. input) round siblings.now link).value)
-        × (folded.1.items ≡ row_of_link round siblings.now link)) }
+    requires positive { 0 < round.log_arity }
+    requires small { round.log_arity < 64 }
+    requires within_height { round.log_arity ≤ link.log_height }
+    requires within_max_height { link.log_height ≤ S.max_log_height folding.now }
+    requires within_word { link.index < 2 ^ link.log_height }
+    requires siblings { suc (length siblings.now) ≡ 2 ^ round.log_arity }
+    ensures { IfOk result (λ folded.
+        (folded.0 ≡ (next_link EF.ops (S.row_fold folding.now) (λ _. input)
+        (round_of round) siblings.now (link_of link)).value)
+        × (folded.1.items ≡ row_of_link (round_of round) siblings.now (link_of link))) }
 {
-    let row = full_row(alloc, value, index % (1 << log_arity), siblings)?;
+    let log_arity = round.log_arity;
+    let row = full_row(alloc, link.value, link.index % (1 << log_arity), siblings)?;
     let folded = folding.fold_row(
-        index >> log_arity,
-        log_height - log_arity,
+        link.index >> log_arity,
+        link.log_height - log_arity,
         log_arity,
-        beta,
+        round.beta,
         row.as_slice(),
     );
     match input {
         None => Ok((folded, row)),
-        Some(input) => Ok((folded + beta.exp_power_of_2(log_arity) * input, row)),
+        Some(input) => Ok((folded + round.beta.exp_power_of_2(log_arity) * input, row)),
     }
 }
 
@@ -107,37 +105,30 @@ fn fold_opening<F: TwoAdicField, EF: ExtensionField<F>, M: Mmcs<EF>, S: FriFoldi
     alloc: Global,
     folding: &S,
     query: usize,
-    log_height: usize,
-    index: usize,
-    value: EF,
-    log_arity: usize,
-    beta: EF,
+    link: QueryLink<EF>,
+    round: FoldRound<EF>,
     opening: &CommitPhaseMultiStep<EF, M>,
     inputs: &[(usize, EF)],
 ) -> Result<(EF, Vec<EF>), AllocError>
-    requires positive { 0 < log_arity }
-    requires small { log_arity < 64 }
-    requires within_height { log_arity ≤ log_height }
-    requires within_max_height { log_height ≤ S.max_log_height folding.now }
-    requires within_word { index < 2 ^ log_height }
-    requires has_row { HasRow query log_arity (lists opening.now.sibling_values.items) }
-    ensures { let link : Link EF =
-        record { index = index; log_height = log_height; value = value } in
-        let round : Round EF = record { log_arity = log_arity; beta = beta } in
-        let siblings = slice_index_or (lists opening.now.sibling_values.items) query [] in
+    requires positive { 0 < round.log_arity }
+    requires small { round.log_arity < 64 }
+    requires within_height { round.log_arity ≤ link.log_height }
+    requires within_max_height { link.log_height ≤ S.max_log_height folding.now }
+    requires within_word { link.index < 2 ^ link.log_height }
+    requires has_row { HasRow query round.log_arity (lists opening.now.sibling_values.items) }
+    ensures { let siblings = slice_index_or (lists opening.now.sibling_values.items) query [] in
         IfOk result (λ folded.
         (folded.0 ≡ (next_link EF.ops (S.row_fold folding.now) (value_at inputs.now)
-        round siblings link).value)
-        × (folded.1.items ≡ row_of_link round siblings link)) }
+        (round_of round) siblings (link_of link)).value)
+        × (folded.1.items ≡ row_of_link (round_of round) siblings (link_of link))) }
 {
     let siblings = siblings_of(opening, query);
-    let input = input_at(inputs, log_height - log_arity);
-    fold_round(
-        alloc, folding, log_height, index, value, log_arity, beta, siblings, input,
-    )
+    let input = input_at(inputs, link.log_height - round.log_arity);
+    fold_round(alloc, folding, link, round, siblings, input)
 }
 
-/// The rounds of a query that is in order, one after another, each with a challenge and an opening.
+/// The rounds of a query that is in order, one after another, each with a challenge and an opening,
+/// from the link `start` on: the last link.
 pub(crate) fn fold_rounds<
     F: TwoAdicField,
     EF: ExtensionField<F>,
@@ -145,71 +136,63 @@ pub(crate) fn fold_rounds<
     S: FriFoldingStrategy<F, EF>,
 >(
     alloc: Global,
-    folding: &S,
+    setting: &QuerySetting<'_, EF, M, S>,
     query: usize,
-    start_index: &mut usize,
-    betas: &[EF],
-    log_arities: &[usize],
-    openings: &[CommitPhaseMultiStep<EF, M>],
+    start: QueryLink<EF>,
     inputs: &[(usize, EF)],
-    log_height: usize,
-    first: EF,
     group_indices_by_round: &mut [Vec<usize>],
     rows_by_round: &mut [Vec<Vec<Vec<EF>>>],
-) -> Result<EF, AllocError>
-    requires betas { length log_arities.now ≤ length betas.now }
-    requires openings { length log_arities.now ≤ length openings.now }
-    requires range { AreInRange log_arities.now }
-    requires have_rows { HaveRows query log_arities.now (siblings_opened openings.now) }
-    requires distance { sum log_arities.now ≤ log_height }
-    requires within_max_height { log_height ≤ S.max_log_height folding.now }
-    requires within_word { start_index.old < 2 ^ log_height }
-    requires indices { length log_arities.now ≤ length group_indices_by_round.old }
-    requires rows { length log_arities.now ≤ length rows_by_round.old }
-    ensures value { let link : Link EF =
-        record { index = start_index.old; log_height = log_height; value = first } in
-        let rounds = rounds_of log_arities.now betas.now in
-        let siblings = map (λ rows. slice_index_or rows query []) (siblings_opened openings.now) in
-        IfOk result (λ value. value ≡ (chain EF.ops (S.row_fold folding.now) (value_at inputs.now)
-        rounds siblings link).value) }
-    ensures index { IsOk result → start_index.new ≡ start_index.old / 2 ^ sum log_arities.now }
+) -> Result<QueryLink<EF>, AllocError>
+    requires betas { length setting.now.log_arities.now ≤ length setting.now.betas.now }
+    requires openings { length setting.now.log_arities.now ≤ length setting.now.openings.now }
+    requires range { AreInRange setting.now.log_arities.now }
+    requires have_rows { HaveRows query setting.now.log_arities.now
+        (siblings_opened setting.now.openings.now) }
+    requires distance { sum setting.now.log_arities.now ≤ start.log_height }
+    requires within_max_height { start.log_height ≤ S.max_log_height setting.now.folding.now }
+    requires within_word { start.index < 2 ^ start.log_height }
+    requires indices { length setting.now.log_arities.now ≤ length group_indices_by_round.old }
+    requires rows { length setting.now.log_arities.now ≤ length rows_by_round.old }
+    ensures value { let rounds = rounds_of setting.now.log_arities.now setting.now.betas.now in
+        IfOk result (λ link. link.value ≡ (chain EF.ops (S.row_fold setting.now.folding.now)
+        (value_at inputs.now) rounds (siblings_in setting.now query) (link_of start)).value) }
+    ensures index { IfOk result (λ link.
+        link.index ≡ start.index / 2 ^ sum setting.now.log_arities.now) }
     ensures indices { IsOk result → lists group_indices_by_round.new
-        ≡ gains (lists group_indices_by_round.old) (row_indices log_arities.now start_index.old) }
-    ensures rows { let link : Link EF =
-        record { index = start_index.old; log_height = log_height; value = first } in
-        let rounds = rounds_of log_arities.now betas.now in
-        let siblings = map (λ rows. slice_index_or rows query []) (siblings_opened openings.now) in
+        ≡ gains (lists group_indices_by_round.old)
+        (row_indices setting.now.log_arities.now start.index) }
+    ensures rows { let rounds = rounds_of setting.now.log_arities.now setting.now.betas.now in
         IsOk result → rows_collected rows_by_round.new ≡ gains (rows_collected rows_by_round.old)
-        (map (λ row. row ∷ []) (chain_rows EF.ops (S.row_fold folding.now) (value_at inputs.now)
-        rounds siblings link)) }
+        (map (λ row. row ∷ []) (chain_rows EF.ops (S.row_fold setting.now.folding.now)
+        (value_at inputs.now) rounds (siblings_in setting.now query) (link_of start))) }
 {
-    let mut height = log_height;
-    let mut value = first;
-    for round in 0..log_arities.len() {
-        let log_arity = log_arities[round];
-        let (folded, row) = fold_opening(
+    let mut link = start;
+    for round in 0..setting.log_arities.len() {
+        let log_arity = setting.log_arities[round];
+        let beta = setting.betas[round];
+        let (value, row) = fold_opening(
             alloc,
-            folding,
+            setting.folding,
             query,
-            height,
-            *start_index,
-            value,
-            log_arity,
-            betas[round],
-            &openings[round],
+            link,
+            FoldRound { log_arity, beta },
+            &setting.openings[round],
             inputs,
         )?;
-        height -= log_arity;
-        *start_index >>= log_arity;
-        value = folded;
+        let index = link.index >> log_arity;
+        link = QueryLink {
+            index,
+            log_height: link.log_height - log_arity,
+            value,
+        };
         collect(
             alloc,
             round,
-            *start_index,
+            index,
             row,
             &mut *group_indices_by_round,
             &mut *rows_by_round,
         )?;
     }
-    Ok(value)
+    Ok(link)
 }

@@ -3,7 +3,7 @@
 
 use p3_field::{BabyBear, BabyBear4, ExtensionField, Field};
 use p3_fri_folding::TwoAdicFriFolding;
-use p3_fri_queries::fold_query;
+use p3_fri_queries::{QuerySetting, fold_query};
 use p3_fri_relation::error::{FriError, FriOpenings};
 use p3_fri_relation::proof::CommitPhaseMultiStep;
 use p3_mmcs::{Sha256Mmcs, Sha256MmcsError};
@@ -297,17 +297,21 @@ fn fold(alloc: Global, case: &Case) -> Result<Folded, Fail> {
     let mut index = case.index;
     let mut group_indices = [Vec::new(alloc), Vec::new(alloc)];
     let mut rows = [Vec::new(alloc), Vec::new(alloc)];
+    let folding: Folding = TwoAdicFriFolding(PhantomData);
+    let setting = QuerySetting {
+        folding: &folding,
+        betas: betas.as_slice(),
+        log_arities: case.schedule,
+        openings: openings.as_slice(),
+        log_global_max_height: 4,
+        log_final_height: case.log_final_height,
+    };
     let value = fold_query::<BabyBear, BabyBear4, Scheme, Folding>(
         alloc,
-        &TwoAdicFriFolding(PhantomData),
+        &setting,
         case.query,
         &mut index,
-        &betas,
-        case.schedule,
-        &openings,
         inputs,
-        4,
-        case.log_final_height,
         &mut group_indices[..rounds],
         &mut rows[..rounds],
     );

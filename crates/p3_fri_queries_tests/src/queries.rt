@@ -11,7 +11,7 @@ ghost use Rattle.p3_fri_queries.specs.Folded.{query_at};
 use crate::words::{BETAS, Coefficients, FINAL_POLY, FIRST_WORD, ROWS, SECOND_WORD};
 use p3_field::{BabyBear, BabyBear4, ExtensionField, Field};
 use p3_fri_folding::TwoAdicFriFolding;
-use p3_fri_queries::{FoldedQueries, fold_queries, fold_query, verify_rounds};
+use p3_fri_queries::{FoldedQueries, QuerySetting, fold_queries, fold_query, verify_rounds};
 use p3_fri_relation::error::{FriError, FriOpenings};
 use p3_fri_relation::proof::CommitPhaseMultiStep;
 use p3_matrix::RowMajorMatrix;
@@ -69,17 +69,21 @@ fn is_in_order(
     let mut index = position;
     let mut group_indices = [Vec::new(alloc), Vec::new(alloc)];
     let mut rows = [Vec::new(alloc), Vec::new(alloc)];
+    let folding: Folding = TwoAdicFriFolding(PhantomData);
+    let setting = QuerySetting {
+        folding: &folding,
+        betas,
+        log_arities: &[1, 1],
+        openings,
+        log_global_max_height: 4,
+        log_final_height: 2,
+    };
     let folded = fold_query::<BabyBear, BabyBear4, Scheme, Folding>(
         alloc,
-        &TwoAdicFriFolding(PhantomData),
+        &setting,
         query,
         &mut index,
-        betas,
-        &[1, 1],
-        openings,
         inputs,
-        4,
-        2,
         &mut group_indices,
         &mut rows,
     );
@@ -253,16 +257,20 @@ fn answer(alloc: Global, queries: Queries) -> Result<Answer, Fail> {
     if !are_in_order(alloc, &POSITIONS, &betas, &openings, &inputs)? {
         return Err(Fail::new("not in order"));
     }
+    let folding: Folding = TwoAdicFriFolding(PhantomData);
+    let setting = QuerySetting {
+        folding: &folding,
+        betas: &betas,
+        log_arities: &[1, 1],
+        openings: openings.as_slice(),
+        log_global_max_height: 4,
+        log_final_height: 2,
+    };
     let folded = fold_queries::<BabyBear, BabyBear4, Scheme, Folding>(
         alloc,
-        &TwoAdicFriFolding(PhantomData),
+        &setting,
         &POSITIONS,
-        &betas,
-        &[1, 1],
-        &openings,
         inputs,
-        4,
-        2,
         &[element(FINAL_POLY[0]), element(FINAL_POLY[1])],
     );
     let folded = match folded {

@@ -60,7 +60,8 @@ pub mod transcripts {
 pub mod sides {
     pub use p3_fri::prover::{ProverDataWithOpeningPoints, prove_fri};
     pub use p3_fri::verifier::{
-        FriError, FriOpenings, PowPhase, fold_query, heights_are_within, open_inputs, verify_fri,
+        FriError, FriOpenings, PowPhase, QuerySetting, fold_query, heights_are_within, open_inputs,
+        verify_fri,
     };
 }
 

@@ -1,6 +1,6 @@
 //! The verifier of the low-degree test. Before its transcript begins it compares the parameters and
-//! the claimed log heights, the lengths of the proof's lists, how often it opens the commitments, and
-//! its witnesses of proofs of work that have no bits.
+//! the claimed log heights, the lengths of the proof's lists, how often it opens the commitments,
+//! and its witnesses of proofs of work that have no bits.
 #![tactic(auto)]
 
 mod canonical;

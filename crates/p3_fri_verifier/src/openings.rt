@@ -12,23 +12,25 @@ ghost use Rattle.p3_fri_relation.specs.Acceptance.{log_arities as scheduled};
 ghost use Rattle.p3_fri_relation.specs.Faults.{OpeningsFault};
 ghost use Rattle.p3_fri_relation.specs.FoldedQuery.{IsInOrder};
 ghost use Rattle.p3_fri_relation.specs.Views.{parameters_of, claims_of, proof_of, rounds_opened};
-ghost use Rattle.p3_fri_queries.specs.Folded.{query_at, EndsAtFinal, indices_folded, rows_folded};
+ghost use Rattle.p3_fri_queries.specs.Folded.{EndsAtFinal, indices_folded, rows_folded};
 ghost use Rattle.p3_fri_queries.specs.Opened.{RoundsOpenTo, SomeRoundFails};
+ghost use Rattle.p3_fri_queries.specs.Settings.{queries_in};
 ghost use Rattle.p3_fri_verifier.specs.Openings.{AreOpened};
 
 use p3_challenger_core::{CanObserve, FieldChallenger};
 use p3_field_core::{ExtensionField, TwoAdicField, TwoAdicMultiplicativeCoset};
 use p3_fri_folding::{FriFoldingStrategy, FriParameters};
 use p3_fri_inputs::open_inputs;
-use p3_fri_queries::{fold_queries, verify_rounds};
+use p3_fri_queries::{QuerySetting, fold_queries, verify_rounds};
 use p3_fri_relation::error::{FriError, FriOpenings};
-use p3_fri_relation::proof::{BatchMultiOpening, CommitPhaseMultiStep, FriProof};
+use p3_fri_relation::proof::{BatchMultiOpening, FriProof};
 use p3_fri_relation::setting::{ChallengeField, PlaysFri};
 use p3_mmcs::{CommitmentOpening, Mmcs};
 use std::alloc::Global;
 
-/// Verifies that each query, which is in order, ends at the final polynomial, and that the rounds'
-/// words open to the rows that the queries fold. `reduced_openings` has what each query meets.
+/// Verifies that each query, which is in order in this setting, ends at the final polynomial, and
+/// that the rounds' words open to the rows that the queries fold. `reduced_openings` has what each
+/// query meets.
 fn verify_queries<
     F: TwoAdicField,
     EF: ExtensionField<F>,
@@ -36,69 +38,57 @@ fn verify_queries<
     S: FriFoldingStrategy<F, EF>,
 >(
     alloc: Global,
-    folding: &S,
+    setting: &QuerySetting<'_, EF, M, S>,
     mmcs: &M,
-    positions: &[usize],
-    betas: &[EF],
-    log_arities: &[usize],
     commitments: &[M::Commitment],
-    openings: &[CommitPhaseMultiStep<EF, M>],
+    positions: &[usize],
     reduced_openings: Vec<FriOpenings<EF>>,
-    log_global_max_height: usize,
-    log_final_height: usize,
     final_poly: &[EF],
 ) -> Result<(), FriError<M::Error, S::InputError>>
     requires count { length reduced_openings.items ≡ length positions.now }
-    requires in_order { let q = query_at positions.now betas.now log_arities.now openings.now
-        (lists reduced_openings.items) log_global_max_height log_final_height in
-        EachIndex positions.now (λ j. IsInOrder (q j)) }
-    requires betas { length betas.now ≡ length log_arities.now }
-    requires commitments { length commitments.now ≡ length log_arities.now }
-    requires openings { length openings.now ≡ length log_arities.now }
-    requires within_max_height { log_global_max_height ≤ S.max_log_height folding.now }
-    requires within_two_adicity { log_global_max_height ≤ F.TWO_ADICITY }
-    requires within_word { All (λ position. position < 2 ^ log_global_max_height) positions.now }
-    requires within { sum log_arities.now ≤ log_global_max_height }
-    ensures exact { let q = query_at positions.now betas.now log_arities.now openings.now
-        (lists reduced_openings.items) log_global_max_height log_final_height in
+    requires in_order { EachIndex positions.now (λ j.
+        IsInOrder (queries_in setting.now positions.now (lists reduced_openings.items) j)) }
+    requires betas { length setting.now.betas.now ≡ length setting.now.log_arities.now }
+    requires commitments { length commitments.now ≡ length setting.now.log_arities.now }
+    requires openings { length setting.now.openings.now ≡ length setting.now.log_arities.now }
+    requires within_max_height { setting.now.log_global_max_height
+        ≤ S.max_log_height setting.now.folding.now }
+    requires within_two_adicity { setting.now.log_global_max_height ≤ F.TWO_ADICITY }
+    requires within_word { All (λ position. position < 2 ^ setting.now.log_global_max_height)
+        positions.now }
+    requires within { sum setting.now.log_arities.now ≤ setting.now.log_global_max_height }
+    ensures exact { let q = queries_in setting.now positions.now (lists reduced_openings.items) in
         result ≢ Err OutOfMemory → (IsOk result ↔ EachIndex positions.now (λ j.
-        EndsAtFinal ⟦<EF as ChallengeField<F>>⟧.fields (S.row_fold folding.now) final_poly.now
-        (q j)) × RoundsOpenTo (M.opens mmcs.now) log_arities.now log_global_max_height
-        (indices_folded log_arities.now positions.now)
-        (rows_folded EF.ops (S.row_fold folding.now) (length log_arities.now)
-        (length positions.now) q) commitments.now (rounds_opened openings.now)) }
-    ensures refusal { let q = query_at positions.now betas.now log_arities.now openings.now
-        (lists reduced_openings.items) log_global_max_height log_final_height in
+        EndsAtFinal ⟦<EF as ChallengeField<F>>⟧.fields
+        (S.row_fold setting.now.folding.now) final_poly.now (q j))
+        × RoundsOpenTo (M.opens mmcs.now) setting.now.log_arities.now
+        setting.now.log_global_max_height
+        (indices_folded setting.now.log_arities.now positions.now)
+        (rows_folded EF.ops (S.row_fold setting.now.folding.now)
+        (length setting.now.log_arities.now) (length positions.now) q) commitments.now
+        (rounds_opened setting.now.openings.now)) }
+    ensures refusal { let q = queries_in setting.now positions.now (lists reduced_openings.items) in
         IfErr result (λ e. ((e ≡ OutOfMemory) ⊎ ((e ≡ FinalPolyMismatch)
         × SomeIndex positions.now (λ j. ¬ EndsAtFinal ⟦<EF as ChallengeField<F>>⟧.fields
-        (S.row_fold folding.now) final_poly.now (q j))))
+        (S.row_fold setting.now.folding.now) final_poly.now (q j))))
         ⊎ ((error : M.Error) × (e ≡ CommitPhaseMmcsError error)
-        × SomeRoundFails (M.opens mmcs.now) log_arities.now log_global_max_height
-        (indices_folded log_arities.now positions.now)
-        (rows_folded EF.ops (S.row_fold folding.now) (length log_arities.now)
-        (length positions.now) q) commitments.now (rounds_opened openings.now))) }
+        × SomeRoundFails (M.opens mmcs.now) setting.now.log_arities.now
+        setting.now.log_global_max_height
+        (indices_folded setting.now.log_arities.now positions.now)
+        (rows_folded EF.ops (S.row_fold setting.now.folding.now)
+        (length setting.now.log_arities.now) (length positions.now) q) commitments.now
+        (rounds_opened setting.now.openings.now))) }
 {
-    let folded = match fold_queries(
-        alloc,
-        folding,
-        positions,
-        betas,
-        log_arities,
-        openings,
-        reduced_openings,
-        log_global_max_height,
-        log_final_height,
-        final_poly,
-    ) {
+    let folded = match fold_queries(alloc, setting, positions, reduced_openings, final_poly) {
         Ok(folded) => folded,
         Err(refusal) => return Err(refusal),
     };
     verify_rounds(
         mmcs,
         commitments,
-        log_arities,
-        log_global_max_height,
-        openings,
+        setting.log_arities,
+        setting.log_global_max_height,
+        setting.openings,
         &folded,
     )
 }
@@ -163,18 +153,21 @@ pub(crate) fn verify_openings<
         Ok(reduced_openings) => reduced_openings,
         Err(refusal) => return Err(refusal),
     };
-    verify_queries(
-        alloc,
+    let setting = QuerySetting {
         folding,
-        &params.mmcs,
-        positions,
         betas,
         log_arities,
-        &proof.commit_phase_commits,
-        &proof.commit_phase_openings,
-        reduced_openings,
+        openings: proof.commit_phase_openings.as_slice(),
         log_global_max_height,
-        params.log_blowup + params.log_final_poly_len,
+        log_final_height: params.log_blowup + params.log_final_poly_len,
+    };
+    verify_queries(
+        alloc,
+        &setting,
+        &params.mmcs,
+        &proof.commit_phase_commits,
+        positions,
+        reduced_openings,
         &proof.final_poly,
     )
 }

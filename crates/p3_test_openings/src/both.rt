@@ -30,7 +30,8 @@ pub fn commit_both<EF: Copy, C, P: UnivariateStarkPcs<EF, C>>(
     requires preprocessed { (P.rules scheme.old).CanCommit (preprocessed ∷ []) }
     requires private { (P.rules scheme.old).CanCommit (private ∷ []) }
     ensures range { (P.rules scheme.old).InProverRange → (P.rules scheme.new).InProverRange }
-    ensures verifier_range { (P.rules scheme.old).InVerifierRange → (P.rules scheme.new).InVerifierRange }
+    ensures verifier_range { (P.rules scheme.old).InVerifierRange
+        → (P.rules scheme.new).InVerifierRange }
     ensures preprocessed { IfOk result (λ both.
         (P.stark_rules scheme.new).CanOpenPreprocessed both.preprocessed) }
     ensures private { IfOk result (λ both. (P.rules scheme.new).CanOpen both.private) }

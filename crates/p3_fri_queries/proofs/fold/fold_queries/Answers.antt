@@ -2,8 +2,8 @@ use Rattle.std.proofs.Common.{◌≡◌, ◌<◌, ◌∙◌, length, get_or, rul
 use Rattle.std.proofs.lemmas.List.{length-map, length_push}
 use Rattle.algebra.specs.Nested.{lists}
 use Rattle.p3_fri_relation.specs.FoldedQuery.{QueryInput, IsInOrder}
-use Rattle.p3_fri_relation.specs.Views.{query_input, siblings_opened}
-use Rattle.p3_fri_queries.specs.Folded.{query_at}
+use Rattle.p3_fri_relation.specs.Views.{siblings_opened}
+use Rattle.p3_fri_queries.specs.Settings.{query_in, queries_in}
 use Rattle.p3_fri_queries.proofs.Lengths.{length_group_rows}
 use Rattle.p3_fri_queries.proofs.Queries.{IsNext, query_read, folded_none, folded_read}
 use Rattle.p3_fri_queries.proofs.Queries.{indices_length, rows_length, refused_each, refused_some}
@@ -27,15 +27,13 @@ turn g c =
 -- the query that it gives
 next : (g : Over) (c : In-Some g)
     → IsNext c.args.positions.now
-    (query_at c.args.positions.now c.args.betas.now c.args.log_arities.now c.args.openings.now
-    (lists c.args.reduced_openings.items) c.args.log_global_max_height c.args.log_final_height)
+    (queries_in c.args.setting.now c.args.positions.now (lists c.args.reduced_openings.items))
     (length c.loop-query.yielded) c.in-Some.query
-    (query_input c.in-Some.query (get_or c.args.positions.now c.in-Some.query 0) c.args.betas.now
-    c.args.log_arities.now c.args.openings.now c.in-Some.inputs.items c.args.log_global_max_height
-    c.args.log_final_height)
+    (query_in c.args.setting.now c.in-Some.query (get_or c.args.positions.now c.in-Some.query 0) c.in-Some.inputs.items)
 next g c =
-    query_read c.args.positions.now c.args.betas.now c.args.log_arities.now c.args.openings.now
-    c.args.reduced_openings.items c.args.log_global_max_height c.args.log_final_height
+    let setting = c.args.setting.now in
+    query_read c.args.positions.now setting.betas.now setting.log_arities.now setting.openings.now
+    c.args.reduced_openings.items setting.log_global_max_height setting.log_final_height
     (read (turn g (goal.at.In-Some g c).After-next) c.in-Some.is) c.requires.count
 
 all_read : (g : Over) (c : In-None g) → length c.loop-query.yielded ≡ length c.args.positions.now
@@ -94,27 +92,25 @@ fold_to_final-requires-clause-rows g c =
 
 pub loop-query-preserved : goal.loop-query-preserved
 loop-query-preserved g c =
-    let openings : length (siblings_opened c.args.openings.now) ≡ length c.args.log_arities.now =
-    length-map c.args.openings.now (λ o. lists o.sibling_values.items) ∙ c.requires.openings in
-    let here = query_input c.in-Some.query (get_or c.args.positions.now c.in-Some.query 0)
-    c.args.betas.now c.args.log_arities.now c.args.openings.now c.in-Some.inputs.items
-    c.args.log_global_max_height c.args.log_final_height in
+    let openings : length (siblings_opened c.args.setting.now.openings.now) ≡ length c.args.setting.now.log_arities.now =
+    length-map c.args.setting.now.openings.now (λ o. lists o.sibling_values.items) ∙ c.requires.openings in
+    let here = query_in c.args.setting.now c.in-Some.query (get_or c.args.positions.now c.in-Some.query 0) c.in-Some.inputs.items in
     folded_read c.loop-query.invariant (next g (goal.at.loop-query-preserved g c).In-Some)
     (length_push c.loop-query.yielded (c.in-Some.query, c.in-Some.inputs))
-    (length_group_rows here g.EF.Field.ops (g.S.FriFoldingStrategy.row_fold c.args.folding.now)
+    (length_group_rows here g.EF.Field.ops (g.S.FriFoldingStrategy.row_fold c.args.setting.now.folding.now)
     c.requires.betas openings)
     (c.in-Ok-fold_to_final.ensures.indices refl) (c.in-Ok-fold_to_final.ensures.rows refl)
     ((c.in-Ok-fold_to_final.ensures.exact (λ e. cc)).0 refl)
 
 pub returns-in-Err-fold_to_final-clause-exact : goal.returns-in-Err-fold_to_final-clause-exact
 returns-in-Err-fold_to_final-clause-exact g c =
-    refused_each (fields_of g) (g.S.FriFoldingStrategy.row_fold c.args.folding.now)
+    refused_each (fields_of g) (g.S.FriFoldingStrategy.row_fold c.args.setting.now.folding.now)
     c.args.final_poly.now (next g (goal.at.returns-in-Err-fold_to_final-clause-exact g c).In-Some)
     c.in-Err-fold_to_final.refusal c.in-Err-fold_to_final.ensures.refusal _
 
 pub returns-in-Err-fold_to_final-clause-refusal : goal.returns-in-Err-fold_to_final-clause-refusal
 returns-in-Err-fold_to_final-clause-refusal g c =
-    refused_some (fields_of g) (g.S.FriFoldingStrategy.row_fold c.args.folding.now)
+    refused_some (fields_of g) (g.S.FriFoldingStrategy.row_fold c.args.setting.now.folding.now)
     c.args.final_poly.now (next g (goal.at.returns-in-Err-fold_to_final-clause-refusal g c).In-Some)
     c.in-Err-fold_to_final.refusal c.in-Err-fold_to_final.ensures.refusal
 

@@ -2,7 +2,7 @@ use Rattle.std.proofs.Common.{length}
 use Rattle.algebra.specs.Nested.{lists}
 use Rattle.p3_fri_relation.specs.Setting.{Fields}
 use Rattle.p3_fri_relation.specs.Views.{rows_collected}
-use Rattle.p3_fri_queries.specs.Folded.{query_at}
+use Rattle.p3_fri_queries.specs.Settings.{queries_in}
 use Rattle.p3_fri_queries.proofs.Queries.{FoldedUpTo}
 use Rattle.p3_fri_queries.proofs.fold.fold_queries.Given as goal
 
@@ -20,7 +20,6 @@ fields_of g = record {
 
 abbrev pub invariant-loop-query : goal.invariant-loop-query
 invariant-loop-query g l =
-    FoldedUpTo (fields_of g) (g.S.FriFoldingStrategy.row_fold l.folding) l.final_poly l.log_arities l.positions
-    (query_at l.positions l.betas l.log_arities l.openings (lists l.fn.reduced_openings.items)
-    l.log_global_max_height l.log_final_height)
+    FoldedUpTo (fields_of g) (g.S.FriFoldingStrategy.row_fold l.setting.folding.now) l.final_poly l.setting.log_arities.now l.positions
+    (queries_in l.setting l.positions (lists l.fn.reduced_openings.items))
     (length l.yielded) (lists l.folded.group_indices_by_round.items) (rows_collected l.folded.rows_by_round.items)

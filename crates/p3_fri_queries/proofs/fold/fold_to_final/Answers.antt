@@ -6,8 +6,9 @@ use Rattle.algebra.specs.TwoAdic.{pt}
 use Rattle.p3_fri_relation.specs.Setting.{Fields}
 use Rattle.p3_fri_relation.specs.Queries.{row_indices}
 use Rattle.p3_fri_relation.specs.FoldedQuery.{group_rows, gains}
-use Rattle.p3_fri_relation.specs.Views.{query_input, rows_collected}
+use Rattle.p3_fri_relation.specs.Views.{rows_collected}
 use Rattle.p3_fri_queries.specs.Folded.{EndsAtFinal}
+use Rattle.p3_fri_queries.specs.Settings.{query_in}
 use Rattle.p3_fri_queries.proofs.Lengths.{folded_all}
 use Rattle.p3_fri_queries.proofs.Queries.{ends_here}
 use Rattle.p3_fri_queries.proofs.Refusals.{wants_memory, not_ok}
@@ -30,16 +31,14 @@ fields_of g = record {
 -- what the comparison with the final polynomial tells
 ends : (g : Over) (c : After-ends_at_final g)
     → (c.in-Ok.value ≡ val g.EF.Field.ops c.args.final_poly.now
-    (g.EF.ExtensionField.lift (pt g.F.Field.ops g.F.TwoAdicField.root c.fold_query.new.start_index c.args.log_final_height)))
-    ↔ EndsAtFinal (fields_of g) (g.S.FriFoldingStrategy.row_fold c.args.folding.now) c.args.final_poly.now
-    (query_input c.args.query c.args.position c.args.betas.now c.args.log_arities.now c.args.openings.now
-    c.args.reduced_openings.items c.args.log_global_max_height c.args.log_final_height)
+    (g.EF.ExtensionField.lift (pt g.F.Field.ops g.F.TwoAdicField.root c.fold_query.new.start_index c.args.setting.now.log_final_height)))
+    ↔ EndsAtFinal (fields_of g) (g.S.FriFoldingStrategy.row_fold c.args.setting.now.folding.now) c.args.final_poly.now
+    (query_in c.args.setting.now c.args.query c.args.position c.args.reduced_openings.items)
 ends g c =
-    ends_here (fields_of g) (g.S.FriFoldingStrategy.row_fold c.args.folding.now) c.args.final_poly.now
-    (query_input c.args.query c.args.position c.args.betas.now c.args.log_arities.now c.args.openings.now
-    c.args.reduced_openings.items c.args.log_global_max_height c.args.log_final_height)
+    ends_here (fields_of g) (g.S.FriFoldingStrategy.row_fold c.args.setting.now.folding.now) c.args.final_poly.now
+    (query_in c.args.setting.now c.args.query c.args.position c.args.reduced_openings.items)
     c.in-Ok.value c.fold_query.new.start_index c.requires.betas
-    (length-map c.args.openings.now (λ o. lists o.sibling_values.items) ∙ c.requires.openings)
+    (length-map c.args.setting.now.openings.now (λ o. lists o.sibling_values.items) ∙ c.requires.openings)
     c.in-Ok.ensures.value (c.in-Ok.ensures.index refl)
 
 pub ends_at_final-requires : goal.ends_at_final-requires
@@ -84,9 +83,8 @@ returns-then-ends_at_final-clause-indices g c ok =
     (c.fold_query.auto.group_indices_by_round ∙ c.deref_mut.ensures.len))
     ∙ c.in-Ok.ensures.indices refl
     ∙ ap₂ (λ xs arities. gains (lists xs) (row_indices arities c.args.position)) c.deref_mut.ensures.value
-    (folded_all (query_input c.args.query c.args.position c.args.betas.now c.args.log_arities.now c.args.openings.now
-    c.args.reduced_openings.items c.args.log_global_max_height c.args.log_final_height) c.requires.betas
-    (length-map c.args.openings.now (λ o. lists o.sibling_values.items) ∙ c.requires.openings))
+    (folded_all (query_in c.args.setting.now c.args.query c.args.position c.args.reduced_openings.items) c.requires.betas
+    (length-map c.args.setting.now.openings.now (λ o. lists o.sibling_values.items) ∙ c.requires.openings))
 
 pub returns-then-ends_at_final-clause-rows : goal.returns-then-ends_at_final-clause-rows
 returns-then-ends_at_final-clause-rows g c ok =
@@ -94,9 +92,8 @@ returns-then-ends_at_final-clause-rows g c ok =
     (c.fold_query.auto.rows_by_round ∙ c.deref_mut-2.ensures.len))
     ∙ c.in-Ok.ensures.rows refl
     ∙ ap (λ xs. gains (rows_collected xs) (map (λ row. row ∷ []) (group_rows
-    (query_input c.args.query c.args.position c.args.betas.now c.args.log_arities.now c.args.openings.now
-    c.args.reduced_openings.items c.args.log_global_max_height c.args.log_final_height) g.EF.Field.ops
-    (g.S.FriFoldingStrategy.row_fold c.args.folding.now)))) c.deref_mut-2.ensures.value
+    (query_in c.args.setting.now c.args.query c.args.position c.args.reduced_openings.items) g.EF.Field.ops
+    (g.S.FriFoldingStrategy.row_fold c.args.setting.now.folding.now)))) c.deref_mut-2.ensures.value
 
 pub returns-else-ends_at_final-clause-exact : goal.returns-else-ends_at_final-clause-exact
 returns-else-ends_at_final-clause-exact g c remembered = (

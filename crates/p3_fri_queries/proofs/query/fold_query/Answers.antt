@@ -5,7 +5,8 @@ use Rattle.algebra.specs.Nested.{lists}
 use Rattle.p3_fri_relation.specs.declared.error.FriError.TheVariants.{OutOfMemory}
 use Rattle.p3_fri_relation.specs.FoldedQuery.{QueryInput, IsInOrder, gains}
 use Rattle.p3_fri_relation.specs.Faults.{QueryFault}
-use Rattle.p3_fri_relation.specs.Views.{query_input, rows_collected}
+use Rattle.p3_fri_relation.specs.Views.{rows_collected}
+use Rattle.p3_fri_queries.specs.Settings.{query_in}
 use Rattle.p3_fri_queries.proofs.Lists.{range_take, have_take}
 use Rattle.p3_fri_queries.proofs.QueryRefusals.{refused, handed_on}
 use Rattle.p3_fri_queries.proofs.Orders.{value_of, rows_of}
@@ -21,8 +22,7 @@ as_handed_on (Err x) e h = ap Err h.1
 -- the query, with these inputs
 abbrev query_of : (g : Over) (c : After-as_slice-inputs g) → List (ℕ × g.row.EF.Denot) → QueryInput g.row.EF.Denot
 query_of g c inputs =
-    query_input c.args.query c.args.start_index.now c.args.betas.now c.args.log_arities.now
-    c.args.commit_phase_openings.now inputs c.args.log_global_max_height c.args.log_final_height
+    query_in c.args.setting.now c.args.query c.args.start_index.now inputs
 
 -- the query that is folded is in order
 in_order : (g : Over) (c : After-folded_arities-folded g)
@@ -62,7 +62,7 @@ fold_rounds-requires-clause-have_rows g c =
 pub fold_rounds-requires-clause-distance : goal.fold_rounds-requires-clause-distance
 fold_rounds-requires-clause-distance g c =
     let o = in_order g (goal.at.fold_rounds-requires-clause-distance g c).After-folded_arities-folded in
-    sum_within _ _ _ _ c.folded_arities-folded.ensures c.args.log_global_max_height c.args.log_final_height o.distance
+    sum_within _ _ _ _ c.folded_arities-folded.ensures c.args.setting.now.log_global_max_height c.args.setting.now.log_final_height o.distance
 
 pub returns-clause-exact : goal.returns-clause-exact
 returns-clause-exact g c =
@@ -71,8 +71,8 @@ returns-clause-exact g c =
 pub returns-clause-value : goal.returns-clause-value
 returns-clause-value g c =
     let there = (goal.at.returns-clause-value g c).After-as_slice-inputs in
-    c.in_ok-fold_rounds.ensures.value
-    ∙ value_of (query_of g there c.args.reduced_openings.items) g.EF.Field.ops (g.S.FriFoldingStrategy.row_fold c.args.folding.now)
+    c.in_ok-link.ensures.value
+    ∙ value_of (query_of g there c.args.reduced_openings.items) g.EF.Field.ops (g.S.FriFoldingStrategy.row_fold c.args.setting.now.folding.now)
     c.folded_arities-folded.result.now c.as_slice-inputs.result.now c.in_ok-first.first
     (sym c.folded_arities-folded.ensures) (sym c.as_slice-inputs.ensures.value)
     (c.in_ok-first.ensures.value g.EF.Field.ops.zero)
@@ -81,9 +81,9 @@ pub returns-clause-rows : goal.returns-clause-rows
 returns-clause-rows g c =
     let there = (goal.at.returns-clause-rows g c).After-as_slice-inputs in
     let E = g.row.EF.Denot in
-    λ _. c.in_ok-fold_rounds.ensures.rows refl
+    λ _. c.in_ok-link.ensures.rows refl
     ∙ ap (λ (rows : List (List E)). gains (rows_collected c.args.rows_by_round.now) (map {A = List E} {B = List (List E)} (λ row. row ∷ []) rows))
-    (rows_of (query_of g there c.args.reduced_openings.items) g.EF.Field.ops (g.S.FriFoldingStrategy.row_fold c.args.folding.now)
+    (rows_of (query_of g there c.args.reduced_openings.items) g.EF.Field.ops (g.S.FriFoldingStrategy.row_fold c.args.setting.now.folding.now)
     c.folded_arities-folded.result.now c.as_slice-inputs.result.now c.in_ok-first.first
     (sym c.folded_arities-folded.ensures) (sym c.as_slice-inputs.ensures.value)
     (c.in_ok-first.ensures.value g.EF.Field.ops.zero))
@@ -93,7 +93,7 @@ fold_rounds-requires-clause-betas g c = (as_many _ _ _ _ c.folded_arities-folded
 
 pub fold_rounds-requires-clause-openings : goal.fold_rounds-requires-clause-openings
 fold_rounds-requires-clause-openings g c =
-    rw (← length-map c.args.commit_phase_openings.now (λ o. lists o.sibling_values.items))
+    rw (← length-map c.args.setting.now.openings.now (λ o. lists o.sibling_values.items))
     (as_many _ _ _ _ c.folded_arities-folded.ensures).1
 
 pub fold_rounds-requires-clause-indices : goal.fold_rounds-requires-clause-indices
@@ -104,10 +104,10 @@ pub fold_rounds-requires-clause-rows : goal.fold_rounds-requires-clause-rows
 fold_rounds-requires-clause-rows g c =
     rw c.requires.rows (as_many _ _ _ _ c.folded_arities-folded.ensures).2
 
-pub returns-in_err-fold_rounds-clause-exact : goal.returns-in_err-fold_rounds-clause-exact
-returns-in_err-fold_rounds-clause-exact g c =
-    λ other. absurd (other (as_handed_on _ OutOfMemory c.from_residual-in_err-fold_rounds.ensures))
+pub returns-in_err-link-clause-exact : goal.returns-in_err-link-clause-exact
+returns-in_err-link-clause-exact g c =
+    λ other. absurd (other (as_handed_on _ OutOfMemory c.from_residual-in_err-link.ensures))
 
-pub returns-in_err-fold_rounds-clause-refusal : goal.returns-in_err-fold_rounds-clause-refusal
-returns-in_err-fold_rounds-clause-refusal g c =
-    handed_on _ c.from_residual-in_err-fold_rounds.result OutOfMemory c.from_residual-in_err-fold_rounds.ensures tt
+pub returns-in_err-link-clause-refusal : goal.returns-in_err-link-clause-refusal
+returns-in_err-link-clause-refusal g c =
+    handed_on _ c.from_residual-in_err-link.result OutOfMemory c.from_residual-in_err-link.ensures tt

@@ -1,4 +1,4 @@
-use Rattle.std.proofs.Common.{arith, refl}
+use Rattle.std.proofs.Common.{arith, refl, ap, get_or}
 use Rattle.std.proofs.lemmas.List.{length-map}
 use Rattle.std.proofs.lemmas.List.Sums.{sum_by-drop_more}
 use Rattle.algebra.specs.Nested.{lists, nested}
@@ -16,31 +16,38 @@ loop-round-init g c =
 pub loop-round-preserved : goal.loop-round-preserved
 loop-round-preserved g c =
     let k = c.loop-round.round in
-    let has = siblings_at (λ o. lists o.sibling_values.items) c.args.query k c.args.openings.now
-    c.index-openings-round.result (omega arith) c.index-openings-round.is in
-    folded_on _ _ _ _ _ _ c.loop-round.invariant (omega arith) (omega arith) has.0 c.index-betas-round.is has.1
-    c.in_ok-folded.ensures.0 c.in_ok-folded.ensures.1
+    let openings = c.args.setting.now.openings.now in
+    let opening = c.index-setting-round-in-loop-round in
+    let has = siblings_at (λ o. lists o.sibling_values.items) c.args.query k openings
+    (get_or openings k opening.result) (omega arith) (ap (λ o. get_or openings k o) opening.is) in
+    folded_on _ _ _ _ _ _ c.loop-round.invariant (omega arith) (omega arith) has.0
+    (ap (λ b. get_or c.args.setting.now.betas.now k b) c.index-setting-round.is) has.1
+    c.in_ok-value.ensures.0 c.in_ok-value.ensures.1
     (c.in_ok-collect.ensures.indices refl) (c.in_ok-collect.ensures.rows refl)
 
 pub fold_opening-requires-clause-has_row : goal.fold_opening-requires-clause-has_row
 fold_opening-requires-clause-has_row g c =
-    row_at (λ o. lists o.sibling_values.items) c.args.query c.loop-round.round c.args.log_arities.now c.args.openings.now
-    c.index-openings-round.result c.requires.have_rows (omega arith) (omega arith) c.index-openings-round.is
+    let k = c.loop-round.round in
+    let openings = c.args.setting.now.openings.now in
+    let opening = c.index-setting-round-in-loop-round in
+    row_at (λ o. lists o.sibling_values.items) c.args.query k c.args.setting.now.log_arities.now openings
+    (get_or openings k opening.result) c.requires.have_rows (omega arith) (omega arith)
+    (ap (λ o. get_or openings k o) opening.is)
 
 pub fold_opening-requires-clause-positive : goal.fold_opening-requires-clause-positive
 fold_opening-requires-clause-positive g c =
-    (in_range_at c.loop-round.round c.args.log_arities.now c.requires.range (omega arith)).0
+    (in_range_at c.loop-round.round c.args.setting.now.log_arities.now c.requires.range (omega arith)).0
 
 pub fold_opening-requires-clause-small : goal.fold_opening-requires-clause-small
 fold_opening-requires-clause-small g c =
-    (in_range_at c.loop-round.round c.args.log_arities.now c.requires.range (omega arith)).1
+    (in_range_at c.loop-round.round c.args.setting.now.log_arities.now c.requires.range (omega arith)).1
 
 pub fold_opening-requires-clause-within_word : goal.fold_opening-requires-clause-within_word
 fold_opening-requires-clause-within_word g c = c.loop-round.invariant.within
 
-pub overflow_shr-start_index : goal.overflow_shr-start_index
-overflow_shr-start_index g c =
-    (in_range_at c.loop-round.round c.args.log_arities.now c.requires.range (omega arith)).1
+pub overflow_shr-index : goal.overflow_shr-index
+overflow_shr-index g c =
+    (in_range_at c.loop-round.round c.args.setting.now.log_arities.now c.requires.range (omega arith)).1
 
 pub collect-requires-clause-indices : goal.collect-requires-clause-indices
 collect-requires-clause-indices g c =
@@ -54,7 +61,7 @@ pub returns-clause-value : goal.returns-clause-value
 returns-clause-value g c = value_reached _ _ _ _ _ _ c.loop-round.invariant (omega arith)
 
 pub returns-clause-index : goal.returns-clause-index
-returns-clause-index g c = λ _. index_reached _ _ _ _ _ _ c.loop-round.invariant (omega arith)
+returns-clause-index g c = index_reached _ _ _ _ _ _ c.loop-round.invariant (omega arith)
 
 pub returns-clause-indices : goal.returns-clause-indices
 returns-clause-indices g c = λ _. indices_reached _ _ _ _ _ _ c.loop-round.invariant (omega arith)
@@ -62,10 +69,10 @@ returns-clause-indices g c = λ _. indices_reached _ _ _ _ _ _ c.loop-round.inva
 pub returns-clause-rows : goal.returns-clause-rows
 returns-clause-rows g c = λ _. rows_reached _ _ _ _ _ _ c.loop-round.invariant (omega arith)
 
-pub overflow_sub-height : goal.overflow_sub-height
-overflow_sub-height g c =
-    omega (arith, sum_by-drop_more (λ x. x) c.args.log_arities.now c.loop-round.round 0 (omega arith))
+pub overflow_sub-link : goal.overflow_sub-link
+overflow_sub-link g c =
+    omega (arith, sum_by-drop_more (λ x. x) c.args.setting.now.log_arities.now c.loop-round.round 0 (omega arith))
 
 pub fold_opening-requires-clause-within_height : goal.fold_opening-requires-clause-within_height
 fold_opening-requires-clause-within_height g c =
-    omega (arith, sum_by-drop_more (λ x. x) c.args.log_arities.now c.loop-round.round 0 (omega arith))
+    omega (arith, sum_by-drop_more (λ x. x) c.args.setting.now.log_arities.now c.loop-round.round 0 (omega arith))

@@ -16,7 +16,7 @@ use Rattle.p3_fri_verifier.proofs.Opened.{top_within, rounds_within}
 use Rattle.p3_challenger_core.specs.Run.{moves}
 use Rattle.p3_fri_relation.specs.Setting.{Setting}
 use Rattle.p3_fri_verifier.proofs.openings.verify_openings.Given.{Over}
-use Rattle.p3_fri_verifier.proofs.openings.verify_openings.Goals.{After-deref-4}
+use Rattle.p3_fri_verifier.proofs.openings.verify_openings.Goals.{After-deref-3}
 use Rattle.p3_fri_verifier.proofs.openings.verify_openings.Goals as goal
 
 -- what the layers below compute and accept, named once
@@ -43,24 +43,24 @@ setting_at g folding mmcs input_mmcs = record {
 }
 
 -- what was read of the proof
-read : (g : Over) (c : After-deref-4 g)
+read : (g : Over) (c : After-deref-3 g)
     → IsRead (setting_at g c.args.folding.now c.args.params.now.mmcs c.args.input_mmcs.now)
     (parameters_of c.args.params.now) (claims_of (λ d. d.log_size) c.args.claims.now)
     (proof_of c.args.proof.now) c.args.alpha c.args.betas.now c.args.positions.now
     c.args.log_global_max_height (inputs_opened c.deref.result.now) c.args.log_arities.now
-    c.deref-3.result.now (lists c.in-Ok.reduced_openings.items) c.deref-4.result.now
+    c.as_slice.result.now (lists c.in-Ok.reduced_openings.items) c.deref-3.result.now
     g.F.TwoAdicField.TWO_ADICITY
 read g c = record {
   tallest = c.requires.top;
   inputs_are = ap inputs_opened c.deref.ensures.value;
   scheduled = c.requires.schedule;
-  opened = ap rounds_opened (sym c.deref-3.ensures.value);
+  opened = ap rounds_opened (sym c.as_slice.ensures.value);
   queries = c.requires.positions;
   counts = subst (λ la. AllZip (HasSiblings c.args.params.now.num_queries) la (rounds_opened c.args.proof.now.commit_phase_openings.items)) c.requires.schedule c.requires.counts.rounds;
   drawn = c.requires.betas ∙ ap length c.requires.schedule;
   ranged = c.requires.in_range;
   sums = c.in-Ok.ensures.sums;
-  final_is = c.deref-4.ensures.value;
+  final_is = c.deref-3.ensures.value;
 }
 
 not_more : {a b c : ℕ} → a ≤ b → b ≤ c → a ≤ c
@@ -94,7 +94,7 @@ verify_queries-requires-clause-count g c = sym (length-lists c.in-Ok.reduced_ope
 
 pub verify_queries-requires-clause-in_order : goal.verify_queries-requires-clause-in_order
 verify_queries-requires-clause-in_order g c =
-    in_order_at (read g (goal.at.verify_queries-requires-clause-in_order g c).After-deref-4)
+    in_order_at (read g (goal.at.verify_queries-requires-clause-in_order g c).After-deref-3)
     g.met.F.TwoAdicField.two_adicity_law
 
 pub verify_queries-requires-clause-commitments : goal.verify_queries-requires-clause-commitments
@@ -103,7 +103,7 @@ verify_queries-requires-clause-commitments g c =
 
 pub verify_queries-requires-clause-openings : goal.verify_queries-requires-clause-openings
 verify_queries-requires-clause-openings g c =
-    ap length c.deref-3.ensures.value
+    ap length c.as_slice.ensures.value
     ∙ sym (length-map c.args.proof.now.commit_phase_openings.items round_opened)
     ∙ AllZip-long _ _ _ c.requires.counts.rounds
 
@@ -121,7 +121,7 @@ verify_queries-requires-clause-within g c =
 
 pub returns-clause-exact : goal.returns-clause-exact
 returns-clause-exact g c other =
-    let known = read g (goal.at.returns-clause-exact g c).After-deref-4 in
+    let known = read g (goal.at.returns-clause-exact g c).After-deref-3 in
     let exact = c.verify_queries.ensures.exact other in (
       (λ ok. opened_at (setting_at g c.args.folding.now c.args.params.now.mmcs c.args.input_mmcs.now) (parameters_of c.args.params.now) (claims_of (λ d. d.log_size) c.args.claims.now)
           (proof_of c.args.proof.now) c.args.alpha c.args.betas.now c.args.positions.now c.args.log_global_max_height c.requires.top
@@ -138,5 +138,5 @@ returns-clause-exact g c other =
 pub returns-clause-refusal : goal.returns-clause-refusal
 returns-clause-refusal g c =
     refused_as _ _ c.verify_queries.result
-    (queries_fault_at (read g (goal.at.returns-clause-refusal g c).After-deref-4) c.deref-2.ensures.value
+    (queries_fault_at (read g (goal.at.returns-clause-refusal g c).After-deref-3) c.deref-2.ensures.value
     ((c.in-Ok.ensures.exact (λ e. ok_err _ _ e)).0 refl)) c.verify_queries.ensures.refusal

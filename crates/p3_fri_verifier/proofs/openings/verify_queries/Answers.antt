@@ -37,7 +37,7 @@ verify_rounds-requires-clause-small g c =
 
 pub verify_rounds-requires-clause-below : goal.verify_rounds-requires-clause-below
 verify_rounds-requires-clause-below g c =
-    indices_below c.args.log_arities.now c.args.log_global_max_height c.args.positions.now
+    indices_below c.args.setting.now.log_arities.now c.args.setting.now.log_global_max_height c.args.positions.now
     (lists c.in-Ok.folded.group_indices_by_round.items) c.in-Ok.ensures.indices
     c.requires.within c.requires.within_word
 
@@ -45,13 +45,13 @@ pub returns-clause-exact : goal.returns-clause-exact
 returns-clause-exact g c _ = (
   (λ ok. (
     (c.in-Ok.ensures.exact (λ e. ok_err _ _ e)).0 refl,
-    at_both (λ indices rows. RoundsOpenTo (g.M.Mmcs.opens c.args.mmcs.now) c.args.log_arities.now c.args.log_global_max_height
-        indices rows c.args.commitments.now (rounds_opened c.args.openings.now))
+    at_both (λ indices rows. RoundsOpenTo (g.M.Mmcs.opens c.args.mmcs.now) c.args.setting.now.log_arities.now c.args.setting.now.log_global_max_height
+        indices rows c.args.commitments.now (rounds_opened c.args.setting.now.openings.now))
         c.in-Ok.ensures.indices c.in-Ok.ensures.rows (c.verify_rounds.ensures.exact.0 ok),
   )),
   (λ both. c.verify_rounds.ensures.exact.1
-      (at_both (λ indices rows. RoundsOpenTo (g.M.Mmcs.opens c.args.mmcs.now) c.args.log_arities.now c.args.log_global_max_height
-      indices rows c.args.commitments.now (rounds_opened c.args.openings.now))
+      (at_both (λ indices rows. RoundsOpenTo (g.M.Mmcs.opens c.args.mmcs.now) c.args.setting.now.log_arities.now c.args.setting.now.log_global_max_height
+      indices rows c.args.commitments.now (rounds_opened c.args.setting.now.openings.now))
       (sym c.in-Ok.ensures.indices) (sym c.in-Ok.ensures.rows) both.1)),
 )
 
@@ -60,7 +60,7 @@ returns-clause-refusal g c =
     refused_as _ _ c.verify_rounds.result (λ e h. inr (
       h.0,
       h.1,
-      at_both (λ indices rows. SomeRoundFails (g.M.Mmcs.opens c.args.mmcs.now) c.args.log_arities.now c.args.log_global_max_height
-          indices rows c.args.commitments.now (rounds_opened c.args.openings.now))
+      at_both (λ indices rows. SomeRoundFails (g.M.Mmcs.opens c.args.mmcs.now) c.args.setting.now.log_arities.now c.args.setting.now.log_global_max_height
+          indices rows c.args.commitments.now (rounds_opened c.args.setting.now.openings.now))
           c.in-Ok.ensures.indices c.in-Ok.ensures.rows h.2,
     )) c.verify_rounds.ensures.refusal
