@@ -72,8 +72,8 @@ same : (g : Over) (c : After-mark_all g) → map request (map inner_request c.ma
     ≡ map inside (map request c.args.requests.now)
 same g c = inside_marked c.args.requests.now c.mark_all.new.requests c.mark_all.ensures
 
-pub check_requests-requires-clause-openable : goal.check_requests-requires-clause-openable
-check_requests-requires-clause-openable g c =
+pub check_requests-requires : goal.check_requests-requires
+check_requests-requires g c =
     openable_inside (fields_of g) g.InputMmcs.Mmcs.committed c.args.params.now.log_blowup
     c.args.num_random_codewords c.args.preprocessing (map request c.args.requests.now)
     c.requires.shape
