@@ -73,10 +73,11 @@ same : (g : Over) (c : After-mark_all g) → map request (map inner_request c.ma
 same g c = inside_marked c.args.requests.now c.mark_all.new.requests c.mark_all.ensures
 
 pub check_requests-requires : goal.check_requests-requires
-check_requests-requires g c =
-    openable_inside (fields_of g) g.InputMmcs.Mmcs.committed c.args.params.now.log_blowup
-    c.args.num_random_codewords c.args.preprocessing (map request c.args.requests.now)
-    c.requires.shape
+check_requests-requires g c = record {
+  openable = openable_inside (fields_of g) g.InputMmcs.Mmcs.committed
+      c.args.params.now.log_blowup c.args.num_random_codewords c.args.preprocessing
+      (map request c.args.requests.now) c.requires.shape;
+}
 
 pub returns-in_err-check_requests-clause-opened :
     goal.returns-in_err-check_requests-clause-opened
