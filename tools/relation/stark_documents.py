@@ -59,8 +59,8 @@ def rows_name(plain):
     return plain
 
 
-LAYOUT = record(width=count, preprocessed_width=count, num_public_values=count,
-                num_periodic_columns=count)
+LAYOUT_NAMES = ("width", "preprocessed_width", "num_public_values", "num_periodic_columns")
+LAYOUT = record(**{name: count for name in LAYOUT_NAMES})
 
 SYSTEM = record(
     {"num_random_codewords": 0, "preprocessed": [], "periodic": []},
@@ -117,7 +117,7 @@ def demand_rows(name, rows):
 
 
 def air_from(plain):
-    """A well-formed constraint system. The first fault is named: of a constant before all others."""
+    """A well-formed constraint system; of several faults one of a constant comes first."""
     constraints = [Constraint(**constraint) for constraint in plain["constraints"]]
     system = Air(**plain["layout"], nodes=plain["nodes"], constraints=constraints)
     for at, each in enumerate(system.nodes):
@@ -157,7 +157,11 @@ def trace_from(text):
 
 
 def stark_proof_from(text, hides):
-    plain = proof_shape(hides)(json_value(text))
+    return stark_proof_of(proof_shape(hides)(json_value(text)), hides)
+
+
+def stark_proof_of(plain, hides):
+    """The proof of a JSON value of the right shape."""
     reader = Reader()
     commitments = {name: optional(reader.digest)(digest)
                    for name, digest in plain["commitments"].items()}
@@ -172,6 +176,26 @@ def stark_proof_from(text, hides):
         raise fault(FAULTS_OF_PROOFS[min(reader.faults)], "proof")
     return StarkProof(Commitments(**commitments), OpenedValues(quotient_chunks=chunks, **opened),
                       proof, plain["log_height"], random_values)
+
+
+def plain_node(each):
+    return {each.kind: list(each.names) if len(each.names) == 2 else each.names[0]}
+
+
+def plain_system(scheme, system, given):
+    """What the file AIR has."""
+    layout = {name: getattr(system, name) for name in LAYOUT_NAMES}
+    return {
+        "parameters": vars(scheme.parameters),
+        "num_random_codewords": scheme.num_random_codewords or 0,
+        "air": {
+            "layout": layout,
+            "nodes": [plain_node(each) for each in system.nodes],
+            "constraints": [vars(constraint) for constraint in system.constraints],
+        },
+        "preprocessed": given.preprocessed,
+        "periodic": given.periodic,
+    }
 
 
 def plain_opening(proof):

@@ -90,7 +90,7 @@ def masked_column(column, mask, shift):
 
 
 def chunk_weight(shifts, size, index):
-    """The inverse of the product of what vanishes on the other chunks, at this one's first point."""
+    """The inverse of what vanishes on the other chunks, multiplied, at this one's first point."""
     product = field.ONE
     for other, shift in enumerate(shifts):
         if other != index:
