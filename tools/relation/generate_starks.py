@@ -99,8 +99,12 @@ def answers(document):
     return [f"{ACCEPTED} {found.challenger.draw_bits(GREATEST_WIDTH)}"]
 
 
-def groups_of(_, document):
-    return grouped(document, all_stark_changes(document), answers)
+def groups_of(name, document):
+    """All changes by what may be answered; of what is refused as it is, only that."""
+    changes = all_stark_changes(document)
+    if name.startswith("broken"):
+        changes = [next(changes)]
+    return grouped(document, changes, answers)
 
 
 if __name__ == "__main__":

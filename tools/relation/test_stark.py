@@ -4,6 +4,9 @@
 """
 
 import json
+import subprocess
+import sys
+import tempfile
 import unittest
 from pathlib import Path
 
@@ -11,11 +14,14 @@ import air
 import field
 import stark_prover
 from air import Air, Assignment
+from alterations import changed
 from answer import Unanswered
 from chacha import Generator, block
 from challenger import Challenger
 from documents import Malformed
-from stark_documents import plain_stark_proof, stark_proof_from, stark_proof_text
+from generate_starks import answers, documented
+from stark_alterations import all_stark_changes
+from stark_documents import plain_stark_proof, plain_system, stark_proof_from, stark_proof_text
 from stark_relation import Key, StarkStatement, log_num_chunks, stark_verdict
 from stark_transcript import draw_alpha, draw_zeta, stark_stream
 from starks import (
@@ -275,6 +281,60 @@ class Forms(unittest.TestCase):
             change(plain)
             with self.assertRaises(Malformed):
                 stark_proof_from(json.dumps(plain), False)
+
+
+IGNORED = ["/system/num_random_codewords raise", "/system/num_random_codewords set 3"]
+
+
+class Altered(unittest.TestCase):
+    def test_every_change_of_bits(self):
+        """Of system, public values and proof; the plain scheme doesn't read one number."""
+        document = documented(PLAIN, BITS, Assignment([[0], [1]]))
+        base = answers(document)
+        accepted = [change.text() for change in all_stark_changes(document)
+                    if answers(changed(document, change)) == base]
+        self.assertEqual(accepted, [" keep", *IGNORED])
+
+    def test_other_openings(self):
+        """What is opened of another trace, system or commitment isn't accepted."""
+        document = documented(PLAIN, FIBONACCI, fibonacci(8))
+        other = documented(PLAIN, FIBONACCI, fibonacci(8, 5, 9))
+        for part in ("commitments", "opened_values", "opening_proof"):
+            mixed = {**document, "proof": {**document["proof"], part: other["proof"][part]}}
+            self.assertNotIn("accepted", answers(mixed)[0])
+        for part in ("public_values", "proof"):
+            self.assertNotIn("accepted", answers({**document, part: other[part]})[0])
+
+
+class Program(unittest.TestCase):
+    def run_stark(self, *arguments):
+        """The status and what is printed."""
+        command = [sys.executable, ROOT / "tools/relation/stark.py", *arguments]
+        ended = subprocess.run(command, capture_output=True, text=True, check=False)
+        return ended.returncode, ended.stdout
+
+    def test_commands(self):
+        given = fibonacci(32)
+        with tempfile.TemporaryDirectory() as name:
+            air_file, trace, proof, seed = (Path(name, file) for file in "atps")
+            air_file.write_text(json.dumps(plain_system(HIDING, FIBONACCI, given)))
+            trace.write_text(json.dumps(
+                {"public_values": given.public_values, "trace": given.trace}))
+            seed.write_bytes(bytes(range(32)))
+            self.assertEqual(self.run_stark("check", air_file, trace), (0, "satisfied\n"))
+            for prove, verify in (([], []), (["--hiding", seed], ["--hiding"])):
+                status, text = self.run_stark("prove", *prove, air_file, trace)
+                self.assertEqual(status, 0)
+                proof.write_text(text)
+                verified = self.run_stark("verify", *verify, air_file, trace, proof)
+                self.assertEqual(verified, (0, "accepted\n"))
+            self.assertEqual(self.run_stark("verify", air_file, trace, proof)[0], 2)
+            given.trace[7][1] += 1
+            trace.write_text(json.dumps(
+                {"public_values": given.public_values, "trace": given.trace}))
+            refused = (1, "refused: Unsatisfied { row: 6, constraint: 3 }\n")
+            self.assertEqual(self.run_stark("check", air_file, trace), refused)
+            self.assertEqual(self.run_stark("prove", air_file, trace), refused)
 
 
 if __name__ == "__main__":
