@@ -14,6 +14,7 @@ import sys
 from argparse import ArgumentParser, RawDescriptionHelpFormatter
 
 import air
+import field
 import stark_prover
 from answer import Unanswered, text_of
 from chacha import Generator
@@ -21,6 +22,7 @@ from challenger import Challenger
 from documents import Malformed
 from readers import end_with_reader
 from stark_documents import (
+    provable_system_from,
     public_values_from,
     stark_proof_from,
     stark_proof_text,
@@ -59,20 +61,27 @@ def trace_for(system, file):
     return given
 
 
-def demand_provable(given):
+def demand_provable(scheme, given):
     """That the trace has a height that a proof can have."""
     height = len(given.trace)
-    if height & (height - 1):
+    log_height = height.bit_length() - 1 + scheme.hiding_bits + scheme.parameters.log_blowup
+    if height & (height - 1) or log_height > field.TWO_ADICITY:
         raise Unanswered(f"TraceHeight {{ height: {height} }}")
     fault = air.period_fault(given.periodic, height)
     if fault:
         raise Unanswered(f"InvalidPeriodicColumns({fault})")
 
 
-def prove(system, given, seed, challenger):
-    demand_provable(given)
+def prove(system, given, seed):
+    """A proof that is accepted. It isn't if the hiding scheme has too few rows or columns."""
+    demand_provable(system.scheme, given)
     generator = Generator(seed) if seed else None
-    return stark_prover.prove(system.scheme, system.air, given, challenger, generator)
+    statement, proof = stark_prover.prove(
+        system.scheme, system.air, given, Challenger(), generator)
+    found = stark_verdict(system.scheme, statement, proof, Challenger())
+    if found.faults:
+        raise Unanswered(", ".join(sorted(found.faults)))
+    return proof
 
 
 def known_statement(system, public_values):
@@ -93,9 +102,8 @@ def run_check(chosen):
 
 def run_prove(chosen):
     seed = chosen.hiding and seed_from(chosen.hiding)
-    system = read(chosen.air, system_from, bool(seed))
-    _, proof = prove(system, trace_for(system, chosen.trace), seed, Challenger())
-    return stark_proof_text(proof)
+    system = read(chosen.air, provable_system_from, bool(seed))
+    return stark_proof_text(prove(system, trace_for(system, chosen.trace), seed))
 
 
 def run_verify(chosen):

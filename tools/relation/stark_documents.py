@@ -144,6 +144,16 @@ def system_from(text, hides):
     )
 
 
+def provable_system_from(text, hides):
+    """The same, with parameters by which a prover can commit and fold."""
+    system = system_from(text, hides)
+    parameters = system.scheme.parameters
+    demand(1 <= parameters.log_blowup <= field.TWO_ADICITY, "LogBlowup")
+    demand(parameters.max_log_arity > 0, "MaxLogArity")
+    demand(parameters.num_queries > 0, "NumQueries")
+    return system
+
+
 def public_values_from(text):
     plain = PUBLIC_VALUES(json_value(text))
     return demand_elements("public value", plain["public_values"])
