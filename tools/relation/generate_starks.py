@@ -2,8 +2,8 @@
 
     python3 tools/relation/generate_starks.py DIRECTORY
 
-As `generate.py` does for openings: a file into `data` for each STARK, `{"stark": .., "groups": ..}`,
-and counts into `stdout`. What may be answered is a refusal of the verifier, a fault of the
+As `generate.py` does for openings: a file into `data` for each STARK, `{"stark", "groups"}`, and
+counts into `stdout`. What may be answered is a refusal of the verifier, a fault of the
 constraint system or of the proof's form, or acceptance with the next bits that are drawn.
 """
 
@@ -18,6 +18,7 @@ from challenger import GREATEST_WIDTH, Challenger
 from chacha import Generator
 from documents import Malformed
 from generate import grouped, write_all
+from plain_form import Refused
 from rows import ACCEPTED
 from stark import known_statement
 from stark_alterations import all_stark_changes
@@ -92,6 +93,8 @@ def answers(document):
         proof = stark_proof_of(document["proof"], hides)
     except Malformed as malformed:
         return [str(malformed)]
+    except Refused as refused:
+        return sorted(refused.faults)
     statement = replace(known, public_values=public_values)
     found = stark_verdict(system.scheme, statement, proof, Challenger())
     if found.faults:

@@ -24,7 +24,14 @@ from documents import (
     record,
     shape,
 )
-from plain_form import Parameters, Reader, plain_digests, plain_elements, plain_from_proof
+from plain_form import (
+    Parameters,
+    Reader,
+    Refused,
+    plain_digests,
+    plain_elements,
+    plain_from_proof,
+)
 from stark_relation import Commitments, OpenedValues, Scheme, StarkProof
 
 
@@ -116,18 +123,24 @@ def demand_rows(name, rows):
     return rows
 
 
-def air_from(plain):
-    """A well-formed constraint system; of several faults one of a constant comes first."""
-    constraints = [Constraint(**constraint) for constraint in plain["constraints"]]
-    system = Air(**plain["layout"], nodes=plain["nodes"], constraints=constraints)
+def air_form_fault(system):
+    """The first fault of a system's form, or None: of a constant, of what is named, of a degree."""
     for at, each in enumerate(system.nodes):
         if each.kind == "constant" and each.names[0] >= field.ORDER:
-            raise Malformed(f"ConstantOutOfRange {{ node: {at} }}")
+            return f"ConstantOutOfRange {{ node: {at} }}"
     malformed = air.air_fault(system)
     if malformed:
+        return f"Malformed({malformed})"
+    return "DegreeTooLarge" if max(air.degrees(system), default=0) >= 1 << 64 else None
+
+
+def air_from(plain):
+    """A well-formed constraint system."""
+    constraints = [Constraint(**constraint) for constraint in plain["constraints"]]
+    system = Air(**plain["layout"], nodes=plain["nodes"], constraints=constraints)
+    malformed = air_form_fault(system)
+    if malformed:
         raise Malformed(malformed)
-    if max(air.degrees(system), default=0) >= 1 << 64:
-        raise Malformed("DegreeTooLarge")
     return system
 
 
@@ -167,11 +180,14 @@ def trace_from(text):
 
 
 def stark_proof_from(text, hides):
-    return stark_proof_of(proof_shape(hides)(json_value(text)), hides)
+    try:
+        return stark_proof_of(proof_shape(hides)(json_value(text)), hides)
+    except Refused as refused:
+        raise fault(FAULTS_OF_PROOFS[min(refused.faults)], "proof") from None
 
 
 def stark_proof_of(plain, hides):
-    """The proof of a JSON value of the right shape."""
+    """The proof of a JSON value of the right shape, else `Refused`."""
     reader = Reader()
     commitments = {name: optional(reader.digest)(digest)
                    for name, digest in plain["commitments"].items()}
@@ -183,7 +199,7 @@ def stark_proof_of(plain, hides):
     random_values = reader.random_values(opening["random_values"]) if hides else None
     proof = reader.proof(opening["proof"] if hides else opening)
     if reader.faults:
-        raise fault(FAULTS_OF_PROOFS[min(reader.faults)], "proof")
+        raise Refused(reader.faults)
     return StarkProof(Commitments(**commitments), OpenedValues(quotient_chunks=chunks, **opened),
                       proof, plain["log_height"], random_values)
 
