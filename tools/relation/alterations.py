@@ -37,13 +37,16 @@ class Change:
 
 
 def changed(document, change):
-    """The document with this change; the given one stays as it is."""
-    document = copy.deepcopy(document)
-    holder, last = {"": document}, ""
-    for word in change.path:
-        holder, last = holder[last], word
-    holder[last] = new_value(holder[last], change)
-    return document
+    """The document with this change; the given one stays as it is, and shares what is kept."""
+    return changed_at(document, change.path, change)
+
+
+def changed_at(value, path, change):
+    if not path:
+        return new_value(value, change)
+    holder = copy.copy(value)
+    holder[path[0]] = changed_at(value[path[0]], path[1:], change)
+    return holder
 
 
 def new_value(old, change):
@@ -128,6 +131,8 @@ class Shift(Canonical):
 class Index(Number):
     """The place of an entry, or none: set to each up to one past the last of so many."""
 
+    may_be_missing = True
+
     def changes(self, value, path):
         for setting in (None, *range(3)):
             if setting != value:
@@ -190,7 +195,7 @@ class Record:
 
     def changes(self, value, path):
         for name, entry in self.entries.items():
-            if value.get(name) is not None or isinstance(entry, Index):
+            if value.get(name) is not None or getattr(entry, "may_be_missing", False):
                 yield from entry.changes(value[name], (*path, name))
 
 
@@ -208,6 +213,18 @@ PROOF = Record(
     query_pow_witness=WITNESS,
 )
 
+PARAMETERS = Record(
+    log_blowup=Number(),
+    log_final_poly_len=Number(),
+    max_log_arity=Number(),
+    num_queries=Number(),
+    batch_proof_of_work_bits=Number(),
+    commit_proof_of_work_bits=Number(),
+    query_proof_of_work_bits=Number(),
+)
+
+RANDOM_VALUES = List(List(List(List(Element()))))
+
 CLAIMED_POINT = Record(point=Element(has_length=True), values=List(Element(has_length=True)))
 CLAIMED_MATRIX = Record(
     log_size=Number(26, 27), shift=Shift(), points=List(CLAIMED_POINT, CLAIMED_POINT.sample))
@@ -216,19 +233,11 @@ CLAIM = Record(
     matrices=List(CLAIMED_MATRIX, CLAIMED_MATRIX.sample))
 
 OPENING = Record(
-    parameters=Record(
-        log_blowup=Number(),
-        log_final_poly_len=Number(),
-        max_log_arity=Number(),
-        num_queries=Number(),
-        batch_proof_of_work_bits=Number(),
-        commit_proof_of_work_bits=Number(),
-        query_proof_of_work_bits=Number(),
-    ),
+    parameters=PARAMETERS,
     claims=List(CLAIM, CLAIM.sample),
     hiding=Record(
         num_random_codewords=Number(3, 5),
-        random_values=List(List(List(List(Element())))),
+        random_values=RANDOM_VALUES,
         preprocessing=Index(),
     ),
     proof=PROOF,

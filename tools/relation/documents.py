@@ -142,6 +142,16 @@ PATHS = listed(listed(DIGEST))
 DOMAIN = record(shift=count, log_size=count)
 PARAMETERS = record(**{name: count for name in Parameters.__dataclass_fields__})
 
+PROOF = record(
+    batch_pow_witness=count,
+    commit_phase_commits=listed(DIGEST),
+    commit_pow_witnesses=NUMBERS,
+    input_openings=listed(record(opened_values=listed(listed(NUMBERS)), paths=PATHS)),
+    commit_phase_openings=listed(record(sibling_values=listed(listed(NUMBERS)), paths=PATHS)),
+    final_poly=listed(NUMBERS),
+    query_pow_witness=count,
+)
+
 REQUEST = record(
     {"context": ""},
     context=text_value,
@@ -156,16 +166,7 @@ STATEMENT = record(
     parameters=PARAMETERS,
     claims=listed(record(commitment=text_value, matrices=listed(record(
         domain=DOMAIN, points=listed(record(point=NUMBERS, values=listed(NUMBERS))))))),
-    proof=record(
-        batch_pow_witness=count,
-        commit_phase_commits=listed(DIGEST),
-        commit_pow_witnesses=NUMBERS,
-        input_openings=listed(record(opened_values=listed(listed(NUMBERS)), paths=PATHS)),
-        commit_phase_openings=listed(record(
-            sibling_values=listed(listed(NUMBERS)), paths=PATHS)),
-        final_poly=listed(NUMBERS),
-        query_pow_witness=count,
-    ),
+    proof=PROOF,
 )
 
 

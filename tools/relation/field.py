@@ -64,14 +64,13 @@ def scale(element, number):
 
 
 def multiply(left, right):
-    product = [0] * (2 * DEGREE - 1)
-    for i, a in enumerate(left):
-        for j, b in enumerate(right):
-            product[i + j] += a * b
-    return tuple(
-        (product[i] + (NON_RESIDUE * product[i + DEGREE] if i + DEGREE < len(product) else 0))
-        % ORDER
-        for i in range(DEGREE)
+    a, b, c, d = left
+    w, x, y, z = right
+    return (
+        (a * w + NON_RESIDUE * (b * z + c * y + d * x)) % ORDER,
+        (a * x + b * w + NON_RESIDUE * (c * z + d * y)) % ORDER,
+        (a * y + b * x + c * w + NON_RESIDUE * d * z) % ORDER,
+        (a * z + b * y + c * x + d * w) % ORDER,
     )
 
 
@@ -122,9 +121,10 @@ def coefficients_on_coset(values, shift=1):
     """Coefficients of the one base field polynomial with these values at `shift * w^i`."""
     size = len(values)
     step = inverse(root(size.bit_length() - 1))
+    powers = [pow(step, i, ORDER) for i in range(size)]
     scaling, unshift = inverse(size), inverse(shift)
     return [
-        sum(entry * pow(step, i * j, ORDER) for i, entry in enumerate(values))
+        sum(entry * powers[i * j % size] for i, entry in enumerate(values))
         * scaling * pow(unshift, j, ORDER) % ORDER
         for j in range(size)
     ]

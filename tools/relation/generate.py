@@ -51,25 +51,33 @@ def row_answers(name, row_answer, allowed):
     return [row_answer]
 
 
-def groups_of(name, document):
-    """Named changes one by one, then all changes by what may be answered."""
+def named_groups(name, document):
+    """Changes with a name, one by one."""
     base = answers(document)
     for row_name, change, row_answer in rows_of(name, document):
         allowed = row_answers(row_name, row_answer, answers(changed(document, change)))
         assert row_answer != ACCEPTED or allowed == base, row_name
         yield {"name": row_name, "answers": allowed, "changes": [change.text()]}
+
+
+def grouped(document, changes, answers_of):
+    """Changes by what may be answered."""
     groups = {}
-    for change in all_changes(document):
-        allowed = tuple(answers(changed(document, change)))
+    for change in changes:
+        allowed = tuple(answers_of(changed(document, change)))
         groups.setdefault(allowed, []).append(change.text())
-    for allowed, changes in groups.items():
-        yield {"name": "", "answers": list(allowed), "changes": changes}
+    for allowed, texts in groups.items():
+        yield {"name": "", "answers": list(allowed), "changes": texts}
 
 
-def written(document, groups):
-    """One line for the opening, and one for each group."""
+def groups_of(name, document):
+    return [*named_groups(name, document), *grouped(document, all_changes(document), answers)]
+
+
+def written(kind, document, groups):
+    """One line for the document, and one for each group."""
     lines = ",\n".join(compact(group) for group in groups)
-    return f'{{"opening":{compact(document)},\n"groups":[\n{lines}\n]}}\n'
+    return f'{{"{kind}":{compact(document)},\n"groups":[\n{lines}\n]}}\n'
 
 
 @dataclass
@@ -91,13 +99,14 @@ class Counts:
         return f"{name}: {total} changes, {self.named} of them named, {self.accepted} accepted"
 
 
-def main(crate):
+def write_all(crate, kind, documents, groups_by):
+    """Writes a file for each document with its groups, and the counts of all."""
     lines, by_operation = [], Counter()
-    for name, document in openings():
-        groups, counts = list(groups_of(name, document)), Counts()
+    for name, document in documents:
+        groups, counts = list(groups_by(name, document)), Counts()
         for group in groups:
             counts.add(group)
-        Path(crate, "data", f"{name}.json").write_text(written(document, groups))
+        Path(crate, "data", f"{name}.json").write_text(written(kind, document, groups))
         lines.append(counts.line(name))
         by_operation += counts.by_operation
     lines += [f"{operation}: {by_operation[operation]}" for operation in OPERATIONS]
@@ -105,4 +114,4 @@ def main(crate):
 
 
 if __name__ == "__main__":
-    main(sys.argv[1])
+    write_all(sys.argv[1], "opening", openings(), groups_of)

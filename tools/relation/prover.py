@@ -31,6 +31,11 @@ def commit(parameters, matrices, shifts=None):
         [field.coefficients_on_coset(list(column), shift) for column in zip(*matrix)]
         for matrix, shift in zip(matrices, shifts)
     ]
+    return commit_polynomials(parameters, log_sizes, shifts, columns)
+
+
+def commit_polynomials(parameters, log_sizes, shifts, columns):
+    """Columns by their coefficients, as many for each as its matrix's domain has points."""
     extended = [
         extension(matrix_columns, log_size + parameters.log_blowup)
         for matrix_columns, log_size in zip(columns, log_sizes)

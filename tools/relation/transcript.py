@@ -3,7 +3,10 @@
 Numbers in a stream are eight bytes, the highest first; a text is its length and its bytes.
 """
 
+from functools import lru_cache
+
 import field
+from challenger import Challenger
 
 BY_ITSELF, BEGIN, END = 0, 1, 2
 MESSAGE, CHALLENGE, PROOF_OF_WORK, BRACKET = 0, 1, 2, 3
@@ -88,7 +91,14 @@ def opening_stream(counts, batch_bits):
     return stream(b"p3-fri-pcs", steps, [number(label) for label in labels])
 
 
-def observe_stream(challenger, stream_bytes):
-    """Each byte of a stream is observed as a base field element."""
+@lru_cache(maxsize=64)
+def state_after(state, stream_bytes):
+    challenger = Challenger(state)
     for byte in stream_bytes:
         challenger.observe_number(byte)
+    return challenger.state
+
+
+def observe_stream(challenger, stream_bytes):
+    """Each byte of a stream is observed as a base field element."""
+    challenger.state = state_after(challenger.state, stream_bytes)
