@@ -1,5 +1,3 @@
-pub mod Laws
-pub mod Rooms
 pub mod Held
 pub mod Quotients
 pub mod Finished
