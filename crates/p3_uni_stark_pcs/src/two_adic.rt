@@ -26,10 +26,6 @@ where
 {
     ghost log_blowup: { Self → ℕ };
 
-    /// The base-2 logarithm of the blowup.
-    fn log_blowup(&self) -> usize
-        ensures { result ≡ log_blowup self.now };
-
     ghost polynomials_law: { (s : Self) → StarkPcsLaws ⟦<EF as StarkField<D::Val>>⟧.fields D.shift
         D.log_size Self.ZK (Self.rules s) (Self.stark_rules s) Self.embed Self.point
         Self.chunk_polynomials Self.recombined Self.IsPeriodicValue };

@@ -12,13 +12,17 @@ selectors_at_point-requires-clause-off g c = λ e.
     g.EF.ExtensionField.lift g.met.EF.ExtensionField.lift_law self.shift self.nonzero c.args.point
     c.scale-unshifted.result c.inverse.result c.inverse.ensures c.scale-unshifted.ensures)) ∙ e)
 
-pub returns-clause-selectors : goal.returns-clause-selectors
-returns-clause-selectors g c =
+pub returns : goal.returns
+returns g c =
     let self = c.args.self.now in
     let K = g.EF.Field.ops in
-    subst (λ y. AreSelectorsAt K (g.EF.ExtensionField.lift (g.F.TwoAdicField.root self.log_size))
-    (2 ^ self.log_size) y c.selectors_at_point.result)
-    (lifted_over g.F.Field.ops g.met.F.Field.laws K g.met.EF.Field.laws
-    g.EF.ExtensionField.lift g.met.EF.ExtensionField.lift_law self.shift self.nonzero c.args.point
-    c.scale-unshifted.result c.inverse.result c.inverse.ensures c.scale-unshifted.ensures)
-    c.selectors_at_point.ensures
+    record {
+      selectors = subst (λ y. AreSelectorsAt K
+          (g.EF.ExtensionField.lift (g.F.TwoAdicField.root self.log_size)) (2 ^ self.log_size) y
+          c.selectors_at_point.result)
+          (lifted_over g.F.Field.ops g.met.F.Field.laws K g.met.EF.Field.laws
+          g.EF.ExtensionField.lift g.met.EF.ExtensionField.lift_law self.shift self.nonzero
+          c.args.point c.scale-unshifted.result c.inverse.result c.inverse.ensures
+          c.scale-unshifted.ensures)
+          c.selectors_at_point.ensures;
+    }
