@@ -22,19 +22,24 @@ use Rattle.p3_fri_two_adic.specs.Chunks.{polynomials_on}
 use Rattle.p3_uni_stark_pcs.specs.Laws.{HoldsRowsOn}
 use Rattle.p3_uni_stark_pcs.specs.Fields.{stark_fields}
 
+-- of a matrix on the coset of the shift `s` and of `2^k` points
 module _ {F E : Type 0} (f : Fields F E) (basis : ℕ → E) (canonical : F → ℕ) (L : IsField f.base)
     (W : AreRoots f.base f.two_adicity f.root) (s : F) (nonzero : s ≢ f.base.zero) (k : ℕ)
     (within : k ≤ f.two_adicity) (values : RowMajorMatrix F)
     (height : length (rows values) ≡ 2 ^ k) where
+  -- how many columns it has
   abbrev width : ℕ
   width = matrix_width values
 
+  -- the coset's point at an index
   abbrev point : ℕ → F
   point i = coset_point f.base (f.root k) s i
 
+  -- that of a column
   abbrev polynomial : ℕ → List F
   polynomial j = polynomial_on f.base f.root s k (column f.base values j)
 
+  -- row by column
   abbrev entry : (i j : ℕ) → F
   entry i j = slice_index_or (slice_index_or (rows values) i []) j f.base.zero
 
@@ -59,6 +64,7 @@ module _ {F E : Type 0} (f : Fields F E) (basis : ℕ → E) (canonical : F → 
       ∙ get_or-map (λ row. slice_index_or row j f.base.zero) (rows values) i [] f.base.zero
       (omega (arith, below, height))
 
+  -- at a point of the coset the polynomials have the row there
   row_there : (i : ℕ) → i < 2 ^ k
       → map (λ c. val f.base c (point i)) (tabulate width polynomial)
       ≡ slice_index_or (rows values) i []

@@ -43,10 +43,12 @@ module _ {A : Type 0} (F : FieldOps A) where
       ∙ ap suc (length-interpolant xs (slopes F x y xs ys) (sym (length-slopes x y xs ys same)))
 
 module _ {F E : Type 0} (f : Fields F E) (basis : ℕ → E) (canonical : F → ℕ) where
+  -- polynomials of as many coefficients as the domain has points are held
   abbrev HoldsAny : Held E → Type 0
   HoldsAny m = HoldsPolynomials (stark_fields f basis canonical) m
 
   module _ (b : ℕ) where
+    -- the polynomial of a column of words of `2^(k + b)` entries has `2^k` coefficients
     committed_degree : (k : ℕ) (ys : List F) → length ys ≡ 2 ^ (k + b)
         → length (committed_column f b ys) ≡ 2 ^ k
     committed_degree k ys size =
