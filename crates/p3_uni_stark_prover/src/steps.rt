@@ -1,4 +1,4 @@
-//! The prover.
+//! The steps of the prover.
 
 ghost use Rattle.std.specs.Prelude.{◌≡◌, ◌≢◌, ◌≤◌, ◌<◌, ◌+◌, ◌^◌, ◌==◌, not, ℕ, List, map};
 ghost use Rattle.std.specs.Prelude.{length, IfOk, IfErr, OnErr};
