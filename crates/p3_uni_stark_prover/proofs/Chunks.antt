@@ -12,8 +12,8 @@ use Rattle.p3_pcs.specs.Requests.{Held}
 use Rattle.p3_uni_stark_completeness.specs.Chunks.{AreChunkColumns}
 use Rattle.p3_uni_stark_quotient.specs.Chunked.{chunk_rows}
 use Rattle.p3_uni_stark_verifier.specs.Setting.{StarkFields}
-use Rattle.p3_uni_stark_prover.specs.Laws.{HoldsRowsOn}
-use Rattle.p3_uni_stark_prover.specs.Rooms.{AreChunksOf}
+use Rattle.p3_uni_stark_pcs.specs.Laws.{HoldsRowsOn}
+use Rattle.p3_uni_stark_pcs.specs.Rooms.{AreChunksOf}
 
 -- at each place of a list
 each_from : {X : Type 0} (P : X → Type 0) (xs : List X)

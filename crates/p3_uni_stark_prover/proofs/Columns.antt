@@ -21,7 +21,7 @@ use Rattle.p3_uni_stark_verifier.specs.Chunks.{hiding_bits}
 use Rattle.p3_uni_stark_verifier.specs.Setting.{StarkFields}
 use Rattle.p3_uni_stark_phases.specs.Commits.{ExtendsOne}
 use Rattle.p3_uni_stark_phases.proofs.Pairs.{row_width}
-use Rattle.p3_uni_stark_prover.specs.Laws.{HoldsPolynomials}
+use Rattle.p3_uni_stark_pcs.specs.Laws.{HoldsPolynomials}
 use Rattle.p3_uni_stark_opening.specs.Opened.{values_of}
 
 -- of a list that extends one there is one

@@ -12,26 +12,13 @@ use Rattle.p3_stark_pcs.specs.Scheme.{StarkScheme, AreKeptStark}
 use Rattle.p3_uni_stark_verifier.specs.declared.proof.PreprocessedVerifierKey.{
   PreprocessedVerifierKey,
 }
+use Rattle.p3_uni_stark_verifier.specs.declared.proof.Statement.{Statement}
+use Rattle.p3_uni_stark_verifier.specs.Setting.{StarkFields}
 use Rattle.p3_uni_stark_phases.specs.Evaluated.{AreRead, AreReadIfAny}
 use Rattle.p3_uni_stark_phases.specs.Commits.{IsCommittedTo, ExtendsOne, HoldsTrace, HoldsChunks}
-use Rattle.p3_uni_stark_prover.specs.Held.{HoldPreprocessed}
-
--- what is committed to of chunks: as wide as these, of so many coefficients, and recombined as they
-pub record IsChunked {E C V Dom Com D Opening Error ProverError : Type 0}
-    (r : Scheme E C V Dom Com D Opening Error ProverError) (times : ℕ)
-    (recombined : List Dom → List (List E) → E → List E)
-    (chunk_polynomials : Dom × RowMajorMatrix V → Held E)
-    (chunks : List (Dom × RowMajorMatrix V)) (commitment : Com) (d : D) : Type 0 where
-  pub committed : IsCommittedTo r commitment d
-  pub openable : r.CanOpen d
-  pub widths : AllZip (λ m e. (z : E) → length (m.values_at z) ≡ matrix_width e.1)
-      (r.committed_polynomials d) chunks
-  pub sizes : AllZip (λ m e. m.size ≡ times * r.domain_size e.0)
-      (r.committed_polynomials d) chunks
-  pub recombine : (z : E) → recombined (map (λ e. e.0) chunks)
-      (map (λ m. m.values_at z) (r.committed_polynomials d)) z
-      ≡ recombined (map (λ e. e.0) chunks)
-      (map (λ e. (chunk_polynomials e).values_at z) chunks) z
+use Rattle.p3_uni_stark_prover.specs.Committed.{IsChunked}
+use Rattle.p3_uni_stark_prover.specs.Held.{HoldPreprocessed, HavePreprocessedRows}
+use Rattle.p3_uni_stark_prover.specs.Quotients.{IsQuotientOn}
 
 -- pairs of what a list is mapped to
 zip_mapped : {A B X : Type 0} (f : X → A) (R : A → B → Type 0) (xs : List X) (ys : List B)
@@ -92,7 +79,7 @@ module _ {E C V Dom Com D Opening Error ProverError : Type 0}
     commitment = ap (λ (f : D → Com). f d) kept.commitments ∙ h.commitment;
   }
 
-  extends_kept : (domain : Dom) (matrix : RowMajorMatrix V) (d : D) → ExtendsOne old domain matrix d
+  pub extends_kept : (domain : Dom) (matrix : RowMajorMatrix V) (d : D) → ExtendsOne old domain matrix d
       → ExtendsOne new domain matrix d
   extends_kept domain matrix d h =
       subst (λ hs. AllZip new.Extends hs ((domain, matrix) ∷ [])) (sym (kept.polynomials d))
@@ -108,20 +95,23 @@ module _ {E C V Dom Com D Opening Error ProverError : Type 0}
   }
 
   module _ (s t : StarkScheme E V Dom D ProverError) (also : AreKeptStark s t) where
-    pub preprocessed_kept : (domain : Dom) (k width : ℕ) (key : Option (PreprocessedVerifierKey Com))
-        (d : Option D) → HoldPreprocessed old s domain k width key d
-        → HoldPreprocessed new t domain k width key d
-    preprocessed_kept domain k width None None h = tt
-    preprocessed_kept domain k width None (Some d) h = absurd h
-    preprocessed_kept domain k width (Some key) None h = absurd h
-    preprocessed_kept domain k width (Some key) (Some d) h = record {
+    pub preprocessed_kept : (IsDomain Other : Dom → Type 0)
+        → ((x : Dom) → IsDomain x → Other x) → (k width : ℕ)
+        (key : Option (PreprocessedVerifierKey Com)) (d : Option D)
+        → HoldPreprocessed old s IsDomain k width key d → HoldPreprocessed new t Other k width key d
+    preprocessed_kept IsDomain Other f k width None None h = tt
+    preprocessed_kept IsDomain Other f k width None (Some d) h = absurd h
+    preprocessed_kept IsDomain Other f k width (Some key) None h = absurd h
+    preprocessed_kept IsDomain Other f k width (Some key) (Some d) h = record {
       committed = committed_kept key.commitment d h.committed;
       openable = also.preprocessed d h.openable;
       log_height = h.log_height;
       columns = h.columns;
       width = h.width;
       height = h.height;
-      extends = extends_kept domain h.columns d h.extends;
+      domain = h.domain;
+      is_domain = f h.domain h.is_domain;
+      extends = extends_kept h.domain h.columns d h.extends;
     }
 
   pub chunks_kept : (times : ℕ) (recombined : List Dom → List (List E) → E → List E)
@@ -157,3 +147,48 @@ module _ {E C V Dom Com D Opening Error ProverError : Type 0}
     read_if_kept None (Some values) h = absurd h
     read_if_kept (Some d) None h = absurd h
     read_if_kept (Some d) (Some values) h = read_kept d values h
+
+    pub quotient_kept : (fields : StarkFields V E) (coefficients : E → List V) (shift : Dom → V)
+        (log_size : Dom → ℕ) (s : Statement V Com) (periodic : List (List V)) (trace : D)
+        (preprocessed : Option D) (k d : ℕ) (alpha : E) (chunks : List (Dom × RowMajorMatrix V))
+        → IsQuotientOn fields coefficients shift log_size old embed point coset s periodic trace
+        preprocessed k d alpha chunks
+        → IsQuotientOn fields coefficients shift log_size new embed point coset s periodic trace
+        preprocessed k d alpha chunks
+    quotient_kept fields coefficients shift log_size s periodic trace preprocessed k d alpha chunks
+        h = record {
+          trace_rows = h.trace_rows;
+          trace_read = read_kept trace h.trace_rows h.trace_read;
+          preprocessed_rows = h.preprocessed_rows;
+          preprocessed_read = read_if_kept preprocessed h.preprocessed_rows h.preprocessed_read;
+          pairs = h.pairs;
+          rows_are = h.rows_are;
+        }
+
+  pub rows_kept : (IsDomain Other : Dom → Type 0) → ((x : Dom) → IsDomain x → Other x)
+      → (given : List (List V)) (d : Option D)
+      → HavePreprocessedRows old IsDomain given d → HavePreprocessedRows new Other given d
+  rows_kept IsDomain Other f given None h = tt
+  rows_kept IsDomain Other f given (Some d) h =
+      (h.0, f h.0 h.1, h.2, h.3, extends_kept h.0 h.2 d h.4)
+
+-- what is known of a STARK's data and kept under the next scheme is known under a later one
+pub kept_stark_since : {E V Dom D ProverError : Type 0}
+    (old new later : StarkScheme E V Dom D ProverError)
+    → AreKeptStark old new → AreKeptStark new later → AreKeptStark old later
+kept_stark_since old new later kept since = record {
+  preprocessed = λ d h. since.preprocessed d (kept.preprocessed d h);
+  readable = λ d h. since.readable d (kept.readable d h);
+  extendable = λ es n h. since.extendable es n (kept.extendable es n h);
+  words = λ m. since.words m ∙ kept.words m;
+  committable = λ ldes h. since.committable ldes (kept.committable ldes h);
+  openable = λ ldes h. since.openable ldes (kept.openable ldes h);
+  low_degree = λ ldes h. since.low_degree ldes (kept.low_degree ldes h);
+  randomizable = λ ds h. since.randomizable ds (kept.randomizable ds h);
+  random = since.random ∙ kept.random;
+  preprocessing_refusals = λ es e h. kept.preprocessing_refusals es e
+      (since.preprocessing_refusals es e h);
+  quotient_refusals = λ es e h. kept.quotient_refusals es e (since.quotient_refusals es e h);
+  lde_refusals = λ ldes e h. kept.lde_refusals ldes e (since.lde_refusals ldes e h);
+  random_refusals = λ ds e h. kept.random_refusals ds e (since.random_refusals ds e h);
+}

@@ -9,3 +9,10 @@ pub mod Agreed
 pub mod Accepted
 pub mod Fits
 pub mod Finishing
+pub mod Readings
+pub mod Whole
+pub mod Refusals
+pub mod Preparing
+pub mod Committing
+pub mod Entries
+pub mod Known

@@ -24,9 +24,9 @@ use Rattle.p3_uni_stark_opening.specs.Opened.{if_some, HoldsIfSome, HoldsOneOf, 
 use Rattle.p3_uni_stark_opening.specs.Opened.{AreOpenable}
 use Rattle.p3_uni_stark_phases.specs.Split.{commitment_in, data_in}
 use Rattle.p3_uni_stark_prover.proofs.Columns.{only_one}
-use Rattle.p3_uni_stark_prover.proofs.Kept.{IsChunked}
+use Rattle.p3_uni_stark_prover.specs.Committed.{IsChunked}
 
-zip_first : {A B : Type 0} (R : A → B → Type 0) (P : A → Type 0) (Q : B → Type 0)
+pub zip_first : {A B : Type 0} (R : A → B → Type 0) (P : A → Type 0) (Q : B → Type 0)
     → ((x : A) (y : B) → Q y → R x y → P x) → (xs : List A) (ys : List B)
     → Each Q ys → AllZip R xs ys → Each P xs
 zip_first R P Q f [] [] e h = tt
@@ -43,29 +43,32 @@ twice true k = (let e : 2 * 2 ^ k ≡ 2 ^ k * 2 ^ 1 = omega arith in e) ∙ sym 
 module _ {E C V Dom Com D Opening Error ProverError : Type 0}
     (r : Scheme E C V Dom Com D Opening Error ProverError) (t : StarkScheme E V Dom D ProverError)
     (lawful : IsLawful r) (domain : Dom) (size : ℕ) (sized : r.domain_size domain ≡ size) where
-  one_of : (matrix : RowMajorMatrix V) (d : D) → ExtendsOne r domain matrix d → HoldsOneOf r size d
-  one_of matrix d h =
-      let o = only_one r.Extends (domain, matrix) (r.committed_polynomials d) h in
-      (o.entry, o.only, lawful.extends_size o.entry (domain, matrix) o.related ∙ sized)
+  one_of : (x : Dom) → r.domain_size x ≡ size → (matrix : RowMajorMatrix V) (d : D)
+      → ExtendsOne r x matrix d → HoldsOneOf r size d
+  one_of x fits matrix d h =
+      let o = only_one r.Extends (x, matrix) (r.committed_polynomials d) h in
+      (o.entry, o.only, lawful.extends_size o.entry (x, matrix) o.related ∙ fits)
 
   trace_openable : (trace : RowMajorMatrix V) (commitment : Com) (d : D)
       → HoldsTrace r domain trace commitment d → IsOpenableOne r t r.CanOpen size d
   trace_openable trace commitment d h = record {
     openable = h.openable;
     honest = h.committed.honest;
-    one = one_of trace d h.extends;
+    one = one_of domain sized trace d h.extends;
   }
 
-  preprocessed_openable : (k width : ℕ) (key : Option (PreprocessedVerifierKey Com)) (d : Option D)
-      → HoldPreprocessed r t domain k width key d
+  preprocessed_openable : (IsDomain : Dom → Type 0)
+      → ((x : Dom) → IsDomain x → r.domain_size x ≡ size) → (k width : ℕ)
+      (key : Option (PreprocessedVerifierKey Com)) (d : Option D)
+      → HoldPreprocessed r t IsDomain k width key d
       → HoldsIfSome (IsOpenableOne r t t.CanOpenPreprocessed size) d
-  preprocessed_openable k width None None h = tt
-  preprocessed_openable k width None (Some d) h = absurd h
-  preprocessed_openable k width (Some key) None h = absurd h
-  preprocessed_openable k width (Some key) (Some d) h = record {
+  preprocessed_openable IsDomain fits k width None None h = tt
+  preprocessed_openable IsDomain fits k width None (Some d) h = absurd h
+  preprocessed_openable IsDomain fits k width (Some key) None h = absurd h
+  preprocessed_openable IsDomain fits k width (Some key) (Some d) h = record {
     openable = h.openable;
     honest = h.committed.honest;
-    one = one_of h.columns d h.extends;
+    one = one_of h.domain (fits h.domain h.is_domain) h.columns d h.extends;
   }
 
   random_openable : (zk : Bool) (b : Option (Committed Com D)) → IsRandom r t zk domain b
@@ -80,14 +83,16 @@ module _ {E C V Dom Com D Opening Error ProverError : Type 0}
         one = (o.entry, o.only, o.related.size ∙ sized);
       }
 
-  pub data_openable : (zk : Bool) (k count width : ℕ) → size ≡ 2 ^ (k + hiding_bits zk)
+  pub data_openable : (IsDomain : Dom → Type 0)
+      → ((x : Dom) → IsDomain x → r.domain_size x ≡ size)
+      → (zk : Bool) (k count width : ℕ) → size ≡ 2 ^ (k + hiding_bits zk)
       → (key : Option (PreprocessedVerifierKey Com)) (pre : Option D) (trace : RowMajorMatrix V)
       (trace_commitment : Com) (trace_data : D)
       (recombined : List Dom → List (List E) → E → List E)
       (chunk_polynomials : Dom × RowMajorMatrix V → Held E)
       (chunks : List (Dom × RowMajorMatrix V)) (quotient_commitment : Com) (quotient_data : D)
       (b : Option (Committed Com D)) (random : Option D)
-      → HoldPreprocessed r t domain k width key pre
+      → HoldPreprocessed r t IsDomain k width key pre
       → HoldsTrace r domain trace trace_commitment trace_data
       → IsChunked r (if zk then 2 else 1) recombined chunk_polynomials chunks quotient_commitment
       quotient_data
@@ -99,10 +104,10 @@ module _ {E C V Dom Com D Opening Error ProverError : Type 0}
         quotient = quotient_data;
         random = random;
       })
-  data_openable zk k count width whole key pre trace trace_commitment trace_data recombined
+  data_openable IsDomain fits zk k count width whole key pre trace trace_commitment trace_data recombined
       chunk_polynomials chunks quotient_commitment quotient_data b random p h q each many r_is same =
       record {
-        preprocessed = preprocessed_openable k width key pre p;
+        preprocessed = preprocessed_openable IsDomain fits k width key pre p;
         trace = trace_openable trace trace_commitment trace_data h;
         quotient_openable = q.openable;
         quotient_honest = q.committed.honest;
@@ -121,12 +126,14 @@ module _ {E C V Dom Com D Opening Error ProverError : Type 0}
       }
 
   -- commitments are those to the data
-  pub known_commitment : (k width : ℕ) (key : Option (PreprocessedVerifierKey Com)) (d : Option D)
-      → HoldPreprocessed r t domain k width key d → if_some r.commitment_of d ≡ key_commitment key
-  known_commitment k width None None h = refl
-  known_commitment k width None (Some d) h = absurd h
-  known_commitment k width (Some key) None h = absurd h
-  known_commitment k width (Some key) (Some d) h = ap Some h.committed.commitment
+  pub known_commitment : (IsDomain : Dom → Type 0) (k width : ℕ)
+      (key : Option (PreprocessedVerifierKey Com)) (d : Option D)
+      → HoldPreprocessed r t IsDomain k width key d
+      → if_some r.commitment_of d ≡ key_commitment key
+  known_commitment IsDomain k width None None h = refl
+  known_commitment IsDomain k width None (Some d) h = absurd h
+  known_commitment IsDomain k width (Some key) None h = absurd h
+  known_commitment IsDomain k width (Some key) (Some d) h = ap Some h.committed.commitment
 
   pub random_commitment : (zk : Bool) (b : Option (Committed Com D)) → IsRandom r t zk domain b
       → if_some r.commitment_of (data_in b) ≡ commitment_in b

@@ -5,7 +5,7 @@ use Rattle.algebra.specs.RecombinedQuotients.{recombined_columns}
 use Rattle.p3_matrix.specs.declared.dense.RowMajorMatrix.{RowMajorMatrix}
 use Rattle.p3_uni_stark_identity.specs.Chunks.{chunk_shifts, quotient_at, by_basis}
 use Rattle.p3_uni_stark_verifier.specs.Setting.{StarkFields}
-use Rattle.p3_uni_stark_prover.specs.Rooms.{AreChunksOf}
+use Rattle.p3_uni_stark_pcs.specs.Rooms.{AreChunksOf}
 use Rattle.p3_uni_stark_prover.proofs.Chunks.{counted}
 use Rattle.p3_uni_stark_prover.proofs.Kept.{twice_mapped}
 

@@ -26,27 +26,30 @@ assigned_to s trace preprocessed = record {
 module _ {E C V Dom Com D Opening Error ProverError : Type 0}
     (r : Scheme E C V Dom Com D Opening Error ProverError) where
   module _ (t : StarkScheme E V Dom D ProverError) where
-    -- preprocessed columns, so many and of `2^k` rows, under this key
-    pub record HoldsPreprocessed (domain : Dom) (k count : ℕ) (key : PreprocessedVerifierKey Com)
-        (d : D) : Type 0 where
-      pub committed : IsCommittedTo r key.commitment d
-      pub openable : t.CanOpenPreprocessed d
-      pub log_height : key.log_height ≡ k
-      pub columns : RowMajorMatrix V
-      pub width : matrix_width columns ≡ count
-      pub height : length (rows columns) ≡ 2 ^ k
-      pub extends : ExtendsOne r domain columns d
+    module _ (IsDomain : Dom → Type 0) where
+      -- preprocessed columns, so many and of `2^k` rows, under this key, on some such domain
+      pub record HoldsPreprocessed (k count : ℕ) (key : PreprocessedVerifierKey Com) (d : D)
+          : Type 0 where
+        pub committed : IsCommittedTo r key.commitment d
+        pub openable : t.CanOpenPreprocessed d
+        pub log_height : key.log_height ≡ k
+        pub columns : RowMajorMatrix V
+        pub width : matrix_width columns ≡ count
+        pub height : length (rows columns) ≡ 2 ^ k
+        pub domain : Dom
+        pub is_domain : IsDomain domain
+        pub extends : ExtendsOne r domain columns d
 
-    -- where there is a key there are such columns
-    abbrev pub HoldPreprocessed : (domain : Dom) (k width : ℕ)
-        → Option (PreprocessedVerifierKey Com) → Option D → Type 0
-    HoldPreprocessed domain k width None None = ⊤
-    HoldPreprocessed domain k width None (Some d) = ⊥
-    HoldPreprocessed domain k width (Some key) None = ⊥
-    HoldPreprocessed domain k width (Some key) (Some d) = HoldsPreprocessed domain k width key d
+      -- where there is a key there are such columns
+      abbrev pub HoldPreprocessed : (k width : ℕ) → Option (PreprocessedVerifierKey Com)
+          → Option D → Type 0
+      HoldPreprocessed k width None None = ⊤
+      HoldPreprocessed k width None (Some d) = ⊥
+      HoldPreprocessed k width (Some key) None = ⊥
+      HoldPreprocessed k width (Some key) (Some d) = HoldsPreprocessed k width key d
 
-    -- preprocessed columns have these rows
-    abbrev pub HavePreprocessedRows : (domain : Dom) → List (List V) → Option D → Type 0
-    HavePreprocessedRows domain given None = ⊤
-    HavePreprocessedRows domain given (Some d) =
-        (columns : RowMajorMatrix V) × (rows columns ≡ given) × ExtendsOne r domain columns d
+  -- preprocessed columns, if there are any, have these rows on some such domain
+  abbrev pub HavePreprocessedRows : (IsDomain : Dom → Type 0) → List (List V) → Option D → Type 0
+  HavePreprocessedRows IsDomain given None = ⊤
+  HavePreprocessedRows IsDomain given (Some d) = (domain : Dom) × IsDomain domain
+      × (columns : RowMajorMatrix V) × (rows columns ≡ given) × ExtendsOne r domain columns d

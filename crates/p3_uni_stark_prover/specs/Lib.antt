@@ -1,6 +1,7 @@
-pub mod Laws
-pub mod Rooms
 pub mod Held
 pub mod Quotients
+pub mod Prepared
+pub mod Committed
+pub mod Refused
 pub mod Finished
 pub mod Provable

@@ -15,7 +15,7 @@ use Rattle.p3_uni_stark_verifier.specs.declared.proof.Statement.{Statement}
 use Rattle.p3_uni_stark_verifier.specs.Setting.{StarkFields}
 use Rattle.p3_uni_stark_phases.specs.Evaluated.{CanBeRead, CanBeReadIfAny, AreRead, AreReadIfAny}
 use Rattle.p3_uni_stark_opening.specs.Opened.{values_of, HoldsIfSome}
-use Rattle.p3_uni_stark_prover.specs.Rooms.{AreChunksOf}
+use Rattle.p3_uni_stark_pcs.specs.Rooms.{AreChunksOf}
 
 -- The trace's datum and that of preprocessed columns may be read on the coset of `size` points,
 -- and they and the rows of periodic columns are as wide as the statement's layout tells.

@@ -2,6 +2,10 @@
 //! the constraints, what it returns is a proof that the verifier accepts.
 #![tactic(auto)]
 
+pub mod commitments;
+pub mod preparation;
 pub mod prover;
+pub mod steps;
 
+pub use crate::prover::prove;
 pub use p3_uni_stark_phases::ProvingError;

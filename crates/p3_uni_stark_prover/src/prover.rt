@@ -1,219 +1,121 @@
 //! The prover.
 
-ghost use Rattle.std.specs.Prelude.{◌≡◌, ◌≢◌, ◌≤◌, ◌<◌, ◌+◌, ◌^◌, ◌==◌, not, ℕ, List, map};
-ghost use Rattle.std.specs.Prelude.{length, IfOk, IfErr, OnErr};
-ghost use Rattle.std.specs.Option.{is_some};
-ghost use Rattle.algebra.specs.Field.{pow};
+ghost use Rattle.std.specs.Prelude.{◌≡◌, ◌≤◌, ◌⊎◌, ◌+◌, ◌^◌, ℕ, List, length, IfOk, IfErr};
+ghost use Rattle.std.specs.Int.{IsPowerOfTwo};
 ghost use Rattle.p3_matrix.specs.Matrix.{rows, matrix_width};
-ghost use Rattle.p3_air.specs.WellFormed.{IsWellFormed};
-ghost use Rattle.p3_periodic.specs.Views.{rows_if_any as owned_rows};
+ghost use Rattle.p3_air.specs.Satisfied.{IsSatisfied};
+ghost use Rattle.p3_pcs.specs.Scheme.{AreKept};
+ghost use Rattle.p3_stark_pcs.specs.Scheme.{AreKeptStark};
 ghost use Rattle.p3_uni_stark_verifier.specs.Chunks.{hiding_bits, NeedsChunks};
-ghost use Rattle.p3_uni_stark_prover.specs.Finished.{first_drawn, IsFinished, FinishRefusal};
-ghost use Rattle.p3_uni_stark_opening.specs.Opened.{commitments_to, AreOpenable};
-ghost use Rattle.p3_uni_stark_prover.specs.Quotients.{FitReadings, IsQuotientOn};
-ghost use Rattle.p3_uni_stark_phases.specs.Refusals.{DegreeRefusal, EvaluationRefusal};
-ghost use Rattle.p3_uni_stark_phases.specs.Split.{commitment_in, data_in};
-ghost use Rattle.p3_uni_stark_phases.specs.declared.error.ProvingError.TheVariants as refusal;
+ghost use Rattle.p3_uni_stark_verifier.specs.Relation.{drawn, StarkAccepts, IsLastState};
+ghost use Rattle.p3_uni_stark_verifier.specs.Setting.{stark_setting};
+ghost use Rattle.p3_uni_stark_prover.specs.Held.{assigned_to, HavePreprocessedRows};
+ghost use Rattle.p3_uni_stark_prover.specs.Held.{HoldPreprocessed};
+ghost use Rattle.p3_uni_stark_prover.specs.Provable.{IsProvable};
+ghost use Rattle.p3_uni_stark_prover.specs.Refused.{PreparationRefusal, CommitRefusal};
+ghost use Rattle.p3_uni_stark_prover.specs.Refused.{IsRefusedAfter};
 
-use p3_air::Air;
+use crate::commitments::commit_columns;
+use crate::preparation::prepare;
+use crate::steps::finish;
 use p3_challenger_core::{CanObserve, FieldChallenger, Plays};
 use p3_field_core::{
     ExtensionField, Field, PrimeField64, TwoAdicField, TwoAdicMultiplicativeCoset,
     log2_strict_usize,
 };
 use p3_matrix::RowMajorMatrix;
-use p3_stark_pcs::UnivariateStarkPcs;
-use p3_uni_stark_identity::is_on_domain;
-use p3_uni_stark_opening::{ColumnData, open_columns};
-use p3_uni_stark_phases::{Committed, ProvingError, chunks_on_coset, evaluate, evaluate_if};
-use p3_uni_stark_quotient::{CosetColumns, is_off_subgroups};
-use p3_uni_stark_transcript::{StarkInstance, absorb_instance, draw_alpha, draw_zeta};
-use p3_uni_stark_verifier::inputs::needed_chunks;
+use p3_uni_stark_pcs::TwoAdicStarkPcs;
+use p3_uni_stark_phases::ProvingError;
 use p3_uni_stark_verifier::setting::StarkField;
-use p3_uni_stark_verifier::verifier::commitment_of;
-use p3_uni_stark_verifier::{Commitments, Proof, Statement, VerificationError};
-use std::alloc::{AllocError, Global};
+use p3_uni_stark_verifier::{Proof, Statement};
+use std::alloc::Global;
 
-/// The logarithm of the number of chunks that the constraints need, before those that a scheme that
-/// hides adds.
-pub fn log_chunks_of<F: Copy, PcsError: Drop>(
-    alloc: Global,
-    air: &Air<F>,
-    zk: bool,
-) -> Result<usize, ProvingError<PcsError>>
-    requires well_formed { IsWellFormed air.now }
-    ensures needed { IfOk result (NeedsChunks zk air.now) }
-    ensures bound { IfOk result (λ log. log < 64) }
-    ensures refused { IfErr result (DegreeRefusal air.now) }
-{
-    match needed_chunks::<F, PcsError>(alloc, air, zk) {
-        Ok(log) => Ok(log),
-        Err(VerificationError::DegreeTooLarge) => Err(ProvingError::DegreeTooLarge),
-        Err(_) => Err(ProvingError::OutOfMemory),
-    }
-}
-
-/// The coset of the field's `GENERATOR` of `2^log_size` points, which meets no subgroup whose order
-/// is a power of two.
-pub fn quotient_coset<F: TwoAdicField, PcsError>(
-    log_size: usize,
-) -> Result<TwoAdicMultiplicativeCoset<F>, ProvingError<PcsError>>
-    requires within_two_adicity { log_size ≤ F.TWO_ADICITY }
-    ensures shift { IfOk result (λ coset. coset.shift ≡ F.GENERATOR) }
-    ensures size { IfOk result (λ coset. coset.log_size ≡ log_size) }
-    ensures off { IfOk result (λ _. pow F.ops F.GENERATOR (2 ^ F.TWO_ADICITY) ≢ F.ops.one) }
-    ensures refused { IfErr result (λ e. (e ≡ refusal.InvalidGenerator)
-        × (¬ (pow F.ops F.GENERATOR (2 ^ F.TWO_ADICITY) ≢ F.ops.one))) }
-{
-    let coset = TwoAdicMultiplicativeCoset {
-        shift: F::GENERATOR,
-        log_size,
-    };
-    if is_off_subgroups(coset) {
-        Ok(coset)
-    } else {
-        Err(ProvingError::InvalidGenerator)
-    }
-}
-
-/// Absorbs the instance and the commitments to preprocessed columns and to the trace, and draws the
-/// challenge that puts the constraints together.
-pub fn begin<
+/// A proof that the trace satisfies the statement's constraint system, with the data of the
+/// preprocessed columns, which `commit_preprocessing` of the scheme gives. The trace has one row to
+/// each step, a power of two of them, and the scheme room for as many, with the hiding scheme's
+/// randomness and the quotient's chunks, within the field's two-adicity.
+///
+/// Where the trace satisfies the constraints the verifier accepts what is returned, and both end in
+/// one state of the challenger. Where it doesn't, something is returned too, which the verifier
+/// refuses but for a small part of the challenges: `Air::check_trace` is the test.
+///
+/// # Errors
+///
+/// Before anything is absorbed `DegreeTooLarge`, `InvalidGenerator` and `InvalidPeriodicColumns`;
+/// `Trace`, `Evaluation`, `Quotient`, `Randomization` and `Opening`, where the scheme refuses;
+/// `PointOnTraceDomain`, where the challenge happens to be a point of the trace's domain.
+pub fn prove<
     F: TwoAdicField + PrimeField64,
     EF: ExtensionField<F>,
     Com: Copy,
     C: FieldChallenger<F> + CanObserve<Com>,
+    P: TwoAdicStarkPcs<EF, C, TwoAdicMultiplicativeCoset<F>, Commitment = Com>,
 >(
+    scheme: &mut P,
     alloc: Global,
     statement: &Statement<'_, F, Com>,
-    log_height: usize,
-    hides: bool,
-    trace: Com,
-    challenger: &mut C,
-) -> Result<EF, AllocError>
-    ensures drawn { IfOk result (λ alpha. first_drawn ⟦<EF as StarkField<F>>⟧.fields
-        ⟦<C as Plays<F, EF, Com>>⟧.moves statement.now log_height hides trace challenger.old
-        ≡ record { value = alpha; state = challenger.new }) }
-    ensures unchanged { OnErr result (challenger.new ≡ challenger.old) }
-{
-    let instance = StarkInstance {
-        air: statement.air,
-        public_values: statement.public_values,
-        periodic: statement.periodic,
-        log_height,
-    };
-    let known = commitment_of(statement.preprocessed);
-    absorb_instance::<F, EF, C>(alloc, challenger, &instance, known.is_some(), hides)?;
-    Ok(draw_alpha::<F, EF, Com, C>(challenger, known, trace))
-}
-
-/// The chunks of the quotient, by the committed columns' values on the coset.
-pub fn quotient_of<
-    F: TwoAdicField + PrimeField64,
-    EF: ExtensionField<F>,
-    Com: Copy,
-    C,
-    P: UnivariateStarkPcs<EF, C, Val = F, Domain = TwoAdicMultiplicativeCoset<F>, Commitment = Com>,
->(
-    scheme: &P,
-    alloc: Global,
-    statement: &Statement<'_, F, Com>,
-    trace: &P::ProverData,
-    preprocessed: &Option<P::ProverData>,
-    periodic: &Option<RowMajorMatrix<F>>,
-    log_sizes: (usize, usize),
-    coset: TwoAdicMultiplicativeCoset<F>,
-    alpha: EF,
-) -> Result<Vec<(TwoAdicMultiplicativeCoset<F>, RowMajorMatrix<F>)>, ProvingError<P::ProverError>>
-    requires readings { FitReadings (P.rules scheme.now) (P.stark_rules scheme.now) coset
-        (2 ^ coset.log_size) statement.now (owned_rows periodic.now) trace.now preprocessed.now }
-    requires size { coset.log_size ≡ log_sizes.0 + log_sizes.1 }
-    requires shift { coset.shift ≡ F.GENERATOR }
-    requires off { pow F.ops F.GENERATOR (2 ^ F.TWO_ADICITY) ≢ F.ops.one }
-    ensures quotient { IfOk result (λ chunks. IsQuotientOn ⟦<EF as StarkField<F>>⟧.fields
-        EF.coefficients (λ d. d.shift) (λ d. d.log_size) (P.rules scheme.now) P.embed P.point
-        coset statement.now
-        (owned_rows periodic.now) trace.now preprocessed.now log_sizes.0 log_sizes.1 alpha
-        chunks.items) }
-    ensures refused { IfErr result (EvaluationRefusal P.EvaluationRefuses) }
-{
-    let trace_rows = evaluate(scheme, alloc, trace, coset)?;
-    let preprocessed_rows = evaluate_if(scheme, alloc, preprocessed, coset)?;
-    let columns = CosetColumns {
-        trace: &trace_rows,
-        preprocessed: preprocessed_rows.as_ref(),
-        periodic: periodic.as_ref(),
-        public_values: statement.public_values,
-    };
-    let (log_size, log_num_chunks) = log_sizes;
-    let chunks = chunks_on_coset::<F, EF>(
-        alloc,
-        statement.air,
-        &columns,
-        log_size,
-        log_num_chunks,
-        coset,
-        alpha,
-    )?;
-    Ok(chunks)
-}
-
-/// A commitment that there may be, and its data.
-pub fn split<Com: Copy, D: Drop>(committed: Option<Committed<Com, D>>) -> (Option<Com>, Option<D>)
-    ensures commitment { result.0 ≡ commitment_in committed }
-    ensures committed { result.1 ≡ data_in committed }
-{
-    match committed {
-        Some(found) => (Some(found.commitment), Some(found.prover_data)),
-        None => (None, None),
-    }
-}
-
-/// Draws the point, opens all columns at it, and puts the proof together.
-pub fn finish<
-    F: TwoAdicField + PrimeField64,
-    EF: ExtensionField<F>,
-    Com: Copy,
-    C: FieldChallenger<F> + CanObserve<Com>,
-    P: UnivariateStarkPcs<EF, C, Val = F, Domain = TwoAdicMultiplicativeCoset<F>, Commitment = Com>,
->(
-    scheme: &P,
-    alloc: Global,
-    log_height: usize,
-    num_chunks: usize,
-    commitments: Commitments<Com>,
-    committed: &mut ColumnData<P::ProverData>,
+    trace: RowMajorMatrix<F>,
+    preprocessed: Option<P::ProverData>,
     challenger: &mut C,
 ) -> Result<Proof<EF, Com, P::Proof>, ProvingError<P::ProverError>>
-    requires range { (P.rules scheme.now).InProverRange }
-    requires within_two_adicity { log_height ≤ F.TWO_ADICITY }
-    requires committed { (size : ℕ) × AreOpenable (P.rules scheme.now) (P.stark_rules scheme.now)
-        num_chunks size committed.old }
-    requires commitments { commitments ≡ commitments_to (P.rules scheme.now) committed.old }
-    ensures finished { IfOk result (IsFinished ⟦<EF as StarkField<F>>⟧.fields
-        ⟦<C as Plays<F, EF, Com>>⟧.moves (P.rules scheme.now) (P.stark_rules scheme.now)
-        log_height num_chunks commitments committed.old challenger.old challenger.new) }
-    ensures refused { IfErr result (FinishRefusal ⟦<EF as StarkField<F>>⟧.fields
-        ⟦<C as Plays<F, EF, Com>>⟧.moves (P.rules scheme.now) log_height commitments
-        challenger.old) }
+    requires range { (P.rules scheme.old).InProverRange }
+    requires statement { IsProvable statement.now }
+    requires height { IsPowerOfTwo (length (rows trace)) }
+    requires width { matrix_width trace ≡ statement.now.air.now.layout.width }
+    requires trace_room { (k : ℕ) → length (rows trace) ≡ 2 ^ k
+        → k + hiding_bits P.ZK + P.log_blowup scheme.old ≤ F.TWO_ADICITY }
+    requires quotient_room { (k log : ℕ) → length (rows trace) ≡ 2 ^ k
+        → NeedsChunks P.ZK statement.now.air.now log
+        → k + (log + hiding_bits P.ZK) ≤ F.TWO_ADICITY }
+    requires preprocessed { (k : ℕ) → length (rows trace) ≡ 2 ^ k
+        → HoldPreprocessed (P.rules scheme.old) (P.stark_rules scheme.old)
+        (λ d. (d.shift ≡ F.ONE) × (d.log_size ≡ k + hiding_bits P.ZK)) k
+        statement.now.air.now.layout.preprocessed_width statement.now.preprocessed preprocessed }
+    ensures kept { AreKept (P.rules scheme.old) (P.rules scheme.new) }
+    ensures kept_for_stark { AreKeptStark (P.stark_rules scheme.old) (P.stark_rules scheme.new) }
+    ensures height { IfOk result (λ proof. length (rows trace) ≡ 2 ^ proof.log_height) }
+    ensures complete { let S = stark_setting ⟦<EF as StarkField<F>>⟧.fields
+        ⟦<C as Plays<F, EF, Com>>⟧.moves P.ZK (P.rules scheme.new)
+        (λ k d. (d.shift ≡ F.ONE) × (d.log_size ≡ k)) in
+        (k : ℕ) (preprocessed_rows : List (List F)) → length (rows trace) ≡ 2 ^ k
+        → HavePreprocessedRows (P.rules scheme.old)
+        (λ d. (d.shift ≡ F.ONE) × (d.log_size ≡ k + hiding_bits P.ZK)) preprocessed_rows
+        preprocessed
+        → IsSatisfied F.ops statement.now.air.now
+        (assigned_to statement.now (rows trace) preprocessed_rows)
+        → IfOk result (λ proof. StarkAccepts S statement.now proof challenger.old) }
+    ensures state { let S = stark_setting ⟦<EF as StarkField<F>>⟧.fields
+        ⟦<C as Plays<F, EF, Com>>⟧.moves P.ZK (P.rules scheme.new)
+        (λ k d. (d.shift ≡ F.ONE) × (d.log_size ≡ k)) in IfOk result (λ proof.
+        let begun = drawn S.fields S.moves statement.now proof challenger.old in
+        IsLastState S statement.now proof begun.zeta begun.state challenger.new) }
+    ensures refused { (k : ℕ) → length (rows trace) ≡ 2 ^ k → IfErr result (λ e.
+        PreparationRefusal ⟦<EF as StarkField<F>>⟧.fields statement.now k e
+        ⊎ (CommitRefusal ⟦<EF as StarkField<F>>⟧.fields (λ d. d.shift) (λ d. d.log_size) P.ZK
+        (P.rules scheme.old) (P.stark_rules scheme.old) P.EvaluationRefuses k trace e
+        ⊎ IsRefusedAfter ⟦<EF as StarkField<F>>⟧.fields EF.coefficients
+        ⟦<C as Plays<F, EF, Com>>⟧.moves (λ d. d.shift) (λ d. d.log_size) P.ZK
+        (P.rules scheme.new) (P.stark_rules scheme.new) P.embed P.point P.recombined
+        P.chunk_polynomials statement.now k trace preprocessed challenger.old e)) }
 {
-    let zeta = draw_zeta::<F, EF, Com, C>(
+    let log_height = log2_strict_usize(trace.height());
+    let prepared = prepare::<F, EF, Com, C, P>(&*scheme, alloc, statement, log_height)?;
+    let (commitments, mut committed) = commit_columns::<F, EF, Com, C, P>(
+        scheme,
+        alloc,
+        statement,
+        &prepared,
+        trace,
+        preprocessed,
         challenger,
-        commitments.quotient_chunks,
-        commitments.random,
-    );
-    if is_on_domain(log_height, zeta) {
-        return Err(ProvingError::PointOnTraceDomain);
-    }
-    let generator = EF::from_base(F::two_adic_generator(log_height));
-    let points = (zeta, generator * zeta);
-    let (opened_values, opening_proof) = open_columns(
-        scheme, alloc, committed, num_chunks, points, challenger,
     )?;
-    Ok(Proof {
+    finish(
+        &*scheme,
+        alloc,
+        prepared.log_height,
+        1 << prepared.log_num_chunks,
         commitments,
-        opened_values,
-        opening_proof,
-        log_height,
-    })
+        &mut committed,
+        challenger,
+    )
 }

@@ -57,7 +57,8 @@ pub record StarkPcsLaws {V E C Com Dom D Opening Error ProverError : Type 0}
   pub recombine : (domains : List Dom) (values : List (List E)) (z : E)
       → recombined domains values z ≡ recombined_columns fields.ext
       (slice_index_or (map log_size domains) 0 0) (map fields.lift (map shift domains)) values z
-  pub widths : (chunks : List (Dom × RowMajorMatrix V)) (ldes : List (RowMajorMatrix V))
+  pub widths : (chunks : List (Dom × RowMajorMatrix V)) (num_chunks : ℕ)
+      (ldes : List (RowMajorMatrix V)) → t.CanExtend chunks num_chunks
       → t.ExtendQuotients chunks ldes → AllZip (λ lde e. (z : E)
       → length ((t.polynomials_of lde).values_at z) ≡ matrix_width e.1) ldes chunks
   pub periodic : (d : Dom) (x : V) (column : Vec V Global) (value : V)

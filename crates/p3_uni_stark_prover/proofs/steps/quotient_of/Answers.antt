@@ -6,8 +6,8 @@ use Rattle.p3_uni_stark_quotient.specs.Given.{OnCoset, FitsCoset}
 use Rattle.p3_uni_stark_quotient.proofs.Honest.{cosets_off}
 use Rattle.p3_uni_stark_verifier.specs.Setting.{StarkFields}
 use Rattle.p3_uni_stark_prover.proofs.Fits.{given_same, fits_coset, rows_moved}
-use Rattle.p3_uni_stark_prover.proofs.prover.quotient_of.Given.{Over}
-use Rattle.p3_uni_stark_prover.proofs.prover.quotient_of.Goals as goal
+use Rattle.p3_uni_stark_prover.proofs.steps.quotient_of.Given.{Over}
+use Rattle.p3_uni_stark_prover.proofs.steps.quotient_of.Goals as goal
 
 abbrev fields_of : (g : Over) → StarkFields g.row.F.Denot g.row.EF.Denot
 fields_of g = record {

@@ -3,8 +3,8 @@ use Rattle.p3_challenger_core.specs.Run.{Moves, moves}
 use Rattle.p3_field_core.specs.Basis.{unit_vector}
 use Rattle.p3_uni_stark_verifier.specs.Setting.{StarkFields}
 use Rattle.p3_uni_stark_prover.proofs.Finishing.{refuted, finished}
-use Rattle.p3_uni_stark_prover.proofs.prover.finish.Given.{Over}
-use Rattle.p3_uni_stark_prover.proofs.prover.finish.Goals as goal
+use Rattle.p3_uni_stark_prover.proofs.steps.finish.Given.{Over}
+use Rattle.p3_uni_stark_prover.proofs.steps.finish.Goals as goal
 
 abbrev fields_of : (g : Over) → StarkFields g.row.F.Denot g.row.EF.Denot
 fields_of g = record {

@@ -1,0 +1,9 @@
+pub mod Laws
+pub mod Rooms
+pub mod Fields
+pub mod HeldLaws
+pub mod ChunkLaws
+pub mod PlainRoomLaws
+pub mod PlainLaws
+pub mod HidingRoomLaws
+pub mod HidingLaws

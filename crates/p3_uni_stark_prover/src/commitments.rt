@@ -1,0 +1,105 @@
+//! The commitments that a prover makes before the point is drawn.
+
+ghost use Rattle.std.specs.Prelude.{◌≡◌, ◌≤◌, ◌+◌, ◌^◌, ℕ, length, IfOk, IfErr};
+ghost use Rattle.p3_matrix.specs.Matrix.{rows, matrix_width};
+ghost use Rattle.p3_pcs.specs.Scheme.{AreKept};
+ghost use Rattle.p3_stark_pcs.specs.Scheme.{AreKeptStark};
+ghost use Rattle.p3_uni_stark_verifier.specs.Chunks.{hiding_bits};
+ghost use Rattle.p3_uni_stark_prover.specs.Committed.{AreCommitted};
+ghost use Rattle.p3_uni_stark_prover.specs.Held.{HoldPreprocessed};
+ghost use Rattle.p3_uni_stark_prover.specs.Prepared.{IsPrepared};
+ghost use Rattle.p3_uni_stark_prover.specs.Provable.{IsProvable};
+ghost use Rattle.p3_uni_stark_prover.specs.Refused.{CommitRefusal};
+
+use crate::preparation::Preparation;
+use crate::steps::{begin, quotient_of, split};
+use p3_challenger_core::{CanObserve, FieldChallenger, Plays};
+use p3_field_core::{
+    ExtensionField, Field, PrimeField64, TwoAdicField, TwoAdicMultiplicativeCoset,
+};
+use p3_matrix::RowMajorMatrix;
+use p3_uni_stark_opening::ColumnData;
+use p3_uni_stark_pcs::TwoAdicStarkPcs;
+use p3_uni_stark_phases::{ProvingError, commit_chunks, commit_random, commit_trace};
+use p3_uni_stark_verifier::chunks::with_hiding;
+use p3_uni_stark_verifier::opened::subgroup;
+use p3_uni_stark_verifier::setting::StarkField;
+use p3_uni_stark_verifier::{Commitments, Statement};
+use std::alloc::Global;
+
+/// Commits to the trace, draws the first challenge, and commits to the chunks of the quotient and,
+/// where the scheme hides, to random polynomials.
+///
+/// # Errors
+///
+/// `Trace`, `Evaluation`, `Quotient` and `Randomization`, where the scheme refuses.
+pub fn commit_columns<
+    F: TwoAdicField + PrimeField64,
+    EF: ExtensionField<F>,
+    Com: Copy,
+    C: FieldChallenger<F> + CanObserve<Com>,
+    P: TwoAdicStarkPcs<EF, C, TwoAdicMultiplicativeCoset<F>, Commitment = Com>,
+>(
+    scheme: &mut P,
+    alloc: Global,
+    statement: &Statement<'_, F, Com>,
+    prepared: &Preparation<F, TwoAdicMultiplicativeCoset<F>>,
+    trace: RowMajorMatrix<F>,
+    preprocessed: Option<P::ProverData>,
+    challenger: &mut C,
+) -> Result<(Commitments<Com>, ColumnData<P::ProverData>), ProvingError<P::ProverError>>
+    requires statement { IsProvable statement.now }
+    requires prepared { (log : ℕ) × IsPrepared ⟦<EF as StarkField<F>>⟧.fields (λ d. d.shift)
+        (λ d. d.log_size) P.ZK statement.now log prepared.now }
+    requires height { length (rows trace) ≡ 2 ^ prepared.now.log_height }
+    requires width { matrix_width trace ≡ statement.now.air.now.layout.width }
+    requires room { prepared.now.log_height + hiding_bits P.ZK + P.log_blowup scheme.old
+        ≤ F.TWO_ADICITY }
+    requires preprocessed { HoldPreprocessed (P.rules scheme.old) (P.stark_rules scheme.old)
+        (λ d. (d.shift ≡ F.ONE) × (d.log_size ≡ prepared.now.log_height + hiding_bits P.ZK))
+        prepared.now.log_height statement.now.air.now.layout.preprocessed_width
+        statement.now.preprocessed preprocessed }
+    ensures kept { AreKept (P.rules scheme.old) (P.rules scheme.new) }
+    ensures kept_for_stark { AreKeptStark (P.stark_rules scheme.old) (P.stark_rules scheme.new) }
+    ensures committed { IfOk result (λ pair. AreCommitted ⟦<EF as StarkField<F>>⟧.fields
+        EF.coefficients ⟦<C as Plays<F, EF, Com>>⟧.moves (λ d. d.shift) (λ d. d.log_size) P.ZK
+        (P.rules scheme.new) (P.stark_rules scheme.new) P.embed P.point P.recombined
+        P.chunk_polynomials statement.now prepared.now trace preprocessed challenger.old
+        challenger.new pair.0 pair.1) }
+    ensures refused { IfErr result (CommitRefusal ⟦<EF as StarkField<F>>⟧.fields (λ d. d.shift)
+        (λ d. d.log_size) P.ZK (P.rules scheme.old) (P.stark_rules scheme.old)
+        P.EvaluationRefuses prepared.now.log_height trace) }
+{
+    let hides = P::ZK;
+    let log_height = prepared.log_height;
+    let domain = subgroup::<F>(with_hiding(log_height, hides));
+    let first = commit_trace(scheme, alloc, domain, trace)?;
+    let hash = first.commitment;
+    let alpha = begin::<F, EF, Com, C>(alloc, statement, log_height, hides, hash, challenger)?;
+    let chunks = quotient_of(
+        &*scheme,
+        alloc,
+        statement,
+        &first.prover_data,
+        &preprocessed,
+        &prepared.periodic,
+        (log_height, prepared.log_num_chunks),
+        prepared.coset,
+        alpha,
+    )?;
+    let second = commit_chunks(scheme, alloc, chunks)?;
+    let found = commit_random(scheme, alloc, domain)?;
+    let (random, random_data) = split(found);
+    let commitments = Commitments {
+        trace: hash,
+        quotient_chunks: second.commitment,
+        random,
+    };
+    let committed = ColumnData {
+        preprocessed,
+        trace: first.prover_data,
+        quotient: second.prover_data,
+        random: random_data,
+    };
+    Ok((commitments, committed))
+}
