@@ -4,24 +4,25 @@ use Rattle.std.proofs.Common.{◌≡◌, ℕ, ◌+◌, ◌*◌, ◌^◌, Bool, t
 use Rattle.std.proofs.Common.{refl, sym, ap, subst, ◌∙◌, arith}
 use Rattle.std.proofs.Common.{Option, None, Some}
 use Rattle.std.specs.List.{AllZip}
+use Rattle.std.specs.Option.{is_some}
 use Rattle.std.proofs.lemmas.Nat.{pow-add}
 use Rattle.algebra.proofs.Lists.{Each, All_from_each}
 use Rattle.p3_matrix.specs.declared.dense.RowMajorMatrix.{RowMajorMatrix}
 use Rattle.p3_pcs.specs.Requests.{Held}
 use Rattle.p3_pcs.specs.Scheme.{Scheme, IsLawful}
-use Rattle.p3_stark_pcs.specs.Evaluations.{HasShape}
+use Rattle.p3_stark_pcs.specs.Evaluations.{HasShape, held_at}
 use Rattle.p3_stark_pcs.specs.Scheme.{StarkScheme}
 use Rattle.p3_uni_stark_verifier.specs.declared.proof.PreprocessedVerifierKey.{
   PreprocessedVerifierKey,
 }
 use Rattle.p3_uni_stark_verifier.specs.Chunks.{hiding_bits}
-use Rattle.p3_uni_stark_verifier.specs.Shown.{key_commitment}
+use Rattle.p3_uni_stark_verifier.specs.Shown.{HasHeight, key_commitment}
 use Rattle.p3_uni_stark_phases.specs.declared.commits.Committed.{Committed}
 use Rattle.p3_uni_stark_phases.specs.Commits.{ExtendsOne, HoldsTrace, IsRandom}
 use Rattle.p3_uni_stark_phases.proofs.Tables.{zip_length}
 use Rattle.p3_uni_stark_prover.specs.Held.{HoldPreprocessed}
 use Rattle.p3_uni_stark_opening.specs.Opened.{if_some, HoldsIfSome, HoldsOneOf, IsOpenableOne}
-use Rattle.p3_uni_stark_opening.specs.Opened.{AreOpenable}
+use Rattle.p3_uni_stark_opening.specs.Opened.{AreOpenable, values_of, values_if}
 use Rattle.p3_uni_stark_phases.specs.Split.{commitment_in, data_in}
 use Rattle.p3_uni_stark_prover.proofs.Columns.{only_one}
 use Rattle.p3_uni_stark_prover.specs.Committed.{IsChunked}
@@ -139,3 +140,32 @@ module _ {E C V Dom Com D Opening Error ProverError : Type 0}
       → if_some r.commitment_of (data_in b) ≡ commitment_in b
   random_commitment zk None h = refl
   random_commitment zk (Some b) h = ap Some h.1.committed.commitment
+
+  -- a key of preprocessed columns has their height
+  pub key_height : (IsDomain : Dom → Type 0) (k width : ℕ)
+      (key : Option (PreprocessedVerifierKey Com)) (d : Option D)
+      → HoldPreprocessed r t IsDomain k width key d → HasHeight key k
+  key_height IsDomain k width None None h = tt
+  key_height IsDomain k width None (Some d) h = absurd h
+  key_height IsDomain k width (Some key) None h = absurd h
+  key_height IsDomain k width (Some key) (Some d) h = h.log_height
+
+  -- there are random polynomials where the scheme hides, as many as an element has coefficients
+  pub random_is : (zk : Bool) (found : Option (Committed Com D)) → IsRandom r t zk domain found
+      → is_some (commitment_in found) ≡ zk
+  random_is zk None h = sym h
+  random_is zk (Some b) h = sym h.0
+
+  pub random_many : (zk : Bool) (dimension : ℕ) → (zk ≡ true → t.random_columns ≡ dimension)
+      → (found : Option (Committed Com D)) → IsRandom r t zk domain found
+      → (z : E) → length (values_if r z (data_in found)) ≡ (if zk then dimension else 0)
+  random_many zk dimension law None h z =
+      subst (λ b. 0 ≡ (if b then dimension else 0)) (sym h) refl
+  random_many zk dimension law (Some b) h z =
+      let o = only_one (λ (m : Held E) e. HasShape (r.domain_size e) t.random_columns m)
+      domain (r.committed_polynomials b.prover_data) h.1.shape in
+      let e : length (values_of r z b.prover_data) ≡ t.random_columns =
+      ap (λ (hs : List (Held E)). length (Held.values_at (held_at hs 0) z)) o.only
+      ∙ o.related.columns z in
+      subst (λ x. t.random_columns ≡ dimension → length (values_of r z b.prover_data)
+      ≡ (if x then dimension else 0)) (sym h.0) (λ f. e ∙ f) (law h.0)

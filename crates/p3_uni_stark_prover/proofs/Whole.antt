@@ -68,7 +68,7 @@ use Rattle.p3_uni_stark_prover.proofs.Chunks.{counted, sized, columns_each, valu
 use Rattle.p3_uni_stark_prover.proofs.Chunks.{are_chunk_columns}
 use Rattle.p3_uni_stark_prover.proofs.Columns.{only_one}
 use Rattle.p3_uni_stark_prover.proofs.Openable.{data_openable, known_commitment, random_commitment}
-use Rattle.p3_uni_stark_prover.proofs.Openable.{zip_first}
+use Rattle.p3_uni_stark_prover.proofs.Openable.{zip_first, key_height, random_is, random_many}
 use Rattle.p3_uni_stark_prover.proofs.Entries.{each_weaker, each_mapped, same_commitments}
 use Rattle.p3_uni_stark_prover.proofs.Known.{known_one, known_if}
 use Rattle.p3_uni_stark_prover.proofs.Readings.{values_in, preprocessed_values, size_is}
@@ -171,29 +171,10 @@ module _ {V E C Com Dom D Opening Error ProverError : Type 0} (fields : StarkFie
       IsColumnDomain k w
       s.preprocessed columns.preprocessed made.preprocessed_held
 
-  key_height : (key : Option (PreprocessedVerifierKey Com)) (d : Option D)
-      → HoldPreprocessed r t IsColumnDomain k w key d → HasHeight key k
-  key_height None None h = tt
-  key_height None (Some d) h = absurd h
-  key_height (Some key) None h = absurd h
-  key_height (Some key) (Some d) h = h.log_height
-
-  random_many : (found : Option (Committed Com D)) → IsRandom r t zk made.domain found
-      → (z : E) → length (values_if r z (data_in found)) ≡ (if zk then fields.dimension else 0)
-  random_many None h z = subst (λ b. 0 ≡ (if b then fields.dimension else 0)) (sym h) refl
-  random_many (Some b) h z =
-      let o = only_one (λ (m : Held E) e. HasShape (r.domain_size e) t.random_columns m)
-      made.domain (r.committed_polynomials b.prover_data) h.1.shape in
-      let e : length (values_of r z b.prover_data) ≡ t.random_columns =
-      ap (λ (hs : List (Held E)). length (Held.values_at (held_at hs 0) z)) o.only
-      ∙ o.related.columns z in
-      subst (λ x. t.random_columns ≡ fields.dimension → length (values_of r z b.prover_data)
-      ≡ (if x then fields.dimension else 0)) (sym h.0) (λ f. e ∙ f) (laws.random h.0)
-
-  random_there : (found : Option (Committed Com D)) → IsRandom r t zk made.domain found
-      → is_some (commitment_in found) ≡ zk
-  random_there None h = sym h
-  random_there (Some b) h = sym h.0
+  random_there : is_some commitments.random ≡ zk
+  random_there = ap is_some made.random.commitment_is
+      ∙ random_is r t lawful made.domain (r.domain_size made.domain) refl zk made.random.found
+      made.random.random
 
   module _ (z y : E) (opened : OpenedValues E) (are : AreOpened r columns z y opened) where
     trace_many : (x : E) → length (values_of r x columns.trace) ≡ s.air.now.layout.width
@@ -240,8 +221,8 @@ module _ {V E C Com Dom D Opening Error ProverError : Type 0} (fields : StarkFie
       chunks = prepared.needs;
       shape = record {
         room = room;
-        preprocessed_height = key_height s.preprocessed columns.preprocessed
-            made.preprocessed_held;
+        preprocessed_height = key_height r t lawful made.domain (r.domain_size made.domain) refl
+            IsColumnDomain k w s.preprocessed columns.preprocessed made.preprocessed_held;
         columns = widths_are;
         chunk_count = sym (length-map opened.quotient_chunks.items (λ v. v.items))
             ∙ ap length are.chunks ∙ length-map polynomials (λ (m : Held E). m.values_at z)
@@ -257,10 +238,10 @@ module _ {V E C Com Dom D Opening Error ProverError : Type 0} (fields : StarkFie
             (λ values. length values ≡ fields.dimension) polynomials chunk_dimensions));
         random = ap length are.random
             ∙ ap (λ (o : Option D). length (values_if r z o)) made.random.data_is
-            ∙ random_many made.random.found made.random.random z;
+            ∙ random_many r t lawful made.domain (r.domain_size made.domain) refl zk
+            fields.dimension laws.random made.random.found made.random.random z;
       };
-      randomized = ap is_some made.random.commitment_is
-          ∙ random_there made.random.found made.random.random;
+      randomized = random_there;
     }
 
   abbrev on_coset : ℕ → V
@@ -280,10 +261,8 @@ module _ {V E C Com Dom D Opening Error ProverError : Type 0} (fields : StarkFie
     pub state_of : let begun = drawn fields m s proof c in
         IsLastState (S IsSubgroup) s proof begun.zeta begun.state last
     state_of = state_is (S IsSubgroup) t s k count commitments columns c middle last made.alpha
-        (let there = random_there made.random.found made.random.random in
-        subst (λ b. first_drawn fields m s k b commitments.trace c
-        ≡ record { value = made.alpha; state = middle })
-        (sym (ap is_some made.random.commitment_is ∙ there)) made.drawn)
+        (subst (λ b. first_drawn fields m s k b commitments.trace c
+        ≡ record { value = made.alpha; state = middle }) (sym random_there) made.drawn)
         known made.domain subgroup (openable count is) proof finished
 
     module _ (given : List (List V))
@@ -405,10 +384,8 @@ module _ {V E C Com Dom D Opening Error ProverError : Type 0} (fields : StarkFie
       pub accepted_of : StarkAccepts (S IsSubgroup) s proof c
       accepted_of = accepted_is (S IsSubgroup) t s k count commitments columns c middle last
           made.alpha
-          (let there = random_there made.random.found made.random.random in
-          subst (λ b. first_drawn fields m s k b commitments.trace c
-          ≡ record { value = made.alpha; state = middle })
-          (sym (ap is_some made.random.commitment_is ∙ there)) made.drawn)
+          (subst (λ b. first_drawn fields m s k b commitments.trace c
+          ≡ record { value = made.alpha; state = middle }) (sym random_there) made.drawn)
           known made.domain subgroup (openable count is) log proof finished
           (ready z y opened finished.opened proof.opening_proof) prepared.periods periodic
           are_periodic agrees
