@@ -10,7 +10,6 @@ import air
 import field
 import prover
 from answer import Unanswered, demand_openable
-from plain_form import Claim
 from stark_relation import (
     Commitments,
     Key,

@@ -268,14 +268,8 @@ def stark_claims(scheme, statement, proof, point):
 
 
 def opening_verdict(scheme, statement, proof, point, entry):
-    """Whether the scheme accepts the opening. Counts come first, as of a statement."""
-    parameters = scheme.parameters
-    claims = stark_claims(scheme, statement, proof, point)
-    heights = relation.log_heights(parameters, claims)
-    found = relation.parameter_faults(parameters) | relation.height_faults(parameters, heights)
-    found |= relation.input_count_faults(parameters, claims, proof.opening_proof)
-    if found:
-        return Verdict(found)
+    """Whether the scheme accepts the opening. The parameters are the verifier's own."""
+    parameters, claims = scheme.parameters, stark_claims(scheme, statement, proof, point)
     if not scheme.hides:
         return relation.plain_verdict(parameters, claims, proof.opening_proof, entry)
     preprocessing = 0 if statement.preprocessed else None
