@@ -172,7 +172,7 @@ pub(crate) fn claims_in(alloc: Global, claims: &[BatchClaims]) -> Result<Claims,
     for (index, batch) in claims.iter().enumerate() {
         let place = Place {
             commitment: Some(index),
-            ..Place::NONE
+            ..Place::CLAIMS
         };
         openings.push(commitment_opening(alloc, batch, place)?)?;
     }

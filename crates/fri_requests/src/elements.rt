@@ -39,7 +39,7 @@ pub(crate) fn elements(
     for (index, number) in numbers.iter().enumerate() {
         let Some(value) = element(*number) else {
             let place = Place {
-                number: Some(index),
+                value: Some(index),
                 ..place
             };
             return Err(place.lacks(Fault::Element).into());
@@ -91,7 +91,7 @@ pub(crate) fn extension_elements(
     let mut values = Vec::with_capacity(alloc, lists.len())?;
     for (index, numbers) in lists.iter().enumerate() {
         let place = Place {
-            number: Some(index),
+            value: Some(index),
             ..place
         };
         values.push(extension_element(numbers, place)?)?;
