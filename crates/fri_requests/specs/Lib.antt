@@ -2,10 +2,8 @@ pub mod Accepted
 pub mod Bound
 pub mod Claims
 pub mod Commitments
-pub mod Failures
 pub mod Matrices
 pub mod Numbers
 pub mod Openings
-pub mod Records
 pub mod Requests
 pub mod Statements

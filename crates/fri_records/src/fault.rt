@@ -1,11 +1,11 @@
 //! Why a record is refused, and where.
 
 ghost use Rattle.std.specs.Prelude.{◌≡◌};
-ghost use Rattle.fri_requests.specs.declared.fault.RequestError.TheVariants as request;
-ghost use Rattle.fri_requests.specs.declared.fault.ReadError.TheVariants as read;
-ghost use Rattle.fri_requests.specs.declared.fault.VerifyError.TheVariants as statement;
-ghost use Rattle.fri_requests.specs.Failures.{unread_request, unopened, unread, failure_of};
-ghost use Rattle.fri_requests.specs.Failures.{IsUnformed};
+ghost use Rattle.fri_records.specs.declared.fault.RequestError.TheVariants as request;
+ghost use Rattle.fri_records.specs.declared.fault.ReadError.TheVariants as read;
+ghost use Rattle.fri_records.specs.declared.fault.VerifyError.TheVariants as statement;
+ghost use Rattle.fri_records.specs.Failures.{unread_request, unopened, unread, failure_of};
+ghost use Rattle.fri_records.specs.Failures.{IsUnformed};
 
 use p3_fri_folding::FriProverError;
 use p3_fri_plain::PlainProofError;
