@@ -5,5 +5,6 @@ pub mod Commitments
 pub mod Matrices
 pub mod Numbers
 pub mod Openings
+pub mod Prepared
 pub mod Requests
 pub mod Statements

@@ -18,6 +18,7 @@ mod committed;
 mod elements;
 mod matrices;
 mod opening;
+mod prepared;
 mod scheme;
 mod statement;
 mod verification;
