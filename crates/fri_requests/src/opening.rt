@@ -182,11 +182,12 @@ pub fn open(alloc: Global, request: &Request) -> Result<Opening, RequestError>
         Err(misfit) => return Err(RequestError::Malformed(misfit)),
     };
     let mut prepared = prepare(alloc, &mut scheme, request)?;
+    let points = prepared.points;
     let (claims, proof) = open_committed(
         alloc,
         &scheme,
         prepared.committed.as_mut_slice(),
-        prepared.points,
+        points,
         &mut prepared.challenger,
     )?;
     Ok(Opening {
