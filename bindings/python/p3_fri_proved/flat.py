@@ -23,7 +23,7 @@ NUMBERS_OF_PARAMETERS = (
 
 
 def no_number(place: str) -> Malformed:
-    return Malformed(f"NoForm: {place}, expected a number from 0 to 4294967295")
+    return Malformed(f"NoForm: {place}: expected a number from 0 to 4294967295")
 
 
 def bytes_of(numbers: Sequence[int], place: str) -> bytes:
@@ -46,7 +46,7 @@ def bytes_of(numbers: Sequence[int], place: str) -> bytes:
 def elements(points: Sequence[ExtensionElement], place: str) -> List[int]:
     """The coefficients of elements of the extension, one after another."""
     if any(len(point) != 4 for point in points):
-        raise Malformed(f"ExtensionElement: {place}, expected four numbers")
+        raise Malformed(f"ExtensionElement: {place}: expected four numbers")
     return [int(number) for point in points for number in point]
 
 
@@ -70,14 +70,14 @@ class Writer:
         self.numbers([getattr(parameters, name) for name in NUMBERS_OF_PARAMETERS], "parameters")
 
     def context(self, context: bytes) -> None:
-        self.numbers([len(context)], "length of the context")
+        self.numbers([len(context)], "context")
         self.parts.append(bytes(context))
 
     def matrix(self, matrix: Matrix, place: str) -> None:
         domain = matrix.domain
         log_size = min(domain.log_size, 64)
         if number_of_values(matrix.values) != matrix.width << log_size:
-            raise Malformed(f"Values: {place}, expected as many values as the domain has points, times the width")
+            raise Malformed(f"Values: {place}.values: expected as many values as the domain has points, times the width")
         self.numbers([domain.shift, domain.log_size, matrix.width, len(matrix.points)], place)
         self.numbers(matrix.values, place)
         self.numbers(elements(matrix.points, place), place)
@@ -87,9 +87,9 @@ class Writer:
         self.parameters(parameters)
         self.numbers([len(commitments)], "commitments")
         for commitment, matrices in enumerate(commitments):
-            self.numbers([len(matrices)], f"commitment {commitment}")
+            self.numbers([len(matrices)], f"commitments[{commitment}].matrices")
             for matrix, it in enumerate(matrices):
-                self.matrix(it, f"commitment {commitment}, matrix {matrix}")
+                self.matrix(it, f"commitments[{commitment}].matrices[{matrix}]")
 
     def matrix_claims(self, claims: MatrixClaims, place: str) -> None:
         self.numbers([claims.domain.shift, claims.domain.log_size, len(claims.points)], place)
@@ -104,11 +104,11 @@ class Writer:
         self.numbers([len(claims)], "claims")
         for commitment, it in enumerate(claims):
             if len(it.commitment) != 32:
-                raise Malformed(f"Digest: commitment {commitment}, expected 32 bytes")
+                raise Malformed(f"Digest: claims[{commitment}].commitment: expected 32 bytes")
             self.parts.append(bytes(it.commitment))
-            self.numbers([len(it.matrices)], f"commitment {commitment}")
+            self.numbers([len(it.matrices)], f"claims[{commitment}].matrices")
             for matrix, of_matrix in enumerate(it.matrices):
-                self.matrix_claims(of_matrix, f"commitment {commitment}, matrix {matrix}")
+                self.matrix_claims(of_matrix, f"claims[{commitment}].matrices[{matrix}]")
         self.parts.append(bytes(proof))
 
 

@@ -23,8 +23,8 @@ fn request(
                 return Err(Error::Malformed {
                     fault: Fault::Values,
                     text: format!(
-                        "Values: commitment {commitment}, matrix {matrix}, expected as many values \
-                         as the domain has points, times the width"
+                        "Values: commitments[{commitment}].matrices[{matrix}].values: expected as many \
+                         values as the domain has points, times the width"
                     ),
                 });
             }

@@ -10,7 +10,7 @@ use p3_dft::Radix2Dit;
 use p3_field::{BabyBear, BabyBear4, TwoAdicMultiplicativeCoset};
 use p3_fri_folding::FriParameters;
 use p3_fri_hiding::HidingFriPcs;
-use p3_fri_plain::{PlainHidingProof, PlainProofError, from_plain, hiding_from_plain};
+use p3_fri_plain::{PlainHidingProof, from_plain, hiding_from_plain};
 use p3_fri_relation::error::FriError;
 use p3_fri_two_adic::TwoAdicFriPcs;
 use p3_mmcs::{CommitmentOpening, Sha256Mmcs, Sha256MmcsError};
@@ -50,21 +50,27 @@ fn leaves_challenger(refusal: &Refusal) -> bool {
 }
 
 /// A verifier's answer, and the challenger that it leaves, which was a new one.
-type Verdict = (Result<(), Refusal>, Sha256Challenger);
+#[derive(Drop)]
+struct Verdict<E> {
+    answer: Result<(), E>,
+    challenger: Sha256Challenger,
+}
 
 /// A verdict as a text, and of an accepted opening what is drawn next from the challenger.
-fn told(alloc: Global, (verdict, mut challenger): Verdict) -> Result<String, AllocError> {
-    match verdict {
+fn told(alloc: Global, verdict: Verdict<Refusal>) -> Result<String, AllocError> {
+    let Verdict {
+        answer,
+        mut challenger,
+    } = verdict;
+    match answer {
         Ok(()) => {
             let drawn = challenger.sample_bits(63);
             format!(in alloc; "accepted {drawn}")
         }
-        Err(refusal) => {
-            if leaves_challenger(&refusal) && challenger != Sha256Challenger::new() {
-                return format!(in alloc; "{refusal:?}, with another challenger");
-            }
-            format!(in alloc; "{refusal:?}")
+        Err(refusal) if leaves_challenger(&refusal) && challenger != Sha256Challenger::new() => {
+            format!(in alloc; "{refusal:?}, with another challenger")
         }
+        Err(refusal) => format!(in alloc; "{refusal:?}"),
     }
 }
 
@@ -76,32 +82,33 @@ fn judged<P: UnivariateStarkPcs<BabyBear4, Sha256Challenger>>(
     claims: Vec<CommitmentOpening<BabyBear4, P::Commitment, P::Domain>>,
     proof: &P::Proof,
     preprocessing: Option<usize>,
-) -> (Result<(), P::Error>, Sha256Challenger)
+) -> Verdict<P::Error>
     requires range { (P.rules scheme.now).InVerifierRange }
 {
     let mut challenger = Sha256Challenger::new();
-    let verdict = match preprocessing {
+    let answer = match preprocessing {
         None => scheme.verify(alloc, claims, proof, &mut challenger),
         index => scheme.verify_with_preprocessing(alloc, claims, proof, &mut challenger, index),
     };
-    (verdict, challenger)
+    Verdict { answer, challenger }
 }
 
-/// The plain scheme's verdict, or why the plain form is refused.
-fn plain_verdict(
+/// What the plain scheme answers, or why the plain form is refused.
+fn plain_answer(
     alloc: Global,
     opening: &Value,
     parameters: FriParameters<Rounds>,
-) -> anyhow::Result<Result<Verdict, PlainProofError>>
+) -> anyhow::Result<String>
     requires range { InVerifierRange (parameters_of parameters) 27 63 }
 {
+    let claims: Vec<Claim> = read_list(alloc, opening, "/claims")?;
     let proof = match from_plain(alloc, read(alloc, opening, "/proof")?) {
         Ok(proof) => proof,
-        Err(refusal) => return Ok(Err(refusal)),
+        Err(refusal) => return Ok(format!(in alloc; "{refusal:?}")?),
     };
-    let claims: Vec<Claim> = read_list(alloc, opening, "/claims")?;
     let scheme = Scheme::new(Radix2Dit::default(), Inputs::new(), parameters);
-    Ok(Ok(judged(alloc, &scheme, claims, &proof, None)))
+    let verdict = judged(alloc, &scheme, claims, &proof, None);
+    Ok(told(alloc, verdict)?)
 }
 
 /// The form of a proof by the hiding scheme.
@@ -112,43 +119,36 @@ fn hiding_form(alloc: Global, opening: &Value, hiding: &Value) -> anyhow::Result
     })
 }
 
-/// The hiding scheme's verdict, or why the plain form is refused.
-fn hiding_verdict(
+/// What the hiding scheme answers, or why the plain form is refused.
+fn hiding_answer(
     alloc: Global,
     opening: &Value,
     hiding: &Value,
     parameters: FriParameters<Rounds>,
-) -> anyhow::Result<Result<Verdict, PlainProofError>>
+) -> anyhow::Result<String>
     requires range { InVerifierRange (parameters_of parameters) 27 63 }
 {
     let codewords = number(hiding, "/num_random_codewords")?;
     let preprocessing = read(alloc, hiding, "/preprocessing")?;
+    let claims: Vec<Claim> = read_list(alloc, opening, "/claims")?;
     let proof = match hiding_from_plain(alloc, hiding_form(alloc, opening, hiding)?) {
         Ok(proof) => proof,
-        Err(refusal) => return Ok(Err(refusal)),
+        Err(refusal) => return Ok(format!(in alloc; "{refusal:?}")?),
     };
-    let claims: Vec<Claim> = read_list(alloc, opening, "/claims")?;
-    let scheme = HidingScheme::new(
-        Radix2Dit::default(),
-        Inputs::new(),
-        parameters,
-        codewords,
-        ChaCha20Rng::from_seed([0; 32]),
-    );
-    Ok(Ok(judged(alloc, &scheme, claims, &proof, preprocessing)))
+    let rng = ChaCha20Rng::from_seed([0; 32]);
+    let dft = Radix2Dit::default();
+    let scheme = HidingScheme::new(dft, Inputs::new(), parameters, codewords, rng);
+    let verdict = judged(alloc, &scheme, claims, &proof, preprocessing);
+    Ok(told(alloc, verdict)?)
 }
 
 /// What the opening's scheme answers about it.
 pub fn answer_to(alloc: Global, opening: &Value) -> anyhow::Result<String> {
     let parameters = read_parameters(place(opening, "/parameters")?)?;
     let hiding = place(opening, "/hiding")?;
-    let verdict = if hiding.is_null() {
-        plain_verdict(alloc, opening, parameters)?
+    if hiding.is_null() {
+        plain_answer(alloc, opening, parameters)
     } else {
-        hiding_verdict(alloc, opening, hiding, parameters)?
-    };
-    match verdict {
-        Ok(verdict) => Ok(told(alloc, verdict)?),
-        Err(refusal) => Ok(format!(in alloc; "{refusal:?}")?),
+        hiding_answer(alloc, opening, hiding, parameters)
     }
 }

@@ -9,7 +9,7 @@ use std::alloc::Global;
 const ORDER: u64 = 2013265921;
 
 /// What a change does at its place.
-#[derive(Clone, Copy, Debug, PartialEq, Eq)]
+#[derive(Clone, Copy, PartialEq, Eq)]
 pub enum Operation {
     /// Nothing.
     Keep,

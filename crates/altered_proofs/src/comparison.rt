@@ -33,9 +33,11 @@ impl Counts {
 
     /// All of them.
     pub fn total(&self) -> usize {
-        self.by_operation
-            .iter()
-            .fold(0usize, |sum, count| sum.saturating_add(*count))
+        let mut total = 0usize;
+        for count in self.by_operation {
+            total = total.saturating_add(count);
+        }
+        total
     }
 }
 

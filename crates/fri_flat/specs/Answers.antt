@@ -11,7 +11,7 @@ use Rattle.fri_statement.specs.Numbers.{coefficient_numbers}
 use Rattle.fri_statement.specs.Context.{challenge_of}
 use Rattle.p3_fri_plain.specs.Numbers.{Digest, Paths, ProofNumbers, proof_numbers}
 use Rattle.p3_fri_plain.specs.Views.{proof_listed}
-use Rattle.fri_requests.specs.declared.records.Request.{Request}
+use Rattle.fri_records.specs.declared.records.Request.{Request}
 use Rattle.fri_requests.specs.Accepted.{IsAccepted}
 use Rattle.fri_requests.specs.Claims.{batch_listed}
 use Rattle.fri_requests.specs.Commitments.{IsCommitmentTo}

@@ -7,13 +7,13 @@ use Rattle.std.specs.declared.vec.Vec.{Vec}
 use Rattle.std.specs.declared.string.String.{String}
 use Rattle.hex.specs.Hex.{decode_sized}
 use Rattle.fri_requests.specs.Bound.{IsContext, context_listed}
-use Rattle.fri_requests.specs.declared.records.Parameters.{Parameters}
-use Rattle.fri_requests.specs.declared.records.Matrix.{Matrix}
-use Rattle.fri_requests.specs.declared.records.Batch.{Batch}
-use Rattle.fri_requests.specs.declared.records.Request.{Request}
-use Rattle.fri_requests.specs.declared.records.PointClaims.{PointClaims}
-use Rattle.fri_requests.specs.declared.records.MatrixClaims.{MatrixClaims}
-use Rattle.fri_requests.specs.declared.records.BatchClaims.{BatchClaims}
+use Rattle.fri_records.specs.declared.records.Parameters.{Parameters}
+use Rattle.fri_records.specs.declared.records.Matrix.{Matrix}
+use Rattle.fri_records.specs.declared.records.Batch.{Batch}
+use Rattle.fri_records.specs.declared.records.Request.{Request}
+use Rattle.fri_records.specs.declared.records.PointClaims.{PointClaims}
+use Rattle.fri_records.specs.declared.records.MatrixClaims.{MatrixClaims}
+use Rattle.fri_records.specs.declared.records.BatchClaims.{BatchClaims}
 use Rattle.p3_fri_plain.specs.declared.forms.PlainBatch.{PlainBatch}
 use Rattle.p3_fri_plain.specs.declared.forms.PlainStep.{PlainStep}
 use Rattle.p3_fri_plain.specs.declared.forms.PlainFriProof.{PlainFriProof}

@@ -81,7 +81,7 @@ const CASES: [Case; 10] = [
         number: 4,
         value: 0,
         length: 80,
-        text: "NumQueries: expected num_queries above 0",
+        text: "NumQueries: parameters.num_queries: expected a number above 0",
     },
 ];
 

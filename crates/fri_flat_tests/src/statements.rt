@@ -81,7 +81,7 @@ fn counts_past_the_bytes_are_refused(rt: HostRuntime) -> Result<(), Fail> {
 
 /// The first number that isn't refused once it is no element's.
 fn first_number_read(alloc: Global) -> Result<Option<usize>, FromHexError> {
-    let text = "Element: proof, expected a number below 2013265921";
+    let text = "Element: proof: expected a number below 2013265921";
     for place in &NUMBERS {
         for number in &PAST_ORDER {
             let statement = with_number(alloc, *place, *number)?;

@@ -1,9 +1,9 @@
 -- When an accepted statement is the expected one.
 use Rattle.std.specs.Prelude.{◌≡◌, ◌<◌, ℕ, List, IfSome, length, map, slice_index_or, string_bytes}
 use Rattle.std.specs.Char.{to_ascii_lowercase}
-use Rattle.fri_requests.specs.declared.records.PointClaims.{PointClaims}
-use Rattle.fri_requests.specs.declared.records.MatrixClaims.{MatrixClaims}
-use Rattle.fri_requests.specs.declared.records.BatchClaims.{BatchClaims}
+use Rattle.fri_records.specs.declared.records.PointClaims.{PointClaims}
+use Rattle.fri_records.specs.declared.records.MatrixClaims.{MatrixClaims}
+use Rattle.fri_records.specs.declared.records.BatchClaims.{BatchClaims}
 use Rattle.fri_json.specs.declared.expected.ExpectedPoint.{ExpectedPoint}
 use Rattle.fri_json.specs.declared.expected.ExpectedMatrix.{ExpectedMatrix}
 use Rattle.fri_json.specs.declared.expected.ExpectedBatch.{ExpectedBatch}

@@ -83,6 +83,45 @@ fn verified_lines<W: Write>(
     Ok(lines)
 }
 
+/// What `commit` prints for a text: a commitment on each line.
+fn commit_lines<W: Write>(
+    alloc: Global,
+    file: &str,
+    text: &str,
+    err: &mut W,
+) -> Result<String, Failure> {
+    let request = request_of(alloc, text)?;
+    report_progress(err, file, &request);
+    let mut lines = String::new(alloc);
+    for commitment in &commit_request(alloc, &request)? {
+        writeln!(lines, "{commitment}")?;
+    }
+    Ok(lines)
+}
+
+/// What `open` prints for a text.
+fn open_line<W: Write>(
+    alloc: Global,
+    file: &str,
+    text: &str,
+    err: &mut W,
+) -> Result<String, Failure> {
+    let request = request_of(alloc, text)?;
+    report_progress(err, file, &request);
+    let mut line = open_request(alloc, &request)?;
+    line.push_str("\n")?;
+    Ok(line)
+}
+
+/// What is accepted of a text, where it is the expected one.
+fn accept_expected(alloc: Global, text: &str, expected: &Expected) -> Result<Accepted, Failure> {
+    let accepted = accept(alloc, text)?;
+    match first_difference(&accepted, expected) {
+        Some(difference) => Err(Failure::Unexpected(difference)),
+        None => Ok(accepted),
+    }
+}
+
 /// What a command prints for a text.
 fn lines<W: Write>(
     alloc: Global,
@@ -91,32 +130,13 @@ fn lines<W: Write>(
     text: &str,
     err: &mut W,
 ) -> Result<String, Failure> {
-    match command {
-        Command::Commit => {
-            let request = request_of(alloc, text)?;
-            report_progress(err, file, &request);
-            let mut lines = String::new(alloc);
-            for commitment in &commit_request(alloc, &request)? {
-                writeln!(lines, "{commitment}")?;
-            }
-            Ok(lines)
-        },
-        Command::Open => {
-            let request = request_of(alloc, text)?;
-            report_progress(err, file, &request);
-            let mut line = open_request(alloc, &request)?;
-            line.push_str("\n")?;
-            Ok(line)
-        },
-        Command::Verify => verified_lines(alloc, file, &accept(alloc, text)?, err),
-        Command::VerifyExpected(expected) => {
-            let accepted = accept(alloc, text)?;
-            match first_difference(&accepted, expected) {
-                Some(difference) => Err(Failure::Unexpected(difference)),
-                None => verified_lines(alloc, file, &accepted, err),
-            }
-        },
-    }
+    let accepted = match command {
+        Command::Commit => return commit_lines(alloc, file, text, err),
+        Command::Open => return open_line(alloc, file, text, err),
+        Command::Verify => accept(alloc, text)?,
+        Command::VerifyExpected(expected) => accept_expected(alloc, text, expected)?,
+    };
+    verified_lines(alloc, file, &accepted, err)
 }
 
 /// Writes why a file has no answer. A refused statement's verdict is what `verify` is asked for,

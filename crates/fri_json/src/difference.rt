@@ -32,26 +32,36 @@ pub enum Part {
 }
 
 impl Part {
-    /// What it is called.
-    fn name(&self) -> &'static str {
+    /// Its field, of what is at its place.
+    fn field(&self) -> &'static str {
         match self {
             Part::Context => "context",
-            Part::LogBlowup => "log_blowup",
-            Part::LogFinalPolyLen => "log_final_poly_len",
-            Part::MaxLogArity => "max_log_arity",
-            Part::NumQueries => "num_queries",
-            Part::BatchProofOfWorkBits => "batch_proof_of_work_bits",
-            Part::CommitProofOfWorkBits => "commit_proof_of_work_bits",
-            Part::QueryProofOfWorkBits => "query_proof_of_work_bits",
-            Part::CommitmentCount => "number of commitments",
-            Part::Commitment => "commitment",
-            Part::MatrixCount => "number of matrices",
-            Part::Shift => "shift",
-            Part::LogSize => "log_size",
-            Part::PointCount => "number of points",
-            Part::Point => "point",
-            Part::ValueCount => "number of values",
-            Part::Value => "value",
+            Part::LogBlowup => "parameters.log_blowup",
+            Part::LogFinalPolyLen => "parameters.log_final_poly_len",
+            Part::MaxLogArity => "parameters.max_log_arity",
+            Part::NumQueries => "parameters.num_queries",
+            Part::BatchProofOfWorkBits => "parameters.batch_proof_of_work_bits",
+            Part::CommitProofOfWorkBits => "parameters.commit_proof_of_work_bits",
+            Part::QueryProofOfWorkBits => "parameters.query_proof_of_work_bits",
+            Part::CommitmentCount => "claims",
+            Part::Commitment => ".commitment",
+            Part::MatrixCount => ".matrices",
+            Part::Shift => ".domain.shift",
+            Part::LogSize => ".domain.log_size",
+            Part::PointCount => ".points",
+            Part::Point => ".point",
+            Part::ValueCount => ".values",
+            Part::Value => "",
+        }
+    }
+
+    /// What of its field was expected to be another.
+    fn aspect(&self) -> &'static str {
+        match self {
+            Part::CommitmentCount | Part::MatrixCount | Part::PointCount | Part::ValueCount => {
+                "number of entries"
+            },
+            _ => "value",
         }
     }
 
@@ -73,9 +83,9 @@ pub struct Difference {
 impl fmt::Display for Difference {
     fn fmt<W: fmt::Write>(&self, f: &mut fmt::Formatter<W>) -> fmt::Result {
         f.write_str("Unexpected: ")?;
-        self.place.fmt_levels(f)?;
-        f.write_str("expected another ")?;
-        f.write_str(self.part.name())
+        self.place.fmt_fields(f)?;
+        let (field, aspect) = (self.part.field(), self.part.aspect());
+        write!(f, "{field}: expected another {aspect}")
     }
 }
 
@@ -92,7 +102,7 @@ fn values_difference(values: &[Vec<u64>], expected: &[Vec<u64>], place: Place) -
     for (index, value) in values.iter().enumerate() {
         if value.as_slice() != expected[index].as_slice() {
             let place = Place {
-                number: Some(index),
+                value: Some(index),
                 ..place
             };
             return Part::Value.differs_at(place);
@@ -227,7 +237,7 @@ fn claims_difference(claims: &[BatchClaims], expected: &[ExpectedBatch]) -> Opti
     for (index, batch) in claims.iter().enumerate() {
         let place = Place {
             commitment: Some(index),
-            ..Place::NONE
+            ..Place::CLAIMS
         };
         if let Some(difference) = batch_difference(batch, &expected[index], place) {
             return Some(difference);

@@ -65,7 +65,7 @@ fn test_element(numbers: &[u64], place: Place) -> Result<(), Misfit> {
 fn test_values(values: &[Vec<u64>], place: Place) -> Result<(), Misfit> {
     for (index, value) in values.iter().enumerate() {
         let place = Place {
-            number: Some(index),
+            value: Some(index),
             ..place
         };
         test_element(value, place)?;
@@ -125,7 +125,7 @@ pub(crate) fn test_expected(expected: &Expected) -> Result<(), Misfit> {
     for (index, batch) in expected.claims.iter().enumerate() {
         let place = Place {
             commitment: Some(index),
-            ..Place::NONE
+            ..Place::CLAIMS
         };
         test_batch(batch, place)?;
     }

@@ -4,6 +4,8 @@
 mod command;
 mod difference;
 mod expected;
+mod fault;
+mod field;
 mod records;
 mod summary;
 
@@ -11,10 +13,11 @@ pub use crate::command::{Command, WRITE_FAILED, answer, read_expected};
 pub use crate::difference::{Difference, Part};
 pub use crate::expected::Expected;
 use crate::expected::test_expected;
+pub use crate::fault::JsonFault;
+use crate::fault::read;
 use crate::records::{Accepted, Answer, Statement};
 use fri_requests::{Request, RequestError, VerifyError};
 use p3_fri_plain::{from_plain, to_plain};
-use serde_json::Category;
 use std::alloc::{AllocError, AllocFailed, Global};
 use std::error::Error;
 use std::fmt;
@@ -32,7 +35,7 @@ pub const OUT_OF_MEMORY: u8 = 3;
 #[derive(Debug, Drop)]
 pub enum Failure {
     /// It isn't JSON, or not of such a record.
-    Json(serde_json::Error),
+    Json(JsonFault),
     /// The request isn't opened.
     Request(RequestError),
     /// The statement isn't accepted.
@@ -61,7 +64,7 @@ impl Failure {
 impl fmt::Display for Failure {
     fn fmt<W: fmt::Write>(&self, f: &mut fmt::Formatter<W>) -> fmt::Result {
         match self {
-            Failure::Json(error) => write!(f, "Json: {error}"),
+            Failure::Json(fault) => write!(f, "{fault}"),
             Failure::Request(error) => write!(f, "{error}"),
             Failure::Statement(error) => write!(f, "{error}"),
             Failure::Unexpected(difference) => write!(f, "{difference}"),
@@ -84,18 +87,9 @@ impl From<AllocError> for Failure {
     }
 }
 
-impl From<serde_json::Error> for Failure {
-    fn from(error: serde_json::Error) -> Failure {
-        match error.classify() {
-            Category::Memory => Failure::OutOfMemory,
-            _ => Failure::Json(error),
-        }
-    }
-}
-
 /// The request in this JSON text.
 fn request_of(alloc: Global, text: &str) -> Result<Request, Failure> {
-    Ok(serde_json::from_str(alloc, text)?)
+    read(alloc, text)
 }
 
 /// The commitments of a request, each in hex.
@@ -124,7 +118,15 @@ fn open_request(alloc: Global, request: &Request) -> Result<String, Failure> {
         proof: to_plain(alloc, &opening.proof)?,
         next_challenge: opening.next_challenge,
     };
-    Ok(serde_json::to_string(alloc, &answer)?)
+    match serde_json::to_string(alloc, &answer) {
+        Ok(line) => Ok(line),
+        Err(error) => Err(JsonFault {
+            field: String::new(alloc),
+            found: String::new(alloc),
+            error,
+        }
+        .failure()),
+    }
 }
 
 /// The commitments of the request in this JSON text, each in hex.
@@ -139,7 +141,7 @@ pub fn open(alloc: Global, text: &str) -> Result<String, Failure> {
 
 /// The expected statement in this JSON text.
 fn expected_of(alloc: Global, text: &str) -> Result<Expected, Failure> {
-    let expected: Expected = serde_json::from_str(alloc, text)?;
+    let expected: Expected = read(alloc, text)?;
     match test_expected(&expected) {
         Ok(()) => Ok(expected),
         Err(misfit) => Err(Failure::Statement(VerifyError::Malformed(misfit))),
@@ -148,7 +150,7 @@ fn expected_of(alloc: Global, text: &str) -> Result<Expected, Failure> {
 
 /// Verifies the statement in this JSON text, and answers what was accepted.
 fn accept(alloc: Global, text: &str) -> Result<Accepted, Failure> {
-    let statement: Statement = serde_json::from_str(alloc, text)?;
+    let statement: Statement = read(alloc, text)?;
     let Statement {
         context,
         parameters,

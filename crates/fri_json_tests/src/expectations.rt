@@ -35,123 +35,123 @@ const DIFFERENCES: [Difference; 24] = [
     (
         "{\"parameters\"",
         "{\"context\":\"00\",\"parameters\"",
-        "expected another context",
+        "context: expected another value",
     ),
     (
         "\"log_blowup\":2",
         "\"log_blowup\":1",
-        "expected another log_blowup",
+        "parameters.log_blowup: expected another value",
     ),
     (
         "\"log_final_poly_len\":0",
         "\"log_final_poly_len\":1",
-        "expected another log_final_poly_len",
+        "parameters.log_final_poly_len: expected another value",
     ),
     (
         "\"max_log_arity\":2",
         "\"max_log_arity\":1",
-        "expected another max_log_arity",
+        "parameters.max_log_arity: expected another value",
     ),
     (
         "\"num_queries\":3",
         "\"num_queries\":100",
-        "expected another num_queries",
+        "parameters.num_queries: expected another value",
     ),
     (
         "\"batch_proof_of_work_bits\":0",
         "\"batch_proof_of_work_bits\":1",
-        "expected another batch_proof_of_work_bits",
+        "parameters.batch_proof_of_work_bits: expected another value",
     ),
     (
         "\"commit_proof_of_work_bits\":0",
         "\"commit_proof_of_work_bits\":1",
-        "expected another commit_proof_of_work_bits",
+        "parameters.commit_proof_of_work_bits: expected another value",
     ),
     (
         "\"query_proof_of_work_bits\":0",
         "\"query_proof_of_work_bits\":1",
-        "expected another query_proof_of_work_bits",
+        "parameters.query_proof_of_work_bits: expected another value",
     ),
     (
         "\"claims\":[",
         "\"claims\":[],\"others\":[",
-        "expected another number of commitments",
+        "claims: expected another number of entries",
     ),
     (
         "\"claims\":[",
         "\"claims\":[{\"commitment\":\
 \"26BCE7536E76248F01F14A525A4C4E007979E67A61DC7A9BDD4873C54D1A9320\",\"matrices\":[]},",
-        "expected another number of commitments",
+        "claims: expected another number of entries",
     ),
     (
         "26BCE7",
         "26BCE8",
-        "commitment 0, expected another commitment",
+        "claims[0].commitment: expected another value",
     ),
     (
         "7F4FCA",
         "7F4FCB",
-        "commitment 1, expected another commitment",
+        "claims[1].commitment: expected another value",
     ),
     (
         "\"matrices\":[",
         "\"matrices\":[],\"others\":[",
-        "commitment 0, expected another number of matrices",
+        "claims[0].matrices: expected another number of entries",
     ),
     (
         "\"matrices\":[",
         "\"matrices\":[{\"domain\":{\"shift\":1,\"log_size\":1},\"points\":[]},",
-        "commitment 0, expected another number of matrices",
+        "claims[0].matrices: expected another number of entries",
     ),
     (
         "\"shift\":3",
         "\"shift\":1",
-        "commitment 1, matrix 1, expected another shift",
+        "claims[1].matrices[1].domain.shift: expected another value",
     ),
     (
         "\"log_size\":3",
         "\"log_size\":2",
-        "commitment 1, matrix 0, expected another log_size",
+        "claims[1].matrices[0].domain.log_size: expected another value",
     ),
     (
         "\"points\":[",
         "\"points\":[],\"others\":[",
-        "commitment 0, matrix 0, expected another number of points",
+        "claims[0].matrices[0].points: expected another number of entries",
     ),
     (
         "\"points\":[{\"point\":[5,0,0,0]},",
         "\"points\":[{\"point\":[5,0,0,0]},{\"point\":[6,0,0,0]},",
-        "commitment 1, matrix 0, expected another number of points",
+        "claims[1].matrices[0].points: expected another number of entries",
     ),
     (
         "{\"point\":[5,0,0,0]}",
         "{\"point\":[5,0,0,1]}",
-        "commitment 1, matrix 0, point 0, expected another point",
+        "claims[1].matrices[0].points[0].point: expected another value",
     ),
     (
         "{\"point\":[7,1,0,2]",
         "{\"point\":[7,1,0,3]",
-        "commitment 1, matrix 0, point 1, expected another point",
+        "claims[1].matrices[0].points[1].point: expected another value",
     ),
     (
         "[[2013265918,0,0,0]]",
         "[[2013265917,0,0,0]]",
-        "commitment 0, matrix 0, point 0, number 0, expected another value",
+        "claims[0].matrices[0].points[0].values[0]: expected another value",
     ),
     (
         "1395585587",
         "1395585586",
-        "commitment 1, matrix 0, point 1, number 1, expected another value",
+        "claims[1].matrices[0].points[1].values[1]: expected another value",
     ),
     (
         "[[2013265918,0,0,0]]",
         "[]",
-        "commitment 0, matrix 0, point 0, expected another number of values",
+        "claims[0].matrices[0].points[0].values: expected another number of entries",
     ),
     (
         ",[1342177277,335544319,0,671088638]",
         "",
-        "commitment 1, matrix 1, point 0, expected another number of values",
+        "claims[1].matrices[1].points[0].values: expected another number of entries",
     ),
 ];
 
@@ -161,17 +161,17 @@ const FAULTS: [Difference; 14] = [
     (
         "{\"parameters\"",
         "{\"context\":\"0\",\"parameters\"",
-        "Context: expected an even number of hex digits",
+        "Context: context: expected an even number of hex digits",
     ),
     (
         "{\"parameters\"",
         "{\"context\":\"0x\",\"parameters\"",
-        "Context: expected an even number of hex digits",
+        "Context: context: expected an even number of hex digits",
     ),
     (
         "{\"parameters\":{",
         "{\n\"parameters\":3,\"others\":{",
-        "Json: invalid type at line 2 column 14",
+        "Json: parameters: 3: invalid type at line 2 column 14",
     ),
     (
         "\"claims\":[",
@@ -181,49 +181,50 @@ const FAULTS: [Difference; 14] = [
     (
         "26BCE7",
         "26BCE",
-        "Commitment: commitment 0, expected 64 hex digits",
+        "Commitment: claims[0].commitment: expected 64 hex digits",
     ),
     (
         "7F4FCA",
         "xF4FCA",
-        "Commitment: commitment 1, expected 64 hex digits",
+        "Commitment: claims[1].commitment: expected 64 hex digits",
     ),
     (
         "\"shift\":3",
         "\"shift\":0",
-        "Shift: commitment 1, matrix 1, expected a shift from 1 to 2013265920",
+        "Shift: claims[1].matrices[1].domain.shift: expected a number from 1 to 2013265920",
     ),
     (
         "\"shift\":3",
         "\"shift\":2013265921",
-        "Shift: commitment 1, matrix 1, expected a shift from 1 to 2013265920",
+        "Shift: claims[1].matrices[1].domain.shift: expected a number from 1 to 2013265920",
     ),
     (
         "\"log_size\":3",
         "\"log_size\":28",
-        "LogSize: commitment 1, matrix 0, expected a log_size up to 27, with log_blowup where it \
-is committed to",
+        "LogSize: claims[1].matrices[0].domain.log_size: expected a number up to 27, with \
+log_blowup where it is committed to",
     ),
     (
         "{\"point\":[5,0,0,0]}",
         "{\"point\":[5,0,0]}",
-        "ExtensionElement: commitment 1, matrix 0, point 0, expected four numbers below 2013265921",
+        "ExtensionElement: claims[1].matrices[0].points[0].point: expected four numbers below \
+2013265921",
     ),
     (
         "{\"point\":[7,1,0,2]",
         "{\"point\":[7,1,0,2013265921]",
-        "Element: commitment 1, matrix 0, point 1, expected a number below 2013265921",
+        "Element: claims[1].matrices[0].points[1].point: expected a number below 2013265921",
     ),
     (
         ",1395585587]",
         "]",
-        "ExtensionElement: commitment 1, matrix 0, point 1, number 1, expected four numbers \
-below 2013265921",
+        "ExtensionElement: claims[1].matrices[0].points[1].values[1]: expected four numbers below \
+2013265921",
     ),
     (
         "1395585587",
         "2013265921",
-        "Element: commitment 1, matrix 0, point 1, number 1, expected a number below 2013265921",
+        "Element: claims[1].matrices[0].points[1].values[1]: expected a number below 2013265921",
     ),
     (
         "{\"parameters\"",

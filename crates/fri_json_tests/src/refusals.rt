@@ -142,109 +142,140 @@ fn changed_statements_are_refused(rt: HostRuntime) -> Result<(), Failure> {
 type Fault = (&'static str, &'static str, &'static str, u8);
 
 /// Of the column's request.
-const REQUESTS: [Fault; 24] = [
+const REQUESTS: [Fault; 29] = [
     (
         "\"log_blowup\":1",
         "\"log_blowup\":0",
-        "LogBlowup: expected log_blowup from 1 to 27",
+        "LogBlowup: parameters.log_blowup: expected a number from 1 to 27",
         2,
     ),
     (
         "\"log_blowup\":1",
         "\"log_blowup\":28",
-        "LogBlowup: expected log_blowup from 1 to 27",
+        "LogBlowup: parameters.log_blowup: expected a number from 1 to 27",
         2,
     ),
     (
         "\"max_log_arity\":1",
         "\"max_log_arity\":0",
-        "MaxLogArity: expected max_log_arity above 0",
+        "MaxLogArity: parameters.max_log_arity: expected a number above 0",
         2,
     ),
     (
         "\"num_queries\":2",
         "\"num_queries\":0",
-        "NumQueries: expected num_queries above 0",
+        "NumQueries: parameters.num_queries: expected a number above 0",
         2,
     ),
     (
         "\"query_proof_of_work_bits\":0",
         "\"query_proof_of_work_bits\":64",
-        "ProofOfWorkBits: expected proofs of work of at most 63 bits",
+        "ProofOfWorkBits: parameters: expected proofs of work of at most 63 bits",
         2,
     ),
     (
         "[{\"matrices\":[",
         "[{\"matrices\":[],\"others\":[",
-        "Matrices: expected some matrix",
+        "Matrices: commitments: expected some matrix",
         2,
     ),
     (
         "\"log_size\":1",
         "\"log_size\":27",
-        "LogSize: commitment 0, matrix 0, expected a log_size up to 27, with log_blowup where it \
-is committed to",
+        "LogSize: commitments[0].matrices[0].domain.log_size: expected a number up to 27, with \
+log_blowup where it is committed to",
         2,
     ),
     (
         "\"shift\":1",
         "\"shift\":0",
-        "Shift: commitment 0, matrix 0, expected a shift from 1 to 2013265920",
+        "Shift: commitments[0].matrices[0].domain.shift: expected a number from 1 to 2013265920",
         2,
     ),
     (
         "\"shift\":1",
         "\"shift\":2013265921",
-        "Shift: commitment 0, matrix 0, expected a shift from 1 to 2013265920",
+        "Shift: commitments[0].matrices[0].domain.shift: expected a number from 1 to 2013265920",
         2,
     ),
     (
         "\"width\":1",
         "\"width\":0",
-        "Width: commitment 0, matrix 0, expected a width above 0",
+        "Width: commitments[0].matrices[0].width: expected a number above 0",
         2,
     ),
     (
         "[1,3]",
         "[1]",
-        "Values: commitment 0, matrix 0, expected as many values as the domain has points, \
-times the width",
+        "Values: commitments[0].matrices[0].values: expected as many values as the domain has \
+points, times the width",
         2,
     ),
     (
         "[1,3]",
         "[1,2013265921]",
-        "Element: commitment 0, matrix 0, number 1, expected a number below 2013265921",
+        "Element: commitments[0].matrices[0].values[1]: expected a number below 2013265921",
         2,
     ),
     (
         "[[5,0,0,0]]",
         "[]",
-        "Points: commitment 0, matrix 0, expected some point",
+        "Points: commitments[0].matrices[0].points: expected some point",
         2,
     ),
     (
         "[[5,0,0,0]]",
         "[[5,0,0,0],[5,0,0]]",
-        "ExtensionElement: commitment 0, matrix 0, point 1, expected four numbers below 2013265921",
+        "ExtensionElement: commitments[0].matrices[0].points[1]: expected four numbers below \
+2013265921",
         2,
     ),
     (
         "[[5,0,0,0]]",
         "[[5,0,2013265921,0]]",
-        "Element: commitment 0, matrix 0, point 0, expected a number below 2013265921",
+        "Element: commitments[0].matrices[0].points[0]: expected a number below 2013265921",
         2,
     ),
     (
         "{\"parameters\":{",
         "{\n\"parameters\":3,\"others\":{",
-        "Json: invalid type at line 2 column 14",
+        "Json: parameters: 3: invalid type at line 2 column 14",
         2,
     ),
     (
         "\"commitments\":[",
         "\"others\":[",
         "Json: missing field `commitments` at line 1 column 284",
+        2,
+    ),
+    (
+        "[1,3]",
+        "[1,-1]",
+        "Json: commitments[0].matrices[0].values[1]: -1: invalid value at line 1 column 262",
+        2,
+    ),
+    (
+        "[1,3]",
+        "[1,\"3\"]",
+        "Json: commitments[0].matrices[0].values[1]: invalid type at line 1 column 262",
+        2,
+    ),
+    (
+        "[[5,0,0,0]]",
+        "[[5,0,0,0],[5,null,0,0]]",
+        "Json: commitments[0].matrices[0].points[1][1]: null: invalid type at line 1 column 288",
+        2,
+    ),
+    (
+        ",\"log_size\":1",
+        "",
+        "Json: commitments[0].matrices[0].domain: missing field `log_size` at line 1 column 225",
+        2,
+    ),
+    (
+        "{\"parameters\":{",
+        "{\"a\\\"[\":[{\"b\":[1]}],\"parameters\":3,\"others\":{",
+        "Json: parameters: 3: invalid type at line 1 column 34",
         2,
     ),
     (
@@ -270,25 +301,25 @@ in round 0 lies in the evaluation domain",
     (
         "{\"parameters\":{",
         "{\"context\":\"000\",\"parameters\":{",
-        "Context: expected an even number of hex digits",
+        "Context: context: expected an even number of hex digits",
         2,
     ),
     (
         "{\"parameters\":{",
         "{\"context\":\"0g\",\"parameters\":{",
-        "Context: expected an even number of hex digits",
+        "Context: context: expected an even number of hex digits",
         2,
     ),
     (
         "{\"parameters\":{",
         "{\"context\":\"é\",\"parameters\":{",
-        "Context: expected an even number of hex digits",
+        "Context: context: expected an even number of hex digits",
         2,
     ),
     (
         "{\"parameters\":{",
         "{\"context\":[],\"parameters\":{",
-        "Json: invalid type at line 1 column 12",
+        "Json: context: invalid type at line 1 column 12",
         2,
     ),
 ];
@@ -298,99 +329,101 @@ const STATEMENTS: [Fault; 16] = [
     (
         "\"log_final_poly_len\":0",
         "\"log_final_poly_len\":63",
-        "LogFinalPolyLen: expected log_blowup and log_final_poly_len below 64 together",
+        "LogFinalPolyLen: parameters.log_final_poly_len: expected a number below 64 together with \
+log_blowup",
         2,
     ),
     (
         "\"commit_proof_of_work_bits\":0",
         "\"commit_proof_of_work_bits\":64",
-        "ProofOfWorkBits: expected proofs of work of at most 63 bits",
+        "ProofOfWorkBits: parameters: expected proofs of work of at most 63 bits",
         2,
     ),
     (
         "2aa419f5",
         "2aa419f",
-        "Commitment: commitment 0, expected 64 hex digits",
+        "Commitment: claims[0].commitment: expected 64 hex digits",
         2,
     ),
     (
         "2aa419f5",
         "2xa419f5",
-        "Commitment: commitment 0, expected 64 hex digits",
+        "Commitment: claims[0].commitment: expected 64 hex digits",
         2,
     ),
     (
         "\"shift\":1",
         "\"shift\":0",
-        "Shift: commitment 0, matrix 0, expected a shift from 1 to 2013265920",
+        "Shift: claims[0].matrices[0].domain.shift: expected a number from 1 to 2013265920",
         2,
     ),
     (
         "\"log_size\":1",
         "\"log_size\":28",
-        "LogSize: commitment 0, matrix 0, expected a log_size up to 27, with log_blowup where it \
-is committed to",
+        "LogSize: claims[0].matrices[0].domain.log_size: expected a number up to 27, with \
+log_blowup where it is committed to",
         2,
     ),
     (
         "\"point\":[5,",
         "\"point\":[",
-        "ExtensionElement: commitment 0, matrix 0, point 0, expected four numbers below 2013265921",
+        "ExtensionElement: claims[0].matrices[0].points[0].point: expected four numbers below \
+2013265921",
         2,
     ),
     (
         "[[2013265918,0,0,0]]",
         "[[2013265918,0,0,0],[2013265921,0,0,0]]",
-        "Element: commitment 0, matrix 0, point 0, number 1, expected a number below 2013265921",
+        "Element: claims[0].matrices[0].points[0].values[1]: expected a number below 2013265921",
         2,
     ),
     (
         "[[2013265918,0,0,0]]",
         "[[2013265918,0,0]]",
-        "ExtensionElement: commitment 0, matrix 0, point 0, number 0, expected four numbers \
-below 2013265921",
+        "ExtensionElement: claims[0].matrices[0].points[0].values[0]: expected four numbers below \
+2013265921",
         2,
     ),
     (
         "\"batch_pow_witness\":0",
         "\"batch_pow_witness\":2013265921",
-        "Element: proof, expected a number below 2013265921",
+        "Element: proof: expected a number below 2013265921",
         2,
     ),
     (
         "[[2013265920,0,0,0]],\"q",
         "[[2013265920,0,0]],\"q",
-        "ExtensionElement: proof, expected four numbers below 2013265921",
+        "ExtensionElement: proof: expected four numbers below 2013265921",
         2,
     ),
     (
         "[[[30,",
         "[[[",
-        "Digest: proof, expected digests of 32 bytes",
+        "Digest: proof: expected digests of 32 bytes",
         2,
     ),
     (
         "\"context\":\"\",\"parameters\":{",
         "\"context\":\"\",\n\"parameters\":3,\"others\":{",
-        "Json: invalid type at line 2 column 14",
+        "Json: parameters: 3: invalid type at line 2 column 14",
         2,
     ),
     (
         "\"context\":\"\"",
         "\"context\":\"0\"",
-        "Context: expected an even number of hex digits",
+        "Context: context: expected an even number of hex digits",
         2,
     ),
     (
         "\"context\":\"\"",
         "\"context\":\"0x\"",
-        "Context: expected an even number of hex digits",
+        "Context: context: expected an even number of hex digits",
         2,
     ),
     (
         "\"context\":\"\"",
         "\"context\":\"é\"",
-        "Context: expected an even number of hex digits",
+        "Context: context: expected an even number of hex digits",
         2,
     ),
 ];

@@ -25,13 +25,13 @@ use Rattle.p3_fri_openings.specs.Rounds.{HasCoset}
 use Rattle.p3_fri_openings.specs.Openable.{MayBeOpened}
 use Rattle.p3_fri_openings.specs.Held.{held_in}
 use Rattle.p3_fri_two_adic.specs.Ranges.{InProverRange}
-use Rattle.fri_requests.specs.declared.records.Parameters.{Parameters}
-use Rattle.fri_requests.specs.declared.records.Matrix.{Matrix}
-use Rattle.fri_requests.specs.declared.records.Batch.{Batch}
-use Rattle.fri_requests.specs.declared.records.Request.{Request}
+use Rattle.fri_records.specs.declared.records.Parameters.{Parameters}
+use Rattle.fri_records.specs.declared.records.Matrix.{Matrix}
+use Rattle.fri_records.specs.declared.records.Batch.{Batch}
+use Rattle.fri_records.specs.declared.records.Request.{Request}
 use Rattle.fri_requests.specs.declared.committed.Committed.{Committed}
 use Rattle.fri_requests.specs.Bound.{IsContext, context_listed, batch_asked, bound}
-use Rattle.fri_requests.specs.Records.{parameters_in}
+use Rattle.fri_records.specs.Records.{parameters_in}
 use Rattle.fri_statement.specs.Numbers.{coefficient_numbers}
 use Rattle.fri_requests.specs.Numbers.{extension_of, IsExtensionElement}
 use Rattle.fri_statement.specs.Setting.{fields}

@@ -19,13 +19,13 @@ use Rattle.p3_fri_openings.specs.Held.{held_of}
 use Rattle.fri_statement.specs.Numbers.{coefficient_numbers}
 use Rattle.fri_statement.specs.Statement.{OpenedMatrix, OpenedCommitment}
 use Rattle.p3_challenger_sha256.specs.declared.sha256_challenger.Sha256Challenger.{Sha256Challenger}
-use Rattle.fri_requests.specs.declared.records.Parameters.{Parameters}
-use Rattle.fri_requests.specs.declared.records.BatchClaims.{BatchClaims}
-use Rattle.fri_requests.specs.declared.records.Matrix.{Matrix}
-use Rattle.fri_requests.specs.declared.records.Batch.{Batch}
+use Rattle.fri_records.specs.declared.records.Parameters.{Parameters}
+use Rattle.fri_records.specs.declared.records.BatchClaims.{BatchClaims}
+use Rattle.fri_records.specs.declared.records.Matrix.{Matrix}
+use Rattle.fri_records.specs.declared.records.Batch.{Batch}
 use Rattle.fri_requests.specs.declared.committed.Committed.{Committed}
 use Rattle.fri_requests.specs.Numbers.{extension_of}
-use Rattle.fri_requests.specs.Records.{parameters_in}
+use Rattle.fri_records.specs.Records.{parameters_in}
 use Rattle.fri_requests.specs.Bound.{context_listed, bound, state_bound}
 use Rattle.fri_requests.specs.Bound.{width_claimed, matrix_claimed, batch_claimed, matrix_asked, batch_asked}
 use Rattle.fri_requests.specs.Claims.{point_numbers, batch_numbers, matrix_numbers, batch_listed}

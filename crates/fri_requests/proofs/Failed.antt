@@ -7,16 +7,16 @@ use Rattle.p3_fri_folding.specs.declared.error.FriProverError.TheVariants as pro
 use Rattle.p3_fri_relation.specs.declared.error.FriError.{FriError}
 use Rattle.p3_fri_relation.specs.declared.error.FriError.TheVariants as refusal
 use Rattle.p3_fri_two_adic.specs.ErrorLaws.{memory_cases}
-use Rattle.fri_requests.specs.declared.fault.Misfit.{Misfit}
-use Rattle.fri_requests.specs.declared.fault.ReadError.{ReadError}
-use Rattle.fri_requests.specs.declared.fault.ReadError.TheVariants.{Malformed, OutOfMemory}
-use Rattle.fri_requests.specs.declared.fault.RequestError.{RequestError}
-use Rattle.fri_requests.specs.declared.fault.RequestError.TheVariants as request
-use Rattle.fri_requests.specs.declared.fault.VerifyError.{VerifyError}
-use Rattle.fri_requests.specs.declared.fault.VerifyError.TheVariants as statement
-use Rattle.fri_requests.specs.declared.fault.VerifyError.TheVariants.{Refused}
-use Rattle.fri_requests.specs.Failures.{IfMalformed, MatchRequestError, MatchVerifyError}
-use Rattle.fri_requests.specs.Failures.{unread_request, unopened, failure_of}
+use Rattle.fri_records.specs.declared.fault.Misfit.{Misfit}
+use Rattle.fri_records.specs.declared.fault.ReadError.{ReadError}
+use Rattle.fri_records.specs.declared.fault.ReadError.TheVariants.{Malformed, OutOfMemory}
+use Rattle.fri_records.specs.declared.fault.RequestError.{RequestError}
+use Rattle.fri_records.specs.declared.fault.RequestError.TheVariants as request
+use Rattle.fri_records.specs.declared.fault.VerifyError.{VerifyError}
+use Rattle.fri_records.specs.declared.fault.VerifyError.TheVariants as statement
+use Rattle.fri_records.specs.declared.fault.VerifyError.TheVariants.{Refused}
+use Rattle.fri_records.specs.Failures.{IfMalformed, MatchRequestError, MatchVerifyError}
+use Rattle.fri_records.specs.Failures.{unread_request, unopened, failure_of}
 
 pub given : {A E : Type 0} (Q R : E → Type 0) (r : Result A E) → IsErrAnd r Q
     → ((e : E) → Q e → R e) → IfErr r R

@@ -6,7 +6,7 @@ use Rattle.std.proofs.lemmas.List.{take_all, take_more, map_more, map-append}
 use Rattle.algebra.proofs.Lists.{map-map, all_zip-push, all_zip-mapped, all_zip-weaker}
 use Rattle.p3_mmcs.specs.ProverData.{matrices_of}
 use Rattle.fri_requests.specs.declared.committed.Committed.{Committed}
-use Rattle.fri_requests.specs.declared.records.Batch.{Batch}
+use Rattle.fri_records.specs.declared.records.Batch.{Batch}
 use Rattle.fri_requests.specs.Commitments.{IsCommitmentTo, Keeps}
 
 module _ {A B : Type 0} (R : A → B → Type 0) where

@@ -14,7 +14,7 @@ use Rattle.p3_baby_bear.specs.BabyBear4Laws.{same_coefficients}
 use Rattle.p3_pcs.specs.Claims.{PointClaim, MatrixClaim, Claim}
 use Rattle.p3_fri_openings.proofs.First.{at_item}
 use Rattle.p3_fri_openings.specs.SchemeClaims as relation
-use Rattle.fri_requests.specs.declared.records.BatchClaims.{BatchClaims}
+use Rattle.fri_records.specs.declared.records.BatchClaims.{BatchClaims}
 use Rattle.fri_statement.specs.Numbers.{canonical_number, coefficient_numbers}
 use Rattle.fri_requests.specs.Numbers.{extension_of}
 use Rattle.fri_requests.specs.Numbers.{IsElement, IsExtensionElement}

@@ -13,9 +13,9 @@ use Rattle.p3_pcs.specs.Claims.{zip_with, point_claims, matrix_claims}
 use Rattle.p3_pcs.specs.Requests.{Held, AreHonest, FitDomains, honest_claims}
 use Rattle.p3_stark_pcs.specs.Evaluations.{HasPolynomials}
 use Rattle.p3_fri_openings.specs.Held.{held_of, HoldsWords}
-use Rattle.fri_requests.specs.declared.records.Matrix.{Matrix}
-use Rattle.fri_requests.specs.declared.records.Batch.{Batch}
-use Rattle.fri_requests.specs.declared.records.Domain.{Domain}
+use Rattle.fri_records.specs.declared.records.Matrix.{Matrix}
+use Rattle.fri_records.specs.declared.records.Batch.{Batch}
+use Rattle.fri_records.specs.declared.records.Domain.{Domain}
 use Rattle.fri_requests.specs.declared.committed.Committed.{Committed}
 use Rattle.fri_statement.specs.Numbers.{coefficient_numbers}
 use Rattle.fri_requests.specs.Numbers.{extension_of}

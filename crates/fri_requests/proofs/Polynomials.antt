@@ -12,7 +12,7 @@ use Rattle.p3_matrix.specs.Rows.{rows_of}
 use Rattle.p3_pcs.specs.Requests.{Held}
 use Rattle.p3_fri_extensions.specs.Extension.{polynomial_on}
 use Rattle.p3_fri_two_adic.specs.Chunks.{polynomials_on}
-use Rattle.fri_requests.specs.declared.records.Matrix.{Matrix}
+use Rattle.fri_records.specs.declared.records.Matrix.{Matrix}
 use Rattle.fri_statement.specs.Numbers.{canonical_number}
 use Rattle.fri_statement.specs.Setting.{fields}
 use Rattle.fri_requests.specs.Matrices.{held_listed}

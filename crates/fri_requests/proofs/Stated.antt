@@ -14,10 +14,10 @@ use Rattle.p3_fri_relation.specs.Faults.{StandsInScheme}
 use Rattle.p3_fri_relation.specs.declared.error.FriError.{FriError}
 use Rattle.p3_fri_two_adic.specs.Ends.{last_state}
 use Rattle.p3_fri_two_adic.proofs.Ranges.{in_verifier_range}
-use Rattle.fri_requests.specs.declared.records.Parameters.{Parameters}
-use Rattle.fri_requests.specs.declared.records.BatchClaims.{BatchClaims}
+use Rattle.fri_records.specs.declared.records.Parameters.{Parameters}
+use Rattle.fri_records.specs.declared.records.BatchClaims.{BatchClaims}
 use Rattle.fri_requests.specs.Bound.{state_bound}
-use Rattle.fri_requests.specs.Records.{parameters_in}
+use Rattle.fri_records.specs.Records.{parameters_in}
 use Rattle.fri_statement.specs.Numbers.{coefficient_numbers}
 use Rattle.fri_statement.specs.Setting.{sha256_setting, sha256_moves}
 use Rattle.fri_requests.specs.Statements.{IsStatement, claims_listed}

@@ -8,11 +8,11 @@ use Rattle.p3_challenger_sha256.specs.declared.sha256_challenger.Sha256Challenge
 use Rattle.p3_challenger_sha256.specs.Sha256.{start}
 use Rattle.p3_fri_relation.specs.Setting as setting
 use Rattle.fri_statement.specs.Statement.{OpenedMatrix, OpenedCommitment, statement_absorbed}
-use Rattle.fri_requests.specs.declared.records.Parameters.{Parameters}
-use Rattle.fri_requests.specs.declared.records.Matrix.{Matrix}
-use Rattle.fri_requests.specs.declared.records.Batch.{Batch}
-use Rattle.fri_requests.specs.declared.records.BatchClaims.{BatchClaims}
-use Rattle.fri_requests.specs.Records.{parameters_in}
+use Rattle.fri_records.specs.declared.records.Parameters.{Parameters}
+use Rattle.fri_records.specs.declared.records.Matrix.{Matrix}
+use Rattle.fri_records.specs.declared.records.Batch.{Batch}
+use Rattle.fri_records.specs.declared.records.BatchClaims.{BatchClaims}
+use Rattle.fri_records.specs.Records.{parameters_in}
 use Rattle.fri_requests.specs.Claims.{PointNumbers, MatrixNumbers, BatchNumbers, batch_listed}
 
 -- a context is the hex text of bytes

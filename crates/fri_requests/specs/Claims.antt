@@ -7,9 +7,9 @@ use Rattle.p3_baby_bear.specs.declared.baby_bear.BabyBear.{BabyBear}
 use Rattle.p3_baby_bear.specs.declared.baby_bear4.BabyBear4.{BabyBear4}
 use Rattle.p3_pcs.specs.Claims.{PointClaim, MatrixClaim, Claim}
 use Rattle.fri_statement.specs.Numbers.{canonical_number, coefficient_numbers}
-use Rattle.fri_requests.specs.declared.records.PointClaims.{PointClaims}
-use Rattle.fri_requests.specs.declared.records.MatrixClaims.{MatrixClaims}
-use Rattle.fri_requests.specs.declared.records.BatchClaims.{BatchClaims}
+use Rattle.fri_records.specs.declared.records.PointClaims.{PointClaims}
+use Rattle.fri_records.specs.declared.records.MatrixClaims.{MatrixClaims}
+use Rattle.fri_records.specs.declared.records.BatchClaims.{BatchClaims}
 
 pub record PointNumbers : Type 0 where
   pub point : List ℕ

@@ -10,8 +10,8 @@ use Rattle.p3_mmcs.specs.ProverData.{matrices_of, root_over}
 use Rattle.p3_stark_pcs.specs.Evaluations.{HasPolynomials}
 use Rattle.p3_fri_openings.specs.Rounds.{HasCoset}
 use Rattle.p3_fri_openings.specs.Held.{held_in, held_of, HoldsWords}
-use Rattle.fri_requests.specs.declared.records.Batch.{Batch}
-use Rattle.fri_requests.specs.declared.records.Domain.{Domain}
+use Rattle.fri_records.specs.declared.records.Batch.{Batch}
+use Rattle.fri_records.specs.declared.records.Domain.{Domain}
 use Rattle.fri_requests.specs.declared.committed.Committed.{Committed}
 use Rattle.fri_statement.specs.Numbers.{canonical_number}
 use Rattle.fri_statement.specs.Setting.{fields}

@@ -2,10 +2,9 @@ pub mod Accepted
 pub mod Bound
 pub mod Claims
 pub mod Commitments
-pub mod Failures
 pub mod Matrices
 pub mod Numbers
 pub mod Openings
-pub mod Records
+pub mod Prepared
 pub mod Requests
 pub mod Statements

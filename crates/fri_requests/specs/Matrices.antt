@@ -9,7 +9,7 @@ use Rattle.p3_baby_bear.specs.BabyBear4.{baby_bear4, lift4}
 use Rattle.p3_matrix.specs.Rows.{rows_of}
 use Rattle.p3_pcs.specs.Requests.{Held}
 use Rattle.p3_fri_extensions.specs.Extension.{polynomial_on}
-use Rattle.fri_requests.specs.declared.records.Matrix.{Matrix}
+use Rattle.fri_records.specs.declared.records.Matrix.{Matrix}
 
 module _ (m : Matrix) where
   -- column `j`, from the first row down (zero is the default of that look-up, which no column

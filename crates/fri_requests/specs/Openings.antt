@@ -3,8 +3,8 @@ use Rattle.std.specs.Prelude.{◌≡◌, ◌≢◌, ℕ, List, [], map, All, Ok}
 use Rattle.algebra.specs.Nested.{lists}
 use Rattle.p3_baby_bear.specs.declared.baby_bear4.BabyBear4.{BabyBear4}
 use Rattle.p3_pcs.specs.Requests.{Request}
-use Rattle.fri_requests.specs.declared.records.Matrix.{Matrix}
-use Rattle.fri_requests.specs.declared.records.Batch.{Batch}
+use Rattle.fri_records.specs.declared.records.Matrix.{Matrix}
+use Rattle.fri_records.specs.declared.records.Batch.{Batch}
 use Rattle.fri_statement.specs.Numbers.{coefficient_numbers}
 use Rattle.fri_requests.specs.Numbers.{extension_of}
 use Rattle.fri_requests.specs.Claims.{MatrixNumbers, BatchNumbers}

@@ -22,13 +22,13 @@ use Rattle.p3_fri_relation.specs.Setting as setting
 use Rattle.p3_fri_opening_prover.specs.Setting.{OpeningSetting}
 use Rattle.p3_fri_two_adic.specs.Refusals.{OpenRefusal}
 use Rattle.p3_fri_two_adic.specs.Ranges.{InProverRange}
-use Rattle.fri_requests.specs.declared.records.Parameters.{Parameters}
-use Rattle.fri_requests.specs.declared.records.Matrix.{Matrix}
-use Rattle.fri_requests.specs.declared.records.Batch.{Batch}
-use Rattle.fri_requests.specs.declared.records.Request.{Request}
+use Rattle.fri_records.specs.declared.records.Parameters.{Parameters}
+use Rattle.fri_records.specs.declared.records.Matrix.{Matrix}
+use Rattle.fri_records.specs.declared.records.Batch.{Batch}
+use Rattle.fri_records.specs.declared.records.Request.{Request}
 use Rattle.fri_requests.specs.declared.committed.Committed.{Committed}
 use Rattle.fri_requests.specs.Numbers.{extension_of, IsElement, IsExtensionElement}
-use Rattle.fri_requests.specs.Records.{parameters_in}
+use Rattle.fri_records.specs.Records.{parameters_in}
 use Rattle.fri_requests.specs.Bound.{IsContext, context_listed, batch_asked, bound}
 use Rattle.fri_requests.specs.Statements.{IsCoset}
 use Rattle.fri_requests.specs.Commitments.{Keeps}

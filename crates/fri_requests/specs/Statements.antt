@@ -4,9 +4,9 @@ use Rattle.std.specs.Result.{result_unwrap_or}
 use Rattle.p3_fri_relation.specs.Setting.{PointClaim, MatrixClaim, CommitmentClaim}
 use Rattle.p3_fri_two_adic.specs.Ranges.{InVerifierRange}
 use Rattle.p3_baby_bear.specs.declared.baby_bear4.BabyBear4.{BabyBear4}
-use Rattle.fri_requests.specs.declared.records.Parameters.{Parameters}
-use Rattle.fri_requests.specs.declared.records.BatchClaims.{BatchClaims}
-use Rattle.fri_requests.specs.Records.{parameters_in}
+use Rattle.fri_records.specs.declared.records.Parameters.{Parameters}
+use Rattle.fri_records.specs.declared.records.BatchClaims.{BatchClaims}
+use Rattle.fri_records.specs.Records.{parameters_in}
 use Rattle.fri_requests.specs.Bound.{IsContext}
 use Rattle.fri_requests.specs.Numbers.{extension_of, IsElement, IsExtensionElement}
 use Rattle.fri_requests.specs.Claims.{PointNumbers, MatrixNumbers, BatchNumbers, batch_listed}

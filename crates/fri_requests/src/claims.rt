@@ -6,14 +6,13 @@ ghost use Rattle.hex.specs.Hex.{decode_sized};
 ghost use Rattle.p3_pcs.specs.Claims.{claim, matrix_claim, point_claim};
 ghost use Rattle.fri_requests.specs.Claims.{point_numbers, matrix_numbers, batch_numbers};
 ghost use Rattle.fri_requests.specs.Claims.{point_listed, matrix_listed, batch_listed};
-ghost use Rattle.fri_requests.specs.Failures.{IfMalformed};
+ghost use Rattle.fri_records.specs.Failures.{IfMalformed};
 ghost use Rattle.fri_statement.specs.Numbers.{coefficient_numbers};
 ghost use Rattle.fri_requests.specs.Statements.{IsPointClaim, IsMatrixClaim, IsClaim, AreClaims};
 
 use crate::elements::{coefficients, coset, domain, extension_element, extension_elements};
-use crate::fault::{Fault, Place, ReadError};
-use crate::records::{BatchClaims, MatrixClaims, PointClaims};
 use crate::scheme::{Claims, Coset};
+use fri_records::{BatchClaims, Fault, MatrixClaims, Place, PointClaims, ReadError};
 use hex::FromHex;
 use p3_field::{BabyBear, BabyBear4, TwoAdicField};
 use p3_mmcs::{CommitmentOpening, MatrixOpening, PointOpening};
@@ -172,7 +171,7 @@ pub(crate) fn claims_in(alloc: Global, claims: &[BatchClaims]) -> Result<Claims,
     for (index, batch) in claims.iter().enumerate() {
         let place = Place {
             commitment: Some(index),
-            ..Place::NONE
+            ..Place::CLAIMS
         };
         openings.push(commitment_opening(alloc, batch, place)?)?;
     }

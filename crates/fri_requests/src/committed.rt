@@ -3,13 +3,12 @@
 ghost use Rattle.std.specs.Prelude.{◌≡◌, ◌≤◌, All, IfOk, IfErr, map};
 ghost use Rattle.std.specs.List.{AllZip};
 ghost use Rattle.fri_requests.specs.Commitments.{Keeps, IsCommitmentTo};
-ghost use Rattle.fri_requests.specs.Failures.{MatchRequestError};
+ghost use Rattle.fri_records.specs.Failures.{MatchRequestError};
 ghost use Rattle.fri_requests.specs.Requests.{IsMatrix, AllMatrices, CanCommit};
 
-use crate::fault::{Place, RequestError};
 use crate::matrices::{Evaluations, batch_evaluations};
-use crate::records::{Batch, Request};
 use crate::scheme::{Coset, Data, Scheme, proving_scheme};
+use fri_records::{Batch, Place, Request, RequestError};
 use p3_challenger_sha256::Sha256Challenger;
 use p3_field::BabyBear4;
 use p3_pcs::Pcs;

@@ -4,12 +4,11 @@ ghost use Rattle.std.specs.Prelude.{◌≡◌, ◌↔◌, ◌<◌, ◌≤◌, ma
 ghost use Rattle.std.specs.Prelude.{IsSome, IfSome, IfOk, IfErr, All};
 ghost use Rattle.fri_statement.specs.Numbers.{canonical_number, coefficient_numbers};
 ghost use Rattle.fri_requests.specs.Numbers.{IsElement, IsExtensionElement};
-ghost use Rattle.fri_requests.specs.Failures.{IfMalformed};
+ghost use Rattle.fri_records.specs.Failures.{IfMalformed};
 ghost use Rattle.fri_requests.specs.Statements.{IsCoset};
 
-use crate::fault::{Fault, Misfit, Place, ReadError};
-use crate::records::Domain;
 use crate::scheme::Coset;
+use fri_records::{Domain, Fault, Misfit, Place, ReadError};
 use p3_field::{BabyBear, BabyBear4, ExtensionField, PrimeField64};
 use std::alloc::{AllocError, Global};
 
@@ -39,7 +38,7 @@ pub(crate) fn elements(
     for (index, number) in numbers.iter().enumerate() {
         let Some(value) = element(*number) else {
             let place = Place {
-                number: Some(index),
+                value: Some(index),
                 ..place
             };
             return Err(place.lacks(Fault::Element).into());
@@ -91,7 +90,7 @@ pub(crate) fn extension_elements(
     let mut values = Vec::with_capacity(alloc, lists.len())?;
     for (index, numbers) in lists.iter().enumerate() {
         let place = Place {
-            number: Some(index),
+            value: Some(index),
             ..place
         };
         values.push(extension_element(numbers, place)?)?;

@@ -16,20 +16,19 @@
 mod claims;
 mod committed;
 mod elements;
-mod fault;
 mod matrices;
 mod opening;
-mod records;
+mod prepared;
 mod scheme;
 mod statement;
 mod verification;
 
 pub use crate::committed::commit;
-pub use crate::fault::{Fault, Misfit, Place, ReadError, RequestError, VerifierError, VerifyError};
 pub use crate::opening::{Opening, open};
-pub use crate::records::{
-    Batch, BatchClaims, Domain, Matrix, MatrixClaims, Parameters, PointClaims, Request,
-};
 pub use crate::scheme::Proof;
 pub use crate::statement::challenge;
 pub use crate::verification::verify;
+pub use fri_records::{
+    Batch, BatchClaims, Domain, Fault, Matrix, MatrixClaims, Misfit, Parameters, Place,
+    PointClaims, ReadError, Record, Request, RequestError, VerifierError, VerifyError,
+};

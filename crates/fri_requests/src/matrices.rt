@@ -8,16 +8,15 @@ ghost use Rattle.p3_matrix.specs.Rows.{rows_of};
 ghost use Rattle.p3_fri_extensions.specs.Extension.{FitsDomain};
 ghost use Rattle.p3_fri_two_adic.specs.Chunks.{polynomials_on};
 ghost use Rattle.fri_requests.specs.Commitments.{domain_of};
-ghost use Rattle.fri_requests.specs.Failures.{IfMalformed};
+ghost use Rattle.fri_records.specs.Failures.{IfMalformed};
 ghost use Rattle.fri_requests.specs.Matrices.{held_listed};
 ghost use Rattle.fri_statement.specs.Numbers.{coefficient_numbers};
 ghost use Rattle.fri_requests.specs.Requests.{IsMatrix, HasPoints};
 ghost use Rattle.fri_statement.specs.Setting.{fields};
 
 use crate::elements::{coset, elements, extension_element};
-use crate::fault::{Fault, Place, ReadError};
-use crate::records::{Batch, Matrix};
 use crate::scheme::Coset;
+use fri_records::{Batch, Fault, Matrix, Place, ReadError};
 use p3_field::{BabyBear, BabyBear4, TwoAdicField};
 use p3_matrix::RowMajorMatrix;
 use std::alloc::Global;

@@ -2,7 +2,7 @@
 
 ghost use Rattle.std.specs.Prelude.{◌≡◌, ◌^◌, All, IfOk, IfErr, length, map, string_bytes};
 ghost use Rattle.std.specs.List.{AllZip};
-ghost use Rattle.algebra.specs.Nested.{lists, nested};
+ghost use Rattle.algebra.specs.Nested.{nested};
 ghost use Rattle.p3_mmcs.specs.ProverData.{matrices_of, root_over};
 ghost use Rattle.p3_pcs.specs.Claims.{claim, zip_with};
 ghost use Rattle.p3_pcs.specs.Requests.{request, AreOpenable, AreHonest, FitDomains};
@@ -17,44 +17,23 @@ ghost use Rattle.p3_fri_two_adic.specs.Ranges.{InProverRange};
 ghost use Rattle.fri_requests.specs.Accepted.{IsAccepted};
 ghost use Rattle.fri_requests.specs.Claims.{batch_listed};
 ghost use Rattle.fri_requests.specs.Commitments.{IsKept};
-ghost use Rattle.fri_requests.specs.Failures.{IfMalformed, MatchRequestError};
-ghost use Rattle.fri_statement.specs.Numbers.{coefficient_numbers};
+ghost use Rattle.fri_records.specs.Failures.{MatchRequestError};
 ghost use Rattle.fri_requests.specs.Openings.{HavePoints, IsOpened, request_for};
-ghost use Rattle.fri_requests.specs.Requests.{AllMatrices, HasPoints, CanOpen, IsRefusedRequest};
+ghost use Rattle.fri_requests.specs.Requests.{CanOpen, IsRefusedRequest};
 ghost use Rattle.fri_requests.specs.Requests.{HasLists, HaveMatrix, Refuses};
 ghost use Rattle.fri_statement.specs.Setting.{fields, sha256_setting};
 
 use crate::claims::claims_out;
-use crate::committed::{Committed, commit_all};
-use crate::fault::{Fault, Place, ReadError, RequestError};
-use crate::matrices::batch_points;
-use crate::records::{Batch, BatchClaims, Request};
+use crate::committed::Committed;
+use crate::prepared::prepare;
 use crate::scheme::{Claims, Coset, Data, Inputs, Proof, Scheme, proving_scheme};
-use crate::statement::{batches_stated, bound_challenger};
 use crate::verification::next_drawn;
+use fri_records::{BatchClaims, Fault, Place, Request, RequestError};
 use p3_challenger_sha256::Sha256Challenger;
 use p3_field::BabyBear4;
 use p3_fri_openings::are_openable;
 use p3_pcs::{KnownCommitment, OpeningRequest, Pcs, claims_of};
 use std::alloc::{AllocError, Global};
-
-/// The points of each matrix of each commitment.
-fn points_of(alloc: Global, batches: &[Batch]) -> Result<Vec<Vec<Vec<BabyBear4>>>, ReadError>
-    ensures numbers { IfOk result (λ all. map (map (map coefficient_numbers)) (nested all.items)
-        ≡ map (λ batch. map (λ m. lists m.points.items) batch.matrices.items) batches.now) }
-    ensures some { IfOk result (λ all. HavePoints (nested all.items)) }
-    ensures refused { IfErr result (IfMalformed (¬ AllMatrices HasPoints batches.now)) }
-{
-    let mut all = Vec::with_capacity(alloc, batches.len())?;
-    for (index, batch) in batches.iter().enumerate() {
-        let place = Place {
-            commitment: Some(index),
-            ..Place::NONE
-        };
-        all.push(batch_points(alloc, batch, place)?)?;
-    }
-    Ok(all)
-}
 
 /// What a verifier knows of the commitments.
 fn known_of(
@@ -202,21 +181,18 @@ pub fn open(alloc: Global, request: &Request) -> Result<Opening, RequestError>
         Ok(scheme) => scheme,
         Err(misfit) => return Err(RequestError::Malformed(misfit)),
     };
-    let points = points_of(alloc, &request.commitments)?;
-    let log_blowup = request.parameters.log_blowup;
-    let mut all = commit_all(alloc, &mut scheme, log_blowup, &request.commitments)?;
-    let stated = batches_stated(alloc, log_blowup, &all, &points, &request.commitments)?;
-    let mut challenger = bound_challenger(alloc, &request.context, &request.parameters, &stated)?;
+    let mut prepared = prepare(alloc, &mut scheme, request)?;
+    let points = prepared.points;
     let (claims, proof) = open_committed(
         alloc,
         &scheme,
-        all.as_mut_slice(),
+        prepared.committed.as_mut_slice(),
         points,
-        &mut challenger,
+        &mut prepared.challenger,
     )?;
     Ok(Opening {
         claims: claims_out(alloc, &claims)?,
         proof,
-        next_challenge: next_drawn(alloc, &mut challenger)?,
+        next_challenge: next_drawn(alloc, &mut prepared.challenger)?,
     })
 }

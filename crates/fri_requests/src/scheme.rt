@@ -3,11 +3,10 @@
 ghost use Rattle.std.specs.Prelude.{◌≡◌, ◌<◌, ◌≤◌, ◌↔◌, IsTrue, IfOk, IfErr};
 ghost use Rattle.p3_fri_relation.specs.Views.{parameters_of};
 ghost use Rattle.p3_fri_two_adic.specs.Ranges.{InProverRange, InVerifierRange};
-ghost use Rattle.fri_requests.specs.Records.{parameters_in, AreDifficultiesLow};
+ghost use Rattle.fri_records.specs.Records.{parameters_in, AreDifficultiesLow};
 ghost use Rattle.fri_requests.specs.Requests.{AreProvers};
 
-use crate::fault::{Fault, Misfit, Place};
-use crate::records::Parameters;
+use fri_records::{Fault, Misfit, Parameters, Place};
 use p3_dft::Radix2Dit;
 use p3_field::{BabyBear, BabyBear4, TwoAdicField, TwoAdicMultiplicativeCoset};
 use p3_fri_folding::FriParameters;

@@ -13,14 +13,13 @@ ghost use Rattle.fri_requests.specs.Bound.{matrix_claimed, batch_claimed};
 ghost use Rattle.fri_requests.specs.Bound.{matrix_asked, batch_asked};
 ghost use Rattle.fri_requests.specs.Claims.{point_numbers, matrix_numbers, batch_numbers};
 ghost use Rattle.fri_requests.specs.Commitments.{Keeps, domain_of};
-ghost use Rattle.fri_requests.specs.Failures.{IfMalformed};
-ghost use Rattle.fri_requests.specs.Records.{parameters_in};
+ghost use Rattle.fri_records.specs.Failures.{IfMalformed};
+ghost use Rattle.fri_records.specs.Records.{parameters_in};
 
 use crate::committed::Committed;
 use crate::elements::coefficients;
-use crate::fault::{Fault, Place, ReadError};
-use crate::records::{Batch, Parameters};
 use crate::scheme::{Coset, fri_of};
+use fri_records::{Batch, Fault, Parameters, Place, ReadError};
 use fri_statement::{StatedCommitment, StatedMatrix, absorb_statement, challenge_after};
 use hex::FromHexError;
 use p3_challenger_sha256::Sha256Challenger;

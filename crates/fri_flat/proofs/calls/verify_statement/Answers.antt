@@ -4,8 +4,8 @@ use Rattle.std.specs.Global.{Global}
 use Rattle.std.specs.declared.vec.Vec.{Vec}
 use Rattle.p3_fri_relation.specs.Views.{proof_of}
 use Rattle.p3_fri_plain.specs.Views.{proof_listed}
-use Rattle.fri_requests.specs.declared.records.BatchClaims.{BatchClaims}
-use Rattle.fri_requests.specs.declared.fault.VerifyError.{VerifyError}
+use Rattle.fri_records.specs.declared.records.BatchClaims.{BatchClaims}
+use Rattle.fri_records.specs.declared.fault.VerifyError.{VerifyError}
 use Rattle.fri_requests.specs.Accepted.{IsAccepted}
 use Rattle.fri_flat.specs.declared.statement.Statement.{Statement}
 use Rattle.fri_flat.specs.Answers.{VectorProof, numbers_of, IsAcceptedStatement}

@@ -3,7 +3,7 @@ use Rattle.std.specs.List.{AllZip}
 use Rattle.std.proofs.Common.{take, ◌+◌}
 use Rattle.std.proofs.lemmas.Result.{IfOk-from_err}
 use Rattle.p3_fri_openings.proofs.First.{one_more, to_the_end, at_item}
-use Rattle.fri_requests.specs.declared.records.Batch.{Batch}
+use Rattle.fri_records.specs.declared.records.Batch.{Batch}
 use Rattle.fri_requests.specs.Commitments.{Keeps}
 use Rattle.fri_requests.specs.Requests.{IsMatrix}
 use Rattle.fri_requests.proofs.Failed.{request_part, request_wants}

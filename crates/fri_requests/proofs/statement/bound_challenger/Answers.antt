@@ -10,7 +10,7 @@ use Rattle.p3_fri_relation.specs.Views.{parameters_of}
 use Rattle.fri_statement.specs.Stated.{opened_commitment}
 use Rattle.fri_statement.specs.Statement.{OpenedCommitment, statement_absorbed}
 use Rattle.fri_requests.specs.Bound.{context_listed, bound}
-use Rattle.fri_requests.specs.Records.{parameters_in}
+use Rattle.fri_records.specs.Records.{parameters_in}
 use Rattle.fri_requests.proofs.Failed.{read_wants}
 use Rattle.fri_requests.proofs.statement.bound_challenger.Goals as goal
 

@@ -4,7 +4,7 @@ use Rattle.algebra.specs.Nested.{lists}
 use Rattle.algebra.proofs.Lists.{map-map}
 use Rattle.fri_statement.specs.Numbers.{coefficient_numbers}
 use Rattle.fri_statement.specs.Stated.{opened_matrix}
-use Rattle.fri_requests.specs.declared.records.Domain.{Domain}
+use Rattle.fri_records.specs.declared.records.Domain.{Domain}
 use Rattle.fri_requests.specs.Bound.{matrix_asked}
 use Rattle.fri_requests.specs.Commitments.{domain_of}
 use Rattle.fri_requests.proofs.Bound.{entries_alike}

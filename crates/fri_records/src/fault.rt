@@ -1,11 +1,11 @@
 //! Why a record is refused, and where.
 
 ghost use Rattle.std.specs.Prelude.{◌≡◌};
-ghost use Rattle.fri_requests.specs.declared.fault.RequestError.TheVariants as request;
-ghost use Rattle.fri_requests.specs.declared.fault.ReadError.TheVariants as read;
-ghost use Rattle.fri_requests.specs.declared.fault.VerifyError.TheVariants as statement;
-ghost use Rattle.fri_requests.specs.Failures.{unread_request, unopened, unread, failure_of};
-ghost use Rattle.fri_requests.specs.Failures.{IsUnformed};
+ghost use Rattle.fri_records.specs.declared.fault.RequestError.TheVariants as request;
+ghost use Rattle.fri_records.specs.declared.fault.ReadError.TheVariants as read;
+ghost use Rattle.fri_records.specs.declared.fault.VerifyError.TheVariants as statement;
+ghost use Rattle.fri_records.specs.Failures.{unread_request, unopened, unread, failure_of};
+ghost use Rattle.fri_records.specs.Failures.{IsUnformed};
 
 use p3_fri_folding::FriProverError;
 use p3_fri_plain::PlainProofError;
@@ -53,18 +53,18 @@ pub enum Fault {
 }
 
 impl Fault {
-    /// What was expected at its place.
+    /// What was expected of its field.
     pub fn expected(&self) -> &'static str {
         match self {
-            Fault::LogBlowup => "log_blowup from 1 to 27",
-            Fault::LogFinalPolyLen => "log_blowup and log_final_poly_len below 64 together",
-            Fault::MaxLogArity => "max_log_arity above 0",
-            Fault::NumQueries => "num_queries above 0",
+            Fault::LogBlowup => "a number from 1 to 27",
+            Fault::LogFinalPolyLen => "a number below 64 together with log_blowup",
+            Fault::MaxLogArity => "a number above 0",
+            Fault::NumQueries => "a number above 0",
             Fault::ProofOfWorkBits => "proofs of work of at most 63 bits",
             Fault::Matrices => "some matrix",
-            Fault::LogSize => "a log_size up to 27, with log_blowup where it is committed to",
-            Fault::Shift => "a shift from 1 to 2013265920",
-            Fault::Width => "a width above 0",
+            Fault::LogSize => "a number up to 27, with log_blowup where it is committed to",
+            Fault::Shift => "a number from 1 to 2013265920",
+            Fault::Width => "a number above 0",
             Fault::Values => "as many values as the domain has points, times the width",
             Fault::Points => "some point",
             Fault::Element => "a number below 2013265921",
@@ -74,36 +74,73 @@ impl Fault {
             Fault::Context => "an even number of hex digits",
         }
     }
+
+    /// The field that has it, of what is at its place; of the whole where that has no name.
+    fn field(&self) -> &'static str {
+        match self {
+            Fault::LogBlowup => "parameters.log_blowup",
+            Fault::LogFinalPolyLen => "parameters.log_final_poly_len",
+            Fault::MaxLogArity => "parameters.max_log_arity",
+            Fault::NumQueries => "parameters.num_queries",
+            Fault::ProofOfWorkBits => "parameters",
+            Fault::Matrices => "commitments",
+            Fault::LogSize => ".domain.log_size",
+            Fault::Shift => ".domain.shift",
+            Fault::Width => ".width",
+            Fault::Values => ".values",
+            Fault::Points => ".points",
+            Fault::Element | Fault::ExtensionElement | Fault::Digest => "",
+            Fault::Commitment => ".commitment",
+            Fault::Context => "context",
+        }
+    }
+}
+
+/// What a place is in.
+#[derive(Clone, Copy, Debug)]
+pub enum Record {
+    Request,
+    Claims,
+    Proof,
 }
 
 /// Where in a record, by positions that count from 0: the commitment, its matrix, and of that the
-/// point and the number. Without any it is in the parameters, the context, the proof or the whole.
+/// point and the value. Without any it is in the parameters, the context, the proof or the whole.
 #[derive(Clone, Copy, Debug)]
 pub struct Place {
-    pub is_in_proof: bool,
+    pub record: Record,
     pub commitment: Option<usize>,
     pub matrix: Option<usize>,
     pub point: Option<usize>,
-    pub number: Option<usize>,
+    pub value: Option<usize>,
 }
 
 impl Place {
-    /// No place in particular.
+    /// No place in particular, of a request or of the parameters and the context of a statement.
     pub const NONE: Place = Place {
-        is_in_proof: false,
+        record: Record::Request,
         commitment: None,
         matrix: None,
         point: None,
-        number: None,
+        value: None,
+    };
+
+    /// Somewhere in claims.
+    pub const CLAIMS: Place = Place {
+        record: Record::Claims,
+        commitment: None,
+        matrix: None,
+        point: None,
+        value: None,
     };
 
     /// Somewhere in the proof.
     pub const PROOF: Place = Place {
-        is_in_proof: true,
+        record: Record::Proof,
         commitment: None,
         matrix: None,
         point: None,
-        number: None,
+        value: None,
     };
 
     /// The fault at this place.
@@ -111,26 +148,37 @@ impl Place {
         Misfit { fault, place: self }
     }
 
-    /// Prints each level that is known, with a comma after it.
-    pub fn fmt_levels<W: fmt::Write>(&self, f: &mut fmt::Formatter<W>) -> fmt::Result {
-        if self.is_in_proof {
-            f.write_str("proof, ")?;
+    /// Prints the fields that lead to the place, as `claims[1].matrices[0].points[2]`, and nothing
+    /// of none.
+    pub fn fmt_fields<W: fmt::Write>(&self, f: &mut fmt::Formatter<W>) -> fmt::Result {
+        let commitments = match self.record {
+            Record::Request => "commitments",
+            Record::Claims => "claims",
+            Record::Proof => return f.write_str("proof"),
+        };
+        fmt_entry(f, commitments, self.commitment)?;
+        fmt_entry(f, ".matrices", self.matrix)?;
+        fmt_entry(f, ".points", self.point)?;
+        fmt_entry(f, ".values", self.value)
+    }
+
+    /// The field of a point that claims have there, where the place is no value's.
+    fn point_field(&self) -> &'static str {
+        match (self.record, self.value) {
+            (Record::Claims, None) => ".point",
+            _ => "",
         }
-        fmt_level(f, "commitment", self.commitment)?;
-        fmt_level(f, "matrix", self.matrix)?;
-        fmt_level(f, "point", self.point)?;
-        fmt_level(f, "number", self.number)
     }
 }
 
-/// Prints one level of a place, if it is known.
-fn fmt_level<W: fmt::Write>(
+/// Prints the entry of a list, if its position is known.
+fn fmt_entry<W: fmt::Write>(
     f: &mut fmt::Formatter<W>,
-    name: &str,
+    list: &str,
     index: Option<usize>,
 ) -> fmt::Result {
     match index {
-        Some(index) => write!(f, "{name} {index}, "),
+        Some(index) => write!(f, "{list}[{index}]"),
         None => Ok(()),
     }
 }
@@ -142,13 +190,18 @@ pub struct Misfit {
     pub place: Place,
 }
 
+/// The fault's name, its field, and what was expected, as
+/// `Element: commitments[0].matrices[0].values[1]: expected a number below 2013265921`.
 impl fmt::Display for Misfit {
     fn fmt<W: fmt::Write>(&self, f: &mut fmt::Formatter<W>) -> fmt::Result {
         let fault = self.fault;
         write!(f, "{fault:?}: ")?;
-        self.place.fmt_levels(f)?;
-        f.write_str("expected ")?;
-        f.write_str(fault.expected())
+        self.place.fmt_fields(f)?;
+        let field = match fault {
+            Fault::Element | Fault::ExtensionElement => self.place.point_field(),
+            _ => fault.field(),
+        };
+        write!(f, "{field}: expected {}", fault.expected())
     }
 }
 

@@ -2,7 +2,7 @@ use Rattle.std.proofs.Common.{◌≡◌, map, take}
 use Rattle.algebra.specs.Nested.{lists, nested}
 use Rattle.fri_statement.specs.Numbers.{coefficient_numbers}
 use Rattle.fri_requests.specs.Openings.{HavePoints}
-use Rattle.fri_requests.proofs.opening.points_of.Given as goal
+use Rattle.fri_requests.proofs.prepared.points_of.Given as goal
 
 abbrev pub invariant-loop-index : goal.invariant-loop-index
 invariant-loop-index l = record {

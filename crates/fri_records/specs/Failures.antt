@@ -8,13 +8,13 @@ use Rattle.p3_fri_relation.specs.declared.error.FriError.{FriError}
 use Rattle.p3_fri_relation.specs.declared.error.FriError.TheVariants as refusal
 use Rattle.p3_fri_plain.specs.declared.error.PlainProofError.{PlainProofError}
 use Rattle.p3_fri_plain.specs.declared.error.PlainProofError.TheVariants as form
-use Rattle.fri_requests.specs.declared.fault.ReadError.{ReadError}
-use Rattle.fri_requests.specs.declared.fault.ReadError.TheVariants as read
-use Rattle.fri_requests.specs.declared.fault.RequestError.{RequestError}
-use Rattle.fri_requests.specs.declared.fault.RequestError.TheVariants as request
-use Rattle.fri_requests.specs.declared.fault.VerifyError.{VerifyError}
-use Rattle.fri_requests.specs.declared.fault.VerifyError.TheVariants.{Malformed, Refused}
-use Rattle.fri_requests.specs.declared.fault.VerifyError.TheVariants.{OutOfMemory}
+use Rattle.fri_records.specs.declared.fault.ReadError.{ReadError}
+use Rattle.fri_records.specs.declared.fault.ReadError.TheVariants as read
+use Rattle.fri_records.specs.declared.fault.RequestError.{RequestError}
+use Rattle.fri_records.specs.declared.fault.RequestError.TheVariants as request
+use Rattle.fri_records.specs.declared.fault.VerifyError.{VerifyError}
+use Rattle.fri_records.specs.declared.fault.VerifyError.TheVariants.{Malformed, Refused}
+use Rattle.fri_records.specs.declared.fault.VerifyError.TheVariants.{OutOfMemory}
 
 -- the fact that holds where a record isn't well formed; want of memory says nothing
 abbrev pub IfMalformed : Type 0 → ReadError → Type 0

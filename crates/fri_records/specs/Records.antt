@@ -1,6 +1,6 @@
 -- What the verified relation sees of records.
 use Rattle.std.specs.Prelude.{◌≤◌}
-use Rattle.fri_requests.specs.declared.records.Parameters.{Parameters}
+use Rattle.fri_records.specs.declared.records.Parameters.{Parameters}
 use Rattle.p3_fri_relation.specs.Setting as setting
 
 -- the parameters that the relation speaks of
