@@ -1,4 +1,4 @@
-use Rattle.std.proofs.Common.{map, sym, subst, ap, ◌∙◌, ◌≤◌, All}
+use Rattle.std.proofs.Common.{map, sym, subst, ap, ◌∙◌, All}
 use Rattle.std.specs.Prelude.{string_bytes}
 use Rattle.std.specs.List.{AllZip}
 use Rattle.std.proofs.lemmas.Result.{IfOk-from_err}
