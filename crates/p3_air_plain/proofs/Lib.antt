@@ -1,0 +1,3 @@
+pub mod Refused
+pub mod Rows
+pub mod Same
