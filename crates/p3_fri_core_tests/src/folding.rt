@@ -1,6 +1,6 @@
 //! Folds of rows and of matrices, by strategies over the whole two-adicity.
 
-ghost use Rattle.std.specs.Prelude.{◌≡◌, ◌+◌, ◌<◌, ◌≤◌, ◌^◌, length};
+ghost use Rattle.std.specs.Prelude.{◌≡◌, ◌+◌, ◌<◌, ◌≤◌, ◌^◌, length, IfSome};
 ghost use Rattle.p3_matrix.specs.Matrix.{rows, matrix_width};
 
 use p3_field::{
@@ -29,12 +29,35 @@ fn rows_fold_to<EF: ExtensionField<BabyBear>, S: FriFoldingStrategy<BabyBear, EF
     requires width { matrix_width matrix.now ≡ 2 ^ log_arity }
     requires within_max_height { log_height + log_arity ≤ S.max_log_height folding.now }
 {
-    let mut agree = word.len() == matrix.height();
     for index in 0..matrix.height() {
         let fold = folding.fold_row(index, log_height, log_arity, beta, matrix.row(index));
-        agree = agree && word.get(index) == Some(&fold);
+        if word.get(index) != Some(&fold) {
+            return false;
+        }
     }
-    agree
+    word.len() == matrix.height()
+}
+
+/// The values as `2^log_height` rows of `2^log_arity`, if they are so many.
+fn rows_of<EF: Copy + Drop>(
+    values: Vec<EF>,
+    log_height: usize,
+    log_arity: usize,
+) -> Option<RowMajorMatrix<EF>>
+    requires arity { log_arity ≤ 4 }
+    requires height { log_height < 24 }
+    ensures height { IfSome result (λ matrix. length (rows matrix) ≡ 2 ^ log_height) }
+    ensures width { IfSome result (λ matrix. matrix_width matrix ≡ 2 ^ log_arity) }
+{
+    let width = 1 << log_arity;
+    if values.len() % width != 0 {
+        return None;
+    }
+    let matrix = RowMajorMatrix::new(values, width);
+    if matrix.height() != 1 << log_height {
+        return None;
+    }
+    Some(matrix)
 }
 
 /// The word to which the values fold as `2^log_height` rows of `2^log_arity`, if each of its
@@ -52,26 +75,12 @@ fn folded<EF: ExtensionField<BabyBear>, S: FriFoldingStrategy<BabyBear, EF>>(
     requires height { log_height < 24 }
     requires within_max_height { log_height + log_arity ≤ S.max_log_height folding.now }
 {
-    let width = 1 << log_arity;
-    let Ok(values) = values else {
-        return None;
-    };
-    if values.len() % width != 0 {
-        return None;
-    }
-    let matrix = RowMajorMatrix::new(values, width);
-    if matrix.height() != 1 << log_height {
-        return None;
-    }
-    match folding.fold_matrix(alloc, beta, log_arity, &matrix) {
-        Ok(word) => {
-            if rows_fold_to(folding, &matrix, log_height, log_arity, beta, &word) {
-                Some(word)
-            } else {
-                None
-            }
-        }
-        Err(_) => None,
+    let matrix = rows_of(values.ok()?, log_height, log_arity)?;
+    let word = folding.fold_matrix(alloc, beta, log_arity, &matrix).ok()?;
+    if rows_fold_to(folding, &matrix, log_height, log_arity, beta, &word) {
+        Some(word)
+    } else {
+        None
     }
 }
 
