@@ -1,3 +1,4 @@
 mod Each
+mod LargerDomains
 mod Maskable
 mod Readable

@@ -1,3 +1,3 @@
 pub mod Chunks
-pub mod Committable
 pub mod Inputs
+pub mod TestedLaws

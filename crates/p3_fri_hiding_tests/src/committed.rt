@@ -1,156 +1,107 @@
-//! What the scheme commits to, and what it reads of that.
+//! What a scheme commits to, and what it reads of that.
 
-ghost use Rattle.std.specs.Prelude.{◌≡◌, ◌+◌, ◌≤◌, All, IfOk, IsTrue};
-ghost use Rattle.p3_fri_two_adic.specs.Ldes.{HasLdeHeight};
-ghost use Rattle.p3_fri_hiding.specs.Data.{IsOfScheme};
-ghost use Rattle.p3_fri_hiding.specs.Trace.{FitsMasked};
-ghost use Rattle.p3_fri_hiding_tests.specs.Committable.{IsCommittable};
+ghost use Rattle.std.specs.Prelude.{IfOk, IfSome, IsTrue, length};
+ghost use Rattle.p3_fri_hiding_tests.specs.Inputs.{CanCommitTo};
 
-use crate::chunks::are_maskable;
+use crate::chunks::domains_of;
 use crate::commitments::{Reading, commit_to, read};
 use crate::input::Input;
-use crate::matrices::is_doubled;
-use crate::scheme::{Data, Domain, Inputs, Scheme};
+use crate::matrices::{Entries, evaluations};
+use crate::scheme::Domain;
+use crate::tested::Tested;
 use p3_challenger::Sha256Challenger;
-use p3_field::{BabyBear, BabyBear4, Field, TwoAdicMultiplicativeCoset};
-use p3_fri_hiding_openings::{committed_matrices, hidden_columns};
+use p3_field::{BabyBear, BabyBear4};
 use p3_fri_masks::HidingFriProverError;
-use p3_fri_relation::setting::ChallengeField;
-use p3_matrix::RowMajorMatrix;
-use p3_mmcs::Mmcs;
 use std::alloc::{AllocError, Global};
 use std::test::Fail;
 
 /// What is committed to.
 pub(crate) type Committing = Input<Domain, BabyBear>;
 
-/// Whether each matrix stands beside a domain of twice as many points.
-fn are_doubled(evaluations: &[(Domain, RowMajorMatrix<BabyBear>)]) -> bool
-    ensures { IsTrue result → All (λ e. FitsMasked 27 2 e.0.log_size e.1) evaluations.now }
-{
-    for evaluation in evaluations {
-        if !is_doubled(evaluation.0, &evaluation.1) {
-            return false;
-        }
-    }
-    true
-}
+/// What is read of each matrix.
+pub(crate) type Readings = Vec<Reading<BabyBear>>;
 
-/// Whether this can be words, with a blowup of 4.
-fn is_word(word: &RowMajorMatrix<BabyBear>) -> bool
-    ensures { IsTrue result → HasLdeHeight 27 2 word.now }
-{
-    let height = word.height();
-    let log_height = height.trailing_zeros() as usize;
-    let Some(domain) = TwoAdicMultiplicativeCoset::new(BabyBear::ONE, log_height) else {
-        return false;
-    };
-    if domain.log_size() < 2 || domain.size() != height {
-        return false;
-    }
-    true
-}
-
-/// Whether each can.
-fn are_words(words: &[RowMajorMatrix<BabyBear>]) -> bool
-    ensures { IsTrue result → All (HasLdeHeight 27 2) words.now }
-{
-    for word in words {
-        if !is_word(word) {
-            return false;
-        }
-    }
-    true
-}
-
-/// Whether each domain is small.
-fn are_small(domains: &[Domain]) -> bool
-    ensures { IsTrue result → All (λ d. d.log_size + 2 ≤ 27) domains.now }
-{
-    for domain in domains {
-        if domain.log_size() > 8 {
-            return false;
-        }
-    }
-    true
-}
-
-/// Whether this may be committed to, with a blowup of 4.
-fn is_committable(alloc: Global, input: &Committing) -> Result<bool, AllocError>
-    ensures { IfOk result (λ answer. IsTrue answer → IsCommittable ⟦<BabyBear as Field>⟧.ops
-        (λ d. d.shift) (λ d. d.log_size) 2 input.now) }
+/// Whether this may be committed to.
+fn is_committable<P: Tested>(
+    scheme: &P,
+    alloc: Global,
+    input: &Committing,
+) -> Result<bool, AllocError>
+    requires { P.IsTested scheme.now }
+    ensures { let t = P.stark_rules scheme.now in IfOk result (λ answer. IsTrue answer
+        → CanCommitTo (P.rules scheme.now).CanCommit (λ es. t.CanExtend es (length es))
+        t.CanCommitLdes t.CanRandomize input.now) }
 {
     match input {
-        Input::Private(evaluations) => Ok(are_doubled(evaluations)),
-        Input::Preprocessed(evaluations) => Ok(are_doubled(evaluations)),
-        Input::Ldes(words) => Ok(are_words(words)),
-        Input::Chunks(chunks) => are_maskable(alloc, chunks),
-        Input::Random(domains) => Ok(are_small(domains)),
-    }
-}
-
-/// What is read of a matrix, which has a column beside those that hide the others.
-fn reading(
-    scheme: &Scheme,
-    alloc: Global,
-    held: &Data,
-    index: usize,
-    domain: Domain,
-) -> Result<Reading<BabyBear>, Fail>
-    requires { IsOfScheme ⟦<BabyBear4 as ChallengeField<BabyBear>>⟧.fields
-        ⟦<Inputs as Mmcs<BabyBear>>⟧.committed scheme.now.fri.log_blowup
-        scheme.now.num_random_codewords held.now }
-{
-    let hidden = hidden_columns(held, held.num_random_codewords());
-    let matrices = committed_matrices(&Inputs::new(), held);
-    if index >= matrices.len() || matrices[index].width() <= hidden {
-        return Err(Fail::new("no such matrix"));
-    }
-    match read::<BabyBear4, Sha256Challenger, Scheme>(scheme, alloc, held, index, domain) {
-        Ok(reading) => Ok(reading),
-        Err(_) => Err(Fail::new("memory was refused")),
+        Input::Private(evaluations) => Ok(scheme.can_commit(evaluations)),
+        Input::Preprocessed(evaluations) => Ok(scheme.can_commit(evaluations)),
+        Input::Ldes(words) => Ok(scheme.can_commit_ldes(words)),
+        Input::Chunks(chunks) => scheme.can_extend(alloc, chunks),
+        Input::Random(domains) => Ok(scheme.can_randomize(domains)),
     }
 }
 
 /// What is read of each matrix on the domain of its index.
-fn readings(
-    scheme: &Scheme,
+fn readings<P: Tested>(
+    scheme: &P,
     alloc: Global,
-    held: &Data,
+    held: &P::ProverData,
     domains: &[Domain],
-) -> Result<Vec<Reading<BabyBear>>, Fail>
-    requires { IsOfScheme ⟦<BabyBear4 as ChallengeField<BabyBear>>⟧.fields
-        ⟦<Inputs as Mmcs<BabyBear>>⟧.committed scheme.now.fri.log_blowup
-        scheme.now.num_random_codewords held.now }
+) -> Result<Readings, Fail>
+    requires { (P.stark_rules scheme.now).IsReadable held.now }
 {
     let mut all = Vec::new(alloc);
     for index in 0..domains.len() {
-        all.push(reading(scheme, alloc, held, index, domains[index])?)?;
+        if !scheme.can_read(held, index) {
+            return Err(Fail::new("no such matrix"));
+        }
+        let domain = domains[index];
+        match read::<BabyBear4, Sha256Challenger, P>(scheme, alloc, held, index, domain) {
+            Ok(reading) => all.push(reading)?,
+            Err(_) => return Err(Fail::new("memory was refused")),
+        }
     }
     Ok(all)
 }
 
 /// The data of a commitment, and what is read of it.
 #[derive(Drop)]
-pub(crate) struct Committed {
+pub(crate) struct Committed<Data> {
     pub held: Data,
-    pub readings: Vec<Reading<BabyBear>>,
+    pub readings: Readings,
+}
+
+/// Commits to this.
+fn commit_tested<P: Tested>(
+    scheme: &mut P,
+    alloc: Global,
+    input: Committing,
+) -> Result<Option<([u8; 32], P::ProverData)>, HidingFriProverError>
+    requires tested { P.IsTested scheme.old }
+    requires committable { let t = P.stark_rules scheme.old in
+        CanCommitTo (P.rules scheme.old).CanCommit (λ es. t.CanExtend es (length es))
+        t.CanCommitLdes t.CanRandomize input }
+    ensures tested { P.IsTested scheme.new }
+    ensures readable { IfOk result (λ found.
+        IfSome found (λ pair. (P.stark_rules scheme.new).IsReadable pair.1)) }
+{
+    commit_to::<BabyBear4, Sha256Challenger, P>(scheme, alloc, input)
 }
 
 /// Commits to this, and reads each matrix on the domain of its index, or says why it can't.
-pub(crate) fn commit_and_read(
-    scheme: &mut Scheme,
+pub(crate) fn commit_and_read<P: Tested>(
+    scheme: &mut P,
     alloc: Global,
     input: Committing,
     domains: &[Domain],
-) -> Result<Result<Committed, HidingFriProverError>, Fail>
-    requires { scheme.old.fri.log_blowup ≡ 2 }
-    ensures { scheme.new ≡ record scheme.old { rng = scheme.new.rng } }
+) -> Result<Result<Committed<P::ProverData>, HidingFriProverError>, Fail>
+    requires { P.IsTested scheme.old }
+    ensures { P.IsTested scheme.new }
 {
-    if !is_committable(alloc, &input)? {
+    if !is_committable(&*scheme, alloc, &input)? {
         return Err(Fail::new("this can't be committed to"));
     }
-    match commit_to::<BabyBear4, Sha256Challenger, Scheme>(&mut *scheme, alloc, input) {
+    match commit_tested(&mut *scheme, alloc, input) {
         Ok(Some(pair)) => {
             let (_commitment, held) = pair;
             let readings = readings(&*scheme, alloc, &held, domains)?;
@@ -159,4 +110,40 @@ pub(crate) fn commit_and_read(
         Ok(None) => Err(Fail::new("nothing is committed to")),
         Err(refusal) => Ok(Err(refusal)),
     }
+}
+
+/// What is read of a commitment to this, on the domain of each index, if it isn't refused.
+pub(crate) fn read_next<P: Tested>(
+    scheme: &mut P,
+    alloc: Global,
+    input: Committing,
+    domains: &[Domain],
+) -> Result<Option<Readings>, Fail>
+    requires { P.IsTested scheme.old }
+    ensures { P.IsTested scheme.new }
+{
+    match commit_and_read(scheme, alloc, input, domains)? {
+        Ok(committed) => Ok(Some(committed.readings)),
+        Err(_) => Ok(None),
+    }
+}
+
+/// The same of these matrices, as preprocessing or private, on the domains beside them.
+pub(crate) fn read_entries<P: Tested>(
+    scheme: &mut P,
+    alloc: Global,
+    each: &[Entries],
+    is_preprocessing: bool,
+) -> Result<Option<Readings>, Fail>
+    requires { P.IsTested scheme.old }
+    ensures { P.IsTested scheme.new }
+{
+    let evaluations = evaluations(alloc, each, 1)?;
+    let domains = domains_of(alloc, &evaluations)?;
+    let input = if is_preprocessing {
+        Input::Preprocessed(evaluations)
+    } else {
+        Input::Private(evaluations)
+    };
+    read_next(scheme, alloc, input, &domains)
 }

@@ -3,10 +3,11 @@
 ghost use Rattle.std.specs.Prelude.{◌≡◌, ◌∷◌, [], IfOk, length};
 
 use crate::matrices::{points, points_if_any};
-use crate::scheme::Setting;
+use crate::scheme::{Domain, Setting, VerifierError};
 use crate::tested::Tested;
 use p3_challenger::Sha256Challenger;
 use p3_field::BabyBear4;
+use p3_fri_masks::HidingFriProverError;
 use p3_matrix::RowMajorMatrix;
 use p3_mmcs::OpenedValues;
 use p3_pcs::{OpeningRequest, Pcs};
@@ -14,6 +15,14 @@ use p3_test_openings::listed::listed;
 use p3_test_openings::one::{Opened, commit_one, open_one};
 use std::alloc::Global;
 use std::test::Fail;
+
+/// An opening, with the claims that it makes.
+pub(crate) type Opening<P> = Opened<
+    BabyBear4,
+    [u8; 32],
+    Domain,
+    <P as Pcs<BabyBear4, Sha256Challenger>>::Proof,
+>;
 
 /// Asks for an opening at these points, if there are some, and says why it is refused. What was
 /// committed to is left as it was.
@@ -23,7 +32,7 @@ fn refuse<P: Tested>(
     held: &mut P::ProverData,
     points: Option<Vec<BabyBear4>>,
     challenger: &mut Sha256Challenger,
-) -> Result<Option<P::ProverError>, Fail>
+) -> Result<Option<HidingFriProverError>, Fail>
     requires prover { (P.rules scheme.now).InProverRange }
     requires openable { (P.rules scheme.now).CanOpen held.old }
     requires one_matrix { length ((P.rules scheme.now).committed_polynomials held.old) ≡ 1 }
@@ -61,7 +70,7 @@ fn refuse<P: Tested>(
     }
 }
 
-/// An opening, and whether a verifier accepts it.
+/// What is opened, and whether a verifier accepts it.
 #[derive(Drop)]
 pub(crate) struct Judged<Proof> {
     pub values: OpenedValues<BabyBear4>,
@@ -73,7 +82,7 @@ pub(crate) struct Judged<Proof> {
 fn judge_one<P: Tested>(
     verifier: &P,
     alloc: Global,
-    opened: Opened<BabyBear4, P::Commitment, P::Domain, P::Proof>,
+    opened: Opening<P>,
     challenger: &mut Sha256Challenger,
 ) -> Judged<P::Proof>
     requires { (P.rules verifier.now).InVerifierRange }
@@ -94,9 +103,9 @@ fn judge_one<P: Tested>(
 /// Why an earlier opening was refused, if one was asked for, an opening or why there is none, and
 /// what that leaves of the data.
 #[derive(Drop)]
-pub(crate) struct Answered<Proof, ProverError, Data> {
-    pub earlier: Option<ProverError>,
-    pub answer: Result<Judged<Proof>, ProverError>,
+pub(crate) struct Answered<Proof, Data> {
+    pub earlier: Option<HidingFriProverError>,
+    pub answer: Result<Judged<Proof>, HidingFriProverError>,
     pub held: Data,
 }
 
@@ -111,14 +120,14 @@ pub(crate) fn open_and_judge<P: Tested>(
     later: &[[u64; 4]],
     proving: &mut Sha256Challenger,
     verifying: &mut Sha256Challenger,
-) -> Result<Answered<P::Proof, P::ProverError, P::ProverData>, Fail> {
+) -> Result<Answered<P::Proof, P::ProverData>, Fail> {
     if setting.num_queries == 0 {
         return Err(Fail::new("no queries"));
     }
     let earlier = points_if_any(alloc, earlier)?;
     let later = points(alloc, later)?;
-    let column = P::column_of(alloc, numbers)?;
     let mut scheme = P::of(setting);
+    let column = scheme.column_of(alloc, numbers)?;
     let (known, mut held) = commit_one::<BabyBear4, Sha256Challenger, P>(
         &mut scheme,
         alloc,
@@ -164,10 +173,10 @@ pub(crate) fn commit_and_open<EF: Copy, C, P: Pcs<EF, C>>(
 pub(crate) fn judge<P: Tested>(
     alloc: Global,
     setting: Setting,
-    opened: Opened<BabyBear4, P::Commitment, P::Domain, P::Proof>,
+    opened: Opening<P>,
     index: Option<usize>,
     challenger: &mut Sha256Challenger,
-) -> Result<Result<(), P::Error>, Fail> {
+) -> Result<Result<(), VerifierError>, Fail> {
     let Opened {
         values: _values,
         proof,

@@ -10,6 +10,8 @@ mod chunks;
 #[cfg(test)]
 mod commitments;
 #[cfg(test)]
+mod committable;
+#[cfg(test)]
 mod committed;
 pub mod input;
 #[cfg(test)]
@@ -24,5 +26,7 @@ mod openings;
 mod periodic;
 #[cfg(test)]
 mod scheme;
+#[cfg(test)]
+mod schemes;
 #[cfg(test)]
 mod tested;

@@ -1,8 +1,6 @@
 //! Matrices of small numbers, the domains beside them, and points.
 
-ghost use Rattle.std.specs.Prelude.{◌≡◌, ◌≢◌, [], IfOk, IsTrue};
-ghost use Rattle.p3_fri_extensions.specs.Extension.{FitsDomain};
-ghost use Rattle.p3_fri_hiding.specs.Trace.{FitsMasked};
+ghost use Rattle.std.specs.Prelude.{◌≡◌, ◌≢◌, [], IfOk};
 
 use crate::scheme::{Domain, Evaluations};
 use p3_field::{BabyBear, BabyBear4, ExtensionField, Field, TwoAdicMultiplicativeCoset};
@@ -91,48 +89,6 @@ pub(crate) fn evaluations(
         all.push(evaluation(alloc, entries, log_factor)?)?;
     }
     Ok(all)
-}
-
-/// Whether the domain has twice as many points as the matrix has rows, and both are small.
-pub(crate) fn is_doubled(domain: Domain, matrix: &RowMajorMatrix<BabyBear>) -> bool
-    ensures { IsTrue result → FitsMasked 27 2 domain.log_size matrix.now }
-{
-    let height = matrix.height();
-    if height > 128 || domain.size() != 2 * height || domain.log_size() > 8 {
-        return false;
-    }
-    true
-}
-
-/// The numbers as a column beside the subgroup of twice as many points, on which a hiding scheme
-/// has it.
-pub(crate) fn column(
-    alloc: Global,
-    numbers: &[u64],
-) -> Result<(Domain, RowMajorMatrix<BabyBear>), Fail>
-    ensures { IfOk result (λ e. FitsMasked 27 2 e.0.log_size e.1) }
-{
-    let domain = coset(1, numbers.len().trailing_zeros() as usize + 1)?;
-    let matrix = matrix(alloc, numbers, 1)?;
-    if !is_doubled(domain, &matrix) {
-        return Err(Fail::new("not twice as many points"));
-    }
-    Ok((domain, matrix))
-}
-
-/// The numbers as a column on the subgroup of as many points, on which a plain scheme has it.
-pub(crate) fn plain_column(
-    alloc: Global,
-    numbers: &[u64],
-) -> Result<(Domain, RowMajorMatrix<BabyBear>), Fail>
-    ensures { IfOk result (λ e. FitsDomain 27 2 e.0.log_size e.1) }
-{
-    let domain = coset(1, numbers.len().trailing_zeros() as usize)?;
-    let matrix = matrix(alloc, numbers, 1)?;
-    if matrix.height() != domain.size() || domain.log_size() > 8 {
-        return Err(Fail::new("not a column on its domain"));
-    }
-    Ok((domain, matrix))
 }
 
 /// Coefficients of the points `5 + X^2` and `X`, which aren't elements of the base field, and so

@@ -1,7 +1,8 @@
 //! The table of a periodic column along a trace of 8 rows, on the coset of 31 of 16 points.
 
 use crate::matrices::{coset, elements};
-use crate::scheme::{SMALL, Scheme, scheme_of};
+use crate::scheme::SMALL;
+use crate::schemes::{Scheme, scheme_of};
 use p3_challenger::Sha256Challenger;
 use p3_field::{BabyBear, BabyBear4, Field};
 use p3_stark_pcs::UnivariateStarkPcs;

@@ -1,16 +1,14 @@
-//! The hiding scheme of small parameters, at BabyBear, its quartic extension, SHA-256 and ChaCha,
-//! and the plain one of the same parameters.
+//! Settings of the schemes that tests run by, at BabyBear, its quartic extension, SHA-256 and
+//! ChaCha, and the types of what they give.
 
 ghost use Rattle.std.specs.Prelude.{◌≡◌, ◌<◌, ◌≤◌};
 ghost use Rattle.p3_fri_relation.specs.Views.{parameters_of};
 ghost use Rattle.p3_fri_two_adic.specs.Ranges.{InProverRange, InVerifierRange};
 
-use p3_dft::Radix2Dit;
 use p3_field::{BabyBear, BabyBear4, Field, TwoAdicMultiplicativeCoset};
 use p3_fri_folding::{FriParameters, PowPhase};
-use p3_fri_hiding::{HidingFriPcs, HidingFriPcsProverData};
+use p3_fri_relation::error::FriError;
 use p3_fri_relation::proof::{BatchMultiOpening, FriProof};
-use p3_fri_two_adic::TwoAdicFriPcs;
 use p3_matrix::RowMajorMatrix;
 use p3_mmcs::{Mmcs, OpenedValues, Sha256Mmcs};
 use rand_chacha::ChaCha20Rng;
@@ -19,12 +17,6 @@ use rand_core::{Rng, SeedableRng};
 pub(crate) type Inputs = Sha256Mmcs<BabyBear>;
 
 pub(crate) type Rounds = Sha256Mmcs<BabyBear4>;
-
-pub(crate) type Data = HidingFriPcsProverData<<Inputs as Mmcs<BabyBear>>::ProverData>;
-
-pub(crate) type Scheme = HidingFriPcs<BabyBear, Radix2Dit<BabyBear>, Inputs, Rounds, ChaCha20Rng>;
-
-pub(crate) type PlainScheme = TwoAdicFriPcs<BabyBear, Radix2Dit<BabyBear>, Inputs, Rounds>;
 
 pub(crate) type Domain = TwoAdicMultiplicativeCoset<BabyBear>;
 
@@ -35,6 +27,12 @@ pub(crate) type Proof = (
     OpenedValues<BabyBear4>,
     FriProof<BabyBear4, Rounds, BabyBear, Vec<BatchMultiOpening<BabyBear, Inputs>>>,
 );
+
+/// Why a verifier refuses.
+pub(crate) type VerifierError = FriError<
+    <Rounds as Mmcs<BabyBear4>>::Error,
+    <Inputs as Mmcs<BabyBear>>::Error,
+>;
 
 /// The generator that the scheme begins with.
 pub(crate) fn generator() -> ChaCha20Rng {
@@ -72,7 +70,7 @@ fn bits(setting: Setting, phase: PowPhase) -> usize
 }
 
 /// The parameters of both schemes.
-fn parameters(setting: Setting) -> FriParameters<Rounds>
+pub(crate) fn parameters(setting: Setting) -> FriParameters<Rounds>
     ensures log_blowup { result.log_blowup ≡ 2 }
     ensures prover_range { 0 < setting.num_queries → InProverRange (parameters_of result) 27 63 }
     ensures verifier_range { setting.log_final_poly_len ≤ 31
@@ -88,32 +86,4 @@ fn parameters(setting: Setting) -> FriParameters<Rounds>
         query_proof_of_work_bits: bits(setting, PowPhase::Query),
         mmcs: Sha256Mmcs::new(),
     }
-}
-
-/// The hiding scheme of that setting.
-pub(crate) fn scheme_of(setting: Setting) -> Scheme
-    ensures log_blowup { result.fri.log_blowup ≡ 2 }
-    ensures prover_range { 0 < setting.num_queries
-        → InProverRange (parameters_of result.fri) 27 63 }
-    ensures verifier_range { setting.log_final_poly_len ≤ 31
-        → InVerifierRange (parameters_of result.fri) 27 63 }
-{
-    HidingFriPcs::new(
-        Radix2Dit::default(),
-        Sha256Mmcs::new(),
-        parameters(setting),
-        setting.num_random_codewords,
-        generator(),
-    )
-}
-
-/// The plain scheme of that setting, which has no random codewords.
-pub(crate) fn plain_scheme_of(setting: Setting) -> PlainScheme
-    ensures log_blowup { result.fri.log_blowup ≡ 2 }
-    ensures prover_range { 0 < setting.num_queries
-        → InProverRange (parameters_of result.fri) 27 63 }
-    ensures verifier_range { setting.log_final_poly_len ≤ 31
-        → InVerifierRange (parameters_of result.fri) 27 63 }
-{
-    TwoAdicFriPcs::new(Radix2Dit::default(), Sha256Mmcs::new(), parameters(setting))
 }

@@ -2,16 +2,18 @@
 
 ghost use Rattle.std.specs.Prelude.{◌≡◌, [], ◌∷◌, length, IfOk};
 
-use crate::chunks::are_maskable;
-use crate::matrices::{Entries, SHORT_E, SHORT_PI, column, coset, evaluations};
+use crate::judged::Opening;
+use crate::matrices::{Entries, SHORT_E, SHORT_PI, coset, evaluations};
 use crate::openings::preprocessed::is_answer;
-use crate::openings::shapes::{first_value, have_counts};
-use crate::scheme::{Data, Domain, Proof, SMALL, Scheme, scheme_of};
+use crate::openings::shapes::first_value;
+use crate::scheme::SMALL;
+use crate::schemes::Scheme;
+use crate::tested::Tested;
 use p3_challenger::Sha256Challenger;
 use p3_field::{BabyBear, BabyBear4, ExtensionField, Field};
 use p3_matrix::RowMajorMatrix;
 use p3_mmcs::OpenedValues;
-use p3_pcs::KnownCommitment;
+use p3_pcs::{KnownCommitment, Pcs};
 use p3_stark_pcs::UnivariateStarkPcs;
 use p3_test_openings::batches::commit_and_open_batches;
 use p3_test_openings::listed::{listed, pair};
@@ -86,7 +88,7 @@ const RECOMBINED: u64 = 1_664_801_475;
 
 /// Whether these values at 1 of the chunks recombine to the quotient that they made before they
 /// were masked.
-fn recombine(first: BabyBear4, second: BabyBear4) -> bool {
+pub(crate) fn recombine(first: BabyBear4, second: BabyBear4) -> bool {
     let first_factor = BabyBear::from_u64(FACTORS[0]);
     let second_factor = BabyBear::from_u64(FACTORS[1]);
     let recombined = first.scale(first_factor) + second.scale(second_factor);
@@ -96,9 +98,11 @@ fn recombine(first: BabyBear4, second: BabyBear4) -> bool {
 /// Whether the trace has its first row at 1, and the chunks recombine.
 fn are_values(values: &OpenedValues<BabyBear4>) -> bool {
     let row = BabyBear4::from_base(BabyBear::from_u64(SHORT_PI[0]));
-    match (first_value(values, 2, 0), first_value(values, 2, 1)) {
+    match (first_value(values, 2, 0, 0), first_value(values, 2, 1, 0)) {
         (Some(first), Some(second)) => {
-            values.len() == 3 && first_value(values, 1, 0) == Some(row) && recombine(first, second)
+            values.len() == 3
+                && first_value(values, 1, 0, 0) == Some(row)
+                && recombine(first, second)
         }
         _ => false,
     }
@@ -106,7 +110,7 @@ fn are_values(values: &OpenedValues<BabyBear4>) -> bool {
 
 /// Two chunks of a quotient, each a column of 16 rows, on the halves of the coset of 31 of 32
 /// points.
-static CHUNKS: [Entries; 2] = [
+pub(crate) static CHUNKS: [Entries; 2] = [
     Entries {
         shift: 31,
         width: 1,
@@ -119,60 +123,59 @@ static CHUNKS: [Entries; 2] = [
     },
 ];
 
-/// An opening of all three at 1, their data, and the challenger that it leaves.
-#[derive(Drop)]
-struct Opening {
-    opened: Opened<BabyBear4, [u8; 32], Domain, Proof>,
-    held: [Data; 3],
-    challenger: Sha256Challenger,
-}
+/// An opening of all three at 1, and their data.
+type OpenedAll<P> = (
+    Opening<P>,
+    [<P as Pcs<BabyBear4, Sha256Challenger>>::ProverData; 3],
+);
 
-/// Random polynomials, a trace of 16 rows and the two chunks, opened by a challenger that is new.
-fn open_all(alloc: Global) -> Result<Opening, Fail> {
+/// Random polynomials, a trace of 16 rows and the two chunks, opened at 1.
+fn open_all<P: Tested>(
+    alloc: Global,
+    challenger: &mut Sha256Challenger,
+) -> Result<OpenedAll<P>, Fail> {
+    let mut scheme = P::of(SMALL);
     let domain = coset(1, 5)?;
-    let trace = column(alloc, &SHORT_PI)?;
+    let trace = scheme.column_of(alloc, &SHORT_PI)?;
     let chunks = evaluations(alloc, &CHUNKS, 0)?;
-    if chunks.len() != 2 || !are_maskable(alloc, &chunks)? {
+    if chunks.len() != 2
+        || !scheme.can_randomize(&[domain])
+        || !scheme.can_extend(alloc, &chunks)?
+    {
         return Err(Fail::new("not chunks of a quotient"));
     }
-    let mut challenger = Sha256Challenger::new();
-    let (opened, held) = commit_and_open_all::<BabyBear4, Sha256Challenger, Scheme>(
-        &mut scheme_of(SMALL),
+    commit_and_open_all::<BabyBear4, Sha256Challenger, P>(
+        &mut scheme,
         alloc,
         domain,
         trace,
         chunks,
         BabyBear4::ONE,
-        &mut challenger,
-    )?;
-    Ok(Opening {
-        opened,
-        held,
         challenger,
-    })
+    )
+}
+
+/// Whether the opening has the values, with random ones beside the proof.
+fn is_shown<P: Tested>(opened: &Opening<P>) -> bool {
+    are_values(&opened.values)
+        && P::has_random_values(&opened.proof, &[[1, 1, 4], [1, 1, 4], [2, 1, 4]])
+}
+
+/// Whether all data counts as opened.
+fn are_marked<P: Tested>(held: &[P::ProverData; 3]) -> bool {
+    let [random, trace, quotient] = held;
+    P::is_opened(random) && P::is_opened(trace) && P::is_opened(quotient)
 }
 
 /// Whether the opening has these values, is accepted by a verifier that ends as the prover, and all
 /// data counts as opened.
 fn is_opened(alloc: Global) -> Result<bool, Fail> {
-    let Opening {
-        opened,
-        held,
-        challenger,
-    } = open_all(alloc)?;
-    let is_shown = are_values(&opened.values)
-        && have_counts(&opened.proof.0, &[[1, 1, 4], [1, 1, 4], [2, 1, 4]]);
-    let [random, trace, quotient] = &held;
-    let is_marked = random.is_opened() && trace.is_opened() && quotient.is_opened();
+    let mut challenger = Sha256Challenger::new();
+    let (opened, held) = open_all::<Scheme>(alloc, &mut challenger)?;
+    let is_left = is_shown::<Scheme>(&opened) && are_marked::<Scheme>(&held);
     let mut verifier = Sha256Challenger::new();
-    let is_accepted = is_answer(alloc, SMALL, opened, None, &mut verifier, "accepted")?;
-    Ok(
-        is_shown
-            && is_marked
-            && is_accepted
-            && verifier == challenger
-            && challenger != Sha256Challenger::new(),
-    )
+    let is_accepted = is_answer::<Scheme>(alloc, SMALL, opened, None, &mut verifier, "accepted")?;
+    Ok(is_left && is_accepted && verifier == challenger && challenger != Sha256Challenger::new())
 }
 
 #[test]

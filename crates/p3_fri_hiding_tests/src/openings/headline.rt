@@ -1,7 +1,8 @@
 //! The headline at a scheme that hides.
 
 use crate::matrices::{E, POINTS, SHORT_PI, element, points};
-use crate::scheme::{SMALL, Scheme};
+use crate::scheme::SMALL;
+use crate::schemes::Scheme;
 use crate::tested::Tested;
 use p3_challenger::Sha256Challenger;
 use p3_field::BabyBear4;
@@ -15,10 +16,11 @@ fn show_column<P: Tested>(
     alloc: Global,
     challenger: &mut Sha256Challenger,
 ) -> Result<(Sha256Challenger, P::ProverData), Fail> {
-    let column = P::column_of(alloc, &E)?;
+    let mut scheme = P::of(SMALL);
+    let column = scheme.column_of(alloc, &E)?;
     let points = points(alloc, &POINTS)?;
     let (verified, held) = commit_and_show::<BabyBear4, Sha256Challenger, P>(
-        &mut P::of(SMALL),
+        &mut scheme,
         alloc,
         column,
         points,
@@ -33,14 +35,15 @@ fn show_columns<P: Tested>(
     alloc: Global,
     challenger: &mut Sha256Challenger,
 ) -> Result<OfBoth<Sha256Challenger, P::ProverData>, Fail> {
-    let public_column = P::column_of(alloc, &SHORT_PI)?;
-    let private_column = P::column_of(alloc, &E[16..])?;
+    let mut scheme = P::of(SMALL);
+    let public_column = scheme.column_of(alloc, &SHORT_PI)?;
+    let private_column = scheme.column_of(alloc, &E[16..])?;
     let OfBoth {
         made,
         preprocessed,
         private,
     } = commit_and_show_both::<BabyBear4, Sha256Challenger, P>(
-        &mut P::of(SMALL),
+        &mut scheme,
         alloc,
         public_column,
         private_column,
@@ -55,31 +58,36 @@ fn show_columns<P: Tested>(
 }
 
 /// Whether the data counts as opened, and both sides end in one state that isn't the first.
-fn is_shown(alloc: Global) -> Result<bool, Fail> {
+fn is_shown<P: Tested>(alloc: Global) -> Result<bool, Fail> {
     let mut challenger = Sha256Challenger::new();
-    let (verifier, held) = show_column::<Scheme>(alloc, &mut challenger)?;
-    Ok(held.is_opened() && verifier == challenger && challenger != Sha256Challenger::new())
+    let (verifier, held) = show_column::<P>(alloc, &mut challenger)?;
+    let is_opened = P::is_opened(&held);
+    Ok(is_opened && verifier == challenger && challenger != Sha256Challenger::new())
 }
 
 /// Whether of the data the private alone counts as opened, and both sides end in one state that
 /// isn't the first.
-fn what_is_opened_with_preprocessing_is_accepted(alloc: Global) -> Result<bool, Fail> {
+fn what_is_opened_with_preprocessing_is_accepted<P: Tested>(alloc: Global) -> Result<bool, Fail> {
     let mut challenger = Sha256Challenger::new();
-    let shown = show_columns::<Scheme>(alloc, &mut challenger)?;
-    Ok(
-        shown.private.is_opened()
-            && !shown.preprocessed.is_opened()
-            && shown.made == challenger
-            && challenger != Sha256Challenger::new(),
-    )
+    let shown = show_columns::<P>(alloc, &mut challenger)?;
+    let is_marked = P::is_opened(&shown.private) && !P::is_opened(&shown.preprocessed);
+    Ok(is_marked && shown.made == challenger && challenger != Sha256Challenger::new())
+}
+
+/// What isn't accepted.
+fn first_wrong<P: Tested>(alloc: Global) -> Result<Option<&'static str>, Fail> {
+    if !is_shown::<P>(alloc)? {
+        return Ok(Some("a column"));
+    }
+    if !what_is_opened_with_preprocessing_is_accepted::<P>(alloc)? {
+        return Ok(Some("with preprocessing"));
+    }
+    Ok(None)
 }
 
 #[test]
 fn what_is_opened_is_accepted(rt: HostRuntime) -> Result<(), Fail> {
-    assert!(rt; is_shown(rt.alloc())?, "a column");
-    assert!(rt;
-        what_is_opened_with_preprocessing_is_accepted(rt.alloc())?,
-        "with preprocessing"
-    );
+    let wrong = first_wrong::<Scheme>(rt.alloc())?;
+    assert!(rt; wrong.is_none(), "{wrong:?}");
     Ok(())
 }

@@ -2,45 +2,22 @@
 //! the claims, its own numbers or the index of preprocessing aren't those of the opening; and
 //! preprocessing opened again and again.
 
-use crate::judged::judge;
+use crate::judged::{Opening, judge};
 use crate::matrices::{E, POINTS, SHORT_PI, coset, element};
+use crate::openings::changes::{Change, change_claims};
 use crate::openings::shapes::{first_value, have_counts};
-use crate::scheme::{Domain, Proof, SMALL, Scheme, Setting};
+use crate::scheme::{SMALL, Setting, VerifierError};
+use crate::schemes::Scheme;
 use crate::tested::Tested;
 use p3_challenger::Sha256Challenger;
 use p3_field::{BabyBear4, Field};
 use p3_fri_masks::HidingFriProverError;
-use p3_mmcs::{CommitmentOpening, OpenedValues, PointOpening};
+use p3_mmcs::OpenedValues;
 use p3_pcs::Pcs;
 use p3_test_openings::both::{OfBoth, commit_and_open_both};
-use p3_test_openings::one::Opened;
 use p3_test_openings::preprocessed::open_twice;
 use std::alloc::Global;
 use std::test::Fail;
-
-/// What is opened of preprocessing and of a private column.
-type ColumnsOpened = Opened<BabyBear4, [u8; 32], Domain, Proof>;
-
-/// What is changed in an opening of preprocessing and a private column.
-#[derive(Clone, Copy, PartialEq)]
-enum Change {
-    Nothing,
-    /// Of the private column's random values one is missing.
-    OneValueLess,
-    /// Preprocessing has a random value.
-    OneValueMore,
-    /// The private column's random values are of no point.
-    NoPoints,
-    /// They are of no matrix.
-    NoMatrices,
-    NoRandomValues,
-    /// Preprocessing alone is claimed.
-    OneRound,
-    /// The private column is claimed at a second point too.
-    SecondPoint,
-    /// It is claimed on four points.
-    LowDomain,
-}
 
 /// A change, the index that the verifier is told, its numbers, and what it answers: `accepted` or
 /// the refusal.
@@ -182,95 +159,19 @@ static CASES: [Case; 17] = [
     },
 ];
 
-/// Changes the random values of a round.
-fn change_round(round: &mut Vec<Vec<Vec<BabyBear4>>>, change: Change) {
-    if change == Change::NoMatrices {
-        round.clear();
-    }
-    if let Some(points) = round.first_mut() {
-        if change == Change::NoPoints {
-            points.clear();
-        }
-        if let Some(values) = points.first_mut() {
-            match change {
-                Change::OneValueLess => {
-                    let _ = values.pop();
-                },
-                Change::OneValueMore => {
-                    let _pushed = values.push(BabyBear4::ZERO).is_ok();
-                },
-                _ => {},
-            }
-        }
-    }
-}
-
-/// Changes the random values: those of preprocessing where there is to be one more, else those of
-/// the private column.
-fn change_random(random: &mut OpenedValues<BabyBear4>, change: Change) {
-    match change {
-        Change::NoRandomValues => random.clear(),
-        Change::OneRound => random.truncate(1),
-        Change::OneValueMore => {
-            if let Some(round) = random.first_mut() {
-                change_round(round, change);
-            }
-        },
-        _ => {
-            if let Some(round) = random.last_mut() {
-                change_round(round, change);
-            }
-        },
-    }
-}
-
-/// Changes the claims. Where memory is refused a second point isn't claimed.
-fn change_claims(
-    alloc: Global,
-    claims: &mut Vec<CommitmentOpening<BabyBear4, [u8; 32], Domain>>,
-    low: Domain,
-    change: Change,
-) {
-    if change == Change::OneRound {
-        claims.truncate(1);
-    }
-    if let Some(claim) = claims.last_mut() {
-        if let Some(matrix) = claim.matrices.first_mut() {
-            match change {
-                Change::SecondPoint => {
-                    let more = PointOpening {
-                        point: element(POINTS[0]),
-                        values: Vec::new(alloc),
-                    };
-                    let _pushed = matrix.points.push(more).is_ok();
-                },
-                Change::LowDomain => matrix.domain = low,
-                _ => {},
-            }
-        }
-    }
-}
-
 /// What comes of opening both at one point, with their data.
-type Both<P> = OfBoth<
-    Opened<
-        BabyBear4,
-        <P as Pcs<BabyBear4, Sha256Challenger>>::Commitment,
-        <P as Pcs<BabyBear4, Sha256Challenger>>::Domain,
-        <P as Pcs<BabyBear4, Sha256Challenger>>::Proof,
-    >,
-    <P as Pcs<BabyBear4, Sha256Challenger>>::ProverData,
->;
+type Both<P> = OfBoth<Opening<P>, <P as Pcs<BabyBear4, Sha256Challenger>>::ProverData>;
 
 /// Preprocessing and a private column, of 16 rows each, opened at one point.
 fn open_columns<P: Tested>(
     alloc: Global,
     challenger: &mut Sha256Challenger,
 ) -> Result<Both<P>, Fail> {
-    let public_column = P::column_of(alloc, &SHORT_PI)?;
-    let private_column = P::column_of(alloc, &E[16..])?;
+    let mut scheme = P::of(SMALL);
+    let public_column = scheme.column_of(alloc, &SHORT_PI)?;
+    let private_column = scheme.column_of(alloc, &E[16..])?;
     commit_and_open_both::<BabyBear4, Sha256Challenger, P>(
-        &mut P::of(SMALL),
+        &mut scheme,
         alloc,
         public_column,
         private_column,
@@ -279,39 +180,60 @@ fn open_columns<P: Tested>(
     )
 }
 
+/// Whether this is printed so: `accepted` or the refusal.
+fn is_printed(alloc: Global, answer: &Result<(), VerifierError>, wanted: &str) -> bool {
+    match answer {
+        Ok(()) => wanted == "accepted",
+        Err(refusal) => match format!(in alloc; "{refusal:?}") {
+            Ok(text) => text.as_str() == wanted,
+            Err(_) => false,
+        },
+    }
+}
+
 /// Whether a verifier of that setting answers so to the opening, where this index is told to be
 /// that of preprocessing: `accepted` or the refusal.
-pub(crate) fn is_answer(
+pub(crate) fn is_answer<P: Tested>(
     alloc: Global,
     setting: Setting,
-    opened: ColumnsOpened,
+    opened: Opening<P>,
     index: Option<usize>,
     verifier: &mut Sha256Challenger,
     answer: &str,
 ) -> Result<bool, Fail> {
-    match judge::<Scheme>(alloc, setting, opened, index, verifier)? {
-        Ok(()) => Ok(answer == "accepted"),
-        Err(refusal) => Ok(format!(in alloc; "{refusal:?}")?.as_str() == answer),
-    }
+    let judged = judge::<P>(alloc, setting, opened, index, verifier)?;
+    Ok(is_printed(alloc, &judged, answer))
 }
 
 /// Whether preprocessing has no random values and the private column one for each codeword, and of
-/// the data the private alone counts as opened; and whether a verifier answers so to the changed
-/// opening: where it accepts it ends as the prover, and else it leaves its challenger as it was.
-fn is_answered(alloc: Global, case: &Case) -> Result<bool, Fail> {
+/// the data the private alone counts as opened.
+fn is_opened<P: Tested>(both: &Both<P>) -> bool {
+    P::is_opened(&both.private)
+        && !P::is_opened(&both.preprocessed)
+        && P::has_random_values(&both.made.proof, &[[1, 1, 0], [1, 1, 4]])
+}
+
+/// Whether the verifier ends as the prover where it accepts, and else leaves its challenger as it
+/// was.
+fn is_left(case: &Case, prover: &Sha256Challenger, verifier: &Sha256Challenger) -> bool {
+    let is_moved = *verifier != Sha256Challenger::new();
+    if case.answer == "accepted" {
+        is_moved && *verifier == *prover
+    } else {
+        !is_moved
+    }
+}
+
+/// Whether both are opened, and a verifier answers so to the changed opening.
+fn is_answered<P: Tested>(alloc: Global, case: &Case) -> Result<bool, Fail> {
     let low = coset(1, 2)?;
-    let mut challenger = Sha256Challenger::new();
-    let OfBoth {
-        made: mut opened,
-        preprocessed,
-        private,
-    } = open_columns::<Scheme>(alloc, &mut challenger)?;
-    let is_marked = private.is_opened() && !preprocessed.is_opened();
-    let is_shown = have_counts(&opened.proof.0, &[[1, 1, 0], [1, 1, 4]]);
-    change_random(&mut opened.proof.0, case.change);
+    let (mut prover, mut verifier) = (Sha256Challenger::new(), Sha256Challenger::new());
+    let both = open_columns::<P>(alloc, &mut prover)?;
+    let is_opened = is_opened::<P>(&both);
+    let mut opened = both.made;
+    P::change_random_values(&mut opened.proof, case.change);
     change_claims(alloc, &mut opened.claims, low, case.change);
-    let mut verifier = Sha256Challenger::new();
-    let is_so = is_answer(
+    let is_so = is_answer::<P>(
         alloc,
         case.setting,
         opened,
@@ -319,24 +241,18 @@ fn is_answered(alloc: Global, case: &Case) -> Result<bool, Fail> {
         &mut verifier,
         case.answer,
     )?;
-    let is_moved = verifier != Sha256Challenger::new();
-    let is_left = if case.answer == "accepted" {
-        is_moved && verifier == challenger
-    } else {
-        !is_moved
-    };
-    Ok(is_marked && is_shown && is_so && is_left)
+    Ok(is_opened && is_so && is_left(case, &prover, &verifier))
 }
 
-type Answer = Result<(OpenedValues<BabyBear4>, Proof), HidingFriProverError>;
+type Answer<Proof> = Result<(OpenedValues<BabyBear4>, Proof), HidingFriProverError>;
 
 /// Whether the one value is zero, with no random values beside it.
-fn is_zero(answer: &Answer) -> bool {
+fn is_zero<P: Tested>(answer: &Answer<P::Proof>) -> bool {
     match answer {
         Ok((values, proof)) => {
             have_counts(values, &[[1, 1, 1]])
-                && have_counts(&proof.0, &[[1, 1, 0]])
-                && first_value(values, 0, 0) == Some(BabyBear4::ZERO)
+                && P::has_random_values(proof, &[[1, 1, 0]])
+                && first_value(values, 0, 0, 0) == Some(BabyBear4::ZERO)
         }
         Err(_) => false,
     }
@@ -345,16 +261,11 @@ fn is_zero(answer: &Answer) -> bool {
 /// Preprocessing of zeros opened twice at one point, with what that leaves of its data.
 fn open_zeros_twice<P: Tested>(
     alloc: Global,
-) -> Result<
-    (
-        [Result<(OpenedValues<BabyBear4>, P::Proof), P::ProverError>; 2],
-        P::ProverData,
-    ),
-    Fail,
-> {
-    let column = P::column_of(alloc, &[0; 16])?;
+) -> Result<([Answer<P::Proof>; 2], P::ProverData), Fail> {
+    let mut scheme = P::of(SMALL);
+    let column = scheme.column_of(alloc, &[0; 16])?;
     open_twice::<BabyBear4, Sha256Challenger, P>(
-        &mut P::of(SMALL),
+        &mut scheme,
         alloc,
         column,
         element(POINTS[0]),
@@ -363,16 +274,30 @@ fn open_zeros_twice<P: Tested>(
 }
 
 /// Whether preprocessing of zeros is opened twice, and doesn't count as opened.
-fn preprocessing_is_opened_twice(alloc: Global) -> Result<bool, Fail> {
+fn is_opened_twice(alloc: Global) -> Result<bool, Fail> {
     let (answers, held) = open_zeros_twice::<Scheme>(alloc)?;
-    Ok(is_zero(&answers[0]) && is_zero(&answers[1]) && !held.is_opened())
+    Ok(is_zero::<Scheme>(&answers[0]) && is_zero::<Scheme>(&answers[1]) && !held.is_opened())
+}
+
+/// The first case that isn't answered so.
+fn first_wrong<P: Tested>(alloc: Global) -> Result<Option<usize>, Fail> {
+    for (index, case) in CASES.iter().enumerate() {
+        if !is_answered::<P>(alloc, case)? {
+            return Ok(Some(index));
+        }
+    }
+    Ok(None)
 }
 
 #[test]
 fn changed_openings_are_refused(rt: HostRuntime) -> Result<(), Fail> {
-    for (index, case) in CASES.iter().enumerate() {
-        assert!(rt; is_answered(rt.alloc(), case)?, "case {index}");
-    }
-    assert!(rt; preprocessing_is_opened_twice(rt.alloc())?, "opened twice");
+    let wrong = first_wrong::<Scheme>(rt.alloc())?;
+    assert!(rt; wrong.is_none(), "case {wrong:?}");
+    Ok(())
+}
+
+#[test]
+fn preprocessing_is_opened_twice(rt: HostRuntime) -> Result<(), Fail> {
+    assert!(rt; is_opened_twice(rt.alloc())?);
     Ok(())
 }

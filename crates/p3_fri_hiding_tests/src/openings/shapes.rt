@@ -36,13 +36,14 @@ pub(crate) fn have_counts(values: &OpenedValues<BabyBear4>, counts: &[Counts]) -
     values.len() == counts.len()
 }
 
-/// The first value of this matrix of that commitment at its first point.
+/// The first value of this matrix of that commitment at the point of this index.
 pub(crate) fn first_value(
     values: &OpenedValues<BabyBear4>,
     round: usize,
     matrix: usize,
+    point: usize,
 ) -> Option<BabyBear4> {
     let points = values.get(round)?.get(matrix)?;
-    let columns = points.first()?;
+    let columns = points.get(point)?;
     columns.first().copied()
 }

@@ -1,8 +1,10 @@
 //! Openings by both schemes where a proof of work has no solution.
 
+use crate::committable::{column, plain_column};
 use crate::judged::commit_and_open;
-use crate::matrices::{POINTS, SHORT_PI, column, plain_column, points};
-use crate::scheme::{PlainScheme, SMALL, Scheme, Setting, plain_scheme_of, scheme_of};
+use crate::matrices::{POINTS, SHORT_PI, points};
+use crate::scheme::{SMALL, Setting};
+use crate::schemes::{PlainScheme, Scheme, plain_scheme_of, scheme_of};
 use p3_field::BabyBear4;
 use p3_fri_folding::{FriProverError, PowPhase};
 use p3_fri_masks::HidingFriProverError;

@@ -1,6 +1,6 @@
 use Rattle.p3_fri_hiding.specs.Trace.{FitsMasked}
 use Rattle.p3_fri_hiding_tests.proofs.Each.{one_more, to_the_end}
-use Rattle.p3_fri_hiding_tests.proofs.committed.are_doubled.Goals as goal
+use Rattle.p3_fri_hiding_tests.proofs.committable.are_doubled.Goals as goal
 
 pub loop-evaluation-preserved : goal.loop-evaluation-preserved
 loop-evaluation-preserved c =

@@ -1,5 +1,5 @@
 use Rattle.std.proofs.Common.{◌≡◌, ◌≤◌, ◌+◌, ◌-◌, ◌^◌, sym, ap, subst, arith, ◌∙◌}
-use Rattle.p3_fri_hiding_tests.proofs.committed.is_word.Goals as goal
+use Rattle.p3_fri_hiding_tests.proofs.committable.is_word.Goals as goal
 
 pub returns : goal.returns
 returns c = λ t.

@@ -1,6 +1,6 @@
 use Rattle.p3_fri_two_adic.specs.Ldes.{HasLdeHeight}
 use Rattle.p3_fri_hiding_tests.proofs.Each.{one_more, to_the_end}
-use Rattle.p3_fri_hiding_tests.proofs.committed.are_words.Goals as goal
+use Rattle.p3_fri_hiding_tests.proofs.committable.are_words.Goals as goal
 
 pub loop-word-preserved : goal.loop-word-preserved
 loop-word-preserved c =

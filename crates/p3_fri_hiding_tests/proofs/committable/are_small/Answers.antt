@@ -1,6 +1,6 @@
 use Rattle.std.proofs.Common.{◌≤◌, ◌+◌, arith}
 use Rattle.p3_fri_hiding_tests.proofs.Each.{one_more, to_the_end}
-use Rattle.p3_fri_hiding_tests.proofs.committed.are_small.Goals as goal
+use Rattle.p3_fri_hiding_tests.proofs.committable.are_small.Goals as goal
 
 pub loop-domain-preserved : goal.loop-domain-preserved
 loop-domain-preserved c =

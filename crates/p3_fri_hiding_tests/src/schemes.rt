@@ -1,0 +1,149 @@
+//! The hiding scheme of a setting, as tests run by it, and the plain one.
+
+ghost use Rattle.std.specs.Prelude.{◌≡◌, ◌<◌, ◌≤◌};
+ghost use Rattle.p3_fri_relation.specs.Views.{parameters_of};
+ghost use Rattle.p3_fri_two_adic.specs.Ranges.{InProverRange, InVerifierRange};
+ghost use Rattle.p3_fri_hiding_tests.specs.TestedLaws.{kept};
+
+use crate::chunks::are_maskable;
+use crate::committable::{are_doubled, are_small, are_words, column, doubled};
+use crate::openings::changes::{Change, change_random};
+use crate::openings::shapes::{Counts, have_counts};
+use crate::scheme::{Domain, Inputs, Proof, Rounds, Setting, generator, parameters};
+use crate::tested::Tested;
+use p3_dft::Radix2Dit;
+use p3_field::BabyBear;
+use p3_fri_folding::FriProverError;
+use p3_fri_hiding::{HidingFriPcs, HidingFriPcsProverData};
+use p3_fri_hiding_openings::{committed_matrices, hidden_columns};
+use p3_fri_masks::HidingFriProverError;
+use p3_fri_two_adic::TwoAdicFriPcs;
+use p3_matrix::RowMajorMatrix;
+use p3_mmcs::{Mmcs, Sha256Mmcs};
+use rand_chacha::ChaCha20Rng;
+use std::alloc::{AllocError, Global};
+use std::test::Fail;
+
+pub(crate) type Data = HidingFriPcsProverData<<Inputs as Mmcs<BabyBear>>::ProverData>;
+
+pub(crate) type Scheme = HidingFriPcs<BabyBear, Radix2Dit<BabyBear>, Inputs, Rounds, ChaCha20Rng>;
+
+pub(crate) type PlainScheme = TwoAdicFriPcs<BabyBear, Radix2Dit<BabyBear>, Inputs, Rounds>;
+
+/// The hiding scheme of that setting.
+pub(crate) fn scheme_of(setting: Setting) -> Scheme
+    ensures log_blowup { result.fri.log_blowup ≡ 2 }
+    ensures prover_range { 0 < setting.num_queries
+        → InProverRange (parameters_of result.fri) 27 63 }
+    ensures verifier_range { setting.log_final_poly_len ≤ 31
+        → InVerifierRange (parameters_of result.fri) 27 63 }
+{
+    HidingFriPcs::new(
+        Radix2Dit::default(),
+        Sha256Mmcs::new(),
+        parameters(setting),
+        setting.num_random_codewords,
+        generator(),
+    )
+}
+
+/// The plain scheme of that setting, which has no random codewords.
+pub(crate) fn plain_scheme_of(setting: Setting) -> PlainScheme
+    ensures log_blowup { result.fri.log_blowup ≡ 2 }
+    ensures prover_range { 0 < setting.num_queries
+        → InProverRange (parameters_of result.fri) 27 63 }
+    ensures verifier_range { setting.log_final_poly_len ≤ 31
+        → InVerifierRange (parameters_of result.fri) 27 63 }
+{
+    TwoAdicFriPcs::new(Radix2Dit::default(), Sha256Mmcs::new(), parameters(setting))
+}
+
+impl Tested for Scheme {
+    ghost IsTested = { λ s. s.fri.log_blowup ≡ 2 };
+
+    fn of(setting: Setting) -> Self {
+        scheme_of(setting)
+    }
+
+    fn fork(&mut self) -> Result<Self, AllocError> {
+        self.fork()
+    }
+
+    fn column_of(
+        &self,
+        alloc: Global,
+        numbers: &[u64],
+    ) -> Result<(Domain, RowMajorMatrix<BabyBear>), Fail> {
+        match column(alloc, numbers) {
+            Ok(column) => Ok(column),
+            Err(failure) => Err(failure),
+        }
+    }
+
+    fn can_commit(&self, evaluations: &[(Domain, RowMajorMatrix<BabyBear>)]) -> bool {
+        are_doubled(evaluations)
+    }
+
+    fn can_commit_ldes(&self, ldes: &[RowMajorMatrix<BabyBear>]) -> bool {
+        are_words(ldes)
+    }
+
+    fn can_extend(
+        &self,
+        alloc: Global,
+        chunks: &[(Domain, RowMajorMatrix<BabyBear>)],
+    ) -> Result<bool, AllocError> {
+        are_maskable(alloc, chunks)
+    }
+
+    fn claimed_domains(
+        &self,
+        alloc: Global,
+        chunks: &[(Domain, RowMajorMatrix<BabyBear>)],
+    ) -> Result<Vec<Domain>, Fail> {
+        doubled(alloc, chunks)
+    }
+
+    fn can_randomize(&self, domains: &[Domain]) -> bool {
+        are_small(domains)
+    }
+
+    fn can_read(&self, held: &Data, index: usize) -> bool {
+        let hidden = hidden_columns(held, held.num_random_codewords());
+        let matrices = committed_matrices(&Inputs::new(), held);
+        if index >= matrices.len() || matrices[index].width() <= hidden {
+            return false;
+        }
+        true
+    }
+
+    fn is_opened(held: &Data) -> bool {
+        held.is_opened()
+    }
+
+    fn is_new(held: &Data, is_preprocessing: bool, num_random_codewords: usize) -> bool {
+        !held.is_opened()
+            && held.is_preprocessing() == is_preprocessing
+            && held.num_random_codewords() == num_random_codewords
+            && held.log_blowup() == 2
+    }
+
+    fn has_random_values(proof: &Proof, counts: &[Counts]) -> bool {
+        have_counts(&proof.0, counts)
+    }
+
+    fn change_random_values(proof: &mut Proof, change: Change) {
+        change_random(&mut proof.0, change);
+    }
+
+    fn leaves(refusal: &HidingFriProverError) -> bool {
+        match refusal {
+            HidingFriProverError::HidingBudgetExceeded { .. } => true,
+            HidingFriProverError::Fri(FriProverError::PointInEvaluationDomain { .. }) => true,
+            _ => false,
+        }
+    }
+
+    ghost kept_law = { λ old new same is.
+        kept (record old { rng = new.rng }) new same (λ s. s.fri.log_blowup) is };
+}
