@@ -4,6 +4,8 @@
 #[cfg(test)]
 mod expectations;
 #[cfg(test)]
+mod faults;
+#[cfg(test)]
 mod forgeries;
 #[cfg(test)]
 mod openings;
