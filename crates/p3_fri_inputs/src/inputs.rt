@@ -19,6 +19,7 @@ use crate::claims::{combine_claims, greatest_width};
 use crate::heights::{falling_heights, has_height};
 use crate::opening::check_openings;
 use crate::points::inverse_distances;
+use crate::setting::InputSetting;
 use crate::sums::query_sums;
 use p3_field_core::{ExtensionField, Field, TwoAdicField, TwoAdicMultiplicativeCoset};
 use p3_fri_relation::error::{FriError, FriOpenings};
@@ -58,57 +59,46 @@ fn is_constant_zero<EF: Field>(has_constants: bool, sums: &[EF], log_blowup: usi
 /// What one query meets, or `None` if its quotient sum of the constants isn't zero.
 fn query_openings<F: TwoAdicField, EF: ExtensionField<F>, InputMmcs: Mmcs<F>>(
     alloc: Global,
+    setting: &InputSetting<'_, F, EF, InputMmcs>,
     ladder: &Ladder<EF>,
-    log_blowup: usize,
-    log_global_max_height: usize,
-    claims: &[CommitmentOpening<EF, InputMmcs::Commitment, TwoAdicMultiplicativeCoset<F>>],
-    openings: &[BatchMultiOpening<F, InputMmcs>],
     query: usize,
     combined: &[Vec<EF>],
     inverses: &[EF],
     heights: &[usize],
 ) -> Result<Option<FriOpenings<EF>>, AllocError>
-    requires within_two_adicity { log_global_max_height ≤ F.TWO_ADICITY }
-    requires readable { All
-        (IsReadable log_blowup (log_global_max_height + 1) (vec_len ladder.now.powers))
-        (matrices_of (claims_of (λ domain. domain.log_size) claims.now)) }
-    requires rows { AllZip (HasRowsAt log_blowup query)
-        (claims_of (λ domain. domain.log_size) claims.now) (inputs_opened openings.now) }
+    requires within_two_adicity { setting.now.log_global_max_height ≤ F.TWO_ADICITY }
+    requires readable { let s = setting.now in All
+        (IsReadable s.log_blowup (s.log_global_max_height + 1) (vec_len ladder.now.powers))
+        (matrices_of (claims_of (λ domain. domain.log_size) s.claims.now)) }
+    requires rows { let s = setting.now in AllZip (HasRowsAt s.log_blowup query)
+        (claims_of (λ domain. domain.log_size) s.claims.now) (inputs_opened s.openings.now) }
     requires combined { lists combined.now
         ≡ map (λ c. combined_values EF.ops ladder.now.alpha c.matrices)
-        (claims_of (λ domain. domain.log_size) claims.now) }
+        (claims_of (λ domain. domain.log_size) setting.now.claims.now) }
     requires inverses { length inverses.now ≡ length (combined_values EF.ops ladder.now.alpha
-        (matrices_of (claims_of (λ domain. domain.log_size) claims.now))) }
-    requires heights { heights.now ≡ heights_of log_blowup
-        (matrices_of (claims_of (λ domain. domain.log_size) claims.now)) }
+        (matrices_of (claims_of (λ domain. domain.log_size) setting.now.claims.now))) }
+    requires heights { heights.now ≡ heights_of setting.now.log_blowup
+        (matrices_of (claims_of (λ domain. domain.log_size) setting.now.claims.now)) }
     ensures { let f = ⟦<EF as ChallengeField<F>>⟧.fields in
-        let cs = claims_of (λ domain. domain.log_size) claims.now in
-        let inputs = inputs_opened openings.now in
+        let s = setting.now in
+        let cs = claims_of (λ domain. domain.log_size) s.claims.now in
+        let inputs = inputs_opened s.openings.now in
         IfOk result (λ found. (position : ℕ) →
-        inverses.now ≡ map EF.ops.inv (distances EF.ops log_blowup
-        (point_read f log_global_max_height position) (matrices_of cs)) →
+        inverses.now ≡ map EF.ops.inv (distances EF.ops s.log_blowup
+        (point_read f s.log_global_max_height position) (matrices_of cs)) →
         MatchOption found
-        (IsTrue (has_height log_blowup (matrices_of cs) log_blowup) × (sum_at f log_blowup
-        ladder.now.alpha log_global_max_height cs inputs query position log_blowup
+        (IsTrue (has_height s.log_blowup (matrices_of cs) s.log_blowup) × (sum_at f s.log_blowup
+        ladder.now.alpha s.log_global_max_height cs inputs query position s.log_blowup
         ≢ EF.ops.zero))
-        (λ answer. (answer.items ≡ sums_at f log_blowup ladder.now.alpha log_global_max_height cs
-        inputs query position)
-        × (IsTrue (has_height log_blowup (matrices_of cs) log_blowup) → sum_at f log_blowup
-        ladder.now.alpha log_global_max_height cs inputs query position log_blowup
+        (λ answer. (answer.items ≡ sums_at f s.log_blowup ladder.now.alpha
+        s.log_global_max_height cs inputs query position)
+        × (IsTrue (has_height s.log_blowup (matrices_of cs) s.log_blowup) → sum_at f s.log_blowup
+        ladder.now.alpha s.log_global_max_height cs inputs query position s.log_blowup
         ≡ EF.ops.zero))) }
 {
-    let sums = query_sums(
-        alloc,
-        ladder,
-        log_blowup,
-        log_global_max_height,
-        claims,
-        openings,
-        query,
-        combined,
-        inverses,
-    )?;
-    let has_constants = has_height(claims, log_blowup, log_blowup);
+    let log_blowup = setting.log_blowup;
+    let sums = query_sums(alloc, setting, ladder, query, combined, inverses)?;
+    let has_constants = has_height(setting.claims, log_blowup, log_blowup);
     if !is_constant_zero(has_constants, &sums, log_blowup) {
         return Ok(None);
     }
@@ -131,45 +121,46 @@ fn inverses_per_index<EF: Field>(inverses: &[EF], indices: &[usize]) -> usize
 /// by query.
 fn openings_by_query<F: TwoAdicField, EF: ExtensionField<F>, InputMmcs: Mmcs<F>>(
     alloc: Global,
+    setting: &InputSetting<'_, F, EF, InputMmcs>,
     ladder: &Ladder<EF>,
-    log_blowup: usize,
-    log_global_max_height: usize,
-    indices: &[usize],
-    claims: &[CommitmentOpening<EF, InputMmcs::Commitment, TwoAdicMultiplicativeCoset<F>>],
-    openings: &[BatchMultiOpening<F, InputMmcs>],
     combined: &[Vec<EF>],
     inverses: &[EF],
     heights: &[usize],
 ) -> Result<Option<Vec<FriOpenings<EF>>>, AllocError>
-    requires within_two_adicity { log_global_max_height ≤ F.TWO_ADICITY }
-    requires readable { All
-        (IsReadable log_blowup (log_global_max_height + 1) (vec_len ladder.now.powers))
-        (matrices_of (claims_of (λ domain. domain.log_size) claims.now)) }
-    requires rows { (j : ℕ) → j < length indices.now → AllZip (HasRowsAt log_blowup j)
-        (claims_of (λ domain. domain.log_size) claims.now) (inputs_opened openings.now) }
+    requires within_two_adicity { setting.now.log_global_max_height ≤ F.TWO_ADICITY }
+    requires readable { let s = setting.now in All
+        (IsReadable s.log_blowup (s.log_global_max_height + 1) (vec_len ladder.now.powers))
+        (matrices_of (claims_of (λ domain. domain.log_size) s.claims.now)) }
+    requires rows { let s = setting.now in
+        (j : ℕ) → j < length s.indices.now → AllZip (HasRowsAt s.log_blowup j)
+        (claims_of (λ domain. domain.log_size) s.claims.now) (inputs_opened s.openings.now) }
     requires combined { lists combined.now
         ≡ map (λ c. combined_values EF.ops ladder.now.alpha c.matrices)
-        (claims_of (λ domain. domain.log_size) claims.now) }
+        (claims_of (λ domain. domain.log_size) setting.now.claims.now) }
     requires inverses { let f = ⟦<EF as ChallengeField<F>>⟧.fields in
-        inverses.now ≡ map EF.ops.inv (flat_map (λ q. distances EF.ops log_blowup
-        (point_read f log_global_max_height q)
-        (matrices_of (claims_of (λ domain. domain.log_size) claims.now))) indices.now) }
-    requires heights { heights.now ≡ heights_of log_blowup
-        (matrices_of (claims_of (λ domain. domain.log_size) claims.now)) }
+        let s = setting.now in
+        inverses.now ≡ map EF.ops.inv (flat_map (λ q. distances EF.ops s.log_blowup
+        (point_read f s.log_global_max_height q)
+        (matrices_of (claims_of (λ domain. domain.log_size) s.claims.now))) s.indices.now) }
+    requires heights { heights.now ≡ heights_of setting.now.log_blowup
+        (matrices_of (claims_of (λ domain. domain.log_size) setting.now.claims.now)) }
     ensures { let f = ⟦<EF as ChallengeField<F>>⟧.fields in
-        let cs = claims_of (λ domain. domain.log_size) claims.now in
-        let inputs = inputs_opened openings.now in
-        let sum = λ (j h : ℕ). sum_at f log_blowup ladder.now.alpha log_global_max_height
-        cs inputs j (slice_index indices.now j) h in
+        let s = setting.now in
+        let cs = claims_of (λ domain. domain.log_size) s.claims.now in
+        let inputs = inputs_opened s.openings.now in
+        let sum = λ (j h : ℕ). sum_at f s.log_blowup ladder.now.alpha s.log_global_max_height
+        cs inputs j (slice_index s.indices.now j) h in
         IfOk result (λ found. MatchOption found
-        (IsTrue (has_height log_blowup (matrices_of cs) log_blowup)
-        × SomeIndex indices.now (λ j. sum j log_blowup ≢ EF.ops.zero))
-        (λ answers. (lists answers.items ≡ tabulate (length indices.now) (λ j. sums_at f log_blowup
-        ladder.now.alpha log_global_max_height cs inputs j (slice_index indices.now j)))
-        × ((j : ℕ) → j < length indices.now →
-        IsTrue (has_height log_blowup (matrices_of cs) log_blowup) →
-        sum j log_blowup ≡ EF.ops.zero))) }
+        (IsTrue (has_height s.log_blowup (matrices_of cs) s.log_blowup)
+        × SomeIndex s.indices.now (λ j. sum j s.log_blowup ≢ EF.ops.zero))
+        (λ answers. (lists answers.items ≡ tabulate (length s.indices.now) (λ j. sums_at f
+        s.log_blowup ladder.now.alpha s.log_global_max_height cs inputs j
+        (slice_index s.indices.now j)))
+        × ((j : ℕ) → j < length s.indices.now →
+        IsTrue (has_height s.log_blowup (matrices_of cs) s.log_blowup) →
+        sum j s.log_blowup ≡ EF.ops.zero))) }
 {
+    let indices = setting.indices;
     let count = inverses_per_index(inverses, indices);
     let mut answers = Vec::with_capacity(alloc, indices.len())?;
     let mut start = 0;
@@ -177,11 +168,8 @@ fn openings_by_query<F: TwoAdicField, EF: ExtensionField<F>, InputMmcs: Mmcs<F>>
         let end = start + count;
         let found = query_openings(
             alloc,
+            setting,
             ladder,
-            log_blowup,
-            log_global_max_height,
-            claims,
-            openings,
             j,
             combined,
             &inverses[start..end],
@@ -200,93 +188,97 @@ fn openings_by_query<F: TwoAdicField, EF: ExtensionField<F>, InputMmcs: Mmcs<F>>
 /// are those of the claimed points' distances from the points read, query by query.
 fn all_openings<F: TwoAdicField, EF: ExtensionField<F>, InputMmcs: Mmcs<F>>(
     alloc: Global,
-    log_blowup: usize,
-    log_global_max_height: usize,
-    indices: &[usize],
+    setting: &InputSetting<'_, F, EF, InputMmcs>,
     alpha: EF,
-    claims: &[CommitmentOpening<EF, InputMmcs::Commitment, TwoAdicMultiplicativeCoset<F>>],
-    openings: &[BatchMultiOpening<F, InputMmcs>],
     inverses: &[EF],
 ) -> Result<Option<Vec<FriOpenings<EF>>>, AllocError>
-    requires within_two_adicity { log_global_max_height ≤ F.TWO_ADICITY }
-    requires heights { All (λ m. log_height log_blowup m ≤ log_global_max_height)
-        (matrices_of (claims_of (λ domain. domain.log_size) claims.now)) }
+    requires within_two_adicity { setting.now.log_global_max_height ≤ F.TWO_ADICITY }
+    requires heights { let s = setting.now in
+        All (λ m. log_height s.log_blowup m ≤ s.log_global_max_height)
+        (matrices_of (claims_of (λ domain. domain.log_size) s.claims.now)) }
     requires points { All HasPoints
-        (matrices_of (claims_of (λ domain. domain.log_size) claims.now)) }
-    requires rows { (j : ℕ) → j < length indices.now → AllZip (HasRowsAt log_blowup j)
-        (claims_of (λ domain. domain.log_size) claims.now) (inputs_opened openings.now) }
+        (matrices_of (claims_of (λ domain. domain.log_size) setting.now.claims.now)) }
+    requires rows { let s = setting.now in
+        (j : ℕ) → j < length s.indices.now → AllZip (HasRowsAt s.log_blowup j)
+        (claims_of (λ domain. domain.log_size) s.claims.now) (inputs_opened s.openings.now) }
     requires inverses { let f = ⟦<EF as ChallengeField<F>>⟧.fields in
-        inverses.now ≡ map EF.ops.inv (flat_map (λ q. distances EF.ops log_blowup
-        (point_read f log_global_max_height q)
-        (matrices_of (claims_of (λ domain. domain.log_size) claims.now))) indices.now) }
+        let s = setting.now in
+        inverses.now ≡ map EF.ops.inv (flat_map (λ q. distances EF.ops s.log_blowup
+        (point_read f s.log_global_max_height q)
+        (matrices_of (claims_of (λ domain. domain.log_size) s.claims.now))) s.indices.now) }
     ensures { let f = ⟦<EF as ChallengeField<F>>⟧.fields in
-        let cs = claims_of (λ domain. domain.log_size) claims.now in
-        let inputs = inputs_opened openings.now in
-        let sum = λ (j h : ℕ). sum_at f log_blowup alpha log_global_max_height cs inputs j
-        (slice_index indices.now j) h in
+        let s = setting.now in
+        let cs = claims_of (λ domain. domain.log_size) s.claims.now in
+        let inputs = inputs_opened s.openings.now in
+        let sum = λ (j h : ℕ). sum_at f s.log_blowup alpha s.log_global_max_height cs inputs j
+        (slice_index s.indices.now j) h in
         IfOk result (λ found. MatchOption found
-        (IsTrue (has_height log_blowup (matrices_of cs) log_blowup)
-        × SomeIndex indices.now (λ j. sum j log_blowup ≢ EF.ops.zero))
-        (λ answers. (lists answers.items ≡ tabulate (length indices.now) (λ j. sums_at f log_blowup
-        alpha log_global_max_height cs inputs j (slice_index indices.now j)))
-        × ((j : ℕ) → j < length indices.now →
-        IsTrue (has_height log_blowup (matrices_of cs) log_blowup) →
-        sum j log_blowup ≡ EF.ops.zero))) }
+        (IsTrue (has_height s.log_blowup (matrices_of cs) s.log_blowup)
+        × SomeIndex s.indices.now (λ j. sum j s.log_blowup ≢ EF.ops.zero))
+        (λ answers. (lists answers.items ≡ tabulate (length s.indices.now) (λ j. sums_at f
+        s.log_blowup alpha s.log_global_max_height cs inputs j (slice_index s.indices.now j)))
+        × ((j : ℕ) → j < length s.indices.now →
+        IsTrue (has_height s.log_blowup (matrices_of cs) s.log_blowup) →
+        sum j s.log_blowup ≡ EF.ops.zero))) }
 {
+    let claims = setting.claims;
     let ladder = Ladder::new(alloc, alpha, greatest_width(claims))?;
     let combined = combine_claims(alloc, &ladder, claims)?;
-    let heights = falling_heights(alloc, claims, log_blowup, log_global_max_height)?;
-    openings_by_query(
+    let heights = falling_heights(
         alloc,
-        &ladder,
-        log_blowup,
-        log_global_max_height,
-        indices,
         claims,
-        openings,
-        &combined,
-        inverses,
-        &heights,
-    )
+        setting.log_blowup,
+        setting.log_global_max_height,
+    )?;
+    openings_by_query(alloc, setting, &ladder, &combined, inverses, &heights)
 }
 
 /// The quotient sums of checked openings, query by query.
 fn sum_inputs<F: TwoAdicField, EF: ExtensionField<F>, InputMmcs: Mmcs<F>, A, B>(
     alloc: Global,
-    log_blowup: usize,
-    log_global_max_height: usize,
-    indices: &[usize],
-    input_openings: &[BatchMultiOpening<F, InputMmcs>],
+    setting: &InputSetting<'_, F, EF, InputMmcs>,
     alpha: EF,
-    claims: &[CommitmentOpening<EF, InputMmcs::Commitment, TwoAdicMultiplicativeCoset<F>>],
 ) -> Result<Vec<FriOpenings<EF>>, FriError<A, B>>
-    requires within_two_adicity { log_global_max_height ≤ F.TWO_ADICITY }
-    requires heights { All (λ m. log_height log_blowup m ≤ log_global_max_height)
-        (matrices_of (claims_of (λ domain. domain.log_size) claims.now)) }
+    requires within_two_adicity { setting.now.log_global_max_height ≤ F.TWO_ADICITY }
+    requires heights { let s = setting.now in
+        All (λ m. log_height s.log_blowup m ≤ s.log_global_max_height)
+        (matrices_of (claims_of (λ domain. domain.log_size) s.claims.now)) }
     requires points { All HasPoints
-        (matrices_of (claims_of (λ domain. domain.log_size) claims.now)) }
-    requires rows { (j : ℕ) → j < length indices.now → AllZip (HasRowsAt log_blowup j)
-        (claims_of (λ domain. domain.log_size) claims.now) (inputs_opened input_openings.now) }
+        (matrices_of (claims_of (λ domain. domain.log_size) setting.now.claims.now)) }
+    requires rows { let s = setting.now in
+        (j : ℕ) → j < length s.indices.now → AllZip (HasRowsAt s.log_blowup j)
+        (claims_of (λ domain. domain.log_size) s.claims.now) (inputs_opened s.openings.now) }
     ensures defined { let f = ⟦<EF as ChallengeField<F>>⟧.fields in
-        IsOk result → EachIndex indices.now (λ j. IsDefinedAt f log_blowup log_global_max_height
-        (claims_of (λ domain. domain.log_size) claims.now) (slice_index indices.now j)) }
+        let s = setting.now in
+        IsOk result → EachIndex s.indices.now (λ j.
+        IsDefinedAt f s.log_blowup s.log_global_max_height
+        (claims_of (λ domain. domain.log_size) s.claims.now) (slice_index s.indices.now j)) }
     ensures constants { let f = ⟦<EF as ChallengeField<F>>⟧.fields in
-        let cs = claims_of (λ domain. domain.log_size) claims.now in
-        IsOk result → (j : ℕ) → j < length indices.now →
-        IsTrue (has_height log_blowup (matrices_of cs) log_blowup) →
-        sum_at f log_blowup alpha log_global_max_height cs (inputs_opened input_openings.now) j
-        (slice_index indices.now j) log_blowup ≡ EF.ops.zero }
+        let s = setting.now in
+        let cs = claims_of (λ domain. domain.log_size) s.claims.now in
+        IsOk result → (j : ℕ) → j < length s.indices.now →
+        IsTrue (has_height s.log_blowup (matrices_of cs) s.log_blowup) →
+        sum_at f s.log_blowup alpha s.log_global_max_height cs (inputs_opened s.openings.now) j
+        (slice_index s.indices.now j) s.log_blowup ≡ EF.ops.zero }
     ensures sums { let f = ⟦<EF as ChallengeField<F>>⟧.fields in
-        IfOk result (λ openings. lists openings.items ≡ tabulate (length indices.now)
-        (λ j. sums_at f log_blowup alpha log_global_max_height
-        (claims_of (λ domain. domain.log_size) claims.now) (inputs_opened input_openings.now) j
-        (slice_index indices.now j))) }
+        let s = setting.now in
+        IfOk result (λ openings. lists openings.items ≡ tabulate (length s.indices.now)
+        (λ j. sums_at f s.log_blowup alpha s.log_global_max_height
+        (claims_of (λ domain. domain.log_size) s.claims.now) (inputs_opened s.openings.now) j
+        (slice_index s.indices.now j))) }
     ensures fault { let f = ⟦<EF as ChallengeField<F>>⟧.fields in
-        (mmcs : InputMmcs) → IfErr result (InputFault f log_blowup alpha log_global_max_height
-        (claims_of (λ domain. domain.log_size) claims.now)
-        (inputs_opened input_openings.now) (InputMmcs.opens mmcs) indices.now) }
+        let s = setting.now in
+        (mmcs : InputMmcs) → IfErr result (InputFault f s.log_blowup alpha s.log_global_max_height
+        (claims_of (λ domain. domain.log_size) s.claims.now)
+        (inputs_opened s.openings.now) (InputMmcs.opens mmcs) s.indices.now) }
 {
-    let found = inverse_distances(alloc, log_blowup, log_global_max_height, indices, claims)?;
+    let found = inverse_distances(
+        alloc,
+        setting.log_blowup,
+        setting.log_global_max_height,
+        setting.indices,
+        setting.claims,
+    )?;
     let inverses = match found {
         Ok(inverses) => inverses,
         Err(at) => {
@@ -297,16 +289,7 @@ fn sum_inputs<F: TwoAdicField, EF: ExtensionField<F>, InputMmcs: Mmcs<F>, A, B>(
             });
         },
     };
-    let summed = all_openings(
-        alloc,
-        log_blowup,
-        log_global_max_height,
-        indices,
-        alpha,
-        claims,
-        input_openings,
-        &inverses,
-    )?;
+    let summed = all_openings(alloc, setting, alpha, &inverses)?;
     match summed {
         Some(openings) => Ok(openings),
         None => Err(FriError::FinalPolyMismatch),
@@ -360,25 +343,15 @@ pub fn open_inputs<F: TwoAdicField, EF: ExtensionField<F>, M: Mmcs<EF>, InputMmc
         (claims_of (λ domain. domain.log_size) claims.now)
         (inputs_opened input_openings.now) (InputMmcs.opens input_mmcs.now) indices.now) }
 {
-    let log_blowup = params.log_blowup;
-    if let Err(error) = check_openings(
-        alloc,
-        input_mmcs,
-        log_blowup,
+    let setting = InputSetting {
+        log_blowup: params.log_blowup,
         log_global_max_height,
         indices,
         claims,
-        input_openings,
-    ) {
+        openings: input_openings,
+    };
+    if let Err(error) = check_openings(alloc, input_mmcs, &setting) {
         return Err(error);
     }
-    sum_inputs(
-        alloc,
-        log_blowup,
-        log_global_max_height,
-        indices,
-        input_openings,
-        alpha,
-        claims,
-    )
+    sum_inputs(alloc, &setting, alpha)
 }

@@ -8,6 +8,7 @@ mod heights;
 mod inputs;
 mod opening;
 mod points;
+mod setting;
 mod sums;
 
 pub use heights::heights_are_within;

@@ -14,12 +14,12 @@ ghost use Rattle.p3_fri_relation.specs.Views.{claims_of, matrix_claim, inputs_op
 
 use crate::checks::{claimed_width, first_uneven, first_without_points};
 use crate::heights::greatest_log_height;
+use crate::setting::InputSetting;
 use p3_field_core::{ExtensionField, Field, TwoAdicField, TwoAdicMultiplicativeCoset};
 use p3_fri_relation::error::FriError;
-use p3_fri_relation::proof::BatchMultiOpening;
 use p3_fri_relation::setting::ChallengeField;
 use p3_matrix::Dimensions;
-use p3_mmcs::{CommitmentOpening, MatrixOpening, Mmcs};
+use p3_mmcs::{MatrixOpening, Mmcs};
 use std::alloc::{AllocError, Global};
 
 /// The number of rows in the first set that doesn't have `matrices` of them.
@@ -87,29 +87,30 @@ fn opened_indices<F: TwoAdicField, EF: Field>(
 fn verify_commitment<F: TwoAdicField, EF: ExtensionField<F>, InputMmcs: Mmcs<F>, RoundErr>(
     alloc: Global,
     input_mmcs: &InputMmcs,
-    log_blowup: usize,
-    log_global_max_height: usize,
-    indices: &[usize],
-    claims: &[CommitmentOpening<EF, InputMmcs::Commitment, TwoAdicMultiplicativeCoset<F>>],
-    openings: &[BatchMultiOpening<F, InputMmcs>],
+    setting: &InputSetting<'_, F, EF, InputMmcs>,
     batch: usize,
 ) -> Result<(), FriError<RoundErr, InputMmcs::Error>>
-    requires within_two_adicity { log_global_max_height ≤ F.TWO_ADICITY }
-    requires heights { All (λ m. log_height log_blowup m ≤ log_global_max_height)
-        (matrices_of (claims_of (λ domain. domain.log_size) claims.now)) }
-    requires below { AreBelow (2 ^ log_global_max_height) indices.now }
-    requires count { length openings.now ≡ length claims.now }
-    requires batch { batch < length claims.now }
+    requires within_two_adicity { setting.now.log_global_max_height ≤ F.TWO_ADICITY }
+    requires heights { let s = setting.now in
+        All (λ m. log_height s.log_blowup m ≤ s.log_global_max_height)
+        (matrices_of (claims_of (λ domain. domain.log_size) s.claims.now)) }
+    requires below { AreBelow (2 ^ setting.now.log_global_max_height) setting.now.indices.now }
+    requires count { length setting.now.openings.now ≡ length setting.now.claims.now }
+    requires batch { batch < length setting.now.claims.now }
     ensures { let f = ⟦<EF as ChallengeField<F>>⟧.fields in
-        let cs = claims_of (λ domain. domain.log_size) claims.now in
-        let inputs = inputs_opened openings.now in
+        let s = setting.now in
+        let cs = claims_of (λ domain. domain.log_size) s.claims.now in
+        let inputs = inputs_opened s.openings.now in
         let opens = InputMmcs.opens input_mmcs.now in
         MatchResult result
-        (λ _. At batch (λ pair. OpensInput opens log_blowup log_global_max_height indices.now pair.0
-        pair.1) (zip cs inputs))
-        (λ e. (e ≡ OutOfMemory) ⊎ ((alpha : EF) → InputFault f log_blowup alpha
-        log_global_max_height cs inputs opens indices.now e)) }
+        (λ _. At batch (λ pair. OpensInput opens s.log_blowup s.log_global_max_height
+        s.indices.now pair.0 pair.1) (zip cs inputs))
+        (λ e. (e ≡ OutOfMemory) ⊎ ((alpha : EF) → InputFault f s.log_blowup alpha
+        s.log_global_max_height cs inputs opens s.indices.now e)) }
 {
+    let claims = setting.claims;
+    let openings = setting.openings;
+    let indices = setting.indices;
     let claim = &claims[batch];
     let opening = &openings[batch];
     let got = opening.opened_values.len();
@@ -128,12 +129,12 @@ fn verify_commitment<F: TwoAdicField, EF: ExtensionField<F>, InputMmcs: Mmcs<F>,
             got,
         });
     }
-    let dims = claimed_dimensions(alloc, &claim.matrices, log_blowup)?;
+    let dims = claimed_dimensions(alloc, &claim.matrices, setting.log_blowup)?;
     let opened = opened_indices(
         alloc,
         &claim.matrices,
-        log_blowup,
-        log_global_max_height,
+        setting.log_blowup,
+        setting.log_global_max_height,
         indices,
     )?;
     match input_mmcs.verify_multi_batch(
@@ -152,66 +153,56 @@ fn verify_commitment<F: TwoAdicField, EF: ExtensionField<F>, InputMmcs: Mmcs<F>,
 fn verify_commitments<F: TwoAdicField, EF: ExtensionField<F>, InputMmcs: Mmcs<F>, RoundErr>(
     alloc: Global,
     input_mmcs: &InputMmcs,
-    log_blowup: usize,
-    log_global_max_height: usize,
-    indices: &[usize],
-    claims: &[CommitmentOpening<EF, InputMmcs::Commitment, TwoAdicMultiplicativeCoset<F>>],
-    openings: &[BatchMultiOpening<F, InputMmcs>],
+    setting: &InputSetting<'_, F, EF, InputMmcs>,
 ) -> Result<(), FriError<RoundErr, InputMmcs::Error>>
-    requires within_two_adicity { log_global_max_height ≤ F.TWO_ADICITY }
-    requires heights { All (λ m. log_height log_blowup m ≤ log_global_max_height)
-        (matrices_of (claims_of (λ domain. domain.log_size) claims.now)) }
-    requires below { AreBelow (2 ^ log_global_max_height) indices.now }
-    requires count { length openings.now ≡ length claims.now }
+    requires within_two_adicity { setting.now.log_global_max_height ≤ F.TWO_ADICITY }
+    requires heights { let s = setting.now in
+        All (λ m. log_height s.log_blowup m ≤ s.log_global_max_height)
+        (matrices_of (claims_of (λ domain. domain.log_size) s.claims.now)) }
+    requires below { AreBelow (2 ^ setting.now.log_global_max_height) setting.now.indices.now }
+    requires count { length setting.now.openings.now ≡ length setting.now.claims.now }
     ensures { let f = ⟦<EF as ChallengeField<F>>⟧.fields in
-        let cs = claims_of (λ domain. domain.log_size) claims.now in
-        let inputs = inputs_opened openings.now in
+        let s = setting.now in
+        let cs = claims_of (λ domain. domain.log_size) s.claims.now in
+        let inputs = inputs_opened s.openings.now in
         let opens = InputMmcs.opens input_mmcs.now in
         MatchResult result
-        (λ _. AllZip (OpensInput opens log_blowup log_global_max_height indices.now) cs inputs)
-        (λ e. (e ≡ OutOfMemory) ⊎ ((alpha : EF) → InputFault f log_blowup alpha
-        log_global_max_height cs inputs opens indices.now e)) }
+        (λ _. AllZip (OpensInput opens s.log_blowup s.log_global_max_height s.indices.now)
+        cs inputs)
+        (λ e. (e ≡ OutOfMemory) ⊎ ((alpha : EF) → InputFault f s.log_blowup alpha
+        s.log_global_max_height cs inputs opens s.indices.now e)) }
 {
-    for batch in 0..claims.len() {
-        verify_commitment(
-            alloc,
-            input_mmcs,
-            log_blowup,
-            log_global_max_height,
-            indices,
-            claims,
-            openings,
-            batch,
-        )?;
+    for batch in 0..setting.claims.len() {
+        verify_commitment(alloc, input_mmcs, setting, batch)?;
     }
     Ok(())
 }
 
 /// Whether each matrix is claimed at some point and of as many values at each, and there is one
 /// opening for each commitment, which the scheme takes for the commitment's.
-pub fn check_openings<F: TwoAdicField, EF: ExtensionField<F>, InputMmcs: Mmcs<F>, RoundErr>(
+pub(crate) fn check_openings<F: TwoAdicField, EF: ExtensionField<F>, InputMmcs: Mmcs<F>, RoundErr>(
     alloc: Global,
     input_mmcs: &InputMmcs,
-    log_blowup: usize,
-    log_global_max_height: usize,
-    indices: &[usize],
-    claims: &[CommitmentOpening<EF, InputMmcs::Commitment, TwoAdicMultiplicativeCoset<F>>],
-    openings: &[BatchMultiOpening<F, InputMmcs>],
+    setting: &InputSetting<'_, F, EF, InputMmcs>,
 ) -> Result<(), FriError<RoundErr, InputMmcs::Error>>
-    requires within_two_adicity { log_global_max_height ≤ F.TWO_ADICITY }
-    requires heights { All (λ m. log_height log_blowup m ≤ log_global_max_height)
-        (matrices_of (claims_of (λ domain. domain.log_size) claims.now)) }
-    requires below { AreBelow (2 ^ log_global_max_height) indices.now }
+    requires within_two_adicity { setting.now.log_global_max_height ≤ F.TWO_ADICITY }
+    requires heights { let s = setting.now in
+        All (λ m. log_height s.log_blowup m ≤ s.log_global_max_height)
+        (matrices_of (claims_of (λ domain. domain.log_size) s.claims.now)) }
+    requires below { AreBelow (2 ^ setting.now.log_global_max_height) setting.now.indices.now }
     ensures { let f = ⟦<EF as ChallengeField<F>>⟧.fields in
-        let cs = claims_of (λ domain. domain.log_size) claims.now in
-        let inputs = inputs_opened openings.now in
+        let s = setting.now in
+        let cs = claims_of (λ domain. domain.log_size) s.claims.now in
+        let inputs = inputs_opened s.openings.now in
         let opens = InputMmcs.opens input_mmcs.now in
         MatchResult result
         (λ _. (All HasPoints (matrices_of cs))
-        × AllZip (OpensInput opens log_blowup log_global_max_height indices.now) cs inputs)
-        (λ e. (e ≡ OutOfMemory) ⊎ ((alpha : EF) → InputFault f log_blowup alpha
-        log_global_max_height cs inputs opens indices.now e)) }
+        × AllZip (OpensInput opens s.log_blowup s.log_global_max_height s.indices.now) cs inputs)
+        (λ e. (e ≡ OutOfMemory) ⊎ ((alpha : EF) → InputFault f s.log_blowup alpha
+        s.log_global_max_height cs inputs opens s.indices.now e)) }
 {
+    let claims = setting.claims;
+    let openings = setting.openings;
     if openings.len() != claims.len() {
         return Err(FriError::InputProofBatchCountMismatch {
             expected: claims.len(),
@@ -230,13 +221,5 @@ pub fn check_openings<F: TwoAdicField, EF: ExtensionField<F>, InputMmcs: Mmcs<F>
             got: found.got,
         });
     }
-    verify_commitments(
-        alloc,
-        input_mmcs,
-        log_blowup,
-        log_global_max_height,
-        indices,
-        claims,
-        openings,
-    )
+    verify_commitments(alloc, input_mmcs, setting)
 }

@@ -17,12 +17,22 @@ ghost use Rattle.p3_fri_inputs.specs.Claims.{claim_of, combined_values, distance
 ghost use Rattle.p3_fri_inputs.specs.Claims.{IsReadable, HasRowsAt};
 ghost use Rattle.p3_fri_inputs.specs.Points.{AreCombined};
 
+use crate::setting::InputSetting;
 use p3_field_core::{ExtensionField, Field, TwoAdicField, TwoAdicMultiplicativeCoset};
 use p3_fri_relation::proof::BatchMultiOpening;
 use p3_fri_relation::setting::ChallengeField;
 use p3_fri_relation::{Ladder, combine_row};
 use p3_mmcs::{CommitmentOpening, MatrixOpening, Mmcs};
 use std::alloc::{AllocError, Global};
+
+/// What the quotients at some claimed points are made of, point by point.
+#[derive(Drop)]
+struct PointValues<'a, EF> {
+    /// The values that are claimed at each point, combined by the ladder.
+    claimed: &'a [EF],
+    /// The inverse of each point's distance from the point read.
+    inverses: &'a [EF],
+}
 
 /// The sum of a matrix's quotients at its points and of the terms after them, of which `sum` is the
 /// sum: of each point the combined values that are claimed there and the inverse of its distance
@@ -67,36 +77,36 @@ fn add_matrix<F: TwoAdicField, EF: ExtensionField<F>>(
 }
 
 /// Puts a matrix's quotients before the terms of its log height, whose sum stands in `sums`. What
-/// belongs to its points ends at `end` in `claimed` and `inverses`; the answer is where it begins.
+/// belongs to its points ends at `end` in `points`; the answer is where it begins.
 fn add_block<F: TwoAdicField, EF: ExtensionField<F>>(
     ladder: &Ladder<EF>,
     sums: &mut [EF],
     log_blowup: usize,
     matrix: &MatrixOpening<EF, TwoAdicMultiplicativeCoset<F>>,
     row: &[F],
-    claimed: &[EF],
-    inverses: &[EF],
+    points: &PointValues<'_, EF>,
     end: usize,
 ) -> usize
     requires height { matrix.now.domain.log_size + log_blowup < length sums.old }
     requires width { length row.now ≤ vec_len ladder.now.powers }
     requires points { vec_len matrix.now.points ≤ end }
-    requires end { end ≤ length claimed.now }
-    requires inverses { length inverses.now ≡ length claimed.now }
+    requires end { end ≤ length points.now.claimed.now }
+    requires inverses { length points.now.inverses.now ≡ length points.now.claimed.now }
     ensures start { result + vec_len matrix.now.points ≡ end }
     ensures sum { let f = ⟦<EF as ChallengeField<F>>⟧.fields in
         let h = matrix.now.domain.log_size + log_blowup in
         (sum : EF) × (sums.new ≡ slice_set sums.old h sum)
         × ((x : EF) (m : MatrixClaim EF) (later : List EF) →
         AreCombined EF.ops ladder.now.alpha x m.points (map EF.lift row.now)
-        (slice_range claimed.now result end) (slice_range inverses.now result end) →
+        (slice_range points.now.claimed.now result end)
+        (slice_range points.now.inverses.now result end) →
         slice_index_or sums.old h sum ≡ val EF.ops later ladder.now.alpha →
         sum ≡ val EF.ops (matrix_terms f x m row.now ++ later) ladder.now.alpha) }
 {
     let start = end - matrix.points.len();
     let h = matrix.domain.log_size + log_blowup;
-    let own_claimed = &claimed[start..end];
-    let own_inverses = &inverses[start..end];
+    let own_claimed = &points.claimed[start..end];
+    let own_inverses = &points.inverses[start..end];
     sums[h] = add_matrix(ladder, sums[h], row, own_claimed, own_inverses);
     start
 }
@@ -109,21 +119,20 @@ fn add_commitment<F: TwoAdicField, EF: ExtensionField<F>, Com>(
     log_blowup: usize,
     claim: &CommitmentOpening<EF, Com, TwoAdicMultiplicativeCoset<F>>,
     rows: &[Vec<F>],
-    claimed: &[EF],
-    inverses: &[EF],
+    points: &PointValues<'_, EF>,
 )
     requires readable { All (IsReadable log_blowup (length sums.old) (vec_len ladder.now.powers))
         (claim_of (λ domain. domain.log_size) claim.now).matrices }
     requires rows { HasRows
         (map (dimensions log_blowup) (claim_of (λ domain. domain.log_size) claim.now).matrices)
         (lists rows.now) }
-    requires claimed { claimed.now ≡ combined_values EF.ops ladder.now.alpha
+    requires claimed { points.now.claimed.now ≡ combined_values EF.ops ladder.now.alpha
         (claim_of (λ domain. domain.log_size) claim.now).matrices }
-    requires inverses { length inverses.now ≡ length claimed.now }
+    requires inverses { length points.now.inverses.now ≡ length points.now.claimed.now }
     ensures { let f = ⟦<EF as ChallengeField<F>>⟧.fields in
         let c = claim_of (λ domain. domain.log_size) claim.now in
         (read : ℕ → EF) (later : ℕ → List EF) →
-        inverses.now ≡ map EF.ops.inv (distances EF.ops log_blowup read c.matrices) →
+        points.now.inverses.now ≡ map EF.ops.inv (distances EF.ops log_blowup read c.matrices) →
         ((h : ℕ) (d : EF) → h < length sums.old →
         slice_index_or sums.old h d ≡ val EF.ops (later h) ladder.now.alpha) →
         (h : ℕ) (d : EF) → h < length sums.old →
@@ -131,7 +140,7 @@ fn add_commitment<F: TwoAdicField, EF: ExtensionField<F>, Com>(
         (commitment_terms f log_blowup h (read h) c (lists rows.now) ++ later h)
         ladder.now.alpha }
 {
-    let mut end = claimed.len();
+    let mut end = points.claimed.len();
     for k in (0..claim.matrices.len()).rev() {
         end = add_block(
             ladder,
@@ -139,16 +148,14 @@ fn add_commitment<F: TwoAdicField, EF: ExtensionField<F>, Com>(
             log_blowup,
             &claim.matrices[k],
             rows[k].as_slice(),
-            claimed,
-            inverses,
+            points,
             end,
         );
     }
 }
 
 /// Puts the quotients of the matrices under one commitment, of which `opening` opens the rows at
-/// this query, before the terms of which `sums` has the sum, by log height. What belongs to its
-/// points ends at `end` in `inverses`; the answer is where it begins.
+/// this query, before the terms of which `sums` has the sum, by log height.
 fn add_opening<F: TwoAdicField, EF: ExtensionField<F>, InputMmcs: Mmcs<F>>(
     ladder: &Ladder<EF>,
     sums: &mut [EF],
@@ -156,24 +163,19 @@ fn add_opening<F: TwoAdicField, EF: ExtensionField<F>, InputMmcs: Mmcs<F>>(
     claim: &CommitmentOpening<EF, InputMmcs::Commitment, TwoAdicMultiplicativeCoset<F>>,
     opening: &BatchMultiOpening<F, InputMmcs>,
     query: usize,
-    claimed: &[EF],
-    inverses: &[EF],
-    end: usize,
-) -> usize
+    points: &PointValues<'_, EF>,
+)
     requires readable { All (IsReadable log_blowup (length sums.old) (vec_len ladder.now.powers))
         (claim_of (λ domain. domain.log_size) claim.now).matrices }
     requires rows { HasRowsAt log_blowup query
         (claim_of (λ domain. domain.log_size) claim.now) (input_of opening.now) }
-    requires claimed { claimed.now ≡ combined_values EF.ops ladder.now.alpha
+    requires claimed { points.now.claimed.now ≡ combined_values EF.ops ladder.now.alpha
         (claim_of (λ domain. domain.log_size) claim.now).matrices }
-    requires start { length claimed.now ≤ end }
-    requires end { end ≤ length inverses.now }
-    ensures start { result + length claimed.now ≡ end }
-    ensures sums { let f = ⟦<EF as ChallengeField<F>>⟧.fields in
+    requires inverses { length points.now.inverses.now ≡ length points.now.claimed.now }
+    ensures { let f = ⟦<EF as ChallengeField<F>>⟧.fields in
         let c = claim_of (λ domain. domain.log_size) claim.now in
         (read : ℕ → EF) (later : ℕ → List EF) →
-        slice_range inverses.now result end
-        ≡ map EF.ops.inv (distances EF.ops log_blowup read c.matrices) →
+        points.now.inverses.now ≡ map EF.ops.inv (distances EF.ops log_blowup read c.matrices) →
         ((h : ℕ) (d : EF) → h < length sums.old →
         slice_index_or sums.old h d ≡ val EF.ops (later h) ladder.now.alpha) →
         (h : ℕ) (d : EF) → h < length sums.old →
@@ -181,18 +183,8 @@ fn add_opening<F: TwoAdicField, EF: ExtensionField<F>, InputMmcs: Mmcs<F>>(
         (slice_index_or (input_of opening.now).rows query []) ++ later h)
         ladder.now.alpha }
 {
-    let start = end - claimed.len();
     let rows = opening.opened_values[query].as_slice();
-    add_commitment(
-        ladder,
-        sums,
-        log_blowup,
-        claim,
-        rows,
-        claimed,
-        &inverses[start..end],
-    );
-    start
+    add_commitment(ladder, sums, log_blowup, claim, rows, points);
 }
 
 /// Adds up, in sums that begin at zero, the quotients of all matrices by their log heights, of the
@@ -201,45 +193,52 @@ fn add_opening<F: TwoAdicField, EF: ExtensionField<F>, InputMmcs: Mmcs<F>>(
 fn add_openings<F: TwoAdicField, EF: ExtensionField<F>, InputMmcs: Mmcs<F>>(
     ladder: &Ladder<EF>,
     sums: &mut [EF],
-    log_blowup: usize,
-    claims: &[CommitmentOpening<EF, InputMmcs::Commitment, TwoAdicMultiplicativeCoset<F>>],
-    openings: &[BatchMultiOpening<F, InputMmcs>],
+    setting: &InputSetting<'_, F, EF, InputMmcs>,
     query: usize,
     claimed: &[Vec<EF>],
     inverses: &[EF],
 )
-    requires readable { All (IsReadable log_blowup (length sums.old) (vec_len ladder.now.powers))
-        (matrices_of (claims_of (λ domain. domain.log_size) claims.now)) }
-    requires rows { AllZip (HasRowsAt log_blowup query)
-        (claims_of (λ domain. domain.log_size) claims.now) (inputs_opened openings.now) }
+    requires readable { let s = setting.now in
+        All (IsReadable s.log_blowup (length sums.old) (vec_len ladder.now.powers))
+        (matrices_of (claims_of (λ domain. domain.log_size) s.claims.now)) }
+    requires rows { let s = setting.now in AllZip (HasRowsAt s.log_blowup query)
+        (claims_of (λ domain. domain.log_size) s.claims.now) (inputs_opened s.openings.now) }
     requires claimed { lists claimed.now
         ≡ map (λ c. combined_values EF.ops ladder.now.alpha c.matrices)
-        (claims_of (λ domain. domain.log_size) claims.now) }
+        (claims_of (λ domain. domain.log_size) setting.now.claims.now) }
     requires inverses { length inverses.now ≡ length (combined_values EF.ops ladder.now.alpha
-        (matrices_of (claims_of (λ domain. domain.log_size) claims.now))) }
+        (matrices_of (claims_of (λ domain. domain.log_size) setting.now.claims.now))) }
     ensures { let f = ⟦<EF as ChallengeField<F>>⟧.fields in
-        let cs = claims_of (λ domain. domain.log_size) claims.now in
+        let s = setting.now in
+        let cs = claims_of (λ domain. domain.log_size) s.claims.now in
         (read : ℕ → EF) →
-        inverses.now ≡ map EF.ops.inv (distances EF.ops log_blowup read (matrices_of cs)) →
+        inverses.now ≡ map EF.ops.inv (distances EF.ops s.log_blowup read (matrices_of cs)) →
         ((h : ℕ) (d : EF) → h < length sums.old → slice_index_or sums.old h d ≡ EF.ops.zero) →
         (h : ℕ) (d : EF) → h < length sums.old →
-        slice_index_or sums.new h d ≡ val EF.ops
-        (terms f log_blowup h (read h) cs (rows_at query (inputs_opened openings.now)))
-        ladder.now.alpha }
+        slice_index_or sums.new h d ≡ val EF.ops (terms f s.log_blowup h (read h) cs
+        (rows_at query (inputs_opened s.openings.now))) ladder.now.alpha }
 {
+    let claims = setting.claims;
+    let openings = setting.openings;
     let mut end = inverses.len();
     for i in (0..claims.len()).rev() {
-        end = add_opening(
+        let claim = &claims[i];
+        let own = claimed[i].as_slice();
+        let start = end - own.len();
+        let points = PointValues {
+            claimed: own,
+            inverses: &inverses[start..end],
+        };
+        add_opening(
             ladder,
             sums,
-            log_blowup,
-            &claims[i],
+            setting.log_blowup,
+            claim,
             &openings[i],
             query,
-            &claimed[i],
-            inverses,
-            end,
+            &points,
         );
+        end = start;
     }
 }
 
@@ -255,43 +254,38 @@ fn zeros<EF: Field>(alloc: Global, count: usize) -> Result<Vec<EF>, AllocError>
     Ok(zeros)
 }
 
-/// The quotient sum of each log height up to `log_global_max_height` that a query meets, which
-/// opens these rows; `inverses` has those of the points' distances from the points read.
-pub fn query_sums<F: TwoAdicField, EF: ExtensionField<F>, InputMmcs: Mmcs<F>>(
+/// The quotient sum of each log height up to the greatest that a query meets; `inverses` has those
+/// of the points' distances from the points read.
+pub(crate) fn query_sums<F: TwoAdicField, EF: ExtensionField<F>, InputMmcs: Mmcs<F>>(
     alloc: Global,
+    setting: &InputSetting<'_, F, EF, InputMmcs>,
     ladder: &Ladder<EF>,
-    log_blowup: usize,
-    log_global_max_height: usize,
-    claims: &[CommitmentOpening<EF, InputMmcs::Commitment, TwoAdicMultiplicativeCoset<F>>],
-    openings: &[BatchMultiOpening<F, InputMmcs>],
     query: usize,
     claimed: &[Vec<EF>],
     inverses: &[EF],
 ) -> Result<Vec<EF>, AllocError>
-    requires within_two_adicity { log_global_max_height ≤ F.TWO_ADICITY }
-    requires readable { All
-        (IsReadable log_blowup (log_global_max_height + 1) (vec_len ladder.now.powers))
-        (matrices_of (claims_of (λ domain. domain.log_size) claims.now)) }
-    requires rows { AllZip (HasRowsAt log_blowup query)
-        (claims_of (λ domain. domain.log_size) claims.now) (inputs_opened openings.now) }
+    requires within_two_adicity { setting.now.log_global_max_height ≤ F.TWO_ADICITY }
+    requires readable { let s = setting.now in All
+        (IsReadable s.log_blowup (s.log_global_max_height + 1) (vec_len ladder.now.powers))
+        (matrices_of (claims_of (λ domain. domain.log_size) s.claims.now)) }
+    requires rows { let s = setting.now in AllZip (HasRowsAt s.log_blowup query)
+        (claims_of (λ domain. domain.log_size) s.claims.now) (inputs_opened s.openings.now) }
     requires claimed { lists claimed.now
         ≡ map (λ c. combined_values EF.ops ladder.now.alpha c.matrices)
-        (claims_of (λ domain. domain.log_size) claims.now) }
+        (claims_of (λ domain. domain.log_size) setting.now.claims.now) }
     requires inverses { length inverses.now ≡ length (combined_values EF.ops ladder.now.alpha
-        (matrices_of (claims_of (λ domain. domain.log_size) claims.now))) }
-    ensures count { IfOk result (λ sums. vec_len sums ≡ log_global_max_height + 1) }
+        (matrices_of (claims_of (λ domain. domain.log_size) setting.now.claims.now))) }
+    ensures count { IfOk result (λ sums. vec_len sums ≡ setting.now.log_global_max_height + 1) }
     ensures sums { let f = ⟦<EF as ChallengeField<F>>⟧.fields in
-        let cs = claims_of (λ domain. domain.log_size) claims.now in
+        let s = setting.now in
+        let cs = claims_of (λ domain. domain.log_size) s.claims.now in
         IfOk result (λ sums. (read : ℕ → EF) →
-        inverses.now ≡ map EF.ops.inv (distances EF.ops log_blowup read (matrices_of cs)) →
-        (h : ℕ) (d : EF) → h ≤ log_global_max_height →
-        slice_index_or sums.items h d ≡ val EF.ops
-        (terms f log_blowup h (read h) cs (rows_at query (inputs_opened openings.now)))
-        ladder.now.alpha) }
+        inverses.now ≡ map EF.ops.inv (distances EF.ops s.log_blowup read (matrices_of cs)) →
+        (h : ℕ) (d : EF) → h ≤ s.log_global_max_height →
+        slice_index_or sums.items h d ≡ val EF.ops (terms f s.log_blowup h (read h) cs
+        (rows_at query (inputs_opened s.openings.now))) ladder.now.alpha) }
 {
-    let mut sums = zeros(alloc, log_global_max_height + 1)?;
-    add_openings(
-        ladder, &mut sums, log_blowup, claims, openings, query, claimed, inverses,
-    );
+    let mut sums = zeros(alloc, setting.log_global_max_height + 1)?;
+    add_openings(ladder, &mut sums, setting, query, claimed, inverses);
     Ok(sums)
 }

@@ -7,9 +7,10 @@ use Rattle.p3_fri_inputs.proofs.inputs.all_openings.Goals as goal
 
 pub openings_by_query-requires-clause-readable : goal.openings_by_query-requires-clause-readable
 openings_by_query-requires-clause-readable g c =
-    readable c.args.log_blowup c.args.log_global_max_height c.greatest_width.result
+    let s = c.args.setting.now in
+    readable s.log_blowup s.log_global_max_height c.greatest_width.result
     c.in_ok-ladder.ladder.powers.len
-    (matrices_of (claims_of (λ domain. domain.log_size) c.args.claims.now))
+    (matrices_of (claims_of (λ domain. domain.log_size) s.claims.now))
     c.in_ok-ladder.ensures.width c.requires.heights c.requires.points c.greatest_width.ensures
 
 pub openings_by_query-requires-clause-rows : goal.openings_by_query-requires-clause-rows

@@ -32,20 +32,22 @@ fields_of g = record {
 -- the loop's query has its share of all inverses, which ends there
 abbrev EndsAt : (g : Over) (c : In-loop-j g) (end : ℕ) → Type 0
 EndsAt g c end =
-    let ms = matrices_of (claims_of (λ domain. domain.log_size) c.args.claims.now) in
-    ShareAt (λ q. distances g.EF.Field.ops c.args.log_blowup
-    (point_read (fields_of g) c.args.log_global_max_height q) ms) g.EF.Field.ops.inv
-    c.args.inverses.now c.args.indices.now c.loop-j.j (get_or c.args.indices.now c.loop-j.j 0)
+    let s = c.args.setting.now in
+    let ms = matrices_of (claims_of (λ domain. domain.log_size) s.claims.now) in
+    ShareAt (λ q. distances g.EF.Field.ops s.log_blowup
+    (point_read (fields_of g) s.log_global_max_height q) ms) g.EF.Field.ops.inv
+    c.args.inverses.now s.indices.now c.loop-j.j (get_or s.indices.now c.loop-j.j 0)
     c.loop-j.start end
 
 own : (g : Over) (c : In-loop-j g) → EndsAt g c (c.loop-j.start + c.inverses_per_index-count.result)
 own g c =
-    let ms = matrices_of (claims_of (λ domain. domain.log_size) c.args.claims.now) in
+    let s = c.args.setting.now in
+    let ms = matrices_of (claims_of (λ domain. domain.log_size) s.claims.now) in
     subst (λ count. EndsAt g c (c.loop-j.start + count))
     (sym (c.inverses_per_index-count.ensures (omega arith)))
-    (own_inverses g.EF.Field.ops c.args.log_blowup c.args.ladder.now.alpha
-    (point_read (fields_of g) c.args.log_global_max_height) ms c.args.inverses.now
-    c.args.indices.now c.loop-j.j c.loop-j.start c.requires.inverses (omega arith)
+    (own_inverses g.EF.Field.ops s.log_blowup c.args.ladder.now.alpha
+    (point_read (fields_of g) s.log_global_max_height) ms c.args.inverses.now
+    s.indices.now c.loop-j.j c.loop-j.start c.requires.inverses (omega arith)
     c.loop-j.invariant.start)
 
 pub overflow_add-end : goal.overflow_add-end
@@ -65,20 +67,22 @@ slice_bounds-query_openings-end g c =
 
 pub query_openings-requires-clause-inverses : goal.query_openings-requires-clause-inverses
 query_openings-requires-clause-inverses g c =
+    let s = c.args.setting.now in
     let K = g.EF.Field.ops in
-    let ms = matrices_of (claims_of (λ domain. domain.log_size) c.args.claims.now) in
-    let read = point_read (fields_of g) c.args.log_global_max_height
-    (get_or c.args.indices.now c.loop-j.j 0) in
+    let ms = matrices_of (claims_of (λ domain. domain.log_size) s.claims.now) in
+    let read = point_read (fields_of g) s.log_global_max_height
+    (get_or s.indices.now c.loop-j.j 0) in
     let share = own g (goal.at.query_openings-requires-clause-inverses g c).In-loop-j in
-    ap length share.part ∙ length-map (distances K c.args.log_blowup read ms) K.inv
-    ∙ distances_count c.args.log_blowup K c.args.ladder.now.alpha read ms
+    ap length share.part ∙ length-map (distances K s.log_blowup read ms) K.inv
+    ∙ distances_count s.log_blowup K c.args.ladder.now.alpha read ms
 
 pub returns-in_default : goal.returns-in_default
 returns-in_default g c =
-    let cs = claims_of (λ domain. domain.log_size) c.args.claims.now in
-    let b = c.args.log_blowup in
-    let q = get_or c.args.indices.now c.loop-j.j 0 in
-    let below : c.loop-j.j < length c.args.indices.now = omega arith in
+    let s = c.args.setting.now in
+    let cs = claims_of (λ domain. domain.log_size) s.claims.now in
+    let b = s.log_blowup in
+    let q = get_or s.indices.now c.loop-j.j 0 in
+    let below : c.loop-j.j < length s.indices.now = omega arith in
     let share = own g (goal.at.returns-in_default g c).In-loop-j in
     let known = of_none c.in_ok-found.found _ _ c.in_default.is
     (c.in_ok-found.ensures q share.part) in
@@ -86,12 +90,13 @@ returns-in_default g c =
 
 pub loop-j-preserved : goal.loop-j-preserved
 loop-j-preserved g c =
+    let s = c.args.setting.now in
     let f = fields_of g in
-    let cs = claims_of (λ domain. domain.log_size) c.args.claims.now in
-    let inputs = inputs_opened c.args.openings.now in
-    let b = c.args.log_blowup in
-    let top = c.args.log_global_max_height in
-    let indices = c.args.indices.now in
+    let cs = claims_of (λ domain. domain.log_size) s.claims.now in
+    let inputs = inputs_opened s.openings.now in
+    let b = s.log_blowup in
+    let top = s.log_global_max_height in
+    let indices = s.indices.now in
     let j = c.loop-j.j in
     let q = get_or indices j 0 in
     let share = own g (goal.at.loop-j-preserved g c).In-loop-j in
@@ -112,11 +117,12 @@ loop-j-preserved g c =
 
 pub returns : goal.returns
 returns g c =
-    let cs = claims_of (λ domain. domain.log_size) c.args.claims.now in
-    let answer_at = λ (i : ℕ). sums_at (fields_of g) c.args.log_blowup c.args.ladder.now.alpha
-    c.args.log_global_max_height cs (inputs_opened c.args.openings.now) i
-    (get_or c.args.indices.now i 0) in
-    let last : c.loop-j.j ≡ length c.args.indices.now = omega arith in (
+    let s = c.args.setting.now in
+    let cs = claims_of (λ domain. domain.log_size) s.claims.now in
+    let answer_at = λ (i : ℕ). sums_at (fields_of g) s.log_blowup c.args.ladder.now.alpha
+    s.log_global_max_height cs (inputs_opened s.openings.now) i
+    (get_or s.indices.now i 0) in
+    let last : c.loop-j.j ≡ length s.indices.now = omega arith in (
       c.loop-j.invariant.answers ∙ ap (λ k. tabulate k answer_at) last,
       λ i l. c.loop-j.invariant.constants i (omega (arith, l, last)),
     )

@@ -22,14 +22,15 @@ invariant-loop-j g l =
       two_adicity = g.F.TwoAdicField.TWO_ADICITY;
       shift = g.F.Field.GENERATOR;
     }) in
-    let cs = claims_of (λ domain. domain.log_size) l.claims in
+    let s = l.setting in
+    let cs = claims_of (λ domain. domain.log_size) s.claims.now in
     let ms = matrices_of cs in
-    let inputs = inputs_opened l.openings in record {
-      start : l.start ≡ length (flat_map (λ q. distances g.EF.Field.ops l.log_blowup
-          (point_read f l.log_global_max_height q) ms) (take l.j l.indices));
-      answers : lists l.answers.items ≡ tabulate l.j (λ j. sums_at f l.log_blowup l.ladder.alpha
-          l.log_global_max_height cs inputs j (get_or l.indices j 0));
-      constants : (j : ℕ) → j < l.j → IsTrue (has_height l.log_blowup ms l.log_blowup)
-          → sum_at f l.log_blowup l.ladder.alpha l.log_global_max_height cs inputs j
-          (get_or l.indices j 0) l.log_blowup ≡ g.EF.Field.ops.zero;
+    let inputs = inputs_opened s.openings.now in record {
+      start : l.start ≡ length (flat_map (λ q. distances g.EF.Field.ops s.log_blowup
+          (point_read f s.log_global_max_height q) ms) (take l.j s.indices.now));
+      answers : lists l.answers.items ≡ tabulate l.j (λ j. sums_at f s.log_blowup l.ladder.alpha
+          s.log_global_max_height cs inputs j (get_or s.indices.now j 0));
+      constants : (j : ℕ) → j < l.j → IsTrue (has_height s.log_blowup ms s.log_blowup)
+          → sum_at f s.log_blowup l.ladder.alpha s.log_global_max_height cs inputs j
+          (get_or s.indices.now j 0) s.log_blowup ≡ g.EF.Field.ops.zero;
     }

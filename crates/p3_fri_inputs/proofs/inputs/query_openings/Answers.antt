@@ -28,34 +28,41 @@ fields_of g = record {
 -- where some matrix has constants, there is a sum of their log height
 constants_within : (g : Over) (c : After-has_height-has_constants g)
     → IsTrue c.has_height-has_constants.result
-    → c.args.log_blowup < c.args.log_global_max_height + 1
+    → c.args.setting.now.log_blowup < c.args.setting.now.log_global_max_height + 1
 constants_within g c has =
-    has_below c.args.log_blowup
-    (matrices_of (claims_of (λ domain. domain.log_size) c.args.claims.now))
-    (c.args.log_global_max_height + 1) c.args.log_blowup
+    let s = c.args.setting.now in
+    has_below s.log_blowup
+    (matrices_of (claims_of (λ domain. domain.log_size) s.claims.now))
+    (s.log_global_max_height + 1) s.log_blowup
     (λ k m l. (c.requires.readable k m l).height) (sym c.has_height-has_constants.ensures ∙ has)
 
 -- the sum of each log height
 sum_is : (g : Over) (c : In_ok-sums g) (position h : ℕ)
-    → c.args.inverses.now ≡ map g.EF.Field.ops.inv (distances g.EF.Field.ops c.args.log_blowup
-    (point_read (fields_of g) c.args.log_global_max_height position)
-    (matrices_of (claims_of (λ domain. domain.log_size) c.args.claims.now)))
-    → h < c.args.log_global_max_height + 1
+    → c.args.inverses.now ≡ map g.EF.Field.ops.inv
+    (distances g.EF.Field.ops c.args.setting.now.log_blowup
+    (point_read (fields_of g) c.args.setting.now.log_global_max_height position)
+    (matrices_of (claims_of (λ domain. domain.log_size) c.args.setting.now.claims.now)))
+    → h < c.args.setting.now.log_global_max_height + 1
     → get_or c.in_ok-sums.sums.items h g.EF.Field.ops.zero
-    ≡ sum_at (fields_of g) c.args.log_blowup c.args.ladder.now.alpha c.args.log_global_max_height
-    (claims_of (λ domain. domain.log_size) c.args.claims.now) (inputs_opened c.args.openings.now)
+    ≡ sum_at (fields_of g) c.args.setting.now.log_blowup c.args.ladder.now.alpha
+    c.args.setting.now.log_global_max_height
+    (claims_of (λ domain. domain.log_size) c.args.setting.now.claims.now)
+    (inputs_opened c.args.setting.now.openings.now)
     c.args.query position h
 sum_is g c position h inverses l =
-    c.in_ok-sums.ensures.sums (point_read (fields_of g) c.args.log_global_max_height position)
+    c.in_ok-sums.ensures.sums
+    (point_read (fields_of g) c.args.setting.now.log_global_max_height position)
     inverses h g.EF.Field.ops.zero (omega (arith, l))
 
 listed_within : (g : Over) (c : In_ok-sums g)
-    → All (λ h. h < c.args.log_global_max_height + 1) (heights_of c.args.log_blowup
-    (matrices_of (claims_of (λ domain. domain.log_size) c.args.claims.now)))
+    → All (λ h. h < c.args.setting.now.log_global_max_height + 1)
+    (heights_of c.args.setting.now.log_blowup
+    (matrices_of (claims_of (λ domain. domain.log_size) c.args.setting.now.claims.now)))
 listed_within g c =
-    heights_within c.args.log_blowup
-    (matrices_of (claims_of (λ domain. domain.log_size) c.args.claims.now))
-    c.args.log_global_max_height
+    let s = c.args.setting.now in
+    heights_within s.log_blowup
+    (matrices_of (claims_of (λ domain. domain.log_size) s.claims.now))
+    s.log_global_max_height
     (λ k m l. omega (arith, (c.requires.readable k m l).height))
 
 pub is_constant_zero-requires : goal.is_constant_zero-requires
@@ -67,7 +74,7 @@ is_constant_zero-requires g c has =
 pub returns-then-not-is_constant_zero : goal.returns-then-not-is_constant_zero
 returns-then-not-is_constant_zero g c position inverses =
     let at = goal.at.returns-then-not-is_constant_zero g c in
-    let b = c.args.log_blowup in
+    let b = c.args.setting.now.log_blowup in
     let zero = g.EF.Field.ops.zero in
     let refuse : (IsTrue c.has_height-has_constants.result
     → get_or c.deref.result.now b zero ≡ zero) → ⊥ =
@@ -84,25 +91,27 @@ returns-then-not-is_constant_zero g c position inverses =
 
 pub list_sums-requires : goal.list_sums-requires
 list_sums-requires g c =
+    let s = c.args.setting.now in
     let sums = c.deref-2.result.now in
-    let count : c.args.log_global_max_height + 1 ≡ length sums =
+    let count : s.log_global_max_height + 1 ≡ length sums =
     omega (arith, c.in_ok-sums.ensures.count, c.deref-2.ensures.len) in
     subst (All (λ h. h < length sums)) (sym c.requires.heights)
-    (subst (λ n. All (λ h. h < n) (heights_of c.args.log_blowup
-    (matrices_of (claims_of (λ domain. domain.log_size) c.args.claims.now)))) count
+    (subst (λ n. All (λ h. h < n) (heights_of s.log_blowup
+    (matrices_of (claims_of (λ domain. domain.log_size) s.claims.now)))) count
     (listed_within g (goal.at.list_sums-requires g c).In_ok-sums))
 
 pub returns : goal.returns
 returns g c position inverses =
+    let s = c.args.setting.now in
     let at = goal.at.returns g c in
-    let b = c.args.log_blowup in
+    let b = s.log_blowup in
     let zero = g.EF.Field.ops.zero in
-    let cs = claims_of (λ domain. domain.log_size) c.args.claims.now in
+    let cs = claims_of (λ domain. domain.log_size) s.claims.now in
     let heights = heights_of b (matrices_of cs) in
     let pair = λ (h : ℕ) (s : g.row.EF.Denot). (let p : ℕ × g.row.EF.Denot = (h, s) in p) in
     let made = λ (h : ℕ). pair h (get_or c.deref-2.result.now h zero) in
     let sum = λ (h : ℕ). sum_at (fields_of g) b c.args.ladder.now.alpha
-    c.args.log_global_max_height cs (inputs_opened c.args.openings.now) c.args.query position h in (
+    s.log_global_max_height cs (inputs_opened s.openings.now) c.args.query position h in (
       c.in_ok-list_sums.ensures ∙ ap (λ hs. map made hs) c.requires.heights
           ∙ map_agree made (λ h. pair h (sum h)) heights
           (λ k d l. let h = get_or heights k d in

@@ -22,9 +22,9 @@ fields_of g = record {
 
 -- a quotient sum of constants isn't zero, and all sums are defined
 constant_wrong : (g : Over) (c : In-None g) → IsConstantWrong (fields_of g)
-    c.args.log_blowup c.args.alpha c.args.log_global_max_height
-    (claims_of (λ domain. domain.log_size) c.args.claims.now)
-    (inputs_opened c.args.input_openings.now) c.args.indices.now
+    c.args.setting.now.log_blowup c.args.alpha c.args.setting.now.log_global_max_height
+    (claims_of (λ domain. domain.log_size) c.args.setting.now.claims.now)
+    (inputs_opened c.args.setting.now.openings.now) c.args.setting.now.indices.now
 constant_wrong g c =
     let read = MatchResult-at_ok _ _ c.in-Ok.inverses c.in-Ok.is c.in_ok-found.ensures in
     let known = of_none c.in_ok-summed.summed _ _ c.in-None.is c.in_ok-summed.ensures in

@@ -13,9 +13,10 @@ returns-in-Some-first_uneven g c = inr (λ alpha. c.in-Some-first_uneven.ensures
 
 pub returns : goal.returns
 returns g c =
+    let claims = c.args.setting.now.claims.now in
     MatchResult-weaker c.verify_commitments.result c.verify_commitments.ensures
     (λ unit opened. (
-      with_points (matrices_of (claims_of (λ domain. domain.log_size) c.args.claims.now))
+      with_points (matrices_of (claims_of (λ domain. domain.log_size) claims))
           c.in_default.ensures c.in_default-first_uneven.ensures,
       opened,
     ))

@@ -11,13 +11,14 @@ use Rattle.p3_fri_inputs.proofs.opening.verify_commitments.Goals as goal
 
 pub loop-batch-preserved : goal.loop-batch-preserved
 loop-batch-preserved g c =
+    let s = c.args.setting.now in
     let size = λ (domain : Coset g.row.F.Denot g.row.F-Prepared.Denot g.F.TwoAdicField g.F.Field g.F.PartialEq g.F.Add g.F.Sub g.F.Mul g.F.Neg). domain.log_size in
-    let claims = c.args.claims.now in
-    let openings = c.args.openings.now in
+    let claims = s.claims.now in
+    let openings = s.openings.now in
     let cs = claims_of size claims in
     let inputs = inputs_opened openings in
-    let opens = OpensInput (g.InputMmcs.Mmcs.opens c.args.input_mmcs.now) c.args.log_blowup
-    c.args.log_global_max_height c.args.indices.now in
+    let opens = OpensInput (g.InputMmcs.Mmcs.opens c.args.input_mmcs.now) s.log_blowup
+    s.log_global_max_height s.indices.now in
     let i = c.loop-batch.batch in
     let at = c.in_ok-verify_commitment.ensures in
     below_more (λ j. (d : CommitmentClaim g.row.EF.Denot g.row.InputMmcs-Commitment.Denot × InputOpening g.row.F.Denot g.row.InputMmcs-MultiProof.Denot)
@@ -26,13 +27,14 @@ loop-batch-preserved g c =
 
 pub returns : goal.returns
 returns g c =
+    let s = c.args.setting.now in
     let size = λ (domain : Coset g.row.F.Denot g.row.F-Prepared.Denot g.F.TwoAdicField g.F.Field g.F.PartialEq g.F.Add g.F.Sub g.F.Mul g.F.Neg). domain.log_size in
-    let claims = c.args.claims.now in
-    let openings = c.args.openings.now in
+    let claims = s.claims.now in
+    let openings = s.openings.now in
     let cs = claims_of size claims in
     let inputs = inputs_opened openings in
-    let opens = OpensInput (g.InputMmcs.Mmcs.opens c.args.input_mmcs.now) c.args.log_blowup
-    c.args.log_global_max_height c.args.indices.now in
+    let opens = OpensInput (g.InputMmcs.Mmcs.opens c.args.input_mmcs.now) s.log_blowup
+    s.log_global_max_height s.indices.now in
     let i = c.loop-batch.batch in
     all_zip_from opens cs inputs
     (length-map openings input_of ∙ c.requires.count ∙ sym (length-map claims (claim_of size)))

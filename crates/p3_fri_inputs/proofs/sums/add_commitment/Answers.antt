@@ -94,7 +94,8 @@ loop-k-preserved g c =
     let made = c.add_block-end.ensures.sum in
     subst (λ sums. AreSummedFrom K lift c.args.log_blowup c.args.ladder.now.alpha
     (claim_of (λ domain. domain.log_size) c.args.claim.now).matrices (lists c.args.rows.now)
-    c.args.inverses.now c.args.sums.now (c.loop-k.k - 1) c.add_block-end.result sums) (sym made.1)
+    c.args.points.now.inverses.now c.args.sums.now (c.loop-k.k - 1) c.add_block-end.result sums)
+    (sym made.1)
     (summed_next K lift c.args.log_blowup made.0 c.requires.claimed c.loop-k.invariant known
     (omega arith)
     (row_is g at.After-as_slice (omega (arith, known.row_there, length-lists c.args.rows.now)))

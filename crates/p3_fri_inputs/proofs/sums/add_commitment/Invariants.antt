@@ -6,5 +6,5 @@ use Rattle.p3_fri_inputs.proofs.sums.add_commitment.Given as goal
 abbrev pub invariant-loop-k : goal.invariant-loop-k
 invariant-loop-k g l =
     AreSummedFrom g.EF.Field.ops g.EF.ExtensionField.lift l.log_blowup l.ladder.alpha
-    (claim_of (λ domain. domain.log_size) l.claim).matrices (lists l.rows) l.inverses l.fn.sums l.k
-    l.end l.sums
+    (claim_of (λ domain. domain.log_size) l.claim).matrices (lists l.rows)
+    l.points.inverses.now l.fn.sums l.k l.end l.sums

@@ -11,25 +11,27 @@ use Rattle.p3_fri_inputs.proofs.sums.query_sums.Goals as goal
 
 pub add_openings-requires-clause-readable : goal.add_openings-requires-clause-readable
 add_openings-requires-clause-readable g c =
+    let s = c.args.setting.now in
     let size = λ (domain : Coset g.row.F.Denot g.row.F-Prepared.Denot g.F.TwoAdicField g.F.Field g.F.PartialEq g.F.Add g.F.Sub g.F.Mul g.F.Neg). domain.log_size in
-    let count = c.args.log_global_max_height + 1 in
+    let count = s.log_global_max_height + 1 in
     let zero = λ (h : ℕ). g.EF.Field.ops.zero in
     let listed : c.deref_mut.result.now ≡ tabulate count zero =
     c.deref_mut.ensures.value ∙ c.in_ok-sums.ensures.items in
     let long : length c.deref_mut.result.now ≡ count = ap length listed ∙ length-tabulate count zero in
-    let cs = claims_of size c.args.claims.now in
-    subst (λ n. All (IsReadable c.args.log_blowup n c.args.ladder.now.powers.len) (matrices_of cs))
+    let cs = claims_of size s.claims.now in
+    subst (λ n. All (IsReadable s.log_blowup n c.args.ladder.now.powers.len) (matrices_of cs))
     (sym long) c.requires.readable
 
 pub returns-clause-sums : goal.returns-clause-sums
 returns-clause-sums g c read inverses h d l =
+    let s = c.args.setting.now in
     let size = λ (domain : Coset g.row.F.Denot g.row.F-Prepared.Denot g.F.TwoAdicField g.F.Field g.F.PartialEq g.F.Add g.F.Sub g.F.Mul g.F.Neg). domain.log_size in
-    let count = c.args.log_global_max_height + 1 in
+    let count = s.log_global_max_height + 1 in
     let zero = λ (h : ℕ). g.EF.Field.ops.zero in
     let listed : c.deref_mut.result.now ≡ tabulate count zero =
     c.deref_mut.ensures.value ∙ c.in_ok-sums.ensures.items in
     let long : length c.deref_mut.result.now ≡ count = ap length listed ∙ length-tabulate count zero in
-    let cs = claims_of size c.args.claims.now in
+    let cs = claims_of size s.claims.now in
     let old = c.deref_mut.result.now in
     let items = c.in_ok-sums.sums.items in
     let new = c.add_openings.new.sums in
