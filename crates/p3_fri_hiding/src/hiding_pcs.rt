@@ -46,6 +46,25 @@ pub struct HidingFriPcs<Val, Dft, InputMmcs, FriMmcs, R> {
 
 impl<Val, Dft, InputMmcs, FriMmcs, R: CryptoRng> HidingFriPcs<Val, Dft, InputMmcs, FriMmcs, R> {
     /// The scheme of these parts.
+    ///
+    /// # Examples
+    ///
+    /// As many random codewords as the extension's degree, and a generator from a seed that is
+    /// secret and used once:
+    ///
+    /// ```
+    /// type Scheme = HidingFriPcs<
+    ///     BabyBear,
+    ///     Radix2Dit<BabyBear>,
+    ///     Sha256Mmcs<BabyBear>,
+    ///     Sha256Mmcs<BabyBear4>,
+    ///     ChaCha20Rng,
+    /// >;
+    ///
+    /// let (dft, mmcs) = (Radix2Dit::default(), Sha256Mmcs::new());
+    /// let generator = ChaCha20Rng::from_seed(seed);
+    /// let mut scheme: Scheme = HidingFriPcs::new(dft, mmcs, params, 4, generator);
+    /// ```
     pub fn new(
         dft: Dft,
         mmcs: InputMmcs,
@@ -79,6 +98,16 @@ impl<Val, Dft: Clone, InputMmcs: Clone, FriMmcs: Clone, R: CryptoRng + SeedableR
 > {
     /// The same scheme with a generator of its own, seeded from this one's, so that no two of them
     /// draw the same masks. Copies of the other parts are equal to them.
+    ///
+    /// # Errors
+    ///
+    /// `AllocError` where a part isn't copied for want of memory, and then nothing was drawn.
+    ///
+    /// # Examples
+    ///
+    /// ```
+    /// let mut other = scheme.fork()?;
+    /// ```
     pub fn fork(&mut self) -> Result<Self, AllocError>
         requires copies_of_dft { (x y : Dft) → Dft.is_clone x y → y ≡ x }
         requires copies_of_mmcs { (x y : InputMmcs) → InputMmcs.is_clone x y → y ≡ x }
@@ -120,6 +149,20 @@ impl<
     /// `InsufficientRandomCodewords`, `BudgetOverflow` or `HidingBudgetExceeded` where the masks of
     /// a matrix, as high as it is, can't hide one opening, and then nothing was drawn; else
     /// `Fri(OutOfMemory)` alone. Nothing is drawn either where a matrix is too wide to be masked.
+    ///
+    /// # Examples
+    ///
+    /// A table of 128 rows and two columns, whose domain has 256 points:
+    ///
+    /// ```
+    /// let domain = TwoAdicMultiplicativeCoset {
+    ///     shift: BabyBear::ONE,
+    ///     log_size: 8,
+    /// };
+    /// let evaluations = vec![in alloc; (domain, RowMajorMatrix::new(values, 2))]?;
+    /// let (commitment, mut data) = scheme.commit::<BabyBear4>(alloc, evaluations)?;
+    /// challenger.observe(commitment);
+    /// ```
     pub fn commit<EF: ExtensionField<F>>(
         &mut self,
         alloc: Global,
@@ -176,6 +219,13 @@ impl<
     /// # Errors
     ///
     /// As of `commit`.
+    ///
+    /// # Examples
+    ///
+    /// ```
+    /// let evaluations = vec![in alloc; (domain, RowMajorMatrix::new(public_values, 1))]?;
+    /// let (commitment, mut data) = scheme.commit_preprocessing::<BabyBear4>(alloc, evaluations)?;
+    /// ```
     pub fn commit_preprocessing<EF: ExtensionField<F>>(
         &mut self,
         alloc: Global,

@@ -79,6 +79,13 @@ impl<
         }
     }
 
+    /// Commits to masked matrices, as the scheme's own `commit` does. Beside what the trait says,
+    /// the generator alone changes.
+    ///
+    /// # Errors
+    ///
+    /// `InsufficientRandomCodewords`, `BudgetOverflow` or `HidingBudgetExceeded` where the masks of
+    /// a matrix can't hide one opening; else `Fri(OutOfMemory)` alone.
     fn commit(
         &mut self,
         alloc: Global,
@@ -106,6 +113,31 @@ impl<
         self.commit::<EF>(alloc, evaluations)
     }
 
+    /// Beside what the trait says, private data counts as opened once the checks have passed,
+    /// whatever comes then.
+    ///
+    /// # Errors
+    ///
+    /// Matrix by matrix, request by request, the height is tested and then the hiding budget for
+    /// the matrix's points, and after them all points: `Fri(InputHeightTooSmall)`,
+    /// `Fri(FinalHeightOverflow)`, `InsufficientRandomCodewords`, `BudgetOverflow`,
+    /// `HidingBudgetExceeded` and `Fri(PointInEvaluationDomain)` leave the challenger and the data
+    /// as they were. `Fri(NoPowWitness)` where no element passes a proof of work that is asked for.
+    /// Want of memory is `Fri(OutOfMemory)`.
+    ///
+    /// # Examples
+    ///
+    /// The columns of one matrix at a point that was drawn after the commitment:
+    ///
+    /// ```
+    /// let zeta: BabyBear4 = FieldChallenger::<BabyBear>::sample_algebra_element(&mut challenger);
+    /// let request = OpeningRequest {
+    ///     prover_data: &mut data,
+    ///     points: vec![in alloc; vec![in alloc; zeta]?]?,
+    /// };
+    /// let mut requests = vec![in alloc; request]?;
+    /// let (opened, proof) = scheme.open(alloc, requests.as_mut_slice(), &mut challenger)?;
+    /// ```
     fn open(
         &self,
         alloc: Global,
@@ -127,6 +159,26 @@ impl<
         )
     }
 
+    /// Whether the claims hold, by the proof, as the trait says. A claimed domain has twice as many
+    /// points as its matrix has rows.
+    ///
+    /// # Errors
+    ///
+    /// A refusal names a fault that stands in the parameters, the claims or the proof; which of
+    /// several isn't specified. The random values are tested first: a refusal of them leaves the
+    /// challenger as it was, and so does `NonCanonicalPowWitness`; after another it is of no use.
+    /// Want of memory is `OutOfMemory`, which says nothing of the proof.
+    ///
+    /// # Examples
+    ///
+    /// The challenger has absorbed the commitment, and `zeta` was drawn of it, as by the prover:
+    ///
+    /// ```
+    /// let points = vec![in alloc; PointOpening { point: zeta, values }]?;
+    /// let matrices = vec![in alloc; MatrixOpening { domain, points }]?;
+    /// let claims = vec![in alloc; CommitmentOpening { commitment, matrices }]?;
+    /// scheme.verify(alloc, claims, &proof, &mut challenger)?;
+    /// ```
     fn verify(
         &self,
         alloc: Global,

@@ -84,6 +84,11 @@ impl<
         0
     }
 
+    /// Commits as the scheme's own call does: the generator isn't used.
+    ///
+    /// # Errors
+    ///
+    /// As of the scheme's own `commit_preprocessing`.
     fn commit_preprocessing(
         &mut self,
         alloc: Global,
@@ -111,6 +116,11 @@ impl<
         self.commit_preprocessing::<EF>(alloc, evaluations)
     }
 
+    /// Extends and masks chunks as the scheme's own call does.
+    ///
+    /// # Errors
+    ///
+    /// As of the scheme's own `get_quotient_ldes`.
     fn get_quotient_ldes(
         &mut self,
         alloc: Global,
@@ -146,6 +156,11 @@ impl<
         self.get_quotient_ldes::<EF>(alloc, evaluations, num_chunks)
     }
 
+    /// Commits as the scheme's own call does.
+    ///
+    /// # Errors
+    ///
+    /// As of the scheme's own `commit_ldes`.
     fn commit_ldes(
         &self,
         alloc: Global,
@@ -180,6 +195,11 @@ impl<
         self.commit_ldes::<EF>(alloc, ldes)
     }
 
+    /// Reads as the scheme's own call does.
+    ///
+    /// # Errors
+    ///
+    /// `Fri(OutOfMemory)` alone.
     fn get_evaluations_on_domain(
         &self,
         alloc: Global,
@@ -190,6 +210,11 @@ impl<
         self.get_evaluations_on_domain::<EF>(alloc, prover_data, index, domain)
     }
 
+    /// Reads as the scheme's own call does.
+    ///
+    /// # Errors
+    ///
+    /// `Fri(OutOfMemory)` alone.
     fn get_evaluations_on_domain_no_random(
         &self,
         alloc: Global,
@@ -202,6 +227,11 @@ impl<
 
     /// A transform is made for each distinct length of a column. Of the trace's domain only the
     /// size is read.
+    ///
+    /// # Errors
+    ///
+    /// `NotPowerOfTwo` or `DoesNotDivide` of the first column whose length is refused, and
+    /// `OutOfMemory` where all lengths fit.
     fn build_periodic_lde_table(
         &self,
         alloc: Global,
@@ -218,6 +248,11 @@ impl<
         )
     }
 
+    /// Commits as the scheme's own call does.
+    ///
+    /// # Errors
+    ///
+    /// As of the scheme's own `get_opt_randomization_poly_commitment`.
     fn get_opt_randomization_poly_commitment(
         &mut self,
         alloc: Global,
@@ -252,6 +287,11 @@ impl<
         self.get_opt_randomization_poly_commitment::<EF>(alloc, domains)
     }
 
+    /// Opens as `open` does, where the index names the request of preprocessing.
+    ///
+    /// # Errors
+    ///
+    /// As of `open`.
     fn open_with_preprocessing(
         &self,
         alloc: Global,
@@ -280,6 +320,11 @@ impl<
         )
     }
 
+    /// Verifies as `verify` does, where the index names the claims of preprocessing.
+    ///
+    /// # Errors
+    ///
+    /// As of `verify`.
     fn verify_with_preprocessing(
         &self,
         alloc: Global,

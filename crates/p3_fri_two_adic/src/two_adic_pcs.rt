@@ -48,6 +48,29 @@ pub struct TwoAdicFriPcs<Val, Dft, InputMmcs, FriMmcs> {
 
 impl<Val, Dft, InputMmcs, FriMmcs> TwoAdicFriPcs<Val, Dft, InputMmcs, FriMmcs> {
     /// The scheme of these parts.
+    ///
+    /// # Examples
+    ///
+    /// ```
+    /// type Scheme = TwoAdicFriPcs<
+    ///     BabyBear,
+    ///     Radix2Dit<BabyBear>,
+    ///     Sha256Mmcs<BabyBear>,
+    ///     Sha256Mmcs<BabyBear4>,
+    /// >;
+    ///
+    /// let fri = FriParameters {
+    ///     log_blowup: 3,
+    ///     log_final_poly_len: 0,
+    ///     max_log_arity: 3,
+    ///     num_queries: 34,
+    ///     batch_proof_of_work_bits: 0,
+    ///     commit_proof_of_work_bits: 0,
+    ///     query_proof_of_work_bits: 0,
+    ///     mmcs: Sha256Mmcs::new(),
+    /// };
+    /// let mut scheme: Scheme = TwoAdicFriPcs::new(Radix2Dit::default(), Sha256Mmcs::new(), fri);
+    /// ```
     pub fn new(dft: Dft, mmcs: InputMmcs, fri: FriParameters<FriMmcs>) -> Self
         ensures dft { result.dft ≡ dft }
         ensures mmcs { result.mmcs ≡ mmcs }
@@ -109,6 +132,24 @@ impl<
         }
     }
 
+    /// Beside what the trait says, the scheme stays as it was.
+    ///
+    /// # Errors
+    ///
+    /// `OutOfMemory` alone.
+    ///
+    /// # Examples
+    ///
+    /// A table of four rows and two columns, whose values stand row by row:
+    ///
+    /// ```
+    /// let domain =
+    ///     <Scheme as Pcs<BabyBear4, Sha256Challenger>>::natural_domain_for_degree(&scheme, 4);
+    /// let evaluations = vec![in alloc; (domain, RowMajorMatrix::new(values, 2))]?;
+    /// let (commitment, mut data) =
+    ///     <Scheme as Pcs<BabyBear4, Sha256Challenger>>::commit(&mut scheme, alloc, evaluations)?;
+    /// challenger.observe(commitment);
+    /// ```
     fn commit(
         &mut self,
         alloc: Global,
@@ -134,6 +175,30 @@ impl<
         }
     }
 
+    /// Beside what the trait says, the data stay as they were, and may be opened again.
+    ///
+    /// # Errors
+    ///
+    /// The heights of all matrices are tested in order, and then all points, before anything is
+    /// absorbed: `InputHeightTooSmall`, `FinalHeightOverflow` and `PointInEvaluationDomain` leave
+    /// the challenger as it was. `NoPowWitness` where no element passes a proof of work that is
+    /// asked for. Want of memory is `OutOfMemory`.
+    ///
+    /// # Examples
+    ///
+    /// The columns of one matrix at a point that was drawn after the commitment:
+    ///
+    /// ```
+    /// let zeta: BabyBear4 = FieldChallenger::<BabyBear>::sample_algebra_element(&mut challenger);
+    /// let request = OpeningRequest {
+    ///     prover_data: &mut data,
+    ///     points: vec![in alloc; vec![in alloc; zeta]?]?,
+    /// };
+    /// let mut requests = vec![in alloc; request]?;
+    /// let (opened, proof) = scheme.open(alloc, requests.as_mut_slice(), &mut challenger)?;
+    /// // by commitment, matrix and point
+    /// let at_zeta = &opened[0][0][0];
+    /// ```
     fn open(
         &self,
         alloc: Global,
@@ -152,6 +217,25 @@ impl<
         )
     }
 
+    /// Whether the claims hold, by the proof, as the trait says.
+    ///
+    /// # Errors
+    ///
+    /// A refusal names a fault that stands in the parameters, the claims or the proof; which of
+    /// several isn't specified. `NonCanonicalPowWitness` leaves the challenger as it was, after
+    /// another refusal it is of no use. Want of memory is `OutOfMemory`, which says nothing of the
+    /// proof.
+    ///
+    /// # Examples
+    ///
+    /// The challenger has absorbed the commitment, and `zeta` was drawn of it, as by the prover:
+    ///
+    /// ```
+    /// let points = vec![in alloc; PointOpening { point: zeta, values }]?;
+    /// let matrices = vec![in alloc; MatrixOpening { domain, points }]?;
+    /// let claims = vec![in alloc; CommitmentOpening { commitment, matrices }]?;
+    /// scheme.verify(alloc, claims, &proof, &mut challenger)?;
+    /// ```
     fn verify(
         &self,
         alloc: Global,

@@ -74,6 +74,11 @@ impl<
         0
     }
 
+    /// Commits as `commit` does.
+    ///
+    /// # Errors
+    ///
+    /// `OutOfMemory` alone.
     fn commit_preprocessing(
         &mut self,
         alloc: Global,
@@ -96,6 +101,11 @@ impl<
         <Self as Pcs<EF, C>>::commit(self, alloc, evaluations)
     }
 
+    /// The scheme stays as it was.
+    ///
+    /// # Errors
+    ///
+    /// `OutOfMemory` alone.
     fn get_quotient_ldes(
         &mut self,
         alloc: Global,
@@ -137,6 +147,11 @@ impl<
         }
     }
 
+    /// The matrices are committed to as they are.
+    ///
+    /// # Errors
+    ///
+    /// `OutOfMemory` alone.
     fn commit_ldes(
         &self,
         alloc: Global,
@@ -167,6 +182,11 @@ impl<
         }
     }
 
+    /// The values of all columns, since none is random.
+    ///
+    /// # Errors
+    ///
+    /// `OutOfMemory` alone.
     fn get_evaluations_on_domain(
         &self,
         alloc: Global,
@@ -182,6 +202,11 @@ impl<
         }
     }
 
+    /// The same as `get_evaluations_on_domain`.
+    ///
+    /// # Errors
+    ///
+    /// `OutOfMemory` alone.
     fn get_evaluations_on_domain_no_random(
         &self,
         alloc: Global,
@@ -200,6 +225,11 @@ impl<
 
     /// A transform is made for each distinct length of a column. Of the trace's domain only the
     /// size is read.
+    ///
+    /// # Errors
+    ///
+    /// `NotPowerOfTwo` or `DoesNotDivide` of the first column whose length is refused, and
+    /// `OutOfMemory` where all lengths fit.
     fn build_periodic_lde_table(
         &self,
         alloc: Global,
@@ -216,6 +246,7 @@ impl<
         )
     }
 
+    /// There is none, and it isn't refused.
     fn get_opt_randomization_poly_commitment(
         &mut self,
         _alloc: Global,
@@ -228,6 +259,11 @@ impl<
         Ok(None)
     }
 
+    /// Opens as `open` does, whatever the index is.
+    ///
+    /// # Errors
+    ///
+    /// As of `open`.
     fn open_with_preprocessing(
         &self,
         alloc: Global,
@@ -244,6 +280,11 @@ impl<
         <Self as Pcs<EF, C>>::open(self, alloc, requests, challenger)
     }
 
+    /// Verifies as `verify` does, whatever the index is.
+    ///
+    /// # Errors
+    ///
+    /// As of `verify`.
     fn verify_with_preprocessing(
         &self,
         alloc: Global,
