@@ -13,6 +13,7 @@ mod openings;
 mod plan;
 mod positions;
 mod replay;
+mod setting;
 mod siblings;
 mod verify;
 

@@ -17,15 +17,16 @@ ghost use Rattle.p3_fri_queries.specs.Opened.{RoundsOpenTo, SomeRoundFails};
 ghost use Rattle.p3_fri_queries.specs.Settings.{queries_in};
 ghost use Rattle.p3_fri_verifier.specs.Openings.{AreOpened};
 
+use crate::setting::{DrawnTest, VerifierSetting};
 use p3_challenger_core::{CanObserve, FieldChallenger};
-use p3_field_core::{ExtensionField, TwoAdicField, TwoAdicMultiplicativeCoset};
-use p3_fri_folding::{FriFoldingStrategy, FriParameters};
+use p3_field_core::{ExtensionField, TwoAdicField};
+use p3_fri_folding::FriFoldingStrategy;
 use p3_fri_inputs::open_inputs;
 use p3_fri_queries::{QuerySetting, fold_queries, verify_rounds};
 use p3_fri_relation::error::{FriError, FriOpenings};
 use p3_fri_relation::proof::{BatchMultiOpening, FriProof};
 use p3_fri_relation::setting::{ChallengeField, PlaysFri};
-use p3_mmcs::{CommitmentOpening, Mmcs};
+use p3_mmcs::Mmcs;
 use std::alloc::Global;
 
 /// Verifies that each query, which is in order in this setting, ends at the final polynomial, and
@@ -93,9 +94,9 @@ fn verify_queries<
     )
 }
 
-/// Verifies all that a proof opens at the queries' positions, with these folding challenges: the
-/// openings of the inputs, each query's way to the final polynomial, and the openings of the
-/// rounds.
+/// Verifies all that a proof opens at the queries' positions, with the folding challenges of the
+/// test: the openings of the inputs, each query's way to the final polynomial, and the openings of
+/// the rounds.
 pub(crate) fn verify_openings<
     F: TwoAdicField,
     EF: ExtensionField<F>,
@@ -105,68 +106,66 @@ pub(crate) fn verify_openings<
     C: FieldChallenger<F> + CanObserve<M::Commitment>,
 >(
     alloc: Global,
-    folding: &S,
-    params: &FriParameters<M>,
+    known: &VerifierSetting<'_, F, EF, M, InputMmcs, S>,
     proof: &FriProof<EF, M, F, Vec<BatchMultiOpening<F, InputMmcs>>>,
-    claims: &[CommitmentOpening<EF, InputMmcs::Commitment, TwoAdicMultiplicativeCoset<F>>],
-    input_mmcs: &InputMmcs,
     alpha: EF,
-    log_arities: &[usize],
-    log_global_max_height: usize,
-    betas: &[EF],
-    positions: &[usize],
+    test: &DrawnTest<'_, EF>,
 ) -> Result<(), FriError<M::Error, InputMmcs::Error>>
-    requires final_height_below_64 { params.now.log_blowup + params.now.log_final_poly_len < 64 }
-    requires max_log_height { F.TWO_ADICITY ≤ S.max_log_height folding.now }
-    requires in_range { IsInRange (parameters_of params.now)
-        (claims_of (λ d. d.log_size) claims.now) F.TWO_ADICITY }
-    requires counts { HasCounts (parameters_of params.now) (proof_of proof.now) log_arities.now
-        (length (proof_of proof.now).inputs) }
-    requires schedule { log_arities.now
-        ≡ scheduled (parameters_of params.now) (claims_of (λ d. d.log_size) claims.now) }
-    requires top { log_global_max_height
-        ≡ top_height (parameters_of params.now) (claims_of (λ d. d.log_size) claims.now) }
-    requires betas { length betas.now ≡ length log_arities.now }
-    requires positions { length positions.now ≡ params.now.num_queries }
-    requires within_word { All (λ position. position < 2 ^ log_global_max_height) positions.now }
-    ensures exact { let s = ⟦<C as PlaysFri<F, EF, S, M, InputMmcs>>⟧.setting folding.now
-        params.now.mmcs input_mmcs.now in
-        result ≢ Err OutOfMemory → (IsOk result
-        ↔ AreOpened s (parameters_of params.now) (claims_of (λ d. d.log_size) claims.now)
-        (proof_of proof.now) alpha betas.now positions.now) }
-    ensures refusal { let s = ⟦<C as PlaysFri<F, EF, S, M, InputMmcs>>⟧.setting folding.now
-        params.now.mmcs input_mmcs.now in
-        IfErr result (λ e. OpeningsFault s (parameters_of params.now)
-        (claims_of (λ d. d.log_size) claims.now) (proof_of proof.now) alpha betas.now
-        positions.now e ⊎ (e ≡ OutOfMemory)) }
+    requires final_height_below_64 { let p = known.now.params.now in
+        p.log_blowup + p.log_final_poly_len < 64 }
+    requires max_log_height { F.TWO_ADICITY ≤ S.max_log_height known.now.folding.now }
+    requires in_range { IsInRange (parameters_of known.now.params.now)
+        (claims_of (λ d. d.log_size) known.now.claims.now) F.TWO_ADICITY }
+    requires counts { HasCounts (parameters_of known.now.params.now) (proof_of proof.now)
+        test.now.log_arities.now (length (proof_of proof.now).inputs) }
+    requires schedule { test.now.log_arities.now ≡ scheduled (parameters_of known.now.params.now)
+        (claims_of (λ d. d.log_size) known.now.claims.now) }
+    requires top { test.now.log_global_max_height ≡ top_height (parameters_of known.now.params.now)
+        (claims_of (λ d. d.log_size) known.now.claims.now) }
+    requires betas { length test.now.betas.now ≡ length test.now.log_arities.now }
+    requires positions { length test.now.positions.now ≡ known.now.params.now.num_queries }
+    requires within_word { All (λ position. position < 2 ^ test.now.log_global_max_height)
+        test.now.positions.now }
+    ensures exact { let k = known.now in
+        let s = ⟦<C as PlaysFri<F, EF, S, M, InputMmcs>>⟧.setting k.folding.now
+        k.params.now.mmcs k.input_mmcs.now in
+        result ≢ Err OutOfMemory → (IsOk result ↔ AreOpened s (parameters_of k.params.now)
+        (claims_of (λ d. d.log_size) k.claims.now) (proof_of proof.now) alpha
+        test.now.betas.now test.now.positions.now) }
+    ensures refusal { let k = known.now in
+        let s = ⟦<C as PlaysFri<F, EF, S, M, InputMmcs>>⟧.setting k.folding.now
+        k.params.now.mmcs k.input_mmcs.now in
+        IfErr result (λ e. OpeningsFault s (parameters_of k.params.now)
+        (claims_of (λ d. d.log_size) k.claims.now) (proof_of proof.now) alpha
+        test.now.betas.now test.now.positions.now e ⊎ (e ≡ OutOfMemory)) }
 {
     let reduced_openings = match open_inputs(
         alloc,
-        params,
-        log_global_max_height,
-        positions,
+        known.params,
+        test.log_global_max_height,
+        test.positions,
         &proof.input_openings,
         alpha,
-        input_mmcs,
-        claims,
+        known.input_mmcs,
+        known.claims,
     ) {
         Ok(reduced_openings) => reduced_openings,
         Err(refusal) => return Err(refusal),
     };
     let setting = QuerySetting {
-        folding,
-        betas,
-        log_arities,
+        folding: known.folding,
+        betas: test.betas,
+        log_arities: test.log_arities,
         openings: proof.commit_phase_openings.as_slice(),
-        log_global_max_height,
-        log_final_height: params.log_blowup + params.log_final_poly_len,
+        log_global_max_height: test.log_global_max_height,
+        log_final_height: known.params.log_blowup + known.params.log_final_poly_len,
     };
     verify_queries(
         alloc,
         &setting,
-        &params.mmcs,
+        &known.params.mmcs,
         &proof.commit_phase_commits,
-        positions,
+        test.positions,
         reduced_openings,
         &proof.final_poly,
     )

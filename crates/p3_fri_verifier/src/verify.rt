@@ -11,6 +11,7 @@ ghost use Rattle.p3_fri_relation.specs.Views.{parameters_of, claims_of, proof_of
 use crate::draws::draw;
 use crate::openings::verify_openings;
 use crate::plan::make_plan;
+use crate::setting::{DrawnTest, VerifierSetting};
 use p3_challenger_core::{CanObserve, FieldChallenger, GrindingChallenger};
 use p3_field_core::{ExtensionField, TwoAdicField, TwoAdicMultiplicativeCoset};
 use p3_fri_folding::{FriFoldingStrategy, FriParameters};
@@ -38,6 +39,18 @@ use std::alloc::Global;
 /// proof's lists, of its proofs of work, of the openings of the inputs or of the rounds. Want of
 /// memory is `OutOfMemory`. `NonCanonicalPowWitness` leaves the challenger as it was; after another
 /// refusal it is of no use.
+///
+/// # Example
+///
+/// Over `BabyBear`, with words that are committed to by SHA-256:
+///
+/// ```text
+/// let folding: Folding = TwoAdicFriFolding(PhantomData);
+/// let input_mmcs = Sha256Mmcs::<BabyBear>::new();
+/// verify_fri::<BabyBear, BabyBear4, Rounds, Inputs, Folding, Sha256Challenger>(
+///     alloc, &folding, &params, &proof, &mut challenger, &claims, &input_mmcs, alpha,
+/// )?;
+/// ```
 pub fn verify_fri<
     F: TwoAdicField,
     EF: ExtensionField<F>,
@@ -89,17 +102,17 @@ pub fn verify_fri<
         Ok(draws) => draws,
         Err(refusal) => return Err(refusal),
     };
-    verify_openings::<F, EF, M, InputMmcs, S, C>(
-        alloc,
+    let known = VerifierSetting {
         folding,
         params,
-        proof,
-        claims,
         input_mmcs,
-        alpha,
-        &plan.log_arities,
-        plan.log_global_max_height,
-        &draws.betas,
-        &draws.positions,
-    )
+        claims,
+    };
+    let test = DrawnTest {
+        log_arities: plan.log_arities.as_slice(),
+        log_global_max_height: plan.log_global_max_height,
+        betas: draws.betas.as_slice(),
+        positions: draws.positions.as_slice(),
+    };
+    verify_openings::<F, EF, M, InputMmcs, S, C>(alloc, &known, proof, alpha, &test)
 }

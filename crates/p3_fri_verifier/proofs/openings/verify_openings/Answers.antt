@@ -44,10 +44,10 @@ setting_at g folding mmcs input_mmcs = record {
 
 -- what was read of the proof
 read : (g : Over) (c : After-deref-3 g)
-    → IsRead (setting_at g c.args.folding.now c.args.params.now.mmcs c.args.input_mmcs.now)
-    (parameters_of c.args.params.now) (claims_of (λ d. d.log_size) c.args.claims.now)
-    (proof_of c.args.proof.now) c.args.alpha c.args.betas.now c.args.positions.now
-    c.args.log_global_max_height (inputs_opened c.deref.result.now) c.args.log_arities.now
+    → IsRead (setting_at g c.args.known.now.folding.now c.args.known.now.params.now.mmcs c.args.known.now.input_mmcs.now)
+    (parameters_of c.args.known.now.params.now) (claims_of (λ d. d.log_size) c.args.known.now.claims.now)
+    (proof_of c.args.proof.now) c.args.alpha c.args.test.now.betas.now c.args.test.now.positions.now
+    c.args.test.now.log_global_max_height (inputs_opened c.deref.result.now) c.args.test.now.log_arities.now
     c.as_slice.result.now (lists c.in-Ok.reduced_openings.items) c.deref-3.result.now
     g.F.TwoAdicField.TWO_ADICITY
 read g c = record {
@@ -56,7 +56,7 @@ read g c = record {
   scheduled = c.requires.schedule;
   opened = ap rounds_opened (sym c.as_slice.ensures.value);
   queries = c.requires.positions;
-  counts = subst (λ la. AllZip (HasSiblings c.args.params.now.num_queries) la (rounds_opened c.args.proof.now.commit_phase_openings.items)) c.requires.schedule c.requires.counts.rounds;
+  counts = subst (λ la. AllZip (HasSiblings c.args.known.now.params.now.num_queries) la (rounds_opened c.args.proof.now.commit_phase_openings.items)) c.requires.schedule c.requires.counts.rounds;
   drawn = c.requires.betas ∙ ap length c.requires.schedule;
   ranged = c.requires.in_range;
   sums = c.in-Ok.ensures.sums;
@@ -72,7 +72,7 @@ open_inputs-requires-clause-within_two_adicity g c =
 
 pub open_inputs-requires-clause-heights : goal.open_inputs-requires-clause-heights
 open_inputs-requires-clause-heights g c k d l =
-    let h = greatest_height-bounds c.args.params.now.log_blowup (matrices_of (claims_of (λ d. d.log_size) c.args.claims.now)) k d l in
+    let h = greatest_height-bounds c.args.known.now.params.now.log_blowup (matrices_of (claims_of (λ d. d.log_size) c.args.known.now.claims.now)) k d l in
     omega (arith, h, c.requires.top)
 
 pub returns-in-Err-clause-exact : goal.returns-in-Err-clause-exact
@@ -84,8 +84,8 @@ returns-in-Err-clause-exact g c other = (
 
 pub returns-in-Err-clause-refusal : goal.returns-in-Err-clause-refusal
 returns-in-Err-clause-refusal g c =
-    input_fault_at (setting_at g c.args.folding.now c.args.params.now.mmcs c.args.input_mmcs.now) (parameters_of c.args.params.now) (claims_of (λ d. d.log_size) c.args.claims.now)
-    (proof_of c.args.proof.now) c.args.alpha c.args.betas.now c.args.positions.now c.args.log_global_max_height c.requires.top
+    input_fault_at (setting_at g c.args.known.now.folding.now c.args.known.now.params.now.mmcs c.args.known.now.input_mmcs.now) (parameters_of c.args.known.now.params.now) (claims_of (λ d. d.log_size) c.args.known.now.claims.now)
+    (proof_of c.args.proof.now) c.args.alpha c.args.test.now.betas.now c.args.test.now.positions.now c.args.test.now.log_global_max_height c.requires.top
     (inputs_opened c.deref.result.now) (ap inputs_opened c.deref.ensures.value) c.in-Err.refusal c.in-Err.ensures.fault
 
 pub verify_queries-requires-clause-count : goal.verify_queries-requires-clause-count
@@ -123,8 +123,8 @@ pub returns-clause-exact : goal.returns-clause-exact
 returns-clause-exact g c other =
     let known = read g (goal.at.returns-clause-exact g c).After-deref-3 in
     let exact = c.verify_queries.ensures.exact other in (
-      (λ ok. opened_at (setting_at g c.args.folding.now c.args.params.now.mmcs c.args.input_mmcs.now) (parameters_of c.args.params.now) (claims_of (λ d. d.log_size) c.args.claims.now)
-          (proof_of c.args.proof.now) c.args.alpha c.args.betas.now c.args.positions.now c.args.log_global_max_height c.requires.top
+      (λ ok. opened_at (setting_at g c.args.known.now.folding.now c.args.known.now.params.now.mmcs c.args.known.now.input_mmcs.now) (parameters_of c.args.known.now.params.now) (claims_of (λ d. d.log_size) c.args.known.now.claims.now)
+          (proof_of c.args.proof.now) c.args.alpha c.args.test.now.betas.now c.args.test.now.positions.now c.args.test.now.log_global_max_height c.requires.top
           (inputs_opened c.deref.result.now) (ap inputs_opened c.deref.ensures.value)
           ((c.in-Ok.ensures.exact (λ e. ok_err _ _ e)).0 refl)
           (λ j l. ends_of known j l ((exact.0 ok).0 j l))

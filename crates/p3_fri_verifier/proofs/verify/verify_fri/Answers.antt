@@ -12,7 +12,7 @@ use Rattle.p3_fri_verifier.proofs.Accepted.{IsDrawn, drawn_in_test, challenges_d
 use Rattle.p3_fri_verifier.proofs.Accepted.{accepts_from, opened_of, openings_stand}
 use Rattle.p3_fri_verifier.proofs.Accepted.{replay_canonical, openings_canonical}
 use Rattle.p3_fri_verifier.proofs.verify.verify_fri.Given.{Over}
-use Rattle.p3_fri_verifier.proofs.verify.verify_fri.Goals.{In-Ok, After-deref-3}
+use Rattle.p3_fri_verifier.proofs.verify.verify_fri.Goals.{In-Ok, After-as_slice-3}
 use Rattle.p3_fri_verifier.proofs.verify.verify_fri.Goals as goal
 
 -- what the layers below compute and accept, named once
@@ -45,15 +45,15 @@ begun : (g : Over) (c : In-Ok g)
 begun g c = (c.in-Ok.ensures.exact (λ e. ok_err _ _ e)).0 refl
 
 -- what is drawn is drawn in the test
-drawn : (g : Over) (c : After-deref-3 g)
+drawn : (g : Over) (c : After-as_slice-3 g)
     → IsDrawn (setting_at g c.args.folding.now c.args.params.now.mmcs c.args.input_mmcs.now) (parameters_of c.args.params.now)
     (claims_of (λ d. d.log_size) c.args.claims.now) (proof_of c.args.proof.now) c.args.challenger.now
-    c.deref-2.result.now c.deref-3.result.now c.draw.new.challenger
+    c.as_slice-2.result.now c.as_slice-3.result.now c.draw.new.challenger
 drawn g c =
     drawn_in_test (setting_at g c.args.folding.now c.args.params.now.mmcs c.args.input_mmcs.now) (parameters_of c.args.params.now)
     (claims_of (λ d. d.log_size) c.args.claims.now) (proof_of c.args.proof.now) c.args.challenger.now c.args.alpha
     c.in-Ok.ensures.schedule c.in-Ok.ensures.top c.extra_query_index_bits-extra_bits.ensures
-    c.in-Ok-draw.ensures.drawn c.deref-2.ensures.value c.deref-3.ensures.value
+    c.in-Ok-draw.ensures.drawn c.as_slice-2.ensures.value c.as_slice-3.ensures.value
 
 pub draw-requires-clause-index_bits_at_most_max : goal.draw-requires-clause-index_bits_at_most_max
 draw-requires-clause-index_bits_at_most_max g c = let bounds = instance_top (parameters_of c.args.params.now) (claims_of (λ d. d.log_size) c.args.claims.now)
@@ -77,11 +77,11 @@ pub verify_openings-requires-clause-counts : goal.verify_openings-requires-claus
 verify_openings-requires-clause-counts g c =
     let proof = proof_of c.args.proof.now in
     subst (λ la. HasCounts (parameters_of c.args.params.now) proof la (length proof.inputs))
-    (sym (c.deref.ensures.value ∙ c.in-Ok.ensures.schedule))
+    (sym (c.as_slice.ensures.value ∙ c.in-Ok.ensures.schedule))
     (begun g (goal.at.verify_openings-requires-clause-counts g c).In-Ok).counts
 
 pub verify_openings-requires-clause-schedule : goal.verify_openings-requires-clause-schedule
-verify_openings-requires-clause-schedule g c = c.deref.ensures.value ∙ c.in-Ok.ensures.schedule
+verify_openings-requires-clause-schedule g c = c.as_slice.ensures.value ∙ c.in-Ok.ensures.schedule
 
 pub verify_openings-requires-clause-top : goal.verify_openings-requires-clause-top
 verify_openings-requires-clause-top g c = c.in-Ok.ensures.top
@@ -89,17 +89,17 @@ verify_openings-requires-clause-top g c = c.in-Ok.ensures.top
 pub verify_openings-requires-clause-betas : goal.verify_openings-requires-clause-betas
 verify_openings-requires-clause-betas g c =
     let place = goal.at.verify_openings-requires-clause-betas g c in
-    challenges_drawn (drawn g place.After-deref-3) (begun g place.In-Ok)
-    ∙ ap length (sym (c.deref.ensures.value ∙ c.in-Ok.ensures.schedule))
+    challenges_drawn (drawn g place.After-as_slice-3) (begun g place.In-Ok)
+    ∙ ap length (sym (c.as_slice.ensures.value ∙ c.in-Ok.ensures.schedule))
 
 pub verify_openings-requires-clause-positions : goal.verify_openings-requires-clause-positions
 verify_openings-requires-clause-positions g c =
-    positions_drawn (drawn g (goal.at.verify_openings-requires-clause-positions g c).After-deref-3)
+    positions_drawn (drawn g (goal.at.verify_openings-requires-clause-positions g c).After-as_slice-3)
 
 pub verify_openings-requires-clause-within_word : goal.verify_openings-requires-clause-within_word
 verify_openings-requires-clause-within_word g c =
-    subst (λ h. All (λ position. position < 2 ^ h) c.deref-3.result.now) (sym c.in-Ok.ensures.top)
-    (within_word (drawn g (goal.at.verify_openings-requires-clause-within_word g c).After-deref-3))
+    subst (λ h. All (λ position. position < 2 ^ h) c.as_slice-3.result.now) (sym c.in-Ok.ensures.top)
+    (within_word (drawn g (goal.at.verify_openings-requires-clause-within_word g c).After-as_slice-3))
 
 pub returns-in-Err-clause-exact : goal.returns-in-Err-clause-exact
 returns-in-Err-clause-exact g c other = (
@@ -145,7 +145,7 @@ returns-in-Err-draw-clause-unchanged g c phase is =
     absurd (replay_canonical c.in-Err-draw.refusal phase (same_err _ _ is) c.in-Err-draw.ensures.refusal)
 
 pub returns-clause-state : goal.returns-clause-state
-returns-clause-state g c _ = sym (drawn g (goal.at.returns-clause-state g c).After-deref-3).state_is
+returns-clause-state g c _ = sym (drawn g (goal.at.returns-clause-state g c).After-as_slice-3).state_is
 
 pub returns-clause-unchanged : goal.returns-clause-unchanged
 returns-clause-unchanged g c phase is =
@@ -156,12 +156,12 @@ pub returns-clause-exact : goal.returns-clause-exact
 returns-clause-exact g c other =
     let place = goal.at.returns-clause-exact g c in
     let exact = c.verify_openings.ensures.exact other in (
-      (λ ok. accepts_from (drawn g place.After-deref-3) (begun g place.In-Ok) (exact.0 ok)),
-      (λ a. exact.1 (opened_of (drawn g place.After-deref-3) a)),
+      (λ ok. accepts_from (drawn g place.After-as_slice-3) (begun g place.In-Ok) (exact.0 ok)),
+      (λ a. exact.1 (opened_of (drawn g place.After-as_slice-3) a)),
     )
 
 pub returns-clause-refusal : goal.returns-clause-refusal
 returns-clause-refusal g c =
     refused_as _ _ c.verify_openings.result
-    (openings_stand (drawn g (goal.at.returns-clause-refusal g c).After-deref-3) c.args.alpha)
+    (openings_stand (drawn g (goal.at.returns-clause-refusal g c).After-as_slice-3) c.args.alpha)
     c.verify_openings.ensures.refusal
