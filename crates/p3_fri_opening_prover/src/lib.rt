@@ -4,6 +4,7 @@
 
 mod open;
 mod opened_data;
+mod opened_rounds;
 mod prepared;
 mod request_checks;
 mod seeded;

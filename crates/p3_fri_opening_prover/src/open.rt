@@ -15,10 +15,11 @@ ghost use Rattle.p3_fri_opening_prover.specs.Opening.{IsOpening, OpeningStops};
 ghost use Rattle.p3_fri_opening_prover.specs.Refusals.{PassesChecks, OpenRefusal, LeavesState};
 
 use crate::opened_data::data_of_requests;
+use crate::opened_rounds::OpenedRounds;
 use crate::prepared::{Prepared, prepare};
 use crate::request_checks::checked_rounds;
 use crate::seeded::open_seeded;
-use crate::setting::OpensFri;
+use crate::setting::{OpensFri, ProverSetting};
 use p3_challenger_core::{CanObserve, FieldChallenger, GrindingChallenger};
 use p3_field_core::{ExtensionField, TwoAdicField};
 use p3_fri_folding::{FriFoldingStrategy, FriParameters, FriProverError};
@@ -43,6 +44,7 @@ use std::alloc::{AllocError, Global};
 /// `NoPowWitness` where no element passes a proof of work that is asked for, and `OutOfMemory` for
 /// want of memory. No refusal is one of the checks'.
 pub fn open_rounds<
+    'a,
     F: TwoAdicField,
     EF: ExtensionField<F>,
     M: Mmcs<EF>,
@@ -54,8 +56,8 @@ pub fn open_rounds<
     folding: &S,
     params: &FriParameters<M>,
     input_mmcs: &InputMmcs,
-    rounds: &[OpeningRound<'_, F, EF>],
-    opened: &[ProverDataWithOpeningPoints<'_, EF, InputMmcs::ProverData>],
+    rounds: &'a [OpeningRound<'a, F, EF>],
+    opened: &'a [ProverDataWithOpeningPoints<'a, EF, InputMmcs::ProverData>],
     challenger: &mut C,
 ) -> Result<
     (
@@ -97,19 +99,18 @@ pub fn open_rounds<
         shape,
         seed,
     } = prepared;
-    let proved = open_seeded(
-        alloc,
+    let setting = ProverSetting {
         folding,
         params,
         input_mmcs,
+    };
+    let shown = OpenedRounds {
         rounds,
-        &values,
-        &denominators.entries,
-        opened,
-        challenger,
-        seed,
-        shape,
-    );
+        values: &values,
+        denominators: &denominators.entries,
+        data: opened,
+    };
+    let proved = open_seeded(alloc, &setting, &shown, challenger, seed, shape);
     match proved {
         Ok(proof) => Ok((values, proof)),
         Err(refusal) => Err(refusal),

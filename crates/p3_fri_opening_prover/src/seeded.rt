@@ -17,19 +17,18 @@ ghost use Rattle.p3_fri_opening_prover.specs.Ranges.{IsInRoundsRange};
 ghost use Rattle.p3_fri_opening_prover.specs.Opening.{IsOpening, OpeningStops};
 ghost use Rattle.p3_fri_opening_prover.specs.Refusals.{LeavesState};
 
-use crate::setting::OpensFri;
+use crate::opened_rounds::OpenedRounds;
+use crate::setting::{OpensFri, ProverSetting};
 use crate::words::prove_words;
 use p3_challenger_core::{CanObserve, FieldChallenger, GrindingChallenger};
 use p3_challenger_fs::Seed;
 use p3_field_core::{ExtensionField, TwoAdicField};
-use p3_fri_folding::{FriFoldingStrategy, FriParameters, FriProverError};
-use p3_fri_openings::{OpeningRound, PointDenominators};
+use p3_fri_folding::{FriFoldingStrategy, FriProverError};
 use p3_fri_pcs_transcript::PcsShape;
 use p3_fri_pcs_transcript::pcs_transcript::PcsProverTranscript;
-use p3_fri_prover::prover::ProverDataWithOpeningPoints;
 use p3_fri_relation::proof::{BatchMultiOpening, FriProof};
 use p3_fri_relation::setting::ChallengeField;
-use p3_mmcs::{Mmcs, OpenedValues};
+use p3_mmcs::Mmcs;
 use std::alloc::Global;
 
 /// Plays the transcript of these values, whose shape and seed were made: they are absorbed, the
@@ -43,47 +42,46 @@ pub(crate) fn open_seeded<
     C: FieldChallenger<F> + GrindingChallenger<Witness = F> + CanObserve<M::Commitment>,
 >(
     alloc: Global,
-    folding: &S,
-    params: &FriParameters<M>,
-    input_mmcs: &InputMmcs,
-    rounds: &[OpeningRound<'_, F, EF>],
-    values: &OpenedValues<EF>,
-    table: &[PointDenominators<EF>],
-    opened: &[ProverDataWithOpeningPoints<'_, EF, InputMmcs::ProverData>],
+    setting: &ProverSetting<'_, S, M, InputMmcs>,
+    opened: &OpenedRounds<'_, '_, F, EF, InputMmcs::ProverData>,
     challenger: &mut C,
     seed: Seed,
     shape: PcsShape,
 ) -> Result<FriProof<EF, M, F, Vec<BatchMultiOpening<F, InputMmcs>>>, FriProverError>
-    requires in_range { IsInRoundsRange (parameters_of params.now) F.TWO_ADICITY
-        (S.extra_query_index_bits folding.now) (S.max_log_height folding.now) C.MAX_SAMPLE_BITS }
-    requires rounds { All (IsRound F.TWO_ADICITY) rounds.now }
-    requires tall_enough { All (λ r. AreTallEnough (parameters_of params.now) r.matrices.now)
-        rounds.now }
-    requires values { AllZip HaveValues rounds.now (opened_values values.now.items) }
-    requires inverses { All (AreInverses ⟦<EF as ChallengeField<F>>⟧.fields) table.now }
-    requires covered { All (ArePointsCovered table.now) rounds.now }
-    requires some_matrix { opened_of rounds.now (opened_values values.now.items) ≢ [] }
-    requires opened { map (λ d. InputMmcs.committed d.prover_data.now) opened.now
-        ≡ map (λ r. r.matrices.now) rounds.now }
+    requires in_range { IsInRoundsRange (parameters_of setting.now.params.now) F.TWO_ADICITY
+        (S.extra_query_index_bits setting.now.folding.now)
+        (S.max_log_height setting.now.folding.now) C.MAX_SAMPLE_BITS }
+    requires rounds { All (IsRound F.TWO_ADICITY) opened.now.rounds.now }
+    requires tall_enough { let p = parameters_of setting.now.params.now in
+        All (λ r. AreTallEnough p r.matrices.now) opened.now.rounds.now }
+    requires values { AllZip HaveValues opened.now.rounds.now
+        (opened_values opened.now.values.now.items) }
+    requires inverses { All (AreInverses ⟦<EF as ChallengeField<F>>⟧.fields)
+        opened.now.denominators.now }
+    requires covered { All (ArePointsCovered opened.now.denominators.now) opened.now.rounds.now }
+    requires some_matrix { opened_of opened.now.rounds.now
+        (opened_values opened.now.values.now.items) ≢ [] }
+    requires opened { map (λ d. InputMmcs.committed d.prover_data.now) opened.now.data.now
+        ≡ map (λ r. r.matrices.now) opened.now.rounds.now }
     requires shape { pcs_shape shape ≡ record {
-      counts = counts_of_values values.now.items;
-      batch_pow_bits = params.now.batch_proof_of_work_bits;
+      counts = counts_of_values opened.now.values.now.items;
+      batch_pow_bits = setting.now.params.now.batch_proof_of_work_bits;
     } }
     requires stream { seed_bytes seed ≡ pcs_stream EF.DIMENSION (pcs_shape shape) }
     requires turns { seed_turns seed ≡ map turn_of (pcs_steps EF.DIMENSION (pcs_shape shape)) }
-    ensures opening { let r = ⟦<C as OpensFri<F, EF, S, M, InputMmcs>>⟧.parts folding.now
-        params.now input_mmcs.now in
-        let ys = opened_values values.now.items in
-        IfOk result (λ proof. IsOpening r (opened_of rounds.now ys) ys challenger.old
-        (map (λ d. d.prover_data.now) opened.now) (proof_of proof) challenger.new) }
-    ensures stops { let r = ⟦<C as OpensFri<F, EF, S, M, InputMmcs>>⟧.parts folding.now
-        params.now input_mmcs.now in
-        let ys = opened_values values.now.items in
-        IfErr result (OpeningStops r (opened_of rounds.now ys) ys challenger.old) }
+    ensures opening { let r = ⟦<C as OpensFri<F, EF, S, M, InputMmcs>>⟧.parts
+        setting.now.folding.now setting.now.params.now setting.now.input_mmcs.now in
+        let ys = opened_values opened.now.values.now.items in
+        IfOk result (λ proof. IsOpening r (opened_of opened.now.rounds.now ys) ys challenger.old
+        (map (λ d. d.prover_data.now) opened.now.data.now) (proof_of proof) challenger.new) }
+    ensures stops { let r = ⟦<C as OpensFri<F, EF, S, M, InputMmcs>>⟧.parts
+        setting.now.folding.now setting.now.params.now setting.now.input_mmcs.now in
+        let ys = opened_values opened.now.values.now.items in
+        IfErr result (OpeningStops r (opened_of opened.now.rounds.now ys) ys challenger.old) }
     ensures not_checked { IfErr result (λ e. ¬ LeavesState e) }
 {
     let mut transcript = PcsProverTranscript::<C, F, EF>::start(challenger, seed, shape);
-    transcript.claimed_openings(values);
+    transcript.claimed_openings(opened.values);
     let (alpha, witness) = match transcript.batch_phase() {
         Ok(drawn) => drawn,
         Err(refusal) => {
@@ -93,12 +91,7 @@ pub(crate) fn open_seeded<
     };
     let tested = prove_words(
         alloc,
-        folding,
-        params,
-        input_mmcs,
-        rounds,
-        values,
-        table,
+        setting,
         opened,
         alpha,
         witness.unwrap_or(F::ZERO),

@@ -10,6 +10,18 @@ use p3_fri_folding::{FriFoldingStrategy, FriParameters};
 use p3_fri_relation::setting::PlaysFri;
 use p3_mmcs::Mmcs;
 
+/// What a prover works by, the same for all that it opens: how a row is folded, the parameters with
+/// the scheme of the rounds, and the scheme of the inputs.
+#[derive(Drop)]
+pub(crate) struct ProverSetting<'a, S, M, InputMmcs> {
+    /// How a row is folded.
+    pub folding: &'a S,
+    /// The parameters, with the scheme that commits to the folded words.
+    pub params: &'a FriParameters<M>,
+    /// The scheme that the matrices are committed by.
+    pub input_mmcs: &'a InputMmcs,
+}
+
 /// A challenger of openings, with the record of all that an opening stands on: the strategy, the
 /// parameters with the scheme of the rounds, and that of the inputs. Each has it, as `⟦<C as
 /// OpensFri<F, EF, S, M, InputMmcs>>⟧.parts folding parameters mmcs`.

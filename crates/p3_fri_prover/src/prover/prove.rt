@@ -192,6 +192,30 @@ fn open_played<F: TwoAdicField, EF: ExtensionField<F>, M: Mmcs<EF>, InputMmcs: M
 /// not above its word's, `InputHeightTooSmall` or, where that has no number, `FinalHeightOverflow`:
 /// these leave the challenger as it was. `NoPowWitness` where no element passes a proof of work.
 /// Want of memory is `OutOfMemory`.
+///
+/// # Examples
+///
+/// A word of 16 values, and one committed datum that is opened beside it:
+///
+/// ```
+/// let folding: TwoAdicFriFolding<(), Sha256MmcsError> = TwoAdicFriFolding(PhantomData);
+/// let words = vec![in alloc; word]?;
+/// let data = [ProverDataWithOpeningPoints {
+///     prover_data: &committed,
+///     points: &points,
+/// }];
+/// let proof = prove_fri(
+///     alloc,
+///     &folding,
+///     &params,
+///     words,
+///     &mut challenger,
+///     4,
+///     &data,
+///     &input_mmcs,
+///     BabyBear::ZERO,
+/// )?;
+/// ```
 pub fn prove_fri<
     F: TwoAdicField,
     EF: ExtensionField<F>,

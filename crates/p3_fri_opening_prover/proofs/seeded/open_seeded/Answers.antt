@@ -4,11 +4,11 @@ use Rattle.p3_challenger_fs.specs.Separator.{seed_bytes}
 use Rattle.p3_pcs.specs.Claims.{opened_values}
 use Rattle.p3_fri_pcs_transcript.specs.Shapes.{pcs_shape}
 use Rattle.p3_fri_pcs_transcript.proofs.ClaimTurns.{all_claims_left}
-use Rattle.p3_fri_folding.specs.declared.config.FriParameters.{FriParameters}
 use Rattle.p3_fri_relation.specs.Setting.{Setting}
 use Rattle.p3_fri_relation.specs.Views.{parameters_of, proof_of}
 use Rattle.p3_fri_batch.specs.Rounds.{opened_of}
 use Rattle.p3_fri_opening_prover.specs.Setting.{OpeningSetting}
+use Rattle.p3_fri_opening_prover.specs.declared.setting.ProverSetting.{ProverSetting}
 use Rattle.p3_fri_opening_prover.proofs.Drawn.{IsClaimed, is_claimed, is_drawn, opening_made}
 use Rattle.p3_fri_opening_prover.proofs.Drawn.{stopped, no_witness, is_sent, zero_at_no_bits}
 use Rattle.p3_fri_opening_prover.proofs.seeded.open_seeded.Given.{Over}
@@ -41,37 +41,36 @@ setting_at g folding mmcs input_mmcs = record {
 }
 
 -- and what openings stand on
-abbrev parts_at : (g : Over) → g.row.S.Denot
-    → FriParameters g.row.M.Denot → g.row.InputMmcs.Denot
+abbrev parts_at : (g : Over) → ProverSetting g.row.S.Denot g.row.M.Denot g.row.InputMmcs.Denot
     → OpeningSetting g.row.F.Denot g.row.EF.Denot g.row.C.Denot g.row.InputMmcs-ProverData.Denot
     g.row.M-ProverData.Denot g.row.M-Commitment.Denot g.row.M-MultiProof.Denot
     g.row.InputMmcs-Commitment.Denot g.row.InputMmcs-MultiProof.Denot
-parts_at g folding params input_mmcs = record {
-  setting = setting_at g folding params.mmcs input_mmcs;
-  parameters = parameters_of params;
+parts_at g s = record {
+  setting = setting_at g s.folding.now s.params.now.mmcs s.input_mmcs.now;
+  parameters = parameters_of s.params.now;
   committed = g.InputMmcs.Mmcs.committed;
   commitment_of = g.InputMmcs.Mmcs.commitment_of;
   round_committed = g.M.Mmcs.committed;
   round_commitment_of = g.M.Mmcs.commitment_of;
   solution = g.C.GrindingChallenger.solution;
   most_bits = g.C.CanSampleBits.MAX_SAMPLE_BITS;
-  max_log_height = g.S.FriFoldingStrategy.max_log_height folding;
+  max_log_height = g.S.FriFoldingStrategy.max_log_height s.folding.now;
 }
 
 -- the transcript once the values are claimed
 claimed : (g : Over) (c : After-claimed_openings g)
-    → let ys = opened_values c.args.values.now.items in
-    IsClaimed (parts_at g c.args.folding.now c.args.params.now c.args.input_mmcs.now)
-    (opened_of c.args.rounds.now ys) ys c.args.challenger.now
+    → let ys = opened_values c.args.opened.now.values.now.items in
+    IsClaimed (parts_at g c.args.setting.now)
+    (opened_of c.args.opened.now.rounds.now ys) ys c.args.challenger.now
     c.claimed_openings.new.self.challenger.now
     (pcs_shape c.claimed_openings.new.self.shape).batch_pow_bits
 claimed g c =
-    let r = parts_at g c.args.folding.now c.args.params.now c.args.input_mmcs.now in
-    let vectors = c.args.values.now.items in
+    let r = parts_at g c.args.setting.now in
+    let vectors = c.args.opened.now.values.now.items in
     let begun = c.start-transcript in
     let claims = c.claimed_openings in
     is_claimed r
-    (opened_of c.args.rounds.now (opened_values vectors)) vectors c.args.challenger.now
+    (opened_of c.args.opened.now.rounds.now (opened_values vectors)) vectors c.args.challenger.now
     (pcs_shape c.args.shape) (pcs_shape begun.result.shape) (pcs_shape claims.new.self.shape)
     (seed_bytes c.args.seed) begun.result.challenger.now claims.new.self.challenger.now
     c.requires.shape begun.ensures.starts.shape claims.ensures.kept.shape c.requires.stream
@@ -106,7 +105,7 @@ returns-in-Ok-tested-clause-opening g c =
     let drawn = is_drawn claims c.unwrap_or.result _ c.in-Ok.drawn.0
     c.batch_phase.new.self.challenger.now c.begin_delegate.result.now carried
     c.in-Ok.ensures.batch c.begin_delegate.ensures.value in
-    opening_made drawn c.args.opened.now (λ d. d.prover_data.now)
+    opening_made drawn c.args.opened.now.data.now (λ d. d.prover_data.now)
     (proof_of c.in-Ok-tested.proof) c.prove_words-tested.new.challenger _
     c.in-Ok-tested.ensures.batch_witness
     (zero_at_no_bits claims c.in-Ok.drawn.1 c.unwrap_or.result carried c.in-Ok.ensures.witness)

@@ -15,6 +15,7 @@ use Rattle.p3_fri_prover.specs.Proved.{IsProved, positions}
 use Rattle.p3_fri_prover.specs.Prover.{ProverRefusal}
 use Rattle.p3_fri_prover.proofs.Refused.{refused_memory}
 use Rattle.p3_fri_opening_prover.specs.Opening.{heights, top, words}
+use Rattle.p3_fri_opening_prover.specs.declared.setting.ProverSetting.{ProverSetting}
 use Rattle.p3_fri_opening_prover.proofs.Matrices.{data_bounded}
 use Rattle.p3_fri_opening_prover.proofs.Refused.{no_check_refused}
 use Rattle.p3_fri_opening_prover.proofs.Tallest.{words_have}
@@ -37,37 +38,40 @@ fields_of g = record {
 }
 
 -- what the layers below compute and accept, named once
-abbrev setting_at : (g : Over) → g.row.S.Denot → g.row.M.Denot → g.row.InputMmcs.Denot
+abbrev setting_at : (g : Over) → ProverSetting g.row.S.Denot g.row.M.Denot g.row.InputMmcs.Denot
     → Setting g.row.F.Denot g.row.EF.Denot g.row.C.Denot g.row.M-Commitment.Denot
     g.row.M-MultiProof.Denot g.row.InputMmcs-Commitment.Denot g.row.InputMmcs-MultiProof.Denot
-setting_at g folding mmcs input_mmcs = record {
+setting_at g s = record {
   fields = fields_of g;
-  fold = g.S.FriFoldingStrategy.row_fold folding;
-  extra_bits = g.S.FriFoldingStrategy.extra_query_index_bits folding;
+  fold = g.S.FriFoldingStrategy.row_fold s.folding.now;
+  extra_bits = g.S.FriFoldingStrategy.extra_query_index_bits s.folding.now;
   moves = moves g.C.CanObserve-1.observed g.C.CanObserve-2.observed g.C.CanSample.sampled
       g.EF.ExtensionField.of_coefficients g.EF.ExtensionField.DIMENSION
       g.C.CanSampleBits.sampled_bits;
-  opens_input = g.InputMmcs.Mmcs.opens input_mmcs;
-  opens_round = g.M.Mmcs.opens mmcs;
+  opens_input = g.InputMmcs.Mmcs.opens s.input_mmcs.now;
+  opens_round = g.M.Mmcs.opens s.params.now.mmcs;
 }
 
 -- the words that were made are the quotients'
 words_are : (g : Over) (c : After-deref-2 g)
     → lists c.in-Ok.words.items ≡ words (fields_of g)
-    (opened_of c.args.rounds.now (opened_values c.args.values.now.items)) c.args.alpha
+    (opened_of c.args.opened.now.rounds.now (opened_values c.args.opened.now.values.now.items))
+    c.args.alpha
 words_are g c =
     subst (λ xs. lists c.in-Ok.words.items ≡ words (fields_of g)
-    (opened_of c.args.rounds.now (opened_values xs)) c.args.alpha) c.deref.ensures.value
+    (opened_of c.args.opened.now.rounds.now (opened_values xs)) c.args.alpha) c.deref.ensures.value
     c.in-Ok.ensures
 
 -- with the log height that was found of the tallest
 made_words : (g : Over) (c : After-deref-2 g) (log_height : ℕ)
     → ((hs : List ℕ) → HaveHeights hs (lists c.deref-2.result.now) → log_height ≡ tallest hs)
-    → Made (fields_of g) (opened_of c.args.rounds.now (opened_values c.args.values.now.items))
-    c.args.alpha (lists c.in-Ok.words.items) log_height
+    → Made (fields_of g) (opened_of c.args.opened.now.rounds.now
+    (opened_values c.args.opened.now.values.now.items)) c.args.alpha
+    (lists c.in-Ok.words.items) log_height
 made_words g c log_height tallest_is =
     let f = fields_of g in
-    let ms = opened_of c.args.rounds.now (opened_values c.args.values.now.items) in
+    let ys = opened_values c.args.opened.now.values.now.items in
+    let ms = opened_of c.args.opened.now.rounds.now ys in
     record {
       words_are = words_are g c;
       top_is = tallest_is (heights f ms) (subst (λ ws. HaveHeights (heights f ms) ws)
@@ -78,21 +82,21 @@ made_words g c log_height tallest_is =
 pub returns-in-Err-clause-refused :
     goal.returns-in-Err-clause-refused
 returns-in-Err-clause-refused g c =
-    let s = setting_at g c.args.folding.now c.args.params.now.mmcs c.args.input_mmcs.now in
+    let s = setting_at g c.args.setting.now in
     let f = s.fields in
-    let p = parameters_of c.args.params.now in
-    let ys = opened_values c.args.values.now.items in
-    let ms = opened_of c.args.rounds.now ys in
+    let p = parameters_of c.args.setting.now.params.now in
+    let ys = opened_values c.args.opened.now.values.now.items in
+    let ms = opened_of c.args.opened.now.rounds.now ys in
     refused_memory s g.M.Mmcs.committed g.M.Mmcs.commitment_of p (heights f ms) (top f ms)
     (words f ms c.args.alpha) c.args.challenger.now g.C.GrindingChallenger.solution
-    (tall_heights f c.args.rounds.now ys p c.requires.tall_enough)
+    (tall_heights f c.args.opened.now.rounds.now ys p c.requires.tall_enough)
 
 pub tallest_log_height-log_global_max_height-requires :
     goal.tallest_log_height-log_global_max_height-requires
 tallest_log_height-log_global_max_height-requires g c =
     let f = fields_of g in
-    let ys = opened_values c.args.values.now.items in
-    let ms = opened_of c.args.rounds.now ys in
+    let ys = opened_values c.args.opened.now.values.now.items in
+    let ms = opened_of c.args.opened.now.rounds.now ys in
     let words_are =
     words_are g (goal.at.tallest_log_height-log_global_max_height-requires g c).After-deref-2 in
     record {
@@ -100,7 +104,7 @@ tallest_log_height-log_global_max_height-requires g c =
         top f ms,
         subst (λ ws. AreInputs (top f ms) ws)
             (sym (ap lists c.deref-2.ensures.value ∙ words_are))
-            (are_inputs f c.args.rounds.now ys c.requires.rounds c.args.alpha
+            (are_inputs f c.args.opened.now.rounds.now ys c.requires.rounds c.args.alpha
             c.requires.some_matrix),
       );
     }
@@ -110,8 +114,9 @@ pub prove_fri-requires-clause-inputs :
 prove_fri-requires-clause-inputs g c =
     let made = made_words g (goal.at.prove_fri-requires-clause-inputs g c).After-deref-2 _
     c.tallest_log_height-log_global_max_height.ensures in
-    of_made made AreInputs (are_inputs (fields_of g) c.args.rounds.now
-    (opened_values c.args.values.now.items) c.requires.rounds c.args.alpha c.requires.some_matrix)
+    of_made made AreInputs (are_inputs (fields_of g) c.args.opened.now.rounds.now
+    (opened_values c.args.opened.now.values.now.items) c.requires.rounds c.args.alpha
+    c.requires.some_matrix)
 
 pub prove_fri-requires-clause-within_two_adicity :
     goal.prove_fri-requires-clause-within_two_adicity
@@ -121,8 +126,8 @@ prove_fri-requires-clause-within_two_adicity g c =
     omega (
       arith,
       made.top_is,
-      top_within (fields_of g) c.args.rounds.now
-          (opened_values c.args.values.now.items),
+      top_within (fields_of g) c.args.opened.now.rounds.now
+          (opened_values c.args.opened.now.values.now.items),
     )
 
 pub prove_fri-requires-clause-data_heights :
@@ -130,65 +135,65 @@ pub prove_fri-requires-clause-data_heights :
 prove_fri-requires-clause-data_heights g c =
     let f = fields_of g in
     let committed = g.InputMmcs.Mmcs.committed in
-    let rounds = c.args.rounds.now in
-    let ys = opened_values c.args.values.now.items in
+    let rounds = c.args.opened.now.rounds.now in
+    let ys = opened_values c.args.opened.now.values.now.items in
     let made = made_words g (goal.at.prove_fri-requires-clause-data_heights g c).After-deref-2 _
     c.tallest_log_height-log_global_max_height.ensures in
     of_made made (λ t ws. All (λ d. max_height (dimensions_of (committed d.prover_data.now))
-    ≤ 2 ^ t) c.args.opened.now)
+    ≤ 2 ^ t) c.args.opened.now.data.now)
     (data_bounded (λ d. committed d.prover_data.now) f.two_adicity (top f (opened_of rounds ys))
-    rounds ys c.args.opened.now c.requires.rounds c.requires.values
+    rounds ys c.args.opened.now.data.now c.requires.rounds c.requires.values
     (none_above f rounds ys c.requires.rounds) c.requires.opened)
 
 pub returns-clause-proved :
     goal.returns-clause-proved
 returns-clause-proved g c =
-    let s = setting_at g c.args.folding.now c.args.params.now.mmcs c.args.input_mmcs.now in
+    let s = setting_at g c.args.setting.now in
     let hs = heights s.fields
-    (opened_of c.args.rounds.now (opened_values c.args.values.now.items)) in
+    (opened_of c.args.opened.now.rounds.now (opened_values c.args.opened.now.values.now.items)) in
     let made = made_words g (goal.at.returns-clause-proved g c).After-deref-2 _
     c.tallest_log_height-log_global_max_height.ensures in
     of_words made (λ t ws. IfOk c.prove_fri.result (λ proof. IsProved s
-    (parameters_of c.args.params.now) hs t ws c.args.challenger.now (proof_of proof)
-    (length c.args.opened.now) c.prove_fri.new.challenger))
+    (parameters_of c.args.setting.now.params.now) hs t ws c.args.challenger.now (proof_of proof)
+    (length c.args.opened.now.data.now) c.prove_fri.new.challenger))
     (c.prove_fri.ensures.proved hs (made_have made))
 
 pub returns-clause-inputs_opened :
     goal.returns-clause-inputs_opened
 returns-clause-inputs_opened g c =
-    let s = setting_at g c.args.folding.now c.args.params.now.mmcs c.args.input_mmcs.now in
+    let s = setting_at g c.args.setting.now in
     let hs = heights s.fields
-    (opened_of c.args.rounds.now (opened_values c.args.values.now.items)) in
+    (opened_of c.args.opened.now.rounds.now (opened_values c.args.opened.now.values.now.items)) in
     let made = made_words g (goal.at.returns-clause-inputs_opened g c).After-deref-2 _
     c.tallest_log_height-log_global_max_height.ensures in
     of_words made (λ t ws. IfOk c.prove_fri.result (λ proof. AllZip (λ d o.
-    OpensBatch s.opens_input t (positions s (parameters_of c.args.params.now) hs t ws
+    OpensBatch s.opens_input t (positions s (parameters_of c.args.setting.now.params.now) hs t ws
     c.args.challenger.now (proof_of proof)) (g.InputMmcs.Mmcs.committed d.prover_data.now)
-    (g.InputMmcs.Mmcs.commitment_of d.prover_data.now) o) c.args.opened.now
+    (g.InputMmcs.Mmcs.commitment_of d.prover_data.now) o) c.args.opened.now.data.now
     (proof_of proof).inputs))
     (c.prove_fri.ensures.inputs_opened hs (made_have made))
 
 pub returns-clause-refused :
     goal.returns-clause-refused
 returns-clause-refused g c =
-    let s = setting_at g c.args.folding.now c.args.params.now.mmcs c.args.input_mmcs.now in
+    let s = setting_at g c.args.setting.now in
     let hs = heights s.fields
-    (opened_of c.args.rounds.now (opened_values c.args.values.now.items)) in
+    (opened_of c.args.opened.now.rounds.now (opened_values c.args.opened.now.values.now.items)) in
     let made = made_words g (goal.at.returns-clause-refused g c).After-deref-2 _
     c.tallest_log_height-log_global_max_height.ensures in
     of_words made (λ t ws. IfErr c.prove_fri.result (ProverRefusal s g.M.Mmcs.committed
-    g.M.Mmcs.commitment_of (parameters_of c.args.params.now) hs t ws c.args.challenger.now
-    g.C.GrindingChallenger.solution))
+    g.M.Mmcs.commitment_of (parameters_of c.args.setting.now.params.now) hs t ws
+    c.args.challenger.now g.C.GrindingChallenger.solution))
     (c.prove_fri.ensures.refused hs (made_have made))
 
 pub returns-clause-not_checked :
     goal.returns-clause-not_checked
 returns-clause-not_checked g c =
-    let s = setting_at g c.args.folding.now c.args.params.now.mmcs c.args.input_mmcs.now in
+    let s = setting_at g c.args.setting.now in
     let f = s.fields in
-    let p = parameters_of c.args.params.now in
-    let rounds = c.args.rounds.now in
-    let ys = opened_values c.args.values.now.items in
+    let p = parameters_of c.args.setting.now.params.now in
+    let rounds = c.args.opened.now.rounds.now in
+    let ys = opened_values c.args.opened.now.values.now.items in
     let hs = heights f (opened_of rounds ys) in
     let made = made_words g (goal.at.returns-clause-not_checked g c).After-deref-2 _
     c.tallest_log_height-log_global_max_height.ensures in
