@@ -4,8 +4,10 @@
 #![tactic(auto)]
 
 pub mod forms;
+pub mod laws;
 mod parts;
 pub mod proof;
 
 pub use crate::forms::{PlainCommitments, PlainOpenedValues, PlainStarkProof};
+pub use crate::laws::stark_form_law;
 pub use crate::proof::{StarkProof, stark_from_plain, stark_to_plain};

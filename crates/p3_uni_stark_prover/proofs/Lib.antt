@@ -16,3 +16,4 @@ pub mod Preparing
 pub mod Committing
 pub mod Entries
 pub mod Known
+pub mod Fitting

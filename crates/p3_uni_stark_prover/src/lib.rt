@@ -5,7 +5,9 @@
 pub mod commitments;
 pub mod preparation;
 pub mod prover;
+pub mod room;
 pub mod steps;
 
 pub use crate::prover::prove;
+pub use crate::room::has_room;
 pub use p3_uni_stark_phases::ProvingError;

@@ -1,17 +1,16 @@
 //! The prover.
 
-ghost use Rattle.std.specs.Prelude.{◌≡◌, ◌≤◌, ◌⊎◌, ◌+◌, ◌^◌, ℕ, List, length, IfOk, IfErr};
-ghost use Rattle.std.specs.Int.{IsPowerOfTwo};
+ghost use Rattle.std.specs.Prelude.{◌≡◌, ◌⊎◌, ◌+◌, ◌^◌, ℕ, List, length, IfOk, IfErr};
 ghost use Rattle.p3_matrix.specs.Matrix.{rows, matrix_width};
 ghost use Rattle.p3_air.specs.Satisfied.{IsSatisfied};
 ghost use Rattle.p3_pcs.specs.Scheme.{AreKept};
 ghost use Rattle.p3_stark_pcs.specs.Scheme.{AreKeptStark};
-ghost use Rattle.p3_uni_stark_verifier.specs.Chunks.{hiding_bits, NeedsChunks};
+ghost use Rattle.p3_uni_stark_verifier.specs.Chunks.{hiding_bits};
 ghost use Rattle.p3_uni_stark_verifier.specs.Relation.{drawn, StarkAccepts, IsLastState};
 ghost use Rattle.p3_uni_stark_verifier.specs.Setting.{stark_setting};
 ghost use Rattle.p3_uni_stark_prover.specs.Held.{assigned_to, HavePreprocessedRows};
 ghost use Rattle.p3_uni_stark_prover.specs.Held.{HoldPreprocessed};
-ghost use Rattle.p3_uni_stark_prover.specs.Provable.{IsProvable};
+ghost use Rattle.p3_uni_stark_prover.specs.Provable.{IsProvable, FitsField};
 ghost use Rattle.p3_uni_stark_prover.specs.Refused.{PreparationRefusal, CommitRefusal};
 ghost use Rattle.p3_uni_stark_prover.specs.Refused.{IsRefusedAfter};
 
@@ -31,9 +30,8 @@ use p3_uni_stark_verifier::{Proof, Statement};
 use std::alloc::Global;
 
 /// A proof that the trace satisfies the statement's constraint system, with the data of the
-/// preprocessed columns, which `commit_preprocessing` of the scheme gives. The trace has one row to
-/// each step, a power of two of them, and the scheme room for as many, with the hiding scheme's
-/// randomness and the quotient's chunks, within the field's two-adicity.
+/// preprocessed columns, which `commit_preprocessing` of the scheme gives. The trace has a power of
+/// two of rows, for which there has to be room in the field: `has_room` is the test.
 ///
 /// Where the trace satisfies the constraints the verifier accepts what is returned, and both end in
 /// one state of the challenger. Where it doesn't, something is returned too, which the verifier
@@ -60,13 +58,9 @@ pub fn prove<
 ) -> Result<Proof<EF, Com, P::Proof>, ProvingError<P::ProverError>>
     requires range { (P.rules scheme.old).InProverRange }
     requires statement { IsProvable statement.now }
-    requires height { IsPowerOfTwo (length (rows trace)) }
     requires width { matrix_width trace ≡ statement.now.air.now.layout.width }
-    requires trace_room { (k : ℕ) → length (rows trace) ≡ 2 ^ k
-        → k + hiding_bits P.ZK + P.log_blowup scheme.old ≤ F.TWO_ADICITY }
-    requires quotient_room { (k log : ℕ) → length (rows trace) ≡ 2 ^ k
-        → NeedsChunks P.ZK statement.now.air.now log
-        → k + (log + hiding_bits P.ZK) ≤ F.TWO_ADICITY }
+    requires room { FitsField F.TWO_ADICITY (P.log_blowup scheme.old) P.ZK statement.now.air.now
+        (length (rows trace)) }
     requires preprocessed { (k : ℕ) → length (rows trace) ≡ 2 ^ k
         → HoldPreprocessed (P.rules scheme.old) (P.stark_rules scheme.old)
         (λ d. (d.shift ≡ F.ONE) × (d.log_size ≡ k + hiding_bits P.ZK)) k

@@ -20,7 +20,8 @@ use Rattle.p3_uni_stark_verifier.specs.declared.proof.PreprocessedVerifierKey.{
 }
 use Rattle.p3_uni_stark_verifier.specs.declared.proof.Proof.{Proof}
 use Rattle.p3_uni_stark_verifier.specs.declared.proof.Statement.{Statement}
-use Rattle.p3_uni_stark_verifier.specs.Relation.{StarkAccepts, StarkFault}
+use Rattle.p3_uni_stark_verifier.specs.Inputs.{IsReady}
+use Rattle.p3_uni_stark_verifier.specs.Relation.{drawn, IsLastState, StarkAccepts, StarkFault}
 use Rattle.p3_uni_stark_verifier.specs.Setting.{StarkSetting}
 
 -- a statement by its numbers
@@ -55,11 +56,20 @@ NumberFault order p (OutOfRange part.PublicValues row entry) =
 NumberFault order p (OutOfRange _ row entry) = ⊥
 NumberFault order p OutOfMemory = ⊤
 
-module _ {V E C Com Dom D Opening Error ProverError : Type 0} (order : ℕ) (canonical : V → ℕ)
+module _ {V E C Com Dom D Opening Error ProverError : Type 0} (canonical : V → ℕ)
     (S : StarkSetting V E C Com Dom D Opening Error ProverError) (p : Stated Com)
-    (proof : Proof E Com Opening) (c : C) where
-  -- the numbers are those of a statement of which the verifier refuses the proof for this reason;
-  -- memory aside, it isn't accepted then
+    (proof : Proof E Com Opening) (c last : C) where
+  -- the numbers are those of a statement of which the written relation holds from the state `c`,
+  -- and `last` is the state in which the verifier of that statement ends
+  pub record IsAcceptedOf : Type 0 where
+    pub statement : Statement V Com
+    pub are_numbers : AreNumbersOf canonical p statement
+    pub accepts : StarkAccepts S statement proof c
+    pub state : let begun = drawn S.fields S.moves statement proof c in
+        IsLastState S statement proof begun.zeta begun.state last
+
+  -- the numbers are those of a statement of which the verifier refuses the proof for this reason,
+  -- without a move where what it is given is refused; memory aside, the proof isn't accepted then
   pub record IsRefusedFor (e : VerificationError Error) : Type 0 where
     pub statement : Statement V Com
     pub are_numbers : AreNumbersOf canonical p statement
@@ -67,18 +77,12 @@ module _ {V E C Com Dom D Opening Error ProverError : Type 0} (order : ℕ) (can
     pub fails : e ≢ fault.OutOfMemory
         → e ≢ fault.InvalidOpeningArgument S.scheme.out_of_memory
         → ¬ StarkAccepts S statement proof c
+    pub unmoved : ¬ ((log : ℕ)
+        × IsReady S.fields.two_adicity S.fields.dimension S.zk statement proof log)
+        → last ≡ c
 
-  -- why the proof isn't accepted
-  abbrev pub IsRefusedOf : PlainVerificationError Error → Type 0
-  IsRefusedOf (plain.Air f) = FormFault order canonical p.air f
-  IsRefusedOf (plain.Element f) = NumberFault order p f
-  IsRefusedOf (plain.Refused e) = IsRefusedFor e
-
-module _ {V E C Com Dom D Opening Error ProverError : Type 0} (canonical : V → ℕ)
-    (S : StarkSetting V E C Com Dom D Opening Error ProverError)
-    (p : Stated Com) (proof : Proof E Com Opening) (c : C) where
-  -- the numbers are those of a statement of which the written relation holds, from the state `c`
-  pub record IsAcceptedOf : Type 0 where
-    pub statement : Statement V Com
-    pub are_numbers : AreNumbersOf canonical p statement
-    pub accepts : StarkAccepts S statement proof c
+  -- why the proof isn't accepted; refused numbers leave the challenger as it was
+  abbrev pub IsRefusedOf : (order : ℕ) → PlainVerificationError Error → Type 0
+  IsRefusedOf order (plain.Air f) = (last ≡ c) × FormFault order canonical p.air f
+  IsRefusedOf order (plain.Element f) = (last ≡ c) × NumberFault order p f
+  IsRefusedOf order (plain.Refused e) = IsRefusedFor e

@@ -1,4 +1,4 @@
-use Rattle.std.proofs.Common.{◌≡◌, ◌+◌, ◌^◌, ◌<◌, ℕ, length, subst, sym, ap, ◌∙◌, arith}
+use Rattle.std.proofs.Common.{◌≡◌, ◌≤◌, ◌+◌, ◌^◌, ◌<◌, ℕ, length, subst, sym, ap, ◌∙◌, arith}
 use Rattle.std.proofs.Common.{inl, inr}
 use Rattle.std.specs.Int.{IsPowerOfTwo}
 use Rattle.std.specs.Prelude.{slice_index_or}
@@ -20,6 +20,7 @@ use Rattle.p3_uni_stark_verifier.specs.Setting.{StarkFields}
 use Rattle.p3_uni_stark_prover.specs.Finished.{FinishRefusal}
 use Rattle.p3_uni_stark_prover.specs.Held.{HavePreprocessedRows}
 use Rattle.p3_uni_stark_prover.specs.Refused.{PreparationRefusal, CommitRefusal}
+use Rattle.p3_uni_stark_prover.proofs.Fitting.{same_power}
 use Rattle.p3_uni_stark_prover.proofs.Kept.{rows_kept}
 use Rattle.p3_uni_stark_prover.proofs.Refusals.{handed_on}
 use Rattle.p3_uni_stark_prover.proofs.Whole.{openable, commitments_are, state_of, accepted_of}
@@ -82,22 +83,19 @@ has g = is_basis g.EF.Field.ops g.met.EF.Field.laws g.EF.ExtensionField.lift
 power_of : (k n m : ℕ) → 2 ^ k ≡ n → n ≡ m → m ≡ 2 ^ k
 power_of k n m a b = sym (a ∙ b)
 
-same_power : (j k n : ℕ) → n ≡ 2 ^ j → n ≡ 2 ^ k → j ≡ k
-same_power j k n a b =
-    let up = exponent_at_most j k (omega (arith, a, b)) in
-    let down = exponent_at_most k j (omega (arith, a, b)) in
-    omega (arith, up, down)
-
 pub log2_strict_usize-log_height-requires : goal.log2_strict_usize-log_height-requires
 log2_strict_usize-log_height-requires g c = record {
-  power_of_two = subst IsPowerOfTwo (sym c.height.ensures) c.requires.height;
+  power_of_two = (c.requires.room.log_height, c.height.ensures ∙ c.requires.room.height);
 }
 
 pub prepare-requires-clause-room : goal.prepare-requires-clause-room
 prepare-requires-clause-room g c = λ log needs.
-    c.requires.quotient_room c.log2_strict_usize-log_height.result log
+    subst (λ k. k + (log + hiding_bits g.P.UnivariateStarkPcs.ZK) ≤ g.F.TwoAdicField.TWO_ADICITY)
+    (same_power c.requires.room.log_height c.log2_strict_usize-log_height.result
+    (length (rows c.args.trace)) c.requires.room.height
     (power_of c.log2_strict_usize-log_height.result c.height.result (length (rows c.args.trace))
-    c.log2_strict_usize-log_height.ensures.power c.height.ensures) needs
+    c.log2_strict_usize-log_height.ensures.power c.height.ensures))
+    (c.requires.room.quotient log needs)
 
 pub returns-in_err-prepared-clause-kept : goal.returns-in_err-prepared-clause-kept
 returns-in_err-prepared-clause-kept g c = still_kept (g.P.Pcs.rules c.args.scheme.now)
@@ -128,10 +126,14 @@ commit_columns-requires-clause-height g c =
 
 pub commit_columns-requires-clause-room : goal.commit_columns-requires-clause-room
 commit_columns-requires-clause-room g c =
-    c.requires.trace_room c.in_ok-prepared.prepared.log_height
+    subst (λ k. k + hiding_bits g.P.UnivariateStarkPcs.ZK
+    + g.P.TwoAdicStarkPcs.log_blowup c.args.scheme.now ≤ g.F.TwoAdicField.TWO_ADICITY)
+    (same_power c.requires.room.log_height c.in_ok-prepared.prepared.log_height
+    (length (rows c.args.trace)) c.requires.room.height
     (height_of c.log2_strict_usize-log_height.result c.height.result (length (rows c.args.trace))
     c.in_ok-prepared.prepared.log_height c.log2_strict_usize-log_height.ensures.power
-    c.height.ensures c.in_ok-prepared.ensures.height)
+    c.height.ensures c.in_ok-prepared.ensures.height))
+    c.requires.room.trace
 
 pub commit_columns-requires-clause-preprocessed : goal.commit_columns-requires-clause-preprocessed
 commit_columns-requires-clause-preprocessed g c =

@@ -1,0 +1,28 @@
+//! Texts of plain forms, read and written again.
+
+use crate::given::{PROOF, SYSTEM, proof, system};
+use p3_air_plain::{air_from_plain, air_to_plain};
+use p3_field::BabyBear;
+use p3_fri_plain::TwoAdicFriProof;
+use p3_uni_stark_plain::{stark_from_plain, stark_to_plain};
+use std::alloc::Global;
+use std::test::Fail;
+
+/// The text of the form of the constraint system of this form.
+fn system_again(alloc: Global) -> Result<String, Fail> {
+    let air = air_from_plain::<BabyBear>(alloc, &system(alloc)?)?;
+    Ok(serde_json::to_string(alloc, &air_to_plain(alloc, &air)?)?)
+}
+
+/// The text of the form of the proof of this form.
+fn proof_again(alloc: Global) -> Result<String, Fail> {
+    let proof = stark_from_plain::<TwoAdicFriProof>(alloc, &proof(alloc)?)?;
+    Ok(serde_json::to_string(alloc, &stark_to_plain::<TwoAdicFriProof>(alloc, &proof)?)?)
+}
+
+#[test]
+fn forms_come_back(rt: HostRuntime) -> Result<(), Fail> {
+    assert!(rt; system_again(rt.alloc())?.as_str() == SYSTEM);
+    assert!(rt; proof_again(rt.alloc())?.as_str() == PROOF);
+    Ok(())
+}
