@@ -4,6 +4,7 @@ A node is a kind and what it names. Six kinds name an entry of what is seen at a
 a `window` has a list of entries for each of them.
 """
 
+from collections import defaultdict
 from dataclasses import dataclass
 from dataclasses import field as record_field
 from typing import Callable, NamedTuple
@@ -116,7 +117,8 @@ def meanings(air, window, meaning):
 
 def degrees(air):
     """The degree of each node in the columns; public values and constants count nothing."""
-    window = {kind: [int(kind != "public")] * count for kind, count in air.entry_counts().items()}
+    one, none = defaultdict(lambda: 1), defaultdict(int)
+    window = {kind: none if kind == "public" else one for kind in ENTRIES}
     return meanings(air, window, DEGREES)
 
 

@@ -51,11 +51,11 @@ def row_answers(name, row_answer, allowed):
     return [row_answer]
 
 
-def named_groups(name, document):
+def named_groups(document, rows, answers_of):
     """Changes with a name, one by one."""
-    base = answers(document)
-    for row_name, change, row_answer in rows_of(name, document):
-        allowed = row_answers(row_name, row_answer, answers(changed(document, change)))
+    base = answers_of(document)
+    for row_name, change, row_answer in rows:
+        allowed = row_answers(row_name, row_answer, answers_of(changed(document, change)))
         assert row_answer != ACCEPTED or allowed == base, row_name
         yield {"name": row_name, "answers": allowed, "changes": [change.text()]}
 
@@ -71,7 +71,8 @@ def grouped(document, changes, answers_of):
 
 
 def groups_of(name, document):
-    return [*named_groups(name, document), *grouped(document, all_changes(document), answers)]
+    return [*named_groups(document, rows_of(name, document), answers),
+            *grouped(document, all_changes(document), answers)]
 
 
 def written(kind, document, groups):

@@ -1,113 +1,129 @@
-"""Writes altered STARKs with their answers, and what a program prints that reads them.
+"""Writes altered STARKs with their answers, and what the program that reads them prints.
 
-    python3 tools/relation/generate_starks.py DIRECTORY
+    python3 tools/relation/generate_starks.py crates/altered_starks
 
 As `generate.py` does for openings: a file into `data` for each STARK, `{"stark", "groups"}`, and
-counts into `stdout`. What may be answered is a refusal of the verifier, a fault of the
-constraint system or of the proof's form, or acceptance with the next bits that are drawn.
+counts into `stdout`. What may be answered is a fault of the proof's form, of the constraint system
+(`Air`) or of a number (`Element`), a refusal of the verifier (`Refused`), or acceptance with the
+next bits that are drawn.
 """
 
 import sys
-from dataclasses import replace
-from functools import lru_cache
 
+import field
 import stark_prover
 from air import Assignment
-from alterations import compact
 from challenger import GREATEST_WIDTH, Challenger
 from chacha import Generator
-from documents import Malformed
-from generate import grouped, write_all
-from plain_form import Refused
+from generate import grouped, named_groups, write_all
+from plain_form import Parameters, Refused
 from rows import ACCEPTED
-from stark import known_statement
 from stark_alterations import all_stark_changes
 from stark_documents import (
+    air_form_fault,
+    air_of,
     plain_stark_proof,
     plain_system,
-    public_values_from,
     stark_proof_of,
-    system_from,
 )
-from stark_relation import stark_verdict
+from stark_relation import Key, Scheme, StarkStatement, stark_verdict
+from stark_rows import stark_rows_of
 from starks import (
     BITS,
-    CUBES,
-    FIBONACCI,
     HIDING,
+    MIXED,
     NO_CONSTRAINTS,
     PLAIN,
-    POWERS,
-    WORKING,
-    cubes,
-    fibonacci,
-    powers,
+    mixed,
+    mixed_without,
 )
 
 
 def documented(scheme, system, given):
     """A STARK as a JSON value; a trace that breaks a constraint gives one that is refused."""
-    _, proof = stark_prover.prove(scheme, system, given, Challenger(), Generator(bytes(32)))
+    statement, proof = stark_prover.prove(
+        scheme, system, given, Challenger(), Generator(bytes(32)))
+    key = statement.preprocessed
+    plain_key = key and {"commitment": list(key.commitment), "log_height": key.log_height}
     return {
         "hiding": scheme.hides,
-        "system": plain_system(scheme, system, given),
+        "system": {**plain_system(scheme, system, given), "preprocessed": plain_key},
         "public_values": given.public_values,
         "proof": plain_stark_proof(proof),
     }
 
 
-def broken(given, row, column):
-    """With another entry at this place."""
-    given.trace[row] = list(given.trace[row])
-    given.trace[row][column] += 1
-    return given
+UNCHANGED = ("broken", "too_short")
 
 
 def starks():
-    """Each STARK with its name."""
+    """Each STARK with its name. Of those of `UNCHANGED`, which are refused, nothing is changed."""
     yield "bits", documented(PLAIN, BITS, Assignment([[0], [1]]))
     yield "one_row", documented(PLAIN, BITS, Assignment([[1]]))
     yield "no_constraints", documented(PLAIN, NO_CONSTRAINTS, Assignment([[5], [7]]))
-    yield "fibonacci", documented(PLAIN, FIBONACCI, fibonacci(4))
-    yield "cubes", documented(PLAIN, CUBES, cubes(4))
-    yield "cubes_with_work", documented(WORKING, CUBES, cubes(4))
-    yield "powers", documented(PLAIN, POWERS, powers(4))
-    yield "hidden_fibonacci", documented(HIDING, FIBONACCI, fibonacci(32))
-    yield "hidden_cubes", documented(HIDING, CUBES, cubes(32))
-    yield "broken_fibonacci", documented(PLAIN, FIBONACCI, broken(fibonacci(4), 2, 1))
-    yield "broken_hidden_cubes", documented(HIDING, CUBES, broken(cubes(32), 31, 0))
+    yield "mixed", documented(PLAIN, MIXED, mixed(4))
+    yield "hidden_mixed", documented(HIDING, MIXED, mixed(32))
+    for rows in ("first", "last", "transition", "all"):
+        yield f"broken_{rows}", documented(PLAIN, MIXED, mixed_without(rows, 4)[0])
+        yield f"broken_hidden_{rows}", documented(HIDING, MIXED, mixed_without(rows, 32)[0])
+    yield "too_short_one_row", documented(HIDING, BITS, Assignment([[1]]))
+    yield "too_short_two_rows", documented(HIDING, BITS, Assignment([[0], [1]]))
 
 
-@lru_cache(maxsize=1)
-def verifier_side(text, hides):
-    """The verifier's file, and the statement without public values."""
-    system = system_from(text, hides)
-    return system, known_statement(system, [])
+def element_fault(part, rows):
+    """The first number in rows that is no element's, or None."""
+    for row, entries in enumerate(rows):
+        for entry, number in enumerate(entries):
+            if number >= field.ORDER:
+                return f"Element(OutOfRange {{ part: {part}, row: {row}, entry: {entry} }})"
+    return None
+
+
+def statement_fault(air, document):
+    """Why these are the numbers of no statement, or None."""
+    malformed = air_form_fault(air)
+    if malformed:
+        return f"Air({malformed})"
+    return (element_fault("Periodic", document["system"]["periodic"])
+            or element_fault("PublicValues", [document["public_values"]]))
+
+
+def key_of(plain):
+    return plain and Key(bytes(plain["commitment"]), plain["log_height"])
+
+
+def scheme_of(document):
+    system = document["system"]
+    codewords = system["num_random_codewords"] if document["hiding"] else None
+    return Scheme(Parameters(**system["parameters"]), codewords)
 
 
 def answers(document):
-    hides = document["hiding"]
+    """What may be answered: one fault of a form, or refusals, or acceptance with the next draw."""
+    system = document["system"]
     try:
-        system, known = verifier_side(compact(document["system"]), hides)
-        public_values = public_values_from(compact({"public_values": document["public_values"]}))
-        proof = stark_proof_of(document["proof"], hides)
-    except Malformed as malformed:
-        return [str(malformed)]
+        proof = stark_proof_of(document["proof"], document["hiding"])
     except Refused as refused:
         return sorted(refused.faults)
-    statement = replace(known, public_values=public_values)
-    found = stark_verdict(system.scheme, statement, proof, Challenger())
+    air = air_of(system["air"])
+    malformed = statement_fault(air, document)
+    if malformed:
+        return [malformed]
+    statement = StarkStatement(
+        air, document["public_values"], system["periodic"], key_of(system["preprocessed"]))
+    found = stark_verdict(scheme_of(document), statement, proof, Challenger())
     if found.faults:
-        return sorted(found.faults)
+        return sorted(f"Refused({fault})" for fault in found.faults)
     return [f"{ACCEPTED} {found.challenger.draw_bits(GREATEST_WIDTH)}"]
 
 
 def groups_of(name, document):
     """All changes by what may be answered; of what is refused as it is, only that."""
     changes = all_stark_changes(document)
-    if name.startswith("broken"):
+    if name.startswith(UNCHANGED):
         changes = [next(changes)]
-    return grouped(document, changes, answers)
+    return [*named_groups(document, stark_rows_of(name), answers),
+            *grouped(document, changes, answers)]
 
 
 if __name__ == "__main__":

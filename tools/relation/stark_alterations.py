@@ -1,8 +1,8 @@
-"""Changes of a STARK: of the verifier's file, the public values and the proof.
+"""Changes of a STARK: of what the verifier knows, and of the proof.
 
 A STARK is a JSON value `{"hiding", "system", "public_values", "proof"}`: whether the scheme hides,
-and what stands in the files AIR, PUBLICS and PROOF. Changes keep it of this form; lists of rows
-stay rectangles.
+and what stands in the files AIR, PUBLICS and PROOF, but for preprocessed columns, of which there is
+the verifier's key: a commitment and the logarithm of their height. Changes keep it of this form.
 """
 
 import air
@@ -10,7 +10,6 @@ from alterations import (
     PARAMETERS,
     PROOF,
     RANDOM_VALUES,
-    Canonical,
     Change,
     Digest,
     Element,
@@ -22,17 +21,20 @@ from alterations import (
 )
 
 
-class OptionalDigest(Digest):
-    """A digest that there may be."""
+class Optional:
+    """What there may be."""
 
     may_be_missing = True
+
+    def __init__(self, entry):
+        self.entry, self.sample = entry, entry.sample
 
     def changes(self, value, path):
         if value is None:
             yield Change(path, "set", compact(self.sample))
         else:
             yield Change(path, "set", "null")
-            yield from super().changes(value, path)
+            yield from self.entry.changes(value, path)
 
 
 class Choice:
@@ -70,19 +72,6 @@ class NodeForm:
             yield from (Plain() if kind == "constant" else Number()).changes(names, below)
 
 
-class Rows:
-    """Rows of one width: their entries, and no rows at all."""
-
-    sample = []
-
-    def changes(self, value, path):
-        if value:
-            yield Change(path, "empty")
-        for row, entries in enumerate(value):
-            for place, entry in enumerate(entries):
-                yield from Canonical().changes(entry, (*path, row, place))
-
-
 SYSTEM = Record(
     parameters=PARAMETERS,
     num_random_codewords=Number(3),
@@ -92,8 +81,8 @@ SYSTEM = Record(
         nodes=List(NodeForm()),
         constraints=List(Record(rows=Choice(*air.ROWS), node=Number())),
     ),
-    preprocessed=Rows(),
-    periodic=List(List(Canonical())),
+    preprocessed=Optional(Record(commitment=Digest(has_length=True), log_height=Number())),
+    periodic=List(List(Plain())),
 )
 
 OPENED_VALUES = Record(
@@ -105,13 +94,13 @@ OPENED_VALUES = Record(
     random=List(Element()),
 )
 
-COMMITMENTS = Record(trace=Digest(), quotient_chunks=Digest(), random=OptionalDigest())
+COMMITMENTS = Record(trace=Digest(), quotient_chunks=Digest(), random=Optional(Digest()))
 
 
 def stark_form(hiding):
     return Record(
         system=SYSTEM,
-        public_values=List(Canonical()),
+        public_values=List(Plain()),
         proof=Record(
             commitments=COMMITMENTS,
             opened_values=OPENED_VALUES,

@@ -134,6 +134,16 @@ def air_form_fault(system):
     return "DegreeTooLarge" if max(air.degrees(system), default=0) >= 1 << 64 else None
 
 
+def air_of(plain):
+    """The constraint system of a JSON value of the right shape, well formed or not."""
+    nodes = []
+    for each in plain["nodes"]:
+        (kind, names), = each.items()
+        nodes.append(Node(kind, tuple(names) if isinstance(names, list) else (names,)))
+    constraints = [Constraint(**constraint) for constraint in plain["constraints"]]
+    return Air(**plain["layout"], nodes=nodes, constraints=constraints)
+
+
 def air_from(plain):
     """A well-formed constraint system."""
     constraints = [Constraint(**constraint) for constraint in plain["constraints"]]

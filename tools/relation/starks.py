@@ -43,6 +43,16 @@ POWERS = Air(
           "sub 7 6", "preprocessed_next 0", "neg 9", "sub 10 7"),
     constraints(("transition", 8), ("all", 11)))
 
+# Nodes and rows of all kinds. The first entry is the first public value, the last the second one.
+# Each next one is the cube of this one, a periodic column's entry and the preprocessed column's,
+# of which each next entry is a bit.
+MIXED = Air(
+    1, 1, 2, 1,
+    nodes("local 0", "public 0", "sub 0 1", "next 0", "mul 0 0", "mul 4 0", "periodic 0",
+          "add 5 6", "preprocessed 0", "add 7 8", "sub 3 9", "public 1", "sub 0 11",
+          "preprocessed_next 0", "neg 13", "constant 1", "add 15 14", "mul 16 13"),
+    constraints(("first", 2), ("transition", 10), ("last", 12), ("all", 17)))
+
 NO_CONSTRAINTS = Air(1, 0, 0, 0, [], [])
 
 
@@ -72,6 +82,35 @@ def powers(height):
     return Assignment(trace, [[-entry % field.ORDER] for entry, in trace])
 
 
+def mixed(height, slip=None, bits=()):
+    """Where there is a row `slip`, the next one isn't what follows it."""
+    column = list(bits) or [int(row % 3 == 0) for row in range(height)]
+    periodic, trace = [3, 5], [2]
+    while len(trace) < height:
+        row = len(trace) - 1
+        entry = trace[-1] ** 3 + periodic[row % 2] + column[row] + int(row == slip)
+        trace.append(entry % field.ORDER)
+    return Assignment([[entry] for entry in trace], [[entry] for entry in column],
+                      [trace[0], trace[-1]], [periodic])
+
+
+def mixed_without(rows, height):
+    """A trace that breaks the constraint on these rows alone, and at one row, with that row."""
+    given, row = mixed(height), height // 2
+    match rows:
+        case "first":
+            given.public_values[0] += 1
+            return given, 0
+        case "last":
+            given.public_values[1] += 1
+            return given, height - 1
+        case "transition":
+            return mixed(height, slip=row), row
+        case "all":
+            return mixed(height, bits=[2 * int(at == row + 1) for at in range(height)]), row
+    raise ValueError(rows)
+
+
 PLAIN = Scheme(Parameters(1, 0, 1, 2))
 WORKING = Scheme(Parameters(2, 1, 2, 3, 2, 1, 2))
 HIDING = Scheme(Parameters(1, 0, 2, 1), 4)
@@ -86,6 +125,8 @@ PROVEN = [
     ("cubes", PLAIN, CUBES, cubes(4)),
     ("cubes, with proofs of work", WORKING, CUBES, cubes(8)),
     ("powers", PLAIN, POWERS, powers(4)),
+    ("nodes of all kinds", PLAIN, MIXED, mixed(4)),
     ("hidden Fibonacci numbers", HIDING, FIBONACCI, fibonacci(32)),
     ("hidden cubes", WIDER_HIDING, CUBES, cubes(32)),
+    ("hidden nodes of all kinds", HIDING, MIXED, mixed(32)),
 ]

@@ -29,12 +29,14 @@ from starks import (
     CUBES,
     FIBONACCI,
     HIDING,
+    MIXED,
     PLAIN,
     POWERS,
     PROVEN,
     constraints,
     cubes,
     fibonacci,
+    mixed_without,
     nodes,
     powers,
 )
@@ -202,7 +204,24 @@ def break_at(name, given):
             given.preprocessed[0] = [0]
 
 
+def failures(system, given):
+    """Each row with the rows of a constraint that isn't zero there."""
+    height = len(given.trace)
+    for row in range(height):
+        values = air.meanings(system, air.window_at(given, row), air.OVER_BASE)
+        for constraint in system.constraints:
+            if air.is_among(constraint.rows, row, height) and values[constraint.node]:
+                yield row, constraint.rows
+
+
 class Refused(unittest.TestCase):
+    def test_one_constraint_at_one_row(self):
+        """The broken traces whose proofs the program `altered_starks` has."""
+        for rows in air.ROWS:
+            for height in (4, 32):
+                given, row = mixed_without(rows, height)
+                self.assertEqual(list(failures(MIXED, given)), [(row, rows)])
+
     def test_broken_traces(self):
         """Named by the check, and refused though a proof was made of the division's result."""
         for name, system, given, (row, at) in BROKEN:

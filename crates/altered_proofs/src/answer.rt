@@ -3,8 +3,9 @@
 ghost use Rattle.p3_fri_relation.specs.Views.{parameters_of};
 ghost use Rattle.p3_fri_two_adic.specs.Ranges.{InVerifierRange};
 
-use crate::opening::{read_list, read_parameters};
-use crate::places::{number, place, read};
+use crate::opening::read_list;
+use alterations::parameters::{Rounds, read_parameters};
+use alterations::{Answers, number, place, read};
 use p3_challenger::{CanSampleBits, Sha256Challenger};
 use p3_dft::Radix2Dit;
 use p3_field::{BabyBear, BabyBear4, TwoAdicMultiplicativeCoset};
@@ -20,9 +21,7 @@ use rand_core::SeedableRng;
 use serde_json::Value;
 use std::alloc::{AllocError, Global};
 
-pub type Inputs = Sha256Mmcs<BabyBear>;
-
-pub type Rounds = Sha256Mmcs<BabyBear4>;
+type Inputs = Sha256Mmcs<BabyBear>;
 
 pub type Domain = TwoAdicMultiplicativeCoset<BabyBear>;
 
@@ -142,13 +141,18 @@ fn hiding_answer(
     Ok(told(alloc, verdict)?)
 }
 
-/// What the opening's scheme answers about it.
-pub fn answer_to(alloc: Global, opening: &Value) -> anyhow::Result<String> {
-    let parameters = read_parameters(place(opening, "/parameters")?)?;
-    let hiding = place(opening, "/hiding")?;
-    if hiding.is_null() {
-        plain_answer(alloc, opening, parameters)
-    } else {
-        hiding_answer(alloc, opening, hiding, parameters)
+/// Both schemes, asked about openings.
+pub struct Schemes;
+
+impl Answers for Schemes {
+    /// What the opening's scheme answers about it.
+    fn answer(alloc: Global, opening: &Value) -> anyhow::Result<String> {
+        let parameters = read_parameters(place(opening, "/parameters")?)?;
+        let hiding = place(opening, "/hiding")?;
+        if hiding.is_null() {
+            plain_answer(alloc, opening, parameters)
+        } else {
+            hiding_answer(alloc, opening, hiding, parameters)
+        }
     }
 }

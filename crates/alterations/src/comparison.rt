@@ -1,15 +1,20 @@
-//! The answers to altered openings, beside those that may be given.
+//! The answers to altered documents, beside those that may be given.
 //!
-//! The data of an opening are the opening and groups of changes. A group has a name, the answers
+//! The data of a document are the document and groups of changes. A group has a name, the answers
 //! that may be given to each of its changes, and the changes. Where the name isn't empty, it is one
 //! change.
 
-use crate::answer::answer_to;
 use crate::change::{Change, OPERATIONS, Operation};
 use crate::places::{entries, place};
 use anyhow::{Context, Result, anyhow};
 use serde_json::Value;
 use std::alloc::Global;
+
+/// A verifier of documents.
+pub trait Answers {
+    /// What it answers about this document; an error where it can't be asked.
+    fn answer(alloc: Global, document: &Value) -> Result<String>;
+}
 
 /// How many changes were made.
 #[derive(Clone, Copy, Default)]
@@ -18,7 +23,7 @@ pub struct Counts {
     pub by_operation: [usize; 12],
     /// Those that have a name.
     pub named: usize,
-    /// Those after which the opening was accepted.
+    /// Those after which the document was accepted.
     pub accepted: usize,
 }
 
@@ -41,11 +46,11 @@ impl Counts {
     }
 }
 
-/// What is answered to a change of the opening.
-fn answer_after(alloc: Global, opening: &Value, change: Change<'_>) -> Result<String> {
-    let mut changed = opening.clone()?;
+/// What is answered to a change of the document.
+fn answer_after<A: Answers>(alloc: Global, document: &Value, change: Change<'_>) -> Result<String> {
+    let mut changed = document.clone()?;
     change.apply(alloc, &mut changed)?;
-    answer_to(alloc, &changed)
+    A::answer(alloc, &changed)
 }
 
 /// The text that a value is.
@@ -75,9 +80,9 @@ fn accepts(rt: &impl Print, group: &Value, change: &str, answer: &str) -> Result
 }
 
 /// Compares the answers to the changes of a group. One that may not be given is the last.
-fn compare_group(
+fn compare_group<A: Answers>(
     rt: &(impl Print + AllocGlobal),
-    opening: &Value,
+    document: &Value,
     group: &Value,
     counts: &mut Counts,
 ) -> Result<()> {
@@ -85,18 +90,23 @@ fn compare_group(
     for change in entries(group, "/changes")? {
         let written = text(change)?;
         let change = Change::parse(written).context("no change")?;
-        let answer = answer_after(rt.alloc(), opening, change)?;
+        let answer = answer_after::<A>(rt.alloc(), document, change)?;
         let is_accepted = accepts(rt, group, written, answer.as_str())?;
         counts.add(change.operation, is_named, is_accepted);
     }
     Ok(())
 }
 
-/// Compares the answers to all changes of an opening, and counts them.
-pub fn compare(rt: &(impl Print + AllocGlobal), data: &Value, counts: &mut Counts) -> Result<()> {
-    let opening = place(data, "/opening")?;
+/// Compares the answers to all changes of the document at this path of its data, and counts them.
+pub fn compare<A: Answers>(
+    rt: &(impl Print + AllocGlobal),
+    data: &Value,
+    path: &str,
+    counts: &mut Counts,
+) -> Result<()> {
+    let document = place(data, path)?;
     for group in entries(data, "/groups")? {
-        compare_group(rt, opening, group, counts)?;
+        compare_group::<A>(rt, document, group, counts)?;
     }
     Ok(())
 }
