@@ -9,10 +9,10 @@ use p3_air_plain::PlainAir;
 use p3_dft::Radix2Dit;
 use p3_field::{BabyBear, BabyBear4};
 use p3_fri_folding::FriParameters;
-use p3_fri_plain::PlainFriProof;
+use p3_fri_plain::{PlainFriProof, TwoAdicFriProof};
 use p3_fri_two_adic::TwoAdicFriPcs;
 use p3_mmcs::Sha256Mmcs;
-use p3_uni_stark_plain::PlainStarkProof;
+use p3_uni_stark_plain::{PlainStarkProof, StarkProof, stark_from_plain};
 use std::alloc::Global;
 use std::test::Fail;
 
@@ -28,7 +28,7 @@ pub(crate) const SYSTEM: &str =
 {\"rows\":\"all\",\"node\":16}]}";
 
 /// The preprocessed column, in rows.
-pub(crate) const PREPROCESSED: &str = "[[1],[0],[1],[1]]";
+const PREPROCESSED: &str = "[[1],[0],[1],[1]]";
 
 /// The commitment to it.
 pub(crate) const KEY: [u8; 32] = [
@@ -37,7 +37,7 @@ pub(crate) const KEY: [u8; 32] = [
 ];
 
 /// The periodic column.
-pub(crate) const PERIODIC: &str = "[[5,7]]";
+const PERIODIC: &str = "[[5,7]]";
 
 /// The proof of the trace 2, 7, 17, 25.
 pub(crate) const PROOF: &str =
@@ -75,17 +75,31 @@ pub(crate) const PROOF: &str =
 73,159,16,138,167,39,200,66,58,96,141,203,152,108,104,143,82,145]]]}],\"final_poly\":[[345444904,\
 241264812,50532512,1377722503]],\"query_pow_witness\":0},\"log_height\":2}";
 
-pub(crate) fn system(alloc: Global) -> Result<PlainAir, Fail> {
-    Ok(serde_json::from_str(alloc, SYSTEM)?)
-}
-
-pub(crate) fn proof(alloc: Global) -> Result<PlainStarkProof<PlainFriProof>, Fail> {
-    Ok(serde_json::from_str(alloc, PROOF)?)
-}
-
 /// Rows or columns of numbers.
 pub(crate) fn rows(alloc: Global, text: &str) -> Result<Vec<Vec<u64>>, Fail> {
     Ok(serde_json::from_str(alloc, text)?)
+}
+
+/// The system, and what it speaks of beside a trace and public values.
+#[derive(Drop)]
+pub(crate) struct Known {
+    pub form: PlainAir,
+    pub preprocessed: Vec<Vec<u64>>,
+    pub periodic: Vec<Vec<u64>>,
+}
+
+pub(crate) fn system(alloc: Global) -> Result<Known, Fail> {
+    Ok(Known {
+        form: serde_json::from_str(alloc, SYSTEM)?,
+        preprocessed: rows(alloc, PREPROCESSED)?,
+        periodic: rows(alloc, PERIODIC)?,
+    })
+}
+
+/// The proof of this text's form.
+pub(crate) fn proof(alloc: Global) -> Result<StarkProof<TwoAdicFriProof>, Fail> {
+    let form = serde_json::from_str::<PlainStarkProof<PlainFriProof>>(alloc, PROOF)?;
+    Ok(stark_from_plain(alloc, &form)?)
 }
 
 pub(crate) type Scheme = TwoAdicFriPcs<

@@ -1,6 +1,6 @@
 //! Traces of numbers that satisfy the system, and what is found in others.
 
-use crate::given::{PERIODIC, PREPROCESSED, rows, system};
+use crate::given::{rows, system};
 use p3_air::{Assignment, TraceError};
 use p3_air_plain::{ElementError, Part, PlainTraceError, check_plain_trace};
 use p3_field::BabyBear;
@@ -81,18 +81,16 @@ const CASES: [Case; 8] = [
 
 /// The first of these traces in which something else is found.
 fn first_wrong(alloc: Global) -> Result<Option<&'static str>, Fail> {
-    let form = system(alloc)?;
-    let preprocessed = rows(alloc, PREPROCESSED)?;
-    let periodic = rows(alloc, PERIODIC)?;
+    let system = system(alloc)?;
     for case in &CASES {
         let trace = rows(alloc, case.trace)?;
         let given = Assignment {
             trace: &trace,
-            preprocessed: &preprocessed,
+            preprocessed: &system.preprocessed,
             public_values: case.public_values,
-            periodic: &periodic,
+            periodic: &system.periodic,
         };
-        if check_plain_trace::<BabyBear>(alloc, &form, &given) != case.outcome {
+        if check_plain_trace::<BabyBear>(alloc, &system.form, &given) != case.outcome {
             return Ok(Some(case.trace));
         }
     }
