@@ -27,6 +27,13 @@ FIBONACCI = Air(
           "add 0 1", "sub 6 1", "sub 7 8", "public 2", "sub 1 11"),
     constraints(("first", 4), ("first", 5), ("transition", 9), ("transition", 10), ("last", 12)))
 
+# The first entry is the number below four whose bits are the other two, the lower one first.
+RANGE_CHECK = Air(
+    3, 0, 0, 0,
+    nodes("local 0", "local 1", "local 2", "mul 1 1", "sub 3 1", "mul 2 2", "sub 5 2", "add 2 2",
+          "add 1 7", "sub 0 8"),
+    constraints(("all", 4), ("all", 6), ("all", 9)))
+
 # The first entry is the first public value, and each next one is the cube of this one, a periodic
 # column's entry and, where the preprocessed column is one, the second public value.
 CUBES = Air(
@@ -62,6 +69,11 @@ def fibonacci(height, first=1, second=1):
         left, right = trace[-1]
         trace.append([right, (left + right) % field.ORDER])
     return Assignment(trace, public_values=[first, second, trace[-1][1]])
+
+
+def range_check(height):
+    numbers = [3 * row % 4 for row in range(height)]
+    return Assignment([[number, number % 2, number // 2] for number in numbers])
 
 
 def cubes(height):
@@ -109,6 +121,10 @@ def mixed_without(rows, height):
         case "all":
             return mixed(height, bits=[2 * int(at == row + 1) for at in range(height)]), row
     raise ValueError(rows)
+
+
+def unconstrained(height):
+    return Assignment([[row] for row in range(height)])
 
 
 PLAIN = Scheme(Parameters(1, 0, 1, 2))

@@ -21,6 +21,7 @@ from challenger import Challenger
 from documents import Malformed
 from generate_starks import answers, documented
 from stark_alterations import all_stark_changes
+from stark_cases import CASES, SCHEMES, outcome
 from stark_documents import plain_stark_proof, plain_system, stark_proof_from, stark_proof_text
 from stark_relation import Key, StarkStatement, log_num_chunks, stark_verdict
 from stark_transcript import draw_alpha, draw_zeta, stark_stream
@@ -176,6 +177,17 @@ class Accepted(unittest.TestCase):
             self.assertFalse(stark_verdict(HIDING, statement, proof, Challenger()).faults)
             roots |= set(vars(proof.commitments).values())
         self.assertEqual(len(roots), 6)
+
+
+class Cases(unittest.TestCase):
+    def test_table(self):
+        """Each draw stands in the table of the proved prover's test."""
+        table = (ROOT / "crates/p3_uni_stark_prover_tests/src/cases.rt").read_text()
+        for name, height, change in CASES:
+            for scheme in SCHEMES:
+                found = outcome(scheme, name, height, change)
+                if found.startswith("Accepted"):
+                    self.assertIn(found.removeprefix("Accepted(").removesuffix(")"), table)
 
 
 BROKEN = [
