@@ -1,6 +1,6 @@
 //! Asks the verifier of STARKs, in both schemes, about altered statements and proofs, and compares
-//! its answers with those that the program in `tools/relation` worked out by itself. Prints how many
-//! changes were made of each STARK, and by each operation.
+//! its answers with those that the program in `tools/relation` worked out by itself. Prints how
+//! many changes were made of each STARK, and by each operation.
 #![tactic(auto)]
 
 mod answer;
