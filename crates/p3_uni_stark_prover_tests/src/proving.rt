@@ -64,10 +64,10 @@ fn commit_columns<
     requires height { length (rows columns) ≡ 2 ^ log_height }
     requires room { log_height + hiding_bits P.ZK + P.log_blowup scheme.old ≤ 27 }
     ensures kept { P.Keeps scheme.old scheme.new }
-    ensures held { IfOk result (λ pair. HoldPreprocessed (P.rules scheme.new)
-        (P.stark_rules scheme.new)
-        (λ d. (d.shift ≡ ⟦<BabyBear as Field>⟧.ONE) × (d.log_size ≡ log_height + hiding_bits P.ZK))
-        log_height (matrix_width columns) pair.0 pair.1) }
+    ensures held { (k width : ℕ) → log_height ≡ k → matrix_width columns ≡ width
+        → IfOk result (λ pair. HoldPreprocessed (P.rules scheme.new) (P.stark_rules scheme.new)
+        (λ d. (d.shift ≡ ⟦<BabyBear as Field>⟧.ONE) × (d.log_size ≡ k + hiding_bits P.ZK))
+        k width pair.0 pair.1) }
 {
     let domain = subgroup::<BabyBear>(with_hiding(log_height, P::ZK));
     let evaluations = one(alloc, (domain, columns))?;
@@ -101,8 +101,8 @@ pub(crate) fn commit_preprocessed<P: Tested>(
     ensures kept { P.Keeps scheme.old scheme.new }
     ensures held { (k : ℕ) → length instance.now.given.trace.items ≡ 2 ^ k
         → IfOk result (λ pair. HoldPreprocessed (P.rules scheme.new) (P.stark_rules scheme.new)
-        (λ d. (d.shift ≡ ⟦<BabyBear as Field>⟧.ONE) × (d.log_size ≡ k + hiding_bits P.ZK)) k
-        instance.now.air.layout.preprocessed_width pair.0 pair.1) }
+        (λ d. (d.shift ≡ ⟦<BabyBear as Field>⟧.ONE) × (d.log_size ≡ k + hiding_bits P.ZK))
+        k instance.now.air.layout.preprocessed_width pair.0 pair.1) }
 {
     let width = instance.air.layout.preprocessed_width;
     if width == 0 {
@@ -151,8 +151,8 @@ pub(crate) fn prove_instance<P: Tested>(
         (length instance.now.given.trace.items) }
     requires preprocessed { (k : ℕ) → length instance.now.given.trace.items ≡ 2 ^ k
         → HoldPreprocessed (P.rules scheme.old) (P.stark_rules scheme.old)
-        (λ d. (d.shift ≡ ⟦<BabyBear as Field>⟧.ONE) × (d.log_size ≡ k + hiding_bits P.ZK)) k
-        instance.now.air.layout.preprocessed_width key preprocessed }
+        (λ d. (d.shift ≡ ⟦<BabyBear as Field>⟧.ONE) × (d.log_size ≡ k + hiding_bits P.ZK))
+        k instance.now.air.layout.preprocessed_width key preprocessed }
 {
     let layout = instance.air.layout;
     let rows = instance.given.trace.as_slice();

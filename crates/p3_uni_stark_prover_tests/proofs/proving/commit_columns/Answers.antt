@@ -1,4 +1,4 @@
-use Rattle.std.proofs.Common.{◌+◌, ap, sym, subst, refl, rules, ◌∙◌, arith}
+use Rattle.std.proofs.Common.{◌+◌, ◌^◌, ap, sym, subst, rules, ◌∙◌, arith}
 use Rattle.p3_uni_stark_verifier.specs.Chunks.{hiding_bits}
 use Rattle.p3_uni_stark_prover_tests.proofs.proving.commit_columns.Goals as goal
 
@@ -13,18 +13,19 @@ commit_preprocessing-requires g c =
     }
 
 pub returns-in-Ok-clause-held : goal.returns-in-Ok-clause-held
-returns-in-Ok-clause-held g c = record {
+returns-in-Ok-clause-held g c = λ k width heights widths. record {
   committed = record { honest = search rules; commitment = search rules };
   openable = search rules;
-  log_height = refl;
+  log_height = heights;
   columns = c.args.columns;
-  width = refl;
-  height = c.requires.height;
+  width = widths;
+  height = c.requires.height ∙ ap (λ z. 2 ^ z) heights;
   domain = c.subgroup-domain.result;
   is_domain = (
     c.subgroup-domain.ensures.shift,
     c.subgroup-domain.ensures.size
-        ∙ c.with_hiding.ensures ∙ ap (λ z. c.args.log_height + hiding_bits z) c.ZK.ensures,
+        ∙ c.with_hiding.ensures ∙ ap (λ z. c.args.log_height + hiding_bits z) c.ZK.ensures
+        ∙ ap (λ z. z + hiding_bits g.P.UnivariateStarkPcs.ZK) heights,
   );
   extends = search rules;
 }

@@ -1,9 +1,8 @@
 use Rattle.std.proofs.Common.{◌≡◌, ◌≤◌, ◌+◌, ◌^◌, length, sym, subst, arith}
 use Rattle.std.proofs.lemmas.Grind.{common_steps}
-use Rattle.p3_matrix.specs.Matrix.{matrix_width}
 use Rattle.p3_uni_stark_verifier.specs.Chunks.{hiding_bits}
 use Rattle.p3_uni_stark_prover.proofs.Fitting.{same_power}
-use Rattle.p3_uni_stark_prover_tests.proofs.Columns.{fits_trace, held_beside}
+use Rattle.p3_uni_stark_prover_tests.proofs.Columns.{fits_trace}
 use Rattle.p3_uni_stark_prover_tests.proofs.proving.commit_preprocessed.Goals as goal
 
 pub commit_columns-requires-clause-room : goal.commit_columns-requires-clause-room
@@ -20,10 +19,5 @@ pub returns-clause-held : goal.returns-clause-held
 returns-clause-held g c = λ k is.
     let n = length c.args.instance.now.given.trace.items in
     let power : n ≡ 2 ^ c.log2_strict_usize-log_height.result = grind (arith, common_steps) in
-    held_beside (g.P.Pcs.rules c.commit_columns.new.scheme)
-    (g.P.UnivariateStarkPcs.stark_rules c.commit_columns.new.scheme)
-    (λ m d. (d.shift ≡ _) × (d.log_size ≡ m + hiding_bits g.P.UnivariateStarkPcs.ZK))
-    c.commit_columns.result c.log2_strict_usize-log_height.result k
-    (matrix_width c.in_ok-columns.columns) c.args.instance.now.air.layout.preprocessed_width
+    c.commit_columns.ensures.held k c.args.instance.now.air.layout.preprocessed_width
     (same_power c.log2_strict_usize-log_height.result k n power is) c.in_ok-columns.ensures.width
-    c.commit_columns.ensures.held

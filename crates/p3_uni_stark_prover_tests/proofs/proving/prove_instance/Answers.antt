@@ -1,7 +1,6 @@
-use Rattle.std.proofs.Common.{◌≡◌, ◌==◌, ◌+◌, ◌^◌, ℕ, length, not, ap, sym, ◌∙◌, arith}
+use Rattle.std.proofs.Common.{◌≡◌, ◌==◌, ◌+◌, ◌^◌, length, not, ap, arith}
 use Rattle.std.proofs.lemmas.Grind.{common_steps}
 use Rattle.std.specs.Option.{is_some}
-use Rattle.p3_matrix.specs.Matrix.{rows}
 use Rattle.p3_uni_stark_verifier.specs.Chunks.{hiding_bits}
 use Rattle.p3_uni_stark_prover_tests.proofs.Statements.{provable, held}
 use Rattle.p3_uni_stark_prover_tests.proofs.proving.prove_instance.Goals as goal
