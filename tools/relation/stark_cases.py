@@ -97,10 +97,12 @@ def refused_for(faults, reason):
     return any(fault == reason or fault.startswith(f"{reason}(") for fault in faults)
 
 
-def unhidden(system, faults):
-    """Where a prover stops that has too few rows to hide: at the quotient's chunks, or later."""
-    chunks = f"HidingBudgetExceeded {{ round: {2 if system.preprocessed_width else 1},"
-    return "NoQuotient" if any(chunks in fault for fault in faults) else "NotOpened"
+def unhidden(height):
+    """Where a prover stops that has too few rows to hide: at the trace's commitment, where they
+    can't hide one opening, or where it is opened at two points. The masks are as high as the trace.
+    """
+    one_opening = 2 * (PARAMETERS.num_queries + field.DEGREE)
+    return "NotCommitted" if height < one_opening else "NotOpened"
 
 
 def outcome(scheme, name, height, change):
@@ -123,7 +125,7 @@ def outcome(scheme, name, height, change):
         assert found.faults == {"OodEvaluationMismatch"}
         return unsatisfied
     assert refused_for(found.faults, "InvalidOpeningArgument")
-    return "OpeningRefused" if change.kind != "Nothing" else unhidden(system, found.faults)
+    return "OpeningRefused" if change.kind != "Nothing" else unhidden(height)
 
 
 if __name__ == "__main__":

@@ -22,20 +22,20 @@ const ACCEPTED: [(System, usize, usize); 5] = [
 
 /// Systems with fewer rows, what is drawn in the plain scheme, and what comes in the hiding one.
 const SMALL: [(System, usize, usize, Outcome); 5] = [
-    (System::Empty, 1, 0x46e427200b0ad36a, Outcome::NoQuotient),
+    (System::Empty, 1, 0x46e427200b0ad36a, Outcome::NotCommitted),
     (
         System::RangeCheck,
         1,
         0x7ab1046667be19ed,
-        Outcome::NoQuotient,
+        Outcome::NotCommitted,
     ),
     (
         System::Fibonacci,
         2,
         0x527175818e1f7187,
-        Outcome::NoQuotient,
+        Outcome::NotCommitted,
     ),
-    (System::Powers, 2, 0x35822f84bf6cf16a, Outcome::NoQuotient),
+    (System::Powers, 2, 0x35822f84bf6cf16a, Outcome::NotCommitted),
     (
         System::Fibonacci,
         16,

@@ -41,9 +41,9 @@ pub(crate) enum Outcome {
     NoRoom,
     /// The periodic columns don't repeat, and nothing is absorbed.
     NotPeriodic,
-    /// The scheme refuses the quotient's chunks: too few rows to hide them.
-    NoQuotient,
-    /// The scheme refuses to open the columns: too few rows to hide the trace.
+    /// The scheme refuses to commit to the trace: too few rows to hide one opening.
+    NotCommitted,
+    /// The scheme refuses to open the columns: too few rows to hide two openings of the trace.
     NotOpened,
     /// The trace satisfies its constraints, and the proof's opening is refused.
     OpeningRefused,
@@ -98,7 +98,7 @@ fn unproved<E: Drop>(error: ProvingError<E>, prover: &Sha256Challenger) -> Outco
         ProvingError::InvalidPeriodicColumns(_) if *prover == Sha256Challenger::new() => {
             Outcome::NotPeriodic
         },
-        ProvingError::Quotient(_) => Outcome::NoQuotient,
+        ProvingError::Trace(_) => Outcome::NotCommitted,
         ProvingError::Opening(_) => Outcome::NotOpened,
         _ => Outcome::Unexpected,
     }
