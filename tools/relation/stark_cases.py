@@ -77,7 +77,7 @@ CASES = [
     ("Empty", 1, Change()),
     ("RangeCheck", 1, Change()),
     ("Fibonacci", 2, Change()),
-    ("Powers", 2, Change()),
+    ("RangeCheck", 8, Change()),
     ("Fibonacci", 16, Change()),
     ("Empty", 0, Change()),
     ("Fibonacci", 3, Change()),

@@ -35,7 +35,12 @@ const SMALL: [(System, usize, usize, Outcome); 5] = [
         0x527175818e1f7187,
         Outcome::NotCommitted,
     ),
-    (System::Powers, 2, 0x35822f84bf6cf16a, Outcome::NotCommitted),
+    (
+        System::RangeCheck,
+        8,
+        0x2d256e4440e21acc,
+        Outcome::NotCommitted,
+    ),
     (
         System::Fibonacci,
         16,
