@@ -1,31 +1,90 @@
 //! The commitments that a prover makes before the point is drawn.
 
-ghost use Rattle.std.specs.Prelude.{◌≡◌, ◌≤◌, ◌+◌, ◌^◌, ℕ, length, IfOk, IfErr};
+ghost use Rattle.std.specs.Prelude.{◌≡◌, ◌≢◌, ◌≤◌, ◌+◌, ◌^◌, ℕ, length, IfOk, IfErr};
+ghost use Rattle.algebra.specs.Field.{pow};
 ghost use Rattle.p3_matrix.specs.Matrix.{rows, matrix_width};
+ghost use Rattle.p3_periodic.specs.Views.{rows_if_any as owned_rows};
 ghost use Rattle.p3_pcs.specs.Scheme.{AreKept};
 ghost use Rattle.p3_stark_pcs.specs.Scheme.{AreKeptStark};
+ghost use Rattle.p3_uni_stark_phases.specs.Refusals.{EvaluationRefusal};
 ghost use Rattle.p3_uni_stark_verifier.specs.Chunks.{hiding_bits};
 ghost use Rattle.p3_uni_stark_prover.specs.Committed.{AreCommitted};
 ghost use Rattle.p3_uni_stark_prover.specs.Held.{HoldPreprocessed};
 ghost use Rattle.p3_uni_stark_prover.specs.Prepared.{IsPrepared};
 ghost use Rattle.p3_uni_stark_prover.specs.Provable.{IsProvable};
+ghost use Rattle.p3_uni_stark_prover.specs.Quotients.{FitReadings, IsQuotientOn};
 ghost use Rattle.p3_uni_stark_prover.specs.Refused.{CommitRefusal};
 
 use crate::preparation::Preparation;
-use crate::steps::{begin, quotient_of, split};
+use crate::steps::{begin, split};
 use p3_challenger_core::{CanObserve, FieldChallenger, Plays};
 use p3_field_core::{
     ExtensionField, Field, PrimeField64, TwoAdicField, TwoAdicMultiplicativeCoset,
 };
 use p3_matrix::RowMajorMatrix;
+use p3_stark_pcs::UnivariateStarkPcs;
 use p3_uni_stark_opening::ColumnData;
 use p3_uni_stark_pcs::TwoAdicStarkPcs;
-use p3_uni_stark_phases::{ProvingError, commit_chunks, commit_random, commit_trace};
+use p3_uni_stark_phases::{
+    ProvingError, chunks_on_coset, commit_chunks, commit_random, commit_trace, evaluate,
+    evaluate_if,
+};
+use p3_uni_stark_quotient::CosetColumns;
 use p3_uni_stark_verifier::chunks::with_hiding;
 use p3_uni_stark_verifier::opened::subgroup;
 use p3_uni_stark_verifier::setting::StarkField;
 use p3_uni_stark_verifier::{Commitments, Statement};
 use std::alloc::Global;
+
+/// The chunks of the quotient, by the committed columns' values on the coset.
+fn quotient_of<
+    F: TwoAdicField + PrimeField64,
+    EF: ExtensionField<F>,
+    Com: Copy,
+    C,
+    P: UnivariateStarkPcs<EF, C, Val = F, Domain = TwoAdicMultiplicativeCoset<F>, Commitment = Com>,
+>(
+    scheme: &P,
+    alloc: Global,
+    statement: &Statement<'_, F, Com>,
+    prepared: &Preparation<F, TwoAdicMultiplicativeCoset<F>>,
+    trace: &P::ProverData,
+    preprocessed: &Option<P::ProverData>,
+    alpha: EF,
+) -> Result<Vec<(TwoAdicMultiplicativeCoset<F>, RowMajorMatrix<F>)>, ProvingError<P::ProverError>>
+    requires readings { FitReadings (P.rules scheme.now) (P.stark_rules scheme.now)
+        prepared.now.coset (2 ^ prepared.now.coset.log_size) statement.now
+        (owned_rows prepared.now.periodic) trace.now preprocessed.now }
+    requires size { prepared.now.coset.log_size
+        ≡ prepared.now.log_height + prepared.now.log_num_chunks }
+    requires shift { prepared.now.coset.shift ≡ F.GENERATOR }
+    requires off { pow F.ops F.GENERATOR (2 ^ F.TWO_ADICITY) ≢ F.ops.one }
+    ensures quotient { IfOk result (λ chunks. IsQuotientOn ⟦<EF as StarkField<F>>⟧.fields
+        EF.coefficients (λ d. d.shift) (λ d. d.log_size) (P.rules scheme.now) P.embed P.point
+        prepared.now.coset statement.now (owned_rows prepared.now.periodic) trace.now
+        preprocessed.now prepared.now.log_height prepared.now.log_num_chunks alpha
+        chunks.items) }
+    ensures refused { IfErr result (EvaluationRefusal P.EvaluationRefuses) }
+{
+    let trace_rows = evaluate(scheme, alloc, trace, prepared.coset)?;
+    let preprocessed_rows = evaluate_if(scheme, alloc, preprocessed, prepared.coset)?;
+    let columns = CosetColumns {
+        trace: &trace_rows,
+        preprocessed: preprocessed_rows.as_ref(),
+        periodic: prepared.periodic.as_ref(),
+        public_values: statement.public_values,
+    };
+    let chunks = chunks_on_coset::<F, EF>(
+        alloc,
+        statement.air,
+        &columns,
+        prepared.log_height,
+        prepared.log_num_chunks,
+        prepared.coset,
+        alpha,
+    )?;
+    Ok(chunks)
+}
 
 /// Commits to the trace, draws the first challenge, and commits to the chunks of the quotient and,
 /// where the scheme hides, to random polynomials.
@@ -80,11 +139,9 @@ pub fn commit_columns<
         &*scheme,
         alloc,
         statement,
+        prepared,
         &first.prover_data,
         &preprocessed,
-        &prepared.periodic,
-        (log_height, prepared.log_num_chunks),
-        prepared.coset,
         alpha,
     )?;
     let second = commit_chunks(scheme, alloc, chunks)?;

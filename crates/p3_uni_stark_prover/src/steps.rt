@@ -1,17 +1,14 @@
 //! The steps of the prover.
 
-ghost use Rattle.std.specs.Prelude.{◌≡◌, ◌≢◌, ◌≤◌, ◌<◌, ◌+◌, ◌^◌, ◌==◌, not, ℕ, List, map};
-ghost use Rattle.std.specs.Prelude.{length, IfOk, IfErr, OnErr};
+ghost use Rattle.std.specs.Prelude.{◌≡◌, ◌≢◌, ◌≤◌, ◌<◌, ◌+◌, ◌^◌, ℕ};
+ghost use Rattle.std.specs.Prelude.{IfOk, IfErr, OnErr};
 ghost use Rattle.std.specs.Option.{is_some};
 ghost use Rattle.algebra.specs.Field.{pow};
-ghost use Rattle.p3_matrix.specs.Matrix.{rows, matrix_width};
 ghost use Rattle.p3_air.specs.WellFormed.{IsWellFormed};
-ghost use Rattle.p3_periodic.specs.Views.{rows_if_any as owned_rows};
 ghost use Rattle.p3_uni_stark_verifier.specs.Chunks.{hiding_bits, NeedsChunks};
 ghost use Rattle.p3_uni_stark_prover.specs.Finished.{first_drawn, IsFinished, FinishRefusal};
 ghost use Rattle.p3_uni_stark_opening.specs.Opened.{commitments_to, AreOpenable};
-ghost use Rattle.p3_uni_stark_prover.specs.Quotients.{FitReadings, IsQuotientOn};
-ghost use Rattle.p3_uni_stark_phases.specs.Refusals.{DegreeRefusal, EvaluationRefusal};
+ghost use Rattle.p3_uni_stark_phases.specs.Refusals.{DegreeRefusal};
 ghost use Rattle.p3_uni_stark_phases.specs.Split.{commitment_in, data_in};
 ghost use Rattle.p3_uni_stark_phases.specs.declared.error.ProvingError.TheVariants as refusal;
 
@@ -21,12 +18,11 @@ use p3_field_core::{
     ExtensionField, Field, PrimeField64, TwoAdicField, TwoAdicMultiplicativeCoset,
     log2_strict_usize,
 };
-use p3_matrix::RowMajorMatrix;
 use p3_stark_pcs::UnivariateStarkPcs;
 use p3_uni_stark_identity::is_on_domain;
 use p3_uni_stark_opening::{ColumnData, open_columns};
-use p3_uni_stark_phases::{Committed, ProvingError, chunks_on_coset, evaluate, evaluate_if};
-use p3_uni_stark_quotient::{CosetColumns, is_off_subgroups};
+use p3_uni_stark_phases::{Committed, ProvingError};
+use p3_uni_stark_quotient::is_off_subgroups;
 use p3_uni_stark_transcript::{StarkInstance, absorb_instance, draw_alpha, draw_zeta};
 use p3_uni_stark_verifier::inputs::needed_chunks;
 use p3_uni_stark_verifier::setting::StarkField;
@@ -105,57 +101,6 @@ pub fn begin<
     let known = commitment_of(statement.preprocessed);
     absorb_instance::<F, EF, C>(alloc, challenger, &instance, known.is_some(), hides)?;
     Ok(draw_alpha::<F, EF, Com, C>(challenger, known, trace))
-}
-
-/// The chunks of the quotient, by the committed columns' values on the coset.
-pub fn quotient_of<
-    F: TwoAdicField + PrimeField64,
-    EF: ExtensionField<F>,
-    Com: Copy,
-    C,
-    P: UnivariateStarkPcs<EF, C, Val = F, Domain = TwoAdicMultiplicativeCoset<F>, Commitment = Com>,
->(
-    scheme: &P,
-    alloc: Global,
-    statement: &Statement<'_, F, Com>,
-    trace: &P::ProverData,
-    preprocessed: &Option<P::ProverData>,
-    periodic: &Option<RowMajorMatrix<F>>,
-    log_sizes: (usize, usize),
-    coset: TwoAdicMultiplicativeCoset<F>,
-    alpha: EF,
-) -> Result<Vec<(TwoAdicMultiplicativeCoset<F>, RowMajorMatrix<F>)>, ProvingError<P::ProverError>>
-    requires readings { FitReadings (P.rules scheme.now) (P.stark_rules scheme.now) coset
-        (2 ^ coset.log_size) statement.now (owned_rows periodic.now) trace.now preprocessed.now }
-    requires size { coset.log_size ≡ log_sizes.0 + log_sizes.1 }
-    requires shift { coset.shift ≡ F.GENERATOR }
-    requires off { pow F.ops F.GENERATOR (2 ^ F.TWO_ADICITY) ≢ F.ops.one }
-    ensures quotient { IfOk result (λ chunks. IsQuotientOn ⟦<EF as StarkField<F>>⟧.fields
-        EF.coefficients (λ d. d.shift) (λ d. d.log_size) (P.rules scheme.now) P.embed P.point
-        coset statement.now
-        (owned_rows periodic.now) trace.now preprocessed.now log_sizes.0 log_sizes.1 alpha
-        chunks.items) }
-    ensures refused { IfErr result (EvaluationRefusal P.EvaluationRefuses) }
-{
-    let trace_rows = evaluate(scheme, alloc, trace, coset)?;
-    let preprocessed_rows = evaluate_if(scheme, alloc, preprocessed, coset)?;
-    let columns = CosetColumns {
-        trace: &trace_rows,
-        preprocessed: preprocessed_rows.as_ref(),
-        periodic: periodic.as_ref(),
-        public_values: statement.public_values,
-    };
-    let (log_size, log_num_chunks) = log_sizes;
-    let chunks = chunks_on_coset::<F, EF>(
-        alloc,
-        statement.air,
-        &columns,
-        log_size,
-        log_num_chunks,
-        coset,
-        alpha,
-    )?;
-    Ok(chunks)
 }
 
 /// A commitment that there may be, and its data.
