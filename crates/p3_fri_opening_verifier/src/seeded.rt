@@ -25,13 +25,14 @@ ghost use Rattle.p3_fri_opening_verifier.specs.Ranges.{IsInVerifierRange};
 use p3_challenger_core::{CanObserve, FieldChallenger, GrindingChallenger, Plays};
 use p3_challenger_fs::Seed;
 use p3_field_core::{ExtensionField, TwoAdicField, TwoAdicMultiplicativeCoset};
-use p3_fri_folding::{FriFoldingStrategy, FriParameters};
+use p3_fri_folding::FriFoldingStrategy;
 use p3_fri_pcs_transcript::PcsShape;
 use p3_fri_pcs_transcript::pcs_transcript::{PcsTranscriptFailure, PcsVerifierTranscript};
 use p3_fri_relation::error::FriError;
 use p3_fri_relation::proof::{BatchMultiOpening, FriProof};
 use p3_fri_relation::setting::PlaysFri;
-use p3_fri_verifier::verify_fri;
+use p3_fri_verifier::setting::VerifierSetting;
+use p3_fri_verifier::verify_canonical;
 use p3_mmcs::{CommitmentOpening, Mmcs};
 use std::alloc::Global;
 
@@ -90,42 +91,43 @@ fn test_inside<
     C: FieldChallenger<F> + GrindingChallenger<Witness = F> + CanObserve<M::Commitment>,
 >(
     alloc: Global,
-    folding: &S,
-    params: &FriParameters<M>,
-    input_mmcs: &InputMmcs,
-    claims: &[CommitmentOpening<EF, InputMmcs::Commitment, TwoAdicMultiplicativeCoset<F>>],
+    known: &VerifierSetting<'_, F, EF, M, InputMmcs, S>,
     proof: &FriProof<EF, M, F, Vec<BatchMultiOpening<F, InputMmcs>>>,
     alpha: EF,
     transcript: &mut PcsVerifierTranscript<'_, C, F, EF>,
 ) -> Result<(), FriError<M::Error, InputMmcs::Error>>
-    requires range { IsInVerifierRange (parameters_of params.now) F.TWO_ADICITY
-        (S.extra_query_index_bits folding.now) (S.max_log_height folding.now) C.MAX_SAMPLE_BITS }
+    requires range { let k = known.now in IsInVerifierRange (parameters_of k.params.now)
+        F.TWO_ADICITY (S.extra_query_index_bits k.folding.now) (S.max_log_height k.folding.now)
+        C.MAX_SAMPLE_BITS }
+    requires canonical { AreCanonical (parameters_of known.now.params.now) (proof_of proof.now)
+        F.ops.zero }
     requires bracket_left { left_of transcript.old ≡ bracket_turns }
     ensures kept { Kept transcript.old transcript.new }
-    ensures exact { let s = ⟦<C as PlaysFri<F, EF, S, M, InputMmcs>>⟧.setting folding.now
-        params.now.mmcs input_mmcs.now in
+    ensures exact { let k = known.now in
+        let s = ⟦<C as PlaysFri<F, EF, S, M, InputMmcs>>⟧.setting k.folding.now
+        k.params.now.mmcs k.input_mmcs.now in
         result ≢ Err OutOfMemory → (IsOk result
-        ↔ FriAccepts s (parameters_of params.now) (claims_of (λ d. d.log_size) claims.now)
+        ↔ FriAccepts s (parameters_of k.params.now) (claims_of (λ d. d.log_size) k.claims.now)
         (proof_of proof.now) (state_of transcript.old) alpha) }
-    ensures state { let s = ⟦<C as PlaysFri<F, EF, S, M, InputMmcs>>⟧.setting folding.now
-        params.now.mmcs input_mmcs.now in
+    ensures state { let k = known.now in
+        let s = ⟦<C as PlaysFri<F, EF, S, M, InputMmcs>>⟧.setting k.folding.now
+        k.params.now.mmcs k.input_mmcs.now in
         IsOk result → state_of transcript.new
-        ≡ (test_replay s (parameters_of params.now) (claims_of (λ d. d.log_size) claims.now)
+        ≡ (test_replay s (parameters_of k.params.now) (claims_of (λ d. d.log_size) k.claims.now)
         (proof_of proof.now) (state_of transcript.old)).state }
     ensures steps { IsOk result → left_of transcript.new ≡ [] }
-    ensures refusal { let s = ⟦<C as PlaysFri<F, EF, S, M, InputMmcs>>⟧.setting folding.now
-        params.now.mmcs input_mmcs.now in
-        IfErr result (Stands s (parameters_of params.now) (claims_of (λ d. d.log_size) claims.now)
-        (proof_of proof.now) (state_of transcript.old) alpha) }
+    ensures refusal { let k = known.now in
+        let s = ⟦<C as PlaysFri<F, EF, S, M, InputMmcs>>⟧.setting k.folding.now
+        k.params.now.mmcs k.input_mmcs.now in
+        IfErr result (Stands s (parameters_of k.params.now)
+        (claims_of (λ d. d.log_size) k.claims.now) (proof_of proof.now)
+        (state_of transcript.old) alpha) }
 {
-    let tested = verify_fri::<F, EF, M, InputMmcs, S, C>(
+    let tested = verify_canonical::<F, EF, M, InputMmcs, S, C>(
         alloc,
-        folding,
-        params,
+        known,
         proof,
         transcript.begin_delegate(),
-        claims,
-        input_mmcs,
         alpha,
     );
     match tested {
@@ -148,40 +150,43 @@ pub(crate) fn verify_seeded<
     C: FieldChallenger<F> + GrindingChallenger<Witness = F> + CanObserve<M::Commitment>,
 >(
     alloc: Global,
-    folding: &S,
-    params: &FriParameters<M>,
-    input_mmcs: &InputMmcs,
-    claims: &[CommitmentOpening<EF, InputMmcs::Commitment, TwoAdicMultiplicativeCoset<F>>],
+    known: &VerifierSetting<'_, F, EF, M, InputMmcs, S>,
     proof: &FriProof<EF, M, F, Vec<BatchMultiOpening<F, InputMmcs>>>,
     challenger: &mut C,
     seed: Seed,
     shape: PcsShape,
 ) -> Result<(), FriError<M::Error, InputMmcs::Error>>
-    requires range { IsInVerifierRange (parameters_of params.now) F.TWO_ADICITY
-        (S.extra_query_index_bits folding.now) (S.max_log_height folding.now) C.MAX_SAMPLE_BITS }
+    requires range { let k = known.now in IsInVerifierRange (parameters_of k.params.now)
+        F.TWO_ADICITY (S.extra_query_index_bits k.folding.now) (S.max_log_height k.folding.now)
+        C.MAX_SAMPLE_BITS }
+    requires canonical { AreCanonical (parameters_of known.now.params.now) (proof_of proof.now)
+        F.ops.zero }
     requires shape { pcs_shape shape ≡ record {
-      counts = counts_of_claims claims.now;
-      batch_pow_bits = params.now.batch_proof_of_work_bits;
+      counts = counts_of_claims known.now.claims.now;
+      batch_pow_bits = known.now.params.now.batch_proof_of_work_bits;
     } }
     requires stream { seed_bytes seed ≡ pcs_stream EF.DIMENSION (pcs_shape shape) }
     requires turns { seed_turns seed ≡ map turn_of (pcs_steps EF.DIMENSION (pcs_shape shape)) }
-    ensures exact { let s = ⟦<C as PlaysFri<F, EF, S, M, InputMmcs>>⟧.setting folding.now
-        params.now.mmcs input_mmcs.now in
+    ensures exact { let k = known.now in
+        let s = ⟦<C as PlaysFri<F, EF, S, M, InputMmcs>>⟧.setting k.folding.now
+        k.params.now.mmcs k.input_mmcs.now in
         result ≢ Err OutOfMemory → (IsOk result
-        ↔ Accepts s (parameters_of params.now) (claims_of (λ d. d.log_size) claims.now)
+        ↔ Accepts s (parameters_of k.params.now) (claims_of (λ d. d.log_size) k.claims.now)
         (proof_of proof.now) challenger.old) }
-    ensures state { let s = ⟦<C as PlaysFri<F, EF, S, M, InputMmcs>>⟧.setting folding.now
-        params.now.mmcs input_mmcs.now in
+    ensures state { let k = known.now in
+        let s = ⟦<C as PlaysFri<F, EF, S, M, InputMmcs>>⟧.setting k.folding.now
+        k.params.now.mmcs k.input_mmcs.now in
         IsOk result → challenger.new
-        ≡ last_state s (parameters_of params.now) (claims_of (λ d. d.log_size) claims.now)
+        ≡ last_state s (parameters_of k.params.now) (claims_of (λ d. d.log_size) k.claims.now)
         (proof_of proof.now) challenger.old }
-    ensures refusal { let s = ⟦<C as PlaysFri<F, EF, S, M, InputMmcs>>⟧.setting folding.now
-        params.now.mmcs input_mmcs.now in
-        IfErr result (StandsInScheme s (parameters_of params.now)
-        (claims_of (λ d. d.log_size) claims.now) (proof_of proof.now) challenger.old) }
+    ensures refusal { let k = known.now in
+        let s = ⟦<C as PlaysFri<F, EF, S, M, InputMmcs>>⟧.setting k.folding.now
+        k.params.now.mmcs k.input_mmcs.now in
+        IfErr result (StandsInScheme s (parameters_of k.params.now)
+        (claims_of (λ d. d.log_size) k.claims.now) (proof_of proof.now) challenger.old) }
 {
     let mut transcript = PcsVerifierTranscript::<C, F, EF>::start(challenger, seed, shape);
-    let alpha = match draw_alpha(&mut transcript, claims, proof.batch_pow_witness) {
+    let alpha = match draw_alpha(&mut transcript, known.claims, proof.batch_pow_witness) {
         Ok(alpha) => alpha,
         Err(failure) => {
             transcript.abort();
@@ -190,10 +195,7 @@ pub(crate) fn verify_seeded<
     };
     let tested = test_inside::<F, EF, M, InputMmcs, S, C>(
         alloc,
-        folding,
-        params,
-        input_mmcs,
-        claims,
+        known,
         proof,
         alpha,
         &mut transcript,

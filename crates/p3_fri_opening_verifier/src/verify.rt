@@ -19,6 +19,7 @@ use p3_fri_relation::error::FriError;
 use p3_fri_relation::proof::{BatchMultiOpening, FriProof};
 use p3_fri_relation::setting::PlaysFri;
 use p3_fri_verifier::check_canonical;
+use p3_fri_verifier::setting::VerifierSetting;
 use p3_mmcs::{CommitmentOpening, Mmcs};
 use std::alloc::{AllocError, Global};
 
@@ -86,7 +87,11 @@ pub fn verify_opening<
         Ok(seed) => seed,
         Err(AllocError) => return Err(FriError::OutOfMemory),
     };
-    verify_seeded::<F, EF, M, InputMmcs, S, C>(
-        alloc, folding, params, input_mmcs, claims, proof, challenger, seed, shape,
-    )
+    let known = VerifierSetting {
+        folding,
+        params,
+        input_mmcs,
+        claims,
+    };
+    verify_seeded::<F, EF, M, InputMmcs, S, C>(alloc, &known, proof, challenger, seed, shape)
 }

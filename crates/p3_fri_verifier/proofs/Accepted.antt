@@ -16,8 +16,8 @@ use Rattle.p3_fri_relation.specs.Setting.{Setting, Parameters, CommitmentClaim, 
 use Rattle.p3_fri_relation.specs.Heights.{dimensions, opened_index}
 use Rattle.p3_fri_relation.specs.Inputs.{OpensInput}
 use Rattle.p3_fri_relation.specs.TestRounds.{bound_numbers}
-use Rattle.p3_fri_relation.specs.Acceptance.{FriAccepts, AreOpeningsGood, test_replay, positions, fri_numbers, top_height, log_arities}
-use Rattle.p3_fri_relation.specs.Faults.{At, Stands, InputFault, OpeningsFault, WorkFault}
+use Rattle.p3_fri_relation.specs.Acceptance.{FriAccepts, AreCanonical, AreOpeningsGood, test_replay, positions, fri_numbers, top_height, log_arities}
+use Rattle.p3_fri_relation.specs.Faults.{At, Stands, InstanceFault, CountFault, InputFault, OpeningsFault, WorkFault}
 use Rattle.p3_fri_relation.proofs.TestReplays.{length-replay_betas, length-positions, positions-below}
 use Rattle.p3_fri_verifier.specs.Counts.{HasInputs, InputCountFault}
 use Rattle.p3_fri_inputs.proofs.Refutations.{all_zip_right}
@@ -59,7 +59,7 @@ module _ {F E C Com Path InCom InPath : Type 0} (s : Setting F E C Com Path InCo
           sets_opened places opened.0 o opened.1 ∙ length-positions s p claims proof c;
     }
 
-    pub can_begin : FriAccepts s p claims proof c alpha → CanBegin p claims proof s.fields.base.zero s.fields.two_adicity
+    pub can_begin : FriAccepts s p claims proof c alpha → CanBegin p claims proof s.fields.two_adicity
     can_begin a = record {
       in_range = a.instance_of.in_range;
       counts = record {
@@ -70,7 +70,6 @@ module _ {F E C Com Path InCom InPath : Type 0} (s : Setting F E C Com Path InCo
         final_poly = a.counts.final_poly;
       };
       inputs = inputs_counted a;
-      canonical = a.canonical;
     }
 
   -- a wrong number of openings, or of their rows, is a fault of the openings wherever the queries are
@@ -86,12 +85,11 @@ module _ {F E C Com Path InCom InPath : Type 0} (s : Setting F E C Com Path InCo
       (sym (length-positions s p claims proof c)) h.4)
 
   pub beginning_stands : {A B : Type 0} (e : FriError A B)
-      → BeginningFault p claims proof s.fields.base.zero s.fields.two_adicity e ⊎ (e ≡ OutOfMemory)
+      → BeginningFault p claims proof s.fields.two_adicity e ⊎ (e ≡ OutOfMemory)
       → Stands s p claims proof c alpha e
   beginning_stands e (inl (inl h)) = inl h
   beginning_stands e (inl (inr (inl h))) = inr (inl h)
-  beginning_stands e (inl (inr (inr (inl h)))) = inr (inr (inr (inl (inl (input_count_stands e h)))))
-  beginning_stands {A} {B} e (inl (inr (inr (inr h)))) = inr (inr (inl (subst (λ (x : FriError A B). WorkFault s p claims proof c x) (sym h.1) h.2)))
+  beginning_stands e (inl (inr (inr h))) = inr (inr (inr (inl (inl (input_count_stands e h)))))
   beginning_stands e (inr h) = inr (inr (inr (inr h)))
 
   -- the replay of a test of these numbers
@@ -141,9 +139,9 @@ module _ {F E C Com Path InCom InPath : Type 0} (s : Setting F E C Com Path InCo
 module _ {F E C Com Path InCom InPath : Type 0} {s : Setting F E C Com Path InCom InPath} {p : Parameters}
     {claims : List (CommitmentClaim E InCom)} {proof : Proof F E Com Path InPath} {c : C} {betas : List E}
     {places : List ℕ} {after : C} (drawn : IsDrawn s p claims proof c betas places after) where
-  pub accepts_from : {alpha : E} → CanBegin p claims proof s.fields.base.zero s.fields.two_adicity
+  pub accepts_from : {alpha : E} → CanBegin p claims proof s.fields.two_adicity → AreCanonical p proof s.fields.base.zero
       → AreOpened s p claims proof alpha betas places → FriAccepts s p claims proof c alpha
-  accepts_from {alpha} b o = record {
+  accepts_from {alpha} b canonical o = record {
     instance_of = record { in_range = b.in_range; points = o.points };
     counts = record {
       commitments = b.counts.commitments;
@@ -152,7 +150,7 @@ module _ {F E C Com Path InCom InPath : Type 0} {s : Setting F E C Com Path InCo
       inputs = o.count;
       final_poly = b.counts.final_poly;
     };
-    canonical = b.canonical;
+    canonical = canonical;
     passes = drawn.passes;
     openings = subst (λ xs. AreOpeningsGood s p claims proof alpha xs (positions s p claims proof c)) (sym drawn.betas_are)
         (subst (λ xs. AreOpeningsGood s p claims proof alpha betas xs) (sym drawn.positions_are) o.good);
@@ -173,7 +171,7 @@ module _ {F E C Com Path InCom InPath : Type 0} {s : Setting F E C Com Path InCo
       (subst (λ xs. OpeningsFault s p claims proof alpha betas xs e) (sym drawn.positions_are) h)))))
   openings_stand alpha e (inr h) = inr (inr (inr (inr h)))
 
-  pub challenges_drawn : CanBegin p claims proof s.fields.base.zero s.fields.two_adicity
+  pub challenges_drawn : CanBegin p claims proof s.fields.two_adicity
       → length betas ≡ length (log_arities p claims)
   challenges_drawn b = ap length (sym drawn.betas_are)
       ∙ length-replay_betas s p claims proof c (b.counts.commitments ∙ sym b.counts.commit_witnesses)
@@ -186,7 +184,18 @@ module _ {F E C Com Path InCom InPath : Type 0} {s : Setting F E C Com Path InCo
   within_word = subst (λ xs. All (λ position. position < 2 ^ top_height p claims) xs) drawn.positions_are
       (positions-below s p claims proof c drawn.below)
 
--- neither a replay nor openings are refused for a witness that isn't canonical
+-- neither a beginning nor a replay nor openings are refused for a witness that isn't canonical
+pub beginning_canonical : {F E Com Path InCom InPath A B : Type 0} (p : Parameters) (claims : List (CommitmentClaim E InCom))
+    (proof : Proof F E Com Path InPath) (two_adicity : ℕ) (e : FriError A B) (phase : PowPhase) → e ≡ NonCanonicalPowWitness phase
+    → BeginningFault p claims proof two_adicity e ⊎ (e ≡ OutOfMemory) → ⊥
+beginning_canonical {A = A} {B} p claims proof two_adicity e phase is (inl (inl h)) =
+    subst (λ (x : FriError A B). InstanceFault p claims two_adicity x) is h
+beginning_canonical {A = A} {B} p claims proof two_adicity e phase is (inl (inr (inl h))) =
+    subst (λ (x : FriError A B). CountFault p (log_arities p claims) proof x) is h
+beginning_canonical p claims proof two_adicity e phase is (inl (inr (inr (inl h)))) = let because = h.2 in cc
+beginning_canonical p claims proof two_adicity e phase is (inl (inr (inr (inr h)))) = let because = h.3 in cc
+beginning_canonical p claims proof two_adicity e phase is (inr h) = cc
+
 pub replay_canonical : {A B X Y : Type 0} (e : FriError A B) (phase : PowPhase) → e ≡ NonCanonicalPowWitness phase
     → (e ≡ OutOfMemory) ⊎ ((e ≡ InvalidPowWitness CommitPhase) × X) ⊎ ((e ≡ InvalidPowWitness Query) × Y) → ⊥
 replay_canonical e phase is (inl h) = cc

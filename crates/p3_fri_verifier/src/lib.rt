@@ -13,7 +13,7 @@ mod openings;
 mod plan;
 mod positions;
 mod replay;
-mod setting;
+pub mod setting;
 mod siblings;
 mod verify;
 
@@ -21,4 +21,4 @@ pub use crate::canonical::check_canonical;
 pub use crate::counts::check_counts;
 pub use crate::inputs::check_inputs;
 pub use crate::instance::check_instance;
-pub use crate::verify::verify_fri;
+pub use crate::verify::{verify_canonical, verify_fri};

@@ -7,7 +7,7 @@ ghost use Rattle.p3_fri_relation.specs.Acceptance.{log_arities as scheduled};
 ghost use Rattle.p3_fri_relation.specs.Views.{parameters_of, claims_of, proof_of};
 ghost use Rattle.p3_fri_verifier.specs.Plans.{CanBegin, BeginningFault};
 
-use crate::{check_canonical, check_counts, check_inputs, check_instance};
+use crate::{check_counts, check_inputs, check_instance};
 use p3_field_core::{ExtensionField, TwoAdicField, TwoAdicMultiplicativeCoset};
 use p3_fri_folding::{FriParameters, fold_schedule};
 use p3_fri_relation::error::FriError;
@@ -25,8 +25,8 @@ pub(crate) struct Plan {
 }
 
 /// The plan of a test of these claims, if it can begin: the parameters and the claims are in range,
-/// the proof has the lists and the witnesses that they ask for, and it opens each commitment once
-/// for each query. No challenger is touched.
+/// the proof has the lists that they ask for, and it opens each commitment once for each query. No
+/// challenger is touched.
 pub(crate) fn make_plan<F: TwoAdicField, EF: ExtensionField<F>, M: Mmcs<EF>, InputMmcs: Mmcs<F>>(
     alloc: Global,
     params: &FriParameters<M>,
@@ -36,10 +36,10 @@ pub(crate) fn make_plan<F: TwoAdicField, EF: ExtensionField<F>, M: Mmcs<EF>, Inp
     requires final_height_below_64 { params.now.log_blowup + params.now.log_final_poly_len < 64 }
     ensures exact { result ≢ Err OutOfMemory → (IsOk result
         ↔ CanBegin (parameters_of params.now) (claims_of (λ d. d.log_size) claims.now)
-        (proof_of proof.now) F.ops.zero F.TWO_ADICITY) }
+        (proof_of proof.now) F.TWO_ADICITY) }
     ensures refusal { IfErr result (λ e.
         BeginningFault (parameters_of params.now) (claims_of (λ d. d.log_size) claims.now)
-        (proof_of proof.now) F.ops.zero F.TWO_ADICITY e ⊎ (e ≡ OutOfMemory)) }
+        (proof_of proof.now) F.TWO_ADICITY e ⊎ (e ≡ OutOfMemory)) }
     ensures schedule { IfOk result (λ plan. plan.log_arities.items
         ≡ scheduled (parameters_of params.now) (claims_of (λ d. d.log_size) claims.now)) }
     ensures top { IfOk result (λ plan. plan.log_global_max_height
@@ -60,10 +60,6 @@ pub(crate) fn make_plan<F: TwoAdicField, EF: ExtensionField<F>, M: Mmcs<EF>, Inp
         Err(refusal) => return Err(refusal),
     }
     match check_inputs(params.num_queries, claims.len(), &proof.input_openings) {
-        Ok(()) => {},
-        Err(refusal) => return Err(refusal),
-    }
-    match check_canonical(params, proof) {
         Ok(()) => Ok(Plan {
             log_global_max_height: heights[0],
             log_arities,

@@ -6,7 +6,7 @@ use p3_mmcs::{CommitmentOpening, Mmcs};
 
 /// What a verifier knows by itself, whatever the proof is.
 #[derive(Drop)]
-pub(crate) struct VerifierSetting<'a, F: TwoAdicField, EF: Copy, M, InputMmcs: Mmcs<F>, S> {
+pub struct VerifierSetting<'a, F: TwoAdicField, EF: Copy, M, InputMmcs: Mmcs<F>, S> {
     /// How a row is folded.
     pub folding: &'a S,
     /// The parameters, with the commitment scheme of the rounds.

@@ -4,10 +4,11 @@ ghost use Rattle.std.specs.Prelude.{◌≡◌, ◌≢◌, ◌+◌, ◌<◌, ◌�
 ghost use Rattle.p3_fri_folding.specs.declared.pow_phase.PowPhase.{PowPhase};
 ghost use Rattle.p3_fri_relation.specs.declared.error.FriError.TheVariants.{OutOfMemory};
 ghost use Rattle.p3_fri_relation.specs.declared.error.FriError.TheVariants.{NonCanonicalPowWitness};
-ghost use Rattle.p3_fri_relation.specs.Acceptance.{FriAccepts, test_replay};
+ghost use Rattle.p3_fri_relation.specs.Acceptance.{AreCanonical, FriAccepts, test_replay};
 ghost use Rattle.p3_fri_relation.specs.Faults.{Stands};
 ghost use Rattle.p3_fri_relation.specs.Views.{parameters_of, claims_of, proof_of};
 
+use crate::canonical::check_canonical;
 use crate::draws::draw;
 use crate::openings::verify_openings;
 use crate::plan::make_plan;
@@ -20,6 +21,81 @@ use p3_fri_relation::proof::{BatchMultiOpening, FriProof};
 use p3_fri_relation::setting::PlaysFri;
 use p3_mmcs::{CommitmentOpening, Mmcs};
 use std::alloc::Global;
+
+/// `verify_fri` of a proof that `check_canonical` has accepted, so that each witness of a proof of
+/// work of no bits is zero. After a refusal the challenger is of no use.
+///
+/// # Errors
+///
+/// Those of `verify_fri`, without `NonCanonicalPowWitness`.
+pub fn verify_canonical<
+    F: TwoAdicField,
+    EF: ExtensionField<F>,
+    M: Mmcs<EF>,
+    InputMmcs: Mmcs<F>,
+    S: FriFoldingStrategy<F, EF, InputError = InputMmcs::Error>,
+    C: FieldChallenger<F> + GrindingChallenger<Witness = F> + CanObserve<M::Commitment>,
+>(
+    alloc: Global,
+    known: &VerifierSetting<'_, F, EF, M, InputMmcs, S>,
+    proof: &FriProof<EF, M, F, Vec<BatchMultiOpening<F, InputMmcs>>>,
+    challenger: &mut C,
+    alpha: EF,
+) -> Result<(), FriError<M::Error, InputMmcs::Error>>
+    requires final_height_below_64 { let p = known.now.params.now in
+        p.log_blowup + p.log_final_poly_len < 64 }
+    requires index_bits_at_most_max { F.TWO_ADICITY
+        + S.extra_query_index_bits known.now.folding.now ≤ C.MAX_SAMPLE_BITS }
+    requires commit_bits_at_most_max { known.now.params.now.commit_proof_of_work_bits
+        ≤ C.MAX_SAMPLE_BITS }
+    requires query_bits_at_most_max { known.now.params.now.query_proof_of_work_bits
+        ≤ C.MAX_SAMPLE_BITS }
+    requires max_log_height { F.TWO_ADICITY ≤ S.max_log_height known.now.folding.now }
+    requires canonical { AreCanonical (parameters_of known.now.params.now) (proof_of proof.now)
+        F.ops.zero }
+    ensures exact { let k = known.now in
+        let s = ⟦<C as PlaysFri<F, EF, S, M, InputMmcs>>⟧.setting k.folding.now
+        k.params.now.mmcs k.input_mmcs.now in
+        result ≢ Err OutOfMemory → (IsOk result
+        ↔ FriAccepts s (parameters_of k.params.now) (claims_of (λ d. d.log_size) k.claims.now)
+        (proof_of proof.now) challenger.old alpha) }
+    ensures state { let k = known.now in
+        let s = ⟦<C as PlaysFri<F, EF, S, M, InputMmcs>>⟧.setting k.folding.now
+        k.params.now.mmcs k.input_mmcs.now in
+        IsOk result → challenger.new
+        ≡ (test_replay s (parameters_of k.params.now) (claims_of (λ d. d.log_size) k.claims.now)
+        (proof_of proof.now) challenger.old).state }
+    ensures refusal { let k = known.now in
+        let s = ⟦<C as PlaysFri<F, EF, S, M, InputMmcs>>⟧.setting k.folding.now
+        k.params.now.mmcs k.input_mmcs.now in
+        IfErr result (Stands s (parameters_of k.params.now)
+        (claims_of (λ d. d.log_size) k.claims.now) (proof_of proof.now) challenger.old alpha) }
+    ensures no_witness_named { (phase : PowPhase) → result ≢ Err (NonCanonicalPowWitness phase) }
+{
+    let plan = match make_plan::<F, EF, M, InputMmcs>(alloc, known.params, known.claims, proof) {
+        Ok(plan) => plan,
+        Err(refusal) => return Err(refusal),
+    };
+    let extra_bits = known.folding.extra_query_index_bits();
+    let draws = match draw::<F, EF, M, InputMmcs, C>(
+        alloc,
+        known.params,
+        &plan,
+        proof,
+        challenger,
+        extra_bits,
+    ) {
+        Ok(draws) => draws,
+        Err(refusal) => return Err(refusal),
+    };
+    let test = DrawnTest {
+        log_arities: plan.log_arities.as_slice(),
+        log_global_max_height: plan.log_global_max_height,
+        betas: draws.betas.as_slice(),
+        positions: draws.positions.as_slice(),
+    };
+    verify_openings::<F, EF, M, InputMmcs, S, C>(alloc, known, proof, alpha, &test)
+}
 
 /// Verifies a proof of the low-degree test (FRI, ICALP 2018) of what is claimed of committed
 /// matrices, where `alpha` is the challenge that batches the claims' quotients.
@@ -91,28 +167,15 @@ pub fn verify_fri<
     ensures unchanged { (phase : PowPhase) → result ≡ Err (NonCanonicalPowWitness phase)
         → challenger.new ≡ challenger.old }
 {
-    let plan = match make_plan::<F, EF, M, InputMmcs>(alloc, params, claims, proof) {
-        Ok(plan) => plan,
+    match check_canonical(params, proof) {
+        Ok(()) => {},
         Err(refusal) => return Err(refusal),
-    };
-    let extra_bits = folding.extra_query_index_bits();
-    let draws = match draw::<F, EF, M, InputMmcs, C>(
-        alloc, params, &plan, proof, challenger, extra_bits,
-    ) {
-        Ok(draws) => draws,
-        Err(refusal) => return Err(refusal),
-    };
+    }
     let known = VerifierSetting {
         folding,
         params,
         input_mmcs,
         claims,
     };
-    let test = DrawnTest {
-        log_arities: plan.log_arities.as_slice(),
-        log_global_max_height: plan.log_global_max_height,
-        betas: draws.betas.as_slice(),
-        positions: draws.positions.as_slice(),
-    };
-    verify_openings::<F, EF, M, InputMmcs, S, C>(alloc, &known, proof, alpha, &test)
+    verify_canonical::<F, EF, M, InputMmcs, S, C>(alloc, &known, proof, challenger, alpha)
 }

@@ -20,12 +20,13 @@ fn are_within(left: usize, right: usize, most: usize) -> bool
 }
 
 /// Whether a trace of `height` rows fits the field, over a scheme that hides or not, with words
-/// `2^log_blowup` times as long as what they extend: the height is a power of two, and with the rows
-/// that hide it, and the blowup or the chunks that the constraints need, within the two-adicity.
+/// `2^log_blowup` times as long as what they extend: the height is a power of two, and with the
+/// rows that hide it, and the blowup or the chunks that the constraints need, within the
+/// two-adicity.
 ///
 /// # Errors
 ///
-/// `DegreeTooLarge`, where a node's degree is `2^63` or more.
+/// `DegreeTooLarge`, where a node's degree is `2^63` or more, or `OutOfMemory`.
 pub fn has_room<F: TwoAdicField, PcsError: Drop>(
     alloc: Global,
     air: &Air<F>,

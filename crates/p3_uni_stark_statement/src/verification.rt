@@ -1,6 +1,6 @@
 //! Proofs of statements by their numbers.
 
-ghost use Rattle.std.specs.Prelude.{◌≡◌, MatchResult};
+ghost use Rattle.std.specs.Prelude.{◌≡◌, IfOk, IfErr};
 ghost use Rattle.p3_uni_stark_statement.specs.Statements.{stated, IsAcceptedOf, IsRefusedOf};
 ghost use Rattle.p3_uni_stark_verifier.specs.Setting.{stark_setting};
 
@@ -19,7 +19,7 @@ use std::alloc::Global;
 /// periodic columns and public values. Nothing is asked of the numbers or of the proof: a form that
 /// is no system's and a number that is no element's are refused by name, then the proof is verified
 /// of the one statement that these are the numbers of. Where it is accepted the challenger ends in
-/// the state of `verify`.
+/// the state of `verify`; refused numbers leave it as it was.
 pub fn verify_plain<
     F: TwoAdicField + PrimeField64,
     EF: ExtensionField<F>,
@@ -35,14 +35,16 @@ pub fn verify_plain<
     challenger: &mut C,
 ) -> Result<(), PlainVerificationError<P::Error>>
     requires range { (P.rules scheme.now).InVerifierRange }
-    ensures { let S = stark_setting ⟦<EF as StarkField<F>>⟧.fields
+    ensures accepted { let S = stark_setting ⟦<EF as StarkField<F>>⟧.fields
         ⟦<C as Plays<F, EF, Com>>⟧.moves P.ZK (P.rules scheme.now)
         (λ k d. (d.shift ≡ F.ONE) × (d.log_size ≡ k)) in
-        MatchResult result
-        (λ _. IsAcceptedOf F.canonical S (stated plain.now) proof.now challenger.old
-        challenger.new)
-        (IsRefusedOf F.canonical S (stated plain.now) proof.now challenger.old challenger.new
-        F.ORDER_U64) }
+        IfOk result (λ _. IsAcceptedOf F.canonical S (stated plain.now) proof.now challenger.old
+        challenger.new) }
+    ensures refused { let S = stark_setting ⟦<EF as StarkField<F>>⟧.fields
+        ⟦<C as Plays<F, EF, Com>>⟧.moves P.ZK (P.rules scheme.now)
+        (λ k d. (d.shift ≡ F.ONE) × (d.log_size ≡ k)) in
+        IfErr result (IsRefusedOf F.canonical S (stated plain.now) proof.now challenger.old
+        challenger.new F.ORDER_U64) }
 {
     let air = match air_from_plain::<F>(alloc, plain.air) {
         Ok(air) => air,

@@ -24,6 +24,17 @@ pub struct ProverDataWithOpeningPoints<'a, EF, D> {
     pub points: &'a Vec<Vec<EF>>,
 }
 
+/// The committed inputs that the queries open, and where.
+#[derive(Drop)]
+pub(crate) struct QueriedInputs<'a, EF, D> {
+    /// The data, with the points at which they are opened.
+    pub data_with_points: &'a [ProverDataWithOpeningPoints<'a, EF, D>],
+    /// The log height of the positions, the greatest of an input.
+    pub log_global_max_height: usize,
+    /// How many of an index's lowest bits aren't its position's.
+    pub extra_bits: usize,
+}
+
 /// Each index without its lowest `bits` bits.
 pub(crate) fn shifted(
     alloc: Global,

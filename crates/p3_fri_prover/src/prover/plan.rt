@@ -21,15 +21,22 @@ use p3_fri_folding::{FriParameters, FriProverError};
 use p3_fri_transcript::transcript::FriShape;
 use std::alloc::Global;
 
+/// The transcript that a test will play.
+#[derive(Drop)]
+pub(crate) struct PlannedTranscript {
+    /// Its shape.
+    pub shape: FriShape,
+    /// The shape's seed.
+    pub seed: Seed,
+}
+
 /// What a test will play.
 #[derive(Drop)]
 pub(crate) struct Plan {
     /// The logarithm of each round's arity: the schedule's.
     pub log_arities: Vec<usize>,
-    /// The shape of the transcript.
-    pub shape: FriShape,
-    /// The shape's seed.
-    pub seed: Seed,
+    /// The transcript.
+    pub transcript: PlannedTranscript,
 }
 
 /// The plan of a test of these inputs, the first of log height `log_global_max_height`, if each can
@@ -50,12 +57,12 @@ pub(crate) fn make_plan<F: Field, EF: ExtensionField<F>, M>(
         IfOk result (λ plan. plan.log_arities.items
         ≡ scheduled (parameters_of params.now) heights log_global_max_height) }
     ensures shape { (heights : List ℕ) → HaveHeights heights (lists inputs.now) →
-        IfOk result (λ plan. fri_shape plan.shape
+        IfOk result (λ plan. fri_shape plan.transcript.shape
         ≡ fri_numbers (parameters_of params.now) heights log_global_max_height extra_bits) }
-    ensures stream { IfOk result (λ plan. seed_bytes plan.seed
-        ≡ fri_stream EF.DIMENSION (fri_shape plan.shape)) }
-    ensures turns { IfOk result (λ plan. seed_turns plan.seed
-        ≡ map turn_of (fri_steps EF.DIMENSION (fri_shape plan.shape))) }
+    ensures stream { IfOk result (λ plan. seed_bytes plan.transcript.seed
+        ≡ fri_stream EF.DIMENSION (fri_shape plan.transcript.shape)) }
+    ensures turns { IfOk result (λ plan. seed_turns plan.transcript.seed
+        ≡ map turn_of (fri_steps EF.DIMENSION (fri_shape plan.transcript.shape))) }
     ensures tall_enough { (heights : List ℕ) → HaveHeights heights (lists inputs.now) →
         OnOk result (All (IsTallEnough (parameters_of params.now)) heights) }
     ensures refused { (heights : List ℕ) → HaveHeights heights (lists inputs.now) →
@@ -72,7 +79,6 @@ pub(crate) fn make_plan<F: Field, EF: ExtensionField<F>, M>(
     let seed = shape.seed::<F, EF>(alloc)?;
     Ok(Plan {
         log_arities,
-        shape,
-        seed,
+        transcript: PlannedTranscript { shape, seed },
     })
 }

@@ -14,13 +14,13 @@ ghost use Rattle.p3_fri_prover.specs.Played.{CanPlay, Describes, IsPlayed, PlayR
 ghost use Rattle.p3_fri_prover.specs.Played.{AreQueriesPlayed, QueriesRefusal};
 
 use crate::prover::last_word::final_polynomial;
+use crate::prover::plan::PlannedTranscript;
 use crate::prover::rounds::{CommittedRounds, commit_rounds};
 use p3_challenger_core::{CanObserve, FieldChallenger, GrindingChallenger, Plays};
-use p3_challenger_fs::Seed;
 use p3_field_core::{ExtensionField, TwoAdicField};
 use p3_fri_folding::{FriFoldingStrategy, FriParameters, FriProverError};
 use p3_fri_relation::setting::ChallengeField;
-use p3_fri_transcript::transcript::{FriShape, ProverTranscript};
+use p3_fri_transcript::transcript::ProverTranscript;
 use p3_mmcs::Mmcs;
 use std::alloc::Global;
 
@@ -151,8 +151,8 @@ pub(crate) fn play<
     }
 }
 
-/// Plays the transcript of this shape, of which this is the seed, over the challenger. A refusal
-/// leaves the challenger where it was reached.
+/// Plays the planned transcript over the challenger. A refusal leaves the challenger where it was
+/// reached.
 pub(crate) fn play_test<
     F: TwoAdicField,
     EF: ExtensionField<F>,
@@ -166,8 +166,7 @@ pub(crate) fn play_test<
     inputs: Vec<Vec<EF>>,
     log_arities: &[usize],
     challenger: &mut C,
-    seed: Seed,
-    shape: FriShape,
+    planned: PlannedTranscript,
 ) -> Result<Played<F, EF, M>, FriProverError>
     requires some_input { 0 < vec_len inputs }
     requires positive { All (λ a. 0 < a) log_arities.now }
@@ -176,15 +175,17 @@ pub(crate) fn play_test<
         (S.max_log_height folding.now) (length (slice_index_or (lists inputs.items) 0 [])) }
     requires log_final_poly_len_below_64 { params.now.log_final_poly_len < 64 }
     requires within_two_adicity { params.now.log_final_poly_len ≤ F.TWO_ADICITY }
-    requires described { Describes (fri_shape shape) log_arities.now params.now.log_final_poly_len
-        C.MAX_SAMPLE_BITS }
-    requires turns { seed_turns seed ≡ map turn_of (fri_steps EF.DIMENSION (fri_shape shape)) }
+    requires described { Describes (fri_shape planned.shape) log_arities.now
+        params.now.log_final_poly_len C.MAX_SAMPLE_BITS }
+    requires turns { seed_turns planned.seed
+        ≡ map turn_of (fri_steps EF.DIMENSION (fri_shape planned.shape)) }
     ensures played { IfOk result (λ played. (top : ℕ) →
         length (slice_index_or (lists inputs.items) 0 []) ≡ 2 ^ top →
         IsPlayed M.committed M.commitment_of ⟦<EF as ChallengeField<F>>⟧.fields
         (S.row_fold folding.now) ⟦<C as Plays<F, EF, M::Commitment>>⟧.moves
-        params.now.log_final_poly_len (fri_shape shape) top (lists inputs.items)
-        (bytes_observed F.ops ⟦<C as CanObserve<F>>⟧.observed challenger.old (seed_bytes seed))
+        params.now.log_final_poly_len (fri_shape planned.shape) top (lists inputs.items)
+        (bytes_observed F.ops ⟦<C as CanObserve<F>>⟧.observed challenger.old
+        (seed_bytes planned.seed))
         C.solution played.rounds.commitments.items played.rounds.witnesses.items
         played.rounds.prover_data.items played.final_poly.items played.query_witness
         played.indices.items challenger.new) }
@@ -192,10 +193,12 @@ pub(crate) fn play_test<
         length (slice_index_or (lists inputs.items) 0 []) ≡ 2 ^ top →
         PlayRefusal M.committed M.commitment_of ⟦<EF as ChallengeField<F>>⟧.fields
         (S.row_fold folding.now) ⟦<C as Plays<F, EF, M::Commitment>>⟧.moves
-        params.now.log_final_poly_len (fri_shape shape) top (lists inputs.items)
-        (bytes_observed F.ops ⟦<C as CanObserve<F>>⟧.observed challenger.old (seed_bytes seed))
+        params.now.log_final_poly_len (fri_shape planned.shape) top (lists inputs.items)
+        (bytes_observed F.ops ⟦<C as CanObserve<F>>⟧.observed challenger.old
+        (seed_bytes planned.seed))
         C.solution e) }
 {
+    let PlannedTranscript { shape, seed } = planned;
     let mut transcript = ProverTranscript::<C, F, EF>::start(challenger, seed, shape);
     match play(alloc, folding, params, inputs, log_arities, &mut transcript) {
         Ok(played) => {

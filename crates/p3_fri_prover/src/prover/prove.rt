@@ -14,7 +14,9 @@ ghost use Rattle.p3_fri_prover.specs.Proved.{IsProved, positions};
 ghost use Rattle.p3_fri_prover.specs.Prover.{IsInProverRange, IsForHeight, ProverRefusal};
 ghost use Rattle.p3_fri_relation.specs.TallEnough.{IsTallEnough};
 
-use crate::prover::openings::{ProverDataWithOpeningPoints, answer_queries, open_inputs, shifted};
+use crate::prover::openings::{
+    ProverDataWithOpeningPoints, QueriedInputs, answer_queries, open_inputs, shifted,
+};
 use crate::prover::plan::{Plan, make_plan};
 use crate::prover::play::{Played, play_test};
 use crate::prover::rounds::CommittedRounds;
@@ -26,18 +28,16 @@ use p3_fri_relation::setting::PlaysFri;
 use p3_mmcs::Mmcs;
 use std::alloc::{AllocError, Global};
 
-/// The inputs and the rounds opened at the positions, which are the indices without their lowest
-/// `extra_bits` bits.
+/// The inputs and the rounds opened at the positions, which are the indices without their extra
+/// bits.
 fn open_at_indices<EF: Copy, F: Copy, M: Mmcs<EF>, InputMmcs: Mmcs<F>>(
     alloc: Global,
     params: &FriParameters<M>,
+    input_mmcs: &InputMmcs,
+    queried: &QueriedInputs<'_, EF, InputMmcs::ProverData>,
+    log_arities: &[usize],
     indices: &[usize],
     prover_data: &[M::ProverData],
-    log_arities: &[usize],
-    log_global_max_height: usize,
-    extra_bits: usize,
-    data_with_points: &[ProverDataWithOpeningPoints<'_, EF, InputMmcs::ProverData>],
-    input_mmcs: &InputMmcs,
 ) -> Result<
     (
         Vec<BatchMultiOpening<F, InputMmcs>>,
@@ -45,42 +45,43 @@ fn open_at_indices<EF: Copy, F: Copy, M: Mmcs<EF>, InputMmcs: Mmcs<F>>(
     ),
     AllocError,
 >
-    requires extra_bits_below_64 { extra_bits < 64 }
-    requires top_below_64 { log_global_max_height < 64 }
-    requires positions { All (λ q. q < 2 ^ log_global_max_height)
-        (map (λ i. i / 2 ^ extra_bits) indices.now) }
+    requires extra_bits_below_64 { queried.now.extra_bits < 64 }
+    requires top_below_64 { queried.now.log_global_max_height < 64 }
+    requires positions { All (λ q. q < 2 ^ queried.now.log_global_max_height)
+        (map (λ i. i / 2 ^ queried.now.extra_bits) indices.now) }
     requires data_heights { All (λ datum. max_height
-        (dimensions_of (InputMmcs.committed datum.prover_data.now)) ≤ 2 ^ log_global_max_height)
-        data_with_points.now }
+        (dimensions_of (InputMmcs.committed datum.prover_data.now))
+        ≤ 2 ^ queried.now.log_global_max_height) queried.now.data_with_points.now }
     requires data_for_each { length prover_data.now ≡ length log_arities.now }
     requires openable { (k : ℕ) (datum : M.ProverData) → k < length log_arities.now →
-        IsOpenable log_arities.now (map (λ i. i / 2 ^ extra_bits) indices.now) k
+        IsOpenable log_arities.now (map (λ i. i / 2 ^ queried.now.extra_bits) indices.now) k
         (M.committed (slice_index_or prover_data.now k datum)) }
     ensures inputs_opened { IfOk result (λ opened. AllZip (λ datum o.
-        OpensBatch (InputMmcs.opens input_mmcs.now) log_global_max_height
-        (map (λ i. i / 2 ^ extra_bits) indices.now)
+        OpensBatch (InputMmcs.opens input_mmcs.now) queried.now.log_global_max_height
+        (map (λ i. i / 2 ^ queried.now.extra_bits) indices.now)
         (InputMmcs.committed datum.prover_data.now)
         (InputMmcs.commitment_of datum.prover_data.now)
         (record { rows = nested o.opened_values.items; path = o.opening_proof }))
-        data_with_points.now opened.0.items) }
+        queried.now.data_with_points.now opened.0.items) }
     ensures rounds_counted { IfOk result (λ opened.
         vec_len opened.1 ≡ length log_arities.now) }
     ensures rounds_opened { IfOk result (λ opened. (k : ℕ) (o : _) (datum : M.ProverData)
         (matrix : RowMajorMatrix EF) → k < length log_arities.now →
         M.committed (slice_index_or prover_data.now k datum) ≡ matrix ∷ [] →
         OpensRows (M.opens params.now.mmcs) (slice_index log_arities.now k) matrix
-        (map (λ q. index_into log_arities.now q k) (map (λ i. i / 2 ^ extra_bits) indices.now))
+        (map (λ q. index_into log_arities.now q k)
+        (map (λ i. i / 2 ^ queried.now.extra_bits) indices.now))
         (M.commitment_of (slice_index_or prover_data.now k datum))
         (lists (slice_index_or opened.1.items k o).sibling_values.items)
         (slice_index_or opened.1.items k o).opening_proof) }
 {
-    let positions = shifted(alloc, indices, extra_bits)?;
+    let positions = shifted(alloc, indices, queried.extra_bits)?;
     let input_openings = open_inputs(
         alloc,
         input_mmcs,
-        log_global_max_height,
+        queried.log_global_max_height,
         &positions,
-        data_with_points,
+        queried.data_with_points,
     )?;
     let commit_phase_openings = answer_queries(
         alloc,
@@ -93,28 +94,27 @@ fn open_at_indices<EF: Copy, F: Copy, M: Mmcs<EF>, InputMmcs: Mmcs<F>>(
 }
 
 /// The proof of what was played: the inputs and the rounds opened at the positions, which are the
-/// drawn indices without their lowest `extra_bits` bits.
+/// drawn indices without their extra bits.
 fn open_played<F: TwoAdicField, EF: ExtensionField<F>, M: Mmcs<EF>, InputMmcs: Mmcs<F>>(
     alloc: Global,
     params: &FriParameters<M>,
-    played: Played<F, EF, M>,
-    log_arities: &[usize],
-    log_global_max_height: usize,
-    extra_bits: usize,
-    data_with_points: &[ProverDataWithOpeningPoints<'_, EF, InputMmcs::ProverData>],
     input_mmcs: &InputMmcs,
+    queried: &QueriedInputs<'_, EF, InputMmcs::ProverData>,
+    log_arities: &[usize],
+    played: Played<F, EF, M>,
     batch_pow_witness: F,
 ) -> Result<FriProof<EF, M, F, Vec<BatchMultiOpening<F, InputMmcs>>>, AllocError>
-    requires extra_bits_below_64 { extra_bits < 64 }
-    requires top_below_64 { log_global_max_height < 64 }
-    requires positions { All (λ q. q < 2 ^ log_global_max_height)
-        (map (λ i. i / 2 ^ extra_bits) played.indices.items) }
+    requires extra_bits_below_64 { queried.now.extra_bits < 64 }
+    requires top_below_64 { queried.now.log_global_max_height < 64 }
+    requires positions { All (λ q. q < 2 ^ queried.now.log_global_max_height)
+        (map (λ i. i / 2 ^ queried.now.extra_bits) played.indices.items) }
     requires data_heights { All (λ datum. max_height
-        (dimensions_of (InputMmcs.committed datum.prover_data.now)) ≤ 2 ^ log_global_max_height)
-        data_with_points.now }
+        (dimensions_of (InputMmcs.committed datum.prover_data.now))
+        ≤ 2 ^ queried.now.log_global_max_height) queried.now.data_with_points.now }
     requires data_for_each { length played.rounds.prover_data.items ≡ length log_arities.now }
     requires openable { (k : ℕ) (datum : M.ProverData) → k < length log_arities.now →
-        IsOpenable log_arities.now (map (λ i. i / 2 ^ extra_bits) played.indices.items) k
+        IsOpenable log_arities.now
+        (map (λ i. i / 2 ^ queried.now.extra_bits) played.indices.items) k
         (M.committed (slice_index_or played.rounds.prover_data.items k datum)) }
     ensures batch_witness { IfOk result (λ proof. proof.batch_pow_witness ≡ batch_pow_witness) }
     ensures commitments { IfOk result (λ proof.
@@ -125,12 +125,12 @@ fn open_played<F: TwoAdicField, EF: ExtensionField<F>, M: Mmcs<EF>, InputMmcs: M
     ensures query_witness { IfOk result (λ proof.
         proof.query_pow_witness ≡ played.query_witness) }
     ensures inputs_opened { IfOk result (λ proof. AllZip (λ datum o.
-        OpensBatch (InputMmcs.opens input_mmcs.now) log_global_max_height
-        (map (λ i. i / 2 ^ extra_bits) played.indices.items)
+        OpensBatch (InputMmcs.opens input_mmcs.now) queried.now.log_global_max_height
+        (map (λ i. i / 2 ^ queried.now.extra_bits) played.indices.items)
         (InputMmcs.committed datum.prover_data.now)
         (InputMmcs.commitment_of datum.prover_data.now)
         (record { rows = nested o.opened_values.items; path = o.opening_proof }))
-        data_with_points.now proof.input_openings.items) }
+        queried.now.data_with_points.now proof.input_openings.items) }
     ensures rounds_counted { IfOk result (λ proof.
         vec_len proof.commit_phase_openings ≡ length log_arities.now) }
     ensures rounds_opened { IfOk result (λ proof. (k : ℕ) (o : _) (datum : M.ProverData)
@@ -138,7 +138,7 @@ fn open_played<F: TwoAdicField, EF: ExtensionField<F>, M: Mmcs<EF>, InputMmcs: M
         M.committed (slice_index_or played.rounds.prover_data.items k datum) ≡ matrix ∷ [] →
         OpensRows (M.opens params.now.mmcs) (slice_index log_arities.now k) matrix
         (map (λ q. index_into log_arities.now q k)
-        (map (λ i. i / 2 ^ extra_bits) played.indices.items))
+        (map (λ i. i / 2 ^ queried.now.extra_bits) played.indices.items))
         (M.commitment_of (slice_index_or played.rounds.prover_data.items k datum))
         (lists (slice_index_or proof.commit_phase_openings.items k o).sibling_values.items)
         (slice_index_or proof.commit_phase_openings.items k o).opening_proof) }
@@ -157,13 +157,11 @@ fn open_played<F: TwoAdicField, EF: ExtensionField<F>, M: Mmcs<EF>, InputMmcs: M
     let (input_openings, commit_phase_openings) = open_at_indices(
         alloc,
         params,
+        input_mmcs,
+        queried,
+        log_arities,
         &indices,
         &prover_data,
-        log_arities,
-        log_global_max_height,
-        extra_bits,
-        data_with_points,
-        input_mmcs,
     )?;
     Ok(FriProof {
         batch_pow_witness,
@@ -271,8 +269,7 @@ pub fn prove_fri<
     let plan = make_plan::<F, EF, M>(alloc, params, &inputs, log_global_max_height, extra_bits);
     let Plan {
         log_arities,
-        shape,
-        seed,
+        transcript,
     } = match plan {
         Ok(plan) => plan,
         Err(refusal) => return Err(refusal),
@@ -284,22 +281,24 @@ pub fn prove_fri<
         inputs,
         &log_arities,
         &mut *challenger,
-        seed,
-        shape,
+        transcript,
     );
     let played = match test {
         Ok(played) => played,
         Err(refusal) => return Err(refusal),
     };
+    let queried = QueriedInputs {
+        data_with_points,
+        log_global_max_height,
+        extra_bits,
+    };
     let opened = open_played(
         alloc,
         params,
-        played,
-        &log_arities,
-        log_global_max_height,
-        extra_bits,
-        data_with_points,
         input_mmcs,
+        &queried,
+        &log_arities,
+        played,
         batch_pow_witness,
     );
     match opened {

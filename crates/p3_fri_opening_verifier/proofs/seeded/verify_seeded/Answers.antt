@@ -46,16 +46,16 @@ setting_at g folding mmcs input_mmcs = record {
 
 -- the claims are those that the relation counts and absorbs
 absorbed : (g : Over) (c : After-start-transcript g)
-    → Absorbed (setting_at g c.args.folding.now c.args.params.now.mmcs c.args.input_mmcs.now)
-    (parameters_of c.args.params.now) (claims_of (λ d. d.log_size) c.args.claims.now) (proof_of c.args.proof.now)
-    c.args.challenger.now (pcs_shape c.args.shape) (all_claimed c.args.claims.now)
+    → Absorbed (setting_at g c.args.known.now.folding.now c.args.known.now.params.now.mmcs c.args.known.now.input_mmcs.now)
+    (parameters_of c.args.known.now.params.now) (claims_of (λ d. d.log_size) c.args.known.now.claims.now) (proof_of c.args.proof.now)
+    c.args.challenger.now (pcs_shape c.args.shape) (all_claimed c.args.known.now.claims.now)
     c.start-transcript.result.challenger.now
     (observed_all g.C.CanObserve-1.observed c.start-transcript.result.challenger.now
-    (flat_map g.EF.ExtensionField.coefficients (all_claimed c.args.claims.now)))
+    (flat_map g.EF.ExtensionField.coefficients (all_claimed c.args.known.now.claims.now)))
 absorbed g c = record {
-  numbers_are = numbers_are (λ d. d.log_size) (parameters_of c.args.params.now) c.args.claims.now
+  numbers_are = numbers_are (λ d. d.log_size) (parameters_of c.args.known.now.params.now) c.args.known.now.claims.now
       (pcs_shape c.args.shape) c.requires.shape;
-  values_are = sym (values-of_claims (λ d. d.log_size) c.args.claims.now);
+  values_are = sym (values-of_claims (λ d. d.log_size) c.args.known.now.claims.now);
   begun = c.start-transcript.ensures.starts.state
       ∙ ap (λ bytes. bytes_observed g.F.Field.ops g.C.CanObserve-1.observed
       c.args.challenger.now bytes) c.requires.stream;
@@ -64,14 +64,14 @@ absorbed g c = record {
 
 -- the test begins where the batching challenge was drawn
 drawn : (g : Over) (c : In-Ok g)
-    → batch_replayed (setting_at g c.args.folding.now c.args.params.now.mmcs c.args.input_mmcs.now)
-    (parameters_of c.args.params.now) (claims_of (λ d. d.log_size) c.args.claims.now) (proof_of c.args.proof.now)
+    → batch_replayed (setting_at g c.args.known.now.folding.now c.args.known.now.params.now.mmcs c.args.known.now.input_mmcs.now)
+    (parameters_of c.args.known.now.params.now) (claims_of (λ d. d.log_size) c.args.known.now.claims.now) (proof_of c.args.proof.now)
     c.args.challenger.now
     ≡ record { passes = true; alpha = c.in-Ok.alpha; state = c.draw_alpha.new.transcript.challenger.now }
 drawn g c =
-    batch_passed (setting_at g c.args.folding.now c.args.params.now.mmcs c.args.input_mmcs.now)
-    (parameters_of c.args.params.now) (claims_of (λ d. d.log_size) c.args.claims.now) (proof_of c.args.proof.now)
-    c.args.challenger.now (pcs_shape c.args.shape) (all_claimed c.args.claims.now)
+    batch_passed (setting_at g c.args.known.now.folding.now c.args.known.now.params.now.mmcs c.args.known.now.input_mmcs.now)
+    (parameters_of c.args.known.now.params.now) (claims_of (λ d. d.log_size) c.args.known.now.claims.now) (proof_of c.args.proof.now)
+    c.args.challenger.now (pcs_shape c.args.shape) (all_claimed c.args.known.now.claims.now)
     c.start-transcript.result.challenger.now _ _ c.draw_alpha.new.transcript.challenger.now c.in-Ok.alpha
     (absorbed g (goal.at.In-Ok g c).After-start-transcript)
     (rw c.start-transcript.ensures.starts.shape at c.in-Ok.ensures.batch)
@@ -80,14 +80,14 @@ drawn g c =
 -- the proof of work isn't passed, as the relation has it
 stopped : (g : Over) (c : In-Err g)
     → (shown : BatchReplay g.row.C.Denot g.row.EF.Denot)
-    × (shown ≡ batch_replayed (setting_at g c.args.folding.now c.args.params.now.mmcs c.args.input_mmcs.now)
-    (parameters_of c.args.params.now) (claims_of (λ d. d.log_size) c.args.claims.now) (proof_of c.args.proof.now)
+    × (shown ≡ batch_replayed (setting_at g c.args.known.now.folding.now c.args.known.now.params.now.mmcs c.args.known.now.input_mmcs.now)
+    (parameters_of c.args.known.now.params.now) (claims_of (λ d. d.log_size) c.args.known.now.claims.now) (proof_of c.args.proof.now)
     c.args.challenger.now)
     × (IsTrue shown.passes → ⊥)
 stopped g c = (
   _,
-  batch_is (setting_at g c.args.folding.now c.args.params.now.mmcs c.args.input_mmcs.now)
-      (parameters_of c.args.params.now) (claims_of (λ d. d.log_size) c.args.claims.now) (proof_of c.args.proof.now)
+  batch_is (setting_at g c.args.known.now.folding.now c.args.known.now.params.now.mmcs c.args.known.now.input_mmcs.now)
+      (parameters_of c.args.known.now.params.now) (claims_of (λ d. d.log_size) c.args.known.now.claims.now) (proof_of c.args.proof.now)
       c.args.challenger.now _ _ _ _
       (absorbed g (goal.at.In-Err g c).After-start-transcript),
   λ passes. let no =
@@ -114,16 +114,16 @@ pub returns-in-Err-clause-exact : goal.returns-in-Err-clause-exact
 returns-in-Err-clause-exact g c other =
     let no = stopped g (goal.at.returns-in-Err-clause-exact g c).In-Err in (
       (λ e. cc),
-      (λ a. absurd (not_accepted (setting_at g c.args.folding.now c.args.params.now.mmcs c.args.input_mmcs.now)
-          (parameters_of c.args.params.now) (claims_of (λ d. d.log_size) c.args.claims.now) (proof_of c.args.proof.now)
+      (λ a. absurd (not_accepted (setting_at g c.args.known.now.folding.now c.args.known.now.params.now.mmcs c.args.known.now.input_mmcs.now)
+          (parameters_of c.args.known.now.params.now) (claims_of (λ d. d.log_size) c.args.known.now.claims.now) (proof_of c.args.proof.now)
           c.args.challenger.now no.0 no.1 no.2 a)),
     )
 
 pub returns-in-Err-clause-refusal : goal.returns-in-Err-clause-refusal
 returns-in-Err-clause-refusal g c =
     let no = stopped g (goal.at.returns-in-Err-clause-refusal g c).In-Err in
-    batch_stands (setting_at g c.args.folding.now c.args.params.now.mmcs c.args.input_mmcs.now)
-    (parameters_of c.args.params.now) (claims_of (λ d. d.log_size) c.args.claims.now) (proof_of c.args.proof.now)
+    batch_stands (setting_at g c.args.known.now.folding.now c.args.known.now.params.now.mmcs c.args.known.now.input_mmcs.now)
+    (parameters_of c.args.known.now.params.now) (claims_of (λ d. d.log_size) c.args.known.now.claims.now) (proof_of c.args.proof.now)
     c.args.challenger.now (pcs_shape c.args.shape) _
     c.in-Err.failure c.refused.result
     (rw c.start-transcript.ensures.starts.shape at c.in-Err.ensures.failure)
@@ -131,8 +131,8 @@ returns-in-Err-clause-refusal g c =
 
 pub returns-in-Ok-tested-clause-exact : goal.returns-in-Ok-tested-clause-exact
 returns-in-Ok-tested-clause-exact g c other = (
-  (λ e. accepted (setting_at g c.args.folding.now c.args.params.now.mmcs c.args.input_mmcs.now)
-      (parameters_of c.args.params.now) (claims_of (λ d. d.log_size) c.args.claims.now) (proof_of c.args.proof.now)
+  (λ e. accepted (setting_at g c.args.known.now.folding.now c.args.known.now.params.now.mmcs c.args.known.now.input_mmcs.now)
+      (parameters_of c.args.known.now.params.now) (claims_of (λ d. d.log_size) c.args.known.now.claims.now) (proof_of c.args.proof.now)
       c.args.challenger.now c.in-Ok.alpha c.draw_alpha.new.transcript.challenger.now
       (drawn g (goal.at.returns-in-Ok-tested-clause-exact g c).In-Ok)
       ((c.in-Ok-tested.ensures.exact (λ same. cc)).0 refl)),
@@ -141,8 +141,8 @@ returns-in-Ok-tested-clause-exact g c other = (
 
 pub returns-in-Ok-tested-clause-state : goal.returns-in-Ok-tested-clause-state
 returns-in-Ok-tested-clause-state g c ok =
-    ends (setting_at g c.args.folding.now c.args.params.now.mmcs c.args.input_mmcs.now)
-    (parameters_of c.args.params.now) (claims_of (λ d. d.log_size) c.args.claims.now) (proof_of c.args.proof.now)
+    ends (setting_at g c.args.known.now.folding.now c.args.known.now.params.now.mmcs c.args.known.now.input_mmcs.now)
+    (parameters_of c.args.known.now.params.now) (claims_of (λ d. d.log_size) c.args.known.now.claims.now) (proof_of c.args.proof.now)
     c.args.challenger.now c.in-Ok.alpha c.draw_alpha.new.transcript.challenger.now
     (drawn g (goal.at.returns-in-Ok-tested-clause-state g c).In-Ok)
     c.test_inside-tested.new.transcript.challenger.now _ (c.in-Ok-tested.ensures.state refl) (search rules)
@@ -151,16 +151,16 @@ pub returns-in-Err-tested-clause-exact : goal.returns-in-Err-tested-clause-exact
 returns-in-Err-tested-clause-exact g c other = (
   (λ e. cc),
   (λ a. (c.in-Err-tested.ensures.exact other).1
-      (accepted_inside (setting_at g c.args.folding.now c.args.params.now.mmcs c.args.input_mmcs.now)
-      (parameters_of c.args.params.now) (claims_of (λ d. d.log_size) c.args.claims.now) (proof_of c.args.proof.now)
+      (accepted_inside (setting_at g c.args.known.now.folding.now c.args.known.now.params.now.mmcs c.args.known.now.input_mmcs.now)
+      (parameters_of c.args.known.now.params.now) (claims_of (λ d. d.log_size) c.args.known.now.claims.now) (proof_of c.args.proof.now)
       c.args.challenger.now c.in-Ok.alpha c.draw_alpha.new.transcript.challenger.now
       (drawn g (goal.at.returns-in-Err-tested-clause-exact g c).In-Ok) a)),
 )
 
 pub returns-in-Err-tested-clause-refusal : goal.returns-in-Err-tested-clause-refusal
 returns-in-Err-tested-clause-refusal g c =
-    stands_inside (setting_at g c.args.folding.now c.args.params.now.mmcs c.args.input_mmcs.now)
-    (parameters_of c.args.params.now) (claims_of (λ d. d.log_size) c.args.claims.now) (proof_of c.args.proof.now)
+    stands_inside (setting_at g c.args.known.now.folding.now c.args.known.now.params.now.mmcs c.args.known.now.input_mmcs.now)
+    (parameters_of c.args.known.now.params.now) (claims_of (λ d. d.log_size) c.args.known.now.claims.now) (proof_of c.args.proof.now)
     c.args.challenger.now c.in-Ok.alpha c.draw_alpha.new.transcript.challenger.now
     (drawn g (goal.at.returns-in-Err-tested-clause-refusal g c).In-Ok)
     c.in-Err-tested.refusal c.in-Err-tested.ensures.refusal

@@ -29,17 +29,10 @@ check_counts-requires-clause-small g c =
     c.in-Ok-fold_schedule.ensures.value c.in-Ok-fold_schedule.ensures.leads_down
     (omega (arith, first, bounds.1, g.met.F.TwoAdicField.two_adicity_law)))
 
-pub returns-in-Err-check_inputs-clause-exact : goal.returns-in-Err-check_inputs-clause-exact
-returns-in-Err-check_inputs-clause-exact g c other = (
-  (λ e. absurd (false_true e)),
-  (λ b. c.in-Err-check_inputs.ensures.exact.1
-      ((inputs_claimed (λ d. d.log_size) c.args.params.now.num_queries c.args.claims.now c.deref-3.ensures.value).1 b.inputs)),
-)
-
-pub returns-in-Err-check_inputs-clause-refusal : goal.returns-in-Err-check_inputs-clause-refusal
-returns-in-Err-check_inputs-clause-refusal g c =
-    inl (inr (inr (inl (fault_claimed (λ d. d.log_size) c.args.params.now.num_queries c.args.claims.now
-    c.deref-3.ensures.value c.in-Err-check_inputs.refusal c.in-Err-check_inputs.ensures.refusal))))
+pub returns-clause-refusal : goal.returns-clause-refusal
+returns-clause-refusal g c =
+    inl (inr (inr (fault_claimed (λ d. d.log_size) c.args.params.now.num_queries c.args.claims.now
+    c.deref-3.ensures.value c.in-Err-check_inputs.refusal c.in-Err-check_inputs.ensures.refusal)))
 
 pub index-requires : goal.index-requires
 index-requires g c =
@@ -51,20 +44,19 @@ index-requires g c =
     c.in-Ok.ensures.heights ∙ instance_heights p claims two_adicity ranged in
     omega (arith, c.in-Ok.heights.ok.0, ap length whole)
 
-pub returns-in-Ok-check_canonical-clause-exact : goal.returns-in-Ok-check_canonical-clause-exact
-returns-in-Ok-check_canonical-clause-exact g c other = (
+pub returns-in-Ok-check_inputs-clause-exact : goal.returns-in-Ok-check_inputs-clause-exact
+returns-in-Ok-check_inputs-clause-exact g c other = (
   (λ _. record {
     in_range = (c.in-Ok.ensures.exact (λ e. ok_err _ _ e)).0 refl;
     counts = search rules;
     inputs = (inputs_claimed (λ d. d.log_size) c.args.params.now.num_queries c.args.claims.now c.deref-3.ensures.value).0
         (c.in-Ok-check_inputs.ensures.exact.0 refl);
-    canonical = c.in-Ok-check_canonical.ensures.exact.0 refl;
   }),
   (λ _. refl),
 )
 
-pub returns-in-Ok-check_canonical-clause-top : goal.returns-in-Ok-check_canonical-clause-top
-returns-in-Ok-check_canonical-clause-top g c =
+pub returns-in-Ok-check_inputs-clause-top : goal.returns-in-Ok-check_inputs-clause-top
+returns-in-Ok-check_inputs-clause-top g c =
     let p = parameters_of c.args.params.now in
     let claims = claims_of (λ d. d.log_size) c.args.claims.now in
     let two_adicity = g.F.TwoAdicField.TWO_ADICITY in

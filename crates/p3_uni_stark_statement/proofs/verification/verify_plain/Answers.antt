@@ -3,8 +3,8 @@ use Rattle.algebra.specs.Nested.{lists}
 use Rattle.p3_uni_stark_statement.proofs.Accepted.{accepted_of, refused_of}
 use Rattle.p3_uni_stark_statement.proofs.verification.verify_plain.Goals as goal
 
-pub returns-in-Ok-verify : goal.returns-in-Ok-verify
-returns-in-Ok-verify g c =
+pub returns-in-Ok-verify-clause-accepted : goal.returns-in-Ok-verify-clause-accepted
+returns-in-Ok-verify-clause-accepted g c =
     let canonical = g.F.PrimeField64.canonical in
     accepted_of canonical _ _ _ _ _ _ _ c.in-Ok-verify.ensures.exactly
     (c.in-Ok-verify.ensures.state refl)
@@ -17,8 +17,8 @@ returns-in-Ok-verify g c =
           ∙ c.in-Ok-values.ensures.numbers;
     })
 
-pub returns : goal.returns
-returns g c =
+pub returns-clause-refused : goal.returns-clause-refused
+returns-clause-refused g c =
     let canonical = g.F.PrimeField64.canonical in
     refused_of canonical _ _ _ _ _ _ c.in-Err-verify.refusal
     c.in-Err-verify.ensures.exactly c.in-Err-verify.ensures.stands

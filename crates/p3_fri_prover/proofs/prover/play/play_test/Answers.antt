@@ -26,7 +26,7 @@ fields_at g = record {
 
 pub play-requires-clause-rounds_left : goal.play-requires-clause-rounds_left
 play-requires-clause-rounds_left g c =
-    these_rounds_left g.EF.ExtensionField.DIMENSION (fri_shape c.args.shape)
+    these_rounds_left g.EF.ExtensionField.DIMENSION (fri_shape c.args.planned.shape)
     (fri_shape c.start-transcript.result.shape) (length c.args.log_arities.now) _
     c.start-transcript.ensures.starts.shape (ap length c.requires.described.schedule)
     (c.start-transcript.ensures.steps ∙ c.requires.turns)
@@ -44,9 +44,9 @@ returns-in-Ok-clause-played g c = λ top whole.
     played.rounds.witnesses.items played.rounds.prover_data.items played.final_poly.items
     played.query_witness played.indices.items after in
     let seeded = bytes_observed g.F.Field.ops g.C.CanObserve-1.observed c.args.challenger.now
-    (seed_bytes c.args.seed) in
-    subst (P (fri_shape c.args.shape) seeded) (search rules)
-    (subst (λ before. P (fri_shape c.args.shape) before (state_of c.play.new.transcript))
+    (seed_bytes c.args.planned.seed) in
+    subst (P (fri_shape c.args.planned.shape) seeded) (search rules)
+    (subst (λ before. P (fri_shape c.args.planned.shape) before (state_of c.play.new.transcript))
     c.start-transcript.ensures.starts.state
     (subst (λ n. P n (state_of c.start-transcript.result) (state_of c.play.new.transcript))
     c.start-transcript.ensures.starts.shape (c.in-Ok.ensures.played top whole)))

@@ -7,7 +7,7 @@ use Rattle.p3_fri_prover.proofs.prover.prove.open_at_indices.Goals as goal
 
 pub open_inputs-requires-clause-positions : goal.open_inputs-requires-clause-positions
 open_inputs-requires-clause-positions g c =
-    subst (All (λ q. q < 2 ^ c.args.log_global_max_height))
+    subst (All (λ q. q < 2 ^ c.args.queried.now.log_global_max_height))
     (sym (c.deref.ensures.value ∙ c.in_ok-positions.ensures)) c.requires.positions
 
 pub answer_queries-requires-clause-openable : goal.answer_queries-requires-clause-openable
@@ -21,10 +21,10 @@ answer_queries-requires-clause-openable g c =
 pub returns-clause-inputs_opened : goal.returns-clause-inputs_opened
 returns-clause-inputs_opened g c =
     subst (λ qs. AllZip (λ datum o. OpensBatch (g.InputMmcs.Mmcs.opens c.args.input_mmcs.now)
-    c.args.log_global_max_height qs (g.InputMmcs.Mmcs.committed datum.prover_data.now)
+    c.args.queried.now.log_global_max_height qs (g.InputMmcs.Mmcs.committed datum.prover_data.now)
     (g.InputMmcs.Mmcs.commitment_of datum.prover_data.now)
     (record { rows = nested o.opened_values.items; path = o.opening_proof }))
-    c.args.data_with_points.now c.in_ok-input_openings.input_openings.items)
+    c.args.queried.now.data_with_points.now c.in_ok-input_openings.input_openings.items)
     (c.deref.ensures.value ∙ c.in_ok-positions.ensures) c.in_ok-input_openings.ensures
 
 pub returns-clause-rounds_opened : goal.returns-clause-rounds_opened

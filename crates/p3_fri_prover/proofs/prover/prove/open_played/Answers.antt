@@ -8,8 +8,9 @@ use Rattle.p3_fri_prover.proofs.prover.prove.open_played.Goals as goal
 
 pub open_at_indices-requires-clause-positions : goal.open_at_indices-requires-clause-positions
 open_at_indices-requires-clause-positions g c =
-    subst (λ is. All (λ q. q < 2 ^ c.args.log_global_max_height)
-    (map (λ i. i / 2 ^ c.args.extra_bits) is)) (sym c.deref.ensures.value) c.requires.positions
+    subst (λ is. All (λ q. q < 2 ^ c.args.queried.now.log_global_max_height)
+    (map (λ i. i / 2 ^ c.args.queried.now.extra_bits) is)) (sym c.deref.ensures.value)
+    c.requires.positions
 
 pub open_at_indices-requires-clause-data_for_each :
     goal.open_at_indices-requires-clause-data_for_each
@@ -21,7 +22,7 @@ open_at_indices-requires-clause-openable g c =
     let arities = c.args.log_arities.now in
     let P : List ℕ → List g.row.M-ProverData.Denot → Type 0 = λ is kept.
     (k : ℕ) (datum : g.row.M-ProverData.Denot) → k < length arities
-    → IsOpenable arities (map (λ i. i / 2 ^ c.args.extra_bits) is) k
+    → IsOpenable arities (map (λ i. i / 2 ^ c.args.queried.now.extra_bits) is) k
     (g.M.Mmcs.committed (get_or kept k datum)) in
     subst (P c.deref.result.now) (sym c.deref-2.ensures.value)
     (subst (λ is. P is c.args.played.rounds.prover_data.items) (sym c.deref.ensures.value)
@@ -30,11 +31,11 @@ open_at_indices-requires-clause-openable g c =
 pub returns-clause-inputs_opened : goal.returns-clause-inputs_opened
 returns-clause-inputs_opened g c =
     subst (λ is. AllZip (λ datum o. OpensBatch (g.InputMmcs.Mmcs.opens c.args.input_mmcs.now)
-    c.args.log_global_max_height (map (λ i. i / 2 ^ c.args.extra_bits) is)
+    c.args.queried.now.log_global_max_height (map (λ i. i / 2 ^ c.args.queried.now.extra_bits) is)
     (g.InputMmcs.Mmcs.committed datum.prover_data.now)
     (g.InputMmcs.Mmcs.commitment_of datum.prover_data.now)
     (record { rows = nested o.opened_values.items; path = o.opening_proof }))
-    c.args.data_with_points.now c.in_ok-input_openings.input_openings.items)
+    c.args.queried.now.data_with_points.now c.in_ok-input_openings.input_openings.items)
     c.deref.ensures.value c.in_ok-input_openings.ensures.inputs_opened
 
 pub returns-clause-rounds_opened : goal.returns-clause-rounds_opened
@@ -44,7 +45,7 @@ returns-clause-rounds_opened g c = λ k o datum matrix l only.
     let openings = opened.commit_phase_openings.items in
     let P : List ℕ → List g.row.M-ProverData.Denot → Type 0 = λ is xs.
     OpensRows (g.M.Mmcs.opens c.args.params.now.mmcs) (get_or arities k 0) matrix
-    (map (λ q. index_into arities q k) (map (λ i. i / 2 ^ c.args.extra_bits) is))
+    (map (λ q. index_into arities q k) (map (λ i. i / 2 ^ c.args.queried.now.extra_bits) is))
     (g.M.Mmcs.commitment_of (get_or xs k datum))
     (lists (get_or openings k o).sibling_values.items) (get_or openings k o).opening_proof in
     subst (P c.args.played.indices.items) c.deref-2.ensures.value

@@ -53,7 +53,7 @@ setting_at g folding mmcs input_mmcs = record {
 planned : (g : Over) (c : In-Ok g) {arities : List ℕ} → arities ≡ c.in-Ok.plan.log_arities.items
     → IsPlan (parameters_of c.args.params.now) c.args.log_global_max_height
     c.extra_query_index_bits-extra_bits.result (lists c.args.inputs.items) arities
-    (fri_shape c.in-Ok.plan.shape)
+    (fri_shape c.in-Ok.plan.transcript.shape)
 planned g c are_arities =
     let seen : (heights : List ℕ) → HaveHeights heights (lists c.args.inputs.items)
     → HaveHeights heights (lists c.deref.result.now) =
@@ -71,10 +71,10 @@ played : (g : Over) (c : In-Ok-test g)
     → let s = setting_at g c.args.folding.now c.args.params.now.mmcs c.args.input_mmcs.now in
     let found = c.in-Ok-test.played in
     IsPlayed g.M.Mmcs.committed g.M.Mmcs.commitment_of s.fields s.fold s.moves
-    c.args.params.now.log_final_poly_len (fri_shape c.in-Ok.plan.shape)
+    c.args.params.now.log_final_poly_len (fri_shape c.in-Ok.plan.transcript.shape)
     c.args.log_global_max_height (lists c.args.inputs.items)
     (bytes_observed s.fields.base s.moves.observe_value c.args.challenger.now
-    (seed_bytes c.in-Ok.plan.seed)) g.C.GrindingChallenger.solution found.rounds.commitments.items found.rounds.witnesses.items
+    (seed_bytes c.in-Ok.plan.transcript.seed)) g.C.GrindingChallenger.solution found.rounds.commitments.items found.rounds.witnesses.items
     found.rounds.prover_data.items found.final_poly.items found.query_witness found.indices.items
     c.play_test-test.new.challenger
 played g c =
@@ -200,8 +200,8 @@ returns-in-Err-test-clause-refused g c = λ heights have.
     g.M.Mmcs.committed g.M.Mmcs.commitment_of (parameters_of c.args.params.now) heights top
     (lists c.args.inputs.items) c.args.challenger.now g.C.GrindingChallenger.solution
     c.extra_query_index_bits-extra_bits.result
-    c.extra_query_index_bits-extra_bits.ensures (fri_shape c.in-Ok.plan.shape)
-    (plan.described heights have) (seed_bytes c.in-Ok.plan.seed) c.in-Ok.ensures.stream
+    c.extra_query_index_bits-extra_bits.ensures (fri_shape c.in-Ok.plan.transcript.shape)
+    (plan.described heights have) (seed_bytes c.in-Ok.plan.transcript.seed) c.in-Ok.ensures.stream
     c.in-Err-test.refusal
     (c.in-Err-test.ensures.refused top (first_input_length c.requires.inputs))
     (plan.tall heights have)
@@ -215,8 +215,8 @@ returns-in-Err-test-clause-unmoved g c = λ for_height.
     g.M.Mmcs.committed g.M.Mmcs.commitment_of (parameters_of c.args.params.now) plan.are.heights top
     (lists c.args.inputs.items) c.args.challenger.now g.C.GrindingChallenger.solution
     c.extra_query_index_bits-extra_bits.result
-    c.extra_query_index_bits-extra_bits.ensures (fri_shape c.in-Ok.plan.shape) (is_numbers plan)
-    (seed_bytes c.in-Ok.plan.seed) c.in-Ok.ensures.stream c.in-Err-test.refusal
+    c.extra_query_index_bits-extra_bits.ensures (fri_shape c.in-Ok.plan.transcript.shape) (is_numbers plan)
+    (seed_bytes c.in-Ok.plan.transcript.seed) c.in-Ok.ensures.stream c.in-Err-test.refusal
     (c.in-Err-test.ensures.refused top (first_input_length c.requires.inputs)) for_height)
 
 pub open_played-opened-requires-clause-extra_bits_below_64 :
