@@ -31,13 +31,19 @@ pub(crate) fn butterflies<F: Field, EF: ExtensionField<F>>(
     }
 }
 
+/// The twiddles of a block in two layers: the first layer's, and those that the second one has for
+/// the sums and for the differences of the first.
+pub(crate) struct Twiddles<F> {
+    pub(crate) twiddle: F,
+    pub(crate) even: F,
+    pub(crate) odd: F,
+}
+
 /// Two layers in one pass: the first with `twiddle`, and then on its sums with `even`, which gives
 /// `first` and `third`, and on its differences with `odd`, which gives `second` and `fourth`.
 pub(crate) fn double_butterflies<F: Field, EF: ExtensionField<F>>(
     block: &[EF],
-    twiddle: F,
-    even: F,
-    odd: F,
+    twiddles: Twiddles<F>,
     first: &mut [EF],
     second: &mut [EF],
     third: &mut [EF],
@@ -49,20 +55,21 @@ pub(crate) fn double_butterflies<F: Field, EF: ExtensionField<F>>(
     requires third { length third.old ≡ length first.old }
     requires fourth { length fourth.old ≡ length first.old }
     ensures first { (j : ℕ) (d : EF) → j < length first.old → entry first.new d j
-        ≡ sum_of_sums EF.ops (entry block.now d) (EF.lift twiddle) (EF.lift even)
-        (length first.old) j }
+        ≡ sum_of_sums EF.ops (entry block.now d) (EF.lift twiddles.twiddle)
+        (EF.lift twiddles.even) (length first.old) j }
     ensures second { (j : ℕ) (d : EF) → j < length first.old → entry second.new d j
-        ≡ sum_of_differences EF.ops (entry block.now d) (EF.lift twiddle) (EF.lift odd)
-        (length first.old) j }
+        ≡ sum_of_differences EF.ops (entry block.now d) (EF.lift twiddles.twiddle)
+        (EF.lift twiddles.odd) (length first.old) j }
     ensures third { (j : ℕ) (d : EF) → j < length first.old → entry third.new d j
-        ≡ difference_of_sums EF.ops (entry block.now d) (EF.lift twiddle) (EF.lift even)
-        (length first.old) j }
+        ≡ difference_of_sums EF.ops (entry block.now d) (EF.lift twiddles.twiddle)
+        (EF.lift twiddles.even) (length first.old) j }
     ensures fourth { (j : ℕ) (d : EF) → j < length first.old → entry fourth.new d j
-        ≡ difference_of_differences EF.ops (entry block.now d) (EF.lift twiddle) (EF.lift odd)
-        (length first.old) j }
+        ≡ difference_of_differences EF.ops (entry block.now d) (EF.lift twiddles.twiddle)
+        (EF.lift twiddles.odd) (length first.old) j }
 {
     let quarter = first.len();
     let half = quarter + quarter;
+    let Twiddles { twiddle, even, odd } = twiddles;
     let (twiddle, even, odd) = (twiddle.prepare(), even.prepare(), odd.prepare());
     for j in 0..quarter {
         let product = block[j + half].scale_prepared(twiddle);

@@ -9,7 +9,7 @@ ghost use Rattle.p3_dft.specs.Butterflies.{sum_of_differences, difference_of_dif
 ghost use Rattle.p3_dft.specs.Strided.{AfterLayers};
 
 use crate::blocks::block;
-use crate::butterflies::{butterflies, double_butterflies};
+use crate::butterflies::{Twiddles, butterflies, double_butterflies};
 use p3_field_core::{ExtensionField, Field};
 
 /// One layer: block `m` of the source, with the twiddle at `m * stride`, gives block `m` of the
@@ -46,58 +46,77 @@ fn layer<F: Field, EF: ExtensionField<F>>(
     }
 }
 
-/// Two layers in one pass over memory: block `m` of the source gives block `m` of each target. The
-/// second layer has the twiddles at multiples of `stride`, the first every other one of them.
-fn two_layers_apart<F: Field, EF: ExtensionField<F>>(
-    source: &[EF],
-    twiddles: &[F],
+/// Where two layers find what is theirs: `blocks` blocks of four times `quarter` entries, and the
+/// second layer's twiddles at multiples of `stride`.
+struct Places {
     stride: usize,
     blocks: usize,
     quarter: usize,
+}
+
+/// Two layers in one pass over memory: block `m` of the source gives block `m` of each target. The
+/// second layer has the twiddles at multiples of the stride, the first every other one of them.
+fn two_layers_apart<F: Field, EF: ExtensionField<F>>(
+    source: &[EF],
+    twiddles: &[F],
+    places: Places,
     first: &mut [EF],
     second: &mut [EF],
     third: &mut [EF],
     fourth: &mut [EF],
 )
-    requires few { blocks < 2 ^ 63 }
-    requires source { length source.now ≡ blocks * (quarter + quarter + (quarter + quarter)) }
-    requires twiddles { (m : ℕ) → m < blocks + blocks → m * stride < length twiddles.now }
-    requires first { length first.old ≡ blocks * quarter }
-    requires second { length second.old ≡ blocks * quarter }
-    requires third { length third.old ≡ blocks * quarter }
-    requires fourth { length fourth.old ≡ blocks * quarter }
-    ensures first { (m j : ℕ) (d : EF) (e : F) → m < blocks → j < quarter
-        → block_entry first.new quarter d m j
+    requires few { places.blocks < 2 ^ 63 }
+    requires source { length source.now
+        ≡ places.blocks * (places.quarter + places.quarter + (places.quarter + places.quarter)) }
+    requires twiddles { (m : ℕ) → m < places.blocks + places.blocks
+        → m * places.stride < length twiddles.now }
+    requires first { length first.old ≡ places.blocks * places.quarter }
+    requires second { length second.old ≡ places.blocks * places.quarter }
+    requires third { length third.old ≡ places.blocks * places.quarter }
+    requires fourth { length fourth.old ≡ places.blocks * places.quarter }
+    ensures first { (m j : ℕ) (d : EF) (e : F) → m < places.blocks → j < places.quarter
+        → block_entry first.new places.quarter d m j
         ≡ sum_of_sums EF.ops
-        (block_entry source.now (quarter + quarter + (quarter + quarter)) d m)
-        (EF.lift (entry twiddles.now e ((m + m) * stride)))
-        (EF.lift (entry twiddles.now e (m * stride))) quarter j }
-    ensures second { (m j : ℕ) (d : EF) (e : F) → m < blocks → j < quarter
-        → block_entry second.new quarter d m j
+        (block_entry source.now
+        (places.quarter + places.quarter + (places.quarter + places.quarter)) d m)
+        (EF.lift (entry twiddles.now e ((m + m) * places.stride)))
+        (EF.lift (entry twiddles.now e (m * places.stride))) places.quarter j }
+    ensures second { (m j : ℕ) (d : EF) (e : F) → m < places.blocks → j < places.quarter
+        → block_entry second.new places.quarter d m j
         ≡ sum_of_differences EF.ops
-        (block_entry source.now (quarter + quarter + (quarter + quarter)) d m)
-        (EF.lift (entry twiddles.now e ((m + m) * stride)))
-        (EF.lift (entry twiddles.now e ((blocks + m) * stride))) quarter j }
-    ensures third { (m j : ℕ) (d : EF) (e : F) → m < blocks → j < quarter
-        → block_entry third.new quarter d m j
+        (block_entry source.now
+        (places.quarter + places.quarter + (places.quarter + places.quarter)) d m)
+        (EF.lift (entry twiddles.now e ((m + m) * places.stride)))
+        (EF.lift (entry twiddles.now e ((places.blocks + m) * places.stride))) places.quarter j }
+    ensures third { (m j : ℕ) (d : EF) (e : F) → m < places.blocks → j < places.quarter
+        → block_entry third.new places.quarter d m j
         ≡ difference_of_sums EF.ops
-        (block_entry source.now (quarter + quarter + (quarter + quarter)) d m)
-        (EF.lift (entry twiddles.now e ((m + m) * stride)))
-        (EF.lift (entry twiddles.now e (m * stride))) quarter j }
-    ensures fourth { (m j : ℕ) (d : EF) (e : F) → m < blocks → j < quarter
-        → block_entry fourth.new quarter d m j
+        (block_entry source.now
+        (places.quarter + places.quarter + (places.quarter + places.quarter)) d m)
+        (EF.lift (entry twiddles.now e ((m + m) * places.stride)))
+        (EF.lift (entry twiddles.now e (m * places.stride))) places.quarter j }
+    ensures fourth { (m j : ℕ) (d : EF) (e : F) → m < places.blocks → j < places.quarter
+        → block_entry fourth.new places.quarter d m j
         ≡ difference_of_differences EF.ops
-        (block_entry source.now (quarter + quarter + (quarter + quarter)) d m)
-        (EF.lift (entry twiddles.now e ((m + m) * stride)))
-        (EF.lift (entry twiddles.now e ((blocks + m) * stride))) quarter j }
+        (block_entry source.now
+        (places.quarter + places.quarter + (places.quarter + places.quarter)) d m)
+        (EF.lift (entry twiddles.now e ((m + m) * places.stride)))
+        (EF.lift (entry twiddles.now e ((places.blocks + m) * places.stride))) places.quarter j }
 {
+    let Places {
+        stride,
+        blocks,
+        quarter,
+    } = places;
     for m in 0..blocks {
         let to = m * quarter;
         double_butterflies(
             block(source, quarter + quarter + (quarter + quarter), m),
-            twiddles[(m + m) * stride],
-            twiddles[m * stride],
-            twiddles[(blocks + m) * stride],
+            Twiddles {
+                twiddle: twiddles[(m + m) * stride],
+                even: twiddles[m * stride],
+                odd: twiddles[(blocks + m) * stride],
+            },
             &mut first[to..to + quarter],
             &mut second[to..to + quarter],
             &mut third[to..to + quarter],
@@ -148,9 +167,12 @@ fn two_layers<F: Field, EF: ExtensionField<F>>(
     let (sums, differences) = target.split_at_mut(size + size);
     let (first, second) = sums.split_at_mut(size);
     let (third, fourth) = differences.split_at_mut(size);
-    two_layers_apart(
-        source, twiddles, stride, blocks, quarter, first, second, third, fourth,
-    );
+    let places = Places {
+        stride,
+        blocks,
+        quarter,
+    };
+    two_layers_apart(source, twiddles, places, first, second, third, fourth);
 }
 
 /// After `done` of `log_height` layers over rows of `width` entries: the next one where an odd

@@ -22,6 +22,14 @@ use p3_field_core::{Field, TwoAdicField, TwoAdicMultiplicativeCoset, log2_strict
 use p3_matrix::RowMajorMatrix;
 use std::alloc::{AllocError, Global};
 
+/// How many rows columns of one length have to do with: `2^log_rows` those of the trace,
+/// `2^log_period` their own, and `height` those of the table.
+struct RowCounts {
+    log_rows: usize,
+    log_period: usize,
+    height: usize,
+}
+
 /// Writes the values of the columns of `2^log_period` entries, along a trace of `2^log_rows` rows,
 /// to a table of `height` rows. If there are any, one transform extends them all: the power of the
 /// domain's points that leads to the columns' own domain is a coset of that many times as many
@@ -30,19 +38,22 @@ fn write_columns<F: TwoAdicField, Dft: TwoAdicSubgroupDft<F>>(
     alloc: Global,
     dft: &Dft,
     columns: &[Vec<F>],
-    log_rows: usize,
     lde_domain: &TwoAdicMultiplicativeCoset<F>,
-    log_period: usize,
-    height: usize,
+    counts: RowCounts,
     table: &mut [F],
 ) -> Result<(), AllocError>
-    requires period { log_period ≤ log_rows }
-    requires larger { log_rows ≤ lde_domain.now.log_size }
-    requires table { length table.old ≡ height * length columns.now }
-    ensures { OnOk result (MeetColumns F.ops F.root log_rows
+    requires period { counts.log_period ≤ counts.log_rows }
+    requires larger { counts.log_rows ≤ lde_domain.now.log_size }
+    requires table { length table.old ≡ counts.height * length columns.now }
+    ensures { OnOk result (MeetColumns F.ops F.root counts.log_rows
         (coset_point F.ops (F.root lde_domain.now.log_size) lde_domain.now.shift)
-        (lists columns.now) height (2 ^ log_period) table.old table.new) }
+        (lists columns.now) counts.height (2 ^ counts.log_period) table.old table.new) }
 {
+    let RowCounts {
+        log_rows,
+        log_period,
+        height,
+    } = counts;
     let places = places_of_period(alloc, columns, 1 << log_period)?;
     if places.is_empty() {
         return Ok(());
@@ -82,9 +93,12 @@ fn table_values<F: TwoAdicField, Dft: TwoAdicSubgroupDft<F>>(
     };
     let mut table = vec![in alloc; F::ZERO; size]?;
     for log_period in 0..log_greatest + 1 {
-        write_columns(
-            alloc, dft, columns, log_rows, lde_domain, log_period, height, &mut table,
-        )?;
+        let counts = RowCounts {
+            log_rows,
+            log_period,
+            height,
+        };
+        write_columns(alloc, dft, columns, lde_domain, counts, &mut table)?;
     }
     Ok(table)
 }

@@ -6,9 +6,9 @@ use Rattle.p3_dft.proofs.butterflies.double_butterflies.Given as goal
 abbrev pub invariant-loop-j : goal.invariant-loop-j
 invariant-loop-j g l =
     let K = g.EF.Field.ops in
-    let t = g.EF.ExtensionField.lift l.fn.twiddle in
-    let u = g.EF.ExtensionField.lift l.fn.even in
-    let v = g.EF.ExtensionField.lift l.fn.odd in
+    let t = g.EF.ExtensionField.lift l.fn.twiddles.twiddle in
+    let u = g.EF.ExtensionField.lift l.fn.twiddles.even in
+    let v = g.EF.ExtensionField.lift l.fn.twiddles.odd in
     let q = l.quarter in
     record {
       first : (j : ℕ) (d : g.row.EF.Denot) → j < l.j → entry l.first d j ≡ sum_of_sums K (entry l.block d) t u q j;

@@ -14,8 +14,8 @@ use Rattle.p3_dft.proofs.layers.two_layers_apart.Goals as goal
 
 pub block-requires : goal.block-requires
 block-requires g c =
-    let size = c.args.quarter + c.args.quarter + (c.args.quarter + c.args.quarter) in
-    omega (arith, row_fits c.loop-m.m size c.args.blocks size c.loop-m-test.true (omega arith))
+    let size = c.args.places.quarter + c.args.places.quarter + (c.args.places.quarter + c.args.places.quarter) in
+    omega (arith, row_fits c.loop-m.m size c.args.places.blocks size c.loop-m-test.true (omega arith))
 
 pub loop-m-preserved : goal.loop-m-preserved
 loop-m-preserved g c =
@@ -24,9 +24,9 @@ loop-m-preserved g c =
     let K = g.EF.Field.ops in
     let lift = g.EF.ExtensionField.lift in
     let i = c.loop-m.m in
-    let n = c.args.blocks in
-    let q = c.args.quarter in
-    let s = c.args.stride in
+    let n = c.args.places.blocks in
+    let q = c.args.places.quarter in
+    let s = c.args.places.stride in
     let xs = c.args.source.now in
     let ts = c.args.twiddles.now in
     let size = q + q + (q + q) in
@@ -80,43 +80,43 @@ loop-m-preserved g c =
 
 pub overflow_mul-to : goal.overflow_mul-to
 overflow_mul-to g c =
-    omega (arith, row_fits c.loop-m.m c.args.quarter c.args.blocks c.args.quarter c.loop-m-test.true (omega arith))
+    omega (arith, row_fits c.loop-m.m c.args.places.quarter c.args.places.blocks c.args.places.quarter c.loop-m-test.true (omega arith))
 
 pub overflow_add-to : goal.overflow_add-to
 overflow_add-to g c =
-    omega (arith, row_fits c.loop-m.m c.args.quarter c.args.blocks c.args.quarter c.loop-m-test.true (omega arith))
+    omega (arith, row_fits c.loop-m.m c.args.places.quarter c.args.places.blocks c.args.places.quarter c.loop-m-test.true (omega arith))
 
 pub overflow_add-to-in-loop-m : goal.overflow_add-to-in-loop-m
 overflow_add-to-in-loop-m g c =
-    omega (arith, row_fits c.loop-m.m c.args.quarter c.args.blocks c.args.quarter c.loop-m-test.true (omega arith))
+    omega (arith, row_fits c.loop-m.m c.args.places.quarter c.args.places.blocks c.args.places.quarter c.loop-m-test.true (omega arith))
 
 pub overflow_add-to-in-loop-m-2 : goal.overflow_add-to-in-loop-m-2
 overflow_add-to-in-loop-m-2 g c =
-    omega (arith, row_fits c.loop-m.m c.args.quarter c.args.blocks c.args.quarter c.loop-m-test.true (omega arith))
+    omega (arith, row_fits c.loop-m.m c.args.places.quarter c.args.places.blocks c.args.places.quarter c.loop-m-test.true (omega arith))
 
 pub overflow_add-to-in-loop-m-3 : goal.overflow_add-to-in-loop-m-3
 overflow_add-to-in-loop-m-3 g c =
-    omega (arith, row_fits c.loop-m.m c.args.quarter c.args.blocks c.args.quarter c.loop-m-test.true (omega arith))
+    omega (arith, row_fits c.loop-m.m c.args.places.quarter c.args.places.blocks c.args.places.quarter c.loop-m-test.true (omega arith))
 
 pub offset_bounds-first-to : goal.offset_bounds-first-to
 offset_bounds-first-to g c =
     bytes_fit _ (length c.loop-m.first) _
-    (omega (arith, row_fits c.loop-m.m c.args.quarter c.args.blocks c.args.quarter c.loop-m-test.true (omega arith))) (search rules)
+    (omega (arith, row_fits c.loop-m.m c.args.places.quarter c.args.places.blocks c.args.places.quarter c.loop-m-test.true (omega arith))) (search rules)
 
 pub offset_bounds-second-to : goal.offset_bounds-second-to
 offset_bounds-second-to g c =
     bytes_fit _ (length c.loop-m.second) _
-    (omega (arith, row_fits c.loop-m.m c.args.quarter c.args.blocks c.args.quarter c.loop-m-test.true (omega arith))) (search rules)
+    (omega (arith, row_fits c.loop-m.m c.args.places.quarter c.args.places.blocks c.args.places.quarter c.loop-m-test.true (omega arith))) (search rules)
 
 pub offset_bounds-third-to : goal.offset_bounds-third-to
 offset_bounds-third-to g c =
     bytes_fit _ (length c.loop-m.third) _
-    (omega (arith, row_fits c.loop-m.m c.args.quarter c.args.blocks c.args.quarter c.loop-m-test.true (omega arith))) (search rules)
+    (omega (arith, row_fits c.loop-m.m c.args.places.quarter c.args.places.blocks c.args.places.quarter c.loop-m-test.true (omega arith))) (search rules)
 
 pub offset_bounds-fourth-to : goal.offset_bounds-fourth-to
 offset_bounds-fourth-to g c =
     bytes_fit _ (length c.loop-m.fourth) _
-    (omega (arith, row_fits c.loop-m.m c.args.quarter c.args.blocks c.args.quarter c.loop-m-test.true (omega arith))) (search rules)
+    (omega (arith, row_fits c.loop-m.m c.args.places.quarter c.args.places.blocks c.args.places.quarter c.loop-m-test.true (omega arith))) (search rules)
 
 pub loop-m-init : goal.loop-m-init
 loop-m-init g c =
@@ -124,141 +124,141 @@ loop-m-init g c =
 
 pub overflow_add-quarter : goal.overflow_add-quarter
 overflow_add-quarter g c =
-    omega (arith, block_within c.args.source.now c.args.source.now c.loop-m.m c.args.blocks (c.args.quarter + c.args.quarter + (c.args.quarter + c.args.quarter)) refl c.requires.source c.loop-m-test.true)
+    omega (arith, block_within c.args.source.now c.args.source.now c.loop-m.m c.args.places.blocks (c.args.places.quarter + c.args.places.quarter + (c.args.places.quarter + c.args.places.quarter)) refl c.requires.source c.loop-m-test.true)
 
 pub overflow_add-quarter-in-loop-m : goal.overflow_add-quarter-in-loop-m
 overflow_add-quarter-in-loop-m g c =
-    omega (arith, block_within c.args.source.now c.args.source.now c.loop-m.m c.args.blocks (c.args.quarter + c.args.quarter + (c.args.quarter + c.args.quarter)) refl c.requires.source c.loop-m-test.true)
+    omega (arith, block_within c.args.source.now c.args.source.now c.loop-m.m c.args.places.blocks (c.args.places.quarter + c.args.places.quarter + (c.args.places.quarter + c.args.places.quarter)) refl c.requires.source c.loop-m-test.true)
 
 pub overflow_add-quarter-in-loop-m-2 : goal.overflow_add-quarter-in-loop-m-2
 overflow_add-quarter-in-loop-m-2 g c =
-    omega (arith, block_within c.args.source.now c.args.source.now c.loop-m.m c.args.blocks (c.args.quarter + c.args.quarter + (c.args.quarter + c.args.quarter)) refl c.requires.source c.loop-m-test.true)
+    omega (arith, block_within c.args.source.now c.args.source.now c.loop-m.m c.args.places.blocks (c.args.places.quarter + c.args.places.quarter + (c.args.places.quarter + c.args.places.quarter)) refl c.requires.source c.loop-m-test.true)
 
 pub overflow_add-m : goal.overflow_add-m
 overflow_add-m g c =
-    double_fits c.loop-m.m c.args.blocks c.loop-m-test.true c.requires.few
+    double_fits c.loop-m.m c.args.places.blocks c.loop-m-test.true c.requires.few
 
 pub overflow_add-blocks : goal.overflow_add-blocks
 overflow_add-blocks g c =
-    sum_fits c.loop-m.m c.args.blocks c.loop-m-test.true c.requires.few
+    sum_fits c.loop-m.m c.args.places.blocks c.loop-m-test.true c.requires.few
 
 pub overflow_mul-m : goal.overflow_mul-m
 overflow_mul-m g c =
-    omega (arith, c.requires.twiddles (c.loop-m.m + c.loop-m.m) (twice_below c.loop-m.m c.args.blocks c.loop-m-test.true))
+    omega (arith, c.requires.twiddles (c.loop-m.m + c.loop-m.m) (twice_below c.loop-m.m c.args.places.blocks c.loop-m-test.true))
 
 pub offset_bounds-twiddles-m : goal.offset_bounds-twiddles-m
 offset_bounds-twiddles-m g c =
-    less_at_most ((c.loop-m.m + c.loop-m.m) * c.args.stride) (length c.args.twiddles.now) (c.requires.twiddles (c.loop-m.m + c.loop-m.m) (twice_below c.loop-m.m c.args.blocks c.loop-m-test.true))
+    less_at_most ((c.loop-m.m + c.loop-m.m) * c.args.places.stride) (length c.args.twiddles.now) (c.requires.twiddles (c.loop-m.m + c.loop-m.m) (twice_below c.loop-m.m c.args.places.blocks c.loop-m-test.true))
 
 pub bounds-twiddles-m : goal.bounds-twiddles-m
 bounds-twiddles-m g c =
-    c.requires.twiddles (c.loop-m.m + c.loop-m.m) (twice_below c.loop-m.m c.args.blocks c.loop-m-test.true)
+    c.requires.twiddles (c.loop-m.m + c.loop-m.m) (twice_below c.loop-m.m c.args.places.blocks c.loop-m-test.true)
 
 pub overflow_mul-m-in-loop-m : goal.overflow_mul-m-in-loop-m
 overflow_mul-m-in-loop-m g c =
-    omega (arith, c.requires.twiddles c.loop-m.m (once_below c.loop-m.m c.args.blocks c.loop-m-test.true))
+    omega (arith, c.requires.twiddles c.loop-m.m (once_below c.loop-m.m c.args.places.blocks c.loop-m-test.true))
 
 pub offset_bounds-twiddles-m-in-loop-m : goal.offset_bounds-twiddles-m-in-loop-m
 offset_bounds-twiddles-m-in-loop-m g c =
-    less_at_most (c.loop-m.m * c.args.stride) (length c.args.twiddles.now) (c.requires.twiddles c.loop-m.m (once_below c.loop-m.m c.args.blocks c.loop-m-test.true))
+    less_at_most (c.loop-m.m * c.args.places.stride) (length c.args.twiddles.now) (c.requires.twiddles c.loop-m.m (once_below c.loop-m.m c.args.places.blocks c.loop-m-test.true))
 
 pub bounds-twiddles-m-in-loop-m : goal.bounds-twiddles-m-in-loop-m
 bounds-twiddles-m-in-loop-m g c =
-    c.requires.twiddles c.loop-m.m (once_below c.loop-m.m c.args.blocks c.loop-m-test.true)
+    c.requires.twiddles c.loop-m.m (once_below c.loop-m.m c.args.places.blocks c.loop-m-test.true)
 
 pub overflow_mul-blocks : goal.overflow_mul-blocks
 overflow_mul-blocks g c =
-    omega (arith, c.requires.twiddles (c.args.blocks + c.loop-m.m) (past_below c.loop-m.m c.args.blocks c.loop-m-test.true))
+    omega (arith, c.requires.twiddles (c.args.places.blocks + c.loop-m.m) (past_below c.loop-m.m c.args.places.blocks c.loop-m-test.true))
 
 pub offset_bounds-twiddles-blocks : goal.offset_bounds-twiddles-blocks
 offset_bounds-twiddles-blocks g c =
-    less_at_most ((c.args.blocks + c.loop-m.m) * c.args.stride) (length c.args.twiddles.now) (c.requires.twiddles (c.args.blocks + c.loop-m.m) (past_below c.loop-m.m c.args.blocks c.loop-m-test.true))
+    less_at_most ((c.args.places.blocks + c.loop-m.m) * c.args.places.stride) (length c.args.twiddles.now) (c.requires.twiddles (c.args.places.blocks + c.loop-m.m) (past_below c.loop-m.m c.args.places.blocks c.loop-m-test.true))
 
 pub bounds-twiddles-blocks : goal.bounds-twiddles-blocks
 bounds-twiddles-blocks g c =
-    c.requires.twiddles (c.args.blocks + c.loop-m.m) (past_below c.loop-m.m c.args.blocks c.loop-m-test.true)
+    c.requires.twiddles (c.args.places.blocks + c.loop-m.m) (past_below c.loop-m.m c.args.places.blocks c.loop-m-test.true)
 
 pub slice_bounds-double_butterflies-count : goal.slice_bounds-double_butterflies-count
 slice_bounds-double_butterflies-count g c =
-    starts_within (c.loop-m.m * c.args.quarter) c.args.quarter
+    starts_within (c.loop-m.m * c.args.places.quarter) c.args.places.quarter
 
 pub slice_bounds-double_butterflies-start : goal.slice_bounds-double_butterflies-start
 slice_bounds-double_butterflies-start g c =
-    starts_within (c.loop-m.m * c.args.quarter) c.args.quarter
+    starts_within (c.loop-m.m * c.args.places.quarter) c.args.places.quarter
 
 pub slice_bounds-double_butterflies-end : goal.slice_bounds-double_butterflies-end
 slice_bounds-double_butterflies-end g c =
-    block_within c.loop-m.first c.args.first.now c.loop-m.m c.args.blocks c.args.quarter c.loop-m.auto.first c.requires.first c.loop-m-test.true
+    block_within c.loop-m.first c.args.first.now c.loop-m.m c.args.places.blocks c.args.places.quarter c.loop-m.auto.first c.requires.first c.loop-m-test.true
 
 pub slice_bounds-double_butterflies-count-in-loop-m : goal.slice_bounds-double_butterflies-count-in-loop-m
 slice_bounds-double_butterflies-count-in-loop-m g c =
-    starts_within (c.loop-m.m * c.args.quarter) c.args.quarter
+    starts_within (c.loop-m.m * c.args.places.quarter) c.args.places.quarter
 
 pub slice_bounds-double_butterflies-start-in-loop-m : goal.slice_bounds-double_butterflies-start-in-loop-m
 slice_bounds-double_butterflies-start-in-loop-m g c =
-    starts_within (c.loop-m.m * c.args.quarter) c.args.quarter
+    starts_within (c.loop-m.m * c.args.places.quarter) c.args.places.quarter
 
 pub slice_bounds-double_butterflies-end-in-loop-m : goal.slice_bounds-double_butterflies-end-in-loop-m
 slice_bounds-double_butterflies-end-in-loop-m g c =
-    block_within c.loop-m.second c.args.second.now c.loop-m.m c.args.blocks c.args.quarter c.loop-m.auto.second c.requires.second c.loop-m-test.true
+    block_within c.loop-m.second c.args.second.now c.loop-m.m c.args.places.blocks c.args.places.quarter c.loop-m.auto.second c.requires.second c.loop-m-test.true
 
 pub slice_bounds-double_butterflies-count-in-loop-m-2 : goal.slice_bounds-double_butterflies-count-in-loop-m-2
 slice_bounds-double_butterflies-count-in-loop-m-2 g c =
-    starts_within (c.loop-m.m * c.args.quarter) c.args.quarter
+    starts_within (c.loop-m.m * c.args.places.quarter) c.args.places.quarter
 
 pub slice_bounds-double_butterflies-start-in-loop-m-2 : goal.slice_bounds-double_butterflies-start-in-loop-m-2
 slice_bounds-double_butterflies-start-in-loop-m-2 g c =
-    starts_within (c.loop-m.m * c.args.quarter) c.args.quarter
+    starts_within (c.loop-m.m * c.args.places.quarter) c.args.places.quarter
 
 pub slice_bounds-double_butterflies-end-in-loop-m-2 : goal.slice_bounds-double_butterflies-end-in-loop-m-2
 slice_bounds-double_butterflies-end-in-loop-m-2 g c =
-    block_within c.loop-m.third c.args.third.now c.loop-m.m c.args.blocks c.args.quarter c.loop-m.auto.third c.requires.third c.loop-m-test.true
+    block_within c.loop-m.third c.args.third.now c.loop-m.m c.args.places.blocks c.args.places.quarter c.loop-m.auto.third c.requires.third c.loop-m-test.true
 
 pub slice_bounds-double_butterflies-count-in-loop-m-3 : goal.slice_bounds-double_butterflies-count-in-loop-m-3
 slice_bounds-double_butterflies-count-in-loop-m-3 g c =
-    starts_within (c.loop-m.m * c.args.quarter) c.args.quarter
+    starts_within (c.loop-m.m * c.args.places.quarter) c.args.places.quarter
 
 pub slice_bounds-double_butterflies-start-in-loop-m-3 : goal.slice_bounds-double_butterflies-start-in-loop-m-3
 slice_bounds-double_butterflies-start-in-loop-m-3 g c =
-    starts_within (c.loop-m.m * c.args.quarter) c.args.quarter
+    starts_within (c.loop-m.m * c.args.places.quarter) c.args.places.quarter
 
 pub slice_bounds-double_butterflies-end-in-loop-m-3 : goal.slice_bounds-double_butterflies-end-in-loop-m-3
 slice_bounds-double_butterflies-end-in-loop-m-3 g c =
-    block_within c.loop-m.fourth c.args.fourth.now c.loop-m.m c.args.blocks c.args.quarter c.loop-m.auto.fourth c.requires.fourth c.loop-m-test.true
+    block_within c.loop-m.fourth c.args.fourth.now c.loop-m.m c.args.places.blocks c.args.places.quarter c.loop-m.auto.fourth c.requires.fourth c.loop-m-test.true
 
 pub double_butterflies-requires-clause-block : goal.double_butterflies-requires-clause-block
 double_butterflies-requires-clause-block g c =
-    four_quarters (length c.block.result.now) c.args.quarter
-    (ap length c.block.ensures ∙ length-block c.args.source.now c.loop-m.m (c.args.quarter + c.args.quarter + (c.args.quarter + c.args.quarter)) (block_within c.args.source.now c.args.source.now c.loop-m.m c.args.blocks (c.args.quarter + c.args.quarter + (c.args.quarter + c.args.quarter)) refl c.requires.source c.loop-m-test.true))
-    _ (length-block c.loop-m.first c.loop-m.m c.args.quarter (block_within c.loop-m.first c.args.first.now c.loop-m.m c.args.blocks c.args.quarter c.loop-m.auto.first c.requires.first c.loop-m-test.true))
+    four_quarters (length c.block.result.now) c.args.places.quarter
+    (ap length c.block.ensures ∙ length-block c.args.source.now c.loop-m.m (c.args.places.quarter + c.args.places.quarter + (c.args.places.quarter + c.args.places.quarter)) (block_within c.args.source.now c.args.source.now c.loop-m.m c.args.places.blocks (c.args.places.quarter + c.args.places.quarter + (c.args.places.quarter + c.args.places.quarter)) refl c.requires.source c.loop-m-test.true))
+    _ (length-block c.loop-m.first c.loop-m.m c.args.places.quarter (block_within c.loop-m.first c.args.first.now c.loop-m.m c.args.places.blocks c.args.places.quarter c.loop-m.auto.first c.requires.first c.loop-m-test.true))
 
 pub double_butterflies-requires-clause-second : goal.double_butterflies-requires-clause-second
 double_butterflies-requires-clause-second g c =
-    length-block c.loop-m.second c.loop-m.m c.args.quarter (block_within c.loop-m.second c.args.second.now c.loop-m.m c.args.blocks c.args.quarter c.loop-m.auto.second c.requires.second c.loop-m-test.true)
-    ∙ sym (length-block c.loop-m.first c.loop-m.m c.args.quarter (block_within c.loop-m.first c.args.first.now c.loop-m.m c.args.blocks c.args.quarter c.loop-m.auto.first c.requires.first c.loop-m-test.true))
+    length-block c.loop-m.second c.loop-m.m c.args.places.quarter (block_within c.loop-m.second c.args.second.now c.loop-m.m c.args.places.blocks c.args.places.quarter c.loop-m.auto.second c.requires.second c.loop-m-test.true)
+    ∙ sym (length-block c.loop-m.first c.loop-m.m c.args.places.quarter (block_within c.loop-m.first c.args.first.now c.loop-m.m c.args.places.blocks c.args.places.quarter c.loop-m.auto.first c.requires.first c.loop-m-test.true))
 
 pub double_butterflies-requires-clause-third : goal.double_butterflies-requires-clause-third
 double_butterflies-requires-clause-third g c =
-    length-block c.loop-m.third c.loop-m.m c.args.quarter (block_within c.loop-m.third c.args.third.now c.loop-m.m c.args.blocks c.args.quarter c.loop-m.auto.third c.requires.third c.loop-m-test.true)
-    ∙ sym (length-block c.loop-m.first c.loop-m.m c.args.quarter (block_within c.loop-m.first c.args.first.now c.loop-m.m c.args.blocks c.args.quarter c.loop-m.auto.first c.requires.first c.loop-m-test.true))
+    length-block c.loop-m.third c.loop-m.m c.args.places.quarter (block_within c.loop-m.third c.args.third.now c.loop-m.m c.args.places.blocks c.args.places.quarter c.loop-m.auto.third c.requires.third c.loop-m-test.true)
+    ∙ sym (length-block c.loop-m.first c.loop-m.m c.args.places.quarter (block_within c.loop-m.first c.args.first.now c.loop-m.m c.args.places.blocks c.args.places.quarter c.loop-m.auto.first c.requires.first c.loop-m-test.true))
 
 pub double_butterflies-requires-clause-fourth : goal.double_butterflies-requires-clause-fourth
 double_butterflies-requires-clause-fourth g c =
-    length-block c.loop-m.fourth c.loop-m.m c.args.quarter (block_within c.loop-m.fourth c.args.fourth.now c.loop-m.m c.args.blocks c.args.quarter c.loop-m.auto.fourth c.requires.fourth c.loop-m-test.true)
-    ∙ sym (length-block c.loop-m.first c.loop-m.m c.args.quarter (block_within c.loop-m.first c.args.first.now c.loop-m.m c.args.blocks c.args.quarter c.loop-m.auto.first c.requires.first c.loop-m-test.true))
+    length-block c.loop-m.fourth c.loop-m.m c.args.places.quarter (block_within c.loop-m.fourth c.args.fourth.now c.loop-m.m c.args.places.blocks c.args.places.quarter c.loop-m.auto.fourth c.requires.fourth c.loop-m-test.true)
+    ∙ sym (length-block c.loop-m.first c.loop-m.m c.args.places.quarter (block_within c.loop-m.first c.args.first.now c.loop-m.m c.args.places.blocks c.args.places.quarter c.loop-m.auto.first c.requires.first c.loop-m-test.true))
 
 pub returns-clause-first : goal.returns-clause-first
 returns-clause-first g c m j d e below inside =
-    c.loop-m.invariant.first m j d e (before_end m c.args.blocks c.loop-m.m below c.loop-m-test.false) inside
+    c.loop-m.invariant.first m j d e (before_end m c.args.places.blocks c.loop-m.m below c.loop-m-test.false) inside
 
 pub returns-clause-second : goal.returns-clause-second
 returns-clause-second g c m j d e below inside =
-    c.loop-m.invariant.second m j d e (before_end m c.args.blocks c.loop-m.m below c.loop-m-test.false) inside
+    c.loop-m.invariant.second m j d e (before_end m c.args.places.blocks c.loop-m.m below c.loop-m-test.false) inside
 
 pub returns-clause-third : goal.returns-clause-third
 returns-clause-third g c m j d e below inside =
-    c.loop-m.invariant.third m j d e (before_end m c.args.blocks c.loop-m.m below c.loop-m-test.false) inside
+    c.loop-m.invariant.third m j d e (before_end m c.args.places.blocks c.loop-m.m below c.loop-m-test.false) inside
 
 pub returns-clause-fourth : goal.returns-clause-fourth
 returns-clause-fourth g c m j d e below inside =
-    c.loop-m.invariant.fourth m j d e (before_end m c.args.blocks c.loop-m.m below c.loop-m-test.false) inside
+    c.loop-m.invariant.fourth m j d e (before_end m c.args.places.blocks c.loop-m.m below c.loop-m-test.false) inside

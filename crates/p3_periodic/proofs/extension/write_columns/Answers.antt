@@ -21,8 +21,8 @@ returns g c =
     let root = g.F.TwoAdicField.root in
     let top = g.F.TwoAdicField.TWO_ADICITY in
     let W = g.met.F.TwoAdicField.roots_law in
-    let n = c.args.log_rows in
-    let k = c.args.log_period in
+    let n = c.args.counts.log_rows in
+    let k = c.args.counts.log_period in
     let size = c.args.lde_domain.now.log_size in
     let shift = c.args.lde_domain.now.shift in
     let added = c.log_size.result - n in
@@ -55,7 +55,7 @@ returns g c =
     ∙ ap (λ (ps : List ℕ). 2 ^ (k + added) * length ps) same in
     let moved : power ≡ pow F shift (2 ^ (n - k)) = c.shift_to_period-shift.ensures in
     let target = table_entry F root n (coset_point F (root size) shift) cs in
-    columns_met F L top root W n added size shift whole within cs width wide bounded c.args.height
+    columns_met F L top root W n added size shift whole within cs width wide bounded c.args.counts.height
     (2 ^ k) places c.args.table.now c.write_rows.new.table found
     (c.write_rows.ensures target
     (λ i _. columns_belong F L top root W n added size shift whole within cs width wide bounded k
