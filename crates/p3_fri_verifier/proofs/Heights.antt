@@ -1,6 +1,6 @@
 -- The list of the log heights below a number, from both ends: beyond the greatest it grows no more, below the
 -- log blowup it has none; and what holds of each in it holds of each matrix's.
-use Rattle.std.proofs.Common.{◌≡◌, ℕ, zero, suc, ◌+◌, ◌<◌, ◌≤◌, inl, inr, List, get_or}
+use Rattle.std.proofs.Common.{◌≡◌, ℕ, zero, suc, ◌<◌, ◌≤◌, inl, inr, List, get_or}
 use Rattle.std.proofs.Common.{[], ◌∷◌, ◌++◌, Bool, true, false}
 use Rattle.std.proofs.Common.{eqb, refl, sym, ap, subst, arith, if◌then◌else◌}
 use Rattle.std.specs.List.{All}

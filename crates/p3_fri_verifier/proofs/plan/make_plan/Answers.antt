@@ -7,7 +7,7 @@ use Rattle.p3_fri_relation.specs.Views.{claims_of, parameters_of}
 use Rattle.p3_fri_relation.proofs.ClaimedHeights.{heights_of-falling}
 use Rattle.p3_fri_relation.proofs.Instances.{instance_heights, instance_top, further_heights}
 use Rattle.p3_fri_verifier.proofs.Plans.{small_rounds, inputs_claimed, fault_claimed}
-use Rattle.p3_fri_verifier.proofs.Replays.{false_true, ok_err}
+use Rattle.p3_fri_verifier.proofs.Replays.{ok_err}
 use Rattle.p3_fri_verifier.proofs.plan.make_plan.Goals as goal
 
 pub fold_schedule-requires-clause-falling : goal.fold_schedule-requires-clause-falling
