@@ -13,48 +13,51 @@ ghost use Rattle.p3_fri_openings.specs.Denominators.{AreInverses, IsCovered};
 ghost use Rattle.p3_fri_batch.specs.Words.{point_of_entry, claims_of, terms_at};
 
 use crate::compression::{add_quotients, compress};
+use crate::opened::OpenedMatrix;
 use p3_field_core::{ExtensionField, TwoAdicField};
 use p3_fri_openings::{PointDenominators, inverses_at};
 use p3_fri_relation::Ladder;
 use p3_fri_relation::setting::ChallengeField;
-use p3_matrix::RowMajorMatrix;
 use std::alloc::{AllocError, Global};
 
-/// Adds to each entry of a word over the evaluation coset of its size the quotients of a matrix's
-/// row there, point by point and column by column: `compressed` has the rows' sums, `values` the
-/// claimed values at each of the points, of `width` columns. `step` is the power of the ladder's
-/// element at which they begin; the answer is the one after them.
+/// Adds to each entry of a word over the evaluation coset of its size the quotients of an opened
+/// matrix's row there, point by point and column by column: `compressed` has the rows' sums. `step`
+/// is the power of the ladder's element at which they begin; the answer is the one after them.
 pub fn add_opened_points<F: TwoAdicField, EF: ExtensionField<F>>(
     word: &mut [EF],
     step: EF,
     ladder: &Ladder<EF>,
-    width: usize,
-    compressed: &[EF],
     table: &[PointDenominators<EF>],
-    points: &[EF],
-    values: &[Vec<EF>],
+    opened: &OpenedMatrix<'_, F, EF>,
+    compressed: &[EF],
 ) -> EF
     requires height { IsPowerOfTwo (length word.old) }
     requires compressed { length compressed.now ≡ length word.old }
-    requires ladder { width ≤ vec_len ladder.now.powers }
-    requires counts { length values.now ≡ length points.now }
-    requires widths { All (λ ys. length ys ≡ width) (lists values.now) }
+    requires ladder { matrix_width opened.now.matrix.now ≤ vec_len ladder.now.powers }
+    requires counts { length opened.now.values.now ≡ length opened.now.points.now }
+    requires widths { All (λ ys. length ys ≡ matrix_width opened.now.matrix.now)
+        (lists opened.now.values.now) }
     requires inverses { All (AreInverses ⟦<EF as ChallengeField<F>>⟧.fields) table.now }
-    requires covered { All (IsCovered (length word.old) table.now) points.now }
-    ensures sums { (i : ℕ) (d : EF) (row ts : List EF) → i < length word.old → length row ≡ width
+    requires covered { All (IsCovered (length word.old) table.now) opened.now.points.now }
+    ensures sums { (i : ℕ) (d : EF) (row ts : List EF) → i < length word.old
+        → length row ≡ matrix_width opened.now.matrix.now
         → slice_index_or compressed.now i d ≡ val EF.ops row ladder.now.alpha
         → step ≡ pow EF.ops ladder.now.alpha (length ts)
         → slice_index_or word.old i d ≡ val EF.ops ts ladder.now.alpha
         → slice_index_or word.new i d ≡ val EF.ops (ts
         ++ terms_at EF.ops
         (point_of_entry ⟦<EF as ChallengeField<F>>⟧.fields (log2 (length word.old)) i) row
-        (claims_of points.now (lists values.now))) ladder.now.alpha }
+        (claims_of opened.now.points.now (lists opened.now.values.now))) ladder.now.alpha }
     ensures step { (n : ℕ) → step ≡ pow EF.ops ladder.now.alpha n
-        → result ≡ pow EF.ops ladder.now.alpha (n + length points.now * width) }
+        → result ≡ pow EF.ops ladder.now.alpha
+        (n + length opened.now.points.now * matrix_width opened.now.matrix.now) }
 {
     let mut step = step;
+    let width = opened.matrix.width();
     let after = ladder.step(width);
     let height = word.len();
+    let points = opened.points;
+    let values = opened.values;
     for point in 0..points.len() {
         let claimed = ladder.combine(&values[point]);
         let inverses = inverses_at::<F, EF>(table, points[point], height);
@@ -64,8 +67,8 @@ pub fn add_opened_points<F: TwoAdicField, EF: ExtensionField<F>>(
     step
 }
 
-/// Adds to the word, which is as long as the matrix is high, the quotients of the matrix's rows:
-/// the matrix is compressed once, for all points. `step` is the power of the ladder's element at
+/// Adds to the word, which is as long as the opened matrix is high, the quotients of the matrix's
+/// rows: it is compressed once, for all points. `step` is the power of the ladder's element at
 /// which they begin; the answer is the one after them.
 pub fn add_matrix<F: TwoAdicField, EF: ExtensionField<F>>(
     alloc: Global,
@@ -73,38 +76,28 @@ pub fn add_matrix<F: TwoAdicField, EF: ExtensionField<F>>(
     step: EF,
     ladder: &Ladder<EF>,
     table: &[PointDenominators<EF>],
-    matrix: &RowMajorMatrix<F>,
-    points: &[EF],
-    values: &[Vec<EF>],
+    opened: &OpenedMatrix<'_, F, EF>,
 ) -> Result<EF, AllocError>
-    requires height { length word.old ≡ length (rows matrix.now) }
+    requires height { length word.old ≡ length (rows opened.now.matrix.now) }
     requires power_of_two { IsPowerOfTwo (length word.old) }
-    requires ladder { matrix_width matrix.now ≤ vec_len ladder.now.powers }
-    requires counts { length values.now ≡ length points.now }
-    requires widths { All (λ ys. length ys ≡ matrix_width matrix.now) (lists values.now) }
+    requires ladder { matrix_width opened.now.matrix.now ≤ vec_len ladder.now.powers }
+    requires counts { length opened.now.values.now ≡ length opened.now.points.now }
+    requires widths { All (λ ys. length ys ≡ matrix_width opened.now.matrix.now)
+        (lists opened.now.values.now) }
     requires inverses { All (AreInverses ⟦<EF as ChallengeField<F>>⟧.fields) table.now }
-    requires covered { All (IsCovered (length word.old) table.now) points.now }
+    requires covered { All (IsCovered (length word.old) table.now) opened.now.points.now }
     ensures sums { IsOk result → (i : ℕ) (d : EF) (ts : List EF) → i < length word.old
         → step ≡ pow EF.ops ladder.now.alpha (length ts)
         → slice_index_or word.old i d ≡ val EF.ops ts ladder.now.alpha
         → slice_index_or word.new i d ≡ val EF.ops (ts
         ++ terms_at EF.ops
         (point_of_entry ⟦<EF as ChallengeField<F>>⟧.fields (log2 (length word.old)) i)
-        (map EF.lift (slice_index_or (rows matrix.now) i []))
-        (claims_of points.now (lists values.now))) ladder.now.alpha }
+        (map EF.lift (slice_index_or (rows opened.now.matrix.now) i []))
+        (claims_of opened.now.points.now (lists opened.now.values.now))) ladder.now.alpha }
     ensures step { (n : ℕ) → step ≡ pow EF.ops ladder.now.alpha n → IfOk result (λ after.
-        after ≡ pow EF.ops ladder.now.alpha (n + length points.now * matrix_width matrix.now)) }
+        after ≡ pow EF.ops ladder.now.alpha
+        (n + length opened.now.points.now * matrix_width opened.now.matrix.now)) }
 {
-    let compressed = compress(alloc, ladder, matrix)?;
-    let width = matrix.width();
-    Ok(add_opened_points::<F, EF>(
-        word,
-        step,
-        ladder,
-        width,
-        &compressed,
-        table,
-        points,
-        values,
-    ))
+    let compressed = compress(alloc, ladder, opened.matrix)?;
+    Ok(add_opened_points(word, step, ladder, table, opened, &compressed))
 }

@@ -59,16 +59,7 @@ fn add_of_log_height<F: TwoAdicField, EF: ExtensionField<F>>(
     if !is_of_log_height(opened.matrix, log_height) {
         return Ok(step);
     }
-    add_matrix::<F, EF>(
-        alloc,
-        word,
-        step,
-        ladder,
-        table,
-        opened.matrix,
-        opened.points,
-        opened.values,
-    )
+    add_matrix(alloc, word, step, ladder, table, opened)
 }
 
 /// The word of a log height: the quotients of all matrices of this log height, by powers of the

@@ -7,6 +7,7 @@ use Rattle.algebra.specs.Cosets.{coset_pt}
 use Rattle.algebra.specs.Nested.{lists}
 use Rattle.algebra.proofs.Lists.{each_from_All, get_or-tabulate, map-tabulate, length-tabulate}
 use Rattle.algebra.proofs.Lists.{entry_of_map}
+use Rattle.p3_matrix.specs.Matrix.{matrix_width}
 use Rattle.p3_pcs.proofs.Zipped.{entry_of_zip_with, within_zip_with, length_of_zip_with}
 use Rattle.p3_fri_relation.specs.Setting.{Fields}
 use Rattle.p3_fri_openings.specs.Log2.{log2}
@@ -36,14 +37,14 @@ loop-point-init g c = record {
   sums = λ i d row ts l n co st wo. wo
       ∙ ap (λ us. val g.EF.Field.ops us c.args.ladder.now.alpha) (sym (append-nil ts));
   steps = λ n e. e ∙ ap (λ m. pow g.EF.Field.ops c.args.ladder.now.alpha m)
-      (omega (arith, zero-mul c.args.width));
+      (omega (arith, zero-mul (matrix_width c.args.opened.now.matrix.now)));
 }
 
 pub combine-claimed-requires : goal.combine-claimed-requires
 combine-claimed-requires g c =
     let p = c.loop-point.point in
-    let points = c.args.points.now in
-    let values = c.args.values.now in
+    let points = c.args.opened.now.points.now in
+    let values = c.args.opened.now.values.now in
     let count = length-map values (λ v. v.items) in
     let same = c.requires.counts in
     let one : p < length points = c.loop-point-test.true in
@@ -52,8 +53,9 @@ combine-claimed-requires g c =
     let ys = c.index-values-point.result.items in
     let at_values = entry_of_map (λ v. v.items) values p c.index-values-point.result two
     c.index-values-point.is in
-    let wide : length ys ≡ c.args.width =
-    at_item (λ ys. length ys ≡ c.args.width) (lists values) p ys three at_values
+    let columns = matrix_width c.args.opened.now.matrix.now in
+    let wide : length ys ≡ columns =
+    at_item (λ ys. length ys ≡ columns) (lists values) p ys three at_values
     c.requires.widths in
     let s : c.deref.result.now ≡ ys =
     let e = c.deref.ensures.value in let is = c.index-values-point.is in cc in
@@ -61,7 +63,7 @@ combine-claimed-requires g c =
 
 pub inverses_at-inverses-requires-clause-covered : goal.inverses_at-inverses-requires-clause-covered
 inverses_at-inverses-requires-clause-covered g c =
-    at_item (λ z. IsCovered (length c.args.word.now) c.args.table.now z) c.args.points.now
+    at_item (λ z. IsCovered (length c.args.word.now) c.args.table.now z) c.args.opened.now.points.now
     c.loop-point.point c.index-points-point.result c.loop-point-test.true c.index-points-point.is
     c.requires.covered
 
@@ -83,8 +85,8 @@ pub loop-point-preserved : goal.loop-point-preserved
 loop-point-preserved g c =
     let f = fields_of g in
     let p = c.loop-point.point in
-    let points = c.args.points.now in
-    let values = c.args.values.now in
+    let points = c.args.opened.now.points.now in
+    let values = c.args.opened.now.values.now in
     let count = length-map values (λ v. v.items) in
     let same = c.requires.counts in
     let one : p < length points = c.loop-point-test.true in
@@ -93,8 +95,9 @@ loop-point-preserved g c =
     let ys = c.index-values-point.result.items in
     let at_values = entry_of_map (λ v. v.items) values p c.index-values-point.result two
     c.index-values-point.is in
-    let wide : length ys ≡ c.args.width =
-    at_item (λ ys. length ys ≡ c.args.width) (lists values) p ys three at_values
+    let columns = matrix_width c.args.opened.now.matrix.now in
+    let wide : length ys ≡ columns =
+    at_item (λ ys. length ys ≡ columns) (lists values) p ys three at_values
     c.requires.widths in
     let s : c.deref.result.now ≡ ys =
     let e = c.deref.ensures.value in let is = c.index-values-point.is in cc in
@@ -107,8 +110,8 @@ loop-point-preserved g c =
     let entry = entry_of_zip_with claim_at points (lists values) p z ys one three
     c.index-points-point.is at_values in
     let taken = length-take-le p claims (omega (arith, within)) in
-    let all = claims_taken c.args.width p claims (claims_wide c.args.width points (lists values)
-    (each_from_All (λ ys. length ys ≡ c.args.width) (lists values) c.requires.widths)) in
+    let all = claims_taken columns p claims (claims_wide columns points (lists values)
+    (each_from_All (λ ys. length ys ≡ columns) (lists values) c.requires.widths)) in
     record {
       sums = λ i d row ts l m co st wo.
           let x = f.lift (coset_pt f.base f.root f.shift i (log2 n)) in
@@ -116,9 +119,9 @@ loop-point-preserved g c =
           (length (ts ++ terms_at K x row (take p claims))) =
           c.loop-point.invariant.steps (length ts) st
           ∙ ap (λ k. pow K alpha k) (sym (length-append ts (terms_at K x row (take p claims))
-          ∙ ap (λ k. length ts + k) (terms_length K g.met.EF.Field.laws alpha x row c.args.width
+          ∙ ap (λ k. length ts + k) (terms_length K g.met.EF.Field.laws alpha x row columns
           (take p claims) all m
-          ∙ ap (λ k. k * c.args.width) taken))) in
+          ∙ ap (λ k. k * columns) taken))) in
           let inverse : get_or c.inverses_at-inverses.result.now i d ≡ K.inv (sub K z x) =
           ap (λ xs. get_or xs i d) (c.inverses_at-inverses.ensures
           ∙ map-tabulate (λ x. K.inv (sub K z (f.lift x))) n
@@ -134,7 +137,8 @@ loop-point-preserved g c =
           (c.add_quotients.ensures i d (omega (arith, l, c.loop-point.auto.word)));
       steps = λ m e. step_more K g.met.EF.Field.laws.ring alpha c.loop-point.step
           c.step-after.result
-          c.mul-step.result m p c.args.width (c.loop-point.invariant.steps m e) c.step-after.ensures
+          c.mul-step.result m p columns (c.loop-point.invariant.steps m e)
+          (c.step-after.ensures ∙ ap (λ k. pow K alpha k) c.width-width.ensures.columns)
           (g.met.EF.Field.mul_law _ _ c.mul-step.result c.mul-step.ensures);
     }
 
@@ -144,8 +148,8 @@ returns g c =
     let K = g.EF.Field.ops in
     let alpha = c.args.ladder.now.alpha in
     let p = c.loop-point.point in
-    let points = c.args.points.now in
-    let values = c.args.values.now in
+    let points = c.args.opened.now.points.now in
+    let values = c.args.opened.now.values.now in
     let claims = claims_of points (lists values) in
     let last : length points ≤ p = c.loop-point-test.false in
     let short : length claims ≤ p = length_of_zip_with claim_at points (lists values) p
@@ -157,5 +161,5 @@ returns g c =
           (f.lift (coset_pt f.base f.root f.shift i (log2 (length c.args.word.now)))) row cs) alpha)
           (take_all p claims short);
       step = λ m e. c.loop-point.invariant.steps m e
-          ∙ ap (λ k. pow K alpha (m + k * c.args.width)) whole;
+          ∙ ap (λ k. pow K alpha (m + k * matrix_width c.args.opened.now.matrix.now)) whole;
     }

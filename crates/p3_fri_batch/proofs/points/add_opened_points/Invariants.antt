@@ -3,6 +3,7 @@ use Rattle.algebra.specs.Field.{pow}
 use Rattle.algebra.specs.Polynomial.{val}
 use Rattle.algebra.specs.Nested.{lists}
 use Rattle.algebra.specs.Cosets.{coset_pt}
+use Rattle.p3_matrix.specs.Matrix.{matrix_width}
 use Rattle.p3_fri_openings.specs.Log2.{log2}
 use Rattle.p3_fri_batch.specs.Words.{claims_of, terms_at}
 use Rattle.p3_fri_batch.proofs.points.add_opened_points.Given as goal
@@ -13,13 +14,14 @@ invariant-loop-point g l =
     let alpha = l.ladder.alpha in
     record {
       sums : (i : ℕ) (d : g.row.EF.Denot) (row ts : List g.row.EF.Denot) → i < length l.initial.word
-          → length row ≡ l.width
+          → length row ≡ matrix_width l.opened.matrix.now
           → get_or l.compressed i d ≡ val K row alpha
           → l.fn.step ≡ pow K alpha (length ts)
           → get_or l.initial.word i d ≡ val K ts alpha
           → get_or l.word i d ≡ val K (ts ++ terms_at K (g.EF.ExtensionField.lift
           (coset_pt g.F.Field.ops g.F.TwoAdicField.root g.F.Field.GENERATOR i
           (log2 (length l.initial.word)))) row
-          (take l.point (claims_of l.points (lists l.values)))) alpha;
-      steps : (n : ℕ) → l.fn.step ≡ pow K alpha n → l.step ≡ pow K alpha (n + l.point * l.width);
+          (take l.point (claims_of l.opened.points.now (lists l.opened.values.now)))) alpha;
+      steps : (n : ℕ) → l.fn.step ≡ pow K alpha n
+          → l.step ≡ pow K alpha (n + l.point * matrix_width l.opened.matrix.now);
     }
