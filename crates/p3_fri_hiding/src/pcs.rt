@@ -17,7 +17,8 @@ use p3_field_core::{
     log2_strict_usize,
 };
 use p3_fri_hiding_openings::{
-    HidingFriPcsProverData, OpensTwoAdic, open_hiding_requests, verify_with_random_values,
+    HidingFriPcsProverData, HidingVerifierSetting, OpensTwoAdic, open_hiding_requests,
+    verify_with_random_values,
 };
 use p3_fri_masks::HidingFriProverError;
 use p3_fri_relation::error::FriError;
@@ -204,8 +205,14 @@ impl<
     {
         let codewords = self.num_random_codewords;
         let random = proof.0.as_slice();
+        let setting = HidingVerifierSetting {
+            params: &self.fri,
+            input_mmcs: &self.mmcs,
+            num_random_codewords: codewords,
+            preprocessing: None,
+        };
         verify_with_random_values::<F, EF, InputMmcs, M, C>(
-            alloc, &self.fri, &self.mmcs, codewords, claims, random, &proof.1, challenger, None,
+            alloc, &setting, claims, random, &proof.1, challenger,
         )
     }
 

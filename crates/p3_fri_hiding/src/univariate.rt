@@ -23,7 +23,8 @@ use p3_field_core::{
     PackableExtension, PackableField, SampleField, TwoAdicField, TwoAdicMultiplicativeCoset,
 };
 use p3_fri_hiding_openings::{
-    HidingFriPcsProverData, OpensTwoAdic, open_hiding_requests, verify_with_random_values,
+    HidingFriPcsProverData, HidingVerifierSetting, OpensTwoAdic, open_hiding_requests,
+    verify_with_random_values,
 };
 use p3_fri_masks::HidingFriProverError;
 use p3_fri_relation::error::FriError;
@@ -351,16 +352,14 @@ impl<
     {
         let codewords = self.num_random_codewords;
         let random = proof.0.as_slice();
-        verify_with_random_values::<F, EF, InputMmcs, M, C>(
-            alloc,
-            &self.fri,
-            &self.mmcs,
-            codewords,
-            claims,
-            random,
-            &proof.1,
-            challenger,
+        let setting = HidingVerifierSetting {
+            params: &self.fri,
+            input_mmcs: &self.mmcs,
+            num_random_codewords: codewords,
             preprocessing,
+        };
+        verify_with_random_values::<F, EF, InputMmcs, M, C>(
+            alloc, &setting, claims, random, &proof.1, challenger,
         )
     }
 

@@ -22,5 +22,5 @@ pub use crate::data::{
 };
 pub use crate::opening::open_hiding_requests;
 pub use crate::split::split_random_values;
-pub use crate::verify::verify_with_random_values;
+pub use crate::verify::{HidingVerifierSetting, verify_with_random_values};
 pub use p3_fri_two_adic::rules::OpensTwoAdic;

@@ -23,6 +23,19 @@ use p3_mmcs::{CommitmentOpening, Mmcs};
 use std::alloc::Global;
 use std::marker::PhantomData;
 
+/// What a verifier of the hiding scheme knows beside the claims and the proof.
+#[derive(Drop)]
+pub struct HidingVerifierSetting<'a, M, InputMmcs> {
+    /// The parameters, with the commitment scheme of the rounds.
+    pub params: &'a FriParameters<M>,
+    /// The commitment scheme of the inputs.
+    pub input_mmcs: &'a InputMmcs,
+    /// How many random values stand at each point.
+    pub num_random_codewords: usize,
+    /// The index of the commitment to preprocessing, which has none of them, if there is one.
+    pub preprocessing: Option<usize>,
+}
+
 /// Verifies a proof of claims whose values at each point are followed by random ones, which stand
 /// beside the proof: they are appended to the claims in place, as `append_random_values` does, and
 /// the opening of all these values is verified, whose words are two-adic ones.
@@ -46,31 +59,32 @@ pub fn verify_with_random_values<
     C: FieldChallenger<F> + GrindingChallenger<Witness = F> + CanObserve<M::Commitment>,
 >(
     alloc: Global,
-    params: &FriParameters<M>,
-    input_mmcs: &InputMmcs,
-    num_random_codewords: usize,
+    setting: &HidingVerifierSetting<'_, M, InputMmcs>,
     mut claims: Vec<CommitmentOpening<EF, InputMmcs::Commitment, TwoAdicMultiplicativeCoset<F>>>,
     random: &[Vec<Vec<Vec<EF>>>],
     proof: &FriProof<EF, M, F, Vec<BatchMultiOpening<F, InputMmcs>>>,
     challenger: &mut C,
-    preprocessing: Option<usize>,
 ) -> Result<(), FriError<M::Error, InputMmcs::Error>>
-    requires range { InVerifierRange (parameters_of params.now) F.TWO_ADICITY C.MAX_SAMPLE_BITS }
-    ensures exactly { let s = ⟦<C as PlaysTwoAdic<F, EF, InputMmcs, M>>⟧.setting input_mmcs.now
-        params.now.mmcs in
-        result ≢ Err OutOfMemory → (IsOk result ↔ HidingAccepts s (parameters_of params.now)
-        num_random_codewords preprocessing
+    requires range { InVerifierRange (parameters_of setting.now.params.now) F.TWO_ADICITY
+        C.MAX_SAMPLE_BITS }
+    ensures exactly { let k = setting.now in
+        let s = ⟦<C as PlaysTwoAdic<F, EF, InputMmcs, M>>⟧.setting k.input_mmcs.now
+        k.params.now.mmcs in
+        result ≢ Err OutOfMemory → (IsOk result ↔ HidingAccepts s (parameters_of k.params.now)
+        k.num_random_codewords k.preprocessing
         (relation_claims (λ d. d.log_size) (map claim claims.items)) (opened_values random.now)
         (proof_of proof.now) challenger.old) }
-    ensures state { let s = ⟦<C as PlaysTwoAdic<F, EF, InputMmcs, M>>⟧.setting input_mmcs.now
-        params.now.mmcs in
-        IsOk result → challenger.new ≡ last_state s (parameters_of params.now)
+    ensures state { let k = setting.now in
+        let s = ⟦<C as PlaysTwoAdic<F, EF, InputMmcs, M>>⟧.setting k.input_mmcs.now
+        k.params.now.mmcs in
+        IsOk result → challenger.new ≡ last_state s (parameters_of k.params.now)
         (with_random_values (relation_claims (λ d. d.log_size) (map claim claims.items))
         (opened_values random.now)) (proof_of proof.now) challenger.old }
-    ensures stands { let s = ⟦<C as PlaysTwoAdic<F, EF, InputMmcs, M>>⟧.setting input_mmcs.now
-        params.now.mmcs in
-        IfErr result (StandsInHidingScheme s (parameters_of params.now)
-        num_random_codewords preprocessing
+    ensures stands { let k = setting.now in
+        let s = ⟦<C as PlaysTwoAdic<F, EF, InputMmcs, M>>⟧.setting k.input_mmcs.now
+        k.params.now.mmcs in
+        IfErr result (StandsInHidingScheme s (parameters_of k.params.now)
+        k.num_random_codewords k.preprocessing
         (relation_claims (λ d. d.log_size) (map claim claims.items)) (opened_values random.now)
         (proof_of proof.now) challenger.old) }
     ensures unmoved { IfErr result (λ e. LeavesHidingVerifier e
@@ -79,9 +93,9 @@ pub fn verify_with_random_values<
     let appended = append_random_values(
         claims.as_mut_slice(),
         random,
-        num_random_codewords,
-        params.num_queries,
-        preprocessing,
+        setting.num_random_codewords,
+        setting.params.num_queries,
+        setting.preprocessing,
     );
     match appended {
         Ok(()) => {},
@@ -89,6 +103,12 @@ pub fn verify_with_random_values<
     }
     let folding: TwoAdicFriFoldingForMmcs<F, InputMmcs> = TwoAdicFriFolding(PhantomData);
     verify_opening::<F, EF, M, InputMmcs, TwoAdicFriFoldingForMmcs<F, InputMmcs>, C>(
-        alloc, &folding, params, input_mmcs, &claims, proof, challenger,
+        alloc,
+        &folding,
+        setting.params,
+        setting.input_mmcs,
+        &claims,
+        proof,
+        challenger,
     )
 }

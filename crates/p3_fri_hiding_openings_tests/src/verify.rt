@@ -8,7 +8,7 @@ use crate::numbers::numbered_all;
 use p3_challenger::Sha256Challenger;
 use p3_field::{BabyBear, BabyBear4, Field};
 use p3_fri_folding::FriParameters;
-use p3_fri_hiding_openings::verify_with_random_values;
+use p3_fri_hiding_openings::{HidingVerifierSetting, verify_with_random_values};
 use p3_fri_relation::proof::{BatchMultiOpening, FriProof};
 use p3_mmcs::Sha256Mmcs;
 use std::alloc::Global;
@@ -100,16 +100,21 @@ fn is_refused(alloc: Global, case: &Case) -> Result<bool, Fail> {
     let random = numbered_all(alloc, case.random, 101)?;
     let proof = empty_proof(alloc);
     let mut challenger = Sha256Challenger::new();
+    let params = parameters();
+    let input_mmcs = Inputs::new();
+    let setting = HidingVerifierSetting {
+        params: &params,
+        input_mmcs: &input_mmcs,
+        num_random_codewords: case.codewords,
+        preprocessing: Some(0),
+    };
     let answer = verify_with_random_values(
         alloc,
-        &parameters(),
-        &Inputs::new(),
-        case.codewords,
+        &setting,
         claims,
         random.as_slice(),
         &proof,
         &mut challenger,
-        Some(0),
     );
     let Err(refusal) = answer else {
         return Ok(false);

@@ -15,7 +15,7 @@ use p3_matrix::RowMajorMatrix;
 use p3_mmcs::OpenedValues;
 use p3_pcs::{KnownCommitment, Pcs};
 use p3_stark_pcs::UnivariateStarkPcs;
-use p3_test_openings::batches::commit_and_open_batches;
+use p3_test_openings::batches::{QuotientChunks, commit_and_open_batches};
 use p3_test_openings::listed::{listed, pair};
 use p3_test_openings::one::Opened;
 use std::alloc::Global;
@@ -73,11 +73,12 @@ fn commit_and_open_all<EF: Copy, C, P: UnivariateStarkPcs<EF, C>>(
     requires chunks { (P.stark_rules scheme.old).CanExtend chunks.items (length chunks.items) }
     requires two_chunks { length chunks.items ≡ 2 }
 {
-    let claimed = pair(alloc, domain, domain)?;
+    let quotient = QuotientChunks {
+        chunks,
+        domains: pair(alloc, domain, domain)?,
+    };
     let random = commit_random::<EF, C, P>(&mut *scheme, alloc, domain)?;
-    commit_and_open_batches::<EF, C, P>(
-        scheme, alloc, random, trace, chunks, claimed, point, challenger,
-    )
+    commit_and_open_batches::<EF, C, P>(scheme, alloc, random, trace, quotient, point, challenger)
 }
 
 /// What the chunks' values at 1 are multiplied by where they are recombined.

@@ -35,28 +35,31 @@ setting_at g input_mmcs mmcs = two_adic (record {
 
 pub returns-in-Err-clause-exactly : goal.returns-in-Err-clause-exactly
 returns-in-Err-clause-exactly g c other =
+    let k = c.args.setting.now in
     let seen = ap (claims_of (λ d. d.log_size)) c.as_mut_slice.ensures.value
     ∙ sym (claims_are (λ d. d.log_size) c.args.claims.items) in (
       (λ ok. cc),
       (λ a. (c.in-Err.ensures.exactly other).1 (subst
           (λ (cs : List (CommitmentClaim g.row.EF.Denot g.row.InputMmcs-Commitment.Denot)).
-          MayAppend c.args.num_random_codewords c.args.params.now.num_queries
-          g.EF.ExtensionField.DIMENSION c.args.preprocessing cs (opened_values c.args.random.now))
+          MayAppend k.num_random_codewords k.params.now.num_queries
+          g.EF.ExtensionField.DIMENSION k.preprocessing cs (opened_values c.args.random.now))
           (sym seen) a.appends)),
     )
 
 pub returns-in-Err-clause-stands : goal.returns-in-Err-clause-stands
 returns-in-Err-clause-stands g c =
+    let k = c.args.setting.now in
     let seen = ap (claims_of (λ d. d.log_size)) c.as_mut_slice.ensures.value
     ∙ sym (claims_are (λ d. d.log_size) c.args.claims.items) in
     inl (subst (λ (cs : List (CommitmentClaim g.row.EF.Denot g.row.InputMmcs-Commitment.Denot)).
-    HidingFaults c.args.num_random_codewords c.args.params.now.num_queries
-    g.EF.ExtensionField.DIMENSION c.args.preprocessing cs (opened_values c.args.random.now)
+    HidingFaults k.num_random_codewords k.params.now.num_queries
+    g.EF.ExtensionField.DIMENSION k.preprocessing cs (opened_values c.args.random.now)
     c.in-Err.refusal) seen c.in-Err.ensures.stands)
 
 pub returns-clause-exactly : goal.returns-clause-exactly
 returns-clause-exactly g c =
-    let s = setting_at g c.args.input_mmcs.now c.args.params.now.mmcs in
+    let k = c.args.setting.now in
+    let s = setting_at g k.input_mmcs.now k.params.now.mmcs in
     let random = opened_values c.args.random.now in
     let new = c.append_random_values-appended.new.claims in
     let seen = ap (claims_of (λ d. d.log_size)) c.as_mut_slice.ensures.value
@@ -68,17 +71,18 @@ returns-clause-exactly g c =
     with_random_values cs random) seen in
     let may = subst (λ (cs : List (CommitmentClaim g.row.EF.Denot
     g.row.InputMmcs-Commitment.Denot)).
-    MayAppend c.args.num_random_codewords c.args.params.now.num_queries
-    g.EF.ExtensionField.DIMENSION c.args.preprocessing cs random)
+    MayAppend k.num_random_codewords k.params.now.num_queries
+    g.EF.ExtensionField.DIMENSION k.preprocessing cs random)
     seen ((c.in-Ok.ensures.exactly (λ e. cc)).0 refl) in
-    exactly_with s (parameters_of c.args.params.now) c.args.num_random_codewords
-    c.args.preprocessing (relation_claims (λ d. d.log_size) (map claim c.args.claims.items))
+    exactly_with s (parameters_of k.params.now) k.num_random_codewords
+    k.preprocessing (relation_claims (λ d. d.log_size) (map claim c.args.claims.items))
     (claims_of (λ d. d.log_size) c.deref.result.now) random (proof_of c.args.proof.now)
     c.args.challenger.now c.verify_opening.result may same c.verify_opening.ensures.exact
 
 pub returns-clause-state : goal.returns-clause-state
 returns-clause-state g c ok =
-    let s = setting_at g c.args.input_mmcs.now c.args.params.now.mmcs in
+    let k = c.args.setting.now in
+    let s = setting_at g k.input_mmcs.now k.params.now.mmcs in
     let random = opened_values c.args.random.now in
     let new = c.append_random_values-appended.new.claims in
     let seen = ap (claims_of (λ d. d.log_size)) c.as_mut_slice.ensures.value
@@ -90,12 +94,13 @@ returns-clause-state g c ok =
     with_random_values cs random) seen in
     c.verify_opening.ensures.state ok
     ∙ ap (λ (cs : List (CommitmentClaim g.row.EF.Denot g.row.InputMmcs-Commitment.Denot)).
-    last_state s (parameters_of c.args.params.now) cs (proof_of c.args.proof.now)
+    last_state s (parameters_of k.params.now) cs (proof_of c.args.proof.now)
     c.args.challenger.now) same
 
 pub returns-clause-stands : goal.returns-clause-stands
 returns-clause-stands g c =
-    let s = setting_at g c.args.input_mmcs.now c.args.params.now.mmcs in
+    let k = c.args.setting.now in
+    let s = setting_at g k.input_mmcs.now k.params.now.mmcs in
     let random = opened_values c.args.random.now in
     let new = c.append_random_values-appended.new.claims in
     let seen = ap (claims_of (λ d. d.log_size)) c.as_mut_slice.ensures.value
@@ -107,19 +112,20 @@ returns-clause-stands g c =
     with_random_values cs random) seen in
     let may = subst (λ (cs : List (CommitmentClaim g.row.EF.Denot
     g.row.InputMmcs-Commitment.Denot)).
-    MayAppend c.args.num_random_codewords c.args.params.now.num_queries
-    g.EF.ExtensionField.DIMENSION c.args.preprocessing cs random)
+    MayAppend k.num_random_codewords k.params.now.num_queries
+    g.EF.ExtensionField.DIMENSION k.preprocessing cs random)
     seen ((c.in-Ok.ensures.exactly (λ e. cc)).0 refl) in
-    stands_with s (parameters_of c.args.params.now) c.args.num_random_codewords
-    c.args.preprocessing (relation_claims (λ d. d.log_size) (map claim c.args.claims.items))
+    stands_with s (parameters_of k.params.now) k.num_random_codewords
+    k.preprocessing (relation_claims (λ d. d.log_size) (map claim c.args.claims.items))
     (claims_of (λ d. d.log_size) c.deref.result.now) random (proof_of c.args.proof.now)
     c.args.challenger.now c.verify_opening.result may same c.verify_opening.ensures.refusal
 
 pub returns-clause-unmoved : goal.returns-clause-unmoved
 returns-clause-unmoved g c =
-    let s = setting_at g c.args.input_mmcs.now c.args.params.now.mmcs in
-    unmoved_with s (parameters_of c.args.params.now) c.args.num_random_codewords
-    c.args.preprocessing (relation_claims (λ d. d.log_size) (map claim c.args.claims.items))
+    let k = c.args.setting.now in
+    let s = setting_at g k.input_mmcs.now k.params.now.mmcs in
+    unmoved_with s (parameters_of k.params.now) k.num_random_codewords
+    k.preprocessing (relation_claims (λ d. d.log_size) (map claim c.args.claims.items))
     (claims_of (λ d. d.log_size) c.deref.result.now) (opened_values c.args.random.now)
     (proof_of c.args.proof.now) c.args.challenger.now c.verify_opening.result
     c.verify_opening.ensures.refusal c.verify_opening.ensures.unchanged
