@@ -1,0 +1,4 @@
+pub mod Held
+pub mod Keys
+pub mod Proved
+pub mod Statements

@@ -1,0 +1,3 @@
+pub mod Keys
+pub mod Proved
+pub mod Systems
