@@ -6,7 +6,7 @@ ghost use Rattle.p3_fri_transcript.specs.Shapes.{fri_shape};
 
 use p3_challenger::Sha256Challenger;
 use p3_field::{BabyBear, BabyBear4, ExtensionField, Field};
-use p3_fri_core::transcript::{FriShape, PlayedFri};
+use p3_fri_core::transcript::{FriShape, PlayedFri, ReplayedFri};
 use std::alloc::{AllocError, Global};
 
 /// The shape of rounds of these log arities, with one coefficient and four indices of three bits.
@@ -49,7 +49,7 @@ pub(crate) fn sole<T: Copy>(list: &[T]) -> Option<T> {
 }
 
 /// What both sides draw along a test of one round, and the prover's witnesses.
-#[derive(Clone, Copy)]
+#[derive(Drop)]
 pub(crate) struct Run<F, EF> {
     pub beta: EF,
     pub indices: [usize; 4],
@@ -74,6 +74,11 @@ impl<F: Field, EF: ExtensionField<F>> Run<F, EF> {
         self.draws(beta, indices)
             && commit_witness == Some(self.commit_witness)
             && query_witness == Some(self.query_witness)
+    }
+
+    /// Whether a verifier's whole transcript draws them.
+    pub(crate) fn is_replayed(&self, replayed: &ReplayedFri<EF>) -> bool {
+        self.draws(sole(&replayed.betas), &replayed.indices)
     }
 
     /// Whether a prover's whole transcript is this run.
