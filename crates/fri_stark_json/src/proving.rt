@@ -1,0 +1,99 @@
+//! Proofs, made of traces.
+
+ghost use Rattle.std.specs.Prelude.{◌≡◌, IfOk};
+ghost use Rattle.algebra.specs.Nested.{lists};
+ghost use Rattle.fri_records.specs.Records.{parameters_in};
+ghost use Rattle.p3_air_plain.specs.Checked.{IsSatisfiedIn};
+ghost use Rattle.p3_challenger_sha256.specs.Sha256.{start};
+ghost use Rattle.p3_uni_stark_plain.specs.Proofs.{stark_seen, stark_numbers, stark_listed};
+ghost use Rattle.p3_uni_stark_system.specs.Systems.{with_trace};
+ghost use Rattle.p3_uni_stark_verifier.specs.Setting.{stark_setting};
+ghost use Rattle.fri_stark_json.specs.Systems.{numbers_in};
+ghost use Rattle.fri_stark_json.specs.Verdicts.{IsAccepted};
+
+use crate::failure::Failure;
+use crate::parameters::proving;
+use crate::records::{System, Trace};
+use crate::scheme::MadeScheme;
+use p3_challenger_core::Plays;
+use p3_challenger_sha256::Sha256Challenger;
+use p3_field::{BabyBear, BabyBear4, Field, PrimeField64};
+use p3_fri_plain::Plain;
+use p3_uni_stark_plain::{PlainStarkProof, stark_to_plain};
+use p3_uni_stark_system::prove_system;
+use p3_uni_stark_verifier::setting::StarkField;
+use serde::Serialize;
+use std::alloc::Global;
+
+/// The plain form of a proof that the trace satisfies the system. The masks of a scheme that hides
+/// are drawn from the seed.
+pub fn prove_form<P: MadeScheme>(
+    alloc: Global,
+    system: &System,
+    trace: &Trace,
+    seed: [u8; 32],
+) -> Result<PlainStarkProof<<P::Proof as Plain>::Form>, Failure<P::ProverError>>
+where
+    P::Proof: Plain,
+    ensures accepted { IfOk result (λ form. IsAccepted ⟦<BabyBear as PrimeField64>⟧.canonical
+        (λ s. stark_setting ⟦<BabyBear4 as StarkField<BabyBear>>⟧.fields
+        ⟦<Sha256Challenger as Plays<BabyBear, BabyBear4, [u8; 32]>>⟧.moves P.ZK (P.rules s)
+        (λ k d. (d.shift ≡ ⟦<BabyBear as Field>⟧.ONE) × (d.log_size ≡ k))) P.parameters
+        (parameters_in system.now.parameters)
+        (λ proof. stark_numbers P.Proof.numbers (stark_seen P.Proof.seen proof)
+        ≡ stark_listed P.Proof.listed form)
+        (numbers_in system.now trace.now.public_values.items) start form.log_height) }
+    ensures satisfied { IfOk result (λ _. IsSatisfiedIn ⟦<BabyBear as Field>⟧.ops
+        ⟦<BabyBear as PrimeField64>⟧.ORDER_U64 ⟦<BabyBear as PrimeField64>⟧.canonical system.now.air
+        (with_trace (numbers_in system.now trace.now.public_values.items)
+        (lists trace.now.trace.items))) }
+{
+    let fri = match proving(&system.parameters) {
+        Ok(fri) => fri,
+        Err(misfit) => return Err(Failure::Parameters(misfit)),
+    };
+    let mut scheme = P::made(fri, system.num_random_codewords, seed);
+    let mut challenger = Sha256Challenger::new();
+    let proved = prove_system::<BabyBear, BabyBear4, [u8; 32], Sha256Challenger, P>(
+        &mut scheme,
+        alloc,
+        &system.plain(),
+        trace.public_values.as_slice(),
+        trace.trace.as_slice(),
+        system.parameters.log_blowup,
+        &mut challenger,
+    );
+    let proof = match proved {
+        Ok(proof) => proof,
+        Err(error) => return Err(Failure::Proving(error)),
+    };
+    match stark_to_plain(alloc, &proof) {
+        Ok(form) => Ok(form),
+        Err(_) => Err(Failure::OutOfMemory),
+    }
+}
+
+/// A proof that the trace satisfies the system, in JSON.
+pub fn prove<P: MadeScheme>(
+    alloc: Global,
+    system: &System,
+    trace: &Trace,
+    seed: [u8; 32],
+) -> Result<String, Failure<P::ProverError>>
+where
+    P::Proof: Plain,
+    <P::Proof as Plain>::Form: Serialize,
+    ensures satisfied { IfOk result (λ _. IsSatisfiedIn ⟦<BabyBear as Field>⟧.ops
+        ⟦<BabyBear as PrimeField64>⟧.ORDER_U64 ⟦<BabyBear as PrimeField64>⟧.canonical system.now.air
+        (with_trace (numbers_in system.now trace.now.public_values.items)
+        (lists trace.now.trace.items))) }
+{
+    let form = match prove_form::<P>(alloc, system, trace, seed) {
+        Ok(form) => form,
+        Err(failure) => return Err(failure),
+    };
+    match serde_json::to_string(alloc, &form) {
+        Ok(text) => Ok(text),
+        Err(error) => Err(Failure::Json(error)),
+    }
+}
