@@ -1,5 +1,5 @@
 //! Times the layers of the schemes, from the extension of a matrix, as a commitment takes it, to
-//! the schemes themselves: in microseconds, the least of several.
+//! the schemes themselves and a STARK's prover: in microseconds, the least of several.
 #![tactic(auto)]
 
 mod calls;
@@ -8,6 +8,7 @@ mod hiding;
 mod matrices;
 mod scheme;
 mod stages;
+mod stark;
 mod watch;
 
 use crate::watch::{Fault, Result, Run};
@@ -19,6 +20,7 @@ const USAGE: &str = "fri_bench stages LOG_HEIGHT WIDTH ADDED_BITS [REPEATS]
 fri_bench fold LOG_SIZE [REPEATS]
 fri_bench scheme LOG_HEIGHT WIDTH LOG_BLOWUP QUERIES LOG_CAP [REPEATS]
 fri_bench hiding LOG_HEIGHT WIDTH CODEWORDS [REPEATS]
+fri_bench stark LOG_HEIGHT WIDTH LOG_BLOWUP QUERIES LOG_CAP [REPEATS]
 fri_bench figures [REPEATS]";
 
 /// The number that an argument writes.
@@ -73,6 +75,7 @@ fn run(rt: &HostRuntime, args: &[String]) -> Result<()> {
         "fold" => folds::print(rt, read(sizes, 9)?),
         "scheme" => scheme::print(rt, read(sizes, 5)?),
         "hiding" => hiding::print(rt, read(sizes, 5)?),
+        "stark" => stark::print(rt, read(sizes, 5)?),
         "figures" => figures(rt, read::<0>(sizes, 5)?.1),
         _ => Err(Fault::Usage),
     }

@@ -16,7 +16,7 @@ pub type Rounds = Sha256Mmcs<BabyBear4>;
 
 pub type Domain = TwoAdicMultiplicativeCoset<BabyBear>;
 
-type Scheme = TwoAdicFriPcs<BabyBear, Radix2Dit<BabyBear>, Inputs, Rounds>;
+pub type Scheme = TwoAdicFriPcs<BabyBear, Radix2Dit<BabyBear>, Inputs, Rounds>;
 
 /// The parameters of so many queries, with a constant as final polynomial and no proofs of work.
 pub fn parameters(log_blowup: usize, queries: usize, log_cap: usize) -> FriParameters<Rounds>

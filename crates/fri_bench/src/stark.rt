@@ -1,0 +1,211 @@
+//! Times the prover of a STARK over the plain scheme, and its verifier, for one constraint system
+//! of any width whose transition constraints have degree 3.
+
+ghost use Rattle.std.specs.Prelude.{◌≡◌, ◌^◌, IfOk, OnOk, length};
+ghost use Rattle.p3_matrix.specs.Matrix.{rows, matrix_width};
+ghost use Rattle.p3_air.specs.WellFormed.{IsWellFormed};
+ghost use Rattle.p3_uni_stark_prover.specs.Provable.{FitsField};
+
+use crate::matrices::rows_of;
+use crate::scheme::{Domain, Scheme, parameters};
+use crate::stages::Inputs;
+use crate::watch::{Fault, Result, Run, Watch, now};
+use p3_air::{Air, AirBuilder, AirLayout, Expression};
+use p3_challenger::Sha256Challenger;
+use p3_dft::Radix2Dit;
+use p3_field::{BabyBear, BabyBear4, Field, PrimeField64};
+use p3_matrix::RowMajorMatrix;
+use p3_uni_stark_pcs::TwoAdicStarkPcs;
+use p3_uni_stark_prover::{has_room, prove};
+use p3_uni_stark_verifier::{Statement, verify};
+use std::alloc::Global;
+use std::fmt;
+
+/// The least times of both calls.
+#[derive(Clone, Copy)]
+pub struct StarkWatches {
+    proves: Watch,
+    verifies: Watch,
+}
+
+impl fmt::Display for StarkWatches {
+    fn fmt<W: fmt::Write>(&self, f: &mut fmt::Formatter<W>) -> fmt::Result {
+        write!(f, "prove {}, verify {}", self.proves, self.verifies)
+    }
+}
+
+/// The entries of this row.
+fn locals(
+    alloc: Global,
+    builder: &mut AirBuilder<BabyBear>,
+    width: usize,
+) -> Result<Vec<Expression>> {
+    let mut locals = Vec::with_capacity(alloc, width)?;
+    for column in 0..width {
+        locals.push(builder.local(column)?)?;
+    }
+    Ok(locals)
+}
+
+/// The next entry of the column is the square of this one, times that beside it, plus the one
+/// beside that.
+fn mix(builder: &mut AirBuilder<BabyBear>, locals: &[Expression], column: usize) -> Result<()> {
+    let width = locals.len();
+    if width == 0 {
+        return Err(Fault::Sizes);
+    }
+    let here = locals[column % width];
+    let square = builder.mul(here, here)?;
+    let product = builder.mul(square, locals[(column % width + 1) % width])?;
+    let sum = builder.add(product, locals[(column % width + 2) % width])?;
+    let next = builder.next(column)?;
+    let difference = builder.sub(next, sum)?;
+    builder.when_transition().assert_zero(difference)?;
+    Ok(())
+}
+
+/// The system of so many columns.
+fn mixing(alloc: Global, width: usize) -> Result<Air<BabyBear>>
+    ensures { IfOk result IsWellFormed }
+{
+    let mut builder = AirBuilder::new(
+        alloc,
+        AirLayout {
+            width,
+            preprocessed_width: 0,
+            num_public_values: 0,
+            num_periodic_columns: 0,
+        },
+    );
+    let locals = locals(alloc, &mut builder, width)?;
+    for column in 0..width {
+        mix(&mut builder, &locals, column)?;
+    }
+    match builder.build() {
+        Ok(air) => Ok(air),
+        Err(_) => Err(Fault::Sizes),
+    }
+}
+
+/// The value at this place, or zero behind the last.
+fn value_at(values: &[BabyBear], index: usize) -> BabyBear {
+    if index < values.len() {
+        values[index]
+    } else {
+        BabyBear::ZERO
+    }
+}
+
+/// A trace of `2^log_height` rows that satisfies it.
+fn trace_of(alloc: Global, width: usize, log_height: usize) -> Result<RowMajorMatrix<BabyBear>>
+    ensures width { IfOk result (λ matrix. matrix_width matrix ≡ width) }
+    ensures height { IfOk result (λ matrix. length (rows matrix) ≡ 2 ^ log_height) }
+{
+    if width < 3 || log_height > 24 {
+        return Err(Fault::Sizes);
+    }
+    let count = width.checked_mul(1 << log_height).ok_or(Fault::Sizes)?;
+    let mut values = Vec::with_capacity(alloc, count)?;
+    for index in 0..count {
+        let value = if index < width {
+            BabyBear::from_u64(index as u64 + 1)
+        } else {
+            let column = index % width;
+            let row = index - column - width;
+            let here = value_at(&values, row + column);
+            let beside = value_at(&values, row + (column + 1) % width);
+            here * here * beside + value_at(&values, row + (column + 2) % width)
+        };
+        values.push(value)?;
+    }
+    rows_of(values, width, log_height)
+}
+
+/// Times both, of a system of the trace's columns alone.
+fn time_both<P: TwoAdicStarkPcs<BabyBear4, Sha256Challenger, Domain, Commitment = [u8; 32]>>(
+    rt: &HostRuntime,
+    watches: &mut StarkWatches,
+    scheme: &mut P,
+    air: &Air<BabyBear>,
+    trace: RowMajorMatrix<BabyBear>,
+) -> Result<()>
+    requires prover { (P.rules scheme.old).InProverRange }
+    requires verifier { (P.rules scheme.old).InVerifierRange }
+    requires well_formed { IsWellFormed air.now }
+    requires room { FitsField 27 (P.log_blowup scheme.old) P.ZK air.now (length (rows trace)) }
+{
+    let layout = air.layout;
+    if layout.width != trace.width()
+        || layout.preprocessed_width != 0
+        || layout.num_public_values != 0
+        || layout.num_periodic_columns != 0
+    {
+        return Err(Fault::Sizes);
+    }
+    let statement = Statement {
+        air,
+        preprocessed: None,
+        periodic: &[],
+        public_values: &[],
+    };
+    let mut challenger = Sha256Challenger::new();
+    let start = now(rt);
+    let proved = prove::<BabyBear, BabyBear4, [u8; 32], Sha256Challenger, P>(
+        scheme,
+        rt.alloc(),
+        &statement,
+        trace,
+        None,
+        &mut challenger,
+    );
+    watches.proves.see(rt, start);
+    let Ok(proof) = proved else {
+        return Err(Fault::Refused);
+    };
+    let mut verifier = Sha256Challenger::new();
+    let start = now(rt);
+    let verified = verify::<
+        BabyBear,
+        BabyBear4,
+        [u8; 32],
+        Sha256Challenger,
+        Radix2Dit<BabyBear>,
+        P,
+    >(&*scheme, rt.alloc(), &statement, &proof, &mut verifier);
+    watches.verifies.see(rt, start);
+    match verified {
+        Ok(()) => Ok(()),
+        Err(_) => Err(Fault::Refused),
+    }
+}
+
+/// Times both over a trace of `2^log_height` rows.
+fn time_stark(rt: &HostRuntime, watches: &mut StarkWatches, sizes: [usize; 5]) -> Result<()> {
+    let [log_height, width, log_blowup, queries, log_cap] = sizes;
+    if log_blowup == 0 || log_blowup > 3 || queries == 0 || log_cap == 0 {
+        return Err(Fault::Sizes);
+    }
+    let air = mixing(rt.alloc(), width)?;
+    let trace = trace_of(rt.alloc(), width, log_height)?;
+    match has_room::<BabyBear, ()>(rt.alloc(), &air, trace.height(), log_blowup, false) {
+        Ok(true) => {},
+        _ => return Err(Fault::Sizes),
+    }
+    let parameters = parameters(log_blowup, queries, log_cap);
+    let mut scheme = Scheme::new(Radix2Dit::default(), Inputs::new(), parameters);
+    time_both(rt, watches, &mut scheme, &air, trace)
+}
+
+/// Prints the least times.
+pub fn print(rt: &HostRuntime, (sizes, repeats): Run<5>) -> Result<()> {
+    let [log_height, width, _, _, log_cap] = sizes;
+    let mut watches = StarkWatches {
+        proves: Watch::new(),
+        verifies: Watch::new(),
+    };
+    for _ in 0..repeats {
+        time_stark(rt, &mut watches, sizes)?;
+    }
+    println!(rt; "stark, 2^{log_height} rows of {width}, cap {log_cap}: {watches}")?;
+    Ok(())
+}
