@@ -60,27 +60,34 @@ fn rows_of<EF: Copy + Drop>(
     Some(matrix)
 }
 
-/// The word to which the values fold as `2^log_height` rows of `2^log_arity`, if each of its
-/// entries is the fold of its row.
-fn folded<EF: ExtensionField<BabyBear>, S: FriFoldingStrategy<BabyBear, EF>>(
+/// Whether the values as `2^log_height` rows of `2^log_arity` fold row by row, and to the wanted
+/// word unless that is empty.
+fn fold_to<EF: ExtensionField<BabyBear>, S: FriFoldingStrategy<BabyBear, EF>>(
     alloc: Global,
     folding: &S,
     values: Result<Vec<EF>, AllocError>,
     log_height: usize,
     log_arity: usize,
     beta: EF,
-) -> Option<Vec<EF>>
+    wanted: &[EF],
+) -> bool
     requires positive { 1 ≤ log_arity }
     requires arity { log_arity ≤ 4 }
     requires height { log_height < 24 }
     requires within_max_height { log_height + log_arity ≤ S.max_log_height folding.now }
 {
-    let matrix = rows_of(values.ok()?, log_height, log_arity)?;
-    let word = folding.fold_matrix(alloc, beta, log_arity, &matrix).ok()?;
-    if rows_fold_to(folding, &matrix, log_height, log_arity, beta, &word) {
-        Some(word)
-    } else {
-        None
+    let Ok(values) = values else {
+        return false;
+    };
+    let Some(matrix) = rows_of(values, log_height, log_arity) else {
+        return false;
+    };
+    match folding.fold_matrix(alloc, beta, log_arity, &matrix) {
+        Ok(word) => {
+            rows_fold_to(folding, &matrix, log_height, log_arity, beta, &word)
+                && (wanted.is_empty() || word.as_slice() == wanted)
+        }
+        Err(_) => false,
     }
 }
 
@@ -99,10 +106,7 @@ fn folds_to<S: FriFoldingStrategy<BabyBear, BabyBear>>(
     requires within_max_height { log_height + log_arity ≤ S.max_log_height folding.now }
 {
     let beta = BabyBear::from_u64(7);
-    match folded(alloc, folding, values, log_height, log_arity, beta) {
-        Some(word) => word.as_slice() == wanted,
-        None => false,
-    }
+    fold_to(alloc, folding, values, log_height, log_arity, beta, wanted)
 }
 
 /// The numbers from 0 on, so many.
@@ -153,15 +157,16 @@ fn matrices_fold_row_by_row<EF: ExtensionField<BabyBear>, S: FriFoldingStrategy<
             return Some(*name);
         }
         let values = numbers(alloc, 1 << (*log_height + *log_arity));
-        let word = folded(
+        let is_folded = fold_to(
             alloc,
             folding,
             values,
             *log_height,
             *log_arity,
             EF::GENERATOR,
+            &[],
         );
-        if word.is_none() {
+        if !is_folded {
             return Some(*name);
         }
     }
