@@ -40,7 +40,7 @@ fn rows_fold_to<EF: ExtensionField<BabyBear>, S: FriFoldingStrategy<BabyBear, EF
 
 /// The values as `2^log_height` rows of `2^log_arity`, if they are so many.
 fn rows_of<EF: Copy + Drop>(
-    values: Result<Vec<EF>, AllocError>,
+    values: Vec<EF>,
     log_height: usize,
     log_arity: usize,
 ) -> Option<RowMajorMatrix<EF>>
@@ -49,7 +49,6 @@ fn rows_of<EF: Copy + Drop>(
     ensures height { IfSome result (λ matrix. length (rows matrix) ≡ 2 ^ log_height) }
     ensures width { IfSome result (λ matrix. matrix_width matrix ≡ 2 ^ log_arity) }
 {
-    let values = values.ok()?;
     let width = 1 << log_arity;
     if values.len() % width != 0 {
         return None;
@@ -61,33 +60,9 @@ fn rows_of<EF: Copy + Drop>(
     Some(matrix)
 }
 
-/// Whether the matrix folds row by row, and to the wanted word unless that is empty.
-fn matrix_folds<EF: ExtensionField<BabyBear>, S: FriFoldingStrategy<BabyBear, EF>>(
-    alloc: Global,
-    folding: &S,
-    matrix: &RowMajorMatrix<EF>,
-    log_height: usize,
-    log_arity: usize,
-    beta: EF,
-    wanted: &[EF],
-) -> bool
-    requires positive { 1 ≤ log_arity }
-    requires height { length (rows matrix.now) ≡ 2 ^ log_height }
-    requires width { matrix_width matrix.now ≡ 2 ^ log_arity }
-    requires within_max_height { log_height + log_arity ≤ S.max_log_height folding.now }
-{
-    match folding.fold_matrix(alloc, beta, log_arity, matrix) {
-        Ok(word) => {
-            rows_fold_to(folding, matrix, log_height, log_arity, beta, &word)
-                && (wanted.is_empty() || word.as_slice() == wanted)
-        }
-        Err(_) => false,
-    }
-}
-
-/// Whether the values as `2^log_height` rows of `2^log_arity` fold row by row, and to the
-/// wanted word unless that is empty.
-fn values_fold<EF: ExtensionField<BabyBear>, S: FriFoldingStrategy<BabyBear, EF>>(
+/// Whether the values as `2^log_height` rows of `2^log_arity` fold row by row, and to the wanted
+/// word unless that is empty.
+fn fold_to<EF: ExtensionField<BabyBear>, S: FriFoldingStrategy<BabyBear, EF>>(
     alloc: Global,
     folding: &S,
     values: Result<Vec<EF>, AllocError>,
@@ -101,11 +76,18 @@ fn values_fold<EF: ExtensionField<BabyBear>, S: FriFoldingStrategy<BabyBear, EF>
     requires height { log_height < 24 }
     requires within_max_height { log_height + log_arity ≤ S.max_log_height folding.now }
 {
-    match rows_of(values, log_height, log_arity) {
-        Some(matrix) => {
-            matrix_folds(alloc, folding, &matrix, log_height, log_arity, beta, wanted)
+    let Ok(values) = values else {
+        return false;
+    };
+    let Some(matrix) = rows_of(values, log_height, log_arity) else {
+        return false;
+    };
+    match folding.fold_matrix(alloc, beta, log_arity, &matrix) {
+        Ok(word) => {
+            rows_fold_to(folding, &matrix, log_height, log_arity, beta, &word)
+                && (wanted.is_empty() || word.as_slice() == wanted)
         }
-        None => false,
+        Err(_) => false,
     }
 }
 
@@ -124,7 +106,7 @@ fn folds_to<S: FriFoldingStrategy<BabyBear, BabyBear>>(
     requires within_max_height { log_height + log_arity ≤ S.max_log_height folding.now }
 {
     let beta = BabyBear::from_u64(7);
-    values_fold(alloc, folding, values, log_height, log_arity, beta, wanted)
+    fold_to(alloc, folding, values, log_height, log_arity, beta, wanted)
 }
 
 /// The numbers from 0 on, so many.
@@ -160,30 +142,6 @@ const MATRICES: [(&str, usize, usize); 20] = [
     ("64 rows of 16", 6, 4),
 ];
 
-/// Whether the matrix of the numbers from 0 on, of such a height and arity, is folded row by row.
-fn numbers_fold<EF: ExtensionField<BabyBear>, S: FriFoldingStrategy<BabyBear, EF>>(
-    alloc: Global,
-    folding: &S,
-    log_height: usize,
-    log_arity: usize,
-) -> bool
-    requires { S.max_log_height folding.now ≡ 27 }
-{
-    if log_height > 20 || log_arity == 0 || log_arity > 4 {
-        return false;
-    }
-    let values = numbers(alloc, 1 << (log_height + log_arity));
-    values_fold(
-        alloc,
-        folding,
-        values,
-        log_height,
-        log_arity,
-        EF::GENERATOR,
-        &[],
-    )
-}
-
 /// The first matrix of the numbers from 0 on that isn't folded row by row, by a strategy over the
 /// whole two-adicity with so many extra bits.
 fn matrices_fold_row_by_row<EF: ExtensionField<BabyBear>, S: FriFoldingStrategy<BabyBear, EF>>(
@@ -195,7 +153,20 @@ fn matrices_fold_row_by_row<EF: ExtensionField<BabyBear>, S: FriFoldingStrategy<
         return Some("the whole two-adicity");
     }
     for (name, log_height, log_arity) in &MATRICES {
-        if !numbers_fold::<EF, S>(alloc, folding, *log_height, *log_arity) {
+        if *log_height > 20 || *log_arity == 0 || *log_arity > 4 {
+            return Some(*name);
+        }
+        let values = numbers(alloc, 1 << (*log_height + *log_arity));
+        let is_folded = fold_to(
+            alloc,
+            folding,
+            values,
+            *log_height,
+            *log_arity,
+            EF::GENERATOR,
+            &[],
+        );
+        if !is_folded {
             return Some(*name);
         }
     }
@@ -236,55 +207,35 @@ fn the_fifth_power_folds_to_multiples_of_points<S: FriFoldingStrategy<BabyBear, 
     }
 }
 
-/// Whether a row of two, 4 + X at the points 1 and -1 or 4 + X / w at w and -w, folds to 11 at this
-/// challenge.
-fn line_folds<S: FriFoldingStrategy<BabyBear, BabyBear>>(
-    folding: &S,
-    index: usize,
-    log_height: usize,
-    beta: BabyBear,
-) -> bool
-    requires two_adicity { S.max_log_height folding.now ≡ 27 }
-    requires height { log_height < 27 }
-    requires index { index < 2 ^ log_height }
-{
-    let line = [BabyBear::from_u64(5), BabyBear::from_u64(3)];
-    folding.fold_row(index, log_height, 1, beta, &line) == BabyBear::from_u64(11)
-}
-
-/// Whether a row of four, X^2 at the points 1, -1, i and -i, folds to this value.
-fn square_folds<S: FriFoldingStrategy<BabyBear, BabyBear>>(
-    folding: &S,
-    number: u64,
-    value: u64,
-) -> bool
-    requires { S.max_log_height folding.now ≡ 27 }
-{
-    let (one, minus_one) = (BabyBear::ONE, -BabyBear::ONE);
-    let square = [one, one, minus_one, minus_one];
-    folding.fold_row(0, 0, 2, BabyBear::from_u64(number), &square) == BabyBear::from_u64(value)
-}
-
 /// The first row that doesn't fold to the value of its polynomial.
 fn rows_fold_to_values<S: FriFoldingStrategy<BabyBear, BabyBear>>(
     folding: &S,
 ) -> Option<&'static str>
     requires { S.max_log_height folding.now ≡ 27 }
 {
-    let seven = BabyBear::from_u64(7);
+    let (seven, eleven) = (BabyBear::from_u64(7), BabyBear::from_u64(11));
+    // at the points 1 and -1 the line is 4 + X
+    let line = [BabyBear::from_u64(5), BabyBear::from_u64(3)];
+    let mut same = true;
     for log_height in 0..27 {
-        if !line_folds(folding, 0, log_height, seven) {
-            return Some("the first row of each height");
-        }
+        same = same && folding.fold_row(0, log_height, 1, seven, &line) == eleven;
     }
-    // of the root w of order 4
-    if !line_folds(folding, 1, 1, seven * BabyBear::two_adic_generator(2)) {
+    if !same {
+        return Some("the first row of each height");
+    }
+    // at the points w and -w, for the root w of order 4, the line is 4 + X / w
+    let beta = seven * BabyBear::two_adic_generator(2);
+    if folding.fold_row(1, 1, 1, beta, &line) != eleven {
         return Some("the second row of height 2");
     }
-    if !square_folds(folding, 3, 9) {
+    // at the points 1, -1, i and -i the polynomial is X^2
+    let minus_one = -BabyBear::ONE;
+    let square = [BabyBear::ONE, BabyBear::ONE, minus_one, minus_one];
+    let (three, nine) = (BabyBear::from_u64(3), BabyBear::from_u64(9));
+    if folding.fold_row(0, 0, 2, three, &square) != nine {
         return Some("a row of four at 3");
     }
-    if !square_folds(folding, 1, 1) {
+    if folding.fold_row(0, 0, 2, BabyBear::ONE, &square) != BabyBear::ONE {
         return Some("a row of four at 1");
     }
     None

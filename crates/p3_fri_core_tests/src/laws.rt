@@ -6,26 +6,6 @@ use p3_fri_core::laws::{
     binary_folds_law, fri_replay_law, fri_seed_examples_law, fri_seed_law, no_bits_law,
     pcs_replay_law, pcs_seed_examples_law, pcs_seed_law, pcs_shown_law,
 };
-use p3_fri_core::pcs_transcript::PcsShape;
-use p3_fri_core::transcript::FriShape;
-
-/// The laws of seeds.
-fn call_with(test: &FriShape, opening: &PcsShape) {
-    fri_seed_law::<BabyBear, BabyBear4>(test, test);
-    pcs_seed_law::<BabyBear, BabyBear4>(opening, opening);
-}
-
-/// The laws without values, and that of a binary fold.
-fn call_others() {
-    let (one, zero) = (BabyBear4::ONE, BabyBear4::ZERO);
-    binary_folds_law::<BabyBear, BabyBear4>(0, 0, 2, BabyBear4::GENERATOR, &[one, one, zero, zero]);
-    fri_seed_examples_law();
-    pcs_seed_examples_law();
-    no_bits_law::<Sha256Challenger, BabyBear>();
-    fri_replay_law::<Sha256Challenger, BabyBear, BabyBear4, [u8; 32]>();
-    pcs_replay_law::<Sha256Challenger, BabyBear, BabyBear4, [u8; 32]>();
-    pcs_shown_law::<Sha256Challenger, BabyBear, BabyBear4, [u8; 32]>();
-}
 
 #[test]
 fn laws_are_called_at_an_extension(rt: HostRuntime) {
@@ -34,6 +14,19 @@ fn laws_are_called_at_an_extension(rt: HostRuntime) {
     let (Ok(test), Ok(opening)) = (test, opening) else {
         panic!(rt; "memory was refused");
     };
-    call_with(&test, &opening);
-    call_others();
+    fri_seed_law::<BabyBear, BabyBear4>(&test, &test);
+    pcs_seed_law::<BabyBear, BabyBear4>(&opening, &opening);
+    let row = [
+        BabyBear4::ONE,
+        BabyBear4::ONE,
+        BabyBear4::ZERO,
+        BabyBear4::ZERO,
+    ];
+    binary_folds_law::<BabyBear, BabyBear4>(0, 0, 2, BabyBear4::GENERATOR, &row);
+    fri_seed_examples_law();
+    pcs_seed_examples_law();
+    no_bits_law::<Sha256Challenger, BabyBear>();
+    fri_replay_law::<Sha256Challenger, BabyBear, BabyBear4, [u8; 32]>();
+    pcs_replay_law::<Sha256Challenger, BabyBear, BabyBear4, [u8; 32]>();
+    pcs_shown_law::<Sha256Challenger, BabyBear, BabyBear4, [u8; 32]>();
 }

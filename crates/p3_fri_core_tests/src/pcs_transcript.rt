@@ -41,7 +41,7 @@ fn both_sides_meet<
 {
     let (bits, final_poly) = (case.bits.min(63), sent.final_poly);
     let answer = verify(alloc, &mut sides.verifier, case, claims, sent, run);
-    if answer == Err(Refusal::Seed) {
+    if let Err(Refusal::Seed) = answer {
         return case.is_seed_optional && sides.verifier == sides.prover;
     }
     let is_run = match case.form {

@@ -6,7 +6,7 @@ ghost use Rattle.p3_fri_transcript.specs.Shapes.{fri_shape};
 
 use p3_challenger::Sha256Challenger;
 use p3_field::{BabyBear, BabyBear4, ExtensionField, Field};
-use p3_fri_core::transcript::{FriShape, PlayedFri, ReplayedFri};
+use p3_fri_core::transcript::{FriShape, PlayedFri};
 use std::alloc::{AllocError, Global};
 
 /// The shape of rounds of these log arities, with one coefficient and four indices of three bits.
@@ -74,11 +74,6 @@ impl<F: Field, EF: ExtensionField<F>> Run<F, EF> {
         self.draws(beta, indices)
             && commit_witness == Some(self.commit_witness)
             && query_witness == Some(self.query_witness)
-    }
-
-    /// Whether a verifier's whole transcript draws them.
-    pub(crate) fn is_replayed(&self, replayed: &ReplayedFri<EF>) -> bool {
-        self.draws(sole(&replayed.betas), &replayed.indices)
     }
 
     /// Whether a prover's whole transcript is this run.

@@ -53,28 +53,20 @@ fn streams_tell_the_order_of_rounds(alloc: Global) -> bool {
     }
 }
 
-/// Whether the shape is its clone.
-fn is_cloned(alloc: Global, shape: &FriShape) -> bool {
-    match shape.clone(alloc) {
-        Ok(copy) => copy == *shape,
-        Err(_) => false,
-    }
-}
-
-/// Whether it has so many steps.
-fn has_steps(alloc: Global, shape: &FriShape, count: usize) -> bool {
-    match shape.pattern::<BabyBear, BabyBear4>(alloc) {
-        Ok(pattern) => pattern.steps().len() == count,
-        Err(_) => false,
-    }
-}
-
 /// Whether the shape has three rounds and twelve steps, and is its clone and the scheduled one.
 fn is_of_three_rounds(alloc: Global, shape: &FriShape, scheduled: &FriShape) -> bool {
-    is_cloned(alloc, shape)
-        && has_steps(alloc, shape, 12)
-        && *scheduled == *shape
-        && shape.log_arities.as_slice() == [3, 3, 2].as_slice()
+    match (
+        shape.clone(alloc),
+        shape.pattern::<BabyBear, BabyBear4>(alloc),
+    ) {
+        (Ok(copy), Ok(pattern)) => {
+            copy == *shape
+                && *scheduled == *shape
+                && shape.log_arities.as_slice() == [3, 3, 2].as_slice()
+                && pattern.steps().len() == 12
+        }
+        _ => false,
+    }
 }
 
 fn parameters_have_their_shape(alloc: Global) -> bool {

@@ -42,15 +42,14 @@ fn both_sides_meet<
 ) -> bool
     requires widths { 63 ≤ C.MAX_SAMPLE_BITS }
     requires constant { length final_poly.now ≡ 1 }
+    requires commit_bits { case.now.commit_pow_bits ≤ 63 }
+    requires query_bits { case.now.query_pow_bits ≤ 63 }
 {
-    if case.commit_pow_bits > 63 || case.query_pow_bits > 63 {
-        return false;
-    }
     let answer = match case.verifier {
         Form::Steps => verify_in_steps(alloc, &mut sides.verifier, case, sent, run),
         Form::Whole => verify_as_a_whole(alloc, &mut sides.verifier, case, sent, run),
     };
-    if answer == Err(Refusal::Seed) {
+    if let Err(Refusal::Seed) = answer {
         return case.is_seed_optional && sides.verifier == sides.prover;
     }
     let is_run = match case.prover {
@@ -69,6 +68,9 @@ fn both_sides_meet<
 /// Whether both sides run as the case says, by new challengers.
 fn is_met(alloc: Global, case: &Case) -> bool {
     if case.commitments > 50 || case.commit_witnesses > 50 || case.coefficients > 3 {
+        return false;
+    }
+    if case.commit_pow_bits > 63 || case.query_pow_bits > 63 {
         return false;
     }
     let (sevens, fives) = ([[7u8; 32]; 50], [BabyBear4::from_u64(5); 3]);

@@ -59,36 +59,21 @@ pub(crate) fn claims_of(alloc: Global, count: usize) -> Result<Vec<Claim<BabyBea
     listed(alloc, claim)
 }
 
-/// Appends these lists.
-fn push_lists(
-    alloc: Global,
-    lists: &mut Vec<Vec<usize>>,
-    each: &[&[usize]],
-) -> Result<(), AllocError> {
-    for list in each {
-        lists.push(Vec::from_slice(alloc, *list)?)?;
+/// A list of lists.
+fn nested(alloc: Global, lists: &[&[usize]]) -> Result<Vec<Vec<usize>>, AllocError> {
+    let mut all = Vec::new(alloc);
+    for list in lists {
+        all.push(Vec::from_slice(alloc, *list)?)?;
     }
-    Ok(())
-}
-
-/// Appends lists of lists.
-fn push_nested(
-    alloc: Global,
-    nested: &mut Vec<Vec<Vec<usize>>>,
-    each: Counts,
-) -> Result<(), AllocError> {
-    for lists in each {
-        let mut all = Vec::new(alloc);
-        push_lists(alloc, &mut all, *lists)?;
-        nested.push(all)?;
-    }
-    Ok(())
+    Ok(all)
 }
 
 /// A shape by its counts.
 pub(crate) fn shape_of(alloc: Global, counts: Counts) -> Result<PcsShape, AllocError> {
     let mut claimed_evaluation_counts = Vec::new(alloc);
-    push_nested(alloc, &mut claimed_evaluation_counts, counts)?;
+    for matrices in counts {
+        claimed_evaluation_counts.push(nested(alloc, *matrices)?)?;
+    }
     Ok(PcsShape {
         claimed_evaluation_counts,
         batch_pow_bits: 0,
@@ -136,25 +121,15 @@ fn claims_have_shape(alloc: Global, claimed: usize, counts: Counts) -> bool {
     }
 }
 
-/// Whether the shape is its clone.
-fn is_cloned(alloc: Global, shape: &PcsShape) -> bool {
-    match shape.clone(alloc) {
-        Ok(copy) => copy == *shape,
-        Err(_) => false,
-    }
-}
-
-/// Whether it has so many steps.
-fn has_steps(alloc: Global, shape: &PcsShape, count: usize) -> bool {
-    match shape.pattern::<BabyBear, BabyBear4>(alloc) {
-        Ok(pattern) => pattern.steps().len() == count,
-        Err(_) => false,
-    }
-}
-
 /// Whether a shape of three openings has six steps and is its clone.
 fn is_of_three_openings(alloc: Global, shape: &PcsShape) -> bool {
-    is_cloned(alloc, shape) && has_steps(alloc, shape, 6) && shape.num_openings() == 3
+    let (Ok(copy), Ok(pattern)) = (
+        shape.clone(alloc),
+        shape.pattern::<BabyBear, BabyBear4>(alloc),
+    ) else {
+        return false;
+    };
+    copy == *shape && shape.num_openings() == 3 && pattern.steps().len() == 6
 }
 
 fn shapes_have_their_openings(alloc: Global) -> bool {
@@ -164,31 +139,16 @@ fn shapes_have_their_openings(alloc: Global) -> bool {
     }
 }
 
-/// The first groupings with one stream.
-fn first_same(alloc: Global) -> Option<&'static str> {
-    for (name, one, other) in &GROUPINGS {
-        if !differ(alloc, *one, *other) {
-            return Some(*name);
-        }
-    }
-    None
-}
-
-/// The first number of claimed values that doesn't have its shape.
-fn first_misshaped(alloc: Global) -> Option<usize> {
-    for (claimed, counts) in &CLAIMED {
-        if !claims_have_shape(alloc, *claimed, *counts) {
-            return Some(*claimed);
-        }
-    }
-    None
-}
-
 #[test]
 fn groupings_have_streams_of_their_own(rt: HostRuntime) {
-    let same = first_same(rt.alloc());
-    assert!(rt; same.is_none(), "{same:?}");
-    let misshaped = first_misshaped(rt.alloc());
-    assert!(rt; misshaped.is_none(), "{misshaped:?} claimed");
+    for (name, one, other) in &GROUPINGS {
+        assert!(rt; differ(rt.alloc(), *one, *other), "{name}");
+    }
+    for (claimed, counts) in &CLAIMED {
+        assert!(rt;
+            claims_have_shape(rt.alloc(), *claimed, *counts),
+            "{claimed} claimed"
+        );
+    }
     assert!(rt; shapes_have_their_openings(rt.alloc()));
 }

@@ -4,7 +4,7 @@ ghost use Rattle.std.specs.Prelude.{◌≤◌};
 
 use crate::pcs_transcript::cases::{Answer, Case, Claim, Counts, Form, PcsRun};
 use crate::pcs_transcript::shapes::{parameters, shape_of};
-use crate::run::{shape_of as test_of, witness_of};
+use crate::run::{shape_of as test_of, sole, witness_of};
 use p3_challenger::{CanObserve, FieldChallenger, GrindingChallenger};
 use p3_field::{ExtensionField, Field};
 use p3_fri_core::pcs_transcript::{
@@ -102,7 +102,10 @@ fn verify_as_a_whole<
         return Err(Refusal::Seed);
     };
     match replay_pcs(alloc, challenger, shape, claims, batch_witness, test, sent) {
-        Ok(replayed) => Ok(run.is_replayed(&replayed)),
+        Ok(replayed) => {
+            let beta = sole(&replayed.betas);
+            Ok(replayed.alpha == run.alpha && run.test.draws(beta, &replayed.indices))
+        }
         Err(refusal) => Err(refusal),
     }
 }

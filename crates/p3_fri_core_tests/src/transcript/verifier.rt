@@ -81,7 +81,7 @@ pub(crate) fn verify_as_a_whole<
         return Err(Refusal::Seed);
     };
     match replay_fri(alloc, challenger, shape, sent) {
-        Ok(replayed) => Ok(run.is_replayed(&replayed)),
+        Ok(replayed) => Ok(run.draws(sole(&replayed.betas), &replayed.indices)),
         Err(refusal) => Err(refusal),
     }
 }
