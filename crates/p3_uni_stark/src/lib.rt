@@ -7,6 +7,10 @@
 pub use p3_air::{Air, AirBuilder, AirError, AirLayout, DegreeError};
 pub use p3_uni_stark_pcs::TwoAdicStarkPcs;
 pub use p3_uni_stark_prover::{ProvingError, has_room, prove};
+pub use p3_uni_stark_system::{
+    PlainSystem, PreprocessingError, SystemProvingError, SystemVerificationError, prove_system,
+    verify_system,
+};
 pub use p3_uni_stark_verifier::{
     Commitments, OpenedValues, PreprocessedVerifierKey, Proof, Statement, VerificationError, verify,
 };
