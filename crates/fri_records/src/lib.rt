@@ -3,11 +3,13 @@
 #![tactic(auto)]
 
 mod fault;
+mod parameters;
 mod records;
 
 pub use crate::fault::{
     Fault, Misfit, Place, ReadError, Record, RequestError, VerifierError, VerifyError,
 };
+pub use crate::parameters::{Rounds, fri_parameters, prover_parameters, verifier_parameters};
 pub use crate::records::{
     Batch, BatchClaims, Domain, Matrix, MatrixClaims, Parameters, PointClaims, Request,
 };

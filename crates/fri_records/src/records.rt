@@ -2,7 +2,8 @@
 //! extension the list of its four coefficients' numbers, that of one first, a commitment the hex
 //! text of its 32 bytes, and a context that of its bytes.
 
-ghost use Rattle.std.specs.Prelude.{◌≡◌, ◌+◌, ◌*◌, ◌^◌, ◌-◌, min};
+ghost use Rattle.std.specs.Prelude.{◌≡◌};
+ghost use Rattle.fri_records.specs.Records.{conjectured_bits};
 
 use serde::{Deserialize, Serialize};
 
@@ -23,8 +24,7 @@ impl Parameters {
     /// those of the queries, and those of the proof of work before them; at most as many as a
     /// number holds. Only the sum is proved here, and not what it says of soundness.
     pub fn conjectured_soundness_bits(&self) -> usize
-        ensures { result ≡ min (min (self.now.log_blowup * self.now.num_queries) (2 ^ 64 - 1)
-            + self.now.query_proof_of_work_bits) (2 ^ 64 - 1) }
+        ensures { result ≡ conjectured_bits self.now }
     {
         self.log_blowup
             .saturating_mul(self.num_queries)
@@ -40,7 +40,7 @@ pub struct Domain {
 }
 
 /// A matrix, whose columns are functions on the domain, and the points to open it at.
-#[derive(Drop, Serialize, Deserialize)]
+#[derive(Drop, Deserialize)]
 pub struct Matrix {
     pub domain: Domain,
     /// The number of columns.
@@ -51,13 +51,13 @@ pub struct Matrix {
 }
 
 /// The matrices under one commitment.
-#[derive(Drop, Serialize, Deserialize)]
+#[derive(Drop, Deserialize)]
 pub struct Batch {
     pub matrices: Vec<Matrix>,
 }
 
 /// What is committed to and opened.
-#[derive(Drop, Serialize, Deserialize)]
+#[derive(Drop, Deserialize)]
 pub struct Request {
     /// What the application binds the proof to beside the rest: its name, public data, and what was
     /// sent before. Empty if it isn't there.

@@ -31,14 +31,14 @@ use Rattle.fri_records.specs.declared.records.Batch.{Batch}
 use Rattle.fri_records.specs.declared.records.Request.{Request}
 use Rattle.fri_requests.specs.declared.committed.Committed.{Committed}
 use Rattle.fri_requests.specs.Bound.{IsContext, context_listed, batch_asked, bound}
-use Rattle.fri_records.specs.Records.{parameters_in}
+use Rattle.fri_records.specs.Records.{parameters_in, AreProvers}
 use Rattle.fri_statement.specs.Numbers.{coefficient_numbers}
 use Rattle.fri_requests.specs.Numbers.{extension_of, IsExtensionElement}
 use Rattle.fri_statement.specs.Setting.{fields}
 use Rattle.fri_requests.specs.Matrices.{held_listed}
 use Rattle.fri_requests.specs.Commitments.{IsKept, Keeps}
 use Rattle.fri_requests.specs.Openings.{HavePoints, request_for}
-use Rattle.fri_requests.specs.Requests.{AreProvers, HasPoints, AllMatrices, CanCommit, CanOpen}
+use Rattle.fri_requests.specs.Requests.{HasPoints, AllMatrices, CanCommit, CanOpen}
 use Rattle.fri_requests.specs.Requests.{points_listed, input_bytes, Refuses, HasLists, HaveMatrix}
 use Rattle.fri_requests.specs.Requests.{IsRefusedRequest}
 use Rattle.fri_requests.proofs.Listed.{every_extension_again, every_is_extension}

@@ -1,5 +1,5 @@
 -- Which requests can be committed to and opened, and which the scheme refuses to open.
-use Rattle.std.specs.Prelude.{◌≢◌, ◌≡◌, ℕ, ◌*◌, ◌-◌, ◌^◌, ◌<◌, ◌≤◌, List, [], map, length, All}
+use Rattle.std.specs.Prelude.{◌≢◌, ◌≡◌, ℕ, ◌*◌, ◌-◌, ◌^◌, ◌<◌, List, [], map, length, All}
 use Rattle.std.specs.Prelude.{string_bytes}
 use Rattle.std.specs.List.{AllZip, flat_map}
 use Rattle.std.specs.declared.alloc.Global.{Global}
@@ -21,24 +21,17 @@ use Rattle.p3_fri_folding.specs.declared.error.FriProverError.TheVariants.{OutOf
 use Rattle.p3_fri_relation.specs.Setting as setting
 use Rattle.p3_fri_opening_prover.specs.Setting.{OpeningSetting}
 use Rattle.p3_fri_two_adic.specs.Refusals.{OpenRefusal}
-use Rattle.p3_fri_two_adic.specs.Ranges.{InProverRange}
-use Rattle.fri_records.specs.declared.records.Parameters.{Parameters}
 use Rattle.fri_records.specs.declared.records.Matrix.{Matrix}
 use Rattle.fri_records.specs.declared.records.Batch.{Batch}
 use Rattle.fri_records.specs.declared.records.Request.{Request}
 use Rattle.fri_requests.specs.declared.committed.Committed.{Committed}
 use Rattle.fri_requests.specs.Numbers.{extension_of, IsElement, IsExtensionElement}
-use Rattle.fri_records.specs.Records.{parameters_in}
+use Rattle.fri_records.specs.Records.{parameters_in, AreProvers}
 use Rattle.fri_requests.specs.Bound.{IsContext, context_listed, batch_asked, bound}
 use Rattle.fri_requests.specs.Statements.{IsCoset}
 use Rattle.fri_requests.specs.Commitments.{Keeps}
 use Rattle.fri_requests.specs.Openings.{request_for}
 use Rattle.fri_statement.specs.Setting.{sha256_setting}
-
--- parameters of a prover: in its range, with a blowup within the two-adicity
-pub record AreProvers (p : Parameters) : Type 0 where
-  pub range : InProverRange (parameters_in p) 27 63
-  pub blowup : p.log_blowup ≤ 27
 
 -- a matrix on a coset with room for its extension: some column, and for each column and point of
 -- the coset an element

@@ -1,14 +1,13 @@
-//! The scheme at its instances, and the parameters for which it opens and verifies.
+//! The scheme at its instances.
 
-ghost use Rattle.std.specs.Prelude.{◌≡◌, ◌<◌, ◌≤◌, ◌↔◌, IsTrue, IfOk, IfErr};
+ghost use Rattle.std.specs.Prelude.{◌≡◌, ◌≤◌, IfOk, IfErr};
 ghost use Rattle.p3_fri_relation.specs.Views.{parameters_of};
 ghost use Rattle.p3_fri_two_adic.specs.Ranges.{InProverRange, InVerifierRange};
-ghost use Rattle.fri_records.specs.Records.{parameters_in, AreDifficultiesLow};
-ghost use Rattle.fri_requests.specs.Requests.{AreProvers};
+ghost use Rattle.fri_records.specs.Records.{parameters_in, AreProvers};
 
-use fri_records::{Fault, Misfit, Parameters, Place};
+use fri_records::{Misfit, Parameters, Rounds, prover_parameters, verifier_parameters};
 use p3_dft::Radix2Dit;
-use p3_field::{BabyBear, BabyBear4, TwoAdicField, TwoAdicMultiplicativeCoset};
+use p3_field::{BabyBear, BabyBear4, TwoAdicMultiplicativeCoset};
 use p3_fri_folding::FriParameters;
 use p3_fri_relation::proof::{BatchMultiOpening, FriProof};
 use p3_fri_two_adic::TwoAdicFriPcs;
@@ -16,9 +15,6 @@ use p3_mmcs::{CommitmentOpening, Mmcs, Sha256Mmcs};
 
 /// The tree of matrices.
 pub type Inputs = Sha256Mmcs<BabyBear>;
-
-/// The tree of folded words.
-pub type Rounds = Sha256Mmcs<BabyBear4>;
 
 pub(crate) type Data = <Inputs as Mmcs<BabyBear>>::ProverData;
 
@@ -31,39 +27,11 @@ pub(crate) type Claims = Vec<CommitmentOpening<BabyBear4, [u8; 32], Coset>>;
 /// The scheme's proof.
 pub type Proof = FriProof<BabyBear4, Rounds, BabyBear, Vec<BatchMultiOpening<BabyBear, Inputs>>>;
 
-/// The greatest difficulty: as many bits as the challenger draws at once.
-const GREATEST_DIFFICULTY: usize = 63;
-
-/// The parameters of the low-degree test.
-pub(crate) fn fri_of(parameters: &Parameters) -> FriParameters<Rounds>
-    ensures { parameters_of result ≡ parameters_in parameters.now }
-{
-    FriParameters {
-        log_blowup: parameters.log_blowup,
-        log_final_poly_len: parameters.log_final_poly_len,
-        max_log_arity: parameters.max_log_arity,
-        num_queries: parameters.num_queries,
-        batch_proof_of_work_bits: parameters.batch_proof_of_work_bits,
-        commit_proof_of_work_bits: parameters.commit_proof_of_work_bits,
-        query_proof_of_work_bits: parameters.query_proof_of_work_bits,
-        mmcs: Sha256Mmcs::new(),
-    }
-}
-
 /// The scheme of these parameters.
-fn scheme_of(parameters: &Parameters) -> Scheme
-    ensures { parameters_of result.fri ≡ parameters_in parameters.now }
+fn scheme_of(fri: FriParameters<Rounds>) -> Scheme
+    ensures { result.fri ≡ fri }
 {
-    TwoAdicFriPcs::new(Radix2Dit::default(), Sha256Mmcs::new(), fri_of(parameters))
-}
-
-/// Whether the challenger draws as many bits at once as each difficulty.
-fn are_difficulties_low(parameters: &Parameters) -> bool
-    ensures { IsTrue result ↔ AreDifficultiesLow parameters.now }
-{
-    parameters.batch_proof_of_work_bits <= GREATEST_DIFFICULTY
-        && parameters.commit_proof_of_work_bits <= GREATEST_DIFFICULTY
-        && parameters.query_proof_of_work_bits <= GREATEST_DIFFICULTY
+    TwoAdicFriPcs::new(Radix2Dit::default(), Sha256Mmcs::new(), fri)
 }
 
 /// The scheme of a prover with these parameters.
@@ -73,19 +41,7 @@ pub(crate) fn proving_scheme(parameters: &Parameters) -> Result<Scheme, Misfit>
     ensures blowup { IfOk result (λ s. s.fri.log_blowup ≤ 27) }
     ensures refused { IfErr result (λ _. ¬ AreProvers parameters.now) }
 {
-    if parameters.log_blowup == 0 || parameters.log_blowup > BabyBear::TWO_ADICITY {
-        return Err(Place::NONE.lacks(Fault::LogBlowup));
-    }
-    if parameters.max_log_arity == 0 {
-        return Err(Place::NONE.lacks(Fault::MaxLogArity));
-    }
-    if parameters.num_queries == 0 {
-        return Err(Place::NONE.lacks(Fault::NumQueries));
-    }
-    if !are_difficulties_low(parameters) {
-        return Err(Place::NONE.lacks(Fault::ProofOfWorkBits));
-    }
-    Ok(scheme_of(parameters))
+    Ok(scheme_of(prover_parameters(parameters)?))
 }
 
 /// The scheme of a verifier with these parameters.
@@ -95,15 +51,5 @@ pub(crate) fn verifying_scheme(parameters: &Parameters) -> Result<Scheme, Misfit
     ensures refused { IfErr result (λ _.
         ¬ InVerifierRange (parameters_in parameters.now) 27 63) }
 {
-    let final_height = parameters
-        .log_blowup
-        .checked_add(parameters.log_final_poly_len);
-    match final_height {
-        Some(height) if height < 64 => {},
-        _ => return Err(Place::NONE.lacks(Fault::LogFinalPolyLen)),
-    }
-    if !are_difficulties_low(parameters) {
-        return Err(Place::NONE.lacks(Fault::ProofOfWorkBits));
-    }
-    Ok(scheme_of(parameters))
+    Ok(scheme_of(verifier_parameters(parameters)?))
 }

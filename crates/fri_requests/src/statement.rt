@@ -18,8 +18,8 @@ ghost use Rattle.fri_records.specs.Records.{parameters_in};
 
 use crate::committed::Committed;
 use crate::elements::coefficients;
-use crate::scheme::{Coset, fri_of};
-use fri_records::{Batch, Fault, Parameters, Place, ReadError};
+use crate::scheme::Coset;
+use fri_records::{Batch, Fault, Parameters, Place, ReadError, fri_parameters};
 use fri_statement::{StatedCommitment, StatedMatrix, absorb_statement, challenge_after};
 use hex::FromHexError;
 use p3_challenger_sha256::Sha256Challenger;
@@ -171,7 +171,7 @@ pub(crate) fn bound_challenger(
         alloc,
         &mut challenger,
         &context,
-        &fri_of(parameters),
+        &fri_parameters(parameters),
         commitments,
     )?;
     Ok(challenger)

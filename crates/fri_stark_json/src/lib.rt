@@ -8,7 +8,6 @@
 
 mod checking;
 mod failure;
-mod parameters;
 mod proving;
 mod records;
 mod scheme;

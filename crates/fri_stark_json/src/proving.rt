@@ -1,23 +1,26 @@
 //! Proofs, made of traces.
 
-ghost use Rattle.std.specs.Prelude.{◌≡◌, IfOk};
+ghost use Rattle.std.specs.Prelude.{◌≡◌, ◌⊎◌, IfOk, IfErr};
 ghost use Rattle.algebra.specs.Nested.{lists};
-ghost use Rattle.fri_records.specs.Records.{parameters_in};
 ghost use Rattle.p3_air_plain.specs.Checked.{IsSatisfiedIn};
 ghost use Rattle.p3_challenger_sha256.specs.Sha256.{start};
 ghost use Rattle.p3_uni_stark_plain.specs.Proofs.{stark_seen, stark_numbers, stark_listed};
+ghost use Rattle.p3_uni_stark_plain.specs.declared.forms.PlainStarkProof.{
+  PlainStarkProof as Form,
+};
+ghost use Rattle.p3_uni_stark_system.specs.Proved.{IsUnproved, ProvingFault};
 ghost use Rattle.p3_uni_stark_system.specs.Systems.{with_trace};
 ghost use Rattle.p3_uni_stark_verifier.specs.Setting.{stark_setting};
-ghost use Rattle.fri_stark_json.specs.Systems.{numbers_in};
-ghost use Rattle.fri_stark_json.specs.Verdicts.{IsAccepted};
+ghost use Rattle.fri_stark_json.specs.Systems.{numbers_in, IsMadeWith};
+ghost use Rattle.fri_stark_json.specs.Verdicts.{IsAccepted, NoProof, IsOfText};
 
 use crate::failure::Failure;
-use crate::parameters::proving;
 use crate::records::{System, Trace};
 use crate::scheme::MadeScheme;
+use fri_records::prover_parameters;
 use p3_challenger_core::Plays;
 use p3_challenger_sha256::Sha256Challenger;
-use p3_field::{BabyBear, BabyBear4, Field, PrimeField64};
+use p3_field::{BabyBear, BabyBear4, ExtensionField, Field, PrimeField64, TwoAdicField};
 use p3_fri_plain::Plain;
 use p3_uni_stark_plain::{PlainStarkProof, stark_to_plain};
 use p3_uni_stark_system::prove_system;
@@ -38,8 +41,8 @@ where
     ensures accepted { IfOk result (λ form. IsAccepted ⟦<BabyBear as PrimeField64>⟧.canonical
         (λ s. stark_setting ⟦<BabyBear4 as StarkField<BabyBear>>⟧.fields
         ⟦<Sha256Challenger as Plays<BabyBear, BabyBear4, [u8; 32]>>⟧.moves P.ZK (P.rules s)
-        (λ k d. (d.shift ≡ ⟦<BabyBear as Field>⟧.ONE) × (d.log_size ≡ k))) P.parameters
-        (parameters_in system.now.parameters)
+        (λ k d. (d.shift ≡ ⟦<BabyBear as Field>⟧.ONE) × (d.log_size ≡ k)))
+        (IsMadeWith P.IsMade system.now seed)
         (λ proof. stark_numbers P.Proof.numbers (stark_seen P.Proof.seen proof)
         ≡ stark_listed P.Proof.listed form)
         (numbers_in system.now trace.now.public_values.items) start form.log_height) }
@@ -47,8 +50,23 @@ where
         ⟦<BabyBear as PrimeField64>⟧.ORDER_U64 ⟦<BabyBear as PrimeField64>⟧.canonical system.now.air
         (with_trace (numbers_in system.now trace.now.public_values.items)
         (lists trace.now.trace.items))) }
+    ensures refused { IfErr result (NoProof
+        (IsMadeWith P.IsMade system.now seed) (λ made after.
+        ProvingFault (P.stark_rules made) P.ZK
+        (λ k d. (d.shift ≡ ⟦<BabyBear as Field>⟧.ONE) × (d.log_size ≡ k))
+        ⟦<BabyBear as Field>⟧.ops ⟦<BabyBear as TwoAdicField>⟧.TWO_ADICITY
+        system.now.parameters.log_blowup ⟦<BabyBear as PrimeField64>⟧.ORDER_U64
+        ⟦<BabyBear as PrimeField64>⟧.canonical
+        (IsUnproved ⟦<BabyBear4 as StarkField<BabyBear>>⟧.fields
+        ⟦<BabyBear4 as ExtensionField<BabyBear>>⟧.coefficients
+        ⟦<Sha256Challenger as Plays<BabyBear, BabyBear4, [u8; 32]>>⟧.moves (λ d. d.shift)
+        (λ d. d.log_size) P.ZK (λ k d. (d.shift ≡ ⟦<BabyBear as Field>⟧.ONE) × (d.log_size ≡ k))
+        P.rules P.stark_rules P.embed P.point P.recombined P.chunk_polynomials
+        P.EvaluationRefuses (λ s. P.Keeps made s) after start) system.now.air
+        (with_trace (numbers_in system.now trace.now.public_values.items)
+        (lists trace.now.trace.items))) system.now.parameters) }
 {
-    let fri = match proving(&system.parameters) {
+    let fri = match prover_parameters(&system.parameters) {
         Ok(fri) => fri,
         Err(misfit) => return Err(Failure::Parameters(misfit)),
     };
@@ -60,7 +78,6 @@ where
         &system.plain(),
         trace.public_values.as_slice(),
         trace.trace.as_slice(),
-        system.parameters.log_blowup,
         &mut challenger,
     );
     let proof = match proved {
@@ -83,10 +100,34 @@ pub fn prove<P: MadeScheme>(
 where
     P::Proof: Plain,
     <P::Proof as Plain>::Form: Serialize,
+    ensures accepted { IfOk result (λ _. (form : Form P.Proof.Form)
+        × IsAccepted ⟦<BabyBear as PrimeField64>⟧.canonical
+        (λ s. stark_setting ⟦<BabyBear4 as StarkField<BabyBear>>⟧.fields
+        ⟦<Sha256Challenger as Plays<BabyBear, BabyBear4, [u8; 32]>>⟧.moves P.ZK (P.rules s)
+        (λ k d. (d.shift ≡ ⟦<BabyBear as Field>⟧.ONE) × (d.log_size ≡ k)))
+        (IsMadeWith P.IsMade system.now seed)
+        (λ proof. stark_numbers P.Proof.numbers (stark_seen P.Proof.seen proof)
+        ≡ stark_listed P.Proof.listed form)
+        (numbers_in system.now trace.now.public_values.items) start form.log_height) }
     ensures satisfied { IfOk result (λ _. IsSatisfiedIn ⟦<BabyBear as Field>⟧.ops
         ⟦<BabyBear as PrimeField64>⟧.ORDER_U64 ⟦<BabyBear as PrimeField64>⟧.canonical system.now.air
         (with_trace (numbers_in system.now trace.now.public_values.items)
         (lists trace.now.trace.items))) }
+    ensures refused { IfErr result (λ e. IsOfText e ⊎ NoProof
+        (IsMadeWith P.IsMade system.now seed) (λ made after.
+        ProvingFault (P.stark_rules made) P.ZK
+        (λ k d. (d.shift ≡ ⟦<BabyBear as Field>⟧.ONE) × (d.log_size ≡ k))
+        ⟦<BabyBear as Field>⟧.ops ⟦<BabyBear as TwoAdicField>⟧.TWO_ADICITY
+        system.now.parameters.log_blowup ⟦<BabyBear as PrimeField64>⟧.ORDER_U64
+        ⟦<BabyBear as PrimeField64>⟧.canonical
+        (IsUnproved ⟦<BabyBear4 as StarkField<BabyBear>>⟧.fields
+        ⟦<BabyBear4 as ExtensionField<BabyBear>>⟧.coefficients
+        ⟦<Sha256Challenger as Plays<BabyBear, BabyBear4, [u8; 32]>>⟧.moves (λ d. d.shift)
+        (λ d. d.log_size) P.ZK (λ k d. (d.shift ≡ ⟦<BabyBear as Field>⟧.ONE) × (d.log_size ≡ k))
+        P.rules P.stark_rules P.embed P.point P.recombined P.chunk_polynomials
+        P.EvaluationRefuses (λ s. P.Keeps made s) after start) system.now.air
+        (with_trace (numbers_in system.now trace.now.public_values.items)
+        (lists trace.now.trace.items))) system.now.parameters e) }
 {
     let form = match prove_form::<P>(alloc, system, trace, seed) {
         Ok(form) => form,

@@ -1,8 +1,9 @@
 //! The records of texts. An element is its canonical number.
 
-ghost use Rattle.std.specs.Prelude.{◌≡◌, ℕ, List};
+ghost use Rattle.std.specs.Prelude.{◌≡◌, ℕ, List, IfErr};
 ghost use Rattle.p3_uni_stark_system.specs.Systems.{numbers_of};
 ghost use Rattle.fri_stark_json.specs.Systems.{numbers_in};
+ghost use Rattle.fri_stark_json.specs.Verdicts.{IsOfText};
 
 use crate::failure::Failure;
 use fri_records::Parameters;
@@ -53,7 +54,9 @@ pub struct Trace {
 }
 
 /// The record in a JSON text.
-pub fn read<'de, T: Deserialize<'de>, E>(alloc: Global, text: &'de str) -> Result<T, Failure<E>> {
+pub fn read<'de, T: Deserialize<'de>, E>(alloc: Global, text: &'de str) -> Result<T, Failure<E>>
+    ensures { IfErr result IsOfText }
+{
     match serde_json::from_str(alloc, text) {
         Ok(record) => Ok(record),
         Err(error) => Err(Failure::Json(error)),

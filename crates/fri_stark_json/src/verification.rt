@@ -1,20 +1,21 @@
 //! Proofs, verified of systems.
 
-ghost use Rattle.std.specs.Prelude.{◌≡◌, IfOk};
-ghost use Rattle.fri_records.specs.Records.{parameters_in};
+ghost use Rattle.std.specs.Prelude.{◌≡◌, ◌⊎◌, IfOk, IfErr};
+ghost use Rattle.fri_records.specs.Records.{conjectured_bits};
 ghost use Rattle.p3_challenger_sha256.specs.Sha256.{start};
 ghost use Rattle.p3_uni_stark_plain.specs.Proofs.{stark_seen, stark_numbers, stark_listed};
+ghost use Rattle.p3_uni_stark_plain.specs.Proofs.{StarkFormFault};
 ghost use Rattle.p3_uni_stark_plain.specs.declared.forms.PlainStarkProof.{
   PlainStarkProof as Form,
 };
 ghost use Rattle.p3_uni_stark_verifier.specs.Setting.{stark_setting};
-ghost use Rattle.fri_stark_json.specs.Systems.{numbers_in};
-ghost use Rattle.fri_stark_json.specs.Verdicts.{IsAccepted};
+ghost use Rattle.fri_stark_json.specs.Systems.{numbers_in, IsMadeFor};
+ghost use Rattle.fri_stark_json.specs.Verdicts.{IsAccepted, IsRefused, NotAccepted, IsOfText};
 
 use crate::failure::Failure;
-use crate::parameters::verifying;
 use crate::records::{PublicValues, System, read};
 use crate::scheme::MadeScheme;
+use fri_records::verifier_parameters;
 use p3_challenger_core::Plays;
 use p3_challenger_sha256::Sha256Challenger;
 use p3_dft::Radix2Dit;
@@ -48,17 +49,31 @@ where
     ensures accepted { IfOk result (λ accepted. IsAccepted ⟦<BabyBear as PrimeField64>⟧.canonical
         (λ s. stark_setting ⟦<BabyBear4 as StarkField<BabyBear>>⟧.fields
         ⟦<Sha256Challenger as Plays<BabyBear, BabyBear4, [u8; 32]>>⟧.moves P.ZK (P.rules s)
-        (λ k d. (d.shift ≡ ⟦<BabyBear as Field>⟧.ONE) × (d.log_size ≡ k))) P.parameters
-        (parameters_in system.now.parameters)
+        (λ k d. (d.shift ≡ ⟦<BabyBear as Field>⟧.ONE) × (d.log_size ≡ k)))
+        (IsMadeFor P.IsMade system.now)
         (λ proof. stark_numbers P.Proof.numbers (stark_seen P.Proof.seen proof)
         ≡ stark_listed P.Proof.listed form.now)
         (numbers_in system.now public_values.now.public_values.items) start accepted.log_height) }
+    ensures bits { IfOk result (λ accepted.
+        accepted.soundness_bits ≡ conjectured_bits system.now.parameters) }
+    ensures refused { IfErr result (NotAccepted
+        (λ e. StarkFormFault P.Proof.has_fault e (stark_listed P.Proof.listed form.now))
+        (IsRefused ⟦<BabyBear as PrimeField64>⟧.canonical
+        (λ s. stark_setting ⟦<BabyBear4 as StarkField<BabyBear>>⟧.fields
+        ⟦<Sha256Challenger as Plays<BabyBear, BabyBear4, [u8; 32]>>⟧.moves P.ZK (P.rules s)
+        (λ k d. (d.shift ≡ ⟦<BabyBear as Field>⟧.ONE) × (d.log_size ≡ k)))
+        (IsMadeFor P.IsMade system.now)
+        (λ proof. stark_numbers P.Proof.numbers (stark_seen P.Proof.seen proof)
+        ≡ stark_listed P.Proof.listed form.now)
+        (numbers_in system.now public_values.now.public_values.items) start P.stark_rules
+        ⟦<BabyBear as PrimeField64>⟧.ORDER_U64 system.now.parameters.log_blowup)
+        system.now.parameters) }
 {
     let proof = match stark_from_plain::<P::Proof>(alloc, form) {
         Ok(proof) => proof,
         Err(fault) => return Err(Failure::Form(fault)),
     };
-    let fri = match verifying(&system.parameters) {
+    let fri = match verifier_parameters(&system.parameters) {
         Ok(fri) => fri,
         Err(misfit) => return Err(Failure::Parameters(misfit)),
     };
@@ -77,7 +92,6 @@ where
         alloc,
         &system.plain(),
         public_values.public_values.as_slice(),
-        system.parameters.log_blowup,
         &proof,
         &mut challenger,
     );
@@ -104,11 +118,25 @@ where
         × IsAccepted ⟦<BabyBear as PrimeField64>⟧.canonical
         (λ s. stark_setting ⟦<BabyBear4 as StarkField<BabyBear>>⟧.fields
         ⟦<Sha256Challenger as Plays<BabyBear, BabyBear4, [u8; 32]>>⟧.moves P.ZK (P.rules s)
-        (λ k d. (d.shift ≡ ⟦<BabyBear as Field>⟧.ONE) × (d.log_size ≡ k))) P.parameters
-        (parameters_in system.now.parameters)
+        (λ k d. (d.shift ≡ ⟦<BabyBear as Field>⟧.ONE) × (d.log_size ≡ k)))
+        (IsMadeFor P.IsMade system.now)
         (λ proof. stark_numbers P.Proof.numbers (stark_seen P.Proof.seen proof)
         ≡ stark_listed P.Proof.listed form)
         (numbers_in system.now public_values.now.public_values.items) start accepted.log_height) }
+    ensures bits { IfOk result (λ accepted.
+        accepted.soundness_bits ≡ conjectured_bits system.now.parameters) }
+    ensures refused { IfErr result (λ e. IsOfText e ⊎ (form : Form P.Proof.Form) × NotAccepted
+        (λ fault. StarkFormFault P.Proof.has_fault fault (stark_listed P.Proof.listed form))
+        (IsRefused ⟦<BabyBear as PrimeField64>⟧.canonical
+        (λ s. stark_setting ⟦<BabyBear4 as StarkField<BabyBear>>⟧.fields
+        ⟦<Sha256Challenger as Plays<BabyBear, BabyBear4, [u8; 32]>>⟧.moves P.ZK (P.rules s)
+        (λ k d. (d.shift ≡ ⟦<BabyBear as Field>⟧.ONE) × (d.log_size ≡ k)))
+        (IsMadeFor P.IsMade system.now)
+        (λ proof. stark_numbers P.Proof.numbers (stark_seen P.Proof.seen proof)
+        ≡ stark_listed P.Proof.listed form)
+        (numbers_in system.now public_values.now.public_values.items) start P.stark_rules
+        ⟦<BabyBear as PrimeField64>⟧.ORDER_U64 system.now.parameters.log_blowup)
+        system.now.parameters e) }
 {
     let form: Result<PlainStarkProof<<P::Proof as Plain>::Form>, Failure<P::ProverError>> = read(
         alloc, proof,

@@ -87,6 +87,13 @@ impl<Val, Dft, InputMmcs, FriMmcs, R: CryptoRng> HidingFriPcs<Val, Dft, InputMmc
             of: PhantomData,
         }
     }
+
+    /// The parameters of the low-degree test.
+    pub fn parameters(&self) -> &FriParameters<FriMmcs>
+        ensures { result.now ≡ self.now.fri }
+    {
+        &self.fri
+    }
 }
 
 impl<Val, Dft: Clone, InputMmcs: Clone, FriMmcs: Clone, R: CryptoRng + SeedableRng> HidingFriPcs<

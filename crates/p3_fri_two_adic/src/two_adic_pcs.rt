@@ -83,6 +83,13 @@ impl<Val, Dft, InputMmcs, FriMmcs> TwoAdicFriPcs<Val, Dft, InputMmcs, FriMmcs> {
             of: PhantomData,
         }
     }
+
+    /// The parameters of the low-degree test.
+    pub fn parameters(&self) -> &FriParameters<FriMmcs>
+        ensures { result.now ≡ self.now.fri }
+    {
+        &self.fri
+    }
 }
 
 /// The requests that are opened stay as they are. A committed matrix holds the polynomials of its

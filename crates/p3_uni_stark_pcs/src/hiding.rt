@@ -1,5 +1,6 @@
 //! The hiding scheme as one of a STARK.
 
+ghost use Rattle.std.proofs.Common.{ap};
 ghost use Rattle.p3_field_core.specs.Basis.{unit_vector};
 ghost use Rattle.p3_pcs.specs.Claims.{opened_values};
 ghost use Rattle.p3_fri_relation.specs.Views.{proof_of};
@@ -27,6 +28,12 @@ impl<
     C: FieldChallenger<F> + GrindingChallenger<Witness = F> + CanObserve<M::Commitment>,
 > TwoAdicStarkPcs<EF, C, TwoAdicMultiplicativeCoset<F>> for HidingFriPcs<F, Dft, InputMmcs, M, R> {
     ghost log_blowup = { λ s. s.fri.log_blowup };
+
+    fn log_blowup(&self) -> usize {
+        self.parameters().log_blowup
+    }
+
+    ghost blowup_law = { λ old new kept. ap (λ s. s.fri.log_blowup) kept };
 
     ghost polynomials_law = { λ s. hiding_polynomials
         (λ e. EF.of_coefficients (unit_vector F.ops EF.DIMENSION e)) F.canonical

@@ -12,9 +12,6 @@ use p3_uni_stark_verifier::setting::StarkField;
 
 /// A scheme whose domains are the cosets `D`, for a STARK over their field: its laws say what is
 /// known of whatever it commits to, beside what each call ensures. They hold in every state.
-///
-/// `log_blowup` is the base-2 logarithm of the factor by which a committed word is longer than the
-/// polynomial that it is of.
 pub trait TwoAdicStarkPcs<EF: ExtensionField<D::Val>, C, D: PolynomialSpace>: UnivariateStarkPcs<
     EF,
     C,
@@ -24,7 +21,16 @@ pub trait TwoAdicStarkPcs<EF: ExtensionField<D::Val>, C, D: PolynomialSpace>: Un
 where
     D::Val: PrimeField64,
 {
+    // the base-2 logarithm of the factor by which a committed word is longer than its polynomial
     ghost log_blowup: { Self → ℕ };
+
+    /// The base-2 logarithm of the factor by which a committed word is longer than the polynomial
+    /// that it is of.
+    fn log_blowup(&self) -> usize
+        ensures { result ≡ log_blowup self.now };
+
+    // what commitments and openings keep has the same
+    ghost blowup_law: { (old new : Self) → Self.Keeps old new → log_blowup new ≡ log_blowup old };
 
     ghost polynomials_law: { (s : Self) → StarkPcsLaws ⟦<EF as StarkField<D::Val>>⟧.fields D.shift
         D.log_size Self.ZK (Self.rules s) (Self.stark_rules s) Self.embed Self.point

@@ -13,7 +13,7 @@ use Rattle.p3_uni_stark_verifier.specs.declared.proof.Proof.{Proof}
 use Rattle.p3_uni_stark_verifier.specs.Setting.{StarkSetting}
 use Rattle.p3_uni_stark_system.specs.Keys.{IsKeyOf}
 use Rattle.p3_uni_stark_system.specs.Proved.{IsProvedOf, ElementsFault, AssignedFault}
-use Rattle.p3_uni_stark_system.specs.Proved.{ProvingFault}
+use Rattle.p3_uni_stark_system.specs.Proved.{AreUnproved, ProvingFault}
 use Rattle.p3_uni_stark_system.specs.Systems.{SystemNumbers, with_trace, IsAcceptedSystem}
 use Rattle.p3_uni_stark_system.specs.declared.error.SystemProvingError.{SystemProvingError}
 use Rattle.p3_uni_stark_system.specs.declared.error.SystemProvingError.TheVariants as fault
@@ -70,50 +70,25 @@ module _ {V E Dom D ProverError : Type 0} (t : StarkScheme E V Dom D ProverError
     abbrev Fault : SystemProvingError ProverError → Type 0
     Fault e = AssignedFault t zk IsSubgroup K two_adicity log_blowup (Unproved air given) air given e
 
+    unproved : (e : SystemProvingError ProverError) → Fault e
+        → AreUnproved t zk IsSubgroup K two_adicity log_blowup order canonical Unproved form numbers
+        e
+    unproved e h = record {
+      air = air;
+      is_form = is;
+      given = given;
+      are_numbers = are;
+      refused = h;
+    }
+
     pub fault_of_numbers : (e : SystemProvingError ProverError) → Fault e
         → ProvingFault t zk IsSubgroup K two_adicity log_blowup order canonical Unproved form
         numbers e
     fault_of_numbers (fault.Air f) h = absurd h
     fault_of_numbers (fault.Element f) h = absurd h
-    fault_of_numbers (fault.Trace f) h = record {
-      air = air;
-      is_form = is;
-      given = given;
-      are_numbers = are;
-      refused = h;
-    }
-    fault_of_numbers fault.NoColumns h = record {
-      air = air;
-      is_form = is;
-      given = given;
-      are_numbers = are;
-      refused = h;
-    }
-    fault_of_numbers (fault.TraceHeight height) h = record {
-      air = air;
-      is_form = is;
-      given = given;
-      are_numbers = are;
-      refused = h;
-    }
-    fault_of_numbers (fault.Preprocessing e) h = record {
-      air = air;
-      is_form = is;
-      given = given;
-      are_numbers = are;
-      refused = h;
-    }
-    fault_of_numbers (fault.Proving e) h = record {
-      air = air;
-      is_form = is;
-      given = given;
-      are_numbers = are;
-      refused = h;
-    }
-    fault_of_numbers fault.OutOfMemory h = record {
-      air = air;
-      is_form = is;
-      given = given;
-      are_numbers = are;
-      refused = tt;
-    }
+    fault_of_numbers (fault.Trace f) h = unproved (fault.Trace f) h
+    fault_of_numbers fault.NoColumns h = unproved fault.NoColumns h
+    fault_of_numbers (fault.TraceHeight height) h = unproved (fault.TraceHeight height) h
+    fault_of_numbers (fault.Preprocessing e) h = unproved (fault.Preprocessing e) h
+    fault_of_numbers (fault.Proving e) h = unproved (fault.Proving e) h
+    fault_of_numbers fault.OutOfMemory h = unproved fault.OutOfMemory tt

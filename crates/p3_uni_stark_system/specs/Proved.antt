@@ -24,7 +24,7 @@ use Rattle.p3_uni_stark_verifier.specs.Relation.{drawn, IsLastState, StarkAccept
 use Rattle.p3_uni_stark_verifier.specs.Setting.{StarkFields, StarkSetting}
 use Rattle.p3_uni_stark_prover.specs.Provable.{FitsField}
 use Rattle.p3_uni_stark_prover.specs.Refused.{PreparationRefusal, CommitRefusal, IsRefusedAfter}
-use Rattle.p3_uni_stark_system.specs.Keys.{IsKeyOf, ColumnsFault}
+use Rattle.p3_uni_stark_system.specs.Keys.{IsKeyOf, AreHeld, ColumnsFault}
 use Rattle.p3_uni_stark_system.specs.declared.error.SystemProvingError.{SystemProvingError}
 use Rattle.p3_uni_stark_system.specs.declared.error.SystemProvingError.TheVariants as fault
 
@@ -51,13 +51,14 @@ module _ {V E C Com Dom D Opening Error ProverError : Type 0}
 
 module _ {State V E C Com Dom D Opening Error ProverError : Type 0} (fields : StarkFields V E)
     (coefficients : E → List V) (m : Moves C V E Com) (shift : Dom → V) (log_size : Dom → ℕ)
-    (zk : Bool) (rules : State → Scheme E C V Dom Com D Opening Error ProverError)
+    (zk : Bool) (IsSubgroup : ℕ → Dom → Type 0)
+    (rules : State → Scheme E C V Dom Com D Opening Error ProverError)
     (stark_rules : State → StarkScheme E V Dom D ProverError) (embed : V → E)
     (point : Dom → ℕ → V) (recombined : List Dom → List (List E) → E → List E)
     (chunk_polynomials : Dom × RowMajorMatrix V → Held E) (EvaluationRefuses : ProverError → Type 0)
-    (after : State) (c : C) (air : Air V) (given : Assigned V) where
-  -- the prover refuses a statement of this system with these elements, in some state of the scheme,
-  -- and ends in the state `after`
+    (IsBefore : State → Type 0) (after : State) (c : C) (air : Air V) (given : Assigned V) where
+  -- once the preprocessed columns are committed to, the prover refuses the statement of this system
+  -- with these elements and their key, and leaves the scheme in the state `after`
   pub record IsUnproved (e : ProvingError ProverError) : Type 0 where
     pub statement : Statement V Com
     pub is_of : IsStatementOf air given statement
@@ -67,6 +68,9 @@ module _ {State V E C Com Dom D Opening Error ProverError : Type 0} (fields : St
     pub are_rows : matrix_rows trace ≡ given.trace
     pub preprocessed : Option D
     pub before : State
+    pub is_before : IsBefore before
+    pub are_held : AreHeld (rules before) zk IsSubgroup (stark_rules before) log_height
+        air.layout.preprocessed_width given.preprocessed statement.preprocessed preprocessed
     pub refusal : PreparationRefusal fields statement log_height e
         ⊎ (CommitRefusal fields shift log_size zk (rules before) (stark_rules before)
         EvaluationRefuses log_height trace e

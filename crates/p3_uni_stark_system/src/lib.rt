@@ -1,7 +1,7 @@
 //! Systems by their numbers: a constraint system in its plain form, with the rows of its
 //! preprocessed columns and its periodic columns. Over any scheme, a trace of numbers is proved to
-//! satisfy such a system with public values, and a proof is verified of it; the preprocessed columns
-//! are committed to by whoever proves or verifies.
+//! satisfy such a system with public values, and a proof is verified of it; the preprocessed
+//! columns are committed to by whoever proves or verifies.
 #![tactic(auto)]
 
 pub mod error;

@@ -132,15 +132,13 @@ pub fn commit_numbers<
     alloc: Global,
     numbers: &[Vec<u64>],
     width: usize,
-    log_blowup: usize,
 ) -> Result<Option<PreprocessedVerifierKey<Com>>, PreprocessingError<P::ProverError>>
-    requires blowup { P.log_blowup scheme.old ≡ log_blowup }
     ensures kept { P.Keeps scheme.old scheme.new }
     ensures key { IfOk result (IsKeyOfNumbers (P.rules scheme.new) P.ZK
         (λ k d. (d.shift ≡ F.ONE) × (d.log_size ≡ k)) F.canonical width (lists numbers.now)) }
     ensures refused { IfErr result (PreprocessingFault (P.stark_rules scheme.old) P.ZK
-        (λ k d. (d.shift ≡ F.ONE) × (d.log_size ≡ k)) F.ORDER_U64 F.TWO_ADICITY log_blowup
-        F.canonical width (lists numbers.now)) }
+        (λ k d. (d.shift ≡ F.ONE) × (d.log_size ≡ k)) F.ORDER_U64 F.TWO_ADICITY
+        (P.log_blowup scheme.old) F.canonical width (lists numbers.now)) }
 {
     if !have_width(numbers, width) {
         return Err(PreprocessingError::Width);
@@ -156,6 +154,7 @@ pub fn commit_numbers<
         return Err(PreprocessingError::Height);
     }
     let log_height = log2_strict_usize(numbers.len());
+    let log_blowup = scheme.log_blowup();
     if !has_room(with_hiding(log_height, P::ZK), log_blowup, F::TWO_ADICITY) {
         return Err(PreprocessingError::Height);
     }

@@ -49,7 +49,6 @@ fn prove_satisfied<
     requires columns { 0 < air.now.layout.width }
     requires room { FitsField F.TWO_ADICITY (P.log_blowup scheme.old) P.ZK air.now
         (length given.now.trace.items) }
-    requires blowup { (s : P) → P.Keeps scheme.old s → P.log_blowup s ≡ P.log_blowup scheme.old }
     ensures kept { AreKept (P.rules scheme.old) (P.rules scheme.new) }
     ensures proved { let S = stark_setting ⟦<EF as StarkField<F>>⟧.fields
         ⟦<C as Plays<F, EF, Com>>⟧.moves P.ZK (P.rules scheme.new)
@@ -57,8 +56,9 @@ fn prove_satisfied<
         IsProvedOf S air.now (owned_assigned given.now) proof challenger.old challenger.new) }
     ensures refused { let Unproved = IsUnproved
         ⟦<EF as StarkField<F>>⟧.fields EF.coefficients ⟦<C as Plays<F, EF, Com>>⟧.moves
-        (λ d. d.shift) (λ d. d.log_size) P.ZK P.rules P.stark_rules P.embed P.point P.recombined
-        P.chunk_polynomials P.EvaluationRefuses scheme.new challenger.old
+        (λ d. d.shift) (λ d. d.log_size) P.ZK (λ k d. (d.shift ≡ F.ONE) × (d.log_size ≡ k)) P.rules
+        P.stark_rules P.embed P.point P.recombined P.chunk_polynomials P.EvaluationRefuses
+        (λ s. P.Keeps scheme.old s) scheme.new challenger.old
         air.now (owned_assigned given.now) in IfErr result
         (ElementsFault (P.stark_rules scheme.old) P.ZK
         (λ k d. (d.shift ≡ F.ONE) × (d.log_size ≡ k)) Unproved (owned_assigned given.now)) }
@@ -99,12 +99,10 @@ fn prove_elements<
     alloc: Global,
     air: &Air<F>,
     given: &OwnedAssignment<F>,
-    log_blowup: usize,
     challenger: &mut C,
 ) -> Result<Proof<EF, Com, P::Proof>, SystemProvingError<P::ProverError>>
     requires range { (P.rules scheme.old).InProverRange }
     requires well_formed { IsWellFormed air.now }
-    requires blowup { (s : P) → P.Keeps scheme.old s → P.log_blowup s ≡ log_blowup }
     ensures kept { AreKept (P.rules scheme.old) (P.rules scheme.new) }
     ensures proved { let S = stark_setting ⟦<EF as StarkField<F>>⟧.fields
         ⟦<C as Plays<F, EF, Com>>⟧.moves P.ZK (P.rules scheme.new)
@@ -113,12 +111,13 @@ fn prove_elements<
     ensures satisfied { IfOk result (λ _. IsSatisfied F.ops air.now (owned_assigned given.now)) }
     ensures refused { let Unproved = IsUnproved
         ⟦<EF as StarkField<F>>⟧.fields EF.coefficients ⟦<C as Plays<F, EF, Com>>⟧.moves
-        (λ d. d.shift) (λ d. d.log_size) P.ZK P.rules P.stark_rules P.embed P.point P.recombined
-        P.chunk_polynomials P.EvaluationRefuses scheme.new challenger.old
+        (λ d. d.shift) (λ d. d.log_size) P.ZK (λ k d. (d.shift ≡ F.ONE) × (d.log_size ≡ k)) P.rules
+        P.stark_rules P.embed P.point P.recombined P.chunk_polynomials P.EvaluationRefuses
+        (λ s. P.Keeps scheme.old s) scheme.new challenger.old
         air.now (owned_assigned given.now) in IfErr result
         (AssignedFault (P.stark_rules scheme.old) P.ZK
-        (λ k d. (d.shift ≡ F.ONE) × (d.log_size ≡ k)) F.ops F.TWO_ADICITY log_blowup Unproved
-        air.now (owned_assigned given.now)) }
+        (λ k d. (d.shift ≡ F.ONE) × (d.log_size ≡ k)) F.ops F.TWO_ADICITY
+        (P.log_blowup scheme.old) Unproved air.now (owned_assigned given.now)) }
 {
     if let Err(fault) = air.check_trace(alloc, &given.borrowed()) {
         return Err(SystemProvingError::Trace(fault));
@@ -127,6 +126,7 @@ fn prove_elements<
         return Err(SystemProvingError::NoColumns);
     }
     let height = given.trace.len();
+    let log_blowup = scheme.log_blowup();
     match has_room::<F, P::ProverError>(alloc, air, height, log_blowup, P::ZK) {
         Ok(true) => prove_satisfied::<F, EF, Com, C, P>(scheme, alloc, air, given, challenger),
         Ok(false) => Err(SystemProvingError::TraceHeight { height }),
@@ -148,11 +148,9 @@ pub fn prove_system<
     system: &PlainSystem<'_>,
     public_values: &[u64],
     trace: &[Vec<u64>],
-    log_blowup: usize,
     challenger: &mut C,
 ) -> Result<Proof<EF, Com, P::Proof>, SystemProvingError<P::ProverError>>
     requires range { (P.rules scheme.old).InProverRange }
-    requires blowup { (s : P) → P.Keeps scheme.old s → P.log_blowup s ≡ log_blowup }
     ensures kept { AreKept (P.rules scheme.old) (P.rules scheme.new) }
     ensures accepted { let S = stark_setting ⟦<EF as StarkField<F>>⟧.fields
         ⟦<C as Plays<F, EF, Com>>⟧.moves P.ZK (P.rules scheme.new)
@@ -164,11 +162,12 @@ pub fn prove_system<
         (lists trace.now))) }
     ensures refused { let Unproved = IsUnproved
         ⟦<EF as StarkField<F>>⟧.fields EF.coefficients ⟦<C as Plays<F, EF, Com>>⟧.moves
-        (λ d. d.shift) (λ d. d.log_size) P.ZK P.rules P.stark_rules P.embed P.point P.recombined
-        P.chunk_polynomials P.EvaluationRefuses scheme.new challenger.old in
+        (λ d. d.shift) (λ d. d.log_size) P.ZK (λ k d. (d.shift ≡ F.ONE) × (d.log_size ≡ k)) P.rules
+        P.stark_rules P.embed P.point P.recombined P.chunk_polynomials P.EvaluationRefuses
+        (λ s. P.Keeps scheme.old s) scheme.new challenger.old in
         IfErr result (ProvingFault (P.stark_rules scheme.old) P.ZK
-        (λ k d. (d.shift ≡ F.ONE) × (d.log_size ≡ k)) F.ops F.TWO_ADICITY log_blowup F.ORDER_U64
-        F.canonical Unproved system.now.air.now
+        (λ k d. (d.shift ≡ F.ONE) × (d.log_size ≡ k)) F.ops F.TWO_ADICITY
+        (P.log_blowup scheme.old) F.ORDER_U64 F.canonical Unproved system.now.air.now
         (with_trace (numbers_of system.now public_values.now) (lists trace.now))) }
 {
     let air = match air_from_plain::<F>(alloc, system.air) {
@@ -185,5 +184,5 @@ pub fn prove_system<
         Ok(given) => given,
         Err(fault) => return Err(SystemProvingError::Element(fault)),
     };
-    prove_elements::<F, EF, Com, C, P>(scheme, alloc, &air, &given, log_blowup, challenger)
+    prove_elements::<F, EF, Com, C, P>(scheme, alloc, &air, &given, challenger)
 }

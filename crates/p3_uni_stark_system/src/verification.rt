@@ -32,12 +32,10 @@ pub fn verify_system<
     alloc: Global,
     system: &PlainSystem<'_>,
     public_values: &[u64],
-    log_blowup: usize,
     proof: &Proof<EF, Com, P::Proof>,
     challenger: &mut C,
 ) -> Result<(), SystemVerificationError<P::ProverError, P::Error>>
     requires range { (P.rules scheme.old).InVerifierRange }
-    requires blowup { P.log_blowup scheme.old ≡ log_blowup }
     ensures kept { P.Keeps scheme.old scheme.new }
     ensures accepted { let S = stark_setting ⟦<EF as StarkField<F>>⟧.fields
         ⟦<C as Plays<F, EF, Com>>⟧.moves P.ZK (P.rules scheme.new)
@@ -47,17 +45,11 @@ pub fn verify_system<
     ensures refused { let S = stark_setting ⟦<EF as StarkField<F>>⟧.fields
         ⟦<C as Plays<F, EF, Com>>⟧.moves P.ZK (P.rules scheme.new)
         (λ k d. (d.shift ≡ F.ONE) × (d.log_size ≡ k)) in IfErr result
-        (IsRefusedSystem F.ORDER_U64 log_blowup F.canonical S (P.stark_rules scheme.old)
-        (numbers_of system.now public_values.now) proof.now challenger.old challenger.new) }
+        (IsRefusedSystem F.ORDER_U64 (P.log_blowup scheme.old) F.canonical S
+        (P.stark_rules scheme.old) (numbers_of system.now public_values.now) proof.now challenger.old challenger.new) }
 {
     let width = system.air.layout.preprocessed_width;
-    let committed = commit_numbers::<F, EF, Com, C, P>(
-        scheme,
-        alloc,
-        system.preprocessed,
-        width,
-        log_blowup,
-    );
+    let committed = commit_numbers::<F, EF, Com, C, P>(scheme, alloc, system.preprocessed, width);
     let key = match committed {
         Ok(key) => key,
         Err(error) => return Err(SystemVerificationError::Preprocessing(error)),

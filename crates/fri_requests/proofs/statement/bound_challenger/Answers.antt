@@ -29,11 +29,11 @@ pub returns-clause-state : goal.returns-clause-state
 returns-clause-state c =
     let commitments = map opened_commitment c.args.commitments.now in
     bound_from c.args.context.now c.in_ok-context.context.items (parameters_in c.args.parameters.now)
-    (parameters_of c.fri_of.result) commitments c.new-challenger.result c.absorb_statement.new.challenger
-    c.in_ok-context.ensures.bytes c.fri_of.ensures c.new-challenger.ensures
+    (parameters_of c.fri_parameters.result) commitments c.new-challenger.result c.absorb_statement.new.challenger
+    c.in_ok-context.ensures.bytes c.fri_parameters.ensures c.new-challenger.ensures
     (c.in_ok-absorb_statement.ensures.absorbed
     ∙ ap (λ bytes. statement_absorbed c.new-challenger.result
-    (record { context = bytes; parameters = parameters_of c.fri_of.result; commitments = commitments })) c.deref.ensures.value)
+    (record { context = bytes; parameters = parameters_of c.fri_parameters.result; commitments = commitments })) c.deref.ensures.value)
 
 pub returns-clause-well_formed : goal.returns-clause-well_formed
 returns-clause-well_formed c = subst (λ r. IsOk r) (sym c.in_ok-context.ensures.bytes) refl

@@ -6,7 +6,7 @@ use Rattle.p3_matrix.specs.Matrix.{rows as matrix_rows, matrix_width}
 use Rattle.p3_uni_stark_prover.proofs.Finishing.{refuted}
 use Rattle.p3_uni_stark_prover.proofs.Fitting.{power_tested, bound_named}
 use Rattle.p3_uni_stark_verifier.specs.Chunks.{hiding_bits}
-use Rattle.p3_uni_stark_system.specs.Keys.{IsKeyOf}
+use Rattle.p3_uni_stark_system.specs.Keys.{IsKeyOf, HaveRoom}
 use Rattle.p3_uni_stark_system.proofs.Held.{held_key}
 use Rattle.p3_uni_stark_system.proofs.Keys.{widths_of, no_power, no_room, numbers_fault}
 use Rattle.p3_uni_stark_system.proofs.preprocessing.commit_numbers.Goals as goal
@@ -14,7 +14,8 @@ use Rattle.p3_uni_stark_system.proofs.preprocessing.commit_numbers.Goals as goal
 pub returns-then-not-is_power_of_two-clause-refused :
     goal.returns-then-not-is_power_of_two-clause-refused
 returns-then-not-is_power_of_two-clause-refused g c =
-    no_power g.P.UnivariateStarkPcs.ZK g.F.TwoAdicField.TWO_ADICITY c.args.log_blowup
+    no_power g.P.UnivariateStarkPcs.ZK g.F.TwoAdicField.TWO_ADICITY
+    (g.P.TwoAdicStarkPcs.log_blowup c.args.scheme.now)
     (lists c.args.numbers.now) (length c.args.numbers.now)
     (length-map c.args.numbers.now (λ row. row.items))
     (refuted c.is_power_of_two.result (IsPowerOfTwo (length c.args.numbers.now))
@@ -29,17 +30,19 @@ log2_strict_usize-log_height-requires g c = record {
 
 pub returns-then-not-has_room-clause-refused : goal.returns-then-not-has_room-clause-refused
 returns-then-not-has_room-clause-refused g c =
-    no_room g.P.UnivariateStarkPcs.ZK g.F.TwoAdicField.TWO_ADICITY c.args.log_blowup
+    subst (λ b. ¬ HaveRoom g.P.UnivariateStarkPcs.ZK g.F.TwoAdicField.TWO_ADICITY b
+    (lists c.args.numbers.now)) c.log_blowup-log_blowup.ensures
+    (no_room g.P.UnivariateStarkPcs.ZK g.F.TwoAdicField.TWO_ADICITY c.log_blowup-log_blowup.result
     (lists c.args.numbers.now) (length c.args.numbers.now)
     (length-map c.args.numbers.now (λ row. row.items)) c.log2_strict_usize-log_height.result
     c.with_hiding.result c.log2_strict_usize-log_height.ensures.power
     (c.with_hiding.ensures
     ∙ ap (λ b. c.log2_strict_usize-log_height.result + hiding_bits b) c.ZK.ensures)
     (refuted c.has_room.result
-    (c.with_hiding.result + c.args.log_blowup ≤ g.F.TwoAdicField.TWO_ADICITY)
-    (bound_named c.has_room.result (c.with_hiding.result + c.args.log_blowup) c.TWO_ADICITY.result
-    g.F.TwoAdicField.TWO_ADICITY c.TWO_ADICITY.ensures c.has_room.ensures)
-    c.if-not-has_room.true)
+    (c.with_hiding.result + c.log_blowup-log_blowup.result ≤ g.F.TwoAdicField.TWO_ADICITY)
+    (bound_named c.has_room.result (c.with_hiding.result + c.log_blowup-log_blowup.result)
+    c.TWO_ADICITY.result g.F.TwoAdicField.TWO_ADICITY c.TWO_ADICITY.ensures c.has_room.ensures)
+    c.if-not-has_room.true))
 
 pub matrix_of_rows-requires-clause-widths : goal.matrix_of_rows-requires-clause-widths
 matrix_of_rows-requires-clause-widths g c =
@@ -71,6 +74,7 @@ returns-clause-refused g c =
     g.P.UnivariateStarkPcs.ZK (λ k d. (d.shift ≡ g.F.Field.ONE) × (d.log_size ≡ k))
     c.log2_strict_usize-log_height.result c.in_ok-matrix.matrix (lists c.in-Ok.rows.items)
     (c.in_ok-matrix.ensures.rows ∙ ap lists c.as_slice.ensures.value) g.F.PrimeField64.ORDER_U64
-    g.F.TwoAdicField.TWO_ADICITY c.args.log_blowup g.F.PrimeField64.canonical c.args.width
+    g.F.TwoAdicField.TWO_ADICITY (g.P.TwoAdicStarkPcs.log_blowup c.args.scheme.now)
+    g.F.PrimeField64.canonical c.args.width
     (lists c.args.numbers.now) c.in-Ok.ensures.numbers c.in-Err-commit_matrix.error
     c.in-Err-commit_matrix.ensures.refused

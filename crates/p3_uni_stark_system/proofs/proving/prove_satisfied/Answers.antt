@@ -10,7 +10,14 @@ use Rattle.p3_uni_stark_verifier.specs.Chunks.{hiding_bits}
 use Rattle.p3_uni_stark_system.specs.Keys.{ColumnsFault, IsKeyOf}
 use Rattle.p3_uni_stark_system.proofs.Held.{held_key, held_rows, held_columns, key_kept}
 use Rattle.p3_uni_stark_system.proofs.Statements.{fits_trace, key_known, satisfied_named}
+use Rattle.p3_uni_stark_verifier.specs.declared.proof.Statement.{Statement}
+use Rattle.p3_air_plain.specs.Elements.{owned_assigned}
+use Rattle.p3_pcs.specs.Scheme.{AreKept}
+use Rattle.p3_uni_stark_system.specs.Proved.{IsStatementOf}
+use Rattle.p3_uni_stark_system.specs.Keys.{AreHeld}
+use Rattle.p3_uni_stark_system.proofs.proving.prove_satisfied.Given.{Over}
 use Rattle.p3_uni_stark_system.proofs.proving.prove_satisfied.Goals as goal
+use Rattle.p3_uni_stark_system.proofs.proving.prove_satisfied.Goals.{After-prove}
 
 pub commit_rows-committed-requires-clause-room : goal.commit_rows-committed-requires-clause-room
 commit_rows-committed-requires-clause-room g c =
@@ -63,30 +70,40 @@ prove-requires-clause-preprocessed g c = λ k power.
     (lists c.as_slice-rows.result.now) c.in-Ok.preprocessed.key c.in-Ok.preprocessed.prover_data
     c.in-Ok.ensures.held)
 
-pub returns-in-Ok-prove-clause-kept : goal.returns-in-Ok-prove-clause-kept
-returns-in-Ok-prove-clause-kept g c =
+kept : (g : Over) (c : After-prove g) → AreKept (g.P.Pcs.rules c.args.scheme.now) (g.P.Pcs.rules c.prove.new.scheme)
+kept g c =
     let rules = g.P.Pcs.rules in
     kept_since (rules c.args.scheme.now) (rules c.commit_rows-committed.new.scheme)
     (rules c.prove.new.scheme)
     (g.met.P.Pcs.keeps_law c.args.scheme.now c.commit_rows-committed.new.scheme
     c.commit_rows-committed.ensures.kept) c.prove.ensures.kept
 
+-- the statement that is proved
+abbrev stated : (g : Over) → After-prove g → Statement g.row.F.Denot g.row.Com.Denot
+stated g c = record {
+  air = c.args.air;
+  preprocessed = c.in-Ok.preprocessed.key;
+  periodic = c.as_slice-2.result;
+  public_values = c.as_slice-3.result;
+}
+
+is_stated : (g : Over) (c : After-prove g) → IsStatementOf c.args.air.now (owned_assigned c.args.given.now) (stated g c)
+is_stated g c = record {
+  air_is = refl;
+  values_are = c.as_slice-3.ensures.value;
+  periodic_are = ap lists c.as_slice-2.ensures.value;
+}
+
+pub returns-in-Ok-prove-clause-kept : goal.returns-in-Ok-prove-clause-kept
+returns-in-Ok-prove-clause-kept g c = kept g (goal.at.returns-in-Ok-prove-clause-kept g c).After-prove
+
 pub returns-in-Ok-prove-clause-proved : goal.returns-in-Ok-prove-clause-proved
 returns-in-Ok-prove-clause-proved g c =
     let n = length c.args.given.now.trace.items in
     let is : n ≡ 2 ^ c.log2_strict_usize-log_height.result = grind (arith, common_steps) in
     let rows = (c.in-Ok-matrix_of_rows.ensures.rows ∙ ap lists c.as_slice.ensures.value) in record {
-      statement = record {
-        air = c.args.air;
-        preprocessed = c.in-Ok.preprocessed.key;
-        periodic = c.as_slice-2.result;
-        public_values = c.as_slice-3.result;
-      };
-      is_of = record {
-        air_is = refl;
-        values_are = c.as_slice-3.ensures.value;
-        periodic_are = ap lists c.as_slice-2.ensures.value;
-      };
+      statement = stated g (goal.at.returns-in-Ok-prove-clause-proved g c).After-prove;
+      is_of = is_stated g (goal.at.returns-in-Ok-prove-clause-proved g c).After-prove;
       is_key = subst (λ rows. IsKeyOf (g.P.Pcs.rules c.prove.new.scheme) g.P.UnivariateStarkPcs.ZK
           (λ k d. (d.shift ≡ g.F.Field.ONE) × (d.log_size ≡ k)) c.args.air.now.layout.preprocessed_width
           (lists rows) c.in-Ok.preprocessed.key) c.as_slice-rows.ensures.value
@@ -119,35 +136,28 @@ returns-in-Ok-prove-clause-proved g c =
     }
 
 pub returns-in-Err-prove-clause-kept : goal.returns-in-Err-prove-clause-kept
-returns-in-Err-prove-clause-kept g c =
-    let rules = g.P.Pcs.rules in
-    kept_since (rules c.args.scheme.now) (rules c.commit_rows-committed.new.scheme)
-    (rules c.prove.new.scheme)
-    (g.met.P.Pcs.keeps_law c.args.scheme.now c.commit_rows-committed.new.scheme
-    c.commit_rows-committed.ensures.kept) c.prove.ensures.kept
+returns-in-Err-prove-clause-kept g c = kept g (goal.at.returns-in-Err-prove-clause-kept g c).After-prove
 
 pub returns-in-Err-prove-clause-refused : goal.returns-in-Err-prove-clause-refused
 returns-in-Err-prove-clause-refused g c =
     let n = length c.args.given.now.trace.items in
     let is : n ≡ 2 ^ c.log2_strict_usize-log_height.result = grind (arith, common_steps) in
     let rows = (c.in-Ok-matrix_of_rows.ensures.rows ∙ ap lists c.as_slice.ensures.value) in record {
-      statement = record {
-        air = c.args.air;
-        preprocessed = c.in-Ok.preprocessed.key;
-        periodic = c.as_slice-2.result;
-        public_values = c.as_slice-3.result;
-      };
-      is_of = record {
-        air_is = refl;
-        values_are = c.as_slice-3.ensures.value;
-        periodic_are = ap lists c.as_slice-2.ensures.value;
-      };
+      statement = stated g (goal.at.returns-in-Err-prove-clause-refused g c).After-prove;
+      is_of = is_stated g (goal.at.returns-in-Err-prove-clause-refused g c).After-prove;
       log_height = c.log2_strict_usize-log_height.result;
       height = length-map c.args.given.now.trace.items (λ row. row.items) ∙ is;
       trace = c.in-Ok-matrix_of_rows.trace;
       are_rows = rows;
       preprocessed = c.in-Ok.preprocessed.prover_data;
       before = c.commit_rows-committed.new.scheme;
+      is_before = c.commit_rows-committed.ensures.kept;
+      are_held = subst (λ rows. AreHeld (g.P.Pcs.rules c.commit_rows-committed.new.scheme)
+          g.P.UnivariateStarkPcs.ZK (λ k d. (d.shift ≡ g.F.Field.ONE) × (d.log_size ≡ k))
+          (g.P.UnivariateStarkPcs.stark_rules c.commit_rows-committed.new.scheme)
+          c.log2_strict_usize-log_height.result c.args.air.now.layout.preprocessed_width (lists rows)
+          c.in-Ok.preprocessed.key c.in-Ok.preprocessed.prover_data) c.as_slice-rows.ensures.value
+          c.in-Ok.ensures.held;
       refusal = c.in-Err-prove.ensures.refused c.log2_strict_usize-log_height.result
           (ap length rows ∙ length-map c.args.given.now.trace.items (λ row. row.items) ∙ is);
     }
