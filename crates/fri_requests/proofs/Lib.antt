@@ -1,6 +1,7 @@
 pub mod Asked
 pub mod Bound
 pub mod Failed
+pub mod Images
 pub mod Kept
 pub mod Listed
 pub mod Opened

@@ -1,9 +1,11 @@
 use Rattle.std.proofs.Common.{map, ap, ◌∙◌}
 use Rattle.std.proofs.lemmas.List.{take_all}
+use Rattle.std.proofs.lemmas.Result.{IfOk-from_err}
 use Rattle.p3_pcs.specs.Claims.{claim}
 use Rattle.fri_requests.specs.Claims.{batch_listed}
 use Rattle.fri_requests.specs.Statements.{IsClaim}
-use Rattle.fri_requests.proofs.Failed.{malformed_part}
+use Rattle.fri_requests.proofs.Failed.{malformed_part, read_wants}
+use Rattle.fri_requests.proofs.Images.{image_all}
 use Rattle.fri_requests.proofs.Listed.{not_all, is_coset, are_claims}
 use Rattle.fri_requests.proofs.claims.claims_in.Goals as goal
 
@@ -21,3 +23,33 @@ returns-clause-well_formed c =
     (λ d. is_coset d.shift d.log_size d.nonzero d.within_two_adicity)
     (map claim c.loop-index.openings.items) c.args.claims.now
     (c.loop-index.invariant ∙ ap (λ rs. map batch_listed rs) (take_all c.loop-index.index c.args.claims.now c.loop-index-test.false))
+
+pub returns-clause-numbers : goal.returns-clause-numbers
+returns-clause-numbers c =
+    image_all (map batch_listed) c.args.claims.now c.loop-index.index c.loop-index-test.false
+    c.loop-index.invariant
+
+-- where nothing is answered nothing is said of the answer
+pub returns-in_err-openings-clause-numbers : goal.returns-in_err-openings-clause-numbers
+returns-in_err-openings-clause-numbers c = IfOk-from_err c.from_residual.result _ c.from_residual.ensures.0
+
+pub returns-in_err-openings-clause-well_formed : goal.returns-in_err-openings-clause-well_formed
+returns-in_err-openings-clause-well_formed c = IfOk-from_err c.from_residual.result _ c.from_residual.ensures.0
+
+pub returns-in_err-openings-clause-refused : goal.returns-in_err-openings-clause-refused
+returns-in_err-openings-clause-refused c = read_wants c.from_residual.result _ c.from_residual.ensures.1
+
+pub returns-in_err-commitment_opening-clause-numbers : goal.returns-in_err-commitment_opening-clause-numbers
+returns-in_err-commitment_opening-clause-numbers c = IfOk-from_err c.from_residual-in_err-commitment_opening.result _ c.from_residual-in_err-commitment_opening.ensures.0
+
+pub returns-in_err-commitment_opening-clause-well_formed : goal.returns-in_err-commitment_opening-clause-well_formed
+returns-in_err-commitment_opening-clause-well_formed c = IfOk-from_err c.from_residual-in_err-commitment_opening.result _ c.from_residual-in_err-commitment_opening.ensures.0
+
+pub returns-in_err-push-clause-numbers : goal.returns-in_err-push-clause-numbers
+returns-in_err-push-clause-numbers c = IfOk-from_err c.from_residual-in_err-push.result _ c.from_residual-in_err-push.ensures.0
+
+pub returns-in_err-push-clause-well_formed : goal.returns-in_err-push-clause-well_formed
+returns-in_err-push-clause-well_formed c = IfOk-from_err c.from_residual-in_err-push.result _ c.from_residual-in_err-push.ensures.0
+
+pub returns-in_err-push-clause-refused : goal.returns-in_err-push-clause-refused
+returns-in_err-push-clause-refused c = read_wants c.from_residual-in_err-push.result _ c.from_residual-in_err-push.ensures.1

@@ -5,13 +5,21 @@ use Rattle.std.proofs.lemmas.Result.{IfOk-from_err}
 use Rattle.p3_fri_extensions.specs.Extension.{FitsDomain}
 use Rattle.p3_fri_two_adic.specs.Chunks.{polynomials_on}
 use Rattle.fri_requests.specs.Commitments.{domain_of}
-use Rattle.p3_fri_openings.proofs.First.{one_more, to_the_end}
+use Rattle.p3_fri_openings.proofs.First.{one_more, to_the_end, at_item}
 use Rattle.fri_requests.specs.Matrices.{held_listed}
 use Rattle.fri_requests.specs.Requests.{IsMatrix}
 use Rattle.fri_statement.specs.Setting.{fields}
 use Rattle.fri_requests.proofs.Kept.{same_more}
-use Rattle.fri_requests.proofs.Failed.{read_wants}
+use Rattle.fri_requests.proofs.Failed.{read_wants, malformed_part}
 use Rattle.fri_requests.proofs.matrices.batch_evaluations.Goals as goal
+
+pub returns-in_err-evaluations-clause-refused : goal.returns-in_err-evaluations-clause-refused
+returns-in_err-evaluations-clause-refused c =
+    malformed_part _ _ _ _ c.from_residual-in_err-evaluations.ensures.1
+    c.in_err-evaluations.ensures.refused
+    (λ fails whole. fails (at_item (IsMatrix c.args.log_blowup) c.deref-matrix-items.result.now
+    c.loop-index.index c.matrix-item.result c.loop-index-test.true c.matrix-item.is
+    (subst (λ ms. All (IsMatrix c.args.log_blowup) ms) (sym c.deref-matrix-items.ensures.value) whole)))
 
 pub loop-index-preserved : goal.loop-index-preserved
 loop-index-preserved c =

@@ -1,5 +1,6 @@
 use Rattle.std.proofs.Common.{inl, inr, map, ap, sym, ◌∙◌}
 use Rattle.std.specs.Iterator.Adapters.{zip_second}
+use Rattle.std.proofs.lemmas.Result.{IfOk-from_err}
 use Rattle.algebra.specs.Nested.{nested}
 use Rattle.p3_pcs.specs.Requests.{request}
 use Rattle.fri_requests.specs.Openings.{request_for}
@@ -16,3 +17,10 @@ returns c =
           inr (ap nested (none_left (zip_second c.loop-committed.committed-iterator).rest.items
           (sym (zip_second c.loop-committed.committed-iterator).rest.ok.0 ∙ second.1.0)))
     ])
+
+-- where nothing is answered nothing is said of the answer
+pub returns-in_err-requests : goal.returns-in_err-requests
+returns-in_err-requests c = IfOk-from_err c.from_residual.result _ c.from_residual.ensures.0
+
+pub returns-in_err-push : goal.returns-in_err-push
+returns-in_err-push c = IfOk-from_err c.from_residual-in_err-push.result _ c.from_residual-in_err-push.ensures.0

@@ -1,6 +1,7 @@
 use Rattle.std.proofs.Common.{◌<◌, ap, sym, ◌∙◌, ◌∷◌, [], map, arith, length}
 use Rattle.std.proofs.lemmas.List.{length-map, map-append}
 use Rattle.std.proofs.lemmas.Slice.Zip.{AllZip-long}
+use Rattle.std.proofs.lemmas.Result.{IfOk-from_err}
 use Rattle.algebra.specs.Nested.{lists}
 use Rattle.algebra.proofs.Lists.{map-map, entry_of_map}
 use Rattle.p3_pcs.specs.Claims.{zip_with}
@@ -58,3 +59,13 @@ returns c =
     (length-map c.args.all.now (λ k. k.commitment)
     ∙ sym (AllZip-long (Keeps c.args.log_blowup) c.args.all.now c.args.batches.now c.requires.kept))
     c.loop-index.invariant
+
+-- where nothing is answered nothing is said of the answer
+pub returns-in_err-stated : goal.returns-in_err-stated
+returns-in_err-stated c = IfOk-from_err c.from_residual.result _ c.from_residual.ensures.0
+
+pub returns-in_err-matrices_asked : goal.returns-in_err-matrices_asked
+returns-in_err-matrices_asked c = IfOk-from_err c.from_residual-in_err-matrices_asked.result _ c.from_residual-in_err-matrices_asked.ensures.0
+
+pub returns-in_err-push : goal.returns-in_err-push
+returns-in_err-push c = IfOk-from_err c.from_residual-in_err-push.result _ c.from_residual-in_err-push.ensures.0

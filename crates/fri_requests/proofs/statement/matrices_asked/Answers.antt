@@ -1,5 +1,6 @@
 use Rattle.std.proofs.Common.{ap, ap₂, sym, ◌∙◌, map}
 use Rattle.std.proofs.lemmas.List.{take_all}
+use Rattle.std.proofs.lemmas.Result.{IfOk-from_err}
 use Rattle.algebra.specs.Nested.{lists}
 use Rattle.algebra.proofs.Lists.{map-map}
 use Rattle.fri_statement.specs.Numbers.{coefficient_numbers}
@@ -32,3 +33,13 @@ loop-index-preserved c =
 pub returns : goal.returns
 returns c = c.loop-index.invariant
     ∙ ap (λ ms. map matrix_asked ms) (take_all c.loop-index.index c.deref-matrix-items.result.now c.loop-index-test.false ∙ c.deref-matrix-items.ensures.value)
+
+-- where nothing is answered nothing is said of the answer
+pub returns-in_err-all : goal.returns-in_err-all
+returns-in_err-all c = IfOk-from_err c.from_residual.result _ c.from_residual.ensures.0
+
+pub returns-in_err-from_slice : goal.returns-in_err-from_slice
+returns-in_err-from_slice c = IfOk-from_err c.from_residual-in_err-from_slice.result _ c.from_residual-in_err-from_slice.ensures.0
+
+pub returns-in_err-push : goal.returns-in_err-push
+returns-in_err-push c = IfOk-from_err c.from_residual-in_err-push.result _ c.from_residual-in_err-push.ensures.0

@@ -1,4 +1,5 @@
 use Rattle.std.proofs.Common.{ap, ◌∙◌, map}
+use Rattle.std.proofs.lemmas.Result.{IfOk-from_err}
 use Rattle.p3_pcs.specs.Claims.{point_claim, matrix_claim}
 use Rattle.fri_statement.specs.Numbers.{canonical_number, coefficient_numbers}
 use Rattle.fri_statement.specs.Stated.{opened_matrix}
@@ -24,3 +25,13 @@ loop-matrix-preserved c =
 pub returns : goal.returns
 returns c = matrices_ended (λ d. d.shift) (λ d. d.log_size) (map opened_matrix c.loop-matrix.all.items) c.args.matrices.now
     c.loop-matrix.matrix-index c.loop-matrix-test.false c.loop-matrix.invariant
+
+-- where nothing is answered nothing is said of the answer
+pub returns-in_err-all : goal.returns-in_err-all
+returns-in_err-all c = IfOk-from_err c.from_residual.result _ c.from_residual.ensures.0
+
+pub returns-in_err-points_claimed : goal.returns-in_err-points_claimed
+returns-in_err-points_claimed c = IfOk-from_err c.from_residual-in_err-points_claimed.result _ c.from_residual-in_err-points_claimed.ensures.0
+
+pub returns-in_err-push : goal.returns-in_err-push
+returns-in_err-push c = IfOk-from_err c.from_residual-in_err-push.result _ c.from_residual-in_err-push.ensures.0
