@@ -3,11 +3,11 @@
 ghost use Rattle.std.specs.Prelude.{◌≡◌, [], ◌∷◌, length, IfOk};
 ghost use Rattle.p3_test_openings.specs.Known.{FitData};
 
-use crate::listed::{listed, pair};
-use crate::one::{Opened, commit_one};
+use crate::listed::{alone, listed, pair};
+use crate::one::{Opened, commit_one, with_claims};
 use crate::preprocessed::commit_preprocessed;
 use p3_matrix::RowMajorMatrix;
-use p3_pcs::{KnownCommitment, OpeningRequest, Verified, claims_of};
+use p3_pcs::{KnownCommitment, OpeningRequest, Verified};
 use p3_stark_pcs::{UnivariateStarkPcs, open_and_verify_with_preprocessing};
 use std::alloc::Global;
 use std::test::Fail;
@@ -74,11 +74,11 @@ pub fn open_both<EF: Copy, C, P: UnivariateStarkPcs<EF, C>>(
 {
     let first = OpeningRequest {
         prover_data: preprocessed,
-        points: listed(alloc, listed(alloc, point)?)?,
+        points: alone(alloc, point)?,
     };
     let second = OpeningRequest {
         prover_data: private,
-        points: listed(alloc, listed(alloc, point)?)?,
+        points: alone(alloc, point)?,
     };
     let mut requests = pair(alloc, first, second)?;
     let answer = scheme.open_with_preprocessing(
@@ -87,16 +87,7 @@ pub fn open_both<EF: Copy, C, P: UnivariateStarkPcs<EF, C>>(
         challenger,
         Some(0),
     );
-    let (values, proof) = match answer {
-        Ok(opening) => opening,
-        Err(refusal) => return Ok(Err(refusal)),
-    };
-    let claims = claims_of(alloc, known, &requests, &values)?;
-    Ok(Ok(Opened {
-        values,
-        proof,
-        claims,
-    }))
+    with_claims(alloc, known, &requests, answer)
 }
 
 /// Both opened at this point, preprocessing first, and verified.
