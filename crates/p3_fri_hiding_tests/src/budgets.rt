@@ -1,12 +1,13 @@
 //! What the calls that commit refuse, and the data that they give.
 
 use crate::chunks::domains_of;
-use crate::committed::{Committing, commit_and_read};
+use crate::commitments::Committing;
+use crate::committed::commit;
 use crate::input::Input;
 use crate::matrices::coset;
 use crate::scheme::{Domain, Evaluations, SMALL, Setting};
-use crate::schemes::Scheme;
-use crate::tested::Tested;
+use crate::schemes::scheme_of;
+use crate::tested::DataState;
 use p3_field::{BabyBear, Field};
 use p3_fri_masks::HidingFriProverError;
 use p3_matrix::RowMajorMatrix;
@@ -183,43 +184,41 @@ fn input_of(alloc: Global, call: Call, heights: &[usize]) -> Result<Committing, 
     }
 }
 
+/// Whether the data is new, of that call, and of a scheme of so many random codewords.
+fn is_new(state: &DataState, call: Call, num_random_codewords: usize) -> bool {
+    !state.is_opened
+        && state.is_preprocessing == (call == Call::Preprocessing)
+        && state.num_random_codewords == num_random_codewords
+        && state.log_blowup == 2
+}
+
 /// Whether the call answers so. A quotient has chunks.
-fn is_answered<P: Tested>(alloc: Global, call: Call, case: &Case) -> Result<bool, Fail> {
+fn is_answered(alloc: Global, call: Call, case: &Case) -> Result<bool, Fail> {
     if call == Call::Quotient && case.heights.is_empty() {
         return Ok(true);
     }
     let input = input_of(alloc, call, case.heights)?;
-    let mut scheme = P::of(Setting {
+    let mut scheme = scheme_of(Setting {
         num_random_codewords: case.num_random_codewords,
         num_queries: case.num_queries,
         ..SMALL
     });
-    match commit_and_read(&mut scheme, alloc, input, &[])? {
+    match commit(&mut scheme, alloc, input, &[])? {
         Ok(committed) => {
-            let is_preprocessing = call == Call::Preprocessing;
-            let is_new = P::is_new(&committed.held, is_preprocessing, case.num_random_codewords);
+            let is_new = is_new(&committed.state, call, case.num_random_codewords);
             Ok(case.refusal.is_none() && is_new)
         }
         Err(refusal) => Ok(case.refusal == Some(refusal)),
     }
 }
 
-/// The first case of a call that isn't answered so.
-fn first_wrong<P: Tested>(alloc: Global, call: Call) -> Result<Option<usize>, Fail> {
-    for (index, case) in CASES.iter().enumerate() {
-        if !is_answered::<P>(alloc, call, case)? {
-            return Ok(Some(index));
-        }
-    }
-    Ok(None)
-}
-
-/// The first call with such a case.
-fn first_wrong_call<P: Tested>(alloc: Global) -> Result<Option<(&'static str, usize)>, Fail> {
+/// The first call with a case that isn't answered so, and the case's index.
+fn first_wrong(alloc: Global) -> Result<Option<(&'static str, usize)>, Fail> {
     for (call, name) in CALLS {
-        match first_wrong::<P>(alloc, call)? {
-            Some(index) => return Ok(Some((name, index))),
-            None => {}
+        for (index, case) in CASES.iter().enumerate() {
+            if !is_answered(alloc, call, case)? {
+                return Ok(Some((name, index)));
+            }
         }
     }
     Ok(None)
@@ -227,7 +226,7 @@ fn first_wrong_call<P: Tested>(alloc: Global) -> Result<Option<(&'static str, us
 
 #[test]
 fn the_budget_is_met_or_refused(rt: HostRuntime) -> Result<(), Fail> {
-    let wrong = first_wrong_call::<Scheme>(rt.alloc())?;
+    let wrong = first_wrong(rt.alloc())?;
     assert!(rt; wrong.is_none(), "{wrong:?}");
     Ok(())
 }

@@ -1,6 +1,6 @@
 //! The hiding scheme of a setting, as tests run by it, and the plain one.
 
-ghost use Rattle.std.specs.Prelude.{◌≡◌, ◌<◌, ◌≤◌};
+ghost use Rattle.std.specs.Prelude.{◌≡◌, ◌<◌, ◌≤◌, IfOk};
 ghost use Rattle.p3_fri_relation.specs.Views.{parameters_of};
 ghost use Rattle.p3_fri_two_adic.specs.Ranges.{InProverRange, InVerifierRange};
 ghost use Rattle.p3_fri_hiding_tests.specs.TestedLaws.{kept};
@@ -10,7 +10,7 @@ use crate::committable::{are_doubled, are_small, are_words, column, doubled};
 use crate::openings::changes::{Change, change_random};
 use crate::openings::shapes::{Counts, have_counts};
 use crate::scheme::{Domain, Inputs, Proof, Rounds, Setting, generator, parameters};
-use crate::tested::Tested;
+use crate::tested::{DataState, Tested};
 use p3_dft::Radix2Dit;
 use p3_field::BabyBear;
 use p3_fri_folding::FriProverError;
@@ -47,6 +47,15 @@ pub(crate) fn scheme_of(setting: Setting) -> Scheme
     )
 }
 
+/// The same scheme with a generator of its own.
+pub(crate) fn fork_of(scheme: &mut Scheme) -> Result<Scheme, AllocError>
+    requires { scheme.old.fri.log_blowup ≡ 2 }
+    ensures kept { scheme.new.fri.log_blowup ≡ 2 }
+    ensures forked { IfOk result (λ forked. forked.fri.log_blowup ≡ 2) }
+{
+    scheme.fork()
+}
+
 /// The plain scheme of that setting, which has no random codewords.
 pub(crate) fn plain_scheme_of(setting: Setting) -> PlainScheme
     ensures log_blowup { result.fri.log_blowup ≡ 2 }
@@ -63,10 +72,6 @@ impl Tested for Scheme {
 
     fn of(setting: Setting) -> Self {
         scheme_of(setting)
-    }
-
-    fn fork(&mut self) -> Result<Self, AllocError> {
-        self.fork()
     }
 
     fn column_of(
@@ -117,15 +122,13 @@ impl Tested for Scheme {
         true
     }
 
-    fn is_opened(held: &Data) -> bool {
-        held.is_opened()
-    }
-
-    fn is_new(held: &Data, is_preprocessing: bool, num_random_codewords: usize) -> bool {
-        !held.is_opened()
-            && held.is_preprocessing() == is_preprocessing
-            && held.num_random_codewords() == num_random_codewords
-            && held.log_blowup() == 2
+    fn state_of(held: &Data) -> DataState {
+        DataState {
+            is_opened: held.is_opened(),
+            is_preprocessing: held.is_preprocessing(),
+            num_random_codewords: held.num_random_codewords(),
+            log_blowup: held.log_blowup(),
+        }
     }
 
     fn has_random_values(proof: &Proof, counts: &[Counts]) -> bool {

@@ -15,6 +15,15 @@ use p3_stark_pcs::UnivariateStarkPcs;
 use std::alloc::{AllocError, Global};
 use std::test::Fail;
 
+/// What the data of a commitment is like.
+#[derive(Drop)]
+pub(crate) struct DataState {
+    pub is_opened: bool,
+    pub is_preprocessing: bool,
+    pub num_random_codewords: usize,
+    pub log_blowup: usize,
+}
+
 /// A scheme that tests run by.
 pub(crate) trait Tested: UnivariateStarkPcs<
     BabyBear4,
@@ -35,12 +44,6 @@ pub(crate) trait Tested: UnivariateStarkPcs<
         ensures prover { 0 < setting.num_queries → (Self.rules result).InProverRange }
         ensures verifier { setting.log_final_poly_len ≤ 31
             → (Self.rules result).InVerifierRange };
-
-    /// The same scheme with a generator of its own.
-    fn fork(&mut self) -> Result<Self, AllocError>
-        requires { IsTested self.old }
-        ensures kept { IsTested self.new }
-        ensures forked { IfOk result IsTested };
 
     /// The numbers as a column beside its domain, which may be committed to.
     fn column_of(
@@ -95,11 +98,8 @@ pub(crate) trait Tested: UnivariateStarkPcs<
         ensures whole { IsTrue result → (domain : _)
             → (Self.stark_rules self.now).CanEvaluateWhole held.now index domain };
 
-    /// Whether an opening has used the data.
-    fn is_opened(held: &Self::ProverData) -> bool;
-
-    /// Whether the data is new, of this kind, and of a scheme of so many random codewords.
-    fn is_new(held: &Self::ProverData, is_preprocessing: bool, num_random_codewords: usize) -> bool;
+    /// What the data is like.
+    fn state_of(held: &Self::ProverData) -> DataState;
 
     /// Whether the random values beside the proof have these counts.
     fn has_random_values(proof: &Self::Proof, counts: &[Counts]) -> bool;

@@ -78,7 +78,7 @@ fn are_first_columns(
 /// Whether all columns of a matrix, with so many more than it has, are read with the next masks,
 /// and without those that only hide others as many as it has.
 fn is_read_masked(
-    reading: &Reading<BabyBear>,
+    reading: &Reading,
     trace: &RowMajorMatrix<BabyBear>,
     hidden: u8,
     masks: &mut Masks,
@@ -91,7 +91,7 @@ fn is_read_masked(
 /// Whether that holds of the reading of each matrix.
 pub(crate) fn are_masked(
     alloc: Global,
-    readings: &[Reading<BabyBear>],
+    readings: &[Reading],
     each: &[Entries],
     hidden: u8,
     masks: &mut Masks,

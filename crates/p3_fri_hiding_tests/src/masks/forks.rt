@@ -1,11 +1,12 @@
 //! Forks of a scheme.
 
+ghost use Rattle.std.specs.Prelude.{◌≡◌};
+
 use crate::commitments::Reading;
 use crate::committed::read_entries;
 use crate::matrices::{E, Entries, are_numbers, row_of};
 use crate::scheme::SMALL;
-use crate::tested::Tested;
-use p3_field::BabyBear;
+use crate::schemes::{Scheme, fork_of, scheme_of};
 use std::alloc::Global;
 use std::test::Fail;
 
@@ -52,7 +53,7 @@ const ROWS: [[[u64; 5]; 2]; 3] = [
 ];
 
 /// Whether the first matrix that is read begins with these rows.
-fn begins_with(readings: &[Reading<BabyBear>], rows: &[[u64; 5]; 2]) -> bool {
+fn begins_with(readings: &[Reading], rows: &[[u64; 5]; 2]) -> bool {
     match readings.first() {
         Some(reading) => {
             are_numbers(row_of(&reading.whole, 0), &rows[0])
@@ -63,8 +64,8 @@ fn begins_with(readings: &[Reading<BabyBear>], rows: &[[u64; 5]; 2]) -> bool {
 }
 
 /// Whether the first rows of what this scheme commits to next are these.
-fn commits_to<P: Tested>(alloc: Global, scheme: &mut P, rows: &[[u64; 5]; 2]) -> Result<bool, Fail>
-    requires { P.IsTested scheme.old }
+fn commits_to(alloc: Global, scheme: &mut Scheme, rows: &[[u64; 5]; 2]) -> Result<bool, Fail>
+    requires { scheme.old.fri.log_blowup ≡ 2 }
 {
     match read_entries(scheme, alloc, &FORKED, false)? {
         Some(readings) => Ok(begins_with(&readings, rows)),
@@ -72,28 +73,14 @@ fn commits_to<P: Tested>(alloc: Global, scheme: &mut P, rows: &[[u64; 5]; 2]) ->
     }
 }
 
-/// Whether the scheme and its two forks commit to these rows in turn.
-fn commit_to_rows<P: Tested>(
-    alloc: Global,
-    first: &mut P,
-    second: &mut P,
-    scheme: &mut P,
-) -> Result<bool, Fail>
-    requires first { P.IsTested first.old }
-    requires second { P.IsTested second.old }
-    requires scheme { P.IsTested scheme.old }
-{
-    Ok(
-        commits_to(alloc, scheme, &ROWS[2])?
-            && commits_to(alloc, second, &ROWS[1])?
-            && commits_to(alloc, first, &ROWS[0])?,
-    )
-}
-
 /// Whether two forks and the scheme itself draw masks of their own.
-pub(crate) fn forks_draw_masks_of_their_own<P: Tested>(alloc: Global) -> Result<bool, Fail> {
-    let mut scheme = P::of(SMALL);
-    let mut first = scheme.fork()?;
-    let mut second = scheme.fork()?;
-    commit_to_rows(alloc, &mut first, &mut second, &mut scheme)
+pub(crate) fn forks_draw_masks_of_their_own(alloc: Global) -> Result<bool, Fail> {
+    let mut scheme = scheme_of(SMALL);
+    let mut first = fork_of(&mut scheme)?;
+    let mut second = fork_of(&mut scheme)?;
+    Ok(
+        commits_to(alloc, &mut scheme, &ROWS[2])?
+            && commits_to(alloc, &mut second, &ROWS[1])?
+            && commits_to(alloc, &mut first, &ROWS[0])?,
+    )
 }

@@ -5,7 +5,7 @@ use crate::committed::read_next;
 use crate::input::Input;
 use crate::matrices::{E, Entries, PI, are_numbers, coset, evaluations, row_of};
 use crate::scheme::SMALL;
-use crate::tested::Tested;
+use crate::schemes::scheme_of;
 use p3_field::{BabyBear, Field};
 use p3_matrix::RowMajorMatrix;
 use std::alloc::Global;
@@ -76,7 +76,7 @@ fn recombine(
 
 /// Whether each masked chunk has the values at 5, and their columns recombine to what they did
 /// before.
-fn are_masked_chunks(readings: &[Reading<BabyBear>]) -> bool {
+fn are_masked_chunks(readings: &[Reading]) -> bool {
     match readings {
         [first, second] => {
             are_numbers(row_of(&first.whole, 0), &MASKED_AT_FIVE[0])
@@ -91,17 +91,10 @@ fn are_masked_chunks(readings: &[Reading<BabyBear>]) -> bool {
 }
 
 /// Whether that holds of the chunks where they are committed to.
-pub(crate) fn masked_chunks_recombine_to_the_quotient<P: Tested>(
-    alloc: Global,
-) -> Result<bool, Fail> {
+pub(crate) fn masked_chunks_recombine_to_the_quotient(alloc: Global) -> Result<bool, Fail> {
     let five = coset(5, 0)?;
-    let chunks = evaluations(alloc, &CHUNKS, 0)?;
-    match read_next(
-        &mut P::of(SMALL),
-        alloc,
-        Input::Chunks(chunks),
-        &[five, five],
-    )? {
+    let chunks = Input::Chunks(evaluations(alloc, &CHUNKS, 0)?);
+    match read_next(&mut scheme_of(SMALL), alloc, chunks, &[five, five])? {
         Some(readings) => Ok(are_masked_chunks(&readings)),
         None => Ok(false),
     }

@@ -1,10 +1,12 @@
 //! Matrices that are committed to in turn.
 
+ghost use Rattle.std.specs.Prelude.{◌≡◌};
+
 use crate::committed::read_entries;
 use crate::masks::drawn::{Masks, are_masked};
 use crate::matrices::{E, Entries, PI};
 use crate::scheme::{SMALL, generator};
-use crate::tested::Tested;
+use crate::schemes::{Scheme, scheme_of};
 use std::alloc::Global;
 use std::test::Fail;
 
@@ -69,14 +71,9 @@ static AFTER_A_REFUSAL: [Turn; 3] = [
 ];
 
 /// Whether what is read is masked by the next words, or nothing is where that is refused.
-fn is_met<P: Tested>(
-    scheme: &mut P,
-    alloc: Global,
-    turn: &Turn,
-    masks: &mut Masks,
-) -> Result<bool, Fail>
-    requires { P.IsTested scheme.old }
-    ensures { P.IsTested scheme.new }
+fn is_met(scheme: &mut Scheme, alloc: Global, turn: &Turn, masks: &mut Masks) -> Result<bool, Fail>
+    requires { scheme.old.fri.log_blowup ≡ 2 }
+    ensures { scheme.new.fri.log_blowup ≡ 2 }
 {
     match read_entries(scheme, alloc, turn.each, false)? {
         Some(readings) => {
@@ -87,13 +84,13 @@ fn is_met<P: Tested>(
 }
 
 /// Whether that holds of each turn.
-fn are_met<P: Tested>(
-    scheme: &mut P,
+fn are_met(
+    scheme: &mut Scheme,
     alloc: Global,
     turns: &[Turn],
     masks: &mut Masks,
 ) -> Result<bool, Fail>
-    requires { P.IsTested scheme.old }
+    requires { scheme.old.fri.log_blowup ≡ 2 }
 {
     for turn in turns {
         if !is_met(&mut *scheme, alloc, turn, masks)? {
@@ -104,9 +101,9 @@ fn are_met<P: Tested>(
 }
 
 /// Whether the masks of a new scheme's commitments are the words of its generator in turn.
-pub(crate) fn two_commitments_take_the_next_words<P: Tested>(alloc: Global) -> Result<bool, Fail> {
+pub(crate) fn two_commitments_take_the_next_words(alloc: Global) -> Result<bool, Fail> {
     are_met(
-        &mut P::of(SMALL),
+        &mut scheme_of(SMALL),
         alloc,
         &TWICE,
         &mut Masks::Words(generator()),
@@ -114,9 +111,9 @@ pub(crate) fn two_commitments_take_the_next_words<P: Tested>(alloc: Global) -> R
 }
 
 /// Whether a refusal takes none of the words.
-pub(crate) fn a_refusal_takes_no_words<P: Tested>(alloc: Global) -> Result<bool, Fail> {
+pub(crate) fn a_refusal_takes_no_words(alloc: Global) -> Result<bool, Fail> {
     are_met(
-        &mut P::of(SMALL),
+        &mut scheme_of(SMALL),
         alloc,
         &AFTER_A_REFUSAL,
         &mut Masks::Words(generator()),
@@ -124,10 +121,8 @@ pub(crate) fn a_refusal_takes_no_words<P: Tested>(alloc: Global) -> Result<bool,
 }
 
 /// Whether all columns of preprocessed matrices are shown, with zeros between their rows.
-pub(crate) fn preprocessing_has_zeros_between_its_rows<P: Tested>(
-    alloc: Global,
-) -> Result<bool, Fail> {
-    match read_entries(&mut P::of(SMALL), alloc, &TRACES, true)? {
+pub(crate) fn preprocessing_has_zeros_between_its_rows(alloc: Global) -> Result<bool, Fail> {
+    match read_entries(&mut scheme_of(SMALL), alloc, &TRACES, true)? {
         Some(readings) => are_masked(alloc, &readings, &TRACES, 0, &mut Masks::Zeros),
         None => Ok(false),
     }

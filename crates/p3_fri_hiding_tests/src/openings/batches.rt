@@ -2,22 +2,19 @@
 
 ghost use Rattle.std.specs.Prelude.{◌≡◌, [], ◌∷◌, length, IfOk};
 
-use crate::judged::Opening;
+use crate::judged::{Call, Opening, are_moved, judge};
 use crate::matrices::{Entries, SHORT_E, SHORT_PI, coset, evaluations};
-use crate::openings::preprocessed::is_answer;
 use crate::openings::shapes::first_value;
-use crate::scheme::SMALL;
-use crate::schemes::Scheme;
+use crate::openings::{Question, holds};
+use crate::scheme::{Domain, SMALL};
 use crate::tested::Tested;
 use p3_challenger::Sha256Challenger;
 use p3_field::{BabyBear, BabyBear4, ExtensionField, Field};
-use p3_matrix::RowMajorMatrix;
 use p3_mmcs::OpenedValues;
 use p3_pcs::{KnownCommitment, Pcs};
 use p3_stark_pcs::UnivariateStarkPcs;
-use p3_test_openings::batches::{QuotientChunks, commit_and_open_batches};
+use p3_test_openings::batches::{Batches, QuotientChunks, commit_and_open_batches};
 use p3_test_openings::listed::{listed, pair};
-use p3_test_openings::one::Opened;
 use std::alloc::Global;
 use std::test::Fail;
 
@@ -47,38 +44,6 @@ fn commit_random<EF: Copy, C, P: UnivariateStarkPcs<EF, C>>(
         Ok(None) => Err(Fail::new("the scheme doesn't hide")),
         Err(_) => Err(Fail::new("the commitment is refused")),
     }
-}
-
-/// Random polynomials on a domain, a trace and two chunks committed to, and all three opened at
-/// this point, with what that leaves of their data: of the random polynomials first, and of the
-/// chunks last. Both chunks are claimed on the domain of the random polynomials.
-fn commit_and_open_all<EF: Copy, C, P: UnivariateStarkPcs<EF, C>>(
-    scheme: &mut P,
-    alloc: Global,
-    domain: P::Domain,
-    trace: (P::Domain, RowMajorMatrix<P::Val>),
-    chunks: Vec<(P::Domain, RowMajorMatrix<P::Val>)>,
-    point: EF,
-    challenger: &mut C,
-) -> Result<
-    (
-        Opened<EF, P::Commitment, P::Domain, P::Proof>,
-        [P::ProverData; 3],
-    ),
-    Fail,
->
-    requires prover { (P.rules scheme.old).InProverRange }
-    requires random { (P.stark_rules scheme.old).CanRandomize (domain ∷ []) }
-    requires trace { (P.rules scheme.old).CanCommit (trace ∷ []) }
-    requires chunks { (P.stark_rules scheme.old).CanExtend chunks.items (length chunks.items) }
-    requires two_chunks { length chunks.items ≡ 2 }
-{
-    let quotient = QuotientChunks {
-        chunks,
-        domains: pair(alloc, domain, domain)?,
-    };
-    let random = commit_random::<EF, C, P>(&mut *scheme, alloc, domain)?;
-    commit_and_open_batches::<EF, C, P>(scheme, alloc, random, trace, quotient, point, challenger)
 }
 
 /// What the chunks' values at 1 are multiplied by where they are recombined.
@@ -127,10 +92,11 @@ pub(crate) static CHUNKS: [Entries; 2] = [
 /// An opening of all three at 1, and their data.
 type OpenedAll<P> = (
     Opening<P>,
-    [<P as Pcs<BabyBear4, Sha256Challenger>>::ProverData; 3],
+    Batches<[u8; 32], Domain, <P as Pcs<BabyBear4, Sha256Challenger>>::ProverData>,
 );
 
-/// Random polynomials, a trace of 16 rows and the two chunks, opened at 1.
+/// Random polynomials, a trace of 16 rows and the two chunks committed to and opened at 1, with
+/// what that leaves of their data. Both chunks are claimed on the domain of the random polynomials.
 fn open_all<P: Tested>(
     alloc: Global,
     challenger: &mut Sha256Challenger,
@@ -145,44 +111,45 @@ fn open_all<P: Tested>(
     {
         return Err(Fail::new("not chunks of a quotient"));
     }
-    commit_and_open_all::<BabyBear4, Sha256Challenger, P>(
+    let quotient = QuotientChunks {
+        chunks,
+        domains: pair(alloc, domain, domain)?,
+    };
+    let random = commit_random::<BabyBear4, Sha256Challenger, P>(&mut scheme, alloc, domain)?;
+    commit_and_open_batches::<BabyBear4, Sha256Challenger, P>(
         &mut scheme,
         alloc,
-        domain,
+        random,
         trace,
-        chunks,
+        quotient,
         BabyBear4::ONE,
         challenger,
     )
 }
 
-/// Whether the opening has the values, with random ones beside the proof.
-fn is_shown<P: Tested>(opened: &Opening<P>) -> bool {
-    are_values(&opened.values)
-        && P::has_random_values(&opened.proof, &[[1, 1, 4], [1, 1, 4], [2, 1, 4]])
-}
-
-/// Whether all data counts as opened.
-fn are_marked<P: Tested>(held: &[P::ProverData; 3]) -> bool {
-    let [random, trace, quotient] = held;
-    P::is_opened(random) && P::is_opened(trace) && P::is_opened(quotient)
-}
-
-/// Whether the opening has these values, is accepted by a verifier that ends as the prover, and all
-/// data counts as opened.
-fn is_opened(alloc: Global) -> Result<bool, Fail> {
-    let mut challenger = Sha256Challenger::new();
-    let (opened, held) = open_all::<Scheme>(alloc, &mut challenger)?;
-    let is_left = is_shown::<Scheme>(&opened) && are_marked::<Scheme>(&held);
-    let mut verifier = Sha256Challenger::new();
-    let is_accepted = is_answer::<Scheme>(alloc, SMALL, opened, None, &mut verifier, "accepted")?;
-    Ok(is_left && is_accepted && verifier == challenger && challenger != Sha256Challenger::new())
+/// Whether the opening has the values, with random ones beside the proof, is accepted by a verifier
+/// that ends as the prover, and all data counts as opened.
+pub(crate) fn is_quotient_opened<P: Tested>(alloc: Global) -> Result<bool, Fail> {
+    let (mut prover, mut verifier) = (Sha256Challenger::new(), Sha256Challenger::new());
+    let (opened, held) = open_all::<P>(alloc, &mut prover)?;
+    let is_shown = P::has_random_values(&opened.proof, &[[1, 1, 4], [1, 1, 4], [2, 1, 4]])
+        && P::state_of(&held.random).is_opened
+        && P::state_of(&held.trace).is_opened
+        && P::state_of(&held.quotient).is_opened;
+    let call = Call::VerifyWithPreprocessing(None);
+    let judged = judge::<P>(alloc, SMALL, call, opened, &mut verifier)?;
+    Ok(
+        is_shown
+            && are_values(&judged.values)
+            && judged.answer.is_ok()
+            && are_moved(&prover, &verifier),
+    )
 }
 
 #[test]
 fn a_quotient_is_opened_beside_its_trace_and_random_polynomials(
     rt: HostRuntime,
 ) -> Result<(), Fail> {
-    assert!(rt; is_opened(rt.alloc())?);
+    assert!(rt; holds(rt.alloc(), Question::IsQuotientOpened)?);
     Ok(())
 }

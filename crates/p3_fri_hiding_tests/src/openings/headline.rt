@@ -1,21 +1,21 @@
 //! The headline at a scheme that hides.
 
+use crate::judged::are_moved;
 use crate::matrices::{E, POINTS, SHORT_PI, element, points};
+use crate::openings::{Question, holds};
 use crate::scheme::SMALL;
-use crate::schemes::Scheme;
 use crate::tested::Tested;
 use p3_challenger::Sha256Challenger;
 use p3_field::BabyBear4;
-use p3_test_openings::both::{OfBoth, commit_and_show_both};
+use p3_test_openings::both::commit_and_show_both;
 use p3_test_openings::one::commit_and_show;
 use std::alloc::Global;
 use std::test::Fail;
 
-/// A column opened at two points and verified: the verifier's challenger, and the data.
-fn show_column<P: Tested>(
-    alloc: Global,
-    challenger: &mut Sha256Challenger,
-) -> Result<(Sha256Challenger, P::ProverData), Fail> {
+/// Whether a column is opened at two points and verified: the data counts as opened, and both sides
+/// end in one state that isn't the first.
+pub(crate) fn is_column_accepted<P: Tested>(alloc: Global) -> Result<bool, Fail> {
+    let mut challenger = Sha256Challenger::new();
     let mut scheme = P::of(SMALL);
     let column = scheme.column_of(alloc, &E)?;
     let points = points(alloc, &POINTS)?;
@@ -24,70 +24,39 @@ fn show_column<P: Tested>(
         alloc,
         column,
         points,
-        challenger,
+        &mut challenger,
     )?;
-    Ok((verified.challenger, held))
+    Ok(P::state_of(&held).is_opened && are_moved(&challenger, &verified.challenger))
 }
 
-/// Preprocessing and a private column opened at one point and verified: the verifier's challenger,
-/// and their data.
-fn show_columns<P: Tested>(
-    alloc: Global,
-    challenger: &mut Sha256Challenger,
-) -> Result<OfBoth<Sha256Challenger, P::ProverData>, Fail> {
+/// Whether preprocessing and a private column are opened at one point and verified: of the data the
+/// private alone counts as opened, and both sides end in one state that isn't the first.
+pub(crate) fn are_columns_accepted<P: Tested>(alloc: Global) -> Result<bool, Fail> {
+    let mut challenger = Sha256Challenger::new();
     let mut scheme = P::of(SMALL);
     let public_column = scheme.column_of(alloc, &SHORT_PI)?;
     let private_column = scheme.column_of(alloc, &E[16..])?;
-    let OfBoth {
-        made,
-        preprocessed,
-        private,
-    } = commit_and_show_both::<BabyBear4, Sha256Challenger, P>(
+    let shown = commit_and_show_both::<BabyBear4, Sha256Challenger, P>(
         &mut scheme,
         alloc,
         public_column,
         private_column,
         element(POINTS[0]),
-        challenger,
+        &mut challenger,
     )?;
-    Ok(OfBoth {
-        made: made.challenger,
-        preprocessed,
-        private,
-    })
-}
-
-/// Whether the data counts as opened, and both sides end in one state that isn't the first.
-fn is_shown<P: Tested>(alloc: Global) -> Result<bool, Fail> {
-    let mut challenger = Sha256Challenger::new();
-    let (verifier, held) = show_column::<P>(alloc, &mut challenger)?;
-    let is_opened = P::is_opened(&held);
-    Ok(is_opened && verifier == challenger && challenger != Sha256Challenger::new())
-}
-
-/// Whether of the data the private alone counts as opened, and both sides end in one state that
-/// isn't the first.
-fn what_is_opened_with_preprocessing_is_accepted<P: Tested>(alloc: Global) -> Result<bool, Fail> {
-    let mut challenger = Sha256Challenger::new();
-    let shown = show_columns::<P>(alloc, &mut challenger)?;
-    let is_marked = P::is_opened(&shown.private) && !P::is_opened(&shown.preprocessed);
-    Ok(is_marked && shown.made == challenger && challenger != Sha256Challenger::new())
-}
-
-/// What isn't accepted.
-fn first_wrong<P: Tested>(alloc: Global) -> Result<Option<&'static str>, Fail> {
-    if !is_shown::<P>(alloc)? {
-        return Ok(Some("a column"));
-    }
-    if !what_is_opened_with_preprocessing_is_accepted::<P>(alloc)? {
-        return Ok(Some("with preprocessing"));
-    }
-    Ok(None)
+    Ok(
+        P::state_of(&shown.private).is_opened
+            && !P::state_of(&shown.preprocessed).is_opened
+            && are_moved(&challenger, &shown.made.challenger),
+    )
 }
 
 #[test]
 fn what_is_opened_is_accepted(rt: HostRuntime) -> Result<(), Fail> {
-    let wrong = first_wrong::<Scheme>(rt.alloc())?;
-    assert!(rt; wrong.is_none(), "{wrong:?}");
+    assert!(rt; holds(rt.alloc(), Question::IsColumnAccepted)?, "a column");
+    assert!(rt;
+        holds(rt.alloc(), Question::AreColumnsAccepted)?,
+        "with preprocessing"
+    );
     Ok(())
 }

@@ -2,18 +2,17 @@
 //! the claims, its own numbers or the index of preprocessing aren't those of the opening; and
 //! preprocessing opened again and again.
 
-use crate::judged::{Opening, judge};
+use crate::judged::{Call, Outcome, are_moved, judge};
 use crate::matrices::{E, POINTS, SHORT_PI, coset, element};
 use crate::openings::changes::{Change, change_claims};
 use crate::openings::shapes::{first_value, have_counts};
+use crate::openings::{Question, holds, outcome};
 use crate::scheme::{SMALL, Setting, VerifierError};
-use crate::schemes::Scheme;
 use crate::tested::Tested;
 use p3_challenger::Sha256Challenger;
 use p3_field::{BabyBear4, Field};
 use p3_fri_masks::HidingFriProverError;
 use p3_mmcs::OpenedValues;
-use p3_pcs::Pcs;
 use p3_test_openings::both::{OfBoth, commit_and_open_both};
 use p3_test_openings::preprocessed::open_twice;
 use std::alloc::Global;
@@ -21,7 +20,7 @@ use std::test::Fail;
 
 /// A change, the index that the verifier is told, its numbers, and what it answers: `accepted` or
 /// the refusal.
-struct Case {
+pub(crate) struct Case {
     change: Change,
     index: Option<usize>,
     setting: Setting,
@@ -159,25 +158,42 @@ static CASES: [Case; 17] = [
     },
 ];
 
-/// What comes of opening both at one point, with their data.
-type Both<P> = OfBoth<Opening<P>, <P as Pcs<BabyBear4, Sha256Challenger>>::ProverData>;
-
-/// Preprocessing and a private column, of 16 rows each, opened at one point.
-fn open_columns<P: Tested>(
-    alloc: Global,
-    challenger: &mut Sha256Challenger,
-) -> Result<Both<P>, Fail> {
+/// What comes of a case: preprocessing and a private column, of 16 rows each, opened at one point,
+/// changed and judged. Preprocessing has no random values and the private column one for each
+/// codeword, and of the data the private alone counts as opened.
+pub(crate) fn outcome_of<P: Tested>(alloc: Global, case: &Case) -> Result<Outcome, Fail> {
+    let low = coset(1, 2)?;
+    let (mut prover, mut verifier) = (Sha256Challenger::new(), Sha256Challenger::new());
     let mut scheme = P::of(SMALL);
     let public_column = scheme.column_of(alloc, &SHORT_PI)?;
     let private_column = scheme.column_of(alloc, &E[16..])?;
-    commit_and_open_both::<BabyBear4, Sha256Challenger, P>(
+    let OfBoth {
+        made,
+        preprocessed,
+        private,
+    } = commit_and_open_both::<BabyBear4, Sha256Challenger, P>(
         &mut scheme,
         alloc,
         public_column,
         private_column,
         element(POINTS[0]),
-        challenger,
-    )
+        &mut prover,
+    )?;
+    let mut opened = made;
+    let has_random_values = P::has_random_values(&opened.proof, &[[1, 1, 0], [1, 1, 4]]);
+    let is_opened = P::state_of(&private).is_opened && !P::state_of(&preprocessed).is_opened;
+    P::change_random_values(&mut opened.proof, case.change);
+    change_claims(alloc, &mut opened.claims, low, case.change);
+    let call = Call::VerifyWithPreprocessing(case.index);
+    let judged = judge::<P>(alloc, case.setting, call, opened, &mut verifier)?;
+    Ok(Outcome {
+        earlier: None,
+        answer: Ok(judged),
+        has_random_values,
+        is_opened,
+        prover,
+        verifier,
+    })
 }
 
 /// Whether this is printed so: `accepted` or the refusal.
@@ -191,57 +207,23 @@ fn is_printed(alloc: Global, answer: &Result<(), VerifierError>, wanted: &str) -
     }
 }
 
-/// Whether a verifier of that setting answers so to the opening, where this index is told to be
-/// that of preprocessing: `accepted` or the refusal.
-pub(crate) fn is_answer<P: Tested>(
-    alloc: Global,
-    setting: Setting,
-    opened: Opening<P>,
-    index: Option<usize>,
-    verifier: &mut Sha256Challenger,
-    answer: &str,
-) -> Result<bool, Fail> {
-    let judged = judge::<P>(alloc, setting, opened, index, verifier)?;
-    Ok(is_printed(alloc, &judged, answer))
-}
-
-/// Whether preprocessing has no random values and the private column one for each codeword, and of
-/// the data the private alone counts as opened.
-fn is_opened<P: Tested>(both: &Both<P>) -> bool {
-    P::is_opened(&both.private)
-        && !P::is_opened(&both.preprocessed)
-        && P::has_random_values(&both.made.proof, &[[1, 1, 0], [1, 1, 4]])
-}
-
-/// Whether the verifier ends as the prover where it accepts, and else leaves its challenger as it
-/// was.
-fn is_left(case: &Case, prover: &Sha256Challenger, verifier: &Sha256Challenger) -> bool {
-    let is_moved = *verifier != Sha256Challenger::new();
-    if case.answer == "accepted" {
-        is_moved && *verifier == *prover
+/// Whether both are opened, and the verifier answers so to the changed opening. It ends as the
+/// prover where it accepts, and else leaves its challenger as it was.
+fn is_answered(alloc: Global, case: &Case, outcome: &Outcome) -> bool {
+    let is_left = if case.answer == "accepted" {
+        are_moved(&outcome.prover, &outcome.verifier)
     } else {
-        !is_moved
+        outcome.verifier == Sha256Challenger::new()
+    };
+    match &outcome.answer {
+        Ok(judged) => {
+            outcome.has_random_values
+                && outcome.is_opened
+                && is_printed(alloc, &judged.answer, case.answer)
+                && is_left
+        }
+        Err(_) => false,
     }
-}
-
-/// Whether both are opened, and a verifier answers so to the changed opening.
-fn is_answered<P: Tested>(alloc: Global, case: &Case) -> Result<bool, Fail> {
-    let low = coset(1, 2)?;
-    let (mut prover, mut verifier) = (Sha256Challenger::new(), Sha256Challenger::new());
-    let both = open_columns::<P>(alloc, &mut prover)?;
-    let is_opened = is_opened::<P>(&both);
-    let mut opened = both.made;
-    P::change_random_values(&mut opened.proof, case.change);
-    change_claims(alloc, &mut opened.claims, low, case.change);
-    let is_so = is_answer::<P>(
-        alloc,
-        case.setting,
-        opened,
-        case.index,
-        &mut verifier,
-        case.answer,
-    )?;
-    Ok(is_opened && is_so && is_left(case, &prover, &verifier))
 }
 
 type Answer<Proof> = Result<(OpenedValues<BabyBear4>, Proof), HidingFriProverError>;
@@ -258,31 +240,24 @@ fn is_zero<P: Tested>(answer: &Answer<P::Proof>) -> bool {
     }
 }
 
-/// Preprocessing of zeros opened twice at one point, with what that leaves of its data.
-fn open_zeros_twice<P: Tested>(
-    alloc: Global,
-) -> Result<([Answer<P::Proof>; 2], P::ProverData), Fail> {
+/// Whether preprocessing of zeros is opened twice at one point, and doesn't count as opened.
+pub(crate) fn are_zeros_opened_twice<P: Tested>(alloc: Global) -> Result<bool, Fail> {
     let mut scheme = P::of(SMALL);
     let column = scheme.column_of(alloc, &[0; 16])?;
-    open_twice::<BabyBear4, Sha256Challenger, P>(
+    let (first, second, held) = open_twice::<BabyBear4, Sha256Challenger, P>(
         &mut scheme,
         alloc,
         column,
         element(POINTS[0]),
         &mut Sha256Challenger::new(),
-    )
-}
-
-/// Whether preprocessing of zeros is opened twice, and doesn't count as opened.
-fn is_opened_twice(alloc: Global) -> Result<bool, Fail> {
-    let (answers, held) = open_zeros_twice::<Scheme>(alloc)?;
-    Ok(is_zero::<Scheme>(&answers[0]) && is_zero::<Scheme>(&answers[1]) && !held.is_opened())
+    )?;
+    Ok(is_zero::<P>(&first) && is_zero::<P>(&second) && !P::state_of(&held).is_opened)
 }
 
 /// The first case that isn't answered so.
-fn first_wrong<P: Tested>(alloc: Global) -> Result<Option<usize>, Fail> {
+fn first_wrong(alloc: Global) -> Result<Option<usize>, Fail> {
     for (index, case) in CASES.iter().enumerate() {
-        if !is_answered::<P>(alloc, case)? {
+        if !is_answered(alloc, case, &outcome(alloc, Question::Columns(case))?) {
             return Ok(Some(index));
         }
     }
@@ -291,13 +266,13 @@ fn first_wrong<P: Tested>(alloc: Global) -> Result<Option<usize>, Fail> {
 
 #[test]
 fn changed_openings_are_refused(rt: HostRuntime) -> Result<(), Fail> {
-    let wrong = first_wrong::<Scheme>(rt.alloc())?;
+    let wrong = first_wrong(rt.alloc())?;
     assert!(rt; wrong.is_none(), "case {wrong:?}");
     Ok(())
 }
 
 #[test]
 fn preprocessing_is_opened_twice(rt: HostRuntime) -> Result<(), Fail> {
-    assert!(rt; is_opened_twice(rt.alloc())?);
+    assert!(rt; holds(rt.alloc(), Question::AreZerosOpened)?);
     Ok(())
 }

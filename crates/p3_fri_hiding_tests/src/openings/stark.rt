@@ -4,17 +4,17 @@
 ghost use Rattle.std.specs.Prelude.{◌≡◌, ◌≢◌, ◌*◌, [], if◌then◌else◌, map, length, IfOk};
 
 use crate::chunks::domains_of;
+use crate::judged::are_moved;
 use crate::matrices::{E, PI, element, evaluations};
 use crate::openings::batches::{CHUNKS, recombine};
 use crate::openings::shapes::{first_value, have_counts};
+use crate::openings::{Question, holds};
 use crate::scheme::{Domain, SMALL};
-use crate::schemes::Scheme;
 use crate::tested::Tested;
 use p3_challenger::Sha256Challenger;
 use p3_field::{BabyBear, BabyBear4, ExtensionField, Field};
 use p3_mmcs::OpenedValues;
-use p3_pcs::Pcs;
-use p3_stark_columns::{StarkColumns, StarkOpening, open_stark_columns};
+use p3_stark_columns::{StarkColumns, open_stark_columns};
 use p3_test_openings::listed::listed;
 use std::alloc::Global;
 use std::test::Fail;
@@ -53,35 +53,6 @@ fn columns_of<P: Tested>(scheme: &P, alloc: Global) -> Result<StarkColumns<Domai
 /// The root of unity of order 32, by which the rows of the trace are apart.
 const GENERATOR: [u64; 4] = [760_005_850, 0, 0, 0];
 
-/// What an opening of the columns shows.
-type OpenedColumns<P> = StarkOpening<
-    BabyBear4,
-    [u8; 32],
-    Domain,
-    <P as Pcs<BabyBear4, Sha256Challenger>>::Proof,
-    Sha256Challenger,
->;
-
-/// The columns opened at 1 and at the next row's point.
-fn open_columns<P: Tested>(
-    alloc: Global,
-    challenger: &mut Sha256Challenger,
-) -> Result<OpenedColumns<P>, Fail> {
-    let mut scheme = P::of(SMALL);
-    let columns = columns_of(&scheme, alloc)?;
-    match open_stark_columns::<BabyBear4, Sha256Challenger, P>(
-        &mut scheme,
-        alloc,
-        columns,
-        BabyBear4::ONE,
-        element(GENERATOR),
-        challenger,
-    ) {
-        Ok(opened) => Ok(opened),
-        Err(_) => Err(Fail::new("not accepted")),
-    }
-}
-
 /// Whether the first matrix of that commitment has these rows at its two points.
 fn are_rows(values: &OpenedValues<BabyBear4>, round: usize, first: u64, second: u64) -> bool {
     let first = BabyBear4::from_base(BabyBear::from_u64(first));
@@ -90,8 +61,12 @@ fn are_rows(values: &OpenedValues<BabyBear4>, round: usize, first: u64, second: 
         && first_value(values, round, 0, 1) == Some(second)
 }
 
-/// Whether preprocessing and trace have their first two rows, and the chunks recombine.
+/// Whether there are as many values as of these columns, preprocessing and trace have their first
+/// two rows, and the chunks recombine.
 fn are_values(values: &OpenedValues<BabyBear4>) -> bool {
+    if !have_counts(values, &[[1, 2, 1], [1, 2, 1], [2, 1, 1], [1, 1, 4]]) {
+        return false;
+    }
     match (first_value(values, 2, 0, 0), first_value(values, 2, 1, 0)) {
         (Some(first), Some(second)) => {
             are_rows(values, 0, E[0], E[1])
@@ -102,27 +77,29 @@ fn are_values(values: &OpenedValues<BabyBear4>) -> bool {
     }
 }
 
-/// Whether four commitments are opened, of which the last is to four random polynomials, with
-/// these values, and with random ones beside the proof.
-fn is_shown<P: Tested>(opened: &OpenedColumns<P>) -> bool {
-    let values = &opened.verified.values;
-    opened.known.len() == 4
-        && have_counts(values, &[[1, 2, 1], [1, 2, 1], [2, 1, 1], [1, 1, 4]])
-        && P::has_random_values(
-            &opened.verified.proof,
-            &[[1, 2, 0], [1, 2, 4], [2, 1, 4], [1, 1, 4]],
-        )
-        && are_values(values)
-}
-
-/// Whether the columns are opened so, and both sides end in one state that isn't the first.
-fn is_opened<P: Tested>(alloc: Global) -> Result<bool, Fail> {
+/// Whether the columns are opened at 1 and at the next row's point: four commitments, of which the
+/// last is to four random polynomials, with these values, and with random ones beside the proof.
+/// Both sides end in one state that isn't the first.
+pub(crate) fn are_stark_columns_opened<P: Tested>(alloc: Global) -> Result<bool, Fail> {
     let mut challenger = Sha256Challenger::new();
-    let opened = open_columns::<P>(alloc, &mut challenger)?;
+    let mut scheme = P::of(SMALL);
+    let columns = columns_of(&scheme, alloc)?;
+    let Ok(opened) = open_stark_columns::<BabyBear4, Sha256Challenger, P>(
+        &mut scheme,
+        alloc,
+        columns,
+        BabyBear4::ONE,
+        element(GENERATOR),
+        &mut challenger,
+    ) else {
+        return Err(Fail::new("not accepted"));
+    };
+    let counts = [[1, 2, 0], [1, 2, 4], [2, 1, 4], [1, 1, 4]];
     Ok(
-        is_shown::<P>(&opened)
-            && opened.verified.challenger == challenger
-            && challenger != Sha256Challenger::new(),
+        opened.known.len() == 4
+            && are_values(&opened.verified.values)
+            && P::has_random_values(&opened.verified.proof, &counts)
+            && are_moved(&challenger, &opened.verified.challenger),
     )
 }
 
@@ -130,6 +107,6 @@ fn is_opened<P: Tested>(alloc: Global) -> Result<bool, Fail> {
 fn random_polynomials_are_opened_beside_the_columns_of_a_stark(
     rt: HostRuntime,
 ) -> Result<(), Fail> {
-    assert!(rt; is_opened::<Scheme>(rt.alloc())?);
+    assert!(rt; holds(rt.alloc(), Question::AreStarkColumnsOpened)?);
     Ok(())
 }

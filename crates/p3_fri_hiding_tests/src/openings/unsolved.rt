@@ -1,14 +1,18 @@
 //! Openings by both schemes where a proof of work has no solution.
 
+ghost use Rattle.std.specs.Prelude.{◌∷◌, []};
+
 use crate::committable::{column, plain_column};
-use crate::judged::commit_and_open;
 use crate::matrices::{POINTS, SHORT_PI, points};
 use crate::scheme::{SMALL, Setting};
 use crate::schemes::{PlainScheme, Scheme, plain_scheme_of, scheme_of};
 use p3_field::BabyBear4;
 use p3_fri_folding::{FriProverError, PowPhase};
 use p3_fri_masks::HidingFriProverError;
+use p3_matrix::RowMajorMatrix;
+use p3_pcs::Pcs;
 use p3_test_challengers::AlwaysOne;
+use p3_test_openings::one::{commit_one, open_one};
 use std::alloc::Global;
 use std::test::Fail;
 
@@ -19,6 +23,23 @@ const WORKS: [Option<PowPhase>; 4] = [
     Some(PowPhase::CommitPhase),
     Some(PowPhase::Query),
 ];
+
+/// Why a matrix that is committed to isn't opened at these points, and what that leaves of its
+/// data.
+fn commit_and_open<EF: Copy, C, P: Pcs<EF, C>>(
+    scheme: &mut P,
+    alloc: Global,
+    evaluation: (P::Domain, RowMajorMatrix<P::Val>),
+    points: Vec<EF>,
+    challenger: &mut C,
+) -> Result<(Option<P::ProverError>, P::ProverData), Fail>
+    requires prover { (P.rules scheme.old).InProverRange }
+    requires committable { (P.rules scheme.old).CanCommit (evaluation ∷ []) }
+{
+    let (known, mut held) = commit_one::<EF, C, P>(&mut *scheme, alloc, evaluation)?;
+    let answer = open_one(&*scheme, alloc, known, &mut held, points, challenger)?;
+    Ok((answer.err(), held))
+}
 
 /// Why the hiding scheme doesn't open a column where that is asked for, and whether its data counts
 /// as opened then.

@@ -1,4 +1,4 @@
-use Rattle.p3_fri_hiding_tests.proofs.committed.commit_tested.Goals as goal
+use Rattle.p3_fri_hiding_tests.proofs.commitments.commit_tested.Goals as goal
 
 pub returns-clause-tested : goal.returns-clause-tested
 returns-clause-tested g c =
