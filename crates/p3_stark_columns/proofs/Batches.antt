@@ -1,6 +1,6 @@
 -- What is known of committed batches under a later scheme.
-use Rattle.std.proofs.Common.{◌≡◌, ℕ, ◌*◌, List, map, sym, ap, ◌∙◌, subst, ◌⊎◌, inl, inr}
-use Rattle.std.proofs.Common.{Bool, true, Option}
+use Rattle.std.proofs.Common.{◌≡◌, ℕ, ◌*◌, List, map, sym, ap, ◌∙◌, subst, inr}
+use Rattle.std.proofs.Common.{Bool, true, Option, Result, Ok, Err, IfOk, IfErr}
 use Rattle.std.specs.List.{AllZip}
 use Rattle.p3_pcs.specs.Requests.{Held}
 use Rattle.p3_pcs.specs.declared.claims.KnownCommitment.{KnownCommitment}
@@ -104,6 +104,11 @@ pub random_on : {E C V Dom Com D Proof Error ProverError : Type 0}
 random_on r t hides random known domains are h =
     subst (λ ds. IsRandom r t hides ds random) are h
 
+-- what is known of an answer is known of the value that it is
+pub ok_of : {T F : Type 0} (answer : Result T F) (x : T) (P : T → Type 0) → answer ≡ Ok x
+    → IfOk answer P → P x
+ok_of answer x P is h = subst (λ r. IfOk r P) is h
+
 -- a commitment's refusal stays one for a reason that follows
 pub refused_for : {P E : Type 0} (Q R : P → Type 0) → ((e : P) → Q e → R e) → (e : StarkError P E)
     → IsCommitRefusal Q e → IsCommitRefusal R e
@@ -111,21 +116,15 @@ refused_for Q R f (Commit e) h = f e h
 refused_for Q R f (Open e) h = h
 refused_for Q R f OutOfMemory h = tt
 
--- a refusal of chunks, or of their words, is one of a STARK's commitments
-pub chunks_refused : {E C V Dom Com D Proof Error ProverError : Type 0}
-    (r : Scheme E C V Dom Com D Proof Error ProverError) (t : StarkScheme E V Dom D ProverError)
-    (hides : Bool) (preprocessed trace chunks : List (Dom × RowMajorMatrix V))
-    (Q : ProverError → Type 0)
-    (L : List (RowMajorMatrix V) → ProverError → Type 0)
-    → ((e : ProverError) → Q e → t.QuotientsRefuse chunks e)
-    → ((ldes : List (RowMajorMatrix V)) (e : ProverError) → L ldes e → t.LdesRefuse ldes e)
-    → (e : ProverError) → Q e ⊎ ((ldes : List (RowMajorMatrix V)) × L ldes e)
-    → CommitsRefuse r t hides preprocessed trace chunks e
-chunks_refused r t hides preprocessed trace chunks Q L f g e (inl h) = inr (inr (inl (f e h)))
-chunks_refused r t hides preprocessed trace chunks Q L f g e (inr (ldes, h)) =
-    inr (inr (inr (inl (ldes, g ldes e h))))
+-- the refusal of this commitment is one for a reason that follows
+pub refusal_of : {T P E : Type 0} (answer : Result T P) (Q R : P → Type 0) → IfErr answer Q
+    → ((e : P) → Q e → R e) → (e : StarkError P E) → IsCommitRefusal (λ x. answer ≡ Err x) e
+    → IsCommitRefusal R e
+refusal_of answer Q R known leads e h =
+    refused_for (λ x. answer ≡ Err x) R
+    (λ x is. leads x (subst (λ r. IfErr r Q) is known)) e h
 
--- so is one of random polynomials
+-- a refusal of random polynomials is one of a STARK's commitments
 pub random_refused : {E C V Dom Com D Proof Error ProverError : Type 0}
     (r : Scheme E C V Dom Com D Proof Error ProverError)
     (old first second new : StarkScheme E V Dom D ProverError) → AreKeptStark old first

@@ -1,46 +1,37 @@
 -- What is known of batches that are committed to and opened.
 use Rattle.std.proofs.Common.{◌≡◌, List, [], ◌∷◌, map, Bool, Some, option_map, option_to_list}
-use Rattle.std.proofs.Common.{Result, Ok, Err, IfOk, IfErr, sym, ap, subst, ◌∙◌}
+use Rattle.std.proofs.Common.{sym, ap, subst, ◌∙◌}
 use Rattle.std.specs.List.{AllZip}
 use Rattle.p3_matrix.specs.declared.dense.RowMajorMatrix.{RowMajorMatrix}
 use Rattle.p3_pcs.specs.Scheme.{Scheme}
 use Rattle.p3_pcs.specs.declared.claims.KnownCommitment.{KnownCommitment}
 use Rattle.p3_stark_pcs.specs.Scheme.{StarkScheme}
 use Rattle.p3_stark_columns.specs.declared.commit.Batches.{Batches}
-use Rattle.p3_stark_columns.specs.declared.error.StarkError.{StarkError}
-use Rattle.p3_stark_columns.specs.declared.error.StarkError.TheVariants.{Commit, Open, OutOfMemory}
 use Rattle.p3_pcs.specs.declared.headline.OpenAndVerifyError.{OpenAndVerifyError}
-use Rattle.p3_pcs.specs.declared.headline.OpenAndVerifyError.TheVariants as refusal
+use Rattle.p3_pcs.specs.declared.headline.OpenAndVerifyError.TheVariants.{Open, Verify, OutOfMemory}
 use Rattle.p3_pcs.specs.Headline.{MatchOpenAndVerifyError}
 use Rattle.p3_stark_columns.specs.Asked.{all_known}
 use Rattle.p3_stark_columns.specs.Stark.{IsBatch, AreCommitted, AreStarkValues, OpeningRefuses}
-use Rattle.p3_stark_columns.specs.Stark.{stark_requests, stark_values, IsOpenRefusal}
+use Rattle.p3_stark_columns.specs.Stark.{stark_requests, stark_values, stark_claims}
 use Rattle.p3_stark_columns.proofs.Requests.{known_batches}
 
--- what two facts of an answer lead to
-pub both_ok : {T F : Type 0} (answer : Result T F) (P Q R : T → Type 0) → IfOk answer P
-    → IfOk answer Q → ((x : T) → P x → Q x → R x) → IfOk answer R
-both_ok (Ok x) P Q R p q f = f x p q
-both_ok (Err e) P Q R p q f = p
+-- the refusal of an opening, or of its proof, stays one for a reason that follows
+pub opening_refused_for : {P E : Type 0} (Q R : P → Type 0) (S : E → Type 0)
+    → ((e : P) → Q e → R e) → (e : OpenAndVerifyError P E) → MatchOpenAndVerifyError Q S e
+    → MatchOpenAndVerifyError R S e
+opening_refused_for Q R S f (Open e) h = f e h
+opening_refused_for Q R S f (Verify e) h = h
+opening_refused_for Q R S f OutOfMemory h = h
 
--- what a refusal leads to
-pub err_leads : {T F : Type 0} (answer : Result T F) (P Q : F → Type 0) → IfErr answer P
-    → ((e : F) → P e → Q e) → IfErr answer Q
-err_leads (Ok x) P Q h f = h
-err_leads (Err e) P Q h f = f e h
-
--- an opening's refusal stays one for a reason that follows
-pub open_refused_for : {P E : Type 0} (Q R : P → Type 0) (S : E → Type 0)
-    → ((e : P) → Q e → R e) → (e : StarkError P E) → IsOpenRefusal Q S e → IsOpenRefusal R S e
-open_refused_for {P} {E} Q R S f (Open e) h = each e h
-  where
-    each : (e : OpenAndVerifyError P E) → MatchOpenAndVerifyError Q S e
-        → MatchOpenAndVerifyError R S e
-    each (refusal.Open e) h = f e h
-    each (refusal.Verify e) h = h
-    each refusal.OutOfMemory h = h
-open_refused_for Q R S f (Commit e) h = h
-open_refused_for Q R S f OutOfMemory h = h
+-- the claims of the same commitments at the same points
+pub same_claims : {E Com Dom : Type 0} (both pair one lone : List E)
+    (known all : List (KnownCommitment Com Dom)) (values : List (List (List (List E))))
+    → pair ≡ both → lone ≡ one → all ≡ known
+    → stark_claims both one known values ≡ stark_claims pair lone all values
+same_claims both pair one lone known all values pair_is lone_is all_are =
+    ap (λ zs. stark_claims zs one known values) (sym pair_is)
+    ∙ ap (λ zs. stark_claims pair zs known values) (sym lone_is)
+    ∙ ap (λ ks. stark_claims pair lone ks values) (sym all_are)
 
 module _ {E C V Dom Com D Proof Error ProverError : Type 0}
     (r : Scheme E C V Dom Com D Proof Error ProverError) (t : StarkScheme E V Dom D ProverError)

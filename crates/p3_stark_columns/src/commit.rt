@@ -1,9 +1,7 @@
 //! Commitments to the columns of a STARK, and to random polynomials where the scheme hides.
 
-ghost use Rattle.std.specs.Prelude.{◌≡◌, ◌⊎◌, ◌*◌, List, map, length, if◌then◌else◌, true};
+ghost use Rattle.std.specs.Prelude.{◌≡◌, ◌*◌, map, length, if◌then◌else◌, true, Ok, Err};
 ghost use Rattle.std.specs.Prelude.{IfOk, IfErr, IfSome, option_map};
-ghost use Rattle.std.specs.List.{AllZip};
-ghost use Rattle.p3_matrix.specs.declared.dense.RowMajorMatrix.{RowMajorMatrix};
 ghost use Rattle.p3_pcs.specs.Scheme.{AreKept};
 ghost use Rattle.p3_stark_pcs.specs.Scheme.{AreKeptStark};
 ghost use Rattle.p3_stark_columns.specs.Stark.{IsBatch, IsRandom, AreCommitted, CommitsRefuse};
@@ -58,101 +56,16 @@ fn domains_of<Domain: Copy, Val>(
     Ok(domains)
 }
 
-/// Commits to preprocessed columns.
-fn commit_preprocessed<EF: Copy, C, P: UnivariateStarkPcs<EF, C>>(
-    scheme: &mut P,
-    alloc: Global,
-    evaluations: Vec<(P::Domain, RowMajorMatrix<P::Val>)>,
-) -> Result<Batch<P::Commitment, P::Domain, P::ProverData>, StarkError<P::ProverError, P::Error>>
-    requires { (P.rules scheme.old).CanCommit evaluations.items }
-    ensures kept { P.Keeps scheme.old scheme.new }
-    ensures commitment { IfOk result (λ b. (P.rules scheme.new).commitment_of b.prover_data
-        ≡ b.known.commitment) }
-    ensures domains { IfOk result (λ b. b.known.domains.items ≡ map (λ e. e.0) evaluations.items) }
-    ensures openable { IfOk result (λ b.
-        (P.stark_rules scheme.new).CanOpenPreprocessed b.prover_data) }
-    ensures honest { IfOk result (λ b. (P.rules scheme.new).IsHonest b.prover_data) }
-    ensures extends { IfOk result (λ b. AllZip (P.rules scheme.new).Extends
-        ((P.rules scheme.new).committed_polynomials b.prover_data) evaluations.items) }
-    ensures refused { IfErr result
-        (IsCommitRefusal ((P.stark_rules scheme.old).PreprocessingRefuses evaluations.items)) }
-{
-    let domains = domains_of(alloc, &evaluations)?;
-    match scheme.commit_preprocessing(alloc, evaluations) {
-        Ok((commitment, prover_data)) => Ok(Batch {
-            known: KnownCommitment {
-                commitment,
-                domains,
-            },
-            prover_data,
-        }),
-        Err(error) => Err(StarkError::Commit(error)),
-    }
-}
-
-/// Commits to a trace.
-fn commit_trace<EF: Copy, C, P: UnivariateStarkPcs<EF, C>>(
-    scheme: &mut P,
-    alloc: Global,
-    evaluations: Vec<(P::Domain, RowMajorMatrix<P::Val>)>,
-) -> Result<Batch<P::Commitment, P::Domain, P::ProverData>, StarkError<P::ProverError, P::Error>>
-    requires { (P.rules scheme.old).CanCommit evaluations.items }
-    ensures kept { P.Keeps scheme.old scheme.new }
-    ensures commitment { IfOk result (λ b. (P.rules scheme.new).commitment_of b.prover_data
-        ≡ b.known.commitment) }
-    ensures domains { IfOk result (λ b. b.known.domains.items ≡ map (λ e. e.0) evaluations.items) }
-    ensures openable { IfOk result (λ b. (P.rules scheme.new).CanOpen b.prover_data) }
-    ensures honest { IfOk result (λ b. (P.rules scheme.new).IsHonest b.prover_data) }
-    ensures extends { IfOk result (λ b. AllZip (P.rules scheme.new).Extends
-        ((P.rules scheme.new).committed_polynomials b.prover_data) evaluations.items) }
-    ensures refused { IfErr result
-        (IsCommitRefusal ((P.rules scheme.old).CommitRefuses evaluations.items)) }
-{
-    let domains = domains_of(alloc, &evaluations)?;
-    match scheme.commit(alloc, evaluations) {
-        Ok((commitment, prover_data)) => Ok(Batch {
-            known: KnownCommitment {
-                commitment,
-                domains,
-            },
-            prover_data,
-        }),
-        Err(error) => Err(StarkError::Commit(error)),
-    }
-}
-
-/// Commits to the chunks of a quotient.
-fn commit_quotient<EF: Copy, C, P: UnivariateStarkPcs<EF, C>>(
-    scheme: &mut P,
-    alloc: Global,
-    evaluations: Vec<(P::Domain, RowMajorMatrix<P::Val>)>,
-    domains: Vec<P::Domain>,
-) -> Result<Batch<P::Commitment, P::Domain, P::ProverData>, StarkError<P::ProverError, P::Error>>
-    requires { (P.stark_rules scheme.old).CanExtend evaluations.items (length evaluations.items) }
-    ensures kept { P.Keeps scheme.old scheme.new }
-    ensures commitment { IfOk result (λ b. (P.rules scheme.new).commitment_of b.prover_data
-        ≡ b.known.commitment) }
+/// The batch of a commitment on these domains, or its refusal.
+fn batch_of<Com, Domain: Drop, D, ProverError, Error>(
+    committed: Result<(Com, D), ProverError>,
+    domains: Vec<Domain>,
+) -> Result<Batch<Com, Domain, D>, StarkError<ProverError, Error>>
+    ensures committed { IfOk result (λ b. committed ≡ Ok (b.known.commitment, b.prover_data)) }
     ensures domains { IfOk result (λ b. b.known.domains.items ≡ domains.items) }
-    ensures openable { IfOk result (λ b. (P.rules scheme.new).CanOpen b.prover_data) }
-    ensures honest { IfOk result (λ b. (P.rules scheme.new).IsHonest b.prover_data) }
-    ensures sizes { IfOk result (λ b. AllZip
-        (λ m e. m.size ≡ (if P.ZK then 2 else 1) * (P.rules scheme.new).domain_size e.0)
-        ((P.rules scheme.new).committed_polynomials b.prover_data) evaluations.items) }
-    ensures recombined { IfOk result (λ b. (z : EF)
-        → P.recombined (map (λ e. e.0) evaluations.items)
-        (map (λ m. m.values_at z) ((P.rules scheme.new).committed_polynomials b.prover_data)) z
-        ≡ P.recombined (map (λ e. e.0) evaluations.items)
-        (map (λ e. (P.chunk_polynomials e).values_at z) evaluations.items) z) }
-    ensures refused { let t = P.stark_rules scheme.old in IfErr result (IsCommitRefusal
-        (λ e. t.QuotientsRefuse evaluations.items e
-        ⊎ ((ldes : List (RowMajorMatrix P.Val)) × t.LdesRefuse ldes e))) }
+    ensures refused { IfErr result (IsCommitRefusal (λ e. committed ≡ Err e)) }
 {
-    let count = evaluations.len();
-    let ldes = match scheme.get_quotient_ldes(alloc, evaluations, count) {
-        Ok(ldes) => ldes,
-        Err(error) => return Err(StarkError::Commit(error)),
-    };
-    match scheme.commit_ldes(alloc, ldes) {
+    match committed {
         Ok((commitment, prover_data)) => Ok(Batch {
             known: KnownCommitment {
                 commitment,
@@ -238,9 +151,19 @@ pub(crate) fn commit_columns<EF: Copy, C, P: UnivariateStarkPcs<EF, C>>(
         quotient,
         quotient_domains,
     } = columns;
-    let first = commit_preprocessed(scheme, alloc, preprocessed)?;
-    let second = commit_trace(scheme, alloc, trace)?;
-    let third = commit_quotient(scheme, alloc, quotient, quotient_domains)?;
+    let preprocessed_domains = domains_of(alloc, &preprocessed)?;
+    let trace_domains = domains_of(alloc, &trace)?;
+    let first = batch_of(
+        scheme.commit_preprocessing(alloc, preprocessed),
+        preprocessed_domains,
+    )?;
+    let second = batch_of(scheme.commit(alloc, trace), trace_domains)?;
+    let count = quotient.len();
+    let ldes = match scheme.get_quotient_ldes(alloc, quotient, count) {
+        Ok(ldes) => ldes,
+        Err(error) => return Err(StarkError::Commit(error)),
+    };
+    let third = batch_of(scheme.commit_ldes(alloc, ldes), quotient_domains)?;
     let random = commit_random(scheme, alloc, second.known.domains.as_slice())?;
     Ok(Batches {
         preprocessed: first,

@@ -1,18 +1,13 @@
-//! Committed batches opened at once, and the proof verified.
+//! What is asked of committed batches that are opened at once.
 
-ghost use Rattle.std.specs.Prelude.{◌≡◌, ◌≢◌, ◌++◌, [], ◌∷◌, map, replicate, Some};
-ghost use Rattle.std.specs.Prelude.{IsOk, IfOk, IfErr, option_map, option_to_list};
+ghost use Rattle.std.specs.Prelude.{◌≡◌, ◌++◌, [], ◌∷◌, map, replicate, IsOk, IfOk};
+ghost use Rattle.std.specs.Prelude.{option_to_list};
 ghost use Rattle.algebra.specs.Nested.{lists};
-ghost use Rattle.p3_pcs.specs.Claims.{opened_values};
 ghost use Rattle.p3_pcs.specs.Requests.{request};
 ghost use Rattle.p3_stark_columns.specs.Asked.{asked, asked_of, all_asked, all_known};
-ghost use Rattle.p3_stark_columns.specs.Stark.{AreReady, stark_claims, stark_values};
-ghost use Rattle.p3_stark_columns.specs.Stark.{stark_requests, IsOpenRefusal};
 
 use crate::commit::{Batch, Batches};
-use crate::error::StarkError;
 use p3_pcs::{KnownCommitment, OpeningRequest, Verified};
-use p3_stark_pcs::{UnivariateStarkPcs, open_and_verify_with_preprocessing};
 use std::alloc::{AllocError, Global};
 
 /// The columns of a STARK, opened, and the proof verified.
@@ -33,9 +28,9 @@ pub(crate) struct Asked<EF, D> {
 
 /// What is known of batches, and what is asked of them.
 #[derive(Drop)]
-struct AskedBatches<EF, Com, Domain, D> {
-    known: Vec<KnownCommitment<Com, Domain>>,
-    asked: Vec<Asked<EF, D>>,
+pub(crate) struct AskedBatches<EF, Com, Domain, D> {
+    pub known: Vec<KnownCommitment<Com, Domain>>,
+    pub asked: Vec<Asked<EF, D>>,
 }
 
 impl<EF: Copy, Com: Drop, Domain: Drop, D: Drop> AskedBatches<EF, Com, Domain, D> {
@@ -82,7 +77,7 @@ impl<EF: Copy, Com: Drop, Domain: Drop, D: Drop> AskedBatches<EF, Com, Domain, D
 }
 
 /// All batches: of the first two each matrix is opened at both points, of the others at one.
-fn asked_batches<EF: Copy, Com: Drop, Domain: Drop, D: Drop>(
+pub(crate) fn asked_batches<EF: Copy, Com: Drop, Domain: Drop, D: Drop>(
     alloc: Global,
     batches: Batches<Com, Domain, D>,
     both: &[EF],
@@ -125,7 +120,7 @@ fn points_for<EF: Copy>(
 }
 
 /// A request for each of these data.
-fn requests_of<'a, EF: Copy, D>(
+pub(crate) fn requests_of<'a, EF: Copy, D>(
     alloc: Global,
     all: &'a mut [Asked<EF, D>],
 ) -> Result<Vec<OpeningRequest<'a, D, EF>>, AllocError>
@@ -140,61 +135,4 @@ fn requests_of<'a, EF: Copy, D>(
         })?;
     }
     Ok(requests)
-}
-
-/// Opens batches, that of preprocessed columns as preprocessing: it and the trace at both points,
-/// the others at one; and verifies what comes of it from a copy of the challenger.
-pub(crate) fn open_batches<EF: Copy, C: Clone, P: UnivariateStarkPcs<EF, C>>(
-    scheme: &P,
-    alloc: Global,
-    batches: Batches<P::Commitment, P::Domain, P::ProverData>,
-    both: &[EF],
-    one: &[EF],
-    challenger: &mut C,
-) -> Result<
-    StarkOpening<EF, P::Commitment, P::Domain, P::Proof, C>,
-    StarkError<P::ProverError, P::Error>,
->
-    requires copies { (x y : C) → C.is_clone x y → y ≡ x }
-    requires prover { (P.rules scheme.now).InProverRange }
-    requires verifier { (P.rules scheme.now).InVerifierRange }
-    requires ready { AreReady (P.rules scheme.now) (P.stark_rules scheme.now) batches }
-    requires some_matrix { let held = (P.rules scheme.now).committed_polynomials in
-        held batches.preprocessed.prover_data ≢ [] }
-    requires some_point { both.now ≢ [] }
-    requires first_point { one.now ≢ [] }
-    ensures known { IfOk result (λ opened. opened.known.items ≡ all_known batches) }
-    ensures values { IfOk result (λ opened. opened_values opened.verified.values.items
-        ≡ stark_values (P.rules scheme.now) both.now one.now batches.preprocessed.prover_data
-        batches.trace.prover_data batches.quotient.prover_data
-        (option_map (λ b. b.prover_data) batches.random)) }
-    ensures accepted { IfOk result (λ opened. (P.rules scheme.now).Accepts (Some 0) challenger.old
-        (stark_claims both.now one.now opened.known.items
-        (opened_values opened.verified.values.items)) opened.verified.proof) }
-    ensures prover_state { IfOk result (λ opened.
-        challenger.new ≡ (P.rules scheme.now).last_state (Some 0) challenger.old
-        (stark_claims both.now one.now opened.known.items
-        (opened_values opened.verified.values.items)) opened.verified.proof) }
-    ensures verifier_state { IfOk result (λ opened.
-        opened.verified.challenger ≡ challenger.new) }
-    ensures refused { let r = P.rules scheme.now in IfErr result (IsOpenRefusal
-        (r.Refuses (Some 0) challenger.old (stark_requests r both.now one.now
-        batches.preprocessed.prover_data batches.trace.prover_data
-        batches.quotient.prover_data (option_map (λ b. b.prover_data) batches.random)))
-        (λ e. e ≡ r.out_of_memory)) }
-{
-    let AskedBatches { known, mut asked } = asked_batches(alloc, batches, both, one)?;
-    let mut requests = requests_of(alloc, asked.as_mut_slice())?;
-    let opened = open_and_verify_with_preprocessing(
-        scheme,
-        alloc,
-        known.as_slice(),
-        requests.as_mut_slice(),
-        challenger,
-        Some(0),
-    );
-    match opened {
-        Ok(verified) => Ok(StarkOpening { known, verified }),
-        Err(error) => Err(StarkError::Open(error)),
-    }
 }

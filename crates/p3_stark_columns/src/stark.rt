@@ -10,8 +10,8 @@ ghost use Rattle.p3_stark_columns.specs.Stark.{OpeningRefuses, IsCommitRefusal, 
 
 use crate::commit::{StarkColumns, commit_columns};
 use crate::error::StarkError;
-use crate::opening::{StarkOpening, open_batches};
-use p3_stark_pcs::UnivariateStarkPcs;
+use crate::opening::{AskedBatches, StarkOpening, asked_batches, requests_of};
+use p3_stark_pcs::{UnivariateStarkPcs, open_and_verify_with_preprocessing};
 use std::alloc::{AllocError, Global};
 
 /// The point with its successor, and the point alone.
@@ -93,12 +93,23 @@ pub fn open_stark_columns<EF: Copy, C: Clone, P: UnivariateStarkPcs<EF, C>>(
 {
     let (both, one) = points_at(alloc, point, successor)?;
     let batches = commit_columns(scheme, alloc, columns)?;
-    open_batches(
-        &*scheme,
+    let AskedBatches { known, mut asked } = asked_batches(
         alloc,
         batches,
         both.as_slice(),
         one.as_slice(),
+    )?;
+    let mut requests = requests_of(alloc, asked.as_mut_slice())?;
+    let opened = open_and_verify_with_preprocessing(
+        &*scheme,
+        alloc,
+        known.as_slice(),
+        requests.as_mut_slice(),
         challenger,
-    )
+        Some(0),
+    );
+    match opened {
+        Ok(verified) => Ok(StarkOpening { known, verified }),
+        Err(error) => Err(StarkError::Open(error)),
+    }
 }
