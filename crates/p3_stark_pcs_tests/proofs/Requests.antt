@@ -1,7 +1,9 @@
--- One request that may be opened.
-use Rattle.std.proofs.Common.{◌≡◌, ◌≢◌, List, [], ◌∷◌, ◌++◌, map, length, All, sym, subst, ◌∙◌}
+-- One column, and a request for it that may be opened.
+use Rattle.std.proofs.Common.{◌≡◌, ◌≢◌, ℕ, List, [], ◌∷◌, ◌++◌, map, length, All, sym, subst, ◌∙◌}
 use Rattle.std.proofs.lemmas.List.{length-map}
 use Rattle.std.proofs.lemmas.List.Elements.{All-nil, All-cons}
+use Rattle.p3_matrix.specs.declared.dense.RowMajorMatrix.{RowMajorMatrix}
+use Rattle.p3_fri_extensions.specs.Extension.{FitsDomain}
 use Rattle.p3_pcs.specs.declared.requests.OpeningRequest.{OpeningRequest}
 use Rattle.p3_pcs.specs.Requests.{Held, Request, AreOpenable, request}
 
@@ -25,12 +27,10 @@ module _ {D E : Type 0} (CanOpen : D → Type 0) (held : D → List (Held E)) wh
         some_matrix = some_held (held r.prover_data.now) one;
       })
 
--- where the matrices have to stand somewhere
-module _ {D A E : Type 0} (Stands : A → Type 0) (committed : D → List A) (held : A → Held E) where
-  pub openable_one : (r : OpeningRequest D E) (rs : List (OpeningRequest D E)) → rs ≡ r ∷ []
-      → All Stands (committed r.prover_data.now) → length r.points.items ≡ 1
-      → length (committed r.prover_data.now) ≡ 1
-      → AreOpenable (λ d. All Stands (committed d)) (λ d. map held (committed d)) (map request rs)
-  openable_one r rs is stands points one =
-      openable (λ d. All Stands (committed d)) (λ d. map held (committed d)) r rs is stands points
-      (length-map (committed r.prover_data.now) held ∙ one)
+-- one column that has an extension
+pub one_fits : {Dom V : Type 0} (log_size : Dom → ℕ) (e : Dom × RowMajorMatrix V)
+    → FitsDomain 27 1 (log_size e.0) e.1
+    → All (λ e. FitsDomain 27 1 (log_size e.0) e.1) (e ∷ [])
+one_fits {Dom} {V} log_size e h =
+    let Fits : Dom × RowMajorMatrix V → Type 0 = λ e. FitsDomain 27 1 (log_size e.0) e.1 in
+    All-cons Fits e [] h (All-nil Fits)

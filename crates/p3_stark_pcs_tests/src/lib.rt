@@ -4,20 +4,22 @@
 #[cfg(test)]
 mod columns;
 #[cfg(test)]
+mod committed;
+#[cfg(test)]
 mod evaluations;
 #[cfg(test)]
 mod headline;
+#[cfg(test)]
+mod offered;
 #[cfg(test)]
 mod opened;
 #[cfg(test)]
 mod periodic;
 #[cfg(test)]
-mod preprocessed;
-#[cfg(test)]
-mod quotients;
-#[cfg(test)]
 mod scheme;
 #[cfg(test)]
 mod stark;
+#[cfg(test)]
+mod tested;
 #[cfg(test)]
 mod values;

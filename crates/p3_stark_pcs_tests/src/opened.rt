@@ -1,73 +1,55 @@
 //! Committed words and preprocessed columns opened.
 
-ghost use Rattle.std.specs.Prelude.{All};
-ghost use Rattle.p3_mmcs.specs.ProverData.{matrices_of};
-ghost use Rattle.p3_fri_openings.specs.Rounds.{HasCoset};
+ghost use Rattle.std.specs.Prelude.{◌≡◌, length};
 
-use crate::columns::coset;
-use crate::preprocessed::commit_line;
-use crate::quotients::{WORD, commit_words};
-use crate::scheme::{Data, Domain, Inputs, Proof, Scheme, scheme};
+use crate::committed::{Committed, ON_COSET, WORD, commit_line, commit_words, listed};
+use crate::scheme::{Domain, Scheme};
+use crate::tested::Tested;
 use crate::values::{MINUS_THREE, are_values, element};
 use p3_challenger::Sha256Challenger;
 use p3_field::BabyBear4;
-use p3_mmcs::{CommitmentOpening, Mmcs, OpenedValues};
-use p3_pcs::{KnownCommitment, OpeningRequest, claims_of};
-use p3_stark_pcs::UnivariateStarkPcs;
+use p3_mmcs::{CommitmentOpening, OpenedValues};
+use p3_pcs::{OpeningRequest, claims_of};
 use std::alloc::Global;
 use std::test::Fail;
 
-/// What is known of a commitment to a column on two points.
-fn known_of(
-    alloc: Global,
-    commitment: [u8; 32],
-) -> Result<Vec<KnownCommitment<[u8; 32], Domain>>, Fail> {
-    let domains = vec![in alloc; coset(1, 1)?]?;
-    Ok(vec![in alloc;
-        KnownCommitment {
-            commitment,
-            domains
-        },
-    ]?)
-}
-
 /// An opening, with the claims that it makes and the challenger that it leaves.
 #[derive(Drop)]
-struct AtFive {
+struct AtFive<Proof> {
     values: OpenedValues<BabyBear4>,
     proof: Proof,
     claims: Vec<CommitmentOpening<BabyBear4, [u8; 32], Domain>>,
     challenger: Sha256Challenger,
 }
 
-/// A column on two points opened at 5, with this index.
-fn open_at_five(
+/// One column on two points opened at 5, with this index.
+fn open_at_five<P: Tested>(
+    scheme: &P,
     alloc: Global,
-    commitment: [u8; 32],
-    held: &mut Data,
+    committed: Committed<P::ProverData>,
     index: Option<usize>,
-) -> Result<AtFive, Fail>
-    requires { All (HasCoset 27) (matrices_of held.old) }
+) -> Result<AtFive<P::Proof>, Fail>
+    requires prover { (P.rules scheme.now).InProverRange }
+    requires openable { (P.rules scheme.now).CanOpen committed.held }
+    requires matrices { length ((P.rules scheme.now).committed_polynomials committed.held)
+        ≡ committed.matrices }
 {
-    let points = vec![in alloc; vec![in alloc; element([5, 0, 0, 0])]?]?;
-    if Inputs::new().get_matrices(&*held).len() != 1 {
+    let Committed {
+        known,
+        mut held,
+        matrices,
+    } = committed;
+    if matrices != 1 {
         return Err(Fail::new("not one matrix"));
     }
-    if points.len() != 1 {
-        return Err(Fail::new("not one list of points"));
-    }
-    let known = known_of(alloc, commitment)?;
-    let mut requests: Vec<OpeningRequest<'_, Data, BabyBear4>> = Vec::new(alloc);
-    requests.push(OpeningRequest {
-        prover_data: held,
-        points,
-    })?;
+    let known = listed(alloc, known)?;
+    let request = OpeningRequest {
+        prover_data: &mut held,
+        points: listed(alloc, listed(alloc, element([5, 0, 0, 0]))?)?,
+    };
+    let mut requests = listed(alloc, request)?;
     let mut challenger = Sha256Challenger::new();
-    let answer = <Scheme as UnivariateStarkPcs<
-        BabyBear4,
-        Sha256Challenger,
-    >>::open_with_preprocessing(
-        &scheme(),
+    let answer = scheme.open_with_preprocessing(
         alloc,
         requests.as_mut_slice(),
         &mut challenger,
@@ -87,7 +69,14 @@ fn open_at_five(
 
 /// Whether `2 - X` at 5 is -3, and is accepted with this index by a verifier that ends as the
 /// prover.
-fn is_accepted(alloc: Global, opened: AtFive, index: Option<usize>) -> bool {
+fn is_accepted<P: Tested>(
+    scheme: &P,
+    alloc: Global,
+    opened: AtFive<P::Proof>,
+    index: Option<usize>,
+) -> bool
+    requires { (P.rules scheme.now).InVerifierRange }
+{
     let AtFive {
         values,
         proof,
@@ -95,39 +84,38 @@ fn is_accepted(alloc: Global, opened: AtFive, index: Option<usize>) -> bool {
         challenger,
     } = opened;
     let mut verifier = Sha256Challenger::new();
-    let verified = <Scheme as UnivariateStarkPcs<
-        BabyBear4,
-        Sha256Challenger,
-    >>::verify_with_preprocessing(&scheme(), alloc, claims, &proof, &mut verifier, index);
+    let verified = scheme.verify_with_preprocessing(alloc, claims, &proof, &mut verifier, index);
     verified.is_ok() && are_values(&values, MINUS_THREE) && verifier == challenger
 }
 
 /// Whether it is, of committed words that are opened with this index.
-fn are_words_opened(alloc: Global, index: Option<usize>) -> Result<bool, Fail> {
-    let (commitment, mut data) = commit_words(alloc, &[(3, &[2_013_265_920, 5])], &[&WORD])?;
-    let opened = open_at_five(alloc, commitment, &mut data, index)?;
-    Ok(is_accepted(alloc, opened, None))
+fn are_words_opened<P: Tested>(alloc: Global, index: Option<usize>) -> Result<bool, Fail> {
+    let mut scheme = P::made();
+    let committed = commit_words(&mut scheme, alloc, &[ON_COSET], &[&WORD])?;
+    let opened = open_at_five(&scheme, alloc, committed, index)?;
+    Ok(is_accepted(&scheme, alloc, opened, None))
+}
+
+/// Whether it is, of a preprocessed column that is verified with this index.
+fn is_line_opened<P: Tested>(alloc: Global, index: Option<usize>) -> Result<bool, Fail> {
+    let mut scheme = P::made();
+    let committed = commit_line(&mut scheme, alloc)?;
+    let opened = open_at_five(&scheme, alloc, committed, Some(0))?;
+    Ok(is_accepted(&scheme, alloc, opened, index))
 }
 
 #[test]
 fn committed_words_are_opened(rt: HostRuntime) -> Result<(), Fail> {
     for index in [None, Some(0), Some(7)] {
-        assert!(rt; are_words_opened(rt.alloc(), index)?, "{index:?}");
+        assert!(rt; are_words_opened::<Scheme>(rt.alloc(), index)?, "{index:?}");
     }
     Ok(())
-}
-
-/// Whether it is, of a preprocessed column that is verified with this index.
-fn is_preprocessed_opened(alloc: Global, index: Option<usize>) -> Result<bool, Fail> {
-    let (commitment, mut data) = commit_line(alloc)?;
-    let opened = open_at_five(alloc, commitment, &mut data, Some(0))?;
-    Ok(is_accepted(alloc, opened, index))
 }
 
 #[test]
 fn preprocessed_columns_are_opened(rt: HostRuntime) -> Result<(), Fail> {
     for index in [None, Some(0)] {
-        assert!(rt; is_preprocessed_opened(rt.alloc(), index)?, "{index:?}");
+        assert!(rt; is_line_opened::<Scheme>(rt.alloc(), index)?, "{index:?}");
     }
     Ok(())
 }

@@ -1,11 +1,10 @@
 //! Tables of periodic columns along a trace of 8 rows, on the coset of 31 of 16 points.
 
 use crate::columns::coset;
-use crate::scheme::{Scheme, scheme};
-use p3_challenger::Sha256Challenger;
-use p3_field::{BabyBear, BabyBear4, Field};
+use crate::scheme::Scheme;
+use crate::tested::Tested;
+use p3_field::{BabyBear, Field};
 use p3_periodic::{PeriodicError, PeriodicLdeTable};
-use p3_stark_pcs::UnivariateStarkPcs;
 use std::alloc::{AllocError, Global};
 use std::test::Fail;
 
@@ -23,7 +22,7 @@ fn columns_of(alloc: Global, each: &[&[u64]]) -> Result<Vec<Vec<BabyBear>>, Allo
 }
 
 /// Their table, or why it is refused.
-fn table_of(
+fn table_of<P: Tested>(
     alloc: Global,
     each: &[&[u64]],
 ) -> Result<Result<PeriodicLdeTable<BabyBear>, PeriodicError>, Fail> {
@@ -33,13 +32,7 @@ fn table_of(
     if trace.size() > domain.size() {
         return Err(Fail::new("the domain is smaller than the trace's"));
     }
-    Ok(<Scheme as UnivariateStarkPcs<BabyBear4, Sha256Challenger>>::build_periodic_lde_table(
-        &scheme(),
-        alloc,
-        &columns,
-        trace,
-        domain,
-    ))
+    Ok(P::made().build_periodic_lde_table(alloc, &columns, trace, domain))
 }
 
 /// Columns, the height of their table, and entries of it by index and column.
@@ -95,13 +88,21 @@ fn has_entries(
     true
 }
 
+/// The first case that isn't met.
+fn first_wrong_table<P: Tested>(alloc: Global) -> Result<Option<&'static str>, Fail> {
+    for case in &TABLES {
+        let table = table_of::<P>(alloc, case.columns)??;
+        if table.height() != case.height || !has_entries(&table, case.entries) {
+            return Ok(Some(case.name));
+        }
+    }
+    Ok(None)
+}
+
 #[test]
 fn tables_of_periodic_columns(rt: HostRuntime) -> Result<(), Fail> {
-    for case in &TABLES {
-        let table = table_of(rt.alloc(), case.columns)??;
-        let is_met = table.height() == case.height && has_entries(&table, case.entries);
-        assert!(rt; is_met, "{}", case.name);
-    }
+    let wrong = first_wrong_table::<Scheme>(rt.alloc())?;
+    assert!(rt; wrong.is_none(), "{wrong:?}");
     Ok(())
 }
 
@@ -123,11 +124,19 @@ const MALFORMED: [(&[&[u64]], PeriodicError); 2] = [
     ),
 ];
 
+/// The first refusal that doesn't come.
+fn first_wrong_refusal<P: Tested>(alloc: Global) -> Result<Option<PeriodicError>, Fail> {
+    for (columns, expected) in &MALFORMED {
+        if table_of::<P>(alloc, *columns)?.err() != Some(*expected) {
+            return Ok(Some(*expected));
+        }
+    }
+    Ok(None)
+}
+
 #[test]
 fn a_malformed_periodic_column(rt: HostRuntime) -> Result<(), Fail> {
-    for (columns, expected) in &MALFORMED {
-        let refusal = table_of(rt.alloc(), *columns)?.err();
-        assert!(rt; refusal == Some(*expected), "{expected:?}");
-    }
+    let wrong = first_wrong_refusal::<Scheme>(rt.alloc())?;
+    assert!(rt; wrong.is_none(), "{wrong:?}");
     Ok(())
 }

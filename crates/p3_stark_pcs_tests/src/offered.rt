@@ -1,0 +1,41 @@
+//! What the scheme offers to a STARK: heights, and no random polynomials.
+
+use crate::columns::coset;
+use crate::committed::listed;
+use crate::scheme::Scheme;
+use crate::tested::Tested;
+use std::alloc::Global;
+use std::test::Fail;
+
+/// The logarithms of the least and of the greatest height of a trace, and whether it hides.
+fn heights<P: Tested>() -> (usize, usize, bool) {
+    let scheme = P::made();
+    (
+        scheme.log_min_trace_height(),
+        scheme.log_max_trace_height(),
+        P::ZK,
+    )
+}
+
+#[test]
+fn heights_go_from_one_to_the_two_adicity(rt: HostRuntime) -> Result<(), Fail> {
+    assert!(rt; heights::<Scheme>() == (0, 27, false));
+    Ok(())
+}
+
+/// Whether no random polynomials are committed to.
+fn is_none_random<P: Tested>(alloc: Global) -> Result<bool, Fail> {
+    let domains = listed(alloc, coset(1, 1)?)?;
+    let mut scheme = P::made();
+    match scheme.get_opt_randomization_poly_commitment(alloc, domains) {
+        Ok(None) => Ok(true),
+        Ok(Some(_)) => Ok(false),
+        Err(_) => Err(Fail::new("memory was refused")),
+    }
+}
+
+#[test]
+fn no_random_polynomials_are_committed_to(rt: HostRuntime) -> Result<(), Fail> {
+    assert!(rt; is_none_random::<Scheme>(rt.alloc())?);
+    Ok(())
+}
