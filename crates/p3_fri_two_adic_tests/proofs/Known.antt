@@ -1,5 +1,5 @@
 -- What is known of a commitment, from what was committed to.
-use Rattle.std.proofs.Common.{◌≡◌, ◌≢◌, ℕ, ◌^◌, List, [], ◌∷◌, map, length, All}
+use Rattle.std.proofs.Common.{◌≡◌, ◌≢◌, ℕ, List, [], ◌∷◌, map, length, All}
 use Rattle.std.proofs.Common.{refl, sym, subst, ap, ◌∙◌, arith}
 use Rattle.std.specs.List.{AllZip}
 use Rattle.std.proofs.lemmas.List.Elements.{All-cons, All-map}
@@ -8,19 +8,24 @@ use Rattle.p3_pcs.specs.declared.claims.KnownCommitment.{KnownCommitment}
 use Rattle.p3_pcs.specs.declared.requests.OpeningRequest.{OpeningRequest}
 use Rattle.p3_pcs.specs.Requests.{Held, Request, AreHonest, FitDomains, request}
 
--- what extends evaluations has the sizes of their domains
-module _ {E Domain Values : Type 0} (log_size : Domain → ℕ)
-    (Extends : Held E → Domain × Values → Type 0) where
-  pub sizes_extended : (ms : List (Held E)) (es : List (Domain × Values)) → AllZip Extends ms es
-      → ((m : Held E) (e : Domain × Values) → Extends m e → m.size ≡ 2 ^ log_size e.0)
-      → map (λ d. 2 ^ log_size d) (map (λ e. e.0) es) ≡ map (λ m. m.size) ms
-  sizes_extended [] [] h sized = refl
-  sizes_extended [] (e ∷ es) h sized = absurd h
-  sizes_extended (m ∷ ms) [] h sized = absurd h
-  sizes_extended (m ∷ ms) (e ∷ es) (here, rest) sized =
-      let first : 2 ^ log_size e.0 ≡ m.size = sym (sized m e here) in
-      let others = sizes_extended ms es rest sized in
-      cc
+-- domains of evaluations have the sizes of what extends these
+pub sizes_extended : {E Domain Values : Type 0} (Extends : Held E → Domain × Values → Type 0)
+    (size : Domain → ℕ) (ds : List Domain) (ms : List (Held E)) (es : List (Domain × Values))
+    → AllZip Extends ms es
+    → ((m : Held E) (e : Domain × Values) → Extends m e → m.size ≡ size e.0)
+    → ds ≡ map (λ e. e.0) es → map size ds ≡ map (λ m. m.size) ms
+sizes_extended {E} {Domain} {Values} Extends size ds ms es extends sized are =
+    ap (λ ds. map size ds) are ∙ each ms es extends
+  where
+    each : (ms : List (Held E)) (es : List (Domain × Values)) → AllZip Extends ms es
+        → map size (map (λ e. e.0) es) ≡ map (λ m. m.size) ms
+    each [] [] h = refl
+    each [] (e ∷ es) h = absurd h
+    each (m ∷ ms) [] h = absurd h
+    each (m ∷ ms) (e ∷ es) (here, rest) =
+        let first : size e.0 ≡ m.size = sym (sized m e here) in
+        let others = each ms es rest in
+        cc
 
 -- one request
 module _ {D E : Type 0} (r : OpeningRequest D E) where

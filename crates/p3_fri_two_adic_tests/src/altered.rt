@@ -1,17 +1,17 @@
 //! What the verifier answers to other claims and proofs than were made.
 
 use crate::accepted::{LINE, SQUARE};
-use crate::answers::{Answer, answer_to};
+use crate::answers::answer_to;
+use crate::numbers::constant;
 use crate::opened::{Opened, open_well};
-use crate::scheme::{Claims, Domain, PLAIN, Proof, constant};
+use crate::scheme::{Claims, Domain, PLAIN, Proof};
 use p3_field::{BabyBear, BabyBear4, Field, TwoAdicMultiplicativeCoset};
 use p3_mmcs::{CommitmentOpening, MatrixOpening};
 use std::alloc::{AllocError, Global};
-use std::process::Abort;
 use std::test::Fail;
 
 /// What is changed in the opening of `2 - X` at 5.
-#[derive(Clone, Copy, Debug)]
+#[derive(Clone, Copy)]
 enum Change {
     Nothing,
     NoRoundOpenings,
@@ -263,7 +263,7 @@ fn change_claims(alloc: Global, claims: &mut Claims, change: Change) -> Result<(
 }
 
 /// The opening of `2 - X` at 5, or of `X^2` and `2 - X`, with that change.
-fn altered(alloc: Global, change: Change) -> Result<Opened, Fail> {
+fn altered(alloc: Global, change: Change) -> Result<Opened<Proof>, Fail> {
     let mut opened = match change {
         Change::MovedValue => open_well(alloc, PLAIN, &[&[&SQUARE, &LINE]], &[&[&[5], &[5]]])?,
         _ => open_well(alloc, PLAIN, &[&[&LINE]], &[&[&[5]]])?,
@@ -275,47 +275,53 @@ fn altered(alloc: Global, change: Change) -> Result<Opened, Fail> {
     Ok(opened)
 }
 
-/// Whether this is the answer.
-fn is_expected(answer: &Answer, expected: Expected) -> bool {
-    let text = answer.text.as_str();
-    match expected {
-        Expected::Accepted => text == "accepted" && answer.same,
-        Expected::Refused => text != "accepted",
-        Expected::Named(name) => text == name,
-        Expected::NamedAtOnce(name) => text == name && answer.unmoved,
-    }
-}
-
 /// Whether the verifier answers so to that change.
 fn is_met(alloc: Global, change: Change, expected: Expected) -> Result<bool, Fail> {
     let opened = altered(alloc, change)?;
     let answer = answer_to(alloc, PLAIN, opened)?;
-    Ok(is_expected(&answer, expected))
+    let text = answer.text.as_str();
+    Ok(match expected {
+        Expected::Accepted => text == "accepted" && answer.same,
+        Expected::Refused => text != "accepted",
+        Expected::Named(name) => text == name,
+        Expected::NamedAtOnce(name) => text == name && answer.unmoved,
+    })
 }
 
-fn assert_all(rt: &impl Abort, alloc: Global, cases: &[(Change, Expected)]) -> Result<(), Fail> {
-    for (change, expected) in cases {
-        assert!(rt; is_met(alloc, *change, *expected)?, "{change:?}");
+/// The index of the first case that isn't met.
+fn first_unmet(alloc: Global, cases: &[(Change, Expected)]) -> Result<Option<usize>, Fail> {
+    for (index, (change, expected)) in cases.iter().enumerate() {
+        if !is_met(alloc, *change, *expected)? {
+            return Ok(Some(index));
+        }
     }
-    Ok(())
+    Ok(None)
 }
 
 #[test]
 fn altered_openings_are_named(rt: HostRuntime) -> Result<(), Fail> {
-    assert_all(&rt, rt.alloc(), &NAMED)
+    let unmet = first_unmet(rt.alloc(), &NAMED)?;
+    assert!(rt; unmet.is_none(), "case {unmet:?}");
+    Ok(())
 }
 
 #[test]
 fn witnesses_that_were_not_asked_for_are_refused(rt: HostRuntime) -> Result<(), Fail> {
-    assert_all(&rt, rt.alloc(), &WITNESSES)
+    let unmet = first_unmet(rt.alloc(), &WITNESSES)?;
+    assert!(rt; unmet.is_none(), "case {unmet:?}");
+    Ok(())
 }
 
 #[test]
 fn another_value_is_refused(rt: HostRuntime) -> Result<(), Fail> {
-    assert_all(&rt, rt.alloc(), &VALUES)
+    let unmet = first_unmet(rt.alloc(), &VALUES)?;
+    assert!(rt; unmet.is_none(), "case {unmet:?}");
+    Ok(())
 }
 
 #[test]
 fn a_claimed_shift_is_not_read(rt: HostRuntime) -> Result<(), Fail> {
-    assert_all(&rt, rt.alloc(), &SHIFTS)
+    let unmet = first_unmet(rt.alloc(), &SHIFTS)?;
+    assert!(rt; unmet.is_none(), "case {unmet:?}");
+    Ok(())
 }

@@ -1,10 +1,9 @@
 //! What the verifier answers.
 
 use crate::opened::Opened;
-use crate::scheme::{Scheme, Setting, scheme};
+use crate::scheme::{Claims, Proof, Scheme, Setting, VerifierError};
+use crate::tested::Tested;
 use p3_challenger::Sha256Challenger;
-use p3_field::BabyBear4;
-use p3_pcs::Pcs;
 use std::alloc::Global;
 use std::test::Fail;
 
@@ -19,11 +18,26 @@ pub(crate) struct Answer {
     pub same: bool,
 }
 
-/// What the verifier of `setting` answers to the opening.
-pub(crate) fn answer_to(alloc: Global, setting: Setting, opened: Opened) -> Result<Answer, Fail> {
-    if setting.log_blowup > 31 || setting.log_final_poly_len > 31 {
+/// Whether the verifier of a setting accepts the claims by the proof.
+fn verify<P: Tested>(
+    alloc: Global,
+    setting: Setting,
+    claims: Claims,
+    proof: &P::Proof,
+    challenger: &mut Sha256Challenger,
+) -> Result<Result<(), VerifierError>, Fail> {
+    if setting.log_final_poly_len > 31 {
         return Err(Fail::new("not in the verifier's range"));
     }
+    Ok(P::of(setting).verify(alloc, claims, proof, challenger))
+}
+
+/// What the verifier of `setting` answers to the opening.
+pub(crate) fn answer_to(
+    alloc: Global,
+    setting: Setting,
+    opened: Opened<Proof>,
+) -> Result<Answer, Fail> {
     let Opened {
         proof,
         claims,
@@ -31,14 +45,7 @@ pub(crate) fn answer_to(alloc: Global, setting: Setting, opened: Opened) -> Resu
         ..
     } = opened;
     let mut verifier = Sha256Challenger::new();
-    let verified = <Scheme as Pcs<BabyBear4, Sha256Challenger>>::verify(
-        &scheme(setting),
-        alloc,
-        claims,
-        &proof,
-        &mut verifier,
-    );
-    let text = match verified {
+    let text = match verify::<Scheme>(alloc, setting, claims, &proof, &mut verifier)? {
         Ok(()) => format!(in alloc; "accepted")?,
         Err(refusal) => format!(in alloc; "{refusal:?}")?,
     };

@@ -1,32 +1,25 @@
-//! Columns committed to.
+//! Columns committed to, by any scheme.
 
-ghost use Rattle.std.specs.Prelude.{◌≡◌, ◌^◌, All, IfOk, map};
+ghost use Rattle.std.specs.Prelude.{◌≡◌, All, IfOk, map};
 ghost use Rattle.p3_fri_extensions.specs.Extension.{FitsDomain};
-ghost use Rattle.p3_fri_openings.specs.Held.{HoldsWords, held_of};
 
-use crate::scheme::{Data, Domain, Inputs, Scheme, Setting, scheme};
-use p3_challenger::Sha256Challenger;
-use p3_field::{BabyBear, BabyBear4, Field, TwoAdicMultiplicativeCoset};
-use p3_fri_relation::setting::ChallengeField;
+use crate::scheme::{Domain, Setting};
+use crate::tested::Tested;
+use p3_field::{BabyBear, Field, TwoAdicMultiplicativeCoset};
 use p3_matrix::RowMajorMatrix;
-use p3_mmcs::Mmcs;
-use p3_pcs::Pcs;
+use p3_pcs::KnownCommitment;
 use std::alloc::{AllocError, Global};
 use std::test::Fail;
 
-/// A commitment to columns, each a matrix on its domain.
+/// What is known of a commitment to columns, each a matrix on its domain, and its data.
 #[derive(Drop)]
-pub(crate) struct Committed {
-    pub commitment: [u8; 32],
+pub(crate) struct Committed<Data> {
+    pub known: KnownCommitment<[u8; 32], Domain>,
     pub data: Data,
-    pub domains: Vec<Domain>,
 }
 
 /// The column as a matrix.
-pub(crate) fn column_of(
-    alloc: Global,
-    numbers: &[u64],
-) -> Result<RowMajorMatrix<BabyBear>, AllocError> {
+fn column_of(alloc: Global, numbers: &[u64]) -> Result<RowMajorMatrix<BabyBear>, AllocError> {
     let mut values = Vec::with_capacity(alloc, numbers.len())?;
     for number in numbers {
         values.push(BabyBear::from_u64(*number))?;
@@ -35,47 +28,48 @@ pub(crate) fn column_of(
 }
 
 /// The domain of so many points, if the field has a subgroup of them.
-pub(crate) fn natural_domain(scheme: &Scheme, degree: usize) -> Option<Domain> {
+fn natural_domain<P: Tested>(scheme: &P, degree: usize) -> Option<Domain>
+    requires { P.IsTested scheme.now }
+{
     let log_size = degree.trailing_zeros() as usize;
     let subgroup = TwoAdicMultiplicativeCoset::new(BabyBear::ONE, log_size)?;
     if subgroup.size() != degree {
         return None;
     }
-    Some(<Scheme as Pcs<BabyBear4, Sha256Challenger>>::natural_domain_for_degree(scheme, degree))
+    Some(scheme.natural_domain_for_degree(degree))
 }
 
 /// The column on its domain, which has an extension.
-fn evaluation(
+fn evaluation<P: Tested>(
+    scheme: &P,
     alloc: Global,
-    scheme: &Scheme,
-    log_blowup: usize,
     numbers: &[u64],
 ) -> Result<(Domain, RowMajorMatrix<BabyBear>), Fail>
-    ensures { IfOk result (λ e. FitsDomain 27 log_blowup e.0.log_size e.1) }
+    requires { P.IsTested scheme.now }
+    ensures { IfOk result (λ e. FitsDomain 27 1 e.0.log_size e.1) }
 {
     let matrix = column_of(alloc, numbers)?;
     let Some(domain) = natural_domain(scheme, numbers.len()) else {
         return Err(Fail::new("not a domain"));
     };
-    if matrix.height() != domain.size() || domain.log_size() > 8 || log_blowup > 8 {
+    if matrix.height() != domain.size() || domain.log_size() > 8 {
         return Err(Fail::new("not a column on its domain"));
     }
     Ok((domain, matrix))
 }
 
 /// The columns on their domains.
-fn evaluations(
+fn evaluations<P: Tested>(
+    scheme: &P,
     alloc: Global,
-    scheme: &Scheme,
-    log_blowup: usize,
     columns: &[&[u64]],
 ) -> Result<Vec<(Domain, RowMajorMatrix<BabyBear>)>, Fail>
-    ensures { IfOk result (λ all.
-        All (λ e. FitsDomain 27 log_blowup e.0.log_size e.1) all.items) }
+    requires { P.IsTested scheme.now }
+    ensures { IfOk result (λ all. All (λ e. FitsDomain 27 1 e.0.log_size e.1) all.items) }
 {
     let mut all = Vec::new(alloc);
     for numbers in columns {
-        all.push(evaluation(alloc, scheme, log_blowup, *numbers)?)?;
+        all.push(evaluation(scheme, alloc, *numbers)?)?;
     }
     Ok(all)
 }
@@ -96,47 +90,42 @@ fn domains_of(
 
 /// One commitment to these columns: they are what a prover holds, and the domains are of their
 /// sizes.
-pub(crate) fn commit(alloc: Global, setting: Setting, columns: &[&[u64]]) -> Result<Committed, Fail>
+pub(crate) fn commit<P: Tested>(
+    scheme: &mut P,
+    alloc: Global,
+    columns: &[&[u64]],
+) -> Result<Committed<P::ProverData>, Fail>
+    requires { P.IsTested scheme.old }
+    ensures kept { P.Keeps scheme.old scheme.new }
     ensures commitment { IfOk result (λ c.
-        ⟦<Inputs as Mmcs<BabyBear>>⟧.commitment_of c.data ≡ c.commitment) }
-    ensures honest { IfOk result (λ c. All
-        (HoldsWords ⟦<BabyBear4 as ChallengeField<BabyBear>>⟧.fields setting.log_blowup)
-        (⟦<Inputs as Mmcs<BabyBear>>⟧.committed c.data)) }
-    ensures sizes { IfOk result (λ c. map (λ d. 2 ^ d.log_size) c.domains.items ≡ map (λ m. m.size)
-        (held_of ⟦<BabyBear4 as ChallengeField<BabyBear>>⟧.fields
-        ⟦<Inputs as Mmcs<BabyBear>>⟧.committed setting.log_blowup c.data)) }
+        (P.rules scheme.new).commitment_of c.data ≡ c.known.commitment) }
+    ensures honest { IfOk result (λ c. (P.rules scheme.new).IsHonest c.data) }
+    ensures sizes { let r = P.rules scheme.new in IfOk result (λ c.
+        map r.domain_size c.known.domains.items
+        ≡ map (λ m. m.size) (r.committed_polynomials c.data)) }
 {
-    if setting.log_blowup == 0 || setting.log_blowup > 8 || setting.max_log_arity == 0 {
-        return Err(Fail::new("not in the prover's range"));
-    }
-    let mut scheme = scheme(setting);
-    let evaluations = evaluations(alloc, &scheme, setting.log_blowup, columns)?;
+    let evaluations = evaluations(&*scheme, alloc, columns)?;
     let domains = domains_of(alloc, &evaluations)?;
-    let committed = <Scheme as Pcs<BabyBear4, Sha256Challenger>>::commit(
-        &mut scheme,
-        alloc,
-        evaluations,
-    );
-    let (commitment, data) = match committed {
+    let (commitment, data) = match scheme.commit(alloc, evaluations) {
         Ok(pair) => pair,
         Err(_) => return Err(Fail::new("memory was refused")),
     };
-    Ok(Committed {
+    let known = KnownCommitment {
         commitment,
-        data,
         domains,
-    })
+    };
+    Ok(Committed { known, data })
 }
 
 /// The commitments, one to each list of columns.
-pub(crate) fn commit_all(
+pub(crate) fn commit_all<P: Tested>(
     alloc: Global,
     setting: Setting,
     batches: &[&[&[u64]]],
-) -> Result<Vec<Committed>, Fail> {
+) -> Result<Vec<Committed<P::ProverData>>, Fail> {
     let mut all = Vec::new(alloc);
     for columns in batches {
-        all.push(commit(alloc, setting, *columns)?)?;
+        all.push(commit(&mut P::of(setting), alloc, *columns)?)?;
     }
     Ok(all)
 }

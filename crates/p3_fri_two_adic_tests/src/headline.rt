@@ -4,16 +4,14 @@ ghost use Rattle.std.specs.Prelude.{◌≢◌, All, IsTrue, length};
 
 use crate::accepted::{LINE, SQUARE};
 use crate::committed::{Committed, commit};
-use crate::opened::{Points, are_values, points_of};
-use crate::scheme::{Inputs, PLAIN, Proof, Setting, scheme};
+use crate::numbers::{Points, are_values, points_of};
+use crate::scheme::{PLAIN, Scheme, Setting};
+use crate::tested::Tested;
 use p3_challenger::Sha256Challenger;
-use p3_field::{BabyBear, BabyBear4};
-use p3_fri_openings::are_openable;
-use p3_pcs::{KnownCommitment, OpeningRequest, Verified, open_and_verify};
+use p3_field::BabyBear4;
+use p3_pcs::{OpeningRequest, Verified, open_and_verify};
 use std::alloc::Global;
 use std::test::Fail;
-
-type Shown = Verified<BabyBear4, Proof, Sha256Challenger>;
 
 /// Whether each list has some point.
 fn have_some_point<EF>(points: &[Vec<EF>]) -> bool
@@ -29,46 +27,42 @@ fn have_some_point<EF>(points: &[Vec<EF>]) -> bool
 
 /// The columns under one commitment, opened at these points and verified, with the prover's
 /// challenger after it.
-fn shown(
+fn shown<P: Tested>(
     alloc: Global,
     setting: Setting,
     columns: &[&[u64]],
     points: &[&[u64]],
-) -> Result<(Shown, Sha256Challenger), Fail> {
-    if setting.log_blowup == 0 || setting.log_blowup > 8 {
-        return Err(Fail::new("not a blowup of these rows"));
-    }
+) -> Result<
+    (
+        Verified<BabyBear4, P::Proof, Sha256Challenger>,
+        Sha256Challenger,
+    ),
+    Fail,
+> {
     if setting.log_final_poly_len > 31 || setting.max_log_arity == 0 {
         return Err(Fail::new("not in the range of prover and verifier"));
     }
-    let Committed {
-        commitment,
-        mut data,
-        domains,
-    } = commit(alloc, setting, columns)?;
+    let mut scheme = P::of(setting);
+    let Committed { known, mut data } = commit(&mut scheme, alloc, columns)?;
     let points = points_of(alloc, points)?;
     if !have_some_point(&points) {
         return Err(Fail::new("a matrix without points"));
     }
-    let mut known = Vec::new(alloc);
-    known.push(KnownCommitment {
-        commitment,
-        domains,
-    })?;
+    let mut all_known = Vec::new(alloc);
+    all_known.push(known)?;
     let mut requests = Vec::new(alloc);
     requests.push(OpeningRequest {
         prover_data: &mut data,
         points,
     })?;
-    if !are_openable::<BabyBear, BabyBear4, Inputs>(&Inputs::new(), &requests) {
+    if !scheme.are_openable(&requests) {
         return Err(Fail::new("the requests can't be opened"));
     }
-    let scheme = scheme(setting);
     let mut challenger = Sha256Challenger::new();
     let answer = open_and_verify(
         &scheme,
         alloc,
-        known.as_slice(),
+        all_known.as_slice(),
         requests.as_mut_slice(),
         &mut challenger,
     );
@@ -79,7 +73,6 @@ fn shown(
 }
 
 /// What is opened, and the values that it has.
-#[derive(Clone, Copy)]
 struct Case {
     name: &'static str,
     setting: Setting,
@@ -88,7 +81,7 @@ struct Case {
     values: Points<'static>,
 }
 
-const CASES: [Case; 2] = [
+static CASES: [Case; 2] = [
     Case {
         name: "a line",
         setting: PLAIN,
@@ -110,7 +103,7 @@ const CASES: [Case; 2] = [
 
 /// Whether these are the values, and both sides end in one state that isn't the first.
 fn is_met(alloc: Global, case: &Case) -> Result<bool, Fail> {
-    let (verified, challenger) = shown(alloc, case.setting, case.columns, case.points)?;
+    let (verified, challenger) = shown::<Scheme>(alloc, case.setting, case.columns, case.points)?;
     Ok(
         are_values(&verified.values, case.values)
             && verified.challenger == challenger

@@ -12,6 +12,7 @@ mod committed;
 #[cfg(test)]
 mod headline;
 #[cfg(test)]
+mod numbers;
 #[cfg(test)]
 mod opened;
 #[cfg(test)]
@@ -20,5 +21,7 @@ mod refused;
 mod replayed;
 #[cfg(test)]
 mod scheme;
+#[cfg(test)]
+mod tested;
 #[cfg(test)]
 mod work;

@@ -2,31 +2,35 @@
 
 use crate::accepted::{LINE, SQUARE};
 use crate::answers::answer_to;
-use crate::committed::{Committed, commit_all};
-use crate::opened::{Opening, Points, open_committed};
-use crate::scheme::{PLAIN, Setting};
+use crate::committed::commit_all;
+use crate::numbers::Points;
+use crate::opened::{Opening, open_committed};
+use crate::scheme::{PLAIN, Proof, Scheme, Setting};
+use p3_fri_folding::FriProverError;
 use std::alloc::Global;
-use std::process::Abort;
 use std::test::Fail;
 
 /// What is opened, the refusal, and points at which it is opened afterwards in the plain setting.
-#[derive(Clone, Copy)]
 struct Case {
     name: &'static str,
     setting: Setting,
     batches: Points<'static>,
     points: Points<'static>,
-    refusal: &'static str,
+    refusal: FriProverError,
     later: Points<'static>,
 }
 
-const POINTS_OF_COSETS: [Case; 4] = [
+static POINTS_OF_COSETS: [Case; 4] = [
     Case {
         name: "of a constant",
         setting: PLAIN,
         batches: &[&[&[9]]],
         points: &[&[&[31]]],
-        refusal: "PointInEvaluationDomain { round: 0, matrix: 0, point: 0 }",
+        refusal: FriProverError::PointInEvaluationDomain {
+            round: 0,
+            matrix: 0,
+            point: 0,
+        },
         later: &[&[&[7]]],
     },
     Case {
@@ -34,7 +38,11 @@ const POINTS_OF_COSETS: [Case; 4] = [
         setting: PLAIN,
         batches: &[&[&LINE]],
         points: &[&[&[31]]],
-        refusal: "PointInEvaluationDomain { round: 0, matrix: 0, point: 0 }",
+        refusal: FriProverError::PointInEvaluationDomain {
+            round: 0,
+            matrix: 0,
+            point: 0,
+        },
         later: &[&[&[7]]],
     },
     Case {
@@ -42,7 +50,11 @@ const POINTS_OF_COSETS: [Case; 4] = [
         setting: PLAIN,
         batches: &[&[&SQUARE]],
         points: &[&[&[31]]],
-        refusal: "PointInEvaluationDomain { round: 0, matrix: 0, point: 0 }",
+        refusal: FriProverError::PointInEvaluationDomain {
+            round: 0,
+            matrix: 0,
+            point: 0,
+        },
         later: &[&[&[7]]],
     },
     Case {
@@ -50,7 +62,11 @@ const POINTS_OF_COSETS: [Case; 4] = [
         setting: PLAIN,
         batches: &[&[&LINE], &[&SQUARE, &LINE]],
         points: &[&[&[5]], &[&[5], &[7, 5, 31]]],
-        refusal: "PointInEvaluationDomain { round: 1, matrix: 1, point: 2 }",
+        refusal: FriProverError::PointInEvaluationDomain {
+            round: 1,
+            matrix: 1,
+            point: 2,
+        },
         later: &[&[&[5]], &[&[5], &[7, 5]]],
     },
 ];
@@ -66,13 +82,16 @@ const LONGEST: Setting = Setting {
     ..PLAIN
 };
 
-const HEIGHTS: [Case; 5] = [
+static HEIGHTS: [Case; 5] = [
     Case {
         name: "a low word, at a point off its coset",
         setting: LONGER,
         batches: &[&[&[1, 1]]],
         points: &[&[&[2]]],
-        refusal: "InputHeightTooSmall { log_input_height: 2, log_final_height: 2 }",
+        refusal: FriProverError::InputHeightTooSmall {
+            log_input_height: 2,
+            log_final_height: 2,
+        },
         later: &[&[&[2]]],
     },
     Case {
@@ -80,7 +99,10 @@ const HEIGHTS: [Case; 5] = [
         setting: LONGER,
         batches: &[&[&[1, 1]]],
         points: &[&[&[31]]],
-        refusal: "InputHeightTooSmall { log_input_height: 2, log_final_height: 2 }",
+        refusal: FriProverError::InputHeightTooSmall {
+            log_input_height: 2,
+            log_final_height: 2,
+        },
         later: &[&[&[7]]],
     },
     Case {
@@ -88,7 +110,10 @@ const HEIGHTS: [Case; 5] = [
         setting: LONGER,
         batches: &[&[&[1]]],
         points: &[&[&[2]]],
-        refusal: "InputHeightTooSmall { log_input_height: 1, log_final_height: 2 }",
+        refusal: FriProverError::InputHeightTooSmall {
+            log_input_height: 1,
+            log_final_height: 2,
+        },
         later: &[&[&[2]]],
     },
     Case {
@@ -96,7 +121,10 @@ const HEIGHTS: [Case; 5] = [
         setting: LONGER,
         batches: &[&[&[1; 8], &[1; 2]]],
         points: &[&[&[2], &[2]]],
-        refusal: "InputHeightTooSmall { log_input_height: 2, log_final_height: 2 }",
+        refusal: FriProverError::InputHeightTooSmall {
+            log_input_height: 2,
+            log_final_height: 2,
+        },
         later: &[&[&[2], &[2]]],
     },
     Case {
@@ -104,24 +132,22 @@ const HEIGHTS: [Case; 5] = [
         setting: LONGEST,
         batches: &[&[&[1, 1]]],
         points: &[&[&[2]]],
-        refusal: "FinalHeightOverflow",
+        refusal: FriProverError::FinalHeightOverflow,
         later: &[&[&[2]]],
     },
 ];
 
 /// Whether the prover refuses so, and leaves its challenger as it was.
-fn is_refused(alloc: Global, case: &Case, all: &mut Vec<Committed>) -> Result<bool, Fail> {
-    match open_committed(alloc, case.setting, all, case.points)? {
-        Opening::Opened(_) => Ok(false),
-        Opening::Refused(refusal, unmoved) => {
-            Ok(unmoved && format!(in alloc; "{refusal:?}")?.as_str() == case.refusal)
-        },
+fn is_refused(opening: Opening<Proof>, expected: FriProverError) -> bool {
+    match opening {
+        Opening::Opened(_) => false,
+        Opening::Refused(refusal, is_unmoved) => is_unmoved && refusal == expected,
     }
 }
 
-/// Whether the data are opened, and that is accepted by a verifier that ends as the prover.
-fn is_opened(alloc: Global, case: &Case, all: &mut Vec<Committed>) -> Result<bool, Fail> {
-    match open_committed(alloc, PLAIN, all, case.later)? {
+/// Whether that is opened, and accepted by a verifier that ends as the prover.
+fn is_accepted(alloc: Global, opening: Opening<Proof>) -> Result<bool, Fail> {
+    match opening {
         Opening::Opened(opened) => {
             let answer = answer_to(alloc, PLAIN, opened)?;
             Ok(answer.same && answer.text.as_str() == "accepted")
@@ -132,23 +158,35 @@ fn is_opened(alloc: Global, case: &Case, all: &mut Vec<Committed>) -> Result<boo
 
 /// Whether what is committed to is refused so, and opened afterwards.
 fn is_met(alloc: Global, case: &Case) -> Result<bool, Fail> {
-    let mut all = commit_all(alloc, case.setting, case.batches)?;
-    Ok(is_refused(alloc, case, &mut all)? && is_opened(alloc, case, &mut all)?)
+    let mut all = commit_all::<Scheme>(alloc, case.setting, case.batches)?;
+    let earlier = open_committed::<Scheme>(alloc, case.setting, all.as_mut_slice(), case.points)?;
+    if !is_refused(earlier, case.refusal) {
+        return Ok(false);
+    }
+    let later = open_committed::<Scheme>(alloc, PLAIN, all.as_mut_slice(), case.later)?;
+    is_accepted(alloc, later)
 }
 
-fn assert_all(rt: &impl Abort, alloc: Global, cases: &[Case]) -> Result<(), Fail> {
+/// The first case that isn't met.
+fn first_unmet(alloc: Global, cases: &[Case]) -> Result<Option<&'static str>, Fail> {
     for case in cases {
-        assert!(rt; is_met(alloc, case)?, "{}", case.name);
+        if !is_met(alloc, case)? {
+            return Ok(Some(case.name));
+        }
     }
-    Ok(())
+    Ok(None)
 }
 
 #[test]
 fn a_point_of_the_coset_is_refused(rt: HostRuntime) -> Result<(), Fail> {
-    assert_all(&rt, rt.alloc(), &POINTS_OF_COSETS)
+    let unmet = first_unmet(rt.alloc(), &POINTS_OF_COSETS)?;
+    assert!(rt; unmet.is_none(), "{unmet:?}");
+    Ok(())
 }
 
 #[test]
 fn heights_are_tested_before_points(rt: HostRuntime) -> Result<(), Fail> {
-    assert_all(&rt, rt.alloc(), &HEIGHTS)
+    let unmet = first_unmet(rt.alloc(), &HEIGHTS)?;
+    assert!(rt; unmet.is_none(), "{unmet:?}");
+    Ok(())
 }

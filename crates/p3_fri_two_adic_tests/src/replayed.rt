@@ -1,7 +1,7 @@
 //! Challenges by the public transcripts.
 
 use crate::opened::Opened;
-use crate::scheme::{Setting, parameters};
+use crate::scheme::{Proof, Setting, parameters};
 use p3_challenger::Sha256Challenger;
 use p3_field::{BabyBear, BabyBear4};
 use p3_fri_folding::{fold_schedule, is_strictly_falling};
@@ -16,13 +16,13 @@ fn replay(
     alloc: Global,
     setting: Setting,
     log_heights: &[usize],
-    opened: &Opened,
+    opened: &Opened<Proof>,
 ) -> Result<Option<(ReplayedPcs<BabyBear4>, Sha256Challenger)>, Fail> {
-    if setting.log_blowup > 31 || setting.log_final_poly_len > 31 || setting.max_log_arity == 0 {
+    if setting.log_final_poly_len > 31 || setting.max_log_arity == 0 {
         return Err(Fail::new("not conditions of a schedule"));
     }
     let parameters = parameters(setting);
-    let final_height = setting.log_blowup + setting.log_final_poly_len;
+    let final_height = parameters.log_blowup + setting.log_final_poly_len;
     if !is_strictly_falling(log_heights) || log_heights.is_empty() || log_heights[0] > 63 {
         return Err(Fail::new("not log heights"));
     }
@@ -60,7 +60,7 @@ pub(crate) fn passes(
     alloc: Global,
     setting: Setting,
     log_heights: &[usize],
-    opened: &Opened,
+    opened: &Opened<Proof>,
 ) -> Result<bool, Fail> {
     let found = replay(alloc, setting, log_heights, opened)?;
     Ok(found.is_some())
@@ -71,7 +71,7 @@ pub(crate) fn replayed(
     alloc: Global,
     setting: Setting,
     log_heights: &[usize],
-    opened: &Opened,
+    opened: &Opened<Proof>,
 ) -> Result<ReplayedPcs<BabyBear4>, Fail> {
     let Some((drawn, challenger)) = replay(alloc, setting, log_heights, opened)? else {
         return Err(Fail::new("the transcript is refused"));

@@ -1,24 +1,25 @@
-//! The scheme at these instances.
+//! The scheme at these instances, as tests run by it.
 
+ghost use Rattle.std.proofs.Common.{refl};
 ghost use Rattle.std.specs.Prelude.{◌≡◌, ◌<◌, ◌≤◌};
 ghost use Rattle.p3_fri_relation.specs.Views.{parameters_of};
 ghost use Rattle.p3_fri_two_adic.specs.Ranges.{InProverRange, InVerifierRange};
+ghost use Rattle.p3_fri_two_adic_tests.specs.RoomLaws.{has_room};
 
+use crate::tested::Tested;
 use p3_dft::Radix2Dit;
-use p3_field::{BabyBear, BabyBear4, ExtensionField, Field, TwoAdicMultiplicativeCoset};
+use p3_field::{BabyBear, BabyBear4, TwoAdicMultiplicativeCoset};
 use p3_fri_folding::{FriParameters, PowPhase};
+use p3_fri_openings::are_openable;
+use p3_fri_relation::error::FriError;
 use p3_fri_relation::proof::{BatchMultiOpening, FriProof};
 use p3_fri_two_adic::TwoAdicFriPcs;
 use p3_mmcs::{CommitmentOpening, Mmcs, Sha256Mmcs};
-use std::alloc::{AllocError, Global};
+use p3_pcs::OpeningRequest;
 
-pub(crate) type Inputs = Sha256Mmcs<BabyBear>;
+type Inputs = Sha256Mmcs<BabyBear>;
 
-pub(crate) type Rounds = Sha256Mmcs<BabyBear4>;
-
-pub(crate) type Data = <Inputs as Mmcs<BabyBear>>::ProverData;
-
-pub(crate) type Parameters = FriParameters<Rounds>;
+type Rounds = Sha256Mmcs<BabyBear4>;
 
 pub(crate) type Scheme = TwoAdicFriPcs<BabyBear, Radix2Dit<BabyBear>, Inputs, Rounds>;
 
@@ -33,19 +34,23 @@ pub(crate) type Proof = FriProof<
     Vec<BatchMultiOpening<BabyBear, Inputs>>,
 >;
 
-/// What a row sets: two queries are made.
+/// Why a verifier refuses.
+pub(crate) type VerifierError = FriError<
+    <Rounds as Mmcs<BabyBear4>>::Error,
+    <Inputs as Mmcs<BabyBear>>::Error,
+>;
+
+/// What a row sets: words are twice as long as their polynomials, and two queries are made.
 #[derive(Clone, Copy)]
 pub(crate) struct Setting {
-    pub log_blowup: usize,
     pub log_final_poly_len: usize,
     pub max_log_arity: usize,
     /// Where a proof of work of 3 bits is asked for.
     pub work: Option<PowPhase>,
 }
 
-/// A blowup of 2, folds by two to a constant, and no proof of work.
+/// Folds by two to a constant, and no proof of work.
 pub(crate) const PLAIN: Setting = Setting {
-    log_blowup: 1,
     log_final_poly_len: 0,
     max_log_arity: 1,
     work: None,
@@ -59,17 +64,19 @@ fn bits(setting: Setting, phase: PowPhase) -> usize
 }
 
 /// The parameters of a row.
-pub(crate) fn parameters(setting: Setting) -> Parameters
-    ensures log_blowup { result.log_blowup ≡ setting.log_blowup }
+pub(crate) fn parameters(setting: Setting) -> FriParameters<Rounds>
+    ensures log_blowup { result.log_blowup ≡ 1 }
     ensures log_final_poly_len { result.log_final_poly_len ≡ setting.log_final_poly_len }
-    ensures cap { result.max_log_arity ≡ setting.max_log_arity }
-    ensures queries { result.num_queries ≡ 2 }
     ensures batch_bits { result.batch_proof_of_work_bits ≤ 3 }
     ensures commit_bits { result.commit_proof_of_work_bits ≤ 3 }
     ensures query_bits { result.query_proof_of_work_bits ≤ 3 }
+    ensures prover_range { 0 < setting.max_log_arity
+        → InProverRange (parameters_of result) 27 63 }
+    ensures verifier_range { setting.log_final_poly_len ≤ 31
+        → InVerifierRange (parameters_of result) 27 63 }
 {
     FriParameters {
-        log_blowup: setting.log_blowup,
+        log_blowup: 1,
         log_final_poly_len: setting.log_final_poly_len,
         max_log_arity: setting.max_log_arity,
         num_queries: 2,
@@ -80,27 +87,21 @@ pub(crate) fn parameters(setting: Setting) -> Parameters
     }
 }
 
-/// The scheme of a row.
-pub(crate) fn scheme(setting: Setting) -> Scheme
-    ensures log_blowup { result.fri.log_blowup ≡ setting.log_blowup }
-    ensures prover_range { 0 < setting.log_blowup → setting.log_blowup ≤ 8
-        → 0 < setting.max_log_arity → InProverRange (parameters_of result.fri) 27 63 }
-    ensures verifier_range { setting.log_blowup ≤ 31 → setting.log_final_poly_len ≤ 31
-        → InVerifierRange (parameters_of result.fri) 27 63 }
-{
-    TwoAdicFriPcs::new(Radix2Dit::default(), Sha256Mmcs::new(), parameters(setting))
-}
+impl Tested for Scheme {
+    ghost IsTested = { λ s. s.fri.log_blowup ≡ 1 };
 
-/// An element of the extension that is a number.
-pub(crate) fn constant(number: u64) -> BabyBear4 {
-    BabyBear4::from_base(BabyBear::from_u64(number))
-}
-
-/// Elements that are numbers.
-pub(crate) fn constants(alloc: Global, numbers: &[u64]) -> Result<Vec<BabyBear4>, AllocError> {
-    let mut elements = Vec::with_capacity(alloc, numbers.len())?;
-    for number in numbers {
-        elements.push(constant(*number))?;
+    fn of(setting: Setting) -> Self {
+        TwoAdicFriPcs::new(Radix2Dit::default(), Sha256Mmcs::new(), parameters(setting))
     }
-    Ok(elements)
+
+    fn are_openable(
+        &self,
+        requests: &[OpeningRequest<'_, <Inputs as Mmcs<BabyBear>>::ProverData, BabyBear4>],
+    ) -> bool {
+        are_openable::<BabyBear, BabyBear4, Inputs>(&Inputs::new(), requests)
+    }
+
+    ghost room_law = { λ s is. has_room s.fri.log_blowup is _ (λ d. d.log_size) (λ d. refl)
+        (λ d. record { log_size = d.log_size; size = refl; within = d.within_two_adicity })
+        (λ es h. h) };
 }

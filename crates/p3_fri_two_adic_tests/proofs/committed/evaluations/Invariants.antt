@@ -3,4 +3,4 @@ use Rattle.p3_fri_extensions.specs.Extension.{FitsDomain}
 use Rattle.p3_fri_two_adic_tests.proofs.committed.evaluations.Given as goal
 
 abbrev pub invariant-loop-numbers : goal.invariant-loop-numbers
-invariant-loop-numbers l = All (λ e. FitsDomain 27 l.log_blowup e.0.log_size e.1) l.all.items
+invariant-loop-numbers g l = All (λ e. FitsDomain 27 1 e.0.log_size e.1) l.all.items
