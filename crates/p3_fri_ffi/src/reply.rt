@@ -4,11 +4,31 @@ ghost use Rattle.std.specs.Prelude.{◌≡◌, ◌≢◌, ◌<◌, ◌≤◌, �
 ghost use Rattle.std.specs.Prelude.{IfOk, OnErr};
 ghost use Rattle.p3_fri_ffi.specs.Reply.{IsReply};
 
-use fri_flat::{ANSWERED, Failure, OUT_OF_MEMORY};
+use fri_flat::{ANSWERED, OUT_OF_MEMORY};
 use std::alloc::Global;
+use std::fmt::Display;
 
 /// The status of a buffer that is too short.
 pub const TOO_SHORT: u8 = 4;
+
+/// Why there is no answer, with a text.
+pub(crate) trait Reason: Display + Drop {
+    /// Its status.
+    fn status(&self) -> u8
+        ensures { 1 ≤ result × result ≤ 3 };
+}
+
+impl Reason for fri_flat::Failure {
+    fn status(&self) -> u8 {
+        fri_flat::Failure::status(self)
+    }
+}
+
+impl Reason for fri_stark_bytes::Failure {
+    fn status(&self) -> u8 {
+        fri_stark_bytes::Failure::status(self)
+    }
+}
 
 /// Writes bytes to the front of a buffer that has room for them, and answers the status.
 fn fill(bytes: &[u8], status: u8, buffer: &mut [u8], needed: &mut usize) -> u8
@@ -40,16 +60,16 @@ fn place(bytes: &[u8], status: u8, buffer: &mut [u8], needed: &mut usize) -> u8
 }
 
 /// Writes why there is no answer, and gives the status.
-fn refuse(alloc: Global, failure: Failure, buffer: &mut [u8], needed: &mut usize) -> u8
+fn refuse<R: Reason>(alloc: Global, reason: R, buffer: &mut [u8], needed: &mut usize) -> u8
     ensures reply { IsReply buffer.old buffer.new needed.new result }
     ensures status { result ≢ 0 }
 {
-    let status = failure.status();
+    let status = reason.status();
     *needed = 0;
     if status == OUT_OF_MEMORY {
         return OUT_OF_MEMORY;
     }
-    match format!(in alloc; "{failure}") {
+    match format!(in alloc; "{reason}") {
         Ok(text) => place(text.as_bytes(), status, buffer, needed),
         Err(_) => OUT_OF_MEMORY,
     }
@@ -57,9 +77,9 @@ fn refuse(alloc: Global, failure: Failure, buffer: &mut [u8], needed: &mut usize
 
 /// Writes an answer, or the text of what is refused, to the front of a buffer, and gives the
 /// status.
-pub(crate) fn reply(
+pub(crate) fn reply<R: Reason>(
     alloc: Global,
-    outcome: Result<Vec<u8>, Failure>,
+    outcome: Result<Vec<u8>, R>,
     buffer: &mut [u8],
     needed: &mut usize,
 ) -> u8
@@ -70,6 +90,6 @@ pub(crate) fn reply(
 {
     match outcome {
         Ok(bytes) => place(&bytes, ANSWERED, buffer, needed),
-        Err(failure) => refuse(alloc, failure, buffer, needed),
+        Err(reason) => refuse(alloc, reason, buffer, needed),
     }
 }
