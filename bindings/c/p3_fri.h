@@ -1,13 +1,15 @@
-/* The plain FRI commitment scheme at BabyBear, its extension of degree 4 and SHA-256.
+/* The plain FRI commitment scheme at BabyBear, its extension of degree 4 and SHA-256, and a STARK
+ * over it and over the scheme that hides.
  *
- * Bytes go in and bytes come out, in the flat form of docs/FORMATS.md: a number is four bytes, the
- * lowest first, and a digest 32. An element of BabyBear is its canonical number, below 2013265921;
- * one of the extension is its four coefficients, that of one first. A list is the number of its
- * entries, and these. A proof is of this form too: a statement's last part, to its end.
+ * Of the scheme bytes go in and bytes come out, in the flat form of docs/FORMATS.md: a number is
+ * four bytes, the lowest first, and a digest 32. An element of BabyBear is its canonical number,
+ * below 2013265921; one of the extension is its four coefficients, that of one first. A list is the
+ * number of its entries, and these. A proof is of this form too: a statement's last part, to its
+ * end.
  *
- * Each function reads `request`, and writes its answer, or the text of why it has none, to the front
- * of `answer`. `*needed` then is how many bytes that takes; there is no byte 0 after them, and bytes
- * past them stay. What comes back is one of the statuses below.
+ * Each function reads what it is passed, and writes its answer, or the text of why it has none, to
+ * the front of `answer`. `*needed` then is how many bytes that takes; there is no byte 0 after
+ * them, and bytes past them stay. What comes back is one of the statuses below.
  *
  * An accepted statement says, but for an error that its parameters bound, that the claimed values
  * are those of the polynomials committed to, at the claimed points. Its context, parameters,
@@ -18,13 +20,12 @@
  * that can be read in one way alone. It draws challenges and points after these bytes by
  * `p3_fri_challenge`, and opens with them as the context. A verifier makes these bytes by itself.
  *
- * The caller owns all memory that is passed; no pointer is kept once a call returns. A pointer whose
- * length is 0 may be null; `needed` is never null, and the three don't overlap. Memory inside a call
- * comes from malloc, and is given back before it returns. No call stops the program. Calls share
- * nothing, so threads may call at once; a signal handler, or the child of a fork in a program with
- * threads, may not call. How long a call takes follows from the request, which docs/USE.md
- * describes.
- */
+ * The caller owns all memory that is passed; no pointer is kept once a call returns. A pointer
+ * whose length is 0 may be null; `needed` is never null, and `answer` and `needed` overlap
+ * nothing. Memory inside a call comes from malloc, and is given back before it returns. No call
+ * stops the program. Calls share nothing, so threads may call at once; a signal handler, or the
+ * child of a fork in a program with threads, may not call. How long a call takes follows from
+ * the request, which docs/USE.md describes. */
 #ifndef P3_FRI_H
 #define P3_FRI_H
 
@@ -36,7 +37,7 @@ extern "C" {
 #endif
 
 enum p3_fri_status {
-    /* The answer is in the buffer. Of `p3_fri_verify`: the statement is accepted. */
+    /* The answer is in the buffer. Where something is verified, it is accepted. */
     P3_FRI_ANSWERED = 0,
     /* The request is well formed, and refused: the buffer holds `Name { numbers }: words`. */
     P3_FRI_REFUSED = 1,
@@ -69,6 +70,49 @@ uint8_t p3_fri_verify(const uint8_t *statement, size_t statement_length,
  * the context, any bytes, are the whole request. */
 uint8_t p3_fri_challenge(const uint8_t *context, size_t context_length,
                          uint8_t *answer, size_t answer_length, size_t *needed);
+
+/* A STARK: a proof that there is a trace, a table of elements, which satisfies a constraint system.
+ *
+ * What goes in are texts in JSON, UTF-8 without a byte 0 after them: a system with its parameters,
+ * a trace, public values and a proof are the files AIR, TRACE, PUBLICS and PROOF of
+ * docs/FORMATS.md. A text of a trace serves as public values too.
+ *
+ * A verifier passes its own system and its own public values. That a proof is accepted means,
+ * but for an error that the system's parameters bound, that there is a trace which satisfies
+ * that system with these public values. Both sides absorb all of the system before anything is
+ * drawn. A proof is bound to nothing else: an application's name or a session belongs into a
+ * public value. */
+
+/* Holds a trace against a system: no bytes where it satisfies it. */
+uint8_t p3_fri_stark_check(const uint8_t *system, size_t system_length,
+                           const uint8_t *trace, size_t trace_length,
+                           uint8_t *answer, size_t answer_length, size_t *needed);
+
+/* Proves in the plain scheme that a trace satisfies a system: the text of a proof. */
+uint8_t p3_fri_stark_prove(const uint8_t *system, size_t system_length,
+                           const uint8_t *trace, size_t trace_length,
+                           uint8_t *answer, size_t answer_length, size_t *needed);
+
+/* The same in the scheme that hides, whose masks are drawn from a seed: 32 bytes of a good
+ * source that nobody can guess, and that no proof of something else had. A second call for a
+ * longer buffer takes the same seed. */
+uint8_t p3_fri_stark_prove_hiding(const uint8_t *system, size_t system_length,
+                                  const uint8_t *trace, size_t trace_length,
+                                  const uint8_t *seed, size_t seed_length,
+                                  uint8_t *answer, size_t answer_length, size_t *needed);
+
+/* Verifies a proof of the plain scheme: a number of eight bytes, the lowest first, the k of a
+ * trace of 2^k rows. */
+uint8_t p3_fri_stark_verify(const uint8_t *system, size_t system_length,
+                            const uint8_t *public_values, size_t public_values_length,
+                            const uint8_t *proof, size_t proof_length,
+                            uint8_t *answer, size_t answer_length, size_t *needed);
+
+/* The same of a proof of the scheme that hides. */
+uint8_t p3_fri_stark_verify_hiding(const uint8_t *system, size_t system_length,
+                                   const uint8_t *public_values, size_t public_values_length,
+                                   const uint8_t *proof, size_t proof_length,
+                                   uint8_t *answer, size_t answer_length, size_t *needed);
 
 #ifdef __cplusplus
 }

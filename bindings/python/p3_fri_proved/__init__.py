@@ -28,8 +28,11 @@ challenges and its points from there, after what they depend on; and opens and v
 context. Its verifier makes the transcript, the points, and the claims' domains and widths by itself, and has parameters of
 its own. Nothing is hidden: a proof shows rows of what is committed to.
 
+`stark` proves that there is a table which satisfies a constraint system, and verifies such proofs.
+
 Calls share nothing, and Python's lock isn't held inside of one, so threads may call at once.
 """
+from . import stark
 from .errors import Error, Malformed, OutOfMemory, ProcessorTooOld, Refused
 from .scheme import challenge, commit, open, verify
 from .transcript import Transcript
@@ -66,5 +69,6 @@ __all__ = [
     "challenge",
     "commit",
     "open",
+    "stark",
     "verify",
 ]

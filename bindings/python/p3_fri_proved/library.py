@@ -18,6 +18,19 @@ PROCESSORS = {"x86-64-v2": ("", DEFAULT), "x86-64-v3": ("x86-64-v3", DEFAULT + N
 # Enough for the text of a refusal, and for short answers.
 ROOM_FOR_TEXT = 1024
 
+# How many texts or requests each function reads.
+CALLS = {
+    "commit": 1,
+    "open": 1,
+    "verify": 1,
+    "challenge": 1,
+    "stark_check": 2,
+    "stark_prove": 2,
+    "stark_prove_hiding": 3,
+    "stark_verify": 3,
+    "stark_verify_hiding": 3,
+}
+
 ANSWERED, REFUSED, MALFORMED, OUT_OF_MEMORY, BUFFER_TOO_SHORT = range(5)
 
 
@@ -48,21 +61,22 @@ def library() -> ctypes.CDLL:
         raise Error(f"{path} is missing: P3_FRI_LIB names the folder with it, and tools/package writes it")
     loaded = ctypes.CDLL(path)
     size = ctypes.c_size_t
-    for call in ("commit", "open", "verify", "challenge"):
+    for call, requests in CALLS.items():
         function = getattr(loaded, f"p3_fri_{call}")
-        function.argtypes = [ctypes.c_char_p, size, ctypes.c_char_p, size, ctypes.POINTER(size)]
+        function.argtypes = [ctypes.c_char_p, size] * (requests + 1) + [ctypes.POINTER(size)]
         function.restype = ctypes.c_uint8
     return loaded
 
 
-def answer(call: str, request: bytes, room: int = ROOM_FOR_TEXT) -> bytes:
+def answer(call: str, *requests: bytes, room: int = ROOM_FOR_TEXT) -> bytes:
     """What a function of the library answers, with so much room at first; where that is too short, it is called once more with
     as much as it says."""
     function = getattr(library(), f"p3_fri_{call}")
+    passed = [part for request in requests for part in (request, len(request))]
     needed = ctypes.c_size_t(0)
     for _ in range(2):
         buffer = ctypes.create_string_buffer(room)
-        status = function(request, len(request), buffer, room, ctypes.byref(needed))
+        status = function(*passed, buffer, room, ctypes.byref(needed))
         if status != BUFFER_TOO_SHORT:
             break
         room = needed.value

@@ -24,7 +24,7 @@ def commit(parameters: Parameters, commitments: Sequence[Sequence[Matrix]]) -> L
     """
     writer = Writer()
     writer.request(parameters, b"", commitments)
-    reader = Reader(answer("commit", writer.bytes(), max(ROOM_FOR_TEXT, 32 * len(commitments))))
+    reader = Reader(answer("commit", writer.bytes(), room=max(ROOM_FOR_TEXT, 32 * len(commitments))))
     return [reader.digest() for _ in commitments]
 
 
@@ -41,7 +41,7 @@ def open(parameters: Parameters, context: bytes, commitments: Sequence[Sequence[
     """
     writer = Writer()
     writer.request(parameters, context, commitments)
-    return Reader(answer("open", writer.bytes(), ROOM_FOR_OPENING)).opening()
+    return Reader(answer("open", writer.bytes(), room=ROOM_FOR_OPENING)).opening()
 
 
 def verify(

@@ -30,8 +30,8 @@ macro_rules! names {
 }
 
 names! {
-    /// Why well-formed matrices aren't opened, or claims aren't accepted. docs/USE.md says where
-    /// each stands.
+    /// Why well-formed matrices aren't opened, claims or proofs aren't accepted, or traces aren't
+    /// proved. docs/USE.md says where each stands.
     pub enum Refusal {
         /// Of `open`: a matrix is too low for the final polynomial.
         InputHeightTooSmall,
@@ -89,6 +89,55 @@ names! {
         FinalPolyMismatch,
         /// A round's commitment doesn't open to the rows that the queries fold.
         CommitPhaseMmcsError,
+        /// Of a trace: a constraint isn't zero in a row.
+        Unsatisfied,
+        /// Of a trace: it has no rows.
+        NoRows,
+        /// Of a trace: a row isn't as long as there are columns.
+        Width,
+        /// Of a trace: there are more or fewer preprocessed rows.
+        PreprocessedHeight,
+        /// Of a trace: a preprocessed row isn't as long as there are preprocessed columns.
+        PreprocessedWidth,
+        /// Of a trace: there are more or fewer public values.
+        PublicValues,
+        /// Of a trace: there are more or fewer periodic columns.
+        PeriodicColumns,
+        /// Of a trace: a periodic column has no entry.
+        EmptyPeriodicColumn,
+        /// Of a STARK's prover: the number of rows is no power of two with room in the field.
+        TraceHeight,
+        /// Of a STARK's prover: the scheme refuses to commit to the preprocessed columns.
+        Refused,
+        /// Of a STARK's prover: the scheme refuses to commit to the trace.
+        Trace,
+        /// Of a STARK's prover: the scheme refuses the values of committed columns.
+        Evaluation,
+        /// Of a STARK's prover: the scheme refuses to commit to the quotient.
+        Quotient,
+        /// Of a STARK's prover: the scheme refuses to commit to random polynomials.
+        Randomization,
+        /// Of a STARK's prover: the scheme refuses to open.
+        Opening,
+        /// Of a STARK: a periodic column's number of entries is no power of two up to the height.
+        InvalidPeriodicColumns,
+        /// Of a STARK: there are more or fewer public values.
+        InvalidPublicValues,
+        /// Of a STARK: there are more or fewer periodic columns.
+        InvalidPeriodicCount,
+        /// Of a STARK: the preprocessed columns aren't those of the system.
+        InvalidPreprocessed,
+        /// Of a STARK: the proof doesn't have the shape that the system asks for.
+        InvalidProofShape,
+        /// Of a STARK: the proof has random polynomials and the scheme doesn't hide, or the other
+        /// way round.
+        RandomizationError,
+        /// Of a STARK: the point that was drawn lies in the trace's domain.
+        PointOnTraceDomain,
+        /// Of a STARK: what is opened isn't accepted, by the refusal in the text.
+        InvalidOpeningArgument,
+        /// Of a STARK: the constraints don't agree with the quotient at the point.
+        OodEvaluationMismatch,
     }
 }
 
@@ -111,7 +160,7 @@ names! {
         LogSize,
         /// A shift is 0, or no element.
         Shift,
-        /// A width is 0.
+        /// A width is 0, or a preprocessed row isn't as long as the first.
         Width,
         /// There aren't as many values as the domain has points, times the width.
         Values,
@@ -125,6 +174,32 @@ names! {
         BytesLeft,
         /// A list or the context is too long for its length to be a number of 32 bits.
         NoForm,
+        /// A text isn't JSON, or not of its record: of the bytes of a STARK's proof.
+        Json,
+        /// Of a STARK's proof: a number isn't below the order.
+        ElementOutOfRange,
+        /// Of a STARK's proof: an element of the extension isn't four numbers.
+        ElementLength,
+        /// Of a STARK's proof: a digest isn't 32 bytes.
+        DigestLength,
+        /// Of a trace, of public values or of columns: a number isn't below the order.
+        OutOfRange,
+        /// Of a constraint system: a constant isn't below the order.
+        ConstantOutOfRange,
+        /// Of a constraint system: a column of the trace isn't there.
+        UnknownColumn,
+        /// Of a constraint system: a preprocessed column isn't there.
+        UnknownPreprocessedColumn,
+        /// Of a constraint system: a public value isn't there.
+        UnknownPublicValue,
+        /// Of a constraint system: a periodic column isn't there.
+        UnknownPeriodicColumn,
+        /// Of a constraint system: a degree is `2^64` or more.
+        DegreeTooLarge,
+        /// Of a constraint system: it has no columns.
+        NoColumns,
+        /// Of preprocessed columns: the number of rows is no power of two with room in the field.
+        Height,
     }
 }
 

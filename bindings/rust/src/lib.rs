@@ -1,4 +1,5 @@
-//! The plain FRI polynomial commitment scheme at BabyBear, its extension of degree 4 and SHA-256.
+//! The plain FRI polynomial commitment scheme at BabyBear, its extension of degree 4 and SHA-256,
+//! and in [`stark`] proofs that there is a table which satisfies a constraint system.
 //!
 //! The work is done by a library in Rattle, which is Rust with contracts: each of its functions is
 //! proved to meet its contract, so that it does nothing undefined, returns, and answers what is
@@ -11,9 +12,9 @@
 //! later takes what was proved; `rt` has to be on `PATH`, or `RATTLE_KIT` to name the toolchain's
 //! folder. With neither, the package can be checked and documented, and not linked.
 //!
-//! Where the variable `P3_FRI_CPU` is `x86-64-v3` while the package is built, it links a library for
-//! processors with AVX2, which is faster: from the folder `x86-64-v3` in the one that is named, or made
-//! so by `rt lib`. Each call asks the processor first, and one that is too old gets
+//! Where the variable `P3_FRI_CPU` is `x86-64-v3` while the package is built, it links a library
+//! for processors with AVX2, which is faster: from the folder `x86-64-v3` in the one that is named,
+//! or made so by `rt lib`. Each call asks the processor first, and one that is too old gets
 //! [`Error::ProcessorTooOld`].
 //!
 //! The polynomial through 1 at 1 and 3 at -1 is `2 - X`, whose value at 5 is -3:
@@ -72,9 +73,10 @@
 //!
 //! # serde
 //!
-//! The package in `bindings/rust-serde` is this one, with a feature `serde`: all that is passed and
-//! answered is `Serialize` and `Deserialize`, by field, and a proof is its bytes. As without serde,
-//! any numbers and any bytes may be passed: the calls refuse by name those that are none.
+//! The package in `bindings/rust-serde` is this one, with a feature `serde`: all that the scheme's
+//! calls pass and answer is `Serialize` and `Deserialize`, by field, and a proof is its bytes. As
+//! without serde, any numbers and any bytes may be passed: the calls refuse by name those that are
+//! none.
 #![forbid(unsafe_op_in_unsafe_fn)]
 #![deny(unsafe_code)]
 #![warn(missing_docs)]
@@ -87,6 +89,7 @@ mod proof_serde;
 mod raw;
 mod room;
 mod scheme;
+pub mod stark;
 mod transcript;
 mod types;
 

@@ -70,50 +70,60 @@ impl Call {
         }
     }
 
-    /// Calls the function with an answer of so much room, or where that is too short, once more
-    /// with as much as it says.
+    /// Calls the function on a request, with an answer of so much room at first.
     pub fn answer(self, request: &[u8], room: usize) -> Result<Vec<u8>, Error> {
-        if !runs_library() {
-            return Err(Error::ProcessorTooOld);
-        }
-        let (mut status, mut answer, needed) = self.try_answer(request, room)?;
-        if status == BUFFER_TOO_SHORT {
-            (status, answer, _) = self.try_answer(request, needed)?;
-        }
-        match status {
-            ANSWERED => Ok(answer),
-            REFUSED => Err(Error::refused(String::from_utf8_lossy(&answer).into_owned())),
-            MALFORMED => Err(Error::malformed(String::from_utf8_lossy(&answer).into_owned())),
-            _ => Err(Error::OutOfMemory),
-        }
+        answer(|answer, needed| self.call(request, answer, needed), room)
     }
 
-    /// Calls the function once: the status, what it wrote, and how much that needs.
-    fn try_answer(self, request: &[u8], room: usize) -> Result<(u8, Vec<u8>, usize), Error> {
-        let mut answer = Vec::new();
-        answer.try_reserve_exact(room).map_err(|_| Error::OutOfMemory)?;
-        answer.resize(room, 0);
-        let mut needed = 0;
-        // SAFETY: the pointers are those of a slice, of a vector and of a local, each with its own
-        // length; they don't overlap, and the library keeps none. It reads the first, writes within
-        // the second and the third, takes its memory from malloc, and returns for any bytes.
-        let status = unsafe {
-            self.raw()(
-                request.as_ptr(),
-                request.len(),
-                answer.as_mut_ptr(),
-                answer.len(),
-                &mut needed,
-            )
-        };
-        answer.truncate(needed);
-        Ok((status, answer, needed))
+    /// Calls the function once.
+    fn call(self, request: &[u8], answer: &mut [u8], needed: &mut usize) -> u8 {
+        // SAFETY: the pointers are those of slices and of a number, each with its own length; they
+        // don't overlap, and the library keeps none. It reads the first, writes within the second
+        // and the third, takes its memory from malloc, and returns for any bytes.
+        unsafe {
+            self.raw()(request.as_ptr(), request.len(), answer.as_mut_ptr(), answer.len(), needed)
+        }
     }
+}
+
+/// Calls a function of the library, which writes an answer and how much room that needs, with so
+/// much room, or where that is too short, once more with as much as it says.
+pub(crate) fn answer(
+    call: impl Fn(&mut [u8], &mut usize) -> u8,
+    room: usize,
+) -> Result<Vec<u8>, Error> {
+    if !runs_library() {
+        return Err(Error::ProcessorTooOld);
+    }
+    let (mut status, mut answer, needed) = answer_once(&call, room)?;
+    if status == BUFFER_TOO_SHORT {
+        (status, answer, _) = answer_once(&call, needed)?;
+    }
+    match status {
+        ANSWERED => Ok(answer),
+        REFUSED => Err(Error::refused(String::from_utf8_lossy(&answer).into_owned())),
+        MALFORMED => Err(Error::malformed(String::from_utf8_lossy(&answer).into_owned())),
+        _ => Err(Error::OutOfMemory),
+    }
+}
+
+/// Calls a function once: the status, what it wrote, and how much that needs.
+fn answer_once(
+    call: impl Fn(&mut [u8], &mut usize) -> u8,
+    room: usize,
+) -> Result<(u8, Vec<u8>, usize), Error> {
+    let mut answer = Vec::new();
+    answer.try_reserve_exact(room).map_err(|_| Error::OutOfMemory)?;
+    answer.resize(room, 0);
+    let mut needed = 0;
+    let status = call(&mut answer, &mut needed);
+    answer.truncate(needed);
+    Ok((status, answer, needed))
 }
 
 #[cfg(test)]
 mod tests {
-    use super::{Call, Error, ANSWERED, BUFFER_TOO_SHORT, MALFORMED};
+    use super::{answer_once, Call, Error, ANSWERED, BUFFER_TOO_SHORT, MALFORMED};
     use std::ops::Range;
     use std::ptr;
 
@@ -135,6 +145,11 @@ mod tests {
         bytes
     }
 
+    /// What the function answers when it is called once.
+    fn once(call: Call, request: &[u8], room: usize) -> (u8, Vec<u8>, usize) {
+        answer_once(|answer, needed| call.call(request, answer, needed), room).unwrap()
+    }
+
     /// The statement that the request's opening is.
     fn statement(num_queries: u32) -> Vec<u8> {
         Call::Open.answer(&request(num_queries), 20000).unwrap().split_off(16)
@@ -143,9 +158,9 @@ mod tests {
     #[test]
     fn a_short_buffer_is_left_alone_and_made_longer() {
         let request = request(2);
-        let (status, answer, needed) = Call::Commit.try_answer(&request, 31).unwrap();
+        let (status, answer, needed) = once(Call::Commit, &request, 31);
         assert_eq!((status, answer, needed), (BUFFER_TOO_SHORT, vec![0; 31], 32));
-        let (status, answer, needed) = Call::Commit.try_answer(&request, 32).unwrap();
+        let (status, answer, needed) = once(Call::Commit, &request, 32);
         assert_eq!((status, answer.len(), needed), (ANSWERED, 32, 32));
         for room in [0, 31, 32, 100] {
             assert_eq!(Call::Commit.answer(&request, room).unwrap(), answer);
@@ -156,7 +171,7 @@ mod tests {
     #[test]
     fn a_challenge_takes_any_bytes_and_answers_four_numbers() {
         for context in [&[][..], &CONTEXT, &request(2)] {
-            let (status, answer, needed) = Call::Challenge.try_answer(context, 16).unwrap();
+            let (status, answer, needed) = once(Call::Challenge, context, 16);
             assert_eq!((status, answer.len(), needed), (ANSWERED, 16, 16));
             assert_eq!(Call::Challenge.answer(context, 0), Ok(answer));
         }
@@ -222,9 +237,9 @@ mod tests {
 
     #[test]
     fn a_text_needs_room_too() {
-        let (status, answer, needed) = Call::Verify.try_answer(&[], 10).unwrap();
+        let (status, answer, needed) = once(Call::Verify, &[], 10);
         assert_eq!((status, answer), (BUFFER_TOO_SHORT, vec![0; 10]));
-        let (status, text, _) = Call::Verify.try_answer(&[], needed).unwrap();
+        let (status, text, _) = once(Call::Verify, &[], needed);
         assert_eq!(status, MALFORMED);
         assert!(text.starts_with(b"BytesMissing { at: 0 }: "));
     }

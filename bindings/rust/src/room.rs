@@ -6,7 +6,7 @@ use crate::types::{Matrix, Parameters};
 pub(crate) const ROOM_FOR_TEXT: usize = 1024;
 
 /// The most that is set aside before it is known to be needed.
-const MOST: usize = 1 << 26;
+pub(crate) const MOST: usize = 1 << 26;
 
 /// An element.
 const ELEMENT: usize = 4;

@@ -36,7 +36,7 @@ fn request(
 }
 
 /// An answer that isn't in its form, which the library is proved not to give.
-fn unreadable() -> Error {
+pub(crate) fn unreadable() -> Error {
     Error::malformed("Answer: the library's answer isn't in its form".to_string())
 }
 
