@@ -20,7 +20,7 @@ module _ {X Y : Type 0} (b l k : ℕ) (commitment : List ℕ) (z y : BabyBear)
     Holds p n point value c = Accepts sha256_setting p ((record {
       commitment = commitment;
       matrices = (record {
-        log_size = n;
+        domain = n;
         points = (record { point = point; values = value ∷ [] }) ∷ [];
       }) ∷ [];
     }) ∷ []) proof c

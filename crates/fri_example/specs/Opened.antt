@@ -63,7 +63,7 @@ module _ {X Y : Type 0} (log_blowup log_final_poly_len log_size : ℕ) (commitme
     column_claim = record {
       commitment = commitment;
       matrices = (record {
-        log_size = log_size;
+        domain = log_size;
         points = (record { point = lift4 point; values = lift4 value ∷ [] }) ∷ [];
       }) ∷ [];
     }

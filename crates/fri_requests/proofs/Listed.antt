@@ -68,21 +68,17 @@ every_is_extension xs = All-map IsExtensionElement coefficient_numbers xs
 
 module _ {Domain : Type 0} (shift_of : Domain → BabyBear) (log_size_of : Domain → ℕ) where
   -- the relation's claim is that of the numbers
-  point_again : (p : PointClaim BabyBear4) → relation.point_claim p ≡ point_of (point_numbers p)
-  point_again p =
-      ap₂ (λ z vs. record { point = z; values = vs }) (sym (extension_again p.point))
-      (sym (every_extension_again p.values))
-
-  points_again : (ps : List (PointClaim BabyBear4))
-      → map relation.point_claim ps ≡ map point_of (map point_numbers ps)
-  points_again ps =
-      map-agree relation.point_claim (λ p. point_of (point_numbers p)) point_again ps
-      ∙ sym (map-map point_of point_numbers ps)
+  points_again : (ps : List (PointClaim BabyBear4)) → ps ≡ map point_of (map point_numbers ps)
+  points_again [] = refl
+  points_again (p ∷ ps) =
+      ap₂ (λ q rest. q ∷ rest)
+      (ap₂ (λ z vs. record { point = z; values = vs }) (sym (extension_again p.point))
+      (sym (every_extension_again p.values))) (points_again ps)
 
   matrix_again : (m : MatrixClaim BabyBear4 Domain) → relation.matrix_claim log_size_of m
       ≡ matrix_of (matrix_numbers shift_of log_size_of m)
   matrix_again m =
-      ap (λ ps. record { log_size = log_size_of m.domain; points = ps }) (points_again m.points)
+      ap (λ ps. record { domain = log_size_of m.domain; points = ps }) (points_again m.points)
 
   matrices_again : (ms : List (MatrixClaim BabyBear4 Domain))
       → map (relation.matrix_claim log_size_of) ms

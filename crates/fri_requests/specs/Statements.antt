@@ -1,7 +1,8 @@
 -- Which numbers are those of claims, and which records make a statement.
 use Rattle.std.specs.Prelude.{ℕ, ◌<◌, ◌≤◌, List, [], map, All, IsOk}
 use Rattle.std.specs.Result.{result_unwrap_or}
-use Rattle.p3_fri_relation.specs.Setting.{PointClaim, MatrixClaim, CommitmentClaim}
+use Rattle.p3_pcs.specs.Claims.{PointClaim}
+use Rattle.p3_fri_relation.specs.Setting.{MatrixClaim, CommitmentClaim}
 use Rattle.p3_fri_two_adic.specs.Ranges.{InVerifierRange}
 use Rattle.p3_baby_bear.specs.declared.baby_bear4.BabyBear4.{BabyBear4}
 use Rattle.fri_records.specs.declared.records.Parameters.{Parameters}
@@ -45,7 +46,7 @@ abbrev pub point_of : PointNumbers → PointClaim BabyBear4
 point_of p = record { point = extension_of p.point; values = map extension_of p.values }
 
 abbrev pub matrix_of : MatrixNumbers → MatrixClaim BabyBear4
-matrix_of m = record { log_size = m.log_size; points = map point_of m.points }
+matrix_of m = record { domain = m.log_size; points = map point_of m.points }
 
 abbrev pub claim_of : BatchNumbers → CommitmentClaim BabyBear4 (List ℕ)
 claim_of b = record {

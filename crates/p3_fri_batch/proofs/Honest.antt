@@ -13,12 +13,13 @@ use Rattle.p3_fri_openings.specs.Committed.{committed_values}
 use Rattle.p3_fri_openings.specs.Opened.{values_asked}
 use Rattle.p3_fri_openings.specs.Rounds.{ask}
 use Rattle.p3_fri_openings.proofs.Committed.{width_of_values}
-use Rattle.p3_fri_batch.specs.Words.{claim_at, claims_of}
+use Rattle.p3_pcs.specs.Claims.{point_claims}
+use Rattle.p3_fri_batch.specs.Words.{claim_at}
 use Rattle.p3_fri_batch.specs.Rounds.{HasValues, HaveValues, opened_at, opened_by_round}
 use Rattle.p3_fri_batch.specs.Rounds.{opened_honestly}
 
 claims_of_values : {E : Type 0} (g : E → List E) (zs : List E)
-    → claims_of zs (map g zs) ≡ map (λ z. claim_at z (g z)) zs
+    → point_claims zs (map g zs) ≡ map (λ z. claim_at z (g z)) zs
 claims_of_values g [] = refl
 claims_of_values g (z ∷ zs) = ap (λ cs. claim_at z (g z) ∷ cs) (claims_of_values g zs)
 

@@ -20,7 +20,8 @@ use Rattle.algebra.proofs.CosetWords.{coset_word-degree}
 use Rattle.p3_matrix.specs.declared.dense.RowMajorMatrix.{RowMajorMatrix}
 use Rattle.p3_matrix.specs.Matrix.{rows, matrix_width}
 use Rattle.p3_dft.specs.Evaluations.{column}
-use Rattle.p3_fri_relation.specs.Setting.{Fields, PointClaim}
+use Rattle.p3_pcs.specs.Claims.{PointClaim}
+use Rattle.p3_fri_relation.specs.Setting.{Fields}
 use Rattle.p3_fri_openings.specs.Rounds.{log_height}
 use Rattle.p3_fri_openings.specs.Refusals.{IsOff}
 use Rattle.p3_fri_openings.specs.Committed.{committed_column, committed, committed_values}

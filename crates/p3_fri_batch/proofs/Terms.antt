@@ -9,9 +9,10 @@ use Rattle.algebra.specs.Polynomial.{val}
 use Rattle.algebra.specs.Quotients.{quotients}
 use Rattle.algebra.proofs.Powers.{pow-add}
 use Rattle.algebra.proofs.Quotients.{length-quotients, quotients_joined}
-use Rattle.p3_fri_relation.specs.Setting.{PointClaim}
+use Rattle.p3_pcs.specs.Claims.{PointClaim}
 use Rattle.algebra.proofs.Lists.{Each}
-use Rattle.p3_fri_batch.specs.Words.{claim_at, claims_of, terms_at}
+use Rattle.p3_pcs.specs.Claims.{point_claims}
+use Rattle.p3_fri_batch.specs.Words.{claim_at, terms_at}
 use Rattle.std.proofs.Math.Nat.{add-mul}
 
 module _ {E : Type 0} (K : FieldOps E) (L : IsField K) (alpha x : E) (row : List E) where
@@ -59,7 +60,7 @@ module _ {E : Type 0} (K : FieldOps E) (L : IsField K) (alpha x : E) (row : List
 
 pub claims_wide : {E : Type 0} (width : ℕ) (points : List E) (values : List (List E))
     → Each (λ ys. length ys ≡ width) values
-    → Each (λ c. length c.values ≡ width) (claims_of points values)
+    → Each (λ c. length c.values ≡ width) (point_claims points values)
 claims_wide width [] values h = tt
 claims_wide width (z ∷ points) [] h = tt
 claims_wide width (z ∷ points) (ys ∷ values) h = (h.0, claims_wide width points values h.1)
@@ -82,7 +83,7 @@ step_more K R alpha step after new n p width s a e =
     ∙ ap (λ m. pow K alpha m) (omega (arith, add-mul p 1 width))
 
 pub claims_count : {E : Type 0} (points : List E) (values : List (List E))
-    → length values ≡ length points → length (claims_of points values) ≡ length points
+    → length values ≡ length points → length (point_claims points values) ≡ length points
 claims_count [] values e = refl
 claims_count (z ∷ points) [] e = absurd (omega (arith, e))
 claims_count (z ∷ points) (ys ∷ values) e = ap suc (claims_count points values (omega (arith, e)))

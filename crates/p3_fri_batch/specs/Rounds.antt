@@ -11,12 +11,13 @@ use Rattle.p3_fri_openings.specs.Denominators.{HasPointsCovered}
 use Rattle.p3_fri_openings.specs.Rounds.{Asked, HasCoset, asked_in}
 use Rattle.p3_fri_openings.specs.Committed.{committed_values}
 use Rattle.p3_fri_batch.specs.declared.opened.OpenedMatrix.{OpenedMatrix}
-use Rattle.p3_fri_batch.specs.Words.{Opened, claims_of, claim_at}
+use Rattle.p3_pcs.specs.Claims.{point_claims}
+use Rattle.p3_fri_batch.specs.Words.{Opened, claim_at}
 use Rattle.p3_fri_relation.specs.Setting.{Fields}
 
 module _ {F E : Type 0} where
   abbrev pub opened_at : Asked F E → (values : List (List E)) → Opened F E
-  opened_at a values = record { matrix = a.matrix; claims = claims_of a.points values }
+  opened_at a values = record { matrix = a.matrix; claims = point_claims a.points values }
 
   -- the matrices of a round with these values, by matrix, point and column
   abbrev pub opened_in : OpeningRound F E → (values : List (List (List E))) → List (Opened F E)

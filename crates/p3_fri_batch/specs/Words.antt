@@ -10,8 +10,8 @@ use Rattle.algebra.specs.Words.{IsCosetWord}
 use Rattle.p3_matrix.specs.declared.dense.RowMajorMatrix.{RowMajorMatrix}
 use Rattle.p3_matrix.specs.Matrix.{rows, matrix_width}
 use Rattle.p3_dft.specs.Evaluations.{column}
-use Rattle.p3_pcs.specs.Claims.{zip_with}
-use Rattle.p3_fri_relation.specs.Setting.{Fields, PointClaim}
+use Rattle.p3_pcs.specs.Claims.{PointClaim}
+use Rattle.p3_fri_relation.specs.Setting.{Fields}
 use Rattle.p3_fri_openings.specs.Rounds.{log_height}
 use Rattle.p3_fri_openings.specs.Refusals.{IsOff}
 use Rattle.p3_fri_openings.specs.Committed.{committed_values}
@@ -19,10 +19,6 @@ use Rattle.p3_fri_openings.specs.Committed.{committed_values}
 module _ {E : Type 0} where
   abbrev pub claim_at : E → List E → PointClaim E
   claim_at z ys = record { point = z; values = ys }
-
-  -- the claims of these values at these points
-  abbrev pub claims_of : (points : List E) (values : List (List E)) → List (PointClaim E)
-  claims_of points values = zip_with claim_at points values
 
   -- the quotients of a row that is read at `x`, point by point and column by column
   abbrev pub terms_at : FieldOps E → (x : E) (row : List E) (claims : List (PointClaim E)) → List E

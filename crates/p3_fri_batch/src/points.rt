@@ -10,7 +10,8 @@ ghost use Rattle.algebra.specs.Nested.{lists};
 ghost use Rattle.p3_matrix.specs.Matrix.{rows, matrix_width};
 ghost use Rattle.p3_fri_openings.specs.Log2.{log2};
 ghost use Rattle.p3_fri_openings.specs.Denominators.{AreInverses, IsCovered};
-ghost use Rattle.p3_fri_batch.specs.Words.{point_of_entry, claims_of, terms_at};
+ghost use Rattle.p3_pcs.specs.Claims.{point_claims};
+ghost use Rattle.p3_fri_batch.specs.Words.{point_of_entry, terms_at};
 
 use crate::compression::{add_quotients, compress};
 use crate::opened::OpenedMatrix;
@@ -47,7 +48,7 @@ pub fn add_opened_points<F: TwoAdicField, EF: ExtensionField<F>>(
         → slice_index_or word.new i d ≡ val EF.ops (ts
         ++ terms_at EF.ops
         (point_of_entry ⟦<EF as ChallengeField<F>>⟧.fields (log2 (length word.old)) i) row
-        (claims_of opened.now.points.now (lists opened.now.values.now))) ladder.now.alpha }
+        (point_claims opened.now.points.now (lists opened.now.values.now))) ladder.now.alpha }
     ensures step { (n : ℕ) → step ≡ pow EF.ops ladder.now.alpha n
         → result ≡ pow EF.ops ladder.now.alpha
         (n + length opened.now.points.now * matrix_width opened.now.matrix.now) }
@@ -93,7 +94,7 @@ pub fn add_matrix<F: TwoAdicField, EF: ExtensionField<F>>(
         ++ terms_at EF.ops
         (point_of_entry ⟦<EF as ChallengeField<F>>⟧.fields (log2 (length word.old)) i)
         (map EF.lift (slice_index_or (rows opened.now.matrix.now) i []))
-        (claims_of opened.now.points.now (lists opened.now.values.now))) ladder.now.alpha }
+        (point_claims opened.now.points.now (lists opened.now.values.now))) ladder.now.alpha }
     ensures step { (n : ℕ) → step ≡ pow EF.ops ladder.now.alpha n → IfOk result (λ after.
         after ≡ pow EF.ops ladder.now.alpha
         (n + length opened.now.points.now * matrix_width opened.now.matrix.now)) }

@@ -9,7 +9,7 @@ use Rattle.std.proofs.lemmas.Grind.{flat_map-append}
 use Rattle.algebra.specs.Nested.{lists, nested, joined}
 use Rattle.algebra.proofs.Lists.{Each, head_eq, tail_eq}
 use Rattle.p3_matrix.specs.declared.dense.RowMajorMatrix.{RowMajorMatrix}
-use Rattle.p3_pcs.specs.Claims.{zip_with, matrix_claims, opened_values}
+use Rattle.p3_pcs.specs.Claims.{PointClaim, zip_with, point_claims, matrix_claims, opened_values}
 use Rattle.p3_pcs.specs.Requests.{Request, honest_claims, honest_values}
 use Rattle.p3_fri_pcs_transcript.specs.Counts.{lists_in_matrices, lists_of_values, all_values}
 use Rattle.p3_fri_pcs_transcript.specs.Steps.{pcs_stream}
@@ -18,7 +18,7 @@ use Rattle.p3_fri_relation.specs.Setting.{Fields, Setting, Parameters, Commitmen
 use Rattle.p3_fri_relation.specs.Heights.{matrices_of}
 use Rattle.p3_fri_relation.specs.Acceptance.{pcs_numbers, values_claimed, batch_replayed}
 use Rattle.p3_fri_openings.specs.Held.{held_in, held_of}
-use Rattle.p3_fri_openings.specs.SchemeClaims.{point_claim, matrix_claim, relation_claims}
+use Rattle.p3_fri_openings.specs.SchemeClaims.{matrix_claim, relation_claims}
 use Rattle.p3_fri_completeness.specs.Requests.{IsHonestRequest}
 use Rattle.p3_fri_completeness.proofs.Requests.{Fit}
 
@@ -49,16 +49,13 @@ module _ {E : Type 0} where
 -- honest claims of one matrix, and of one request
 module _ {E : Type 0} (g : E → List E) where
   counts_at_honest : (points : List E)
-      → map (λ z. length z.values)
-      (map point_claim (zip_with (λ z vs. record { point = z; values = vs })
-      points (map g points)))
+      → map (λ (z : PointClaim E). length z.values) (point_claims points (map g points))
       ≡ map (λ ys. length ys) (map g points)
   counts_at_honest [] = refl
   counts_at_honest (z ∷ points) = ap (λ ns. length (g z) ∷ ns) (counts_at_honest points)
 
   values_at_honest : (points : List E)
-      → flat_map (λ z. z.values) (map point_claim (zip_with (λ z vs. record { point = z; values = vs })
-      points (map g points)))
+      → flat_map (λ (z : PointClaim E). z.values) (point_claims points (map g points))
       ≡ joined (map g points)
   values_at_honest [] = refl
   values_at_honest (z ∷ points) = ap (λ ys. g z ++ ys) (values_at_honest points)

@@ -10,7 +10,8 @@ use Rattle.p3_matrix.specs.declared.dense.RowMajorMatrix.{RowMajorMatrix}
 use Rattle.p3_matrix.specs.Matrix.{matrix_width}
 use Rattle.p3_mmcs.specs.Batch.{dimensions_of}
 use Rattle.p3_mmcs.specs.Batch as batch
-use Rattle.p3_fri_relation.specs.Setting.{Fields, Parameters, PointClaim, MatrixClaim}
+use Rattle.p3_pcs.specs.Claims.{PointClaim}
+use Rattle.p3_fri_relation.specs.Setting.{Fields, Parameters, MatrixClaim}
 use Rattle.p3_fri_relation.specs.Setting.{CommitmentClaim}
 use Rattle.p3_fri_relation.specs.Heights.{matrices_of, width, dimensions}
 use Rattle.p3_fri_relation.specs.Inputs.{HasPoints}

@@ -13,7 +13,7 @@ use Rattle.algebra.proofs.Lists.{Each, each_from_All, head_eq, tail_eq, each-app
 use Rattle.p3_matrix.specs.declared.dense.RowMajorMatrix.{RowMajorMatrix}
 use Rattle.p3_matrix.specs.Matrix.{rows}
 use Rattle.p3_dft.specs.Evaluations.{column}
-use Rattle.p3_pcs.specs.Claims.{zip_with, matrix_claims}
+use Rattle.p3_pcs.specs.Claims.{zip_with, point_claims, matrix_claims}
 use Rattle.p3_pcs.specs.Requests.{Request, AreOpenable, AreHonest, honest_claims, FitDomains}
 use Rattle.p3_fri_relation.specs.Setting.{Fields, Parameters, CommitmentClaim, Opening}
 use Rattle.p3_fri_relation.specs.Setting.{InputOpening}
@@ -28,7 +28,7 @@ use Rattle.p3_fri_batch.specs.Rounds.{opened_honestly}
 use Rattle.p3_fri_prover.specs.Openings.{OpensBatch}
 use Rattle.p3_fri_completeness.specs.Honest.{IsHonest}
 use Rattle.p3_fri_openings.specs.Held.{held_in, HoldsWords, held_of}
-use Rattle.p3_fri_openings.specs.SchemeClaims.{point_claim, matrix_claim, relation_claims}
+use Rattle.p3_fri_openings.specs.SchemeClaims.{matrix_claim, relation_claims}
 use Rattle.p3_fri_completeness.specs.Requests.{round_opened, IsHonestRequest}
 use Rattle.p3_field_core.proofs.IndexPowers.{exponents_agree}
 
@@ -112,8 +112,7 @@ module _ {F E : Type 0} (f : Fields F E) (p : Parameters) where
 
   -- the claims at the points of a matrix
   points_same : (matrix : RowMajorMatrix F) (points : List E)
-      → map point_claim (zip_with (λ z vs. record { point = z; values = vs }) points
-      (map (committed_values f p.log_blowup matrix) points))
+      → point_claims points (map (committed_values f p.log_blowup matrix) points)
       ≡ map (λ z. claim_at z (committed_values f p.log_blowup matrix z)) points
   points_same matrix [] = refl
   points_same matrix (z ∷ points) =

@@ -1,32 +1,19 @@
 -- Claims without the memory that holds them, as the relation sees them.
 use Rattle.std.proofs.Common.{◌≡◌, ℕ, List, [], ◌∷◌, map, refl, ap, ◌∙◌}
-use Rattle.p3_mmcs.specs.declared.openings.PointOpening.{PointOpening}
 use Rattle.p3_mmcs.specs.declared.openings.MatrixOpening.{MatrixOpening}
 use Rattle.p3_mmcs.specs.declared.openings.CommitmentOpening.{CommitmentOpening}
 use Rattle.p3_pcs.specs.Claims as claimed
-use Rattle.p3_fri_relation.specs.Setting.{PointClaim, MatrixClaim, CommitmentClaim}
+use Rattle.p3_fri_relation.specs.Setting.{MatrixClaim, CommitmentClaim}
 use Rattle.p3_fri_relation.specs.Views as view
-use Rattle.p3_fri_openings.specs.SchemeClaims.{point_claim, matrix_claim, relation_claims}
-
-module _ {E : Type 0} where
-  points_are : (points : List (PointOpening E))
-      → map point_claim (map claimed.point_claim points) ≡ map view.point_claim points
-  points_are [] = refl
-  points_are (z ∷ points) = ap (λ rest. view.point_claim z ∷ rest) (points_are points)
+use Rattle.p3_fri_openings.specs.SchemeClaims.{matrix_claim, relation_claims}
 
 module _ {E Domain : Type 0} (log_size : Domain → ℕ) where
-  of_points : ℕ → List (PointClaim E) → MatrixClaim E
-  of_points k points = record { log_size = k; points = points }
-
   matrices_are : (matrices : List (MatrixOpening E Domain))
       → map (matrix_claim log_size) (map claimed.matrix_claim matrices) ≡ map
       (view.matrix_claim log_size) matrices
-  unfolding of_points
   matrices_are [] = refl
   matrices_are (m ∷ matrices) =
-      ap (λ points. of_points (log_size m.domain) points ∷ map (matrix_claim log_size)
-      (map claimed.matrix_claim matrices)) (points_are m.points.items)
-      ∙ ap (λ rest. view.matrix_claim log_size m ∷ rest) (matrices_are matrices)
+      ap (λ rest. view.matrix_claim log_size m ∷ rest) (matrices_are matrices)
 
 unfoldable pub of_matrices : {E Com : Type 0} → Com → List (MatrixClaim E) → CommitmentClaim E Com
 of_matrices commitment matrices = record { commitment = commitment; matrices = matrices }

@@ -28,7 +28,7 @@ use Rattle.p3_fri_hiding_openings.proofs.Places.{all_zip-length, placed_length}
 use Rattle.p3_fri_hiding_openings.proofs.Places.{left_of_placed, left_of_all}
 
 pub budget_met : {E : Type 0} (num_queries degree num_points size : ℕ) (m : MatrixClaim E)
-    → num_points ≡ length m.points → size ≡ 2 ^ m.log_size
+    → num_points ≡ length m.points → size ≡ 2 ^ m.domain
     → required_height num_queries degree num_points ≤ size / 2
     → MeetsBudget num_queries degree m
 budget_met num_queries degree num_points size m e s met =

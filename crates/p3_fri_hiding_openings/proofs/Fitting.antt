@@ -10,12 +10,13 @@ use Rattle.p3_matrix.specs.declared.dense.RowMajorMatrix.{RowMajorMatrix}
 use Rattle.p3_matrix.specs.Matrix.{rows, matrix_width}
 use Rattle.p3_pcs.specs.Claims.{zip_with, point_claims, matrix_claims}
 use Rattle.p3_pcs.specs.Requests.{Held, Request, FitDomains, honest_claims, honest_values}
-use Rattle.p3_fri_relation.specs.Setting.{Fields, Parameters, PointClaim, MatrixClaim}
+use Rattle.p3_pcs.specs.Claims.{PointClaim}
+use Rattle.p3_fri_relation.specs.Setting.{Fields, Parameters, MatrixClaim}
 use Rattle.p3_fri_relation.specs.Setting.{CommitmentClaim}
 use Rattle.p3_fri_openings.specs.Rounds.{ask}
 use Rattle.p3_fri_openings.proofs.Committed.{width_of_values}
 use Rattle.p3_fri_openings.specs.Committed.{committed_values}
-use Rattle.p3_fri_openings.specs.SchemeClaims.{matrix_claim, point_claim, relation_claims}
+use Rattle.p3_fri_openings.specs.SchemeClaims.{matrix_claim, relation_claims}
 use Rattle.p3_fri_openings.specs.Held.{held_in, held_of}
 use Rattle.p3_fri_opening_prover.specs.Refusals.{asked_of}
 use Rattle.p3_fri_masks.specs.Budget.{required_height}
@@ -51,8 +52,7 @@ module _ {F E : Type 0} (f : Fields F E) (log_blowup count hidden : ℕ) (same :
 
   nest_points : (points : List E)
       → AllZip (λ (z : PointClaim E) (values : List E). length values ≡ count)
-      (map point_claim
-      (point_claims points (map (shown_in f log_blowup hidden m).values_at points)))
+      (point_claims points (map (shown_in f log_blowup hidden m).values_at points))
       (map (kept_back count) (map (committed_values f log_blowup m) points))
   nest_points [] = tt
   nest_points (z ∷ points) = (kept_length z, nest_points points)
@@ -66,7 +66,7 @@ count_first f log_blowup hidden ms points count =
     ∙ length-map ms (held_in f log_blowup)
 
 points_counted : {E : Type 0} (values : E → List E) (points : List E)
-    → length (map point_claim (point_claims points (map values points))) ≡ length points
+    → length (point_claims points (map values points)) ≡ length points
 points_counted values [] = refl
 points_counted values (z ∷ points) = ap suc (points_counted values points)
 

@@ -7,7 +7,7 @@ use Rattle.std.proofs.lemmas.List.{take-append-drop}
 use Rattle.algebra.proofs.Lists.{map-map}
 use Rattle.p3_pcs.specs.Claims.{zip_with, point_claims, matrix_claims}
 use Rattle.p3_pcs.specs.Requests.{Held, Request, honest_values, honest_claim, honest_claims}
-use Rattle.p3_fri_openings.specs.SchemeClaims.{point_claim, matrix_claim, relation_claim}
+use Rattle.p3_fri_openings.specs.SchemeClaims.{matrix_claim, relation_claim}
 use Rattle.p3_fri_openings.specs.SchemeClaims.{relation_claims}
 use Rattle.p3_fri_hiding_openings.specs.RandomValues.{count_at, with_values, with_points}
 use Rattle.p3_fri_hiding_openings.specs.RandomValues.{with_matrices, with_random_values}
@@ -20,8 +20,8 @@ module _ {E : Type 0} (count : ℕ) where
   whole values = take-append-drop (length values - count) values
 
   at_points : (points : List E) (values : List (List E))
-      → zip_with with_values (map point_claim (point_claims points (map (shown count) values)))
-      (map (kept_back count) values) ≡ map point_claim (point_claims points values)
+      → zip_with with_values (point_claims points (map (shown count) values))
+      (map (kept_back count) values) ≡ point_claims points values
   at_points [] values = refl
   at_points (z ∷ points) [] = refl
   at_points (z ∷ points) (vs ∷ values) =
@@ -37,7 +37,7 @@ module _ {E : Type 0} (count : ℕ) where
   of_matrices log_size (d ∷ domains) [] values = refl
   of_matrices log_size (d ∷ domains) (zs ∷ points) [] = refl
   of_matrices log_size (d ∷ domains) (zs ∷ points) (vs ∷ values) =
-      ap₂ (λ p rest. record { log_size = log_size d; points = p } ∷ rest) (at_points zs vs)
+      ap₂ (λ p rest. record { domain = log_size d; points = p } ∷ rest) (at_points zs vs)
       (of_matrices log_size domains points values)
 
   honest_shown : (held : List (Held E)) (points : List (List E))

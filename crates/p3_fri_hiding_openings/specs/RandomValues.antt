@@ -6,7 +6,8 @@ use Rattle.std.specs.List.{AllZip, enumerate_from}
 use Rattle.p3_mmcs.specs.declared.openings.CommitmentOpening.{CommitmentOpening}
 use Rattle.p3_pcs.specs.Claims.{zip_with}
 use Rattle.p3_fri_masks.specs.Budget.{required_height}
-use Rattle.p3_fri_relation.specs.Setting.{PointClaim, MatrixClaim, CommitmentClaim}
+use Rattle.p3_pcs.specs.Claims.{PointClaim}
+use Rattle.p3_fri_relation.specs.Setting.{MatrixClaim, CommitmentClaim}
 use Rattle.p3_fri_relation.specs.Views.{matrix_claim}
 
 -- the claims of a commitment, as the relation sees them
@@ -25,7 +26,7 @@ count_at num_random (Some index) round = if index == round then 0 else num_rando
 
 -- the mask of a matrix is half as high as its domain is large
 abbrev pub mask_height : {E : Type 0} → MatrixClaim E → ℕ
-mask_height m = 2 ^ m.log_size / 2
+mask_height m = 2 ^ m.domain / 2
 
 module _ {E : Type 0} where
   -- the values claimed at a point, with these after them

@@ -10,7 +10,8 @@ use Rattle.algebra.proofs.Combine.{sub-eq}
 use Rattle.p3_matrix.specs.declared.Dimensions.{Dimensions}
 use Rattle.p3_mmcs.specs.Batch.{HasShape}
 use Rattle.p3_mmcs.proofs.Shapes.{sets_count, set_at}
-use Rattle.p3_fri_relation.specs.Setting.{Fields, Opening, PointClaim, MatrixClaim, CommitmentClaim}
+use Rattle.p3_pcs.specs.Claims.{PointClaim}
+use Rattle.p3_fri_relation.specs.Setting.{Fields, Opening, MatrixClaim, CommitmentClaim}
 use Rattle.p3_fri_relation.specs.Setting.{InputOpening}
 use Rattle.p3_fri_relation.specs.Heights.{matrices_of, width, log_height, has_height, dimensions, opened_index}
 use Rattle.p3_fri_relation.specs.QuotientSums.{IsDefinedAt}

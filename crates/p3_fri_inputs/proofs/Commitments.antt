@@ -10,7 +10,8 @@ use Rattle.algebra.specs.Field.{FieldOps, sub}
 use Rattle.algebra.specs.Polynomial.{val}
 use Rattle.algebra.specs.Quotients.{quotients}
 use Rattle.p3_mmcs.specs.Batch.{HasRows}
-use Rattle.p3_fri_relation.specs.Setting.{PointClaim, MatrixClaim}
+use Rattle.p3_pcs.specs.Claims.{PointClaim}
+use Rattle.p3_fri_relation.specs.Setting.{MatrixClaim}
 use Rattle.p3_fri_relation.specs.Heights.{log_height, width, dimensions}
 use Rattle.p3_fri_relation.specs.Inputs.{HasPoints}
 use Rattle.p3_fri_inputs.specs.Claims.{combined_values, distances, IsReadable}

@@ -8,7 +8,7 @@ use Rattle.algebra.specs.Polynomial.{val}
 use Rattle.algebra.specs.Quotients.{quotients}
 use Rattle.algebra.proofs.Quotients.{quotients_compressed, length-quotients}
 use Rattle.algebra.proofs.Values.{val-append}
-use Rattle.p3_fri_relation.specs.Setting.{PointClaim}
+use Rattle.p3_pcs.specs.Claims.{PointClaim}
 use Rattle.p3_fri_inputs.specs.Points.{AreCombined}
 
 module _ {E : Type 0} (K : FieldOps E) (L : IsField K) (alpha x : E) where

@@ -65,7 +65,7 @@ opened_as opens log_blowup top positions claim o dims indices sets d i s = (
 module _ (log_blowup : ℕ) {E : Type 0} where
   pub power_heights : (ms : List (MatrixClaim E)) → HavePowerHeights (map (dimensions log_blowup) ms)
   power_heights ms k d l =
-      let m : MatrixClaim E = record { log_size = 0; points = [] } in
+      let m : MatrixClaim E = record { domain = 0; points = [] } in
       let below : k < length ms = omega (arith, l, length-map ms (dimensions log_blowup)) in (
         log_height log_blowup (get_or ms k m),
         ap (λ x. x.height) (get_or-map (dimensions log_blowup) ms k m d below),

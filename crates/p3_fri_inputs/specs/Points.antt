@@ -2,7 +2,7 @@
 use Rattle.std.specs.Prelude.{◌≡◌, List, length, map, All}
 use Rattle.algebra.specs.Field.{FieldOps, sub}
 use Rattle.algebra.specs.Polynomial.{val}
-use Rattle.p3_fri_relation.specs.Setting.{PointClaim}
+use Rattle.p3_pcs.specs.Claims.{PointClaim}
 
 -- at each point, claimed beside a row opened at `x`: the claimed values combined by `alpha`, the
 -- inverse of the distance, and as many values as the row has

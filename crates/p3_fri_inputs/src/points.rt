@@ -9,7 +9,8 @@ ghost use Rattle.algebra.specs.Field.{sub};
 ghost use Rattle.p3_fri_relation.specs.Faults.{At};
 ghost use Rattle.p3_fri_relation.specs.Heights.{matrices_of, log_height};
 ghost use Rattle.p3_fri_relation.specs.QuotientSums.{point_read, IsDefinedAt};
-ghost use Rattle.p3_fri_relation.specs.Views.{claims_of, point_claim};
+ghost use Rattle.p3_pcs.specs.Claims.{point_claim};
+ghost use Rattle.p3_fri_relation.specs.Views.{claims_of};
 ghost use Rattle.p3_fri_inputs.specs.Claims.{claim_of, distances, IsApart};
 
 use p3_field_core::{

@@ -1,16 +1,12 @@
 -- The claims of a scheme, as the relation sees them.
 use Rattle.std.specs.Prelude.{ℕ, List, map}
 use Rattle.p3_pcs.specs.Claims as claimed
-use Rattle.p3_fri_relation.specs.Setting.{PointClaim, MatrixClaim, CommitmentClaim}
-
-module _ {E : Type 0} where
-  abbrev pub point_claim : claimed.PointClaim E → PointClaim E
-  point_claim z = record { point = z.point; values = z.values }
+use Rattle.p3_fri_relation.specs.Setting.{MatrixClaim, CommitmentClaim}
 
 module _ {E Domain : Type 0} (log_size : Domain → ℕ) where
   -- of a domain the relation reads the size alone
   abbrev pub matrix_claim : claimed.MatrixClaim E Domain → MatrixClaim E
-  matrix_claim m = record { log_size = log_size m.domain; points = map point_claim m.points }
+  matrix_claim m = record { domain = log_size m.domain; points = m.points }
 
 module _ {E Com Domain : Type 0} (log_size : Domain → ℕ) where
   abbrev pub relation_claim : claimed.Claim E Com Domain → CommitmentClaim E Com

@@ -14,7 +14,8 @@ use Rattle.p3_fri_transcript.specs.Replay.{fri_replay, rounds_replay, shown_quer
 use Rattle.p3_fri_pcs_transcript.specs.Steps.{pcs_stream, pcs_steps, pcs_labels}
 use Rattle.p3_fri_pcs_transcript.specs.Replay.{claims_replay}
 use Rattle.p3_fri_pcs_transcript.specs.Replay.{BatchReplay}
-use Rattle.p3_fri_relation.specs.Setting.{PointClaim, MatrixClaim}
+use Rattle.p3_pcs.specs.Claims.{PointClaim}
+use Rattle.p3_fri_relation.specs.Setting.{MatrixClaim}
 use Rattle.p3_fri_relation.specs.Heights.{log_height}
 use Rattle.p3_fri_relation.specs.QuotientSums.{point_read}
 use Rattle.p3_fri_relation.specs.Inputs.{HasPoints}

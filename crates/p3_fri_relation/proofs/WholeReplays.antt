@@ -13,7 +13,8 @@ use Rattle.p3_fri_pcs_transcript.specs.Counts.{claimed_lists_at_points, claimed_
 use Rattle.p3_fri_pcs_transcript.specs.Counts.{lists_of_claims}
 use Rattle.p3_fri_relation.specs.Setting.{Parameters}
 use Rattle.p3_fri_relation.specs.Acceptance.{pcs_numbers, values_claimed}
-use Rattle.p3_fri_relation.specs.Views.{point_claim, matrix_claim, claims_of}
+use Rattle.p3_pcs.specs.Claims.{point_claim}
+use Rattle.p3_fri_relation.specs.Views.{matrix_claim, claims_of}
 
 module _ {E : Type 0} where
   counts-at_points : (points : List (PointOpening E)) → map (λ z. length z.values) (map point_claim points) ≡ claimed_at_points points

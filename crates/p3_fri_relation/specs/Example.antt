@@ -108,20 +108,20 @@ small_claims =
       commitment = wide ∷ short ∷ [];
       matrices =
           record {
-            log_size = 4;
+            domain = 4;
             points =
                 record { point = 1; values = 79 ∷ 17 ∷ [] }
                 ∷ record { point = 25; values = 10 ∷ 73 ∷ [] } ∷ [];
           }
           ∷ record {
-            log_size = 2;
+            domain = 2;
             points = record { point = 7; values = 32 ∷ [] } ∷ [];
           } ∷ [];
     }
     ∷ record {
       commitment = narrow ∷ [];
       matrices = record {
-        log_size = 4;
+        domain = 4;
         points = record { point = 25; values = 82 ∷ [] } ∷ [];
       } ∷ [];
     }

@@ -18,7 +18,7 @@ module _ {E : Type 0} where
 module _ (log_blowup : ℕ) {E : Type 0} where
   -- a matrix stands on a coset `2^log_blowup` times as large as its domain
   abbrev pub log_height : MatrixClaim E → ℕ
-  log_height m = m.log_size + log_blowup
+  log_height m = m.domain + log_blowup
 
   abbrev pub dimensions : MatrixClaim E → Dimensions
   dimensions m = record { width = width m; height = 2 ^ log_height m }

@@ -4,6 +4,7 @@ use Rattle.std.specs.Prelude.{ℕ, ◌+◌, List}
 use Rattle.algebra.specs.Field.{FieldOps}
 use Rattle.p3_challenger_core.specs.Run.{Moves}
 use Rattle.p3_matrix.specs.declared.Dimensions.{Dimensions}
+use Rattle.p3_pcs.specs.Claims as claimed
 
 -- a two-adic field `F` and the extension `E` of it that challenges are drawn from
 pub record Fields (F E : Type 0) : Type 0 where
@@ -46,19 +47,13 @@ pub record Parameters : Type 0 where
 abbrev pub final_height : Parameters → ℕ
 final_height p = p.log_blowup + p.log_final_poly_len
 
--- the values claimed at a point, one for each column
-pub record PointClaim (E : Type 0) : Type 0 where
-  pub point : E
-  pub values : List E
+-- what is claimed of a matrix, and of those under a commitment, where of a domain only the logarithm
+-- of its size is known
+abbrev pub MatrixClaim : Type 0 → Type 0
+MatrixClaim E = claimed.MatrixClaim E ℕ
 
--- what is claimed of a matrix, whose columns are functions on a domain of size `2^log_size`
-pub record MatrixClaim (E : Type 0) : Type 0 where
-  pub log_size : ℕ
-  pub points : List (PointClaim E)
-
-pub record CommitmentClaim (E InCom : Type 0) : Type 0 where
-  pub commitment : InCom
-  pub matrices : List (MatrixClaim E)
+abbrev pub CommitmentClaim : (E InCom : Type 0) → Type 0
+CommitmentClaim E InCom = claimed.Claim E InCom ℕ
 
 -- the rows that are opened of a commitment, by query and matrix, and what shows that they are its
 pub record InputOpening (F InPath : Type 0) : Type 0 where

@@ -3,13 +3,13 @@ use Rattle.std.specs.Prelude.{ℕ, List, map}
 use Rattle.std.specs.declared.vec.Vec.{Vec}
 use Rattle.algebra.specs.Nested.{lists, nested}
 use Rattle.p3_fri_folding.specs.declared.config.FriParameters.{FriParameters}
-use Rattle.p3_mmcs.specs.declared.openings.PointOpening.{PointOpening}
 use Rattle.p3_mmcs.specs.declared.openings.MatrixOpening.{MatrixOpening}
 use Rattle.p3_mmcs.specs.declared.openings.CommitmentOpening.{CommitmentOpening}
+use Rattle.p3_pcs.specs.Claims.{point_claim}
 use Rattle.p3_fri_relation.specs.declared.proof.CommitPhaseMultiStep.{CommitPhaseMultiStep}
 use Rattle.p3_fri_relation.specs.declared.proof.BatchMultiOpening.{BatchMultiOpening}
 use Rattle.p3_fri_relation.specs.declared.proof.FriProof.{FriProof}
-use Rattle.p3_fri_relation.specs.Setting.{Parameters, PointClaim, MatrixClaim, CommitmentClaim}
+use Rattle.p3_fri_relation.specs.Setting.{Parameters, MatrixClaim, CommitmentClaim}
 use Rattle.p3_fri_relation.specs.Setting.{InputOpening, RoundOpening, Proof}
 use Rattle.p3_fri_relation.specs.FoldedQuery.{QueryInput}
 
@@ -24,13 +24,9 @@ parameters_of p = record {
   query_pow_bits = p.query_proof_of_work_bits;
 }
 
-module _ {E : Type 0} where
-  abbrev pub point_claim : PointOpening E → PointClaim E
-  point_claim z = record { point = z.point; values = z.values.items }
-
 module _ {E Domain : Type 0} (log_size : Domain → ℕ) where
   abbrev pub matrix_claim : MatrixOpening E Domain → MatrixClaim E
-  matrix_claim m = record { log_size = log_size m.domain; points = map point_claim m.points.items }
+  matrix_claim m = record { domain = log_size m.domain; points = map point_claim m.points.items }
 
 module _ {E InCom Domain : Type 0} (log_size : Domain → ℕ) where
   -- where `log_size` gives the logarithm of a domain's size

@@ -9,7 +9,8 @@ use Rattle.algebra.specs.Cosets.{coset_pt}
 use Rattle.algebra.specs.Quotients.{quotients}
 use Rattle.algebra.proofs.Lists.{get_or-tabulate, each_from_All, Each}
 use Rattle.algebra.proofs.Lifting.{lifted_coset_pt}
-use Rattle.p3_fri_relation.specs.Setting.{Fields, MatrixClaim, CommitmentClaim, PointClaim}
+use Rattle.p3_pcs.specs.Claims.{PointClaim}
+use Rattle.p3_fri_relation.specs.Setting.{Fields, MatrixClaim, CommitmentClaim}
 use Rattle.p3_fri_relation.specs.Heights.{log_height}
 use Rattle.p3_fri_relation.specs.Inputs.{HasPoints}
 use Rattle.p3_fri_relation.specs.QuotientSums.{matrix_terms, commitment_terms, terms}

@@ -3,7 +3,7 @@ use Rattle.std.proofs.Common.{◌≡◌, ◌^◌, ℕ, List, [], ◌∷◌, map,
 use Rattle.std.proofs.Common.{ap₂, ◌∙◌}
 use Rattle.p3_pcs.specs.Claims.{PointClaim, zip_with, claim_on}
 use Rattle.p3_pcs.specs.Requests.{Held, Request, honest_values, honest_claims, FitDomains}
-use Rattle.p3_fri_openings.specs.SchemeClaims.{point_claim, matrix_claim, relation_claims}
+use Rattle.p3_fri_openings.specs.SchemeClaims.{matrix_claim, relation_claims}
 use Rattle.p3_fri_completeness.proofs.SeenClaims.{of_matrices}
 
 module _ {E Domain : Type 0} (log_size : Domain → ℕ) where
@@ -13,7 +13,7 @@ module _ {E Domain : Type 0} (log_size : Domain → ℕ) where
   matrices_sized [] points = refl
   matrices_sized (d ∷ domains) [] = refl
   matrices_sized (d ∷ domains) (zs ∷ points) =
-      ap (λ rest. record { log_size = log_size d; points = map point_claim zs } ∷ rest)
+      ap (λ rest. record { domain = log_size d; points = zs } ∷ rest)
       (matrices_sized domains points)
 
 module _ {Domain : Type 0} (log_size : Domain → ℕ) where

@@ -14,7 +14,8 @@ use Rattle.p3_fri_openings.specs.Log2.{log2}
 use Rattle.p3_fri_openings.specs.Committed.{coset_of}
 use Rattle.p3_fri_openings.specs.Denominators.{IsCovered}
 use Rattle.p3_fri_openings.proofs.First.{at_item}
-use Rattle.p3_fri_batch.specs.Words.{claim_at, claims_of, terms_at}
+use Rattle.p3_pcs.specs.Claims.{point_claims}
+use Rattle.p3_fri_batch.specs.Words.{claim_at, terms_at}
 use Rattle.p3_fri_batch.proofs.Terms.{entry_more, terms_length, claims_wide, claims_taken}
 use Rattle.p3_fri_batch.proofs.Terms.{step_more}
 use Rattle.p3_fri_batch.proofs.points.add_opened_points.Given.{Over}
@@ -105,7 +106,7 @@ loop-point-preserved g c =
     let alpha = c.args.ladder.now.alpha in
     let n = length c.args.word.now in
     let z = c.index-points-point.result in
-    let claims = claims_of points (lists values) in
+    let claims = point_claims points (lists values) in
     let within = within_zip_with claim_at points (lists values) p one three in
     let entry = entry_of_zip_with claim_at points (lists values) p z ys one three
     c.index-points-point.is at_values in
@@ -150,7 +151,7 @@ returns g c =
     let p = c.loop-point.point in
     let points = c.args.opened.now.points.now in
     let values = c.args.opened.now.values.now in
-    let claims = claims_of points (lists values) in
+    let claims = point_claims points (lists values) in
     let last : length points ≤ p = c.loop-point-test.false in
     let short : length claims ≤ p = length_of_zip_with claim_at points (lists values) p
     (omega (arith, last)) in

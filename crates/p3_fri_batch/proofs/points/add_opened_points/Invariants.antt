@@ -5,7 +5,8 @@ use Rattle.algebra.specs.Nested.{lists}
 use Rattle.algebra.specs.Cosets.{coset_pt}
 use Rattle.p3_matrix.specs.Matrix.{matrix_width}
 use Rattle.p3_fri_openings.specs.Log2.{log2}
-use Rattle.p3_fri_batch.specs.Words.{claims_of, terms_at}
+use Rattle.p3_pcs.specs.Claims.{point_claims}
+use Rattle.p3_fri_batch.specs.Words.{terms_at}
 use Rattle.p3_fri_batch.proofs.points.add_opened_points.Given as goal
 
 abbrev pub invariant-loop-point : goal.invariant-loop-point
@@ -21,7 +22,7 @@ invariant-loop-point g l =
           → get_or l.word i d ≡ val K (ts ++ terms_at K (g.EF.ExtensionField.lift
           (coset_pt g.F.Field.ops g.F.TwoAdicField.root g.F.Field.GENERATOR i
           (log2 (length l.initial.word)))) row
-          (take l.point (claims_of l.opened.points.now (lists l.opened.values.now)))) alpha;
+          (take l.point (point_claims l.opened.points.now (lists l.opened.values.now)))) alpha;
       steps : (n : ℕ) → l.fn.step ≡ pow K alpha n
           → l.step ≡ pow K alpha (n + l.point * matrix_width l.opened.matrix.now);
     }

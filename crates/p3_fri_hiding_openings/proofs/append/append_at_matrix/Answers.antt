@@ -2,7 +2,8 @@ use Rattle.std.proofs.Common.{◌≡◌, ◌≤◌, ◌/◌, ℕ, length, ◌∙
 use Rattle.std.proofs.lemmas.List.{length-map}
 use Rattle.algebra.specs.Nested.{lists}
 use Rattle.p3_fri_masks.specs.Budget.{required_height}
-use Rattle.p3_fri_relation.specs.Views.{point_claim, matrix_claim}
+use Rattle.p3_pcs.specs.Claims.{point_claim}
+use Rattle.p3_fri_relation.specs.Views.{matrix_claim}
 use Rattle.p3_fri_hiding_openings.proofs.Places.{right_of_all, when_none}
 use Rattle.p3_fri_hiding_openings.proofs.Faulty.{budget_met}
 use Rattle.p3_fri_hiding_openings.proofs.append.append_at_matrix.Goals as goal

@@ -1,4 +1,4 @@
-use Rattle.p3_fri_relation.specs.Views.{point_claim}
+use Rattle.p3_pcs.specs.Claims.{point_claim}
 use Rattle.p3_fri_hiding_openings.specs.RandomValues.{with_values}
 use Rattle.p3_fri_hiding_openings.proofs.Written.{IsWrittenTo}
 use Rattle.p3_fri_hiding_openings.proofs.append.append_at_points.Given as goal

@@ -2,7 +2,8 @@ use Rattle.std.proofs.Common.{◌≡◌, ◌≢◌, ◌<◌, ◌∙◌, [], leng
 use Rattle.std.proofs.lemmas.List.{length-map, nil_from_length}
 use Rattle.std.proofs.lemmas.Bool.{eqb-true, eqb-false}
 use Rattle.p3_field_core.specs.declared.coset.TwoAdicMultiplicativeCoset.{TwoAdicMultiplicativeCoset as Coset}
-use Rattle.p3_fri_relation.specs.Views.{matrix_claim, point_claim}
+use Rattle.p3_pcs.specs.Claims.{point_claim}
+use Rattle.p3_fri_relation.specs.Views.{matrix_claim}
 use Rattle.p3_fri_inputs.proofs.Places.{at_mapped, holds_next, holds_of_all}
 use Rattle.algebra.proofs.Lists.{entry_of_map}
 use Rattle.p3_fri_inputs.proofs.checks.matrix_without_points.Goals as goal

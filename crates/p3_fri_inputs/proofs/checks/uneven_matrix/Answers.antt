@@ -4,7 +4,8 @@ use Rattle.p3_field_core.specs.declared.coset.TwoAdicMultiplicativeCoset.{TwoAdi
 use Rattle.p3_fri_relation.specs.Heights.{width}
 use Rattle.p3_fri_pow.specs.Counts.{IsWrongCount}
 use Rattle.p3_fri_relation.specs.Faults.{At}
-use Rattle.p3_fri_relation.specs.Views.{matrix_claim, point_claim}
+use Rattle.p3_pcs.specs.Claims.{point_claim}
+use Rattle.p3_fri_relation.specs.Views.{matrix_claim}
 use Rattle.p3_fri_inputs.specs.Claims.{IsEven}
 use Rattle.p3_fri_inputs.proofs.Places.{at_mapped, holds_next, holds_of_all, element_at}
 use Rattle.algebra.proofs.Lists.{entry_of_map}

@@ -1,8 +1,8 @@
 use Rattle.std.proofs.Common.{◌++◌, ◌∷◌, ◌<◌, ◌≤◌, ◌∙◌, [], length, map, ap, arith}
 use Rattle.std.proofs.lemmas.List.{length-map}
 use Rattle.algebra.specs.Polynomial.{val}
-use Rattle.p3_fri_relation.specs.Setting.{PointClaim}
-use Rattle.p3_fri_relation.specs.Views.{point_claim}
+use Rattle.p3_pcs.specs.Claims.{PointClaim}
+use Rattle.p3_pcs.specs.Claims.{point_claim}
 use Rattle.p3_fri_inputs.proofs.Places.{all_mapped_at}
 use Rattle.algebra.proofs.Growing.{mapped_next}
 use Rattle.algebra.proofs.Lists.{entry_of_map}

@@ -1,5 +1,5 @@
 use Rattle.std.proofs.Common.{map, take, ◌++◌, ◌≡◌}
-use Rattle.p3_fri_relation.specs.Views.{point_claim}
+use Rattle.p3_pcs.specs.Claims.{point_claim}
 use Rattle.algebra.specs.Polynomial.{val}
 use Rattle.p3_fri_inputs.proofs.claims.push_combined.Given as goal
 

@@ -7,7 +7,8 @@ use Rattle.algebra.proofs.Lists.{entry_of_map}
 use Rattle.p3_fri_relation.specs.Setting.{MatrixClaim}
 use Rattle.p3_fri_relation.specs.Heights.{log_height}
 use Rattle.p3_fri_relation.specs.Faults.{At}
-use Rattle.p3_fri_relation.specs.Views.{matrix_claim, point_claim}
+use Rattle.p3_pcs.specs.Claims.{point_claim}
+use Rattle.p3_fri_relation.specs.Views.{matrix_claim}
 use Rattle.p3_fri_inputs.specs.Claims.{IsApart}
 use Rattle.p3_fri_inputs.proofs.Places.{at_mapped, holds_next, holds_of_all, all_mapped_at}
 use Rattle.p3_fri_inputs.proofs.Places.{of_some, of_none}

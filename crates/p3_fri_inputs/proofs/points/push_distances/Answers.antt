@@ -4,8 +4,8 @@ use Rattle.std.proofs.lemmas.List.{length-map}
 use Rattle.std.proofs.lemmas.Bool.{true≢false}
 use Rattle.algebra.specs.Field.{sub}
 use Rattle.algebra.proofs.Combine.{sub-eq}
-use Rattle.p3_fri_relation.specs.Setting.{PointClaim}
-use Rattle.p3_fri_relation.specs.Views.{point_claim}
+use Rattle.p3_pcs.specs.Claims.{PointClaim}
+use Rattle.p3_pcs.specs.Claims.{point_claim}
 use Rattle.p3_fri_inputs.proofs.Places.{at_mapped, holds_next, holds_of_all}
 use Rattle.algebra.proofs.Growing.{mapped_next, mapped_end}
 use Rattle.algebra.proofs.Lists.{entry_of_map}

@@ -1,6 +1,6 @@
 use Rattle.std.proofs.Common.{◌≡◌, ◌≢◌, ◌++◌, map, take}
 use Rattle.algebra.specs.Field.{sub}
-use Rattle.p3_fri_relation.specs.Views.{point_claim}
+use Rattle.p3_pcs.specs.Claims.{point_claim}
 use Rattle.p3_fri_inputs.proofs.Places.{HoldsBelow}
 use Rattle.p3_fri_inputs.proofs.points.push_distances.Given as goal
 

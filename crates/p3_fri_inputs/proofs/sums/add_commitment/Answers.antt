@@ -5,7 +5,8 @@ use Rattle.algebra.specs.Polynomial.{val}
 use Rattle.algebra.specs.Nested.{lists}
 use Rattle.algebra.proofs.Nested.{length-lists, lists_at}
 use Rattle.algebra.proofs.Lists.{entry_of_map}
-use Rattle.p3_fri_relation.specs.Views.{point_claim, matrix_claim}
+use Rattle.p3_pcs.specs.Claims.{point_claim}
+use Rattle.p3_fri_relation.specs.Views.{matrix_claim}
 use Rattle.p3_fri_inputs.specs.Claims.{claim_of}
 use Rattle.p3_fri_inputs.proofs.Commitments.{AreSummedFrom, IsAmong, terms_of, among, summed_next}
 use Rattle.p3_fri_inputs.proofs.Commitments.{ends_before}

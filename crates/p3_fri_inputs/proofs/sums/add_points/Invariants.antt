@@ -3,7 +3,7 @@ use Rattle.std.specs.List.{flat_map}
 use Rattle.algebra.specs.Field.{pow}
 use Rattle.algebra.specs.Polynomial.{val}
 use Rattle.algebra.specs.Quotients.{quotients}
-use Rattle.p3_fri_relation.specs.Setting.{PointClaim}
+use Rattle.p3_pcs.specs.Claims.{PointClaim}
 use Rattle.p3_fri_inputs.specs.Points.{AreCombined}
 use Rattle.p3_fri_inputs.proofs.sums.add_points.Given as goal
 
