@@ -1,14 +1,10 @@
 //! Elements and polynomials by their numbers.
 
-ghost use Rattle.std.specs.Prelude.{◌≡◌, All, IfOk, length, vec_len};
-
 use p3_field::Field;
 use std::alloc::{AllocError, Global};
 
 /// The elements of these numbers.
-pub(crate) fn elements<F: Field>(alloc: Global, numbers: &[u64]) -> Result<Vec<F>, AllocError>
-    ensures { IfOk result (λ elements. vec_len elements ≡ length numbers.now) }
-{
+pub(crate) fn elements<F: Field>(alloc: Global, numbers: &[u64]) -> Result<Vec<F>, AllocError> {
     let mut elements = Vec::with_capacity(alloc, numbers.len())?;
     for number in numbers {
         elements.push(F::from_u64(*number))?;
@@ -17,16 +13,13 @@ pub(crate) fn elements<F: Field>(alloc: Global, numbers: &[u64]) -> Result<Vec<F
 }
 
 /// The polynomials with these coefficients.
-pub(crate) fn polynomials<F: Field, const D: usize>(
+pub(crate) fn polynomials<F: Field>(
     alloc: Global,
-    numbers: &[[u64; D]],
-) -> Result<Vec<Vec<F>>, AllocError>
-    ensures count { IfOk result (λ polys. vec_len polys ≡ length numbers.now) }
-    ensures lengths { IfOk result (λ polys. All (λ p. vec_len p ≡ D) polys.items) }
-{
+    numbers: &[&[u64]],
+) -> Result<Vec<Vec<F>>, AllocError> {
     let mut polys = Vec::with_capacity(alloc, numbers.len())?;
     for coefficients in numbers {
-        polys.push(elements::<F>(alloc, coefficients)?)?;
+        polys.push(elements::<F>(alloc, *coefficients)?)?;
     }
     Ok(polys)
 }
@@ -45,15 +38,12 @@ pub(crate) fn are_numbers<F: Field>(elements: &[F], numbers: &[u64]) -> bool {
 }
 
 /// Whether the polynomials have these coefficients.
-pub(crate) fn are_polynomials<F: Field, const D: usize>(
-    polys: &[Vec<F>],
-    wanted: &[[u64; D]],
-) -> bool {
+pub(crate) fn are_polynomials<F: Field>(polys: &[Vec<F>], wanted: &[&[u64]]) -> bool {
     if polys.len() != wanted.len() {
         return false;
     }
     for i in 0..polys.len() {
-        if !are_numbers(&polys[i], &wanted[i]) {
+        if !are_numbers(&polys[i], wanted[i]) {
             return false;
         }
     }

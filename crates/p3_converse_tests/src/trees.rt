@@ -72,22 +72,42 @@ fn unfolded(
     Ok(unfold_tree(alloc, rounds, tree)?)
 }
 
-#[test]
-fn unfolds_two_rounds(rt: HostRuntime) -> Result<(), Fail> {
-    let tree = two_rounds(rt.alloc(), &[0, 1], &[[1, 3], [4, 10]])?;
-    let found = unfolded(rt.alloc(), &[(1, false), (1, false)], &tree)?;
-    assert!(rt; are_numbers(&found.0, &[1, 3, 2, 4]));
-    assert!(rt; found.1.is_empty());
-    Ok(())
+/// Challenges of the first round, the constants at the leaves, the rounds, and what they unfold to:
+/// the word's polynomial, and that of each input.
+#[derive(Clone, Copy)]
+struct Case {
+    name: &'static str,
+    betas: &'static [u64],
+    constants: &'static [[u64; 2]],
+    rounds: &'static [(usize, bool)],
+    word: &'static [u64],
+    inputs: &'static [&'static [u64]],
 }
 
-#[test]
-fn unfolds_two_rounds_with_an_input(rt: HostRuntime) -> Result<(), Fail> {
-    let tree = two_rounds(rt.alloc(), &[0, 1, 2], &[[5, 5], [35, 35], [63, 63]])?;
-    let found = unfolded(rt.alloc(), &[(1, true), (1, false)], &tree)?;
-    assert!(rt; are_numbers(&found.0, &[5, 31, 0, 0]));
-    assert!(rt; are_polynomials(&found.1, &[[2013265920, 0]]));
-    Ok(())
+const CASES: [Case; 2] = [
+    Case {
+        name: "two rounds",
+        betas: &[0, 1],
+        constants: &[[1, 3], [4, 10]],
+        rounds: &[(1, false), (1, false)],
+        word: &[1, 3, 2, 4],
+        inputs: &[],
+    },
+    Case {
+        name: "two rounds with an input",
+        betas: &[0, 1, 2],
+        constants: &[[5, 5], [35, 35], [63, 63]],
+        rounds: &[(1, true), (1, false)],
+        word: &[5, 31, 0, 0],
+        inputs: &[&[2_013_265_920, 0]],
+    },
+];
+
+/// Whether the case's tree unfolds so.
+fn unfolds(alloc: Global, case: &Case) -> Result<bool, Fail> {
+    let tree = two_rounds(alloc, case.betas, case.constants)?;
+    let (word, inputs) = unfolded(alloc, case.rounds, &tree)?;
+    Ok(are_numbers(&word, case.word) && are_polynomials(&inputs, case.inputs))
 }
 
 /// Whether a tree with one round on a path and two on the other passes for one of two rounds.
@@ -116,21 +136,30 @@ fn leaves_pass(
     ))
 }
 
-#[test]
-fn trees_that_do_not_fit_are_caught(rt: HostRuntime) -> Result<(), Fail> {
-    assert!(rt; !an_uneven_tree_fits(rt.alloc())?);
-    let repeated_challenge = leaves_pass(rt.alloc(), [7, 7], [&[1], &[2]])?;
-    assert!(rt; repeated_challenge == (true, false, true));
-    let two_lengths = leaves_pass(rt.alloc(), [0, 1], [&[1], &[2, 3]])?;
-    assert!(rt; two_lengths == (true, true, false));
-    Ok(())
+/// Whether trees are caught that are uneven, repeat a challenge or have leaves of two lengths.
+fn others_are_caught(alloc: Global) -> Result<bool, AllocError> {
+    let repeated_challenge = leaves_pass(alloc, [7, 7], [&[1], &[2]])?;
+    let two_lengths = leaves_pass(alloc, [0, 1], [&[1], &[2, 3]])?;
+    Ok(
+        repeated_challenge == (true, false, true)
+            && two_lengths == (true, true, false)
+            && !an_uneven_tree_fits(alloc)?,
+    )
 }
 
 #[test]
-fn log_arities_and_lengths_out_of_range_are_caught(rt: HostRuntime) {
-    assert!(rt; !log_arities_fit(&[(1, false), (0, true)]));
-    assert!(rt; !log_arities_fit(&[(60, false), (4, true)]));
-    assert!(rt; log_arities_fit(&[(60, false), (3, true)]));
-    assert!(rt; unfolds_within_range(1, 63));
-    assert!(rt; !unfolds_within_range(2, 63));
+fn trees_unfold_or_are_caught(rt: HostRuntime) -> Result<(), Fail> {
+    for case in &CASES {
+        assert!(rt; unfolds(rt.alloc(), case)?, "{}", case.name);
+    }
+    assert!(rt; others_are_caught(rt.alloc())?);
+    let are_within_range = [
+        log_arities_fit(&[(1, false), (0, true)]),
+        log_arities_fit(&[(60, false), (4, true)]),
+        log_arities_fit(&[(60, false), (3, true)]),
+        unfolds_within_range(1, 63),
+        unfolds_within_range(2, 63),
+    ];
+    assert!(rt; are_within_range == [false, false, true, true, false]);
+    Ok(())
 }

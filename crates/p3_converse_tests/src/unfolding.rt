@@ -1,9 +1,9 @@
-//! Worked values.
+//! Folds, batches and quotients of worked values, undone.
 
-ghost use Rattle.std.specs.Prelude.{◌≡◌, ◌+◌, ◌*◌, ◌^◌, ◌<◌, length};
+ghost use Rattle.std.specs.Prelude.{◌≡◌, ◌+◌, ◌^◌, ◌<◌, IsTrue};
 ghost use Rattle.p3_converse.specs.Unfolding.{common_length};
 
-use crate::lists::{are_numbers, are_polynomials, polynomials};
+use crate::lists::{are_polynomials, elements, polynomials};
 use p3_converse::{
     are_distinct, have_one_length, unbatch, unfold, unfold_with_input, unfolds_within_range,
     unquotient,
@@ -11,6 +11,104 @@ use p3_converse::{
 use p3_field::{BabyBear, BabyBear4, Field};
 use std::alloc::{AllocError, Global};
 use std::test::Fail;
+
+/// What is undone.
+#[derive(Clone, Copy)]
+enum Call {
+    /// A fold of this log arity, at as many challenges.
+    Unfold(usize),
+    /// The same with an input, at one challenge more.
+    UnfoldWithInput(usize),
+    Unbatch,
+    /// A quotient on a coset of this shift, of which this value is claimed at the only challenge.
+    Unquotient { shift: u64, claim: u64 },
+}
+
+/// Numbers of the challenges, of the polynomials, one for each, and of those that they come from:
+/// none where what the call asks for isn't so.
+#[derive(Clone, Copy)]
+struct Case {
+    name: &'static str,
+    call: Call,
+    challenges: &'static [u64],
+    polys: &'static [&'static [u64]],
+    undone: &'static [&'static [u64]],
+}
+
+const CASES: [Case; 9] = [
+    Case {
+        name: "a fold to two constants",
+        call: Call::Unfold(1),
+        challenges: &[0, 1],
+        polys: &[&[4], &[11]],
+        undone: &[&[4, 7]],
+    },
+    Case {
+        name: "a fold to two lines",
+        call: Call::Unfold(1),
+        challenges: &[0, 1],
+        polys: &[&[1, 2], &[4, 6]],
+        undone: &[&[1, 3, 2, 4]],
+    },
+    Case {
+        name: "a fold to four constants",
+        call: Call::Unfold(2),
+        challenges: &[0, 1, 2, 3],
+        polys: &[&[1], &[4], &[15], &[40]],
+        undone: &[&[1, 1, 1, 1]],
+    },
+    Case {
+        name: "a fold to constants with its input",
+        call: Call::UnfoldWithInput(1),
+        challenges: &[0, 1, 2],
+        polys: &[&[4], &[13], &[26]],
+        undone: &[&[4, 7], &[2]],
+    },
+    Case {
+        name: "batches of two lines",
+        call: Call::Unbatch,
+        challenges: &[1, 2],
+        polys: &[&[5, 1], &[8, 1]],
+        undone: &[&[2, 1], &[3, 0]],
+    },
+    Case {
+        name: "a batch of one constant",
+        call: Call::Unbatch,
+        challenges: &[9],
+        polys: &[&[4]],
+        undone: &[&[4]],
+    },
+    Case {
+        name: "the quotient of a square",
+        call: Call::Unquotient {
+            shift: 31,
+            claim: 25,
+        },
+        challenges: &[5],
+        polys: &[&[5, 31]],
+        undone: &[&[0, 0, 1]],
+    },
+    Case {
+        name: "the quotient of a line",
+        call: Call::Unquotient {
+            shift: 31,
+            claim: 2_013_265_918,
+        },
+        challenges: &[5],
+        polys: &[&[2_013_265_920]],
+        undone: &[&[2, 2_013_265_920]],
+    },
+    Case {
+        name: "a quotient on no coset",
+        call: Call::Unquotient {
+            shift: 0,
+            claim: 2_013_265_918,
+        },
+        challenges: &[5],
+        polys: &[&[2_013_265_920]],
+        undone: &[],
+    },
+];
 
 /// The length of the first polynomial, which is that of all.
 fn first_length<F: Field>(polys: &[Vec<F>]) -> usize
@@ -22,122 +120,84 @@ fn first_length<F: Field>(polys: &[Vec<F>]) -> usize
     }
 }
 
-/// Whether the polynomials unfold to this one.
-fn unfolds_to<F: Field, const D: usize>(
-    alloc: Global,
-    log_arity: usize,
-    betas: &[F],
-    polys: &[[u64; D]],
-    wanted: &[u64],
-) -> Result<bool, AllocError>
-    requires arity { length betas.now ≡ 2 ^ log_arity }
-    requires as_many { length polys.now ≡ 2 ^ log_arity }
-    requires fits { D * 2 ^ log_arity < 2 ^ 64 }
+/// Whether these are `2^log_arity`, and so many more.
+#[tactic(auto, using(std::proofs::lemmas::Nat::one_shl))]
+fn is_count(count: usize, log_arity: usize, more: usize) -> bool
+    ensures range { IsTrue result → log_arity < 63 }
+    ensures count { IsTrue result → count ≡ 2 ^ log_arity + more }
 {
-    if log_arity >= 64 || !are_distinct(betas) {
-        return Ok(false);
+    if log_arity > 62 || count < more {
+        return false;
     }
-    let polys = polynomials::<F, D>(alloc, polys)?;
-    if !have_one_length(&polys) || !unfolds_within_range(first_length(&polys), log_arity) {
-        return Ok(false);
-    }
-    let unfolded = unfold(alloc, log_arity, betas, &polys)?;
-    Ok(are_numbers(&unfolded, wanted))
+    count - more == 1 << log_arity
 }
 
-#[test]
-fn unfolds_two_constants(rt: HostRuntime) -> Result<(), Fail> {
-    let betas = [0, 1].map(BabyBear::from_u64);
-    assert!(rt; unfolds_to::<BabyBear, 1>(rt.alloc(), 1, &betas, &[[4], [11]], &[4, 7])?);
-    Ok(())
-}
-
-#[test]
-fn unfolds_two_lines(rt: HostRuntime) -> Result<(), Fail> {
-    let betas = [0, 1].map(BabyBear::from_u64);
-    let polys = [[1, 2], [4, 6]];
-    assert!(rt; unfolds_to::<BabyBear, 2>(rt.alloc(), 1, &betas, &polys, &[1, 3, 2, 4])?);
-    Ok(())
-}
-
-#[test]
-fn unfolds_four_constants(rt: HostRuntime) -> Result<(), Fail> {
-    let betas = [0, 1, 2, 3].map(BabyBear::from_u64);
-    let polys = [[1], [4], [15], [40]];
-    assert!(rt; unfolds_to::<BabyBear, 1>(rt.alloc(), 2, &betas, &polys, &[1, 1, 1, 1])?);
-    Ok(())
-}
-
-/// Whether the batches unbatch to these polynomials.
-fn unbatches_to<F: Field, const D: usize>(
+/// The polynomial of which this is the quotient, unless the shift is zero.
+fn unquotiented<F: Field>(
     alloc: Global,
-    alphas: &[F],
-    polys: &[[u64; D]],
-    wanted: &[[u64; D]],
-) -> Result<bool, AllocError>
-    requires some { 0 < length alphas.now }
-    requires as_many { length polys.now ≡ length alphas.now }
-{
-    if !are_distinct(alphas) {
-        return Ok(false);
+    shift: F,
+    point: F,
+    claim: F,
+    polys: &[Vec<F>],
+) -> Result<Vec<Vec<F>>, AllocError> {
+    let mut undone = Vec::new(alloc);
+    if let [quotient] = polys {
+        if !shift.is_zero() && quotient.len() < 100 {
+            undone.push(unquotient(alloc, shift, point, claim, quotient)?)?;
+        }
     }
-    let batches = polynomials::<F, D>(alloc, polys)?;
-    let unbatched = unbatch(alloc, alphas, &batches)?;
-    Ok(are_polynomials(&unbatched, wanted))
+    Ok(undone)
 }
 
-#[test]
-fn unbatches_two_lines(rt: HostRuntime) -> Result<(), Fail> {
-    let alphas = [1, 2].map(BabyBear::from_u64);
-    let batches = [[5, 1], [8, 1]];
-    assert!(rt; unbatches_to::<BabyBear, 2>(rt.alloc(), &alphas, &batches, &[[2, 1], [3, 0]])?);
-    Ok(())
-}
-
-#[test]
-fn unbatches_one_constant(rt: HostRuntime) -> Result<(), Fail> {
-    let alphas = [BabyBear4::from_u64(9)];
-    assert!(rt; unbatches_to::<BabyBear4, 1>(rt.alloc(), &alphas, &[[4]], &[[4]])?);
-    Ok(())
-}
-
-/// Whether the quotient is undone to this polynomial.
-fn unquotients_to(
-    alloc: Global,
-    shift: BabyBear,
-    claim: (u64, u64),
-    quotient: &[BabyBear],
-    wanted: &[u64],
-) -> Result<bool, AllocError>
-    requires fits { length quotient.now + 1 < 2 ^ 64 }
-{
-    if shift.is_zero() {
-        return Ok(false);
+/// What the case's polynomials come from, or nothing.
+fn undone<F: Field>(alloc: Global, case: &Case) -> Result<Vec<Vec<F>>, AllocError> {
+    let points = elements::<F>(alloc, case.challenges)?;
+    let polys = polynomials::<F>(alloc, case.polys)?;
+    let mut undone = Vec::new(alloc);
+    let (count, length) = (points.len(), first_length(&polys));
+    if polys.len() != count || !are_distinct(&points) || !have_one_length(&polys) || count == 0 {
+        return Ok(undone);
     }
-    let (z, y) = (BabyBear::from_u64(claim.0), BabyBear::from_u64(claim.1));
-    let polynomial = unquotient(alloc, shift, z, y, quotient)?;
-    Ok(are_numbers(&polynomial, wanted))
+    match case.call {
+        Call::Unfold(log_arity) => {
+            if is_count(count, log_arity, 0) && unfolds_within_range(length, log_arity) {
+                undone.push(unfold(alloc, log_arity, &points, &polys)?)?;
+            }
+        }
+        Call::UnfoldWithInput(log_arity) => {
+            if is_count(count, log_arity, 1) && unfolds_within_range(length, log_arity) {
+                let (word, input) = unfold_with_input(alloc, log_arity, &points, &polys)?;
+                undone.push(word)?;
+                undone.push(input)?;
+            }
+        }
+        Call::Unbatch => return unbatch(alloc, &points, &polys),
+        Call::Unquotient { shift, claim } => {
+            return unquotiented(
+                alloc,
+                F::from_u64(shift),
+                points[0],
+                F::from_u64(claim),
+                &polys,
+            );
+        }
+    }
+    Ok(undone)
+}
+
+/// The first case that comes from others.
+fn first_wrong<F: Field>(alloc: Global) -> Result<Option<&'static str>, AllocError> {
+    for case in &CASES {
+        if !are_polynomials(&undone::<F>(alloc, case)?, case.undone) {
+            return Ok(Some(case.name));
+        }
+    }
+    Ok(None)
 }
 
 #[test]
-fn undoes_quotients(rt: HostRuntime) -> Result<(), Fail> {
-    let shift = BabyBear::GENERATOR;
-    let quotient = [5, 31].map(BabyBear::from_u64);
-    assert!(rt; unquotients_to(rt.alloc(), shift, (5, 25), &quotient, &[0, 0, 1])?);
-    let (claim, line) = ((5, 2013265918), [2, 2013265920]);
-    let quotient = [BabyBear::from_u64(2013265920)];
-    assert!(rt; unquotients_to(rt.alloc(), shift, claim, &quotient, &line)?);
-    assert!(rt; !unquotients_to(rt.alloc(), BabyBear::ZERO, claim, &quotient, &line)?);
-    Ok(())
-}
-
-#[test]
-fn unfolds_a_constant_with_its_input(rt: HostRuntime) -> Result<(), Fail> {
-    let betas = [0, 1, 2].map(BabyBear::from_u64);
-    let polys = polynomials::<BabyBear, 1>(rt.alloc(), &[[4], [13], [26]])?;
-    assert!(rt; are_distinct(&betas));
-    let unfolded = unfold_with_input(rt.alloc(), 1, &betas, &polys)?;
-    assert!(rt; are_numbers(&unfolded.0, &[4, 7]));
-    assert!(rt; are_numbers(&unfolded.1, &[2]));
+fn folds_batches_and_quotients_are_undone(rt: HostRuntime) -> Result<(), Fail> {
+    let wrong = first_wrong::<BabyBear>(rt.alloc())?.or(first_wrong::<BabyBear4>(rt.alloc())?);
+    assert!(rt; wrong.is_none(), "{wrong:?}");
     Ok(())
 }

@@ -1,8 +1,12 @@
-//! Tests of `p3_matrix` and of `p3_dft`.
+//! Tests of `p3_matrix`, `p3_dft`, `p3_periodic` and `p3_domain`.
 #![tactic(auto)]
 
 #[cfg(test)]
+mod domain;
+#[cfg(test)]
 mod matrix;
+#[cfg(test)]
+mod periodic;
 #[cfg(test)]
 mod transform;
 #[cfg(test)]

@@ -1,4 +1,5 @@
-//! Tests of `p3_field`: worked values, and each public call at a concrete type through its bound.
+//! Tests of `p3_field`, `p3_koala_bear` and `p3_goldilocks`: worked values, and each public call at a
+//! concrete type through its bound.
 #![tactic(auto)]
 
 #[cfg(test)]
@@ -12,7 +13,15 @@ mod cases;
 #[cfg(test)]
 mod coset;
 #[cfg(test)]
+mod goldilocks;
+#[cfg(test)]
+mod goldilocks2;
+#[cfg(test)]
 mod index;
+#[cfg(test)]
+mod koala_bear;
+#[cfg(test)]
+mod koala_bear4;
 #[cfg(test)]
 mod powers;
 #[cfg(test)]

@@ -79,13 +79,6 @@ fn has_schedule(alloc: Global, case: &Schedule) -> bool {
     }
 }
 
-#[test]
-fn schedules_stop_where_an_input_joins(rt: HostRuntime) {
-    for case in &SCHEDULES {
-        assert!(rt; has_schedule(rt.alloc(), case), "{}", case.name);
-    }
-}
-
 const HEIGHTS: [(&str, &[usize], bool); 4] = [
     ("no heights fall", &[], true),
     ("heights fall", &[10, 6, 0], true),
@@ -93,19 +86,37 @@ const HEIGHTS: [(&str, &[usize], bool); 4] = [
     ("rising heights", &[10, 6, 7], false),
 ];
 
-#[test]
-fn equal_and_rising_heights_do_not_fall(rt: HostRuntime) {
+/// The first heights of which something else is said, or whose schedule is another.
+fn first_wrong_schedule(alloc: Global) -> Option<&'static str> {
     for (name, heights, falling) in &HEIGHTS {
-        assert!(rt; is_strictly_falling(*heights) == *falling, "{name}");
+        if is_strictly_falling(*heights) != *falling {
+            return Some(*name);
+        }
     }
+    for case in &SCHEDULES {
+        if !has_schedule(alloc, case) {
+            return Some(case.name);
+        }
+    }
+    None
 }
 
 /// The cap, the distance to the final height, that to the next input, and one above a low input.
 fn a_round_takes_the_least_of_cap_and_distances() -> bool {
-    compute_log_arity_for_round(10, None, 2, 3) == 3
-        && compute_log_arity_for_round(4, None, 2, 3) == 2
-        && compute_log_arity_for_round(7, Some(6), 2, 3) == 1
-        && compute_log_arity_for_round(10, Some(1), 2, 9) == 8
+    let rounds = [
+        compute_log_arity_for_round(10, None, 2, 3),
+        compute_log_arity_for_round(4, None, 2, 3),
+        compute_log_arity_for_round(7, Some(6), 2, 3),
+        compute_log_arity_for_round(10, Some(1), 2, 9),
+    ];
+    rounds == [3, 2, 1, 8]
+}
+
+#[test]
+fn schedules_stop_where_an_input_joins(rt: HostRuntime) {
+    let wrong = first_wrong_schedule(rt.alloc());
+    assert!(rt; wrong.is_none(), "{wrong:?}");
+    assert!(rt; a_round_takes_the_least_of_cap_and_distances());
 }
 
 /// A constructor of parameters.
@@ -204,20 +215,27 @@ fn is_constructed(case: &Constructed) -> bool {
         && parameters.mmcs == 7
 }
 
-#[test]
-fn constructors_have_their_bits_and_regimes(rt: HostRuntime) {
+/// The first constructor that isn't.
+fn first_wrong_constructor() -> Option<&'static str> {
     for case in &CONSTRUCTED {
-        assert!(rt; is_constructed(case), "{}", case.name);
+        if !is_constructed(case) {
+            return Some(case.name);
+        }
     }
+    None
 }
 
-fn accessors_are_powers_of_two() -> bool {
+/// The blowup, the length of the final polynomial and the arity of parameters for tests, and the
+/// arity of those for figures that fold high.
+fn powers_of_two() -> [usize; 4] {
     let parameters = FriParameters::new_testing(7u8, 3);
     let high_arity = FriParameters::new_benchmark_high_arity(7u8);
-    parameters.blowup() == 4
-        && parameters.final_poly_len() == 8
-        && parameters.max_arity() == 2
-        && high_arity.max_arity() == 8
+    [
+        parameters.blowup(),
+        parameters.final_poly_len(),
+        parameters.max_arity(),
+        high_arity.max_arity(),
+    ]
 }
 
 fn the_batch_bits_are_a_site_of_their_own() -> bool {
@@ -246,9 +264,10 @@ fn parameters_are_cloned_and_printed(alloc: Global) -> bool {
 }
 
 #[test]
-fn parameters_are_read_cloned_and_printed(rt: HostRuntime) {
-    assert!(rt; a_round_takes_the_least_of_cap_and_distances());
-    assert!(rt; accessors_are_powers_of_two());
+fn parameters_are_constructed_read_cloned_and_printed(rt: HostRuntime) {
+    let wrong = first_wrong_constructor();
+    assert!(rt; wrong.is_none(), "{wrong:?}");
+    assert!(rt; powers_of_two() == [4, 8, 2, 8]);
     assert!(rt; the_batch_bits_are_a_site_of_their_own());
     assert!(rt; parameters_are_cloned_and_printed(rt.alloc()));
 }

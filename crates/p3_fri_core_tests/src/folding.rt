@@ -3,39 +3,146 @@
 ghost use Rattle.std.specs.Prelude.{◌≡◌, ◌+◌, ◌<◌, ◌≤◌, ◌^◌, length, IfSome};
 ghost use Rattle.p3_matrix.specs.Matrix.{rows, matrix_width};
 
-use p3_field::{
-    BabyBear, BabyBear4, ExtensionField, Field, TwoAdicField, TwoAdicMultiplicativeCoset,
-};
+use p3_field::{BabyBear, BabyBear4, ExtensionField, Field, TwoAdicMultiplicativeCoset};
 use p3_fri_core::{FriFoldingStrategy, TwoAdicFriFolding, WithExtraBits};
 use p3_matrix::RowMajorMatrix;
 use std::alloc::{AllocError, Global};
 use std::marker::PhantomData;
+use std::test::Fail;
 
 type Folding = TwoAdicFriFolding<(), ()>;
 
 const FOLDING: Folding = TwoAdicFriFolding(PhantomData);
 
-/// Whether each entry of the word is the fold of its row.
-fn rows_fold_to<EF: ExtensionField<BabyBear>, S: FriFoldingStrategy<BabyBear, EF>>(
-    folding: &S,
-    matrix: &RowMajorMatrix<EF>,
-    log_height: usize,
-    log_arity: usize,
-    beta: EF,
-    word: &[EF],
-) -> bool
-    requires positive { 1 ≤ log_arity }
-    requires height { length (rows matrix.now) ≡ 2 ^ log_height }
-    requires width { matrix_width matrix.now ≡ 2 ^ log_arity }
-    requires within_max_height { log_height + log_arity ≤ S.max_log_height folding.now }
+/// Elements of the base field.
+#[derive(Clone, Copy)]
+enum Values {
+    /// These numbers.
+    Listed(&'static [u64]),
+    /// The numbers from 0 on.
+    Counted,
+    /// The points of the subgroup of their number, in bit-reversed order, each to a power, times a
+    /// factor.
+    Powers { exponent: u64, factor: u64 },
+}
+
+/// Values as `2^log_height` rows of `2^log_arity`, for each pair of these, and the word that they
+/// fold to at beta, or at the field's generator. The word isn't compared if none is listed.
+#[derive(Clone, Copy)]
+struct Fold {
+    name: &'static str,
+    values: Values,
+    log_heights: &'static [usize],
+    log_arities: &'static [usize],
+    beta: Option<u64>,
+    word: Values,
+}
+
+const FOLDS: [Fold; 7] = [
+    Fold {
+        name: "a matrix of one row",
+        values: Values::Listed(&[5, 3]),
+        log_heights: &[0],
+        log_arities: &[1],
+        beta: Some(7),
+        word: Values::Listed(&[11]),
+    },
+    Fold {
+        name: "the first power",
+        values: Values::Powers {
+            exponent: 1,
+            factor: 1,
+        },
+        log_heights: &[4],
+        log_arities: &[1],
+        beta: Some(7),
+        word: Values::Powers {
+            exponent: 0,
+            factor: 7,
+        },
+    },
+    Fold {
+        // in a row whose points have the fourth power s, X^5 is s X
+        name: "the fifth power",
+        values: Values::Powers {
+            exponent: 5,
+            factor: 1,
+        },
+        log_heights: &[4],
+        log_arities: &[2],
+        beta: Some(7),
+        word: Values::Powers {
+            exponent: 1,
+            factor: 7,
+        },
+    },
+    Fold {
+        // at the points 1 and -1 the line is 4 + X, at w and -w, for the root w = 1728404513 of
+        // order 4, it is 4 + X / w; beta is 7 w
+        name: "two lines",
+        values: Values::Listed(&[5, 3, 5, 3]),
+        log_heights: &[1],
+        log_arities: &[1],
+        beta: Some(19_236_065),
+        word: Values::Listed(&[19_236_069, 11]),
+    },
+    Fold {
+        // at the points 1, -1, i and -i the polynomial is X^2
+        name: "a row of four at 3",
+        values: Values::Listed(&[1, 1, 2_013_265_920, 2_013_265_920]),
+        log_heights: &[0],
+        log_arities: &[2],
+        beta: Some(3),
+        word: Values::Listed(&[9]),
+    },
+    Fold {
+        name: "a row of four at 1",
+        values: Values::Listed(&[1, 1, 2_013_265_920, 2_013_265_920]),
+        log_heights: &[0],
+        log_arities: &[2],
+        beta: Some(1),
+        word: Values::Listed(&[1]),
+    },
+    Fold {
+        name: "the numbers from 0 on",
+        values: Values::Counted,
+        log_heights: &[0, 2, 3, 4, 6],
+        log_arities: &[1, 2, 3, 4],
+        beta: None,
+        word: Values::Listed(&[]),
+    },
+];
+
+/// The values, which are `2^log_count` unless they are listed.
+fn values_of<EF: ExtensionField<BabyBear>>(
+    alloc: Global,
+    values: Values,
+    log_count: usize,
+) -> Result<Vec<EF>, AllocError>
+    requires { log_count < 28 }
 {
-    for index in 0..matrix.height() {
-        let fold = folding.fold_row(index, log_height, log_arity, beta, matrix.row(index));
-        if word.get(index) != Some(&fold) {
-            return false;
+    let mut list = Vec::new(alloc);
+    match values {
+        Values::Listed(numbers) => {
+            for number in numbers {
+                list.push(EF::from_u64(*number))?;
+            }
+        }
+        Values::Counted => {
+            for number in 0..(1u64 << log_count) {
+                list.push(EF::from_u64(number))?;
+            }
+        }
+        Values::Powers { exponent, factor } => {
+            if let Some(subgroup) = TwoAdicMultiplicativeCoset::new(BabyBear::ONE, log_count) {
+                for point in &subgroup.bit_reversed_points(alloc)? {
+                    let value = point.exp_u64(exponent) * BabyBear::from_u64(factor);
+                    list.push(EF::from_base(value))?;
+                }
+            }
         }
     }
-    word.len() == matrix.height()
+    Ok(list)
 }
 
 /// The values as `2^log_height` rows of `2^log_arity`, if they are so many.
@@ -60,215 +167,114 @@ fn rows_of<EF: Copy + Drop>(
     Some(matrix)
 }
 
-/// Whether the values as `2^log_height` rows of `2^log_arity` fold row by row, and to the wanted
-/// word unless that is empty.
-fn fold_to<EF: ExtensionField<BabyBear>, S: FriFoldingStrategy<BabyBear, EF>>(
-    alloc: Global,
+/// Whether each entry of the word is the fold of its row.
+fn rows_fold_to<EF: ExtensionField<BabyBear>, S: FriFoldingStrategy<BabyBear, EF>>(
     folding: &S,
-    values: Result<Vec<EF>, AllocError>,
+    matrix: &RowMajorMatrix<EF>,
     log_height: usize,
     log_arity: usize,
     beta: EF,
-    wanted: &[EF],
+    word: &[EF],
 ) -> bool
     requires positive { 1 ≤ log_arity }
-    requires arity { log_arity ≤ 4 }
-    requires height { log_height < 24 }
+    requires height { length (rows matrix.now) ≡ 2 ^ log_height }
+    requires width { matrix_width matrix.now ≡ 2 ^ log_arity }
     requires within_max_height { log_height + log_arity ≤ S.max_log_height folding.now }
 {
-    let Ok(values) = values else {
-        return false;
-    };
-    let Some(matrix) = rows_of(values, log_height, log_arity) else {
-        return false;
-    };
-    match folding.fold_matrix(alloc, beta, log_arity, &matrix) {
-        Ok(word) => {
-            rows_fold_to(folding, &matrix, log_height, log_arity, beta, &word)
-                && (wanted.is_empty() || word.as_slice() == wanted)
+    for index in 0..matrix.height() {
+        let fold = folding.fold_row(index, log_height, log_arity, beta, matrix.row(index));
+        if word.get(index) != Some(&fold) {
+            return false;
         }
-        Err(_) => false,
     }
+    word.len() == matrix.height()
 }
 
-/// Whether the values as `2^log_height` rows of `2^log_arity` fold row by row to this word at 7.
-fn folds_to<S: FriFoldingStrategy<BabyBear, BabyBear>>(
+/// Whether the values fold to the word at this height and arity, as a matrix and row by row.
+fn is_folded<EF: ExtensionField<BabyBear>, S: FriFoldingStrategy<BabyBear, EF>>(
     alloc: Global,
     folding: &S,
-    values: Result<Vec<BabyBear>, AllocError>,
+    fold: &Fold,
     log_height: usize,
     log_arity: usize,
-    wanted: &[BabyBear],
-) -> bool
+) -> Result<bool, AllocError>
     requires positive { 1 ≤ log_arity }
     requires arity { log_arity ≤ 4 }
     requires height { log_height < 24 }
     requires within_max_height { log_height + log_arity ≤ S.max_log_height folding.now }
 {
-    let beta = BabyBear::from_u64(7);
-    fold_to(alloc, folding, values, log_height, log_arity, beta, wanted)
-}
-
-/// The numbers from 0 on, so many.
-fn numbers<EF: Field>(alloc: Global, count: u64) -> Result<Vec<EF>, AllocError> {
-    let mut values = Vec::new(alloc);
-    for n in 0..count {
-        values.push(EF::from_u64(n))?;
-    }
-    Ok(values)
-}
-
-/// Names, log heights and log arities of matrices.
-const MATRICES: [(&str, usize, usize); 20] = [
-    ("1 row of 2", 0, 1),
-    ("1 row of 4", 0, 2),
-    ("1 row of 8", 0, 3),
-    ("1 row of 16", 0, 4),
-    ("4 rows of 2", 2, 1),
-    ("4 rows of 4", 2, 2),
-    ("4 rows of 8", 2, 3),
-    ("4 rows of 16", 2, 4),
-    ("8 rows of 2", 3, 1),
-    ("8 rows of 4", 3, 2),
-    ("8 rows of 8", 3, 3),
-    ("8 rows of 16", 3, 4),
-    ("16 rows of 2", 4, 1),
-    ("16 rows of 4", 4, 2),
-    ("16 rows of 8", 4, 3),
-    ("16 rows of 16", 4, 4),
-    ("64 rows of 2", 6, 1),
-    ("64 rows of 4", 6, 2),
-    ("64 rows of 8", 6, 3),
-    ("64 rows of 16", 6, 4),
-];
-
-/// The first matrix of the numbers from 0 on that isn't folded row by row, by a strategy over the
-/// whole two-adicity with so many extra bits.
-fn matrices_fold_row_by_row<EF: ExtensionField<BabyBear>, S: FriFoldingStrategy<BabyBear, EF>>(
-    alloc: Global,
-    folding: &S,
-    extra_bits: usize,
-) -> Option<&'static str> {
-    if folding.max_log_height() != 27 || folding.extra_query_index_bits() != extra_bits {
-        return Some("the whole two-adicity");
-    }
-    for (name, log_height, log_arity) in &MATRICES {
-        if *log_height > 20 || *log_arity == 0 || *log_arity > 4 {
-            return Some(*name);
-        }
-        let values = numbers(alloc, 1 << (*log_height + *log_arity));
-        let is_folded = fold_to(
-            alloc,
-            folding,
-            values,
-            *log_height,
-            *log_arity,
-            EF::GENERATOR,
-            &[],
-        );
-        if !is_folded {
-            return Some(*name);
-        }
-    }
-    None
-}
-
-/// The points of the subgroup of order `2^log_size`, in bit-reversed order, each to a power, times
-/// a factor.
-fn powers_of_points(
-    alloc: Global,
-    log_size: usize,
-    power: u64,
-    factor: u64,
-) -> Result<Vec<BabyBear>, AllocError> {
-    let Some(subgroup) = TwoAdicMultiplicativeCoset::new(BabyBear::ONE, log_size) else {
-        return Ok(Vec::new(alloc));
+    let beta = match fold.beta {
+        Some(number) => EF::from_u64(number),
+        None => EF::GENERATOR,
     };
-    let mut powers = subgroup.bit_reversed_points(alloc)?;
-    for value in &mut powers {
-        *value = value.exp_u64(power) * BabyBear::from_u64(factor);
-    }
-    Ok(powers)
+    let wanted = values_of::<EF>(alloc, fold.word, log_height)?;
+    let values = values_of::<EF>(alloc, fold.values, log_height + log_arity)?;
+    let Some(matrix) = rows_of(values, log_height, log_arity) else {
+        return Ok(false);
+    };
+    let word = folding.fold_matrix(alloc, beta, log_arity, &matrix)?;
+    Ok(
+        rows_fold_to(folding, &matrix, log_height, log_arity, beta, &word)
+            && (wanted.is_empty() || word == wanted),
+    )
 }
 
-/// In a row whose points have the fourth power s, X^5 is s X.
-fn the_fifth_power_folds_to_multiples_of_points<S: FriFoldingStrategy<BabyBear, BabyBear>>(
+/// A line at the points 1 and -1, where it is 4 + X, folds to its value at 7 at each height.
+fn first_rows_fold<EF: ExtensionField<BabyBear>, S: FriFoldingStrategy<BabyBear, EF>>(
     alloc: Global,
     folding: &S,
-) -> bool
+) -> Result<bool, AllocError>
     requires { S.max_log_height folding.now ≡ 27 }
 {
-    let word = powers_of_points(alloc, 6, 5, 1);
-    match powers_of_points(alloc, 4, 1, 7) {
-        Ok(multiples) => {
-            multiples.len() == 16 && folds_to(alloc, folding, word, 4, 2, &multiples)
-        }
-        Err(_) => false,
+    let line = values_of::<EF>(alloc, Values::Listed(&[5, 3]), 1)?;
+    if line.len() != 2 {
+        return Ok(false);
     }
-}
-
-/// The first row that doesn't fold to the value of its polynomial.
-fn rows_fold_to_values<S: FriFoldingStrategy<BabyBear, BabyBear>>(
-    folding: &S,
-) -> Option<&'static str>
-    requires { S.max_log_height folding.now ≡ 27 }
-{
-    let (seven, eleven) = (BabyBear::from_u64(7), BabyBear::from_u64(11));
-    // at the points 1 and -1 the line is 4 + X
-    let line = [BabyBear::from_u64(5), BabyBear::from_u64(3)];
-    let mut same = true;
+    let (seven, eleven) = (EF::from_u64(7), EF::from_u64(11));
     for log_height in 0..27 {
-        same = same && folding.fold_row(0, log_height, 1, seven, &line) == eleven;
+        if folding.fold_row(0, log_height, 1, seven, line.as_slice()) != eleven {
+            return Ok(false);
+        }
     }
-    if !same {
-        return Some("the first row of each height");
-    }
-    // at the points w and -w, for the root w of order 4, the line is 4 + X / w
-    let beta = seven * BabyBear::two_adic_generator(2);
-    if folding.fold_row(1, 1, 1, beta, &line) != eleven {
-        return Some("the second row of height 2");
-    }
-    // at the points 1, -1, i and -i the polynomial is X^2
-    let minus_one = -BabyBear::ONE;
-    let square = [BabyBear::ONE, BabyBear::ONE, minus_one, minus_one];
-    let (three, nine) = (BabyBear::from_u64(3), BabyBear::from_u64(9));
-    if folding.fold_row(0, 0, 2, three, &square) != nine {
-        return Some("a row of four at 3");
-    }
-    if folding.fold_row(0, 0, 2, BabyBear::ONE, &square) != BabyBear::ONE {
-        return Some("a row of four at 1");
-    }
-    None
+    Ok(true)
 }
 
-/// The first check of a strategy that is wrong.
-fn first_wrong<S: FriFoldingStrategy<BabyBear, BabyBear>>(
+/// The first fold that is wrong by a strategy over the whole two-adicity with so many extra bits,
+/// with its log height and log arity.
+fn first_wrong<EF: ExtensionField<BabyBear>, S: FriFoldingStrategy<BabyBear, EF>>(
     alloc: Global,
     folding: &S,
     extra_bits: usize,
-) -> Option<&'static str>
-    requires { S.max_log_height folding.now ≡ 27 }
-{
-    let (seven, eleven) = (BabyBear::from_u64(7), BabyBear::from_u64(11));
-    let row = Vec::from_slice(alloc, &[BabyBear::from_u64(5), BabyBear::from_u64(3)]);
-    if !folds_to(alloc, folding, row, 0, 1, &[eleven]) {
-        return Some("a matrix of one row");
+) -> Result<Option<(&'static str, usize, usize)>, AllocError> {
+    let max_log_height = folding.max_log_height();
+    if max_log_height != 27 || folding.extra_query_index_bits() != extra_bits {
+        return Ok(Some(("the whole two-adicity", max_log_height, 0)));
     }
-    let first = powers_of_points(alloc, 5, 1, 1);
-    if !folds_to(alloc, folding, first, 4, 1, &[seven; 16]) {
-        return Some("the first power");
+    if !first_rows_fold(alloc, folding)? {
+        return Ok(Some(("the first row of each height", 0, 1)));
     }
-    if !the_fifth_power_folds_to_multiples_of_points(alloc, folding) {
-        return Some("the fifth power");
+    for fold in &FOLDS {
+        for log_height in fold.log_heights {
+            for log_arity in fold.log_arities {
+                let place = (fold.name, *log_height, *log_arity);
+                if *log_height > 20 || *log_arity == 0 || *log_arity > 4 {
+                    return Ok(Some(place));
+                }
+                if !is_folded(alloc, folding, fold, *log_height, *log_arity)? {
+                    return Ok(Some(place));
+                }
+            }
+        }
     }
-    rows_fold_to_values(folding).or(matrices_fold_row_by_row(alloc, folding, extra_bits))
+    Ok(None)
 }
 
 #[test]
-fn folds(rt: HostRuntime) {
+fn folds(rt: HostRuntime) -> Result<(), Fail> {
     let extra = WithExtraBits::new(FOLDING, 3);
-    let wrong = first_wrong(rt.alloc(), &FOLDING, 0)
-        .or(first_wrong(rt.alloc(), &extra, 3))
-        .or(matrices_fold_row_by_row::<BabyBear4, Folding>(rt.alloc(), &FOLDING, 0));
+    let wrong = first_wrong::<BabyBear, Folding>(rt.alloc(), &FOLDING, 0)?
+        .or(first_wrong::<BabyBear, WithExtraBits<Folding>>(rt.alloc(), &extra, 3)?)
+        .or(first_wrong::<BabyBear4, Folding>(rt.alloc(), &FOLDING, 0)?);
     assert!(rt; wrong.is_none(), "{wrong:?}");
+    Ok(())
 }

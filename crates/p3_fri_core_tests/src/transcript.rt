@@ -5,14 +5,14 @@ mod cases;
 mod prover;
 mod verifier;
 
-ghost use Rattle.std.specs.Prelude.{◌≡◌, ◌≤◌, length};
+ghost use Rattle.std.specs.Prelude.{◌≤◌};
 
-use crate::run::{Run, Sides, element, new_sides, witness_of};
-use cases::{CASES, Case, End, Form};
-use p3_challenger::{CanObserve, FieldChallenger, GrindingChallenger, Sha256Challenger};
-use p3_field::{BabyBear, BabyBear4, ExtensionField, Field};
+use crate::run::{Run, element, new_sides, witness_of};
+use cases::{Answer, CASES, Case, End, Form};
+use p3_challenger::Sha256Challenger;
+use p3_field::{BabyBear, BabyBear4, Field};
 use p3_fri_core::transcript::{FriMessages, Refusal};
-use prover::{proves_as_a_whole, proves_in_steps};
+use prover::proves;
 use std::alloc::Global;
 use verifier::{absorb_seed, verify_as_a_whole, verify_in_steps};
 
@@ -25,47 +25,35 @@ fn is_at(end: End, is_seeded: bool, is_as_prover: bool) -> bool {
     }
 }
 
-/// Whether the prover's transcript is the run, and the verifier returns what the case says and ends
-/// where it says. The prover sends this final polynomial. The challengers are new.
-fn both_sides_meet<
-    F: Field,
-    EF: ExtensionField<F>,
-    C: FieldChallenger<F> + GrindingChallenger<Witness = F> + CanObserve<[u8; 32]> + PartialEq,
->(
+/// What both sides draw and find along a test of one round.
+fn drawn() -> Run<BabyBear, BabyBear4> {
+    Run {
+        beta: element([854_485_589, 1_124_761_396, 1_343_671_587, 916_607_916]),
+        indices: [2, 4, 4, 5],
+        commit_witness: BabyBear::from_u64(2),
+        query_witness: BabyBear::from_u64(19),
+    }
+}
+
+/// What a verifier returns in this case.
+fn answer_of(
     alloc: Global,
-    sides: &mut Sides<C>,
-    seeded: &mut C,
+    verifier: &mut Sha256Challenger,
     case: &Case,
-    sent: FriMessages<'_, F, EF, [u8; 32]>,
-    final_poly: &[EF],
-    run: &Run<F, EF>,
-) -> bool
-    requires widths { 63 ≤ C.MAX_SAMPLE_BITS }
-    requires constant { length final_poly.now ≡ 1 }
+    sent: FriMessages<'_, BabyBear, BabyBear4, [u8; 32]>,
+    run: &Run<BabyBear, BabyBear4>,
+) -> Answer
     requires commit_bits { case.now.commit_pow_bits ≤ 63 }
     requires query_bits { case.now.query_pow_bits ≤ 63 }
 {
-    let answer = match case.verifier {
-        Form::Steps => verify_in_steps(alloc, &mut sides.verifier, case, sent, run),
-        Form::Whole => verify_as_a_whole(alloc, &mut sides.verifier, case, sent, run),
-    };
-    if let Err(Refusal::Seed) = answer {
-        return case.is_seed_optional && sides.verifier == sides.prover;
+    match case.verifier {
+        Form::Steps => verify_in_steps(alloc, verifier, case, sent, run),
+        Form::Whole => verify_as_a_whole(alloc, verifier, case, sent, run),
     }
-    let is_run = match case.prover {
-        Form::Steps => proves_in_steps(alloc, &mut sides.prover, final_poly, run),
-        Form::Whole => proves_as_a_whole(alloc, &mut sides.prover, final_poly, run),
-    };
-    let is_seed = absorb_seed::<F, EF, C>(alloc, seeded, case).is_ok();
-    let is_left = is_at(
-        case.end,
-        sides.verifier == *seeded,
-        sides.verifier == sides.prover,
-    );
-    is_run && is_seed && is_left && answer == case.answer
 }
 
-/// Whether both sides run as the case says, by new challengers.
+/// Whether both sides run as the case says, by new challengers: the prover's transcript is the run,
+/// and the verifier returns what the case says and ends where it says.
 fn is_met(alloc: Global, case: &Case) -> bool {
     if case.commitments > 50 || case.commit_witnesses > 50 || case.coefficients > 3 {
         return false;
@@ -81,24 +69,20 @@ fn is_met(alloc: Global, case: &Case) -> bool {
         final_poly: &fives[..case.coefficients],
         query_witness: witness_of(case.query_witness),
     };
-    let run = Run {
-        beta: element([854_485_589, 1_124_761_396, 1_343_671_587, 916_607_916]),
-        indices: [2, 4, 4, 5],
-        commit_witness: BabyBear::from_u64(2),
-        query_witness: BabyBear::from_u64(19),
-    };
-    let mut sides = new_sides();
-    let mut seeded = Sha256Challenger::new();
+    let (run, mut sides, mut seeded) = (drawn(), new_sides(), Sha256Challenger::new());
+    let answer = answer_of(alloc, &mut sides.verifier, case, sent, &run);
+    if let Err(Refusal::Seed) = answer {
+        return case.is_seed_optional && sides.verifier == sides.prover;
+    }
     let final_poly = [BabyBear4::from_u64(5)];
-    both_sides_meet(
-        alloc,
-        &mut sides,
-        &mut seeded,
-        case,
-        sent,
-        &final_poly,
-        &run,
-    )
+    let is_run = proves(alloc, &mut sides.prover, case.prover, &final_poly, &run);
+    let is_seed = absorb_seed::<BabyBear, BabyBear4, Sha256Challenger>(alloc, &mut seeded, case);
+    let is_left = is_at(
+        case.end,
+        sides.verifier == seeded,
+        sides.verifier == sides.prover,
+    );
+    is_run && is_seed.is_ok() && is_left && answer == case.answer
 }
 
 #[test]

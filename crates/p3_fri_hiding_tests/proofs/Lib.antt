@@ -2,3 +2,5 @@ mod Each
 mod LargerDomains
 mod Maskable
 mod Readable
+mod ThreeRequests
+mod TwoRequests

@@ -1,3 +1,4 @@
+pub mod Batches
 pub mod Chunks
 pub mod Inputs
 pub mod TestedLaws

@@ -6,6 +6,8 @@
 #[cfg(test)]
 mod budgets;
 #[cfg(test)]
+mod calls;
+#[cfg(test)]
 mod chunks;
 #[cfg(test)]
 mod commitments;

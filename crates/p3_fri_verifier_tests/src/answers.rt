@@ -1,17 +1,15 @@
 //! What the verifier answers.
 
-ghost use Rattle.std.specs.Prelude.{◌≡◌, ◌≤◌};
+ghost use Rattle.std.specs.Prelude.{◌≡◌};
 
 use p3_challenger::{CanObserve, Sha256Challenger};
 use p3_field::{BabyBear, BabyBear4, ExtensionField, Field, TwoAdicMultiplicativeCoset};
 use p3_fri_folding::{FriParameters, TwoAdicFriFolding, WithExtraBits};
-use p3_fri_relation::error::FriError;
 use p3_fri_relation::proof::{BatchMultiOpening, CommitPhaseMultiStep, FriProof};
 use p3_fri_verifier::verify_fri;
 use p3_mmcs::{CommitmentOpening, Sha256Mmcs, Sha256MmcsError};
 use std::alloc::Global;
 use std::marker::PhantomData;
-use std::test::Fail;
 
 pub(crate) type Inputs = Sha256Mmcs<BabyBear>;
 
@@ -29,7 +27,9 @@ pub(crate) type Domain = TwoAdicMultiplicativeCoset<BabyBear>;
 
 pub(crate) type Claims = Vec<CommitmentOpening<BabyBear4, [u8; 32], Domain>>;
 
-type Folding = TwoAdicFriFolding<(), Sha256MmcsError>;
+type Plain = TwoAdicFriFolding<(), Sha256MmcsError>;
+
+type Folding = WithExtraBits<Plain>;
 
 /// A blowup and a cap of 2, a constant as final polynomial, two queries, no proof of work.
 pub(crate) fn plain_parameters() -> Parameters
@@ -59,65 +59,29 @@ pub(crate) fn challenger_after(number: u64) -> Sha256Challenger {
     challenger
 }
 
-/// The answer to a proof as text.
-pub(crate) fn answer(
-    alloc: Global,
-    parameters: &Parameters,
-    proof: &Proof,
-    challenger: &mut Sha256Challenger,
-    claims: &Claims,
-) -> Result<String, Fail> {
-    if parameters.log_blowup > 31
-        || parameters.log_final_poly_len > 31
-        || parameters.commit_proof_of_work_bits > 63
-        || parameters.query_proof_of_work_bits > 63
-    {
-        return Err(Fail::new("not conditions of the call"));
-    }
-    let folding: Folding = TwoAdicFriFolding(PhantomData);
-    let input_mmcs = Inputs::new();
-    let verified = verify_fri::<BabyBear, BabyBear4, Rounds, Inputs, Folding, Sha256Challenger>(
-        alloc,
-        &folding,
-        parameters,
-        proof,
-        challenger,
-        claims,
-        &input_mmcs,
-        constant(7),
-    );
-    text_of(alloc, verified)
-}
-
-/// The same where the strategy draws extra bits with each index.
-pub(crate) fn answer_at_extra_bits(
+/// Whether this is the answer to a proof, as text, where the strategy draws so many extra bits with
+/// each index.
+pub(crate) fn is_answer(
     alloc: Global,
     parameters: &Parameters,
     extra_bits: usize,
     proof: &Proof,
-    challenger: &mut Sha256Challenger,
     claims: &Claims,
-) -> Result<String, Fail>
-    requires { extra_bits ≤ 3 }
-{
+    challenger: &mut Sha256Challenger,
+    expected: &str,
+) -> bool {
     if parameters.log_blowup > 31
         || parameters.log_final_poly_len > 31
         || parameters.commit_proof_of_work_bits > 63
         || parameters.query_proof_of_work_bits > 63
+        || extra_bits > 3
     {
-        return Err(Fail::new("not conditions of the call"));
+        return false;
     }
-    let plain: Folding = TwoAdicFriFolding(PhantomData);
+    let plain: Plain = TwoAdicFriFolding(PhantomData);
     let folding = WithExtraBits::new(plain, extra_bits);
     let input_mmcs = Inputs::new();
-    let verified = verify_fri::<
-        BabyBear,
-        BabyBear4,
-        Rounds,
-        Inputs,
-        WithExtraBits<Folding>,
-        Sha256Challenger,
-    >(
+    let answer = verify_fri::<BabyBear, BabyBear4, Rounds, Inputs, Folding, Sha256Challenger>(
         alloc,
         &folding,
         parameters,
@@ -127,17 +91,11 @@ pub(crate) fn answer_at_extra_bits(
         &input_mmcs,
         constant(7),
     );
-    text_of(alloc, verified)
-}
-
-/// An answer as text.
-fn text_of(
-    alloc: Global,
-    verified: Result<(), FriError<Sha256MmcsError, Sha256MmcsError>>,
-) -> Result<String, Fail> {
-    match verified {
-        Ok(()) => Ok(format!(in alloc; "accepted")?),
-        Err(FriError::OutOfMemory) => Err(Fail::new("memory was refused")),
-        Err(refusal) => Ok(format!(in alloc; "{refusal:?}")?),
+    let Err(refusal) = answer else {
+        return expected == "accepted";
+    };
+    match format!(in alloc; "{refusal:?}") {
+        Ok(text) => text.as_str() == expected,
+        Err(_) => false,
     }
 }

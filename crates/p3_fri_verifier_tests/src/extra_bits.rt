@@ -1,10 +1,6 @@
 //! Extra bits of the queries' indices: drawn with each, and shifted off.
 
-ghost use Rattle.std.specs.Prelude.{◌≡◌, ◌≤◌};
-
-use crate::answers::{
-    Parameters, answer, answer_at_extra_bits, challenger_after, plain_parameters,
-};
+use crate::answers::{Parameters, challenger_after, is_answer, plain_parameters};
 use crate::honest::{Honest, make_honest};
 use p3_field::{BabyBear, BabyBear4};
 use p3_fri_transcript::transcript::FriShape;
@@ -37,84 +33,74 @@ fn is_width_in_stream(alloc: Global) -> Result<bool, AllocError> {
     Ok(plain.len() == 142 && wider.len() == 142 && differences(&plain, &wider) == (1, 1, 4))
 }
 
-#[test]
-fn the_width_of_indices_stands_in_the_stream(rt: HostRuntime) -> Result<(), Fail> {
-    assert!(rt; is_width_in_stream(rt.alloc())?);
-    Ok(())
-}
-
 /// Parameters with a final polynomial of two coefficients and so many queries.
-fn parameters_with(num_queries: usize) -> Parameters
-    ensures { result.log_final_poly_len ≡ 1 }
-{
+fn parameters_with(num_queries: usize) -> Parameters {
     let mut parameters = plain_parameters();
     parameters.log_final_poly_len = 1;
     parameters.num_queries = num_queries;
     parameters
 }
 
-/// Whether what was made at these parameters and extra bits is accepted, by a challenger that ends
-/// as the prover's.
+/// Whether what was made at these parameters is accepted at these extra bits, by a challenger that
+/// ends as the prover's.
 fn is_accepted(
     alloc: Global,
     parameters: &Parameters,
     extra_bits: usize,
     made: &Honest,
     start: u64,
-) -> Result<bool, Fail>
-    requires { extra_bits ≤ 3 }
-{
-    let mut challenger = challenger_after(start);
-    let text = answer_at_extra_bits(
+) -> bool {
+    let (proof, claims, mut verifier) = (&made.proof, &made.claims, challenger_after(start));
+    let is_met = is_answer(
         alloc,
         parameters,
         extra_bits,
-        &made.proof,
-        &mut challenger,
-        &made.claims,
-    )?;
-    Ok(text.as_str() == "accepted" && challenger == made.last)
+        proof,
+        claims,
+        &mut verifier,
+        "accepted",
+    );
+    is_met && verifier == made.last
 }
 
 /// Whether what is made at three extra bits is accepted at these, and not without.
 fn are_shifted_off(alloc: Global) -> Result<bool, Fail> {
     let parameters = parameters_with(2);
     let made = make_honest(alloc, &parameters, 4, 3, 1)?;
-    if !is_accepted(alloc, &parameters, 3, &made, 1)? {
-        return Ok(false);
-    }
-    let without = answer(
-        alloc,
-        &parameters,
-        &made.proof,
-        &mut challenger_after(1),
-        &made.claims,
-    )?;
-    Ok(without.as_str() != "accepted")
-}
-
-#[test]
-fn extra_bits_are_drawn_and_shifted_off(rt: HostRuntime) -> Result<(), Fail> {
-    assert!(rt; are_shifted_off(rt.alloc())?);
-    Ok(())
+    let mut verifier = challenger_after(1);
+    let (proof, claims) = (&made.proof, &made.claims);
+    Ok(
+        is_accepted(alloc, &parameters, 3, &made, 1)
+            && !is_answer(
+                alloc,
+                &parameters,
+                0,
+                proof,
+                claims,
+                &mut verifier,
+                "accepted",
+            ),
+    )
 }
 
 /// A number after which the transcript of one query draws the index 13 of four bits.
 const START: u64 = 23;
 
-/// Whether this is the index, and 3 the position, of a proof that is accepted.
+/// Whether this is the index, and 3 the position, of a proof that is accepted at two extra bits.
 fn is_position_3(alloc: Global) -> Result<bool, Fail> {
     let parameters = parameters_with(1);
     let made = make_honest(alloc, &parameters, 1, 2, START)?;
     Ok(
         made.drawn.as_slice() == [13].as_slice()
             && made.positions.as_slice() == [3].as_slice()
-            && is_accepted(alloc, &parameters, 2, &made, START)?,
+            && is_accepted(alloc, &parameters, 2, &made, START),
     )
 }
 
 #[test]
-fn a_drawn_index_of_13_at_two_extra_bits_is_position_3(rt: HostRuntime) -> Result<(), Fail> {
+fn extra_bits_are_drawn_and_shifted_off(rt: HostRuntime) -> Result<(), Fail> {
+    assert!(rt; is_width_in_stream(rt.alloc())?);
+    assert!(rt; are_shifted_off(rt.alloc())?);
     assert!(rt; is_position_3(rt.alloc())?);
     Ok(())
 }

@@ -7,6 +7,7 @@ use crate::answers::{
     Claims, Domain, InputOpening, Inputs, Parameters, Proof, RoundOpening, Rounds,
     challenger_after, constant,
 };
+use crate::claims::matrix_claim;
 use crate::commitments::{committed, matrix_of, opened};
 use p3_challenger::Sha256Challenger;
 use p3_field::{BabyBear, BabyBear4, Field, TwoAdicField, TwoAdicMultiplicativeCoset};
@@ -14,7 +15,7 @@ use p3_fri_folding::fold_schedule;
 use p3_fri_relation::proof::{BatchMultiOpening, CommitPhaseMultiStep, FriProof};
 use p3_fri_transcript::transcript::{FriMessages, FriShape, replay_fri};
 use p3_matrix::RowMajorMatrix;
-use p3_mmcs::{CommitmentOpening, MatrixOpening, Mmcs, PointOpening};
+use p3_mmcs::{CommitmentOpening, Mmcs};
 use std::alloc::{AllocError, Global};
 use std::test::Fail;
 
@@ -53,19 +54,12 @@ fn points_matrix(
     matrix_of(values, width)
 }
 
-/// What is claimed of it.
-fn matrix_claim(
+/// The commitment to matrices.
+pub(crate) fn commit_matrices(
     alloc: Global,
-    log_size: usize,
-    width: usize,
-) -> Result<MatrixOpening<BabyBear4, Domain>, Fail> {
-    let domain = TwoAdicMultiplicativeCoset::new(BabyBear::ONE, log_size).ok_or("a domain")?;
-    let mut points = Vec::new(alloc);
-    points.push(PointOpening {
-        point: constant(2),
-        values: vec![in alloc; constant(2); width]?,
-    })?;
-    Ok(MatrixOpening { domain, points })
+    matrices: Vec<RowMajorMatrix<BabyBear>>,
+) -> Result<([u8; 32], InputData), Fail> {
+    committed(alloc, &Inputs::new(), matrices)
 }
 
 /// One commitment to matrices of these widths, and what is claimed of them.
@@ -80,9 +74,9 @@ fn commit_inputs(
     let mut claimed = Vec::new(alloc);
     for width in widths {
         matrices.push(points_matrix(alloc, log_size + 1, *width)?)?;
-        claimed.push(matrix_claim(alloc, log_size, *width)?)?;
+        claimed.push(matrix_claim(alloc, log_size, *width, Some(2))?)?;
     }
-    let (commitment, data) = committed(alloc, &Inputs::new(), matrices)?;
+    let (commitment, data) = commit_matrices(alloc, matrices)?;
     let claim = CommitmentOpening {
         commitment,
         matrices: claimed,
@@ -91,7 +85,11 @@ fn commit_inputs(
 }
 
 /// What is opened of these at the positions.
-fn open_inputs(alloc: Global, data: &InputData, positions: &[usize]) -> Result<InputOpening, Fail> {
+pub(crate) fn open_inputs(
+    alloc: Global,
+    data: &InputData,
+    positions: &[usize],
+) -> Result<InputOpening, Fail> {
     let (opened_values, opening_proof) = opened(alloc, &Inputs::new(), data, positions)?;
     Ok(BatchMultiOpening {
         opened_values,
@@ -109,8 +107,7 @@ fn commit_round(
         return Err(Fail::new("a tall word"));
     }
     let values = vec![in alloc; constant(SUM); 1 << (log_height + log_arity)]?;
-    let mut matrices = Vec::new(alloc);
-    matrices.push(matrix_of(values, 1 << log_arity)?)?;
+    let matrices = vec![in alloc; matrix_of(values, 1 << log_arity)?]?;
     committed(alloc, &Rounds::new(), matrices)
 }
 
@@ -155,13 +152,10 @@ fn open_round(
 ) -> Result<RoundOpening, Fail>
     requires { log_arity < 64 }
 {
+    let siblings = (1_usize << log_arity).saturating_sub(1);
     let mut sibling_values = Vec::new(alloc);
     for _ in indices {
-        let mut siblings = Vec::new(alloc);
-        for _ in 1..(1_usize << log_arity) {
-            siblings.push(constant(SUM))?;
-        }
-        sibling_values.push(siblings)?;
+        sibling_values.push(vec![in alloc; constant(SUM); siblings]?)?;
     }
     let (_rows, opening_proof) = opened(alloc, &Rounds::new(), data, indices)?;
     Ok(CommitPhaseMultiStep {
@@ -178,13 +172,14 @@ fn open_rounds(
     positions: &[usize],
 ) -> Result<Vec<RoundOpening>, Fail> {
     let mut openings = Vec::new(alloc);
-    let mut indices = shifted(alloc, positions, 0)?;
+    let mut bits: usize = 0;
     for (log_arity, kept) in log_arities.iter().zip(data) {
-        if *log_arity > 8 {
+        if *log_arity > 8 || bits > 32 {
             return Err(Fail::new("a long row"));
         }
-        indices = shifted(alloc, indices.as_slice(), *log_arity)?;
-        openings.push(open_round(alloc, *log_arity, kept, indices.as_slice())?)?;
+        bits += *log_arity;
+        let indices = shifted(alloc, positions, bits)?;
+        openings.push(open_round(alloc, *log_arity, kept, &indices)?)?;
     }
     Ok(openings)
 }
@@ -225,10 +220,9 @@ pub(crate) fn drawn_indices(
 fn final_poly_of(alloc: Global, log_len: usize) -> Result<Vec<BabyBear4>, AllocError>
     requires { log_len < 64 }
 {
-    let mut coefficients = Vec::new(alloc);
-    coefficients.push(constant(SUM))?;
-    for _ in 1..(1_usize << log_len) {
-        coefficients.push(BabyBear4::ZERO)?;
+    let mut coefficients = vec![in alloc; BabyBear4::ZERO; 1 << log_len]?;
+    if let Some(first) = coefficients.first_mut() {
+        *first = constant(SUM);
     }
     Ok(coefficients)
 }
@@ -329,11 +323,10 @@ pub(crate) fn make_honest(
     log_size: usize,
     extra_bits: usize,
     start: u64,
-) -> Result<Honest, Fail>
-    requires size { log_size ≤ 8 }
-    requires bits { extra_bits ≤ 3 }
-    requires final_polynomial { parameters.now.log_final_poly_len ≤ 8 }
-{
+) -> Result<Honest, Fail> {
+    if log_size > 8 || extra_bits > 3 || parameters.log_final_poly_len > 8 {
+        return Err(Fail::new("a large proof"));
+    }
     let made = commit(alloc, parameters, log_size)?;
     let final_poly = final_poly_of(alloc, parameters.log_final_poly_len)?;
     let mut last = challenger_after(start);

@@ -1,12 +1,16 @@
-//! Tests of the verifier.
+//! Tests of the verifier, of the proofs' types and of the refusals.
 #![tactic(auto)]
 
 #[cfg(test)]
 mod answers;
 #[cfg(test)]
+mod claims;
+#[cfg(test)]
 mod commitments;
 #[cfg(test)]
 mod constants;
+#[cfg(test)]
+mod error;
 #[cfg(test)]
 mod extra_bits;
 #[cfg(test)]
@@ -14,4 +18,8 @@ mod honest;
 #[cfg(test)]
 mod instances;
 #[cfg(test)]
+mod laws;
+#[cfg(test)]
 mod lists;
+#[cfg(test)]
+mod proof;

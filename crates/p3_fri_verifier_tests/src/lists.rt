@@ -1,13 +1,12 @@
 //! An honest proof with each kind of its lists cut, lengthened or emptied, and the refusal's name.
 
 use crate::answers::{
-    InputOpening, Proof, RoundOpening, answer, challenger_after, constant, plain_parameters,
+    InputOpening, Proof, RoundOpening, challenger_after, constant, is_answer, plain_parameters,
 };
 use crate::honest::make_honest;
 use p3_field::{BabyBear, Field};
 use p3_fri_relation::proof::{BatchMultiOpening, CommitPhaseMultiStep};
 use std::alloc::{AllocError, Global};
-use std::process::Abort;
 use std::test::Fail;
 
 /// A list of a proof; of the rounds, commitments, queries and matrices that have one each, the
@@ -147,29 +146,33 @@ fn change_list(
     }
 }
 
-/// The answer to an honest proof of two rounds, which fold by four and by two to a final polynomial
-/// of two coefficients, with one list changed or as it is. It is made without proofs of work, and
-/// verified with one of so many bits before the queries.
-fn answer_to(
+/// Whether this is the answer to an honest proof of two rounds, which fold by four and by two to a
+/// final polynomial of two coefficients, with one list changed or as it is. It is made without
+/// proofs of work, and verified with one of so many bits before the queries.
+fn is_answered(
     alloc: Global,
-    list: Option<(List, Change)>,
+    changed: Option<(List, Change)>,
     query_bits: usize,
-) -> Result<String, Fail> {
+    expected: &str,
+) -> Result<bool, Fail> {
     let mut parameters = plain_parameters();
     parameters.log_final_poly_len = 1;
     parameters.max_log_arity = 2;
     let mut honest = make_honest(alloc, &parameters, 4, 0, 1)?;
-    if let Some((list, how)) = list {
+    if let Some((list, how)) = changed {
         change_list(alloc, &mut honest.proof, list, how)?;
     }
     parameters.query_proof_of_work_bits = query_bits;
-    answer(
+    let (proof, claims, mut verifier) = (&honest.proof, &honest.claims, challenger_after(1));
+    Ok(is_answer(
         alloc,
         &parameters,
-        &honest.proof,
-        &mut challenger_after(1),
-        &honest.claims,
-    )
+        0,
+        proof,
+        claims,
+        &mut verifier,
+        expected,
+    ))
 }
 
 /// What the verifier answers to each change of a list whose length the parameters and the claims
@@ -241,17 +244,16 @@ const COUNTED: [(List, [&str; 3]); 8] = [
     ),
 ];
 
-/// The same of rows that are opened of one matrix each.
-const ROWS: [(List, [&str; 3]); 1] = [(
-    List::Rows,
-    [
-        "BatchOpenedValuesCountMismatch { batch: 0, expected: 2, got: 1 }",
-        "BatchOpenedValuesCountMismatch { batch: 0, expected: 2, got: 3 }",
-        "BatchOpenedValuesCountMismatch { batch: 0, expected: 2, got: 0 }",
-    ],
-)];
-
-const REFUSED_BY_SCHEMES: [(List, [&str; 3]); 5] = [
+/// The same of rows that are opened of one matrix each, and of lists that the schemes refuse.
+const OPENED: [(List, [&str; 3]); 6] = [
+    (
+        List::Rows,
+        [
+            "BatchOpenedValuesCountMismatch { batch: 0, expected: 2, got: 1 }",
+            "BatchOpenedValuesCountMismatch { batch: 0, expected: 2, got: 3 }",
+            "BatchOpenedValuesCountMismatch { batch: 0, expected: 2, got: 0 }",
+        ],
+    ),
     (List::Row, ["InputError(RowWidth)"; 3]),
     (List::InputPaths, ["InputError(QueryCount)"; 3]),
     (List::InputPath, ["InputError(PathLength)"; 3]),
@@ -262,59 +264,31 @@ const REFUSED_BY_SCHEMES: [(List, [&str; 3]); 5] = [
 /// Bits of a proof of work that the honest proof doesn't have.
 const MISSING_BITS: usize = 16;
 
-/// The first change of the list to which this isn't the answer.
-fn first_unmet(
+/// The first change of a list to which this isn't the answer.
+fn first_wrong(
     alloc: Global,
-    list: List,
-    texts: &[&str; 3],
+    cases: &[(List, [&str; 3])],
     query_bits: usize,
-) -> Result<Option<Change>, Fail> {
-    for (change, expected) in CHANGES.iter().zip(texts) {
-        if answer_to(alloc, Some((list, *change)), query_bits)?.as_str() != *expected {
-            return Ok(Some(*change));
+) -> Result<Option<(List, Change)>, Fail> {
+    for (list, texts) in cases {
+        for (change, expected) in CHANGES.iter().zip(texts) {
+            if !is_answered(alloc, Some((*list, *change)), query_bits, *expected)? {
+                return Ok(Some((*list, *change)));
+            }
         }
     }
     Ok(None)
 }
 
-fn assert_all(
-    rt: &impl Abort,
-    alloc: Global,
-    cases: &[(List, [&str; 3])],
-    query_bits: usize,
-) -> Result<(), Fail> {
-    for (list, texts) in cases {
-        let unmet = first_unmet(alloc, *list, texts, query_bits)?;
-        assert!(rt; unmet.is_none(), "{list:?}, {unmet:?}");
-    }
-    Ok(())
-}
-
-#[test]
-fn the_honest_proof_is_accepted(rt: HostRuntime) -> Result<(), Fail> {
-    assert!(rt; answer_to(rt.alloc(), None, 0)?.as_str() == "accepted");
-    Ok(())
-}
-
+/// Lists are counted before work is verified.
 #[test]
 fn lists_of_another_length_are_named(rt: HostRuntime) -> Result<(), Fail> {
-    assert_all(&rt, rt.alloc(), &COUNTED, 0)?;
-    assert_all(&rt, rt.alloc(), &ROWS, 0)
-}
-
-#[test]
-fn missing_work_of_the_queries_is_named(rt: HostRuntime) -> Result<(), Fail> {
-    let text = answer_to(rt.alloc(), None, MISSING_BITS)?;
-    assert!(rt; text.as_str() == "InvalidPowWitness(Query)");
+    assert!(rt; is_answered(rt.alloc(), None, 0, "accepted")?);
+    let missing = "InvalidPowWitness(Query)";
+    assert!(rt; is_answered(rt.alloc(), None, MISSING_BITS, missing)?);
+    let wrong = first_wrong(rt.alloc(), &COUNTED, 0)?
+        .or(first_wrong(rt.alloc(), &OPENED, 0)?)
+        .or(first_wrong(rt.alloc(), &COUNTED, MISSING_BITS)?);
+    assert!(rt; wrong.is_none(), "{wrong:?}");
     Ok(())
-}
-
-#[test]
-fn lists_are_counted_before_work_is_verified(rt: HostRuntime) -> Result<(), Fail> {
-    assert_all(&rt, rt.alloc(), &COUNTED, MISSING_BITS)
-}
-
-#[test]
-fn lists_that_the_schemes_refuse_are_named(rt: HostRuntime) -> Result<(), Fail> {
-    assert_all(&rt, rt.alloc(), &REFUSED_BY_SCHEMES, 0)
 }

@@ -3,7 +3,8 @@
 ghost use Rattle.std.specs.Prelude.{◌≡◌, [], ◌∷◌, IfOk, length, map};
 
 use crate::columns::{are_columns, column, columns, coset};
-use crate::scheme::{Domain, Scheme};
+use crate::parts::{Part, holds};
+use crate::scheme::Domain;
 use crate::tested::Tested;
 use p3_pcs::KnownCommitment;
 use std::alloc::{AllocError, Global};
@@ -109,25 +110,25 @@ pub(crate) fn commit_words<P: Tested>(
 }
 
 /// Whether the words of the preprocessed column are committed to.
-fn is_line_held<P: Tested>(alloc: Global) -> Result<bool, Fail> {
+pub(crate) fn is_line_held<P: Tested>(alloc: Global) -> Result<bool, Fail> {
     let committed = commit_line(&mut P::made(), alloc)?;
     Ok(P::holds(&committed.held, &[&WORD]))
 }
 
 #[test]
 fn preprocessed_columns_are_extended(rt: HostRuntime) -> Result<(), Fail> {
-    assert!(rt; is_line_held::<Scheme>(rt.alloc())?);
+    assert!(rt; holds(rt.alloc(), Part::LineHeld)?);
     Ok(())
 }
 
 /// Whether the words of `2 - X` from two cosets are committed to.
-fn are_words_held<P: Tested>(alloc: Global) -> Result<bool, Fail> {
+pub(crate) fn are_words_held<P: Tested>(alloc: Global) -> Result<bool, Fail> {
     let committed = commit_words(&mut P::made(), alloc, &[LINE, ON_COSET], &[&WORD, &WORD])?;
     Ok(P::holds(&committed.held, &[&WORD, &WORD]))
 }
 
 #[test]
 fn quotients_are_extended_from_their_cosets(rt: HostRuntime) -> Result<(), Fail> {
-    assert!(rt; are_words_held::<Scheme>(rt.alloc())?);
+    assert!(rt; holds(rt.alloc(), Part::WordsHeld)?);
     Ok(())
 }

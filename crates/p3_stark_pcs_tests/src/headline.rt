@@ -4,7 +4,7 @@
 ghost use Rattle.std.specs.Prelude.{◌≡◌, length, map};
 
 use crate::committed::{Committed, commit_line, listed};
-use crate::scheme::Scheme;
+use crate::parts::{Part, holds};
 use crate::tested::Tested;
 use crate::values::{MINUS_THREE, are_values, element};
 use p3_challenger::Sha256Challenger;
@@ -62,7 +62,7 @@ fn show_at_five<P: Tested>(
 }
 
 /// Whether `2 - X` at 5 is shown to be -3, and both sides end in one state that isn't the first.
-fn is_shown<P: Tested>(alloc: Global, index: Option<usize>) -> Result<bool, Fail> {
+pub(crate) fn is_shown<P: Tested>(alloc: Global, index: Option<usize>) -> Result<bool, Fail> {
     let mut scheme = P::made();
     let mut challenger = Sha256Challenger::new();
     let committed = commit_line(&mut scheme, alloc)?;
@@ -77,7 +77,7 @@ fn is_shown<P: Tested>(alloc: Global, index: Option<usize>) -> Result<bool, Fail
 #[test]
 fn a_preprocessed_column_is_opened_and_verified(rt: HostRuntime) -> Result<(), Fail> {
     for index in [None, Some(0), Some(7)] {
-        assert!(rt; is_shown::<Scheme>(rt.alloc(), index)?, "{index:?}");
+        assert!(rt; holds(rt.alloc(), Part::Shown(index))?, "{index:?}");
     }
     Ok(())
 }

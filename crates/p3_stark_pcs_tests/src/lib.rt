@@ -14,6 +14,8 @@ mod offered;
 #[cfg(test)]
 mod opened;
 #[cfg(test)]
+mod parts;
+#[cfg(test)]
 mod periodic;
 #[cfg(test)]
 mod scheme;

@@ -2,13 +2,13 @@
 
 use crate::columns::coset;
 use crate::committed::listed;
-use crate::scheme::Scheme;
+use crate::parts::{Part, holds};
 use crate::tested::Tested;
 use std::alloc::Global;
 use std::test::Fail;
 
 /// The logarithms of the least and of the greatest height of a trace, and whether it hides.
-fn heights<P: Tested>() -> (usize, usize, bool) {
+pub(crate) fn heights<P: Tested>() -> (usize, usize, bool) {
     let scheme = P::made();
     (
         scheme.log_min_trace_height(),
@@ -19,12 +19,12 @@ fn heights<P: Tested>() -> (usize, usize, bool) {
 
 #[test]
 fn heights_go_from_one_to_the_two_adicity(rt: HostRuntime) -> Result<(), Fail> {
-    assert!(rt; heights::<Scheme>() == (0, 27, false));
+    assert!(rt; holds(rt.alloc(), Part::Heights)?);
     Ok(())
 }
 
 /// Whether no random polynomials are committed to.
-fn is_none_random<P: Tested>(alloc: Global) -> Result<bool, Fail> {
+pub(crate) fn is_none_random<P: Tested>(alloc: Global) -> Result<bool, Fail> {
     let domains = listed(alloc, coset(1, 1)?)?;
     let mut scheme = P::made();
     match scheme.get_opt_randomization_poly_commitment(alloc, domains) {
@@ -36,6 +36,6 @@ fn is_none_random<P: Tested>(alloc: Global) -> Result<bool, Fail> {
 
 #[test]
 fn no_random_polynomials_are_committed_to(rt: HostRuntime) -> Result<(), Fail> {
-    assert!(rt; is_none_random::<Scheme>(rt.alloc())?);
+    assert!(rt; holds(rt.alloc(), Part::NoneRandom)?);
     Ok(())
 }

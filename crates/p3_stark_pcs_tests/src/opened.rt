@@ -3,7 +3,8 @@
 ghost use Rattle.std.specs.Prelude.{◌≡◌, length};
 
 use crate::committed::{Committed, ON_COSET, WORD, commit_line, commit_words, listed};
-use crate::scheme::{Domain, Scheme};
+use crate::parts::{Part, holds};
+use crate::scheme::Domain;
 use crate::tested::Tested;
 use crate::values::{MINUS_THREE, are_values, element};
 use p3_challenger::Sha256Challenger;
@@ -89,7 +90,10 @@ fn is_accepted<P: Tested>(
 }
 
 /// Whether it is, of committed words that are opened with this index.
-fn are_words_opened<P: Tested>(alloc: Global, index: Option<usize>) -> Result<bool, Fail> {
+pub(crate) fn are_words_opened<P: Tested>(
+    alloc: Global,
+    index: Option<usize>,
+) -> Result<bool, Fail> {
     let mut scheme = P::made();
     let committed = commit_words(&mut scheme, alloc, &[ON_COSET], &[&WORD])?;
     let opened = open_at_five(&scheme, alloc, committed, index)?;
@@ -97,7 +101,7 @@ fn are_words_opened<P: Tested>(alloc: Global, index: Option<usize>) -> Result<bo
 }
 
 /// Whether it is, of a preprocessed column that is verified with this index.
-fn is_line_opened<P: Tested>(alloc: Global, index: Option<usize>) -> Result<bool, Fail> {
+pub(crate) fn is_line_opened<P: Tested>(alloc: Global, index: Option<usize>) -> Result<bool, Fail> {
     let mut scheme = P::made();
     let committed = commit_line(&mut scheme, alloc)?;
     let opened = open_at_five(&scheme, alloc, committed, Some(0))?;
@@ -107,7 +111,7 @@ fn is_line_opened<P: Tested>(alloc: Global, index: Option<usize>) -> Result<bool
 #[test]
 fn committed_words_are_opened(rt: HostRuntime) -> Result<(), Fail> {
     for index in [None, Some(0), Some(7)] {
-        assert!(rt; are_words_opened::<Scheme>(rt.alloc(), index)?, "{index:?}");
+        assert!(rt; holds(rt.alloc(), Part::WordsOpened(index))?, "{index:?}");
     }
     Ok(())
 }
@@ -115,7 +119,7 @@ fn committed_words_are_opened(rt: HostRuntime) -> Result<(), Fail> {
 #[test]
 fn preprocessed_columns_are_opened(rt: HostRuntime) -> Result<(), Fail> {
     for index in [None, Some(0)] {
-        assert!(rt; is_line_opened::<Scheme>(rt.alloc(), index)?, "{index:?}");
+        assert!(rt; holds(rt.alloc(), Part::LineOpened(index))?, "{index:?}");
     }
     Ok(())
 }

@@ -1,7 +1,7 @@
 //! Tables of periodic columns along a trace of 8 rows, on the coset of 31 of 16 points.
 
 use crate::columns::coset;
-use crate::scheme::Scheme;
+use crate::parts::{Part, holds};
 use crate::tested::Tested;
 use p3_field::{BabyBear, Field};
 use p3_periodic::{PeriodicError, PeriodicLdeTable};
@@ -89,7 +89,7 @@ fn has_entries(
 }
 
 /// The first case that isn't met.
-fn first_wrong_table<P: Tested>(alloc: Global) -> Result<Option<&'static str>, Fail> {
+pub(crate) fn first_wrong_table<P: Tested>(alloc: Global) -> Result<Option<&'static str>, Fail> {
     for case in &TABLES {
         let table = table_of::<P>(alloc, case.columns)??;
         if table.height() != case.height || !has_entries(&table, case.entries) {
@@ -101,8 +101,7 @@ fn first_wrong_table<P: Tested>(alloc: Global) -> Result<Option<&'static str>, F
 
 #[test]
 fn tables_of_periodic_columns(rt: HostRuntime) -> Result<(), Fail> {
-    let wrong = first_wrong_table::<Scheme>(rt.alloc())?;
-    assert!(rt; wrong.is_none(), "{wrong:?}");
+    assert!(rt; holds(rt.alloc(), Part::Tables)?);
     Ok(())
 }
 
@@ -125,7 +124,7 @@ const MALFORMED: [(&[&[u64]], PeriodicError); 2] = [
 ];
 
 /// The first refusal that doesn't come.
-fn first_wrong_refusal<P: Tested>(alloc: Global) -> Result<Option<PeriodicError>, Fail> {
+pub(crate) fn first_wrong_refusal<P: Tested>(alloc: Global) -> Result<Option<PeriodicError>, Fail> {
     for (columns, expected) in &MALFORMED {
         if table_of::<P>(alloc, *columns)?.err() != Some(*expected) {
             return Ok(Some(*expected));
@@ -136,7 +135,6 @@ fn first_wrong_refusal<P: Tested>(alloc: Global) -> Result<Option<PeriodicError>
 
 #[test]
 fn a_malformed_periodic_column(rt: HostRuntime) -> Result<(), Fail> {
-    let wrong = first_wrong_refusal::<Scheme>(rt.alloc())?;
-    assert!(rt; wrong.is_none(), "{wrong:?}");
+    assert!(rt; holds(rt.alloc(), Part::Refusals)?);
     Ok(())
 }

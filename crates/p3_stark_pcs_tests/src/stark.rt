@@ -4,7 +4,8 @@ ghost use Rattle.std.specs.Prelude.{◌≡◌, ◌≢◌, [], All, map, IfOk};
 ghost use Rattle.p3_fri_extensions.specs.Extension.{FitsDomain};
 
 use crate::columns::{columns, domains_of};
-use crate::scheme::{Domain, Scheme};
+use crate::parts::{Part, holds};
+use crate::scheme::Domain;
 use crate::tested::Tested;
 use crate::values::{Coefficients, Values, are_values, element};
 use p3_challenger::Sha256Challenger;
@@ -53,14 +54,14 @@ fn stark_columns(alloc: Global) -> Result<StarkColumns<Domain, BabyBear>, Fail>
 
 /// A point with its successor, and the values that are opened.
 #[derive(Clone, Copy)]
-struct Case {
+pub(crate) struct Case {
     point: Coefficients,
     successor: Coefficients,
     values: Values<'static>,
 }
 
 /// Whether the columns have these values, and both sides end in one state that isn't the first.
-fn are_opened<P: Tested>(alloc: Global, case: &Case) -> Result<bool, Fail> {
+pub(crate) fn are_opened<P: Tested>(alloc: Global, case: &Case) -> Result<bool, Fail> {
     let columns = stark_columns(alloc)?;
     let mut scheme = P::made();
     let mut challenger = Sha256Challenger::new();
@@ -114,7 +115,7 @@ const CASES: [Case; 2] = [
 #[test]
 fn columns_of_a_stark_are_opened(rt: HostRuntime) -> Result<(), Fail> {
     for case in &CASES {
-        assert!(rt; are_opened::<Scheme>(rt.alloc(), case)?, "{:?}", case.point);
+        assert!(rt; holds(rt.alloc(), Part::Stark(*case))?, "{:?}", case.point);
     }
     Ok(())
 }

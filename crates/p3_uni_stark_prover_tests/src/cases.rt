@@ -124,32 +124,31 @@ fn outcomes(
 
 #[test]
 fn proofs_are_verified(rt: HostRuntime) -> Result<(), Fail> {
-    for (system, plain, hiding) in ACCEPTED {
-        let found = outcomes(rt.alloc(), system, HEIGHT, Change::Nothing)?;
-        let expected = (Outcome::Accepted(plain), Outcome::Accepted(hiding));
-        assert!(rt; found == expected, "{system:?}: {found:?}");
+    for (index, (system, plain, hiding)) in ACCEPTED.iter().enumerate() {
+        let found = outcomes(rt.alloc(), *system, HEIGHT, Change::Nothing)?;
+        let expected = (Outcome::Accepted(*plain), Outcome::Accepted(*hiding));
+        assert!(rt; found == expected, "case {index}");
     }
     Ok(())
 }
 
 #[test]
 fn small_traces_are_proved_or_refused(rt: HostRuntime) -> Result<(), Fail> {
-    for (system, height, plain, hiding) in SMALL {
-        let found = outcomes(rt.alloc(), system, height, Change::Nothing)?;
-        let expected = (Outcome::Accepted(plain), hiding);
-        assert!(rt; found == expected, "{system:?}, {height} rows: {found:?}");
+    for (index, (system, height, plain, hiding)) in SMALL.iter().enumerate() {
+        let found = outcomes(rt.alloc(), *system, *height, Change::Nothing)?;
+        assert!(rt;
+            found == (Outcome::Accepted(*plain), *hiding),
+            "case {index}"
+        );
     }
     Ok(())
 }
 
 #[test]
 fn what_is_changed_is_refused(rt: HostRuntime) -> Result<(), Fail> {
-    for (system, height, change, expected) in REFUSED {
-        let found = outcomes(rt.alloc(), system, height, change)?;
-        assert!(rt;
-            found == (expected, expected),
-            "{system:?}, {height} rows, {change:?}: {found:?}"
-        );
+    for (index, (system, height, change, expected)) in REFUSED.iter().enumerate() {
+        let found = outcomes(rt.alloc(), *system, *height, *change)?;
+        assert!(rt; found == (*expected, *expected), "case {index}");
     }
     Ok(())
 }

@@ -4,6 +4,8 @@
 #[cfg(test)]
 mod cases;
 #[cfg(test)]
+mod commits;
+#[cfg(test)]
 mod forms;
 #[cfg(test)]
 mod instances;

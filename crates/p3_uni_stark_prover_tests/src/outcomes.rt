@@ -18,7 +18,7 @@ use std::alloc::Global;
 use std::test::Fail;
 
 /// What is changed, by one.
-#[derive(Clone, Copy, Debug)]
+#[derive(Clone, Copy)]
 pub(crate) enum Change {
     Nothing,
     /// The entry of this row and column of the trace.
@@ -32,7 +32,7 @@ pub(crate) enum Change {
 }
 
 /// What comes of it.
-#[derive(Clone, Copy, Debug, PartialEq, Eq)]
+#[derive(Clone, Copy, PartialEq, Eq)]
 pub(crate) enum Outcome {
     /// The trace satisfies its constraints, the proof is accepted, and both challengers are in one
     /// state, which draws this next.

@@ -43,7 +43,7 @@ type Proved<P> = Result<
 type Verified<P> = Result<(), VerificationError<<P as Pcs<BabyBear4, Sha256Challenger>>::Error>>;
 
 /// A list of one.
-fn one<T: Drop>(alloc: Global, value: T) -> Result<Vec<T>, AllocError>
+pub(crate) fn one<T: Drop>(alloc: Global, value: T) -> Result<Vec<T>, AllocError>
     ensures { IfOk result (λ all. all.items ≡ value ∷ []) }
 {
     let mut all = Vec::with_capacity(alloc, 1)?;

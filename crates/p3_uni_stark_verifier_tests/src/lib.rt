@@ -5,6 +5,8 @@ mod belief;
 #[cfg(test)]
 mod believing;
 #[cfg(test)]
+mod changes;
+#[cfg(test)]
 mod made;
 #[cfg(test)]
 mod numbers;

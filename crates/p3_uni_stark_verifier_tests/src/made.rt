@@ -81,8 +81,8 @@ fn outline<F, EF>(alloc: Global, shown: &Shown) -> Parts<F, EF> {
     }
 }
 
-/// Fills the statement's lists.
-fn fill_statement<F: Field, EF>(
+/// Fills the lists of the statement and of opened values.
+fn fill<F: Field, EF: ExtensionField<F>>(
     alloc: Global,
     parts: &mut Parts<F, EF>,
     shown: &Shown,
@@ -90,15 +90,8 @@ fn fill_statement<F: Field, EF>(
     push_nodes(&mut parts.air.nodes, shown.nodes)?;
     parts.air.constraints.extend_from_slice(shown.constraints)?;
     push_elements(&mut parts.public_values, shown.public_values)?;
-    push_columns(alloc, &mut parts.periodic, shown.periodic)
-}
-
-/// Fills the lists of opened values.
-fn fill_values<F: Field, EF: ExtensionField<F>>(
-    alloc: Global,
-    values: &mut OpenedValues<EF>,
-    shown: &Shown,
-) -> Result<(), AllocError> {
+    push_columns(alloc, &mut parts.periodic, shown.periodic)?;
+    let values = &mut parts.proof.opened_values;
     push_extensions::<F, EF>(&mut values.trace_local, shown.trace_local)?;
     push_extensions::<F, EF>(&mut values.trace_next, shown.trace_next)?;
     push_extensions::<F, EF>(&mut values.preprocessed_local, shown.preprocessed_local)?;
@@ -113,8 +106,7 @@ fn parts_over<F: Field, EF: ExtensionField<F>>(
     shown: &Shown,
 ) -> Result<Parts<F, EF>, AllocError> {
     let mut parts = outline(alloc, shown);
-    fill_statement(alloc, &mut parts, shown)?;
-    fill_values::<F, EF>(alloc, &mut parts.proof.opened_values, shown)?;
+    fill(alloc, &mut parts, shown)?;
     Ok(parts)
 }
 

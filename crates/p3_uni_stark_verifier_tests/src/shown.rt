@@ -267,7 +267,7 @@ const HIDDEN_CUBES: Shown = Shown {
 };
 
 /// Which of them is shown.
-#[derive(Clone, Copy, Debug)]
+#[derive(Clone, Copy)]
 pub(crate) enum Proven {
     Fibonacci,
     Cubes,

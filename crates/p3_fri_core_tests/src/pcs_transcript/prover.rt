@@ -24,7 +24,8 @@ pub(crate) fn proves_in_steps<
     values: &OpenedValues<EF>,
     run: &PcsRun<F, EF>,
 ) -> bool
-    requires { bits ≤ C.MAX_SAMPLE_BITS }
+    requires widths { 63 ≤ C.MAX_SAMPLE_BITS }
+    requires bits { bits ≤ 63 }
 {
     let Ok(shape) = PcsShape::from_opened_values(alloc, &parameters(bits), values) else {
         return false;
@@ -68,13 +69,14 @@ pub(crate) fn proves_as_a_whole<
     let Ok(test) = test_of(alloc, &[3], 2, 3) else {
         return false;
     };
+    let commitments = [[7u8; 32]];
     match play_pcs(
         alloc,
         challenger,
         shape,
         values,
         test,
-        &[[7u8; 32]],
+        &commitments,
         final_poly,
     ) {
         Ok(played) => run.is_played(&played),

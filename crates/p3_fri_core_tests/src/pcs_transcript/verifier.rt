@@ -2,9 +2,9 @@
 
 ghost use Rattle.std.specs.Prelude.{◌≤◌};
 
-use crate::pcs_transcript::cases::{Answer, Case, Claim, Counts, Form, PcsRun};
+use crate::pcs_transcript::cases::{Answer, Claim, Counts, PcsRun};
 use crate::pcs_transcript::shapes::{parameters, shape_of};
-use crate::run::{shape_of as test_of, sole, witness_of};
+use crate::run::shape_of as test_of;
 use p3_challenger::{CanObserve, FieldChallenger, GrindingChallenger};
 use p3_field::{ExtensionField, Field};
 use p3_fri_core::pcs_transcript::{
@@ -19,7 +19,7 @@ fn refused(failure: PcsTranscriptFailure) -> Answer {
 }
 
 /// What the verifier returns for claims where these counts are described.
-fn compare<
+pub(crate) fn compare<
     F: Field,
     EF: ExtensionField<F>,
     C: FieldChallenger<F> + GrindingChallenger<Witness = F>,
@@ -39,7 +39,7 @@ fn compare<
 }
 
 /// The verifier's steps, with nothing inside the bracket.
-fn verify_in_steps<
+pub(crate) fn verify_in_steps<
     F: Field,
     EF: ExtensionField<F>,
     C: FieldChallenger<F> + GrindingChallenger<Witness = F>,
@@ -51,7 +51,8 @@ fn verify_in_steps<
     witness: Option<F>,
     run: &PcsRun<F, EF>,
 ) -> Answer
-    requires { bits ≤ C.MAX_SAMPLE_BITS }
+    requires widths { 63 ≤ C.MAX_SAMPLE_BITS }
+    requires bits { bits ≤ 63 }
 {
     let Ok(shape) = PcsShape::from_claims(alloc, &parameters(bits), claims) else {
         return Err(Refusal::Seed);
@@ -59,29 +60,24 @@ fn verify_in_steps<
     let Ok(mut transcript) = PcsVerifierTranscript::<C, F, EF>::new(alloc, challenger, shape) else {
         return Err(Refusal::Seed);
     };
-    match transcript.claimed_openings(claims) {
-        Ok(()) => {}
-        Err(failure) => {
-            transcript.abort();
-            return refused(failure);
-        }
-    }
-    match transcript.batch_phase(witness) {
-        Ok(alpha) => {
-            let _lent = transcript.begin_delegate();
-            transcript.end_delegate();
-            transcript.finish();
-            Ok(alpha == run.alpha)
-        }
-        Err(failure) => {
-            transcript.abort();
-            refused(failure)
-        }
-    }
+    let failure = match transcript.claimed_openings(claims) {
+        Ok(()) => match transcript.batch_phase(witness) {
+            Ok(alpha) => {
+                let _lent = transcript.begin_delegate();
+                transcript.end_delegate();
+                transcript.finish();
+                return Ok(alpha == run.alpha);
+            }
+            Err(failure) => failure,
+        },
+        Err(failure) => failure,
+    };
+    transcript.abort();
+    refused(failure)
 }
 
 /// The verifier's whole opening behind four bits, with a test of one round.
-fn verify_as_a_whole<
+pub(crate) fn verify_as_a_whole<
     F: Field,
     EF: ExtensionField<F>,
     C: FieldChallenger<F> + GrindingChallenger<Witness = F> + CanObserve<[u8; 32]>,
@@ -89,7 +85,7 @@ fn verify_as_a_whole<
     alloc: Global,
     challenger: &mut C,
     claims: &[Claim<EF>],
-    batch_witness: Option<F>,
+    witness: Option<F>,
     sent: FriMessages<'_, F, EF, [u8; 32]>,
     run: &PcsRun<F, EF>,
 ) -> Answer
@@ -101,35 +97,8 @@ fn verify_as_a_whole<
     let Ok(test) = test_of(alloc, &[3], 2, 3) else {
         return Err(Refusal::Seed);
     };
-    match replay_pcs(alloc, challenger, shape, claims, batch_witness, test, sent) {
-        Ok(replayed) => {
-            let beta = sole(&replayed.betas);
-            Ok(replayed.alpha == run.alpha && run.test.draws(beta, &replayed.indices))
-        }
+    match replay_pcs(alloc, challenger, shape, claims, witness, test, sent) {
+        Ok(replayed) => Ok(run.is_replayed(&replayed)),
         Err(refusal) => Err(refusal),
     }
-}
-
-/// What the verifier returns in this case.
-pub(crate) fn verify<
-    F: Field,
-    EF: ExtensionField<F>,
-    C: FieldChallenger<F> + GrindingChallenger<Witness = F> + CanObserve<[u8; 32]>,
->(
-    alloc: Global,
-    challenger: &mut C,
-    case: &Case,
-    claims: &[Claim<EF>],
-    sent: FriMessages<'_, F, EF, [u8; 32]>,
-    run: &PcsRun<F, EF>,
-) -> Answer
-    requires { 63 ≤ C.MAX_SAMPLE_BITS }
-{
-    let (bits, witness) = (case.bits.min(63), witness_of(case.batch_witness));
-    match case.form {
-        Form::Claims => return compare::<F, EF, C>(alloc, challenger, case.described, claims),
-        Form::Steps => return verify_in_steps(alloc, challenger, bits, claims, witness, run),
-        Form::Whole => {}
-    }
-    verify_as_a_whole(alloc, challenger, claims, witness, sent, run)
 }

@@ -22,38 +22,29 @@ pub(crate) fn verify_in_steps<
     sent: FriMessages<'_, F, EF, [u8; 32]>,
     run: &Run<F, EF>,
 ) -> Answer
-    requires commit_bits { case.now.commit_pow_bits ≤ C.MAX_SAMPLE_BITS }
-    requires query_bits { case.now.query_pow_bits ≤ C.MAX_SAMPLE_BITS }
-    requires index_bits { 3 ≤ C.MAX_SAMPLE_BITS }
+    requires widths { 63 ≤ C.MAX_SAMPLE_BITS }
+    requires commit_bits { case.now.commit_pow_bits ≤ 63 }
+    requires query_bits { case.now.query_pow_bits ≤ 63 }
 {
-    let Ok(shape) = shape_of(
-        alloc,
-        case.log_arities,
-        case.commit_pow_bits,
-        case.query_pow_bits,
-    ) else {
+    let (commit_bits, query_bits) = (case.commit_pow_bits, case.query_pow_bits);
+    let Ok(shape) = shape_of(alloc, case.log_arities, commit_bits, query_bits) else {
         return Err(Refusal::Seed);
     };
     let Ok(mut transcript) = VerifierTranscript::<C, F, EF>::new(alloc, challenger, shape) else {
         return Err(Refusal::Seed);
     };
-    let beta = match transcript.commit_rounds(alloc, sent.commitments, sent.commit_witnesses) {
-        Ok(betas) => sole(&betas),
-        Err(failure) => {
-            transcript.abort();
-            return Err(Refusal::Step(failure));
-        }
+    let failure = match transcript.commit_rounds(alloc, sent.commitments, sent.commit_witnesses) {
+        Ok(betas) => match transcript.query_phase(alloc, sent.final_poly, sent.query_witness) {
+            Ok(indices) => {
+                transcript.finish();
+                return Ok(run.draws(sole(&betas), &indices));
+            }
+            Err(failure) => failure,
+        },
+        Err(failure) => failure,
     };
-    match transcript.query_phase(alloc, sent.final_poly, sent.query_witness) {
-        Ok(indices) => {
-            transcript.finish();
-            Ok(run.draws(beta, &indices))
-        }
-        Err(failure) => {
-            transcript.abort();
-            Err(Refusal::Step(failure))
-        }
-    }
+    transcript.abort();
+    Err(Refusal::Step(failure))
 }
 
 /// The verifier's whole transcript in this case.
@@ -68,16 +59,12 @@ pub(crate) fn verify_as_a_whole<
     sent: FriMessages<'_, F, EF, [u8; 32]>,
     run: &Run<F, EF>,
 ) -> Answer
-    requires commit_bits { case.now.commit_pow_bits ≤ C.MAX_SAMPLE_BITS }
-    requires query_bits { case.now.query_pow_bits ≤ C.MAX_SAMPLE_BITS }
-    requires index_bits { 3 ≤ C.MAX_SAMPLE_BITS }
+    requires widths { 63 ≤ C.MAX_SAMPLE_BITS }
+    requires commit_bits { case.now.commit_pow_bits ≤ 63 }
+    requires query_bits { case.now.query_pow_bits ≤ 63 }
 {
-    let Ok(shape) = shape_of(
-        alloc,
-        case.log_arities,
-        case.commit_pow_bits,
-        case.query_pow_bits,
-    ) else {
+    let (commit_bits, query_bits) = (case.commit_pow_bits, case.query_pow_bits);
+    let Ok(shape) = shape_of(alloc, case.log_arities, commit_bits, query_bits) else {
         return Err(Refusal::Seed);
     };
     match replay_fri(alloc, challenger, shape, sent) {
@@ -92,12 +79,8 @@ pub(crate) fn absorb_seed<F: Field, EF: ExtensionField<F>, C: FieldChallenger<F>
     challenger: &mut C,
     case: &Case,
 ) -> Result<(), AllocError> {
-    let shape = shape_of(
-        alloc,
-        case.log_arities,
-        case.commit_pow_bits,
-        case.query_pow_bits,
-    )?;
+    let (commit_bits, query_bits) = (case.commit_pow_bits, case.query_pow_bits);
+    let shape = shape_of(alloc, case.log_arities, commit_bits, query_bits)?;
     let seed = shape.seed::<F, EF>(alloc)?;
     let _script = Script::start::<F, C>(challenger, seed);
     Ok(())

@@ -2,6 +2,7 @@
 
 ghost use Rattle.std.specs.Prelude.{◌≡◌, [], ◌∷◌, length, IfOk};
 
+use crate::calls::batches::{Batches, QuotientChunks, commit_and_open_batches};
 use crate::judged::{Call, Opening, are_moved, judge};
 use crate::matrices::{Entries, SHORT_E, SHORT_PI, coset, evaluations};
 use crate::openings::shapes::first_value;
@@ -12,19 +13,17 @@ use p3_challenger::Sha256Challenger;
 use p3_field::{BabyBear, BabyBear4, ExtensionField, Field};
 use p3_mmcs::OpenedValues;
 use p3_pcs::{KnownCommitment, Pcs};
-use p3_stark_pcs::UnivariateStarkPcs;
-use p3_test_openings::batches::{Batches, QuotientChunks, commit_and_open_batches};
 use p3_test_openings::listed::{listed, pair};
 use std::alloc::Global;
 use std::test::Fail;
 
 /// What is known of a commitment to random polynomials on this domain, and the data, which may be
 /// opened.
-fn commit_random<EF: Copy, C, P: UnivariateStarkPcs<EF, C>>(
+fn commit_random<P: Tested>(
     scheme: &mut P,
     alloc: Global,
-    domain: P::Domain,
-) -> Result<(KnownCommitment<P::Commitment, P::Domain>, P::ProverData), Fail>
+    domain: Domain,
+) -> Result<(KnownCommitment<[u8; 32], Domain>, P::ProverData), Fail>
     requires { (P.stark_rules scheme.old).CanRandomize (domain ∷ []) }
     ensures kept { P.Keeps scheme.old scheme.new }
     ensures openable { IfOk result (λ pair. (P.rules scheme.new).CanOpen pair.1) }
@@ -34,7 +33,8 @@ fn commit_random<EF: Copy, C, P: UnivariateStarkPcs<EF, C>>(
     let domains = listed(alloc, domain)?;
     let randomized = listed(alloc, domain)?;
     match scheme.get_opt_randomization_poly_commitment(alloc, randomized) {
-        Ok(Some((commitment, held))) => {
+        Ok(Some(pair)) => {
+            let (commitment, held) = pair;
             let known = KnownCommitment {
                 commitment,
                 domains,
@@ -115,8 +115,8 @@ fn open_all<P: Tested>(
         chunks,
         domains: pair(alloc, domain, domain)?,
     };
-    let random = commit_random::<BabyBear4, Sha256Challenger, P>(&mut scheme, alloc, domain)?;
-    commit_and_open_batches::<BabyBear4, Sha256Challenger, P>(
+    let random = commit_random(&mut scheme, alloc, domain)?;
+    commit_and_open_batches(
         &mut scheme,
         alloc,
         random,

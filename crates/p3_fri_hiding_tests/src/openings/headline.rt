@@ -1,5 +1,6 @@
 //! The headline at a scheme that hides.
 
+use crate::calls::both::commit_and_show_both;
 use crate::judged::are_moved;
 use crate::matrices::{E, POINTS, SHORT_PI, element, points};
 use crate::openings::{Question, holds};
@@ -7,7 +8,6 @@ use crate::scheme::SMALL;
 use crate::tested::Tested;
 use p3_challenger::Sha256Challenger;
 use p3_field::BabyBear4;
-use p3_test_openings::both::commit_and_show_both;
 use p3_test_openings::one::commit_and_show;
 use std::alloc::Global;
 use std::test::Fail;
@@ -36,7 +36,7 @@ pub(crate) fn are_columns_accepted<P: Tested>(alloc: Global) -> Result<bool, Fai
     let mut scheme = P::of(SMALL);
     let public_column = scheme.column_of(alloc, &SHORT_PI)?;
     let private_column = scheme.column_of(alloc, &E[16..])?;
-    let shown = commit_and_show_both::<BabyBear4, Sha256Challenger, P>(
+    let shown = commit_and_show_both(
         &mut scheme,
         alloc,
         public_column,

@@ -2,6 +2,8 @@
 //! the claims, its own numbers or the index of preprocessing aren't those of the opening; and
 //! preprocessing opened again and again.
 
+use crate::calls::both::{OfBoth, commit_and_open_both};
+use crate::calls::preprocessed::{Answer, open_twice};
 use crate::judged::{Call, Outcome, are_moved, judge};
 use crate::matrices::{E, POINTS, SHORT_PI, coset, element};
 use crate::openings::changes::{Change, change_claims};
@@ -11,10 +13,6 @@ use crate::scheme::{SMALL, Setting, VerifierError};
 use crate::tested::Tested;
 use p3_challenger::Sha256Challenger;
 use p3_field::{BabyBear4, Field};
-use p3_fri_masks::HidingFriProverError;
-use p3_mmcs::OpenedValues;
-use p3_test_openings::both::{OfBoth, commit_and_open_both};
-use p3_test_openings::preprocessed::open_twice;
 use std::alloc::Global;
 use std::test::Fail;
 
@@ -171,7 +169,7 @@ pub(crate) fn outcome_of<P: Tested>(alloc: Global, case: &Case) -> Result<Outcom
         made,
         preprocessed,
         private,
-    } = commit_and_open_both::<BabyBear4, Sha256Challenger, P>(
+    } = commit_and_open_both(
         &mut scheme,
         alloc,
         public_column,
@@ -226,8 +224,6 @@ fn is_answered(alloc: Global, case: &Case, outcome: &Outcome) -> bool {
     }
 }
 
-type Answer<Proof> = Result<(OpenedValues<BabyBear4>, Proof), HidingFriProverError>;
-
 /// Whether the one value is zero, with no random values beside it.
 fn is_zero<P: Tested>(answer: &Answer<P::Proof>) -> bool {
     match answer {
@@ -244,7 +240,7 @@ fn is_zero<P: Tested>(answer: &Answer<P::Proof>) -> bool {
 pub(crate) fn are_zeros_opened_twice<P: Tested>(alloc: Global) -> Result<bool, Fail> {
     let mut scheme = P::of(SMALL);
     let column = scheme.column_of(alloc, &[0; 16])?;
-    let (first, second, held) = open_twice::<BabyBear4, Sha256Challenger, P>(
+    let (first, second, held) = open_twice(
         &mut scheme,
         alloc,
         column,

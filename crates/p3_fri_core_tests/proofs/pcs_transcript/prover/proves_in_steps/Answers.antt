@@ -9,5 +9,4 @@ batch_phase-requires-clause-at_most_max g c =
     ap (λ (s : PcsNumbers). s.batch_pow_bits)
     (c.claimed_openings.ensures.kept.shape ∙ c.in-Ok-new.ensures.starts.shape ∙ c.in-Ok.ensures)
     ∙ c.parameters.ensures in
-    let within = c.requires in
-    omega (arith, same, within)
+    omega (arith, same, c.requires.widths, c.requires.bits)

@@ -1,0 +1,94 @@
+//! Points of a domain, what vanishes on it, and a domain disjoint from it.
+
+use crate::domain::numbers::{domain, extension, numbers};
+use p3_domain::PolynomialSpace;
+use p3_field::{BabyBear, Field, PrimeField64};
+use std::alloc::Global;
+use std::test::Fail;
+
+/// A domain's shift and the logarithm of its size, its points, and the value at
+/// `2 + 7X + X^2 + 8X^3` of what vanishes on it.
+const DOMAINS: [(u64, usize, &[u64], [u64; 4]); 3] = [
+    (
+        1,
+        3,
+        &[
+            1, 1592366214, 1728404513, 211723194, 2013265920, 420899707, 284861408, 1801542727,
+        ],
+        [842895670, 213290107, 1078276407, 1744820774],
+    ),
+    (
+        31,
+        2,
+        &[31, 1235625957, 2013265890, 777639964],
+        [328921157, 1226538295, 873207806, 1434640075],
+    ),
+    (7, 0, &[7], [1725656503, 1, 862828252, 862828253]),
+];
+
+/// The points from the first on, as many as the domain has, and the one that comes next.
+fn walk<D: PolynomialSpace>(alloc: Global, domain: &D) -> Result<Vec<D::Val>, Fail> {
+    let mut point = domain.first_point();
+    let mut points = Vec::new(alloc);
+    points.push(point)?;
+    for _ in 0..domain.size() {
+        match domain.next_point(point) {
+            Some(next) => point = next,
+            None => return Err(Fail::new("no next point")),
+        }
+        points.push(point)?;
+    }
+    Ok(points)
+}
+
+/// The index of the first domain whose points or vanishing value are others.
+fn first_wrong_domain(alloc: Global) -> Result<Option<usize>, Fail> {
+    for (index, (shift, log_size, points, vanishing)) in DOMAINS.iter().enumerate() {
+        let domain = domain(*shift, *log_size)?;
+        let mut found = Vec::new(alloc);
+        for point in &walk(alloc, &domain)? {
+            found.push(point.as_canonical_u64())?;
+        }
+        let mut wanted = Vec::from_slice(alloc, *points)?;
+        wanted.push(*shift)?;
+        let value = PolynomialSpace::vanishing_poly_at_point(&domain, extension([2, 7, 1, 8]));
+        if found != wanted || numbers(value) != *vanishing {
+            return Ok(Some(index));
+        }
+    }
+    Ok(None)
+}
+
+#[test]
+fn points_go_round(rt: HostRuntime) -> Result<(), Fail> {
+    assert!(rt; first_wrong_domain(rt.alloc())? == None);
+    Ok(())
+}
+
+/// A domain's shift, how many points another is to have, and its shift and log size.
+const DISJOINT: [(u64, usize, Option<(u64, usize)>); 6] = [
+    (1, 5, Some((31, 3))),
+    (7, 8, Some((217, 3))),
+    (7, 0, Some((217, 0))),
+    (7, 1, Some((217, 0))),
+    (1, 1 << 27, Some((31, 27))),
+    (1, (1 << 27) + 1, None),
+];
+
+/// The index of the first case in which there is another disjoint domain.
+fn first_wrong_disjoint() -> Result<Option<usize>, Fail> {
+    for (index, (shift, min_size, wanted)) in DISJOINT.iter().enumerate() {
+        let other = domain(*shift, 3)?.create_disjoint_domain(*min_size);
+        let found = other.map(|other| (other.shift().as_canonical_u64(), other.log_size()));
+        if found != *wanted {
+            return Ok(Some(index));
+        }
+    }
+    Ok(None)
+}
+
+#[test]
+fn disjoint_domains(rt: HostRuntime) -> Result<(), Fail> {
+    assert!(rt; first_wrong_disjoint()? == None);
+    Ok(())
+}

@@ -1,0 +1,5 @@
+//! Tests of `p3_periodic`.
+
+mod columns;
+mod points;
+mod tables;

@@ -1,6 +1,0 @@
-use Rattle.std.proofs.Common.{All, take}
-use Rattle.p3_fri_openings.specs.Rounds.{IsRound}
-use Rattle.p3_fri_batch_tests.proofs.rounds.are_rounds.Given as goal
-
-abbrev pub invariant-loop-round : goal.invariant-loop-round
-invariant-loop-round g l = All (IsRound g.F.TwoAdicField.TWO_ADICITY) (take l.round-index l.rounds)

@@ -1,7 +1,0 @@
-//! Tests of the words of quotients.
-#![tactic(auto)]
-
-#[cfg(test)]
-mod rounds;
-#[cfg(test)]
-mod words;

@@ -1,7 +1,0 @@
-//! Tests of `p3_fri_extensions`.
-#![tactic(auto)]
-
-#[cfg(test)]
-mod evaluations;
-#[cfg(test)]
-mod words;
