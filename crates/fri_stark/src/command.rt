@@ -6,11 +6,12 @@ use crate::report::{
     report_verdict,
 };
 use fri_stark_json::{
-    Accepted, Failure, HidingScheme, MALFORMED, PlainScheme, PublicValues, Refusal, System, Trace,
-    check, prove, read, seed_of, verify,
+    Accepted, Failure, HidingScheme, MALFORMED, MadeScheme, PlainScheme, PublicValues, Refusal,
+    System, Trace, check, prove, read, seed_of, verify,
 };
 use p3_fri_folding::FriProverError;
-use serde::Deserialize;
+use p3_fri_plain::Plain;
+use serde::{Deserialize, Serialize};
 use std::io::ErrorKind;
 use std::{env, io};
 
@@ -90,9 +91,19 @@ fn run_check(rt: &HostRuntime, air: &String, trace: &String) -> Result<u8, u8> {
     }
 }
 
-/// Prints a proof, or why there is none.
-fn print_proof<E: Refusal>(rt: &HostRuntime, proved: Result<String, Failure<E>>) -> u8 {
-    let mut line = match proved {
+/// Prints a proof that the trace satisfies the system, or why there is none.
+fn print_proof<P: MadeScheme>(
+    rt: &HostRuntime,
+    system: &System,
+    trace: &Trace,
+    seed: [u8; 32],
+) -> u8
+where
+    P::ProverError: Refusal,
+    P::Proof: Plain,
+    <P::Proof as Plain>::Form: Serialize,
+{
+    let mut line = match prove::<P>(rt.alloc(), system, trace, seed) {
         Ok(line) => line,
         Err(failure) => return report_failure(rt, &failure),
     };
@@ -114,30 +125,17 @@ fn run_prove(
     let system: System = record_in(rt, air, air_text.as_str())?;
     let trace: Trace = record_in(rt, trace, trace_text.as_str())?;
     match seed {
-        None => {
-            // the plain scheme draws nothing
-            let proved = prove::<PlainScheme>(rt.alloc(), &system, &trace, [0; 32]);
-            Ok(print_proof(rt, proved))
-        },
+        // the plain scheme draws nothing
+        None => Ok(print_proof::<PlainScheme>(rt, &system, &trace, [0; 32])),
         Some(file) => {
             let seed = seed_in(rt, file)?;
-            let proved = prove::<HidingScheme>(rt.alloc(), &system, &trace, seed);
-            Ok(print_proof(rt, proved))
+            Ok(print_proof::<HidingScheme>(rt, &system, &trace, seed))
         },
     }
 }
 
-/// Prints what was accepted, or why the proof is refused.
-fn print_accepted<E: Refusal>(
-    rt: &HostRuntime,
-    proof: &String,
-    verified: Result<Accepted, Failure<E>>,
-) -> u8 {
-    let accepted = match verified {
-        Ok(accepted) => accepted,
-        Err(failure) if failure.is_of_form() => return report_file(rt, proof.as_str(), &failure),
-        Err(failure) => return report_verdict(rt, &failure),
-    };
+/// Prints what was accepted.
+fn print_accepted(rt: &HostRuntime, accepted: Accepted) -> u8 {
     let (log_height, bits) = (accepted.log_height, accepted.soundness_bits);
     if bits < FEW_BITS {
         // the answer doesn't hang on it: its last line has the number
@@ -146,6 +144,26 @@ fn print_accepted<E: Refusal>(
     match println!(rt; "accepted\nlog_height {log_height}\nconjectured soundness bits {bits}") {
         Ok(()) => 0,
         Err(_) => WRITE_FAILED,
+    }
+}
+
+/// Prints what is accepted of a file's proof, or why it is refused.
+fn print_verdict<'de, P: MadeScheme>(
+    rt: &HostRuntime,
+    system: &System,
+    publics: &PublicValues,
+    proof: &String,
+    text: &'de str,
+) -> u8
+where
+    P::ProverError: Refusal,
+    P::Proof: Plain,
+    <P::Proof as Plain>::Form: Deserialize<'de>,
+{
+    match verify::<P>(rt.alloc(), system, publics, text) {
+        Ok(accepted) => print_accepted(rt, accepted),
+        Err(failure) if failure.is_of_form() => report_file(rt, proof.as_str(), &failure),
+        Err(failure) => report_verdict(rt, &failure),
     }
 }
 
@@ -163,11 +181,9 @@ fn run_verify(
     let system: System = record_in(rt, air, air_text.as_str())?;
     let publics: PublicValues = record_in(rt, publics, publics_text.as_str())?;
     if hides {
-        let verified = verify::<HidingScheme>(rt.alloc(), &system, &publics, text.as_str());
-        return Ok(print_accepted(rt, proof, verified));
+        return Ok(print_verdict::<HidingScheme>(rt, &system, &publics, proof, text.as_str()));
     }
-    let verified = verify::<PlainScheme>(rt.alloc(), &system, &publics, text.as_str());
-    Ok(print_accepted(rt, proof, verified))
+    Ok(print_verdict::<PlainScheme>(rt, &system, &publics, proof, text.as_str()))
 }
 
 /// Does what the command's arguments ask for, and gives the status.

@@ -34,8 +34,8 @@ module _ {P V E C Com Dom D Opening Error ProverError : Type 0} (canonical : V �
       pub kept : AreKept (StarkSetting.scheme (setting made)) (StarkSetting.scheme (setting scheme))
 
     module _ (IsForm : Proof E Com Opening → Type 0) (n : SystemNumbers) (c : C) where
-      -- over such a scheme a proof of this form, of a trace of `2^k` rows, is accepted of the system
-      -- with these numbers, from the state `c`
+      -- over such a scheme a proof of this form, of a trace of `2^k` rows, is accepted of the
+      -- system with these numbers, from the state `c`
       pub record IsAccepted (k : ℕ) : Type 0 where
         pub scheme : P
         pub is_of : IsSchemeOf scheme
@@ -68,7 +68,8 @@ module _ {P ProverError : Type 0} (IsMade : P → Type 0) where
   -- why there is no proof, where this is why a scheme's prover refuses
   abbrev pub NoProof : (Refuses : (made after : P) → SystemProvingError ProverError → Type 0)
       → Parameters → Failure ProverError → Type 0
-  NoProof Refuses p (failure.Parameters misfit) = ¬ AreProvers p
+  NoProof Refuses p (failure.Parameters misfit) =
+      ¬ (AreProvers p × InVerifierRange (parameters_in p) 27 63)
   NoProof Refuses p (failure.Proving e) =
       IsRefusedOver IsMade (λ made after. Refuses made after e)
   NoProof Refuses p failure.OutOfMemory = ⊤

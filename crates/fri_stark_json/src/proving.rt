@@ -2,8 +2,10 @@
 
 ghost use Rattle.std.specs.Prelude.{◌≡◌, ◌⊎◌, IfOk, IfErr};
 ghost use Rattle.algebra.specs.Nested.{lists};
+ghost use Rattle.fri_records.specs.Records.{parameters_in};
 ghost use Rattle.p3_air_plain.specs.Checked.{IsSatisfiedIn};
 ghost use Rattle.p3_challenger_sha256.specs.Sha256.{start};
+ghost use Rattle.p3_fri_two_adic.specs.Ranges.{InVerifierRange};
 ghost use Rattle.p3_uni_stark_plain.specs.Proofs.{stark_seen, stark_numbers, stark_listed};
 ghost use Rattle.p3_uni_stark_plain.specs.declared.forms.PlainStarkProof.{
   PlainStarkProof as Form,
@@ -17,7 +19,7 @@ ghost use Rattle.fri_stark_json.specs.Verdicts.{IsAccepted, NoProof, IsOfText};
 use crate::failure::Failure;
 use crate::records::{System, Trace};
 use crate::scheme::MadeScheme;
-use fri_records::prover_parameters;
+use fri_records::{prover_parameters, verifier_parameters};
 use p3_challenger_core::Plays;
 use p3_challenger_sha256::Sha256Challenger;
 use p3_field::{BabyBear, BabyBear4, ExtensionField, Field, PrimeField64, TwoAdicField};
@@ -50,6 +52,8 @@ where
         ⟦<BabyBear as PrimeField64>⟧.ORDER_U64 ⟦<BabyBear as PrimeField64>⟧.canonical system.now.air
         (with_trace (numbers_in system.now trace.now.public_values.items)
         (lists trace.now.trace.items))) }
+    ensures verifiable { IfOk result (λ _.
+        InVerifierRange (parameters_in system.now.parameters) 27 63) }
     ensures refused { IfErr result (NoProof
         (IsMadeWith P.IsMade system.now seed) (λ made after.
         ProvingFault (P.stark_rules made) P.ZK
@@ -66,6 +70,10 @@ where
         (with_trace (numbers_in system.now trace.now.public_values.items)
         (lists trace.now.trace.items))) system.now.parameters) }
 {
+    // what no verifier takes isn't proved
+    if let Err(misfit) = verifier_parameters(&system.parameters) {
+        return Err(Failure::Parameters(misfit));
+    }
     let fri = match prover_parameters(&system.parameters) {
         Ok(fri) => fri,
         Err(misfit) => return Err(Failure::Parameters(misfit)),
@@ -113,6 +121,8 @@ where
         ⟦<BabyBear as PrimeField64>⟧.ORDER_U64 ⟦<BabyBear as PrimeField64>⟧.canonical system.now.air
         (with_trace (numbers_in system.now trace.now.public_values.items)
         (lists trace.now.trace.items))) }
+    ensures verifiable { IfOk result (λ _.
+        InVerifierRange (parameters_in system.now.parameters) 27 63) }
     ensures refused { IfErr result (λ e. IsOfText e ⊎ NoProof
         (IsMadeWith P.IsMade system.now seed) (λ made after.
         ProvingFault (P.stark_rules made) P.ZK

@@ -1,12 +1,12 @@
 //! What comes of proving a trace and verifying the proof.
 
 use crate::texts::{PUBLIC_VALUES, SYSTEM, THREE_ROWS, TRACE};
+use fri_stark_bytes::{Failure, check, prove};
 use fri_stark_json::{
-    Accepted, Failure, HidingScheme, MALFORMED, MadeScheme, PlainScheme, PublicValues, REFUSED,
-    Refusal, System, Trace, prove, read, seed_of, verify,
+    Accepted, Failure as Unread, HidingScheme, MALFORMED, MadeScheme, PlainScheme, PublicValues,
+    REFUSED, Refusal, System, read, seed_of, verify,
 };
 use p3_fri_folding::FriProverError;
-use p3_fri_masks::HidingFriProverError;
 use p3_fri_plain::Plain;
 use serde::{Deserialize, Serialize};
 use std::alloc::{AllocError, Global};
@@ -166,69 +166,99 @@ fn texts_of(alloc: Global, case: &Case) -> Result<Texts, AllocError> {
     })
 }
 
-/// The proof of a trace.
-fn proved<P: MadeScheme>(alloc: Global, texts: &Texts) -> Result<String, Failure<P::ProverError>>
-where
-    P::Proof: Plain,
-    <P::Proof as Plain>::Form: Serialize,
-{
-    let system: System = read(alloc, texts.system.as_str())?;
-    let trace: Trace = read(alloc, texts.trace.as_str())?;
-    prove::<P>(alloc, &system, &trace, [7; 32])
-}
-
-/// What the verifier says of a proof.
-fn verified<'de, P: MadeScheme>(
+/// What a proof is accepted with, read as text.
+fn accepted_text<'de, P: MadeScheme>(
     alloc: Global,
     texts: &Texts,
-    proof: &'de str,
-) -> Result<Accepted, Failure<P::ProverError>>
+    proof: &'de [u8],
+) -> Option<Accepted>
 where
     P::Proof: Plain,
     <P::Proof as Plain>::Form: Deserialize<'de>,
 {
-    let system: System = read(alloc, texts.known.as_str())?;
-    let public_values: PublicValues = read(alloc, texts.public_values.as_str())?;
-    verify::<P>(alloc, &system, &public_values, proof)
+    let proof = str::from_utf8(proof).ok()?;
+    let system: Result<System, Unread<P::ProverError>> = read(alloc, texts.known.as_str());
+    let system = system.ok()?;
+    let public_values: Result<PublicValues, Unread<P::ProverError>> = read(
+        alloc,
+        texts.public_values.as_str(),
+    );
+    verify::<P>(alloc, &system, &public_values.ok()?, proof).ok()
 }
 
-/// What comes of a case in the plain scheme.
-fn in_plain(alloc: Global, texts: &Texts) -> Result<Accepted, Failure<FriProverError>> {
-    let proof = proved::<PlainScheme>(alloc, texts)?;
-    verified::<PlainScheme>(alloc, texts, proof.as_str())
-}
-
-/// And in the one that hides.
-fn in_hiding(alloc: Global, texts: &Texts) -> Result<Accepted, Failure<HidingFriProverError>> {
-    let proof = proved::<HidingScheme>(alloc, texts)?;
-    verified::<HidingScheme>(alloc, texts, proof.as_str())
-}
-
-/// A proof of the plain scheme, held for one of the scheme that hides.
-fn of_the_other(alloc: Global, texts: &Texts) -> Result<Accepted, Failure<HidingFriProverError>> {
-    match proved::<PlainScheme>(alloc, texts) {
-        Ok(proof) => verified::<HidingScheme>(alloc, texts, proof.as_str()),
-        Err(_) => Err(Failure::OutOfMemory),
+/// What comes of verifying a proof, of the trace where none is given: the height in bytes, and what
+/// the proof is accepted with as text.
+fn outcome_of<'de, P: MadeScheme>(
+    alloc: Global,
+    texts: &Texts,
+    proof: &'de mut Vec<u8>,
+) -> Result<(Vec<u8>, Option<Accepted>), Failure>
+where
+    P::ProverError: Refusal,
+    P::Proof: Plain,
+    <P::Proof as Plain>::Form: Serialize + Deserialize<'de>,
+{
+    if proof.is_empty() {
+        *proof = prove::<P>(
+            alloc,
+            texts.system.as_bytes(),
+            texts.trace.as_bytes(),
+            &[7; 32],
+        )?;
     }
+    let proof: &'de [u8] = proof.as_slice();
+    let height = fri_stark_bytes::verify::<P>(
+        alloc,
+        texts.known.as_bytes(),
+        texts.public_values.as_bytes(),
+        proof,
+    )?;
+    Ok((height, accepted_text::<P>(alloc, texts, proof)))
 }
 
-/// What is told of an answer, where that isn't what a case expects.
-fn unexpected<E: Refusal>(
+/// That of the plain scheme.
+fn in_plain(
+    alloc: Global,
+    texts: &Texts,
+    proof: &mut Vec<u8>,
+) -> Result<(Vec<u8>, Option<Accepted>), Failure> {
+    outcome_of::<PlainScheme>(alloc, texts, proof)
+}
+
+/// That of the scheme that hides.
+fn in_hiding(
+    alloc: Global,
+    texts: &Texts,
+    proof: &mut Vec<u8>,
+) -> Result<(Vec<u8>, Option<Accepted>), Failure> {
+    outcome_of::<HidingScheme>(alloc, texts, proof)
+}
+
+/// What is told of an acceptance.
+fn told_of(alloc: Global, height: &[u8], accepted: Option<Accepted>) -> Result<String, AllocError> {
+    let Some(
+        Accepted {
+            log_height,
+            soundness_bits,
+        },
+    ) = accepted
+    else {
+        return format!(in alloc; "refused as text");
+    };
+    if height != (log_height as u64).to_le_bytes().as_slice() {
+        return format!(in alloc; "{height:?} in bytes");
+    }
+    format!(in alloc; "log_height {log_height}, {soundness_bits} bits")
+}
+
+/// What is told of an outcome, where that isn't what a case expects.
+fn unexpected(
     alloc: Global,
     case: &Case,
-    answer: Result<Accepted, Failure<E>>,
+    outcome: Result<(Vec<u8>, Option<Accepted>), Failure>,
 ) -> Result<Option<String>, AllocError> {
-    let (status, told) = match answer {
-        Ok(accepted) => {
-            let Accepted {
-                log_height,
-                soundness_bits,
-            } = accepted;
-            (
-                0,
-                format!(in alloc; "log_height {log_height}, {soundness_bits} bits")?,
-            )
-        },
+    let (status, told) = match outcome {
+        Ok((height, accepted)) => (0, told_of(alloc, height.as_slice(), accepted)?),
         Err(failure) => (failure.status(), format!(in alloc; "{failure}")?),
     };
     if status == case.status && (case.told.is_empty() || told.as_str() == case.told) {
@@ -241,10 +271,12 @@ fn unexpected<E: Refusal>(
 fn first_unexpected(alloc: Global) -> Result<Option<(usize, String)>, AllocError> {
     for (index, case) in CASES.iter().enumerate() {
         let texts = texts_of(alloc, case)?;
-        if let Some(told) = unexpected(alloc, case, in_plain(alloc, &texts))? {
+        let mut proof = Vec::new(alloc);
+        if let Some(told) = unexpected(alloc, case, in_plain(alloc, &texts, &mut proof))? {
             return Ok(Some((index, told)));
         }
-        if let Some(told) = unexpected(alloc, case, in_hiding(alloc, &texts))? {
+        let mut proof = Vec::new(alloc);
+        if let Some(told) = unexpected(alloc, case, in_hiding(alloc, &texts, &mut proof))? {
             return Ok(Some((index, told)));
         }
     }
@@ -264,14 +296,23 @@ fn a_proof_is_one_of_its_scheme(rt: HostRuntime) -> Result<(), AllocError> {
         ..OTHERWISE
     };
     let texts = texts_of(rt.alloc(), &GOOD)?;
-    let answer = of_the_other(rt.alloc(), &texts);
+    let mut proof = Vec::new(rt.alloc());
+    let accepted = in_plain(rt.alloc(), &texts, &mut proof);
+    assert_eq!(rt; unexpected(rt.alloc(), &GOOD, accepted)?, None);
+    let answer = in_hiding(rt.alloc(), &texts, &mut proof);
     assert_eq!(rt; unexpected(rt.alloc(), &malformed, answer)?, None);
     Ok(())
 }
 
+#[test]
+fn a_trace_that_satisfies_its_system_is_checked_without_bytes(rt: HostRuntime) {
+    let answer = check(rt.alloc(), SYSTEM.as_bytes(), TRACE.as_bytes());
+    assert!(rt; answer.is_ok_and(|bytes| bytes.is_empty()));
+}
+
 /// Whether bytes are a seed.
 fn is_seed(bytes: &[u8]) -> bool {
-    let seed: Result<[u8; 32], Failure<FriProverError>> = seed_of(bytes);
+    let seed: Result<[u8; 32], Unread<FriProverError>> = seed_of(bytes);
     seed.is_ok()
 }
 

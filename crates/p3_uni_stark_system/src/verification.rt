@@ -46,7 +46,8 @@ pub fn verify_system<
         ⟦<C as Plays<F, EF, Com>>⟧.moves P.ZK (P.rules scheme.new)
         (λ k d. (d.shift ≡ F.ONE) × (d.log_size ≡ k)) in IfErr result
         (IsRefusedSystem F.ORDER_U64 (P.log_blowup scheme.old) F.canonical S
-        (P.stark_rules scheme.old) (numbers_of system.now public_values.now) proof.now challenger.old challenger.new) }
+        (P.stark_rules scheme.old) (numbers_of system.now public_values.now) proof.now
+        challenger.old challenger.new) }
 {
     let width = system.air.layout.preprocessed_width;
     let committed = commit_numbers::<F, EF, Com, C, P>(scheme, alloc, system.preprocessed, width);
