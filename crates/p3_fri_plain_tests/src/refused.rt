@@ -1,7 +1,8 @@
-//! Texts of plain forms that aren't any proof's.
+//! Texts of plain forms that aren't any proof's, and how refusals print.
 
+use crate::forms::form_of;
 use crate::line::LINE;
-use p3_fri_plain::{PlainFriProof, PlainProofError, from_plain};
+use p3_fri_plain::{PlainProofError, from_plain};
 use std::alloc::Global;
 use std::test::Fail;
 
@@ -74,17 +75,43 @@ const CASES: [Case; 11] = [
 /// Whether the text is refused so.
 fn is_refused(alloc: Global, case: &Case) -> Result<bool, Fail> {
     let text = LINE.replacen(alloc, case.old, case.new, 1)?;
-    let form = serde_json::from_str::<PlainFriProof>(alloc, text.as_str())?;
-    match from_plain(alloc, form) {
-        Ok(_) => Ok(false),
-        Err(error) => Ok(error == case.error),
+    let answer = from_plain(alloc, form_of(alloc, text.as_str())?);
+    Ok(answer.err() == Some(case.error))
+}
+
+/// Each refusal, and the words for it.
+const REFUSALS: [(PlainProofError, &str); 4] = [
+    (
+        PlainProofError::ElementOutOfRange,
+        "a number is not below the field's order",
+    ),
+    (
+        PlainProofError::ElementLength,
+        "an element of the extension is not given by four numbers",
+    ),
+    (
+        PlainProofError::DigestLength,
+        "a digest does not have 32 bytes",
+    ),
+    (PlainProofError::OutOfMemory, "out of memory"),
+];
+
+/// The words for the first of these refusals that is printed in others.
+fn first_wrong_refusal(alloc: Global) -> Result<Option<&'static str>, Fail> {
+    for (refusal, wanted) in REFUSALS {
+        if format!(in alloc; "{refusal}")?.as_str() != wanted {
+            return Ok(Some(wanted));
+        }
     }
+    Ok(None)
 }
 
 #[test]
-fn altered_texts_are_refused(rt: HostRuntime) -> Result<(), Fail> {
+fn altered_texts_are_refused_and_refusals_printed(rt: HostRuntime) -> Result<(), Fail> {
     for case in &CASES {
         assert!(rt; is_refused(rt.alloc(), case)?, "{}", case.new);
     }
+    let wrong = first_wrong_refusal(rt.alloc())?;
+    assert!(rt; wrong.is_none(), "{wrong:?}");
     Ok(())
 }
