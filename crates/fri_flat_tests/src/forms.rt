@@ -36,7 +36,11 @@ const SEVENS: [u8; 300] = [7; 300];
 
 /// Without a context, with some bytes and with many.
 pub const OPENED: [Opened; 3] = [
-    EMPTY,
+    Opened {
+        context: &[],
+        next_challenge: [1575306697, 1677209360, 273931704, 799075703],
+        proof: EMPTY_PROOF,
+    },
     Opened {
         context: &[0, 1, 2, 3, 4, 5, 6, 7, 8, 9],
         next_challenge: [1611197663, 687690399, 772947763, 217598861],
@@ -49,13 +53,6 @@ pub const OPENED: [Opened; 3] = [
     },
 ];
 
-/// Without a context.
-pub const EMPTY: Opened = Opened {
-    context: &[],
-    next_challenge: [1575306697, 1677209360, 273931704, 799075703],
-    proof: EMPTY_PROOF,
-};
-
 /// Numbers as bytes.
 pub fn bytes_of(alloc: Global, numbers: &[u32]) -> Result<Vec<u8>, AllocError> {
     let mut bytes = Vec::new(alloc);
@@ -65,36 +62,32 @@ pub fn bytes_of(alloc: Global, numbers: &[u32]) -> Result<Vec<u8>, AllocError> {
     Ok(bytes)
 }
 
-/// A context's form: the number of its bytes, then these.
-fn context_of(alloc: Global, context: &[u8]) -> Result<Vec<u8>, AllocError> {
-    let mut bytes = Vec::new(alloc);
+/// A context's form, the number of its bytes and then these, and numbers after it.
+fn after_context(alloc: Global, context: &[u8], numbers: &[u32]) -> Result<Vec<u8>, AllocError> {
     let count = u32::try_from(context.len()).unwrap_or(u32::MAX);
-    bytes.extend_from_slice(&count.to_le_bytes())?;
+    let mut bytes = bytes_of(alloc, &[count])?;
     bytes.extend_from_slice(context)?;
+    bytes.extend_from_slice(&bytes_of(alloc, numbers)?)?;
     Ok(bytes)
 }
 
 /// The request of this context.
 pub fn request_of(alloc: Global, context: &[u8]) -> Result<Vec<u8>, AllocError> {
-    let mut bytes = context_of(alloc, context)?;
-    bytes.extend_from_slice(&bytes_of(alloc, &REQUEST[1..])?)?;
-    Ok(bytes)
-}
-
-/// The bytes of a statement of this context up to the proof.
-pub fn claims_of(alloc: Global, context: &[u8]) -> Result<Vec<u8>, AllocError> {
-    let mut bytes = context_of(alloc, context)?;
-    bytes.extend_from_slice(&bytes_of(alloc, &PARAMETERS)?)?;
-    bytes.extend_from_slice(&COMMITMENT)?;
-    bytes.extend_from_slice(&bytes_of(alloc, &CLAIMS)?)?;
-    Ok(bytes)
+    after_context(alloc, context, &REQUEST[1..])
 }
 
 /// The statement of this context with this proof.
-pub fn statement_of(alloc: Global, context: &[u8], proof: &str) -> Result<Vec<u8>, FromHexError> {
-    let mut bytes = claims_of(alloc, context)?;
-    bytes.extend_from_slice(&hex::decode(alloc, proof)?)?;
+pub fn statement_of(alloc: Global, context: &[u8], proof: &[u8]) -> Result<Vec<u8>, AllocError> {
+    let mut bytes = after_context(alloc, context, &PARAMETERS)?;
+    bytes.extend_from_slice(&COMMITMENT)?;
+    bytes.extend_from_slice(&bytes_of(alloc, &CLAIMS)?)?;
+    bytes.extend_from_slice(proof)?;
     Ok(bytes)
+}
+
+/// The proof of no context.
+pub fn empty_proof(alloc: Global) -> Result<Vec<u8>, FromHexError> {
+    hex::decode(alloc, EMPTY_PROOF)
 }
 
 /// The proof of no context.

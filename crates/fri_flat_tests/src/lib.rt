@@ -6,6 +6,6 @@ mod answered;
 #[cfg(test)]
 mod forms;
 #[cfg(test)]
-mod refused;
+mod malformed;
 #[cfg(test)]
-mod statements;
+mod refused;
