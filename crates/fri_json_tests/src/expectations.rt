@@ -1,6 +1,6 @@
 //! An answer compared with what was expected.
 
-use crate::texts::{Outcome, SEVERAL, changed, is_written, warning, written};
+use crate::texts::{Lines, SEVERAL, changed, warning, writes};
 use fri_json::{Command, Failure, open, read_expected};
 use std::alloc::{AllocError, Global};
 
@@ -233,27 +233,51 @@ log_blowup where it is committed to",
     ),
 ];
 
-/// What `verify` writes of an answer that is compared with what is in the text of a file named `E`.
-fn compared(alloc: Global, expected: &str, answer: &str) -> Outcome {
+/// Whether `verify` writes this and nothing else of an answer that is compared with what is in the
+/// text of a file named `E`.
+fn is_compared(alloc: Global, expected: &str, answer: &str, lines: Lines<'_>) -> bool {
     let mut fault = Vec::new(alloc);
     match read_expected(alloc, "E", expected, &mut fault) {
-        Ok(expected) => written(alloc, Command::VerifyExpected(&expected), answer),
-        Err(status) => Outcome {
-            output: Vec::new(alloc),
-            fault,
-            status,
+        Ok(expected) => {
+            fault.is_empty() && writes(alloc, Command::VerifyExpected(&expected), answer, lines)
+        },
+        Err(status) => {
+            lines.output.is_empty()
+                && fault.as_slice() == lines.fault.as_bytes()
+                && status == lines.status
         },
     }
 }
 
-/// The first difference from the answer that isn't named so.
+/// The first change of what is expected of which another line is written, or more.
 fn first_unnamed(alloc: Global, answer: &str) -> Result<Option<&'static str>, AllocError> {
     for (old, new, place) in &DIFFERENCES {
         let expected = changed(alloc, EXPECTED, old, new)?;
-        let outcome = compared(alloc, expected.as_str(), answer);
         let line = format!(in alloc; "refused: Unexpected: {place}\n")?;
-        if !is_written(&outcome, line.as_str(), "", 1) {
+        let lines = Lines {
+            output: line.as_str(),
+            fault: "",
+            status: 1,
+        };
+        if !is_compared(alloc, expected.as_str(), answer, lines) {
             return Ok(Some(*place));
+        }
+    }
+    Ok(None)
+}
+
+/// The first fault of the text of what is expected of which another line is written, or more.
+fn first_unfound(alloc: Global) -> Result<Option<&'static str>, AllocError> {
+    for (old, new, fault) in &FAULTS {
+        let expected = changed(alloc, EXPECTED, old, new)?;
+        let line = format!(in alloc; "fri: E: {fault}\n")?;
+        let lines = Lines {
+            output: "",
+            fault: line.as_str(),
+            status: 2,
+        };
+        if !is_compared(alloc, expected.as_str(), "", lines) {
+            return Ok(Some(*fault));
         }
     }
     Ok(None)
@@ -261,14 +285,13 @@ fn first_unnamed(alloc: Global, answer: &str) -> Result<Option<&'static str>, Al
 
 /// Whether the answer is accepted where it is what was expected, the answer itself too.
 fn is_expected(alloc: Global, answer: &str) -> Result<bool, AllocError> {
-    let warning = warning(alloc, 6)?;
-    for expected in [EXPECTED, answer] {
-        let outcome = compared(alloc, expected, answer);
-        if !is_written(&outcome, SUMMARY, warning.as_str(), 0) {
-            return Ok(false);
-        }
-    }
-    Ok(true)
+    let fault = warning(alloc, 6)?;
+    let lines = Lines {
+        output: SUMMARY,
+        fault: fault.as_str(),
+        status: 0,
+    };
+    Ok(is_compared(alloc, EXPECTED, answer, lines) && is_compared(alloc, answer, answer, lines))
 }
 
 #[test]
@@ -281,19 +304,6 @@ fn differences_are_named(rt: HostRuntime) -> Result<(), Failure> {
         "{first:?}"
     );
     Ok(())
-}
-
-/// The first fault of the text of what is expected that isn't named so.
-fn first_unfound(alloc: Global) -> Result<Option<&'static str>, AllocError> {
-    for (old, new, fault) in &FAULTS {
-        let expected = changed(alloc, EXPECTED, old, new)?;
-        let outcome = compared(alloc, expected.as_str(), "");
-        let line = format!(in alloc; "fri: E: {fault}\n")?;
-        if !is_written(&outcome, "", line.as_str(), 2) {
-            return Ok(Some(*fault));
-        }
-    }
-    Ok(None)
 }
 
 #[test]

@@ -1,6 +1,6 @@
 //! Faulty requests and statements, each with the line that says where its fault is.
 
-use crate::texts::{COLUMN, changed, is_written, written};
+use crate::texts::{COLUMN, Lines, changed, writes};
 use fri_json::{Command, Failure, open};
 use std::alloc::{AllocError, Global};
 
@@ -296,21 +296,7 @@ log_blowup where it is committed to",
     ),
 ];
 
-/// Whether of the changed text this line and nothing else is written.
-fn is_faulty(
-    alloc: Global,
-    command: Command<'_>,
-    text: &str,
-    fault: &Fault,
-) -> Result<bool, AllocError> {
-    let (old, new, line, status) = *fault;
-    let faulty = changed(alloc, text, old, new)?;
-    let outcome = written(alloc, command, faulty.as_str());
-    let line = format!(in alloc; "fri: F: {line}\n")?;
-    Ok(text.contains(old) && is_written(&outcome, "", line.as_str(), status))
-}
-
-/// The first fault of the text that isn't named so.
+/// The first fault of the text of which another line is written, or more.
 fn first_unnamed(
     alloc: Global,
     command: Command<'_>,
@@ -318,8 +304,16 @@ fn first_unnamed(
     faults: &[Fault],
 ) -> Result<Option<&'static str>, AllocError> {
     for fault in faults {
-        if !is_faulty(alloc, command, text, fault)? {
-            return Ok(Some(fault.1));
+        let (old, new, line, status) = *fault;
+        let faulty = changed(alloc, text, old, new)?;
+        let line = format!(in alloc; "fri: F: {line}\n")?;
+        let lines = Lines {
+            output: "",
+            fault: line.as_str(),
+            status,
+        };
+        if !writes(alloc, command, faulty.as_str(), lines) {
+            return Ok(Some(new));
         }
     }
     Ok(None)

@@ -1,11 +1,9 @@
 //! Answers of the example requests under several contexts, which are accepted, and their
 //! commitments.
 
-use crate::texts::{COLUMN, TWO_COMMITMENTS, TWO_HEIGHTS, changed, is_written, warning, written};
+use crate::texts::{COLUMN, Lines, TWO_COMMITMENTS, TWO_HEIGHTS, changed, warning, writes};
 use fri_json::{Command, Failure, WRITE_FAILED, answer, open, verify};
 use std::alloc::{AllocError, Global};
-use std::io;
-use std::io::{ErrorKind, Write};
 
 /// A request, the lines of its commitments, the lines that say what was accepted below its context,
 /// and its bits of soundness. All are those that `tools/relation` found, commitments as
@@ -117,56 +115,76 @@ const BOUND: [Bound; 8] = [
     },
 ];
 
-/// Whether each request has its commitments, and is committed to without its points.
-fn each_is_committed(alloc: Global) -> Result<bool, AllocError> {
-    for case in &[COLUMN_CASE, TWO_HEIGHTS_CASE, TWO_COMMITMENTS_CASE] {
-        let committed = written(alloc, Command::Commit, case.request);
-        if !is_written(&committed, case.commitments, "", 0) {
-            return Ok(false);
+/// The column's request without its points.
+const UNOPENED: &str = "{\"parameters\":{\"log_blowup\":1,\"log_final_poly_len\":0,\
+\"max_log_arity\":1,\"num_queries\":2,\"batch_proof_of_work_bits\":0,\
+\"commit_proof_of_work_bits\":0,\"query_proof_of_work_bits\":0},\"commitments\":[{\"matrices\":[\
+{\"domain\":{\"shift\":1,\"log_size\":1},\"width\":1,\"values\":[1,3],\"points\":[]}]}]}";
+
+/// Requests with the case that has their commitments.
+const COMMITTED: [(&str, Case); 4] = [
+    (COLUMN, COLUMN_CASE),
+    (TWO_HEIGHTS, TWO_HEIGHTS_CASE),
+    (TWO_COMMITMENTS, TWO_COMMITMENTS_CASE),
+    (UNOPENED, COLUMN_CASE),
+];
+
+/// Whether each request has its commitments.
+fn each_is_committed(alloc: Global) -> bool {
+    for (request, case) in &COMMITTED {
+        let lines = Lines {
+            output: case.commitments,
+            fault: "",
+            status: 0,
+        };
+        if !writes(alloc, Command::Commit, *request, lines) {
+            return false;
         }
     }
-    let unopened = changed(alloc, COLUMN, "[[5,0,0,0]]", "[]")?;
-    let committed = written(alloc, Command::Commit, unopened.as_str());
-    Ok(is_written(&committed, COLUMN_CASE.commitments, "", 0))
+    true
 }
 
 #[test]
-fn requests_are_committed_to(rt: HostRuntime) -> Result<(), Failure> {
-    assert!(rt; each_is_committed(rt.alloc())?);
-    Ok(())
+fn requests_are_committed_to(rt: HostRuntime) {
+    assert!(rt; each_is_committed(rt.alloc()));
 }
 
-/// The hex text of a context.
-fn context_of(alloc: Global, bound: &Bound) -> Result<String, AllocError> {
-    let mut context = String::new(alloc);
+/// How a request under a context begins.
+fn front_of(alloc: Global, bound: &Bound) -> Result<String, AllocError> {
+    let mut front = String::from_str(alloc, "{\"context\":\"")?;
     for _ in 0..bound.times {
-        context.push_str(bound.context)?;
+        front.push_str(bound.context)?;
     }
-    Ok(context)
+    front.push_str("\",\"parameters\"")?;
+    Ok(front)
 }
 
 /// Whether a command writes of the answer that it is accepted, and what was.
 fn is_told(alloc: Global, bound: &Bound, answer: &str) -> Result<bool, AllocError> {
     let Bound { case, line, .. } = *bound;
     let (summary, bits) = (case.summary, case.bits);
-    let lines = format!(in alloc; "accepted\n{line}{summary}conjectured soundness bits {bits}\n")?;
-    let verified = written(alloc, Command::Verify, answer);
-    Ok(is_written(&verified, lines.as_str(), warning(alloc, bits)?.as_str(), 0))
+    let output = format!(in alloc; "accepted\n{line}{summary}conjectured soundness bits {bits}\n")?;
+    let fault = warning(alloc, bits)?;
+    let lines = Lines {
+        output: output.as_str(),
+        fault: fault.as_str(),
+        status: 0,
+    };
+    Ok(writes(alloc, Command::Verify, answer, lines))
 }
 
 /// Whether the answer to a request under a context has that context, in lower case, and is accepted
 /// with this next draw.
 fn is_accepted(alloc: Global, bound: &Bound) -> Result<bool, Failure> {
-    let context = context_of(alloc, bound)?;
-    let front = format!(in alloc; "{{\"context\":\"{context}\",\"parameters\"")?;
+    let mut front = front_of(alloc, bound)?;
     let request = changed(alloc, bound.case.request, "{\"parameters\"", front.as_str())?;
     let answer = open(alloc, request.as_str())?;
+    front.make_ascii_lowercase();
+    if !answer.starts_with(front.as_str()) || !is_told(alloc, bound, answer.as_str())? {
+        return Ok(false);
+    }
     let next = verify(alloc, answer.as_str())?;
-    Ok(
-        answer.starts_with(front.to_ascii_lowercase(alloc)?.as_str())
-            && next.as_slice() == bound.next_challenge.as_slice()
-            && is_told(alloc, bound, answer.as_str())?,
-    )
+    Ok(next.as_slice() == bound.next_challenge.as_slice())
 }
 
 /// The first context under which no answer is accepted.
@@ -203,30 +221,18 @@ fn an_empty_context_may_be_left_out(rt: HostRuntime) -> Result<(), Failure> {
     Ok(())
 }
 
-/// A writer that takes nothing.
-#[derive(Drop)]
-struct Closed;
-
-impl Write for Closed {
-    fn write(&mut self, _buf: &[u8]) -> io::Result<usize> {
-        Err(io::Error::from(ErrorKind::BrokenPipe))
-    }
-
-    fn flush(&mut self) -> io::Result<()> {
-        Ok(())
-    }
-}
-
 /// The status where nothing is taken.
-fn status_closed(alloc: Global, command: Command<'_>, text: &str) -> u8 {
-    answer(alloc, command, "F", text, &mut Closed, &mut Closed)
+fn status_unwritten(alloc: Global, command: Command<'_>, text: &str) -> u8 {
+    let (mut first, mut second) = ([0u8; 0], [0u8; 0]);
+    let (mut output, mut fault) = (&mut first[..], &mut second[..]);
+    answer(alloc, command, "F", text, &mut output, &mut fault)
 }
 
 #[test]
 fn failed_writes_have_their_status(rt: HostRuntime) {
     let alloc = rt.alloc();
     assert!(rt;
-        status_closed(alloc, Command::Commit, COLUMN) == WRITE_FAILED
-            && status_closed(alloc, Command::Verify, "") == WRITE_FAILED
+        status_unwritten(alloc, Command::Commit, COLUMN) == WRITE_FAILED
+            && status_unwritten(alloc, Command::Verify, "") == WRITE_FAILED
     );
 }

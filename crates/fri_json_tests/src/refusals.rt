@@ -1,6 +1,6 @@
 //! Changed statements and requests, each with what is written of it.
 
-use crate::texts::{COLUMN, changed, is_written, written};
+use crate::texts::{COLUMN, changed, written};
 use fri_json::{Command, Failure, open};
 use std::alloc::{AllocError, Global};
 
@@ -89,14 +89,19 @@ const REFUSALS: [Refusal; 20] = [
     ),
 ];
 
-/// Whether what is written begins with one of these refusals, and ends its only line with words.
-fn names_refusal(alloc: Global, output: &str, names: &[&str]) -> Result<bool, AllocError> {
+/// Whether the line names one of these refusals, with words after it.
+fn is_named(line: &[u8], names: &[&str]) -> bool {
+    let Some(refusal) = line.strip_prefix(b"refused: ") else {
+        return false;
+    };
     for name in names {
-        if output.starts_with(format!(in alloc; "refused: {name}: ")?.as_str()) {
-            return Ok(output.ends_with('\n'));
+        if let Some(words) = refusal.strip_prefix(name.as_bytes()) {
+            if words.starts_with(b": ") {
+                return words.ends_with(b"\n");
+            }
         }
     }
-    Ok(false)
+    false
 }
 
 /// Whether the changed statement is refused so, and nothing is written beside.
@@ -108,14 +113,7 @@ pub(crate) fn is_refused(
     let (old, new, names) = *refusal;
     let text = changed(alloc, statement, old, new)?;
     let outcome = written(alloc, Command::Verify, text.as_str());
-    let Ok(output) = str::from_utf8(&outcome.output) else {
-        return Ok(false);
-    };
-    Ok(
-        statement.contains(old)
-            && names_refusal(alloc, output, names)?
-            && is_written(&outcome, output, "", 1),
-    )
+    Ok(outcome.status == 1 && outcome.fault.is_empty() && is_named(&outcome.output, names))
 }
 
 /// The first refusal that isn't as it should be.

@@ -62,11 +62,20 @@ pub(crate) fn written(alloc: Global, command: Command<'_>, text: &str) -> Outcom
     }
 }
 
-/// Whether this and nothing else was written, with this status.
-pub(crate) fn is_written(outcome: &Outcome, output: &str, fault: &str, status: u8) -> bool {
-    outcome.output.as_slice() == output.as_bytes()
-        && outcome.fault.as_slice() == fault.as_bytes()
-        && outcome.status == status
+/// What is written, with the status.
+#[derive(Clone, Copy)]
+pub(crate) struct Lines<'a> {
+    pub output: &'a str,
+    pub fault: &'a str,
+    pub status: u8,
+}
+
+/// Whether the command writes this and nothing else for the text, of a file named `F`.
+pub(crate) fn writes(alloc: Global, command: Command<'_>, text: &str, lines: Lines<'_>) -> bool {
+    let outcome = written(alloc, command, text);
+    outcome.status == lines.status
+        && outcome.output.as_slice() == lines.output.as_bytes()
+        && outcome.fault.as_slice() == lines.fault.as_bytes()
 }
 
 /// The text with one part of it replaced, where it has that part.
