@@ -1,5 +1,5 @@
-//! Tests of `p3_field`, `p3_koala_bear` and `p3_goldilocks`: worked values, and each public call at a
-//! concrete type through its bound.
+//! Tests of `p3_field`, `p3_koala_bear` and `p3_goldilocks`: worked values, and each public call at
+//! a concrete type through its bound.
 #![tactic(auto)]
 
 #[cfg(test)]

@@ -47,8 +47,8 @@ pub record Parameters : Type 0 where
 abbrev pub final_height : Parameters → ℕ
 final_height p = p.log_blowup + p.log_final_poly_len
 
--- what is claimed of a matrix, and of those under a commitment, where of a domain only the logarithm
--- of its size is known
+-- what is claimed of a matrix, and of those under a commitment, where of a domain the logarithm of
+-- its size alone is known
 abbrev pub MatrixClaim : Type 0 → Type 0
 MatrixClaim E = claimed.MatrixClaim E ℕ
 
