@@ -76,12 +76,28 @@ fn seed_in(rt: &HostRuntime, file: &String) -> Result<[u8; 32], u8> {
     }
 }
 
+/// The system in a file; or writes why there is none, and gives the status.
+fn system_in(rt: &HostRuntime, air: &String) -> Result<System, u8> {
+    let text = text_in(rt, air)?;
+    record_in(rt, air, text.as_str())
+}
+
+/// The trace in a file; or writes why there is none, and gives the status.
+fn trace_in(rt: &HostRuntime, trace: &String) -> Result<Trace, u8> {
+    let text = text_in(rt, trace)?;
+    record_in(rt, trace, text.as_str())
+}
+
+/// The public values in a file; or writes why there are none, and gives the status.
+fn public_values_in(rt: &HostRuntime, publics: &String) -> Result<PublicValues, u8> {
+    let text = text_in(rt, publics)?;
+    record_in(rt, publics, text.as_str())
+}
+
 /// Holds a trace against a system.
 fn run_check(rt: &HostRuntime, air: &String, trace: &String) -> Result<u8, u8> {
-    let air_text = text_in(rt, air)?;
-    let trace_text = text_in(rt, trace)?;
-    let system: System = record_in(rt, air, air_text.as_str())?;
-    let trace: Trace = record_in(rt, trace, trace_text.as_str())?;
+    let system = system_in(rt, air)?;
+    let trace = trace_in(rt, trace)?;
     match check(rt.alloc(), &system, &trace) {
         Ok(()) => Ok(report(&mut rt.stdout(), "satisfied\n", 0)),
         Err(error) => {
@@ -120,10 +136,8 @@ fn run_prove(
     air: &String,
     trace: &String,
 ) -> Result<u8, u8> {
-    let air_text = text_in(rt, air)?;
-    let trace_text = text_in(rt, trace)?;
-    let system: System = record_in(rt, air, air_text.as_str())?;
-    let trace: Trace = record_in(rt, trace, trace_text.as_str())?;
+    let system = system_in(rt, air)?;
+    let trace = trace_in(rt, trace)?;
     match seed {
         // the plain scheme draws nothing
         None => Ok(print_proof::<PlainScheme>(rt, &system, &trace, [0; 32])),
@@ -175,11 +189,9 @@ fn run_verify(
     publics: &String,
     proof: &String,
 ) -> Result<u8, u8> {
-    let air_text = text_in(rt, air)?;
-    let publics_text = text_in(rt, publics)?;
+    let system = system_in(rt, air)?;
+    let publics = public_values_in(rt, publics)?;
     let text = text_in(rt, proof)?;
-    let system: System = record_in(rt, air, air_text.as_str())?;
-    let publics: PublicValues = record_in(rt, publics, publics_text.as_str())?;
     if hides {
         return Ok(print_verdict::<HidingScheme>(rt, &system, &publics, proof, text.as_str()));
     }

@@ -9,7 +9,8 @@ use fri_stark_json::{
 use p3_fri_folding::FriProverError;
 use p3_fri_plain::Plain;
 use serde::{Deserialize, Serialize};
-use std::alloc::{AllocError, Global};
+use std::alloc::Global;
+use std::process::Abort;
 
 /// A change of a text: what stands there, and what does then.
 type Change = (&'static str, &'static str);
@@ -48,7 +49,7 @@ const OTHERWISE: Case = Case {
     ..GOOD
 };
 
-const CASES: [Case; 16] = [
+static CASES: [Case; 17] = [
     GOOD,
     // more bits
     Case {
@@ -84,11 +85,18 @@ const CASES: [Case; 16] = [
         told: "TraceHeight { height: 3 }: trace: 3 rows are no power of two with room in the field",
         ..GOOD
     },
-    // parameters that aren't a prover's
+    // parameters that aren't a prover's, or that no verifier takes
     Case {
         system: ("\"num_queries\":4", "\"num_queries\":0"),
         status: MALFORMED,
         told: "NumQueries: parameters.num_queries: expected a number above 0",
+        ..GOOD
+    },
+    Case {
+        system: ("\"log_final_poly_len\":0", "\"log_final_poly_len\":63"),
+        status: MALFORMED,
+        told: "LogFinalPolyLen: parameters.log_final_poly_len: expected a number below 64 \
+            together with log_blowup",
         ..GOOD
     },
     // texts that aren't JSON, or not of such a record
@@ -143,8 +151,9 @@ const CASES: [Case; 16] = [
 ];
 
 /// The text with a change.
-fn changed(alloc: Global, text: &str, change: Change) -> Result<String, AllocError> {
+fn changed(rt: &impl Abort, alloc: Global, text: &str, change: Change) -> String {
     text.replacen(alloc, change.0, change.1, 1)
+        .expect(rt, "memory")
 }
 
 /// The texts of a case.
@@ -156,14 +165,14 @@ struct Texts {
     public_values: String,
 }
 
-fn texts_of(alloc: Global, case: &Case) -> Result<Texts, AllocError> {
-    let system = changed(alloc, SYSTEM, case.system)?;
-    Ok(Texts {
-        trace: changed(alloc, TRACE, case.trace)?,
-        known: changed(alloc, system.as_str(), case.known)?,
-        public_values: changed(alloc, PUBLIC_VALUES, case.public_values)?,
+fn texts_of(rt: &impl Abort, alloc: Global, case: &Case) -> Texts {
+    let system = changed(rt, alloc, SYSTEM, case.system);
+    Texts {
+        trace: changed(rt, alloc, TRACE, case.trace),
+        known: changed(rt, alloc, system.as_str(), case.known),
+        public_values: changed(rt, alloc, PUBLIC_VALUES, case.public_values),
         system,
-    })
+    }
 }
 
 /// What a proof is accepted with, read as text.
@@ -235,73 +244,73 @@ fn in_hiding(
 }
 
 /// What is told of an acceptance.
-fn told_of(alloc: Global, height: &[u8], accepted: Option<Accepted>) -> Result<String, AllocError> {
-    let Some(
-        Accepted {
-            log_height,
-            soundness_bits,
-        },
-    ) = accepted
-    else {
-        return format!(in alloc; "refused as text");
-    };
-    if height != (log_height as u64).to_le_bytes().as_slice() {
-        return format!(in alloc; "{height:?} in bytes");
-    }
-    format!(in alloc; "log_height {log_height}, {soundness_bits} bits")
+fn told_of(rt: &impl Abort, alloc: Global, height: &[u8], accepted: Option<Accepted>) -> String {
+    let Accepted {
+        log_height,
+        soundness_bits,
+    } = accepted.expect(rt, "refused as text");
+    assert!(rt;
+        height == (log_height as u64).to_le_bytes().as_slice(),
+        "{height:?} in bytes"
+    );
+    format!(in alloc; "log_height {log_height}, {soundness_bits} bits").expect(rt, "memory")
 }
 
-/// What is told of an outcome, where that isn't what a case expects.
-fn unexpected(
+/// Asserts that a case at this place comes out as it says, in the scheme that hides or in the plain
+/// one.
+fn assert_answer(
+    rt: &impl Abort,
     alloc: Global,
-    case: &Case,
-    outcome: Result<(Vec<u8>, Option<Accepted>), Failure>,
-) -> Result<Option<String>, AllocError> {
-    let (status, told) = match outcome {
-        Ok((height, accepted)) => (0, told_of(alloc, height.as_slice(), accepted)?),
-        Err(failure) => (failure.status(), format!(in alloc; "{failure}")?),
+    (place, case): (usize, &Case),
+    texts: &Texts,
+    hides: bool,
+    proof: &mut Vec<u8>,
+) {
+    let outcome = if hides {
+        in_hiding(alloc, texts, proof)
+    } else {
+        in_plain(alloc, texts, proof)
     };
-    if status == case.status && (case.told.is_empty() || told.as_str() == case.told) {
-        return Ok(None);
-    }
-    Ok(Some(told))
+    let (status, told) = match outcome {
+        Ok((height, accepted)) => (0, told_of(rt, alloc, height.as_slice(), accepted)),
+        Err(failure) => {
+            let told = format!(in alloc; "{failure}").expect(rt, "memory");
+            (failure.status(), told)
+        },
+    };
+    let is_told = case.told.is_empty() || told.as_str() == case.told;
+    assert!(rt;
+        status == case.status && is_told,
+        "case {place}, hides {hides}: status {status}, {told}"
+    );
 }
 
-/// What is told of the first case that comes out otherwise in one of the schemes, with its place.
-fn first_unexpected(alloc: Global) -> Result<Option<(usize, String)>, AllocError> {
-    for (index, case) in CASES.iter().enumerate() {
-        let texts = texts_of(alloc, case)?;
-        let mut proof = Vec::new(alloc);
-        if let Some(told) = unexpected(alloc, case, in_plain(alloc, &texts, &mut proof))? {
-            return Ok(Some((index, told)));
-        }
-        let mut proof = Vec::new(alloc);
-        if let Some(told) = unexpected(alloc, case, in_hiding(alloc, &texts, &mut proof))? {
-            return Ok(Some((index, told)));
-        }
-    }
-    Ok(None)
-}
-
-#[test]
-fn what_is_proved_is_accepted_of_the_same_system_alone(rt: HostRuntime) -> Result<(), AllocError> {
-    assert_eq!(rt; first_unexpected(rt.alloc())?, None);
-    Ok(())
+/// Asserts that in both schemes.
+fn assert_answers(rt: &impl Abort, alloc: Global, place: usize, case: &Case) {
+    let texts = texts_of(rt, alloc, case);
+    let mut proof = Vec::new(alloc);
+    assert_answer(rt, alloc, (place, case), &texts, false, &mut proof);
+    proof.clear();
+    assert_answer(rt, alloc, (place, case), &texts, true, &mut proof);
 }
 
 #[test]
-fn a_proof_is_one_of_its_scheme(rt: HostRuntime) -> Result<(), AllocError> {
+fn what_is_proved_is_accepted_of_the_same_system_alone(rt: HostRuntime) {
+    for (place, case) in CASES.iter().enumerate() {
+        assert_answers(&rt, rt.alloc(), place, case);
+    }
+}
+
+#[test]
+fn a_proof_is_one_of_its_scheme(rt: HostRuntime) {
     let malformed = Case {
         status: MALFORMED,
         ..OTHERWISE
     };
-    let texts = texts_of(rt.alloc(), &GOOD)?;
+    let texts = texts_of(&rt, rt.alloc(), &GOOD);
     let mut proof = Vec::new(rt.alloc());
-    let accepted = in_plain(rt.alloc(), &texts, &mut proof);
-    assert_eq!(rt; unexpected(rt.alloc(), &GOOD, accepted)?, None);
-    let answer = in_hiding(rt.alloc(), &texts, &mut proof);
-    assert_eq!(rt; unexpected(rt.alloc(), &malformed, answer)?, None);
-    Ok(())
+    assert_answer(&rt, rt.alloc(), (0, &GOOD), &texts, false, &mut proof);
+    assert_answer(&rt, rt.alloc(), (0, &malformed), &texts, true, &mut proof);
 }
 
 #[test]

@@ -1,13 +1,13 @@
 //! Malformed systems, traces of the wrong shape, degrees and values.
 
-ghost use Rattle.std.specs.Prelude.{◌≡◌, IfOk};
+ghost use Rattle.std.specs.Prelude.{◌≡◌};
 
 use crate::systems::{columns, digits, fibonacci, scaled, selected};
 use crate::tables::{Numbers, found};
 use p3_air::{Air, AirError, AirLayout, Constraint, DegreeError, Node, Rows, TraceError, Window};
 use p3_field::{BabyBear, BabyBear4, Field};
-use std::alloc::{AllocError, Global};
-use std::test::Fail;
+use std::alloc::Global;
+use std::process::Abort;
 
 const LAYOUT: AirLayout = AirLayout {
     width: 2,
@@ -17,7 +17,7 @@ const LAYOUT: AirLayout = AirLayout {
 };
 
 /// Nodes and the node of a constraint, why the system is malformed, and the words for it.
-const MALFORMED: [(&[Node<u64>], usize, AirError, &str); 8] = [
+static MALFORMED: [(&[Node<u64>], usize, AirError, &str); 8] = [
     (
         &[Node::Local(1), Node::Local(2)],
         0,
@@ -79,49 +79,39 @@ const MALFORMED: [(&[Node<u64>], usize, AirError, &str); 8] = [
 
 /// A system of these nodes, of which one has to be zero.
 fn system<F: Copy>(
+    rt: &impl Abort,
     alloc: Global,
     layout: AirLayout,
     nodes: &[Node<F>],
     node: usize,
-) -> Result<Air<F>, AllocError>
-    ensures { IfOk result (λ air. air.layout ≡ layout) }
+) -> Air<F>
+    ensures { result.layout ≡ layout }
 {
-    let mut copied = Vec::new(alloc);
-    for node in nodes {
-        copied.push(*node)?;
-    }
-    let mut constraints = Vec::new(alloc);
-    constraints.push(Constraint {
+    let constraint = Constraint {
         rows: Rows::All,
         node,
-    })?;
-    Ok(Air {
+    };
+    Air {
         layout,
-        nodes: copied,
-        constraints,
-    })
-}
-
-/// The words for the first of these systems that isn't refused so.
-fn first_wrong_system(alloc: Global) -> Result<Option<&'static str>, Fail> {
-    for (nodes, node, fault, words) in MALFORMED {
-        let air = system(alloc, LAYOUT, nodes, node)?;
-        if air.check() != Err(fault) || format!(in alloc; "{fault}")?.as_str() != words {
-            return Ok(Some(words));
-        }
+        nodes: Vec::from_slice(alloc, nodes).expect(rt, "memory"),
+        constraints: Vec::from_slice(alloc, &[constraint]).expect(rt, "memory"),
     }
-    Ok(None)
 }
 
 #[test]
-fn malformed_systems_are_named(rt: HostRuntime) -> Result<(), Fail> {
-    let wrong = first_wrong_system(rt.alloc())?;
-    assert!(rt; wrong.is_none(), "{wrong:?}");
-    Ok(())
+fn malformed_systems_are_named(rt: HostRuntime) {
+    for (nodes, node, fault, words) in &MALFORMED {
+        let air = system(&rt, rt.alloc(), LAYOUT, *nodes, *node);
+        let said = format!(in rt.alloc(); "{fault}").expect(&rt, "memory");
+        assert!(rt;
+            air.check() == Err(*fault) && said.as_str() == *words,
+            "{fault:?}"
+        );
+    }
 }
 
 /// A trace and what goes with it, held against `digits`, and why it is refused.
-const MISSHAPEN: [(Numbers, TraceError, &str); 5] = [
+static MISSHAPEN: [(Numbers, TraceError, &str); 5] = [
     (
         Numbers {
             trace: &[],
@@ -188,29 +178,24 @@ const MISSHAPEN: [(Numbers, TraceError, &str); 5] = [
     ),
 ];
 
-/// The words for the first of these that isn't refused so.
-fn first_wrong_shape(alloc: Global) -> Result<Option<&'static str>, Fail> {
-    let air = digits(alloc)?;
-    for (numbers, fault, words) in MISSHAPEN {
-        let result = found(alloc, &air, &numbers, None)?;
-        if result != Err(fault) || format!(in alloc; "{fault}")?.as_str() != words {
-            return Ok(Some(words));
-        }
-    }
-    Ok(None)
-}
-
 #[test]
-fn misshapen_traces_are_named(rt: HostRuntime) -> Result<(), Fail> {
-    let wrong = first_wrong_shape(rt.alloc())?;
-    assert!(rt; wrong.is_none(), "{wrong:?}");
+fn misshapen_traces_are_named(rt: HostRuntime) {
+    let air = digits(&rt, rt.alloc());
+    for (numbers, fault, words) in &MISSHAPEN {
+        let result = found(&rt, rt.alloc(), &air, numbers, None);
+        let said = format!(in rt.alloc(); "{fault}").expect(&rt, "memory");
+        assert!(rt;
+            result == Err(*fault) && said.as_str() == *words,
+            "{fault:?}"
+        );
+    }
     let one_row = Numbers {
         trace: &[&[5]],
         preprocessed: &[&[1], &[1]],
         public_values: &[],
         periodic: &[],
     };
-    let result = found(rt.alloc(), &selected(rt.alloc())?, &one_row, None)?;
+    let result = found(&rt, rt.alloc(), &selected(&rt, rt.alloc()), &one_row, None);
     assert!(rt; result == Err(TraceError::PreprocessedHeight { rows: 2, height: 1 }));
     let empty = Numbers {
         trace: &[&[1]],
@@ -218,44 +203,41 @@ fn misshapen_traces_are_named(rt: HostRuntime) -> Result<(), Fail> {
         public_values: &[],
         periodic: &[&[]],
     };
-    let result = found(rt.alloc(), &scaled(rt.alloc())?, &empty, None)?;
+    let result = found(&rt, rt.alloc(), &scaled(&rt, rt.alloc()), &empty, None);
     assert!(rt; result == Err(TraceError::EmptyPeriodicColumn { column: 0 }));
-    Ok(())
 }
 
-/// The greatest degree of a constraint; nothing where the system is malformed.
-fn max_degree<F: Copy>(alloc: Global, air: &Air<F>) -> Option<Result<usize, DegreeError>> {
-    if air.check().is_err() {
-        return None;
-    }
-    Some(air.max_constraint_degree(alloc))
+/// The greatest degree of a constraint.
+fn max_degree<F: Copy>(rt: &impl Abort, alloc: Global, air: &Air<F>) -> Result<usize, DegreeError> {
+    assert!(rt; air.check().is_ok(), "malformed");
+    air.max_constraint_degree(alloc)
 }
 
 /// The degree of a column squared so many times.
 fn degree_of_squares(
+    rt: &impl Abort,
     alloc: Global,
     squarings: usize,
-) -> Result<Option<Result<usize, DegreeError>>, AllocError> {
-    let mut air = system(alloc, columns(1), &[Node::<u64>::Local(0)], squarings)?;
+) -> Result<usize, DegreeError> {
+    let mut air = system(rt, alloc, columns(1), &[Node::<u64>::Local(0)], squarings);
     for i in 0..squarings {
-        air.nodes.push(Node::Mul(i, i))?;
+        air.nodes.push(Node::Mul(i, i)).expect(rt, "memory");
     }
-    Ok(max_degree(alloc, &air))
+    max_degree(rt, alloc, &air)
 }
 
 #[test]
-fn degrees(rt: HostRuntime) -> Result<(), Fail> {
-    assert!(rt; max_degree(rt.alloc(), &fibonacci(rt.alloc())?) == Some(Ok(1)));
-    assert!(rt; max_degree(rt.alloc(), &digits(rt.alloc())?) == Some(Ok(2)));
-    assert!(rt; max_degree(rt.alloc(), &selected(rt.alloc())?) == Some(Ok(2)));
-    assert!(rt; degree_of_squares(rt.alloc(), 63)? == Some(Ok(9223372036854775808)));
-    assert!(rt; degree_of_squares(rt.alloc(), 64)? == Some(Err(DegreeError::TooLarge)));
-    Ok(())
+fn degrees(rt: HostRuntime) {
+    assert!(rt; max_degree(&rt, rt.alloc(), &fibonacci(&rt, rt.alloc())) == Ok(1));
+    assert!(rt; max_degree(&rt, rt.alloc(), &digits(&rt, rt.alloc())) == Ok(2));
+    assert!(rt; max_degree(&rt, rt.alloc(), &selected(&rt, rt.alloc())) == Ok(2));
+    assert!(rt; degree_of_squares(&rt, rt.alloc(), 63) == Ok(9223372036854775808));
+    assert!(rt; degree_of_squares(&rt, rt.alloc(), 64) == Err(DegreeError::TooLarge));
 }
 
 /// The values of nodes where the entries are small numbers: local times next, plus the public
 /// value, minus the periodic one, plus a preprocessed one, and the next preprocessed one.
-fn values(alloc: Global) -> Result<Option<Vec<BabyBear4>>, AllocError> {
+fn values(rt: &impl Abort, alloc: Global) -> Vec<BabyBear4> {
     let nodes = [
         Node::Local(0),
         Node::Next(1),
@@ -268,11 +250,8 @@ fn values(alloc: Global) -> Result<Option<Vec<BabyBear4>>, AllocError> {
         Node::Add(6, 7),
         Node::PreprocessedNext(0),
     ];
-    let air = system(alloc, LAYOUT, &nodes, 0)?;
+    let air = system(rt, alloc, LAYOUT, &nodes, 0);
     let number = |n: u64| BabyBear4::from_u64(n);
-    if air.check().is_err() {
-        return Ok(None);
-    }
     let window = Window {
         local: &[number(3), number(5)],
         next: &[number(7), number(11)],
@@ -281,18 +260,17 @@ fn values(alloc: Global) -> Result<Option<Vec<BabyBear4>>, AllocError> {
         public_values: &[BabyBear::ZERO, BabyBear::ZERO, BabyBear::ONE],
         periodic: &[number(19)],
     };
-    Ok(Some(air.evaluate(alloc, &window)?))
+    assert!(rt; air.check().is_ok(), "malformed");
+    air.evaluate(alloc, &window).expect(rt, "memory")
 }
 
 #[test]
-fn values_in_an_extension(rt: HostRuntime) -> Result<(), Fail> {
-    let Some(values) = values(rt.alloc())? else {
-        return Err(Fail::from("malformed"));
-    };
+fn values_in_an_extension(rt: HostRuntime) {
     let mut expected = Vec::new(rt.alloc());
     for number in [3, 11, 33, 1, 19, 34, 15, 13, 28, 17] {
-        expected.push(BabyBear4::from_u64(number))?;
+        expected
+            .push(BabyBear4::from_u64(number))
+            .expect(&rt, "memory");
     }
-    assert!(rt; values == expected);
-    Ok(())
+    assert!(rt; values(&rt, rt.alloc()) == expected);
 }

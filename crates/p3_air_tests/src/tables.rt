@@ -2,8 +2,8 @@
 
 use p3_air::{Air, Assignment, TraceError};
 use p3_field::{BabyBear, Field};
-use std::alloc::{AllocError, Global};
-use std::test::Fail;
+use std::alloc::Global;
+use std::process::Abort;
 
 /// A trace and what goes with it, as numbers.
 #[derive(Clone, Copy, Debug)]
@@ -19,48 +19,50 @@ pub(crate) struct Numbers {
 pub(crate) type Change = (usize, usize, u64, Option<(usize, usize)>);
 
 /// The elements of these numbers.
-pub(crate) fn elements(alloc: Global, numbers: &[u64]) -> Result<Vec<BabyBear>, AllocError> {
+fn elements(rt: &impl Abort, alloc: Global, numbers: &[u64]) -> Vec<BabyBear> {
     let mut elements = Vec::new(alloc);
     for number in numbers {
-        elements.push(BabyBear::from_u64(*number))?;
+        elements
+            .push(BabyBear::from_u64(*number))
+            .expect(rt, "memory");
     }
-    Ok(elements)
+    elements
 }
 
 /// A vector for each of these lists.
-pub(crate) fn vectors(alloc: Global, lists: &[&[u64]]) -> Result<Vec<Vec<BabyBear>>, AllocError> {
+fn vectors(rt: &impl Abort, alloc: Global, lists: &[&[u64]]) -> Vec<Vec<BabyBear>> {
     let mut vectors = Vec::new(alloc);
     for numbers in lists {
-        vectors.push(elements(alloc, numbers)?)?;
+        vectors
+            .push(elements(rt, alloc, numbers))
+            .expect(rt, "memory");
     }
-    Ok(vectors)
+    vectors
 }
 
-/// What the system finds of these numbers, with one entry of the trace changed if asked for. A
-/// malformed system finds nothing.
+/// What the system finds of these numbers, with one entry of the trace changed if asked for.
 pub(crate) fn found(
+    rt: &impl Abort,
     alloc: Global,
     air: &Air<BabyBear>,
     numbers: &Numbers,
     change: Option<Change>,
-) -> Result<Result<(), TraceError>, AllocError> {
-    let mut trace = vectors(alloc, numbers.trace)?;
+) -> Result<(), TraceError> {
+    let mut trace = vectors(rt, alloc, numbers.trace);
     if let Some((row, column, value, _)) = change {
         if row < trace.len() && column < trace[row].len() {
             trace[row][column] = BabyBear::from_u64(value);
         }
     }
-    let preprocessed = vectors(alloc, numbers.preprocessed)?;
-    let public_values = elements(alloc, numbers.public_values)?;
-    let periodic = vectors(alloc, numbers.periodic)?;
+    let preprocessed = vectors(rt, alloc, numbers.preprocessed);
+    let public_values = elements(rt, alloc, numbers.public_values);
+    let periodic = vectors(rt, alloc, numbers.periodic);
     let given = Assignment {
         trace: &trace,
         preprocessed: &preprocessed,
         public_values: &public_values,
         periodic: &periodic,
     };
-    if air.check().is_err() {
-        return Ok(Err(TraceError::OutOfMemory));
-    }
-    Ok(air.check_trace(alloc, &given))
+    assert!(rt; air.check().is_ok(), "malformed");
+    air.check_trace(alloc, &given)
 }

@@ -4,35 +4,33 @@ use crate::systems::{alternating, digits, fibonacci, scaled, selected, unconstra
 use crate::tables::{Change, Numbers, found};
 use p3_air::{Air, TraceError};
 use p3_field::BabyBear;
-use std::alloc::{AllocError, Global};
-use std::test::Fail;
+use std::alloc::Global;
+use std::process::Abort;
 
-/// What is found, as a table has it.
-fn failure(outcome: Result<(), TraceError>) -> Option<(usize, usize)> {
-    match outcome {
-        Err(TraceError::Unsatisfied { row, constraint }) => Some((row, constraint)),
-        _ => None,
+/// Whether this is what is found, as a table has it.
+fn is_expected(outcome: Result<(), TraceError>, expected: Option<(usize, usize)>) -> bool {
+    match expected {
+        Some((row, constraint)) => outcome == Err(TraceError::Unsatisfied { row, constraint }),
+        None => outcome.is_ok(),
     }
 }
 
-/// The first of these changes after which something else is found.
-fn first_wrong(
+/// Asserts that the trace satisfies the system, and what is found after each of these changes.
+fn assert_found(
+    rt: &impl Abort,
     alloc: Global,
     air: &Air<BabyBear>,
     numbers: &Numbers,
     changes: &[Change],
-) -> Result<Option<Change>, AllocError> {
+) {
+    assert!(rt; found(rt, alloc, air, numbers, None).is_ok(), "unchanged");
     for change in changes {
-        let result = found(alloc, air, numbers, Some(*change))?;
-        let expected = change.3;
-        if result.is_ok() != expected.is_none() || failure(result) != expected {
-            return Ok(Some(*change));
-        }
+        let outcome = found(rt, alloc, air, numbers, Some(*change));
+        assert!(rt; is_expected(outcome, change.3), "{change:?}");
     }
-    Ok(None)
 }
 
-const FIBONACCI: Numbers = Numbers {
+static FIBONACCI: Numbers = Numbers {
     trace: &[
         &[0, 1],
         &[1, 1],
@@ -48,7 +46,7 @@ const FIBONACCI: Numbers = Numbers {
     periodic: &[],
 };
 
-const FIBONACCI_CHANGES: [Change; 16] = [
+static FIBONACCI_CHANGES: [Change; 16] = [
     (0, 0, 4, Some((0, 0))),
     (0, 1, 4, Some((0, 1))),
     (1, 0, 4, Some((0, 2))),
@@ -68,16 +66,13 @@ const FIBONACCI_CHANGES: [Change; 16] = [
 ];
 
 #[test]
-fn fibonacci_numbers(rt: HostRuntime) -> Result<(), Fail> {
-    let air = fibonacci(rt.alloc())?;
-    assert!(rt; found(rt.alloc(), &air, &FIBONACCI, None)?.is_ok());
-    let wrong = first_wrong(rt.alloc(), &air, &FIBONACCI, &FIBONACCI_CHANGES)?;
-    assert!(rt; wrong.is_none(), "{wrong:?}");
-    Ok(())
+fn fibonacci_numbers(rt: HostRuntime) {
+    let air = fibonacci(&rt, rt.alloc());
+    assert_found(&rt, rt.alloc(), &air, &FIBONACCI, &FIBONACCI_CHANGES);
 }
 
 /// Two rows and one, with public values, and what is found.
-const SHORT: [(&[&[u64]], &[u64], Option<(usize, usize)>); 6] = [
+static SHORT: [(&[&[u64]], &[u64], Option<(usize, usize)>); 6] = [
     (&[&[0, 1], &[1, 1]], &[0, 1, 1], None),
     (&[&[0, 1], &[1, 1]], &[0, 1, 2], Some((1, 4))),
     (&[&[0, 1], &[1, 1]], &[2, 1, 1], Some((0, 0))),
@@ -86,42 +81,29 @@ const SHORT: [(&[&[u64]], &[u64], Option<(usize, usize)>); 6] = [
     (&[&[0, 1]], &[0, 3, 1], Some((0, 1))),
 ];
 
-/// The place of the first of these of which something else is found.
-fn first_wrong_short(
-    alloc: Global,
-    air: &Air<BabyBear>,
-) -> Result<Option<&'static [u64]>, AllocError> {
-    for (trace, public_values, expected) in SHORT {
+#[test]
+fn short_traces(rt: HostRuntime) {
+    let air = fibonacci(&rt, rt.alloc());
+    for (trace, public_values, expected) in &SHORT {
         let numbers = Numbers {
-            trace,
-            public_values,
+            trace: *trace,
+            public_values: *public_values,
             preprocessed: &[],
             periodic: &[],
         };
-        let result = found(alloc, air, &numbers, None)?;
-        if result.is_ok() != expected.is_none() || failure(result) != expected {
-            return Ok(Some(public_values));
-        }
+        let outcome = found(&rt, rt.alloc(), &air, &numbers, None);
+        assert!(rt; is_expected(outcome, *expected), "{public_values:?}");
     }
-    Ok(None)
 }
 
-#[test]
-fn short_traces(rt: HostRuntime) -> Result<(), Fail> {
-    let air = fibonacci(rt.alloc())?;
-    let wrong = first_wrong_short(rt.alloc(), &air)?;
-    assert!(rt; wrong.is_none(), "{wrong:?}");
-    Ok(())
-}
-
-const DIGITS: Numbers = Numbers {
+static DIGITS: Numbers = Numbers {
     trace: &[&[0, 0, 0, 0], &[5, 1, 0, 1], &[6, 0, 1, 1], &[7, 1, 1, 1]],
     preprocessed: &[],
     public_values: &[],
     periodic: &[],
 };
 
-const DIGITS_CHANGES: [Change; 6] = [
+static DIGITS_CHANGES: [Change; 6] = [
     (0, 1, 2, Some((0, 0))),
     (1, 2, 2, Some((1, 1))),
     (2, 3, 2013265920, Some((2, 2))),
@@ -130,95 +112,82 @@ const DIGITS_CHANGES: [Change; 6] = [
     (1, 3, 0, Some((1, 3))),
 ];
 
-const SELECTED: Numbers = Numbers {
+static SELECTED: Numbers = Numbers {
     trace: &[&[5], &[9], &[5], &[7]],
     preprocessed: &[&[1], &[0], &[1], &[0]],
     public_values: &[],
     periodic: &[],
 };
 
-const SELECTED_CHANGES: [Change; 4] = [
+static SELECTED_CHANGES: [Change; 4] = [
     (0, 0, 6, Some((0, 0))),
     (1, 0, 6, None),
     (2, 0, 6, Some((1, 1))),
     (3, 0, 6, None),
 ];
 
-const SCALED: Numbers = Numbers {
+static SCALED: Numbers = Numbers {
     trace: &[&[1], &[2], &[6], &[12]],
     preprocessed: &[],
     public_values: &[],
     periodic: &[&[2, 3]],
 };
 
-const SCALED_CHANGES: [Change; 4] = [
+static SCALED_CHANGES: [Change; 4] = [
     (0, 0, 5, Some((0, 0))),
     (1, 0, 5, Some((0, 0))),
     (2, 0, 5, Some((1, 0))),
     (3, 0, 5, Some((2, 0))),
 ];
 
-const ALTERNATING: Numbers = Numbers {
+static ALTERNATING: Numbers = Numbers {
     trace: &[&[3], &[2013265918], &[3], &[2013265918]],
     preprocessed: &[],
     public_values: &[],
     periodic: &[],
 };
 
-const ALTERNATING_CHANGES: [Change; 2] = [
+static ALTERNATING_CHANGES: [Change; 2] = [
     (3, 0, 3, Some((2, 0))),
     (0, 0, 2013265918, Some((0, 0))),
 ];
 
 #[test]
-fn digits_are_zero_or_one(rt: HostRuntime) -> Result<(), Fail> {
-    let air = digits(rt.alloc())?;
-    assert!(rt; found(rt.alloc(), &air, &DIGITS, None)?.is_ok());
-    let wrong = first_wrong(rt.alloc(), &air, &DIGITS, &DIGITS_CHANGES)?;
-    assert!(rt; wrong.is_none(), "{wrong:?}");
-    Ok(())
+fn digits_are_zero_or_one(rt: HostRuntime) {
+    let air = digits(&rt, rt.alloc());
+    assert_found(&rt, rt.alloc(), &air, &DIGITS, &DIGITS_CHANGES);
 }
 
 #[test]
-fn a_preprocessed_column_selects(rt: HostRuntime) -> Result<(), Fail> {
-    let air = selected(rt.alloc())?;
-    assert!(rt; found(rt.alloc(), &air, &SELECTED, None)?.is_ok());
-    let wrong = first_wrong(rt.alloc(), &air, &SELECTED, &SELECTED_CHANGES)?;
-    assert!(rt; wrong.is_none(), "{wrong:?}");
-    Ok(())
+fn a_preprocessed_column_selects(rt: HostRuntime) {
+    let air = selected(&rt, rt.alloc());
+    assert_found(&rt, rt.alloc(), &air, &SELECTED, &SELECTED_CHANGES);
 }
 
 #[test]
-fn a_periodic_column_scales(rt: HostRuntime) -> Result<(), Fail> {
-    let air = scaled(rt.alloc())?;
-    assert!(rt; found(rt.alloc(), &air, &SCALED, None)?.is_ok());
-    let wrong = first_wrong(rt.alloc(), &air, &SCALED, &SCALED_CHANGES)?;
-    assert!(rt; wrong.is_none(), "{wrong:?}");
-    Ok(())
+fn a_periodic_column_scales(rt: HostRuntime) {
+    let air = scaled(&rt, rt.alloc());
+    assert_found(&rt, rt.alloc(), &air, &SCALED, &SCALED_CHANGES);
 }
 
 #[test]
-fn the_row_after_the_last_is_the_first(rt: HostRuntime) -> Result<(), Fail> {
-    let air = alternating(rt.alloc())?;
-    assert!(rt; found(rt.alloc(), &air, &ALTERNATING, None)?.is_ok());
-    let wrong = first_wrong(rt.alloc(), &air, &ALTERNATING, &ALTERNATING_CHANGES)?;
-    assert!(rt; wrong.is_none(), "{wrong:?}");
+fn the_row_after_the_last_is_the_first(rt: HostRuntime) {
+    let air = alternating(&rt, rt.alloc());
+    assert_found(&rt, rt.alloc(), &air, &ALTERNATING, &ALTERNATING_CHANGES);
     let odd = Numbers {
         trace: &[&[3], &[2013265918], &[3]],
         ..ALTERNATING
     };
-    assert!(rt; failure(found(rt.alloc(), &air, &odd, None)?) == Some((2, 0)));
-    Ok(())
+    assert!(rt; is_expected(found(&rt, rt.alloc(), &air, &odd, None), Some((2, 0))));
 }
 
 #[test]
-fn without_constraints_all_traces_hold(rt: HostRuntime) -> Result<(), Fail> {
-    let air = unconstrained(rt.alloc())?;
-    assert!(rt; found(rt.alloc(), &air, &SCALED_ALONE, None)?.is_ok());
-    Ok(())
+fn without_constraints_all_traces_hold(rt: HostRuntime) {
+    let air = unconstrained(&rt, rt.alloc());
+    assert!(rt; found(&rt, rt.alloc(), &air, &SCALED_ALONE, None).is_ok());
 }
 
-const SCALED_ALONE: Numbers = Numbers {
+static SCALED_ALONE: Numbers = Numbers {
     trace: &[&[1], &[2]],
     preprocessed: &[],
     public_values: &[],

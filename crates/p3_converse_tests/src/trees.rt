@@ -6,70 +6,47 @@ use p3_converse::{
     unfold_tree, unfolds_within_range,
 };
 use p3_field::{BabyBear, Field};
-use std::alloc::{AllocError, Global};
-use std::test::Fail;
+use std::alloc::Global;
+use std::process::Abort;
 
-/// A leaf with these coefficients.
-fn leaf(alloc: Global, numbers: &[u64]) -> Result<FoldTree<BabyBear>, AllocError> {
-    Ok(FoldTree::Leaf(elements::<BabyBear>(alloc, numbers)?))
-}
-
-/// A node over these challenges, as many as there are trees.
-fn node(
+/// A leaf with these coefficients, under a challenge.
+fn leaf(
+    rt: &impl Abort,
     alloc: Global,
-    betas: &[u64],
-    trees: Vec<FoldTree<BabyBear>>,
-) -> Result<FoldTree<BabyBear>, AllocError> {
-    let mut subtrees = Vec::with_capacity(alloc, trees.len())?;
-    for (beta, tree) in betas.iter().zip(trees) {
-        subtrees.push((BabyBear::from_u64(*beta), tree))?;
-    }
-    Ok(FoldTree::Node(subtrees))
+    beta: u64,
+    numbers: &[u64],
+) -> (BabyBear, FoldTree<BabyBear>) {
+    let leaf = FoldTree::Leaf(elements::<BabyBear>(rt, alloc, numbers));
+    (BabyBear::from_u64(beta), leaf)
 }
 
 /// Leaves with these coefficients under two challenges.
 fn leaves(
+    rt: &impl Abort,
     alloc: Global,
     betas: [u64; 2],
     coefficients: [&[u64]; 2],
-) -> Result<FoldTree<BabyBear>, AllocError> {
-    let mut trees = Vec::with_capacity(alloc, 2)?;
-    for numbers in coefficients {
-        trees.push(leaf(alloc, numbers)?)?;
-    }
-    node(alloc, &betas, trees)
+) -> FoldTree<BabyBear> {
+    let first = leaf(rt, alloc, betas[0], coefficients[0]);
+    let second = leaf(rt, alloc, betas[1], coefficients[1]);
+    FoldTree::Node(vec![in alloc; first, second].expect(rt, "memory"))
 }
 
 /// A tree of two rounds over these challenges, with each pair of constants at leaves under 0 and 1.
 fn two_rounds(
+    rt: &impl Abort,
     alloc: Global,
     betas: &[u64],
     constants: &[[u64; 2]],
-) -> Result<FoldTree<BabyBear>, AllocError> {
-    let mut trees = Vec::with_capacity(alloc, constants.len())?;
-    for [first, second] in constants {
-        trees.push(leaves(alloc, [0, 1], [&[*first], &[*second]])?)?;
+) -> FoldTree<BabyBear> {
+    let mut subtrees = Vec::new(alloc);
+    for (beta, [first, second]) in betas.iter().zip(constants) {
+        let tree = leaves(rt, alloc, [0, 1], [&[*first], &[*second]]);
+        subtrees
+            .push((BabyBear::from_u64(*beta), tree))
+            .expect(rt, "memory");
     }
-    node(alloc, betas, trees)
-}
-
-/// What the tree unfolds to, unless a condition fails.
-fn unfolded(
-    alloc: Global,
-    rounds: &[(usize, bool)],
-    tree: &FoldTree<BabyBear>,
-) -> Result<(Vec<BabyBear>, Vec<Vec<BabyBear>>), Fail> {
-    if !log_arities_fit(rounds) || !paths_fit(rounds, tree) {
-        return Err(Fail::new("not the tree's rounds"));
-    }
-    let length = leaf_length(tree);
-    if !leaves_fit(length, tree) || !unfolds_within_range(length, log_arity_sum(rounds)) {
-        return Err(Fail::new("not leaves of one length"));
-    }
-    if !challenges_fit(alloc, rounds, tree)? {
-        return Err(Fail::new("not the rounds' challenges"));
-    }
-    Ok(unfold_tree(alloc, rounds, tree)?)
+    FoldTree::Node(subtrees)
 }
 
 /// Challenges of the first round, the constants at the leaves, the rounds, and what they unfold to:
@@ -84,7 +61,7 @@ struct Case {
     inputs: &'static [&'static [u64]],
 }
 
-const CASES: [Case; 2] = [
+static CASES: [Case; 2] = [
     Case {
         name: "two rounds",
         betas: &[0, 1],
@@ -104,55 +81,59 @@ const CASES: [Case; 2] = [
 ];
 
 /// Whether the case's tree unfolds so.
-fn unfolds(alloc: Global, case: &Case) -> Result<bool, Fail> {
-    let tree = two_rounds(alloc, case.betas, case.constants)?;
-    let (word, inputs) = unfolded(alloc, case.rounds, &tree)?;
-    Ok(are_numbers(&word, case.word) && are_polynomials(&inputs, case.inputs))
+fn unfolds(rt: &impl Abort, alloc: Global, case: &Case) -> bool {
+    let rounds = case.rounds;
+    let tree = two_rounds(rt, alloc, case.betas, case.constants);
+    assert!(rt;
+        log_arities_fit(rounds) && paths_fit(rounds, &tree),
+        "not the tree's rounds"
+    );
+    let length = leaf_length(&tree);
+    assert!(rt;
+        leaves_fit(length, &tree) && unfolds_within_range(length, log_arity_sum(rounds)),
+        "not leaves of one length"
+    );
+    let have_challenges = challenges_fit(alloc, rounds, &tree).expect(rt, "memory");
+    assert!(rt; have_challenges, "not the rounds' challenges");
+    let (word, inputs) = unfold_tree(alloc, rounds, &tree).expect(rt, "memory");
+    are_numbers(&word, case.word) && are_polynomials(&inputs, case.inputs)
 }
 
 /// Whether a tree with one round on a path and two on the other passes for one of two rounds.
-fn an_uneven_tree_fits(alloc: Global) -> Result<bool, AllocError> {
-    let mut trees = Vec::with_capacity(alloc, 2)?;
-    trees.push(leaves(alloc, [0, 1], [&[1], &[3]])?)?;
-    trees.push(leaf(alloc, &[4])?)?;
-    let tree = node(alloc, &[0, 1], trees)?;
-    Ok(paths_fit(&[(1, false), (1, false)], &tree))
+fn an_uneven_tree_fits(rt: &impl Abort, alloc: Global) -> bool {
+    let two_rounds = (BabyBear::ZERO, leaves(rt, alloc, [0, 1], [&[1], &[3]]));
+    let one_round = leaf(rt, alloc, 1, &[4]);
+    let subtrees = vec![in alloc; two_rounds, one_round].expect(rt, "memory");
+    paths_fit(&[(1, false), (1, false)], &FoldTree::Node(subtrees))
 }
 
 /// Of leaves under two challenges: whether paths and challenges are those of one round, and whether
 /// the leaves have one length.
 fn leaves_pass(
+    rt: &impl Abort,
     alloc: Global,
     betas: [u64; 2],
     coefficients: [&[u64]; 2],
-) -> Result<(bool, bool, bool), AllocError> {
+) -> (bool, bool, bool) {
     let round = [(1, false)];
-    let tree = leaves(alloc, betas, coefficients)?;
-    let challenges = challenges_fit(alloc, &round, &tree)?;
-    Ok((
+    let tree = leaves(rt, alloc, betas, coefficients);
+    (
         paths_fit(&round, &tree),
-        challenges,
+        challenges_fit(alloc, &round, &tree).expect(rt, "memory"),
         leaves_fit(leaf_length(&tree), &tree),
-    ))
-}
-
-/// Whether trees are caught that are uneven, repeat a challenge or have leaves of two lengths.
-fn others_are_caught(alloc: Global) -> Result<bool, AllocError> {
-    let repeated_challenge = leaves_pass(alloc, [7, 7], [&[1], &[2]])?;
-    let two_lengths = leaves_pass(alloc, [0, 1], [&[1], &[2, 3]])?;
-    Ok(
-        repeated_challenge == (true, false, true)
-            && two_lengths == (true, true, false)
-            && !an_uneven_tree_fits(alloc)?,
     )
 }
 
 #[test]
-fn trees_unfold_or_are_caught(rt: HostRuntime) -> Result<(), Fail> {
+fn trees_unfold_or_are_caught(rt: HostRuntime) {
     for case in &CASES {
-        assert!(rt; unfolds(rt.alloc(), case)?, "{}", case.name);
+        assert!(rt; unfolds(&rt, rt.alloc(), case), "{}", case.name);
     }
-    assert!(rt; others_are_caught(rt.alloc())?);
+    let repeated_challenge = leaves_pass(&rt, rt.alloc(), [7, 7], [&[1], &[2]]);
+    assert!(rt; repeated_challenge == (true, false, true));
+    let two_lengths = leaves_pass(&rt, rt.alloc(), [0, 1], [&[1], &[2, 3]]);
+    assert!(rt; two_lengths == (true, true, false));
+    assert!(rt; !an_uneven_tree_fits(&rt, rt.alloc()));
     let are_within_range = [
         log_arities_fit(&[(1, false), (0, true)]),
         log_arities_fit(&[(60, false), (4, true)]),
@@ -161,5 +142,4 @@ fn trees_unfold_or_are_caught(rt: HostRuntime) -> Result<(), Fail> {
         unfolds_within_range(2, 63),
     ];
     assert!(rt; are_within_range == [false, false, true, true, false]);
-    Ok(())
 }

@@ -1,16 +1,15 @@
 //! Folds, batches and quotients of worked values, undone.
 
 ghost use Rattle.std.specs.Prelude.{◌≡◌, ◌+◌, ◌^◌, ◌<◌, IsTrue};
-ghost use Rattle.p3_converse.specs.Unfolding.{common_length};
 
-use crate::lists::{are_polynomials, elements, polynomials};
+use crate::lists::{are_polynomials, elements, first_length, polynomials};
 use p3_converse::{
     are_distinct, have_one_length, unbatch, unfold, unfold_with_input, unfolds_within_range,
     unquotient,
 };
 use p3_field::{BabyBear, BabyBear4, Field};
-use std::alloc::{AllocError, Global};
-use std::test::Fail;
+use std::alloc::Global;
+use std::process::Abort;
 
 /// What is undone.
 #[derive(Clone, Copy)]
@@ -35,7 +34,7 @@ struct Case {
     undone: &'static [&'static [u64]],
 }
 
-const CASES: [Case; 9] = [
+static CASES: [Case; 9] = [
     Case {
         name: "a fold to two constants",
         call: Call::Unfold(1),
@@ -110,16 +109,6 @@ const CASES: [Case; 9] = [
     },
 ];
 
-/// The length of the first polynomial, which is that of all.
-fn first_length<F: Field>(polys: &[Vec<F>]) -> usize
-    ensures { result ≡ common_length polys.now }
-{
-    match polys {
-        [] => 0,
-        [first, ..] => first.len(),
-    }
-}
-
 /// Whether these are `2^log_arity`, and so many more.
 #[tactic(auto, using(std::proofs::lemmas::Nat::one_shl))]
 fn is_count(count: usize, log_arity: usize, more: usize) -> bool
@@ -134,70 +123,71 @@ fn is_count(count: usize, log_arity: usize, more: usize) -> bool
 
 /// The polynomial of which this is the quotient, unless the shift is zero.
 fn unquotiented<F: Field>(
+    rt: &impl Abort,
     alloc: Global,
     shift: F,
     point: F,
     claim: F,
-    polys: &[Vec<F>],
-) -> Result<Vec<Vec<F>>, AllocError> {
+    quotient: &[F],
+) -> Vec<Vec<F>> {
     let mut undone = Vec::new(alloc);
-    if let [quotient] = polys {
-        if !shift.is_zero() && quotient.len() < 100 {
-            undone.push(unquotient(alloc, shift, point, claim, quotient)?)?;
-        }
+    if !shift.is_zero() && quotient.len() < 100 {
+        let poly = unquotient(alloc, shift, point, claim, quotient).expect(rt, "memory");
+        undone.push(poly).expect(rt, "memory");
     }
-    Ok(undone)
+    undone
 }
 
-/// What the case's polynomials come from, or nothing.
-fn undone<F: Field>(alloc: Global, case: &Case) -> Result<Vec<Vec<F>>, AllocError> {
-    let points = elements::<F>(alloc, case.challenges)?;
-    let polys = polynomials::<F>(alloc, case.polys)?;
-    let mut undone = Vec::new(alloc);
+/// What the case's polynomials come from.
+fn undone<F: Field>(rt: &impl Abort, alloc: Global, case: &Case) -> Vec<Vec<F>> {
+    let name = case.name;
+    let points = elements::<F>(rt, alloc, case.challenges);
+    let polys = polynomials::<F>(rt, alloc, case.polys);
     let (count, length) = (points.len(), first_length(&polys));
-    if polys.len() != count || !are_distinct(&points) || !have_one_length(&polys) || count == 0 {
-        return Ok(undone);
-    }
+    assert!(rt;
+        count > 0 && polys.len() == count && are_distinct(&points) && have_one_length(&polys),
+        "{name}"
+    );
     match case.call {
         Call::Unfold(log_arity) => {
-            if is_count(count, log_arity, 0) && unfolds_within_range(length, log_arity) {
-                undone.push(unfold(alloc, log_arity, &points, &polys)?)?;
-            }
-        }
-        Call::UnfoldWithInput(log_arity) => {
-            if is_count(count, log_arity, 1) && unfolds_within_range(length, log_arity) {
-                let (word, input) = unfold_with_input(alloc, log_arity, &points, &polys)?;
-                undone.push(word)?;
-                undone.push(input)?;
-            }
-        }
-        Call::Unbatch => return unbatch(alloc, &points, &polys),
-        Call::Unquotient { shift, claim } => {
-            return unquotiented(
-                alloc,
-                F::from_u64(shift),
-                points[0],
-                F::from_u64(claim),
-                &polys,
+            assert!(rt;
+                is_count(count, log_arity, 0) && unfolds_within_range(length, log_arity),
+                "{name}"
             );
-        }
+            let word = unfold(alloc, log_arity, &points, &polys).expect(rt, "memory");
+            vec![in alloc; word].expect(rt, "memory")
+        },
+        Call::UnfoldWithInput(log_arity) => {
+            assert!(rt;
+                is_count(count, log_arity, 1) && unfolds_within_range(length, log_arity),
+                "{name}"
+            );
+            let unfolded = unfold_with_input(alloc, log_arity, &points, &polys);
+            let (word, input) = unfolded.expect(rt, "memory");
+            vec![in alloc; word, input].expect(rt, "memory")
+        },
+        Call::Unbatch => unbatch(alloc, &points, &polys).expect(rt, "memory"),
+        Call::Unquotient { shift, claim } => unquotiented(
+            rt,
+            alloc,
+            F::from_u64(shift),
+            points[0],
+            F::from_u64(claim),
+            &polys[0],
+        ),
     }
-    Ok(undone)
 }
 
-/// The first case that comes from others.
-fn first_wrong<F: Field>(alloc: Global) -> Result<Option<&'static str>, AllocError> {
+/// Asserts of each case that it comes from what it says.
+fn assert_undone<F: Field>(rt: &impl Abort, alloc: Global) {
     for case in &CASES {
-        if !are_polynomials(&undone::<F>(alloc, case)?, case.undone) {
-            return Ok(Some(case.name));
-        }
+        let undone = undone::<F>(rt, alloc, case);
+        assert!(rt; are_polynomials(&undone, case.undone), "{}", case.name);
     }
-    Ok(None)
 }
 
 #[test]
-fn folds_batches_and_quotients_are_undone(rt: HostRuntime) -> Result<(), Fail> {
-    let wrong = first_wrong::<BabyBear>(rt.alloc())?.or(first_wrong::<BabyBear4>(rt.alloc())?);
-    assert!(rt; wrong.is_none(), "{wrong:?}");
-    Ok(())
+fn folds_batches_and_quotients_are_undone(rt: HostRuntime) {
+    assert_undone::<BabyBear>(&rt, rt.alloc());
+    assert_undone::<BabyBear4>(&rt, rt.alloc());
 }

@@ -4,8 +4,8 @@ use p3_field::{BabyBear, Field};
 use p3_matrix::RowMajorMatrix;
 use rand_chacha::ChaCha20Rng;
 use rand_core::{Rng, SeedableRng};
-use std::alloc::{AllocError, Global};
-use std::test::Fail;
+use std::alloc::Global;
+use std::process::Abort;
 
 /// What is added to a matrix of two rows of three: how many columns, and the generator's seed.
 const CASES: [(usize, u8); 5] = [(0, 0), (1, 0), (2, 7), (3, 1), (9, 255)];
@@ -50,39 +50,27 @@ fn has_zeros(wider: &RowMajorMatrix<BabyBear>, from: usize) -> bool {
 
 /// Whether both calls widen the matrix, and the generator stands just past its words.
 fn widens(
+    rt: &impl Abort,
     alloc: Global,
     matrix: &RowMajorMatrix<BabyBear>,
     count: usize,
     seed: u8,
-) -> Result<bool, AllocError> {
+) -> bool {
     let mut rng = ChaCha20Rng::from_seed([seed; 32]);
     let mut words = ChaCha20Rng::from_seed([seed; 32]);
-    let random = matrix.with_random_cols(alloc, count, &mut rng)?;
-    let padded = matrix.with_zero_cols(alloc, count)?;
-    Ok(
-        keeps_columns(matrix, &random, count)
-            && keeps_columns(matrix, &padded, count)
-            && has_next_words(&random, matrix.width(), &mut words)
-            && has_zeros(&padded, matrix.width())
-            && rng.next_u64() == words.next_u64(),
-    )
-}
-
-/// The place of the first case in which the columns are wrong.
-fn first_wrong(
-    alloc: Global,
-    matrix: &RowMajorMatrix<BabyBear>,
-) -> Result<Option<usize>, AllocError> {
-    for (place, (count, seed)) in CASES.iter().enumerate() {
-        if !widens(alloc, matrix, *count, *seed)? {
-            return Ok(Some(place));
-        }
-    }
-    Ok(None)
+    let random = matrix
+        .with_random_cols(alloc, count, &mut rng)
+        .expect(rt, "memory");
+    let padded = matrix.with_zero_cols(alloc, count).expect(rt, "memory");
+    keeps_columns(matrix, &random, count)
+        && keeps_columns(matrix, &padded, count)
+        && has_next_words(&random, matrix.width(), &mut words)
+        && has_zeros(&padded, matrix.width())
+        && rng.next_u64() == words.next_u64()
 }
 
 #[test]
-fn adds_columns_on_the_right(rt: HostRuntime) -> Result<(), Fail> {
+fn adds_columns_on_the_right(rt: HostRuntime) {
     let values = vec![in rt.alloc();
         BabyBear::ONE,
         BabyBear::TWO,
@@ -90,20 +78,25 @@ fn adds_columns_on_the_right(rt: HostRuntime) -> Result<(), Fail> {
         BabyBear::GENERATOR,
         BabyBear::TWO,
         -BabyBear::ONE,
-    ]?;
-    let matrix = RowMajorMatrix::new(values, 3);
-    assert!(rt; first_wrong(rt.alloc(), &matrix)? == None);
-    Ok(())
+    ];
+    let matrix = RowMajorMatrix::new(values.expect(&rt, "memory"), 3);
+    for (place, (count, seed)) in CASES.iter().enumerate() {
+        assert!(rt;
+            widens(&rt, rt.alloc(), &matrix, *count, *seed),
+            "case {place}"
+        );
+    }
 }
 
 /// The first word of the generator whose seed is all zeros, which is known from its standard.
 #[test]
-fn draws_the_known_first_word(rt: HostRuntime) -> Result<(), Fail> {
-    let values = vec![in rt.alloc(); BabyBear::ONE]?;
+fn draws_the_known_first_word(rt: HostRuntime) {
+    let values = vec![in rt.alloc(); BabyBear::ONE].expect(&rt, "memory");
     let matrix = RowMajorMatrix::new(values, 1);
     let mut rng = ChaCha20Rng::from_seed([0; 32]);
-    let wider = matrix.with_random_cols(rt.alloc(), 1, &mut rng)?;
+    let wider = matrix
+        .with_random_cols(rt.alloc(), 1, &mut rng)
+        .expect(&rt, "memory");
     let expected = BabyBear::from_u64(1_378_443_179);
     assert!(rt; (wider.get(0, 0), wider.get(0, 1)) == (Some(BabyBear::ONE), Some(expected)));
-    Ok(())
 }

@@ -1,8 +1,9 @@
 //! Worked values, and each public call at a concrete type through its bound.
 
-use crate::cases::first_wrong;
+use crate::encoding::has_bytes;
 use p3_field::laws::{baby_bear_law, two_adic_order_law};
-use p3_field::{BabyBear, ElementBytes, ExtensionField, Field, PrimeField64, TwoAdicField};
+use p3_field::{BabyBear, ExtensionField, Field, PrimeField64, TwoAdicField};
+use p3_test_fields::{field_values, first_wrong};
 
 /// The canonical numbers of what the calls of a prime field give at 5 and 7, and its constants.
 const FIELD_VALUES: [(&str, u64); 13] = [
@@ -20,27 +21,6 @@ const FIELD_VALUES: [(&str, u64); 13] = [
     ("order", 2013265921),
     ("generator", 31),
 ];
-
-/// What they give.
-fn field_values<F: PrimeField64>() -> [u64; 13] {
-    let five = F::from_u64(5);
-    let seven = F::from_u64(7);
-    [
-        (five + seven).as_canonical_u64(),
-        (five - seven).as_canonical_u64(),
-        (five * seven).as_canonical_u64(),
-        (-five).as_canonical_u64(),
-        five.double().as_canonical_u64(),
-        five.square().as_canonical_u64(),
-        F::ONE.halve().as_canonical_u64(),
-        five.exp_u64(3).as_canonical_u64(),
-        five.exp_power_of_2(2).as_canonical_u64(),
-        F::TWO.as_canonical_u64(),
-        F::BITS as u64,
-        F::ORDER_U64,
-        F::GENERATOR.as_canonical_u64(),
-    ]
-}
 
 /// The first of the first ten positive numbers which times its inverse isn't one, or zero if it has
 /// an inverse.
@@ -102,23 +82,13 @@ const WRAPPED: [(u64, u64); 3] = [
     (u64::MAX, 1172168162),
 ];
 
-/// The first of them whose element is another.
-fn first_wrong_wrapped() -> Option<u64> {
-    for (number, canonical) in WRAPPED {
-        if canonical >= BabyBear::ORDER_U64 {
-            return Some(number);
-        }
-        if BabyBear::from_u64(number) != BabyBear::from_canonical(canonical) {
-            return Some(number);
-        }
-    }
-    None
-}
-
 #[test]
 fn numbers_wrap_at_the_order(rt: HostRuntime) {
-    let wrong = first_wrong_wrapped();
-    assert!(rt; wrong.is_none(), "{wrong:?}");
+    for (number, canonical) in &WRAPPED {
+        let right = *canonical < BabyBear::ORDER_U64
+            && BabyBear::from_u64(*number) == BabyBear::from_canonical(*canonical);
+        assert!(rt; right, "{number}");
+    }
 }
 
 #[test]
@@ -144,17 +114,8 @@ fn extends_itself(rt: HostRuntime) {
     assert!(rt; (coefficient, dimension) == (five, 1));
 }
 
-/// The encoding, byte by byte, of a type with four of them.
-fn four_bytes<T: ElementBytes>(value: T) -> Option<[u8; 4]> {
-    if T::LEN == 4 {
-        Some([value.byte(0), value.byte(1), value.byte(2), value.byte(3)])
-    } else {
-        None
-    }
-}
-
 #[test]
 fn bytes_are_little_endian(rt: HostRuntime) {
     let value = -BabyBear::from_u64(3);
-    assert!(rt; four_bytes(value) == Some([0xfe, 0xff, 0xff, 0x77]));
+    assert!(rt; has_bytes(value, &[0xfe, 0xff, 0xff, 0x77]));
 }

@@ -1,8 +1,9 @@
 //! Worked values, and each public call of an extension at BabyBear4 through its bound.
 
-use crate::cases::first_wrong;
+use crate::encoding::has_bytes;
 use p3_field::baby_bear4::laws::baby_bear4_law;
-use p3_field::{BabyBear, BabyBear4, ElementBytes, ExtensionField, Field, PrimeField64};
+use p3_field::{BabyBear, BabyBear4, ExtensionField, Field, PrimeField64};
+use p3_test_fields::{comes_back, extension_values, first_wrong};
 
 fn polynomial(coefficients: [u64; 4]) -> BabyBear4 {
     let [constant, linear, quadratic, cubic] = coefficients;
@@ -51,39 +52,6 @@ const VALUES: [(&str, [u64; 4]); 10] = [
     ("7 lifted", [7, 0, 0, 0]),
 ];
 
-/// What the calls of an extension give at one of its elements and one of the base field.
-fn values<F: Field, E: ExtensionField<F>>(x: E, factor: F) -> [E; 10] {
-    [
-        x + E::TWO,
-        x - E::from_u64(3),
-        -x,
-        x.double(),
-        x.halve(),
-        x.square(),
-        x.exp_u64(3),
-        x.exp_power_of_2(1),
-        x.scale(factor),
-        E::from_base(factor),
-    ]
-}
-
-/// Whether each coefficient comes back.
-fn comes_back<F: Field, E: ExtensionField<F>>(coefficients: &[F]) -> bool {
-    if coefficients.len() != E::DIMENSION {
-        return false;
-    }
-    let element = E::from_coefficients(coefficients);
-    for (index, value) in coefficients.iter().enumerate() {
-        if element.coefficient(index) != *value {
-            return false;
-        }
-        if E::ZERO.with_coefficient(index, *value).coefficient(index) != *value {
-            return false;
-        }
-    }
-    true
-}
-
 #[test]
 fn products_of_polynomials(rt: HostRuntime) {
     let x = polynomial([0, 1, 0, 0]);
@@ -99,7 +67,7 @@ fn products_of_polynomials(rt: HostRuntime) {
 #[test]
 fn calls_of_an_extension(rt: HostRuntime) {
     let seven = BabyBear::from_u64(7);
-    let found = values::<BabyBear, BabyBear4>(polynomial([1, 2, 3, 4]), seven);
+    let found = extension_values::<BabyBear, BabyBear4>(polynomial([1, 2, 3, 4]), seven);
     let wrong = first_wrong(&found.map(coefficients), &VALUES);
     assert!(rt; wrong.is_none(), "{wrong:?}");
     let one_to_four = [1, 2, 3, 4].map(BabyBear::from_u64);
@@ -130,23 +98,12 @@ fn coefficients_of_a_basis(rt: HostRuntime) {
     assert!(rt; wrong.is_none(), "{wrong:?}");
 }
 
-/// The encoding, byte by byte, of a type with sixteen of them.
-fn sixteen_bytes<T: ElementBytes>(value: T) -> [u8; 16] {
-    let mut bytes = [0; 16];
-    if T::LEN == 16 {
-        for (index, byte) in bytes.iter_mut().enumerate() {
-            *byte = value.byte(index);
-        }
-    }
-    bytes
-}
-
 #[test]
 fn bytes_of_the_coefficients(rt: HostRuntime) {
     // 2013265918, and 16909060 with the bytes 4, 3, 2, 1
     let value = polynomial([2013265918, 1, 256, 16909060]);
     let wanted = [0xfe, 0xff, 0xff, 0x77, 1, 0, 0, 0, 0, 1, 0, 0, 4, 3, 2, 1];
-    assert!(rt; sixteen_bytes(value) == wanted);
+    assert!(rt; has_bytes(value, &wanted));
 }
 
 /// The first of the powers of the generator up to the tenth which times its inverse isn't one.

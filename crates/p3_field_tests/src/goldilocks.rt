@@ -1,7 +1,9 @@
 //! Worked values of the prime field.
 
+use crate::encoding::{has_bytes, writes_bytes};
+use crate::lanes::first_lane_is_kept;
 use p3_field_core::laws::two_adic_order_law;
-use p3_field_core::{ElementBytes, Field, PackableField, PackedField, TwoAdicField};
+use p3_field_core::{Field, TwoAdicField};
 use p3_goldilocks::Goldilocks;
 use p3_goldilocks::goldilocks::laws::goldilocks_law;
 use p3_test_fields::{
@@ -129,41 +131,12 @@ fn products_with_prepared_factors(rt: HostRuntime) {
     assert!(rt; agree_throughout::<Goldilocks, Goldilocks>(factor));
 }
 
-/// The encoding, byte by byte, of a type with eight of them.
-fn eight_bytes<T: ElementBytes>(value: T) -> [u8; 8] {
-    let mut bytes = [0; 8];
-    if T::LEN == 8 {
-        for (index, byte) in bytes.iter_mut().enumerate() {
-            *byte = value.byte(index);
-        }
-    }
-    bytes
-}
-
-/// The same, written over others.
-fn written_bytes<T: ElementBytes>(value: T) -> [u8; 8] {
-    let mut bytes = [9; 8];
-    if T::LEN == 8 {
-        value.write_bytes(&mut bytes);
-    }
-    bytes
-}
-
 #[test]
 fn bytes_are_little_endian(rt: HostRuntime) {
     let value = -Goldilocks::from_u64(3);
     let wanted = [0xfe, 0xff, 0xff, 0xff, 0xfe, 0xff, 0xff, 0xff];
-    assert!(rt; eight_bytes(value) == wanted);
-    assert!(rt; written_bytes(value) == wanted);
-}
-
-/// Whether the first lane has what was put into each, and then into it alone.
-fn first_lane_is_kept<F: PackableField>(x: F, y: F) -> bool {
-    if F::Packing::WIDTH == 0 {
-        return false;
-    }
-    let packed = F::Packing::broadcast(x);
-    packed.lane(0) == x && packed.with_lane(0, y).lane(0) == y
+    assert!(rt; has_bytes(value, &wanted));
+    assert!(rt; writes_bytes(value, &wanted));
 }
 
 #[test]

@@ -1,9 +1,8 @@
 //! Worked values of the extension.
 
-use p3_field_core::{
-    ElementBytes, ExtensionField, Field, PackableExtension, PackableField, PackedExtension,
-    PackedField, PrimeField64,
-};
+use crate::encoding::{has_bytes, writes_bytes};
+use crate::lanes::scaled_lane;
+use p3_field_core::{ExtensionField, Field, PrimeField64};
 use p3_goldilocks::goldilocks2::laws::goldilocks2_law;
 use p3_goldilocks::{Goldilocks, Goldilocks2};
 use p3_test_fields::{
@@ -108,26 +107,6 @@ fn products_with_prepared_factors(rt: HostRuntime) {
     assert!(rt; agree_throughout::<Goldilocks2, Goldilocks2>(lifted));
 }
 
-/// The encoding, byte by byte, of a type with sixteen of them.
-fn sixteen_bytes<T: ElementBytes>(value: T) -> [u8; 16] {
-    let mut bytes = [0; 16];
-    if T::LEN == 16 {
-        for (index, byte) in bytes.iter_mut().enumerate() {
-            *byte = value.byte(index);
-        }
-    }
-    bytes
-}
-
-/// The same, written over others.
-fn written_bytes<T: ElementBytes>(value: T) -> [u8; 16] {
-    let mut bytes = [9; 16];
-    if T::LEN == 16 {
-        value.write_bytes(&mut bytes);
-    }
-    bytes
-}
-
 #[test]
 fn bytes_of_the_coefficients(rt: HostRuntime) {
     // 18446744069414584318, and 72623859790382856 with the bytes 8 down to 1
@@ -135,21 +114,8 @@ fn bytes_of_the_coefficients(rt: HostRuntime) {
     let wanted = [
         0xfe, 0xff, 0xff, 0xff, 0xfe, 0xff, 0xff, 0xff, 8, 7, 6, 5, 4, 3, 2, 1,
     ];
-    assert!(rt; sixteen_bytes(value) == wanted);
-    assert!(rt; written_bytes(value) == wanted);
-}
-
-/// The first lane of a packed element, scaled by a packed element of the base field.
-fn scaled_lane<F: PackableField, E: PackableExtension<F>>(x: E, factor: F) -> Option<E> {
-    if E::ExtensionPacking::WIDTH == 0 {
-        return None;
-    }
-    let factors = F::Packing::broadcast(factor);
-    Some(
-        E::ExtensionPacking::broadcast(x)
-            .scale_lanes(factors)
-            .lane(0),
-    )
+    assert!(rt; has_bytes(value, &wanted));
+    assert!(rt; writes_bytes(value, &wanted));
 }
 
 #[test]

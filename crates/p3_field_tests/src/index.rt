@@ -22,20 +22,12 @@ const REVERSED: [(usize, usize, usize); 6] = [
     (0b1, 64, 1 << 63),
 ];
 
-/// The first of them, with its digits, of which this is wrong.
-fn first_wrongly_reversed() -> Option<(usize, usize)> {
-    for (index, digits, wanted) in REVERSED {
-        if digits > 64 || reverse_bits_len(index, digits) != wanted {
-            return Some((index, digits));
-        }
-    }
-    None
-}
-
 #[test]
 fn reverses_digits(rt: HostRuntime) {
-    let wrong = first_wrongly_reversed();
-    assert!(rt; wrong.is_none(), "{wrong:?}");
+    for (index, digits, wanted) in &REVERSED {
+        let right = *digits <= 64 && reverse_bits_len(*index, *digits) == *wanted;
+        assert!(rt; right, "{digits} digits of {index}");
+    }
 }
 
 #[test]

@@ -1,7 +1,9 @@
 //! Worked values of the prime field.
 
+use crate::encoding::{has_bytes, writes_bytes};
+use crate::lanes::first_lane_is_kept;
 use p3_field_core::laws::two_adic_order_law;
-use p3_field_core::{ElementBytes, Field, PackableField, PackedField, TwoAdicField};
+use p3_field_core::{Field, TwoAdicField};
 use p3_koala_bear::KoalaBear;
 use p3_koala_bear::koala_bear::laws::koala_bear_law;
 use p3_test_fields::{
@@ -104,56 +106,19 @@ fn roots_of_unity(rt: HostRuntime) {
 /// The factors that are prepared.
 const FACTORS: [u64; 4] = [0, 1, 2130706432, 1791270792];
 
-/// The first of the factors with which the products differ.
-fn first_wrong_factor() -> Option<u64> {
-    for n in FACTORS {
-        if !agree_throughout::<KoalaBear, KoalaBear>(KoalaBear::from_u64(n)) {
-            return Some(n);
-        }
-    }
-    None
-}
-
 #[test]
 fn products_with_prepared_factors(rt: HostRuntime) {
-    let wrong = first_wrong_factor();
-    assert!(rt; wrong.is_none(), "by {wrong:?}");
-}
-
-/// The encoding, byte by byte, of a type with four of them.
-fn four_bytes<T: ElementBytes>(value: T) -> Option<[u8; 4]> {
-    if T::LEN == 4 {
-        Some([value.byte(0), value.byte(1), value.byte(2), value.byte(3)])
-    } else {
-        None
-    }
-}
-
-/// The same, written over others.
-fn written_bytes<T: ElementBytes>(value: T) -> Option<[u8; 4]> {
-    if T::LEN == 4 {
-        let mut bytes = [9; 4];
-        value.write_bytes(&mut bytes);
-        Some(bytes)
-    } else {
-        None
+    for n in &FACTORS {
+        let agree = agree_throughout::<KoalaBear, KoalaBear>(KoalaBear::from_u64(*n));
+        assert!(rt; agree, "by {n}");
     }
 }
 
 #[test]
 fn bytes_are_little_endian(rt: HostRuntime) {
     let value = -KoalaBear::from_u64(3);
-    assert!(rt; four_bytes(value) == Some([0xfe, 0xff, 0xff, 0x7e]));
-    assert!(rt; written_bytes(value) == Some([0xfe, 0xff, 0xff, 0x7e]));
-}
-
-/// Whether the first lane has what was put into each, and then into it alone.
-fn first_lane_is_kept<F: PackableField>(x: F, y: F) -> bool {
-    if F::Packing::WIDTH == 0 {
-        return false;
-    }
-    let packed = F::Packing::broadcast(x);
-    packed.lane(0) == x && packed.with_lane(0, y).lane(0) == y
+    assert!(rt; has_bytes(value, &[0xfe, 0xff, 0xff, 0x7e]));
+    assert!(rt; writes_bytes(value, &[0xfe, 0xff, 0xff, 0x7e]));
 }
 
 #[test]

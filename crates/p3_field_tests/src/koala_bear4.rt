@@ -1,9 +1,8 @@
 //! Worked values of the extension.
 
-use p3_field_core::{
-    ElementBytes, ExtensionField, Field, PackableExtension, PackableField, PackedExtension,
-    PackedField, PrimeField64,
-};
+use crate::encoding::{has_bytes, writes_bytes};
+use crate::lanes::scaled_lane;
+use p3_field_core::{ExtensionField, Field, PrimeField64};
 use p3_koala_bear::koala_bear4::laws::koala_bear4_law;
 use p3_koala_bear::{KoalaBear, KoalaBear4};
 use p3_test_fields::{
@@ -115,46 +114,13 @@ fn products_with_prepared_factors(rt: HostRuntime) {
     assert!(rt; agree_throughout::<KoalaBear4, KoalaBear4>(lifted));
 }
 
-/// The encoding, byte by byte, of a type with sixteen of them.
-fn sixteen_bytes<T: ElementBytes>(value: T) -> [u8; 16] {
-    let mut bytes = [0; 16];
-    if T::LEN == 16 {
-        for (index, byte) in bytes.iter_mut().enumerate() {
-            *byte = value.byte(index);
-        }
-    }
-    bytes
-}
-
-/// The same, written over others.
-fn written_bytes<T: ElementBytes>(value: T) -> [u8; 16] {
-    let mut bytes = [9; 16];
-    if T::LEN == 16 {
-        value.write_bytes(&mut bytes);
-    }
-    bytes
-}
-
 #[test]
 fn bytes_of_the_coefficients(rt: HostRuntime) {
     // 2130706430, and 16909060 with the bytes 4, 3, 2, 1
     let value = polynomial([2130706430, 1, 256, 16909060]);
     let wanted = [0xfe, 0xff, 0xff, 0x7e, 1, 0, 0, 0, 0, 1, 0, 0, 4, 3, 2, 1];
-    assert!(rt; sixteen_bytes(value) == wanted);
-    assert!(rt; written_bytes(value) == wanted);
-}
-
-/// The first lane of a packed element, scaled by a packed element of the base field.
-fn scaled_lane<F: PackableField, E: PackableExtension<F>>(x: E, factor: F) -> Option<E> {
-    if E::ExtensionPacking::WIDTH == 0 {
-        return None;
-    }
-    let factors = F::Packing::broadcast(factor);
-    Some(
-        E::ExtensionPacking::broadcast(x)
-            .scale_lanes(factors)
-            .lane(0),
-    )
+    assert!(rt; has_bytes(value, &wanted));
+    assert!(rt; writes_bytes(value, &wanted));
 }
 
 #[test]

@@ -9,9 +9,9 @@ mod baby_bear4;
 #[cfg(test)]
 mod batch_inverse;
 #[cfg(test)]
-mod cases;
-#[cfg(test)]
 mod coset;
+#[cfg(test)]
+mod encoding;
 #[cfg(test)]
 mod goldilocks;
 #[cfg(test)]
@@ -22,6 +22,8 @@ mod index;
 mod koala_bear;
 #[cfg(test)]
 mod koala_bear4;
+#[cfg(test)]
+mod lanes;
 #[cfg(test)]
 mod powers;
 #[cfg(test)]

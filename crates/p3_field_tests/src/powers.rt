@@ -6,8 +6,8 @@ use p3_field::{
     BabyBear, BabyBear4, Field, PrimeField64, TwoAdicMultiplicativeCoset, bit_reversed_powers,
     shifted_powers,
 };
-use std::alloc::{AllocError, Global};
-use std::test::Fail;
+use std::alloc::Global;
+use std::process::Abort;
 
 /// Whether the elements are those of these numbers.
 fn are_numbers<F: Field>(elements: &[F], numbers: &[u64]) -> bool {
@@ -22,48 +22,37 @@ fn are_numbers<F: Field>(elements: &[F], numbers: &[u64]) -> bool {
     true
 }
 
-/// The first list of four powers of 5 that has other elements: from 3 on, in natural and in
-/// bit-reversed order, and from 1 on.
-fn first_wrong_powers<F: Field>(alloc: Global) -> Result<Option<&'static str>, AllocError> {
+/// Asserts the elements of lists of four powers of 5: from 3 on, in natural and in bit-reversed
+/// order, and from 1 on.
+fn assert_powers_of_five<F: Field>(rt: &impl Abort, alloc: Global) {
     let three = F::from_u64(3);
     let five = F::from_u64(5);
-    if !are_numbers(&shifted_powers(alloc, three, five, 4)?, &[3, 15, 75, 375]) {
-        return Ok(Some("from 3 on"));
-    }
-    if !are_numbers(
-        &bit_reversed_powers(alloc, three, five, 2)?,
-        &[3, 75, 15, 375],
-    ) {
-        return Ok(Some("from 3 on, in bit-reversed order"));
-    }
-    if !are_numbers(&powers(alloc, five, 4)?, &[1, 5, 25, 125]) {
-        return Ok(Some("from 1 on"));
-    }
-    Ok(None)
+    let natural = shifted_powers(alloc, three, five, 4).expect(rt, "memory");
+    assert!(rt; are_numbers(&natural, &[3, 15, 75, 375]), "from 3 on");
+    let reversed = bit_reversed_powers(alloc, three, five, 2).expect(rt, "memory");
+    assert!(rt;
+        are_numbers(&reversed, &[3, 75, 15, 375]),
+        "from 3 on, in bit-reversed order"
+    );
+    let from_one = powers(alloc, five, 4).expect(rt, "memory");
+    assert!(rt; are_numbers(&from_one, &[1, 5, 25, 125]), "from 1 on");
 }
 
 #[test]
-fn powers_of_five(rt: HostRuntime) -> Result<(), Fail> {
-    let wrong = first_wrong_powers::<BabyBear>(rt.alloc())?;
-    assert!(rt; wrong.is_none(), "{wrong:?}");
-    let wrong = first_wrong_powers::<BabyBear4>(rt.alloc())?;
-    assert!(rt; wrong.is_none(), "{wrong:?}");
-    Ok(())
+fn powers_of_five(rt: HostRuntime) {
+    assert_powers_of_five::<BabyBear>(&rt, rt.alloc());
+    assert_powers_of_five::<BabyBear4>(&rt, rt.alloc());
 }
 
 #[test]
-fn points_of_a_coset(rt: HostRuntime) -> Result<(), Fail> {
-    match TwoAdicMultiplicativeCoset::new(BabyBear::GENERATOR, 2) {
-        Some(coset) => {
-            // 1728404513 is a root of unity of order 4
-            let wanted = [31, 2013265890, 1235625957, 777639964];
-            let points = coset.bit_reversed_points(rt.alloc())?;
-            assert!(rt; are_numbers(&points, &wanted));
-            distinct_points_law::<BabyBear>();
-        },
-        None => assert!(rt; false, "a coset of four points"),
-    }
-    Ok(())
+fn points_of_a_coset(rt: HostRuntime) {
+    let coset = TwoAdicMultiplicativeCoset::new(BabyBear::GENERATOR, 2);
+    let coset = coset.expect(&rt, "a coset of four points");
+    // 1728404513 is a root of unity of order 4
+    let wanted = [31, 2013265890, 1235625957, 777639964];
+    let points = coset.bit_reversed_points(rt.alloc()).expect(&rt, "memory");
+    assert!(rt; are_numbers(&points, &wanted));
+    distinct_points_law::<BabyBear>();
 }
 
 #[test]

@@ -1,6 +1,7 @@
 //! Elements of words.
 
-use p3_field::{BabyBear, SampleField};
+use p3_field::BabyBear;
+use p3_test_fields::first_wrong_word;
 
 /// Words, and the canonical numbers of their elements.
 const WORDS: [(u64, u64); 7] = [
@@ -13,17 +14,7 @@ const WORDS: [(u64, u64); 7] = [
     (u64::MAX, 1_172_168_162),
 ];
 
-/// The first word whose element is another.
-fn first_wrong<F: SampleField>(cases: &[(u64, u64)]) -> Option<u64> {
-    for (word, number) in cases {
-        if F::from_word(*word).as_canonical_u64() != *number {
-            return Some(*word);
-        }
-    }
-    None
-}
-
 #[test]
 fn takes_words_modulo_the_order(rt: HostRuntime) {
-    assert!(rt; first_wrong::<BabyBear>(&WORDS) == None);
+    assert!(rt; first_wrong_word::<BabyBear>(&WORDS) == None);
 }

@@ -6,7 +6,6 @@ use p3_fri_core::config::{
     FriParameters, compute_log_arity_for_round, fold_schedule, is_strictly_falling,
 };
 use p3_mmcs::GrindingSites;
-use std::alloc::Global;
 
 /// Heights, the most that a round folds, and the schedule from them down to 2.
 #[derive(Clone, Copy)]
@@ -68,17 +67,6 @@ const SCHEDULES: [Schedule; 8] = [
     },
 ];
 
-/// Whether the heights fall and a round may fold, and this is the schedule down to 2.
-fn has_schedule(alloc: Global, case: &Schedule) -> bool {
-    if !is_strictly_falling(case.heights) || case.max_log_arity == 0 {
-        return false;
-    }
-    match fold_schedule(alloc, case.heights, 2, case.max_log_arity) {
-        Ok(schedule) => schedule.as_slice() == case.rounds,
-        Err(_) => false,
-    }
-}
-
 const HEIGHTS: [(&str, &[usize], bool); 4] = [
     ("no heights fall", &[], true),
     ("heights fall", &[10, 6, 0], true),
@@ -86,37 +74,25 @@ const HEIGHTS: [(&str, &[usize], bool); 4] = [
     ("rising heights", &[10, 6, 7], false),
 ];
 
-/// The first heights of which something else is said, or whose schedule is another.
-fn first_wrong_schedule(alloc: Global) -> Option<&'static str> {
+#[test]
+fn schedules_stop_where_an_input_joins(rt: HostRuntime) {
     for (name, heights, falling) in &HEIGHTS {
-        if is_strictly_falling(*heights) != *falling {
-            return Some(*name);
-        }
+        assert!(rt; is_strictly_falling(*heights) == *falling, "{name}");
     }
     for case in &SCHEDULES {
-        if !has_schedule(alloc, case) {
-            return Some(case.name);
-        }
+        let (heights, most) = (case.heights, case.max_log_arity);
+        assert!(rt; is_strictly_falling(heights) && most != 0, "{}", case.name);
+        let schedule = fold_schedule(rt.alloc(), heights, 2, most).expect(&rt, case.name);
+        assert!(rt; schedule.as_slice() == case.rounds, "{}", case.name);
     }
-    None
-}
-
-/// The cap, the distance to the final height, that to the next input, and one above a low input.
-fn a_round_takes_the_least_of_cap_and_distances() -> bool {
+    // the cap, the distance to the final height, that to the next input, and one above a low input
     let rounds = [
         compute_log_arity_for_round(10, None, 2, 3),
         compute_log_arity_for_round(4, None, 2, 3),
         compute_log_arity_for_round(7, Some(6), 2, 3),
         compute_log_arity_for_round(10, Some(1), 2, 9),
     ];
-    rounds == [3, 2, 1, 8]
-}
-
-#[test]
-fn schedules_stop_where_an_input_joins(rt: HostRuntime) {
-    let wrong = first_wrong_schedule(rt.alloc());
-    assert!(rt; wrong.is_none(), "{wrong:?}");
-    assert!(rt; a_round_takes_the_least_of_cap_and_distances());
+    assert!(rt; rounds == [3, 2, 1, 8], "the least of cap and distances");
 }
 
 /// A constructor of parameters.
@@ -215,16 +191,6 @@ fn is_constructed(case: &Constructed) -> bool {
         && parameters.mmcs == 7
 }
 
-/// The first constructor that isn't.
-fn first_wrong_constructor() -> Option<&'static str> {
-    for case in &CONSTRUCTED {
-        if !is_constructed(case) {
-            return Some(case.name);
-        }
-    }
-    None
-}
-
 /// The blowup, the length of the final polynomial and the arity of parameters for tests, and the
 /// arity of those for figures that fold high.
 fn powers_of_two() -> [usize; 4] {
@@ -253,21 +219,16 @@ const PRINTED: &str = "FriParameters { log_blowup: 2, log_final_poly_len: 0, max
     num_queries: 100, batch_proof_of_work_bits: 10, commit_proof_of_work_bits: 0, \
     query_proof_of_work_bits: 16, mmcs: 7 }";
 
-fn parameters_are_cloned_and_printed(alloc: Global) -> bool {
-    let Ok(parameters) = FriParameters::new_benchmark_zk(7u8).clone() else {
-        return false;
-    };
-    match format!(in alloc; "{parameters:?}") {
-        Ok(text) => text.as_str() == PRINTED,
-        Err(_) => false,
-    }
-}
-
 #[test]
 fn parameters_are_constructed_read_cloned_and_printed(rt: HostRuntime) {
-    let wrong = first_wrong_constructor();
-    assert!(rt; wrong.is_none(), "{wrong:?}");
+    for case in &CONSTRUCTED {
+        assert!(rt; is_constructed(case), "{}", case.name);
+    }
     assert!(rt; powers_of_two() == [4, 8, 2, 8]);
     assert!(rt; the_batch_bits_are_a_site_of_their_own());
-    assert!(rt; parameters_are_cloned_and_printed(rt.alloc()));
+    let parameters = FriParameters::new_benchmark_zk(7u8)
+        .clone()
+        .expect(&rt, "memory");
+    let text = format!(in rt.alloc(); "{parameters:?}").expect(&rt, "memory");
+    assert!(rt; text.as_str() == PRINTED);
 }

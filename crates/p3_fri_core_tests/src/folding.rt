@@ -1,14 +1,14 @@
 //! Folds of rows and of matrices, by strategies over the whole two-adicity.
 
-ghost use Rattle.std.specs.Prelude.{◌≡◌, ◌+◌, ◌<◌, ◌≤◌, ◌^◌, length, IfSome};
+ghost use Rattle.std.specs.Prelude.{◌≡◌, ◌+◌, ◌<◌, ◌≤◌, ◌^◌, length};
 ghost use Rattle.p3_matrix.specs.Matrix.{rows, matrix_width};
 
 use p3_field::{BabyBear, BabyBear4, ExtensionField, Field, TwoAdicMultiplicativeCoset};
 use p3_fri_core::{FriFoldingStrategy, TwoAdicFriFolding, WithExtraBits};
 use p3_matrix::RowMajorMatrix;
-use std::alloc::{AllocError, Global};
+use std::alloc::Global;
 use std::marker::PhantomData;
-use std::test::Fail;
+use std::process::Abort;
 
 type Folding = TwoAdicFriFolding<(), ()>;
 
@@ -115,56 +115,56 @@ const FOLDS: [Fold; 7] = [
 
 /// The values, which are `2^log_count` unless they are listed.
 fn values_of<EF: ExtensionField<BabyBear>>(
+    rt: &impl Abort,
     alloc: Global,
     values: Values,
     log_count: usize,
-) -> Result<Vec<EF>, AllocError>
+) -> Vec<EF>
     requires { log_count < 28 }
 {
     let mut list = Vec::new(alloc);
     match values {
         Values::Listed(numbers) => {
             for number in numbers {
-                list.push(EF::from_u64(*number))?;
+                list.push(EF::from_u64(*number)).expect(rt, "memory");
             }
         }
         Values::Counted => {
             for number in 0..(1u64 << log_count) {
-                list.push(EF::from_u64(number))?;
+                list.push(EF::from_u64(number)).expect(rt, "memory");
             }
         }
         Values::Powers { exponent, factor } => {
-            if let Some(subgroup) = TwoAdicMultiplicativeCoset::new(BabyBear::ONE, log_count) {
-                for point in &subgroup.bit_reversed_points(alloc)? {
-                    let value = point.exp_u64(exponent) * BabyBear::from_u64(factor);
-                    list.push(EF::from_base(value))?;
-                }
+            let subgroup = TwoAdicMultiplicativeCoset::new(BabyBear::ONE, log_count);
+            let subgroup = subgroup.expect(rt, "no such subgroup");
+            for point in &subgroup.bit_reversed_points(alloc).expect(rt, "memory") {
+                let value = point.exp_u64(exponent) * BabyBear::from_u64(factor);
+                list.push(EF::from_base(value)).expect(rt, "memory");
             }
         }
     }
-    Ok(list)
+    list
 }
 
-/// The values as `2^log_height` rows of `2^log_arity`, if they are so many.
+/// The values, of which there are so many, as `2^log_height` rows of `2^log_arity`.
 fn rows_of<EF: Copy + Drop>(
+    rt: &impl Abort,
     values: Vec<EF>,
     log_height: usize,
     log_arity: usize,
-) -> Option<RowMajorMatrix<EF>>
+) -> RowMajorMatrix<EF>
     requires arity { log_arity ≤ 4 }
     requires height { log_height < 24 }
-    ensures height { IfSome result (λ matrix. length (rows matrix) ≡ 2 ^ log_height) }
-    ensures width { IfSome result (λ matrix. matrix_width matrix ≡ 2 ^ log_arity) }
+    ensures height { length (rows result) ≡ 2 ^ log_height }
+    ensures width { matrix_width result ≡ 2 ^ log_arity }
 {
     let width = 1 << log_arity;
-    if values.len() % width != 0 {
-        return None;
-    }
+    assert!(rt; values.len() % width == 0, "the values aren't whole rows");
     let matrix = RowMajorMatrix::new(values, width);
     if matrix.height() != 1 << log_height {
-        return None;
+        rt.panic("the values are another number of rows");
     }
-    Some(matrix)
+    matrix
 }
 
 /// Whether each entry of the word is the fold of its row.
@@ -192,89 +192,82 @@ fn rows_fold_to<EF: ExtensionField<BabyBear>, S: FriFoldingStrategy<BabyBear, EF
 
 /// Whether the values fold to the word at this height and arity, as a matrix and row by row.
 fn is_folded<EF: ExtensionField<BabyBear>, S: FriFoldingStrategy<BabyBear, EF>>(
+    rt: &impl Abort,
     alloc: Global,
     folding: &S,
     fold: &Fold,
     log_height: usize,
     log_arity: usize,
-) -> Result<bool, AllocError>
-    requires positive { 1 ≤ log_arity }
-    requires arity { log_arity ≤ 4 }
-    requires height { log_height < 24 }
-    requires within_max_height { log_height + log_arity ≤ S.max_log_height folding.now }
+) -> bool
+    requires { S.max_log_height folding.now ≡ 27 }
 {
+    if log_height > 20 || log_arity == 0 || log_arity > 4 {
+        return false;
+    }
     let beta = match fold.beta {
         Some(number) => EF::from_u64(number),
         None => EF::GENERATOR,
     };
-    let wanted = values_of::<EF>(alloc, fold.word, log_height)?;
-    let values = values_of::<EF>(alloc, fold.values, log_height + log_arity)?;
-    let Some(matrix) = rows_of(values, log_height, log_arity) else {
-        return Ok(false);
-    };
-    let word = folding.fold_matrix(alloc, beta, log_arity, &matrix)?;
-    Ok(
-        rows_fold_to(folding, &matrix, log_height, log_arity, beta, &word)
-            && (wanted.is_empty() || word == wanted),
-    )
+    let wanted: Vec<EF> = values_of(rt, alloc, fold.word, log_height);
+    let values = values_of(rt, alloc, fold.values, log_height + log_arity);
+    let matrix = rows_of(rt, values, log_height, log_arity);
+    let word = folding
+        .fold_matrix(alloc, beta, log_arity, &matrix)
+        .expect(rt, "memory");
+    rows_fold_to(folding, &matrix, log_height, log_arity, beta, &word)
+        && (wanted.is_empty() || word == wanted)
 }
 
-/// A line at the points 1 and -1, where it is 4 + X, folds to its value at 7 at each height.
+/// Whether a line that is 4 + X at the points 1 and -1 folds to its value at 7 at each height.
 fn first_rows_fold<EF: ExtensionField<BabyBear>, S: FriFoldingStrategy<BabyBear, EF>>(
+    rt: &impl Abort,
     alloc: Global,
     folding: &S,
-) -> Result<bool, AllocError>
+) -> bool
     requires { S.max_log_height folding.now ≡ 27 }
 {
-    let line = values_of::<EF>(alloc, Values::Listed(&[5, 3]), 1)?;
+    let line: Vec<EF> = values_of(rt, alloc, Values::Listed(&[5, 3]), 1);
     if line.len() != 2 {
-        return Ok(false);
+        rt.panic("the line has another number of values");
     }
     let (seven, eleven) = (EF::from_u64(7), EF::from_u64(11));
     for log_height in 0..27 {
         if folding.fold_row(0, log_height, 1, seven, line.as_slice()) != eleven {
-            return Ok(false);
+            return false;
         }
     }
-    Ok(true)
+    true
 }
 
-/// The first fold that is wrong by a strategy over the whole two-adicity with so many extra bits,
-/// with its log height and log arity.
-fn first_wrong<EF: ExtensionField<BabyBear>, S: FriFoldingStrategy<BabyBear, EF>>(
+/// Asserts that all folds are right by a strategy over the whole two-adicity with so many extra
+/// bits.
+fn assert_folds<EF: ExtensionField<BabyBear>, S: FriFoldingStrategy<BabyBear, EF>>(
+    rt: &impl Abort,
     alloc: Global,
     folding: &S,
     extra_bits: usize,
-) -> Result<Option<(&'static str, usize, usize)>, AllocError> {
-    let max_log_height = folding.max_log_height();
-    if max_log_height != 27 || folding.extra_query_index_bits() != extra_bits {
-        return Ok(Some(("the whole two-adicity", max_log_height, 0)));
+) {
+    if folding.max_log_height() != 27 || folding.extra_query_index_bits() != extra_bits {
+        rt.panic("the whole two-adicity");
     }
-    if !first_rows_fold(alloc, folding)? {
-        return Ok(Some(("the first row of each height", 0, 1)));
-    }
+    assert!(rt;
+        first_rows_fold(rt, alloc, folding),
+        "the first row of each height"
+    );
     for fold in &FOLDS {
         for log_height in fold.log_heights {
             for log_arity in fold.log_arities {
-                let place = (fold.name, *log_height, *log_arity);
-                if *log_height > 20 || *log_arity == 0 || *log_arity > 4 {
-                    return Ok(Some(place));
-                }
-                if !is_folded(alloc, folding, fold, *log_height, *log_arity)? {
-                    return Ok(Some(place));
-                }
+                let is_right = is_folded(rt, alloc, folding, fold, *log_height, *log_arity);
+                assert!(rt; is_right, "{}, {log_height}, {log_arity}", fold.name);
             }
         }
     }
-    Ok(None)
 }
 
 #[test]
-fn folds(rt: HostRuntime) -> Result<(), Fail> {
+fn folds(rt: HostRuntime) {
     let extra = WithExtraBits::new(FOLDING, 3);
-    let wrong = first_wrong::<BabyBear, Folding>(rt.alloc(), &FOLDING, 0)?
-        .or(first_wrong::<BabyBear, WithExtraBits<Folding>>(rt.alloc(), &extra, 3)?)
-        .or(first_wrong::<BabyBear4, Folding>(rt.alloc(), &FOLDING, 0)?);
-    assert!(rt; wrong.is_none(), "{wrong:?}");
-    Ok(())
+    assert_folds::<BabyBear, Folding>(&rt, rt.alloc(), &FOLDING, 0);
+    assert_folds::<BabyBear, WithExtraBits<Folding>>(&rt, rt.alloc(), &extra, 3);
+    assert_folds::<BabyBear4, Folding>(&rt, rt.alloc(), &FOLDING, 0);
 }

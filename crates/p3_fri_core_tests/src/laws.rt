@@ -9,11 +9,8 @@ use p3_fri_core::laws::{
 
 #[test]
 fn laws_are_called_at_an_extension(rt: HostRuntime) {
-    let test = test_of(rt.alloc(), &[3, 3, 2], 1, 16);
-    let opening = opening_of(rt.alloc(), &[&[&[3, 1]]]);
-    let (Ok(test), Ok(opening)) = (test, opening) else {
-        panic!(rt; "memory was refused");
-    };
+    let test = test_of(&rt, rt.alloc(), &[3, 3, 2], 1, 16);
+    let opening = opening_of(&rt, rt.alloc(), &[&[&[3, 1]]]);
     fri_seed_law::<BabyBear, BabyBear4>(&test, &test);
     pcs_seed_law::<BabyBear, BabyBear4>(&opening, &opening);
     let row = [

@@ -1,23 +1,25 @@
 //! What a test of a transcript runs by: a shape, what both sides draw along it, and a challenger
 //! for each of them.
 
-ghost use Rattle.std.specs.Prelude.{◌≡◌, IfOk};
+ghost use Rattle.std.specs.Prelude.{◌≡◌};
 ghost use Rattle.p3_fri_transcript.specs.Shapes.{fri_shape};
 
 use p3_challenger::Sha256Challenger;
 use p3_field::{BabyBear, BabyBear4, ExtensionField, Field};
 use p3_fri_core::transcript::{FriShape, PlayedFri};
-use std::alloc::{AllocError, Global};
+use std::alloc::Global;
+use std::process::Abort;
 
 /// The shape of rounds of these log arities, with one coefficient and four indices of three bits.
 #[tactic(auto, unfolding(p3_fri_transcript::specs::Shapes::fri_shape))]
 pub(crate) fn shape_of(
+    rt: &impl Abort,
     alloc: Global,
     log_arities: &[usize],
     commit_pow_bits: usize,
     query_pow_bits: usize,
-) -> Result<FriShape, AllocError>
-    ensures { IfOk result (λ shape. fri_shape shape ≡ record {
+) -> FriShape
+    ensures { fri_shape result ≡ record {
       log_arities = log_arities.now;
       final_poly_len = 1;
       commit_pow_bits = commit_pow_bits;
@@ -26,10 +28,10 @@ pub(crate) fn shape_of(
       index_bits = 3;
       log_blowup = 1;
       max_log_arity = 3;
-    }) }
+    } }
 {
-    Ok(FriShape {
-        log_arities: Vec::from_slice(alloc, log_arities)?,
+    FriShape {
+        log_arities: Vec::from_slice(alloc, log_arities).expect(rt, "memory"),
         final_poly_len: 1,
         commit_pow_bits,
         query_pow_bits,
@@ -37,14 +39,6 @@ pub(crate) fn shape_of(
         index_bits: 3,
         log_blowup: 1,
         max_log_arity: 3,
-    })
-}
-
-/// The only entry of a list, if it has no other.
-pub(crate) fn sole<T: Copy>(list: &[T]) -> Option<T> {
-    match list {
-        [only] => Some(*only),
-        _ => None,
     }
 }
 
@@ -59,31 +53,37 @@ pub(crate) struct Run<F, EF> {
 
 impl<F: Field, EF: ExtensionField<F>> Run<F, EF> {
     /// Whether these are the challenge of its round and its indices.
-    pub(crate) fn draws(&self, beta: Option<EF>, indices: &[usize]) -> bool {
-        beta == Some(self.beta) && indices == self.indices.as_slice()
+    pub(crate) fn draws(&self, betas: &[EF], indices: &[usize]) -> bool {
+        match betas {
+            [beta] => *beta == self.beta && indices == self.indices.as_slice(),
+            _ => false,
+        }
     }
 
-    /// Whether these are what it draws, and its witnesses of the round and of the queries.
+    /// Whether a prover's steps draw these, and find these witnesses of the round and the queries.
     pub(crate) fn finds(
         &self,
-        beta: Option<EF>,
+        beta: EF,
         commit_witness: Option<F>,
         indices: &[usize],
         query_witness: Option<F>,
     ) -> bool {
-        self.draws(beta, indices)
+        beta == self.beta
+            && indices == self.indices.as_slice()
             && commit_witness == Some(self.commit_witness)
             && query_witness == Some(self.query_witness)
     }
 
     /// Whether a prover's whole transcript is this run.
     pub(crate) fn is_played(&self, played: &PlayedFri<F, EF>) -> bool {
-        self.finds(
-            sole(&played.betas),
-            sole(&played.commit_witnesses),
-            &played.indices,
-            Some(played.query_witness),
-        )
+        match played.commit_witnesses.as_slice() {
+            [witness] => {
+                *witness == self.commit_witness
+                    && played.query_witness == self.query_witness
+                    && self.draws(&played.betas, &played.indices)
+            }
+            _ => false,
+        }
     }
 }
 

@@ -4,13 +4,16 @@ use crate::run::shape_of;
 use p3_field::{BabyBear, BabyBear4};
 use p3_fri_core::FriParameters;
 use p3_fri_core::transcript::FriShape;
-use std::alloc::{AllocError, Global};
+use std::alloc::Global;
+use std::process::Abort;
 
 /// The stream of a shape.
-fn stream_of(alloc: Global, shape: Result<FriShape, AllocError>) -> Result<Vec<u8>, AllocError> {
-    shape?
-        .domain_separator::<BabyBear, BabyBear4>(alloc)?
+fn stream_of(rt: &impl Abort, alloc: Global, shape: &FriShape) -> Vec<u8> {
+    let separator = shape.domain_separator::<BabyBear, BabyBear4>(alloc);
+    separator
+        .expect(rt, "memory")
         .seed_stream(alloc)
+        .expect(rt, "memory")
 }
 
 const STREAM_WITHOUT_ROUNDS: [u8; 142] = [
@@ -25,73 +28,52 @@ const STREAM_WITHOUT_ROUNDS: [u8; 142] = [
     0x00, 0x00, 0x00, 0x00, 0x00, 0x08, 0x00, 0x00, 0x00, 0x00, 0x00, 0x00, 0x00, 0x01,
 ];
 
-/// The shape of two queries without rounds, with so many bits of proof of work in the commit phase.
-fn without_rounds(alloc: Global, commit_pow_bits: usize) -> Result<FriShape, AllocError> {
-    let mut shape = shape_of(alloc, &[], commit_pow_bits, 0)?;
+/// Whether the shape of two queries without rounds, with so many bits of proof of work in the
+/// commit phase, has the stream above.
+fn has_stream_without_rounds(rt: &impl Abort, alloc: Global, commit_pow_bits: usize) -> bool {
+    let mut shape = shape_of(rt, alloc, &[], commit_pow_bits, 0);
     shape.num_queries = 2;
     shape.index_bits = 1;
     shape.max_log_arity = 1;
-    Ok(shape)
-}
-
-/// Whether that shape has the stream above.
-fn has_stream_without_rounds(alloc: Global, commit_pow_bits: usize) -> bool {
-    match stream_of(alloc, without_rounds(alloc, commit_pow_bits)) {
-        Ok(stream) => stream.as_slice() == STREAM_WITHOUT_ROUNDS.as_slice(),
-        Err(_) => false,
-    }
+    stream_of(rt, alloc, &shape).as_slice() == STREAM_WITHOUT_ROUNDS.as_slice()
 }
 
 /// Whether rounds of these log arities, one after the other and the other way round, have streams
 /// of their own.
-fn streams_tell_the_order_of_rounds(alloc: Global) -> bool {
-    let falling = stream_of(alloc, shape_of(alloc, &[3, 3, 2], 0, 0));
-    let rising = stream_of(alloc, shape_of(alloc, &[2, 3, 3], 0, 0));
-    match (falling, rising) {
-        (Ok(falling), Ok(rising)) => falling != rising,
-        _ => false,
-    }
+fn streams_tell_the_order_of_rounds(rt: &impl Abort, alloc: Global) -> bool {
+    let falling = shape_of(rt, alloc, &[3, 3, 2], 0, 0);
+    let rising = shape_of(rt, alloc, &[2, 3, 3], 0, 0);
+    stream_of(rt, alloc, &falling) != stream_of(rt, alloc, &rising)
 }
 
-/// Whether the shape has three rounds and twelve steps, and is its clone and the scheduled one.
-fn is_of_three_rounds(alloc: Global, shape: &FriShape, scheduled: &FriShape) -> bool {
-    match (
-        shape.clone(alloc),
-        shape.pattern::<BabyBear, BabyBear4>(alloc),
-    ) {
-        (Ok(copy), Ok(pattern)) => {
-            copy == *shape
-                && *scheduled == *shape
-                && shape.log_arities.as_slice() == [3, 3, 2].as_slice()
-                && pattern.steps().len() == 12
-        }
-        _ => false,
-    }
-}
-
-fn parameters_have_their_shape(alloc: Global) -> bool {
+/// Whether the shape of parameters has three rounds and twelve steps, and is its clone and the
+/// scheduled one.
+fn parameters_have_their_shape(rt: &impl Abort, alloc: Global) -> bool {
     let mut parameters = FriParameters::new_testing((), 0);
     parameters.max_log_arity = 3;
-    let shape = FriShape::new(alloc, &parameters, &[10], 12);
-    match (shape, Vec::from_slice(alloc, &[3, 3, 2])) {
-        (Ok(shape), Ok(rounds)) => {
-            let scheduled = FriShape::with_schedule(&parameters, rounds, 12);
-            is_of_three_rounds(alloc, &shape, &scheduled)
-        }
-        _ => false,
-    }
+    let shape = FriShape::new(alloc, &parameters, &[10], 12).expect(rt, "memory");
+    let copy = shape.clone(alloc).expect(rt, "memory");
+    let pattern = shape
+        .pattern::<BabyBear, BabyBear4>(alloc)
+        .expect(rt, "memory");
+    let rounds = Vec::from_slice(alloc, &[3, 3, 2]).expect(rt, "memory");
+    let scheduled = FriShape::with_schedule(&parameters, rounds, 12);
+    shape.log_arities.as_slice() == [3, 3, 2].as_slice()
+        && copy == shape
+        && scheduled == shape
+        && pattern.steps().len() == 12
 }
 
 #[test]
 fn shapes(rt: HostRuntime) {
-    assert!(rt; has_stream_without_rounds(rt.alloc(), 0), "a stream");
+    assert!(rt; has_stream_without_rounds(&rt, rt.alloc(), 0), "a stream");
     assert!(rt;
-        has_stream_without_rounds(rt.alloc(), 5),
+        has_stream_without_rounds(&rt, rt.alloc(), 5),
         "bits without rounds"
     );
     assert!(rt;
-        streams_tell_the_order_of_rounds(rt.alloc()),
+        streams_tell_the_order_of_rounds(&rt, rt.alloc()),
         "rounds in order"
     );
-    assert!(rt; parameters_have_their_shape(rt.alloc()), "parameters");
+    assert!(rt; parameters_have_their_shape(&rt, rt.alloc()), "parameters");
 }

@@ -5,7 +5,7 @@ use crate::numbers::{are_numbered, numbered_all};
 use p3_fri_hiding_openings::append_random_values;
 use p3_fri_relation::error::FriError;
 use std::alloc::Global;
-use std::test::Fail;
+use std::process::Abort;
 
 /// What comes of it: the numbers of all values, point by point, or a refusal.
 #[derive(Clone, Copy)]
@@ -28,7 +28,7 @@ struct Case {
 const TWO: Claimed = &[&[(5, &[1])], &[(5, &[1])]];
 
 /// With four random codewords and two queries.
-const ACCEPTED: [Case; 4] = [
+static ACCEPTED: [Case; 4] = [
     Case {
         claimed: TWO,
         random: &[&[&[0]], &[&[4]]],
@@ -60,7 +60,7 @@ const ACCEPTED: [Case; 4] = [
 ];
 
 /// Of the same numbers.
-const COUNTS: [Case; 8] = [
+static COUNTS: [Case; 8] = [
     Case {
         claimed: TWO,
         random: &[],
@@ -130,7 +130,7 @@ const COUNTS: [Case; 8] = [
 ];
 
 /// How many random codewords and queries there are, with what comes of it.
-const NUMBERS: [(usize, usize, Case); 8] = [
+static NUMBERS: [(usize, usize, Case); 8] = [
     (
         3,
         2,
@@ -171,8 +171,8 @@ const NUMBERS: [(usize, usize, Case); 8] = [
             random: &[&[&[4]]],
             preprocessing: None,
             outcome: Outcome::Refused(
-                "HidingRandomOpeningValueCountMismatch { round: 0, matrix: 0, point: 0, expected: 5, \
-                 got: 4 }",
+                "HidingRandomOpeningValueCountMismatch { round: 0, matrix: 0, point: 0, \
+                 expected: 5, got: 4 }",
             ),
         },
     ),
@@ -184,8 +184,8 @@ const NUMBERS: [(usize, usize, Case); 8] = [
             random: &[&[&[4]]],
             preprocessing: None,
             outcome: Outcome::Refused(
-                "HidingRandomOpeningValueCountMismatch { round: 0, matrix: 0, point: 0, expected: 8, \
-                 got: 4 }",
+                "HidingRandomOpeningValueCountMismatch { round: 0, matrix: 0, point: 0, \
+                 expected: 8, got: 4 }",
             ),
         },
     ),
@@ -249,9 +249,9 @@ fn are_claimed(claims: &[Claim<()>], numbers: &[&[u64]]) -> bool {
 }
 
 /// Whether the case has its outcome, with so many random codewords and queries.
-fn is_met(alloc: Global, codewords: usize, queries: usize, case: &Case) -> Result<bool, Fail> {
-    let mut claims = claims_of(alloc, (), case.claimed)?;
-    let random = numbered_all(alloc, case.random, 101)?;
+fn is_met(rt: &impl Abort, alloc: Global, codewords: usize, queries: usize, case: &Case) -> bool {
+    let mut claims = claims_of(rt, alloc, (), case.claimed);
+    let random = numbered_all(rt, alloc, case.random, 101);
     let answer: Result<(), FriError<(), ()>> = append_random_values(
         claims.as_mut_slice(),
         random.as_slice(),
@@ -260,51 +260,40 @@ fn is_met(alloc: Global, codewords: usize, queries: usize, case: &Case) -> Resul
         case.preprocessing,
     );
     match (answer, case.outcome) {
-        (Ok(()), Outcome::Appended(numbers)) => Ok(are_claimed(claims.as_slice(), numbers)),
+        (Ok(()), Outcome::Appended(numbers)) => are_claimed(claims.as_slice(), numbers),
         (Err(refusal), Outcome::Refused(text)) => {
-            Ok(format!(in alloc; "{refusal:?}")?.as_str() == text)
+            format!(in alloc; "{refusal:?}")
+                .expect(rt, "memory")
+                .as_str()
+                == text
         },
-        _ => Ok(false),
+        _ => false,
     }
 }
 
-/// The place of the first case that comes to something else.
-fn first_wrong(alloc: Global, cases: &[Case]) -> Result<Option<usize>, Fail> {
+/// Asserts that each case, of four random codewords and two queries, has its outcome.
+fn assert_all(rt: &impl Abort, alloc: Global, cases: &[Case]) {
     for (place, case) in cases.iter().enumerate() {
-        if !is_met(alloc, 4, 2, case)? {
-            return Ok(Some(place));
-        }
+        assert!(rt; is_met(rt, alloc, 4, 2, case), "case {place}");
     }
-    Ok(None)
 }
 
-/// The same of numbers of their own.
-fn first_wrong_number(alloc: Global) -> Result<Option<usize>, Fail> {
+#[test]
+fn random_values_follow_the_claimed_ones(rt: HostRuntime) {
+    assert_all(&rt, rt.alloc(), &ACCEPTED);
+}
+
+#[test]
+fn lists_that_do_not_nest_alike_are_refused(rt: HostRuntime) {
+    assert_all(&rt, rt.alloc(), &COUNTS);
+}
+
+#[test]
+fn few_columns_and_low_masks_are_refused(rt: HostRuntime) {
     for (place, (codewords, queries, case)) in NUMBERS.iter().enumerate() {
-        if !is_met(alloc, *codewords, *queries, case)? {
-            return Ok(Some(place));
-        }
+        assert!(rt;
+            is_met(&rt, rt.alloc(), *codewords, *queries, case),
+            "case {place}"
+        );
     }
-    Ok(None)
-}
-
-#[test]
-fn random_values_follow_the_claimed_ones(rt: HostRuntime) -> Result<(), Fail> {
-    let wrong = first_wrong(rt.alloc(), &ACCEPTED)?;
-    assert!(rt; wrong.is_none());
-    Ok(())
-}
-
-#[test]
-fn lists_that_do_not_nest_alike_are_refused(rt: HostRuntime) -> Result<(), Fail> {
-    let wrong = first_wrong(rt.alloc(), &COUNTS)?;
-    assert!(rt; wrong.is_none());
-    Ok(())
-}
-
-#[test]
-fn few_columns_and_low_masks_are_refused(rt: HostRuntime) -> Result<(), Fail> {
-    let wrong = first_wrong_number(rt.alloc())?;
-    assert!(rt; wrong.is_none());
-    Ok(())
 }

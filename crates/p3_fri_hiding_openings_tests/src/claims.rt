@@ -3,8 +3,8 @@
 use crate::numbers::numbered;
 use p3_field::{BabyBear, BabyBear4, Field, TwoAdicMultiplicativeCoset};
 use p3_mmcs::{CommitmentOpening, MatrixOpening, PointOpening};
-use std::alloc::{AllocError, Global};
-use std::test::Fail;
+use std::alloc::Global;
+use std::process::Abort;
 
 pub(crate) type Domain = TwoAdicMultiplicativeCoset<BabyBear>;
 
@@ -16,40 +16,45 @@ pub(crate) type Claimed = &'static [&'static [(usize, &'static [usize])]];
 
 /// The claims of values at points, numbered on from `next`.
 fn points_of(
+    rt: &impl Abort,
     alloc: Global,
     counts: &[usize],
     next: &mut u64,
-) -> Result<Vec<PointOpening<BabyBear4>>, AllocError> {
+) -> Vec<PointOpening<BabyBear4>> {
     let mut points = Vec::new(alloc);
     for count in counts {
-        points.push(PointOpening {
+        let opening = PointOpening {
             point: BabyBear4::ZERO,
-            values: numbered(alloc, next, *count)?,
-        })?;
+            values: numbered(rt, alloc, next, *count),
+        };
+        points.push(opening).expect(rt, "memory");
     }
-    Ok(points)
+    points
 }
 
 /// The claims of these matrices, under commitments that are all the same.
 pub(crate) fn claims_of<Com: Copy>(
+    rt: &impl Abort,
     alloc: Global,
     commitment: Com,
     claimed: Claimed,
-) -> Result<Vec<Claim<Com>>, Fail> {
+) -> Vec<Claim<Com>> {
     let mut next = 1;
     let mut claims = Vec::new(alloc);
     for matrices in claimed {
         let mut openings = Vec::new(alloc);
         for (log_size, counts) in *matrices {
-            openings.push(MatrixOpening {
-                domain: Domain::new(BabyBear::ONE, *log_size).ok_or("no such domain")?,
-                points: points_of(alloc, counts, &mut next)?,
-            })?;
+            let opening = MatrixOpening {
+                domain: Domain::new(BabyBear::ONE, *log_size).expect(rt, "no such domain"),
+                points: points_of(rt, alloc, counts, &mut next),
+            };
+            openings.push(opening).expect(rt, "memory");
         }
-        claims.push(CommitmentOpening {
+        let claim = CommitmentOpening {
             commitment,
             matrices: openings,
-        })?;
+        };
+        claims.push(claim).expect(rt, "memory");
     }
-    Ok(claims)
+    claims
 }

@@ -1,7 +1,8 @@
 //! Values by number.
 
 use p3_field::{BabyBear, BabyBear4, ExtensionField, Field};
-use std::alloc::{AllocError, Global};
+use std::alloc::Global;
+use std::process::Abort;
 
 /// The element whose coefficient of one is this number.
 pub(crate) fn element(number: u64) -> BabyBear4 {
@@ -15,25 +16,27 @@ pub(crate) fn element(number: u64) -> BabyBear4 {
 
 /// As many elements, numbered on from `next`.
 pub(crate) fn numbered(
+    rt: &impl Abort,
     alloc: Global,
     next: &mut u64,
     count: usize,
-) -> Result<Vec<BabyBear4>, AllocError> {
+) -> Vec<BabyBear4> {
     let mut values = Vec::new(alloc);
     for _ in 0..count {
-        values.push(element(*next))?;
+        values.push(element(*next)).expect(rt, "memory");
         *next = (*next).wrapping_add(1);
     }
-    Ok(values)
+    values
 }
 
 /// Elements at each point of the matrices of commitments, as many as the counts say, numbered on
 /// from `first`.
 pub(crate) fn numbered_all(
+    rt: &impl Abort,
     alloc: Global,
     counts: &[&[&[usize]]],
     first: u64,
-) -> Result<Vec<Vec<Vec<Vec<BabyBear4>>>>, AllocError> {
+) -> Vec<Vec<Vec<Vec<BabyBear4>>>> {
     let mut next = first;
     let mut rounds = Vec::new(alloc);
     for matrices in counts {
@@ -41,13 +44,15 @@ pub(crate) fn numbered_all(
         for points in *matrices {
             let mut matrix = Vec::new(alloc);
             for count in *points {
-                matrix.push(numbered(alloc, &mut next, *count)?)?;
+                matrix
+                    .push(numbered(rt, alloc, &mut next, *count))
+                    .expect(rt, "memory");
             }
-            round.push(matrix)?;
+            round.push(matrix).expect(rt, "memory");
         }
-        rounds.push(round)?;
+        rounds.push(round).expect(rt, "memory");
     }
-    Ok(rounds)
+    rounds
 }
 
 /// Whether these are the elements of these numbers.

@@ -3,8 +3,6 @@
 use crate::numbers::{are_numbered, numbered_all};
 use p3_field::BabyBear4;
 use p3_fri_hiding_openings::split_random_values;
-use std::alloc::Global;
-use std::test::Fail;
 
 /// Numbers of values, by commitment, matrix, point and column.
 type Numbers = &'static [&'static [&'static [&'static [u64]]]];
@@ -19,7 +17,7 @@ struct Case {
     kept: Numbers,
 }
 
-const CASES: [Case; 4] = [
+static CASES: [Case; 4] = [
     Case {
         opened: &[&[&[3]], &[&[5, 6], &[4]]],
         codewords: 4,
@@ -84,21 +82,15 @@ fn are_all(rounds: &[Vec<Vec<Vec<BabyBear4>>>], numbers: Numbers) -> bool {
     true
 }
 
-/// The place of the first case that is cut otherwise.
-fn first_wrong(alloc: Global) -> Result<Option<usize>, Fail> {
-    for (place, case) in CASES.iter().enumerate() {
-        let opened = numbered_all(alloc, case.opened, 1)?;
-        let (shown, kept) = split_random_values(alloc, opened, case.codewords, case.preprocessing)?;
-        if !are_all(shown.as_slice(), case.shown) || !are_all(kept.as_slice(), case.kept) {
-            return Ok(Some(place));
-        }
-    }
-    Ok(None)
-}
-
 #[test]
-fn the_last_values_are_kept_back(rt: HostRuntime) -> Result<(), Fail> {
-    let wrong = first_wrong(rt.alloc())?;
-    assert!(rt; wrong.is_none());
-    Ok(())
+fn the_last_values_are_kept_back(rt: HostRuntime) {
+    for (place, case) in CASES.iter().enumerate() {
+        let opened = numbered_all(&rt, rt.alloc(), case.opened, 1);
+        let halves = split_random_values(rt.alloc(), opened, case.codewords, case.preprocessing);
+        let (shown, kept) = halves.expect(&rt, "memory");
+        assert!(rt;
+            are_all(shown.as_slice(), case.shown) && are_all(kept.as_slice(), case.kept),
+            "case {place}"
+        );
+    }
 }

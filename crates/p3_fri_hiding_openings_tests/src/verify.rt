@@ -12,7 +12,7 @@ use p3_fri_hiding_openings::{HidingVerifierSetting, verify_with_random_values};
 use p3_fri_relation::proof::{BatchMultiOpening, FriProof};
 use p3_mmcs::Sha256Mmcs;
 use std::alloc::Global;
-use std::test::Fail;
+use std::process::Abort;
 
 type Inputs = Sha256Mmcs<BabyBear>;
 
@@ -61,7 +61,7 @@ struct Case {
     fault: Option<&'static str>,
 }
 
-const CASES: [Case; 4] = [
+static CASES: [Case; 4] = [
     Case {
         codewords: 4,
         random: &[&[&[4]], &[&[4]]],
@@ -95,9 +95,9 @@ const CASES: [Case; 4] = [
 
 /// Whether an empty proof is refused beside these random values for their fault, which leaves the
 /// challenger as it was, or for one of its own.
-fn is_refused(alloc: Global, case: &Case) -> Result<bool, Fail> {
-    let claims = claims_of(alloc, [0; 32], CLAIMED)?;
-    let random = numbered_all(alloc, case.random, 101)?;
+fn is_refused(rt: &impl Abort, alloc: Global, case: &Case) -> bool {
+    let claims = claims_of(rt, alloc, [0; 32], CLAIMED);
+    let random = numbered_all(rt, alloc, case.random, 101);
     let proof = empty_proof(alloc);
     let mut challenger = Sha256Challenger::new();
     let params = parameters();
@@ -116,20 +116,17 @@ fn is_refused(alloc: Global, case: &Case) -> Result<bool, Fail> {
         &proof,
         &mut challenger,
     );
-    let Err(refusal) = answer else {
-        return Ok(false);
-    };
-    let text = format!(in alloc; "{refusal:?}")?;
+    let refusal = answer.expect_err(rt, "the empty proof is accepted");
+    let text = format!(in alloc; "{refusal:?}").expect(rt, "memory");
     match case.fault {
-        Some(fault) => Ok(text.as_str() == fault && challenger == Sha256Challenger::new()),
-        None => Ok(!text.as_str().starts_with("HidingRandomOpening")),
+        Some(fault) => text.as_str() == fault && challenger == Sha256Challenger::new(),
+        None => !text.as_str().starts_with("HidingRandomOpening"),
     }
 }
 
 #[test]
-fn random_values_are_looked_at_before_the_proof(rt: HostRuntime) -> Result<(), Fail> {
+fn random_values_are_looked_at_before_the_proof(rt: HostRuntime) {
     for case in &CASES {
-        assert!(rt; is_refused(rt.alloc(), case)?, "{case:?}");
+        assert!(rt; is_refused(&rt, rt.alloc(), case), "{case:?}");
     }
-    Ok(())
 }

@@ -1,4 +1,5 @@
 mod Each
+mod Holds
 mod LargerDomains
 mod Maskable
 mod Readable

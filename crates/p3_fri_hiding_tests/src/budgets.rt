@@ -1,19 +1,18 @@
 //! What the calls that commit refuse, and the data that they give.
 
+use crate::asked::commit;
 use crate::chunks::domains_of;
-use crate::commitments::Committing;
-use crate::committed::commit;
+use crate::commitments::{Batch, Committing};
 use crate::input::Input;
+use crate::lists::two;
 use crate::matrices::coset;
 use crate::scheme::{Domain, Evaluations, SMALL, Setting};
-use crate::schemes::scheme_of;
 use crate::tested::DataState;
 use p3_field::{BabyBear, Field};
 use p3_fri_masks::HidingFriProverError;
 use p3_matrix::RowMajorMatrix;
-use p3_test_openings::listed::pair;
-use std::alloc::{AllocError, Global};
-use std::test::Fail;
+use std::alloc::Global;
+use std::process::Abort;
 
 /// A call that commits.
 #[derive(Clone, Copy, PartialEq)]
@@ -121,65 +120,68 @@ static CASES: [Case; 9] = [
 ];
 
 /// A column of so many zeros.
-fn zeros(alloc: Global, height: usize) -> Result<RowMajorMatrix<BabyBear>, AllocError> {
-    Ok(RowMajorMatrix::new(vec![in alloc; BabyBear::ZERO; height]?, 1))
+fn zeros(rt: &impl Abort, alloc: Global, height: usize) -> RowMajorMatrix<BabyBear> {
+    let values = vec![in alloc; BabyBear::ZERO; height].expect(rt, "memory");
+    RowMajorMatrix::new(values, 1)
 }
 
 /// A column of so many zeros beside the coset of this shift of as many points, times
 /// `2^log_factor`.
 fn zeros_on(
+    rt: &impl Abort,
     alloc: Global,
     shift: u64,
     height: usize,
     log_factor: u8,
-) -> Result<(Domain, RowMajorMatrix<BabyBear>), Fail> {
-    let domain = coset(
-        shift,
-        height.trailing_zeros() as usize + log_factor as usize,
-    )?;
-    Ok((domain, zeros(alloc, height)?))
+) -> (Domain, RowMajorMatrix<BabyBear>) {
+    let log_size = height.trailing_zeros() as usize + log_factor as usize;
+    (coset(rt, shift, log_size), zeros(rt, alloc, height))
 }
 
 /// Columns of zeros of these heights, each beside its domain of twice as many points.
-fn columns(alloc: Global, heights: &[usize]) -> Result<Evaluations, Fail> {
+fn columns(rt: &impl Abort, alloc: Global, heights: &[usize]) -> Evaluations {
     let mut all = Vec::new(alloc);
     for height in heights {
-        all.push(zeros_on(alloc, 1, *height, 1)?)?;
+        all.push(zeros_on(rt, alloc, 1, *height, 1))
+            .expect(rt, "memory");
     }
-    Ok(all)
+    all
 }
 
 /// Words of zeros in which the masks have these heights, with a blowup of 4.
-fn words(alloc: Global, heights: &[usize]) -> Result<Vec<RowMajorMatrix<BabyBear>>, AllocError> {
+fn words(rt: &impl Abort, alloc: Global, heights: &[usize]) -> Vec<RowMajorMatrix<BabyBear>> {
     let mut words = Vec::new(alloc);
     for height in heights {
-        words.push(zeros(alloc, height.saturating_mul(8))?)?;
+        words
+            .push(zeros(rt, alloc, height.saturating_mul(8)))
+            .expect(rt, "memory");
     }
-    Ok(words)
+    words
 }
 
 /// Two chunks of zeros, of this height.
-fn chunks(alloc: Global, height: usize) -> Result<Evaluations, Fail> {
-    Ok(pair(
+fn chunks(rt: &impl Abort, alloc: Global, height: usize) -> Evaluations {
+    two(
+        rt,
         alloc,
-        zeros_on(alloc, 1, height, 0)?,
-        zeros_on(alloc, 31, height, 0)?,
-    )?)
+        zeros_on(rt, alloc, 1, height, 0),
+        zeros_on(rt, alloc, 31, height, 0),
+    )
 }
 
-/// What the call is handed where the masks have these heights.
-fn input_of(alloc: Global, call: Call, heights: &[usize]) -> Result<Committing, Fail> {
+/// What the call is handed where the masks have these heights. A quotient has chunks.
+fn input_of(rt: &impl Abort, alloc: Global, call: Call, heights: &[usize]) -> Committing {
     match call {
-        Call::Commit => Ok(Input::Private(columns(alloc, heights)?)),
-        Call::Preprocessing => Ok(Input::Preprocessed(columns(alloc, heights)?)),
-        Call::Ldes => Ok(Input::Ldes(words(alloc, heights)?)),
+        Call::Commit => Input::Private(columns(rt, alloc, heights)),
+        Call::Preprocessing => Input::Preprocessed(columns(rt, alloc, heights)),
+        Call::Ldes => Input::Ldes(words(rt, alloc, heights)),
         Call::Randomization => {
-            let columns = columns(alloc, heights)?;
-            Ok(Input::Random(domains_of(alloc, &columns)?))
+            let columns = columns(rt, alloc, heights);
+            Input::Random(domains_of(rt, alloc, &columns))
         },
-        Call::Quotient => match heights.last() {
-            Some(height) => Ok(Input::Chunks(chunks(alloc, *height)?)),
-            None => Err(Fail::new("a quotient has chunks")),
+        Call::Quotient => {
+            let height = heights.last().expect(rt, "a quotient has chunks");
+            Input::Chunks(chunks(rt, alloc, *height))
         },
     }
 }
@@ -193,40 +195,35 @@ fn is_new(state: &DataState, call: Call, num_random_codewords: usize) -> bool {
 }
 
 /// Whether the call answers so. A quotient has chunks.
-fn is_answered(alloc: Global, call: Call, case: &Case) -> Result<bool, Fail> {
+fn is_answered(rt: &impl Abort, alloc: Global, call: Call, case: &Case) -> bool {
     if call == Call::Quotient && case.heights.is_empty() {
-        return Ok(true);
+        return true;
     }
-    let input = input_of(alloc, call, case.heights)?;
-    let mut scheme = scheme_of(Setting {
+    let setting = Setting {
         num_random_codewords: case.num_random_codewords,
         num_queries: case.num_queries,
         ..SMALL
-    });
-    match commit(&mut scheme, alloc, input, &[])? {
+    };
+    let batch = Batch {
+        input: input_of(rt, alloc, call, case.heights),
+        domains: Vec::new(alloc),
+    };
+    match commit(rt, alloc, setting, batch) {
         Ok(committed) => {
-            let is_new = is_new(&committed.state, call, case.num_random_codewords);
-            Ok(case.refusal.is_none() && is_new)
+            case.refusal.is_none() && is_new(&committed.state, call, case.num_random_codewords)
         }
-        Err(refusal) => Ok(case.refusal == Some(refusal)),
+        Err(refusal) => case.refusal == Some(refusal),
     }
-}
-
-/// The first call with a case that isn't answered so, and the case's index.
-fn first_wrong(alloc: Global) -> Result<Option<(&'static str, usize)>, Fail> {
-    for (call, name) in CALLS {
-        for (index, case) in CASES.iter().enumerate() {
-            if !is_answered(alloc, call, case)? {
-                return Ok(Some((name, index)));
-            }
-        }
-    }
-    Ok(None)
 }
 
 #[test]
-fn the_budget_is_met_or_refused(rt: HostRuntime) -> Result<(), Fail> {
-    let wrong = first_wrong(rt.alloc())?;
-    assert!(rt; wrong.is_none(), "{wrong:?}");
-    Ok(())
+fn the_budget_is_met_or_refused(rt: HostRuntime) {
+    for (call, name) in CALLS {
+        for (index, case) in CASES.iter().enumerate() {
+            assert!(rt;
+                is_answered(&rt, rt.alloc(), call, case),
+                "{name}, case {index}"
+            );
+        }
+    }
 }

@@ -1,13 +1,14 @@
 //! Whether chunks of a quotient can be masked.
 
-ghost use Rattle.std.specs.Prelude.{◌≡◌, All, IfOk, IsTrue, length, map};
+ghost use Rattle.std.specs.Prelude.{◌≡◌, All, IsTrue, length, map};
 ghost use Rattle.p3_fri_hiding.specs.Quotients.{CanExtend};
 ghost use Rattle.p3_fri_hiding_tests.specs.Chunks.{IsChunk};
 
 use p3_field::{TwoAdicField, TwoAdicMultiplicativeCoset};
 use p3_fri_masks::are_disjoint;
 use p3_matrix::RowMajorMatrix;
-use std::alloc::{AllocError, Global};
+use std::alloc::Global;
+use std::process::Abort;
 
 /// Whether this is a chunk of so many columns on its domain.
 fn is_chunk<F: TwoAdicField>(
@@ -39,29 +40,31 @@ fn are_chunks<F: TwoAdicField>(
 
 /// The domains of matrices.
 pub(crate) fn domains_of<F: TwoAdicField>(
+    rt: &impl Abort,
     alloc: Global,
     evaluations: &[(TwoAdicMultiplicativeCoset<F>, RowMajorMatrix<F>)],
-) -> Result<Vec<TwoAdicMultiplicativeCoset<F>>, AllocError>
-    ensures { IfOk result (λ domains. domains.items ≡ map (λ e. e.0) evaluations.now) }
+) -> Vec<TwoAdicMultiplicativeCoset<F>>
+    ensures { result.items ≡ map (λ e. e.0) evaluations.now }
 {
-    let mut domains = Vec::with_capacity(alloc, evaluations.len())?;
+    let mut domains = Vec::with_capacity(alloc, evaluations.len()).expect(rt, "memory");
     for evaluation in evaluations {
-        domains.push(evaluation.0)?;
+        domains.push(evaluation.0).expect(rt, "memory");
     }
-    Ok(domains)
+    domains
 }
 
 /// Whether these are chunks of a quotient that can be masked with a blowup of 4.
 pub(crate) fn are_maskable<F: TwoAdicField>(
+    rt: &impl Abort,
     alloc: Global,
     chunks: &[(TwoAdicMultiplicativeCoset<F>, RowMajorMatrix<F>)],
-) -> Result<bool, AllocError>
-    ensures { IfOk result (λ answer. IsTrue answer → CanExtend F.ops (λ d. d.shift)
-        (λ d. d.log_size) F.TWO_ADICITY 2 chunks.now (length chunks.now)) }
+) -> bool
+    ensures { IsTrue result → CanExtend F.ops (λ d. d.shift) (λ d. d.log_size) F.TWO_ADICITY 2
+        chunks.now (length chunks.now) }
 {
     if chunks.len() < 2 || !are_chunks(chunks, chunks[0].1.width()) {
-        return Ok(false);
+        return false;
     }
-    let domains = domains_of(alloc, chunks)?;
-    Ok(are_disjoint(&domains))
+    let domains = domains_of(rt, alloc, chunks);
+    are_disjoint(&domains)
 }

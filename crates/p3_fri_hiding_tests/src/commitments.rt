@@ -1,60 +1,47 @@
-//! Whatever a scheme commits to, by one call, and what it reads of it.
+//! Whatever a scheme commits to, and what it reads of it.
 
-ghost use Rattle.std.specs.Prelude.{length, IfOk, IfSome, IsTrue};
-ghost use Rattle.p3_fri_hiding_tests.specs.Inputs.{CanCommitTo};
+ghost use Rattle.std.specs.Prelude.{◌≡◌, [], ◌∷◌, length, true, false, IfOk};
+ghost use Rattle.p3_test_openings.specs.Known.{FitData};
+ghost use Rattle.p3_fri_hiding_tests.specs.declared.input.Input.TheVariants.{Private, Preprocessed};
+ghost use Rattle.p3_fri_hiding_tests.specs.Inputs.{IsHeldFor, HoldsSoMany};
 
+use crate::chunks::domains_of;
+use crate::committable::column;
 use crate::input::Input;
-use crate::scheme::{Domain, Evaluations};
+use crate::lists::{one, three};
+use crate::matrices::{Entries, evaluations};
+use crate::scheme::{Domain, Evaluations, SMALL, Setting};
 use crate::tested::{DataState, Tested};
 use p3_field::BabyBear;
 use p3_fri_masks::HidingFriProverError;
 use p3_matrix::RowMajorMatrix;
-use std::alloc::{AllocError, Global};
-use std::test::Fail;
+use p3_pcs::KnownCommitment;
+use std::alloc::Global;
+use std::process::Abort;
 
 /// What is committed to.
 pub(crate) type Committing = Input<Domain, BabyBear>;
 
-/// A commitment and its data, or why there is none; `None` where the words of chunks are refused
-/// that were extended, or the scheme commits to no random polynomials.
-type Commitment<Data> = Result<Option<([u8; 32], Data)>, HidingFriProverError>;
-
-/// Whether this may be committed to.
-fn is_committable<P: Tested>(
-    scheme: &P,
-    alloc: Global,
-    input: &Committing,
-) -> Result<bool, AllocError>
-    requires { P.IsTested scheme.now }
-    ensures { let t = P.stark_rules scheme.now in IfOk result (λ answer. IsTrue answer
-        → CanCommitTo (P.rules scheme.now).CanCommit (λ es. t.CanExtend es (length es))
-        t.CanCommitLdes t.CanRandomize input.now) }
-{
-    match input {
-        Input::Private(evaluations) => Ok(scheme.can_commit(evaluations)),
-        Input::Preprocessed(evaluations) => Ok(scheme.can_commit(evaluations)),
-        Input::Ldes(words) => Ok(scheme.can_commit_ldes(words)),
-        Input::Chunks(chunks) => scheme.can_extend(alloc, chunks),
-        Input::Random(domains) => Ok(scheme.can_randomize(domains)),
-    }
-}
+/// A commitment and its data, or why there is none.
+type Commitment<Data> = Result<([u8; 32], Data), HidingFriProverError>;
 
 /// The words of chunks, committed to.
 fn commit_chunks<P: Tested>(
+    rt: &impl Abort,
     scheme: &mut P,
     alloc: Global,
     chunks: Evaluations,
 ) -> Commitment<P::ProverData>
     requires { (P.stark_rules scheme.old).CanExtend chunks.items (length chunks.items) }
     ensures kept { P.Keeps scheme.old scheme.new }
-    ensures readable { IfOk result (λ found.
-        IfSome found (λ pair. (P.stark_rules scheme.new).IsReadable pair.1)) }
+    ensures held { IfOk result (λ pair.
+        HoldsSoMany (P.rules scheme.new) (length chunks.items) pair.1) }
 {
     let count = chunks.len();
     match scheme.get_quotient_ldes(alloc, chunks, count) {
         Ok(words) => match scheme.commit_ldes(alloc, words) {
-            Ok(committed) => Ok(Some(committed)),
-            Err(_) => Ok(None),
+            Ok(committed) => Ok(committed),
+            Err(_) => panic!(rt; "the words are refused"),
         },
         Err(refusal) => Err(refusal),
     }
@@ -62,49 +49,101 @@ fn commit_chunks<P: Tested>(
 
 /// Commits to this.
 fn commit_to<P: Tested>(
+    rt: &impl Abort,
     scheme: &mut P,
     alloc: Global,
     input: Committing,
 ) -> Commitment<P::ProverData>
-    requires { let t = P.stark_rules scheme.old in CanCommitTo (P.rules scheme.old).CanCommit
-        (λ es. t.CanExtend es (length es)) t.CanCommitLdes t.CanRandomize input }
+    requires { P.IsTested scheme.old }
     ensures kept { P.Keeps scheme.old scheme.new }
-    ensures readable { IfOk result (λ found.
-        IfSome found (λ pair. (P.stark_rules scheme.new).IsReadable pair.1)) }
+    ensures held { IfOk result (λ pair. IsHeldFor (P.rules scheme.new) (P.stark_rules scheme.new)
+        input pair.0 pair.1) }
 {
+    assert!(rt;
+        scheme.can_commit(rt, alloc, &input),
+        "this can't be committed to"
+    );
     match input {
-        Input::Private(evaluations) => match scheme.commit(alloc, evaluations) {
-            Ok(committed) => Ok(Some(committed)),
-            Err(refusal) => Err(refusal),
-        },
-        Input::Preprocessed(evaluations) => match scheme.commit_preprocessing(alloc, evaluations) {
-            Ok(committed) => Ok(Some(committed)),
-            Err(refusal) => Err(refusal),
-        },
-        Input::Ldes(ldes) => match scheme.commit_ldes(alloc, ldes) {
-            Ok(committed) => Ok(Some(committed)),
-            Err(refusal) => Err(refusal),
-        },
-        Input::Chunks(chunks) => commit_chunks(scheme, alloc, chunks),
-        Input::Random(domains) => scheme.get_opt_randomization_poly_commitment(alloc, domains),
+        Input::Private(evaluations) => scheme.commit(alloc, evaluations),
+        Input::Preprocessed(evaluations) => scheme.commit_preprocessing(alloc, evaluations),
+        Input::Ldes(words) => scheme.commit_ldes(alloc, words),
+        Input::Chunks(chunks) => commit_chunks(rt, scheme, alloc, chunks),
+        Input::Random(domains) => {
+            match scheme.get_opt_randomization_poly_commitment(alloc, domains) {
+                Ok(Some(committed)) => Ok(committed),
+                Ok(None) => panic!(rt; "the scheme doesn't hide"),
+                Err(refusal) => Err(refusal),
+            }
+        }
     }
 }
 
-/// The same by a scheme that may be used again.
-fn commit_tested<P: Tested>(
+/// What is known of a commitment to this, claimed on these domains, and its data.
+pub(crate) fn commit_known<P: Tested>(
+    rt: &impl Abort,
     scheme: &mut P,
     alloc: Global,
     input: Committing,
-) -> Commitment<P::ProverData>
-    requires tested { P.IsTested scheme.old }
-    requires committable { let t = P.stark_rules scheme.old in
-        CanCommitTo (P.rules scheme.old).CanCommit (λ es. t.CanExtend es (length es))
-        t.CanCommitLdes t.CanRandomize input }
+    domains: Vec<Domain>,
+) -> (KnownCommitment<[u8; 32], Domain>, P::ProverData)
+    requires { P.IsTested scheme.old }
+    ensures kept { P.Keeps scheme.old scheme.new }
     ensures tested { P.IsTested scheme.new }
-    ensures readable { IfOk result (λ found.
-        IfSome found (λ pair. (P.stark_rules scheme.new).IsReadable pair.1)) }
+    ensures domains { result.0.domains ≡ domains }
+    ensures held { IsHeldFor (P.rules scheme.new) (P.stark_rules scheme.new) input
+        result.0.commitment result.1 }
 {
-    commit_to::<P>(scheme, alloc, input)
+    match commit_to(rt, scheme, alloc, input) {
+        Ok(pair) => {
+            let (commitment, held) = pair;
+            let known = KnownCommitment {
+                commitment,
+                domains,
+            };
+            (known, held)
+        }
+        Err(_) => panic!(rt; "the commitment is refused"),
+    }
+}
+
+/// Matrices as private ones, or as preprocessing.
+fn input_of(evaluations: Evaluations, is_preprocessing: bool) -> Committing
+    ensures preprocessed { is_preprocessing ≡ true → result ≡ Preprocessed evaluations }
+    ensures private { is_preprocessing ≡ false → result ≡ Private evaluations }
+{
+    if is_preprocessing {
+        Input::Preprocessed(evaluations)
+    } else {
+        Input::Private(evaluations)
+    }
+}
+
+/// What is known of a commitment to the numbers as a column, private or as preprocessing, and the
+/// data, which may be opened so.
+pub(crate) fn commit_column<P: Tested>(
+    rt: &impl Abort,
+    scheme: &mut P,
+    alloc: Global,
+    numbers: &[u64],
+    is_preprocessing: bool,
+) -> (KnownCommitment<[u8; 32], Domain>, P::ProverData)
+    requires { P.IsTested scheme.old }
+    ensures kept { P.Keeps scheme.old scheme.new }
+    ensures tested { P.IsTested scheme.new }
+    ensures preprocessed { is_preprocessing ≡ true
+        → (P.stark_rules scheme.new).CanOpenPreprocessed result.1 }
+    ensures private { is_preprocessing ≡ false → (P.rules scheme.new).CanOpen result.1 }
+    ensures honest { (P.rules scheme.new).IsHonest result.1 }
+    ensures one_matrix { length ((P.rules scheme.new).committed_polynomials result.1) ≡ 1 }
+    ensures known { FitData (P.rules scheme.new).committed_polynomials
+        (P.rules scheme.new).commitment_of (P.rules scheme.new).domain_size (result.0 ∷ [])
+        (result.1 ∷ []) }
+{
+    let column = column(rt, alloc, numbers);
+    let domains = one(rt, alloc, column.0);
+    let columns = one(rt, alloc, column);
+    let input = input_of(columns, is_preprocessing);
+    commit_known(rt, scheme, alloc, input, domains)
 }
 
 /// The values of a matrix on a domain: without the columns that only hide others, and with them.
@@ -116,29 +155,47 @@ pub(crate) struct Reading {
 
 /// What is read of each matrix on the domain of its index.
 fn readings<P: Tested>(
+    rt: &impl Abort,
     scheme: &P,
     alloc: Global,
     held: &P::ProverData,
     domains: &[Domain],
-) -> Result<Vec<Reading>, Fail>
+) -> Vec<Reading>
     requires { (P.stark_rules scheme.now).IsReadable held.now }
 {
     let mut all = Vec::new(alloc);
     for index in 0..domains.len() {
-        if !scheme.can_read(held, index) {
-            return Err(Fail::new("no such matrix"));
-        }
+        assert!(rt; scheme.can_read(held, index), "no such matrix");
         let domain = domains[index];
-        let Ok(shown) = scheme.get_evaluations_on_domain(alloc, held, index, domain) else {
-            return Err(Fail::new("memory was refused"));
+        let shown = scheme.get_evaluations_on_domain(alloc, held, index, domain);
+        let whole = scheme.get_evaluations_on_domain_no_random(alloc, held, index, domain);
+        let reading = Reading {
+            shown: shown.expect(rt, "no columns"),
+            whole: whole.expect(rt, "no columns with those that hide them"),
         };
-        let Ok(whole) = scheme.get_evaluations_on_domain_no_random(alloc, held, index, domain)
-        else {
-            return Err(Fail::new("memory was refused"));
-        };
-        all.push(Reading { shown, whole })?;
+        all.push(reading).expect(rt, "memory");
     }
-    Ok(all)
+    all
+}
+
+/// What is committed to, and the domain on which the matrix of each index is read.
+#[derive(Drop)]
+pub(crate) struct Batch {
+    pub input: Committing,
+    pub domains: Vec<Domain>,
+}
+
+/// These matrices, as private ones or as preprocessing, each read on the domain beside it.
+pub(crate) fn batch_of(
+    rt: &impl Abort,
+    alloc: Global,
+    each: &[Entries],
+    is_preprocessing: bool,
+) -> Batch {
+    let evaluations = evaluations(rt, alloc, each, 1);
+    let domains = domains_of(rt, alloc, &evaluations);
+    let input = input_of(evaluations, is_preprocessing);
+    Batch { input, domains }
 }
 
 /// What the data of a commitment is like, and what is read of it.
@@ -148,27 +205,62 @@ pub(crate) struct Committed {
     pub readings: Vec<Reading>,
 }
 
-/// Commits to this, and reads each matrix on the domain of its index, or says why it can't.
-pub(crate) fn commit_and_read<P: Tested>(
+/// What comes of a commitment: what is read, or why there is none.
+pub(crate) type CommitResult = Result<Committed, HidingFriProverError>;
+
+/// Commits to a batch, and reads it.
+fn commit_and_read<P: Tested>(
+    rt: &impl Abort,
     scheme: &mut P,
     alloc: Global,
-    input: Committing,
-    domains: &[Domain],
-) -> Result<Result<Committed, HidingFriProverError>, Fail>
+    batch: Batch,
+) -> CommitResult
     requires { P.IsTested scheme.old }
     ensures { P.IsTested scheme.new }
 {
-    if !is_committable(&*scheme, alloc, &input)? {
-        return Err(Fail::new("this can't be committed to"));
-    }
-    match commit_tested(&mut *scheme, alloc, input) {
-        Ok(Some(pair)) => {
+    let Batch { input, domains } = batch;
+    match commit_to(rt, &mut *scheme, alloc, input) {
+        Ok(pair) => {
             let (_commitment, held) = pair;
-            let readings = readings(&*scheme, alloc, &held, domains)?;
+            let readings = readings(rt, &*scheme, alloc, &held, &domains);
             let state = P::state_of(&held);
-            Ok(Ok(Committed { state, readings }))
+            Ok(Committed { state, readings })
         }
-        Ok(None) => Err(Fail::new("nothing is committed to")),
-        Err(refusal) => Ok(Err(refusal)),
+        Err(refusal) => Err(refusal),
     }
+}
+
+/// What comes of batches that a new scheme of that setting commits to, one after another.
+pub(crate) fn commit_in_turn<P: Tested>(
+    rt: &impl Abort,
+    alloc: Global,
+    setting: Setting,
+    batches: Vec<Batch>,
+) -> Vec<CommitResult> {
+    let mut scheme = P::of(setting);
+    let mut all = Vec::with_capacity(alloc, batches.len()).expect(rt, "memory");
+    for batch in batches {
+        let answer = commit_and_read(rt, &mut scheme, alloc, batch);
+        all.push(answer).expect(rt, "memory");
+    }
+    all
+}
+
+/// What comes of the same matrices where a scheme that was forked twice commits to them, and then
+/// its second fork and its first.
+pub(crate) fn commit_by_forks<P: Tested>(
+    rt: &impl Abort,
+    alloc: Global,
+    each: &[Entries],
+) -> Vec<CommitResult> {
+    let mut scheme = P::of(SMALL);
+    let mut first = scheme.forked().expect(rt, "memory");
+    let mut second = scheme.forked().expect(rt, "memory");
+    three(
+        rt,
+        alloc,
+        commit_and_read(rt, &mut scheme, alloc, batch_of(rt, alloc, each, false)),
+        commit_and_read(rt, &mut second, alloc, batch_of(rt, alloc, each, false)),
+        commit_and_read(rt, &mut first, alloc, batch_of(rt, alloc, each, false)),
+    )
 }

@@ -1,6 +1,6 @@
 //! What the schemes of a blowup of 4 commit to.
 
-ghost use Rattle.std.specs.Prelude.{◌≡◌, ◌≤◌, ◌+◌, ◌*◌, ◌^◌, All, IfOk, IsTrue, map};
+ghost use Rattle.std.specs.Prelude.{◌≡◌, ◌≤◌, ◌+◌, ◌*◌, ◌^◌, All, IsTrue, map};
 ghost use Rattle.p3_fri_extensions.specs.Extension.{FitsDomain};
 ghost use Rattle.p3_fri_two_adic.specs.Ldes.{HasLdeHeight};
 ghost use Rattle.p3_fri_hiding.specs.Trace.{FitsMasked};
@@ -10,7 +10,7 @@ use crate::scheme::Domain;
 use p3_field::{BabyBear, Field, TwoAdicMultiplicativeCoset};
 use p3_matrix::RowMajorMatrix;
 use std::alloc::Global;
-use std::test::Fail;
+use std::process::Abort;
 
 /// Whether the domain has twice as many points as the matrix has rows, and both are small.
 fn is_doubled(domain: Domain, matrix: &RowMajorMatrix<BabyBear>) -> bool
@@ -76,46 +76,49 @@ pub(crate) fn are_small(domains: &[Domain]) -> bool
 
 /// For each chunk the subgroup of twice as many points, on which a hiding scheme claims it.
 pub(crate) fn doubled(
+    rt: &impl Abort,
     alloc: Global,
     chunks: &[(Domain, RowMajorMatrix<BabyBear>)],
-) -> Result<Vec<Domain>, Fail>
-    ensures { IfOk result (λ domains. map (λ d. 2 ^ d.log_size) domains.items
-        ≡ map (λ e. 2 * 2 ^ e.0.log_size) chunks.now) }
+) -> Vec<Domain>
+    ensures { map (λ d. 2 ^ d.log_size) result.items
+        ≡ map (λ e. 2 * 2 ^ e.0.log_size) chunks.now }
 {
-    let mut domains = Vec::with_capacity(alloc, chunks.len())?;
+    let mut domains = Vec::with_capacity(alloc, chunks.len()).expect(rt, "memory");
     for chunk in chunks {
-        domains.push(coset(1, chunk.0.log_size() + 1)?)?;
+        let domain = coset(rt, 1, chunk.0.log_size() + 1);
+        domains.push(domain).expect(rt, "memory");
     }
-    Ok(domains)
+    domains
 }
 
 /// The numbers as a column beside the subgroup of twice as many points, on which a hiding scheme
 /// has it.
 pub(crate) fn column(
+    rt: &impl Abort,
     alloc: Global,
     numbers: &[u64],
-) -> Result<(Domain, RowMajorMatrix<BabyBear>), Fail>
-    ensures { IfOk result (λ e. FitsMasked 27 2 e.0.log_size e.1) }
+) -> (Domain, RowMajorMatrix<BabyBear>)
+    ensures { FitsMasked 27 2 result.0.log_size result.1 }
 {
-    let domain = coset(1, numbers.len().trailing_zeros() as usize + 1)?;
-    let matrix = matrix(alloc, numbers, 1)?;
-    if !is_doubled(domain, &matrix) {
-        return Err(Fail::new("not twice as many points"));
-    }
-    Ok((domain, matrix))
+    let domain = coset(rt, 1, numbers.len().trailing_zeros() as usize + 1);
+    let matrix = matrix(rt, alloc, numbers, 1);
+    assert!(rt; is_doubled(domain, &matrix), "not twice as many points");
+    (domain, matrix)
 }
 
 /// The numbers as a column on the subgroup of as many points, on which a plain scheme has it.
 pub(crate) fn plain_column(
+    rt: &impl Abort,
     alloc: Global,
     numbers: &[u64],
-) -> Result<(Domain, RowMajorMatrix<BabyBear>), Fail>
-    ensures { IfOk result (λ e. FitsDomain 27 2 e.0.log_size e.1) }
+) -> (Domain, RowMajorMatrix<BabyBear>)
+    ensures { FitsDomain 27 2 result.0.log_size result.1 }
 {
-    let domain = coset(1, numbers.len().trailing_zeros() as usize)?;
-    let matrix = matrix(alloc, numbers, 1)?;
-    if matrix.height() != domain.size() || domain.log_size() > 8 {
-        return Err(Fail::new("not a column on its domain"));
-    }
-    Ok((domain, matrix))
+    let domain = coset(rt, 1, numbers.len().trailing_zeros() as usize);
+    let matrix = matrix(rt, alloc, numbers, 1);
+    assert!(rt;
+        matrix.height() == domain.size() && domain.log_size() <= 8,
+        "not a column on its domain"
+    );
+    (domain, matrix)
 }

@@ -9,7 +9,7 @@ use p3_mmcs::OpenedValues;
 use p3_pcs::Pcs;
 use p3_test_openings::one::Opened;
 use std::alloc::Global;
-use std::test::Fail;
+use std::process::Abort;
 
 /// An opening, with the claims that it makes.
 pub(crate) type Opening<P> = Opened<
@@ -41,6 +41,8 @@ pub(crate) struct Outcome {
     pub earlier: Option<HidingFriProverError>,
     /// The opening, or why there is none.
     pub answer: Result<Judged, HidingFriProverError>,
+    /// Whether a verifier accepted it before it was changed, and ended as the prover.
+    pub is_shown: bool,
     /// Whether there are as many random values beside the proof as are wanted.
     pub has_random_values: bool,
     /// Whether private data counts as opened, and preprocessing doesn't.
@@ -52,20 +54,22 @@ pub(crate) struct Outcome {
 
 /// What the verifier of a setting answers to an opening.
 pub(crate) fn judge<P: Tested>(
+    rt: &impl Abort,
     alloc: Global,
     setting: Setting,
     call: Call,
     opened: Opening<P>,
     challenger: &mut Sha256Challenger,
-) -> Result<Judged, Fail> {
+) -> Judged {
     let Opened {
         values,
         proof,
         claims,
     } = opened;
-    if setting.log_final_poly_len > 31 {
-        return Err(Fail::new("a final polynomial too long"));
-    }
+    assert!(rt;
+        setting.log_final_poly_len <= 31,
+        "a final polynomial too long"
+    );
     let verifier = P::of(setting);
     let answer = match call {
         Call::Verify => verifier.verify(alloc, claims, &proof, challenger),
@@ -73,7 +77,7 @@ pub(crate) fn judge<P: Tested>(
             verifier.verify_with_preprocessing(alloc, claims, &proof, challenger, index)
         }
     };
-    Ok(Judged { values, answer })
+    Judged { values, answer }
 }
 
 /// Whether both sides end in one state that isn't the first.

@@ -4,6 +4,8 @@
 #![tactic(auto)]
 
 #[cfg(test)]
+mod asked;
+#[cfg(test)]
 mod budgets;
 #[cfg(test)]
 mod calls;
@@ -13,11 +15,11 @@ mod chunks;
 mod commitments;
 #[cfg(test)]
 mod committable;
-#[cfg(test)]
-mod committed;
 pub mod input;
 #[cfg(test)]
 mod judged;
+#[cfg(test)]
+mod lists;
 #[cfg(test)]
 mod masks;
 #[cfg(test)]

@@ -1,12 +1,12 @@
 //! Matrices of small numbers, the domains beside them, and points.
 
-ghost use Rattle.std.specs.Prelude.{◌≡◌, ◌≢◌, [], IfOk};
+ghost use Rattle.std.specs.Prelude.{◌≡◌, ◌≢◌, []};
 
 use crate::scheme::{Domain, Evaluations};
 use p3_field::{BabyBear, BabyBear4, ExtensionField, Field, TwoAdicMultiplicativeCoset};
 use p3_matrix::RowMajorMatrix;
-use std::alloc::{AllocError, Global};
-use std::test::Fail;
+use std::alloc::Global;
+use std::process::Abort;
 
 /// Rows of this width of the numbers, on the coset of this shift.
 pub(crate) struct Entries {
@@ -32,63 +32,67 @@ pub(crate) const E: [u64; 32] = [
 pub(crate) const SHORT_E: [u64; 16] = [2, 7, 1, 8, 2, 8, 1, 8, 2, 8, 4, 5, 9, 0, 4, 5];
 
 /// Elements that are these numbers.
-pub(crate) fn elements(alloc: Global, numbers: &[u64]) -> Result<Vec<BabyBear>, AllocError> {
-    let mut elements = Vec::with_capacity(alloc, numbers.len())?;
+pub(crate) fn elements(rt: &impl Abort, alloc: Global, numbers: &[u64]) -> Vec<BabyBear> {
+    let mut elements = Vec::with_capacity(alloc, numbers.len()).expect(rt, "memory");
     for number in numbers {
-        elements.push(BabyBear::from_u64(*number))?;
+        elements
+            .push(BabyBear::from_u64(*number))
+            .expect(rt, "memory");
     }
-    Ok(elements)
+    elements
 }
 
 /// The numbers as rows of this width.
 pub(crate) fn matrix(
+    rt: &impl Abort,
     alloc: Global,
     numbers: &[u64],
     width: usize,
-) -> Result<RowMajorMatrix<BabyBear>, Fail> {
-    let values = elements(alloc, numbers)?;
-    if width == 0 || values.len() % width != 0 {
-        return Err(Fail::new("the numbers aren't whole rows"));
-    }
-    Ok(RowMajorMatrix::new(values, width))
+) -> RowMajorMatrix<BabyBear> {
+    let values = elements(rt, alloc, numbers);
+    assert!(rt;
+        width != 0 && values.len() % width == 0,
+        "the numbers aren't whole rows"
+    );
+    RowMajorMatrix::new(values, width)
 }
 
 /// The coset of this shift and of `2^log_size` points.
-pub(crate) fn coset(shift: u64, log_size: usize) -> Result<Domain, Fail>
-    ensures { IfOk result (λ domain. domain.log_size ≡ log_size) }
+pub(crate) fn coset(rt: &impl Abort, shift: u64, log_size: usize) -> Domain
+    ensures { result.log_size ≡ log_size }
 {
-    match TwoAdicMultiplicativeCoset::new(BabyBear::from_u64(shift), log_size) {
-        Some(coset) => Ok(coset),
-        None => Err(Fail::new("not a domain")),
-    }
+    TwoAdicMultiplicativeCoset::new(BabyBear::from_u64(shift), log_size).expect(rt, "not a domain")
 }
 
 /// The matrix of these entries, beside its domain of as many points as it has rows, times
 /// `2^log_factor`.
 fn evaluation(
+    rt: &impl Abort,
     alloc: Global,
     entries: &Entries,
     log_factor: u8,
-) -> Result<(Domain, RowMajorMatrix<BabyBear>), Fail> {
-    let matrix = matrix(alloc, entries.numbers, entries.width)?;
+) -> (Domain, RowMajorMatrix<BabyBear>) {
+    let matrix = matrix(rt, alloc, entries.numbers, entries.width);
     let log_height = matrix.height().trailing_zeros() as usize;
-    Ok((
-        coset(entries.shift, log_height + log_factor as usize)?,
+    (
+        coset(rt, entries.shift, log_height + log_factor as usize),
         matrix,
-    ))
+    )
 }
 
 /// The same of each.
 pub(crate) fn evaluations(
+    rt: &impl Abort,
     alloc: Global,
     each: &[Entries],
     log_factor: u8,
-) -> Result<Evaluations, Fail> {
+) -> Evaluations {
     let mut all = Vec::new(alloc);
     for entries in each {
-        all.push(evaluation(alloc, entries, log_factor)?)?;
+        all.push(evaluation(rt, alloc, entries, log_factor))
+            .expect(rt, "memory");
     }
-    Ok(all)
+    all
 }
 
 /// Coefficients of the points `5 + X^2` and `X`, which aren't elements of the base field, and so
@@ -97,32 +101,25 @@ pub(crate) const POINTS: [[u64; 4]; 2] = [[5, 0, 1, 0], [0, 1, 0, 0]];
 
 /// The element with these coefficients, that of one first.
 pub(crate) fn element(coefficients: [u64; 4]) -> BabyBear4 {
-    BabyBear4::from_coefficients(&coefficients.map(BabyBear::from_u64))
+    let [constant, linear, quadratic, cubic] = coefficients;
+    BabyBear4::from_coefficients(&[
+        BabyBear::from_u64(constant),
+        BabyBear::from_u64(linear),
+        BabyBear::from_u64(quadratic),
+        BabyBear::from_u64(cubic),
+    ])
 }
 
 /// The points with these coefficients, of which there are some.
-pub(crate) fn points(alloc: Global, coefficients: &[[u64; 4]]) -> Result<Vec<BabyBear4>, Fail>
-    ensures { IfOk result (λ points. points.items ≢ []) }
+pub(crate) fn points(rt: &impl Abort, alloc: Global, coefficients: &[[u64; 4]]) -> Vec<BabyBear4>
+    ensures { result.items ≢ [] }
 {
-    let mut points = Vec::with_capacity(alloc, coefficients.len())?;
+    let mut points = Vec::with_capacity(alloc, coefficients.len()).expect(rt, "memory");
     for coefficients in coefficients {
-        points.push(element(*coefficients))?;
+        points.push(element(*coefficients)).expect(rt, "memory");
     }
-    if points.is_empty() {
-        return Err(Fail::new("no points"));
-    }
-    Ok(points)
-}
-
-/// The same, or `None` where there are none.
-pub(crate) fn points_if_any(
-    alloc: Global,
-    coefficients: &[[u64; 4]],
-) -> Result<Option<Vec<BabyBear4>>, Fail> {
-    if coefficients.is_empty() {
-        return Ok(None);
-    }
-    Ok(Some(points(alloc, coefficients)?))
+    assert!(rt; !points.is_empty(), "no points");
+    points
 }
 
 /// The row at this index, if the matrix has it.

@@ -1,12 +1,16 @@
 //! The hiding scheme of a setting, as tests run by it, and the plain one.
 
-ghost use Rattle.std.specs.Prelude.{◌≡◌, ◌<◌, ◌≤◌, IfOk};
+ghost use Rattle.std.specs.Prelude.{◌≡◌, ◌<◌, ◌≤◌};
 ghost use Rattle.p3_fri_relation.specs.Views.{parameters_of};
 ghost use Rattle.p3_fri_two_adic.specs.Ranges.{InProverRange, InVerifierRange};
 ghost use Rattle.p3_fri_hiding_tests.specs.TestedLaws.{kept};
 
-use crate::chunks::are_maskable;
+use crate::chunks::{are_maskable, domains_of};
+use crate::commitments::Committing;
 use crate::committable::{are_doubled, are_small, are_words, column, doubled};
+use crate::input::Input;
+use crate::lists::one;
+use crate::matrices::{Entries, evaluations};
 use crate::openings::changes::{Change, change_random};
 use crate::openings::shapes::{Counts, have_counts};
 use crate::scheme::{Domain, Inputs, Proof, Rounds, Setting, generator, parameters};
@@ -18,11 +22,11 @@ use p3_fri_hiding::{HidingFriPcs, HidingFriPcsProverData};
 use p3_fri_hiding_openings::{committed_matrices, hidden_columns};
 use p3_fri_masks::HidingFriProverError;
 use p3_fri_two_adic::TwoAdicFriPcs;
-use p3_matrix::RowMajorMatrix;
 use p3_mmcs::{Mmcs, Sha256Mmcs};
+use p3_stark_columns::StarkColumns;
 use rand_chacha::ChaCha20Rng;
 use std::alloc::{AllocError, Global};
-use std::test::Fail;
+use std::process::Abort;
 
 pub(crate) type Data = HidingFriPcsProverData<<Inputs as Mmcs<BabyBear>>::ProverData>;
 
@@ -47,15 +51,6 @@ pub(crate) fn scheme_of(setting: Setting) -> Scheme
     )
 }
 
-/// The same scheme with a generator of its own.
-pub(crate) fn fork_of(scheme: &mut Scheme) -> Result<Scheme, AllocError>
-    requires { scheme.old.fri.log_blowup ≡ 2 }
-    ensures kept { scheme.new.fri.log_blowup ≡ 2 }
-    ensures forked { IfOk result (λ forked. forked.fri.log_blowup ≡ 2) }
-{
-    scheme.fork()
-}
-
 /// The plain scheme of that setting, which has no random codewords.
 pub(crate) fn plain_scheme_of(setting: Setting) -> PlainScheme
     ensures log_blowup { result.fri.log_blowup ≡ 2 }
@@ -74,43 +69,49 @@ impl Tested for Scheme {
         scheme_of(setting)
     }
 
-    fn column_of(
-        &self,
-        alloc: Global,
-        numbers: &[u64],
-    ) -> Result<(Domain, RowMajorMatrix<BabyBear>), Fail> {
-        match column(alloc, numbers) {
-            Ok(column) => Ok(column),
-            Err(failure) => Err(failure),
+    fn forked(&mut self) -> Result<Self, AllocError> {
+        self.fork()
+    }
+
+    fn can_commit(&self, rt: &impl Abort, alloc: Global, input: &Committing) -> bool {
+        match input {
+            Input::Private(evaluations) => are_doubled(evaluations),
+            Input::Preprocessed(evaluations) => are_doubled(evaluations),
+            Input::Ldes(words) => are_words(words),
+            Input::Chunks(chunks) => are_maskable(rt, alloc, chunks),
+            Input::Random(domains) => are_small(domains),
         }
     }
 
-    fn can_commit(&self, evaluations: &[(Domain, RowMajorMatrix<BabyBear>)]) -> bool {
-        are_doubled(evaluations)
-    }
-
-    fn can_commit_ldes(&self, ldes: &[RowMajorMatrix<BabyBear>]) -> bool {
-        are_words(ldes)
-    }
-
-    fn can_extend(
+    fn stark_columns(
         &self,
+        rt: &impl Abort,
         alloc: Global,
-        chunks: &[(Domain, RowMajorMatrix<BabyBear>)],
-    ) -> Result<bool, AllocError> {
-        are_maskable(alloc, chunks)
-    }
-
-    fn claimed_domains(
-        &self,
-        alloc: Global,
-        chunks: &[(Domain, RowMajorMatrix<BabyBear>)],
-    ) -> Result<Vec<Domain>, Fail> {
-        doubled(alloc, chunks)
-    }
-
-    fn can_randomize(&self, domains: &[Domain]) -> bool {
-        are_small(domains)
+        preprocessed: &[u64],
+        trace: &[u64],
+        quotient: &[Entries],
+    ) -> StarkColumns<Domain, BabyBear> {
+        let preprocessed = one(rt, alloc, column(rt, alloc, preprocessed));
+        assert!(rt; are_doubled(&preprocessed), "no preprocessed column");
+        let trace = one(rt, alloc, column(rt, alloc, trace));
+        assert!(rt; are_doubled(&trace), "no trace");
+        let trace_domains = domains_of(rt, alloc, &trace);
+        assert!(rt;
+            are_small(&trace_domains),
+            "no domains of random polynomials"
+        );
+        let quotient = evaluations(rt, alloc, quotient, 0);
+        assert!(rt;
+            are_maskable(rt, alloc, &quotient),
+            "no chunks of a quotient"
+        );
+        let quotient_domains = doubled(rt, alloc, &quotient);
+        StarkColumns {
+            preprocessed,
+            trace,
+            quotient,
+            quotient_domains,
+        }
     }
 
     fn can_read(&self, held: &Data, index: usize) -> bool {

@@ -1,19 +1,22 @@
 //! Schemes that tests run by. What commits, opens and verifies is written for any of them, so that
 //! it asks for nothing of its callers, and is called at the hiding scheme.
 
-ghost use Rattle.std.specs.Prelude.{◌<◌, ◌≤◌, ◌≡◌, ◌*◌, ◌∷◌, [], IfOk, IsTrue};
+ghost use Rattle.std.specs.Prelude.{◌<◌, ◌≤◌, ◌≡◌, ◌≢◌, ◌*◌, [], IfOk, IsTrue};
 ghost use Rattle.std.specs.Prelude.{if◌then◌else◌, length, map};
+ghost use Rattle.p3_fri_hiding_tests.specs.Inputs.{CanCommitTo};
 
+use crate::commitments::Committing;
+use crate::matrices::Entries;
 use crate::openings::changes::Change;
 use crate::openings::shapes::Counts;
 use crate::scheme::{Domain, Setting, VerifierError};
 use p3_challenger::Sha256Challenger;
 use p3_field::{BabyBear, BabyBear4};
 use p3_fri_masks::HidingFriProverError;
-use p3_matrix::RowMajorMatrix;
+use p3_stark_columns::StarkColumns;
 use p3_stark_pcs::UnivariateStarkPcs;
 use std::alloc::{AllocError, Global};
-use std::test::Fail;
+use std::process::Abort;
 
 /// What the data of a commitment is like.
 #[derive(Drop)]
@@ -45,49 +48,39 @@ pub(crate) trait Tested: UnivariateStarkPcs<
         ensures verifier { setting.log_final_poly_len ≤ 31
             → (Self.rules result).InVerifierRange };
 
-    /// The numbers as a column beside its domain, which may be committed to.
-    fn column_of(
+    /// The same scheme with a generator of its own.
+    fn forked(&mut self) -> Result<Self, AllocError>
+        requires { IsTested self.old }
+        ensures kept { IsTested self.new }
+        ensures forked { IfOk result (λ forked. IsTested forked) };
+
+    /// Whether this may be committed to.
+    fn can_commit(&self, rt: &impl Abort, alloc: Global, input: &Committing) -> bool
+        requires { IsTested self.now }
+        ensures { IsTrue result
+            → CanCommitTo (Self.rules self.now) (Self.stark_rules self.now) input.now };
+
+    /// The columns of a STARK: preprocessed and trace of one each, of these numbers, and chunks of
+    /// a quotient, with domains on which what is committed to for them is claimed.
+    fn stark_columns(
         &self,
+        rt: &impl Abort,
         alloc: Global,
-        numbers: &[u64],
-    ) -> Result<(Domain, RowMajorMatrix<BabyBear>), Fail>
+        preprocessed: &[u64],
+        trace: &[u64],
+        quotient: &[Entries],
+    ) -> StarkColumns<Domain, BabyBear>
         requires { IsTested self.now }
-        ensures { IfOk result (λ e. (Self.rules self.now).CanCommit (e ∷ [])) };
-
-    /// Whether these matrices may be committed to, each beside its domain.
-    fn can_commit(&self, evaluations: &[(Domain, RowMajorMatrix<BabyBear>)]) -> bool
-        requires { IsTested self.now }
-        ensures { IsTrue result → (Self.rules self.now).CanCommit evaluations.now };
-
-    /// Whether these words may.
-    fn can_commit_ldes(&self, ldes: &[RowMajorMatrix<BabyBear>]) -> bool
-        requires { IsTested self.now }
-        ensures { IsTrue result → (Self.stark_rules self.now).CanCommitLdes ldes.now };
-
-    /// Whether these chunks of a quotient may be extended.
-    fn can_extend(
-        &self,
-        alloc: Global,
-        chunks: &[(Domain, RowMajorMatrix<BabyBear>)],
-    ) -> Result<bool, AllocError>
-        requires { IsTested self.now }
-        ensures { IfOk result (λ answer. IsTrue answer
-            → (Self.stark_rules self.now).CanExtend chunks.now (length chunks.now)) };
-
-    /// For each chunk a domain on which what is committed to for it is claimed.
-    fn claimed_domains(
-        &self,
-        alloc: Global,
-        chunks: &[(Domain, RowMajorMatrix<BabyBear>)],
-    ) -> Result<Vec<Domain>, Fail>
-        ensures { let r = Self.rules self.now in IfOk result (λ domains.
-            map r.domain_size domains.items
-            ≡ map (λ e. (if Self.ZK then 2 else 1) * r.domain_size e.0) chunks.now) };
-
-    /// Whether random polynomials may be committed to on these domains.
-    fn can_randomize(&self, domains: &[Domain]) -> bool
-        requires { IsTested self.now }
-        ensures { IsTrue result → (Self.stark_rules self.now).CanRandomize domains.now };
+        ensures preprocessed { (Self.rules self.now).CanCommit result.preprocessed.items }
+        ensures some_matrix { result.preprocessed.items ≢ [] }
+        ensures trace { (Self.rules self.now).CanCommit result.trace.items }
+        ensures quotient { (Self.stark_rules self.now).CanExtend result.quotient.items
+            (length result.quotient.items) }
+        ensures quotient_domains { let r = Self.rules self.now in
+            map r.domain_size result.quotient_domains.items
+            ≡ map (λ e. (if Self.ZK then 2 else 1) * r.domain_size e.0) result.quotient.items }
+        ensures random { (Self.stark_rules self.now).CanRandomize
+            (map (λ e. e.0) result.trace.items) };
 
     /// Whether the data has a matrix of this index, with a column beside those that hide the
     /// others.

@@ -81,7 +81,7 @@ const LOWEST: Columns = Columns {
 };
 
 /// The same, claimed at one point.
-const AT_ONE_POINT: Columns = Columns {
+pub(crate) const AT_ONE_POINT: Columns = Columns {
     seed: 1,
     height: 2,
     width: 1,

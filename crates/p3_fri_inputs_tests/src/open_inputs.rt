@@ -3,7 +3,7 @@
 ghost use Rattle.std.specs.Prelude.{◌≡◌, ◌^◌, ◌<◌};
 
 use crate::cases::{Case, Change, Coefficients, Columns, Outcome, REFUSED, SUMS};
-use crate::commitments::{committed, matrix_of, opened};
+use crate::commitments::{commit_and_open, matrix_of};
 use p3_field::{
     BabyBear, BabyBear4, ExtensionField, Field, TwoAdicField, TwoAdicMultiplicativeCoset,
 };
@@ -15,9 +15,8 @@ use p3_matrix::RowMajorMatrix;
 use p3_mmcs::{
     CommitmentOpening, MatrixOpening, PointOpening, Sha256Mmcs, Sha256MmcsError, indices_are_below,
 };
-use std::alloc::{AllocError, Global};
+use std::alloc::Global;
 use std::process::Abort;
-use std::test::Fail;
 
 type Inputs = Sha256Mmcs<BabyBear>;
 
@@ -49,7 +48,7 @@ fn element(coefficients: Coefficients) -> BabyBear4 {
 }
 
 /// The matrix whose entries are `1000 * seed + 10 * row + column + 1`.
-fn matrix(alloc: Global, columns: &Columns) -> Result<RowMajorMatrix<BabyBear>, Fail> {
+fn matrix(rt: &impl Abort, alloc: Global, columns: &Columns) -> RowMajorMatrix<BabyBear> {
     let mut values = Vec::new(alloc);
     for row in 0..columns.height {
         for column in 0..columns.width {
@@ -57,84 +56,102 @@ fn matrix(alloc: Global, columns: &Columns) -> Result<RowMajorMatrix<BabyBear>, 
                 + 10 * u64::from(row)
                 + u64::from(column)
                 + 1;
-            values.push(BabyBear::from_u64(entry))?;
+            values.push(BabyBear::from_u64(entry)).expect(rt, "memory");
         }
     }
-    matrix_of(values, usize::from(columns.width))
+    matrix_of(rt, values, usize::from(columns.width))
 }
 
 /// The elements from this one on, one for each column.
-fn values(alloc: Global, first: u32, width: u16) -> Result<Vec<BabyBear4>, AllocError> {
+fn values(rt: &impl Abort, alloc: Global, first: u32, width: u16) -> Vec<BabyBear4> {
     let mut values = Vec::new(alloc);
     for column in 0..width {
-        values.push(extended(first.wrapping_add(u32::from(column))))?;
+        let value = extended(first.wrapping_add(u32::from(column)));
+        values.push(value).expect(rt, "memory");
     }
-    Ok(values)
+    values
 }
 
 /// What is claimed of the columns: at point `p` of column `c` the element from `100 * seed + 10 * p
 /// + c` on.
-fn points(alloc: Global, columns: &Columns) -> Result<Vec<PointOpening<BabyBear4>>, AllocError> {
+fn points(rt: &impl Abort, alloc: Global, columns: &Columns) -> Vec<PointOpening<BabyBear4>> {
     let mut points = Vec::new(alloc);
     let mut first: u32 = 100 * u32::from(columns.seed);
     for point in columns.points {
-        points.push(PointOpening {
+        let opening = PointOpening {
             point: extended(*point),
-            values: values(alloc, first, columns.width)?,
-        })?;
+            values: values(rt, alloc, first, columns.width),
+        };
+        points.push(opening).expect(rt, "memory");
         first = first.wrapping_add(10);
     }
-    Ok(points)
+    points
 }
 
 /// What is claimed of the matrices.
-fn claimed(alloc: Global, all: &[Columns]) -> Result<Vec<MatrixOpening<BabyBear4, Domain>>, Fail> {
+fn claimed(
+    rt: &impl Abort,
+    alloc: Global,
+    all: &[Columns],
+) -> Vec<MatrixOpening<BabyBear4, Domain>> {
     let mut claimed = Vec::new(alloc);
     for columns in all {
-        let domain = TwoAdicMultiplicativeCoset::new(BabyBear::ONE, columns.log_size).ok_or(
-            "a domain",
-        )?;
-        claimed.push(MatrixOpening {
-            domain,
-            points: points(alloc, columns)?,
-        })?;
+        let domain = Domain::new(BabyBear::ONE, columns.log_size).expect(rt, "a domain");
+        let points = points(rt, alloc, columns);
+        claimed
+            .push(MatrixOpening { domain, points })
+            .expect(rt, "memory");
     }
-    Ok(claimed)
+    claimed
 }
 
-/// One commitment to these matrices, and what it opens at these indices.
-fn commit_and_open(
+/// These matrices.
+fn matrices(rt: &impl Abort, alloc: Global, all: &[Columns]) -> Vec<RowMajorMatrix<BabyBear>> {
+    let mut matrices = Vec::new(alloc);
+    for columns in all {
+        matrices
+            .push(matrix(rt, alloc, columns))
+            .expect(rt, "memory");
+    }
+    matrices
+}
+
+/// One commitment to these matrices, as it is claimed, and as it is opened at these indices.
+fn commitment_of(
+    rt: &impl Abort,
     alloc: Global,
     all: &[Columns],
     indices: &[usize],
-) -> Result<([u8; 32], Opening), Fail> {
-    let mut matrices = Vec::new(alloc);
-    for columns in all {
-        matrices.push(matrix(alloc, columns)?)?;
-    }
-    let scheme = Inputs::new();
-    let (root, data) = committed(alloc, &scheme, matrices)?;
-    let (opened_values, opening_proof) = opened(alloc, &scheme, &data, indices)?;
+) -> (Claim, Opening) {
+    let committed = matrices(rt, alloc, all);
+    let (commitment, opened_values, opening_proof) = commit_and_open(
+        rt,
+        alloc,
+        &Inputs::new(),
+        committed,
+        indices,
+    );
+    let claim = CommitmentOpening {
+        commitment,
+        matrices: claimed(rt, alloc, all),
+    };
     let opening = BatchMultiOpening {
         opened_values,
         opening_proof,
     };
-    Ok((root, opening))
+    (claim, opening)
 }
 
 /// The commitments of the case, as they are claimed and as they are opened.
-fn commitments_of(alloc: Global, case: &Case) -> Result<(Vec<Claim>, Vec<Opening>), Fail> {
+fn commitments_of(rt: &impl Abort, alloc: Global, case: &Case) -> (Vec<Claim>, Vec<Opening>) {
     let mut claims = Vec::new(alloc);
     let mut openings = Vec::new(alloc);
     for (all, indices) in case.commitments {
-        let (commitment, opening) = commit_and_open(alloc, *all, *indices)?;
-        openings.push(opening)?;
-        claims.push(CommitmentOpening {
-            commitment,
-            matrices: claimed(alloc, *all)?,
-        })?;
+        let (claim, opening) = commitment_of(rt, alloc, *all, *indices);
+        claims.push(claim).expect(rt, "memory");
+        openings.push(opening).expect(rt, "memory");
     }
-    Ok((claims, openings))
+    (claims, openings)
 }
 
 /// What is opened with that change, where it is one of theirs.
@@ -165,25 +182,21 @@ fn change_rows(rows: &mut Vec<Vec<BabyBear>>, change: Change) {
 }
 
 /// The claims with that change, where it is one of theirs.
-fn change_claims(claims: &mut Vec<Claim>, change: Change) -> Result<(), AllocError> {
+fn change_claims(rt: &impl Abort, claims: &mut Vec<Claim>, change: Change) {
     for claim in claims {
         for matrix in &mut claim.matrices {
-            change_points(&mut matrix.points, change)?;
+            change_points(rt, &mut matrix.points, change);
         }
     }
-    Ok(())
 }
 
 /// The claimed points with that change, where it is one of theirs.
-fn change_points(
-    points: &mut Vec<PointOpening<BabyBear4>>,
-    change: Change,
-) -> Result<(), AllocError> {
+fn change_points(rt: &impl Abort, points: &mut Vec<PointOpening<BabyBear4>>, change: Change) {
     match change {
         Change::NoPoints => points.clear(),
         Change::LongerValues => {
             if let Some(last) = points.last_mut() {
-                last.values.push(BabyBear4::ONE)?;
+                last.values.push(BabyBear4::ONE).expect(rt, "memory");
             }
         },
         Change::QueriedPoint => {
@@ -200,7 +213,6 @@ fn change_points(
         },
         _ => {},
     }
-    Ok(())
 }
 
 /// The power of two of this logarithm.
@@ -213,22 +225,22 @@ fn power_of_two(logarithm: usize) -> usize
 
 /// What the call answers at the batching challenge from 5 on, if its conditions hold.
 fn answer(
+    rt: &impl Abort,
     alloc: Global,
     case: &Case,
     claims: &[Claim],
     openings: &[Opening],
-) -> Result<Answer, Fail> {
+) -> Answer {
     let log_global_max_height = case.log_global_max_height;
-    if case.indices.is_empty()
-        || log_global_max_height > BabyBear::TWO_ADICITY
-        || !indices_are_below(case.indices, power_of_two(log_global_max_height))
-        || !heights_are_within(claims, 1, log_global_max_height)
-    {
-        return Err(Fail::new("not conditions of the call"));
-    }
+    assert!(rt;
+        log_global_max_height <= BabyBear::TWO_ADICITY
+            && indices_are_below(case.indices, power_of_two(log_global_max_height))
+            && heights_are_within(claims, 1, log_global_max_height),
+        "not conditions of the call"
+    );
     let mut params = FriParameters::new_testing(Rounds::new(), 0);
     params.log_blowup = 1;
-    Ok(open_inputs(
+    open_inputs(
         alloc,
         &params,
         log_global_max_height,
@@ -237,15 +249,7 @@ fn answer(
         extended(5),
         &Inputs::new(),
         claims,
-    ))
-}
-
-/// What comes of the case.
-fn answer_of(alloc: Global, case: &Case) -> Result<Answer, Fail> {
-    let (mut claims, mut openings) = commitments_of(alloc, case)?;
-    change_openings(&mut openings, case.change);
-    change_claims(&mut claims, case.change)?;
-    answer(alloc, case, &claims, &openings)
+    )
 }
 
 /// Whether a query's sums are these.
@@ -269,36 +273,41 @@ fn are_each(all: &[FriOpenings<BabyBear4>], expected: &[&[(usize, Coefficients)]
 }
 
 /// Whether this is the outcome.
-fn is_outcome(alloc: Global, answer: &Answer, outcome: Outcome) -> Result<bool, AllocError> {
+fn is_outcome(rt: &impl Abort, alloc: Global, answer: &Answer, outcome: Outcome) -> bool {
     match (answer, outcome) {
-        (Ok(sums), Outcome::Sums(expected)) => Ok(are_each(sums, expected)),
+        (Ok(sums), Outcome::Sums(expected)) => are_each(sums, expected),
         (Err(refusal), Outcome::Refused(text)) => {
-            Ok(format!(in alloc; "{refusal:?}")?.as_str() == text)
+            format!(in alloc; "{refusal:?}")
+                .expect(rt, "memory")
+                .as_str()
+                == text
         },
-        _ => Ok(false),
+        _ => false,
     }
 }
 
 /// Whether the case has its outcome.
-fn is_met(alloc: Global, case: &Case) -> Result<bool, Fail> {
-    let answer = answer_of(alloc, case)?;
-    Ok(is_outcome(alloc, &answer, case.outcome)?)
+fn is_met(rt: &impl Abort, alloc: Global, case: &Case) -> bool {
+    let (mut claims, mut openings) = commitments_of(rt, alloc, case);
+    change_openings(&mut openings, case.change);
+    change_claims(rt, &mut claims, case.change);
+    let answer = answer(rt, alloc, case, &claims, &openings);
+    is_outcome(rt, alloc, &answer, case.outcome)
 }
 
 /// Asserts that each case has its outcome.
-fn assert_all(rt: &impl Abort, alloc: Global, cases: &[Case]) -> Result<(), Fail> {
+pub(crate) fn assert_all(rt: &impl Abort, alloc: Global, cases: &[Case]) {
     for case in cases {
-        assert!(rt; is_met(alloc, case)?, "{}", case.name);
+        assert!(rt; is_met(rt, alloc, case), "{}", case.name);
     }
-    Ok(())
 }
 
 #[test]
-fn sums_up_quotients(rt: HostRuntime) -> Result<(), Fail> {
-    assert_all(&rt, rt.alloc(), &SUMS)
+fn sums_up_quotients(rt: HostRuntime) {
+    assert_all(&rt, rt.alloc(), &SUMS);
 }
 
 #[test]
-fn refuses_openings(rt: HostRuntime) -> Result<(), Fail> {
-    assert_all(&rt, rt.alloc(), &REFUSED)
+fn refuses_openings(rt: HostRuntime) {
+    assert_all(&rt, rt.alloc(), &REFUSED);
 }

@@ -2,8 +2,6 @@
 
 use p3_fri_folding::FriProverError;
 use p3_fri_masks::{HidingFriProverError, check_hiding_budget, lde_mask_height};
-use std::alloc::Global;
-use std::test::Fail;
 
 /// Numbers of random codewords and of queries, the extension's degree, the height of masks, and the
 /// number of opening points, with what is answered.
@@ -65,21 +63,13 @@ const CASES: [Case; 13] = [
     ),
 ];
 
-/// The place of the first case that is answered otherwise.
-fn first_wrong() -> Option<usize> {
-    for (place, (numbers, answer)) in CASES.iter().enumerate() {
-        let [codewords, queries, degree, height, points] = *numbers;
-        if check_hiding_budget(codewords, queries, degree, height, points) != *answer {
-            return Some(place);
-        }
-    }
-    None
-}
-
 #[test]
-fn the_budget_is_met_or_refused(rt: HostRuntime) -> Result<(), Fail> {
-    assert!(rt; first_wrong().is_none());
-    Ok(())
+fn the_budget_is_met_or_refused(rt: HostRuntime) {
+    for (numbers, answer) in &CASES {
+        let [codewords, queries, degree, height, points] = *numbers;
+        let found = check_hiding_budget(codewords, queries, degree, height, points);
+        assert!(rt; found == *answer, "{numbers:?}");
+    }
 }
 
 /// Heights and log blowups of extensions, with the heights of their masks.
@@ -93,20 +83,14 @@ const EXTENSIONS: [(usize, usize, usize); 7] = [
     (usize::MAX, 64, 0),
 ];
 
-/// The place of the first extension whose masks have another height.
-fn first_wrong_height() -> Option<usize> {
-    for (place, (height, log_blowup, masks)) in EXTENSIONS.iter().enumerate() {
-        if lde_mask_height(*height, *log_blowup) != *masks {
-            return Some(place);
-        }
-    }
-    None
-}
-
 #[test]
-fn masks_are_half_as_high_as_the_matrix(rt: HostRuntime) -> Result<(), Fail> {
-    assert!(rt; first_wrong_height().is_none());
-    Ok(())
+fn masks_are_half_as_high_as_the_matrix(rt: HostRuntime) {
+    for (height, log_blowup, masks) in &EXTENSIONS {
+        assert!(rt;
+            lde_mask_height(*height, *log_blowup) == *masks,
+            "{height}, {log_blowup}"
+        );
+    }
 }
 
 /// Refusals, and how they are printed.
@@ -130,19 +114,10 @@ const TEXTS: [(HidingFriProverError, &str); 4] = [
     ),
 ];
 
-/// The first refusal that is printed in other words.
-fn first_wrong_text(alloc: Global) -> Result<Option<&'static str>, Fail> {
-    for (refusal, wanted) in TEXTS {
-        if format!(in alloc; "{refusal}")?.as_str() != wanted {
-            return Ok(Some(wanted));
-        }
-    }
-    Ok(None)
-}
-
 #[test]
-fn refusals_are_printed(rt: HostRuntime) -> Result<(), Fail> {
-    let wrong = first_wrong_text(rt.alloc())?;
-    assert!(rt; wrong.is_none(), "{wrong:?}");
-    Ok(())
+fn refusals_are_printed(rt: HostRuntime) {
+    for (refusal, wanted) in &TEXTS {
+        let text = format!(in rt.alloc(); "{refusal}").expect(&rt, "memory");
+        assert!(rt; text.as_str() == *wanted, "{wanted}");
+    }
 }

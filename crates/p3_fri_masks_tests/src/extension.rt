@@ -6,11 +6,11 @@ use crate::matrices::{Entries, elements, has_entries, matrix};
 use p3_dft::Radix2Dit;
 use p3_fri_masks::masked_extension;
 use std::alloc::Global;
-use std::test::Fail;
+use std::process::Abort;
 
 /// A chunk on the coset of this shift of `2^log_size` points, its mask, and the words with this
 /// blowup.
-#[derive(Clone, Copy, Debug)]
+#[derive(Clone, Copy)]
 struct Case {
     shift: u64,
     log_size: usize,
@@ -93,33 +93,29 @@ const CASES: [Case; 3] = [
 ];
 
 /// Whether these are the words.
-fn has_words(alloc: Global, case: &Case) -> Result<bool, Fail> {
-    let domain = coset(case.shift, case.log_size)?;
-    let chunk = matrix(alloc, case.chunk)?;
-    let mask = elements(alloc, case.mask)?;
-    if case.log_blowup > 8 || domain.log_size() > 8 {
-        return Err(Fail::new("too large a coset"));
-    }
-    if chunk.height() != domain.size()
+fn has_words(rt: &impl Abort, alloc: Global, case: &Case) -> bool {
+    let domain = coset(rt, case.shift, case.log_size);
+    let chunk = matrix(rt, alloc, case.chunk);
+    let mask = elements(rt, alloc, case.mask);
+    if case.log_blowup > 8
+        || domain.log_size() > 8
+        || chunk.height() != domain.size()
         || chunk.height().checked_mul(chunk.width()) != Some(mask.len())
     {
-        return Err(Fail::new("not a chunk on its domain with its mask"));
+        panic!(rt; "not a chunk on its domain with its mask, or too large a coset");
     }
-    let words = masked_extension(
-        &Radix2Dit::default(),
-        alloc,
-        case.log_blowup,
-        domain,
-        chunk,
-        &mask,
-    )?;
-    Ok(has_entries(words, case.words))
+    let dft = Radix2Dit::default();
+    let words = masked_extension(&dft, alloc, case.log_blowup, domain, chunk, &mask);
+    has_entries(&words.expect(rt, "memory"), case.words)
 }
 
 #[test]
-fn words_are_values_of_masked_polynomials(rt: HostRuntime) -> Result<(), Fail> {
+fn words_are_values_of_masked_polynomials(rt: HostRuntime) {
     for case in &CASES {
-        assert!(rt; has_words(rt.alloc(), case)?, "{case:?}");
+        assert!(rt;
+            has_words(&rt, rt.alloc(), case),
+            "the shift {}",
+            case.shift
+        );
     }
-    Ok(())
 }

@@ -1,86 +1,48 @@
 //! The words of whole quotients, against another program's, which interpolates and evaluates by the
 //! definitions.
 
-ghost use Rattle.std.specs.Prelude.{◌≡◌, ◌<◌, ◌≤◌, ◌+◌, ◌^◌, All, IsTrue, IfOk, length};
-ghost use Rattle.p3_matrix.specs.Matrix.{rows, matrix_width};
-ghost use Rattle.p3_fri_masks.specs.QuotientLdes.{CanBeMasked, first_width};
+ghost use Rattle.p3_fri_masks.specs.QuotientLdes.{CanBeMasked};
 
 use crate::chunks::{are_apart, chunks};
-use crate::matrices::{Entries, has_entries};
+use crate::matrices::{Entries, have_entries};
 use p3_dft::Radix2Dit;
-use p3_field::{BabyBear, SampleField, TwoAdicField, TwoAdicMultiplicativeCoset};
+use p3_field::{SampleField, TwoAdicField, TwoAdicMultiplicativeCoset};
 use p3_fri_masks::quotient_ldes;
 use p3_matrix::RowMajorMatrix;
 use rand_chacha::ChaCha20Rng;
 use rand_core::{Rng, SeedableRng};
-use std::alloc::{AllocError, Global};
-use std::test::Fail;
+use std::alloc::Global;
+use std::process::Abort;
 
-/// Whether each chunk has as many rows as its domain has points.
-fn have_heights<F: TwoAdicField>(
-    chunks: &[(TwoAdicMultiplicativeCoset<F>, RowMajorMatrix<F>)],
-) -> bool
-    ensures { IsTrue result → All (λ e. length (rows e.1) ≡ 2 ^ e.0.log_size) chunks.now }
-{
-    for chunk in chunks {
-        if chunk.1.height() != chunk.0.size() {
-            return false;
-        }
-    }
-    true
-}
-
-/// Whether the chunks are as wide as the first.
-fn have_one_width<F: TwoAdicField>(
-    chunks: &[(TwoAdicMultiplicativeCoset<F>, RowMajorMatrix<F>)],
-) -> bool
-    ensures { IsTrue result → All (λ e. matrix_width e.1 ≡ first_width chunks.now) chunks.now }
-{
-    for chunk in chunks {
-        if chunk.1.width() != chunks[0].1.width() {
-            return false;
-        }
-    }
-    true
-}
-
-/// Whether domains that are `2^(1 + log_blowup)` times as large lie within the two-adicity.
-fn lie_within<F: TwoAdicField>(
-    chunks: &[(TwoAdicMultiplicativeCoset<F>, RowMajorMatrix<F>)],
-    log_blowup: usize,
-) -> bool
-    ensures { IsTrue result
-        → All (λ e. e.0.log_size + 1 + log_blowup ≤ F.TWO_ADICITY) chunks.now }
-{
-    for chunk in chunks {
-        if F::TWO_ADICITY <= log_blowup || F::TWO_ADICITY - log_blowup <= chunk.0.log_size() {
-            return false;
-        }
-    }
-    true
-}
-
-/// Whether the chunks can be masked.
-fn can_be_masked<F: TwoAdicField>(
+/// Asserts that the chunks can be masked: there is one, their cosets are disjoint, each is as high
+/// as its coset and as wide as the first, and cosets that are `2^(1 + log_blowup)` times as large
+/// lie within the two-adicity.
+fn assert_can_be_masked<F: TwoAdicField>(
+    rt: &impl Abort,
     alloc: Global,
     chunks: &[(TwoAdicMultiplicativeCoset<F>, RowMajorMatrix<F>)],
     log_blowup: usize,
-) -> Result<bool, AllocError>
-    ensures { IfOk result (λ answer. IsTrue answer → CanBeMasked F.ops (λ d. d.shift)
-        (λ d. d.log_size) F.TWO_ADICITY log_blowup chunks.now) }
+)
+    ensures { CanBeMasked F.ops (λ d. d.shift) (λ d. d.log_size) F.TWO_ADICITY log_blowup
+        chunks.now }
 {
-    if chunks.is_empty() || !have_heights(chunks) {
-        return Ok(false);
+    if chunks.is_empty() || !are_apart(rt, alloc, chunks) {
+        panic!(rt; "the chunks can't be masked");
     }
-    if !have_one_width(chunks) || !lie_within(chunks, log_blowup) {
-        return Ok(false);
+    for chunk in chunks {
+        if chunk.1.height() != chunk.0.size()
+            || chunk.1.width() != chunks[0].1.width()
+            || F::TWO_ADICITY <= log_blowup
+            || F::TWO_ADICITY - log_blowup <= chunk.0.log_size()
+        {
+            panic!(rt; "the chunks can't be masked");
+        }
     }
-    are_apart(alloc, chunks)
 }
 
 /// Chunks beside the shifts of their domains of `2^log_size` points, their words with so many
 /// random codewords and this blowup by a generator whose seed is `[9; 32]`, and its next word.
-#[derive(Clone, Copy, Debug)]
+#[derive(Clone, Copy)]
 struct Case {
     log_size: usize,
     chunks: &'static [(u64, Entries)],
@@ -200,52 +162,42 @@ const CASES: [Case; 3] = [
     },
 ];
 
-/// The words of these chunks, if they can be masked.
+/// The words of these chunks, which can be masked.
 fn words_of<F: TwoAdicField + SampleField>(
+    rt: &impl Abort,
     alloc: Global,
     chunks: Vec<(TwoAdicMultiplicativeCoset<F>, RowMajorMatrix<F>)>,
     num_random_codewords: usize,
     log_blowup: usize,
     rng: &mut ChaCha20Rng,
-) -> Result<Option<Vec<RowMajorMatrix<F>>>, AllocError> {
-    if !can_be_masked(alloc, &chunks, log_blowup)? {
-        return Ok(None);
-    }
+) -> Vec<RowMajorMatrix<F>> {
+    assert_can_be_masked(rt, alloc, &chunks, log_blowup);
     let dft = Radix2Dit::default();
-    let words = quotient_ldes(&dft, alloc, log_blowup, chunks, num_random_codewords, rng)?;
-    Ok(Some(words))
-}
-
-/// Whether these matrices, in order, have these entries.
-fn have_entries(matrices: Vec<RowMajorMatrix<BabyBear>>, each: &[Entries]) -> bool {
-    let mut same = matrices.len() == each.len();
-    for (matrix, entries) in matrices.into_iter().zip(each) {
-        same = same && has_entries(matrix, *entries);
-    }
-    same
+    quotient_ldes(&dft, alloc, log_blowup, chunks, num_random_codewords, rng).expect(rt, "memory")
 }
 
 /// Whether these are the words, and the generator stands just past those that were drawn.
-fn has_words(alloc: Global, case: &Case) -> Result<bool, Fail> {
-    let chunks = chunks(alloc, case.log_size, case.chunks)?;
+fn has_words(rt: &impl Abort, alloc: Global, case: &Case) -> bool {
+    let chunks = chunks(rt, alloc, case.log_size, case.chunks);
     let mut rng = ChaCha20Rng::from_seed([9; 32]);
-    let Some(words) = words_of(
+    let words = words_of(
+        rt,
         alloc,
         chunks,
         case.num_random_codewords,
         case.log_blowup,
         &mut rng,
-    )?
-    else {
-        return Err(Fail::new("the chunks can't be masked"));
-    };
-    Ok(have_entries(words, case.words) && rng.next_u64() == case.next_word)
+    );
+    have_entries(&words, case.words) && rng.next_u64() == case.next_word
 }
 
 #[test]
-fn words_of_chunks_with_random_columns_and_masks(rt: HostRuntime) -> Result<(), Fail> {
+fn words_of_chunks_with_random_columns_and_masks(rt: HostRuntime) {
     for case in &CASES {
-        assert!(rt; has_words(rt.alloc(), case)?, "{case:?}");
+        let count = case.num_random_codewords;
+        assert!(rt;
+            has_words(&rt, rt.alloc(), case),
+            "{count} random codewords"
+        );
     }
-    Ok(())
 }

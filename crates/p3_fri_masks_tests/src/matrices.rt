@@ -3,28 +3,38 @@
 use p3_field::{BabyBear, Field};
 use p3_matrix::RowMajorMatrix;
 use std::alloc::Global;
-use std::test::Fail;
+use std::process::Abort;
 
 /// A matrix's width and values, row by row.
 pub(crate) type Entries = (usize, &'static [u64]);
 
+/// Matrices beside the shifts of their cosets, and what comes of them.
+#[derive(Clone, Copy)]
+pub(crate) struct Example {
+    pub given: &'static [(u64, Entries)],
+    pub wanted: &'static [Entries],
+}
+
 /// Elements that are these numbers.
-pub(crate) fn elements(alloc: Global, numbers: &[u64]) -> Result<Vec<BabyBear>, Fail> {
-    let mut elements = Vec::with_capacity(alloc, numbers.len())?;
+pub(crate) fn elements(rt: &impl Abort, alloc: Global, numbers: &[u64]) -> Vec<BabyBear> {
+    let mut elements = Vec::new(alloc);
     for number in numbers {
-        elements.push(BabyBear::from_u64(*number))?;
+        elements
+            .push(BabyBear::from_u64(*number))
+            .expect(rt, "memory");
     }
-    Ok(elements)
+    elements
 }
 
 /// The matrix of these entries.
-pub(crate) fn matrix(alloc: Global, entries: Entries) -> Result<RowMajorMatrix<BabyBear>, Fail> {
+pub(crate) fn matrix(rt: &impl Abort, alloc: Global, entries: Entries) -> RowMajorMatrix<BabyBear> {
     let (width, numbers) = entries;
-    let values = elements(alloc, numbers)?;
-    if width == 0 || values.len() % width != 0 {
-        return Err(Fail::new("the values aren't whole rows"));
-    }
-    Ok(RowMajorMatrix::new(values, width))
+    let values = elements(rt, alloc, numbers);
+    assert!(rt;
+        width != 0 && values.len() % width == 0,
+        "the values aren't whole rows"
+    );
+    RowMajorMatrix::new(values, width)
 }
 
 /// Whether the elements are these numbers.
@@ -48,7 +58,17 @@ pub(crate) fn are_lists(lists: &[Vec<BabyBear>], each: &[&[u64]]) -> bool {
 }
 
 /// Whether the matrix has this width and these values.
-pub(crate) fn has_entries(matrix: RowMajorMatrix<BabyBear>, entries: Entries) -> bool {
+pub(crate) fn has_entries(matrix: &RowMajorMatrix<BabyBear>, entries: Entries) -> bool {
     let (width, numbers) = entries;
-    matrix.width() == width && are_numbers(&matrix.into_values(), numbers)
+    matrix.width() == width && are_numbers(matrix.row_block(0, matrix.height()), numbers)
+}
+
+/// Whether these matrices, in order, have these entries.
+pub(crate) fn have_entries(matrices: &[RowMajorMatrix<BabyBear>], each: &[Entries]) -> bool {
+    for (matrix, entries) in matrices.iter().zip(each) {
+        if !has_entries(matrix, *entries) {
+            return false;
+        }
+    }
+    matrices.len() == each.len()
 }

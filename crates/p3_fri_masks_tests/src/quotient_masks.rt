@@ -7,11 +7,11 @@ use p3_fri_masks::quotient_masks;
 use rand_chacha::ChaCha20Rng;
 use rand_core::{Rng, SeedableRng};
 use std::alloc::Global;
-use std::test::Fail;
+use std::process::Abort;
 
 /// The base-2 logarithm of the size of disjoint cosets, their shifts, and for each but the last its
 /// factor.
-#[derive(Clone, Copy, Debug)]
+#[derive(Clone, Copy)]
 struct Factors {
     log_size: usize,
     shifts: &'static [u64],
@@ -50,34 +50,37 @@ const FACTORS: [Factors; 5] = [
 ];
 
 /// Chunks of zeros on the cosets of these shifts.
-fn zeros(alloc: Global, log_size: usize, shifts: &[u64]) -> Result<Chunks, Fail> {
+fn zeros(rt: &impl Abort, alloc: Global, log_size: usize, shifts: &[u64]) -> Chunks {
     let mut all = Vec::new(alloc);
     for shift in shifts {
-        all.push((coset(*shift, log_size)?, matrix(alloc, (1, &[0]))?))?;
+        let domain = coset(rt, *shift, log_size);
+        all.push((domain, matrix(rt, alloc, (1, &[0]))))
+            .expect(rt, "memory");
     }
-    Ok(all)
+    all
 }
 
 /// Whether these are the factors.
-fn has_factors(alloc: Global, case: &Factors) -> Result<bool, Fail> {
-    let chunks = zeros(alloc, case.log_size, case.shifts)?;
-    if chunks.is_empty() || !are_apart(alloc, &chunks)? {
-        return Err(Fail::new("the cosets aren't disjoint"));
-    }
-    Ok(are_numbers(&mask_factors(alloc, &chunks)?, case.factors))
+fn has_factors(rt: &impl Abort, alloc: Global, case: &Factors) -> bool {
+    let chunks = zeros(rt, alloc, case.log_size, case.shifts);
+    assert!(rt;
+        !chunks.is_empty() && are_apart(rt, alloc, &chunks),
+        "the cosets aren't disjoint"
+    );
+    let factors = mask_factors(alloc, &chunks).expect(rt, "memory");
+    are_numbers(&factors, case.factors)
 }
 
 #[test]
-fn factors_are_quotients_of_weights(rt: HostRuntime) -> Result<(), Fail> {
+fn factors_are_quotients_of_weights(rt: HostRuntime) {
     for case in &FACTORS {
-        assert!(rt; has_factors(rt.alloc(), case)?, "{case:?}");
+        assert!(rt; has_factors(&rt, rt.alloc(), case), "{:?}", case.shifts);
     }
-    Ok(())
 }
 
 /// Shifts of disjoint cosets of two points, how many coefficients a mask has, the masks by the
 /// words of a generator whose seed is `[9; 32]`, and its next word.
-#[derive(Clone, Copy, Debug)]
+#[derive(Clone, Copy)]
 struct Masks {
     shifts: &'static [u64],
     size: usize,
@@ -111,20 +114,20 @@ const MASKS: [Masks; 3] = [
 ];
 
 /// Whether these are the masks, and the generator stands just past them.
-fn has_masks(alloc: Global, case: &Masks) -> Result<bool, Fail> {
-    let chunks = zeros(alloc, 1, case.shifts)?;
-    if chunks.is_empty() || !are_apart(alloc, &chunks)? {
-        return Err(Fail::new("the cosets aren't disjoint"));
-    }
+fn has_masks(rt: &impl Abort, alloc: Global, case: &Masks) -> bool {
+    let chunks = zeros(rt, alloc, 1, case.shifts);
+    assert!(rt;
+        !chunks.is_empty() && are_apart(rt, alloc, &chunks),
+        "the cosets aren't disjoint"
+    );
     let mut rng = ChaCha20Rng::from_seed([9; 32]);
-    let masks = quotient_masks(alloc, &chunks, case.size, &mut rng)?;
-    Ok(are_lists(&masks, case.masks) && rng.next_u64() == case.next_word)
+    let masks = quotient_masks(alloc, &chunks, case.size, &mut rng).expect(rt, "memory");
+    are_lists(&masks, case.masks) && rng.next_u64() == case.next_word
 }
 
 #[test]
-fn the_last_mask_makes_up_for_the_others(rt: HostRuntime) -> Result<(), Fail> {
+fn the_last_mask_makes_up_for_the_others(rt: HostRuntime) {
     for case in &MASKS {
-        assert!(rt; has_masks(rt.alloc(), case)?, "{case:?}");
+        assert!(rt; has_masks(&rt, rt.alloc(), case), "{:?}", case.shifts);
     }
-    Ok(())
 }

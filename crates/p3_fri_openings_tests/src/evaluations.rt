@@ -1,10 +1,10 @@
 //! Worked values, and values on many domains against Horner's rule.
 
 use crate::extended::{agrees, values_on};
-use crate::rounds::extended;
+use crate::rounds::{extended, matrix};
 use p3_field::{BabyBear, Field};
 use std::alloc::Global;
-use std::test::Fail;
+use std::process::Abort;
 
 /// A column that was committed to with blowup 2, the blowup by which it is read, the coset of a
 /// shift and of `2^log_size` points, and its values there.
@@ -74,43 +74,36 @@ const CASES: [Case; 5] = [
 ];
 
 /// Whether the column has these values there.
-fn is_met(alloc: Global, case: &Case) -> Result<bool, Fail> {
-    let words = extended(alloc, 1, case.column)?;
+fn is_met(rt: &impl Abort, alloc: Global, case: &Case) -> bool {
+    let words = extended(rt, alloc, 1, case.column);
     let shift = BabyBear::from_u64(case.shift);
-    let values = values_on(alloc, case.log_blowup, &words, shift, case.log_size)?;
-    for (row, number) in case.values.iter().enumerate() {
-        if values.get(row, 0) != Some(BabyBear::from_u64(*number)) {
-            return Ok(false);
-        }
-    }
-    Ok(values.height() == case.values.len())
+    let values = values_on(rt, alloc, case.log_blowup, &words, shift, case.log_size);
+    values == matrix(rt, alloc, case.values, 1)
 }
 
 #[test]
-fn columns_on_other_domains(rt: HostRuntime) -> Result<(), Fail> {
+fn columns_on_other_domains(rt: HostRuntime) {
     for case in &CASES {
-        assert!(rt; is_met(rt.alloc(), case)?, "{}", case.name);
+        assert!(rt; is_met(&rt, rt.alloc(), case), "{}", case.name);
     }
-    Ok(())
 }
 
 /// Whether the values on this coset are those by Horner's rule, for 8 coefficients on 16 points and
 /// for 1 on 4.
-fn are_by_horner(alloc: Global, shift: u64, log_size: usize) -> Result<bool, Fail> {
+fn are_by_horner(rt: &impl Abort, alloc: Global, shift: u64, log_size: usize) -> bool {
     let shift = BabyBear::from_u64(shift);
-    Ok(agrees(alloc, 3, 1, shift, log_size)? && agrees(alloc, 0, 2, shift, log_size)?)
+    agrees(rt, alloc, 3, 1, shift, log_size) && agrees(rt, alloc, 0, 2, shift, log_size)
 }
 
 /// From one to 32 points, on the words' own coset and on others.
 #[test]
-fn values_agree_with_horner(rt: HostRuntime) -> Result<(), Fail> {
+fn values_agree_with_horner(rt: HostRuntime) {
     for shift in [1, 5, 31, 2_013_265_890] {
         for log_size in 0..6 {
             assert!(rt;
-                are_by_horner(rt.alloc(), shift, log_size)?,
+                are_by_horner(&rt, rt.alloc(), shift, log_size),
                 "{shift}, {log_size}"
             );
         }
     }
-    Ok(())
 }

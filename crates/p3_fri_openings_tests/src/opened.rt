@@ -1,16 +1,13 @@
 //! Values of committed polynomials and tables of inverse differences. The values are those of the
 //! polynomials by hand.
 
-use crate::rounds::{are_rounds, extended};
+use crate::rounds::{Held, are_rounds, extended, lent, open};
 use p3_field::{BabyBear, BabyBear4, ExtensionField, Field};
 use p3_fri_folding::FriProverError;
-use p3_fri_openings::{
-    Denominators, OpeningRound, check_points, denominators_of_rounds, open_values,
-};
-use p3_matrix::RowMajorMatrix;
+use p3_fri_openings::{Denominators, check_points};
 use p3_mmcs::OpenedValues;
-use std::alloc::{AllocError, Global};
-use std::test::Fail;
+use std::alloc::Global;
+use std::process::Abort;
 
 /// Numbers of each matrix of a round: its column, its points, or the values at these.
 type Lists<'a> = &'a [&'a [u64]];
@@ -86,58 +83,35 @@ fn element(value: u64) -> BabyBear4 {
     BabyBear4::from_base(BabyBear::from_u64(value))
 }
 
-pub(crate) fn elements(alloc: Global, values: &[u64]) -> Result<Vec<BabyBear4>, AllocError> {
-    let mut elements = Vec::with_capacity(alloc, values.len())?;
+pub(crate) fn elements(rt: &impl Abort, alloc: Global, values: &[u64]) -> Vec<BabyBear4> {
+    let mut elements = Vec::new(alloc);
     for value in values {
-        elements.push(element(*value))?;
+        elements.push(element(*value)).expect(rt, "memory");
     }
-    Ok(elements)
+    elements
 }
 
-/// What is opened of these rounds, with blowup 2, and by which denominators.
-pub(crate) fn opened(
+/// Values of matrices of one column, by round, matrix and point.
+pub(crate) fn values_of(
+    rt: &impl Abort,
     alloc: Global,
-    rounds: &[OpeningRound<'_, BabyBear, BabyBear4>],
-) -> Result<(OpenedValues<BabyBear4>, Denominators<BabyBear, BabyBear4>), Fail> {
-    if !are_rounds(rounds) {
-        return Err(Fail::new("the rounds can't be opened"));
-    }
-    if let Err(_) = check_points(rounds) {
-        return Err(Fail::new("a point lies in its coset"));
-    }
-    let denominators = denominators_of_rounds(alloc, rounds)?;
-    let values = open_values(alloc, 1, rounds, &denominators)?;
-    Ok((values, denominators))
-}
-
-/// Whether one column has these values at the points.
-fn are_values_at(points: &[Vec<BabyBear4>], numbers: &[u64]) -> bool {
-    for (columns, number) in points.iter().zip(numbers) {
-        if columns.as_slice() != [element(*number)].as_slice() {
-            return false;
+    rounds: &[Lists<'_>],
+) -> OpenedValues<BabyBear4> {
+    let mut all = Vec::new(alloc);
+    for each in rounds {
+        let mut round = Vec::new(alloc);
+        for numbers in *each {
+            let mut points = Vec::new(alloc);
+            for number in *numbers {
+                points
+                    .push(elements(rt, alloc, &[*number]))
+                    .expect(rt, "memory");
+            }
+            round.push(points).expect(rt, "memory");
         }
+        all.push(round).expect(rt, "memory");
     }
-    points.len() == numbers.len()
-}
-
-/// Whether each column of a round does.
-fn are_values_of(columns: &[Vec<Vec<BabyBear4>>], each: Lists<'_>) -> bool {
-    for (points, numbers) in columns.iter().zip(each) {
-        if !are_values_at(points, *numbers) {
-            return false;
-        }
-    }
-    columns.len() == each.len()
-}
-
-/// Whether the columns of each round do.
-pub(crate) fn are_values(values: &OpenedValues<BabyBear4>, rounds: &[Lists<'_>]) -> bool {
-    for (columns, each) in values.iter().zip(rounds) {
-        if !are_values_of(columns, *each) {
-            return false;
-        }
-    }
-    values.len() == rounds.len()
+    all
 }
 
 /// Whether each stands for the inverse of the point's difference to a point of the coset.
@@ -166,105 +140,63 @@ fn are_denominators(
     denominators.entries.len() == points.len()
 }
 
-/// The matrices and the points of a round.
-#[derive(Drop)]
-struct Held {
-    matrices: Vec<RowMajorMatrix<BabyBear>>,
-    points: Vec<Vec<BabyBear4>>,
-}
-
-/// Columns, extended by so many bits.
-fn matrices(
-    alloc: Global,
-    log_blowup: usize,
-    columns: Lists<'_>,
-) -> Result<Vec<RowMajorMatrix<BabyBear>>, Fail> {
-    let mut all = Vec::with_capacity(alloc, columns.len())?;
-    for column in columns {
-        all.push(extended(alloc, log_blowup, *column)?)?;
-    }
-    Ok(all)
-}
-
-/// Lists of points.
-fn points(alloc: Global, each: Lists<'_>) -> Result<Vec<Vec<BabyBear4>>, AllocError> {
-    let mut all = Vec::with_capacity(alloc, each.len())?;
-    for points in each {
-        all.push(elements(alloc, *points)?)?;
-    }
-    Ok(all)
-}
-
-/// What each round holds.
+/// What each round holds, its columns extended by so many bits.
 fn hold(
+    rt: &impl Abort,
     alloc: Global,
     log_blowup: usize,
     rounds: &[(Lists<'_>, Lists<'_>)],
-) -> Result<Vec<Held>, Fail> {
+) -> Vec<Held> {
     let mut all = Vec::new(alloc);
     for (columns, each) in rounds {
-        all.push(Held {
-            matrices: matrices(alloc, log_blowup, *columns)?,
-            points: points(alloc, *each)?,
-        })?;
+        let mut matrices = Vec::new(alloc);
+        for column in *columns {
+            matrices
+                .push(extended(rt, alloc, log_blowup, *column))
+                .expect(rt, "memory");
+        }
+        let mut points = Vec::new(alloc);
+        for values in *each {
+            points
+                .push(elements(rt, alloc, *values))
+                .expect(rt, "memory");
+        }
+        all.push(Held { matrices, points }).expect(rt, "memory");
     }
-    Ok(all)
-}
-
-/// The rounds that hold these.
-fn rounds<'a>(
-    alloc: Global,
-    held: &'a [Held],
-) -> Result<Vec<OpeningRound<'a, BabyBear, BabyBear4>>, AllocError> {
-    let mut rounds = Vec::new(alloc);
-    for each in held {
-        rounds.push(OpeningRound {
-            matrices: &each.matrices,
-            points: &each.points,
-        })?;
-    }
-    Ok(rounds)
+    all
 }
 
 /// Whether this is opened.
-fn is_met(alloc: Global, case: &Case) -> Result<bool, Fail> {
-    let held = hold(alloc, case.log_blowup, case.rounds)?;
-    let rounds = rounds(alloc, &held)?;
-    let (values, denominators) = opened(alloc, &rounds)?;
-    Ok(
-        are_values(&values, case.values)
-            && denominators.coset.len() == case.coset
-            && are_denominators(&denominators, case.points),
-    )
+fn is_met(rt: &impl Abort, alloc: Global, case: &Case) -> bool {
+    let held = hold(rt, alloc, case.log_blowup, case.rounds);
+    let rounds = lent(rt, alloc, &held);
+    let (values, denominators, _words) = open(rt, alloc, BabyBear4::ONE, &rounds);
+    values == values_of(rt, alloc, case.values)
+        && denominators.coset.len() == case.coset
+        && are_denominators(&denominators, case.points)
 }
 
 #[test]
-fn columns_are_opened(rt: HostRuntime) -> Result<(), Fail> {
+fn columns_are_opened(rt: HostRuntime) {
     for case in &CASES {
-        assert!(rt; is_met(rt.alloc(), case)?, "{}", case.name);
+        assert!(rt; is_met(&rt, rt.alloc(), case), "{}", case.name);
     }
-    Ok(())
 }
 
 /// Whether the generator is named as a point of the coset of `2 - X`.
-fn is_generator_refused(alloc: Global) -> Result<bool, Fail> {
-    let held = hold(alloc, 1, &[(&[&LINE], &[&[31]])])?;
-    let rounds = rounds(alloc, &held)?;
-    if !are_rounds(&rounds) {
-        return Err(Fail::new("the round can't be opened"));
-    }
-    Ok(
-        check_points(&rounds)
-            == Err(FriProverError::PointInEvaluationDomain {
-                round: 0,
-                matrix: 0,
-                point: 0,
-            }),
-    )
+fn is_generator_refused(rt: &impl Abort, alloc: Global) -> bool {
+    let held = hold(rt, alloc, 1, &[(&[&LINE], &[&[31]])]);
+    let rounds = lent(rt, alloc, &held);
+    assert!(rt; are_rounds(&rounds), "the round can't be opened");
+    check_points(&rounds)
+        == Err(FriProverError::PointInEvaluationDomain {
+            round: 0,
+            matrix: 0,
+            point: 0,
+        })
 }
 
 #[test]
-fn the_generator_lies_in_each_coset(rt: HostRuntime) -> Result<(), Fail> {
-    assert!(rt; is_generator_refused(rt.alloc())?);
-    Ok(())
+fn the_generator_lies_in_each_coset(rt: HostRuntime) {
+    assert!(rt; is_generator_refused(&rt, rt.alloc()));
 }

@@ -1,13 +1,10 @@
 //! The words of polynomials' columns. The matrices and the words were computed by a plain program
 //! from the definitions.
 
-use crate::rounds::are_rounds;
-use p3_field::{BabyBear, BabyBear4, ExtensionField, Field, TwoAdicField};
-use p3_fri_batch::batch_words;
-use p3_fri_openings::{OpeningRound, check_points, denominators_of_rounds, open_values};
-use p3_matrix::RowMajorMatrix;
-use std::alloc::{AllocError, Global};
-use std::test::Fail;
+use crate::rounds::{Held, lent, matrix, open};
+use p3_field::{BabyBear, BabyBear4, ExtensionField, Field};
+use std::alloc::Global;
+use std::process::Abort;
 
 /// The coefficients of an element, that of one first.
 type Coefficients = [u64; 4];
@@ -80,63 +77,17 @@ fn element(coefficients: Coefficients) -> BabyBear4 {
     ])
 }
 
-/// The elements of these coefficients.
-fn elements(alloc: Global, all: &[Coefficients]) -> Result<Vec<BabyBear4>, AllocError> {
-    let mut row = Vec::with_capacity(alloc, all.len())?;
-    for coefficients in all {
-        row.push(element(*coefficients))?;
-    }
-    Ok(row)
-}
-
 /// The lists of these coefficients' elements.
-fn lists(alloc: Global, all: &[&[Coefficients]]) -> Result<Vec<Vec<BabyBear4>>, AllocError> {
-    let mut lists = Vec::with_capacity(alloc, all.len())?;
-    for coefficients in all {
-        lists.push(elements(alloc, *coefficients)?)?;
+fn lists(rt: &impl Abort, alloc: Global, all: &[&[Coefficients]]) -> Vec<Vec<BabyBear4>> {
+    let mut lists = Vec::new(alloc);
+    for each in all {
+        let mut list = Vec::new(alloc);
+        for coefficients in *each {
+            list.push(element(*coefficients)).expect(rt, "memory");
+        }
+        lists.push(list).expect(rt, "memory");
     }
-    Ok(lists)
-}
-
-/// The matrix of these values, row by row.
-fn matrix(alloc: Global, values: &[u64], width: usize) -> Result<RowMajorMatrix<BabyBear>, Fail> {
-    let mut elements = Vec::with_capacity(alloc, values.len())?;
-    for value in values {
-        elements.push(BabyBear::from_u64(*value))?;
-    }
-    if width == 0 || elements.len() % width != 0 {
-        return Err(Fail::new("the values aren't whole rows"));
-    }
-    Ok(RowMajorMatrix::new(elements, width))
-}
-
-/// The matrices of these values and widths.
-fn matrices(
-    alloc: Global,
-    each: &[(&[u64], usize)],
-) -> Result<Vec<RowMajorMatrix<BabyBear>>, Fail> {
-    let mut all = Vec::with_capacity(alloc, each.len())?;
-    for (values, width) in each {
-        all.push(matrix(alloc, *values, *width)?)?;
-    }
-    Ok(all)
-}
-
-/// The words of these rounds, opened with blowup 2 to the values of their polynomials.
-fn words<F: TwoAdicField, EF: ExtensionField<F>>(
-    alloc: Global,
-    alpha: EF,
-    rounds: &[OpeningRound<'_, F, EF>],
-) -> Result<Vec<Vec<EF>>, Fail> {
-    if !are_rounds(rounds) {
-        return Err(Fail::new("the rounds can't be opened"));
-    }
-    if let Err(_) = check_points(rounds) {
-        return Err(Fail::new("a point lies in its coset"));
-    }
-    let denominators = denominators_of_rounds(alloc, rounds)?;
-    let values = open_values(alloc, 1, rounds, &denominators)?;
-    Ok(batch_words::<F, EF>(alloc, alpha, rounds, &values, &denominators.entries)?)
+    lists
 }
 
 /// Matrices of these values and widths with points, round by round, and the words of their
@@ -184,72 +135,33 @@ const CASES: [Case; 3] = [
     },
 ];
 
-/// The matrices and the points of a round.
-#[derive(Drop)]
-struct Held {
-    matrices: Vec<RowMajorMatrix<BabyBear>>,
-    points: Vec<Vec<BabyBear4>>,
-}
-
 /// What each round holds.
-fn hold(alloc: Global, rounds: &[Round]) -> Result<Vec<Held>, Fail> {
+fn hold(rt: &impl Abort, alloc: Global, rounds: &[Round]) -> Vec<Held> {
     let mut all = Vec::new(alloc);
     for round in rounds {
-        all.push(Held {
-            matrices: matrices(alloc, round.matrices)?,
-            points: lists(alloc, round.points)?,
-        })?;
-    }
-    Ok(all)
-}
-
-/// The rounds that hold these.
-fn rounds<'a>(
-    alloc: Global,
-    held: &'a [Held],
-) -> Result<Vec<OpeningRound<'a, BabyBear, BabyBear4>>, AllocError> {
-    let mut rounds = Vec::new(alloc);
-    for each in held {
-        rounds.push(OpeningRound {
-            matrices: &each.matrices,
-            points: &each.points,
-        })?;
-    }
-    Ok(rounds)
-}
-
-/// Whether the word is of these coefficients.
-fn is_word(word: &[BabyBear4], all: &[Coefficients]) -> bool {
-    for (value, coefficients) in word.iter().zip(all) {
-        if *value != element(*coefficients) {
-            return false;
+        let mut matrices = Vec::new(alloc);
+        for (values, width) in round.matrices {
+            matrices
+                .push(matrix(rt, alloc, *values, *width))
+                .expect(rt, "memory");
         }
+        let points = lists(rt, alloc, round.points);
+        all.push(Held { matrices, points }).expect(rt, "memory");
     }
-    word.len() == all.len()
+    all
 }
 
-/// Whether each word is.
-fn are_words(words: &[Vec<BabyBear4>], each: &[&[Coefficients]]) -> bool {
-    for (word, all) in words.iter().zip(each) {
-        if !is_word(word, *all) {
-            return false;
-        }
-    }
-    words.len() == each.len()
-}
-
-/// Whether these are the words of the case.
-fn is_met(alloc: Global, case: &Case) -> Result<bool, Fail> {
-    let held = hold(alloc, case.rounds)?;
-    let rounds = rounds(alloc, &held)?;
-    let words = words(alloc, element(ALPHA), &rounds)?;
-    Ok(are_words(&words, case.words))
+/// Whether these are the words of the case, opened with blowup 2 to the values of the polynomials.
+fn is_met(rt: &impl Abort, alloc: Global, case: &Case) -> bool {
+    let held = hold(rt, alloc, case.rounds);
+    let rounds = lent(rt, alloc, &held);
+    let (_values, _denominators, words) = open(rt, alloc, element(ALPHA), &rounds);
+    words == lists(rt, alloc, case.words)
 }
 
 #[test]
-fn words_of_quotients(rt: HostRuntime) -> Result<(), Fail> {
+fn words_of_quotients(rt: HostRuntime) {
     for case in &CASES {
-        assert!(rt; is_met(rt.alloc(), case)?, "{}", case.name);
+        assert!(rt; is_met(&rt, rt.alloc(), case), "{}", case.name);
     }
-    Ok(())
 }

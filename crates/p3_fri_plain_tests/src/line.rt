@@ -1,6 +1,6 @@
 //! The column of `2 - X`, opened at 5.
 
-ghost use Rattle.std.specs.Prelude.{◌≡◌, [], ◌∷◌, IfOk, length};
+ghost use Rattle.std.specs.Prelude.{◌≡◌, [], ◌∷◌, length};
 ghost use Rattle.p3_fri_extensions.specs.Extension.{FitsDomain};
 ghost use Rattle.p3_fri_relation.specs.Views.{parameters_of};
 ghost use Rattle.p3_fri_two_adic.specs.Ranges.{InProverRange, InVerifierRange};
@@ -14,8 +14,8 @@ use p3_fri_two_adic::TwoAdicFriPcs;
 use p3_matrix::RowMajorMatrix;
 use p3_mmcs::{CommitmentOpening, MatrixOpening, Mmcs, PointOpening, Sha256Mmcs};
 use p3_pcs::{OpeningRequest, Pcs};
-use std::alloc::{AllocError, Global};
-use std::test::Fail;
+use std::alloc::Global;
+use std::process::Abort;
 
 type Inputs = Sha256Mmcs<BabyBear>;
 
@@ -42,7 +42,7 @@ pub(crate) const COMMITMENT: [u8; 32] = [
 ];
 
 /// The proof's plain form in JSON, as that program wrote it.
-pub(crate) const LINE: &str =
+pub(crate) static LINE: &str =
     "{\"batch_pow_witness\":0,\"commit_phase_commits\":[[82,209,1,179,86,32,87,13,228,23,208,31,43,\
 111,142,251,122,244,26,216,151,0,54,192,32,254,3,166,215,180,246,123]],\
 \"commit_pow_witnesses\":[0],\"input_openings\":[{\"opened_values\":[[[33]],[[2013265892]]],\
@@ -77,118 +77,104 @@ pub(crate) fn scheme() -> Scheme
 }
 
 /// A list of one value.
-fn listed<T: Drop>(alloc: Global, value: T) -> Result<Vec<T>, AllocError>
-    ensures { IfOk result (λ v. v.items ≡ value ∷ []) }
+fn listed<T>(rt: &impl Abort, alloc: Global, value: T) -> Vec<T>
+    ensures { result.items ≡ value ∷ [] }
 {
-    let mut values = Vec::with_capacity(alloc, 1)?;
-    values.push(value)?;
-    Ok(values)
+    let mut values = Vec::new(alloc);
+    values.push(value).expect(rt, "memory");
+    values
 }
 
 /// The domain of two points.
-fn domain() -> Result<Domain, Fail> {
-    match TwoAdicMultiplicativeCoset::new(BabyBear::ONE, 1) {
-        Some(domain) => Ok(domain),
-        None => Err(Fail::new("no domain of two points")),
-    }
+fn domain(rt: &impl Abort) -> Domain {
+    TwoAdicMultiplicativeCoset::new(BabyBear::ONE, 1).expect(rt, "no domain of two points")
 }
 
 /// The column on its domain.
-fn evaluation(alloc: Global) -> Result<(Domain, RowMajorMatrix<BabyBear>), Fail>
-    ensures { IfOk result (λ e. FitsDomain 27 1 e.0.log_size e.1) }
+fn evaluation(rt: &impl Abort, alloc: Global) -> (Domain, RowMajorMatrix<BabyBear>)
+    ensures { FitsDomain 27 1 result.0.log_size result.1 }
 {
-    let mut values = Vec::with_capacity(alloc, COLUMN.len())?;
-    for number in COLUMN {
-        values.push(BabyBear::from_u64(number))?;
-    }
-    if values.len() == 0 {
-        return Err(Fail::new("no column"));
-    }
-    let matrix = RowMajorMatrix::new(values, 1);
-    let domain = domain()?;
-    if matrix.height() != domain.size() || domain.log_size() > 8 {
-        return Err(Fail::new("not a column on its domain"));
-    }
-    Ok((domain, matrix))
+    let [first, second] = COLUMN;
+    let values = vec![in alloc; BabyBear::from_u64(first), BabyBear::from_u64(second)];
+    let matrix = RowMajorMatrix::new(values.expect(rt, "memory"), 1);
+    let domain = domain(rt);
+    assert!(rt;
+        matrix.height() == domain.size() && domain.log_size() <= 8,
+        "not a column on its domain"
+    );
+    (domain, matrix)
 }
 
 /// The proof for the one matrix of committed data, opened at one point by a challenger that is new.
 fn open_at<EF: Copy, C, P: Pcs<EF, C>>(
+    rt: &impl Abort,
     scheme: &P,
     alloc: Global,
     committed: &mut P::ProverData,
     point: EF,
     challenger: &mut C,
-) -> Result<P::Proof, Fail>
+) -> P::Proof
     requires prover { (P.rules scheme.now).InProverRange }
     requires openable { (P.rules scheme.now).CanOpen committed.old }
     requires one_matrix { length ((P.rules scheme.now).committed_polynomials committed.old) ≡ 1 }
 {
     let request = OpeningRequest {
         prover_data: committed,
-        points: listed(alloc, listed(alloc, point)?)?,
+        points: listed(rt, alloc, listed(rt, alloc, point)),
     };
-    let mut requests = listed(alloc, request)?;
+    let mut requests = listed(rt, alloc, request);
     match scheme.open(alloc, requests.as_mut_slice(), challenger) {
-        Ok((_, proof)) => Ok(proof),
-        Err(_) => Err(Fail::new("the opening is refused")),
+        Ok((_, proof)) => proof,
+        Err(_) => panic!(rt; "the opening is refused"),
     }
 }
 
 /// The column committed to, and the proof of its opening.
-pub(crate) fn opened(alloc: Global) -> Result<([u8; 32], TwoAdicFriProof), Fail> {
+pub(crate) fn opened(rt: &impl Abort, alloc: Global) -> ([u8; 32], TwoAdicFriProof) {
     let mut scheme = scheme();
-    let evaluations = listed(alloc, evaluation(alloc)?)?;
+    let evaluations = listed(rt, alloc, evaluation(rt, alloc));
     let answer = <Scheme as Pcs<BabyBear4, Sha256Challenger>>::commit(
         &mut scheme,
         alloc,
         evaluations,
     );
-    let (commitment, mut data) = match answer {
-        Ok(committed) => committed,
-        Err(_) => return Err(Fail::new("memory was refused")),
-    };
-    if Inputs::new().get_matrices(&data).len() != 1 {
-        return Err(Fail::new("not one matrix"));
-    }
+    let (commitment, mut data) = answer.expect(rt, "memory was refused");
+    assert!(rt;
+        Inputs::new().get_matrices(&data).len() == 1,
+        "not one matrix"
+    );
     let point: BabyBear4 = ExtensionField::<BabyBear>::from_base(BabyBear::from_u64(POINT));
     let mut challenger = Sha256Challenger::new();
-    let proof = open_at(&scheme, alloc, &mut data, point, &mut challenger)?;
-    Ok((commitment, proof))
+    let proof = open_at(rt, &scheme, alloc, &mut data, point, &mut challenger);
+    (commitment, proof)
 }
 
 /// What is claimed of the column.
-fn claims(alloc: Global) -> Result<Claims, Fail> {
-    let points = vec![in alloc;
-        PointOpening {
-            point: ExtensionField::<BabyBear>::from_base(BabyBear::from_u64(POINT)),
-            values: vec![in alloc;
-                ExtensionField::<BabyBear>::from_base(BabyBear::from_u64(VALUE))
-            ]?,
-        },
-    ]?;
-    let matrices = vec![in alloc;
-        MatrixOpening {
-            domain: domain()?,
-            points
-        },
-    ]?;
-    Ok(vec![in alloc;
-        CommitmentOpening {
-            commitment: COMMITMENT,
-            matrices
-        },
-    ]?)
+fn claims(rt: &impl Abort, alloc: Global) -> Claims {
+    let value = ExtensionField::<BabyBear>::from_base(BabyBear::from_u64(VALUE));
+    let point = PointOpening {
+        point: ExtensionField::<BabyBear>::from_base(BabyBear::from_u64(POINT)),
+        values: listed(rt, alloc, value),
+    };
+    let matrix = MatrixOpening {
+        domain: domain(rt),
+        points: listed(rt, alloc, point),
+    };
+    let claim = CommitmentOpening {
+        commitment: COMMITMENT,
+        matrices: listed(rt, alloc, matrix),
+    };
+    listed(rt, alloc, claim)
 }
 
 /// Whether the verifier accepts it as a proof of the claims.
-pub(crate) fn is_accepted(alloc: Global, proof: &TwoAdicFriProof) -> Result<bool, Fail> {
+pub(crate) fn is_accepted(rt: &impl Abort, alloc: Global, proof: &TwoAdicFriProof) -> bool {
     let answer = <Scheme as Pcs<BabyBear4, Sha256Challenger>>::verify(
         &scheme(),
         alloc,
-        claims(alloc)?,
+        claims(rt, alloc),
         proof,
         &mut Sha256Challenger::new(),
     );
-    Ok(answer.is_ok())
+    answer.is_ok()
 }

@@ -1,24 +1,28 @@
 //! What is proved of words, and what the verifier answers to it.
 
-ghost use Rattle.std.specs.Prelude.{◌≡◌, ◌<◌, ◌≤◌, IsTrue, IfOk};
+ghost use Rattle.std.specs.Prelude.{◌≡◌, ◌<◌, ◌≤◌, ◌^◌, IsTrue};
 ghost use Rattle.algebra.specs.Nested.{lists};
+ghost use Rattle.p3_mmcs.specs.Batch.{dimensions_of};
 ghost use Rattle.p3_fri_prover.specs.Inputs.{AreInputs};
 
+use crate::changes::{Change, change_proof};
 use p3_challenger::{CanObserve, FieldChallenger, GrindingChallenger, Sha256Challenger};
 use p3_field::{BabyBear, BabyBear4, ExtensionField, Field, TwoAdicMultiplicativeCoset};
-use p3_fri_folding::{FriParameters, FriProverError, TwoAdicFriFolding, WithExtraBits};
+use p3_fri_folding::{
+    FriParameters, FriProverError, TwoAdicFriFolding, WithExtraBits, is_strictly_falling,
+};
 use p3_fri_prover::prover::{ProverDataWithOpeningPoints, prove_fri};
 use p3_fri_relation::error::FriError;
 use p3_fri_relation::proof::{BatchMultiOpening, CommitPhaseMultiStep, FriProof};
 use p3_fri_verifier::verify_fri;
-use p3_matrix::RowMajorMatrix;
+use p3_matrix::{Dimensions, RowMajorMatrix};
 use p3_mmcs::{
     CommitmentOpening, MatrixOpening, Mmcs, PointOpening, Sha256Mmcs, Sha256MmcsError,
     have_power_heights,
 };
 use std::alloc::Global;
 use std::marker::PhantomData;
-use std::test::Fail;
+use std::process::Abort;
 
 pub(crate) type Inputs = Sha256Mmcs<BabyBear>;
 
@@ -42,74 +46,177 @@ type Plain = TwoAdicFriFolding<(), Sha256MmcsError>;
 
 type Folding = WithExtraBits<Plain>;
 
-/// A blowup and a cap of 2, a constant as final polynomial, two queries, no proof of work.
-pub(crate) fn plain_parameters() -> Parameters {
+/// The logarithms of the blowup and of the greatest arity and of the final polynomial's length.
+pub(crate) type Shape = (usize, usize, usize);
+
+/// The numbers of bits of each proof of work, and those drawn besides each index.
+pub(crate) type Bits = (usize, usize, usize);
+
+/// Parameters of this shape and two queries, with work of so many bits.
+pub(crate) fn parameters_of(shape: &Shape, bits: &Bits) -> Parameters {
     FriParameters {
-        log_blowup: 1,
-        log_final_poly_len: 0,
-        max_log_arity: 1,
+        log_blowup: shape.0,
+        log_final_poly_len: shape.2,
+        max_log_arity: shape.1,
         num_queries: 2,
         batch_proof_of_work_bits: 0,
-        commit_proof_of_work_bits: 0,
-        query_proof_of_work_bits: 0,
+        commit_proof_of_work_bits: bits.0,
+        query_proof_of_work_bits: bits.1,
         mmcs: Sha256Mmcs::new(),
     }
 }
+
+/// Words of these log heights, and the number that each entry is.
+#[derive(Clone, Copy, Debug)]
+pub(crate) struct Words {
+    pub entry: u64,
+    pub log_heights: &'static [usize],
+}
+
+/// The column of a line for each word, and what is claimed of it at a point. The words are the
+/// quotients, so their entry is the slope.
+#[derive(Clone, Copy)]
+pub(crate) struct Line {
+    pub at_zero: u64,
+    pub point: u64,
+    pub value: u64,
+    pub words: Words,
+}
+
+const ONE_WORD: Words = Words {
+    entry: 2_013_265_920,
+    log_heights: &[2],
+};
+
+const TWO_WORDS: Words = Words {
+    entry: 0,
+    log_heights: &[4, 2],
+};
+
+/// `2 - X`, of which -3 is claimed at 5.
+pub(crate) const FALLING: Line = Line {
+    at_zero: 2,
+    point: 5,
+    value: 2_013_265_918,
+    words: ONE_WORD,
+};
 
 /// An element of the extension that is a number.
 pub(crate) fn constant(number: u64) -> BabyBear4 {
     BabyBear4::from_base(BabyBear::from_u64(number))
 }
 
-/// The column of `2 - X` over four points.
-fn column(alloc: Global) -> Result<RowMajorMatrix<BabyBear>, Fail> {
-    let coset: Domain = TwoAdicMultiplicativeCoset::new(BabyBear::GENERATOR, 2).ok_or("a coset")?;
+/// The line's column over `2^log_height` points.
+fn column(
+    rt: &impl Abort,
+    alloc: Global,
+    line: &Line,
+    log_height: usize,
+) -> RowMajorMatrix<BabyBear> {
+    let at_zero = BabyBear::from_u64(line.at_zero);
+    let slope = BabyBear::from_u64(line.words.entry);
+    let coset = TwoAdicMultiplicativeCoset::new(BabyBear::GENERATOR, log_height).expect(
+        rt, "a coset",
+    );
     let mut values = Vec::new(alloc);
-    for point in &coset.bit_reversed_points(alloc)? {
-        values.push(BabyBear::TWO - *point)?;
+    for point in &coset.bit_reversed_points(alloc).expect(rt, "memory") {
+        values.push(at_zero + slope * *point).expect(rt, "memory");
     }
-    Ok(RowMajorMatrix::new(values, 1))
+    RowMajorMatrix::new(values, 1)
 }
 
-/// What is claimed of it: -3 at 5.
-pub(crate) fn claims(alloc: Global, commitment: [u8; 32]) -> Result<Vec<Claim>, Fail> {
-    let domain = TwoAdicMultiplicativeCoset::new(BabyBear::ONE, 1).ok_or("a domain")?;
+/// What is claimed of the column that was extended from `2^log_size` points.
+fn claim_on(
+    rt: &impl Abort,
+    alloc: Global,
+    line: &Line,
+    log_size: usize,
+) -> MatrixOpening<BabyBear4, Domain> {
+    let domain = TwoAdicMultiplicativeCoset::new(BabyBear::ONE, log_size).expect(rt, "a domain");
     let point = PointOpening {
-        point: constant(5),
-        values: vec![in alloc; constant(2013265918); 1]?,
+        point: constant(line.point),
+        values: vec![in alloc; constant(line.value)].expect(rt, "memory"),
     };
-    let mut points = Vec::new(alloc);
-    points.push(point)?;
+    let points = vec![in alloc; point].expect(rt, "memory");
+    MatrixOpening { domain, points }
+}
+
+/// The dimensions of these matrices.
+fn dimensions(
+    rt: &impl Abort,
+    alloc: Global,
+    matrices: &[RowMajorMatrix<BabyBear>],
+) -> Vec<Dimensions>
+    ensures { result.items ≡ dimensions_of matrices.now }
+{
+    let mut all = Vec::new(alloc);
+    for matrix in matrices {
+        all.push(matrix.dimensions()).expect(rt, "memory");
+    }
+    all
+}
+
+/// One commitment to the line's columns: what is claimed of it at this blowup, and its data.
+pub(crate) fn committed(
+    rt: &impl Abort,
+    alloc: Global,
+    line: &Line,
+    log_blowup: usize,
+) -> (Vec<Claim>, InputData) {
+    let mut columns = Vec::new(alloc);
     let mut matrices = Vec::new(alloc);
-    matrices.push(MatrixOpening { domain, points })?;
-    let mut claims = Vec::new(alloc);
-    claims.push(CommitmentOpening {
+    for log_height in line.words.log_heights {
+        columns
+            .push(column(rt, alloc, line, *log_height))
+            .expect(rt, "memory");
+        let log_size = log_height
+            .checked_sub(log_blowup)
+            .expect(rt, "a large blowup");
+        matrices
+            .push(claim_on(rt, alloc, line, log_size))
+            .expect(rt, "memory");
+    }
+    let all = dimensions(rt, alloc, columns.as_slice());
+    if !have_power_heights(all.as_slice()) {
+        panic!(rt; "heights");
+    }
+    let (commitment, data) = Inputs::new().commit(alloc, columns).expect(rt, "memory");
+    let claim = CommitmentOpening {
         commitment,
         matrices,
-    })?;
-    Ok(claims)
+    };
+    let claims = vec![in alloc; claim].expect(rt, "memory");
+    (claims, data)
 }
 
-/// The one word of four entries that each is -1.
-pub(crate) fn word(alloc: Global) -> Result<Vec<Vec<BabyBear4>>, Fail>
-    ensures { IfOk result (λ words. AreInputs 2 (lists words.items)) }
+/// The length of a word of this log height.
+fn length_of(log_height: usize) -> usize
+    requires { log_height ≤ 8 }
+    ensures { result ≡ 2 ^ log_height }
 {
-    let entries = vec![in alloc; constant(2013265920); 4]?;
-    let mut words = Vec::new(alloc);
-    words.push(entries)?;
-    Ok(words)
+    1 << log_height
 }
 
-/// Words of 16 and of 4 entries that each are 0.
-fn two_words(alloc: Global) -> Result<Vec<Vec<BabyBear4>>, Fail>
-    ensures { IfOk result (λ words. AreInputs 4 (lists words.items)) }
+/// Words of these log heights of which each entry is the number, with the first log height.
+fn words_of(
+    rt: &impl Abort,
+    alloc: Global,
+    entry: u64,
+    log_heights: &[usize],
+) -> (usize, Vec<Vec<BabyBear4>>)
+    ensures { AreInputs result.0 (lists result.1.items) }
 {
-    let taller = vec![in alloc; constant(0); 16]?;
-    let lower = vec![in alloc; constant(0); 4]?;
     let mut words = Vec::new(alloc);
-    words.push(taller)?;
-    words.push(lower)?;
-    Ok(words)
+    for log_height in log_heights {
+        assert!(rt; *log_height <= 8, "other heights");
+        let word = vec![in alloc; constant(entry); length_of(*log_height)].expect(rt, "memory");
+        words.push(word).expect(rt, "memory");
+    }
+    if !is_strictly_falling(log_heights) {
+        panic!(rt; "other heights");
+    }
+    assert!(rt; log_heights.len() > 0, "other heights");
+    (log_heights[0], words)
 }
 
 /// Whether these parameters are as small as the tests', and the words' log height too, so that they
@@ -135,24 +242,26 @@ fn are_small(parameters: &Parameters, extra_bits: usize, log_height: usize) -> b
 pub(crate) fn prove<
     C: FieldChallenger<BabyBear> + GrindingChallenger<Witness = BabyBear> + CanObserve<[u8; 32]>,
 >(
+    rt: &impl Abort,
     alloc: Global,
     parameters: &Parameters,
     extra_bits: usize,
-    words: Vec<Vec<BabyBear4>>,
-    log_height: usize,
+    words: &Words,
     data: &InputData,
     challenger: &mut C,
-) -> Result<Result<Proof, FriProverError>, Fail>
-    requires draws { C.MAX_SAMPLE_BITS ≡ 63 }
-    requires words { AreInputs log_height (lists words.items) }
+) -> Result<Proof, FriProverError>
+    requires { C.MAX_SAMPLE_BITS ≡ 63 }
 {
-    if !are_small(parameters, extra_bits, log_height) {
-        return Err(Fail::new("other parameters"));
-    }
+    let (log_height, inputs) = words_of(rt, alloc, words.entry, words.log_heights);
+    assert!(rt;
+        are_small(parameters, extra_bits, log_height),
+        "other parameters"
+    );
     let input_mmcs = Inputs::new();
-    if input_mmcs.get_max_height(data) > 1 << log_height {
-        return Err(Fail::new("a tall matrix"));
-    }
+    assert!(rt;
+        input_mmcs.get_max_height(data) <= 1 << log_height,
+        "a tall matrix"
+    );
     let plain: Plain = TwoAdicFriFolding(PhantomData);
     let folding = WithExtraBits::new(plain, extra_bits);
     let points = Vec::new(alloc);
@@ -160,38 +269,35 @@ pub(crate) fn prove<
         prover_data: data,
         points: &points,
     }];
-    let proved = prove_fri::<BabyBear, BabyBear4, Folding, Rounds, Inputs, C>(
+    prove_fri::<BabyBear, BabyBear4, Folding, Rounds, Inputs, C>(
         alloc,
         &folding,
         parameters,
-        words,
+        inputs,
         challenger,
         log_height,
         &data_with_points,
         &input_mmcs,
         BabyBear::ZERO,
-    );
-    match proved {
-        Err(FriProverError::OutOfMemory) => Err(Fail::new("memory was refused")),
-        answer => Ok(answer),
-    }
+    )
 }
 
 /// Whether the verifier accepts that proof, at the batching challenge 1.
-pub(crate) fn is_accepted(
+fn is_accepted(
+    rt: &impl Abort,
     alloc: Global,
     parameters: &Parameters,
     extra_bits: usize,
     claims: &[Claim],
     proof: &Proof,
     challenger: &mut Sha256Challenger,
-) -> Result<bool, Fail> {
-    if parameters.log_final_poly_len > 3 || !are_small(parameters, extra_bits, 0) {
-        return Err(Fail::new("other parameters"));
-    }
+) -> bool {
+    assert!(rt;
+        parameters.log_final_poly_len <= 3 && are_small(parameters, extra_bits, 0),
+        "other parameters"
+    );
     let plain: Plain = TwoAdicFriFolding(PhantomData);
     let folding = WithExtraBits::new(plain, extra_bits);
-    let input_mmcs = Inputs::new();
     let verified = verify_fri::<BabyBear, BabyBear4, Rounds, Inputs, Folding, Sha256Challenger>(
         alloc,
         &folding,
@@ -199,108 +305,101 @@ pub(crate) fn is_accepted(
         proof,
         challenger,
         claims,
-        &input_mmcs,
+        &Inputs::new(),
         constant(1),
     );
     match verified {
-        Err(FriError::OutOfMemory) => Err(Fail::new("memory was refused")),
-        answer => Ok(answer.is_ok()),
+        Ok(()) => true,
+        Err(FriError::OutOfMemory) => panic!(rt; "memory was refused"),
+        Err(_) => false,
     }
 }
 
-/// The commitment to that column, and its data.
-pub(crate) fn committed_column(alloc: Global) -> Result<([u8; 32], InputData), Fail> {
-    let matrix = column(alloc)?;
-    if !have_power_heights(&[matrix.dimensions()]) {
-        return Err(Fail::new("heights"));
-    }
-    Ok(Inputs::new().commit_matrix(alloc, matrix)?)
-}
-
-/// A proof, the prover's challenger after it, and what is claimed.
+/// How large a proof is, the first coefficient of its final polynomial, whether a new verifier
+/// accepts it, and whether that ends as the prover.
 #[derive(Drop)]
-pub(crate) struct Proved {
-    pub proof: Proof,
-    pub prover: Sha256Challenger,
-    pub claims: Vec<Claim>,
+pub(crate) struct Outcome {
+    pub rounds: usize,
+    pub witnesses: usize,
+    pub coefficients: usize,
+    pub constant: Option<BabyBear4>,
+    pub is_accepted: bool,
+    pub ends_agree: bool,
 }
 
-/// The column's proof.
-fn proved_column(alloc: Global, parameters: &Parameters) -> Result<Proved, Fail> {
-    let (commitment, data) = committed_column(alloc)?;
-    let claims = claims(alloc, commitment)?;
-    let mut prover = Sha256Challenger::new();
-    match prove(alloc, parameters, 3, word(alloc)?, 2, &data, &mut prover)? {
-        Ok(proof) => Ok(Proved {
-            proof,
-            prover,
-            claims,
-        }),
-        Err(_) => Err(Fail::new("a refusal")),
-    }
-}
-
-/// Whether a new verifier accepts the proof, and whether it ends as the prover.
-pub(crate) fn verified(
+/// What comes of the proof of the line's words, of which that is changed.
+pub(crate) fn prove_and_verify(
+    rt: &impl Abort,
     alloc: Global,
-    parameters: &Parameters,
-    extra_bits: usize,
-    proved: &Proved,
-) -> Result<(bool, bool), Fail> {
-    let mut verifier = Sha256Challenger::new();
-    let accepted = is_accepted(
+    line: &Line,
+    shape: &Shape,
+    bits: &Bits,
+    change: Change,
+) -> Outcome {
+    let parameters = parameters_of(shape, bits);
+    let (claims, data) = committed(rt, alloc, line, shape.0);
+    let mut prover = Sha256Challenger::new();
+    let answer = prove(
+        rt,
         alloc,
-        parameters,
-        extra_bits,
-        &proved.claims,
-        &proved.proof,
+        &parameters,
+        bits.2,
+        &line.words,
+        &data,
+        &mut prover,
+    );
+    let mut proof = answer.expect(rt, "a refusal");
+    change_proof(&mut proof, change);
+    let mut verifier = Sha256Challenger::new();
+    let is_accepted = is_accepted(
+        rt,
+        alloc,
+        &parameters,
+        bits.2,
+        &claims,
+        &proof,
         &mut verifier,
-    )?;
-    Ok((accepted, verifier == proved.prover))
+    );
+    Outcome {
+        rounds: proof.commit_phase_commits.len(),
+        witnesses: proof.commit_pow_witnesses.len(),
+        coefficients: proof.final_poly.len(),
+        constant: proof.final_poly.first().copied(),
+        is_accepted,
+        ends_agree: verifier == prover,
+    }
 }
 
 /// Whether the column's proof has the final polynomial -1, is accepted by a verifier that ends as
 /// the prover, and isn't with another polynomial.
-fn is_proved(alloc: Global) -> Result<bool, Fail> {
-    let parameters = plain_parameters();
-    let mut proved = proved_column(alloc, &parameters)?;
-    let is_minus_one = proved.proof.final_poly.as_slice() == [constant(2013265920)].as_slice();
-    let honest = verified(alloc, &parameters, 3, &proved)?;
-    proved.proof.final_poly.fill(constant(1));
-    let (changed, _) = verified(alloc, &parameters, 3, &proved)?;
-    Ok(is_minus_one && honest == (true, true) && !changed)
+fn is_proved(rt: &impl Abort, alloc: Global) -> bool {
+    let (shape, bits) = ((1, 1, 0), (0, 0, 3));
+    let honest = prove_and_verify(rt, alloc, &FALLING, &shape, &bits, Change::Nothing);
+    let changed = prove_and_verify(rt, alloc, &FALLING, &shape, &bits, Change::Polynomial);
+    honest.coefficients == 1
+        && honest.constant == Some(constant(2_013_265_920))
+        && honest.is_accepted
+        && honest.ends_agree
+        && !changed.is_accepted
 }
 
 #[test]
-fn two_minus_the_point_is_proved_and_verified(rt: HostRuntime) -> Result<(), Fail> {
-    assert!(rt; is_proved(rt.alloc())?);
-    Ok(())
+fn two_minus_the_point_is_proved_and_verified(rt: HostRuntime) {
+    assert!(rt; is_proved(&rt, rt.alloc()));
 }
 
 /// Whether its proof with work has one witness of a round, is accepted by a verifier that ends as
 /// the prover, and isn't with another witness of the queries.
-fn is_proved_with_work(alloc: Global) -> Result<bool, Fail> {
-    let mut parameters = plain_parameters();
-    parameters.commit_proof_of_work_bits = 3;
-    parameters.query_proof_of_work_bits = 3;
-    let mut proved = proved_column(alloc, &parameters)?;
-    let honest = verified(alloc, &parameters, 3, &proved)?;
-    proved.proof.query_pow_witness = proved.proof.query_pow_witness + BabyBear::ONE;
-    let (changed, _) = verified(alloc, &parameters, 3, &proved)?;
-    Ok(proved.proof.commit_pow_witnesses.len() == 1 && honest == (true, true) && !changed)
+fn is_proved_with_work(rt: &impl Abort, alloc: Global) -> bool {
+    let (shape, bits) = ((1, 1, 0), (3, 3, 3));
+    let honest = prove_and_verify(rt, alloc, &FALLING, &shape, &bits, Change::Nothing);
+    let changed = prove_and_verify(rt, alloc, &FALLING, &shape, &bits, Change::QueryWitness);
+    honest.witnesses == 1 && honest.is_accepted && honest.ends_agree && !changed.is_accepted
 }
 
 #[test]
-fn a_word_is_proved_with_work(rt: HostRuntime) -> Result<(), Fail> {
-    assert!(rt; is_proved_with_work(rt.alloc())?);
-    Ok(())
-}
-
-/// The words that are handed in: that one, or two.
-#[derive(Clone, Copy, Debug)]
-enum Words {
-    One,
-    Two,
+fn a_word_is_proved_with_work(rt: HostRuntime) {
+    assert!(rt; is_proved_with_work(&rt, rt.alloc()));
 }
 
 /// The logarithm of the final polynomial's length, the words, and the refusal.
@@ -309,7 +408,7 @@ type Low = (usize, Words, FriProverError);
 const LOW: [Low; 4] = [
     (
         2,
-        Words::One,
+        ONE_WORD,
         FriProverError::InputHeightTooSmall {
             log_input_height: 2,
             log_final_height: 3,
@@ -317,7 +416,7 @@ const LOW: [Low; 4] = [
     ),
     (
         1,
-        Words::One,
+        ONE_WORD,
         FriProverError::InputHeightTooSmall {
             log_input_height: 2,
             log_final_height: 2,
@@ -325,55 +424,29 @@ const LOW: [Low; 4] = [
     ),
     (
         1,
-        Words::Two,
+        TWO_WORDS,
         FriProverError::InputHeightTooSmall {
             log_input_height: 2,
             log_final_height: 2,
         },
     ),
-    (usize::MAX, Words::One, FriProverError::FinalHeightOverflow),
+    (usize::MAX, ONE_WORD, FriProverError::FinalHeightOverflow),
 ];
 
 /// Whether these words are refused so with such a final polynomial, and the challenger is left as
 /// it was.
-fn are_refused(
-    alloc: Global,
-    log_final_poly_len: usize,
-    words: Vec<Vec<BabyBear4>>,
-    log_height: usize,
-    refusal: FriProverError,
-) -> Result<bool, Fail>
-    requires { AreInputs log_height (lists words.items) }
-{
-    let mut parameters = plain_parameters();
-    parameters.log_final_poly_len = log_final_poly_len;
-    let (_commitment, data) = committed_column(alloc)?;
+fn are_refused(rt: &impl Abort, alloc: Global, case: &Low) -> bool {
+    let (log_final_poly_len, words, refusal) = case;
+    let parameters = parameters_of(&(1, 1, *log_final_poly_len), &(0, 0, 3));
+    let (_claims, data) = committed(rt, alloc, &FALLING, 1);
     let mut challenger = Sha256Challenger::new();
-    let proved = prove(
-        alloc,
-        &parameters,
-        3,
-        words,
-        log_height,
-        &data,
-        &mut challenger,
-    )?;
-    Ok(proved.err() == Some(refusal) && challenger == Sha256Challenger::new())
-}
-
-/// Whether the words of the case are.
-fn is_met(alloc: Global, case: &Low) -> Result<bool, Fail> {
-    let (log_final_poly_len, words, refusal) = *case;
-    match words {
-        Words::One => are_refused(alloc, log_final_poly_len, word(alloc)?, 2, refusal),
-        Words::Two => are_refused(alloc, log_final_poly_len, two_words(alloc)?, 4, refusal),
-    }
+    let answer = prove(rt, alloc, &parameters, 3, words, &data, &mut challenger);
+    answer.err() == Some(*refusal) && challenger == Sha256Challenger::new()
 }
 
 #[test]
-fn a_low_word_is_refused_before_the_challenger_is_touched(rt: HostRuntime) -> Result<(), Fail> {
+fn a_low_word_is_refused_before_the_challenger_is_touched(rt: HostRuntime) {
     for case in &LOW {
-        assert!(rt; is_met(rt.alloc(), case)?, "{case:?}");
+        assert!(rt; are_refused(&rt, rt.alloc(), case), "{case:?}");
     }
-    Ok(())
 }

@@ -1,25 +1,26 @@
 //! Queries whose values a plain program computed from the definition, by interpolation, and each
 //! refusal.
 
-use p3_field::{BabyBear, BabyBear4, ExtensionField, Field};
+ghost use Rattle.std.specs.Prelude.{◌<◌, ◌≤◌, length, IsOk};
+ghost use Rattle.p3_fri_relation.specs.FoldedQuery.{IsInOrder};
+ghost use Rattle.p3_fri_relation.specs.Views.{query_input};
+
+use crate::elements::{Coefficients, element, elements};
+use p3_field::{BabyBear, BabyBear4};
 use p3_fri_folding::TwoAdicFriFolding;
 use p3_fri_queries::{QuerySetting, fold_query};
 use p3_fri_relation::error::{FriError, FriOpenings};
 use p3_fri_relation::proof::CommitPhaseMultiStep;
 use p3_mmcs::{Sha256Mmcs, Sha256MmcsError};
-use std::alloc::{AllocError, Global};
+use std::alloc::Global;
 use std::marker::PhantomData;
 use std::process::Abort;
-use std::test::Fail;
 
-type Folding = TwoAdicFriFolding<(), ()>;
+pub(crate) type Folding = TwoAdicFriFolding<(), ()>;
 
-type Scheme = Sha256Mmcs<BabyBear4>;
+pub(crate) type Scheme = Sha256Mmcs<BabyBear4>;
 
-type Opening = CommitPhaseMultiStep<BabyBear4, Scheme>;
-
-/// The coefficients of an element, that of one first.
-type Coefficients = [u64; 4];
+pub(crate) type Opening = CommitPhaseMultiStep<BabyBear4, Scheme>;
 
 /// A query of words of log height 4, and what comes of it.
 #[derive(Clone, Copy)]
@@ -213,26 +214,6 @@ log_final_height: 1 }",
     },
 ];
 
-/// The element of these coefficients.
-fn element(coefficients: Coefficients) -> BabyBear4 {
-    let [constant, linear, quadratic, cubic] = coefficients;
-    BabyBear4::from_coefficients(&[
-        BabyBear::from_u64(constant),
-        BabyBear::from_u64(linear),
-        BabyBear::from_u64(quadratic),
-        BabyBear::from_u64(cubic),
-    ])
-}
-
-/// The elements of these coefficients.
-fn elements(alloc: Global, all: &[Coefficients]) -> Result<Vec<BabyBear4>, AllocError> {
-    let mut row = Vec::with_capacity(alloc, all.len())?;
-    for coefficients in all {
-        row.push(element(*coefficients))?;
-    }
-    Ok(row)
-}
-
 /// Whether these are the elements of the coefficients.
 fn are(row: &[BabyBear4], all: &[Coefficients]) -> bool {
     for (value, coefficients) in row.iter().zip(all) {
@@ -244,83 +225,119 @@ fn are(row: &[BabyBear4], all: &[Coefficients]) -> bool {
 }
 
 /// What a round opens, query by query.
-fn opening(alloc: Global, rows: &[&[Coefficients]]) -> Result<Opening, AllocError> {
+fn opening(rt: &impl Abort, alloc: Global, rows: &[&[Coefficients]]) -> Opening {
     let mut sibling_values = Vec::new(alloc);
     for row in rows {
-        sibling_values.push(elements(alloc, *row)?)?;
+        let siblings = elements(rt, alloc, *row);
+        sibling_values.push(siblings).expect(rt, "memory");
     }
-    Ok(CommitPhaseMultiStep {
+    CommitPhaseMultiStep {
         sibling_values,
         opening_proof: Vec::new(alloc),
-    })
+    }
 }
 
 /// What each round opens.
-fn openings(alloc: Global, rounds: &[&[&[Coefficients]]]) -> Result<Vec<Opening>, AllocError> {
+fn openings(rt: &impl Abort, alloc: Global, rounds: &[&[&[Coefficients]]]) -> Vec<Opening> {
     let mut all = Vec::new(alloc);
     for rows in rounds {
-        all.push(opening(alloc, *rows)?)?;
+        all.push(opening(rt, alloc, *rows)).expect(rt, "memory");
     }
-    Ok(all)
+    all
 }
 
 /// What the query meets.
 fn inputs(
+    rt: &impl Abort,
     alloc: Global,
     each: &[(usize, Coefficients)],
-) -> Result<FriOpenings<BabyBear4>, AllocError> {
+) -> FriOpenings<BabyBear4> {
     let mut all = Vec::new(alloc);
     for (log_height, value) in each {
-        all.push((*log_height, element(*value)))?;
+        all.push((*log_height, element(*value)))
+            .expect(rt, "memory");
     }
-    Ok(all)
+    all
 }
 
 /// Where a query ends, and what was collected, by round.
 #[derive(Drop)]
-struct Folded {
-    value: Result<BabyBear4, FriError<Sha256MmcsError, ()>>,
+pub(crate) struct Folded {
+    pub value: Result<BabyBear4, FriError<Sha256MmcsError, ()>>,
     index: usize,
     group_indices: [Vec<usize>; 2],
     rows: [Vec<Vec<Vec<BabyBear4>>>; 2],
 }
 
-/// The query folded.
-fn fold(alloc: Global, case: &Case) -> Result<Folded, Fail> {
-    let rounds = case.schedule.len();
-    if case.query > 1 || case.index >= 16 || rounds > 2 {
-        return Err(Fail::new("not a query of the call"));
-    }
-    let betas = elements(alloc, case.betas)?;
-    let openings = openings(alloc, case.openings)?;
-    let inputs = inputs(alloc, case.inputs)?;
-    let mut index = case.index;
+/// A query of words of log height 4, folded by itself.
+pub(crate) fn fold(
+    rt: &impl Abort,
+    alloc: Global,
+    query: usize,
+    position: usize,
+    betas: &[BabyBear4],
+    schedule: &[usize],
+    openings: &[Opening],
+    inputs: &[(usize, BabyBear4)],
+    log_final_height: usize,
+) -> Folded
+    requires query { query < usize.MAX }
+    requires position { position < 16 }
+    requires rounds { length schedule.now ≤ 2 }
+    ensures { IsOk result.value → IsInOrder (query_input query position betas.now schedule.now
+        openings.now inputs.now 4 log_final_height) }
+{
+    let rounds = schedule.len();
+    let inputs = Vec::from_slice(alloc, inputs).expect(rt, "memory");
+    let mut index = position;
     let mut group_indices = [Vec::new(alloc), Vec::new(alloc)];
     let mut rows = [Vec::new(alloc), Vec::new(alloc)];
     let folding: Folding = TwoAdicFriFolding(PhantomData);
     let setting = QuerySetting {
         folding: &folding,
-        betas: betas.as_slice(),
-        log_arities: case.schedule,
-        openings: openings.as_slice(),
+        betas,
+        log_arities: schedule,
+        openings,
         log_global_max_height: 4,
-        log_final_height: case.log_final_height,
+        log_final_height,
     };
     let value = fold_query::<BabyBear, BabyBear4, Scheme, Folding>(
         alloc,
         &setting,
-        case.query,
+        query,
         &mut index,
         inputs,
         &mut group_indices[..rounds],
         &mut rows[..rounds],
     );
-    Ok(Folded {
+    Folded {
         value,
         index,
         group_indices,
         rows,
-    })
+    }
+}
+
+/// The case's query, folded.
+fn fold_case(rt: &impl Abort, alloc: Global, case: &Case) -> Folded {
+    assert!(rt;
+        case.query <= 1 && case.index < 16 && case.schedule.len() <= 2,
+        "not a query of the call"
+    );
+    let betas = elements(rt, alloc, case.betas);
+    let openings = openings(rt, alloc, case.openings);
+    let inputs = inputs(rt, alloc, case.inputs);
+    fold(
+        rt,
+        alloc,
+        case.query,
+        case.index,
+        &betas,
+        case.schedule,
+        &openings,
+        &inputs,
+        case.log_final_height,
+    )
 }
 
 /// Whether one row was collected, at this index.
@@ -362,36 +379,40 @@ fn is_folded(
 }
 
 /// Whether the query is refused by this text.
-fn is_refused(alloc: Global, folded: &Folded, text: &str) -> Result<bool, AllocError> {
+fn is_refused(rt: &impl Abort, alloc: Global, folded: &Folded, text: &str) -> bool {
     match &folded.value {
-        Ok(_) => Ok(false),
-        Err(refusal) => Ok(format!(in alloc; "{refusal:?}")?.as_str() == text),
+        Ok(_) => false,
+        Err(refusal) => {
+            format!(in alloc; "{refusal:?}")
+                .expect(rt, "memory")
+                .as_str()
+                == text
+        },
     }
 }
 
 /// Whether the case has its outcome.
-fn is_met(alloc: Global, case: &Case) -> Result<bool, Fail> {
-    let folded = fold(alloc, case)?;
+fn is_met(rt: &impl Abort, alloc: Global, case: &Case) -> bool {
+    let folded = fold_case(rt, alloc, case);
     match case.outcome {
-        Outcome::Folded(value, index, rounds) => Ok(is_folded(&folded, value, index, rounds)),
-        Outcome::Refused(text) => Ok(is_refused(alloc, &folded, text)?),
+        Outcome::Folded(value, index, rounds) => is_folded(&folded, value, index, rounds),
+        Outcome::Refused(text) => is_refused(rt, alloc, &folded, text),
     }
 }
 
 /// Asserts that each case has its outcome.
-fn assert_all(rt: &impl Abort, alloc: Global, cases: &[Case]) -> Result<(), Fail> {
+fn assert_all(rt: &impl Abort, alloc: Global, cases: &[Case]) {
     for case in cases {
-        assert!(rt; is_met(alloc, case)?, "{}", case.name);
+        assert!(rt; is_met(rt, alloc, case), "{}", case.name);
     }
-    Ok(())
 }
 
 #[test]
-fn folds_queries(rt: HostRuntime) -> Result<(), Fail> {
-    assert_all(&rt, rt.alloc(), &FOLDED)
+fn folds_queries(rt: HostRuntime) {
+    assert_all(&rt, rt.alloc(), &FOLDED);
 }
 
 #[test]
-fn refuses_queries(rt: HostRuntime) -> Result<(), Fail> {
-    assert_all(&rt, rt.alloc(), &REFUSED)
+fn refuses_queries(rt: HostRuntime) {
+    assert_all(&rt, rt.alloc(), &REFUSED);
 }

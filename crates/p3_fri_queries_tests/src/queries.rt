@@ -1,146 +1,95 @@
 //! Two queries through two rounds of a word, opened from real commitments, and what is refused of
 //! them.
 
-ghost use Rattle.std.specs.Prelude.{◌≡◌, ◌<◌, ◌^◌, IfOk, IsTrue, [], ◌∷◌};
-ghost use Rattle.std.specs.Prelude.{length, All, EachIndex};
+ghost use Rattle.std.specs.Prelude.{◌≡◌, ◌<◌, [], ◌∷◌, length, All, EachIndex};
 ghost use Rattle.algebra.specs.Nested.{lists};
 ghost use Rattle.p3_fri_relation.specs.FoldedQuery.{IsInOrder};
-ghost use Rattle.p3_fri_relation.specs.Views.{query_input};
 ghost use Rattle.p3_fri_queries.specs.Folded.{query_at};
 
-use crate::words::{BETAS, Coefficients, FINAL_POLY, FIRST_WORD, ROWS, SECOND_WORD};
-use p3_field::{BabyBear, BabyBear4, ExtensionField, Field};
+use crate::elements::{Coefficients, element, elements};
+use crate::fold_query::{Folding, Opening, Scheme, fold};
+use crate::words::{BETAS, FINAL_POLY, FIRST_WORD, ROWS, SECOND_WORD};
+use p3_field::{BabyBear, BabyBear4};
 use p3_fri_folding::TwoAdicFriFolding;
-use p3_fri_queries::{FoldedQueries, QuerySetting, fold_queries, fold_query, verify_rounds};
+use p3_fri_queries::{FoldedQueries, QuerySetting, fold_queries, verify_rounds};
 use p3_fri_relation::error::{FriError, FriOpenings};
 use p3_fri_relation::proof::CommitPhaseMultiStep;
 use p3_matrix::RowMajorMatrix;
 use p3_mmcs::{Mmcs, Sha256Mmcs, Sha256MmcsError, have_power_heights, indices_are_below};
-use std::alloc::{AllocError, Global};
+use std::alloc::Global;
 use std::marker::PhantomData;
 use std::process::Abort;
-use std::test::Fail;
-
-type Folding = TwoAdicFriFolding<(), ()>;
-
-type Scheme = Sha256Mmcs<BabyBear4>;
-
-type Data = <Scheme as Mmcs<BabyBear4>>::ProverData;
-
-type Opening = CommitPhaseMultiStep<BabyBear4, Scheme>;
 
 type Answer = Result<FoldedQueries<BabyBear4>, FriError<Sha256MmcsError, ()>>;
 
-/// The element of these coefficients.
-fn element(coefficients: Coefficients) -> BabyBear4 {
-    let [constant, linear, quadratic, cubic] = coefficients;
-    BabyBear4::from_coefficients(&[
-        BabyBear::from_u64(constant),
-        BabyBear::from_u64(linear),
-        BabyBear::from_u64(quadratic),
-        BabyBear::from_u64(cubic),
-    ])
-}
-
-/// The elements of these coefficients.
-fn elements(alloc: Global, all: &[Coefficients]) -> Result<Vec<BabyBear4>, AllocError> {
-    let mut row = Vec::with_capacity(alloc, all.len())?;
-    for coefficients in all {
-        row.push(element(*coefficients))?;
-    }
-    Ok(row)
-}
-
-/// Whether a query is in order, as it is found by itself.
-fn is_in_order(
-    alloc: Global,
-    query: usize,
-    position: usize,
-    betas: &[BabyBear4],
-    openings: &[Opening],
-    inputs: &[(usize, BabyBear4)],
-) -> Result<bool, Fail>
-    requires query { query < usize.MAX }
-    requires position { position < 16 }
-    ensures { IfOk result (λ is_in_order. IsTrue is_in_order → IsInOrder (query_input query position
-        betas.now (1 ∷ 1 ∷ []) openings.now inputs.now 4 2)) }
-{
-    let inputs = Vec::from_slice(alloc, inputs)?;
-    let mut index = position;
-    let mut group_indices = [Vec::new(alloc), Vec::new(alloc)];
-    let mut rows = [Vec::new(alloc), Vec::new(alloc)];
-    let folding: Folding = TwoAdicFriFolding(PhantomData);
-    let setting = QuerySetting {
-        folding: &folding,
-        betas,
-        log_arities: &[1, 1],
-        openings,
-        log_global_max_height: 4,
-        log_final_height: 2,
-    };
-    let folded = fold_query::<BabyBear, BabyBear4, Scheme, Folding>(
-        alloc,
-        &setting,
-        query,
-        &mut index,
-        inputs,
-        &mut group_indices,
-        &mut rows,
-    );
-    Ok(folded.is_ok())
-}
-
-/// Whether all are.
-fn are_in_order(
+/// Asserts that each query is in order, as it is found by itself.
+fn assert_in_order(
+    rt: &impl Abort,
     alloc: Global,
     positions: &[usize],
     betas: &[BabyBear4],
     openings: &[Opening],
-    inputs: &[Vec<(usize, BabyBear4)>],
-) -> Result<bool, Fail>
+    inputs: &[FriOpenings<BabyBear4>],
+)
     requires count { length inputs.now ≡ length positions.now }
     requires positions { All (λ position. position < 16) positions.now }
-    ensures { IfOk result (λ are_in_order. IsTrue are_in_order → EachIndex positions.now (λ j.
+    ensures { EachIndex positions.now (λ j.
         IsInOrder (query_at positions.now betas.now (1 ∷ 1 ∷ []) openings.now
-        (lists inputs.now) 4 2 j))) }
+        (lists inputs.now) 4 2 j)) }
 {
     for query in 0..positions.len() {
         let met = inputs[query].as_slice();
-        if !is_in_order(alloc, query, positions[query], betas, openings, met)? {
-            return Ok(false);
+        let folded = fold(
+            rt,
+            alloc,
+            query,
+            positions[query],
+            betas,
+            &[1, 1],
+            openings,
+            met,
+            2,
+        );
+        if !folded.value.is_ok() {
+            panic!(rt; "not in order");
         }
     }
-    Ok(true)
 }
 
 /// The siblings of these positions in the word, of each the only one in its row.
 fn siblings(
+    rt: &impl Abort,
     alloc: Global,
     word: &[Coefficients],
     positions: &[usize],
-) -> Result<Vec<Vec<BabyBear4>>, Fail> {
+) -> Vec<Vec<BabyBear4>> {
     let mut siblings = Vec::new(alloc);
     for position in positions {
-        let Some(sibling) = word.get(*position ^ 1) else {
-            return Err(Fail::new("not a position"));
-        };
-        siblings.push(elements(alloc, &[*sibling])?)?;
+        let sibling = word.get(*position ^ 1).expect(rt, "not a position");
+        let row = vec![in alloc; element(*sibling)].expect(rt, "memory");
+        siblings.push(row).expect(rt, "memory");
     }
-    Ok(siblings)
+    siblings
 }
 
-/// The word's commitment in rows of two, with its data.
-fn committed(alloc: Global, word: &[Coefficients]) -> Result<([u8; 32], Data), Fail> {
-    let values = elements(alloc, word)?;
-    if values.len() % 2 != 0 {
-        return Err(Fail::new("not rows"));
-    }
-    let matrix = RowMajorMatrix::new(values, 2);
+/// The commitment to a word in rows, with the proof of what it opens at these indices.
+fn commit_and_open<T: Copy, M: Mmcs<T>>(
+    rt: &impl Abort,
+    alloc: Global,
+    scheme: &M,
+    matrix: RowMajorMatrix<T>,
+    indices: &[usize],
+) -> (M::Commitment, M::MultiProof) {
     if !have_power_heights(&[matrix.dimensions()]) {
-        return Err(Fail::new("not a word"));
+        panic!(rt; "not a word");
     }
-    let scheme: Scheme = Sha256Mmcs::new();
-    Ok(scheme.commit_matrix(alloc, matrix)?)
+    let (commitment, data) = scheme.commit_matrix(alloc, matrix).expect(rt, "memory");
+    let height = scheme.get_max_height(&data);
+    assert!(rt; indices_are_below(indices, height), "not positions");
+    let (_rows, proof) = scheme
+        .open_multi_batch(alloc, indices, &data)
+        .expect(rt, "memory");
+    (commitment, proof)
 }
 
 /// A round: the word that it folds, where it is looked up, and the indices of those rows.
@@ -151,20 +100,18 @@ struct Round {
     indices: [usize; 2],
 }
 
-/// The round's commitment, with what it opens.
-fn opening(alloc: Global, round: &Round) -> Result<([u8; 32], Opening), Fail> {
-    let (commitment, data) = committed(alloc, round.word)?;
+/// The commitment to the round's word in rows of two, with what it opens.
+fn opening(rt: &impl Abort, alloc: Global, round: &Round) -> ([u8; 32], Opening) {
+    let values = elements(rt, alloc, round.word);
+    assert!(rt; values.len() % 2 == 0, "not rows");
+    let matrix = RowMajorMatrix::new(values, 2);
     let scheme: Scheme = Sha256Mmcs::new();
-    if !indices_are_below(&round.indices, scheme.get_max_height(&data)) {
-        return Err(Fail::new("not positions"));
-    }
-    let sibling_values = siblings(alloc, round.word, &round.positions)?;
-    let (_, opening_proof) = scheme.open_multi_batch(alloc, &round.indices, &data)?;
+    let (commitment, opening_proof) = commit_and_open(rt, alloc, &scheme, matrix, &round.indices);
     let opening = CommitPhaseMultiStep {
-        sibling_values,
+        sibling_values: siblings(rt, alloc, round.word, &round.positions),
         opening_proof,
     };
-    Ok((commitment, opening))
+    (commitment, opening)
 }
 
 /// The positions of two queries.
@@ -214,49 +161,38 @@ const REFUSED: [Case; 2] = [
     },
 ];
 
-/// Two queries through two rounds.
-#[derive(Drop)]
-struct Queries {
-    commitments: [[u8; 32]; 2],
-    openings: [Opening; 2],
-    inputs: Vec<FriOpenings<BabyBear4>>,
-}
-
 /// What two queries meet.
-fn inputs(alloc: Global, values: &[Coefficients; 2]) -> Result<Vec<FriOpenings<BabyBear4>>, Fail> {
+fn inputs(
+    rt: &impl Abort,
+    alloc: Global,
+    values: &[Coefficients; 2],
+) -> Vec<FriOpenings<BabyBear4>> {
     let mut inputs = Vec::new(alloc);
     for value in values {
-        inputs.push(vec![in alloc; (4, element(*value))]?)?;
+        let met = vec![in alloc; (4, element(*value))].expect(rt, "memory");
+        inputs.push(met).expect(rt, "memory");
     }
-    Ok(inputs)
+    inputs
 }
 
-/// The queries of the case.
-fn queries_of(alloc: Global, case: &Case) -> Result<Queries, Fail> {
-    let (first_commitment, first) = opening(alloc, &FIRST_ROUND)?;
-    let (second_commitment, second) = opening(alloc, &SECOND_ROUND)?;
+/// The commitments of both rounds, and what they open.
+fn rounds_of(rt: &impl Abort, alloc: Global, case: &Case) -> ([[u8; 32]; 2], [Opening; 2]) {
+    let (first_commitment, first) = opening(rt, alloc, &FIRST_ROUND);
+    let (second_commitment, second) = opening(rt, alloc, &SECOND_ROUND);
     let last_commitment = case.other_commitment.unwrap_or(second_commitment);
-    Ok(Queries {
-        commitments: [first_commitment, last_commitment],
-        openings: [first, second],
-        inputs: inputs(alloc, &case.inputs)?,
-    })
+    ([first_commitment, last_commitment], [first, second])
 }
 
-/// The queries folded and their rows verified.
-fn answer(alloc: Global, queries: Queries) -> Result<Answer, Fail> {
-    let Queries {
-        commitments,
-        openings,
-        inputs,
-    } = queries;
+/// The queries of the case folded and their rows verified.
+fn answer(rt: &impl Abort, alloc: Global, case: &Case) -> Answer {
+    let (commitments, openings) = rounds_of(rt, alloc, case);
+    let inputs = inputs(rt, alloc, &case.inputs);
     let betas = [element(BETAS[0]), element(BETAS[1])];
-    if inputs.len() != 2 || !indices_are_below(&POSITIONS, 16) {
-        return Err(Fail::new("not two queries"));
-    }
-    if !are_in_order(alloc, &POSITIONS, &betas, &openings, &inputs)? {
-        return Err(Fail::new("not in order"));
-    }
+    assert!(rt;
+        inputs.len() == 2 && indices_are_below(&POSITIONS, 16),
+        "not two queries"
+    );
+    assert_in_order(rt, alloc, &POSITIONS, &betas, &openings, &inputs);
     let folding: Folding = TwoAdicFriFolding(PhantomData);
     let setting = QuerySetting {
         folding: &folding,
@@ -275,7 +211,7 @@ fn answer(alloc: Global, queries: Queries) -> Result<Answer, Fail> {
     );
     let folded = match folded {
         Ok(folded) => folded,
-        Err(refusal) => return Ok(Err(refusal)),
+        Err(refusal) => return Err(refusal),
     };
     let scheme: Scheme = Sha256Mmcs::new();
     match verify_rounds::<BabyBear4, Scheme, ()>(
@@ -286,8 +222,8 @@ fn answer(alloc: Global, queries: Queries) -> Result<Answer, Fail> {
         &openings,
         &folded,
     ) {
-        Ok(()) => Ok(Ok(folded)),
-        Err(refusal) => Ok(Err(refusal)),
+        Ok(()) => Ok(folded),
+        Err(refusal) => Err(refusal),
     }
 }
 
@@ -322,34 +258,33 @@ fn are_folded(folded: &FoldedQueries<BabyBear4>) -> bool {
 }
 
 /// Whether this is the answer of the case.
-fn is_expected(alloc: Global, case: &Case, answer: &Answer) -> Result<bool, AllocError> {
+fn is_expected(rt: &impl Abort, alloc: Global, case: &Case, answer: &Answer) -> bool {
     match (answer, case.refusal) {
-        (Ok(folded), None) => Ok(are_folded(folded)),
-        (Err(refusal), Some(text)) => Ok(format!(in alloc; "{refusal:?}")?.as_str() == text),
-        _ => Ok(false),
+        (Ok(folded), None) => are_folded(folded),
+        (Err(refusal), Some(text)) => {
+            format!(in alloc; "{refusal:?}")
+                .expect(rt, "memory")
+                .as_str()
+                == text
+        },
+        _ => false,
     }
 }
 
-/// Whether it comes of the case.
-fn is_met(alloc: Global, case: &Case) -> Result<bool, Fail> {
-    let queries = queries_of(alloc, case)?;
-    let answer = answer(alloc, queries)?;
-    Ok(is_expected(alloc, case, &answer)?)
-}
-
-fn assert_all(rt: &impl Abort, alloc: Global, cases: &[Case]) -> Result<(), Fail> {
+/// Asserts that each case has its answer.
+fn assert_all(rt: &impl Abort, alloc: Global, cases: &[Case]) {
     for case in cases {
-        assert!(rt; is_met(alloc, case)?, "{}", case.name);
+        let answer = answer(rt, alloc, case);
+        assert!(rt; is_expected(rt, alloc, case, &answer), "{}", case.name);
     }
-    Ok(())
 }
 
 #[test]
-fn folds_two_queries_through_two_rounds(rt: HostRuntime) -> Result<(), Fail> {
-    assert_all(&rt, rt.alloc(), &FOLDED)
+fn folds_two_queries_through_two_rounds(rt: HostRuntime) {
+    assert_all(&rt, rt.alloc(), &FOLDED);
 }
 
 #[test]
-fn refuses_queries(rt: HostRuntime) -> Result<(), Fail> {
-    assert_all(&rt, rt.alloc(), &REFUSED)
+fn refuses_queries(rt: HostRuntime) {
+    assert_all(&rt, rt.alloc(), &REFUSED);
 }

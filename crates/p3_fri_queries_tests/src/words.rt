@@ -1,8 +1,7 @@
 //! A word, what it folds to, and the rows that two queries read, as a plain program computed them
 //! from the definitions.
 
-/// The coefficients of an element, that of one first.
-pub(crate) type Coefficients = [u64; 4];
+use crate::elements::Coefficients;
 
 /// The values of `3 + X + 4X^2 + X^3 + 5X^4 + 9X^5 + 2X^6 + 6X^7` at 16 points.
 pub(crate) const FIRST_WORD: [Coefficients; 16] = [

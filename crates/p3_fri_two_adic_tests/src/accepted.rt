@@ -3,11 +3,11 @@
 use crate::answers::answer_to;
 use crate::numbers::{Points, are_values, constant};
 use crate::opened::open_well;
-use crate::replayed::replayed;
+use crate::replayed::replay;
 use crate::scheme::{PLAIN, Proof, Setting};
 use p3_field::{BabyBear4, Field};
 use std::alloc::Global;
-use std::test::Fail;
+use std::process::Abort;
 
 /// The values of `2 - X`.
 pub(crate) const LINE: [u64; 2] = [1, 3];
@@ -223,9 +223,14 @@ fn is_final_poly(coefficients: &[BabyBear4], log_len: usize, first: BabyBear4) -
 
 /// Whether this comes of what is opened, where the transcripts end as it did, and is accepted by a
 /// verifier that ends as the prover.
-fn is_met(alloc: Global, case: &Case) -> Result<bool, Fail> {
-    let opened = open_well(alloc, case.setting, case.batches, case.points)?;
-    let drawn = replayed(alloc, case.setting, case.log_heights, &opened)?;
+fn is_met(rt: &impl Abort, alloc: Global, case: &Case) -> bool {
+    let opened = open_well(rt, alloc, case.setting, case.batches, case.points);
+    let replayed = replay(rt, alloc, case.setting, case.log_heights, &opened);
+    let (drawn, challenger) = replayed.expect(rt, "the transcript is refused");
+    assert!(rt;
+        challenger == opened.challenger,
+        "the transcript ends elsewhere"
+    );
     let first = constant_of(case.last, drawn.alpha, &drawn.betas);
     let is_as_expected = are_values(&opened.values, case.values)
         && are_arities(&opened.proof, case.arities)
@@ -234,30 +239,23 @@ fn is_met(alloc: Global, case: &Case) -> Result<bool, Fail> {
             case.setting.log_final_poly_len,
             first,
         );
-    let answer = answer_to(alloc, case.setting, opened)?;
-    Ok(is_as_expected && answer.same && answer.text.as_str() == "accepted")
+    let answer = answer_to(rt, alloc, case.setting, opened);
+    is_as_expected && answer.same && answer.text.as_str() == "accepted"
 }
 
-/// The first case that isn't met.
-fn first_unmet(alloc: Global, cases: &[Case]) -> Result<Option<&'static str>, Fail> {
+/// Each case is met.
+fn assert_all(rt: &impl Abort, alloc: Global, cases: &[Case]) {
     for case in cases {
-        if !is_met(alloc, case)? {
-            return Ok(Some(case.name));
-        }
+        assert!(rt; is_met(rt, alloc, case), "{}", case.name);
     }
-    Ok(None)
 }
 
 #[test]
-fn one_commitment_is_opened(rt: HostRuntime) -> Result<(), Fail> {
-    let unmet = first_unmet(rt.alloc(), &ONE_COMMITMENT)?;
-    assert!(rt; unmet.is_none(), "{unmet:?}");
-    Ok(())
+fn one_commitment_is_opened(rt: HostRuntime) {
+    assert_all(&rt, rt.alloc(), &ONE_COMMITMENT);
 }
 
 #[test]
-fn several_matrices_are_opened(rt: HostRuntime) -> Result<(), Fail> {
-    let unmet = first_unmet(rt.alloc(), &SEVERAL_MATRICES)?;
-    assert!(rt; unmet.is_none(), "{unmet:?}");
-    Ok(())
+fn several_matrices_are_opened(rt: HostRuntime) {
+    assert_all(&rt, rt.alloc(), &SEVERAL_MATRICES);
 }

@@ -2,13 +2,13 @@
 
 use crate::accepted::{LINE, SQUARE};
 use crate::answers::answer_to;
-use crate::numbers::constant;
+use crate::numbers::{Points, constant};
 use crate::opened::{Opened, open_well};
 use crate::scheme::{Claims, Domain, PLAIN, Proof};
 use p3_field::{BabyBear, BabyBear4, Field, TwoAdicMultiplicativeCoset};
 use p3_mmcs::{CommitmentOpening, MatrixOpening};
-use std::alloc::{AllocError, Global};
-use std::test::Fail;
+use std::alloc::Global;
+use std::process::Abort;
 
 /// What is changed in the opening of `2 - X` at 5.
 #[derive(Clone, Copy)]
@@ -140,14 +140,14 @@ const SHIFTS: [(Change, Expected); 2] = [
 ];
 
 /// The first round's openings with that change, where it is one of theirs.
-fn change_round(proof: &mut Proof, change: Change) -> Result<(), AllocError> {
+fn change_round(rt: &impl Abort, proof: &mut Proof, change: Change) {
     let Some(round) = proof.commit_phase_openings.first_mut() else {
-        return Ok(());
+        return;
     };
     match change {
         Change::SecondSibling => {
             if let Some(siblings) = round.sibling_values.first_mut() {
-                siblings.push(BabyBear4::ZERO)?;
+                siblings.push(BabyBear4::ZERO).expect(rt, "memory");
             }
         },
         Change::NoSiblings => round.sibling_values.clear(),
@@ -158,7 +158,6 @@ fn change_round(proof: &mut Proof, change: Change) -> Result<(), AllocError> {
         },
         _ => {},
     }
-    Ok(())
 }
 
 /// The inputs' opening with that change, where it is one of theirs.
@@ -183,20 +182,21 @@ fn change_input(proof: &mut Proof, change: Change) {
 }
 
 /// The proof's own lists with that change, where it is one of theirs.
-fn change_lists(proof: &mut Proof, change: Change) -> Result<(), AllocError> {
+fn change_lists(rt: &impl Abort, proof: &mut Proof, change: Change) {
     match change {
         Change::NoRoundOpenings => proof.commit_phase_openings.clear(),
         Change::NoInputOpenings => proof.input_openings.clear(),
         Change::NoRoundCommitments => proof.commit_phase_commits.clear(),
         Change::NoRoundWitnesses => proof.commit_pow_witnesses.clear(),
-        Change::SecondCoefficient => proof.final_poly.push(BabyBear4::ZERO)?,
+        Change::SecondCoefficient => {
+            proof.final_poly.push(BabyBear4::ZERO).expect(rt, "memory");
+        },
         Change::ZeroPolynomial => proof.final_poly.fill(BabyBear4::ZERO),
         Change::BatchWitness => proof.batch_pow_witness = BabyBear::ONE,
         Change::RoundWitness => proof.commit_pow_witnesses.fill(BabyBear::ONE),
         Change::QueryWitness => proof.query_pow_witness = BabyBear::ONE,
         _ => {},
     }
-    Ok(())
 }
 
 /// Another domain, of the shift of the generator, or the largest one of shift one.
@@ -226,102 +226,102 @@ fn change_matrix(matrix: &mut MatrixOpening<BabyBear4, Domain>, change: Change) 
 }
 
 /// Moves the value that is claimed of the first matrix to the second.
-fn move_value(matrices: &mut [MatrixOpening<BabyBear4, Domain>]) -> Result<(), AllocError> {
+fn move_value(rt: &impl Abort, matrices: &mut [MatrixOpening<BabyBear4, Domain>]) {
     let mut moved = None;
     for matrix in matrices.iter_mut() {
         for opening in matrix.points.iter_mut() {
             let held = moved;
             match held {
                 None => moved = opening.values.pop(),
-                Some(value) => opening.values.push(value)?,
+                Some(value) => opening.values.push(value).expect(rt, "memory"),
             }
         }
     }
-    Ok(())
 }
 
 /// The claims with that change, where it is one of the claims.
-fn change_claims(alloc: Global, claims: &mut Claims, change: Change) -> Result<(), AllocError> {
+fn change_claims(rt: &impl Abort, alloc: Global, claims: &mut Claims, change: Change) {
     match change {
         Change::NoCommitments => claims.clear(),
-        Change::EmptyCommitment => claims.push(CommitmentOpening {
-            commitment: [0; 32],
-            matrices: Vec::new(alloc),
-        })?,
+        Change::EmptyCommitment => {
+            let empty = CommitmentOpening {
+                commitment: [0; 32],
+                matrices: Vec::new(alloc),
+            };
+            claims.push(empty).expect(rt, "memory");
+        },
         _ => {},
     }
     let Some(claim) = claims.first_mut() else {
-        return Ok(());
+        return;
     };
     if let Some(matrix) = claim.matrices.first_mut() {
         change_matrix(matrix, change);
     }
-    match change {
-        Change::MovedValue => move_value(&mut claim.matrices),
-        _ => Ok(()),
+    if let Change::MovedValue = change {
+        move_value(rt, &mut claim.matrices);
     }
 }
 
+/// `2 - X`, at 5.
+const LINE_ALONE: (Points<'static>, Points<'static>) = (&[&[&LINE]], &[&[&[5]]]);
+
+/// `X^2` and `2 - X`, each at 5.
+const SQUARE_AND_LINE: (Points<'static>, Points<'static>) = (
+    &[&[&SQUARE, &LINE]],
+    &[&[&[5], &[5]]],
+);
+
 /// The opening of `2 - X` at 5, or of `X^2` and `2 - X`, with that change.
-fn altered(alloc: Global, change: Change) -> Result<Opened<Proof>, Fail> {
-    let mut opened = match change {
-        Change::MovedValue => open_well(alloc, PLAIN, &[&[&SQUARE, &LINE]], &[&[&[5], &[5]]])?,
-        _ => open_well(alloc, PLAIN, &[&[&LINE]], &[&[&[5]]])?,
+fn altered(rt: &impl Abort, alloc: Global, change: Change) -> Opened<Proof> {
+    let (batches, points) = match change {
+        Change::MovedValue => SQUARE_AND_LINE,
+        _ => LINE_ALONE,
     };
-    change_round(&mut opened.proof, change)?;
+    let mut opened = open_well(rt, alloc, PLAIN, batches, points);
+    change_round(rt, &mut opened.proof, change);
     change_input(&mut opened.proof, change);
-    change_lists(&mut opened.proof, change)?;
-    change_claims(alloc, &mut opened.claims, change)?;
-    Ok(opened)
+    change_lists(rt, &mut opened.proof, change);
+    change_claims(rt, alloc, &mut opened.claims, change);
+    opened
 }
 
 /// Whether the verifier answers so to that change.
-fn is_met(alloc: Global, change: Change, expected: Expected) -> Result<bool, Fail> {
-    let opened = altered(alloc, change)?;
-    let answer = answer_to(alloc, PLAIN, opened)?;
+fn is_met(rt: &impl Abort, alloc: Global, change: Change, expected: Expected) -> bool {
+    let opened = altered(rt, alloc, change);
+    let answer = answer_to(rt, alloc, PLAIN, opened);
     let text = answer.text.as_str();
-    Ok(match expected {
+    match expected {
         Expected::Accepted => text == "accepted" && answer.same,
         Expected::Refused => text != "accepted",
         Expected::Named(name) => text == name,
         Expected::NamedAtOnce(name) => text == name && answer.unmoved,
-    })
-}
-
-/// The index of the first case that isn't met.
-fn first_unmet(alloc: Global, cases: &[(Change, Expected)]) -> Result<Option<usize>, Fail> {
-    for (index, (change, expected)) in cases.iter().enumerate() {
-        if !is_met(alloc, *change, *expected)? {
-            return Ok(Some(index));
-        }
     }
-    Ok(None)
+}
+
+/// Each case is met.
+fn assert_all(rt: &impl Abort, alloc: Global, cases: &[(Change, Expected)]) {
+    for (index, (change, expected)) in cases.iter().enumerate() {
+        assert!(rt; is_met(rt, alloc, *change, *expected), "case {index}");
+    }
 }
 
 #[test]
-fn altered_openings_are_named(rt: HostRuntime) -> Result<(), Fail> {
-    let unmet = first_unmet(rt.alloc(), &NAMED)?;
-    assert!(rt; unmet.is_none(), "case {unmet:?}");
-    Ok(())
+fn altered_openings_are_named(rt: HostRuntime) {
+    assert_all(&rt, rt.alloc(), &NAMED);
 }
 
 #[test]
-fn witnesses_that_were_not_asked_for_are_refused(rt: HostRuntime) -> Result<(), Fail> {
-    let unmet = first_unmet(rt.alloc(), &WITNESSES)?;
-    assert!(rt; unmet.is_none(), "case {unmet:?}");
-    Ok(())
+fn witnesses_that_were_not_asked_for_are_refused(rt: HostRuntime) {
+    assert_all(&rt, rt.alloc(), &WITNESSES);
 }
 
 #[test]
-fn another_value_is_refused(rt: HostRuntime) -> Result<(), Fail> {
-    let unmet = first_unmet(rt.alloc(), &VALUES)?;
-    assert!(rt; unmet.is_none(), "case {unmet:?}");
-    Ok(())
+fn another_value_is_refused(rt: HostRuntime) {
+    assert_all(&rt, rt.alloc(), &VALUES);
 }
 
 #[test]
-fn a_claimed_shift_is_not_read(rt: HostRuntime) -> Result<(), Fail> {
-    let unmet = first_unmet(rt.alloc(), &SHIFTS)?;
-    assert!(rt; unmet.is_none(), "case {unmet:?}");
-    Ok(())
+fn a_claimed_shift_is_not_read(rt: HostRuntime) {
+    assert_all(&rt, rt.alloc(), &SHIFTS);
 }

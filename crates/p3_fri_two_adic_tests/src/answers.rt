@@ -5,7 +5,7 @@ use crate::scheme::{Claims, Proof, Scheme, Setting, VerifierError};
 use crate::tested::Tested;
 use p3_challenger::Sha256Challenger;
 use std::alloc::Global;
-use std::test::Fail;
+use std::process::Abort;
 
 /// An answer, and where it leaves the verifier's challenger.
 #[derive(Drop)]
@@ -20,24 +20,27 @@ pub(crate) struct Answer {
 
 /// Whether the verifier of a setting accepts the claims by the proof.
 fn verify<P: Tested>(
+    rt: &impl Abort,
     alloc: Global,
     setting: Setting,
     claims: Claims,
     proof: &P::Proof,
     challenger: &mut Sha256Challenger,
-) -> Result<Result<(), VerifierError>, Fail> {
-    if setting.log_final_poly_len > 31 {
-        return Err(Fail::new("not in the verifier's range"));
-    }
-    Ok(P::of(setting).verify(alloc, claims, proof, challenger))
+) -> Result<(), VerifierError> {
+    assert!(rt;
+        setting.log_final_poly_len <= 31,
+        "not in the verifier's range"
+    );
+    P::of(setting).verify(alloc, claims, proof, challenger)
 }
 
 /// What the verifier of `setting` answers to the opening.
 pub(crate) fn answer_to(
+    rt: &impl Abort,
     alloc: Global,
     setting: Setting,
     opened: Opened<Proof>,
-) -> Result<Answer, Fail> {
+) -> Answer {
     let Opened {
         proof,
         claims,
@@ -45,13 +48,13 @@ pub(crate) fn answer_to(
         ..
     } = opened;
     let mut verifier = Sha256Challenger::new();
-    let text = match verify::<Scheme>(alloc, setting, claims, &proof, &mut verifier)? {
-        Ok(()) => format!(in alloc; "accepted")?,
-        Err(refusal) => format!(in alloc; "{refusal:?}")?,
+    let text = match verify::<Scheme>(rt, alloc, setting, claims, &proof, &mut verifier) {
+        Ok(()) => format!(in alloc; "accepted"),
+        Err(refusal) => format!(in alloc; "{refusal:?}"),
     };
-    Ok(Answer {
-        text,
+    Answer {
+        text: text.expect(rt, "memory"),
         unmoved: verifier == Sha256Challenger::new(),
         same: verifier == challenger,
-    })
+    }
 }

@@ -1,9 +1,9 @@
 //! The headline's function, at these instances.
 
-ghost use Rattle.std.specs.Prelude.{◌≢◌, All, IsTrue, length};
+ghost use Rattle.std.specs.Prelude.{◌≡◌, [], ◌∷◌};
 
 use crate::accepted::{LINE, SQUARE};
-use crate::committed::{Committed, commit};
+use crate::committed::commit;
 use crate::numbers::{Points, are_values, points_of};
 use crate::scheme::{PLAIN, Scheme, Setting};
 use crate::tested::Tested;
@@ -11,52 +11,44 @@ use p3_challenger::Sha256Challenger;
 use p3_field::BabyBear4;
 use p3_pcs::{OpeningRequest, Verified, open_and_verify};
 use std::alloc::Global;
-use std::test::Fail;
+use std::process::Abort;
 
-/// Whether each list has some point.
-fn have_some_point<EF>(points: &[Vec<EF>]) -> bool
-    ensures { IsTrue result → All (λ list. length list.items ≢ 0) points.now }
+/// A list of one value.
+fn listed<T>(rt: &impl Abort, alloc: Global, value: T) -> Vec<T>
+    ensures { result.items ≡ value ∷ [] }
 {
-    for list in points {
-        if list.len() == 0 {
-            return false;
-        }
-    }
-    true
+    let mut values = Vec::new(alloc);
+    values.push(value).expect(rt, "memory");
+    values
 }
 
 /// The columns under one commitment, opened at these points and verified, with the prover's
 /// challenger after it.
 fn shown<P: Tested>(
+    rt: &impl Abort,
     alloc: Global,
     setting: Setting,
     columns: &[&[u64]],
     points: &[&[u64]],
-) -> Result<
-    (
-        Verified<BabyBear4, P::Proof, Sha256Challenger>,
-        Sha256Challenger,
-    ),
-    Fail,
-> {
-    if setting.log_final_poly_len > 31 || setting.max_log_arity == 0 {
-        return Err(Fail::new("not in the range of prover and verifier"));
-    }
+) -> (
+    Verified<BabyBear4, P::Proof, Sha256Challenger>,
+    Sha256Challenger,
+) {
+    assert!(rt;
+        setting.log_final_poly_len <= 31 && setting.max_log_arity > 0,
+        "not in the range of prover and verifier"
+    );
     let mut scheme = P::of(setting);
-    let Committed { known, mut data } = commit(&mut scheme, alloc, columns)?;
-    let points = points_of(alloc, points)?;
-    if !have_some_point(&points) {
-        return Err(Fail::new("a matrix without points"));
-    }
-    let mut all_known = Vec::new(alloc);
-    all_known.push(known)?;
-    let mut requests = Vec::new(alloc);
-    requests.push(OpeningRequest {
+    let committed = commit(rt, &mut scheme, alloc, columns);
+    let (known, mut data) = committed;
+    let all_known = listed(rt, alloc, known);
+    let request = OpeningRequest {
         prover_data: &mut data,
-        points,
-    })?;
+        points: points_of(rt, alloc, points),
+    };
+    let mut requests = listed(rt, alloc, request);
     if !scheme.are_openable(&requests) {
-        return Err(Fail::new("the requests can't be opened"));
+        panic!(rt; "the requests can't be opened")
     }
     let mut challenger = Sha256Challenger::new();
     let answer = open_and_verify(
@@ -66,10 +58,7 @@ fn shown<P: Tested>(
         requests.as_mut_slice(),
         &mut challenger,
     );
-    match answer {
-        Ok(verified) => Ok((verified, challenger)),
-        Err(refusal) => Err(Fail::from(refusal)),
-    }
+    (answer.expect(rt, "not accepted"), challenger)
 }
 
 /// What is opened, and the values that it has.
@@ -102,19 +91,22 @@ static CASES: [Case; 2] = [
 ];
 
 /// Whether these are the values, and both sides end in one state that isn't the first.
-fn is_met(alloc: Global, case: &Case) -> Result<bool, Fail> {
-    let (verified, challenger) = shown::<Scheme>(alloc, case.setting, case.columns, case.points)?;
-    Ok(
-        are_values(&verified.values, case.values)
-            && verified.challenger == challenger
-            && challenger != Sha256Challenger::new(),
-    )
+fn is_met(rt: &impl Abort, alloc: Global, case: &Case) -> bool {
+    let (verified, challenger) = shown::<Scheme>(
+        rt,
+        alloc,
+        case.setting,
+        case.columns,
+        case.points,
+    );
+    are_values(&verified.values, case.values)
+        && verified.challenger == challenger
+        && challenger != Sha256Challenger::new()
 }
 
 #[test]
-fn what_is_opened_is_accepted(rt: HostRuntime) -> Result<(), Fail> {
+fn what_is_opened_is_accepted(rt: HostRuntime) {
     for case in &CASES {
-        assert!(rt; is_met(rt.alloc(), case)?, "{}", case.name);
+        assert!(rt; is_met(&rt, rt.alloc(), case), "{}", case.name);
     }
-    Ok(())
 }

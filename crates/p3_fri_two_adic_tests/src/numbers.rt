@@ -1,8 +1,11 @@
 //! Elements that are numbers, and whether opened values are such.
 
+ghost use Rattle.std.specs.Prelude.{◌≢◌, All, length};
+
 use p3_field::{BabyBear, BabyBear4, ExtensionField, Field};
 use p3_mmcs::OpenedValues;
-use std::alloc::{AllocError, Global};
+use std::alloc::Global;
+use std::process::Abort;
 
 /// Numbers of each matrix of each commitment: its column, its points, or the values at these.
 pub(crate) type Points<'a> = &'a [&'a [&'a [u64]]];
@@ -12,20 +15,29 @@ pub(crate) fn constant(number: u64) -> BabyBear4 {
     BabyBear4::from_base(BabyBear::from_u64(number))
 }
 
-/// Lists of points.
-pub(crate) fn points_of(
-    alloc: Global,
-    points: &[&[u64]],
-) -> Result<Vec<Vec<BabyBear4>>, AllocError> {
-    let mut lists = Vec::with_capacity(alloc, points.len())?;
-    for numbers in points {
-        let mut list = Vec::with_capacity(alloc, numbers.len())?;
-        for number in *numbers {
-            list.push(constant(*number))?;
-        }
-        lists.push(list)?;
+/// Elements that are these numbers, of which there are some.
+fn elements(rt: &impl Abort, alloc: Global, numbers: &[u64]) -> Vec<BabyBear4>
+    ensures { length result.items ≢ 0 }
+{
+    let mut elements = Vec::new(alloc);
+    for number in numbers {
+        elements.push(constant(*number)).expect(rt, "memory");
     }
-    Ok(lists)
+    assert!(rt; elements.len() != 0, "a matrix without points");
+    elements
+}
+
+/// Lists of points, some in each.
+pub(crate) fn points_of(rt: &impl Abort, alloc: Global, points: &[&[u64]]) -> Vec<Vec<BabyBear4>>
+    ensures { All (λ list. length list.items ≢ 0) result.items }
+{
+    let mut lists = Vec::new(alloc);
+    for numbers in points {
+        lists
+            .push(elements(rt, alloc, *numbers))
+            .expect(rt, "memory");
+    }
+    lists
 }
 
 /// Whether one column has these values at the points.

@@ -1,6 +1,6 @@
 //! What comes of opening committed columns.
 
-use crate::committed::{Committed, commit_all};
+use crate::committed::commit;
 use crate::numbers::{Points, points_of};
 use crate::scheme::{Claims, Domain, Proof, Scheme, Setting};
 use crate::tested::Tested;
@@ -9,8 +9,8 @@ use p3_field::BabyBear4;
 use p3_fri_folding::FriProverError;
 use p3_mmcs::OpenedValues;
 use p3_pcs::{KnownCommitment, OpeningRequest, claims_of};
-use std::alloc::{AllocError, Global};
-use std::test::Fail;
+use std::alloc::Global;
+use std::process::Abort;
 
 /// An opening, with the claims that it makes and the challenger that it leaves.
 #[derive(Drop)]
@@ -22,97 +22,100 @@ pub(crate) struct Opened<Proof> {
 }
 
 /// An opening, or its refusal and whether that left the challenger as it was.
-#[derive(Drop)]
-pub(crate) enum Opening<Proof> {
-    Opened(Opened<Proof>),
-    Refused(FriProverError, bool),
-}
+pub(crate) type Opening<Proof> = Result<Opened<Proof>, (FriProverError, bool)>;
 
-/// What is known of the commitments.
-fn known_of<Data>(
-    alloc: Global,
-    all: &[Committed<Data>],
-) -> Result<Vec<KnownCommitment<[u8; 32], Domain>>, AllocError> {
-    let mut known = Vec::with_capacity(alloc, all.len())?;
-    for committed in all {
-        let commitment = committed.known.commitment;
-        let domains = Vec::from_slice(alloc, &committed.known.domains)?;
-        known.push(KnownCommitment {
-            commitment,
-            domains,
-        })?;
-    }
-    Ok(known)
-}
-
-/// A request for each commitment, at these points.
+/// A request for the data of each commitment, at these points.
 fn requests_of<'a, Data>(
+    rt: &impl Abort,
     alloc: Global,
-    all: &'a mut [Committed<Data>],
+    data: &'a mut [Data],
     points: Points<'_>,
-) -> Result<Vec<OpeningRequest<'a, Data, BabyBear4>>, AllocError> {
-    let mut requests = Vec::with_capacity(alloc, all.len())?;
-    for (committed, lists) in all.iter_mut().zip(points) {
-        requests.push(OpeningRequest {
-            prover_data: &mut committed.data,
-            points: points_of(alloc, *lists)?,
-        })?;
+) -> Vec<OpeningRequest<'a, Data, BabyBear4>> {
+    let mut requests = Vec::new(alloc);
+    for (held, lists) in data.iter_mut().zip(points) {
+        let request = OpeningRequest {
+            prover_data: held,
+            points: points_of(rt, alloc, *lists),
+        };
+        requests.push(request).expect(rt, "memory");
     }
-    Ok(requests)
+    requests
 }
 
-/// The commitments opened at these points, by a challenger that is new.
-pub(crate) fn open_committed<P: Tested>(
+/// The data of these commitments opened at these points, by a challenger that is new.
+fn open_data<P: Tested>(
+    rt: &impl Abort,
     alloc: Global,
     setting: Setting,
-    all: &mut [Committed<P::ProverData>],
+    known: &[KnownCommitment<[u8; 32], Domain>],
+    data: &mut [P::ProverData],
     points: Points<'_>,
-) -> Result<Opening<P::Proof>, Fail> {
-    if setting.max_log_arity == 0 {
-        return Err(Fail::new("not in the prover's range"));
-    }
-    let known = known_of(alloc, &*all)?;
-    let mut requests = requests_of(alloc, all, points)?;
+) -> Opening<P::Proof> {
+    assert!(rt; setting.max_log_arity > 0, "not in the prover's range");
+    let mut requests = requests_of(rt, alloc, data, points);
     let scheme = P::of(setting);
     if !scheme.are_openable(&requests) {
-        return Err(Fail::new("the requests can't be opened"));
+        panic!(rt; "the requests can't be opened")
     }
     let mut challenger = Sha256Challenger::new();
     match scheme.open(alloc, requests.as_mut_slice(), &mut challenger) {
         Ok((values, proof)) => {
-            let claims = claims_of(alloc, &known, &requests, &values)?;
-            Ok(Opening::Opened(Opened {
+            let claims = claims_of(alloc, known, &requests, &values).expect(rt, "memory");
+            Ok(Opened {
                 values,
                 proof,
                 claims,
                 challenger,
-            }))
+            })
         },
-        Err(FriProverError::OutOfMemory) => Err(Fail::new("memory was refused")),
-        Err(refusal) => Ok(Opening::Refused(refusal, challenger == Sha256Challenger::new())),
+        Err(refusal) => Err((refusal, challenger == Sha256Challenger::new())),
     }
 }
 
-/// The same of columns, that are committed to first and whose opening isn't refused.
+/// The columns committed to in one setting, and then opened in each of these at its points.
 fn open_columns<P: Tested>(
+    rt: &impl Abort,
     alloc: Global,
     setting: Setting,
     batches: Points<'_>,
-    points: Points<'_>,
-) -> Result<Opened<P::Proof>, Fail> {
-    let mut all = commit_all::<P>(alloc, setting, batches)?;
-    match open_committed::<P>(alloc, setting, all.as_mut_slice(), points)? {
-        Opening::Opened(opened) => Ok(opened),
-        Opening::Refused(_, _) => Err(Fail::new("the opening is refused")),
+    attempts: &[(Setting, Points<'_>)],
+) -> Vec<Opening<P::Proof>> {
+    let mut known = Vec::new(alloc);
+    let mut data = Vec::new(alloc);
+    for columns in batches {
+        let (commitment, held) = commit(rt, &mut P::of(setting), alloc, *columns);
+        known.push(commitment).expect(rt, "memory");
+        data.push(held).expect(rt, "memory");
     }
+    let mut openings = Vec::new(alloc);
+    for (setting, points) in attempts {
+        let opening = open_data::<P>(rt, alloc, *setting, &known, data.as_mut_slice(), *points);
+        openings.push(opening).expect(rt, "memory");
+    }
+    openings
 }
 
-/// Columns opened by the scheme over two-adic fields.
+/// What comes of it by the scheme over two-adic fields.
+pub(crate) fn openings(
+    rt: &impl Abort,
+    alloc: Global,
+    setting: Setting,
+    batches: Points<'_>,
+    attempts: &[(Setting, Points<'_>)],
+) -> Vec<Opening<Proof>> {
+    open_columns::<Scheme>(rt, alloc, setting, batches, attempts)
+}
+
+/// One opening of columns by that scheme, which doesn't refuse it.
 pub(crate) fn open_well(
+    rt: &impl Abort,
     alloc: Global,
     setting: Setting,
     batches: Points<'_>,
     points: Points<'_>,
-) -> Result<Opened<Proof>, Fail> {
-    open_columns::<Scheme>(alloc, setting, batches, points)
+) -> Opened<Proof> {
+    let attempts = [(setting, points)];
+    let mut openings = openings(rt, alloc, setting, batches, &attempts);
+    let opening = openings.pop().expect(rt, "no opening");
+    opening.expect(rt, "the opening is refused")
 }

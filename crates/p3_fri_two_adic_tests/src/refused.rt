@@ -2,13 +2,12 @@
 
 use crate::accepted::{LINE, SQUARE};
 use crate::answers::answer_to;
-use crate::committed::commit_all;
 use crate::numbers::Points;
-use crate::opened::{Opening, open_committed};
-use crate::scheme::{PLAIN, Proof, Scheme, Setting};
+use crate::opened::{Opening, openings};
+use crate::scheme::{PLAIN, Proof, Setting};
 use p3_fri_folding::FriProverError;
 use std::alloc::Global;
-use std::test::Fail;
+use std::process::Abort;
 
 /// What is opened, the refusal, and points at which it is opened afterwards in the plain setting.
 struct Case {
@@ -140,53 +139,44 @@ static HEIGHTS: [Case; 5] = [
 /// Whether the prover refuses so, and leaves its challenger as it was.
 fn is_refused(opening: Opening<Proof>, expected: FriProverError) -> bool {
     match opening {
-        Opening::Opened(_) => false,
-        Opening::Refused(refusal, is_unmoved) => is_unmoved && refusal == expected,
+        Ok(_) => false,
+        Err((refusal, is_unmoved)) => is_unmoved && refusal == expected,
     }
 }
 
 /// Whether that is opened, and accepted by a verifier that ends as the prover.
-fn is_accepted(alloc: Global, opening: Opening<Proof>) -> Result<bool, Fail> {
+fn is_accepted(rt: &impl Abort, alloc: Global, opening: Opening<Proof>) -> bool {
     match opening {
-        Opening::Opened(opened) => {
-            let answer = answer_to(alloc, PLAIN, opened)?;
-            Ok(answer.same && answer.text.as_str() == "accepted")
+        Ok(opened) => {
+            let answer = answer_to(rt, alloc, PLAIN, opened);
+            answer.same && answer.text.as_str() == "accepted"
         },
-        Opening::Refused(_, _) => Ok(false),
+        Err(_) => false,
     }
 }
 
 /// Whether what is committed to is refused so, and opened afterwards.
-fn is_met(alloc: Global, case: &Case) -> Result<bool, Fail> {
-    let mut all = commit_all::<Scheme>(alloc, case.setting, case.batches)?;
-    let earlier = open_committed::<Scheme>(alloc, case.setting, all.as_mut_slice(), case.points)?;
-    if !is_refused(earlier, case.refusal) {
-        return Ok(false);
-    }
-    let later = open_committed::<Scheme>(alloc, PLAIN, all.as_mut_slice(), case.later)?;
-    is_accepted(alloc, later)
+fn is_met(rt: &impl Abort, alloc: Global, case: &Case) -> bool {
+    let attempts = [(case.setting, case.points), (PLAIN, case.later)];
+    let mut openings = openings(rt, alloc, case.setting, case.batches, &attempts);
+    let later = openings.pop().expect(rt, "no second opening");
+    let earlier = openings.pop().expect(rt, "no first opening");
+    is_refused(earlier, case.refusal) && is_accepted(rt, alloc, later)
 }
 
-/// The first case that isn't met.
-fn first_unmet(alloc: Global, cases: &[Case]) -> Result<Option<&'static str>, Fail> {
+/// Each case is met.
+fn assert_all(rt: &impl Abort, alloc: Global, cases: &[Case]) {
     for case in cases {
-        if !is_met(alloc, case)? {
-            return Ok(Some(case.name));
-        }
+        assert!(rt; is_met(rt, alloc, case), "{}", case.name);
     }
-    Ok(None)
 }
 
 #[test]
-fn a_point_of_the_coset_is_refused(rt: HostRuntime) -> Result<(), Fail> {
-    let unmet = first_unmet(rt.alloc(), &POINTS_OF_COSETS)?;
-    assert!(rt; unmet.is_none(), "{unmet:?}");
-    Ok(())
+fn a_point_of_the_coset_is_refused(rt: HostRuntime) {
+    assert_all(&rt, rt.alloc(), &POINTS_OF_COSETS);
 }
 
 #[test]
-fn heights_are_tested_before_points(rt: HostRuntime) -> Result<(), Fail> {
-    let unmet = first_unmet(rt.alloc(), &HEIGHTS)?;
-    assert!(rt; unmet.is_none(), "{unmet:?}");
-    Ok(())
+fn heights_are_tested_before_points(rt: HostRuntime) {
+    assert_all(&rt, rt.alloc(), &HEIGHTS);
 }

@@ -6,7 +6,7 @@ use p3_fri_relation::error::FriError;
 use p3_fri_transcript::transcript::TranscriptFailure;
 use p3_mmcs::Sha256MmcsError;
 use std::alloc::{AllocError, Global};
-use std::test::Fail;
+use std::process::Abort;
 
 type Refusal = FriError<Sha256MmcsError, Sha256MmcsError>;
 
@@ -60,25 +60,20 @@ const OF_THE_TEST: [(TranscriptFailure, &str); 6] = [
 ];
 
 /// Whether an answer prints so.
-fn prints(alloc: Global, answer: Result<(), Refusal>, wanted: &str) -> Result<bool, Fail> {
-    Ok(format!(in alloc; "{answer:?}")?.as_str() == wanted)
-}
-
-/// The words for the first of these failures that becomes something else.
-fn first_wrong_of_the_test(alloc: Global) -> Result<Option<&'static str>, Fail> {
-    for (failure, wanted) in OF_THE_TEST {
-        if !prints(alloc, test_refused(failure), wanted)? {
-            return Ok(Some(wanted));
-        }
-    }
-    Ok(None)
+fn prints(rt: &impl Abort, alloc: Global, answer: Result<(), Refusal>, wanted: &str) -> bool {
+    format!(in alloc; "{answer:?}")
+        .expect(rt, "memory")
+        .as_str()
+        == wanted
 }
 
 #[test]
-fn failures_of_the_test_keep_their_numbers(rt: HostRuntime) -> Result<(), Fail> {
-    let wrong = first_wrong_of_the_test(rt.alloc())?;
-    assert!(rt; wrong.is_none(), "{wrong:?}");
-    Ok(())
+fn failures_of_the_test_keep_their_numbers(rt: HostRuntime) {
+    let alloc = rt.alloc();
+    for (failure, wanted) in &OF_THE_TEST {
+        let is_met = prints(&rt, alloc, test_refused(*failure), *wanted);
+        assert!(rt; is_met, "{wanted}");
+    }
 }
 
 /// Failures around the test, and how what they become prints.
@@ -102,22 +97,14 @@ const AROUND_THE_TEST: [(PcsTranscriptFailure, &str); 4] = [
     (PcsTranscriptFailure::OutOfMemory, "Err(OutOfMemory)"),
 ];
 
-/// The first of these failures that becomes something else.
-fn first_wrong_around_the_test(alloc: Global) -> Result<Option<PcsTranscriptFailure>, Fail> {
-    for (failure, wanted) in AROUND_THE_TEST {
-        if !prints(alloc, scheme_refused(failure), wanted)? {
-            return Ok(Some(failure));
-        }
-    }
-    Ok(None)
-}
-
 #[test]
-fn failures_around_the_test_are_of_its_phase(rt: HostRuntime) -> Result<(), Fail> {
-    let wrong = first_wrong_around_the_test(rt.alloc())?;
-    assert!(rt; wrong.is_none(), "{wrong:?}");
-    assert!(rt; prints(rt.alloc(), memory_refused(), "Err(OutOfMemory)")?);
-    Ok(())
+fn failures_around_the_test_are_of_its_phase(rt: HostRuntime) {
+    let alloc = rt.alloc();
+    for (failure, wanted) in &AROUND_THE_TEST {
+        let is_met = prints(&rt, alloc, scheme_refused(*failure), *wanted);
+        assert!(rt; is_met, "{failure:?}");
+    }
+    assert!(rt; prints(&rt, alloc, memory_refused(), "Err(OutOfMemory)"));
 }
 
 /// Refusals, and the words for them.
@@ -143,19 +130,11 @@ const REFUSALS: [(Refusal, &str); 4] = [
     (FriError::OutOfMemory, "out of memory"),
 ];
 
-/// The words for the first of these refusals that is printed in others.
-fn first_wrong_refusal(alloc: Global) -> Result<Option<&'static str>, Fail> {
-    for (refusal, wanted) in REFUSALS {
-        if format!(in alloc; "{refusal}")?.as_str() != wanted {
-            return Ok(Some(wanted));
-        }
-    }
-    Ok(None)
-}
-
 #[test]
-fn refusals_say_what_was_found(rt: HostRuntime) -> Result<(), Fail> {
-    let wrong = first_wrong_refusal(rt.alloc())?;
-    assert!(rt; wrong.is_none(), "{wrong:?}");
-    Ok(())
+fn refusals_say_what_was_found(rt: HostRuntime) {
+    let alloc = rt.alloc();
+    for (refusal, wanted) in &REFUSALS {
+        let text = format!(in alloc; "{refusal}").expect(&rt, "memory");
+        assert!(rt; text.as_str() == *wanted, "{wanted}");
+    }
 }

@@ -10,14 +10,14 @@ use crate::answers::{
 use crate::claims::matrix_claim;
 use crate::commitments::{committed, matrix_of, opened};
 use p3_challenger::Sha256Challenger;
-use p3_field::{BabyBear, BabyBear4, Field, TwoAdicField, TwoAdicMultiplicativeCoset};
+use p3_field::{BabyBear, BabyBear4, Field, TwoAdicField};
 use p3_fri_folding::fold_schedule;
 use p3_fri_relation::proof::{BatchMultiOpening, CommitPhaseMultiStep, FriProof};
 use p3_fri_transcript::transcript::{FriMessages, FriShape, replay_fri};
 use p3_matrix::RowMajorMatrix;
 use p3_mmcs::{CommitmentOpening, Mmcs};
-use std::alloc::{AllocError, Global};
-use std::test::Fail;
+use std::alloc::Global;
+use std::process::Abort;
 
 type InputData = <Inputs as Mmcs<BabyBear>>::ProverData;
 
@@ -38,154 +38,161 @@ pub(crate) struct Honest {
 
 /// The matrix of this log height that has in each row `width` times the point that it stands for.
 fn points_matrix(
+    rt: &impl Abort,
     alloc: Global,
     log_height: usize,
     width: usize,
-) -> Result<RowMajorMatrix<BabyBear>, Fail> {
-    let coset: Domain = TwoAdicMultiplicativeCoset::new(BabyBear::GENERATOR, log_height).ok_or(
-        "a coset",
-    )?;
+) -> RowMajorMatrix<BabyBear> {
+    let coset = Domain::new(BabyBear::GENERATOR, log_height).expect(rt, "a coset");
+    let points = coset.bit_reversed_points(alloc).expect(rt, "memory");
     let mut values = Vec::new(alloc);
-    for point in &coset.bit_reversed_points(alloc)? {
+    for point in &points {
         for _ in 0..width {
-            values.push(*point)?;
+            values.push(*point).expect(rt, "memory");
         }
     }
-    matrix_of(values, width)
+    matrix_of(rt, values, width)
 }
 
 /// The commitment to matrices.
 pub(crate) fn commit_matrices(
+    rt: &impl Abort,
     alloc: Global,
     matrices: Vec<RowMajorMatrix<BabyBear>>,
-) -> Result<([u8; 32], InputData), Fail> {
-    committed(alloc, &Inputs::new(), matrices)
+) -> ([u8; 32], InputData) {
+    committed(rt, alloc, &Inputs::new(), matrices)
 }
 
 /// One commitment to matrices of these widths, and what is claimed of them.
 fn commit_inputs(
+    rt: &impl Abort,
     alloc: Global,
     log_size: usize,
     widths: &[usize],
-) -> Result<(CommitmentOpening<BabyBear4, [u8; 32], Domain>, InputData), Fail>
+) -> (CommitmentOpening<BabyBear4, [u8; 32], Domain>, InputData)
     requires { log_size ≤ 8 }
 {
     let mut matrices = Vec::new(alloc);
     let mut claimed = Vec::new(alloc);
     for width in widths {
-        matrices.push(points_matrix(alloc, log_size + 1, *width)?)?;
-        claimed.push(matrix_claim(alloc, log_size, *width, Some(2))?)?;
+        let matrix = points_matrix(rt, alloc, log_size + 1, *width);
+        matrices.push(matrix).expect(rt, "memory");
+        let claim = matrix_claim(rt, alloc, log_size, *width, Some(2));
+        claimed.push(claim).expect(rt, "memory");
     }
-    let (commitment, data) = commit_matrices(alloc, matrices)?;
+    let (commitment, data) = commit_matrices(rt, alloc, matrices);
     let claim = CommitmentOpening {
         commitment,
         matrices: claimed,
     };
-    Ok((claim, data))
+    (claim, data)
 }
 
 /// What is opened of these at the positions.
 pub(crate) fn open_inputs(
+    rt: &impl Abort,
     alloc: Global,
     data: &InputData,
     positions: &[usize],
-) -> Result<InputOpening, Fail> {
-    let (opened_values, opening_proof) = opened(alloc, &Inputs::new(), data, positions)?;
-    Ok(BatchMultiOpening {
+) -> InputOpening {
+    let (opened_values, opening_proof) = opened(rt, alloc, &Inputs::new(), data, positions);
+    BatchMultiOpening {
         opened_values,
         opening_proof,
-    })
+    }
 }
 
 /// The commitment of a round that leaves a word of this log height.
 fn commit_round(
+    rt: &impl Abort,
     alloc: Global,
     log_height: usize,
     log_arity: usize,
-) -> Result<([u8; 32], RoundData), Fail> {
-    if log_height > 8 || log_arity > 8 {
-        return Err(Fail::new("a tall word"));
-    }
-    let values = vec![in alloc; constant(SUM); 1 << (log_height + log_arity)]?;
-    let matrices = vec![in alloc; matrix_of(values, 1 << log_arity)?]?;
-    committed(alloc, &Rounds::new(), matrices)
+) -> ([u8; 32], RoundData) {
+    assert!(rt; log_height <= 8 && log_arity <= 8, "a tall word");
+    let values = vec![in alloc; constant(SUM); 1 << (log_height + log_arity)].expect(rt, "memory");
+    let matrix = matrix_of(rt, values, 1 << log_arity);
+    let matrices = vec![in alloc; matrix].expect(rt, "memory");
+    committed(rt, alloc, &Rounds::new(), matrices)
 }
 
 /// The commitments of the rounds.
 fn commit_rounds(
+    rt: &impl Abort,
     alloc: Global,
     log_height: usize,
     log_arities: &[usize],
-) -> Result<(Vec<[u8; 32]>, Vec<RoundData>), Fail> {
+) -> (Vec<[u8; 32]>, Vec<RoundData>) {
     let mut commitments = Vec::new(alloc);
     let mut data = Vec::new(alloc);
     let mut height = log_height;
     for log_arity in log_arities {
-        if *log_arity > height {
-            return Err(Fail::new("a long schedule"));
-        }
+        assert!(rt; *log_arity <= height, "a long schedule");
         height -= *log_arity;
-        let (commitment, kept) = commit_round(alloc, height, *log_arity)?;
-        commitments.push(commitment)?;
-        data.push(kept)?;
+        let (commitment, kept) = commit_round(rt, alloc, height, *log_arity);
+        commitments.push(commitment).expect(rt, "memory");
+        data.push(kept).expect(rt, "memory");
     }
-    Ok((commitments, data))
+    (commitments, data)
 }
 
 /// Numbers without their lowest bits.
-fn shifted(alloc: Global, numbers: &[usize], bits: usize) -> Result<Vec<usize>, AllocError>
+fn shifted(rt: &impl Abort, alloc: Global, numbers: &[usize], bits: usize) -> Vec<usize>
     requires { bits < 64 }
 {
-    let mut all = Vec::with_capacity(alloc, numbers.len())?;
+    let mut all = Vec::new(alloc);
     for number in numbers {
-        all.push(*number >> bits)?;
+        all.push(*number >> bits).expect(rt, "memory");
     }
-    Ok(all)
+    all
 }
 
 /// What one round opens at these indices.
 fn open_round(
+    rt: &impl Abort,
     alloc: Global,
     log_arity: usize,
     data: &RoundData,
     indices: &[usize],
-) -> Result<RoundOpening, Fail>
+) -> RoundOpening
     requires { log_arity < 64 }
 {
     let siblings = (1_usize << log_arity).saturating_sub(1);
     let mut sibling_values = Vec::new(alloc);
     for _ in indices {
-        sibling_values.push(vec![in alloc; constant(SUM); siblings]?)?;
+        let row = vec![in alloc; constant(SUM); siblings].expect(rt, "memory");
+        sibling_values.push(row).expect(rt, "memory");
     }
-    let (_rows, opening_proof) = opened(alloc, &Rounds::new(), data, indices)?;
-    Ok(CommitPhaseMultiStep {
+    let (_rows, opening_proof) = opened(rt, alloc, &Rounds::new(), data, indices);
+    CommitPhaseMultiStep {
         sibling_values,
         opening_proof,
-    })
+    }
 }
 
 /// What all rounds open at these positions.
 fn open_rounds(
+    rt: &impl Abort,
     alloc: Global,
     log_arities: &[usize],
     data: &[RoundData],
     positions: &[usize],
-) -> Result<Vec<RoundOpening>, Fail> {
+) -> Vec<RoundOpening> {
     let mut openings = Vec::new(alloc);
     let mut bits: usize = 0;
     for (log_arity, kept) in log_arities.iter().zip(data) {
-        if *log_arity > 8 || bits > 32 {
-            return Err(Fail::new("a long row"));
-        }
+        assert!(rt; *log_arity <= 8 && bits <= 32, "a long row");
         bits += *log_arity;
-        let indices = shifted(alloc, positions, bits)?;
-        openings.push(open_round(alloc, *log_arity, kept, &indices)?)?;
+        let indices = shifted(rt, alloc, positions, bits);
+        let opening = open_round(rt, alloc, *log_arity, kept, &indices);
+        openings.push(opening).expect(rt, "memory");
     }
-    Ok(openings)
+    openings
 }
 
 /// The indices that the test's transcript draws.
 pub(crate) fn drawn_indices(
+    rt: &impl Abort,
     alloc: Global,
     parameters: &Parameters,
     log_arities: &[usize],
@@ -193,17 +200,17 @@ pub(crate) fn drawn_indices(
     commitments: &[[u8; 32]],
     final_poly: &[BabyBear4],
     challenger: &mut Sha256Challenger,
-) -> Result<Vec<usize>, Fail> {
-    if parameters.log_final_poly_len > 31
-        || parameters.commit_proof_of_work_bits > 63
-        || parameters.query_proof_of_work_bits > 63
-        || index_bits > 63
-    {
-        return Err(Fail::new("not conditions of the transcript"));
-    }
-    let rounds = Vec::from_slice(alloc, log_arities)?;
+) -> Vec<usize> {
+    assert!(rt;
+        parameters.log_final_poly_len <= 31
+            && parameters.commit_proof_of_work_bits <= 63
+            && parameters.query_proof_of_work_bits <= 63
+            && index_bits <= 63,
+        "not conditions of the transcript"
+    );
+    let rounds = Vec::from_slice(alloc, log_arities).expect(rt, "memory");
     let shape = FriShape::with_schedule(parameters, rounds, index_bits);
-    let witnesses = vec![in alloc; BabyBear::ZERO; log_arities.len()]?;
+    let witnesses = vec![in alloc; BabyBear::ZERO; log_arities.len()].expect(rt, "memory");
     let messages = FriMessages::<BabyBear, BabyBear4, [u8; 32]> {
         commitments,
         commit_witnesses: witnesses.as_slice(),
@@ -211,141 +218,103 @@ pub(crate) fn drawn_indices(
         query_witness: Some(BabyBear::ZERO),
     };
     match replay_fri(alloc, challenger, shape, messages) {
-        Ok(replayed) => Ok(replayed.indices),
-        Err(_) => Err(Fail::new("the transcript is refused")),
+        Ok(replayed) => replayed.indices,
+        Err(_) => panic!(rt; "the transcript is refused"),
     }
 }
 
 /// The final polynomial: the constant, with zeros up to the length that the parameters fix.
-fn final_poly_of(alloc: Global, log_len: usize) -> Result<Vec<BabyBear4>, AllocError>
+fn final_poly_of(rt: &impl Abort, alloc: Global, log_len: usize) -> Vec<BabyBear4>
     requires { log_len < 64 }
 {
-    let mut coefficients = vec![in alloc; BabyBear4::ZERO; 1 << log_len]?;
+    let mut coefficients = vec![in alloc; BabyBear4::ZERO; 1 << log_len].expect(rt, "memory");
     if let Some(first) = coefficients.first_mut() {
         *first = constant(SUM);
     }
-    Ok(coefficients)
-}
-
-/// All that is committed, with the claims.
-#[derive(Drop)]
-struct Committed {
-    claims: Claims,
-    inputs: Vec<InputData>,
-    log_arities: Vec<usize>,
-    commitments: Vec<[u8; 32]>,
-    rounds: Vec<RoundData>,
+    coefficients
 }
 
 /// The widths of the matrices of each commitment.
 const WIDTHS: [&[usize]; 2] = [&[2, 1], &[1]];
 
-/// The commitments to inputs, and what is claimed of them.
-fn commit_all_inputs(alloc: Global, log_size: usize) -> Result<(Claims, Vec<InputData>), Fail>
+/// One commitment to two matrices, of two columns and of one, and one to a matrix of a column, and
+/// what is claimed of them.
+fn commit_all_inputs(rt: &impl Abort, alloc: Global, log_size: usize) -> (Claims, Vec<InputData>)
     requires { log_size ≤ 8 }
 {
     let mut claims = Vec::new(alloc);
     let mut inputs = Vec::new(alloc);
     for widths in &WIDTHS {
-        let (claim, data) = commit_inputs(alloc, log_size, *widths)?;
-        claims.push(claim)?;
-        inputs.push(data)?;
+        let (claim, data) = commit_inputs(rt, alloc, log_size, *widths);
+        claims.push(claim).expect(rt, "memory");
+        inputs.push(data).expect(rt, "memory");
     }
-    Ok((claims, inputs))
-}
-
-/// One commitment to two matrices, of two columns and of one, and one to a matrix of a column, with
-/// the rounds that follow.
-fn commit(alloc: Global, parameters: &Parameters, log_size: usize) -> Result<Committed, Fail>
-    requires size { log_size ≤ 8 }
-    requires final_polynomial { parameters.now.log_final_poly_len ≤ 8 }
-{
-    if parameters.max_log_arity == 0 {
-        return Err(Fail::new("no cap"));
-    }
-    let height = log_size + 1;
-    let final_height = 1 + parameters.log_final_poly_len;
-    let log_arities = fold_schedule(alloc, &[height], final_height, parameters.max_log_arity)?;
-    let (commitments, rounds) = commit_rounds(alloc, height, &log_arities)?;
-    let (claims, inputs) = commit_all_inputs(alloc, log_size)?;
-    Ok(Committed {
-        claims,
-        inputs,
-        log_arities,
-        commitments,
-        rounds,
-    })
+    (claims, inputs)
 }
 
 /// What is opened of all inputs at these positions.
 fn open_all_inputs(
+    rt: &impl Abort,
     alloc: Global,
     inputs: &[InputData],
     positions: &[usize],
-) -> Result<Vec<InputOpening>, Fail> {
+) -> Vec<InputOpening> {
     let mut openings = Vec::new(alloc);
     for data in inputs {
-        openings.push(open_inputs(alloc, data, positions)?)?;
+        let opening = open_inputs(rt, alloc, data, positions);
+        openings.push(opening).expect(rt, "memory");
     }
-    Ok(openings)
-}
-
-/// The proof that opens all commitments at these positions.
-fn open(
-    alloc: Global,
-    made: Committed,
-    final_poly: Vec<BabyBear4>,
-    positions: &[usize],
-) -> Result<(Proof, Claims), Fail> {
-    let Committed {
-        claims,
-        inputs,
-        log_arities,
-        commitments,
-        rounds,
-    } = made;
-    let proof = FriProof {
-        batch_pow_witness: BabyBear::ZERO,
-        commit_phase_commits: commitments,
-        commit_pow_witnesses: vec![in alloc; BabyBear::ZERO; log_arities.len()]?,
-        input_openings: open_all_inputs(alloc, &inputs, positions)?,
-        commit_phase_openings: open_rounds(alloc, &log_arities, &rounds, positions)?,
-        final_poly,
-        query_pow_witness: BabyBear::ZERO,
-    };
-    Ok((proof, claims))
+    openings
 }
 
 /// An honest proof on domains of log size `log_size`, by a challenger that first absorbed `start`.
 pub(crate) fn make_honest(
+    rt: &impl Abort,
     alloc: Global,
     parameters: &Parameters,
     log_size: usize,
     extra_bits: usize,
     start: u64,
-) -> Result<Honest, Fail> {
-    if log_size > 8 || extra_bits > 3 || parameters.log_final_poly_len > 8 {
-        return Err(Fail::new("a large proof"));
-    }
-    let made = commit(alloc, parameters, log_size)?;
-    let final_poly = final_poly_of(alloc, parameters.log_final_poly_len)?;
+) -> Honest {
+    assert!(rt;
+        log_size <= 8 && extra_bits <= 3 && parameters.log_final_poly_len <= 8,
+        "a large proof"
+    );
+    assert!(rt; parameters.max_log_arity > 0, "no cap");
+    let height = log_size + 1;
+    let final_height = 1 + parameters.log_final_poly_len;
+    let cap = parameters.max_log_arity;
+    let log_arities = fold_schedule(alloc, &[height], final_height, cap).expect(rt, "memory");
+    let (commitments, rounds) = commit_rounds(rt, alloc, height, &log_arities);
+    let (claims, inputs) = commit_all_inputs(rt, alloc, log_size);
+    let final_poly = final_poly_of(rt, alloc, parameters.log_final_poly_len);
     let mut last = challenger_after(start);
     let drawn = drawn_indices(
+        rt,
         alloc,
         parameters,
-        &made.log_arities,
-        log_size + 1 + extra_bits,
-        &made.commitments,
+        &log_arities,
+        height + extra_bits,
+        &commitments,
         &final_poly,
         &mut last,
-    )?;
-    let positions = shifted(alloc, &drawn, extra_bits)?;
-    let (proof, claims) = open(alloc, made, final_poly, &positions)?;
-    Ok(Honest {
+    );
+    let positions = shifted(rt, alloc, &drawn, extra_bits);
+    let witnesses = vec![in alloc; BabyBear::ZERO; log_arities.len()].expect(rt, "memory");
+    let proof = FriProof {
+        batch_pow_witness: BabyBear::ZERO,
+        commit_phase_commits: commitments,
+        commit_pow_witnesses: witnesses,
+        input_openings: open_all_inputs(rt, alloc, &inputs, &positions),
+        commit_phase_openings: open_rounds(rt, alloc, &log_arities, &rounds, &positions),
+        final_poly,
+        query_pow_witness: BabyBear::ZERO,
+    };
+    Honest {
         proof,
         claims,
         drawn,
         positions,
         last,
-    })
+    }
 }

@@ -6,7 +6,7 @@ use crate::honest::make_honest;
 use p3_field::{BabyBear, Field};
 use p3_fri_relation::proof::BatchMultiOpening;
 use std::alloc::Global;
-use std::test::Fail;
+use std::process::Abort;
 
 /// Parameters, the log size of a claimed domain and how many openings a proof has, and the refusal.
 #[derive(Clone, Copy)]
@@ -89,22 +89,23 @@ fn parameters_of(case: &Case) -> Parameters {
 }
 
 /// Whether the bare proof of that claim, or of none, is refused so by a new challenger.
-fn is_met(alloc: Global, case: &Case) -> Result<bool, Fail> {
+fn is_met(rt: &impl Abort, alloc: Global, case: &Case) -> bool {
     let claims = match case.log_size {
-        Some(log_size) => column_claims(alloc, [0; 32], log_size, Some(9))?,
+        Some(log_size) => column_claims(rt, alloc, [0; 32], log_size, Some(9)),
         None => Vec::new(alloc),
     };
     let mut inputs = Vec::new(alloc);
     for _ in 0..case.num_openings {
-        inputs.push(BatchMultiOpening {
+        let opening = BatchMultiOpening {
             opened_values: Vec::new(alloc),
             opening_proof: Vec::new(alloc),
-        })?;
+        };
+        inputs.push(opening).expect(rt, "memory");
     }
-    let proof = bare_proof(alloc, inputs)?;
+    let proof = bare_proof(rt, alloc, inputs);
     let mut verifier = challenger_after(1);
     let parameters = parameters_of(case);
-    Ok(is_answer(
+    is_answer(
         alloc,
         &parameters,
         0,
@@ -112,13 +113,13 @@ fn is_met(alloc: Global, case: &Case) -> Result<bool, Fail> {
         &claims,
         &mut verifier,
         case.refusal,
-    ))
+    )
 }
 
 /// Whether a batch witness at no bits is refused by its name, with the challenger as it was.
-fn is_witness_named(alloc: Global) -> Result<bool, Fail> {
+fn is_witness_named(rt: &impl Abort, alloc: Global) -> bool {
     let parameters = plain_parameters();
-    let mut honest = make_honest(alloc, &parameters, 1, 0, 1)?;
+    let mut honest = make_honest(rt, alloc, &parameters, 1, 0, 1);
     honest.proof.batch_pow_witness = BabyBear::ONE;
     let (mut verifier, text) = (
         challenger_after(1),
@@ -126,14 +127,14 @@ fn is_witness_named(alloc: Global) -> Result<bool, Fail> {
     );
     let (proof, claims) = (&honest.proof, &honest.claims);
     let is_named = is_answer(alloc, &parameters, 0, proof, claims, &mut verifier, text);
-    Ok(is_named && verifier == challenger_after(1))
+    is_named && verifier == challenger_after(1)
 }
 
 #[test]
-fn instances_are_refused_by_name(rt: HostRuntime) -> Result<(), Fail> {
+fn instances_are_refused_by_name(rt: HostRuntime) {
+    let alloc = rt.alloc();
     for case in &CASES {
-        assert!(rt; is_met(rt.alloc(), case)?, "{}", case.refusal);
+        assert!(rt; is_met(&rt, alloc, case), "{}", case.refusal);
     }
-    assert!(rt; is_witness_named(rt.alloc())?);
-    Ok(())
+    assert!(rt; is_witness_named(&rt, alloc));
 }

@@ -6,8 +6,8 @@ use crate::answers::{
 use crate::honest::make_honest;
 use p3_field::{BabyBear, Field};
 use p3_fri_relation::proof::{BatchMultiOpening, CommitPhaseMultiStep};
-use std::alloc::{AllocError, Global};
-use std::test::Fail;
+use std::alloc::Global;
+use std::process::Abort;
 
 /// A list of a proof; of the rounds, commitments, queries and matrices that have one each, the
 /// first's.
@@ -39,109 +39,110 @@ enum Change {
 
 const CHANGES: [Change; 3] = [Change::Cut, Change::Lengthened, Change::Emptied];
 
-fn changed<T: Drop>(list: &mut Vec<T>, change: Change, more: T) -> Result<(), AllocError> {
+fn changed<T: Drop>(rt: &impl Abort, list: &mut Vec<T>, change: Change, more: T) {
     match change {
         Change::Cut => {
             let _last = list.pop();
         },
-        Change::Lengthened => list.push(more)?,
+        Change::Lengthened => list.push(more).expect(rt, "memory"),
         Change::Emptied => list.clear(),
     }
-    Ok(())
 }
 
 /// Changes a list of a round.
 fn change_round(
+    rt: &impl Abort,
     alloc: Global,
     opening: &mut RoundOpening,
     list: List,
     change: Change,
-) -> Result<(), AllocError> {
+) {
     match list {
-        List::SiblingRows => changed(&mut opening.sibling_values, change, Vec::new(alloc)),
-        List::RoundPaths => changed(&mut opening.opening_proof, change, Vec::new(alloc)),
-        List::SiblingRow => match opening.sibling_values.first_mut() {
-            Some(row) => changed(row, change, constant(400)),
-            None => Ok(()),
+        List::SiblingRows => changed(rt, &mut opening.sibling_values, change, Vec::new(alloc)),
+        List::RoundPaths => changed(rt, &mut opening.opening_proof, change, Vec::new(alloc)),
+        List::SiblingRow => {
+            if let Some(row) = opening.sibling_values.first_mut() {
+                changed(rt, row, change, constant(400));
+            }
         },
-        _ => match opening.opening_proof.first_mut() {
-            Some(path) => changed(path, change, [0; 32]),
-            None => Ok(()),
+        _ => {
+            if let Some(path) = opening.opening_proof.first_mut() {
+                changed(rt, path, change, [0; 32]);
+            }
         },
     }
 }
 
 /// Changes a list of a commitment's opening.
 fn change_input(
+    rt: &impl Abort,
     alloc: Global,
     opening: &mut InputOpening,
     list: List,
     change: Change,
-) -> Result<(), AllocError> {
+) {
     match list {
-        List::RowSets => changed(&mut opening.opened_values, change, Vec::new(alloc)),
-        List::InputPaths => changed(&mut opening.opening_proof, change, Vec::new(alloc)),
-        List::InputPath => match opening.opening_proof.first_mut() {
-            Some(path) => changed(path, change, [0; 32]),
-            None => Ok(()),
+        List::RowSets => changed(rt, &mut opening.opened_values, change, Vec::new(alloc)),
+        List::InputPaths => changed(rt, &mut opening.opening_proof, change, Vec::new(alloc)),
+        List::InputPath => {
+            if let Some(path) = opening.opening_proof.first_mut() {
+                changed(rt, path, change, [0; 32]);
+            }
         },
-        _ => match opening.opened_values.first_mut() {
-            Some(rows) => change_rows(alloc, rows, list, change),
-            None => Ok(()),
+        _ => {
+            if let Some(rows) = opening.opened_values.first_mut() {
+                change_rows(rt, alloc, rows, list, change);
+            }
         },
     }
 }
 
 /// Changes rows, or the first of them.
 fn change_rows(
+    rt: &impl Abort,
     alloc: Global,
     rows: &mut Vec<Vec<BabyBear>>,
     list: List,
     change: Change,
-) -> Result<(), AllocError> {
+) {
     if let List::Rows = list {
-        return changed(rows, change, Vec::new(alloc));
-    }
-    match rows.first_mut() {
-        Some(row) => changed(row, change, BabyBear::ONE),
-        None => Ok(()),
+        changed(rt, rows, change, Vec::new(alloc));
+    } else if let Some(row) = rows.first_mut() {
+        changed(rt, row, change, BabyBear::ONE);
     }
 }
 
 /// Changes a list of the proof.
-fn change_list(
-    alloc: Global,
-    proof: &mut Proof,
-    list: List,
-    change: Change,
-) -> Result<(), AllocError> {
+fn change_list(rt: &impl Abort, alloc: Global, proof: &mut Proof, list: List, change: Change) {
     match list {
         List::Rounds => {
             let more = CommitPhaseMultiStep {
                 sibling_values: Vec::new(alloc),
                 opening_proof: Vec::new(alloc),
             };
-            changed(&mut proof.commit_phase_openings, change, more)
+            changed(rt, &mut proof.commit_phase_openings, change, more);
         },
-        List::Commitments => changed(&mut proof.commit_phase_commits, change, [0; 32]),
-        List::CommitWitnesses => changed(&mut proof.commit_pow_witnesses, change, BabyBear::ZERO),
-        List::FinalPoly => changed(&mut proof.final_poly, change, constant(0)),
+        List::Commitments => changed(rt, &mut proof.commit_phase_commits, change, [0; 32]),
+        List::CommitWitnesses => {
+            changed(rt, &mut proof.commit_pow_witnesses, change, BabyBear::ZERO);
+        },
+        List::FinalPoly => changed(rt, &mut proof.final_poly, change, constant(0)),
         List::Inputs => {
             let more = BatchMultiOpening {
                 opened_values: Vec::new(alloc),
                 opening_proof: Vec::new(alloc),
             };
-            changed(&mut proof.input_openings, change, more)
+            changed(rt, &mut proof.input_openings, change, more);
         },
         List::SiblingRows | List::SiblingRow | List::RoundPaths | List::RoundPath => {
-            match proof.commit_phase_openings.first_mut() {
-                Some(opening) => change_round(alloc, opening, list, change),
-                None => Ok(()),
+            if let Some(opening) = proof.commit_phase_openings.first_mut() {
+                change_round(rt, alloc, opening, list, change);
             }
         },
-        _ => match proof.input_openings.first_mut() {
-            Some(opening) => change_input(alloc, opening, list, change),
-            None => Ok(()),
+        _ => {
+            if let Some(opening) = proof.input_openings.first_mut() {
+                change_input(rt, alloc, opening, list, change);
+            }
         },
     }
 }
@@ -150,21 +151,22 @@ fn change_list(
 /// final polynomial of two coefficients, with one list changed or as it is. It is made without
 /// proofs of work, and verified with one of so many bits before the queries.
 fn is_answered(
+    rt: &impl Abort,
     alloc: Global,
     changed: Option<(List, Change)>,
     query_bits: usize,
     expected: &str,
-) -> Result<bool, Fail> {
+) -> bool {
     let mut parameters = plain_parameters();
     parameters.log_final_poly_len = 1;
     parameters.max_log_arity = 2;
-    let mut honest = make_honest(alloc, &parameters, 4, 0, 1)?;
+    let mut honest = make_honest(rt, alloc, &parameters, 4, 0, 1);
     if let Some((list, how)) = changed {
-        change_list(alloc, &mut honest.proof, list, how)?;
+        change_list(rt, alloc, &mut honest.proof, list, how);
     }
     parameters.query_proof_of_work_bits = query_bits;
     let (proof, claims, mut verifier) = (&honest.proof, &honest.claims, challenger_after(1));
-    Ok(is_answer(
+    is_answer(
         alloc,
         &parameters,
         0,
@@ -172,7 +174,7 @@ fn is_answered(
         claims,
         &mut verifier,
         expected,
-    ))
+    )
 }
 
 /// What the verifier answers to each change of a list whose length the parameters and the claims
@@ -264,31 +266,26 @@ const OPENED: [(List, [&str; 3]); 6] = [
 /// Bits of a proof of work that the honest proof doesn't have.
 const MISSING_BITS: usize = 16;
 
-/// The first change of a list to which this isn't the answer.
-fn first_wrong(
-    alloc: Global,
-    cases: &[(List, [&str; 3])],
-    query_bits: usize,
-) -> Result<Option<(List, Change)>, Fail> {
+/// Asserts that these are the answers to the changes.
+fn assert_answers(rt: &impl Abort, alloc: Global, cases: &[(List, [&str; 3])], query_bits: usize) {
     for (list, texts) in cases {
         for (change, expected) in CHANGES.iter().zip(texts) {
-            if !is_answered(alloc, Some((*list, *change)), query_bits, *expected)? {
-                return Ok(Some((*list, *change)));
-            }
+            let changed = Some((*list, *change));
+            let is_met = is_answered(rt, alloc, changed, query_bits, *expected);
+            assert!(rt; is_met, "{list:?}, {change:?}");
         }
     }
-    Ok(None)
 }
 
 /// Lists are counted before work is verified.
 #[test]
-fn lists_of_another_length_are_named(rt: HostRuntime) -> Result<(), Fail> {
-    assert!(rt; is_answered(rt.alloc(), None, 0, "accepted")?);
+fn lists_of_another_length_are_named(rt: HostRuntime) {
+    let alloc = rt.alloc();
+    assert!(rt; is_answered(&rt, alloc, None, 0, "accepted"));
     let missing = "InvalidPowWitness(Query)";
-    assert!(rt; is_answered(rt.alloc(), None, MISSING_BITS, missing)?);
-    let wrong = first_wrong(rt.alloc(), &COUNTED, 0)?
-        .or(first_wrong(rt.alloc(), &OPENED, 0)?)
-        .or(first_wrong(rt.alloc(), &COUNTED, MISSING_BITS)?);
-    assert!(rt; wrong.is_none(), "{wrong:?}");
-    Ok(())
+    assert!(rt; is_answered(&rt, alloc, None, MISSING_BITS, missing));
+    for query_bits in [0, MISSING_BITS] {
+        assert_answers(&rt, alloc, &COUNTED, query_bits);
+    }
+    assert_answers(&rt, alloc, &OPENED, 0);
 }

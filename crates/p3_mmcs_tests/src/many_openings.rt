@@ -7,7 +7,7 @@ use p3_field::BabyBear;
 use p3_matrix::Dimensions;
 use p3_mmcs::{Sha256Mmcs, Sha256MmcsError};
 use std::alloc::Global;
-use std::test::Fail;
+use std::process::Abort;
 
 /// Nineteen indices of 32: twice eight, and three.
 const INDICES: [usize; 19] = [
@@ -124,58 +124,41 @@ fn alter(
 }
 
 /// The verdict on the openings that are altered at these places.
-fn verdict_on_altered(alloc: Global, alterations: &[(usize, Alteration)]) -> Result<Verdict, Fail> {
+fn verdict_on_altered(
+    rt: &impl Abort,
+    alloc: Global,
+    alterations: &[(usize, Alteration)],
+) -> Verdict {
     let scheme = Sha256Mmcs::new();
     let (sizes, root) = TREES[5];
-    let matrices = matrices_of(alloc, &sizes)?;
-    let (_root, data) = commitment_to(alloc, &scheme, matrices)?.ok_or("heights")?;
-    let (mut rows, mut paths) = opening_at(alloc, &scheme, &data, &INDICES)?.ok_or("indices")?;
+    let matrices = matrices_of(rt, alloc, &sizes);
+    let (_root, data) = commitment_to(rt, alloc, &scheme, matrices);
+    let (mut rows, mut paths) = opening_at(rt, alloc, &scheme, &data, &INDICES);
     for (place, alteration) in alterations {
         alter(*place, *alteration, &mut rows, &mut paths);
     }
-    let sets = rows.as_slice();
-    Ok(verdict_on(&scheme, &root, &DIMENSIONS, &INDICES, sets, &paths))
+    verdict_on(rt, &scheme, &root, &DIMENSIONS, &INDICES, &rows, &paths)
 }
 
-/// The first place and alteration with another verdict than the table's.
-fn first_wrong_refusal(alloc: Global) -> Result<Option<(usize, Alteration)>, Fail> {
+#[test]
+fn accepts_many_openings(rt: HostRuntime) {
+    assert!(rt; verdict_on_altered(&rt, rt.alloc(), &[]) == Ok(()));
+}
+
+#[test]
+fn refuses_one_altered_of_many(rt: HostRuntime) {
     for place in 0..INDICES.len() {
-        for (alteration, refusal) in REFUSALS {
-            if verdict_on_altered(alloc, &[(place, alteration)])? != Some(Err(refusal)) {
-                return Ok(Some((place, alteration)));
-            }
+        for (alteration, refusal) in &REFUSALS {
+            let found = verdict_on_altered(&rt, rt.alloc(), &[(place, *alteration)]);
+            assert!(rt; found == Err(*refusal), "{alteration:?} at {place}");
         }
     }
-    Ok(None)
 }
 
-/// The first pair with another verdict than the table's.
-fn first_wrong_pair(alloc: Global) -> Result<Option<usize>, Fail> {
-    for index in 0..PAIRS.len() {
-        let (pair, refusal) = PAIRS[index];
-        if verdict_on_altered(alloc, &pair)? != Some(Err(refusal)) {
-            return Ok(Some(index));
-        }
+#[test]
+fn names_the_first_fault_of_two(rt: HostRuntime) {
+    for (index, (pair, refusal)) in PAIRS.iter().enumerate() {
+        let found = verdict_on_altered(&rt, rt.alloc(), pair);
+        assert!(rt; found == Err(*refusal), "pair {index}");
     }
-    Ok(None)
-}
-
-#[test]
-fn accepts_many_openings(rt: HostRuntime) -> Result<(), Fail> {
-    assert!(rt; verdict_on_altered(rt.alloc(), &[])? == Some(Ok(())));
-    Ok(())
-}
-
-#[test]
-fn refuses_one_altered_of_many(rt: HostRuntime) -> Result<(), Fail> {
-    let wrong = first_wrong_refusal(rt.alloc())?;
-    assert!(rt; wrong.is_none(), "{wrong:?}");
-    Ok(())
-}
-
-#[test]
-fn names_the_first_fault_of_two(rt: HostRuntime) -> Result<(), Fail> {
-    let wrong = first_wrong_pair(rt.alloc())?;
-    assert!(rt; wrong.is_none(), "{wrong:?}");
-    Ok(())
 }

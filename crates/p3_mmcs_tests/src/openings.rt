@@ -7,21 +7,21 @@ use crate::sha256_mmcs::{
 use p3_field::BabyBear;
 use p3_mmcs::laws::{opens_law, path_law, shape_law};
 use p3_mmcs::{Sha256Mmcs, Sha256MmcsError};
-use std::alloc::{AllocError, Global};
-use std::test::Fail;
+use std::alloc::Global;
+use std::process::Abort;
 
 /// Rows of the two matrices at the indices 3, 0 and 3, by set and matrix.
 const ROWS: [(usize, usize, &[u64]); 3] = [(0, 0, &[7, 8]), (0, 1, &[2_013_265_920]), (1, 1, &[9])];
 
 /// What verification says to altered rows, of which each is altered once more.
 const ALTERED_ROWS: [(&str, Verdict); 4] = [
-    ("a longer row", Some(Err(Sha256MmcsError::RowWidth))),
-    ("another entry", Some(Err(Sha256MmcsError::RootMismatch))),
+    ("a longer row", Err(Sha256MmcsError::RowWidth)),
+    ("another entry", Err(Sha256MmcsError::RootMismatch)),
     (
         "the entry as it was, but a set of fewer rows",
-        Some(Err(Sha256MmcsError::MatrixCount)),
+        Err(Sha256MmcsError::MatrixCount),
     ),
-    ("fewer sets", Some(Err(Sha256MmcsError::QueryCount))),
+    ("fewer sets", Err(Sha256MmcsError::QueryCount)),
 ];
 
 /// Whether the elements are those of these numbers.
@@ -46,30 +46,29 @@ struct Opened {
 }
 
 impl Opened {
-    fn new(alloc: Global) -> Result<Self, Fail> {
+    fn new(rt: &impl Abort, alloc: Global) -> Self {
         let scheme = Sha256Mmcs::new();
-        let matrices = two_matrices(alloc)?;
-        let (root, data) = commitment_to(alloc, &scheme, matrices)?.ok_or("heights")?;
-        let (rows, paths) = opening_at(alloc, &scheme, &data, &[3, 0, 3])?.ok_or("indices")?;
-        Ok(Opened { root, rows, paths })
+        let (root, data) = commitment_to(rt, alloc, &scheme, two_matrices(rt, alloc));
+        let (rows, paths) = opening_at(rt, alloc, &scheme, &data, &[3, 0, 3]);
+        Opened { root, rows, paths }
     }
 
     /// What verification at these indices answers.
-    fn verdict_at(&self, indices: &[usize]) -> Verdict {
-        let rows = self.rows.as_slice();
+    fn verdict_at(&self, rt: &impl Abort, indices: &[usize]) -> Verdict {
         let scheme = Sha256Mmcs::new();
         verdict_on(
+            rt,
             &scheme,
             &self.root,
             &TWO_DIMENSIONS,
             indices,
-            rows,
+            &self.rows,
             &self.paths,
         )
     }
 
-    fn verdict(&self) -> Verdict {
-        self.verdict_at(&[3, 0, 3])
+    fn verdict(&self, rt: &impl Abort) -> Verdict {
+        self.verdict_at(rt, &[3, 0, 3])
     }
 
     /// The number of rows in this set, if it is there.
@@ -77,30 +76,23 @@ impl Opened {
         Some(self.rows.get(set)?.len())
     }
 
-    /// The row of this matrix in this set, if it is there.
-    fn row(&self, set: usize, matrix: usize) -> Option<&[BabyBear]> {
-        Some(self.rows.get(set)?.get(matrix)?.as_slice())
-    }
-
-    /// The first row, by its set and matrix, that has other numbers than the table's.
-    fn first_wrong_row(&self) -> Option<(usize, usize)> {
-        for (set, matrix, numbers) in ROWS {
-            match self.row(set, matrix) {
-                Some(row) if are_numbers(row, numbers) => {},
-                _ => return Some((set, matrix)),
-            }
+    /// Whether the row of this matrix in this set is there, and of these numbers.
+    fn has_row(&self, set: usize, matrix: usize, numbers: &[u64]) -> bool {
+        match self.rows.get(set) {
+            Some(rows) => rows
+                .get(matrix)
+                .is_some_and(|row| are_numbers(row, numbers)),
+            None => false,
         }
-        None
     }
 
     /// Makes the row of the second matrix in the second set longer by this element.
-    fn lengthen_row(&mut self, element: BabyBear) -> Result<(), AllocError> {
+    fn lengthen_row(&mut self, rt: &impl Abort, element: BabyBear) {
         if let Some(rows) = self.rows.get_mut(1) {
             if let Some(row) = rows.get_mut(1) {
-                row.push(element)?;
+                row.push(element).expect(rt, "memory");
             }
         }
-        Ok(())
     }
 
     /// Makes this element the only one of that row.
@@ -122,66 +114,60 @@ impl Opened {
         }
     }
 
-    /// The verdicts on the rows of `ALTERED_ROWS`.
-    fn verdicts_on_altered_rows(&mut self) -> Result<[Verdict; 4], AllocError> {
-        self.lengthen_row(element(5))?;
-        let longer = self.verdict();
-        self.replace_row(element(10));
-        let another = self.verdict();
-        self.remove_row();
-        self.replace_row(element(9));
-        let fewer_rows = self.verdict();
-        let _set = self.rows.pop();
-        Ok([longer, another, fewer_rows, self.verdict()])
+    /// Takes the last digest out of the second path.
+    fn take_digest(&mut self) -> Option<[u8; 32]> {
+        self.paths.get_mut(1)?.pop()
     }
 
-    /// The verdicts without the last digest of the second path, and with it again.
-    fn verdicts_on_altered_path(&mut self) -> Result<(Verdict, Verdict), AllocError> {
-        let Some(path) = self.paths.get_mut(1) else {
-            return Ok((None, None));
-        };
-        let Some(digest) = path.pop() else {
-            return Ok((None, None));
-        };
-        let without = self.verdict();
+    /// Makes this digest the last of that path.
+    fn put_digest(&mut self, rt: &impl Abort, digest: [u8; 32]) {
         if let Some(path) = self.paths.get_mut(1) {
-            path.push(digest)?;
+            path.push(digest).expect(rt, "memory");
         }
-        Ok((without, self.verdict()))
     }
 }
 
 #[test]
-fn opens_rows_of_two_heights(rt: HostRuntime) -> Result<(), Fail> {
-    let opened = Opened::new(rt.alloc())?;
+fn opens_rows_of_two_heights(rt: HostRuntime) {
+    let opened = Opened::new(&rt, rt.alloc());
     let counts = (opened.rows.len(), opened.row_count(0), opened.row_count(1));
     assert!(rt; counts == (3, Some(2), Some(2)));
-    let wrong = opened.first_wrong_row();
-    assert!(rt; wrong.is_none(), "{wrong:?}");
-    assert!(rt; opened.verdict() == Some(Ok(())));
-    assert!(rt; opened.verdict_at(&[3, 1, 3]) == Some(Err(Sha256MmcsError::RootMismatch)));
+    for (set, matrix, numbers) in &ROWS {
+        assert!(rt;
+            opened.has_row(*set, *matrix, *numbers),
+            "row {matrix} of set {set}"
+        );
+    }
+    assert!(rt; opened.verdict(&rt) == Ok(()));
+    assert!(rt; opened.verdict_at(&rt, &[3, 1, 3]) == Err(Sha256MmcsError::RootMismatch));
     path_law();
     opens_law::<BabyBear>();
     shape_law::<BabyBear>();
-    Ok(())
 }
 
 #[test]
-fn refuses_altered_paths(rt: HostRuntime) -> Result<(), Fail> {
-    let mut opened = Opened::new(rt.alloc())?;
+fn refuses_altered_paths(rt: HostRuntime) {
+    let mut opened = Opened::new(&rt, rt.alloc());
     assert!(rt; opened.paths.len() == 3);
-    let (without, with) = opened.verdicts_on_altered_path()?;
-    assert!(rt; without == Some(Err(Sha256MmcsError::PathLength)));
-    assert!(rt; with == Some(Ok(())));
-    Ok(())
+    let digest = opened.take_digest().expect(&rt, "no digest");
+    assert!(rt; opened.verdict(&rt) == Err(Sha256MmcsError::PathLength));
+    opened.put_digest(&rt, digest);
+    assert!(rt; opened.verdict(&rt) == Ok(()));
 }
 
 #[test]
-fn refuses_altered_rows(rt: HostRuntime) -> Result<(), Fail> {
-    let mut opened = Opened::new(rt.alloc())?;
+fn refuses_altered_rows(rt: HostRuntime) {
+    let mut opened = Opened::new(&rt, rt.alloc());
     assert!(rt; (opened.rows.len(), opened.row_count(1)) == (3, Some(2)));
-    let found = opened.verdicts_on_altered_rows()?;
+    opened.lengthen_row(&rt, element(5));
+    let longer = opened.verdict(&rt);
+    opened.replace_row(element(10));
+    let another = opened.verdict(&rt);
+    opened.remove_row();
+    opened.replace_row(element(9));
+    let fewer_rows = opened.verdict(&rt);
+    let _set = opened.rows.pop();
+    let found = [longer, another, fewer_rows, opened.verdict(&rt)];
     let wrong = first_wrong(&found, &ALTERED_ROWS);
     assert!(rt; wrong.is_none(), "{wrong:?}");
-    Ok(())
 }

@@ -1,9 +1,8 @@
 //! Worked values, computed with the hashlib module of Python's standard library from the rules of
 //! the format, and each call at a concrete type through its bound.
 
-ghost use Rattle.std.specs.Prelude.{◌≡◌, IfOk, length};
+ghost use Rattle.std.specs.Prelude.{◌≡◌};
 ghost use Rattle.p3_mmcs.specs.Batch.{dimensions_of};
-ghost use Rattle.p3_matrix.specs.Matrix.{rows};
 
 use crate::cases::first_wrong;
 use p3_field::{BabyBear, BabyBear4, ExtensionField, Field};
@@ -12,104 +11,102 @@ use p3_mmcs::{
     GrindingSites, Mmcs, Sha256Mmcs, Sha256MmcsError, have_power_heights, indices_are_below,
     max_height,
 };
-use std::alloc::{AllocError, Global};
-use std::test::Fail;
+use std::alloc::Global;
+use std::process::Abort;
 
 /// The dimensions of these matrices.
 fn dimensions<T: Copy>(
+    rt: &impl Abort,
     alloc: Global,
     matrices: &[RowMajorMatrix<T>],
-) -> Result<Vec<Dimensions>, AllocError>
-    ensures { IfOk result (λ all. all.items ≡ dimensions_of matrices.now) }
+) -> Vec<Dimensions>
+    ensures { result.items ≡ dimensions_of matrices.now }
 {
     let mut all = Vec::new(alloc);
     for matrix in matrices {
-        all.push(matrix.dimensions())?;
+        all.push(matrix.dimensions()).expect(rt, "memory");
     }
-    Ok(all)
+    all
 }
 
-/// The commitment to matrices, if their heights are powers of two.
+/// The commitment to matrices whose heights are powers of two.
 pub(crate) fn commitment_to<T: Copy, M: Mmcs<T>>(
+    rt: &impl Abort,
     alloc: Global,
     scheme: &M,
     matrices: Vec<RowMajorMatrix<T>>,
-) -> Result<Option<(M::Commitment, M::ProverData)>, AllocError> {
-    let all = dimensions(alloc, matrices.as_slice())?;
-    Ok(if have_power_heights(all.as_slice()) {
-        Some(scheme.commit(alloc, matrices)?)
-    } else {
-        None
-    })
+) -> (M::Commitment, M::ProverData) {
+    let all = dimensions(rt, alloc, &matrices);
+    assert!(rt; have_power_heights(&all), "heights");
+    scheme.commit(alloc, matrices).expect(rt, "memory")
 }
 
-/// The opening at these indices, if they are below the greatest height.
+/// The opening at these indices, which are below the greatest height.
 pub(crate) fn opening_at<T: Copy, M: Mmcs<T>>(
+    rt: &impl Abort,
     alloc: Global,
     scheme: &M,
     data: &M::ProverData,
     indices: &[usize],
-) -> Result<Option<(Vec<Vec<Vec<T>>>, M::MultiProof)>, AllocError> {
-    let greatest = scheme.get_max_height(data);
-    Ok(if indices_are_below(indices, greatest) {
-        Some(scheme.open_multi_batch(alloc, indices, data)?)
-    } else {
-        None
-    })
+) -> (Vec<Vec<Vec<T>>>, M::MultiProof) {
+    assert!(rt;
+        indices_are_below(indices, scheme.get_max_height(data)),
+        "indices"
+    );
+    scheme
+        .open_multi_batch(alloc, indices, data)
+        .expect(rt, "memory")
 }
 
-/// What verification answers, if its conditions hold.
+/// What verification answers. Its conditions hold.
 pub(crate) fn verdict_on<T: Copy, M: Mmcs<T>>(
+    rt: &impl Abort,
     scheme: &M,
     commitment: &M::Commitment,
     dimensions: &[Dimensions],
     indices: &[usize],
     opened_values: &[Vec<Vec<T>>],
     proof: &M::MultiProof,
-) -> Option<Result<(), M::Error>> {
-    if have_power_heights(dimensions) && indices_are_below(indices, max_height(dimensions)) {
-        Some(scheme.verify_multi_batch(commitment, dimensions, indices, opened_values, proof))
-    } else {
-        None
-    }
+) -> Result<(), M::Error> {
+    assert!(rt; have_power_heights(dimensions), "heights");
+    assert!(rt;
+        indices_are_below(indices, max_height(dimensions)),
+        "indices"
+    );
+    scheme.verify_multi_batch(commitment, dimensions, indices, opened_values, proof)
 }
 
-/// What verification answers on the opening at these indices, if its conditions hold.
+/// What verification answers on the opening at these indices.
 fn verdict_on_opening<T: Copy, M: Mmcs<T>>(
+    rt: &impl Abort,
     alloc: Global,
     scheme: &M,
     commitment: &M::Commitment,
     data: &M::ProverData,
     dimensions: &[Dimensions],
     indices: &[usize],
-) -> Result<Option<Result<(), M::Error>>, Fail> {
-    let (rows, proof) = opening_at(alloc, scheme, data, indices)?.ok_or("indices")?;
-    Ok(verdict_on(
-        scheme,
-        commitment,
-        dimensions,
-        indices,
-        rows.as_slice(),
-        &proof,
-    ))
+) -> Result<(), M::Error> {
+    let (rows, proof) = opening_at(rt, alloc, scheme, data, indices);
+    verdict_on(rt, scheme, commitment, dimensions, indices, &rows, &proof)
 }
 
-/// What verification answers, if its conditions hold.
-pub(crate) type Verdict = Option<Result<(), Sha256MmcsError>>;
+/// What verification answers.
+pub(crate) type Verdict = Result<(), Sha256MmcsError>;
 
 /// Of the commitment to matrices of these dimensions: its root, their greatest height and number,
 /// and the verdict on its opening at these indices.
 fn commit_and_open(
+    rt: &impl Abort,
     alloc: Global,
     matrices: Vec<RowMajorMatrix<BabyBear>>,
     dimensions: &[Dimensions],
     indices: &[usize],
-) -> Result<([u8; 32], usize, usize, Verdict), Fail> {
+) -> ([u8; 32], usize, usize, Verdict) {
     let scheme = Sha256Mmcs::new();
-    let (root, data) = commitment_to(alloc, &scheme, matrices)?.ok_or("heights")?;
-    let verdict = verdict_on_opening(alloc, &scheme, &root, &data, dimensions, indices)?;
+    let (root, data) = commitment_to(rt, alloc, &scheme, matrices);
+    let verdict = verdict_on_opening(rt, alloc, &scheme, &root, &data, dimensions, indices);
     let count = scheme.get_matrices(&data).len();
-    Ok((root, scheme.get_max_height(&data), count, verdict))
+    (root, scheme.get_max_height(&data), count, verdict)
 }
 
 /// The element of this number.
@@ -123,18 +120,16 @@ fn extension_element(coefficients: [u64; 4]) -> BabyBear4 {
 }
 
 /// A matrix of height 4 and width 2, and one of height 2 and width 1.
-pub(crate) fn two_matrices(alloc: Global) -> Result<Vec<RowMajorMatrix<BabyBear>>, AllocError> {
-    let mut first = Vec::new(alloc);
-    for number in 1..9 {
-        first.push(element(number))?;
-    }
-    let mut matrices = Vec::new(alloc);
-    if first.len() == 8 {
-        matrices.push(RowMajorMatrix::new(first, 2))?;
-    }
-    let second = vec![in alloc; element(9), element(2_013_265_920)]?;
-    matrices.push(RowMajorMatrix::new(second, 1))?;
-    Ok(matrices)
+pub(crate) fn two_matrices(rt: &impl Abort, alloc: Global) -> Vec<RowMajorMatrix<BabyBear>> {
+    let first = [1, 2, 3, 4, 5, 6, 7, 8].map(element);
+    let first = first.to_vec(alloc).expect(rt, "memory");
+    let second = [9, 2_013_265_920].map(element);
+    let second = second.to_vec(alloc).expect(rt, "memory");
+    let matrices = vec![in alloc;
+        RowMajorMatrix::new(first, 2),
+        RowMajorMatrix::new(second, 1),
+    ];
+    matrices.expect(rt, "memory")
 }
 
 /// The dimensions of these two.
@@ -170,22 +165,22 @@ const ROOT_OF_WIDE: [u8; 32] = [
 ];
 
 #[test]
-fn commits_to_none(rt: HostRuntime) -> Result<(), Fail> {
-    let none = commit_and_open(rt.alloc(), Vec::new(rt.alloc()), &[], &[0])?;
+fn commits_to_none(rt: HostRuntime) {
+    let alloc = rt.alloc();
+    let none = commit_and_open(&rt, alloc, Vec::new(alloc), &[], &[0]);
     assert!(rt; none.0 == ROOT_OF_NONE);
     assert!(rt; (none.1, none.2) == (1, 0));
-    assert!(rt; none.3 == Some(Ok(())));
-    Ok(())
+    assert!(rt; none.3 == Ok(()));
 }
 
 #[test]
-fn commits_to_two_heights(rt: HostRuntime) -> Result<(), Fail> {
-    let matrices = two_matrices(rt.alloc())?;
-    let two = commit_and_open(rt.alloc(), matrices, &TWO_DIMENSIONS, &[3, 0, 3])?;
+fn commits_to_two_heights(rt: HostRuntime) {
+    let alloc = rt.alloc();
+    let matrices = two_matrices(&rt, alloc);
+    let two = commit_and_open(&rt, alloc, matrices, &TWO_DIMENSIONS, &[3, 0, 3]);
     assert!(rt; two.0 == ROOT_OF_TWO);
     assert!(rt; (two.1, two.2) == (4, 2));
-    assert!(rt; two.3 == Some(Ok(())));
-    Ok(())
+    assert!(rt; two.3 == Ok(()));
 }
 
 /// What is asked of outside values, and the answers.
@@ -221,72 +216,45 @@ fn conditions_of_outside_values(rt: HostRuntime) {
     assert!(rt; (max_height(&[]), max_height(&TWO_DIMENSIONS)) == (1, 4));
 }
 
-/// A matrix of one column of two elements of the extension.
-fn extension_matrix(alloc: Global) -> Result<RowMajorMatrix<BabyBear4>, AllocError> {
-    let values = vec![in alloc;
-        extension_element([1, 2, 3, 4]),
-        extension_element([5, 6, 7, 2_013_265_918]),
-    ]?;
-    Ok(RowMajorMatrix::new(values, 1))
-}
-
-/// The root of the commitment to this column of two, and the verdict on its opening at 1.
-fn commit_and_open_column(
-    alloc: Global,
-    matrix: RowMajorMatrix<BabyBear4>,
-) -> Result<([u8; 32], Verdict), Fail>
-    requires { length (rows matrix) ≡ 2 }
-{
+#[test]
+fn commits_to_one_matrix(rt: HostRuntime) {
+    let alloc = rt.alloc();
+    let values = [[1, 2, 3, 4], [5, 6, 7, 2_013_265_918]].map(extension_element);
+    let matrix = RowMajorMatrix::new(values.to_vec(alloc).expect(&rt, "memory"), 1);
+    assert!(rt; matrix.height() == 2);
     let scheme = Sha256Mmcs::new();
-    let (root, data) = scheme.commit_matrix(alloc, matrix)?;
+    let (root, data) = scheme.commit_matrix(alloc, matrix).expect(&rt, "memory");
     let dimensions = [Dimensions {
         width: 1,
         height: 2,
     }];
-    let verdict = verdict_on_opening(alloc, &scheme, &root, &data, &dimensions, &[1])?;
-    Ok((root, verdict))
-}
-
-#[test]
-fn commits_to_one_matrix(rt: HostRuntime) -> Result<(), Fail> {
-    let matrix = extension_matrix(rt.alloc())?;
-    assert!(rt; matrix.height() == 2);
-    let (root, verdict) = commit_and_open_column(rt.alloc(), matrix)?;
+    let verdict = verdict_on_opening(&rt, alloc, &scheme, &root, &data, &dimensions, &[1]);
     assert!(rt; root == ROOT_OF_EXTENSION);
-    assert!(rt; verdict == Some(Ok(())));
-    Ok(())
-}
-
-/// The values of two rows of 20.
-fn wide_values(alloc: Global) -> Result<Vec<BabyBear>, AllocError> {
-    let mut values = Vec::new(alloc);
-    for number in 0..40u64 {
-        values.push(element(number / 20 * 1000 + number % 20))?;
-    }
-    Ok(values)
-}
-
-/// The root of the commitment to one matrix in a list.
-fn root_of(alloc: Global, matrix: RowMajorMatrix<BabyBear>) -> Result<[u8; 32], Fail> {
-    root_of_all(alloc, vec![in alloc; matrix]?)
+    assert!(rt; verdict == Ok(()));
 }
 
 /// The root of the commitment to these matrices.
 pub(crate) fn root_of_all(
+    rt: &impl Abort,
     alloc: Global,
     matrices: Vec<RowMajorMatrix<BabyBear>>,
-) -> Result<[u8; 32], Fail> {
-    let (root, _data) = commitment_to(alloc, &Sha256Mmcs::new(), matrices)?.ok_or("heights")?;
-    Ok(root)
+) -> [u8; 32] {
+    let (root, _data) = commitment_to(rt, alloc, &Sha256Mmcs::new(), matrices);
+    root
 }
 
 #[test]
-fn rows_longer_than_a_block(rt: HostRuntime) -> Result<(), Fail> {
-    let values = wide_values(rt.alloc())?;
+fn rows_longer_than_a_block(rt: HostRuntime) {
+    let alloc = rt.alloc();
+    let mut values = Vec::new(alloc);
+    for number in 0..40u64 {
+        values
+            .push(element(number / 20 * 1000 + number % 20))
+            .expect(&rt, "memory");
+    }
     assert!(rt; values.len() == 40);
-    let root = root_of(rt.alloc(), RowMajorMatrix::new(values, 20))?;
-    assert!(rt; root == ROOT_OF_WIDE);
-    Ok(())
+    let matrices = vec![in alloc; RowMajorMatrix::new(values, 20)].expect(&rt, "memory");
+    assert!(rt; root_of_all(&rt, alloc, matrices) == ROOT_OF_WIDE);
 }
 
 #[test]

@@ -4,8 +4,8 @@
 use crate::sha256_mmcs::{element, root_of_all};
 use p3_field::BabyBear;
 use p3_matrix::RowMajorMatrix;
-use std::alloc::{AllocError, Global};
-use std::test::Fail;
+use std::alloc::Global;
+use std::process::Abort;
 
 /// Of each tree the widths and heights of its matrices, whose numbers count on from the last given,
 /// and the root.
@@ -62,52 +62,44 @@ pub(crate) const TREES: [([(usize, usize, u64); 3], [u8; 32]); 6] = [
 
 /// A matrix of numbers that count on from `first`.
 fn counting(
+    rt: &impl Abort,
     alloc: Global,
     width: usize,
     height: usize,
     first: u64,
-) -> Result<Option<RowMajorMatrix<BabyBear>>, AllocError> {
+) -> RowMajorMatrix<BabyBear> {
     let mut values = Vec::new(alloc);
     let mut number = first;
-    for _row in 0..height {
-        for _column in 0..width {
-            values.push(element(number))?;
-            number = number.wrapping_add(1);
-        }
+    for _ in 0..width.saturating_mul(height) {
+        values.push(element(number)).expect(rt, "memory");
+        number = number.wrapping_add(1);
     }
-    Ok(if width > 0 && values.len() % width == 0 {
-        Some(RowMajorMatrix::new(values, width))
-    } else {
-        None
-    })
+    assert!(rt; width > 0 && values.len() % width == 0, "width");
+    RowMajorMatrix::new(values, width)
 }
 
 /// The matrices of these sizes.
 pub(crate) fn matrices_of(
+    rt: &impl Abort,
     alloc: Global,
     sizes: &[(usize, usize, u64)],
-) -> Result<Vec<RowMajorMatrix<BabyBear>>, Fail> {
+) -> Vec<RowMajorMatrix<BabyBear>> {
     let mut matrices = Vec::new(alloc);
     for (width, height, first) in sizes {
-        matrices.push(counting(alloc, *width, *height, *first)?.ok_or("width")?)?;
+        matrices
+            .push(counting(rt, alloc, *width, *height, *first))
+            .expect(rt, "memory");
     }
-    Ok(matrices)
-}
-
-/// The first tree whose root is another than the table's.
-fn first_wrong_tree(alloc: Global) -> Result<Option<usize>, Fail> {
-    for index in 0..TREES.len() {
-        let (sizes, root) = TREES[index];
-        if root_of_all(alloc, matrices_of(alloc, &sizes)?)? != root {
-            return Ok(Some(index));
-        }
-    }
-    Ok(None)
+    matrices
 }
 
 #[test]
-fn roots_of_trees_by_eights(rt: HostRuntime) -> Result<(), Fail> {
-    let wrong = first_wrong_tree(rt.alloc())?;
-    assert!(rt; wrong.is_none(), "{wrong:?}");
-    Ok(())
+fn roots_of_trees_by_eights(rt: HostRuntime) {
+    for (index, (sizes, root)) in TREES.iter().enumerate() {
+        let matrices = matrices_of(&rt, rt.alloc(), sizes);
+        assert!(rt;
+            root_of_all(&rt, rt.alloc(), matrices) == *root,
+            "tree {index}"
+        );
+    }
 }

@@ -4,7 +4,7 @@ use crate::columns::{columns, coset, is_column};
 use crate::parts::{Part, holds};
 use crate::tested::Tested;
 use std::alloc::Global;
-use std::test::Fail;
+use std::process::Abort;
 
 /// `2 - X` by two values, and `1 + X^3` by four on the coset of 3.
 const COMMITTED: [(u64, &[u64]); 2] = [
@@ -14,7 +14,7 @@ const COMMITTED: [(u64, &[u64]); 2] = [
 
 /// A committed column, and its polynomial's values on the coset of a shift.
 #[derive(Clone, Copy)]
-struct Reading {
+pub(crate) struct Reading {
     index: usize,
     shift: u64,
     values: &'static [u64],
@@ -69,50 +69,42 @@ const READINGS: [Reading; 9] = [
     },
 ];
 
-/// Whether both calls, with and without columns that only hide others, read these values.
-fn is_read<P: Tested>(
-    scheme: &P,
+/// Whether both calls, with and without columns that only hide others, read these values of the
+/// columns, that are committed to together.
+pub(crate) fn is_read<P: Tested>(
+    rt: &impl Abort,
     alloc: Global,
-    held: &P::ProverData,
+    mut scheme: P,
     reading: &Reading,
-) -> Result<bool, Fail>
-    requires { (P.stark_rules scheme.now).IsReadable held.now }
+) -> bool
+    requires { P.IsTested scheme }
 {
     let Reading {
         index,
         shift,
         values,
     } = *reading;
-    if !scheme.can_read(held, index) {
-        return Err(Fail::new("no such matrix"));
-    }
-    let domain = coset(shift, values.len().trailing_zeros() as usize)?;
-    let shown = scheme.get_evaluations_on_domain(alloc, held, index, domain);
-    let whole = scheme.get_evaluations_on_domain_no_random(alloc, held, index, domain);
-    match (shown, whole) {
-        (Ok(shown), Ok(whole)) => Ok(is_column(&shown, values) && is_column(&whole, values)),
-        _ => Err(Fail::new("memory was refused")),
-    }
-}
-
-/// The first reading that isn't met of both columns, committed to together.
-pub(crate) fn first_misread<P: Tested>(alloc: Global) -> Result<Option<usize>, Fail> {
-    let mut scheme = P::made();
-    let evaluations = columns(alloc, &COMMITTED)?;
-    let (_commitment, held) = match scheme.commit(alloc, evaluations) {
-        Ok(pair) => pair,
-        Err(_) => return Err(Fail::new("memory was refused")),
+    let evaluations = columns(rt, alloc, &COMMITTED);
+    let Ok(pair) = scheme.commit(alloc, evaluations) else {
+        panic!(rt; "memory was refused")
     };
-    for (index, reading) in READINGS.iter().enumerate() {
-        if !is_read(&scheme, alloc, &held, reading)? {
-            return Ok(Some(index));
-        }
+    let (_commitment, held) = pair;
+    assert!(rt; scheme.can_read(&held, index), "no such matrix");
+    let domain = coset(rt, shift, values.len().trailing_zeros() as usize);
+    let shown = scheme.get_evaluations_on_domain(alloc, &held, index, domain);
+    let whole = scheme.get_evaluations_on_domain_no_random(alloc, &held, index, domain);
+    match (shown, whole) {
+        (Ok(shown), Ok(whole)) => is_column(&shown, values) && is_column(&whole, values),
+        _ => panic!(rt; "memory was refused"),
     }
-    Ok(None)
 }
 
 #[test]
-fn committed_columns_are_read_on_other_domains(rt: HostRuntime) -> Result<(), Fail> {
-    assert!(rt; holds(rt.alloc(), Part::Read)?);
-    Ok(())
+fn committed_columns_are_read_on_other_domains(rt: HostRuntime) {
+    for (index, reading) in READINGS.iter().enumerate() {
+        assert!(rt;
+            holds(&rt, rt.alloc(), Part::Read(*reading)),
+            "reading {index}"
+        );
+    }
 }

@@ -1,52 +1,55 @@
 //! What is tested of any scheme, and of the scheme over two-adic fields: that is named here alone,
 //! since each mention of its instance is proved anew.
 
-use crate::committed::{are_words_held, is_line_held};
-use crate::evaluations::first_misread;
-use crate::headline::is_shown;
-use crate::offered::{heights, is_none_random};
-use crate::opened::{are_words_opened, is_line_opened};
-use crate::periodic::{first_wrong_refusal, first_wrong_table};
+use crate::columns::{coset, listed};
+use crate::committed::{OfLine, OfWords, are_words_met, is_line_met};
+use crate::evaluations::{Reading, is_read};
+use crate::periodic::{Table, is_tabulated};
 use crate::scheme::Scheme;
 use crate::stark::{Case, are_opened};
 use crate::tested::Tested;
 use std::alloc::Global;
-use std::test::Fail;
+use std::process::Abort;
 
-/// What is tested, and by which index or case.
+/// What is tested, and by which case.
 #[derive(Clone, Copy)]
 pub(crate) enum Part {
-    LineHeld,
-    WordsHeld,
-    WordsOpened(Option<usize>),
-    LineOpened(Option<usize>),
-    Shown(Option<usize>),
-    Read,
-    Tables,
-    Refusals,
+    Line(OfLine),
+    Words(OfWords),
+    Read(Reading),
+    Periodic(Table),
+    /// Heights of traces go from one to the two-adicity, and nothing is hidden.
     Heights,
+    /// No random polynomials are committed to.
     NoneRandom,
     Stark(Case),
 }
 
 /// Whether it holds of a scheme.
-fn holds_of<P: Tested>(alloc: Global, part: Part) -> Result<bool, Fail> {
+fn holds_of<P: Tested>(rt: &impl Abort, alloc: Global, part: Part) -> bool {
+    let mut scheme = P::made();
     match part {
-        Part::LineHeld => is_line_held::<P>(alloc),
-        Part::WordsHeld => are_words_held::<P>(alloc),
-        Part::WordsOpened(index) => are_words_opened::<P>(alloc, index),
-        Part::LineOpened(index) => is_line_opened::<P>(alloc, index),
-        Part::Shown(index) => is_shown::<P>(alloc, index),
-        Part::Read => Ok(first_misread::<P>(alloc)?.is_none()),
-        Part::Tables => Ok(first_wrong_table::<P>(alloc)?.is_none()),
-        Part::Refusals => Ok(first_wrong_refusal::<P>(alloc)?.is_none()),
-        Part::Heights => Ok(heights::<P>() == (0, 27, false)),
-        Part::NoneRandom => is_none_random::<P>(alloc),
-        Part::Stark(case) => are_opened::<P>(alloc, &case),
+        Part::Line(asked) => is_line_met(rt, alloc, scheme, asked),
+        Part::Words(asked) => are_words_met(rt, alloc, scheme, &asked),
+        Part::Read(reading) => is_read(rt, alloc, scheme, &reading),
+        Part::Periodic(table) => is_tabulated(rt, alloc, scheme, &table),
+        Part::Heights => {
+            let least = scheme.log_min_trace_height();
+            let greatest = scheme.log_max_trace_height();
+            least == 0 && greatest == 27 && !P::ZK
+        },
+        Part::NoneRandom => {
+            let domains = listed(rt, alloc, coset(rt, 1, 1));
+            match scheme.get_opt_randomization_poly_commitment(alloc, domains) {
+                Ok(found) => found.is_none(),
+                Err(_) => panic!(rt; "memory was refused"),
+            }
+        },
+        Part::Stark(case) => are_opened(rt, alloc, scheme, &case),
     }
 }
 
 /// Whether it holds of the scheme over two-adic fields.
-pub(crate) fn holds(alloc: Global, part: Part) -> Result<bool, Fail> {
-    holds_of::<Scheme>(alloc, part)
+pub(crate) fn holds(rt: &impl Abort, alloc: Global, part: Part) -> bool {
+    holds_of::<Scheme>(rt, alloc, part)
 }

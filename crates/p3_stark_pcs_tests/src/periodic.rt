@@ -5,71 +5,85 @@ use crate::parts::{Part, holds};
 use crate::tested::Tested;
 use p3_field::{BabyBear, Field};
 use p3_periodic::{PeriodicError, PeriodicLdeTable};
-use std::alloc::{AllocError, Global};
-use std::test::Fail;
+use std::alloc::Global;
+use std::process::Abort;
+
+/// Columns, and what comes of them.
+#[derive(Clone, Copy)]
+pub(crate) struct Table {
+    name: &'static str,
+    columns: &'static [&'static [u64]],
+    outcome: Outcome,
+}
+
+#[derive(Clone, Copy)]
+enum Outcome {
+    /// A table of this height, with these entries by index and column.
+    Made(usize, &'static [(usize, usize, Option<u64>)]),
+    Refused(PeriodicError),
+}
+
+const TABLES: [Table; 3] = [
+    // at the points 31 and -31 times a root of order 4 the values are `2 - 31^4` and `2 + 31^4`
+    Table {
+        name: "a column of two",
+        columns: &[&[1, 3]],
+        outcome: Outcome::Made(
+            4,
+            &[
+                (0, 0, Some(2_012_342_402)),
+                (2, 0, Some(923_523)),
+                (14, 0, Some(923_523)),
+                (0, 1, None),
+            ],
+        ),
+    },
+    Table {
+        name: "a constant",
+        columns: &[&[5]],
+        outcome: Outcome::Made(2, &[(0, 0, Some(5)), (1, 0, Some(5))]),
+    },
+    Table {
+        name: "no columns",
+        columns: &[],
+        outcome: Outcome::Made(0, &[(0, 0, None)]),
+    },
+];
+
+const MALFORMED: [Table; 2] = [
+    Table {
+        name: "a length that isn't a power of two",
+        columns: &[&[1, 2, 3]],
+        outcome: Outcome::Refused(PeriodicError::NotPowerOfTwo {
+            column: 0,
+            length: 3,
+        }),
+    },
+    Table {
+        name: "a length that doesn't divide the trace's height",
+        columns: &[&[5], &[1; 16], &[]],
+        outcome: Outcome::Refused(PeriodicError::DoesNotDivide {
+            column: 1,
+            length: 16,
+            trace_height: 8,
+        }),
+    },
+];
 
 /// Columns of these numbers.
-fn columns_of(alloc: Global, each: &[&[u64]]) -> Result<Vec<Vec<BabyBear>>, AllocError> {
+fn columns_of(rt: &impl Abort, alloc: Global, each: &[&[u64]]) -> Vec<Vec<BabyBear>> {
     let mut columns = Vec::new(alloc);
     for numbers in each {
         let mut column = Vec::new(alloc);
         for number in *numbers {
-            column.push(BabyBear::from_u64(*number))?;
+            column
+                .push(BabyBear::from_u64(*number))
+                .expect(rt, "memory");
         }
-        columns.push(column)?;
+        columns.push(column).expect(rt, "memory");
     }
-    Ok(columns)
+    columns
 }
-
-/// Their table, or why it is refused.
-fn table_of<P: Tested>(
-    alloc: Global,
-    each: &[&[u64]],
-) -> Result<Result<PeriodicLdeTable<BabyBear>, PeriodicError>, Fail> {
-    let columns = columns_of(alloc, each)?;
-    let trace = coset(1, 3)?;
-    let domain = coset(31, 4)?;
-    if trace.size() > domain.size() {
-        return Err(Fail::new("the domain is smaller than the trace's"));
-    }
-    Ok(P::made().build_periodic_lde_table(alloc, &columns, trace, domain))
-}
-
-/// Columns, the height of their table, and entries of it by index and column.
-#[derive(Clone, Copy)]
-struct Case {
-    name: &'static str,
-    columns: &'static [&'static [u64]],
-    height: usize,
-    entries: &'static [(usize, usize, Option<u64>)],
-}
-
-const TABLES: [Case; 3] = [
-    // at the points 31 and -31 times a root of order 4 the values are `2 - 31^4` and `2 + 31^4`
-    Case {
-        name: "a column of two",
-        columns: &[&[1, 3]],
-        height: 4,
-        entries: &[
-            (0, 0, Some(2_012_342_402)),
-            (2, 0, Some(923_523)),
-            (14, 0, Some(923_523)),
-            (0, 1, None),
-        ],
-    },
-    Case {
-        name: "a constant",
-        columns: &[&[5]],
-        height: 2,
-        entries: &[(0, 0, Some(5)), (1, 0, Some(5))],
-    },
-    Case {
-        name: "no columns",
-        columns: &[],
-        height: 0,
-        entries: &[(0, 0, None)],
-    },
-];
 
 /// Whether the table has these entries.
 fn has_entries(
@@ -88,53 +102,50 @@ fn has_entries(
     true
 }
 
-/// The first case that isn't met.
-pub(crate) fn first_wrong_table<P: Tested>(alloc: Global) -> Result<Option<&'static str>, Fail> {
-    for case in &TABLES {
-        let table = table_of::<P>(alloc, case.columns)??;
-        if table.height() != case.height || !has_entries(&table, case.entries) {
-            return Ok(Some(case.name));
-        }
+/// Whether that came of it.
+fn is_outcome(made: Result<PeriodicLdeTable<BabyBear>, PeriodicError>, outcome: Outcome) -> bool {
+    match (made, outcome) {
+        (Ok(table), Outcome::Made(height, entries)) => {
+            table.height() == height && has_entries(&table, entries)
+        },
+        (Err(refusal), Outcome::Refused(expected)) => refusal == expected,
+        _ => false,
     }
-    Ok(None)
+}
+
+/// Whether that comes of the columns.
+pub(crate) fn is_tabulated<P: Tested>(
+    rt: &impl Abort,
+    alloc: Global,
+    scheme: P,
+    table: &Table,
+) -> bool
+    requires { P.IsTested scheme }
+{
+    let columns = columns_of(rt, alloc, table.columns);
+    let trace = coset(rt, 1, 3);
+    let domain = coset(rt, 31, 4);
+    assert!(rt;
+        trace.size() <= domain.size(),
+        "the domain is smaller than the trace's"
+    );
+    let made = scheme.build_periodic_lde_table(alloc, &columns, trace, domain);
+    is_outcome(made, table.outcome)
+}
+
+/// Each comes of its columns.
+fn assert_all(rt: &impl Abort, alloc: Global, tables: &[Table]) {
+    for table in tables {
+        assert!(rt; holds(rt, alloc, Part::Periodic(*table)), "{}", table.name);
+    }
 }
 
 #[test]
-fn tables_of_periodic_columns(rt: HostRuntime) -> Result<(), Fail> {
-    assert!(rt; holds(rt.alloc(), Part::Tables)?);
-    Ok(())
-}
-
-const MALFORMED: [(&[&[u64]], PeriodicError); 2] = [
-    (
-        &[&[1, 2, 3]],
-        PeriodicError::NotPowerOfTwo {
-            column: 0,
-            length: 3,
-        },
-    ),
-    (
-        &[&[5], &[1; 16], &[]],
-        PeriodicError::DoesNotDivide {
-            column: 1,
-            length: 16,
-            trace_height: 8,
-        },
-    ),
-];
-
-/// The first refusal that doesn't come.
-pub(crate) fn first_wrong_refusal<P: Tested>(alloc: Global) -> Result<Option<PeriodicError>, Fail> {
-    for (columns, expected) in &MALFORMED {
-        if table_of::<P>(alloc, *columns)?.err() != Some(*expected) {
-            return Ok(Some(*expected));
-        }
-    }
-    Ok(None)
+fn tables_of_periodic_columns(rt: HostRuntime) {
+    assert_all(&rt, rt.alloc(), &TABLES);
 }
 
 #[test]
-fn a_malformed_periodic_column(rt: HostRuntime) -> Result<(), Fail> {
-    assert!(rt; holds(rt.alloc(), Part::Refusals)?);
-    Ok(())
+fn a_malformed_periodic_column(rt: HostRuntime) {
+    assert_all(&rt, rt.alloc(), &MALFORMED);
 }

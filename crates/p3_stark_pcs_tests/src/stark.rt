@@ -1,18 +1,18 @@
 //! The columns of a STARK, opened by one function over any scheme.
 
-ghost use Rattle.std.specs.Prelude.{◌≡◌, ◌≢◌, [], All, map, IfOk};
+ghost use Rattle.std.specs.Prelude.{◌≡◌, ◌≢◌, [], All, map};
 ghost use Rattle.p3_fri_extensions.specs.Extension.{FitsDomain};
 
 use crate::columns::{columns, domains_of};
 use crate::parts::{Part, holds};
 use crate::scheme::Domain;
 use crate::tested::Tested;
-use crate::values::{Coefficients, Values, are_values, element};
+use crate::values::{Coefficients, Values, are_opened_alike, element};
 use p3_challenger::Sha256Challenger;
 use p3_field::BabyBear;
 use p3_stark_columns::{StarkColumns, open_stark_columns};
 use std::alloc::Global;
-use std::test::Fail;
+use std::process::Abort;
 
 /// `2 - X` as a preprocessed column.
 const PREPROCESSED: [(u64, &[u64]); 1] = [(1, &[1, 3])];
@@ -27,29 +27,25 @@ const QUOTIENT: [(u64, &[u64]); 2] = [
 ];
 
 /// These columns, each matrix on its domain.
-fn stark_columns(alloc: Global) -> Result<StarkColumns<Domain, BabyBear>, Fail>
-    ensures preprocessed { IfOk result (λ c.
-        All (λ e. FitsDomain 27 1 e.0.log_size e.1) c.preprocessed.items) }
-    ensures some_matrix { IfOk result (λ c. c.preprocessed.items ≢ []) }
-    ensures trace { IfOk result (λ c. All (λ e. FitsDomain 27 1 e.0.log_size e.1) c.trace.items) }
-    ensures quotient { IfOk result (λ c.
-        All (λ e. FitsDomain 27 1 e.0.log_size e.1) c.quotient.items) }
-    ensures quotient_domains { IfOk result (λ c.
-        c.quotient_domains.items ≡ map (λ e. e.0) c.quotient.items) }
+fn stark_columns(rt: &impl Abort, alloc: Global) -> StarkColumns<Domain, BabyBear>
+    ensures preprocessed { All (λ e. FitsDomain 27 1 e.0.log_size e.1) result.preprocessed.items }
+    ensures some_matrix { result.preprocessed.items ≢ [] }
+    ensures trace { All (λ e. FitsDomain 27 1 e.0.log_size e.1) result.trace.items }
+    ensures quotient { All (λ e. FitsDomain 27 1 e.0.log_size e.1) result.quotient.items }
+    ensures quotient_domains { result.quotient_domains.items
+        ≡ map (λ e. e.0) result.quotient.items }
 {
-    let preprocessed = columns(alloc, &PREPROCESSED)?;
-    if preprocessed.is_empty() {
-        return Err(Fail::new("no preprocessed column"));
-    }
-    let trace = columns(alloc, &TRACE)?;
-    let quotient = columns(alloc, &QUOTIENT)?;
-    let quotient_domains = domains_of(alloc, &quotient)?;
-    Ok(StarkColumns {
+    let preprocessed = columns(rt, alloc, &PREPROCESSED);
+    assert!(rt; !preprocessed.is_empty(), "no preprocessed column");
+    let trace = columns(rt, alloc, &TRACE);
+    let quotient = columns(rt, alloc, &QUOTIENT);
+    let quotient_domains = domains_of(rt, alloc, &quotient);
+    StarkColumns {
         preprocessed,
         trace,
         quotient,
         quotient_domains,
-    })
+    }
 }
 
 /// A point with its successor, and the values that are opened.
@@ -61,9 +57,17 @@ pub(crate) struct Case {
 }
 
 /// Whether the columns have these values, and both sides end in one state that isn't the first.
-pub(crate) fn are_opened<P: Tested>(alloc: Global, case: &Case) -> Result<bool, Fail> {
-    let columns = stark_columns(alloc)?;
-    let mut scheme = P::made();
+pub(crate) fn are_opened<P: Tested>(
+    rt: &impl Abort,
+    alloc: Global,
+    mut scheme: P,
+    case: &Case,
+) -> bool
+    requires tested { P.IsTested scheme }
+    requires prover { (P.rules scheme).InProverRange }
+    requires verifier { (P.rules scheme).InVerifierRange }
+{
+    let columns = stark_columns(rt, alloc);
     let mut challenger = Sha256Challenger::new();
     let opened = open_stark_columns(
         &mut scheme,
@@ -74,13 +78,14 @@ pub(crate) fn are_opened<P: Tested>(alloc: Global, case: &Case) -> Result<bool, 
         &mut challenger,
     );
     let Ok(shown) = opened else {
-        return Err(Fail::new("not accepted"));
+        panic!(rt; "not accepted")
     };
     let verified = &shown.verified;
-    Ok(
-        are_values(&verified.values, case.values)
-            && verified.challenger == challenger
-            && challenger != Sha256Challenger::new(),
+    are_opened_alike(
+        &verified.values,
+        case.values,
+        &challenger,
+        &verified.challenger,
     )
 }
 
@@ -113,9 +118,12 @@ const CASES: [Case; 2] = [
 ];
 
 #[test]
-fn columns_of_a_stark_are_opened(rt: HostRuntime) -> Result<(), Fail> {
+fn columns_of_a_stark_are_opened(rt: HostRuntime) {
     for case in &CASES {
-        assert!(rt; holds(rt.alloc(), Part::Stark(*case))?, "{:?}", case.point);
+        assert!(rt;
+            holds(&rt, rt.alloc(), Part::Stark(*case)),
+            "{:?}",
+            case.point
+        );
     }
-    Ok(())
 }

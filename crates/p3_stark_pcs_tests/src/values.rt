@@ -1,5 +1,6 @@
 //! Elements of the extension by their coefficients, and whether opened values are such.
 
+use p3_challenger::Sha256Challenger;
 use p3_field::{BabyBear, BabyBear4, ExtensionField, Field};
 use p3_mmcs::OpenedValues;
 
@@ -43,11 +44,21 @@ fn are_values_of(matrices: &[Vec<Vec<BabyBear4>>], each: &[&[Coefficients]]) -> 
 }
 
 /// Whether those of each commitment do.
-pub(crate) fn are_values(values: &OpenedValues<BabyBear4>, expected: Values<'_>) -> bool {
+fn are_values(values: &OpenedValues<BabyBear4>, expected: Values<'_>) -> bool {
     for (matrices, each) in values.iter().zip(expected) {
         if !are_values_of(matrices, *each) {
             return false;
         }
     }
     values.len() == expected.len()
+}
+
+/// Whether they do, and both sides end in one state that isn't the first.
+pub(crate) fn are_opened_alike(
+    values: &OpenedValues<BabyBear4>,
+    expected: Values<'_>,
+    prover: &Sha256Challenger,
+    verifier: &Sha256Challenger,
+) -> bool {
+    are_values(values, expected) && *prover == *verifier && *prover != Sha256Challenger::new()
 }

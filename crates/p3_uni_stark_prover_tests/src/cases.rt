@@ -5,7 +5,7 @@ use crate::instances::System;
 use crate::outcomes::{Change, Outcome, outcome_of};
 use crate::schemes::{Hiding, Plain};
 use std::alloc::Global;
-use std::test::Fail;
+use std::process::Abort;
 
 /// The least height at which the hiding scheme opens a trace at two points with two queries.
 const HEIGHT: usize = 32;
@@ -112,43 +112,42 @@ const REFUSED: [(System, usize, Change, Outcome); 10] = [
 
 /// What comes of it in the plain scheme and in the hiding one.
 fn outcomes(
+    rt: &impl Abort,
     alloc: Global,
     system: System,
     height: usize,
     change: Change,
-) -> Result<(Outcome, Outcome), Fail> {
-    let plain = outcome_of::<Plain>(alloc, system, height, change)?;
-    let hiding = outcome_of::<Hiding>(alloc, system, height, change)?;
-    Ok((plain, hiding))
+) -> (Outcome, Outcome) {
+    (
+        outcome_of::<Plain>(rt, alloc, system, height, change),
+        outcome_of::<Hiding>(rt, alloc, system, height, change),
+    )
 }
 
 #[test]
-fn proofs_are_verified(rt: HostRuntime) -> Result<(), Fail> {
+fn proofs_are_verified(rt: HostRuntime) {
     for (index, (system, plain, hiding)) in ACCEPTED.iter().enumerate() {
-        let found = outcomes(rt.alloc(), *system, HEIGHT, Change::Nothing)?;
+        let found = outcomes(&rt, rt.alloc(), *system, HEIGHT, Change::Nothing);
         let expected = (Outcome::Accepted(*plain), Outcome::Accepted(*hiding));
         assert!(rt; found == expected, "case {index}");
     }
-    Ok(())
 }
 
 #[test]
-fn small_traces_are_proved_or_refused(rt: HostRuntime) -> Result<(), Fail> {
+fn small_traces_are_proved_or_refused(rt: HostRuntime) {
     for (index, (system, height, plain, hiding)) in SMALL.iter().enumerate() {
-        let found = outcomes(rt.alloc(), *system, *height, Change::Nothing)?;
+        let found = outcomes(&rt, rt.alloc(), *system, *height, Change::Nothing);
         assert!(rt;
             found == (Outcome::Accepted(*plain), *hiding),
             "case {index}"
         );
     }
-    Ok(())
 }
 
 #[test]
-fn what_is_changed_is_refused(rt: HostRuntime) -> Result<(), Fail> {
+fn what_is_changed_is_refused(rt: HostRuntime) {
     for (index, (system, height, change, expected)) in REFUSED.iter().enumerate() {
-        let found = outcomes(rt.alloc(), *system, *height, *change)?;
+        let found = outcomes(&rt, rt.alloc(), *system, *height, *change);
         assert!(rt; found == (*expected, *expected), "case {index}");
     }
-    Ok(())
 }

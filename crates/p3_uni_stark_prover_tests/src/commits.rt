@@ -1,6 +1,6 @@
 //! A trace is committed to in both schemes, through the bound of a STARK's prover alone.
 
-ghost use Rattle.std.specs.Prelude.{◌≡◌, ◌+◌, length, IfOk};
+ghost use Rattle.std.specs.Prelude.{◌≡◌, ◌+◌, length};
 ghost use Rattle.p3_matrix.specs.Matrix.{rows};
 ghost use Rattle.p3_uni_stark_verifier.specs.Chunks.{hiding_bits};
 
@@ -10,21 +10,19 @@ use p3_field::{BabyBear, Field};
 use p3_matrix::RowMajorMatrix;
 use p3_uni_stark_verifier::opened::subgroup;
 use std::alloc::Global;
-use std::test::Fail;
+use std::process::Abort;
 
 /// Thirty-two rows of one column.
-fn trace(alloc: Global) -> Result<RowMajorMatrix<BabyBear>, Fail>
-    ensures height { IfOk result (λ matrix. length (rows matrix) ≡ 32) }
+fn trace(rt: &impl Abort, alloc: Global) -> RowMajorMatrix<BabyBear>
+    ensures height { length (rows result) ≡ 32 }
 {
-    let mut values = Vec::with_capacity(alloc, 32)?;
+    let mut values = Vec::new(alloc);
     for number in 0..32 {
-        values.push(BabyBear::from_u64(number))?;
+        values.push(BabyBear::from_u64(number)).expect(rt, "memory");
     }
     let matrix = RowMajorMatrix::new(values, 1);
-    if matrix.height() != 32 {
-        return Err(Fail::new("not so many rows"));
-    }
-    Ok(matrix)
+    assert!(rt; matrix.height() == 32, "not so many rows");
+    matrix
 }
 
 /// The subgroup on which a scheme commits to that trace.
@@ -36,17 +34,16 @@ fn trace_domain(hides: bool) -> Domain
 }
 
 /// Whether that trace is committed to.
-fn is_committed_to<P: Tested>(alloc: Global) -> Result<bool, Fail> {
-    let matrix = trace(alloc)?;
-    let evaluations = one(alloc, (trace_domain(P::ZK), matrix))?;
+fn is_committed_to<P: Tested>(rt: &impl Abort, alloc: Global) -> bool {
+    let matrix = trace(rt, alloc);
+    let evaluations = one(rt, alloc, (trace_domain(P::ZK), matrix));
     let mut scheme = P::made();
-    Ok(scheme.commit(alloc, evaluations).is_ok())
+    scheme.commit(alloc, evaluations).is_ok()
 }
 
 #[test]
-fn both_schemes_commit_to_a_trace(rt: HostRuntime) -> Result<(), Fail> {
-    let plain = is_committed_to::<Plain>(rt.alloc())?;
-    let hiding = is_committed_to::<Hiding>(rt.alloc())?;
+fn both_schemes_commit_to_a_trace(rt: HostRuntime) {
+    let plain = is_committed_to::<Plain>(&rt, rt.alloc());
+    let hiding = is_committed_to::<Hiding>(&rt, rt.alloc());
     assert!(rt; plain && hiding);
-    Ok(())
 }

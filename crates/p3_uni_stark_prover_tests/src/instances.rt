@@ -1,14 +1,14 @@
 //! Constraint systems with traces that satisfy them.
 
-ghost use Rattle.std.specs.Prelude.{◌≤◌, IfOk};
+ghost use Rattle.std.specs.Prelude.{◌≤◌};
 ghost use Rattle.p3_air.specs.WellFormed.{IsWellFormed};
 
 use crate::forms::{CUBES, FIBONACCI, Form, NO_CONSTRAINTS, POWERS, RANGE_CHECK};
 use p3_air::Air;
 use p3_air_plain::{OwnedAssignment, PlainAir, PlainConstraint, air_from_plain};
 use p3_field::{BabyBear, Field};
-use std::alloc::{AllocError, Global};
-use std::test::Fail;
+use std::alloc::Global;
+use std::process::Abort;
 
 /// Which system is proved.
 #[derive(Clone, Copy)]
@@ -39,34 +39,37 @@ fn form_of(system: System) -> Form {
 }
 
 /// The constraint system of these parts.
-fn air_of(alloc: Global, form: &Form) -> Result<Air<BabyBear>, Fail>
-    ensures { IfOk result IsWellFormed }
+fn air_of(rt: &impl Abort, alloc: Global, form: &Form) -> Air<BabyBear>
+    ensures { IsWellFormed result }
 {
     let mut constraints = Vec::new(alloc);
     for (rows, node) in form.constraints {
-        constraints.push(PlainConstraint {
+        let constraint = PlainConstraint {
             rows: *rows,
             node: *node,
-        })?;
+        };
+        constraints.push(constraint).expect(rt, "memory");
     }
     let plain = PlainAir {
         layout: form.layout,
-        nodes: form.nodes.to_vec(alloc)?,
+        nodes: form.nodes.to_vec(alloc).expect(rt, "memory"),
         constraints,
     };
     match air_from_plain::<BabyBear>(alloc, &plain) {
-        Ok(air) => Ok(air),
-        Err(_) => Err(Fail::new("there is no such system")),
+        Ok(air) => air,
+        Err(_) => panic!(rt; "there is no such system"),
     }
 }
 
 /// The elements of these numbers.
-fn elements(alloc: Global, numbers: &[u64]) -> Result<Vec<BabyBear>, AllocError> {
-    let mut elements = Vec::with_capacity(alloc, numbers.len())?;
+fn elements(rt: &impl Abort, alloc: Global, numbers: &[u64]) -> Vec<BabyBear> {
+    let mut elements = Vec::new(alloc);
     for number in numbers {
-        elements.push(BabyBear::from_u64(*number))?;
+        elements
+            .push(BabyBear::from_u64(*number))
+            .expect(rt, "memory");
     }
-    Ok(elements)
+    elements
 }
 
 /// Whether the cubes get a summand after this row: one after every third.
@@ -105,44 +108,47 @@ fn first_carried(system: System) -> BabyBear {
 
 /// The entries of a row of the trace that carries these on.
 fn row_of(
+    rt: &impl Abort,
     alloc: Global,
     system: System,
     row: usize,
     left: BabyBear,
     right: BabyBear,
-) -> Result<Vec<BabyBear>, AllocError> {
+) -> Vec<BabyBear> {
     match system {
-        System::Fibonacci => [left, right].to_vec(alloc),
+        System::Fibonacci => [left, right].to_vec(alloc).expect(rt, "memory"),
         System::RangeCheck => {
             let number = row as u64 % 4 * 3 % 4;
-            elements(alloc, &[number, number % 2, number / 2])
+            elements(rt, alloc, &[number, number % 2, number / 2])
         },
-        System::Empty => elements(alloc, &[row as u64]),
-        System::Cubes | System::Powers => [left].to_vec(alloc),
+        System::Empty => elements(rt, alloc, &[row as u64]),
+        System::Cubes | System::Powers => [left].to_vec(alloc).expect(rt, "memory"),
     }
 }
 
 /// The entries beside it of the preprocessed columns.
 fn preprocessed_row_of(
+    rt: &impl Abort,
     alloc: Global,
     system: System,
     row: usize,
     left: BabyBear,
-) -> Result<Vec<BabyBear>, AllocError> {
+) -> Vec<BabyBear> {
     match system {
-        System::Cubes => elements(alloc, &[selector(row)]),
-        System::Powers => [-left].to_vec(alloc),
-        System::Fibonacci | System::RangeCheck | System::Empty => Ok(Vec::new(alloc)),
+        System::Cubes => elements(rt, alloc, &[selector(row)]),
+        System::Powers => [-left].to_vec(alloc).expect(rt, "memory"),
+        System::Fibonacci | System::RangeCheck | System::Empty => Vec::new(alloc),
     }
 }
 
 /// Fills the trace and the preprocessed columns, and returns what the last row carries on.
 fn fill(
+    rt: &impl Abort,
     alloc: Global,
     system: System,
     height: usize,
     given: &mut OwnedAssignment<BabyBear>,
-) -> Result<BabyBear, AllocError> {
+) -> BabyBear {
     let mut left = first_carried(system);
     let mut right = left;
     for row in 0..height {
@@ -151,48 +157,50 @@ fn fill(
             left = next.0;
             right = next.1;
         }
-        given.trace.push(row_of(alloc, system, row, left, right)?)?;
-        given
-            .preprocessed
-            .push(preprocessed_row_of(alloc, system, row, left)?)?;
+        let entries = row_of(rt, alloc, system, row, left, right);
+        given.trace.push(entries).expect(rt, "memory");
+        let entries = preprocessed_row_of(rt, alloc, system, row, left);
+        given.preprocessed.push(entries).expect(rt, "memory");
     }
-    Ok(right)
+    right
 }
 
 /// Fills the public values, of a trace whose last row carries this on, and the periodic columns.
 fn fill_known(
+    rt: &impl Abort,
     alloc: Global,
     system: System,
     last: BabyBear,
     given: &mut OwnedAssignment<BabyBear>,
-) -> Result<(), AllocError> {
+) {
+    let values = &mut given.public_values;
     match system {
-        System::Fibonacci => {
-            let values = [BabyBear::ONE, BabyBear::ONE, last];
-            given.public_values.extend_from_slice(values.as_slice())
-        },
+        System::Fibonacci => values
+            .extend_from_slice(&[BabyBear::ONE, BabyBear::ONE, last])
+            .expect(rt, "memory"),
         System::Cubes => {
-            given.public_values.push(BabyBear::from_u64(2))?;
-            given.public_values.push(BabyBear::from_u64(7))?;
-            given.periodic.push(elements(alloc, &[3, 5])?)?;
-            Ok(())
+            values
+                .extend_from_slice(&[BabyBear::from_u64(2), BabyBear::from_u64(7)])
+                .expect(rt, "memory");
+            let column = elements(rt, alloc, &[3, 5]);
+            given.periodic.push(column).expect(rt, "memory");
         },
-        System::RangeCheck | System::Powers | System::Empty => Ok(()),
+        System::RangeCheck | System::Powers | System::Empty => {},
     }
 }
 
 /// The system with a trace of so many rows, which satisfies it.
-pub(crate) fn instance_of(alloc: Global, system: System, height: usize) -> Result<Instance, Fail>
-    ensures well_formed { IfOk result (λ instance. IsWellFormed instance.air) }
+pub(crate) fn instance_of(rt: &impl Abort, alloc: Global, system: System, height: usize) -> Instance
+    ensures well_formed { IsWellFormed result.air }
 {
-    let air = air_of(alloc, &form_of(system))?;
+    let air = air_of(rt, alloc, &form_of(system));
     let mut given = OwnedAssignment {
         trace: Vec::new(alloc),
         preprocessed: Vec::new(alloc),
         public_values: Vec::new(alloc),
         periodic: Vec::new(alloc),
     };
-    let last = fill(alloc, system, height, &mut given)?;
-    fill_known(alloc, system, last, &mut given)?;
-    Ok(Instance { air, given })
+    let last = fill(rt, alloc, system, height, &mut given);
+    fill_known(rt, alloc, system, last, &mut given);
+    Instance { air, given }
 }

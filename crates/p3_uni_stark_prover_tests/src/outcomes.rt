@@ -15,7 +15,7 @@ use p3_field::{BabyBear, BabyBear4, Field};
 use p3_uni_stark_prover::{ProvingError, has_room};
 use p3_uni_stark_verifier::{Proof, VerificationError};
 use std::alloc::Global;
-use std::test::Fail;
+use std::process::Abort;
 
 /// What is changed, by one.
 #[derive(Clone, Copy)]
@@ -62,7 +62,7 @@ fn add_one<F: Field>(elements: &mut [F], place: usize) {
 }
 
 /// Changes what the prover is given.
-fn change_given(given: &mut OwnedAssignment<BabyBear>, change: Change) -> Result<(), Fail> {
+fn change_given(rt: &impl Abort, given: &mut OwnedAssignment<BabyBear>, change: Change) {
     match change {
         Change::Entry(row, column) => {
             if row < given.trace.len() {
@@ -71,12 +71,11 @@ fn change_given(given: &mut OwnedAssignment<BabyBear>, change: Change) -> Result
         },
         Change::Period => {
             for column in given.periodic.iter_mut() {
-                column.push(BabyBear::ONE)?;
+                column.push(BabyBear::ONE).expect(rt, "memory");
             }
         },
         _ => {},
     }
-    Ok(())
 }
 
 /// Changes what the verifier is given.
@@ -125,41 +124,43 @@ fn verdict<E: Drop>(
 
 /// What comes of an instance for which there is room.
 fn proved<P: Tested>(
+    rt: &impl Abort,
     alloc: Global,
     instance: &mut Instance,
     change: Change,
-) -> Result<Outcome, Fail>
+) -> Outcome
     requires well_formed { IsWellFormed instance.old.air }
     requires room { FitsField 27 1 P.ZK instance.old.air
         (length instance.old.given.trace.items) }
 {
     let satisfied = instance.air.check_trace(alloc, &instance.given.borrowed());
     let mut scheme = P::made();
-    let (key, data) = commit_preprocessed(&mut scheme, alloc, &*instance)?;
+    let (key, data) = commit_preprocessed(rt, &mut scheme, alloc, &*instance);
     let mut prover = Sha256Challenger::new();
-    let found = prove_instance(&mut scheme, alloc, &*instance, key, data, &mut prover)?;
-    let mut proof = match found {
-        Ok(proof) => proof,
-        Err(error) => return Ok(unproved(error, &prover)),
-    };
-    change_shown(instance, &mut proof, change);
-    let mut verifier = Sha256Challenger::new();
-    let returned = verify_instance::<P>(alloc, &*instance, key, &proof, &mut verifier);
-    Ok(verdict(satisfied, returned, &prover, &mut verifier))
+    match prove_instance(rt, &mut scheme, alloc, &*instance, key, data, &mut prover) {
+        Ok(mut proof) => {
+            change_shown(instance, &mut proof, change);
+            let mut verifier = Sha256Challenger::new();
+            let returned = verify_instance::<P>(alloc, &*instance, key, &proof, &mut verifier);
+            verdict(satisfied, returned, &prover, &mut verifier)
+        },
+        Err(error) => unproved(error, &prover),
+    }
 }
 
 /// What comes of a system's trace of so many rows, with this change, by a scheme.
 pub(crate) fn outcome_of<P: Tested>(
+    rt: &impl Abort,
     alloc: Global,
     system: System,
     height: usize,
     change: Change,
-) -> Result<Outcome, Fail> {
-    let mut instance = instance_of(alloc, system, height)?;
-    change_given(&mut instance.given, change)?;
+) -> Outcome {
+    let mut instance = instance_of(rt, alloc, system, height);
+    change_given(rt, &mut instance.given, change);
     match has_room::<BabyBear, ()>(alloc, &instance.air, instance.given.trace.len(), 1, P::ZK) {
-        Ok(true) => proved::<P>(alloc, &mut instance, change),
-        Ok(false) => Ok(Outcome::NoRoom),
-        Err(_) => Err(Fail::new("memory was refused")),
+        Ok(true) => proved::<P>(rt, alloc, &mut instance, change),
+        Ok(false) => Outcome::NoRoom,
+        Err(_) => panic!(rt; "memory was refused"),
     }
 }

@@ -1,6 +1,6 @@
 //! Instances are proved by a scheme, and proofs verified by the same.
 
-ghost use Rattle.std.specs.Prelude.{◌≡◌, ◌≤◌, ◌+◌, ◌^◌, [], ◌∷◌, ℕ, length, IfOk};
+ghost use Rattle.std.specs.Prelude.{◌≡◌, ◌≤◌, ◌+◌, ◌^◌, [], ◌∷◌, ℕ, length};
 ghost use Rattle.p3_matrix.specs.Matrix.{rows, matrix_width};
 ghost use Rattle.p3_air.specs.WellFormed.{IsWellFormed};
 ghost use Rattle.p3_uni_stark_verifier.specs.Chunks.{hiding_bits};
@@ -20,8 +20,8 @@ use p3_uni_stark_statement::{have_width, matrix_of_rows};
 use p3_uni_stark_verifier::chunks::with_hiding;
 use p3_uni_stark_verifier::opened::subgroup;
 use p3_uni_stark_verifier::{PreprocessedVerifierKey, Proof, Statement, VerificationError, verify};
-use std::alloc::{AllocError, Global};
-use std::test::Fail;
+use std::alloc::Global;
+use std::process::Abort;
 
 /// The key of preprocessed columns, if there are any.
 pub(crate) type Key = Option<PreprocessedVerifierKey<[u8; 32]>>;
@@ -43,12 +43,12 @@ type Proved<P> = Result<
 type Verified<P> = Result<(), VerificationError<<P as Pcs<BabyBear4, Sha256Challenger>>::Error>>;
 
 /// A list of one.
-pub(crate) fn one<T: Drop>(alloc: Global, value: T) -> Result<Vec<T>, AllocError>
-    ensures { IfOk result (λ all. all.items ≡ value ∷ []) }
+pub(crate) fn one<T: Drop>(rt: &impl Abort, alloc: Global, value: T) -> Vec<T>
+    ensures { result.items ≡ value ∷ [] }
 {
-    let mut all = Vec::with_capacity(alloc, 1)?;
-    all.push(value)?;
-    Ok(all)
+    let mut all = Vec::new(alloc);
+    all.push(value).expect(rt, "memory");
+    all
 }
 
 /// Commits to the preprocessed columns of `2^log_height` rows.
@@ -56,65 +56,65 @@ fn commit_columns<
     Com: Copy,
     P: TwoAdicStarkPcs<BabyBear4, Sha256Challenger, Domain, Commitment = Com>,
 >(
+    rt: &impl Abort,
     scheme: &mut P,
     alloc: Global,
     columns: RowMajorMatrix<BabyBear>,
     log_height: usize,
-) -> Result<(Option<PreprocessedVerifierKey<Com>>, Option<P::ProverData>), Fail>
+) -> (Option<PreprocessedVerifierKey<Com>>, Option<P::ProverData>)
     requires height { length (rows columns) ≡ 2 ^ log_height }
     requires room { log_height + hiding_bits P.ZK + P.log_blowup scheme.old ≤ 27 }
     ensures kept { P.Keeps scheme.old scheme.new }
     ensures held { (k width : ℕ) → log_height ≡ k → matrix_width columns ≡ width
-        → IfOk result (λ pair. HoldPreprocessed (P.rules scheme.new) (P.stark_rules scheme.new)
+        → HoldPreprocessed (P.rules scheme.new) (P.stark_rules scheme.new)
         (λ d. (d.shift ≡ ⟦<BabyBear as Field>⟧.ONE) × (d.log_size ≡ k + hiding_bits P.ZK))
-        k width pair.0 pair.1) }
+        k width result.0 result.1 }
 {
     let domain = subgroup::<BabyBear>(with_hiding(log_height, P::ZK));
-    let evaluations = one(alloc, (domain, columns))?;
+    let evaluations = one(rt, alloc, (domain, columns));
     match scheme.commit_preprocessing(alloc, evaluations) {
         Ok((commitment, data)) => {
             let key = PreprocessedVerifierKey {
                 commitment,
                 log_height,
             };
-            Ok((Some(key), Some(data)))
+            (Some(key), Some(data))
         },
-        Err(_) => Err(Fail::new("the preprocessed columns are refused")),
+        Err(_) => panic!(rt; "the preprocessed columns are refused"),
     }
 }
 
 /// Commits to the preprocessed columns on their subgroup, if there are any.
 pub(crate) fn commit_preprocessed<P: Tested>(
+    rt: &impl Abort,
     scheme: &mut P,
     alloc: Global,
     instance: &Instance,
-) -> Result<
-    (
-        Key,
-        Option<<P as Pcs<BabyBear4, Sha256Challenger>>::ProverData>,
-    ),
-    Fail,
->
+) -> (
+    Key,
+    Option<<P as Pcs<BabyBear4, Sha256Challenger>>::ProverData>,
+)
     requires log_blowup { P.log_blowup scheme.old ≡ 1 }
     requires room { FitsField 27 1 P.ZK instance.now.air
         (length instance.now.given.trace.items) }
     ensures kept { P.Keeps scheme.old scheme.new }
     ensures held { (k : ℕ) → length instance.now.given.trace.items ≡ 2 ^ k
-        → IfOk result (λ pair. HoldPreprocessed (P.rules scheme.new) (P.stark_rules scheme.new)
+        → HoldPreprocessed (P.rules scheme.new) (P.stark_rules scheme.new)
         (λ d. (d.shift ≡ ⟦<BabyBear as Field>⟧.ONE) × (d.log_size ≡ k + hiding_bits P.ZK))
-        k instance.now.air.layout.preprocessed_width pair.0 pair.1) }
+        k instance.now.air.layout.preprocessed_width result.0 result.1 }
 {
     let width = instance.air.layout.preprocessed_width;
     if width == 0 {
-        return Ok((None, None));
+        return (None, None);
     }
     let rows = instance.given.preprocessed.as_slice();
-    if rows.len() != instance.given.trace.len() || !have_width(rows, width) {
-        return Err(Fail::new("the preprocessed columns have another shape"));
-    }
+    assert!(rt;
+        rows.len() == instance.given.trace.len() && have_width(rows, width),
+        "the preprocessed columns have another shape"
+    );
     let log_height = log2_strict_usize(rows.len());
-    let columns = matrix_of_rows(alloc, rows, width)?;
-    commit_columns::<[u8; 32], P>(scheme, alloc, columns, log_height)
+    let columns = matrix_of_rows(alloc, rows, width).expect(rt, "memory");
+    commit_columns::<[u8; 32], P>(rt, scheme, alloc, columns, log_height)
 }
 
 /// The statement that a trace satisfies the instance's system.
@@ -137,13 +137,14 @@ fn statement_of<'a, Com: Copy>(
 
 /// A proof of the instance's trace. An ill-formed statement is no test.
 pub(crate) fn prove_instance<P: Tested>(
+    rt: &impl Abort,
     scheme: &mut P,
     alloc: Global,
     instance: &Instance,
     key: Key,
     preprocessed: Option<<P as Pcs<BabyBear4, Sha256Challenger>>::ProverData>,
     challenger: &mut Sha256Challenger,
-) -> Result<Proved<P>, Fail>
+) -> Proved<P>
     requires log_blowup { P.log_blowup scheme.old ≡ 1 }
     requires range { (P.rules scheme.old).InProverRange }
     requires well_formed { IsWellFormed instance.now.air }
@@ -156,23 +157,23 @@ pub(crate) fn prove_instance<P: Tested>(
 {
     let layout = instance.air.layout;
     let rows = instance.given.trace.as_slice();
-    if instance.given.public_values.len() != layout.num_public_values
-        || instance.given.periodic.len() != layout.num_periodic_columns
-        || key.is_some() == (layout.preprocessed_width == 0)
-        || layout.width == 0
-        || !have_width(rows, layout.width)
-    {
-        return Err(Fail::new("the statement is ill-formed"));
-    }
-    let trace = matrix_of_rows(alloc, rows, layout.width)?;
-    Ok(prove::<BabyBear, BabyBear4, [u8; 32], Sha256Challenger, P>(
+    assert!(rt;
+        instance.given.public_values.len() == layout.num_public_values
+            && instance.given.periodic.len() == layout.num_periodic_columns
+            && key.is_some() != (layout.preprocessed_width == 0)
+            && layout.width != 0
+            && have_width(rows, layout.width),
+        "the statement is ill-formed"
+    );
+    let trace = matrix_of_rows(alloc, rows, layout.width).expect(rt, "memory");
+    prove::<BabyBear, BabyBear4, [u8; 32], Sha256Challenger, P>(
         scheme,
         alloc,
         &statement_of(instance, key),
         trace,
         preprocessed,
         challenger,
-    ))
+    )
 }
 
 /// What the verifier says of a proof.

@@ -1,5 +1,7 @@
 //! What is changed of statements and proofs in numbers.
 
+ghost use Rattle.std.specs.Prelude.{◌≤◌};
+
 use crate::shown::{FIRST_CHUNK, Shown};
 use p3_air::Node;
 use p3_uni_stark_verifier::PreprocessedVerifierKey;
@@ -106,9 +108,12 @@ const SQUARES: [Node<u64>; 64] = [
     Node::Mul(62, 62),
 ];
 
-/// Shows these nodes, and no constraints.
-fn show_squares(shown: &mut Shown, nodes: &'static [Node<u64>]) {
-    shown.nodes = nodes;
+/// Shows the first of these nodes, and no constraints.
+fn show_squares(shown: &mut Shown, count: usize)
+    requires { count ≤ 64 }
+{
+    let squares: &'static [Node<u64>] = &SQUARES;
+    shown.nodes = &squares[..count];
     shown.constraints = &[];
 }
 
@@ -133,7 +138,7 @@ pub(crate) fn change_shown(shown: &mut Shown, change: Change) {
         Change::OtherTrace => shown.trace = [5; 32],
         Change::OtherNextRow => shown.trace_next = &[[1, 2, 3, 4]],
         Change::NoRandomPolynomials => shown.random = None,
-        Change::SixtyTwoSquares => show_squares(shown, &SQUARES[..63]),
-        Change::SixtyThreeSquares => show_squares(shown, &SQUARES),
+        Change::SixtyTwoSquares => show_squares(shown, 63),
+        Change::SixtyThreeSquares => show_squares(shown, 64),
     }
 }

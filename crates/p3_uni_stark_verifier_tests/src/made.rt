@@ -1,12 +1,13 @@
 //! Statements and proofs, made of what is shown in numbers.
 
 use crate::belief::Belief;
-use crate::numbers::{push_columns, push_elements, push_extension_lists, push_extensions};
+use crate::numbers::{columns, elements, extension_lists, extensions};
 use crate::shown::Shown;
 use p3_air::{Air, Node};
-use p3_field::{BabyBear, BabyBear4, ExtensionField, Field};
+use p3_field::{ExtensionField, Field};
 use p3_uni_stark_verifier::{Commitments, OpenedValues, PreprocessedVerifierKey, Proof};
-use std::alloc::{AllocError, Global};
+use std::alloc::Global;
+use std::process::Abort;
 
 /// The node of an element in the place of a number.
 fn node_of<F: Field>(node: Node<u64>) -> Node<F> {
@@ -25,12 +26,13 @@ fn node_of<F: Field>(node: Node<u64>) -> Node<F> {
     }
 }
 
-/// Appends the nodes of elements.
-fn push_nodes<F: Field>(nodes: &mut Vec<Node<F>>, each: &[Node<u64>]) -> Result<(), AllocError> {
+/// The nodes of elements.
+fn nodes_of<F: Field>(rt: &impl Abort, alloc: Global, each: &[Node<u64>]) -> Vec<Node<F>> {
+    let mut nodes = Vec::new(alloc);
     for node in each {
-        nodes.push(node_of(*node))?;
+        nodes.push(node_of(*node)).expect(rt, "memory");
     }
-    Ok(())
+    nodes
 }
 
 /// A proof, and the parts of its statement. The system is well formed or not.
@@ -43,28 +45,36 @@ pub(crate) struct Parts<F, EF> {
     pub(crate) proof: Proof<EF, [u8; 32], Belief>,
 }
 
-/// No opened values yet.
-fn no_values<EF>(alloc: Global) -> OpenedValues<EF> {
+/// The opened values that are shown.
+fn values_of<F: Field, EF: ExtensionField<F>>(
+    rt: &impl Abort,
+    alloc: Global,
+    shown: &Shown,
+) -> OpenedValues<EF> {
     OpenedValues {
-        trace_local: Vec::new(alloc),
-        trace_next: Vec::new(alloc),
-        preprocessed_local: Vec::new(alloc),
-        preprocessed_next: Vec::new(alloc),
-        quotient_chunks: Vec::new(alloc),
-        random: Vec::new(alloc),
+        trace_local: extensions::<F, EF>(rt, alloc, shown.trace_local),
+        trace_next: extensions::<F, EF>(rt, alloc, shown.trace_next),
+        preprocessed_local: extensions::<F, EF>(rt, alloc, shown.preprocessed_local),
+        preprocessed_next: extensions::<F, EF>(rt, alloc, shown.preprocessed_next),
+        quotient_chunks: extension_lists::<F, EF>(rt, alloc, shown.quotient_chunks),
+        random: extensions::<F, EF>(rt, alloc, shown.random_values),
     }
 }
 
-/// The parts of what is shown, with empty lists.
-fn outline<F, EF>(alloc: Global, shown: &Shown) -> Parts<F, EF> {
+/// The parts of what is shown, over any field.
+pub(crate) fn parts_of<F: Field, EF: ExtensionField<F>>(
+    rt: &impl Abort,
+    alloc: Global,
+    shown: &Shown,
+) -> Parts<F, EF> {
     Parts {
         air: Air {
             layout: shown.layout,
-            nodes: Vec::new(alloc),
-            constraints: Vec::new(alloc),
+            nodes: nodes_of(rt, alloc, shown.nodes),
+            constraints: Vec::from_slice(alloc, shown.constraints).expect(rt, "memory"),
         },
-        public_values: Vec::new(alloc),
-        periodic: Vec::new(alloc),
+        public_values: elements(rt, alloc, shown.public_values),
+        periodic: columns(rt, alloc, shown.periodic),
         preprocessed: shown.preprocessed,
         proof: Proof {
             commitments: Commitments {
@@ -72,48 +82,11 @@ fn outline<F, EF>(alloc: Global, shown: &Shown) -> Parts<F, EF> {
                 quotient_chunks: shown.quotient,
                 random: shown.random,
             },
-            opened_values: no_values(alloc),
+            opened_values: values_of::<F, EF>(rt, alloc, shown),
             opening_proof: Belief {
                 claims: shown.claims,
             },
             log_height: shown.log_height,
         },
     }
-}
-
-/// Fills the lists of the statement and of opened values.
-fn fill<F: Field, EF: ExtensionField<F>>(
-    alloc: Global,
-    parts: &mut Parts<F, EF>,
-    shown: &Shown,
-) -> Result<(), AllocError> {
-    push_nodes(&mut parts.air.nodes, shown.nodes)?;
-    parts.air.constraints.extend_from_slice(shown.constraints)?;
-    push_elements(&mut parts.public_values, shown.public_values)?;
-    push_columns(alloc, &mut parts.periodic, shown.periodic)?;
-    let values = &mut parts.proof.opened_values;
-    push_extensions::<F, EF>(&mut values.trace_local, shown.trace_local)?;
-    push_extensions::<F, EF>(&mut values.trace_next, shown.trace_next)?;
-    push_extensions::<F, EF>(&mut values.preprocessed_local, shown.preprocessed_local)?;
-    push_extensions::<F, EF>(&mut values.preprocessed_next, shown.preprocessed_next)?;
-    push_extension_lists::<F, EF>(alloc, &mut values.quotient_chunks, shown.quotient_chunks)?;
-    push_extensions::<F, EF>(&mut values.random, shown.random_values)
-}
-
-/// The parts of what is shown, over any field.
-fn parts_over<F: Field, EF: ExtensionField<F>>(
-    alloc: Global,
-    shown: &Shown,
-) -> Result<Parts<F, EF>, AllocError> {
-    let mut parts = outline(alloc, shown);
-    fill(alloc, &mut parts, shown)?;
-    Ok(parts)
-}
-
-/// The same over BabyBear.
-pub(crate) fn parts_of(
-    alloc: Global,
-    shown: &Shown,
-) -> Result<Parts<BabyBear, BabyBear4>, AllocError> {
-    parts_over::<BabyBear, BabyBear4>(alloc, shown)
 }

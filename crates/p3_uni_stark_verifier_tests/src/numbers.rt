@@ -1,7 +1,8 @@
 //! Elements from numbers, of any field.
 
 use p3_field::{ExtensionField, Field};
-use std::alloc::{AllocError, Global};
+use std::alloc::Global;
+use std::process::Abort;
 
 /// The element of the extension with these coefficients, of which it has at most four.
 pub(crate) fn extension<F: Field, EF: ExtensionField<F>>(coefficients: [u64; 4]) -> EF {
@@ -14,52 +15,52 @@ pub(crate) fn extension<F: Field, EF: ExtensionField<F>>(coefficients: [u64; 4])
     element
 }
 
-/// Appends the elements of these numbers.
-pub(crate) fn push_elements<F: Field>(
-    elements: &mut Vec<F>,
-    numbers: &[u64],
-) -> Result<(), AllocError> {
+/// The elements of these numbers.
+pub(crate) fn elements<F: Field>(rt: &impl Abort, alloc: Global, numbers: &[u64]) -> Vec<F> {
+    let mut elements = Vec::new(alloc);
     for number in numbers {
-        elements.push(F::from_u64(*number))?;
+        elements.push(F::from_u64(*number)).expect(rt, "memory");
     }
-    Ok(())
+    elements
 }
 
-/// Appends columns of the elements of these numbers.
-pub(crate) fn push_columns<F: Field>(
-    alloc: Global,
-    columns: &mut Vec<Vec<F>>,
-    each: &[&[u64]],
-) -> Result<(), AllocError> {
+/// Columns of the elements of these numbers.
+pub(crate) fn columns<F: Field>(rt: &impl Abort, alloc: Global, each: &[&[u64]]) -> Vec<Vec<F>> {
+    let mut columns = Vec::new(alloc);
     for numbers in each {
-        let mut column = Vec::new(alloc);
-        push_elements(&mut column, *numbers)?;
-        columns.push(column)?;
+        columns
+            .push(elements(rt, alloc, *numbers))
+            .expect(rt, "memory");
     }
-    Ok(())
+    columns
 }
 
-/// Appends the elements of the extension of these coefficients.
-pub(crate) fn push_extensions<F: Field, EF: ExtensionField<F>>(
-    elements: &mut Vec<EF>,
+/// The elements of the extension of these coefficients.
+pub(crate) fn extensions<F: Field, EF: ExtensionField<F>>(
+    rt: &impl Abort,
+    alloc: Global,
     numbers: &[[u64; 4]],
-) -> Result<(), AllocError> {
+) -> Vec<EF> {
+    let mut elements = Vec::new(alloc);
     for coefficients in numbers {
-        elements.push(extension::<F, EF>(*coefficients))?;
+        elements
+            .push(extension::<F, EF>(*coefficients))
+            .expect(rt, "memory");
     }
-    Ok(())
+    elements
 }
 
-/// Appends lists of them.
-pub(crate) fn push_extension_lists<F: Field, EF: ExtensionField<F>>(
+/// Lists of them.
+pub(crate) fn extension_lists<F: Field, EF: ExtensionField<F>>(
+    rt: &impl Abort,
     alloc: Global,
-    lists: &mut Vec<Vec<EF>>,
     each: &[&[[u64; 4]]],
-) -> Result<(), AllocError> {
+) -> Vec<Vec<EF>> {
+    let mut lists = Vec::new(alloc);
     for numbers in each {
-        let mut list = Vec::new(alloc);
-        push_extensions::<F, EF>(&mut list, *numbers)?;
-        lists.push(list)?;
+        lists
+            .push(extensions::<F, EF>(rt, alloc, *numbers))
+            .expect(rt, "memory");
     }
-    Ok(())
+    lists
 }

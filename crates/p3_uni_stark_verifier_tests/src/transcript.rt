@@ -4,10 +4,10 @@ use crate::made::{Parts, parts_of};
 use crate::numbers::extension;
 use crate::shown::{Proven, shown_of};
 use p3_challenger::{CanObserve, FieldChallenger, Sha256Challenger};
-use p3_field::{ExtensionField, PrimeField64};
+use p3_field::{BabyBear, BabyBear4, ExtensionField, PrimeField64};
 use p3_uni_stark_transcript::{StarkCommitments, StarkInstance, replay_stark};
-use std::alloc::{AllocError, Global};
-use std::test::Fail;
+use std::alloc::Global;
+use std::process::Abort;
 
 /// Both challenges, and the element that is drawn after them.
 #[derive(Clone, Copy)]
@@ -40,11 +40,12 @@ const OF_HIDDEN_CUBES: Drawn = Drawn {
 
 /// Whether these are drawn of the parts' statement and commitments.
 fn are_drawn<F: PrimeField64, EF: ExtensionField<F>, C: FieldChallenger<F> + CanObserve<[u8; 32]>>(
+    rt: &impl Abort,
     alloc: Global,
     challenger: &mut C,
     parts: &Parts<F, EF>,
     drawn: &Drawn,
-) -> Result<bool, AllocError> {
+) -> bool {
     let instance = StarkInstance {
         air: &parts.air,
         public_values: &parts.public_values,
@@ -60,19 +61,22 @@ fn are_drawn<F: PrimeField64, EF: ExtensionField<F>, C: FieldChallenger<F> + Can
         quotient: parts.proof.commitments.quotient_chunks,
         random: parts.proof.commitments.random,
     };
-    let found = replay_stark::<F, EF, [u8; 32], C>(alloc, challenger, &instance, commitments)?;
+    let found = replay_stark::<F, EF, [u8; 32], C>(
+        alloc,
+        challenger,
+        &instance,
+        commitments,
+    ).expect(rt, "memory");
     let next = challenger.sample_algebra_element::<EF>();
-    Ok(
-        found.alpha == extension::<F, EF>(drawn.alpha)
-            && found.zeta == extension::<F, EF>(drawn.zeta)
-            && next == extension::<F, EF>(drawn.next),
-    )
+    found.alpha == extension::<F, EF>(drawn.alpha)
+        && found.zeta == extension::<F, EF>(drawn.zeta)
+        && next == extension::<F, EF>(drawn.next)
 }
 
 /// Whether these are drawn of what is shown, over BabyBear and by SHA-256.
-fn is_drawn(alloc: Global, proven: Proven, drawn: &Drawn) -> Result<bool, AllocError> {
-    let parts = parts_of(alloc, &shown_of(proven))?;
-    are_drawn(alloc, &mut Sha256Challenger::new(), &parts, drawn)
+fn is_drawn(rt: &impl Abort, alloc: Global, proven: Proven, drawn: &Drawn) -> bool {
+    let parts = parts_of::<BabyBear, BabyBear4>(rt, alloc, &shown_of(proven));
+    are_drawn(rt, alloc, &mut Sha256Challenger::new(), &parts, drawn)
 }
 
 /// What is shown, and what is drawn of it.
@@ -82,19 +86,9 @@ const CASES: [(Proven, Drawn); 3] = [
     (Proven::HiddenCubes, OF_HIDDEN_CUBES),
 ];
 
-/// The index of the first of these of which something else is drawn.
-fn first_wrong(alloc: Global) -> Result<Option<usize>, AllocError> {
-    for (index, (proven, drawn)) in CASES.iter().enumerate() {
-        if !is_drawn(alloc, *proven, drawn)? {
-            return Ok(Some(index));
-        }
-    }
-    Ok(None)
-}
-
 #[test]
-fn challenges_are_drawn(rt: HostRuntime) -> Result<(), Fail> {
-    let wrong = first_wrong(rt.alloc())?;
-    assert!(rt; wrong.is_none(), "case {wrong:?}");
-    Ok(())
+fn challenges_are_drawn(rt: HostRuntime) {
+    for (index, (proven, drawn)) in CASES.iter().enumerate() {
+        assert!(rt; is_drawn(&rt, rt.alloc(), *proven, drawn), "case {index}");
+    }
 }

@@ -9,9 +9,9 @@ use p3_challenger::Sha256Challenger;
 use p3_dft::Radix2Dit;
 use p3_field::{BabyBear, BabyBear4};
 use p3_uni_stark_verifier::{Statement, VerificationError, verify};
-use std::alloc::{AllocError, Global};
+use std::alloc::Global;
 use std::marker::PhantomData;
-use std::test::Fail;
+use std::process::Abort;
 
 /// What a verifier says.
 #[derive(Clone, Copy, PartialEq, Eq)]
@@ -86,27 +86,14 @@ fn judge(alloc: Global, parts: &Parts<BabyBear, BabyBear4>, hides: bool) -> Verd
 /// A name, what is shown, a change of it, and what the verifier says.
 type Case = (&'static str, Proven, Change, Verdict);
 
-/// Whether the verifier says this of what is shown with the change.
-fn is_judged(
-    alloc: Global,
-    proven: Proven,
-    change: Change,
-    verdict: Verdict,
-) -> Result<bool, AllocError> {
-    let mut shown = shown_of(proven);
-    change_shown(&mut shown, change);
-    let parts = parts_of(alloc, &shown)?;
-    Ok(judge(alloc, &parts, shown.hides) == verdict)
-}
-
-/// The first case of which the verifier says something else.
-fn first_misjudged(alloc: Global, cases: &[Case]) -> Result<Option<&'static str>, AllocError> {
+/// The verifier says of each case what it names.
+fn assert_judged(rt: &impl Abort, alloc: Global, cases: &[Case]) {
     for (name, proven, change, verdict) in cases {
-        if !is_judged(alloc, *proven, *change, *verdict)? {
-            return Ok(Some(*name));
-        }
+        let mut shown = shown_of(*proven);
+        change_shown(&mut shown, *change);
+        let parts = parts_of(rt, alloc, &shown);
+        assert!(rt; judge(alloc, &parts, shown.hides) == *verdict, "{name}");
     }
-    Ok(None)
 }
 
 const HONEST: [Case; 3] = [
@@ -126,10 +113,8 @@ const HONEST: [Case; 3] = [
 ];
 
 #[test]
-fn honest_proofs_are_accepted(rt: HostRuntime) -> Result<(), Fail> {
-    let misjudged = first_misjudged(rt.alloc(), &HONEST)?;
-    assert!(rt; misjudged.is_none(), "{misjudged:?}");
-    Ok(())
+fn honest_proofs_are_accepted(rt: HostRuntime) {
+    assert_judged(&rt, rt.alloc(), &HONEST);
 }
 
 const STATEMENTS: [Case; 9] = [
@@ -190,10 +175,8 @@ const STATEMENTS: [Case; 9] = [
 ];
 
 #[test]
-fn changed_statements_are_refused_by_name(rt: HostRuntime) -> Result<(), Fail> {
-    let misjudged = first_misjudged(rt.alloc(), &STATEMENTS)?;
-    assert!(rt; misjudged.is_none(), "{misjudged:?}");
-    Ok(())
+fn changed_statements_are_refused_by_name(rt: HostRuntime) {
+    assert_judged(&rt, rt.alloc(), &STATEMENTS);
 }
 
 const PROOFS: [Case; 7] = [
@@ -242,10 +225,8 @@ const PROOFS: [Case; 7] = [
 ];
 
 #[test]
-fn changed_proofs_are_refused_by_name(rt: HostRuntime) -> Result<(), Fail> {
-    let misjudged = first_misjudged(rt.alloc(), &PROOFS)?;
-    assert!(rt; misjudged.is_none(), "{misjudged:?}");
-    Ok(())
+fn changed_proofs_are_refused_by_name(rt: HostRuntime) {
+    assert_judged(&rt, rt.alloc(), &PROOFS);
 }
 
 const HIDING: [Case; 1] = [(
@@ -256,10 +237,8 @@ const HIDING: [Case; 1] = [(
 )];
 
 #[test]
-fn a_scheme_that_hides_asks_for_random_polynomials(rt: HostRuntime) -> Result<(), Fail> {
-    let misjudged = first_misjudged(rt.alloc(), &HIDING)?;
-    assert!(rt; misjudged.is_none(), "{misjudged:?}");
-    Ok(())
+fn a_scheme_that_hides_asks_for_random_polynomials(rt: HostRuntime) {
+    assert_judged(&rt, rt.alloc(), &HIDING);
 }
 
 const DEGREES: [Case; 2] = [
@@ -278,8 +257,6 @@ const DEGREES: [Case; 2] = [
 ];
 
 #[test]
-fn degrees_are_below_two_to_63(rt: HostRuntime) -> Result<(), Fail> {
-    let misjudged = first_misjudged(rt.alloc(), &DEGREES)?;
-    assert!(rt; misjudged.is_none(), "{misjudged:?}");
-    Ok(())
+fn degrees_are_below_two_to_63(rt: HostRuntime) {
+    assert_judged(&rt, rt.alloc(), &DEGREES);
 }

@@ -3,17 +3,15 @@
 use p3_field::{
     BabyBear, BabyBear4, ExtensionField, Field, PrimeField64, TwoAdicMultiplicativeCoset,
 };
-use std::test::Fail;
+use std::process::Abort;
 
 /// A domain of BabyBear.
 pub(crate) type Domain = TwoAdicMultiplicativeCoset<BabyBear>;
 
 /// The domain of this shift of `2^log_size` points.
-pub(crate) fn domain(shift: u64, log_size: usize) -> Result<Domain, Fail> {
-    match TwoAdicMultiplicativeCoset::new(BabyBear::from_u64(shift), log_size) {
-        Some(domain) => Ok(domain),
-        None => Err(Fail::new("no such domain")),
-    }
+pub(crate) fn domain(rt: &impl Abort, shift: u64, log_size: usize) -> Domain {
+    let shift = BabyBear::from_u64(shift);
+    TwoAdicMultiplicativeCoset::new(shift, log_size).expect(rt, "no such domain")
 }
 
 /// The element of the extension with these coefficients.

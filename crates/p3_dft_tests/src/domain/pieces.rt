@@ -1,11 +1,12 @@
 //! Domains that are split, values on them, and chunks that recombine.
 
-use crate::domain::numbers::{domain, extension, numbers};
+ghost use Rattle.std.specs.Prelude.{◌<◌, length};
+
+use crate::domain::numbers::{Domain, domain, extension, numbers};
 use p3_domain::PolynomialSpace;
 use p3_field::{BabyBear, ExtensionField, Field, PrimeField64};
 use p3_matrix::RowMajorMatrix;
-use std::alloc::{AllocError, Global};
-use std::test::Fail;
+use std::process::Abort;
 
 /// Of the domain of eight points of shift 31: for a number of chunks, each one's shift, and the
 /// value at `2 + 7X + X^2 + 8X^3` of the polynomial that has on its domain the values of one of
@@ -36,54 +37,52 @@ const WHOLE: [u64; 4] = [602296648, 1380251527, 461173315, 1565730881];
 /// What a chunk's value counts at the point: the product over the other pieces of what vanishes on
 /// them there, over that at this piece's first point.
 fn factor<D: PolynomialSpace, EF: ExtensionField<D::Val>>(
+    rt: &impl Abort,
     pieces: &[D],
     index: usize,
     point: EF,
-) -> Result<EF, Fail> {
+) -> EF
+    requires { index < length pieces.now }
+{
+    let first: D::Val = pieces[index].first_point();
     let mut factor = EF::ONE;
-    for other in 0..pieces.len() {
-        if other != index && index < pieces.len() {
-            let first: D::Val = pieces[index].first_point();
-            let at_first: D::Val = pieces[other].vanishing_poly_at_point(first);
-            match at_first.try_inverse() {
-                Some(inverse) => {
-                    let at_point: EF = pieces[other].vanishing_poly_at_point(point);
-                    factor = factor * at_point.scale(inverse);
-                },
-                None => return Err(Fail::new("pieces meet")),
-            }
+    for (other, piece) in pieces.iter().enumerate() {
+        if other != index {
+            let at_first: D::Val = piece.vanishing_poly_at_point(first);
+            let at_point: EF = piece.vanishing_poly_at_point(point);
+            factor = factor * at_point.scale(at_first.try_inverse().expect(rt, "pieces meet"));
         }
     }
-    Ok(factor)
+    factor
 }
 
-/// The number of chunks whose domains have other shifts, or whose values recombine to another.
-fn first_wrong_split(alloc: Global) -> Result<Option<usize>, Fail> {
-    let whole = domain(31, 3)?;
+/// Whether the pieces have the shifts of these chunks, whose values recombine to that of `WHOLE`.
+fn recombine(rt: &impl Abort, pieces: &[Domain], chunks: &[(u64, [u64; 4])]) -> bool {
     let point = extension([2, 7, 1, 8]);
-    for (num_chunks, chunks) in &CHUNKS {
-        if !num_chunks.is_power_of_two() || *num_chunks > whole.size() {
-            return Ok(Some(*num_chunks));
+    let mut sum = extension([0; 4]);
+    for (index, (shift, value)) in chunks.iter().enumerate() {
+        if index >= pieces.len() || pieces[index].shift().as_canonical_u64() != *shift {
+            return false;
         }
-        let pieces = whole.split_domains(alloc, *num_chunks)?;
-        let mut sum = extension([0; 4]);
-        for (index, (shift, value)) in chunks.iter().enumerate() {
-            if index >= pieces.len() || pieces[index].shift().as_canonical_u64() != *shift {
-                return Ok(Some(*num_chunks));
-            }
-            sum = sum + extension(*value) * factor(&pieces, index, point)?;
-        }
-        if pieces.len() != *num_chunks || numbers(sum) != WHOLE {
-            return Ok(Some(*num_chunks));
-        }
+        sum = sum + extension(*value) * factor(rt, pieces, index, point);
     }
-    Ok(None)
+    numbers(sum) == WHOLE
 }
 
 #[test]
-fn chunks_recombine(rt: HostRuntime) -> Result<(), Fail> {
-    assert!(rt; first_wrong_split(rt.alloc())? == None);
-    Ok(())
+fn chunks_recombine(rt: HostRuntime) {
+    let whole = domain(&rt, 31, 3);
+    for (num_chunks, chunks) in &CHUNKS {
+        assert!(rt;
+            num_chunks.is_power_of_two() && *num_chunks <= whole.size(),
+            "{num_chunks} chunks"
+        );
+        let pieces = whole
+            .split_domains(rt.alloc(), *num_chunks)
+            .expect(&rt, "memory");
+        let agree = pieces.len() == *num_chunks && recombine(&rt, &pieces, *chunks);
+        assert!(rt; agree, "{num_chunks} chunks");
+    }
 }
 
 /// Of four rows of two values on a domain: for a number of chunks, each chunk's values.
@@ -93,48 +92,39 @@ const ROWS: [(usize, &[&[u64]]); 3] = [
     (4, &[&[0, 1], &[2, 3], &[4, 5], &[6, 7]]),
 ];
 
-/// The rows `(0, 1), (2, 3), (4, 5), (6, 7)`.
-fn four_rows(alloc: Global) -> Result<RowMajorMatrix<BabyBear>, AllocError> {
-    let mut values = Vec::new(alloc);
-    for number in 0..8u64 {
-        values.push(BabyBear::from_u64(number))?;
+/// Whether the chunk's rows of two values hold these numbers, one after another.
+fn holds(chunk: &RowMajorMatrix<BabyBear>, numbers: &[u64]) -> bool {
+    let mut same = chunk.width() == 2 && chunk.height() == numbers.len() / 2;
+    for (index, number) in numbers.iter().enumerate() {
+        same = same && chunk.get(index / 2, index % 2) == Some(BabyBear::from_u64(*number));
     }
-    Ok(RowMajorMatrix::new(values, 2))
+    same
 }
 
-/// The number of chunks whose rows are others.
-fn first_wrong_rows(alloc: Global) -> Result<Option<usize>, Fail> {
-    let whole = domain(31, 2)?;
-    let evals = four_rows(alloc)?;
-    for (num_chunks, wanted) in &ROWS {
-        if !num_chunks.is_power_of_two() || *num_chunks > whole.size() {
-            return Ok(Some(*num_chunks));
-        }
-        if evals.height() != whole.size() {
-            return Ok(Some(*num_chunks));
-        }
-        let mut found = Vec::new(alloc);
-        for chunk in whole.split_evals(alloc, *num_chunks, &evals)? {
-            let mut values = Vec::new(alloc);
-            for value in &chunk.into_values() {
-                values.push(value.as_canonical_u64())?;
-            }
-            found.push(values)?;
-        }
-        if found.len() != wanted.len() {
-            return Ok(Some(*num_chunks));
-        }
-        for (values, expected) in found.iter().zip(wanted.iter()) {
-            if values.as_slice() != *expected {
-                return Ok(Some(*num_chunks));
-            }
-        }
+/// Whether the chunks are as many as these rows of numbers, and hold them.
+fn hold(chunks: &[RowMajorMatrix<BabyBear>], wanted: &[&[u64]]) -> bool {
+    let mut same = chunks.len() == wanted.len();
+    for (chunk, numbers) in chunks.iter().zip(wanted) {
+        same = same && holds(chunk, *numbers);
     }
-    Ok(None)
+    same
 }
 
 #[test]
-fn rows_by_domains(rt: HostRuntime) -> Result<(), Fail> {
-    assert!(rt; first_wrong_rows(rt.alloc())? == None);
-    Ok(())
+fn rows_by_domains(rt: HostRuntime) {
+    let alloc = rt.alloc();
+    let whole = domain(&rt, 31, 2);
+    let values = [0, 1, 2, 3, 4, 5, 6, 7].map(BabyBear::from_u64);
+    let evals = RowMajorMatrix::new(values.to_vec(alloc).expect(&rt, "memory"), 2);
+    assert!(rt; evals.height() == whole.size());
+    for (num_chunks, wanted) in &ROWS {
+        assert!(rt;
+            num_chunks.is_power_of_two() && *num_chunks <= whole.size(),
+            "{num_chunks} chunks"
+        );
+        let chunks = whole
+            .split_evals(alloc, *num_chunks, &evals)
+            .expect(&rt, "memory");
+        assert!(rt; hold(&chunks, *wanted), "{num_chunks} chunks");
+    }
 }

@@ -3,8 +3,6 @@
 use crate::domain::numbers::{domain, extension, numbers};
 use p3_domain::PolynomialSpace;
 use p3_field::{BabyBear, Field, PrimeField64};
-use std::alloc::Global;
-use std::test::Fail;
 
 /// A domain's shift and the logarithm of its size, its points, and the value at
 /// `2 + 7X + X^2 + 8X^3` of what vanishes on it.
@@ -26,43 +24,30 @@ const DOMAINS: [(u64, usize, &[u64], [u64; 4]); 3] = [
     (7, 0, &[7], [1725656503, 1, 862828252, 862828253]),
 ];
 
-/// The points from the first on, as many as the domain has, and the one that comes next.
-fn walk<D: PolynomialSpace>(alloc: Global, domain: &D) -> Result<Vec<D::Val>, Fail> {
+/// Whether the points from the first on are those of these numbers, after which the first comes
+/// again, and the domain has as many.
+fn goes_round<D: PolynomialSpace>(domain: &D, numbers: &[u64]) -> bool {
     let mut point = domain.first_point();
-    let mut points = Vec::new(alloc);
-    points.push(point)?;
-    for _ in 0..domain.size() {
+    for number in numbers {
+        if point != D::Val::from_u64(*number) {
+            return false;
+        }
         match domain.next_point(point) {
             Some(next) => point = next,
-            None => return Err(Fail::new("no next point")),
-        }
-        points.push(point)?;
-    }
-    Ok(points)
-}
-
-/// The index of the first domain whose points or vanishing value are others.
-fn first_wrong_domain(alloc: Global) -> Result<Option<usize>, Fail> {
-    for (index, (shift, log_size, points, vanishing)) in DOMAINS.iter().enumerate() {
-        let domain = domain(*shift, *log_size)?;
-        let mut found = Vec::new(alloc);
-        for point in &walk(alloc, &domain)? {
-            found.push(point.as_canonical_u64())?;
-        }
-        let mut wanted = Vec::from_slice(alloc, *points)?;
-        wanted.push(*shift)?;
-        let value = PolynomialSpace::vanishing_poly_at_point(&domain, extension([2, 7, 1, 8]));
-        if found != wanted || numbers(value) != *vanishing {
-            return Ok(Some(index));
+            None => return false,
         }
     }
-    Ok(None)
+    point == domain.first_point() && domain.size() == numbers.len()
 }
 
 #[test]
-fn points_go_round(rt: HostRuntime) -> Result<(), Fail> {
-    assert!(rt; first_wrong_domain(rt.alloc())? == None);
-    Ok(())
+fn points_go_round(rt: HostRuntime) {
+    for (index, (shift, log_size, points, vanishing)) in DOMAINS.iter().enumerate() {
+        let domain = domain(&rt, *shift, *log_size);
+        let value = PolynomialSpace::vanishing_poly_at_point(&domain, extension([2, 7, 1, 8]));
+        let agree = goes_round(&domain, *points) && numbers(value) == *vanishing;
+        assert!(rt; agree, "domain {index}");
+    }
 }
 
 /// A domain's shift, how many points another is to have, and its shift and log size.
@@ -75,20 +60,11 @@ const DISJOINT: [(u64, usize, Option<(u64, usize)>); 6] = [
     (1, (1 << 27) + 1, None),
 ];
 
-/// The index of the first case in which there is another disjoint domain.
-fn first_wrong_disjoint() -> Result<Option<usize>, Fail> {
-    for (index, (shift, min_size, wanted)) in DISJOINT.iter().enumerate() {
-        let other = domain(*shift, 3)?.create_disjoint_domain(*min_size);
-        let found = other.map(|other| (other.shift().as_canonical_u64(), other.log_size()));
-        if found != *wanted {
-            return Ok(Some(index));
-        }
-    }
-    Ok(None)
-}
-
 #[test]
-fn disjoint_domains(rt: HostRuntime) -> Result<(), Fail> {
-    assert!(rt; first_wrong_disjoint()? == None);
-    Ok(())
+fn disjoint_domains(rt: HostRuntime) {
+    for (index, (shift, min_size, wanted)) in DISJOINT.iter().enumerate() {
+        let other = domain(&rt, *shift, 3).create_disjoint_domain(*min_size);
+        let found = other.map(|other| (other.shift().as_canonical_u64(), other.log_size()));
+        assert!(rt; found == *wanted, "case {index}");
+    }
 }

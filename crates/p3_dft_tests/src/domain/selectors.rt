@@ -3,8 +3,6 @@
 use crate::domain::numbers::{Domain, domain, extension, numbers};
 use p3_domain::{LagrangeSelectors, PolynomialSpace};
 use p3_field::{BabyBear, Field, PrimeField64};
-use std::alloc::Global;
-use std::test::Fail;
 
 /// A domain's shift and the logarithm of its size, a point, and the selectors there: of the first
 /// row, of the last, of all but the last, and the inverse of what vanishes on the domain.
@@ -48,22 +46,13 @@ fn at_point(domain: &Domain, point: [u64; 4]) -> Option<[[u64; 4]; 4]> {
     ])
 }
 
-/// The index of the first point at which selectors are others.
-fn first_wrong_point() -> Result<Option<usize>, Fail> {
-    for (index, (shift, log_size, point, wanted)) in AT_POINTS.iter().enumerate() {
-        let domain = domain(*shift, *log_size)?;
-        if at_point(&domain, *point) != Some(*wanted) {
-            return Ok(Some(index));
-        }
-    }
-    Ok(None)
-}
-
 #[test]
-fn selectors_at_points(rt: HostRuntime) -> Result<(), Fail> {
-    assert!(rt; first_wrong_point()? == None);
-    assert!(rt; at_point(&domain(31, 2)?, [777639964, 0, 0, 0]) == None);
-    Ok(())
+fn selectors_at_points(rt: HostRuntime) {
+    for (index, (shift, log_size, point, wanted)) in AT_POINTS.iter().enumerate() {
+        let found = at_point(&domain(&rt, *shift, *log_size), *point);
+        assert!(rt; found == Some(*wanted), "point {index}");
+    }
+    assert!(rt; at_point(&domain(&rt, 31, 2), [777639964, 0, 0, 0]) == None);
 }
 
 /// A domain's shift and the logarithm of its size, how many points a disjoint one has, and at each
@@ -91,36 +80,28 @@ const ON_COSETS: [(u64, usize, usize, &[[u64; 4]]); 2] = [
     ),
 ];
 
-/// The selectors' numbers at each point of a domain disjoint from this one.
-fn on_disjoint(alloc: Global, domain: &Domain, min_size: usize) -> Result<Vec<[u64; 4]>, Fail> {
-    let mut found = Vec::new(alloc);
-    let Some(coset) = domain.create_disjoint_domain(min_size) else {
-        return Err(Fail::new("no disjoint domain"));
-    };
-    for selectors in &domain.selectors_on_coset(alloc, coset)? {
-        found.push([
-            selectors.is_first_row.as_canonical_u64(),
-            selectors.is_last_row.as_canonical_u64(),
-            selectors.is_transition.as_canonical_u64(),
-            selectors.inv_vanishing.as_canonical_u64(),
-        ])?;
+/// Whether the selectors are as many as these numbers of four, and theirs.
+fn are_numbers(selectors: &[LagrangeSelectors<BabyBear>], numbers: &[[u64; 4]]) -> bool {
+    let mut same = selectors.len() == numbers.len();
+    for (selectors, [first, last, transition, inverse]) in selectors.iter().zip(numbers) {
+        same = same
+            && selectors.is_first_row.as_canonical_u64() == *first
+            && selectors.is_last_row.as_canonical_u64() == *last
+            && selectors.is_transition.as_canonical_u64() == *transition
+            && selectors.inv_vanishing.as_canonical_u64() == *inverse;
     }
-    Ok(found)
-}
-
-/// The index of the first domain with other selectors on a disjoint one.
-fn first_wrong_coset(alloc: Global) -> Result<Option<usize>, Fail> {
-    for (index, (shift, log_size, min_size, wanted)) in ON_COSETS.iter().enumerate() {
-        let domain = domain(*shift, *log_size)?;
-        if on_disjoint(alloc, &domain, *min_size)?.as_slice() != *wanted {
-            return Ok(Some(index));
-        }
-    }
-    Ok(None)
+    same
 }
 
 #[test]
-fn selectors_on_cosets(rt: HostRuntime) -> Result<(), Fail> {
-    assert!(rt; first_wrong_coset(rt.alloc())? == None);
-    Ok(())
+fn selectors_on_cosets(rt: HostRuntime) {
+    for (index, (shift, log_size, min_size, wanted)) in ON_COSETS.iter().enumerate() {
+        let domain = domain(&rt, *shift, *log_size);
+        let coset = domain.create_disjoint_domain(*min_size);
+        let coset = coset.expect(&rt, "no disjoint domain");
+        let found = domain
+            .selectors_on_coset(rt.alloc(), coset)
+            .expect(&rt, "memory");
+        assert!(rt; are_numbers(&found, *wanted), "domain {index}");
+    }
 }

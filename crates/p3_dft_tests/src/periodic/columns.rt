@@ -2,53 +2,42 @@
 
 use p3_field::{BabyBear, Field};
 use p3_periodic::{PeriodicColumns, PeriodicError};
-use std::alloc::{AllocError, Global};
-use std::test::Fail;
+use std::alloc::Global;
+use std::process::Abort;
 
-/// One more column, of these numbers.
-fn push_column(
-    alloc: Global,
-    table: &mut Vec<Vec<BabyBear>>,
-    numbers: &[u64],
-) -> Result<(), AllocError> {
+/// A column of these numbers.
+fn column_of(rt: &impl Abort, alloc: Global, numbers: &[u64]) -> Vec<BabyBear> {
     let mut column = Vec::new(alloc);
     for number in numbers {
-        column.push(BabyBear::from_u64(*number))?;
+        column
+            .push(BabyBear::from_u64(*number))
+            .expect(rt, "memory");
     }
-    table.push(column)?;
-    Ok(())
-}
-
-/// A table of one column of these numbers.
-pub(crate) fn one_column(alloc: Global, numbers: &[u64]) -> Result<Vec<Vec<BabyBear>>, AllocError> {
-    let mut table = Vec::new(alloc);
-    push_column(alloc, &mut table, numbers)?;
-    Ok(table)
+    column
 }
 
 /// A table of columns of these numbers.
-pub(crate) fn columns_of(
-    alloc: Global,
-    columns: &[&[u64]],
-) -> Result<Vec<Vec<BabyBear>>, AllocError> {
+pub(crate) fn columns_of(rt: &impl Abort, alloc: Global, columns: &[&[u64]]) -> Vec<Vec<BabyBear>> {
     let mut table = Vec::new(alloc);
     for numbers in columns {
-        push_column(alloc, &mut table, numbers)?;
+        table
+            .push(column_of(rt, alloc, *numbers))
+            .expect(rt, "memory");
     }
-    Ok(table)
+    table
 }
 
 /// Whether along 8 rows the table is refused for this reason, in these words.
 fn is_refused(
+    rt: &impl Abort,
     alloc: Global,
     table: &[Vec<BabyBear>],
     fault: PeriodicError,
     words: &str,
-) -> Result<bool, Fail> {
-    match PeriodicColumns::new(table, 8) {
-        Ok(_) => Ok(false),
-        Err(found) => Ok(found == fault && format!(in alloc; "{found}")?.as_str() == words),
-    }
+) -> bool {
+    let found = PeriodicColumns::new(table, 8).err();
+    let text = format!(in alloc; "{fault}").expect(rt, "memory");
+    found == Some(fault) && text.as_str() == words
 }
 
 /// Columns, the first that is malformed along 8 rows, and the words for it.
@@ -89,32 +78,25 @@ pub(crate) const REFUSED: [(&[&[u64]], PeriodicError, &str); 4] = [
     ),
 ];
 
-/// The words for the first of these tables that isn't refused so.
-fn first_wrong_refusal(alloc: Global) -> Result<Option<&'static str>, Fail> {
-    for (columns, fault, words) in REFUSED {
-        let table = columns_of(alloc, columns)?;
-        if !is_refused(alloc, &table, fault, words)? {
-            return Ok(Some(words));
-        }
+#[test]
+fn malformed_columns_are_named(rt: HostRuntime) {
+    for (columns, fault, words) in &REFUSED {
+        let table = columns_of(&rt, rt.alloc(), *columns);
+        assert!(rt;
+            is_refused(&rt, rt.alloc(), &table, *fault, *words),
+            "{words}"
+        );
     }
-    Ok(None)
 }
 
 #[test]
-fn malformed_columns_are_named(rt: HostRuntime) -> Result<(), Fail> {
-    let wrong = first_wrong_refusal(rt.alloc())?;
-    assert!(rt; wrong.is_none(), "{wrong:?}");
-    Ok(())
-}
-
-#[test]
-fn the_greatest_period(rt: HostRuntime) -> Result<(), Fail> {
+fn the_greatest_period(rt: HostRuntime) {
     let none: Vec<Vec<BabyBear>> = Vec::new(rt.alloc());
-    assert!(rt; PeriodicColumns::new(&none, 8)?.max_period().is_none());
-    let table = columns_of(rt.alloc(), &[&[5], &[1, 2, 3, 4], &[1, 3]])?;
-    let columns = PeriodicColumns::new(&table, 8)?;
+    let columns = PeriodicColumns::new(&none, 8).expect(&rt, "no columns");
+    assert!(rt; columns.max_period().is_none());
+    let table = columns_of(&rt, rt.alloc(), &[&[5], &[1, 2, 3, 4], &[1, 3]]);
+    let columns = PeriodicColumns::new(&table, 8).expect(&rt, "three columns");
     assert!(rt; columns.max_period() == Some(4));
     assert!(rt; columns.len() == 3);
     assert!(rt; columns.as_slice().len() == 3);
-    Ok(())
 }

@@ -10,26 +10,27 @@ use p3_periodic::{
     build_periodic_lde_table_two_adic,
 };
 use std::alloc::Global;
-use std::test::Fail;
+use std::process::Abort;
 
-/// The table of the columns, by an evaluator with a transform of its own.
-fn evaluated(
-    alloc: Global,
-    table: &[Vec<BabyBear>],
-    trace: &TwoAdicMultiplicativeCoset<BabyBear>,
-    domain: &TwoAdicMultiplicativeCoset<BabyBear>,
-) -> Result<PeriodicLdeTable<BabyBear>, PeriodicError>
-    requires { trace.now.log_size ≤ domain.now.log_size }
+type Domain = TwoAdicMultiplicativeCoset<BabyBear>;
+
+/// The trace's domain, and that of 16 points of shift 31.
+fn trace_and_domain(rt: &impl Abort) -> (Domain, Domain)
+    ensures { result.0.log_size ≤ result.1.log_size }
 {
-    TwoAdicPeriodicEvaluator::<Radix2Dit<BabyBear>>::eval_on_lde(alloc, table, trace, domain)
+    let trace = Domain::new(BabyBear::ONE, 3).expect(rt, "a trace of 8");
+    let domain = Domain::new(BabyBear::GENERATOR, 4).expect(rt, "a domain of 16");
+    (trace, domain)
 }
 
-/// The table of columns of these numbers, on the domain of shift 31.
-fn table_of(alloc: Global, columns: &[&[u64]]) -> Result<PeriodicLdeTable<BabyBear>, Fail> {
-    let trace = TwoAdicMultiplicativeCoset::new(BabyBear::ONE, 3).ok_or("a trace of 8")?;
-    let domain = TwoAdicMultiplicativeCoset::new(BabyBear::GENERATOR, 4).ok_or("a domain of 16")?;
-    let columns = columns_of(alloc, columns)?;
-    Ok(evaluated(alloc, &columns, &trace, &domain)?)
+/// The table of columns of these numbers, by an evaluator with a transform of its own.
+fn table_of(rt: &impl Abort, alloc: Global, columns: &[&[u64]]) -> PeriodicLdeTable<BabyBear> {
+    let (trace, domain) = trace_and_domain(rt);
+    let columns = columns_of(rt, alloc, columns);
+    let table = TwoAdicPeriodicEvaluator::<Radix2Dit<BabyBear>>::eval_on_lde(
+        alloc, &columns, &trace, &domain,
+    );
+    table.expect(rt, "the columns are refused")
 }
 
 /// The number that the table shows, if it has this column.
@@ -43,17 +44,20 @@ type Answer = Result<PeriodicLdeTable<BabyBear>, PeriodicError>;
 /// Entries of a table, by index and column.
 type Entries = &'static [(usize, usize, Option<u64>)];
 
-/// The first of these entries, by index and column, at which the table shows another number.
-fn first_wrong_entry(
+/// Asserts that the table has this height, and shows these entries.
+fn assert_shows(
+    rt: &impl Abort,
     table: &PeriodicLdeTable<BabyBear>,
+    height: usize,
     entries: Entries,
-) -> Option<(usize, usize)> {
+) {
+    assert!(rt; table.height() == height);
     for (index, column, wanted) in entries {
-        if shown(table, *index, *column) != *wanted {
-            return Some((*index, *column));
-        }
+        assert!(rt;
+            shown(table, *index, *column) == *wanted,
+            "entry {index}, {column}"
+        );
     }
-    None
 }
 
 const OF_TWO: Entries = &[
@@ -76,74 +80,59 @@ const OF_SEVERAL: Entries = &[
 ];
 
 #[test]
-fn a_column_of_two_has_four_rows(rt: HostRuntime) -> Result<(), Fail> {
-    let table = table_of(rt.alloc(), &[&[1, 3]])?;
-    assert!(rt; table.height() == 4);
-    let wrong = first_wrong_entry(&table, OF_TWO);
-    assert!(rt; wrong.is_none(), "{wrong:?}");
-    Ok(())
+fn a_column_of_two_has_four_rows(rt: HostRuntime) {
+    let table = table_of(&rt, rt.alloc(), &[&[1, 3]]);
+    assert_shows(&rt, &table, 4, OF_TWO);
 }
 
 #[test]
-fn a_constant_has_two_rows(rt: HostRuntime) -> Result<(), Fail> {
-    let table = table_of(rt.alloc(), &[&[5]])?;
-    assert!(rt; table.height() == 2);
-    let wrong = first_wrong_entry(&table, OF_A_CONSTANT);
-    assert!(rt; wrong.is_none(), "{wrong:?}");
-    Ok(())
+fn a_constant_has_two_rows(rt: HostRuntime) {
+    let table = table_of(&rt, rt.alloc(), &[&[5]]);
+    assert_shows(&rt, &table, 2, OF_A_CONSTANT);
 }
 
 #[test]
-fn columns_of_several_periods_stand_side_by_side(rt: HostRuntime) -> Result<(), Fail> {
-    let table = table_of(rt.alloc(), &[&[1, 3], &[1, 2, 3, 4], &[5], &[2, 4]])?;
-    assert!(rt; table.height() == 8);
-    let wrong = first_wrong_entry(&table, OF_SEVERAL);
-    assert!(rt; wrong.is_none(), "{wrong:?}");
-    Ok(())
+fn columns_of_several_periods_stand_side_by_side(rt: HostRuntime) {
+    let table = table_of(&rt, rt.alloc(), &[&[1, 3], &[1, 2, 3, 4], &[5], &[2, 4]]);
+    assert_shows(&rt, &table, 8, OF_SEVERAL);
 }
 
 #[test]
-fn no_columns_have_the_empty_table(rt: HostRuntime) -> Result<(), Fail> {
-    let table = table_of(rt.alloc(), &[])?;
-    assert!(rt; table.height() == 0);
-    assert!(rt; shown(&table, 0, 0).is_none());
-    Ok(())
+fn no_columns_have_the_empty_table(rt: HostRuntime) {
+    let table = table_of(&rt, rt.alloc(), &[]);
+    assert_shows(&rt, &table, 0, &[(0, 0, None)]);
 }
 
-/// The table of columns of these numbers by a given transform, on the domain of shift 31.
-fn transformed(alloc: Global, columns: &[&[u64]]) -> Result<Answer, Fail> {
-    let trace = TwoAdicMultiplicativeCoset::new(BabyBear::ONE, 3).ok_or("a trace of 8")?;
-    let domain = TwoAdicMultiplicativeCoset::new(BabyBear::GENERATOR, 4).ok_or("a domain of 16")?;
-    let columns = columns_of(alloc, columns)?;
+/// The table of columns of these numbers by a given transform.
+fn transformed(rt: &impl Abort, alloc: Global, columns: &[&[u64]]) -> Answer {
+    let (trace, domain) = trace_and_domain(rt);
+    let columns = columns_of(rt, alloc, columns);
     let dft = Radix2Dit::<BabyBear>::default();
-    Ok(TwoAdicPeriodicEvaluator::eval_on_lde_with_dft(alloc, &dft, &columns, &trace, &domain))
+    TwoAdicPeriodicEvaluator::eval_on_lde_with_dft(alloc, &dft, &columns, &trace, &domain)
 }
 
 /// The same by the function that stands by itself.
-fn built(alloc: Global, columns: &[&[u64]]) -> Result<Answer, Fail> {
-    let trace = TwoAdicMultiplicativeCoset::new(BabyBear::ONE, 3).ok_or("a trace of 8")?;
-    let domain = TwoAdicMultiplicativeCoset::new(BabyBear::GENERATOR, 4).ok_or("a domain of 16")?;
-    let columns = columns_of(alloc, columns)?;
+fn built(rt: &impl Abort, alloc: Global, columns: &[&[u64]]) -> Answer {
+    let (trace, domain) = trace_and_domain(rt);
+    let columns = columns_of(rt, alloc, columns);
     let dft = Radix2Dit::<BabyBear>::default();
-    Ok(build_periodic_lde_table_two_adic(alloc, &dft, &columns, &trace, &domain))
+    build_periodic_lde_table_two_adic(alloc, &dft, &columns, &trace, &domain)
 }
 
 #[test]
-fn a_given_transform_makes_the_table(rt: HostRuntime) -> Result<(), Fail> {
-    let table = transformed(rt.alloc(), &[&[1, 3]])??;
-    assert!(rt; table.height() == 4 && first_wrong_entry(&table, OF_TWO).is_none());
-    let table = built(rt.alloc(), &[&[1, 3]])??;
-    assert!(rt; table.height() == 4 && first_wrong_entry(&table, OF_TWO).is_none());
-    Ok(())
+fn a_given_transform_makes_the_table(rt: HostRuntime) {
+    let table = transformed(&rt, rt.alloc(), &[&[1, 3]]).expect(&rt, "the column is refused");
+    assert_shows(&rt, &table, 4, OF_TWO);
+    let table = built(&rt, rt.alloc(), &[&[1, 3]]).expect(&rt, "the column is refused");
+    assert_shows(&rt, &table, 4, OF_TWO);
 }
 
 #[test]
-fn malformed_columns_have_no_table(rt: HostRuntime) -> Result<(), Fail> {
-    for (columns, fault, words) in REFUSED {
-        let answer = transformed(rt.alloc(), columns)?;
-        assert!(rt; answer.err() == Some(fault), "{words}");
-        let answer = built(rt.alloc(), columns)?;
-        assert!(rt; answer.err() == Some(fault), "{words}");
+fn malformed_columns_have_no_table(rt: HostRuntime) {
+    for (columns, fault, words) in &REFUSED {
+        let answer = transformed(&rt, rt.alloc(), *columns);
+        assert!(rt; answer.err() == Some(*fault), "{words}");
+        let answer = built(&rt, rt.alloc(), *columns);
+        assert!(rt; answer.err() == Some(*fault), "{words}");
     }
-    Ok(())
 }

@@ -1,9 +1,9 @@
 //! What both sides draw, what the verifier is sent and what it returns.
 
-use crate::run::{Run, element, sole};
-use p3_field::{BabyBear, BabyBear4, ExtensionField, Field};
+use crate::run::{Run, element};
+use p3_field::{BabyBear, BabyBear4, Field};
 use p3_fri_core::PowPhase;
-use p3_fri_core::pcs_transcript::{PcsFailure, PcsTranscriptFailure, PlayedPcs, ReplayedPcs};
+use p3_fri_core::pcs_transcript::{PcsFailure, PcsTranscriptFailure};
 use p3_fri_core::transcript::{Refusal, TranscriptFailure};
 use p3_mmcs::CommitmentOpening;
 
@@ -177,21 +177,4 @@ pub(crate) struct PcsRun<F, EF> {
     pub alpha: EF,
     pub batch_witness: Option<F>,
     pub test: Run<F, EF>,
-}
-
-impl<F: Field, EF: ExtensionField<F>> PcsRun<F, EF> {
-    /// Whether it draws this before the test, behind this witness.
-    pub(crate) fn begins(&self, alpha: EF, batch_witness: Option<F>) -> bool {
-        alpha == self.alpha && batch_witness == self.batch_witness
-    }
-
-    /// Whether a verifier draws this along a whole opening.
-    pub(crate) fn is_replayed(&self, replayed: &ReplayedPcs<EF>) -> bool {
-        replayed.alpha == self.alpha && self.test.draws(sole(&replayed.betas), &replayed.indices)
-    }
-
-    /// Whether a prover's whole opening is this run.
-    pub(crate) fn is_played(&self, played: &PlayedPcs<F, EF>) -> bool {
-        self.begins(played.alpha, Some(played.batch_witness)) && self.test.is_played(&played.test)
-    }
 }

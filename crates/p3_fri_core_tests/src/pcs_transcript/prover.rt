@@ -10,6 +10,7 @@ use p3_field::{ExtensionField, Field};
 use p3_fri_core::pcs_transcript::{PcsProverTranscript, PcsShape, play_pcs};
 use p3_mmcs::OpenedValues;
 use std::alloc::Global;
+use std::process::Abort;
 
 /// Whether the prover's steps, with nothing inside the bracket, draw and find what the run does
 /// before the test.
@@ -18,6 +19,7 @@ pub(crate) fn proves_in_steps<
     EF: ExtensionField<F>,
     C: FieldChallenger<F> + GrindingChallenger<Witness = F>,
 >(
+    rt: &impl Abort,
     alloc: Global,
     challenger: &mut C,
     bits: usize,
@@ -28,24 +30,19 @@ pub(crate) fn proves_in_steps<
     requires bits { bits ≤ 63 }
 {
     let Ok(shape) = PcsShape::from_opened_values(alloc, &parameters(bits), values) else {
-        return false;
+        rt.panic("memory");
     };
     let Ok(mut transcript) = PcsProverTranscript::<C, F, EF>::new(alloc, challenger, shape) else {
-        return false;
+        rt.panic("memory");
     };
     transcript.claimed_openings(values);
-    match transcript.batch_phase() {
-        Ok((alpha, witness)) => {
-            let _lent = transcript.begin_delegate();
-            transcript.end_delegate();
-            transcript.finish();
-            run.begins(alpha, witness)
-        }
-        Err(_) => {
-            transcript.abort();
-            false
-        }
-    }
+    let Ok((alpha, witness)) = transcript.batch_phase() else {
+        rt.panic("no witness passes");
+    };
+    let _lent = transcript.begin_delegate();
+    transcript.end_delegate();
+    transcript.finish();
+    alpha == run.alpha && witness == run.batch_witness
 }
 
 /// Whether the prover's whole opening behind four bits, with a test of one round, is the run.
@@ -54,6 +51,7 @@ pub(crate) fn proves_as_a_whole<
     EF: ExtensionField<F>,
     C: FieldChallenger<F> + GrindingChallenger<Witness = F> + CanObserve<[u8; 32]>,
 >(
+    rt: &impl Abort,
     alloc: Global,
     challenger: &mut C,
     values: &OpenedValues<EF>,
@@ -64,13 +62,11 @@ pub(crate) fn proves_as_a_whole<
     requires constant { length final_poly.now ≡ 1 }
 {
     let Ok(shape) = PcsShape::from_opened_values(alloc, &parameters(4), values) else {
-        return false;
+        rt.panic("memory");
     };
-    let Ok(test) = test_of(alloc, &[3], 2, 3) else {
-        return false;
-    };
+    let test = test_of(rt, alloc, &[3], 2, 3);
     let commitments = [[7u8; 32]];
-    match play_pcs(
+    let played = play_pcs(
         alloc,
         challenger,
         shape,
@@ -78,8 +74,9 @@ pub(crate) fn proves_as_a_whole<
         test,
         &commitments,
         final_poly,
-    ) {
-        Ok(played) => run.is_played(&played),
-        Err(_) => false,
-    }
+    );
+    let played = played.expect(rt, "the prover is refused");
+    played.alpha == run.alpha
+        && Some(played.batch_witness) == run.batch_witness
+        && run.test.is_played(&played.test)
 }

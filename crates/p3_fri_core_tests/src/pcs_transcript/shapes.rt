@@ -7,7 +7,8 @@ use p3_field::{BabyBear, BabyBear4, Field};
 use p3_fri_core::FriParameters;
 use p3_fri_core::pcs_transcript::PcsShape;
 use p3_mmcs::{CommitmentOpening, MatrixOpening, OpenedValues, PointOpening};
-use std::alloc::{AllocError, Global};
+use std::alloc::Global;
+use std::process::Abort;
 
 /// The parameters of a test whose openings are batched behind so many bits of proof of work.
 pub(crate) fn parameters(batch_proof_of_work_bits: usize) -> FriParameters<()>
@@ -26,65 +27,70 @@ pub(crate) fn parameters(batch_proof_of_work_bits: usize) -> FriParameters<()>
 }
 
 /// The list of one value.
-fn listed<T: Drop>(alloc: Global, value: T) -> Result<Vec<T>, AllocError> {
+fn listed<T>(rt: &impl Abort, alloc: Global, value: T) -> Vec<T> {
     let mut values = Vec::new(alloc);
-    values.push(value)?;
-    Ok(values)
+    values.push(value).expect(rt, "memory");
+    values
 }
 
 /// The value one at one point of one matrix.
-pub(crate) fn one_value(alloc: Global) -> Result<OpenedValues<BabyBear4>, AllocError> {
-    let points = listed(alloc, listed(alloc, BabyBear4::ONE)?)?;
-    listed(alloc, listed(alloc, points)?)
+pub(crate) fn one_value(rt: &impl Abort, alloc: Global) -> OpenedValues<BabyBear4> {
+    let points = listed(rt, alloc, listed(rt, alloc, BabyBear4::ONE));
+    listed(rt, alloc, listed(rt, alloc, points))
 }
 
 /// The claim of so many values at one point of one matrix, or none at all.
-pub(crate) fn claims_of(alloc: Global, count: usize) -> Result<Vec<Claim<BabyBear4>>, AllocError> {
+pub(crate) fn claims_of(rt: &impl Abort, alloc: Global, count: usize) -> Vec<Claim<BabyBear4>> {
     let values = [BabyBear4::ONE, BabyBear4::ZERO, BabyBear4::ONE];
     if count == 0 || count > 3 {
-        return Ok(Vec::new(alloc));
+        return Vec::new(alloc);
     }
     let point = PointOpening {
         point: BabyBear4::ZERO,
-        values: Vec::from_slice(alloc, &values[..count])?,
+        values: Vec::from_slice(alloc, &values[..count]).expect(rt, "memory"),
     };
     let matrix = MatrixOpening {
         domain: (),
-        points: listed(alloc, point)?,
+        points: listed(rt, alloc, point),
     };
     let claim = CommitmentOpening {
         commitment: [7u8; 32],
-        matrices: listed(alloc, matrix)?,
+        matrices: listed(rt, alloc, matrix),
     };
-    listed(alloc, claim)
+    listed(rt, alloc, claim)
 }
 
 /// A list of lists.
-fn nested(alloc: Global, lists: &[&[usize]]) -> Result<Vec<Vec<usize>>, AllocError> {
+fn nested(rt: &impl Abort, alloc: Global, lists: &[&[usize]]) -> Vec<Vec<usize>> {
     let mut all = Vec::new(alloc);
     for list in lists {
-        all.push(Vec::from_slice(alloc, *list)?)?;
+        let list = Vec::from_slice(alloc, *list).expect(rt, "memory");
+        all.push(list).expect(rt, "memory");
     }
-    Ok(all)
+    all
 }
 
 /// A shape by its counts.
-pub(crate) fn shape_of(alloc: Global, counts: Counts) -> Result<PcsShape, AllocError> {
+pub(crate) fn shape_of(rt: &impl Abort, alloc: Global, counts: Counts) -> PcsShape {
     let mut claimed_evaluation_counts = Vec::new(alloc);
     for matrices in counts {
-        claimed_evaluation_counts.push(nested(alloc, *matrices)?)?;
+        claimed_evaluation_counts
+            .push(nested(rt, alloc, *matrices))
+            .expect(rt, "memory");
     }
-    Ok(PcsShape {
+    PcsShape {
         claimed_evaluation_counts,
         batch_pow_bits: 0,
-    })
+    }
 }
 
 /// The stream of a shape by its counts.
-fn stream_of(alloc: Global, counts: Counts) -> Result<Vec<u8>, AllocError> {
-    shape_of(alloc, counts)?
-        .domain_separator::<BabyBear, BabyBear4>(alloc)?
+fn stream_of(rt: &impl Abort, alloc: Global, counts: Counts) -> Vec<u8> {
+    let separator = shape_of(rt, alloc, counts).domain_separator::<BabyBear, BabyBear4>(alloc);
+    separator
+        .expect(rt, "memory")
         .seed_stream(alloc)
+        .expect(rt, "memory")
 }
 
 const TWO_MATRICES: Counts = &[&[&[3], &[3]]];
@@ -100,55 +106,37 @@ const GROUPINGS: [(&str, Counts, Counts); 3] = [
     ("commitments and points", TWO_COMMITMENTS, TWO_POINTS),
 ];
 
-/// Whether the shapes of these counts have two streams.
-fn differ(alloc: Global, one: Counts, other: Counts) -> bool {
-    match (stream_of(alloc, one), stream_of(alloc, other)) {
-        (Ok(one), Ok(other)) => one != other,
-        _ => false,
-    }
-}
-
 /// Numbers of claimed values at one point of one matrix, and the numbers of their shape.
 const CLAIMED: [(usize, Counts); 4] = [(0, &[]), (1, &[&[&[1]]]), (2, &[&[&[2]]]), (3, &[&[&[3]]])];
 
 /// Whether so many claimed values have the shape of these counts.
-fn claims_have_shape(alloc: Global, claimed: usize, counts: Counts) -> bool {
-    match claims_of(alloc, claimed) {
-        Ok(claims) => {
-            PcsShape::from_claims(alloc, &parameters(0), &claims) == shape_of(alloc, counts)
-        }
-        Err(_) => false,
-    }
+fn claims_have_shape(rt: &impl Abort, alloc: Global, claimed: usize, counts: Counts) -> bool {
+    let claims = claims_of(rt, alloc, claimed);
+    let shape = PcsShape::from_claims(alloc, &parameters(0), &claims).expect(rt, "memory");
+    shape == shape_of(rt, alloc, counts)
 }
 
 /// Whether a shape of three openings has six steps and is its clone.
-fn is_of_three_openings(alloc: Global, shape: &PcsShape) -> bool {
-    let (Ok(copy), Ok(pattern)) = (
-        shape.clone(alloc),
-        shape.pattern::<BabyBear, BabyBear4>(alloc),
-    ) else {
-        return false;
-    };
-    copy == *shape && shape.num_openings() == 3 && pattern.steps().len() == 6
-}
-
-fn shapes_have_their_openings(alloc: Global) -> bool {
-    match shape_of(alloc, &[&[&[3, 1], &[]], &[&[2]]]) {
-        Ok(shape) => is_of_three_openings(alloc, &shape),
-        Err(_) => false,
-    }
+fn shapes_have_their_openings(rt: &impl Abort, alloc: Global) -> bool {
+    let shape = shape_of(rt, alloc, &[&[&[3, 1], &[]], &[&[2]]]);
+    let copy = shape.clone(alloc).expect(rt, "memory");
+    let pattern = shape
+        .pattern::<BabyBear, BabyBear4>(alloc)
+        .expect(rt, "memory");
+    copy == shape && shape.num_openings() == 3 && pattern.steps().len() == 6
 }
 
 #[test]
 fn groupings_have_streams_of_their_own(rt: HostRuntime) {
     for (name, one, other) in &GROUPINGS {
-        assert!(rt; differ(rt.alloc(), *one, *other), "{name}");
+        let one = stream_of(&rt, rt.alloc(), *one);
+        assert!(rt; one != stream_of(&rt, rt.alloc(), *other), "{name}");
     }
     for (claimed, counts) in &CLAIMED {
         assert!(rt;
-            claims_have_shape(rt.alloc(), *claimed, *counts),
+            claims_have_shape(&rt, rt.alloc(), *claimed, *counts),
             "{claimed} claimed"
         );
     }
-    assert!(rt; shapes_have_their_openings(rt.alloc()));
+    assert!(rt; shapes_have_their_openings(&rt, rt.alloc()));
 }

@@ -7,26 +7,24 @@ use crate::pcs_transcript::shapes::{parameters, shape_of};
 use crate::run::shape_of as test_of;
 use p3_challenger::{CanObserve, FieldChallenger, GrindingChallenger};
 use p3_field::{ExtensionField, Field};
-use p3_fri_core::pcs_transcript::{
-    PcsFailure, PcsShape, PcsTranscriptFailure, PcsVerifierTranscript, replay_pcs,
-};
+use p3_fri_core::pcs_transcript::{PcsFailure, PcsShape, PcsVerifierTranscript, replay_pcs};
 use p3_fri_core::transcript::{FriMessages, Refusal};
 use std::alloc::Global;
-
-/// A step around the test that is refused.
-fn refused(failure: PcsTranscriptFailure) -> Answer {
-    Err(Refusal::Step(PcsFailure::Pcs(failure)))
-}
+use std::process::Abort;
 
 /// What the verifier returns for claims where these counts are described.
 pub(crate) fn compare<
     F: Field,
     EF: ExtensionField<F>,
     C: FieldChallenger<F> + GrindingChallenger<Witness = F>,
->(alloc: Global, challenger: &mut C, described: Counts, claims: &[Claim<EF>]) -> Answer {
-    let Ok(shape) = shape_of(alloc, described) else {
-        return Err(Refusal::Seed);
-    };
+>(
+    rt: &impl Abort,
+    alloc: Global,
+    challenger: &mut C,
+    described: Counts,
+    claims: &[Claim<EF>],
+) -> Answer {
+    let shape = shape_of(rt, alloc, described);
     let Ok(mut transcript) = PcsVerifierTranscript::<C, F, EF>::new(alloc, challenger, shape) else {
         return Err(Refusal::Seed);
     };
@@ -34,16 +32,17 @@ pub(crate) fn compare<
     transcript.abort();
     match answer {
         Ok(()) => Ok(false),
-        Err(failure) => refused(failure),
+        Err(failure) => Err(Refusal::Step(PcsFailure::Pcs(failure))),
     }
 }
 
-/// The verifier's steps, with nothing inside the bracket.
+/// The verifier's steps, with nothing inside the bracket. The claims are those described.
 pub(crate) fn verify_in_steps<
     F: Field,
     EF: ExtensionField<F>,
     C: FieldChallenger<F> + GrindingChallenger<Witness = F>,
 >(
+    rt: &impl Abort,
     alloc: Global,
     challenger: &mut C,
     bits: usize,
@@ -55,25 +54,26 @@ pub(crate) fn verify_in_steps<
     requires bits { bits ≤ 63 }
 {
     let Ok(shape) = PcsShape::from_claims(alloc, &parameters(bits), claims) else {
-        return Err(Refusal::Seed);
+        rt.panic("memory");
     };
     let Ok(mut transcript) = PcsVerifierTranscript::<C, F, EF>::new(alloc, challenger, shape) else {
-        return Err(Refusal::Seed);
+        rt.panic("memory");
     };
-    let failure = match transcript.claimed_openings(claims) {
-        Ok(()) => match transcript.batch_phase(witness) {
-            Ok(alpha) => {
-                let _lent = transcript.begin_delegate();
-                transcript.end_delegate();
-                transcript.finish();
-                return Ok(alpha == run.alpha);
-            }
-            Err(failure) => failure,
-        },
-        Err(failure) => failure,
+    let Ok(()) = transcript.claimed_openings(claims) else {
+        rt.panic("other claims are described");
     };
-    transcript.abort();
-    refused(failure)
+    match transcript.batch_phase(witness) {
+        Ok(alpha) => {
+            let _lent = transcript.begin_delegate();
+            transcript.end_delegate();
+            transcript.finish();
+            Ok(alpha == run.alpha)
+        }
+        Err(failure) => {
+            transcript.abort();
+            Err(Refusal::Step(PcsFailure::Pcs(failure)))
+        }
+    }
 }
 
 /// The verifier's whole opening behind four bits, with a test of one round.
@@ -82,6 +82,7 @@ pub(crate) fn verify_as_a_whole<
     EF: ExtensionField<F>,
     C: FieldChallenger<F> + GrindingChallenger<Witness = F> + CanObserve<[u8; 32]>,
 >(
+    rt: &impl Abort,
     alloc: Global,
     challenger: &mut C,
     claims: &[Claim<EF>],
@@ -92,13 +93,13 @@ pub(crate) fn verify_as_a_whole<
     requires { 4 ≤ C.MAX_SAMPLE_BITS }
 {
     let Ok(shape) = PcsShape::from_claims(alloc, &parameters(4), claims) else {
-        return Err(Refusal::Seed);
+        rt.panic("memory");
     };
-    let Ok(test) = test_of(alloc, &[3], 2, 3) else {
-        return Err(Refusal::Seed);
-    };
+    let test = test_of(rt, alloc, &[3], 2, 3);
     match replay_pcs(alloc, challenger, shape, claims, witness, test, sent) {
-        Ok(replayed) => Ok(run.is_replayed(&replayed)),
+        Ok(replayed) => Ok(
+            replayed.alpha == run.alpha && run.test.draws(&replayed.betas, &replayed.indices),
+        ),
         Err(refusal) => Err(refusal),
     }
 }

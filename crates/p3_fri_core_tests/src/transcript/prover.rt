@@ -8,34 +8,38 @@ use p3_challenger::{CanObserve, FieldChallenger, GrindingChallenger};
 use p3_field::{ExtensionField, Field};
 use p3_fri_core::transcript::{ProverTranscript, play_fri};
 use std::alloc::Global;
+use std::process::Abort;
 
 /// Whether the prover's transcript of one round and the queries is this run.
 pub(crate) fn proves<
     F: Field,
     EF: ExtensionField<F>,
     C: FieldChallenger<F> + GrindingChallenger<Witness = F> + CanObserve<[u8; 32]>,
->(alloc: Global, challenger: &mut C, form: Form, final_poly: &[EF], run: &Run<F, EF>) -> bool
+>(
+    rt: &impl Abort,
+    alloc: Global,
+    challenger: &mut C,
+    form: Form,
+    final_poly: &[EF],
+    run: &Run<F, EF>,
+) -> bool
     requires widths { 3 ≤ C.MAX_SAMPLE_BITS }
     requires constant { length final_poly.now ≡ 1 }
 {
-    let Ok(shape) = shape_of(alloc, &[3], 2, 3) else {
-        return false;
-    };
+    let shape = shape_of(rt, alloc, &[3], 2, 3);
     if let Form::Whole = form {
-        return match play_fri(alloc, challenger, shape, &[[7u8; 32]], final_poly) {
-            Ok(played) => run.is_played(&played),
-            Err(_) => false,
-        };
+        let played = play_fri(alloc, challenger, shape, &[[7u8; 32]], final_poly);
+        return run.is_played(&played.expect(rt, "the prover is refused"));
     }
     let Ok(mut transcript) = ProverTranscript::<C, F, EF>::new(alloc, challenger, shape) else {
-        return false;
+        rt.panic("memory");
     };
-    if let Ok((beta, commit_witness)) = transcript.commit_round([7u8; 32]) {
-        if let Ok((indices, query_witness)) = transcript.query_phase(alloc, final_poly) {
-            transcript.finish();
-            return run.finds(Some(beta), commit_witness, &indices, query_witness);
-        }
-    }
-    transcript.abort();
-    false
+    let Ok((beta, commit_witness)) = transcript.commit_round([7u8; 32]) else {
+        rt.panic("a round is refused");
+    };
+    let Ok((indices, query_witness)) = transcript.query_phase(alloc, final_poly) else {
+        rt.panic("the queries are refused");
+    };
+    transcript.finish();
+    run.finds(beta, commit_witness, &indices, query_witness)
 }

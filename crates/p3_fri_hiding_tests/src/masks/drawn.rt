@@ -7,7 +7,7 @@ use p3_field::{BabyBear, Field};
 use p3_matrix::RowMajorMatrix;
 use rand_chacha::ChaCha20Rng;
 use std::alloc::Global;
-use std::test::Fail;
+use std::process::Abort;
 
 /// What stands between the rows of a matrix and, where it is private, in four columns beside them.
 #[derive(Drop)]
@@ -90,23 +90,24 @@ fn is_read_masked(
 
 /// Whether that holds of the reading of each matrix.
 pub(crate) fn are_masked(
+    rt: &impl Abort,
     alloc: Global,
     readings: &[Reading],
     each: &[Entries],
     hidden: u8,
     masks: &mut Masks,
-) -> Result<bool, Fail> {
+) -> bool {
     if readings.len() != each.len() {
-        return Ok(false);
+        return false;
     }
     for index in 0..each.len() {
         let entries = &each[index];
-        let trace = matrix(alloc, entries.numbers, entries.width)?;
+        let trace = matrix(rt, alloc, entries.numbers, entries.width);
         if !is_read_masked(&readings[index], &trace, hidden, masks) {
-            return Ok(false);
+            return false;
         }
     }
-    Ok(true)
+    true
 }
 
 /// Whether the matrix has 8 columns on a domain of so many points, of the next words.

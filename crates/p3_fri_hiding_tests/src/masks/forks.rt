@@ -1,14 +1,10 @@
 //! Forks of a scheme.
 
-ghost use Rattle.std.specs.Prelude.{◌≡◌};
-
-use crate::commitments::Reading;
-use crate::committed::read_entries;
+use crate::asked::{Question, commits};
+use crate::commitments::CommitResult;
 use crate::matrices::{E, Entries, are_numbers, row_of};
-use crate::scheme::SMALL;
-use crate::schemes::{Scheme, fork_of, scheme_of};
 use std::alloc::Global;
-use std::test::Fail;
+use std::process::Abort;
 
 /// What is committed to by forks.
 static FORKED: [Entries; 1] = [Entries {
@@ -53,34 +49,27 @@ const ROWS: [[[u64; 5]; 2]; 3] = [
 ];
 
 /// Whether the first matrix that is read begins with these rows.
-fn begins_with(readings: &[Reading], rows: &[[u64; 5]; 2]) -> bool {
-    match readings.first() {
-        Some(reading) => {
-            are_numbers(row_of(&reading.whole, 0), &rows[0])
-                && are_numbers(row_of(&reading.whole, 1), &rows[1])
-        }
-        None => false,
-    }
-}
-
-/// Whether the first rows of what this scheme commits to next are these.
-fn commits_to(alloc: Global, scheme: &mut Scheme, rows: &[[u64; 5]; 2]) -> Result<bool, Fail>
-    requires { scheme.old.fri.log_blowup ≡ 2 }
-{
-    match read_entries(scheme, alloc, &FORKED, false)? {
-        Some(readings) => Ok(begins_with(&readings, rows)),
-        None => Ok(false),
+fn begins_with(answer: &CommitResult, rows: &[[u64; 5]; 2]) -> bool {
+    match answer {
+        Ok(committed) => match committed.readings.first() {
+            Some(reading) => {
+                are_numbers(row_of(&reading.whole, 0), &rows[0])
+                    && are_numbers(row_of(&reading.whole, 1), &rows[1])
+            }
+            None => false,
+        },
+        Err(_) => false,
     }
 }
 
 /// Whether two forks and the scheme itself draw masks of their own.
-pub(crate) fn forks_draw_masks_of_their_own(alloc: Global) -> Result<bool, Fail> {
-    let mut scheme = scheme_of(SMALL);
-    let mut first = fork_of(&mut scheme)?;
-    let mut second = fork_of(&mut scheme)?;
-    Ok(
-        commits_to(alloc, &mut scheme, &ROWS[2])?
-            && commits_to(alloc, &mut second, &ROWS[1])?
-            && commits_to(alloc, &mut first, &ROWS[0])?,
-    )
+pub(crate) fn forks_draw_masks_of_their_own(rt: &impl Abort, alloc: Global) -> bool {
+    match commits(rt, alloc, Question::ByForks(&FORKED)).as_slice() {
+        [by_scheme, by_second, by_first] => {
+            begins_with(by_scheme, &ROWS[2])
+                && begins_with(by_second, &ROWS[1])
+                && begins_with(by_first, &ROWS[0])
+        }
+        _ => false,
+    }
 }

@@ -1,15 +1,15 @@
 //! Chunks of a quotient, read where they recombine.
 
-use crate::commitments::Reading;
-use crate::committed::read_next;
+use crate::asked::commit;
+use crate::commitments::{Batch, Reading};
 use crate::input::Input;
+use crate::lists::two;
 use crate::matrices::{E, Entries, PI, are_numbers, coset, evaluations, row_of};
 use crate::scheme::SMALL;
-use crate::schemes::scheme_of;
 use p3_field::{BabyBear, Field};
 use p3_matrix::RowMajorMatrix;
 use std::alloc::Global;
-use std::test::Fail;
+use std::process::Abort;
 
 /// Two chunks of 16 rows, on the halves of the coset of 31 of 32 points.
 static CHUNKS: [Entries; 2] = [
@@ -91,11 +91,14 @@ fn are_masked_chunks(readings: &[Reading]) -> bool {
 }
 
 /// Whether that holds of the chunks where they are committed to.
-pub(crate) fn masked_chunks_recombine_to_the_quotient(alloc: Global) -> Result<bool, Fail> {
-    let five = coset(5, 0)?;
-    let chunks = Input::Chunks(evaluations(alloc, &CHUNKS, 0)?);
-    match read_next(&mut scheme_of(SMALL), alloc, chunks, &[five, five])? {
-        Some(readings) => Ok(are_masked_chunks(&readings)),
-        None => Ok(false),
+pub(crate) fn masked_chunks_recombine_to_the_quotient(rt: &impl Abort, alloc: Global) -> bool {
+    let five = coset(rt, 5, 0);
+    let batch = Batch {
+        input: Input::Chunks(evaluations(rt, alloc, &CHUNKS, 0)),
+        domains: two(rt, alloc, five, five),
+    };
+    match commit(rt, alloc, SMALL, batch) {
+        Ok(committed) => are_masked_chunks(&committed.readings),
+        Err(_) => false,
     }
 }

@@ -1,17 +1,15 @@
 //! Matrices that are committed to in turn.
 
-ghost use Rattle.std.specs.Prelude.{◌≡◌};
-
-use crate::committed::read_entries;
+use crate::asked::{Question, commit, commits};
+use crate::commitments::{CommitResult, batch_of};
 use crate::masks::drawn::{Masks, are_masked};
 use crate::matrices::{E, Entries, PI};
 use crate::scheme::{SMALL, generator};
-use crate::schemes::{Scheme, scheme_of};
 use std::alloc::Global;
-use std::test::Fail;
+use std::process::Abort;
 
 /// Matrices that are committed to in turn, and whether that is refused.
-struct Turn {
+pub(crate) struct Turn {
     each: &'static [Entries],
     is_refused: bool,
 }
@@ -44,7 +42,8 @@ const TOO_LOW: [Entries; 2] = [
     },
 ];
 
-static TWICE: [Turn; 2] = [
+/// The masks of a new scheme's commitments are the words of its generator in turn.
+pub(crate) static TWICE: [Turn; 2] = [
     Turn {
         each: &TRACES,
         is_refused: false,
@@ -55,7 +54,8 @@ static TWICE: [Turn; 2] = [
     },
 ];
 
-static AFTER_A_REFUSAL: [Turn; 3] = [
+/// A refusal takes none of the words.
+pub(crate) static AFTER_A_REFUSAL: [Turn; 3] = [
     Turn {
         each: &TOO_LOW,
         is_refused: true,
@@ -71,59 +71,53 @@ static AFTER_A_REFUSAL: [Turn; 3] = [
 ];
 
 /// Whether what is read is masked by the next words, or nothing is where that is refused.
-fn is_met(scheme: &mut Scheme, alloc: Global, turn: &Turn, masks: &mut Masks) -> Result<bool, Fail>
-    requires { scheme.old.fri.log_blowup ≡ 2 }
-    ensures { scheme.new.fri.log_blowup ≡ 2 }
-{
-    match read_entries(scheme, alloc, turn.each, false)? {
-        Some(readings) => {
-            Ok(!turn.is_refused && are_masked(alloc, &readings, turn.each, 4, masks)?)
-        }
-        None => Ok(turn.is_refused),
-    }
-}
-
-/// Whether that holds of each turn.
-fn are_met(
-    scheme: &mut Scheme,
+fn is_met(
+    rt: &impl Abort,
     alloc: Global,
-    turns: &[Turn],
+    turn: &Turn,
+    answer: &CommitResult,
     masks: &mut Masks,
-) -> Result<bool, Fail>
-    requires { scheme.old.fri.log_blowup ≡ 2 }
-{
+) -> bool {
+    match answer {
+        Ok(committed) => {
+            !turn.is_refused && are_masked(rt, alloc, &committed.readings, turn.each, 4, masks)
+        }
+        Err(_) => turn.is_refused,
+    }
+}
+
+/// Whether that holds of each turn of a new scheme, by the words of its generator.
+pub(crate) fn are_met(rt: &impl Abort, alloc: Global, turns: &[Turn]) -> bool {
+    let mut batches = Vec::with_capacity(alloc, turns.len()).expect(rt, "memory");
     for turn in turns {
-        if !is_met(&mut *scheme, alloc, turn, masks)? {
-            return Ok(false);
+        batches
+            .push(batch_of(rt, alloc, turn.each, false))
+            .expect(rt, "memory");
+    }
+    let results = commits(rt, alloc, Question::InTurn(SMALL, batches));
+    let mut masks = Masks::Words(generator());
+    for index in 0..turns.len() {
+        let answer = results.get(index).expect(rt, "a turn without an answer");
+        if !is_met(rt, alloc, &turns[index], answer, &mut masks) {
+            return false;
         }
     }
-    Ok(true)
-}
-
-/// Whether the masks of a new scheme's commitments are the words of its generator in turn.
-pub(crate) fn two_commitments_take_the_next_words(alloc: Global) -> Result<bool, Fail> {
-    are_met(
-        &mut scheme_of(SMALL),
-        alloc,
-        &TWICE,
-        &mut Masks::Words(generator()),
-    )
-}
-
-/// Whether a refusal takes none of the words.
-pub(crate) fn a_refusal_takes_no_words(alloc: Global) -> Result<bool, Fail> {
-    are_met(
-        &mut scheme_of(SMALL),
-        alloc,
-        &AFTER_A_REFUSAL,
-        &mut Masks::Words(generator()),
-    )
+    true
 }
 
 /// Whether all columns of preprocessed matrices are shown, with zeros between their rows.
-pub(crate) fn preprocessing_has_zeros_between_its_rows(alloc: Global) -> Result<bool, Fail> {
-    match read_entries(&mut scheme_of(SMALL), alloc, &TRACES, true)? {
-        Some(readings) => are_masked(alloc, &readings, &TRACES, 0, &mut Masks::Zeros),
-        None => Ok(false),
+pub(crate) fn preprocessing_has_zeros_between_its_rows(rt: &impl Abort, alloc: Global) -> bool {
+    match commit(rt, alloc, SMALL, batch_of(rt, alloc, &TRACES, true)) {
+        Ok(committed) => {
+            are_masked(
+                rt,
+                alloc,
+                &committed.readings,
+                &TRACES,
+                0,
+                &mut Masks::Zeros,
+            )
+        }
+        Err(_) => false,
     }
 }

@@ -1,23 +1,23 @@
 //! A private column opened once, and openings that are refused before anything is touched, after
 //! which the same column is opened.
 
-ghost use Rattle.std.specs.Prelude.{◌≡◌, IfOk, length};
+ghost use Rattle.std.specs.Prelude.{◌≡◌, length};
 
+use crate::asked::{Question, outcome};
+use crate::commitments::commit_column;
 use crate::judged::{Call, Outcome, are_moved, judge};
-use crate::matrices::{E, POINTS, SHORT_PI, points, points_if_any};
+use crate::lists::one;
+use crate::matrices::{E, POINTS, SHORT_PI, points};
 use crate::openings::shapes::{Counts, have_counts};
-use crate::openings::{Question, outcome};
 use crate::scheme::{SMALL, Setting};
 use crate::tested::Tested;
 use p3_challenger::Sha256Challenger;
-use p3_field::BabyBear4;
 use p3_fri_folding::FriProverError;
 use p3_fri_masks::HidingFriProverError;
 use p3_pcs::OpeningRequest;
-use p3_test_openings::listed::listed;
-use p3_test_openings::one::{commit_one, open_one};
+use p3_test_openings::one::open_one;
 use std::alloc::Global;
-use std::test::Fail;
+use std::process::Abort;
 
 /// A column that is opened by a scheme of that setting, or refused so.
 pub(crate) struct Case {
@@ -141,25 +141,26 @@ static CASES: [Case; 10] = [
 /// Asks for an opening at these points, if there are some, and says why it is refused. What was
 /// committed to is left as it was.
 fn refuse<P: Tested>(
+    rt: &impl Abort,
     scheme: &P,
     alloc: Global,
     held: &mut P::ProverData,
-    points: Option<Vec<BabyBear4>>,
+    at: &[[u64; 4]],
     challenger: &mut Sha256Challenger,
-) -> Result<Option<HidingFriProverError>, Fail>
+) -> Option<HidingFriProverError>
     requires prover { (P.rules scheme.now).InProverRange }
     requires openable { (P.rules scheme.now).CanOpen held.old }
     requires one_matrix { length ((P.rules scheme.now).committed_polynomials held.old) ≡ 1 }
-    ensures { IfOk result (λ _. held.new ≡ held.old) }
+    ensures { held.new ≡ held.old }
 {
-    let Some(points) = points else {
-        return Ok(None);
-    };
+    if at.is_empty() {
+        return None;
+    }
     let request = OpeningRequest {
         prover_data: &mut *held,
-        points: listed(alloc, points)?,
+        points: one(rt, alloc, points(rt, alloc, at)),
     };
-    let mut requests = listed(alloc, request)?;
+    let mut requests = one(rt, alloc, request);
     let answer = scheme.open(alloc, requests.as_mut_slice(), challenger);
     let Some(
         OpeningRequest {
@@ -168,59 +169,53 @@ fn refuse<P: Tested>(
         },
     ) = requests.pop()
     else {
-        return Err(Fail::new("no request is left"));
+        panic!(rt; "no request is left");
     };
     drop(requests);
     let _found = &mut *found;
     match answer {
-        Ok(_) => Err(Fail::new("the opening isn't refused")),
+        Ok(_) => panic!(rt; "the opening isn't refused"),
         Err(refusal) => {
-            if P::leaves(&refusal) {
-                Ok(Some(refusal))
-            } else {
-                Err(Fail::new("the data is touched"))
-            }
+            assert!(rt; P::leaves(&refusal), "the data is touched");
+            Some(refusal)
         }
     }
 }
 
 /// What comes of a case, by challengers that are new. The verifier's final polynomial is a
 /// constant.
-pub(crate) fn outcome_of<P: Tested>(alloc: Global, case: &Case) -> Result<Outcome, Fail> {
-    if case.setting.num_queries == 0 {
-        return Err(Fail::new("no queries"));
-    }
+pub(crate) fn outcome_of<P: Tested>(rt: &impl Abort, alloc: Global, case: &Case) -> Outcome {
+    assert!(rt; case.setting.num_queries != 0, "no queries");
     let (mut prover, mut verifier) = (Sha256Challenger::new(), Sha256Challenger::new());
-    let earlier = points_if_any(alloc, case.earlier)?;
-    let later = points(alloc, case.points)?;
+    let points = points(rt, alloc, case.points);
     let mut scheme = P::of(case.setting);
-    let column = scheme.column_of(alloc, case.numbers)?;
-    let (known, mut held) = commit_one::<BabyBear4, Sha256Challenger, P>(
-        &mut scheme,
-        alloc,
-        column,
-    )?;
-    let earlier = refuse(&scheme, alloc, &mut held, earlier, &mut prover)?;
+    let (known, mut held) = commit_column(rt, &mut scheme, alloc, case.numbers, false);
+    let earlier = refuse(rt, &scheme, alloc, &mut held, case.earlier, &mut prover);
+    let opened = match open_one(&scheme, alloc, known, &mut held, points, &mut prover) {
+        Ok(opened) => opened,
+        Err(_) => panic!(rt; "memory"),
+    };
     let mut has_random_values = false;
-    let answer = match open_one(&scheme, alloc, known, &mut held, later, &mut prover)? {
+    let answer = match opened {
         Ok(opened) => {
             has_random_values = P::has_random_values(&opened.proof, &[case.random]);
             let setting = Setting {
                 log_final_poly_len: 0,
                 ..case.setting
             };
-            Ok(judge::<P>(alloc, setting, Call::Verify, opened, &mut verifier)?)
+            Ok(judge::<P>(rt, alloc, setting, Call::Verify, opened, &mut verifier))
         }
         Err(refusal) => Err(refusal),
     };
-    Ok(Outcome {
+    Outcome {
         earlier,
         answer,
+        is_shown: false,
         has_random_values,
         is_opened: P::state_of(&held).is_opened,
         prover,
         verifier,
-    })
+    }
 }
 
 /// Whether the column is opened, accepted by a verifier that ends as the prover, and its data
@@ -245,19 +240,10 @@ fn is_as_wanted(case: &Case, outcome: &Outcome) -> bool {
         }
 }
 
-/// The first case that isn't answered so.
-fn first_wrong(alloc: Global) -> Result<Option<usize>, Fail> {
-    for (index, case) in CASES.iter().enumerate() {
-        if !is_as_wanted(case, &outcome(alloc, Question::Column(case))?) {
-            return Ok(Some(index));
-        }
-    }
-    Ok(None)
-}
-
 #[test]
-fn a_private_column_is_opened_or_left_as_it_was(rt: HostRuntime) -> Result<(), Fail> {
-    let wrong = first_wrong(rt.alloc())?;
-    assert!(rt; wrong.is_none(), "case {wrong:?}");
-    Ok(())
+fn a_private_column_is_opened_or_left_as_it_was(rt: HostRuntime) {
+    for (index, case) in CASES.iter().enumerate() {
+        let outcome = outcome(&rt, rt.alloc(), Question::Column(case));
+        assert!(rt; is_as_wanted(case, &outcome), "case {index}");
+    }
 }

@@ -2,19 +2,21 @@
 //! the claims, its own numbers or the index of preprocessing aren't those of the opening; and
 //! preprocessing opened again and again.
 
-use crate::calls::both::{OfBoth, commit_and_open_both};
-use crate::calls::preprocessed::{Answer, open_twice};
+use crate::asked::{Question, holds, outcome};
+use crate::calls::both::{Shown, commit_both, show_both};
+use crate::calls::preprocessed::open_preprocessed;
+use crate::commitments::commit_column;
 use crate::judged::{Call, Outcome, are_moved, judge};
 use crate::matrices::{E, POINTS, SHORT_PI, coset, element};
 use crate::openings::changes::{Change, change_claims};
 use crate::openings::shapes::{first_value, have_counts};
-use crate::openings::{Question, holds, outcome};
 use crate::scheme::{SMALL, Setting, VerifierError};
 use crate::tested::Tested;
 use p3_challenger::Sha256Challenger;
 use p3_field::{BabyBear4, Field};
+use p3_mmcs::OpenedValues;
 use std::alloc::Global;
-use std::test::Fail;
+use std::process::Abort;
 
 /// A change, the index that the verifier is told, its numbers, and what it answers: `accepted` or
 /// the refusal.
@@ -25,7 +27,7 @@ pub(crate) struct Case {
     answer: &'static str,
 }
 
-static CASES: [Case; 17] = [
+pub(crate) static CASES: [Case; 17] = [
     Case {
         change: Change::Nothing,
         index: Some(0),
@@ -157,41 +159,35 @@ static CASES: [Case; 17] = [
 ];
 
 /// What comes of a case: preprocessing and a private column, of 16 rows each, opened at one point,
-/// changed and judged. Preprocessing has no random values and the private column one for each
-/// codeword, and of the data the private alone counts as opened.
-pub(crate) fn outcome_of<P: Tested>(alloc: Global, case: &Case) -> Result<Outcome, Fail> {
-    let low = coset(1, 2)?;
+/// verified, changed and judged. Preprocessing has no random values and the private column one for
+/// each codeword, and of the data the private alone counts as opened.
+pub(crate) fn outcome_of<P: Tested>(rt: &impl Abort, alloc: Global, case: &Case) -> Outcome {
+    let low = coset(rt, 1, 2);
+    let point = element(POINTS[0]);
     let (mut prover, mut verifier) = (Sha256Challenger::new(), Sha256Challenger::new());
     let mut scheme = P::of(SMALL);
-    let public_column = scheme.column_of(alloc, &SHORT_PI)?;
-    let private_column = scheme.column_of(alloc, &E[16..])?;
-    let OfBoth {
-        made,
-        preprocessed,
-        private,
-    } = commit_and_open_both(
-        &mut scheme,
-        alloc,
-        public_column,
-        private_column,
-        element(POINTS[0]),
-        &mut prover,
-    )?;
-    let mut opened = made;
+    let mut both = commit_both(rt, &mut scheme, alloc, &SHORT_PI, &E[16..]);
+    let shown = show_both(rt, &scheme, alloc, &mut both, point, &mut prover);
+    let Shown {
+        mut opened,
+        verifier: shown,
+    } = shown;
     let has_random_values = P::has_random_values(&opened.proof, &[[1, 1, 0], [1, 1, 4]]);
-    let is_opened = P::state_of(&private).is_opened && !P::state_of(&preprocessed).is_opened;
+    let is_opened = P::state_of(&both.private).is_opened
+        && !P::state_of(&both.preprocessed).is_opened;
     P::change_random_values(&mut opened.proof, case.change);
     change_claims(alloc, &mut opened.claims, low, case.change);
     let call = Call::VerifyWithPreprocessing(case.index);
-    let judged = judge::<P>(alloc, case.setting, call, opened, &mut verifier)?;
-    Ok(Outcome {
+    let judged = judge::<P>(rt, alloc, case.setting, call, opened, &mut verifier);
+    Outcome {
         earlier: None,
         answer: Ok(judged),
+        is_shown: are_moved(&prover, &shown),
         has_random_values,
         is_opened,
         prover,
         verifier,
-    })
+    }
 }
 
 /// Whether this is printed so: `accepted` or the refusal.
@@ -224,51 +220,36 @@ fn is_answered(alloc: Global, case: &Case, outcome: &Outcome) -> bool {
     }
 }
 
-/// Whether the one value is zero, with no random values beside it.
-fn is_zero<P: Tested>(answer: &Answer<P::Proof>) -> bool {
-    match answer {
-        Ok((values, proof)) => {
-            have_counts(values, &[[1, 1, 1]])
-                && P::has_random_values(proof, &[[1, 1, 0]])
-                && first_value(values, 0, 0, 0) == Some(BabyBear4::ZERO)
-        }
-        Err(_) => false,
-    }
+/// Whether the one value is zero.
+fn is_zero(values: &OpenedValues<BabyBear4>) -> bool {
+    have_counts(values, &[[1, 1, 1]]) && first_value(values, 0, 0, 0) == Some(BabyBear4::ZERO)
 }
 
-/// Whether preprocessing of zeros is opened twice at one point, and doesn't count as opened.
-pub(crate) fn are_zeros_opened_twice<P: Tested>(alloc: Global) -> Result<bool, Fail> {
+/// Whether preprocessing of zeros is opened twice at one point, with no random values beside the
+/// proof, and doesn't count as opened. What was opened so may be opened again.
+pub(crate) fn are_zeros_opened_twice<P: Tested>(rt: &impl Abort, alloc: Global) -> bool {
+    let point = element(POINTS[0]);
+    let mut challenger = Sha256Challenger::new();
     let mut scheme = P::of(SMALL);
-    let column = scheme.column_of(alloc, &[0; 16])?;
-    let (first, second, held) = open_twice(
-        &mut scheme,
-        alloc,
-        column,
-        element(POINTS[0]),
-        &mut Sha256Challenger::new(),
-    )?;
-    Ok(is_zero::<P>(&first) && is_zero::<P>(&second) && !P::state_of(&held).is_opened)
+    let (_known, mut held) = commit_column(rt, &mut scheme, alloc, &[0; 16], true);
+    let first = open_preprocessed(rt, &scheme, alloc, &mut held, point, &mut challenger);
+    let second = open_preprocessed(rt, &scheme, alloc, &mut held, point, &mut challenger);
+    is_zero(&first.0)
+        && is_zero(&second.0)
+        && P::has_random_values(&first.1, &[[1, 1, 0]])
+        && P::has_random_values(&second.1, &[[1, 1, 0]])
+        && !P::state_of(&held).is_opened
 }
 
-/// The first case that isn't answered so.
-fn first_wrong(alloc: Global) -> Result<Option<usize>, Fail> {
+#[test]
+fn changed_openings_are_refused(rt: HostRuntime) {
     for (index, case) in CASES.iter().enumerate() {
-        if !is_answered(alloc, case, &outcome(alloc, Question::Columns(case))?) {
-            return Ok(Some(index));
-        }
+        let outcome = outcome(&rt, rt.alloc(), Question::Columns(case));
+        assert!(rt; is_answered(rt.alloc(), case, &outcome), "case {index}");
     }
-    Ok(None)
 }
 
 #[test]
-fn changed_openings_are_refused(rt: HostRuntime) -> Result<(), Fail> {
-    let wrong = first_wrong(rt.alloc())?;
-    assert!(rt; wrong.is_none(), "case {wrong:?}");
-    Ok(())
-}
-
-#[test]
-fn preprocessing_is_opened_twice(rt: HostRuntime) -> Result<(), Fail> {
-    assert!(rt; holds(rt.alloc(), Question::AreZerosOpened)?);
-    Ok(())
+fn preprocessing_is_opened_twice(rt: HostRuntime) {
+    assert!(rt; holds(&rt, rt.alloc(), Question::AreZerosOpened));
 }

@@ -14,7 +14,7 @@ use p3_pcs::Pcs;
 use p3_test_challengers::AlwaysOne;
 use p3_test_openings::one::{commit_one, open_one};
 use std::alloc::Global;
-use std::test::Fail;
+use std::process::Abort;
 
 /// Each proof of work in turn, and none.
 const WORKS: [Option<PowPhase>; 4] = [
@@ -24,76 +24,70 @@ const WORKS: [Option<PowPhase>; 4] = [
     Some(PowPhase::Query),
 ];
 
-/// Why a matrix that is committed to isn't opened at these points, and what that leaves of its
-/// data.
-fn commit_and_open<EF: Copy, C, P: Pcs<EF, C>>(
+/// Why a matrix that is committed to isn't opened at a point, and what that leaves of its data.
+fn commit_and_open<P: Pcs<BabyBear4, AlwaysOne>>(
+    rt: &impl Abort,
     scheme: &mut P,
     alloc: Global,
     evaluation: (P::Domain, RowMajorMatrix<P::Val>),
-    points: Vec<EF>,
-    challenger: &mut C,
-) -> Result<(Option<P::ProverError>, P::ProverData), Fail>
+) -> (Option<P::ProverError>, P::ProverData)
     requires prover { (P.rules scheme.old).InProverRange }
     requires committable { (P.rules scheme.old).CanCommit (evaluation ∷ []) }
 {
-    let (known, mut held) = commit_one::<EF, C, P>(&mut *scheme, alloc, evaluation)?;
-    let answer = open_one(&*scheme, alloc, known, &mut held, points, challenger)?;
-    Ok((answer.err(), held))
+    let points = points(rt, alloc, &POINTS[..1]);
+    let (known, mut held) = match commit_one::<BabyBear4, AlwaysOne, P>(
+        &mut *scheme,
+        alloc,
+        evaluation,
+    ) {
+        Ok(pair) => pair,
+        Err(_) => panic!(rt; "the commitment is refused"),
+    };
+    match open_one(&*scheme, alloc, known, &mut held, points, &mut AlwaysOne {}) {
+        Ok(answer) => (answer.err(), held),
+        Err(_) => panic!(rt; "memory"),
+    }
 }
 
 /// Why the hiding scheme doesn't open a column where that is asked for, and whether its data counts
 /// as opened then.
 fn refusal_and_mark(
+    rt: &impl Abort,
     alloc: Global,
     work: Option<PowPhase>,
-) -> Result<(Option<HidingFriProverError>, bool), Fail> {
-    let points = points(alloc, &POINTS[..1])?;
-    let column = column(alloc, &SHORT_PI)?;
-    let (refusal, held) = commit_and_open::<BabyBear4, AlwaysOne, Scheme>(
-        &mut scheme_of(Setting { work, ..SMALL }),
-        alloc,
-        column,
-        points,
-        &mut AlwaysOne {},
-    )?;
-    Ok((refusal, held.is_opened()))
+) -> (Option<HidingFriProverError>, bool) {
+    let mut scheme = scheme_of(Setting { work, ..SMALL });
+    let column = column(rt, alloc, &SHORT_PI);
+    let (refusal, held) = commit_and_open::<Scheme>(rt, &mut scheme, alloc, column);
+    (refusal, held.is_opened())
 }
 
 /// Why the plain scheme doesn't.
-fn plain_refusal(alloc: Global, work: Option<PowPhase>) -> Result<Option<FriProverError>, Fail> {
-    let points = points(alloc, &POINTS[..1])?;
-    let column = plain_column(alloc, &SHORT_PI)?;
-    let (refusal, _held) = commit_and_open::<BabyBear4, AlwaysOne, PlainScheme>(
-        &mut plain_scheme_of(Setting { work, ..SMALL }),
-        alloc,
-        column,
-        points,
-        &mut AlwaysOne {},
-    )?;
-    Ok(refusal)
+fn plain_refusal(rt: &impl Abort, alloc: Global, work: Option<PowPhase>) -> Option<FriProverError> {
+    let mut scheme = plain_scheme_of(Setting { work, ..SMALL });
+    let column = plain_column(rt, alloc, &SHORT_PI);
+    let (refusal, _held) = commit_and_open::<PlainScheme>(rt, &mut scheme, alloc, column);
+    refusal
 }
 
 /// Whether both schemes name the work that has no solution, and the hiding one's data counts as
 /// opened.
-fn is_named(alloc: Global, work: Option<PowPhase>) -> Result<bool, Fail> {
-    let (hiding, is_opened) = refusal_and_mark(alloc, work)?;
-    let plain = plain_refusal(alloc, work)?;
-    Ok(
-        is_opened
-            && match work {
-                Some(phase) => {
-                    let unsolved = FriProverError::NoPowWitness { phase };
-                    plain == Some(unsolved) && hiding == Some(HidingFriProverError::Fri(unsolved))
-                },
-                None => plain.is_none() && hiding.is_none(),
+fn is_named(rt: &impl Abort, alloc: Global, work: Option<PowPhase>) -> bool {
+    let (hiding, is_opened) = refusal_and_mark(rt, alloc, work);
+    let plain = plain_refusal(rt, alloc, work);
+    is_opened
+        && match work {
+            Some(phase) => {
+                let unsolved = FriProverError::NoPowWitness { phase };
+                plain == Some(unsolved) && hiding == Some(HidingFriProverError::Fri(unsolved))
             },
-    )
+            None => plain.is_none() && hiding.is_none(),
+        }
 }
 
 #[test]
-fn work_without_a_solution_is_named_by_its_phase(rt: HostRuntime) -> Result<(), Fail> {
+fn work_without_a_solution_is_named_by_its_phase(rt: HostRuntime) {
     for work in WORKS {
-        assert!(rt; is_named(rt.alloc(), work)?, "{work:?}");
+        assert!(rt; is_named(&rt, rt.alloc(), work), "{work:?}");
     }
-    Ok(())
 }

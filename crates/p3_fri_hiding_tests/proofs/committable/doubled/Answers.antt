@@ -3,13 +3,13 @@ use Rattle.p3_fri_hiding_tests.proofs.LargerDomains.{one_more_doubled, all_doubl
 use Rattle.p3_fri_hiding_tests.proofs.committable.doubled.Goals as goal
 
 pub loop-chunk-preserved : goal.loop-chunk-preserved
-loop-chunk-preserved c =
+loop-chunk-preserved g c =
     one_more_doubled (λ d. d.log_size) c.args.chunks.now c.loop-chunk.chunk-index
-    c.chunk-item.result c.loop-chunk.domains.items _ c.in_ok-coset.field-0 c.loop-chunk-test.true
-    c.chunk-item.is c.in_ok-push.ensures.items
-    (c.in_ok-coset.ensures ∙ ap (λ n. n + 1) c.log_size.ensures) c.loop-chunk.invariant
+    c.chunk-item.result c.loop-chunk.domains.items _ c.coset-domain.result c.loop-chunk-test.true
+    c.chunk-item.is (rw c.expect.ensures at c.push.ensures.items)
+    (c.coset-domain.ensures ∙ ap (λ n. n + 1) c.log_size.ensures) c.loop-chunk.invariant
 
 pub returns : goal.returns
-returns c =
+returns g c =
     all_doubled (λ d. d.log_size) c.args.chunks.now c.loop-chunk.chunk-index
     c.loop-chunk.domains.items c.loop-chunk-test.false c.loop-chunk.invariant

@@ -6,4 +6,4 @@ pub quotient_ldes-requires : goal.quotient_ldes-requires
 quotient_ldes-requires g c =
     subst (λ es. CanBeMasked g.F.Field.ops (λ d. d.shift) (λ d. d.log_size)
     g.F.TwoAdicField.TWO_ADICITY c.args.log_blowup es) c.deref.ensures.value
-    (c.in_ok-can_be_masked.ensures c.if-not-branch.false)
+    c.assert_can_be_masked.ensures

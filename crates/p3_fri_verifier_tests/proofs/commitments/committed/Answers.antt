@@ -6,6 +6,6 @@ pub commit-requires : goal.commit-requires
 commit-requires g c =
     record {
       heights = subst HavePowerHeights
-          (c.as_slice-2.ensures.value ∙ c.in_ok-all.ensures
+          (c.as_slice-2.ensures.value ∙ c.dimensions-all.ensures
           ∙ ap dimensions_of c.as_slice.ensures.value) (c.if-not-have_power_heights.ensures.0 refl);
     }

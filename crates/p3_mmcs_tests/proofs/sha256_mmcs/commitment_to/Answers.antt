@@ -1,4 +1,4 @@
-use Rattle.std.proofs.Common.{subst, ap, ◌∙◌, refl}
+use Rattle.std.proofs.Common.{subst, ap, ◌∙◌, rules}
 use Rattle.p3_mmcs.specs.Batch.{HavePowerHeights, dimensions_of}
 use Rattle.p3_mmcs_tests.proofs.sha256_mmcs.commitment_to.Goals as goal
 
@@ -6,6 +6,6 @@ pub commit-requires : goal.commit-requires
 commit-requires g c =
     record {
       heights = subst HavePowerHeights
-          (c.as_slice-2.ensures.value ∙ c.in_ok-all.ensures
-          ∙ ap dimensions_of c.as_slice.ensures.value) (c.if-have_power_heights.ensures.0 refl);
+          (c.deref-2.ensures.value ∙ c.dimensions-all.ensures
+          ∙ ap dimensions_of c.deref.ensures.value) (c.have_power_heights.ensures.0 (search rules));
     }

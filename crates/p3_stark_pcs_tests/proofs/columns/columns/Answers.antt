@@ -4,8 +4,8 @@ use Rattle.p3_fri_extensions.specs.Extension.{FitsDomain}
 use Rattle.p3_stark_pcs_tests.proofs.columns.columns.Goals as goal
 
 pub loop-shift-preserved : goal.loop-shift-preserved
-loop-shift-preserved c =
+loop-shift-preserved g c =
     subst (λ es. All (λ e. FitsDomain 27 1 e.0.log_size e.1) es)
-    (sym c.in_ok-push.ensures.items)
+    (sym (rw c.expect.ensures at c.push.ensures.items))
     (All-push (λ e. FitsDomain 27 1 e.0.log_size e.1) c.loop-shift.all.items
-    c.in_ok-column.field-0 c.loop-shift.invariant c.in_ok-column.ensures)
+    c.column.result c.loop-shift.invariant c.column.ensures)

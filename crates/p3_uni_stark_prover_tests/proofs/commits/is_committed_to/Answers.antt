@@ -10,8 +10,8 @@ commit-requires g c =
     let room = g.met.P.TwoAdicStarkPcs.room_law c.made-scheme.result 5 0 (small_hiding zk)
     (subst (λ b. 5 + hiding_bits zk + b ≤ 27) (sym c.made-scheme.ensures.log_blowup)
     (small_word zk)) in record {
-      room = subst (g.P.Pcs.rules c.made-scheme.result).CanCommit (sym c.in_ok-evaluations.ensures)
-          (room.trace c.trace_domain.result c.in_ok-matrix.matrix
+      room = subst (g.P.Pcs.rules c.made-scheme.result).CanCommit (sym c.one-evaluations.ensures)
+          (room.trace c.trace_domain.result c.trace-matrix.result
           (c.trace_domain.ensures.size ∙ ap (λ z. 5 + hiding_bits z) c.ZK.ensures)
-          c.in_ok-matrix.ensures.height);
+          c.trace-matrix.ensures.height);
     }

@@ -8,12 +8,12 @@ commit_preprocessing-requires g c =
     (let r = c.requires.room in omega (arith, r)) c.requires.room in
     let size = c.subgroup-domain.ensures.size ∙ c.with_hiding.ensures
     ∙ ap (λ z. c.args.log_height + hiding_bits z) c.ZK.ensures in record {
-      room = subst (g.P.Pcs.rules c.args.scheme.now).CanCommit (sym c.in_ok-evaluations.ensures)
+      room = subst (g.P.Pcs.rules c.args.scheme.now).CanCommit (sym c.one-evaluations.ensures)
           (room.trace c.subgroup-domain.result c.args.columns size c.requires.height);
     }
 
-pub returns-in-Ok-clause-held : goal.returns-in-Ok-clause-held
-returns-in-Ok-clause-held g c = λ k width heights widths. record {
+pub returns-clause-held : goal.returns-clause-held
+returns-clause-held g c = λ k width heights widths. record {
   committed = record { honest = search rules; commitment = search rules };
   openable = search rules;
   log_height = heights;

@@ -20,4 +20,5 @@ returns-clause-held g c = λ k is.
     let n = length c.args.instance.now.given.trace.items in
     let power : n ≡ 2 ^ c.log2_strict_usize-log_height.result = grind (arith, common_steps) in
     c.commit_columns.ensures.held k c.args.instance.now.air.layout.preprocessed_width
-    (same_power c.log2_strict_usize-log_height.result k n power is) c.in_ok-columns.ensures.width
+    (same_power c.log2_strict_usize-log_height.result k n power is)
+    (rw c.expect-columns.ensures at c.matrix_of_rows.ensures.width)

@@ -22,7 +22,7 @@ prove-requires-clause-statement g c =
 
 pub prove-requires-clause-preprocessed : goal.prove-requires-clause-preprocessed
 prove-requires-clause-preprocessed g c = λ k power.
-    let rows_are = ap length c.in_ok-trace.ensures.rows in
+    let rows_are = ap length (rw c.expect-trace.ensures at c.matrix_of_rows.ensures.rows) in
     let height : length c.args.instance.now.given.trace.items ≡ 2 ^ k
     = grind (arith, common_steps, rows_are, power) in
     held c.statement_of.result c.args.instance.now.air c.args.key c.statement_of.ensures.air

@@ -8,17 +8,17 @@ use Rattle.p3_fri_core_tests.proofs.transcript.prover.proves.Goals as goal
 pub commit_round-requires-clause-some_round_left : goal.commit_round-requires-clause-some_round_left
 commit_round-requires-clause-some_round_left g c =
     let d = g.EF.ExtensionField.DIMENSION in
-    let given = fri_shape c.in-Ok.shape in
-    let own = fri_shape c.in-Ok-new.transcript.shape in
-    let left = remaining c.in-Ok-new.transcript.script in
-    let one : RoundsLeft d given 1 left = subst (λ n. RoundsLeft d given n left) (ap (λ s. length s.log_arities) c.in-Ok.ensures) c.in-Ok-new.ensures.rounds in
-    (0, other_rounds_left d own given 1 left (sym c.in-Ok-new.ensures.starts.shape) one)
+    let given = fri_shape c.shape_of-shape.result in
+    let own = fri_shape c.in-Ok.transcript.shape in
+    let left = remaining c.in-Ok.transcript.script in
+    let one : RoundsLeft d given 1 left = subst (λ n. RoundsLeft d given n left) (ap (λ s. length s.log_arities) c.shape_of-shape.ensures) c.in-Ok.ensures.rounds in
+    (0, other_rounds_left d own given 1 left (sym c.in-Ok.ensures.starts.shape) one)
 
 pub query_phase-requires-clause-all_rounds_played : goal.query_phase-requires-clause-all_rounds_played
 query_phase-requires-clause-all_rounds_played g c =
     let d = g.EF.ExtensionField.DIMENSION in
-    let given = fri_shape c.in-Ok.shape in
-    let own = fri_shape c.in-Ok-new.transcript.shape in
-    let left = remaining c.in-Ok-new.transcript.script in
-    let one : RoundsLeft d given 1 left = subst (λ n. RoundsLeft d given n left) (ap (λ s. length s.log_arities) c.in-Ok.ensures) c.in-Ok-new.ensures.rounds in
-    other_rounds_left d _ own 0 _ (sym c.in-Ok-commit_round.ensures.kept.shape) (c.in-Ok-commit_round.ensures.steps 0 (other_rounds_left d own given 1 left (sym c.in-Ok-new.ensures.starts.shape) one))
+    let given = fri_shape c.shape_of-shape.result in
+    let own = fri_shape c.in-Ok.transcript.shape in
+    let left = remaining c.in-Ok.transcript.script in
+    let one : RoundsLeft d given 1 left = subst (λ n. RoundsLeft d given n left) (ap (λ s. length s.log_arities) c.shape_of-shape.ensures) c.in-Ok.ensures.rounds in
+    other_rounds_left d _ own 0 _ (sym c.in-Ok-commit_round.ensures.kept.shape) (c.in-Ok-commit_round.ensures.steps 0 (other_rounds_left d own given 1 left (sym c.in-Ok.ensures.starts.shape) one))

@@ -1,0 +1,38 @@
+//! Lists of few values.
+
+ghost use Rattle.std.specs.Prelude.{◌≡◌, [], ◌∷◌};
+
+use p3_test_openings::listed::{listed, pair};
+use std::alloc::Global;
+use std::process::Abort;
+
+/// A list of one value.
+pub(crate) fn one<T: Drop>(rt: &impl Abort, alloc: Global, value: T) -> Vec<T>
+    ensures { result.items ≡ value ∷ [] }
+{
+    listed(alloc, value).expect(rt, "memory")
+}
+
+/// A list of two.
+pub(crate) fn two<T: Drop>(rt: &impl Abort, alloc: Global, first: T, second: T) -> Vec<T>
+    ensures { result.items ≡ first ∷ second ∷ [] }
+{
+    pair(alloc, first, second).expect(rt, "memory")
+}
+
+/// A list of three.
+pub(crate) fn three<T: Drop>(
+    rt: &impl Abort,
+    alloc: Global,
+    first: T,
+    second: T,
+    third: T,
+) -> Vec<T>
+    ensures { result.items ≡ first ∷ second ∷ third ∷ [] }
+{
+    let mut values = Vec::with_capacity(alloc, 3).expect(rt, "memory");
+    values.push(first).expect(rt, "memory");
+    values.push(second).expect(rt, "memory");
+    values.push(third).expect(rt, "memory");
+    values
+}
