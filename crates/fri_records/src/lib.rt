@@ -1,5 +1,5 @@
-//! The records of requests, claims and parameters, which serde's formats write and read, and why one
-//! is refused: a fault by name, with its field.
+//! The records of requests, claims and parameters, which serde's formats write and read, and why
+//! one is refused: a fault by name, with its field.
 #![tactic(auto)]
 
 mod fault;

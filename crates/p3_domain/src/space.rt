@@ -7,7 +7,6 @@ ghost use Rattle.std.specs.Int.{IsPowerOfTwo};
 ghost use Rattle.algebra.specs.Polynomial.{tabulate};
 ghost use Rattle.p3_field_core.specs.Coset.{coset_points, vanishing};
 ghost use Rattle.p3_matrix.specs.Matrix.{rows, matrix_width};
-ghost use Rattle.p3_uni_stark_identity.specs.declared.selectors.LagrangeSelectors.{LagrangeSelectors};
 ghost use Rattle.p3_uni_stark_identity.specs.Selectors.{AreSelectorsAt};
 ghost use Rattle.p3_domain.specs.Domains.{IsCeilLog, HasRoom, IsOffDomain, IsSplitInto};
 ghost use Rattle.p3_domain.specs.Domains.{domain_point, strided_rows};

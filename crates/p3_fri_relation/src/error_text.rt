@@ -73,6 +73,13 @@ impl<CommitMmcsErr: fmt::Debug, InputErr: fmt::Debug> FriError<CommitMmcsErr, In
                 f,
                 "a set of batch {batch} has {got} rows for {expected} matrices"
             ),
+            _ => self.fmt_points(f),
+        }
+    }
+
+    /// Prints points at which matrices can't be claimed, or not with these values.
+    fn fmt_points<W: fmt::Write>(&self, f: &mut fmt::Formatter<W>) -> fmt::Result {
+        match self {
             FriError::MatrixWithoutOpeningPoints { batch, matrix } => write!(
                 f,
                 "matrix {matrix} of batch {batch} is claimed at no point"
@@ -99,7 +106,7 @@ impl<CommitMmcsErr: fmt::Debug, InputErr: fmt::Debug> FriError<CommitMmcsErr, In
         }
     }
 
-    /// Prints heights and arities that folds can't have.
+    /// Prints heights that folds can't begin at.
     fn fmt_folds<W: fmt::Write>(&self, f: &mut fmt::Formatter<W>) -> fmt::Result {
         match self {
             FriError::UnsupportedFoldingCap { max_log_arity } => write!(
@@ -121,6 +128,13 @@ impl<CommitMmcsErr: fmt::Debug, InputErr: fmt::Debug> FriError<CommitMmcsErr, In
                 f,
                 "the log height {log_global_max_height} is above the two-adicity {two_adicity}"
             ),
+            _ => self.fmt_schedule(f),
+        }
+    }
+
+    /// Prints what a schedule of folds can't have, and where it doesn't end.
+    fn fmt_schedule<W: fmt::Write>(&self, f: &mut fmt::Formatter<W>) -> fmt::Result {
+        match self {
             FriError::FinalFoldHeightMismatch { expected, got } => write!(
                 f,
                 "the rounds end at the log height {got}, not at {expected}"
@@ -144,13 +158,12 @@ impl<CommitMmcsErr: fmt::Debug, InputErr: fmt::Debug> FriError<CommitMmcsErr, In
                 f,
                 "no round reaches {next_log_height}: {remaining} reduced openings are left"
             ),
-            _ => self.fmt_hiding(f),
+            _ => self.fmt_random_values(f),
         }
     }
 
-    /// Prints what is refused of a scheme that hides. The last family: it names the variants that
-    /// the others print, so that a variant without a text isn't compiled.
-    fn fmt_hiding<W: fmt::Write>(&self, f: &mut fmt::Formatter<W>) -> fmt::Result {
+    /// Prints what the random values of a scheme that hides don't have as described.
+    fn fmt_random_values<W: fmt::Write>(&self, f: &mut fmt::Formatter<W>) -> fmt::Result {
         match self {
             FriError::HidingRandomOpeningRoundCountMismatch { expected, got } => write!(
                 f,
@@ -183,6 +196,13 @@ impl<CommitMmcsErr: fmt::Debug, InputErr: fmt::Debug> FriError<CommitMmcsErr, In
                 f,
                 "{got} random values for {expected}: round {round}, matrix {matrix}, point {point}"
             ),
+            _ => self.fmt_masks(f),
+        }
+    }
+
+    /// Prints what else is refused of a scheme that hides.
+    fn fmt_masks<W: fmt::Write>(&self, f: &mut fmt::Formatter<W>) -> fmt::Result {
+        match self {
             FriError::HidingPreprocessedCommitmentOutOfBounds { index, num_rounds } => write!(
                 f,
                 "no commitment {index} of {num_rounds}"
@@ -209,6 +229,13 @@ impl<CommitMmcsErr: fmt::Debug, InputErr: fmt::Debug> FriError<CommitMmcsErr, In
                 )?;
                 write!(f, " over an extension of degree {extension_degree}")
             },
+            _ => self.fmt_none(),
+        }
+    }
+
+    /// Names each variant, so that one without a text above isn't compiled unseen.
+    fn fmt_none(&self) -> fmt::Result {
+        match self {
             FriError::CommitPhaseOpeningsCountMismatch { .. }
             | FriError::CommitRoundCountMismatch { .. }
             | FriError::CommitPhaseQueryCountMismatch { .. }
@@ -239,6 +266,13 @@ impl<CommitMmcsErr: fmt::Debug, InputErr: fmt::Debug> FriError<CommitMmcsErr, In
             | FriError::InvalidPowWitness(_)
             | FriError::NonCanonicalPowWitness { .. }
             | FriError::OpeningPointMatchesQueryPoint { .. }
+            | FriError::HidingRandomOpeningRoundCountMismatch { .. }
+            | FriError::HidingRandomOpeningMatrixCountMismatch { .. }
+            | FriError::HidingRandomOpeningPointCountMismatch { .. }
+            | FriError::HidingRandomOpeningValueCountMismatch { .. }
+            | FriError::HidingPreprocessedCommitmentOutOfBounds { .. }
+            | FriError::InsufficientHidingRandomCodewords { .. }
+            | FriError::HidingBudgetExceeded { .. }
             | FriError::OutOfMemory => Ok(()),
         }
     }

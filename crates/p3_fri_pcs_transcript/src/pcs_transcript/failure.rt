@@ -1,9 +1,6 @@
 //! Why a verifier refuses along the transcript.
 
 ghost use Rattle.std.specs.Prelude.{◌≡◌};
-ghost use Rattle.p3_fri_pcs_transcript.specs.declared.pcs_transcript.failure.PcsTranscriptFailure.TheVariants.{
-  OutOfMemory,
-};
 
 use std::alloc::AllocError;
 use thiserror::Error;
@@ -35,7 +32,7 @@ pub enum PcsTranscriptFailure {
 }
 
 impl From<AllocError> for PcsTranscriptFailure {
-    ghost from_gives = { λ _ e. e ≡ OutOfMemory };
+    ghost from_gives = { λ _ e. e ≡ PcsTranscriptFailure.OutOfMemory };
 
     fn from(_error: AllocError) -> PcsTranscriptFailure {
         PcsTranscriptFailure::OutOfMemory
