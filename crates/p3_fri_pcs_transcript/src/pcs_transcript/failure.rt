@@ -1,6 +1,9 @@
 //! Why a verifier refuses along the transcript.
 
 ghost use Rattle.std.specs.Prelude.{◌≡◌};
+ghost use Rattle.p3_fri_pcs_transcript.specs.declared.pcs_transcript.failure.PcsTranscriptFailure.TheVariants.{
+  OutOfMemory,
+};
 
 use std::alloc::AllocError;
 use thiserror::Error;
@@ -32,7 +35,7 @@ pub enum PcsTranscriptFailure {
 }
 
 impl From<AllocError> for PcsTranscriptFailure {
-    ghost from_gives = { λ _ e. e ≡ PcsTranscriptFailure.OutOfMemory };
+    ghost from_gives = { λ _ e. e ≡ OutOfMemory };
 
     fn from(_error: AllocError) -> PcsTranscriptFailure {
         PcsTranscriptFailure::OutOfMemory
