@@ -21,6 +21,9 @@ use p3_uni_stark_verifier::{Statement, verify};
 use std::alloc::Global;
 use std::fmt;
 
+/// By which a verifier reads periodic columns.
+type Transform = Radix2Dit<BabyBear>;
+
 /// The least times of both calls.
 #[derive(Clone, Copy)]
 pub struct StarkWatches {
@@ -148,7 +151,7 @@ fn time_both<P: TwoAdicStarkPcs<BabyBear4, Sha256Challenger, Domain, Commitment 
         periodic: &[],
         public_values: &[],
     };
-    let mut challenger = Sha256Challenger::new();
+    let (mut challenger, mut verifier) = (Sha256Challenger::new(), Sha256Challenger::new());
     let start = now(rt);
     let proved = prove::<BabyBear, BabyBear4, [u8; 32], Sha256Challenger, P>(
         scheme,
@@ -162,21 +165,16 @@ fn time_both<P: TwoAdicStarkPcs<BabyBear4, Sha256Challenger, Domain, Commitment 
     let Ok(proof) = proved else {
         return Err(Fault::Refused);
     };
-    let mut verifier = Sha256Challenger::new();
     let start = now(rt);
-    let verified = verify::<
-        BabyBear,
-        BabyBear4,
-        [u8; 32],
-        Sha256Challenger,
-        Radix2Dit<BabyBear>,
-        P,
-    >(&*scheme, rt.alloc(), &statement, &proof, &mut verifier);
+    let verified = verify::<BabyBear, BabyBear4, [u8; 32], Sha256Challenger, Transform, P>(
+        &*scheme,
+        rt.alloc(),
+        &statement,
+        &proof,
+        &mut verifier,
+    );
     watches.verifies.see(rt, start);
-    match verified {
-        Ok(()) => Ok(()),
-        Err(_) => Err(Fault::Refused),
-    }
+    verified.or(Err(Fault::Refused))
 }
 
 /// Times both over a trace of `2^log_height` rows.

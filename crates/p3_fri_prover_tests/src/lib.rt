@@ -8,6 +8,8 @@ mod heights;
 #[cfg(test)]
 mod heights_joined;
 #[cfg(test)]
+mod line;
+#[cfg(test)]
 mod proofs;
 #[cfg(test)]
 mod unsolved;
