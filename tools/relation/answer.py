@@ -11,6 +11,8 @@ import sys
 import documents
 import field
 import prover
+import relation
+from chacha import Generator
 from challenger import Challenger
 from readers import end_with_reader
 from relation import log_heights
@@ -40,25 +42,66 @@ def demand_openable(parameters, claims):
                                      f"matrix: {number}, point: {place} }}")
 
 
+def committed(request):
+    """The data with the points of each of its matrices; what hides is drawn in this order."""
+    masking = request.masking
+    random = masking and Generator(masking.seed)
+
+    def rows_of(index, rows):
+        if masking is None:
+            return rows
+        if index == request.preprocessing:
+            return prover.padded(rows)
+        return prover.masked(rows, masking.num_random_codewords, random)
+
+    return [
+        (prover.commit(request.parameters, [rows_of(index, matrix.rows) for matrix in matrices],
+                       [matrix.shift for matrix in matrices]),
+         [matrix.points for matrix in matrices])
+        for index, matrices in enumerate(request.commitments)
+    ]
+
+
+def demand_masks(request, claims):
+    """That there are random columns and masks enough."""
+    if request.masking.num_random_codewords < field.DEGREE:
+        raise Unanswered("InsufficientRandomCodewords")
+    if relation.budget_faults(request.parameters, claims):
+        raise Unanswered("HidingBudgetExceeded")
+
+
 def opened(request, without_statement=False):
     """The statement that answers a request, and what is drawn after its proof.
 
     `without_statement` opens from a challenger that has absorbed nothing, as `forge.py` needs it.
     """
-    parameters = request.parameters
-    requests = [
-        (prover.commit(parameters, [matrix.rows for matrix in matrices],
-                       [matrix.shift for matrix in matrices]),
-         [matrix.points for matrix in matrices])
-        for matrices in request.commitments
-    ]
+    parameters, masking = request.parameters, request.masking
+    requests = committed(request)
     claims = prover.claims_of(requests)
+    if masking:
+        demand_masks(request, claims)
     demand_openable(parameters, claims)
+    hiding = masking and (masking.num_random_codewords, request.preprocessing)
+    shown = without_random_columns(claims, hiding) if hiding else claims
     challenger = (Challenger() if without_statement
-                  else statement_challenger(request.context, parameters, claims))
-    claims, proof = prover.open_plain(parameters, requests, challenger)
-    statement = documents.Statement(request.context, parameters, claims, proof)
+                  else statement_challenger(request.context, parameters, shown, hiding))
+    if masking is None:
+        claims, proof = prover.open_plain(parameters, requests, challenger)
+        hidden = None
+    else:
+        claims, hidden, proof = prover.open_hiding(parameters, requests, *hiding, challenger)
+    statement = documents.Statement(request.context, parameters, claims, proof, hidden)
     return statement, challenger.draw_element()
+
+
+def without_random_columns(claims, hiding):
+    """The claims without the values of random columns: their widths are those that are shown."""
+    codewords, preprocessing = hiding
+    for number, claim in enumerate(claims):
+        for matrix in claim.matrices:
+            for point in matrix.points:
+                prover.keep_back(point, 0 if number == preprocessing else codewords)
+    return claims
 
 
 def text_of(file):

@@ -19,6 +19,7 @@ from plain_form import (
     plain_from_proof,
     proof_from_plain,
 )
+from relation import Hiding
 
 GREATEST_DIFFICULTY = 63
 
@@ -39,6 +40,8 @@ EXPECTED = {
     "Commitment": "64 hex digits",
     "Digest": "digests of 32 bytes",
     "Context": "an even number of hex digits",
+    "Seed": "64 hex digits",
+    "Preprocessed": "at most one preprocessed commitment",
 }
 
 FAULTS_OF_PROOFS = {
@@ -119,6 +122,16 @@ def listed(entry):
     return read
 
 
+def flag(plain):
+    shape(isinstance(plain, bool))
+    return plain
+
+
+def optional(entry):
+    """The same of what there may be."""
+    return lambda plain: None if plain is None else entry(plain)
+
+
 def record(defaults=(), **entries):
     """Fields in any order; unknown ones are passed over, doubled and missing ones refused."""
     def read(plain):
@@ -152,22 +165,30 @@ PROOF = record(
     query_pow_witness=count,
 )
 
+HIDING_PROOF = record(random_values=listed(listed(listed(listed(NUMBERS)))), proof=PROOF)
+
 REQUEST = record(
-    {"context": ""},
+    {"context": "", "hiding": None},
     context=text_value,
     parameters=PARAMETERS,
-    commitments=listed(record(matrices=listed(record(
+    hiding=optional(record(num_random_codewords=count, seed=text_value)),
+    commitments=listed(record({"preprocessed": False}, preprocessed=flag, matrices=listed(record(
         domain=DOMAIN, width=count, values=NUMBERS, points=listed(NUMBERS))))),
 )
 
-STATEMENT = record(
-    {"context": ""},
-    context=text_value,
-    parameters=PARAMETERS,
-    claims=listed(record(commitment=text_value, matrices=listed(record(
+# a statement's fields but its proof, which is read by the scheme
+HEAD = {
+    "context": text_value,
+    "parameters": PARAMETERS,
+    "hiding": optional(record({"preprocessing": None}, num_random_codewords=count,
+                              preprocessing=optional(count))),
+    "claims": listed(record(commitment=text_value, matrices=listed(record(
         domain=DOMAIN, points=listed(record(point=NUMBERS, values=listed(NUMBERS))))))),
-    proof=PROOF,
-)
+}
+
+
+def statement_shape(hides):
+    return record({"context": "", "hiding": None}, **HEAD, proof=HIDING_PROOF if hides else PROOF)
 
 
 # Their records
@@ -182,12 +203,22 @@ class RequestedMatrix:
 
 
 @dataclass
+class Masking:
+    """By what the hiding scheme hides: how many random columns, and the seed of their values."""
+
+    num_random_codewords: int
+    seed: bytes
+
+
+@dataclass
 class Request:
     """What is to be committed to and opened; matrices nest by commitment."""
 
     context: bytes
     parameters: Parameters
     commitments: list
+    masking: Masking = None
+    preprocessing: int = None
 
 
 @dataclass
@@ -196,6 +227,7 @@ class Statement:
     parameters: Parameters
     claims: list
     proof: object
+    hiding: Hiding = None
 
 
 def hex_bytes(text, name, *place):
@@ -249,17 +281,38 @@ def matrix_claim(plain, *place):
     return MatrixClaim(plain["domain"]["log_size"], plain["domain"]["shift"], points)
 
 
-def statement_from(text):
-    plain = STATEMENT(json_value(text))
-    context = hex_bytes(plain["context"], "Context")
+def hides(value):
+    """Whether a JSON value is of the hiding scheme."""
+    return isinstance(value, Fields) and dict(value).get("hiding") is not None
+
+
+def hiding_proof(plain, hiding):
+    """A proof and what hides, if something does."""
     try:
-        proof, _ = proof_from_plain(plain["proof"])
+        if hiding is None:
+            return proof_from_plain(plain)[0], None
+        proof, random_values = proof_from_plain(plain["proof"], plain["random_values"])
     except Refused as refused:
         raise fault(FAULTS_OF_PROOFS[min(refused.faults)], "proof") from None
+    return proof, Hiding(hiding["num_random_codewords"], random_values, hiding["preprocessing"])
+
+
+def statement_from(text):
+    value = json_value(text)
+    plain = statement_shape(hides(value))(value)
+    context = hex_bytes(plain["context"], "Context")
+    proof, hiding = hiding_proof(plain["proof"], plain["hiding"])
     parameters = Parameters(**plain["parameters"])
     demand(parameters.log_final_height < 64, "LogFinalPolyLen")
     demand_difficulties(parameters)
-    return Statement(context, parameters, claims_from(plain["claims"]), proof)
+    return Statement(context, parameters, claims_from(plain["claims"]), proof, hiding)
+
+
+def masking_from(plain):
+    if plain is None:
+        return None
+    demand(len(plain["seed"]) == 64, "Seed")
+    return Masking(plain["num_random_codewords"], hex_bytes(plain["seed"], "Seed"))
 
 
 def requested_matrix(plain, most, *place):
@@ -284,14 +337,18 @@ def request_from(text):
     demand(parameters.max_log_arity > 0, "MaxLogArity")
     demand(parameters.num_queries > 0, "NumQueries")
     demand_difficulties(parameters)
-    most = field.TWO_ADICITY - parameters.log_blowup
+    masking = masking_from(plain["hiding"])
+    preprocessed = [index for index, batch in enumerate(plain["commitments"])
+                    if batch["preprocessed"]]
+    demand(len(preprocessed) < 2, "Preprocessed")
+    most = field.TWO_ADICITY - parameters.log_blowup - (masking is not None)
     commitments = [
         [requested_matrix(matrix, most, *at)
          for at, matrix in places("matrix", batch["matrices"], *place)]
         for place, batch in places("commitment", plain["commitments"])
     ]
     demand(any(commitments), "Matrices")
-    return Request(context, parameters, commitments)
+    return Request(context, parameters, commitments, masking, next(iter(preprocessed), None))
 
 
 def plain_claims(claims):
@@ -314,12 +371,24 @@ def plain_claims(claims):
     ]
 
 
+def plain_random_values(random_values):
+    return [[[plain_elements(values) for values in points] for points in matrices]
+            for matrices in random_values]
+
+
 def plain_statement(statement):
-    return {
-        "context": statement.context.hex(),
-        "parameters": vars(statement.parameters),
-        "claims": plain_claims(statement.claims),
-        "proof": plain_from_proof(statement.proof),
+    head = {"context": statement.context.hex(), "parameters": vars(statement.parameters)}
+    claims, proof = plain_claims(statement.claims), plain_from_proof(statement.proof)
+    hiding = statement.hiding
+    if hiding is None:
+        return head | {"claims": claims, "proof": proof}
+    return head | {
+        "hiding": {
+            "num_random_codewords": hiding.num_random_codewords,
+            "preprocessing": hiding.preprocessing,
+        },
+        "claims": claims,
+        "proof": {"random_values": plain_random_values(hiding.random_values), "proof": proof},
     }
 
 

@@ -9,6 +9,7 @@ from alterations import compact
 from documents import (
     DIGEST,
     FAULTS_OF_PROOFS,
+    HIDING_PROOF,
     NUMBERS,
     PARAMETERS,
     PROOF,
@@ -20,6 +21,7 @@ from documents import (
     fault,
     json_value,
     listed,
+    optional,
     places,
     record,
     shape,
@@ -33,11 +35,6 @@ from plain_form import (
     plain_from_proof,
 )
 from stark_relation import Commitments, OpenedValues, Scheme, StarkProof
-
-
-def optional(entry):
-    """The same of what there may be."""
-    return lambda plain: None if plain is None else entry(plain)
 
 
 def pair(plain):
@@ -86,7 +83,6 @@ VALUES = listed(NUMBERS)
 OPENED_VALUES = record(
     trace_local=VALUES, trace_next=VALUES, preprocessed_local=VALUES, preprocessed_next=VALUES,
     quotient_chunks=listed(VALUES), random=VALUES)
-HIDING_PROOF = record(random_values=listed(listed(listed(VALUES))), proof=PROOF)
 
 
 def proof_shape(hides):

@@ -38,9 +38,19 @@ def statement_stream(context, parameters, claims):
         labels_of(context, parameters, claims))
 
 
-def statement_challenger(context, parameters, claims):
-    """The challenger from which claims are opened and verified."""
+def hiding_stream(num_random_codewords, preprocessing):
+    """The stream that the hiding scheme absorbs before a statement."""
+    named = (0,) if preprocessing is None else (1, preprocessing)
+    return transcript.stream(b"p3-fri-hiding", transcript.bracket(b"statement"),
+                             [numbers(num_random_codewords, *named)])
+
+
+def statement_challenger(context, parameters, claims, hiding=None):
+    """The challenger from which claims are opened and verified; `hiding` are the numbers of random
+    columns and of preprocessing, if the scheme hides."""
     challenger = Challenger()
+    if hiding:
+        transcript.observe_stream(challenger, hiding_stream(*hiding))
     transcript.observe_stream(challenger, statement_stream(context, parameters, claims))
     return challenger
 

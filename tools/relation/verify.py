@@ -29,10 +29,16 @@ def verdict(statement, without_statement=False):
     heights = relation.log_heights(parameters, claims)
     found = relation.parameter_faults(parameters) | relation.height_faults(parameters, heights)
     found |= relation.input_count_faults(parameters, claims, proof)
+    hiding = statement.hiding
+    named = hiding and (hiding.num_random_codewords, hiding.preprocessing)
+    if hiding:
+        found |= relation.hiding_faults(parameters, hiding, claims)
     if found:
         return relation.Verdict(found)
     challenger = (Challenger() if without_statement
-                  else statement_challenger(statement.context, parameters, claims))
+                  else statement_challenger(statement.context, parameters, claims, named))
+    if hiding:
+        return relation.hiding_verdict(parameters, hiding, claims, proof, challenger)
     return relation.plain_verdict(parameters, claims, proof, challenger)
 
 
