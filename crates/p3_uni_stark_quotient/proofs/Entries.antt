@@ -1,6 +1,6 @@
 -- What constraints see at a point of a coset.
 use Rattle.std.proofs.Common.{◌≡◌, ◌≢◌, ℕ, ◌+◌, ◌-◌, ◌*◌, ◌%◌, ◌^◌, ◌<◌, ◌≤◌, List, [], ◌∷◌, length, get_or}
-use Rattle.std.proofs.Common.{All, refl, sym, ap, subst, ◌∙◌, ◌⊎◌, inl, inr, arith, mod-lt}
+use Rattle.std.proofs.Common.{All, refl, sym, ap, ◌∙◌, ◌⊎◌, inl, inr, arith, mod-lt}
 use Rattle.std.proofs.Math.Nat.{mod-eq_of_lt, add-mod_right}
 use Rattle.std.proofs.lemmas.List.{get_or_past}
 use Rattle.std.proofs.lemmas.Nat.{pow_below}

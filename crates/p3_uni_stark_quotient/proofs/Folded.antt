@@ -1,13 +1,13 @@
 -- The quotient's value at a point, by values in the base field.
 use Rattle.std.proofs.Common.{◌≡◌, ◌≢◌, ℕ, ◌<◌, List, length, map, get_or, reverse, All}
-use Rattle.std.proofs.Common.{refl, sym, ap, ap₂, subst, ◌∙◌, arith}
+use Rattle.std.proofs.Common.{sym, ap, ap₂, subst, ◌∙◌, arith}
 use Rattle.std.proofs.lemmas.List.{length-map, get_or-map}
 use Rattle.algebra.specs.Field.{FieldOps, IsField, IsHomomorphism, sub, pow}
 use Rattle.algebra.specs.Polynomial.{val, tabulate, sum_below}
 use Rattle.algebra.proofs.Combine.{sub-eq}
 use Rattle.algebra.proofs.RingLaws.{one_mul}
 use Rattle.algebra.proofs.Lifting.{homomorphism-sub, homomorphism-inv}
-use Rattle.algebra.proofs.Lists.{map-map, map-agree, length-tabulate, get_or-tabulate}
+use Rattle.algebra.proofs.Lists.{map-map, map-agree, get_or-tabulate}
 use Rattle.algebra.proofs.Lists.{each_from_All, All_from_each}
 use Rattle.algebra.proofs.PolynomialProduct.{sum_below-equal}
 use Rattle.algebra.proofs.Powers.{homomorphism-pow}
@@ -18,7 +18,7 @@ use Rattle.p3_air.specs.declared.air.Rows.{Rows}
 use Rattle.p3_air.specs.declared.air.Rows.TheVariants as rows
 use Rattle.p3_air.specs.declared.air.Constraint.{Constraint}
 use Rattle.p3_air.specs.Nodes.{Entries, meanings, values_in}
-use Rattle.p3_air_laws.specs.Composition.{selector, selected, folded}
+use Rattle.p3_air_laws.specs.Composition.{selector, selected}
 use Rattle.p3_air_laws.proofs.Folded.{each-reverse}
 use Rattle.p3_air_laws.proofs.Lifted.{lifted_value}
 use Rattle.p3_uni_stark_identity.specs.declared.selectors.LagrangeSelectors.{LagrangeSelectors}

@@ -1,9 +1,9 @@
 -- Rows of columns' polynomials, and cosets that meet no subgroup.
-use Rattle.std.proofs.Common.{◌≡◌, ◌≢◌, ℕ, ◌+◌, ◌-◌, ◌*◌, ◌/◌, ◌%◌, ◌^◌, ◌<◌, ◌≤◌, List, length, map}
-use Rattle.std.proofs.Common.{sym, ap, ap₂, ◌∙◌, arith, mul_comm, pow_pos, mod-lt}
+use Rattle.std.proofs.Common.{◌≡◌, ◌≢◌, ℕ, ◌+◌, ◌-◌, ◌*◌, ◌/◌, ◌%◌, ◌^◌, ◌<◌, ◌≤◌, length, map}
+use Rattle.std.proofs.Common.{sym, ap, ◌∙◌, arith, mul_comm, pow_pos, mod-lt}
 use Rattle.std.proofs.Math.Nat.{div-add-mod}
 use Rattle.std.proofs.lemmas.Nat.{pow-add}
-use Rattle.algebra.specs.Field.{FieldOps, IsField, IsHomomorphism, sub, pow}
+use Rattle.algebra.specs.Field.{FieldOps, IsField, IsHomomorphism, pow}
 use Rattle.algebra.specs.Quotients.{values_at}
 use Rattle.algebra.specs.TwoAdic.{AreRoots}
 use Rattle.algebra.proofs.Combine.{sub-eq}
@@ -13,7 +13,6 @@ use Rattle.algebra.proofs.RingLaws.{one_mul}
 use Rattle.p3_field_core.specs.Coset.{coset_point}
 use Rattle.stark_algebra.specs.Selectors.{zerofier}
 use Rattle.p3_air.specs.declared.air.Air.{Air}
-use Rattle.p3_air.specs.Nodes.{Entries}
 use Rattle.p3_air.specs.Satisfied.{row_at}
 use Rattle.p3_air_laws.specs.Columns.{Columns, entries_over}
 use Rattle.p3_air_laws.specs.Composition.{folded}

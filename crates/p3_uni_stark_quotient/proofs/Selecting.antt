@@ -9,7 +9,6 @@ use Rattle.algebra.proofs.Lifting.{identity_homomorphism}
 use Rattle.algebra.proofs.Lists.{length-tabulate, get_or-tabulate}
 use Rattle.algebra.proofs.Powers.{pow-mul, pow-times}
 use Rattle.p3_field_core.specs.Coset.{coset_point}
-use Rattle.stark_algebra.specs.Selectors.{zerofier}
 use Rattle.p3_uni_stark_identity.specs.declared.selectors.LagrangeSelectors.{LagrangeSelectors}
 use Rattle.p3_uni_stark_identity.specs.Selectors.{AreSelectorsAt}
 use Rattle.p3_uni_stark_identity.specs.Laws.{IsOffSubgroup}

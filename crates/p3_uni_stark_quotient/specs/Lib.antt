@@ -1,4 +1,6 @@
 pub mod Chunked
 pub mod Given
+pub mod Lanes
 pub mod Laws
+pub mod Prepared
 pub mod Quotient

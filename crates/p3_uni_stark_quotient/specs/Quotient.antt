@@ -1,5 +1,5 @@
 -- The quotient's values on a coset.
-use Rattle.std.specs.Prelude.{ℕ, ◌+◌, ◌^◌, List, map}
+use Rattle.std.specs.Prelude.{ℕ, ◌^◌, List, map}
 use Rattle.algebra.specs.Field.{FieldOps}
 use Rattle.algebra.specs.Polynomial.{tabulate}
 use Rattle.p3_field_core.specs.Coset.{coset_point}

@@ -25,7 +25,10 @@ pub struct CosetColumns<'a, F> {
 }
 
 /// The row at this index, empty past the last.
-fn row_or_empty<'a, F: Copy>(matrix: Option<&'a RowMajorMatrix<F>>, index: usize) -> &'a [F]
+pub(crate) fn row_or_empty<'a, F: Copy>(
+    matrix: Option<&'a RowMajorMatrix<F>>,
+    index: usize,
+) -> &'a [F]
     ensures { result.now ≡ slice_index_or (rows_if_any matrix.entry) index [] }
 {
     match matrix {
@@ -35,7 +38,7 @@ fn row_or_empty<'a, F: Copy>(matrix: Option<&'a RowMajorMatrix<F>>, index: usize
 }
 
 /// The number of rows, 0 where there is no matrix.
-fn height_of<F: Copy>(matrix: Option<&RowMajorMatrix<F>>) -> usize
+pub(crate) fn height_of<F: Copy>(matrix: Option<&RowMajorMatrix<F>>) -> usize
     ensures { result ≡ length (rows_if_any matrix.entry) }
 {
     match matrix {

@@ -3,10 +3,14 @@
 //! values.
 #![tactic(auto)]
 
+mod blocks;
 pub mod chunks;
 pub mod columns;
+mod lanes;
 pub mod laws;
+mod packed;
 mod row;
+mod rows;
 pub mod selectors;
 pub mod values;
 

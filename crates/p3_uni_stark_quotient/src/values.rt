@@ -6,12 +6,15 @@ ghost use Rattle.p3_uni_stark_identity.specs.Laws.{IsOffSubgroup};
 ghost use Rattle.p3_uni_stark_quotient.specs.Given.{on_coset, FitsCoset};
 ghost use Rattle.p3_uni_stark_quotient.specs.Quotient.{quotient_on_coset};
 
-use crate::columns::{CosetColumns, window_at};
-use crate::row::quotient_at_row;
+use crate::blocks::{num_blocks, push_blocks};
+use crate::columns::CosetColumns;
+use crate::rows::{Prepared, push_rows};
 use crate::selectors::selectors_on_coset;
 use p3_air::{Air, Constraint};
 use p3_field_core::powers::powers;
-use p3_field_core::{ExtensionField, TwoAdicField, TwoAdicMultiplicativeCoset};
+use p3_field_core::{
+    ExtensionField, PackableField, PackedField, TwoAdicField, TwoAdicMultiplicativeCoset,
+};
 use std::alloc::{AllocError, Global};
 
 /// The constraints, the last one first.
@@ -30,10 +33,10 @@ fn reversed_constraints(
 /// of `alpha`, over the value of the polynomial that vanishes on the trace's domain of `2^log_size`
 /// points. The coset has `2^log_num_chunks` times as many points and doesn't meet that domain.
 ///
-/// Rows are gone through one after another; nothing grows within a row, the selectors of all points
-/// come of three inversions, and values are put together in the extension by products with elements
-/// of the base field alone.
-pub fn quotient_values<F: TwoAdicField, EF: ExtensionField<F>>(
+/// Rows are gone through in blocks, several at once by lanes where the field's elements are packed;
+/// nothing grows within a block, the selectors of all points come of three inversions, and values
+/// are put together in the extension by products with elements of the base field alone.
+pub fn quotient_values<F: TwoAdicField + PackableField, EF: ExtensionField<F>>(
     alloc: Global,
     air: &Air<F>,
     columns: &CosetColumns<'_, F>,
@@ -52,26 +55,19 @@ pub fn quotient_values<F: TwoAdicField, EF: ExtensionField<F>>(
 {
     let all_selectors = selectors_on_coset(alloc, log_size, coset)?;
     let constraints = reversed_constraints(alloc, air.constraints.as_slice())?;
-    let reversed = constraints.as_slice();
-    let all_powers = powers(alloc, alpha, reversed.len())?;
-    let weights = all_powers.as_slice();
-    let mut nodes = Vec::with_capacity(alloc, air.nodes.len())?;
-    let mut selected = Vec::with_capacity(alloc, reversed.len())?;
-    let step = 1usize << log_num_chunks;
+    let all_powers = powers(alloc, alpha, constraints.len())?;
+    let prepared = Prepared {
+        air,
+        columns: *columns,
+        reversed: constraints.as_slice(),
+        powers: all_powers.as_slice(),
+        selectors: all_selectors.as_slice(),
+        step: 1usize << log_num_chunks,
+    };
+    let width = F::Packing::WIDTH;
+    let blocks = num_blocks(coset.size(), width);
     let mut values = Vec::with_capacity(alloc, coset.size())?;
-    for row in 0..coset.size() {
-        let window = window_at(columns, row, step);
-        let selectors = all_selectors[row];
-        let value = quotient_at_row(
-            air,
-            reversed,
-            weights,
-            &window,
-            &selectors,
-            &mut nodes,
-            &mut selected,
-        )?;
-        values.push(value)?;
-    }
+    push_blocks::<F, EF, F::Packing>(alloc, &prepared, blocks, &mut values)?;
+    push_rows(alloc, &prepared, blocks * width, &mut values)?;
     Ok(values)
 }

@@ -1,4 +1,4 @@
-use Rattle.std.proofs.Common.{◌≡◌, ◌+◌, ◌*◌, ◌%◌, ◌^◌, ◌<◌, sym, ap, subst, ◌∙◌, arith}
+use Rattle.std.proofs.Common.{◌+◌, ◌*◌, ◌^◌, ◌<◌, sym, ap, subst, arith}
 use Rattle.p3_uni_stark_quotient.proofs.Entries.{shifted_one}
 use Rattle.p3_uni_stark_quotient.proofs.Chunking.{place_within, place_fits}
 use Rattle.p3_uni_stark_quotient.proofs.chunks.place_of.Goals as goal

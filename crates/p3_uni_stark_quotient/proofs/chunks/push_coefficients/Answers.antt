@@ -1,4 +1,4 @@
-use Rattle.std.proofs.Common.{◌≡◌, ◌++◌, take, length, sym, ap, ◌∙◌, arith}
+use Rattle.std.proofs.Common.{◌++◌, sym, ap, ◌∙◌, arith}
 use Rattle.std.proofs.lemmas.List.{append-nil, take_all}
 use Rattle.p3_uni_stark_quotient.proofs.Chunking.{coefficient_next}
 use Rattle.p3_uni_stark_quotient.proofs.chunks.push_coefficients.Goals as goal

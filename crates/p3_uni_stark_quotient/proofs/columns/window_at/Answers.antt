@@ -1,4 +1,4 @@
-use Rattle.std.proofs.Common.{◌+◌, ◌%◌, [], ap, ◌∙◌}
+use Rattle.std.proofs.Common.{◌+◌, ◌%◌, ap, ◌∙◌}
 use Rattle.p3_matrix.specs.Matrix.{rows}
 use Rattle.p3_air.specs.Satisfied.{row_at}
 use Rattle.p3_uni_stark_quotient.specs.Given.{on_coset, rows_if_any, entries_on}

@@ -1,7 +1,7 @@
-use Rattle.std.proofs.Common.{◌≡◌, length, map, refl, sym, ap, ◌∙◌, arith, slice_index_or}
+use Rattle.std.proofs.Common.{length, refl, ap, ◌∙◌, arith, slice_index_or}
 use Rattle.std.proofs.lemmas.List.{length-map}
 use Rattle.p3_air.specs.declared.air.Constraint.{Constraint}
-use Rattle.p3_air.specs.Nodes.{meanings, values_in}
+use Rattle.p3_air.specs.Nodes.{values_in}
 use Rattle.p3_air.specs.Shapes.{entries_of}
 use Rattle.p3_air.proofs.Meanings.{length_meanings}
 use Rattle.p3_uni_stark_identity.specs.Folding.{selected_by}

@@ -1,4 +1,4 @@
-use Rattle.std.proofs.Common.{◌≢◌, map, ap, ◌∙◌}
+use Rattle.std.proofs.Common.{◌≢◌, ◌∙◌}
 use Rattle.algebra.specs.Field.{sub}
 use Rattle.p3_uni_stark_quotient.proofs.Selecting.{all_mapped}
 use Rattle.p3_uni_stark_quotient.proofs.selectors.inverted_differences.Goals as goal

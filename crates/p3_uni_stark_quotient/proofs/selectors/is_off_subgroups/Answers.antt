@@ -1,4 +1,4 @@
-use Rattle.std.proofs.Common.{◌≡◌, ◌≢◌, ℕ, ◌≤◌, ◌^◌, true, false, refl, sym, ap, ap₂, ◌∙◌}
+use Rattle.std.proofs.Common.{◌≡◌, ◌≢◌, ◌^◌, true, false, refl, sym, ap, ap₂, ◌∙◌}
 use Rattle.algebra.specs.Field.{sub, pow}
 use Rattle.algebra.proofs.Combine.{sub-eq, sub-self}
 use Rattle.p3_uni_stark_quotient.proofs.Honest.{cosets_off}

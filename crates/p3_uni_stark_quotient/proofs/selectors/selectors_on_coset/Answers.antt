@@ -1,9 +1,8 @@
-use Rattle.std.proofs.Common.{◌≡◌, ℕ, ◌<◌, ◌^◌, length, map, sym, ap, ap₂, ◌∙◌, arith}
+use Rattle.std.proofs.Common.{◌≡◌, ◌^◌, length, map, sym, ap, ap₂, ◌∙◌, arith}
 use Rattle.std.proofs.lemmas.List.{length_push}
 use Rattle.algebra.specs.Field.{pow, sub}
 use Rattle.algebra.specs.Polynomial.{tabulate}
 use Rattle.p3_field_core.specs.Coset.{coset_point}
-use Rattle.p3_uni_stark_identity.specs.declared.selectors.LagrangeSelectors.{LagrangeSelectors}
 use Rattle.p3_uni_stark_identity.specs.Selectors.{AreSelectorsAt}
 use Rattle.p3_uni_stark_identity.proofs.Points.{generator_nonzero}
 use Rattle.algebra.proofs.Lifting.{identity_homomorphism}

@@ -1,66 +1,71 @@
-use Rattle.std.proofs.Common.{◌≡◌, ℕ, ◌*◌, ◌%◌, ◌^◌, ◌<◌, ◌≤◌, [], ◌∷◌, ◌++◌, length, reverse, refl}
-use Rattle.std.proofs.Common.{sym, ap, ap₂, subst, ◌∙◌, arith}
+use Rattle.std.proofs.Common.{◌≡◌, ℕ, ◌*◌, ◌%◌, ◌^◌, ◌≤◌, length, reverse, get_or, sym, ap, subst, ◌∙◌, arith}
 use Rattle.algebra.specs.Field.{pow}
 use Rattle.algebra.specs.Polynomial.{tabulate}
-use Rattle.algebra.proofs.Lists.{tabulate-next, length-tabulate}
+use Rattle.algebra.proofs.Lists.{length-tabulate}
 use Rattle.algebra.proofs.Points.{root-nonzero}
 use Rattle.p3_field_core.specs.Coset.{coset_point}
-use Rattle.p3_air.specs.Shapes.{entries_of, HasWidths}
 use Rattle.p3_air_laws.proofs.Rows.{one-root, last-root}
 use Rattle.p3_uni_stark_identity.specs.Selectors.{AreSelectorsAt}
+use Rattle.p3_uni_stark_quotient.specs.declared.rows.Prepared.{Prepared}
 use Rattle.p3_uni_stark_quotient.specs.Given.{on_coset, entries_on}
+use Rattle.p3_uni_stark_quotient.specs.Prepared.{IsPreparedFor, quotient_at}
 use Rattle.p3_uni_stark_quotient.specs.Quotient.{quotient_on_row}
-use Rattle.p3_uni_stark_quotient.proofs.Entries.{fits_widths, shifted_one, power_at_most}
+use Rattle.p3_uni_stark_quotient.proofs.Entries.{shifted_one}
+use Rattle.p3_uni_stark_quotient.proofs.Ready.{is_ready}
 use Rattle.p3_uni_stark_quotient.proofs.values.quotient_values.Goals as goal
 
-pub selectors_on_coset-requires : goal.selectors_on_coset-requires
-selectors_on_coset-requires g c = record {
-  within_two_adicity = omega (arith, c.requires.size, c.args.coset.within_two_adicity);
-  off = c.requires.off;
-}
-
-pub window_at-window-requires : goal.window_at-window-requires
-window_at-window-requires g c =
+pub push_blocks-requires-clause-ready : goal.push_blocks-requires-clause-ready
+push_blocks-requires-clause-ready g c =
+    let d = c.args.log_num_chunks in
+    let top = g.F.TwoAdicField.TWO_ADICITY in
+    let law = g.met.F.TwoAdicField.two_adicity_law in
     let size = c.requires.size in
     let within = c.args.coset.within_two_adicity in
-    let height = c.requires.columns.height in
-    let test = c.loop-row-test.true in
-    let end = c.size-row-end.ensures in
-    let step = shifted_one c.args.log_num_chunks g.F.TwoAdicField.TWO_ADICITY
-    (omega (arith, size, within)) g.met.F.TwoAdicField.two_adicity_law in
-    let few = power_at_most c.args.log_num_chunks c.args.coset.log_size (omega (arith, size)) in
-    record {
-      row = omega (arith, test, end, height);
-      step = omega (arith, step, few, height);
-    }
+    let held = c.in_ok-all_selectors.all_selectors.ok.0 in
+    let kept = c.in_ok-constraints.constraints.ok.0 in
+    is_ready _ c.args.coset.log_size d (omega (arith, within, law)) (omega (arith, size))
+    c.requires.well_formed c.requires.columns
+    (omega (arith, ap length c.as_slice-4.ensures.value, held, c.in_ok-all_selectors.ensures.len))
+    (shifted_one d top (omega (arith, size, within)) law)
+    (c.as_slice-2.ensures.value ∙ c.in_ok-constraints.ensures
+    ∙ ap (λ cs. reverse cs) c.as_slice.ensures.value)
+    (omega (
+      arith,
+      ap length c.as_slice-3.ensures.value,
+      ap length c.in_ok-all_powers.ensures,
+      length-tabulate c.len.result (λ i. pow g.EF.Field.ops c.args.alpha i),
+      c.len.ensures,
+      ap length c.as_slice-2.ensures.value,
+      kept,
+    ))
 
-pub quotient_at_row-requires : goal.quotient_at_row-requires
-quotient_at_row-requires g c =
-    let given = on_coset c.args.columns.now in
-    let air = c.args.air.now in
-    let test = c.loop-row-test.true in
-    let end = c.size-row-end.ensures in
+pub push_rows-requires-clause-ready : goal.push_rows-requires-clause-ready
+push_rows-requires-clause-ready g c =
+    let d = c.args.log_num_chunks in
+    let top = g.F.TwoAdicField.TWO_ADICITY in
+    let law = g.met.F.TwoAdicField.two_adicity_law in
     let size = c.requires.size in
     let within = c.args.coset.within_two_adicity in
-    let step = shifted_one c.args.log_num_chunks g.F.TwoAdicField.TWO_ADICITY
-    (omega (arith, size, within)) g.met.F.TwoAdicField.two_adicity_law in
-    let seen : entries_of c.window_at-window.result
-    ≡ entries_on given (2 ^ c.args.log_num_chunks) c.loop-row.row =
-    c.window_at-window.ensures ∙ ap (λ s. entries_on given s c.loop-row.row) step in
-    record {
-      well_formed = c.requires.well_formed;
-      widths = subst (λ e. HasWidths air.layout e) (sym seen)
-          (fits_widths air.layout (2 ^ c.args.coset.log_size) (2 ^ c.args.log_num_chunks) given
-          c.requires.columns c.loop-row.row (omega (arith, test, end)));
-      reversed = c.as_slice-reversed.ensures.value ∙ c.in_ok-constraints.ensures
-          ∙ ap (λ cs. reverse cs) c.as_slice.ensures.value;
-      powers = ap length (c.as_slice-weights.ensures.value ∙ c.in_ok-all_powers.ensures)
-          ∙ length-tabulate (length c.as_slice-reversed.result.now)
-          (λ i. pow g.EF.Field.ops c.args.alpha i);
-    }
+    let held = c.in_ok-all_selectors.all_selectors.ok.0 in
+    let kept = c.in_ok-constraints.constraints.ok.0 in
+    is_ready _ c.args.coset.log_size d (omega (arith, within, law)) (omega (arith, size))
+    c.requires.well_formed c.requires.columns
+    (omega (arith, ap length c.as_slice-4.ensures.value, held, c.in_ok-all_selectors.ensures.len))
+    (shifted_one d top (omega (arith, size, within)) law)
+    (c.as_slice-2.ensures.value ∙ c.in_ok-constraints.ensures
+    ∙ ap (λ cs. reverse cs) c.as_slice.ensures.value)
+    (omega (
+      arith,
+      ap length c.as_slice-3.ensures.value,
+      ap length c.in_ok-all_powers.ensures,
+      length-tabulate c.len.result (λ i. pow g.EF.Field.ops c.args.alpha i),
+      c.len.ensures,
+      ap length c.as_slice-2.ensures.value,
+      kept,
+    ))
 
-pub loop-row-preserved : goal.loop-row-preserved
-loop-row-preserved g c =
+pub returns : goal.returns
+returns g c =
     let F = g.F.Field.ops in
     let K = g.EF.Field.ops in
     let L = g.met.F.Field.laws in
@@ -71,44 +76,42 @@ loop-row-preserved g c =
     let k = c.args.log_size in
     let d = c.args.log_num_chunks in
     let coset = c.args.coset in
-    let air = c.args.air.now in
+    let alpha = c.args.alpha in
     let given = on_coset c.args.columns.now in
-    let row = c.loop-row.row in
-    let x = coset_point F (w coset.log_size) coset.shift row in
+    let x : ℕ → g.row.F.Denot = coset_point F (w coset.log_size) coset.shift in
     let size = c.requires.size in
     let within = coset.within_two_adicity in
     let fits : k ≤ top = omega (arith, size, within) in
-    let test = c.loop-row-test.true in
-    let end = c.size-row-end.ensures in
-    let step = shifted_one d top (omega (arith, size, within)) g.met.F.TwoAdicField.two_adicity_law
-    in
-    let seen : entries_of c.window_at-window.result ≡ entries_on given (2 ^ d) row =
-    c.window_at-window.ensures ∙ ap (λ s. entries_on given s row) step in
-    let at : AreSelectorsAt F (w k) (2 ^ k) x c.index.result.now =
-    subst (λ s. AreSelectorsAt F (w k) (2 ^ k) x s) (sym c.index.ensures)
-    (c.in_ok-all_selectors.ensures.selectors row c.index.result.now (omega (arith, test, end))) in
-    c.in_ok-push.ensures.items
-    ∙ ap₂ (λ xs v. xs ++ v ∷ []) c.loop-row.invariant
-    (c.in_ok-value.ensures (w k) x (2 ^ k) c.args.alpha
-    (c.as_slice-weights.ensures.value ∙ c.in_ok-all_powers.ensures) at (c.requires.off row)
-    (root-nonzero F L top w W k fits) (one-root F L top w W k fits)
-    (last-root F L top w W k fits)
-    ∙ ap (λ e. quotient_on_row F K lift air (w k) (2 ^ k) c.args.alpha e x) seen)
-    ∙ sym (tabulate-next row (λ i. quotient_on_row F K lift air (w k) (2 ^ k) c.args.alpha
-    (entries_on given (2 ^ d) i) (coset_point F (w coset.log_size) coset.shift i)))
-
-pub returns : goal.returns
-returns g c =
-    let F = g.F.Field.ops in
-    let w = g.F.TwoAdicField.root in
-    let k = c.args.log_size in
-    let coset = c.args.coset in
-    let test = c.loop-row-test.false in
-    let auto = c.loop-row.auto in
-    let size = c.size-row-end.ensures in
-    let end : c.loop-row.row ≡ 2 ^ coset.log_size = omega (arith, test, auto, size) in
-    c.loop-row.invariant
-    ∙ ap (λ n. tabulate n (λ i. quotient_on_row F g.EF.Field.ops g.EF.ExtensionField.lift
-    c.args.air.now (w k) (2 ^ k) c.args.alpha
-    (entries_on (on_coset c.args.columns.now) (2 ^ c.args.log_num_chunks) i)
-    (coset_point F (w coset.log_size) coset.shift i))) end
+    let held = c.in_ok-all_selectors.all_selectors.ok.0 in
+    let kept = c.in_ok-constraints.constraints.ok.0 in
+    let long : length c.as_slice-4.result.now ≡ 2 ^ coset.log_size =
+    omega (arith, ap length c.as_slice-4.ensures.value, held, c.in_ok-all_selectors.ensures.len) in
+    let many : c.len.result ≡ length c.as_slice-2.result.now =
+    omega (arith, c.len.ensures, ap length c.as_slice-2.ensures.value, kept) in
+    let prepared : Prepared g.row.F.Denot g.row.EF.Denot = record {
+      air = c.args.air;
+      columns = c.args.columns.now;
+      reversed = c.as_slice-2.result;
+      powers = c.as_slice-3.result;
+      selectors = c.as_slice-4.result;
+      step = 1 * 2 ^ d % 18446744073709551616;
+    } in
+    let value : ℕ → g.row.EF.Denot = quotient_at F K prepared (w k) (2 ^ k) alpha x lift in
+    let for_alpha : IsPreparedFor F K prepared (w k) (2 ^ k) alpha x = record {
+      powers = c.as_slice-3.ensures.value ∙ c.in_ok-all_powers.ensures
+          ∙ ap (λ n. tabulate n (λ i. pow K alpha i)) many;
+      selectors = λ i s l. subst (λ ss. AreSelectorsAt F (w k) (2 ^ k) (x i) (get_or ss i s))
+          (sym c.as_slice-4.ensures.value)
+          (c.in_ok-all_selectors.ensures.selectors i s (omega (arith, l, long)));
+      off = λ i l. c.requires.off i;
+      generator = root-nonzero F L top w W k fits;
+      first = one-root F L top w W k fits;
+      last = last-root F L top w W k fits;
+    } in
+    c.in_ok-push_rows.ensures (w k) (2 ^ k) alpha x for_alpha
+    (c.in_ok-push_blocks.ensures (w k) (2 ^ k) alpha x for_alpha
+    ∙ ap (λ n. tabulate (c.num_blocks-blocks.result * n) value) (sym c.WIDTH-width.ensures))
+    ∙ ap (λ n. tabulate n value) long
+    ∙ ap (λ s. tabulate (2 ^ coset.log_size) (λ i. quotient_on_row F K lift c.args.air.now (w k)
+    (2 ^ k) alpha (entries_on given s i) (x i)))
+    (shifted_one d top (omega (arith, size, within)) g.met.F.TwoAdicField.two_adicity_law)
