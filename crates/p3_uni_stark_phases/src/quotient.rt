@@ -22,7 +22,9 @@ ghost use Rattle.p3_uni_stark_phases.specs.Chunks.{AreChunkPairs};
 
 use crate::error::ProvingError;
 use p3_air::Air;
-use p3_field_core::{ExtensionField, Field, TwoAdicField, TwoAdicMultiplicativeCoset};
+use p3_field_core::{
+    ExtensionField, Field, PackableField, TwoAdicField, TwoAdicMultiplicativeCoset,
+};
 use p3_matrix::RowMajorMatrix;
 use p3_periodic::{PeriodicError, PeriodicLdeTable};
 use p3_stark_pcs::UnivariateStarkPcs;
@@ -160,7 +162,7 @@ fn on_domains<Domain: Copy, Val: Copy>(
 
 /// The chunks of the quotient of the constraints' sum by powers of `alpha`, by the columns' values
 /// on the coset of the field's `GENERATOR`, each on its own domain.
-pub fn chunks_on_coset<F: TwoAdicField, EF: ExtensionField<F>>(
+pub fn chunks_on_coset<F: TwoAdicField + PackableField, EF: ExtensionField<F>>(
     alloc: Global,
     air: &Air<F>,
     columns: &CosetColumns<'_, F>,

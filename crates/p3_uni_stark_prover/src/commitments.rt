@@ -19,7 +19,7 @@ use crate::preparation::Preparation;
 use crate::steps::{begin, split};
 use p3_challenger_core::{CanObserve, FieldChallenger, Plays};
 use p3_field_core::{
-    ExtensionField, Field, PrimeField64, TwoAdicField, TwoAdicMultiplicativeCoset,
+    ExtensionField, Field, PackableField, PrimeField64, TwoAdicField, TwoAdicMultiplicativeCoset,
 };
 use p3_matrix::RowMajorMatrix;
 use p3_stark_pcs::UnivariateStarkPcs;
@@ -38,7 +38,7 @@ use std::alloc::Global;
 
 /// The chunks of the quotient, by the committed columns' values on the coset.
 fn quotient_of<
-    F: TwoAdicField + PrimeField64,
+    F: TwoAdicField + PackableField + PrimeField64,
     EF: ExtensionField<F>,
     Com: Copy,
     C,
@@ -93,7 +93,7 @@ fn quotient_of<
 ///
 /// `Trace`, `Evaluation`, `Quotient` and `Randomization`, where the scheme refuses.
 pub fn commit_columns<
-    F: TwoAdicField + PrimeField64,
+    F: TwoAdicField + PackableField + PrimeField64,
     EF: ExtensionField<F>,
     Com: Copy,
     C: FieldChallenger<F> + CanObserve<Com>,

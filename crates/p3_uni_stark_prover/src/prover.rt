@@ -19,7 +19,7 @@ use crate::preparation::prepare;
 use crate::steps::finish;
 use p3_challenger_core::{CanObserve, FieldChallenger, Plays};
 use p3_field_core::{
-    ExtensionField, Field, PrimeField64, TwoAdicField, TwoAdicMultiplicativeCoset,
+    ExtensionField, Field, PackableField, PrimeField64, TwoAdicField, TwoAdicMultiplicativeCoset,
     log2_strict_usize,
 };
 use p3_matrix::RowMajorMatrix;
@@ -43,7 +43,7 @@ use std::alloc::Global;
 /// `Trace`, `Evaluation`, `Quotient`, `Randomization` and `Opening`, where the scheme refuses;
 /// `PointOnTraceDomain`, where the challenge happens to be a point of the trace's domain.
 pub fn prove<
-    F: TwoAdicField + PrimeField64,
+    F: TwoAdicField + PackableField + PrimeField64,
     EF: ExtensionField<F>,
     Com: Copy,
     C: FieldChallenger<F> + CanObserve<Com>,

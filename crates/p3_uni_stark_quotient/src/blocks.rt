@@ -1,6 +1,7 @@
 //! The quotient's values at all points, a block of rows at a time.
 
-ghost use Rattle.std.specs.Prelude.{◌≡◌, ◌<◌, ◌≤◌, ◌*◌, ℕ, [], OnOk, length};
+ghost use Rattle.std.specs.Prelude.{◌≡◌, ◌≢◌, ◌<◌, ◌≤◌, ◌*◌, ◌/◌, ℕ, [], OnOk};
+ghost use Rattle.std.specs.Prelude.{length};
 ghost use Rattle.algebra.specs.Polynomial.{tabulate};
 ghost use Rattle.p3_uni_stark_quotient.specs.Prepared.{IsReady, IsPreparedFor, quotient_at};
 
@@ -14,7 +15,9 @@ use std::alloc::{AllocError, Global};
 /// which nothing is gained.
 pub(crate) fn num_blocks(size: usize, width: usize) -> usize
     requires { 0 < width }
-    ensures { result * width ≤ size }
+    ensures within { result * width ≤ size }
+    ensures blocks { width ≢ 1 → result ≡ size / width }
+    ensures alone { width ≡ 1 → result ≡ 0 }
 {
     if width == 1 { 0 } else { size / width }
 }

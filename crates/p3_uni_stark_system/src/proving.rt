@@ -20,7 +20,8 @@ use p3_air::{Air, Assignment};
 use p3_air_plain::{OwnedAssignment, air_from_plain, assignment_from_plain};
 use p3_challenger_core::{CanObserve, FieldChallenger, Plays};
 use p3_field_core::{
-    ExtensionField, PrimeField64, TwoAdicField, TwoAdicMultiplicativeCoset, log2_strict_usize,
+    ExtensionField, PackableField, PrimeField64, TwoAdicField, TwoAdicMultiplicativeCoset,
+    log2_strict_usize,
 };
 use p3_uni_stark_pcs::TwoAdicStarkPcs;
 use p3_uni_stark_prover::{has_room, prove};
@@ -31,7 +32,7 @@ use std::alloc::Global;
 
 /// A proof that the elements of a trace satisfy a system, for which there is room.
 fn prove_satisfied<
-    F: TwoAdicField + PrimeField64,
+    F: TwoAdicField + PackableField + PrimeField64,
     EF: ExtensionField<F>,
     Com: Copy,
     C: FieldChallenger<F> + CanObserve<Com>,
@@ -89,7 +90,7 @@ fn prove_satisfied<
 
 /// A proof that the elements of a trace satisfy a well-formed system.
 fn prove_elements<
-    F: TwoAdicField + PrimeField64,
+    F: TwoAdicField + PackableField + PrimeField64,
     EF: ExtensionField<F>,
     Com: Copy,
     C: FieldChallenger<F> + CanObserve<Com>,
@@ -137,7 +138,7 @@ fn prove_elements<
 /// A proof that the trace of these numbers satisfies the system with these public values. Nothing
 /// is asked of the numbers. `verify_system` accepts what is returned, of the same numbers.
 pub fn prove_system<
-    F: TwoAdicField + PrimeField64,
+    F: TwoAdicField + PackableField + PrimeField64,
     EF: ExtensionField<F>,
     Com: Copy,
     C: FieldChallenger<F> + CanObserve<Com>,
