@@ -1,7 +1,7 @@
 //! The quotient's values at several points at once, one to a lane.
 
-ghost use Rattle.std.specs.Prelude.{◌≡◌, ◌≢◌, ◌<◌, ◌≤◌, ◌+◌, ◌++◌, ℕ, All, OnOk, length, map, reverse};
-ghost use Rattle.std.specs.Prelude.{slice_index_or};
+ghost use Rattle.std.specs.Prelude.{◌≡◌, ◌≢◌, ◌<◌, ◌≤◌, ◌+◌, ◌++◌, ℕ, All, OnOk, length, map};
+ghost use Rattle.std.specs.Prelude.{reverse, slice_index_or};
 ghost use Rattle.std.specs.List.{flat_map};
 ghost use Rattle.algebra.specs.Field.{pow};
 ghost use Rattle.algebra.specs.Polynomial.{tabulate, sum_below};

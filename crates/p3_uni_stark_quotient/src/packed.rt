@@ -1,6 +1,7 @@
 //! Columns packed to lanes: what constraints see at the points of several rows at once.
 
-ghost use Rattle.std.specs.Prelude.{◌≡◌, ◌<◌, ◌≤◌, ◌+◌, ◌%◌, ◌^◌, ℕ, [], All, OnOk, length, slice_index_or};
+ghost use Rattle.std.specs.Prelude.{◌≡◌, ◌<◌, ◌≤◌, ◌+◌, ◌%◌, ◌^◌, ℕ, [], All, OnOk, length};
+ghost use Rattle.std.specs.Prelude.{slice_index_or};
 ghost use Rattle.p3_air.specs.Shapes.{entries_of, HasWidths};
 ghost use Rattle.p3_uni_stark_quotient.specs.Given.{rows_if_any, on_coset, entries_on, FitsCoset};
 ghost use Rattle.p3_uni_stark_quotient.specs.Lanes.{in_lane, lane_entries, packed_entries};
@@ -60,8 +61,8 @@ fn pack_columns<F: Field, P: PackedField<F>>(
     Ok(())
 }
 
-/// As many rows of a matrix as there are lanes, from `start` on, where after `period` rows the first
-/// comes again; they have so many columns.
+/// As many rows of a matrix as there are lanes, from `start` on, in the place of what `packed` held.
+/// They have so many columns, and after `period` rows the first comes again.
 fn pack_rows<'a, F: Field, P: PackedField<F>>(
     matrix: Option<&'a RowMajorMatrix<F>>,
     width: usize,

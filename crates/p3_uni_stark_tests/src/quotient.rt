@@ -4,7 +4,7 @@ use crate::numbers::{elements, extension, extensions, has_coefficients};
 use crate::systems::{self, System, air_of};
 use p3_air::Air;
 use p3_field::{
-    BabyBear, BabyBear4, ExtensionField, Field, PrimeField64, TwoAdicField,
+    BabyBear, BabyBear4, ExtensionField, Field, PackableField, PrimeField64, TwoAdicField,
     TwoAdicMultiplicativeCoset,
 };
 use p3_matrix::RowMajorMatrix;
@@ -12,7 +12,7 @@ use p3_uni_stark_quotient::{CosetColumns, is_off_subgroups, quotient_chunks, quo
 use std::alloc::{AllocError, Global};
 use std::test::Fail;
 
-/// Columns on a coset, row after row, and the quotient's values at the first points.
+/// Columns on a coset, row after row, and the quotient's values at all points.
 #[derive(Clone, Copy)]
 struct Values {
     system: System,
@@ -25,7 +25,8 @@ struct Values {
     quotient: &'static [[u64; 4]],
 }
 
-/// Fibonacci numbers, eight rows, on a coset of sixteen points.
+/// Fibonacci numbers, eight rows, on a coset of sixteen points: two blocks of lanes, of which the
+/// last has next rows at the coset's begin.
 const FIBONACCI: Values = Values {
     system: systems::FIBONACCI,
     log_size: 3,
@@ -46,10 +47,39 @@ const FIBONACCI: Values = Values {
         [860209688, 1747645438, 297830293, 2003025625],
         [816288310, 1051439321, 1788593093, 1678161407],
         [1552249994, 1813522003, 1878153576, 1096902401],
+        [1764409894, 39957633, 308702050, 1425476809],
+        [859636959, 292470373, 368991498, 1991904586],
+        [179323015, 1825973214, 1499423876, 916568248],
+        [1659835074, 755873789, 675088712, 252910034],
+        [776425643, 1360158639, 393430814, 771020000],
+        [720069026, 1717799030, 1207787609, 1142828067],
+        [1685878290, 2012514226, 728363537, 925950582],
+        [1448179240, 446967547, 1516930854, 1616625186],
+        [115736586, 1844682333, 1588022412, 1976251873],
+        [2006952785, 686030048, 256159931, 221996228],
+        [728604383, 280030267, 1701224526, 763752271],
     ],
 };
 
-/// Cubes with a summand on selected rows, four rows, on a coset of eight points.
+/// Cubes with a summand on selected rows, two rows, on a coset of four points, fewer than there are
+/// lanes.
+const TWO_CUBES: Values = Values {
+    system: systems::CUBES,
+    log_size: 1,
+    width: 1,
+    trace: &[2013265728, 21494972, 210, 1991770966],
+    preprocessed: &[16, 617812979, 2013265906, 1395452943],
+    public_values: &[2, 7],
+    alpha: [5, 0, 2, 9],
+    quotient: &[
+        [239606, 0, 2013265908, 1006632902],
+        [137782253, 0, 2013265908, 1006632902],
+        [1006922337, 0, 2013265908, 1006632902],
+        [1874956992, 0, 2013265908, 1006632902],
+    ],
+};
+
+/// The same of four rows, on a coset of eight points, as many as there are lanes.
 const CUBES: Values = Values {
     system: systems::CUBES,
     log_size: 2,
@@ -88,10 +118,13 @@ fn matrix<F: Field>(
     Ok(RowMajorMatrix::new(values, width))
 }
 
-/// Whether the first values are those.
-fn begin<F: PrimeField64, EF: ExtensionField<F>>(values: &[EF], expected: &[[u64; 4]]) -> bool {
+/// Whether the values are those.
+fn are<F: PrimeField64, EF: ExtensionField<F>>(values: &[EF], expected: &[[u64; 4]]) -> bool {
+    if values.len() != expected.len() {
+        return false;
+    }
     for i in 0..expected.len() {
-        if i >= values.len() || !has_coefficients::<F, EF>(values[i], expected[i]) {
+        if !has_coefficients::<F, EF>(values[i], expected[i]) {
             return false;
         }
     }
@@ -100,7 +133,7 @@ fn begin<F: PrimeField64, EF: ExtensionField<F>>(values: &[EF], expected: &[[u64
 
 /// Whether columns fit a coset of twice as many points, and the quotient's values there are the
 /// case's.
-fn give_values<F: TwoAdicField + PrimeField64, EF: ExtensionField<F>>(
+fn give_values<F: TwoAdicField + PackableField + PrimeField64, EF: ExtensionField<F>>(
     alloc: Global,
     air: &Air<F>,
     columns: &CosetColumns<'_, F>,
@@ -118,11 +151,11 @@ fn give_values<F: TwoAdicField + PrimeField64, EF: ExtensionField<F>>(
     }
     let alpha = extension::<F, EF>(case.alpha);
     let values = quotient_values(alloc, air, columns, log_size, 1, coset, alpha)?;
-    Ok(begin::<F, EF>(&values, case.quotient))
+    Ok(are::<F, EF>(&values, case.quotient))
 }
 
 /// Whether the case's columns give its values.
-fn is_met_over<F: TwoAdicField + PrimeField64, EF: ExtensionField<F>>(
+fn is_met_over<F: TwoAdicField + PackableField + PrimeField64, EF: ExtensionField<F>>(
     alloc: Global,
     case: &Values,
 ) -> Result<bool, Fail> {
@@ -156,6 +189,7 @@ fn fibonacci_numbers(rt: HostRuntime) -> Result<(), Fail> {
 
 #[test]
 fn selected_cubes(rt: HostRuntime) -> Result<(), Fail> {
+    assert!(rt; is_met(rt.alloc(), &TWO_CUBES)?);
     assert!(rt; is_met(rt.alloc(), &CUBES)?);
     Ok(())
 }
