@@ -4,13 +4,12 @@ ghost use Rattle.std.specs.Prelude.{◌≡◌, ◌*◌, ◌≤◌, length};
 
 use sha2::{Digest, Sha256};
 use sha256_lanes::digests_of_eight;
-use std::test::Fail;
 
 /// The greatest length that is tried.
 const LONGEST: usize = 200;
 
 /// The messages of the standard's examples, with their digests.
-const EXAMPLES: [(&[u8], [u8; 32]); 3] = [
+static EXAMPLES: [(&[u8], [u8; 32]); 3] = [
     (
         b"abc",
         [
@@ -48,22 +47,6 @@ fn bytes() -> [u8; 1600] {
     bytes
 }
 
-/// The first length at which a lane's digest isn't that of its message by the crate `sha2`.
-fn length_that_fails() -> Option<usize> {
-    let bytes = bytes();
-    for len in 0..LONGEST + 1 {
-        let messages = &bytes[..8 * len];
-        let digests = digests_of_eight(messages, len);
-        for lane in 0..8 {
-            let digest = Sha256::digest(&messages[lane * len..lane * len + len]);
-            if digests[lane].as_slice() != digest.as_slice() {
-                return Some(len);
-            }
-        }
-    }
-    None
-}
-
 /// Eight times a message of at most 64 bytes.
 fn eight_times(message: &[u8]) -> [u8; 512]
     requires { length message.now ≤ 64 }
@@ -77,33 +60,34 @@ fn eight_times(message: &[u8]) -> [u8; 512]
     messages
 }
 
-/// The first example of the standard that isn't met in each lane.
-fn example_that_fails() -> Option<usize> {
-    for i in 0..3 {
-        let (message, expected) = EXAMPLES[i];
-        if message.len() <= 64 {
-            let messages = eight_times(message);
-            let digests = digests_of_eight(&messages[..8 * message.len()], message.len());
-            for lane in 0..8 {
-                if digests[lane].as_slice() != expected.as_slice() {
-                    return Some(i);
-                }
-            }
-        } else {
-            return Some(i);
+#[test]
+fn each_lane_is_hashed_as_by_sha2(rt: HostRuntime) {
+    let bytes = bytes();
+    for len in 0..LONGEST + 1 {
+        let messages = &bytes[..8 * len];
+        let digests = digests_of_eight(messages, len);
+        for lane in 0..8 {
+            let digest = Sha256::digest(&messages[lane * len..lane * len + len]);
+            assert!(rt;
+                digests[lane].as_slice() == digest.as_slice(),
+                "length {len}"
+            );
         }
     }
-    None
 }
 
 #[test]
-fn each_lane_is_hashed_as_by_sha2(rt: HostRuntime) -> Result<(), Fail> {
-    assert_eq!(rt; length_that_fails(), None);
-    Ok(())
-}
-
-#[test]
-fn the_examples_of_the_standard_are_met(rt: HostRuntime) -> Result<(), Fail> {
-    assert_eq!(rt; example_that_fails(), None);
-    Ok(())
+fn the_examples_of_the_standard_are_met(rt: HostRuntime) {
+    for (message, expected) in &EXAMPLES {
+        let len = message.len();
+        assert!(rt; len <= 64, "a long message");
+        let messages = eight_times(*message);
+        let digests = digests_of_eight(&messages[..8 * len], len);
+        for lane in 0..8 {
+            assert!(rt;
+                digests[lane].as_slice() == expected.as_slice(),
+                "length {len}"
+            );
+        }
+    }
 }
