@@ -18,11 +18,11 @@ use p3_challenger::fs::{
 use p3_challenger::laws::seed_stream_law;
 use p3_challenger::{CanObserve, Sha256Challenger};
 use p3_field::{BabyBear, BabyBear4, ExtensionField, Field, PrimeField64};
-use std::alloc::{AllocError, Global};
-use std::test::Fail;
+use std::alloc::Global;
+use std::process::Abort;
 
 /// The stream of the example, part by part.
-const STREAM: [u8; 221] = [
+static STREAM: [u8; 221] = [
     // the version
     0x02,
     // the name
@@ -99,7 +99,7 @@ struct Example {
 
 /// What one side draws, with the witness that it found or was sent. The rows are `None` where they
 /// aren't two.
-#[derive(Clone, Copy, Debug, PartialEq, Eq)]
+#[derive(Clone, Copy, PartialEq, Eq)]
 struct Played {
     witness: BabyBear,
     beta: BabyBear4,
@@ -107,7 +107,7 @@ struct Played {
 }
 
 /// The separator of the stream above.
-fn make_example(alloc: Global) -> Result<Example, AllocError> {
+fn make_example(rt: &impl Abort, alloc: Global) -> Example {
     let root = Interaction::opaque(Hierarchy::Atomic, Kind::Message, "root", Length::Scalar);
     let values = Interaction::algebra::<BabyBear, BabyBear4>(
         Hierarchy::Atomic,
@@ -136,18 +136,18 @@ fn make_example(alloc: Global) -> Result<Example, AllocError> {
     );
     let begin = Interaction::marker(Hierarchy::Begin, Kind::Protocol, "inner");
     let end = Interaction::marker(Hierarchy::End, Kind::Protocol, "inner");
-    let steps = vec![in alloc; root, values, work, beta, rows, begin, end]?;
+    let steps = vec![in alloc; root, values, work, beta, rows, begin, end].expect(rt, "memory");
     let mut separator = DomainSeparator::new(alloc, 2, b"demo", InteractionPattern::new(steps));
-    separator.instance(alloc, &[1, 2, 3])?;
-    separator.instance(alloc, &[4])?;
-    Ok(Example { separator })
+    separator.instance(alloc, &[1, 2, 3]).expect(rt, "memory");
+    separator.instance(alloc, &[4]).expect(rt, "memory");
+    Example { separator }
 }
 
 /// A challenger that has observed each byte of the stream.
 fn stream_observed() -> Sha256Challenger {
     let mut challenger = Sha256Challenger::new();
-    for byte in STREAM {
-        challenger.observe(BabyBear::from_u64(u64::from(byte)));
+    for byte in &STREAM {
+        challenger.observe(BabyBear::from_u64(u64::from(*byte)));
     }
     challenger
 }
@@ -167,10 +167,11 @@ fn pair(rows: &[usize]) -> Option<(usize, usize)> {
 
 /// The steps of either side after the proof of work.
 fn play_last<Side>(
+    rt: &impl Abort,
     alloc: Global,
     mut transcript: TranscriptState<'_, Side, Sha256Challenger, BabyBear>,
     witness: BabyBear,
-) -> Result<Option<Played>, AllocError>
+) -> Played
     requires { steps_left transcript ≡
         record { hierarchy = Atomic; kind = Challenge; type_tag = Algebra 4; length = Scalar }
         ∷ record { hierarchy = Atomic; kind = Challenge; type_tag = Bits 5; length = Fixed 2 }
@@ -179,92 +180,50 @@ fn play_last<Side>(
         ∷ [] }
 {
     let beta: BabyBear4 = transcript.challenge_extension();
-    match transcript.challenge_bits(alloc, 5, 2) {
-        Ok(rows) => {
-            transcript.begin_protocol();
-            transcript.end_protocol();
-            transcript.finalize();
-            Ok(Some(Played {
-                witness,
-                beta,
-                rows: pair(&rows),
-            }))
-        },
-        Err(refused) => {
-            transcript.abort();
-            Err(refused)
-        },
+    let rows = transcript.challenge_bits(alloc, 5, 2).expect(rt, "memory");
+    transcript.begin_protocol();
+    transcript.end_protocol();
+    transcript.finalize();
+    Played {
+        witness,
+        beta,
+        rows: pair(&rows),
     }
 }
 
 /// The prover's side.
 fn prove(
+    rt: &impl Abort,
     alloc: Global,
     challenger: &mut Sha256Challenger,
     example: &Example,
-) -> Result<Option<Played>, AllocError> {
-    let mut transcript = ProverState::new(alloc, challenger, &example.separator)?;
+) -> Played {
+    let transcript = ProverState::new(alloc, challenger, &example.separator);
+    let mut transcript = transcript.expect(rt, "memory");
     transcript.observe_opaque(ROOT);
     transcript.observe_extensions(&values());
-    match transcript.observe_pow(3) {
-        Some(witness) => play_last(alloc, transcript, witness),
-        None => {
-            transcript.abort();
-            Ok(None)
-        },
-    }
+    let witness = transcript.observe_pow(3).expect(rt, "no witness");
+    play_last(rt, alloc, transcript, witness)
 }
 
 /// The verifier's side, `None` where the witness doesn't pass.
 fn verify(
+    rt: &impl Abort,
     alloc: Global,
     challenger: &mut Sha256Challenger,
     example: &Example,
     witness: BabyBear,
-) -> Result<Option<Played>, AllocError> {
-    let mut transcript = VerifierState::new(alloc, challenger, &example.separator)?;
+) -> Option<Played> {
+    let transcript = VerifierState::new(alloc, challenger, &example.separator);
+    let mut transcript = transcript.expect(rt, "memory");
     transcript.observe_opaque(ROOT);
     transcript.observe_extensions(&values());
     if transcript.observe_pow(3, witness) {
-        play_last(alloc, transcript, witness)
+        Some(play_last(rt, alloc, transcript, witness))
     } else {
         transcript.abort();
-        Ok(None)
+        None
     }
-}
-
-/// What the prover draws, what the verifier does by the prover's witness, and whether both leave
-/// the same challenger.
-fn play_both(
-    alloc: Global,
-    example: &Example,
-) -> Result<(Option<Played>, Option<Played>, bool), AllocError> {
-    let mut first = Sha256Challenger::new();
-    let mut second = Sha256Challenger::new();
-    let proved = prove(alloc, &mut first, example)?;
-    let verified = match proved {
-        Some(played) => verify(alloc, &mut second, example, played.witness)?,
-        None => None,
-    };
-    Ok((proved, verified, first == second))
-}
-
-/// `play_both` by the example.
-fn play_example(alloc: Global) -> Result<(Option<Played>, Option<Played>, bool), AllocError> {
-    let example = make_example(alloc)?;
-    play_both(alloc, &example)
-}
-
-/// What the verifier draws by the example and this witness.
-fn verify_example(alloc: Global, witness: BabyBear) -> Result<Option<Played>, AllocError> {
-    let example = make_example(alloc)?;
-    verify(alloc, &mut Sha256Challenger::new(), &example, witness)
-}
-
-/// The example's stream.
-fn example_stream(alloc: Global) -> Result<Vec<u8>, AllocError> {
-    let example = make_example(alloc)?;
-    example.separator.seed_stream(alloc)
 }
 
 /// Whether a challenger has observed the stream of this example where `new` succeeds, and nothing
@@ -284,52 +243,52 @@ fn absorbs_if_new(alloc: Global, example: &Example) -> bool {
     }
 }
 
-/// The challenger that a transcript of the example leaves which is given up at its start.
-fn left_by_abort(alloc: Global) -> Result<Sha256Challenger, AllocError> {
-    let example = make_example(alloc)?;
-    let seed = example.separator.seed(alloc)?;
-    let mut challenger = Sha256Challenger::new();
-    ProverState::<Sha256Challenger, BabyBear>::start(&mut challenger, seed).abort();
-    Ok(challenger)
-}
-
 #[test]
-fn bytes_of_a_description(rt: HostRuntime) -> Result<(), Fail> {
-    let stream = example_stream(rt.alloc())?;
+fn bytes_of_a_description(rt: HostRuntime) {
+    let example = make_example(&rt, rt.alloc());
+    let stream = example
+        .separator
+        .seed_stream(rt.alloc())
+        .expect(&rt, "memory");
     assert!(rt; stream.as_slice() == STREAM.as_slice());
     seed_stream_law();
-    Ok(())
 }
 
 #[test]
-fn both_sides_draw_the_same(rt: HostRuntime) -> Result<(), Fail> {
-    let (proved, verified, same_challenger) = play_example(rt.alloc())?;
-    let played = proved.ok_or("no witness")?;
-    let last: BabyBear = played.beta.coefficient(3);
-    assert!(rt; played.witness == BabyBear::from_u64(3));
+fn both_sides_draw_the_same(rt: HostRuntime) {
+    let example = make_example(&rt, rt.alloc());
+    let mut first = Sha256Challenger::new();
+    let mut second = Sha256Challenger::new();
+    let proved = prove(&rt, rt.alloc(), &mut first, &example);
+    let verified = verify(&rt, rt.alloc(), &mut second, &example, proved.witness);
+    let last: BabyBear = proved.beta.coefficient(3);
+    assert!(rt; proved.witness == BabyBear::from_u64(3));
     assert!(rt; last.as_canonical_u64() == 352_189_782);
-    assert!(rt; played.rows == Some((31, 30)));
-    assert!(rt; verified == proved && same_challenger);
-    Ok(())
+    assert!(rt; proved.rows == Some((31, 30)));
+    assert!(rt; verified == Some(proved) && first == second);
 }
 
 #[test]
-fn wrong_witness_is_false(rt: HostRuntime) -> Result<(), Fail> {
-    assert!(rt; verify_example(rt.alloc(), BabyBear::TWO)?.is_none());
-    Ok(())
+fn wrong_witness_is_false(rt: HostRuntime) {
+    let example = make_example(&rt, rt.alloc());
+    let mut challenger = Sha256Challenger::new();
+    let found = verify(&rt, rt.alloc(), &mut challenger, &example, BabyBear::TWO);
+    assert!(rt; found.is_none());
 }
 
 #[test]
-fn abort_leaves_the_challenger(rt: HostRuntime) -> Result<(), Fail> {
-    assert!(rt; left_by_abort(rt.alloc())? == stream_observed());
-    Ok(())
+fn abort_leaves_the_challenger(rt: HostRuntime) {
+    let example = make_example(&rt, rt.alloc());
+    let seed = example.separator.seed(rt.alloc()).expect(&rt, "memory");
+    let mut challenger = Sha256Challenger::new();
+    ProverState::<Sha256Challenger, BabyBear>::start(&mut challenger, seed).abort();
+    assert!(rt; challenger == stream_observed());
 }
 
 /// `new` is refused where one of its allocations is made to fail, as by `rt try --test
 /// --fail-alloc N`.
 #[test]
-fn refused_new_absorbs_nothing(rt: HostRuntime) -> Result<(), Fail> {
-    let example = make_example(rt.alloc())?;
+fn refused_new_absorbs_nothing(rt: HostRuntime) {
+    let example = make_example(&rt, rt.alloc());
     assert!(rt; absorbs_if_new(rt.alloc(), &example));
-    Ok(())
 }

@@ -14,8 +14,7 @@ use p3_challenger::{
     Sha256Challenger,
 };
 use p3_field::{BabyBear, BabyBear4, ExtensionField, Field, PrimeField64};
-use std::alloc::AllocError;
-use std::test::Fail;
+use std::process::Abort;
 
 /// Observes the values and the commitment, and draws an element of an extension and a number of
 /// `bits` bits.
@@ -46,17 +45,15 @@ where
 
 /// Whether a search for a witness on one copy leaves the state that checking what it found leaves
 /// on another.
-fn leaves_what_its_check_leaves<C>(challenger: &C, bits: usize) -> Result<bool, AllocError>
+fn leaves_what_its_check_leaves<C>(rt: &impl Abort, challenger: &C, bits: usize) -> bool
 where
     C: GrindingChallenger + Clone + Eq + Drop,
     requires { bits ≤ C.MAX_SAMPLE_BITS }
 {
-    let mut searched = challenger.clone()?;
-    let mut checked = challenger.clone()?;
-    Ok(match searched.grind(bits) {
-        Some(witness) => checked.check_witness(bits, witness) && searched == checked,
-        None => false,
-    })
+    let mut searched = challenger.clone().expect(rt, "memory");
+    let mut checked = challenger.clone().expect(rt, "memory");
+    let witness = searched.grind(bits).expect(rt, "no witness");
+    checked.check_witness(bits, witness) && searched == checked
 }
 
 /// A challenger that has absorbed the element 5.
@@ -141,11 +138,10 @@ fn calls_through_bounds(rt: HostRuntime) {
 }
 
 #[test]
-fn grinds(rt: HostRuntime) -> Result<(), Fail> {
+fn grinds(rt: HostRuntime) {
     let challenger = after_five();
-    assert!(rt; leaves_what_its_check_leaves(&challenger, 3)?);
-    assert!(rt; leaves_what_its_check_leaves(&challenger, 8)?);
-    Ok(())
+    assert!(rt; leaves_what_its_check_leaves(&rt, &challenger, 3));
+    assert!(rt; leaves_what_its_check_leaves(&rt, &challenger, 8));
 }
 
 #[test]
