@@ -1,26 +1,19 @@
 //! Opened values that agree with a quotient's, and such that don't.
 
-ghost use Rattle.std.specs.Prelude.{map};
-ghost use Rattle.p3_uni_stark_identity.specs.Chunks.{AreChunkDomains};
-
 use crate::numbers::{elements, extension, extension_lists};
 use crate::systems::{self, System, air_of};
 use p3_air::{Air, Window};
-use p3_field::{
-    BabyBear, BabyBear4, ExtensionField, Field, TwoAdicField, TwoAdicMultiplicativeCoset,
-};
+use p3_field::{BabyBear, BabyBear4, ExtensionField, TwoAdicField};
 use p3_uni_stark_identity::{
     Challenges, has_widths, have_dimension, identity_holds, is_on_domain, quotient_chunk_domains,
 };
-use std::alloc::{AllocError, Global};
-use std::test::Fail;
+use std::alloc::Global;
+use std::process::Abort;
 
-/// What is opened of a trace and of the two chunks of its quotient, in numbers, and whether the two
-/// agree.
+/// What is opened of a trace and of the two chunks of its quotient, in numbers.
 #[derive(Clone, Copy)]
 struct Opened {
     system: System,
-    agrees: bool,
     log_size: usize,
     local: &'static [[u64; 4]],
     next: &'static [[u64; 4]],
@@ -34,9 +27,8 @@ struct Opened {
 }
 
 /// Fibonacci numbers, eight rows.
-const FIBONACCI: Opened = Opened {
+static FIBONACCI: Opened = Opened {
     system: systems::FIBONACCI,
-    agrees: true,
     log_size: 3,
     local: &[
         [134383810, 1520717984, 551769911, 897653042],
@@ -88,9 +80,8 @@ const SECOND_CHUNK: &[[u64; 4]] = &[
 const ZETA: [u64; 4] = [6, 1, 8, 3];
 
 /// Cubes with a summand on selected rows, four rows.
-const CUBES: Opened = Opened {
+static CUBES: Opened = Opened {
     system: systems::CUBES,
-    agrees: true,
     log_size: 2,
     local: ROW,
     next: &[[724791248, 169896288, 1916671453, 1740048030]],
@@ -103,59 +94,38 @@ const CUBES: Opened = Opened {
     zeta: ZETA,
 };
 
-/// Whether the window and the chunks on these domains have the sizes, and agree or don't as the
-/// case says.
-fn are_judged_on<F: TwoAdicField, EF: ExtensionField<F>>(
+/// Whether the window and the chunks agree, of a subgroup of so many points and a point off it.
+fn holds<F: TwoAdicField, EF: ExtensionField<F>>(
+    rt: &impl Abort,
     alloc: Global,
     air: &Air<F>,
-    opened: &Opened,
-    window: &Window<'_, F, EF>,
-    domains: &[TwoAdicMultiplicativeCoset<F>],
-    chunks: &[Vec<EF>],
-    challenges: Challenges<EF>,
-) -> Result<bool, AllocError>
-    requires disjoint { AreChunkDomains F.ops
-        (map (λ d. d.log_size) domains.now) (map (λ d. d.shift) domains.now) }
-{
-    let log_size = opened.log_size;
-    if log_size > F::TWO_ADICITY || is_on_domain(log_size, challenges.zeta) {
-        return Ok(false);
-    }
-    if air.check().is_err() || !has_widths(&air.layout, window) {
-        return Ok(false);
-    }
-    if chunks.is_empty() || chunks.len() != domains.len() {
-        return Ok(false);
-    }
-    if !have_dimension::<F, EF>(chunks) {
-        return Ok(false);
-    }
-    let holds = identity_holds(alloc, air, log_size, window, domains, chunks, challenges)?;
-    Ok(holds == opened.agrees)
-}
-
-/// The same on the domains of two chunks.
-fn are_judged<F: TwoAdicField, EF: ExtensionField<F>>(
-    alloc: Global,
-    air: &Air<F>,
-    opened: &Opened,
+    log_size: usize,
     window: &Window<'_, F, EF>,
     chunks: &[Vec<EF>],
     challenges: Challenges<EF>,
-) -> Result<bool, AllocError> {
-    let log_size = opened.log_size;
-    if log_size >= F::TWO_ADICITY {
-        return Ok(false);
-    }
-    let domains = quotient_chunk_domains::<F>(alloc, log_size, 1)?;
-    are_judged_on(alloc, air, opened, window, &domains, chunks, challenges)
+) -> bool {
+    assert!(rt;
+        log_size < F::TWO_ADICITY && !is_on_domain(log_size, challenges.zeta),
+        "no such point"
+    );
+    assert!(rt;
+        air.check().is_ok() && has_widths(&air.layout, window),
+        "the rows don't fit the system"
+    );
+    let domains = quotient_chunk_domains::<F>(alloc, log_size, 1).expect(rt, "memory");
+    assert!(rt;
+        !chunks.is_empty() && chunks.len() == domains.len() && have_dimension::<F, EF>(chunks),
+        "the chunks don't fit their domains"
+    );
+    identity_holds(alloc, air, log_size, window, &domains, chunks, challenges).expect(rt, "memory")
 }
 
-/// The lists of opened values: of the columns, and then of the chunks.
-fn lists_of<F: Field, EF: ExtensionField<F>>(
+/// Whether what is opened of the trace and of the quotient agrees.
+fn agrees<F: TwoAdicField, EF: ExtensionField<F>>(
+    rt: &impl Abort,
     alloc: Global,
     opened: &Opened,
-) -> Result<Vec<Vec<EF>>, AllocError> {
+) -> bool {
     let lists = [
         opened.local,
         opened.next,
@@ -164,61 +134,43 @@ fn lists_of<F: Field, EF: ExtensionField<F>>(
         opened.first_chunk,
         opened.second_chunk,
     ];
-    extension_lists::<F, EF>(alloc, &lists)
-}
-
-/// The same of such lists.
-fn are_lists_judged<F: TwoAdicField, EF: ExtensionField<F>>(
-    alloc: Global,
-    air: &Air<F>,
-    opened: &Opened,
-    lists: &[Vec<EF>],
-    public_values: &[F],
-) -> Result<bool, AllocError> {
-    let [local, next, preprocessed, preprocessed_next, chunks @ ..] = lists else {
-        return Ok(false);
+    let lists = extension_lists::<F, EF>(rt, alloc, &lists);
+    let public_values = elements::<F>(rt, alloc, opened.public_values);
+    let air = air_of::<F>(rt, alloc, &opened.system);
+    let [local, next, preprocessed, preprocessed_next, chunks @ ..] = lists.as_slice() else {
+        panic!(rt; "there are six lists");
     };
     let window = Window {
         local,
         next,
         preprocessed,
         preprocessed_next,
-        public_values,
+        public_values: &public_values,
         periodic: &[],
     };
     let challenges = Challenges {
         alpha: extension::<F, EF>(opened.alpha),
         zeta: extension::<F, EF>(opened.zeta),
     };
-    are_judged(alloc, air, opened, &window, chunks, challenges)
-}
-
-/// The same of what is opened.
-fn is_judged_over<F: TwoAdicField, EF: ExtensionField<F>>(
-    alloc: Global,
-    opened: &Opened,
-) -> Result<bool, AllocError> {
-    let lists = lists_of::<F, EF>(alloc, opened)?;
-    let public_values = elements::<F>(alloc, opened.public_values)?;
-    let air = air_of::<F>(alloc, &opened.system)?;
-    are_lists_judged(alloc, &air, opened, &lists, &public_values)
-}
-
-/// The same over BabyBear.
-fn is_judged(alloc: Global, opened: &Opened) -> Result<bool, AllocError> {
-    is_judged_over::<BabyBear, BabyBear4>(alloc, opened)
+    holds(
+        rt,
+        alloc,
+        &air,
+        opened.log_size,
+        &window,
+        chunks,
+        challenges,
+    )
 }
 
 #[test]
-fn fibonacci_agrees(rt: HostRuntime) -> Result<(), Fail> {
-    assert!(rt; is_judged(rt.alloc(), &FIBONACCI)?);
-    Ok(())
+fn fibonacci_agrees(rt: HostRuntime) {
+    assert!(rt; agrees::<BabyBear, BabyBear4>(&rt, rt.alloc(), &FIBONACCI));
 }
 
 #[test]
-fn cubes_agree(rt: HostRuntime) -> Result<(), Fail> {
-    assert!(rt; is_judged(rt.alloc(), &CUBES)?);
-    Ok(())
+fn cubes_agree(rt: HostRuntime) {
+    assert!(rt; agrees::<BabyBear, BabyBear4>(&rt, rt.alloc(), &CUBES));
 }
 
 /// What is changed of the cubes' openings.
@@ -253,7 +205,7 @@ fn change_opened(opened: &mut Opened, change: Change) {
     }
 }
 
-const CHANGES: [(&str, Change); 7] = [
+static CHANGES: [(&str, Change); 7] = [
     ("next is the row", Change::NextIsTheRow),
     ("another summand", Change::OtherSummand),
     ("another first entry", Change::OtherFirstEntry),
@@ -263,27 +215,14 @@ const CHANGES: [(&str, Change); 7] = [
     ("the next preprocessed row", Change::NextPreprocessedRow),
 ];
 
-/// Whether the openings no longer agree with this change, of such that do.
-fn is_noticed(alloc: Global, opened: &Opened, change: Change) -> Result<bool, AllocError> {
-    let mut changed = *opened;
-    changed.agrees = false;
-    change_opened(&mut changed, change);
-    is_judged(alloc, &changed)
-}
-
-/// The first of these changes with which the openings still agree.
-fn first_unnoticed(alloc: Global, opened: &Opened) -> Result<Option<&'static str>, AllocError> {
-    for (name, change) in &CHANGES {
-        if !is_noticed(alloc, opened, *change)? {
-            return Ok(Some(*name));
-        }
-    }
-    Ok(None)
-}
-
 #[test]
-fn changes_are_noticed(rt: HostRuntime) -> Result<(), Fail> {
-    let unnoticed = first_unnoticed(rt.alloc(), &CUBES)?;
-    assert!(rt; unnoticed.is_none(), "{unnoticed:?}");
-    Ok(())
+fn changes_are_noticed(rt: HostRuntime) {
+    for (name, change) in &CHANGES {
+        let mut changed = CUBES;
+        change_opened(&mut changed, *change);
+        assert!(rt;
+            !agrees::<BabyBear, BabyBear4>(&rt, rt.alloc(), &changed),
+            "{name}"
+        );
+    }
 }

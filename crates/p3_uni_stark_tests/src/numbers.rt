@@ -1,7 +1,8 @@
 //! Elements from numbers, of any field.
 
 use p3_field::{ExtensionField, Field, PrimeField64};
-use std::alloc::{AllocError, Global};
+use std::alloc::Global;
+use std::process::Abort;
 
 /// The element of the extension with these coefficients, of which it has at most four.
 pub(crate) fn extension<F: Field, EF: ExtensionField<F>>(coefficients: [u64; 4]) -> EF {
@@ -30,34 +31,40 @@ pub(crate) fn has_coefficients<F: PrimeField64, EF: ExtensionField<F>>(
 }
 
 /// The elements of these numbers.
-pub(crate) fn elements<F: Field>(alloc: Global, numbers: &[u64]) -> Result<Vec<F>, AllocError> {
+pub(crate) fn elements<F: Field>(rt: &impl Abort, alloc: Global, numbers: &[u64]) -> Vec<F> {
     let mut elements = Vec::new(alloc);
     for number in numbers {
-        elements.push(F::from_u64(*number))?;
+        elements.push(F::from_u64(*number)).expect(rt, "memory");
     }
-    Ok(elements)
+    elements
 }
 
 /// The elements of the extension of these coefficients.
 pub(crate) fn extensions<F: Field, EF: ExtensionField<F>>(
+    rt: &impl Abort,
     alloc: Global,
     numbers: &[[u64; 4]],
-) -> Result<Vec<EF>, AllocError> {
+) -> Vec<EF> {
     let mut elements = Vec::new(alloc);
     for coefficients in numbers {
-        elements.push(extension::<F, EF>(*coefficients))?;
+        elements
+            .push(extension::<F, EF>(*coefficients))
+            .expect(rt, "memory");
     }
-    Ok(elements)
+    elements
 }
 
 /// The same of several lists.
 pub(crate) fn extension_lists<F: Field, EF: ExtensionField<F>>(
+    rt: &impl Abort,
     alloc: Global,
     each: &[&[[u64; 4]]],
-) -> Result<Vec<Vec<EF>>, AllocError> {
+) -> Vec<Vec<EF>> {
     let mut lists = Vec::new(alloc);
     for numbers in each {
-        lists.push(extensions::<F, EF>(alloc, *numbers)?)?;
+        lists
+            .push(extensions::<F, EF>(rt, alloc, *numbers))
+            .expect(rt, "memory");
     }
-    Ok(lists)
+    lists
 }

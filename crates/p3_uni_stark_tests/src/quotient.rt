@@ -9,8 +9,8 @@ use p3_field::{
 };
 use p3_matrix::RowMajorMatrix;
 use p3_uni_stark_quotient::{CosetColumns, is_off_subgroups, quotient_chunks, quotient_values};
-use std::alloc::{AllocError, Global};
-use std::test::Fail;
+use std::alloc::Global;
+use std::process::Abort;
 
 /// Columns on a coset, row after row, and the quotient's values at all points.
 #[derive(Clone, Copy)]
@@ -27,7 +27,7 @@ struct Values {
 
 /// Fibonacci numbers, eight rows, on a coset of sixteen points: two blocks of lanes, of which the
 /// last has next rows at the coset's begin.
-const FIBONACCI: Values = Values {
+static FIBONACCI: Values = Values {
     system: systems::FIBONACCI,
     log_size: 3,
     width: 2,
@@ -63,7 +63,7 @@ const FIBONACCI: Values = Values {
 
 /// Cubes with a summand on selected rows, two rows, on a coset of four points, fewer than there are
 /// lanes.
-const TWO_CUBES: Values = Values {
+static TWO_CUBES: Values = Values {
     system: systems::CUBES,
     log_size: 1,
     width: 1,
@@ -80,7 +80,7 @@ const TWO_CUBES: Values = Values {
 };
 
 /// The same of four rows, on a coset of eight points, as many as there are lanes.
-const CUBES: Values = Values {
+static CUBES: Values = Values {
     system: systems::CUBES,
     log_size: 2,
     width: 1,
@@ -105,17 +105,19 @@ const CUBES: Values = Values {
     ],
 };
 
-/// The matrix of these numbers, if rows are whole.
+/// The matrix of these numbers.
 fn matrix<F: Field>(
+    rt: &impl Abort,
     alloc: Global,
     numbers: &[u64],
     width: usize,
-) -> Result<RowMajorMatrix<F>, Fail> {
-    let values = elements::<F>(alloc, numbers)?;
-    if width == 0 || values.len() % width != 0 {
-        return Err(Fail::new("rows aren't whole"));
-    }
-    Ok(RowMajorMatrix::new(values, width))
+) -> RowMajorMatrix<F> {
+    let values = elements::<F>(rt, alloc, numbers);
+    assert!(rt;
+        width != 0 && values.len() % width == 0,
+        "rows aren't whole"
+    );
+    RowMajorMatrix::new(values, width)
 }
 
 /// Whether the values are those.
@@ -131,38 +133,45 @@ fn are<F: PrimeField64, EF: ExtensionField<F>>(values: &[EF], expected: &[[u64; 
     true
 }
 
-/// Whether columns fit a coset of twice as many points, and the quotient's values there are the
+/// Whether the quotient's values of these columns, on a coset of twice as many points, are the
 /// case's.
 fn give_values<F: TwoAdicField + PackableField + PrimeField64, EF: ExtensionField<F>>(
+    rt: &impl Abort,
     alloc: Global,
     air: &Air<F>,
     columns: &CosetColumns<'_, F>,
     case: &Values,
-) -> Result<bool, AllocError> {
+) -> bool {
     let log_size = case.log_size;
-    if log_size >= F::TWO_ADICITY || air.check().is_err() {
-        return Ok(false);
-    }
-    let Some(coset) = TwoAdicMultiplicativeCoset::new(F::GENERATOR, log_size + 1) else {
-        return Ok(false);
-    };
-    if !is_off_subgroups(coset) || !columns.fits(&air.layout, coset.size()) {
-        return Ok(false);
-    }
+    assert!(rt;
+        log_size < F::TWO_ADICITY && air.check().is_ok(),
+        "there is no such system"
+    );
+    let coset = TwoAdicMultiplicativeCoset::new(F::GENERATOR, log_size + 1).expect(
+        rt,
+        "no such coset",
+    );
+    assert!(rt;
+        is_off_subgroups(coset) && columns.fits(&air.layout, coset.size()),
+        "the columns don't fit the coset"
+    );
     let alpha = extension::<F, EF>(case.alpha);
-    let values = quotient_values(alloc, air, columns, log_size, 1, coset, alpha)?;
-    Ok(are::<F, EF>(&values, case.quotient))
+    let values = quotient_values(alloc, air, columns, log_size, 1, coset, alpha).expect(
+        rt, "memory",
+    );
+    are::<F, EF>(&values, case.quotient)
 }
 
 /// Whether the case's columns give its values.
-fn is_met_over<F: TwoAdicField + PackableField + PrimeField64, EF: ExtensionField<F>>(
+fn is_met<F: TwoAdicField + PackableField + PrimeField64, EF: ExtensionField<F>>(
+    rt: &impl Abort,
     alloc: Global,
     case: &Values,
-) -> Result<bool, Fail> {
-    let trace = matrix::<F>(alloc, case.trace, case.width)?;
-    let preprocessed = matrix::<F>(alloc, case.preprocessed, 1)?;
-    let public_values = elements::<F>(alloc, case.public_values)?;
-    let air = air_of::<F>(alloc, &case.system)?;
+) -> bool {
+    let trace = matrix::<F>(rt, alloc, case.trace, case.width);
+    let preprocessed = matrix::<F>(rt, alloc, case.preprocessed, 1);
+    let public_values = elements::<F>(rt, alloc, case.public_values);
+    let air = air_of::<F>(rt, alloc, &case.system);
     let columns = CosetColumns {
         trace: &trace,
         preprocessed: if preprocessed.height() == 0 {
@@ -173,59 +182,37 @@ fn is_met_over<F: TwoAdicField + PackableField + PrimeField64, EF: ExtensionFiel
         periodic: None,
         public_values: &public_values,
     };
-    Ok(give_values::<F, EF>(alloc, &air, &columns, case)?)
-}
-
-/// The same over BabyBear.
-fn is_met(alloc: Global, case: &Values) -> Result<bool, Fail> {
-    is_met_over::<BabyBear, BabyBear4>(alloc, case)
+    give_values::<F, EF>(rt, alloc, &air, &columns, case)
 }
 
 #[test]
-fn fibonacci_numbers(rt: HostRuntime) -> Result<(), Fail> {
-    assert!(rt; is_met(rt.alloc(), &FIBONACCI)?);
-    Ok(())
+fn fibonacci_numbers(rt: HostRuntime) {
+    assert!(rt; is_met::<BabyBear, BabyBear4>(&rt, rt.alloc(), &FIBONACCI));
 }
 
 #[test]
-fn selected_cubes(rt: HostRuntime) -> Result<(), Fail> {
-    assert!(rt; is_met(rt.alloc(), &TWO_CUBES)?);
-    assert!(rt; is_met(rt.alloc(), &CUBES)?);
-    Ok(())
+fn selected_cubes(rt: HostRuntime) {
+    assert!(rt; is_met::<BabyBear, BabyBear4>(&rt, rt.alloc(), &TWO_CUBES));
+    assert!(rt; is_met::<BabyBear, BabyBear4>(&rt, rt.alloc(), &CUBES));
 }
 
-/// Whether the second chunk of eight values has this number at a place.
+/// Whether the second chunk of the cubes' values has this number at a place.
 fn second_chunk_has<F: PrimeField64, EF: ExtensionField<F>>(
+    rt: &impl Abort,
     alloc: Global,
-    values: &[EF],
     (row, column): (usize, usize),
     expected: u64,
-) -> Result<bool, AllocError> {
-    if values.len() != 8 {
-        return Ok(false);
-    }
-    let chunks = quotient_chunks::<F, EF>(alloc, values, 2, 1)?;
-    let Some(chunk) = chunks.get(1) else {
-        return Ok(false);
-    };
-    match chunk.get(row, column) {
-        Some(entry) => Ok(entry.as_canonical_u64() == expected),
-        None => Ok(false),
-    }
-}
-
-/// Whether that of the cubes' values does.
-fn cubes_chunk_has<F: PrimeField64, EF: ExtensionField<F>>(
-    alloc: Global,
-    place: (usize, usize),
-    expected: u64,
-) -> Result<bool, AllocError> {
-    let values = extensions::<F, EF>(alloc, CUBES.quotient)?;
-    second_chunk_has::<F, EF>(alloc, &values, place, expected)
+) -> bool {
+    let values = extensions::<F, EF>(rt, alloc, CUBES.quotient);
+    assert!(rt; values.len() == 8, "not eight values");
+    let chunks = quotient_chunks::<F, EF>(alloc, &values, 2, 1).expect(rt, "memory");
+    let chunk = chunks.get(1).expect(rt, "one chunk");
+    let entry = chunk.get(row, column).expect(rt, "no such entry");
+    entry.as_canonical_u64() == expected
 }
 
 #[test]
-fn a_chunk_has_every_second_value(rt: HostRuntime) -> Result<(), Fail> {
-    assert!(rt; cubes_chunk_has::<BabyBear, BabyBear4>(rt.alloc(), (2, 3), 850690884)?);
-    Ok(())
+fn a_chunk_has_every_second_value(rt: HostRuntime) {
+    let place = (2, 3);
+    assert!(rt; second_chunk_has::<BabyBear, BabyBear4>(&rt, rt.alloc(), place, 850690884));
 }

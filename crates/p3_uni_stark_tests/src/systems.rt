@@ -2,7 +2,8 @@
 
 use p3_air::{Air, AirLayout, Constraint, Node, Rows};
 use p3_field::Field;
-use std::alloc::{AllocError, Global};
+use std::alloc::Global;
+use std::process::Abort;
 
 /// A constraint system in tables, with numbers in the place of elements.
 #[derive(Clone, Copy)]
@@ -30,21 +31,21 @@ fn node_of<F: Field>(node: Node<u64>) -> Node<F> {
 }
 
 /// The nodes of elements.
-fn nodes_of<F: Field>(alloc: Global, nodes: &[Node<u64>]) -> Result<Vec<Node<F>>, AllocError> {
+fn nodes_of<F: Field>(rt: &impl Abort, alloc: Global, nodes: &[Node<u64>]) -> Vec<Node<F>> {
     let mut made = Vec::new(alloc);
     for node in nodes {
-        made.push(node_of(*node))?;
+        made.push(node_of(*node)).expect(rt, "memory");
     }
-    Ok(made)
+    made
 }
 
 /// The constraint system over any field.
-pub(crate) fn air_of<F: Field>(alloc: Global, system: &System) -> Result<Air<F>, AllocError> {
-    Ok(Air {
+pub(crate) fn air_of<F: Field>(rt: &impl Abort, alloc: Global, system: &System) -> Air<F> {
+    Air {
         layout: system.layout,
-        nodes: nodes_of(alloc, system.nodes)?,
-        constraints: Vec::from_slice(alloc, system.constraints)?,
-    })
+        nodes: nodes_of(rt, alloc, system.nodes),
+        constraints: Vec::from_slice(alloc, system.constraints).expect(rt, "memory"),
+    }
 }
 
 /// The first row is the first two public values, each next row has the second entry and the sum of
