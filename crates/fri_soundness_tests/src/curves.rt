@@ -15,7 +15,7 @@ type Row = (u64, u64);
 const ORDER: u64 = 2_013_265_921;
 
 /// Eight rows, of which a budget of one row can fail: three budgets and four are no more.
-const EIGHT_ROWS: [Row; 8] = [
+static EIGHT_ROWS: [Row; 8] = [
     (0, 0),
     (ORDER - 5, 1),
     (0, 0),
@@ -27,7 +27,7 @@ const EIGHT_ROWS: [Row; 8] = [
 ];
 
 /// Sixteen rows, of which a budget of four can fail.
-const SIXTEEN_ROWS: [Row; 16] = [
+static SIXTEEN_ROWS: [Row; 16] = [
     (ORDER - 2, 1),
     (0, 0),
     (0, 0),

@@ -2,7 +2,8 @@
 
 use fri_soundness_error::{BatchError, RoundError, soundness_error, tallest_of};
 use p3_fri_folding::{FriParameters, is_strictly_falling};
-use std::alloc::{AllocError, Global};
+use std::alloc::Global;
+use std::process::Abort;
 
 /// The numbers of a round in the order of its fields, and whether it has room.
 type Round = ([usize; 4], u128, bool);
@@ -12,7 +13,6 @@ type Batch = ([usize; 3], u128, bool);
 
 /// An instance with a final polynomial of `2^log_final_poly_len` coefficients, and the numbers of
 /// its rounds and batches.
-#[derive(Clone, Copy)]
 struct Case {
     name: &'static str,
     log_final_poly_len: usize,
@@ -25,7 +25,7 @@ struct Case {
 }
 
 /// The instances, each with a blowup of two.
-const CASES: [Case; 4] = [
+static CASES: [Case; 4] = [
     Case {
         name: "no matrix",
         log_final_poly_len: 0,
@@ -86,47 +86,34 @@ fn is_batch(found: &BatchError, expected: &Batch) -> bool {
 }
 
 /// Whether an instance has its numbers.
-fn is_right(alloc: Global, case: &Case) -> Result<bool, AllocError> {
+fn is_right(rt: &impl Abort, alloc: Global, case: &Case) -> bool {
     let mut parameters = FriParameters::new_testing((), case.log_final_poly_len);
     parameters.log_blowup = 1;
     parameters.max_log_arity = case.max_log_arity;
-    if !is_strictly_falling(case.heights)
-        || tallest_of(case.heights) >= 64
-        || parameters.max_log_arity == 0
-        || parameters.log_final_poly_len >= 64
-        || case.columns.len() != case.heights.len()
-    {
-        return Ok(false);
-    }
-    let error = soundness_error(alloc, &parameters, case.heights, case.columns, case.failing)?;
-    if error.rounds.len() != case.rounds.len() || error.batches.len() != case.batches.len() {
-        return Ok(false);
-    }
+    assert!(rt;
+        is_strictly_falling(case.heights)
+            && tallest_of(case.heights) < 64
+            && parameters.max_log_arity != 0
+            && parameters.log_final_poly_len < 64
+            && case.columns.len() == case.heights.len(),
+        "there is no such instance"
+    );
+    let error = soundness_error(alloc, &parameters, case.heights, case.columns, case.failing);
+    let error = error.expect(rt, "memory");
+    let mut right = error.rounds.len() == case.rounds.len()
+        && error.batches.len() == case.batches.len();
     for (found, expected) in error.rounds.iter().zip(case.rounds) {
-        if !is_round(found, expected) {
-            return Ok(false);
-        }
+        right = right && is_round(found, expected);
     }
     for (found, expected) in error.batches.iter().zip(case.batches) {
-        if !is_batch(found, expected) {
-            return Ok(false);
-        }
+        right = right && is_batch(found, expected);
     }
-    Ok(true)
-}
-
-/// The first case whose numbers are others.
-fn first_wrong(alloc: Global) -> Result<Option<&'static str>, AllocError> {
-    for case in CASES {
-        if !is_right(alloc, &case)? {
-            return Ok(Some(case.name));
-        }
-    }
-    Ok(None)
+    right
 }
 
 #[test]
 fn numbers_are_those_by_hand(rt: HostRuntime) {
-    let wrong = first_wrong(rt.alloc());
-    assert!(rt; wrong == Ok(None), "{wrong:?}");
+    for case in &CASES {
+        assert!(rt; is_right(&rt, rt.alloc(), case), "{}", case.name);
+    }
 }
