@@ -10,12 +10,12 @@ use std::alloc::Global;
 use std::process::Abort;
 
 /// Nineteen indices of 32: twice eight, and three.
-const INDICES: [usize; 19] = [
+static INDICES: [usize; 19] = [
     31, 0, 5, 5, 16, 17, 30, 1, 2, 8, 24, 9, 12, 31, 7, 6, 3, 29, 10,
 ];
 
 /// The dimensions of the tree's matrices.
-const DIMENSIONS: [Dimensions; 3] = [
+static DIMENSIONS: [Dimensions; 3] = [
     Dimensions {
         width: 3,
         height: 32,
@@ -46,7 +46,7 @@ enum Alteration {
 }
 
 /// How each alteration is refused.
-const REFUSALS: [(Alteration, Sha256MmcsError); 5] = [
+static REFUSALS: [(Alteration, Sha256MmcsError); 5] = [
     (Alteration::RowCount, Sha256MmcsError::MatrixCount),
     (Alteration::Width, Sha256MmcsError::RowWidth),
     (Alteration::Levels, Sha256MmcsError::PathLength),
@@ -55,25 +55,25 @@ const REFUSALS: [(Alteration, Sha256MmcsError); 5] = [
 ];
 
 /// Two alterations at these places among the indices, and the one that is named.
-const PAIRS: [([(usize, Alteration); 2], Sha256MmcsError); 5] = [
+static PAIRS: [(&[(usize, Alteration)], Sha256MmcsError); 5] = [
     (
-        [(9, Alteration::Entry), (11, Alteration::Levels)],
+        &[(9, Alteration::Entry), (11, Alteration::Levels)],
         Sha256MmcsError::RootMismatch,
     ),
     (
-        [(13, Alteration::Entry), (11, Alteration::Levels)],
+        &[(13, Alteration::Entry), (11, Alteration::Levels)],
         Sha256MmcsError::PathLength,
     ),
     (
-        [(7, Alteration::RowCount), (0, Alteration::Width)],
+        &[(7, Alteration::RowCount), (0, Alteration::Width)],
         Sha256MmcsError::RowWidth,
     ),
     (
-        [(17, Alteration::Width), (2, Alteration::Digest)],
+        &[(17, Alteration::Width), (2, Alteration::Digest)],
         Sha256MmcsError::RootMismatch,
     ),
     (
-        [(18, Alteration::Digest), (18, Alteration::RowCount)],
+        &[(18, Alteration::Digest), (18, Alteration::RowCount)],
         Sha256MmcsError::MatrixCount,
     ),
 ];
@@ -130,14 +130,14 @@ fn verdict_on_altered(
     alterations: &[(usize, Alteration)],
 ) -> Verdict {
     let scheme = Sha256Mmcs::new();
-    let (sizes, root) = TREES[5];
-    let matrices = matrices_of(rt, alloc, &sizes);
+    let (sizes, root) = &TREES[5];
+    let matrices = matrices_of(rt, alloc, *sizes);
     let (_root, data) = commitment_to(rt, alloc, &scheme, matrices);
     let (mut rows, mut paths) = opening_at(rt, alloc, &scheme, &data, &INDICES);
     for (place, alteration) in alterations {
         alter(*place, *alteration, &mut rows, &mut paths);
     }
-    verdict_on(rt, &scheme, &root, &DIMENSIONS, &INDICES, &rows, &paths)
+    verdict_on(rt, &scheme, root, &DIMENSIONS, &INDICES, &rows, &paths)
 }
 
 #[test]
@@ -158,7 +158,7 @@ fn refuses_one_altered_of_many(rt: HostRuntime) {
 #[test]
 fn names_the_first_fault_of_two(rt: HostRuntime) {
     for (index, (pair, refusal)) in PAIRS.iter().enumerate() {
-        let found = verdict_on_altered(&rt, rt.alloc(), pair);
+        let found = verdict_on_altered(&rt, rt.alloc(), *pair);
         assert!(rt; found == Err(*refusal), "pair {index}");
     }
 }

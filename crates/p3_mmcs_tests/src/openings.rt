@@ -11,10 +11,14 @@ use std::alloc::Global;
 use std::process::Abort;
 
 /// Rows of the two matrices at the indices 3, 0 and 3, by set and matrix.
-const ROWS: [(usize, usize, &[u64]); 3] = [(0, 0, &[7, 8]), (0, 1, &[2_013_265_920]), (1, 1, &[9])];
+static ROWS: [(usize, usize, &[u64]); 3] = [
+    (0, 0, &[7, 8]),
+    (0, 1, &[2_013_265_920]),
+    (1, 1, &[9]),
+];
 
 /// What verification says to altered rows, of which each is altered once more.
-const ALTERED_ROWS: [(&str, Verdict); 4] = [
+static ALTERED_ROWS: [(&str, Verdict); 4] = [
     ("a longer row", Err(Sha256MmcsError::RowWidth)),
     ("another entry", Err(Sha256MmcsError::RootMismatch)),
     (

@@ -3,7 +3,7 @@
 use p3_mmcs::Sha256MmcsError;
 
 /// Each refusal, and the words for it.
-const REFUSALS: [(Sha256MmcsError, &str); 5] = [
+static REFUSALS: [(Sha256MmcsError, &str); 5] = [
     (
         Sha256MmcsError::QueryCount,
         "the sets of rows or the paths are not as many as the indices",

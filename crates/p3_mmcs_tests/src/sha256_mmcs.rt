@@ -133,7 +133,7 @@ pub(crate) fn two_matrices(rt: &impl Abort, alloc: Global) -> Vec<RowMajorMatrix
 }
 
 /// The dimensions of these two.
-pub(crate) const TWO_DIMENSIONS: [Dimensions; 2] = [
+pub(crate) static TWO_DIMENSIONS: [Dimensions; 2] = [
     Dimensions {
         width: 2,
         height: 4,
@@ -184,7 +184,7 @@ fn commits_to_two_heights(rt: HostRuntime) {
 }
 
 /// What is asked of outside values, and the answers.
-const CONDITIONS: [(&str, bool); 6] = [
+static CONDITIONS: [(&str, bool); 6] = [
     ("no heights are powers of two", true),
     ("4 and 2 are", true),
     ("3 is", false),
