@@ -267,6 +267,16 @@ fn open_all_inputs(
     openings
 }
 
+/// The log arities of the rounds from this height down to that of the final polynomial's word.
+fn schedule_of(rt: &impl Abort, alloc: Global, parameters: &Parameters, height: usize) -> Vec<usize>
+    requires { parameters.now.log_final_poly_len ≤ 8 }
+{
+    let cap = parameters.max_log_arity;
+    assert!(rt; cap > 0, "no cap");
+    let final_height = 1 + parameters.log_final_poly_len;
+    fold_schedule(alloc, &[height], final_height, cap).expect(rt, "memory")
+}
+
 /// An honest proof on domains of log size `log_size`, by a challenger that first absorbed `start`.
 pub(crate) fn make_honest(
     rt: &impl Abort,
@@ -280,11 +290,8 @@ pub(crate) fn make_honest(
         log_size <= 8 && extra_bits <= 3 && parameters.log_final_poly_len <= 8,
         "a large proof"
     );
-    assert!(rt; parameters.max_log_arity > 0, "no cap");
     let height = log_size + 1;
-    let final_height = 1 + parameters.log_final_poly_len;
-    let cap = parameters.max_log_arity;
-    let log_arities = fold_schedule(alloc, &[height], final_height, cap).expect(rt, "memory");
+    let log_arities = schedule_of(rt, alloc, parameters, height);
     let (commitments, rounds) = commit_rounds(rt, alloc, height, &log_arities);
     let (claims, inputs) = commit_all_inputs(rt, alloc, log_size);
     let final_poly = final_poly_of(rt, alloc, parameters.log_final_poly_len);
