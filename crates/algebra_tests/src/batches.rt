@@ -59,9 +59,9 @@ fn compressed(alpha: BabyBear4, row: [BabyBear4; 2], x: BabyBear4) -> BabyBear4 
     sum
 }
 
-/// The index of the first point at which the sums, one by one or of compressed rows, aren't the
-/// batch's value.
-fn first_wrong_point() -> Option<usize> {
+#[test]
+fn quotients_are_the_batch_at_each_point(rt: HostRuntime) {
+    assert!(rt; BabyBear4::GENERATOR == element([8, 1, 0, 0]));
     let alpha = element([2, 0, 1, 0]);
     let [constant, linear, quadratic] = batch();
     for index in 0..8 {
@@ -71,18 +71,9 @@ fn first_wrong_point() -> Option<usize> {
             BabyBear4::from_u64(SECOND_COLUMN[index]),
         ];
         let value = constant + x * linear + x.square() * quadratic;
-        if one_by_one(alpha, row, x) != value || compressed(alpha, row, x) != value {
-            return Some(index);
-        }
+        let right = one_by_one(alpha, row, x) == value && compressed(alpha, row, x) == value;
+        assert!(rt; right, "point {index}");
     }
-    None
-}
-
-#[test]
-fn quotients_are_the_batch_at_each_point(rt: HostRuntime) {
-    assert!(rt; BabyBear4::GENERATOR == element([8, 1, 0, 0]));
-    let wrong = first_wrong_point();
-    assert!(rt; wrong.is_none(), "{wrong:?}");
     quotients_law::<BabyBear4>();
     batches_law::<BabyBear, BabyBear4>();
 }

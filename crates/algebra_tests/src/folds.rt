@@ -53,48 +53,38 @@ fn fold_of_four(index: usize) -> BabyBear
     fold_pair(point(2 * index, 5), BabyBear::from_u64(49), left, right)
 }
 
-/// The first row of four whose fold isn't 7 times its point.
-fn first_wrong_fold() -> Option<usize> {
-    // of the blocks of four coefficients 0 and X the second has the value 7 at 7
-    for index in 0..16 {
-        if fold_of_four(index) != BabyBear::from_u64(7) * point(index, 4) {
-            return Some(index);
-        }
-    }
-    None
-}
-
 #[test]
 fn folds_in_steps(rt: HostRuntime) {
-    let wrong = first_wrong_fold();
-    assert!(rt; wrong.is_none(), "row {wrong:?}");
+    // of the blocks of four coefficients 0 and X the second has the value 7 at 7
+    for index in 0..16 {
+        let wanted = BabyBear::from_u64(7) * point(index, 4);
+        assert!(rt; fold_of_four(index) == wanted, "row {index}");
+    }
     folds_law::<BabyBear>();
 }
 
-/// The first row of the cubic over eight points, folded by two at 5, with `2 + 7 X` over four
-/// points rolled in, at which the final polynomial has another value.
-fn first_wrong_end() -> Option<usize> {
-    // the blocks' values 8 and 9, and 25 times 2 and 7
-    for row in 0..4 {
-        let s = point(2 * row, 3);
-        let folded = fold_pair(
-            s,
-            BabyBear::from_u64(5),
-            cubic(s),
-            cubic(point(2 * row + 1, 3)),
-        );
-        let input = line(2, 7, point(row, 2));
-        if folded + BabyBear::from_u64(25) * input != line(58, 184, point(row, 2)) {
-            return Some(row);
-        }
-    }
-    None
+/// The row of the cubic over eight points, folded by two at 5, with `2 + 7 X` over four points
+/// rolled in.
+fn fold_with_input(row: usize) -> BabyBear
+    requires { row < 4 }
+{
+    let s = point(2 * row, 3);
+    let folded = fold_pair(
+        s,
+        BabyBear::from_u64(5),
+        cubic(s),
+        cubic(point(2 * row + 1, 3)),
+    );
+    folded + BabyBear::from_u64(25) * line(2, 7, point(row, 2))
 }
 
 #[test]
 fn a_chain_ends_at_the_final_polynomial(rt: HostRuntime) {
-    let wrong = first_wrong_end();
-    assert!(rt; wrong.is_none(), "row {wrong:?}");
+    // the blocks' values 8 and 9, and 25 times 2 and 7
+    for row in 0..4 {
+        let wanted = line(58, 184, point(row, 2));
+        assert!(rt; fold_with_input(row) == wanted, "row {row}");
+    }
     rounds_law::<BabyBear>();
 }
 
@@ -114,25 +104,19 @@ fn a_remainder_has_the_values_on_a_coset(rt: HostRuntime) {
 }
 
 /// The values in turn, on sixteen points of shift 31, of the column 1, 3 over eight rows.
-const REPEATED: [u64; 4] = [2012342402, 21214579, 923523, 1992051346];
+static REPEATED: [u64; 4] = [2012342402, 21214579, 923523, 1992051346];
 
-/// The first of the sixteen points at which the column has another value.
-fn first_wrong_repeat() -> Option<usize> {
+#[test]
+fn a_periodic_column_repeats(rt: HostRuntime) {
     // the column is 2 - X at 1 and -1, so that it has at x the value 2 - x^4
     let root = BabyBear::two_adic_generator(4);
     for index in 0..16 {
         let x = BabyBear::GENERATOR * root.exp_u64(index as u64);
         let value = BabyBear::from_u64(2) - x.exp_power_of_2(2);
-        if value != BabyBear::from_u64(REPEATED[index % 4]) {
-            return Some(index);
-        }
+        assert!(rt;
+            value == BabyBear::from_u64(REPEATED[index % 4]),
+            "point {index}"
+        );
     }
-    None
-}
-
-#[test]
-fn a_periodic_column_repeats(rt: HostRuntime) {
-    let wrong = first_wrong_repeat();
-    assert!(rt; wrong.is_none(), "point {wrong:?}");
     periodic_law::<BabyBear>();
 }

@@ -5,6 +5,7 @@ ghost use Rattle.std.specs.Prelude.{◌<◌};
 use crate::values::POINTS;
 use algebra::{cosets_law, point_test_law};
 use p3_field::{BabyBear, BabyBear4, ExtensionField, Field, TwoAdicMultiplicativeCoset};
+use std::process::Abort;
 
 /// Whether the `2^log_size`-th power of `z` is that of the shift 31.
 fn has_power_of_shift(log_size: usize, z: BabyBear4) -> bool {
@@ -21,55 +22,41 @@ fn fails_and_differs(x: BabyBear4) -> bool {
     right
 }
 
-/// The index of the first point at which the test answers otherwise: it is one of the coset of
-/// eight, and one of that of four where its index is below 4.
-fn first_wrong_point() -> Option<usize> {
+#[test]
+fn tests_points(rt: HostRuntime) {
+    // each is one of the coset of eight, and one of that of four where its index is below 4
     for index in 0..8 {
         let x = BabyBear4::from_u64(POINTS[index]);
         let in_eight = has_power_of_shift(3, x);
         let in_four = has_power_of_shift(2, x);
-        if !in_eight || in_four != (index < 4) || !fails_and_differs(x) {
-            return Some(index);
-        }
+        let right = in_eight && in_four == (index < 4) && fails_and_differs(x);
+        assert!(rt; right, "point {index}");
     }
-    None
-}
-
-#[test]
-fn tests_points(rt: HostRuntime) {
-    let wrong = first_wrong_point();
-    assert!(rt; wrong.is_none(), "{wrong:?}");
     point_test_law::<BabyBear, BabyBear4>();
 }
 
 /// The values of the vanishing polynomial of the coset of four points of shift 31 at this point of
 /// it and at that of the coset of shift 62.
-fn vanishing_values(index: usize) -> Option<(BabyBear, BabyBear)>
+fn vanishing_values(rt: &impl Abort, index: usize) -> (BabyBear, BabyBear)
     requires { index < 4 }
 {
-    let first = TwoAdicMultiplicativeCoset::new(BabyBear::GENERATOR, 2)?;
-    let second = TwoAdicMultiplicativeCoset::new(BabyBear::GENERATOR.double(), 2)?;
-    Some((
+    let first = TwoAdicMultiplicativeCoset::new(BabyBear::GENERATOR, 2);
+    let first = first.expect(rt, "no coset");
+    let second = TwoAdicMultiplicativeCoset::new(BabyBear::GENERATOR.double(), 2);
+    let second = second.expect(rt, "no coset");
+    (
         first.vanishing_poly_at_point(first.element(index)),
         first.vanishing_poly_at_point(second.element(index)),
-    ))
-}
-
-/// The first index at which the polynomial has other values than zero and 15.
-fn first_wrong_value() -> Option<usize> {
-    // (62 / 31)^4 - 1
-    let off_coset = BabyBear::from_u64(15);
-    for index in 0..4 {
-        if vanishing_values(index) != Some((BabyBear::ZERO, off_coset)) {
-            return Some(index);
-        }
-    }
-    None
+    )
 }
 
 #[test]
 fn vanishes_on_one_coset_alone(rt: HostRuntime) {
-    let wrong = first_wrong_value();
-    assert!(rt; wrong.is_none(), "{wrong:?}");
+    // (62 / 31)^4 - 1
+    let off_coset = BabyBear::from_u64(15);
+    for index in 0..4 {
+        let values = vanishing_values(&rt, index);
+        assert!(rt; values == (BabyBear::ZERO, off_coset), "point {index}");
+    }
     cosets_law::<BabyBear>();
 }
