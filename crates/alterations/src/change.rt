@@ -38,7 +38,7 @@ pub enum Operation {
 }
 
 /// Each operation with its name, in order.
-pub const OPERATIONS: [(&str, Operation); 12] = [
+pub static OPERATIONS: [(&str, Operation); 12] = [
     ("keep", Operation::Keep),
     ("cut", Operation::Cut),
     ("repeat", Operation::Repeat),

@@ -29,8 +29,8 @@ pub struct Counts {
 
 impl Counts {
     fn add(&mut self, operation: Operation, is_named: bool, is_accepted: bool) {
-        for (count, (_, other)) in self.by_operation.iter_mut().zip(OPERATIONS) {
-            *count = count.saturating_add((operation == other) as usize);
+        for (count, (_, other)) in self.by_operation.iter_mut().zip(&OPERATIONS) {
+            *count = count.saturating_add((operation == *other) as usize);
         }
         self.named = self.named.saturating_add(is_named as usize);
         self.accepted = self.accepted.saturating_add(is_accepted as usize);
@@ -39,8 +39,8 @@ impl Counts {
     /// All of them.
     pub fn total(&self) -> usize {
         let mut total = 0usize;
-        for count in self.by_operation {
-            total = total.saturating_add(count);
+        for count in &self.by_operation {
+            total = total.saturating_add(*count);
         }
         total
     }

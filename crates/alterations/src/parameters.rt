@@ -15,7 +15,7 @@ use serde_json::Value;
 pub type Rounds = Sha256Mmcs<BabyBear4>;
 
 /// Where the parameters stand, in their order.
-const PARAMETERS: [&str; 7] = [
+static PARAMETERS: [&str; 7] = [
     "/log_blowup",
     "/log_final_poly_len",
     "/max_log_arity",
@@ -64,8 +64,8 @@ pub fn read_parameters(parameters: &Value) -> Result<FriParameters<Rounds>>
     ensures { IfOk result (λ p. InVerifierRange (parameters_of p) 27 63) }
 {
     let mut numbers = [0; 7];
-    for (entry, path) in numbers.iter_mut().zip(PARAMETERS) {
-        *entry = number(parameters, path)?;
+    for (entry, path) in numbers.iter_mut().zip(&PARAMETERS) {
+        *entry = number(parameters, *path)?;
     }
     let parameters = parameters_of_numbers(numbers);
     ensure!(is_in_range(&parameters), "parameters out of range");

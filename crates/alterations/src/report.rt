@@ -30,7 +30,7 @@ pub fn report_on<A: Answers>(
         let accepted = counts.accepted.saturating_sub(before.accepted);
         println!(rt; "{name}: {total} changes, {named} of them named, {accepted} accepted")?;
     }
-    for ((name, _), count) in OPERATIONS.iter().zip(counts.by_operation) {
+    for ((name, _), count) in OPERATIONS.iter().zip(&counts.by_operation) {
         println!(rt; "{name}: {count}")?;
     }
     Ok(())
