@@ -11,7 +11,7 @@ use alterations::report_on;
 use anyhow::Result;
 
 /// The openings, each in a file of its own.
-const OPENINGS: [&str; 15] = [
+static OPENINGS: [&str; 15] = [
     "line",
     "constant",
     "square_by_four",
