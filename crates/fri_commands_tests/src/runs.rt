@@ -9,7 +9,7 @@ use std::process::Abort;
 /// A command line, what it writes to the output and to the error stream, and the status.
 type Row = (&'static str, &'static str, &'static str, u8);
 
-const SCHEDULES: [Row; 12] = [
+static SCHEDULES: [Row; 12] = [
     ("schedule 10 2 3", "3 3 2\n", "", 0),
     ("schedule 10 2 1", "1 1 1 1 1 1 1 1\n", "", 0),
     ("schedule 10,6 2 3", "3 1 3 1\n", "", 0),
@@ -24,7 +24,7 @@ const SCHEDULES: [Row; 12] = [
     ("schedule 10 2 0", "", "fri_run: bad cap\n", 2),
 ];
 
-const FOLDS: [Row; 11] = [
+static FOLDS: [Row; 11] = [
     ("fold 0 3,5 1,1,2013265920,2013265920", "1 1\n5\n", "", 0),
     (
         "fold 1 3 1,1,2013265920,2013265920",
@@ -48,7 +48,7 @@ const FOLDS: [Row; 11] = [
     ("fold 0 2013265921 1,1", "", "fri_run: bad number\n", 2),
 ];
 
-const OPENINGS: [Row; 16] = [
+static OPENINGS: [Row; 16] = [
     (
         "prove 1 0 5 1,3",
         "2013265918\naccepted\nstates equal\n",
@@ -108,7 +108,7 @@ const OPENINGS: [Row; 16] = [
 ];
 
 /// Commands, numbers, and which of two faults comes first.
-const FAULTS: [Row; 17] = [
+static FAULTS: [Row; 17] = [
     ("", "", "fri_run: bad command\n", 2),
     ("schedule 10 2", "", "fri_run: bad command\n", 2),
     ("schedule 10 2 3 4", "", "fri_run: bad command\n", 2),
@@ -129,56 +129,53 @@ const FAULTS: [Row; 17] = [
 ];
 
 /// The words of a command line; two spaces have an empty one between them.
-fn words(alloc: Global, line: &str) -> io::Result<Vec<String>> {
+fn words(rt: &impl Abort, alloc: Global, line: &str) -> Vec<String> {
     let mut words = Vec::new(alloc);
     for word in line.split(' ') {
-        words.push(word.to_string(alloc)?)?;
+        let word = word.to_string(alloc).expect(rt, "memory");
+        words.push(word).expect(rt, "memory");
     }
-    Ok(words)
+    words
 }
 
 /// Runs each row over writers in memory.
-fn check(rt: &(impl Abort + AllocGlobal), rows: &[Row]) -> io::Result<()> {
+fn check(rt: &impl Abort, alloc: Global, rows: &[Row]) {
     for (line, output, fault, status) in rows {
-        let args = words(rt.alloc(), line)?;
-        let mut out: Vec<u8> = Vec::new(rt.alloc());
-        let mut err: Vec<u8> = Vec::new(rt.alloc());
-        assert_eq!(rt;
-            run(rt.alloc(), &args, &mut out, &mut err),
-            *status,
-            "{line}"
-        );
+        let args = words(rt, alloc, line);
+        let mut out: Vec<u8> = Vec::new(alloc);
+        let mut err: Vec<u8> = Vec::new(alloc);
+        let found = run(alloc, &args, &mut out, &mut err);
+        assert!(rt; found == *status, "{line}");
         assert!(rt; out.as_slice() == output.as_bytes(), "{line}");
         assert!(rt; err.as_slice() == fault.as_bytes(), "{line}");
     }
-    Ok(())
 }
 
 #[test]
-fn schedules(rt: HostRuntime) -> io::Result<()> {
-    check(&rt, &SCHEDULES)
+fn schedules(rt: HostRuntime) {
+    check(&rt, rt.alloc(), &SCHEDULES);
 }
 
 #[test]
-fn folds(rt: HostRuntime) -> io::Result<()> {
-    check(&rt, &FOLDS)
+fn folds(rt: HostRuntime) {
+    check(&rt, rt.alloc(), &FOLDS);
 }
 
 #[test]
-fn openings(rt: HostRuntime) -> io::Result<()> {
-    check(&rt, &OPENINGS)
+fn openings(rt: HostRuntime) {
+    check(&rt, rt.alloc(), &OPENINGS);
 }
 
 #[test]
-fn faults(rt: HostRuntime) -> io::Result<()> {
-    check(&rt, &FAULTS)
+fn faults(rt: HostRuntime) {
+    check(&rt, rt.alloc(), &FAULTS);
 }
 
 #[test]
 fn no_arguments(rt: HostRuntime) {
     let mut out: Vec<u8> = Vec::new(rt.alloc());
     let mut err: Vec<u8> = Vec::new(rt.alloc());
-    assert_eq!(rt; run(rt.alloc(), &[], &mut out, &mut err), 2);
+    assert!(rt; run(rt.alloc(), &[], &mut out, &mut err) == 2);
     assert!(rt; out.is_empty());
     assert!(rt; err.as_slice() == "fri_run: bad command\n".as_bytes());
 }
@@ -222,12 +219,13 @@ impl Write for Counting {
 /// A run's status, and how often it calls the stream that it writes to, and the other one. Each
 /// fails after so many calls.
 fn calls_of(
+    rt: &impl Abort,
     alloc: Global,
     line: &str,
     to_output: bool,
     fails_after: usize,
-) -> io::Result<(u8, usize, usize)> {
-    let args = words(alloc, line)?;
+) -> (u8, usize, usize) {
+    let args = words(rt, alloc, line);
     let (mut out, mut err) = (Counting::new(fails_after), Counting::new(fails_after));
     let status = run(alloc, &args, &mut out, &mut err);
     let (own, other) = if to_output {
@@ -235,25 +233,12 @@ fn calls_of(
     } else {
         (err.calls, out.calls)
     };
-    Ok((status, own, other))
-}
-
-/// Whether the run ends with this status after so many calls of one stream, and with 4 after the
-/// first of them that fails.
-fn ends_at_failures(alloc: Global, line: &str, status: u8, calls: usize) -> io::Result<bool> {
-    let to_output = status == 0;
-    for fails_after in 0..calls {
-        let expected = (WRITE_FAILED, fails_after + 1, 0);
-        if calls_of(alloc, line, to_output, fails_after)? != expected {
-            return Ok(false);
-        }
-    }
-    Ok(calls_of(alloc, line, to_output, calls)? == (status, calls, 0))
+    (status, own, other)
 }
 
 /// Each command and each kind of fault with its status and its calls: one for each byte, and one to
 /// flush.
-const CALLS: [(&str, u8, usize); 6] = [
+static CALLS: [(&str, u8, usize); 6] = [
     ("schedule 10,6 2 3", 0, 9),
     ("fold 0 3,5 1,1,2013265920,2013265920", 0, 7),
     ("prove 1 0 5 1,3", 0, 34),
@@ -262,21 +247,25 @@ const CALLS: [(&str, u8, usize); 6] = [
     ("prove 1 0 5", 2, 22),
 ];
 
+/// A run ends with its status after its calls of one stream, and with 4 after the first of them
+/// that fails.
 #[test]
-fn failed_writes(rt: HostRuntime) -> io::Result<()> {
+fn failed_writes(rt: HostRuntime) {
     for (line, status, calls) in &CALLS {
-        assert!(rt;
-            ends_at_failures(rt.alloc(), *line, *status, *calls)?,
-            "{line}"
-        );
+        let to_output = *status == 0;
+        for fails_after in 0..*calls {
+            let found = calls_of(&rt, rt.alloc(), *line, to_output, fails_after);
+            assert!(rt; found == (WRITE_FAILED, fails_after + 1, 0), "{line}");
+        }
+        let found = calls_of(&rt, rt.alloc(), *line, to_output, *calls);
+        assert!(rt; found == (*status, *calls, 0), "{line}");
     }
-    Ok(())
 }
 
 #[test]
 fn want_of_memory(rt: HostRuntime) {
     let mut err: Vec<u8> = Vec::new(rt.alloc());
-    assert_eq!(rt; report_out_of_memory(&mut err), 3);
+    assert!(rt; report_out_of_memory(&mut err) == 3);
     assert!(rt; err.as_slice() == "fri_run: out of memory\n".as_bytes());
     // The line and its line feed are 23 bytes, and are flushed.
     for fails_after in 0..24 {

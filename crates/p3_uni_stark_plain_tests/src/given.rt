@@ -14,11 +14,11 @@ use p3_fri_two_adic::TwoAdicFriPcs;
 use p3_mmcs::Sha256Mmcs;
 use p3_uni_stark_plain::{PlainStarkProof, StarkProof, stark_from_plain};
 use std::alloc::Global;
-use std::test::Fail;
+use std::process::Abort;
 
 /// `x' = x + p + 3 * s'`, by a periodic column `p` and a preprocessed one `s` of zeros and ones,
 /// from the first public value to the last.
-pub(crate) const SYSTEM: &str =
+pub(crate) static SYSTEM: &str =
     "{\"layout\":{\"width\":1,\"preprocessed_width\":1,\"num_public_values\":2,\
 \"num_periodic_columns\":1},\"nodes\":[{\"local\":0},{\"next\":0},{\"preprocessed\":0},\
 {\"preprocessed_next\":0},{\"public\":0},{\"public\":1},{\"periodic\":0},{\"constant\":3},\
@@ -28,7 +28,7 @@ pub(crate) const SYSTEM: &str =
 {\"rows\":\"all\",\"node\":16}]}";
 
 /// The preprocessed column, in rows.
-const PREPROCESSED: &str = "[[1],[0],[1],[1]]";
+static PREPROCESSED: &str = "[[1],[0],[1],[1]]";
 
 /// The commitment to it.
 pub(crate) const KEY: [u8; 32] = [
@@ -37,10 +37,10 @@ pub(crate) const KEY: [u8; 32] = [
 ];
 
 /// The periodic column.
-const PERIODIC: &str = "[[5,7]]";
+static PERIODIC: &str = "[[5,7]]";
 
 /// The proof of the trace 2, 7, 17, 25.
-pub(crate) const PROOF: &str =
+pub(crate) static PROOF: &str =
     "{\"commitments\":{\"trace\":[72,31,18,38,53,222,167,154,23,5,209,32,210,104,18,145,93,155,\
 48,51,196,173,142,185,95,217,143,212,158,60,193,204],\"quotient_chunks\":[54,74,227,80,141,83,0,\
 187,89,101,85,171,87,31,23,170,163,223,54,66,80,116,107,193,223,101,108,23,14,158,61,236],\
@@ -76,8 +76,8 @@ pub(crate) const PROOF: &str =
 241264812,50532512,1377722503]],\"query_pow_witness\":0},\"log_height\":2}";
 
 /// Rows or columns of numbers.
-pub(crate) fn rows(alloc: Global, text: &str) -> Result<Vec<Vec<u64>>, Fail> {
-    Ok(serde_json::from_str(alloc, text)?)
+pub(crate) fn rows(rt: &impl Abort, alloc: Global, text: &str) -> Vec<Vec<u64>> {
+    serde_json::from_str(alloc, text).expect(rt, "no rows of numbers")
 }
 
 /// The system, and what it speaks of beside a trace and public values.
@@ -88,18 +88,18 @@ pub(crate) struct Known {
     pub periodic: Vec<Vec<u64>>,
 }
 
-pub(crate) fn system(alloc: Global) -> Result<Known, Fail> {
-    Ok(Known {
-        form: serde_json::from_str(alloc, SYSTEM)?,
-        preprocessed: rows(alloc, PREPROCESSED)?,
-        periodic: rows(alloc, PERIODIC)?,
-    })
+pub(crate) fn system(rt: &impl Abort, alloc: Global) -> Known {
+    Known {
+        form: serde_json::from_str(alloc, SYSTEM).expect(rt, "no system"),
+        preprocessed: rows(rt, alloc, PREPROCESSED),
+        periodic: rows(rt, alloc, PERIODIC),
+    }
 }
 
 /// The proof of this text's form.
-pub(crate) fn proof(alloc: Global) -> Result<StarkProof<TwoAdicFriProof>, Fail> {
-    let form = serde_json::from_str::<PlainStarkProof<PlainFriProof>>(alloc, PROOF)?;
-    Ok(stark_from_plain(alloc, &form)?)
+pub(crate) fn proof(rt: &impl Abort, alloc: Global) -> StarkProof<TwoAdicFriProof> {
+    let form = serde_json::from_str::<PlainStarkProof<PlainFriProof>>(alloc, PROOF);
+    stark_from_plain(alloc, &form.expect(rt, "no form of a proof")).expect(rt, "no proof")
 }
 
 pub(crate) type Scheme = TwoAdicFriPcs<

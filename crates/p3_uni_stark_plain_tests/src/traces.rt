@@ -4,8 +4,6 @@ use crate::given::{rows, system};
 use p3_air::{Assignment, TraceError};
 use p3_air_plain::{ElementError, Part, PlainTraceError, check_plain_trace};
 use p3_field::BabyBear;
-use std::alloc::Global;
-use std::test::Fail;
 
 /// A trace and public values, and what is found.
 struct Case {
@@ -15,7 +13,7 @@ struct Case {
 }
 
 /// By `tools/relation/stark.py check`.
-const CASES: [Case; 8] = [
+static CASES: [Case; 8] = [
     Case {
         trace: "[[2],[7],[17],[25]]",
         public_values: &[2, 25],
@@ -79,27 +77,18 @@ const CASES: [Case; 8] = [
     },
 ];
 
-/// The first of these traces in which something else is found.
-fn first_wrong(alloc: Global) -> Result<Option<&'static str>, Fail> {
-    let system = system(alloc)?;
+#[test]
+fn traces_of_numbers_are_checked(rt: HostRuntime) {
+    let system = system(&rt, rt.alloc());
     for case in &CASES {
-        let trace = rows(alloc, case.trace)?;
+        let trace = rows(&rt, rt.alloc(), case.trace);
         let given = Assignment {
             trace: &trace,
             preprocessed: &system.preprocessed,
             public_values: case.public_values,
             periodic: &system.periodic,
         };
-        if check_plain_trace::<BabyBear>(alloc, &system.form, &given) != case.outcome {
-            return Ok(Some(case.trace));
-        }
+        let found = check_plain_trace::<BabyBear>(rt.alloc(), &system.form, &given);
+        assert!(rt; found == case.outcome, "{}", case.trace);
     }
-    Ok(None)
-}
-
-#[test]
-fn traces_of_numbers_are_checked(rt: HostRuntime) -> Result<(), Fail> {
-    let wrong = first_wrong(rt.alloc())?;
-    assert!(rt; wrong.is_none(), "{wrong:?}");
-    Ok(())
 }

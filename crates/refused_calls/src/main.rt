@@ -23,7 +23,7 @@ use std::env;
 use std::process::ExitCode;
 
 /// All calls, by what they belong to.
-const CALLS: [Name<'static>; 26] = [
+static CALLS: [Name<'static>; 26] = [
     ("plain", "commit"),
     ("plain", "open"),
     ("plain", "open_at_two_points"),
