@@ -1,7 +1,6 @@
 mod Each
-mod Holds
+mod Fitting
+mod Fresh
 mod LargerDomains
 mod Maskable
-mod Readable
-mod ThreeRequests
 mod TwoRequests

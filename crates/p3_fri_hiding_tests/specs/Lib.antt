@@ -1,4 +1,4 @@
 pub mod Batches
-pub mod Chunks
-pub mod Inputs
-pub mod TestedLaws
+pub mod Fits
+pub mod OfSetting
+pub mod Openable

@@ -1,40 +1,26 @@
 //! What the calls that commit refuse, and the data that they give.
 
-use crate::asked::commit;
-use crate::chunks::domains_of;
-use crate::commitments::{Batch, Committing};
-use crate::input::Input;
-use crate::lists::two;
-use crate::matrices::coset;
-use crate::scheme::{Domain, Evaluations, SMALL, Setting};
-use crate::tested::DataState;
-use p3_field::{BabyBear, Field};
+use crate::asked::{Question, ask};
+use crate::kind::Kind;
+use crate::masks::readings::Wanted;
+use crate::matrices::Entries;
+use crate::scheme::{SMALL, Setting};
+use crate::turns::Turn;
 use p3_fri_masks::HidingFriProverError;
-use p3_matrix::RowMajorMatrix;
 use std::alloc::Global;
 use std::process::Abort;
 
-/// A call that commits.
-#[derive(Clone, Copy, PartialEq)]
-enum Call {
-    Commit,
-    Preprocessing,
-    Ldes,
-    Randomization,
-    /// That which extends chunks of a quotient.
-    Quotient,
-}
-
-const CALLS: [(Call, &str); 5] = [
-    (Call::Commit, "columns"),
-    (Call::Preprocessing, "preprocessing"),
-    (Call::Ldes, "words"),
-    (Call::Randomization, "random polynomials"),
-    (Call::Quotient, "a quotient"),
+/// The calls that commit.
+static CALLS: [(Kind, &str); 5] = [
+    (Kind::Private, "columns"),
+    (Kind::Preprocessed, "preprocessing"),
+    (Kind::Ldes, "words"),
+    (Kind::Random, "random polynomials"),
+    (Kind::Chunks, "a quotient"),
 ];
 
 /// A budget that masks of 8 rows don't meet.
-const LOW: HidingFriProverError = HidingFriProverError::HidingBudgetExceeded {
+pub(crate) const LOW: HidingFriProverError = HidingFriProverError::HidingBudgetExceeded {
     mask_height: 8,
     num_queries: 2,
     num_opening_points: 1,
@@ -47,11 +33,65 @@ const FEW_CODEWORDS: HidingFriProverError = HidingFriProverError::InsufficientRa
     got: 3,
 };
 
-/// The numbers of random codewords and of queries, the heights of masks, and the refusal, if any.
+/// Columns of zeros.
+const EIGHT: Entries = Entries {
+    shift: 1,
+    width: 1,
+    numbers: &[0; 8],
+};
+
+const SIXTEEN: Entries = Entries {
+    shift: 1,
+    width: 1,
+    numbers: &[0; 16],
+};
+
+const THIRTY_TWO: Entries = Entries {
+    shift: 1,
+    width: 1,
+    numbers: &[0; 32],
+};
+
+/// Columns beside them on a coset.
+const OTHER_EIGHT: Entries = Entries {
+    shift: 31,
+    width: 1,
+    numbers: &[0; 8],
+};
+
+const OTHER_SIXTEEN: Entries = Entries {
+    shift: 31,
+    width: 1,
+    numbers: &[0; 16],
+};
+
+/// Words in which the masks have 8, 16 and 32 rows, with a blowup of 4.
+const WORD_OF_EIGHT: Entries = Entries {
+    shift: 1,
+    width: 1,
+    numbers: &[0; 64],
+};
+
+const WORD_OF_SIXTEEN: Entries = Entries {
+    shift: 1,
+    width: 1,
+    numbers: &[0; 128],
+};
+
+const WORD_OF_THIRTY_TWO: Entries = Entries {
+    shift: 1,
+    width: 1,
+    numbers: &[0; 256],
+};
+
+/// The numbers of random codewords and of queries, columns, words with masks of the same heights,
+/// chunks of a quotient, and the refusal, if any.
 struct Case {
     num_random_codewords: usize,
     num_queries: usize,
-    heights: &'static [usize],
+    columns: &'static [Entries],
+    words: &'static [Entries],
+    chunks: &'static [Entries],
     refusal: Option<HidingFriProverError>,
 }
 
@@ -59,26 +99,34 @@ static CASES: [Case; 9] = [
     Case {
         num_random_codewords: 4,
         num_queries: 2,
-        heights: &[8],
+        columns: &[EIGHT],
+        words: &[WORD_OF_EIGHT],
+        chunks: &[EIGHT, OTHER_EIGHT],
         refusal: Some(LOW),
     },
     Case {
         num_random_codewords: 4,
         num_queries: 2,
-        heights: &[16],
+        columns: &[SIXTEEN],
+        words: &[WORD_OF_SIXTEEN],
+        chunks: &[SIXTEEN, OTHER_SIXTEEN],
         refusal: None,
     },
     // a budget that 16 rows meet exactly, and one that they miss by two
     Case {
         num_random_codewords: 4,
         num_queries: 4,
-        heights: &[32, 16],
+        columns: &[THIRTY_TWO, SIXTEEN],
+        words: &[WORD_OF_THIRTY_TWO, WORD_OF_SIXTEEN],
+        chunks: &[SIXTEEN, OTHER_SIXTEEN],
         refusal: None,
     },
     Case {
         num_random_codewords: 4,
         num_queries: 5,
-        heights: &[32, 16],
+        columns: &[THIRTY_TWO, SIXTEEN],
+        words: &[WORD_OF_THIRTY_TWO, WORD_OF_SIXTEEN],
+        chunks: &[SIXTEEN, OTHER_SIXTEEN],
         refusal: Some(HidingFriProverError::HidingBudgetExceeded {
             mask_height: 16,
             num_queries: 5,
@@ -89,114 +137,54 @@ static CASES: [Case; 9] = [
     Case {
         num_random_codewords: 3,
         num_queries: 2,
-        heights: &[16],
+        columns: &[SIXTEEN],
+        words: &[WORD_OF_SIXTEEN],
+        chunks: &[SIXTEEN, OTHER_SIXTEEN],
         refusal: Some(FEW_CODEWORDS),
     },
     Case {
         num_random_codewords: 4,
         num_queries: usize::MAX,
-        heights: &[16],
+        columns: &[SIXTEEN],
+        words: &[WORD_OF_SIXTEEN],
+        chunks: &[SIXTEEN, OTHER_SIXTEEN],
         refusal: Some(HidingFriProverError::BudgetOverflow),
     },
     Case {
         num_random_codewords: 3,
         num_queries: usize::MAX,
-        heights: &[8],
+        columns: &[EIGHT],
+        words: &[WORD_OF_EIGHT],
+        chunks: &[EIGHT, OTHER_EIGHT],
         refusal: Some(FEW_CODEWORDS),
     },
     // of no matrices no budget is asked
     Case {
         num_random_codewords: 4,
         num_queries: 2,
-        heights: &[],
+        columns: &[],
+        words: &[],
+        chunks: &[],
         refusal: None,
     },
     Case {
         num_random_codewords: 0,
         num_queries: usize::MAX,
-        heights: &[],
+        columns: &[],
+        words: &[],
+        chunks: &[],
         refusal: None,
     },
 ];
 
-/// A column of so many zeros.
-fn zeros(rt: &impl Abort, alloc: Global, height: usize) -> RowMajorMatrix<BabyBear> {
-    let values = vec![in alloc; BabyBear::ZERO; height].expect(rt, "memory");
-    RowMajorMatrix::new(values, 1)
-}
-
-/// A column of so many zeros beside the coset of this shift of as many points, times
-/// `2^log_factor`.
-fn zeros_on(
-    rt: &impl Abort,
-    alloc: Global,
-    shift: u64,
-    height: usize,
-    log_factor: u8,
-) -> (Domain, RowMajorMatrix<BabyBear>) {
-    let log_size = height.trailing_zeros() as usize + log_factor as usize;
-    (coset(rt, shift, log_size), zeros(rt, alloc, height))
-}
-
-/// Columns of zeros of these heights, each beside its domain of twice as many points.
-fn columns(rt: &impl Abort, alloc: Global, heights: &[usize]) -> Evaluations {
-    let mut all = Vec::new(alloc);
-    for height in heights {
-        all.push(zeros_on(rt, alloc, 1, *height, 1))
-            .expect(rt, "memory");
-    }
-    all
-}
-
-/// Words of zeros in which the masks have these heights, with a blowup of 4.
-fn words(rt: &impl Abort, alloc: Global, heights: &[usize]) -> Vec<RowMajorMatrix<BabyBear>> {
-    let mut words = Vec::new(alloc);
-    for height in heights {
-        words
-            .push(zeros(rt, alloc, height.saturating_mul(8)))
-            .expect(rt, "memory");
-    }
-    words
-}
-
-/// Two chunks of zeros, of this height.
-fn chunks(rt: &impl Abort, alloc: Global, height: usize) -> Evaluations {
-    two(
-        rt,
-        alloc,
-        zeros_on(rt, alloc, 1, height, 0),
-        zeros_on(rt, alloc, 31, height, 0),
-    )
-}
-
-/// What the call is handed where the masks have these heights. A quotient has chunks.
-fn input_of(rt: &impl Abort, alloc: Global, call: Call, heights: &[usize]) -> Committing {
-    match call {
-        Call::Commit => Input::Private(columns(rt, alloc, heights)),
-        Call::Preprocessing => Input::Preprocessed(columns(rt, alloc, heights)),
-        Call::Ldes => Input::Ldes(words(rt, alloc, heights)),
-        Call::Randomization => {
-            let columns = columns(rt, alloc, heights);
-            Input::Random(domains_of(rt, alloc, &columns))
-        },
-        Call::Quotient => {
-            let height = heights.last().expect(rt, "a quotient has chunks");
-            Input::Chunks(chunks(rt, alloc, *height))
-        },
-    }
-}
-
-/// Whether the data is new, of that call, and of a scheme of so many random codewords.
-fn is_new(state: &DataState, call: Call, num_random_codewords: usize) -> bool {
-    !state.is_opened
-        && state.is_preprocessing == (call == Call::Preprocessing)
-        && state.num_random_codewords == num_random_codewords
-        && state.log_blowup == 2
-}
-
 /// Whether the call answers so. A quotient has chunks.
-fn is_answered(rt: &impl Abort, alloc: Global, call: Call, case: &Case) -> bool {
-    if call == Call::Quotient && case.heights.is_empty() {
+fn is_answered(rt: &impl Abort, alloc: Global, kind: Kind, case: &Case) -> bool {
+    let each = match kind {
+        Kind::Ldes => case.words,
+        Kind::Chunks => case.chunks,
+        _ => case.columns,
+    };
+    if kind == Kind::Chunks && each.is_empty() {
         return true;
     }
     let setting = Setting {
@@ -204,24 +192,23 @@ fn is_answered(rt: &impl Abort, alloc: Global, call: Call, case: &Case) -> bool 
         num_queries: case.num_queries,
         ..SMALL
     };
-    let batch = Batch {
-        input: input_of(rt, alloc, call, case.heights),
-        domains: Vec::new(alloc),
+    let turn = Turn {
+        kind,
+        each,
+        refusal: case.refusal,
+        domains: &[],
+        wanted: Wanted::Any,
     };
-    match commit(rt, alloc, setting, batch) {
-        Ok(committed) => {
-            case.refusal.is_none() && is_new(&committed.state, call, case.num_random_codewords)
-        }
-        Err(refusal) => case.refusal == Some(refusal),
-    }
+    ask(rt, alloc, Question::InTurn(setting, &[turn]))
 }
 
 #[test]
 fn the_budget_is_met_or_refused(rt: HostRuntime) {
-    for (call, name) in CALLS {
-        for (index, case) in CASES.iter().enumerate() {
+    for call in 0..CALLS.len() {
+        let (kind, name) = CALLS[call];
+        for index in 0..CASES.len() {
             assert!(rt;
-                is_answered(&rt, rt.alloc(), call, case),
+                is_answered(&rt, rt.alloc(), kind, &CASES[index]),
                 "{name}, case {index}"
             );
         }

@@ -1,6 +1,6 @@
 //! Tests of `p3_fri_hiding`, at BabyBear, its quartic extension, SHA-256 and ChaCha: what it
 //! commits to, what it opens, and both, with the quotient and the random polynomials of a STARK
-//! prover. `input` stands without the tests too, since the specs speak of it.
+//! prover.
 #![tactic(auto)]
 
 #[cfg(test)]
@@ -8,22 +8,19 @@ mod asked;
 #[cfg(test)]
 mod budgets;
 #[cfg(test)]
-mod calls;
-#[cfg(test)]
-mod chunks;
-#[cfg(test)]
 mod commitments;
 #[cfg(test)]
 mod committable;
-pub mod input;
 #[cfg(test)]
-mod judged;
+mod kind;
 #[cfg(test)]
 mod lists;
 #[cfg(test)]
 mod masks;
 #[cfg(test)]
 mod matrices;
+#[cfg(test)]
+mod openable;
 #[cfg(test)]
 mod openings;
 #[cfg(test)]
@@ -34,3 +31,5 @@ mod scheme;
 mod schemes;
 #[cfg(test)]
 mod tested;
+#[cfg(test)]
+mod turns;

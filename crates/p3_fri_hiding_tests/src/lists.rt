@@ -19,20 +19,3 @@ pub(crate) fn two<T: Drop>(rt: &impl Abort, alloc: Global, first: T, second: T) 
 {
     pair(alloc, first, second).expect(rt, "memory")
 }
-
-/// A list of three.
-pub(crate) fn three<T: Drop>(
-    rt: &impl Abort,
-    alloc: Global,
-    first: T,
-    second: T,
-    third: T,
-) -> Vec<T>
-    ensures { result.items ≡ first ∷ second ∷ third ∷ [] }
-{
-    let mut values = Vec::with_capacity(alloc, 3).expect(rt, "memory");
-    values.push(first).expect(rt, "memory");
-    values.push(second).expect(rt, "memory");
-    values.push(third).expect(rt, "memory");
-    values
-}

@@ -1,68 +1,235 @@
 //! Committed matrices: what is read of them on their domains.
 
-mod drawn;
-mod forks;
-mod quotients;
-mod turns;
+pub(crate) mod readings;
 
-use crate::asked::commit;
-use crate::commitments::{Batch, Reading};
-use crate::input::Input;
-use crate::lists::two;
-use crate::matrices::coset;
-use crate::scheme::{SMALL, generator};
-use drawn::{Masks, is_random};
-use forks::forks_draw_masks_of_their_own;
-use quotients::masked_chunks_recombine_to_the_quotient;
-use std::alloc::Global;
-use std::process::Abort;
-use turns::{AFTER_A_REFUSAL, TWICE, are_met, preprocessing_has_zeros_between_its_rows};
+use crate::asked::{Question, hold};
+use crate::budgets::LOW;
+use crate::kind::Kind;
+use crate::matrices::{E, Entries, PI};
+use crate::scheme::SMALL;
+use crate::turns::Turn;
+use readings::{Masked, Wanted};
 
-/// Whether two matrices are read, of 32 and of 64 points, each of the elements of the next words.
-fn are_of_the_next_words(readings: &[Reading], words: &mut Masks) -> bool {
-    match readings {
-        [first, second] => {
-            is_random(&first.whole, 32, words) && is_random(&second.whole, 64, words)
-        }
-        _ => false,
-    }
-}
+/// 16 rows and 32 rows.
+const TRACES: [Entries; 2] = [
+    Entries {
+        shift: 1,
+        width: 2,
+        numbers: &PI,
+    },
+    Entries {
+        shift: 5,
+        width: 1,
+        numbers: &E,
+    },
+];
 
-/// Whether each matrix of random polynomials, for domains of 32 and of 64 points, has 8 columns,
-/// and on its domain the elements of the next words.
-fn random_polynomials_are_of_the_next_words(rt: &impl Abort, alloc: Global) -> bool {
-    let (low, high) = (coset(rt, 1, 5), coset(rt, 1, 6));
-    let batch = Batch {
-        input: Input::Random(two(rt, alloc, low, high)),
-        domains: two(rt, alloc, low, high),
-    };
-    match commit(rt, alloc, SMALL, batch) {
-        Ok(committed) => {
-            are_of_the_next_words(&committed.readings, &mut Masks::Words(generator()))
-        }
-        Err(_) => false,
-    }
-}
+/// Both, with a mask after each row and four columns of masks beside.
+const MASKED: [Masked; 2] = [
+    Masked {
+        numbers: &PI,
+        width: 2,
+        height: 32,
+        columns: 6,
+        shown: 2,
+    },
+    Masked {
+        numbers: &E,
+        width: 1,
+        height: 64,
+        columns: 5,
+        shown: 1,
+    },
+];
+
+/// The masks of a scheme's commitments are the words of its generator in turn.
+const WORDS: Turn<'static> = Turn {
+    kind: Kind::Private,
+    each: &TRACES,
+    refusal: None,
+    domains: &[(1, 5), (5, 6)],
+    wanted: Wanted::Words(&MASKED),
+};
+
+const TWICE: [Turn<'static>; 2] = [WORDS, WORDS];
+
+/// Matrices of which the second is too low for the budget.
+const TOO_LOW: [Entries; 2] = [
+    Entries {
+        shift: 1,
+        width: 1,
+        numbers: &[0; 32],
+    },
+    Entries {
+        shift: 1,
+        width: 1,
+        numbers: &[0; 8],
+    },
+];
+
+/// A refusal takes none of the words.
+const AFTER_A_REFUSAL: [Turn<'static>; 3] = [
+    Turn {
+        each: &TOO_LOW,
+        refusal: Some(LOW),
+        ..WORDS
+    },
+    WORDS,
+    WORDS,
+];
+
+/// All columns of preprocessed matrices are shown, with zeros between their rows.
+const PREPROCESSED: [Turn<'static>; 1] = [Turn {
+    kind: Kind::Preprocessed,
+    wanted: Wanted::Zeros(&[
+        Masked {
+            numbers: &PI,
+            width: 2,
+            height: 32,
+            columns: 2,
+            shown: 2,
+        },
+        Masked {
+            numbers: &E,
+            width: 1,
+            height: 64,
+            columns: 1,
+            shown: 1,
+        },
+    ]),
+    ..WORDS
+}];
+
+/// Random polynomials for domains of 32 and of 64 points: 8 columns each, of the next words.
+const RANDOM: [Turn<'static>; 1] = [Turn {
+    kind: Kind::Random,
+    wanted: Wanted::Words(&[
+        Masked {
+            numbers: &[],
+            width: 0,
+            height: 32,
+            columns: 8,
+            shown: 4,
+        },
+        Masked {
+            numbers: &[],
+            width: 0,
+            height: 64,
+            columns: 8,
+            shown: 4,
+        },
+    ]),
+    ..WORDS
+}];
+
+/// What is committed to by forks.
+const FORKED: Turn<'static> = Turn {
+    each: &[Entries {
+        shift: 5,
+        width: 1,
+        numbers: &E,
+    }],
+    domains: &[(5, 6)],
+    ..WORDS
+};
+
+/// Its first two rows with masks, by the generator of a scheme that was forked twice, by that of
+/// its second fork and by that of its first.
+const FORKS: [Turn<'static>; 3] = [
+    Turn {
+        wanted: Wanted::Begin(&[&[
+            &[2, 143_829_583, 565_231_705, 1_818_524_112, 1_722_409_120],
+            &[
+                1_210_015_426,
+                1_307_057_766,
+                36_701_473,
+                1_056_710_320,
+                1_485_158_692,
+            ],
+        ]]),
+        ..FORKED
+    },
+    Turn {
+        wanted: Wanted::Begin(&[&[
+            &[2, 320_492_493, 27_080_796, 309_016_361, 700_114_757],
+            &[
+                1_300_739_413,
+                1_254_157_230,
+                281_660_884,
+                1_732_025_374,
+                274_647_590,
+            ],
+        ]]),
+        ..FORKED
+    },
+    Turn {
+        wanted: Wanted::Begin(&[&[
+            &[2, 1_235_608_696, 834_574_559, 1_879_293_789, 401_717_771],
+            &[
+                154_003_393,
+                1_503_105_165,
+                111_776_947,
+                273_203_997,
+                606_673_375,
+            ],
+        ]]),
+        ..FORKED
+    },
+];
+
+/// Two chunks of 16 rows, on the halves of the coset of 31 of 32 points: the values at 5 of all
+/// columns of the masked chunks, of which the last four only hide the others, and the recombined
+/// quotient at 5 of each column of the chunks as they were handed in.
+const CHUNKS: [Turn<'static>; 1] = [Turn {
+    kind: Kind::Chunks,
+    each: &[
+        Entries {
+            shift: 31,
+            width: 2,
+            numbers: &PI,
+        },
+        Entries {
+            shift: 1_414_256_219,
+            width: 2,
+            numbers: &E,
+        },
+    ],
+    domains: &[(5, 0), (5, 0)],
+    wanted: Wanted::Recombine(
+        &[
+            &[&[
+                32_742_644,
+                1_833_442_057,
+                468_616_025,
+                1_712_745_302,
+                1_029_365_084,
+                771_241_103,
+            ]],
+            &[&[
+                536_041_728,
+                1_312_185_036,
+                1_867_161_949,
+                1_045_928_189,
+                1_688_948_755,
+                1_768_662_780,
+            ]],
+        ],
+        [699_564_735, 1_070_878_612],
+    ),
+    ..WORDS
+}];
+
+/// What is asked of committed matrices.
+static QUESTIONS: [Question<'static>; 6] = [
+    Question::InTurn(SMALL, &TWICE),
+    Question::InTurn(SMALL, &AFTER_A_REFUSAL),
+    Question::InTurn(SMALL, &PREPROCESSED),
+    Question::ByForks(&FORKS),
+    Question::InTurn(SMALL, &CHUNKS),
+    Question::InTurn(SMALL, &RANDOM),
+];
 
 #[test]
 fn committed_matrices_are_read(rt: HostRuntime) {
-    let alloc = rt.alloc();
-    assert!(rt; are_met(&rt, alloc, &TWICE), "words");
-    assert!(rt;
-        are_met(&rt, alloc, &AFTER_A_REFUSAL),
-        "words after a refusal"
-    );
-    assert!(rt;
-        preprocessing_has_zeros_between_its_rows(&rt, alloc),
-        "zeros"
-    );
-    assert!(rt; forks_draw_masks_of_their_own(&rt, alloc), "forks");
-    assert!(rt;
-        masked_chunks_recombine_to_the_quotient(&rt, alloc),
-        "chunks"
-    );
-    assert!(rt;
-        random_polynomials_are_of_the_next_words(&rt, alloc),
-        "random polynomials"
-    );
+    hold(&rt, rt.alloc(), &QUESTIONS);
 }

@@ -9,6 +9,7 @@ use std::alloc::Global;
 use std::process::Abort;
 
 /// Rows of this width of the numbers, on the coset of this shift.
+#[derive(Clone, Copy)]
 pub(crate) struct Entries {
     pub shift: u64,
     pub width: usize,
@@ -28,6 +29,9 @@ pub(crate) const E: [u64; 32] = [
     2, 7, 1, 8, 2, 8, 1, 8, 2, 8, 4, 5, 9, 0, 4, 5, 2, 3, 5, 3, 6, 0, 2, 8, 7, 4, 7, 1, 3, 5, 2, 6,
 ];
 
+/// The last 16 of them.
+pub(crate) const LATE_E: [u64; 16] = [2, 3, 5, 3, 6, 0, 2, 8, 7, 4, 7, 1, 3, 5, 2, 6];
+
 /// The first 16 of them.
 pub(crate) const SHORT_E: [u64; 16] = [2, 7, 1, 8, 2, 8, 1, 8, 2, 8, 4, 5, 9, 0, 4, 5];
 
@@ -42,21 +46,6 @@ pub(crate) fn elements(rt: &impl Abort, alloc: Global, numbers: &[u64]) -> Vec<B
     elements
 }
 
-/// The numbers as rows of this width.
-pub(crate) fn matrix(
-    rt: &impl Abort,
-    alloc: Global,
-    numbers: &[u64],
-    width: usize,
-) -> RowMajorMatrix<BabyBear> {
-    let values = elements(rt, alloc, numbers);
-    assert!(rt;
-        width != 0 && values.len() % width == 0,
-        "the numbers aren't whole rows"
-    );
-    RowMajorMatrix::new(values, width)
-}
-
 /// The coset of this shift and of `2^log_size` points.
 pub(crate) fn coset(rt: &impl Abort, shift: u64, log_size: usize) -> Domain
     ensures { result.log_size ≡ log_size }
@@ -64,7 +53,7 @@ pub(crate) fn coset(rt: &impl Abort, shift: u64, log_size: usize) -> Domain
     TwoAdicMultiplicativeCoset::new(BabyBear::from_u64(shift), log_size).expect(rt, "not a domain")
 }
 
-/// The matrix of these entries, beside its domain of as many points as it has rows, times
+/// The matrix of these entries, beside the coset of as many points as it has rows, times
 /// `2^log_factor`.
 fn evaluation(
     rt: &impl Abort,
@@ -72,7 +61,12 @@ fn evaluation(
     entries: &Entries,
     log_factor: u8,
 ) -> (Domain, RowMajorMatrix<BabyBear>) {
-    let matrix = matrix(rt, alloc, entries.numbers, entries.width);
+    let values = elements(rt, alloc, entries.numbers);
+    assert!(rt;
+        entries.width != 0 && values.len() % entries.width == 0,
+        "the numbers aren't whole rows"
+    );
+    let matrix = RowMajorMatrix::new(values, entries.width);
     let log_height = matrix.height().trailing_zeros() as usize;
     (
         coset(rt, entries.shift, log_height + log_factor as usize),
@@ -97,7 +91,9 @@ pub(crate) fn evaluations(
 
 /// Coefficients of the points `5 + X^2` and `X`, which aren't elements of the base field, and so
 /// lie outside of each coset.
-pub(crate) const POINTS: [[u64; 4]; 2] = [[5, 0, 1, 0], [0, 1, 0, 0]];
+pub(crate) const POINTS: [[u64; 4]; 2] = [POINT, [0, 1, 0, 0]];
+
+pub(crate) const POINT: [u64; 4] = [5, 0, 1, 0];
 
 /// The element with these coefficients, that of one first.
 pub(crate) fn element(coefficients: [u64; 4]) -> BabyBear4 {
@@ -120,26 +116,4 @@ pub(crate) fn points(rt: &impl Abort, alloc: Global, coefficients: &[[u64; 4]]) 
     }
     assert!(rt; !points.is_empty(), "no points");
     points
-}
-
-/// The row at this index, if the matrix has it.
-pub(crate) fn row_of(matrix: &RowMajorMatrix<BabyBear>, index: usize) -> &[BabyBear] {
-    if index < matrix.height() {
-        matrix.row(index)
-    } else {
-        &[]
-    }
-}
-
-/// Whether the elements are these numbers.
-pub(crate) fn are_numbers(elements: &[BabyBear], numbers: &[u64]) -> bool {
-    if elements.len() != numbers.len() {
-        return false;
-    }
-    for index in 0..elements.len() {
-        if elements[index] != BabyBear::from_u64(numbers[index]) {
-            return false;
-        }
-    }
-    true
 }

@@ -3,26 +3,24 @@
 ghost use Rattle.std.specs.Prelude.{◌≡◌, ◌<◌, ◌≤◌};
 ghost use Rattle.p3_fri_relation.specs.Views.{parameters_of};
 ghost use Rattle.p3_fri_two_adic.specs.Ranges.{InProverRange, InVerifierRange};
-ghost use Rattle.p3_fri_hiding_tests.specs.TestedLaws.{kept};
+ghost use Rattle.p3_fri_hiding_tests.specs.OfSetting.{IsOfSetting, kept};
 
-use crate::chunks::{are_maskable, domains_of};
-use crate::commitments::Committing;
-use crate::committable::{are_doubled, are_small, are_words, column, doubled};
-use crate::input::Input;
+use crate::committable::{are_fit, are_maskable, column, doubled, words_of};
+use crate::kind::Kind;
 use crate::lists::one;
 use crate::matrices::{Entries, evaluations};
+use crate::openable::{are_private, is_openable, is_readable};
 use crate::openings::changes::{Change, change_random};
 use crate::openings::shapes::{Counts, have_counts};
-use crate::scheme::{Domain, Inputs, Proof, Rounds, Setting, generator, parameters};
+use crate::scheme::{Domain, Evaluations, Inputs, Proof, Rounds, Setting, generator, parameters};
 use crate::tested::{DataState, Tested};
 use p3_dft::Radix2Dit;
-use p3_field::BabyBear;
-use p3_fri_folding::FriProverError;
+use p3_field::{BabyBear, BabyBear4};
 use p3_fri_hiding::{HidingFriPcs, HidingFriPcsProverData};
-use p3_fri_hiding_openings::{committed_matrices, hidden_columns};
-use p3_fri_masks::HidingFriProverError;
 use p3_fri_two_adic::TwoAdicFriPcs;
+use p3_matrix::RowMajorMatrix;
 use p3_mmcs::{Mmcs, Sha256Mmcs};
+use p3_pcs::OpeningRequest;
 use p3_stark_columns::StarkColumns;
 use rand_chacha::ChaCha20Rng;
 use std::alloc::{AllocError, Global};
@@ -37,6 +35,7 @@ pub(crate) type PlainScheme = TwoAdicFriPcs<BabyBear, Radix2Dit<BabyBear>, Input
 /// The hiding scheme of that setting.
 pub(crate) fn scheme_of(setting: Setting) -> Scheme
     ensures log_blowup { result.fri.log_blowup ≡ 2 }
+    ensures codewords { result.num_random_codewords ≡ setting.num_random_codewords }
     ensures prover_range { 0 < setting.num_queries
         → InProverRange (parameters_of result.fri) 27 63 }
     ensures verifier_range { setting.log_final_poly_len ≤ 31
@@ -63,7 +62,9 @@ pub(crate) fn plain_scheme_of(setting: Setting) -> PlainScheme
 }
 
 impl Tested for Scheme {
-    ghost IsTested = { λ s. s.fri.log_blowup ≡ 2 };
+    ghost IsOf = { λ setting s. IsOfSetting s.fri.log_blowup s.num_random_codewords
+        (InProverRange (parameters_of s.fri) 27 63) (InVerifierRange (parameters_of s.fri) 27 63)
+        setting.num_random_codewords setting.num_queries setting.log_final_poly_len };
 
     fn of(setting: Setting) -> Self {
         scheme_of(setting)
@@ -73,37 +74,61 @@ impl Tested for Scheme {
         self.fork()
     }
 
-    fn can_commit(&self, rt: &impl Abort, alloc: Global, input: &Committing) -> bool {
-        match input {
-            Input::Private(evaluations) => are_doubled(evaluations),
-            Input::Preprocessed(evaluations) => are_doubled(evaluations),
-            Input::Ldes(words) => are_words(words),
-            Input::Chunks(chunks) => are_maskable(rt, alloc, chunks),
-            Input::Random(domains) => are_small(domains),
+    fn can_commit(
+        &self,
+        rt: &impl Abort,
+        alloc: Global,
+        kind: Kind,
+        evaluations: &[(Domain, RowMajorMatrix<BabyBear>)],
+    ) -> bool {
+        if self.parameters().log_blowup != 2 {
+            return false;
         }
+        match kind {
+            Kind::Ldes => true,
+            Kind::Chunks => are_maskable(rt, alloc, evaluations),
+            _ => are_fit(evaluations, 2),
+        }
+    }
+
+    fn words(
+        &self,
+        rt: &impl Abort,
+        alloc: Global,
+        evaluations: Evaluations,
+    ) -> Vec<RowMajorMatrix<BabyBear>> {
+        assert!(rt; self.parameters().log_blowup == 2, "not a blowup of 4");
+        words_of(rt, alloc, evaluations)
+    }
+
+    fn column(
+        &self,
+        rt: &impl Abort,
+        alloc: Global,
+        numbers: &'static [u64],
+    ) -> (Domain, RowMajorMatrix<BabyBear>) {
+        assert!(rt; self.parameters().log_blowup == 2, "not a blowup of 4");
+        column(rt, alloc, numbers, 1)
     }
 
     fn stark_columns(
         &self,
         rt: &impl Abort,
         alloc: Global,
-        preprocessed: &[u64],
-        trace: &[u64],
+        preprocessed: &'static [u64],
+        trace: &'static [u64],
         quotient: &[Entries],
     ) -> StarkColumns<Domain, BabyBear> {
-        let preprocessed = one(rt, alloc, column(rt, alloc, preprocessed));
-        assert!(rt; are_doubled(&preprocessed), "no preprocessed column");
-        let trace = one(rt, alloc, column(rt, alloc, trace));
-        assert!(rt; are_doubled(&trace), "no trace");
-        let trace_domains = domains_of(rt, alloc, &trace);
+        let preprocessed = one(rt, alloc, self.column(rt, alloc, preprocessed));
+        let trace = one(rt, alloc, self.column(rt, alloc, trace));
         assert!(rt;
-            are_small(&trace_domains),
-            "no domains of random polynomials"
+            self.can_commit(rt, alloc, Kind::Random, &trace),
+            "no random polynomials"
         );
         let quotient = evaluations(rt, alloc, quotient, 0);
         assert!(rt;
-            are_maskable(rt, alloc, &quotient),
-            "no chunks of a quotient"
+            self.can_commit(rt, alloc, Kind::Chunks, &quotient),
+            "no quotient"
         );
         let quotient_domains = doubled(rt, alloc, &quotient);
         StarkColumns {
@@ -114,13 +139,24 @@ impl Tested for Scheme {
         }
     }
 
-    fn can_read(&self, held: &Data, index: usize) -> bool {
-        let hidden = hidden_columns(held, held.num_random_codewords());
-        let matrices = committed_matrices(&Inputs::new(), held);
-        if index >= matrices.len() || matrices[index].width() <= hidden {
-            return false;
+    fn can_open(
+        &self,
+        setting: Setting,
+        requests: &[OpeningRequest<'_, Data, BabyBear4>],
+        is_first_preprocessed: bool,
+    ) -> bool {
+        let codewords = setting.num_random_codewords;
+        match requests.split_first() {
+            Some((first, others)) => {
+                is_openable(&Inputs::new(), first, codewords, is_first_preprocessed)
+                    && are_private(&Inputs::new(), others, codewords)
+            }
+            None => false,
         }
-        true
+    }
+
+    fn can_read(&self, setting: Setting, held: &Data, index: usize) -> bool {
+        is_readable(&Inputs::new(), held, setting.num_random_codewords, index)
     }
 
     fn state_of(held: &Data) -> DataState {
@@ -140,14 +176,12 @@ impl Tested for Scheme {
         change_random(&mut proof.0, change);
     }
 
-    fn leaves(refusal: &HidingFriProverError) -> bool {
-        match refusal {
-            HidingFriProverError::HidingBudgetExceeded { .. } => true,
-            HidingFriProverError::Fri(FriProverError::PointInEvaluationDomain { .. }) => true,
-            _ => false,
-        }
-    }
+    ghost kept_law = { λ setting old new same is. kept (record old { rng = new.rng }) new same
+        (λ s. IsOfSetting s.fri.log_blowup s.num_random_codewords
+        (InProverRange (parameters_of s.fri) 27 63) (InVerifierRange (parameters_of s.fri) 27 63)
+        setting.num_random_codewords setting.num_queries setting.log_final_poly_len) is };
 
-    ghost kept_law = { λ old new same is.
-        kept (record old { rng = new.rng }) new same (λ s. s.fri.log_blowup) is };
+    ghost prover_law = { λ setting s is. is.prover };
+
+    ghost verifier_law = { λ setting s is. is.verifier };
 }

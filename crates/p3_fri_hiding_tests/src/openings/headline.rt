@@ -1,14 +1,12 @@
 //! The headline at a scheme that hides.
 
-use crate::asked::{Question, holds, outcome};
-use crate::commitments::commit_column;
-use crate::judged::are_moved;
+use crate::asked::{Question, hold};
 use crate::matrices::{E, POINTS, points};
-use crate::openings::preprocessed::CASES;
+use crate::openings::cases::are_moved;
 use crate::scheme::SMALL;
 use crate::tested::Tested;
 use p3_challenger::Sha256Challenger;
-use p3_test_openings::one::show_one;
+use p3_test_openings::one::commit_and_show;
 use std::alloc::Global;
 use std::process::Abort;
 
@@ -17,24 +15,19 @@ use std::process::Abort;
 pub(crate) fn is_column_accepted<P: Tested>(rt: &impl Abort, alloc: Global) -> bool {
     let mut challenger = Sha256Challenger::new();
     let mut scheme = P::of(SMALL);
-    let (known, mut held) = commit_column(rt, &mut scheme, alloc, &E, false);
+    let column = scheme.column(rt, alloc, &E);
     let points = points(rt, alloc, &POINTS);
-    match show_one(&scheme, alloc, known, &mut held, points, &mut challenger) {
-        Ok(verified) => {
-            P::state_of(&held).is_opened && are_moved(&challenger, &verified.challenger)
+    match commit_and_show(&mut scheme, alloc, column, points, &mut challenger) {
+        Ok(shown) => {
+            P::state_of(&shown.1).is_opened && are_moved(&challenger, &shown.0.challenger)
         }
         Err(_) => panic!(rt; "not accepted"),
     }
 }
 
-/// Preprocessing and a private column are opened at one point and verified where nothing is changed
-/// thereafter: of the data the private alone counts as opened.
+/// A column, and preprocessing beside a private column.
 #[test]
 fn what_is_opened_is_accepted(rt: HostRuntime) {
-    assert!(rt;
-        holds(&rt, rt.alloc(), Question::IsColumnAccepted),
-        "a column"
-    );
-    let outcome = outcome(&rt, rt.alloc(), Question::Columns(&CASES[0]));
-    assert!(rt; outcome.is_shown && outcome.is_opened, "with preprocessing");
+    let questions = [Question::IsColumnAccepted, Question::AreBothAccepted];
+    hold(&rt, rt.alloc(), &questions);
 }

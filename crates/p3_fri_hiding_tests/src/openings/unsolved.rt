@@ -2,7 +2,7 @@
 
 ghost use Rattle.std.specs.Prelude.{◌∷◌, []};
 
-use crate::committable::{column, plain_column};
+use crate::committable::column;
 use crate::matrices::{POINTS, SHORT_PI, points};
 use crate::scheme::{SMALL, Setting};
 use crate::schemes::{PlainScheme, Scheme, plain_scheme_of, scheme_of};
@@ -57,7 +57,7 @@ fn refusal_and_mark(
     work: Option<PowPhase>,
 ) -> (Option<HidingFriProverError>, bool) {
     let mut scheme = scheme_of(Setting { work, ..SMALL });
-    let column = column(rt, alloc, &SHORT_PI);
+    let column = column(rt, alloc, &SHORT_PI, 1);
     let (refusal, held) = commit_and_open::<Scheme>(rt, &mut scheme, alloc, column);
     (refusal, held.is_opened())
 }
@@ -65,7 +65,7 @@ fn refusal_and_mark(
 /// Why the plain scheme doesn't.
 fn plain_refusal(rt: &impl Abort, alloc: Global, work: Option<PowPhase>) -> Option<FriProverError> {
     let mut scheme = plain_scheme_of(Setting { work, ..SMALL });
-    let column = plain_column(rt, alloc, &SHORT_PI);
+    let column = column(rt, alloc, &SHORT_PI, 0);
     let (refusal, _held) = commit_and_open::<PlainScheme>(rt, &mut scheme, alloc, column);
     refusal
 }

@@ -1,6 +1,0 @@
-use Rattle.std.proofs.Common.{All, take}
-use Rattle.p3_fri_hiding.specs.Trace.{FitsMasked}
-use Rattle.p3_fri_hiding_tests.proofs.committable.are_doubled.Given as goal
-
-abbrev pub invariant-loop-evaluation : goal.invariant-loop-evaluation
-invariant-loop-evaluation l = All (λ e. FitsMasked 27 2 e.0.log_size e.1) (take l.evaluation-index l.evaluations)

@@ -1,0 +1,164 @@
+//! Whether what was committed to may be opened or read.
+
+ghost use Rattle.std.specs.Prelude.{◌≡◌, ◌<◌, ◌≤◌, All, IsTrue, false, length, slice_index_or};
+ghost use Rattle.p3_matrix.specs.Matrix.{matrix_width};
+ghost use Rattle.p3_fri_openings.specs.Rounds.{HasCoset};
+ghost use Rattle.p3_fri_hiding_openings.specs.Data.{hidden_columns};
+ghost use Rattle.p3_fri_hiding_tests.specs.Openable.{IsHeld, IsFresh};
+
+use p3_field::{BabyBear, BabyBear4, Field, TwoAdicMultiplicativeCoset};
+use p3_fri_hiding::HidingFriPcsProverData;
+use p3_fri_hiding_openings::{committed_matrices, hidden_columns};
+use p3_matrix::RowMajorMatrix;
+use p3_mmcs::Mmcs;
+use p3_pcs::OpeningRequest;
+
+/// Whether the matrix is as high as a coset is large.
+fn has_coset(matrix: &RowMajorMatrix<BabyBear>) -> bool
+    ensures { IsTrue result → HasCoset 27 matrix.now }
+{
+    let height = matrix.height();
+    let log_height = height.trailing_zeros() as usize;
+    let Some(coset) = TwoAdicMultiplicativeCoset::new(BabyBear::ONE, log_height) else {
+        return false;
+    };
+    if coset.size() != height {
+        return false;
+    }
+    true
+}
+
+/// Whether each is.
+fn have_cosets(matrices: &[RowMajorMatrix<BabyBear>]) -> bool
+    ensures { IsTrue result → All (HasCoset 27) matrices.now }
+{
+    for matrix in matrices {
+        if !has_coset(matrix) {
+            return false;
+        }
+    }
+    true
+}
+
+/// Whether each has so many columns.
+fn are_wide(matrices: &[RowMajorMatrix<BabyBear>], width: usize) -> bool
+    ensures { IsTrue result → All (λ m. width ≤ matrix_width m) matrices.now }
+{
+    for matrix in matrices {
+        if matrix.width() < width {
+            return false;
+        }
+    }
+    true
+}
+
+/// Whether the data is of so many random codewords and a blowup of 4.
+fn is_held<M: Mmcs<BabyBear>>(
+    mmcs: &M,
+    held: &HidingFriPcsProverData<M::ProverData>,
+    codewords: usize,
+) -> bool
+    ensures { IsTrue result → IsHeld codewords held.now (M.committed held.now.inner) }
+{
+    if held.num_random_codewords() != codewords {
+        return false;
+    }
+    if held.log_blowup() != 2 {
+        return false;
+    }
+    have_cosets(committed_matrices(mmcs, held))
+}
+
+/// Whether the data is preprocessing; or no opening has used it, and its matrices are so wide.
+fn is_unused<T>(
+    held: &HidingFriPcsProverData<T>,
+    matrices: &[RowMajorMatrix<BabyBear>],
+    width: usize,
+    is_preprocessed: bool,
+) -> bool
+    ensures unopened { IsTrue result → is_preprocessed ≡ false → held.now.opened ≡ false }
+    ensures wide { IsTrue result → is_preprocessed ≡ false
+        → All (λ m. width ≤ matrix_width m) matrices.now }
+{
+    if is_preprocessed {
+        return true;
+    }
+    if held.is_opened() {
+        return false;
+    }
+    are_wide(matrices, width)
+}
+
+/// Whether the request is for all matrices of such data, which is preprocessing or may be opened.
+pub(crate) fn is_openable<M: Mmcs<BabyBear>>(
+    mmcs: &M,
+    request: &OpeningRequest<'_, HidingFriPcsProverData<M::ProverData>, BabyBear4>,
+    codewords: usize,
+    is_preprocessed: bool,
+) -> bool
+    ensures fresh { IsTrue result → IsFresh codewords is_preprocessed
+        request.now.prover_data.now (M.committed request.now.prover_data.now.inner) }
+    ensures points { IsTrue result → length request.now.points.items
+        ≡ length (M.committed request.now.prover_data.now.inner) }
+{
+    let held = &*request.prover_data;
+    let matrices = committed_matrices(mmcs, held);
+    if !is_held(mmcs, held, codewords) {
+        return false;
+    }
+    if held.is_preprocessing() != is_preprocessed {
+        return false;
+    }
+    if !is_unused(held, matrices, codewords, is_preprocessed) {
+        return false;
+    }
+    if matrices.len() == 0 {
+        return false;
+    }
+    if request.points.len() != matrices.len() {
+        return false;
+    }
+    true
+}
+
+/// Whether that holds of each request, for private data.
+pub(crate) fn are_private<M: Mmcs<BabyBear>>(
+    mmcs: &M,
+    requests: &[OpeningRequest<'_, HidingFriPcsProverData<M::ProverData>, BabyBear4>],
+    codewords: usize,
+) -> bool
+    ensures fresh { IsTrue result → All (λ r. IsFresh codewords false
+        r.prover_data.now (M.committed r.prover_data.now.inner)) requests.now }
+    ensures points { IsTrue result → All (λ r. length r.points.items
+        ≡ length (M.committed r.prover_data.now.inner)) requests.now }
+{
+    for request in requests {
+        if !is_openable(mmcs, request, codewords, false) {
+            return false;
+        }
+    }
+    true
+}
+
+/// Whether the data is such, and has a matrix of this index with a column beside those that hide
+/// the others.
+pub(crate) fn is_readable<M: Mmcs<BabyBear>>(
+    mmcs: &M,
+    held: &HidingFriPcsProverData<M::ProverData>,
+    codewords: usize,
+    index: usize,
+) -> bool
+    ensures held { IsTrue result → IsHeld codewords held.now (M.committed held.now.inner) }
+    ensures below { IsTrue result → index < length (M.committed held.now.inner) }
+    ensures wider { IsTrue result → (m : _) → hidden_columns codewords held.now
+        < matrix_width (slice_index_or (M.committed held.now.inner) index m) }
+{
+    let matrices = committed_matrices(mmcs, held);
+    if !is_held(mmcs, held, codewords) || index >= matrices.len() {
+        return false;
+    }
+    if matrices[index].width() <= hidden_columns(held, codewords) {
+        return false;
+    }
+    true
+}

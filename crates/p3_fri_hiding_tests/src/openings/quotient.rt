@@ -1,0 +1,82 @@
+//! The words of a quotient's chunks, opened beside a trace and random polynomials.
+
+use crate::asked::{Question, hold};
+use crate::kind::Kind;
+use crate::matrices::{Entries, SHORT_E, SHORT_PI};
+use crate::openings::cases::{ACCEPTED, Asked, Call};
+use crate::openings::requests::{Batch, Batches};
+use crate::openings::shapes::First;
+use crate::scheme::SMALL;
+
+/// Two chunks of a quotient, each a column of 16 rows, on the halves of the coset of 31 of 32
+/// points.
+pub(crate) const CHUNKS: [Entries; 2] = [
+    Entries {
+        shift: 31,
+        width: 1,
+        numbers: &SHORT_PI,
+    },
+    Entries {
+        shift: 1_414_256_219,
+        width: 1,
+        numbers: &SHORT_E,
+    },
+];
+
+/// The values at 1 of the first chunk and of the second.
+pub(crate) const FIRST_CHUNK: First = First::Chunk(1_683_716_237);
+
+pub(crate) const SECOND_CHUNK: First = First::Chunk(329_549_685);
+
+/// A trace of 16 rows.
+const TRACE: [Entries; 1] = [Entries {
+    shift: 1,
+    width: 1,
+    numbers: &SHORT_PI,
+}];
+
+/// Random polynomials on the trace's domain, the trace, and the chunks.
+const BATCHES: Batches = Batches {
+    setting: SMALL,
+    is_preprocessed: false,
+    each: &[
+        Batch {
+            kind: Kind::Random,
+            each: &TRACE,
+            domains: &[(1, 5)],
+        },
+        Batch {
+            kind: Kind::Private,
+            each: &TRACE,
+            domains: &[(1, 5)],
+        },
+        Batch {
+            kind: Kind::Chunks,
+            each: &CHUNKS,
+            domains: &[(1, 5), (1, 5)],
+        },
+    ],
+};
+
+/// They are opened at 1: the trace has its first row there.
+const AT_ONE: Asked = Asked {
+    points: &[[1, 0, 0, 0]],
+    is_opened: &[true, true, true],
+    values: &[[1, 1, 4], [1, 1, 1], [2, 1, 1]],
+    random: &[[1, 1, 4], [1, 1, 4], [2, 1, 4]],
+    firsts: &[
+        First::Any,
+        First::Is(SHORT_PI[0]),
+        FIRST_CHUNK,
+        SECOND_CHUNK,
+    ],
+    call: Call::VerifyWithPreprocessing(None),
+    ..ACCEPTED
+};
+
+static QUESTIONS: [Question<'static>; 1] = [Question::Openings(&BATCHES, &[AT_ONE])];
+
+#[test]
+fn a_quotient_is_opened_beside_its_trace_and_random_polynomials(rt: HostRuntime) {
+    hold(&rt, rt.alloc(), &QUESTIONS);
+}
