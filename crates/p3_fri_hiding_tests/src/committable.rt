@@ -90,8 +90,8 @@ pub(crate) fn are_maskable(
     alloc: Global,
     chunks: &[(Domain, RowMajorMatrix<BabyBear>)],
 ) -> bool
-    ensures { IsTrue result → CanExtend ⟦<BabyBear as Field>⟧.ops (λ d. d.shift) (λ d. d.log_size) 27 2
-        chunks.now (length chunks.now) }
+    ensures { IsTrue result → CanExtend ⟦<BabyBear as Field>⟧.ops (λ d. d.shift) (λ d. d.log_size)
+        27 2 chunks.now (length chunks.now) }
 {
     if chunks.len() < 2 || !are_fit(chunks, 1) || !are_as_wide(chunks, chunks[0].1.width()) {
         return false;
