@@ -61,7 +61,7 @@ fn pack_columns<F: Field, P: PackedField<F>>(
     Ok(())
 }
 
-/// As many rows of a matrix as there are lanes, from `start` on, in the place of what `packed` held.
+/// As many rows of a matrix as there are lanes, from `start` on, in place of what `packed` held.
 /// They have so many columns, and after `period` rows the first comes again.
 fn pack_rows<'a, F: Field, P: PackedField<F>>(
     matrix: Option<&'a RowMajorMatrix<F>>,
