@@ -2,8 +2,6 @@
 -- statements aren't accepted.
 use Rattle.std.specs.Prelude.{◌≡◌, ⊤}
 use Rattle.p3_mmcs.specs.declared.sha256_mmcs.error.Sha256MmcsError.{Sha256MmcsError}
-use Rattle.p3_fri_folding.specs.declared.error.FriProverError.{FriProverError}
-use Rattle.p3_fri_folding.specs.declared.error.FriProverError.TheVariants as prover
 use Rattle.p3_fri_relation.specs.declared.error.FriError.{FriError}
 use Rattle.p3_fri_relation.specs.declared.error.FriError.TheVariants as refusal
 use Rattle.p3_fri_plain.specs.declared.error.PlainProofError.{PlainProofError}
@@ -21,21 +19,17 @@ abbrev pub IfMalformed : Type 0 → ReadError → Type 0
 IfMalformed P (read.Malformed misfit) = P
 IfMalformed P read.OutOfMemory = Unit {0}
 
--- of a request, where it isn't well formed, and where the scheme refuses it
-abbrev pub MatchRequestError : Type 0 → (FriProverError → Type 0) → RequestError → Type 0
-MatchRequestError P R (request.Malformed misfit) = P
-MatchRequestError P R (request.Refused e) = R e
-MatchRequestError P R request.OutOfMemory = Unit {0}
+module _ {E : Type 0} where
+  -- of a request, where it isn't well formed, and where the scheme refuses it
+  abbrev pub MatchRequestError : Type 0 → (E → Type 0) → RequestError E → Type 0
+  MatchRequestError P R (request.Malformed misfit) = P
+  MatchRequestError P R (request.Refused e) = R e
+  MatchRequestError P R request.OutOfMemory = Unit {0}
 
--- why nothing comes of a request whose records aren't read
-abbrev pub unread_request : ReadError → RequestError
-unread_request (read.Malformed misfit) = request.Malformed misfit
-unread_request read.OutOfMemory = request.OutOfMemory
-
--- and of one that the scheme's prover refuses
-abbrev pub unopened : FriProverError → RequestError
-unopened prover.OutOfMemory = request.OutOfMemory
-unopened e = request.Refused e
+  -- why nothing comes of a request whose records aren't read
+  abbrev pub unread_request : ReadError → RequestError E
+  unread_request (read.Malformed misfit) = request.Malformed misfit
+  unread_request read.OutOfMemory = request.OutOfMemory
 
 -- of a statement, where it isn't well formed, and where it is refused
 abbrev pub MatchVerifyError : Type 0 → (FriError Sha256MmcsError Sha256MmcsError → Type 0)

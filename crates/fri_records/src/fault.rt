@@ -4,16 +4,16 @@ ghost use Rattle.std.specs.Prelude.{◌≡◌};
 ghost use Rattle.fri_records.specs.declared.fault.RequestError.TheVariants as request;
 ghost use Rattle.fri_records.specs.declared.fault.ReadError.TheVariants as read;
 ghost use Rattle.fri_records.specs.declared.fault.VerifyError.TheVariants as statement;
-ghost use Rattle.fri_records.specs.Failures.{unread_request, unopened, unread, failure_of};
+ghost use Rattle.fri_records.specs.Failures.{unread_request, unread, failure_of};
 ghost use Rattle.fri_records.specs.Failures.{IsUnformed};
 
-use p3_fri_folding::FriProverError;
 use p3_fri_plain::PlainProofError;
 use p3_fri_relation::error::FriError;
 use p3_mmcs::Sha256MmcsError;
 use std::alloc::{AllocError, AllocFailed};
 use std::error::Error;
 use std::fmt;
+use std::fmt::{Debug, Display};
 
 /// What a number or a list isn't.
 #[derive(Clone, Copy, Debug)]
@@ -50,6 +50,10 @@ pub enum Fault {
     Digest,
     /// A context isn't the hex text of bytes.
     Context,
+    /// Another batch is preprocessed already.
+    Preprocessed,
+    /// A seed isn't the hex text of 32 bytes.
+    Seed,
 }
 
 impl Fault {
@@ -72,6 +76,8 @@ impl Fault {
             Fault::Commitment => "64 hex digits",
             Fault::Digest => "digests of 32 bytes",
             Fault::Context => "an even number of hex digits",
+            Fault::Preprocessed => "at most one preprocessed batch",
+            Fault::Seed => "64 hex digits",
         }
     }
 
@@ -92,6 +98,8 @@ impl Fault {
             Fault::Element | Fault::ExtensionElement | Fault::Digest => "",
             Fault::Commitment => ".commitment",
             Fault::Context => "context",
+            Fault::Preprocessed => ".preprocessed",
+            Fault::Seed => "hiding.seed",
         }
     }
 }
@@ -205,13 +213,14 @@ impl fmt::Display for Misfit {
     }
 }
 
-/// Why nothing was committed to or opened.
+/// Why nothing was committed to or opened, by a scheme whose prover refuses for a reason of type
+/// `E`.
 #[derive(Debug, Drop)]
-pub enum RequestError {
+pub enum RequestError<E> {
     /// The request isn't well formed.
     Malformed(Misfit),
     /// The scheme refused it.
-    Refused(FriProverError),
+    Refused(E),
     /// Memory was refused.
     OutOfMemory,
 }
@@ -230,7 +239,7 @@ pub enum VerifyError {
     OutOfMemory,
 }
 
-impl fmt::Display for RequestError {
+impl<E: Debug + Display> Display for RequestError<E> {
     fn fmt<W: fmt::Write>(&self, f: &mut fmt::Formatter<W>) -> fmt::Result {
         match self {
             RequestError::Malformed(misfit) => write!(f, "{misfit}"),
@@ -250,7 +259,7 @@ impl fmt::Display for VerifyError {
     }
 }
 
-impl Error for RequestError {}
+impl<E: Debug + Display + Drop> Error for RequestError<E> {}
 
 impl Error for VerifyError {}
 
@@ -285,10 +294,10 @@ impl From<AllocError> for ReadError {
     }
 }
 
-impl From<ReadError> for RequestError {
+impl<E: Drop> From<ReadError> for RequestError<E> {
     ghost from_gives = { λ e f. f ≡ unread_request e };
 
-    fn from(error: ReadError) -> RequestError {
+    fn from(error: ReadError) -> RequestError<E> {
         match error {
             ReadError::Malformed(misfit) => RequestError::Malformed(misfit),
             ReadError::OutOfMemory => RequestError::OutOfMemory,
@@ -296,30 +305,19 @@ impl From<ReadError> for RequestError {
     }
 }
 
-impl<T: Drop> From<AllocFailed<T>> for RequestError {
+impl<T: Drop, E: Drop> From<AllocFailed<T>> for RequestError<E> {
     ghost from_gives = { λ _ e. e ≡ request.OutOfMemory };
 
-    fn from(_error: AllocFailed<T>) -> RequestError {
+    fn from(_error: AllocFailed<T>) -> RequestError<E> {
         RequestError::OutOfMemory
     }
 }
 
-impl From<AllocError> for RequestError {
+impl<E: Drop> From<AllocError> for RequestError<E> {
     ghost from_gives = { λ _ e. e ≡ request.OutOfMemory };
 
-    fn from(_error: AllocError) -> RequestError {
+    fn from(_error: AllocError) -> RequestError<E> {
         RequestError::OutOfMemory
-    }
-}
-
-impl From<FriProverError> for RequestError {
-    ghost from_gives = { λ e f. f ≡ unopened e };
-
-    fn from(error: FriProverError) -> RequestError {
-        match error {
-            FriProverError::OutOfMemory => RequestError::OutOfMemory,
-            _ => RequestError::Refused(error),
-        }
     }
 }
 

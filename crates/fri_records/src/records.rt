@@ -54,6 +54,10 @@ pub struct Matrix {
 #[derive(Drop, Deserialize)]
 pub struct Batch {
     pub matrices: Vec<Matrix>,
+    /// Whether the matrices are public and the same in every run: a scheme that hides opens them
+    /// without masks. To the plain scheme it says nothing.
+    #[serde(default)]
+    pub preprocessed: bool,
 }
 
 /// What is committed to and opened.

@@ -10,12 +10,13 @@ mod checking;
 mod failure;
 mod proving;
 mod records;
-mod scheme;
+mod seed;
 mod verification;
 
 pub use crate::checking::check;
 pub use crate::failure::{Failure, MALFORMED, OUT_OF_MEMORY, REFUSED, Refusal};
 pub use crate::proving::{prove, prove_form};
 pub use crate::records::{PublicValues, System, Trace, read};
-pub use crate::scheme::{HidingScheme, MadeScheme, PlainScheme, seed_of};
+pub use crate::seed::seed_of;
 pub use crate::verification::{Accepted, verify, verify_form};
+pub use fri_schemes::{HidingScheme, MadeScheme, PlainScheme};

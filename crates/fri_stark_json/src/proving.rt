@@ -18,8 +18,8 @@ ghost use Rattle.fri_stark_json.specs.Verdicts.{IsAccepted, NoProof, IsOfText};
 
 use crate::failure::Failure;
 use crate::records::{System, Trace};
-use crate::scheme::MadeScheme;
 use fri_records::{prover_parameters, verifier_parameters};
+use fri_schemes::MadeScheme;
 use p3_challenger_core::Plays;
 use p3_challenger_sha256::Sha256Challenger;
 use p3_field::{BabyBear, BabyBear4, ExtensionField, Field, PrimeField64, TwoAdicField};

@@ -14,8 +14,8 @@ ghost use Rattle.fri_stark_json.specs.Verdicts.{IsAccepted, IsRefused, NotAccept
 
 use crate::failure::Failure;
 use crate::records::{PublicValues, System, read};
-use crate::scheme::MadeScheme;
 use fri_records::verifier_parameters;
+use fri_schemes::MadeScheme;
 use p3_challenger_core::Plays;
 use p3_challenger_sha256::Sha256Challenger;
 use p3_dft::Radix2Dit;

@@ -1,2 +1,3 @@
 pub mod Pushes
 pub mod Statements
+pub mod HidingStreams

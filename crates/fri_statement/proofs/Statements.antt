@@ -17,12 +17,12 @@ use Rattle.fri_statement.specs.StatementLaws.{IsPoint, FitsMatrix, FitsCommitmen
 use Rattle.fri_statement.specs.StatementLaws.{IsDeterminedStatement, IsDeterminedContext}
 use Rattle.fri_statement.specs.Context.{context_description, context_stream}
 
-numbers_determined : (xs ys : List ℕ) → All FitsNumber xs → All FitsNumber ys
+pub numbers_determined : (xs ys : List ℕ) → All FitsNumber xs → All FitsNumber ys
     → numbers_bytes xs ≡ numbers_bytes ys → xs ≡ ys
 numbers_determined xs ys p q e =
     last_determined FitsNumber number_bytes number_delimited (λ n. omega arith) xs ys p q e
 
-length_numbers : (xs : List ℕ) → length (numbers_bytes xs) ≡ 8 * length xs
+pub length_numbers : (xs : List ℕ) → length (numbers_bytes xs) ≡ 8 * length xs
 length_numbers [] = refl
 length_numbers (x ∷ xs) = omega (arith, length-append (number_bytes x) (numbers_bytes xs), length_numbers xs)
 

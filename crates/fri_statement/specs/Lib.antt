@@ -1,4 +1,5 @@
 pub mod Context
+pub mod Hiding
 pub mod Numbers
 pub mod Setting
 pub mod Stated

@@ -1,10 +1,11 @@
--- What the streams determine: the whole statement, and the whole context.
-use Rattle.std.specs.Prelude.{◌≡◌, ℕ, List, length}
+-- What the streams determine: the whole statement, the whole context, and by what a scheme hides.
+use Rattle.std.specs.Prelude.{◌≡◌, ℕ, List, length, Option}
 use Rattle.std.specs.List.{All}
 use Rattle.p3_challenger_fs.specs.StreamLaws.{FitsNumber, FitsText}
 use Rattle.fri_statement.specs.Statement.{OpenedMatrix, OpenedCommitment, Statement}
 use Rattle.fri_statement.specs.Statement.{parameter_numbers, statement_stream}
 use Rattle.fri_statement.specs.Context.{context_stream}
+use Rattle.fri_statement.specs.Hiding.{index_numbers, hiding_stream}
 
 -- the numbers of an element of the extension
 pub record IsPoint (numbers : List ℕ) : Type 0 where
@@ -36,3 +37,9 @@ IsDeterminedStatement a b =
 
 abbrev pub IsDeterminedContext : (a b : List ℕ) → Type 0
 IsDeterminedContext a b = FitsText a → FitsText b → context_stream a ≡ context_stream b → a ≡ b
+
+-- streams of numbers that a machine holds
+abbrev pub IsDeterminedHiding : (m n : ℕ) (i j : Option ℕ) → Type 0
+IsDeterminedHiding m n i j = FitsNumber m → FitsNumber n → All FitsNumber (index_numbers i)
+    → All FitsNumber (index_numbers j) → hiding_stream m i ≡ hiding_stream n j
+    → (m ≡ n) × (i ≡ j)

@@ -7,6 +7,7 @@ ghost use Rattle.fri_statement.specs.Numbers.{coefficient_numbers};
 ghost use Rattle.fri_statement.specs.Statement.{numbers_bytes, parameter_numbers};
 ghost use Rattle.fri_statement.specs.Statement.{matrix_label, commitment_label};
 ghost use Rattle.fri_statement.specs.Stated.{opened_matrix, opened_commitment};
+ghost use Rattle.fri_statement.specs.Hiding.{hiding_label};
 
 use crate::stated::{StatedCommitment, StatedMatrix};
 use p3_field::{BabyBear, BabyBear4, ExtensionField, PrimeField64};
@@ -99,5 +100,23 @@ pub(crate) fn matrix_label(alloc: Global, matrix: &StatedMatrix) -> Result<Vec<u
     let mut label = Vec::new(alloc);
     push_numbers(&mut label, &numbers)?;
     push_points(&mut label, &matrix.points)?;
+    Ok(label)
+}
+
+/// The label of a number of random columns and of an index of preprocessing.
+pub(crate) fn hiding_label(
+    alloc: Global,
+    num_random_codewords: usize,
+    preprocessing: Option<usize>,
+) -> Result<Vec<u8>, AllocError>
+    ensures { IfOk result (λ label.
+        label.items ≡ hiding_label num_random_codewords preprocessing) }
+{
+    let columns = num_random_codewords as u64;
+    let mut label = Vec::new(alloc);
+    match preprocessing {
+        Some(index) => push_numbers(&mut label, &[columns, 1, index as u64])?,
+        None => push_numbers(&mut label, &[columns, 0])?,
+    }
     Ok(label)
 }

@@ -1,12 +1,15 @@
 //! The law of statements, as a call that does nothing and whose contract is a theorem.
 
-ghost use Rattle.std.specs.Prelude.{List, ℕ};
+ghost use Rattle.std.specs.Prelude.{List, ℕ, Option};
 ghost use Rattle.fri_statement.specs.Statement.{Statement};
 ghost use Rattle.fri_statement.specs.StatementLaws.{IsDeterminedStatement, IsDeterminedContext};
+ghost use Rattle.fri_statement.specs.StatementLaws.{IsDeterminedHiding};
 
 /// What is absorbed determines the statement: its context, parameters, commitments, domains, widths
-/// and points. And what is absorbed before a challenge determines the context.
+/// and points. What is absorbed before a challenge determines the context, and what is absorbed
+/// before a statement of a scheme that hides its number of random columns and its preprocessing.
 pub fn statement_law()
     ensures statement { (a b : Statement) → IsDeterminedStatement a b }
     ensures context { (a b : List ℕ) → IsDeterminedContext a b }
+    ensures hiding { (m n : ℕ) (i j : Option ℕ) → IsDeterminedHiding m n i j }
 {}

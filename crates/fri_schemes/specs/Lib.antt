@@ -1,0 +1,4 @@
+pub mod Alike
+pub mod RangeLaws
+pub mod RowLaws
+pub mod Rows

@@ -1,0 +1,98 @@
+//! The trait of schemes that are made of parameters.
+
+ghost use Rattle.std.specs.Prelude.{◌≡◌, ◌↔◌, ℕ, List, Option, IsTrue, IfOk};
+ghost use Rattle.p3_challenger_sha256.specs.declared.sha256_challenger.Sha256Challenger.{
+  Sha256Challenger,
+};
+ghost use Rattle.p3_fri_relation.specs.declared.error.FriError.TheVariants.{OutOfMemory};
+ghost use Rattle.p3_fri_relation.specs.Setting.{Parameters as TestParameters};
+ghost use Rattle.p3_fri_relation.specs.Views.{parameters_of};
+ghost use Rattle.p3_fri_two_adic.specs.Ranges.{InProverRange, InVerifierRange};
+ghost use Rattle.fri_schemes.specs.Alike.{AcceptAlike, AcceptsOnlyIf};
+ghost use Rattle.fri_schemes.specs.Rows.{CommitsRows, KeepsColumns};
+
+use fri_records::{Rounds, VerifierError};
+use p3_challenger_sha256::Sha256Challenger;
+use p3_field::{BabyBear, BabyBear4, TwoAdicMultiplicativeCoset};
+use p3_fri_folding::FriParameters;
+use p3_mmcs::Sha256Mmcs;
+use p3_uni_stark_pcs::TwoAdicStarkPcs;
+use std::alloc::{AllocError, Global};
+
+/// The domains of columns.
+pub type Coset = TwoAdicMultiplicativeCoset<BabyBear>;
+
+/// The tree of matrices.
+pub type Inputs = Sha256Mmcs<BabyBear>;
+
+/// A scheme over BabyBear, its extension of degree 4 and SHA-256 that is made of parameters. Its
+/// laws hold of whatever it was made of, and in every state that commitments leave it in.
+pub trait MadeScheme: TwoAdicStarkPcs<
+    BabyBear4,
+    Sha256Challenger,
+    Coset,
+    Commitment = [u8; 32],
+    Error = VerifierError,
+>
+    + Drop {
+    // it was made of these parameters of the low-degree test, and if it hides, of so many random
+    // columns and a generator of this seed
+    ghost IsMade: { TestParameters → ℕ → List ℕ → Self → Type 0 };
+
+    // the state from which a statement is absorbed, of so many random columns and this index of
+    // preprocessing
+    ghost begun: { ℕ → Option ℕ → Sha256Challenger };
+
+    // a prover refuses for want of memory
+    ghost IsMemory: { Self.ProverError → Type 0 };
+
+    /// The scheme of these parameters, with so many random columns and with masks drawn from the
+    /// seed, if it hides.
+    fn made(fri: FriParameters<Rounds>, num_random_codewords: usize, seed: [u8; 32]) -> Self
+        ensures { IsMade (parameters_of fri) num_random_codewords seed result };
+
+    /// A challenger in the state from which a statement is absorbed: a fresh one, that has absorbed
+    /// by what the scheme hides, if it does.
+    fn begin(
+        alloc: Global,
+        num_random_codewords: usize,
+        preprocessing: Option<usize>,
+    ) -> Result<Sha256Challenger, AllocError>
+        ensures { IfOk result (λ challenger.
+            challenger ≡ begun num_random_codewords preprocessing) };
+
+    /// Whether a prover refuses for want of memory.
+    fn is_out_of_memory(error: &Self::ProverError) -> bool
+        ensures { IsTrue result ↔ IsMemory error.now };
+
+    ghost verifier_law: { (p : TestParameters) (n : ℕ) (seed : List ℕ) (s : Self)
+        → IsMade p n seed s → InVerifierRange p 27 63 → (Self.rules s).InVerifierRange };
+
+    ghost prover_law: { (p : TestParameters) (n : ℕ) (seed : List ℕ) (s : Self)
+        → IsMade p n seed s → InProverRange p 27 63 → (Self.rules s).InProverRange };
+
+    ghost blowup_law: { (p : TestParameters) (n : ℕ) (seed : List ℕ) (s : Self)
+        → IsMade p n seed s → Self.log_blowup s ≡ p.log_blowup };
+
+    ghost commit_law: { (p : TestParameters) (n : ℕ) (seed : List ℕ) (s : Self)
+        → IsMade p n seed s
+        → CommitsRows (Self.rules s) (λ d. d.log_size) Self.ZK p.log_blowup };
+
+    ghost columns_law: { (s : Self) → KeepsColumns (Self.rules s) };
+
+    // what is accepted over a prover's parameters is in the verifier's range
+    ghost accepted_law: { (p : TestParameters) (n : ℕ) (seed : List ℕ) (s : Self)
+        → IsMade p n seed s → InProverRange p 27 63
+        → AcceptsOnlyIf (Self.rules s) (InVerifierRange p 27 63) };
+
+    // a verifier's want of memory is named as such
+    ghost memory_law: { (s : Self) → (Self.rules s).out_of_memory ≡ OutOfMemory };
+
+    // what is known is kept from commitment to commitment
+    ghost keeps_since_law: { (old new later : Self)
+        → Self.Keeps old new → Self.Keeps new later → Self.Keeps old later };
+
+    // and the same is accepted
+    ghost alike_law: { (old new : Self)
+        → Self.Keeps old new → AcceptAlike (Self.rules old) (Self.rules new) };
+}
