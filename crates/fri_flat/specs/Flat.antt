@@ -1,6 +1,6 @@
 -- The flat form of numbers, of lists, and of the records of the plain scheme and of its proofs.
 use Rattle.std.specs.Prelude.{ℕ, List, [], ◌∷◌, ◌++◌, ◌≡◌, ◌*◌, ◌/◌, ◌%◌, ◌^◌, length}
-use Rattle.std.specs.Prelude.{string_bytes, vec_len}
+use Rattle.std.specs.Prelude.{string_bytes, vec_len, false}
 use Rattle.std.specs.List.{All, flat_map}
 use Rattle.std.specs.Result.{result_unwrap_or}
 use Rattle.std.specs.declared.vec.Vec.{Vec}
@@ -71,11 +71,13 @@ pub record IsMatrix (m : Matrix) : Type 0 where
   pub values : vec_len m.values ≡ m.width * 2 ^ m.domain.log_size
   pub points : All IsElement m.points.items
 
+-- none is preprocessed
 abbrev pub batch : Batch → List ℕ
 batch b = list matrix b.matrices
 
-abbrev pub IsBatch : Batch → Type 0
-IsBatch b = All IsMatrix b.matrices.items
+pub record IsBatch (b : Batch) : Type 0 where
+  pub matrices : All IsMatrix b.matrices.items
+  pub plain : b.preprocessed ≡ false
 
 abbrev pub request : Request → List ℕ
 request r = context (string_bytes r.context) ++ parameters r.parameters

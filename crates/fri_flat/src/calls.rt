@@ -8,7 +8,7 @@ use crate::failure::Failure;
 use crate::forms::{answer_of, digests_of, value_of};
 use crate::statement::Statement;
 use crate::writer::push_element;
-use fri_requests::{Request, VerifyError};
+use fri_requests::{Request, VerifyError, plain};
 use p3_fri_plain::{from_plain, to_plain};
 use std::alloc::Global;
 
@@ -17,7 +17,7 @@ pub fn commit(alloc: Global, bytes: &[u8]) -> Result<Vec<u8>, Failure>
     ensures { IfOk result (λ v. CommitsRequest bytes.now v.items) }
 {
     let request = value_of::<Request>(alloc, bytes)?;
-    let commitments = match fri_requests::commit(alloc, &request) {
+    let commitments = match plain::commit(alloc, &request) {
         Ok(commitments) => commitments,
         Err(error) => return Err(Failure::Request(error)),
     };
@@ -32,7 +32,7 @@ pub fn open(alloc: Global, bytes: &[u8]) -> Result<Vec<u8>, Failure>
     ensures { IfOk result (λ v. AnswersRequest bytes.now v.items) }
 {
     let request = value_of::<Request>(alloc, bytes)?;
-    let opening = match fri_requests::open(alloc, &request) {
+    let opening = match plain::open(alloc, &request) {
         Ok(opening) => opening,
         Err(error) => return Err(Failure::Request(error)),
     };
@@ -51,7 +51,7 @@ fn verify_statement(alloc: Global, statement: Statement) -> Result<Vec<u64>, Ver
     ensures { IfOk result (λ next. IsAcceptedStatement statement next.items) }
 {
     let proof = from_plain(alloc, statement.proof)?;
-    fri_requests::verify(
+    plain::verify(
         alloc,
         &statement.context,
         &statement.parameters,

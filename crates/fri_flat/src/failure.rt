@@ -4,6 +4,7 @@ ghost use Rattle.std.specs.Prelude.{◌≤◌};
 
 use crate::fault::{ReadError, WriteError};
 use fri_requests::{RequestError, VerifyError};
+use p3_fri_folding::FriProverError;
 use std::alloc::{AllocError, AllocFailed};
 use std::error::Error;
 use std::fmt;
@@ -32,7 +33,7 @@ pub enum Failure {
     /// answer of `fri_requests` has any of these.
     NoForm,
     /// The request isn't opened.
-    Request(RequestError),
+    Request(RequestError<FriProverError>),
     /// The statement isn't accepted.
     Statement(VerifyError),
     /// Memory was refused.

@@ -112,10 +112,14 @@ impl Flat for Batch {
     fn read(alloc: Global, reader: &mut Reader<'_>) -> Result<Batch, ReadError> {
         Ok(Batch {
             matrices: Vec::<Matrix>::read(alloc, reader)?,
+            preprocessed: false,
         })
     }
 
     fn write(batch: &Batch, out: &mut Vec<u8>) -> Result<(), WriteError> {
+        if batch.preprocessed {
+            return Err(WriteError::NoForm);
+        }
         Vec::<Matrix>::write(&batch.matrices, out)
     }
 }

@@ -40,4 +40,5 @@ pub record IsExpectedBatch (claims : BatchClaims) (expected : ExpectedBatch) : T
 pub record IsExpected (accepted : Accepted) (expected : Expected) : Type 0 where
   pub context : IsExpectedText (string_bytes accepted.context) (string_bytes expected.context)
   pub parameters : accepted.parameters ≡ expected.parameters
+  pub hiding : accepted.hiding ≡ expected.hiding
   pub claims : AreExpected IsExpectedBatch accepted.claims.items expected.claims.items

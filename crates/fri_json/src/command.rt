@@ -1,10 +1,13 @@
 //! The commands of the program `fri`, each over one text.
 
+use crate::answer::open_request;
 use crate::difference::first_difference;
 use crate::expected::Expected;
 use crate::records::Accepted;
+use crate::request::{commit_request, request_of};
+use crate::statement::accept;
 use crate::summary::accepted_lines;
-use crate::{Failure, REFUSED, accept, commit_request, expected_of, open_request, request_of};
+use crate::{Failure, REFUSED, expected_of};
 use fri_requests::Request;
 use std::alloc::Global;
 use std::io::Write;
@@ -90,10 +93,10 @@ fn commit_lines<W: Write>(
     text: &str,
     err: &mut W,
 ) -> Result<String, Failure> {
-    let request = request_of(alloc, text)?;
-    report_progress(err, file, &request);
+    let asked = request_of(alloc, text)?;
+    report_progress(err, file, &asked.request);
     let mut lines = String::new(alloc);
-    for commitment in &commit_request(alloc, &request)? {
+    for commitment in &commit_request(alloc, &asked)? {
         writeln!(lines, "{commitment}")?;
     }
     Ok(lines)
@@ -106,9 +109,9 @@ fn open_line<W: Write>(
     text: &str,
     err: &mut W,
 ) -> Result<String, Failure> {
-    let request = request_of(alloc, text)?;
-    report_progress(err, file, &request);
-    let mut line = open_request(alloc, &request)?;
+    let asked = request_of(alloc, text)?;
+    report_progress(err, file, &asked.request);
+    let mut line = open_request(alloc, &asked)?;
     line.push_str("\n")?;
     Ok(line)
 }

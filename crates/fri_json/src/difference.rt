@@ -5,7 +5,7 @@ ghost use Rattle.fri_json.specs.Difference.{AreExpected, IsExpectedPoint, IsExpe
 ghost use Rattle.fri_json.specs.Difference.{IsExpectedBatch, IsExpected};
 
 use crate::expected::{Expected, ExpectedBatch, ExpectedMatrix, ExpectedPoint};
-use crate::records::Accepted;
+use crate::records::{Accepted, HidingStated};
 use fri_requests::{BatchClaims, Domain, MatrixClaims, Parameters, Place, PointClaims};
 use std::fmt;
 
@@ -20,6 +20,9 @@ pub enum Part {
     BatchProofOfWorkBits,
     CommitProofOfWorkBits,
     QueryProofOfWorkBits,
+    Hiding,
+    NumRandomCodewords,
+    Preprocessing,
     CommitmentCount,
     Commitment,
     MatrixCount,
@@ -43,6 +46,9 @@ impl Part {
             Part::BatchProofOfWorkBits => "parameters.batch_proof_of_work_bits",
             Part::CommitProofOfWorkBits => "parameters.commit_proof_of_work_bits",
             Part::QueryProofOfWorkBits => "parameters.query_proof_of_work_bits",
+            Part::Hiding => "hiding",
+            Part::NumRandomCodewords => "hiding.num_random_codewords",
+            Part::Preprocessing => "hiding.preprocessing",
             Part::CommitmentCount => "claims",
             Part::Commitment => ".commitment",
             Part::MatrixCount => ".matrices",
@@ -226,6 +232,26 @@ fn parameters_difference(parameters: &Parameters, expected: &Parameters) -> Opti
     None
 }
 
+/// The first number by what a scheme hides that isn't the expected one.
+fn hiding_difference(hiding: &Option<HidingStated>, expected: &Option<HidingStated>) -> Option<Part>
+    ensures same { IfNone result (hiding.now ≡ expected.now) }
+    ensures differs { OnSome result (¬ hiding.now ≡ expected.now) }
+{
+    match (hiding, expected) {
+        (None, None) => None,
+        (Some(stated), Some(expected)) => {
+            if stated.num_random_codewords != expected.num_random_codewords {
+                return Some(Part::NumRandomCodewords);
+            }
+            if stated.preprocessing != expected.preprocessing {
+                return Some(Part::Preprocessing);
+            }
+            None
+        },
+        _ => Some(Part::Hiding),
+    }
+}
+
 /// The first difference of commitments and what is claimed of them.
 fn claims_difference(claims: &[BatchClaims], expected: &[ExpectedBatch]) -> Option<Difference>
     ensures same { IfNone result (AreExpected IsExpectedBatch claims.now expected.now) }
@@ -247,8 +273,9 @@ fn claims_difference(claims: &[BatchClaims], expected: &[ExpectedBatch]) -> Opti
 }
 
 /// The first part of a statement that isn't the expected one: the context, then the parameters,
-/// then commitment by commitment the matrices' domains, points and values. Counts come before what
-/// they count. Hex is the same in either case. Which part is named isn't promised.
+/// then by what the scheme hides, then commitment by commitment the matrices' domains, points and
+/// values. Counts come before what they count. Hex is the same in either case. Which part is named
+/// isn't promised.
 pub(crate) fn first_difference(accepted: &Accepted, expected: &Expected) -> Option<Difference>
     ensures same { IfNone result (IsExpected accepted.now expected.now) }
     ensures differs { OnSome result (¬ IsExpected accepted.now expected.now) }
@@ -257,6 +284,9 @@ pub(crate) fn first_difference(accepted: &Accepted, expected: &Expected) -> Opti
         return Part::Context.differs_at(Place::NONE);
     }
     if let Some(part) = parameters_difference(&accepted.parameters, &expected.parameters) {
+        return part.differs_at(Place::NONE);
+    }
+    if let Some(part) = hiding_difference(&accepted.hiding, &expected.hiding) {
         return part.differs_at(Place::NONE);
     }
     claims_difference(&accepted.claims, &expected.claims)

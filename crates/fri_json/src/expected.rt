@@ -1,5 +1,6 @@
 //! What a verifier expects to be stated, as it is read from a file.
 
+use crate::records::HidingStated;
 use fri_requests::{Domain, Fault, Misfit, Parameters, Place};
 use p3_field::{BabyBear, PrimeField64};
 use serde::Deserialize;
@@ -40,6 +41,9 @@ pub struct Expected {
     #[serde(default)]
     pub(crate) context: String,
     pub(crate) parameters: Parameters,
+    /// Where the scheme hides.
+    #[serde(default)]
+    pub(crate) hiding: Option<HidingStated>,
     pub(crate) claims: Vec<ExpectedBatch>,
 }
 

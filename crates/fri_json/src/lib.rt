@@ -1,23 +1,30 @@
-//! Requests, answers and statements of the plain scheme as JSON texts.
+//! Requests, answers and statements as JSON texts, of the plain scheme and of the one that hides.
 #![tactic(auto)]
 
+mod answer;
 mod command;
 mod difference;
 mod expected;
 mod fault;
 mod field;
 mod records;
+mod request;
+mod statement;
 mod summary;
 
+use crate::answer::open_request;
 pub use crate::command::{Command, WRITE_FAILED, answer, read_expected};
 pub use crate::difference::{Difference, Part};
 pub use crate::expected::Expected;
 use crate::expected::test_expected;
 pub use crate::fault::JsonFault;
 use crate::fault::read;
-use crate::records::{Accepted, Answer, Statement};
-use fri_requests::{Request, RequestError, VerifyError};
-use p3_fri_plain::{from_plain, to_plain};
+use crate::records::Accepted;
+use crate::request::{commit_request, request_of};
+use crate::statement::accept;
+use fri_requests::{RequestError, VerifyError};
+use p3_fri_folding::FriProverError;
+use p3_fri_masks::HidingFriProverError;
 use std::alloc::{AllocError, AllocFailed, Global};
 use std::error::Error;
 use std::fmt;
@@ -37,7 +44,9 @@ pub enum Failure {
     /// It isn't JSON, or not of such a record.
     Json(JsonFault),
     /// The request isn't opened.
-    Request(RequestError),
+    Request(RequestError<FriProverError>),
+    /// The request isn't opened by the scheme that hides.
+    HidingRequest(RequestError<HidingFriProverError>),
     /// The statement isn't accepted.
     Statement(VerifyError),
     /// The statement is accepted, and isn't the expected one.
@@ -51,9 +60,11 @@ impl Failure {
     pub fn status(&self) -> u8 {
         match self {
             Failure::Request(RequestError::Refused(_)) => REFUSED,
+            Failure::HidingRequest(RequestError::Refused(_)) => REFUSED,
             Failure::Statement(VerifyError::Refused(_)) => REFUSED,
             Failure::Unexpected(_) => REFUSED,
             Failure::Request(RequestError::OutOfMemory) => OUT_OF_MEMORY,
+            Failure::HidingRequest(RequestError::OutOfMemory) => OUT_OF_MEMORY,
             Failure::Statement(VerifyError::OutOfMemory) => OUT_OF_MEMORY,
             Failure::OutOfMemory => OUT_OF_MEMORY,
             _ => MALFORMED,
@@ -66,6 +77,7 @@ impl fmt::Display for Failure {
         match self {
             Failure::Json(fault) => write!(f, "{fault}"),
             Failure::Request(error) => write!(f, "{error}"),
+            Failure::HidingRequest(error) => write!(f, "{error}"),
             Failure::Statement(error) => write!(f, "{error}"),
             Failure::Unexpected(difference) => write!(f, "{difference}"),
             Failure::OutOfMemory => f.write_str("OutOfMemory: out of memory"),
@@ -84,48 +96,6 @@ impl<T: Drop> From<AllocFailed<T>> for Failure {
 impl From<AllocError> for Failure {
     fn from(_error: AllocError) -> Failure {
         Failure::OutOfMemory
-    }
-}
-
-/// The request in this JSON text.
-fn request_of(alloc: Global, text: &str) -> Result<Request, Failure> {
-    read(alloc, text)
-}
-
-/// The commitments of a request, each in hex.
-fn commit_request(alloc: Global, request: &Request) -> Result<Vec<String>, Failure> {
-    let commitments = match fri_requests::commit(alloc, request) {
-        Ok(commitments) => commitments,
-        Err(error) => return Err(Failure::Request(error)),
-    };
-    let mut texts = Vec::with_capacity(alloc, commitments.len())?;
-    for commitment in &commitments {
-        texts.push(hex::encode(alloc, commitment.as_slice())?)?;
-    }
-    Ok(texts)
-}
-
-/// The answer to a request, in JSON.
-fn open_request(alloc: Global, request: &Request) -> Result<String, Failure> {
-    let opening = match fri_requests::open(alloc, request) {
-        Ok(opening) => opening,
-        Err(error) => return Err(Failure::Request(error)),
-    };
-    let answer = Answer {
-        context: request.context.to_ascii_lowercase(alloc)?,
-        parameters: request.parameters,
-        claims: opening.claims,
-        proof: to_plain(alloc, &opening.proof)?,
-        next_challenge: opening.next_challenge,
-    };
-    match serde_json::to_string(alloc, &answer) {
-        Ok(line) => Ok(line),
-        Err(error) => Err(JsonFault {
-            field: String::new(alloc),
-            found: String::new(alloc),
-            error,
-        }
-        .failure()),
     }
 }
 
@@ -148,35 +118,12 @@ fn expected_of(alloc: Global, text: &str) -> Result<Expected, Failure> {
     }
 }
 
-/// Verifies the statement in this JSON text, and answers what was accepted.
-fn accept(alloc: Global, text: &str) -> Result<Accepted, Failure> {
-    let statement: Statement = read(alloc, text)?;
-    let Statement {
-        context,
-        parameters,
-        claims,
-        proof,
-    } = statement;
-    let verified = match from_plain(alloc, proof) {
-        Ok(proof) => fri_requests::verify(alloc, &context, &parameters, &claims, &proof),
-        Err(error) => Err(error.into()),
-    };
-    match verified {
-        Ok(next_challenge) => Ok(Accepted {
-            context,
-            parameters,
-            claims,
-            next_challenge,
-        }),
-        Err(error) => Err(Failure::Statement(error)),
-    }
-}
-
 /// Verifies the statement in this JSON text, and answers what the challenger draws next.
 pub fn verify(alloc: Global, text: &str) -> Result<Vec<u64>, Failure> {
     let Accepted {
         context: _,
         parameters: _,
+        hiding: _,
         claims: _,
         next_challenge,
     } = accept(alloc, text)?;

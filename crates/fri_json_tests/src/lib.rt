@@ -8,6 +8,8 @@ mod faults;
 #[cfg(test)]
 mod forgeries;
 #[cfg(test)]
+mod hiding;
+#[cfg(test)]
 mod openings;
 #[cfg(test)]
 mod refusals;

@@ -2,8 +2,6 @@
 use Rattle.std.proofs.Common.{◌≡◌, ◌≢◌, Result, Ok, Err, IfErr, refl, sym, subst, ap, ◌∙◌, inl, inr}
 use Rattle.std.specs.Prelude.{IsErrAnd}
 use Rattle.p3_mmcs.specs.declared.sha256_mmcs.error.Sha256MmcsError.{Sha256MmcsError}
-use Rattle.p3_fri_folding.specs.declared.error.FriProverError.{FriProverError}
-use Rattle.p3_fri_folding.specs.declared.error.FriProverError.TheVariants as prover
 use Rattle.p3_fri_relation.specs.declared.error.FriError.{FriError}
 use Rattle.p3_fri_relation.specs.declared.error.FriError.TheVariants as refusal
 use Rattle.p3_fri_two_adic.specs.ErrorLaws.{memory_cases}
@@ -16,7 +14,7 @@ use Rattle.fri_records.specs.declared.fault.VerifyError.{VerifyError}
 use Rattle.fri_records.specs.declared.fault.VerifyError.TheVariants as statement
 use Rattle.fri_records.specs.declared.fault.VerifyError.TheVariants.{Refused}
 use Rattle.fri_records.specs.Failures.{IfMalformed, MatchRequestError, MatchVerifyError}
-use Rattle.fri_records.specs.Failures.{unread_request, unopened, failure_of}
+use Rattle.fri_records.specs.Failures.{unread_request, failure_of}
 
 pub given : {A E : Type 0} (Q R : E → Type 0) (r : Result A E) → IsErrAnd r Q
     → ((e : E) → Q e → R e) → IfErr r R
@@ -49,53 +47,40 @@ malformed_part r part P Q gives p weaker =
     (λ e is. malformed_weaker P Q weaker e (subst (λ f. IfMalformed P f) (sym is) p))
 
 -- of a record of a request
-unread_fails : (P Q : Type 0) (R : FriProverError → Type 0) → (P → Q) → (e : ReadError)
+unread_fails : {E : Type 0} (P Q : Type 0) (R : E → Type 0) → (P → Q) → (e : ReadError)
     → IfMalformed P e → MatchRequestError Q R (unread_request e)
 unread_fails P Q R weaker (Malformed misfit) p = weaker p
 unread_fails P Q R weaker OutOfMemory p = tt
 
-pub unread_part : {A : Type 0} (r : Result A RequestError) (part : ReadError) (P Q : Type 0)
-    (R : FriProverError → Type 0) → IsErrAnd r (λ f. f ≡ unread_request part) → IfMalformed P part
+pub unread_part : {A E : Type 0} (r : Result A (RequestError E)) (part : ReadError) (P Q : Type 0)
+    (R : E → Type 0) → IsErrAnd r (λ f. f ≡ unread_request part) → IfMalformed P part
     → (P → Q) → IfErr r (MatchRequestError Q R)
 unread_part r part P Q R gives p weaker =
     given (λ f. f ≡ unread_request part) (MatchRequestError Q R) r gives
     (λ f is. subst (λ g. MatchRequestError Q R g) (sym is) (unread_fails P Q R weaker part p))
 
-request_weaker : (P Q : Type 0) (R S : FriProverError → Type 0) → (P → Q)
-    → ((e : FriProverError) → R e → S e) → (f : RequestError)
+pub request_weaker : {E : Type 0} (P Q : Type 0) (R S : E → Type 0) → (P → Q)
+    → ((e : E) → R e → S e) → (f : RequestError E)
     → MatchRequestError P R f → MatchRequestError Q S f
 request_weaker P Q R S first second (request.Malformed misfit) h = first h
 request_weaker P Q R S first second (request.Refused e) h = second e h
 request_weaker P Q R S first second request.OutOfMemory h = tt
 
 -- of a request's failure
-pub request_part : {A : Type 0} (r : Result A RequestError) (part : RequestError) (P Q : Type 0)
-    (R S : FriProverError → Type 0) → IsErrAnd r (λ f. f ≡ part) → MatchRequestError P R part
-    → (P → Q) → ((e : FriProverError) → R e → S e) → IfErr r (MatchRequestError Q S)
+pub request_part : {A E : Type 0} (r : Result A (RequestError E)) (part : RequestError E)
+    (P Q : Type 0) (R S : E → Type 0) → IsErrAnd r (λ f. f ≡ part) → MatchRequestError P R part
+    → (P → Q) → ((e : E) → R e → S e) → IfErr r (MatchRequestError Q S)
 request_part r part P Q R S gives h first second =
     given (λ f. f ≡ part) (MatchRequestError Q S) r gives
     (λ f is. request_weaker P Q R S first second f
     (subst (λ g. MatchRequestError P R g) (sym is) h))
 
-pub request_wants : {A : Type 0} (r : Result A RequestError) (P : Type 0)
-    (R : FriProverError → Type 0) → IsErrAnd r (λ f. f ≡ request.OutOfMemory)
+pub request_wants : {A E : Type 0} (r : Result A (RequestError E)) (P : Type 0)
+    (R : E → Type 0) → IsErrAnd r (λ f. f ≡ request.OutOfMemory)
     → IfErr r (MatchRequestError P R)
 request_wants r P R gives =
     given (λ f. f ≡ request.OutOfMemory) (MatchRequestError P R) r gives
     (λ f is. subst (λ g. MatchRequestError P R g) (sym is) tt)
-
--- of a prover's refusal, of which `R` holds where it isn't want of memory
-unopened_fails : (P : Type 0) (R : FriProverError → Type 0) (e : FriProverError)
-    → (e ≢ prover.OutOfMemory → R e) → MatchRequestError P R (unopened e)
-unopened_fails P R prover.OutOfMemory holds = tt
-unopened_fails P R _ holds = holds (λ same. cc)
-
-pub unopened_part : {A : Type 0} (r : Result A RequestError) (e : FriProverError) (P : Type 0)
-    (R : FriProverError → Type 0) → IsErrAnd r (λ f. f ≡ unopened e)
-    → (e ≢ prover.OutOfMemory → R e) → IfErr r (MatchRequestError P R)
-unopened_part r e P R gives holds =
-    given (λ f. f ≡ unopened e) (MatchRequestError P R) r gives
-    (λ f is. subst (λ g. MatchRequestError P R g) (sym is) (unopened_fails P R e holds))
 
 -- a refusal that isn't want of memory stays one
 failure_refused : (e : FriError Sha256MmcsError Sha256MmcsError) → e ≢ refusal.OutOfMemory
@@ -114,12 +99,12 @@ refused_as P R e f is holds =
           subst (λ g. MatchVerifyError P R g) (sym (is ∙ failure_refused e differs)) (holds differs)
     ]
 
-refused_weaker : (P Q : Type 0) (R S : FriError Sha256MmcsError Sha256MmcsError → Type 0)
+pub statement_weaker : (P Q : Type 0) (R S : FriError Sha256MmcsError Sha256MmcsError → Type 0)
     → (P → Q) → ((e : FriError Sha256MmcsError Sha256MmcsError) → R e → S e) → (f : VerifyError)
     → MatchVerifyError P R f → MatchVerifyError Q S f
-refused_weaker P Q R S first second (statement.Malformed misfit) h = first h
-refused_weaker P Q R S first second (Refused e) h = second e h
-refused_weaker P Q R S first second statement.OutOfMemory h = tt
+statement_weaker P Q R S first second (statement.Malformed misfit) h = first h
+statement_weaker P Q R S first second (Refused e) h = second e h
+statement_weaker P Q R S first second statement.OutOfMemory h = tt
 
 -- of the failure of a part
 pub refused_part : {A : Type 0} (r : Result A VerifyError) (part : VerifyError) (P Q : Type 0)
@@ -128,7 +113,7 @@ pub refused_part : {A : Type 0} (r : Result A VerifyError) (part : VerifyError) 
     → ((e : FriError Sha256MmcsError Sha256MmcsError) → R e → S e) → IfErr r (MatchVerifyError Q S)
 refused_part r part P Q R S gives h first second =
     given (λ f. f ≡ part) (MatchVerifyError Q S) r gives
-    (λ f is. refused_weaker P Q R S first second f
+    (λ f is. statement_weaker P Q R S first second f
     (subst (λ g. MatchVerifyError P R g) (sym is) h))
 
 pub statement_wants : {A : Type 0} (r : Result A VerifyError) (P : Type 0)

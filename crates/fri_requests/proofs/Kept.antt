@@ -1,13 +1,9 @@
--- What is kept of a batch that was committed to.
+-- Lists whose entries belong together, pair by pair.
 use Rattle.std.proofs.Common.{◌≡◌, ℕ, ◌+◌, ◌<◌, ◌≤◌, List, [], ◌∷◌, ◌++◌, map, length, take, get_or, refl}
 use Rattle.std.proofs.Common.{sym, subst, ap, ap₂, ◌∙◌}
 use Rattle.std.specs.List.{AllZip}
 use Rattle.std.proofs.lemmas.List.{take_all, take_more, map_more, map-append}
-use Rattle.algebra.proofs.Lists.{map-map, all_zip-push, all_zip-mapped, all_zip-weaker}
-use Rattle.p3_mmcs.specs.ProverData.{matrices_of}
-use Rattle.fri_requests.specs.declared.committed.Committed.{Committed}
-use Rattle.fri_records.specs.declared.records.Batch.{Batch}
-use Rattle.fri_requests.specs.Commitments.{IsCommitmentTo, Keeps}
+use Rattle.algebra.proofs.Lists.{map-map, all_zip-push}
 
 module _ {A B : Type 0} (R : A → B → Type 0) where
   -- one pair more
@@ -53,22 +49,37 @@ pairs_mapped R g [] (y ∷ ys) pairs = absurd pairs
 pairs_mapped R g (x ∷ xs) [] pairs = absurd pairs
 pairs_mapped R g (x ∷ xs) (y ∷ ys) pairs = (pairs.0, pairs_mapped R g xs ys pairs.1)
 
-module _ (log_blowup : ℕ) where
-  pub is_commitment : (c : Committed) (batch : Batch) → Keeps log_blowup c batch
-      → IsCommitmentTo log_blowup c.commitment batch
-  is_commitment c batch k = record {
-    words = matrices_of c.data;
-    low_degree = k.kept.low_degree;
-    polynomials = k.polynomials;
-    log_height = c.data.log_height;
-    height = c.data.greatest;
-    root = sym k.kept.commitment;
-  }
+-- pairs of pairs
+pub pairs_through : {A B C : Type 0} (R : A → B → Type 0) (S : B → C → Type 0) (T : A → C → Type 0)
+    → ((x : A) (y : B) (z : C) → R x y → S y z → T x z) → (xs : List A) (ys : List B) (zs : List C)
+    → AllZip R xs ys → AllZip S ys zs → AllZip T xs zs
+pairs_through R S T both [] [] [] p q = tt
+pairs_through R S T both [] [] (z ∷ zs) p q = absurd q
+pairs_through R S T both [] (y ∷ ys) zs p q = absurd p
+pairs_through R S T both (x ∷ xs) [] zs p q = absurd p
+pairs_through R S T both (x ∷ xs) (y ∷ ys) [] p q = absurd q
+pairs_through R S T both (x ∷ xs) (y ∷ ys) (z ∷ zs) p q =
+    (both x y z p.0 q.0, pairs_through R S T both xs ys zs p.1 q.1)
 
-  pub are_commitments : (cs : List Committed) (batches : List Batch)
-      → AllZip (Keeps log_blowup) cs batches
-      → AllZip (IsCommitmentTo log_blowup) (map (λ c. c.commitment) cs) batches
-  are_commitments cs batches kept =
-      all_zip-mapped (λ c. c.commitment) (IsCommitmentTo log_blowup) cs batches
-      (all_zip-weaker (Keeps log_blowup)
-      (λ c batch. IsCommitmentTo log_blowup c.commitment batch) cs batches is_commitment kept)
+-- the entry that belongs to one among others
+pub record IsPairedAmong {A B : Type 0} (R : A → B → Type 0) (x : A) (ys : List B) : Type 0 where
+  pub before : List B
+  pub entry : B
+  pub after : List B
+  pub among : ys ≡ before ++ entry ∷ after
+  pub pair : R x entry
+
+pub paired_among : {A B : Type 0} (R : A → B → Type 0) (before after : List A) (x : A) (ys : List B)
+    → AllZip R (before ++ x ∷ after) ys → IsPairedAmong R x ys
+paired_among R [] after x [] pairs = absurd pairs
+paired_among R [] after x (y ∷ ys) pairs =
+    record { before = []; entry = y; after = ys; among = refl; pair = pairs.0 }
+paired_among R (z ∷ before) after x [] pairs = absurd pairs
+paired_among R (z ∷ before) after x (y ∷ ys) pairs =
+    let rest = paired_among R before after x ys pairs.1 in record {
+      before = y ∷ rest.before;
+      entry = rest.entry;
+      after = rest.after;
+      among = ap (λ us. y ∷ us) rest.among;
+      pair = rest.pair;
+    }

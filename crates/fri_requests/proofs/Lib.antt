@@ -1,11 +1,15 @@
+pub mod Answered
 pub mod Asked
 pub mod Bound
 pub mod Failed
+pub mod Fits
 pub mod Images
 pub mod Kept
 pub mod Listed
 pub mod Opened
+pub mod PlainRules
 pub mod Polynomials
+pub mod Preprocessing
 pub mod Sizes
 pub mod Stated
 pub mod Zipped

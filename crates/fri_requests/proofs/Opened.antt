@@ -1,134 +1,346 @@
 -- Requests to open what is kept, and what is claimed of it then.
-use Rattle.std.proofs.Common.{◌≡◌, ◌≢◌, ℕ, ◌^◌, List, [], ◌∷◌, map, length, All, Ok, refl}
-use Rattle.std.proofs.Common.{sym, ap, ap₂, ◌∙◌, arith}
-use Rattle.std.specs.List.{AllZip}
+use Rattle.std.proofs.Common.{◌≡◌, ◌≢◌, ℕ, zero, suc, ◌+◌, List, [], ◌∷◌, ◌++◌, map, length, All}
+use Rattle.std.proofs.Common.{Ok, Option, Some, None, refl, sym, subst, ap, ap₂, ◌∙◌, arith}
+use Rattle.std.proofs.Common.{length-append, Bool, true, false}
+use Rattle.std.specs.List.{AllZip, flat_map}
 use Rattle.std.proofs.lemmas.List.{length-map}
 use Rattle.std.proofs.lemmas.Slice.Zip.{AllZip-long}
 use Rattle.algebra.specs.Nested.{lists}
-use Rattle.algebra.proofs.Lists.{Each, each_from_All, All_from_each, head_eq, tail_eq}
+use Rattle.algebra.proofs.Lists.{Each, each_from_All, All_from_each, head_eq, tail_eq, all_zip-weaker, map-map}
 use Rattle.p3_baby_bear.specs.declared.baby_bear.BabyBear.{BabyBear}
 use Rattle.p3_baby_bear.specs.declared.baby_bear4.BabyBear4.{BabyBear4}
-use Rattle.p3_mmcs.specs.ProverData.{matrices_of, root_over}
+use Rattle.p3_matrix.specs.declared.dense.RowMajorMatrix.{RowMajorMatrix}
+use Rattle.p3_matrix.specs.Matrix.{matrix_width}
 use Rattle.p3_pcs.specs.Claims.{zip_with, point_claims, matrix_claims}
-use Rattle.p3_pcs.specs.Requests.{Held, AreHonest, FitDomains, honest_claims}
-use Rattle.p3_stark_pcs.specs.Evaluations.{HasPolynomials}
-use Rattle.p3_fri_openings.specs.Held.{held_of, HoldsWords}
+use Rattle.p3_pcs.specs.Requests.{Held}
+use Rattle.p3_pcs.specs.Scheme.{Scheme, IsLawful, AreKept, AreHonestIn, FitRequests, claims_asked}
+use Rattle.p3_stark_pcs.specs.Preprocessing.{CanBeOpened, ArePreprocessedAt}
+use Rattle.p3_stark_pcs.specs.Scheme.{StarkScheme, IsLawfulStark, AreKeptStark}
 use Rattle.fri_records.specs.declared.records.Matrix.{Matrix}
 use Rattle.fri_records.specs.declared.records.Batch.{Batch}
 use Rattle.fri_records.specs.declared.records.Domain.{Domain}
 use Rattle.fri_requests.specs.declared.committed.Committed.{Committed}
+use Rattle.fri_requests.specs.declared.reading.ListedBatch.{ListedBatch}
 use Rattle.fri_statement.specs.Numbers.{coefficient_numbers}
+use Rattle.fri_statement.specs.Statement.{OpenedMatrix}
 use Rattle.fri_requests.specs.Numbers.{extension_of}
+use Rattle.fri_requests.specs.Bound.{width_claimed, matrix_claimed, batch_claimed, matrix_asked, batch_asked}
 use Rattle.fri_requests.specs.Claims.{PointNumbers, point_numbers, matrix_numbers, batch_numbers}
-use Rattle.fri_statement.specs.Setting.{fields}
-use Rattle.fri_requests.specs.Matrices.{held_listed, values_listed}
-use Rattle.fri_requests.specs.Commitments.{IsKept, Keeps, domain_of}
-use Rattle.fri_requests.specs.Openings.{opened_numbers, IsOpened, HavePoints, request_for}
-use Rattle.fri_requests.proofs.Kept.{is_commitment}
+use Rattle.fri_requests.specs.Committed.{domain_of, domain_committed, IsListed, Lists, MayOpen, CommitsTo}
+use Rattle.fri_requests.specs.Committed.{KeepsRead, IsCommittedTo, Keeps, RefusesMatrices}
+use Rattle.fri_requests.specs.Refusals.{RefusesRead, RefusesBatch}
+use Rattle.fri_requests.specs.Openings.{values_opened, matrix_opened, IsOpenedBy, HavePoints, requests_for}
+use Rattle.fri_requests.specs.Preprocessing.{NamesPreprocessed}
+use Rattle.fri_requests.specs.Requests.{HasPoints, AllMatrices}
+use Rattle.p3_pcs.specs.declared.claims.KnownCommitment.{KnownCommitment}
+use Rattle.fri_requests.proofs.Kept.{pairs_same, pairs_through, through, paired_among}
 use Rattle.fri_requests.proofs.Listed.{extension_again}
+use Rattle.fri_requests.proofs.Zipped.{none_left}
 
-module _ (b : ℕ) where
-  honest_data : (cs : List Committed) (pss : List (List (List BabyBear4))) → Each (IsKept b) cs
-      → Each (λ r. All (HoldsWords fields b) (matrices_of r.datum)) (zip_with (λ c ps. request_for c.data ps) cs pss)
-  honest_data [] pss kept = tt
-  honest_data (c ∷ cs) [] kept = tt
-  honest_data (c ∷ cs) (ps ∷ pss) kept = (kept.0.low_degree, honest_data cs pss kept.1)
+-- what is claimed at points is what is opened there
+points_opened : (h : Held BabyBear4) (ps : List BabyBear4)
+    → map point_numbers (point_claims ps (map h.values_at ps)) ≡ map (values_opened h) (map coefficient_numbers ps)
+points_opened h [] = refl
+points_opened h (p ∷ ps) =
+    let numbers : List BabyBear4 → PointNumbers = λ vs. record { point = coefficient_numbers p; values = map coefficient_numbers vs } in
+    ap₂ (λ x xs. x ∷ xs) (ap (λ z. numbers (h.values_at z)) (sym (extension_again p))) (points_opened h ps)
 
-  points_there : (cs : List Committed) (pss : List (List (List BabyBear4)))
+-- as many values at each point as the matrix has columns
+abbrev pub HasWidth : Held BabyBear4 → Matrix → Type 0
+HasWidth h m = (z : BabyBear4) → length (h.values_at z) ≡ m.width
+
+module _ (hides : Bool) where
+  points_back : (h : Held BabyBear4) (zs : List (List ℕ)) → map (λ p. p.point) (map (values_opened h) zs) ≡ zs
+  points_back h [] = refl
+  points_back h (z ∷ zs) = ap (λ ys. z ∷ ys) (points_back h zs)
+
+  width_back : (h : Held BabyBear4) (m : Matrix) → HasWidth h m → (zs : List (List ℕ)) → zs ≢ []
+      → width_claimed (map (values_opened h) zs) ≡ m.width
+  width_back h m wide [] some = absurd (some refl)
+  width_back h m wide (z ∷ zs) some =
+      length-map (h.values_at (extension_of z)) coefficient_numbers ∙ wide (extension_of z)
+
+  -- what is claimed of a matrix that is opened somewhere states what is asked
+  matrix_back : (h : Held BabyBear4) (m : Matrix) → HasWidth h m → HasPoints m
+      → matrix_claimed (matrix_opened hides h m) ≡ matrix_asked hides m
+  matrix_back h m wide has =
+      ap₂ (λ w zs. record {
+        shift = (domain_committed hides m.domain).shift;
+        log_size = (domain_committed hides m.domain).log_size;
+        width = w;
+        points = zs;
+      })
+      (width_back h m wide (lists m.points.items) (λ none. has.some_point
+      (none_left m.points.items (sym (length-map m.points.items (λ v. v.items)) ∙ ap length none))))
+      (points_back h (lists m.points.items))
+
+  matrices_back : (hs : List (Held BabyBear4)) (ms : List Matrix) → AllZip HasWidth hs ms → Each HasPoints ms
+      → map matrix_claimed (zip_with (matrix_opened hides) hs ms) ≡ map (matrix_asked hides) ms
+  matrices_back [] [] wide has = refl
+  matrices_back [] (m ∷ ms) wide has = absurd wide
+  matrices_back (h ∷ hs) [] wide has = refl
+  matrices_back (h ∷ hs) (m ∷ ms) wide has =
+      ap₂ (λ x xs. x ∷ xs) (matrix_back h m wide.0 has.0) (matrices_back hs ms wide.1 has.1)
+
+  module _ {Dom : Type 0} (shift_of : Dom → BabyBear) (log_size_of : Dom → ℕ) where
+    matrices_opened : (domains : List Dom) (ms : List Matrix) (hs : List (Held BabyBear4)) (pss : List (List BabyBear4))
+        → map (λ d. domain_of (shift_of d) (log_size_of d)) domains ≡ map (λ m. domain_committed hides m.domain) ms
+        → length hs ≡ length ms
+        → map (map coefficient_numbers) pss ≡ map (λ m. lists m.points.items) ms
+        → map (matrix_numbers shift_of log_size_of) (matrix_claims domains pss (zip_with (λ m zs. map m.values_at zs) hs pss))
+        ≡ zip_with (matrix_opened hides) hs ms
+    matrices_opened [] [] [] pss e n q = refl
+    matrices_opened [] [] (h ∷ hs) pss e n q = refl
+    matrices_opened [] (m ∷ ms) hs pss e n q = cc
+    matrices_opened (d ∷ ds) [] hs pss e n q = cc
+    matrices_opened (d ∷ ds) (m ∷ ms) [] pss e n q = absurd (omega (arith, n))
+    matrices_opened (d ∷ ds) (m ∷ ms) (h ∷ hs) [] e n q = cc
+    matrices_opened (d ∷ ds) (m ∷ ms) (h ∷ hs) (ps ∷ pss) e n q =
+        ap₂ (λ x xs. x ∷ xs)
+        (ap₂ (λ (x : Domain) xs. record { shift = x.shift; log_size = x.log_size; points = xs }) (head_eq e)
+        (points_opened h ps ∙ ap (λ zs. map (values_opened h) zs) (head_eq q)))
+        (matrices_opened ds ms hs pss (tail_eq e) (omega (arith, n)) (tail_eq q))
+
+-- what was kept of batches that were read is kept of the batches
+module _ {C Dom D Proof Error ProverError : Type 0}
+    (r : Scheme BabyBear4 C BabyBear Dom (List ℕ) D Proof Error ProverError)
+    (t : StarkScheme BabyBear4 BabyBear Dom D ProverError) (hides : Bool) (shift_of : Dom → BabyBear)
+    (log_size_of : Dom → ℕ) where
+  keeps_listed : IsLawful r → (c : Committed D Dom) (read : ListedBatch Dom) (batch : Batch)
+      → KeepsRead r t c read → Lists hides shift_of log_size_of read batch
+      → Keeps r t hides shift_of log_size_of c batch
+  keeps_listed lawful c read batch k l =
+      let es = read.evaluations.items in record {
+        committed = record {
+          evaluations = es;
+          listed = l.evaluations;
+          commits = subst (λ p. CommitsTo r t c.commitment c.data p es) l.preprocessed k.commits;
+        };
+        domains = through (λ d. domain_of (shift_of d) (log_size_of d)) (λ e. e.0) es c.domains.items _ k.domains
+            (sym (pairs_same (IsListed hides shift_of log_size_of) (λ e. domain_of (shift_of e.0) (log_size_of e.0))
+            (λ m. domain_committed hides m.domain) (λ e m h. h.domain) es batch.matrices.items l.evaluations));
+        sizes = through r.domain_size (λ e. e.0) es c.domains.items _ k.domains
+            (pairs_same r.Extends (λ m. m.size) (λ e. r.domain_size e.0) lawful.extends_size
+            (r.committed_polynomials c.data) es k.commits.extends);
+      }
+
+  pub all_keep : IsLawful r → (cs : List (Committed D Dom)) (all : List (ListedBatch Dom)) (batches : List Batch)
+      → AllZip (KeepsRead r t) cs all → AllZip (Lists hides shift_of log_size_of) all batches
+      → AllZip (Keeps r t hides shift_of log_size_of) cs batches
+  all_keep lawful cs all batches kept listed =
+      pairs_through (KeepsRead r t) (Lists hides shift_of log_size_of) (Keeps r t hides shift_of log_size_of)
+      (keeps_listed lawful) cs all batches kept listed
+
+-- and by a later scheme
+module _ {C Dom D Proof Error ProverError : Type 0}
+    (r s : Scheme BabyBear4 C BabyBear Dom (List ℕ) D Proof Error ProverError)
+    (t u : StarkScheme BabyBear4 BabyBear Dom D ProverError) (kept : AreKept r s) (kept_stark : AreKeptStark t u)
+  where
+    openable_on : (p : Bool) (d : D) → MayOpen r t p d → MayOpen s u p d
+    openable_on true d h = kept_stark.preprocessed d h
+    openable_on false d h = kept.openable d h
+
+    commits_on : (commitment : List ℕ) (d : D) (p : Bool) (es : List (Dom × RowMajorMatrix BabyBear))
+        → CommitsTo r t commitment d p es → CommitsTo s u commitment d p es
+    commits_on commitment d p es h = record {
+      commits = ap (λ f. f d) kept.commitments ∙ h.commits;
+      honest = kept.honest d h.honest;
+      openable = openable_on p d h.openable;
+      extends = subst (λ hs. AllZip s.Extends hs es) (sym (kept.polynomials d))
+          (all_zip-weaker r.Extends s.Extends (r.committed_polynomials d) es kept.extends h.extends);
+    }
+
+    pub keeps_on : (cs : List (Committed D Dom)) (all : List (ListedBatch Dom))
+        → AllZip (KeepsRead r t) cs all → AllZip (KeepsRead s u) cs all
+    keeps_on cs all pairs = all_zip-weaker (KeepsRead r t) (KeepsRead s u) cs all
+        (λ c read h. record {
+          commits = commits_on c.commitment c.data read.preprocessed read.evaluations.items h.commits;
+          domains = h.domains;
+        }) pairs
+
+module _ {C Dom D Proof Error ProverError : Type 0}
+    (r : Scheme BabyBear4 C BabyBear Dom (List ℕ) D Proof Error ProverError)
+    (t : StarkScheme BabyBear4 BabyBear Dom D ProverError) (hides : Bool) (shift_of : Dom → BabyBear)
+    (log_size_of : Dom → ℕ) where
+  abbrev Kept : Committed D Dom → Batch → Type 0
+  Kept c batch = Keeps r t hides shift_of log_size_of c batch
+
+  -- the commitments alone
+  pub are_commitments : (cs : List (Committed D Dom)) (batches : List Batch) → AllZip Kept cs batches
+      → AllZip (λ commitment batch. (datum : D) × IsCommittedTo r t hides shift_of log_size_of commitment datum batch)
+      (map (λ c. c.commitment) cs) batches
+  are_commitments [] [] pairs = tt
+  are_commitments [] (batch ∷ batches) pairs = absurd pairs
+  are_commitments (c ∷ cs) [] pairs = absurd pairs
+  are_commitments (c ∷ cs) (batch ∷ batches) pairs =
+      ((c.data, pairs.0.committed), are_commitments cs batches pairs.1)
+
+  -- their domains
+  pub domains_kept : (cs : List (Committed D Dom)) (batches : List Batch) → AllZip Kept cs batches
+      → map (λ c. map (λ d. domain_of (shift_of d) (log_size_of d)) c.domains.items) cs
+      ≡ map (λ b. map (λ m. domain_committed hides m.domain) b.matrices.items) batches
+  domains_kept [] [] pairs = refl
+  domains_kept [] (batch ∷ batches) pairs = absurd pairs
+  domains_kept (c ∷ cs) [] pairs = absurd pairs
+  domains_kept (c ∷ cs) (batch ∷ batches) pairs =
+      ap₂ (λ x xs. x ∷ xs) pairs.0.domains (domains_kept cs batches pairs.1)
+
+  -- as many matrices are kept as a batch lists
+  kept_count : (c : Committed D Dom) (batch : Batch) → Kept c batch
+      → length (r.committed_polynomials c.data) ≡ length batch.matrices.items
+  kept_count c batch k =
+      sym (AllZip-long r.Extends (r.committed_polynomials c.data) k.committed.evaluations k.committed.commits.extends)
+      ∙ sym (AllZip-long (IsListed hides shift_of log_size_of) k.committed.evaluations batch.matrices.items
+      k.committed.listed)
+
+  -- at these points of the batches
+  module _ (cs : List (Committed D Dom)) (pss : List (List (List BabyBear4))) (batches : List Batch) where
+    abbrev Points : Type 0
+    Points = map (map (map coefficient_numbers)) pss ≡ map (λ batch. map (λ m. lists m.points.items) batch.matrices.items) batches
+
+    pub count_same : AllZip Kept cs batches → Points → length pss ≡ length cs
+    count_same pairs e =
+        sym (length-map pss (map (map coefficient_numbers))) ∙ ap length e
+        ∙ length-map batches (λ batch. map (λ m. lists m.points.items) batch.matrices.items)
+        ∙ AllZip-long Kept cs batches pairs
+
+  honest_data : (cs : List (Committed D Dom)) (pss : List (List (List BabyBear4))) (batches : List Batch)
+      → AllZip Kept cs batches → Each (λ q. r.IsHonest q.datum) (requests_for cs pss)
+  honest_data [] pss batches pairs = tt
+  honest_data (c ∷ cs) [] batches pairs = tt
+  honest_data (c ∷ cs) (ps ∷ pss) [] pairs = absurd pairs
+  honest_data (c ∷ cs) (ps ∷ pss) (batch ∷ batches) pairs =
+      (pairs.0.committed.commits.honest, honest_data cs pss batches pairs.1)
+
+  points_there : (cs : List (Committed D Dom)) (pss : List (List (List BabyBear4)))
       → Each (λ ps. All (λ zs. zs ≢ []) ps) pss
-      → Each (λ r. All (λ zs. zs ≢ []) r.points) (zip_with (λ c ps. request_for c.data ps) cs pss)
+      → Each (λ q. All (λ zs. zs ≢ []) q.points) (requests_for cs pss)
   points_there [] pss some = tt
   points_there (c ∷ cs) [] some = tt
   points_there (c ∷ cs) (ps ∷ pss) some = (some.0, points_there cs pss some.1)
 
-  pub honest : (cs : List Committed) (pss : List (List (List BabyBear4))) → All (IsKept b) cs
-      → HavePoints pss
-      → AreHonest (λ d. All (HoldsWords fields b) (matrices_of d)) (zip_with (λ c ps. request_for c.data ps) cs pss)
-  honest cs pss kept some = record {
-    data_honest = All_from_each _ _ (honest_data cs pss (each_from_All (IsKept b) cs kept));
+  pub honest : (cs : List (Committed D Dom)) (pss : List (List (List BabyBear4))) (batches : List Batch)
+      → AllZip Kept cs batches → HavePoints pss → AreHonestIn r (requests_for cs pss)
+  honest cs pss batches pairs some = record {
+    data_honest = All_from_each _ _ (honest_data cs pss batches pairs);
     points = All_from_each _ _ (points_there cs pss (each_from_All (λ ps. All (λ zs. zs ≢ []) ps) pss some));
   }
 
-  fits_each : (cs : List Committed) (pss : List (List (List BabyBear4))) → length pss ≡ length cs
-      → Each (IsKept b) cs
-      → map (map (λ d. 2 ^ d.log_size)) (map (λ c. c.domains.items) cs)
-      ≡ map (λ r. map (λ m. m.size) (held_of fields matrices_of b r.datum)) (zip_with (λ c ps. request_for c.data ps) cs pss)
-  fits_each [] pss n kept = refl
-  fits_each (c ∷ cs) [] n kept = absurd (omega (arith, n))
-  fits_each (c ∷ cs) (ps ∷ pss) n kept =
-      ap₂ (λ x xs. x ∷ xs) kept.0.sizes (fits_each cs pss (omega (arith, n)) kept.1)
+  pub fits : (cs : List (Committed D Dom)) (pss : List (List (List BabyBear4))) (batches : List Batch)
+      → AllZip Kept cs batches → length pss ≡ length cs
+      → FitRequests r (map (λ c. c.domains.items) cs) (requests_for cs pss)
+  fits [] pss batches pairs n = refl
+  fits (c ∷ cs) [] batches pairs n = absurd (omega (arith, n))
+  fits (c ∷ cs) (ps ∷ pss) [] pairs n = absurd pairs
+  fits (c ∷ cs) (ps ∷ pss) (batch ∷ batches) pairs n =
+      ap₂ (λ x xs. x ∷ xs) pairs.0.sizes (fits cs pss batches pairs.1 (omega (arith, n)))
 
-  pub fits : (cs : List Committed) (pss : List (List (List BabyBear4))) → length pss ≡ length cs
-      → All (IsKept b) cs
-      → FitDomains (held_of fields matrices_of b) (λ d. 2 ^ d.log_size) (map (λ c. c.domains.items) cs) (zip_with (λ c ps. request_for c.data ps) cs pss)
-  fits cs pss n kept = fits_each cs pss n (each_from_All (IsKept b) cs kept)
+  pub roots : (cs : List (Committed D Dom)) (pss : List (List (List BabyBear4))) (batches : List Batch)
+      → AllZip Kept cs batches → length pss ≡ length cs
+      → map (λ c. c.commitment) cs ≡ map (λ q. r.commitment_of q.datum) (requests_for cs pss)
+  roots [] pss batches pairs n = refl
+  roots (c ∷ cs) [] batches pairs n = absurd (omega (arith, n))
+  roots (c ∷ cs) (ps ∷ pss) [] pairs n = absurd pairs
+  roots (c ∷ cs) (ps ∷ pss) (batch ∷ batches) pairs n =
+      ap₂ (λ x xs. x ∷ xs) (sym pairs.0.committed.commits.commits) (roots cs pss batches pairs.1 (omega (arith, n)))
 
-  roots_each : (cs : List Committed) (pss : List (List (List BabyBear4))) → length pss ≡ length cs
-      → Each (IsKept b) cs
-      → map (λ c. c.commitment) cs ≡ map (λ r. root_over r.datum) (zip_with (λ c ps. request_for c.data ps) cs pss)
-  roots_each [] pss n kept = refl
-  roots_each (c ∷ cs) [] n kept = absurd (omega (arith, n))
-  roots_each (c ∷ cs) (ps ∷ pss) n kept =
-      ap₂ (λ x xs. x ∷ xs) (sym kept.0.commitment) (roots_each cs pss (omega (arith, n)) kept.1)
+  -- the data may be opened, that of the preprocessed batch as such
+  may_plain : (p : Bool) (d : D) → p ≡ false → MayOpen r t p d → r.CanOpen d
+  may_plain p d e h = subst (λ b. MayOpen r t b d) e h
 
-  pub roots : (cs : List Committed) (pss : List (List (List BabyBear4))) → length pss ≡ length cs
-      → All (IsKept b) cs
-      → map (λ c. c.commitment) cs ≡ map (λ r. root_over r.datum) (zip_with (λ c ps. request_for c.data ps) cs pss)
-  roots cs pss n kept = roots_each cs pss n (each_from_All (IsKept b) cs kept)
+  may_preprocessed : (p : Bool) (d : D) → p ≡ true → MayOpen r t p d → t.CanOpenPreprocessed d
+  may_preprocessed p d e h = subst (λ b. MayOpen r t b d) e h
 
-  each_kept : (cs : List Committed) (batches : List Batch) → AllZip (Keeps b) cs batches → Each (IsKept b) cs
-  each_kept [] batches pairs = tt
-  each_kept (c ∷ cs) [] pairs = absurd pairs
-  each_kept (c ∷ cs) (batch ∷ batches) pairs = (pairs.0.kept, each_kept cs batches pairs.1)
+  each_plain : (cs : List (Committed D Dom)) (pss : List (List (List BabyBear4))) (batches : List Batch)
+      → AllZip Kept cs batches → Each (λ (b : Batch). b.preprocessed ≡ false) batches
+      → Each r.CanOpen (map (λ q. q.datum) (requests_for cs pss))
+  each_plain [] pss batches pairs none = tt
+  each_plain (c ∷ cs) [] batches pairs none = tt
+  each_plain (c ∷ cs) (ps ∷ pss) [] pairs none = absurd pairs
+  each_plain (c ∷ cs) (ps ∷ pss) (batch ∷ batches) pairs none = (
+    may_plain batch.preprocessed c.data none.0 pairs.0.committed.commits.openable,
+    each_plain cs pss batches pairs.1 none.1,
+  )
 
-  pub all_kept : (cs : List Committed) (batches : List Batch) → AllZip (Keeps b) cs batches → All (IsKept b) cs
-  all_kept cs batches pairs = All_from_each (IsKept b) cs (each_kept cs batches pairs)
+  all_plain : (cs : List (Committed D Dom)) (pss : List (List (List BabyBear4))) (batches : List Batch)
+      → AllZip Kept cs batches → All (λ (b : Batch). b.preprocessed ≡ false) batches
+      → All r.CanOpen (map (λ q. q.datum) (requests_for cs pss))
+  all_plain cs pss batches pairs none =
+      All_from_each r.CanOpen (map (λ q. q.datum) (requests_for cs pss))
+      (each_plain cs pss batches pairs (each_from_All (λ (b : Batch). b.preprocessed ≡ false) batches none))
 
-  pub count_same : (cs : List Committed) (pss : List (List (List BabyBear4))) (batches : List Batch)
-      → AllZip (Keeps b) cs batches
+  named_at : (n : ℕ) (cs : List (Committed D Dom)) (pss : List (List (List BabyBear4))) (batches : List Batch)
+      → AllZip Kept cs batches → length pss ≡ length cs
+      → ArePreprocessedAt (λ b. b.preprocessed ≡ false) (λ b. b.preprocessed ≡ true) n batches
+      → ArePreprocessedAt r.CanOpen t.CanOpenPreprocessed n (map (λ q. q.datum) (requests_for cs pss))
+  named_at n cs pss [] pairs same named = absurd named
+  named_at n [] pss (batch ∷ batches) pairs same named = absurd pairs
+  named_at n (c ∷ cs) [] (batch ∷ batches) pairs same named = absurd (omega (arith, same))
+  named_at zero (c ∷ cs) (ps ∷ pss) (batch ∷ batches) pairs same named = (
+    may_preprocessed batch.preprocessed c.data named.0 pairs.0.committed.commits.openable,
+    all_plain cs pss batches pairs.1 named.1,
+  )
+  named_at (suc n) (c ∷ cs) (ps ∷ pss) (batch ∷ batches) pairs same named = (
+    may_plain batch.preprocessed c.data named.0 pairs.0.committed.commits.openable,
+    named_at n cs pss batches pairs.1 (omega (arith, same)) named.1,
+  )
+
+  named : (index : Option ℕ) (cs : List (Committed D Dom)) (pss : List (List (List BabyBear4)))
+      (batches : List Batch) → AllZip Kept cs batches → length pss ≡ length cs
+      → NamesPreprocessed index batches
+      → CanBeOpened r.CanOpen t.CanOpenPreprocessed index (map (λ q. q.datum) (requests_for cs pss))
+  named None cs pss batches pairs same names = all_plain cs pss batches pairs names
+  named (Some n) cs pss batches pairs same names = named_at n cs pss batches pairs same names
+
+  -- there is a list of points for each matrix
+  lists_each : (cs : List (Committed D Dom)) (pss : List (List (List BabyBear4))) (batches : List Batch)
+      → AllZip Kept cs batches
       → map (map (map coefficient_numbers)) pss ≡ map (λ batch. map (λ m. lists m.points.items) batch.matrices.items) batches
-      → length pss ≡ length cs
-  count_same cs pss batches pairs e =
-      sym (length-map pss (map (map coefficient_numbers))) ∙ ap length e
-      ∙ length-map batches (λ batch. map (λ m. lists m.points.items) batch.matrices.items)
-      ∙ AllZip-long (Keeps b) cs batches pairs
+      → Each (λ q. length q.points ≡ length (r.committed_polynomials q.datum)) (requests_for cs pss)
+  lists_each [] pss batches pairs e = tt
+  lists_each (c ∷ cs) [] batches pairs e = tt
+  lists_each (c ∷ cs) (ps ∷ pss) [] pairs e = absurd pairs
+  lists_each (c ∷ cs) (ps ∷ pss) (batch ∷ batches) pairs e = (
+    sym (length-map ps (map coefficient_numbers)) ∙ ap length (head_eq e)
+        ∙ length-map batch.matrices.items (λ m. lists m.points.items) ∙ sym (kept_count c batch pairs.0),
+    lists_each cs pss batches pairs.1 (tail_eq e),
+  )
 
-abbrev pub numbers_at : Matrix → List ℕ → PointNumbers
-numbers_at m z = record { point = z; values = map coefficient_numbers (values_listed m (extension_of z)) }
+  -- and a matrix where one is listed
+  all_count : (cs : List (Committed D Dom)) (pss : List (List (List BabyBear4))) (batches : List Batch)
+      → AllZip Kept cs batches → length pss ≡ length cs
+      → length (flat_map (λ q. r.committed_polynomials q.datum) (requests_for cs pss))
+      ≡ length (flat_map (λ batch. batch.matrices.items) batches)
+  all_count [] pss [] pairs n = refl
+  all_count [] pss (batch ∷ batches) pairs n = absurd pairs
+  all_count (c ∷ cs) pss [] pairs n = absurd pairs
+  all_count (c ∷ cs) [] (batch ∷ batches) pairs n = absurd (omega (arith, n))
+  all_count (c ∷ cs) (ps ∷ pss) (batch ∷ batches) pairs n =
+      length-append (r.committed_polynomials c.data) (flat_map (λ q. r.committed_polynomials q.datum) (requests_for cs pss))
+      ∙ ap₂ (λ a b. a + b) (kept_count c batch pairs.0) (all_count cs pss batches pairs.1 (omega (arith, n)))
+      ∙ sym (length-append batch.matrices.items (flat_map (λ k. k.matrices.items) batches))
 
-points_opened : (h : Held BabyBear4) (m : Matrix) → HasPolynomials h (held_listed m) → (ps : List BabyBear4)
-    → map point_numbers (point_claims ps (map h.values_at ps)) ≡ map (numbers_at m) (map coefficient_numbers ps)
-points_opened h m same [] = refl
-points_opened h m same (p ∷ ps) =
-    let numbers : List BabyBear4 → PointNumbers = λ vs. record { point = coefficient_numbers p; values = map coefficient_numbers vs } in
-    ap₂ (λ x xs. x ∷ xs) (ap numbers (same.values p ∙ ap (values_listed m) (sym (extension_again p))))
-    (points_opened h m same ps)
-
-module _ {Coset : Type 0} (shift_of : Coset → BabyBear) (log_size_of : Coset → ℕ) where
-  pub matrices_opened : (domains : List Coset) (ms : List Matrix) (hs : List (Held BabyBear4)) (pss : List (List BabyBear4))
-      → map (λ d. domain_of (shift_of d) (log_size_of d)) domains ≡ map (λ m. m.domain) ms
-      → AllZip HasPolynomials hs (map held_listed ms)
-      → map (map coefficient_numbers) pss ≡ map (λ m. lists m.points.items) ms
-      → map (matrix_numbers shift_of log_size_of) (matrix_claims domains pss (zip_with (λ m zs. map m.values_at zs) hs pss))
-      ≡ map opened_numbers ms
-  matrices_opened [] [] hs pss e z q = refl
-  matrices_opened [] (m ∷ ms) hs pss e z q = cc
-  matrices_opened (d ∷ ds) [] hs pss e z q = cc
-  matrices_opened (d ∷ ds) (m ∷ ms) [] pss e z q = absurd z
-  matrices_opened (d ∷ ds) (m ∷ ms) (h ∷ hs) [] e z q = cc
-  matrices_opened (d ∷ ds) (m ∷ ms) (h ∷ hs) (ps ∷ pss) e z q =
-      ap₂ (λ x xs. x ∷ xs)
-      (ap₂ (λ (x : Domain) xs. record { shift = x.shift; log_size = x.log_size; points = xs }) (head_eq e)
-      (points_opened h m z.0 ps ∙ ap (λ zs. map (numbers_at m) zs) (head_eq q)))
-      (matrices_opened ds ms hs pss (tail_eq e) z.1 (tail_eq q))
-
-module _ (b : ℕ) where
-  pub opened_each : (cs : List Committed) (pss : List (List (List BabyBear4))) (batches : List Batch)
-      → AllZip (Keeps b) cs batches
+  pub can_open : IsLawfulStark r t → (index : Option ℕ) (cs : List (Committed D Dom))
+      (pss : List (List (List BabyBear4))) (batches : List Batch) → AllZip Kept cs batches
       → map (map (map coefficient_numbers)) pss ≡ map (λ batch. map (λ m. lists m.points.items) batch.matrices.items) batches
-      → AllZip (IsOpened b) (map (batch_numbers (λ d. d.shift) (λ d. d.log_size))
-      (honest_claims (held_of fields matrices_of b) root_over (map (λ c. c.domains.items) cs)
-      (zip_with (λ c ps. request_for c.data ps) cs pss))) batches
+      → NamesPreprocessed index batches → flat_map (λ batch. batch.matrices.items) batches ≢ []
+      → t.CanOpenAt index (requests_for cs pss)
+  can_open lawful index cs pss batches pairs e names some =
+      let same = count_same cs pss batches pairs e in
+      lawful.openable index (requests_for cs pss) (record {
+        data_openable = named index cs pss batches pairs same names;
+        points = All_from_each _ _ (lists_each cs pss batches pairs e);
+        some_matrix = λ none.
+            some (none_left _ (sym (all_count cs pss batches pairs same) ∙ ap length none));
+      })
+
+  -- what is claimed of a batch that is opened
+  pub opened_each : (cs : List (Committed D Dom)) (pss : List (List (List BabyBear4))) (batches : List Batch)
+      → AllZip Kept cs batches
+      → map (map (map coefficient_numbers)) pss ≡ map (λ batch. map (λ m. lists m.points.items) batch.matrices.items) batches
+      → AllZip (IsOpenedBy r t hides shift_of log_size_of)
+      (map (batch_numbers shift_of log_size_of) (claims_asked r (map (λ c. c.domains.items) cs) (requests_for cs pss)))
+      batches
   opened_each [] pss [] pairs q = tt
   opened_each [] pss (batch ∷ batches) pairs q = absurd pairs
   opened_each (c ∷ cs) pss [] pairs q = absurd pairs
@@ -136,10 +348,125 @@ module _ (b : ℕ) where
   opened_each (c ∷ cs) (ps ∷ pss) (batch ∷ batches) pairs q = (
     record {
       commitment = c.commitment;
-      written = ap Ok pairs.0.kept.commitment;
-      committed = is_commitment b c batch pairs.0;
-      matrices = matrices_opened (λ d. d.shift) (λ d. d.log_size) c.domains.items batch.matrices.items _ ps
-          pairs.0.domains pairs.0.polynomials (head_eq q);
+      datum = c.data;
+      written = ap Ok pairs.0.committed.commits.commits;
+      committed = pairs.0.committed;
+      matrices = matrices_opened hides shift_of log_size_of c.domains.items batch.matrices.items
+          (r.committed_polynomials c.data) ps pairs.0.domains (kept_count c batch pairs.0) (head_eq q);
     },
     opened_each cs pss batches pairs.1 (tail_eq q),
   )
+
+  -- states what is asked
+  module _ (columns : (m : Held BabyBear4) (e : Dom × RowMajorMatrix BabyBear) → r.Extends m e
+      → (z : BabyBear4) → length (m.values_at z) ≡ matrix_width e.1) where
+    widths : (c : Committed D Dom) (batch : Batch) → Kept c batch
+        → AllZip HasWidth (r.committed_polynomials c.data) batch.matrices.items
+    widths c batch k =
+        pairs_through r.Extends (IsListed hides shift_of log_size_of) HasWidth
+        (λ h e m extends listed z. columns h e extends z ∙ listed.width)
+        (r.committed_polynomials c.data) k.committed.evaluations batch.matrices.items k.committed.commits.extends
+        k.committed.listed
+
+    stated_each : (cs : List (Committed D Dom)) (pss : List (List (List BabyBear4))) (batches : List Batch)
+        → AllZip Kept cs batches
+        → map (map (map coefficient_numbers)) pss ≡ map (λ batch. map (λ m. lists m.points.items) batch.matrices.items) batches
+        → Each (λ batch. All HasPoints batch.matrices.items) batches
+        → map batch_claimed (map (batch_numbers shift_of log_size_of)
+        (claims_asked r (map (λ c. c.domains.items) cs) (requests_for cs pss)))
+        ≡ zip_with (batch_asked hides) (map (λ c. c.commitment) cs) batches
+    stated_each [] pss batches pairs q has = refl
+    stated_each (c ∷ cs) pss [] pairs q has = absurd pairs
+    stated_each (c ∷ cs) [] (batch ∷ batches) pairs q has = cc
+    stated_each (c ∷ cs) (ps ∷ pss) (batch ∷ batches) pairs q has =
+        ap₂ (λ x xs. x ∷ xs)
+        (ap₂ (λ d ms. record { digest = d; matrices = ms }) pairs.0.committed.commits.commits
+        (ap (λ ms. map matrix_claimed ms)
+        (matrices_opened hides shift_of log_size_of c.domains.items batch.matrices.items
+        (r.committed_polynomials c.data) ps pairs.0.domains (kept_count c batch pairs.0) (head_eq q))
+        ∙ matrices_back hides (r.committed_polynomials c.data) batch.matrices.items (widths c batch pairs.0)
+        (each_from_All HasPoints batch.matrices.items has.0)))
+        (stated_each cs pss batches pairs.1 (tail_eq q) has.1)
+
+    pub stated_all : (cs : List (Committed D Dom)) (pss : List (List (List BabyBear4))) (batches : List Batch)
+        → AllZip Kept cs batches
+        → map (map (map coefficient_numbers)) pss ≡ map (λ batch. map (λ m. lists m.points.items) batch.matrices.items) batches
+        → AllMatrices HasPoints batches
+        → map batch_claimed (map (batch_numbers shift_of log_size_of)
+        (claims_asked r (map (λ c. c.domains.items) cs) (requests_for cs pss)))
+        ≡ zip_with (batch_asked hides) (map (λ c. c.commitment) cs) batches
+    stated_all cs pss batches pairs q has =
+        stated_each cs pss batches pairs q
+        (each_from_All (λ batch. All HasPoints batch.matrices.items) batches has)
+
+-- a refusal of batches that were read is one of the batches
+module _ {P C Dom D Proof Error ProverError : Type 0}
+    (rules : P → Scheme BabyBear4 C BabyBear Dom (List ℕ) D Proof Error ProverError)
+    (stark_rules : P → StarkScheme BabyBear4 BabyBear Dom D ProverError) (IsMemory : ProverError → Type 0)
+    (e : ProverError) where
+  pub refuses_of : (IsScheme Other : P → Type 0) → ((s : P) → IsScheme s → Other s)
+      → (all : List (ListedBatch Dom)) → RefusesRead rules stark_rules IsMemory IsScheme all e
+      → RefusesRead rules stark_rules IsMemory Other all e
+  refuses_of IsScheme Other weaker all h = record {
+    scheme = h.scheme;
+    is_of = weaker h.scheme h.is_of;
+    before = h.before;
+    read = h.read;
+    after = h.after;
+    among = h.among;
+    refused = h.refused;
+    not_memory = h.not_memory;
+  }
+
+  module _ (hides : Bool) (shift_of : Dom → BabyBear) (log_size_of : Dom → ℕ) (batches : List Batch) where
+    pub refuses_batch : (IsScheme : P → Type 0) (all : List (ListedBatch Dom))
+        → AllZip (Lists hides shift_of log_size_of) all batches
+        → RefusesRead rules stark_rules IsMemory IsScheme all e
+        → RefusesBatch rules stark_rules IsMemory IsScheme hides shift_of log_size_of batches e
+    refuses_batch IsScheme all listed h =
+        let p = paired_among (Lists hides shift_of log_size_of) h.before h.after h.read batches
+        (subst (λ xs. AllZip (Lists hides shift_of log_size_of) xs batches) h.among listed) in record {
+          scheme = h.scheme;
+          is_of = h.is_of;
+          before = p.before;
+          batch = p.entry;
+          after = p.after;
+          among = p.among;
+          evaluations = h.read.evaluations.items;
+          listed = p.pair.evaluations;
+          refused = subst (λ b. RefusesMatrices (rules h.scheme) (stark_rules h.scheme) b h.read.evaluations.items e)
+              p.pair.preprocessed h.refused;
+          not_memory = h.not_memory;
+        }
+
+    pub refuses_batch_of : (IsScheme Other : P → Type 0) → ((s : P) → IsScheme s → Other s)
+        → RefusesBatch rules stark_rules IsMemory IsScheme hides shift_of log_size_of batches e
+        → RefusesBatch rules stark_rules IsMemory Other hides shift_of log_size_of batches e
+    refuses_batch_of IsScheme Other weaker h = record {
+      scheme = h.scheme;
+      is_of = weaker h.scheme h.is_of;
+      before = h.before;
+      batch = h.batch;
+      after = h.after;
+      among = h.among;
+      evaluations = h.evaluations;
+      listed = h.listed;
+      refused = h.refused;
+      not_memory = h.not_memory;
+    }
+
+-- what a verifier knows of what is kept
+module _ {C Dom D Proof Error ProverError : Type 0}
+    (r : Scheme BabyBear4 C BabyBear Dom (List ℕ) D Proof Error ProverError)
+    (t : StarkScheme BabyBear4 BabyBear Dom D ProverError) (hides : Bool) (shift_of : Dom → BabyBear)
+    (log_size_of : Dom → ℕ) where
+  pub domains_known : (known : List (KnownCommitment (List ℕ) Dom)) (cs : List (Committed D Dom)) (batches : List Batch)
+      → map (λ k. k.domains.items) known ≡ map (λ c. c.domains.items) cs
+      → AllZip (Keeps r t hides shift_of log_size_of) cs batches
+      → map (λ k. map (λ d. domain_of (shift_of d) (log_size_of d)) k.domains.items) known
+      ≡ map (λ b. map (λ m. domain_committed hides m.domain) b.matrices.items) batches
+  domains_known known cs batches e pairs =
+      sym (map-map (map (λ d. domain_of (shift_of d) (log_size_of d))) (λ k. k.domains.items) known)
+      ∙ ap (λ ds. map (map (λ d. domain_of (shift_of d) (log_size_of d))) ds) e
+      ∙ map-map (map (λ d. domain_of (shift_of d) (log_size_of d))) (λ c. c.domains.items) cs
+      ∙ domains_kept r t hides shift_of log_size_of cs batches pairs

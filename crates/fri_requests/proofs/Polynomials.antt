@@ -18,7 +18,7 @@ use Rattle.fri_statement.specs.Setting.{fields}
 use Rattle.fri_requests.specs.Matrices.{held_listed}
 use Rattle.fri_requests.proofs.Listed.{element_again}
 
-every_element_again : (xs : List BabyBear) → map element (map canonical_number xs) ≡ xs
+pub every_element_again : (xs : List BabyBear) → map element (map canonical_number xs) ≡ xs
 every_element_again [] = refl
 every_element_again (x ∷ xs) = ap₂ (λ y ys. y ∷ ys) (element_again x) (every_element_again xs)
 
@@ -30,13 +30,12 @@ held_of_rows shift k width rs = record {
       polynomial_on baby_bear root shift k (map (λ entries. slice_index_or entries j baby_bear.zero) rs))) z;
 }
 
-pub held_same : (shift : BabyBear) (k : ℕ) (values : RowMajorMatrix BabyBear) (xs : List BabyBear)
-    (m : Matrix) → canonical_number shift ≡ m.domain.shift → k ≡ m.domain.log_size
-    → matrix_width values ≡ m.width → rows values ≡ rows_of m.width xs
-    → map canonical_number xs ≡ m.values.items → polynomials_on fields shift k values ≡ held_listed m
-held_same shift k values xs m shifted sized wide rowed listed =
+pub held_same : (shift : BabyBear) (k : ℕ) (values : RowMajorMatrix BabyBear) (m : Matrix)
+    → canonical_number shift ≡ m.domain.shift → k ≡ m.domain.log_size → matrix_width values ≡ m.width
+    → rows values ≡ rows_of m.width (map element m.values.items)
+    → polynomials_on fields shift k values ≡ held_listed m
+held_same shift k values m shifted sized wide rowed =
     ap (λ s. held_of_rows s k (matrix_width values) (rows values)) (sym (element_again shift) ∙ ap element shifted)
     ∙ ap (λ n. held_of_rows (element m.domain.shift) n (matrix_width values) (rows values)) sized
     ∙ ap (λ w. held_of_rows (element m.domain.shift) m.domain.log_size w (rows values)) wide
-    ∙ ap (λ rs. held_of_rows (element m.domain.shift) m.domain.log_size m.width rs)
-    (rowed ∙ ap (λ ys. rows_of m.width ys) (sym (every_element_again xs) ∙ ap (λ ns. map element ns) listed))
+    ∙ ap (λ rs. held_of_rows (element m.domain.shift) m.domain.log_size m.width rs) rowed

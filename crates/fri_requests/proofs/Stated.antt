@@ -1,19 +1,17 @@
 -- What holds of a scheme's parameters, claims and state holds of the records that they were read of.
-use Rattle.std.proofs.Common.{◌≡◌, ◌≢◌, ◌<◌, ◌≤◌, ℕ, List, [], ◌∷◌, All, refl, sym, subst, ap, ◌∙◌, arith}
+use Rattle.std.proofs.Common.{◌≡◌, ℕ, List, sym, subst, ap, ◌∙◌}
 use Rattle.std.specs.declared.vec.Vec.{Vec}
 use Rattle.p3_baby_bear.specs.declared.baby_bear.BabyBear.{BabyBear}
 use Rattle.p3_baby_bear.specs.declared.baby_bear4.BabyBear4.{BabyBear4}
 use Rattle.p3_mmcs.specs.declared.sha256_mmcs.error.Sha256MmcsError.{Sha256MmcsError}
 use Rattle.p3_challenger_sha256.specs.declared.sha256_challenger.Sha256Challenger.{Sha256Challenger}
+use Rattle.p3_challenger_sha256.specs.Sha256.{start}
 use Rattle.p3_fri_relation.specs.Setting.{Proof, CommitmentClaim}
 use Rattle.p3_fri_relation.specs.Setting as setting
 use Rattle.p3_fri_relation.specs.Acceptance.{Accepts}
-use Rattle.p3_fri_relation.specs.Heights.{matrices_of, log_height}
-use Rattle.p3_fri_two_adic.specs.Ranges.{InProverRange, InVerifierRange}
 use Rattle.p3_fri_relation.specs.Faults.{StandsInScheme}
 use Rattle.p3_fri_relation.specs.declared.error.FriError.{FriError}
 use Rattle.p3_fri_two_adic.specs.Ends.{last_state}
-use Rattle.p3_fri_two_adic.proofs.Ranges.{in_verifier_range}
 use Rattle.fri_records.specs.declared.records.Parameters.{Parameters}
 use Rattle.fri_records.specs.declared.records.BatchClaims.{BatchClaims}
 use Rattle.fri_requests.specs.Bound.{state_bound}
@@ -27,11 +25,11 @@ module _ {X Y : Type 0} (context : List ℕ) (parameters : Parameters) (records 
     (proof : Proof BabyBear BabyBear4 (List ℕ) (Vec (Vec (List ℕ) X) Y) (Vec (Vec (List ℕ) X) Y))
     (p : setting.Parameters) (claims : List (CommitmentClaim BabyBear4 (List ℕ)))
     (c : Sha256Challenger) (same : p ≡ parameters_in parameters)
-    (listed : claims ≡ claims_listed records) (begins : c ≡ state_bound context parameters records)
+    (listed : claims ≡ claims_listed records) (begins : c ≡ state_bound start context parameters records)
     (statement : IsStatement context parameters records) where
   -- where the statement is absorbed
   abbrev at_start : Sha256Challenger
-  at_start = state_bound context parameters records
+  at_start = state_bound start context parameters records
 
   abbrev At : Type 1
   At = setting.Parameters → List (CommitmentClaim BabyBear4 (List ℕ)) → Sha256Challenger → Type 0
@@ -67,22 +65,3 @@ module _ {X Y : Type 0} (context : List ℕ) (parameters : Parameters) (records 
     fails = λ holds. h.0 (moved_back (λ q cs d. Accepts sha256_setting q cs proof d) holds);
     fault = moved (λ q cs d. StandsInScheme sha256_setting q cs proof d e) h.1;
   }
-
--- some matrix is within the two-adicity and as tall as the final word, which so is below 64
-final_height_low : {A : Type 0} (final : ℕ) (height : A → ℕ) (ms : List A) → ms ≢ []
-    → All (λ m. final ≤ height m) ms → All (λ m. height m ≤ 27) ms → final < 64
-final_height_low final height [] some tall within = absurd (some refl)
-final_height_low final height (m ∷ ms) some tall within =
-    omega (arith, tall 0 m (omega arith), within 0 m (omega arith))
-
--- what a prover opens is in the verifier's range
-pub verifier_range : {X Y : Type 0} (p : setting.Parameters)
-    (claims : List (CommitmentClaim BabyBear4 (List ℕ)))
-    (proof : Proof BabyBear BabyBear4 (List ℕ) (Vec (Vec (List ℕ) X) Y) (Vec (Vec (List ℕ) X) Y))
-    (c : Sha256Challenger) → InProverRange p 27 63 → Accepts sha256_setting p claims proof c
-    → InVerifierRange p 27 63
-verifier_range p claims proof c range holds =
-    let within = holds.accepts.instance_of.in_range in
-    in_verifier_range p 27 63 range
-    (final_height_low (setting.final_height p) (log_height p.log_blowup) (matrices_of claims)
-    within.some_matrix within.tall_enough within.within_two_adicity)

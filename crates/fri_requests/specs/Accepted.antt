@@ -1,10 +1,11 @@
--- Which statements are accepted, and what is drawn after them.
+-- Which statements the plain scheme accepts, and what is drawn after them.
 use Rattle.std.specs.Prelude.{◌≡◌, ℕ, List}
 use Rattle.std.specs.declared.vec.Vec.{Vec}
 use Rattle.p3_baby_bear.specs.declared.baby_bear.BabyBear.{BabyBear}
 use Rattle.p3_baby_bear.specs.declared.baby_bear4.BabyBear4.{BabyBear4}
 use Rattle.p3_mmcs.specs.declared.sha256_mmcs.error.Sha256MmcsError.{Sha256MmcsError}
 use Rattle.p3_challenger_sha256.specs.declared.sha256_challenger.Sha256Challenger.{Sha256Challenger}
+use Rattle.p3_challenger_sha256.specs.Sha256.{start}
 use Rattle.p3_fri_relation.specs.Setting.{Proof}
 use Rattle.p3_fri_relation.specs.Acceptance.{Accepts}
 use Rattle.p3_fri_relation.specs.Faults.{StandsInScheme}
@@ -24,7 +25,7 @@ module _ {X Y : Type 0} (context : List ℕ) (parameters : Parameters) (records 
   where
     -- the state in which a fresh challenger has absorbed the statement
     abbrev pub begins : Sha256Challenger
-    begins = state_bound context parameters records
+    begins = state_bound start context parameters records
 
     -- the scheme's relation holds of the claims that the records list, from that state
     abbrev pub Holds : Type 0

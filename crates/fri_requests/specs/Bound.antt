@@ -1,11 +1,10 @@
 -- What a proof is bound to: the statement that records make, and the state in which the opening
 -- begins.
-use Rattle.std.specs.Prelude.{ℕ, List, [], ◌∷◌, map, length, IsOk}
+use Rattle.std.specs.Prelude.{ℕ, Bool, List, [], ◌∷◌, map, length, IsOk}
 use Rattle.std.specs.Result.{result_unwrap_or}
 use Rattle.algebra.specs.Nested.{lists}
 use Rattle.hex.specs.Hex.{decode_of}
 use Rattle.p3_challenger_sha256.specs.declared.sha256_challenger.Sha256Challenger.{Sha256Challenger}
-use Rattle.p3_challenger_sha256.specs.Sha256.{start}
 use Rattle.p3_fri_relation.specs.Setting as setting
 use Rattle.fri_statement.specs.Statement.{OpenedMatrix, OpenedCommitment, statement_absorbed}
 use Rattle.fri_records.specs.declared.records.Parameters.{Parameters}
@@ -14,6 +13,7 @@ use Rattle.fri_records.specs.declared.records.Batch.{Batch}
 use Rattle.fri_records.specs.declared.records.BatchClaims.{BatchClaims}
 use Rattle.fri_records.specs.Records.{parameters_in}
 use Rattle.fri_requests.specs.Claims.{PointNumbers, MatrixNumbers, BatchNumbers, batch_listed}
+use Rattle.fri_requests.specs.Committed.{domain_committed}
 
 -- a context is the hex text of bytes
 abbrev pub IsContext : (text : List ℕ) → Type 0
@@ -44,25 +44,29 @@ batch_claimed b = record {
 }
 
 -- what a request states, once its batches have commitments
-abbrev pub matrix_asked : Matrix → OpenedMatrix
-matrix_asked m = record {
-  shift = m.domain.shift;
-  log_size = m.domain.log_size;
+abbrev pub matrix_asked : (hides : Bool) → Matrix → OpenedMatrix
+matrix_asked hides m = record {
+  shift = (domain_committed hides m.domain).shift;
+  log_size = (domain_committed hides m.domain).log_size;
   width = m.width;
   points = lists m.points.items;
 }
 
-abbrev pub batch_asked : (commitment : List ℕ) → Batch → OpenedCommitment
-batch_asked commitment batch =
-    record { digest = commitment; matrices = map matrix_asked batch.matrices.items }
+abbrev pub batch_asked : (hides : Bool) (commitment : List ℕ) → Batch → OpenedCommitment
+batch_asked hides commitment batch = record {
+  digest = commitment;
+  matrices = map (matrix_asked hides) batch.matrices.items;
+}
 
--- the state of a fresh challenger that has absorbed a statement
-abbrev pub bound : (context : List ℕ) → setting.Parameters → List OpenedCommitment
-    → Sha256Challenger
-bound context p commitments = statement_absorbed start
+-- the state of a challenger that has absorbed a statement, from the state in which it began
+abbrev pub bound : (begun : Sha256Challenger) (context : List ℕ) → setting.Parameters
+    → List OpenedCommitment → Sha256Challenger
+bound begun context p commitments = statement_absorbed begun
     (record { context = context; parameters = p; commitments = commitments })
 
 -- the statement of these records
-abbrev pub state_bound : (context : List ℕ) → Parameters → List BatchClaims → Sha256Challenger
-state_bound context parameters records = bound (context_listed context) (parameters_in parameters)
+abbrev pub state_bound : (begun : Sha256Challenger) (context : List ℕ) → Parameters
+    → List BatchClaims → Sha256Challenger
+state_bound begun context parameters records =
+    bound begun (context_listed context) (parameters_in parameters)
     (map batch_claimed (map batch_listed records))

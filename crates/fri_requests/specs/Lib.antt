@@ -2,9 +2,13 @@ pub mod Accepted
 pub mod Bound
 pub mod Claims
 pub mod Commitments
+pub mod Committed
 pub mod Matrices
 pub mod Numbers
 pub mod Openings
 pub mod Prepared
+pub mod Preprocessing
+pub mod Refusals
 pub mod Requests
 pub mod Statements
+pub mod Verdicts

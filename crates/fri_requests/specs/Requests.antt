@@ -1,6 +1,6 @@
--- Which requests can be committed to and opened, and which the scheme refuses to open.
-use Rattle.std.specs.Prelude.{◌≢◌, ◌≡◌, ℕ, ◌*◌, ◌-◌, ◌^◌, ◌<◌, List, [], map, length, All}
-use Rattle.std.specs.Prelude.{string_bytes}
+-- Which requests can be committed to and opened, and which the plain scheme refuses to open.
+use Rattle.std.specs.Prelude.{◌≢◌, ◌≡◌, ℕ, ◌*◌, ◌+◌, ◌^◌, ◌<◌, ◌≤◌, List, [], map, length, All}
+use Rattle.std.specs.Prelude.{string_bytes, Bool, false, Option}
 use Rattle.std.specs.List.{AllZip, flat_map}
 use Rattle.std.specs.declared.alloc.Global.{Global}
 use Rattle.std.specs.declared.vec.Vec.{Vec}
@@ -11,32 +11,37 @@ use Rattle.p3_baby_bear.specs.declared.baby_bear4.BabyBear4.{BabyBear4}
 use Rattle.p3_baby_bear.specs.BabyBear.{number_bytes}
 use Rattle.p3_baby_bear.specs.BabyBear4.{coefficient_bytes}
 use Rattle.p3_challenger_sha256.specs.declared.sha256_challenger.Sha256Challenger.{Sha256Challenger}
-use Rattle.p3_challenger_sha256.specs.Sha256.{least_witness}
+use Rattle.p3_challenger_sha256.specs.Sha256.{start, least_witness}
 use Rattle.p3_mmcs.specs.declared.sha256_mmcs.prover_data.Sha256ProverData.{Sha256ProverData}
 use Rattle.p3_mmcs.specs.ProverData.{matrices_of, root_over}
 use Rattle.p3_pcs.specs.Claims.{zip_with}
 use Rattle.p3_pcs.specs.Requests as plain
+use Rattle.p3_stark_pcs.specs.Evaluations.{HasPolynomials}
 use Rattle.p3_fri_folding.specs.declared.error.FriProverError.{FriProverError}
 use Rattle.p3_fri_folding.specs.declared.error.FriProverError.TheVariants.{OutOfMemory}
 use Rattle.p3_fri_relation.specs.Setting as setting
+use Rattle.p3_fri_openings.specs.Rounds.{HasCoset}
+use Rattle.p3_fri_openings.specs.Held.{held_of, HoldsWords}
 use Rattle.p3_fri_opening_prover.specs.Setting.{OpeningSetting}
 use Rattle.p3_fri_two_adic.specs.Refusals.{OpenRefusal}
 use Rattle.fri_records.specs.declared.records.Matrix.{Matrix}
 use Rattle.fri_records.specs.declared.records.Batch.{Batch}
 use Rattle.fri_records.specs.declared.records.Request.{Request}
-use Rattle.fri_requests.specs.declared.committed.Committed.{Committed}
 use Rattle.fri_requests.specs.Numbers.{extension_of, IsElement, IsExtensionElement}
 use Rattle.fri_records.specs.Records.{parameters_in, AreProvers}
 use Rattle.fri_requests.specs.Bound.{IsContext, context_listed, batch_asked, bound}
 use Rattle.fri_requests.specs.Statements.{IsCoset}
-use Rattle.fri_requests.specs.Commitments.{Keeps}
+use Rattle.fri_requests.specs.Committed.{domain_committed}
+use Rattle.fri_requests.specs.Matrices.{held_listed}
 use Rattle.fri_requests.specs.Openings.{request_for}
-use Rattle.fri_statement.specs.Setting.{sha256_setting}
+use Rattle.fri_requests.specs.Preprocessing.{NamesPreprocessed}
+use Rattle.fri_statement.specs.Setting.{fields, sha256_setting}
 
--- a matrix on a coset with room for its extension: some column, and for each column and point of
--- the coset an element
-pub record IsMatrix (log_blowup : ℕ) (m : Matrix) : Type 0 where
-  pub domain : IsCoset (27 - log_blowup) m.domain.shift m.domain.log_size
+-- a matrix on a coset, with room for the extension of the domain on which it is committed to: some
+-- column, and for each column and point of the coset an element
+pub record IsMatrix (hides : Bool) (log_blowup : ℕ) (m : Matrix) : Type 0 where
+  pub domain : IsCoset 27 m.domain.shift m.domain.log_size
+  pub room : (domain_committed hides m.domain).log_size + log_blowup ≤ 27
   pub some_column : 0 < m.width
   pub count : length m.values.items ≡ m.width * 2 ^ m.domain.log_size
   pub elements : All IsElement m.values.items
@@ -50,15 +55,20 @@ pub record HasPoints (m : Matrix) : Type 0 where
 abbrev pub AllMatrices : (Matrix → Type 0) → List Batch → Type 0
 AllMatrices P batches = All (λ b. All P b.matrices.items) batches
 
+-- batches of matrices, of which at most one is preprocessed
+pub record AreBatches (hides : Bool) (log_blowup : ℕ) (batches : List Batch) : Type 0 where
+  pub matrices : AllMatrices (IsMatrix hides log_blowup) batches
+  pub preprocessed : (index : Option ℕ) × NamesPreprocessed index batches
+
 -- the request can be committed to
-pub record CanCommit (request : Request) : Type 0 where
+pub record CanCommit (hides : Bool) (request : Request) : Type 0 where
   pub parameters : AreProvers request.parameters
-  pub matrices : AllMatrices (IsMatrix request.parameters.log_blowup) request.commitments.items
+  pub batches : AreBatches hides request.parameters.log_blowup request.commitments.items
 
 -- and opened: the context is bytes, each matrix has points, and there is some matrix
-pub record CanOpen (request : Request) : Type 0 where
+pub record CanOpen (hides : Bool) (request : Request) : Type 0 where
   pub context : IsContext (string_bytes request.context)
-  pub committed : CanCommit request
+  pub committed : CanCommit hides request
   pub points : AllMatrices HasPoints request.commitments.items
   pub some_matrix : flat_map (λ b. b.matrices.items) request.commitments.items ≢ []
 
@@ -99,21 +109,24 @@ pub record Refuses (p : setting.Parameters) (c : Sha256Challenger)
   pub stands : OpenRefusal (sha256_opening p) c requests e
   pub not_memory : e ≢ OutOfMemory
 
--- there is a list of points for each matrix that is kept under a commitment
-abbrev pub HasLists : Committed → List (List BabyBear4) → Type 0
-HasLists c points = length points ≡ length (matrices_of c.data)
-
--- some matrix is kept
-abbrev pub HaveMatrix : List Committed → Type 0
-HaveMatrix kept = flat_map (λ c. matrices_of c.data) kept ≢ []
+-- what the plain scheme keeps of a batch: data that may be opened and is of low degree, of the
+-- polynomials of the matrices that the batch lists
+pub record KeepsBatch (log_blowup : ℕ) (datum : Sha256ProverData BabyBear input_bytes)
+    (batch : Batch) : Type 0 where
+  pub openable : All (HasCoset 27) (matrices_of datum)
+  pub low_degree : All (HoldsWords fields log_blowup) (matrices_of datum)
+  pub polynomials : AllZip HasPolynomials (held_of fields matrices_of log_blowup datum)
+      (map held_listed batch.matrices.items)
 
 -- a request that can be opened, and isn't: what is kept of its batches, at the points that they
--- list, the scheme refuses to open for this reason, from the state that is bound to the request
+-- list, the plain scheme refuses to open for this reason, from the state that is bound to the
+-- request
 pub record IsRefusedRequest (request : Request) (e : FriProverError) : Type 0 where
-  pub request_opens : CanOpen request
-  pub kept : List Committed
-  pub keeps : AllZip (Keeps request.parameters.log_blowup) kept request.commitments.items
+  pub request_opens : CanOpen false request
+  pub kept : List (Sha256ProverData BabyBear input_bytes)
+  pub keeps : AllZip (KeepsBatch request.parameters.log_blowup) kept request.commitments.items
   pub refused : Refuses (parameters_in request.parameters)
-      (bound (context_listed (string_bytes request.context)) (parameters_in request.parameters)
-      (zip_with batch_asked (map (λ c. c.commitment) kept) request.commitments.items))
-      (zip_with (λ c zs. request_for c.data zs) kept (points_listed request.commitments.items)) e
+      (bound start (context_listed (string_bytes request.context))
+      (parameters_in request.parameters)
+      (zip_with (batch_asked false) (map root_over kept) request.commitments.items))
+      (zip_with request_for kept (points_listed request.commitments.items)) e

@@ -11,12 +11,15 @@ ghost use Rattle.fri_statement.specs.Numbers.{coefficient_numbers};
 ghost use Rattle.fri_requests.specs.Statements.{IsPointClaim, IsMatrixClaim, IsClaim, AreClaims};
 
 use crate::elements::{coefficients, coset, domain, extension_element, extension_elements};
-use crate::scheme::{Claims, Coset};
 use fri_records::{BatchClaims, Fault, MatrixClaims, Place, PointClaims, ReadError};
+use fri_schemes::Coset;
 use hex::FromHex;
 use p3_field::{BabyBear, BabyBear4, TwoAdicField};
 use p3_mmcs::{CommitmentOpening, MatrixOpening, PointOpening};
 use std::alloc::{AllocError, Global};
+
+/// Claims of commitments.
+pub(crate) type Claims = Vec<CommitmentOpening<BabyBear4, [u8; 32], Coset>>;
 
 /// The coefficients' numbers of elements of the extension.
 fn all_coefficients(alloc: Global, elements: &[BabyBear4]) -> Result<Vec<Vec<u64>>, AllocError>

@@ -1,25 +1,27 @@
 //! Commitments to the matrices of a request.
 
-ghost use Rattle.std.specs.Prelude.{◌≡◌, ◌≤◌, All, IfOk, IfErr, map};
+ghost use Rattle.std.specs.Prelude.{◌≡◌, All, IfOk, IfErr, map};
 ghost use Rattle.std.specs.List.{AllZip};
-ghost use Rattle.fri_requests.specs.Commitments.{Keeps, IsCommitmentTo};
 ghost use Rattle.fri_records.specs.Failures.{MatchRequestError};
-ghost use Rattle.fri_requests.specs.Requests.{IsMatrix, AllMatrices, CanCommit};
+ghost use Rattle.fri_requests.specs.Committed.{CommitsTo, KeepsRead, RefusesMatrices};
+ghost use Rattle.fri_requests.specs.Refusals.{RefusesRead, IsUncommitted};
+ghost use Rattle.fri_requests.specs.Requests.{CanCommit};
+ghost use Rattle.fri_requests.specs.Verdicts.{IsMadeWith, IsSchemeOf, AreCommitments};
 
-use crate::matrices::{Evaluations, batch_evaluations};
-use crate::scheme::{Coset, Data, Scheme, proving_scheme};
-use fri_records::{Batch, Place, Request, RequestError};
-use p3_challenger_sha256::Sha256Challenger;
-use p3_field::BabyBear4;
-use p3_pcs::Pcs;
+use crate::masking::Masking;
+use crate::matrices::Evaluations;
+use crate::reading::{ListedBatch, read_batches};
+use crate::refusal::refusal;
+use fri_records::{Request, RequestError, prover_parameters};
+use fri_schemes::{Coset, MadeScheme};
 use std::alloc::{AllocError, Global};
 
 /// The matrices under one commitment, with their domains.
 #[derive(Drop)]
-pub(crate) struct Committed {
+pub(crate) struct Committed<D, Domain> {
     pub commitment: [u8; 32],
-    pub data: Data,
-    pub domains: Vec<Coset>,
+    pub data: D,
+    pub domains: Vec<Domain>,
 }
 
 /// The domains of matrices.
@@ -33,29 +35,50 @@ fn domains_of(alloc: Global, evaluations: &[Evaluations]) -> Result<Vec<Coset>, 
     Ok(domains)
 }
 
-/// Commits to the matrices at this place.
-fn commit_batch(
+/// Commits to matrices, as preprocessing or as they are.
+fn commit_matrices<P: MadeScheme>(
     alloc: Global,
-    scheme: &mut Scheme,
-    log_blowup: usize,
-    batch: &Batch,
-    place: Place,
-) -> Result<Committed, RequestError>
-    requires low { log_blowup ≤ 27 }
-    requires blowup { scheme.old.fri.log_blowup ≡ log_blowup }
-    ensures kept { scheme.new ≡ scheme.old }
-    ensures committed { IfOk result (λ c. Keeps log_blowup c batch.now) }
-    ensures well_formed { IfOk result (λ _. All (IsMatrix log_blowup) batch.now.matrices.items) }
-    ensures refused { IfErr result (MatchRequestError
-        (¬ All (IsMatrix log_blowup) batch.now.matrices.items) (λ _. ⊥)) }
+    scheme: &mut P,
+    evaluations: Vec<Evaluations>,
+    preprocessed: bool,
+) -> Result<([u8; 32], P::ProverData), P::ProverError>
+    requires room { (P.rules scheme.old).CanCommit evaluations.items }
+    ensures kept { P.Keeps scheme.old scheme.new }
+    ensures commits { IfOk result (λ pair. CommitsTo (P.rules scheme.new)
+        (P.stark_rules scheme.new) pair.0 pair.1 preprocessed evaluations.items) }
+    ensures refused { IfErr result (RefusesMatrices (P.rules scheme.old)
+        (P.stark_rules scheme.old) preprocessed evaluations.items) }
 {
-    let evaluations = batch_evaluations(alloc, batch, log_blowup, place)?;
-    let domains = domains_of(alloc, &evaluations)?;
-    let (commitment, data) = <Scheme as Pcs<BabyBear4, Sha256Challenger>>::commit(
-        scheme,
-        alloc,
+    if preprocessed {
+        scheme.commit_preprocessing(alloc, evaluations)
+    } else {
+        scheme.commit(alloc, evaluations)
+    }
+}
+
+/// Commits to a batch.
+fn commit_batch<P: MadeScheme>(
+    alloc: Global,
+    scheme: &mut P,
+    batch: ListedBatch<Coset>,
+) -> Result<Committed<P::ProverData, Coset>, RequestError<P::ProverError>>
+    requires room { (P.rules scheme.old).CanCommit batch.evaluations.items }
+    ensures kept { P.Keeps scheme.old scheme.new }
+    ensures committed { IfOk result (λ c.
+        KeepsRead (P.rules scheme.new) (P.stark_rules scheme.new) c batch) }
+    ensures refused { IfErr result (MatchRequestError ⊥ (λ e. RefusesMatrices
+        (P.rules scheme.old) (P.stark_rules scheme.old) batch.preprocessed
+        batch.evaluations.items e × (¬ P.IsMemory e))) }
+{
+    let ListedBatch {
         evaluations,
-    )?;
+        preprocessed,
+    } = batch;
+    let domains = domains_of(alloc, &evaluations)?;
+    let (commitment, data) = match commit_matrices::<P>(alloc, scheme, evaluations, preprocessed) {
+        Ok(committed) => committed,
+        Err(error) => return Err(refusal::<P>(error)),
+    };
     Ok(Committed {
         commitment,
         data,
@@ -63,49 +86,69 @@ fn commit_batch(
     })
 }
 
-/// Commits to each batch of a request.
-pub(crate) fn commit_all(
+/// Commits to each batch.
+pub(crate) fn commit_all<P: MadeScheme>(
     alloc: Global,
-    scheme: &mut Scheme,
-    log_blowup: usize,
-    batches: &[Batch],
-) -> Result<Vec<Committed>, RequestError>
-    requires low { log_blowup ≤ 27 }
-    requires blowup { scheme.old.fri.log_blowup ≡ log_blowup }
-    ensures kept { scheme.new ≡ scheme.old }
-    ensures committed { IfOk result (λ all. AllZip (Keeps log_blowup) all.items batches.now) }
-    ensures well_formed { IfOk result (λ _. AllMatrices (IsMatrix log_blowup) batches.now) }
-    ensures refused { IfErr result (MatchRequestError
-        (¬ AllMatrices (IsMatrix log_blowup) batches.now) (λ _. ⊥)) }
+    scheme: &mut P,
+    batches: Vec<ListedBatch<Coset>>,
+) -> Result<Vec<Committed<P::ProverData, Coset>>, RequestError<P::ProverError>>
+    requires room { All (λ b. (P.rules scheme.old).CanCommit b.evaluations.items)
+        batches.items }
+    ensures kept { P.Keeps scheme.old scheme.new }
+    ensures committed { IfOk result (λ all. AllZip
+        (KeepsRead (P.rules scheme.new) (P.stark_rules scheme.new)) all.items batches.items) }
+    ensures refused { IfErr result (MatchRequestError ⊥ (RefusesRead P.rules P.stark_rules
+        P.IsMemory (λ s. P.Keeps scheme.old s) batches.items)) }
 {
     let mut all = Vec::with_capacity(alloc, batches.len())?;
-    for (index, batch) in batches.iter().enumerate() {
-        let place = Place {
-            commitment: Some(index),
-            ..Place::NONE
-        };
-        all.push(commit_batch(alloc, scheme, log_blowup, batch, place)?)?;
+    for batch in batches {
+        all.push(commit_batch::<P>(alloc, scheme, batch)?)?;
     }
     Ok(all)
 }
 
 /// The commitments of a request, each 32 bytes, in order. Its points aren't read.
-pub fn commit(alloc: Global, request: &Request) -> Result<Vec<[u8; 32]>, RequestError>
-    ensures committed { IfOk result (λ commitments.
-        AllZip (IsCommitmentTo request.now.parameters.log_blowup) commitments.items
-        request.now.commitments.items) }
-    ensures well_formed { IfOk result (λ _. CanCommit request.now) }
-    // the scheme itself refuses for want of memory alone
-    ensures refused { IfErr result (MatchRequestError (¬ CanCommit request.now) (λ _. ⊥)) }
+///
+/// A scheme that hides draws the masks from the seed, so that with the same seed `open` has these
+/// commitments.
+pub fn commit<P: MadeScheme>(
+    alloc: Global,
+    request: &Request,
+    masking: Masking,
+) -> Result<Vec<[u8; 32]>, RequestError<P::ProverError>>
+    ensures committed { IfOk result (λ commitments. AreCommitments P.rules (λ d. d.shift)
+        (λ d. d.log_size) (IsSchemeOf (IsMadeWith P.IsMade request.now.parameters
+        masking.num_random_codewords masking.seed) P.Keeps) P.ZK P.stark_rules
+        request.now.commitments.items commitments.items) }
+    ensures well_formed { IfOk result (λ _. CanCommit P.ZK request.now) }
+    // where it isn't well formed, where the scheme refuses a batch
+    ensures refused { IfErr result (MatchRequestError (¬ CanCommit P.ZK request.now)
+        (IsUncommitted P.rules P.stark_rules P.IsMemory
+        (IsSchemeOf (IsMadeWith P.IsMade request.now.parameters masking.num_random_codewords
+        masking.seed) P.Keeps) P.ZK (λ d. d.shift) (λ d. d.log_size) request.now)) }
 {
-    let mut scheme = match proving_scheme(&request.parameters) {
-        Ok(scheme) => scheme,
+    let fri = match prover_parameters(&request.parameters) {
+        Ok(fri) => fri,
         Err(misfit) => return Err(RequestError::Malformed(misfit)),
     };
+    let hides = P::ZK;
     let log_blowup = request.parameters.log_blowup;
-    let all = commit_all(alloc, &mut scheme, log_blowup, &request.commitments)?;
+    let batches = read_batches(alloc, &request.commitments, log_blowup, hides)?;
+    let mut scheme = P::made(fri, masking.num_random_codewords, masking.seed);
+    let all = commit_all::<P>(alloc, &mut scheme, batches.all)?;
+    Ok(commitments_of(alloc, &all)?)
+}
+
+/// The commitments alone.
+fn commitments_of<D, Domain>(
+    alloc: Global,
+    all: &[Committed<D, Domain>],
+) -> Result<Vec<[u8; 32]>, AllocError>
+    ensures { IfOk result (λ commitments.
+        commitments.items ≡ map (λ c. c.commitment) all.now) }
+{
     let mut commitments = Vec::with_capacity(alloc, all.len())?;
-    for committed in &all {
+    for committed in all {
         commitments.push(committed.commitment)?;
     }
     Ok(commitments)

@@ -7,8 +7,8 @@ ghost use Rattle.fri_requests.specs.Numbers.{IsElement, IsExtensionElement};
 ghost use Rattle.fri_records.specs.Failures.{IfMalformed};
 ghost use Rattle.fri_requests.specs.Statements.{IsCoset};
 
-use crate::scheme::Coset;
 use fri_records::{Domain, Fault, Misfit, Place, ReadError};
+use fri_schemes::Coset;
 use p3_field::{BabyBear, BabyBear4, ExtensionField, PrimeField64};
 use std::alloc::{AllocError, Global};
 

@@ -1,23 +1,20 @@
 //! The matrices of a request, and the points at which they are to be opened.
 
-ghost use Rattle.std.specs.Prelude.{◌≡◌, ◌≢◌, ◌↔◌, ◌*◌, ◌^◌, ◌<◌, ◌≤◌, All, IsTrue, IfOk, IfErr};
-ghost use Rattle.std.specs.Prelude.{[], length, map, vec_len};
+ghost use Rattle.std.specs.Prelude.{◌≡◌, ◌≢◌, ◌↔◌, ◌+◌, ◌*◌, ◌^◌, ◌<◌, ◌≤◌, All, IsTrue, IfOk};
+ghost use Rattle.std.specs.Prelude.{ℕ, [], length, map, vec_len, IfErr, IsNone, IfSome};
 ghost use Rattle.algebra.specs.Nested.{lists};
 ghost use Rattle.p3_matrix.specs.Matrix.{rows, matrix_width};
 ghost use Rattle.p3_matrix.specs.Rows.{rows_of};
-ghost use Rattle.p3_fri_extensions.specs.Extension.{FitsDomain};
-ghost use Rattle.p3_fri_two_adic.specs.Chunks.{polynomials_on};
-ghost use Rattle.fri_requests.specs.Commitments.{domain_of};
+ghost use Rattle.fri_schemes.specs.Rows.{log_committed, FitsRows};
+ghost use Rattle.fri_requests.specs.Committed.{IsListed, AreListed};
 ghost use Rattle.fri_records.specs.Failures.{IfMalformed};
-ghost use Rattle.fri_requests.specs.Matrices.{held_listed};
 ghost use Rattle.fri_statement.specs.Numbers.{coefficient_numbers};
 ghost use Rattle.fri_requests.specs.Requests.{IsMatrix, HasPoints};
-ghost use Rattle.fri_statement.specs.Setting.{fields};
 
 use crate::elements::{coset, elements, extension_element};
-use crate::scheme::Coset;
 use fri_records::{Batch, Fault, Matrix, Place, ReadError};
-use p3_field::{BabyBear, BabyBear4, TwoAdicField};
+use fri_schemes::Coset;
+use p3_field::{BabyBear, BabyBear4, TwoAdicField, TwoAdicMultiplicativeCoset};
 use p3_matrix::RowMajorMatrix;
 use std::alloc::Global;
 
@@ -44,22 +41,59 @@ fn matrix_of(values: Vec<BabyBear>, width: usize, log_size: usize) -> RowMajorMa
     RowMajorMatrix::new(values, width)
 }
 
-/// A matrix with room for its extension.
+/// The logarithm of the greatest size of a domain on which a matrix may be listed, so that the
+/// domain on which it is committed to has room for its extension.
+fn room_of(log_blowup: usize, hides: bool) -> Option<usize>
+    requires blowup { log_blowup ≤ 27 }
+    ensures none { IsNone result
+        → (log_size : ℕ) → ¬ (log_committed hides log_size + log_blowup ≤ 27) }
+    ensures low { IfSome result (λ most. most ≤ 27) }
+    ensures some { IfSome result (λ most. (log_size : ℕ)
+        → (log_size ≤ most) ↔ (log_committed hides log_size + log_blowup ≤ 27)) }
+{
+    let room = BabyBear::TWO_ADICITY - log_blowup;
+    if hides {
+        room.checked_sub(1)
+    } else {
+        Some(room)
+    }
+}
+
+/// The domain on which a matrix is committed to that is listed on this one.
+fn domain_committed(domain: Coset, hides: bool) -> Coset
+    requires room { log_committed hides domain.log_size ≤ 27 }
+    ensures shift { result.shift ≡ domain.shift }
+    ensures size { result.log_size ≡ log_committed hides domain.log_size }
+{
+    if hides {
+        TwoAdicMultiplicativeCoset {
+            shift: domain.shift,
+            log_size: domain.log_size + 1,
+        }
+    } else {
+        domain
+    }
+}
+
+/// A matrix on the domain on which it is committed to, with room for its extension.
 fn evaluations(
     alloc: Global,
     matrix: &Matrix,
     log_blowup: usize,
+    hides: bool,
     place: Place,
 ) -> Result<Evaluations, ReadError>
     requires blowup { log_blowup ≤ 27 }
-    ensures fits { IfOk result (λ e. FitsDomain 27 log_blowup e.0.log_size e.1) }
-    ensures domain { IfOk result (λ e. domain_of e.0.shift e.0.log_size ≡ matrix.now.domain) }
-    ensures polynomials { IfOk result (λ e.
-        polynomials_on fields e.0.shift e.0.log_size e.1 ≡ held_listed matrix.now) }
-    ensures well_formed { IfOk result (λ _. IsMatrix log_blowup matrix.now) }
-    ensures refused { IfErr result (IfMalformed (¬ IsMatrix log_blowup matrix.now)) }
+    ensures fits { IfOk result (λ e. FitsRows hides log_blowup e.0.log_size e.1) }
+    ensures listed { IfOk result (λ e.
+        IsListed hides (λ d. d.shift) (λ d. d.log_size) e matrix.now) }
+    ensures well_formed { IfOk result (λ _. IsMatrix hides log_blowup matrix.now) }
+    ensures refused { IfErr result (IfMalformed (¬ IsMatrix hides log_blowup matrix.now)) }
 {
-    let domain = coset(&matrix.domain, BabyBear::TWO_ADICITY - log_blowup, place)?;
+    let Some(most) = room_of(log_blowup, hides) else {
+        return Err(place.lacks(Fault::LogSize).into());
+    };
+    let domain = coset(&matrix.domain, most, place)?;
     if matrix.width == 0 {
         return Err(place.lacks(Fault::Width).into());
     }
@@ -67,7 +101,8 @@ fn evaluations(
         return Err(place.lacks(Fault::Values).into());
     }
     let values = elements(alloc, &matrix.values, place)?;
-    Ok((domain, matrix_of(values, matrix.width, domain.log_size())))
+    let rows = matrix_of(values, matrix.width, domain.log_size());
+    Ok((domain_committed(domain, hides), rows))
 }
 
 /// The matrices of the commitment at this place.
@@ -75,19 +110,18 @@ pub(crate) fn batch_evaluations(
     alloc: Global,
     batch: &Batch,
     log_blowup: usize,
+    hides: bool,
     place: Place,
 ) -> Result<Vec<Evaluations>, ReadError>
     requires blowup { log_blowup ≤ 27 }
     ensures fit { IfOk result (λ all.
-        All (λ e. FitsDomain 27 log_blowup e.0.log_size e.1) all.items) }
-    ensures domains { IfOk result (λ all. map (λ e. domain_of e.0.shift e.0.log_size) all.items
-        ≡ map (λ m. m.domain) batch.now.matrices.items) }
-    ensures polynomials { IfOk result (λ all.
-        map (λ e. polynomials_on fields e.0.shift e.0.log_size e.1) all.items
-        ≡ map held_listed batch.now.matrices.items) }
-    ensures well_formed { IfOk result (λ _. All (IsMatrix log_blowup) batch.now.matrices.items) }
+        All (λ e. FitsRows hides log_blowup e.0.log_size e.1) all.items) }
+    ensures listed { IfOk result (λ all.
+        AreListed hides (λ d. d.shift) (λ d. d.log_size) all.items batch.now) }
+    ensures well_formed { IfOk result (λ _.
+        All (IsMatrix hides log_blowup) batch.now.matrices.items) }
     ensures refused { IfErr result (IfMalformed
-        (¬ All (IsMatrix log_blowup) batch.now.matrices.items)) }
+        (¬ All (IsMatrix hides log_blowup) batch.now.matrices.items)) }
 {
     let mut all = Vec::with_capacity(alloc, batch.matrices.len())?;
     for (index, matrix) in batch.matrices.iter().enumerate() {
@@ -95,7 +129,7 @@ pub(crate) fn batch_evaluations(
             matrix: Some(index),
             ..place
         };
-        all.push(evaluations(alloc, matrix, log_blowup, place)?)?;
+        all.push(evaluations(alloc, matrix, log_blowup, hides, place)?)?;
     }
     Ok(all)
 }

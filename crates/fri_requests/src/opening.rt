@@ -1,68 +1,38 @@
 //! Openings of requests.
 
-ghost use Rattle.std.specs.Prelude.{◌≡◌, ◌^◌, All, IfOk, IfErr, length, map, string_bytes};
-ghost use Rattle.std.specs.List.{AllZip};
+ghost use Rattle.std.specs.Prelude.{◌≡◌, IfOk, IfErr, map, string_bytes};
 ghost use Rattle.algebra.specs.Nested.{nested};
-ghost use Rattle.p3_mmcs.specs.ProverData.{matrices_of, root_over};
-ghost use Rattle.p3_pcs.specs.Claims.{claim, zip_with};
-ghost use Rattle.p3_pcs.specs.Requests.{request, AreOpenable, AreHonest, FitDomains};
-ghost use Rattle.p3_pcs.specs.Requests.{honest_claims};
-ghost use Rattle.p3_fri_openings.specs.Rounds.{HasCoset};
-ghost use Rattle.p3_fri_openings.specs.Held.{held_of, HoldsWords};
-ghost use Rattle.p3_fri_openings.specs.SchemeClaims.{relation_claims};
-ghost use Rattle.p3_fri_two_adic.specs.Ends.{last_state};
-ghost use Rattle.p3_fri_relation.specs.Acceptance.{Accepts};
-ghost use Rattle.p3_fri_relation.specs.Views.{parameters_of, proof_of};
-ghost use Rattle.p3_fri_two_adic.specs.Ranges.{InProverRange};
-ghost use Rattle.fri_requests.specs.Accepted.{IsAccepted};
-ghost use Rattle.fri_requests.specs.Claims.{batch_listed};
-ghost use Rattle.fri_requests.specs.Commitments.{IsKept};
+ghost use Rattle.p3_pcs.specs.Claims.{claim};
+ghost use Rattle.p3_pcs.specs.Requests.{request};
+ghost use Rattle.p3_pcs.specs.Scheme.{AreHonestIn, FitRequests, claims_asked};
 ghost use Rattle.fri_records.specs.Failures.{MatchRequestError};
-ghost use Rattle.fri_requests.specs.Openings.{HavePoints, IsOpened, request_for};
-ghost use Rattle.fri_requests.specs.Requests.{CanOpen, IsRefusedRequest};
-ghost use Rattle.fri_requests.specs.Requests.{HasLists, HaveMatrix, Refuses};
-ghost use Rattle.fri_statement.specs.Setting.{fields, sha256_setting};
+ghost use Rattle.fri_requests.specs.Openings.{requests_for};
+ghost use Rattle.fri_requests.specs.Preprocessing.{NamesPreprocessed};
+ghost use Rattle.fri_requests.specs.Refusals.{IsUnopened};
+ghost use Rattle.fri_requests.specs.Requests.{CanOpen};
+ghost use Rattle.fri_requests.specs.Verdicts.{IsMadeWith, IsSchemeOf, IsAcceptedBy, AreOpenings};
 
-use crate::claims::claims_out;
+use crate::claims::{Claims, claims_out};
 use crate::committed::Committed;
+use crate::masking::Masking;
 use crate::prepared::prepare;
-use crate::scheme::{Claims, Coset, Data, Inputs, Proof, Scheme, proving_scheme};
-use crate::verification::next_drawn;
-use fri_records::{BatchClaims, Fault, Place, Request, RequestError};
+use crate::refusal::refusal;
+use crate::statement::next_drawn;
+use fri_records::{BatchClaims, Request, RequestError, prover_parameters};
+use fri_schemes::{Coset, MadeScheme};
 use p3_challenger_sha256::Sha256Challenger;
 use p3_field::BabyBear4;
-use p3_fri_openings::are_openable;
-use p3_pcs::{KnownCommitment, OpeningRequest, Pcs, claims_of};
+use p3_pcs::{KnownCommitment, OpeningRequest, claims_of};
 use std::alloc::{AllocError, Global};
 
-/// What a verifier knows of the commitments.
-fn known_of(
-    alloc: Global,
-    all: &[Committed],
-) -> Result<Vec<KnownCommitment<[u8; 32], Coset>>, AllocError>
-    ensures commitments { IfOk result (λ known.
-        map (λ k. k.commitment) known.items ≡ map (λ c. c.commitment) all.now) }
-    ensures domains { IfOk result (λ known.
-        map (λ k. k.domains.items) known.items ≡ map (λ c. c.domains.items) all.now) }
-{
-    let mut known = Vec::with_capacity(alloc, all.len())?;
-    for committed in all {
-        known.push(KnownCommitment {
-            commitment: committed.commitment,
-            domains: Vec::from_slice(alloc, &committed.domains)?,
-        })?;
-    }
-    Ok(known)
-}
-
 /// Requests to open committed data at these points.
-fn requests_of<'a>(
+fn requests_of<'a, D, Domain>(
     alloc: Global,
-    all: &'a mut [Committed],
+    all: &'a mut [Committed<D, Domain>],
     points: Vec<Vec<Vec<BabyBear4>>>,
-) -> Result<Vec<OpeningRequest<'a, Data, BabyBear4>>, AllocError>
+) -> Result<Vec<OpeningRequest<'a, D, BabyBear4>>, AllocError>
     ensures { IfOk result (λ requests. map request requests.items
-        ≡ zip_with (λ c points. request_for c.data points) all.old (nested points.items)) }
+        ≡ requests_for all.old (nested points.items)) }
 {
     let mut requests = Vec::with_capacity(alloc, all.len())?;
     for (committed, points) in all.iter_mut().zip(points) {
@@ -74,125 +44,144 @@ fn requests_of<'a>(
     Ok(requests)
 }
 
-/// Answers honest requests, of whose data a verifier knows these commitments and domains.
-fn open_requests(
+/// Answers honest requests, of whose data a verifier knows these commitments and domains, and of
+/// which the index names the one of preprocessing.
+fn open_requests<P: MadeScheme>(
     alloc: Global,
-    scheme: &Scheme,
+    scheme: &P,
     known: &[KnownCommitment<[u8; 32], Coset>],
-    requests: &mut [OpeningRequest<'_, Data, BabyBear4>],
+    requests: &mut [OpeningRequest<'_, P::ProverData, BabyBear4>],
+    preprocessing: Option<usize>,
     challenger: &mut Sha256Challenger,
-) -> Result<(Claims, Proof), RequestError>
-    requires range { InProverRange (parameters_of scheme.now.fri) 27 63 }
-    requires shape { AreOpenable (λ d. All (HasCoset 27) (matrices_of d))
-        (held_of fields matrices_of scheme.now.fri.log_blowup) (map request requests.old) }
-    requires honest { AreHonest
-        (λ d. All (HoldsWords fields scheme.now.fri.log_blowup) (matrices_of d))
+) -> Result<(Claims, P::Proof), RequestError<P::ProverError>>
+    requires range { (P.rules scheme.now).InProverRange }
+    requires shape { (P.stark_rules scheme.now).CanOpenAt preprocessing
         (map request requests.old) }
-    requires commitments { map (λ k. k.commitment) known.now
-        ≡ map (λ r. root_over r.prover_data.now) requests.old }
-    requires domains { FitDomains (held_of fields matrices_of scheme.now.fri.log_blowup)
-        (λ d. 2 ^ d.log_size) (map (λ k. k.domains.items) known.now) (map request requests.old) }
-    ensures claims { IfOk result (λ o. map claim o.0.items
-        ≡ honest_claims (held_of fields matrices_of scheme.now.fri.log_blowup) root_over
+    requires honest { AreHonestIn (P.rules scheme.now) (map request requests.old) }
+    requires commitments { let r = P.rules scheme.now in map (λ k. k.commitment) known.now
+        ≡ map (λ o. r.commitment_of o.prover_data.now) requests.old }
+    requires domains { FitRequests (P.rules scheme.now) (map (λ k. k.domains.items) known.now)
+        (map request requests.old) }
+    ensures claims { IfOk result (λ o. map claim o.0.items ≡ claims_asked (P.rules scheme.now)
         (map (λ k. k.domains.items) known.now) (map request requests.old)) }
-    ensures accepted { IfOk result (λ o. Accepts sha256_setting (parameters_of scheme.now.fri)
-        (relation_claims (λ d. d.log_size) (map claim o.0.items)) (proof_of o.1)
-        challenger.old) }
-    ensures state { IfOk result (λ o. challenger.new
-        ≡ last_state sha256_setting (parameters_of scheme.now.fri)
-        (relation_claims (λ d. d.log_size) (map claim o.0.items)) (proof_of o.1)
-        challenger.old) }
-    ensures refused { IfErr result (MatchRequestError ⊥
-        (Refuses (parameters_of scheme.now.fri) challenger.old (map request requests.old))) }
+    ensures accepted { IfOk result (λ o. (P.rules scheme.now).Accepts preprocessing
+        challenger.old (map claim o.0.items) o.1) }
+    ensures state { IfOk result (λ o. challenger.new ≡ (P.rules scheme.now).last_state
+        preprocessing challenger.old (map claim o.0.items) o.1) }
+    ensures refused { IfErr result (MatchRequestError ⊥ (λ e. (P.rules scheme.now).Refuses
+        preprocessing challenger.old (map request requests.old) e × (¬ P.IsMemory e))) }
 {
-    let (values, proof) = <Scheme as Pcs<BabyBear4, Sha256Challenger>>::open(
-        scheme,
-        alloc,
-        &mut *requests,
-        challenger,
-    )?;
+    let opened = scheme.open_with_preprocessing(alloc, &mut *requests, challenger, preprocessing);
+    let (values, proof) = match opened {
+        Ok(opening) => opening,
+        Err(error) => return Err(refusal::<P>(error)),
+    };
     let claims = claims_of(alloc, known, &*requests, values.as_slice())?;
     Ok((claims, proof))
 }
 
-/// Opens what is kept under commitments at these points.
-fn open_committed(
+/// Opens what is kept under commitments, as a verifier knows them, at these points.
+fn open_committed<P: MadeScheme>(
     alloc: Global,
-    scheme: &Scheme,
-    all: &mut [Committed],
+    scheme: &P,
+    known: &[KnownCommitment<[u8; 32], Coset>],
+    all: &mut [Committed<P::ProverData, Coset>],
     points: Vec<Vec<Vec<BabyBear4>>>,
+    preprocessing: Option<usize>,
     challenger: &mut Sha256Challenger,
-) -> Result<(Claims, Proof), RequestError>
-    requires range { InProverRange (parameters_of scheme.now.fri) 27 63 }
-    requires kept { All (IsKept scheme.now.fri.log_blowup) all.old }
-    requires counts { length (nested points.items) ≡ length all.old }
-    requires some { HavePoints (nested points.items) }
-    requires lists { AllZip HasLists all.old (nested points.items) }
-    ensures claims { IfOk result (λ o. map claim o.0.items
-        ≡ honest_claims (held_of fields matrices_of scheme.now.fri.log_blowup) root_over
-        (map (λ c. c.domains.items) all.old)
-        (zip_with (λ c points. request_for c.data points) all.old (nested points.items))) }
-    ensures accepted { IfOk result (λ o. Accepts sha256_setting (parameters_of scheme.now.fri)
-        (relation_claims (λ d. d.log_size) (map claim o.0.items)) (proof_of o.1)
-        challenger.old) }
-    ensures state { IfOk result (λ o. challenger.new
-        ≡ last_state sha256_setting (parameters_of scheme.now.fri)
-        (relation_claims (λ d. d.log_size) (map claim o.0.items)) (proof_of o.1)
-        challenger.old) }
-    ensures some_matrix { IfOk result (λ _. HaveMatrix all.old) }
-    ensures refused { IfErr result (MatchRequestError
-        (¬ HaveMatrix all.old) (λ e. HaveMatrix all.old
-        × Refuses (parameters_of scheme.now.fri) challenger.old
-        (zip_with (λ c points. request_for c.data points) all.old (nested points.items)) e)) }
+) -> Result<(Claims, P::Proof), RequestError<P::ProverError>>
+    requires range { (P.rules scheme.now).InProverRange }
+    requires shape { (P.stark_rules scheme.now).CanOpenAt preprocessing
+        (requests_for all.old (nested points.items)) }
+    requires honest { AreHonestIn (P.rules scheme.now)
+        (requests_for all.old (nested points.items)) }
+    requires commitments { let r = P.rules scheme.now in map (λ k. k.commitment) known.now
+        ≡ map (λ q. r.commitment_of q.datum) (requests_for all.old (nested points.items)) }
+    requires domains { FitRequests (P.rules scheme.now) (map (λ k. k.domains.items) known.now)
+        (requests_for all.old (nested points.items)) }
+    ensures claims { IfOk result (λ o. map claim o.0.items ≡ claims_asked (P.rules scheme.now)
+        (map (λ k. k.domains.items) known.now) (requests_for all.old (nested points.items))) }
+    ensures accepted { IfOk result (λ o. (P.rules scheme.now).Accepts preprocessing
+        challenger.old (map claim o.0.items) o.1) }
+    ensures state { IfOk result (λ o. challenger.new ≡ (P.rules scheme.now).last_state
+        preprocessing challenger.old (map claim o.0.items) o.1) }
+    ensures refused { IfErr result (MatchRequestError ⊥ (λ e. (P.rules scheme.now).Refuses
+        preprocessing challenger.old (requests_for all.old (nested points.items)) e
+        × (¬ P.IsMemory e))) }
 {
-    let known = known_of(alloc, &*all)?;
     let mut requests = requests_of(alloc, all, points)?;
-    if !are_openable(&Inputs::new(), &requests) {
-        return Err(RequestError::Malformed(Place::NONE.lacks(Fault::Matrices)));
-    }
-    let opened = open_requests(alloc, scheme, &known, requests.as_mut_slice(), challenger)?;
-    Ok(opened)
+    open_requests::<P>(
+        alloc,
+        scheme,
+        known,
+        requests.as_mut_slice(),
+        preprocessing,
+        challenger,
+    )
 }
 
 /// What comes of opening a request.
 #[derive(Drop)]
-pub struct Opening {
+pub struct Opening<Proof> {
     pub claims: Vec<BatchClaims>,
     pub proof: Proof,
+    /// The place of the preprocessed batch, if there is one.
+    pub preprocessing: Option<usize>,
     /// The coefficients' numbers of the element of the extension that the challenger draws next:
     /// both sides end in one state, so that a verifier's is the same.
     pub next_challenge: Vec<u64>,
 }
 
 /// Commits to a request's matrices and opens them at its points. The challenger begins with the
-/// whole statement: the context, the parameters, and the commitments with the domains, widths and
-/// points of their matrices. `verify` accepts what comes of it under that context.
-pub fn open(alloc: Global, request: &Request) -> Result<Opening, RequestError>
-    ensures accepted { IfOk result (λ o. IsAccepted (string_bytes request.now.context)
-        request.now.parameters o.claims.items (proof_of o.proof) o.next_challenge.items) }
-    ensures opened { IfOk result (λ o. AllZip (IsOpened request.now.parameters.log_blowup)
-        (map batch_listed o.claims.items) request.now.commitments.items) }
-    ensures well_formed { IfOk result (λ _. CanOpen request.now) }
+/// whole statement: by what the scheme hides, if it does, the context, the parameters, and the
+/// commitments with the domains, widths and points of their matrices. `verify` accepts what comes
+/// of it under that context. In a scheme that hides, a claim names the domain on which the masked
+/// matrix was committed to, which has twice as many points as the listed one, those at even places.
+pub fn open<P: MadeScheme>(
+    alloc: Global,
+    request: &Request,
+    masking: Masking,
+) -> Result<Opening<P::Proof>, RequestError<P::ProverError>>
+    ensures accepted { IfOk result (λ o. IsAcceptedBy P.rules (λ d. d.shift) (λ d. d.log_size)
+        (IsMadeWith P.IsMade request.now.parameters masking.num_random_codewords masking.seed)
+        (P.begun masking.num_random_codewords o.preprocessing)
+        (string_bytes request.now.context) request.now.parameters o.preprocessing o.claims.items
+        o.proof o.next_challenge.items) }
+    ensures opened { IfOk result (λ o. AreOpenings P.rules (λ d. d.shift) (λ d. d.log_size)
+        (IsSchemeOf (IsMadeWith P.IsMade request.now.parameters masking.num_random_codewords
+        masking.seed) P.Keeps) P.ZK P.stark_rules request.now.commitments.items
+        o.claims.items) }
+    ensures named { IfOk result (λ o.
+        NamesPreprocessed o.preprocessing request.now.commitments.items) }
+    ensures well_formed { IfOk result (λ _. CanOpen P.ZK request.now) }
     // where it can't be opened, where the scheme refuses it
-    ensures refused { IfErr result (MatchRequestError (¬ CanOpen request.now)
-        (IsRefusedRequest request.now)) }
+    ensures refused { IfErr result (MatchRequestError (¬ CanOpen P.ZK request.now)
+        (IsUnopened P.rules P.stark_rules P.IsMemory
+        (IsSchemeOf (IsMadeWith P.IsMade request.now.parameters masking.num_random_codewords
+        masking.seed) P.Keeps) P.ZK (λ d. d.shift) (λ d. d.log_size)
+        (λ index. P.begun masking.num_random_codewords index) request.now)) }
 {
-    let mut scheme = match proving_scheme(&request.parameters) {
-        Ok(scheme) => scheme,
+    let fri = match prover_parameters(&request.parameters) {
+        Ok(fri) => fri,
         Err(misfit) => return Err(RequestError::Malformed(misfit)),
     };
-    let mut prepared = prepare(alloc, &mut scheme, request)?;
+    let mut scheme = P::made(fri, masking.num_random_codewords, masking.seed);
+    let codewords = masking.num_random_codewords;
+    let mut prepared = prepare::<P>(alloc, &mut scheme, request, codewords)?;
     let points = prepared.points;
-    let (claims, proof) = open_committed(
+    let (claims, proof) = open_committed::<P>(
         alloc,
         &scheme,
+        &prepared.known,
         prepared.committed.as_mut_slice(),
         points,
+        prepared.preprocessing,
         &mut prepared.challenger,
     )?;
     Ok(Opening {
         claims: claims_out(alloc, &claims)?,
         proof,
+        preprocessing: prepared.preprocessing,
         next_challenge: next_drawn(alloc, &mut prepared.challenger)?,
     })
 }

@@ -1,72 +1,107 @@
 //! Requests whose matrices are committed to and whose statement is absorbed.
 
-ghost use Rattle.std.specs.Prelude.{◌≡◌, ◌≤◌, IfOk, IfErr, map};
-ghost use Rattle.algebra.specs.Nested.{lists, nested};
-ghost use Rattle.fri_statement.specs.Numbers.{coefficient_numbers};
-ghost use Rattle.fri_records.specs.Failures.{IfMalformed, MatchRequestError};
-ghost use Rattle.fri_requests.specs.Openings.{HavePoints};
-ghost use Rattle.fri_requests.specs.Prepared.{IsPrepared};
-ghost use Rattle.fri_requests.specs.Requests.{AllMatrices, HasPoints, CanOpen};
+ghost use Rattle.std.specs.Prelude.{◌≡◌, IfOk, IfErr, map};
+ghost use Rattle.std.specs.List.{AllZip};
+ghost use Rattle.algebra.specs.Nested.{nested};
+ghost use Rattle.fri_schemes.specs.Rows.{CommitsRows};
+ghost use Rattle.fri_records.specs.Failures.{MatchRequestError};
+ghost use Rattle.fri_records.specs.Records.{AreProvers};
+ghost use Rattle.fri_requests.specs.Committed.{Keeps};
+ghost use Rattle.fri_requests.specs.Prepared.{ArePoints, state_asked};
+ghost use Rattle.fri_requests.specs.Preprocessing.{NamesPreprocessed};
+ghost use Rattle.fri_requests.specs.Refusals.{RefusesBatch};
+ghost use Rattle.fri_requests.specs.Requests.{CanOpen};
 
 use crate::committed::{Committed, commit_all};
-use crate::matrices::batch_points;
-use crate::scheme::Scheme;
+use crate::reading::read_request;
 use crate::statement::{batches_stated, bound_challenger};
-use fri_records::{Batch, Place, ReadError, Request, RequestError};
+use fri_records::{Request, RequestError};
+use fri_schemes::{Coset, MadeScheme};
 use p3_challenger_sha256::Sha256Challenger;
 use p3_field::BabyBear4;
-use std::alloc::Global;
+use p3_pcs::KnownCommitment;
+use std::alloc::{AllocError, Global};
 
 /// What is to be opened of a request.
 #[derive(Drop)]
-pub(crate) struct Prepared {
-    pub committed: Vec<Committed>,
+pub(crate) struct Prepared<D> {
+    pub committed: Vec<Committed<D, Coset>>,
+    /// What a verifier knows of these.
+    pub known: Vec<KnownCommitment<[u8; 32], Coset>>,
     /// Those of each matrix of each commitment.
     pub points: Vec<Vec<Vec<BabyBear4>>>,
+    /// The place of the preprocessed batch, if there is one.
+    pub preprocessing: Option<usize>,
     /// It has absorbed the statement.
     pub challenger: Sha256Challenger,
 }
 
-/// The points of each matrix of each commitment.
-fn points_of(alloc: Global, batches: &[Batch]) -> Result<Vec<Vec<Vec<BabyBear4>>>, ReadError>
-    ensures numbers { IfOk result (λ all. map (map (map coefficient_numbers)) (nested all.items)
-        ≡ map (λ batch. map (λ m. lists m.points.items) batch.matrices.items) batches.now) }
-    ensures some { IfOk result (λ all. HavePoints (nested all.items)) }
-    ensures refused { IfErr result (IfMalformed (¬ AllMatrices HasPoints batches.now)) }
+/// What a verifier knows of the commitments.
+fn known_of<D, Domain: Copy>(
+    alloc: Global,
+    all: &[Committed<D, Domain>],
+) -> Result<Vec<KnownCommitment<[u8; 32], Domain>>, AllocError>
+    ensures commitments { IfOk result (λ known.
+        map (λ k. k.commitment) known.items ≡ map (λ c. c.commitment) all.now) }
+    ensures domains { IfOk result (λ known.
+        map (λ k. k.domains.items) known.items ≡ map (λ c. c.domains.items) all.now) }
 {
-    let mut all = Vec::with_capacity(alloc, batches.len())?;
-    for (index, batch) in batches.iter().enumerate() {
-        let place = Place {
-            commitment: Some(index),
-            ..Place::NONE
-        };
-        all.push(batch_points(alloc, batch, place)?)?;
+    let mut known = Vec::with_capacity(alloc, all.len())?;
+    for committed in all {
+        known.push(KnownCommitment {
+            commitment: committed.commitment,
+            domains: Vec::from_slice(alloc, &committed.domains)?,
+        })?;
     }
-    Ok(all)
+    Ok(known)
 }
 
-/// Commits to a request's matrices and absorbs its statement: the context, the parameters, and the
-/// commitments with the domains, widths and points of their matrices.
-pub(crate) fn prepare(
+/// Commits to a request's matrices and absorbs its statement: by what the scheme hides, if it does,
+/// the context, the parameters, and the commitments with the domains, widths and points of their
+/// matrices.
+pub(crate) fn prepare<P: MadeScheme>(
     alloc: Global,
-    scheme: &mut Scheme,
+    scheme: &mut P,
     request: &Request,
-) -> Result<Prepared, RequestError>
-    requires low { request.now.parameters.log_blowup ≤ 27 }
-    requires blowup { scheme.old.fri.log_blowup ≡ request.now.parameters.log_blowup }
-    ensures kept { scheme.new ≡ scheme.old }
-    ensures prepared { IfOk result (IsPrepared request.now) }
-    // the scheme itself refuses for want of memory alone
-    ensures refused { IfErr result (MatchRequestError (¬ CanOpen request.now) (λ _. ⊥)) }
+    num_random_codewords: usize,
+) -> Result<Prepared<P::ProverData>, RequestError<P::ProverError>>
+    requires provers { AreProvers request.now.parameters }
+    requires room { CommitsRows (P.rules scheme.old) (λ d. d.log_size) P.ZK
+        request.now.parameters.log_blowup }
+    ensures kept { P.Keeps scheme.old scheme.new }
+    ensures keeps { IfOk result (λ p. AllZip (Keeps (P.rules scheme.new)
+        (P.stark_rules scheme.new) P.ZK (λ d. d.shift) (λ d. d.log_size)) p.committed.items
+        request.now.commitments.items) }
+    ensures commitments { IfOk result (λ p.
+        map (λ k. k.commitment) p.known.items ≡ map (λ c. c.commitment) p.committed.items) }
+    ensures domains { IfOk result (λ p. map (λ k. k.domains.items) p.known.items
+        ≡ map (λ c. c.domains.items) p.committed.items) }
+    ensures points { IfOk result (λ p.
+        ArePoints (nested p.points.items) request.now.commitments.items) }
+    ensures named { IfOk result (λ p.
+        NamesPreprocessed p.preprocessing request.now.commitments.items) }
+    ensures state { IfOk result (λ p. p.challenger ≡ state_asked P.ZK
+        (P.begun num_random_codewords p.preprocessing) request.now
+        (map (λ c. c.commitment) p.committed.items)) }
+    ensures well_formed { IfOk result (λ _. CanOpen P.ZK request.now) }
+    ensures refused { IfErr result (MatchRequestError (¬ CanOpen P.ZK request.now)
+        (λ e. CanOpen P.ZK request.now × RefusesBatch P.rules P.stark_rules P.IsMemory
+        (λ s. P.Keeps scheme.old s) P.ZK (λ d. d.shift) (λ d. d.log_size)
+        request.now.commitments.items e)) }
 {
-    let points = points_of(alloc, &request.commitments)?;
-    let log_blowup = request.parameters.log_blowup;
-    let all = commit_all(alloc, scheme, log_blowup, &request.commitments)?;
-    let stated = batches_stated(alloc, log_blowup, &all, &points, &request.commitments)?;
-    let challenger = bound_challenger(alloc, &request.context, &request.parameters, &stated)?;
+    let hides = P::ZK;
+    let asked = read_request(alloc, request, hides)?;
+    let preprocessing = asked.batches.preprocessing;
+    let committed = commit_all::<P>(alloc, scheme, asked.batches.all)?;
+    let known = known_of(alloc, &committed)?;
+    let stated = batches_stated(alloc, hides, &known, &asked.points, &request.commitments)?;
+    let begun = P::begin(alloc, num_random_codewords, preprocessing)?;
+    let challenger = bound_challenger(alloc, begun, &asked.context, &request.parameters, &stated)?;
     Ok(Prepared {
-        committed: all,
-        points,
+        committed,
+        known,
+        points: asked.points,
+        preprocessing,
         challenger,
     })
 }

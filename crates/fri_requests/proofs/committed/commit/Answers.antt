@@ -1,59 +1,91 @@
-use Rattle.std.proofs.Common.{map, subst, sym, ap, ◌∙◌}
-use Rattle.std.proofs.lemmas.List.{take_all}
+use Rattle.std.proofs.Common.{get_or, map, sym, subst, ap, ◌∙◌}
 use Rattle.std.specs.List.{AllZip}
-use Rattle.std.proofs.lemmas.Result.{IfOk-from_err}
-use Rattle.fri_requests.specs.Commitments.{IsCommitmentTo}
-use Rattle.fri_requests.specs.Requests.{IsMatrix, AllMatrices}
+use Rattle.fri_requests.specs.Committed.{IsCommittedTo, Lists}
+use Rattle.fri_requests.specs.Requests.{AreBatches}
 use Rattle.fri_requests.proofs.Asked.{are_provers}
-use Rattle.fri_requests.proofs.Failed.{request_part, request_wants}
-use Rattle.fri_requests.proofs.Kept.{are_commitments}
+use Rattle.fri_requests.proofs.Failed.{unread_part, request_part}
+use Rattle.fri_requests.proofs.Fits.{fits_as}
+use Rattle.fri_requests.proofs.Opened.{all_keep, are_commitments, refuses_of, refuses_batch}
 use Rattle.fri_requests.proofs.committed.commit.Goals as goal
 
-pub returns-clause-committed : goal.returns-clause-committed
-returns-clause-committed c =
-    let R = IsCommitmentTo c.args.request.now.parameters.log_blowup in
-    let kept = are_commitments c.args.request.now.parameters.log_blowup _ _ c.in_ok-all.ensures.committed in
-    let listed = c.loop-committed.invariant ∙ ap (λ all. map (λ committed. committed.commitment) all)
-    (take_all c.loop-committed.committed-index c.deref-committed-items.result.now c.loop-committed-test.false
-    ∙ c.deref-committed-items.ensures.value) in
-    subst (λ batches. AllZip R c.loop-committed.commitments.items batches) c.deref.ensures.value
-    (subst (λ cs. AllZip R cs c.deref.result.now) (sym listed) kept)
-
-pub returns-in_err-all-clause-refused : goal.returns-in_err-all-clause-refused
-returns-in_err-all-clause-refused c =
-    request_part _ _ _ _ _ _ c.from_residual.ensures.1 c.in_err-all.ensures.refused
-    (λ fails can. fails (subst (λ bs. AllMatrices (IsMatrix c.args.request.now.parameters.log_blowup) bs)
-    (sym c.deref.ensures.value) can.matrices))
-    (λ e never. never)
-
-pub returns-clause-well_formed : goal.returns-clause-well_formed
-returns-clause-well_formed c = record {
-  parameters = are_provers c.args.request.now.parameters _ c.in-Ok.ensures.parameters c.in-Ok.ensures.range c.in-Ok.ensures.blowup;
-  matrices = subst (λ bs. AllMatrices (IsMatrix c.args.request.now.parameters.log_blowup) bs)
-      c.deref.ensures.value c.in_ok-all.ensures.well_formed;
+pub commit_all-requires : goal.commit_all-requires
+commit_all-requires g c = record {
+  room = λ i d h.
+      let es = (get_or c.in_ok-batches.batches.all.items i d).evaluations.items in
+      g.met.P.MadeScheme.commit_law _ _ _ c.made-scheme.result c.made-scheme.ensures es
+      (fits_as es (λ d. d.log_size) c.ZK-hides.ensures (sym (ap (λ p. p.log_blowup) c.in-Ok.ensures.parameters))
+      (c.in_ok-batches.ensures.read.fit i d h));
 }
 
--- where nothing is answered nothing is said of the answer
-pub returns-in_err-all-clause-committed : goal.returns-in_err-all-clause-committed
-returns-in_err-all-clause-committed c = IfOk-from_err c.from_residual.result _ c.from_residual.ensures.0
+pub returns-clause-committed : goal.returns-clause-committed
+returns-clause-committed g c =
+    let s = c.commit_all.new.scheme in
+    let r = g.P.Pcs.rules s in
+    let t = g.P.UnivariateStarkPcs.stark_rules s in
+    let hides = g.P.UnivariateStarkPcs.ZK in
+    let batches = c.args.request.now.commitments.items in
+    let cs = c.in_ok-all.all.items in
+    let made = c.in_ok-commitments_of.ensures ∙ ap (λ ks. map (λ k. k.commitment) ks) c.deref-2.ensures.value in
+    record {
+      scheme = s;
+      is_of = record {
+        made = c.made-scheme.result;
+        is_made = subst (λ q. g.P.MadeScheme.IsMade q c.args.masking.num_random_codewords c.args.masking.seed c.made-scheme.result)
+            c.in-Ok.ensures.parameters c.made-scheme.ensures;
+        kept = c.in_ok-all.ensures.kept;
+      };
+      commit = subst (λ ks. AllZip (λ commitment batch. (datum : _) × IsCommittedTo r t hides (λ d. d.shift) (λ d. d.log_size)
+          commitment datum batch) ks batches) (sym made)
+          (are_commitments r t hides (λ d. d.shift) (λ d. d.log_size) cs batches
+          (all_keep r t hides (λ d. d.shift) (λ d. d.log_size) (g.met.P.Pcs.rules_law s) cs
+          c.in_ok-batches.batches.all.items batches c.in_ok-all.ensures.committed
+          (subst (λ bs. AllZip (Lists hides (λ d. d.shift) (λ d. d.log_size)) c.in_ok-batches.batches.all.items bs)
+          c.deref.ensures.value
+          (subst (λ h. AllZip (Lists h (λ d. d.shift) (λ d. d.log_size)) c.in_ok-batches.batches.all.items c.deref.result.now)
+          c.ZK-hides.ensures c.in_ok-batches.ensures.read.listed))));
+    }
 
-pub returns-in_err-all-clause-well_formed : goal.returns-in_err-all-clause-well_formed
-returns-in_err-all-clause-well_formed c = IfOk-from_err c.from_residual.result _ c.from_residual.ensures.0
+pub returns-clause-well_formed : goal.returns-clause-well_formed
+returns-clause-well_formed g c = record {
+  parameters = are_provers c.args.request.now.parameters _ c.in-Ok.ensures.parameters c.in-Ok.ensures.range c.in-Ok.ensures.blowup;
+  batches = subst (λ bs. AreBatches g.P.UnivariateStarkPcs.ZK c.args.request.now.parameters.log_blowup bs)
+      c.deref.ensures.value
+      (subst (λ h. AreBatches h c.args.request.now.parameters.log_blowup c.deref.result.now) c.ZK-hides.ensures
+      c.in_ok-batches.ensures.well_formed);
+}
 
-pub returns-in_err-commitments-clause-committed : goal.returns-in_err-commitments-clause-committed
-returns-in_err-commitments-clause-committed c = IfOk-from_err c.from_residual-in_err-commitments.result _ c.from_residual-in_err-commitments.ensures.0
+pub returns-in_err-batches-clause-refused : goal.returns-in_err-batches-clause-refused
+returns-in_err-batches-clause-refused g c =
+    unread_part _ _ _ _ _ c.from_residual.ensures.1 c.in_err-batches.ensures.refused
+    (λ fails can. fails (subst (λ h. AreBatches h c.args.request.now.parameters.log_blowup c.deref.result.now)
+    (sym c.ZK-hides.ensures)
+    (subst (λ bs. AreBatches g.P.UnivariateStarkPcs.ZK c.args.request.now.parameters.log_blowup bs)
+    (sym c.deref.ensures.value) can.batches)))
 
-pub returns-in_err-commitments-clause-well_formed : goal.returns-in_err-commitments-clause-well_formed
-returns-in_err-commitments-clause-well_formed c = IfOk-from_err c.from_residual-in_err-commitments.result _ c.from_residual-in_err-commitments.ensures.0
-
-pub returns-in_err-push-clause-committed : goal.returns-in_err-push-clause-committed
-returns-in_err-push-clause-committed c = IfOk-from_err c.from_residual-in_err-push.result _ c.from_residual-in_err-push.ensures.0
-
-pub returns-in_err-push-clause-well_formed : goal.returns-in_err-push-clause-well_formed
-returns-in_err-push-clause-well_formed c = IfOk-from_err c.from_residual-in_err-push.result _ c.from_residual-in_err-push.ensures.0
-
-pub returns-in_err-commitments-clause-refused : goal.returns-in_err-commitments-clause-refused
-returns-in_err-commitments-clause-refused c = request_wants c.from_residual-in_err-commitments.result _ _ c.from_residual-in_err-commitments.ensures.1
-
-pub returns-in_err-push-clause-refused : goal.returns-in_err-push-clause-refused
-returns-in_err-push-clause-refused c = request_wants c.from_residual-in_err-push.result _ _ c.from_residual-in_err-push.ensures.1
+pub returns-in_err-all-clause-refused : goal.returns-in_err-all-clause-refused
+returns-in_err-all-clause-refused g c =
+    let hides = g.P.UnivariateStarkPcs.ZK in
+    request_part _ _ _ _ _ _ c.from_residual-in_err-all.ensures.1 c.in_err-all.ensures.refused (λ never. absurd never)
+    (λ e h. record {
+      request_commits = record {
+        parameters = are_provers c.args.request.now.parameters _ c.in-Ok.ensures.parameters c.in-Ok.ensures.range
+            c.in-Ok.ensures.blowup;
+        batches = subst (λ bs. AreBatches hides c.args.request.now.parameters.log_blowup bs)
+            c.deref.ensures.value
+            (subst (λ h. AreBatches h c.args.request.now.parameters.log_blowup c.deref.result.now) c.ZK-hides.ensures
+            c.in_ok-batches.ensures.well_formed);
+      };
+      refused = refuses_batch g.P.Pcs.rules g.P.UnivariateStarkPcs.stark_rules g.P.MadeScheme.IsMemory e hides
+          (λ d. d.shift) (λ d. d.log_size) c.args.request.now.commitments.items _ c.in_ok-batches.batches.all.items
+          (subst (λ bs. AllZip (Lists hides (λ d. d.shift) (λ d. d.log_size)) c.in_ok-batches.batches.all.items bs)
+          c.deref.ensures.value
+          (subst (λ h. AllZip (Lists h (λ d. d.shift) (λ d. d.log_size)) c.in_ok-batches.batches.all.items c.deref.result.now)
+          c.ZK-hides.ensures c.in_ok-batches.ensures.read.listed))
+          (refuses_of g.P.Pcs.rules g.P.UnivariateStarkPcs.stark_rules g.P.MadeScheme.IsMemory e _ _
+          (λ s kept. record {
+            made = c.made-scheme.result;
+            is_made = subst (λ q. g.P.MadeScheme.IsMade q c.args.masking.num_random_codewords c.args.masking.seed
+                c.made-scheme.result) c.in-Ok.ensures.parameters c.made-scheme.ensures;
+            kept = kept;
+          }) c.in_ok-batches.batches.all.items h);
+    })

@@ -1,176 +1,201 @@
-use Rattle.std.proofs.Common.{map, sym, subst, ap, ◌∙◌, All}
+use Rattle.std.proofs.Common.{◌≡◌, All, map, sym, subst, ap, ◌∙◌, inl, inr}
 use Rattle.std.specs.Prelude.{string_bytes}
 use Rattle.std.specs.List.{AllZip}
-use Rattle.std.proofs.lemmas.Result.{IfOk-from_err}
 use Rattle.algebra.specs.Nested.{nested}
-use Rattle.p3_mmcs.specs.ProverData.{matrices_of, root_over}
-use Rattle.p3_pcs.specs.Claims.{claim, zip_with}
-use Rattle.p3_pcs.specs.Requests.{honest_claims}
-use Rattle.p3_fri_openings.specs.Held.{held_of}
-use Rattle.p3_fri_openings.specs.SchemeClaims.{relation_claims}
-use Rattle.p3_fri_relation.specs.Views.{parameters_of, proof_of}
-use Rattle.p3_fri_two_adic.specs.Ranges.{InProverRange, InVerifierRange}
-use Rattle.fri_requests.specs.Bound.{batch_asked, batch_claimed}
+use Rattle.p3_pcs.specs.Claims.{claim}
+use Rattle.p3_pcs.specs.Scheme.{AreHonestIn, FitRequests, claims_asked}
+use Rattle.p3_fri_two_adic.specs.Ranges.{InVerifierRange}
+use Rattle.fri_records.specs.Records.{parameters_in}
+use Rattle.fri_schemes.specs.Rows.{FitsRows}
+use Rattle.fri_requests.specs.Bound.{batch_claimed, bound, context_listed}
 use Rattle.fri_requests.specs.Claims.{batch_numbers}
-use Rattle.fri_requests.specs.Commitments.{IsKept, Keeps}
-use Rattle.fri_requests.specs.Openings.{IsOpened, request_for}
-use Rattle.fri_statement.specs.Setting.{fields}
-use Rattle.fri_requests.specs.Requests.{HasLists, HaveMatrix, Refuses}
-use Rattle.fri_requests.proofs.Bound.{state_again, stated_all}
-use Rattle.fri_requests.proofs.Asked.{are_provers, have_points, has_lists, matrix_kept, can_open, refused_request}
-use Rattle.fri_requests.proofs.Failed.{request_part, request_wants}
-use Rattle.fri_requests.proofs.Listed.{claims_again, is_coset, are_claims}
-use Rattle.fri_requests.proofs.Opened.{all_kept, count_same, opened_each}
-use Rattle.fri_requests.proofs.Stated.{accepted, verifier_range}
+use Rattle.fri_requests.specs.Openings.{IsOpenedBy, requests_for}
+use Rattle.fri_requests.specs.Requests.{points_listed}
+use Rattle.fri_requests.proofs.Answered.{accepted_by}
+use Rattle.fri_requests.proofs.Asked.{are_provers, points_again}
+use Rattle.fri_requests.proofs.Failed.{request_part}
+use Rattle.fri_requests.proofs.Listed.{is_coset, are_claims}
+use Rattle.fri_requests.proofs.Opened.{count_same, can_open, honest, roots, fits, opened_each, stated_all, refuses_batch_of}
 use Rattle.fri_requests.proofs.opening.open.Goals as goal
 
-pub open_committed-requires-clause-kept : goal.open_committed-requires-clause-kept
-open_committed-requires-clause-kept c =
-    let b = c.args.request.now.parameters.log_blowup in
-    let same = ap (λ s. s.fri.log_blowup) c.in_ok-prepared.ensures.kept ∙ ap (λ p. p.log_blowup) c.in-Ok.ensures.parameters in
-    subst (λ cs. All (IsKept c.prepare.new.scheme.fri.log_blowup) cs) (sym c.as_mut_slice.ensures.value)
-    (subst (λ n. All (IsKept n) c.in_ok-prepared.prepared.committed.items) (sym same)
-    (all_kept b c.in_ok-prepared.prepared.committed.items _ c.in_ok-prepared.ensures.prepared.keeps))
+pub prepare-requires-clause-provers : goal.prepare-requires-clause-provers
+prepare-requires-clause-provers g c =
+    are_provers c.args.request.now.parameters _ c.in-Ok.ensures.parameters c.in-Ok.ensures.range c.in-Ok.ensures.blowup
 
-pub open_committed-requires-clause-counts : goal.open_committed-requires-clause-counts
-open_committed-requires-clause-counts c =
-    let b = c.args.request.now.parameters.log_blowup in
-    let batches = c.args.request.now.commitments.items in
-    count_same b c.as_mut_slice.result.now (nested c.in_ok-prepared.prepared.points.items) batches
-    (subst (λ cs. AllZip (Keeps b) cs batches) (sym c.as_mut_slice.ensures.value) c.in_ok-prepared.ensures.prepared.keeps)
-    c.in_ok-prepared.ensures.prepared.points
+pub prepare-requires-clause-room : goal.prepare-requires-clause-room
+prepare-requires-clause-room g c = λ es fit.
+    g.met.P.MadeScheme.commit_law _ _ _ c.made-scheme.result c.made-scheme.ensures es
+    (subst (λ n. All (λ e. FitsRows g.P.UnivariateStarkPcs.ZK n e.0.log_size e.1) es)
+    (sym (ap (λ p. p.log_blowup) c.in-Ok.ensures.parameters)) fit)
 
-pub open_committed-requires-clause-lists : goal.open_committed-requires-clause-lists
-open_committed-requires-clause-lists c =
-    let points = nested c.in_ok-prepared.prepared.points.items in
-    subst (λ cs. AllZip HasLists cs points) (sym c.as_mut_slice.ensures.value)
-    (has_lists c.args.request.now.parameters.log_blowup c.in_ok-prepared.prepared.committed.items points
-    c.args.request.now.commitments.items c.in_ok-prepared.ensures.prepared.keeps c.in_ok-prepared.ensures.prepared.points)
+pub open_committed-requires-clause-range : goal.open_committed-requires-clause-range
+open_committed-requires-clause-range g c =
+    (g.met.P.Pcs.keeps_law _ _ c.in_ok-prepared.ensures.kept).prover_range
+    (g.met.P.MadeScheme.prover_law _ _ _ c.made-scheme.result c.made-scheme.ensures c.in-Ok.ensures.range)
 
-pub returns-clause-accepted : goal.returns-clause-accepted
-returns-clause-accepted c =
-    let r = c.args.request.now in
-    let b = r.parameters.log_blowup in
-    let batches = r.commitments.items in
+pub open_committed-requires-clause-shape : goal.open_committed-requires-clause-shape
+open_committed-requires-clause-shape g c =
+    let s = c.prepare.new.scheme in
+    let t = g.P.UnivariateStarkPcs.stark_rules s in
     let p = c.in_ok-prepared.prepared in
-    let is = c.in_ok-prepared.ensures.prepared in
+    let is = c.in_ok-prepared.ensures in
+    subst (λ ks. t.CanOpenAt p.preprocessing (requests_for ks (nested p.points.items))) (sym c.as_mut_slice.ensures.value)
+    (can_open (g.P.Pcs.rules s) t g.P.UnivariateStarkPcs.ZK (λ d. d.shift) (λ d. d.log_size)
+    (g.met.P.UnivariateStarkPcs.stark_law s) p.preprocessing p.committed.items (nested p.points.items)
+    c.args.request.now.commitments.items is.keeps is.points.numbers is.named is.well_formed.some_matrix)
+
+pub open_committed-requires-clause-honest : goal.open_committed-requires-clause-honest
+open_committed-requires-clause-honest g c =
+    let s = c.prepare.new.scheme in
+    let r = g.P.Pcs.rules s in
+    let p = c.in_ok-prepared.prepared in
+    let is = c.in_ok-prepared.ensures in
+    subst (λ ks. AreHonestIn r (requests_for ks (nested p.points.items))) (sym c.as_mut_slice.ensures.value)
+    (honest r (g.P.UnivariateStarkPcs.stark_rules s) g.P.UnivariateStarkPcs.ZK (λ d. d.shift) (λ d. d.log_size)
+    p.committed.items (nested p.points.items) c.args.request.now.commitments.items is.keeps is.points.some_points)
+
+pub open_committed-requires-clause-commitments : goal.open_committed-requires-clause-commitments
+open_committed-requires-clause-commitments g c =
+    let s = c.prepare.new.scheme in
+    let r = g.P.Pcs.rules s in
+    let t = g.P.UnivariateStarkPcs.stark_rules s in
+    let p = c.in_ok-prepared.prepared in
+    let is = c.in_ok-prepared.ensures in
+    let batches = c.args.request.now.commitments.items in
     let points = nested p.points.items in
-    let same = ap (λ s. parameters_of s.fri) c.in_ok-prepared.ensures.kept ∙ c.in-Ok.ensures.parameters in
-    let low = ap (λ s. s.fri.log_blowup) c.in_ok-prepared.ensures.kept ∙ ap (λ p. p.log_blowup) c.in-Ok.ensures.parameters in
-    let range = subst (λ s. InProverRange (parameters_of s.fri) 27 63) (sym c.in_ok-prepared.ensures.kept) c.in-Ok.ensures.range in
-    let listed = c.in_ok-claims_out.ensures
-    ∙ ap (λ cs. map (batch_numbers (λ d. d.shift) (λ d. d.log_size)) cs)
-    (c.in_ok-claims.ensures.claims
-    ∙ ap (λ n. honest_claims (held_of fields matrices_of n) root_over (map (λ k. k.domains.items) c.as_mut_slice.result.now) (zip_with (λ k ps. request_for k.data ps) c.as_mut_slice.result.now points)) low
-    ∙ ap (λ ks. honest_claims (held_of fields matrices_of b) root_over (map (λ k. k.domains.items) ks) (zip_with (λ k ps. request_for k.data ps) ks points)) c.as_mut_slice.ensures.value) in
-    accepted (string_bytes r.context) r.parameters c.in_ok-claims_out.field-0.items (proof_of c.in_ok-claims.proof)
-    (parameters_of c.prepare.new.scheme.fri) (relation_claims (λ d. d.log_size) (map claim c.in_ok-claims.claims.items)) p.challenger
-    same
-    (claims_again (λ d. d.shift) (λ d. d.log_size) (map claim c.in_ok-claims.claims.items) c.in_ok-claims_out.field-0.items (sym c.in_ok-claims_out.ensures))
-    (state_again (string_bytes r.context) r.parameters c.in_ok-claims_out.field-0.items p.challenger
-    (zip_with batch_asked (map (λ k. k.commitment) p.committed.items) batches) is.state
-    (sym (ap (λ ns. map batch_claimed ns) listed
-    ∙ stated_all b p.committed.items points batches is.keeps is.points
-    (have_points points batches is.points is.some_points))))
-    (record {
-      bytes = is.context;
-      range = subst (λ p. InVerifierRange p 27 63) same (verifier_range (parameters_of c.prepare.new.scheme.fri) _ _ p.challenger range c.in_ok-claims.ensures.accepted);
-      claims = are_claims (λ d. d.shift) (λ d. d.log_size) (λ d. is_coset d.shift d.log_size d.nonzero d.within_two_adicity)
-          (map claim c.in_ok-claims.claims.items) c.in_ok-claims_out.field-0.items (sym c.in_ok-claims_out.ensures);
-    })
-    _ _ c.in_ok-claims.ensures.accepted c.in_ok-claims.ensures.state c.in_ok-next_drawn.ensures
+    ap (λ ks. map (λ k. k.commitment) ks) c.deref.ensures.value ∙ is.commitments
+    ∙ roots r t g.P.UnivariateStarkPcs.ZK (λ d. d.shift) (λ d. d.log_size) p.committed.items points batches is.keeps
+    (count_same r t g.P.UnivariateStarkPcs.ZK (λ d. d.shift) (λ d. d.log_size) p.committed.items points batches is.keeps
+    is.points.numbers)
+    ∙ ap (λ ks. map (λ q. r.commitment_of q.datum) (requests_for ks points)) (sym c.as_mut_slice.ensures.value)
+
+pub open_committed-requires-clause-domains : goal.open_committed-requires-clause-domains
+open_committed-requires-clause-domains g c =
+    let s = c.prepare.new.scheme in
+    let r = g.P.Pcs.rules s in
+    let t = g.P.UnivariateStarkPcs.stark_rules s in
+    let p = c.in_ok-prepared.prepared in
+    let is = c.in_ok-prepared.ensures in
+    let batches = c.args.request.now.commitments.items in
+    let points = nested p.points.items in
+    subst (λ ks. FitRequests r (map (λ k. k.domains.items) c.deref.result.now) (requests_for ks points))
+    (sym c.as_mut_slice.ensures.value)
+    (subst (λ ds. FitRequests r ds (requests_for p.committed.items points))
+    (sym (ap (λ ks. map (λ k. k.domains.items) ks) c.deref.ensures.value ∙ is.domains))
+    (fits r t g.P.UnivariateStarkPcs.ZK (λ d. d.shift) (λ d. d.log_size) p.committed.items points batches is.keeps
+    (count_same r t g.P.UnivariateStarkPcs.ZK (λ d. d.shift) (λ d. d.log_size) p.committed.items points batches is.keeps
+    is.points.numbers)))
 
 pub returns-clause-opened : goal.returns-clause-opened
-returns-clause-opened c =
-    let b = c.args.request.now.parameters.log_blowup in
-    let batches = c.args.request.now.commitments.items in
+returns-clause-opened g c =
+    let s = c.prepare.new.scheme in
+    let r = g.P.Pcs.rules s in
+    let t = g.P.UnivariateStarkPcs.stark_rules s in
+    let hides = g.P.UnivariateStarkPcs.ZK in
     let p = c.in_ok-prepared.prepared in
+    let is = c.in_ok-prepared.ensures in
+    let batches = c.args.request.now.commitments.items in
     let points = nested p.points.items in
-    let low = ap (λ s. s.fri.log_blowup) c.in_ok-prepared.ensures.kept ∙ ap (λ p. p.log_blowup) c.in-Ok.ensures.parameters in
     let listed = c.in_ok-claims_out.ensures
     ∙ ap (λ cs. map (batch_numbers (λ d. d.shift) (λ d. d.log_size)) cs)
     (c.in_ok-claims.ensures.claims
-    ∙ ap (λ n. honest_claims (held_of fields matrices_of n) root_over (map (λ k. k.domains.items) c.as_mut_slice.result.now) (zip_with (λ k ps. request_for k.data ps) c.as_mut_slice.result.now points)) low
-    ∙ ap (λ ks. honest_claims (held_of fields matrices_of b) root_over (map (λ k. k.domains.items) ks) (zip_with (λ k ps. request_for k.data ps) ks points)) c.as_mut_slice.ensures.value) in
-    subst (λ ns. AllZip (IsOpened b) ns batches) (sym listed)
-    (opened_each b p.committed.items points batches c.in_ok-prepared.ensures.prepared.keeps c.in_ok-prepared.ensures.prepared.points)
+    ∙ ap (λ ds. claims_asked r ds (requests_for c.as_mut_slice.result.now points))
+    (ap (λ ks. map (λ k. k.domains.items) ks) c.deref.ensures.value ∙ is.domains)
+    ∙ ap (λ ks. claims_asked r (map (λ k. k.domains.items) p.committed.items) (requests_for ks points)) c.as_mut_slice.ensures.value) in
+    record {
+      scheme = s;
+      is_of = record {
+        made = c.made-scheme.result;
+        is_made = subst (λ q. g.P.MadeScheme.IsMade q c.args.masking.num_random_codewords c.args.masking.seed c.made-scheme.result)
+            c.in-Ok.ensures.parameters c.made-scheme.ensures;
+        kept = is.kept;
+      };
+      opened = subst (λ ns. AllZip (IsOpenedBy r t hides (λ d. d.shift) (λ d. d.log_size)) ns batches) (sym listed)
+          (opened_each r t hides (λ d. d.shift) (λ d. d.log_size) p.committed.items points batches is.keeps is.points.numbers);
+    }
 
-pub returns-clause-well_formed : goal.returns-clause-well_formed
-returns-clause-well_formed c =
-    let is = c.in_ok-prepared.ensures.prepared in
-    can_open c.args.request.now c.in_ok-prepared.prepared.committed.items (nested c.in_ok-prepared.prepared.points.items)
-    is.keeps is.points is.context
+pub returns-clause-accepted : goal.returns-clause-accepted
+returns-clause-accepted g c =
+    let made = c.made-scheme.result in
+    let s = c.prepare.new.scheme in
+    let r = g.P.Pcs.rules s in
+    let t = g.P.UnivariateStarkPcs.stark_rules s in
+    let hides = g.P.UnivariateStarkPcs.ZK in
+    let request = c.args.request.now in
+    let p = c.in_ok-prepared.prepared in
+    let is = c.in_ok-prepared.ensures in
+    let batches = request.commitments.items in
+    let points = nested p.points.items in
+    let begun = g.P.MadeScheme.begun c.args.masking.num_random_codewords p.preprocessing in
+    let records = c.in_ok-claims_out.field-0.items in
+    let listed = c.in_ok-claims_out.ensures
+    ∙ ap (λ cs. map (batch_numbers (λ d. d.shift) (λ d. d.log_size)) cs)
+    (c.in_ok-claims.ensures.claims
+    ∙ ap (λ ds. claims_asked r ds (requests_for c.as_mut_slice.result.now points))
+    (ap (λ ks. map (λ k. k.domains.items) ks) c.deref.ensures.value ∙ is.domains)
+    ∙ ap (λ ks. claims_asked r (map (λ k. k.domains.items) p.committed.items) (requests_for ks points)) c.as_mut_slice.ensures.value) in
+    accepted_by g.P.Pcs.rules (λ d. d.shift) (λ d. d.log_size)
+    (λ q. g.P.MadeScheme.IsMade (parameters_in request.parameters) c.args.masking.num_random_codewords c.args.masking.seed q) begun
+    (string_bytes request.context) request.parameters p.preprocessing records c.in_ok-claims.proof made
+    (subst (λ q. g.P.MadeScheme.IsMade q c.args.masking.num_random_codewords c.args.masking.seed made)
+    c.in-Ok.ensures.parameters c.made-scheme.ensures)
     (record {
-      parameters = are_provers c.args.request.now.parameters _ c.in-Ok.ensures.parameters c.in-Ok.ensures.range c.in-Ok.ensures.blowup;
-      matrices = is.matrices;
+      bytes = is.well_formed.context;
+      range = subst (λ q. InVerifierRange q 27 63) c.in-Ok.ensures.parameters
+          (g.met.P.MadeScheme.accepted_law _ _ _ made c.made-scheme.ensures c.in-Ok.ensures.range p.preprocessing _ _ _
+          ((g.met.P.MadeScheme.alike_law made s is.kept).accepts _ _ _ _ c.in_ok-claims.ensures.accepted));
+      claims = are_claims (λ d. d.shift) (λ d. d.log_size) (λ d. is_coset d.shift d.log_size d.nonzero d.within_two_adicity)
+          (map claim c.in_ok-claims.claims.items) records (sym c.in_ok-claims_out.ensures);
     })
-    is.some_points
-    (subst (λ cs. HaveMatrix cs) c.as_mut_slice.ensures.value c.in_ok-claims.ensures.some_matrix)
+    (map claim c.in_ok-claims.claims.items) (sym c.in_ok-claims_out.ensures) p.challenger
+    (is.state ∙ ap (λ os. bound begun (context_listed (string_bytes request.context)) (parameters_in request.parameters) os)
+    (sym (ap (λ ns. map batch_claimed ns) listed
+    ∙ stated_all r t hides (λ d. d.shift) (λ d. d.log_size) (g.met.P.MadeScheme.columns_law s) p.committed.items points batches
+    is.keeps is.points.numbers is.well_formed.points)))
+    s (g.met.P.MadeScheme.alike_law made s is.kept) _ _ c.in_ok-claims.ensures.accepted c.in_ok-claims.ensures.state
+    c.in_ok-next_drawn.ensures
 
 pub returns-in_err-prepared-clause-refused : goal.returns-in_err-prepared-clause-refused
-returns-in_err-prepared-clause-refused c =
-    request_part _ _ _ _ _ _ c.from_residual.ensures.1 c.in_err-prepared.ensures.refused
-    (λ fails. fails) (λ e never. absurd never)
+returns-in_err-prepared-clause-refused g c =
+    request_part _ _ _ _ _ _ c.from_residual.ensures.1 c.in_err-prepared.ensures.refused (λ fails. fails)
+    (λ e h. record {
+      request_opens = h.0;
+      refused = inl (refuses_batch_of _ _ _ e _ _ _ _ _ _
+          (λ s kept. record {
+            made = c.made-scheme.result;
+            is_made = subst (λ q. g.P.MadeScheme.IsMade q c.args.masking.num_random_codewords c.args.masking.seed c.made-scheme.result)
+                c.in-Ok.ensures.parameters c.made-scheme.ensures;
+            kept = kept;
+          }) h.1);
+    })
 
 pub returns-in_err-claims-clause-refused : goal.returns-in_err-claims-clause-refused
-returns-in_err-claims-clause-refused c =
-    let b = c.args.request.now.parameters.log_blowup in
-    let batches = c.args.request.now.commitments.items in
+returns-in_err-claims-clause-refused g c =
+    let s = c.prepare.new.scheme in
     let p = c.in_ok-prepared.prepared in
-    let is = c.in_ok-prepared.ensures.prepared in
-    request_part _ _ _ _ _ _ c.from_residual-in_err-claims.ensures.1 c.in_err-claims.ensures.refused
-    (λ fails can. fails (subst (λ cs. HaveMatrix cs) (sym c.as_mut_slice.ensures.value)
-    (matrix_kept b p.committed.items batches is.keeps can.some_matrix)))
-    (λ e h. refused_request c.args.request.now p.committed.items (nested p.points.items) is.keeps is.points is.context
-    (record {
-      parameters = are_provers c.args.request.now.parameters _ c.in-Ok.ensures.parameters c.in-Ok.ensures.range c.in-Ok.ensures.blowup;
-      matrices = is.matrices;
+    let is = c.in_ok-prepared.ensures in
+    let request = c.args.request.now in
+    request_part _ _ _ _ _ _ c.from_residual-in_err-claims.ensures.1 c.in_err-claims.ensures.refused (λ never. absurd never)
+    (λ e h. record {
+      request_opens = is.well_formed;
+      refused = inr (record {
+        scheme = s;
+        is_of = record {
+          made = c.made-scheme.result;
+          is_made = subst (λ q. g.P.MadeScheme.IsMade q c.args.masking.num_random_codewords c.args.masking.seed c.made-scheme.result)
+              c.in-Ok.ensures.parameters c.made-scheme.ensures;
+          kept = is.kept;
+        };
+        index = p.preprocessing;
+        named = is.named;
+        kept = p.committed.items;
+        keeps = is.keeps;
+        refused = subst (λ d. (g.P.Pcs.rules s).Refuses p.preprocessing d
+            (requests_for p.committed.items (points_listed request.commitments.items)) e) is.state
+            (subst (λ zs. (g.P.Pcs.rules s).Refuses p.preprocessing p.challenger (requests_for p.committed.items zs) e)
+            (points_again (nested p.points.items) request.commitments.items is.points.numbers)
+            (subst (λ ks. (g.P.Pcs.rules s).Refuses p.preprocessing p.challenger (requests_for ks (nested p.points.items)) e)
+            c.as_mut_slice.ensures.value h.0));
+        not_memory = h.1;
+      });
     })
-    is.some_points _ _
-    (ap (λ s. parameters_of s.fri) c.in_ok-prepared.ensures.kept ∙ c.in-Ok.ensures.parameters)
-    is.state e
-    (subst (λ cs. HaveMatrix cs × Refuses (parameters_of c.prepare.new.scheme.fri) p.challenger
-    (zip_with (λ k zs. request_for k.data zs) cs (nested p.points.items)) e) c.as_mut_slice.ensures.value h))
-
-pub returns-in_err-claims_out-clause-refused : goal.returns-in_err-claims_out-clause-refused
-returns-in_err-claims_out-clause-refused c = request_wants c.from_residual-in_err-claims_out.result _ _ c.from_residual-in_err-claims_out.ensures.1
-
-pub returns-in_err-next_drawn-clause-refused : goal.returns-in_err-next_drawn-clause-refused
-returns-in_err-next_drawn-clause-refused c = request_wants c.from_residual-in_err-next_drawn.result _ _ c.from_residual-in_err-next_drawn.ensures.1
-
--- where nothing is answered nothing is said of the answer
-pub returns-in_err-prepared-clause-accepted : goal.returns-in_err-prepared-clause-accepted
-returns-in_err-prepared-clause-accepted c = IfOk-from_err c.from_residual.result _ c.from_residual.ensures.0
-
-pub returns-in_err-prepared-clause-opened : goal.returns-in_err-prepared-clause-opened
-returns-in_err-prepared-clause-opened c = IfOk-from_err c.from_residual.result _ c.from_residual.ensures.0
-
-pub returns-in_err-prepared-clause-well_formed : goal.returns-in_err-prepared-clause-well_formed
-returns-in_err-prepared-clause-well_formed c = IfOk-from_err c.from_residual.result _ c.from_residual.ensures.0
-
-pub returns-in_err-claims-clause-accepted : goal.returns-in_err-claims-clause-accepted
-returns-in_err-claims-clause-accepted c = IfOk-from_err c.from_residual-in_err-claims.result _ c.from_residual-in_err-claims.ensures.0
-
-pub returns-in_err-claims-clause-opened : goal.returns-in_err-claims-clause-opened
-returns-in_err-claims-clause-opened c = IfOk-from_err c.from_residual-in_err-claims.result _ c.from_residual-in_err-claims.ensures.0
-
-pub returns-in_err-claims-clause-well_formed : goal.returns-in_err-claims-clause-well_formed
-returns-in_err-claims-clause-well_formed c = IfOk-from_err c.from_residual-in_err-claims.result _ c.from_residual-in_err-claims.ensures.0
-
-pub returns-in_err-claims_out-clause-accepted : goal.returns-in_err-claims_out-clause-accepted
-returns-in_err-claims_out-clause-accepted c = IfOk-from_err c.from_residual-in_err-claims_out.result _ c.from_residual-in_err-claims_out.ensures.0
-
-pub returns-in_err-claims_out-clause-opened : goal.returns-in_err-claims_out-clause-opened
-returns-in_err-claims_out-clause-opened c = IfOk-from_err c.from_residual-in_err-claims_out.result _ c.from_residual-in_err-claims_out.ensures.0
-
-pub returns-in_err-claims_out-clause-well_formed : goal.returns-in_err-claims_out-clause-well_formed
-returns-in_err-claims_out-clause-well_formed c = IfOk-from_err c.from_residual-in_err-claims_out.result _ c.from_residual-in_err-claims_out.ensures.0
-
-pub returns-in_err-next_drawn-clause-accepted : goal.returns-in_err-next_drawn-clause-accepted
-returns-in_err-next_drawn-clause-accepted c = IfOk-from_err c.from_residual-in_err-next_drawn.result _ c.from_residual-in_err-next_drawn.ensures.0
-
-pub returns-in_err-next_drawn-clause-opened : goal.returns-in_err-next_drawn-clause-opened
-returns-in_err-next_drawn-clause-opened c = IfOk-from_err c.from_residual-in_err-next_drawn.result _ c.from_residual-in_err-next_drawn.ensures.0
-
-pub returns-in_err-next_drawn-clause-well_formed : goal.returns-in_err-next_drawn-clause-well_formed
-returns-in_err-next_drawn-clause-well_formed c = IfOk-from_err c.from_residual-in_err-next_drawn.result _ c.from_residual-in_err-next_drawn.ensures.0

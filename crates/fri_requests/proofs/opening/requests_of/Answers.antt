@@ -8,8 +8,8 @@ use Rattle.fri_requests.proofs.Zipped.{none_left, zipped_end}
 use Rattle.fri_requests.proofs.opening.requests_of.Goals as goal
 
 pub returns : goal.returns
-returns c =
-    zipped_end (λ committed points. request_for committed.data points) (map request c.loop-committed.requests.items) _ _ _
+returns g c =
+    zipped_end (λ c zs. request_for c.data zs) (map request c.loop-committed.requests.items) _ _ _
     c.loop-committed.invariant
     (elim c.in-None.ensures.steps [
       | inl first ↦ inl (none_left _ first.1.0)
@@ -20,7 +20,7 @@ returns c =
 
 -- where nothing is answered nothing is said of the answer
 pub returns-in_err-requests : goal.returns-in_err-requests
-returns-in_err-requests c = IfOk-from_err c.from_residual.result _ c.from_residual.ensures.0
+returns-in_err-requests g c = IfOk-from_err c.from_residual.result _ c.from_residual.ensures.0
 
 pub returns-in_err-push : goal.returns-in_err-push
-returns-in_err-push c = IfOk-from_err c.from_residual-in_err-push.result _ c.from_residual-in_err-push.ensures.0
+returns-in_err-push g c = IfOk-from_err c.from_residual-in_err-push.result _ c.from_residual-in_err-push.ensures.0

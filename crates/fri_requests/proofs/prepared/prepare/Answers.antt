@@ -1,57 +1,105 @@
-use Rattle.std.proofs.Common.{map, sym, subst, ap, ◌∙◌}
-use Rattle.std.specs.Prelude.{string_bytes}
+use Rattle.std.proofs.Common.{◌≡◌, get_or, map, refl, sym, subst, ap, ap₂, ◌∙◌}
 use Rattle.std.specs.List.{AllZip}
-use Rattle.std.proofs.lemmas.Result.{IfOk-from_err}
-use Rattle.algebra.specs.Nested.{lists}
+use Rattle.algebra.specs.Nested.{lists, nested}
+use Rattle.p3_pcs.specs.Claims.{zip_with}
+use Rattle.fri_records.specs.Records.{parameters_in}
+use Rattle.fri_statement.specs.Numbers.{coefficient_numbers}
 use Rattle.fri_statement.specs.Stated.{opened_commitment}
-use Rattle.fri_requests.specs.Bound.{IsContext}
-use Rattle.fri_requests.specs.Commitments.{Keeps}
-use Rattle.fri_requests.specs.Requests.{IsMatrix, HasPoints, AllMatrices}
+use Rattle.fri_requests.specs.Bound.{bound, batch_asked}
+use Rattle.fri_requests.specs.Committed.{domain_of, domain_committed, Lists}
+use Rattle.fri_requests.specs.Requests.{CanOpen}
 use Rattle.fri_requests.proofs.Bound.{request_state}
-use Rattle.fri_requests.proofs.Failed.{unread_part, request_part, request_wants}
+use Rattle.fri_requests.proofs.Failed.{unread_part, request_part}
+use Rattle.fri_requests.proofs.Fits.{fits_as}
+use Rattle.fri_requests.proofs.Opened.{all_keep, domains_known, refuses_batch}
 use Rattle.fri_requests.proofs.prepared.prepare.Goals as goal
 
-pub returns-clause-prepared : goal.returns-clause-prepared
-returns-clause-prepared c =
-    let r = c.args.request.now in
-    let b = r.parameters.log_blowup in
-    let batches = r.commitments.items in
-    record {
-      keeps = subst (λ bs. AllZip (Keeps b) c.in_ok-all.all.items bs) c.deref-2.ensures.value c.in_ok-all.ensures.committed;
-      points = c.in_ok-points.ensures.numbers ∙ ap (λ bs. map (λ batch. map (λ m. lists m.points.items) batch.matrices.items) bs) c.deref.ensures.value;
-      some_points = c.in_ok-points.ensures.some;
-      context = subst (λ t. IsContext t) c.deref-6.ensures c.in_ok-challenger.ensures.well_formed;
-      matrices = subst (λ bs. AllMatrices (IsMatrix b) bs) c.deref-2.ensures.value c.in_ok-all.ensures.well_formed;
-      state = request_state (string_bytes r.context) c.deref-6.result.now r.parameters _ (map opened_commitment c.in_ok-stated.stated.items)
-          c.in_ok-all.all.items c.deref-3.result.now batches c.deref-5.result.now c.in_ok-challenger.challenger
-          c.in_ok-challenger.ensures.state c.deref-6.ensures (ap (λ ss. map opened_commitment ss) c.deref-7.ensures.value)
-          c.in_ok-stated.ensures c.deref-3.ensures.value c.deref-5.ensures.value;
-    }
+pub commit_all-requires : goal.commit_all-requires
+commit_all-requires g c = record {
+  room = λ i d h.
+      let es = (get_or c.in_ok-asked.asked.batches.all.items i d).evaluations.items in
+      c.requires.room es
+      (fits_as es (λ d. d.log_size) {b = c.args.request.now.parameters.log_blowup} c.ZK-hides.ensures refl
+      (c.in_ok-asked.ensures.read.fit i d h));
+}
 
-pub returns-in_err-points-clause-refused : goal.returns-in_err-points-clause-refused
-returns-in_err-points-clause-refused c =
-    unread_part _ _ _ _ _ c.from_residual.ensures.1 c.in_err-points.ensures.refused
-    (λ fails can. fails (subst (λ bs. AllMatrices HasPoints bs) (sym c.deref.ensures.value) can.points))
+pub batches_stated-requires-clause-domains : goal.batches_stated-requires-clause-domains
+batches_stated-requires-clause-domains g c =
+    let s = c.commit_all.new.scheme in
+    let r = g.P.Pcs.rules s in
+    let t = g.P.UnivariateStarkPcs.stark_rules s in
+    let hides = g.P.UnivariateStarkPcs.ZK in
+    let cs = c.in_ok-committed.committed.items in
+    let batches = c.args.request.now.commitments.items in
+    let listed = subst (λ h. AllZip (Lists h (λ d. d.shift) (λ d. d.log_size)) c.in_ok-asked.asked.batches.all.items batches)
+    c.ZK-hides.ensures c.in_ok-asked.ensures.read.listed in
+    ap (λ ks. map (λ k. map (λ d. domain_of d.shift d.log_size) k.domains.items) ks) c.deref-2.ensures.value
+    ∙ domains_known r t hides (λ d. d.shift) (λ d. d.log_size) c.in_ok-known.known.items cs batches
+    (c.in_ok-known.ensures.domains ∙ ap (λ ks. map (λ k. k.domains.items) ks) c.deref.ensures.value)
+    (all_keep r t hides (λ d. d.shift) (λ d. d.log_size) (g.met.P.Pcs.rules_law s) cs
+    c.in_ok-asked.asked.batches.all.items batches c.in_ok-committed.ensures.committed listed)
+    ∙ ap₂ (λ h bs. map (λ b. map (λ m. domain_committed h m.domain) b.matrices.items) bs) (sym c.ZK-hides.ensures)
+    (sym c.deref-4.ensures.value)
 
-pub returns-in_err-all-clause-refused : goal.returns-in_err-all-clause-refused
-returns-in_err-all-clause-refused c =
-    request_part _ _ _ _ _ _ c.from_residual-in_err-all.ensures.1 c.in_err-all.ensures.refused
-    (λ fails can. fails (subst (λ bs. AllMatrices (IsMatrix c.args.request.now.parameters.log_blowup) bs)
-    (sym c.deref-2.ensures.value) can.committed.matrices))
-    (λ e never. never)
+pub batches_stated-requires-clause-points : goal.batches_stated-requires-clause-points
+batches_stated-requires-clause-points g c =
+    ap (λ ps. map (map (map coefficient_numbers)) (nested ps)) c.deref-3.ensures.value
+    ∙ c.in_ok-asked.ensures.points.numbers
+    ∙ ap (λ bs. map (λ batch. map (λ m. lists m.points.items) batch.matrices.items) bs) (sym c.deref-4.ensures.value)
 
-pub returns-in_err-stated-clause-refused : goal.returns-in_err-stated-clause-refused
-returns-in_err-stated-clause-refused c = request_wants c.from_residual-in_err-stated.result _ _ c.from_residual-in_err-stated.ensures.1
+pub returns-clause-keeps : goal.returns-clause-keeps
+returns-clause-keeps g c =
+    let s = c.commit_all.new.scheme in
+    all_keep (g.P.Pcs.rules s) (g.P.UnivariateStarkPcs.stark_rules s) g.P.UnivariateStarkPcs.ZK (λ d. d.shift)
+    (λ d. d.log_size) (g.met.P.Pcs.rules_law s) c.in_ok-committed.committed.items
+    c.in_ok-asked.asked.batches.all.items c.args.request.now.commitments.items c.in_ok-committed.ensures.committed
+    (subst (λ h. AllZip (Lists h (λ d. d.shift) (λ d. d.log_size)) c.in_ok-asked.asked.batches.all.items
+    c.args.request.now.commitments.items) c.ZK-hides.ensures c.in_ok-asked.ensures.read.listed)
 
--- where nothing is answered nothing is said of the answer
-pub returns-in_err-points-clause-prepared : goal.returns-in_err-points-clause-prepared
-returns-in_err-points-clause-prepared c = IfOk-from_err c.from_residual.result _ c.from_residual.ensures.0
+pub returns-clause-commitments : goal.returns-clause-commitments
+returns-clause-commitments g c =
+    c.in_ok-known.ensures.commitments ∙ ap (λ ks. map (λ k. k.commitment) ks) c.deref.ensures.value
 
-pub returns-in_err-all-clause-prepared : goal.returns-in_err-all-clause-prepared
-returns-in_err-all-clause-prepared c = IfOk-from_err c.from_residual-in_err-all.result _ c.from_residual-in_err-all.ensures.0
+pub returns-clause-domains : goal.returns-clause-domains
+returns-clause-domains g c =
+    c.in_ok-known.ensures.domains ∙ ap (λ ks. map (λ k. k.domains.items) ks) c.deref.ensures.value
 
-pub returns-in_err-stated-clause-prepared : goal.returns-in_err-stated-clause-prepared
-returns-in_err-stated-clause-prepared c = IfOk-from_err c.from_residual-in_err-stated.result _ c.from_residual-in_err-stated.ensures.0
+pub returns-clause-state : goal.returns-clause-state
+returns-clause-state g c =
+    let hides = g.P.UnivariateStarkPcs.ZK in
+    let request = c.args.request.now in
+    request_state hides _ c.in_ok-begun.begun request c.in_ok-asked.asked.context.items
+    (map opened_commitment c.in_ok-stated.stated.items) (map (λ k. k.commitment) c.in_ok-known.known.items) _
+    c.in_ok-challenger.challenger
+    (c.in_ok-challenger.ensures
+    ∙ ap₂ (λ bs ss. bound c.in_ok-begun.begun bs (parameters_in request.parameters) (map opened_commitment ss))
+    c.deref-5.ensures.value c.deref-6.ensures.value)
+    c.in_ok-begun.ensures c.in_ok-asked.ensures.context
+    (c.in_ok-stated.ensures
+    ∙ ap₂ (λ ks bs. zip_with (batch_asked c.ZK-hides.result) (map (λ k. k.commitment) ks) bs) c.deref-2.ensures.value
+    c.deref-4.ensures.value
+    ∙ ap (λ h. zip_with (batch_asked h) (map (λ k. k.commitment) c.in_ok-known.known.items) request.commitments.items)
+    c.ZK-hides.ensures)
+    (c.in_ok-known.ensures.commitments ∙ ap (λ ks. map (λ k. k.commitment) ks) c.deref.ensures.value)
 
-pub returns-in_err-challenger-clause-prepared : goal.returns-in_err-challenger-clause-prepared
-returns-in_err-challenger-clause-prepared c = IfOk-from_err c.from_residual-in_err-challenger.result _ c.from_residual-in_err-challenger.ensures.0
+pub returns-in_err-asked-clause-refused : goal.returns-in_err-asked-clause-refused
+returns-in_err-asked-clause-refused g c =
+    unread_part _ _ _ _ _ c.from_residual.ensures.1 c.in_err-asked.ensures.refused
+    (λ fails can. fails (subst (λ h. CanOpen h c.args.request.now) (sym c.ZK-hides.ensures) can))
+
+pub returns-clause-well_formed : goal.returns-clause-well_formed
+returns-clause-well_formed g c =
+    subst (λ h. CanOpen h c.args.request.now) c.ZK-hides.ensures c.in_ok-asked.ensures.well_formed
+
+pub returns-in_err-committed-clause-refused : goal.returns-in_err-committed-clause-refused
+returns-in_err-committed-clause-refused g c =
+    request_part _ _ _ _ _ _ c.from_residual-in_err-committed.ensures.1 c.in_err-committed.ensures.refused
+    (λ never. absurd never)
+    (λ e h. (
+      subst (λ h. CanOpen h c.args.request.now) c.ZK-hides.ensures c.in_ok-asked.ensures.well_formed,
+      refuses_batch g.P.Pcs.rules g.P.UnivariateStarkPcs.stark_rules g.P.MadeScheme.IsMemory e
+          g.P.UnivariateStarkPcs.ZK (λ d. d.shift) (λ d. d.log_size) c.args.request.now.commitments.items _
+          c.in_ok-asked.asked.batches.all.items
+          (subst (λ h. AllZip (Lists h (λ d. d.shift) (λ d. d.log_size)) c.in_ok-asked.asked.batches.all.items
+          c.args.request.now.commitments.items) c.ZK-hides.ensures c.in_ok-asked.ensures.read.listed) h,
+    ))

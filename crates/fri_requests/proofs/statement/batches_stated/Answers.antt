@@ -1,6 +1,5 @@
 use Rattle.std.proofs.Common.{◌<◌, ap, sym, ◌∙◌, ◌∷◌, [], map, arith, length}
 use Rattle.std.proofs.lemmas.List.{length-map, map-append}
-use Rattle.std.proofs.lemmas.Slice.Zip.{AllZip-long}
 use Rattle.std.proofs.lemmas.Result.{IfOk-from_err}
 use Rattle.algebra.specs.Nested.{lists}
 use Rattle.algebra.proofs.Lists.{map-map, entry_of_map}
@@ -8,22 +7,24 @@ use Rattle.p3_pcs.specs.Claims.{zip_with}
 use Rattle.fri_statement.specs.Numbers.{coefficient_numbers}
 use Rattle.fri_statement.specs.Stated.{opened_commitment}
 use Rattle.fri_requests.specs.Bound.{batch_asked}
-use Rattle.fri_requests.specs.Commitments.{Keeps, domain_of}
-use Rattle.fri_requests.proofs.Bound.{entries_alike, pair_at, zipped_more, zipped_all}
+use Rattle.fri_requests.specs.Committed.{domain_of, domain_committed}
+use Rattle.fri_requests.proofs.Bound.{entries_alike, same_length, zipped_more, zipped_all}
 use Rattle.fri_requests.proofs.statement.batches_stated.Goals as goal
 
-pub bounds-all-index : goal.bounds-all-index
-bounds-all-index c = omega (
+pub bounds-known-index : goal.bounds-known-index
+bounds-known-index c = omega (
   arith,
   c.loop-index-test.true,
-  AllZip-long (Keeps c.args.log_blowup) c.args.all.now c.args.batches.now c.requires.kept,
+  same_length _ _ c.args.known.now c.args.batches.now c.requires.domains,
 )
 
 pub matrices_asked-requires-clause-domains : goal.matrices_asked-requires-clause-domains
 matrices_asked-requires-clause-domains c =
     ap (λ ds. map (λ d. domain_of d.shift d.log_size) ds) c.deref.ensures.value
-    ∙ (pair_at (Keeps c.args.log_blowup) c.args.all.now c.args.batches.now c.loop-index.index c.index-all-index.result
-    c.index-batches-index.result c.requires.kept c.loop-index-test.true c.index-all-index.is c.index-batches-index.is).domains
+    ∙ entries_alike (λ k. map (λ d. domain_of d.shift d.log_size) k.domains.items)
+    (λ b. map (λ m. domain_committed c.args.hides m.domain) b.matrices.items) c.args.known.now c.args.batches.now
+    c.loop-index.index c.index-known-index.result c.index-batches-index.result c.requires.domains
+    c.loop-index-test.true c.index-known-index.is c.index-batches-index.is
 
 pub matrices_asked-requires-clause-points : goal.matrices_asked-requires-clause-points
 matrices_asked-requires-clause-points c =
@@ -35,29 +36,29 @@ matrices_asked-requires-clause-points c =
 
 pub loop-index-preserved : goal.loop-index-preserved
 loop-index-preserved c =
-    let all = c.args.all.now in
-    let committed = c.index-all-index.result in
+    let known = c.args.known.now in
+    let kept = c.index-known-index.result in
     let i = c.loop-index.index in
-    let within : i < length all = omega (
+    let within : i < length known = omega (
       arith,
       c.loop-index-test.true,
-      AllZip-long (Keeps c.args.log_blowup) all c.args.batches.now c.requires.kept,
+      same_length _ _ c.args.known.now c.args.batches.now c.requires.domains,
     ) in
-    zipped_more batch_asked (map opened_commitment c.loop-index.stated.items) (map opened_commitment c.push.new.self.items)
-    (zip_with batch_asked (map (λ k. k.commitment) all) c.args.batches.now)
-    (map (λ k. k.commitment) all) c.args.batches.now i committed.commitment c.index-batches-index.result _
-    (omega (arith, within, length-map all (λ k. k.commitment))) c.loop-index-test.true
-    (entry_of_map (λ k. k.commitment) all i committed within c.index-all-index.is) c.index-batches-index.is
+    zipped_more (batch_asked c.args.hides) (map opened_commitment c.loop-index.stated.items) (map opened_commitment c.push.new.self.items)
+    (zip_with (batch_asked c.args.hides) (map (λ k. k.commitment) known) c.args.batches.now)
+    (map (λ k. k.commitment) known) c.args.batches.now i kept.commitment c.index-batches-index.result _
+    (omega (arith, within, length-map known (λ k. k.commitment))) c.loop-index-test.true
+    (entry_of_map (λ k. k.commitment) known i kept within c.index-known-index.is) c.index-batches-index.is
     (ap (λ ss. map opened_commitment ss) c.in_ok-push.ensures.items ∙ map-append opened_commitment c.loop-index.stated.items (_ ∷ []))
-    (ap (λ ms. record { digest = committed.commitment; matrices = ms }) c.in_ok-matrices_asked.ensures)
+    (ap (λ ms. record { digest = kept.commitment; matrices = ms }) c.in_ok-matrices_asked.ensures)
     c.loop-index.invariant
 
 pub returns : goal.returns
 returns c =
-    zipped_all batch_asked (map opened_commitment c.loop-index.stated.items) _
-    (map (λ k. k.commitment) c.args.all.now) c.args.batches.now c.loop-index.index c.loop-index-test.false
-    (length-map c.args.all.now (λ k. k.commitment)
-    ∙ sym (AllZip-long (Keeps c.args.log_blowup) c.args.all.now c.args.batches.now c.requires.kept))
+    zipped_all (batch_asked c.args.hides) (map opened_commitment c.loop-index.stated.items) _
+    (map (λ k. k.commitment) c.args.known.now) c.args.batches.now c.loop-index.index c.loop-index-test.false
+    (length-map c.args.known.now (λ k. k.commitment)
+    ∙ same_length _ _ c.args.known.now c.args.batches.now c.requires.domains)
     c.loop-index.invariant
 
 -- where nothing is answered nothing is said of the answer

@@ -6,5 +6,5 @@ use Rattle.fri_requests.proofs.statement.batches_stated.Given as goal
 
 abbrev pub invariant-loop-index : goal.invariant-loop-index
 invariant-loop-index l = map opened_commitment l.stated.items
-    ++ zip_with batch_asked (drop l.index (map (λ c. c.commitment) l.all)) (drop l.index l.batches)
-    ≡ zip_with batch_asked (map (λ c. c.commitment) l.all) l.batches
+    ++ zip_with (batch_asked l.hides) (drop l.index (map (λ k. k.commitment) l.known)) (drop l.index l.batches)
+    ≡ zip_with (batch_asked l.hides) (map (λ k. k.commitment) l.known) l.batches

@@ -7,7 +7,7 @@ use Rattle.fri_statement.specs.Numbers.{coefficient_numbers}
 use Rattle.fri_statement.specs.Stated.{opened_matrix}
 use Rattle.fri_records.specs.declared.records.Domain.{Domain}
 use Rattle.fri_requests.specs.Bound.{matrix_asked}
-use Rattle.fri_requests.specs.Commitments.{domain_of}
+use Rattle.fri_requests.specs.Committed.{domain_of, domain_committed}
 use Rattle.fri_requests.proofs.Bound.{entries_alike}
 use Rattle.fri_requests.proofs.Kept.{same_more}
 use Rattle.fri_requests.proofs.statement.matrices_asked.Goals as goal
@@ -17,11 +17,11 @@ loop-index-preserved c =
     let m = c.matrix-item.result in
     let ms = c.deref-matrix-items.result.now in
     let i = c.loop-index.index in
-    same_more opened_matrix matrix_asked c.loop-index.all.items c.push.new.self.items ms i _ m
+    same_more opened_matrix (matrix_asked c.args.hides) c.loop-index.all.items c.push.new.self.items ms i _ m
     c.loop-index-test.true c.matrix-item.is c.in_ok-push.ensures.items
     (ap₂ (λ (x : Domain) zs. record { shift = x.shift; log_size = x.log_size; width = m.width; points = zs })
-    (entries_alike (λ d. domain_of d.shift d.log_size) (λ n. n.domain) c.args.domains.now ms i c.index-domains-index.result m
-    (c.requires.domains ∙ ap (λ ns. map (λ n. n.domain) ns) (sym c.deref-matrix-items.ensures.value))
+    (entries_alike (λ d. domain_of d.shift d.log_size) (λ n. domain_committed c.args.hides n.domain) c.args.domains.now ms i c.index-domains-index.result m
+    (c.requires.domains ∙ ap (λ ns. map (λ n. domain_committed c.args.hides n.domain) ns) (sym c.deref-matrix-items.ensures.value))
     c.loop-index-test.true c.index-domains-index.is c.matrix-item.is)
     (ap (λ zs. map coefficient_numbers zs) (c.in_ok-from_slice.ensures.items ∙ c.deref.ensures.value)
     ∙ entries_alike (λ v. map coefficient_numbers v.items) (λ n. lists n.points.items) c.args.points.now ms i c.index-points-index.result m
@@ -32,7 +32,7 @@ loop-index-preserved c =
 
 pub returns : goal.returns
 returns c = c.loop-index.invariant
-    ∙ ap (λ ms. map matrix_asked ms) (take_all c.loop-index.index c.deref-matrix-items.result.now c.loop-index-test.false ∙ c.deref-matrix-items.ensures.value)
+    ∙ ap (λ ms. map (matrix_asked c.args.hides) ms) (take_all c.loop-index.index c.deref-matrix-items.result.now c.loop-index-test.false ∙ c.deref-matrix-items.ensures.value)
 
 -- where nothing is answered nothing is said of the answer
 pub returns-in_err-all : goal.returns-in_err-all

@@ -1,8 +1,8 @@
 use Rattle.std.proofs.Common.{◌≡◌, map, take}
-use Rattle.fri_requests.proofs.opening.known_of.Given as goal
+use Rattle.fri_requests.proofs.prepared.known_of.Given as goal
 
 abbrev pub invariant-loop-committed : goal.invariant-loop-committed
-invariant-loop-committed l = record {
+invariant-loop-committed g l = record {
   commitments : map (λ k. k.commitment) l.known.items
       ≡ map (λ c. c.commitment) (take l.committed-index l.all);
   domains : map (λ k. k.domains.items) l.known.items

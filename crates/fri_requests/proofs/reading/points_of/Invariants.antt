@@ -1,0 +1,7 @@
+use Rattle.std.proofs.Common.{take}
+use Rattle.algebra.specs.Nested.{nested}
+use Rattle.fri_requests.specs.Prepared.{ArePoints}
+use Rattle.fri_requests.proofs.reading.points_of.Given as goal
+
+abbrev pub invariant-loop-index : goal.invariant-loop-index
+invariant-loop-index l = ArePoints (nested l.all.items) (take l.index l.batches)

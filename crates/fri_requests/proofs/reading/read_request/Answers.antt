@@ -1,0 +1,28 @@
+use Rattle.std.proofs.Common.{◌≢◌, [], refl, sym, subst}
+use Rattle.std.specs.Prelude.{IsOk}
+use Rattle.std.specs.List.{flat_map}
+use Rattle.algebra.specs.Nested.{nested}
+use Rattle.hex.specs.Hex.{decode_of}
+use Rattle.fri_requests.specs.Prepared.{ArePoints}
+use Rattle.fri_requests.specs.Requests.{AreBatches}
+use Rattle.fri_requests.proofs.Asked.{have_points}
+use Rattle.fri_requests.proofs.reading.read_request.Goals as goal
+
+pub returns-clause-well_formed : goal.returns-clause-well_formed
+returns-clause-well_formed c =
+    let r = c.args.request.now in
+    let batches = r.commitments.items in
+    let points = nested c.in_ok-points.points.items in
+    let listed = subst (λ bs. ArePoints points bs) c.deref.ensures.value c.in_ok-points.ensures.points in
+    record {
+      context = subst (λ t. IsOk (decode_of t)) c.deref-3.ensures
+          (subst (λ d. IsOk d) (sym c.in_ok-context.ensures.bytes) refl);
+      committed = record {
+        parameters = c.requires.provers;
+        batches = subst (λ bs. AreBatches c.args.hides r.parameters.log_blowup bs) c.deref-2.ensures.value
+            c.in_ok-batches.ensures.well_formed;
+      };
+      points = have_points points batches listed.numbers listed.some_points;
+      some_matrix = subst (λ bs. flat_map (λ b. b.matrices.items) bs ≢ []) c.deref-4.ensures.value
+          (c.have_matrix.ensures.0 c.if-not-have_matrix.false);
+    }

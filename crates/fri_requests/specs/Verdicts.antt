@@ -1,0 +1,88 @@
+-- Over any scheme that is made of parameters: which statements are accepted, and which commitments
+-- and openings come of a request.
+use Rattle.std.specs.Prelude.{◌≡◌, ℕ, Bool, List, Option, map}
+use Rattle.std.specs.List.{AllZip}
+use Rattle.p3_baby_bear.specs.declared.baby_bear.BabyBear.{BabyBear}
+use Rattle.p3_baby_bear.specs.declared.baby_bear4.BabyBear4.{BabyBear4}
+use Rattle.p3_challenger_sha256.specs.declared.sha256_challenger.Sha256Challenger.{Sha256Challenger}
+use Rattle.p3_pcs.specs.Claims.{Claim}
+use Rattle.p3_pcs.specs.Scheme.{Scheme}
+use Rattle.p3_stark_pcs.specs.Scheme.{StarkScheme}
+use Rattle.p3_fri_relation.specs.Setting as setting
+use Rattle.fri_records.specs.declared.records.Parameters.{Parameters}
+use Rattle.fri_records.specs.declared.records.Batch.{Batch}
+use Rattle.fri_records.specs.declared.records.BatchClaims.{BatchClaims}
+use Rattle.fri_records.specs.Records.{parameters_in}
+use Rattle.fri_statement.specs.Numbers.{coefficient_numbers}
+use Rattle.fri_statement.specs.Setting.{sha256_moves}
+use Rattle.fri_requests.specs.Bound.{state_bound}
+use Rattle.fri_requests.specs.Claims.{batch_numbers, batch_listed}
+use Rattle.fri_requests.specs.Committed.{IsCommittedTo}
+use Rattle.fri_requests.specs.Openings.{IsOpenedBy}
+use Rattle.fri_requests.specs.Statements.{IsStatement}
+
+-- a scheme is made of a record's parameters, of so many random columns and of this seed
+module _ {P : Type 0} (IsMade : setting.Parameters → ℕ → List ℕ → P → Type 0)
+    (parameters : Parameters) (num_random_codewords : ℕ) where
+  abbrev pub IsMadeWith : (seed : List ℕ) → P → Type 0
+  IsMadeWith seed scheme = IsMade (parameters_in parameters) num_random_codewords seed scheme
+
+  -- of some seed
+  abbrev pub IsMadeFor : P → Type 0
+  IsMadeFor scheme = (seed : List ℕ) × IsMadeWith seed scheme
+
+-- a scheme that comes of one that was made so, where what that one knew is kept
+pub record IsSchemeOf {P : Type 0} (IsMade : P → Type 0) (Keeps : P → P → Type 0) (scheme : P)
+    : Type 0 where
+  pub made : P
+  pub is_made : IsMade made
+  pub kept : Keeps made scheme
+
+module _ {P Dom D Proof Error ProverError : Type 0}
+    (rules : P → Scheme BabyBear4 Sha256Challenger BabyBear Dom (List ℕ) D Proof Error ProverError)
+    (shift_of : Dom → BabyBear) (log_size_of : Dom → ℕ) (IsScheme : P → Type 0) where
+  -- of a context, as a hex text, from the state in which the challenger begins, where the index
+  -- names the claims of preprocessing
+  module _ (begun : Sha256Challenger) (context : List ℕ) (parameters : Parameters)
+      (index : Option ℕ) (records : List BatchClaims) (proof : Proof) where
+    -- the state in which the challenger has absorbed the statement
+    abbrev pub begins : Sha256Challenger
+    begins = state_bound begun context parameters records
+
+    -- such a scheme, and the claims that the records list
+    pub record IsStated : Type 0 where
+      pub statement : IsStatement context parameters records
+      pub scheme : P
+      pub is_of : IsScheme scheme
+      pub claims : List (Claim BabyBear4 (List ℕ) Dom)
+      pub listed : map (batch_numbers shift_of log_size_of) claims ≡ map batch_listed records
+
+    -- the scheme accepts the claims by the proof, and this is drawn next
+    pub record IsAcceptedBy (next : List ℕ) : Type 0 where
+      pub stated : IsStated
+      pub holds : (rules stated.scheme).Accepts index begins stated.claims proof
+      pub drawn : next ≡ coefficient_numbers (sha256_moves.draw_element
+          ((rules stated.scheme).last_state index begins stated.claims proof)).value
+
+    -- it doesn't, and this is a fault that they have
+    pub record IsRefusedBy (e : Error) : Type 0 where
+      pub stated : IsStated
+      pub fails : ¬ (rules stated.scheme).Accepts index begins stated.claims proof
+      pub fault : (rules stated.scheme).IsTrueRefusal index stated.claims proof begins e
+
+  module _ (hides : Bool) (stark_rules : P → StarkScheme BabyBear4 BabyBear Dom D ProverError)
+      (batches : List Batch) where
+    -- the scheme's commitments to the batches
+    pub record AreCommitments (commitments : List (List ℕ)) : Type 0 where
+      pub scheme : P
+      pub is_of : IsScheme scheme
+      pub commit : AllZip (λ commitment batch. (datum : D) × IsCommittedTo (rules scheme)
+          (stark_rules scheme) hides shift_of log_size_of commitment datum batch)
+          commitments batches
+
+    -- the scheme's openings of the batches
+    pub record AreOpenings (records : List BatchClaims) : Type 0 where
+      pub scheme : P
+      pub is_of : IsScheme scheme
+      pub opened : AllZip (IsOpenedBy (rules scheme) (stark_rules scheme) hides shift_of
+          log_size_of) (map batch_listed records) batches

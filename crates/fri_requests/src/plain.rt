@@ -1,0 +1,86 @@
+//! The plain scheme over records: what the calls over any scheme say, in terms of the relation and
+//! of the listed polynomials.
+
+ghost use Rattle.std.specs.Prelude.{IfOk, IfErr, map, string_bytes, false};
+ghost use Rattle.std.specs.List.{AllZip};
+ghost use Rattle.p3_fri_relation.specs.Views.{proof_of};
+ghost use Rattle.fri_records.specs.Failures.{MatchRequestError, MatchVerifyError};
+ghost use Rattle.fri_requests.specs.Accepted.{IsAccepted, IsRefused};
+ghost use Rattle.fri_requests.specs.Claims.{batch_listed};
+ghost use Rattle.fri_requests.specs.Commitments.{IsCommitmentTo};
+ghost use Rattle.fri_requests.specs.Openings.{IsOpened};
+ghost use Rattle.fri_requests.specs.Requests.{CanCommit, CanOpen, IsRefusedRequest};
+ghost use Rattle.fri_requests.specs.Statements.{IsStatement};
+
+use crate::committed::commit as commit_by;
+use crate::masking::Masking;
+use crate::opening::{Opening, open as open_by};
+use crate::verification::verify as verify_by;
+use fri_records::{BatchClaims, Parameters, Request, RequestError, Rounds, VerifyError};
+use fri_schemes::{Inputs, PlainScheme};
+use p3_field::{BabyBear, BabyBear4};
+use p3_fri_folding::FriProverError;
+use p3_fri_relation::proof::{BatchMultiOpening, FriProof};
+use std::alloc::Global;
+
+/// The plain scheme's proof.
+pub type Proof = FriProof<BabyBear4, Rounds, BabyBear, Vec<BatchMultiOpening<BabyBear, Inputs>>>;
+
+/// Nothing is masked.
+const NOTHING: Masking = Masking {
+    num_random_codewords: 0,
+    seed: [0; 32],
+};
+
+/// The commitments of a request, each 32 bytes, in order. Its points aren't read.
+pub fn commit(
+    alloc: Global,
+    request: &Request,
+) -> Result<Vec<[u8; 32]>, RequestError<FriProverError>>
+    ensures committed { IfOk result (λ commitments.
+        AllZip (IsCommitmentTo request.now.parameters.log_blowup) commitments.items
+        request.now.commitments.items) }
+    ensures well_formed { IfOk result (λ _. CanCommit false request.now) }
+    // the scheme itself refuses for want of memory alone
+    ensures refused { IfErr result
+        (MatchRequestError (¬ CanCommit false request.now) (λ _. ⊥)) }
+{
+    commit_by::<PlainScheme>(alloc, request, NOTHING)
+}
+
+/// Commits to a request's matrices and opens them at its points, as `open` of any scheme does. The
+/// preprocessed batch is opened as the others.
+pub fn open(
+    alloc: Global,
+    request: &Request,
+) -> Result<Opening<Proof>, RequestError<FriProverError>>
+    ensures accepted { IfOk result (λ o. IsAccepted (string_bytes request.now.context)
+        request.now.parameters o.claims.items (proof_of o.proof) o.next_challenge.items) }
+    ensures opened { IfOk result (λ o. AllZip (IsOpened request.now.parameters.log_blowup)
+        (map batch_listed o.claims.items) request.now.commitments.items) }
+    ensures well_formed { IfOk result (λ _. CanOpen false request.now) }
+    // where it can't be opened, where the scheme refuses it
+    ensures refused { IfErr result (MatchRequestError (¬ CanOpen false request.now)
+        (IsRefusedRequest request.now)) }
+{
+    open_by::<PlainScheme>(alloc, request, NOTHING)
+}
+
+/// Verifies claims and their proof, as `verify` of any scheme does, and answers what the challenger
+/// draws next.
+pub fn verify(
+    alloc: Global,
+    context: &str,
+    parameters: &Parameters,
+    claims: &[BatchClaims],
+    proof: &Proof,
+) -> Result<Vec<u64>, VerifyError>
+    ensures accepted { IfOk result (λ next.
+        IsAccepted context.now parameters.now claims.now (proof_of proof.now) next.items) }
+    // where it isn't well formed, where it is refused
+    ensures refused { IfErr result (MatchVerifyError
+        (¬ IsStatement context.now parameters.now claims.now)
+        (IsRefused context.now parameters.now claims.now (proof_of proof.now))) }
+{
+    verify_by::<PlainScheme>(alloc, context, parameters, 0, None, claims, proof)
+}

@@ -1,0 +1,177 @@
+//! Requests, read whole before anything is committed to.
+
+ghost use Rattle.std.specs.Prelude.{◌≡◌, ◌≢◌, ◌≤◌, ◌↔◌, ℕ, [], All, IsTrue, IfOk, IfErr, map};
+ghost use Rattle.std.specs.Prelude.{Ok, Option, string_bytes};
+ghost use Rattle.std.specs.List.{AllZip, flat_map};
+ghost use Rattle.algebra.specs.Nested.{nested};
+ghost use Rattle.hex.specs.Hex.{decode_of};
+ghost use Rattle.fri_schemes.specs.Rows.{FitsRows};
+ghost use Rattle.fri_records.specs.Failures.{IfMalformed};
+ghost use Rattle.fri_records.specs.Records.{AreProvers};
+ghost use Rattle.fri_requests.specs.Committed.{Lists};
+ghost use Rattle.fri_requests.specs.Prepared.{AreRead, ArePoints};
+ghost use Rattle.fri_requests.specs.Preprocessing.{NamesPreprocessed};
+ghost use Rattle.fri_requests.specs.Requests.{IsMatrix, AllMatrices, HasPoints, AreBatches};
+ghost use Rattle.fri_requests.specs.Requests.{CanOpen};
+
+use crate::matrices::{batch_evaluations, batch_points};
+use crate::statement::context_of;
+use fri_records::{Batch, Fault, Misfit, Place, ReadError, Request};
+use fri_schemes::Coset;
+use p3_field::{BabyBear, BabyBear4};
+use p3_matrix::RowMajorMatrix;
+use std::alloc::Global;
+
+/// The matrices of a batch, on the domains on which they are committed to.
+#[derive(Drop)]
+pub(crate) struct ListedBatch<Domain> {
+    pub evaluations: Vec<(Domain, RowMajorMatrix<BabyBear>)>,
+    pub preprocessed: bool,
+}
+
+/// The batches of a request.
+#[derive(Drop)]
+pub(crate) struct Batches {
+    pub all: Vec<ListedBatch<Coset>>,
+    /// The place of the preprocessed batch, if there is one.
+    pub preprocessing: Option<usize>,
+}
+
+/// What is to be opened of a request.
+#[derive(Drop)]
+pub(crate) struct Asked {
+    pub batches: Batches,
+    /// Those of each matrix of each batch.
+    pub points: Vec<Vec<Vec<BabyBear4>>>,
+    /// The context's bytes.
+    pub context: Vec<u8>,
+}
+
+/// The place of a batch.
+fn place_of(index: usize) -> Place {
+    Place {
+        commitment: Some(index),
+        ..Place::NONE
+    }
+}
+
+/// The place of the preprocessed batch, if there is one, and no other is.
+fn preprocessing_of(batches: &[Batch]) -> Result<Option<usize>, Misfit>
+    ensures named { IfOk result (λ index. NamesPreprocessed index batches.now) }
+    ensures refused { IfErr result (λ _.
+        ¬ ((index : Option ℕ) × NamesPreprocessed index batches.now)) }
+{
+    let mut found = None;
+    for (index, batch) in batches.iter().enumerate() {
+        if batch.preprocessed {
+            if found.is_some() {
+                return Err(place_of(index).lacks(Fault::Preprocessed));
+            }
+            found = Some(index);
+        }
+    }
+    Ok(found)
+}
+
+/// The matrices of each batch.
+fn listed_batches(
+    alloc: Global,
+    batches: &[Batch],
+    log_blowup: usize,
+    hides: bool,
+) -> Result<Vec<ListedBatch<Coset>>, ReadError>
+    requires blowup { log_blowup ≤ 27 }
+    ensures listed { IfOk result (λ all.
+        AllZip (Lists hides (λ d. d.shift) (λ d. d.log_size)) all.items batches.now) }
+    ensures fit { IfOk result (λ all. All (λ b. All
+        (λ e. FitsRows hides log_blowup e.0.log_size e.1) b.evaluations.items) all.items) }
+    ensures well_formed { IfOk result (λ _.
+        AllMatrices (IsMatrix hides log_blowup) batches.now) }
+    ensures refused { IfErr result (IfMalformed
+        (¬ AllMatrices (IsMatrix hides log_blowup) batches.now)) }
+{
+    let mut all = Vec::with_capacity(alloc, batches.len())?;
+    for (index, batch) in batches.iter().enumerate() {
+        let place = place_of(index);
+        all.push(ListedBatch {
+            evaluations: batch_evaluations(alloc, batch, log_blowup, hides, place)?,
+            preprocessed: batch.preprocessed,
+        })?;
+    }
+    Ok(all)
+}
+
+/// What batches list.
+pub(crate) fn read_batches(
+    alloc: Global,
+    batches: &[Batch],
+    log_blowup: usize,
+    hides: bool,
+) -> Result<Batches, ReadError>
+    requires blowup { log_blowup ≤ 27 }
+    ensures read { IfOk result (λ b. AreRead hides (λ d. d.shift) (λ d. d.log_size) log_blowup
+        batches.now b.preprocessing b.all.items) }
+    ensures well_formed { IfOk result (λ _. AreBatches hides log_blowup batches.now) }
+    ensures refused { IfErr result (IfMalformed (¬ AreBatches hides log_blowup batches.now)) }
+{
+    let preprocessing = preprocessing_of(batches)?;
+    Ok(Batches {
+        all: listed_batches(alloc, batches, log_blowup, hides)?,
+        preprocessing,
+    })
+}
+
+/// The points of each matrix of each batch.
+fn points_of(alloc: Global, batches: &[Batch]) -> Result<Vec<Vec<Vec<BabyBear4>>>, ReadError>
+    ensures points { IfOk result (λ all. ArePoints (nested all.items) batches.now) }
+    ensures refused { IfErr result (IfMalformed (¬ AllMatrices HasPoints batches.now)) }
+{
+    let mut all = Vec::with_capacity(alloc, batches.len())?;
+    for (index, batch) in batches.iter().enumerate() {
+        all.push(batch_points(alloc, batch, place_of(index))?)?;
+    }
+    Ok(all)
+}
+
+/// Whether some batch has a matrix.
+fn have_matrix(batches: &[Batch]) -> bool
+    ensures { IsTrue result ↔ (flat_map (λ b. b.matrices.items) batches.now ≢ []) }
+{
+    for batch in batches {
+        if !batch.matrices.is_empty() {
+            return true;
+        }
+    }
+    false
+}
+
+/// What is to be opened of a request of a prover's parameters.
+pub(crate) fn read_request(
+    alloc: Global,
+    request: &Request,
+    hides: bool,
+) -> Result<Asked, ReadError>
+    requires provers { AreProvers request.now.parameters }
+    ensures read { IfOk result (λ a. AreRead hides (λ d. d.shift) (λ d. d.log_size)
+        request.now.parameters.log_blowup request.now.commitments.items a.batches.preprocessing
+        a.batches.all.items) }
+    ensures points { IfOk result (λ a.
+        ArePoints (nested a.points.items) request.now.commitments.items) }
+    ensures context { IfOk result (λ a.
+        decode_of (string_bytes request.now.context) ≡ Ok a.context.items) }
+    ensures well_formed { IfOk result (λ _. CanOpen hides request.now) }
+    ensures refused { IfErr result (IfMalformed (¬ CanOpen hides request.now)) }
+{
+    let points = points_of(alloc, &request.commitments)?;
+    let log_blowup = request.parameters.log_blowup;
+    let batches = read_batches(alloc, &request.commitments, log_blowup, hides)?;
+    let context = context_of(alloc, &request.context)?;
+    if !have_matrix(&request.commitments) {
+        return Err(Place::NONE.lacks(Fault::Matrices).into());
+    }
+    Ok(Asked {
+        batches,
+        points,
+        context,
+    })
+}
