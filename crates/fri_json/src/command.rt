@@ -1,8 +1,8 @@
 //! The commands of the program `fri`, each over one text.
 
-use crate::answer::open_request;
 use crate::difference::first_difference;
 use crate::expected::Expected;
+use crate::opening::open_request;
 use crate::records::Accepted;
 use crate::request::{commit_request, request_of};
 use crate::statement::accept;

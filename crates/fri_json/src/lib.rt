@@ -1,24 +1,24 @@
 //! Requests, answers and statements as JSON texts, of the plain scheme and of the one that hides.
 #![tactic(auto)]
 
-mod answer;
 mod command;
 mod difference;
 mod expected;
 mod fault;
 mod field;
+mod opening;
 mod records;
 mod request;
 mod statement;
 mod summary;
 
-use crate::answer::open_request;
 pub use crate::command::{Command, WRITE_FAILED, answer, read_expected};
 pub use crate::difference::{Difference, Part};
 pub use crate::expected::Expected;
 use crate::expected::test_expected;
 pub use crate::fault::JsonFault;
 use crate::fault::read;
+use crate::opening::open_request;
 use crate::records::Accepted;
 use crate::request::{commit_request, request_of};
 use crate::statement::accept;
