@@ -11,7 +11,7 @@ use alterations::report_on;
 use anyhow::Result;
 
 /// The STARKs, each in a file of its own.
-static STARKS: [&str; 15] = [
+const STARKS: [&str; 15] = [
     "bits",
     "one_row",
     "no_constraints",

@@ -41,10 +41,10 @@ fn verify_claims<P: MadeScheme>(
 /// Verifies claims and their proof, and answers what the challenger draws next: of what `open`
 /// answers its `next_challenge`. The challenger begins with the whole statement: by what the scheme
 /// hides, if it does, the context, a hex text, the parameters, and the commitments, domains, widths
-/// and points of the claims. So what is accepted was proved for just these, and only a verifier that
-/// has fixed them itself, or compares them with what it expects, knows what it accepts. The index
-/// names the commitment to preprocessed matrices, if there is one; a plain scheme reads neither it
-/// nor the number of random columns.
+/// and points of the claims. So what is accepted was proved for just these, and only a verifier
+/// that has fixed them itself, or compares them with what it expects, knows what it accepts. The
+/// index names the commitment to preprocessed matrices, if there is one; a plain scheme reads
+/// neither it nor the number of random columns.
 pub fn verify<P: MadeScheme>(
     alloc: Global,
     context: &str,

@@ -1,8 +1,8 @@
 //! What both sides absorb before an opening begins: a whole statement, which is a context, the
 //! parameters, and of each commitment its digest and the domains, widths and points of its
 //! matrices. A scheme's own calls absorb claimed values alone, so from a fresh challenger they bind
-//! no commitment; after this they bind all of it. Here too: what is absorbed before a statement of a
-//! scheme that hides, and the challenge after a context, for callers who draw challenges of their
+//! no commitment; after this they bind all of it. Here too: what is absorbed before a statement of
+//! a scheme that hides, and the challenge after a context, for callers who draw challenges of their
 //! own before they open.
 #![tactic(auto)]
 
