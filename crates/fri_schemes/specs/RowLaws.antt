@@ -47,7 +47,8 @@ module _ {Dom : Type 0} (log_size : Dom → ℕ) (b c : ℕ) (same : b ≡ c)
 
 -- what the plain scheme commits to of a matrix has its columns
 pub plain_columns : {F E : Type 0} (f : Fields F E) (shift : F) (k : ℕ) (values : RowMajorMatrix F)
-    (m : Held E) → Extends f shift k values m → (z : E) → length (m.values_at z) ≡ matrix_width values
+    (m : Held E) → Extends f shift k values m → (z : E)
+    → length (m.values_at z) ≡ matrix_width values
 plain_columns f shift k values m h z =
     ap length (h.polynomials.values z) ∙ length-map (tabulate (matrix_width values) _) _
     ∙ length-tabulate (matrix_width values) _

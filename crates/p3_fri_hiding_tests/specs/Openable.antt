@@ -3,7 +3,9 @@ use Rattle.std.specs.Prelude.{◌≡◌, ◌<◌, ◌≤◌, ℕ, List, length, 
 use Rattle.p3_matrix.specs.declared.dense.RowMajorMatrix.{RowMajorMatrix}
 use Rattle.p3_matrix.specs.Matrix.{matrix_width}
 use Rattle.p3_fri_openings.specs.Rounds.{HasCoset}
-use Rattle.p3_fri_hiding_openings.specs.declared.data.HidingFriPcsProverData.{HidingFriPcsProverData}
+use Rattle.p3_fri_hiding_openings.specs.declared.data.HidingFriPcsProverData.{
+  HidingFriPcsProverData,
+}
 
 -- data of so many random codewords and a blowup of 4, whose matrices stand on cosets
 pub record IsHeld {T F : Type 0} (codewords : ℕ) (d : HidingFriPcsProverData T)
