@@ -65,19 +65,24 @@ pub trait MadeScheme: TwoAdicStarkPcs<
     fn is_out_of_memory(error: &Self::ProverError) -> bool
         ensures { IsTrue result ↔ IsMemory error.now };
 
+    // it verifies where these parameters are a verifier's
     ghost verifier_law: { (p : TestParameters) (n : ℕ) (seed : List ℕ) (s : Self)
         → IsMade p n seed s → InVerifierRange p 27 63 → (Self.rules s).InVerifierRange };
 
+    // it opens where they are a prover's
     ghost prover_law: { (p : TestParameters) (n : ℕ) (seed : List ℕ) (s : Self)
         → IsMade p n seed s → InProverRange p 27 63 → (Self.rules s).InProverRange };
 
+    // it has their blowup
     ghost blowup_law: { (p : TestParameters) (n : ℕ) (seed : List ℕ) (s : Self)
         → IsMade p n seed s → Self.log_blowup s ≡ p.log_blowup };
 
+    // it commits to rows that have room
     ghost commit_law: { (p : TestParameters) (n : ℕ) (seed : List ℕ) (s : Self)
         → IsMade p n seed s
         → CommitsRows (Self.rules s) (λ d. d.log_size) Self.ZK p.log_blowup };
 
+    // what it commits to has the columns of the rows
     ghost columns_law: { (s : Self) → KeepsColumns (Self.rules s) };
 
     // what is accepted over a prover's parameters is in the verifier's range
