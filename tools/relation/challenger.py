@@ -18,21 +18,25 @@ class Challenger:
         self.state = sha256(self.state + b"\x00" + message).digest()
 
     def observe_number(self, number):
-        """A base field element: its four bytes, the lowest first."""
-        self.observe_bytes(number.to_bytes(4, "little"))
+        """A base field element: its bytes, the lowest first."""
+        self.observe_bytes(field.bytes_of(number))
 
     def observe_element(self, element):
         """An element of the extension: its coefficients one by one."""
         for coefficient in element:
             self.observe_number(coefficient)
 
-    def draw(self):
-        """One draw: a number of 64 bits."""
+    def draw(self, width=8):
+        """One draw: a number of so many bytes."""
         self.state = sha256(self.state + b"\x01").digest()
-        return int.from_bytes(self.state[:8], "little")
+        return int.from_bytes(self.state[:width], "little")
+
+    def draw_number(self):
+        """A base field element: a number of twice as many bytes as it has, modulo the order."""
+        return self.draw(2 * field.NUMBER_BYTES) % field.ORDER
 
     def draw_element(self):
-        return tuple(self.draw() % field.ORDER for _ in range(field.DEGREE))
+        return tuple(self.draw_number() for _ in range(field.DEGREE))
 
     def draw_bits(self, width):
         return self.draw() & ((1 << width) - 1)

@@ -24,19 +24,19 @@ from relation import Hiding
 GREATEST_DIFFICULTY = 63
 
 EXPECTED = {
-    "LogBlowup": "log_blowup from 1 to 27",
+    "LogBlowup": "log_blowup from 1 to {two_adicity}",
     "LogFinalPolyLen": "log_blowup and log_final_poly_len below 64 together",
     "MaxLogArity": "max_log_arity above 0",
     "NumQueries": "num_queries above 0",
     "ProofOfWorkBits": "proofs of work of at most 63 bits",
     "Matrices": "some matrix",
-    "LogSize": "a log_size up to 27, with log_blowup where it is committed to",
-    "Shift": "a shift from 1 to 2013265920",
+    "LogSize": "a log_size up to {two_adicity}, with log_blowup where it is committed to",
+    "Shift": "a shift from 1 to {greatest}",
     "Width": "a width above 0",
     "Values": "as many values as the domain has points, times the width",
     "Points": "some point",
-    "Element": "a number below 2013265921",
-    "ExtensionElement": "four numbers below 2013265921",
+    "Element": "a number below {order}",
+    "ExtensionElement": "{degree} numbers below {order}",
     "Commitment": "64 hex digits",
     "Digest": "digests of 32 bytes",
     "Context": "an even number of hex digits",
@@ -53,10 +53,17 @@ class Malformed(Exception):
     """A text that isn't of the form."""
 
 
+def expected(name):
+    """What stands in the place of a fault, over the field."""
+    return EXPECTED[name].format(
+        order=field.ORDER, greatest=field.ORDER - 1, two_adicity=field.TWO_ADICITY,
+        degree={2: "two", 4: "four"}[field.DEGREE])
+
+
 def fault(name, *place):
     """The fault at this place, each level of which is a text such as `commitment 0`."""
     return Malformed(f"{name}: " + "".join(f"{level}, " for level in place)
-                     + f"expected {EXPECTED[name]}")
+                     + f"expected {expected(name)}")
 
 
 def demand(condition, name, *place):
@@ -127,6 +134,11 @@ def flag(plain):
     return plain
 
 
+def field_name(plain):
+    shape(text_value(plain) in field.FIELDS)
+    return plain
+
+
 def optional(entry):
     """The same of what there may be."""
     return lambda plain: None if plain is None else entry(plain)
@@ -168,7 +180,8 @@ PROOF = record(
 HIDING_PROOF = record(random_values=listed(listed(listed(listed(NUMBERS)))), proof=PROOF)
 
 REQUEST = record(
-    {"context": "", "hiding": None},
+    {"field": "BabyBear", "context": "", "hiding": None},
+    field=field_name,
     context=text_value,
     parameters=PARAMETERS,
     hiding=optional(record(num_random_codewords=count, seed=text_value)),
@@ -178,6 +191,7 @@ REQUEST = record(
 
 # a statement's fields but its proof, which is read by the scheme
 HEAD = {
+    "field": field_name,
     "context": text_value,
     "parameters": PARAMETERS,
     "hiding": optional(record({"preprocessing": None}, num_random_codewords=count,
@@ -188,7 +202,7 @@ HEAD = {
 
 
 def statement_shape(hides):
-    return record({"context": "", "hiding": None}, **HEAD, proof=HIDING_PROOF if hides else PROOF)
+    return record({"field": "BabyBear", "context": "", "hiding": None}, **HEAD, proof=HIDING_PROOF if hides else PROOF)
 
 
 # Their records
@@ -300,6 +314,7 @@ def hiding_proof(plain, hiding):
 def statement_from(text):
     value = json_value(text)
     plain = statement_shape(hides(value))(value)
+    field.use(plain["field"])
     context = hex_bytes(plain["context"], "Context")
     proof, hiding = hiding_proof(plain["proof"], plain["hiding"])
     parameters = Parameters(**plain["parameters"])
@@ -331,6 +346,7 @@ def requested_matrix(plain, most, *place):
 
 def request_from(text):
     plain = REQUEST(json_value(text))
+    field.use(plain["field"])
     context = hex_bytes(plain["context"], "Context")
     parameters = Parameters(**plain["parameters"])
     demand(1 <= parameters.log_blowup <= field.TWO_ADICITY, "LogBlowup")
@@ -377,7 +393,8 @@ def plain_random_values(random_values):
 
 
 def plain_statement(statement):
-    head = {"context": statement.context.hex(), "parameters": vars(statement.parameters)}
+    over = {} if field.NAME == "BabyBear" else {"field": field.NAME}
+    head = over | {"context": statement.context.hex(), "parameters": vars(statement.parameters)}
     claims, proof = plain_claims(statement.claims), plain_from_proof(statement.proof)
     hiding = statement.hiding
     if hiding is None:

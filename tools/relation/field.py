@@ -1,22 +1,53 @@
-"""BabyBear and its extension of degree 4, polynomials, and points in bit-reversed order.
+"""A prime field and its extension, polynomials, and points in bit-reversed order.
 
-An element of BabyBear is a number from 0 to `ORDER - 1`; one of the extension is a tuple of four
-such numbers, the coefficients of a polynomial modulo `X^4 - 11`, the constant first.
+An element of the field is a number from 0 to `ORDER - 1`; one of the extension is a tuple of `DEGREE`
+such numbers, the coefficients of a polynomial modulo `X^DEGREE - NON_RESIDUE`, the constant first. The
+field is BabyBear until `use` names another.
 """
 
-ORDER = 2013265921
-TWO_ADICITY = 27
-GENERATOR = 31
-DEGREE = 4
-NON_RESIDUE = 11
+from dataclasses import dataclass
 
-ZERO = (0, 0, 0, 0)
-ONE = (1, 0, 0, 0)
+
+@dataclass(frozen=True)
+class Field:
+    """A prime field, and its extension by a root of `X^degree - non_residue`."""
+
+    order: int
+    two_adicity: int
+    generator: int
+    degree: int
+    non_residue: int
+
+
+FIELDS = {
+    "BabyBear": Field(15 * 2**27 + 1, 27, 31, 4, 11),
+    "KoalaBear": Field(127 * 2**24 + 1, 24, 3, 4, 3),
+    "Goldilocks": Field(2**64 - 2**32 + 1, 32, 7, 2, 7),
+}
+
+
+def use(name):
+    """Makes the field of this name the one that all else here is about."""
+    global NAME, ORDER, TWO_ADICITY, GENERATOR, DEGREE, NON_RESIDUE, NUMBER_BYTES, ZERO, ONE
+    one = FIELDS[name]
+    NAME, ORDER, TWO_ADICITY, GENERATOR = name, one.order, one.two_adicity, one.generator
+    DEGREE, NON_RESIDUE = one.degree, one.non_residue
+    NUMBER_BYTES = 4 if ORDER <= 2**32 else 8
+    ZERO = (0,) * DEGREE
+    ONE = (1,) + (0,) * (DEGREE - 1)
+
+
+use("BabyBear")
+
+
+def bytes_of(number):
+    """The bytes of an element of the base field, the lowest first."""
+    return number.to_bytes(NUMBER_BYTES, "little")
 
 
 def lift(number):
     """A number of the base field as an element of the extension."""
-    return (number % ORDER, 0, 0, 0)
+    return (number % ORDER,) + ZERO[1:]
 
 
 def inverse(number):
@@ -28,7 +59,7 @@ def inverse(number):
 
 def root(log_order):
     """The root of unity `w_k` of order `2^k`, for `k` up to the two-adicity."""
-    return pow(GENERATOR, 15 << (TWO_ADICITY - log_order), ORDER)
+    return pow(GENERATOR, ORDER - 1 >> log_order, ORDER)
 
 
 def reverse_bits(index, width):
@@ -64,14 +95,12 @@ def scale(element, number):
 
 
 def multiply(left, right):
-    a, b, c, d = left
-    w, x, y, z = right
-    return (
-        (a * w + NON_RESIDUE * (b * z + c * y + d * x)) % ORDER,
-        (a * x + b * w + NON_RESIDUE * (c * z + d * y)) % ORDER,
-        (a * y + b * x + c * w + NON_RESIDUE * d * z) % ORDER,
-        (a * z + b * y + c * x + d * w) % ORDER,
-    )
+    answer = [0] * DEGREE
+    for i, a in enumerate(left):
+        for j, b in enumerate(right):
+            wrapped = NON_RESIDUE if i + j >= DEGREE else 1
+            answer[(i + j) % DEGREE] += a * b * wrapped
+    return tuple(number % ORDER for number in answer)
 
 
 def power(element, exponent):
@@ -87,13 +116,15 @@ def power(element, exponent):
 def invert(element):
     """The inverse of an element of the extension other than zero.
 
-    An element times its conjugate (`-X` for `X`) is `n + m X^2`, and that times `n - m X^2` is in
-    the base field.
+    An element times its conjugate (`-X` for `X`) is one in even powers of `X`: of degree 2 in the
+    base field, and of degree 4 `n + m X^2`, which times `n - m X^2` is in the base field.
     """
     conjugate = tuple(-a if i % 2 else a for i, a in enumerate(element))
-    n, _, m, _ = multiply(element, conjugate)
-    norm = (n * n - NON_RESIDUE * m * m) % ORDER
-    return scale(multiply(conjugate, (n, 0, -m, 0)), inverse(norm))
+    even = multiply(element, conjugate)
+    if DEGREE == 4:
+        turned = (even[0], 0, -even[2], 0)
+        conjugate, even = multiply(conjugate, turned), multiply(even, turned)
+    return scale(conjugate, inverse(even[0]))
 
 
 def value(coefficients, point):

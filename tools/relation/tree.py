@@ -2,15 +2,17 @@
 
 from hashlib import sha256
 
+import field
+
 EMPTY_ROOT = sha256(b"\x00").digest()
 
 
 def base_bytes(number):
-    return number.to_bytes(4, "little")
+    return field.bytes_of(number)
 
 
 def extension_bytes(element):
-    return b"".join(base_bytes(coefficient) for coefficient in element)
+    return b"".join(map(field.bytes_of, element))
 
 
 def leaf(rows, bytes_of):
