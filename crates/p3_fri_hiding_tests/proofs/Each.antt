@@ -1,8 +1,8 @@
--- What holds of each element of a list, found by going through it.
+-- What holds of each element of a list.
 use Rattle.std.proofs.Common.{◌≡◌, ◌≤◌, ◌<◌, ◌+◌, ℕ, List, [], ◌∷◌, ◌++◌, length, take, get_or, All}
 use Rattle.std.proofs.Common.{sym, subst}
 use Rattle.std.proofs.lemmas.List.{take_all}
-use Rattle.std.proofs.lemmas.List.Elements.{All-more, All-push}
+use Rattle.std.proofs.lemmas.List.Elements.{All-more, All-push, All-cons, All-nil}
 
 module _ {X : Type 0} (P : X → Type 0) where
   pub one_more : (xs : List X) (i : ℕ) (x : X) → i < length xs → x ≡ get_or xs i x
@@ -15,3 +15,6 @@ module _ {X : Type 0} (P : X → Type 0) where
   pub pushed : (xs ys : List X) (x : X) → ys ≡ xs ++ x ∷ [] → All P xs → P x → All P ys
   pushed xs ys x is before here =
       subst (λ zs. All P zs) (sym is) (All-push P xs x before here)
+
+  pub single : (x : X) → P x → All P (x ∷ [])
+  single x here = All-cons P x [] here (All-nil P)

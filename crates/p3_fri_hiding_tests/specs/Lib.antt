@@ -1,4 +1,6 @@
 pub mod Batches
+pub mod Commits
+pub mod FitLaws
 pub mod Fits
 pub mod OfSetting
 pub mod Openable

@@ -5,6 +5,7 @@ use crate::openings::cases::{Asked, are_met};
 use crate::openings::headline::is_column_accepted;
 use crate::openings::requests::Batches;
 use crate::openings::stark::are_stark_columns_opened;
+use crate::periodic::has_entries;
 use crate::scheme::Setting;
 use crate::schemes::Scheme;
 use crate::tested::Tested;
@@ -27,6 +28,8 @@ pub(crate) enum Question<'a> {
     AreBothAccepted,
     /// Whether the columns of a STARK are opened, beside random polynomials.
     AreStarkColumnsOpened,
+    /// Whether a periodic column has a table.
+    HasPeriodicTable,
 }
 
 /// What a scheme answers.
@@ -38,6 +41,7 @@ fn answer_of<P: Tested>(rt: &impl Abort, alloc: Global, question: Question<'_>) 
         Question::IsColumnAccepted => is_column_accepted::<P>(rt, alloc),
         Question::AreBothAccepted => are_both_accepted::<P>(rt, alloc),
         Question::AreStarkColumnsOpened => are_stark_columns_opened::<P>(rt, alloc),
+        Question::HasPeriodicTable => has_entries::<P>(rt, alloc),
     }
 }
 

@@ -2,10 +2,10 @@
 
 ghost use Rattle.std.specs.Prelude.{length};
 
-use crate::committable::domains_of;
+use crate::committable::{chunks, domains_of, words};
 use crate::kind::Kind;
 use crate::matrices::{Entries, coset, evaluations};
-use crate::scheme::{Domain, Evaluations};
+use crate::scheme::{Domain, Evaluations, Setting};
 use crate::tested::Tested;
 use p3_fri_masks::HidingFriProverError;
 use std::alloc::Global;
@@ -34,37 +34,39 @@ fn commit_chunks<P: Tested>(
     }
 }
 
-/// Commits so to the matrices of these entries: those of a trace, and those on whose domains random
-/// polynomials are, stand beside domains of twice as many points.
+/// Commits so to the matrices of these entries, by a scheme of that setting: those of a trace, and
+/// those on whose domains random polynomials are, stand beside domains of twice as many points.
 pub(crate) fn commit_to<P: Tested>(
     rt: &impl Abort,
     scheme: &mut P,
     alloc: Global,
+    setting: Setting,
     kind: Kind,
     each: &[Entries],
 ) -> Commitment<P::ProverData>
+    requires { P.IsOf setting scheme.old }
     ensures { P.Keeps scheme.old scheme.new }
 {
-    let log_factor = if kind == Kind::Ldes || kind == Kind::Chunks {
-        0
-    } else {
-        1
-    };
-    let evaluations = evaluations(rt, alloc, each, log_factor);
-    assert!(rt;
-        scheme.can_commit(rt, alloc, kind, &evaluations),
-        "this can't be committed to"
-    );
     match kind {
-        Kind::Private => scheme.commit(alloc, evaluations),
-        Kind::Preprocessed => scheme.commit_preprocessing(alloc, evaluations),
+        Kind::Private => {
+            let private = evaluations(rt, alloc, each, 2);
+            scheme.commit(alloc, private)
+        },
+        Kind::Preprocessed => {
+            let public = evaluations(rt, alloc, each, 2);
+            scheme.commit_preprocessing(alloc, public)
+        },
         Kind::Ldes => {
-            let words = scheme.words(rt, alloc, evaluations);
+            let words = words(rt, alloc, each);
             scheme.commit_ldes(alloc, words)
         },
-        Kind::Chunks => commit_chunks(rt, scheme, alloc, evaluations),
+        Kind::Chunks => {
+            let chunks = chunks(rt, alloc, each);
+            commit_chunks(rt, scheme, alloc, chunks)
+        },
         Kind::Random => {
-            let domains = domains_of(rt, alloc, &evaluations);
+            let columns = evaluations(rt, alloc, each, 2);
+            let domains = domains_of(rt, alloc, &columns);
             match scheme.get_opt_randomization_poly_commitment(alloc, domains) {
                 Ok(Some(committed)) => Ok(committed),
                 Ok(None) => panic!(rt; "the scheme doesn't hide"),

@@ -1,6 +1,6 @@
 //! What the schemes of a blowup of 4 commit to.
 
-ghost use Rattle.std.specs.Prelude.{◌≡◌, ◌≤◌, ◌*◌, ◌^◌, All, IsTrue, length, map};
+ghost use Rattle.std.specs.Prelude.{◌≡◌, ◌*◌, ◌^◌, All, IsTrue, length, map};
 ghost use Rattle.p3_matrix.specs.Matrix.{matrix_width};
 ghost use Rattle.p3_fri_extensions.specs.Extension.{FitsDomain};
 ghost use Rattle.p3_fri_two_adic.specs.Ldes.{HasLdeHeight};
@@ -8,36 +8,13 @@ ghost use Rattle.p3_fri_hiding.specs.Quotients.{CanExtend};
 ghost use Rattle.p3_fri_hiding.specs.Trace.{FitsMasked};
 ghost use Rattle.p3_fri_hiding_tests.specs.Fits.{Fits};
 
-use crate::matrices::{Entries, coset, evaluations};
+use crate::matrices::{Entries, coset, evaluation, evaluations};
 use crate::scheme::{Domain, Evaluations};
 use p3_field::{BabyBear, Field};
 use p3_fri_masks::are_disjoint;
 use p3_matrix::RowMajorMatrix;
 use std::alloc::Global;
 use std::process::Abort;
-
-/// Whether the domain has so many times as many points as the matrix has rows, and is small.
-fn is_fit(domain: Domain, matrix: &RowMajorMatrix<BabyBear>, factor: usize) -> bool
-    ensures { IsTrue result → Fits factor domain.log_size matrix.now }
-{
-    let (height, log_size) = (matrix.height(), domain.log_size());
-    if log_size < 2 || log_size > 8 || height > 256 || factor > 2 {
-        return false;
-    }
-    factor * height == domain.size()
-}
-
-/// Whether that holds of each matrix and the domain beside it.
-pub(crate) fn are_fit(evaluations: &[(Domain, RowMajorMatrix<BabyBear>)], factor: usize) -> bool
-    ensures { IsTrue result → All (λ e. Fits factor e.0.log_size e.1) evaluations.now }
-{
-    for evaluation in evaluations {
-        if !is_fit(evaluation.0, &evaluation.1, factor) {
-            return false;
-        }
-    }
-    true
-}
 
 /// Whether each matrix has so many columns.
 fn are_as_wide(evaluations: &[(Domain, RowMajorMatrix<BabyBear>)], width: usize) -> bool
@@ -66,38 +43,36 @@ pub(crate) fn domains_of(
     domains
 }
 
-/// The matrices as words with a blowup of 4.
-pub(crate) fn words_of(
+/// The matrices of these entries as words with a blowup of 4.
+pub(crate) fn words(
     rt: &impl Abort,
     alloc: Global,
-    evaluations: Evaluations,
+    each: &[Entries],
 ) -> Vec<RowMajorMatrix<BabyBear>>
     ensures { All (HasLdeHeight 27 2) result.items }
 {
-    let mut words = Vec::with_capacity(alloc, evaluations.len()).expect(rt, "memory");
-    for evaluation in evaluations {
-        if !is_fit(evaluation.0, &evaluation.1, 1) {
-            panic!(rt; "not on its domain");
-        }
-        words.push(evaluation.1).expect(rt, "memory");
+    let mut words = Vec::with_capacity(alloc, each.len()).expect(rt, "memory");
+    for entries in each {
+        let (_domain, word) = evaluation(rt, alloc, entries, 1);
+        words.push(word).expect(rt, "memory");
     }
     words
 }
 
-/// Whether these are chunks of a quotient that can be masked with a blowup of 4.
-pub(crate) fn are_maskable(
-    rt: &impl Abort,
-    alloc: Global,
-    chunks: &[(Domain, RowMajorMatrix<BabyBear>)],
-) -> bool
-    ensures { IsTrue result → CanExtend ⟦<BabyBear as Field>⟧.ops (λ d. d.shift) (λ d. d.log_size)
-        27 2 chunks.now (length chunks.now) }
+/// The chunks of a quotient that these entries are, which can be masked with a blowup of 4.
+pub(crate) fn chunks(rt: &impl Abort, alloc: Global, each: &[Entries]) -> Evaluations
+    ensures { CanExtend ⟦<BabyBear as Field>⟧.ops (λ d. d.shift) (λ d. d.log_size) 27 2
+        result.items (length result.items) }
 {
-    if chunks.len() < 2 || !are_fit(chunks, 1) || !are_as_wide(chunks, chunks[0].1.width()) {
-        return false;
+    let chunks = evaluations(rt, alloc, each, 1);
+    if chunks.len() < 2 || !are_as_wide(&chunks, chunks[0].1.width()) {
+        panic!(rt; "no chunks of one width");
     }
-    let domains = domains_of(rt, alloc, chunks);
-    are_disjoint(&domains)
+    let domains = domains_of(rt, alloc, &chunks);
+    if !are_disjoint(&domains) {
+        panic!(rt; "chunks on one domain");
+    }
+    chunks
 }
 
 /// For each chunk the subgroup of twice as many points, on which a hiding scheme claims it.
@@ -117,25 +92,22 @@ pub(crate) fn doubled(
     domains
 }
 
-/// The numbers as a column beside the subgroup of as many points, times `2^log_factor`: twice as
-/// many where a hiding scheme has it.
+/// The numbers as a column beside the subgroup of so many times as many points: twice as many where
+/// a hiding scheme has it.
 pub(crate) fn column(
     rt: &impl Abort,
     alloc: Global,
     numbers: &'static [u64],
-    log_factor: u8,
+    factor: usize,
 ) -> (Domain, RowMajorMatrix<BabyBear>)
-    ensures masked { log_factor ≡ 1 → FitsMasked 27 2 result.0.log_size result.1 }
-    ensures plain { log_factor ≡ 0 → FitsDomain 27 2 result.0.log_size result.1 }
+    ensures fits { Fits factor result.0.log_size result.1 }
+    ensures masked { factor ≡ 2 → FitsMasked 27 2 result.0.log_size result.1 }
+    ensures plain { factor ≡ 1 → FitsDomain 27 2 result.0.log_size result.1 }
 {
-    let entries = [Entries {
+    let entries = Entries {
         shift: 1,
         width: 1,
         numbers,
-    }];
-    let mut columns = evaluations(rt, alloc, &entries, log_factor);
-    let column = columns.pop().expect(rt, "no column");
-    let factor = if log_factor == 0 { 1 } else { 2 };
-    assert!(rt; is_fit(column.0, &column.1, factor), "not on its domain");
-    column
+    };
+    evaluation(rt, alloc, &entries, factor)
 }

@@ -1,6 +1,7 @@
 //! Matrices of small numbers, the domains beside them, and points.
 
-ghost use Rattle.std.specs.Prelude.{◌≡◌, ◌≢◌, []};
+ghost use Rattle.std.specs.Prelude.{◌≡◌, All, IsTrue};
+ghost use Rattle.p3_fri_hiding_tests.specs.Fits.{Fits};
 
 use crate::scheme::{Domain, Evaluations};
 use p3_field::{BabyBear, BabyBear4, ExtensionField, Field, TwoAdicMultiplicativeCoset};
@@ -53,25 +54,38 @@ pub(crate) fn coset(rt: &impl Abort, shift: u64, log_size: usize) -> Domain
     TwoAdicMultiplicativeCoset::new(BabyBear::from_u64(shift), log_size).expect(rt, "not a domain")
 }
 
-/// The matrix of these entries, beside the coset of as many points as it has rows, times
-/// `2^log_factor`.
-fn evaluation(
+/// Whether the domain has so many times as many points as the matrix has rows, and is small.
+fn is_fit(domain: Domain, matrix: &RowMajorMatrix<BabyBear>, factor: usize) -> bool
+    ensures { IsTrue result → Fits factor domain.log_size matrix.now }
+{
+    let (height, log_size) = (matrix.height(), domain.log_size());
+    if log_size < 2 || log_size > 8 || height > 256 || factor > 2 {
+        return false;
+    }
+    factor * height == domain.size()
+}
+
+/// The matrix of these entries, beside the coset of so many times as many points as it has rows.
+pub(crate) fn evaluation(
     rt: &impl Abort,
     alloc: Global,
     entries: &Entries,
-    log_factor: u8,
-) -> (Domain, RowMajorMatrix<BabyBear>) {
+    factor: usize,
+) -> (Domain, RowMajorMatrix<BabyBear>)
+    ensures { Fits factor result.0.log_size result.1 }
+{
     let values = elements(rt, alloc, entries.numbers);
     assert!(rt;
         entries.width != 0 && values.len() % entries.width == 0,
         "the numbers aren't whole rows"
     );
     let matrix = RowMajorMatrix::new(values, entries.width);
-    let log_height = matrix.height().trailing_zeros() as usize;
-    (
-        coset(rt, entries.shift, log_height + log_factor as usize),
-        matrix,
-    )
+    let num_points = matrix.height().wrapping_mul(factor);
+    let domain = coset(rt, entries.shift, num_points.trailing_zeros() as usize);
+    if !is_fit(domain, &matrix, factor) {
+        panic!(rt; "not on its domain");
+    }
+    (domain, matrix)
 }
 
 /// The same of each.
@@ -79,11 +93,13 @@ pub(crate) fn evaluations(
     rt: &impl Abort,
     alloc: Global,
     each: &[Entries],
-    log_factor: u8,
-) -> Evaluations {
+    factor: usize,
+) -> Evaluations
+    ensures { All (λ e. Fits factor e.0.log_size e.1) result.items }
+{
     let mut all = Vec::new(alloc);
     for entries in each {
-        all.push(evaluation(rt, alloc, entries, log_factor))
+        all.push(evaluation(rt, alloc, entries, factor))
             .expect(rt, "memory");
     }
     all
@@ -106,14 +122,11 @@ pub(crate) fn element(coefficients: [u64; 4]) -> BabyBear4 {
     ])
 }
 
-/// The points with these coefficients, of which there are some.
-pub(crate) fn points(rt: &impl Abort, alloc: Global, coefficients: &[[u64; 4]]) -> Vec<BabyBear4>
-    ensures { result.items ≢ [] }
-{
+/// The points with these coefficients.
+pub(crate) fn points(rt: &impl Abort, alloc: Global, coefficients: &[[u64; 4]]) -> Vec<BabyBear4> {
     let mut points = Vec::with_capacity(alloc, coefficients.len()).expect(rt, "memory");
     for coefficients in coefficients {
         points.push(element(*coefficients)).expect(rt, "memory");
     }
-    assert!(rt; !points.is_empty(), "no points");
     points
 }

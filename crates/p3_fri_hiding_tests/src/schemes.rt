@@ -1,30 +1,27 @@
 //! The hiding scheme of a setting, as tests run by it, and the plain one.
 
-ghost use Rattle.std.specs.Prelude.{◌≡◌, ◌<◌, ◌≤◌};
+ghost use Rattle.std.proofs.Common.{refl, sym, subst};
+ghost use Rattle.std.specs.Prelude.{◌≡◌, ◌<◌, ◌≤◌, All, length};
 ghost use Rattle.p3_fri_relation.specs.Views.{parameters_of};
 ghost use Rattle.p3_fri_two_adic.specs.Ranges.{InProverRange, InVerifierRange};
+ghost use Rattle.p3_fri_two_adic.specs.Ldes.{HasLdeHeight};
+ghost use Rattle.p3_fri_hiding.specs.Quotients.{CanExtend};
+ghost use Rattle.p3_fri_hiding_tests.specs.FitLaws.{domains, masked};
 ghost use Rattle.p3_fri_hiding_tests.specs.OfSetting.{IsOfSetting, kept};
 
-use crate::committable::{are_fit, are_maskable, column, doubled, words_of};
-use crate::kind::Kind;
-use crate::lists::one;
-use crate::matrices::{Entries, evaluations};
 use crate::openable::{are_private, is_openable, is_readable};
 use crate::openings::changes::{Change, change_random};
 use crate::openings::shapes::{Counts, have_counts};
-use crate::scheme::{Domain, Evaluations, Inputs, Proof, Rounds, Setting, generator, parameters};
+use crate::scheme::{Inputs, Proof, Rounds, Setting, generator, parameters};
 use crate::tested::{DataState, Tested};
 use p3_dft::Radix2Dit;
-use p3_field::{BabyBear, BabyBear4};
+use p3_field::{BabyBear, BabyBear4, Field};
 use p3_fri_hiding::{HidingFriPcs, HidingFriPcsProverData};
 use p3_fri_two_adic::TwoAdicFriPcs;
-use p3_matrix::RowMajorMatrix;
 use p3_mmcs::{Mmcs, Sha256Mmcs};
 use p3_pcs::OpeningRequest;
-use p3_stark_columns::StarkColumns;
 use rand_chacha::ChaCha20Rng;
 use std::alloc::{AllocError, Global};
-use std::process::Abort;
 
 pub(crate) type Data = HidingFriPcsProverData<<Inputs as Mmcs<BabyBear>>::ProverData>;
 
@@ -74,71 +71,6 @@ impl Tested for Scheme {
         self.fork()
     }
 
-    fn can_commit(
-        &self,
-        rt: &impl Abort,
-        alloc: Global,
-        kind: Kind,
-        evaluations: &[(Domain, RowMajorMatrix<BabyBear>)],
-    ) -> bool {
-        if self.parameters().log_blowup != 2 {
-            return false;
-        }
-        match kind {
-            Kind::Ldes => true,
-            Kind::Chunks => are_maskable(rt, alloc, evaluations),
-            _ => are_fit(evaluations, 2),
-        }
-    }
-
-    fn words(
-        &self,
-        rt: &impl Abort,
-        alloc: Global,
-        evaluations: Evaluations,
-    ) -> Vec<RowMajorMatrix<BabyBear>> {
-        assert!(rt; self.parameters().log_blowup == 2, "not a blowup of 4");
-        words_of(rt, alloc, evaluations)
-    }
-
-    fn column(
-        &self,
-        rt: &impl Abort,
-        alloc: Global,
-        numbers: &'static [u64],
-    ) -> (Domain, RowMajorMatrix<BabyBear>) {
-        assert!(rt; self.parameters().log_blowup == 2, "not a blowup of 4");
-        column(rt, alloc, numbers, 1)
-    }
-
-    fn stark_columns(
-        &self,
-        rt: &impl Abort,
-        alloc: Global,
-        preprocessed: &'static [u64],
-        trace: &'static [u64],
-        quotient: &[Entries],
-    ) -> StarkColumns<Domain, BabyBear> {
-        let preprocessed = one(rt, alloc, self.column(rt, alloc, preprocessed));
-        let trace = one(rt, alloc, self.column(rt, alloc, trace));
-        assert!(rt;
-            self.can_commit(rt, alloc, Kind::Random, &trace),
-            "no random polynomials"
-        );
-        let quotient = evaluations(rt, alloc, quotient, 0);
-        assert!(rt;
-            self.can_commit(rt, alloc, Kind::Chunks, &quotient),
-            "no quotient"
-        );
-        let quotient_domains = doubled(rt, alloc, &quotient);
-        StarkColumns {
-            preprocessed,
-            trace,
-            quotient,
-            quotient_domains,
-        }
-    }
-
     fn can_open(
         &self,
         setting: Setting,
@@ -168,12 +100,10 @@ impl Tested for Scheme {
         }
     }
 
-    fn has_random_values(proof: &Proof, counts: &[Counts]) -> bool {
-        have_counts(&proof.0, counts)
-    }
-
-    fn change_random_values(proof: &mut Proof, change: Change) {
+    fn change_random_values(proof: &mut Proof, counts: &[Counts], change: Change) -> bool {
+        let had = have_counts(&proof.0, counts);
         change_random(&mut proof.0, change);
+        had
     }
 
     ghost kept_law = { λ setting old new same is. kept (record old { rng = new.rng }) new same
@@ -184,4 +114,14 @@ impl Tested for Scheme {
     ghost prover_law = { λ setting s is. is.prover };
 
     ghost verifier_law = { λ setting s is. is.verifier };
+
+    ghost commits_law = { λ setting s is. record {
+      columns = masked (λ d. d.log_size) s.fri.log_blowup is.blowup;
+      words = λ ws high. subst (λ b. All (HasLdeHeight 27 b) ws) (sym is.blowup) high;
+      chunks = λ es can. subst (λ b. CanExtend ⟦<BabyBear as Field>⟧.ops (λ d. d.shift)
+          (λ d. d.log_size) 27 b es (length es)) (sym is.blowup) can;
+      random = domains (λ d. d.log_size) s.fri.log_blowup is.blowup;
+      sizes = refl;
+      hides = refl;
+    } };
 }

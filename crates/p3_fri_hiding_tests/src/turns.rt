@@ -72,7 +72,7 @@ fn is_met<P: Tested>(
     requires { P.IsOf setting scheme.old }
     ensures { P.IsOf setting scheme.new }
 {
-    match commit_to(rt, &mut *scheme, alloc, turn.kind, turn.each) {
+    match commit_to(rt, &mut *scheme, alloc, setting, turn.kind, turn.each) {
         Ok(pair) => {
             let (_commitment, held) = pair;
             let readings = readings(rt, &*scheme, alloc, setting, &held, turn.domains);

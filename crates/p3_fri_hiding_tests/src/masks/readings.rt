@@ -123,29 +123,24 @@ fn begin_with(readings: &[Reading], all: &[&[&[u64]]]) -> bool {
 /// What the chunks' values at 5 are multiplied by where they are recombined.
 const FACTORS_AT_FIVE: [u64; 2] = [198_688_671, 1_814_577_251];
 
-/// Whether a column's values at 5 of both chunks recombine to this number.
-fn recombines(first: &Reading, second: &Reading, column: usize, wanted: u64) -> bool {
-    match (first.shown.get(0, column), second.shown.get(0, column)) {
-        (Some(of_first), Some(of_second)) => {
-            BabyBear::from_u64(FACTORS_AT_FIVE[0]) * of_first
-                + BabyBear::from_u64(FACTORS_AT_FIVE[1]) * of_second
-                == BabyBear::from_u64(wanted)
-        }
-        _ => false,
-    }
-}
-
-/// Whether these are two chunks whose two shown columns recombine to these numbers.
+/// Whether these are two chunks whose two shown columns' values at 5 recombine to these numbers.
 fn recombine(readings: &[Reading], wanted: [u64; 2]) -> bool {
-    match readings {
-        [first, second] => {
-            recombines(first, second, 0, wanted[0])
-                && recombines(first, second, 1, wanted[1])
-                && first.shown.width() == 2
-                && second.shown.width() == 2
+    let [first, second] = readings else {
+        return false;
+    };
+    for column in 0..2 {
+        match (first.shown.get(0, column), second.shown.get(0, column)) {
+            (Some(of_first), Some(of_second)) => {
+                let recombined = BabyBear::from_u64(FACTORS_AT_FIVE[0]) * of_first
+                    + BabyBear::from_u64(FACTORS_AT_FIVE[1]) * of_second;
+                if recombined != BabyBear::from_u64(wanted[column]) {
+                    return false;
+                }
+            }
+            _ => return false,
         }
-        _ => false,
     }
+    first.shown.width() == 2 && second.shown.width() == 2
 }
 
 /// Whether matrices are read so, by masks that are the next words.

@@ -82,8 +82,7 @@ fn judge<P: Tested>(
         setting.log_final_poly_len <= 31,
         "a final polynomial too long"
     );
-    let has_random_values = P::has_random_values(&proof, asked.random);
-    P::change_random_values(&mut proof, asked.change);
+    let has_random_values = P::change_random_values(&mut proof, asked.random, asked.change);
     change_claims(alloc, &mut claims, coset(rt, 1, 2), asked.change);
     let verifier = P::of(setting);
     let answer = match asked.call {

@@ -1,7 +1,9 @@
 //! The headline at a scheme that hides.
 
 use crate::asked::{Question, hold};
-use crate::matrices::{E, POINTS, points};
+use crate::committable::column;
+use crate::lists::two;
+use crate::matrices::{E, POINTS, element};
 use crate::openings::cases::are_moved;
 use crate::scheme::SMALL;
 use crate::tested::Tested;
@@ -15,8 +17,8 @@ use std::process::Abort;
 pub(crate) fn is_column_accepted<P: Tested>(rt: &impl Abort, alloc: Global) -> bool {
     let mut challenger = Sha256Challenger::new();
     let mut scheme = P::of(SMALL);
-    let column = scheme.column(rt, alloc, &E);
-    let points = points(rt, alloc, &POINTS);
+    let column = column(rt, alloc, &E, 2);
+    let points = two(rt, alloc, element(POINTS[0]), element(POINTS[1]));
     match commit_and_show(&mut scheme, alloc, column, points, &mut challenger) {
         Ok(shown) => {
             P::state_of(&shown.1).is_opened && are_moved(&challenger, &shown.0.challenger)

@@ -58,7 +58,14 @@ pub(crate) fn commit_each<P: Tested>(
     let mut known = Vec::new(alloc);
     let mut data = Vec::new(alloc);
     for batch in batches.each {
-        match commit_to(rt, &mut *scheme, alloc, batch.kind, batch.each) {
+        match commit_to(
+            rt,
+            &mut *scheme,
+            alloc,
+            batches.setting,
+            batch.kind,
+            batch.each,
+        ) {
             Ok(pair) => {
                 let (commitment, held) = pair;
                 let domains = cosets(rt, alloc, batch.domains);

@@ -17,7 +17,7 @@ use std::alloc::Global;
 use std::process::Abort;
 
 /// Each proof of work in turn, and none.
-const WORKS: [Option<PowPhase>; 4] = [
+static WORKS: [Option<PowPhase>; 4] = [
     None,
     Some(PowPhase::Batch),
     Some(PowPhase::CommitPhase),
@@ -49,33 +49,17 @@ fn commit_and_open<P: Pcs<BabyBear4, AlwaysOne>>(
     }
 }
 
-/// Why the hiding scheme doesn't open a column where that is asked for, and whether its data counts
-/// as opened then.
-fn refusal_and_mark(
-    rt: &impl Abort,
-    alloc: Global,
-    work: Option<PowPhase>,
-) -> (Option<HidingFriProverError>, bool) {
-    let mut scheme = scheme_of(Setting { work, ..SMALL });
-    let column = column(rt, alloc, &SHORT_PI, 1);
-    let (refusal, held) = commit_and_open::<Scheme>(rt, &mut scheme, alloc, column);
-    (refusal, held.is_opened())
-}
-
-/// Why the plain scheme doesn't.
-fn plain_refusal(rt: &impl Abort, alloc: Global, work: Option<PowPhase>) -> Option<FriProverError> {
-    let mut scheme = plain_scheme_of(Setting { work, ..SMALL });
-    let column = column(rt, alloc, &SHORT_PI, 0);
-    let (refusal, _held) = commit_and_open::<PlainScheme>(rt, &mut scheme, alloc, column);
-    refusal
-}
-
-/// Whether both schemes name the work that has no solution, and the hiding one's data counts as
-/// opened.
+/// Whether both schemes name the work that has no solution where a column is to be opened, and the
+/// hiding one's data counts as opened.
 fn is_named(rt: &impl Abort, alloc: Global, work: Option<PowPhase>) -> bool {
-    let (hiding, is_opened) = refusal_and_mark(rt, alloc, work);
-    let plain = plain_refusal(rt, alloc, work);
-    is_opened
+    let setting = Setting { work, ..SMALL };
+    let mut scheme = scheme_of(setting);
+    let masked = column(rt, alloc, &SHORT_PI, 2);
+    let (hiding, held) = commit_and_open::<Scheme>(rt, &mut scheme, alloc, masked);
+    let mut plain_scheme = plain_scheme_of(setting);
+    let bare = column(rt, alloc, &SHORT_PI, 1);
+    let (plain, _held) = commit_and_open::<PlainScheme>(rt, &mut plain_scheme, alloc, bare);
+    held.is_opened()
         && match work {
             Some(phase) => {
                 let unsolved = FriProverError::NoPowWitness { phase };
@@ -87,7 +71,7 @@ fn is_named(rt: &impl Abort, alloc: Global, work: Option<PowPhase>) -> bool {
 
 #[test]
 fn work_without_a_solution_is_named_by_its_phase(rt: HostRuntime) {
-    for work in WORKS {
-        assert!(rt; is_named(&rt, rt.alloc(), work), "{work:?}");
+    for index in 0..WORKS.len() {
+        assert!(rt; is_named(&rt, rt.alloc(), WORKS[index]), "case {index}");
     }
 }

@@ -1,6 +1,21 @@
-use Rattle.std.proofs.Common.{length, ap, ◌∙◌}
+use Rattle.std.proofs.Common.{All, length, ap, sym, subst, ◌∙◌}
 use Rattle.p3_test_openings.proofs.Known.{fit_both, fits, one_matrix}
+use Rattle.p3_fri_hiding_tests.specs.Fits.{Fits}
+use Rattle.p3_fri_hiding_tests.proofs.Each.{single}
 use Rattle.p3_fri_hiding_tests.proofs.openings.both.commit_both.Goals as goal
+
+pub commit_preprocessing-requires : goal.commit_preprocessing-requires
+commit_preprocessing-requires g c = record {
+  room = (g.met.P.Tested.commits_law _ _ c.requires).columns _
+      (subst (λ es. All (λ e. Fits 2 e.0.log_size e.1) es) (sym c.one-columns.ensures)
+      (single (λ e. Fits 2 e.0.log_size e.1) _ c.column-public.ensures.fits));
+}
+
+pub commit_one-requires : goal.commit_one-requires
+commit_one-requires g c =
+    (g.met.P.Tested.commits_law _ _
+    (g.met.P.Tested.kept_law _ _ _ c.commit_preprocessing.ensures.kept c.requires)).columns _
+    (single (λ e. Fits 2 e.0.log_size e.1) _ c.column-column.ensures.fits)
 
 pub returns-clause-ready : goal.returns-clause-ready
 returns-clause-ready g c =
