@@ -64,19 +64,13 @@ fn commit_both<P: Tested>(
     }
 }
 
-/// Both opened at a point, preprocessing first, and verified: the verifier's challenger thereafter.
-fn show_both<P: Tested>(
-    rt: &impl Abort,
-    scheme: &P,
-    alloc: Global,
-    both: &mut Both<P::ProverData>,
-    challenger: &mut Sha256Challenger,
-) -> Sha256Challenger
-    requires prover { (P.rules scheme.now).InProverRange }
-    requires verifier { (P.rules scheme.now).InVerifierRange }
-    requires ready { AreBothReady (P.rules scheme.now) (P.stark_rules scheme.now)
-        both.old.known.items both.old.preprocessed both.old.private }
-{
+/// Whether preprocessing and a private column are opened at a point, preprocessing first, and
+/// verified: of the data the private alone counts as opened, and both sides end in one state that
+/// isn't the first.
+pub(crate) fn are_both_accepted<P: Tested>(rt: &impl Abort, alloc: Global) -> bool {
+    let mut challenger = Sha256Challenger::new();
+    let mut scheme = P::of(SMALL);
+    let mut both = commit_both(rt, &mut scheme, alloc, SMALL);
     let point = element(POINT);
     let first = OpeningRequest {
         prover_data: &mut both.preprocessed,
@@ -88,27 +82,20 @@ fn show_both<P: Tested>(
     };
     let mut requests = two(rt, alloc, first, second);
     let answer = open_and_verify_with_preprocessing(
-        scheme,
+        &scheme,
         alloc,
         &both.known,
         requests.as_mut_slice(),
-        challenger,
+        &mut challenger,
         Some(0),
     );
+    drop(requests);
     match answer {
-        Ok(verified) => verified.challenger,
+        Ok(verified) => {
+            are_moved(&challenger, &verified.challenger)
+                && P::state_of(&both.private).is_opened
+                && !P::state_of(&both.preprocessed).is_opened
+        }
         Err(_) => panic!(rt; "not accepted"),
     }
-}
-
-/// Whether preprocessing and a private column are opened and verified: of the data the private
-/// alone counts as opened, and both sides end in one state that isn't the first.
-pub(crate) fn are_both_accepted<P: Tested>(rt: &impl Abort, alloc: Global) -> bool {
-    let mut challenger = Sha256Challenger::new();
-    let mut scheme = P::of(SMALL);
-    let mut both = commit_both(rt, &mut scheme, alloc, SMALL);
-    let verifier = show_both(rt, &scheme, alloc, &mut both, &mut challenger);
-    are_moved(&challenger, &verifier)
-        && P::state_of(&both.private).is_opened
-        && !P::state_of(&both.preprocessed).is_opened
 }
