@@ -82,6 +82,19 @@ pub fn tell<T: Debug, E: Debug>(
     Ok(())
 }
 
+/// Prints what a call answers that commits.
+pub fn tell_commitment<Com: Debug + Drop, Data: Drop, E: Debug + Drop>(
+    rt: &HostRuntime,
+    name: Name<'_>,
+    answer: std::result::Result<(Com, Data), E>,
+) -> Result<()> {
+    let answer = match answer {
+        Ok((commitment, _data)) => Ok(commitment),
+        Err(refusal) => Err(refusal),
+    };
+    tell(rt, name, &answer, ["", ""])
+}
+
 /// The element that the challenger gives next.
 pub fn drawn(challenger: &mut Sha256Challenger) -> BabyBear {
     CanSample::<BabyBear>::sample(challenger)

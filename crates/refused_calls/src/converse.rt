@@ -1,10 +1,11 @@
 //! Calls of the converse of folding.
 
-ghost use Rattle.std.specs.Prelude.{◌≡◌, ◌≤◌, All, IfOk, IsTrue, length, vec_len};
+ghost use Rattle.std.specs.Prelude.{◌≡◌, ◌≤◌, All, IsTrue, vec_len};
 ghost use Rattle.p3_converse.specs.Unfolding.{common_length};
 ghost use Rattle.algebra.specs.Interpolation.{AreDistinct};
 
 use crate::answer::{Fault, Name, Result, tell};
+use crate::call::Interpolation;
 use crate::matrices::points;
 use p3_converse::{
     FoldTree, are_distinct, challenges_fit, have_one_length, leaf_length, leaves_fit,
@@ -15,8 +16,6 @@ use p3_field::{BabyBear4, Field, shifted_powers};
 use std::alloc::{AllocError, Global};
 
 type Tree = FoldTree<BabyBear4>;
-
-type Polynomials = Vec<Vec<BabyBear4>>;
 
 /// Whether the challenges are distinct, and the polynomials short and of one length.
 fn fit(challenges: &[BabyBear4], polys: &[Vec<BabyBear4>]) -> bool
@@ -31,47 +30,56 @@ fn fit(challenges: &[BabyBear4], polys: &[Vec<BabyBear4>]) -> bool
     first.len() <= 8 && have_one_length(polys) && are_distinct(challenges)
 }
 
-/// For each challenge a polynomial of so many coefficients.
-fn polynomials(alloc: Global, challenges: &[BabyBear4], count: usize) -> Result<Polynomials>
-    ensures as_many { IfOk result (λ polys. length polys.items ≡ length challenges.now) }
-    ensures distinct { IfOk result (λ _. AreDistinct challenges.now) }
-    ensures one_length { IfOk result (λ polys.
-        All (λ p. vec_len p ≡ common_length polys.items) polys.items) }
-    ensures short { IfOk result (λ polys. common_length polys.items ≤ 8) }
-{
-    let polys = points(alloc, challenges.len(), count)?;
+/// A call that interpolates at these challenges, of which there are as many as it takes, by
+/// polynomials of so many coefficients.
+fn interpolate_at(
+    rt: &HostRuntime,
+    name: Name<'_>,
+    call: Interpolation,
+    challenges: &[BabyBear4],
+    num_coefficients: usize,
+) -> Result<()> {
+    let (alloc, count) = (rt.alloc(), challenges.len());
+    let Ok(polys) = points(alloc, count, num_coefficients) else {
+        return Err(Fault::Memory);
+    };
     if !fit(challenges, &polys) {
         return Err(Fault::Inputs);
     }
-    Ok(polys)
+    match call {
+        Interpolation::Unfold if count == 4 => {
+            let answer = unfold(alloc, 2, challenges, &polys);
+            tell(rt, name, &answer, ["", ""])
+        }
+        Interpolation::UnfoldWithInput if count == 5 => {
+            let answer = unfold_with_input(alloc, 2, challenges, &polys);
+            tell(rt, name, &answer, ["", ""])
+        }
+        Interpolation::Unbatch if count > 0 => {
+            let answer = unbatch(alloc, challenges, &polys);
+            tell(rt, name, &answer, ["", ""])
+        }
+        _ => Err(Fault::Inputs),
+    }
 }
 
-/// `unfold`.
-fn tell_unfold(rt: &HostRuntime, name: Name<'_>) -> Result<()> {
-    let challenges = [0, 1, 2, 3].map(BabyBear4::from_u64);
-    let polys = polynomials(rt.alloc(), &challenges, 3)?;
-    let answer = unfold(rt.alloc(), 2, &challenges, &polys);
-    tell(rt, name, &answer, ["", ""])
-}
-
-/// `unfold_with_input`.
-fn tell_unfold_with_input(rt: &HostRuntime, name: Name<'_>) -> Result<()> {
-    let challenges = [0, 1, 2, 3, 4].map(BabyBear4::from_u64);
-    let polys = polynomials(rt.alloc(), &challenges, 3)?;
-    let answer = unfold_with_input(rt.alloc(), 2, &challenges, &polys);
-    tell(rt, name, &answer, ["", ""])
-}
-
-/// `unbatch`.
-fn tell_unbatch(rt: &HostRuntime, name: Name<'_>) -> Result<()> {
-    let challenges = [1, 2, 3].map(BabyBear4::from_u64);
-    let polys = polynomials(rt.alloc(), &challenges, 4)?;
-    let answer = unbatch(rt.alloc(), &challenges, &polys);
-    tell(rt, name, &answer, ["", ""])
+/// A call that interpolates, of one polynomial for each challenge.
+pub fn interpolate(rt: &HostRuntime, name: Name<'_>, call: Interpolation) -> Result<()> {
+    match call {
+        Interpolation::Unfold => {
+            interpolate_at(rt, name, call, &[0, 1, 2, 3].map(BabyBear4::from_u64), 3)
+        }
+        Interpolation::UnfoldWithInput => {
+            interpolate_at(rt, name, call, &[0, 1, 2, 3, 4].map(BabyBear4::from_u64), 3)
+        }
+        Interpolation::Unbatch => {
+            interpolate_at(rt, name, call, &[1, 2, 3].map(BabyBear4::from_u64), 4)
+        }
+    }
 }
 
 /// `unquotient`.
-fn tell_unquotient(rt: &HostRuntime, name: Name<'_>) -> Result<()> {
+pub fn tell_unquotient(rt: &HostRuntime, name: Name<'_>) -> Result<()> {
     let [shift, z, y] = [3, 5, 7].map(BabyBear4::from_u64);
     if shift.is_zero() {
         return Err(Fault::Inputs);
@@ -100,34 +108,18 @@ fn tree(alloc: Global) -> std::result::Result<Tree, AllocError> {
     Ok(FoldTree::Node(nodes))
 }
 
-/// `unfold_tree` of this tree.
-fn tell_unfolded(rt: &HostRuntime, name: Name<'_>, tree: &Tree) -> Result<()> {
-    let rounds = [(1, true), (1, false)];
-    let length = leaf_length(tree);
-    if !log_arities_fit(&rounds) || !paths_fit(&rounds, tree) || !leaves_fit(length, tree) {
+/// `unfold_tree`.
+pub fn tell_unfold_tree(rt: &HostRuntime, name: Name<'_>) -> Result<()> {
+    let (tree, rounds) = (tree(rt.alloc())?, [(1, true), (1, false)]);
+    let length = leaf_length(&tree);
+    if !log_arities_fit(&rounds) || !paths_fit(&rounds, &tree) || !leaves_fit(length, &tree) {
         return Err(Fault::Inputs);
     }
     if !unfolds_within_range(length, log_arity_sum(&rounds))
-        || !challenges_fit(rt.alloc(), &rounds, tree)?
+        || !challenges_fit(rt.alloc(), &rounds, &tree)?
     {
         return Err(Fault::Inputs);
     }
-    tell(rt, name, &unfold_tree(rt.alloc(), &rounds, tree), ["", ""])
-}
-
-/// `unfold_tree`.
-fn tell_unfold_tree(rt: &HostRuntime, name: Name<'_>) -> Result<()> {
-    tell_unfolded(rt, name, &tree(rt.alloc())?)
-}
-
-/// Makes the call of this name.
-pub fn make(rt: &HostRuntime, name: Name<'_>) -> Result<()> {
-    match name.1 {
-        "unfold" => tell_unfold(rt, name),
-        "unfold_with_input" => tell_unfold_with_input(rt, name),
-        "unbatch" => tell_unbatch(rt, name),
-        "unquotient" => tell_unquotient(rt, name),
-        "unfold_tree" => tell_unfold_tree(rt, name),
-        _ => Err(Fault::Name),
-    }
+    let answer = unfold_tree(rt.alloc(), &rounds, &tree);
+    tell(rt, name, &answer, ["", ""])
 }

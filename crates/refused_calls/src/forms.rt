@@ -1,8 +1,8 @@
 //! The call that reads a proof from its plain form.
 
-use crate::answer::{Name, Result, tell};
-use crate::matrices::{one_of, two_of};
+use crate::answer::{Fault, Name, Result, tell};
 use p3_fri_plain::{PlainBatch, PlainFriProof, PlainStep, from_plain, to_plain};
+use p3_test_openings::listed::{listed, pair};
 use std::alloc::{AllocError, Global};
 
 /// What is made, or the allocator's refusal.
@@ -10,8 +10,8 @@ type Made<T> = std::result::Result<T, AllocError>;
 
 /// Two lists of one value each.
 fn two_lists<T: Drop>(alloc: Global, first: T, second: T) -> Made<Vec<Vec<T>>> {
-    let (first, second) = (one_of(alloc, first)?, one_of(alloc, second)?);
-    two_of(alloc, first, second)
+    let (first, second) = (listed(alloc, first)?, listed(alloc, second)?);
+    pair(alloc, first, second)
 }
 
 /// A digest of the same byte throughout.
@@ -31,7 +31,7 @@ fn element(alloc: Global) -> Made<Vec<u64>> {
 
 /// The rows that two queries open of one matrix.
 fn rows(alloc: Global) -> Made<PlainBatch> {
-    let opened_values = two_lists(alloc, two_of(alloc, 5, 6)?, two_of(alloc, 7, 8)?)?;
+    let opened_values = two_lists(alloc, pair(alloc, 5, 6)?, pair(alloc, 7, 8)?)?;
     Ok(PlainBatch {
         opened_values,
         paths: paths(alloc)?,
@@ -49,22 +49,54 @@ fn siblings(alloc: Global) -> Made<PlainStep> {
 
 /// The plain form of a proof with one round.
 fn form(alloc: Global) -> Made<PlainFriProof> {
+    let Ok(commit) = digest(alloc, 9) else {
+        return Err(AllocError);
+    };
+    let Ok(commit_phase_commits) = listed(alloc, commit) else {
+        return Err(AllocError);
+    };
+    let Ok(commit_pow_witnesses) = listed(alloc, 2) else {
+        return Err(AllocError);
+    };
+    let Ok(batch) = rows(alloc) else {
+        return Err(AllocError);
+    };
+    let Ok(input_openings) = listed(alloc, batch) else {
+        return Err(AllocError);
+    };
+    let Ok(step) = siblings(alloc) else {
+        return Err(AllocError);
+    };
+    let Ok(commit_phase_openings) = listed(alloc, step) else {
+        return Err(AllocError);
+    };
+    let Ok(constant) = element(alloc) else {
+        return Err(AllocError);
+    };
+    let Ok(final_poly) = listed(alloc, constant) else {
+        return Err(AllocError);
+    };
     Ok(PlainFriProof {
         batch_pow_witness: 1,
-        commit_phase_commits: one_of(alloc, digest(alloc, 9)?)?,
-        commit_pow_witnesses: one_of(alloc, 2)?,
-        input_openings: one_of(alloc, rows(alloc)?)?,
-        commit_phase_openings: one_of(alloc, siblings(alloc)?)?,
-        final_poly: one_of(alloc, element(alloc)?)?,
+        commit_phase_commits,
+        commit_pow_witnesses,
+        input_openings,
+        commit_phase_openings,
+        final_poly,
         query_pow_witness: 3,
     })
 }
 
 /// `from_plain`; the proof is shown by its plain form.
 pub fn tell_from_plain(rt: &HostRuntime, name: Name<'_>) -> Result<()> {
-    let form = form(rt.alloc())?;
+    let Ok(form) = form(rt.alloc()) else {
+        return Err(Fault::Memory);
+    };
     let answer = match from_plain(rt.alloc(), form) {
-        Ok(proof) => Ok(to_plain(rt.alloc(), &proof)?),
+        Ok(proof) => match to_plain(rt.alloc(), &proof) {
+            Ok(form) => Ok(form),
+            Err(_) => return Err(Fault::Memory),
+        },
         Err(refusal) => Err(refusal),
     };
     tell(rt, name, &answer, ["", ""])

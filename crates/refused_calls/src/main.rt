@@ -8,6 +8,7 @@
 #![tactic(auto)]
 
 mod answer;
+mod call;
 mod converse;
 mod forms;
 mod matrices;
@@ -17,70 +18,46 @@ mod transcripts;
 mod tree;
 
 use crate::answer::{Fault, Name, Result};
+use crate::call::{CALLS, Call};
+use p3_challenger::fs::{Prover, Verifier};
 use p3_field::BabyBear;
 use p3_mmcs::Sha256Mmcs;
 use std::env;
 use std::process::ExitCode;
 
-/// All calls, by what they belong to.
-static CALLS: [Name<'static>; 26] = [
-    ("plain", "commit"),
-    ("plain", "open"),
-    ("plain", "open_at_two_points"),
-    ("plain", "verify"),
-    ("plain", "get_quotient_ldes"),
-    ("plain", "commit_ldes"),
-    ("plain", "get_evaluations_on_domain"),
-    ("hiding", "commit"),
-    ("hiding", "open"),
-    ("hiding", "open_at_two_points"),
-    ("hiding", "verify"),
-    ("hiding", "get_quotient_ldes"),
-    ("hiding", "commit_ldes"),
-    ("hiding", "get_evaluations_on_domain"),
-    ("transcript", "prover"),
-    ("transcript", "verifier"),
-    ("transcript", "pcs_prover"),
-    ("transcript", "pcs_verifier"),
-    ("tree", "commit"),
-    ("tree", "open_multi_batch"),
-    ("proof", "from_plain"),
-    ("converse", "unfold"),
-    ("converse", "unfold_with_input"),
-    ("converse", "unbatch"),
-    ("converse", "unquotient"),
-    ("converse", "unfold_tree"),
-];
-
-/// Makes the call of this name.
-fn make(rt: &HostRuntime, name: Name<'_>) -> Result<()> {
-    match name {
-        ("plain", _) => settings::make_plain(rt, name),
-        ("hiding", _) => settings::make_hiding(rt, name),
-        ("transcript", _) => transcripts::make(rt, name),
-        ("tree", _) => tree::make(rt, name, &Sha256Mmcs::<BabyBear>::new()),
-        ("proof", "from_plain") => forms::tell_from_plain(rt, name),
-        ("converse", _) => converse::make(rt, name),
-        _ => Err(Fault::Name),
+/// Makes a call and prints what it answers after this name.
+fn make(rt: &HostRuntime, name: Name<'_>, call: Call) -> Result<()> {
+    match call {
+        Call::Plain(call) => settings::make_plain(rt, name, call),
+        Call::Hiding(call) => settings::make_hiding(rt, name, call),
+        Call::Prover => transcripts::begin::<Prover>(rt, name),
+        Call::Verifier => transcripts::begin::<Verifier>(rt, name),
+        Call::PcsProver => transcripts::begin_pcs::<Prover>(rt, name),
+        Call::PcsVerifier => transcripts::begin_pcs::<Verifier>(rt, name),
+        Call::Tree(call) => tree::make(rt, name, call, &Sha256Mmcs::<BabyBear>::new()),
+        Call::FromPlain => forms::tell_from_plain(rt, name),
+        Call::Interpolate(call) => converse::interpolate(rt, name, call),
+        Call::Unquotient => converse::tell_unquotient(rt, name),
+        Call::UnfoldTree => converse::tell_unfold_tree(rt, name),
     }
-}
-
-/// Makes each call in turn.
-fn make_all(rt: &HostRuntime) -> Result<()> {
-    for name in &CALLS {
-        make(rt, *name)?;
-    }
-    Ok(())
 }
 
 /// Makes the call that the arguments name, or each where there are none.
 fn run(rt: &HostRuntime) -> Result<()> {
     let args: Vec<String> = env::args(rt)?.skip(1).collect(rt.alloc())?;
-    match args.as_slice() {
-        [] => make_all(rt),
-        [subject, call] => make(rt, (subject.as_str(), call.as_str())),
-        _ => Err(Fault::Name),
+    let asked = match args.as_slice() {
+        [] => None,
+        [subject, call] => Some((subject.as_str(), call.as_str())),
+        _ => return Err(Fault::Name),
+    };
+    let mut is_known = false;
+    for (name, call) in &CALLS {
+        if asked.is_none() || asked == Some(*name) {
+            make(rt, *name, *call)?;
+            is_known = true;
+        }
     }
+    if is_known { Ok(()) } else { Err(Fault::Name) }
 }
 
 fn main(rt: HostRuntime) -> ExitCode {

@@ -1,6 +1,6 @@
 //! What the calls are made on.
 
-ghost use Rattle.std.specs.Prelude.{◌≡◌, ◌≤◌, ◌^◌, [], ◌∷◌, IfOk, length};
+ghost use Rattle.std.specs.Prelude.{◌≡◌, ◌^◌, IfOk, length};
 ghost use Rattle.p3_matrix.specs.Matrix.{rows, matrix_width};
 
 use crate::answer::{Fault, Result};
@@ -14,29 +14,6 @@ pub type Domain = TwoAdicMultiplicativeCoset<BabyBear>;
 
 /// Matrices, each beside the coset that its columns are functions on.
 pub type Evaluations = Vec<(Domain, RowMajorMatrix<BabyBear>)>;
-
-/// A list of one value.
-pub fn one_of<T: Drop>(alloc: Global, value: T) -> std::result::Result<Vec<T>, AllocError>
-    ensures { IfOk result (λ all. all.items ≡ value ∷ []) }
-{
-    let mut all = Vec::with_capacity(alloc, 1)?;
-    all.push(value)?;
-    Ok(all)
-}
-
-/// A list of two values.
-pub fn two_of<T: Drop>(
-    alloc: Global,
-    first: T,
-    second: T,
-) -> std::result::Result<Vec<T>, AllocError>
-    ensures { IfOk result (λ all. all.items ≡ first ∷ second ∷ []) }
-{
-    let mut all = Vec::with_capacity(alloc, 2)?;
-    all.push(first)?;
-    all.push(second)?;
-    Ok(all)
-}
 
 /// `2^log_height` rows of this width, of powers of the generator.
 pub fn matrix(alloc: Global, log_height: usize, width: usize) -> Result<RowMajorMatrix<BabyBear>>

@@ -10,8 +10,9 @@ ghost use Rattle.p3_fri_two_adic.specs.Ranges.{InProverRange, InVerifierRange};
 ghost use Rattle.p3_matrix.specs.Matrix.{rows, matrix_width};
 
 use crate::answer::{Fault, Name, Result};
-use crate::matrices::{Domain, Evaluations, coset, matrix, two_of};
-use crate::schemes::{Calls, Marked};
+use crate::call::SchemeCall;
+use crate::matrices::{Domain, Evaluations, coset, matrix};
+use crate::schemes::{Marked, make};
 use p3_dft::Radix2Dit;
 use p3_field::{BabyBear, BabyBear4, Field};
 use p3_fri_folding::FriParameters;
@@ -20,6 +21,7 @@ use p3_fri_masks::are_disjoint;
 use p3_fri_two_adic::TwoAdicFriPcs;
 use p3_matrix::RowMajorMatrix;
 use p3_mmcs::{Sha256Mmcs, Sha256ProverData};
+use p3_test_openings::listed::pair;
 use rand_chacha::ChaCha20Rng;
 use rand_core::SeedableRng;
 use std::alloc::Global;
@@ -115,7 +117,7 @@ fn plain_columns(alloc: Global) -> Result<Evaluations>
 {
     let first = evaluation(alloc, 1, 3, 2, 0)?;
     let second = evaluation(alloc, 3, 1, 1, 0)?;
-    Ok(two_of(alloc, first, second)?)
+    Ok(pair(alloc, first, second)?)
 }
 
 /// Two columns and one, that the hiding scheme commits to: masks of 16 rows hide one point.
@@ -125,7 +127,7 @@ fn hiding_columns(alloc: Global) -> Result<Evaluations>
 {
     let first = evaluation(alloc, 1, 5, 2, 1)?;
     let second = evaluation(alloc, 3, 4, 1, 1)?;
-    Ok(two_of(alloc, first, second)?)
+    Ok(pair(alloc, first, second)?)
 }
 
 /// Two chunks of a quotient, on the halves of a coset, that either scheme extends.
@@ -139,18 +141,18 @@ fn chunks(alloc: Global) -> Result<Evaluations>
     if !are_disjoint(&[first.0, second.0]) {
         return Err(Fault::Inputs);
     }
-    let all = two_of(alloc, first, second)?;
+    let all = pair(alloc, first, second)?;
     Ok(all)
 }
 
-/// Makes the plain scheme's call of this name.
-pub fn make_plain(rt: &HostRuntime, name: Name<'_>) -> Result<()> {
+/// Makes a call of the plain scheme.
+pub fn make_plain(rt: &HostRuntime, name: Name<'_>, call: SchemeCall) -> Result<()> {
     let (columns, chunks) = (plain_columns(rt.alloc())?, chunks(rt.alloc())?);
-    Calls::<Plain>::make(rt, name, &mut plain(), columns, chunks, coset(5, 2)?)
+    make(rt, name, call, &mut plain(), columns, chunks, coset(5, 2)?)
 }
 
-/// Makes the hiding scheme's call of this name.
-pub fn make_hiding(rt: &HostRuntime, name: Name<'_>) -> Result<()> {
+/// Makes a call of the hiding scheme.
+pub fn make_hiding(rt: &HostRuntime, name: Name<'_>, call: SchemeCall) -> Result<()> {
     let (columns, chunks) = (hiding_columns(rt.alloc())?, chunks(rt.alloc())?);
-    Calls::<Hiding>::make(rt, name, &mut hiding(), columns, chunks, coset(5, 2)?)
+    make(rt, name, call, &mut hiding(), columns, chunks, coset(5, 2)?)
 }

@@ -1,12 +1,11 @@
 //! The beginnings of transcripts.
 
 use crate::answer::{Fault, Name, Result, drawn, kept, tell};
-use crate::matrices::{one_of, two_of};
 use p3_challenger::Sha256Challenger;
-use p3_challenger::fs::{Prover, Verifier};
 use p3_field::{BabyBear, BabyBear4};
 use p3_fri_pcs_transcript::pcs_transcript::{PcsShape, PcsTranscript};
 use p3_fri_transcript::transcript::{FriShape, FriTranscript};
+use p3_test_openings::listed::{listed, pair};
 use std::alloc::{AllocError, Global};
 
 type Transcript<'a, Side> = FriTranscript<'a, Side, Sha256Challenger, BabyBear, BabyBear4>;
@@ -15,8 +14,11 @@ type OpeningTranscript<'a, Side> = PcsTranscript<'a, Side, Sha256Challenger, Bab
 
 /// The shape of two rounds, with proofs of work.
 fn shape(alloc: Global) -> Result<FriShape> {
+    let Ok(log_arities) = pair(alloc, 3, 1) else {
+        return Err(Fault::Memory);
+    };
     Ok(FriShape {
-        log_arities: two_of(alloc, 3, 1)?,
+        log_arities,
         final_poly_len: 1,
         commit_pow_bits: 1,
         query_pow_bits: 1,
@@ -29,9 +31,20 @@ fn shape(alloc: Global) -> Result<FriShape> {
 
 /// The shape of two matrices, of which the first is opened at two points.
 fn pcs_shape(alloc: Global) -> Result<PcsShape> {
-    let matrices = two_of(alloc, two_of(alloc, 2, 2)?, one_of(alloc, 3)?)?;
+    let Ok(first) = pair(alloc, 2, 2) else {
+        return Err(Fault::Memory);
+    };
+    let Ok(second) = listed(alloc, 3) else {
+        return Err(Fault::Memory);
+    };
+    let Ok(matrices) = pair(alloc, first, second) else {
+        return Err(Fault::Memory);
+    };
+    let Ok(claimed_evaluation_counts) = listed(alloc, matrices) else {
+        return Err(Fault::Memory);
+    };
     Ok(PcsShape {
-        claimed_evaluation_counts: one_of(alloc, matrices)?,
+        claimed_evaluation_counts,
         batch_pow_bits: 1,
     })
 }
@@ -45,11 +58,15 @@ fn tell_begun(
 ) -> Result<()> {
     let left = kept(&challenger);
     let next = drawn(&mut challenger);
-    tell(rt, name, &begun.map(|()| next), [left, ""])
+    let begun = match begun {
+        Ok(()) => Ok(next),
+        Err(refusal) => Err(refusal),
+    };
+    tell(rt, name, &begun, [left, ""])
 }
 
 /// Begins a side's transcript of the low-degree test.
-fn begin<Side>(rt: &HostRuntime, name: Name<'_>) -> Result<()> {
+pub fn begin<Side>(rt: &HostRuntime, name: Name<'_>) -> Result<()> {
     let (shape, mut challenger) = (shape(rt.alloc())?, Sha256Challenger::new());
     let begun = match Transcript::<'_, Side>::new(rt.alloc(), &mut challenger, shape) {
         Ok(transcript) => Ok(transcript.abort()),
@@ -59,22 +76,11 @@ fn begin<Side>(rt: &HostRuntime, name: Name<'_>) -> Result<()> {
 }
 
 /// Begins a side's transcript of an opening.
-fn begin_pcs<Side>(rt: &HostRuntime, name: Name<'_>) -> Result<()> {
+pub fn begin_pcs<Side>(rt: &HostRuntime, name: Name<'_>) -> Result<()> {
     let (shape, mut challenger) = (pcs_shape(rt.alloc())?, Sha256Challenger::new());
     let begun = match OpeningTranscript::<'_, Side>::new(rt.alloc(), &mut challenger, shape) {
         Ok(transcript) => Ok(transcript.abort()),
         Err(refusal) => Err(refusal),
     };
     tell_begun(rt, name, begun, challenger)
-}
-
-/// Makes the call of this name.
-pub fn make(rt: &HostRuntime, name: Name<'_>) -> Result<()> {
-    match name.1 {
-        "prover" => begin::<Prover>(rt, name),
-        "verifier" => begin::<Verifier>(rt, name),
-        "pcs_prover" => begin_pcs::<Prover>(rt, name),
-        "pcs_verifier" => begin_pcs::<Verifier>(rt, name),
-        _ => Err(Fault::Name),
-    }
 }

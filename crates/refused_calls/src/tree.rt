@@ -1,56 +1,38 @@
 //! Calls of any tree.
 
-use crate::answer::{Fault, Name, Result, tell};
-use crate::matrices::{matrix, two_of};
+use crate::answer::{Fault, Name, Result, tell, tell_commitment};
+use crate::call::TreeCall;
+use crate::matrices::matrix;
 use p3_field::BabyBear;
 use p3_mmcs::{Mmcs, indices_are_below};
-use std::alloc::AllocError;
+use p3_test_openings::listed::pair;
 use std::fmt::Debug;
 
-/// A commitment and its data, or the refusal of the call.
-type Committed<Com, Data> = std::result::Result<(Com, Data), AllocError>;
-
-/// A commitment to two matrices of two heights.
-fn committed<M: Mmcs<BabyBear>>(
+/// `commit`, to two matrices of two heights, or `open_multi_batch` of that.
+pub fn make<M: Mmcs<BabyBear>>(
     rt: &HostRuntime,
+    name: Name<'_>,
+    call: TreeCall,
     tree: &M,
-) -> Result<Committed<M::Commitment, M::ProverData>> {
-    let alloc = rt.alloc();
-    let (first, second) = (matrix(alloc, 3, 2)?, matrix(alloc, 1, 1)?);
-    let matrices = two_of(alloc, first, second)?;
-    Ok(tree.commit(alloc, matrices))
-}
-
-fn commit<M: Mmcs<BabyBear>>(rt: &HostRuntime, name: Name<'_>, tree: &M) -> Result<()>
+) -> Result<()>
 where
     M::Commitment: Debug,
-{
-    let answer = committed(rt, tree)?.map(|(commitment, _)| commitment);
-    tell(rt, name, &answer, ["", ""])
-}
-
-fn open_multi_batch<M: Mmcs<BabyBear>>(rt: &HostRuntime, name: Name<'_>, tree: &M) -> Result<()>
-where
     M::MultiProof: Debug,
 {
-    let (_, held) = committed(rt, tree)??;
+    let alloc = rt.alloc();
+    let (first, second) = (matrix(alloc, 3, 2)?, matrix(alloc, 1, 1)?);
+    let matrices = pair(alloc, first, second)?;
+    let answer = tree.commit(alloc, matrices);
+    if let TreeCall::Commit = call {
+        return tell_commitment(rt, name, answer);
+    }
+    let Ok((_, held)) = answer else {
+        return Err(Fault::Memory);
+    };
     let indices = [5, 0, 5];
     if !indices_are_below(&indices, tree.get_max_height(&held)) {
         return Err(Fault::Inputs);
     }
-    let answer = tree.open_multi_batch(rt.alloc(), &indices, &held);
+    let answer = tree.open_multi_batch(alloc, &indices, &held);
     tell(rt, name, &answer, ["", ""])
-}
-
-/// Makes the call of this name.
-pub fn make<M: Mmcs<BabyBear>>(rt: &HostRuntime, name: Name<'_>, tree: &M) -> Result<()>
-where
-    M::Commitment: Debug,
-    M::MultiProof: Debug,
-{
-    match name.1 {
-        "commit" => commit(rt, name, tree),
-        "open_multi_batch" => open_multi_batch(rt, name, tree),
-        _ => Err(Fault::Name),
-    }
 }

@@ -1,6 +1,6 @@
 use Rattle.std.proofs.Common.{◌∙◌}
 use Rattle.refused_calls.proofs.Requests.{openable}
-use Rattle.refused_calls.proofs.schemes.Calls.opened.Goals as goal
+use Rattle.refused_calls.proofs.schemes.opened.Goals as goal
 
 pub open-requires-clause-shape : goal.open-requires-clause-shape
 open-requires-clause-shape g c =
