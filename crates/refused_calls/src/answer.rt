@@ -60,14 +60,23 @@ impl Write for Digest {
 }
 
 /// What a call belongs to, and its own name.
-pub type Name<'a> = (&'a str, &'a str);
+pub type Name = (&'static str, &'static str);
 
-/// Prints what the call answers, and what it leaves; to the error stream the digest of an `Ok`.
+/// Prints what the call answers; to the error stream the digest of an `Ok`.
 pub fn tell<T: Debug, E: Debug>(
     rt: &HostRuntime,
-    (subject, call): Name<'_>,
+    name: Name,
     answer: &std::result::Result<T, E>,
-    [first, second]: [&str; 2],
+) -> Result<()> {
+    tell_left(rt, name, answer, ["", ""])
+}
+
+/// The same, and what the call leaves.
+pub fn tell_left<T: Debug, E: Debug>(
+    rt: &HostRuntime,
+    (subject, call): Name,
+    answer: &std::result::Result<T, E>,
+    [first, second]: [&'static str; 2],
 ) -> Result<()> {
     match answer {
         Ok(value) => {
@@ -85,14 +94,14 @@ pub fn tell<T: Debug, E: Debug>(
 /// Prints what a call answers that commits.
 pub fn tell_commitment<Com: Debug + Drop, Data: Drop, E: Debug + Drop>(
     rt: &HostRuntime,
-    name: Name<'_>,
+    name: Name,
     answer: std::result::Result<(Com, Data), E>,
 ) -> Result<()> {
     let answer = match answer {
         Ok((commitment, _data)) => Ok(commitment),
         Err(refusal) => Err(refusal),
     };
-    tell(rt, name, &answer, ["", ""])
+    tell(rt, name, &answer)
 }
 
 /// The element that the challenger gives next.

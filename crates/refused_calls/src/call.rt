@@ -45,7 +45,7 @@ pub enum Call {
 }
 
 /// All calls, by what they belong to and their own names.
-pub static CALLS: [(Name<'static>, Call); 26] = [
+pub static CALLS: [(Name, Call); 26] = [
     (("plain", "commit"), Call::Plain(SchemeCall::Commit)),
     (("plain", "open"), Call::Plain(SchemeCall::Open)),
     (

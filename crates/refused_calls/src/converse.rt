@@ -34,7 +34,7 @@ fn fit(challenges: &[BabyBear4], polys: &[Vec<BabyBear4>]) -> bool
 /// polynomials of so many coefficients.
 fn interpolate_at(
     rt: &HostRuntime,
-    name: Name<'_>,
+    name: Name,
     call: Interpolation,
     challenges: &[BabyBear4],
     num_coefficients: usize,
@@ -49,22 +49,22 @@ fn interpolate_at(
     match call {
         Interpolation::Unfold if count == 4 => {
             let answer = unfold(alloc, 2, challenges, &polys);
-            tell(rt, name, &answer, ["", ""])
+            tell(rt, name, &answer)
         }
         Interpolation::UnfoldWithInput if count == 5 => {
             let answer = unfold_with_input(alloc, 2, challenges, &polys);
-            tell(rt, name, &answer, ["", ""])
+            tell(rt, name, &answer)
         }
         Interpolation::Unbatch if count > 0 => {
             let answer = unbatch(alloc, challenges, &polys);
-            tell(rt, name, &answer, ["", ""])
+            tell(rt, name, &answer)
         }
         _ => Err(Fault::Inputs),
     }
 }
 
 /// A call that interpolates, of one polynomial for each challenge.
-pub fn interpolate(rt: &HostRuntime, name: Name<'_>, call: Interpolation) -> Result<()> {
+pub fn interpolate(rt: &HostRuntime, name: Name, call: Interpolation) -> Result<()> {
     match call {
         Interpolation::Unfold => {
             interpolate_at(rt, name, call, &[0, 1, 2, 3].map(BabyBear4::from_u64), 3)
@@ -79,14 +79,14 @@ pub fn interpolate(rt: &HostRuntime, name: Name<'_>, call: Interpolation) -> Res
 }
 
 /// `unquotient`.
-pub fn tell_unquotient(rt: &HostRuntime, name: Name<'_>) -> Result<()> {
+pub fn tell_unquotient(rt: &HostRuntime, name: Name) -> Result<()> {
     let [shift, z, y] = [3, 5, 7].map(BabyBear4::from_u64);
     if shift.is_zero() {
         return Err(Fault::Inputs);
     }
     let quotient = [1, 2, 3].map(BabyBear4::from_u64);
     let answer = unquotient(rt.alloc(), shift, z, y, &quotient);
-    tell(rt, name, &answer, ["", ""])
+    tell(rt, name, &answer)
 }
 
 /// A node over two leaves.
@@ -109,7 +109,7 @@ fn tree(alloc: Global) -> std::result::Result<Tree, AllocError> {
 }
 
 /// `unfold_tree`.
-pub fn tell_unfold_tree(rt: &HostRuntime, name: Name<'_>) -> Result<()> {
+pub fn tell_unfold_tree(rt: &HostRuntime, name: Name) -> Result<()> {
     let (tree, rounds) = (tree(rt.alloc())?, [(1, true), (1, false)]);
     let length = leaf_length(&tree);
     if !log_arities_fit(&rounds) || !paths_fit(&rounds, &tree) || !leaves_fit(length, &tree) {
@@ -121,5 +121,5 @@ pub fn tell_unfold_tree(rt: &HostRuntime, name: Name<'_>) -> Result<()> {
         return Err(Fault::Inputs);
     }
     let answer = unfold_tree(rt.alloc(), &rounds, &tree);
-    tell(rt, name, &answer, ["", ""])
+    tell(rt, name, &answer)
 }

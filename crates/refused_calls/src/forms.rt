@@ -88,7 +88,7 @@ fn form(alloc: Global) -> Made<PlainFriProof> {
 }
 
 /// `from_plain`; the proof is shown by its plain form.
-pub fn tell_from_plain(rt: &HostRuntime, name: Name<'_>) -> Result<()> {
+pub fn tell_from_plain(rt: &HostRuntime, name: Name) -> Result<()> {
     let Ok(form) = form(rt.alloc()) else {
         return Err(Fault::Memory);
     };
@@ -99,5 +99,5 @@ pub fn tell_from_plain(rt: &HostRuntime, name: Name<'_>) -> Result<()> {
         },
         Err(refusal) => Err(refusal),
     };
-    tell(rt, name, &answer, ["", ""])
+    tell(rt, name, &answer)
 }

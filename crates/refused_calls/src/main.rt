@@ -26,7 +26,7 @@ use std::env;
 use std::process::ExitCode;
 
 /// Makes a call and prints what it answers after this name.
-fn make(rt: &HostRuntime, name: Name<'_>, call: Call) -> Result<()> {
+fn make(rt: &HostRuntime, name: Name, call: Call) -> Result<()> {
     match call {
         Call::Plain(call) => settings::make_plain(rt, name, call),
         Call::Hiding(call) => settings::make_hiding(rt, name, call),

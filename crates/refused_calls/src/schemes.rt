@@ -3,7 +3,7 @@
 ghost use Rattle.std.specs.Prelude.{◌≡◌, ◌<◌, length, IfOk};
 ghost use Rattle.std.specs.List.{AllZip};
 
-use crate::answer::{Fault, Name, Result, drawn, kept, tell, tell_commitment};
+use crate::answer::{Fault, Name, Result, drawn, kept, tell, tell_commitment, tell_left};
 use crate::call::SchemeCall;
 use crate::matrices::points;
 use p3_challenger::Sha256Challenger;
@@ -105,7 +105,7 @@ fn opened<P: Pcs<BabyBear4, Sha256Challenger>>(
 /// `open`, at a point or two of each matrix, or `verify` of that.
 fn open<P: Pcs<BabyBear4, Sha256Challenger>>(
     rt: &HostRuntime,
-    name: Name<'_>,
+    name: Name,
     call: SchemeCall,
     scheme: &mut P,
     columns: Columns<P::Domain, P::Val>,
@@ -140,20 +140,20 @@ where
             Ok(()) => Ok(drawn(&mut verifier)),
             Err(refusal) => Err(refusal),
         };
-        return tell(rt, name, &answer, ["", ""]);
+        return tell(rt, name, &answer);
     }
     let left = [held.mark(), kept(&challenger)];
     let answer = match answer {
         Ok((values, _proof, _claims)) => Ok((values, drawn(&mut challenger))),
         Err(refusal) => Err(refusal),
     };
-    tell(rt, name, &answer, left)
+    tell_left(rt, name, &answer, left)
 }
 
 /// Makes a call, of columns or of chunks of a quotient; columns are read on the domain.
 pub fn make<P: UnivariateStarkPcs<BabyBear4, Sha256Challenger>>(
     rt: &HostRuntime,
-    name: Name<'_>,
+    name: Name,
     call: SchemeCall,
     scheme: &mut P,
     columns: Columns<P::Domain, P::Val>,
@@ -177,7 +177,7 @@ where
         SchemeCall::Commit => tell_commitment(rt, name, scheme.commit(alloc, columns)),
         SchemeCall::GetQuotientLdes => {
             let answer = scheme.get_quotient_ldes(alloc, chunks, count);
-            tell(rt, name, &answer, ["", ""])
+            tell(rt, name, &answer)
         }
         SchemeCall::CommitLdes => {
             let Ok(words) = scheme.get_quotient_ldes(alloc, chunks, count) else {
@@ -189,7 +189,7 @@ where
         SchemeCall::GetEvaluationsOnDomain => {
             let (_, held) = committed(alloc, &mut *scheme, columns)?;
             let answer = scheme.get_evaluations_on_domain(alloc, &held, 0, domain);
-            tell(rt, name, &answer, ["", ""])
+            tell(rt, name, &answer)
         }
         _ => open(rt, name, call, scheme, columns),
     }

@@ -146,13 +146,13 @@ fn chunks(alloc: Global) -> Result<Evaluations>
 }
 
 /// Makes a call of the plain scheme.
-pub fn make_plain(rt: &HostRuntime, name: Name<'_>, call: SchemeCall) -> Result<()> {
+pub fn make_plain(rt: &HostRuntime, name: Name, call: SchemeCall) -> Result<()> {
     let (columns, chunks) = (plain_columns(rt.alloc())?, chunks(rt.alloc())?);
     make(rt, name, call, &mut plain(), columns, chunks, coset(5, 2)?)
 }
 
 /// Makes a call of the hiding scheme.
-pub fn make_hiding(rt: &HostRuntime, name: Name<'_>, call: SchemeCall) -> Result<()> {
+pub fn make_hiding(rt: &HostRuntime, name: Name, call: SchemeCall) -> Result<()> {
     let (columns, chunks) = (hiding_columns(rt.alloc())?, chunks(rt.alloc())?);
     make(rt, name, call, &mut hiding(), columns, chunks, coset(5, 2)?)
 }

@@ -1,6 +1,6 @@
 //! The beginnings of transcripts.
 
-use crate::answer::{Fault, Name, Result, drawn, kept, tell};
+use crate::answer::{Fault, Name, Result, drawn, kept, tell_left};
 use p3_challenger::Sha256Challenger;
 use p3_field::{BabyBear, BabyBear4};
 use p3_fri_pcs_transcript::pcs_transcript::{PcsShape, PcsTranscript};
@@ -52,7 +52,7 @@ fn pcs_shape(alloc: Global) -> Result<PcsShape> {
 /// Prints whether a transcript began, and what it leaves of the challenger.
 fn tell_begun(
     rt: &HostRuntime,
-    name: Name<'_>,
+    name: Name,
     begun: std::result::Result<(), AllocError>,
     mut challenger: Sha256Challenger,
 ) -> Result<()> {
@@ -62,11 +62,11 @@ fn tell_begun(
         Ok(()) => Ok(next),
         Err(refusal) => Err(refusal),
     };
-    tell(rt, name, &begun, [left, ""])
+    tell_left(rt, name, &begun, [left, ""])
 }
 
 /// Begins a side's transcript of the low-degree test.
-pub fn begin<Side>(rt: &HostRuntime, name: Name<'_>) -> Result<()> {
+pub fn begin<Side>(rt: &HostRuntime, name: Name) -> Result<()> {
     let (shape, mut challenger) = (shape(rt.alloc())?, Sha256Challenger::new());
     let begun = match Transcript::<'_, Side>::new(rt.alloc(), &mut challenger, shape) {
         Ok(transcript) => Ok(transcript.abort()),
@@ -76,7 +76,7 @@ pub fn begin<Side>(rt: &HostRuntime, name: Name<'_>) -> Result<()> {
 }
 
 /// Begins a side's transcript of an opening.
-pub fn begin_pcs<Side>(rt: &HostRuntime, name: Name<'_>) -> Result<()> {
+pub fn begin_pcs<Side>(rt: &HostRuntime, name: Name) -> Result<()> {
     let (shape, mut challenger) = (pcs_shape(rt.alloc())?, Sha256Challenger::new());
     let begun = match OpeningTranscript::<'_, Side>::new(rt.alloc(), &mut challenger, shape) {
         Ok(transcript) => Ok(transcript.abort()),

@@ -9,12 +9,7 @@ use p3_test_openings::listed::pair;
 use std::fmt::Debug;
 
 /// `commit`, to two matrices of two heights, or `open_multi_batch` of that.
-pub fn make<M: Mmcs<BabyBear>>(
-    rt: &HostRuntime,
-    name: Name<'_>,
-    call: TreeCall,
-    tree: &M,
-) -> Result<()>
+pub fn make<M: Mmcs<BabyBear>>(rt: &HostRuntime, name: Name, call: TreeCall, tree: &M) -> Result<()>
 where
     M::Commitment: Debug,
     M::MultiProof: Debug,
@@ -34,5 +29,5 @@ where
         return Err(Fault::Inputs);
     }
     let answer = tree.open_multi_batch(alloc, &indices, &held);
-    tell(rt, name, &answer, ["", ""])
+    tell(rt, name, &answer)
 }
