@@ -1,4 +1,6 @@
 pub mod Digests
+pub mod HidingAccepted
+pub mod Marked
 pub mod Parts
 pub mod ProofNumbers
 pub mod Sizes

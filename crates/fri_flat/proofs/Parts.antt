@@ -20,3 +20,9 @@ three_read bytes first second third after_first after_second rest a b c =
     ∙ sym (append_assoc first second after_second)
     ∙ ap (λ (x : List ℕ). (first ++ second) ++ x) c
     ∙ sym (append_assoc (first ++ second) third rest)
+
+-- one part more
+pub read_next : (bytes front part after rest : List ℕ) → bytes ≡ front ++ after
+    → after ≡ part ++ rest → bytes ≡ front ++ part ++ rest
+read_next bytes front part after rest a b =
+    a ∙ ap (λ (x : List ℕ). front ++ x) b ∙ sym (append_assoc front part rest)

@@ -1,2 +1,4 @@
 pub mod Answers
 pub mod Flat
+pub mod Hiding
+pub mod HidingAnswers

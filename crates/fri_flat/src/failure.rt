@@ -5,6 +5,7 @@ ghost use Rattle.std.specs.Prelude.{◌≤◌};
 use crate::fault::{ReadError, WriteError};
 use fri_requests::{RequestError, VerifyError};
 use p3_fri_folding::FriProverError;
+use p3_fri_masks::HidingFriProverError;
 use std::alloc::{AllocError, AllocFailed};
 use std::error::Error;
 use std::fmt;
@@ -32,8 +33,12 @@ pub enum Failure {
     /// extension that isn't four numbers, or a commitment that isn't the hex text of 32 bytes. No
     /// answer of `fri_requests` has any of these.
     NoForm,
+    /// The index of a preprocessed commitment is past the last commitment of the request.
+    NoCommitment { index: usize },
     /// The request isn't opened.
     Request(RequestError<FriProverError>),
+    /// The request isn't opened by the scheme that hides.
+    HidingRequest(RequestError<HidingFriProverError>),
     /// The statement isn't accepted.
     Statement(VerifyError),
     /// Memory was refused.
@@ -48,8 +53,10 @@ impl Failure {
     {
         match self {
             Failure::Request(RequestError::Refused(_)) => REFUSED,
+            Failure::HidingRequest(RequestError::Refused(_)) => REFUSED,
             Failure::Statement(VerifyError::Refused(_)) => REFUSED,
             Failure::Request(RequestError::OutOfMemory) => OUT_OF_MEMORY,
+            Failure::HidingRequest(RequestError::OutOfMemory) => OUT_OF_MEMORY,
             Failure::Statement(VerifyError::OutOfMemory) => OUT_OF_MEMORY,
             Failure::OutOfMemory => OUT_OF_MEMORY,
             _ => MALFORMED,
@@ -80,7 +87,18 @@ impl fmt::Display for Failure {
                 write!(f, "BytesLeft {{ at: {at} }}: bytes follow what is whole")
             },
             Failure::NoForm => f.write_str("NoForm: the answer has no flat form"),
+            Failure::NoCommitment { index } => {
+                write!(
+                    f,
+                    "NoCommitment {{ index: {index} }}: no commitment of the request has the index"
+                )
+            },
             Failure::Request(error) => write!(f, "{error}"),
+            // by the same words as in the plain scheme
+            Failure::HidingRequest(RequestError::Refused(HidingFriProverError::Fri(error))) => {
+                write!(f, "{error:?}: {error}")
+            },
+            Failure::HidingRequest(error) => write!(f, "{error}"),
             Failure::Statement(error) => write!(f, "{error}"),
             Failure::OutOfMemory => f.write_str("OutOfMemory: out of memory"),
         }

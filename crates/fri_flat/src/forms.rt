@@ -3,9 +3,11 @@
 ghost use Rattle.std.specs.Prelude.{◌≡◌, IfOk};
 ghost use Rattle.fri_flat.specs.Answers.{digests};
 ghost use Rattle.fri_flat.specs.Flat.{answer};
+ghost use Rattle.fri_flat.specs.Hiding.{hiding_answer};
 
 use crate::failure::Failure;
 use crate::flat::Flat;
+use crate::hiding_forms::HidingStatement;
 use crate::reader::Reader;
 use crate::statement::Statement;
 use crate::writer::push_element;
@@ -51,5 +53,20 @@ pub(crate) fn answer_of(
     let mut out = Vec::new(alloc);
     push_element(&mut out, next_challenge)?;
     Statement::write(statement, &mut out)?;
+    Ok(out)
+}
+
+/// The bytes of an answer of `hiding::open`: the next challenge, then the statement.
+pub(crate) fn hiding_answer_of(
+    alloc: Global,
+    next_challenge: &Vec<u64>,
+    statement: &HidingStatement,
+) -> Result<Vec<u8>, Failure>
+    ensures { IfOk result (λ v.
+        v.items ≡ hiding_answer next_challenge.now.items statement.now) }
+{
+    let mut out = Vec::new(alloc);
+    push_element(&mut out, next_challenge)?;
+    HidingStatement::write(statement, &mut out)?;
     Ok(out)
 }

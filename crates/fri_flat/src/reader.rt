@@ -6,6 +6,7 @@ ghost use Rattle.std.specs.List.{All};
 ghost use Rattle.hex.specs.Hex.{decode_of};
 ghost use Rattle.fri_requests.specs.Bound.{IsContext};
 ghost use Rattle.fri_flat.specs.Flat.{word, words, elements, digest, context, IsElement};
+ghost use Rattle.fri_flat.specs.Hiding.{index, IsIndex};
 
 use crate::fault::ReadError;
 use std::alloc::{AllocError, Global};
@@ -112,6 +113,29 @@ impl<'a> Reader<'a> {
             elements.push(self.words(alloc, 4)?)?;
         }
         Ok(elements)
+    }
+
+    /// Reads an index, or that there is none.
+    pub fn index(&mut self) -> Result<Option<usize>, ReadError>
+        ensures form { IfOk result (λ i. self.old.left.now ≡ index i ++ self.new.left.now) }
+        ensures whole { IfOk result IsIndex }
+    {
+        match self.word()? {
+            u32::MAX => Ok(None),
+            number => Ok(Some(number as usize)),
+        }
+    }
+
+    /// Reads a seed: 32 bytes.
+    pub fn seed(&mut self) -> Result<[u8; 32], ReadError>
+        ensures form { IfOk result (λ seed. self.old.left.now ≡ seed ++ self.new.left.now) }
+        ensures length { IfOk result (λ seed. length seed ≡ 32) }
+    {
+        let bytes = self.bytes(32)?;
+        match <[u8; 32]>::try_from(bytes) {
+            Ok(seed) => Ok(seed),
+            Err(_) => Err(self.missing()),
+        }
     }
 
     /// Reads a digest, as hex text.

@@ -4,6 +4,7 @@ ghost use Rattle.std.specs.Prelude.{◌≡◌, ◌++◌, OnOk, string_bytes};
 ghost use Rattle.std.specs.List.{All};
 ghost use Rattle.fri_flat.specs.Flat.{word, words, elements, digest, context, IsElement};
 ghost use Rattle.fri_flat.specs.Flat.{digest_bytes, IsDigest};
+ghost use Rattle.fri_flat.specs.Hiding.{index, IsIndex};
 
 use crate::fault::WriteError;
 use hex::{FromHex, FromHexError};
@@ -53,6 +54,20 @@ pub(crate) fn push_numbers(out: &mut Vec<u8>, numbers: &[u64]) -> Result<(), Wri
         push_number(out, *number)?;
     }
     Ok(())
+}
+
+/// Adds an index, or that there is none. The number that says so is no index.
+pub(crate) fn push_index(out: &mut Vec<u8>, place: Option<usize>) -> Result<(), WriteError>
+    ensures form { OnOk result (out.new.items ≡ out.old.items ++ index place) }
+    ensures whole { OnOk result (IsIndex place) }
+{
+    match place {
+        None => push_word(out, u32::MAX),
+        Some(place) => match u32::try_from(place) {
+            Ok(u32::MAX) | Err(_) => Err(WriteError::NoForm),
+            Ok(place) => push_word(out, place),
+        },
+    }
 }
 
 /// Adds an element of the extension.
