@@ -1,10 +1,10 @@
-//! The plain scheme, and a STARK in both schemes, for callers that aren't Rattle: functions over
-//! bytes. Nothing is required of what the bytes are, no call halts, and none keeps a pointer.
+//! Both schemes, and a STARK in both, for callers that aren't Rattle: functions over bytes. Nothing
+//! is required of what the bytes are, no call halts, and none keeps a pointer.
 //!
-//! Four functions of the plain scheme take the flat form. A proof is bound to the whole statement:
-//! its context, parameters, commitments, domains, widths and points. A point that has to be random
-//! is drawn after the commitments, by `p3_fri_challenge` from the bytes of what was sent, which are
-//! then the context.
+//! Four functions of the plain scheme and three of the one that hides take the flat form. A proof is
+//! bound to the whole statement: its context, parameters, commitments, domains, widths and points,
+//! and by what it hides. A point that has to be random is drawn after the commitments, by
+//! `p3_fri_challenge` from the bytes of what was sent, which are then the context.
 //!
 //! Five functions of a STARK take texts in JSON. A proof is accepted of the system and the public
 //! values that the verifier passes.
@@ -15,6 +15,7 @@ ghost use Rattle.fri_flat.specs.Answers.{AnswersRequest, AnswersStatement, Commi
 ghost use Rattle.fri_flat.specs.Answers.{drawn_after};
 ghost use Rattle.p3_fri_ffi.specs.Reply.{IsReply};
 
+mod hiding;
 mod reply;
 mod stark;
 
