@@ -1,5 +1,5 @@
-/* The plain FRI commitment scheme at BabyBear, its extension of degree 4 and SHA-256, and a STARK
- * over it and over the scheme that hides.
+/* The plain FRI commitment scheme at BabyBear, its extension of degree 4 and SHA-256, the scheme
+ * that hides, and a STARK over both.
  *
  * Of the scheme bytes go in and bytes come out, in the flat form of docs/FORMATS.md: a number is
  * four bytes, the lowest first, and a digest 32. An element of BabyBear is its canonical number,
@@ -70,6 +70,38 @@ uint8_t p3_fri_verify(const uint8_t *statement, size_t statement_length,
  * the context, any bytes, are the whole request. */
 uint8_t p3_fri_challenge(const uint8_t *context, size_t context_length,
                          uint8_t *answer, size_t answer_length, size_t *needed);
+
+/* The scheme that hides: what is committed to is masked by random columns and rows, so that an
+ * opening shows nothing of it beyond the claimed values. That it hides isn't proved; what an
+ * accepted statement says is as above.
+ *
+ * A hiding request is the number of random columns, four at least; a seed, 32 bytes; the index of
+ * the commitment that is public and isn't masked, or 0xffffffff where there is none; and then a
+ * request as above. All masks are drawn from the seed: it is secret, from a good source, and fresh
+ * for each proof. `p3_fri_hiding_commit` and `p3_fri_hiding_open` of the same matrices take the
+ * same seed, and so does a second call for a longer buffer: that is one proof. Two openings with
+ * one seed of other data, or of the same at other points, show how their masks belong together, so
+ * that what was hidden can be computed from them. Whoever learns the seed can compute it too: the
+ * caller overwrites it once it isn't needed.
+ *
+ * A hiding statement is the number of random columns and that index, then context, parameters and
+ * claims as above, then the values of the random columns and the proof. It has no seed. */
+
+/* Commits to the matrices of a hiding request: 32 bytes for each commitment. */
+uint8_t p3_fri_hiding_commit(const uint8_t *request, size_t request_length,
+                             uint8_t *answer, size_t answer_length, size_t *needed);
+
+/* Commits to the matrices of a hiding request, and opens them at its points under its context: the
+ * four numbers of the next challenge, then a hiding statement, which `p3_fri_hiding_verify`
+ * accepts. */
+uint8_t p3_fri_hiding_open(const uint8_t *request, size_t request_length,
+                           uint8_t *answer, size_t answer_length, size_t *needed);
+
+/* Verifies a hiding statement: the four numbers of the next challenge. Whoever relies on it being
+ * accepted compares all that stands before the random values with what is expected, the number of
+ * random columns and the index too. */
+uint8_t p3_fri_hiding_verify(const uint8_t *statement, size_t statement_length,
+                             uint8_t *answer, size_t answer_length, size_t *needed);
 
 /* A STARK: a proof that there is a trace, a table of elements, which satisfies a constraint system.
  *

@@ -1,10 +1,11 @@
-"""Answers a request as `p3_fri_open` does, in the flat form of `docs/FORMATS.md`.
+"""Answers a request as `p3_fri_open` and `p3_fri_hiding_open` do, in the flat form of
+`docs/FORMATS.md`.
 
     python3 tools/relation/flat_form.py REQUEST.json
 
 Prints the parts of the answer in hex, a line each: the next challenge, and those of the statement,
-which are its context, its parameters, its claims and its proof. REQUEST.json is read as `answer.py`
-reads it.
+which are its context, its parameters, its claims and its proof; of a hiding request first by what it
+is hidden. REQUEST.json is read as `answer.py` reads it.
 """
 
 import sys
@@ -64,8 +65,28 @@ def proof_bytes(proof):
     ])
 
 
+NO_INDEX = (1 << 32) - 1
+
+
+def hiding(hidden):
+    index = NO_INDEX if hidden.preprocessing is None else hidden.preprocessing
+    return numbers([hidden.num_random_codewords, index])
+
+
+RANDOM_VALUES = listed(listed(listed(listed(numbers))))
+
+
 def parts_of(statement):
     """The parts of a statement, by name and in order."""
+    hidden = statement.hiding
+    parts = plain_parts_of(statement)
+    if hidden is None:
+        return parts
+    return {"hiding": hiding(hidden)} | parts | {
+        "proof": RANDOM_VALUES(hidden.random_values) + parts["proof"]}
+
+
+def plain_parts_of(statement):
     return {
         "context": number(len(statement.context)) + statement.context,
         "parameters": numbers(vars(statement.parameters).values()),

@@ -26,13 +26,14 @@ before anything is drawn, and the values after them. It doesn't mean that points
 needs them to be: an application absorbs what is public, and each commitment once it is made, into a `Transcript`; draws its
 challenges and its points from there, after what they depend on; and opens and verifies with the transcript's bytes as the
 context. Its verifier makes the transcript, the points, and the claims' domains and widths by itself, and has parameters of
-its own. Nothing is hidden: a proof shows rows of what is committed to.
+its own. Nothing is hidden: a proof shows rows of what is committed to, but for those of `hiding`.
 
-`stark` proves that there is a table which satisfies a constraint system, and verifies such proofs.
+`hiding` has the scheme that masks what is committed to. `stark` proves that there is a table which satisfies a constraint
+system, and verifies such proofs.
 
 Calls share nothing, and Python's lock isn't held inside of one, so threads may call at once.
 """
-from . import stark
+from . import hiding, stark
 from .errors import Error, Malformed, OutOfMemory, ProcessorTooOld, Refused
 from .scheme import challenge, commit, open, verify
 from .transcript import Transcript
@@ -68,6 +69,7 @@ __all__ = [
     "Transcript",
     "challenge",
     "commit",
+    "hiding",
     "open",
     "stark",
     "verify",

@@ -4,7 +4,7 @@ from __future__ import annotations
 import struct
 import sys
 from array import array
-from typing import Callable, List, Sequence, TypeVar
+from typing import Callable, List, Optional, Sequence, TypeVar
 
 from .errors import Error, Malformed
 from .types import CommitmentClaims, Domain, ExtensionElement, Matrix, MatrixClaims, Opening, Parameters, PointClaims
@@ -20,6 +20,10 @@ NUMBERS_OF_PARAMETERS = (
     "commit_proof_of_work_bits",
     "query_proof_of_work_bits",
 )
+
+
+# The number that stands for no index.
+NO_INDEX = 2**32 - 1
 
 
 def no_number(place: str) -> Malformed:
@@ -72,6 +76,17 @@ class Writer:
     def context(self, context: bytes) -> None:
         self.numbers([len(context)], "context")
         self.parts.append(bytes(context))
+
+    def hidden(self, num_random_codewords: int, seed: bytes, preprocessed: Optional[int]) -> None:
+        """By what a request is hidden, which stands before it, and without a seed by what a statement is."""
+        self.numbers([num_random_codewords], "num_random_codewords")
+        self.parts.append(seed)
+        if preprocessed is None:
+            self.numbers([NO_INDEX], "preprocessed")
+        elif preprocessed == NO_INDEX:
+            raise no_number("preprocessed")
+        else:
+            self.numbers([preprocessed], "preprocessed")
 
     def matrix(self, matrix: Matrix, place: str) -> None:
         domain = matrix.domain
@@ -150,9 +165,11 @@ class Reader:
         commitment = self.digest()
         return CommitmentClaims(commitment, self.counted(self.matrix_claims))
 
-    def opening(self) -> Opening:
-        """What `open` answers. Context and parameters are those that were passed."""
+    def opening(self, hides: bool = False) -> Opening:
+        """What `open` answers. Context and parameters, and by what is hidden, are those that were passed."""
         next_challenge = self.element()
+        if hides:
+            self.take(8)
         self.take(self.number())
         self.take(4 * len(NUMBERS_OF_PARAMETERS))
         claims = self.counted(self.commitment_claims)

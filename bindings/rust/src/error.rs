@@ -89,6 +89,26 @@ names! {
         FinalPolyMismatch,
         /// A round's commitment doesn't open to the rows that the queries fold.
         CommitPhaseMmcsError,
+        /// Of [`hiding`](crate::hiding): there are fewer than four random columns.
+        InsufficientRandomCodewords,
+        /// Of [`hiding`](crate::hiding): no number of rows would be enough.
+        BudgetOverflow,
+        /// Of [`hiding`](crate::hiding), `verify` too: a matrix has too few rows.
+        HidingBudgetExceeded,
+        /// Of [`hiding::verify`](crate::hiding::verify): there are fewer than four random columns.
+        InsufficientHidingRandomCodewords,
+        /// Of [`hiding::verify`](crate::hiding::verify): no claim has the index of the preprocessed
+        /// commitment.
+        HidingPreprocessedCommitmentOutOfBounds,
+        /// Of [`hiding::verify`](crate::hiding::verify): the proof has random values for another
+        /// number of commitments.
+        HidingRandomOpeningRoundCountMismatch,
+        /// Of [`hiding::verify`](crate::hiding::verify): or for another number of matrices.
+        HidingRandomOpeningMatrixCountMismatch,
+        /// Of [`hiding::verify`](crate::hiding::verify): or for another number of points.
+        HidingRandomOpeningPointCountMismatch,
+        /// Of [`hiding::verify`](crate::hiding::verify): or another number of them at a point.
+        HidingRandomOpeningValueCountMismatch,
         /// Of a trace: a constraint isn't zero in a row.
         Unsatisfied,
         /// Of a trace: it has no rows.
@@ -172,8 +192,10 @@ names! {
         BytesMissing,
         /// Bytes follow a whole proof.
         BytesLeft,
-        /// A list or the context is too long for its length to be a number of 32 bits.
+        /// A list, the context or an index is too long or great for a number of 32 bits.
         NoForm,
+        /// Of [`hiding`](crate::hiding): no commitment has the index of the preprocessed one.
+        NoCommitment,
         /// A text isn't JSON, or not of its record: of the bytes of a STARK's proof.
         Json,
         /// Of a STARK's proof: a number isn't below the order.

@@ -1,6 +1,7 @@
 //! The flat form: a number is four bytes, the lowest first, a digest 32.
 
 use crate::error::{Error, Fault};
+use crate::hiding::Masking;
 use crate::types::{
     CommitmentClaims, Digest, Domain, ExtensionElement, Matrix, MatrixClaims, Opening, Parameters,
     PointClaims, Proof,
@@ -16,9 +17,13 @@ pub(crate) struct Writer {
 fn too_long() -> Error {
     Error::Malformed {
         fault: Fault::NoForm,
-        text: "NoForm: a list or the context is longer than a number of 32 bits counts".to_string(),
+        text: "NoForm: a list, the context or an index is past what a number of 32 bits counts"
+            .to_string(),
     }
 }
+
+/// The number that stands for no index.
+const NO_INDEX: u32 = u32::MAX;
 
 impl Writer {
     fn number(&mut self, number: u32) {
@@ -60,6 +65,33 @@ impl Writer {
         self.numbers(&matrix.values);
         self.numbers(matrix.points.as_flattened());
         Ok(())
+    }
+
+    fn index(&mut self, index: Option<usize>) -> Result<(), Error> {
+        let Some(index) = index else {
+            self.number(NO_INDEX);
+            return Ok(());
+        };
+        let number = u32::try_from(index).ok().filter(|number| *number != NO_INDEX);
+        self.number(number.ok_or_else(too_long)?);
+        Ok(())
+    }
+
+    /// By what a request is hidden, which stands before it.
+    pub fn masking(&mut self, masking: &Masking, preprocessed: Option<usize>) -> Result<(), Error> {
+        self.number(masking.num_random_codewords);
+        self.bytes.extend_from_slice(&masking.seed);
+        self.index(preprocessed)
+    }
+
+    /// By what a statement is hidden, which stands before it.
+    pub fn hidden(
+        &mut self,
+        num_random_codewords: u32,
+        preprocessed: Option<usize>,
+    ) -> Result<(), Error> {
+        self.number(num_random_codewords);
+        self.index(preprocessed)
     }
 
     /// A request.
@@ -166,6 +198,18 @@ impl Reader<'_> {
     /// What `open` answers. Context and parameters are those that were passed.
     pub fn opening(mut self) -> Option<Opening> {
         let next_challenge = self.element()?;
+        self.after_challenge(next_challenge)
+    }
+
+    /// And what `hiding::open` answers, as the number of random columns and the index are.
+    pub fn hiding_opening(mut self) -> Option<Opening> {
+        let next_challenge = self.element()?;
+        self.number()?;
+        self.number()?;
+        self.after_challenge(next_challenge)
+    }
+
+    fn after_challenge(mut self, next_challenge: ExtensionElement) -> Option<Opening> {
         let context_length = usize::try_from(self.number()?).ok()?;
         self.left = self.left.get(context_length..)?;
         for _ in 0..7 {

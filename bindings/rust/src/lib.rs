@@ -1,5 +1,6 @@
 //! The plain FRI polynomial commitment scheme at BabyBear, its extension of degree 4 and SHA-256,
-//! and in [`stark`] proofs that there is a table which satisfies a constraint system.
+//! in [`hiding`] the one that masks what is committed to, and in [`stark`] proofs that there is a
+//! table which satisfies a constraint system.
 //!
 //! The work is done by a library in Rattle, which is Rust with contracts: each of its functions is
 //! proved to meet its contract, so that it does nothing undefined, returns, and answers what is
@@ -58,7 +59,7 @@
 //! Its verifier makes the transcript, the points, and the claims' domains and widths by itself, and
 //! has parameters of its own: of the prover it takes commitments, values and the proof. The example
 //! at [`Transcript`] does so, and `examples/fibonacci` is a whole program. Nothing is hidden: a
-//! proof shows rows of what is committed to.
+//! proof shows rows of what is committed to, but for those of [`hiding`].
 //!
 //! # Numbers, threads and time
 //!
@@ -83,6 +84,7 @@
 
 mod error;
 mod flat;
+pub mod hiding;
 mod processor;
 #[cfg(feature = "serde")]
 mod proof_serde;

@@ -49,6 +49,27 @@ unsafe extern "C" {
         answer_length: usize,
         needed: *mut usize,
     ) -> u8;
+    fn p3_fri_hiding_commit(
+        request: *const u8,
+        request_length: usize,
+        answer: *mut u8,
+        answer_length: usize,
+        needed: *mut usize,
+    ) -> u8;
+    fn p3_fri_hiding_open(
+        request: *const u8,
+        request_length: usize,
+        answer: *mut u8,
+        answer_length: usize,
+        needed: *mut usize,
+    ) -> u8;
+    fn p3_fri_hiding_verify(
+        request: *const u8,
+        request_length: usize,
+        answer: *mut u8,
+        answer_length: usize,
+        needed: *mut usize,
+    ) -> u8;
 }
 
 /// Which function is called.
@@ -58,6 +79,9 @@ pub(crate) enum Call {
     Open,
     Verify,
     Challenge,
+    HidingCommit,
+    HidingOpen,
+    HidingVerify,
 }
 
 impl Call {
@@ -67,6 +91,9 @@ impl Call {
             Call::Open => p3_fri_open,
             Call::Verify => p3_fri_verify,
             Call::Challenge => p3_fri_challenge,
+            Call::HidingCommit => p3_fri_hiding_commit,
+            Call::HidingOpen => p3_fri_hiding_open,
+            Call::HidingVerify => p3_fri_hiding_verify,
         }
     }
 
@@ -188,6 +215,49 @@ mod tests {
         }
     }
 
+    /// Four random columns, a seed and no preprocessed commitment, and then a column of 16 rows in
+    /// place of the one of two, which are too few to hide one.
+    fn hiding_request() -> Vec<u8> {
+        let mut numbers = vec![0, 1, 0, 4, 1, 0, 0, 0, 1, 1, 1, 4, 1, 1];
+        numbers.extend(1..=16);
+        numbers.extend([5, 0, 0, 0]);
+        let mut bytes = vec![4, 0, 0, 0];
+        bytes.extend([7; 32]);
+        bytes.extend([255; 4]);
+        bytes.extend(numbers.iter().flat_map(|number: &u32| number.to_le_bytes()));
+        bytes
+    }
+
+    #[test]
+    fn no_beginning_is_well_formed_in_the_hiding_form() {
+        let request = hiding_request();
+        let answer = Call::HidingOpen.answer(&request, 5000).unwrap();
+        assert!(Call::HidingVerify.answer(&answer[16..], 5000).is_ok());
+        for (call, bytes) in [(Call::HidingOpen, &request[..]), (Call::HidingVerify, &answer[16..])]
+        {
+            for length in 0..bytes.len() {
+                let refused = call.answer(&bytes[..length], 5000);
+                assert!(matches!(refused, Err(Error::Malformed { .. })), "{length}");
+            }
+        }
+        // each form is of its own scheme
+        assert!(Call::Open.answer(&request, 5000).is_err());
+        assert!(Call::Verify.answer(&answer[16..], 5000).is_err());
+        assert!(Call::Verify.answer(&answer[24..], 5000).is_err());
+    }
+
+    /// All of a hiding statement counts, as all of a plain one: the number of random columns and the
+    /// index first.
+    #[test]
+    fn no_hiding_statement_with_another_bit_is_accepted() {
+        let statement = Call::HidingOpen.answer(&hiding_request(), 5000).unwrap().split_off(16);
+        for place in 0..statement.len() {
+            let mut changed = statement.clone();
+            changed[place] ^= 1;
+            assert!(Call::HidingVerify.answer(&changed, 5000).is_err(), "{place}");
+        }
+    }
+
     /// All of a statement is absorbed before indices are drawn: context, parameters, commitment,
     /// domain, width, point and values. So with another bit before the proof others are drawn,
     /// which all of 40 queries are the same by no chance to be met.
@@ -228,7 +298,9 @@ mod tests {
         let status = unsafe { call(ptr::null(), 0, answer.as_mut_ptr(), 16, &mut needed) };
         assert_eq!((status, needed, &answer[..]), (ANSWERED, 16, &expected[..]));
         let text = "BytesMissing { at: 0 }: fewer bytes are left than have to come";
-        for call in [Call::Commit, Call::Open, Call::Verify] {
+        let plain = [Call::Commit, Call::Open, Call::Verify];
+        let hiding = [Call::HidingCommit, Call::HidingOpen, Call::HidingVerify];
+        for call in plain.into_iter().chain(hiding) {
             // SAFETY: as before
             let status = unsafe { call.raw()(ptr::null(), 0, ptr::null_mut(), 0, &mut needed) };
             assert_eq!((status, needed), (BUFFER_TOO_SHORT, text.len()));

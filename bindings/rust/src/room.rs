@@ -20,14 +20,20 @@ const DIGEST: usize = 32;
 /// What a list takes beside its entries.
 const LIST: usize = 4;
 
-/// The claims on one commitment, and what one query opens of it.
-fn room_for_commitment(log_blowup: usize, queries: usize, matrices: &[Matrix]) -> usize {
+/// The claims on one commitment, with so many values of random columns beside those of each row and
+/// each point, and what one query opens of it.
+fn room_for_commitment(
+    log_blowup: usize,
+    queries: usize,
+    masks: usize,
+    matrices: &[Matrix],
+) -> usize {
     let mut claims = 36;
     let mut rows = 0;
     let mut height = 0;
     for matrix in matrices {
-        let width = matrix.width as usize;
-        claims += 12 + matrix.points.len() * (20 + 16 * width);
+        let width = matrix.width as usize + masks;
+        claims += 16 + LIST + matrix.points.len() * (20 + LIST + 16 * width);
         rows += LIST + ELEMENT * width;
         height = height.max(matrix.domain.log_size as usize + log_blowup);
     }
@@ -38,6 +44,29 @@ fn room_for_commitment(log_blowup: usize, queries: usize, matrices: &[Matrix]) -
 pub(crate) fn room_for_answer(
     parameters: &Parameters,
     context: &[u8],
+    commitments: &[Vec<Matrix>],
+) -> usize {
+    room_for_masked(parameters, context, 0, commitments)
+}
+
+/// And of `hiding::open`, with so many random columns.
+pub(crate) fn room_for_hiding_answer(
+    parameters: &Parameters,
+    context: &[u8],
+    num_random_codewords: u32,
+    commitments: &[Vec<Matrix>],
+) -> usize {
+    // a masked matrix has twice as many rows
+    let parameters =
+        Parameters { log_blowup: parameters.log_blowup.saturating_add(1), ..*parameters };
+    let masks = num_random_codewords.min(1 << 16) as usize;
+    room_for_masked(&parameters, context, masks, commitments)
+}
+
+fn room_for_masked(
+    parameters: &Parameters,
+    context: &[u8],
+    masks: usize,
     commitments: &[Vec<Matrix>],
 ) -> usize {
     let log_blowup = parameters.log_blowup.min(27) as usize;
@@ -51,15 +80,16 @@ pub(crate) fn room_for_answer(
     let final_polynomial = EXTENSION_ELEMENT << parameters.log_final_poly_len.min(20);
     let mut room = ROOM_FOR_TEXT + rounds + final_polynomial;
     for matrices in commitments {
-        room += room_for_commitment(log_blowup, queries, matrices);
+        room += room_for_commitment(log_blowup, queries, masks, matrices);
     }
     room.min(MOST) + context.len()
 }
 
 #[cfg(test)]
 mod tests {
-    use super::room_for_answer;
+    use super::{room_for_answer, room_for_hiding_answer};
     use crate::flat::Writer;
+    use crate::hiding::Masking;
     use crate::raw::Call;
     use crate::types::{Domain, Matrix, Parameters};
 
@@ -72,6 +102,32 @@ mod tests {
             points: vec![[5, 0, 0, 0], [7, 1, 0, 2]],
         };
         vec![vec![matrix(log_size, 3)], vec![matrix(log_size - 1, 1), matrix(log_size - 1, 7)]]
+    }
+
+    #[test]
+    fn a_hiding_answer_has_room() {
+        let toy = Parameters::toy();
+        for parameters in [
+            toy,
+            Parameters { max_log_arity: 3, num_queries: 5, ..toy },
+            Parameters { log_blowup: 3, num_queries: 8, ..toy },
+        ] {
+            for num_random_codewords in [4, 9] {
+                let (context, commitments) = ([7; 100], commitments(7));
+                let masking = Masking { num_random_codewords, seed: [1; 32] };
+                let mut writer = Writer::default();
+                writer.masking(&masking, None).unwrap();
+                writer.request(&parameters, &context, &commitments).unwrap();
+                let room = room_for_hiding_answer(
+                    &parameters,
+                    &context,
+                    num_random_codewords,
+                    &commitments,
+                );
+                let answer = Call::HidingOpen.answer(&writer.bytes, 0).unwrap();
+                assert!(answer.len() <= room, "{} in {room}", answer.len());
+            }
+        }
     }
 
     #[test]

@@ -8,13 +8,8 @@ use crate::types::{
     CommitmentClaims, Digest, ExtensionElement, Matrix, Opening, Parameters, Proof,
 };
 
-/// The bytes of a request. The form takes a matrix's number of values from its size, so that is
-/// compared here.
-fn request(
-    parameters: &Parameters,
-    context: &[u8],
-    commitments: &[Vec<Matrix>],
-) -> Result<Vec<u8>, Error> {
+/// That each matrix has as many values as its size says: the form takes their number from there.
+pub(crate) fn compare_sizes(commitments: &[Vec<Matrix>]) -> Result<(), Error> {
     for (commitment, matrices) in commitments.iter().enumerate() {
         for (matrix, it) in matrices.iter().enumerate() {
             let count = 1u64.checked_shl(it.domain.log_size).map(u128::from);
@@ -30,9 +25,25 @@ fn request(
             }
         }
     }
+    Ok(())
+}
+
+/// The bytes of a request.
+fn request(
+    parameters: &Parameters,
+    context: &[u8],
+    commitments: &[Vec<Matrix>],
+) -> Result<Vec<u8>, Error> {
+    compare_sizes(commitments)?;
     let mut writer = Writer::default();
     writer.request(parameters, context, commitments)?;
     Ok(writer.bytes)
+}
+
+/// The digests of an answer, so many.
+pub(crate) fn digests(answer: &[u8], count: usize) -> Result<Vec<Digest>, Error> {
+    let mut reader = Reader { left: answer };
+    (0..count).map(|_| reader.digest().ok_or_else(unreadable)).collect()
 }
 
 /// An answer that isn't in its form, which the library is proved not to give.
@@ -63,9 +74,7 @@ pub(crate) fn unreadable() -> Error {
 pub fn commit(parameters: &Parameters, commitments: &[Vec<Matrix>]) -> Result<Vec<Digest>, Error> {
     let request = request(parameters, &[], commitments)?;
     let room = ROOM_FOR_TEXT.max(32 * commitments.len());
-    let answer = Call::Commit.answer(&request, room)?;
-    let mut reader = Reader { left: &answer };
-    commitments.iter().map(|_| reader.digest().ok_or_else(unreadable)).collect()
+    digests(&Call::Commit.answer(&request, room)?, commitments.len())
 }
 
 /// Commits to matrices, those of each list under one commitment, and opens each at its points.

@@ -56,5 +56,6 @@ mod raw;
 mod room;
 mod text;
 
+pub use crate::hiding::Masking as Hiding;
 pub use crate::stark::air::{Air, AirBuilder, Columns, Expression, Rows};
-pub use crate::stark::calls::{check, prove, verify, Hiding, Proof};
+pub use crate::stark::calls::{check, prove, verify, Proof};

@@ -3,7 +3,7 @@
 mod binary;
 
 use p3_fri_proved::{
-    open, verify, CommitmentClaims, Domain, Error, Fault, Matrix, MatrixClaims, Opening,
+    hiding, open, verify, CommitmentClaims, Domain, Error, Fault, Matrix, MatrixClaims, Opening,
     Parameters, PointClaims, Proof,
 };
 use serde::de::value::BytesDeserializer;
@@ -157,6 +157,18 @@ fn what_is_sent_is_verified() {
     assert_eq!(read, opening);
     let next_challenge = verify(&PARAMETERS, b"serde", &read.claims, &read.proof);
     assert_eq!(next_challenge, Ok(opening.next_challenge));
+}
+
+#[test]
+fn what_is_hidden_is_sent_and_verified() {
+    let column = Matrix { domain: Domain::subgroup(5), values: (0..32).collect(), ..column() };
+    let masking = hiding::Masking { num_random_codewords: 4, seed: [7; 32] };
+    let opening = hiding::open(&PARAMETERS, b"serde", &masking, None, &[vec![column]]).unwrap();
+    let sent = serde_json::to_string(&opening).unwrap();
+    let read: Opening = serde_json::from_str(&sent).unwrap();
+    assert_eq!(read, opening);
+    let next = hiding::verify(&PARAMETERS, b"serde", 4, None, &read.claims, &read.proof);
+    assert_eq!(next, Ok(opening.next_challenge));
 }
 
 /// Where what is wrong stands in the JSON of an opening, what stands there, and its name.

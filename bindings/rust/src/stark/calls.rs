@@ -1,23 +1,13 @@
 //! Checking, proving and verifying.
 
 use crate::error::Error;
+use crate::hiding::Masking as Hiding;
 use crate::room::ROOM_FOR_TEXT;
 use crate::scheme::unreadable;
 use crate::stark::air::Air;
 use crate::stark::room::room_for_proof;
 use crate::stark::{raw, text};
 use crate::types::{Element, Parameters};
-
-/// What a prover of the scheme that hides takes beside.
-#[derive(Clone)]
-pub struct Hiding {
-    /// The number of random columns by which a matrix is masked: four at least. The verifier has
-    /// the same number.
-    pub num_random_codewords: u32,
-    /// From where the masks are drawn: bytes of a good source that nobody can guess, and that no
-    /// other proof had.
-    pub seed: [u8; 32],
-}
 
 /// A proof of a STARK: bytes that are a text in JSON, the file PROOF of docs/FORMATS.md.
 #[derive(Clone, Debug, PartialEq, Eq, Hash)]
