@@ -15,7 +15,7 @@ const CHALLENGES: [(&[u8], [u32; 4]); 5] = [
 ];
 
 /// Whether these bytes are answered.
-fn is_answer(answer: Result<Vec<u8>, Failure>, expected: &[u8]) -> bool {
+pub fn is_answer(answer: Result<Vec<u8>, Failure>, expected: &[u8]) -> bool {
     match answer {
         Ok(answer) => answer.as_slice() == expected,
         Err(_) => false,

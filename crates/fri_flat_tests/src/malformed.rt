@@ -123,7 +123,7 @@ const NUMBERS: [usize; 8] = [120, 164, 184, 196, 352, 384, 468, 484];
 const PAST_ORDER: [u32; 2] = [2013265921, 4294967295];
 
 /// Whether this is refused as malformed, with this text.
-fn is_malformed(
+pub fn is_malformed(
     alloc: Global,
     answer: Result<Vec<u8>, Failure>,
     text: &str,
@@ -191,7 +191,7 @@ fn each_beginning_is_refused(alloc: Global, statement: &[u8]) -> bool {
 }
 
 /// The statement with this number at this place.
-fn with_number(
+pub fn with_number(
     alloc: Global,
     statement: &[u8],
     place: usize,
