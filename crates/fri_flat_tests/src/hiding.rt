@@ -3,7 +3,7 @@
 use crate::answered::is_answer;
 use crate::hidden::{ALONE, BESIDE, HIDDEN};
 use crate::malformed::{is_malformed, with_number};
-use fri_flat::{Failure, REFUSED, hiding};
+use fri_flat::{Failure, MALFORMED, REFUSED, hiding};
 use hex::FromHexError;
 use std::alloc::{AllocError, Global};
 
@@ -38,67 +38,105 @@ fn hiding_requests_and_statements_are_answered(rt: HostRuntime) -> Result<(), Fr
 }
 
 /// Places of numbers in the request of both columns, other numbers there, to how many bytes it is
-/// cut, and what it is malformed by.
-const MALFORMED_REQUESTS: [(usize, u32, usize, &str); 8] = [
+/// cut, and by which status and words it is refused then.
+const REQUESTS: [(usize, u32, usize, u8, &str); 10] = [
     (
         36,
         2,
         276,
+        MALFORMED,
         "NoCommitment { index: 2 }: no commitment of the request has the index",
     ),
     (
         36,
         4294967294,
         276,
+        MALFORMED,
         "NoCommitment { index: 4294967294 }: no commitment of the request has the index",
     ),
     (
         0,
         4,
         3,
+        MALFORMED,
         "BytesMissing { at: 0 }: fewer bytes are left than have to come",
     ),
     (
         0,
         4,
         35,
+        MALFORMED,
         "BytesMissing { at: 4 }: fewer bytes are left than have to come",
     ),
     (
         0,
         4,
         39,
+        MALFORMED,
         "BytesMissing { at: 36 }: fewer bytes are left than have to come",
     ),
     (
         40,
         4294967295,
         276,
+        MALFORMED,
         "BytesMissing { at: 44 }: fewer bytes are left than have to come",
     ),
     (
         0,
         4,
         275,
+        MALFORMED,
         "BytesMissing { at: 260 }: fewer bytes are left than have to come",
     ),
     (
         0,
         4,
         277,
+        MALFORMED,
         "BytesLeft { at: 276 }: bytes follow what is whole",
+    ),
+    // three random columns, and a point where its column is committed to
+    (
+        0,
+        3,
+        276,
+        REFUSED,
+        "InsufficientRandomCodewords { required: 4, got: 3 }: ",
+    ),
+    (
+        260,
+        31,
+        276,
+        REFUSED,
+        "PointInEvaluationDomain { round: 1, matrix: 0, point: 0 }: ",
     ),
 ];
 
-/// Whether each of the requests is refused so, by both calls.
-fn each_request_is_malformed(alloc: Global) -> Result<bool, FromHexError> {
+/// Whether this is refused by this status, in words that begin so.
+fn is_refused_by(
+    alloc: Global,
+    outcome: Result<Vec<u8>, Failure>,
+    status: u8,
+    text: &str,
+) -> Result<bool, AllocError> {
+    let Err(failure) = outcome else {
+        return Ok(false);
+    };
+    let said = format!(in alloc; "{failure}")?;
+    Ok(failure.status() == status && said.starts_with(text))
+}
+
+/// Whether each of the requests is refused so, by `commit` too where it isn't well formed.
+fn each_request_is_refused(alloc: Global) -> Result<bool, FromHexError> {
     let request = hex::decode(alloc, HIDDEN[0].request)?;
-    for (place, number, length, text) in &MALFORMED_REQUESTS {
+    for (place, number, length, status, text) in &REQUESTS {
         let mut bytes = with_number(alloc, &request, *place, *number)?;
         bytes.extend_from_slice(&[0])?;
         bytes.truncate(*length);
-        if !is_malformed(alloc, hiding::open(alloc, &bytes), text)?
-            || !is_malformed(alloc, hiding::commit(alloc, &bytes), text)?
+        let committed = hiding::commit(alloc, &bytes);
+        if !is_refused_by(alloc, hiding::open(alloc, &bytes), *status, text)?
+            || (*status == MALFORMED && !is_refused_by(alloc, committed, MALFORMED, text)?)
         {
             return Ok(false);
         }
@@ -107,8 +145,8 @@ fn each_request_is_malformed(alloc: Global) -> Result<bool, FromHexError> {
 }
 
 #[test]
-fn malformed_hiding_requests_are_refused(rt: HostRuntime) -> Result<(), FromHexError> {
-    assert!(rt; each_request_is_malformed(rt.alloc())?);
+fn faulty_hiding_requests_are_refused(rt: HostRuntime) -> Result<(), FromHexError> {
+    assert!(rt; each_request_is_refused(rt.alloc())?);
     Ok(())
 }
 
@@ -171,12 +209,6 @@ fn each_statement_is_malformed(alloc: Global) -> Result<bool, FromHexError> {
     )
 }
 
-#[test]
-fn malformed_hiding_statements_are_refused(rt: HostRuntime) -> Result<(), FromHexError> {
-    assert!(rt; each_statement_is_malformed(rt.alloc())?);
-    Ok(())
-}
-
 /// Whether the outcome is a refusal of what is well formed.
 fn is_refused(outcome: Result<Vec<u8>, Failure>) -> bool {
     match outcome {
@@ -212,12 +244,6 @@ fn each_alteration_is_refused(alloc: Global) -> Result<bool, FromHexError> {
     Ok(true)
 }
 
-#[test]
-fn altered_hiding_statements_are_refused(rt: HostRuntime) -> Result<(), FromHexError> {
-    assert!(rt; each_alteration_is_refused(rt.alloc())?);
-    Ok(())
-}
-
 /// Whether the statement is accepted once the lowest bit of a byte of the random values is turned.
 fn some_byte_is_unread(alloc: Global) -> Result<bool, FromHexError> {
     let mut statement = hex::decode(alloc, ALONE)?;
@@ -233,12 +259,6 @@ fn some_byte_is_unread(alloc: Global) -> Result<bool, FromHexError> {
         statement[place] = old;
     }
     Ok(false)
-}
-
-#[test]
-fn each_byte_of_random_values_counts(rt: HostRuntime) -> Result<(), FromHexError> {
-    assert!(rt; !some_byte_is_unread(rt.alloc())?);
-    Ok(())
 }
 
 /// Whether an opening of one scheme is refused by the other, with the same claims and the proof
@@ -264,42 +284,11 @@ fn schemes_are_told_apart(alloc: Global) -> Result<bool, FromHexError> {
 }
 
 #[test]
-fn an_opening_is_of_one_scheme(rt: HostRuntime) -> Result<(), FromHexError> {
-    assert!(rt; schemes_are_told_apart(rt.alloc())?);
-    Ok(())
-}
-
-/// Whether a request with three random columns, and one of which a point lies where its column is
-/// committed to, is refused by name.
-fn each_request_is_refused(alloc: Global) -> Result<bool, FromHexError> {
-    let request = hex::decode(alloc, HIDDEN[0].request)?;
-    let cases = [
-        (
-            0,
-            3,
-            "InsufficientRandomCodewords { required: 4, got: 3 }: ",
-        ),
-        (
-            260,
-            31,
-            "PointInEvaluationDomain { round: 1, matrix: 0, point: 0 }: ",
-        ),
-    ];
-    for (place, number, text) in &cases {
-        let altered = with_number(alloc, &request, *place, *number)?;
-        let Err(failure) = hiding::open(alloc, &altered) else {
-            return Ok(false);
-        };
-        let said = format!(in alloc; "{failure}")?;
-        if failure.status() != REFUSED || !said.starts_with(*text) {
-            return Ok(false);
-        }
-    }
-    Ok(true)
-}
-
-#[test]
-fn requests_that_cannot_be_hidden_are_refused(rt: HostRuntime) -> Result<(), FromHexError> {
-    assert!(rt; each_request_is_refused(rt.alloc())?);
+fn other_hiding_statements_are_refused(rt: HostRuntime) -> Result<(), FromHexError> {
+    let alloc = rt.alloc();
+    assert!(rt; each_statement_is_malformed(alloc)?);
+    assert!(rt; each_alteration_is_refused(alloc)?);
+    assert!(rt; !some_byte_is_unread(alloc)?);
+    assert!(rt; schemes_are_told_apart(alloc)?);
     Ok(())
 }
