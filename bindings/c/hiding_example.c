@@ -1,7 +1,7 @@
 /* Commits to a column of 16 squares in the hiding scheme, opens it at the point 5, and verifies the
  * opening. Prints `accepted`, and why it isn't with a changed value, and with another number of
- * random columns. The point is fixed, so what is accepted is the value there, and nothing of the polynomial elsewhere:
- * `example.c` draws its point. */
+ * random columns. The point is fixed, so what is accepted is the value there, and nothing of the
+ * polynomial elsewhere: `example.c` draws its point. */
 #include <stdio.h>
 #include <stdlib.h>
 #include <string.h>

@@ -4,8 +4,8 @@
     python3 tools/relation/flat_form.py REQUEST.json
 
 Prints the parts of the answer in hex, a line each: the next challenge, and those of the statement,
-which are its context, its parameters, its claims and its proof; of a hiding request first by what it
-is hidden. REQUEST.json is read as `answer.py` reads it.
+which are its context, its parameters, its claims and its proof; of a hiding request first by what
+it is hidden. REQUEST.json is read as `answer.py` reads it.
 """
 
 import sys

@@ -6,24 +6,24 @@
 //!
 //! All masks are drawn from the seed of a [`Masking`]. So it is **secret**, 32 bytes of a good
 //! source as the system's, that nobody can guess, and **fresh for each proof**. [`commit`] and
-//! [`open`] of the same matrices take the same seed, and have the same commitments then: that is one
-//! proof. Two openings with one seed of other data, or of the same at other points, show how their
-//! masks belong together, so that what was hidden can be computed from them. Whoever learns the seed
-//! can compute it too.
+//! [`open`] of the same matrices take the same seed, and have the same commitments then: that is
+//! one proof. Two openings with one seed of other data, or of the same at other points, show how
+//! their masks belong together, so that what was hidden can be computed from them. Whoever learns
+//! the seed can compute it too.
 //!
 //! # What differs from the plain scheme
 //!
-//! - A matrix needs rows enough: with `q` queries and `n` points at least `2 * (q + 4 * n)`, and four
-//!   random columns. Else [`open`] refuses by
+//! - A matrix needs rows enough: with `q` queries and `n` points at least `2 * (q + 4 * n)`, and
+//!   four random columns. Else [`open`] refuses by
 //!   [`HidingBudgetExceeded`](crate::Refusal::HidingBudgetExceeded) or
 //!   [`InsufficientRandomCodewords`](crate::Refusal::InsufficientRandomCodewords).
 //! - Its domain has room for twice as many points: with the log blowup its size is below 27. A
 //!   claim's domain is the one that was committed to, with a `log_size` one greater than the
 //!   matrix's. The polynomials have the matrix's values at every second point of it.
-//! - One commitment may be *preprocessed*: of public columns that are the same in each run, such as a
-//!   table. It isn't masked, and its index is passed on both sides.
-//! - A verifier has the number of random columns beside its parameters. A proof is of one number, one
-//!   index and this scheme, and refused with others.
+//! - One commitment may be *preprocessed*: of public columns that are the same in each run, such as
+//!   a table. It isn't masked, and its index is passed on both sides.
+//! - A verifier has the number of random columns beside its parameters. A proof is of one number,
+//!   one index and this scheme, and refused with others.
 //!
 //! ```
 //! use p3_fri_proved::hiding::{open, verify, Masking};
@@ -63,8 +63,8 @@ pub struct Masking {
     /// The number of random columns by which a matrix is masked: four at least. The verifier has
     /// the same number.
     pub num_random_codewords: u32,
-    /// From where the masks are drawn: secret bytes of a good source that nobody can guess, and that
-    /// no other proof had. The module's page says [why](crate::hiding#the-seed).
+    /// From where the masks are drawn: secret bytes of a good source that nobody can guess, and
+    /// that no other proof had. The module's page says [why](crate::hiding#the-seed).
     pub seed: [u8; 32],
 }
 

@@ -246,8 +246,8 @@ mod tests {
         assert!(Call::Verify.answer(&answer[24..], 5000).is_err());
     }
 
-    /// All of a hiding statement counts, as all of a plain one: the number of random columns and the
-    /// index first.
+    /// All of a hiding statement counts, as all of a plain one: the number of random columns and
+    /// the index first.
     #[test]
     fn no_hiding_statement_with_another_bit_is_accepted() {
         let statement = Call::HidingOpen.answer(&hiding_request(), 5000).unwrap().split_off(16);
@@ -268,8 +268,8 @@ mod tests {
         assert_eq!(first_accepted(&statement, 0..PROOF), None);
     }
 
-    /// All of a proof is tested too: its numbers and digests are read by some query, witnesses of no
-    /// work are 0, and a form says one thing only.
+    /// All of a proof is tested too: its numbers and digests are read by some query, witnesses of
+    /// no work are 0, and a form says one thing only.
     #[test]
     fn no_proof_with_another_bit_is_accepted() {
         let statement = statement(2);

@@ -1,6 +1,6 @@
-//! Both schemes over bytes that a caller without a JSON reader can write and read: requests, answers
-//! and statements in the flat form, in which a number is four bytes, a digest 32, and a list or a
-//! context as long as its count says. The calls of the scheme that hides are in `hiding`.
+//! Both schemes over bytes that a caller without a JSON reader can write and read: requests,
+//! answers and statements in the flat form, in which a number is four bytes, a digest 32, and a
+//! list or a context as long as its count says. The calls of the scheme that hides are in `hiding`.
 //!
 //! What is accepted is accepted under the context that a statement names, with its parameters,
 //! commitments, domains, widths and points: a challenger absorbs all of them first. `challenge`

@@ -1,5 +1,5 @@
-//! Bytes of the scheme that hides: a column of 16 squares, alone and beside a preprocessed one of the
-//! numbers 1 to 16, opened at 5 with four random columns. Expected values are those that
+//! Bytes of the scheme that hides: a column of 16 squares, alone and beside a preprocessed one of
+//! the numbers 1 to 16, opened at 5 with four random columns. Expected values are those that
 //! `flat_form.py` of tools/relation prints.
 
 /// A request, and what comes of it, in hex.

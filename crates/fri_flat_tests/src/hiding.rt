@@ -150,9 +150,9 @@ fn faulty_hiding_requests_are_refused(rt: HostRuntime) -> Result<(), FromHexErro
     Ok(())
 }
 
-/// Where counts stand in the statement of both columns: of the context's bytes, of claims, matrices,
-/// points and values; of the random values' commitments, matrices, points and columns, of both
-/// commitments; of the proof's commitments.
+/// Where counts stand in the statement of both columns: of the context's bytes, of claims,
+/// matrices, points and values; of the random values' commitments, matrices, points and columns, of
+/// both commitments; of the proof's commitments.
 const COUNTS: [usize; 13] = [8, 40, 76, 88, 108, 212, 216, 220, 224, 228, 232, 236, 308];
 
 /// Where random values stand: the first and the last coefficient.
@@ -177,8 +177,8 @@ fn each_beginning_is_malformed(alloc: Global, statement: &[u8]) -> bool {
     true
 }
 
-/// Whether each count that is the greatest is refused where its entries begin, and each random value
-/// that is no element's by its number.
+/// Whether each count that is the greatest is refused where its entries begin, and each random
+/// value that is no element's by its number.
 fn each_number_is_read(alloc: Global, statement: &[u8]) -> Result<bool, AllocError> {
     for place in &COUNTS {
         let altered = with_number(alloc, statement, *place, u32::MAX)?;

@@ -38,8 +38,8 @@ pub extern "C" fn p3_fri_hiding_commit(
     reply(alloc, outcome, answer, needed)
 }
 
-/// Opens what a hiding request commits to, and answers the next challenge and a hiding statement, to
-/// which the proof is bound.
+/// Opens what a hiding request commits to, and answers the next challenge and a hiding statement,
+/// to which the proof is bound.
 #[unsafe(no_mangle)]
 pub extern "C" fn p3_fri_hiding_open(
     alloc: Global,

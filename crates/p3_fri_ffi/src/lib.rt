@@ -1,9 +1,9 @@
 //! Both schemes, and a STARK in both, for callers that aren't Rattle: functions over bytes. Nothing
 //! is required of what the bytes are, no call halts, and none keeps a pointer.
 //!
-//! Four functions of the plain scheme and three of the one that hides take the flat form. A proof is
-//! bound to the whole statement: its context, parameters, commitments, domains, widths and points,
-//! and by what it hides. A point that has to be random is drawn after the commitments, by
+//! Four functions of the plain scheme and three of the one that hides take the flat form. A proof
+//! is bound to the whole statement: its context, parameters, commitments, domains, widths and
+//! points, and by what it hides. A point that has to be random is drawn after the commitments, by
 //! `p3_fri_challenge` from the bytes of what was sent, which are then the context.
 //!
 //! Five functions of a STARK take texts in JSON. A proof is accepted of the system and the public
