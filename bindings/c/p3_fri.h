@@ -83,6 +83,8 @@ uint8_t p3_fri_challenge(const uint8_t *context, size_t context_length,
  * one seed of other data, or of the same at other points, show how their masks belong together, so
  * that what was hidden can be computed from them. Whoever learns the seed can compute it too: the
  * caller overwrites it once it isn't needed.
+ * A commitment that comes after a challenge is the last of `p3_fri_hiding_commit` of all matrices
+ * so far, in order and with the same seed: committed to alone it would have the first one's masks.
  *
  * A hiding statement is the number of random columns and that index, then context, parameters and
  * claims as above, then the values of the random columns and the proof. It has no seed. */

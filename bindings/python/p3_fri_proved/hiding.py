@@ -6,6 +6,9 @@ All masks are drawn from the seed of a `Masking`. So it is secret, 32 bytes of a
 same commitments then: that is one proof. Two openings with one seed of other data, or of the same at other points, show how
 their masks belong together, so that what was hidden can be computed from them. Whoever learns the seed can compute it too.
 
+A commitment that comes after a challenge, as one to a quotient, is the last that `commit` answers of all matrices so far, in
+order and with the same seed, since masks follow one another. Committed to alone with that seed it would have the masks of the first.
+
 A matrix needs rows enough: with `q` queries and `n` points at least `2 * (q + 4 * n)`, and four random columns. A claim's domain
 is the one that was committed to, of twice as many points as the matrix has rows. One commitment may be preprocessed, of public
 columns that are the same in each run: it isn't masked, and both sides pass its index.

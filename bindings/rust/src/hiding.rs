@@ -11,6 +11,10 @@
 //! their masks belong together, so that what was hidden can be computed from them. Whoever learns
 //! the seed can compute it too.
 //!
+//! A commitment that comes after a challenge, as one to a quotient, is the last that [`commit`]
+//! answers of all matrices so far, in order and with the same seed, since masks follow one another.
+//! Committed to alone with that seed it would have the masks of the first.
+//!
 //! # What differs from the plain scheme
 //!
 //! - A matrix needs rows enough: with `q` queries and `n` points at least `2 * (q + 4 * n)`, and

@@ -46,6 +46,16 @@ fn named<T: std::fmt::Debug>(result: Result<T, Error>) -> (Option<Refusal>, Opti
     }
 }
 
+/// A commitment that comes later leaves those before it, and is another one than alone.
+#[test]
+fn masks_follow_one_another() {
+    let both = commit(&PARAMETERS, &MASKING, None, &commitments(4)).unwrap();
+    let first = commit(&PARAMETERS, &MASKING, None, &commitments(4)[..1]).unwrap();
+    let second = commit(&PARAMETERS, &MASKING, None, &commitments(4)[1..]).unwrap();
+    assert_eq!(first, both[..1]);
+    assert_ne!(second, both[1..]);
+}
+
 #[test]
 fn commitments_are_the_expected_ones() {
     let expected = [
