@@ -92,7 +92,8 @@ def opening_stream(counts, batch_bits):
 
 
 @lru_cache(maxsize=64)
-def state_after(state, stream_bytes):
+def state_after(state, stream_bytes, field_name):
+    """The state once a stream was absorbed over the field in use, whose name tells what was kept of others apart."""
     challenger = Challenger(state)
     for byte in stream_bytes:
         challenger.observe_number(byte)
@@ -101,4 +102,4 @@ def state_after(state, stream_bytes):
 
 def observe_stream(challenger, stream_bytes):
     """Each byte of a stream is observed as a base field element."""
-    challenger.state = state_after(challenger.state, stream_bytes)
+    challenger.state = state_after(challenger.state, stream_bytes, field.NAME)
