@@ -30,7 +30,7 @@ pub fn read<T: DeserializeOwned>(alloc: Global, document: &Value, path: &str) ->
 }
 
 /// What has the plain form at this place.
-pub fn read_plain<T: Plain>(alloc: Global, document: &Value, path: &str) -> Result<T>
+pub fn read_plain<T: Plain>(alloc: Global, document: &Value, path: &str) -> Result<T::Value>
 where
     T::Form: DeserializeOwned,
 {

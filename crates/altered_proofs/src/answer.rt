@@ -101,7 +101,7 @@ fn plain_answer(
     requires range { InVerifierRange (parameters_of parameters) 27 63 }
 {
     let claims: Vec<Claim> = read_list(alloc, opening, "/claims")?;
-    let proof = match from_plain(alloc, read(alloc, opening, "/proof")?) {
+    let proof = match from_plain::<BabyBear, BabyBear4>(alloc, read(alloc, opening, "/proof")?) {
         Ok(proof) => proof,
         Err(refusal) => return Ok(format!(in alloc; "{refusal:?}")?),
     };
@@ -130,7 +130,10 @@ fn hiding_answer(
     let codewords = number(hiding, "/num_random_codewords")?;
     let preprocessing = read(alloc, hiding, "/preprocessing")?;
     let claims: Vec<Claim> = read_list(alloc, opening, "/claims")?;
-    let proof = match hiding_from_plain(alloc, hiding_form(alloc, opening, hiding)?) {
+    let proof = match hiding_from_plain::<BabyBear, BabyBear4>(
+        alloc,
+        hiding_form(alloc, opening, hiding)?,
+    ) {
         Ok(proof) => proof,
         Err(refusal) => return Ok(format!(in alloc; "{refusal:?}")?),
     };

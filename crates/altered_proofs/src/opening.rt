@@ -4,9 +4,13 @@ use crate::answer::{Claim, Domain};
 use alterations::{entries, number, read_plain};
 use anyhow::{Context, Result};
 use p3_field::{BabyBear, BabyBear4};
+use p3_fri_plain::{Each, Element, ExtensionElement};
 use p3_mmcs::{CommitmentOpening, MatrixOpening, PointOpening};
 use serde_json::Value;
 use std::alloc::Global;
+
+/// Elements of the extension, by their coefficients.
+type Coefficients = ExtensionElement<BabyBear, BabyBear4>;
 
 /// What an entry of a list of claims says.
 pub trait Read: Drop + Sized {
@@ -16,8 +20,8 @@ pub trait Read: Drop + Sized {
 impl Read for PointOpening<BabyBear4> {
     fn read(alloc: Global, value: &Value) -> Result<Self> {
         Ok(PointOpening {
-            point: read_plain(alloc, value, "/point")?,
-            values: read_plain(alloc, value, "/values")?,
+            point: read_plain::<Coefficients>(alloc, value, "/point")?,
+            values: read_plain::<Each<Coefficients>>(alloc, value, "/values")?,
         })
     }
 }
@@ -25,7 +29,7 @@ impl Read for PointOpening<BabyBear4> {
 /// A matrix on the coset of a shift and of `2^log_size` points.
 impl Read for MatrixOpening<BabyBear4, Domain> {
     fn read(alloc: Global, value: &Value) -> Result<Self> {
-        let shift: BabyBear = read_plain(alloc, value, "/shift")?;
+        let shift = read_plain::<Element<BabyBear>>(alloc, value, "/shift")?;
         let log_size = number(value, "/log_size")?;
         Ok(MatrixOpening {
             domain: Domain::new(shift, log_size).context("no such domain")?,
@@ -37,7 +41,7 @@ impl Read for MatrixOpening<BabyBear4, Domain> {
 impl Read for Claim {
     fn read(alloc: Global, value: &Value) -> Result<Self> {
         Ok(CommitmentOpening {
-            commitment: read_plain(alloc, value, "/commitment")?,
+            commitment: read_plain::<[u8; 32]>(alloc, value, "/commitment")?,
             matrices: read_list(alloc, value, "/matrices")?,
         })
     }

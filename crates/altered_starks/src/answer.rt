@@ -50,7 +50,7 @@ fn answer_over<
     >,
 >(alloc: Global, scheme: &P, stark: &Value) -> anyhow::Result<String>
 where
-    P::Proof: Plain,
+    P::Proof: Plain<Value = P::Proof>,
     <P::Proof as Plain>::Form: DeserializeOwned,
     requires range { (P.rules scheme.now).InVerifierRange }
 {

@@ -38,7 +38,7 @@ fn read_key(alloc: Global, key: &Value) -> Result<Option<Key>> {
         return Ok(None);
     }
     Ok(Some(PreprocessedVerifierKey {
-        commitment: read_plain(alloc, key, "/commitment")?,
+        commitment: read_plain::<[u8; 32]>(alloc, key, "/commitment")?,
         log_height: number(key, "/log_height")?,
     }))
 }

@@ -25,7 +25,8 @@ fewer than 80 conjectured bits of soundness one says of how many.
 
 A request has a context, which is any bytes in hex that the proof is bound to, parameters,
 and matrices by commitment, each on a domain of 2^log_size points, row by row, with the
-points to open it at. A number is an element of BabyBear, four are one of its extension.
+points to open it at. A number is an element of the \"field\": \"BabyBear\" where none is
+named, \"KoalaBear\" or \"Goldilocks\". Four are one of its extension, of Goldilocks two.
 The column 1, 3 opened at 5:
 
     {\"context\": \"\",
@@ -37,9 +38,10 @@ The column 1, 3 opened at 5:
 
     fri open column.json | fri verify -
 
-'fri verify' takes the context, parameters, commitments, domains and points that the file
-names: whoever relies on 'accepted' compares what is printed below it with what was
-expected, or has EXPECTED: a statement without its proof, and if need be without values.
+'fri verify' takes the field, context, parameters, commitments, domains and points that the
+file names: whoever relies on 'accepted' compares what is printed below it, the field where
+it isn't BabyBear, with what was expected, or has EXPECTED: a statement without its proof,
+and if need be without values.
 ";
 
 /// What comes before the name of what is expected.

@@ -8,15 +8,15 @@ use Rattle.p3_challenger.specs.sha256_challenger.Sha256Challenger.{Sha256Challen
 use Rattle.p3_challenger.specs.Sha256.{start}
 use Rattle.p3_fri_relation.specs.Setting.{Parameters, Proof}
 use Rattle.p3_fri_relation.specs.Acceptance.{Accepts}
-use Rattle.fri_statement.specs.Statement.{statement_absorbed}
+use Rattle.fri_statement.specs.BabyBear.{statement_absorbed}
 use Rattle.fri_example.specs.Opened.{IsAcceptedOpening, opening_parameters, single_statement}
-use Rattle.fri_statement.specs.Setting.{sha256_setting}
+use Rattle.fri_statement.specs.BabyBear.{sha256_setting}
 
 module _ {X Y : Type 0} (b l k : ℕ) (commitment : List ℕ) (z y : BabyBear)
     (proof : Proof BabyBear BabyBear4 (List ℕ) (Vec (Vec (List ℕ) X) Y) (Vec (Vec (List ℕ) X) Y))
   where
     -- of a domain of `2^n` points
-    abbrev Holds : Parameters → (n : ℕ) → (point value : BabyBear4) → Sha256Challenger → Type 0
+    abbrev Holds : Parameters → (n : ℕ) → (point value : BabyBear4) → Sha256Challenger BabyBear → Type 0
     Holds p n point value c = Accepts sha256_setting p ((record {
       commitment = commitment;
       matrices = (record {
@@ -25,10 +25,10 @@ module _ {X Y : Type 0} (b l k : ℕ) (commitment : List ℕ) (z y : BabyBear)
       }) ∷ [];
     }) ∷ []) proof c
 
-    abbrev bound : Parameters → (shift n : ℕ) → BabyBear4 → Sha256Challenger
+    abbrev bound : Parameters → (shift n : ℕ) → BabyBear4 → Sha256Challenger BabyBear
     bound p shift n point = statement_absorbed start (single_statement p commitment shift n point)
 
-    pub accepted : (p q : Parameters) (shift n : ℕ) (point value : BabyBear4) (c : Sha256Challenger)
+    pub accepted : (p q : Parameters) (shift n : ℕ) (point value : BabyBear4) (c : Sha256Challenger BabyBear)
         → p ≡ opening_parameters b l → q ≡ opening_parameters b l → shift ≡ 1 → n ≡ k
         → point ≡ lift4 z → value ≡ lift4 y → c ≡ bound q shift n point → Holds p n point value c
         → IsAcceptedOpening b l k commitment z y proof

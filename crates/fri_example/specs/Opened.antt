@@ -8,9 +8,9 @@ use Rattle.p3_challenger.specs.Sha256.{start}
 use Rattle.p3_pcs.specs.Claims as claimed
 use Rattle.p3_fri_relation.specs.Setting.{Parameters, CommitmentClaim, Proof}
 use Rattle.p3_fri_relation.specs.Acceptance.{Accepts}
-use Rattle.fri_statement.specs.Numbers.{coefficient_numbers}
-use Rattle.fri_statement.specs.Statement.{Statement, statement_absorbed}
-use Rattle.fri_statement.specs.Setting.{sha256_setting}
+use Rattle.fri_statement.specs.BabyBear.{coefficient_numbers, statement_absorbed}
+use Rattle.fri_statement.specs.BabyBear.{sha256_setting}
+use Rattle.fri_statement.specs.Statement.{Statement}
 
 -- folds by two, two queries, and no proof of work
 abbrev pub opening_parameters : (log_blowup log_final_poly_len : ℕ) → Parameters

@@ -13,8 +13,7 @@ ghost use Rattle.p3_fri_extensions.specs.Extension.{polynomial_on};
 ghost use Rattle.p3_fri_relation.specs.Views.{parameters_of, proof_of};
 ghost use Rattle.p3_pcs.specs.Claims.{opened_values};
 ghost use Rattle.p3_pcs.specs.Requests.{honest_values, honest_claims};
-ghost use Rattle.fri_statement.specs.Numbers.{canonical_number};
-ghost use Rattle.fri_statement.specs.Statement.{statement_absorbed};
+ghost use Rattle.fri_statement.specs.BabyBear.{canonical_number, statement_absorbed};
 ghost use Rattle.fri_example.specs.Opened.{IsAcceptedOpening, opening_parameters};
 ghost use Rattle.fri_example.specs.Opened.{single_claim, single_statement};
 

@@ -1,4 +1,5 @@
 pub mod Digests
+pub mod Drawn
 pub mod HidingAccepted
 pub mod Marked
 pub mod Parts

@@ -11,6 +11,15 @@ three_parts bytes first second third one two three a b c =
     ∙ ap (λ (x : List ℕ). x ++ third) (append_assoc bytes first second)
     ∙ append_assoc bytes (first ++ second) third
 
+-- and four
+pub four_parts : (bytes first second third fourth one two three four : List ℕ)
+    → one ≡ bytes ++ first → two ≡ one ++ second → three ≡ two ++ third → four ≡ three ++ fourth
+    → four ≡ bytes ++ (first ++ second ++ third ++ fourth)
+four_parts bytes first second third fourth one two three four a b c d =
+    d ∙ ap (λ (x : List ℕ). x ++ fourth)
+    (three_parts bytes first second third one two three a b c)
+    ∙ append_assoc bytes (first ++ second ++ third) fourth
+
 -- three parts that were read one by one
 pub three_read : (bytes first second third after_first after_second rest : List ℕ)
     → bytes ≡ first ++ after_first → after_first ≡ second ++ after_second

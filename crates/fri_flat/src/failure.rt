@@ -29,9 +29,9 @@ pub enum Failure {
     BytesMissing { at: usize },
     /// Bytes from this offset on follow what is whole.
     BytesLeft { at: usize },
-    /// What comes of it has no flat form, as a number of more than 32 bits, an element of the
-    /// extension that isn't four numbers, or a commitment that isn't the hex text of 32 bytes. No
-    /// answer of `fri_requests` has any of these.
+    /// What comes of it has no flat form, as a number of more bits than its bytes hold, an element
+    /// of the extension that hasn't as many numbers as its degree, or a commitment that isn't the
+    /// hex text of 32 bytes. No answer of `fri_requests` has any of these.
     NoForm,
     /// The index of a preprocessed commitment is past the last commitment of the request.
     NoCommitment { index: usize },

@@ -6,14 +6,13 @@ ghost use Rattle.fri_flat.specs.Hiding.{hiding_proof, IsHidingProof};
 
 use crate::fault::{ReadError, WriteError};
 use crate::flat::Flat;
+use crate::layout::Layout;
+use crate::numbers::Element;
 use crate::reader::Reader;
 use crate::writer::{push_context, push_count, push_index};
 use fri_requests::{BatchClaims, Masking, Parameters, Request};
 use p3_fri_plain::{PlainFriProof, PlainHidingProof};
 use std::alloc::Global;
-
-/// An element of the extension, by its coefficients' numbers.
-type Element = [u32; 4];
 
 /// A request, none of whose commitments is preprocessed, by what it is hidden, and which of them
 /// is to be opened without masks.
@@ -33,7 +32,11 @@ impl Flat for HidingRequest {
 
     ghost IsWhole = { IsHidingRequest };
 
-    fn read(alloc: Global, reader: &mut Reader<'_>) -> Result<HidingRequest, ReadError> {
+    fn read(
+        alloc: Global,
+        layout: Layout,
+        reader: &mut Reader<'_>,
+    ) -> Result<HidingRequest, ReadError> {
         let num_random_codewords = reader.word()? as usize;
         let seed = reader.seed()?;
         Ok(HidingRequest {
@@ -42,15 +45,15 @@ impl Flat for HidingRequest {
                 seed,
             },
             preprocessed: reader.index()?,
-            request: Request::read(alloc, reader)?,
+            request: Request::read(alloc, layout, reader)?,
         })
     }
 
-    fn write(hidden: &HidingRequest, out: &mut Vec<u8>) -> Result<(), WriteError> {
+    fn write(hidden: &HidingRequest, layout: Layout, out: &mut Vec<u8>) -> Result<(), WriteError> {
         push_count(out, hidden.masking.num_random_codewords)?;
         out.extend_from_slice(&hidden.masking.seed)?;
         push_index(out, hidden.preprocessed)?;
-        Request::write(&hidden.request, out)
+        Request::write(&hidden.request, layout, out)
     }
 }
 
@@ -62,16 +65,24 @@ impl Flat for PlainHidingProof {
 
     ghost IsWhole = { IsHidingProof };
 
-    fn read(alloc: Global, reader: &mut Reader<'_>) -> Result<PlainHidingProof, ReadError> {
+    fn read(
+        alloc: Global,
+        layout: Layout,
+        reader: &mut Reader<'_>,
+    ) -> Result<PlainHidingProof, ReadError> {
         Ok(PlainHidingProof {
-            random_values: Vec::<Vec<Vec<Vec<Element>>>>::read(alloc, reader)?,
-            proof: PlainFriProof::read(alloc, reader)?,
+            random_values: Vec::<Vec<Vec<Vec<Element>>>>::read(alloc, layout, reader)?,
+            proof: PlainFriProof::read(alloc, layout, reader)?,
         })
     }
 
-    fn write(proof: &PlainHidingProof, out: &mut Vec<u8>) -> Result<(), WriteError> {
-        Vec::<Vec<Vec<Vec<Element>>>>::write(&proof.random_values, out)?;
-        PlainFriProof::write(&proof.proof, out)
+    fn write(
+        proof: &PlainHidingProof,
+        layout: Layout,
+        out: &mut Vec<u8>,
+    ) -> Result<(), WriteError> {
+        Vec::<Vec<Vec<Vec<Element>>>>::write(&proof.random_values, layout, out)?;
+        PlainFriProof::write(&proof.proof, layout, out)
     }
 }
 
@@ -96,23 +107,31 @@ impl Flat for HidingStatement {
 
     ghost IsWhole = { IsHidingStatement };
 
-    fn read(alloc: Global, reader: &mut Reader<'_>) -> Result<HidingStatement, ReadError> {
+    fn read(
+        alloc: Global,
+        layout: Layout,
+        reader: &mut Reader<'_>,
+    ) -> Result<HidingStatement, ReadError> {
         Ok(HidingStatement {
             num_random_codewords: reader.word()? as usize,
             preprocessed: reader.index()?,
             context: reader.context(alloc)?,
-            parameters: Parameters::read(alloc, reader)?,
-            claims: Vec::<BatchClaims>::read(alloc, reader)?,
-            proof: PlainHidingProof::read(alloc, reader)?,
+            parameters: Parameters::read(alloc, layout, reader)?,
+            claims: Vec::<BatchClaims>::read(alloc, layout, reader)?,
+            proof: PlainHidingProof::read(alloc, layout, reader)?,
         })
     }
 
-    fn write(statement: &HidingStatement, out: &mut Vec<u8>) -> Result<(), WriteError> {
+    fn write(
+        statement: &HidingStatement,
+        layout: Layout,
+        out: &mut Vec<u8>,
+    ) -> Result<(), WriteError> {
         push_count(out, statement.num_random_codewords)?;
         push_index(out, statement.preprocessed)?;
         push_context(out, &statement.context)?;
-        Parameters::write(&statement.parameters, out)?;
-        Vec::<BatchClaims>::write(&statement.claims, out)?;
-        PlainHidingProof::write(&statement.proof, out)
+        Parameters::write(&statement.parameters, layout, out)?;
+        Vec::<BatchClaims>::write(&statement.claims, layout, out)?;
+        PlainHidingProof::write(&statement.proof, layout, out)
     }
 }

@@ -5,15 +5,14 @@ ghost use Rattle.fri_flat.specs.Flat.{round_opening, IsRoundOpening, proof, IsPr
 
 use crate::fault::{ReadError, WriteError};
 use crate::flat::Flat;
+use crate::layout::Layout;
+use crate::numbers::{Element, Number};
 use crate::reader::Reader;
 use p3_fri_plain::{PlainBatch, PlainFriProof, PlainStep};
 use std::alloc::Global;
 
 /// A digest's bytes.
 type Digest = [u8; 32];
-
-/// An element of the extension, by its coefficients' numbers.
-type Element = [u32; 4];
 
 /// For each query the digests of a path.
 type Paths = Vec<Vec<Digest>>;
@@ -26,16 +25,20 @@ impl Flat for PlainBatch {
 
     ghost IsWhole = { IsBatchOpening };
 
-    fn read(alloc: Global, reader: &mut Reader<'_>) -> Result<PlainBatch, ReadError> {
+    fn read(
+        alloc: Global,
+        layout: Layout,
+        reader: &mut Reader<'_>,
+    ) -> Result<PlainBatch, ReadError> {
         Ok(PlainBatch {
-            opened_values: Vec::<Vec<Vec<u32>>>::read(alloc, reader)?,
-            paths: Paths::read(alloc, reader)?,
+            opened_values: Vec::<Vec<Vec<Number>>>::read(alloc, layout, reader)?,
+            paths: Paths::read(alloc, layout, reader)?,
         })
     }
 
-    fn write(batch: &PlainBatch, out: &mut Vec<u8>) -> Result<(), WriteError> {
-        Vec::<Vec<Vec<u32>>>::write(&batch.opened_values, out)?;
-        Paths::write(&batch.paths, out)
+    fn write(batch: &PlainBatch, layout: Layout, out: &mut Vec<u8>) -> Result<(), WriteError> {
+        Vec::<Vec<Vec<Number>>>::write(&batch.opened_values, layout, out)?;
+        Paths::write(&batch.paths, layout, out)
     }
 }
 
@@ -47,16 +50,20 @@ impl Flat for PlainStep {
 
     ghost IsWhole = { IsRoundOpening };
 
-    fn read(alloc: Global, reader: &mut Reader<'_>) -> Result<PlainStep, ReadError> {
+    fn read(
+        alloc: Global,
+        layout: Layout,
+        reader: &mut Reader<'_>,
+    ) -> Result<PlainStep, ReadError> {
         Ok(PlainStep {
-            sibling_values: Vec::<Vec<Element>>::read(alloc, reader)?,
-            paths: Paths::read(alloc, reader)?,
+            sibling_values: Vec::<Vec<Element>>::read(alloc, layout, reader)?,
+            paths: Paths::read(alloc, layout, reader)?,
         })
     }
 
-    fn write(step: &PlainStep, out: &mut Vec<u8>) -> Result<(), WriteError> {
-        Vec::<Vec<Element>>::write(&step.sibling_values, out)?;
-        Paths::write(&step.paths, out)
+    fn write(step: &PlainStep, layout: Layout, out: &mut Vec<u8>) -> Result<(), WriteError> {
+        Vec::<Vec<Element>>::write(&step.sibling_values, layout, out)?;
+        Paths::write(&step.paths, layout, out)
     }
 }
 
@@ -68,25 +75,29 @@ impl Flat for PlainFriProof {
 
     ghost IsWhole = { IsProof };
 
-    fn read(alloc: Global, reader: &mut Reader<'_>) -> Result<PlainFriProof, ReadError> {
+    fn read(
+        alloc: Global,
+        layout: Layout,
+        reader: &mut Reader<'_>,
+    ) -> Result<PlainFriProof, ReadError> {
         Ok(PlainFriProof {
-            batch_pow_witness: u32::read(alloc, reader)?,
-            commit_phase_commits: Vec::<Digest>::read(alloc, reader)?,
-            commit_pow_witnesses: Vec::<u32>::read(alloc, reader)?,
-            input_openings: Vec::<PlainBatch>::read(alloc, reader)?,
-            commit_phase_openings: Vec::<PlainStep>::read(alloc, reader)?,
-            final_poly: Vec::<Element>::read(alloc, reader)?,
-            query_pow_witness: u32::read(alloc, reader)?,
+            batch_pow_witness: Number::read(alloc, layout, reader)?,
+            commit_phase_commits: Vec::<Digest>::read(alloc, layout, reader)?,
+            commit_pow_witnesses: Vec::<Number>::read(alloc, layout, reader)?,
+            input_openings: Vec::<PlainBatch>::read(alloc, layout, reader)?,
+            commit_phase_openings: Vec::<PlainStep>::read(alloc, layout, reader)?,
+            final_poly: Vec::<Element>::read(alloc, layout, reader)?,
+            query_pow_witness: Number::read(alloc, layout, reader)?,
         })
     }
 
-    fn write(proof: &PlainFriProof, out: &mut Vec<u8>) -> Result<(), WriteError> {
-        u32::write(&proof.batch_pow_witness, out)?;
-        Vec::<Digest>::write(&proof.commit_phase_commits, out)?;
-        Vec::<u32>::write(&proof.commit_pow_witnesses, out)?;
-        Vec::<PlainBatch>::write(&proof.input_openings, out)?;
-        Vec::<PlainStep>::write(&proof.commit_phase_openings, out)?;
-        Vec::<Element>::write(&proof.final_poly, out)?;
-        u32::write(&proof.query_pow_witness, out)
+    fn write(proof: &PlainFriProof, layout: Layout, out: &mut Vec<u8>) -> Result<(), WriteError> {
+        Number::write(&proof.batch_pow_witness, layout, out)?;
+        Vec::<Digest>::write(&proof.commit_phase_commits, layout, out)?;
+        Vec::<Number>::write(&proof.commit_pow_witnesses, layout, out)?;
+        Vec::<PlainBatch>::write(&proof.input_openings, layout, out)?;
+        Vec::<PlainStep>::write(&proof.commit_phase_openings, layout, out)?;
+        Vec::<Element>::write(&proof.final_poly, layout, out)?;
+        Number::write(&proof.query_pow_witness, layout, out)
     }
 }

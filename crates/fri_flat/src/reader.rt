@@ -1,14 +1,17 @@
 //! Numbers and digests at the front of bytes. Memory is asked for only as far as bytes are there.
 
 ghost use Rattle.std.specs.Prelude.{◌≡◌, ◌<◌, ◌≤◌, ◌*◌, ◌++◌, IfOk, Ok, OnErr, length, vec_len};
-ghost use Rattle.std.specs.Prelude.{string_bytes};
+ghost use Rattle.std.specs.Prelude.{string_bytes, true};
 ghost use Rattle.std.specs.List.{All};
 ghost use Rattle.hex.specs.Hex.{decode_of};
 ghost use Rattle.fri_requests.specs.Bound.{IsContext};
-ghost use Rattle.fri_flat.specs.Flat.{word, words, elements, digest, context, IsElement};
+ghost use Rattle.std.specs.Int.{to_le_bytes, w64};
+ghost use Rattle.fri_flat.specs.Flat.{word, number, numbers, elements, digest, context};
+ghost use Rattle.fri_flat.specs.Flat.{IsElement, number_size};
 ghost use Rattle.fri_flat.specs.Hiding.{index, IsIndex};
 
 use crate::fault::ReadError;
+use crate::layout::{Layout, Width};
 use std::alloc::{AllocError, Global};
 
 /// The hex text of a digest.
@@ -28,6 +31,13 @@ fn context_of(alloc: Global, bytes: &[u8]) -> Result<String, AllocError>
     Ok(text)
 }
 
+/// The number of these bytes, the lowest first.
+fn number_of(bytes: [u8; 8]) -> u64
+    ensures { to_le_bytes w64 result ≡ bytes }
+{
+    u64::from_le_bytes(bytes)
+}
+
 /// Bytes that are read from the front.
 #[derive(Drop)]
 pub(crate) struct Reader<'a> {
@@ -42,7 +52,7 @@ impl<'a> Reader<'a> {
         }
     }
 
-    /// Reads a number.
+    /// Reads a count or a size.
     pub fn word(&mut self) -> Result<u32, ReadError>
         ensures form { IfOk result (λ n. self.old.left.now ≡ word n ++ self.new.left.now) }
         ensures missing { OnErr result (length self.old.left.now < 4) }
@@ -69,6 +79,16 @@ impl<'a> Reader<'a> {
         Ok(count)
     }
 
+    /// Whether there are bytes for so many entries of this size.
+    fn has_room(&self, size: usize, count: usize) -> bool
+        ensures { result ≡ true → size * count ≤ length self.now.left.now }
+    {
+        match size.checked_mul(count) {
+            Some(needed) => needed <= self.left.len(),
+            None => false,
+        }
+    }
+
     /// Reads so many bytes.
     pub fn bytes(&mut self, count: usize) -> Result<&'a [u8], ReadError>
         ensures form { IfOk result (λ bytes. self.old.left.now ≡ bytes.now ++ self.new.left.now) }
@@ -83,34 +103,71 @@ impl<'a> Reader<'a> {
         Ok(bytes)
     }
 
-    /// Reads so many numbers.
-    pub fn words(&mut self, alloc: Global, count: usize) -> Result<Vec<u64>, ReadError>
-        ensures form { IfOk result (λ v. self.old.left.now ≡ words v.items ++ self.new.left.now) }
+    /// Reads a number of eight bytes.
+    fn long_word(&mut self) -> Result<u64, ReadError>
+        ensures form { IfOk result (λ n. self.old.left.now
+            ≡ to_le_bytes w64 n ++ self.new.left.now) }
+        ensures missing { OnErr result (length self.old.left.now < 8) }
+    {
+        let bytes = self.bytes(8)?;
+        match <[u8; 8]>::try_from(bytes) {
+            Ok(bytes) => Ok(number_of(bytes)),
+            Err(_) => Err(self.missing()),
+        }
+    }
+
+    /// Reads the number of an element of the prime field.
+    pub fn number(&mut self, layout: Layout) -> Result<u64, ReadError>
+        ensures form { IfOk result (λ n. self.old.left.now
+            ≡ number layout n ++ self.new.left.now) }
+        ensures missing { OnErr result (length self.old.left.now < number_size layout.width) }
+    {
+        match layout.width {
+            Width::Four => Ok(u64::from(self.word()?)),
+            Width::Eight => self.long_word(),
+        }
+    }
+
+    /// Reads so many such numbers.
+    pub fn numbers(
+        &mut self,
+        alloc: Global,
+        layout: Layout,
+        count: usize,
+    ) -> Result<Vec<u64>, ReadError>
+        ensures form { IfOk result (λ v. self.old.left.now
+            ≡ numbers layout v.items ++ self.new.left.now) }
         ensures count { IfOk result (λ v. vec_len v ≡ count) }
     {
-        if self.left.len() / 4 < count {
+        if !self.has_room(layout.width.bytes(), count) {
             return Err(self.missing());
         }
         let mut numbers = Vec::with_capacity(alloc, count)?;
         for _ in 0..count {
-            numbers.push(u64::from(self.word()?))?;
+            numbers.push(self.number(layout)?)?;
         }
         Ok(numbers)
     }
 
-    /// Reads so many elements of the extension, four numbers each.
-    pub fn elements(&mut self, alloc: Global, count: usize) -> Result<Vec<Vec<u64>>, ReadError>
+    /// Reads so many elements of the extension.
+    pub fn elements(
+        &mut self,
+        alloc: Global,
+        layout: Layout,
+        count: usize,
+    ) -> Result<Vec<Vec<u64>>, ReadError>
         ensures form { IfOk result (λ v. self.old.left.now
-            ≡ elements v.items ++ self.new.left.now) }
+            ≡ elements layout v.items ++ self.new.left.now) }
         ensures count { IfOk result (λ v. vec_len v ≡ count) }
-        ensures each { IfOk result (λ v. All IsElement v.items) }
+        ensures each { IfOk result (λ v. All (IsElement layout) v.items) }
     {
-        if self.left.len() / 16 < count {
+        let size = layout.width.bytes().saturating_mul(layout.degree);
+        if !self.has_room(size, count) {
             return Err(self.missing());
         }
         let mut elements = Vec::with_capacity(alloc, count)?;
         for _ in 0..count {
-            elements.push(self.words(alloc, 4)?)?;
+            elements.push(self.numbers(alloc, layout, layout.degree)?)?;
         }
         Ok(elements)
     }

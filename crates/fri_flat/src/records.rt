@@ -8,6 +8,7 @@ ghost use Rattle.fri_flat.specs.Flat.{IsMatrixClaims, batch_claims, IsBatchClaim
 
 use crate::fault::{ReadError, WriteError};
 use crate::flat::Flat;
+use crate::layout::Layout;
 use crate::reader::Reader;
 use crate::writer::{
     push_context, push_count, push_counts, push_digest, push_element, push_elements, push_number,
@@ -21,11 +22,15 @@ use std::alloc::Global;
 impl Flat for Parameters {
     type Value = Parameters;
 
-    ghost form = { parameters };
+    ghost form = { λ _. parameters };
 
-    ghost IsWhole = { λ _. Unit {0} };
+    ghost IsWhole = { λ _ _. Unit {0} };
 
-    fn read(alloc: Global, reader: &mut Reader<'_>) -> Result<Parameters, ReadError> {
+    fn read(
+        _alloc: Global,
+        _layout: Layout,
+        reader: &mut Reader<'_>,
+    ) -> Result<Parameters, ReadError> {
         Ok(Parameters {
             log_blowup: reader.word()? as usize,
             log_final_poly_len: reader.word()? as usize,
@@ -37,7 +42,11 @@ impl Flat for Parameters {
         })
     }
 
-    fn write(parameters: &Parameters, out: &mut Vec<u8>) -> Result<(), WriteError> {
+    fn write(
+        parameters: &Parameters,
+        _layout: Layout,
+        out: &mut Vec<u8>,
+    ) -> Result<(), WriteError> {
         let sizes = [
             parameters.log_blowup,
             parameters.log_final_poly_len,
@@ -72,8 +81,8 @@ impl Flat for Matrix {
 
     ghost IsWhole = { IsMatrix };
 
-    fn read(alloc: Global, reader: &mut Reader<'_>) -> Result<Matrix, ReadError> {
-        let shift = u64::from(reader.word()?);
+    fn read(alloc: Global, layout: Layout, reader: &mut Reader<'_>) -> Result<Matrix, ReadError> {
+        let shift = reader.number(layout)?;
         let log_size = reader.word()? as usize;
         let width = reader.word()? as usize;
         let points = reader.word()? as usize;
@@ -83,21 +92,17 @@ impl Flat for Matrix {
         Ok(Matrix {
             domain: Domain { shift, log_size },
             width,
-            values: reader.words(alloc, values)?,
-            points: reader.elements(alloc, points)?,
+            values: reader.numbers(alloc, layout, values)?,
+            points: reader.elements(alloc, layout, points)?,
         })
     }
 
-    fn write(matrix: &Matrix, out: &mut Vec<u8>) -> Result<(), WriteError> {
-        let sizes = [
-            matrix.domain.shift,
-            matrix.domain.log_size as u64,
-            matrix.width as u64,
-            matrix.points.len() as u64,
-        ];
-        push_numbers(out, &sizes)?;
-        push_numbers(out, &matrix.values)?;
-        push_elements(out, &matrix.points)?;
+    fn write(matrix: &Matrix, layout: Layout, out: &mut Vec<u8>) -> Result<(), WriteError> {
+        let sizes = [matrix.domain.log_size, matrix.width, matrix.points.len()];
+        push_number(out, layout, matrix.domain.shift)?;
+        push_counts(out, &sizes)?;
+        push_numbers(out, layout, &matrix.values)?;
+        push_elements(out, layout, &matrix.points)?;
         Ok(())
     }
 }
@@ -109,18 +114,18 @@ impl Flat for Batch {
 
     ghost IsWhole = { IsBatch };
 
-    fn read(alloc: Global, reader: &mut Reader<'_>) -> Result<Batch, ReadError> {
+    fn read(alloc: Global, layout: Layout, reader: &mut Reader<'_>) -> Result<Batch, ReadError> {
         Ok(Batch {
-            matrices: Vec::<Matrix>::read(alloc, reader)?,
+            matrices: Vec::<Matrix>::read(alloc, layout, reader)?,
             preprocessed: false,
         })
     }
 
-    fn write(batch: &Batch, out: &mut Vec<u8>) -> Result<(), WriteError> {
+    fn write(batch: &Batch, layout: Layout, out: &mut Vec<u8>) -> Result<(), WriteError> {
         if batch.preprocessed {
             return Err(WriteError::NoForm);
         }
-        Vec::<Matrix>::write(&batch.matrices, out)
+        Vec::<Matrix>::write(&batch.matrices, layout, out)
     }
 }
 
@@ -131,18 +136,18 @@ impl Flat for Request {
 
     ghost IsWhole = { IsRequest };
 
-    fn read(alloc: Global, reader: &mut Reader<'_>) -> Result<Request, ReadError> {
+    fn read(alloc: Global, layout: Layout, reader: &mut Reader<'_>) -> Result<Request, ReadError> {
         Ok(Request {
             context: reader.context(alloc)?,
-            parameters: Parameters::read(alloc, reader)?,
-            commitments: Vec::<Batch>::read(alloc, reader)?,
+            parameters: Parameters::read(alloc, layout, reader)?,
+            commitments: Vec::<Batch>::read(alloc, layout, reader)?,
         })
     }
 
-    fn write(request: &Request, out: &mut Vec<u8>) -> Result<(), WriteError> {
+    fn write(request: &Request, layout: Layout, out: &mut Vec<u8>) -> Result<(), WriteError> {
         push_context(out, &request.context)?;
-        Parameters::write(&request.parameters, out)?;
-        Vec::<Batch>::write(&request.commitments, out)
+        Parameters::write(&request.parameters, layout, out)?;
+        Vec::<Batch>::write(&request.commitments, layout, out)
     }
 }
 
@@ -153,19 +158,23 @@ impl Flat for PointClaims {
 
     ghost IsWhole = { IsPointClaims };
 
-    fn read(alloc: Global, reader: &mut Reader<'_>) -> Result<PointClaims, ReadError> {
-        let point = reader.words(alloc, 4)?;
+    fn read(
+        alloc: Global,
+        layout: Layout,
+        reader: &mut Reader<'_>,
+    ) -> Result<PointClaims, ReadError> {
+        let point = reader.numbers(alloc, layout, layout.degree)?;
         let columns = reader.word()? as usize;
         Ok(PointClaims {
             point,
-            values: reader.elements(alloc, columns)?,
+            values: reader.elements(alloc, layout, columns)?,
         })
     }
 
-    fn write(claims: &PointClaims, out: &mut Vec<u8>) -> Result<(), WriteError> {
-        push_element(out, &claims.point)?;
+    fn write(claims: &PointClaims, layout: Layout, out: &mut Vec<u8>) -> Result<(), WriteError> {
+        push_element(out, layout, &claims.point)?;
         push_count(out, claims.values.len())?;
-        push_elements(out, &claims.values)
+        push_elements(out, layout, &claims.values)
     }
 }
 
@@ -176,19 +185,23 @@ impl Flat for MatrixClaims {
 
     ghost IsWhole = { IsMatrixClaims };
 
-    fn read(alloc: Global, reader: &mut Reader<'_>) -> Result<MatrixClaims, ReadError> {
-        let shift = u64::from(reader.word()?);
+    fn read(
+        alloc: Global,
+        layout: Layout,
+        reader: &mut Reader<'_>,
+    ) -> Result<MatrixClaims, ReadError> {
+        let shift = reader.number(layout)?;
         let log_size = reader.word()? as usize;
         Ok(MatrixClaims {
             domain: Domain { shift, log_size },
-            points: Vec::<PointClaims>::read(alloc, reader)?,
+            points: Vec::<PointClaims>::read(alloc, layout, reader)?,
         })
     }
 
-    fn write(claims: &MatrixClaims, out: &mut Vec<u8>) -> Result<(), WriteError> {
-        push_number(out, claims.domain.shift)?;
+    fn write(claims: &MatrixClaims, layout: Layout, out: &mut Vec<u8>) -> Result<(), WriteError> {
+        push_number(out, layout, claims.domain.shift)?;
         push_count(out, claims.domain.log_size)?;
-        Vec::<PointClaims>::write(&claims.points, out)
+        Vec::<PointClaims>::write(&claims.points, layout, out)
     }
 }
 
@@ -199,15 +212,19 @@ impl Flat for BatchClaims {
 
     ghost IsWhole = { IsBatchClaims };
 
-    fn read(alloc: Global, reader: &mut Reader<'_>) -> Result<BatchClaims, ReadError> {
+    fn read(
+        alloc: Global,
+        layout: Layout,
+        reader: &mut Reader<'_>,
+    ) -> Result<BatchClaims, ReadError> {
         Ok(BatchClaims {
             commitment: reader.digest(alloc)?,
-            matrices: Vec::<MatrixClaims>::read(alloc, reader)?,
+            matrices: Vec::<MatrixClaims>::read(alloc, layout, reader)?,
         })
     }
 
-    fn write(claims: &BatchClaims, out: &mut Vec<u8>) -> Result<(), WriteError> {
+    fn write(claims: &BatchClaims, layout: Layout, out: &mut Vec<u8>) -> Result<(), WriteError> {
         push_digest(out, &claims.commitment)?;
-        Vec::<MatrixClaims>::write(&claims.matrices, out)
+        Vec::<MatrixClaims>::write(&claims.matrices, layout, out)
     }
 }

@@ -4,6 +4,7 @@ ghost use Rattle.fri_flat.specs.Flat.{statement, IsStatement};
 
 use crate::fault::{ReadError, WriteError};
 use crate::flat::Flat;
+use crate::layout::Layout;
 use crate::reader::Reader;
 use crate::writer::push_context;
 use fri_requests::{BatchClaims, Parameters};
@@ -27,19 +28,23 @@ impl Flat for Statement {
 
     ghost IsWhole = { IsStatement };
 
-    fn read(alloc: Global, reader: &mut Reader<'_>) -> Result<Statement, ReadError> {
+    fn read(
+        alloc: Global,
+        layout: Layout,
+        reader: &mut Reader<'_>,
+    ) -> Result<Statement, ReadError> {
         Ok(Statement {
             context: reader.context(alloc)?,
-            parameters: Parameters::read(alloc, reader)?,
-            claims: Vec::<BatchClaims>::read(alloc, reader)?,
-            proof: PlainFriProof::read(alloc, reader)?,
+            parameters: Parameters::read(alloc, layout, reader)?,
+            claims: Vec::<BatchClaims>::read(alloc, layout, reader)?,
+            proof: PlainFriProof::read(alloc, layout, reader)?,
         })
     }
 
-    fn write(statement: &Statement, out: &mut Vec<u8>) -> Result<(), WriteError> {
+    fn write(statement: &Statement, layout: Layout, out: &mut Vec<u8>) -> Result<(), WriteError> {
         push_context(out, &statement.context)?;
-        Parameters::write(&statement.parameters, out)?;
-        Vec::<BatchClaims>::write(&statement.claims, out)?;
-        PlainFriProof::write(&statement.proof, out)
+        Parameters::write(&statement.parameters, layout, out)?;
+        Vec::<BatchClaims>::write(&statement.claims, layout, out)?;
+        PlainFriProof::write(&statement.proof, layout, out)
     }
 }

@@ -2,28 +2,19 @@
 
 ghost use Rattle.std.specs.Prelude.{◌≡◌, ◌++◌, OnOk, string_bytes};
 ghost use Rattle.std.specs.List.{All};
-ghost use Rattle.fri_flat.specs.Flat.{word, words, elements, digest, context, IsElement};
-ghost use Rattle.fri_flat.specs.Flat.{digest_bytes, IsDigest};
+ghost use Rattle.fri_flat.specs.Flat.{word, words, number, numbers, elements, digest, context};
+ghost use Rattle.fri_flat.specs.Flat.{IsElement, digest_bytes, IsDigest};
 ghost use Rattle.fri_flat.specs.Hiding.{index, IsIndex};
 
 use crate::fault::WriteError;
+use crate::layout::{Layout, Width};
 use hex::{FromHex, FromHexError};
 
-/// Adds a number.
+/// Adds a number of four bytes.
 fn push_word(out: &mut Vec<u8>, number: u32) -> Result<(), WriteError>
     ensures { OnOk result (out.new.items ≡ out.old.items ++ word number) }
 {
     Ok(out.extend_from_slice(&number.to_le_bytes())?)
-}
-
-/// Adds a number that fits 32 bits.
-pub(crate) fn push_number(out: &mut Vec<u8>, number: u64) -> Result<(), WriteError>
-    ensures { OnOk result (out.new.items ≡ out.old.items ++ word number) }
-{
-    match u32::try_from(number) {
-        Ok(number) => push_word(out, number),
-        Err(_) => Err(WriteError::NoForm),
-    }
 }
 
 /// Adds a count or a size that fits 32 bits.
@@ -46,12 +37,29 @@ pub(crate) fn push_counts(out: &mut Vec<u8>, counts: &[usize]) -> Result<(), Wri
     Ok(())
 }
 
-/// Adds numbers one after another.
-pub(crate) fn push_numbers(out: &mut Vec<u8>, numbers: &[u64]) -> Result<(), WriteError>
-    ensures { OnOk result (out.new.items ≡ out.old.items ++ words numbers.now) }
+/// Adds the number of an element of the prime field, if its bytes hold it.
+pub(crate) fn push_number(out: &mut Vec<u8>, layout: Layout, value: u64) -> Result<(), WriteError>
+    ensures { OnOk result (out.new.items ≡ out.old.items ++ number layout value) }
 {
-    for number in numbers {
-        push_number(out, *number)?;
+    match layout.width {
+        Width::Four => match u32::try_from(value) {
+            Ok(value) => push_word(out, value),
+            Err(_) => Err(WriteError::NoForm),
+        },
+        Width::Eight => Ok(out.extend_from_slice(&value.to_le_bytes())?),
+    }
+}
+
+/// Adds such numbers one after another.
+pub(crate) fn push_numbers(
+    out: &mut Vec<u8>,
+    layout: Layout,
+    values: &[u64],
+) -> Result<(), WriteError>
+    ensures { OnOk result (out.new.items ≡ out.old.items ++ numbers layout values.now) }
+{
+    for value in values {
+        push_number(out, layout, *value)?;
     }
     Ok(())
 }
@@ -71,23 +79,32 @@ pub(crate) fn push_index(out: &mut Vec<u8>, place: Option<usize>) -> Result<(), 
 }
 
 /// Adds an element of the extension.
-pub(crate) fn push_element(out: &mut Vec<u8>, element: &Vec<u64>) -> Result<(), WriteError>
-    ensures form { OnOk result (out.new.items ≡ out.old.items ++ words element.now.items) }
-    ensures length { OnOk result (IsElement element.now) }
+pub(crate) fn push_element(
+    out: &mut Vec<u8>,
+    layout: Layout,
+    element: &Vec<u64>,
+) -> Result<(), WriteError>
+    ensures form { OnOk result (out.new.items
+        ≡ out.old.items ++ numbers layout element.now.items) }
+    ensures length { OnOk result (IsElement layout element.now) }
 {
-    if element.len() != 4 {
+    if element.len() != layout.degree {
         return Err(WriteError::NoForm);
     }
-    push_numbers(out, element)
+    push_numbers(out, layout, element)
 }
 
 /// Adds elements of the extension one after another.
-pub(crate) fn push_elements(out: &mut Vec<u8>, list: &[Vec<u64>]) -> Result<(), WriteError>
-    ensures form { OnOk result (out.new.items ≡ out.old.items ++ elements list.now) }
-    ensures lengths { OnOk result (All IsElement list.now) }
+pub(crate) fn push_elements(
+    out: &mut Vec<u8>,
+    layout: Layout,
+    list: &[Vec<u64>],
+) -> Result<(), WriteError>
+    ensures form { OnOk result (out.new.items ≡ out.old.items ++ elements layout list.now) }
+    ensures lengths { OnOk result (All (IsElement layout) list.now) }
 {
     for element in list {
-        push_element(out, element)?;
+        push_element(out, layout, element)?;
     }
     Ok(())
 }

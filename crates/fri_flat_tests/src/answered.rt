@@ -3,6 +3,7 @@
 use crate::forms::{COMMITMENT, OPENED, bytes_of, request_of, statement_of};
 use fri_flat::Failure;
 use hex::FromHexError;
+use p3_baby_bear::BabyBear;
 use std::alloc::{AllocError, Global};
 
 /// Contexts, and the challenges that tools/relation draws after them.
@@ -28,13 +29,13 @@ fn each_is_answered(alloc: Global) -> Result<bool, FromHexError> {
         let proof = hex::decode(alloc, opened.proof)?;
         let statement = statement_of(alloc, opened.context, &proof)?;
         let mut expected = bytes_of(alloc, &opened.next_challenge)?;
-        let is_verified = is_answer(fri_flat::verify(alloc, &statement), &expected);
+        let is_verified = is_answer(fri_flat::verify::<BabyBear>(alloc, &statement), &expected);
         expected.extend_from_slice(&statement)?;
         let request = request_of(alloc, opened.context)?;
-        let is_opened = is_answer(fri_flat::open(alloc, &request), &expected);
+        let is_opened = is_answer(fri_flat::open::<BabyBear>(alloc, &request), &expected);
         if !is_verified
             || !is_opened
-            || !is_answer(fri_flat::commit(alloc, &request), &COMMITMENT)
+            || !is_answer(fri_flat::commit::<BabyBear>(alloc, &request), &COMMITMENT)
         {
             return Ok(false);
         }
@@ -52,7 +53,7 @@ fn requests_and_statements_are_answered(rt: HostRuntime) -> Result<(), FromHexEr
 fn each_is_drawn(alloc: Global) -> Result<bool, AllocError> {
     for (context, numbers) in &CHALLENGES {
         let expected = bytes_of(alloc, numbers)?;
-        if !is_answer(fri_flat::challenge(alloc, *context), &expected) {
+        if !is_answer(fri_flat::challenge::<BabyBear>(alloc, *context), &expected) {
             return Ok(false);
         }
     }

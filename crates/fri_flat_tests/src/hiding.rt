@@ -5,6 +5,7 @@ use crate::hidden::{ALONE, BESIDE, HIDDEN};
 use crate::malformed::{is_malformed, with_number};
 use fri_flat::{Failure, MALFORMED, REFUSED, hiding};
 use hex::FromHexError;
+use p3_baby_bear::BabyBear;
 use std::alloc::{AllocError, Global};
 
 /// Where in the statement of both columns the proof begins, and in that the proof inside.
@@ -19,11 +20,11 @@ fn each_is_answered(alloc: Global) -> Result<bool, FromHexError> {
         let commitments = hex::decode(alloc, hidden.commitments)?;
         let statement = hex::decode(alloc, hidden.statement)?;
         let mut expected = hex::decode(alloc, hidden.next_challenge)?;
-        let is_verified = is_answer(hiding::verify(alloc, &statement), &expected);
+        let is_verified = is_answer(hiding::verify::<BabyBear>(alloc, &statement), &expected);
         expected.extend_from_slice(&statement)?;
         if !is_verified
-            || !is_answer(hiding::open(alloc, &request), &expected)
-            || !is_answer(hiding::commit(alloc, &request), &commitments)
+            || !is_answer(hiding::open::<BabyBear>(alloc, &request), &expected)
+            || !is_answer(hiding::commit::<BabyBear>(alloc, &request), &commitments)
         {
             return Ok(false);
         }
@@ -134,9 +135,13 @@ fn each_request_is_refused(alloc: Global) -> Result<bool, FromHexError> {
         let mut bytes = with_number(alloc, &request, *place, *number)?;
         bytes.extend_from_slice(&[0])?;
         bytes.truncate(*length);
-        let committed = hiding::commit(alloc, &bytes);
-        if !is_refused_by(alloc, hiding::open(alloc, &bytes), *status, text)?
-            || (*status == MALFORMED && !is_refused_by(alloc, committed, MALFORMED, text)?)
+        let committed = hiding::commit::<BabyBear>(alloc, &bytes);
+        if !is_refused_by(
+            alloc,
+            hiding::open::<BabyBear>(alloc, &bytes),
+            *status,
+            text,
+        )? || (*status == MALFORMED && !is_refused_by(alloc, committed, MALFORMED, text)?)
         {
             return Ok(false);
         }
@@ -160,7 +165,7 @@ const RANDOM_VALUES: [usize; 2] = [240, 300];
 
 /// Where bytes are missing, of those of a statement.
 fn missing_at(alloc: Global, statement: &[u8]) -> Option<usize> {
-    match hiding::verify(alloc, statement) {
+    match hiding::verify::<BabyBear>(alloc, statement) {
         Err(Failure::BytesMissing { at }) => Some(at),
         _ => None,
     }
@@ -186,10 +191,10 @@ fn each_number_is_read(alloc: Global, statement: &[u8]) -> Result<bool, AllocErr
             return Ok(false);
         }
     }
-    let text = "Element: proof: expected a number below 2013265921";
+    let text = "Element: proof: expected a number below the field's order";
     for place in &RANDOM_VALUES {
         let altered = with_number(alloc, statement, *place, 2013265921)?;
-        if !is_malformed(alloc, hiding::verify(alloc, &altered), text)? {
+        if !is_malformed(alloc, hiding::verify::<BabyBear>(alloc, &altered), text)? {
             return Ok(false);
         }
     }
@@ -205,7 +210,7 @@ fn each_statement_is_malformed(alloc: Global) -> Result<bool, FromHexError> {
     Ok(
         each_beginning_is_malformed(alloc, &statement)
             && each_number_is_read(alloc, &statement)?
-            && is_malformed(alloc, hiding::verify(alloc, &longer), text)?,
+            && is_malformed(alloc, hiding::verify::<BabyBear>(alloc, &longer), text)?,
     )
 }
 
@@ -237,7 +242,7 @@ fn each_alteration_is_refused(alloc: Global) -> Result<bool, FromHexError> {
     let statement = hex::decode(alloc, BESIDE)?;
     for (place, number) in &ALTERED {
         let altered = with_number(alloc, &statement, *place, *number)?;
-        if !is_refused(hiding::verify(alloc, &altered)) {
+        if !is_refused(hiding::verify::<BabyBear>(alloc, &altered)) {
             return Ok(false);
         }
     }
@@ -253,7 +258,7 @@ fn some_byte_is_unread(alloc: Global) -> Result<bool, FromHexError> {
         }
         let old = statement[place];
         statement[place] = old ^ 1;
-        if hiding::verify(alloc, &statement).is_ok() {
+        if hiding::verify::<BabyBear>(alloc, &statement).is_ok() {
             return Ok(true);
         }
         statement[place] = old;
@@ -277,9 +282,9 @@ fn schemes_are_told_apart(alloc: Global) -> Result<bool, FromHexError> {
     bare.extend_from_slice(&[0; 4])?;
     bare.extend_from_slice(proof)?;
     Ok(
-        is_refused(fri_flat::verify(alloc, &plain))
-            && is_refused(hiding::verify(alloc, &bare))
-            && fri_flat::verify(alloc, &statement).is_err(),
+        is_refused(fri_flat::verify::<BabyBear>(alloc, &plain))
+            && is_refused(hiding::verify::<BabyBear>(alloc, &bare))
+            && fri_flat::verify::<BabyBear>(alloc, &statement).is_err(),
     )
 }
 

@@ -3,6 +3,7 @@
 use crate::forms::{REQUEST, bytes_of, empty_proof, statement_of};
 use fri_flat::{Failure, MALFORMED};
 use hex::FromHexError;
+use p3_baby_bear::BabyBear;
 use std::alloc::{AllocError, Global};
 
 /// A request with one number changed, cut to so many bytes, or with one byte more, and what it is
@@ -145,7 +146,7 @@ fn each_request_is_refused(alloc: Global) -> Result<bool, AllocError> {
         let mut bytes = bytes_of(alloc, &numbers)?;
         bytes.push(0)?;
         bytes.truncate(case.length);
-        if !is_malformed(alloc, fri_flat::open(alloc, &bytes), case.text)? {
+        if !is_malformed(alloc, fri_flat::open::<BabyBear>(alloc, &bytes), case.text)? {
             return Ok(false);
         }
     }
@@ -164,7 +165,7 @@ fn each_cut_is_refused(alloc: Global, proof: &[u8]) -> Result<bool, AllocError> 
         let mut bytes = statement_of(alloc, cut.context, proof)?;
         bytes.push(0)?;
         bytes.truncate(cut.length);
-        if !is_malformed(alloc, fri_flat::verify(alloc, &bytes), cut.text)? {
+        if !is_malformed(alloc, fri_flat::verify::<BabyBear>(alloc, &bytes), cut.text)? {
             return Ok(false);
         }
     }
@@ -173,7 +174,7 @@ fn each_cut_is_refused(alloc: Global, proof: &[u8]) -> Result<bool, AllocError> 
 
 /// Where bytes are missing, of those of a statement.
 fn missing_at(alloc: Global, statement: &[u8]) -> Option<usize> {
-    match fri_flat::verify(alloc, statement) {
+    match fri_flat::verify::<BabyBear>(alloc, statement) {
         Err(Failure::BytesMissing { at }) => Some(at),
         _ => None,
     }
@@ -219,11 +220,11 @@ fn each_count_is_refused(alloc: Global, statement: &[u8]) -> Result<bool, AllocE
 
 /// Whether each number of the proof is refused once it is no element's.
 fn each_number_is_refused(alloc: Global, statement: &[u8]) -> Result<bool, AllocError> {
-    let text = "Element: proof: expected a number below 2013265921";
+    let text = "Element: proof: expected a number below the field's order";
     for place in &NUMBERS {
         for number in &PAST_ORDER {
             let altered = with_number(alloc, statement, *place, *number)?;
-            if !is_malformed(alloc, fri_flat::verify(alloc, &altered), text)? {
+            if !is_malformed(alloc, fri_flat::verify::<BabyBear>(alloc, &altered), text)? {
                 return Ok(false);
             }
         }

@@ -3,6 +3,7 @@
 use crate::forms::{OPENED, bytes_of, empty_proof, statement_of};
 use fri_flat::REFUSED;
 use hex::FromHexError;
+use p3_baby_bear::BabyBear;
 use std::alloc::{AllocError, Global};
 
 /// Where in the statement of no context the claimed value begins, and the proof.
@@ -23,7 +24,7 @@ const SHORT_PROOFS: [&[u32]; 3] = [
 
 /// Whether the statement is well formed, and isn't accepted.
 fn is_refused(alloc: Global, statement: &[u8]) -> bool {
-    match fri_flat::verify(alloc, statement) {
+    match fri_flat::verify::<BabyBear>(alloc, statement) {
         Err(failure) => failure.status() == REFUSED,
         Ok(_) => false,
     }
@@ -73,7 +74,7 @@ fn each_byte_counts(alloc: Global) -> Result<bool, FromHexError> {
     for place in PROOF..statement.len() {
         let old = statement[place];
         statement[place] = old ^ 1;
-        if fri_flat::verify(alloc, &statement).is_ok() {
+        if fri_flat::verify::<BabyBear>(alloc, &statement).is_ok() {
             return Ok(false);
         }
         statement[place] = old;

@@ -38,6 +38,7 @@ pub record IsExpectedBatch (claims : BatchClaims) (expected : ExpectedBatch) : T
   pub matrices : AreExpected IsExpectedMatrix claims.matrices.items expected.matrices.items
 
 pub record IsExpected (accepted : Accepted) (expected : Expected) : Type 0 where
+  pub field : accepted.field ≡ expected.field
   pub context : IsExpectedText (string_bytes accepted.context) (string_bytes expected.context)
   pub parameters : accepted.parameters ≡ expected.parameters
   pub hiding : accepted.hiding ≡ expected.hiding

@@ -4,7 +4,7 @@ use crate::difference::first_difference;
 use crate::expected::Expected;
 use crate::opening::open_request;
 use crate::records::Accepted;
-use crate::request::{commit_request, request_of};
+use crate::request::{Asked, commit_request, request_of};
 use crate::statement::accept;
 use crate::summary::accepted_lines;
 use crate::{Failure, REFUSED, expected_of};
@@ -56,10 +56,12 @@ fn count_of(request: &Request) -> usize {
 
 /// Says what is about to be committed to, where that takes a while. A progress that can't be
 /// written is passed over: no answer hangs on it.
-fn report_progress<W: Write>(err: &mut W, file: &str, request: &Request) {
-    let count = count_of(request);
-    let log_blowup = request.parameters.log_blowup;
-    if log_blowup < 28 && count.saturating_mul(1 << log_blowup) >= MANY_VALUES {
+fn report_progress<W: Write>(err: &mut W, file: &str, asked: &Asked) {
+    let count = count_of(&asked.request);
+    let log_blowup = asked.request.parameters.log_blowup;
+    if log_blowup <= asked.field.two_adicity()
+        && count.saturating_mul(1 << log_blowup) >= MANY_VALUES
+    {
         let _ = writeln!(
             err,
             "fri: {file}: committing to {count} values, extended 2^{log_blowup} times"
@@ -94,7 +96,7 @@ fn commit_lines<W: Write>(
     err: &mut W,
 ) -> Result<String, Failure> {
     let asked = request_of(alloc, text)?;
-    report_progress(err, file, &asked.request);
+    report_progress(err, file, &asked);
     let mut lines = String::new(alloc);
     for commitment in &commit_request(alloc, &asked)? {
         writeln!(lines, "{commitment}")?;
@@ -110,7 +112,7 @@ fn open_line<W: Write>(
     err: &mut W,
 ) -> Result<String, Failure> {
     let asked = request_of(alloc, text)?;
-    report_progress(err, file, &asked.request);
+    report_progress(err, file, &asked);
     let mut line = open_request(alloc, &asked)?;
     line.push_str("\n")?;
     Ok(line)

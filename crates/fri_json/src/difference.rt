@@ -12,6 +12,7 @@ use std::fmt;
 /// A part of a statement.
 #[derive(Clone, Copy, Debug)]
 pub enum Part {
+    Field,
     Context,
     LogBlowup,
     LogFinalPolyLen,
@@ -38,6 +39,7 @@ impl Part {
     /// Its field, of what is at its place.
     fn field(&self) -> &'static str {
         match self {
+            Part::Field => "field",
             Part::Context => "context",
             Part::LogBlowup => "parameters.log_blowup",
             Part::LogFinalPolyLen => "parameters.log_final_poly_len",
@@ -272,14 +274,17 @@ fn claims_difference(claims: &[BatchClaims], expected: &[ExpectedBatch]) -> Opti
     None
 }
 
-/// The first part of a statement that isn't the expected one: the context, then the parameters,
-/// then by what the scheme hides, then commitment by commitment the matrices' domains, points and
-/// values. Counts come before what they count. Hex is the same in either case. Which part is named
-/// isn't promised.
+/// The first part of a statement that isn't the expected one: the field, the context, then the
+/// parameters, then by what the scheme hides, then commitment by commitment the matrices' domains,
+/// points and values. Counts come before what they count. Hex is the same in either case. Which
+/// part is named isn't promised.
 pub(crate) fn first_difference(accepted: &Accepted, expected: &Expected) -> Option<Difference>
     ensures same { IfNone result (IsExpected accepted.now expected.now) }
     ensures differs { OnSome result (¬ IsExpected accepted.now expected.now) }
 {
+    if accepted.field != expected.field {
+        return Part::Field.differs_at(Place::NONE);
+    }
     if !accepted.context.eq_ignore_ascii_case(&expected.context) {
         return Part::Context.differs_at(Place::NONE);
     }

@@ -1,12 +1,12 @@
 //! What a verifier expects to be stated, as it is read from a file.
 
+use crate::prime_field::FieldName;
 use crate::records::HidingStated;
-use fri_requests::{Domain, Fault, Misfit, Parameters, Place};
-use p3_field::{BabyBear, PrimeField64};
+use fri_requests::{Domain, Fault, Misfit, Parameters, Place, SchemeField};
+use p3_field::{BabyBear, ExtensionField};
+use p3_goldilocks::Goldilocks;
+use p3_koala_bear::KoalaBear;
 use serde::Deserialize;
-
-/// The greatest log size of a subgroup of the field.
-const GREATEST_LOG_SIZE: usize = 27;
 
 /// How many hex digits write a commitment.
 const COMMITMENT_DIGITS: usize = 64;
@@ -37,6 +37,8 @@ pub(crate) struct ExpectedBatch {
 /// be there.
 #[derive(Drop, Deserialize)]
 pub struct Expected {
+    #[serde(default)]
+    pub(crate) field: FieldName,
     /// In hex; empty if it isn't there.
     #[serde(default)]
     pub(crate) context: String,
@@ -53,12 +55,12 @@ fn is_hex(text: &str) -> bool {
 }
 
 /// Tests the coefficients of an element of the extension.
-fn test_element(numbers: &[u64], place: Place) -> Result<(), Misfit> {
-    if numbers.len() != 4 {
+fn test_element<F: SchemeField>(numbers: &[u64], place: Place) -> Result<(), Misfit> {
+    if numbers.len() != <F::Extension as ExtensionField<F>>::DIMENSION {
         return Err(place.lacks(Fault::ExtensionElement));
     }
     for number in numbers {
-        if *number >= BabyBear::ORDER_U64 {
+        if *number >= F::ORDER_U64 {
             return Err(place.lacks(Fault::Element));
         }
     }
@@ -66,33 +68,33 @@ fn test_element(numbers: &[u64], place: Place) -> Result<(), Misfit> {
 }
 
 /// Tests values, whose indices follow `place`.
-fn test_values(values: &[Vec<u64>], place: Place) -> Result<(), Misfit> {
+fn test_values<F: SchemeField>(values: &[Vec<u64>], place: Place) -> Result<(), Misfit> {
     for (index, value) in values.iter().enumerate() {
         let place = Place {
             value: Some(index),
             ..place
         };
-        test_element(value, place)?;
+        test_element::<F>(value, place)?;
     }
     Ok(())
 }
 
 /// Tests what is expected at a point.
-fn test_point(expected: &ExpectedPoint, place: Place) -> Result<(), Misfit> {
-    test_element(&expected.point, place)?;
+fn test_point<F: SchemeField>(expected: &ExpectedPoint, place: Place) -> Result<(), Misfit> {
+    test_element::<F>(&expected.point, place)?;
     match &expected.values {
-        Some(values) => test_values(values, place),
+        Some(values) => test_values::<F>(values, place),
         None => Ok(()),
     }
 }
 
 /// Tests what is expected of a matrix.
-fn test_matrix(expected: &ExpectedMatrix, place: Place) -> Result<(), Misfit> {
+fn test_matrix<F: SchemeField>(expected: &ExpectedMatrix, place: Place) -> Result<(), Misfit> {
     let Domain { shift, log_size } = expected.domain;
-    if log_size > GREATEST_LOG_SIZE {
+    if log_size > F::TWO_ADICITY {
         return Err(place.lacks(Fault::LogSize));
     }
-    if shift == 0 || shift >= BabyBear::ORDER_U64 {
+    if shift == 0 || shift >= F::ORDER_U64 {
         return Err(place.lacks(Fault::Shift));
     }
     for (index, point) in expected.points.iter().enumerate() {
@@ -100,13 +102,13 @@ fn test_matrix(expected: &ExpectedMatrix, place: Place) -> Result<(), Misfit> {
             point: Some(index),
             ..place
         };
-        test_point(point, place)?;
+        test_point::<F>(point, place)?;
     }
     Ok(())
 }
 
 /// Tests what is expected of a commitment's matrices.
-fn test_batch(expected: &ExpectedBatch, place: Place) -> Result<(), Misfit> {
+fn test_batch<F: SchemeField>(expected: &ExpectedBatch, place: Place) -> Result<(), Misfit> {
     if expected.commitment.len() != COMMITMENT_DIGITS || !is_hex(&expected.commitment) {
         return Err(place.lacks(Fault::Commitment));
     }
@@ -115,7 +117,19 @@ fn test_batch(expected: &ExpectedBatch, place: Place) -> Result<(), Misfit> {
             matrix: Some(index),
             ..place
         };
-        test_matrix(matrix, place)?;
+        test_matrix::<F>(matrix, place)?;
+    }
+    Ok(())
+}
+
+/// Tests what is expected over the field `F`.
+fn test_over<F: SchemeField>(expected: &Expected) -> Result<(), Misfit> {
+    for (index, batch) in expected.claims.iter().enumerate() {
+        let place = Place {
+            commitment: Some(index),
+            ..Place::CLAIMS
+        };
+        test_batch::<F>(batch, place)?;
     }
     Ok(())
 }
@@ -126,12 +140,9 @@ pub(crate) fn test_expected(expected: &Expected) -> Result<(), Misfit> {
     if !is_hex(&expected.context) {
         return Err(Place::NONE.lacks(Fault::Context));
     }
-    for (index, batch) in expected.claims.iter().enumerate() {
-        let place = Place {
-            commitment: Some(index),
-            ..Place::CLAIMS
-        };
-        test_batch(batch, place)?;
+    match expected.field {
+        FieldName::BabyBear => test_over::<BabyBear>(expected),
+        FieldName::KoalaBear => test_over::<KoalaBear>(expected),
+        FieldName::Goldilocks => test_over::<Goldilocks>(expected),
     }
-    Ok(())
 }

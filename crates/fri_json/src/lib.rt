@@ -1,4 +1,5 @@
-//! Requests, answers and statements as JSON texts, of the plain scheme and of the one that hides.
+//! Requests, answers and statements as JSON texts, of the plain scheme and of the one that hides,
+//! over the field that they name.
 #![tactic(auto)]
 
 mod command;
@@ -7,6 +8,7 @@ mod expected;
 mod fault;
 mod field;
 mod opening;
+mod prime_field;
 mod records;
 mod request;
 mod statement;
@@ -19,6 +21,7 @@ use crate::expected::test_expected;
 pub use crate::fault::JsonFault;
 use crate::fault::read;
 use crate::opening::open_request;
+pub use crate::prime_field::FieldName;
 use crate::records::Accepted;
 use crate::request::{commit_request, request_of};
 use crate::statement::accept;
@@ -121,6 +124,7 @@ fn expected_of(alloc: Global, text: &str) -> Result<Expected, Failure> {
 /// Verifies the statement in this JSON text, and answers what the challenger draws next.
 pub fn verify(alloc: Global, text: &str) -> Result<Vec<u64>, Failure> {
     let Accepted {
+        field: _,
         context: _,
         parameters: _,
         hiding: _,

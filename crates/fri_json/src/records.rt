@@ -1,5 +1,6 @@
 //! The records of requests, answers and statements.
 
+use crate::prime_field::FieldName;
 use fri_requests::{Batch, BatchClaims, Parameters};
 use p3_fri_plain::{PlainFriProof, PlainHidingProof};
 use serde::{Deserialize, Serialize};
@@ -16,6 +17,8 @@ pub(crate) struct HidingAsked {
 /// What is committed to and opened: of the plain scheme, or of the one that hides.
 #[derive(Drop, Deserialize)]
 pub(crate) struct Request {
+    #[serde(default)]
+    pub field: FieldName,
     /// In hex; empty if it isn't there.
     #[serde(default)]
     pub context: String,
@@ -37,6 +40,8 @@ pub(crate) struct HidingStated {
 /// What comes of opening a request in the plain scheme.
 #[derive(Drop, Serialize)]
 pub(crate) struct Answer {
+    #[serde(skip_serializing_if = "FieldName::is_default")]
+    pub field: FieldName,
     /// In hex.
     pub context: String,
     pub parameters: Parameters,
@@ -49,6 +54,8 @@ pub(crate) struct Answer {
 /// And in the scheme that hides.
 #[derive(Drop, Serialize)]
 pub(crate) struct HidingAnswer {
+    #[serde(skip_serializing_if = "FieldName::is_default")]
+    pub field: FieldName,
     /// In hex.
     pub context: String,
     pub parameters: Parameters,
@@ -62,6 +69,8 @@ pub(crate) struct HidingAnswer {
 /// What is verified in the plain scheme: an answer's context, parameters, claims and proof.
 #[derive(Drop, Deserialize)]
 pub(crate) struct Statement {
+    #[serde(default)]
+    pub field: FieldName,
     /// In hex; empty if it isn't there.
     #[serde(default)]
     pub context: String,
@@ -75,6 +84,8 @@ pub(crate) struct Statement {
 /// And in the scheme that hides.
 #[derive(Drop, Deserialize)]
 pub(crate) struct HidingStatement {
+    #[serde(default)]
+    pub field: FieldName,
     /// In hex; empty if it isn't there.
     #[serde(default)]
     pub context: String,
@@ -94,6 +105,7 @@ pub(crate) struct Kind {
 /// What was accepted, and what the challenger draws next.
 #[derive(Drop)]
 pub(crate) struct Accepted {
+    pub field: FieldName,
     /// In hex.
     pub context: String,
     pub parameters: Parameters,

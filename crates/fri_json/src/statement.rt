@@ -2,26 +2,32 @@
 
 use crate::Failure;
 use crate::fault::read;
+use crate::prime_field::FieldName;
 use crate::records::{Accepted, HidingStated, HidingStatement, Kind, Statement};
-use fri_requests::{HidingScheme, VerifyError, plain};
+use fri_requests::{HidingScheme, SchemeField, VerifyError, plain};
+use p3_field::BabyBear;
 use p3_fri_plain::{from_plain, hiding_from_plain};
+use p3_goldilocks::Goldilocks;
+use p3_koala_bear::KoalaBear;
 use std::alloc::Global;
 
-/// Verifies a statement of the plain scheme.
-fn accept_plain(alloc: Global, statement: Statement) -> Result<Accepted, Failure> {
+/// Verifies a statement of the plain scheme over the field `F`, which it names.
+fn accept_plain<F: SchemeField>(alloc: Global, statement: Statement) -> Result<Accepted, Failure> {
     let Statement {
+        field,
         context,
         parameters,
         hiding: _,
         claims,
         proof,
     } = statement;
-    let verified = match from_plain(alloc, proof) {
-        Ok(proof) => plain::verify(alloc, &context, &parameters, &claims, &proof),
+    let verified = match from_plain::<F, F::Extension>(alloc, proof) {
+        Ok(proof) => plain::verify::<F>(alloc, &context, &parameters, &claims, &proof),
         Err(error) => Err(error.into()),
     };
     match verified {
         Ok(next_challenge) => Ok(Accepted {
+            field,
             context,
             parameters,
             hiding: None,
@@ -32,9 +38,13 @@ fn accept_plain(alloc: Global, statement: Statement) -> Result<Accepted, Failure
     }
 }
 
-/// Verifies a statement of the scheme that hides.
-fn accept_hiding(alloc: Global, statement: HidingStatement) -> Result<Accepted, Failure> {
+/// Verifies a statement of the scheme that hides over the field `F`, which it names.
+fn accept_hiding<F: SchemeField>(
+    alloc: Global,
+    statement: HidingStatement,
+) -> Result<Accepted, Failure> {
     let HidingStatement {
+        field,
         context,
         parameters,
         hiding,
@@ -45,8 +55,8 @@ fn accept_hiding(alloc: Global, statement: HidingStatement) -> Result<Accepted, 
         num_random_codewords,
         preprocessing,
     } = hiding;
-    let verified = match hiding_from_plain(alloc, proof) {
-        Ok(proof) => fri_requests::verify::<HidingScheme>(
+    let verified = match hiding_from_plain::<F, F::Extension>(alloc, proof) {
+        Ok(proof) => fri_requests::verify::<F, HidingScheme<F>>(
             alloc,
             &context,
             &parameters,
@@ -59,6 +69,7 @@ fn accept_hiding(alloc: Global, statement: HidingStatement) -> Result<Accepted, 
     };
     match verified {
         Ok(next_challenge) => Ok(Accepted {
+            field,
             context,
             parameters,
             hiding: Some(hiding),
@@ -66,6 +77,24 @@ fn accept_hiding(alloc: Global, statement: HidingStatement) -> Result<Accepted, 
             next_challenge,
         }),
         Err(error) => Err(Failure::Statement(error)),
+    }
+}
+
+/// Verifies a statement of the plain scheme over its field.
+fn accept_plain_statement(alloc: Global, statement: Statement) -> Result<Accepted, Failure> {
+    match statement.field {
+        FieldName::BabyBear => accept_plain::<BabyBear>(alloc, statement),
+        FieldName::KoalaBear => accept_plain::<KoalaBear>(alloc, statement),
+        FieldName::Goldilocks => accept_plain::<Goldilocks>(alloc, statement),
+    }
+}
+
+/// Verifies a statement of the scheme that hides over its field.
+fn accept_hiding_statement(alloc: Global, statement: HidingStatement) -> Result<Accepted, Failure> {
+    match statement.field {
+        FieldName::BabyBear => accept_hiding::<BabyBear>(alloc, statement),
+        FieldName::KoalaBear => accept_hiding::<KoalaBear>(alloc, statement),
+        FieldName::Goldilocks => accept_hiding::<Goldilocks>(alloc, statement),
     }
 }
 
@@ -79,8 +108,8 @@ fn hides(alloc: Global, text: &str) -> bool {
 pub(crate) fn accept(alloc: Global, text: &str) -> Result<Accepted, Failure> {
     let statement: Result<Statement, Failure> = read(alloc, text);
     match statement {
-        Ok(statement) if statement.hiding.is_none() => accept_plain(alloc, statement),
+        Ok(statement) if statement.hiding.is_none() => accept_plain_statement(alloc, statement),
         Err(failure) if !hides(alloc, text) => Err(failure),
-        _ => accept_hiding(alloc, read(alloc, text)?),
+        _ => accept_hiding_statement(alloc, read(alloc, text)?),
     }
 }

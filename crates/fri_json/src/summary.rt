@@ -1,6 +1,7 @@
 //! What was accepted, in short.
 
 use crate::Failure;
+use crate::prime_field::FieldName;
 use crate::records::Accepted;
 use fri_requests::{BatchClaims, MatrixClaims};
 use std::alloc::Global;
@@ -18,6 +19,14 @@ fn push_context(alloc: Global, lines: &mut String, context: &str) -> Result<(), 
         },
         _ if count == 0 => writeln!(lines, "context empty")?,
         _ => writeln!(lines, "context {digits}")?,
+    }
+    Ok(())
+}
+
+/// Adds the line of a field: BabyBear needn't be named.
+fn push_field(lines: &mut String, field: FieldName) -> Result<(), Failure> {
+    if !field.is_default() {
+        writeln!(lines, "field {field:?}")?;
     }
     Ok(())
 }
@@ -49,6 +58,7 @@ fn push_batch(alloc: Global, lines: &mut String, batch: &BatchClaims) -> Result<
 /// The lines that say what was accepted.
 pub(crate) fn accepted_lines(alloc: Global, accepted: &Accepted) -> Result<String, Failure> {
     let mut lines = String::from_str(alloc, "accepted\n")?;
+    push_field(&mut lines, accepted.field)?;
     push_context(alloc, &mut lines, &accepted.context)?;
     for batch in &accepted.claims {
         push_batch(alloc, &mut lines, batch)?;

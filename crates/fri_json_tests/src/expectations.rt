@@ -191,40 +191,43 @@ const FAULTS: [Difference; 14] = [
     (
         "\"shift\":3",
         "\"shift\":0",
-        "Shift: claims[1].matrices[1].domain.shift: expected a number from 1 to 2013265920",
+        "Shift: claims[1].matrices[1].domain.shift: expected a number above 0 and below the \
+field's order",
     ),
     (
         "\"shift\":3",
         "\"shift\":2013265921",
-        "Shift: claims[1].matrices[1].domain.shift: expected a number from 1 to 2013265920",
+        "Shift: claims[1].matrices[1].domain.shift: expected a number above 0 and below the \
+field's order",
     ),
     (
         "\"log_size\":3",
         "\"log_size\":28",
-        "LogSize: claims[1].matrices[0].domain.log_size: expected a number up to 27, with \
-log_blowup where it is committed to",
+        "LogSize: claims[1].matrices[0].domain.log_size: expected a number up to the \
+field's two-adicity, with log_blowup where it is committed to",
     ),
     (
         "{\"point\":[5,0,0,0]}",
         "{\"point\":[5,0,0]}",
-        "ExtensionElement: claims[1].matrices[0].points[0].point: expected four numbers below \
-2013265921",
+        "ExtensionElement: claims[1].matrices[0].points[0].point: expected numbers below the \
+field's order, as many as the extension's degree",
     ),
     (
         "{\"point\":[7,1,0,2]",
         "{\"point\":[7,1,0,2013265921]",
-        "Element: claims[1].matrices[0].points[1].point: expected a number below 2013265921",
+        "Element: claims[1].matrices[0].points[1].point: expected a number below the field's order",
     ),
     (
         ",1395585587]",
         "]",
-        "ExtensionElement: claims[1].matrices[0].points[1].values[1]: expected four numbers below \
-2013265921",
+        "ExtensionElement: claims[1].matrices[0].points[1].values[1]: expected numbers below the \
+field's order, as many as the extension's degree",
     ),
     (
         "1395585587",
         "2013265921",
-        "Element: claims[1].matrices[0].points[1].values[1]: expected a number below 2013265921",
+        "Element: claims[1].matrices[0].points[1].values[1]: expected a number below the field's \
+order",
     ),
     (
         "{\"parameters\"",
@@ -235,7 +238,7 @@ log_blowup where it is committed to",
 
 /// Whether `verify` writes this and nothing else of an answer that is compared with what is in the
 /// text of a file named `E`.
-fn is_compared(alloc: Global, expected: &str, answer: &str, lines: Lines<'_>) -> bool {
+pub(crate) fn is_compared(alloc: Global, expected: &str, answer: &str, lines: Lines<'_>) -> bool {
     let mut fault = Vec::new(alloc);
     match read_expected(alloc, "E", expected, &mut fault) {
         Ok(expected) => {

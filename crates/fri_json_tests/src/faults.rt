@@ -14,13 +14,13 @@ const REQUESTS: [Fault; 29] = [
     (
         "\"log_blowup\":1",
         "\"log_blowup\":0",
-        "LogBlowup: parameters.log_blowup: expected a number from 1 to 27",
+        "LogBlowup: parameters.log_blowup: expected a number from 1 to the field's two-adicity",
         2,
     ),
     (
         "\"log_blowup\":1",
         "\"log_blowup\":28",
-        "LogBlowup: parameters.log_blowup: expected a number from 1 to 27",
+        "LogBlowup: parameters.log_blowup: expected a number from 1 to the field's two-adicity",
         2,
     ),
     (
@@ -50,20 +50,22 @@ const REQUESTS: [Fault; 29] = [
     (
         "\"log_size\":1",
         "\"log_size\":27",
-        "LogSize: commitments[0].matrices[0].domain.log_size: expected a number up to 27, with \
-log_blowup where it is committed to",
+        "LogSize: commitments[0].matrices[0].domain.log_size: expected a number up to the \
+field's two-adicity, with log_blowup where it is committed to",
         2,
     ),
     (
         "\"shift\":1",
         "\"shift\":0",
-        "Shift: commitments[0].matrices[0].domain.shift: expected a number from 1 to 2013265920",
+        "Shift: commitments[0].matrices[0].domain.shift: expected a number above 0 and below the \
+field's order",
         2,
     ),
     (
         "\"shift\":1",
         "\"shift\":2013265921",
-        "Shift: commitments[0].matrices[0].domain.shift: expected a number from 1 to 2013265920",
+        "Shift: commitments[0].matrices[0].domain.shift: expected a number above 0 and below the \
+field's order",
         2,
     ),
     (
@@ -82,7 +84,7 @@ points, times the width",
     (
         "[1,3]",
         "[1,2013265921]",
-        "Element: commitments[0].matrices[0].values[1]: expected a number below 2013265921",
+        "Element: commitments[0].matrices[0].values[1]: expected a number below the field's order",
         2,
     ),
     (
@@ -94,14 +96,14 @@ points, times the width",
     (
         "[[5,0,0,0]]",
         "[[5,0,0,0],[5,0,0]]",
-        "ExtensionElement: commitments[0].matrices[0].points[1]: expected four numbers below \
-2013265921",
+        "ExtensionElement: commitments[0].matrices[0].points[1]: expected numbers below the \
+field's order, as many as the extension's degree",
         2,
     ),
     (
         "[[5,0,0,0]]",
         "[[5,0,2013265921,0]]",
-        "Element: commitments[0].matrices[0].points[0]: expected a number below 2013265921",
+        "Element: commitments[0].matrices[0].points[0]: expected a number below the field's order",
         2,
     ),
     (
@@ -222,46 +224,49 @@ log_blowup",
     (
         "\"shift\":1",
         "\"shift\":0",
-        "Shift: claims[0].matrices[0].domain.shift: expected a number from 1 to 2013265920",
+        "Shift: claims[0].matrices[0].domain.shift: expected a number above 0 and below the \
+field's order",
         2,
     ),
     (
         "\"log_size\":1",
         "\"log_size\":28",
-        "LogSize: claims[0].matrices[0].domain.log_size: expected a number up to 27, with \
-log_blowup where it is committed to",
+        "LogSize: claims[0].matrices[0].domain.log_size: expected a number up to the \
+field's two-adicity, with log_blowup where it is committed to",
         2,
     ),
     (
         "\"point\":[5,",
         "\"point\":[",
-        "ExtensionElement: claims[0].matrices[0].points[0].point: expected four numbers below \
-2013265921",
+        "ExtensionElement: claims[0].matrices[0].points[0].point: expected numbers below the \
+field's order, as many as the extension's degree",
         2,
     ),
     (
         "[[2013265918,0,0,0]]",
         "[[2013265918,0,0,0],[2013265921,0,0,0]]",
-        "Element: claims[0].matrices[0].points[0].values[1]: expected a number below 2013265921",
+        "Element: claims[0].matrices[0].points[0].values[1]: expected a number below the field's \
+order",
         2,
     ),
     (
         "[[2013265918,0,0,0]]",
         "[[2013265918,0,0]]",
-        "ExtensionElement: claims[0].matrices[0].points[0].values[0]: expected four numbers below \
-2013265921",
+        "ExtensionElement: claims[0].matrices[0].points[0].values[0]: expected numbers below the \
+field's order, as many as the extension's degree",
         2,
     ),
     (
         "\"batch_pow_witness\":0",
         "\"batch_pow_witness\":2013265921",
-        "Element: proof: expected a number below 2013265921",
+        "Element: proof: expected a number below the field's order",
         2,
     ),
     (
         "[[2013265920,0,0,0]],\"q",
         "[[2013265920,0,0]],\"q",
-        "ExtensionElement: proof: expected four numbers below 2013265921",
+        "ExtensionElement: proof: expected numbers below the field's order, as many as the \
+extension's degree",
         2,
     ),
     (

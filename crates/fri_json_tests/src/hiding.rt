@@ -219,8 +219,8 @@ const FAULTS: [(&str, &str, &str, u8); 5] = [
     (
         "\"log_size\":5",
         "\"log_size\":26",
-        "LogSize: commitments[0].matrices[0].domain.log_size: expected a number up to 27, with \
-log_blowup where it is committed to",
+        "LogSize: commitments[0].matrices[0].domain.log_size: expected a number up to the \
+field's two-adicity, with log_blowup where it is committed to",
         2,
     ),
     (

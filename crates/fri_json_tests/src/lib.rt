@@ -6,6 +6,8 @@ mod expectations;
 #[cfg(test)]
 mod faults;
 #[cfg(test)]
+mod fields;
+#[cfg(test)]
 mod forgeries;
 #[cfg(test)]
 mod hiding;

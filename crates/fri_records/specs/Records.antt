@@ -28,7 +28,8 @@ pub record AreDifficultiesLow (p : Parameters) : Type 0 where
   pub commit : p.commit_proof_of_work_bits ≤ 63
   pub query : p.query_proof_of_work_bits ≤ 63
 
--- parameters of a prover: in its range, with a blowup within the two-adicity
-pub record AreProvers (p : Parameters) : Type 0 where
-  pub range : InProverRange (parameters_in p) 27 63
-  pub blowup : p.log_blowup ≤ 27
+-- parameters of a prover over a field of this two-adicity: in its range, with a blowup within the
+-- two-adicity
+pub record AreProvers (two_adicity : ℕ) (p : Parameters) : Type 0 where
+  pub range : InProverRange (parameters_in p) two_adicity 63
+  pub blowup : p.log_blowup ≤ two_adicity

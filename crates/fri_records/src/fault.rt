@@ -42,7 +42,7 @@ pub enum Fault {
     Points,
     /// A number isn't below the order.
     Element,
-    /// An element of the extension isn't given by four numbers.
+    /// An element of the extension isn't given by as many numbers as its degree.
     ExtensionElement,
     /// A commitment isn't the hex text of 32 bytes.
     Commitment,
@@ -54,30 +54,35 @@ pub enum Fault {
     Preprocessed,
     /// A seed isn't the hex text of 32 bytes.
     Seed,
+    /// Other matrices were committed to.
+    Kept,
 }
 
 impl Fault {
     /// What was expected of its field.
     pub fn expected(&self) -> &'static str {
         match self {
-            Fault::LogBlowup => "a number from 1 to 27",
+            Fault::LogBlowup => "a number from 1 to the field's two-adicity",
             Fault::LogFinalPolyLen => "a number below 64 together with log_blowup",
             Fault::MaxLogArity => "a number above 0",
             Fault::NumQueries => "a number above 0",
             Fault::ProofOfWorkBits => "proofs of work of at most 63 bits",
             Fault::Matrices => "some matrix",
-            Fault::LogSize => "a number up to 27, with log_blowup where it is committed to",
-            Fault::Shift => "a number from 1 to 2013265920",
+            Fault::LogSize => "a number up to the field's two-adicity, with log_blowup where it \
+is committed to",
+            Fault::Shift => "a number above 0 and below the field's order",
             Fault::Width => "a number above 0",
             Fault::Values => "as many values as the domain has points, times the width",
             Fault::Points => "some point",
-            Fault::Element => "a number below 2013265921",
-            Fault::ExtensionElement => "four numbers below 2013265921",
+            Fault::Element => "a number below the field's order",
+            Fault::ExtensionElement => "numbers below the field's order, as many as the \
+extension's degree",
             Fault::Commitment => "64 hex digits",
             Fault::Digest => "digests of 32 bytes",
             Fault::Context => "an even number of hex digits",
             Fault::Preprocessed => "at most one preprocessed batch",
             Fault::Seed => "64 hex digits",
+            Fault::Kept => "the domains and widths that were committed to",
         }
     }
 
@@ -89,7 +94,7 @@ impl Fault {
             Fault::MaxLogArity => "parameters.max_log_arity",
             Fault::NumQueries => "parameters.num_queries",
             Fault::ProofOfWorkBits => "parameters",
-            Fault::Matrices => "commitments",
+            Fault::Matrices | Fault::Kept => "commitments",
             Fault::LogSize => ".domain.log_size",
             Fault::Shift => ".domain.shift",
             Fault::Width => ".width",
@@ -199,7 +204,7 @@ pub struct Misfit {
 }
 
 /// The fault's name, its field, and what was expected, as
-/// `Element: commitments[0].matrices[0].values[1]: expected a number below 2013265921`.
+/// `Element: commitments[0].matrices[0].values[1]: expected a number below the field's order`.
 impl fmt::Display for Misfit {
     fn fmt<W: fmt::Write>(&self, f: &mut fmt::Formatter<W>) -> fmt::Result {
         let fault = self.fault;

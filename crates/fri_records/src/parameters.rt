@@ -1,5 +1,5 @@
 //! The parameters of the low-degree test that records name, and whether a prover or a verifier over
-//! BabyBear takes them.
+//! a two-adic field takes them.
 
 ghost use Rattle.std.specs.Prelude.{◌≡◌, ◌≤◌, ◌↔◌, IsTrue, IfOk, IfErr};
 ghost use Rattle.p3_fri_relation.specs.Views.{parameters_of};
@@ -8,12 +8,12 @@ ghost use Rattle.fri_records.specs.Records.{parameters_in, AreDifficultiesLow, A
 
 use crate::fault::{Fault, Misfit, Place};
 use crate::records::Parameters;
-use p3_field::{BabyBear, BabyBear4, TwoAdicField};
+use p3_field::{BabyBear4, TwoAdicField};
 use p3_fri_folding::FriParameters;
 use p3_mmcs::Sha256Mmcs;
 
-/// The tree of folded words.
-pub type Rounds = Sha256Mmcs<BabyBear4>;
+/// The tree of folded words, of elements of the extension `EF`.
+pub type Rounds<EF = BabyBear4> = Sha256Mmcs<EF>;
 
 /// The greatest difficulty: as many bits as the challenger draws at once.
 const GREATEST_DIFFICULTY: usize = 63;
@@ -28,7 +28,7 @@ fn are_difficulties_low(parameters: &Parameters) -> bool
 }
 
 /// The parameters of the low-degree test, whether or not anybody takes them.
-pub fn fri_parameters(parameters: &Parameters) -> FriParameters<Rounds>
+pub fn fri_parameters<EF>(parameters: &Parameters) -> FriParameters<Rounds<EF>>
     ensures { parameters_of result ≡ parameters_in parameters.now }
 {
     FriParameters {
@@ -43,19 +43,21 @@ pub fn fri_parameters(parameters: &Parameters) -> FriParameters<Rounds>
     }
 }
 
-/// Those of a prover.
+/// Those of a prover over the field `F`.
 ///
 /// # Errors
 ///
 /// A difficulty above 63 bits, no query, rounds that fold nothing, and a blowup of none or above
-/// the field's two-adicity, 27.
-pub fn prover_parameters(parameters: &Parameters) -> Result<FriParameters<Rounds>, Misfit>
+/// the field's two-adicity.
+pub fn prover_parameters<F: TwoAdicField, EF>(
+    parameters: &Parameters,
+) -> Result<FriParameters<Rounds<EF>>, Misfit>
     ensures parameters { IfOk result (λ fri. parameters_of fri ≡ parameters_in parameters.now) }
-    ensures range { IfOk result (λ fri. InProverRange (parameters_of fri) 27 63) }
-    ensures blowup { IfOk result (λ fri. fri.log_blowup ≤ 27) }
-    ensures refused { IfErr result (λ _. ¬ AreProvers parameters.now) }
+    ensures range { IfOk result (λ fri. InProverRange (parameters_of fri) F.TWO_ADICITY 63) }
+    ensures blowup { IfOk result (λ fri. fri.log_blowup ≤ F.TWO_ADICITY) }
+    ensures refused { IfErr result (λ _. ¬ AreProvers F.TWO_ADICITY parameters.now) }
 {
-    if parameters.log_blowup == 0 || parameters.log_blowup > BabyBear::TWO_ADICITY {
+    if parameters.log_blowup == 0 || parameters.log_blowup > F::TWO_ADICITY {
         return Err(Place::NONE.lacks(Fault::LogBlowup));
     }
     if parameters.max_log_arity == 0 {
@@ -70,15 +72,18 @@ pub fn prover_parameters(parameters: &Parameters) -> Result<FriParameters<Rounds
     Ok(fri_parameters(parameters))
 }
 
-/// Those of a verifier.
+/// Those of a verifier over the field `F`.
 ///
 /// # Errors
 ///
 /// A difficulty above 63 bits, and words of `2^64` values or more at the end of folding.
-pub fn verifier_parameters(parameters: &Parameters) -> Result<FriParameters<Rounds>, Misfit>
+pub fn verifier_parameters<F: TwoAdicField, EF>(
+    parameters: &Parameters,
+) -> Result<FriParameters<Rounds<EF>>, Misfit>
     ensures parameters { IfOk result (λ fri. parameters_of fri ≡ parameters_in parameters.now) }
-    ensures range { IfOk result (λ fri. InVerifierRange (parameters_of fri) 27 63) }
-    ensures refused { IfErr result (λ _. ¬ InVerifierRange (parameters_in parameters.now) 27 63) }
+    ensures range { IfOk result (λ fri. InVerifierRange (parameters_of fri) F.TWO_ADICITY 63) }
+    ensures refused { IfErr result (λ _.
+        ¬ InVerifierRange (parameters_in parameters.now) F.TWO_ADICITY 63) }
 {
     let final_height = parameters
         .log_blowup

@@ -1,5 +1,5 @@
-//! The records that cross a boundary. An element of BabyBear is its canonical number, one of the
-//! extension the list of its four coefficients' numbers, that of one first, a commitment the hex
+//! The records that cross a boundary. An element of a prime field is its canonical number, one of
+//! the extension the list of its coefficients' numbers, that of one first, a commitment the hex
 //! text of its 32 bytes, and a context that of its bytes.
 
 ghost use Rattle.std.specs.Prelude.{◌≡◌};

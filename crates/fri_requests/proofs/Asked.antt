@@ -4,25 +4,26 @@ use Rattle.std.proofs.Common.{subst, ap, ap₂, ◌∙◌}
 use Rattle.std.proofs.lemmas.List.{length-map}
 use Rattle.algebra.specs.Nested.{lists}
 use Rattle.algebra.proofs.Lists.{Each, each_from_All, All_from_each, head_eq, tail_eq}
-use Rattle.p3_baby_bear.specs.declared.baby_bear4.BabyBear4.{BabyBear4}
 use Rattle.p3_fri_relation.specs.Setting as setting
 use Rattle.p3_fri_two_adic.specs.Ranges.{InProverRange}
 use Rattle.fri_records.specs.declared.records.Parameters.{Parameters}
 use Rattle.fri_records.specs.declared.records.Matrix.{Matrix}
 use Rattle.fri_records.specs.declared.records.Batch.{Batch}
 use Rattle.fri_records.specs.Records.{parameters_in, AreProvers}
-use Rattle.fri_statement.specs.Numbers.{coefficient_numbers}
-use Rattle.fri_requests.specs.Numbers.{extension_of, IsExtensionElement}
+use Rattle.fri_statement.specs.Setting.{SchemeFields}
+use Rattle.fri_requests.specs.Numbers.{extension_of, extension_numbers, IsExtensionElement}
 use Rattle.fri_requests.specs.Openings.{HavePoints}
 use Rattle.fri_requests.specs.Requests.{HasPoints, AllMatrices, points_listed}
-use Rattle.fri_requests.proofs.Listed.{every_extension_again, every_is_extension}
+use Rattle.fri_requests.proofs.Listed.{HaveNumbers, every_extension_again, every_is_extension}
 use Rattle.fri_requests.proofs.Zipped.{none_left}
 
-pub are_provers : (parameters : Parameters) (p : setting.Parameters) → p ≡ parameters_in parameters
-    → InProverRange p 27 63 → p.log_blowup ≤ 27 → AreProvers parameters
-are_provers parameters p same range low = record {
-  range = subst (λ q. InProverRange q 27 63) same range;
-  blowup = subst (λ (q : setting.Parameters). q.log_blowup ≤ 27) same low;
+-- over a field of this two-adicity
+pub are_provers : (most : ℕ) (parameters : Parameters) (p : setting.Parameters)
+    → p ≡ parameters_in parameters → InProverRange p most 63 → p.log_blowup ≤ most
+    → AreProvers most parameters
+are_provers most parameters p same range low = record {
+  range = subst (λ q. InProverRange q most 63) same range;
+  blowup = subst (λ (q : setting.Parameters). q.log_blowup ≤ most) same low;
 }
 
 -- what is read alike of each entry of two lists
@@ -48,37 +49,40 @@ module _ {A B C : Type 0} (f : A → C) (g : B → C) where
   back_read h back (x ∷ xs) (y ∷ ys) e =
       ap₂ (λ z zs. z ∷ zs) (back x y (head_eq e)) (back_read h back xs ys (tail_eq e))
 
--- the points' numbers, and of a batch's matrices
-abbrev numbers_in : List (List BabyBear4) → List (List (List ℕ))
-numbers_in pss = map (map coefficient_numbers) pss
-
+-- the numbers of a batch's points
 abbrev numbers_of : Batch → List (List (List ℕ))
 numbers_of batch = map (λ m. lists m.points.items) batch.matrices.items
 
--- points of some numbers, of which there are some
-has_points : (zs : List BabyBear4) (m : Matrix) → zs ≢ []
-    → map coefficient_numbers zs ≡ lists m.points.items → HasPoints m
-has_points zs m some e = record {
-  some_point = λ none. some (none_left zs
-      (sym (length-map zs coefficient_numbers) ∙ ap length e ∙ ap (λ vs. length (lists vs)) none));
-  elements = subst (λ ns. All IsExtensionElement ns) e (every_is_extension zs);
-}
+module _ {F E : Type 0} (f : SchemeFields F E) (numbered : HaveNumbers f) where
+  -- those of points
+  abbrev numbers_in : List (List E) → List (List (List ℕ))
+  numbers_in pss = map (map (extension_numbers f)) pss
 
-pub have_points : (pss : List (List (List BabyBear4))) (batches : List Batch)
-    → map numbers_in pss ≡ map numbers_of batches → HavePoints pss → AllMatrices HasPoints batches
-have_points pss batches e some =
-    all_read numbers_in numbers_of (λ ps. All (λ zs. zs ≢ []) ps)
-    (λ batch. All HasPoints batch.matrices.items)
-    (λ ps batch h same. all_read (map coefficient_numbers) (λ m. lists m.points.items)
-    (λ zs. zs ≢ []) HasPoints has_points ps batch.matrices.items same h) pss batches e some
+  -- points of some numbers, of which there are some
+  has_points : (zs : List E) (m : Matrix) → zs ≢ []
+      → map (extension_numbers f) zs ≡ lists m.points.items → HasPoints f m
+  has_points zs m some e = record {
+    some_point = λ none. some (none_left zs
+        (sym (length-map zs (extension_numbers f)) ∙ ap length e ∙ ap (λ vs. length (lists vs)) none));
+    elements = subst (λ ns. All (IsExtensionElement f) ns) e (every_is_extension f numbered zs);
+  }
 
--- points are those of their numbers
-pub points_again : (pss : List (List (List BabyBear4))) (batches : List Batch)
-    → map numbers_in pss ≡ map numbers_of batches → pss ≡ points_listed batches
-points_again pss batches e =
-    back_read numbers_in numbers_of
-    (λ batch. map (λ m. map extension_of (lists m.points.items)) batch.matrices.items)
-    (λ ps batch same. back_read (map coefficient_numbers) (λ m. lists m.points.items)
-    (λ m. map extension_of (lists m.points.items))
-    (λ zs m is. sym (every_extension_again zs) ∙ ap (λ ns. map extension_of ns) is)
-    ps batch.matrices.items same) pss batches e
+  pub have_points : (pss : List (List (List E))) (batches : List Batch)
+      → map numbers_in pss ≡ map numbers_of batches → HavePoints pss
+      → AllMatrices (HasPoints f) batches
+  have_points pss batches e some =
+      all_read numbers_in numbers_of (λ ps. All (λ zs. zs ≢ []) ps)
+      (λ batch. All (HasPoints f) batch.matrices.items)
+      (λ ps batch h same. all_read (map (extension_numbers f)) (λ m. lists m.points.items)
+      (λ zs. zs ≢ []) (HasPoints f) has_points ps batch.matrices.items same h) pss batches e some
+
+  -- points are those of their numbers
+  pub points_again : (pss : List (List (List E))) (batches : List Batch)
+      → map numbers_in pss ≡ map numbers_of batches → pss ≡ points_listed f batches
+  points_again pss batches e =
+      back_read numbers_in numbers_of
+      (λ batch. map (λ m. map (extension_of f) (lists m.points.items)) batch.matrices.items)
+      (λ ps batch same. back_read (map (extension_numbers f)) (λ m. lists m.points.items)
+      (λ m. map (extension_of f) (lists m.points.items))
+      (λ zs m is. sym (every_extension_again f numbered zs) ∙ ap (λ ns. map (extension_of f) ns) is)
+      ps batch.matrices.items same) pss batches e

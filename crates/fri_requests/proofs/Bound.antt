@@ -6,13 +6,12 @@ use Rattle.std.specs.Result.{result_unwrap_or}
 use Rattle.std.proofs.lemmas.List.{append-nil, take_all, length-map}
 use Rattle.algebra.proofs.Lists.{head_eq, tail_eq, map-map}
 use Rattle.hex.specs.Hex.{decode_of}
-use Rattle.p3_baby_bear.specs.declared.baby_bear.BabyBear.{BabyBear}
-use Rattle.p3_baby_bear.specs.declared.baby_bear4.BabyBear4.{BabyBear4}
 use Rattle.p3_mmcs.specs.declared.openings.PointOpening.{PointOpening}
 use Rattle.p3_mmcs.specs.declared.openings.MatrixOpening.{MatrixOpening}
 use Rattle.p3_mmcs.specs.declared.openings.CommitmentOpening.{CommitmentOpening}
 use Rattle.p3_pcs.specs.Claims.{zip_with, point_claim, matrix_claim, claim}
-use Rattle.fri_statement.specs.Numbers.{coefficient_numbers}
+use Rattle.fri_statement.specs.Setting.{SchemeFields}
+use Rattle.fri_requests.specs.Numbers.{extension_numbers}
 use Rattle.fri_statement.specs.Statement.{OpenedMatrix, OpenedCommitment}
 use Rattle.p3_challenger_sha256.specs.declared.sha256_challenger.Sha256Challenger.{Sha256Challenger}
 use Rattle.fri_records.specs.declared.records.Parameters.{Parameters}
@@ -23,55 +22,67 @@ use Rattle.fri_requests.specs.Bound.{bound, state_bound, matrix_claimed, batch_c
 use Rattle.fri_requests.specs.Prepared.{state_asked}
 use Rattle.fri_requests.specs.Claims.{point_numbers, batch_numbers, matrix_numbers, batch_listed}
 
--- the points of claims, by their numbers
-pub points_stated : (ps : List (PointOpening BabyBear4)) → map coefficient_numbers (map (λ p. p.point) ps)
-    ≡ map (λ p. p.point) (map point_numbers (map point_claim ps))
-points_stated [] = refl
-points_stated (p ∷ ps) = ap (λ zs. coefficient_numbers p.point ∷ zs) (points_stated ps)
-
 -- a matrix by its parts
 pub opened_same : (shift log_size w w' : ℕ) (zs zs' : List (List ℕ)) → w ≡ w' → zs ≡ zs'
     → ◌≡◌ {A = OpenedMatrix} (record { shift = shift; log_size = log_size; width = w; points = zs })
     (record { shift = shift; log_size = log_size; width = w'; points = zs' })
 opened_same shift log_size w w' zs zs' e f = cc
 
-module _ {D : Type 0} (shift_of : D → BabyBear) (log_size_of : D → ℕ) where
-  -- what is stated of all
-  pub matrices_ended : (news : List OpenedMatrix) (ms : List (MatrixOpening BabyBear4 D)) (i : ℕ) → length ms ≤ i
-      → news ≡ map (λ m. matrix_claimed (matrix_numbers shift_of log_size_of (matrix_claim m))) (take i ms)
-      → news ≡ map matrix_claimed (map (matrix_numbers shift_of log_size_of) (map matrix_claim ms))
-  matrices_ended news ms i l known =
-      known ∙ ap (λ ns. map (λ m. matrix_claimed (matrix_numbers shift_of log_size_of (matrix_claim m))) ns) (take_all i ms l)
-      ∙ sym (map-map (λ c. matrix_claimed (matrix_numbers shift_of log_size_of c)) matrix_claim ms)
-      ∙ sym (map-map matrix_claimed (matrix_numbers shift_of log_size_of) (map matrix_claim ms))
+module _ {F E : Type 0} (f : SchemeFields F E) where
+  -- the points of claims, by their numbers
+  pub points_stated : (ps : List (PointOpening E))
+      → map (extension_numbers f) (map (λ p. p.point) ps)
+      ≡ map (λ p. p.point) (map (point_numbers f) (map point_claim ps))
+  points_stated [] = refl
+  points_stated (p ∷ ps) = ap (λ zs. extension_numbers f p.point ∷ zs) (points_stated ps)
 
-  pub claims_ended : (news : List OpenedCommitment) (cs : List (CommitmentOpening BabyBear4 (List ℕ) D)) (i : ℕ) → length cs ≤ i
-      → news ≡ map (λ c. batch_claimed (batch_numbers shift_of log_size_of (claim c))) (take i cs)
-      → news ≡ map batch_claimed (map (batch_numbers shift_of log_size_of) (map claim cs))
-  claims_ended news cs i l known =
-      known ∙ ap (λ ns. map (λ c. batch_claimed (batch_numbers shift_of log_size_of (claim c))) ns) (take_all i cs l)
-      ∙ sym (map-map (λ c. batch_claimed (batch_numbers shift_of log_size_of c)) claim cs)
-      ∙ sym (map-map batch_claimed (batch_numbers shift_of log_size_of) (map claim cs))
+  module _ {D : Type 0} (shift_of : D → F) (log_size_of : D → ℕ) where
+    -- what is stated of all
+    pub matrices_ended : (news : List OpenedMatrix) (ms : List (MatrixOpening E D)) (i : ℕ)
+        → length ms ≤ i
+        → news ≡ map (λ m. matrix_claimed (matrix_numbers f shift_of log_size_of (matrix_claim m)))
+        (take i ms)
+        → news ≡ map matrix_claimed (map (matrix_numbers f shift_of log_size_of) (map matrix_claim ms))
+    matrices_ended news ms i l known =
+        known
+        ∙ ap (λ ns. map (λ m. matrix_claimed (matrix_numbers f shift_of log_size_of (matrix_claim m))) ns)
+        (take_all i ms l)
+        ∙ sym (map-map (λ c. matrix_claimed (matrix_numbers f shift_of log_size_of c)) matrix_claim ms)
+        ∙ sym (map-map matrix_claimed (matrix_numbers f shift_of log_size_of) (map matrix_claim ms))
 
--- the state that is bound to what claims state
-pub state_again : (begun : Sha256Challenger) (context : List ℕ) (parameters : Parameters)
-    (records : List BatchClaims) (c : Sha256Challenger) (bytes : List ℕ) (opened : List OpenedCommitment)
-    → c ≡ bound begun bytes (parameters_in parameters) opened → decode_of context ≡ Ok bytes
-    → opened ≡ map batch_claimed (map batch_listed records) → c ≡ state_bound begun context parameters records
-state_again begun context parameters records c bytes opened is decoded same =
-    is ∙ ap₂ (λ bs os. bound begun bs (parameters_in parameters) os) (sym (ap (λ d. result_unwrap_or d []) decoded)) same
+    pub claims_ended : (news : List OpenedCommitment) (cs : List (CommitmentOpening E (List ℕ) D))
+        (i : ℕ) → length cs ≤ i
+        → news ≡ map (λ c. batch_claimed (batch_numbers f shift_of log_size_of (claim c))) (take i cs)
+        → news ≡ map batch_claimed (map (batch_numbers f shift_of log_size_of) (map claim cs))
+    claims_ended news cs i l known =
+        known
+        ∙ ap (λ ns. map (λ c. batch_claimed (batch_numbers f shift_of log_size_of (claim c))) ns)
+        (take_all i cs l)
+        ∙ sym (map-map (λ c. batch_claimed (batch_numbers f shift_of log_size_of c)) claim cs)
+        ∙ sym (map-map batch_claimed (batch_numbers f shift_of log_size_of) (map claim cs))
 
--- the state that is bound to a request, once its batches have these commitments
-pub request_state : (hides : Bool) (begun fresh : Sha256Challenger) (r : Request) (bytes : List ℕ)
-    (opened : List OpenedCommitment) (known kept : List (List ℕ)) (c : Sha256Challenger)
-    → c ≡ bound fresh bytes (parameters_in r.parameters) opened → fresh ≡ begun
-    → decode_of (string_bytes r.context) ≡ Ok bytes
-    → opened ≡ zip_with (batch_asked hides) known r.commitments.items → known ≡ kept
-    → c ≡ state_asked hides begun r kept
-request_state hides begun fresh r bytes opened known kept c is begins decoded asked same =
-    is ∙ ap (λ b. bound b bytes (parameters_in r.parameters) opened) begins
-    ∙ ap₂ (λ bs os. bound begun bs (parameters_in r.parameters) os) (sym (ap (λ d. result_unwrap_or d []) decoded))
-    (asked ∙ ap (λ ks. zip_with (batch_asked hides) ks r.commitments.items) same)
+  -- the state that is bound to what claims state
+  pub state_again : (begun : Sha256Challenger F) (context : List ℕ) (parameters : Parameters)
+      (records : List BatchClaims) (c : Sha256Challenger F) (bytes : List ℕ)
+      (opened : List OpenedCommitment) → c ≡ bound f begun bytes (parameters_in parameters) opened
+      → decode_of context ≡ Ok bytes → opened ≡ map batch_claimed (map batch_listed records)
+      → c ≡ state_bound f begun context parameters records
+  state_again begun context parameters records c bytes opened is decoded same =
+      is ∙ ap₂ (λ bs os. bound f begun bs (parameters_in parameters) os)
+      (sym (ap (λ d. result_unwrap_or d []) decoded)) same
+
+  -- the state that is bound to a request, once its batches have these commitments
+  pub request_state : (hides : Bool) (begun fresh : Sha256Challenger F) (r : Request)
+      (bytes : List ℕ) (opened : List OpenedCommitment) (known kept : List (List ℕ))
+      (c : Sha256Challenger F) → c ≡ bound f fresh bytes (parameters_in r.parameters) opened
+      → fresh ≡ begun → decode_of (string_bytes r.context) ≡ Ok bytes
+      → opened ≡ zip_with (batch_asked hides) known r.commitments.items → known ≡ kept
+      → c ≡ state_asked f hides begun r kept
+  request_state hides begun fresh r bytes opened known kept c is begins decoded asked same =
+      is ∙ ap (λ b. bound f b bytes (parameters_in r.parameters) opened) begins
+      ∙ ap₂ (λ bs os. bound f begun bs (parameters_in r.parameters) os)
+      (sym (ap (λ d. result_unwrap_or d []) decoded))
+      (asked ∙ ap (λ ks. zip_with (batch_asked hides) ks r.commitments.items) same)
 
 -- entries at one place of lists that are read alike
 pub entries_alike : {A B C : Type 0} (f : A → C) (g : B → C) (xs : List A) (ys : List B) (i : ℕ) (x : A)

@@ -1,14 +1,12 @@
 -- Requests to open what is kept, and what is claimed of it then.
-use Rattle.std.proofs.Common.{◌≡◌, ◌≢◌, ℕ, zero, suc, ◌+◌, List, [], ◌∷◌, ◌++◌, map, length, All}
+use Rattle.std.proofs.Common.{◌≡◌, ◌≢◌, ℕ, zero, suc, List, [], ◌∷◌, map, length, All}
 use Rattle.std.proofs.Common.{Ok, Option, Some, None, refl, sym, subst, ap, ap₂, ◌∙◌, arith}
-use Rattle.std.proofs.Common.{length-append, Bool, true, false}
+use Rattle.std.proofs.Common.{Bool, true, false}
 use Rattle.std.specs.List.{AllZip, flat_map}
 use Rattle.std.proofs.lemmas.List.{length-map}
 use Rattle.std.proofs.lemmas.Slice.Zip.{AllZip-long}
 use Rattle.algebra.specs.Nested.{lists}
 use Rattle.algebra.proofs.Lists.{Each, each_from_All, All_from_each, head_eq, tail_eq, all_zip-weaker, map-map}
-use Rattle.p3_baby_bear.specs.declared.baby_bear.BabyBear.{BabyBear}
-use Rattle.p3_baby_bear.specs.declared.baby_bear4.BabyBear4.{BabyBear4}
 use Rattle.p3_matrix.specs.declared.dense.RowMajorMatrix.{RowMajorMatrix}
 use Rattle.p3_matrix.specs.Matrix.{matrix_width}
 use Rattle.p3_pcs.specs.Claims.{zip_with, point_claims, matrix_claims}
@@ -21,9 +19,8 @@ use Rattle.fri_records.specs.declared.records.Batch.{Batch}
 use Rattle.fri_records.specs.declared.records.Domain.{Domain}
 use Rattle.fri_requests.specs.declared.committed.Committed.{Committed}
 use Rattle.fri_requests.specs.declared.reading.ListedBatch.{ListedBatch}
-use Rattle.fri_statement.specs.Numbers.{coefficient_numbers}
-use Rattle.fri_statement.specs.Statement.{OpenedMatrix}
-use Rattle.fri_requests.specs.Numbers.{extension_of}
+use Rattle.fri_statement.specs.Setting.{SchemeFields}
+use Rattle.fri_requests.specs.Numbers.{extension_of, extension_numbers}
 use Rattle.fri_requests.specs.Bound.{width_claimed, matrix_claimed, batch_claimed, matrix_asked, batch_asked}
 use Rattle.fri_requests.specs.Claims.{PointNumbers, point_numbers, matrix_numbers, batch_numbers}
 use Rattle.fri_requests.specs.Committed.{domain_of, domain_committed, IsListed, Lists, MayOpen, CommitsTo}
@@ -34,35 +31,29 @@ use Rattle.fri_requests.specs.Preprocessing.{NamesPreprocessed}
 use Rattle.fri_requests.specs.Requests.{HasPoints, AllMatrices}
 use Rattle.p3_pcs.specs.declared.claims.KnownCommitment.{KnownCommitment}
 use Rattle.fri_requests.proofs.Kept.{pairs_same, pairs_through, through, paired_among}
-use Rattle.fri_requests.proofs.Listed.{extension_again}
+use Rattle.fri_requests.proofs.Listed.{HaveNumbers, extension_again}
+use Rattle.fri_requests.proofs.Counts.{Counts, lists_each, some_held}
 use Rattle.fri_requests.proofs.Zipped.{none_left}
 
--- what is claimed at points is what is opened there
-points_opened : (h : Held BabyBear4) (ps : List BabyBear4)
-    → map point_numbers (point_claims ps (map h.values_at ps)) ≡ map (values_opened h) (map coefficient_numbers ps)
-points_opened h [] = refl
-points_opened h (p ∷ ps) =
-    let numbers : List BabyBear4 → PointNumbers = λ vs. record { point = coefficient_numbers p; values = map coefficient_numbers vs } in
-    ap₂ (λ x xs. x ∷ xs) (ap (λ z. numbers (h.values_at z)) (sym (extension_again p))) (points_opened h ps)
-
 -- as many values at each point as the matrix has columns
-abbrev pub HasWidth : Held BabyBear4 → Matrix → Type 0
-HasWidth h m = (z : BabyBear4) → length (h.values_at z) ≡ m.width
+abbrev pub HasWidth : {E : Type 0} → Held E → Matrix → Type 0
+HasWidth {E} h m = (z : E) → length (h.values_at z) ≡ m.width
 
-module _ (hides : Bool) where
-  points_back : (h : Held BabyBear4) (zs : List (List ℕ)) → map (λ p. p.point) (map (values_opened h) zs) ≡ zs
+module _ {F E : Type 0} (f : SchemeFields F E) (hides : Bool) where
+  points_back : (h : Held E) (zs : List (List ℕ))
+      → map (λ p. p.point) (map (values_opened f h) zs) ≡ zs
   points_back h [] = refl
   points_back h (z ∷ zs) = ap (λ ys. z ∷ ys) (points_back h zs)
 
-  width_back : (h : Held BabyBear4) (m : Matrix) → HasWidth h m → (zs : List (List ℕ)) → zs ≢ []
-      → width_claimed (map (values_opened h) zs) ≡ m.width
+  width_back : (h : Held E) (m : Matrix) → HasWidth h m → (zs : List (List ℕ)) → zs ≢ []
+      → width_claimed (map (values_opened f h) zs) ≡ m.width
   width_back h m wide [] some = absurd (some refl)
   width_back h m wide (z ∷ zs) some =
-      length-map (h.values_at (extension_of z)) coefficient_numbers ∙ wide (extension_of z)
+      length-map (h.values_at (extension_of f z)) (extension_numbers f) ∙ wide (extension_of f z)
 
   -- what is claimed of a matrix that is opened somewhere states what is asked
-  matrix_back : (h : Held BabyBear4) (m : Matrix) → HasWidth h m → HasPoints m
-      → matrix_claimed (matrix_opened hides h m) ≡ matrix_asked hides m
+  matrix_back : (h : Held E) (m : Matrix) → HasWidth h m → HasPoints f m
+      → matrix_claimed (matrix_opened f hides h m) ≡ matrix_asked hides m
   matrix_back h m wide has =
       ap₂ (λ w zs. record {
         shift = (domain_committed hides m.domain).shift;
@@ -74,41 +65,59 @@ module _ (hides : Bool) where
       (none_left m.points.items (sym (length-map m.points.items (λ v. v.items)) ∙ ap length none))))
       (points_back h (lists m.points.items))
 
-  matrices_back : (hs : List (Held BabyBear4)) (ms : List Matrix) → AllZip HasWidth hs ms → Each HasPoints ms
-      → map matrix_claimed (zip_with (matrix_opened hides) hs ms) ≡ map (matrix_asked hides) ms
+  pub matrices_back : (hs : List (Held E)) (ms : List Matrix) → AllZip HasWidth hs ms
+      → Each (HasPoints f) ms
+      → map matrix_claimed (zip_with (matrix_opened f hides) hs ms) ≡ map (matrix_asked hides) ms
   matrices_back [] [] wide has = refl
   matrices_back [] (m ∷ ms) wide has = absurd wide
   matrices_back (h ∷ hs) [] wide has = refl
   matrices_back (h ∷ hs) (m ∷ ms) wide has =
       ap₂ (λ x xs. x ∷ xs) (matrix_back h m wide.0 has.0) (matrices_back hs ms wide.1 has.1)
 
-  module _ {Dom : Type 0} (shift_of : Dom → BabyBear) (log_size_of : Dom → ℕ) where
-    matrices_opened : (domains : List Dom) (ms : List Matrix) (hs : List (Held BabyBear4)) (pss : List (List BabyBear4))
-        → map (λ d. domain_of (shift_of d) (log_size_of d)) domains ≡ map (λ m. domain_committed hides m.domain) ms
-        → length hs ≡ length ms
-        → map (map coefficient_numbers) pss ≡ map (λ m. lists m.points.items) ms
-        → map (matrix_numbers shift_of log_size_of) (matrix_claims domains pss (zip_with (λ m zs. map m.values_at zs) hs pss))
-        ≡ zip_with (matrix_opened hides) hs ms
-    matrices_opened [] [] [] pss e n q = refl
-    matrices_opened [] [] (h ∷ hs) pss e n q = refl
-    matrices_opened [] (m ∷ ms) hs pss e n q = cc
-    matrices_opened (d ∷ ds) [] hs pss e n q = cc
-    matrices_opened (d ∷ ds) (m ∷ ms) [] pss e n q = absurd (omega (arith, n))
-    matrices_opened (d ∷ ds) (m ∷ ms) (h ∷ hs) [] e n q = cc
-    matrices_opened (d ∷ ds) (m ∷ ms) (h ∷ hs) (ps ∷ pss) e n q =
+  module _ (numbered : HaveNumbers f) where
+    -- what is claimed at points is what is opened there
+    points_opened : (h : Held E) (ps : List E)
+        → map (point_numbers f) (point_claims ps (map h.values_at ps))
+        ≡ map (values_opened f h) (map (extension_numbers f) ps)
+    points_opened h [] = refl
+    points_opened h (p ∷ ps) =
+        let numbers : List E → PointNumbers = λ vs. record {
+          point = extension_numbers f p;
+          values = map (extension_numbers f) vs;
+        } in
         ap₂ (λ x xs. x ∷ xs)
-        (ap₂ (λ (x : Domain) xs. record { shift = x.shift; log_size = x.log_size; points = xs }) (head_eq e)
-        (points_opened h ps ∙ ap (λ zs. map (values_opened h) zs) (head_eq q)))
-        (matrices_opened ds ms hs pss (tail_eq e) (omega (arith, n)) (tail_eq q))
+        (ap (λ z. numbers (h.values_at z)) (sym (extension_again f numbered p))) (points_opened h ps)
+
+    module _ {Dom : Type 0} (shift_of : Dom → F) (log_size_of : Dom → ℕ) where
+      pub matrices_opened : (domains : List Dom) (ms : List Matrix) (hs : List (Held E))
+          (pss : List (List E))
+          → map (λ d. domain_of f (shift_of d) (log_size_of d)) domains
+          ≡ map (λ m. domain_committed hides m.domain) ms
+          → length hs ≡ length ms
+          → map (map (extension_numbers f)) pss ≡ map (λ m. lists m.points.items) ms
+          → map (matrix_numbers f shift_of log_size_of)
+          (matrix_claims domains pss (zip_with (λ m zs. map m.values_at zs) hs pss))
+          ≡ zip_with (matrix_opened f hides) hs ms
+      matrices_opened [] [] [] pss e n q = refl
+      matrices_opened [] [] (h ∷ hs) pss e n q = refl
+      matrices_opened [] (m ∷ ms) hs pss e n q = cc
+      matrices_opened (d ∷ ds) [] hs pss e n q = cc
+      matrices_opened (d ∷ ds) (m ∷ ms) [] pss e n q = absurd (omega (arith, n))
+      matrices_opened (d ∷ ds) (m ∷ ms) (h ∷ hs) [] e n q = cc
+      matrices_opened (d ∷ ds) (m ∷ ms) (h ∷ hs) (ps ∷ pss) e n q =
+          ap₂ (λ x xs. x ∷ xs)
+          (ap₂ (λ (x : Domain) xs. record { shift = x.shift; log_size = x.log_size; points = xs }) (head_eq e)
+          (points_opened h ps ∙ ap (λ zs. map (values_opened f h) zs) (head_eq q)))
+          (matrices_opened ds ms hs pss (tail_eq e) (omega (arith, n)) (tail_eq q))
 
 -- what was kept of batches that were read is kept of the batches
-module _ {C Dom D Proof Error ProverError : Type 0}
-    (r : Scheme BabyBear4 C BabyBear Dom (List ℕ) D Proof Error ProverError)
-    (t : StarkScheme BabyBear4 BabyBear Dom D ProverError) (hides : Bool) (shift_of : Dom → BabyBear)
+module _ {F E : Type 0} (f : SchemeFields F E) {C Dom D Proof Error ProverError : Type 0}
+    (r : Scheme E C F Dom (List ℕ) D Proof Error ProverError)
+    (t : StarkScheme E F Dom D ProverError) (hides : Bool) (shift_of : Dom → F)
     (log_size_of : Dom → ℕ) where
-  keeps_listed : IsLawful r → (c : Committed D Dom) (read : ListedBatch Dom) (batch : Batch)
-      → KeepsRead r t c read → Lists hides shift_of log_size_of read batch
-      → Keeps r t hides shift_of log_size_of c batch
+  keeps_listed : IsLawful r → (c : Committed D Dom) (read : ListedBatch F Dom) (batch : Batch)
+      → KeepsRead r t c read → Lists f hides shift_of log_size_of read batch
+      → Keeps f r t hides shift_of log_size_of c batch
   keeps_listed lawful c read batch k l =
       let es = read.evaluations.items in record {
         committed = record {
@@ -116,31 +125,31 @@ module _ {C Dom D Proof Error ProverError : Type 0}
           listed = l.evaluations;
           commits = subst (λ p. CommitsTo r t c.commitment c.data p es) l.preprocessed k.commits;
         };
-        domains = through (λ d. domain_of (shift_of d) (log_size_of d)) (λ e. e.0) es c.domains.items _ k.domains
-            (sym (pairs_same (IsListed hides shift_of log_size_of) (λ e. domain_of (shift_of e.0) (log_size_of e.0))
+        domains = through (λ d. domain_of f (shift_of d) (log_size_of d)) (λ e. e.0) es c.domains.items _ k.domains
+            (sym (pairs_same (IsListed f hides shift_of log_size_of) (λ e. domain_of f (shift_of e.0) (log_size_of e.0))
             (λ m. domain_committed hides m.domain) (λ e m h. h.domain) es batch.matrices.items l.evaluations));
         sizes = through r.domain_size (λ e. e.0) es c.domains.items _ k.domains
             (pairs_same r.Extends (λ m. m.size) (λ e. r.domain_size e.0) lawful.extends_size
             (r.committed_polynomials c.data) es k.commits.extends);
       }
 
-  pub all_keep : IsLawful r → (cs : List (Committed D Dom)) (all : List (ListedBatch Dom)) (batches : List Batch)
-      → AllZip (KeepsRead r t) cs all → AllZip (Lists hides shift_of log_size_of) all batches
-      → AllZip (Keeps r t hides shift_of log_size_of) cs batches
+  pub all_keep : IsLawful r → (cs : List (Committed D Dom)) (all : List (ListedBatch F Dom)) (batches : List Batch)
+      → AllZip (KeepsRead r t) cs all → AllZip (Lists f hides shift_of log_size_of) all batches
+      → AllZip (Keeps f r t hides shift_of log_size_of) cs batches
   all_keep lawful cs all batches kept listed =
-      pairs_through (KeepsRead r t) (Lists hides shift_of log_size_of) (Keeps r t hides shift_of log_size_of)
+      pairs_through (KeepsRead r t) (Lists f hides shift_of log_size_of) (Keeps f r t hides shift_of log_size_of)
       (keeps_listed lawful) cs all batches kept listed
 
 -- and by a later scheme
-module _ {C Dom D Proof Error ProverError : Type 0}
-    (r s : Scheme BabyBear4 C BabyBear Dom (List ℕ) D Proof Error ProverError)
-    (t u : StarkScheme BabyBear4 BabyBear Dom D ProverError) (kept : AreKept r s) (kept_stark : AreKeptStark t u)
+module _ {F E C Dom D Proof Error ProverError : Type 0}
+    (r s : Scheme E C F Dom (List ℕ) D Proof Error ProverError)
+    (t u : StarkScheme E F Dom D ProverError) (kept : AreKept r s) (kept_stark : AreKeptStark t u)
   where
     openable_on : (p : Bool) (d : D) → MayOpen r t p d → MayOpen s u p d
     openable_on true d h = kept_stark.preprocessed d h
     openable_on false d h = kept.openable d h
 
-    commits_on : (commitment : List ℕ) (d : D) (p : Bool) (es : List (Dom × RowMajorMatrix BabyBear))
+    commits_on : (commitment : List ℕ) (d : D) (p : Bool) (es : List (Dom × RowMajorMatrix F))
         → CommitsTo r t commitment d p es → CommitsTo s u commitment d p es
     commits_on commitment d p es h = record {
       commits = ap (λ f. f d) kept.commitments ∙ h.commits;
@@ -150,7 +159,7 @@ module _ {C Dom D Proof Error ProverError : Type 0}
           (all_zip-weaker r.Extends s.Extends (r.committed_polynomials d) es kept.extends h.extends);
     }
 
-    pub keeps_on : (cs : List (Committed D Dom)) (all : List (ListedBatch Dom))
+    pub keeps_on : (cs : List (Committed D Dom)) (all : List (ListedBatch F Dom))
         → AllZip (KeepsRead r t) cs all → AllZip (KeepsRead s u) cs all
     keeps_on cs all pairs = all_zip-weaker (KeepsRead r t) (KeepsRead s u) cs all
         (λ c read h. record {
@@ -158,16 +167,16 @@ module _ {C Dom D Proof Error ProverError : Type 0}
           domains = h.domains;
         }) pairs
 
-module _ {C Dom D Proof Error ProverError : Type 0}
-    (r : Scheme BabyBear4 C BabyBear Dom (List ℕ) D Proof Error ProverError)
-    (t : StarkScheme BabyBear4 BabyBear Dom D ProverError) (hides : Bool) (shift_of : Dom → BabyBear)
+module _ {F E : Type 0} (f : SchemeFields F E) {C Dom D Proof Error ProverError : Type 0}
+    (r : Scheme E C F Dom (List ℕ) D Proof Error ProverError)
+    (t : StarkScheme E F Dom D ProverError) (hides : Bool) (shift_of : Dom → F)
     (log_size_of : Dom → ℕ) where
   abbrev Kept : Committed D Dom → Batch → Type 0
-  Kept c batch = Keeps r t hides shift_of log_size_of c batch
+  Kept c batch = Keeps f r t hides shift_of log_size_of c batch
 
   -- the commitments alone
   pub are_commitments : (cs : List (Committed D Dom)) (batches : List Batch) → AllZip Kept cs batches
-      → AllZip (λ commitment batch. (datum : D) × IsCommittedTo r t hides shift_of log_size_of commitment datum batch)
+      → AllZip (λ commitment batch. (datum : D) × IsCommittedTo f r t hides shift_of log_size_of commitment datum batch)
       (map (λ c. c.commitment) cs) batches
   are_commitments [] [] pairs = tt
   are_commitments [] (batch ∷ batches) pairs = absurd pairs
@@ -177,7 +186,7 @@ module _ {C Dom D Proof Error ProverError : Type 0}
 
   -- their domains
   pub domains_kept : (cs : List (Committed D Dom)) (batches : List Batch) → AllZip Kept cs batches
-      → map (λ c. map (λ d. domain_of (shift_of d) (log_size_of d)) c.domains.items) cs
+      → map (λ c. map (λ d. domain_of f (shift_of d) (log_size_of d)) c.domains.items) cs
       ≡ map (λ b. map (λ m. domain_committed hides m.domain) b.matrices.items) batches
   domains_kept [] [] pairs = refl
   domains_kept [] (batch ∷ batches) pairs = absurd pairs
@@ -190,21 +199,22 @@ module _ {C Dom D Proof Error ProverError : Type 0}
       → length (r.committed_polynomials c.data) ≡ length batch.matrices.items
   kept_count c batch k =
       sym (AllZip-long r.Extends (r.committed_polynomials c.data) k.committed.evaluations k.committed.commits.extends)
-      ∙ sym (AllZip-long (IsListed hides shift_of log_size_of) k.committed.evaluations batch.matrices.items
+      ∙ sym (AllZip-long (IsListed f hides shift_of log_size_of) k.committed.evaluations batch.matrices.items
       k.committed.listed)
 
   -- at these points of the batches
-  module _ (cs : List (Committed D Dom)) (pss : List (List (List BabyBear4))) (batches : List Batch) where
+  module _ (cs : List (Committed D Dom)) (pss : List (List (List E))) (batches : List Batch) where
     abbrev Points : Type 0
-    Points = map (map (map coefficient_numbers)) pss ≡ map (λ batch. map (λ m. lists m.points.items) batch.matrices.items) batches
+    Points = map (map (map (extension_numbers f))) pss
+        ≡ map (λ batch. map (λ m. lists m.points.items) batch.matrices.items) batches
 
     pub count_same : AllZip Kept cs batches → Points → length pss ≡ length cs
     count_same pairs e =
-        sym (length-map pss (map (map coefficient_numbers))) ∙ ap length e
+        sym (length-map pss (map (map (extension_numbers f)))) ∙ ap length e
         ∙ length-map batches (λ batch. map (λ m. lists m.points.items) batch.matrices.items)
         ∙ AllZip-long Kept cs batches pairs
 
-  honest_data : (cs : List (Committed D Dom)) (pss : List (List (List BabyBear4))) (batches : List Batch)
+  honest_data : (cs : List (Committed D Dom)) (pss : List (List (List E))) (batches : List Batch)
       → AllZip Kept cs batches → Each (λ q. r.IsHonest q.datum) (requests_for cs pss)
   honest_data [] pss batches pairs = tt
   honest_data (c ∷ cs) [] batches pairs = tt
@@ -212,21 +222,21 @@ module _ {C Dom D Proof Error ProverError : Type 0}
   honest_data (c ∷ cs) (ps ∷ pss) (batch ∷ batches) pairs =
       (pairs.0.committed.commits.honest, honest_data cs pss batches pairs.1)
 
-  points_there : (cs : List (Committed D Dom)) (pss : List (List (List BabyBear4)))
+  points_there : (cs : List (Committed D Dom)) (pss : List (List (List E)))
       → Each (λ ps. All (λ zs. zs ≢ []) ps) pss
       → Each (λ q. All (λ zs. zs ≢ []) q.points) (requests_for cs pss)
   points_there [] pss some = tt
   points_there (c ∷ cs) [] some = tt
   points_there (c ∷ cs) (ps ∷ pss) some = (some.0, points_there cs pss some.1)
 
-  pub honest : (cs : List (Committed D Dom)) (pss : List (List (List BabyBear4))) (batches : List Batch)
+  pub honest : (cs : List (Committed D Dom)) (pss : List (List (List E))) (batches : List Batch)
       → AllZip Kept cs batches → HavePoints pss → AreHonestIn r (requests_for cs pss)
   honest cs pss batches pairs some = record {
     data_honest = All_from_each _ _ (honest_data cs pss batches pairs);
     points = All_from_each _ _ (points_there cs pss (each_from_All (λ ps. All (λ zs. zs ≢ []) ps) pss some));
   }
 
-  pub fits : (cs : List (Committed D Dom)) (pss : List (List (List BabyBear4))) (batches : List Batch)
+  pub fits : (cs : List (Committed D Dom)) (pss : List (List (List E))) (batches : List Batch)
       → AllZip Kept cs batches → length pss ≡ length cs
       → FitRequests r (map (λ c. c.domains.items) cs) (requests_for cs pss)
   fits [] pss batches pairs n = refl
@@ -235,7 +245,7 @@ module _ {C Dom D Proof Error ProverError : Type 0}
   fits (c ∷ cs) (ps ∷ pss) (batch ∷ batches) pairs n =
       ap₂ (λ x xs. x ∷ xs) pairs.0.sizes (fits cs pss batches pairs.1 (omega (arith, n)))
 
-  pub roots : (cs : List (Committed D Dom)) (pss : List (List (List BabyBear4))) (batches : List Batch)
+  pub roots : (cs : List (Committed D Dom)) (pss : List (List (List E))) (batches : List Batch)
       → AllZip Kept cs batches → length pss ≡ length cs
       → map (λ c. c.commitment) cs ≡ map (λ q. r.commitment_of q.datum) (requests_for cs pss)
   roots [] pss batches pairs n = refl
@@ -251,7 +261,7 @@ module _ {C Dom D Proof Error ProverError : Type 0}
   may_preprocessed : (p : Bool) (d : D) → p ≡ true → MayOpen r t p d → t.CanOpenPreprocessed d
   may_preprocessed p d e h = subst (λ b. MayOpen r t b d) e h
 
-  each_plain : (cs : List (Committed D Dom)) (pss : List (List (List BabyBear4))) (batches : List Batch)
+  each_plain : (cs : List (Committed D Dom)) (pss : List (List (List E))) (batches : List Batch)
       → AllZip Kept cs batches → Each (λ (b : Batch). b.preprocessed ≡ false) batches
       → Each r.CanOpen (map (λ q. q.datum) (requests_for cs pss))
   each_plain [] pss batches pairs none = tt
@@ -262,14 +272,14 @@ module _ {C Dom D Proof Error ProverError : Type 0}
     each_plain cs pss batches pairs.1 none.1,
   )
 
-  all_plain : (cs : List (Committed D Dom)) (pss : List (List (List BabyBear4))) (batches : List Batch)
+  all_plain : (cs : List (Committed D Dom)) (pss : List (List (List E))) (batches : List Batch)
       → AllZip Kept cs batches → All (λ (b : Batch). b.preprocessed ≡ false) batches
       → All r.CanOpen (map (λ q. q.datum) (requests_for cs pss))
   all_plain cs pss batches pairs none =
       All_from_each r.CanOpen (map (λ q. q.datum) (requests_for cs pss))
       (each_plain cs pss batches pairs (each_from_All (λ (b : Batch). b.preprocessed ≡ false) batches none))
 
-  named_at : (n : ℕ) (cs : List (Committed D Dom)) (pss : List (List (List BabyBear4))) (batches : List Batch)
+  named_at : (n : ℕ) (cs : List (Committed D Dom)) (pss : List (List (List E))) (batches : List Batch)
       → AllZip Kept cs batches → length pss ≡ length cs
       → ArePreprocessedAt (λ b. b.preprocessed ≡ false) (λ b. b.preprocessed ≡ true) n batches
       → ArePreprocessedAt r.CanOpen t.CanOpenPreprocessed n (map (λ q. q.datum) (requests_for cs pss))
@@ -285,127 +295,109 @@ module _ {C Dom D Proof Error ProverError : Type 0}
     named_at n cs pss batches pairs.1 (omega (arith, same)) named.1,
   )
 
-  named : (index : Option ℕ) (cs : List (Committed D Dom)) (pss : List (List (List BabyBear4)))
+  named : (index : Option ℕ) (cs : List (Committed D Dom)) (pss : List (List (List E)))
       (batches : List Batch) → AllZip Kept cs batches → length pss ≡ length cs
       → NamesPreprocessed index batches
       → CanBeOpened r.CanOpen t.CanOpenPreprocessed index (map (λ q. q.datum) (requests_for cs pss))
   named None cs pss batches pairs same names = all_plain cs pss batches pairs names
   named (Some n) cs pss batches pairs same names = named_at n cs pss batches pairs same names
 
-  -- there is a list of points for each matrix
-  lists_each : (cs : List (Committed D Dom)) (pss : List (List (List BabyBear4))) (batches : List Batch)
-      → AllZip Kept cs batches
-      → map (map (map coefficient_numbers)) pss ≡ map (λ batch. map (λ m. lists m.points.items) batch.matrices.items) batches
-      → Each (λ q. length q.points ≡ length (r.committed_polynomials q.datum)) (requests_for cs pss)
-  lists_each [] pss batches pairs e = tt
-  lists_each (c ∷ cs) [] batches pairs e = tt
-  lists_each (c ∷ cs) (ps ∷ pss) [] pairs e = absurd pairs
-  lists_each (c ∷ cs) (ps ∷ pss) (batch ∷ batches) pairs e = (
-    sym (length-map ps (map coefficient_numbers)) ∙ ap length (head_eq e)
-        ∙ length-map batch.matrices.items (λ m. lists m.points.items) ∙ sym (kept_count c batch pairs.0),
-    lists_each cs pss batches pairs.1 (tail_eq e),
-  )
-
-  -- and a matrix where one is listed
-  all_count : (cs : List (Committed D Dom)) (pss : List (List (List BabyBear4))) (batches : List Batch)
-      → AllZip Kept cs batches → length pss ≡ length cs
-      → length (flat_map (λ q. r.committed_polynomials q.datum) (requests_for cs pss))
-      ≡ length (flat_map (λ batch. batch.matrices.items) batches)
-  all_count [] pss [] pairs n = refl
-  all_count [] pss (batch ∷ batches) pairs n = absurd pairs
-  all_count (c ∷ cs) pss [] pairs n = absurd pairs
-  all_count (c ∷ cs) [] (batch ∷ batches) pairs n = absurd (omega (arith, n))
-  all_count (c ∷ cs) (ps ∷ pss) (batch ∷ batches) pairs n =
-      length-append (r.committed_polynomials c.data) (flat_map (λ q. r.committed_polynomials q.datum) (requests_for cs pss))
-      ∙ ap₂ (λ a b. a + b) (kept_count c batch pairs.0) (all_count cs pss batches pairs.1 (omega (arith, n)))
-      ∙ sym (length-append batch.matrices.items (flat_map (λ k. k.matrices.items) batches))
+  counts : (cs : List (Committed D Dom)) (batches : List Batch) → AllZip Kept cs batches
+      → AllZip (Counts r.committed_polynomials) cs batches
+  counts cs batches pairs = all_zip-weaker Kept (Counts r.committed_polynomials) cs batches kept_count pairs
 
   pub can_open : IsLawfulStark r t → (index : Option ℕ) (cs : List (Committed D Dom))
-      (pss : List (List (List BabyBear4))) (batches : List Batch) → AllZip Kept cs batches
-      → map (map (map coefficient_numbers)) pss ≡ map (λ batch. map (λ m. lists m.points.items) batch.matrices.items) batches
+      (pss : List (List (List E))) (batches : List Batch) → AllZip Kept cs batches
+      → map (map (map (extension_numbers f))) pss
+      ≡ map (λ batch. map (λ m. lists m.points.items) batch.matrices.items) batches
       → NamesPreprocessed index batches → flat_map (λ batch. batch.matrices.items) batches ≢ []
       → t.CanOpenAt index (requests_for cs pss)
   can_open lawful index cs pss batches pairs e names some =
       let same = count_same cs pss batches pairs e in
       lawful.openable index (requests_for cs pss) (record {
         data_openable = named index cs pss batches pairs same names;
-        points = All_from_each _ _ (lists_each cs pss batches pairs e);
-        some_matrix = λ none.
-            some (none_left _ (sym (all_count cs pss batches pairs same) ∙ ap length none));
+        points = All_from_each _ _ (lists_each r.committed_polynomials (extension_numbers f) cs pss batches
+            (λ b. map (λ m. lists m.points.items) b.matrices.items)
+            (λ b. length-map b.matrices.items (λ m. lists m.points.items)) (counts cs batches pairs) e);
+        some_matrix = some_held r.committed_polynomials cs pss batches (counts cs batches pairs) same some;
       })
 
-  -- what is claimed of a batch that is opened
-  pub opened_each : (cs : List (Committed D Dom)) (pss : List (List (List BabyBear4))) (batches : List Batch)
-      → AllZip Kept cs batches
-      → map (map (map coefficient_numbers)) pss ≡ map (λ batch. map (λ m. lists m.points.items) batch.matrices.items) batches
-      → AllZip (IsOpenedBy r t hides shift_of log_size_of)
-      (map (batch_numbers shift_of log_size_of) (claims_asked r (map (λ c. c.domains.items) cs) (requests_for cs pss)))
-      batches
-  opened_each [] pss [] pairs q = tt
-  opened_each [] pss (batch ∷ batches) pairs q = absurd pairs
-  opened_each (c ∷ cs) pss [] pairs q = absurd pairs
-  opened_each (c ∷ cs) [] (batch ∷ batches) pairs q = cc
-  opened_each (c ∷ cs) (ps ∷ pss) (batch ∷ batches) pairs q = (
-    record {
-      commitment = c.commitment;
-      datum = c.data;
-      written = ap Ok pairs.0.committed.commits.commits;
-      committed = pairs.0.committed;
-      matrices = matrices_opened hides shift_of log_size_of c.domains.items batch.matrices.items
-          (r.committed_polynomials c.data) ps pairs.0.domains (kept_count c batch pairs.0) (head_eq q);
-    },
-    opened_each cs pss batches pairs.1 (tail_eq q),
-  )
-
-  -- states what is asked
-  module _ (columns : (m : Held BabyBear4) (e : Dom × RowMajorMatrix BabyBear) → r.Extends m e
-      → (z : BabyBear4) → length (m.values_at z) ≡ matrix_width e.1) where
-    widths : (c : Committed D Dom) (batch : Batch) → Kept c batch
-        → AllZip HasWidth (r.committed_polynomials c.data) batch.matrices.items
-    widths c batch k =
-        pairs_through r.Extends (IsListed hides shift_of log_size_of) HasWidth
-        (λ h e m extends listed z. columns h e extends z ∙ listed.width)
-        (r.committed_polynomials c.data) k.committed.evaluations batch.matrices.items k.committed.commits.extends
-        k.committed.listed
-
-    stated_each : (cs : List (Committed D Dom)) (pss : List (List (List BabyBear4))) (batches : List Batch)
+  module _ (numbered : HaveNumbers f) where
+    -- what is claimed of a batch that is opened
+    pub opened_each : (cs : List (Committed D Dom)) (pss : List (List (List E))) (batches : List Batch)
         → AllZip Kept cs batches
-        → map (map (map coefficient_numbers)) pss ≡ map (λ batch. map (λ m. lists m.points.items) batch.matrices.items) batches
-        → Each (λ batch. All HasPoints batch.matrices.items) batches
-        → map batch_claimed (map (batch_numbers shift_of log_size_of)
-        (claims_asked r (map (λ c. c.domains.items) cs) (requests_for cs pss)))
-        ≡ zip_with (batch_asked hides) (map (λ c. c.commitment) cs) batches
-    stated_each [] pss batches pairs q has = refl
-    stated_each (c ∷ cs) pss [] pairs q has = absurd pairs
-    stated_each (c ∷ cs) [] (batch ∷ batches) pairs q has = cc
-    stated_each (c ∷ cs) (ps ∷ pss) (batch ∷ batches) pairs q has =
-        ap₂ (λ x xs. x ∷ xs)
-        (ap₂ (λ d ms. record { digest = d; matrices = ms }) pairs.0.committed.commits.commits
-        (ap (λ ms. map matrix_claimed ms)
-        (matrices_opened hides shift_of log_size_of c.domains.items batch.matrices.items
-        (r.committed_polynomials c.data) ps pairs.0.domains (kept_count c batch pairs.0) (head_eq q))
-        ∙ matrices_back hides (r.committed_polynomials c.data) batch.matrices.items (widths c batch pairs.0)
-        (each_from_All HasPoints batch.matrices.items has.0)))
-        (stated_each cs pss batches pairs.1 (tail_eq q) has.1)
+        → map (map (map (extension_numbers f))) pss
+        ≡ map (λ batch. map (λ m. lists m.points.items) batch.matrices.items) batches
+        → AllZip (IsOpenedBy f r t hides shift_of log_size_of)
+        (map (batch_numbers f shift_of log_size_of) (claims_asked r (map (λ c. c.domains.items) cs) (requests_for cs pss)))
+        batches
+    opened_each [] pss [] pairs q = tt
+    opened_each [] pss (batch ∷ batches) pairs q = absurd pairs
+    opened_each (c ∷ cs) pss [] pairs q = absurd pairs
+    opened_each (c ∷ cs) [] (batch ∷ batches) pairs q = cc
+    opened_each (c ∷ cs) (ps ∷ pss) (batch ∷ batches) pairs q = (
+      record {
+        commitment = c.commitment;
+        datum = c.data;
+        written = ap Ok pairs.0.committed.commits.commits;
+        committed = pairs.0.committed;
+        matrices = matrices_opened f hides numbered shift_of log_size_of c.domains.items batch.matrices.items
+            (r.committed_polynomials c.data) ps pairs.0.domains (kept_count c batch pairs.0) (head_eq q);
+      },
+      opened_each cs pss batches pairs.1 (tail_eq q),
+    )
 
-    pub stated_all : (cs : List (Committed D Dom)) (pss : List (List (List BabyBear4))) (batches : List Batch)
-        → AllZip Kept cs batches
-        → map (map (map coefficient_numbers)) pss ≡ map (λ batch. map (λ m. lists m.points.items) batch.matrices.items) batches
-        → AllMatrices HasPoints batches
-        → map batch_claimed (map (batch_numbers shift_of log_size_of)
-        (claims_asked r (map (λ c. c.domains.items) cs) (requests_for cs pss)))
-        ≡ zip_with (batch_asked hides) (map (λ c. c.commitment) cs) batches
-    stated_all cs pss batches pairs q has =
-        stated_each cs pss batches pairs q
-        (each_from_All (λ batch. All HasPoints batch.matrices.items) batches has)
+    -- states what is asked
+    module _ (columns : (m : Held E) (e : Dom × RowMajorMatrix F) → r.Extends m e
+        → (z : E) → length (m.values_at z) ≡ matrix_width e.1) where
+      widths : (c : Committed D Dom) (batch : Batch) → Kept c batch
+          → AllZip HasWidth (r.committed_polynomials c.data) batch.matrices.items
+      widths c batch k =
+          pairs_through r.Extends (IsListed f hides shift_of log_size_of) HasWidth
+          (λ h e m extends listed z. columns h e extends z ∙ listed.width)
+          (r.committed_polynomials c.data) k.committed.evaluations batch.matrices.items k.committed.commits.extends
+          k.committed.listed
+
+      stated_each : (cs : List (Committed D Dom)) (pss : List (List (List E))) (batches : List Batch)
+          → AllZip Kept cs batches
+          → map (map (map (extension_numbers f))) pss
+          ≡ map (λ batch. map (λ m. lists m.points.items) batch.matrices.items) batches
+          → Each (λ batch. All (HasPoints f) batch.matrices.items) batches
+          → map batch_claimed (map (batch_numbers f shift_of log_size_of)
+          (claims_asked r (map (λ c. c.domains.items) cs) (requests_for cs pss)))
+          ≡ zip_with (batch_asked hides) (map (λ c. c.commitment) cs) batches
+      stated_each [] pss batches pairs q has = refl
+      stated_each (c ∷ cs) pss [] pairs q has = absurd pairs
+      stated_each (c ∷ cs) [] (batch ∷ batches) pairs q has = cc
+      stated_each (c ∷ cs) (ps ∷ pss) (batch ∷ batches) pairs q has =
+          ap₂ (λ x xs. x ∷ xs)
+          (ap₂ (λ d ms. record { digest = d; matrices = ms }) pairs.0.committed.commits.commits
+          (ap (λ ms. map matrix_claimed ms)
+          (matrices_opened f hides numbered shift_of log_size_of c.domains.items batch.matrices.items
+          (r.committed_polynomials c.data) ps pairs.0.domains (kept_count c batch pairs.0) (head_eq q))
+          ∙ matrices_back f hides (r.committed_polynomials c.data) batch.matrices.items (widths c batch pairs.0)
+          (each_from_All (HasPoints f) batch.matrices.items has.0)))
+          (stated_each cs pss batches pairs.1 (tail_eq q) has.1)
+
+      pub stated_all : (cs : List (Committed D Dom)) (pss : List (List (List E))) (batches : List Batch)
+          → AllZip Kept cs batches
+          → map (map (map (extension_numbers f))) pss
+          ≡ map (λ batch. map (λ m. lists m.points.items) batch.matrices.items) batches
+          → AllMatrices (HasPoints f) batches
+          → map batch_claimed (map (batch_numbers f shift_of log_size_of)
+          (claims_asked r (map (λ c. c.domains.items) cs) (requests_for cs pss)))
+          ≡ zip_with (batch_asked hides) (map (λ c. c.commitment) cs) batches
+      stated_all cs pss batches pairs q has =
+          stated_each cs pss batches pairs q
+          (each_from_All (λ batch. All (HasPoints f) batch.matrices.items) batches has)
 
 -- a refusal of batches that were read is one of the batches
-module _ {P C Dom D Proof Error ProverError : Type 0}
-    (rules : P → Scheme BabyBear4 C BabyBear Dom (List ℕ) D Proof Error ProverError)
-    (stark_rules : P → StarkScheme BabyBear4 BabyBear Dom D ProverError) (IsMemory : ProverError → Type 0)
+module _ {F E P C Dom D Proof Error ProverError : Type 0}
+    (rules : P → Scheme E C F Dom (List ℕ) D Proof Error ProverError)
+    (stark_rules : P → StarkScheme E F Dom D ProverError) (IsMemory : ProverError → Type 0)
     (e : ProverError) where
   pub refuses_of : (IsScheme Other : P → Type 0) → ((s : P) → IsScheme s → Other s)
-      → (all : List (ListedBatch Dom)) → RefusesRead rules stark_rules IsMemory IsScheme all e
+      → (all : List (ListedBatch F Dom)) → RefusesRead rules stark_rules IsMemory IsScheme all e
       → RefusesRead rules stark_rules IsMemory Other all e
   refuses_of IsScheme Other weaker all h = record {
     scheme = h.scheme;
@@ -418,14 +410,30 @@ module _ {P C Dom D Proof Error ProverError : Type 0}
     not_memory = h.not_memory;
   }
 
-  module _ (hides : Bool) (shift_of : Dom → BabyBear) (log_size_of : Dom → ℕ) (batches : List Batch) where
-    pub refuses_batch : (IsScheme : P → Type 0) (all : List (ListedBatch Dom))
-        → AllZip (Lists hides shift_of log_size_of) all batches
+  -- whatever it was refused for, if that isn't want of memory
+  pub refuses_but_memory : (IsScheme : P → Type 0) (all : List (ListedBatch F Dom)) → ¬ IsMemory e
+      → RefusesRead rules stark_rules (λ _. ⊥) IsScheme all e
+      → RefusesRead rules stark_rules IsMemory IsScheme all e
+  refuses_but_memory IsScheme all not_memory h = record {
+    scheme = h.scheme;
+    is_of = h.is_of;
+    before = h.before;
+    read = h.read;
+    after = h.after;
+    among = h.among;
+    refused = h.refused;
+    not_memory = not_memory;
+  }
+
+  module _ (f : SchemeFields F E) (hides : Bool) (shift_of : Dom → F) (log_size_of : Dom → ℕ)
+      (batches : List Batch) where
+    pub refuses_batch : (IsScheme : P → Type 0) (all : List (ListedBatch F Dom))
+        → AllZip (Lists f hides shift_of log_size_of) all batches
         → RefusesRead rules stark_rules IsMemory IsScheme all e
-        → RefusesBatch rules stark_rules IsMemory IsScheme hides shift_of log_size_of batches e
+        → RefusesBatch f rules stark_rules IsMemory IsScheme hides shift_of log_size_of batches e
     refuses_batch IsScheme all listed h =
-        let p = paired_among (Lists hides shift_of log_size_of) h.before h.after h.read batches
-        (subst (λ xs. AllZip (Lists hides shift_of log_size_of) xs batches) h.among listed) in record {
+        let p = paired_among (Lists f hides shift_of log_size_of) h.before h.after h.read batches
+        (subst (λ xs. AllZip (Lists f hides shift_of log_size_of) xs batches) h.among listed) in record {
           scheme = h.scheme;
           is_of = h.is_of;
           before = p.before;
@@ -440,8 +448,8 @@ module _ {P C Dom D Proof Error ProverError : Type 0}
         }
 
     pub refuses_batch_of : (IsScheme Other : P → Type 0) → ((s : P) → IsScheme s → Other s)
-        → RefusesBatch rules stark_rules IsMemory IsScheme hides shift_of log_size_of batches e
-        → RefusesBatch rules stark_rules IsMemory Other hides shift_of log_size_of batches e
+        → RefusesBatch f rules stark_rules IsMemory IsScheme hides shift_of log_size_of batches e
+        → RefusesBatch f rules stark_rules IsMemory Other hides shift_of log_size_of batches e
     refuses_batch_of IsScheme Other weaker h = record {
       scheme = h.scheme;
       is_of = weaker h.scheme h.is_of;
@@ -456,17 +464,17 @@ module _ {P C Dom D Proof Error ProverError : Type 0}
     }
 
 -- what a verifier knows of what is kept
-module _ {C Dom D Proof Error ProverError : Type 0}
-    (r : Scheme BabyBear4 C BabyBear Dom (List ℕ) D Proof Error ProverError)
-    (t : StarkScheme BabyBear4 BabyBear Dom D ProverError) (hides : Bool) (shift_of : Dom → BabyBear)
+module _ {F E : Type 0} (f : SchemeFields F E) {C Dom D Proof Error ProverError : Type 0}
+    (r : Scheme E C F Dom (List ℕ) D Proof Error ProverError)
+    (t : StarkScheme E F Dom D ProverError) (hides : Bool) (shift_of : Dom → F)
     (log_size_of : Dom → ℕ) where
   pub domains_known : (known : List (KnownCommitment (List ℕ) Dom)) (cs : List (Committed D Dom)) (batches : List Batch)
       → map (λ k. k.domains.items) known ≡ map (λ c. c.domains.items) cs
-      → AllZip (Keeps r t hides shift_of log_size_of) cs batches
-      → map (λ k. map (λ d. domain_of (shift_of d) (log_size_of d)) k.domains.items) known
+      → AllZip (Keeps f r t hides shift_of log_size_of) cs batches
+      → map (λ k. map (λ d. domain_of f (shift_of d) (log_size_of d)) k.domains.items) known
       ≡ map (λ b. map (λ m. domain_committed hides m.domain) b.matrices.items) batches
   domains_known known cs batches e pairs =
-      sym (map-map (map (λ d. domain_of (shift_of d) (log_size_of d))) (λ k. k.domains.items) known)
-      ∙ ap (λ ds. map (map (λ d. domain_of (shift_of d) (log_size_of d))) ds) e
-      ∙ map-map (map (λ d. domain_of (shift_of d) (log_size_of d))) (λ c. c.domains.items) cs
-      ∙ domains_kept r t hides shift_of log_size_of cs batches pairs
+      sym (map-map (map (λ d. domain_of f (shift_of d) (log_size_of d))) (λ k. k.domains.items) known)
+      ∙ ap (λ ds. map (map (λ d. domain_of f (shift_of d) (log_size_of d))) ds) e
+      ∙ map-map (map (λ d. domain_of f (shift_of d) (log_size_of d))) (λ c. c.domains.items) cs
+      ∙ domains_kept f r t hides shift_of log_size_of cs batches pairs

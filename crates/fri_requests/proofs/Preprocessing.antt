@@ -1,6 +1,6 @@
 -- Which batch of a request is preprocessed, found by going through them, and whether there is a
 -- matrix.
-use Rattle.std.proofs.Common.{◌≡◌, ◌≢◌, ℕ, zero, suc, ◌+◌, ◌<◌, ◌≤◌, List, [], ◌∷◌, ◌++◌, length, take, drop, get_or, All, ◌==◌}
+use Rattle.std.proofs.Common.{◌≡◌, ◌≢◌, ℕ, zero, suc, ◌+◌, ◌<◌, ◌≤◌, List, [], ◌∷◌, ◌++◌, length, take, drop, get_or, ◌==◌}
 use Rattle.std.proofs.Common.{refl, sym, subst, ap, ap₂, ◌∙◌, arith, true, false, Option, Some, None, add-one, drop-cons}
 use Rattle.std.specs.List.{flat_map}
 use Rattle.std.specs.Option.{is_some}
@@ -118,11 +118,11 @@ some_list [] n e h none = cc
 some_list (x ∷ xs) n e h none = cc
 
 -- entries of lists one after another
-front_none : {A : Type 0} (xs ys : List A) → xs ++ ys ≡ [] → xs ≡ []
+pub front_none : {A : Type 0} (xs ys : List A) → xs ++ ys ≡ [] → xs ≡ []
 front_none [] ys e = refl
 front_none (x ∷ xs) ys e = cc
 
-back_none : {A : Type 0} (xs ys : List A) → xs ++ ys ≡ [] → ys ≡ []
+pub back_none : {A : Type 0} (xs ys : List A) → xs ++ ys ≡ [] → ys ≡ []
 back_none [] ys e = e
 back_none (x ∷ xs) ys e = cc
 

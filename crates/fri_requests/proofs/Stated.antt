@@ -1,8 +1,6 @@
 -- What holds of a scheme's parameters, claims and state holds of the records that they were read of.
 use Rattle.std.proofs.Common.{◌≡◌, ℕ, List, sym, subst, ap, ◌∙◌}
 use Rattle.std.specs.declared.vec.Vec.{Vec}
-use Rattle.p3_baby_bear.specs.declared.baby_bear.BabyBear.{BabyBear}
-use Rattle.p3_baby_bear.specs.declared.baby_bear4.BabyBear4.{BabyBear4}
 use Rattle.p3_mmcs.specs.declared.sha256_mmcs.error.Sha256MmcsError.{Sha256MmcsError}
 use Rattle.p3_challenger_sha256.specs.declared.sha256_challenger.Sha256Challenger.{Sha256Challenger}
 use Rattle.p3_challenger_sha256.specs.Sha256.{start}
@@ -16,52 +14,52 @@ use Rattle.fri_records.specs.declared.records.Parameters.{Parameters}
 use Rattle.fri_records.specs.declared.records.BatchClaims.{BatchClaims}
 use Rattle.fri_requests.specs.Bound.{state_bound}
 use Rattle.fri_records.specs.Records.{parameters_in}
-use Rattle.fri_statement.specs.Numbers.{coefficient_numbers}
-use Rattle.fri_statement.specs.Setting.{sha256_setting, sha256_moves}
+use Rattle.fri_statement.specs.Setting.{SchemeFields, prime_fields, sha256_moves, sha256_setting}
+use Rattle.fri_requests.specs.Numbers.{extension_numbers}
 use Rattle.fri_requests.specs.Statements.{IsStatement, claims_listed}
 use Rattle.fri_requests.specs.Accepted.{IsAccepted, IsRefused}
 
-module _ {X Y : Type 0} (context : List ℕ) (parameters : Parameters) (records : List BatchClaims)
-    (proof : Proof BabyBear BabyBear4 (List ℕ) (Vec (Vec (List ℕ) X) Y) (Vec (Vec (List ℕ) X) Y))
-    (p : setting.Parameters) (claims : List (CommitmentClaim BabyBear4 (List ℕ)))
-    (c : Sha256Challenger) (same : p ≡ parameters_in parameters)
-    (listed : claims ≡ claims_listed records) (begins : c ≡ state_bound start context parameters records)
-    (statement : IsStatement context parameters records) where
+module _ {F E X Y : Type 0} (f : SchemeFields F E) (context : List ℕ) (parameters : Parameters) (records : List BatchClaims)
+    (proof : Proof F E (List ℕ) (Vec (Vec (List ℕ) X) Y) (Vec (Vec (List ℕ) X) Y))
+    (p : setting.Parameters) (claims : List (CommitmentClaim E (List ℕ)))
+    (c : Sha256Challenger F) (same : p ≡ parameters_in parameters)
+    (listed : claims ≡ claims_listed f records) (begins : c ≡ state_bound f start context parameters records)
+    (statement : IsStatement f context parameters records) where
   -- where the statement is absorbed
-  abbrev at_start : Sha256Challenger
-  at_start = state_bound start context parameters records
+  abbrev at_start : Sha256Challenger F
+  at_start = state_bound f start context parameters records
 
   abbrev At : Type 1
-  At = setting.Parameters → List (CommitmentClaim BabyBear4 (List ℕ)) → Sha256Challenger → Type 0
+  At = setting.Parameters → List (CommitmentClaim E (List ℕ)) → Sha256Challenger F → Type 0
 
-  moved : (P : At) → P p claims c → P (parameters_in parameters) (claims_listed records) at_start
+  moved : (P : At) → P p claims c → P (parameters_in parameters) (claims_listed f records) at_start
   moved P h =
-      subst (λ d. P (parameters_in parameters) (claims_listed records) d) begins
+      subst (λ d. P (parameters_in parameters) (claims_listed f records) d) begins
       (subst (λ cs. P (parameters_in parameters) cs c) listed (subst (λ q. P q claims c) same h))
 
-  moved_back : (P : At) → P (parameters_in parameters) (claims_listed records) at_start → P p claims c
+  moved_back : (P : At) → P (parameters_in parameters) (claims_listed f records) at_start → P p claims c
   moved_back P h =
       subst (λ q. P q claims c) (sym same)
       (subst (λ cs. P (parameters_in parameters) cs c) (sym listed)
-      (subst (λ d. P (parameters_in parameters) (claims_listed records) d) (sym begins) h))
+      (subst (λ d. P (parameters_in parameters) (claims_listed f records) d) (sym begins) h))
 
-  pub accepted : (last : Sha256Challenger) (next : List ℕ)
-      → Accepts sha256_setting p claims proof c
-      → last ≡ last_state sha256_setting p claims proof c
-      → next ≡ coefficient_numbers (sha256_moves.draw_element last).value
-      → IsAccepted context parameters records proof next
+  pub accepted : (last : Sha256Challenger F) (next : List ℕ)
+      → Accepts (sha256_setting f) p claims proof c
+      → last ≡ last_state (sha256_setting f) p claims proof c
+      → next ≡ extension_numbers f ((sha256_moves (prime_fields f)).draw_element last).value
+      → IsAccepted f context parameters records proof next
   accepted last next holds ends drawn = record {
     statement = statement;
-    holds = moved (λ q cs d. Accepts sha256_setting q cs proof d) holds;
-    drawn = drawn ∙ ap (λ d. coefficient_numbers (sha256_moves.draw_element d).value)
-        (moved (λ q cs d. last ≡ last_state sha256_setting q cs proof d) ends);
+    holds = moved (λ q cs d. Accepts (sha256_setting f) q cs proof d) holds;
+    drawn = drawn ∙ ap (λ d. extension_numbers f ((sha256_moves (prime_fields f)).draw_element d).value)
+        (moved (λ q cs d. last ≡ last_state (sha256_setting f) q cs proof d) ends);
   }
 
   pub refused : (e : FriError Sha256MmcsError Sha256MmcsError)
-      → (¬ Accepts sha256_setting p claims proof c)
-      × StandsInScheme sha256_setting p claims proof c e → IsRefused context parameters records proof e
+      → (¬ Accepts (sha256_setting f) p claims proof c)
+      × StandsInScheme (sha256_setting f) p claims proof c e → IsRefused f context parameters records proof e
   refused e h = record {
     statement = statement;
-    fails = λ holds. h.0 (moved_back (λ q cs d. Accepts sha256_setting q cs proof d) holds);
-    fault = moved (λ q cs d. StandsInScheme sha256_setting q cs proof d e) h.1;
+    fails = λ holds. h.0 (moved_back (λ q cs d. Accepts (sha256_setting f) q cs proof d) holds);
+    fault = moved (λ q cs d. StandsInScheme (sha256_setting f) q cs proof d e) h.1;
   }

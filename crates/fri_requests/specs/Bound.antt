@@ -6,6 +6,7 @@ use Rattle.algebra.specs.Nested.{lists}
 use Rattle.hex.specs.Hex.{decode_of}
 use Rattle.p3_challenger_sha256.specs.declared.sha256_challenger.Sha256Challenger.{Sha256Challenger}
 use Rattle.p3_fri_relation.specs.Setting as setting
+use Rattle.fri_statement.specs.Setting.{SchemeFields}
 use Rattle.fri_statement.specs.Statement.{OpenedMatrix, OpenedCommitment, statement_absorbed}
 use Rattle.fri_records.specs.declared.records.Parameters.{Parameters}
 use Rattle.fri_records.specs.declared.records.Matrix.{Matrix}
@@ -58,15 +59,16 @@ batch_asked hides commitment batch = record {
   matrices = map (matrix_asked hides) batch.matrices.items;
 }
 
--- the state of a challenger that has absorbed a statement, from the state in which it began
-abbrev pub bound : (begun : Sha256Challenger) (context : List ℕ) → setting.Parameters
-    → List OpenedCommitment → Sha256Challenger
-bound begun context p commitments = statement_absorbed begun
-    (record { context = context; parameters = p; commitments = commitments })
+module _ {F E : Type 0} (f : SchemeFields F E) where
+  -- the state of a challenger that has absorbed a statement, from the state in which it began
+  abbrev pub bound : (begun : Sha256Challenger F) (context : List ℕ) → setting.Parameters
+      → List OpenedCommitment → Sha256Challenger F
+  bound begun context p commitments = statement_absorbed f.order f.canonical f.relation.base begun
+      (record { context = context; parameters = p; commitments = commitments })
 
--- the statement of these records
-abbrev pub state_bound : (begun : Sha256Challenger) (context : List ℕ) → Parameters
-    → List BatchClaims → Sha256Challenger
-state_bound begun context parameters records =
-    bound begun (context_listed context) (parameters_in parameters)
-    (map batch_claimed (map batch_listed records))
+  -- the statement of these records
+  abbrev pub state_bound : (begun : Sha256Challenger F) (context : List ℕ) → Parameters
+      → List BatchClaims → Sha256Challenger F
+  state_bound begun context parameters records =
+      bound begun (context_listed context) (parameters_in parameters)
+      (map batch_claimed (map batch_listed records))

@@ -3,13 +3,12 @@ use Rattle.std.specs.Prelude.{ℕ, List, map, Ok, Result, string_bytes}
 use Rattle.algebra.specs.Nested.{lists}
 use Rattle.hex.specs.Hex.{decode_sized}
 use Rattle.hex.specs.declared.error.FromHexError.{FromHexError}
-use Rattle.p3_baby_bear.specs.declared.baby_bear.BabyBear.{BabyBear}
-use Rattle.p3_baby_bear.specs.declared.baby_bear4.BabyBear4.{BabyBear4}
 use Rattle.p3_pcs.specs.Claims.{PointClaim, MatrixClaim, Claim}
-use Rattle.fri_statement.specs.Numbers.{canonical_number, coefficient_numbers}
+use Rattle.fri_statement.specs.Setting.{SchemeFields}
 use Rattle.fri_records.specs.declared.records.PointClaims.{PointClaims}
 use Rattle.fri_records.specs.declared.records.MatrixClaims.{MatrixClaims}
 use Rattle.fri_records.specs.declared.records.BatchClaims.{BatchClaims}
+use Rattle.fri_requests.specs.Numbers.{extension_numbers}
 
 pub record PointNumbers : Type 0 where
   pub point : List ℕ
@@ -26,25 +25,26 @@ pub record BatchNumbers : Type 0 where
   pub matrices : List MatrixNumbers
 
 -- the numbers of claims
-abbrev pub point_numbers : PointClaim BabyBear4 → PointNumbers
-point_numbers c = record {
-  point = coefficient_numbers c.point;
-  values = map coefficient_numbers c.values;
-}
-
-module _ {Domain : Type 0} (shift_of : Domain → BabyBear) (log_size_of : Domain → ℕ) where
-  abbrev pub matrix_numbers : MatrixClaim BabyBear4 Domain → MatrixNumbers
-  matrix_numbers c = record {
-    shift = canonical_number (shift_of c.domain);
-    log_size = log_size_of c.domain;
-    points = map point_numbers c.points;
+module _ {F E : Type 0} (f : SchemeFields F E) where
+  abbrev pub point_numbers : PointClaim E → PointNumbers
+  point_numbers c = record {
+    point = extension_numbers f c.point;
+    values = map (extension_numbers f) c.values;
   }
 
-  abbrev pub batch_numbers : Claim BabyBear4 (List ℕ) Domain → BatchNumbers
-  batch_numbers c = record {
-    commitment = Ok c.commitment;
-    matrices = map matrix_numbers c.matrices;
-  }
+  module _ {Domain : Type 0} (shift_of : Domain → F) (log_size_of : Domain → ℕ) where
+    abbrev pub matrix_numbers : MatrixClaim E Domain → MatrixNumbers
+    matrix_numbers c = record {
+      shift = f.canonical (shift_of c.domain);
+      log_size = log_size_of c.domain;
+      points = map point_numbers c.points;
+    }
+
+    abbrev pub batch_numbers : Claim E (List ℕ) Domain → BatchNumbers
+    batch_numbers c = record {
+      commitment = Ok c.commitment;
+      matrices = map matrix_numbers c.matrices;
+    }
 
 -- the numbers that records list
 abbrev pub point_listed : PointClaims → PointNumbers

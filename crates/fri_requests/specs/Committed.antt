@@ -1,9 +1,6 @@
 -- What a scheme commits to of batches that records list.
-use Rattle.std.specs.Prelude.{◌≡◌, ℕ, Bool, true, false, List, map}
+use Rattle.std.specs.Prelude.{◌≡◌, ℕ, Bool, true, false, List, map, All}
 use Rattle.std.specs.List.{AllZip}
-use Rattle.p3_baby_bear.specs.declared.baby_bear.BabyBear.{BabyBear}
-use Rattle.p3_baby_bear.specs.declared.baby_bear4.BabyBear4.{BabyBear4}
-use Rattle.p3_baby_bear.specs.BabyBear.{element}
 use Rattle.p3_matrix.specs.declared.dense.RowMajorMatrix.{RowMajorMatrix}
 use Rattle.p3_matrix.specs.Matrix.{rows, matrix_width}
 use Rattle.p3_matrix.specs.Rows.{rows_of}
@@ -12,14 +9,11 @@ use Rattle.p3_stark_pcs.specs.Scheme.{StarkScheme}
 use Rattle.fri_records.specs.declared.records.Domain.{Domain}
 use Rattle.fri_records.specs.declared.records.Matrix.{Matrix}
 use Rattle.fri_records.specs.declared.records.Batch.{Batch}
+use Rattle.fri_statement.specs.Setting.{SchemeFields}
 use Rattle.fri_schemes.specs.Rows.{log_committed}
 use Rattle.fri_requests.specs.declared.committed.Committed.{Committed}
 use Rattle.fri_requests.specs.declared.reading.ListedBatch.{ListedBatch}
-use Rattle.fri_statement.specs.Numbers.{canonical_number}
-
--- a domain of this shift and of `2^log_size` points
-abbrev pub domain_of : (shift : BabyBear) (log_size : ℕ) → Domain
-domain_of shift log_size = record { shift = canonical_number shift; log_size = log_size }
+use Rattle.fri_requests.specs.Numbers.{element}
 
 -- the domain on which a matrix is committed to that is listed on this one: of as many points, and
 -- of twice as many where the scheme hides
@@ -27,21 +21,32 @@ abbrev pub domain_committed : (hides : Bool) → Domain → Domain
 domain_committed hides d =
     record { shift = d.shift; log_size = log_committed hides d.log_size }
 
-module _ {Dom : Type 0} (hides : Bool) (shift_of : Dom → BabyBear) (log_size_of : Dom → ℕ) where
-  -- the rows that a record lists, beside the domain on which they are committed to
-  pub record IsListed (e : Dom × RowMajorMatrix BabyBear) (m : Matrix) : Type 0 where
-    pub domain : domain_of (shift_of e.0) (log_size_of e.0) ≡ domain_committed hides m.domain
-    pub width : matrix_width e.1 ≡ m.width
-    pub listed_rows : rows e.1 ≡ rows_of m.width (map element m.values.items)
+module _ {F E : Type 0} (f : SchemeFields F E) where
+  -- a domain of this shift and of `2^log_size` points
+  abbrev pub domain_of : (shift : F) (log_size : ℕ) → Domain
+  domain_of shift log_size = record { shift = f.canonical shift; log_size = log_size }
 
-  -- those of each matrix of a batch
-  abbrev pub AreListed : List (Dom × RowMajorMatrix BabyBear) → Batch → Type 0
-  AreListed evaluations batch = AllZip IsListed evaluations batch.matrices.items
+  module _ {Dom : Type 0} (hides : Bool) (shift_of : Dom → F) (log_size_of : Dom → ℕ) where
+    -- the rows that a record lists, beside the domain on which they are committed to
+    pub record IsListed (e : Dom × RowMajorMatrix F) (m : Matrix) : Type 0 where
+      pub domain : domain_of (shift_of e.0) (log_size_of e.0) ≡ domain_committed hides m.domain
+      pub width : matrix_width e.1 ≡ m.width
+      pub listed_rows : rows e.1 ≡ rows_of m.width (map (element f) m.values.items)
 
-  -- a batch, read of its record
-  pub record Lists (read : ListedBatch Dom) (batch : Batch) : Type 0 where
-    pub evaluations : AreListed read.evaluations.items batch
-    pub preprocessed : read.preprocessed ≡ batch.preprocessed
+    -- those of each matrix of a batch
+    abbrev pub AreListed : List (Dom × RowMajorMatrix F) → Batch → Type 0
+    AreListed evaluations batch = AllZip IsListed evaluations batch.matrices.items
+
+    -- a batch, read of its record
+    pub record Lists (read : ListedBatch F Dom) (batch : Batch) : Type 0 where
+      pub evaluations : AreListed read.evaluations.items batch
+      pub preprocessed : read.preprocessed ≡ batch.preprocessed
+
+-- the scheme may commit to each of these batches
+pub record CommitsEach {E C V Dom Com D Proof Error ProverError : Type 0}
+    (r : Scheme E C V Dom Com D Proof Error ProverError) (batches : List (ListedBatch V Dom))
+    : Type 0 where
+  pub each : All (λ b. r.CanCommit b.evaluations.items) batches
 
 module _ {E C V Dom Com D Proof Error ProverError : Type 0}
     (r : Scheme E C V Dom Com D Proof Error ProverError) (t : StarkScheme E V Dom D ProverError)
@@ -66,25 +71,28 @@ module _ {E C V Dom Com D Proof Error ProverError : Type 0}
       pub openable : MayOpen preprocessed datum
       pub extends : AllZip r.Extends (r.committed_polynomials datum) evaluations
 
-module _ {C Dom D Proof Error ProverError : Type 0}
-    (r : Scheme BabyBear4 C BabyBear Dom (List ℕ) D Proof Error ProverError)
-    (t : StarkScheme BabyBear4 BabyBear Dom D ProverError) where
+module _ {E C V Dom D Proof Error ProverError : Type 0}
+    (r : Scheme E C V Dom (List ℕ) D Proof Error ProverError)
+    (t : StarkScheme E V Dom D ProverError) where
   -- what is kept of a batch that was read: beside that, the matrices' domains
-  pub record KeepsRead (c : Committed D Dom) (read : ListedBatch Dom) : Type 0 where
+  pub record KeepsRead (c : Committed D Dom) (read : ListedBatch V Dom) : Type 0 where
     pub commits : CommitsTo r t c.commitment c.data read.preprocessed read.evaluations.items
     pub domains : c.domains.items ≡ map (λ e. e.0) read.evaluations.items
 
-  module _ (hides : Bool) (shift_of : Dom → BabyBear) (log_size_of : Dom → ℕ) where
-    -- a commitment to a batch: to the matrices that it lists
-    pub record IsCommittedTo (commitment : List ℕ) (datum : D) (batch : Batch) : Type 0 where
-      pub evaluations : List (Dom × RowMajorMatrix BabyBear)
-      pub listed : AreListed hides shift_of log_size_of evaluations batch
-      pub commits : CommitsTo r t commitment datum batch.preprocessed evaluations
+module _ {F E C Dom D Proof Error ProverError : Type 0} (f : SchemeFields F E)
+    (r : Scheme E C F Dom (List ℕ) D Proof Error ProverError)
+    (t : StarkScheme E F Dom D ProverError) (hides : Bool) (shift_of : Dom → F)
+    (log_size_of : Dom → ℕ) where
+  -- a commitment to a batch: to the matrices that it lists
+  pub record IsCommittedTo (commitment : List ℕ) (datum : D) (batch : Batch) : Type 0 where
+    pub evaluations : List (Dom × RowMajorMatrix F)
+    pub listed : AreListed f hides shift_of log_size_of evaluations batch
+    pub commits : CommitsTo r t commitment datum batch.preprocessed evaluations
 
-    -- what is kept of a batch: beside that, the domains on which its matrices are committed to
-    pub record Keeps (c : Committed D Dom) (batch : Batch) : Type 0 where
-      pub committed : IsCommittedTo c.commitment c.data batch
-      pub domains : map (λ d. domain_of (shift_of d) (log_size_of d)) c.domains.items
-          ≡ map (λ m. domain_committed hides m.domain) batch.matrices.items
-      pub sizes : map r.domain_size c.domains.items
-          ≡ map (λ m. m.size) (r.committed_polynomials c.data)
+  -- what is kept of a batch: beside that, the domains on which its matrices are committed to
+  pub record Keeps (c : Committed D Dom) (batch : Batch) : Type 0 where
+    pub committed : IsCommittedTo c.commitment c.data batch
+    pub domains : map (λ d. domain_of f (shift_of d) (log_size_of d)) c.domains.items
+        ≡ map (λ m. domain_committed hides m.domain) batch.matrices.items
+    pub sizes : map r.domain_size c.domains.items
+        ≡ map (λ m. m.size) (r.committed_polynomials c.data)

@@ -3,6 +3,7 @@ pub mod Bound
 pub mod Claims
 pub mod Commitments
 pub mod Committed
+pub mod Keeping
 pub mod Matrices
 pub mod Numbers
 pub mod Openings

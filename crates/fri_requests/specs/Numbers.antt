@@ -1,18 +1,26 @@
 -- Which numbers are those of elements.
 use Rattle.std.specs.Prelude.{◌≡◌, ℕ, ◌<◌, List, map, length, All}
-use Rattle.p3_baby_bear.specs.declared.baby_bear4.BabyBear4.{BabyBear4}
-use Rattle.p3_baby_bear.specs.BabyBear.{element}
-use Rattle.p3_baby_bear.specs.BabyBear4.{of_coefficients4}
+use Rattle.algebra.specs.Field.{multiple}
+use Rattle.fri_statement.specs.Setting.{SchemeFields}
 
--- the element of the extension with these coefficients, that of one first
-abbrev pub extension_of : List ℕ → BabyBear4
-extension_of numbers = of_coefficients4 (map element numbers)
+module _ {F E : Type 0} (f : SchemeFields F E) where
+  -- the element of this number: the multiple of one
+  abbrev pub element : ℕ → F
+  element number = multiple f.relation.base number
 
--- a number below the order
-abbrev pub IsElement : ℕ → Type 0
-IsElement number = number < 2013265921
+  -- the element of the extension with these coefficients, that of one first
+  abbrev pub extension_of : List ℕ → E
+  extension_of numbers = f.of_coefficients (map element numbers)
 
--- the numbers of four coefficients
-pub record IsExtensionElement (numbers : List ℕ) : Type 0 where
-  pub four : length numbers ≡ 4
-  pub elements : All IsElement numbers
+  -- the numbers of the coefficients, that of one first
+  abbrev pub extension_numbers : E → List ℕ
+  extension_numbers x = map f.canonical (f.relation.coefficients x)
+
+  -- a number below the order
+  abbrev pub IsElement : ℕ → Type 0
+  IsElement number = number < f.order
+
+  -- the numbers of as many coefficients as the extension's degree
+  pub record IsExtensionElement (numbers : List ℕ) : Type 0 where
+    pub count : length numbers ≡ f.relation.degree
+    pub elements : All IsElement numbers

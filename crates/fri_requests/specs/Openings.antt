@@ -1,62 +1,61 @@
 -- What comes of opening batches of matrices that records list.
 use Rattle.std.specs.Prelude.{◌≡◌, ◌≢◌, ℕ, Bool, false, List, [], map, All, Ok}
 use Rattle.algebra.specs.Nested.{lists}
-use Rattle.p3_baby_bear.specs.declared.baby_bear.BabyBear.{BabyBear}
-use Rattle.p3_baby_bear.specs.declared.baby_bear4.BabyBear4.{BabyBear4}
 use Rattle.p3_pcs.specs.Claims.{zip_with}
 use Rattle.p3_pcs.specs.Requests.{Held, Request}
 use Rattle.p3_pcs.specs.Scheme.{Scheme}
 use Rattle.p3_stark_pcs.specs.Scheme.{StarkScheme}
 use Rattle.fri_records.specs.declared.records.Matrix.{Matrix}
 use Rattle.fri_records.specs.declared.records.Batch.{Batch}
-use Rattle.fri_statement.specs.Numbers.{coefficient_numbers}
+use Rattle.fri_statement.specs.Setting.{SchemeFields}
 use Rattle.fri_requests.specs.declared.committed.Committed.{Committed}
-use Rattle.fri_requests.specs.Numbers.{extension_of}
+use Rattle.fri_requests.specs.Numbers.{extension_of, extension_numbers}
 use Rattle.fri_requests.specs.Claims.{PointNumbers, MatrixNumbers, BatchNumbers}
 use Rattle.fri_requests.specs.Committed.{domain_committed, IsCommittedTo}
 use Rattle.fri_requests.specs.Matrices.{held_listed}
 use Rattle.fri_requests.specs.Commitments.{IsCommitmentTo}
 
--- what is claimed at a point of polynomials: their values there
-abbrev pub values_opened : Held BabyBear4 → List ℕ → PointNumbers
-values_opened h z =
-    record { point = z; values = map coefficient_numbers (h.values_at (extension_of z)) }
+module _ {F E : Type 0} (f : SchemeFields F E) where
+  -- what is claimed at a point of polynomials: their values there
+  abbrev pub values_opened : Held E → List ℕ → PointNumbers
+  values_opened h z =
+      record { point = z; values = map (extension_numbers f) (h.values_at (extension_of f z)) }
 
--- what is claimed of a matrix that is opened, whose committed polynomials these are: on the domain
--- on which it was committed to, at each of its points, their values there
-abbrev pub matrix_opened : (hides : Bool) → Held BabyBear4 → Matrix → MatrixNumbers
-matrix_opened hides h m = record {
-  shift = (domain_committed hides m.domain).shift;
-  log_size = (domain_committed hides m.domain).log_size;
-  points = map (values_opened h) (lists m.points.items);
-}
+  -- what is claimed of a matrix that is opened, whose committed polynomials these are: on the
+  -- domain on which it was committed to, at each of its points, their values there
+  abbrev pub matrix_opened : (hides : Bool) → Held E → Matrix → MatrixNumbers
+  matrix_opened hides h m = record {
+    shift = (domain_committed hides m.domain).shift;
+    log_size = (domain_committed hides m.domain).log_size;
+    points = map (values_opened h) (lists m.points.items);
+  }
 
-module _ {Dom C D Proof Error ProverError : Type 0}
-    (r : Scheme BabyBear4 C BabyBear Dom (List ℕ) D Proof Error ProverError)
-    (t : StarkScheme BabyBear4 BabyBear Dom D ProverError) (hides : Bool)
-    (shift_of : Dom → BabyBear) (log_size_of : Dom → ℕ) where
-  -- what is claimed of a batch: the commitment to it, and of each of its matrices the values of the
-  -- polynomials that were committed to
-  pub record IsOpenedBy (claimed : BatchNumbers) (batch : Batch) : Type 0 where
+  module _ {Dom C D Proof Error ProverError : Type 0}
+      (r : Scheme E C F Dom (List ℕ) D Proof Error ProverError)
+      (t : StarkScheme E F Dom D ProverError) (hides : Bool) (shift_of : Dom → F)
+      (log_size_of : Dom → ℕ) where
+    -- what is claimed of a batch: the commitment to it, and of each of its matrices the values of
+    -- the polynomials that were committed to
+    pub record IsOpenedBy (claimed : BatchNumbers) (batch : Batch) : Type 0 where
+      pub commitment : List ℕ
+      pub datum : D
+      pub written : claimed.commitment ≡ Ok commitment
+      pub committed : IsCommittedTo f r t hides shift_of log_size_of commitment datum batch
+      pub matrices : claimed.matrices ≡ zip_with (matrix_opened hides)
+          (r.committed_polynomials datum) batch.matrices.items
+
+  -- of the plain scheme: on a matrix' domain, the values of its columns' polynomials
+  abbrev pub opened_numbers : Matrix → MatrixNumbers
+  opened_numbers m = matrix_opened false (held_listed f m) m
+
+  pub record IsOpened (log_blowup : ℕ) (claimed : BatchNumbers) (batch : Batch) : Type 0 where
     pub commitment : List ℕ
-    pub datum : D
     pub written : claimed.commitment ≡ Ok commitment
-    pub committed : IsCommittedTo r t hides shift_of log_size_of commitment datum batch
-    pub matrices : claimed.matrices ≡ zip_with (matrix_opened hides)
-        (r.committed_polynomials datum) batch.matrices.items
-
--- of the plain scheme: on a matrix' domain, the values of its columns' polynomials
-abbrev pub opened_numbers : Matrix → MatrixNumbers
-opened_numbers m = matrix_opened false (held_listed m) m
-
-pub record IsOpened (log_blowup : ℕ) (claimed : BatchNumbers) (batch : Batch) : Type 0 where
-  pub commitment : List ℕ
-  pub written : claimed.commitment ≡ Ok commitment
-  pub committed : IsCommitmentTo log_blowup commitment batch
-  pub matrices : claimed.matrices ≡ map opened_numbers batch.matrices.items
+    pub committed : IsCommitmentTo f log_blowup commitment batch
+    pub matrices : claimed.matrices ≡ map opened_numbers batch.matrices.items
 
 -- each matrix is opened at some point
-abbrev pub HavePoints : List (List (List BabyBear4)) → Type 0
+abbrev pub HavePoints : {E : Type 0} → List (List (List E)) → Type 0
 HavePoints points = All (λ lists. All (λ zs. zs ≢ []) lists) points
 
 -- a request to open a datum at these points
@@ -64,6 +63,6 @@ abbrev pub request_for : {D E : Type 0} → D → List (List E) → Request D E
 request_for datum points = record { datum = datum; points = points }
 
 -- requests to open what is kept, each at its points
-abbrev pub requests_for : {D Dom : Type 0} → List (Committed D Dom)
-    → List (List (List BabyBear4)) → List (Request D BabyBear4)
+abbrev pub requests_for : {D Dom E : Type 0} → List (Committed D Dom) → List (List (List E))
+    → List (Request D E)
 requests_for kept points = zip_with (λ c zs. request_for c.data zs) kept points

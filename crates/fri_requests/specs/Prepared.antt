@@ -2,41 +2,41 @@
 use Rattle.std.specs.Prelude.{◌≡◌, ℕ, Bool, List, Option, map, string_bytes, All}
 use Rattle.std.specs.List.{AllZip}
 use Rattle.algebra.specs.Nested.{lists}
-use Rattle.p3_baby_bear.specs.declared.baby_bear.BabyBear.{BabyBear}
-use Rattle.p3_baby_bear.specs.declared.baby_bear4.BabyBear4.{BabyBear4}
 use Rattle.p3_challenger_sha256.specs.declared.sha256_challenger.Sha256Challenger.{Sha256Challenger}
 use Rattle.p3_pcs.specs.Claims.{zip_with}
 use Rattle.fri_records.specs.declared.records.Batch.{Batch}
 use Rattle.fri_records.specs.declared.records.Request.{Request}
 use Rattle.fri_records.specs.Records.{parameters_in}
+use Rattle.fri_statement.specs.Setting.{SchemeFields}
 use Rattle.fri_schemes.specs.Rows.{FitsRows}
-use Rattle.fri_statement.specs.Numbers.{coefficient_numbers}
 use Rattle.fri_requests.specs.declared.reading.ListedBatch.{ListedBatch}
 use Rattle.fri_requests.specs.Bound.{context_listed, batch_asked, bound}
 use Rattle.fri_requests.specs.Committed.{Lists}
+use Rattle.fri_requests.specs.Numbers.{extension_numbers}
 use Rattle.fri_requests.specs.Openings.{HavePoints}
 use Rattle.fri_requests.specs.Preprocessing.{NamesPreprocessed}
 
-module _ {Dom : Type 0} (hides : Bool) (shift_of : Dom → BabyBear) (log_size_of : Dom → ℕ) where
-  -- batches, read of their records, with the index of the preprocessed one: each matrix has room
-  -- for its extension
-  pub record AreRead (log_blowup : ℕ) (batches : List Batch) (index : Option ℕ)
-      (read : List (ListedBatch Dom)) : Type 0 where
-    pub listed : AllZip (Lists hides shift_of log_size_of) read batches
-    pub fit : All (λ b. All (λ e. FitsRows hides log_blowup (log_size_of e.0) e.1)
-        b.evaluations.items) read
-    pub named : NamesPreprocessed index batches
+module _ {F E : Type 0} (f : SchemeFields F E) where
+  module _ {Dom : Type 0} (hides : Bool) (shift_of : Dom → F) (log_size_of : Dom → ℕ) where
+    -- batches, read of their records, with the index of the preprocessed one: each matrix has room
+    -- for its extension
+    pub record AreRead (log_blowup : ℕ) (batches : List Batch) (index : Option ℕ)
+        (read : List (ListedBatch F Dom)) : Type 0 where
+      pub listed : AllZip (Lists f hides shift_of log_size_of) read batches
+      pub fit : All (λ b. All (λ e. FitsRows f.relation.two_adicity hides log_blowup
+          (log_size_of e.0) e.1) b.evaluations.items) read
+      pub named : NamesPreprocessed index batches
 
--- the points that batches list, some for each matrix
-pub record ArePoints (points : List (List (List BabyBear4))) (batches : List Batch) : Type 0 where
-  pub numbers : map (map (map coefficient_numbers)) points
-      ≡ map (λ batch. map (λ m. lists m.points.items) batch.matrices.items) batches
-  pub some_points : HavePoints points
+  -- the points that batches list, some for each matrix
+  pub record ArePoints (points : List (List (List E))) (batches : List Batch) : Type 0 where
+    pub numbers : map (map (map (extension_numbers f))) points
+        ≡ map (λ batch. map (λ m. lists m.points.items) batch.matrices.items) batches
+    pub some_points : HavePoints points
 
--- the state that is bound to a request, from that in which the challenger begins, once its batches
--- have these commitments
-abbrev pub state_asked : (hides : Bool) (begun : Sha256Challenger) → Request → List (List ℕ)
-    → Sha256Challenger
-state_asked hides begun request commitments =
-    bound begun (context_listed (string_bytes request.context)) (parameters_in request.parameters)
-    (zip_with (batch_asked hides) commitments request.commitments.items)
+  -- the state that is bound to a request, from that in which the challenger begins, once its
+  -- batches have these commitments
+  abbrev pub state_asked : (hides : Bool) (begun : Sha256Challenger F) → Request → List (List ℕ)
+      → Sha256Challenger F
+  state_asked hides begun request commitments = bound f begun
+      (context_listed (string_bytes request.context)) (parameters_in request.parameters)
+      (zip_with (batch_asked hides) commitments request.commitments.items)

@@ -1,14 +1,13 @@
 -- Why any scheme that is made of parameters refuses to commit to a request or to open it.
 use Rattle.std.specs.Prelude.{◌≡◌, ◌⊎◌, ℕ, Bool, List, ◌∷◌, ◌++◌, Option, map}
 use Rattle.std.specs.List.{AllZip}
-use Rattle.p3_baby_bear.specs.declared.baby_bear.BabyBear.{BabyBear}
-use Rattle.p3_baby_bear.specs.declared.baby_bear4.BabyBear4.{BabyBear4}
 use Rattle.p3_challenger_sha256.specs.declared.sha256_challenger.Sha256Challenger.{Sha256Challenger}
 use Rattle.p3_matrix.specs.declared.dense.RowMajorMatrix.{RowMajorMatrix}
 use Rattle.p3_pcs.specs.Scheme.{Scheme}
 use Rattle.p3_stark_pcs.specs.Scheme.{StarkScheme}
 use Rattle.fri_records.specs.declared.records.Batch.{Batch}
 use Rattle.fri_records.specs.declared.records.Request.{Request}
+use Rattle.fri_statement.specs.Setting.{SchemeFields}
 use Rattle.fri_requests.specs.declared.committed.Committed.{Committed}
 use Rattle.fri_requests.specs.declared.reading.ListedBatch.{ListedBatch}
 use Rattle.fri_requests.specs.Committed.{AreListed, Keeps, RefusesMatrices}
@@ -17,69 +16,73 @@ use Rattle.fri_requests.specs.Prepared.{state_asked}
 use Rattle.fri_requests.specs.Preprocessing.{NamesPreprocessed}
 use Rattle.fri_requests.specs.Requests.{CanCommit, CanOpen, points_listed}
 
-module _ {P C Dom D Proof Error ProverError : Type 0}
-    (rules : P → Scheme BabyBear4 C BabyBear Dom (List ℕ) D Proof Error ProverError)
-    (stark_rules : P → StarkScheme BabyBear4 BabyBear Dom D ProverError)
+module _ {P E C V Dom D Proof Error ProverError : Type 0}
+    (rules : P → Scheme E C V Dom (List ℕ) D Proof Error ProverError)
+    (stark_rules : P → StarkScheme E V Dom D ProverError)
     (IsMemory : ProverError → Type 0) (IsScheme : P → Type 0) where
   -- the scheme refuses to commit to one of these batches for this reason, other than for want of
   -- memory
-  pub record RefusesRead (all : List (ListedBatch Dom)) (e : ProverError) : Type 0 where
+  pub record RefusesRead (all : List (ListedBatch V Dom)) (e : ProverError) : Type 0 where
     pub scheme : P
     pub is_of : IsScheme scheme
-    pub before : List (ListedBatch Dom)
-    pub read : ListedBatch Dom
-    pub after : List (ListedBatch Dom)
+    pub before : List (ListedBatch V Dom)
+    pub read : ListedBatch V Dom
+    pub after : List (ListedBatch V Dom)
     pub among : all ≡ before ++ read ∷ after
     pub refused : RefusesMatrices (rules scheme) (stark_rules scheme) read.preprocessed
         read.evaluations.items e
     pub not_memory : ¬ IsMemory e
 
+module _ {F E : Type 0} (f : SchemeFields F E) {P C Dom D Proof Error ProverError : Type 0}
+    (rules : P → Scheme E C F Dom (List ℕ) D Proof Error ProverError)
+    (stark_rules : P → StarkScheme E F Dom D ProverError)
+    (IsMemory : ProverError → Type 0) (IsScheme : P → Type 0) (hides : Bool)
+    (shift_of : Dom → F) (log_size_of : Dom → ℕ) where
   -- and so of a request's batches
-  pub record RefusesBatch (hides : Bool) (shift_of : Dom → BabyBear) (log_size_of : Dom → ℕ)
-      (batches : List Batch) (e : ProverError) : Type 0 where
+  pub record RefusesBatch (batches : List Batch) (e : ProverError) : Type 0 where
     pub scheme : P
     pub is_of : IsScheme scheme
     pub before : List Batch
     pub batch : Batch
     pub after : List Batch
     pub among : batches ≡ before ++ batch ∷ after
-    pub evaluations : List (Dom × RowMajorMatrix BabyBear)
-    pub listed : AreListed hides shift_of log_size_of evaluations batch
+    pub evaluations : List (Dom × RowMajorMatrix F)
+    pub listed : AreListed f hides shift_of log_size_of evaluations batch
     pub refused : RefusesMatrices (rules scheme) (stark_rules scheme) batch.preprocessed
         evaluations e
     pub not_memory : ¬ IsMemory e
 
-module _ {P Dom D Proof Error ProverError : Type 0}
-    (rules : P → Scheme BabyBear4 Sha256Challenger BabyBear Dom (List ℕ) D Proof Error ProverError)
-    (stark_rules : P → StarkScheme BabyBear4 BabyBear Dom D ProverError)
+module _ {F E : Type 0} (f : SchemeFields F E) {P Dom D Proof Error ProverError : Type 0}
+    (rules : P → Scheme E (Sha256Challenger F) F Dom (List ℕ) D Proof Error ProverError)
+    (stark_rules : P → StarkScheme E F Dom D ProverError)
     (IsMemory : ProverError → Type 0) (IsScheme : P → Type 0) (hides : Bool)
-    (shift_of : Dom → BabyBear) (log_size_of : Dom → ℕ) where
+    (shift_of : Dom → F) (log_size_of : Dom → ℕ) where
   -- a request that can be committed to, and isn't
   pub record IsUncommitted (request : Request) (e : ProverError) : Type 0 where
-    pub request_commits : CanCommit hides request
-    pub refused : RefusesBatch rules stark_rules IsMemory IsScheme hides shift_of log_size_of
+    pub request_commits : CanCommit f hides request
+    pub refused : RefusesBatch f rules stark_rules IsMemory IsScheme hides shift_of log_size_of
         request.commitments.items e
 
   -- what is kept of a request's batches, at the points that they list, the scheme refuses to open
   -- for this reason, from the state that is bound to the request
-  pub record RefusesOpening (begun : Option ℕ → Sha256Challenger) (request : Request)
+  pub record RefusesOpening (begun : Option ℕ → Sha256Challenger F) (request : Request)
       (e : ProverError) : Type 0 where
     pub scheme : P
     pub is_of : IsScheme scheme
     pub index : Option ℕ
     pub named : NamesPreprocessed index request.commitments.items
     pub kept : List (Committed D Dom)
-    pub keeps : AllZip (Keeps (rules scheme) (stark_rules scheme) hides shift_of log_size_of) kept
-        request.commitments.items
+    pub keeps : AllZip (Keeps f (rules scheme) (stark_rules scheme) hides shift_of log_size_of)
+        kept request.commitments.items
     pub refused : (rules scheme).Refuses index
-        (state_asked hides (begun index) request (map (λ c. c.commitment) kept))
-        (requests_for kept (points_listed request.commitments.items)) e
+        (state_asked f hides (begun index) request (map (λ c. c.commitment) kept))
+        (requests_for kept (points_listed f request.commitments.items)) e
     pub not_memory : ¬ IsMemory e
 
   -- a request that can be opened, and isn't
-  pub record IsUnopened (begun : Option ℕ → Sha256Challenger) (request : Request)
+  pub record IsUnopened (begun : Option ℕ → Sha256Challenger F) (request : Request)
       (e : ProverError) : Type 0 where
-    pub request_opens : CanOpen hides request
-    pub refused : RefusesBatch rules stark_rules IsMemory IsScheme hides shift_of log_size_of
+    pub request_opens : CanOpen f hides request
+    pub refused : RefusesBatch f rules stark_rules IsMemory IsScheme hides shift_of log_size_of
         request.commitments.items e
         ⊎ RefusesOpening begun request e

@@ -6,10 +6,6 @@ use Rattle.std.specs.declared.alloc.Global.{Global}
 use Rattle.std.specs.declared.vec.Vec.{Vec}
 use Rattle.algebra.specs.Nested.{lists}
 use Rattle.p3_field_core.specs.declared.element_bytes.ElementBytes.{Ghosts}
-use Rattle.p3_baby_bear.specs.declared.baby_bear.BabyBear.{BabyBear}
-use Rattle.p3_baby_bear.specs.declared.baby_bear4.BabyBear4.{BabyBear4}
-use Rattle.p3_baby_bear.specs.BabyBear.{number_bytes}
-use Rattle.p3_baby_bear.specs.BabyBear4.{coefficient_bytes}
 use Rattle.p3_challenger_sha256.specs.declared.sha256_challenger.Sha256Challenger.{Sha256Challenger}
 use Rattle.p3_challenger_sha256.specs.Sha256.{start, least_witness}
 use Rattle.p3_mmcs.specs.declared.sha256_mmcs.prover_data.Sha256ProverData.{Sha256ProverData}
@@ -29,104 +25,110 @@ use Rattle.fri_records.specs.declared.records.Batch.{Batch}
 use Rattle.fri_records.specs.declared.records.Request.{Request}
 use Rattle.fri_requests.specs.Numbers.{extension_of, IsElement, IsExtensionElement}
 use Rattle.fri_records.specs.Records.{parameters_in, AreProvers}
+use Rattle.fri_statement.specs.Setting.{SchemeFields, sha256_setting}
 use Rattle.fri_requests.specs.Bound.{IsContext, context_listed, batch_asked, bound}
 use Rattle.fri_requests.specs.Statements.{IsCoset}
 use Rattle.fri_requests.specs.Committed.{domain_committed}
 use Rattle.fri_requests.specs.Matrices.{held_listed}
 use Rattle.fri_requests.specs.Openings.{request_for}
 use Rattle.fri_requests.specs.Preprocessing.{NamesPreprocessed}
-use Rattle.fri_statement.specs.Setting.{fields, sha256_setting}
 
--- a matrix on a coset, with room for the extension of the domain on which it is committed to: some
--- column, and for each column and point of the coset an element
-pub record IsMatrix (hides : Bool) (log_blowup : ℕ) (m : Matrix) : Type 0 where
-  pub domain : IsCoset 27 m.domain.shift m.domain.log_size
-  pub room : (domain_committed hides m.domain).log_size + log_blowup ≤ 27
-  pub some_column : 0 < m.width
-  pub count : length m.values.items ≡ m.width * 2 ^ m.domain.log_size
-  pub elements : All IsElement m.values.items
+module _ {F E : Type 0} (f : SchemeFields F E) where
+  -- a matrix on a coset, with room for the extension of the domain on which it is committed to:
+  -- some column, and for each column and point of the coset an element
+  pub record IsMatrix (hides : Bool) (log_blowup : ℕ) (m : Matrix) : Type 0 where
+    pub domain : IsCoset f f.relation.two_adicity m.domain.shift m.domain.log_size
+    pub room : (domain_committed hides m.domain).log_size + log_blowup ≤ f.relation.two_adicity
+    pub some_column : 0 < m.width
+    pub count : length m.values.items ≡ m.width * 2 ^ m.domain.log_size
+    pub elements : All (IsElement f) m.values.items
 
--- there is some point to open the matrix at, and each is an element of the extension
-pub record HasPoints (m : Matrix) : Type 0 where
-  pub some_point : m.points.items ≢ []
-  pub elements : All IsExtensionElement (lists m.points.items)
+  -- there is some point to open the matrix at, and each is an element of the extension
+  pub record HasPoints (m : Matrix) : Type 0 where
+    pub some_point : m.points.items ≢ []
+    pub elements : All (IsExtensionElement f) (lists m.points.items)
 
 -- `P` of each matrix of each batch
 abbrev pub AllMatrices : (Matrix → Type 0) → List Batch → Type 0
 AllMatrices P batches = All (λ b. All P b.matrices.items) batches
 
--- batches of matrices, of which at most one is preprocessed
-pub record AreBatches (hides : Bool) (log_blowup : ℕ) (batches : List Batch) : Type 0 where
-  pub matrices : AllMatrices (IsMatrix hides log_blowup) batches
-  pub preprocessed : (index : Option ℕ) × NamesPreprocessed index batches
+module _ {F E : Type 0} (f : SchemeFields F E) where
+  -- batches of matrices, of which at most one is preprocessed
+  pub record AreBatches (hides : Bool) (log_blowup : ℕ) (batches : List Batch) : Type 0 where
+    pub matrices : AllMatrices (IsMatrix f hides log_blowup) batches
+    pub preprocessed : (index : Option ℕ) × NamesPreprocessed index batches
 
--- the request can be committed to
-pub record CanCommit (hides : Bool) (request : Request) : Type 0 where
-  pub parameters : AreProvers request.parameters
-  pub batches : AreBatches hides request.parameters.log_blowup request.commitments.items
+  -- the request can be committed to
+  pub record CanCommit (hides : Bool) (request : Request) : Type 0 where
+    pub parameters : AreProvers f.relation.two_adicity request.parameters
+    pub batches : AreBatches hides request.parameters.log_blowup request.commitments.items
 
--- and opened: the context is bytes, each matrix has points, and there is some matrix
-pub record CanOpen (hides : Bool) (request : Request) : Type 0 where
-  pub context : IsContext (string_bytes request.context)
-  pub committed : CanCommit hides request
-  pub points : AllMatrices HasPoints request.commitments.items
-  pub some_matrix : flat_map (λ b. b.matrices.items) request.commitments.items ≢ []
+  -- and opened: the context is bytes, each matrix has points, and there is some matrix
+  pub record CanOpen (hides : Bool) (request : Request) : Type 0 where
+    pub context : IsContext (string_bytes request.context)
+    pub committed : CanCommit hides request
+    pub points : AllMatrices (HasPoints f) request.commitments.items
+    pub some_matrix : flat_map (λ b. b.matrices.items) request.commitments.items ≢ []
 
--- the points that batches list, matrix by matrix
-abbrev pub points_listed : List Batch → List (List (List BabyBear4))
-points_listed batches =
-    map (λ b. map (λ m. map extension_of (lists m.points.items)) b.matrices.items) batches
+  -- the points that batches list, matrix by matrix
+  abbrev pub points_listed : List Batch → List (List (List E))
+  points_listed batches =
+      map (λ b. map (λ m. map (extension_of f) (lists m.points.items)) b.matrices.items) batches
 
--- elements by their bytes, in trees of the inputs and of the rounds
-abbrev pub input_bytes : Ghosts BabyBear
-input_bytes = record { LEN = 4; bytes = number_bytes }
+-- over trees whose elements have so many bytes each, of the inputs and of the rounds
+module _ {F E : Type 0} (f : SchemeFields F E) (input_length : ℕ) where
+  -- elements by their bytes, and what is kept of a batch then
+  abbrev pub input_bytes : Ghosts F
+  input_bytes = record { LEN = input_length; bytes = f.bytes }
 
-abbrev pub round_bytes : Ghosts BabyBear4
-round_bytes = record { LEN = 16; bytes = coefficient_bytes }
+  abbrev pub InputData : Type 0
+  InputData = Sha256ProverData F input_bytes
 
--- what the scheme's openings stand on with these parameters: trees over both fields, and the least
--- witness that passes
-abbrev pub sha256_opening : setting.Parameters
-    → OpeningSetting BabyBear BabyBear4 Sha256Challenger (Sha256ProverData BabyBear input_bytes)
-    (Sha256ProverData BabyBear4 round_bytes) (List ℕ) (Vec (Vec (List ℕ) Global) Global) (List ℕ)
-    (Vec (Vec (List ℕ) Global) Global)
-sha256_opening p = record {
-  setting = sha256_setting;
-  parameters = p;
-  committed = matrices_of;
-  commitment_of = root_over;
-  round_committed = matrices_of;
-  round_commitment_of = root_over;
-  solution = least_witness;
-  most_bits = 63;
-  max_log_height = 27;
-}
+  -- what the plain scheme keeps of a batch: data that may be opened and is of low degree, of the
+  -- polynomials of the matrices that the batch lists
+  pub record KeepsBatch (log_blowup : ℕ) (datum : InputData) (batch : Batch) : Type 0 where
+    pub openable : All (HasCoset f.relation.two_adicity) (matrices_of datum)
+    pub low_degree : All (HoldsWords f.relation log_blowup) (matrices_of datum)
+    pub polynomials : AllZip HasPolynomials (held_of f.relation matrices_of log_blowup datum)
+        (map (held_listed f) batch.matrices.items)
 
--- why the scheme refuses to open data from a challenger's state on, other than for want of memory
-pub record Refuses (p : setting.Parameters) (c : Sha256Challenger)
-    (requests : List (plain.Request (Sha256ProverData BabyBear input_bytes) BabyBear4))
-    (e : FriProverError) : Type 0 where
-  pub stands : OpenRefusal (sha256_opening p) c requests e
-  pub not_memory : e ≢ OutOfMemory
+  module _ (round_length : ℕ) where
+    abbrev pub round_bytes : Ghosts E
+    round_bytes = record { LEN = round_length; bytes = f.extension_bytes }
 
--- what the plain scheme keeps of a batch: data that may be opened and is of low degree, of the
--- polynomials of the matrices that the batch lists
-pub record KeepsBatch (log_blowup : ℕ) (datum : Sha256ProverData BabyBear input_bytes)
-    (batch : Batch) : Type 0 where
-  pub openable : All (HasCoset 27) (matrices_of datum)
-  pub low_degree : All (HoldsWords fields log_blowup) (matrices_of datum)
-  pub polynomials : AllZip HasPolynomials (held_of fields matrices_of log_blowup datum)
-      (map held_listed batch.matrices.items)
+    -- what the scheme's openings stand on with these parameters: trees over both fields, and the
+    -- least witness that passes
+    abbrev pub sha256_opening : setting.Parameters → OpeningSetting F E (Sha256Challenger F)
+        InputData (Sha256ProverData E round_bytes)
+        (List ℕ) (Vec (Vec (List ℕ) Global) Global) (List ℕ) (Vec (Vec (List ℕ) Global) Global)
+    sha256_opening p = record {
+      setting = sha256_setting f;
+      parameters = p;
+      committed = matrices_of;
+      commitment_of = root_over;
+      round_committed = matrices_of;
+      round_commitment_of = root_over;
+      solution = least_witness f.order f.canonical f.relation.base;
+      most_bits = 63;
+      max_log_height = f.relation.two_adicity;
+    }
 
--- a request that can be opened, and isn't: what is kept of its batches, at the points that they
--- list, the plain scheme refuses to open for this reason, from the state that is bound to the
--- request
-pub record IsRefusedRequest (request : Request) (e : FriProverError) : Type 0 where
-  pub request_opens : CanOpen false request
-  pub kept : List (Sha256ProverData BabyBear input_bytes)
-  pub keeps : AllZip (KeepsBatch request.parameters.log_blowup) kept request.commitments.items
-  pub refused : Refuses (parameters_in request.parameters)
-      (bound start (context_listed (string_bytes request.context))
-      (parameters_in request.parameters)
-      (zip_with (batch_asked false) (map root_over kept) request.commitments.items))
-      (zip_with request_for kept (points_listed request.commitments.items)) e
+    -- why the scheme refuses to open data from a challenger's state on, other than for want of
+    -- memory
+    pub record Refuses (p : setting.Parameters) (c : Sha256Challenger F)
+        (requests : List (plain.Request InputData E)) (e : FriProverError) : Type 0 where
+      pub stands : OpenRefusal (sha256_opening p) c requests e
+      pub not_memory : e ≢ OutOfMemory
+
+    -- a request that can be opened, and isn't: what is kept of its batches, at the points that they
+    -- list, the plain scheme refuses to open for this reason, from the state that is bound to the
+    -- request
+    pub record IsRefusedRequest (request : Request) (e : FriProverError) : Type 0 where
+      pub request_opens : CanOpen f false request
+      pub kept : List InputData
+      pub keeps : AllZip (KeepsBatch request.parameters.log_blowup) kept request.commitments.items
+      pub refused : Refuses (parameters_in request.parameters)
+          (bound f start (context_listed (string_bytes request.context))
+          (parameters_in request.parameters)
+          (zip_with (batch_asked false) (map root_over kept) request.commitments.items))
+          (zip_with request_for kept (points_listed f request.commitments.items)) e

@@ -4,56 +4,57 @@ use Rattle.std.specs.Result.{result_unwrap_or}
 use Rattle.p3_pcs.specs.Claims.{PointClaim}
 use Rattle.p3_fri_relation.specs.Setting.{MatrixClaim, CommitmentClaim}
 use Rattle.p3_fri_two_adic.specs.Ranges.{InVerifierRange}
-use Rattle.p3_baby_bear.specs.declared.baby_bear4.BabyBear4.{BabyBear4}
 use Rattle.fri_records.specs.declared.records.Parameters.{Parameters}
 use Rattle.fri_records.specs.declared.records.BatchClaims.{BatchClaims}
 use Rattle.fri_records.specs.Records.{parameters_in}
+use Rattle.fri_statement.specs.Setting.{SchemeFields}
 use Rattle.fri_requests.specs.Bound.{IsContext}
 use Rattle.fri_requests.specs.Numbers.{extension_of, IsElement, IsExtensionElement}
 use Rattle.fri_requests.specs.Claims.{PointNumbers, MatrixNumbers, BatchNumbers, batch_listed}
 
--- a coset of at most `2^most` points: a shift that is an element and not zero
-pub record IsCoset (most shift log_size : ℕ) : Type 0 where
-  pub size : log_size ≤ most
-  pub nonzero : 0 < shift
-  pub element : IsElement shift
+module _ {F E : Type 0} (f : SchemeFields F E) where
+  -- a coset of at most `2^most` points: a shift that is an element and not zero
+  pub record IsCoset (most shift log_size : ℕ) : Type 0 where
+    pub size : log_size ≤ most
+    pub nonzero : 0 < shift
+    pub element : IsElement f shift
 
-pub record IsPointClaim (p : PointNumbers) : Type 0 where
-  pub point : IsExtensionElement p.point
-  pub values : All IsExtensionElement p.values
+  pub record IsPointClaim (p : PointNumbers) : Type 0 where
+    pub point : IsExtensionElement f p.point
+    pub values : All (IsExtensionElement f) p.values
 
-pub record IsMatrixClaim (m : MatrixNumbers) : Type 0 where
-  pub domain : IsCoset 27 m.shift m.log_size
-  pub points : All IsPointClaim m.points
+  pub record IsMatrixClaim (m : MatrixNumbers) : Type 0 where
+    pub domain : IsCoset f.relation.two_adicity m.shift m.log_size
+    pub points : All IsPointClaim m.points
 
-pub record IsClaim (b : BatchNumbers) : Type 0 where
-  pub commitment : IsOk b.commitment
-  pub matrices : All IsMatrixClaim b.matrices
+  pub record IsClaim (b : BatchNumbers) : Type 0 where
+    pub commitment : IsOk b.commitment
+    pub matrices : All IsMatrixClaim b.matrices
 
--- the records are those of claims
-abbrev pub AreClaims : List BatchClaims → Type 0
-AreClaims records = All IsClaim (map batch_listed records)
+  -- the records are those of claims
+  abbrev pub AreClaims : List BatchClaims → Type 0
+  AreClaims records = All IsClaim (map batch_listed records)
 
--- and the parameters are in the verifier's range, and the context is bytes
-pub record IsStatement (context : List ℕ) (parameters : Parameters) (records : List BatchClaims)
-    : Type 0 where
-  pub bytes : IsContext context
-  pub range : InVerifierRange (parameters_in parameters) 27 63
-  pub claims : AreClaims records
+  -- and the parameters are in the verifier's range, and the context is bytes
+  pub record IsStatement (context : List ℕ) (parameters : Parameters) (records : List BatchClaims)
+      : Type 0 where
+    pub bytes : IsContext context
+    pub range : InVerifierRange (parameters_in parameters) f.relation.two_adicity 63
+    pub claims : AreClaims records
 
--- the claims of such numbers, as the relation sees them
-abbrev pub point_of : PointNumbers → PointClaim BabyBear4
-point_of p = record { point = extension_of p.point; values = map extension_of p.values }
+  -- the claims of such numbers, as the relation sees them
+  abbrev pub point_of : PointNumbers → PointClaim E
+  point_of p = record { point = extension_of f p.point; values = map (extension_of f) p.values }
 
-abbrev pub matrix_of : MatrixNumbers → MatrixClaim BabyBear4
-matrix_of m = record { domain = m.log_size; points = map point_of m.points }
+  abbrev pub matrix_of : MatrixNumbers → MatrixClaim E
+  matrix_of m = record { domain = m.log_size; points = map point_of m.points }
 
-abbrev pub claim_of : BatchNumbers → CommitmentClaim BabyBear4 (List ℕ)
-claim_of b = record {
-  commitment = result_unwrap_or b.commitment [];
-  matrices = map matrix_of b.matrices;
-}
+  abbrev pub claim_of : BatchNumbers → CommitmentClaim E (List ℕ)
+  claim_of b = record {
+    commitment = result_unwrap_or b.commitment [];
+    matrices = map matrix_of b.matrices;
+  }
 
--- the claims that records list
-abbrev pub claims_listed : List BatchClaims → List (CommitmentClaim BabyBear4 (List ℕ))
-claims_listed records = map claim_of (map batch_listed records)
+  -- the claims that records list
+  abbrev pub claims_listed : List BatchClaims → List (CommitmentClaim E (List ℕ))
+  claims_listed records = map claim_of (map batch_listed records)

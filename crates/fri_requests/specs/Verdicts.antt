@@ -2,8 +2,6 @@
 -- and openings come of a request.
 use Rattle.std.specs.Prelude.{◌≡◌, ℕ, Bool, List, Option, map}
 use Rattle.std.specs.List.{AllZip}
-use Rattle.p3_baby_bear.specs.declared.baby_bear.BabyBear.{BabyBear}
-use Rattle.p3_baby_bear.specs.declared.baby_bear4.BabyBear4.{BabyBear4}
 use Rattle.p3_challenger_sha256.specs.declared.sha256_challenger.Sha256Challenger.{Sha256Challenger}
 use Rattle.p3_pcs.specs.Claims.{Claim}
 use Rattle.p3_pcs.specs.Scheme.{Scheme}
@@ -13,11 +11,11 @@ use Rattle.fri_records.specs.declared.records.Parameters.{Parameters}
 use Rattle.fri_records.specs.declared.records.Batch.{Batch}
 use Rattle.fri_records.specs.declared.records.BatchClaims.{BatchClaims}
 use Rattle.fri_records.specs.Records.{parameters_in}
-use Rattle.fri_statement.specs.Numbers.{coefficient_numbers}
-use Rattle.fri_statement.specs.Setting.{sha256_moves}
+use Rattle.fri_statement.specs.Setting.{SchemeFields, prime_fields, sha256_moves}
 use Rattle.fri_requests.specs.Bound.{state_bound}
 use Rattle.fri_requests.specs.Claims.{batch_numbers, batch_listed}
 use Rattle.fri_requests.specs.Committed.{IsCommittedTo}
+use Rattle.fri_requests.specs.Numbers.{extension_numbers}
 use Rattle.fri_requests.specs.Openings.{IsOpenedBy}
 use Rattle.fri_requests.specs.Statements.{IsStatement}
 
@@ -38,30 +36,30 @@ pub record IsSchemeOf {P : Type 0} (IsMade : P → Type 0) (Keeps : P → P → 
   pub is_made : IsMade made
   pub kept : Keeps made scheme
 
-module _ {P Dom D Proof Error ProverError : Type 0}
-    (rules : P → Scheme BabyBear4 Sha256Challenger BabyBear Dom (List ℕ) D Proof Error ProverError)
-    (shift_of : Dom → BabyBear) (log_size_of : Dom → ℕ) (IsScheme : P → Type 0) where
+module _ {F E : Type 0} (f : SchemeFields F E) {P Dom D Proof Error ProverError : Type 0}
+    (rules : P → Scheme E (Sha256Challenger F) F Dom (List ℕ) D Proof Error ProverError)
+    (shift_of : Dom → F) (log_size_of : Dom → ℕ) (IsScheme : P → Type 0) where
   -- of a context, as a hex text, from the state in which the challenger begins, where the index
   -- names the claims of preprocessing
-  module _ (begun : Sha256Challenger) (context : List ℕ) (parameters : Parameters)
+  module _ (begun : Sha256Challenger F) (context : List ℕ) (parameters : Parameters)
       (index : Option ℕ) (records : List BatchClaims) (proof : Proof) where
     -- the state in which the challenger has absorbed the statement
-    abbrev pub begins : Sha256Challenger
-    begins = state_bound begun context parameters records
+    abbrev pub begins : Sha256Challenger F
+    begins = state_bound f begun context parameters records
 
     -- such a scheme, and the claims that the records list
     pub record IsStated : Type 0 where
-      pub statement : IsStatement context parameters records
+      pub statement : IsStatement f context parameters records
       pub scheme : P
       pub is_of : IsScheme scheme
-      pub claims : List (Claim BabyBear4 (List ℕ) Dom)
-      pub listed : map (batch_numbers shift_of log_size_of) claims ≡ map batch_listed records
+      pub claims : List (Claim E (List ℕ) Dom)
+      pub listed : map (batch_numbers f shift_of log_size_of) claims ≡ map batch_listed records
 
     -- the scheme accepts the claims by the proof, and this is drawn next
     pub record IsAcceptedBy (next : List ℕ) : Type 0 where
       pub stated : IsStated
       pub holds : (rules stated.scheme).Accepts index begins stated.claims proof
-      pub drawn : next ≡ coefficient_numbers (sha256_moves.draw_element
+      pub drawn : next ≡ extension_numbers f ((sha256_moves (prime_fields f)).draw_element
           ((rules stated.scheme).last_state index begins stated.claims proof)).value
 
     -- it doesn't, and this is a fault that they have
@@ -70,13 +68,13 @@ module _ {P Dom D Proof Error ProverError : Type 0}
       pub fails : ¬ (rules stated.scheme).Accepts index begins stated.claims proof
       pub fault : (rules stated.scheme).IsTrueRefusal index stated.claims proof begins e
 
-  module _ (hides : Bool) (stark_rules : P → StarkScheme BabyBear4 BabyBear Dom D ProverError)
+  module _ (hides : Bool) (stark_rules : P → StarkScheme E F Dom D ProverError)
       (batches : List Batch) where
     -- the scheme's commitments to the batches
     pub record AreCommitments (commitments : List (List ℕ)) : Type 0 where
       pub scheme : P
       pub is_of : IsScheme scheme
-      pub commit : AllZip (λ commitment batch. (datum : D) × IsCommittedTo (rules scheme)
+      pub commit : AllZip (λ commitment batch. (datum : D) × IsCommittedTo f (rules scheme)
           (stark_rules scheme) hides shift_of log_size_of commitment datum batch)
           commitments batches
 
@@ -84,5 +82,5 @@ module _ {P Dom D Proof Error ProverError : Type 0}
     pub record AreOpenings (records : List BatchClaims) : Type 0 where
       pub scheme : P
       pub is_of : IsScheme scheme
-      pub opened : AllZip (IsOpenedBy (rules scheme) (stark_rules scheme) hides shift_of
+      pub opened : AllZip (IsOpenedBy f (rules scheme) (stark_rules scheme) hides shift_of
           log_size_of) (map batch_listed records) batches

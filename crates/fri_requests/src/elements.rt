@@ -1,38 +1,38 @@
 //! Elements and domains of their numbers.
 
-ghost use Rattle.std.specs.Prelude.{◌≡◌, ◌↔◌, ◌<◌, ◌≤◌, map, length, vec_len};
+ghost use Rattle.std.specs.Prelude.{◌≡◌, ◌↔◌, ◌≤◌, map, length, vec_len};
 ghost use Rattle.std.specs.Prelude.{IsSome, IfSome, IfOk, IfErr, All};
-ghost use Rattle.fri_statement.specs.Numbers.{canonical_number, coefficient_numbers};
-ghost use Rattle.fri_requests.specs.Numbers.{IsElement, IsExtensionElement};
+ghost use Rattle.fri_requests.specs.Numbers.{IsElement, IsExtensionElement, extension_numbers};
 ghost use Rattle.fri_records.specs.Failures.{IfMalformed};
 ghost use Rattle.fri_requests.specs.Statements.{IsCoset};
 
 use fri_records::{Domain, Fault, Misfit, Place, ReadError};
-use fri_schemes::Coset;
-use p3_field::{BabyBear, BabyBear4, ExtensionField, PrimeField64};
+use fri_schemes::{Coset, SchemeField, SchemeParts};
+use p3_field::{ExtensionField, Field};
 use std::alloc::{AllocError, Global};
 
 /// The element of this canonical number.
-fn element(number: u64) -> Option<BabyBear>
-    ensures some { IsSome result ↔ (number < 2013265921) }
-    ensures number { IfSome result (λ x. canonical_number x ≡ number) }
+fn element<F: SchemeField>(number: u64) -> Option<F>
+    ensures some { IsSome result ↔ IsElement ⟦<F as SchemeParts>⟧.fields number }
+    ensures number { IfSome result (λ x. F.canonical x ≡ number) }
 {
-    if number < BabyBear::ORDER_U64 {
-        Some(BabyBear::from_canonical(number))
+    if number < F::ORDER_U64 {
+        Some(F::from_canonical(number))
     } else {
         None
     }
 }
 
 /// The elements of these canonical numbers, at this place.
-pub(crate) fn elements(
+pub(crate) fn elements<F: SchemeField>(
     alloc: Global,
     numbers: &[u64],
     place: Place,
-) -> Result<Vec<BabyBear>, ReadError>
-    ensures numbers { IfOk result (λ v. map canonical_number v.items ≡ numbers.now) }
+) -> Result<Vec<F>, ReadError>
+    ensures numbers { IfOk result (λ v. map F.canonical v.items ≡ numbers.now) }
     ensures count { IfOk result (λ v. vec_len v ≡ length numbers.now) }
-    ensures refused { IfErr result (IfMalformed (¬ All IsElement numbers.now)) }
+    ensures refused { IfErr result (IfMalformed
+        (¬ All (IsElement ⟦<F as SchemeParts>⟧.fields) numbers.now)) }
 {
     let mut values = Vec::with_capacity(alloc, numbers.len())?;
     for (index, number) in numbers.iter().enumerate() {
@@ -49,9 +49,9 @@ pub(crate) fn elements(
 }
 
 /// The coefficient of this canonical number, of an element at this place.
-fn coefficient(number: u64, place: Place) -> Result<BabyBear, Misfit>
-    ensures number { IfOk result (λ x. canonical_number x ≡ number) }
-    ensures refused { IfErr result (λ _. ¬ IsElement number) }
+fn coefficient<F: SchemeField>(number: u64, place: Place) -> Result<F, Misfit>
+    ensures number { IfOk result (λ x. F.canonical x ≡ number) }
+    ensures refused { IfErr result (λ _. ¬ IsElement ⟦<F as SchemeParts>⟧.fields number) }
 {
     match element(number) {
         Some(value) => Ok(value),
@@ -60,32 +60,38 @@ fn coefficient(number: u64, place: Place) -> Result<BabyBear, Misfit>
 }
 
 /// The element of the extension with these coefficients, at this place.
-pub(crate) fn extension_element(numbers: &[u64], place: Place) -> Result<BabyBear4, Misfit>
-    ensures numbers { IfOk result (λ x. coefficient_numbers x ≡ numbers.now) }
-    ensures refused { IfErr result (λ _. ¬ IsExtensionElement numbers.now) }
+pub(crate) fn extension_element<F: SchemeField>(
+    numbers: &[u64],
+    place: Place,
+) -> Result<F::Extension, Misfit>
+    ensures numbers { IfOk result (λ x.
+        extension_numbers ⟦<F as SchemeParts>⟧.fields x ≡ numbers.now) }
+    ensures refused { IfErr result (λ _.
+        ¬ IsExtensionElement ⟦<F as SchemeParts>⟧.fields numbers.now) }
 {
-    let [constant, linear, quadratic, cubic] = numbers else {
+    if numbers.len() != <F::Extension as ExtensionField<F>>::DIMENSION {
         return Err(place.lacks(Fault::ExtensionElement));
-    };
-    let coefficients = [
-        coefficient(*constant, place)?,
-        coefficient(*linear, place)?,
-        coefficient(*quadratic, place)?,
-        coefficient(*cubic, place)?,
-    ];
-    Ok(BabyBear4::from_coefficients(&coefficients))
+    }
+    let mut element = <F::Extension as Field>::ZERO;
+    for (index, number) in numbers.iter().enumerate() {
+        let value: F = coefficient(*number, place)?;
+        element = element.with_coefficient(index, value);
+    }
+    Ok(element)
 }
 
 /// The elements of the extension with these coefficients; their indices follow `place`.
-pub(crate) fn extension_elements(
+pub(crate) fn extension_elements<F: SchemeField>(
     alloc: Global,
     lists: &[Vec<u64>],
     place: Place,
-) -> Result<Vec<BabyBear4>, ReadError>
+) -> Result<Vec<F::Extension>, ReadError>
     ensures numbers { IfOk result (λ v.
-        map coefficient_numbers v.items ≡ map (λ numbers. numbers.items) lists.now) }
+        map (extension_numbers ⟦<F as SchemeParts>⟧.fields) v.items
+        ≡ map (λ numbers. numbers.items) lists.now) }
     ensures refused { IfErr result (IfMalformed
-        (¬ All IsExtensionElement (map (λ numbers. numbers.items) lists.now))) }
+        (¬ All (IsExtensionElement ⟦<F as SchemeParts>⟧.fields)
+        (map (λ numbers. numbers.items) lists.now))) }
 {
     let mut values = Vec::with_capacity(alloc, lists.len())?;
     for (index, numbers) in lists.iter().enumerate() {
@@ -93,36 +99,42 @@ pub(crate) fn extension_elements(
             value: Some(index),
             ..place
         };
-        values.push(extension_element(numbers, place)?)?;
+        values.push(extension_element::<F>(numbers, place)?)?;
     }
     Ok(values)
 }
 
 /// The coefficients' numbers of an element of the extension.
-pub(crate) fn coefficients(alloc: Global, element: BabyBear4) -> Result<Vec<u64>, AllocError>
-    ensures { IfOk result (λ v. v.items ≡ coefficient_numbers element) }
+pub(crate) fn coefficients<F: SchemeField>(
+    alloc: Global,
+    element: F::Extension,
+) -> Result<Vec<u64>, AllocError>
+    ensures { IfOk result (λ v.
+        v.items ≡ extension_numbers ⟦<F as SchemeParts>⟧.fields element) }
 {
-    let constant: BabyBear = element.coefficient(0);
-    let linear: BabyBear = element.coefficient(1);
-    let quadratic: BabyBear = element.coefficient(2);
-    let cubic: BabyBear = element.coefficient(3);
-    Ok(vec![in alloc;
-        constant.as_canonical_u64(),
-        linear.as_canonical_u64(),
-        quadratic.as_canonical_u64(),
-        cubic.as_canonical_u64(),
-    ]?)
+    let degree = <F::Extension as ExtensionField<F>>::DIMENSION;
+    let mut numbers = Vec::with_capacity(alloc, degree)?;
+    for index in 0..degree {
+        let value: F = element.coefficient(index);
+        numbers.push(value.as_canonical_u64())?;
+    }
+    Ok(numbers)
 }
 
 /// The coset of a domain, of at most `2^most` points.
-pub(crate) fn coset(domain: &Domain, most: usize, place: Place) -> Result<Coset, Misfit>
-    requires most { most ≤ 27 }
+pub(crate) fn coset<F: SchemeField>(
+    domain: &Domain,
+    most: usize,
+    place: Place,
+) -> Result<Coset<F>, Misfit>
+    requires most { most ≤ F.TWO_ADICITY }
     ensures size { IfOk result (λ c. c.log_size ≡ domain.now.log_size) }
     ensures room { IfOk result (λ c. c.log_size ≤ most) }
-    ensures shift { IfOk result (λ c. canonical_number c.shift ≡ domain.now.shift) }
-    ensures well_formed { IfOk result (λ _. IsCoset most domain.now.shift domain.now.log_size) }
-    ensures refused { IfErr result (λ _.
-        ¬ IsCoset most domain.now.shift domain.now.log_size) }
+    ensures shift { IfOk result (λ c. F.canonical c.shift ≡ domain.now.shift) }
+    ensures well_formed { IfOk result (λ _. IsCoset ⟦<F as SchemeParts>⟧.fields most
+        domain.now.shift domain.now.log_size) }
+    ensures refused { IfErr result (λ _. ¬ IsCoset ⟦<F as SchemeParts>⟧.fields most
+        domain.now.shift domain.now.log_size) }
 {
     if domain.log_size > most {
         return Err(place.lacks(Fault::LogSize));
@@ -137,8 +149,8 @@ pub(crate) fn coset(domain: &Domain, most: usize, place: Place) -> Result<Coset,
 }
 
 /// The domain of a coset.
-pub(crate) fn domain(coset: Coset) -> Domain
-    ensures shift { result.shift ≡ canonical_number coset.shift }
+pub(crate) fn domain<F: SchemeField>(coset: Coset<F>) -> Domain
+    ensures shift { result.shift ≡ F.canonical coset.shift }
     ensures log_size { result.log_size ≡ coset.log_size }
 {
     Domain {

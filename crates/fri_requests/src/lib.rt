@@ -1,8 +1,9 @@
-//! Schemes over records of numbers and texts, at BabyBear, its extension of degree 4 and SHA-256: a
-//! request is committed to and opened, claims and their proof are verified, each from a fresh
-//! challenger that first absorbs the whole statement: by what the scheme hides, if it does, the
-//! context, parameters, commitments, domains, widths and points. serde's formats write and read the
-//! records.
+//! Schemes over records of numbers and texts, at any field that schemes are made over, its
+//! extension and SHA-256. A request is committed to and opened, claims and their proof are
+//! verified, each from a fresh challenger that first absorbs the whole statement: by what the
+//! scheme hides, if it does, the context, parameters, commitments, domains, widths and points.
+//! serde's formats write and read the records, which name no field: each side knows its own.
+//!
 //! The calls serve each scheme that is made of parameters; `plain` has those of the plain scheme.
 //!
 //! So what is accepted are values of the polynomials committed to, for this context. A point that
@@ -12,7 +13,7 @@
 //! Whatever comes from outside is tested and refused by name, with its place, before anything is
 //! committed to. No call halts. What a call takes of time and memory follows from the request: an
 //! opening makes `2^log_blowup` values of each that is committed to, and tries some `2^b` witnesses
-//! for a proof of work of `b` bits, at most all elements of BabyBear.
+//! for a proof of work of `b` bits, at most all elements of the field.
 #![tactic(auto)]
 
 mod claims;
@@ -20,9 +21,11 @@ mod committed;
 mod elements;
 mod masking;
 mod matrices;
+mod naming;
 mod opening;
 pub mod plain;
 mod prepared;
+mod prover;
 mod reading;
 mod refusal;
 mod statement;
@@ -31,10 +34,11 @@ mod verification;
 pub use crate::committed::commit;
 pub use crate::masking::Masking;
 pub use crate::opening::{Opening, open};
+pub use crate::prover::Prover;
 pub use crate::statement::challenge;
 pub use crate::verification::verify;
 pub use fri_records::{
     Batch, BatchClaims, Domain, Fault, Matrix, MatrixClaims, Misfit, Parameters, Place,
     PointClaims, ReadError, Record, Request, RequestError, VerifierError, VerifyError,
 };
-pub use fri_schemes::{HidingScheme, MadeScheme, PlainScheme};
+pub use fri_schemes::{HidingScheme, MadeScheme, PlainScheme, SchemeField};

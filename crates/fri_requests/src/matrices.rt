@@ -8,30 +8,30 @@ ghost use Rattle.p3_matrix.specs.Rows.{rows_of};
 ghost use Rattle.fri_schemes.specs.Rows.{log_committed, FitsRows};
 ghost use Rattle.fri_requests.specs.Committed.{IsListed, AreListed};
 ghost use Rattle.fri_records.specs.Failures.{IfMalformed};
-ghost use Rattle.fri_statement.specs.Numbers.{coefficient_numbers};
+ghost use Rattle.fri_requests.specs.Numbers.{extension_numbers};
 ghost use Rattle.fri_requests.specs.Requests.{IsMatrix, HasPoints};
 
 use crate::elements::{coset, elements, extension_element};
 use fri_records::{Batch, Fault, Matrix, Place, ReadError};
-use fri_schemes::Coset;
-use p3_field::{BabyBear, BabyBear4, TwoAdicField, TwoAdicMultiplicativeCoset};
+use fri_schemes::{Coset, SchemeField, SchemeParts};
+use p3_field::TwoAdicMultiplicativeCoset;
 use p3_matrix::RowMajorMatrix;
 use std::alloc::Global;
 
 /// A matrix on its domain.
-pub(crate) type Evaluations = (Coset, RowMajorMatrix<BabyBear>);
+pub(crate) type Evaluations<F> = (Coset<F>, RowMajorMatrix<F>);
 
 /// Whether `count` is the product of the width and `2^log_size`.
 fn is_count(count: usize, width: usize, log_size: usize) -> bool
     requires some { 0 < width }
-    requires low { log_size ≤ 27 }
+    requires low { log_size < 64 }
     ensures { IsTrue result ↔ (count ≡ width * 2 ^ log_size) }
 {
     count % width == 0 && count / width == 1 << log_size
 }
 
 /// The matrix of these values.
-fn matrix_of(values: Vec<BabyBear>, width: usize, log_size: usize) -> RowMajorMatrix<BabyBear>
+fn matrix_of<F: SchemeField>(values: Vec<F>, width: usize, log_size: usize) -> RowMajorMatrix<F>
     requires some { 0 < width }
     requires size { vec_len values ≡ width * 2 ^ log_size }
     ensures height { length (rows result) ≡ 2 ^ log_size }
@@ -43,15 +43,15 @@ fn matrix_of(values: Vec<BabyBear>, width: usize, log_size: usize) -> RowMajorMa
 
 /// The logarithm of the greatest size of a domain on which a matrix may be listed, so that the
 /// domain on which it is committed to has room for its extension.
-fn room_of(log_blowup: usize, hides: bool) -> Option<usize>
-    requires blowup { log_blowup ≤ 27 }
+fn room_of<F: SchemeField>(log_blowup: usize, hides: bool) -> Option<usize>
+    requires blowup { log_blowup ≤ F.TWO_ADICITY }
     ensures none { IsNone result
-        → (log_size : ℕ) → ¬ (log_committed hides log_size + log_blowup ≤ 27) }
-    ensures low { IfSome result (λ most. most ≤ 27) }
+        → (log_size : ℕ) → ¬ (log_committed hides log_size + log_blowup ≤ F.TWO_ADICITY) }
+    ensures low { IfSome result (λ most. most ≤ F.TWO_ADICITY) }
     ensures some { IfSome result (λ most. (log_size : ℕ)
-        → (log_size ≤ most) ↔ (log_committed hides log_size + log_blowup ≤ 27)) }
+        → (log_size ≤ most) ↔ (log_committed hides log_size + log_blowup ≤ F.TWO_ADICITY)) }
 {
-    let room = BabyBear::TWO_ADICITY - log_blowup;
+    let room = F::TWO_ADICITY - log_blowup;
     if hides {
         room.checked_sub(1)
     } else {
@@ -60,8 +60,8 @@ fn room_of(log_blowup: usize, hides: bool) -> Option<usize>
 }
 
 /// The domain on which a matrix is committed to that is listed on this one.
-fn domain_committed(domain: Coset, hides: bool) -> Coset
-    requires room { log_committed hides domain.log_size ≤ 27 }
+fn domain_committed<F: SchemeField>(domain: Coset<F>, hides: bool) -> Coset<F>
+    requires room { log_committed hides domain.log_size ≤ F.TWO_ADICITY }
     ensures shift { result.shift ≡ domain.shift }
     ensures size { result.log_size ≡ log_committed hides domain.log_size }
 {
@@ -76,24 +76,26 @@ fn domain_committed(domain: Coset, hides: bool) -> Coset
 }
 
 /// A matrix on the domain on which it is committed to, with room for its extension.
-fn evaluations(
+fn evaluations<F: SchemeField>(
     alloc: Global,
     matrix: &Matrix,
     log_blowup: usize,
     hides: bool,
     place: Place,
-) -> Result<Evaluations, ReadError>
-    requires blowup { log_blowup ≤ 27 }
-    ensures fits { IfOk result (λ e. FitsRows hides log_blowup e.0.log_size e.1) }
-    ensures listed { IfOk result (λ e.
-        IsListed hides (λ d. d.shift) (λ d. d.log_size) e matrix.now) }
-    ensures well_formed { IfOk result (λ _. IsMatrix hides log_blowup matrix.now) }
-    ensures refused { IfErr result (IfMalformed (¬ IsMatrix hides log_blowup matrix.now)) }
+) -> Result<Evaluations<F>, ReadError>
+    requires blowup { log_blowup ≤ F.TWO_ADICITY }
+    ensures fits { IfOk result (λ e. FitsRows F.TWO_ADICITY hides log_blowup e.0.log_size e.1) }
+    ensures listed { IfOk result (λ e. IsListed ⟦<F as SchemeParts>⟧.fields hides (λ d. d.shift)
+        (λ d. d.log_size) e matrix.now) }
+    ensures well_formed { IfOk result (λ _.
+        IsMatrix ⟦<F as SchemeParts>⟧.fields hides log_blowup matrix.now) }
+    ensures refused { IfErr result (IfMalformed
+        (¬ IsMatrix ⟦<F as SchemeParts>⟧.fields hides log_blowup matrix.now)) }
 {
-    let Some(most) = room_of(log_blowup, hides) else {
+    let Some(most) = room_of::<F>(log_blowup, hides) else {
         return Err(place.lacks(Fault::LogSize).into());
     };
-    let domain = coset(&matrix.domain, most, place)?;
+    let domain = coset::<F>(&matrix.domain, most, place)?;
     if matrix.width == 0 {
         return Err(place.lacks(Fault::Width).into());
     }
@@ -106,22 +108,22 @@ fn evaluations(
 }
 
 /// The matrices of the commitment at this place.
-pub(crate) fn batch_evaluations(
+pub(crate) fn batch_evaluations<F: SchemeField>(
     alloc: Global,
     batch: &Batch,
     log_blowup: usize,
     hides: bool,
     place: Place,
-) -> Result<Vec<Evaluations>, ReadError>
-    requires blowup { log_blowup ≤ 27 }
+) -> Result<Vec<Evaluations<F>>, ReadError>
+    requires blowup { log_blowup ≤ F.TWO_ADICITY }
     ensures fit { IfOk result (λ all.
-        All (λ e. FitsRows hides log_blowup e.0.log_size e.1) all.items) }
-    ensures listed { IfOk result (λ all.
-        AreListed hides (λ d. d.shift) (λ d. d.log_size) all.items batch.now) }
+        All (λ e. FitsRows F.TWO_ADICITY hides log_blowup e.0.log_size e.1) all.items) }
+    ensures listed { IfOk result (λ all. AreListed ⟦<F as SchemeParts>⟧.fields hides (λ d. d.shift)
+        (λ d. d.log_size) all.items batch.now) }
     ensures well_formed { IfOk result (λ _.
-        All (IsMatrix hides log_blowup) batch.now.matrices.items) }
-    ensures refused { IfErr result (IfMalformed
-        (¬ All (IsMatrix hides log_blowup) batch.now.matrices.items)) }
+        All (IsMatrix ⟦<F as SchemeParts>⟧.fields hides log_blowup) batch.now.matrices.items) }
+    ensures refused { IfErr result (IfMalformed (¬ All
+        (IsMatrix ⟦<F as SchemeParts>⟧.fields hides log_blowup) batch.now.matrices.items)) }
 {
     let mut all = Vec::with_capacity(alloc, batch.matrices.len())?;
     for (index, matrix) in batch.matrices.iter().enumerate() {
@@ -135,11 +137,16 @@ pub(crate) fn batch_evaluations(
 }
 
 /// The points of a matrix, of which there are some.
-fn points(alloc: Global, matrix: &Matrix, place: Place) -> Result<Vec<BabyBear4>, ReadError>
+fn points<F: SchemeField>(
+    alloc: Global,
+    matrix: &Matrix,
+    place: Place,
+) -> Result<Vec<F::Extension>, ReadError>
     ensures some { IfOk result (λ v. v.items ≢ []) }
-    ensures numbers { IfOk result (λ v.
-        map coefficient_numbers v.items ≡ lists matrix.now.points.items) }
-    ensures refused { IfErr result (IfMalformed (¬ HasPoints matrix.now)) }
+    ensures numbers { IfOk result (λ v. map (extension_numbers ⟦<F as SchemeParts>⟧.fields)
+        v.items ≡ lists matrix.now.points.items) }
+    ensures refused { IfErr result (IfMalformed
+        (¬ HasPoints ⟦<F as SchemeParts>⟧.fields matrix.now)) }
 {
     if matrix.points.is_empty() {
         return Err(place.lacks(Fault::Points).into());
@@ -150,21 +157,23 @@ fn points(alloc: Global, matrix: &Matrix, place: Place) -> Result<Vec<BabyBear4>
             point: Some(index),
             ..place
         };
-        all.push(extension_element(point, place)?)?;
+        all.push(extension_element::<F>(point, place)?)?;
     }
     Ok(all)
 }
 
 /// The points of each matrix of the commitment at this place.
-pub(crate) fn batch_points(
+pub(crate) fn batch_points<F: SchemeField>(
     alloc: Global,
     batch: &Batch,
     place: Place,
-) -> Result<Vec<Vec<BabyBear4>>, ReadError>
+) -> Result<Vec<Vec<F::Extension>>, ReadError>
     ensures some { IfOk result (λ all. All (λ zs. zs ≢ []) (lists all.items)) }
-    ensures numbers { IfOk result (λ all. map (map coefficient_numbers) (lists all.items)
+    ensures numbers { IfOk result (λ all.
+        map (map (extension_numbers ⟦<F as SchemeParts>⟧.fields)) (lists all.items)
         ≡ map (λ m. lists m.points.items) batch.now.matrices.items) }
-    ensures refused { IfErr result (IfMalformed (¬ All HasPoints batch.now.matrices.items)) }
+    ensures refused { IfErr result (IfMalformed
+        (¬ All (HasPoints ⟦<F as SchemeParts>⟧.fields) batch.now.matrices.items)) }
 {
     let mut all = Vec::with_capacity(alloc, batch.matrices.len())?;
     for (index, matrix) in batch.matrices.iter().enumerate() {
@@ -172,7 +181,7 @@ pub(crate) fn batch_points(
             matrix: Some(index),
             ..place
         };
-        all.push(points(alloc, matrix, place)?)?;
+        all.push(points::<F>(alloc, matrix, place)?)?;
     }
     Ok(all)
 }

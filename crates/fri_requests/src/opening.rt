@@ -19,18 +19,17 @@ use crate::prepared::prepare;
 use crate::refusal::refusal;
 use crate::statement::next_drawn;
 use fri_records::{BatchClaims, Request, RequestError, prover_parameters};
-use fri_schemes::{Coset, MadeScheme};
+use fri_schemes::{Coset, MadeScheme, SchemeField, SchemeParts};
 use p3_challenger_sha256::Sha256Challenger;
-use p3_field::BabyBear4;
 use p3_pcs::{KnownCommitment, OpeningRequest, claims_of};
 use std::alloc::{AllocError, Global};
 
 /// Requests to open committed data at these points.
-fn requests_of<'a, D, Domain>(
+pub(crate) fn requests_of<'a, D, Domain, EF: Drop>(
     alloc: Global,
     all: &'a mut [Committed<D, Domain>],
-    points: Vec<Vec<Vec<BabyBear4>>>,
-) -> Result<Vec<OpeningRequest<'a, D, BabyBear4>>, AllocError>
+    points: Vec<Vec<Vec<EF>>>,
+) -> Result<Vec<OpeningRequest<'a, D, EF>>, AllocError>
     ensures { IfOk result (λ requests. map request requests.items
         ≡ requests_for all.old (nested points.items)) }
 {
@@ -46,14 +45,14 @@ fn requests_of<'a, D, Domain>(
 
 /// Answers honest requests, of whose data a verifier knows these commitments and domains, and of
 /// which the index names the one of preprocessing.
-fn open_requests<P: MadeScheme>(
+fn open_requests<F: SchemeField, P: MadeScheme<F, F::Extension, Coset<F>>>(
     alloc: Global,
     scheme: &P,
-    known: &[KnownCommitment<[u8; 32], Coset>],
-    requests: &mut [OpeningRequest<'_, P::ProverData, BabyBear4>],
+    known: &[KnownCommitment<[u8; 32], Coset<F>>],
+    requests: &mut [OpeningRequest<'_, P::ProverData, F::Extension>],
     preprocessing: Option<usize>,
-    challenger: &mut Sha256Challenger,
-) -> Result<(Claims, P::Proof), RequestError<P::ProverError>>
+    challenger: &mut Sha256Challenger<F>,
+) -> Result<(Claims<F>, P::Proof), RequestError<P::ProverError>>
     requires range { (P.rules scheme.now).InProverRange }
     requires shape { (P.stark_rules scheme.now).CanOpenAt preprocessing
         (map request requests.old) }
@@ -74,22 +73,22 @@ fn open_requests<P: MadeScheme>(
     let opened = scheme.open_with_preprocessing(alloc, &mut *requests, challenger, preprocessing);
     let (values, proof) = match opened {
         Ok(opening) => opening,
-        Err(error) => return Err(refusal::<P>(error)),
+        Err(error) => return Err(refusal::<F, P>(error)),
     };
     let claims = claims_of(alloc, known, &*requests, values.as_slice())?;
     Ok((claims, proof))
 }
 
 /// Opens what is kept under commitments, as a verifier knows them, at these points.
-fn open_committed<P: MadeScheme>(
+fn open_committed<F: SchemeField, P: MadeScheme<F, F::Extension, Coset<F>>>(
     alloc: Global,
     scheme: &P,
-    known: &[KnownCommitment<[u8; 32], Coset>],
-    all: &mut [Committed<P::ProverData, Coset>],
-    points: Vec<Vec<Vec<BabyBear4>>>,
+    known: &[KnownCommitment<[u8; 32], Coset<F>>],
+    all: &mut [Committed<P::ProverData, Coset<F>>],
+    points: Vec<Vec<Vec<F::Extension>>>,
     preprocessing: Option<usize>,
-    challenger: &mut Sha256Challenger,
-) -> Result<(Claims, P::Proof), RequestError<P::ProverError>>
+    challenger: &mut Sha256Challenger<F>,
+) -> Result<(Claims<F>, P::Proof), RequestError<P::ProverError>>
     requires range { (P.rules scheme.now).InProverRange }
     requires shape { (P.stark_rules scheme.now).CanOpenAt preprocessing
         (requests_for all.old (nested points.items)) }
@@ -110,7 +109,7 @@ fn open_committed<P: MadeScheme>(
         × (¬ P.IsMemory e))) }
 {
     let mut requests = requests_of(alloc, all, points)?;
-    open_requests::<P>(
+    open_requests::<F, P>(
         alloc,
         scheme,
         known,
@@ -137,39 +136,43 @@ pub struct Opening<Proof> {
 /// commitments with the domains, widths and points of their matrices. `verify` accepts what comes
 /// of it under that context. In a scheme that hides, a claim names the domain on which the masked
 /// matrix was committed to, which has twice as many points as the listed one, those at even places.
-pub fn open<P: MadeScheme>(
+pub fn open<F: SchemeField, P: MadeScheme<F, F::Extension, Coset<F>>>(
     alloc: Global,
     request: &Request,
     masking: Masking,
 ) -> Result<Opening<P::Proof>, RequestError<P::ProverError>>
-    ensures accepted { IfOk result (λ o. IsAcceptedBy P.rules (λ d. d.shift) (λ d. d.log_size)
+    ensures accepted { IfOk result (λ o. IsAcceptedBy ⟦<F as SchemeParts>⟧.fields P.rules
+        (λ d. d.shift) (λ d. d.log_size)
         (IsMadeWith P.IsMade request.now.parameters masking.num_random_codewords masking.seed)
         (P.begun masking.num_random_codewords o.preprocessing)
         (string_bytes request.now.context) request.now.parameters o.preprocessing o.claims.items
         o.proof o.next_challenge.items) }
-    ensures opened { IfOk result (λ o. AreOpenings P.rules (λ d. d.shift) (λ d. d.log_size)
+    ensures opened { IfOk result (λ o. AreOpenings ⟦<F as SchemeParts>⟧.fields P.rules
+        (λ d. d.shift) (λ d. d.log_size)
         (IsSchemeOf (IsMadeWith P.IsMade request.now.parameters masking.num_random_codewords
         masking.seed) P.Keeps) P.ZK P.stark_rules request.now.commitments.items
         o.claims.items) }
     ensures named { IfOk result (λ o.
         NamesPreprocessed o.preprocessing request.now.commitments.items) }
-    ensures well_formed { IfOk result (λ _. CanOpen P.ZK request.now) }
+    ensures well_formed { IfOk result (λ _.
+        CanOpen ⟦<F as SchemeParts>⟧.fields P.ZK request.now) }
     // where it can't be opened, where the scheme refuses it
-    ensures refused { IfErr result (MatchRequestError (¬ CanOpen P.ZK request.now)
-        (IsUnopened P.rules P.stark_rules P.IsMemory
+    ensures refused { IfErr result (MatchRequestError
+        (¬ CanOpen ⟦<F as SchemeParts>⟧.fields P.ZK request.now)
+        (IsUnopened ⟦<F as SchemeParts>⟧.fields P.rules P.stark_rules P.IsMemory
         (IsSchemeOf (IsMadeWith P.IsMade request.now.parameters masking.num_random_codewords
         masking.seed) P.Keeps) P.ZK (λ d. d.shift) (λ d. d.log_size)
         (λ index. P.begun masking.num_random_codewords index) request.now)) }
 {
-    let fri = match prover_parameters(&request.parameters) {
+    let fri = match prover_parameters::<F, F::Extension>(&request.parameters) {
         Ok(fri) => fri,
         Err(misfit) => return Err(RequestError::Malformed(misfit)),
     };
     let mut scheme = P::made(fri, masking.num_random_codewords, masking.seed);
     let codewords = masking.num_random_codewords;
-    let mut prepared = prepare::<P>(alloc, &mut scheme, request, codewords)?;
+    let mut prepared = prepare::<F, P>(alloc, &mut scheme, request, codewords)?;
     let points = prepared.points;
-    let (claims, proof) = open_committed::<P>(
+    let (claims, proof) = open_committed::<F, P>(
         alloc,
         &scheme,
         &prepared.known,

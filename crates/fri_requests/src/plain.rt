@@ -17,14 +17,19 @@ use crate::masking::Masking;
 use crate::opening::{Opening, open as open_by};
 use crate::verification::verify as verify_by;
 use fri_records::{BatchClaims, Parameters, Request, RequestError, Rounds, VerifyError};
-use fri_schemes::{Inputs, PlainScheme};
-use p3_field::{BabyBear, BabyBear4};
+use fri_schemes::{Inputs, PlainScheme, SchemeField, SchemeParts};
+use p3_field::BabyBear;
 use p3_fri_folding::FriProverError;
 use p3_fri_relation::proof::{BatchMultiOpening, FriProof};
 use std::alloc::Global;
 
-/// The plain scheme's proof.
-pub type Proof = FriProof<BabyBear4, Rounds, BabyBear, Vec<BatchMultiOpening<BabyBear, Inputs>>>;
+/// The plain scheme's proof over the field `F`.
+pub type Proof<F = BabyBear> = FriProof<
+    <F as SchemeField>::Extension,
+    Rounds<<F as SchemeField>::Extension>,
+    F,
+    Vec<BatchMultiOpening<F, Inputs<F>>>,
+>;
 
 /// Nothing is masked.
 const NOTHING: Masking = Masking {
@@ -32,55 +37,62 @@ const NOTHING: Masking = Masking {
     seed: [0; 32],
 };
 
-/// The commitments of a request, each 32 bytes, in order. Its points aren't read.
-pub fn commit(
+/// The commitments of a request over the field `F`, each 32 bytes, in order. Its points aren't
+/// read.
+pub fn commit<F: SchemeField>(
     alloc: Global,
     request: &Request,
 ) -> Result<Vec<[u8; 32]>, RequestError<FriProverError>>
-    ensures committed { IfOk result (λ commitments.
-        AllZip (IsCommitmentTo request.now.parameters.log_blowup) commitments.items
+    ensures committed { IfOk result (λ commitments. AllZip (IsCommitmentTo
+        ⟦<F as SchemeParts>⟧.fields request.now.parameters.log_blowup) commitments.items
         request.now.commitments.items) }
-    ensures well_formed { IfOk result (λ _. CanCommit false request.now) }
+    ensures well_formed { IfOk result (λ _.
+        CanCommit ⟦<F as SchemeParts>⟧.fields false request.now) }
     // the scheme itself refuses for want of memory alone
-    ensures refused { IfErr result
-        (MatchRequestError (¬ CanCommit false request.now) (λ _. ⊥)) }
+    ensures refused { IfErr result (MatchRequestError
+        (¬ CanCommit ⟦<F as SchemeParts>⟧.fields false request.now) (λ _. ⊥)) }
 {
-    commit_by::<PlainScheme>(alloc, request, NOTHING)
+    commit_by::<F, PlainScheme<F>>(alloc, request, NOTHING)
 }
 
-/// Commits to a request's matrices and opens them at its points, as `open` of any scheme does. The
-/// preprocessed batch is opened as the others.
-pub fn open(
+/// Commits to a request's matrices over the field `F` and opens them at its points, as `open` of
+/// any scheme does. The preprocessed batch is opened as the others.
+pub fn open<F: SchemeField>(
     alloc: Global,
     request: &Request,
-) -> Result<Opening<Proof>, RequestError<FriProverError>>
-    ensures accepted { IfOk result (λ o. IsAccepted (string_bytes request.now.context)
-        request.now.parameters o.claims.items (proof_of o.proof) o.next_challenge.items) }
-    ensures opened { IfOk result (λ o. AllZip (IsOpened request.now.parameters.log_blowup)
-        (map batch_listed o.claims.items) request.now.commitments.items) }
-    ensures well_formed { IfOk result (λ _. CanOpen false request.now) }
+) -> Result<Opening<Proof<F>>, RequestError<FriProverError>>
+    ensures accepted { IfOk result (λ o. IsAccepted ⟦<F as SchemeParts>⟧.fields
+        (string_bytes request.now.context) request.now.parameters o.claims.items
+        (proof_of o.proof) o.next_challenge.items) }
+    ensures opened { IfOk result (λ o. AllZip (IsOpened ⟦<F as SchemeParts>⟧.fields
+        request.now.parameters.log_blowup) (map batch_listed o.claims.items)
+        request.now.commitments.items) }
+    ensures well_formed { IfOk result (λ _.
+        CanOpen ⟦<F as SchemeParts>⟧.fields false request.now) }
     // where it can't be opened, where the scheme refuses it
-    ensures refused { IfErr result (MatchRequestError (¬ CanOpen false request.now)
-        (IsRefusedRequest request.now)) }
+    ensures refused { IfErr result (MatchRequestError
+        (¬ CanOpen ⟦<F as SchemeParts>⟧.fields false request.now)
+        (IsRefusedRequest ⟦<F as SchemeParts>⟧.fields F.LEN F.Extension.LEN request.now)) }
 {
-    open_by::<PlainScheme>(alloc, request, NOTHING)
+    open_by::<F, PlainScheme<F>>(alloc, request, NOTHING)
 }
 
-/// Verifies claims and their proof, as `verify` of any scheme does, and answers what the challenger
-/// draws next.
-pub fn verify(
+/// Verifies claims and their proof over the field `F`, as `verify` of any scheme does, and answers
+/// what the challenger draws next.
+pub fn verify<F: SchemeField>(
     alloc: Global,
     context: &str,
     parameters: &Parameters,
     claims: &[BatchClaims],
-    proof: &Proof,
+    proof: &Proof<F>,
 ) -> Result<Vec<u64>, VerifyError>
-    ensures accepted { IfOk result (λ next.
-        IsAccepted context.now parameters.now claims.now (proof_of proof.now) next.items) }
+    ensures accepted { IfOk result (λ next. IsAccepted ⟦<F as SchemeParts>⟧.fields context.now
+        parameters.now claims.now (proof_of proof.now) next.items) }
     // where it isn't well formed, where it is refused
     ensures refused { IfErr result (MatchVerifyError
-        (¬ IsStatement context.now parameters.now claims.now)
-        (IsRefused context.now parameters.now claims.now (proof_of proof.now))) }
+        (¬ IsStatement ⟦<F as SchemeParts>⟧.fields context.now parameters.now claims.now)
+        (IsRefused ⟦<F as SchemeParts>⟧.fields context.now parameters.now claims.now
+        (proof_of proof.now))) }
 {
-    verify_by::<PlainScheme>(alloc, context, parameters, 0, None, claims, proof)
+    verify_by::<F, PlainScheme<F>>(alloc, context, parameters, 0, None, claims, proof)
 }

@@ -16,28 +16,27 @@ use crate::committed::{Committed, commit_all};
 use crate::reading::read_request;
 use crate::statement::{batches_stated, bound_challenger};
 use fri_records::{Request, RequestError};
-use fri_schemes::{Coset, MadeScheme};
+use fri_schemes::{Coset, MadeScheme, SchemeField, SchemeParts};
 use p3_challenger_sha256::Sha256Challenger;
-use p3_field::BabyBear4;
 use p3_pcs::KnownCommitment;
 use std::alloc::{AllocError, Global};
 
 /// What is to be opened of a request.
 #[derive(Drop)]
-pub(crate) struct Prepared<D> {
-    pub committed: Vec<Committed<D, Coset>>,
+pub(crate) struct Prepared<F: SchemeField, D> {
+    pub committed: Vec<Committed<D, Coset<F>>>,
     /// What a verifier knows of these.
-    pub known: Vec<KnownCommitment<[u8; 32], Coset>>,
+    pub known: Vec<KnownCommitment<[u8; 32], Coset<F>>>,
     /// Those of each matrix of each commitment.
-    pub points: Vec<Vec<Vec<BabyBear4>>>,
+    pub points: Vec<Vec<Vec<F::Extension>>>,
     /// The place of the preprocessed batch, if there is one.
     pub preprocessing: Option<usize>,
     /// It has absorbed the statement.
-    pub challenger: Sha256Challenger,
+    pub challenger: Sha256Challenger<F>,
 }
 
 /// What a verifier knows of the commitments.
-fn known_of<D, Domain: Copy>(
+pub(crate) fn known_of<D, Domain: Copy>(
     alloc: Global,
     all: &[Committed<D, Domain>],
 ) -> Result<Vec<KnownCommitment<[u8; 32], Domain>>, AllocError>
@@ -59,40 +58,42 @@ fn known_of<D, Domain: Copy>(
 /// Commits to a request's matrices and absorbs its statement: by what the scheme hides, if it does,
 /// the context, the parameters, and the commitments with the domains, widths and points of their
 /// matrices.
-pub(crate) fn prepare<P: MadeScheme>(
+pub(crate) fn prepare<F: SchemeField, P: MadeScheme<F, F::Extension, Coset<F>>>(
     alloc: Global,
     scheme: &mut P,
     request: &Request,
     num_random_codewords: usize,
-) -> Result<Prepared<P::ProverData>, RequestError<P::ProverError>>
-    requires provers { AreProvers request.now.parameters }
-    requires room { CommitsRows (P.rules scheme.old) (λ d. d.log_size) P.ZK
-        request.now.parameters.log_blowup }
+) -> Result<Prepared<F, P::ProverData>, RequestError<P::ProverError>>
+    requires provers { AreProvers F.TWO_ADICITY request.now.parameters }
+    requires room { CommitsRows (P.rules scheme.old) F.TWO_ADICITY (λ d. d.log_size)
+        P.ZK request.now.parameters.log_blowup }
     ensures kept { P.Keeps scheme.old scheme.new }
-    ensures keeps { IfOk result (λ p. AllZip (Keeps (P.rules scheme.new)
-        (P.stark_rules scheme.new) P.ZK (λ d. d.shift) (λ d. d.log_size)) p.committed.items
-        request.now.commitments.items) }
+    ensures keeps { IfOk result (λ p. AllZip (Keeps ⟦<F as SchemeParts>⟧.fields
+        (P.rules scheme.new) (P.stark_rules scheme.new) P.ZK (λ d. d.shift) (λ d. d.log_size))
+        p.committed.items request.now.commitments.items) }
     ensures commitments { IfOk result (λ p.
         map (λ k. k.commitment) p.known.items ≡ map (λ c. c.commitment) p.committed.items) }
     ensures domains { IfOk result (λ p. map (λ k. k.domains.items) p.known.items
         ≡ map (λ c. c.domains.items) p.committed.items) }
-    ensures points { IfOk result (λ p.
-        ArePoints (nested p.points.items) request.now.commitments.items) }
+    ensures points { IfOk result (λ p. ArePoints ⟦<F as SchemeParts>⟧.fields
+        (nested p.points.items) request.now.commitments.items) }
     ensures named { IfOk result (λ p.
         NamesPreprocessed p.preprocessing request.now.commitments.items) }
-    ensures state { IfOk result (λ p. p.challenger ≡ state_asked P.ZK
+    ensures state { IfOk result (λ p. p.challenger ≡ state_asked ⟦<F as SchemeParts>⟧.fields P.ZK
         (P.begun num_random_codewords p.preprocessing) request.now
         (map (λ c. c.commitment) p.committed.items)) }
-    ensures well_formed { IfOk result (λ _. CanOpen P.ZK request.now) }
-    ensures refused { IfErr result (MatchRequestError (¬ CanOpen P.ZK request.now)
-        (λ e. CanOpen P.ZK request.now × RefusesBatch P.rules P.stark_rules P.IsMemory
-        (λ s. P.Keeps scheme.old s) P.ZK (λ d. d.shift) (λ d. d.log_size)
-        request.now.commitments.items e)) }
+    ensures well_formed { IfOk result (λ _.
+        CanOpen ⟦<F as SchemeParts>⟧.fields P.ZK request.now) }
+    ensures refused { IfErr result (MatchRequestError
+        (¬ CanOpen ⟦<F as SchemeParts>⟧.fields P.ZK request.now)
+        (λ e. CanOpen ⟦<F as SchemeParts>⟧.fields P.ZK request.now × RefusesBatch
+        ⟦<F as SchemeParts>⟧.fields P.rules P.stark_rules P.IsMemory (λ s. P.Keeps scheme.old s)
+        P.ZK (λ d. d.shift) (λ d. d.log_size) request.now.commitments.items e)) }
 {
     let hides = P::ZK;
     let asked = read_request(alloc, request, hides)?;
     let preprocessing = asked.batches.preprocessing;
-    let committed = commit_all::<P>(alloc, scheme, asked.batches.all)?;
+    let committed = commit_all::<F, P>(alloc, scheme, asked.batches.all)?;
     let known = known_of(alloc, &committed)?;
     let stated = batches_stated(alloc, hides, &known, &asked.points, &request.commitments)?;
     let begun = P::begin(alloc, num_random_codewords, preprocessing)?;

@@ -17,32 +17,31 @@ ghost use Rattle.fri_requests.specs.Requests.{CanOpen};
 use crate::matrices::{batch_evaluations, batch_points};
 use crate::statement::context_of;
 use fri_records::{Batch, Fault, Misfit, Place, ReadError, Request};
-use fri_schemes::Coset;
-use p3_field::{BabyBear, BabyBear4};
+use fri_schemes::{Coset, SchemeField, SchemeParts};
 use p3_matrix::RowMajorMatrix;
 use std::alloc::Global;
 
 /// The matrices of a batch, on the domains on which they are committed to.
 #[derive(Drop)]
-pub(crate) struct ListedBatch<Domain> {
-    pub evaluations: Vec<(Domain, RowMajorMatrix<BabyBear>)>,
+pub(crate) struct ListedBatch<F, Domain> {
+    pub evaluations: Vec<(Domain, RowMajorMatrix<F>)>,
     pub preprocessed: bool,
 }
 
 /// The batches of a request.
 #[derive(Drop)]
-pub(crate) struct Batches {
-    pub all: Vec<ListedBatch<Coset>>,
+pub(crate) struct Batches<F: SchemeField> {
+    pub all: Vec<ListedBatch<F, Coset<F>>>,
     /// The place of the preprocessed batch, if there is one.
     pub preprocessing: Option<usize>,
 }
 
 /// What is to be opened of a request.
 #[derive(Drop)]
-pub(crate) struct Asked {
-    pub batches: Batches,
+pub(crate) struct Asked<F: SchemeField> {
+    pub batches: Batches<F>,
     /// Those of each matrix of each batch.
-    pub points: Vec<Vec<Vec<BabyBear4>>>,
+    pub points: Vec<Vec<Vec<F::Extension>>>,
     /// The context's bytes.
     pub context: Vec<u8>,
 }
@@ -74,27 +73,27 @@ fn preprocessing_of(batches: &[Batch]) -> Result<Option<usize>, Misfit>
 }
 
 /// The matrices of each batch.
-fn listed_batches(
+fn listed_batches<F: SchemeField>(
     alloc: Global,
     batches: &[Batch],
     log_blowup: usize,
     hides: bool,
-) -> Result<Vec<ListedBatch<Coset>>, ReadError>
-    requires blowup { log_blowup ≤ 27 }
-    ensures listed { IfOk result (λ all.
-        AllZip (Lists hides (λ d. d.shift) (λ d. d.log_size)) all.items batches.now) }
-    ensures fit { IfOk result (λ all. All (λ b. All
-        (λ e. FitsRows hides log_blowup e.0.log_size e.1) b.evaluations.items) all.items) }
+) -> Result<Vec<ListedBatch<F, Coset<F>>>, ReadError>
+    requires blowup { log_blowup ≤ F.TWO_ADICITY }
+    ensures listed { IfOk result (λ all. AllZip (Lists ⟦<F as SchemeParts>⟧.fields hides
+        (λ d. d.shift) (λ d. d.log_size)) all.items batches.now) }
+    ensures fit { IfOk result (λ all. All (λ b. All (λ e. FitsRows F.TWO_ADICITY hides log_blowup
+        e.0.log_size e.1) b.evaluations.items) all.items) }
     ensures well_formed { IfOk result (λ _.
-        AllMatrices (IsMatrix hides log_blowup) batches.now) }
+        AllMatrices (IsMatrix ⟦<F as SchemeParts>⟧.fields hides log_blowup) batches.now) }
     ensures refused { IfErr result (IfMalformed
-        (¬ AllMatrices (IsMatrix hides log_blowup) batches.now)) }
+        (¬ AllMatrices (IsMatrix ⟦<F as SchemeParts>⟧.fields hides log_blowup) batches.now)) }
 {
     let mut all = Vec::with_capacity(alloc, batches.len())?;
     for (index, batch) in batches.iter().enumerate() {
         let place = place_of(index);
         all.push(ListedBatch {
-            evaluations: batch_evaluations(alloc, batch, log_blowup, hides, place)?,
+            evaluations: batch_evaluations::<F>(alloc, batch, log_blowup, hides, place)?,
             preprocessed: batch.preprocessed,
         })?;
     }
@@ -102,39 +101,46 @@ fn listed_batches(
 }
 
 /// What batches list.
-pub(crate) fn read_batches(
+pub(crate) fn read_batches<F: SchemeField>(
     alloc: Global,
     batches: &[Batch],
     log_blowup: usize,
     hides: bool,
-) -> Result<Batches, ReadError>
-    requires blowup { log_blowup ≤ 27 }
-    ensures read { IfOk result (λ b. AreRead hides (λ d. d.shift) (λ d. d.log_size) log_blowup
-        batches.now b.preprocessing b.all.items) }
-    ensures well_formed { IfOk result (λ _. AreBatches hides log_blowup batches.now) }
-    ensures refused { IfErr result (IfMalformed (¬ AreBatches hides log_blowup batches.now)) }
+) -> Result<Batches<F>, ReadError>
+    requires blowup { log_blowup ≤ F.TWO_ADICITY }
+    ensures read { IfOk result (λ b. AreRead ⟦<F as SchemeParts>⟧.fields hides (λ d. d.shift)
+        (λ d. d.log_size) log_blowup batches.now b.preprocessing b.all.items) }
+    ensures well_formed { IfOk result (λ _.
+        AreBatches ⟦<F as SchemeParts>⟧.fields hides log_blowup batches.now) }
+    ensures refused { IfErr result (IfMalformed
+        (¬ AreBatches ⟦<F as SchemeParts>⟧.fields hides log_blowup batches.now)) }
 {
     let preprocessing = preprocessing_of(batches)?;
     Ok(Batches {
-        all: listed_batches(alloc, batches, log_blowup, hides)?,
+        all: listed_batches::<F>(alloc, batches, log_blowup, hides)?,
         preprocessing,
     })
 }
 
 /// The points of each matrix of each batch.
-fn points_of(alloc: Global, batches: &[Batch]) -> Result<Vec<Vec<Vec<BabyBear4>>>, ReadError>
-    ensures points { IfOk result (λ all. ArePoints (nested all.items) batches.now) }
-    ensures refused { IfErr result (IfMalformed (¬ AllMatrices HasPoints batches.now)) }
+pub(crate) fn points_of<F: SchemeField>(
+    alloc: Global,
+    batches: &[Batch],
+) -> Result<Vec<Vec<Vec<F::Extension>>>, ReadError>
+    ensures points { IfOk result (λ all.
+        ArePoints ⟦<F as SchemeParts>⟧.fields (nested all.items) batches.now) }
+    ensures refused { IfErr result (IfMalformed
+        (¬ AllMatrices (HasPoints ⟦<F as SchemeParts>⟧.fields) batches.now)) }
 {
     let mut all = Vec::with_capacity(alloc, batches.len())?;
     for (index, batch) in batches.iter().enumerate() {
-        all.push(batch_points(alloc, batch, place_of(index))?)?;
+        all.push(batch_points::<F>(alloc, batch, place_of(index))?)?;
     }
     Ok(all)
 }
 
 /// Whether some batch has a matrix.
-fn have_matrix(batches: &[Batch]) -> bool
+pub(crate) fn have_matrix(batches: &[Batch]) -> bool
     ensures { IsTrue result ↔ (flat_map (λ b. b.matrices.items) batches.now ≢ []) }
 {
     for batch in batches {
@@ -146,25 +152,27 @@ fn have_matrix(batches: &[Batch]) -> bool
 }
 
 /// What is to be opened of a request of a prover's parameters.
-pub(crate) fn read_request(
+pub(crate) fn read_request<F: SchemeField>(
     alloc: Global,
     request: &Request,
     hides: bool,
-) -> Result<Asked, ReadError>
-    requires provers { AreProvers request.now.parameters }
-    ensures read { IfOk result (λ a. AreRead hides (λ d. d.shift) (λ d. d.log_size)
-        request.now.parameters.log_blowup request.now.commitments.items a.batches.preprocessing
-        a.batches.all.items) }
-    ensures points { IfOk result (λ a.
-        ArePoints (nested a.points.items) request.now.commitments.items) }
+) -> Result<Asked<F>, ReadError>
+    requires provers { AreProvers F.TWO_ADICITY request.now.parameters }
+    ensures read { IfOk result (λ a. AreRead ⟦<F as SchemeParts>⟧.fields hides (λ d. d.shift)
+        (λ d. d.log_size) request.now.parameters.log_blowup request.now.commitments.items
+        a.batches.preprocessing a.batches.all.items) }
+    ensures points { IfOk result (λ a. ArePoints ⟦<F as SchemeParts>⟧.fields
+        (nested a.points.items) request.now.commitments.items) }
     ensures context { IfOk result (λ a.
         decode_of (string_bytes request.now.context) ≡ Ok a.context.items) }
-    ensures well_formed { IfOk result (λ _. CanOpen hides request.now) }
-    ensures refused { IfErr result (IfMalformed (¬ CanOpen hides request.now)) }
+    ensures well_formed { IfOk result (λ _.
+        CanOpen ⟦<F as SchemeParts>⟧.fields hides request.now) }
+    ensures refused { IfErr result (IfMalformed
+        (¬ CanOpen ⟦<F as SchemeParts>⟧.fields hides request.now)) }
 {
-    let points = points_of(alloc, &request.commitments)?;
+    let points = points_of::<F>(alloc, &request.commitments)?;
     let log_blowup = request.parameters.log_blowup;
-    let batches = read_batches(alloc, &request.commitments, log_blowup, hides)?;
+    let batches = read_batches::<F>(alloc, &request.commitments, log_blowup, hides)?;
     let context = context_of(alloc, &request.context)?;
     if !have_matrix(&request.commitments) {
         return Err(Place::NONE.lacks(Fault::Matrices).into());

@@ -9,17 +9,17 @@ ghost use Rattle.fri_requests.specs.Verdicts.{IsMadeFor, IsAcceptedBy, IsRefused
 use crate::claims::Claims;
 use crate::statement::{next_drawn, read_statement};
 use fri_records::{BatchClaims, Parameters, VerifyError, verifier_parameters};
-use fri_schemes::MadeScheme;
+use fri_schemes::{Coset, MadeScheme, SchemeField, SchemeParts};
 use p3_challenger_sha256::Sha256Challenger;
 use std::alloc::{AllocError, Global};
 
 /// Verifies claims from this challenger on, where the index names those of preprocessing.
-fn verify_claims<P: MadeScheme>(
+fn verify_claims<F: SchemeField, P: MadeScheme<F, F::Extension, Coset<F>>>(
     alloc: Global,
     scheme: &P,
-    claims: Claims,
+    claims: Claims<F>,
     proof: &P::Proof,
-    challenger: &mut Sha256Challenger,
+    challenger: &mut Sha256Challenger<F>,
     preprocessing: Option<usize>,
 ) -> Result<(), VerifyError>
     requires range { (P.rules scheme.now).InVerifierRange }
@@ -45,7 +45,7 @@ fn verify_claims<P: MadeScheme>(
 /// that has fixed them itself, or compares them with what it expects, knows what it accepts. The
 /// index names the commitment to preprocessed matrices, if there is one; a plain scheme reads
 /// neither it nor the number of random columns.
-pub fn verify<P: MadeScheme>(
+pub fn verify<F: SchemeField, P: MadeScheme<F, F::Extension, Coset<F>>>(
     alloc: Global,
     context: &str,
     parameters: &Parameters,
@@ -54,19 +54,19 @@ pub fn verify<P: MadeScheme>(
     claims: &[BatchClaims],
     proof: &P::Proof,
 ) -> Result<Vec<u64>, VerifyError>
-    ensures accepted { IfOk result (λ next. IsAcceptedBy P.rules (λ d. d.shift) (λ d. d.log_size)
-        (IsMadeFor P.IsMade parameters.now num_random_codewords)
+    ensures accepted { IfOk result (λ next. IsAcceptedBy ⟦<F as SchemeParts>⟧.fields P.rules
+        (λ d. d.shift) (λ d. d.log_size) (IsMadeFor P.IsMade parameters.now num_random_codewords)
         (P.begun num_random_codewords preprocessing) context.now parameters.now preprocessing
         claims.now proof.now next.items) }
     // where it isn't well formed, where it is refused
     ensures refused { IfErr result (MatchVerifyError
-        (¬ IsStatement context.now parameters.now claims.now)
-        (IsRefusedBy P.rules (λ d. d.shift) (λ d. d.log_size)
+        (¬ IsStatement ⟦<F as SchemeParts>⟧.fields context.now parameters.now claims.now)
+        (IsRefusedBy ⟦<F as SchemeParts>⟧.fields P.rules (λ d. d.shift) (λ d. d.log_size)
         (IsMadeFor P.IsMade parameters.now num_random_codewords)
         (P.begun num_random_codewords preprocessing) context.now parameters.now preprocessing
         claims.now proof.now)) }
 {
-    let fri = match verifier_parameters(parameters) {
+    let fri = match verifier_parameters::<F, F::Extension>(parameters) {
         Ok(fri) => fri,
         Err(misfit) => return Err(VerifyError::Malformed(misfit)),
     };
@@ -74,7 +74,7 @@ pub fn verify<P: MadeScheme>(
     let scheme = P::made(fri, num_random_codewords, [0; 32]);
     let begun = P::begin(alloc, num_random_codewords, preprocessing)?;
     let (claims, mut challenger) = read_statement(alloc, begun, context, parameters, claims)?;
-    verify_claims::<P>(
+    verify_claims::<F, P>(
         alloc,
         &scheme,
         claims,

@@ -5,7 +5,6 @@ use Rattle.std.proofs.lemmas.List.{length-map}
 use Rattle.algebra.specs.Polynomial.{tabulate}
 use Rattle.algebra.proofs.Lists.{length-tabulate}
 use Rattle.algebra.proofs.Powers.{double}
-use Rattle.p3_baby_bear.specs.declared.baby_bear.BabyBear.{BabyBear}
 use Rattle.p3_matrix.specs.declared.dense.RowMajorMatrix.{RowMajorMatrix}
 use Rattle.p3_matrix.specs.Matrix.{rows, matrix_width}
 use Rattle.p3_pcs.specs.Requests.{Held}
@@ -15,9 +14,9 @@ use Rattle.p3_fri_extensions.specs.Extension.{FitsDomain}
 use Rattle.p3_fri_hiding.specs.Trace.{FitsMasked}
 use Rattle.fri_schemes.specs.Rows.{FitsRows}
 
-plain_fits : (b log_size : ℕ) (values : RowMajorMatrix BabyBear)
-    → FitsRows false b log_size values → FitsDomain 27 b log_size values
-plain_fits b log_size values h =
+plain_fits : {V : Type 0} (most b log_size : ℕ) (values : RowMajorMatrix V)
+    → FitsRows most false b log_size values → FitsDomain most b log_size values
+plain_fits most b log_size values h =
     record { height = h.height ∙ ap (λ k. 2 ^ k) (sym h.size); within = h.within }
 
 -- twice the rows
@@ -26,24 +25,25 @@ twice n k log_size height size =
     let more : 2 ^ log_size ≡ 2 ^ k + 2 ^ k = ap (λ m. 2 ^ m) (size ∙ add-one k) ∙ double k in
     omega (arith, more, height)
 
-hiding_fits : (b log_size : ℕ) (values : RowMajorMatrix BabyBear)
-    → FitsRows true b log_size values → FitsMasked 27 b log_size values
-hiding_fits b log_size values h = record {
+hiding_fits : {V : Type 0} (most b log_size : ℕ) (values : RowMajorMatrix V)
+    → FitsRows most true b log_size values → FitsMasked most b log_size values
+hiding_fits most b log_size values h = record {
   twice = twice (length (rows values)) h.log_height log_size h.height h.size;
   within = h.within;
 }
 
-module _ {Dom : Type 0} (log_size : Dom → ℕ) (b c : ℕ) (same : b ≡ c)
-    (evaluations : List (Dom × RowMajorMatrix BabyBear)) where
-  pub plain_rows : All (λ e. FitsRows false b (log_size e.0) e.1) evaluations
-      → All (λ e. FitsDomain 27 c (log_size e.0) e.1) evaluations
-  plain_rows fit = subst (λ n. All (λ e. FitsDomain 27 n (log_size e.0) e.1) evaluations) same
-      (λ i d h. plain_fits b _ _ (fit i d h))
+-- over a field of the two-adicity `most`
+module _ {Dom V : Type 0} (most : ℕ) (log_size : Dom → ℕ) (b c : ℕ) (same : b ≡ c)
+    (evaluations : List (Dom × RowMajorMatrix V)) where
+  pub plain_rows : All (λ e. FitsRows most false b (log_size e.0) e.1) evaluations
+      → All (λ e. FitsDomain most c (log_size e.0) e.1) evaluations
+  plain_rows fit = subst (λ n. All (λ e. FitsDomain most n (log_size e.0) e.1) evaluations) same
+      (λ i d h. plain_fits most b _ _ (fit i d h))
 
-  pub hiding_rows : All (λ e. FitsRows true b (log_size e.0) e.1) evaluations
-      → All (λ e. FitsMasked 27 c (log_size e.0) e.1) evaluations
-  hiding_rows fit = subst (λ n. All (λ e. FitsMasked 27 n (log_size e.0) e.1) evaluations) same
-      (λ i d h. hiding_fits b _ _ (fit i d h))
+  pub hiding_rows : All (λ e. FitsRows most true b (log_size e.0) e.1) evaluations
+      → All (λ e. FitsMasked most c (log_size e.0) e.1) evaluations
+  hiding_rows fit = subst (λ n. All (λ e. FitsMasked most n (log_size e.0) e.1) evaluations) same
+      (λ i d h. hiding_fits most b _ _ (fit i d h))
 
 -- what the plain scheme commits to of a matrix has its columns
 pub plain_columns : {F E : Type 0} (f : Fields F E) (shift : F) (k : ℕ) (values : RowMajorMatrix F)

@@ -17,7 +17,8 @@ ghost use Rattle.fri_schemes.specs.Alike.{same_alike};
 ghost use Rattle.fri_schemes.specs.RangeLaws.{verifier_range};
 ghost use Rattle.fri_schemes.specs.RowLaws.{hiding_rows};
 
-use crate::scheme::{Inputs, MadeScheme};
+use crate::scheme::{Coset, Inputs, MadeScheme};
+use crate::scheme_field::SchemeField;
 use fri_records::Rounds;
 use fri_statement::absorb_hiding;
 use p3_challenger_sha256::Sha256Challenger;
@@ -32,18 +33,32 @@ use rand_core::SeedableRng;
 use std::alloc::{AllocError, Global};
 
 /// The scheme that hides.
-pub type HidingScheme = HidingFriPcs<BabyBear, Radix2Dit<BabyBear>, Inputs, Rounds, ChaCha20Rng>;
+pub type HidingScheme<F = BabyBear> = HidingFriPcs<
+    F,
+    Radix2Dit<F>,
+    Inputs<F>,
+    Rounds<<F as SchemeField>::Extension>,
+    ChaCha20Rng,
+>;
 
 /// Its masks are drawn from the seed, and its challenger has absorbed by what it hides.
-impl MadeScheme for HidingScheme {
+impl<F: SchemeField> MadeScheme<F, F::Extension, Coset<F>> for HidingScheme<F> {
     ghost IsMade = { λ p n seed s. (parameters_of s.fri ≡ p) × (s.num_random_codewords ≡ n)
         × (s.rng ≡ of_seed seed) };
 
-    ghost begun = { λ n index. hiding_absorbed start n index };
+    ghost begun = { λ n index. hiding_absorbed F.ORDER_U64 F.canonical F.ops start n index };
 
     ghost IsMemory = { λ e. e ≡ Fri OutOfMemory };
 
-    fn made(fri: FriParameters<Rounds>, num_random_codewords: usize, seed: [u8; 32]) -> Self {
+    fn made(
+        fri: FriParameters<Rounds<F::Extension>>,
+        num_random_codewords: usize,
+        seed: [u8; 32],
+    ) -> Self
+        ensures { (parameters_of result.fri ≡ parameters_of fri)
+            × (result.num_random_codewords ≡ num_random_codewords)
+            × (result.rng ≡ of_seed seed) }
+    {
         let generator = ChaCha20Rng::from_seed(seed);
         HidingFriPcs::new(
             Radix2Dit::default(),
@@ -58,8 +73,8 @@ impl MadeScheme for HidingScheme {
         alloc: Global,
         num_random_codewords: usize,
         preprocessing: Option<usize>,
-    ) -> Result<Sha256Challenger, AllocError> {
-        let mut challenger = Sha256Challenger::new();
+    ) -> Result<Sha256Challenger<F>, AllocError> {
+        let mut challenger = Sha256Challenger::over_field();
         absorb_hiding(alloc, &mut challenger, num_random_codewords, preprocessing)?;
         Ok(challenger)
     }
@@ -72,21 +87,21 @@ impl MadeScheme for HidingScheme {
     }
 
     ghost verifier_law = { λ p n seed s made range.
-        subst (λ q. InVerifierRange q 27 63) (sym made.0) range };
+        subst (λ q. InVerifierRange q F.TWO_ADICITY 63) (sym made.0) range };
 
     ghost prover_law = { λ p n seed s made range.
-        subst (λ q. InProverRange q 27 63) (sym made.0) range };
+        subst (λ q. InProverRange q F.TWO_ADICITY 63) (sym made.0) range };
 
     ghost blowup_law = { λ p n seed s made. ap (λ (q : TestParameters). q.log_blowup) made.0 };
 
     ghost commit_law = { λ p n seed s made evaluations fit.
-        hiding_rows (λ d. d.log_size) p.log_blowup s.fri.log_blowup
+        hiding_rows F.TWO_ADICITY (λ d. d.log_size) p.log_blowup s.fri.log_blowup
         (sym (ap (λ (q : TestParameters). q.log_blowup) made.0)) evaluations fit };
 
     ghost columns_law = { λ s m e h z. h.columns z };
 
     ghost accepted_law = { λ p n seed s made range index c claims proof holds.
-        verifier_range p (parameters_of s.fri) (sym made.0)
+        verifier_range _ F.two_adicity_law p (parameters_of s.fri) (sym made.0)
         (with_random_values (relation_claims (λ d. d.log_size) claims)
         (opened_values proof.0.items)) (proof_of proof.1) c range holds.accepts };
 

@@ -6,9 +6,10 @@ use crate::report::{
     report_verdict,
 };
 use fri_stark_json::{
-    Accepted, Failure, HidingScheme, MALFORMED, MadeScheme, PlainScheme, PublicValues, Refusal,
-    System, Trace, check, prove, read, seed_of, verify,
+    Accepted, Coset, Failure, HidingScheme, MALFORMED, MadeScheme, PlainScheme, PublicValues,
+    Refusal, System, Trace, check, prove, read, seed_of, verify,
 };
+use p3_field::{BabyBear, BabyBear4};
 use p3_fri_folding::FriProverError;
 use p3_fri_plain::Plain;
 use serde::{Deserialize, Serialize};
@@ -108,7 +109,7 @@ fn run_check(rt: &HostRuntime, air: &String, trace: &String) -> Result<u8, u8> {
 }
 
 /// Prints a proof that the trace satisfies the system, or why there is none.
-fn print_proof<P: MadeScheme>(
+fn print_proof<P: MadeScheme<BabyBear, BabyBear4, Coset>>(
     rt: &HostRuntime,
     system: &System,
     trace: &Trace,
@@ -116,7 +117,7 @@ fn print_proof<P: MadeScheme>(
 ) -> u8
 where
     P::ProverError: Refusal,
-    P::Proof: Plain,
+    P::Proof: Plain<Value = P::Proof>,
     <P::Proof as Plain>::Form: Serialize,
 {
     let mut line = match prove::<P>(rt.alloc(), system, trace, seed) {
@@ -162,7 +163,7 @@ fn print_accepted(rt: &HostRuntime, accepted: Accepted) -> u8 {
 }
 
 /// Prints what is accepted of a file's proof, or why it is refused.
-fn print_verdict<'de, P: MadeScheme>(
+fn print_verdict<'de, P: MadeScheme<BabyBear, BabyBear4, Coset>>(
     rt: &HostRuntime,
     system: &System,
     publics: &PublicValues,
@@ -171,7 +172,7 @@ fn print_verdict<'de, P: MadeScheme>(
 ) -> u8
 where
     P::ProverError: Refusal,
-    P::Proof: Plain,
+    P::Proof: Plain<Value = P::Proof>,
     <P::Proof as Plain>::Form: Deserialize<'de>,
 {
     match verify::<P>(rt.alloc(), system, publics, text) {

@@ -10,7 +10,9 @@ ghost use Rattle.fri_stark_json.specs.Verdicts.{IsAccepted};
 ghost use Rattle.fri_stark_bytes.specs.Texts.{IsSatisfiedText, IsAcceptedText};
 
 use crate::failure::{Failure, read};
-use fri_stark_json::{MadeScheme, PublicValues, Refusal, System, Trace, seed_of, verify_form};
+use fri_stark_json::{
+    Coset, MadeScheme, PublicValues, Refusal, System, Trace, seed_of, verify_form,
+};
 use p3_challenger_core::Plays;
 use p3_challenger_sha256::Sha256Challenger;
 use p3_field::{BabyBear, BabyBear4, Field, PrimeField64};
@@ -41,7 +43,7 @@ pub fn check(alloc: Global, system: &[u8], trace: &[u8]) -> Result<Vec<u8>, Fail
 
 /// Answers the text of a proof that the trace satisfies the system. The masks of a scheme that
 /// hides are drawn from the 32 bytes of the seed.
-pub fn prove<P: MadeScheme>(
+pub fn prove<P: MadeScheme<BabyBear, BabyBear4, Coset>>(
     alloc: Global,
     system: &[u8],
     trace: &[u8],
@@ -49,7 +51,7 @@ pub fn prove<P: MadeScheme>(
 ) -> Result<Vec<u8>, Failure>
 where
     P::ProverError: Refusal,
-    P::Proof: Plain,
+    P::Proof: Plain<Value = P::Proof>,
     <P::Proof as Plain>::Form: Serialize,
     ensures { IfOk result (λ _. IsSatisfiedText ⟦<BabyBear as Field>⟧.ops
         ⟦<BabyBear as PrimeField64>⟧.ORDER_U64 ⟦<BabyBear as PrimeField64>⟧.canonical) }
@@ -77,7 +79,7 @@ fn number_bytes(alloc: Global, number: usize) -> Result<Vec<u8>, Failure>
 
 /// Answers the logarithm of the height of a trace that satisfies the system with the public values,
 /// in eight bytes, the lowest first, where the proof shows that there is one.
-pub fn verify<'de, P: MadeScheme>(
+pub fn verify<'de, P: MadeScheme<BabyBear, BabyBear4, Coset>>(
     alloc: Global,
     system: &[u8],
     public_values: &[u8],
@@ -85,7 +87,7 @@ pub fn verify<'de, P: MadeScheme>(
 ) -> Result<Vec<u8>, Failure>
 where
     P::ProverError: Refusal,
-    P::Proof: Plain,
+    P::Proof: Plain<Value = P::Proof>,
     <P::Proof as Plain>::Form: Deserialize<'de>,
     ensures { IfOk result (λ answer. IsAcceptedText (λ system n form k. IsAccepted
         ⟦<BabyBear as PrimeField64>⟧.canonical

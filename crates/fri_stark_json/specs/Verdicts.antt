@@ -69,7 +69,7 @@ module _ {P ProverError : Type 0} (IsMade : P → Type 0) where
   abbrev pub NoProof : (Refuses : (made after : P) → SystemProvingError ProverError → Type 0)
       → Parameters → Failure ProverError → Type 0
   NoProof Refuses p (failure.Parameters misfit) =
-      ¬ (AreProvers p × InVerifierRange (parameters_in p) 27 63)
+      ¬ (AreProvers 27 p × InVerifierRange (parameters_in p) 27 63)
   NoProof Refuses p (failure.Proving e) =
       IsRefusedOver IsMade (λ made after. Refuses made after e)
   NoProof Refuses p failure.OutOfMemory = ⊤

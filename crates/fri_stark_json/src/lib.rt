@@ -19,4 +19,4 @@ pub use crate::proving::{prove, prove_form};
 pub use crate::records::{PublicValues, System, Trace, read};
 pub use crate::seed::seed_of;
 pub use crate::verification::{Accepted, verify, verify_form};
-pub use fri_schemes::{HidingScheme, MadeScheme, PlainScheme};
+pub use fri_schemes::{Coset, HidingScheme, MadeScheme, PlainScheme};

@@ -19,7 +19,7 @@ ghost use Rattle.fri_stark_json.specs.Verdicts.{IsAccepted, NoProof, IsOfText};
 use crate::failure::Failure;
 use crate::records::{System, Trace};
 use fri_records::{prover_parameters, verifier_parameters};
-use fri_schemes::MadeScheme;
+use fri_schemes::{Coset, MadeScheme};
 use p3_challenger_core::Plays;
 use p3_challenger_sha256::Sha256Challenger;
 use p3_field::{BabyBear, BabyBear4, ExtensionField, Field, PrimeField64, TwoAdicField};
@@ -32,14 +32,14 @@ use std::alloc::Global;
 
 /// The plain form of a proof that the trace satisfies the system. The masks of a scheme that hides
 /// are drawn from the seed.
-pub fn prove_form<P: MadeScheme>(
+pub fn prove_form<P: MadeScheme<BabyBear, BabyBear4, Coset>>(
     alloc: Global,
     system: &System,
     trace: &Trace,
     seed: [u8; 32],
 ) -> Result<PlainStarkProof<<P::Proof as Plain>::Form>, Failure<P::ProverError>>
 where
-    P::Proof: Plain,
+    P::Proof: Plain<Value = P::Proof>,
     ensures accepted { IfOk result (λ form. IsAccepted ⟦<BabyBear as PrimeField64>⟧.canonical
         (λ s. stark_setting ⟦<BabyBear4 as StarkField<BabyBear>>⟧.fields
         ⟦<Sha256Challenger as Plays<BabyBear, BabyBear4, [u8; 32]>>⟧.moves P.ZK (P.rules s)
@@ -71,10 +71,10 @@ where
         (lists trace.now.trace.items))) system.now.parameters) }
 {
     // what no verifier takes isn't proved
-    if let Err(misfit) = verifier_parameters(&system.parameters) {
+    if let Err(misfit) = verifier_parameters::<BabyBear, BabyBear4>(&system.parameters) {
         return Err(Failure::Parameters(misfit));
     }
-    let fri = match prover_parameters(&system.parameters) {
+    let fri = match prover_parameters::<BabyBear, BabyBear4>(&system.parameters) {
         Ok(fri) => fri,
         Err(misfit) => return Err(Failure::Parameters(misfit)),
     };
@@ -99,14 +99,14 @@ where
 }
 
 /// A proof that the trace satisfies the system, in JSON.
-pub fn prove<P: MadeScheme>(
+pub fn prove<P: MadeScheme<BabyBear, BabyBear4, Coset>>(
     alloc: Global,
     system: &System,
     trace: &Trace,
     seed: [u8; 32],
 ) -> Result<String, Failure<P::ProverError>>
 where
-    P::Proof: Plain,
+    P::Proof: Plain<Value = P::Proof>,
     <P::Proof as Plain>::Form: Serialize,
     ensures accepted { IfOk result (λ _. (form : Form P.Proof.Form)
         × IsAccepted ⟦<BabyBear as PrimeField64>⟧.canonical

@@ -15,7 +15,7 @@ ghost use Rattle.fri_stark_json.specs.Verdicts.{IsAccepted, IsRefused, NotAccept
 use crate::failure::Failure;
 use crate::records::{PublicValues, System, read};
 use fri_records::verifier_parameters;
-use fri_schemes::MadeScheme;
+use fri_schemes::{Coset, MadeScheme};
 use p3_challenger_core::Plays;
 use p3_challenger_sha256::Sha256Challenger;
 use p3_dft::Radix2Dit;
@@ -38,14 +38,14 @@ pub struct Accepted {
 
 /// Whether the proof of this form shows that some trace satisfies the system with these public
 /// values.
-pub fn verify_form<P: MadeScheme>(
+pub fn verify_form<P: MadeScheme<BabyBear, BabyBear4, Coset>>(
     alloc: Global,
     system: &System,
     public_values: &PublicValues,
     form: &PlainStarkProof<<P::Proof as Plain>::Form>,
 ) -> Result<Accepted, Failure<P::ProverError>>
 where
-    P::Proof: Plain,
+    P::Proof: Plain<Value = P::Proof>,
     ensures accepted { IfOk result (λ accepted. IsAccepted ⟦<BabyBear as PrimeField64>⟧.canonical
         (λ s. stark_setting ⟦<BabyBear4 as StarkField<BabyBear>>⟧.fields
         ⟦<Sha256Challenger as Plays<BabyBear, BabyBear4, [u8; 32]>>⟧.moves P.ZK (P.rules s)
@@ -73,7 +73,7 @@ where
         Ok(proof) => proof,
         Err(fault) => return Err(Failure::Form(fault)),
     };
-    let fri = match verifier_parameters(&system.parameters) {
+    let fri = match verifier_parameters::<BabyBear, BabyBear4>(&system.parameters) {
         Ok(fri) => fri,
         Err(misfit) => return Err(Failure::Parameters(misfit)),
     };
@@ -105,14 +105,14 @@ where
 }
 
 /// Verifies a proof in JSON.
-pub fn verify<'de, P: MadeScheme>(
+pub fn verify<'de, P: MadeScheme<BabyBear, BabyBear4, Coset>>(
     alloc: Global,
     system: &System,
     public_values: &PublicValues,
     proof: &'de str,
 ) -> Result<Accepted, Failure<P::ProverError>>
 where
-    P::Proof: Plain,
+    P::Proof: Plain<Value = P::Proof>,
     <P::Proof as Plain>::Form: Deserialize<'de>,
     ensures accepted { IfOk result (λ accepted. (form : Form P.Proof.Form)
         × IsAccepted ⟦<BabyBear as PrimeField64>⟧.canonical

@@ -3,9 +3,10 @@
 use crate::texts::{PUBLIC_VALUES, SYSTEM, THREE_ROWS, TRACE};
 use fri_stark_bytes::{Failure, check, prove};
 use fri_stark_json::{
-    Accepted, Failure as Unread, HidingScheme, MALFORMED, MadeScheme, PlainScheme, PublicValues,
-    REFUSED, Refusal, System, read, seed_of, verify,
+    Accepted, Coset, Failure as Unread, HidingScheme, MALFORMED, MadeScheme, PlainScheme,
+    PublicValues, REFUSED, Refusal, System, read, seed_of, verify,
 };
+use p3_field::{BabyBear, BabyBear4};
 use p3_fri_folding::FriProverError;
 use p3_fri_plain::Plain;
 use serde::{Deserialize, Serialize};
@@ -176,13 +177,13 @@ fn texts_of(rt: &impl Abort, alloc: Global, case: &Case) -> Texts {
 }
 
 /// What a proof is accepted with, read as text.
-fn accepted_text<'de, P: MadeScheme>(
+fn accepted_text<'de, P: MadeScheme<BabyBear, BabyBear4, Coset>>(
     alloc: Global,
     texts: &Texts,
     proof: &'de [u8],
 ) -> Option<Accepted>
 where
-    P::Proof: Plain,
+    P::Proof: Plain<Value = P::Proof>,
     <P::Proof as Plain>::Form: Deserialize<'de>,
 {
     let proof = str::from_utf8(proof).ok()?;
@@ -197,14 +198,14 @@ where
 
 /// What comes of verifying a proof, of the trace where none is given: the height in bytes, and what
 /// the proof is accepted with as text.
-fn outcome_of<'de, P: MadeScheme>(
+fn outcome_of<'de, P: MadeScheme<BabyBear, BabyBear4, Coset>>(
     alloc: Global,
     texts: &Texts,
     proof: &'de mut Vec<u8>,
 ) -> Result<(Vec<u8>, Option<Accepted>), Failure>
 where
     P::ProverError: Refusal,
-    P::Proof: Plain,
+    P::Proof: Plain<Value = P::Proof>,
     <P::Proof as Plain>::Form: Serialize + Deserialize<'de>,
 {
     if proof.is_empty() {

@@ -1,5 +1,5 @@
 -- The stream of a scheme that hides determines the number of random columns and the preprocessing.
-use Rattle.std.proofs.Common.{◌≡◌, ℕ, ◌*◌, ◌<◌, ◌^◌, List, [], ◌∷◌, length, refl, ap, ◌∙◌, arith}
+use Rattle.std.proofs.Common.{◌≡◌, ℕ, ◌<◌, [], ◌∷◌, length, refl, ap, arith}
 use Rattle.std.specs.Prelude.{Option, Some, None}
 use Rattle.std.specs.List.{All}
 use Rattle.std.proofs.lemmas.List.Elements.{All-nil, All-cons}
@@ -8,7 +8,6 @@ use Rattle.p3_challenger_fs.specs.declared.pattern.Hierarchy.TheVariants.{Begin,
 use Rattle.p3_challenger_fs.specs.Pattern.{Step}
 use Rattle.p3_challenger_fs.specs.StreamLaws.{FitsNumber, FitsText, FitsStep, FitsStream}
 use Rattle.p3_challenger_fs.proofs.Streams.{description_determined}
-use Rattle.fri_statement.specs.Statement.{numbers_bytes}
 use Rattle.fri_statement.specs.Hiding.{index_numbers, hiding_label, hiding_description}
 use Rattle.fri_statement.specs.Hiding.{statement_step, hiding_steps}
 use Rattle.fri_statement.specs.Hiding.{hiding_stream}

@@ -1,6 +1,6 @@
 -- What is absorbed before a statement of a scheme that hides, and the stream that binds it.
 use Rattle.std.specs.Prelude.{ℕ, List, [], ◌∷◌, codes, Option, Some, None}
-use Rattle.p3_baby_bear.specs.BabyBear.{baby_bear}
+use Rattle.algebra.specs.Field.{FieldOps}
 use Rattle.p3_challenger_fs.specs.declared.pattern.Hierarchy.{Hierarchy}
 use Rattle.p3_challenger_fs.specs.declared.pattern.Hierarchy.TheVariants.{Begin, End}
 use Rattle.p3_challenger_fs.specs.declared.pattern.Kind.TheVariants.{Protocol}
@@ -43,8 +43,11 @@ unfoldable pub hiding_stream : (num_random_codewords : ℕ) (preprocessing : Opt
 hiding_stream num_random_codewords preprocessing =
     stream_of (hiding_description num_random_codewords preprocessing)
 
--- the state after a challenger has absorbed it
-abbrev pub hiding_absorbed : Sha256Challenger → (num_random_codewords : ℕ)
-    (preprocessing : Option ℕ) → Sha256Challenger
-hiding_absorbed c num_random_codewords preprocessing = bytes_observed baby_bear element_observed c
-    (hiding_stream num_random_codewords preprocessing)
+-- over a prime field of this order
+module _ {F : Type 0} (order : ℕ) (canonical : F → ℕ) (ops : FieldOps F) where
+  -- the state after a challenger has absorbed it
+  abbrev pub hiding_absorbed : Sha256Challenger F → (num_random_codewords : ℕ)
+      (preprocessing : Option ℕ) → Sha256Challenger F
+  hiding_absorbed c num_random_codewords preprocessing =
+      bytes_observed ops (element_observed order canonical) c
+      (hiding_stream num_random_codewords preprocessing)

@@ -1,3 +1,4 @@
+pub mod BabyBear
 pub mod Context
 pub mod Hiding
 pub mod Numbers

@@ -1,13 +1,19 @@
--- Elements by their numbers.
+-- A prime field and an extension of it, by the numbers of their elements.
 use Rattle.std.specs.Prelude.{ℕ, List, map}
-use Rattle.p3_baby_bear.specs.declared.baby_bear.BabyBear.{BabyBear}
-use Rattle.p3_baby_bear.specs.declared.baby_bear4.BabyBear4.{BabyBear4}
-use Rattle.p3_baby_bear.specs.BabyBear4.{coefficients4}
+use Rattle.algebra.specs.Field.{FieldOps}
 
--- the one number below the order
-abbrev pub canonical_number : BabyBear → ℕ
-canonical_number x = x.value
+-- what challengers and statements ask of a prime field `F` and of an extension `E` of it
+pub record PrimeFields (F E : Type 0) : Type 0 where
+  pub base : FieldOps F
+  -- how many elements the prime field has, and the one number below of which each is the multiple
+  -- of one
+  pub order : ℕ
+  pub canonical : F → ℕ
+  -- how many coefficients an element of the extension has, and which, that of one first
+  pub degree : ℕ
+  pub coefficients : E → List F
+  pub of_coefficients : List F → E
 
--- those of the coefficients, that of one first
-abbrev pub coefficient_numbers : BabyBear4 → List ℕ
-coefficient_numbers x = map canonical_number (coefficients4 x)
+-- the numbers of the coefficients, that of one first
+abbrev pub coefficient_numbers : {F E : Type 0} → PrimeFields F E → E → List ℕ
+coefficient_numbers f x = map f.canonical (f.coefficients x)

@@ -1,7 +1,7 @@
 -- A statement, and the stream of bytes by which a challenger absorbs it.
 use Rattle.std.specs.Prelude.{ℕ, List, [], ◌∷◌, ◌++◌, map, length, codes}
 use Rattle.std.specs.List.{flat_map}
-use Rattle.p3_baby_bear.specs.BabyBear.{baby_bear}
+use Rattle.algebra.specs.Field.{FieldOps}
 use Rattle.p3_challenger_fs.specs.declared.pattern.Hierarchy.{Hierarchy}
 use Rattle.p3_challenger_fs.specs.declared.pattern.Hierarchy.TheVariants.{Begin, End}
 use Rattle.p3_challenger_fs.specs.declared.pattern.Kind.TheVariants.{Protocol}
@@ -76,6 +76,9 @@ statement_description s = record {
 unfoldable pub statement_stream : Statement → List ℕ
 statement_stream s = stream_of (statement_description s)
 
--- the state after a challenger has absorbed it
-abbrev pub statement_absorbed : Sha256Challenger → Statement → Sha256Challenger
-statement_absorbed c s = bytes_observed baby_bear element_observed c (statement_stream s)
+-- over a prime field of this order
+module _ {F : Type 0} (order : ℕ) (canonical : F → ℕ) (ops : FieldOps F) where
+  -- the state after a challenger has absorbed it
+  abbrev pub statement_absorbed : Sha256Challenger F → Statement → Sha256Challenger F
+  statement_absorbed c s =
+      bytes_observed ops (element_observed order canonical) c (statement_stream s)

@@ -11,9 +11,10 @@ ghost use Rattle.fri_statement.specs.Stated.{opened_matrix, opened_commitment, s
 
 use crate::labels::{commitment_label, matrix_label, parameters_label};
 use crate::stated::{StatedCommitment, StatedMatrix};
+use crate::stated_field::StatedField;
 use p3_challenger_fs::{DomainSeparator, Hierarchy, Interaction, InteractionPattern, Kind, Script};
-use p3_challenger_sha256::Sha256Challenger;
-use p3_field::BabyBear;
+use p3_challenger_sha256::{Sha256Challenger, Sha256Field};
+use p3_field::{ExtensionField, PrimeField64, TwoAdicField, TwoAdicMultiplicativeCoset};
 use p3_fri_folding::FriParameters;
 use std::alloc::{AllocError, Global};
 
@@ -27,38 +28,40 @@ const NAME: &[u8] = b"p3-fri-statement";
 const OPENING: &str = "opening";
 
 /// Adds a label for each matrix.
-fn push_matrices(
+fn push_matrices<F: TwoAdicField + PrimeField64, EF: ExtensionField<F>>(
     separator: &mut DomainSeparator,
     alloc: Global,
-    matrices: &[StatedMatrix],
+    matrices: &[StatedMatrix<EF, TwoAdicMultiplicativeCoset<F>>],
 ) -> Result<(), AllocError>
     ensures { OnOk result (description separator.new ≡ record (description separator.old) {
-      labels = (description separator.old).labels
-          ++ map matrix_label (map opened_matrix matrices.now);
+      labels = (description separator.old).labels ++ map matrix_label (map (opened_matrix
+          ⟦<EF as StatedField<F>>⟧.prime_fields (λ d. d.shift) (λ d. d.log_size)) matrices.now);
     }) }
 {
     for matrix in matrices {
-        let label = matrix_label(alloc, matrix)?;
+        let label = matrix_label::<F, EF>(alloc, matrix)?;
         separator.instance(alloc, &label)?;
     }
     Ok(())
 }
 
 /// Adds the labels of each commitment.
-fn push_commitments(
+fn push_commitments<F: TwoAdicField + PrimeField64, EF: ExtensionField<F>>(
     separator: &mut DomainSeparator,
     alloc: Global,
-    commitments: &[StatedCommitment],
+    commitments: &[StatedCommitment<EF, TwoAdicMultiplicativeCoset<F>>],
 ) -> Result<(), AllocError>
     ensures { OnOk result (description separator.new ≡ record (description separator.old) {
-      labels = (description separator.old).labels
-          ++ flat_map commitment_labels (map opened_commitment commitments.now);
+      labels = (description separator.old).labels ++ flat_map commitment_labels
+          (map (opened_commitment ⟦<EF as StatedField<F>>⟧.prime_fields (λ d. d.shift)
+          (λ d. d.log_size)) commitments.now);
     }) }
 {
     for commitment in commitments {
-        let label = commitment_label(alloc, commitment)?;
+        let count = commitment.matrices.len();
+        let label = commitment_label(alloc, &commitment.commitment, count)?;
         separator.instance(alloc, &label)?;
-        push_matrices(separator, alloc, &commitment.matrices)?;
+        push_matrices::<F, EF>(separator, alloc, &commitment.matrices)?;
     }
     Ok(())
 }
@@ -74,45 +77,47 @@ fn opening_pattern(alloc: Global) -> Result<InteractionPattern, AllocError>
 }
 
 /// What describes a statement.
-fn separator_of<M>(
+fn separator_of<F: TwoAdicField + PrimeField64, EF: ExtensionField<F>, M>(
     alloc: Global,
     context: &[u8],
     params: &FriParameters<M>,
-    commitments: &[StatedCommitment],
+    commitments: &[StatedCommitment<EF, TwoAdicMultiplicativeCoset<F>>],
 ) -> Result<DomainSeparator, AllocError>
     ensures { IfOk result (λ separator. description separator ≡ statement_description
-        (statement_of context.now (parameters_of params.now) commitments.now)) }
+        (statement_of ⟦<EF as StatedField<F>>⟧.prime_fields (λ d. d.shift) (λ d. d.log_size)
+        context.now (parameters_of params.now) commitments.now)) }
 {
     let pattern = opening_pattern(alloc)?;
     let mut separator = DomainSeparator::new(alloc, VERSION, NAME, pattern);
     separator.instance(alloc, context)?;
     let label = parameters_label(alloc, params)?;
     separator.instance(alloc, &label)?;
-    push_commitments(&mut separator, alloc, commitments)?;
+    push_commitments::<F, EF>(&mut separator, alloc, commitments)?;
     Ok(separator)
 }
 
 /// Absorbs a statement, byte by byte of its stream: a context of any length, which is whatever else
 /// the application binds its proof to, the parameters, and of each commitment its digest and the
 /// domain, the width and the points of each of its matrices. A prover does so before it opens, a
-/// verifier before it verifies.
+/// verifier before it verifies. The stream names no field: each side knows its own.
 ///
 /// # Errors
 ///
 /// Memory may be refused; then nothing was absorbed.
-pub fn absorb_statement<M>(
+pub fn absorb_statement<F: Sha256Field + TwoAdicField, EF: ExtensionField<F>, M>(
     alloc: Global,
-    challenger: &mut Sha256Challenger,
+    challenger: &mut Sha256Challenger<F>,
     context: &[u8],
     params: &FriParameters<M>,
-    commitments: &[StatedCommitment],
+    commitments: &[StatedCommitment<EF, TwoAdicMultiplicativeCoset<F>>],
 ) -> Result<(), AllocError>
-    ensures absorbed { OnOk result (challenger.new ≡ statement_absorbed challenger.old
-        (statement_of context.now (parameters_of params.now) commitments.now)) }
+    ensures absorbed { OnOk result (challenger.new ≡ statement_absorbed F.ORDER_U64 F.canonical
+        F.ops challenger.old (statement_of ⟦<EF as StatedField<F>>⟧.prime_fields (λ d. d.shift)
+        (λ d. d.log_size) context.now (parameters_of params.now) commitments.now)) }
     ensures unchanged { OnErr result (challenger.new ≡ challenger.old) }
 {
-    let separator = separator_of(alloc, context, params, commitments)?;
+    let separator = separator_of::<F, EF, M>(alloc, context, params, commitments)?;
     let seed = separator.seed(alloc)?;
-    let _script = Script::start::<BabyBear, Sha256Challenger>(challenger, seed);
+    let _script = Script::start::<F, Sha256Challenger<F>>(challenger, seed);
     Ok(())
 }

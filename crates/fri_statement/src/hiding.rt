@@ -7,8 +7,7 @@ ghost use Rattle.fri_statement.specs.Hiding.{hiding_steps, hiding_description, h
 
 use crate::labels::hiding_label;
 use p3_challenger_fs::{DomainSeparator, Hierarchy, Interaction, InteractionPattern, Kind, Script};
-use p3_challenger_sha256::Sha256Challenger;
-use p3_field::BabyBear;
+use p3_challenger_sha256::{Sha256Challenger, Sha256Field};
 use std::alloc::{AllocError, Global};
 
 /// The version of the transcript.
@@ -52,18 +51,18 @@ fn separator_of(
 /// # Errors
 ///
 /// Memory may be refused; then nothing was absorbed.
-pub fn absorb_hiding(
+pub fn absorb_hiding<F: Sha256Field>(
     alloc: Global,
-    challenger: &mut Sha256Challenger,
+    challenger: &mut Sha256Challenger<F>,
     num_random_codewords: usize,
     preprocessing: Option<usize>,
 ) -> Result<(), AllocError>
-    ensures absorbed { OnOk result (challenger.new
-        ≡ hiding_absorbed challenger.old num_random_codewords preprocessing) }
+    ensures absorbed { OnOk result (challenger.new ≡ hiding_absorbed F.ORDER_U64 F.canonical
+        F.ops challenger.old num_random_codewords preprocessing) }
     ensures unchanged { OnErr result (challenger.new ≡ challenger.old) }
 {
     let separator = separator_of(alloc, num_random_codewords, preprocessing)?;
     let seed = separator.seed(alloc)?;
-    let _script = Script::start::<BabyBear, Sha256Challenger>(challenger, seed);
+    let _script = Script::start::<F, Sha256Challenger<F>>(challenger, seed);
     Ok(())
 }

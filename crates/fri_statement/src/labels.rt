@@ -2,15 +2,17 @@
 
 ghost use Rattle.std.specs.Prelude.{◌≡◌, ◌++◌, map, IfOk, OnOk};
 ghost use Rattle.std.specs.List.{flat_map};
+ghost use Rattle.p3_challenger_fs.specs.Pattern.{number_bytes};
 ghost use Rattle.p3_fri_relation.specs.Views.{parameters_of};
 ghost use Rattle.fri_statement.specs.Numbers.{coefficient_numbers};
 ghost use Rattle.fri_statement.specs.Statement.{numbers_bytes, parameter_numbers};
-ghost use Rattle.fri_statement.specs.Statement.{matrix_label, commitment_label};
-ghost use Rattle.fri_statement.specs.Stated.{opened_matrix, opened_commitment};
+ghost use Rattle.fri_statement.specs.Statement.{matrix_label};
+ghost use Rattle.fri_statement.specs.Stated.{opened_matrix};
 ghost use Rattle.fri_statement.specs.Hiding.{hiding_label};
 
-use crate::stated::{StatedCommitment, StatedMatrix};
-use p3_field::{BabyBear, BabyBear4, ExtensionField, PrimeField64};
+use crate::stated::StatedMatrix;
+use crate::stated_field::StatedField;
+use p3_field::{ExtensionField, PrimeField64, TwoAdicField, TwoAdicMultiplicativeCoset};
 use p3_fri_folding::FriParameters;
 use std::alloc::{AllocError, Global};
 
@@ -25,30 +27,29 @@ fn push_numbers(label: &mut Vec<u8>, numbers: &[u64]) -> Result<(), AllocError>
 }
 
 /// Appends the coefficients of a point, that of one first.
-fn push_point(label: &mut Vec<u8>, point: BabyBear4) -> Result<(), AllocError>
-    ensures { OnOk result (label.new.items
-        ≡ label.old.items ++ numbers_bytes (coefficient_numbers point)) }
+fn push_point<F: PrimeField64, EF: ExtensionField<F>>(
+    label: &mut Vec<u8>,
+    point: EF,
+) -> Result<(), AllocError>
+    ensures { OnOk result (label.new.items ≡ label.old.items ++ numbers_bytes
+        (coefficient_numbers ⟦<EF as StatedField<F>>⟧.prime_fields point)) }
 {
-    let constant: BabyBear = point.coefficient(0);
-    let linear: BabyBear = point.coefficient(1);
-    let quadratic: BabyBear = point.coefficient(2);
-    let cubic: BabyBear = point.coefficient(3);
-    let numbers = [
-        constant.as_canonical_u64(),
-        linear.as_canonical_u64(),
-        quadratic.as_canonical_u64(),
-        cubic.as_canonical_u64(),
-    ];
-    push_numbers(label, &numbers)
+    for index in 0..EF::DIMENSION {
+        push_numbers(label, &[point.coefficient(index).as_canonical_u64()])?;
+    }
+    Ok(())
 }
 
 /// Appends the coefficients of points.
-fn push_points(label: &mut Vec<u8>, points: &[BabyBear4]) -> Result<(), AllocError>
-    ensures { OnOk result (label.new.items
-        ≡ label.old.items ++ flat_map numbers_bytes (map coefficient_numbers points.now)) }
+fn push_points<F: PrimeField64, EF: ExtensionField<F>>(
+    label: &mut Vec<u8>,
+    points: &[EF],
+) -> Result<(), AllocError>
+    ensures { OnOk result (label.new.items ≡ label.old.items ++ flat_map numbers_bytes
+        (map (coefficient_numbers ⟦<EF as StatedField<F>>⟧.prime_fields) points.now)) }
 {
     for point in points {
-        push_point(label, *point)?;
+        push_point::<F, EF>(label, *point)?;
     }
     Ok(())
 }
@@ -75,22 +76,26 @@ pub(crate) fn parameters_label<M>(
     Ok(label)
 }
 
-/// The label of a commitment.
+/// The label of a commitment to so many matrices.
 pub(crate) fn commitment_label(
     alloc: Global,
-    commitment: &StatedCommitment,
+    commitment: &[u8; 32],
+    count: usize,
 ) -> Result<Vec<u8>, AllocError>
-    ensures { IfOk result (λ label.
-        label.items ≡ commitment_label (opened_commitment commitment.now)) }
+    ensures { IfOk result (λ label. label.items ≡ commitment.now ++ number_bytes count) }
 {
-    let mut label = Vec::from_slice(alloc, &commitment.commitment)?;
-    push_numbers(&mut label, &[commitment.matrices.len() as u64])?;
+    let mut label = Vec::from_slice(alloc, commitment)?;
+    push_numbers(&mut label, &[count as u64])?;
     Ok(label)
 }
 
 /// The label of a matrix.
-pub(crate) fn matrix_label(alloc: Global, matrix: &StatedMatrix) -> Result<Vec<u8>, AllocError>
-    ensures { IfOk result (λ label. label.items ≡ matrix_label (opened_matrix matrix.now)) }
+pub(crate) fn matrix_label<F: TwoAdicField + PrimeField64, EF: ExtensionField<F>>(
+    alloc: Global,
+    matrix: &StatedMatrix<EF, TwoAdicMultiplicativeCoset<F>>,
+) -> Result<Vec<u8>, AllocError>
+    ensures { IfOk result (λ label. label.items ≡ matrix_label (opened_matrix
+        ⟦<EF as StatedField<F>>⟧.prime_fields (λ d. d.shift) (λ d. d.log_size) matrix.now)) }
 {
     let numbers = [
         matrix.domain.shift().as_canonical_u64(),
@@ -99,7 +104,7 @@ pub(crate) fn matrix_label(alloc: Global, matrix: &StatedMatrix) -> Result<Vec<u
     ];
     let mut label = Vec::new(alloc);
     push_numbers(&mut label, &numbers)?;
-    push_points(&mut label, &matrix.points)?;
+    push_points::<F, EF>(&mut label, &matrix.points)?;
     Ok(label)
 }
 

@@ -6,10 +6,11 @@ ghost use Rattle.fri_statement.specs.StatementLaws.{IsDeterminedStatement, IsDet
 ghost use Rattle.fri_statement.specs.StatementLaws.{IsDeterminedHiding};
 
 /// What is absorbed determines the statement: its context, parameters, commitments, domains, widths
-/// and points. What is absorbed before a challenge determines the context, and what is absorbed
-/// before a statement of a scheme that hides its number of random columns and its preprocessing.
+/// and points, whose elements have as many coefficients as the extension's degree. What is absorbed
+/// before a challenge determines the context, and what is absorbed before a statement of a scheme
+/// that hides its number of random columns and its preprocessing.
 pub fn statement_law()
-    ensures statement { (a b : Statement) → IsDeterminedStatement a b }
-    ensures context { (a b : List ℕ) → IsDeterminedContext a b }
+    ensures statement { (degree : ℕ) (a b : Statement) → IsDeterminedStatement degree a b }
+    ensures context { (degree : ℕ) (a b : List ℕ) → IsDeterminedContext degree a b }
     ensures hiding { (m n : ℕ) (i j : Option ℕ) → IsDeterminedHiding m n i j }
 {}

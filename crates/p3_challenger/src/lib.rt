@@ -8,7 +8,7 @@ pub use p3_challenger_core::{
     field_challenger, grinding_challenger, observe, plays, sample,
 };
 pub use p3_challenger_fs as fs;
-pub use p3_challenger_sha256::{Sha256Challenger, sha256_challenger};
+pub use p3_challenger_sha256::{Sha256Challenger, Sha256Field, sha256_challenger, sha256_field};
 
 /// Laws of runs, of the SHA-256 challenger and of streams.
 pub mod laws {

@@ -2,10 +2,7 @@
 use Rattle.std.proofs.Common.{◌≡◌, ℕ, zero, suc, ◌+◌, ◌<◌, ◌⊎◌, inl, inr, Bool, true, false, Some}
 use Rattle.std.proofs.Common.{None, refl, ap, sym, ◌∙◌, arith}
 use Rattle.std.specs.Option.{option_map}
-use Rattle.p3_field.specs.baby_bear.BabyBear.{BabyBear}
-use Rattle.p3_field.specs.BabyBear.{baby_bear, element}
-use Rattle.p3_field.specs.BabyBearLaws.{multiple_is, multiple_canonical}
-use Rattle.algebra.specs.Field.{multiple}
+use Rattle.algebra.specs.Field.{FieldOps, multiple}
 use Rattle.p3_challenger_sha256.specs.declared.sha256_challenger.Sha256Challenger.{Sha256Challenger}
 use Rattle.p3_challenger_core.specs.Run.{grind_attempt, Passes}
 use Rattle.p3_challenger_sha256.specs.Sha256.{element_observed, bits_sampled, least_below}
@@ -33,59 +30,64 @@ least_below-found (suc n) test i less fails passed =
       ) (ap Some (sym e))
     ]
 
--- whether the witness passes
-abbrev pub passes : Sha256Challenger → ℕ → BabyBear → Bool
-passes c bits w = (grind_attempt element_observed bits_sampled c bits w).value
+module _ {F : Type 0} (order : ℕ) (canonical : F → ℕ) (ops : FieldOps F) where
+  -- whether the witness passes
+  abbrev pub passes : Sha256Challenger F → ℕ → F → Bool
+  passes c bits w =
+      (grind_attempt (element_observed order canonical) bits_sampled c bits w).value
 
--- each element below `n` fails
-abbrev pub FailsBelow : Sha256Challenger → ℕ → ℕ → Type 0
-FailsBelow c bits n = (k : ℕ) → k < n → passes c bits (element k) ≡ false
+  -- each element below `n` fails
+  abbrev pub FailsBelow : Sha256Challenger F → ℕ → ℕ → Type 0
+  FailsBelow c bits n = (k : ℕ) → k < n → passes c bits (multiple ops k) ≡ false
 
--- the next element fails too
-pub fails_next : (c : Sha256Challenger) (bits n : ℕ) (w : BabyBear) → w ≡ multiple baby_bear n
-    → FailsBelow c bits n → passes c bits w ≡ false → FailsBelow c bits (n + 1)
-fails_next c bits n w is fails failed k less =
-    let cases : (k < n) ⊎ (k ≡ n) = grind (arith, less) in
-    elim cases [
-      | inl below ↦ fails k below
-      | inr e ↦ ap (λ i. passes c bits (element i)) e
-          ∙ ap (passes c bits) (sym (is ∙ multiple_is n)) ∙ failed
-    ]
+  -- the next element fails too
+  pub fails_next : (c : Sha256Challenger F) (bits n : ℕ) (w : F) → w ≡ multiple ops n
+      → FailsBelow c bits n → passes c bits w ≡ false → FailsBelow c bits (n + 1)
+  fails_next c bits n w is fails failed k less =
+      let cases : (k < n) ⊎ (k ≡ n) = grind (arith, less) in
+      elim cases [
+        | inl below ↦ fails k below
+        | inr e ↦ ap (λ i. passes c bits (multiple ops i)) e ∙ ap (passes c bits) (sym is) ∙ failed
+      ]
 
-pub fails_element : (c : Sha256Challenger) (bits n : ℕ) → FailsBelow c bits n → (v : BabyBear)
-    → v.value < n → ¬ Passes element_observed bits_sampled c bits v
-fails_element c bits n fails v less passed =
-    let e : element v.value ≡ v = sym (multiple_is v.value) ∙ multiple_canonical v in
-    let f : false ≡ true = sym (fails v.value less) ∙ ap (passes c bits) e ∙ passed in
-    cc
+  pub fails_element : ((x : F) → multiple ops (canonical x) ≡ x) → (c : Sha256Challenger F)
+      (bits n : ℕ) → FailsBelow c bits n → (v : F) → canonical v < n
+      → ¬ Passes (element_observed order canonical) bits_sampled c bits v
+  fails_element law c bits n fails v less passed =
+      let f : false ≡ true = sym (fails (canonical v) less) ∙ ap (passes c bits) (law v) ∙ passed in
+      cc
 
--- at no bits the first element passes
-pub first_at_no_bits : (c : Sha256Challenger) (bits n : ℕ) → bits ≡ 0 → FailsBelow c bits n → n ≡ 0
-first_at_no_bits c bits zero e fails = refl
-first_at_no_bits c bits (suc n) e fails =
-    let f : true ≡ false = sym (ap (λ b. passes c b (element 0)) e) ∙ fails 0 (omega arith) in
-    cc
+  -- at no bits the first element passes
+  pub first_at_no_bits : (c : Sha256Challenger F) (bits n : ℕ) → bits ≡ 0 → FailsBelow c bits n
+      → n ≡ 0
+  first_at_no_bits c bits zero e fails = refl
+  first_at_no_bits c bits (suc n) e fails =
+      let f : true ≡ false = sym (ap (λ b.
+      passes c b (multiple ops 0)) e) ∙ fails 0 (omega arith) in
+      cc
 
--- and the state stays
-pub state_at_no_bits : (c : Sha256Challenger) (bits : ℕ) (w : BabyBear) → bits ≡ 0
-    → (grind_attempt element_observed bits_sampled c bits w).state ≡ c
-state_at_no_bits c bits w e = ap (λ b. (grind_attempt element_observed bits_sampled c b w).state) e
+  -- and the state stays
+  pub state_at_no_bits : (c : Sha256Challenger F) (bits : ℕ) (w : F) → bits ≡ 0
+      → (grind_attempt (element_observed order canonical) bits_sampled c bits w).state ≡ c
+  state_at_no_bits c bits w e =
+      ap (λ b. (grind_attempt (element_observed order canonical) bits_sampled c b w).state) e
 
-pub first_element : (n : ℕ) (w : BabyBear) → w ≡ multiple baby_bear n → n ≡ 0 → w ≡ element 0
-first_element n w is e = is ∙ ap (multiple baby_bear) e ∙ multiple_is 0
+  pub first_element : (n : ℕ) (w : F) → w ≡ multiple ops n → n ≡ 0 → w ≡ ops.zero
+  unfolding multiple
+  first_element n w is e = is ∙ ap (multiple ops) e
 
-pub least_witness-none : (c : Sha256Challenger) (bits : ℕ) → FailsBelow c bits 2013265921
-    → least_witness c bits ≡ None
-unfolding least_witness
-least_witness-none c bits fails = ap (λ o.
-    option_map element o) (least_below-none 2013265921 (λ k. passes c bits (element k)) fails)
+  pub least_witness-none : (c : Sha256Challenger F) (bits : ℕ) → FailsBelow c bits order
+      → least_witness order canonical ops c bits ≡ None
+  unfolding least_witness
+  least_witness-none c bits fails = ap (λ o.
+      option_map (multiple ops) o) (least_below-none order (λ k.
+      passes c bits (multiple ops k)) fails)
 
-pub least_witness-found : (c : Sha256Challenger) (bits n : ℕ) (w : BabyBear) → n < 2013265921
-    → w ≡ multiple baby_bear n → FailsBelow c bits n → passes c bits w ≡ true
-    → least_witness c bits ≡ Some w
-unfolding least_witness
-least_witness-found c bits n w less is fails passed =
-    let e : w ≡ element n = is ∙ multiple_is n in
-    ap (λ o. option_map element o)
-    (least_below-found 2013265921 (λ k.
-    passes c bits (element k)) n less fails (ap (passes c bits) (sym e) ∙ passed)) ∙ ap Some (sym e)
+  pub least_witness-found : (c : Sha256Challenger F) (bits n : ℕ) (w : F) → n < order
+      → w ≡ multiple ops n → FailsBelow c bits n → passes c bits w ≡ true
+      → least_witness order canonical ops c bits ≡ Some w
+  unfolding least_witness
+  least_witness-found c bits n w less is fails passed =
+      ap (λ o. option_map (multiple ops) o) (least_below-found order (λ k.
+      passes c bits (multiple ops k)) n less fails (ap (passes c bits) (sym is) ∙ passed))
+      ∙ ap Some (sym is)

@@ -7,6 +7,6 @@ use Rattle.p3_challenger_sha256.specs.Sha256.{drawn_number, bits_sampled}
 pub max_small : 63 < 64
 max_small = lit< tt
 
-pub bits_below : (c : Sha256Challenger) (bits : ℕ) → bits ≤ 63
+pub bits_below : {F : Type 0} (c : Sha256Challenger F) (bits : ℕ) → bits ≤ 63
     → (bits_sampled c bits).value < 2 ^ bits
 bits_below c bits h = mod-lt (drawn_number c) (pow_pos bits)

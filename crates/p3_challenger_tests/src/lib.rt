@@ -4,4 +4,6 @@
 #[cfg(test)]
 mod fs;
 #[cfg(test)]
+mod other_fields;
+#[cfg(test)]
 mod sha256_challenger;

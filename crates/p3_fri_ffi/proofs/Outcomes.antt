@@ -1,5 +1,5 @@
 -- What the status says of an outcome.
-use Rattle.std.proofs.Common.{◌≡◌, ◌≢◌, ℕ, List, length, Result, Ok, Err, subst, sym, ◌∙◌}
+use Rattle.std.proofs.Common.{◌≡◌, ◌≢◌, ℕ, List, Result, Ok, Err, subst, sym}
 use Rattle.std.specs.Prelude.{IfOk, OnErr, Vec}
 use Rattle.std.specs.Global.{Global}
 
@@ -10,14 +10,6 @@ pub answered : {R : Type 0} (P : List ℕ → Type 0) (outcome : Result (Vec ℕ
     → status ≡ 0 → P written
 answered P (Ok v) status written holds same none is = subst P (sym (same is)) holds
 answered P (Err e) status written holds same none is = absurd (none is)
-
--- and so does how long it is
-pub answered_length : {R : Type 0} (outcome : Result (Vec ℕ Global) R) (status needed size : ℕ)
-    → IfOk outcome (λ v. length v.items ≡ size)
-    → IfOk outcome (λ v. status ≡ 0 → needed ≡ length v.items) → OnErr outcome (status ≢ 0)
-    → status ≡ 0 → needed ≡ size
-answered_length (Ok v) status needed size holds same none is = same is ∙ holds
-answered_length (Err e) status needed size holds same none is = absurd (none is)
 
 -- and so does what holds wherever there is an answer
 pub known : {R P : Type 0} (outcome : Result (Vec ℕ Global) R) (status : ℕ)

@@ -2,9 +2,14 @@
 
 ghost use Rattle.std.specs.Prelude.{◌≡◌, ◌≢◌, ◌<◌, ◌≤◌, ◌++◌, length, take, drop};
 ghost use Rattle.std.specs.Prelude.{IfOk, OnErr};
+ghost use Rattle.p3_fri_ffi.specs.Fields.{OverField};
 ghost use Rattle.p3_fri_ffi.specs.Reply.{IsReply};
 
-use fri_flat::{ANSWERED, OUT_OF_MEMORY};
+use crate::field::{Call, Refusal, answer_over};
+use fri_flat::{ANSWERED, MALFORMED, OUT_OF_MEMORY};
+use p3_baby_bear::BabyBear;
+use p3_goldilocks::Goldilocks;
+use p3_koala_bear::KoalaBear;
 use std::alloc::Global;
 use std::fmt::Display;
 
@@ -18,9 +23,12 @@ pub(crate) trait Reason: Display + Drop {
         ensures { 1 ≤ result × result ≤ 3 };
 }
 
-impl Reason for fri_flat::Failure {
+impl Reason for Refusal {
     fn status(&self) -> u8 {
-        fri_flat::Failure::status(self)
+        match self {
+            Refusal::UnknownField { number: _ } => MALFORMED,
+            Refusal::Call(failure) => failure.status(),
+        }
     }
 }
 
@@ -92,4 +100,27 @@ pub(crate) fn reply<R: Reason>(
         Ok(bytes) => place(&bytes, ANSWERED, buffer, needed),
         Err(reason) => refuse(alloc, reason, buffer, needed),
     }
+}
+
+/// Writes the answer of a call over the field of this number, or the text of what is refused, and
+/// gives the status.
+pub(crate) fn reply_over<C: Call<BabyBear> + Call<KoalaBear> + Call<Goldilocks>>(
+    alloc: Global,
+    field: u32,
+    bytes: &[u8],
+    buffer: &mut [u8],
+    needed: &mut usize,
+) -> u8
+    ensures reply { IsReply buffer.old buffer.new needed.new result }
+    ensures answered { let out = take needed.new buffer.new in result ≡ 0 → OverField field
+        (⟦<C as Call<BabyBear>>⟧.Answers bytes.now out)
+        (⟦<C as Call<KoalaBear>>⟧.Answers bytes.now out)
+        (⟦<C as Call<Goldilocks>>⟧.Answers bytes.now out) }
+    ensures length { result ≡ 0 → OverField field
+        (⟦<C as Call<BabyBear>>⟧.HasLength needed.new)
+        (⟦<C as Call<KoalaBear>>⟧.HasLength needed.new)
+        (⟦<C as Call<Goldilocks>>⟧.HasLength needed.new) }
+{
+    let outcome = answer_over::<C>(alloc, field, bytes);
+    reply(alloc, outcome, buffer, needed)
 }

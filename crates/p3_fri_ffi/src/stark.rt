@@ -10,7 +10,7 @@ ghost use Rattle.fri_stark_bytes.specs.Texts.{IsSatisfiedText, IsAcceptedText};
 ghost use Rattle.p3_fri_ffi.specs.Reply.{IsReply};
 
 use crate::reply::reply;
-use fri_stark_json::{HidingScheme, MadeScheme, PlainScheme};
+use fri_stark_json::{Coset, HidingScheme, MadeScheme, PlainScheme};
 use p3_challenger_core::Plays;
 use p3_challenger_sha256::Sha256Challenger;
 use p3_field::{BabyBear, BabyBear4, Field, PrimeField64};
@@ -91,7 +91,7 @@ pub extern "C" fn p3_fri_stark_verify(
         ⟦<Sha256Challenger as Plays<BabyBear, BabyBear4, [u8; 32]>>⟧.moves false
         (⟦<PlainScheme as Pcs<BabyBear4, Sha256Challenger>>⟧.rules s)
         (λ j d. (d.shift ≡ ⟦<BabyBear as Field>⟧.ONE) × (d.log_size ≡ j)))
-        (IsMadeFor ⟦<PlainScheme as MadeScheme>⟧.IsMade system)
+        (IsMadeFor ⟦<PlainScheme as MadeScheme<BabyBear, BabyBear4, Coset>>⟧.IsMade system)
         (λ proof. stark_numbers ⟦<TwoAdicFriProof as Plain>⟧.numbers
         (stark_seen ⟦<TwoAdicFriProof as Plain>⟧.seen proof)
         ≡ stark_listed ⟦<TwoAdicFriProof as Plain>⟧.listed form) n start k)
@@ -118,7 +118,7 @@ pub extern "C" fn p3_fri_stark_verify_hiding(
         ⟦<Sha256Challenger as Plays<BabyBear, BabyBear4, [u8; 32]>>⟧.moves true
         (⟦<HidingScheme as Pcs<BabyBear4, Sha256Challenger>>⟧.rules s)
         (λ j d. (d.shift ≡ ⟦<BabyBear as Field>⟧.ONE) × (d.log_size ≡ j)))
-        (IsMadeFor ⟦<HidingScheme as MadeScheme>⟧.IsMade system)
+        (IsMadeFor ⟦<HidingScheme as MadeScheme<BabyBear, BabyBear4, Coset>>⟧.IsMade system)
         (λ proof. stark_numbers ⟦<HidingFriProof as Plain>⟧.numbers
         (stark_seen ⟦<HidingFriProof as Plain>⟧.seen proof)
         ≡ stark_listed ⟦<HidingFriProof as Plain>⟧.listed form) n start k)

@@ -1,15 +1,19 @@
-//! What tests ask of the hiding scheme, by one function: a call at a scheme takes long to prove.
+//! What tests ask of the hiding scheme, by one function: what names a scheme takes long to prove.
 
+use crate::committable::column;
+use crate::matrices::SHORT_PI;
 use crate::openings::both::are_both_accepted;
 use crate::openings::cases::{Asked, are_met};
 use crate::openings::headline::is_column_accepted;
 use crate::openings::requests::Batches;
 use crate::openings::stark::are_stark_columns_opened;
+use crate::openings::unsolved::{commit_and_open, is_named};
 use crate::periodic::has_entries;
-use crate::scheme::Setting;
-use crate::schemes::Scheme;
+use crate::scheme::{SMALL, Setting};
+use crate::schemes::{PlainScheme, Scheme, plain_scheme_of, scheme_of};
 use crate::tested::Tested;
 use crate::turns::{Turn, are_met_by_forks, are_met_in_turn};
+use p3_fri_folding::PowPhase;
 use std::alloc::Global;
 use std::process::Abort;
 
@@ -30,6 +34,9 @@ pub(crate) enum Question<'a> {
     AreStarkColumnsOpened,
     /// Whether a periodic column has a table.
     HasPeriodicTable,
+    /// Whether both schemes name this proof of work, which has no solution, where a column is to be
+    /// opened, or none; and the hiding one's data counts as opened.
+    IsWorkNamed(Option<PowPhase>),
 }
 
 /// What a scheme answers.
@@ -42,12 +49,26 @@ fn answer_of<P: Tested>(rt: &impl Abort, alloc: Global, question: Question<'_>) 
         Question::AreBothAccepted => are_both_accepted::<P>(rt, alloc),
         Question::AreStarkColumnsOpened => are_stark_columns_opened::<P>(rt, alloc),
         Question::HasPeriodicTable => has_entries::<P>(rt, alloc),
+        // no scheme alone answers that
+        Question::IsWorkNamed(_) => false,
     }
 }
 
-/// What the hiding scheme answers.
+/// What the hiding scheme answers, or both schemes.
 pub(crate) fn ask(rt: &impl Abort, alloc: Global, question: Question<'_>) -> bool {
-    answer_of::<Scheme>(rt, alloc, question)
+    match question {
+        Question::IsWorkNamed(work) => {
+            let setting = Setting { work, ..SMALL };
+            let mut scheme = scheme_of(setting);
+            let masked = column(rt, alloc, &SHORT_PI, 2);
+            let (hiding, held) = commit_and_open::<Scheme>(rt, &mut scheme, alloc, masked);
+            let mut plain_scheme = plain_scheme_of(setting);
+            let bare = column(rt, alloc, &SHORT_PI, 1);
+            let (plain, _held) = commit_and_open::<PlainScheme>(rt, &mut plain_scheme, alloc, bare);
+            held.is_opened() && is_named(work, hiding, plain)
+        }
+        _ => answer_of::<Scheme>(rt, alloc, question),
+    }
 }
 
 /// Whether it answers each of these questions by yes: the first that it doesn't is named.

@@ -2,7 +2,7 @@
 
 use crate::asked::{Question, ask};
 use crate::kind::Kind;
-use crate::masks::readings::Wanted;
+use crate::masks::readings::{Masks, Wanted};
 use crate::matrices::Entries;
 use crate::scheme::{SMALL, Setting};
 use crate::turns::Turn;
@@ -177,6 +177,13 @@ static CASES: [Case; 9] = [
     },
 ];
 
+/// Of what is committed to nothing is read.
+const NONE_READ: Wanted = Wanted {
+    each: &[],
+    masks: Masks::Any,
+    recombined: None,
+};
+
 /// Whether the call answers so. A quotient has chunks.
 fn is_answered(rt: &impl Abort, alloc: Global, kind: Kind, case: &Case) -> bool {
     let each = match kind {
@@ -197,7 +204,7 @@ fn is_answered(rt: &impl Abort, alloc: Global, kind: Kind, case: &Case) -> bool 
         each,
         refusal: case.refusal,
         domains: &[],
-        wanted: Wanted::Any,
+        wanted: NONE_READ,
     };
     ask(rt, alloc, Question::InTurn(setting, &[turn]))
 }

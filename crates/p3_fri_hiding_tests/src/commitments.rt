@@ -1,6 +1,8 @@
 //! Whatever a scheme commits to.
 
-ghost use Rattle.std.specs.Prelude.{length};
+ghost use Rattle.std.specs.Prelude.{All, length};
+ghost use Rattle.p3_fri_two_adic.specs.Ldes.{HasLdeHeight};
+ghost use Rattle.p3_fri_hiding_tests.specs.Fits.{Fits};
 
 use crate::committable::{chunks, domains_of, words};
 use crate::kind::Kind;
@@ -13,6 +15,15 @@ use std::process::Abort;
 
 /// A commitment and its data, or why there is none.
 type Commitment<Data> = Result<([u8; 32], Data), HidingFriProverError>;
+
+/// What a scheme of that setting commits to.
+fn commits_law<P: Tested>(_scheme: &P, _setting: Setting)
+    requires { P.IsOf _setting _scheme.now }
+    ensures columns { (es : _) → All (λ e. Fits 2 e.0.log_size e.1) es
+        → (P.rules _scheme.now).CanCommit es }
+    ensures words { (ws : _) → All (HasLdeHeight 27 2) ws
+        → (P.stark_rules _scheme.now).CanCommitLdes ws }
+{}
 
 /// The words of chunks, committed to.
 fn commit_chunks<P: Tested>(
@@ -47,6 +58,7 @@ pub(crate) fn commit_to<P: Tested>(
     requires { P.IsOf setting scheme.old }
     ensures { P.Keeps scheme.old scheme.new }
 {
+    commits_law(&*scheme, setting);
     match kind {
         Kind::Private => {
             let private = evaluations(rt, alloc, each, 2);

@@ -8,7 +8,7 @@ use crate::kind::Kind;
 use crate::matrices::{E, Entries, PI};
 use crate::scheme::SMALL;
 use crate::turns::Turn;
-use readings::{Masked, Wanted};
+use readings::{Masked, Masks, Wanted};
 
 /// 16 rows and 32 rows.
 const TRACES: [Entries; 2] = [
@@ -25,22 +25,23 @@ const TRACES: [Entries; 2] = [
 ];
 
 /// Both, with a mask after each row and four columns of masks beside.
-const MASKED: [Masked; 2] = [
-    Masked {
-        numbers: &PI,
-        width: 2,
-        height: 32,
-        columns: 6,
-        shown: 2,
-    },
-    Masked {
-        numbers: &E,
-        width: 1,
-        height: 64,
-        columns: 5,
-        shown: 1,
-    },
-];
+const MASKED_PI: Masked = Masked {
+    numbers: &PI,
+    width: 2,
+    has_rows_between: true,
+    height: 32,
+    columns: 6,
+    shown: 2,
+};
+
+const MASKED_E: Masked = Masked {
+    numbers: &E,
+    width: 1,
+    has_rows_between: true,
+    height: 64,
+    columns: 5,
+    shown: 1,
+};
 
 /// The masks of a scheme's commitments are the words of its generator in turn.
 const WORDS: Turn<'static> = Turn {
@@ -48,7 +49,11 @@ const WORDS: Turn<'static> = Turn {
     each: &TRACES,
     refusal: None,
     domains: &[(1, 5), (5, 6)],
-    wanted: Wanted::Words(&MASKED),
+    wanted: Wanted {
+        each: &[MASKED_PI, MASKED_E],
+        masks: Masks::Words,
+        recombined: None,
+    },
 };
 
 const TWICE: [Turn<'static>; 2] = [WORDS, WORDS];
@@ -81,44 +86,46 @@ const AFTER_A_REFUSAL: [Turn<'static>; 3] = [
 /// All columns of preprocessed matrices are shown, with zeros between their rows.
 const PREPROCESSED: [Turn<'static>; 1] = [Turn {
     kind: Kind::Preprocessed,
-    wanted: Wanted::Zeros(&[
-        Masked {
-            numbers: &PI,
-            width: 2,
-            height: 32,
-            columns: 2,
-            shown: 2,
-        },
-        Masked {
-            numbers: &E,
-            width: 1,
-            height: 64,
-            columns: 1,
-            shown: 1,
-        },
-    ]),
+    wanted: Wanted {
+        each: &[
+            Masked {
+                columns: 2,
+                ..MASKED_PI
+            },
+            Masked {
+                columns: 1,
+                ..MASKED_E
+            },
+        ],
+        masks: Masks::Zeros,
+        recombined: None,
+    },
     ..WORDS
 }];
 
 /// Random polynomials for domains of 32 and of 64 points: 8 columns each, of the next words.
+const RANDOM_COLUMNS: Masked = Masked {
+    numbers: &[],
+    width: 0,
+    has_rows_between: false,
+    height: 32,
+    columns: 8,
+    shown: 4,
+};
+
 const RANDOM: [Turn<'static>; 1] = [Turn {
     kind: Kind::Random,
-    wanted: Wanted::Words(&[
-        Masked {
-            numbers: &[],
-            width: 0,
-            height: 32,
-            columns: 8,
-            shown: 4,
-        },
-        Masked {
-            numbers: &[],
-            width: 0,
-            height: 64,
-            columns: 8,
-            shown: 4,
-        },
-    ]),
+    wanted: Wanted {
+        each: &[
+            RANDOM_COLUMNS,
+            Masked {
+                height: 64,
+                ..RANDOM_COLUMNS
+            },
+        ],
+        masks: Masks::Words,
+        recombined: None,
+    },
     ..WORDS
 }];
 
@@ -133,49 +140,93 @@ const FORKED: Turn<'static> = Turn {
     ..WORDS
 };
 
+/// Its first rows, masks and all.
+const FIRST_ROWS: Masked = Masked {
+    width: 5,
+    has_rows_between: false,
+    ..MASKED_E
+};
+
 /// Its first two rows with masks, by the generator of a scheme that was forked twice, by that of
 /// its second fork and by that of its first.
 const FORKS: [Turn<'static>; 3] = [
     Turn {
-        wanted: Wanted::Begin(&[&[
-            &[2, 143_829_583, 565_231_705, 1_818_524_112, 1_722_409_120],
-            &[
-                1_210_015_426,
-                1_307_057_766,
-                36_701_473,
-                1_056_710_320,
-                1_485_158_692,
-            ],
-        ]]),
+        wanted: Wanted {
+            each: &[Masked {
+                numbers: &[
+                    2,
+                    143_829_583,
+                    565_231_705,
+                    1_818_524_112,
+                    1_722_409_120,
+                    1_210_015_426,
+                    1_307_057_766,
+                    36_701_473,
+                    1_056_710_320,
+                    1_485_158_692,
+                ],
+                ..FIRST_ROWS
+            }],
+            masks: Masks::Any,
+            recombined: None,
+        },
         ..FORKED
     },
     Turn {
-        wanted: Wanted::Begin(&[&[
-            &[2, 320_492_493, 27_080_796, 309_016_361, 700_114_757],
-            &[
-                1_300_739_413,
-                1_254_157_230,
-                281_660_884,
-                1_732_025_374,
-                274_647_590,
-            ],
-        ]]),
+        wanted: Wanted {
+            each: &[Masked {
+                numbers: &[
+                    2,
+                    320_492_493,
+                    27_080_796,
+                    309_016_361,
+                    700_114_757,
+                    1_300_739_413,
+                    1_254_157_230,
+                    281_660_884,
+                    1_732_025_374,
+                    274_647_590,
+                ],
+                ..FIRST_ROWS
+            }],
+            masks: Masks::Any,
+            recombined: None,
+        },
         ..FORKED
     },
     Turn {
-        wanted: Wanted::Begin(&[&[
-            &[2, 1_235_608_696, 834_574_559, 1_879_293_789, 401_717_771],
-            &[
-                154_003_393,
-                1_503_105_165,
-                111_776_947,
-                273_203_997,
-                606_673_375,
-            ],
-        ]]),
+        wanted: Wanted {
+            each: &[Masked {
+                numbers: &[
+                    2,
+                    1_235_608_696,
+                    834_574_559,
+                    1_879_293_789,
+                    401_717_771,
+                    154_003_393,
+                    1_503_105_165,
+                    111_776_947,
+                    273_203_997,
+                    606_673_375,
+                ],
+                ..FIRST_ROWS
+            }],
+            masks: Masks::Any,
+            recombined: None,
+        },
         ..FORKED
     },
 ];
+
+/// A row of a masked chunk at 5, of which the last four columns only hide the others.
+const CHUNK_AT_FIVE: Masked = Masked {
+    numbers: &[],
+    width: 6,
+    has_rows_between: false,
+    height: 1,
+    columns: 6,
+    shown: 2,
+};
 
 /// Two chunks of 16 rows, on the halves of the coset of 31 of 32 points: the values at 5 of all
 /// columns of the masked chunks, of which the last four only hide the others, and the recombined
@@ -195,27 +246,34 @@ const CHUNKS: [Turn<'static>; 1] = [Turn {
         },
     ],
     domains: &[(5, 0), (5, 0)],
-    wanted: Wanted::Recombine(
-        &[
-            &[&[
-                32_742_644,
-                1_833_442_057,
-                468_616_025,
-                1_712_745_302,
-                1_029_365_084,
-                771_241_103,
-            ]],
-            &[&[
-                536_041_728,
-                1_312_185_036,
-                1_867_161_949,
-                1_045_928_189,
-                1_688_948_755,
-                1_768_662_780,
-            ]],
+    wanted: Wanted {
+        each: &[
+            Masked {
+                numbers: &[
+                    32_742_644,
+                    1_833_442_057,
+                    468_616_025,
+                    1_712_745_302,
+                    1_029_365_084,
+                    771_241_103,
+                ],
+                ..CHUNK_AT_FIVE
+            },
+            Masked {
+                numbers: &[
+                    536_041_728,
+                    1_312_185_036,
+                    1_867_161_949,
+                    1_045_928_189,
+                    1_688_948_755,
+                    1_768_662_780,
+                ],
+                ..CHUNK_AT_FIVE
+            },
         ],
-        [699_564_735, 1_070_878_612],
-    ),
+        masks: Masks::Any,
+        recombined: Some([699_564_735, 1_070_878_612]),
+    },
     ..WORDS
 }];
 

@@ -11,4 +11,4 @@ mod quotient;
 pub(crate) mod requests;
 pub(crate) mod shapes;
 pub(crate) mod stark;
-mod unsolved;
+pub(crate) mod unsolved;

@@ -11,7 +11,7 @@ ghost use Rattle.p3_fri_hiding_tests.specs.OfSetting.{IsOfSetting, kept};
 
 use crate::openable::{are_private, is_openable, is_readable};
 use crate::openings::changes::{Change, change_random};
-use crate::openings::shapes::{Counts, have_counts};
+use crate::openings::shapes::{Counts, are_opened_so};
 use crate::scheme::{Inputs, Proof, Rounds, Setting, generator, parameters};
 use crate::tested::{DataState, Tested};
 use p3_dft::Radix2Dit;
@@ -101,7 +101,7 @@ impl Tested for Scheme {
     }
 
     fn change_random_values(proof: &mut Proof, counts: &[Counts], change: Change) -> bool {
-        let had = have_counts(&proof.0, counts);
+        let had = are_opened_so(&proof.0, counts, &[]);
         change_random(&mut proof.0, change);
         had
     }

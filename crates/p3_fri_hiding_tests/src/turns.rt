@@ -78,7 +78,7 @@ fn is_met<P: Tested>(
             let readings = readings(rt, &*scheme, alloc, setting, &held, turn.domains);
             turn.refusal.is_none()
                 && is_new(P::state_of(&held), turn.kind, setting.num_random_codewords)
-                && are_read(&readings, turn.wanted, words)
+                && are_read(&readings, &turn.wanted, words)
         }
         Err(refusal) => turn.refusal == Some(refusal),
     }

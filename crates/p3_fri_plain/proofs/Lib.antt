@@ -1,4 +1,4 @@
-pub mod Canonical
+pub mod Extensions
 pub mod Faultless
 pub mod Nested
-pub mod Wider
+pub mod PassedOn

@@ -1,15 +1,12 @@
 -- No two values have the same numbers.
-use mathlib.Core.HLevel.{is_prop→PathP}
-use Rattle.std.specs.Coded.{le_prop}
-use Rattle.std.specs.Prelude.{ℕ, List, [], ◌∷◌, ◌≡◌, ◌<◌, map, length, refl}
-use Rattle.std.proofs.Common.{ap, ap₂, drop, slice_index_or, arith}
+use Rattle.std.specs.Prelude.{ℕ, List, [], ◌∷◌, ◌≡◌, map, length, refl}
+use Rattle.std.proofs.Common.{ap, ap₂, sym, ◌∙◌, drop, slice_index_or, arith}
 use Rattle.std.proofs.lemmas.List.{length-map}
-use Rattle.p3_baby_bear.specs.declared.baby_bear.BabyBear.{BabyBear}
-use Rattle.p3_baby_bear.specs.declared.baby_bear4.BabyBear4.{BabyBear4}
-use Rattle.p3_fri_relation.specs.Setting.{InputOpening, RoundOpening, Proof}
-use Rattle.p3_fri_plain.specs.Numbers.{canonical_number, coefficient_numbers, Paths}
-use Rattle.p3_fri_plain.specs.Numbers.{batch_numbers, step_numbers, proof_numbers, hiding_numbers}
-use Rattle.p3_fri_plain.specs.Numbers.{SeenProof, ProofNumbers, Hiding, HidingSeen, HidingNumbers}
+use Rattle.algebra.specs.Field.{FieldOps, multiple}
+use Rattle.p3_fri_relation.specs.Setting.{InputOpening, RoundOpening}
+use Rattle.p3_fri_plain.specs.Numbers.{Paths, SeenProof, ProofNumbers, HidingSeen, HidingNumbers}
+use Rattle.p3_fri_plain.specs.Numbers.{batch_numbers, coefficient_numbers, step_numbers}
+use Rattle.p3_fri_plain.specs.Numbers.{proof_numbers, hiding_numbers}
 
 -- where a function tells entries apart, it tells lists apart, entry by entry
 pub map_told_apart : {A B : Type 0} (f : A → B) → ((a b : A) → f a ≡ f b → a ≡ b)
@@ -28,70 +25,73 @@ map_told_apart f apart (x ∷ xs) (y ∷ ys) same =
     (apart x y (ap (λ zs. slice_index_or zs 0 (f x)) same))
     (map_told_apart f apart xs ys (ap (drop 1) same))
 
-pub element_told_apart : (a b : BabyBear) → canonical_number a ≡ canonical_number b → a ≡ b
-element_told_apart a b same = λ i. record {
-  value = same i;
-  canonical = is_prop→PathP (λ j. same j < 2013265921) (λ j. le_prop) a.canonical b.canonical i;
-}
+-- elements that are the multiples of one for their numbers
+pub element_told_apart : {F : Type 0} (ops : FieldOps F) (canonical : F → ℕ)
+    → ((x : F) → multiple ops (canonical x) ≡ x)
+    → (a b : F) → canonical a ≡ canonical b → a ≡ b
+element_told_apart ops canonical back a b same =
+    sym (back a) ∙ ap (multiple ops) same ∙ back b
 
-pub extension_told_apart : (a b : BabyBear4) → coefficient_numbers a ≡ coefficient_numbers b
-    → a ≡ b
-extension_told_apart a b same = λ i. record {
-  constant = element_told_apart a.constant b.constant (ap (λ l. slice_index_or l 0 0) same) i;
-  linear = element_told_apart a.linear b.linear (ap (λ l. slice_index_or l 1 0) same) i;
-  quadratic = element_told_apart a.quadratic b.quadratic (ap (λ l. slice_index_or l 2 0) same) i;
-  cubic = element_told_apart a.cubic b.cubic (ap (λ l. slice_index_or l 3 0) same) i;
-}
+module _ {F : Type 0} (canonical : F → ℕ)
+    (apart : (a b : F) → canonical a ≡ canonical b → a ≡ b) where
+  row_told_apart : (xs ys : List F) → map canonical xs ≡ map canonical ys → xs ≡ ys
+  row_told_apart = map_told_apart canonical apart
 
--- lists and lists of lists of elements
-row_told_apart : (xs ys : List BabyBear) → map canonical_number xs ≡ map canonical_number ys
-    → xs ≡ ys
-row_told_apart = map_told_apart canonical_number element_told_apart
+  pub batch_told_apart : (a b : InputOpening F Paths)
+      → batch_numbers canonical a ≡ batch_numbers canonical b → a ≡ b
+  batch_told_apart a b same = λ i. record {
+    rows = map_told_apart (map (map canonical)) (map_told_apart (map canonical) row_told_apart)
+        a.rows b.rows (ap (λ (o : InputOpening ℕ Paths). o.rows) same) i;
+    path = ap (λ (o : InputOpening ℕ Paths). o.path) same i;
+  }
 
-values_told_apart : (xs ys : List BabyBear4)
-    → map coefficient_numbers xs ≡ map coefficient_numbers ys → xs ≡ ys
-values_told_apart = map_told_apart coefficient_numbers extension_told_apart
+module _ {F E : Type 0} (canonical : F → ℕ)
+    (apart : (a b : F) → canonical a ≡ canonical b → a ≡ b)
+    (coefficients : E → List F)
+    (injective : (a b : E) → coefficients a ≡ coefficients b → a ≡ b) where
+  abbrev numbers : E → List ℕ
+  numbers = coefficient_numbers canonical coefficients
 
-pub batch_told_apart : (a b : InputOpening BabyBear Paths) → batch_numbers a ≡ batch_numbers b
-    → a ≡ b
-batch_told_apart a b same = λ i. record {
-  rows = map_told_apart (map (map canonical_number))
-      (map_told_apart (map canonical_number) row_told_apart)
-      a.rows b.rows (ap (λ (o : InputOpening ℕ Paths). o.rows) same) i;
-  path = ap (λ (o : InputOpening ℕ Paths). o.path) same i;
-}
+  pub extension_told_apart : (a b : E) → coefficient_numbers canonical coefficients a
+      ≡ coefficient_numbers canonical coefficients b → a ≡ b
+  extension_told_apart a b same =
+      injective a b (map_told_apart canonical apart (coefficients a) (coefficients b) same)
 
-pub step_told_apart : (a b : RoundOpening BabyBear4 Paths) → step_numbers a ≡ step_numbers b
-    → a ≡ b
-step_told_apart a b same = λ i. record {
-  siblings = map_told_apart (map coefficient_numbers) values_told_apart
-      a.siblings b.siblings (ap (λ (o : RoundOpening (List ℕ) Paths). o.siblings) same) i;
-  path = ap (λ (o : RoundOpening (List ℕ) Paths). o.path) same i;
-}
+  values_told_apart : (xs ys : List E) → map numbers xs ≡ map numbers ys → xs ≡ ys
+  values_told_apart = map_told_apart numbers extension_told_apart
 
-pub proof_told_apart : (a b : SeenProof) → proof_numbers a ≡ proof_numbers b → a ≡ b
-proof_told_apart a b same = λ i. record {
-  batch_witness = element_told_apart a.batch_witness b.batch_witness
-      (ap (λ (p : ProofNumbers). p.batch_witness) same) i;
-  commitments = ap (λ (p : ProofNumbers). p.commitments) same i;
-  commit_witnesses = row_told_apart a.commit_witnesses b.commit_witnesses
-      (ap (λ (p : ProofNumbers). p.commit_witnesses) same) i;
-  inputs = map_told_apart batch_numbers batch_told_apart a.inputs b.inputs
-      (ap (λ (p : ProofNumbers). p.inputs) same) i;
-  rounds = map_told_apart step_numbers step_told_apart a.rounds b.rounds
-      (ap (λ (p : ProofNumbers). p.rounds) same) i;
-  final_poly = values_told_apart a.final_poly b.final_poly
-      (ap (λ (p : ProofNumbers). p.final_poly) same) i;
-  query_witness = element_told_apart a.query_witness b.query_witness
-      (ap (λ (p : ProofNumbers). p.query_witness) same) i;
-}
+  pub step_told_apart : (a b : RoundOpening E Paths)
+      → step_numbers canonical coefficients a ≡ step_numbers canonical coefficients b → a ≡ b
+  step_told_apart a b same = λ i. record {
+    siblings = map_told_apart (map numbers) values_told_apart
+        a.siblings b.siblings (ap (λ (o : RoundOpening (List ℕ) Paths). o.siblings) same) i;
+    path = ap (λ (o : RoundOpening (List ℕ) Paths). o.path) same i;
+  }
 
-pub hiding_told_apart : (a b : HidingSeen) → hiding_numbers a ≡ hiding_numbers b → a ≡ b
-hiding_told_apart a b same = λ i. record {
-  random_values = map_told_apart (map (map (map coefficient_numbers)))
-      (map_told_apart (map (map coefficient_numbers))
-      (map_told_apart (map coefficient_numbers) values_told_apart))
-      a.random_values b.random_values
-      (ap (λ (h : HidingNumbers). h.random_values) same) i;
-  proof = proof_told_apart a.proof b.proof (ap (λ (h : HidingNumbers). h.proof) same) i;
-}
+  pub proof_told_apart : (a b : SeenProof F E)
+      → proof_numbers canonical coefficients a ≡ proof_numbers canonical coefficients b → a ≡ b
+  proof_told_apart a b same = λ i. record {
+    batch_witness = apart a.batch_witness b.batch_witness
+        (ap (λ (p : ProofNumbers). p.batch_witness) same) i;
+    commitments = ap (λ (p : ProofNumbers). p.commitments) same i;
+    commit_witnesses = row_told_apart canonical apart a.commit_witnesses b.commit_witnesses
+        (ap (λ (p : ProofNumbers). p.commit_witnesses) same) i;
+    inputs = map_told_apart (batch_numbers canonical) (batch_told_apart canonical apart)
+        a.inputs b.inputs (ap (λ (p : ProofNumbers). p.inputs) same) i;
+    rounds = map_told_apart (step_numbers canonical coefficients) step_told_apart
+        a.rounds b.rounds (ap (λ (p : ProofNumbers). p.rounds) same) i;
+    final_poly = values_told_apart a.final_poly b.final_poly
+        (ap (λ (p : ProofNumbers). p.final_poly) same) i;
+    query_witness = apart a.query_witness b.query_witness
+        (ap (λ (p : ProofNumbers). p.query_witness) same) i;
+  }
+
+  pub hiding_told_apart : (a b : HidingSeen F E)
+      → hiding_numbers canonical coefficients a ≡ hiding_numbers canonical coefficients b → a ≡ b
+  hiding_told_apart a b same = λ i. record {
+    random_values = map_told_apart (map (map (map numbers)))
+        (map_told_apart (map (map numbers)) (map_told_apart (map numbers) values_told_apart))
+        a.random_values b.random_values
+        (ap (λ (h : HidingNumbers). h.random_values) same) i;
+    proof = proof_told_apart a.proof b.proof (ap (λ (h : HidingNumbers). h.proof) same) i;
+  }

@@ -2,8 +2,6 @@
 use Rattle.std.specs.Prelude.{ℕ, List, map}
 use Rattle.std.specs.declared.vec.Vec.{Vec}
 use Rattle.algebra.specs.Nested.{lists, nested}
-use Rattle.p3_baby_bear.specs.declared.baby_bear.BabyBear.{BabyBear}
-use Rattle.p3_baby_bear.specs.declared.baby_bear4.BabyBear4.{BabyBear4}
 use Rattle.p3_fri_relation.specs.declared.proof.CommitPhaseMultiStep.{CommitPhaseMultiStep}
 use Rattle.p3_fri_relation.specs.declared.proof.BatchMultiOpening.{BatchMultiOpening}
 use Rattle.p3_fri_relation.specs.declared.proof.FriProof.{FriProof}
@@ -15,14 +13,14 @@ use Rattle.p3_fri_plain.specs.declared.forms.PlainHidingProof.{PlainHidingProof}
 use Rattle.p3_fri_plain.specs.Numbers.{Digest, Paths, SeenProof, ProofNumbers}
 use Rattle.p3_fri_plain.specs.Numbers.{HidingSeen, HidingNumbers}
 
-module _ {M Com Data Err A B : Type 0} where
-  abbrev pub batch_seen : BatchMultiOpening BabyBear M Com Data (Vec (Vec Digest A) B) Err
-      → InputOpening BabyBear Paths
+module _ {T M Com Data Err A B : Type 0} where
+  abbrev pub batch_seen : BatchMultiOpening T M Com Data (Vec (Vec Digest A) B) Err
+      → InputOpening T Paths
   batch_seen o =
       record { rows = nested o.opened_values.items; path = lists o.opening_proof.items }
 
-  abbrev pub step_seen : CommitPhaseMultiStep BabyBear4 M Com Data (Vec (Vec Digest A) B) Err
-      → RoundOpening BabyBear4 Paths
+  abbrev pub step_seen : CommitPhaseMultiStep T M Com Data (Vec (Vec Digest A) B) Err
+      → RoundOpening T Paths
   step_seen o =
       record { siblings = lists o.sibling_values.items; path = lists o.opening_proof.items }
 
@@ -34,11 +32,11 @@ abbrev pub step_listed : PlainStep → RoundOpening (List ℕ) Paths
 step_listed form =
     record { siblings = nested form.sibling_values.items; path = nested form.paths.items }
 
-module _ {M Data Err A B InM InCom InData InErr C D X : Type 0} where
-  abbrev pub proof_seen : FriProof BabyBear4 M BabyBear
-      (Vec (BatchMultiOpening BabyBear InM InCom InData (Vec (Vec Digest C) D) InErr) X)
+module _ {F E M Data Err A B InM InCom InData InErr C D X : Type 0} where
+  abbrev pub proof_seen : FriProof E M F
+      (Vec (BatchMultiOpening F InM InCom InData (Vec (Vec Digest C) D) InErr) X)
       Digest Data (Vec (Vec Digest A) B) Err
-      → SeenProof
+      → SeenProof F E
   proof_seen proof = record {
     batch_witness = proof.batch_pow_witness;
     commitments = proof.commit_phase_commits.items;
@@ -60,12 +58,12 @@ proof_listed form = record {
   query_witness = form.query_pow_witness;
 }
 
-module _ {M Data Err A B InM InCom InData InErr C D X V W Y Z : Type 0} where
-  abbrev pub hiding_seen : Vec (Vec (Vec (Vec BabyBear4 V) W) Y) Z
-      × FriProof BabyBear4 M BabyBear
-      (Vec (BatchMultiOpening BabyBear InM InCom InData (Vec (Vec Digest C) D) InErr) X)
+module _ {F E M Data Err A B InM InCom InData InErr C D X V W Y Z : Type 0} where
+  abbrev pub hiding_seen : Vec (Vec (Vec (Vec E V) W) Y) Z
+      × FriProof E M F
+      (Vec (BatchMultiOpening F InM InCom InData (Vec (Vec Digest C) D) InErr) X)
       Digest Data (Vec (Vec Digest A) B) Err
-      → HidingSeen
+      → HidingSeen F E
   hiding_seen pair = record {
     random_values = map (λ matrices. nested matrices.items) pair.0.items;
     proof = proof_seen pair.1;

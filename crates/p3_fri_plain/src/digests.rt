@@ -9,6 +9,8 @@ use std::alloc::{AllocError, Global};
 
 /// The bytes.
 impl Plain for [u8; 32] {
+    type Value = [u8; 32];
+
     type Form = Vec<u8>;
 
     ghost Seen = { List ℕ };
@@ -23,8 +25,8 @@ impl Plain for [u8; 32] {
 
     ghost has_fault = { DigestFault };
 
-    fn to_plain(&self, alloc: Global) -> Result<Vec<u8>, AllocError> {
-        Vec::from_slice(alloc, self)
+    fn to_plain(alloc: Global, value: &[u8; 32]) -> Result<Vec<u8>, AllocError> {
+        Vec::from_slice(alloc, value)
     }
 
     fn from_plain(alloc: Global, form: &Vec<u8>) -> Result<[u8; 32], PlainProofError> {

@@ -1,36 +1,25 @@
 //! The plain forms of elements.
 
-ghost use Rattle.std.specs.Prelude.{◌≡◌, ℕ, List, map, IfOk, IfErr};
-ghost use Rattle.p3_baby_bear.specs.declared.baby_bear.BabyBear.{BabyBear};
-ghost use Rattle.p3_baby_bear.specs.declared.baby_bear4.BabyBear4.{BabyBear4};
-ghost use Rattle.p3_fri_plain.specs.Numbers.{canonical_number, coefficient_numbers};
+ghost use Rattle.std.specs.Prelude.{ℕ, List};
+ghost use Rattle.p3_fri_plain.specs.Numbers.{coefficient_numbers};
 ghost use Rattle.p3_fri_plain.specs.PlainLaws.{element_told_apart, extension_told_apart};
 ghost use Rattle.p3_fri_plain.specs.Faults.{ElementFault, ExtensionFault};
 
 use crate::error::PlainProofError;
-use crate::plain::Plain;
-use p3_baby_bear::{BabyBear, BabyBear4};
+use crate::plain::{Each, Plain};
 use p3_field_core::{ExtensionField, PrimeField64};
 use std::alloc::{AllocError, Global};
+use std::marker::PhantomData;
 
-/// The element with this canonical number.
-#[tactic(auto, using(crate::proofs::Canonical::number_of_multiple))]
-fn element(number: u64) -> Result<BabyBear, PlainProofError>
-    ensures ok { IfOk result (λ x. x.value ≡ number) }
-    ensures err { IfErr result (λ error. ElementFault error number) }
-{
-    if number < BabyBear::ORDER_U64 {
-        Ok(BabyBear::from_canonical(number))
-    } else {
-        Err(PlainProofError::ElementOutOfRange)
-    }
-}
+/// An element of a prime field: its canonical number.
+pub struct Element<F>(PhantomData<F>);
 
-/// The canonical number.
-impl Plain for BabyBear {
+impl<F: PrimeField64> Plain for Element<F> {
+    type Value = F;
+
     type Form = u64;
 
-    ghost Seen = { BabyBear };
+    ghost Seen = { F };
 
     ghost seen = { λ x. x };
 
@@ -38,26 +27,35 @@ impl Plain for BabyBear {
 
     ghost listed = { λ n. n };
 
-    ghost numbers = { canonical_number };
+    ghost numbers = { F.canonical };
 
-    ghost has_fault = { ElementFault };
+    ghost has_fault = { ElementFault F.ORDER_U64 };
 
-    fn to_plain(&self, alloc: Global) -> Result<u64, AllocError> {
-        Ok(self.as_canonical_u64())
+    fn to_plain(alloc: Global, value: &F) -> Result<u64, AllocError> {
+        Ok(value.as_canonical_u64())
     }
 
-    fn from_plain(alloc: Global, form: &u64) -> Result<BabyBear, PlainProofError> {
-        element(*form)
+    fn from_plain(alloc: Global, form: &u64) -> Result<F, PlainProofError> {
+        if *form < F::ORDER_U64 {
+            Ok(F::from_canonical(*form))
+        } else {
+            Err(PlainProofError::ElementOutOfRange)
+        }
     }
 
-    ghost told_apart = { element_told_apart };
+    ghost told_apart = { element_told_apart F.ops F.canonical F.multiple_canonical };
 }
 
-/// The coefficients' canonical numbers, that of one first.
-impl Plain for BabyBear4 {
+/// An element of the extension `EF` of a prime field: its coefficients' canonical numbers, that of
+/// one first.
+pub struct ExtensionElement<F, EF>(PhantomData<F>, PhantomData<EF>);
+
+impl<F: PrimeField64, EF: ExtensionField<F>> Plain for ExtensionElement<F, EF> {
+    type Value = EF;
+
     type Form = Vec<u64>;
 
-    ghost Seen = { BabyBear4 };
+    ghost Seen = { EF };
 
     ghost seen = { λ x. x };
 
@@ -65,35 +63,28 @@ impl Plain for BabyBear4 {
 
     ghost listed = { λ form. form.items };
 
-    ghost numbers = { coefficient_numbers };
+    ghost numbers = { coefficient_numbers F.canonical EF.coefficients };
 
-    ghost has_fault = { ExtensionFault };
+    ghost has_fault = { ExtensionFault F.ORDER_U64 EF.DIMENSION };
 
-    fn to_plain(&self, alloc: Global) -> Result<Vec<u64>, AllocError> {
-        let constant: BabyBear = self.coefficient(0);
-        let linear: BabyBear = self.coefficient(1);
-        let quadratic: BabyBear = self.coefficient(2);
-        let cubic: BabyBear = self.coefficient(3);
-        Ok(vec![in alloc;
-            constant.as_canonical_u64(),
-            linear.as_canonical_u64(),
-            quadratic.as_canonical_u64(),
-            cubic.as_canonical_u64(),
-        ]?)
+    fn to_plain(alloc: Global, value: &EF) -> Result<Vec<u64>, AllocError> {
+        let mut numbers = Vec::with_capacity(alloc, EF::DIMENSION)?;
+        for index in 0..EF::DIMENSION {
+            let coefficient: F = value.coefficient(index);
+            numbers.push(coefficient.as_canonical_u64())?;
+        }
+        Ok(numbers)
     }
 
-    fn from_plain(alloc: Global, form: &Vec<u64>) -> Result<BabyBear4, PlainProofError> {
-        let [constant, linear, quadratic, cubic] = form.as_slice() else {
+    fn from_plain(alloc: Global, form: &Vec<u64>) -> Result<EF, PlainProofError> {
+        if form.len() != EF::DIMENSION {
             return Err(PlainProofError::ElementLength);
-        };
-        let coefficients = [
-            element(*constant)?,
-            element(*linear)?,
-            element(*quadratic)?,
-            element(*cubic)?,
-        ];
-        Ok(BabyBear4::from_coefficients(&coefficients))
+        }
+        let coefficients = Each::<Element<F>>::from_plain(alloc, form)?;
+        Ok(EF::from_coefficients(coefficients.as_slice()))
     }
 
-    ghost told_apart = { extension_told_apart };
+    ghost told_apart = { extension_told_apart F.canonical
+        (element_told_apart F.ops F.canonical F.multiple_canonical)
+        EF.coefficients EF.coefficients_injective };
 }

@@ -12,8 +12,8 @@ pub enum PlainProofError {
     /// A number that stands for an element, or for one of its coefficients, isn't below the order.
     #[error("a number is not below the field's order")]
     ElementOutOfRange,
-    /// An element of the extension isn't given by four numbers.
-    #[error("an element of the extension is not given by four numbers")]
+    /// An element of the extension isn't given by one number for each coefficient.
+    #[error("an element of the extension is not given by one number for each coefficient")]
     ElementLength,
     /// A digest hasn't 32 bytes.
     #[error("a digest does not have 32 bytes")]

@@ -1,6 +1,6 @@
-//! The plain forms of proofs and of their parts. An element of BabyBear is its canonical number,
-//! one of its extension the list of its four coefficients' numbers, that of one first, and a digest
-//! the list of its 32 bytes.
+//! The plain forms of proofs and of their parts. An element of a prime field is its canonical
+//! number, one of an extension the list of its coefficients' numbers, that of one first, and a
+//! digest the list of its 32 bytes.
 
 use serde::{Deserialize, Serialize};
 

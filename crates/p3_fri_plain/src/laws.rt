@@ -9,11 +9,14 @@ use crate::plain::Plain;
 use std::alloc::Global;
 
 /// The value of the plain form of this one: the same, memory aside.
-pub fn value_round_trip<T: Plain>(alloc: Global, value: &T) -> Result<T, PlainProofError>
+pub fn value_round_trip<T: Plain>(
+    alloc: Global,
+    value: &T::Value,
+) -> Result<T::Value, PlainProofError>
     ensures same { IfOk result (λ again. T.seen again ≡ T.seen value.now) }
     ensures memory { IfErr result (λ error. error ≡ OutOfMemory) }
 {
-    let form = value.to_plain(alloc)?;
+    let form = T::to_plain(alloc, value)?;
     T::from_plain(alloc, &form)
 }
 
@@ -24,5 +27,5 @@ pub fn form_round_trip<T: Plain>(alloc: Global, form: &T::Form) -> Result<T::For
         → T.has_fault error (T.listed form.now)) }
 {
     let value = T::from_plain(alloc, form)?;
-    Ok(value.to_plain(alloc)?)
+    Ok(T::to_plain(alloc, &value)?)
 }

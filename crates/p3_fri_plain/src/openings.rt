@@ -1,33 +1,39 @@
 //! The plain forms of what is opened: of one commitment, and in one round.
 
 ghost use Rattle.std.specs.Prelude.{ℕ, List};
-ghost use Rattle.p3_baby_bear.specs.declared.baby_bear.BabyBear.{BabyBear};
-ghost use Rattle.p3_baby_bear.specs.declared.baby_bear4.BabyBear4.{BabyBear4};
 ghost use Rattle.p3_fri_relation.specs.Setting.{InputOpening, RoundOpening};
 ghost use Rattle.p3_fri_plain.specs.Faults.{BatchFault, StepFault};
 ghost use Rattle.p3_fri_plain.specs.Numbers.{Paths, batch_numbers, step_numbers};
+ghost use Rattle.p3_fri_plain.specs.PlainLaws.{element_told_apart};
 ghost use Rattle.p3_fri_plain.specs.PlainLaws.{batch_told_apart, step_told_apart};
 ghost use Rattle.p3_fri_plain.specs.Views.{batch_seen, batch_listed, step_seen, step_listed};
 
+use crate::elements::{Element, ExtensionElement};
 use crate::error::PlainProofError;
 use crate::forms::{PlainBatch, PlainStep};
-use crate::plain::Plain;
-use p3_baby_bear::{BabyBear, BabyBear4};
+use crate::plain::{Each, Plain};
+use p3_field_core::{ElementBytes, ExtensionField, PrimeField64};
 use p3_fri_relation::proof::{BatchMultiOpening, CommitPhaseMultiStep};
 use p3_mmcs::Sha256Mmcs;
 use std::alloc::{AllocError, Global};
+use std::marker::PhantomData;
 
 /// What is opened of one commitment.
-type BatchOpening = BatchMultiOpening<BabyBear, Sha256Mmcs<BabyBear>>;
+type BatchOpening<F> = BatchMultiOpening<F, Sha256Mmcs<F>>;
 
 /// What one round opens.
-type StepOpening = CommitPhaseMultiStep<BabyBear4, Sha256Mmcs<BabyBear4>>;
+type StepOpening<EF> = CommitPhaseMultiStep<EF, Sha256Mmcs<EF>>;
+
+/// For each query the digests from the leaf up.
+type EachPath = Each<Each<[u8; 32]>>;
 
 /// Field by field.
-impl Plain for BatchOpening {
+impl<F: PrimeField64 + ElementBytes> Plain for BatchOpening<F> {
+    type Value = BatchOpening<F>;
+
     type Form = PlainBatch;
 
-    ghost Seen = { InputOpening BabyBear Paths };
+    ghost Seen = { InputOpening F Paths };
 
     ghost seen = { batch_seen };
 
@@ -35,32 +41,37 @@ impl Plain for BatchOpening {
 
     ghost listed = { batch_listed };
 
-    ghost numbers = { batch_numbers };
+    ghost numbers = { batch_numbers F.canonical };
 
-    ghost has_fault = { BatchFault };
+    ghost has_fault = { BatchFault F.ORDER_U64 };
 
-    fn to_plain(&self, alloc: Global) -> Result<PlainBatch, AllocError> {
+    fn to_plain(alloc: Global, value: &BatchOpening<F>) -> Result<PlainBatch, AllocError> {
         Ok(PlainBatch {
-            opened_values: self.opened_values.to_plain(alloc)?,
-            paths: self.opening_proof.to_plain(alloc)?,
+            opened_values: Each::<Each<Each<Element<F>>>>::to_plain(alloc, &value.opened_values)?,
+            paths: EachPath::to_plain(alloc, &value.opening_proof)?,
         })
     }
 
-    fn from_plain(alloc: Global, form: &PlainBatch) -> Result<Self, PlainProofError> {
+    fn from_plain(alloc: Global, form: &PlainBatch) -> Result<BatchOpening<F>, PlainProofError> {
         Ok(BatchMultiOpening {
-            opened_values: Plain::from_plain(alloc, &form.opened_values)?,
-            opening_proof: Plain::from_plain(alloc, &form.paths)?,
+            opened_values: Each::<Each<Each<Element<F>>>>::from_plain(alloc, &form.opened_values)?,
+            opening_proof: EachPath::from_plain(alloc, &form.paths)?,
         })
     }
 
-    ghost told_apart = { batch_told_apart };
+    ghost told_apart = { batch_told_apart F.canonical
+        (element_told_apart F.ops F.canonical F.multiple_canonical) };
 }
 
-/// Field by field.
-impl Plain for StepOpening {
+/// What one round opens, of the extension `EF` of a prime field, field by field.
+pub struct Step<F, EF>(PhantomData<F>, PhantomData<EF>);
+
+impl<F: PrimeField64, EF: ExtensionField<F> + ElementBytes> Plain for Step<F, EF> {
+    type Value = StepOpening<EF>;
+
     type Form = PlainStep;
 
-    ghost Seen = { RoundOpening BabyBear4 Paths };
+    ghost Seen = { RoundOpening EF Paths };
 
     ghost seen = { step_seen };
 
@@ -68,23 +79,27 @@ impl Plain for StepOpening {
 
     ghost listed = { step_listed };
 
-    ghost numbers = { step_numbers };
+    ghost numbers = { step_numbers F.canonical EF.coefficients };
 
-    ghost has_fault = { StepFault };
+    ghost has_fault = { StepFault F.ORDER_U64 EF.DIMENSION };
 
-    fn to_plain(&self, alloc: Global) -> Result<PlainStep, AllocError> {
+    fn to_plain(alloc: Global, value: &StepOpening<EF>) -> Result<PlainStep, AllocError> {
+        let values = &value.sibling_values;
         Ok(PlainStep {
-            sibling_values: self.sibling_values.to_plain(alloc)?,
-            paths: self.opening_proof.to_plain(alloc)?,
+            sibling_values: Each::<Each<ExtensionElement<F, EF>>>::to_plain(alloc, values)?,
+            paths: EachPath::to_plain(alloc, &value.opening_proof)?,
         })
     }
 
-    fn from_plain(alloc: Global, form: &PlainStep) -> Result<Self, PlainProofError> {
+    fn from_plain(alloc: Global, form: &PlainStep) -> Result<StepOpening<EF>, PlainProofError> {
+        let values = &form.sibling_values;
         Ok(CommitPhaseMultiStep {
-            sibling_values: Plain::from_plain(alloc, &form.sibling_values)?,
-            opening_proof: Plain::from_plain(alloc, &form.paths)?,
+            sibling_values: Each::<Each<ExtensionElement<F, EF>>>::from_plain(alloc, values)?,
+            opening_proof: EachPath::from_plain(alloc, &form.paths)?,
         })
     }
 
-    ghost told_apart = { step_told_apart };
+    ghost told_apart = { step_told_apart F.canonical
+        (element_told_apart F.ops F.canonical F.multiple_canonical)
+        EF.coefficients EF.coefficients_injective };
 }

@@ -1,6 +1,7 @@
 //! Proofs by way of their plain forms and of JSON, and the pair of the scheme that hides.
 
 use crate::line::{COMMITMENT, LINE, is_accepted, opened};
+use p3_field::{BabyBear, BabyBear4};
 use p3_fri_plain::laws::{form_round_trip, value_round_trip};
 use p3_fri_plain::{
     PlainFriProof, PlainHidingProof, TwoAdicFriProof, from_plain, hiding_from_plain,
@@ -53,7 +54,7 @@ fn is_proof(rt: &impl Abort, alloc: Global) -> bool {
     let form_again = form_round_trip::<TwoAdicFriProof>(alloc, &form).expect(rt, "refused");
     assert!(rt; form_again == form, "another form");
     let proof = from_plain(alloc, form).expect(rt, "refused");
-    let again = value_round_trip(alloc, &proof).expect(rt, "refused");
+    let again = value_round_trip::<TwoAdicFriProof>(alloc, &proof).expect(rt, "refused");
     is_accepted(rt, alloc, &proof)
         && is_accepted(rt, alloc, &again)
         && text_of(rt, alloc, &again).as_str() == LINE
@@ -68,7 +69,7 @@ fn comes_back(rt: &impl Abort, alloc: Global, text: &str) -> bool {
 /// The same of the scheme that hides.
 fn hiding_comes_back(rt: &impl Abort, alloc: Global, text: &str) -> bool {
     let form = serde_json::from_str::<PlainHidingProof>(alloc, text).expect(rt, "no plain form");
-    let proof = hiding_from_plain(alloc, form).expect(rt, "refused");
+    let proof = hiding_from_plain::<BabyBear, BabyBear4>(alloc, form).expect(rt, "refused");
     let form_again = hiding_to_plain(alloc, &proof).expect(rt, "memory");
     let again = serde_json::to_string(alloc, &form_again).expect(rt, "no text");
     again.as_str() == text

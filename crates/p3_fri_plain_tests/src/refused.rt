@@ -2,6 +2,7 @@
 
 use crate::forms::form_of;
 use crate::line::LINE;
+use p3_field::{BabyBear, BabyBear4};
 use p3_fri_plain::{PlainProofError, from_plain};
 use std::alloc::Global;
 use std::process::Abort;
@@ -77,7 +78,7 @@ fn is_refused(rt: &impl Abort, alloc: Global, case: &Case) -> bool {
     let text = LINE
         .replacen(alloc, case.old, case.new, 1)
         .expect(rt, "memory");
-    let answer = from_plain(alloc, form_of(rt, alloc, text.as_str()));
+    let answer = from_plain::<BabyBear, BabyBear4>(alloc, form_of(rt, alloc, text.as_str()));
     answer.err() == Some(case.error)
 }
 
@@ -89,7 +90,7 @@ static REFUSALS: [(PlainProofError, &str); 4] = [
     ),
     (
         PlainProofError::ElementLength,
-        "an element of the extension is not given by four numbers",
+        "an element of the extension is not given by one number for each coefficient",
     ),
     (
         PlainProofError::DigestLength,

@@ -1,14 +1,20 @@
 -- No two proofs have the same numbers.
 use Rattle.std.proofs.Common.{◌≡◌, ℕ, List, map, ap}
 use Rattle.p3_baby_bear.specs.declared.baby_bear4.BabyBear4.{BabyBear4}
-use Rattle.p3_fri_plain.specs.Numbers.{coefficient_numbers}
-use Rattle.p3_fri_plain.specs.PlainLaws.{map_told_apart, extension_told_apart}
+use Rattle.p3_baby_bear.specs.BabyBear.{baby_bear}
+use Rattle.p3_baby_bear.specs.BabyBear4.{coefficients4}
+use Rattle.p3_baby_bear.specs.BabyBearLaws.{multiple_canonical}
+use Rattle.p3_baby_bear.specs.BabyBear4Laws.{coefficients4_injective}
+use Rattle.p3_fri_plain.specs.PlainLaws.{map_told_apart, element_told_apart, extension_told_apart}
+use Rattle.p3_uni_stark_plain.specs.Parts.{canonical_number, element_numbers}
 use Rattle.p3_uni_stark_plain.specs.Parts.{Opened, opened_numbers}
 use Rattle.p3_uni_stark_plain.specs.Proofs.{StarkParts, stark_numbers}
 
 values_told_apart : (xs ys : List BabyBear4)
-    → map coefficient_numbers xs ≡ map coefficient_numbers ys → xs ≡ ys
-values_told_apart = map_told_apart coefficient_numbers extension_told_apart
+    → map element_numbers xs ≡ map element_numbers ys → xs ≡ ys
+values_told_apart = map_told_apart element_numbers (extension_told_apart canonical_number
+    (element_told_apart baby_bear canonical_number multiple_canonical)
+    coefficients4 coefficients4_injective)
 
 opened_told_apart : (a b : Opened BabyBear4) → opened_numbers a ≡ opened_numbers b → a ≡ b
 opened_told_apart a b same = λ i. record {
@@ -20,7 +26,7 @@ opened_told_apart a b same = λ i. record {
       (ap (λ (o : Opened (List ℕ)). o.preprocessed_local) same) i;
   preprocessed_next = values_told_apart a.preprocessed_next b.preprocessed_next
       (ap (λ (o : Opened (List ℕ)). o.preprocessed_next) same) i;
-  quotient_chunks = map_told_apart (map coefficient_numbers) values_told_apart
+  quotient_chunks = map_told_apart (map element_numbers) values_told_apart
       a.quotient_chunks b.quotient_chunks
       (ap (λ (o : Opened (List ℕ)). o.quotient_chunks) same) i;
   random = values_told_apart a.random b.random

@@ -2,7 +2,9 @@
 use Rattle.std.specs.Prelude.{ℕ, List, Option, map, option_map, IfSome}
 use Rattle.std.specs.List.{Any}
 use Rattle.algebra.specs.Nested.{lists, nested}
+use Rattle.p3_baby_bear.specs.declared.baby_bear.BabyBear.{BabyBear}
 use Rattle.p3_baby_bear.specs.declared.baby_bear4.BabyBear4.{BabyBear4}
+use Rattle.p3_baby_bear.specs.BabyBear4.{coefficients4}
 use Rattle.p3_fri_plain.specs.declared.error.PlainProofError.{PlainProofError}
 use Rattle.p3_fri_plain.specs.Faults.{ExtensionFault, DigestFault}
 use Rattle.p3_fri_plain.specs.Numbers.{Digest, coefficient_numbers}
@@ -10,6 +12,18 @@ use Rattle.p3_uni_stark_plain.specs.declared.forms.PlainCommitments.{PlainCommit
 use Rattle.p3_uni_stark_plain.specs.declared.forms.PlainOpenedValues.{PlainOpenedValues}
 use Rattle.p3_uni_stark_verifier.specs.declared.proof.Commitments.{Commitments}
 use Rattle.p3_uni_stark_verifier.specs.declared.proof.OpenedValues.{OpenedValues}
+
+-- the one number below the order
+abbrev pub canonical_number : BabyBear → ℕ
+canonical_number x = x.value
+
+-- those of the coefficients, that of one first
+abbrev pub element_numbers : BabyBear4 → List ℕ
+element_numbers = coefficient_numbers canonical_number coefficients4
+
+-- of an element's numbers
+abbrev pub ElementFault : PlainProofError → List ℕ → Type 0
+ElementFault = ExtensionFault 2013265921 4
 
 pub record CommitmentBytes : Type 0 where
   pub trace : Digest
@@ -57,12 +71,12 @@ opened_seen opened = record {
 
 abbrev pub opened_numbers : Opened BabyBear4 → Opened (List ℕ)
 opened_numbers opened = record {
-  trace_local = map coefficient_numbers opened.trace_local;
-  trace_next = map coefficient_numbers opened.trace_next;
-  preprocessed_local = map coefficient_numbers opened.preprocessed_local;
-  preprocessed_next = map coefficient_numbers opened.preprocessed_next;
-  quotient_chunks = map (map coefficient_numbers) opened.quotient_chunks;
-  random = map coefficient_numbers opened.random;
+  trace_local = map element_numbers opened.trace_local;
+  trace_next = map element_numbers opened.trace_next;
+  preprocessed_local = map element_numbers opened.preprocessed_local;
+  preprocessed_next = map element_numbers opened.preprocessed_next;
+  quotient_chunks = map (map element_numbers) opened.quotient_chunks;
+  random = map element_numbers opened.random;
 }
 
 abbrev pub opened_listed : PlainOpenedValues → Opened (List ℕ)
@@ -77,9 +91,9 @@ opened_listed form = record {
 
 -- of opened values, by the list that shows it
 pub data OpenedFault (error : PlainProofError) (o : Opened (List ℕ)) : Type 0 where
-  InTraceLocal : Any (ExtensionFault error) o.trace_local → OpenedFault error o
-  InTraceNext : Any (ExtensionFault error) o.trace_next → OpenedFault error o
-  InPreprocessedLocal : Any (ExtensionFault error) o.preprocessed_local → OpenedFault error o
-  InPreprocessedNext : Any (ExtensionFault error) o.preprocessed_next → OpenedFault error o
-  InChunks : Any (Any (ExtensionFault error)) o.quotient_chunks → OpenedFault error o
-  InRandomValues : Any (ExtensionFault error) o.random → OpenedFault error o
+  InTraceLocal : Any (ElementFault error) o.trace_local → OpenedFault error o
+  InTraceNext : Any (ElementFault error) o.trace_next → OpenedFault error o
+  InPreprocessedLocal : Any (ElementFault error) o.preprocessed_local → OpenedFault error o
+  InPreprocessedNext : Any (ElementFault error) o.preprocessed_next → OpenedFault error o
+  InChunks : Any (Any (ElementFault error)) o.quotient_chunks → OpenedFault error o
+  InRandomValues : Any (ElementFault error) o.random → OpenedFault error o

@@ -3,26 +3,29 @@
 ghost use Rattle.std.specs.Prelude.{◌≡◌, ◌≢◌, map, IfOk, IfErr, IfSome, option_map};
 ghost use Rattle.std.specs.List.{Any};
 ghost use Rattle.algebra.specs.Nested.{lists, nested};
-ghost use Rattle.p3_fri_plain.specs.Faults.{ExtensionFault, DigestFault};
-ghost use Rattle.p3_fri_plain.specs.Numbers.{coefficient_numbers};
+ghost use Rattle.p3_fri_plain.specs.Faults.{DigestFault};
 ghost use Rattle.p3_fri_plain.specs.declared.error.PlainProofError.TheVariants.{OutOfMemory};
-ghost use Rattle.p3_uni_stark_plain.specs.Parts.{CommitmentsFault, OpenedFault};
+ghost use Rattle.p3_uni_stark_plain.specs.Parts.{CommitmentsFault, OpenedFault, ElementFault};
+ghost use Rattle.p3_uni_stark_plain.specs.Parts.{element_numbers};
 ghost use Rattle.p3_uni_stark_plain.specs.Parts.{commitments_seen, commitments_listed};
 ghost use Rattle.p3_uni_stark_plain.specs.Parts.{opened_seen, opened_listed, opened_numbers};
 
 use crate::forms::{PlainCommitments, PlainOpenedValues};
-use p3_baby_bear::BabyBear4;
-use p3_fri_plain::{Plain, PlainProofError};
+use p3_baby_bear::{BabyBear, BabyBear4};
+use p3_fri_plain::{Each, ExtensionElement, Plain, PlainProofError};
 use p3_uni_stark_verifier::{Commitments, OpenedValues};
 use std::alloc::{AllocError, Global};
 
+/// Elements of the extension.
+type Values = Each<ExtensionElement<BabyBear, BabyBear4>>;
+
 /// The elements of this form.
 fn values_of(alloc: Global, form: &Vec<Vec<u64>>) -> Result<Vec<BabyBear4>, PlainProofError>
-    ensures ok { IfOk result (λ xs. map coefficient_numbers xs.items ≡ lists form.now.items) }
+    ensures ok { IfOk result (λ xs. map element_numbers xs.items ≡ lists form.now.items) }
     ensures err { IfErr result (λ e. e ≢ OutOfMemory
-        → Any (ExtensionFault e) (lists form.now.items)) }
+        → Any (ElementFault e) (lists form.now.items)) }
 {
-    Plain::from_plain(alloc, form)
+    Values::from_plain(alloc, form)
 }
 
 /// The lists of elements of this form.
@@ -30,12 +33,12 @@ fn chunks_of(
     alloc: Global,
     form: &Vec<Vec<Vec<u64>>>,
 ) -> Result<Vec<Vec<BabyBear4>>, PlainProofError>
-    ensures ok { IfOk result (λ chunks. map (map coefficient_numbers) (lists chunks.items)
+    ensures ok { IfOk result (λ chunks. map (map element_numbers) (lists chunks.items)
         ≡ nested form.now.items) }
     ensures err { IfErr result (λ e. e ≢ OutOfMemory
-        → Any (Any (ExtensionFault e)) (nested form.now.items)) }
+        → Any (Any (ElementFault e)) (nested form.now.items)) }
 {
-    Plain::from_plain(alloc, form)
+    Each::<Values>::from_plain(alloc, form)
 }
 
 /// The digest of this form.
@@ -43,7 +46,7 @@ fn digest_of(alloc: Global, form: &Vec<u8>) -> Result<[u8; 32], PlainProofError>
     ensures ok { IfOk result (λ digest. digest ≡ form.now.items) }
     ensures err { IfErr result (λ e. e ≢ OutOfMemory → DigestFault e form.now.items) }
 {
-    Plain::from_plain(alloc, form)
+    <[u8; 32]>::from_plain(alloc, form)
 }
 
 /// The digest of this form, if there is one.
@@ -160,9 +163,9 @@ pub(crate) fn plain_commitments(
 /// The form of elements.
 fn plain_values(alloc: Global, values: &Vec<BabyBear4>) -> Result<Vec<Vec<u64>>, AllocError>
     ensures { IfOk result (λ form.
-        lists form.items ≡ map coefficient_numbers values.now.items) }
+        lists form.items ≡ map element_numbers values.now.items) }
 {
-    values.to_plain(alloc)
+    Values::to_plain(alloc, values)
 }
 
 /// The form of lists of elements.
@@ -171,9 +174,9 @@ fn plain_chunks(
     chunks: &Vec<Vec<BabyBear4>>,
 ) -> Result<Vec<Vec<Vec<u64>>>, AllocError>
     ensures { IfOk result (λ form. nested form.items
-        ≡ map (map coefficient_numbers) (lists chunks.now.items)) }
+        ≡ map (map element_numbers) (lists chunks.now.items)) }
 {
-    chunks.to_plain(alloc)
+    Each::<Values>::to_plain(alloc, chunks)
 }
 
 /// The form of opened values.

@@ -18,7 +18,7 @@ pub type StarkProof<Opening> = Proof<BabyBear4, [u8; 32], Opening>;
 
 /// The proof that has this plain form. A form that isn't any proof's is refused by a fault that it
 /// shows. The lengths of lists are for the verifier to test.
-pub fn stark_from_plain<Opening: Plain>(
+pub fn stark_from_plain<Opening: Plain<Value = Opening>>(
     alloc: Global,
     form: &PlainStarkProof<Opening::Form>,
 ) -> Result<StarkProof<Opening>, PlainProofError>
@@ -48,7 +48,7 @@ pub fn stark_from_plain<Opening: Plain>(
 }
 
 /// The plain form of a proof.
-pub fn stark_to_plain<Opening: Plain>(
+pub fn stark_to_plain<Opening: Plain<Value = Opening>>(
     alloc: Global,
     proof: &StarkProof<Opening>,
 ) -> Result<PlainStarkProof<Opening::Form>, AllocError>
@@ -58,7 +58,7 @@ pub fn stark_to_plain<Opening: Plain>(
     Ok(PlainStarkProof {
         commitments: plain_commitments(alloc, &proof.commitments)?,
         opened_values: plain_opened(alloc, &proof.opened_values)?,
-        opening_proof: proof.opening_proof.to_plain(alloc)?,
+        opening_proof: Opening::to_plain(alloc, &proof.opening_proof)?,
         log_height: proof.log_height,
     })
 }

@@ -1,6 +1,7 @@
 //! The call that reads a proof from its plain form.
 
 use crate::answer::{Fault, Name, Result, tell};
+use p3_field::{BabyBear, BabyBear4};
 use p3_fri_plain::{PlainBatch, PlainFriProof, PlainStep, from_plain, to_plain};
 use p3_test_openings::listed::{listed, pair};
 use std::alloc::{AllocError, Global};
@@ -92,7 +93,7 @@ pub fn tell_from_plain(rt: &HostRuntime, name: Name) -> Result<()> {
     let Ok(form) = form(rt.alloc()) else {
         return Err(Fault::Memory);
     };
-    let answer = match from_plain(rt.alloc(), form) {
+    let answer = match from_plain::<BabyBear, BabyBear4>(rt.alloc(), form) {
         Ok(proof) => match to_plain(rt.alloc(), &proof) {
             Ok(form) => Ok(form),
             Err(_) => return Err(Fault::Memory),

@@ -9,7 +9,7 @@ use Rattle.p3_field.specs.baby_bear.BabyBear.{BabyBear}
 use Rattle.p3_dft.proofs.Columns.{length-held}
 use Rattle.p3_fri_relation.specs.Views.{parameters_of, proof_of}
 use Rattle.p3_fri_two_adic.specs.Held.{Extends}
-use Rattle.fri_statement.specs.Setting.{fields}
+use Rattle.fri_statement.specs.BabyBear.{fields}
 use Rattle.p3_fri_extensions.specs.Extension.{FitsDomain, polynomial_on}
 use Rattle.fri_example.proofs.Acceptance.{accepted}
 use Rattle.fri_example.proofs.Openings.{same_log, value_held, held_value}

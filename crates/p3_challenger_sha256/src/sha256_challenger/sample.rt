@@ -6,23 +6,31 @@ ghost use Rattle.p3_challenger_core.specs.Run.{drawn_element};
 ghost use Rattle.p3_challenger_sha256.specs.Sha256.{element_sampled, bits_sampled};
 ghost use Rattle.p3_challenger_sha256.specs.Sha256Laws.{max_small, bits_below};
 
-use super::Sha256Challenger;
+use super::{HAVE_SHORT_NUMBERS, Sha256Challenger};
+use crate::sha256_field::Sha256Field;
 use p3_challenger_core::field_challenger::FieldChallenger;
 use p3_challenger_core::sample::{CanSample, CanSampleBits};
-use p3_field::{BabyBear, BabyBear4, Field};
+use p3_field::{BabyBear, BabyBear4, PrimeField64};
 
-/// An element of BabyBear: the drawn number modulo the order.
-impl CanSample<BabyBear> for Sha256Challenger {
-    ghost sampled = { element_sampled };
+/// An element of the field: the drawn number modulo the order, of eight bytes where the order is at
+/// most `2^32`, and else of sixteen. So no element is much likelier than another.
+impl<F: Sha256Field> CanSample<F> for Sha256Challenger<F> {
+    ghost sampled = { element_sampled F.ORDER_U64 F.ops };
 
-    fn sample(&mut self) -> BabyBear {
-        BabyBear::from_u64(self.draw())
+    fn sample(&mut self) -> F {
+        let number = if F::ORDER_U64 <= HAVE_SHORT_NUMBERS {
+            self.draw() % F::ORDER_U64
+        } else {
+            (self.draw_wide() % u128::from(F::ORDER_U64)) as u64
+        };
+        F::from_canonical(number)
     }
 }
 
 /// An element of BabyBear4: four elements of BabyBear as its coefficients, that of one first.
 impl CanSample<BabyBear4> for Sha256Challenger {
-    ghost sampled = { drawn_element element_sampled of_coefficients4 4 };
+    ghost sampled = { drawn_element ⟦<Sha256Challenger as CanSample<BabyBear>>⟧.sampled
+        of_coefficients4 4 };
 
     fn sample(&mut self) -> BabyBear4 {
         self.sample_algebra_element()
@@ -30,7 +38,7 @@ impl CanSample<BabyBear4> for Sha256Challenger {
 }
 
 /// The lowest bits of the drawn number.
-impl CanSampleBits for Sha256Challenger {
+impl<F> CanSampleBits for Sha256Challenger<F> {
     ghost MAX_SAMPLE_BITS = { 63 };
 
     const MAX_SAMPLE_BITS: usize = 63;
@@ -46,4 +54,4 @@ impl CanSampleBits for Sha256Challenger {
     ghost width_law = { bits_below };
 }
 
-impl FieldChallenger<BabyBear> for Sha256Challenger {}
+impl<F: Sha256Field> FieldChallenger<F> for Sha256Challenger<F> {}

@@ -12,52 +12,62 @@ pub(crate) struct Reading {
     pub whole: RowMajorMatrix<BabyBear>,
 }
 
-/// A matrix that is masked: rows of even index, counted from 0, begin with the next numbers, so
-/// many to a row, and all else are masks.
+/// A matrix that is masked: its rows, or each second one from the first on, begin with the next
+/// numbers, so many to a row, and all else are masks.
 #[derive(Clone, Copy)]
 pub(crate) struct Masked {
     pub numbers: &'static [u64],
     pub width: usize,
+    /// Whether a row of masks follows each row that begins with numbers.
+    pub has_rows_between: bool,
     pub height: usize,
     /// How many columns there are, and how many of them don't only hide others.
     pub columns: usize,
     pub shown: usize,
 }
 
-/// What is read of matrices.
-#[derive(Clone, Copy)]
-pub(crate) enum Wanted {
-    /// Whatever it is.
+/// What masks are.
+#[derive(Clone, Copy, PartialEq)]
+pub(crate) enum Masks {
+    /// The next words.
+    Words,
+    Zeros,
+    /// Whatever they are, as all is behind the last of the numbers.
     Any,
-    /// With the next words as masks.
-    Words(&'static [Masked]),
-    /// With zeros as masks.
-    Zeros(&'static [Masked]),
-    /// The first rows of each, of all columns.
-    Begin(&'static [&'static [&'static [u64]]]),
-    /// The first rows of two chunks of a quotient; their two columns that don't only hide others
-    /// recombine to these numbers.
-    Recombine(&'static [&'static [&'static [u64]]], [u64; 2]),
 }
 
-/// Whether the matrix is read so, by masks that are zeros or else the next words.
-fn is_masked(reading: &Reading, masked: Masked, has_zeros: bool, words: &mut ChaCha20Rng) -> bool {
+/// What is read of matrices.
+#[derive(Clone, Copy)]
+pub(crate) struct Wanted {
+    pub each: &'static [Masked],
+    pub masks: Masks,
+    /// What the shown columns of two chunks of a quotient recombine to, if the matrices are such.
+    pub recombined: Option<[u64; 2]>,
+}
+
+/// Whether the matrix is read so, with these masks.
+fn is_masked(reading: &Reading, masked: &Masked, masks: Masks, words: &mut ChaCha20Rng) -> bool {
     let (shown, whole) = (&reading.shown, &reading.whole);
     let mut numbers = masked.numbers.iter();
     for row in 0..whole.height() {
+        let has_numbers = row % 2 == 0 || !masked.has_rows_between;
         for column in 0..whole.width() {
-            let wanted = if row % 2 == 0 && column < masked.width {
+            let wanted = if has_numbers && column < masked.width {
                 match numbers.next() {
                     Some(number) => Some(BabyBear::from_u64(*number)),
                     None => None,
                 }
-            } else if has_zeros {
-                Some(BabyBear::ZERO)
             } else {
-                Some(next_element(words))
+                match masks {
+                    Masks::Words => Some(next_element(words)),
+                    Masks::Zeros => Some(BabyBear::ZERO),
+                    Masks::Any => None,
+                }
             };
             let is_shown = column >= masked.shown || shown.get(row, column) == wanted;
-            if !is_shown || whole.get(row, column) != wanted {
+            let is_as_wanted = is_shown && whole.get(row, column) == wanted;
+            let may_be_any = masks == Masks::Any && wanted.is_none();
+            if !is_as_wanted && !may_be_any {
                 return false;
             }
         }
@@ -67,57 +77,6 @@ fn is_masked(reading: &Reading, masked: Masked, has_zeros: bool, words: &mut Cha
         && shown.height() == masked.height
         && whole.width() == masked.columns
         && shown.width() == masked.shown
-}
-
-/// Whether each is.
-fn are_masked(
-    readings: &[Reading],
-    all: &[Masked],
-    has_zeros: bool,
-    words: &mut ChaCha20Rng,
-) -> bool {
-    for index in 0..readings.len() {
-        let Some(masked) = all.get(index) else {
-            return false;
-        };
-        if !is_masked(&readings[index], *masked, has_zeros, words) {
-            return false;
-        }
-    }
-    readings.len() == all.len()
-}
-
-/// Whether the matrix begins with these rows.
-fn begins_with(matrix: &RowMajorMatrix<BabyBear>, rows: &[&[u64]]) -> bool {
-    for index in 0..rows.len() {
-        let mut numbers = rows[index].iter();
-        for column in 0..matrix.width() {
-            let wanted = match numbers.next() {
-                Some(number) => Some(BabyBear::from_u64(*number)),
-                None => None,
-            };
-            if matrix.get(index, column) != wanted {
-                return false;
-            }
-        }
-        if numbers.next().is_some() {
-            return false;
-        }
-    }
-    true
-}
-
-/// Whether each does.
-fn begin_with(readings: &[Reading], all: &[&[&[u64]]]) -> bool {
-    for index in 0..readings.len() {
-        let Some(rows) = all.get(index) else {
-            return false;
-        };
-        if !begins_with(&readings[index].whole, rows) {
-            return false;
-        }
-    }
-    readings.len() == all.len()
 }
 
 /// What the chunks' values at 5 are multiplied by where they are recombined.
@@ -144,13 +103,18 @@ fn recombine(readings: &[Reading], wanted: [u64; 2]) -> bool {
 }
 
 /// Whether matrices are read so, by masks that are the next words.
-pub(crate) fn are_read(readings: &[Reading], wanted: Wanted, words: &mut ChaCha20Rng) -> bool {
-    match wanted {
-        Wanted::Any => true,
-        Wanted::Words(all) => are_masked(readings, all, false, words),
-        Wanted::Zeros(all) => are_masked(readings, all, true, words),
-        Wanted::Begin(all) => begin_with(readings, all),
-        Wanted::Recombine(all, numbers) => begin_with(readings, all)
-            && recombine(readings, numbers),
+pub(crate) fn are_read(readings: &[Reading], wanted: &Wanted, words: &mut ChaCha20Rng) -> bool {
+    for index in 0..readings.len() {
+        let Some(masked) = wanted.each.get(index) else {
+            return false;
+        };
+        if !is_masked(&readings[index], masked, wanted.masks, words) {
+            return false;
+        }
     }
+    let are_recombined = match wanted.recombined {
+        Some(numbers) => recombine(readings, numbers),
+        None => true,
+    };
+    readings.len() == wanted.each.len() && are_recombined
 }

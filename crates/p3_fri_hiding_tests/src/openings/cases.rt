@@ -3,7 +3,7 @@
 use crate::matrices::{POINT, coset};
 use crate::openings::changes::{Change, change_claims};
 use crate::openings::requests::{Batches, Opening, commit_each, open_each};
-use crate::openings::shapes::{Counts, First, are_first, have_counts};
+use crate::openings::shapes::{Counts, First, are_opened_so};
 use crate::scheme::{SMALL, Setting, VerifierError};
 use crate::tested::Tested;
 use p3_challenger::Sha256Challenger;
@@ -129,9 +129,8 @@ fn is_answered(
         *verifier == Sha256Challenger::new()
     };
     is_left
-        && have_counts(&judged.values, asked.values)
+        && are_opened_so(&judged.values, asked.values, asked.firsts)
         && judged.has_random_values
-        && are_first(&judged.values, asked.firsts)
         && is_printed(alloc, &judged.answer, asked.answer)
 }
 

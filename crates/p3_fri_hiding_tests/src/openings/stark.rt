@@ -12,7 +12,7 @@ use crate::matrices::{E, PI, element};
 use crate::openings::cases::are_moved;
 use crate::openings::changes::Change;
 use crate::openings::quotient::{CHUNKS, FIRST_CHUNK, SECOND_CHUNK};
-use crate::openings::shapes::{First, are_first, have_counts};
+use crate::openings::shapes::{First, are_opened_so};
 use crate::scheme::{Domain, SMALL};
 use crate::tested::Tested;
 use p3_challenger::Sha256Challenger;
@@ -80,8 +80,11 @@ pub(crate) fn are_stark_columns_opened<P: Tested>(rt: &impl Abort, alloc: Global
             let has_random_values = P::change_random_values(proof, &counts, Change::Nothing);
             let values = &opened.verified.values;
             opened.known.len() == 4
-                && have_counts(values, &[[1, 2, 1], [1, 2, 1], [2, 1, 1], [1, 1, 4]])
-                && are_first(values, &FIRSTS)
+                && are_opened_so(
+                    values,
+                    &[[1, 2, 1], [1, 2, 1], [2, 1, 1], [1, 1, 4]],
+                    &FIRSTS,
+                )
                 && has_random_values
                 && are_moved(&challenger, &opened.verified.challenger)
         }

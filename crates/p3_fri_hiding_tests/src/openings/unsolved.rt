@@ -2,10 +2,8 @@
 
 ghost use Rattle.std.specs.Prelude.{◌∷◌, []};
 
-use crate::committable::column;
-use crate::matrices::{POINTS, SHORT_PI, points};
-use crate::scheme::{SMALL, Setting};
-use crate::schemes::{PlainScheme, Scheme, plain_scheme_of, scheme_of};
+use crate::asked::{Question, hold};
+use crate::matrices::{POINTS, points};
 use p3_field::BabyBear4;
 use p3_fri_folding::{FriProverError, PowPhase};
 use p3_fri_masks::HidingFriProverError;
@@ -16,16 +14,8 @@ use p3_test_openings::one::{commit_one, open_one};
 use std::alloc::Global;
 use std::process::Abort;
 
-/// Each proof of work in turn, and none.
-static WORKS: [Option<PowPhase>; 4] = [
-    None,
-    Some(PowPhase::Batch),
-    Some(PowPhase::CommitPhase),
-    Some(PowPhase::Query),
-];
-
 /// Why a matrix that is committed to isn't opened at a point, and what that leaves of its data.
-fn commit_and_open<P: Pcs<BabyBear4, AlwaysOne>>(
+pub(crate) fn commit_and_open<P: Pcs<BabyBear4, AlwaysOne>>(
     rt: &impl Abort,
     scheme: &mut P,
     alloc: Global,
@@ -49,29 +39,30 @@ fn commit_and_open<P: Pcs<BabyBear4, AlwaysOne>>(
     }
 }
 
-/// Whether both schemes name the work that has no solution where a column is to be opened, and the
-/// hiding one's data counts as opened.
-fn is_named(rt: &impl Abort, alloc: Global, work: Option<PowPhase>) -> bool {
-    let setting = Setting { work, ..SMALL };
-    let mut scheme = scheme_of(setting);
-    let masked = column(rt, alloc, &SHORT_PI, 2);
-    let (hiding, held) = commit_and_open::<Scheme>(rt, &mut scheme, alloc, masked);
-    let mut plain_scheme = plain_scheme_of(setting);
-    let bare = column(rt, alloc, &SHORT_PI, 1);
-    let (plain, _held) = commit_and_open::<PlainScheme>(rt, &mut plain_scheme, alloc, bare);
-    held.is_opened()
-        && match work {
-            Some(phase) => {
-                let unsolved = FriProverError::NoPowWitness { phase };
-                plain == Some(unsolved) && hiding == Some(HidingFriProverError::Fri(unsolved))
-            },
-            None => plain.is_none() && hiding.is_none(),
+/// Whether both schemes name the work that has no solution as the reason, or none.
+pub(crate) fn is_named(
+    work: Option<PowPhase>,
+    hiding: Option<HidingFriProverError>,
+    plain: Option<FriProverError>,
+) -> bool {
+    match work {
+        Some(phase) => {
+            let unsolved = FriProverError::NoPowWitness { phase };
+            plain == Some(unsolved) && hiding == Some(HidingFriProverError::Fri(unsolved))
         }
+        None => plain.is_none() && hiding.is_none(),
+    }
 }
+
+/// Each proof of work in turn, and none.
+static QUESTIONS: [Question<'static>; 4] = [
+    Question::IsWorkNamed(None),
+    Question::IsWorkNamed(Some(PowPhase::Batch)),
+    Question::IsWorkNamed(Some(PowPhase::CommitPhase)),
+    Question::IsWorkNamed(Some(PowPhase::Query)),
+];
 
 #[test]
 fn work_without_a_solution_is_named_by_its_phase(rt: HostRuntime) {
-    for index in 0..WORKS.len() {
-        assert!(rt; is_named(&rt, rt.alloc(), WORKS[index]), "case {index}");
-    }
+    hold(&rt, rt.alloc(), &QUESTIONS);
 }

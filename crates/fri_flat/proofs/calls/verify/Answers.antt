@@ -1,23 +1,32 @@
-use Rattle.std.proofs.Common.{◌≡◌, ℕ, List, ◌++◌, length, ap, ◌∙◌, arith}
-use Rattle.fri_flat.specs.Flat.{words}
-use Rattle.fri_flat.proofs.Sizes.{length-after_words}
+use Rattle.std.proofs.Common.{◌≡◌, length, ap, ◌∙◌, arith, refl, subst}
+use Rattle.fri_flat.specs.declared.layout.Layout.{Layout}
+use Rattle.fri_flat.specs.Flat.{element_size, statement, IsStatement}
+use Rattle.fri_flat.proofs.Drawn.{drawn}
+use Rattle.fri_flat.proofs.Sizes.{length-element}
 use Rattle.fri_flat.proofs.calls.verify.Goals as goal
 
 pub returns-clause-statement : goal.returns-clause-statement
-returns-clause-statement c = record {
-  stated = c.in_ok-statement.statement;
-  next_challenge = c.in-Ok.next_challenge.items;
-  is_stated = c.in_ok-statement.ensures.form;
-  is_whole = c.in_ok-statement.ensures.whole;
-  accepted = c.in-Ok.ensures;
-  is_answer = c.in_ok-push_element.ensures.form
-      ∙ ap (λ (x : List ℕ). x ++ words c.in-Ok.next_challenge.items) c.new-out.ensures.items;
-}
+returns-clause-statement g c =
+    let stated = c.in_ok-statement.statement in
+    let next = c.in-Ok.next_challenge.items in
+    record {
+      stated = stated;
+      next_challenge = next;
+      is_stated = subst (λ (l : Layout). c.args.bytes.now ≡ statement l stated)
+          c.layout_of-layout.ensures c.in_ok-statement.ensures.form;
+      is_whole = subst (λ (l : Layout). IsStatement l stated) c.layout_of-layout.ensures
+          c.in_ok-statement.ensures.whole;
+      accepted = c.in-Ok.ensures;
+      is_answer = drawn c.layout_of-layout.result _ c.push_element.new.out.items
+          c.new-out.result.items next next c.in_ok-push_element.ensures.form
+          c.new-out.ensures.items refl c.layout_of-layout.ensures;
+    }
 
-pub returns-clause-numbers : goal.returns-clause-numbers
-returns-clause-numbers c =
+pub returns-clause-length : goal.returns-clause-length
+returns-clause-length g c =
     let next = c.in-Ok.next_challenge in
-    let four : length next.items ≡ 4 =
+    let count : length next.items ≡ c.layout_of-layout.result.degree =
     omega (arith, next.ok.0, c.in_ok-push_element.ensures.length) in
-    length-after_words c.push_element.new.out.items c.new-out.result.items next.items
-    c.in_ok-push_element.ensures.form c.new-out.ensures.items four
+    length-element c.layout_of-layout.result c.push_element.new.out.items c.new-out.result.items
+    next.items c.in_ok-push_element.ensures.form c.new-out.ensures.items count
+    ∙ ap element_size c.layout_of-layout.ensures

@@ -1,12 +1,12 @@
 use Rattle.fri_flat.proofs.hiding.commit.Goals as goal
 
 pub returns : goal.returns
-returns c = record {
+returns g c = record {
   asked = c.in_ok-asked.asked;
   marked = c.in_ok-request.request;
   asks = record {
-    is_asked = c.in_ok-asked.ensures.form;
-    is_whole = c.in_ok-asked.ensures.whole;
+    is_asked = rw c.layout_of-layout.ensures at c.in_ok-asked.ensures.form;
+    is_whole = rw c.layout_of-layout.ensures at c.in_ok-asked.ensures.whole;
     is_marked = c.in_ok-request.ensures;
   };
   commitments = c.in-Ok.commitments.items;

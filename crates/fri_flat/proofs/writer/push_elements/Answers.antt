@@ -7,7 +7,7 @@ use Rattle.fri_flat.proofs.writer.push_elements.Goals as goal
 pub loop-element-preserved : goal.loop-element-preserved
 loop-element-preserved c = record {
   form = grind (arith, common_steps);
-  lengths = All-more IsElement c.args.list.now c.loop-element.element-index
+  lengths = All-more (IsElement c.args.layout) c.args.list.now c.loop-element.element-index
       c.element-item.result c.loop-element-test.true c.loop-element.invariant.lengths
       (rw (← c.element-item.is) c.in_ok-push_element.ensures.length);
 }

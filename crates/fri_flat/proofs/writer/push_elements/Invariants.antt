@@ -5,6 +5,6 @@ use Rattle.fri_flat.proofs.writer.push_elements.Given as goal
 
 abbrev pub invariant-loop-element : goal.invariant-loop-element
 invariant-loop-element l = record {
-  form : l.out.items ≡ l.fn.out.items ++ elements (take l.element-index l.list);
-  lengths : All IsElement (take l.element-index l.list);
+  form : l.out.items ≡ l.fn.out.items ++ elements l.layout (take l.element-index l.list);
+  lengths : All (IsElement l.layout) (take l.element-index l.list);
 }

@@ -3,12 +3,13 @@ use Rattle.std.proofs.lemmas.Result.{IfOk-from_err}
 use Rattle.p3_pcs.specs.Claims.{matrix_claim}
 use Rattle.fri_requests.specs.Claims.{matrix_numbers, matrix_listed}
 use Rattle.fri_requests.proofs.Images.{of_image_more}
+use Rattle.fri_requests.proofs.claims.batch_claims.Invariants.{fields}
 use Rattle.fri_requests.proofs.claims.batch_claims.Goals as goal
 
 pub loop-matrix-preserved : goal.loop-matrix-preserved
-loop-matrix-preserved c =
+loop-matrix-preserved g c =
     let whole = c.deref-matrix-items.ensures.value in
-    of_image_more (matrix_numbers (λ d. d.shift) (λ d. d.log_size)) matrix_claim matrix_listed
+    of_image_more (matrix_numbers (fields g) (λ d. d.shift) (λ d. d.log_size)) matrix_claim matrix_listed
     c.loop-matrix.matrices.items c.push.new.self.items c.args.opening.now.matrices.items
     c.loop-matrix.matrix-index c.in_ok-matrix_claims.field-0 c.matrix-item.result
     (subst (λ ys. c.loop-matrix.matrix-index < length ys) whole c.loop-matrix-test.true)
@@ -18,13 +19,13 @@ loop-matrix-preserved c =
 
 -- where nothing is answered nothing is said of the answer
 pub returns-in_err-matrices : goal.returns-in_err-matrices
-returns-in_err-matrices c = IfOk-from_err c.from_residual.result _ c.from_residual.ensures.0
+returns-in_err-matrices g c = IfOk-from_err c.from_residual.result _ c.from_residual.ensures.0
 
 pub returns-in_err-matrix_claims : goal.returns-in_err-matrix_claims
-returns-in_err-matrix_claims c = IfOk-from_err c.from_residual-in_err-matrix_claims.result _ c.from_residual-in_err-matrix_claims.ensures.0
+returns-in_err-matrix_claims g c = IfOk-from_err c.from_residual-in_err-matrix_claims.result _ c.from_residual-in_err-matrix_claims.ensures.0
 
 pub returns-in_err-push : goal.returns-in_err-push
-returns-in_err-push c = IfOk-from_err c.from_residual-in_err-push.result _ c.from_residual-in_err-push.ensures.0
+returns-in_err-push g c = IfOk-from_err c.from_residual-in_err-push.result _ c.from_residual-in_err-push.ensures.0
 
 pub returns-in_err-hex_of : goal.returns-in_err-hex_of
-returns-in_err-hex_of c = IfOk-from_err c.from_residual-in_err-hex_of.result _ c.from_residual-in_err-hex_of.ensures.0
+returns-in_err-hex_of g c = IfOk-from_err c.from_residual-in_err-hex_of.result _ c.from_residual-in_err-hex_of.ensures.0

@@ -3,12 +3,13 @@ use Rattle.std.proofs.lemmas.Result.{IfOk-from_err}
 use Rattle.p3_pcs.specs.Claims.{claim}
 use Rattle.fri_requests.specs.Claims.{batch_numbers, batch_listed}
 use Rattle.fri_requests.proofs.Images.{of_image_more, image_all}
+use Rattle.fri_requests.proofs.claims.claims_out.Invariants.{fields}
 use Rattle.fri_requests.proofs.claims.claims_out.Goals as goal
 
 pub loop-opening-preserved : goal.loop-opening-preserved
-loop-opening-preserved c =
+loop-opening-preserved g c =
     let whole = c.deref-opening-items.ensures.value in
-    of_image_more (batch_numbers (λ d. d.shift) (λ d. d.log_size)) claim batch_listed
+    of_image_more (batch_numbers (fields g) (λ d. d.shift) (λ d. d.log_size)) claim batch_listed
     c.loop-opening.batches.items c.push.new.self.items c.args.claims.now.items
     c.loop-opening.opening-index c.in_ok-batch_claims.field-0 c.opening-item.result
     (subst (λ ys. c.loop-opening.opening-index < length ys) whole c.loop-opening-test.true)
@@ -17,8 +18,8 @@ loop-opening-preserved c =
     c.in_ok-push.ensures.items c.in_ok-batch_claims.ensures c.loop-opening.invariant
 
 pub returns : goal.returns
-returns c =
-    image_all (λ ys. map (batch_numbers (λ d. d.shift) (λ d. d.log_size)) (map claim ys))
+returns g c =
+    image_all (λ ys. map (batch_numbers (fields g) (λ d. d.shift) (λ d. d.log_size)) (map claim ys))
     c.args.claims.now.items c.loop-opening.opening-index
     (subst (λ ys. length ys ≤ c.loop-opening.opening-index) c.deref-opening-items.ensures.value
     c.loop-opening-test.false)
@@ -26,10 +27,10 @@ returns c =
 
 -- where nothing is answered nothing is said of the answer
 pub returns-in_err-batches : goal.returns-in_err-batches
-returns-in_err-batches c = IfOk-from_err c.from_residual.result _ c.from_residual.ensures.0
+returns-in_err-batches g c = IfOk-from_err c.from_residual.result _ c.from_residual.ensures.0
 
 pub returns-in_err-batch_claims : goal.returns-in_err-batch_claims
-returns-in_err-batch_claims c = IfOk-from_err c.from_residual-in_err-batch_claims.result _ c.from_residual-in_err-batch_claims.ensures.0
+returns-in_err-batch_claims g c = IfOk-from_err c.from_residual-in_err-batch_claims.result _ c.from_residual-in_err-batch_claims.ensures.0
 
 pub returns-in_err-push : goal.returns-in_err-push
-returns-in_err-push c = IfOk-from_err c.from_residual-in_err-push.result _ c.from_residual-in_err-push.ensures.0
+returns-in_err-push g c = IfOk-from_err c.from_residual-in_err-push.result _ c.from_residual-in_err-push.ensures.0

@@ -6,21 +6,22 @@ use Rattle.fri_requests.specs.Statements.{IsMatrixClaim}
 use Rattle.fri_requests.proofs.Failed.{malformed_part, read_wants}
 use Rattle.fri_requests.proofs.Images.{image_more}
 use Rattle.fri_requests.proofs.Listed.{not_all}
+use Rattle.fri_requests.proofs.claims.commitment_opening.Invariants.{fields}
 use Rattle.fri_requests.proofs.claims.commitment_opening.Goals as goal
 
 pub returns-in_err-matrix_opening-clause-refused :
     goal.returns-in_err-matrix_opening-clause-refused
-returns-in_err-matrix_opening-clause-refused c =
+returns-in_err-matrix_opening-clause-refused g c =
     malformed_part _ _ _ _ c.from_residual-in_err-matrix_opening.ensures.1
     c.in_err-matrix_opening.ensures.refused
-    (λ fails whole. not_all IsMatrixClaim matrix_listed _ c.loop-index.index c.matrix-item.result
+    (λ fails whole. not_all (IsMatrixClaim (fields g)) matrix_listed _ c.loop-index.index c.matrix-item.result
     c.loop-index-test.true c.matrix-item.is fails
-    (subst (λ ms. All IsMatrixClaim (map matrix_listed ms)) (sym c.deref-matrix-items.ensures.value) whole.matrices))
+    (subst (λ ms. All (IsMatrixClaim (fields g)) (map matrix_listed ms)) (sym c.deref-matrix-items.ensures.value) whole.matrices))
 
 pub loop-index-preserved : goal.loop-index-preserved
-loop-index-preserved c =
+loop-index-preserved g c =
     let whole = c.deref-matrix-items.ensures.value in
-    image_more (matrix_numbers (λ d. d.shift) (λ d. d.log_size)) matrix_claim matrix_listed
+    image_more (matrix_numbers (fields g) (λ d. d.shift) (λ d. d.log_size)) matrix_claim matrix_listed
     c.loop-index.matrices.items c.push.new.self.items c.args.claims.now.matrices.items
     c.loop-index.index c.in_ok-matrix_opening.field-0 c.matrix-item.result
     (subst (λ ys. c.loop-index.index < length ys) whole c.loop-index-test.true)
@@ -30,16 +31,16 @@ loop-index-preserved c =
 
 -- where nothing is answered nothing is said of the answer
 pub returns-in_err-matrices-clause-numbers : goal.returns-in_err-matrices-clause-numbers
-returns-in_err-matrices-clause-numbers c = IfOk-from_err c.from_residual.result _ c.from_residual.ensures.0
+returns-in_err-matrices-clause-numbers g c = IfOk-from_err c.from_residual.result _ c.from_residual.ensures.0
 
 pub returns-in_err-matrices-clause-refused : goal.returns-in_err-matrices-clause-refused
-returns-in_err-matrices-clause-refused c = read_wants c.from_residual.result _ c.from_residual.ensures.1
+returns-in_err-matrices-clause-refused g c = read_wants c.from_residual.result _ c.from_residual.ensures.1
 
 pub returns-in_err-matrix_opening-clause-numbers : goal.returns-in_err-matrix_opening-clause-numbers
-returns-in_err-matrix_opening-clause-numbers c = IfOk-from_err c.from_residual-in_err-matrix_opening.result _ c.from_residual-in_err-matrix_opening.ensures.0
+returns-in_err-matrix_opening-clause-numbers g c = IfOk-from_err c.from_residual-in_err-matrix_opening.result _ c.from_residual-in_err-matrix_opening.ensures.0
 
 pub returns-in_err-push-clause-numbers : goal.returns-in_err-push-clause-numbers
-returns-in_err-push-clause-numbers c = IfOk-from_err c.from_residual-in_err-push.result _ c.from_residual-in_err-push.ensures.0
+returns-in_err-push-clause-numbers g c = IfOk-from_err c.from_residual-in_err-push.result _ c.from_residual-in_err-push.ensures.0
 
 pub returns-in_err-push-clause-refused : goal.returns-in_err-push-clause-refused
-returns-in_err-push-clause-refused c = read_wants c.from_residual-in_err-push.result _ c.from_residual-in_err-push.ensures.1
+returns-in_err-push-clause-refused g c = read_wants c.from_residual-in_err-push.result _ c.from_residual-in_err-push.ensures.1

@@ -3,12 +3,13 @@ use Rattle.std.proofs.lemmas.Result.{IfOk-from_err}
 use Rattle.p3_pcs.specs.Claims.{point_claim}
 use Rattle.fri_requests.specs.Claims.{point_numbers, point_listed}
 use Rattle.fri_requests.proofs.Images.{of_image_more, image_all, same_numbers}
+use Rattle.fri_requests.proofs.claims.matrix_claims.Invariants.{fields}
 use Rattle.fri_requests.proofs.claims.matrix_claims.Goals as goal
 
 pub loop-point-preserved : goal.loop-point-preserved
-loop-point-preserved c =
+loop-point-preserved g c =
     let whole = c.deref-point-items.ensures.value in
-    of_image_more point_numbers point_claim point_listed c.loop-point.points.items
+    of_image_more (point_numbers (fields g)) point_claim point_listed c.loop-point.points.items
     c.push.new.self.items c.args.opening.now.points.items c.loop-point.point-index
     c.in_ok-point_claims.field-0 c.point-item.result
     (subst (λ ys. c.loop-point.point-index < length ys) whole c.loop-point-test.true)
@@ -17,9 +18,9 @@ loop-point-preserved c =
     c.in_ok-push.ensures.items c.in_ok-point_claims.ensures c.loop-point.invariant
 
 pub returns : goal.returns
-returns c =
+returns g c =
     same_numbers c.domain.ensures.shift c.domain.ensures.log_size
-    (image_all (λ ys. map point_numbers (map point_claim ys)) c.args.opening.now.points.items
+    (image_all (λ ys. map (point_numbers (fields g)) (map point_claim ys)) c.args.opening.now.points.items
     c.loop-point.point-index
     (subst (λ ys. length ys ≤ c.loop-point.point-index) c.deref-point-items.ensures.value
     c.loop-point-test.false)
@@ -27,10 +28,10 @@ returns c =
 
 -- where nothing is answered nothing is said of the answer
 pub returns-in_err-points : goal.returns-in_err-points
-returns-in_err-points c = IfOk-from_err c.from_residual.result _ c.from_residual.ensures.0
+returns-in_err-points g c = IfOk-from_err c.from_residual.result _ c.from_residual.ensures.0
 
 pub returns-in_err-point_claims : goal.returns-in_err-point_claims
-returns-in_err-point_claims c = IfOk-from_err c.from_residual-in_err-point_claims.result _ c.from_residual-in_err-point_claims.ensures.0
+returns-in_err-point_claims g c = IfOk-from_err c.from_residual-in_err-point_claims.result _ c.from_residual-in_err-point_claims.ensures.0
 
 pub returns-in_err-push : goal.returns-in_err-push
-returns-in_err-push c = IfOk-from_err c.from_residual-in_err-push.result _ c.from_residual-in_err-push.ensures.0
+returns-in_err-push g c = IfOk-from_err c.from_residual-in_err-push.result _ c.from_residual-in_err-push.ensures.0

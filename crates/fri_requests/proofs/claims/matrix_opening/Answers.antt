@@ -2,29 +2,32 @@ use Rattle.std.proofs.Common.{◌≡◌, ◌<◌, All, map, length, get_or, subs
 use Rattle.std.proofs.lemmas.Result.{IfOk-from_err}
 use Rattle.p3_pcs.specs.Claims.{point_claim}
 use Rattle.fri_requests.specs.Claims.{point_numbers, point_listed}
-use Rattle.fri_requests.specs.Statements.{IsPointClaim}
+use Rattle.fri_requests.specs.Statements.{IsCoset, IsPointClaim}
 use Rattle.fri_requests.proofs.Failed.{malformed_part, read_wants, malformed}
 use Rattle.fri_requests.proofs.Images.{image_more}
 use Rattle.fri_requests.proofs.Listed.{not_all}
+use Rattle.fri_requests.proofs.claims.matrix_opening.Invariants.{fields}
 use Rattle.fri_requests.proofs.claims.matrix_opening.Goals as goal
 
 pub returns-in_err-domain-clause-refused : goal.returns-in_err-domain-clause-refused
-returns-in_err-domain-clause-refused c =
+returns-in_err-domain-clause-refused g c =
     malformed _ _ _ c.from_residual.ensures.1
-    (λ whole. c.in_err-domain.ensures.refused whole.domain)
+    (λ whole. c.in_err-domain.ensures.refused
+    (subst (λ n. IsCoset (fields g) n c.args.claims.now.domain.shift c.args.claims.now.domain.log_size)
+    (sym c.TWO_ADICITY.ensures) whole.domain))
 
 pub returns-in_err-point_opening-clause-refused : goal.returns-in_err-point_opening-clause-refused
-returns-in_err-point_opening-clause-refused c =
+returns-in_err-point_opening-clause-refused g c =
     malformed_part _ _ _ _ c.from_residual-in_err-point_opening.ensures.1
     c.in_err-point_opening.ensures.refused
-    (λ fails whole. not_all IsPointClaim point_listed _ c.loop-index.index c.point-item.result
+    (λ fails whole. not_all (IsPointClaim (fields g)) point_listed _ c.loop-index.index c.point-item.result
     c.loop-index-test.true c.point-item.is fails
-    (subst (λ ps. All IsPointClaim (map point_listed ps)) (sym c.deref-point-items.ensures.value) whole.points))
+    (subst (λ ps. All (IsPointClaim (fields g)) (map point_listed ps)) (sym c.deref-point-items.ensures.value) whole.points))
 
 pub loop-index-preserved : goal.loop-index-preserved
-loop-index-preserved c =
+loop-index-preserved g c =
     let whole = c.deref-point-items.ensures.value in
-    image_more point_numbers point_claim point_listed c.loop-index.points.items
+    image_more (point_numbers (fields g)) point_claim point_listed c.loop-index.points.items
     c.push.new.self.items c.args.claims.now.points.items c.loop-index.index
     c.in_ok-point_opening.field-0 c.point-item.result
     (subst (λ ys. c.loop-index.index < length ys) whole c.loop-index-test.true)
@@ -34,19 +37,19 @@ loop-index-preserved c =
 
 -- where nothing is answered nothing is said of the answer
 pub returns-in_err-domain-clause-numbers : goal.returns-in_err-domain-clause-numbers
-returns-in_err-domain-clause-numbers c = IfOk-from_err c.from_residual.result _ c.from_residual.ensures.0
+returns-in_err-domain-clause-numbers g c = IfOk-from_err c.from_residual.result _ c.from_residual.ensures.0
 
 pub returns-in_err-points-clause-numbers : goal.returns-in_err-points-clause-numbers
-returns-in_err-points-clause-numbers c = IfOk-from_err c.from_residual-in_err-points.result _ c.from_residual-in_err-points.ensures.0
+returns-in_err-points-clause-numbers g c = IfOk-from_err c.from_residual-in_err-points.result _ c.from_residual-in_err-points.ensures.0
 
 pub returns-in_err-points-clause-refused : goal.returns-in_err-points-clause-refused
-returns-in_err-points-clause-refused c = read_wants c.from_residual-in_err-points.result _ c.from_residual-in_err-points.ensures.1
+returns-in_err-points-clause-refused g c = read_wants c.from_residual-in_err-points.result _ c.from_residual-in_err-points.ensures.1
 
 pub returns-in_err-point_opening-clause-numbers : goal.returns-in_err-point_opening-clause-numbers
-returns-in_err-point_opening-clause-numbers c = IfOk-from_err c.from_residual-in_err-point_opening.result _ c.from_residual-in_err-point_opening.ensures.0
+returns-in_err-point_opening-clause-numbers g c = IfOk-from_err c.from_residual-in_err-point_opening.result _ c.from_residual-in_err-point_opening.ensures.0
 
 pub returns-in_err-push-clause-numbers : goal.returns-in_err-push-clause-numbers
-returns-in_err-push-clause-numbers c = IfOk-from_err c.from_residual-in_err-push.result _ c.from_residual-in_err-push.ensures.0
+returns-in_err-push-clause-numbers g c = IfOk-from_err c.from_residual-in_err-push.result _ c.from_residual-in_err-push.ensures.0
 
 pub returns-in_err-push-clause-refused : goal.returns-in_err-push-clause-refused
-returns-in_err-push-clause-refused c = read_wants c.from_residual-in_err-push.result _ c.from_residual-in_err-push.ensures.1
+returns-in_err-push-clause-refused g c = read_wants c.from_residual-in_err-push.result _ c.from_residual-in_err-push.ensures.1

@@ -1,88 +1,24 @@
-use Rattle.std.proofs.Common.{◌++◌, ◌∷◌, [], All, length, append_assoc, ap, sym, ◌∙◌, arith, subst}
-use Rattle.std.specs.List.{AllZip}
-use Rattle.algebra.proofs.Lists.{all_zip-push}
-use Rattle.p3_fri_extensions.proofs.Batches.{in_middle, nothing_left}
-use Rattle.fri_requests.specs.Committed.{KeepsRead}
-use Rattle.fri_requests.proofs.Failed.{request_part}
-use Rattle.fri_requests.proofs.Opened.{keeps_on}
+use Rattle.std.proofs.Common.{subst, sym}
+use Rattle.fri_records.specs.Failures.{MatchRequestError}
+use Rattle.fri_requests.specs.Refusals.{RefusesRead}
+use Rattle.fri_requests.proofs.Failed.{request_weaker}
+use Rattle.fri_requests.proofs.Opened.{refuses_but_memory}
 use Rattle.fri_requests.proofs.committed.commit_all.Goals as goal
 
-pub loop-batch-init : goal.loop-batch-init
-loop-batch-init g c =
-    let given = c.into_iter-batch-iterator.ensures.into_iter_gives in
-    let s = c.args.scheme.now in
-    record {
-      kept = g.met.P.Pcs.keeps_itself_law s;
-      committed = subst (λ cs. AllZip (KeepsRead (g.P.Pcs.rules s) (g.P.UnivariateStarkPcs.stark_rules s)) cs [])
-          (sym c.in_ok-all.ensures.items) tt;
-      whole = given.0;
-      count = given.1 ∙ c.args.batches.ok.0 ∙ ap length (sym given.0);
-    }
+pub commit_each-requires-clause-room : goal.commit_each-requires-clause-room
+commit_each-requires-clause-room g c = c.requires.room
 
-pub commit_batch-requires : goal.commit_batch-requires
-commit_batch-requires g c =
-    let s = c.args.scheme.now in
-    let all = subst (λ bs. All (λ b. (g.P.Pcs.rules s).CanCommit b.evaluations.items) bs)
-    (sym c.loop-batch.invariant.whole ∙ ap (λ t. c.loop-batch.yielded ++ t) c.in-Some.ensures.steps.0) c.requires.room in
-    record {
-      room = (g.met.P.Pcs.keeps_law s c.loop-batch.scheme c.loop-batch.invariant.kept).committable c.in-Some.batch.evaluations.items
-          (in_middle (λ b. (g.P.Pcs.rules s).CanCommit b.evaluations.items) c.loop-batch.yielded c.in-Some.batch
-          c.next.new.self.rest.items all);
-    }
+pub commit_each-requires-clause-since : goal.commit_each-requires-clause-since
+commit_each-requires-clause-since g c = c.requires.since
 
-pub returns-in_err-all-clause-kept : goal.returns-in_err-all-clause-kept
-returns-in_err-all-clause-kept g c = g.met.P.Pcs.keeps_itself_law c.args.scheme.now
-
-pub returns-in_err-commit_batch-clause-kept : goal.returns-in_err-commit_batch-clause-kept
-returns-in_err-commit_batch-clause-kept g c =
-    g.met.P.MadeScheme.keeps_since_law c.args.scheme.now c.loop-batch.scheme c.commit_batch.new.scheme
-    c.loop-batch.invariant.kept c.in_err-commit_batch.ensures.kept
-
-pub returns-in_err-push-clause-kept : goal.returns-in_err-push-clause-kept
-returns-in_err-push-clause-kept g c =
-    g.met.P.MadeScheme.keeps_since_law c.args.scheme.now c.loop-batch.scheme c.commit_batch.new.scheme
-    c.loop-batch.invariant.kept c.in_ok-commit_batch.ensures.kept
-
-pub loop-batch-preserved : goal.loop-batch-preserved
-loop-batch-preserved g c =
-    let pushed = c.in_ok-push.ensures.items in
-    let step = c.in-Some.ensures.steps.0 in
-    let fewer = c.in-Some.ensures.steps.1 in
-    let counted = ap length step in
-    let before = c.loop-batch.invariant.count in
-    let after = c.commit_batch.new.scheme in
-    let kept = c.in_ok-commit_batch.ensures.kept in
-    record {
-      kept = g.met.P.MadeScheme.keeps_since_law _ _ _ c.loop-batch.invariant.kept kept;
-      committed = subst (λ cs. AllZip (KeepsRead (g.P.Pcs.rules after) (g.P.UnivariateStarkPcs.stark_rules after)) cs
-          (c.loop-batch.yielded ++ c.in-Some.batch ∷ [])) (sym pushed)
-          (all_zip-push (KeepsRead (g.P.Pcs.rules after) (g.P.UnivariateStarkPcs.stark_rules after)) c.loop-batch.all.items
-          c.loop-batch.yielded _ c.in-Some.batch
-          (keeps_on _ _ _ _ (g.met.P.Pcs.keeps_law _ _ kept) (g.met.P.UnivariateStarkPcs.keeps_stark_law _ _ kept)
-          c.loop-batch.all.items c.loop-batch.yielded c.loop-batch.invariant.committed)
-          c.in_ok-commit_batch.ensures.committed);
-      whole = append_assoc c.loop-batch.yielded _ c.next.new.self.rest.items
-          ∙ ap (λ t. c.loop-batch.yielded ++ t) (sym step) ∙ c.loop-batch.invariant.whole;
-      count = omega arith;
-    }
-
-pub returns-clause-committed : goal.returns-clause-committed
-returns-clause-committed g c =
-    let all = nothing_left c.loop-batch.yielded c.loop-batch.batch-iterator.rest.items c.args.batches.items
-    c.loop-batch.batch-iterator.rest.len c.loop-batch.invariant.count c.in-None.ensures.steps.0 c.loop-batch.invariant.whole in
-    rw (← all) c.loop-batch.invariant.committed
-
-pub returns-in_err-commit_batch-clause-refused : goal.returns-in_err-commit_batch-clause-refused
-returns-in_err-commit_batch-clause-refused g c =
-    request_part _ _ _ _ _ _ c.from_residual-in_err-commit_batch.ensures.1 c.in_err-commit_batch.ensures.refused
-    (λ never. never)
-    (λ e h. record {
-      scheme = c.loop-batch.scheme;
-      is_of = c.loop-batch.invariant.kept;
-      before = c.loop-batch.yielded;
-      read = c.in-Some.batch;
-      after = c.next.new.self.rest.items;
-      among = sym c.loop-batch.invariant.whole ∙ ap (λ t. c.loop-batch.yielded ++ t) c.in-Some.ensures.steps.0;
-      refused = h.0;
-      not_memory = h.1;
-    })
+pub returns-in-Err-Refused-clause-refused : goal.returns-in-Err-Refused-clause-refused
+returns-in-Err-Refused-clause-refused g c =
+    let refuses = RefusesRead g.P.Pcs.rules g.P.UnivariateStarkPcs.stark_rules (λ _. ⊥)
+    (λ s. g.P.Pcs.Keeps c.args.scheme.now s) c.args.batches.items in
+    let refused = subst (λ f. MatchRequestError ⊥ refuses f) c.in-Err-Refused.field-0-is
+    c.in-Err-Refused.ensures.refused in
+    request_weaker _ _ _ _ (λ never. never)
+    (λ e h. refuses_but_memory g.P.Pcs.rules g.P.UnivariateStarkPcs.stark_rules g.P.MadeScheme.IsMemory e
+    (λ s. g.P.Pcs.Keeps c.args.scheme.now s) c.args.batches.items h.1
+    (subst (λ x. refuses x) (sym h.0) refused))
+    c.refusal.result c.refusal.ensures

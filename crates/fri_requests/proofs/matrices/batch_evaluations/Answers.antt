@@ -7,44 +7,45 @@ use Rattle.fri_requests.specs.Committed.{IsListed}
 use Rattle.fri_requests.specs.Requests.{IsMatrix}
 use Rattle.fri_requests.proofs.Kept.{pairs_more, pairs_done}
 use Rattle.fri_requests.proofs.Failed.{malformed_part}
+use Rattle.fri_requests.proofs.matrices.batch_evaluations.Invariants.{fields}
 use Rattle.fri_requests.proofs.matrices.batch_evaluations.Goals as goal
 
 pub returns-in_err-evaluations-clause-refused : goal.returns-in_err-evaluations-clause-refused
-returns-in_err-evaluations-clause-refused c =
+returns-in_err-evaluations-clause-refused g c =
     malformed_part _ _ _ _ c.from_residual-in_err-evaluations.ensures.1
     c.in_err-evaluations.ensures.refused
-    (λ fails whole. fails (at_item (IsMatrix c.args.hides c.args.log_blowup) c.deref-matrix-items.result.now
+    (λ fails whole. fails (at_item (IsMatrix (fields g) c.args.hides c.args.log_blowup) c.deref-matrix-items.result.now
     c.loop-index.index c.matrix-item.result c.loop-index-test.true c.matrix-item.is
-    (subst (λ ms. All (IsMatrix c.args.hides c.args.log_blowup) ms) (sym c.deref-matrix-items.ensures.value) whole)))
+    (subst (λ ms. All (IsMatrix (fields g) c.args.hides c.args.log_blowup) ms) (sym c.deref-matrix-items.ensures.value) whole)))
 
 pub loop-index-preserved : goal.loop-index-preserved
-loop-index-preserved c =
+loop-index-preserved g c =
     let ms = c.args.batch.now.matrices.items in
     let whole = c.deref-matrix-items.ensures.value in
     let below = subst (λ ys. c.loop-index.index < length ys) whole c.loop-index-test.true in
     let item = subst (λ ys. c.matrix-item.result ≡ get_or ys c.loop-index.index c.matrix-item.result) whole c.matrix-item.is in
     record {
-      fit = subst (λ es. All (λ e. FitsRows c.args.hides c.args.log_blowup e.0.log_size e.1) es)
+      fit = subst (λ es. All (λ e. FitsRows g.F.TwoAdicField.TWO_ADICITY c.args.hides c.args.log_blowup e.0.log_size e.1) es)
           (sym c.in_ok-push.ensures.items)
-          (All-push (λ e. FitsRows c.args.hides c.args.log_blowup e.0.log_size e.1) c.loop-index.all.items
+          (All-push (λ e. FitsRows g.F.TwoAdicField.TWO_ADICITY c.args.hides c.args.log_blowup e.0.log_size e.1) c.loop-index.all.items
           c.in_ok-evaluations.field-0 c.loop-index.invariant.fit c.in_ok-evaluations.ensures.fits);
-      listed = subst (λ es. AllZip (IsListed c.args.hides (λ d. d.shift) (λ d. d.log_size)) es
+      listed = subst (λ es. AllZip (IsListed (fields g) c.args.hides (λ d. d.shift) (λ d. d.log_size)) es
           (take (c.loop-index.index + 1) ms)) (sym c.in_ok-push.ensures.items)
-          (pairs_more (IsListed c.args.hides (λ d. d.shift) (λ d. d.log_size)) c.loop-index.all.items ms c.loop-index.index
+          (pairs_more (IsListed (fields g) c.args.hides (λ d. d.shift) (λ d. d.log_size)) c.loop-index.all.items ms c.loop-index.index
           c.in_ok-evaluations.field-0 c.matrix-item.result below item c.loop-index.invariant.listed
           c.in_ok-evaluations.ensures.listed);
-      well_formed = one_more (IsMatrix c.args.hides c.args.log_blowup) ms c.loop-index.index c.matrix-item.result below item
+      well_formed = one_more (IsMatrix (fields g) c.args.hides c.args.log_blowup) ms c.loop-index.index c.matrix-item.result below item
           c.loop-index.invariant.well_formed c.in_ok-evaluations.ensures.well_formed;
     }
 
 pub returns-clause-listed : goal.returns-clause-listed
-returns-clause-listed c =
-    pairs_done (IsListed c.args.hides (λ d. d.shift) (λ d. d.log_size)) c.loop-index.all.items c.args.batch.now.matrices.items
+returns-clause-listed g c =
+    pairs_done (IsListed (fields g) c.args.hides (λ d. d.shift) (λ d. d.log_size)) c.loop-index.all.items c.args.batch.now.matrices.items
     c.loop-index.index (subst (λ ys. length ys ≤ c.loop-index.index) c.deref-matrix-items.ensures.value c.loop-index-test.false)
     c.loop-index.invariant.listed
 
 pub returns-clause-well_formed : goal.returns-clause-well_formed
-returns-clause-well_formed c =
-    to_the_end (IsMatrix c.args.hides c.args.log_blowup) c.args.batch.now.matrices.items c.loop-index.index
+returns-clause-well_formed g c =
+    to_the_end (IsMatrix (fields g) c.args.hides c.args.log_blowup) c.args.batch.now.matrices.items c.loop-index.index
     (subst (λ ys. length ys ≤ c.loop-index.index) c.deref-matrix-items.ensures.value c.loop-index-test.false)
     c.loop-index.invariant.well_formed

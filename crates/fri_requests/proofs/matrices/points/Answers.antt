@@ -4,19 +4,20 @@ use Rattle.algebra.specs.Nested.{lists}
 use Rattle.fri_requests.specs.Numbers.{IsExtensionElement}
 use Rattle.fri_requests.proofs.Failed.{malformed, read_wants}
 use Rattle.fri_requests.proofs.Listed.{not_all}
-use Rattle.fri_statement.specs.Numbers.{coefficient_numbers}
+use Rattle.fri_requests.specs.Numbers.{extension_numbers}
 use Rattle.fri_requests.proofs.Images.{image_all, count_more}
 use Rattle.fri_requests.proofs.Kept.{same_more}
+use Rattle.fri_requests.proofs.matrices.points.Invariants.{fields}
 use Rattle.fri_requests.proofs.matrices.points.Goals as goal
 
 pub loop-index-preserved : goal.loop-index-preserved
-loop-index-preserved c =
+loop-index-preserved g c =
     let whole = c.deref-point-items.ensures.value in
     let i = c.loop-index.index in
     record {
       count = count_more c.loop-index.all.items c.push.new.self.items c.in_ok-extension_element.field-0
           i c.in_ok-push.ensures.items c.loop-index.invariant.count;
-      numbers = same_more coefficient_numbers (λ v. v.items) c.loop-index.all.items
+      numbers = same_more (extension_numbers (fields g)) (λ v. v.items) c.loop-index.all.items
           c.push.new.self.items c.args.matrix.now.points.items i c.in_ok-extension_element.field-0
           c.point-item.result (subst (λ ys. i < length ys) whole c.loop-index-test.true)
           (subst (λ ys. c.point-item.result ≡ get_or ys i c.point-item.result) whole c.point-item.is)
@@ -26,7 +27,7 @@ loop-index-preserved c =
     }
 
 pub returns-clause-numbers : goal.returns-clause-numbers
-returns-clause-numbers c =
+returns-clause-numbers g c =
     image_all (λ ps. lists ps) c.args.matrix.now.points.items c.loop-index.index
     (subst (λ ys. length ys ≤ c.loop-index.index) c.deref-point-items.ensures.value
     c.loop-index-test.false)
@@ -34,34 +35,34 @@ returns-clause-numbers c =
 
 pub returns-in_err-extension_element-clause-refused :
     goal.returns-in_err-extension_element-clause-refused
-returns-in_err-extension_element-clause-refused c =
+returns-in_err-extension_element-clause-refused g c =
     malformed _ _ _ c.from_residual-in_err-extension_element.ensures.1
-    (λ whole. not_all IsExtensionElement (λ numbers. numbers.items) c.deref-point-items.result.now
+    (λ whole. not_all (IsExtensionElement (fields g)) (λ numbers. numbers.items) c.deref-point-items.result.now
     c.loop-index.index c.point-item.result c.loop-index-test.true c.point-item.is
-    (λ is. c.in_err-extension_element.ensures.refused (subst IsExtensionElement (sym c.deref.ensures.value) is))
-    (subst (λ ps. All IsExtensionElement (lists ps)) (sym c.deref-point-items.ensures.value) whole.elements))
+    (λ is. c.in_err-extension_element.ensures.refused (subst (IsExtensionElement (fields g)) (sym c.deref.ensures.value) is))
+    (subst (λ ps. All (IsExtensionElement (fields g)) (lists ps)) (sym c.deref-point-items.ensures.value) whole.elements))
 
 -- where nothing is answered nothing is said of the answer
 pub returns-in_err-all-clause-some : goal.returns-in_err-all-clause-some
-returns-in_err-all-clause-some c = IfOk-from_err c.from_residual.result _ c.from_residual.ensures.0
+returns-in_err-all-clause-some g c = IfOk-from_err c.from_residual.result _ c.from_residual.ensures.0
 
 pub returns-in_err-all-clause-numbers : goal.returns-in_err-all-clause-numbers
-returns-in_err-all-clause-numbers c = IfOk-from_err c.from_residual.result _ c.from_residual.ensures.0
+returns-in_err-all-clause-numbers g c = IfOk-from_err c.from_residual.result _ c.from_residual.ensures.0
 
 pub returns-in_err-all-clause-refused : goal.returns-in_err-all-clause-refused
-returns-in_err-all-clause-refused c = read_wants c.from_residual.result _ c.from_residual.ensures.1
+returns-in_err-all-clause-refused g c = read_wants c.from_residual.result _ c.from_residual.ensures.1
 
 pub returns-in_err-extension_element-clause-some : goal.returns-in_err-extension_element-clause-some
-returns-in_err-extension_element-clause-some c = IfOk-from_err c.from_residual-in_err-extension_element.result _ c.from_residual-in_err-extension_element.ensures.0
+returns-in_err-extension_element-clause-some g c = IfOk-from_err c.from_residual-in_err-extension_element.result _ c.from_residual-in_err-extension_element.ensures.0
 
 pub returns-in_err-extension_element-clause-numbers : goal.returns-in_err-extension_element-clause-numbers
-returns-in_err-extension_element-clause-numbers c = IfOk-from_err c.from_residual-in_err-extension_element.result _ c.from_residual-in_err-extension_element.ensures.0
+returns-in_err-extension_element-clause-numbers g c = IfOk-from_err c.from_residual-in_err-extension_element.result _ c.from_residual-in_err-extension_element.ensures.0
 
 pub returns-in_err-push-clause-some : goal.returns-in_err-push-clause-some
-returns-in_err-push-clause-some c = IfOk-from_err c.from_residual-in_err-push.result _ c.from_residual-in_err-push.ensures.0
+returns-in_err-push-clause-some g c = IfOk-from_err c.from_residual-in_err-push.result _ c.from_residual-in_err-push.ensures.0
 
 pub returns-in_err-push-clause-numbers : goal.returns-in_err-push-clause-numbers
-returns-in_err-push-clause-numbers c = IfOk-from_err c.from_residual-in_err-push.result _ c.from_residual-in_err-push.ensures.0
+returns-in_err-push-clause-numbers g c = IfOk-from_err c.from_residual-in_err-push.result _ c.from_residual-in_err-push.ensures.0
 
 pub returns-in_err-push-clause-refused : goal.returns-in_err-push-clause-refused
-returns-in_err-push-clause-refused c = read_wants c.from_residual-in_err-push.result _ c.from_residual-in_err-push.ensures.1
+returns-in_err-push-clause-refused g c = read_wants c.from_residual-in_err-push.result _ c.from_residual-in_err-push.ensures.1

@@ -1,4 +1,4 @@
-use Rattle.std.proofs.Common.{◌≡◌, All, map, sym, subst, ap, ◌∙◌, inl, inr}
+use Rattle.std.proofs.Common.{All, map, sym, subst, ap, ◌∙◌, inl, inr}
 use Rattle.std.specs.Prelude.{string_bytes}
 use Rattle.std.specs.List.{AllZip}
 use Rattle.algebra.specs.Nested.{nested}
@@ -7,6 +7,7 @@ use Rattle.p3_pcs.specs.Scheme.{AreHonestIn, FitRequests, claims_asked}
 use Rattle.p3_fri_two_adic.specs.Ranges.{InVerifierRange}
 use Rattle.fri_records.specs.Records.{parameters_in}
 use Rattle.fri_schemes.specs.Rows.{FitsRows}
+use Rattle.fri_statement.specs.Setting.{SchemeFields}
 use Rattle.fri_requests.specs.Bound.{batch_claimed, bound, context_listed}
 use Rattle.fri_requests.specs.Claims.{batch_numbers}
 use Rattle.fri_requests.specs.Openings.{IsOpenedBy, requests_for}
@@ -14,18 +15,34 @@ use Rattle.fri_requests.specs.Requests.{points_listed}
 use Rattle.fri_requests.proofs.Answered.{accepted_by}
 use Rattle.fri_requests.proofs.Asked.{are_provers, points_again}
 use Rattle.fri_requests.proofs.Failed.{request_part}
-use Rattle.fri_requests.proofs.Listed.{is_coset, are_claims}
+use Rattle.fri_requests.proofs.Listed.{HaveNumbers, is_coset, are_claims}
 use Rattle.fri_requests.proofs.Opened.{count_same, can_open, honest, roots, fits, opened_each, stated_all, refuses_batch_of}
+use Rattle.fri_requests.proofs.Fields.{fields_of}
+use Rattle.fri_requests.proofs.opening.open.Given.{Over}
 use Rattle.fri_requests.proofs.opening.open.Goals as goal
+
+abbrev fields : (g : Over) → SchemeFields g.row.F.Denot g.row.F-Extension.Denot
+fields g = fields_of g.F.Field g.F.PrimeField64 g.F.TwoAdicField g.F.ElementBytes
+    g.F.Extension.Field g.F.Extension.ExtensionField g.F.Extension.ElementBytes
+
+numbered : (g : Over) → HaveNumbers (fields g)
+numbered g = record {
+  below = g.met.F.PrimeField64.canonical_below;
+  again = g.met.F.PrimeField64.multiple_canonical;
+  numbers = g.met.F.PrimeField64.canonical_multiple;
+  count = g.met.F.Extension.ExtensionField.dimension_law;
+  same = g.met.F.Extension.ExtensionField.coefficients_injective;
+  made = g.met.F.Extension.ExtensionField.of_coefficients_law;
+}
 
 pub prepare-requires-clause-provers : goal.prepare-requires-clause-provers
 prepare-requires-clause-provers g c =
-    are_provers c.args.request.now.parameters _ c.in-Ok.ensures.parameters c.in-Ok.ensures.range c.in-Ok.ensures.blowup
+    are_provers g.F.TwoAdicField.TWO_ADICITY c.args.request.now.parameters _ c.in-Ok.ensures.parameters c.in-Ok.ensures.range c.in-Ok.ensures.blowup
 
 pub prepare-requires-clause-room : goal.prepare-requires-clause-room
 prepare-requires-clause-room g c = λ es fit.
     g.met.P.MadeScheme.commit_law _ _ _ c.made-scheme.result c.made-scheme.ensures es
-    (subst (λ n. All (λ e. FitsRows g.P.UnivariateStarkPcs.ZK n e.0.log_size e.1) es)
+    (subst (λ n. All (λ e. FitsRows g.F.TwoAdicField.TWO_ADICITY g.P.UnivariateStarkPcs.ZK n e.0.log_size e.1) es)
     (sym (ap (λ p. p.log_blowup) c.in-Ok.ensures.parameters)) fit)
 
 pub open_committed-requires-clause-range : goal.open_committed-requires-clause-range
@@ -40,7 +57,7 @@ open_committed-requires-clause-shape g c =
     let p = c.in_ok-prepared.prepared in
     let is = c.in_ok-prepared.ensures in
     subst (λ ks. t.CanOpenAt p.preprocessing (requests_for ks (nested p.points.items))) (sym c.as_mut_slice.ensures.value)
-    (can_open (g.P.Pcs.rules s) t g.P.UnivariateStarkPcs.ZK (λ d. d.shift) (λ d. d.log_size)
+    (can_open (fields g) (g.P.Pcs.rules s) t g.P.UnivariateStarkPcs.ZK (λ d. d.shift) (λ d. d.log_size)
     (g.met.P.UnivariateStarkPcs.stark_law s) p.preprocessing p.committed.items (nested p.points.items)
     c.args.request.now.commitments.items is.keeps is.points.numbers is.named is.well_formed.some_matrix)
 
@@ -51,7 +68,7 @@ open_committed-requires-clause-honest g c =
     let p = c.in_ok-prepared.prepared in
     let is = c.in_ok-prepared.ensures in
     subst (λ ks. AreHonestIn r (requests_for ks (nested p.points.items))) (sym c.as_mut_slice.ensures.value)
-    (honest r (g.P.UnivariateStarkPcs.stark_rules s) g.P.UnivariateStarkPcs.ZK (λ d. d.shift) (λ d. d.log_size)
+    (honest (fields g) r (g.P.UnivariateStarkPcs.stark_rules s) g.P.UnivariateStarkPcs.ZK (λ d. d.shift) (λ d. d.log_size)
     p.committed.items (nested p.points.items) c.args.request.now.commitments.items is.keeps is.points.some_points)
 
 pub open_committed-requires-clause-commitments : goal.open_committed-requires-clause-commitments
@@ -64,8 +81,8 @@ open_committed-requires-clause-commitments g c =
     let batches = c.args.request.now.commitments.items in
     let points = nested p.points.items in
     ap (λ ks. map (λ k. k.commitment) ks) c.deref.ensures.value ∙ is.commitments
-    ∙ roots r t g.P.UnivariateStarkPcs.ZK (λ d. d.shift) (λ d. d.log_size) p.committed.items points batches is.keeps
-    (count_same r t g.P.UnivariateStarkPcs.ZK (λ d. d.shift) (λ d. d.log_size) p.committed.items points batches is.keeps
+    ∙ roots (fields g) r t g.P.UnivariateStarkPcs.ZK (λ d. d.shift) (λ d. d.log_size) p.committed.items points batches is.keeps
+    (count_same (fields g) r t g.P.UnivariateStarkPcs.ZK (λ d. d.shift) (λ d. d.log_size) p.committed.items points batches is.keeps
     is.points.numbers)
     ∙ ap (λ ks. map (λ q. r.commitment_of q.datum) (requests_for ks points)) (sym c.as_mut_slice.ensures.value)
 
@@ -82,8 +99,8 @@ open_committed-requires-clause-domains g c =
     (sym c.as_mut_slice.ensures.value)
     (subst (λ ds. FitRequests r ds (requests_for p.committed.items points))
     (sym (ap (λ ks. map (λ k. k.domains.items) ks) c.deref.ensures.value ∙ is.domains))
-    (fits r t g.P.UnivariateStarkPcs.ZK (λ d. d.shift) (λ d. d.log_size) p.committed.items points batches is.keeps
-    (count_same r t g.P.UnivariateStarkPcs.ZK (λ d. d.shift) (λ d. d.log_size) p.committed.items points batches is.keeps
+    (fits (fields g) r t g.P.UnivariateStarkPcs.ZK (λ d. d.shift) (λ d. d.log_size) p.committed.items points batches is.keeps
+    (count_same (fields g) r t g.P.UnivariateStarkPcs.ZK (λ d. d.shift) (λ d. d.log_size) p.committed.items points batches is.keeps
     is.points.numbers)))
 
 pub returns-clause-opened : goal.returns-clause-opened
@@ -97,7 +114,7 @@ returns-clause-opened g c =
     let batches = c.args.request.now.commitments.items in
     let points = nested p.points.items in
     let listed = c.in_ok-claims_out.ensures
-    ∙ ap (λ cs. map (batch_numbers (λ d. d.shift) (λ d. d.log_size)) cs)
+    ∙ ap (λ cs. map (batch_numbers (fields g) (λ d. d.shift) (λ d. d.log_size)) cs)
     (c.in_ok-claims.ensures.claims
     ∙ ap (λ ds. claims_asked r ds (requests_for c.as_mut_slice.result.now points))
     (ap (λ ks. map (λ k. k.domains.items) ks) c.deref.ensures.value ∙ is.domains)
@@ -110,8 +127,8 @@ returns-clause-opened g c =
             c.in-Ok.ensures.parameters c.made-scheme.ensures;
         kept = is.kept;
       };
-      opened = subst (λ ns. AllZip (IsOpenedBy r t hides (λ d. d.shift) (λ d. d.log_size)) ns batches) (sym listed)
-          (opened_each r t hides (λ d. d.shift) (λ d. d.log_size) p.committed.items points batches is.keeps is.points.numbers);
+      opened = subst (λ ns. AllZip (IsOpenedBy (fields g) r t hides (λ d. d.shift) (λ d. d.log_size)) ns batches) (sym listed)
+          (opened_each (fields g) r t hides (λ d. d.shift) (λ d. d.log_size) (numbered g) p.committed.items points batches is.keeps is.points.numbers);
     }
 
 pub returns-clause-accepted : goal.returns-clause-accepted
@@ -129,28 +146,29 @@ returns-clause-accepted g c =
     let begun = g.P.MadeScheme.begun c.args.masking.num_random_codewords p.preprocessing in
     let records = c.in_ok-claims_out.field-0.items in
     let listed = c.in_ok-claims_out.ensures
-    ∙ ap (λ cs. map (batch_numbers (λ d. d.shift) (λ d. d.log_size)) cs)
+    ∙ ap (λ cs. map (batch_numbers (fields g) (λ d. d.shift) (λ d. d.log_size)) cs)
     (c.in_ok-claims.ensures.claims
     ∙ ap (λ ds. claims_asked r ds (requests_for c.as_mut_slice.result.now points))
     (ap (λ ks. map (λ k. k.domains.items) ks) c.deref.ensures.value ∙ is.domains)
     ∙ ap (λ ks. claims_asked r (map (λ k. k.domains.items) p.committed.items) (requests_for ks points)) c.as_mut_slice.ensures.value) in
-    accepted_by g.P.Pcs.rules (λ d. d.shift) (λ d. d.log_size)
+    accepted_by (fields g) g.P.Pcs.rules (λ d. d.shift) (λ d. d.log_size)
     (λ q. g.P.MadeScheme.IsMade (parameters_in request.parameters) c.args.masking.num_random_codewords c.args.masking.seed q) begun
     (string_bytes request.context) request.parameters p.preprocessing records c.in_ok-claims.proof made
     (subst (λ q. g.P.MadeScheme.IsMade q c.args.masking.num_random_codewords c.args.masking.seed made)
     c.in-Ok.ensures.parameters c.made-scheme.ensures)
     (record {
       bytes = is.well_formed.context;
-      range = subst (λ q. InVerifierRange q 27 63) c.in-Ok.ensures.parameters
+      range = subst (λ q. InVerifierRange q g.F.TwoAdicField.TWO_ADICITY 63) c.in-Ok.ensures.parameters
           (g.met.P.MadeScheme.accepted_law _ _ _ made c.made-scheme.ensures c.in-Ok.ensures.range p.preprocessing _ _ _
           ((g.met.P.MadeScheme.alike_law made s is.kept).accepts _ _ _ _ c.in_ok-claims.ensures.accepted));
-      claims = are_claims (λ d. d.shift) (λ d. d.log_size) (λ d. is_coset d.shift d.log_size d.nonzero d.within_two_adicity)
+      claims = are_claims (fields g) (numbered g) (λ d. d.shift) (λ d. d.log_size)
+          (λ d. is_coset (fields g) (numbered g) g.F.TwoAdicField.TWO_ADICITY d.shift d.log_size d.nonzero d.within_two_adicity)
           (map claim c.in_ok-claims.claims.items) records (sym c.in_ok-claims_out.ensures);
     })
     (map claim c.in_ok-claims.claims.items) (sym c.in_ok-claims_out.ensures) p.challenger
-    (is.state ∙ ap (λ os. bound begun (context_listed (string_bytes request.context)) (parameters_in request.parameters) os)
+    (is.state ∙ ap (λ os. bound (fields g) begun (context_listed (string_bytes request.context)) (parameters_in request.parameters) os)
     (sym (ap (λ ns. map batch_claimed ns) listed
-    ∙ stated_all r t hides (λ d. d.shift) (λ d. d.log_size) (g.met.P.MadeScheme.columns_law s) p.committed.items points batches
+    ∙ stated_all (fields g) r t hides (λ d. d.shift) (λ d. d.log_size) (numbered g) (g.met.P.MadeScheme.columns_law s) p.committed.items points batches
     is.keeps is.points.numbers is.well_formed.points)))
     s (g.met.P.MadeScheme.alike_law made s is.kept) _ _ c.in_ok-claims.ensures.accepted c.in_ok-claims.ensures.state
     c.in_ok-next_drawn.ensures
@@ -160,7 +178,7 @@ returns-in_err-prepared-clause-refused g c =
     request_part _ _ _ _ _ _ c.from_residual.ensures.1 c.in_err-prepared.ensures.refused (λ fails. fails)
     (λ e h. record {
       request_opens = h.0;
-      refused = inl (refuses_batch_of _ _ _ e _ _ _ _ _ _
+      refused = inl (refuses_batch_of _ _ _ e (fields g) _ _ _ _ _ _
           (λ s kept. record {
             made = c.made-scheme.result;
             is_made = subst (λ q. g.P.MadeScheme.IsMade q c.args.masking.num_random_codewords c.args.masking.seed c.made-scheme.result)
@@ -191,9 +209,9 @@ returns-in_err-claims-clause-refused g c =
         kept = p.committed.items;
         keeps = is.keeps;
         refused = subst (λ d. (g.P.Pcs.rules s).Refuses p.preprocessing d
-            (requests_for p.committed.items (points_listed request.commitments.items)) e) is.state
+            (requests_for p.committed.items (points_listed (fields g) request.commitments.items)) e) is.state
             (subst (λ zs. (g.P.Pcs.rules s).Refuses p.preprocessing p.challenger (requests_for p.committed.items zs) e)
-            (points_again (nested p.points.items) request.commitments.items is.points.numbers)
+            (points_again (fields g) (numbered g) (nested p.points.items) request.commitments.items is.points.numbers)
             (subst (λ ks. (g.P.Pcs.rules s).Refuses p.preprocessing p.challenger (requests_for ks (nested p.points.items)) e)
             c.as_mut_slice.ensures.value h.0));
         not_memory = h.1;

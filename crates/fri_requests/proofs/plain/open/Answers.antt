@@ -6,6 +6,7 @@ use Rattle.p3_challenger_sha256.specs.Sha256.{start}
 use Rattle.p3_fri_openings.specs.SchemeClaims.{relation_claims}
 use Rattle.p3_fri_relation.specs.Setting as setting
 use Rattle.p3_fri_relation.specs.Views.{parameters_of, proof_of}
+use Rattle.fri_statement.specs.Setting.{SchemeFields}
 use Rattle.fri_requests.specs.Bound.{state_bound}
 use Rattle.fri_requests.specs.Claims.{batch_listed}
 use Rattle.p3_mmcs.specs.ProverData.{root_over}
@@ -14,29 +15,45 @@ use Rattle.fri_requests.specs.Openings.{IsOpened, request_for}
 use Rattle.fri_requests.specs.Prepared.{state_asked}
 use Rattle.fri_requests.specs.Requests.{IsRefusedRequest, KeepsBatch, Refuses, points_listed}
 use Rattle.fri_requests.proofs.Failed.{request_weaker}
-use Rattle.fri_requests.proofs.Listed.{claims_again}
+use Rattle.fri_requests.proofs.Listed.{HaveNumbers, claims_again}
 use Rattle.fri_requests.proofs.PlainRules.{ArePlain, plain_openings, plain_kept, plain_roots, same_requests, none_refused}
 use Rattle.fri_requests.proofs.Stated.{accepted}
+use Rattle.fri_requests.proofs.Fields.{fields_of}
+use Rattle.fri_requests.proofs.plain.open.Given.{Over}
 use Rattle.fri_requests.proofs.plain.open.Goals as goal
 
+abbrev fields : (g : Over) → SchemeFields g.row.F.Denot g.row.F-Extension.Denot
+fields g = fields_of g.F.Field g.F.PrimeField64 g.F.TwoAdicField g.F.ElementBytes
+    g.F.Extension.Field g.F.Extension.ExtensionField g.F.Extension.ElementBytes
+
+numbered : (g : Over) → HaveNumbers (fields g)
+numbered g = record {
+  below = g.met.F.PrimeField64.canonical_below;
+  again = g.met.F.PrimeField64.multiple_canonical;
+  numbers = g.met.F.PrimeField64.canonical_multiple;
+  count = g.met.F.Extension.ExtensionField.dimension_law;
+  same = g.met.F.Extension.ExtensionField.coefficients_injective;
+  made = g.met.F.Extension.ExtensionField.of_coefficients_law;
+}
+
 pub returns-clause-accepted : goal.returns-clause-accepted
-returns-clause-accepted c =
+returns-clause-accepted g c =
     let r = c.args.request.now in
     IfOk-weaker c.open.result _ _ (λ o h.
-    accepted (string_bytes r.context) r.parameters o.claims.items (proof_of o.proof)
+    accepted (fields g) (string_bytes r.context) r.parameters o.claims.items (proof_of o.proof)
     (parameters_of h.stated.scheme.fri) (relation_claims (λ d. d.log_size) h.stated.claims)
-    (state_bound start (string_bytes r.context) r.parameters o.claims.items) h.stated.is_of
-    (claims_again (λ d. d.shift) (λ d. d.log_size) h.stated.claims o.claims.items h.stated.listed) refl
+    (state_bound (fields g) start (string_bytes r.context) r.parameters o.claims.items) h.stated.is_of
+    (claims_again (fields g) (numbered g) (λ d. d.shift) (λ d. d.log_size) h.stated.claims o.claims.items h.stated.listed) refl
     h.stated.statement _ o.next_challenge.items h.holds refl h.drawn)
     c.open.ensures.accepted
 
 pub returns-clause-opened : goal.returns-clause-opened
-returns-clause-opened c =
+returns-clause-opened g c =
     let batches = c.args.request.now.commitments.items in
     IfOk-weaker c.open.result _ _ (λ o h.
-    subst (λ b. AllZip (IsOpened b) (map batch_listed o.claims.items) batches)
+    subst (λ b. AllZip (IsOpened (fields g) b) (map batch_listed o.claims.items) batches)
     (ap (λ s. s.fri.log_blowup) h.is_of.kept ∙ ap (λ (p : setting.Parameters). p.log_blowup) h.is_of.is_made)
-    (plain_openings _ _ (λ d. d.shift) (λ d. d.log_size) h.scheme.fri.log_blowup
+    (plain_openings (fields g) (numbered g) g.F.ElementBytes.LEN _ _ (λ d. d.shift) (λ d. d.log_size) h.scheme.fri.log_blowup
     (record {
       extends = λ m e x. x;
       honest = λ d x. x;
@@ -49,17 +66,17 @@ returns-clause-opened c =
     c.open.ensures.opened
 
 pub returns-clause-refused : goal.returns-clause-refused
-returns-clause-refused c =
+returns-clause-refused g c =
     let r = c.args.request.now in
     let batches = r.commitments.items in
     IfErr-weaker c.open.result _ _
     (request_weaker _ _ _ _ (λ fails. fails)
-    (λ e h. elim h.refused as (λ _. IsRefusedRequest r e) [
+    (λ e h. elim h.refused as (λ _. IsRefusedRequest (fields g) g.F.ElementBytes.LEN g.F.Extension.ElementBytes.LEN r e) [
       | inl b ↦
           absurd (none_refused b (λ s es q. q) (λ s es q. q))
       | inr o ↦
           let same = ap (λ s. parameters_of s.fri) o.is_of.kept ∙ o.is_of.is_made in
-          let plain : ArePlain _ _ (λ d. d.shift) (λ d. d.log_size) o.scheme.fri.log_blowup = record {
+          let plain : ArePlain (fields g) g.F.ElementBytes.LEN _ _ (λ d. d.shift) (λ d. d.log_size) o.scheme.fri.log_blowup = record {
             extends = λ m e x. x;
             honest = λ d x. x;
             openable = λ d x. x;
@@ -70,16 +87,16 @@ returns-clause-refused c =
           record {
             request_opens = h.request_opens;
             kept = map (λ k. k.data) o.kept;
-            keeps = subst (λ b. AllZip (KeepsBatch b) (map (λ k. k.data) o.kept) batches)
+            keeps = subst (λ b. AllZip (KeepsBatch (fields g) g.F.ElementBytes.LEN b) (map (λ k. k.data) o.kept) batches)
                 (ap (λ (p : setting.Parameters). p.log_blowup) same)
-                (plain_kept _ _ (λ d. d.shift) (λ d. d.log_size) o.scheme.fri.log_blowup plain o.kept batches o.keeps);
-            refused = subst (λ q. Refuses q (state_asked false start r (map root_over (map (λ k. k.data) o.kept)))
-                (zip_with request_for (map (λ k. k.data) o.kept) (points_listed batches)) e) same
-                (subst (λ ks. Refuses (parameters_of o.scheme.fri) (state_asked false start r ks)
-                (zip_with request_for (map (λ k. k.data) o.kept) (points_listed batches)) e)
-                (plain_roots _ _ (λ d. d.shift) (λ d. d.log_size) o.scheme.fri.log_blowup plain o.kept batches o.keeps)
-                (subst (λ rs. Refuses (parameters_of o.scheme.fri) (state_asked false start r (map (λ k. k.commitment) o.kept)) rs e)
-                (same_requests o.kept (points_listed batches)) (record { stands = o.refused; not_memory = o.not_memory })));
+                (plain_kept (fields g) (numbered g) g.F.ElementBytes.LEN _ _ (λ d. d.shift) (λ d. d.log_size) o.scheme.fri.log_blowup plain o.kept batches o.keeps);
+            refused = subst (λ q. Refuses (fields g) g.F.ElementBytes.LEN g.F.Extension.ElementBytes.LEN q (state_asked (fields g) false start r (map root_over (map (λ k. k.data) o.kept)))
+                (zip_with request_for (map (λ k. k.data) o.kept) (points_listed (fields g) batches)) e) same
+                (subst (λ ks. Refuses (fields g) g.F.ElementBytes.LEN g.F.Extension.ElementBytes.LEN (parameters_of o.scheme.fri) (state_asked (fields g) false start r ks)
+                (zip_with request_for (map (λ k. k.data) o.kept) (points_listed (fields g) batches)) e)
+                (plain_roots (fields g) (numbered g) g.F.ElementBytes.LEN _ _ (λ d. d.shift) (λ d. d.log_size) o.scheme.fri.log_blowup plain o.kept batches o.keeps)
+                (subst (λ rs. Refuses (fields g) g.F.ElementBytes.LEN g.F.Extension.ElementBytes.LEN (parameters_of o.scheme.fri) (state_asked (fields g) false start r (map (λ k. k.commitment) o.kept)) rs e)
+                (same_requests o.kept (points_listed (fields g) batches)) (record { stands = o.refused; not_memory = o.not_memory })));
           }
     ]))
     c.open.ensures.refused

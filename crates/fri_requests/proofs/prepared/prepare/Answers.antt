@@ -1,25 +1,35 @@
-use Rattle.std.proofs.Common.{◌≡◌, get_or, map, refl, sym, subst, ap, ap₂, ◌∙◌}
+use Rattle.std.proofs.Common.{get_or, map, refl, sym, subst, ap, ap₂, ◌∙◌}
 use Rattle.std.specs.List.{AllZip}
 use Rattle.algebra.specs.Nested.{lists, nested}
 use Rattle.p3_pcs.specs.Claims.{zip_with}
 use Rattle.fri_records.specs.Records.{parameters_in}
-use Rattle.fri_statement.specs.Numbers.{coefficient_numbers}
+use Rattle.fri_statement.specs.Setting.{SchemeFields, prime_fields}
 use Rattle.fri_statement.specs.Stated.{opened_commitment}
 use Rattle.fri_requests.specs.Bound.{bound, batch_asked}
 use Rattle.fri_requests.specs.Committed.{domain_of, domain_committed, Lists}
+use Rattle.fri_requests.specs.Numbers.{extension_numbers}
 use Rattle.fri_requests.specs.Requests.{CanOpen}
 use Rattle.fri_requests.proofs.Bound.{request_state}
 use Rattle.fri_requests.proofs.Failed.{unread_part, request_part}
 use Rattle.fri_requests.proofs.Fits.{fits_as}
 use Rattle.fri_requests.proofs.Opened.{all_keep, domains_known, refuses_batch}
+use Rattle.fri_requests.proofs.Fields.{fields_of}
+use Rattle.fri_requests.proofs.prepared.prepare.Given.{Over}
 use Rattle.fri_requests.proofs.prepared.prepare.Goals as goal
 
-pub commit_all-requires : goal.commit_all-requires
-commit_all-requires g c = record {
-  room = λ i d h.
+abbrev fields : (g : Over) → SchemeFields g.row.F.Denot g.row.F-Extension.Denot
+fields g = fields_of g.F.Field g.F.PrimeField64 g.F.TwoAdicField g.F.ElementBytes
+    g.F.Extension.Field g.F.Extension.ExtensionField g.F.Extension.ElementBytes
+
+pub commit_all-requires-clause-since : goal.commit_all-requires-clause-since
+commit_all-requires-clause-since g c = g.met.P.MadeScheme.keeps_since_law
+
+pub commit_all-requires-clause-room : goal.commit_all-requires-clause-room
+commit_all-requires-clause-room g c = record {
+  each = λ i d h.
       let es = (get_or c.in_ok-asked.asked.batches.all.items i d).evaluations.items in
       c.requires.room es
-      (fits_as es (λ d. d.log_size) {b = c.args.request.now.parameters.log_blowup} c.ZK-hides.ensures refl
+      (fits_as g.F.TwoAdicField.TWO_ADICITY es (λ d. d.log_size) {b = c.args.request.now.parameters.log_blowup} c.ZK-hides.ensures refl
       (c.in_ok-asked.ensures.read.fit i d h));
 }
 
@@ -31,29 +41,29 @@ batches_stated-requires-clause-domains g c =
     let hides = g.P.UnivariateStarkPcs.ZK in
     let cs = c.in_ok-committed.committed.items in
     let batches = c.args.request.now.commitments.items in
-    let listed = subst (λ h. AllZip (Lists h (λ d. d.shift) (λ d. d.log_size)) c.in_ok-asked.asked.batches.all.items batches)
+    let listed = subst (λ h. AllZip (Lists (fields g) h (λ d. d.shift) (λ d. d.log_size)) c.in_ok-asked.asked.batches.all.items batches)
     c.ZK-hides.ensures c.in_ok-asked.ensures.read.listed in
-    ap (λ ks. map (λ k. map (λ d. domain_of d.shift d.log_size) k.domains.items) ks) c.deref-2.ensures.value
-    ∙ domains_known r t hides (λ d. d.shift) (λ d. d.log_size) c.in_ok-known.known.items cs batches
+    ap (λ ks. map (λ k. map (λ d. domain_of (fields g) d.shift d.log_size) k.domains.items) ks) c.deref-2.ensures.value
+    ∙ domains_known (fields g) r t hides (λ d. d.shift) (λ d. d.log_size) c.in_ok-known.known.items cs batches
     (c.in_ok-known.ensures.domains ∙ ap (λ ks. map (λ k. k.domains.items) ks) c.deref.ensures.value)
-    (all_keep r t hides (λ d. d.shift) (λ d. d.log_size) (g.met.P.Pcs.rules_law s) cs
+    (all_keep (fields g) r t hides (λ d. d.shift) (λ d. d.log_size) (g.met.P.Pcs.rules_law s) cs
     c.in_ok-asked.asked.batches.all.items batches c.in_ok-committed.ensures.committed listed)
     ∙ ap₂ (λ h bs. map (λ b. map (λ m. domain_committed h m.domain) b.matrices.items) bs) (sym c.ZK-hides.ensures)
     (sym c.deref-4.ensures.value)
 
 pub batches_stated-requires-clause-points : goal.batches_stated-requires-clause-points
 batches_stated-requires-clause-points g c =
-    ap (λ ps. map (map (map coefficient_numbers)) (nested ps)) c.deref-3.ensures.value
+    ap (λ ps. map (map (map (extension_numbers (fields g)))) (nested ps)) c.deref-3.ensures.value
     ∙ c.in_ok-asked.ensures.points.numbers
     ∙ ap (λ bs. map (λ batch. map (λ m. lists m.points.items) batch.matrices.items) bs) (sym c.deref-4.ensures.value)
 
 pub returns-clause-keeps : goal.returns-clause-keeps
 returns-clause-keeps g c =
     let s = c.commit_all.new.scheme in
-    all_keep (g.P.Pcs.rules s) (g.P.UnivariateStarkPcs.stark_rules s) g.P.UnivariateStarkPcs.ZK (λ d. d.shift)
+    all_keep (fields g) (g.P.Pcs.rules s) (g.P.UnivariateStarkPcs.stark_rules s) g.P.UnivariateStarkPcs.ZK (λ d. d.shift)
     (λ d. d.log_size) (g.met.P.Pcs.rules_law s) c.in_ok-committed.committed.items
     c.in_ok-asked.asked.batches.all.items c.args.request.now.commitments.items c.in_ok-committed.ensures.committed
-    (subst (λ h. AllZip (Lists h (λ d. d.shift) (λ d. d.log_size)) c.in_ok-asked.asked.batches.all.items
+    (subst (λ h. AllZip (Lists (fields g) h (λ d. d.shift) (λ d. d.log_size)) c.in_ok-asked.asked.batches.all.items
     c.args.request.now.commitments.items) c.ZK-hides.ensures c.in_ok-asked.ensures.read.listed)
 
 pub returns-clause-commitments : goal.returns-clause-commitments
@@ -68,11 +78,11 @@ pub returns-clause-state : goal.returns-clause-state
 returns-clause-state g c =
     let hides = g.P.UnivariateStarkPcs.ZK in
     let request = c.args.request.now in
-    request_state hides _ c.in_ok-begun.begun request c.in_ok-asked.asked.context.items
-    (map opened_commitment c.in_ok-stated.stated.items) (map (λ k. k.commitment) c.in_ok-known.known.items) _
+    request_state (fields g) hides _ c.in_ok-begun.begun request c.in_ok-asked.asked.context.items
+    (map (opened_commitment (prime_fields (fields g)) (λ d. d.shift) (λ d. d.log_size)) c.in_ok-stated.stated.items) (map (λ k. k.commitment) c.in_ok-known.known.items) _
     c.in_ok-challenger.challenger
     (c.in_ok-challenger.ensures
-    ∙ ap₂ (λ bs ss. bound c.in_ok-begun.begun bs (parameters_in request.parameters) (map opened_commitment ss))
+    ∙ ap₂ (λ bs ss. bound (fields g) c.in_ok-begun.begun bs (parameters_in request.parameters) (map (opened_commitment (prime_fields (fields g)) (λ d. d.shift) (λ d. d.log_size)) ss))
     c.deref-5.ensures.value c.deref-6.ensures.value)
     c.in_ok-begun.ensures c.in_ok-asked.ensures.context
     (c.in_ok-stated.ensures
@@ -85,21 +95,21 @@ returns-clause-state g c =
 pub returns-in_err-asked-clause-refused : goal.returns-in_err-asked-clause-refused
 returns-in_err-asked-clause-refused g c =
     unread_part _ _ _ _ _ c.from_residual.ensures.1 c.in_err-asked.ensures.refused
-    (λ fails can. fails (subst (λ h. CanOpen h c.args.request.now) (sym c.ZK-hides.ensures) can))
+    (λ fails can. fails (subst (λ h. CanOpen (fields g) h c.args.request.now) (sym c.ZK-hides.ensures) can))
 
 pub returns-clause-well_formed : goal.returns-clause-well_formed
 returns-clause-well_formed g c =
-    subst (λ h. CanOpen h c.args.request.now) c.ZK-hides.ensures c.in_ok-asked.ensures.well_formed
+    subst (λ h. CanOpen (fields g) h c.args.request.now) c.ZK-hides.ensures c.in_ok-asked.ensures.well_formed
 
 pub returns-in_err-committed-clause-refused : goal.returns-in_err-committed-clause-refused
 returns-in_err-committed-clause-refused g c =
     request_part _ _ _ _ _ _ c.from_residual-in_err-committed.ensures.1 c.in_err-committed.ensures.refused
     (λ never. absurd never)
     (λ e h. (
-      subst (λ h. CanOpen h c.args.request.now) c.ZK-hides.ensures c.in_ok-asked.ensures.well_formed,
-      refuses_batch g.P.Pcs.rules g.P.UnivariateStarkPcs.stark_rules g.P.MadeScheme.IsMemory e
+      subst (λ h. CanOpen (fields g) h c.args.request.now) c.ZK-hides.ensures c.in_ok-asked.ensures.well_formed,
+      refuses_batch g.P.Pcs.rules g.P.UnivariateStarkPcs.stark_rules g.P.MadeScheme.IsMemory e (fields g)
           g.P.UnivariateStarkPcs.ZK (λ d. d.shift) (λ d. d.log_size) c.args.request.now.commitments.items _
           c.in_ok-asked.asked.batches.all.items
-          (subst (λ h. AllZip (Lists h (λ d. d.shift) (λ d. d.log_size)) c.in_ok-asked.asked.batches.all.items
+          (subst (λ h. AllZip (Lists (fields g) h (λ d. d.shift) (λ d. d.log_size)) c.in_ok-asked.asked.batches.all.items
           c.args.request.now.commitments.items) c.ZK-hides.ensures c.in_ok-asked.ensures.read.listed) h,
     ))

@@ -1,36 +1,38 @@
 use Rattle.std.proofs.Common.{map, ap, ◌∙◌}
 use Rattle.std.proofs.lemmas.Result.{IfOk-from_err}
+use Rattle.fri_statement.specs.Setting.{prime_fields}
 use Rattle.fri_statement.specs.Stated.{opened_commitment}
 use Rattle.fri_requests.proofs.Bound.{claims_ended}
 use Rattle.p3_pcs.specs.Claims.{claim, matrix_claim}
 use Rattle.fri_requests.specs.Bound.{batch_claimed, matrix_claimed}
 use Rattle.fri_requests.specs.Claims.{batch_numbers, matrix_numbers}
 use Rattle.fri_requests.proofs.Kept.{same_more}
+use Rattle.fri_requests.proofs.statement.claims_stated.Invariants.{fields}
 use Rattle.fri_requests.proofs.statement.claims_stated.Goals as goal
 
 pub loop-opening-preserved : goal.loop-opening-preserved
-loop-opening-preserved c =
+loop-opening-preserved g c =
     let o = c.opening-item.result in
-    same_more opened_commitment
-    (λ n. batch_claimed (batch_numbers (λ d. d.shift) (λ d. d.log_size) (claim n)))
+    same_more (opened_commitment (prime_fields (fields g)) (λ d. d.shift) (λ d. d.log_size))
+    (λ n. batch_claimed (batch_numbers (fields g) (λ d. d.shift) (λ d. d.log_size) (claim n)))
     c.loop-opening.all.items c.push.new.self.items c.args.claims.now c.loop-opening.opening-index _ o
     c.loop-opening-test.true c.opening-item.is c.in_ok-push.ensures.items
     (ap (λ ms. record { digest = o.commitment; matrices = ms })
     (c.in_ok-matrices_claimed.ensures
-    ∙ ap (λ ms. map matrix_claimed (map (matrix_numbers (λ d. d.shift) (λ d. d.log_size)) (map matrix_claim ms)))
+    ∙ ap (λ ms. map matrix_claimed (map (matrix_numbers (fields g) (λ d. d.shift) (λ d. d.log_size)) (map matrix_claim ms)))
     c.deref.ensures.value))
     c.loop-opening.invariant
 
 pub returns : goal.returns
-returns c = claims_ended (λ d. d.shift) (λ d. d.log_size) (map opened_commitment c.loop-opening.all.items) c.args.claims.now
+returns g c = claims_ended (fields g) (λ d. d.shift) (λ d. d.log_size) (map (opened_commitment (prime_fields (fields g)) (λ d. d.shift) (λ d. d.log_size)) c.loop-opening.all.items) c.args.claims.now
     c.loop-opening.opening-index c.loop-opening-test.false c.loop-opening.invariant
 
 -- where nothing is answered nothing is said of the answer
 pub returns-in_err-all : goal.returns-in_err-all
-returns-in_err-all c = IfOk-from_err c.from_residual.result _ c.from_residual.ensures.0
+returns-in_err-all g c = IfOk-from_err c.from_residual.result _ c.from_residual.ensures.0
 
 pub returns-in_err-matrices_claimed : goal.returns-in_err-matrices_claimed
-returns-in_err-matrices_claimed c = IfOk-from_err c.from_residual-in_err-matrices_claimed.result _ c.from_residual-in_err-matrices_claimed.ensures.0
+returns-in_err-matrices_claimed g c = IfOk-from_err c.from_residual-in_err-matrices_claimed.result _ c.from_residual-in_err-matrices_claimed.ensures.0
 
 pub returns-in_err-push : goal.returns-in_err-push
-returns-in_err-push c = IfOk-from_err c.from_residual-in_err-push.result _ c.from_residual-in_err-push.ensures.0
+returns-in_err-push g c = IfOk-from_err c.from_residual-in_err-push.result _ c.from_residual-in_err-push.ensures.0

@@ -1,37 +1,39 @@
 use Rattle.std.proofs.Common.{ap, ◌∙◌, map}
 use Rattle.std.proofs.lemmas.Result.{IfOk-from_err}
 use Rattle.p3_pcs.specs.Claims.{point_claim, matrix_claim}
-use Rattle.fri_statement.specs.Numbers.{canonical_number, coefficient_numbers}
+use Rattle.fri_requests.specs.Numbers.{extension_numbers}
+use Rattle.fri_statement.specs.Setting.{prime_fields}
 use Rattle.fri_statement.specs.Stated.{opened_matrix}
 use Rattle.fri_requests.specs.Bound.{width_claimed, matrix_claimed}
 use Rattle.fri_requests.specs.Claims.{point_numbers, matrix_numbers}
 use Rattle.fri_requests.proofs.Bound.{points_stated, opened_same, matrices_ended}
 use Rattle.fri_requests.proofs.Kept.{same_more}
+use Rattle.fri_requests.proofs.statement.matrices_claimed.Invariants.{fields}
 use Rattle.fri_requests.proofs.statement.matrices_claimed.Goals as goal
 
 pub loop-matrix-preserved : goal.loop-matrix-preserved
-loop-matrix-preserved c =
+loop-matrix-preserved g c =
     let m = c.matrix-item.result in
-    same_more opened_matrix (λ n. matrix_claimed (matrix_numbers (λ d. d.shift) (λ d. d.log_size) (matrix_claim n)))
+    same_more (opened_matrix (prime_fields (fields g)) (λ d. d.shift) (λ d. d.log_size)) (λ n. matrix_claimed (matrix_numbers (fields g) (λ d. d.shift) (λ d. d.log_size) (matrix_claim n)))
     c.loop-matrix.all.items c.push.new.self.items c.args.matrices.now c.loop-matrix.matrix-index _ m
     c.loop-matrix-test.true c.matrix-item.is c.in_ok-push.ensures.items
-    (opened_same (canonical_number m.domain.shift) m.domain.log_size _ _ _ _
-    (c.width_of.ensures ∙ ap (λ ps. width_claimed (map point_numbers (map point_claim ps))) c.deref.ensures.value)
-    (ap (λ ps. map coefficient_numbers ps) (c.in_ok-points_claimed.ensures
+    (opened_same (g.F.PrimeField64.canonical m.domain.shift) m.domain.log_size _ _ _ _
+    (c.width_of.ensures ∙ ap (λ ps. width_claimed (map (point_numbers (fields g)) (map point_claim ps))) c.deref.ensures.value)
+    (ap (λ ps. map (extension_numbers (fields g)) ps) (c.in_ok-points_claimed.ensures
     ∙ ap (λ ps. map (λ p. p.point) ps) c.deref-in-loop-matrix.ensures.value)
-    ∙ points_stated m.points.items))
+    ∙ points_stated (fields g) m.points.items))
     c.loop-matrix.invariant
 
 pub returns : goal.returns
-returns c = matrices_ended (λ d. d.shift) (λ d. d.log_size) (map opened_matrix c.loop-matrix.all.items) c.args.matrices.now
+returns g c = matrices_ended (fields g) (λ d. d.shift) (λ d. d.log_size) (map (opened_matrix (prime_fields (fields g)) (λ d. d.shift) (λ d. d.log_size)) c.loop-matrix.all.items) c.args.matrices.now
     c.loop-matrix.matrix-index c.loop-matrix-test.false c.loop-matrix.invariant
 
 -- where nothing is answered nothing is said of the answer
 pub returns-in_err-all : goal.returns-in_err-all
-returns-in_err-all c = IfOk-from_err c.from_residual.result _ c.from_residual.ensures.0
+returns-in_err-all g c = IfOk-from_err c.from_residual.result _ c.from_residual.ensures.0
 
 pub returns-in_err-points_claimed : goal.returns-in_err-points_claimed
-returns-in_err-points_claimed c = IfOk-from_err c.from_residual-in_err-points_claimed.result _ c.from_residual-in_err-points_claimed.ensures.0
+returns-in_err-points_claimed g c = IfOk-from_err c.from_residual-in_err-points_claimed.result _ c.from_residual-in_err-points_claimed.ensures.0
 
 pub returns-in_err-push : goal.returns-in_err-push
-returns-in_err-push c = IfOk-from_err c.from_residual-in_err-push.result _ c.from_residual-in_err-push.ensures.0
+returns-in_err-push g c = IfOk-from_err c.from_residual-in_err-push.result _ c.from_residual-in_err-push.ensures.0

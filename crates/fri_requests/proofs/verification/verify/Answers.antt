@@ -3,11 +3,18 @@ use Rattle.std.specs.Prelude.{replicate}
 use Rattle.p3_pcs.specs.Claims.{claim}
 use Rattle.p3_fri_two_adic.specs.Ranges.{InVerifierRange}
 use Rattle.fri_schemes.specs.Alike.{still_alike}
+use Rattle.fri_statement.specs.Setting.{SchemeFields}
 use Rattle.fri_requests.specs.Bound.{state_bound}
 use Rattle.fri_requests.specs.Verdicts.{IsMadeFor}
 use Rattle.fri_requests.proofs.Answered.{accepted_by, refused_by}
 use Rattle.fri_requests.proofs.Failed.{refused_part}
+use Rattle.fri_requests.proofs.Fields.{fields_of}
+use Rattle.fri_requests.proofs.verification.verify.Given.{Over}
 use Rattle.fri_requests.proofs.verification.verify.Goals as goal
+
+abbrev fields : (g : Over) → SchemeFields g.row.F.Denot g.row.F-Extension.Denot
+fields g = fields_of g.F.Field g.F.PrimeField64 g.F.TwoAdicField g.F.ElementBytes
+    g.F.Extension.Field g.F.Extension.ExtensionField g.F.Extension.ElementBytes
 
 pub verify_claims-requires : goal.verify_claims-requires
 verify_claims-requires g c = record {
@@ -19,18 +26,18 @@ returns-clause-accepted g c =
     let made = c.made-scheme.result in
     let n = c.args.num_random_codewords in
     let records = c.args.claims.now in
-    accepted_by g.P.Pcs.rules (λ d. d.shift) (λ d. d.log_size)
+    accepted_by (fields g) g.P.Pcs.rules (λ d. d.shift) (λ d. d.log_size)
     (IsMadeFor g.P.MadeScheme.IsMade c.args.parameters.now n) (g.P.MadeScheme.begun n c.args.preprocessing)
     c.args.context.now c.args.parameters.now c.args.preprocessing records c.args.proof.now made
     (replicate 32 0, subst (λ p. g.P.MadeScheme.IsMade p n (replicate 32 0) made) c.in-Ok.ensures.parameters c.made-scheme.ensures)
     (record {
       bytes = c.in_ok-claims.ensures.context;
-      range = subst (λ p. InVerifierRange p 27 63) c.in-Ok.ensures.parameters c.in-Ok.ensures.range;
+      range = subst (λ p. InVerifierRange p g.F.TwoAdicField.TWO_ADICITY 63) c.in-Ok.ensures.parameters c.in-Ok.ensures.range;
       claims = c.in_ok-claims.ensures.claims;
     })
     (map claim c.in_ok-claims.claims.items) c.in_ok-claims.ensures.numbers c.in_ok-claims.challenger
     (c.in_ok-claims.ensures.state
-    ∙ ap (λ b. state_bound b c.args.context.now c.args.parameters.now records) c.in_ok-begun.ensures)
+    ∙ ap (λ b. state_bound (fields g) b c.args.context.now c.args.parameters.now records) c.in_ok-begun.ensures)
     made (still_alike (g.P.Pcs.rules made)) _ _ (c.in_ok-verify_claims.ensures.accepted refl)
     (c.in_ok-verify_claims.ensures.state refl) c.in_ok-next_drawn.ensures
 
@@ -41,15 +48,15 @@ returns-in_err-verify_claims-clause-refused g c =
     let records = c.args.claims.now in
     refused_part _ _ _ _ _ _ c.from_residual-in_err-verify_claims.ensures.1
     c.in_err-verify_claims.ensures.refused (λ never. absurd never)
-    (refused_by g.P.Pcs.rules (λ d. d.shift) (λ d. d.log_size)
+    (refused_by (fields g) g.P.Pcs.rules (λ d. d.shift) (λ d. d.log_size)
     (IsMadeFor g.P.MadeScheme.IsMade c.args.parameters.now n) (g.P.MadeScheme.begun n c.args.preprocessing)
     c.args.context.now c.args.parameters.now c.args.preprocessing records c.args.proof.now made
     (replicate 32 0, subst (λ p. g.P.MadeScheme.IsMade p n (replicate 32 0) made) c.in-Ok.ensures.parameters c.made-scheme.ensures)
     (record {
       bytes = c.in_ok-claims.ensures.context;
-      range = subst (λ p. InVerifierRange p 27 63) c.in-Ok.ensures.parameters c.in-Ok.ensures.range;
+      range = subst (λ p. InVerifierRange p g.F.TwoAdicField.TWO_ADICITY 63) c.in-Ok.ensures.parameters c.in-Ok.ensures.range;
       claims = c.in_ok-claims.ensures.claims;
     })
     (map claim c.in_ok-claims.claims.items) c.in_ok-claims.ensures.numbers c.in_ok-claims.challenger
     (c.in_ok-claims.ensures.state
-    ∙ ap (λ b. state_bound b c.args.context.now c.args.parameters.now records) c.in_ok-begun.ensures))
+    ∙ ap (λ b. state_bound (fields g) b c.args.context.now c.args.parameters.now records) c.in_ok-begun.ensures))

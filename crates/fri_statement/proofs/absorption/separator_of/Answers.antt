@@ -4,10 +4,12 @@ use Rattle.p3_challenger_fs.specs.Description.{Description}
 use Rattle.p3_challenger_fs.specs.Pattern.{Step, pattern_steps}
 use Rattle.p3_challenger_fs.specs.Separator.{description}
 use Rattle.p3_fri_relation.specs.Views.{parameters_of}
+use Rattle.fri_statement.specs.Numbers.{PrimeFields}
 use Rattle.fri_statement.specs.Stated.{opened_commitment}
 use Rattle.fri_statement.specs.Statement.{Statement, numbers_bytes, parameter_numbers, commitment_labels}
 use Rattle.fri_statement.specs.Statement.{statement_labels, statement_steps, statement_description}
 use Rattle.fri_statement.proofs.Pushes.{with_labels, labels_more}
+use Rattle.fri_statement.proofs.absorption.separator_of.Given as given
 use Rattle.fri_statement.proofs.absorption.separator_of.Goals as goal
 
 abbrev begun : List Step → Description
@@ -26,12 +28,22 @@ described s d d₁ d₂ d₃ steps begins played context parameters commitments 
     commitments
     ∙ ap (λ b. with_labels b (statement_labels s)) (begins ∙ ap begun played)
 
+abbrev fields : (g : given.Over) → PrimeFields g.row.F.Denot g.row.EF.Denot
+fields g = record {
+  base = g.F.Field.ops;
+  order = g.F.PrimeField64.ORDER_U64;
+  canonical = g.F.PrimeField64.canonical;
+  degree = g.EF.ExtensionField.DIMENSION;
+  coefficients = g.EF.ExtensionField.coefficients;
+  of_coefficients = g.EF.ExtensionField.of_coefficients;
+}
+
 pub returns : goal.returns
 returns g c =
     described (record {
       context = c.args.context.now;
       parameters = parameters_of c.args.params.now;
-      commitments = map opened_commitment c.args.commitments.now;
+      commitments = map (opened_commitment (fields g) (λ d. d.shift) (λ d. d.log_size)) c.args.commitments.now;
     }) (description c.new-separator.result) (description c.instance.new.self) (description c.instance-2.new.self)
     (description c.push_commitments.new.separator) (pattern_steps c.in_ok-pattern.pattern) c.new-separator.ensures c.in_ok-pattern.ensures c.in_ok-instance.ensures.ok
     (c.in_ok-instance-2.ensures.ok

@@ -1,21 +1,6 @@
 use Rattle.std.proofs.Common.{map, sym, subst, ap, ◌∙◌}
 use Rattle.p3_fri_hiding_tests.proofs.commitments.commit_to.Goals as goal
 
-pub commit-requires : goal.commit-requires
-commit-requires g c = record {
-  room = (g.met.P.Tested.commits_law _ _ c.requires).columns _ c.evaluations-private.ensures;
-}
-
-pub commit_preprocessing-requires : goal.commit_preprocessing-requires
-commit_preprocessing-requires g c = record {
-  room = (g.met.P.Tested.commits_law _ _ c.requires).columns _ c.evaluations-public.ensures;
-}
-
-pub commit_ldes-requires : goal.commit_ldes-requires
-commit_ldes-requires g c = record {
-  room = (g.met.P.Tested.commits_law _ _ c.requires).words _ c.words-words.ensures;
-}
-
 pub commit_chunks-requires : goal.commit_chunks-requires
 commit_chunks-requires g c =
     (g.met.P.Tested.commits_law _ _ c.requires).chunks _ c.chunks-chunks.ensures

@@ -4,9 +4,9 @@ use Rattle.fri_flat.specs.Flat.{word}
 use Rattle.fri_flat.proofs.flat.VecFlat.read.Given as goal
 
 abbrev pub invariant-loop : goal.invariant-loop
-invariant-loop g l = let F = g.F.Flat in record {
+invariant-loop g l = let V = g.V.Flat in record {
   form : l.fn.reader.left.now
-      ≡ word l.count ++ flat_map F.form l.entries.items ++ l.reader.left.now;
+      ≡ word l.count ++ flat_map (V.form l.layout) l.entries.items ++ l.reader.left.now;
   count : vec_len l.entries ≡ l.counter;
-  whole : All F.IsWhole l.entries.items;
+  whole : All (V.IsWhole l.layout) l.entries.items;
 }

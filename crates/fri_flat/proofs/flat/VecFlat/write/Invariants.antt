@@ -5,4 +5,4 @@ use Rattle.fri_flat.proofs.flat.VecFlat.write.Given as goal
 
 abbrev pub invariant-loop-entry : goal.invariant-loop-entry
 invariant-loop-entry g l = l.out.items ≡ l.fn.out.items ++ word (vec_len l.entries)
-    ++ flat_map g.F.Flat.form (take l.entry-index l.entries.items)
+    ++ flat_map (g.V.Flat.form l.layout) (take l.entry-index l.entries.items)

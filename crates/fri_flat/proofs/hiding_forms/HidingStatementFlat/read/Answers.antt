@@ -11,11 +11,11 @@ returns-clause-form c =
     let hidden = word c.in_ok-word.field-0 ++ index c.in_ok-index.field-0
     ++ context (string_bytes c.in_ok-context.field-0) in
     let stated = parameters c.in_ok-read.field-0 in
-    let claimed = list batch_claims c.in_ok-read-2.field-0 in
+    let claimed = list (batch_claims c.args.layout) c.in_ok-read-2.field-0 in
     let after = c.context.new.self.left.now in
     let last = c.read-2.new.reader.left.now in
-    read_next bytes (hidden ++ stated ++ claimed) (hiding_proof c.in_ok-read-3.field-0) last
-    c.read-3.new.reader.left.now
+    read_next bytes (hidden ++ stated ++ claimed)
+    (hiding_proof c.args.layout c.in_ok-read-3.field-0) last c.read-3.new.reader.left.now
     (three_read bytes hidden stated claimed after c.read.new.reader.left.now last
     (three_read bytes (word c.in_ok-word.field-0) (index c.in_ok-index.field-0)
     (context (string_bytes c.in_ok-context.field-0)) c.word.new.self.left.now

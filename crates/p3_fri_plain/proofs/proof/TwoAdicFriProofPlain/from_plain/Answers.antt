@@ -1,83 +1,69 @@
-use Rattle.std.proofs.Common.{rules, ◌≢◌, map}
-use Rattle.std.specs.Prelude.{IfErr}
-use Rattle.std.specs.List.{Any}
 use Rattle.std.proofs.lemmas.List.{map-id}
-use Rattle.algebra.specs.Nested.{lists}
-use Rattle.p3_fri_plain.specs.declared.error.PlainProofError.{PlainProofError}
-use Rattle.p3_fri_plain.specs.declared.error.PlainProofError.TheVariants.{OutOfMemory}
-use Rattle.p3_fri_plain.specs.Faults.{ElementFault, ExtensionFault, DigestFault, BatchFault}
-use Rattle.p3_fri_plain.specs.Faults.{StepFault, ProofFault, InBatchWitness, InCommitments}
+use Rattle.p3_fri_plain.specs.Faults.{ProofFault, InBatchWitness, InCommitments}
 use Rattle.p3_fri_plain.specs.Faults.{InCommitWitnesses, InInputs, InRounds, InFinalPoly}
 use Rattle.p3_fri_plain.specs.Faults.{InQueryWitness}
-use Rattle.p3_fri_plain.specs.Views.{batch_listed, step_listed, proof_listed}
-use Rattle.p3_fri_plain.proofs.Wider.{wider}
+use Rattle.p3_fri_plain.specs.Views.{proof_listed}
+use Rattle.p3_fri_plain.proofs.PassedOn.{passed_on}
 use Rattle.p3_fri_plain.proofs.proof.TwoAdicFriProofPlain.from_plain.Goals as goal
 
 pub returns-in_err-from_plain-clause-err : goal.returns-in_err-from_plain-clause-err
-returns-in_err-from_plain-clause-err c =
-    let Part : PlainProofError → Type 0 = λ e.
-    ElementFault e c.args.form.now.batch_pow_witness in
-    let part : IfErr c.from_residual.result (λ e. e ≢ OutOfMemory → Part e)
-    = search rules in
-    wider c.from_residual.result Part (λ e. ProofFault e (proof_listed c.args.form.now))
-    (λ e f. InBatchWitness f) part
+returns-in_err-from_plain-clause-err g c =
+    passed_on c.from_residual.result c.in_err-from_plain.field-0.0
+    (λ e. ProofFault g.F.PrimeField64.ORDER_U64 g.EF.ExtensionField.DIMENSION e
+    (proof_listed c.args.form.now))
+    c.from_residual.ensures.1
+    (λ other. InBatchWitness (c.in_err-from_plain.ensures.err other))
 
 pub returns-in_err-from_plain-2-clause-err : goal.returns-in_err-from_plain-2-clause-err
-returns-in_err-from_plain-2-clause-err c =
-    let Part : PlainProofError → Type 0 = λ e.
-    Any (DigestFault e) (lists c.args.form.now.commit_phase_commits.items) in
-    let part : IfErr c.from_residual-in_err-from_plain-2.result (λ e. e ≢ OutOfMemory → Part e)
-    = search rules in
-    wider c.from_residual-in_err-from_plain-2.result Part (λ e. ProofFault e (proof_listed c.args.form.now))
-    (λ e f. InCommitments f) part
+returns-in_err-from_plain-2-clause-err g c =
+    passed_on c.from_residual-in_err-from_plain-2.result c.in_err-from_plain-2.field-0.0
+    (λ e. ProofFault g.F.PrimeField64.ORDER_U64 g.EF.ExtensionField.DIMENSION e
+    (proof_listed c.args.form.now))
+    c.from_residual-in_err-from_plain-2.ensures.1
+    (λ other. InCommitments (c.in_err-from_plain-2.ensures.err other))
 
 pub returns-in_err-from_plain-3-clause-err : goal.returns-in_err-from_plain-3-clause-err
-returns-in_err-from_plain-3-clause-err c =
-    let Part : PlainProofError → Type 0 = λ e.
-    Any (ElementFault e) (map (λ n. n) c.args.form.now.commit_pow_witnesses.items) in
-    let part : IfErr c.from_residual-in_err-from_plain-3.result (λ e. e ≢ OutOfMemory → Part e)
-    = search rules in
-    wider c.from_residual-in_err-from_plain-3.result Part (λ e. ProofFault e (proof_listed c.args.form.now))
-    (λ e f. InCommitWitnesses (simp map-id at f)) part
+returns-in_err-from_plain-3-clause-err g c =
+    passed_on c.from_residual-in_err-from_plain-3.result c.in_err-from_plain-3.field-0.0
+    (λ e. ProofFault g.F.PrimeField64.ORDER_U64 g.EF.ExtensionField.DIMENSION e
+    (proof_listed c.args.form.now))
+    c.from_residual-in_err-from_plain-3.ensures.1
+    (λ other. InCommitWitnesses (simp map-id at (c.in_err-from_plain-3.ensures.err other)))
 
 pub returns-in_err-from_plain-4-clause-err : goal.returns-in_err-from_plain-4-clause-err
-returns-in_err-from_plain-4-clause-err c =
-    let Part : PlainProofError → Type 0 = λ e.
-    Any (BatchFault e) (map batch_listed c.args.form.now.input_openings.items) in
-    let part : IfErr c.from_residual-in_err-from_plain-4.result (λ e. e ≢ OutOfMemory → Part e)
-    = search rules in
-    wider c.from_residual-in_err-from_plain-4.result Part (λ e. ProofFault e (proof_listed c.args.form.now))
-    (λ e f. InInputs f) part
+returns-in_err-from_plain-4-clause-err g c =
+    passed_on c.from_residual-in_err-from_plain-4.result c.in_err-from_plain-4.field-0.0
+    (λ e. ProofFault g.F.PrimeField64.ORDER_U64 g.EF.ExtensionField.DIMENSION e
+    (proof_listed c.args.form.now))
+    c.from_residual-in_err-from_plain-4.ensures.1
+    (λ other. InInputs (c.in_err-from_plain-4.ensures.err other))
 
 pub returns-in_err-from_plain-5-clause-err : goal.returns-in_err-from_plain-5-clause-err
-returns-in_err-from_plain-5-clause-err c =
-    let Part : PlainProofError → Type 0 = λ e.
-    Any (StepFault e) (map step_listed c.args.form.now.commit_phase_openings.items) in
-    let part : IfErr c.from_residual-in_err-from_plain-5.result (λ e. e ≢ OutOfMemory → Part e)
-    = search rules in
-    wider c.from_residual-in_err-from_plain-5.result Part (λ e. ProofFault e (proof_listed c.args.form.now))
-    (λ e f. InRounds f) part
+returns-in_err-from_plain-5-clause-err g c =
+    passed_on c.from_residual-in_err-from_plain-5.result c.in_err-from_plain-5.field-0.0
+    (λ e. ProofFault g.F.PrimeField64.ORDER_U64 g.EF.ExtensionField.DIMENSION e
+    (proof_listed c.args.form.now))
+    c.from_residual-in_err-from_plain-5.ensures.1
+    (λ other. InRounds (c.in_err-from_plain-5.ensures.err other))
 
 pub returns-in_err-from_plain-6-clause-err : goal.returns-in_err-from_plain-6-clause-err
-returns-in_err-from_plain-6-clause-err c =
-    let Part : PlainProofError → Type 0 = λ e.
-    Any (ExtensionFault e) (lists c.args.form.now.final_poly.items) in
-    let part : IfErr c.from_residual-in_err-from_plain-6.result (λ e. e ≢ OutOfMemory → Part e)
-    = search rules in
-    wider c.from_residual-in_err-from_plain-6.result Part (λ e. ProofFault e (proof_listed c.args.form.now))
-    (λ e f. InFinalPoly f) part
+returns-in_err-from_plain-6-clause-err g c =
+    passed_on c.from_residual-in_err-from_plain-6.result c.in_err-from_plain-6.field-0.0
+    (λ e. ProofFault g.F.PrimeField64.ORDER_U64 g.EF.ExtensionField.DIMENSION e
+    (proof_listed c.args.form.now))
+    c.from_residual-in_err-from_plain-6.ensures.1
+    (λ other. InFinalPoly (c.in_err-from_plain-6.ensures.err other))
 
 pub returns-in_err-from_plain-7-clause-err : goal.returns-in_err-from_plain-7-clause-err
-returns-in_err-from_plain-7-clause-err c =
-    let Part : PlainProofError → Type 0 = λ e.
-    ElementFault e c.args.form.now.query_pow_witness in
-    let part : IfErr c.from_residual-in_err-from_plain-7.result (λ e. e ≢ OutOfMemory → Part e)
-    = search rules in
-    wider c.from_residual-in_err-from_plain-7.result Part (λ e. ProofFault e (proof_listed c.args.form.now))
-    (λ e f. InQueryWitness f) part
+returns-in_err-from_plain-7-clause-err g c =
+    passed_on c.from_residual-in_err-from_plain-7.result c.in_err-from_plain-7.field-0.0
+    (λ e. ProofFault g.F.PrimeField64.ORDER_U64 g.EF.ExtensionField.DIMENSION e
+    (proof_listed c.args.form.now))
+    c.from_residual-in_err-from_plain-7.ensures.1
+    (λ other. InQueryWitness (c.in_err-from_plain-7.ensures.err other))
 
 pub returns-clause-ok : goal.returns-clause-ok
-returns-clause-ok c = λ i. record {
+returns-clause-ok g c = λ i. record {
   batch_witness = c.in_ok-from_plain.ensures.ok i;
   commitments = (simp map-id at c.in_ok-from_plain-2.ensures.ok) i;
   commit_witnesses = (simp map-id at c.in_ok-from_plain-3.ensures.ok) i;
@@ -88,7 +74,7 @@ returns-clause-ok c = λ i. record {
 }
 
 pub returns-clause-faultless : goal.returns-clause-faultless
-returns-clause-faultless c error fault = elim fault [
+returns-clause-faultless g c error fault = elim fault [
   | InBatchWitness f ↦ c.in_ok-from_plain.ensures.faultless error f
   | InCommitments f ↦ c.in_ok-from_plain-2.ensures.faultless error f
   | InCommitWitnesses f ↦ (simp map-id at (c.in_ok-from_plain-3.ensures.faultless error)) f

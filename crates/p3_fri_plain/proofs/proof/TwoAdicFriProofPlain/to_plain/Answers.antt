@@ -4,7 +4,7 @@ use Rattle.p3_fri_plain.specs.Faults.{InRounds, InFinalPoly, InQueryWitness}
 use Rattle.p3_fri_plain.proofs.proof.TwoAdicFriProofPlain.to_plain.Goals as goal
 
 pub returns-clause-numbers : goal.returns-clause-numbers
-returns-clause-numbers c = λ i. record {
+returns-clause-numbers g c = λ i. record {
   batch_witness = c.in_ok-to_plain.ensures.numbers i;
   commitments = (simp map-id at c.in_ok-to_plain-2.ensures.numbers) i;
   commit_witnesses = (simp map-id at c.in_ok-to_plain-3.ensures.numbers) i;
@@ -15,7 +15,7 @@ returns-clause-numbers c = λ i. record {
 }
 
 pub returns-clause-faultless : goal.returns-clause-faultless
-returns-clause-faultless c error fault = elim fault [
+returns-clause-faultless g c error fault = elim fault [
   | InBatchWitness f ↦ c.in_ok-to_plain.ensures.faultless error f
   | InCommitments f ↦ c.in_ok-to_plain-2.ensures.faultless error f
   | InCommitWitnesses f ↦ (simp map-id at (c.in_ok-to_plain-3.ensures.faultless error)) f

@@ -1,0 +1,47 @@
+use Rattle.std.proofs.Common.{◌≡◌, None, map, refl, sym, subst}
+use Rattle.p3_pcs.specs.Requests.{request}
+use Rattle.p3_pcs.proofs.Honest.{claims_honest}
+use Rattle.fri_requests.proofs.Failed.{request_weaker}
+use Rattle.fri_requests.proofs.prover.open_asked.Goals as goal
+
+pub returns-clause-claims : goal.returns-clause-claims
+returns-clause-claims g c = λ honest commits.
+    let r = g.P.Pcs.rules c.args.scheme.now in
+    claims_honest r.commitment_of r.committed_polynomials r.after_opening
+    c.args.known.now c.args.requests.now _ _ _ commits
+    (c.in-Ok.ensures.opened (c.in-Ok.ensures.checked refl))
+    (c.in-Ok.ensures.values honest)
+    (rw c.as_slice.ensures.value at c.in_ok-claims.ensures)
+
+pub returns-clause-accepted : goal.returns-clause-accepted
+returns-clause-accepted g c = λ honest commits fit.
+    let r = g.P.Pcs.rules c.args.scheme.now in
+    let is = claims_honest r.commitment_of r.committed_polynomials r.after_opening
+    c.args.known.now c.args.requests.now _ _ _ commits
+    (c.in-Ok.ensures.opened (c.in-Ok.ensures.checked refl))
+    (c.in-Ok.ensures.values honest)
+    (rw c.as_slice.ensures.value at c.in_ok-claims.ensures) in
+    subst (λ cs. r.Accepts None c.args.challenger.now cs c.in-Ok.opening.1) (sym is)
+    (c.in-Ok.ensures.accepted honest _ fit)
+
+pub returns-clause-state : goal.returns-clause-state
+returns-clause-state g c = λ honest commits fit.
+    let r = g.P.Pcs.rules c.args.scheme.now in
+    let is = claims_honest r.commitment_of r.committed_polynomials r.after_opening
+    c.args.known.now c.args.requests.now _ _ _ commits
+    (c.in-Ok.ensures.opened (c.in-Ok.ensures.checked refl))
+    (c.in-Ok.ensures.values honest)
+    (rw c.as_slice.ensures.value at c.in_ok-claims.ensures) in
+    subst (λ cs. c.open_with_preprocessing-opened.new.challenger
+    ≡ r.last_state None c.args.challenger.now cs c.in-Ok.opening.1) (sym is)
+    (c.in-Ok.ensures.state honest _ fit)
+
+pub returns-in-Err-clause-refused : goal.returns-in-Err-clause-refused
+returns-in-Err-clause-refused g c =
+    request_weaker _ _ _ _ (λ never. never)
+    (λ e h. (
+      subst (λ x. (g.P.Pcs.rules c.args.scheme.now).Refuses None c.args.challenger.now
+          (map request c.args.requests.now) x) (sym h.0)
+          c.in-Err.ensures.refused,
+      h.1,
+    )) c.refusal.result c.refusal.ensures

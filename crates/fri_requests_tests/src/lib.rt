@@ -1,0 +1,5 @@
+//! Tests of requests over each field.
+#![tactic(auto)]
+
+#[cfg(test)]
+mod fields;

@@ -1,0 +1,39 @@
+use Rattle.std.proofs.Common.{List, map, sym, ◌∙◌, ap, inl, inr}
+use Rattle.p3_fri_plain.specs.Faults.{StepFault}
+use Rattle.p3_fri_plain.specs.Views.{step_listed}
+use Rattle.p3_fri_plain.specs.Numbers.{coefficient_numbers}
+use Rattle.p3_fri_plain.proofs.Nested.{lists_same, entries_same}
+use Rattle.p3_fri_plain.proofs.PassedOn.{passed_on}
+use Rattle.p3_fri_plain.proofs.openings.StepPlain.from_plain.Goals as goal
+
+pub returns-in_err-from_plain-clause-err : goal.returns-in_err-from_plain-clause-err
+returns-in_err-from_plain-clause-err g c =
+    passed_on c.from_residual.result c.in_err-from_plain.field-0.0
+    (λ e. StepFault g.F.PrimeField64.ORDER_U64 g.EF.ExtensionField.DIMENSION e
+    (step_listed c.args.form.now))
+    c.from_residual.ensures.1
+    (λ other. inl (c.in_err-from_plain.ensures.err other))
+
+pub returns-in_err-from_plain-2-clause-err : goal.returns-in_err-from_plain-2-clause-err
+returns-in_err-from_plain-2-clause-err g c =
+    passed_on c.from_residual-in_err-from_plain-2.result c.in_err-from_plain-2.field-0.0
+    (λ e. StepFault g.F.PrimeField64.ORDER_U64 g.EF.ExtensionField.DIMENSION e
+    (step_listed c.args.form.now))
+    c.from_residual-in_err-from_plain-2.ensures.1
+    (λ other. inr (c.in_err-from_plain-2.ensures.err other))
+
+pub returns-clause-ok : goal.returns-clause-ok
+returns-clause-ok g c = λ i. record {
+  siblings = (ap (λ (rows : List (List g.row.EF.Denot)). map (map
+      (coefficient_numbers g.F.PrimeField64.canonical g.EF.ExtensionField.coefficients)) rows)
+      (sym (lists_same c.in_ok-from_plain.field-0.items))
+      ∙ c.in_ok-from_plain.ensures.ok) i;
+  path = (sym (lists_same c.in_ok-from_plain-2.field-0.items) ∙ sym (entries_same _)
+      ∙ c.in_ok-from_plain-2.ensures.ok) i;
+}
+
+pub returns-clause-faultless : goal.returns-clause-faultless
+returns-clause-faultless g c error fault = elim fault [
+  | inl f ↦ c.in_ok-from_plain.ensures.faultless error f
+  | inr f ↦ c.in_ok-from_plain-2.ensures.faultless error f
+]
