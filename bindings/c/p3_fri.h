@@ -1,11 +1,12 @@
-/* The plain FRI commitment scheme at BabyBear, its extension of degree 4 and SHA-256, the scheme
- * that hides, and a STARK over both.
+/* The plain FRI commitment scheme and the one that hides, over a prime field, an extension of it
+ * and SHA-256, and a STARK in both over BabyBear.
  *
  * Of the scheme bytes go in and bytes come out, in the flat form of docs/FORMATS.md: a number is
- * four bytes, the lowest first, and a digest 32. An element of BabyBear is its canonical number,
- * below 2013265921; one of the extension is its four coefficients, that of one first. A list is the
- * number of its entries, and these. A proof is of this form too: a statement's last part, to its
- * end.
+ * four bytes, the lowest first, and a digest 32. An element of the field is its canonical number,
+ * below the field's order, in four bytes, or eight for Goldilocks; one of the extension is its
+ * coefficients, that of one first. A list is the number of its entries, and these. A proof is of
+ * this form too: a statement's last part, to its end. The field is passed beside: no bytes name it,
+ * and a verifier passes its own.
  *
  * Each function reads what it is passed, and writes its answer, or the text of why it has none, to
  * the front of `answer`. `*needed` then is how many bytes that takes; there is no byte 0 after
@@ -49,26 +50,35 @@ enum p3_fri_status {
     P3_FRI_BUFFER_TOO_SHORT = 4
 };
 
+enum p3_fri_field {
+    /* 2^31 - 2^27 + 1, with the extension of degree 4 by X^4 - 11. */
+    P3_FRI_BABY_BEAR = 0,
+    /* 2^31 - 2^24 + 1, with the extension of degree 4 by X^4 - 3. */
+    P3_FRI_KOALA_BEAR = 1,
+    /* 2^64 - 2^32 + 1, with the extension of degree 2 by X^2 - 7. */
+    P3_FRI_GOLDILOCKS = 2
+};
+
 /* Commits to the matrices of a request: 32 bytes for each commitment. Context and points of the
  * request say nothing here. */
-uint8_t p3_fri_commit(const uint8_t *request, size_t request_length,
+uint8_t p3_fri_commit(uint32_t field, const uint8_t *request, size_t request_length,
                       uint8_t *answer, size_t answer_length, size_t *needed);
 
-/* Commits to the matrices of a request, and opens them at its points under its context: the four
- * numbers of the next challenge, then a statement, which `p3_fri_verify` accepts. */
-uint8_t p3_fri_open(const uint8_t *request, size_t request_length,
+/* Commits to the matrices of a request, and opens them at its points under its context: the
+ * coefficients of the next challenge, then a statement, which `p3_fri_verify` accepts. */
+uint8_t p3_fri_open(uint32_t field, const uint8_t *request, size_t request_length,
                     uint8_t *answer, size_t answer_length, size_t *needed);
 
-/* Verifies a statement: the four numbers of the next challenge, the same as `p3_fri_open`'s. A
+/* Verifies a statement: the coefficients of the next challenge, the same as `p3_fri_open`'s. A
  * statement names its own context, parameters, commitments, domains and points: whoever relies on
  * it being accepted compares these with the expected ones. They stand before the proof, in a form
  * that is the only one of what it says, so it is enough to compare bytes. */
-uint8_t p3_fri_verify(const uint8_t *statement, size_t statement_length,
+uint8_t p3_fri_verify(uint32_t field, const uint8_t *statement, size_t statement_length,
                       uint8_t *answer, size_t answer_length, size_t *needed);
 
-/* Draws a challenge after a context: the four numbers of an element of the extension. The bytes of
+/* Draws a challenge after a context: the coefficients of an element of the extension. The bytes of
  * the context, any bytes, are the whole request. */
-uint8_t p3_fri_challenge(const uint8_t *context, size_t context_length,
+uint8_t p3_fri_challenge(uint32_t field, const uint8_t *context, size_t context_length,
                          uint8_t *answer, size_t answer_length, size_t *needed);
 
 /* The scheme that hides: what is committed to is masked by random columns and rows, so that an
@@ -90,19 +100,19 @@ uint8_t p3_fri_challenge(const uint8_t *context, size_t context_length,
  * claims as above, then the values of the random columns and the proof. It has no seed. */
 
 /* Commits to the matrices of a hiding request: 32 bytes for each commitment. */
-uint8_t p3_fri_hiding_commit(const uint8_t *request, size_t request_length,
+uint8_t p3_fri_hiding_commit(uint32_t field, const uint8_t *request, size_t request_length,
                              uint8_t *answer, size_t answer_length, size_t *needed);
 
 /* Commits to the matrices of a hiding request, and opens them at its points under its context: the
- * four numbers of the next challenge, then a hiding statement, which `p3_fri_hiding_verify`
+ * coefficients of the next challenge, then a hiding statement, which `p3_fri_hiding_verify`
  * accepts. */
-uint8_t p3_fri_hiding_open(const uint8_t *request, size_t request_length,
+uint8_t p3_fri_hiding_open(uint32_t field, const uint8_t *request, size_t request_length,
                            uint8_t *answer, size_t answer_length, size_t *needed);
 
-/* Verifies a hiding statement: the four numbers of the next challenge. Whoever relies on it being
+/* Verifies a hiding statement: the coefficients of the next challenge. Whoever relies on it being
  * accepted compares all that stands before the random values with what is expected, the number of
  * random columns and the index too. */
-uint8_t p3_fri_hiding_verify(const uint8_t *statement, size_t statement_length,
+uint8_t p3_fri_hiding_verify(uint32_t field, const uint8_t *statement, size_t statement_length,
                              uint8_t *answer, size_t answer_length, size_t *needed);
 
 /* A STARK: a proof that there is a trace, a table of elements, which satisfies a constraint system.

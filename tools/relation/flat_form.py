@@ -3,31 +3,57 @@
 
     python3 tools/relation/flat_form.py REQUEST.json
 
-Prints the parts of the answer in hex, a line each: the next challenge, and those of the statement,
-which are its context, its parameters, its claims and its proof; of a hiding request first by what
-it is hidden. REQUEST.json is read as `answer.py` reads it.
+Prints in hex, a line each, the request in this form, and the parts of the answer: the next challenge,
+and those of the statement, which are its context, its parameters, its claims and its proof; of a
+hiding request first by what it is hidden. REQUEST.json is read as `answer.py` reads it. The bytes
+don't name the field.
 """
 
 import sys
 
+import field
 from answer import Unanswered, opened, text_of
 from documents import Malformed, request_from
 from readers import end_with_reader
 
 
-def number(count):
-    """Four bytes, the lowest first."""
-    return count.to_bytes(4, "little")
+def count(size):
+    """A count or a size in four bytes, the lowest first."""
+    return size.to_bytes(4, "little")
 
 
-def numbers(counts):
-    """Numbers one after another, as of an element of the extension."""
-    return b"".join(map(number, counts))
+def counts(sizes):
+    return b"".join(map(count, sizes))
+
+
+def number(element):
+    """An element of the prime field, in as many bytes as its order needs."""
+    return field.bytes_of(element)
+
+
+def numbers(elements):
+    """Such elements one after another, as of an element of the extension."""
+    return b"".join(map(number, elements))
 
 
 def listed(entry):
     """The form of a list, of that of its entries."""
-    return lambda entries: number(len(entries)) + b"".join(map(entry, entries))
+    return lambda entries: count(len(entries)) + b"".join(map(entry, entries))
+
+
+def requested_matrix(matrix):
+    head = counts([matrix.log_size, len(matrix.rows[0]), len(matrix.points)])
+    return (number(matrix.shift) + head + b"".join(map(numbers, matrix.rows))
+            + b"".join(map(numbers, matrix.points)))
+
+
+def request_bytes(request):
+    """A request, of a hiding one first by what it is hidden."""
+    masking, context = request.masking, request.context
+    hidden = b"" if masking is None else (
+        count(masking.num_random_codewords) + masking.seed + index(request.preprocessing))
+    return (hidden + count(len(context)) + context + counts(vars(request.parameters).values())
+            + listed(listed(requested_matrix))(request.commitments))
 
 
 def point_claim(claimed):
@@ -35,7 +61,7 @@ def point_claim(claimed):
 
 
 def matrix_claim(matrix):
-    return numbers([matrix.shift, matrix.log_size]) + listed(point_claim)(matrix.points)
+    return number(matrix.shift) + count(matrix.log_size) + listed(point_claim)(matrix.points)
 
 
 def claim(claimed):
@@ -68,9 +94,13 @@ def proof_bytes(proof):
 NO_INDEX = (1 << 32) - 1
 
 
+def index(place):
+    """An index, or that there is none."""
+    return count(NO_INDEX if place is None else place)
+
+
 def hiding(hidden):
-    index = NO_INDEX if hidden.preprocessing is None else hidden.preprocessing
-    return numbers([hidden.num_random_codewords, index])
+    return count(hidden.num_random_codewords) + index(hidden.preprocessing)
 
 
 RANDOM_VALUES = listed(listed(listed(listed(numbers))))
@@ -88,8 +118,8 @@ def parts_of(statement):
 
 def plain_parts_of(statement):
     return {
-        "context": number(len(statement.context)) + statement.context,
-        "parameters": numbers(vars(statement.parameters).values()),
+        "context": count(len(statement.context)) + statement.context,
+        "parameters": counts(vars(statement.parameters).values()),
         "claims": listed(claim)(statement.claims),
         "proof": proof_bytes(statement.proof),
     }
@@ -97,13 +127,15 @@ def plain_parts_of(statement):
 
 def main(file):
     try:
-        statement, next_challenge = opened(request_from(text_of(file)))
+        request = request_from(text_of(file))
+        statement, next_challenge = opened(request)
     except Malformed as error:
         print(f"flat_form: {file}: {error}", file=sys.stderr)
         return 2
     except Unanswered as error:
         print(f"flat_form: {file}: refused: {error}", file=sys.stderr)
         return 1
+    print(f"request {request_bytes(request).hex()}")
     print(f"next_challenge {numbers(next_challenge).hex()}")
     for name, part in parts_of(statement).items():
         print(f"{name} {part.hex()}")

@@ -10,6 +10,8 @@ import field
 from answer import opened
 from challenger import Challenger
 from documents import Malformed, request_from, statement_from, statement_text
+from flat_form import parts_of, request_bytes
+from flat_reader import Reader
 from transcript import observe_stream
 from verify import verdict
 
@@ -76,6 +78,25 @@ class Fields(unittest.TestCase):
             asked["commitments"][0]["matrices"][0]["values"][5] = field.FIELDS[name].order
             with self.assertRaisesRegex(Malformed, f"a number below {field.FIELDS[name].order}$"):
                 request_from(json.dumps(asked))
+
+    def test_flat_forms_say_all(self):
+        """What stands in the bytes of a statement is the statement, and none of their beginnings is one."""
+        for name, hides in self.each():
+            statement, _ = opened(request_from(json.dumps(request(name, hides))))
+            flat = b"".join(parts_of(statement).values())
+            self.assertEqual(Reader(flat).statement(hides), statement)
+            self.assertEqual(verdict(Reader(flat).statement(hides)).faults, set())
+            for length in (0, 40, 200, len(flat) - 1):
+                with self.assertRaises(ValueError):
+                    Reader(flat[:length]).statement(hides)
+
+    def test_flat_elements_have_as_many_bytes_as_the_order_needs(self):
+        """Beside counts a request has a shift, 128 values and two points."""
+        sizes = {name: len(request_bytes(request_from(json.dumps(request(name, False)))))
+                 for name in field.FIELDS}
+        counts = 4 * (1 + 7 + 2 + 3)
+        self.assertEqual(sizes, {name: counts + 129 * size + 2 * 16
+                                 for name, size in (("BabyBear", 4), ("KoalaBear", 4), ("Goldilocks", 8))})
 
     def test_bytes_are_absorbed_over_the_field_in_use(self):
         """Elements of BabyBear and KoalaBear have four bytes, those of Goldilocks eight."""

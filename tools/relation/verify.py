@@ -12,6 +12,7 @@ that `forge.py` makes are accepted so. It is there to show that, and for nothing
 
 import sys
 
+import field
 import relation
 from answer import text_of
 from challenger import Challenger
@@ -57,6 +58,8 @@ def context_line(context):
 def accepted_lines(statement):
     """What was accepted, in short, as `fri verify` prints it."""
     yield "accepted"
+    if field.NAME != "BabyBear":
+        yield f"field {field.NAME}"
     yield context_line(statement.context)
     for claim in statement.claims:
         yield f"commitment {claim.commitment.hex()}"

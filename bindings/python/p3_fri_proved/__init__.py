@@ -1,4 +1,4 @@
-"""The plain FRI polynomial commitment scheme at BabyBear, its extension of degree 4 and SHA-256.
+"""The plain FRI polynomial commitment scheme over BabyBear, KoalaBear or Goldilocks, an extension of it, and SHA-256.
 
 The work is done by a library in Rattle, which is Rust with contracts: each of its functions is proved to meet its
 contract, so that it does nothing undefined, returns, and answers what is written down. This package is a thin, unproved
@@ -20,6 +20,13 @@ The polynomial through 1 at 1 and 3 at -1 is `2 - X`, whose value at 5 is -3:
     >>> fri.verify(parameters, context, opening.claims, opening.proof) == opening.next_challenge
     True
 
+Over another field than BabyBear each call takes it as `field`:
+
+    >>> column = fri.Matrix(fri.Domain.subgroup(1), width=1, values=[1, 3], points=[(5, 0)])
+    >>> opening = fri.open(parameters, context, [[column]], field=fri.GOLDILOCKS)
+    >>> opening.claims[0].matrices[0].points[0].values
+    [(18446744069414584318, 0)]
+
 That `verify` accepts means, but for an error that the parameters bound, that the claimed values are those of the
 polynomials committed to, at the claimed points. Context, parameters, commitments, domains, widths and points are absorbed
 before anything is drawn, and the values after them. It doesn't mean that points and commitments are what an application
@@ -38,11 +45,15 @@ from .errors import Error, Malformed, OutOfMemory, ProcessorTooOld, Refused
 from .scheme import challenge, commit, open, verify
 from .transcript import Transcript
 from .types import (
+    BABY_BEAR,
+    GOLDILOCKS,
+    KOALA_BEAR,
     ORDER,
     CommitmentClaims,
     Domain,
     Element,
     ExtensionElement,
+    Field,
     Matrix,
     MatrixClaims,
     Opening,
@@ -51,12 +62,16 @@ from .types import (
 )
 
 __all__ = [
+    "BABY_BEAR",
+    "GOLDILOCKS",
+    "KOALA_BEAR",
     "ORDER",
     "CommitmentClaims",
     "Domain",
     "Element",
     "Error",
     "ExtensionElement",
+    "Field",
     "Malformed",
     "Matrix",
     "MatrixClaims",

@@ -1,4 +1,4 @@
-"""The flat form of docs/FORMATS.md: a number is four bytes, the lowest first, a digest 32."""
+"""The flat form of docs/FORMATS.md: a number is four bytes, the lowest first, a digest 32, an element what its field needs."""
 from __future__ import annotations
 
 import struct
@@ -7,7 +7,18 @@ from array import array
 from typing import Callable, List, Optional, Sequence, TypeVar
 
 from .errors import Error, Malformed
-from .types import CommitmentClaims, Domain, ExtensionElement, Matrix, MatrixClaims, Opening, Parameters, PointClaims
+from .types import (
+    CommitmentClaims,
+    Domain,
+    Element,
+    ExtensionElement,
+    Field,
+    Matrix,
+    MatrixClaims,
+    Opening,
+    Parameters,
+    PointClaims,
+)
 
 T = TypeVar("T")
 
@@ -26,31 +37,32 @@ NUMBERS_OF_PARAMETERS = (
 NO_INDEX = 2**32 - 1
 
 
-def no_number(place: str) -> Malformed:
-    return Malformed(f"NoForm: {place}: expected a number from 0 to 4294967295")
+def no_number(place: str, size: int = 4) -> Malformed:
+    return Malformed(f"NoForm: {place}: expected a number from 0 to {256**size - 1}")
 
 
-def bytes_of(numbers: Sequence[int], place: str) -> bytes:
-    """The numbers' bytes. An array of numpy is told by its methods, so that numpy needn't be there."""
+def bytes_of(numbers: Sequence[int], place: str, size: int = 4) -> bytes:
+    """The numbers' bytes, so many each. An array of numpy is told by its methods, so that numpy needn't be there."""
     if hasattr(numbers, "astype") and hasattr(numbers, "tobytes"):
-        if numbers.dtype.kind not in "iu" or (numbers.size and not 0 <= numbers.min() <= numbers.max() < 2**32):
-            raise no_number(place)
-        return numbers.astype("<u4").tobytes()
+        most = int(numbers.max()) if numbers.size else 0
+        if numbers.dtype.kind not in "iu" or (numbers.size and not 0 <= int(numbers.min()) <= most < 256**size):
+            raise no_number(place, size)
+        return numbers.astype(f"<u{size}").tobytes()
     try:
-        held = array("I", numbers)
+        held = array("I" if size == 4 else "Q", numbers)
     except (OverflowError, TypeError):
-        raise no_number(place) from None
-    if held.itemsize != 4:
-        return struct.pack(f"<{len(held)}I", *held)
+        raise no_number(place, size) from None
+    if held.itemsize != size:
+        return struct.pack(f"<{len(held)}{'I' if size == 4 else 'Q'}", *held)
     if sys.byteorder == "big":
         held.byteswap()
     return held.tobytes()
 
 
-def elements(points: Sequence[ExtensionElement], place: str) -> List[int]:
+def coefficients(points: Sequence[ExtensionElement], field: Field, place: str) -> List[int]:
     """The coefficients of elements of the extension, one after another."""
-    if any(len(point) != 4 for point in points):
-        raise Malformed(f"ExtensionElement: {place}: expected four numbers")
+    if any(len(point) != field.degree for point in points):
+        raise Malformed(f"ExtensionElement: {place}: expected {field.degree} numbers")
     return [int(number) for point in points for number in point]
 
 
@@ -61,7 +73,8 @@ def number_of_values(values: Sequence[int]) -> int:
 class Writer:
     """Bytes that grow at their end."""
 
-    def __init__(self) -> None:
+    def __init__(self, field: Field) -> None:
+        self.field = field
         self.parts: List[bytes] = []
 
     def bytes(self) -> bytes:
@@ -69,6 +82,12 @@ class Writer:
 
     def numbers(self, numbers: Sequence[int], place: str) -> None:
         self.parts.append(bytes_of(numbers, place))
+
+    def elements(self, elements: Sequence[Element], place: str) -> None:
+        self.parts.append(bytes_of(elements, place, self.field.element_bytes))
+
+    def extension_elements(self, points: Sequence[ExtensionElement], place: str) -> None:
+        self.elements(coefficients(points, self.field, place), place)
 
     def parameters(self, parameters: Parameters) -> None:
         self.numbers([getattr(parameters, name) for name in NUMBERS_OF_PARAMETERS], "parameters")
@@ -93,9 +112,10 @@ class Writer:
         log_size = min(domain.log_size, 64)
         if number_of_values(matrix.values) != matrix.width << log_size:
             raise Malformed(f"Values: {place}.values: expected as many values as the domain has points, times the width")
-        self.numbers([domain.shift, domain.log_size, matrix.width, len(matrix.points)], place)
-        self.numbers(matrix.values, place)
-        self.numbers(elements(matrix.points, place), place)
+        self.elements([domain.shift], place)
+        self.numbers([domain.log_size, matrix.width, len(matrix.points)], place)
+        self.elements(matrix.values, place)
+        self.extension_elements(matrix.points, place)
 
     def request(self, parameters: Parameters, context: bytes, commitments: Sequence[Sequence[Matrix]]) -> None:
         self.context(context)
@@ -107,9 +127,12 @@ class Writer:
                 self.matrix(it, f"commitments[{commitment}].matrices[{matrix}]")
 
     def matrix_claims(self, claims: MatrixClaims, place: str) -> None:
-        self.numbers([claims.domain.shift, claims.domain.log_size, len(claims.points)], place)
+        self.elements([claims.domain.shift], place)
+        self.numbers([claims.domain.log_size, len(claims.points)], place)
         for at in claims.points:
-            self.numbers([*elements([at.point], place), len(at.values), *elements(at.values, place)], place)
+            self.extension_elements([at.point], place)
+            self.numbers([len(at.values)], place)
+            self.extension_elements(at.values, place)
 
     def statement(
         self, parameters: Parameters, context: bytes, claims: Sequence[CommitmentClaims], proof: bytes
@@ -130,8 +153,9 @@ class Writer:
 class Reader:
     """An answer's bytes, read from the front."""
 
-    def __init__(self, answer: bytes) -> None:
+    def __init__(self, answer: bytes, field: Field) -> None:
         self.answer = answer
+        self.field = field
         self.at = 0
 
     def take(self, count: int) -> bytes:
@@ -147,8 +171,13 @@ class Reader:
     def digest(self) -> bytes:
         return self.take(32)
 
+    def elements(self, count: int) -> ExtensionElement:
+        size = self.field.element_bytes
+        return struct.unpack(f"<{count}{'I' if size == 4 else 'Q'}", self.take(count * size))
+
     def element(self) -> ExtensionElement:
-        return struct.unpack("<4I", self.take(16))
+        """An element of the extension."""
+        return self.elements(self.field.degree)
 
     def counted(self, item: Callable[[], T]) -> List[T]:
         return [item() for _ in range(self.number())]
@@ -158,7 +187,7 @@ class Reader:
         return PointClaims(point, self.counted(self.element))
 
     def matrix_claims(self) -> MatrixClaims:
-        domain = Domain(self.number(), self.number())
+        domain = Domain(self.elements(1)[0], self.number())
         return MatrixClaims(domain, self.counted(self.point_claims))
 
     def commitment_claims(self) -> CommitmentClaims:

@@ -27,15 +27,16 @@ columns that are the same in each run: it isn't masked, and both sides pass its 
 """
 from __future__ import annotations
 
+import dataclasses
 import secrets
-from dataclasses import dataclass, field
+from dataclasses import dataclass
 from typing import List, Optional, Sequence
 
 from .errors import Malformed
 from .flat import Reader, Writer
-from .library import ROOM_FOR_TEXT, answer
+from .library import ROOM_FOR_TEXT, answer_over
 from .scheme import ROOM_FOR_OPENING
-from .types import CommitmentClaims, ExtensionElement, Matrix, Opening, Parameters
+from .types import BABY_BEAR, CommitmentClaims, ExtensionElement, Field, Matrix, Opening, Parameters
 
 __all__ = ["Masking", "commit", "open", "verify"]
 
@@ -46,7 +47,7 @@ class Masking:
     and the seed, 32 bytes that are secret and that no other proof had. What it prints doesn't show the seed."""
 
     num_random_codewords: int
-    seed: bytes = field(repr=False)
+    seed: bytes = dataclasses.field(repr=False)
 
     @staticmethod
     def random(num_random_codewords: int = 4) -> Masking:
@@ -60,10 +61,11 @@ def _request(
     masking: Masking,
     commitments: Sequence[Sequence[Matrix]],
     preprocessed: Optional[int],
+    field: Field,
 ) -> bytes:
     if len(masking.seed) != 32:
         raise Malformed("Seed: expected 32 bytes")
-    writer = Writer()
+    writer = Writer(field)
     writer.hidden(masking.num_random_codewords, bytes(masking.seed), preprocessed)
     writer.request(parameters, context, commitments)
     return writer.bytes()
@@ -74,14 +76,15 @@ def commit(
     masking: Masking,
     commitments: Sequence[Sequence[Matrix]],
     preprocessed: Optional[int] = None,
+    field: Field = BABY_BEAR,
 ) -> List[bytes]:
     """Commits to matrices, those of each list under one commitment. The one at the index `preprocessed`, if there is one, isn't
     masked.
 
     Raises as `commit` of the plain scheme, and `Malformed` by `NoCommitment` where there is no commitment at the index.
     """
-    request = _request(parameters, b"", masking, commitments, preprocessed)
-    reader = Reader(answer("hiding_commit", request, room=max(ROOM_FOR_TEXT, 32 * len(commitments))))
+    request = _request(parameters, b"", masking, commitments, preprocessed, field)
+    reader = Reader(answer_over(field, "hiding_commit", request, max(ROOM_FOR_TEXT, 32 * len(commitments))), field)
     return [reader.digest() for _ in commitments]
 
 
@@ -91,6 +94,7 @@ def open(
     masking: Masking,
     commitments: Sequence[Sequence[Matrix]],
     preprocessed: Optional[int] = None,
+    field: Field = BABY_BEAR,
 ) -> Opening:
     """Commits to matrices, those of each list under one commitment, and opens each at its points. The one at the index
     `preprocessed`, if there is one, isn't masked. `verify` accepts what comes of it, with these parameters, this context, this
@@ -101,8 +105,8 @@ def open(
 
     Raises as `open` of the plain scheme and as `commit`, and `Refused` where the masks can't hide what is opened.
     """
-    request = _request(parameters, context, masking, commitments, preprocessed)
-    return Reader(answer("hiding_open", request, room=ROOM_FOR_OPENING)).opening(hides=True)
+    request = _request(parameters, context, masking, commitments, preprocessed, field)
+    return Reader(answer_over(field, "hiding_open", request, ROOM_FOR_OPENING), field).opening(hides=True)
 
 
 def verify(
@@ -112,15 +116,16 @@ def verify(
     claims: Sequence[CommitmentClaims],
     proof: bytes,
     preprocessed: Optional[int] = None,
+    field: Field = BABY_BEAR,
 ) -> ExtensionElement:
     """Verifies claims and their proof, and returns what the challenger draws next, which is the `next_challenge` of their opening.
 
-    What is verified is what is passed, and all of it but the proof is absorbed before anything is drawn. The number of random
-    columns and the index of the preprocessed commitment are the verifier's own too. It has no seed.
+    What is verified is what is passed, and all of it but the proof is absorbed before anything is drawn. The field, the number of
+    random columns and the index of the preprocessed commitment are the verifier's own too. It has no seed.
 
     Raises as `verify` of the plain scheme.
     """
-    writer = Writer()
+    writer = Writer(field)
     writer.hidden(num_random_codewords, b"", preprocessed)
     writer.statement(parameters, context, claims, proof)
-    return Reader(answer("hiding_verify", writer.bytes())).element()
+    return Reader(answer_over(field, "hiding_verify", writer.bytes()), field).element()

@@ -5,8 +5,10 @@ import ctypes
 import functools
 import os
 import platform
+from typing import List
 
 from .errors import Error, Malformed, OutOfMemory, ProcessorTooOld, Refused
+from .types import Field
 
 FILE = "libp3_fri_ffi.so"
 
@@ -18,15 +20,11 @@ PROCESSORS = {"x86-64-v2": ("", DEFAULT), "x86-64-v3": ("x86-64-v3", DEFAULT + N
 # Enough for the text of a refusal, and for short answers.
 ROOM_FOR_TEXT = 1024
 
-# How many texts or requests each function reads.
-CALLS = {
-    "commit": 1,
-    "open": 1,
-    "verify": 1,
-    "challenge": 1,
-    "hiding_commit": 1,
-    "hiding_open": 1,
-    "hiding_verify": 1,
+# The functions over a field, which read one request each.
+FIELD_CALLS = ("commit", "open", "verify", "challenge", "hiding_commit", "hiding_open", "hiding_verify")
+
+# How many texts each of the others reads.
+TEXT_CALLS = {
     "stark_check": 2,
     "stark_prove": 2,
     "stark_prove_hiding": 3,
@@ -64,18 +62,29 @@ def library() -> ctypes.CDLL:
         raise Error(f"{path} is missing: P3_FRI_LIB names the folder with it, and tools/package writes it")
     loaded = ctypes.CDLL(path)
     size = ctypes.c_size_t
-    for call, requests in CALLS.items():
+    arguments = {call: [ctypes.c_uint32] + [ctypes.c_char_p, size] for call in FIELD_CALLS}
+    arguments.update({call: [ctypes.c_char_p, size] * texts for call, texts in TEXT_CALLS.items()})
+    for call, types in arguments.items():
         function = getattr(loaded, f"p3_fri_{call}")
-        function.argtypes = [ctypes.c_char_p, size] * (requests + 1) + [ctypes.POINTER(size)]
+        function.argtypes = [*types, ctypes.c_char_p, size, ctypes.POINTER(size)]
         function.restype = ctypes.c_uint8
     return loaded
 
 
-def answer(call: str, *requests: bytes, room: int = ROOM_FOR_TEXT) -> bytes:
-    """What a function of the library answers, with so much room at first; where that is too short, it is called once more with
-    as much as it says."""
+def answer_over(field: Field, call: str, request: bytes, room: int = ROOM_FOR_TEXT) -> bytes:
+    """What a function over a field answers to a request."""
+    return _answered(call, [field.number, request, len(request)], room)
+
+
+def answer(call: str, *texts: bytes, room: int = ROOM_FOR_TEXT) -> bytes:
+    """What a function answers to texts."""
+    return _answered(call, [part for text in texts for part in (text, len(text))], room)
+
+
+def _answered(call: str, passed: List[object], room: int) -> bytes:
+    """What a function answers, with so much room at first; where that is too short, it is called once more with as much as it
+    says."""
     function = getattr(library(), f"p3_fri_{call}")
-    passed = [part for request in requests for part in (request, len(request))]
     needed = ctypes.c_size_t(0)
     for _ in range(2):
         buffer = ctypes.create_string_buffer(room)

@@ -3,8 +3,9 @@ from __future__ import annotations
 
 import struct
 
+from .flat import bytes_of
 from .scheme import challenge
-from .types import ExtensionElement
+from .types import BABY_BEAR, ExtensionElement, Field
 
 LABEL, ABSORBED, DRAWN = range(3)
 
@@ -19,8 +20,8 @@ class Transcript:
 
     Its bytes are parts, one after another, in the order of the calls. A part is a byte for its kind; the number of its bytes, in
     eight bytes, the highest first; and so many bytes. Kind 0 is the label, the first part and no other; 1 what is absorbed by
-    one call; 2 a challenge: its four numbers, four bytes each, the lowest first. No part begins another, so different sequences
-    of calls have different bytes.
+    one call; 2 a challenge: the numbers of its coefficients, the lowest byte first, in as many bytes as the flat form has. No part
+    begins another, so different sequences of calls have different bytes.
     """
 
     def __init__(self, label: bytes) -> None:
@@ -31,12 +32,12 @@ class Transcript:
         """Absorbs bytes. Those of one call are one part: `absorb(b"ab")` isn't `absorb(b"a")` and then `absorb(b"b")`."""
         self._push(ABSORBED, part)
 
-    def challenge(self) -> ExtensionElement:
-        """Draws a challenge, which depends on all that stands before it, and absorbs it. It takes time in proportion to the
-        bytes so far, some half a second for a million: of what is long a digest is absorbed. After an error the transcript is
-        as it was."""
-        drawn = challenge(self.context())
-        self._push(DRAWN, struct.pack("<4I", *drawn))
+    def challenge(self, field: Field = BABY_BEAR) -> ExtensionElement:
+        """Draws a challenge of the field's extension, which depends on all that stands before it, and absorbs it. It takes time
+        in proportion to the bytes so far, some half a second for a million: of what is long a digest is absorbed. After an
+        error the transcript is as it was."""
+        drawn = challenge(self.context(), field)
+        self._push(DRAWN, bytes_of(drawn, "challenge", field.element_bytes))
         return drawn
 
     def context(self) -> bytes:

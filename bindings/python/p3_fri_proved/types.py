@@ -4,21 +4,54 @@ from __future__ import annotations
 from dataclasses import dataclass, field
 from typing import Sequence, Tuple
 
-# An element of BabyBear: its canonical number, below ORDER.
+# An element of a field: its canonical number, below the field's order.
 Element = int
 
-# An element of BabyBear's extension of degree 4, modulo X^4 - 11: the numbers of its four coefficients, that of one first.
-ExtensionElement = Tuple[int, int, int, int]
+# An element of a field's extension: the numbers of its coefficients, that of one first.
+ExtensionElement = Tuple[int, ...]
 
-# The order of BabyBear, 2^31 - 2^27 + 1.
-ORDER = 2013265921
+
+@dataclass(frozen=True)
+class Field:
+    """A prime field that a scheme is over, with the extension that challenges are drawn from and points are of.
+
+    Calls take one as `field`, BabyBear where none is named. A verifier chooses it as it chooses its parameters: no bytes name it.
+    """
+
+    name: str
+    # how many elements there are
+    order: int
+    # how many coefficients an element of the extension has
+    degree: int
+    # cosets have at most `2^two_adicity` points
+    two_adicity: int
+    # by which the library knows it
+    number: int
+
+    @property
+    def element_bytes(self) -> int:
+        """How many bytes of the flat form an element takes."""
+        return 4 if self.order < 2**32 else 8
+
+
+# The extension is modulo X^4 - 11.
+BABY_BEAR = Field("BabyBear", 2**31 - 2**27 + 1, degree=4, two_adicity=27, number=0)
+
+# The extension is modulo X^4 - 3.
+KOALA_BEAR = Field("KoalaBear", 2**31 - 2**24 + 1, degree=4, two_adicity=24, number=1)
+
+# The extension is modulo X^2 - 7.
+GOLDILOCKS = Field("Goldilocks", 2**64 - 2**32 + 1, degree=2, two_adicity=32, number=2)
+
+# The order of BabyBear.
+ORDER = BABY_BEAR.order
 
 
 @dataclass(frozen=True)
 class Parameters:
     """The parameters of the scheme. Logarithms are to the base 2. A verifier has its own: it takes none from a prover."""
 
-    # how many times as long words are as what they encode: from 1 to 27
+    # how many times as long words are as what they encode: from 1 to the field's two-adicity
     log_blowup: int
     # the number of coefficients at which folding ends
     log_final_poly_len: int

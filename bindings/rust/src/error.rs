@@ -298,7 +298,7 @@ mod tests {
             let text = text.to_string();
             assert_eq!(Error::refused(text.clone()), Error::Refused { refusal, text });
         }
-        let text = "Element: proof: expected a number below 2013265921".to_string();
+        let text = "Element: proof: expected a number below the field's order".to_string();
         assert_eq!(
             Error::malformed(text.clone()),
             Error::Malformed { fault: Fault::Element, text }

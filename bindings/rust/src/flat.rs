@@ -1,11 +1,12 @@
-//! The flat form: a number is four bytes, the lowest first, a digest 32.
+//! The flat form: a number is four bytes, the lowest first, a digest 32, an element as many bytes
+//! as its field needs.
 
 use crate::error::{Error, Fault};
+use crate::field::number::{array, Number, Numbers};
+use crate::field::Field;
 use crate::hiding::Masking;
-use crate::types::{
-    CommitmentClaims, Digest, Domain, ExtensionElement, Matrix, MatrixClaims, Opening, Parameters,
-    PointClaims, Proof,
-};
+use crate::types::over::{CommitmentClaims, Domain, Matrix, MatrixClaims, Opening, PointClaims};
+use crate::types::{Digest, Parameters, Proof};
 
 /// Bytes that grow at their end.
 #[derive(Default)]
@@ -36,6 +37,18 @@ impl Writer {
         }
     }
 
+    fn elements<F: Field>(&mut self, elements: &[F::Element]) {
+        for element in elements {
+            element.write(&mut self.bytes);
+        }
+    }
+
+    fn extension_elements<F: Field>(&mut self, elements: &[F::ExtensionElement]) {
+        for element in elements {
+            self.elements::<F>(element.as_ref());
+        }
+    }
+
     fn count(&mut self, count: usize) -> Result<(), Error> {
         self.number(u32::try_from(count).map_err(|_| too_long())?);
         Ok(())
@@ -59,11 +72,17 @@ impl Writer {
         ]);
     }
 
-    fn matrix(&mut self, matrix: &Matrix) -> Result<(), Error> {
-        self.numbers(&[matrix.domain.shift, matrix.domain.log_size, matrix.width]);
+    fn domain<F: Field>(&mut self, domain: Domain<F>) {
+        domain.shift.write(&mut self.bytes);
+        self.number(domain.log_size);
+    }
+
+    fn matrix<F: Field>(&mut self, matrix: &Matrix<F>) -> Result<(), Error> {
+        self.domain(matrix.domain);
+        self.number(matrix.width);
         self.count(matrix.points.len())?;
-        self.numbers(&matrix.values);
-        self.numbers(matrix.points.as_flattened());
+        self.elements::<F>(&matrix.values);
+        self.extension_elements::<F>(&matrix.points);
         Ok(())
     }
 
@@ -95,11 +114,11 @@ impl Writer {
     }
 
     /// A request.
-    pub fn request(
+    pub fn request<F: Field>(
         &mut self,
         parameters: &Parameters,
         context: &[u8],
-        commitments: &[Vec<Matrix>],
+        commitments: &[Vec<Matrix<F>>],
     ) -> Result<(), Error> {
         self.context(context)?;
         self.parameters(parameters);
@@ -113,23 +132,23 @@ impl Writer {
         Ok(())
     }
 
-    fn matrix_claims(&mut self, claims: &MatrixClaims) -> Result<(), Error> {
-        self.numbers(&[claims.domain.shift, claims.domain.log_size]);
+    fn matrix_claims<F: Field>(&mut self, claims: &MatrixClaims<F>) -> Result<(), Error> {
+        self.domain(claims.domain);
         self.count(claims.points.len())?;
         for at in &claims.points {
-            self.numbers(&at.point);
+            self.elements::<F>(at.point.as_ref());
             self.count(at.values.len())?;
-            self.numbers(at.values.as_flattened());
+            self.extension_elements::<F>(&at.values);
         }
         Ok(())
     }
 
     /// A statement.
-    pub fn statement(
+    pub fn statement<F: Field>(
         &mut self,
         parameters: &Parameters,
         context: &[u8],
-        claims: &[CommitmentClaims],
+        claims: &[CommitmentClaims<F>],
         proof: &Proof,
     ) -> Result<(), Error> {
         self.context(context)?;
@@ -153,24 +172,18 @@ pub(crate) struct Reader<'a> {
 }
 
 impl Reader<'_> {
-    fn array<const N: usize>(&mut self) -> Option<[u8; N]> {
-        let (array, left) = self.left.split_first_chunk()?;
-        self.left = left;
-        Some(*array)
-    }
-
     fn number(&mut self) -> Option<u32> {
-        self.array().map(u32::from_le_bytes)
+        u32::read(&mut self.left)
     }
 
     /// An element of the extension.
-    pub fn element(&mut self) -> Option<ExtensionElement> {
-        Some([self.number()?, self.number()?, self.number()?, self.number()?])
+    pub fn element<F: Field>(&mut self) -> Option<F::ExtensionElement> {
+        F::ExtensionElement::read(&mut self.left)
     }
 
     /// A commitment.
     pub fn digest(&mut self) -> Option<Digest> {
-        self.array()
+        array(&mut self.left)
     }
 
     /// So many items as a number says, as far as there are bytes for them.
@@ -179,16 +192,17 @@ impl Reader<'_> {
         (0..count).map(|_| item(self)).collect()
     }
 
-    fn point_claims(&mut self) -> Option<PointClaims> {
-        Some(PointClaims { point: self.element()?, values: self.counted(Self::element)? })
+    fn point_claims<F: Field>(&mut self) -> Option<PointClaims<F>> {
+        let point = self.element::<F>()?;
+        Some(PointClaims { point, values: self.counted(Self::element::<F>)? })
     }
 
-    fn matrix_claims(&mut self) -> Option<MatrixClaims> {
-        let domain = Domain { shift: self.number()?, log_size: self.number()? };
+    fn matrix_claims<F: Field>(&mut self) -> Option<MatrixClaims<F>> {
+        let domain = Domain { shift: F::Element::read(&mut self.left)?, log_size: self.number()? };
         Some(MatrixClaims { domain, points: self.counted(Self::point_claims)? })
     }
 
-    fn commitment_claims(&mut self) -> Option<CommitmentClaims> {
+    fn commitment_claims<F: Field>(&mut self) -> Option<CommitmentClaims<F>> {
         Some(CommitmentClaims {
             commitment: self.digest()?,
             matrices: self.counted(Self::matrix_claims)?,
@@ -196,20 +210,23 @@ impl Reader<'_> {
     }
 
     /// What `open` answers. Context and parameters are those that were passed.
-    pub fn opening(mut self) -> Option<Opening> {
-        let next_challenge = self.element()?;
+    pub fn opening<F: Field>(mut self) -> Option<Opening<F>> {
+        let next_challenge = self.element::<F>()?;
         self.after_challenge(next_challenge)
     }
 
     /// And what `hiding::open` answers, as the number of random columns and the index are.
-    pub fn hiding_opening(mut self) -> Option<Opening> {
-        let next_challenge = self.element()?;
+    pub fn hiding_opening<F: Field>(mut self) -> Option<Opening<F>> {
+        let next_challenge = self.element::<F>()?;
         self.number()?;
         self.number()?;
         self.after_challenge(next_challenge)
     }
 
-    fn after_challenge(mut self, next_challenge: ExtensionElement) -> Option<Opening> {
+    fn after_challenge<F: Field>(
+        mut self,
+        next_challenge: F::ExtensionElement,
+    ) -> Option<Opening<F>> {
         let context_length = usize::try_from(self.number()?).ok()?;
         self.left = self.left.get(context_length..)?;
         for _ in 0..7 {

@@ -21,7 +21,8 @@
 //!   four random columns. Else [`open`] refuses by
 //!   [`HidingBudgetExceeded`](crate::Refusal::HidingBudgetExceeded) or
 //!   [`InsufficientRandomCodewords`](crate::Refusal::InsufficientRandomCodewords).
-//! - Its domain has room for twice as many points: with the log blowup its size is below 27. A
+//! - Its domain has room for twice as many points: with the log blowup its size is below the
+//!   field's two-adicity. A
 //!   claim's domain is the one that was committed to, with a `log_size` one greater than the
 //!   matrix's. The polynomials have the matrix's values at every second point of it.
 //! - One commitment may be *preprocessed*: of public columns that are the same in each run, such as
@@ -52,13 +53,13 @@
 //! ```
 
 use crate::error::Error;
+use crate::field::Field;
 use crate::flat::{Reader, Writer};
 use crate::raw::Call;
 use crate::room::{room_for_hiding_answer, ROOM_FOR_TEXT};
-use crate::scheme::{compare_sizes, digests, unreadable};
-use crate::types::{
-    CommitmentClaims, Digest, ExtensionElement, Matrix, Opening, Parameters, Proof,
-};
+use crate::scheme::{compare_sizes, digests, element, unreadable};
+use crate::types::over::{CommitmentClaims, Matrix, Opening};
+use crate::types::{Digest, Parameters, Proof};
 use std::fmt;
 
 /// By what a prover hides. What it prints doesn't show the seed.
@@ -81,12 +82,12 @@ impl fmt::Debug for Masking {
 }
 
 /// The bytes of a hiding request.
-fn request(
+fn request<F: Field>(
     parameters: &Parameters,
     context: &[u8],
     masking: &Masking,
     preprocessed: Option<usize>,
-    commitments: &[Vec<Matrix>],
+    commitments: &[Vec<Matrix<F>>],
 ) -> Result<Vec<u8>, Error> {
     compare_sizes(commitments)?;
     let mut writer = Writer::default();
@@ -102,15 +103,15 @@ fn request(
 ///
 /// As [`commit`](crate::commit) of the plain scheme, and [`Error::Malformed`] by
 /// [`NoCommitment`](crate::Fault::NoCommitment) where there is no commitment at the index.
-pub fn commit(
+pub fn commit<F: Field>(
     parameters: &Parameters,
     masking: &Masking,
     preprocessed: Option<usize>,
-    commitments: &[Vec<Matrix>],
+    commitments: &[Vec<Matrix<F>>],
 ) -> Result<Vec<Digest>, Error> {
     let request = request(parameters, &[], masking, preprocessed, commitments)?;
     let room = ROOM_FOR_TEXT.max(32 * commitments.len());
-    digests(&Call::HidingCommit.answer(&request, room)?, commitments.len())
+    digests(&Call::HidingCommit.answer::<F>(&request, room)?, commitments.len())
 }
 
 /// Commits to matrices, those of each list under one commitment, and opens each at its points. The
@@ -125,17 +126,17 @@ pub fn commit(
 ///
 /// As [`open`](crate::open) of the plain scheme and as [`commit`], and [`Error::Refused`] where the
 /// masks can't hide what is opened.
-pub fn open(
+pub fn open<F: Field>(
     parameters: &Parameters,
     context: &[u8],
     masking: &Masking,
     preprocessed: Option<usize>,
-    commitments: &[Vec<Matrix>],
-) -> Result<Opening, Error> {
+    commitments: &[Vec<Matrix<F>>],
+) -> Result<Opening<F>, Error> {
     let request = request(parameters, context, masking, preprocessed, commitments)?;
     let codewords = masking.num_random_codewords;
     let room = room_for_hiding_answer(parameters, context, codewords, commitments);
-    let answer = Call::HidingOpen.answer(&request, room)?;
+    let answer = Call::HidingOpen.answer::<F>(&request, room)?;
     Reader { left: &answer }.hiding_opening().ok_or_else(unreadable)
 }
 
@@ -168,19 +169,18 @@ pub fn open(
 /// assert!(matches!(refused, Err(Error::Refused { .. })));
 /// # Ok::<(), Error>(())
 /// ```
-pub fn verify(
+pub fn verify<F: Field>(
     parameters: &Parameters,
     context: &[u8],
     num_random_codewords: u32,
     preprocessed: Option<usize>,
-    claims: &[CommitmentClaims],
+    claims: &[CommitmentClaims<F>],
     proof: &Proof,
-) -> Result<ExtensionElement, Error> {
+) -> Result<F::ExtensionElement, Error> {
     let mut writer = Writer::default();
     writer.hidden(num_random_codewords, preprocessed)?;
     writer.statement(parameters, context, claims, proof)?;
-    let answer = Call::HidingVerify.answer(&writer.bytes, ROOM_FOR_TEXT)?;
-    Reader { left: &answer }.element().ok_or_else(unreadable)
+    element::<F>(&Call::HidingVerify.answer::<F>(&writer.bytes, ROOM_FOR_TEXT)?)
 }
 
 #[cfg(test)]

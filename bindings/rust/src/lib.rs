@@ -1,6 +1,6 @@
-//! The plain FRI polynomial commitment scheme at BabyBear, its extension of degree 4 and SHA-256,
-//! in [`hiding`] the one that masks what is committed to, and in [`stark`] proofs that there is a
-//! table which satisfies a constraint system.
+//! The plain FRI polynomial commitment scheme over a prime field, an extension of it and SHA-256, in
+//! [`hiding`] the one that masks what is committed to, and in [`stark`] proofs that there is a table
+//! which satisfies a constraint system.
 //!
 //! The work is done by a library in Rattle, which is Rust with contracts: each of its functions is
 //! proved to meet its contract, so that it does nothing undefined, returns, and answers what is
@@ -63,9 +63,10 @@
 //!
 //! # Numbers, threads and time
 //!
-//! An element of BabyBear is its canonical number, below [`ORDER`]; one of its extension is the
-//! numbers of its four coefficients, that of one first. Any numbers may be passed: those that are
-//! none are refused by name.
+//! An element of a [`field`] is its canonical number, below the field's order; one of the extension
+//! is the numbers of its coefficients, that of one first. The types here are BabyBear's;
+//! [`koala_bear`] and [`goldilocks`] have the others, and the calls serve each. Any numbers may be
+//! passed: those that are none are refused by name.
 //!
 //! Calls share nothing, so threads may call at once. How long a call takes follows from what is
 //! asked for: an opening makes `2^log_blowup` values of each that is committed to, a proof of work
@@ -83,8 +84,11 @@
 #![warn(missing_docs)]
 
 mod error;
+pub mod field;
 mod flat;
+pub mod goldilocks;
 pub mod hiding;
+pub mod koala_bear;
 mod processor;
 #[cfg(feature = "serde")]
 mod proof_serde;

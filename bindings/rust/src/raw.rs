@@ -2,6 +2,7 @@
 #![allow(unsafe_code)]
 
 use crate::error::Error;
+use crate::field::Field;
 use crate::processor::runs_library;
 
 /// The answer is in the buffer.
@@ -16,12 +17,13 @@ const MALFORMED: u8 = 2;
 /// The buffer is shorter than what is needed.
 const BUFFER_TOO_SHORT: u8 = 4;
 
-/// A function of the library: it reads the bytes at the first pointer, writes to those at the
-/// second, and the number of bytes that this takes to the last.
-type Raw = unsafe extern "C" fn(*const u8, usize, *mut u8, usize, *mut usize) -> u8;
+/// A function of the library: over the field of this number it reads the bytes at the first pointer,
+/// writes to those at the second, and the number of bytes that this takes to the last.
+type Raw = unsafe extern "C" fn(u32, *const u8, usize, *mut u8, usize, *mut usize) -> u8;
 
 unsafe extern "C" {
     fn p3_fri_commit(
+        field: u32,
         request: *const u8,
         request_length: usize,
         answer: *mut u8,
@@ -29,6 +31,7 @@ unsafe extern "C" {
         needed: *mut usize,
     ) -> u8;
     fn p3_fri_open(
+        field: u32,
         request: *const u8,
         request_length: usize,
         answer: *mut u8,
@@ -36,6 +39,7 @@ unsafe extern "C" {
         needed: *mut usize,
     ) -> u8;
     fn p3_fri_verify(
+        field: u32,
         request: *const u8,
         request_length: usize,
         answer: *mut u8,
@@ -43,6 +47,7 @@ unsafe extern "C" {
         needed: *mut usize,
     ) -> u8;
     fn p3_fri_challenge(
+        field: u32,
         request: *const u8,
         request_length: usize,
         answer: *mut u8,
@@ -50,6 +55,7 @@ unsafe extern "C" {
         needed: *mut usize,
     ) -> u8;
     fn p3_fri_hiding_commit(
+        field: u32,
         request: *const u8,
         request_length: usize,
         answer: *mut u8,
@@ -57,6 +63,7 @@ unsafe extern "C" {
         needed: *mut usize,
     ) -> u8;
     fn p3_fri_hiding_open(
+        field: u32,
         request: *const u8,
         request_length: usize,
         answer: *mut u8,
@@ -64,6 +71,7 @@ unsafe extern "C" {
         needed: *mut usize,
     ) -> u8;
     fn p3_fri_hiding_verify(
+        field: u32,
         request: *const u8,
         request_length: usize,
         answer: *mut u8,
@@ -97,19 +105,18 @@ impl Call {
         }
     }
 
-    /// Calls the function on a request, with an answer of so much room at first.
-    pub fn answer(self, request: &[u8], room: usize) -> Result<Vec<u8>, Error> {
-        answer(|answer, needed| self.call(request, answer, needed), room)
+    /// Calls the function over a field on a request, with an answer of so much room at first.
+    pub fn answer<F: Field>(self, request: &[u8], room: usize) -> Result<Vec<u8>, Error> {
+        answer(|answer, needed| self.call(F::FIELD, request, answer, needed), room)
     }
 
     /// Calls the function once.
-    fn call(self, request: &[u8], answer: &mut [u8], needed: &mut usize) -> u8 {
+    fn call(self, field: u32, request: &[u8], answer: &mut [u8], needed: &mut usize) -> u8 {
         // SAFETY: the pointers are those of slices and of a number, each with its own length; they
         // don't overlap, and the library keeps none. It reads the first, writes within the second
-        // and the third, takes its memory from malloc, and returns for any bytes.
-        unsafe {
-            self.raw()(request.as_ptr(), request.len(), answer.as_mut_ptr(), answer.len(), needed)
-        }
+        // and the third, takes its memory from malloc, and returns for any field and bytes.
+        let (answer, length) = (answer.as_mut_ptr(), answer.len());
+        unsafe { self.raw()(field, request.as_ptr(), request.len(), answer, length, needed) }
     }
 }
 
@@ -151,6 +158,8 @@ fn answer_once(
 #[cfg(test)]
 mod tests {
     use super::{answer_once, Call, Error, ANSWERED, BUFFER_TOO_SHORT, MALFORMED};
+    use crate::field::number::Known;
+    use crate::field::BabyBear;
     use std::ops::Range;
     use std::ptr;
 
@@ -174,12 +183,13 @@ mod tests {
 
     /// What the function answers when it is called once.
     fn once(call: Call, request: &[u8], room: usize) -> (u8, Vec<u8>, usize) {
-        answer_once(|answer, needed| call.call(request, answer, needed), room).unwrap()
+        answer_once(|answer, needed| call.call(BabyBear::FIELD, request, answer, needed), room)
+            .unwrap()
     }
 
     /// The statement that the request's opening is.
     fn statement(num_queries: u32) -> Vec<u8> {
-        Call::Open.answer(&request(num_queries), 20000).unwrap().split_off(16)
+        Call::Open.answer::<BabyBear>(&request(num_queries), 20000).unwrap().split_off(16)
     }
 
     #[test]
@@ -190,9 +200,12 @@ mod tests {
         let (status, answer, needed) = once(Call::Commit, &request, 32);
         assert_eq!((status, answer.len(), needed), (ANSWERED, 32, 32));
         for room in [0, 31, 32, 100] {
-            assert_eq!(Call::Commit.answer(&request, room).unwrap(), answer);
+            assert_eq!(Call::Commit.answer::<BabyBear>(&request, room).unwrap(), answer);
         }
-        assert_eq!(Call::Open.answer(&request, 0), Call::Open.answer(&request, 5000));
+        assert_eq!(
+            Call::Open.answer::<BabyBear>(&request, 0),
+            Call::Open.answer::<BabyBear>(&request, 5000)
+        );
     }
 
     #[test]
@@ -200,7 +213,7 @@ mod tests {
         for context in [&[][..], &CONTEXT, &request(2)] {
             let (status, answer, needed) = once(Call::Challenge, context, 16);
             assert_eq!((status, answer.len(), needed), (ANSWERED, 16, 16));
-            assert_eq!(Call::Challenge.answer(context, 0), Ok(answer));
+            assert_eq!(Call::Challenge.answer::<BabyBear>(context, 0), Ok(answer));
         }
     }
 
@@ -208,10 +221,10 @@ mod tests {
     fn no_beginning_is_well_formed() {
         for (call, bytes) in [(Call::Open, request(2)), (Call::Verify, statement(2))] {
             for length in 0..bytes.len() {
-                let refused = call.answer(&bytes[..length], 5000);
+                let refused = call.answer::<BabyBear>(&bytes[..length], 5000);
                 assert!(matches!(refused, Err(Error::Malformed { .. })), "{length}");
             }
-            assert!(call.answer(&bytes, 5000).is_ok());
+            assert!(call.answer::<BabyBear>(&bytes, 5000).is_ok());
         }
     }
 
@@ -231,30 +244,31 @@ mod tests {
     #[test]
     fn no_beginning_is_well_formed_in_the_hiding_form() {
         let request = hiding_request();
-        let answer = Call::HidingOpen.answer(&request, 5000).unwrap();
-        assert!(Call::HidingVerify.answer(&answer[16..], 5000).is_ok());
+        let answer = Call::HidingOpen.answer::<BabyBear>(&request, 5000).unwrap();
+        assert!(Call::HidingVerify.answer::<BabyBear>(&answer[16..], 5000).is_ok());
         for (call, bytes) in [(Call::HidingOpen, &request[..]), (Call::HidingVerify, &answer[16..])]
         {
             for length in 0..bytes.len() {
-                let refused = call.answer(&bytes[..length], 5000);
+                let refused = call.answer::<BabyBear>(&bytes[..length], 5000);
                 assert!(matches!(refused, Err(Error::Malformed { .. })), "{length}");
             }
         }
         // each form is of its own scheme
-        assert!(Call::Open.answer(&request, 5000).is_err());
-        assert!(Call::Verify.answer(&answer[16..], 5000).is_err());
-        assert!(Call::Verify.answer(&answer[24..], 5000).is_err());
+        assert!(Call::Open.answer::<BabyBear>(&request, 5000).is_err());
+        assert!(Call::Verify.answer::<BabyBear>(&answer[16..], 5000).is_err());
+        assert!(Call::Verify.answer::<BabyBear>(&answer[24..], 5000).is_err());
     }
 
     /// All of a hiding statement counts, as all of a plain one: the number of random columns and
     /// the index first.
     #[test]
     fn no_hiding_statement_with_another_bit_is_accepted() {
-        let statement = Call::HidingOpen.answer(&hiding_request(), 5000).unwrap().split_off(16);
+        let statement =
+            Call::HidingOpen.answer::<BabyBear>(&hiding_request(), 5000).unwrap().split_off(16);
         for place in 0..statement.len() {
             let mut changed = statement.clone();
             changed[place] ^= 1;
-            assert!(Call::HidingVerify.answer(&changed, 5000).is_err(), "{place}");
+            assert!(Call::HidingVerify.answer::<BabyBear>(&changed, 5000).is_err(), "{place}");
         }
     }
 
@@ -264,7 +278,7 @@ mod tests {
     #[test]
     fn no_statement_with_another_bit_before_its_proof_is_accepted() {
         let statement = statement(40);
-        assert!(Call::Verify.answer(&statement, 5000).is_ok());
+        assert!(Call::Verify.answer::<BabyBear>(&statement, 5000).is_ok());
         assert_eq!(first_accepted(&statement, 0..PROOF), None);
     }
 
@@ -273,7 +287,7 @@ mod tests {
     #[test]
     fn no_proof_with_another_bit_is_accepted() {
         let statement = statement(2);
-        assert!(Call::Verify.answer(&statement, 5000).is_ok());
+        assert!(Call::Verify.answer::<BabyBear>(&statement, 5000).is_ok());
         assert_eq!(first_accepted(&statement, PROOF..statement.len()), None);
     }
 
@@ -283,26 +297,27 @@ mod tests {
             (0..8).any(|bit| {
                 let mut changed = statement.to_vec();
                 changed[*place] ^= 1 << bit;
-                Call::Verify.answer(&changed, 5000).is_ok()
+                Call::Verify.answer::<BabyBear>(&changed, 5000).is_ok()
             })
         })
     }
 
     #[test]
     fn pointers_to_no_bytes_may_be_null() {
-        let expected = Call::Challenge.answer(&[], 16).unwrap();
+        let expected = Call::Challenge.answer::<BabyBear>(&[], 16).unwrap();
         let mut answer = [0; 16];
         let mut needed = 0;
         let call = Call::Challenge.raw();
         // SAFETY: as above, but that pointers to no bytes are null, which the library allows
-        let status = unsafe { call(ptr::null(), 0, answer.as_mut_ptr(), 16, &mut needed) };
+        let status =
+            unsafe { call(BabyBear::FIELD, ptr::null(), 0, answer.as_mut_ptr(), 16, &mut needed) };
         assert_eq!((status, needed, &answer[..]), (ANSWERED, 16, &expected[..]));
         let text = "BytesMissing { at: 0 }: fewer bytes are left than have to come";
         let plain = [Call::Commit, Call::Open, Call::Verify];
         let hiding = [Call::HidingCommit, Call::HidingOpen, Call::HidingVerify];
         for call in plain.into_iter().chain(hiding) {
             // SAFETY: as before
-            let status = unsafe { call.raw()(ptr::null(), 0, ptr::null_mut(), 0, &mut needed) };
+            let status = unsafe { call.raw()(0, ptr::null(), 0, ptr::null_mut(), 0, &mut needed) };
             assert_eq!((status, needed), (BUFFER_TOO_SHORT, text.len()));
         }
     }

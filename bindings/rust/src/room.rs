@@ -1,6 +1,9 @@
 //! How much room an answer needs, so that an opening isn't made twice.
 
-use crate::types::{Matrix, Parameters};
+use crate::field::Field;
+use crate::types::over::Matrix;
+use crate::types::Parameters;
+use std::mem::size_of;
 
 /// Enough for the text of a refusal.
 pub(crate) const ROOM_FOR_TEXT: usize = 1024;
@@ -8,11 +11,8 @@ pub(crate) const ROOM_FOR_TEXT: usize = 1024;
 /// The most that is set aside before it is known to be needed.
 pub(crate) const MOST: usize = 1 << 26;
 
-/// An element.
-const ELEMENT: usize = 4;
-
-/// An element of the extension.
-const EXTENSION_ELEMENT: usize = 4 * ELEMENT;
+/// A count or a size.
+const NUMBER: usize = 4;
 
 /// A digest.
 const DIGEST: usize = 32;
@@ -22,39 +22,41 @@ const LIST: usize = 4;
 
 /// The claims on one commitment, with so many values of random columns beside those of each row and
 /// each point, and what one query opens of it.
-fn room_for_commitment(
+fn room_for_commitment<F: Field>(
     log_blowup: usize,
     queries: usize,
     masks: usize,
-    matrices: &[Matrix],
+    matrices: &[Matrix<F>],
 ) -> usize {
-    let mut claims = 36;
+    let (element, extension) = (size_of::<F::Element>(), size_of::<F::ExtensionElement>());
+    let mut claims = DIGEST + LIST;
     let mut rows = 0;
     let mut height = 0;
     for matrix in matrices {
         let width = matrix.width as usize + masks;
-        claims += 16 + LIST + matrix.points.len() * (20 + LIST + 16 * width);
-        rows += LIST + ELEMENT * width;
+        let values = extension + LIST + extension * width;
+        claims += element + NUMBER + LIST + matrix.points.len() * values;
+        rows += LIST + element * width;
         height = height.max(matrix.domain.log_size as usize + log_blowup);
     }
     claims + 2 * LIST + queries * (2 * LIST + rows + height * DIGEST)
 }
 
 /// At least as much as `open` answers, where that is below [`MOST`] without the context.
-pub(crate) fn room_for_answer(
+pub(crate) fn room_for_answer<F: Field>(
     parameters: &Parameters,
     context: &[u8],
-    commitments: &[Vec<Matrix>],
+    commitments: &[Vec<Matrix<F>>],
 ) -> usize {
     room_for_masked(parameters, context, 0, commitments)
 }
 
 /// And of `hiding::open`, with so many random columns.
-pub(crate) fn room_for_hiding_answer(
+pub(crate) fn room_for_hiding_answer<F: Field>(
     parameters: &Parameters,
     context: &[u8],
     num_random_codewords: u32,
-    commitments: &[Vec<Matrix>],
+    commitments: &[Vec<Matrix<F>>],
 ) -> usize {
     // a masked matrix has twice as many rows
     let parameters =
@@ -63,21 +65,22 @@ pub(crate) fn room_for_hiding_answer(
     room_for_masked(&parameters, context, masks, commitments)
 }
 
-fn room_for_masked(
+fn room_for_masked<F: Field>(
     parameters: &Parameters,
     context: &[u8],
     masks: usize,
-    commitments: &[Vec<Matrix>],
+    commitments: &[Vec<Matrix<F>>],
 ) -> usize {
-    let log_blowup = parameters.log_blowup.min(27) as usize;
+    let (element, extension) = (size_of::<F::Element>(), size_of::<F::ExtensionElement>());
+    let log_blowup = parameters.log_blowup.min(32) as usize;
     let queries = parameters.num_queries.min(1 << 16) as usize;
-    let sizes = commitments.iter().flatten().map(|matrix| matrix.domain.log_size.min(27) as usize);
+    let sizes = commitments.iter().flatten().map(|matrix| matrix.domain.log_size.min(32) as usize);
     let height = sizes.max().unwrap_or(0) + log_blowup;
     let arity = (parameters.max_log_arity as usize).min(height).min(20);
-    let siblings = (1 << arity) * height * EXTENSION_ELEMENT;
+    let siblings = (1 << arity) * height * extension;
     let paths = height * (height * DIGEST + 2 * LIST);
-    let rounds = queries * (siblings + paths) + height * (DIGEST + ELEMENT + 2 * LIST);
-    let final_polynomial = EXTENSION_ELEMENT << parameters.log_final_poly_len.min(20);
+    let rounds = queries * (siblings + paths) + height * (DIGEST + element + 2 * LIST);
+    let final_polynomial = extension << parameters.log_final_poly_len.min(20);
     let mut room = ROOM_FOR_TEXT + rounds + final_polynomial;
     for matrices in commitments {
         room += room_for_commitment(log_blowup, queries, masks, matrices);
@@ -88,6 +91,7 @@ fn room_for_masked(
 #[cfg(test)]
 mod tests {
     use super::{room_for_answer, room_for_hiding_answer};
+    use crate::field::BabyBear;
     use crate::flat::Writer;
     use crate::hiding::Masking;
     use crate::raw::Call;
@@ -124,7 +128,7 @@ mod tests {
                     num_random_codewords,
                     &commitments,
                 );
-                let answer = Call::HidingOpen.answer(&writer.bytes, 0).unwrap();
+                let answer = Call::HidingOpen.answer::<BabyBear>(&writer.bytes, 0).unwrap();
                 assert!(answer.len() <= room, "{} in {room}", answer.len());
             }
         }
@@ -143,7 +147,7 @@ mod tests {
             let mut writer = Writer::default();
             writer.request(&parameters, &context, &commitments).unwrap();
             let room = room_for_answer(&parameters, &context, &commitments);
-            let answer = Call::Open.answer(&writer.bytes, 0).unwrap();
+            let answer = Call::Open.answer::<BabyBear>(&writer.bytes, 0).unwrap();
             assert!(answer.len() <= room, "{} in {room}", answer.len());
         }
     }

@@ -1,15 +1,15 @@
 //! The four calls.
 
 use crate::error::{Error, Fault};
+use crate::field::{self, BabyBear, Field};
 use crate::flat::{Reader, Writer};
 use crate::raw::Call;
 use crate::room::{room_for_answer, ROOM_FOR_TEXT};
-use crate::types::{
-    CommitmentClaims, Digest, ExtensionElement, Matrix, Opening, Parameters, Proof,
-};
+use crate::types::over::{CommitmentClaims, Matrix, Opening};
+use crate::types::{Digest, ExtensionElement, Parameters, Proof};
 
 /// That each matrix has as many values as its size says: the form takes their number from there.
-pub(crate) fn compare_sizes(commitments: &[Vec<Matrix>]) -> Result<(), Error> {
+pub(crate) fn compare_sizes<F: Field>(commitments: &[Vec<Matrix<F>>]) -> Result<(), Error> {
     for (commitment, matrices) in commitments.iter().enumerate() {
         for (matrix, it) in matrices.iter().enumerate() {
             let count = 1u64.checked_shl(it.domain.log_size).map(u128::from);
@@ -29,10 +29,10 @@ pub(crate) fn compare_sizes(commitments: &[Vec<Matrix>]) -> Result<(), Error> {
 }
 
 /// The bytes of a request.
-fn request(
+fn request<F: Field>(
     parameters: &Parameters,
     context: &[u8],
-    commitments: &[Vec<Matrix>],
+    commitments: &[Vec<Matrix<F>>],
 ) -> Result<Vec<u8>, Error> {
     compare_sizes(commitments)?;
     let mut writer = Writer::default();
@@ -44,6 +44,11 @@ fn request(
 pub(crate) fn digests(answer: &[u8], count: usize) -> Result<Vec<Digest>, Error> {
     let mut reader = Reader { left: answer };
     (0..count).map(|_| reader.digest().ok_or_else(unreadable)).collect()
+}
+
+/// The element of the extension that an answer is.
+pub(crate) fn element<F: Field>(answer: &[u8]) -> Result<F::ExtensionElement, Error> {
+    Reader { left: answer }.element::<F>().ok_or_else(unreadable)
 }
 
 /// An answer that isn't in its form, which the library is proved not to give.
@@ -71,10 +76,13 @@ pub(crate) fn unreadable() -> Error {
 ///
 /// [`Error::Malformed`] where a number is no element, or the parameters, a domain or a width has no
 /// place in the scheme; [`Error::OutOfMemory`].
-pub fn commit(parameters: &Parameters, commitments: &[Vec<Matrix>]) -> Result<Vec<Digest>, Error> {
+pub fn commit<F: Field>(
+    parameters: &Parameters,
+    commitments: &[Vec<Matrix<F>>],
+) -> Result<Vec<Digest>, Error> {
     let request = request(parameters, &[], commitments)?;
     let room = ROOM_FOR_TEXT.max(32 * commitments.len());
-    digests(&Call::Commit.answer(&request, room)?, commitments.len())
+    digests(&Call::Commit.answer::<F>(&request, room)?, commitments.len())
 }
 
 /// Commits to matrices, those of each list under one commitment, and opens each at its points.
@@ -109,14 +117,14 @@ pub fn commit(parameters: &Parameters, commitments: &[Vec<Matrix>]) -> Result<Ve
 ///     _ => unreachable!(),
 /// }
 /// ```
-pub fn open(
+pub fn open<F: Field>(
     parameters: &Parameters,
     context: &[u8],
-    commitments: &[Vec<Matrix>],
-) -> Result<Opening, Error> {
+    commitments: &[Vec<Matrix<F>>],
+) -> Result<Opening<F>, Error> {
     let request = request(parameters, context, commitments)?;
     let room = room_for_answer(parameters, context, commitments);
-    let answer = Call::Open.answer(&request, room)?;
+    let answer = Call::Open.answer::<F>(&request, room)?;
     Reader { left: &answer }.opening().ok_or_else(unreadable)
 }
 
@@ -155,19 +163,18 @@ pub fn open(
 /// assert!(matches!(refused, Err(Error::Refused { .. })));
 /// # Ok::<(), Error>(())
 /// ```
-pub fn verify(
+pub fn verify<F: Field>(
     parameters: &Parameters,
     context: &[u8],
-    claims: &[CommitmentClaims],
+    claims: &[CommitmentClaims<F>],
     proof: &Proof,
-) -> Result<ExtensionElement, Error> {
+) -> Result<F::ExtensionElement, Error> {
     let mut writer = Writer::default();
     writer.statement(parameters, context, claims, proof)?;
-    let answer = Call::Verify.answer(&writer.bytes, ROOM_FOR_TEXT)?;
-    Reader { left: &answer }.element().ok_or_else(unreadable)
+    element::<F>(&Call::Verify.answer::<F>(&writer.bytes, ROOM_FOR_TEXT)?)
 }
 
-/// The element of the extension that is drawn after a context, of any bytes. It takes time in
+/// The element of BabyBear's extension that is drawn after a context, of any bytes. It takes time in
 /// proportion to them.
 ///
 /// A [`Transcript`](crate::Transcript) draws by it, and sees to it that different calls have
@@ -184,6 +191,5 @@ pub fn verify(
 ///
 /// [`Error::OutOfMemory`].
 pub fn challenge(context: &[u8]) -> Result<ExtensionElement, Error> {
-    let answer = Call::Challenge.answer(context, ROOM_FOR_TEXT)?;
-    Reader { left: &answer }.element().ok_or_else(unreadable)
+    field::challenge::<BabyBear>(context)
 }

@@ -1,7 +1,8 @@
 //! A transcript of an application: what it absorbs and draws before an opening.
 
 use crate::error::Error;
-use crate::scheme::challenge;
+use crate::field::number::Number;
+use crate::field::{challenge, BabyBear, Field};
 use crate::types::ExtensionElement;
 
 /// The part is the label, with which every transcript begins.
@@ -31,9 +32,10 @@ const DRAWN: u8 = 2;
 /// |---|---|
 /// | 0, the first part and no other | the label |
 /// | 1 | what is absorbed by one call |
-/// | 2 | a challenge: its four numbers, four bytes each, the lowest first |
+/// | 2 | a challenge: the numbers of its coefficients, the lowest byte first |
 ///
-/// No part begins another, so different sequences of calls have different bytes. A challenge is
+/// A number has four bytes of BabyBear and of KoalaBear, which have four coefficients, and eight of
+/// Goldilocks, which has two. No part begins another, so different sequences of calls have different bytes. A challenge is
 /// what [`challenge`](crate::challenge) draws after the bytes before it, and then is a part itself.
 ///
 /// # Example
@@ -126,7 +128,8 @@ impl Transcript {
         self.push(ABSORBED, bytes);
     }
 
-    /// Draws a challenge, which depends on all that stands before it, and absorbs it.
+    /// Draws a challenge of BabyBear's extension, which depends on all that stands before it, and
+    /// absorbs it.
     ///
     /// It takes time in proportion to the bytes so far, some half a second for a million: of what
     /// is long a digest is absorbed.
@@ -135,8 +138,17 @@ impl Transcript {
     ///
     /// [`Error::OutOfMemory`]; the transcript is as it was.
     pub fn challenge(&mut self) -> Result<ExtensionElement, Error> {
-        let drawn = challenge(&self.bytes)?;
-        self.push_drawn(&drawn);
+        self.challenge_over::<BabyBear>()
+    }
+
+    /// Draws a challenge of a field's extension, as [`challenge`](Transcript::challenge) does.
+    ///
+    /// # Errors
+    ///
+    /// [`Error::OutOfMemory`]; the transcript is as it was.
+    pub fn challenge_over<F: Field>(&mut self) -> Result<F::ExtensionElement, Error> {
+        let drawn = challenge::<F>(&self.bytes)?;
+        self.push_drawn::<F>(&drawn);
         Ok(drawn)
     }
 
@@ -151,14 +163,18 @@ impl Transcript {
         self.bytes.extend_from_slice(bytes);
     }
 
-    fn push_drawn(&mut self, drawn: &ExtensionElement) {
-        self.push(DRAWN, drawn.map(u32::to_le_bytes).as_flattened());
+    fn push_drawn<F: Field>(&mut self, drawn: &F::ExtensionElement) {
+        let mut bytes = Vec::new();
+        for number in drawn.as_ref() {
+            number.write(&mut bytes);
+        }
+        self.push(DRAWN, &bytes);
     }
 }
 
 #[cfg(test)]
 mod tests {
-    use super::Transcript;
+    use super::{BabyBear, Transcript};
 
     /// The transcript with this label that has absorbed these parts.
     fn absorbed(label: &[u8], parts: &[&[u8]]) -> Transcript {
@@ -172,7 +188,7 @@ mod tests {
     #[test]
     fn a_part_is_its_kind_its_length_and_its_bytes() {
         let mut transcript = absorbed(b"name", &[b"", &[7; 300]]);
-        transcript.push_drawn(&[1, 0x01020304, 0, 2013265920]);
+        transcript.push_drawn::<BabyBear>(&[1, 0x01020304, 0, 2013265920]);
         let mut expected =
             b"\x00\0\0\0\0\0\0\0\x04name\x01\0\0\0\0\0\0\0\0\x01\0\0\0\0\0\0\x01\x2c".to_vec();
         expected.extend_from_slice(&[7; 300]);
@@ -186,11 +202,11 @@ mod tests {
     fn different_calls_have_different_bytes() {
         let drawn = [u32::from_le_bytes(*b"abcd"); 4];
         let mut with_drawn = absorbed(b"", &[]);
-        with_drawn.push_drawn(&drawn);
+        with_drawn.push_drawn::<BabyBear>(&drawn);
         let mut drawn_first = with_drawn.clone();
         drawn_first.absorb(b"ab");
         let mut drawn_last = absorbed(b"", &[b"ab"]);
-        drawn_last.push_drawn(&drawn);
+        drawn_last.push_drawn::<BabyBear>(&drawn);
         let transcripts = [
             absorbed(b"", &[]),
             absorbed(b"ab", &[]),
@@ -222,11 +238,11 @@ mod tests {
         let mut transcript = absorbed(b"name", &[b"part"]);
         let mut expected = transcript.clone();
         let first = transcript.challenge().unwrap();
-        expected.push_drawn(&first);
+        expected.push_drawn::<BabyBear>(&first);
         assert_eq!(transcript, expected);
         let second = transcript.challenge().unwrap();
         assert_ne!(first, second);
-        expected.push_drawn(&second);
+        expected.push_drawn::<BabyBear>(&second);
         assert_eq!(transcript, expected);
     }
 }

@@ -1,5 +1,7 @@
 //! What is passed and answered.
 
+use crate::field::BabyBear;
+
 /// An element of BabyBear: its canonical number, below [`ORDER`].
 pub type Element = u32;
 
@@ -33,7 +35,8 @@ pub const ORDER: u32 = 2013265921;
 #[derive(Clone, Copy, Debug, PartialEq, Eq, Hash)]
 #[cfg_attr(feature = "serde", derive(serde::Serialize, serde::Deserialize))]
 pub struct Parameters {
-    /// How many times as long words are as what they encode: from 1 to 27.
+    /// How many times as long words are as what they encode: from 1 to the two-adicity of the field,
+    /// 27 for BabyBear, 24 for KoalaBear, 32 for Goldilocks.
     pub log_blowup: u32,
     /// The number of coefficients at which folding ends.
     pub log_final_poly_len: u32,
@@ -78,80 +81,12 @@ impl Parameters {
     /// of work don't count.
     ///
     /// Only the sum is the library's. What it says of soundness is a conjecture, and what is proved
-    /// of FRI gives fewer bits. Nor does the sum see what bounds it elsewhere: the extension has
-    /// some `2^123` elements, and a collision of the digests takes some `2^128` attempts.
+    /// of FRI gives fewer bits. Nor does the sum see what bounds it elsewhere: the extensions have
+    /// some `2^124` elements, that of Goldilocks some `2^128`, and a collision of the digests takes
+    /// some `2^128` attempts.
     pub const fn conjectured_soundness_bits(&self) -> u64 {
         self.log_blowup as u64 * self.num_queries as u64 + self.query_proof_of_work_bits as u64
     }
-}
-
-/// A coset of `2^log_size` points: the shift times each power of the root of unity of that order.
-///
-/// ```
-/// use p3_fri_proved::Domain;
-///
-/// assert_eq!(Domain::subgroup(3), Domain { shift: 1, log_size: 3 });
-/// ```
-#[derive(Clone, Copy, Debug, PartialEq, Eq, Hash)]
-#[cfg_attr(feature = "serde", derive(serde::Serialize, serde::Deserialize))]
-pub struct Domain {
-    /// An element that isn't 0.
-    pub shift: Element,
-    /// With the log blowup at most 27.
-    pub log_size: u32,
-}
-
-impl Domain {
-    /// The subgroup of `2^log_size` points.
-    pub const fn subgroup(log_size: u32) -> Domain {
-        Domain { shift: 1, log_size }
-    }
-}
-
-/// Columns of values on a domain, and the points to open them at. [`commit`](crate::commit) doesn't
-/// read the points.
-#[derive(Clone, Debug, PartialEq, Eq, Hash)]
-#[cfg_attr(feature = "serde", derive(serde::Serialize, serde::Deserialize))]
-pub struct Matrix {
-    /// Where the values stand.
-    pub domain: Domain,
-    /// The number of columns, above 0.
-    pub width: u32,
-    /// Row by row, `width * 2^log_size` values. Row `i` belongs to the point `shift * w^i`, where
-    /// `w` is the root of unity.
-    pub values: Vec<Element>,
-    /// The points that each column is opened at, at least one.
-    pub points: Vec<ExtensionElement>,
-}
-
-/// The values claimed at a point, one for each column.
-#[derive(Clone, Debug, PartialEq, Eq, Hash)]
-#[cfg_attr(feature = "serde", derive(serde::Serialize, serde::Deserialize))]
-pub struct PointClaims {
-    /// The point.
-    pub point: ExtensionElement,
-    /// The value of each column's polynomial there.
-    pub values: Vec<ExtensionElement>,
-}
-
-/// What is claimed of a matrix. Its width is the number of values at its first point.
-#[derive(Clone, Debug, PartialEq, Eq, Hash)]
-#[cfg_attr(feature = "serde", derive(serde::Serialize, serde::Deserialize))]
-pub struct MatrixClaims {
-    /// Where the committed values stand.
-    pub domain: Domain,
-    /// The values at each point.
-    pub points: Vec<PointClaims>,
-}
-
-/// What is claimed of the matrices under one commitment.
-#[derive(Clone, Debug, PartialEq, Eq, Hash)]
-#[cfg_attr(feature = "serde", derive(serde::Serialize, serde::Deserialize))]
-pub struct CommitmentClaims {
-    /// The commitment.
-    pub commitment: Digest,
-    /// The claims of each matrix, in the order in which they were committed to.
-    pub matrices: Vec<MatrixClaims>,
 }
 
 /// A proof of claims: bytes in the flat form, which docs/FORMATS.md describes.
@@ -196,15 +131,116 @@ impl Proof {
     }
 }
 
-/// What comes of opening matrices.
-#[derive(Clone, Debug, PartialEq, Eq, Hash)]
-#[cfg_attr(feature = "serde", derive(serde::Serialize, serde::Deserialize))]
-pub struct Opening {
-    /// The values at the points, by commitment, matrix, point and column.
-    pub claims: Vec<CommitmentClaims>,
-    /// Their proof.
-    pub proof: Proof,
-    /// What the challenger draws after the proof, and so after all that the statement and the proof
-    /// say. A verifier's is the same. Whoever goes on with a transcript absorbs it.
-    pub next_challenge: ExtensionElement,
+/// A coset of points of BabyBear.
+pub type Domain = over::Domain<BabyBear>;
+
+/// Columns of values of BabyBear on a domain, and the points to open them at.
+pub type Matrix = over::Matrix<BabyBear>;
+
+/// The values claimed at a point over BabyBear, one for each column.
+pub type PointClaims = over::PointClaims<BabyBear>;
+
+/// What is claimed of a matrix over BabyBear.
+pub type MatrixClaims = over::MatrixClaims<BabyBear>;
+
+/// What is claimed of the matrices under one commitment over BabyBear.
+pub type CommitmentClaims = over::CommitmentClaims<BabyBear>;
+
+/// What comes of opening matrices over BabyBear.
+pub type Opening = over::Opening<BabyBear>;
+
+/// What is passed and answered over a field.
+pub(crate) mod over {
+    use super::{Digest, Proof};
+    use crate::field::number::Number;
+    use crate::field::Field;
+
+    /// A coset of `2^log_size` points: the shift times each power of the root of unity of that order.
+    ///
+    /// ```
+    /// use p3_fri_proved::Domain;
+    ///
+    /// assert_eq!(Domain::subgroup(3), Domain { shift: 1, log_size: 3 });
+    /// ```
+    #[derive(Clone, Copy, Debug, PartialEq, Eq, Hash)]
+    #[cfg_attr(feature = "serde", derive(serde::Serialize, serde::Deserialize))]
+    #[cfg_attr(feature = "serde", serde(bound = ""))]
+    pub struct Domain<F: Field> {
+        /// An element that isn't 0.
+        pub shift: F::Element,
+        /// With the log blowup at most the two-adicity of the field: 27 for BabyBear, 24 for KoalaBear, 32
+        /// for Goldilocks.
+        pub log_size: u32,
+    }
+
+    impl<F: Field> Domain<F> {
+        /// The subgroup of `2^log_size` points.
+        pub const fn subgroup(log_size: u32) -> Domain<F> {
+            Domain { shift: F::Element::ONE, log_size }
+        }
+    }
+
+    /// Columns of values on a domain, and the points to open them at. [`commit`](crate::commit) doesn't
+    /// read the points.
+    #[derive(Clone, Debug, PartialEq, Eq, Hash)]
+    #[cfg_attr(feature = "serde", derive(serde::Serialize, serde::Deserialize))]
+    #[cfg_attr(feature = "serde", serde(bound = ""))]
+    pub struct Matrix<F: Field> {
+        /// Where the values stand.
+        pub domain: Domain<F>,
+        /// The number of columns, above 0.
+        pub width: u32,
+        /// Row by row, `width * 2^log_size` values. Row `i` belongs to the point `shift * w^i`, where
+        /// `w` is the root of unity.
+        pub values: Vec<F::Element>,
+        /// The points that each column is opened at, at least one.
+        pub points: Vec<F::ExtensionElement>,
+    }
+
+    /// The values claimed at a point, one for each column.
+    #[derive(Clone, Debug, PartialEq, Eq, Hash)]
+    #[cfg_attr(feature = "serde", derive(serde::Serialize, serde::Deserialize))]
+    #[cfg_attr(feature = "serde", serde(bound = ""))]
+    pub struct PointClaims<F: Field> {
+        /// The point.
+        pub point: F::ExtensionElement,
+        /// The value of each column's polynomial there.
+        pub values: Vec<F::ExtensionElement>,
+    }
+
+    /// What is claimed of a matrix. Its width is the number of values at its first point.
+    #[derive(Clone, Debug, PartialEq, Eq, Hash)]
+    #[cfg_attr(feature = "serde", derive(serde::Serialize, serde::Deserialize))]
+    #[cfg_attr(feature = "serde", serde(bound = ""))]
+    pub struct MatrixClaims<F: Field> {
+        /// Where the committed values stand.
+        pub domain: Domain<F>,
+        /// The values at each point.
+        pub points: Vec<PointClaims<F>>,
+    }
+
+    /// What is claimed of the matrices under one commitment.
+    #[derive(Clone, Debug, PartialEq, Eq, Hash)]
+    #[cfg_attr(feature = "serde", derive(serde::Serialize, serde::Deserialize))]
+    #[cfg_attr(feature = "serde", serde(bound = ""))]
+    pub struct CommitmentClaims<F: Field> {
+        /// The commitment.
+        pub commitment: Digest,
+        /// The claims of each matrix, in the order in which they were committed to.
+        pub matrices: Vec<MatrixClaims<F>>,
+    }
+
+    /// What comes of opening matrices.
+    #[derive(Clone, Debug, PartialEq, Eq, Hash)]
+    #[cfg_attr(feature = "serde", derive(serde::Serialize, serde::Deserialize))]
+    #[cfg_attr(feature = "serde", serde(bound = ""))]
+    pub struct Opening<F: Field> {
+        /// The values at the points, by commitment, matrix, point and column.
+        pub claims: Vec<CommitmentClaims<F>>,
+        /// Their proof.
+        pub proof: Proof,
+        /// What the challenger draws after the proof, and so after all that the statement and the proof
+        /// say. A verifier's is the same. Whoever goes on with a transcript absorbs it.
+        pub next_challenge: F::ExtensionElement,
+    }
 }

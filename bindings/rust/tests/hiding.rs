@@ -1,6 +1,7 @@
 //! The hiding scheme through the binding. Expected values are those that `flat_form.py` of
 //! tools/relation, an independent program, prints.
 
+use p3_fri_proved::field::BabyBear;
 use p3_fri_proved::hiding::{commit, open, verify, Masking};
 use p3_fri_proved::{
     open as open_plain, verify as verify_plain, CommitmentClaims, Digest, Domain, Error, Fault,
@@ -244,6 +245,6 @@ fn malformed_requests_are_refused_by_name() {
     short[1][0].values.pop();
     let refused = open(&PARAMETERS, &[], &MASKING, Some(0), &short);
     assert_eq!(named(refused), (None, Some(Fault::Values)));
-    let refused = open(&PARAMETERS, &[], &MASKING, None, &[]);
+    let refused = open::<BabyBear>(&PARAMETERS, &[], &MASKING, None, &[]);
     assert_eq!(named(refused), (None, Some(Fault::Matrices)));
 }

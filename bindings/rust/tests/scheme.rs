@@ -1,6 +1,7 @@
 //! The scheme through the binding. Expected values are those of tools/relation, an independent
 //! program.
 
+use p3_fri_proved::field::BabyBear;
 use p3_fri_proved::{
     commit, open, verify, Digest, Domain, Error, Fault, Matrix, Opening, Parameters, Proof, Refusal,
 };
@@ -197,7 +198,7 @@ fn malformed_requests_are_refused_by_name() {
         let refused = open(&parameters, &[], &[vec![matrix]]);
         assert_eq!(named(refused), (None, Some(fault)), "case {index}");
     }
-    assert_eq!(named(open(&PARAMETERS, &[], &[])), (None, Some(Fault::Matrices)));
+    assert_eq!(named(open::<BabyBear>(&PARAMETERS, &[], &[])), (None, Some(Fault::Matrices)));
 }
 
 #[test]
