@@ -2,6 +2,8 @@
 #![tactic(auto)]
 
 #[cfg(test)]
+mod column;
+#[cfg(test)]
 mod domain;
 #[cfg(test)]
 mod matrix;

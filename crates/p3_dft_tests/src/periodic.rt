@@ -2,4 +2,5 @@
 
 mod columns;
 mod points;
+mod refusals;
 mod tables;

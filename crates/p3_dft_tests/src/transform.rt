@@ -1,10 +1,11 @@
 //! Worked values, and each call against the values by Horner's rule.
 
 ghost use Rattle.std.specs.Prelude.{◌≡◌, ◌<◌, ◌≤◌, ◌+◌, ◌*◌, ◌^◌, length, vec_len};
-ghost use Rattle.p3_matrix.specs.Matrix.{rows, matrix_width};
+ghost use Rattle.p3_matrix.specs.Matrix.{rows};
 
+use crate::column::column_of;
 use p3_dft::{Radix2Dit, TwoAdicSubgroupDft};
-use p3_field::{BabyBear, BabyBear4, ExtensionField, Field, PrimeField64, TwoAdicField};
+use p3_field::{BabyBear, BabyBear4, ExtensionField, Field, TwoAdicField};
 use p3_matrix::RowMajorMatrix;
 use std::alloc::Global;
 use std::process::Abort;
@@ -22,7 +23,7 @@ fn elements<EF: Field>(rt: &impl Abort, alloc: Global, count: usize) -> Vec<EF>
     elements
 }
 
-/// A matrix of elements in no regular order.
+/// The same matrix of elements in no regular order, each time.
 fn matrix<EF: Field>(
     rt: &impl Abort,
     alloc: Global,
@@ -30,14 +31,11 @@ fn matrix<EF: Field>(
     width: usize,
 ) -> RowMajorMatrix<EF>
     requires low { log_height < 10 }
-    requires some { 0 < width }
-    requires narrow { width < 10 }
     ensures height { length (rows result) ≡ 2 ^ log_height }
-    ensures width { matrix_width result ≡ width }
 {
-    let height = 1 << log_height;
-    let elements = elements::<EF>(rt, alloc, height * width);
-    assert!(rt; elements.len() % width == 0);
+    let height = 1usize << log_height;
+    let elements = elements::<EF>(rt, alloc, height.saturating_mul(width));
+    assert!(rt; width != 0 && elements.len() % width == 0);
     let matrix = RowMajorMatrix::new(elements, width);
     assert!(rt; matrix.height() == height);
     matrix
@@ -52,95 +50,67 @@ fn value<EF: Field>(coefficients: &RowMajorMatrix<EF>, column: usize, x: EF) -> 
     value
 }
 
-/// Whether each row `i` of `values`, of which there are `2^log_height`, holds the values at
-/// `shift * root^i`.
-fn holds_values<F: Field>(
-    coefficients: &RowMajorMatrix<F>,
-    values: &RowMajorMatrix<F>,
+/// The matrix whose row `i`, of `2^log_height`, has the values at `shift * root^i` by Horner's
+/// rule.
+fn values_by_horner<EF: Field>(
+    rt: &impl Abort,
+    alloc: Global,
+    coefficients: &RowMajorMatrix<EF>,
     log_height: usize,
-    shift: F,
-    root: F,
-) -> bool
-    requires { log_height < 12 }
+    shift: EF,
+    root: EF,
+) -> RowMajorMatrix<EF>
+    requires low { log_height < 12 }
+    ensures height { length (rows result) ≡ 2 ^ log_height }
 {
-    if values.height() != 1 << log_height || values.width() != coefficients.width() {
-        return false;
-    }
+    let (height, width) = (1usize << log_height, coefficients.width());
+    let mut values = Vec::new(alloc);
     let mut point = shift;
-    for i in 0..values.height() {
-        for j in 0..values.width() {
-            if values.get(i, j) != Some(value(coefficients, j, point)) {
-                return false;
-            }
+    for _ in 0..height {
+        for column in 0..width {
+            let value = value(coefficients, column, point);
+            values.push(value).expect(rt, "memory");
         }
         point = point * root;
     }
-    true
+    assert!(rt; values.len() % width == 0);
+    let matrix = RowMajorMatrix::new(values, width);
+    assert!(rt; matrix.height() == height);
+    matrix
 }
 
-/// Whether the transform and the extension of a matrix answer the values by Horner's rule.
+/// Whether the transforms of a matrix to the subgroup and to a coset, and the extension, answer the
+/// values by Horner's rule, and the inverse gives back the coefficients.
 fn values_agree<F: TwoAdicField, D: TwoAdicSubgroupDft<F>>(
     rt: &impl Abort,
     alloc: Global,
     dft: &D,
-    log_height: usize,
+    log: usize,
     width: usize,
 ) -> bool
-    requires low { log_height < 10 }
-    requires some { 0 < width }
-    requires narrow { width < 10 }
-    requires within_two_adicity { log_height + 2 ≤ F.TWO_ADICITY }
+    requires low { log < 10 }
+    requires within_two_adicity { log + 2 ≤ F.TWO_ADICITY }
 {
     let shift = F::GENERATOR;
-    let root = F::two_adic_generator(log_height);
-    let extended_root = F::two_adic_generator(log_height + 2);
-    let coefficients = matrix::<F>(rt, alloc, log_height, width);
-    let copy = coefficients
-        .as_view()
-        .to_row_major_matrix(alloc)
+    let (root, extended_root) = (F::two_adic_generator(log), F::two_adic_generator(log + 2));
+    let coefficients = matrix::<F>(rt, alloc, log, width);
+    let values = values_by_horner(rt, alloc, &coefficients, log, F::ONE, root);
+    let coset_values = values_by_horner(rt, alloc, &coefficients, log, shift, root);
+    let extended = values_by_horner(rt, alloc, &coefficients, log + 2, shift, extended_root);
+    let copy = matrix::<F>(rt, alloc, log, width);
+    let transformed = dft.dft_batch(alloc, copy).expect(rt, "memory");
+    let other = matrix::<F>(rt, alloc, log, width);
+    let shifted = dft
+        .coset_dft_batch(alloc, other, shift)
         .expect(rt, "memory");
-    let values = dft.dft_batch(alloc, copy).expect(rt, "memory");
-    let transformed = holds_values(&coefficients, &values, log_height, F::ONE, root);
-    let extended = dft
+    let all_agree = transformed == values && shifted == coset_values;
+    let longer = dft
         .coset_lde_batch(alloc, values, 2, shift)
         .expect(rt, "memory");
-    transformed
-        && holds_values(
-            &coefficients,
-            &extended,
-            log_height + 2,
-            shift,
-            extended_root,
-        )
-}
-
-/// Whether the transform of a matrix to a coset answers the values by Horner's rule, and its
-/// inverse gives back the coefficients.
-fn coset_values_agree<F: TwoAdicField, D: TwoAdicSubgroupDft<F>>(
-    rt: &impl Abort,
-    alloc: Global,
-    dft: &D,
-    log_height: usize,
-    width: usize,
-) -> bool
-    requires low { log_height < 10 }
-    requires some { 0 < width }
-    requires narrow { width < 10 }
-    requires within_two_adicity { log_height ≤ F.TWO_ADICITY }
-{
-    let shift = F::GENERATOR;
-    let root = F::two_adic_generator(log_height);
-    let coefficients = matrix::<F>(rt, alloc, log_height, width);
-    let copy = coefficients
-        .as_view()
-        .to_row_major_matrix(alloc)
-        .expect(rt, "memory");
-    let coset_values = dft.coset_dft_batch(alloc, copy, shift).expect(rt, "memory");
-    let shifted = holds_values(&coefficients, &coset_values, log_height, shift, root);
     let back = dft
         .coset_idft_batch(alloc, coset_values, shift)
         .expect(rt, "memory");
-    shifted && back == coefficients
+    all_agree && longer == extended && back == coefficients
 }
 
 /// Whether the extension of one column is that of the matrix of this column alone.
@@ -164,27 +134,7 @@ fn columns_agree<F: TwoAdicField, D: TwoAdicSubgroupDft<F>>(
     extended.into_values().as_slice() == extended_column.as_slice()
 }
 
-/// The values at the first `count` powers of `root` of the polynomial whose coefficients stand in
-/// the first column.
-fn values_at_powers<EF: Field>(
-    rt: &impl Abort,
-    alloc: Global,
-    coefficients: &RowMajorMatrix<EF>,
-    count: usize,
-    root: EF,
-) -> Vec<EF>
-    ensures { vec_len result ≡ count }
-{
-    let mut values = vec![in alloc; EF::ZERO; count].expect(rt, "memory");
-    let mut point = EF::ONE;
-    for entry in values.iter_mut() {
-        *entry = value(coefficients, 0, point);
-        point = point * root;
-    }
-    values
-}
-
-/// Whether the coefficients come back from the values of a polynomial over an extension.
+/// Whether the polynomial over an extension that is found of its values has these by Horner's rule.
 fn algebra_comes_back<F: TwoAdicField, EF: ExtensionField<F>, D: TwoAdicSubgroupDft<F>>(
     rt: &impl Abort,
     alloc: Global,
@@ -194,55 +144,58 @@ fn algebra_comes_back<F: TwoAdicField, EF: ExtensionField<F>, D: TwoAdicSubgroup
     requires low { log_height < 10 }
     requires within_two_adicity { log_height ≤ F.TWO_ADICITY }
 {
-    let coefficients = matrix::<EF>(rt, alloc, log_height, 1);
+    let values = elements::<EF>(rt, alloc, 1 << log_height);
+    let coefficients = dft.idft_algebra(alloc, values).expect(rt, "memory");
+    let coefficients = RowMajorMatrix::new(coefficients, 1);
     let root = EF::from_base(F::two_adic_generator(log_height));
-    let values = values_at_powers(rt, alloc, &coefficients, 1 << log_height, root);
-    let back = dft.idft_algebra(alloc, values).expect(rt, "memory");
-    back.as_slice() == coefficients.into_values().as_slice()
+    let back = values_by_horner(rt, alloc, &coefficients, log_height, EF::ONE, root);
+    back == matrix::<EF>(rt, alloc, log_height, 1)
 }
 
-/// The number in the first column of this row, if the row is there.
-fn number_at(matrix: &RowMajorMatrix<BabyBear>, row: usize) -> Option<u64> {
-    Some(matrix.get(row, 0)?.as_canonical_u64())
+/// Whether all calls agree with Horner's rule at `2^log` rows.
+fn calls_agree<F: TwoAdicField, EF: ExtensionField<F>, D: TwoAdicSubgroupDft<F>>(
+    rt: &impl Abort,
+    alloc: Global,
+    dft: &D,
+    log: usize,
+) -> bool
+    requires low { log < 10 }
+    requires within_two_adicity { log + 2 ≤ F.TWO_ADICITY }
+{
+    values_agree(rt, alloc, dft, log, 1)
+        && values_agree(rt, alloc, dft, log, 3)
+        && columns_agree(rt, alloc, dft, log)
+        && algebra_comes_back::<F, EF, D>(rt, alloc, dft, log)
+}
+
+/// Whether the only column has so many rows, and in each of these the number beside it.
+fn shows(matrix: &RowMajorMatrix<BabyBear>, height: usize, numbers: &[(usize, u64)]) -> bool {
+    let mut right = matrix.height() == height;
+    for (row, number) in numbers {
+        right = right && matrix.get(*row, 0) == Some(BabyBear::from_u64(*number));
+    }
+    right
 }
 
 #[test]
 fn two_coefficients(rt: HostRuntime) {
+    let alloc = rt.alloc();
     let dft = Radix2Dit::<BabyBear>::default();
-    let numbers = [2, 2013265920].map(BabyBear::from_u64);
-    let coefficients = RowMajorMatrix::new(numbers.to_vec(rt.alloc()).expect(&rt, "memory"), 1);
+    let coefficients = RowMajorMatrix::new(column_of(&rt, alloc, &[2, 2013265920]), 1);
     assert!(rt; coefficients.height() == 2);
-    let values = dft
-        .dft_batch(rt.alloc(), coefficients)
-        .expect(&rt, "memory");
+    let values = dft.dft_batch(alloc, coefficients).expect(&rt, "memory");
     assert!(rt; values.height() == 2);
-    assert!(rt; number_at(&values, 0) == Some(1));
-    assert!(rt; number_at(&values, 1) == Some(3));
-    let extended = dft
-        .coset_lde_batch(rt.alloc(), values, 1, BabyBear::GENERATOR)
-        .expect(&rt, "memory");
-    assert!(rt; extended.height() == 4);
-    assert!(rt; number_at(&extended, 0) == Some(2013265892));
-    assert!(rt; number_at(&extended, 2) == Some(33));
+    let transformed = shows(&values, 2, &[(0, 1), (1, 3)]);
+    let extended = dft.coset_lde_batch(alloc, values, 1, BabyBear::GENERATOR);
+    let extended = extended.expect(&rt, "memory");
+    assert!(rt; transformed && shows(&extended, 4, &[(0, 2013265892), (2, 33)]));
 }
 
 #[test]
 fn calls_agree_with_horner(rt: HostRuntime) {
-    let alloc = rt.alloc();
     let dft = Radix2Dit::<BabyBear>::default();
     for log in [0, 1, 3] {
-        for width in [1, 3] {
-            assert!(rt;
-                values_agree(&rt, alloc, &dft, log, width),
-                "a matrix of 2^{log}"
-            );
-            assert!(rt;
-                coset_values_agree(&rt, alloc, &dft, log, width),
-                "a coset of 2^{log}"
-            );
-        }
-        assert!(rt; columns_agree(&rt, alloc, &dft, log), "a column of 2^{log}");
-        let back = algebra_comes_back::<BabyBear, BabyBear4, _>(&rt, alloc, &dft, log);
-        assert!(rt; back, "an extension's values at 2^{log} points");
+        let agree = calls_agree::<BabyBear, BabyBear4, _>(&rt, rt.alloc(), &dft, log);
+        assert!(rt; agree, "2^{log} rows");
     }
 }

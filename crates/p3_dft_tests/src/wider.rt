@@ -1,5 +1,6 @@
 //! Random columns and columns of zeros, against words that are drawn one by one.
 
+use crate::column::column_of;
 use p3_field::{BabyBear, Field};
 use p3_matrix::RowMajorMatrix;
 use rand_chacha::ChaCha20Rng;
@@ -8,7 +9,7 @@ use std::alloc::Global;
 use std::process::Abort;
 
 /// What is added to a matrix of two rows of three: how many columns, and the generator's seed.
-const CASES: [(usize, u8); 5] = [(0, 0), (1, 0), (2, 7), (3, 1), (9, 255)];
+static CASES: [(usize, u8); 5] = [(0, 0), (1, 0), (2, 7), (3, 1), (9, 255)];
 
 /// Whether the columns of `wider` on the left are the matrix's, and nothing is lost or added.
 fn keeps_columns(
@@ -71,19 +72,14 @@ fn widens(
 
 #[test]
 fn adds_columns_on_the_right(rt: HostRuntime) {
-    let values = vec![in rt.alloc();
-        BabyBear::ONE,
-        BabyBear::TWO,
-        BabyBear::ZERO,
-        BabyBear::GENERATOR,
-        BabyBear::TWO,
-        -BabyBear::ONE,
-    ];
-    let matrix = RowMajorMatrix::new(values.expect(&rt, "memory"), 3);
-    for (place, (count, seed)) in CASES.iter().enumerate() {
+    // the last is -1
+    let values = column_of(&rt, rt.alloc(), &[1, 2, 0, 31, 2, 2_013_265_920]);
+    assert!(rt; values.len() == 6);
+    let matrix = RowMajorMatrix::new(values, 3);
+    for (count, seed) in &CASES {
         assert!(rt;
             widens(&rt, rt.alloc(), &matrix, *count, *seed),
-            "case {place}"
+            "{count} columns"
         );
     }
 }
@@ -91,12 +87,10 @@ fn adds_columns_on_the_right(rt: HostRuntime) {
 /// The first word of the generator whose seed is all zeros, which is known from its standard.
 #[test]
 fn draws_the_known_first_word(rt: HostRuntime) {
-    let values = vec![in rt.alloc(); BabyBear::ONE].expect(&rt, "memory");
-    let matrix = RowMajorMatrix::new(values, 1);
+    let matrix = RowMajorMatrix::new(column_of(&rt, rt.alloc(), &[1]), 1);
     let mut rng = ChaCha20Rng::from_seed([0; 32]);
     let wider = matrix
         .with_random_cols(rt.alloc(), 1, &mut rng)
         .expect(&rt, "memory");
-    let expected = BabyBear::from_u64(1_378_443_179);
-    assert!(rt; (wider.get(0, 0), wider.get(0, 1)) == (Some(BabyBear::ONE), Some(expected)));
+    assert!(rt; wider.into_values() == column_of(&rt, rt.alloc(), &[1, 1_378_443_179]));
 }

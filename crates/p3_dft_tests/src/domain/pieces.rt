@@ -2,16 +2,17 @@
 
 ghost use Rattle.std.specs.Prelude.{◌<◌, length};
 
+use crate::column::column_of;
 use crate::domain::numbers::{Domain, domain, extension, numbers};
 use p3_domain::PolynomialSpace;
-use p3_field::{BabyBear, ExtensionField, Field, PrimeField64};
+use p3_field::{BabyBear, BabyBear4, ExtensionField, Field, PrimeField64};
 use p3_matrix::RowMajorMatrix;
 use std::process::Abort;
 
 /// Of the domain of eight points of shift 31: for a number of chunks, each one's shift, and the
 /// value at `2 + 7X + X^2 + 8X^3` of the polynomial that has on its domain the values of one of
 /// degree 7.
-const CHUNKS: [(usize, &[(u64, [u64; 4])]); 3] = [
+static CHUNKS: [(usize, &[(u64, [u64; 4])]); 3] = [
     (1, &[(31, [602296648, 1380251527, 461173315, 1565730881])]),
     (
         2,
@@ -32,24 +33,19 @@ const CHUNKS: [(usize, &[(u64, [u64; 4])]); 3] = [
 ];
 
 /// That polynomial's value there.
-const WHOLE: [u64; 4] = [602296648, 1380251527, 461173315, 1565730881];
+static WHOLE: [u64; 4] = [602296648, 1380251527, 461173315, 1565730881];
 
 /// What a chunk's value counts at the point: the product over the other pieces of what vanishes on
 /// them there, over that at this piece's first point.
-fn factor<D: PolynomialSpace, EF: ExtensionField<D::Val>>(
-    rt: &impl Abort,
-    pieces: &[D],
-    index: usize,
-    point: EF,
-) -> EF
+fn factor(rt: &impl Abort, pieces: &[Domain], index: usize, point: BabyBear4) -> BabyBear4
     requires { index < length pieces.now }
 {
-    let first: D::Val = pieces[index].first_point();
-    let mut factor = EF::ONE;
+    let first = PolynomialSpace::first_point(&pieces[index]);
+    let mut factor = BabyBear4::ONE;
     for (other, piece) in pieces.iter().enumerate() {
         if other != index {
-            let at_first: D::Val = piece.vanishing_poly_at_point(first);
-            let at_point: EF = piece.vanishing_poly_at_point(point);
+            let at_first: BabyBear = PolynomialSpace::vanishing_poly_at_point(piece, first);
+            let at_point = PolynomialSpace::vanishing_poly_at_point(piece, point);
             factor = factor * at_point.scale(at_first.try_inverse().expect(rt, "pieces meet"));
         }
     }
@@ -73,10 +69,7 @@ fn recombine(rt: &impl Abort, pieces: &[Domain], chunks: &[(u64, [u64; 4])]) -> 
 fn chunks_recombine(rt: HostRuntime) {
     let whole = domain(&rt, 31, 3);
     for (num_chunks, chunks) in &CHUNKS {
-        assert!(rt;
-            num_chunks.is_power_of_two() && *num_chunks <= whole.size(),
-            "{num_chunks} chunks"
-        );
+        assert!(rt; num_chunks.is_power_of_two() && *num_chunks <= whole.size());
         let pieces = whole
             .split_domains(rt.alloc(), *num_chunks)
             .expect(&rt, "memory");
@@ -86,7 +79,7 @@ fn chunks_recombine(rt: HostRuntime) {
 }
 
 /// Of four rows of two values on a domain: for a number of chunks, each chunk's values.
-const ROWS: [(usize, &[&[u64]]); 3] = [
+static ROWS: [(usize, &[&[u64]]); 3] = [
     (1, &[&[0, 1, 2, 3, 4, 5, 6, 7]]),
     (2, &[&[0, 1, 4, 5], &[2, 3, 6, 7]]),
     (4, &[&[0, 1], &[2, 3], &[4, 5], &[6, 7]]),
@@ -114,14 +107,12 @@ fn hold(chunks: &[RowMajorMatrix<BabyBear>], wanted: &[&[u64]]) -> bool {
 fn rows_by_domains(rt: HostRuntime) {
     let alloc = rt.alloc();
     let whole = domain(&rt, 31, 2);
-    let values = [0, 1, 2, 3, 4, 5, 6, 7].map(BabyBear::from_u64);
-    let evals = RowMajorMatrix::new(values.to_vec(alloc).expect(&rt, "memory"), 2);
+    let values = column_of(&rt, alloc, &[0, 1, 2, 3, 4, 5, 6, 7]);
+    assert!(rt; values.len() == 8);
+    let evals = RowMajorMatrix::new(values, 2);
     assert!(rt; evals.height() == whole.size());
     for (num_chunks, wanted) in &ROWS {
-        assert!(rt;
-            num_chunks.is_power_of_two() && *num_chunks <= whole.size(),
-            "{num_chunks} chunks"
-        );
+        assert!(rt; num_chunks.is_power_of_two() && *num_chunks <= whole.size());
         let chunks = whole
             .split_evals(alloc, *num_chunks, &evals)
             .expect(&rt, "memory");

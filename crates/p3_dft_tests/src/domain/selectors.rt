@@ -6,7 +6,7 @@ use p3_field::{BabyBear, Field, PrimeField64};
 
 /// A domain's shift and the logarithm of its size, a point, and the selectors there: of the first
 /// row, of the last, of all but the last, and the inverse of what vanishes on the domain.
-const AT_POINTS: [(u64, usize, [u64; 4], [[u64; 4]; 4]); 2] = [
+static AT_POINTS: [(u64, usize, [u64; 4], [[u64; 4]; 4]); 2] = [
     (
         1,
         3,
@@ -48,16 +48,16 @@ fn at_point(domain: &Domain, point: [u64; 4]) -> Option<[[u64; 4]; 4]> {
 
 #[test]
 fn selectors_at_points(rt: HostRuntime) {
-    for (index, (shift, log_size, point, wanted)) in AT_POINTS.iter().enumerate() {
+    for (shift, log_size, point, wanted) in &AT_POINTS {
         let found = at_point(&domain(&rt, *shift, *log_size), *point);
-        assert!(rt; found == Some(*wanted), "point {index}");
+        assert!(rt; found == Some(*wanted), "of 2^{log_size} points");
     }
-    assert!(rt; at_point(&domain(&rt, 31, 2), [777639964, 0, 0, 0]) == None);
+    assert!(rt; at_point(&domain(&rt, 31, 2), [777639964, 0, 0, 0]).is_none());
 }
 
 /// A domain's shift and the logarithm of its size, how many points a disjoint one has, and at each
 /// of these the selectors in the same order.
-const ON_COSETS: [(u64, usize, usize, &[[u64; 4]]); 2] = [
+static ON_COSETS: [(u64, usize, usize, &[[u64; 4]]); 2] = [
     (
         1,
         1,
@@ -83,25 +83,27 @@ const ON_COSETS: [(u64, usize, usize, &[[u64; 4]]); 2] = [
 /// Whether the selectors are as many as these numbers of four, and theirs.
 fn are_numbers(selectors: &[LagrangeSelectors<BabyBear>], numbers: &[[u64; 4]]) -> bool {
     let mut same = selectors.len() == numbers.len();
-    for (selectors, [first, last, transition, inverse]) in selectors.iter().zip(numbers) {
-        same = same
-            && selectors.is_first_row.as_canonical_u64() == *first
-            && selectors.is_last_row.as_canonical_u64() == *last
-            && selectors.is_transition.as_canonical_u64() == *transition
-            && selectors.inv_vanishing.as_canonical_u64() == *inverse;
+    for (selectors, wanted) in selectors.iter().zip(numbers) {
+        let found = [
+            selectors.is_first_row.as_canonical_u64(),
+            selectors.is_last_row.as_canonical_u64(),
+            selectors.is_transition.as_canonical_u64(),
+            selectors.inv_vanishing.as_canonical_u64(),
+        ];
+        same = same && found == *wanted;
     }
     same
 }
 
 #[test]
 fn selectors_on_cosets(rt: HostRuntime) {
-    for (index, (shift, log_size, min_size, wanted)) in ON_COSETS.iter().enumerate() {
+    for (shift, log_size, min_size, wanted) in &ON_COSETS {
         let domain = domain(&rt, *shift, *log_size);
         let coset = domain.create_disjoint_domain(*min_size);
         let coset = coset.expect(&rt, "no disjoint domain");
         let found = domain
             .selectors_on_coset(rt.alloc(), coset)
             .expect(&rt, "memory");
-        assert!(rt; are_numbers(&found, *wanted), "domain {index}");
+        assert!(rt; are_numbers(&found, *wanted), "of 2^{log_size} points");
     }
 }

@@ -1,20 +1,10 @@
-//! Tables of columns of numbers, and why tables are refused.
+//! Tables of columns of numbers.
 
-use p3_field::{BabyBear, Field};
-use p3_periodic::{PeriodicColumns, PeriodicError};
+use crate::column::column_of;
+use p3_field::BabyBear;
+use p3_periodic::PeriodicColumns;
 use std::alloc::Global;
 use std::process::Abort;
-
-/// A column of these numbers.
-fn column_of(rt: &impl Abort, alloc: Global, numbers: &[u64]) -> Vec<BabyBear> {
-    let mut column = Vec::new(alloc);
-    for number in numbers {
-        column
-            .push(BabyBear::from_u64(*number))
-            .expect(rt, "memory");
-    }
-    column
-}
 
 /// A table of columns of these numbers.
 pub(crate) fn columns_of(rt: &impl Abort, alloc: Global, columns: &[&[u64]]) -> Vec<Vec<BabyBear>> {
@@ -27,76 +17,22 @@ pub(crate) fn columns_of(rt: &impl Abort, alloc: Global, columns: &[&[u64]]) -> 
     table
 }
 
-/// Whether along 8 rows the table is refused for this reason, in these words.
-fn is_refused(
-    rt: &impl Abort,
-    alloc: Global,
-    table: &[Vec<BabyBear>],
-    fault: PeriodicError,
-    words: &str,
-) -> bool {
-    let found = PeriodicColumns::new(table, 8).err();
-    let text = format!(in alloc; "{fault}").expect(rt, "memory");
-    found == Some(fault) && text.as_str() == words
-}
-
-/// Columns, the first that is malformed along 8 rows, and the words for it.
-pub(crate) const REFUSED: [(&[&[u64]], PeriodicError, &str); 4] = [
-    (
-        &[&[1, 2, 3]],
-        PeriodicError::NotPowerOfTwo {
-            column: 0,
-            length: 3,
-        },
-        "periodic column 0 has length 3, which is not a power of two",
-    ),
-    (
-        &[&[1; 16]],
-        PeriodicError::DoesNotDivide {
-            column: 0,
-            length: 16,
-            trace_height: 8,
-        },
-        "periodic column 0 has length 16, which does not divide the trace height 8",
-    ),
-    (
-        &[&[]],
-        PeriodicError::NotPowerOfTwo {
-            column: 0,
-            length: 0,
-        },
-        "periodic column 0 has length 0, which is not a power of two",
-    ),
-    (
-        &[&[1, 3], &[1; 16], &[1, 2, 3]],
-        PeriodicError::DoesNotDivide {
-            column: 1,
-            length: 16,
-            trace_height: 8,
-        },
-        "periodic column 1 has length 16, which does not divide the trace height 8",
-    ),
-];
-
-#[test]
-fn malformed_columns_are_named(rt: HostRuntime) {
-    for (columns, fault, words) in &REFUSED {
-        let table = columns_of(&rt, rt.alloc(), *columns);
-        assert!(rt;
-            is_refused(&rt, rt.alloc(), &table, *fault, *words),
-            "{words}"
-        );
+/// The greatest period along 8 rows, and twice the number of columns, unless they are refused.
+fn period_and_counts(table: &[Vec<BabyBear>]) -> Option<(Option<usize>, usize, usize)> {
+    match PeriodicColumns::new(table, 8) {
+        Ok(columns) => Some((
+            columns.max_period(),
+            columns.len(),
+            columns.as_slice().len(),
+        )),
+        Err(_) => None,
     }
 }
 
 #[test]
 fn the_greatest_period(rt: HostRuntime) {
-    let none: Vec<Vec<BabyBear>> = Vec::new(rt.alloc());
-    let columns = PeriodicColumns::new(&none, 8).expect(&rt, "no columns");
-    assert!(rt; columns.max_period().is_none());
-    let table = columns_of(&rt, rt.alloc(), &[&[5], &[1, 2, 3, 4], &[1, 3]]);
-    let columns = PeriodicColumns::new(&table, 8).expect(&rt, "three columns");
-    assert!(rt; columns.max_period() == Some(4));
-    assert!(rt; columns.len() == 3);
-    assert!(rt; columns.as_slice().len() == 3);
+    let none = columns_of(&rt, rt.alloc(), &[]);
+    let three = columns_of(&rt, rt.alloc(), &[&[5], &[1, 2, 3, 4], &[1, 3]]);
+    assert!(rt; period_and_counts(&none) == Some((None, 0, 0)));
+    assert!(rt; period_and_counts(&three) == Some((Some(4), 3, 3)));
 }

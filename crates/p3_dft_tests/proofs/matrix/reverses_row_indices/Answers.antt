@@ -1,5 +1,0 @@
-use Rattle.std.proofs.Common.{arith}
-use Rattle.p3_dft_tests.proofs.matrix.reverses_row_indices.Goals as goal
-
-pub bit_reverse_rows-reversed-requires : goal.bit_reverse_rows-reversed-requires
-bit_reverse_rows-reversed-requires g c = record { power_of_two = (2, omega arith) }

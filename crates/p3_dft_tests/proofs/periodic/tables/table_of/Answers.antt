@@ -1,5 +1,0 @@
-use Rattle.std.proofs.Math.Pow.{pow_mono}
-use Rattle.p3_dft_tests.proofs.periodic.tables.table_of.Goals as goal
-
-pub eval_on_lde-table-requires : goal.eval_on_lde-table-requires
-eval_on_lde-table-requires g c = pow_mono c.trace_and_domain.ensures
