@@ -1,45 +1,65 @@
-//! Worked values, and each public call at a concrete type through its bound.
+//! Worked values of the prime field. Inverses and roots of unity are those of Python's `pow`.
 
-use crate::encoding::has_bytes;
+use crate::prime::{PrimeCases, wrong_call};
 use p3_field::laws::{baby_bear_law, two_adic_order_law};
-use p3_field::{BabyBear, ExtensionField, Field, PrimeField64, TwoAdicField};
-use p3_test_fields::{field_values, first_wrong};
+use p3_field::{BabyBear, ExtensionField, Field};
 
-/// The canonical numbers of what the calls of a prime field give at 5 and 7, and its constants.
-const FIELD_VALUES: [(&str, u64); 13] = [
-    ("5 + 7", 12),
-    ("5 - 7", 2013265919),
-    ("5 * 7", 35),
-    ("-5", 2013265916),
-    ("5 doubled", 10),
-    ("5 squared", 25),
-    ("1 halved", 1006632961),
-    ("5 to the power 3", 125),
-    ("5 to the power 2^2", 625),
-    ("2", 2),
-    ("bits", 31),
-    ("order", 2013265921),
-    ("generator", 31),
-];
+static CASES: PrimeCases = PrimeCases {
+    values: &[
+        ("5 + 7", 12),
+        ("5 - 7", 2013265919),
+        ("5 * 7", 35),
+        ("-5", 2013265916),
+        ("5 doubled", 10),
+        ("5 squared", 25),
+        ("1 halved", 1006632961),
+        ("5 to the power 3", 125),
+        ("5 to the power 2^2", 625),
+        ("2", 2),
+        ("bits", 31),
+        ("order", 2013265921),
+        ("generator", 31),
+    ],
+    products: &[(5, 7, 35), (2013265920, 440564289, 1572701632)],
+    inverses: &[
+        (1, 1),
+        (2, 1006632961),
+        (3, 1342177281),
+        (4, 1509949441),
+        (5, 1610612737),
+        (6, 1677721601),
+        (7, 862828252),
+        (8, 1761607681),
+        (9, 447392427),
+        (10, 1811939329),
+    ],
+    words: &[
+        (0, 0),
+        (2_013_265_920, 2_013_265_920),
+        (2_013_265_921, 0),
+        (2_013_265_928, 7),
+        (0x903d_f1a0_ade0_b876, 1_378_443_179),
+        (1 << 63, 1_592_717_042),
+        (u64::MAX, 1_172_168_162),
+    ],
+    roots: &[
+        (0, 1),
+        (1, 2013265920),
+        (2, 1728404513),
+        (3, 1592366214),
+        (27, 440564289),
+    ],
+    two_adicity: (27, 15),
+    factors: &[0, 1, 2013265920, 440564289],
+    bytes: &[0xfe, 0xff, 0xff, 0x77],
+};
 
-/// The first of the first ten positive numbers which times its inverse isn't one, or zero if it has
-/// an inverse.
-fn first_wrong_inverse<F: Field>() -> Option<u64> {
-    for n in 1..11 {
-        match F::from_u64(n).try_inverse() {
-            Some(inverse) => {
-                if F::from_u64(n) * inverse != F::ONE {
-                    return Some(n);
-                }
-            },
-            None => return Some(n),
-        }
-    }
-    if F::ZERO.try_inverse().is_none() {
-        None
-    } else {
-        Some(0)
-    }
+#[test]
+fn calls_of_the_field(rt: HostRuntime) {
+    let wrong = wrong_call::<BabyBear>(&CASES);
+    assert!(rt; wrong.is_none(), "{wrong:?}");
+    baby_bear_law();
+    two_adic_order_law::<BabyBear>();
 }
 
 /// The sum of the base field's 3 scaled by 4 and the element of the one coefficient 5.
@@ -52,70 +72,12 @@ fn extension_value<F: Field, E: ExtensionField<F>>(coefficients: &[F]) -> Option
     }
 }
 
-/// The generators of logarithms 0, 1 and the two-adicity.
-fn generators<F: TwoAdicField>() -> [F; 3] {
-    [
-        F::two_adic_generator(0),
-        F::two_adic_generator(F::TWO_ADICITY.min(1)),
-        F::two_adic_generator(F::TWO_ADICITY),
-    ]
-}
-
-#[test]
-fn arithmetic_of_five_and_seven(rt: HostRuntime) {
-    let wrong = first_wrong(&field_values::<BabyBear>(), &FIELD_VALUES);
-    assert!(rt; wrong.is_none(), "{wrong:?}");
-}
-
-#[test]
-fn ten_inverses(rt: HostRuntime) {
-    let wrong = first_wrong_inverse::<BabyBear>();
-    assert!(rt; wrong.is_none(), "{wrong:?}");
-    assert!(rt; BabyBear::ZERO.is_zero() && !BabyBear::GENERATOR.is_zero());
-}
-
-/// Numbers past the order, with the canonical numbers of their elements.
-const WRAPPED: [(u64, u64); 3] = [
-    (2013265921, 0),
-    (2013265928, 7),
-    // 2^64 - 1 modulo the order
-    (u64::MAX, 1172168162),
-];
-
-#[test]
-fn numbers_wrap_at_the_order(rt: HostRuntime) {
-    for (number, canonical) in &WRAPPED {
-        let right = *canonical < BabyBear::ORDER_U64
-            && BabyBear::from_u64(*number) == BabyBear::from_canonical(*canonical);
-        assert!(rt; right, "{number}");
-    }
-}
-
-#[test]
-fn roots_of_unity(rt: HostRuntime) {
-    let [first, second, last] = generators::<BabyBear>();
-    let power = BabyBear::GENERATOR.exp_u64(15);
-    assert!(rt; first == BabyBear::ONE);
-    assert!(rt; second == -BabyBear::ONE);
-    assert!(rt; power == last);
-    let numbers = (last.as_canonical_u64(), BabyBear::TWO_ADICITY);
-    assert!(rt; numbers == (440564289, 27));
-    baby_bear_law();
-    two_adic_order_law::<BabyBear>();
-}
-
 #[test]
 fn extends_itself(rt: HostRuntime) {
     let five = BabyBear::from_u64(5);
     let value = extension_value::<BabyBear, BabyBear>(&[five]);
     let coefficient = <BabyBear as ExtensionField<BabyBear>>::coefficient(five, 0);
     let dimension = <BabyBear as ExtensionField<BabyBear>>::DIMENSION;
-    assert!(rt; value == Some(BabyBear::from_u64(17)));
-    assert!(rt; (coefficient, dimension) == (five, 1));
-}
-
-#[test]
-fn bytes_are_little_endian(rt: HostRuntime) {
-    let value = -BabyBear::from_u64(3);
-    assert!(rt; has_bytes(value, &[0xfe, 0xff, 0xff, 0x77]));
+    let seventeen = BabyBear::from_u64(17);
+    assert!(rt; value == Some(seventeen) && coefficient == five && dimension == 1);
 }

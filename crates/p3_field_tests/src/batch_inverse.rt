@@ -18,37 +18,33 @@ fn are_nonzero<F: Field>(elements: &[F]) -> bool
     true
 }
 
-/// Whether the batched inverses of these elements are the inverses one by one.
-fn agrees<F: Field>(rt: &impl Abort, alloc: Global, elements: &[F]) -> bool {
-    assert!(rt; are_nonzero(elements), "an element is zero");
-    let inverses = batch_multiplicative_inverse(alloc, elements).expect(rt, "memory");
-    are_inverses(elements, &inverses)
+/// Whether the batched inverses of the elements of these numbers are the inverses one by one.
+fn agrees<F: Field>(rt: &impl Abort, alloc: Global, numbers: &[u64]) -> bool {
+    let mut elements = Vec::new(alloc);
+    for number in numbers {
+        elements.push(F::from_u64(*number)).expect(rt, "memory");
+    }
+    assert!(rt; are_nonzero(&elements), "an element is zero");
+    let inverses = batch_multiplicative_inverse(alloc, &elements).expect(rt, "memory");
+    are_inverses(&elements, &inverses)
 }
 
 /// Whether there are as many inverses as elements, and each product is one.
 fn are_inverses<F: Field>(elements: &[F], inverses: &[F]) -> bool {
-    if inverses.len() != elements.len() {
-        return false;
+    let mut right = inverses.len() == elements.len();
+    for (element, inverse) in elements.iter().zip(inverses) {
+        right = right && *element * *inverse == F::ONE;
     }
-    for i in 0..elements.len() {
-        if elements[i] * inverses[i] != F::ONE {
-            return false;
-        }
-    }
-    true
+    right
 }
+
+static LISTS: [&[u64]; 3] = [&[], &[7], &[1, 2, 3, 4, 2013265920]];
 
 #[test]
 fn inverts_lists_of_length_0_1_and_5(rt: HostRuntime) {
-    let seven = BabyBear::from_u64(7);
-    assert!(rt; agrees::<BabyBear>(&rt, rt.alloc(), &[]));
-    assert!(rt; agrees(&rt, rt.alloc(), &[seven]));
-    let five = [1, 2, 3, 4, 2013265920].map(BabyBear::from_u64);
-    assert!(rt; agrees(&rt, rt.alloc(), &five));
-
-    let seven = BabyBear4::from_u64(7);
-    assert!(rt; agrees::<BabyBear4>(&rt, rt.alloc(), &[]));
-    assert!(rt; agrees(&rt, rt.alloc(), &[seven]));
-    let five = [1, 2, 3, 4, 2013265920].map(BabyBear4::from_u64);
-    assert!(rt; agrees(&rt, rt.alloc(), &five));
+    for numbers in &LISTS {
+        let right = agrees::<BabyBear>(&rt, rt.alloc(), *numbers)
+            && agrees::<BabyBear4>(&rt, rt.alloc(), *numbers);
+        assert!(rt; right);
+    }
 }

@@ -5,14 +5,12 @@ use p3_field::{log2_strict_usize, reverse_bits_len, reverse_slice_index_bits};
 
 #[test]
 fn takes_logarithms(rt: HostRuntime) {
-    assert!(rt; log2_strict_usize(1) == 0);
-    assert!(rt; log2_strict_usize(2) == 1);
     let greatest = log2_strict_usize(1 << 63);
-    assert!(rt; greatest == 63);
+    assert!(rt; log2_strict_usize(1) == 0 && log2_strict_usize(2) == 1 && greatest == 63);
 }
 
 /// Numbers, how many of their digits are reversed, and what that gives.
-const REVERSED: [(usize, usize, usize); 6] = [
+static REVERSED: [(usize, usize, usize); 6] = [
     (0b0, 0, 0b0),
     (0b1, 1, 0b1),
     (0b001, 3, 0b100),
@@ -41,8 +39,6 @@ fn reverses_slices(rt: HostRuntime) {
     let mut eight = [0u32, 1, 2, 3, 4, 5, 6, 7];
     reverse_slice_index_bits(&mut eight);
 
-    assert!(rt; one == [7]);
-    assert!(rt; two == [7, 9]);
-    assert!(rt; eight == [0, 4, 2, 6, 1, 5, 3, 7]);
+    assert!(rt; one == [7] && two == [7, 9] && eight == [0, 4, 2, 6, 1, 5, 3, 7]);
     bit_reversal_law::<u32>();
 }

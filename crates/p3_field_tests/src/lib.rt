@@ -13,6 +13,8 @@ mod coset;
 #[cfg(test)]
 mod encoding;
 #[cfg(test)]
+mod extension;
+#[cfg(test)]
 mod goldilocks;
 #[cfg(test)]
 mod goldilocks2;
@@ -27,8 +29,6 @@ mod lanes;
 #[cfg(test)]
 mod powers;
 #[cfg(test)]
-mod prepared;
+mod prime;
 #[cfg(test)]
 mod row_sums;
-#[cfg(test)]
-mod sample_field;

@@ -11,37 +11,30 @@ use std::process::Abort;
 
 /// Whether the elements are those of these numbers.
 fn are_numbers<F: Field>(elements: &[F], numbers: &[u64]) -> bool {
-    if elements.len() != numbers.len() {
-        return false;
+    let mut right = elements.len() == numbers.len();
+    for (element, number) in elements.iter().zip(numbers) {
+        right = right && *element == F::from_u64(*number);
     }
-    for i in 0..elements.len() {
-        if elements[i] != F::from_u64(numbers[i]) {
-            return false;
-        }
-    }
-    true
+    right
 }
 
-/// Asserts the elements of lists of four powers of 5: from 3 on, in natural and in bit-reversed
-/// order, and from 1 on.
-fn assert_powers_of_five<F: Field>(rt: &impl Abort, alloc: Global) {
+/// Whether the lists of four powers of 5, from 3 on, in natural and in bit-reversed order, and from
+/// 1 on, are right.
+fn are_powers_of_five<F: Field>(rt: &impl Abort, alloc: Global) -> bool {
     let three = F::from_u64(3);
     let five = F::from_u64(5);
     let natural = shifted_powers(alloc, three, five, 4).expect(rt, "memory");
-    assert!(rt; are_numbers(&natural, &[3, 15, 75, 375]), "from 3 on");
     let reversed = bit_reversed_powers(alloc, three, five, 2).expect(rt, "memory");
-    assert!(rt;
-        are_numbers(&reversed, &[3, 75, 15, 375]),
-        "from 3 on, in bit-reversed order"
-    );
     let from_one = powers(alloc, five, 4).expect(rt, "memory");
-    assert!(rt; are_numbers(&from_one, &[1, 5, 25, 125]), "from 1 on");
+    are_numbers(&natural, &[3, 15, 75, 375])
+        && are_numbers(&reversed, &[3, 75, 15, 375])
+        && are_numbers(&from_one, &[1, 5, 25, 125])
 }
 
 #[test]
 fn powers_of_five(rt: HostRuntime) {
-    assert_powers_of_five::<BabyBear>(&rt, rt.alloc());
-    assert_powers_of_five::<BabyBear4>(&rt, rt.alloc());
+    assert!(rt; are_powers_of_five::<BabyBear>(&rt, rt.alloc()));
+    assert!(rt; are_powers_of_five::<BabyBear4>(&rt, rt.alloc()));
 }
 
 #[test]
@@ -58,8 +51,8 @@ fn points_of_a_coset(rt: HostRuntime) {
 #[test]
 fn quotients_by_powers_of_two(rt: HostRuntime) {
     // 2^27 times 15 is -1
-    let greatest = BabyBear::ONE.div_2exp_u64(27).as_canonical_u64();
-    assert!(rt; greatest == 2013265906);
-    assert!(rt; BabyBear::ONE.div_2exp_u64(0) == BabyBear::ONE);
-    assert!(rt; BabyBear4::from_u64(40).div_2exp_u64(3) == BabyBear4::from_u64(5));
+    let right = BabyBear::ONE.div_2exp_u64(27).as_canonical_u64() == 2013265906
+        && BabyBear::ONE.div_2exp_u64(0) == BabyBear::ONE
+        && BabyBear4::from_u64(40).div_2exp_u64(3) == BabyBear4::from_u64(5);
+    assert!(rt; right);
 }
