@@ -1,14 +1,13 @@
 //! Worked values, and values on many domains against Horner's rule.
 
 use crate::extended::{agrees, values_on};
-use crate::rounds::{extended, matrix};
+use crate::rounds::{coset_of, extended, matrix};
 use p3_field::{BabyBear, Field};
 use std::alloc::Global;
 use std::process::Abort;
 
 /// A column that was committed to with blowup 2, the blowup by which it is read, the coset of a
 /// shift and of `2^log_size` points, and its values there.
-#[derive(Clone, Copy)]
 struct Case {
     name: &'static str,
     column: &'static [u64],
@@ -18,7 +17,7 @@ struct Case {
     values: &'static [u64],
 }
 
-const CASES: [Case; 5] = [
+static CASES: [Case; 5] = [
     // at 31 and -31 `2 - X` is -29 and 33
     Case {
         name: "on a larger coset",
@@ -76,9 +75,8 @@ const CASES: [Case; 5] = [
 /// Whether the column has these values there.
 fn is_met(rt: &impl Abort, alloc: Global, case: &Case) -> bool {
     let words = extended(rt, alloc, 1, case.column);
-    let shift = BabyBear::from_u64(case.shift);
-    let values = values_on(rt, alloc, case.log_blowup, &words, shift, case.log_size);
-    values == matrix(rt, alloc, case.values, 1)
+    let domain = coset_of(rt, BabyBear::from_u64(case.shift), case.log_size);
+    values_on(rt, alloc, case.log_blowup, &words, domain) == matrix(rt, alloc, case.values, 1)
 }
 
 #[test]
@@ -88,11 +86,17 @@ fn columns_on_other_domains(rt: HostRuntime) {
     }
 }
 
+/// Coefficients of three polynomials, by the digits of pi.
+static COEFFICIENTS: [u64; 24] = [
+    3, 1, 4, 1, 5, 9, 2, 6, 5, 3, 5, 8, 9, 7, 9, 3, 2, 3, 8, 4, 6, 2, 6, 4,
+];
+
 /// Whether the values on this coset are those by Horner's rule, for 8 coefficients on 16 points and
 /// for 1 on 4.
 fn are_by_horner(rt: &impl Abort, alloc: Global, shift: u64, log_size: usize) -> bool {
-    let shift = BabyBear::from_u64(shift);
-    agrees(rt, alloc, 3, 1, shift, log_size) && agrees(rt, alloc, 0, 2, shift, log_size)
+    let domain = coset_of(rt, BabyBear::from_u64(shift), log_size);
+    agrees(rt, alloc, &COEFFICIENTS, 1, 4, domain)
+        && agrees(rt, alloc, &COEFFICIENTS[..3], 2, 2, domain)
 }
 
 /// From one to 32 points, on the words' own coset and on others.

@@ -7,11 +7,10 @@ ghost use Rattle.p3_matrix.specs.Matrix.{rows};
 ghost use Rattle.p3_fri_openings.specs.Rounds.{HasCoset, IsRound};
 
 use p3_dft::Radix2Dit;
-use p3_field::{
-    BabyBear, BabyBear4, ExtensionField, Field, TwoAdicField, TwoAdicMultiplicativeCoset,
-};
+use p3_field::{BabyBear, BabyBear4, Field, TwoAdicMultiplicativeCoset};
 use p3_fri_batch::batch_words;
 use p3_fri_extensions::extend;
+use p3_fri_folding::FriProverError;
 use p3_fri_openings::{
     Denominators, OpeningRound, check_points, denominators_of_rounds, open_values,
 };
@@ -19,6 +18,8 @@ use p3_matrix::RowMajorMatrix;
 use p3_mmcs::OpenedValues;
 use std::alloc::Global;
 use std::process::Abort;
+
+pub(crate) type Domain = TwoAdicMultiplicativeCoset<BabyBear>;
 
 /// The matrix of these numbers, row by row.
 pub(crate) fn matrix(
@@ -41,12 +42,8 @@ pub(crate) fn matrix(
 }
 
 /// The coset of this shift and of `2^log_size` points.
-pub(crate) fn coset_of<F: TwoAdicField>(
-    rt: &impl Abort,
-    shift: F,
-    log_size: usize,
-) -> TwoAdicMultiplicativeCoset<F> {
-    TwoAdicMultiplicativeCoset::new(shift, log_size).expect(rt, "no such domain")
+pub(crate) fn coset_of(rt: &impl Abort, shift: BabyBear, log_size: usize) -> Domain {
+    Domain::new(shift, log_size).expect(rt, "no such domain")
 }
 
 /// The column of these values on the natural domain of their number, extended.
@@ -72,19 +69,19 @@ pub(crate) fn extended(
 }
 
 /// Whether the matrix stands on a coset.
-pub(crate) fn has_coset<F: TwoAdicField>(matrix: &RowMajorMatrix<F>) -> bool
-    ensures { IsTrue result → HasCoset F.TWO_ADICITY matrix.now }
+pub(crate) fn has_coset(matrix: &RowMajorMatrix<BabyBear>) -> bool
+    ensures { IsTrue result → HasCoset 27 matrix.now }
 {
     let log_height = matrix.height().trailing_zeros() as usize;
-    match TwoAdicMultiplicativeCoset::new(F::GENERATOR, log_height) {
+    match Domain::new(BabyBear::GENERATOR, log_height) {
         Some(coset) => coset.size() == matrix.height(),
         None => false,
     }
 }
 
 /// Whether each of them does.
-fn have_cosets<F: TwoAdicField>(matrices: &[RowMajorMatrix<F>]) -> bool
-    ensures { IsTrue result → All (HasCoset F.TWO_ADICITY) matrices.now }
+fn have_cosets(matrices: &[RowMajorMatrix<BabyBear>]) -> bool
+    ensures { IsTrue result → All (HasCoset 27) matrices.now }
 {
     for matrix in matrices {
         if !has_coset(matrix) {
@@ -94,48 +91,42 @@ fn have_cosets<F: TwoAdicField>(matrices: &[RowMajorMatrix<F>]) -> bool
     true
 }
 
-/// Whether the round may be opened.
-fn is_round<F: TwoAdicField, EF: ExtensionField<F>>(round: &OpeningRound<'_, F, EF>) -> bool
-    ensures { IsTrue result → IsRound F.TWO_ADICITY round.now }
-{
-    if round.points.len() != round.matrices.len() {
-        return false;
-    }
-    have_cosets(round.matrices)
-}
-
-/// Whether each of them may.
-pub(crate) fn are_rounds<F: TwoAdicField, EF: ExtensionField<F>>(
-    rounds: &[OpeningRound<'_, F, EF>],
-) -> bool
-    ensures { IsTrue result → All (IsRound F.TWO_ADICITY) rounds.now }
+/// Whether the rounds may be opened.
+fn are_rounds(rounds: &[OpeningRound<'_, BabyBear, BabyBear4>]) -> bool
+    ensures { IsTrue result → All (IsRound 27) rounds.now }
 {
     for round in rounds {
-        if !is_round(round) {
+        if round.points.len() != round.matrices.len() {
+            return false;
+        }
+        if !have_cosets(round.matrices) {
             return false;
         }
     }
     true
 }
 
-/// What is opened of these rounds, with blowup 2, by which denominators, and the words of the
-/// quotients by the powers of `alpha`.
-pub(crate) fn open<F: TwoAdicField, EF: ExtensionField<F>>(
+/// The values that are opened, by which denominators, and the words of the quotients.
+type Opened = (
+    OpenedValues<BabyBear4>,
+    Denominators<BabyBear, BabyBear4>,
+    Vec<Vec<BabyBear4>>,
+);
+
+/// What is opened of these rounds, with blowup 2, and the words by the powers of `alpha`, unless a
+/// point is refused.
+pub(crate) fn open(
     rt: &impl Abort,
     alloc: Global,
-    alpha: EF,
-    rounds: &[OpeningRound<'_, F, EF>],
-) -> (OpenedValues<EF>, Denominators<F, EF>, Vec<Vec<EF>>) {
+    alpha: BabyBear4,
+    rounds: &[OpeningRound<'_, BabyBear, BabyBear4>],
+) -> Result<Opened, FriProverError> {
     assert!(rt; are_rounds(rounds), "the rounds can't be opened");
-    let Ok(()) = check_points(rounds) else {
-        panic!(rt; "a point lies in its coset");
-    };
+    check_points(rounds)?;
     let denominators = denominators_of_rounds(alloc, rounds).expect(rt, "memory");
     let values = open_values(alloc, 1, rounds, &denominators).expect(rt, "memory");
-    let words = batch_words::<F, EF>(alloc, alpha, rounds, &values, &denominators.entries).expect(
-        rt, "memory",
-    );
-    (values, denominators, words)
+    let words = batch_words(alloc, alpha, rounds, &values, &denominators.entries);
+    Ok((values, denominators, words.expect(rt, "memory")))
 }
 
 /// The matrices and the points of a round.

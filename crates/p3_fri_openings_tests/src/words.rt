@@ -1,13 +1,7 @@
 //! The words of polynomials' columns. The matrices and the words were computed by a plain program
 //! from the definitions.
 
-use crate::rounds::{Held, lent, matrix, open};
-use p3_field::{BabyBear, BabyBear4, ExtensionField, Field};
-use std::alloc::Global;
-use std::process::Abort;
-
-/// The coefficients of an element, that of one first.
-type Coefficients = [u64; 4];
+use crate::opened::{Case, Coefficients, Expected, Form, Round, is_met};
 
 /// The values of `3 + X + 4X^2 + X^3` and `5 + 9X + 2X^2 + 6X^3` on the coset of 8 points.
 const WIDE: [u64; 16] = [
@@ -48,8 +42,6 @@ const FIRST_POINT: Coefficients = [2, 1, 0, 0];
 
 const SECOND_POINT: Coefficients = [0, 0, 3, 5];
 
-const ALPHA: Coefficients = [7, 1, 0, 2];
-
 /// The word of the wide matrix, opened at the first point and at the second, and of the narrow one,
 /// opened at the second and at the first.
 const TALL_WORD: [Coefficients; 8] = [
@@ -66,98 +58,35 @@ const TALL_WORD: [Coefficients; 8] = [
 /// That of the low one, opened at both.
 const LOW_WORD: [Coefficients; 4] = [[24, 3, 0, 6], [24, 3, 0, 6], [24, 3, 0, 6], [24, 3, 0, 6]];
 
-/// The element of these coefficients.
-fn element(coefficients: Coefficients) -> BabyBear4 {
-    let [constant, linear, quadratic, cubic] = coefficients;
-    BabyBear4::from_coefficients(&[
-        BabyBear::from_u64(constant),
-        BabyBear::from_u64(linear),
-        BabyBear::from_u64(quadratic),
-        BabyBear::from_u64(cubic),
-    ])
-}
-
-/// The lists of these coefficients' elements.
-fn lists(rt: &impl Abort, alloc: Global, all: &[&[Coefficients]]) -> Vec<Vec<BabyBear4>> {
-    let mut lists = Vec::new(alloc);
-    for each in all {
-        let mut list = Vec::new(alloc);
-        for coefficients in *each {
-            list.push(element(*coefficients)).expect(rt, "memory");
-        }
-        lists.push(list).expect(rt, "memory");
-    }
-    lists
-}
-
-/// Matrices of these values and widths with points, round by round, and the words of their
-/// quotients.
-#[derive(Clone, Copy)]
-struct Case {
-    name: &'static str,
-    rounds: &'static [Round],
-    words: &'static [&'static [Coefficients]],
-}
-
-#[derive(Clone, Copy)]
-struct Round {
-    matrices: &'static [(&'static [u64], usize)],
-    points: &'static [&'static [Coefficients]],
-}
-
-const CASES: [Case; 3] = [
+static CASES: [Case; 3] = [
     Case {
         name: "two heights at two points",
         rounds: &[
             Round {
-                matrices: &[(&WIDE, 2), (&LOW, 1)],
+                matrices: &[(&WIDE, Form::Words(2)), (&LOW, Form::Words(1))],
                 points: &[&[FIRST_POINT, SECOND_POINT], &[SECOND_POINT, FIRST_POINT]],
             },
             Round {
-                matrices: &[(&NARROW, 1)],
+                matrices: &[(&NARROW, Form::Words(1))],
                 points: &[&[SECOND_POINT, FIRST_POINT]],
             },
         ],
-        words: &[&TALL_WORD, &LOW_WORD],
+        expected: Expected::Words(&[&TALL_WORD, &LOW_WORD]),
     },
     Case {
         name: "constants leave nothing",
         rounds: &[Round {
-            matrices: &[(&[9, 4, 9, 4], 2)],
+            matrices: &[(&[9, 4, 9, 4], Form::Words(2))],
             points: &[&[FIRST_POINT]],
         }],
-        words: &[&[[0, 0, 0, 0], [0, 0, 0, 0]]],
+        expected: Expected::Words(&[&[[0, 0, 0, 0], [0, 0, 0, 0]]]),
     },
     Case {
         name: "no rounds have no words",
         rounds: &[],
-        words: &[],
+        expected: Expected::Words(&[]),
     },
 ];
-
-/// What each round holds.
-fn hold(rt: &impl Abort, alloc: Global, rounds: &[Round]) -> Vec<Held> {
-    let mut all = Vec::new(alloc);
-    for round in rounds {
-        let mut matrices = Vec::new(alloc);
-        for (values, width) in round.matrices {
-            matrices
-                .push(matrix(rt, alloc, *values, *width))
-                .expect(rt, "memory");
-        }
-        let points = lists(rt, alloc, round.points);
-        all.push(Held { matrices, points }).expect(rt, "memory");
-    }
-    all
-}
-
-/// Whether these are the words of the case, opened with blowup 2 to the values of the polynomials.
-fn is_met(rt: &impl Abort, alloc: Global, case: &Case) -> bool {
-    let held = hold(rt, alloc, case.rounds);
-    let rounds = lent(rt, alloc, &held);
-    let (_values, _denominators, words) = open(rt, alloc, element(ALPHA), &rounds);
-    words == lists(rt, alloc, case.words)
-}
 
 #[test]
 fn words_of_quotients(rt: HostRuntime) {

@@ -3,5 +3,5 @@ use Rattle.p3_fri_openings.specs.Rounds.{HasCoset}
 use Rattle.p3_fri_openings_tests.proofs.rounds.have_cosets.Given as goal
 
 abbrev pub invariant-loop-matrix : goal.invariant-loop-matrix
-invariant-loop-matrix g l =
-    All (HasCoset g.F.TwoAdicField.TWO_ADICITY) (take l.matrix-index l.matrices)
+invariant-loop-matrix l =
+    All (HasCoset 27) (take l.matrix-index l.matrices)
