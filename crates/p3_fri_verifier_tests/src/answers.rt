@@ -59,16 +59,33 @@ pub(crate) fn challenger_after(number: u64) -> Sha256Challenger {
     challenger
 }
 
-/// Whether this is the answer to a proof, as text, where the strategy draws so many extra bits with
-/// each index.
+/// A proof with what it is of, the number that its challenger absorbed first, and how that ends.
+#[derive(Drop)]
+pub(crate) struct Made {
+    pub proof: Proof,
+    pub claims: Claims,
+    pub start: u64,
+    pub last: Sha256Challenger,
+}
+
+/// Where an answer leaves the challenger.
+#[derive(Clone, Copy)]
+pub(crate) enum Left {
+    Anywhere,
+    /// As the proof's.
+    AtTheEnd,
+    Unmoved,
+}
+
+/// Whether this is the answer to a proof, as text, or whatever refusal, where the strategy draws so
+/// many extra bits with each index.
 pub(crate) fn is_answer(
     alloc: Global,
     parameters: &Parameters,
     extra_bits: usize,
-    proof: &Proof,
-    claims: &Claims,
-    challenger: &mut Sha256Challenger,
-    expected: &str,
+    made: &Made,
+    expected: Option<&str>,
+    left: Left,
 ) -> bool {
     if parameters.log_blowup > 31
         || parameters.log_final_poly_len > 31
@@ -80,22 +97,30 @@ pub(crate) fn is_answer(
     }
     let plain: Plain = TwoAdicFriFolding(PhantomData);
     let folding = WithExtraBits::new(plain, extra_bits);
-    let input_mmcs = Inputs::new();
+    let mut challenger = challenger_after(made.start);
     let answer = verify_fri::<BabyBear, BabyBear4, Rounds, Inputs, Folding, Sha256Challenger>(
         alloc,
         &folding,
         parameters,
-        proof,
-        challenger,
-        claims,
-        &input_mmcs,
+        &made.proof,
+        &mut challenger,
+        &made.claims,
+        &Inputs::new(),
         constant(7),
     );
+    let is_left = match left {
+        Left::Anywhere => true,
+        Left::AtTheEnd => challenger == made.last,
+        Left::Unmoved => challenger == challenger_after(made.start),
+    };
     let Err(refusal) = answer else {
-        return expected == "accepted";
+        return is_left && expected == Some("accepted");
+    };
+    let Some(name) = expected else {
+        return is_left;
     };
     match format!(in alloc; "{refusal:?}") {
-        Ok(text) => text.as_str() == expected,
+        Ok(text) => is_left && text.as_str() == name,
         Err(_) => false,
     }
 }

@@ -1,6 +1,6 @@
 //! What is claimed of columns, and proofs without rounds.
 
-use crate::answers::{Claims, Domain, InputOpening, Proof, constant};
+use crate::answers::{Claims, Domain, InputOpening, Made, challenger_after, constant};
 use p3_field::{BabyBear, BabyBear4, Field};
 use p3_fri_relation::proof::FriProof;
 use p3_mmcs::{CommitmentOpening, MatrixOpening, PointOpening};
@@ -28,30 +28,25 @@ pub(crate) fn matrix_claim(
     MatrixOpening { domain, points }
 }
 
-/// The same of the only column that is committed to.
-pub(crate) fn column_claims(
-    rt: &impl Abort,
-    alloc: Global,
-    commitment: [u8; 32],
-    log_size: usize,
-    value: Option<u64>,
-) -> Claims {
-    let claim = matrix_claim(rt, alloc, log_size, 1, value);
+/// That the only column that is committed to is 9 there.
+pub(crate) fn column_claims(rt: &impl Abort, alloc: Global, log_size: usize) -> Claims {
+    let claim = matrix_claim(rt, alloc, log_size, 1, Some(9));
     let matrices = vec![in alloc; claim].expect(rt, "memory");
     let claim = CommitmentOpening {
-        commitment,
+        commitment: [0; 32],
         matrices,
     };
     vec![in alloc; claim].expect(rt, "memory")
 }
 
-/// A proof without rounds, whose final polynomial is zero.
+/// A proof of these claims without rounds, whose final polynomial is zero.
 pub(crate) fn bare_proof(
     rt: &impl Abort,
     alloc: Global,
+    claims: Claims,
     input_openings: Vec<InputOpening>,
-) -> Proof {
-    FriProof {
+) -> Made {
+    let proof = FriProof {
         batch_pow_witness: BabyBear::ZERO,
         commit_phase_commits: Vec::new(alloc),
         commit_pow_witnesses: Vec::new(alloc),
@@ -59,5 +54,11 @@ pub(crate) fn bare_proof(
         commit_phase_openings: Vec::new(alloc),
         final_poly: vec![in alloc; BabyBear4::ZERO].expect(rt, "memory"),
         query_pow_witness: BabyBear::ZERO,
+    };
+    Made {
+        proof,
+        claims,
+        start: 1,
+        last: challenger_after(1),
     }
 }

@@ -5,110 +5,99 @@ use p3_fri_pcs_transcript::pcs_transcript::PcsTranscriptFailure;
 use p3_fri_relation::error::FriError;
 use p3_fri_transcript::transcript::TranscriptFailure;
 use p3_mmcs::Sha256MmcsError;
-use std::alloc::{AllocError, Global};
-use std::process::Abort;
+use std::alloc::AllocError;
 
 type Refusal = FriError<Sha256MmcsError, Sha256MmcsError>;
 
-fn test_refused(failure: TranscriptFailure) -> Result<(), Refusal> {
-    Err(failure)?;
+/// What fails.
+enum Failure {
+    /// The test's transcript.
+    Test(TranscriptFailure),
+    /// The transcript around it.
+    Around(PcsTranscriptFailure),
+    Memory,
+}
+
+/// What `?` makes of the failure.
+fn refused(failure: &Failure) -> Result<(), Refusal> {
+    match failure {
+        Failure::Test(failure) => Err(*failure)?,
+        Failure::Around(failure) => Err(*failure)?,
+        Failure::Memory => Err(AllocError)?,
+    }
     Ok(())
 }
 
-fn scheme_refused(failure: PcsTranscriptFailure) -> Result<(), Refusal> {
-    Err(failure)?;
-    Ok(())
-}
-
-fn memory_refused() -> Result<(), Refusal> {
-    Err(AllocError)?;
-    Ok(())
-}
-
-/// Failures of the test, and how what they become prints.
-const OF_THE_TEST: [(TranscriptFailure, &str); 6] = [
+/// Failures, and how what they become prints: those of the test keep their numbers, and those around
+/// it are of its phase.
+static FAILURES: [(Failure, &str); 11] = [
     (
-        TranscriptFailure::PowWitness(PowPhase::CommitPhase),
+        Failure::Test(TranscriptFailure::PowWitness(PowPhase::CommitPhase)),
         "Err(InvalidPowWitness(CommitPhase))",
     ),
     (
-        TranscriptFailure::MissingPowWitness(PowPhase::Query),
+        Failure::Test(TranscriptFailure::MissingPowWitness(PowPhase::Query)),
         "Err(InvalidPowWitness(Query))",
     ),
     (
-        TranscriptFailure::FinalPolyLen {
+        Failure::Test(TranscriptFailure::FinalPolyLen {
             expected: 1,
             got: 3,
-        },
+        }),
         "Err(FinalPolyLengthMismatch { expected: 1, got: 3 })",
     ),
     (
-        TranscriptFailure::CommitRoundCount {
+        Failure::Test(TranscriptFailure::CommitRoundCount {
             expected: 3,
             got: 50,
-        },
+        }),
         "Err(CommitRoundCountMismatch { expected: 3, got: 50 })",
     ),
     (
-        TranscriptFailure::CommitPowWitnessCount {
+        Failure::Test(TranscriptFailure::CommitPowWitnessCount {
             expected: 3,
             got: 2,
-        },
+        }),
         "Err(CommitPowWitnessCountMismatch { expected: 3, got: 2 })",
     ),
-    (TranscriptFailure::OutOfMemory, "Err(OutOfMemory)"),
-];
-
-/// Whether an answer prints so.
-fn prints(rt: &impl Abort, alloc: Global, answer: Result<(), Refusal>, wanted: &str) -> bool {
-    format!(in alloc; "{answer:?}")
-        .expect(rt, "memory")
-        .as_str()
-        == wanted
-}
-
-#[test]
-fn failures_of_the_test_keep_their_numbers(rt: HostRuntime) {
-    let alloc = rt.alloc();
-    for (failure, wanted) in &OF_THE_TEST {
-        let is_met = prints(&rt, alloc, test_refused(*failure), *wanted);
-        assert!(rt; is_met, "{wanted}");
-    }
-}
-
-/// Failures around the test, and how what they become prints.
-const AROUND_THE_TEST: [(PcsTranscriptFailure, &str); 4] = [
     (
-        PcsTranscriptFailure::ClaimedEvaluationCount {
+        Failure::Test(TranscriptFailure::OutOfMemory),
+        "Err(OutOfMemory)",
+    ),
+    (
+        Failure::Around(PcsTranscriptFailure::ClaimedEvaluationCount {
             opening: 4,
             expected: 2,
             got: 3,
-        },
+        }),
         "Err(ClaimedEvaluationCountMismatch { opening: 4, expected: 2, got: 3 })",
     ),
     (
-        PcsTranscriptFailure::PowWitness { bits: 8 },
+        Failure::Around(PcsTranscriptFailure::PowWitness { bits: 8 }),
         "Err(InvalidPowWitness(Batch))",
     ),
     (
-        PcsTranscriptFailure::MissingPowWitness { bits: 8 },
+        Failure::Around(PcsTranscriptFailure::MissingPowWitness { bits: 8 }),
         "Err(InvalidPowWitness(Batch))",
     ),
-    (PcsTranscriptFailure::OutOfMemory, "Err(OutOfMemory)"),
+    (
+        Failure::Around(PcsTranscriptFailure::OutOfMemory),
+        "Err(OutOfMemory)",
+    ),
+    (Failure::Memory, "Err(OutOfMemory)"),
 ];
 
 #[test]
-fn failures_around_the_test_are_of_its_phase(rt: HostRuntime) {
-    let alloc = rt.alloc();
-    for (failure, wanted) in &AROUND_THE_TEST {
-        let is_met = prints(&rt, alloc, scheme_refused(*failure), *wanted);
-        assert!(rt; is_met, "{failure:?}");
+fn failures_become_refusals(rt: HostRuntime) {
+    for (failure, wanted) in &FAILURES {
+        let answer = refused(failure);
+        let text = format!(in rt.alloc(); "{answer:?}").expect(&rt, "memory");
+        assert!(rt; text.as_str() == *wanted, "{wanted}");
     }
-    assert!(rt; prints(&rt, alloc, memory_refused(), "Err(OutOfMemory)"));
 }
 
 /// Refusals, and the words for them.
-const REFUSALS: [(Refusal, &str); 4] = [
+static REFUSALS: [(Refusal, &str); 4] = [
     (
         FriError::SiblingValuesLengthMismatch {
             round: 0,
@@ -132,9 +121,8 @@ const REFUSALS: [(Refusal, &str); 4] = [
 
 #[test]
 fn refusals_say_what_was_found(rt: HostRuntime) {
-    let alloc = rt.alloc();
     for (refusal, wanted) in &REFUSALS {
-        let text = format!(in alloc; "{refusal}").expect(&rt, "memory");
+        let text = format!(in rt.alloc(); "{refusal}").expect(&rt, "memory");
         assert!(rt; text.as_str() == *wanted, "{wanted}");
     }
 }

@@ -1,11 +1,12 @@
-//! Proofs made by hand, at a blowup of 2, of columns that hold `X`. What is claimed of each at the
-//! point 2 is 2, so each quotient is 1 everywhere, and the words of all rounds are one constant.
+//! Proofs made by hand, at a blowup of 2, of four columns that hold `X`. What is claimed of each at
+//! the point 2 is 2, so each quotient is 1 everywhere, and the words of all rounds are one constant.
+//! Or they hold the number 9: then each quotient is zero.
 
-ghost use Rattle.std.specs.Prelude.{◌≤◌, ◌<◌};
+ghost use Rattle.std.specs.Prelude.{◌≡◌, ◌≤◌, ◌<◌};
 
 use crate::answers::{
-    Claims, Domain, InputOpening, Inputs, Parameters, Proof, RoundOpening, Rounds,
-    challenger_after, constant,
+    Claims, Domain, InputOpening, Inputs, Made, Parameters, RoundOpening, Rounds, challenger_after,
+    constant, plain_parameters,
 };
 use crate::claims::matrix_claim;
 use crate::commitments::{committed, matrix_of, opened};
@@ -26,20 +27,54 @@ type RoundData = <Rounds as Mmcs<BabyBear4>>::ProverData;
 /// The sum of four quotients of 1 by the powers of 7.
 const SUM: u64 = 1 + 7 + 49 + 343;
 
-/// A proof with what it is of, and what its transcript draws and ends in.
-#[derive(Drop)]
-pub(crate) struct Honest {
-    pub proof: Proof,
-    pub claims: Claims,
-    pub drawn: Vec<usize>,
-    pub positions: Vec<usize>,
-    pub last: Sha256Challenger,
+/// What a proof is made of, and how.
+#[derive(Clone, Copy)]
+pub(crate) struct Setting {
+    /// Whether the columns hold `X`, or the number 9.
+    pub is_line: bool,
+    /// What is claimed of each at the point 2, if anything is.
+    pub claimed: Option<u64>,
+    pub log_size: usize,
+    pub num_queries: usize,
+    pub max_log_arity: usize,
+    pub log_final_poly_len: usize,
+    pub extra_bits: usize,
+    /// What the challenger absorbs first.
+    pub start: u64,
+    /// The indices that it has to draw, where that matters.
+    pub drawn: &'static [usize],
 }
 
-/// The matrix of this log height that has in each row `width` times the point that it stands for.
-fn points_matrix(
+/// Columns that hold `X`, on two points, and two queries, which fold by two to a constant.
+pub(crate) const LINES: Setting = Setting {
+    is_line: true,
+    claimed: Some(2),
+    log_size: 1,
+    num_queries: 2,
+    max_log_arity: 1,
+    log_final_poly_len: 0,
+    extra_bits: 0,
+    start: 1,
+    drawn: &[],
+};
+
+/// The parameters of a setting.
+pub(crate) fn parameters_of(setting: &Setting) -> Parameters
+    ensures { result.log_final_poly_len ≡ setting.now.log_final_poly_len }
+{
+    let mut parameters = plain_parameters();
+    parameters.num_queries = setting.num_queries;
+    parameters.max_log_arity = setting.max_log_arity;
+    parameters.log_final_poly_len = setting.log_final_poly_len;
+    parameters
+}
+
+/// The matrix of this log height that has in each row `width` times the point that it stands for, or
+/// the number 9.
+fn columns(
     rt: &impl Abort,
     alloc: Global,
+    is_line: bool,
     log_height: usize,
     width: usize,
 ) -> RowMajorMatrix<BabyBear> {
@@ -47,59 +82,65 @@ fn points_matrix(
     let points = coset.bit_reversed_points(alloc).expect(rt, "memory");
     let mut values = Vec::new(alloc);
     for point in &points {
+        let value = if is_line {
+            *point
+        } else {
+            BabyBear::from_u64(9)
+        };
         for _ in 0..width {
-            values.push(*point).expect(rt, "memory");
+            values.push(value).expect(rt, "memory");
         }
     }
     matrix_of(rt, values, width)
 }
 
-/// The commitment to matrices.
-pub(crate) fn commit_matrices(
-    rt: &impl Abort,
-    alloc: Global,
-    matrices: Vec<RowMajorMatrix<BabyBear>>,
-) -> ([u8; 32], InputData) {
-    committed(rt, alloc, &Inputs::new(), matrices)
-}
+/// The widths of the matrices of each commitment.
+static WIDTHS: [&[usize]; 2] = [&[2, 1], &[1]];
 
-/// One commitment to matrices of these widths, and what is claimed of them.
-fn commit_inputs(
-    rt: &impl Abort,
-    alloc: Global,
-    log_size: usize,
-    widths: &[usize],
-) -> (CommitmentOpening<BabyBear4, [u8; 32], Domain>, InputData)
-    requires { log_size ≤ 8 }
+/// One commitment to two matrices, of two columns and of one, and one to a matrix of a column, and
+/// what is claimed of them.
+fn commit_inputs(rt: &impl Abort, alloc: Global, setting: &Setting) -> (Claims, Vec<InputData>)
+    requires { setting.now.log_size ≤ 8 }
 {
-    let mut matrices = Vec::new(alloc);
-    let mut claimed = Vec::new(alloc);
-    for width in widths {
-        let matrix = points_matrix(rt, alloc, log_size + 1, *width);
-        matrices.push(matrix).expect(rt, "memory");
-        let claim = matrix_claim(rt, alloc, log_size, *width, Some(2));
-        claimed.push(claim).expect(rt, "memory");
+    let mut claims = Vec::new(alloc);
+    let mut inputs = Vec::new(alloc);
+    for widths in &WIDTHS {
+        let mut all = Vec::new(alloc);
+        let mut matrices = Vec::new(alloc);
+        for width in *widths {
+            let matrix = columns(rt, alloc, setting.is_line, setting.log_size + 1, *width);
+            all.push(matrix).expect(rt, "memory");
+            let claim = matrix_claim(rt, alloc, setting.log_size, *width, setting.claimed);
+            matrices.push(claim).expect(rt, "memory");
+        }
+        let (commitment, data) = committed(rt, alloc, &Inputs::new(), all);
+        let claim = CommitmentOpening {
+            commitment,
+            matrices,
+        };
+        claims.push(claim).expect(rt, "memory");
+        inputs.push(data).expect(rt, "memory");
     }
-    let (commitment, data) = commit_matrices(rt, alloc, matrices);
-    let claim = CommitmentOpening {
-        commitment,
-        matrices: claimed,
-    };
-    (claim, data)
+    (claims, inputs)
 }
 
-/// What is opened of these at the positions.
-pub(crate) fn open_inputs(
+/// What is opened of all inputs at these positions.
+fn open_inputs(
     rt: &impl Abort,
     alloc: Global,
-    data: &InputData,
+    inputs: &[InputData],
     positions: &[usize],
-) -> InputOpening {
-    let (opened_values, opening_proof) = opened(rt, alloc, &Inputs::new(), data, positions);
-    BatchMultiOpening {
-        opened_values,
-        opening_proof,
+) -> Vec<InputOpening> {
+    let mut openings = Vec::new(alloc);
+    for data in inputs {
+        let (opened_values, opening_proof) = opened(rt, alloc, &Inputs::new(), data, positions);
+        let opening = BatchMultiOpening {
+            opened_values,
+            opening_proof,
+        };
+        openings.push(opening).expect(rt, "memory");
     }
+    openings
 }
 
 /// The commitment of a round that leaves a word of this log height.
@@ -190,138 +231,87 @@ fn open_rounds(
     openings
 }
 
-/// The indices that the test's transcript draws.
-pub(crate) fn drawn_indices(
+/// The indices that the test's transcript draws, and the challenger in which it ends.
+fn drawn_indices(
     rt: &impl Abort,
     alloc: Global,
-    parameters: &Parameters,
-    log_arities: &[usize],
-    index_bits: usize,
-    commitments: &[[u8; 32]],
-    final_poly: &[BabyBear4],
-    challenger: &mut Sha256Challenger,
-) -> Vec<usize> {
+    setting: &Setting,
+    schedule: Vec<usize>,
+    messages: FriMessages<'_, BabyBear, BabyBear4, [u8; 32]>,
+) -> (Vec<usize>, Sha256Challenger)
+    requires log_size { setting.now.log_size ≤ 8 }
+    requires extra_bits { setting.now.extra_bits ≤ 3 }
+    requires log_final_poly_len { setting.now.log_final_poly_len ≤ 8 }
+{
+    let parameters = parameters_of(setting);
     assert!(rt;
-        parameters.log_final_poly_len <= 31
-            && parameters.commit_proof_of_work_bits <= 63
-            && parameters.query_proof_of_work_bits <= 63
-            && index_bits <= 63,
+        parameters.commit_proof_of_work_bits <= 63 && parameters.query_proof_of_work_bits <= 63,
         "not conditions of the transcript"
     );
-    let rounds = Vec::from_slice(alloc, log_arities).expect(rt, "memory");
-    let shape = FriShape::with_schedule(parameters, rounds, index_bits);
-    let witnesses = vec![in alloc; BabyBear::ZERO; log_arities.len()].expect(rt, "memory");
-    let messages = FriMessages::<BabyBear, BabyBear4, [u8; 32]> {
-        commitments,
-        commit_witnesses: witnesses.as_slice(),
-        final_poly,
-        query_witness: Some(BabyBear::ZERO),
+    let index_bits = setting.log_size + 1 + setting.extra_bits;
+    let shape = FriShape::with_schedule(&parameters, schedule, index_bits);
+    let mut challenger = challenger_after(setting.start);
+    let Ok(replayed) = replay_fri(alloc, &mut challenger, shape, messages) else {
+        panic!(rt; "the transcript is refused")
     };
-    match replay_fri(alloc, challenger, shape, messages) {
-        Ok(replayed) => replayed.indices,
-        Err(_) => panic!(rt; "the transcript is refused"),
-    }
+    assert!(rt;
+        setting.drawn.is_empty() || replayed.indices.as_slice() == setting.drawn,
+        "other indices"
+    );
+    (replayed.indices, challenger)
 }
 
 /// The final polynomial: the constant, with zeros up to the length that the parameters fix.
-fn final_poly_of(rt: &impl Abort, alloc: Global, log_len: usize) -> Vec<BabyBear4>
-    requires { log_len < 64 }
+fn final_poly_of(rt: &impl Abort, alloc: Global, setting: &Setting) -> Vec<BabyBear4>
+    requires { setting.now.log_final_poly_len < 64 }
 {
-    let mut coefficients = vec![in alloc; BabyBear4::ZERO; 1 << log_len].expect(rt, "memory");
-    if let Some(first) = coefficients.first_mut() {
+    let length = 1 << setting.log_final_poly_len;
+    let mut coefficients = vec![in alloc; BabyBear4::ZERO; length].expect(rt, "memory");
+    if let (true, Some(first)) = (setting.is_line, coefficients.first_mut()) {
         *first = constant(SUM);
     }
     coefficients
 }
 
-/// The widths of the matrices of each commitment.
-const WIDTHS: [&[usize]; 2] = [&[2, 1], &[1]];
-
-/// One commitment to two matrices, of two columns and of one, and one to a matrix of a column, and
-/// what is claimed of them.
-fn commit_all_inputs(rt: &impl Abort, alloc: Global, log_size: usize) -> (Claims, Vec<InputData>)
-    requires { log_size ≤ 8 }
-{
-    let mut claims = Vec::new(alloc);
-    let mut inputs = Vec::new(alloc);
-    for widths in &WIDTHS {
-        let (claim, data) = commit_inputs(rt, alloc, log_size, *widths);
-        claims.push(claim).expect(rt, "memory");
-        inputs.push(data).expect(rt, "memory");
-    }
-    (claims, inputs)
-}
-
-/// What is opened of all inputs at these positions.
-fn open_all_inputs(
-    rt: &impl Abort,
-    alloc: Global,
-    inputs: &[InputData],
-    positions: &[usize],
-) -> Vec<InputOpening> {
-    let mut openings = Vec::new(alloc);
-    for data in inputs {
-        let opening = open_inputs(rt, alloc, data, positions);
-        openings.push(opening).expect(rt, "memory");
-    }
-    openings
-}
-
-/// The log arities of the rounds from this height down to that of the final polynomial's word.
-fn schedule_of(rt: &impl Abort, alloc: Global, parameters: &Parameters, height: usize) -> Vec<usize>
-    requires { parameters.now.log_final_poly_len ≤ 8 }
-{
-    let cap = parameters.max_log_arity;
-    assert!(rt; cap > 0, "no cap");
-    let final_height = 1 + parameters.log_final_poly_len;
-    fold_schedule(alloc, &[height], final_height, cap).expect(rt, "memory")
-}
-
-/// An honest proof on domains of log size `log_size`, by a challenger that first absorbed `start`.
-pub(crate) fn make_honest(
-    rt: &impl Abort,
-    alloc: Global,
-    parameters: &Parameters,
-    log_size: usize,
-    extra_bits: usize,
-    start: u64,
-) -> Honest {
+/// An honest proof of the setting.
+pub(crate) fn make_honest(rt: &impl Abort, alloc: Global, setting: &Setting) -> Made {
+    let log_len = setting.log_final_poly_len;
     assert!(rt;
-        log_size <= 8 && extra_bits <= 3 && parameters.log_final_poly_len <= 8,
+        setting.log_size <= 8
+            && setting.extra_bits <= 3
+            && log_len <= 8
+            && setting.max_log_arity > 0,
         "a large proof"
     );
-    let height = log_size + 1;
-    let log_arities = schedule_of(rt, alloc, parameters, height);
+    let height = setting.log_size + 1;
+    let log_arities = fold_schedule(alloc, &[height], 1 + log_len, setting.max_log_arity);
+    let log_arities = log_arities.expect(rt, "memory");
     let (commitments, rounds) = commit_rounds(rt, alloc, height, &log_arities);
-    let (claims, inputs) = commit_all_inputs(rt, alloc, log_size);
-    let final_poly = final_poly_of(rt, alloc, parameters.log_final_poly_len);
-    let mut last = challenger_after(start);
-    let drawn = drawn_indices(
-        rt,
-        alloc,
-        parameters,
-        &log_arities,
-        height + extra_bits,
-        &commitments,
-        &final_poly,
-        &mut last,
-    );
-    let positions = shifted(rt, alloc, &drawn, extra_bits);
+    let (claims, inputs) = commit_inputs(rt, alloc, setting);
+    let final_poly = final_poly_of(rt, alloc, setting);
     let witnesses = vec![in alloc; BabyBear::ZERO; log_arities.len()].expect(rt, "memory");
+    let schedule = Vec::from_slice(alloc, &log_arities).expect(rt, "memory");
+    let messages = FriMessages::<BabyBear, BabyBear4, [u8; 32]> {
+        commitments: &commitments,
+        commit_witnesses: &witnesses,
+        final_poly: &final_poly,
+        query_witness: Some(BabyBear::ZERO),
+    };
+    let (drawn, last) = drawn_indices(rt, alloc, setting, schedule, messages);
+    let positions = shifted(rt, alloc, &drawn, setting.extra_bits);
     let proof = FriProof {
         batch_pow_witness: BabyBear::ZERO,
         commit_phase_commits: commitments,
         commit_pow_witnesses: witnesses,
-        input_openings: open_all_inputs(rt, alloc, &inputs, &positions),
+        input_openings: open_inputs(rt, alloc, &inputs, &positions),
         commit_phase_openings: open_rounds(rt, alloc, &log_arities, &rounds, &positions),
         final_poly,
         query_pow_witness: BabyBear::ZERO,
     };
-    Honest {
+    Made {
         proof,
         claims,
-        drawn,
-        positions,
+        start: setting.start,
         last,
     }
 }

@@ -1,15 +1,12 @@
-//! Parameters, claims, openings and witnesses that are refused by name, before anything is drawn.
+//! Parameters, claims and openings that are refused by name, before anything is drawn.
 
-use crate::answers::{Parameters, challenger_after, is_answer, plain_parameters};
+use crate::answers::{Left, Parameters, is_answer, plain_parameters};
 use crate::claims::{bare_proof, column_claims};
-use crate::honest::make_honest;
-use p3_field::{BabyBear, Field};
 use p3_fri_relation::proof::BatchMultiOpening;
 use std::alloc::Global;
 use std::process::Abort;
 
 /// Parameters, the log size of a claimed domain and how many openings a proof has, and the refusal.
-#[derive(Clone, Copy)]
 struct Case {
     num_queries: usize,
     log_blowup: usize,
@@ -30,7 +27,7 @@ const PLAIN: Case = Case {
     refusal: "",
 };
 
-const CASES: [Case; 8] = [
+static CASES: [Case; 8] = [
     // parameters at zero
     Case {
         num_queries: 0,
@@ -91,7 +88,7 @@ fn parameters_of(case: &Case) -> Parameters {
 /// Whether the bare proof of that claim, or of none, is refused so by a new challenger.
 fn is_met(rt: &impl Abort, alloc: Global, case: &Case) -> bool {
     let claims = match case.log_size {
-        Some(log_size) => column_claims(rt, alloc, [0; 32], log_size, Some(9)),
+        Some(log_size) => column_claims(rt, alloc, log_size),
         None => Vec::new(alloc),
     };
     let mut inputs = Vec::new(alloc);
@@ -102,39 +99,21 @@ fn is_met(rt: &impl Abort, alloc: Global, case: &Case) -> bool {
         };
         inputs.push(opening).expect(rt, "memory");
     }
-    let proof = bare_proof(rt, alloc, inputs);
-    let mut verifier = challenger_after(1);
+    let made = bare_proof(rt, alloc, claims, inputs);
     let parameters = parameters_of(case);
     is_answer(
         alloc,
         &parameters,
         0,
-        &proof,
-        &claims,
-        &mut verifier,
-        case.refusal,
+        &made,
+        Some(case.refusal),
+        Left::Anywhere,
     )
-}
-
-/// Whether a batch witness at no bits is refused by its name, with the challenger as it was.
-fn is_witness_named(rt: &impl Abort, alloc: Global) -> bool {
-    let parameters = plain_parameters();
-    let mut honest = make_honest(rt, alloc, &parameters, 1, 0, 1);
-    honest.proof.batch_pow_witness = BabyBear::ONE;
-    let (mut verifier, text) = (
-        challenger_after(1),
-        "NonCanonicalPowWitness { phase: Batch }",
-    );
-    let (proof, claims) = (&honest.proof, &honest.claims);
-    let is_named = is_answer(alloc, &parameters, 0, proof, claims, &mut verifier, text);
-    is_named && verifier == challenger_after(1)
 }
 
 #[test]
 fn instances_are_refused_by_name(rt: HostRuntime) {
-    let alloc = rt.alloc();
     for case in &CASES {
-        assert!(rt; is_met(&rt, alloc, case), "{}", case.refusal);
+        assert!(rt; is_met(&rt, rt.alloc(), case), "{}", case.refusal);
     }
-    assert!(rt; is_witness_named(&rt, alloc));
 }

@@ -4,11 +4,11 @@
 #[cfg(test)]
 mod answers;
 #[cfg(test)]
+mod cases;
+#[cfg(test)]
 mod claims;
 #[cfg(test)]
 mod commitments;
-#[cfg(test)]
-mod constants;
 #[cfg(test)]
 mod error;
 #[cfg(test)]

@@ -1,9 +1,7 @@
 //! An honest proof with each kind of its lists cut, lengthened or emptied, and the refusal's name.
 
-use crate::answers::{
-    InputOpening, Proof, RoundOpening, challenger_after, constant, is_answer, plain_parameters,
-};
-use crate::honest::make_honest;
+use crate::answers::{InputOpening, Left, Proof, RoundOpening, constant};
+use crate::cases::{ACCEPTED, Case, Changed, TWO_ROUNDS, is_met};
 use p3_field::{BabyBear, Field};
 use p3_fri_relation::proof::{BatchMultiOpening, CommitPhaseMultiStep};
 use std::alloc::Global;
@@ -11,8 +9,8 @@ use std::process::Abort;
 
 /// A list of a proof; of the rounds, commitments, queries and matrices that have one each, the
 /// first's.
-#[derive(Clone, Copy, Debug)]
-enum List {
+#[derive(Clone, Copy)]
+pub(crate) enum List {
     Rounds,
     Commitments,
     CommitWitnesses,
@@ -30,14 +28,14 @@ enum List {
 }
 
 /// What becomes of a list.
-#[derive(Clone, Copy, Debug)]
-enum Change {
+#[derive(Clone, Copy)]
+pub(crate) enum Change {
     Cut,
     Lengthened,
     Emptied,
 }
 
-const CHANGES: [Change; 3] = [Change::Cut, Change::Lengthened, Change::Emptied];
+static CHANGES: [Change; 3] = [Change::Cut, Change::Lengthened, Change::Emptied];
 
 fn changed<T: Drop>(rt: &impl Abort, list: &mut Vec<T>, change: Change, more: T) {
     match change {
@@ -113,7 +111,13 @@ fn change_rows(
 }
 
 /// Changes a list of the proof.
-fn change_list(rt: &impl Abort, alloc: Global, proof: &mut Proof, list: List, change: Change) {
+pub(crate) fn change_list(
+    rt: &impl Abort,
+    alloc: Global,
+    proof: &mut Proof,
+    list: List,
+    change: Change,
+) {
     match list {
         List::Rounds => {
             let more = CommitPhaseMultiStep {
@@ -147,39 +151,9 @@ fn change_list(rt: &impl Abort, alloc: Global, proof: &mut Proof, list: List, ch
     }
 }
 
-/// Whether this is the answer to an honest proof of two rounds, which fold by four and by two to a
-/// final polynomial of two coefficients, with one list changed or as it is. It is made without
-/// proofs of work, and verified with one of so many bits before the queries.
-fn is_answered(
-    rt: &impl Abort,
-    alloc: Global,
-    changed: Option<(List, Change)>,
-    query_bits: usize,
-    expected: &str,
-) -> bool {
-    let mut parameters = plain_parameters();
-    parameters.log_final_poly_len = 1;
-    parameters.max_log_arity = 2;
-    let mut honest = make_honest(rt, alloc, &parameters, 4, 0, 1);
-    if let Some((list, how)) = changed {
-        change_list(rt, alloc, &mut honest.proof, list, how);
-    }
-    parameters.query_proof_of_work_bits = query_bits;
-    let (proof, claims, mut verifier) = (&honest.proof, &honest.claims, challenger_after(1));
-    is_answer(
-        alloc,
-        &parameters,
-        0,
-        proof,
-        claims,
-        &mut verifier,
-        expected,
-    )
-}
-
 /// What the verifier answers to each change of a list whose length the parameters and the claims
 /// fix.
-const COUNTED: [(List, [&str; 3]); 8] = [
+static COUNTED: [(List, [&str; 3]); 8] = [
     (
         List::Rounds,
         [
@@ -247,7 +221,7 @@ const COUNTED: [(List, [&str; 3]); 8] = [
 ];
 
 /// The same of rows that are opened of one matrix each, and of lists that the schemes refuse.
-const OPENED: [(List, [&str; 3]); 6] = [
+static OPENED: [(List, [&str; 3]); 6] = [
     (
         List::Rows,
         [
@@ -263,29 +237,34 @@ const OPENED: [(List, [&str; 3]); 6] = [
     (List::RoundPath, ["CommitPhaseMmcsError(PathLength)"; 3]),
 ];
 
-/// Bits of a proof of work that the honest proof doesn't have.
-const MISSING_BITS: usize = 16;
-
-/// Asserts that these are the answers to the changes.
-fn assert_answers(rt: &impl Abort, alloc: Global, cases: &[(List, [&str; 3])], query_bits: usize) {
+/// Asserts that these are the answers to the changes of an honest proof of two rounds, where the
+/// verifier asks for so many bits.
+fn assert_answers(
+    rt: &impl Abort,
+    alloc: Global,
+    cases: &[(List, [&'static str; 3])],
+    bits: usize,
+) {
     for (list, texts) in cases {
-        for (change, expected) in CHANGES.iter().zip(texts) {
-            let changed = Some((*list, *change));
-            let is_met = is_answered(rt, alloc, changed, query_bits, *expected);
-            assert!(rt; is_met, "{list:?}, {change:?}");
+        for (index, (change, text)) in CHANGES.iter().zip(texts).enumerate() {
+            let case = Case {
+                setting: TWO_ROUNDS,
+                changed: Changed::List(*list, *change),
+                query_bits: bits,
+                expected: Some(*text),
+                left: Left::Anywhere,
+                ..ACCEPTED
+            };
+            assert!(rt; is_met(rt, alloc, &case), "{text}, change {index}");
         }
     }
 }
 
-/// Lists are counted before work is verified.
+/// Lists are counted before work is verified, of 16 bits that the proof doesn't have.
 #[test]
 fn lists_of_another_length_are_named(rt: HostRuntime) {
     let alloc = rt.alloc();
-    assert!(rt; is_answered(&rt, alloc, None, 0, "accepted"));
-    let missing = "InvalidPowWitness(Query)";
-    assert!(rt; is_answered(&rt, alloc, None, MISSING_BITS, missing));
-    for query_bits in [0, MISSING_BITS] {
-        assert_answers(&rt, alloc, &COUNTED, query_bits);
-    }
+    assert_answers(&rt, alloc, &COUNTED, 0);
+    assert_answers(&rt, alloc, &COUNTED, 16);
     assert_answers(&rt, alloc, &OPENED, 0);
 }
