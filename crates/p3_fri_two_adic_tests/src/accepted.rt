@@ -1,7 +1,7 @@
 //! Openings that are accepted, with the values and the final polynomials worked out by hand.
 
 use crate::answers::answer_to;
-use crate::numbers::{Points, are_values, constant};
+use crate::numbers::{Points, constant, values_of};
 use crate::opened::open_well;
 use crate::replayed::replay;
 use crate::scheme::{PLAIN, Proof, Setting};
@@ -54,7 +54,7 @@ struct Case {
     last: Last,
 }
 
-static ONE_COMMITMENT: [Case; 7] = [
+static CASES: [Case; 11] = [
     Case {
         name: "a line at one point",
         setting: PLAIN,
@@ -131,9 +131,7 @@ static ONE_COMMITMENT: [Case; 7] = [
         arities: &[2],
         last: Last::Number(0),
     },
-];
-
-static SEVERAL_MATRICES: [Case; 4] = [
+    // several matrices
     Case {
         name: "a square and a line",
         setting: Setting {
@@ -232,7 +230,7 @@ fn is_met(rt: &impl Abort, alloc: Global, case: &Case) -> bool {
         "the transcript ends elsewhere"
     );
     let first = constant_of(case.last, drawn.alpha, &drawn.betas);
-    let is_as_expected = are_values(&opened.values, case.values)
+    let is_as_expected = opened.values == values_of(rt, alloc, case.values)
         && are_arities(&opened.proof, case.arities)
         && is_final_poly(
             &opened.proof.final_poly,
@@ -243,19 +241,9 @@ fn is_met(rt: &impl Abort, alloc: Global, case: &Case) -> bool {
     is_as_expected && answer.same && answer.text.as_str() == "accepted"
 }
 
-/// Each case is met.
-fn assert_all(rt: &impl Abort, alloc: Global, cases: &[Case]) {
-    for case in cases {
-        assert!(rt; is_met(rt, alloc, case), "{}", case.name);
+#[test]
+fn columns_are_opened(rt: HostRuntime) {
+    for case in &CASES {
+        assert!(rt; is_met(&rt, rt.alloc(), case), "{}", case.name);
     }
-}
-
-#[test]
-fn one_commitment_is_opened(rt: HostRuntime) {
-    assert_all(&rt, rt.alloc(), &ONE_COMMITMENT);
-}
-
-#[test]
-fn several_matrices_are_opened(rt: HostRuntime) {
-    assert_all(&rt, rt.alloc(), &SEVERAL_MATRICES);
 }

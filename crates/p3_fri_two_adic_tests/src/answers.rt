@@ -1,7 +1,7 @@
 //! What the verifier answers.
 
 use crate::opened::Opened;
-use crate::scheme::{Claims, Proof, Scheme, Setting, VerifierError};
+use crate::scheme::{Proof, Scheme, Setting};
 use crate::tested::Tested;
 use p3_challenger::Sha256Challenger;
 use std::alloc::Global;
@@ -18,29 +18,17 @@ pub(crate) struct Answer {
     pub same: bool,
 }
 
-/// Whether the verifier of a setting accepts the claims by the proof.
+/// What the verifier of `setting` answers to the opening, by any scheme.
 fn verify<P: Tested>(
     rt: &impl Abort,
     alloc: Global,
     setting: Setting,
-    claims: Claims,
-    proof: &P::Proof,
-    challenger: &mut Sha256Challenger,
-) -> Result<(), VerifierError> {
+    opened: Opened<P::Proof>,
+) -> Answer {
     assert!(rt;
         setting.log_final_poly_len <= 31,
         "not in the verifier's range"
     );
-    P::of(setting).verify(alloc, claims, proof, challenger)
-}
-
-/// What the verifier of `setting` answers to the opening.
-pub(crate) fn answer_to(
-    rt: &impl Abort,
-    alloc: Global,
-    setting: Setting,
-    opened: Opened<Proof>,
-) -> Answer {
     let Opened {
         proof,
         claims,
@@ -48,7 +36,7 @@ pub(crate) fn answer_to(
         ..
     } = opened;
     let mut verifier = Sha256Challenger::new();
-    let text = match verify::<Scheme>(rt, alloc, setting, claims, &proof, &mut verifier) {
+    let text = match P::of(setting).verify(alloc, claims, &proof, &mut verifier) {
         Ok(()) => format!(in alloc; "accepted"),
         Err(refusal) => format!(in alloc; "{refusal:?}"),
     };
@@ -57,4 +45,14 @@ pub(crate) fn answer_to(
         unmoved: verifier == Sha256Challenger::new(),
         same: verifier == challenger,
     }
+}
+
+/// What it answers by the scheme over two-adic fields.
+pub(crate) fn answer_to(
+    rt: &impl Abort,
+    alloc: Global,
+    setting: Setting,
+    opened: Opened<Proof>,
+) -> Answer {
+    verify::<Scheme>(rt, alloc, setting, opened)
 }

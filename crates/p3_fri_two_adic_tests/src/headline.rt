@@ -4,12 +4,11 @@ ghost use Rattle.std.specs.Prelude.{◌≡◌, [], ◌∷◌};
 
 use crate::accepted::{LINE, SQUARE};
 use crate::committed::commit;
-use crate::numbers::{Points, are_values, points_of};
+use crate::numbers::{Points, points_of, values_of};
 use crate::scheme::{PLAIN, Scheme, Setting};
 use crate::tested::Tested;
 use p3_challenger::Sha256Challenger;
-use p3_field::BabyBear4;
-use p3_pcs::{OpeningRequest, Verified, open_and_verify};
+use p3_pcs::{OpeningRequest, open_and_verify};
 use std::alloc::Global;
 use std::process::Abort;
 
@@ -20,45 +19,6 @@ fn listed<T>(rt: &impl Abort, alloc: Global, value: T) -> Vec<T>
     let mut values = Vec::new(alloc);
     values.push(value).expect(rt, "memory");
     values
-}
-
-/// The columns under one commitment, opened at these points and verified, with the prover's
-/// challenger after it.
-fn shown<P: Tested>(
-    rt: &impl Abort,
-    alloc: Global,
-    setting: Setting,
-    columns: &[&[u64]],
-    points: &[&[u64]],
-) -> (
-    Verified<BabyBear4, P::Proof, Sha256Challenger>,
-    Sha256Challenger,
-) {
-    assert!(rt;
-        setting.log_final_poly_len <= 31 && setting.max_log_arity > 0,
-        "not in the range of prover and verifier"
-    );
-    let mut scheme = P::of(setting);
-    let committed = commit(rt, &mut scheme, alloc, columns);
-    let (known, mut data) = committed;
-    let all_known = listed(rt, alloc, known);
-    let request = OpeningRequest {
-        prover_data: &mut data,
-        points: points_of(rt, alloc, points),
-    };
-    let mut requests = listed(rt, alloc, request);
-    if !scheme.are_openable(&requests) {
-        panic!(rt; "the requests can't be opened")
-    }
-    let mut challenger = Sha256Challenger::new();
-    let answer = open_and_verify(
-        &scheme,
-        alloc,
-        all_known.as_slice(),
-        requests.as_mut_slice(),
-        &mut challenger,
-    );
-    (answer.expect(rt, "not accepted"), challenger)
 }
 
 /// What is opened, and the values that it has.
@@ -90,23 +50,47 @@ static CASES: [Case; 2] = [
     },
 ];
 
-/// Whether these are the values, and both sides end in one state that isn't the first.
-fn is_met(rt: &impl Abort, alloc: Global, case: &Case) -> bool {
-    let (verified, challenger) = shown::<Scheme>(
-        rt,
-        alloc,
-        case.setting,
-        case.columns,
-        case.points,
+/// Whether the columns under one commitment are opened and verified, with these values, and both
+/// sides end in one state that isn't the first.
+fn is_met<P: Tested>(rt: &impl Abort, alloc: Global, case: &Case) -> bool {
+    assert!(rt;
+        case.setting.log_final_poly_len <= 31 && case.setting.max_log_arity > 0,
+        "not in the range of prover and verifier"
     );
-    are_values(&verified.values, case.values)
+    let mut scheme = P::of(case.setting);
+    let committed = commit(rt, &mut scheme, alloc, case.columns);
+    let (known, mut data) = committed;
+    let all_known = listed(rt, alloc, known);
+    let request = OpeningRequest {
+        prover_data: &mut data,
+        points: points_of(rt, alloc, case.points),
+    };
+    let mut requests = listed(rt, alloc, request);
+    if !scheme.are_openable(&requests) {
+        panic!(rt; "the requests can't be opened")
+    }
+    let mut challenger = Sha256Challenger::new();
+    let answer = open_and_verify(
+        &scheme,
+        alloc,
+        all_known.as_slice(),
+        requests.as_mut_slice(),
+        &mut challenger,
+    );
+    let verified = answer.expect(rt, "not accepted");
+    verified.values == values_of(rt, alloc, case.values)
         && verified.challenger == challenger
         && challenger != Sha256Challenger::new()
+}
+
+/// Whether they are so by the scheme over two-adic fields.
+fn is_met_here(rt: &impl Abort, alloc: Global, case: &Case) -> bool {
+    is_met::<Scheme>(rt, alloc, case)
 }
 
 #[test]
 fn what_is_opened_is_accepted(rt: HostRuntime) {
     for case in &CASES {
-        assert!(rt; is_met(&rt, rt.alloc(), case), "{}", case.name);
+        assert!(rt; is_met_here(&rt, rt.alloc(), case), "{}", case.name);
     }
 }

@@ -1,4 +1,4 @@
-//! Elements that are numbers, and whether opened values are such.
+//! Elements and opened values that are numbers.
 
 ghost use Rattle.std.specs.Prelude.{◌≢◌, All, length};
 
@@ -40,32 +40,24 @@ pub(crate) fn points_of(rt: &impl Abort, alloc: Global, points: &[&[u64]]) -> Ve
     lists
 }
 
-/// Whether one column has these values at the points.
-fn are_values_at(points: &[Vec<BabyBear4>], numbers: &[u64]) -> bool {
-    for (columns, number) in points.iter().zip(numbers) {
-        if columns.as_slice() != [constant(*number)].as_slice() {
-            return false;
+/// Values of matrices of one column, by commitment, matrix and point.
+pub(crate) fn values_of(
+    rt: &impl Abort,
+    alloc: Global,
+    commitments: Points<'_>,
+) -> OpenedValues<BabyBear4> {
+    let mut all = Vec::new(alloc);
+    for each in commitments {
+        let mut matrices = Vec::new(alloc);
+        for numbers in *each {
+            let mut points = Vec::new(alloc);
+            for number in *numbers {
+                let values = vec![in alloc; constant(*number)].expect(rt, "memory");
+                points.push(values).expect(rt, "memory");
+            }
+            matrices.push(points).expect(rt, "memory");
         }
+        all.push(matrices).expect(rt, "memory");
     }
-    points.len() == numbers.len()
-}
-
-/// Whether each column does.
-fn are_values_of(columns: &[Vec<Vec<BabyBear4>>], each: &[&[u64]]) -> bool {
-    for (points, numbers) in columns.iter().zip(each) {
-        if !are_values_at(points, *numbers) {
-            return false;
-        }
-    }
-    columns.len() == each.len()
-}
-
-/// Whether the columns of each commitment do.
-pub(crate) fn are_values(values: &OpenedValues<BabyBear4>, expected: Points<'_>) -> bool {
-    for (columns, each) in values.iter().zip(expected) {
-        if !are_values_of(columns, *each) {
-            return false;
-        }
-    }
-    values.len() == expected.len()
+    all
 }

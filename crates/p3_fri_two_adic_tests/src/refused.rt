@@ -19,7 +19,19 @@ struct Case {
     later: Points<'static>,
 }
 
-static POINTS_OF_COSETS: [Case; 4] = [
+/// A final polynomial of two coefficients.
+const LONGER: Setting = Setting {
+    log_final_poly_len: 1,
+    ..PLAIN
+};
+
+const LONGEST: Setting = Setting {
+    log_final_poly_len: usize::MAX,
+    ..PLAIN
+};
+
+static CASES: [Case; 9] = [
+    // points of cosets
     Case {
         name: "of a constant",
         setting: PLAIN,
@@ -68,20 +80,7 @@ static POINTS_OF_COSETS: [Case; 4] = [
         },
         later: &[&[&[5]], &[&[5], &[7, 5]]],
     },
-];
-
-/// A final polynomial of two coefficients.
-const LONGER: Setting = Setting {
-    log_final_poly_len: 1,
-    ..PLAIN
-};
-
-const LONGEST: Setting = Setting {
-    log_final_poly_len: usize::MAX,
-    ..PLAIN
-};
-
-static HEIGHTS: [Case; 5] = [
+    // heights are tested before points
     Case {
         name: "a low word, at a point off its coset",
         setting: LONGER,
@@ -164,19 +163,9 @@ fn is_met(rt: &impl Abort, alloc: Global, case: &Case) -> bool {
     is_refused(earlier, case.refusal) && is_accepted(rt, alloc, later)
 }
 
-/// Each case is met.
-fn assert_all(rt: &impl Abort, alloc: Global, cases: &[Case]) {
-    for case in cases {
-        assert!(rt; is_met(rt, alloc, case), "{}", case.name);
+#[test]
+fn openings_are_refused_and_then_made(rt: HostRuntime) {
+    for case in &CASES {
+        assert!(rt; is_met(&rt, rt.alloc(), case), "{}", case.name);
     }
-}
-
-#[test]
-fn a_point_of_the_coset_is_refused(rt: HostRuntime) {
-    assert_all(&rt, rt.alloc(), &POINTS_OF_COSETS);
-}
-
-#[test]
-fn heights_are_tested_before_points(rt: HostRuntime) {
-    assert_all(&rt, rt.alloc(), &HEIGHTS);
 }

@@ -5,8 +5,8 @@ use crate::scheme::{Proof, Setting, parameters};
 use p3_challenger::Sha256Challenger;
 use p3_field::{BabyBear, BabyBear4};
 use p3_fri_folding::{fold_schedule, is_strictly_falling};
-use p3_fri_pcs_transcript::pcs_transcript::{PcsFailure, PcsShape, ReplayedPcs, replay_pcs};
-use p3_fri_transcript::transcript::{FriMessages, FriShape, Refusal, TranscriptFailure};
+use p3_fri_pcs_transcript::pcs_transcript::{PcsShape, ReplayedPcs, replay_pcs};
+use p3_fri_transcript::transcript::{FriMessages, FriShape};
 use std::alloc::Global;
 use std::process::Abort;
 
@@ -53,10 +53,6 @@ pub(crate) fn replay(
     );
     match replayed {
         Ok(drawn) => Some((drawn, challenger)),
-        Err(Refusal::Seed) => panic!(rt; "memory was refused"),
-        Err(Refusal::Step(PcsFailure::Fri(TranscriptFailure::OutOfMemory))) => {
-            panic!(rt; "memory was refused")
-        },
         Err(_) => None,
     }
 }

@@ -45,40 +45,56 @@ fn with_another_witness(rt: &impl Abort, alloc: Global, phase: PowPhase) -> Open
     panic!(rt; "each witness passes")
 }
 
-/// Whether the verifier that asks for work in that phase answers so to the opening.
-fn answers(
-    rt: &impl Abort,
-    alloc: Global,
-    phase: PowPhase,
-    opened: Opened<Proof>,
-    expected: &str,
-) -> bool {
+/// How an opening is made for a verifier that asks for work.
+enum Made {
+    WithItsWitness,
+    WithAnotherWitness,
+    WithoutWork,
+}
+
+/// The phase in which work is asked for, the opening, and the answer.
+static CASES: [(PowPhase, Made, &str); 7] = [
+    (PowPhase::Batch, Made::WithItsWitness, "accepted"),
+    (PowPhase::CommitPhase, Made::WithItsWitness, "accepted"),
+    (PowPhase::Query, Made::WithItsWitness, "accepted"),
+    (
+        PowPhase::Batch,
+        Made::WithAnotherWitness,
+        "InvalidPowWitness(Batch)",
+    ),
+    (
+        PowPhase::CommitPhase,
+        Made::WithAnotherWitness,
+        "InvalidPowWitness(CommitPhase)",
+    ),
+    (
+        PowPhase::Query,
+        Made::WithAnotherWitness,
+        "InvalidPowWitness(Query)",
+    ),
+    (
+        PowPhase::Batch,
+        Made::WithoutWork,
+        "InvalidPowWitness(Batch)",
+    ),
+];
+
+/// Whether the verifier answers so to the opening.
+fn is_met(rt: &impl Abort, alloc: Global, phase: PowPhase, made: &Made, expected: &str) -> bool {
+    let opened = match made {
+        Made::WithItsWitness => line_opened(rt, alloc, worked(phase)),
+        Made::WithAnotherWitness => with_another_witness(rt, alloc, phase),
+        Made::WithoutWork => line_opened(rt, alloc, PLAIN),
+    };
     answer_to(rt, alloc, worked(phase), opened).text.as_str() == expected
 }
 
-/// Whether the verifier accepts the opening with its witness, and refuses the one with another so.
-fn is_met(rt: &impl Abort, alloc: Global, phase: PowPhase, refusal: &str) -> bool {
-    let honest = line_opened(rt, alloc, worked(phase));
-    let other = with_another_witness(rt, alloc, phase);
-    answers(rt, alloc, phase, honest, "accepted") && answers(rt, alloc, phase, other, refusal)
-}
-
-const PHASES: [(PowPhase, &str); 3] = [
-    (PowPhase::Batch, "InvalidPowWitness(Batch)"),
-    (PowPhase::CommitPhase, "InvalidPowWitness(CommitPhase)"),
-    (PowPhase::Query, "InvalidPowWitness(Query)"),
-];
-
 #[test]
-fn witnesses_that_do_not_pass_are_named(rt: HostRuntime) {
-    for (phase, refusal) in &PHASES {
-        assert!(rt; is_met(&rt, rt.alloc(), *phase, *refusal), "{refusal}");
+fn work_is_verified(rt: HostRuntime) {
+    for (index, (phase, made, expected)) in CASES.iter().enumerate() {
+        assert!(rt;
+            is_met(&rt, rt.alloc(), *phase, made, *expected),
+            "case {index}"
+        );
     }
-}
-
-#[test]
-fn a_proof_made_without_work_is_refused(rt: HostRuntime) {
-    let opened = line_opened(&rt, rt.alloc(), PLAIN);
-    let expected = "InvalidPowWitness(Batch)";
-    assert!(rt; answers(&rt, rt.alloc(), PowPhase::Batch, opened, expected));
 }
