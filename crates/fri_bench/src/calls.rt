@@ -12,12 +12,13 @@ use p3_pcs::{KnownCommitment, OpeningRequest, Pcs, claims_of};
 use p3_test_openings::listed::{alone, listed};
 use std::fmt;
 
-/// The least times of the three calls.
+/// The least times of the three calls, and of a STARK's prover, whose verifier counts as the third.
 #[derive(Clone, Copy)]
 pub struct Watches {
-    commits: Watch,
-    opens: Watch,
-    verifies: Watch,
+    pub commits: Watch,
+    pub opens: Watch,
+    pub proves: Watch,
+    pub verifies: Watch,
 }
 
 impl Watches {
@@ -25,6 +26,7 @@ impl Watches {
         Watches {
             commits: Watch::new(),
             opens: Watch::new(),
+            proves: Watch::new(),
             verifies: Watch::new(),
         }
     }

@@ -1,41 +1,20 @@
 //! Times the hiding scheme over a matrix, beside the plain one over a matrix of the size of the
 //! masked one, and the drawing of as many random elements as the masks take.
 
-use crate::calls::{Watches, time};
-use crate::matrices::matrix_of;
-use crate::scheme::{Domain, Rounds, parameters, time_plain};
-use crate::stages::Inputs;
+use crate::calls::Watches;
+use crate::timed::{Timed, time_once};
 use crate::watch::{Fault, Result, Run, Watch, now};
-use p3_dft::Radix2Dit;
-use p3_field::{BabyBear, Field};
-use p3_fri_hiding::HidingFriPcs;
+use p3_field::BabyBear;
 use p3_fri_masks::random_values;
 use rand_chacha::ChaCha20Rng;
 use rand_core::SeedableRng;
 
-type Hiding = HidingFriPcs<BabyBear, Radix2Dit<BabyBear>, Inputs, Rounds, ChaCha20Rng>;
-
 /// How many rows are opened of each commitment.
-const QUERIES: usize = 100;
+pub const QUERIES: usize = 100;
 
 /// The generator of all that is random.
-fn generator() -> ChaCha20Rng {
+pub fn generator() -> ChaCha20Rng {
     ChaCha20Rng::from_seed([7; 32])
-}
-
-/// Times the hiding scheme over a matrix of `2^log_height` rows.
-fn time_masked(rt: &HostRuntime, watches: &mut Watches, sizes: [usize; 3]) -> Result<()> {
-    let [log_height, width, codewords] = sizes;
-    let matrix = matrix_of(rt.alloc(), log_height, width)?;
-    let domain = Domain::new(BabyBear::ONE, log_height + 1).ok_or(Fault::Sizes)?;
-    let mut scheme = Hiding::new(
-        Radix2Dit::default(),
-        Inputs::new(),
-        parameters(1, QUERIES, 1),
-        codewords,
-        generator(),
-    );
-    time(rt, watches, &mut scheme, (domain, matrix))
 }
 
 /// How many elements mask a matrix of `2^log_height` rows: of each row a row beside it, and the
@@ -69,8 +48,8 @@ pub fn print(rt: &HostRuntime, (sizes, repeats): Run<3>) -> Result<()> {
     let (mut masked, mut plain, mut words) = (Watches::new(), Watches::new(), Watch::new());
     for _ in 0..repeats {
         time_words(rt, &mut words, sizes)?;
-        time_masked(rt, &mut masked, sizes)?;
-        time_plain(rt, &mut plain, plain_sizes)?;
+        time_once(rt, &mut masked, Timed::Hiding(sizes))?;
+        time_once(rt, &mut plain, Timed::Plain(plain_sizes))?;
     }
     println!(rt;
         "hiding, 2^{log_height} rows of {width} and {codewords} random columns: masked {masked}; \

@@ -9,6 +9,7 @@ mod matrices;
 mod scheme;
 mod stages;
 mod stark;
+mod timed;
 mod watch;
 
 use crate::watch::{Fault, Result, Run};
@@ -59,16 +60,11 @@ fn figures(rt: &HostRuntime, repeats: usize) -> Result<()> {
     Ok(())
 }
 
-/// Prints what the program takes.
-fn print_usage(rt: &HostRuntime) -> Result<()> {
-    println!(rt; "{USAGE}")?;
-    Ok(())
-}
-
-/// Runs the mode that the first argument names.
+/// Runs the mode that the first argument names, or prints what the program takes.
 fn run(rt: &HostRuntime, args: &[String]) -> Result<()> {
     let Some((name, sizes)) = args.split_first() else {
-        return print_usage(rt);
+        println!(rt; "{USAGE}")?;
+        return Ok(());
     };
     match name.as_str() {
         "stages" => stages::print(rt, read(sizes, 5)?),

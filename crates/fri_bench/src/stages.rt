@@ -5,6 +5,7 @@ use crate::matrices::matrix_of;
 use crate::watch::{Fault, Result, Run, Watch, now};
 use p3_dft::{Radix2Dit, TwoAdicSubgroupDft};
 use p3_field::{BabyBear, Field, PrimeField64};
+use p3_matrix::RowMajorMatrix;
 use p3_mmcs::{Mmcs, Sha256Mmcs};
 
 pub type Inputs = Sha256Mmcs<BabyBear>;
@@ -16,6 +17,14 @@ struct Watches {
     both: Watch,
     transform: Watch,
     tree: Watch,
+}
+
+/// The first entry of a row.
+fn first_entry(matrix: &RowMajorMatrix<BabyBear>, row: usize) -> u64 {
+    match matrix.get(row, 0) {
+        Some(entry) => entry.as_canonical_u64(),
+        None => 0,
+    }
 }
 
 /// Times the extension alone and with the bit reversal, and returns an entry.
@@ -31,7 +40,7 @@ fn extension(rt: &HostRuntime, watches: &mut Watches, sizes: [usize; 3]) -> Resu
     watches.extension.see(rt, start);
     let reversed = extended.bit_reverse_rows();
     watches.both.see(rt, start);
-    Ok(reversed.get(1, 0).map_or(0, |x| x.as_canonical_u64()))
+    Ok(first_entry(&reversed, 1))
 }
 
 /// Times the transform, and returns an entry.
@@ -41,7 +50,7 @@ fn transform(rt: &HostRuntime, watch: &mut Watch, log_height: usize, width: usiz
     let start = now(rt);
     let evaluations = dft.dft_batch(rt.alloc(), matrix)?;
     watch.see(rt, start);
-    Ok(evaluations.get(0, 0).map_or(0, |x| x.as_canonical_u64()))
+    Ok(first_entry(&evaluations, 0))
 }
 
 /// Times the tree, and returns a byte of its root.

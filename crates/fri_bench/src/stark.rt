@@ -6,36 +6,22 @@ ghost use Rattle.p3_matrix.specs.Matrix.{rows, matrix_width};
 ghost use Rattle.p3_air.specs.WellFormed.{IsWellFormed};
 ghost use Rattle.p3_uni_stark_prover.specs.Provable.{FitsField};
 
+use crate::calls::Watches;
 use crate::matrices::rows_of;
-use crate::scheme::{Domain, Scheme, parameters};
-use crate::stages::Inputs;
-use crate::watch::{Fault, Result, Run, Watch, now};
+use crate::timed::{Domain, Timed, time_once};
+use crate::watch::{Fault, Result, Run, now};
 use p3_air::{Air, AirBuilder, AirLayout, Expression};
 use p3_challenger::Sha256Challenger;
 use p3_dft::Radix2Dit;
 use p3_field::{BabyBear, BabyBear4, Field, PrimeField64};
 use p3_matrix::RowMajorMatrix;
 use p3_uni_stark_pcs::TwoAdicStarkPcs;
-use p3_uni_stark_prover::{has_room, prove};
+use p3_uni_stark_prover::prove;
 use p3_uni_stark_verifier::{Statement, verify};
 use std::alloc::Global;
-use std::fmt;
 
 /// By which a verifier reads periodic columns.
 type Transform = Radix2Dit<BabyBear>;
-
-/// The least times of both calls.
-#[derive(Clone, Copy)]
-pub struct StarkWatches {
-    proves: Watch,
-    verifies: Watch,
-}
-
-impl fmt::Display for StarkWatches {
-    fn fmt<W: fmt::Write>(&self, f: &mut fmt::Formatter<W>) -> fmt::Result {
-        write!(f, "prove {}, verify {}", self.proves, self.verifies)
-    }
-}
 
 /// The entries of this row.
 fn locals(
@@ -68,7 +54,7 @@ fn mix(builder: &mut AirBuilder<BabyBear>, locals: &[Expression], column: usize)
 }
 
 /// The system of so many columns.
-fn mixing(alloc: Global, width: usize) -> Result<Air<BabyBear>>
+pub fn mixing(alloc: Global, width: usize) -> Result<Air<BabyBear>>
     ensures { IfOk result IsWellFormed }
 {
     let mut builder = AirBuilder::new(
@@ -100,7 +86,7 @@ fn value_at(values: &[BabyBear], index: usize) -> BabyBear {
 }
 
 /// A trace of `2^log_height` rows that satisfies it.
-fn trace_of(alloc: Global, width: usize, log_height: usize) -> Result<RowMajorMatrix<BabyBear>>
+pub fn trace_of(alloc: Global, width: usize, log_height: usize) -> Result<RowMajorMatrix<BabyBear>>
     ensures width { IfOk result (λ matrix. matrix_width matrix ≡ width) }
     ensures height { IfOk result (λ matrix. length (rows matrix) ≡ 2 ^ log_height) }
 {
@@ -125,9 +111,9 @@ fn trace_of(alloc: Global, width: usize, log_height: usize) -> Result<RowMajorMa
 }
 
 /// Times both, of a system of the trace's columns alone.
-fn time_both<P: TwoAdicStarkPcs<BabyBear4, Sha256Challenger, Domain, Commitment = [u8; 32]>>(
+pub fn time_both<P: TwoAdicStarkPcs<BabyBear4, Sha256Challenger, Domain, Commitment = [u8; 32]>>(
     rt: &HostRuntime,
-    watches: &mut StarkWatches,
+    watches: &mut Watches,
     scheme: &mut P,
     air: &Air<BabyBear>,
     trace: RowMajorMatrix<BabyBear>,
@@ -177,33 +163,15 @@ fn time_both<P: TwoAdicStarkPcs<BabyBear4, Sha256Challenger, Domain, Commitment 
     verified.or(Err(Fault::Refused))
 }
 
-/// Times both over a trace of `2^log_height` rows.
-fn time_stark(rt: &HostRuntime, watches: &mut StarkWatches, sizes: [usize; 5]) -> Result<()> {
-    let [log_height, width, log_blowup, queries, log_cap] = sizes;
-    if log_blowup == 0 || log_blowup > 3 || queries == 0 || log_cap == 0 {
-        return Err(Fault::Sizes);
-    }
-    let air = mixing(rt.alloc(), width)?;
-    let trace = trace_of(rt.alloc(), width, log_height)?;
-    match has_room::<BabyBear, ()>(rt.alloc(), &air, trace.height(), log_blowup, false) {
-        Ok(true) => {},
-        _ => return Err(Fault::Sizes),
-    }
-    let parameters = parameters(log_blowup, queries, log_cap);
-    let mut scheme = Scheme::new(Radix2Dit::default(), Inputs::new(), parameters);
-    time_both(rt, watches, &mut scheme, &air, trace)
-}
-
 /// Prints the least times.
 pub fn print(rt: &HostRuntime, (sizes, repeats): Run<5>) -> Result<()> {
-    let [log_height, width, _, _, log_cap] = sizes;
-    let mut watches = StarkWatches {
-        proves: Watch::new(),
-        verifies: Watch::new(),
-    };
+    let ([log_height, width, _, _, log_cap], mut watches) = (sizes, Watches::new());
     for _ in 0..repeats {
-        time_stark(rt, &mut watches, sizes)?;
+        time_once(rt, &mut watches, Timed::Stark(sizes))?;
     }
-    println!(rt; "stark, 2^{log_height} rows of {width}, cap {log_cap}: {watches}")?;
+    println!(rt;
+        "stark, 2^{log_height} rows of {width}, cap {log_cap}: prove {}, verify {}",
+        watches.proves, watches.verifies
+    )?;
     Ok(())
 }

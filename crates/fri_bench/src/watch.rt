@@ -71,10 +71,15 @@ impl Watch {
 
     /// Sees the time since then.
     pub fn see(&mut self, rt: &HostRuntime, start: Option<Instant>) {
-        let time = start.and_then(|start| start.elapsed(rt).ok());
-        self.0 = match (self.0, time) {
-            (Some(least), Some(time)) => Some(least.min(time)),
-            (least, time) => least.or(time),
+        let Some(start) = start else {
+            return;
+        };
+        let Ok(time) = start.elapsed(rt) else {
+            return;
+        };
+        self.0 = match self.0 {
+            Some(least) => Some(least.min(time)),
+            None => Some(time),
         };
     }
 }
