@@ -1,5 +1,5 @@
 -- The flat form of what is asked of matrices that are kept.
-use Rattle.std.specs.Prelude.{◌≡◌, ℕ, List, [], ◌∷◌, ◌++◌, vec_len, All, string_bytes}
+use Rattle.std.specs.Prelude.{ℕ, List, [], ◌∷◌, ◌++◌, vec_len, All, string_bytes}
 use Rattle.fri_records.specs.declared.records.Matrix.{Matrix}
 use Rattle.fri_records.specs.declared.records.Batch.{Batch}
 use Rattle.fri_flat.specs.declared.kept.Asked.{Asked}
@@ -29,7 +29,3 @@ module _ (l : Layout) where
   pub record IsAsked (a : Asked) : Type 0 where
     pub context : IsContext (string_bytes a.context)
     pub batches : All IsAskedBatch a.batches.items
-
-  -- bytes ask for nothing: they are no such form
-  abbrev pub AskNothing : (bytes : List ℕ) → Type 0
-  AskNothing bytes = (a : Asked) → bytes ≡ asked a → IsAsked a → ⊥

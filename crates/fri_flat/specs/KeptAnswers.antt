@@ -56,7 +56,7 @@ module _ {F E : Type 0} (f : SchemeFields F E) (input_length : ℕ) {Dom : Type 
 
   -- bytes ask for what is kept, and others are an answer: the next challenge, and a statement of
   -- that context and of the prover's parameters. It opens the batches that were committed to,
-  -- where what is kept is still what opens them
+  -- whatever these are
   pub record AnswersAsked (all : Kept) (bytes out : List ℕ) : Type 0 where
     pub request : Asked
     pub answered : Statement

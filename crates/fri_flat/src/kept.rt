@@ -1,9 +1,8 @@
 //! Calls of a prover that keeps what it committed to, over bytes.
 
 ghost use Rattle.fri_flat.specs.Asked.{asked_matrix, IsAskedMatrix, asked_batch, IsAskedBatch};
-ghost use Rattle.fri_flat.specs.Asked.{asked, IsAsked, AskNothing};
+ghost use Rattle.fri_flat.specs.Asked.{asked, IsAsked};
 ghost use Rattle.fri_flat.specs.KeptAnswers.{BeginsProver, CommitsKept, AnswersAsked};
-ghost use Rattle.fri_flat.specs.Layouts.{layout_of};
 ghost use Rattle.std.specs.Prelude.{◌≡◌, IfOk, IfErr};
 
 use crate::failure::Failure;
@@ -136,7 +135,7 @@ pub fn commit_kept<F: SchemeField>(
 }
 
 /// Opens all that is kept under the context and at the points in these bytes: the next challenge,
-/// and the statement that `verify` takes.
+/// and the statement that `verify` takes. What is kept stays as it was.
 pub fn open_kept<F: SchemeField>(
     alloc: Global,
     prover: &mut Prover<F>,
@@ -145,9 +144,7 @@ pub fn open_kept<F: SchemeField>(
     ensures answered { IfOk result (λ v. AnswersAsked ⟦<F as SchemeParts>⟧.fields F.LEN
         (λ d. d.shift) (λ d. d.log_size) prover.old.parameters prover.old.committed.items
         bytes.now v.items) }
-    // bytes that ask for nothing leave what is kept
-    ensures unread { AskNothing (layout_of ⟦<F as SchemeParts>⟧.fields) bytes.now
-        → prover.new.committed.items ≡ prover.old.committed.items }
+    ensures kept { prover.new.committed.items ≡ prover.old.committed.items }
     ensures parameters { prover.new.parameters ≡ prover.old.parameters }
 {
     let layout = layout_of::<F>();

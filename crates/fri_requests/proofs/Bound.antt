@@ -11,7 +11,6 @@ use Rattle.p3_mmcs.specs.declared.openings.MatrixOpening.{MatrixOpening}
 use Rattle.p3_mmcs.specs.declared.openings.CommitmentOpening.{CommitmentOpening}
 use Rattle.p3_pcs.specs.Claims.{zip_with, point_claim, matrix_claim, claim}
 use Rattle.fri_statement.specs.Setting.{SchemeFields}
-use Rattle.fri_requests.specs.Numbers.{extension_numbers}
 use Rattle.fri_statement.specs.Statement.{OpenedMatrix, OpenedCommitment}
 use Rattle.p3_challenger_sha256.specs.declared.sha256_challenger.Sha256Challenger.{Sha256Challenger}
 use Rattle.fri_records.specs.declared.records.Parameters.{Parameters}
@@ -20,7 +19,7 @@ use Rattle.fri_records.specs.declared.records.Request.{Request}
 use Rattle.fri_records.specs.Records.{parameters_in}
 use Rattle.fri_requests.specs.Bound.{bound, state_bound, matrix_claimed, batch_claimed, batch_asked}
 use Rattle.fri_requests.specs.Prepared.{state_asked}
-use Rattle.fri_requests.specs.Claims.{point_numbers, batch_numbers, matrix_numbers, batch_listed}
+use Rattle.fri_requests.specs.Claims.{point_by, batch_by, matrix_by, batch_listed}
 
 -- a matrix by its parts
 pub opened_same : (shift log_size w w' : ℕ) (zs zs' : List (List ℕ)) → w ≡ w' → zs ≡ zs'
@@ -28,39 +27,40 @@ pub opened_same : (shift log_size w w' : ℕ) (zs zs' : List (List ℕ)) → w �
     (record { shift = shift; log_size = log_size; width = w'; points = zs' })
 opened_same shift log_size w w' zs zs' e f = cc
 
-module _ {F E : Type 0} (f : SchemeFields F E) where
+module _ {E : Type 0} (numbers_of : E → List ℕ) where
   -- the points of claims, by their numbers
   pub points_stated : (ps : List (PointOpening E))
-      → map (extension_numbers f) (map (λ p. p.point) ps)
-      ≡ map (λ p. p.point) (map (point_numbers f) (map point_claim ps))
+      → map numbers_of (map (λ p. p.point) ps)
+      ≡ map (λ p. p.point) (map (point_by numbers_of) (map point_claim ps))
   points_stated [] = refl
-  points_stated (p ∷ ps) = ap (λ zs. extension_numbers f p.point ∷ zs) (points_stated ps)
+  points_stated (p ∷ ps) = ap (λ zs. numbers_of p.point ∷ zs) (points_stated ps)
 
-  module _ {D : Type 0} (shift_of : D → F) (log_size_of : D → ℕ) where
+  module _ {D : Type 0} (shift_of log_size_of : D → ℕ) where
     -- what is stated of all
     pub matrices_ended : (news : List OpenedMatrix) (ms : List (MatrixOpening E D)) (i : ℕ)
         → length ms ≤ i
-        → news ≡ map (λ m. matrix_claimed (matrix_numbers f shift_of log_size_of (matrix_claim m)))
+        → news ≡ map (λ m. matrix_claimed (matrix_by numbers_of shift_of log_size_of (matrix_claim m)))
         (take i ms)
-        → news ≡ map matrix_claimed (map (matrix_numbers f shift_of log_size_of) (map matrix_claim ms))
+        → news ≡ map matrix_claimed (map (matrix_by numbers_of shift_of log_size_of) (map matrix_claim ms))
     matrices_ended news ms i l known =
         known
-        ∙ ap (λ ns. map (λ m. matrix_claimed (matrix_numbers f shift_of log_size_of (matrix_claim m))) ns)
+        ∙ ap (λ ns. map (λ m. matrix_claimed (matrix_by numbers_of shift_of log_size_of (matrix_claim m))) ns)
         (take_all i ms l)
-        ∙ sym (map-map (λ c. matrix_claimed (matrix_numbers f shift_of log_size_of c)) matrix_claim ms)
-        ∙ sym (map-map matrix_claimed (matrix_numbers f shift_of log_size_of) (map matrix_claim ms))
+        ∙ sym (map-map (λ c. matrix_claimed (matrix_by numbers_of shift_of log_size_of c)) matrix_claim ms)
+        ∙ sym (map-map matrix_claimed (matrix_by numbers_of shift_of log_size_of) (map matrix_claim ms))
 
     pub claims_ended : (news : List OpenedCommitment) (cs : List (CommitmentOpening E (List ℕ) D))
         (i : ℕ) → length cs ≤ i
-        → news ≡ map (λ c. batch_claimed (batch_numbers f shift_of log_size_of (claim c))) (take i cs)
-        → news ≡ map batch_claimed (map (batch_numbers f shift_of log_size_of) (map claim cs))
+        → news ≡ map (λ c. batch_claimed (batch_by numbers_of shift_of log_size_of (claim c))) (take i cs)
+        → news ≡ map batch_claimed (map (batch_by numbers_of shift_of log_size_of) (map claim cs))
     claims_ended news cs i l known =
         known
-        ∙ ap (λ ns. map (λ c. batch_claimed (batch_numbers f shift_of log_size_of (claim c))) ns)
+        ∙ ap (λ ns. map (λ c. batch_claimed (batch_by numbers_of shift_of log_size_of (claim c))) ns)
         (take_all i cs l)
-        ∙ sym (map-map (λ c. batch_claimed (batch_numbers f shift_of log_size_of c)) claim cs)
-        ∙ sym (map-map batch_claimed (batch_numbers f shift_of log_size_of) (map claim cs))
+        ∙ sym (map-map (λ c. batch_claimed (batch_by numbers_of shift_of log_size_of c)) claim cs)
+        ∙ sym (map-map batch_claimed (batch_by numbers_of shift_of log_size_of) (map claim cs))
 
+module _ {F E : Type 0} (f : SchemeFields F E) where
   -- the state that is bound to what claims state
   pub state_again : (begun : Sha256Challenger F) (context : List ℕ) (parameters : Parameters)
       (records : List BatchClaims) (c : Sha256Challenger F) (bytes : List ℕ)

@@ -1,5 +1,5 @@
 -- How much is opened of what is kept of batches.
-use Rattle.std.proofs.Common.{◌≡◌, ◌≢◌, ◌+◌, List, [], ◌∷◌, map, length, sym, ap, ap₂, ◌∙◌, arith, refl}
+use Rattle.std.proofs.Common.{◌≡◌, ◌≢◌, ◌+◌, All, List, [], ◌∷◌, map, length, sym, ap, ap₂, ◌∙◌, arith, refl}
 use Rattle.std.proofs.Common.{length-append}
 use Rattle.std.specs.List.{AllZip, flat_map}
 use Rattle.std.proofs.lemmas.List.{length-map}
@@ -48,3 +48,10 @@ module _ {D Dom H : Type 0} (held : D → List H) where
       → flat_map (λ q. held q.datum) (requests_for cs pss) ≢ []
   some_held cs pss batches counts n some none =
       some (none_left _ (sym (all_count cs pss batches counts n) ∙ ap length none))
+
+-- and each list of points has one, where each that is asked for has
+pub points_there : {D Dom E : Type 0} (cs : List (Committed D Dom)) (pss : List (List (List E)))
+    → Each (λ ps. All (λ zs. zs ≢ []) ps) pss → Each (λ q. All (λ zs. zs ≢ []) q.points) (requests_for cs pss)
+points_there [] pss some = tt
+points_there (c ∷ cs) [] some = tt
+points_there (c ∷ cs) (ps ∷ pss) some = (some.0, points_there cs pss some.1)

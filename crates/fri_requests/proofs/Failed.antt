@@ -1,5 +1,5 @@
 -- What holds of a failure that comes of another.
-use Rattle.std.proofs.Common.{◌≡◌, ◌≢◌, Result, Ok, Err, IfErr, refl, sym, subst, ap, ◌∙◌, inl, inr}
+use Rattle.std.proofs.Common.{◌≡◌, ◌≢◌, Result, Ok, Err, IfErr, true, false, refl, sym, subst, ap, ◌∙◌, inl, inr}
 use Rattle.std.specs.Prelude.{IsErrAnd}
 use Rattle.p3_mmcs.specs.declared.sha256_mmcs.error.Sha256MmcsError.{Sha256MmcsError}
 use Rattle.p3_fri_relation.specs.declared.error.FriError.{FriError}
@@ -15,6 +15,9 @@ use Rattle.fri_records.specs.declared.fault.VerifyError.TheVariants as statement
 use Rattle.fri_records.specs.declared.fault.VerifyError.TheVariants.{Refused}
 use Rattle.fri_records.specs.Failures.{IfMalformed, MatchRequestError, MatchVerifyError}
 use Rattle.fri_records.specs.Failures.{unread_request, failure_of}
+
+pub no_truth : false ≡ true → ⊥
+no_truth e = cc
 
 pub given : {A E : Type 0} (Q R : E → Type 0) (r : Result A E) → IsErrAnd r Q
     → ((e : E) → Q e → R e) → IfErr r R

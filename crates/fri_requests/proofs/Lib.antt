@@ -1,6 +1,7 @@
 pub mod Answered
 pub mod Asked
 pub mod Bound
+pub mod Canonical
 pub mod Counts
 pub mod Failed
 pub mod Fields
@@ -11,10 +12,12 @@ pub mod Kept
 pub mod Listed
 pub mod MayOpen
 pub mod Opened
+pub mod PlainRefusals
 pub mod PlainRules
 pub mod Polynomials
 pub mod Preprocessing
 pub mod Reopened
 pub mod Sizes
 pub mod Stated
+pub mod Swaps
 pub mod Zipped

@@ -1,10 +1,8 @@
 -- The claims of numbers, and numbers that are those of claims.
-use Rattle.std.proofs.Common.{◌≡◌, ◌≢◌, ℕ, zero, suc, ◌<◌, ◌≤◌, ◌%◌, List, [], ◌∷◌, map, length}
-use Rattle.std.proofs.Common.{get_or, All, refl, sym, subst, ap, ap₂, ◌∙◌, arith}
-use Rattle.std.proofs.Math.Nat.{mod-eq_of_lt}
+use Rattle.std.proofs.Common.{◌≡◌, ◌≢◌, ℕ, ◌<◌, ◌≤◌, ◌%◌, List, [], ◌∷◌, map, length}
+use Rattle.std.proofs.Common.{get_or, All, refl, sym, subst, ap, ap₂, ◌∙◌}
 use Rattle.std.proofs.lemmas.List.{length-map}
 use Rattle.std.proofs.lemmas.List.Elements.{All-map}
-use Rattle.algebra.specs.Field.{multiple}
 use Rattle.algebra.proofs.Lists.{map-map, map-agree, entry_of_map}
 use Rattle.p3_pcs.specs.Claims.{PointClaim, MatrixClaim, Claim}
 use Rattle.p3_fri_openings.proofs.First.{at_item}
@@ -12,7 +10,9 @@ use Rattle.p3_fri_openings.specs.SchemeClaims as relation
 use Rattle.fri_records.specs.declared.records.BatchClaims.{BatchClaims}
 use Rattle.fri_statement.specs.Setting.{SchemeFields}
 use Rattle.fri_requests.specs.Numbers.{element, extension_of, extension_numbers}
-use Rattle.fri_requests.specs.Numbers.{IsElement, IsExtensionElement}
+use Rattle.fri_requests.specs.Numbers.{IsExtensionElement}
+use Rattle.fri_requests.proofs.Canonical.{HaveElements}
+use Rattle.fri_requests.proofs.Canonical as prime
 use Rattle.fri_requests.specs.Claims.{point_numbers, matrix_numbers, batch_numbers, batch_listed}
 use Rattle.fri_requests.specs.Statements.{IsCoset, IsPointClaim, IsMatrixClaim, IsClaim, AreClaims}
 use Rattle.fri_requests.specs.Statements.{point_of, matrix_of, claim_of, claims_listed}
@@ -23,9 +23,6 @@ pub not_all : {A B : Type 0} (P : B → Type 0) (f : A → B) (xs : List A) (i :
 not_all P f xs i x h e fails = λ all.
     fails (at_item P (map f xs) i (f x) (subst (λ n. i < n) (sym (length-map xs f)) h)
     (entry_of_map f xs i x h e) all)
-
-above_zero : {n m : ℕ} → n < m → 0 < m
-above_zero l = omega (arith, l)
 
 -- what the traits of fields say of numbers
 pub record HaveNumbers {F E : Type 0} (f : SchemeFields F E) : Type 0 where
@@ -38,43 +35,22 @@ pub record HaveNumbers {F E : Type 0} (f : SchemeFields F E) : Type 0 where
       → f.relation.coefficients (f.of_coefficients xs) ≡ xs
 
 module _ {F E : Type 0} (f : SchemeFields F E) (numbered : HaveNumbers f) where
-  -- zero's number is zero
-  zero_number : f.canonical f.relation.base.zero ≡ 0
-  unfolding multiple
-  zero_number =
-      numbered.numbers 0 ∙ mod-eq_of_lt (above_zero (numbered.below f.relation.base.zero))
+  -- of the prime field
+  elements : HaveElements f.relation.base f.order f.canonical
+  elements =
+      record { below = numbered.below; again = numbered.again; numbers = numbered.numbers }
 
-  -- an element of another number isn't zero
-  pub not_zero : (x : F) → 0 < f.canonical x → x ≢ f.relation.base.zero
-  not_zero x some e = let same = ap f.canonical e ∙ zero_number in omega (arith, some, same)
-
-  -- and has another number where it isn't
-  of_number : (x : F) → x ≢ f.relation.base.zero → (n : ℕ) → n ≡ f.canonical x → 0 < n
-  unfolding multiple
-  of_number x nonzero zero e =
-      absurd (nonzero (sym (numbered.again x) ∙ ap (element f) (sym e)))
-  of_number x nonzero (suc n) e = omega arith
-
-  -- such a shift, of a size within a bound, is a coset's
   pub is_coset : (most : ℕ) (shift : F) (log_size : ℕ) → shift ≢ f.relation.base.zero
       → log_size ≤ most → IsCoset f most (f.canonical shift) log_size
-  is_coset most shift log_size nonzero within = record {
-    size = within;
-    nonzero = of_number shift nonzero (f.canonical shift) refl;
-    element = numbered.below shift;
-  }
+  is_coset most shift log_size nonzero within = prime.is_coset f.relation.base f.order f.canonical
+      elements most shift log_size nonzero within
 
-  -- an element is that of its number
-  pub every_element_again : (xs : List F) → map (element f) (map f.canonical xs) ≡ xs
-  every_element_again [] = refl
-  every_element_again (x ∷ xs) =
-      ap₂ (λ y ys. y ∷ ys) (numbered.again x) (every_element_again xs)
-
-  -- and so in the extension
+  -- an element of the extension is that of its numbers
   pub extension_again : (x : E) → extension_of f (extension_numbers f x) ≡ x
   extension_again x = numbered.same (extension_of f (extension_numbers f x)) x
       (ap (λ xs. f.relation.coefficients (f.of_coefficients xs))
-      (every_element_again (f.relation.coefficients x))
+      (prime.every_element_again f.relation.base f.order f.canonical elements
+      (f.relation.coefficients x))
       ∙ numbered.made (f.relation.coefficients x) (numbered.count x))
 
   pub every_extension_again : (xs : List E)
@@ -83,14 +59,11 @@ module _ {F E : Type 0} (f : SchemeFields F E) (numbered : HaveNumbers f) where
   every_extension_again (x ∷ xs) =
       ap₂ (λ y ys. y ∷ ys) (extension_again x) (every_extension_again xs)
 
-  pub every_is_element : (xs : List F) → All (IsElement f) (map f.canonical xs)
-  every_is_element xs =
-      All-map (IsElement f) f.canonical xs (λ i d h. numbered.below (get_or xs i d))
-
   pub is_extension : (x : E) → IsExtensionElement f (extension_numbers f x)
   is_extension x = record {
     count = length-map (f.relation.coefficients x) f.canonical ∙ numbered.count x;
-    elements = every_is_element (f.relation.coefficients x);
+    elements = prime.every_is_element f.relation.base f.order f.canonical elements
+        (f.relation.coefficients x);
   }
 
   pub every_is_extension : (xs : List E)

@@ -1,7 +1,6 @@
 -- Requests to open what is kept, and what is claimed of it then.
 use Rattle.std.proofs.Common.{◌≡◌, ◌≢◌, ℕ, zero, suc, List, [], ◌∷◌, map, length, All}
-use Rattle.std.proofs.Common.{Ok, Option, Some, None, refl, sym, subst, ap, ap₂, ◌∙◌, arith}
-use Rattle.std.proofs.Common.{Bool, true, false}
+use Rattle.std.proofs.Common.{Bool, true, false, Ok, Option, Some, None, refl, sym, subst, ap, ap₂, ◌∙◌, arith}
 use Rattle.std.specs.List.{AllZip, flat_map}
 use Rattle.std.proofs.lemmas.List.{length-map}
 use Rattle.std.proofs.lemmas.Slice.Zip.{AllZip-long}
@@ -32,7 +31,7 @@ use Rattle.fri_requests.specs.Requests.{HasPoints, AllMatrices}
 use Rattle.p3_pcs.specs.declared.claims.KnownCommitment.{KnownCommitment}
 use Rattle.fri_requests.proofs.Kept.{pairs_same, pairs_through, through, paired_among}
 use Rattle.fri_requests.proofs.Listed.{HaveNumbers, extension_again}
-use Rattle.fri_requests.proofs.Counts.{Counts, lists_each, some_held}
+use Rattle.fri_requests.proofs.Counts.{Counts, lists_each, some_held, points_there}
 use Rattle.fri_requests.proofs.Zipped.{none_left}
 
 -- as many values at each point as the matrix has columns
@@ -221,13 +220,6 @@ module _ {F E : Type 0} (f : SchemeFields F E) {C Dom D Proof Error ProverError 
   honest_data (c ∷ cs) (ps ∷ pss) [] pairs = absurd pairs
   honest_data (c ∷ cs) (ps ∷ pss) (batch ∷ batches) pairs =
       (pairs.0.committed.commits.honest, honest_data cs pss batches pairs.1)
-
-  points_there : (cs : List (Committed D Dom)) (pss : List (List (List E)))
-      → Each (λ ps. All (λ zs. zs ≢ []) ps) pss
-      → Each (λ q. All (λ zs. zs ≢ []) q.points) (requests_for cs pss)
-  points_there [] pss some = tt
-  points_there (c ∷ cs) [] some = tt
-  points_there (c ∷ cs) (ps ∷ pss) some = (some.0, points_there cs pss some.1)
 
   pub honest : (cs : List (Committed D Dom)) (pss : List (List (List E))) (batches : List Batch)
       → AllZip Kept cs batches → HavePoints pss → AreHonestIn r (requests_for cs pss)

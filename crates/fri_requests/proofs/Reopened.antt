@@ -32,7 +32,7 @@ use Rattle.fri_requests.specs.Openings.{IsOpened, HavePoints, requests_for}
 use Rattle.fri_requests.specs.Prepared.{ArePoints}
 use Rattle.fri_requests.specs.Requests.{InputData, HasPoints}
 use Rattle.fri_requests.proofs.Asked.{have_points}
-use Rattle.fri_requests.proofs.Counts.{Counts, lists_each, some_held}
+use Rattle.fri_requests.proofs.Counts.{Counts, lists_each, some_held, points_there}
 use Rattle.fri_requests.proofs.Keeping.{long_as}
 use Rattle.fri_requests.proofs.Kept.{pairs_same}
 use Rattle.fri_requests.proofs.Listed.{HaveNumbers}
@@ -295,12 +295,6 @@ module _ {F E : Type 0} (f : SchemeFields F E) (numbered : HaveNumbers f) (n : �
             (λ b. length-map b.matrices.items (λ m. lists m.points.items)) counts e);
         some_matrix = some_held held cs pss batches counts (count_same cs pss batches pairs e) some;
       }
-
-  points_there : (cs : List (Committed Data Dom)) (pss : List (List (List E)))
-      → Each (λ ps. All (λ zs. zs ≢ []) ps) pss → Each (λ q. All (λ zs. zs ≢ []) q.points) (requests_for cs pss)
-  points_there [] pss some = tt
-  points_there (c ∷ cs) [] some = tt
-  points_there (c ∷ cs) (ps ∷ pss) some = (some.0, points_there cs pss some.1)
 
   honest : (cs : List (Committed Data Dom)) (pss : List (List (List E))) (batches : List Batch)
       → AllZip Kept cs batches → HavePoints pss

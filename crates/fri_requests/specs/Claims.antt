@@ -24,27 +24,38 @@ pub record BatchNumbers : Type 0 where
   pub commitment : Result (List ℕ) FromHexError
   pub matrices : List MatrixNumbers
 
--- the numbers of claims
+module _ {E : Type 0} (numbers_of : E → List ℕ) where
+  -- the numbers of claims, by those of points and of domains
+  abbrev pub point_by : PointClaim E → PointNumbers
+  point_by c = record { point = numbers_of c.point; values = map numbers_of c.values }
+
+  module _ {Domain : Type 0} (shift_of log_size_of : Domain → ℕ) where
+    abbrev pub matrix_by : MatrixClaim E Domain → MatrixNumbers
+    matrix_by c = record {
+      shift = shift_of c.domain;
+      log_size = log_size_of c.domain;
+      points = map point_by c.points;
+    }
+
+    abbrev pub batch_by : Claim E (List ℕ) Domain → BatchNumbers
+    batch_by c = record {
+      commitment = Ok c.commitment;
+      matrices = map matrix_by c.matrices;
+    }
+
 module _ {F E : Type 0} (f : SchemeFields F E) where
+  -- the same over these fields
   abbrev pub point_numbers : PointClaim E → PointNumbers
-  point_numbers c = record {
-    point = extension_numbers f c.point;
-    values = map (extension_numbers f) c.values;
-  }
+  point_numbers c = point_by (extension_numbers f) c
 
   module _ {Domain : Type 0} (shift_of : Domain → F) (log_size_of : Domain → ℕ) where
     abbrev pub matrix_numbers : MatrixClaim E Domain → MatrixNumbers
-    matrix_numbers c = record {
-      shift = f.canonical (shift_of c.domain);
-      log_size = log_size_of c.domain;
-      points = map point_numbers c.points;
-    }
+    matrix_numbers c =
+        matrix_by (extension_numbers f) (λ d. f.canonical (shift_of d)) log_size_of c
 
     abbrev pub batch_numbers : Claim E (List ℕ) Domain → BatchNumbers
-    batch_numbers c = record {
-      commitment = Ok c.commitment;
-      matrices = map matrix_numbers c.matrices;
-    }
+    batch_numbers c =
+        batch_by (extension_numbers f) (λ d. f.canonical (shift_of d)) log_size_of c
 
 -- the numbers that records list
 abbrev pub point_listed : PointClaims → PointNumbers

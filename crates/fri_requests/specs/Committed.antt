@@ -21,26 +21,43 @@ abbrev pub domain_committed : (hides : Bool) → Domain → Domain
 domain_committed hides d =
     record { shift = d.shift; log_size = log_committed hides d.log_size }
 
+-- a domain of a shift of this number and of `2^log_size` points
+abbrev pub domain_by : (shift log_size : ℕ) → Domain
+domain_by shift log_size = record { shift = shift; log_size = log_size }
+
+-- by which element a number is of, and by the numbers of domains
+module _ {V Dom : Type 0} (element_of : ℕ → V) (shift_of log_size_of : Dom → ℕ) (hides : Bool) where
+  -- the rows that a record lists, beside the domain on which they are committed to
+  pub record IsListedBy (e : Dom × RowMajorMatrix V) (m : Matrix) : Type 0 where
+    pub domain : domain_by (shift_of e.0) (log_size_of e.0) ≡ domain_committed hides m.domain
+    pub width : matrix_width e.1 ≡ m.width
+    pub listed_rows : rows e.1 ≡ rows_of m.width (map element_of m.values.items)
+
+  -- those of each matrix of a batch
+  abbrev pub AreListedBy : List (Dom × RowMajorMatrix V) → Batch → Type 0
+  AreListedBy evaluations batch = AllZip IsListedBy evaluations batch.matrices.items
+
+  -- a batch, read of its record
+  pub record ListsBy (read : ListedBatch V Dom) (batch : Batch) : Type 0 where
+    pub evaluations : AreListedBy read.evaluations.items batch
+    pub preprocessed : read.preprocessed ≡ batch.preprocessed
+
 module _ {F E : Type 0} (f : SchemeFields F E) where
-  -- a domain of this shift and of `2^log_size` points
+  -- the same over these fields
   abbrev pub domain_of : (shift : F) (log_size : ℕ) → Domain
-  domain_of shift log_size = record { shift = f.canonical shift; log_size = log_size }
+  domain_of shift log_size = domain_by (f.canonical shift) log_size
 
   module _ {Dom : Type 0} (hides : Bool) (shift_of : Dom → F) (log_size_of : Dom → ℕ) where
-    -- the rows that a record lists, beside the domain on which they are committed to
-    pub record IsListed (e : Dom × RowMajorMatrix F) (m : Matrix) : Type 0 where
-      pub domain : domain_of (shift_of e.0) (log_size_of e.0) ≡ domain_committed hides m.domain
-      pub width : matrix_width e.1 ≡ m.width
-      pub listed_rows : rows e.1 ≡ rows_of m.width (map (element f) m.values.items)
+    abbrev pub IsListed : Dom × RowMajorMatrix F → Matrix → Type 0
+    IsListed e m = IsListedBy (element f) (λ d. f.canonical (shift_of d)) log_size_of hides e m
 
-    -- those of each matrix of a batch
     abbrev pub AreListed : List (Dom × RowMajorMatrix F) → Batch → Type 0
-    AreListed evaluations batch = AllZip IsListed evaluations batch.matrices.items
+    AreListed evaluations batch =
+        AreListedBy (element f) (λ d. f.canonical (shift_of d)) log_size_of hides evaluations batch
 
-    -- a batch, read of its record
-    pub record Lists (read : ListedBatch F Dom) (batch : Batch) : Type 0 where
-      pub evaluations : AreListed read.evaluations.items batch
-      pub preprocessed : read.preprocessed ≡ batch.preprocessed
+    abbrev pub Lists : ListedBatch F Dom → Batch → Type 0
+    Lists read batch =
+        ListsBy (element f) (λ d. f.canonical (shift_of d)) log_size_of hides read batch
 
 -- the scheme may commit to each of these batches
 pub record CommitsEach {E C V Dom Com D Proof Error ProverError : Type 0}

@@ -4,6 +4,7 @@ pub mod Claims
 pub mod Commitments
 pub mod Committed
 pub mod Keeping
+pub mod Lent
 pub mod Matrices
 pub mod Numbers
 pub mod Openings

@@ -3,6 +3,11 @@ use Rattle.std.specs.Prelude.{◌≡◌, ℕ, ◌<◌, List, map, length, All}
 use Rattle.algebra.specs.Field.{multiple}
 use Rattle.fri_statement.specs.Setting.{SchemeFields}
 
+-- the numbers of so many coefficients, each below the order
+pub record AreCoefficients (order degree : ℕ) (numbers : List ℕ) : Type 0 where
+  pub count : length numbers ≡ degree
+  pub elements : All (λ number. number < order) numbers
+
 module _ {F E : Type 0} (f : SchemeFields F E) where
   -- the element of this number: the multiple of one
   abbrev pub element : ℕ → F
@@ -21,6 +26,5 @@ module _ {F E : Type 0} (f : SchemeFields F E) where
   IsElement number = number < f.order
 
   -- the numbers of as many coefficients as the extension's degree
-  pub record IsExtensionElement (numbers : List ℕ) : Type 0 where
-    pub count : length numbers ≡ f.relation.degree
-    pub elements : All IsElement numbers
+  abbrev pub IsExtensionElement : List ℕ → Type 0
+  IsExtensionElement numbers = AreCoefficients f.order f.relation.degree numbers

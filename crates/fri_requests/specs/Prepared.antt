@@ -11,27 +11,38 @@ use Rattle.fri_statement.specs.Setting.{SchemeFields}
 use Rattle.fri_schemes.specs.Rows.{FitsRows}
 use Rattle.fri_requests.specs.declared.reading.ListedBatch.{ListedBatch}
 use Rattle.fri_requests.specs.Bound.{context_listed, batch_asked, bound}
-use Rattle.fri_requests.specs.Committed.{Lists}
-use Rattle.fri_requests.specs.Numbers.{extension_numbers}
+use Rattle.fri_requests.specs.Committed.{ListsBy}
+use Rattle.fri_requests.specs.Numbers.{element, extension_numbers}
 use Rattle.fri_requests.specs.Openings.{HavePoints}
 use Rattle.fri_requests.specs.Preprocessing.{NamesPreprocessed}
 
+-- batches, read of their records, with the index of the preprocessed one: each matrix has room for
+-- its extension within the two-adicity
+pub record AreReadBy {V Dom : Type 0} (element_of : ℕ → V) (shift_of log_size_of : Dom → ℕ)
+    (two_adicity : ℕ) (hides : Bool) (log_blowup : ℕ) (batches : List Batch) (index : Option ℕ)
+    (read : List (ListedBatch V Dom)) : Type 0 where
+  pub listed : AllZip (ListsBy element_of shift_of log_size_of hides) read batches
+  pub fit : All (λ b. All (λ e. FitsRows two_adicity hides log_blowup (log_size_of e.0) e.1)
+      b.evaluations.items) read
+  pub named : NamesPreprocessed index batches
+
+-- the points that batches list, by their numbers, some for each matrix
+pub record ArePointsBy {E : Type 0} (numbers_of : E → List ℕ) (points : List (List (List E)))
+    (batches : List Batch) : Type 0 where
+  pub numbers : map (map (map numbers_of)) points
+      ≡ map (λ batch. map (λ m. lists m.points.items) batch.matrices.items) batches
+  pub some_points : HavePoints points
+
 module _ {F E : Type 0} (f : SchemeFields F E) where
   module _ {Dom : Type 0} (hides : Bool) (shift_of : Dom → F) (log_size_of : Dom → ℕ) where
-    -- batches, read of their records, with the index of the preprocessed one: each matrix has room
-    -- for its extension
-    pub record AreRead (log_blowup : ℕ) (batches : List Batch) (index : Option ℕ)
-        (read : List (ListedBatch F Dom)) : Type 0 where
-      pub listed : AllZip (Lists f hides shift_of log_size_of) read batches
-      pub fit : All (λ b. All (λ e. FitsRows f.relation.two_adicity hides log_blowup
-          (log_size_of e.0) e.1) b.evaluations.items) read
-      pub named : NamesPreprocessed index batches
+    -- the same over these fields
+    abbrev pub AreRead : (log_blowup : ℕ) → List Batch → (index : Option ℕ)
+        → List (ListedBatch F Dom) → Type 0
+    AreRead log_blowup batches index read = AreReadBy (element f) (λ d. f.canonical (shift_of d))
+        log_size_of f.relation.two_adicity hides log_blowup batches index read
 
-  -- the points that batches list, some for each matrix
-  pub record ArePoints (points : List (List (List E))) (batches : List Batch) : Type 0 where
-    pub numbers : map (map (map (extension_numbers f))) points
-        ≡ map (λ batch. map (λ m. lists m.points.items) batch.matrices.items) batches
-    pub some_points : HavePoints points
+  abbrev pub ArePoints : List (List (List E)) → List Batch → Type 0
+  ArePoints points batches = ArePointsBy (extension_numbers f) points batches
 
   -- the state that is bound to a request, from that in which the challenger begins, once its
   -- batches have these commitments

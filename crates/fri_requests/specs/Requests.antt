@@ -23,40 +23,51 @@ use Rattle.p3_fri_two_adic.specs.Refusals.{OpenRefusal}
 use Rattle.fri_records.specs.declared.records.Matrix.{Matrix}
 use Rattle.fri_records.specs.declared.records.Batch.{Batch}
 use Rattle.fri_records.specs.declared.records.Request.{Request}
-use Rattle.fri_requests.specs.Numbers.{extension_of, IsElement, IsExtensionElement}
+use Rattle.fri_requests.specs.Numbers.{extension_of, IsExtensionElement}
 use Rattle.fri_records.specs.Records.{parameters_in, AreProvers}
 use Rattle.fri_statement.specs.Setting.{SchemeFields, sha256_setting}
 use Rattle.fri_requests.specs.Bound.{IsContext, context_listed, batch_asked, bound}
-use Rattle.fri_requests.specs.Statements.{IsCoset}
+use Rattle.fri_requests.specs.Statements.{IsCosetBelow}
 use Rattle.fri_requests.specs.Committed.{domain_committed}
 use Rattle.fri_requests.specs.Matrices.{held_listed}
 use Rattle.fri_requests.specs.Openings.{request_for}
 use Rattle.fri_requests.specs.Preprocessing.{NamesPreprocessed}
 
-module _ {F E : Type 0} (f : SchemeFields F E) where
-  -- a matrix on a coset, with room for the extension of the domain on which it is committed to:
-  -- some column, and for each column and point of the coset an element
-  pub record IsMatrix (hides : Bool) (log_blowup : ℕ) (m : Matrix) : Type 0 where
-    pub domain : IsCoset f f.relation.two_adicity m.domain.shift m.domain.log_size
-    pub room : (domain_committed hides m.domain).log_size + log_blowup ≤ f.relation.two_adicity
-    pub some_column : 0 < m.width
-    pub count : length m.values.items ≡ m.width * 2 ^ m.domain.log_size
-    pub elements : All (IsElement f) m.values.items
+-- a matrix over a field of this order and two-adicity, on a coset with room for the extension of
+-- the domain on which it is committed to: some column, and for each column and point of the coset
+-- an element
+pub record IsMatrixBelow (order two_adicity : ℕ) (hides : Bool) (log_blowup : ℕ) (m : Matrix)
+    : Type 0 where
+  pub domain : IsCosetBelow order two_adicity m.domain.shift m.domain.log_size
+  pub room : (domain_committed hides m.domain).log_size + log_blowup ≤ two_adicity
+  pub some_column : 0 < m.width
+  pub count : length m.values.items ≡ m.width * 2 ^ m.domain.log_size
+  pub elements : All (λ number. number < order) m.values.items
 
-  -- there is some point to open the matrix at, and each is an element of the extension
-  pub record HasPoints (m : Matrix) : Type 0 where
-    pub some_point : m.points.items ≢ []
-    pub elements : All (IsExtensionElement f) (lists m.points.items)
+-- there is some point to open the matrix at, and each is one
+pub record HasPointsBy (IsPoint : List ℕ → Type 0) (m : Matrix) : Type 0 where
+  pub some_point : m.points.items ≢ []
+  pub elements : All IsPoint (lists m.points.items)
 
 -- `P` of each matrix of each batch
 abbrev pub AllMatrices : (Matrix → Type 0) → List Batch → Type 0
 AllMatrices P batches = All (λ b. All P b.matrices.items) batches
 
+-- batches of such matrices, of which at most one is preprocessed
+pub record AreBatchesOf (IsListed : Matrix → Type 0) (batches : List Batch) : Type 0 where
+  pub matrices : AllMatrices IsListed batches
+  pub preprocessed : (index : Option ℕ) × NamesPreprocessed index batches
+
 module _ {F E : Type 0} (f : SchemeFields F E) where
-  -- batches of matrices, of which at most one is preprocessed
-  pub record AreBatches (hides : Bool) (log_blowup : ℕ) (batches : List Batch) : Type 0 where
-    pub matrices : AllMatrices (IsMatrix f hides log_blowup) batches
-    pub preprocessed : (index : Option ℕ) × NamesPreprocessed index batches
+  -- the same over these fields
+  abbrev pub IsMatrix : (hides : Bool) (log_blowup : ℕ) → Matrix → Type 0
+  IsMatrix hides log_blowup m = IsMatrixBelow f.order f.relation.two_adicity hides log_blowup m
+
+  abbrev pub HasPoints : Matrix → Type 0
+  HasPoints m = HasPointsBy (IsExtensionElement f) m
+
+  abbrev pub AreBatches : (hides : Bool) (log_blowup : ℕ) → List Batch → Type 0
+  AreBatches hides log_blowup batches = AreBatchesOf (IsMatrix hides log_blowup) batches
 
   -- the request can be committed to
   pub record CanCommit (hides : Bool) (request : Request) : Type 0 where
@@ -67,7 +78,7 @@ module _ {F E : Type 0} (f : SchemeFields F E) where
   pub record CanOpen (hides : Bool) (request : Request) : Type 0 where
     pub context : IsContext (string_bytes request.context)
     pub committed : CanCommit hides request
-    pub points : AllMatrices (HasPoints f) request.commitments.items
+    pub points : AllMatrices HasPoints request.commitments.items
     pub some_matrix : flat_map (λ b. b.matrices.items) request.commitments.items ≢ []
 
   -- the points that batches list, matrix by matrix

@@ -9,31 +9,50 @@ use Rattle.fri_records.specs.declared.records.BatchClaims.{BatchClaims}
 use Rattle.fri_records.specs.Records.{parameters_in}
 use Rattle.fri_statement.specs.Setting.{SchemeFields}
 use Rattle.fri_requests.specs.Bound.{IsContext}
-use Rattle.fri_requests.specs.Numbers.{extension_of, IsElement, IsExtensionElement}
+use Rattle.fri_requests.specs.Numbers.{extension_of, IsExtensionElement}
 use Rattle.fri_requests.specs.Claims.{PointNumbers, MatrixNumbers, BatchNumbers, batch_listed}
 
+-- a coset of at most `2^most` points: a shift that is below the order and not zero
+pub record IsCosetBelow (order most shift log_size : ℕ) : Type 0 where
+  pub size : log_size ≤ most
+  pub nonzero : 0 < shift
+  pub element : shift < order
+
+module _ (IsPoint : List ℕ → Type 0) where
+  -- the numbers of claims, by which are those of points and of domains
+  pub record IsPointClaimBy (p : PointNumbers) : Type 0 where
+    pub point : IsPoint p.point
+    pub values : All IsPoint p.values
+
+  module _ (IsDomain : (shift log_size : ℕ) → Type 0) where
+    pub record IsMatrixClaimBy (m : MatrixNumbers) : Type 0 where
+      pub domain : IsDomain m.shift m.log_size
+      pub points : All IsPointClaimBy m.points
+
+    pub record IsClaimBy (b : BatchNumbers) : Type 0 where
+      pub commitment : IsOk b.commitment
+      pub matrices : All IsMatrixClaimBy b.matrices
+
+    -- the records are those of claims
+    abbrev pub AreClaimsBy : List BatchClaims → Type 0
+    AreClaimsBy records = All IsClaimBy (map batch_listed records)
+
 module _ {F E : Type 0} (f : SchemeFields F E) where
-  -- a coset of at most `2^most` points: a shift that is an element and not zero
-  pub record IsCoset (most shift log_size : ℕ) : Type 0 where
-    pub size : log_size ≤ most
-    pub nonzero : 0 < shift
-    pub element : IsElement f shift
+  -- the same over these fields
+  abbrev pub IsCoset : (most shift log_size : ℕ) → Type 0
+  IsCoset most shift log_size = IsCosetBelow f.order most shift log_size
 
-  pub record IsPointClaim (p : PointNumbers) : Type 0 where
-    pub point : IsExtensionElement f p.point
-    pub values : All (IsExtensionElement f) p.values
+  abbrev pub IsPointClaim : PointNumbers → Type 0
+  IsPointClaim p = IsPointClaimBy (IsExtensionElement f) p
 
-  pub record IsMatrixClaim (m : MatrixNumbers) : Type 0 where
-    pub domain : IsCoset f.relation.two_adicity m.shift m.log_size
-    pub points : All IsPointClaim m.points
+  abbrev pub IsMatrixClaim : MatrixNumbers → Type 0
+  IsMatrixClaim m = IsMatrixClaimBy (IsExtensionElement f) (IsCoset f.relation.two_adicity) m
 
-  pub record IsClaim (b : BatchNumbers) : Type 0 where
-    pub commitment : IsOk b.commitment
-    pub matrices : All IsMatrixClaim b.matrices
+  abbrev pub IsClaim : BatchNumbers → Type 0
+  IsClaim b = IsClaimBy (IsExtensionElement f) (IsCoset f.relation.two_adicity) b
 
-  -- the records are those of claims
   abbrev pub AreClaims : List BatchClaims → Type 0
-  AreClaims records = All IsClaim (map batch_listed records)
+  AreClaims records = AreClaimsBy (IsExtensionElement f) (IsCoset f.relation.two_adicity) records
 
   -- and the parameters are in the verifier's range, and the context is bytes
   pub record IsStatement (context : List ℕ) (parameters : Parameters) (records : List BatchClaims)

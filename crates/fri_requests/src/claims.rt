@@ -4,68 +4,66 @@ ghost use Rattle.std.specs.Prelude.{◌≡◌, map, IfOk, IfErr, Ok, string_byte
 ghost use Rattle.algebra.specs.Nested.{lists};
 ghost use Rattle.hex.specs.Hex.{decode_sized};
 ghost use Rattle.p3_pcs.specs.Claims.{claim, matrix_claim, point_claim};
-ghost use Rattle.fri_requests.specs.Claims.{point_numbers, matrix_numbers, batch_numbers};
+ghost use Rattle.fri_requests.specs.Claims.{point_by, matrix_by, batch_by};
 ghost use Rattle.fri_requests.specs.Claims.{point_listed, matrix_listed, batch_listed};
 ghost use Rattle.fri_records.specs.Failures.{IfMalformed};
-ghost use Rattle.fri_requests.specs.Numbers.{extension_numbers};
-ghost use Rattle.fri_requests.specs.Statements.{IsPointClaim, IsMatrixClaim, IsClaim, AreClaims};
+ghost use Rattle.fri_requests.specs.Statements.{IsPointClaimBy, IsMatrixClaimBy, IsClaimBy};
+ghost use Rattle.fri_requests.specs.Statements.{AreClaimsBy};
 
-use crate::elements::{coefficients, coset, domain, extension_element, extension_elements};
+use crate::elements::{Numbered, read_points};
 use fri_records::{BatchClaims, Fault, MatrixClaims, Place, PointClaims, ReadError};
-use fri_schemes::{Coset, SchemeField, SchemeParts};
+use fri_schemes::{Coset, SchemeField};
 use hex::FromHex;
 use p3_mmcs::{CommitmentOpening, MatrixOpening, PointOpening};
 use std::alloc::{AllocError, Global};
 
 /// What is claimed of a commitment.
-pub(crate) type Claim<F> = CommitmentOpening<<F as SchemeField>::Extension, [u8; 32], Coset<F>>;
+pub(crate) type ClaimOn<EF, D> = CommitmentOpening<EF, [u8; 32], D>;
 
-/// Claims of commitments.
-pub(crate) type Claims<F> = Vec<Claim<F>>;
+/// Claims of commitments, over a field and its extension.
+pub(crate) type Claims<F> = Vec<ClaimOn<<F as SchemeField>::Extension, Coset<F>>>;
 
-/// The coefficients' numbers of elements of the extension.
-fn all_coefficients<F: SchemeField>(
+/// The numbers of points.
+fn all_numbers<EF: Copy, D: Copy, N: Numbered<EF, D>>(
     alloc: Global,
-    elements: &[F::Extension],
+    points: &[EF],
 ) -> Result<Vec<Vec<u64>>, AllocError>
-    ensures { IfOk result (λ all.
-        lists all.items ≡ map (extension_numbers ⟦<F as SchemeParts>⟧.fields) elements.now) }
+    ensures { IfOk result (λ all. lists all.items ≡ map N.numbers_of points.now) }
 {
-    let mut all = Vec::with_capacity(alloc, elements.len())?;
-    for element in elements {
-        all.push(coefficients::<F>(alloc, *element)?)?;
+    let mut all = Vec::with_capacity(alloc, points.len())?;
+    for point in points {
+        all.push(N::point_numbers(alloc, *point)?)?;
     }
     Ok(all)
 }
 
 /// The values at a point as a record.
-fn point_claims<F: SchemeField>(
+fn point_claims<EF: Copy, D: Copy, N: Numbered<EF, D>>(
     alloc: Global,
-    opening: &PointOpening<F::Extension>,
+    opening: &PointOpening<EF>,
 ) -> Result<PointClaims, AllocError>
-    ensures { IfOk result (λ r. point_listed r
-        ≡ point_numbers ⟦<F as SchemeParts>⟧.fields (point_claim opening.now)) }
+    ensures { IfOk result (λ r. point_listed r ≡ point_by N.numbers_of (point_claim opening.now)) }
 {
     Ok(PointClaims {
-        point: coefficients::<F>(alloc, opening.point)?,
-        values: all_coefficients::<F>(alloc, &opening.values)?,
+        point: N::point_numbers(alloc, opening.point)?,
+        values: all_numbers::<EF, D, N>(alloc, &opening.values)?,
     })
 }
 
 /// What is claimed of a matrix as a record.
-fn matrix_claims<F: SchemeField>(
+fn matrix_claims<EF: Copy, D: Copy, N: Numbered<EF, D>>(
     alloc: Global,
-    opening: &MatrixOpening<F::Extension, Coset<F>>,
+    opening: &MatrixOpening<EF, D>,
 ) -> Result<MatrixClaims, AllocError>
-    ensures { IfOk result (λ r. matrix_listed r ≡ matrix_numbers ⟦<F as SchemeParts>⟧.fields
-        (λ d. d.shift) (λ d. d.log_size) (matrix_claim opening.now)) }
+    ensures { IfOk result (λ r. matrix_listed r
+        ≡ matrix_by N.numbers_of N.shift_of N.log_size_of (matrix_claim opening.now)) }
 {
     let mut points = Vec::with_capacity(alloc, opening.points.len())?;
     for point in &opening.points {
-        points.push(point_claims::<F>(alloc, point)?)?;
+        points.push(point_claims::<EF, D, N>(alloc, point)?)?;
     }
     Ok(MatrixClaims {
-        domain: domain(opening.domain),
+        domain: N::domain_numbers(opening.domain),
         points,
     })
 }
@@ -78,16 +76,16 @@ fn hex_of(alloc: Global, commitment: &[u8; 32]) -> Result<String, AllocError>
 }
 
 /// What is claimed of a commitment's matrices as a record.
-fn batch_claims<F: SchemeField>(
+fn batch_claims<EF: Copy, D: Copy, N: Numbered<EF, D>>(
     alloc: Global,
-    opening: &Claim<F>,
+    opening: &ClaimOn<EF, D>,
 ) -> Result<BatchClaims, AllocError>
-    ensures { IfOk result (λ r. batch_listed r ≡ batch_numbers ⟦<F as SchemeParts>⟧.fields
-        (λ d. d.shift) (λ d. d.log_size) (claim opening.now)) }
+    ensures { IfOk result (λ r. batch_listed r
+        ≡ batch_by N.numbers_of N.shift_of N.log_size_of (claim opening.now)) }
 {
     let mut matrices = Vec::with_capacity(alloc, opening.matrices.len())?;
     for matrix in &opening.matrices {
-        matrices.push(matrix_claims::<F>(alloc, matrix)?)?;
+        matrices.push(matrix_claims::<EF, D, N>(alloc, matrix)?)?;
     }
     Ok(BatchClaims {
         commitment: hex_of(alloc, &opening.commitment)?,
@@ -96,73 +94,70 @@ fn batch_claims<F: SchemeField>(
 }
 
 /// Claims as records.
-pub(crate) fn claims_out<F: SchemeField>(
+pub(crate) fn claims_out<EF: Copy, D: Copy, N: Numbered<EF, D>>(
     alloc: Global,
-    claims: &Claims<F>,
+    claims: &Vec<ClaimOn<EF, D>>,
 ) -> Result<Vec<BatchClaims>, AllocError>
     ensures { IfOk result (λ records. map batch_listed records.items
-        ≡ map (batch_numbers ⟦<F as SchemeParts>⟧.fields (λ d. d.shift) (λ d. d.log_size))
-        (map claim claims.now.items)) }
+        ≡ map (batch_by N.numbers_of N.shift_of N.log_size_of) (map claim claims.now.items)) }
 {
     let mut batches = Vec::with_capacity(alloc, claims.len())?;
     for opening in claims {
-        batches.push(batch_claims::<F>(alloc, opening)?)?;
+        batches.push(batch_claims::<EF, D, N>(alloc, opening)?)?;
     }
     Ok(batches)
 }
 
 /// The values at a point, whose record is at this place.
-fn point_opening<F: SchemeField>(
+fn point_opening<EF: Copy, D: Copy, N: Numbered<EF, D>>(
     alloc: Global,
     claims: &PointClaims,
     place: Place,
-) -> Result<PointOpening<F::Extension>, ReadError>
+) -> Result<PointOpening<EF>, ReadError>
     ensures numbers { IfOk result (λ o.
-        point_numbers ⟦<F as SchemeParts>⟧.fields (point_claim o) ≡ point_listed claims.now) }
+        point_by N.numbers_of (point_claim o) ≡ point_listed claims.now) }
     ensures refused { IfErr result (IfMalformed
-        (¬ IsPointClaim ⟦<F as SchemeParts>⟧.fields (point_listed claims.now))) }
+        (¬ IsPointClaimBy N.IsPoint (point_listed claims.now))) }
 {
     Ok(PointOpening {
-        point: extension_element::<F>(&claims.point, place)?,
-        values: extension_elements::<F>(alloc, &claims.values, place)?,
+        point: N::read_point(&claims.point, place)?,
+        values: read_points::<EF, D, N>(alloc, &claims.values, place)?,
     })
 }
 
 /// What is claimed of the matrix at this place.
-fn matrix_opening<F: SchemeField>(
+fn matrix_opening<EF: Copy, D: Copy, N: Numbered<EF, D>>(
     alloc: Global,
     claims: &MatrixClaims,
     place: Place,
-) -> Result<MatrixOpening<F::Extension, Coset<F>>, ReadError>
-    ensures numbers { IfOk result (λ o.
-        matrix_numbers ⟦<F as SchemeParts>⟧.fields (λ d. d.shift) (λ d. d.log_size)
+) -> Result<MatrixOpening<EF, D>, ReadError>
+    ensures numbers { IfOk result (λ o. matrix_by N.numbers_of N.shift_of N.log_size_of
         (matrix_claim o) ≡ matrix_listed claims.now) }
     ensures refused { IfErr result (IfMalformed
-        (¬ IsMatrixClaim ⟦<F as SchemeParts>⟧.fields (matrix_listed claims.now))) }
+        (¬ IsMatrixClaimBy N.IsPoint N.IsDomain (matrix_listed claims.now))) }
 {
-    let domain = coset::<F>(&claims.domain, F::TWO_ADICITY, place)?;
+    let domain = N::read_domain(&claims.domain, place)?;
     let mut points = Vec::with_capacity(alloc, claims.points.len())?;
     for (index, point) in claims.points.iter().enumerate() {
         let place = Place {
             point: Some(index),
             ..place
         };
-        points.push(point_opening::<F>(alloc, point, place)?)?;
+        points.push(point_opening::<EF, D, N>(alloc, point, place)?)?;
     }
     Ok(MatrixOpening { domain, points })
 }
 
 /// What is claimed of the matrices of the commitment at this place.
-fn commitment_opening<F: SchemeField>(
+fn commitment_opening<EF: Copy, D: Copy, N: Numbered<EF, D>>(
     alloc: Global,
     claims: &BatchClaims,
     place: Place,
-) -> Result<Claim<F>, ReadError>
-    ensures numbers { IfOk result (λ o.
-        batch_numbers ⟦<F as SchemeParts>⟧.fields (λ d. d.shift) (λ d. d.log_size) (claim o)
+) -> Result<ClaimOn<EF, D>, ReadError>
+    ensures numbers { IfOk result (λ o. batch_by N.numbers_of N.shift_of N.log_size_of (claim o)
         ≡ batch_listed claims.now) }
     ensures refused { IfErr result (IfMalformed
-        (¬ IsClaim ⟦<F as SchemeParts>⟧.fields (batch_listed claims.now))) }
+        (¬ IsClaimBy N.IsPoint N.IsDomain (batch_listed claims.now))) }
 {
     let Ok(commitment) = <[u8; 32] as FromHex>::from_hex(claims.commitment.as_str()) else {
         return Err(place.lacks(Fault::Commitment).into());
@@ -173,7 +168,7 @@ fn commitment_opening<F: SchemeField>(
             matrix: Some(index),
             ..place
         };
-        matrices.push(matrix_opening::<F>(alloc, matrix, place)?)?;
+        matrices.push(matrix_opening::<EF, D, N>(alloc, matrix, place)?)?;
     }
     Ok(CommitmentOpening {
         commitment,
@@ -182,15 +177,14 @@ fn commitment_opening<F: SchemeField>(
 }
 
 /// The claims of records.
-pub(crate) fn claims_in<F: SchemeField>(
+pub(crate) fn claims_in<EF: Copy, D: Copy, N: Numbered<EF, D>>(
     alloc: Global,
     claims: &[BatchClaims],
-) -> Result<Claims<F>, ReadError>
-    ensures numbers { IfOk result (λ v. map (batch_numbers ⟦<F as SchemeParts>⟧.fields
-        (λ d. d.shift) (λ d. d.log_size)) (map claim v.items) ≡ map batch_listed claims.now) }
-    ensures well_formed { IfOk result (λ _. AreClaims ⟦<F as SchemeParts>⟧.fields claims.now) }
+) -> Result<Vec<ClaimOn<EF, D>>, ReadError>
+    ensures numbers { IfOk result (λ v. map (batch_by N.numbers_of N.shift_of N.log_size_of)
+        (map claim v.items) ≡ map batch_listed claims.now) }
     ensures refused { IfErr result (IfMalformed
-        (¬ AreClaims ⟦<F as SchemeParts>⟧.fields claims.now)) }
+        (¬ AreClaimsBy N.IsPoint N.IsDomain claims.now)) }
 {
     let mut openings = Vec::with_capacity(alloc, claims.len())?;
     for (index, batch) in claims.iter().enumerate() {
@@ -198,7 +192,7 @@ pub(crate) fn claims_in<F: SchemeField>(
             commitment: Some(index),
             ..Place::CLAIMS
         };
-        openings.push(commitment_opening::<F>(alloc, batch, place)?)?;
+        openings.push(commitment_opening::<EF, D, N>(alloc, batch, place)?)?;
     }
     Ok(openings)
 }

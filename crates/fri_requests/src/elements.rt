@@ -1,19 +1,18 @@
 //! Elements and domains of their numbers.
 
-ghost use Rattle.std.specs.Prelude.{◌≡◌, ◌↔◌, ◌≤◌, map, length, vec_len};
+ghost use Rattle.std.specs.Prelude.{◌≡◌, ◌↔◌, ◌≤◌, ◌<◌, ℕ, List, map, length, vec_len};
 ghost use Rattle.std.specs.Prelude.{IsSome, IfSome, IfOk, IfErr, All};
-ghost use Rattle.fri_requests.specs.Numbers.{IsElement, IsExtensionElement, extension_numbers};
+ghost use Rattle.fri_requests.specs.Numbers.{AreCoefficients};
 ghost use Rattle.fri_records.specs.Failures.{IfMalformed};
-ghost use Rattle.fri_requests.specs.Statements.{IsCoset};
+ghost use Rattle.fri_requests.specs.Statements.{IsCosetBelow};
 
 use fri_records::{Domain, Fault, Misfit, Place, ReadError};
-use fri_schemes::{Coset, SchemeField, SchemeParts};
-use p3_field::{ExtensionField, Field};
+use p3_field::{ExtensionField, Field, PrimeField64, TwoAdicField, TwoAdicMultiplicativeCoset};
 use std::alloc::{AllocError, Global};
 
 /// The element of this canonical number.
-fn element<F: SchemeField>(number: u64) -> Option<F>
-    ensures some { IsSome result ↔ IsElement ⟦<F as SchemeParts>⟧.fields number }
+fn element<F: PrimeField64>(number: u64) -> Option<F>
+    ensures some { IsSome result ↔ (number < F.ORDER_U64) }
     ensures number { IfSome result (λ x. F.canonical x ≡ number) }
 {
     if number < F::ORDER_U64 {
@@ -24,7 +23,7 @@ fn element<F: SchemeField>(number: u64) -> Option<F>
 }
 
 /// The elements of these canonical numbers, at this place.
-pub(crate) fn elements<F: SchemeField>(
+pub(crate) fn elements<F: PrimeField64>(
     alloc: Global,
     numbers: &[u64],
     place: Place,
@@ -32,7 +31,7 @@ pub(crate) fn elements<F: SchemeField>(
     ensures numbers { IfOk result (λ v. map F.canonical v.items ≡ numbers.now) }
     ensures count { IfOk result (λ v. vec_len v ≡ length numbers.now) }
     ensures refused { IfErr result (IfMalformed
-        (¬ All (IsElement ⟦<F as SchemeParts>⟧.fields) numbers.now)) }
+        (¬ All (λ number. number < F.ORDER_U64) numbers.now)) }
 {
     let mut values = Vec::with_capacity(alloc, numbers.len())?;
     for (index, number) in numbers.iter().enumerate() {
@@ -49,9 +48,9 @@ pub(crate) fn elements<F: SchemeField>(
 }
 
 /// The coefficient of this canonical number, of an element at this place.
-fn coefficient<F: SchemeField>(number: u64, place: Place) -> Result<F, Misfit>
+fn coefficient<F: PrimeField64>(number: u64, place: Place) -> Result<F, Misfit>
     ensures number { IfOk result (λ x. F.canonical x ≡ number) }
-    ensures refused { IfErr result (λ _. ¬ IsElement ⟦<F as SchemeParts>⟧.fields number) }
+    ensures refused { IfErr result (λ _. ¬ (number < F.ORDER_U64)) }
 {
     match element(number) {
         Some(value) => Ok(value),
@@ -60,19 +59,18 @@ fn coefficient<F: SchemeField>(number: u64, place: Place) -> Result<F, Misfit>
 }
 
 /// The element of the extension with these coefficients, at this place.
-pub(crate) fn extension_element<F: SchemeField>(
+fn extension_element<F: PrimeField64, EF: ExtensionField<F>>(
     numbers: &[u64],
     place: Place,
-) -> Result<F::Extension, Misfit>
-    ensures numbers { IfOk result (λ x.
-        extension_numbers ⟦<F as SchemeParts>⟧.fields x ≡ numbers.now) }
+) -> Result<EF, Misfit>
+    ensures numbers { IfOk result (λ x. map F.canonical (EF.coefficients x) ≡ numbers.now) }
     ensures refused { IfErr result (λ _.
-        ¬ IsExtensionElement ⟦<F as SchemeParts>⟧.fields numbers.now) }
+        ¬ AreCoefficients F.ORDER_U64 EF.DIMENSION numbers.now) }
 {
-    if numbers.len() != <F::Extension as ExtensionField<F>>::DIMENSION {
+    if numbers.len() != EF::DIMENSION {
         return Err(place.lacks(Fault::ExtensionElement));
     }
-    let mut element = <F::Extension as Field>::ZERO;
+    let mut element = EF::ZERO;
     for (index, number) in numbers.iter().enumerate() {
         let value: F = coefficient(*number, place)?;
         element = element.with_coefficient(index, value);
@@ -80,39 +78,14 @@ pub(crate) fn extension_element<F: SchemeField>(
     Ok(element)
 }
 
-/// The elements of the extension with these coefficients; their indices follow `place`.
-pub(crate) fn extension_elements<F: SchemeField>(
-    alloc: Global,
-    lists: &[Vec<u64>],
-    place: Place,
-) -> Result<Vec<F::Extension>, ReadError>
-    ensures numbers { IfOk result (λ v.
-        map (extension_numbers ⟦<F as SchemeParts>⟧.fields) v.items
-        ≡ map (λ numbers. numbers.items) lists.now) }
-    ensures refused { IfErr result (IfMalformed
-        (¬ All (IsExtensionElement ⟦<F as SchemeParts>⟧.fields)
-        (map (λ numbers. numbers.items) lists.now))) }
-{
-    let mut values = Vec::with_capacity(alloc, lists.len())?;
-    for (index, numbers) in lists.iter().enumerate() {
-        let place = Place {
-            value: Some(index),
-            ..place
-        };
-        values.push(extension_element::<F>(numbers, place)?)?;
-    }
-    Ok(values)
-}
-
 /// The coefficients' numbers of an element of the extension.
-pub(crate) fn coefficients<F: SchemeField>(
+pub(crate) fn coefficients<F: PrimeField64, EF: ExtensionField<F>>(
     alloc: Global,
-    element: F::Extension,
+    element: EF,
 ) -> Result<Vec<u64>, AllocError>
-    ensures { IfOk result (λ v.
-        v.items ≡ extension_numbers ⟦<F as SchemeParts>⟧.fields element) }
+    ensures { IfOk result (λ v. v.items ≡ map F.canonical (EF.coefficients element)) }
 {
-    let degree = <F::Extension as ExtensionField<F>>::DIMENSION;
+    let degree = EF::DIMENSION;
     let mut numbers = Vec::with_capacity(alloc, degree)?;
     for index in 0..degree {
         let value: F = element.coefficient(index);
@@ -122,19 +95,19 @@ pub(crate) fn coefficients<F: SchemeField>(
 }
 
 /// The coset of a domain, of at most `2^most` points.
-pub(crate) fn coset<F: SchemeField>(
+pub(crate) fn coset<F: PrimeField64 + TwoAdicField>(
     domain: &Domain,
     most: usize,
     place: Place,
-) -> Result<Coset<F>, Misfit>
+) -> Result<TwoAdicMultiplicativeCoset<F>, Misfit>
     requires most { most ≤ F.TWO_ADICITY }
     ensures size { IfOk result (λ c. c.log_size ≡ domain.now.log_size) }
     ensures room { IfOk result (λ c. c.log_size ≤ most) }
     ensures shift { IfOk result (λ c. F.canonical c.shift ≡ domain.now.shift) }
-    ensures well_formed { IfOk result (λ _. IsCoset ⟦<F as SchemeParts>⟧.fields most
-        domain.now.shift domain.now.log_size) }
-    ensures refused { IfErr result (λ _. ¬ IsCoset ⟦<F as SchemeParts>⟧.fields most
-        domain.now.shift domain.now.log_size) }
+    ensures well_formed { IfOk result (λ _. IsCosetBelow F.ORDER_U64 most domain.now.shift
+        domain.now.log_size) }
+    ensures refused { IfErr result (λ _. ¬ IsCosetBelow F.ORDER_U64 most domain.now.shift
+        domain.now.log_size) }
 {
     if domain.log_size > most {
         return Err(place.lacks(Fault::LogSize));
@@ -142,19 +115,103 @@ pub(crate) fn coset<F: SchemeField>(
     let Some(shift) = element(domain.shift) else {
         return Err(place.lacks(Fault::Shift));
     };
-    match Coset::new(shift, domain.log_size) {
+    match TwoAdicMultiplicativeCoset::new(shift, domain.log_size) {
         Some(coset) => Ok(coset),
         None => Err(place.lacks(Fault::Shift)),
     }
 }
 
-/// The domain of a coset.
-pub(crate) fn domain<F: SchemeField>(coset: Coset<F>) -> Domain
-    ensures shift { result.shift ≡ F.canonical coset.shift }
-    ensures log_size { result.log_size ≡ coset.log_size }
-{
-    Domain {
-        shift: coset.shift.as_canonical_u64(),
-        log_size: coset.log_size,
+/// What numbers are read of and written as, where records name points and domains: the points are
+/// of type `EF`, the domains of type `D`. What reads and writes whole records asks for no more.
+pub(crate) trait Numbered<EF: Copy, D: Copy> {
+    // the numbers of a point
+    ghost numbers_of: { EF → List ℕ };
+
+    // those of a domain: its shift's, and the logarithm of its size
+    ghost shift_of: { D → ℕ };
+
+    ghost log_size_of: { D → ℕ };
+
+    // these are the numbers of some point, and those of some domain
+    ghost IsPoint: { List ℕ → Type 0 };
+
+    ghost IsDomain: { ℕ → ℕ → Type 0 };
+
+    /// The numbers of a point.
+    fn point_numbers(alloc: Global, point: EF) -> Result<Vec<u64>, AllocError>
+        ensures { IfOk result (λ v. v.items ≡ numbers_of point) };
+
+    /// The point of these numbers, at this place.
+    fn read_point(numbers: &[u64], place: Place) -> Result<EF, Misfit>
+        ensures numbers { IfOk result (λ x. numbers_of x ≡ numbers.now) }
+        ensures refused { IfErr result (λ _. ¬ IsPoint numbers.now) };
+
+    /// A domain as a record.
+    fn domain_numbers(domain: D) -> Domain
+        ensures shift { result.shift ≡ shift_of domain }
+        ensures log_size { result.log_size ≡ log_size_of domain };
+
+    /// The domain of a record, at this place.
+    fn read_domain(domain: &Domain, place: Place) -> Result<D, Misfit>
+        ensures shift { IfOk result (λ d. shift_of d ≡ domain.now.shift) }
+        ensures log_size { IfOk result (λ d. log_size_of d ≡ domain.now.log_size) }
+        ensures refused { IfErr result (λ _.
+            ¬ IsDomain domain.now.shift domain.now.log_size) };
+}
+
+/// Points are elements of an extension, by their coefficients, and domains are cosets.
+impl<F: PrimeField64 + TwoAdicField, EF: ExtensionField<F>> Numbered<
+    EF,
+    TwoAdicMultiplicativeCoset<F>,
+> for F {
+    ghost numbers_of = { λ x. map F.canonical (EF.coefficients x) };
+
+    ghost shift_of = { λ d. F.canonical d.shift };
+
+    ghost log_size_of = { λ d. d.log_size };
+
+    ghost IsPoint = { λ numbers. AreCoefficients F.ORDER_U64 EF.DIMENSION numbers };
+
+    ghost IsDomain = { λ shift log_size. IsCosetBelow F.ORDER_U64 F.TWO_ADICITY shift log_size };
+
+    fn point_numbers(alloc: Global, point: EF) -> Result<Vec<u64>, AllocError> {
+        coefficients::<F, EF>(alloc, point)
     }
+
+    fn read_point(numbers: &[u64], place: Place) -> Result<EF, Misfit> {
+        extension_element::<F, EF>(numbers, place)
+    }
+
+    fn domain_numbers(domain: TwoAdicMultiplicativeCoset<F>) -> Domain {
+        Domain {
+            shift: domain.shift.as_canonical_u64(),
+            log_size: domain.log_size,
+        }
+    }
+
+    fn read_domain(domain: &Domain, place: Place) -> Result<TwoAdicMultiplicativeCoset<F>, Misfit> {
+        coset::<F>(domain, F::TWO_ADICITY, place)
+    }
+}
+
+/// The points of these numbers; their indices follow `place`.
+pub(crate) fn read_points<EF: Copy, D: Copy, N: Numbered<EF, D>>(
+    alloc: Global,
+    lists: &[Vec<u64>],
+    place: Place,
+) -> Result<Vec<EF>, ReadError>
+    ensures numbers { IfOk result (λ v.
+        map N.numbers_of v.items ≡ map (λ numbers. numbers.items) lists.now) }
+    ensures refused { IfErr result (IfMalformed
+        (¬ All N.IsPoint (map (λ numbers. numbers.items) lists.now))) }
+{
+    let mut values = Vec::with_capacity(alloc, lists.len())?;
+    for (index, numbers) in lists.iter().enumerate() {
+        let place = Place {
+            value: Some(index),
+            ..place
+        };
+        values.push(N::read_point(numbers, place)?)?;
+    }
+    Ok(values)
 }

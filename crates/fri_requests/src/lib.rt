@@ -19,6 +19,7 @@
 mod claims;
 mod committed;
 mod elements;
+mod lending;
 mod masking;
 mod matrices;
 mod naming;

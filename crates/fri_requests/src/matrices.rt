@@ -6,15 +6,15 @@ ghost use Rattle.algebra.specs.Nested.{lists};
 ghost use Rattle.p3_matrix.specs.Matrix.{rows, matrix_width};
 ghost use Rattle.p3_matrix.specs.Rows.{rows_of};
 ghost use Rattle.fri_schemes.specs.Rows.{log_committed, FitsRows};
-ghost use Rattle.fri_requests.specs.Committed.{IsListed, AreListed};
+ghost use Rattle.algebra.specs.Field.{multiple};
+ghost use Rattle.fri_requests.specs.Committed.{IsListedBy, AreListedBy};
 ghost use Rattle.fri_records.specs.Failures.{IfMalformed};
-ghost use Rattle.fri_requests.specs.Numbers.{extension_numbers};
-ghost use Rattle.fri_requests.specs.Requests.{IsMatrix, HasPoints};
+ghost use Rattle.fri_requests.specs.Requests.{IsMatrixBelow, HasPointsBy};
 
-use crate::elements::{coset, elements, extension_element};
+use crate::elements::{Numbered, coset, elements};
 use fri_records::{Batch, Fault, Matrix, Place, ReadError};
-use fri_schemes::{Coset, SchemeField, SchemeParts};
-use p3_field::TwoAdicMultiplicativeCoset;
+use fri_schemes::Coset;
+use p3_field::{PrimeField64, TwoAdicField, TwoAdicMultiplicativeCoset};
 use p3_matrix::RowMajorMatrix;
 use std::alloc::Global;
 
@@ -31,7 +31,7 @@ fn is_count(count: usize, width: usize, log_size: usize) -> bool
 }
 
 /// The matrix of these values.
-fn matrix_of<F: SchemeField>(values: Vec<F>, width: usize, log_size: usize) -> RowMajorMatrix<F>
+fn matrix_of<V: Copy>(values: Vec<V>, width: usize, log_size: usize) -> RowMajorMatrix<V>
     requires some { 0 < width }
     requires size { vec_len values ≡ width * 2 ^ log_size }
     ensures height { length (rows result) ≡ 2 ^ log_size }
@@ -43,7 +43,7 @@ fn matrix_of<F: SchemeField>(values: Vec<F>, width: usize, log_size: usize) -> R
 
 /// The logarithm of the greatest size of a domain on which a matrix may be listed, so that the
 /// domain on which it is committed to has room for its extension.
-fn room_of<F: SchemeField>(log_blowup: usize, hides: bool) -> Option<usize>
+fn room_of<F: TwoAdicField>(log_blowup: usize, hides: bool) -> Option<usize>
     requires blowup { log_blowup ≤ F.TWO_ADICITY }
     ensures none { IsNone result
         → (log_size : ℕ) → ¬ (log_committed hides log_size + log_blowup ≤ F.TWO_ADICITY) }
@@ -60,7 +60,7 @@ fn room_of<F: SchemeField>(log_blowup: usize, hides: bool) -> Option<usize>
 }
 
 /// The domain on which a matrix is committed to that is listed on this one.
-fn domain_committed<F: SchemeField>(domain: Coset<F>, hides: bool) -> Coset<F>
+fn domain_committed<F: TwoAdicField>(domain: Coset<F>, hides: bool) -> Coset<F>
     requires room { log_committed hides domain.log_size ≤ F.TWO_ADICITY }
     ensures shift { result.shift ≡ domain.shift }
     ensures size { result.log_size ≡ log_committed hides domain.log_size }
@@ -76,7 +76,7 @@ fn domain_committed<F: SchemeField>(domain: Coset<F>, hides: bool) -> Coset<F>
 }
 
 /// A matrix on the domain on which it is committed to, with room for its extension.
-fn evaluations<F: SchemeField>(
+fn evaluations<F: PrimeField64 + TwoAdicField>(
     alloc: Global,
     matrix: &Matrix,
     log_blowup: usize,
@@ -85,12 +85,12 @@ fn evaluations<F: SchemeField>(
 ) -> Result<Evaluations<F>, ReadError>
     requires blowup { log_blowup ≤ F.TWO_ADICITY }
     ensures fits { IfOk result (λ e. FitsRows F.TWO_ADICITY hides log_blowup e.0.log_size e.1) }
-    ensures listed { IfOk result (λ e. IsListed ⟦<F as SchemeParts>⟧.fields hides (λ d. d.shift)
-        (λ d. d.log_size) e matrix.now) }
+    ensures listed { IfOk result (λ e. IsListedBy (λ number. multiple F.ops number)
+        (λ d. F.canonical d.shift) (λ d. d.log_size) hides e matrix.now) }
     ensures well_formed { IfOk result (λ _.
-        IsMatrix ⟦<F as SchemeParts>⟧.fields hides log_blowup matrix.now) }
+        IsMatrixBelow F.ORDER_U64 F.TWO_ADICITY hides log_blowup matrix.now) }
     ensures refused { IfErr result (IfMalformed
-        (¬ IsMatrix ⟦<F as SchemeParts>⟧.fields hides log_blowup matrix.now)) }
+        (¬ IsMatrixBelow F.ORDER_U64 F.TWO_ADICITY hides log_blowup matrix.now)) }
 {
     let Some(most) = room_of::<F>(log_blowup, hides) else {
         return Err(place.lacks(Fault::LogSize).into());
@@ -108,7 +108,7 @@ fn evaluations<F: SchemeField>(
 }
 
 /// The matrices of the commitment at this place.
-pub(crate) fn batch_evaluations<F: SchemeField>(
+pub(crate) fn batch_evaluations<F: PrimeField64 + TwoAdicField>(
     alloc: Global,
     batch: &Batch,
     log_blowup: usize,
@@ -118,12 +118,12 @@ pub(crate) fn batch_evaluations<F: SchemeField>(
     requires blowup { log_blowup ≤ F.TWO_ADICITY }
     ensures fit { IfOk result (λ all.
         All (λ e. FitsRows F.TWO_ADICITY hides log_blowup e.0.log_size e.1) all.items) }
-    ensures listed { IfOk result (λ all. AreListed ⟦<F as SchemeParts>⟧.fields hides (λ d. d.shift)
-        (λ d. d.log_size) all.items batch.now) }
-    ensures well_formed { IfOk result (λ _.
-        All (IsMatrix ⟦<F as SchemeParts>⟧.fields hides log_blowup) batch.now.matrices.items) }
+    ensures listed { IfOk result (λ all. AreListedBy (λ number. multiple F.ops number)
+        (λ d. F.canonical d.shift) (λ d. d.log_size) hides all.items batch.now) }
+    ensures well_formed { IfOk result (λ _. All
+        (IsMatrixBelow F.ORDER_U64 F.TWO_ADICITY hides log_blowup) batch.now.matrices.items) }
     ensures refused { IfErr result (IfMalformed (¬ All
-        (IsMatrix ⟦<F as SchemeParts>⟧.fields hides log_blowup) batch.now.matrices.items)) }
+        (IsMatrixBelow F.ORDER_U64 F.TWO_ADICITY hides log_blowup) batch.now.matrices.items)) }
 {
     let mut all = Vec::with_capacity(alloc, batch.matrices.len())?;
     for (index, matrix) in batch.matrices.iter().enumerate() {
@@ -137,16 +137,15 @@ pub(crate) fn batch_evaluations<F: SchemeField>(
 }
 
 /// The points of a matrix, of which there are some.
-fn points<F: SchemeField>(
+fn points<EF: Copy, D: Copy, N: Numbered<EF, D>>(
     alloc: Global,
     matrix: &Matrix,
     place: Place,
-) -> Result<Vec<F::Extension>, ReadError>
+) -> Result<Vec<EF>, ReadError>
     ensures some { IfOk result (λ v. v.items ≢ []) }
-    ensures numbers { IfOk result (λ v. map (extension_numbers ⟦<F as SchemeParts>⟧.fields)
-        v.items ≡ lists matrix.now.points.items) }
-    ensures refused { IfErr result (IfMalformed
-        (¬ HasPoints ⟦<F as SchemeParts>⟧.fields matrix.now)) }
+    ensures numbers { IfOk result (λ v.
+        map N.numbers_of v.items ≡ lists matrix.now.points.items) }
+    ensures refused { IfErr result (IfMalformed (¬ HasPointsBy N.IsPoint matrix.now)) }
 {
     if matrix.points.is_empty() {
         return Err(place.lacks(Fault::Points).into());
@@ -157,23 +156,22 @@ fn points<F: SchemeField>(
             point: Some(index),
             ..place
         };
-        all.push(extension_element::<F>(point, place)?)?;
+        all.push(N::read_point(point, place)?)?;
     }
     Ok(all)
 }
 
 /// The points of each matrix of the commitment at this place.
-pub(crate) fn batch_points<F: SchemeField>(
+pub(crate) fn batch_points<EF: Copy, D: Copy, N: Numbered<EF, D>>(
     alloc: Global,
     batch: &Batch,
     place: Place,
-) -> Result<Vec<Vec<F::Extension>>, ReadError>
+) -> Result<Vec<Vec<EF>>, ReadError>
     ensures some { IfOk result (λ all. All (λ zs. zs ≢ []) (lists all.items)) }
-    ensures numbers { IfOk result (λ all.
-        map (map (extension_numbers ⟦<F as SchemeParts>⟧.fields)) (lists all.items)
+    ensures numbers { IfOk result (λ all. map (map N.numbers_of) (lists all.items)
         ≡ map (λ m. lists m.points.items) batch.now.matrices.items) }
     ensures refused { IfErr result (IfMalformed
-        (¬ All (HasPoints ⟦<F as SchemeParts>⟧.fields) batch.now.matrices.items)) }
+        (¬ All (HasPointsBy N.IsPoint) batch.now.matrices.items)) }
 {
     let mut all = Vec::with_capacity(alloc, batch.matrices.len())?;
     for (index, matrix) in batch.matrices.iter().enumerate() {
@@ -181,7 +179,7 @@ pub(crate) fn batch_points<F: SchemeField>(
             matrix: Some(index),
             ..place
         };
-        all.push(points::<F>(alloc, matrix, place)?)?;
+        all.push(points::<EF, D, N>(alloc, matrix, place)?)?;
     }
     Ok(all)
 }

@@ -8,18 +8,20 @@ ghost use Rattle.p3_mmcs.specs.ProverData.{matrices_of};
 ghost use Rattle.p3_pcs.specs.Claims.{zip_with};
 ghost use Rattle.fri_records.specs.Failures.{IfMalformed};
 ghost use Rattle.fri_records.specs.Records.{parameters_in};
-ghost use Rattle.fri_requests.specs.Bound.{IsContext, batch_asked, bound, context_listed};
-ghost use Rattle.fri_requests.specs.Committed.{domain_of, domain_committed};
-ghost use Rattle.fri_requests.specs.Prepared.{ArePoints};
-ghost use Rattle.fri_requests.specs.Requests.{AllMatrices, HasPoints};
+ghost use Rattle.fri_requests.specs.Bound.{IsContext, batch_asked, bound_by, context_listed};
+ghost use Rattle.fri_requests.specs.Committed.{domain_by, domain_committed};
+ghost use Rattle.fri_requests.specs.Numbers.{AreCoefficients};
+ghost use Rattle.fri_requests.specs.Prepared.{ArePointsBy};
+ghost use Rattle.fri_requests.specs.Requests.{AllMatrices, HasPointsBy};
 
 use crate::committed::Committed;
-use crate::elements::domain;
+use crate::elements::Numbered;
 use crate::reading::points_of;
 use crate::statement::{batches_stated, bound_challenger, context_of};
 use fri_records::{Batch, Matrix, Parameters, ReadError};
-use fri_schemes::{Coset, Inputs, SchemeField, SchemeParts};
-use p3_challenger_sha256::Sha256Challenger;
+use fri_schemes::Coset;
+use p3_challenger_sha256::{Sha256Challenger, Sha256Field};
+use p3_field::{ElementBytes, ExtensionField, TwoAdicField};
 use p3_matrix::RowMajorMatrix;
 use p3_mmcs::{Mmcs, Sha256Mmcs, Sha256ProverData};
 use p3_pcs::KnownCommitment;
@@ -29,16 +31,16 @@ use std::alloc::Global;
 pub(crate) type Data<F> = Sha256ProverData<F>;
 
 /// Whether records name these domains.
-fn name_domains<F: SchemeField>(domains: &[Coset<F>], matrices: &[Matrix]) -> bool
+fn name_domains<EF: Copy, D: Copy, N: Numbered<EF, D>>(domains: &[D], matrices: &[Matrix]) -> bool
     ensures { IsTrue result
-        ↔ (map (λ d. domain_of ⟦<F as SchemeParts>⟧.fields d.shift d.log_size) domains.now
+        ↔ (map (λ d. domain_by (N.shift_of d) (N.log_size_of d)) domains.now
         ≡ map (λ m. domain_committed false m.domain) matrices.now) }
 {
     if domains.len() != matrices.len() {
         return false;
     }
     for (index, matrix) in matrices.iter().enumerate() {
-        let kept = domain::<F>(domains[index]);
+        let kept = N::domain_numbers(domains[index]);
         if matrix.domain.shift != kept.shift {
             return false;
         }
@@ -50,20 +52,20 @@ fn name_domains<F: SchemeField>(domains: &[Coset<F>], matrices: &[Matrix]) -> bo
 }
 
 /// Whether batches name the domains under these commitments.
-fn name_known<F: SchemeField>(
-    known: &[KnownCommitment<[u8; 32], Coset<F>>],
+fn name_known<EF: Copy, D: Copy, N: Numbered<EF, D>>(
+    known: &[KnownCommitment<[u8; 32], D>],
     asked: &[Batch],
 ) -> bool
     ensures { IsTrue result
-        ↔ (map (λ k. map (λ d. domain_of ⟦<F as SchemeParts>⟧.fields d.shift d.log_size)
-        k.domains.items) known.now
+        ↔ (map (λ k. map (λ d. domain_by (N.shift_of d) (N.log_size_of d)) k.domains.items)
+        known.now
         ≡ map (λ b. map (λ m. domain_committed false m.domain) b.matrices.items) asked.now) }
 {
     if known.len() != asked.len() {
         return false;
     }
     for (index, batch) in asked.iter().enumerate() {
-        if !name_domains::<F>(&known[index].domains, &batch.matrices) {
+        if !name_domains::<EF, D, N>(&known[index].domains, &batch.matrices) {
             return false;
         }
     }
@@ -88,16 +90,16 @@ fn name_widths<V: Copy>(kept: &[RowMajorMatrix<V>], matrices: &[Matrix]) -> bool
 }
 
 /// Whether a record names the widths of a datum's matrices.
-fn name_datum<F: SchemeField>(datum: &Data<F>, batch: &Batch) -> bool
+fn name_datum<V: ElementBytes>(datum: &Sha256ProverData<V>, batch: &Batch) -> bool
     ensures { IsTrue result ↔ (map (λ k. matrix_width k) (matrices_of datum.now)
         ≡ map (λ m. m.width) batch.now.matrices.items) }
 {
-    let inputs: Inputs<F> = Sha256Mmcs::new();
+    let inputs: Sha256Mmcs<V> = Sha256Mmcs::new();
     name_widths(inputs.get_matrices(datum), &batch.matrices)
 }
 
 /// Whether batches name the widths of what is kept.
-fn name_kept<F: SchemeField>(all: &[Committed<Data<F>, Coset<F>>], asked: &[Batch]) -> bool
+fn name_kept<V: ElementBytes, D>(all: &[Committed<Sha256ProverData<V>, D>], asked: &[Batch]) -> bool
     ensures { IsTrue result
         ↔ (map (λ c. map (λ k. matrix_width k) (matrices_of c.data)) all.now
         ≡ map (λ b. map (λ m. m.width) b.matrices.items) asked.now) }
@@ -107,7 +109,7 @@ fn name_kept<F: SchemeField>(all: &[Committed<Data<F>, Coset<F>>], asked: &[Batc
     }
     for (index, batch) in asked.iter().enumerate() {
         let committed = &all[index];
-        if !name_datum::<F>(&committed.data, batch) {
+        if !name_datum::<V>(&committed.data, batch) {
             return false;
         }
     }
@@ -115,55 +117,55 @@ fn name_kept<F: SchemeField>(all: &[Committed<Data<F>, Coset<F>>], asked: &[Batc
 }
 
 /// Whether batches name the domains and the widths of what is kept, of which this is known.
-pub(crate) fn are_named<F: SchemeField>(
-    known: &[KnownCommitment<[u8; 32], Coset<F>>],
-    all: &[Committed<Data<F>, Coset<F>>],
+pub(crate) fn are_named<EF: Copy, D: Copy, N: Numbered<EF, D>, V: ElementBytes>(
+    known: &[KnownCommitment<[u8; 32], D>],
+    all: &[Committed<Sha256ProverData<V>, D>],
     asked: &[Batch],
 ) -> bool
     ensures domains { IsTrue result
-        → map (λ k. map (λ d. domain_of ⟦<F as SchemeParts>⟧.fields d.shift d.log_size)
-        k.domains.items) known.now
+        → map (λ k. map (λ d. domain_by (N.shift_of d) (N.log_size_of d)) k.domains.items)
+        known.now
         ≡ map (λ b. map (λ m. domain_committed false m.domain) b.matrices.items) asked.now }
     ensures widths { IsTrue result
         → map (λ c. map (λ k. matrix_width k) (matrices_of c.data)) all.now
         ≡ map (λ b. map (λ m. m.width) b.matrices.items) asked.now }
-    ensures otherwise { map (λ k. map (λ d. domain_of ⟦<F as SchemeParts>⟧.fields d.shift d.log_size)
+    ensures otherwise { map (λ k. map (λ d. domain_by (N.shift_of d) (N.log_size_of d))
         k.domains.items) known.now
         ≡ map (λ b. map (λ m. domain_committed false m.domain) b.matrices.items) asked.now
         → map (λ c. map (λ k. matrix_width k) (matrices_of c.data)) all.now
         ≡ map (λ b. map (λ m. m.width) b.matrices.items) asked.now
         → IsTrue result }
 {
-    name_known::<F>(known, asked) && name_kept::<F>(all, asked)
+    name_known::<EF, D, N>(known, asked) && name_kept::<V, D>(all, asked)
 }
 
 /// The points at which what is known is to be opened, and the challenger once it has absorbed the
 /// statement of that under this context, a hex text.
-pub(crate) fn read_asked<F: SchemeField>(
+pub(crate) fn read_asked<F: Sha256Field + TwoAdicField, EF: ExtensionField<F>>(
     alloc: Global,
     parameters: &Parameters,
     known: &[KnownCommitment<[u8; 32], Coset<F>>],
     context: &str,
     asked: &[Batch],
-) -> Result<(Vec<Vec<Vec<F::Extension>>>, Sha256Challenger<F>), ReadError>
-    requires domains { map (λ k. map (λ d. domain_of ⟦<F as SchemeParts>⟧.fields d.shift
-        d.log_size) k.domains.items) known.now
+) -> Result<(Vec<Vec<Vec<EF>>>, Sha256Challenger<F>), ReadError>
+    requires domains { map (λ k. map (λ d. domain_by (F.canonical d.shift) d.log_size)
+        k.domains.items) known.now
         ≡ map (λ b. map (λ m. domain_committed false m.domain) b.matrices.items) asked.now }
-    ensures points { IfOk result (λ read. ArePoints ⟦<F as SchemeParts>⟧.fields
+    ensures points { IfOk result (λ read. ArePointsBy (λ x. map F.canonical (EF.coefficients x))
         (nested read.0.items) asked.now) }
     ensures state { IfOk result (λ read. read.1
-        ≡ bound ⟦<F as SchemeParts>⟧.fields start (context_listed context.now)
+        ≡ bound_by F.ORDER_U64 F.canonical F.ops start (context_listed context.now)
         (parameters_in parameters.now)
         (zip_with (batch_asked false) (map (λ k. k.commitment) known.now) asked.now)) }
     ensures context { IfOk result (λ _. IsContext context.now) }
     ensures refused { IfErr result (IfMalformed
         (¬ (IsContext context.now × AllMatrices
-        (HasPoints ⟦<F as SchemeParts>⟧.fields) asked.now))) }
+        (HasPointsBy (AreCoefficients F.ORDER_U64 EF.DIMENSION)) asked.now))) }
 {
-    let points = points_of::<F>(alloc, asked)?;
+    let points = points_of::<EF, Coset<F>, F>(alloc, asked)?;
     let bytes = context_of(alloc, context)?;
-    let stated = batches_stated::<F>(alloc, false, known, &points, asked)?;
+    let stated = batches_stated::<EF, Coset<F>, F>(alloc, false, known, &points, asked)?;
     let begun = Sha256Challenger::over_field();
-    let challenger = bound_challenger::<F>(alloc, begun, &bytes, parameters, &stated)?;
+    let challenger = bound_challenger(alloc, begun, &bytes, parameters, &stated)?;
     Ok((points, challenger))
 }

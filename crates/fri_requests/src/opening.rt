@@ -1,9 +1,9 @@
 //! Openings of requests.
 
-ghost use Rattle.std.specs.Prelude.{◌≡◌, IfOk, IfErr, map, string_bytes};
+ghost use Rattle.std.specs.Prelude.{◌≡◌, ◌⊎◌, IfOk, IfErr, map, string_bytes};
 ghost use Rattle.algebra.specs.Nested.{nested};
 ghost use Rattle.p3_pcs.specs.Claims.{claim};
-ghost use Rattle.p3_pcs.specs.Requests.{request};
+ghost use Rattle.p3_pcs.specs.Requests.{request, with_data};
 ghost use Rattle.p3_pcs.specs.Scheme.{AreHonestIn, FitRequests, claims_asked};
 ghost use Rattle.fri_records.specs.Failures.{MatchRequestError};
 ghost use Rattle.fri_requests.specs.Openings.{requests_for};
@@ -43,9 +43,9 @@ pub(crate) fn requests_of<'a, D, Domain, EF: Drop>(
     Ok(requests)
 }
 
-/// Answers honest requests, of whose data a verifier knows these commitments and domains, and of
-/// which the index names the one of preprocessing.
-fn open_requests<F: SchemeField, P: MadeScheme<F, F::Extension, Coset<F>>>(
+/// Answers requests, of whose data a verifier knows these commitments and domains, and of which the
+/// index names the one of preprocessing.
+pub(crate) fn open_requests<F: SchemeField, P: MadeScheme<F, F::Extension, Coset<F>>>(
     alloc: Global,
     scheme: &P,
     known: &[KnownCommitment<[u8; 32], Coset<F>>],
@@ -56,19 +56,31 @@ fn open_requests<F: SchemeField, P: MadeScheme<F, F::Extension, Coset<F>>>(
     requires range { (P.rules scheme.now).InProverRange }
     requires shape { (P.stark_rules scheme.now).CanOpenAt preprocessing
         (map request requests.old) }
-    requires honest { AreHonestIn (P.rules scheme.now) (map request requests.old) }
-    requires commitments { let r = P.rules scheme.now in map (λ k. k.commitment) known.now
-        ≡ map (λ o. r.commitment_of o.prover_data.now) requests.old }
-    requires domains { FitRequests (P.rules scheme.now) (map (λ k. k.domains.items) known.now)
-        (map request requests.old) }
-    ensures claims { IfOk result (λ o. map claim o.0.items ≡ claims_asked (P.rules scheme.now)
+    // where the data is honest, and of these commitments and domains
+    ensures claims { let r = P.rules scheme.now in AreHonestIn r (map request requests.old)
+        → map (λ k. k.commitment) known.now
+        ≡ map (λ o. r.commitment_of o.prover_data.now) requests.old
+        → IfOk result (λ o. map claim o.0.items ≡ claims_asked r
         (map (λ k. k.domains.items) known.now) (map request requests.old)) }
-    ensures accepted { IfOk result (λ o. (P.rules scheme.now).Accepts preprocessing
-        challenger.old (map claim o.0.items) o.1) }
-    ensures state { IfOk result (λ o. challenger.new ≡ (P.rules scheme.now).last_state
-        preprocessing challenger.old (map claim o.0.items) o.1) }
+    ensures accepted { let r = P.rules scheme.now in AreHonestIn r (map request requests.old)
+        → map (λ k. k.commitment) known.now
+        ≡ map (λ o. r.commitment_of o.prover_data.now) requests.old
+        → FitRequests r (map (λ k. k.domains.items) known.now) (map request requests.old)
+        → IfOk result (λ o. r.Accepts preprocessing challenger.old (map claim o.0.items) o.1) }
+    ensures state { let r = P.rules scheme.now in AreHonestIn r (map request requests.old)
+        → map (λ k. k.commitment) known.now
+        ≡ map (λ o. r.commitment_of o.prover_data.now) requests.old
+        → FitRequests r (map (λ k. k.domains.items) known.now) (map request requests.old)
+        → IfOk result (λ o. challenger.new
+        ≡ r.last_state preprocessing challenger.old (map claim o.0.items) o.1) }
     ensures refused { IfErr result (MatchRequestError ⊥ (λ e. (P.rules scheme.now).Refuses
         preprocessing challenger.old (map request requests.old) e × (¬ P.IsMemory e))) }
+    // where what refuses either comes after the checks or leaves what was
+    ensures lent { let r = P.rules scheme.now in let asked = map request requests.old in
+        ((e : P.ProverError) → r.Refuses preprocessing challenger.old asked e
+        → r.PassesChecks preprocessing asked ⊎ r.LeavesState e)
+        → (requests.new ≡ map (with_data r.after_opening) requests.old)
+        ⊎ (requests.new ≡ requests.old) }
 {
     let opened = scheme.open_with_preprocessing(alloc, &mut *requests, challenger, preprocessing);
     let (values, proof) = match opened {
@@ -182,9 +194,9 @@ pub fn open<F: SchemeField, P: MadeScheme<F, F::Extension, Coset<F>>>(
         &mut prepared.challenger,
     )?;
     Ok(Opening {
-        claims: claims_out(alloc, &claims)?,
+        claims: claims_out::<F::Extension, Coset<F>, F>(alloc, &claims)?,
         proof,
         preprocessing: prepared.preprocessing,
-        next_challenge: next_drawn(alloc, &mut prepared.challenger)?,
+        next_challenge: next_drawn::<F, F::Extension>(alloc, &mut prepared.challenger)?,
     })
 }

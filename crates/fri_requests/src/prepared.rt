@@ -23,17 +23,20 @@ use std::alloc::{AllocError, Global};
 
 /// What is to be opened of a request.
 #[derive(Drop)]
-pub(crate) struct Prepared<F: SchemeField, D> {
-    pub committed: Vec<Committed<D, Coset<F>>>,
+pub(crate) struct Prepared<D, Domain, EF, C> {
+    pub committed: Vec<Committed<D, Domain>>,
     /// What a verifier knows of these.
-    pub known: Vec<KnownCommitment<[u8; 32], Coset<F>>>,
+    pub known: Vec<KnownCommitment<[u8; 32], Domain>>,
     /// Those of each matrix of each commitment.
-    pub points: Vec<Vec<Vec<F::Extension>>>,
+    pub points: Vec<Vec<Vec<EF>>>,
     /// The place of the preprocessed batch, if there is one.
     pub preprocessing: Option<usize>,
     /// It has absorbed the statement.
-    pub challenger: Sha256Challenger<F>,
+    pub challenger: C,
 }
+
+/// What is to be opened over a field and its extension, of data of type `D`.
+type PreparedOver<F, D> = Prepared<D, Coset<F>, <F as SchemeField>::Extension, Sha256Challenger<F>>;
 
 /// What a verifier knows of the commitments.
 pub(crate) fn known_of<D, Domain: Copy>(
@@ -63,7 +66,7 @@ pub(crate) fn prepare<F: SchemeField, P: MadeScheme<F, F::Extension, Coset<F>>>(
     scheme: &mut P,
     request: &Request,
     num_random_codewords: usize,
-) -> Result<Prepared<F, P::ProverData>, RequestError<P::ProverError>>
+) -> Result<PreparedOver<F, P::ProverData>, RequestError<P::ProverError>>
     requires provers { AreProvers F.TWO_ADICITY request.now.parameters }
     requires room { CommitsRows (P.rules scheme.old) F.TWO_ADICITY (λ d. d.log_size)
         P.ZK request.now.parameters.log_blowup }
@@ -95,7 +98,13 @@ pub(crate) fn prepare<F: SchemeField, P: MadeScheme<F, F::Extension, Coset<F>>>(
     let preprocessing = asked.batches.preprocessing;
     let committed = commit_all::<F, P>(alloc, scheme, asked.batches.all)?;
     let known = known_of(alloc, &committed)?;
-    let stated = batches_stated(alloc, hides, &known, &asked.points, &request.commitments)?;
+    let stated = batches_stated::<F::Extension, Coset<F>, F>(
+        alloc,
+        hides,
+        &known,
+        &asked.points,
+        &request.commitments,
+    )?;
     let begun = P::begin(alloc, num_random_codewords, preprocessing)?;
     let challenger = bound_challenger(alloc, begun, &asked.context, &request.parameters, &stated)?;
     Ok(Prepared {

@@ -23,9 +23,10 @@ ghost use Rattle.fri_requests.specs.Openings.{IsOpened, requests_for};
 
 use crate::claims::{Claims, claims_out};
 use crate::committed::{Committed, commit_batch};
+use crate::lending::{spares, swap_data};
 use crate::matrices::batch_evaluations;
 use crate::naming::{Data, are_named, read_asked};
-use crate::opening::{Opening, requests_of};
+use crate::opening::{Opening, open_requests, requests_of};
 use crate::plain::Proof;
 use crate::prepared::known_of;
 use crate::reading::{ListedBatch, have_matrix};
@@ -37,7 +38,7 @@ use p3_challenger_sha256::Sha256Challenger;
 use p3_fri_folding::FriProverError;
 use p3_fri_openings::are_openable;
 use p3_mmcs::Sha256Mmcs;
-use p3_pcs::{KnownCommitment, OpeningRequest, Pcs, claims_of};
+use p3_pcs::{KnownCommitment, OpeningRequest, Pcs};
 use std::alloc::Global;
 
 /// What the plain scheme over the field `F` committed to, and keeps to open it.
@@ -69,43 +70,50 @@ fn commit_one<F: SchemeField, P: MadeScheme<F, F::Extension, Coset<F>>>(
     }
 }
 
-/// Answers requests, of whose data a verifier knows these commitments and domains.
-fn open_asked<F: SchemeField, P: MadeScheme<F, F::Extension, Coset<F>>>(
+/// Opens what is lent under commitments, as a verifier knows them.
+fn open_lent<F: SchemeField>(
     alloc: Global,
-    scheme: &P,
+    scheme: &PlainScheme<F>,
     known: &[KnownCommitment<[u8; 32], Coset<F>>],
-    requests: &mut [OpeningRequest<'_, P::ProverData, F::Extension>],
+    requests: &mut [OpeningRequest<'_, Data<F>, F::Extension>],
     challenger: &mut Sha256Challenger<F>,
-) -> Result<(Claims<F>, P::Proof), RequestError<P::ProverError>>
-    requires range { (P.rules scheme.now).InProverRange }
-    requires shape { (P.stark_rules scheme.now).CanOpenAt None (map request requests.old) }
-    // where the data is honest, and of these commitments and domains
-    ensures claims { let r = P.rules scheme.now in AreHonestIn r (map request requests.old)
+) -> Result<(Claims<F>, Proof<F>), RequestError<FriProverError>>
+    requires range { InProverRange (parameters_of scheme.now.fri) F.TWO_ADICITY 63 }
+    // where what is lent is honest, and of these commitments and domains
+    ensures claims { let r =
+        ⟦<PlainScheme<F> as Pcs<F::Extension, Sha256Challenger<F>>>⟧.rules scheme.now in
+        AreHonestIn r (map request requests.old)
         → map (λ k. k.commitment) known.now
         ≡ map (λ o. r.commitment_of o.prover_data.now) requests.old
         → IfOk result (λ o. map claim o.0.items ≡ claims_asked r
         (map (λ k. k.domains.items) known.now) (map request requests.old)) }
-    ensures accepted { let r = P.rules scheme.now in AreHonestIn r (map request requests.old)
+    ensures accepted { let r =
+        ⟦<PlainScheme<F> as Pcs<F::Extension, Sha256Challenger<F>>>⟧.rules scheme.now in
+        AreHonestIn r (map request requests.old)
         → map (λ k. k.commitment) known.now
         ≡ map (λ o. r.commitment_of o.prover_data.now) requests.old
         → FitRequests r (map (λ k. k.domains.items) known.now) (map request requests.old)
         → IfOk result (λ o. r.Accepts None challenger.old (map claim o.0.items) o.1) }
-    ensures state { let r = P.rules scheme.now in AreHonestIn r (map request requests.old)
+    ensures state { let r =
+        ⟦<PlainScheme<F> as Pcs<F::Extension, Sha256Challenger<F>>>⟧.rules scheme.now in
+        AreHonestIn r (map request requests.old)
         → map (λ k. k.commitment) known.now
         ≡ map (λ o. r.commitment_of o.prover_data.now) requests.old
         → FitRequests r (map (λ k. k.domains.items) known.now) (map request requests.old)
         → IfOk result (λ o. challenger.new
         ≡ r.last_state None challenger.old (map claim o.0.items) o.1) }
-    ensures refused { IfErr result (MatchRequestError ⊥ (λ e. (P.rules scheme.now).Refuses
-        None challenger.old (map request requests.old) e × (¬ P.IsMemory e))) }
+    // where it can't be opened, where the scheme refuses it
+    ensures refused { let r =
+        ⟦<PlainScheme<F> as Pcs<F::Extension, Sha256Challenger<F>>>⟧.rules scheme.now in
+        IfErr result (MatchRequestError (¬ CanBeOpened r (map request requests.old))
+        (λ e. r.Refuses None challenger.old (map request requests.old) e × e ≢ OutOfMemory)) }
+    ensures kept { requests.new ≡ requests.old }
 {
-    let opened = scheme.open_with_preprocessing(alloc, &mut *requests, challenger, None);
-    let (values, proof) = match opened {
-        Ok(opening) => opening,
-        Err(error) => return Err(refusal::<F, P>(error)),
-    };
-    let claims = claims_of(alloc, known, &*requests, values.as_slice())?;
-    Ok((claims, proof))
+    let inputs: Inputs<F> = Sha256Mmcs::new();
+    if !are_openable::<F, F::Extension, Inputs<F>>(&inputs, &*requests) {
+        return Err(RequestError::Malformed(Place::NONE.lacks(Fault::Points)));
+    }
+    open_requests::<F, PlainScheme<F>>(alloc, scheme, known, requests, None, challenger)
 }
 
 /// Opens what is kept under commitments, as a verifier knows them, at these points.
@@ -144,13 +152,15 @@ fn open_kept<F: SchemeField>(
         let asked = requests_for all.old (nested points.items) in
         IfErr result (MatchRequestError (¬ CanBeOpened r asked)
         (λ e. r.Refuses None challenger.old asked e × e ≢ OutOfMemory)) }
+    ensures kept { all.new ≡ all.old }
 {
-    let mut requests = requests_of(alloc, all, points)?;
-    let inputs: Inputs<F> = Sha256Mmcs::new();
-    if !are_openable::<F, F::Extension, Inputs<F>>(&inputs, &requests) {
-        return Err(RequestError::Malformed(Place::NONE.lacks(Fault::Points)));
-    }
-    open_asked::<F, PlainScheme<F>>(alloc, scheme, known, requests.as_mut_slice(), challenger)
+    let mut spares = spares::<F, Coset<F>>(alloc, all.len())?;
+    let mut requests = requests_of(alloc, spares.as_mut_slice(), points)?;
+    let lent = requests.as_mut_slice();
+    swap_data(all, &mut *lent);
+    let opened = open_lent::<F>(alloc, scheme, known, &mut *lent, challenger);
+    swap_data(all, lent);
+    opened
 }
 
 /// Opens all that is kept, as `Prover::open` says.
@@ -190,6 +200,7 @@ fn open_all<F: SchemeField>(
         (¬ CanAsk ⟦<F as SchemeParts>⟧.fields batches context.now asked.now)
         (RefusesAsked ⟦<F as SchemeParts>⟧.fields F.LEN F.Extension.LEN parameters.now all.old
         context.now asked.now)) }
+    ensures kept { all.new ≡ all.old }
 {
     let fri = match prover_parameters::<F, F::Extension>(parameters) {
         Ok(fri) => fri,
@@ -197,19 +208,21 @@ fn open_all<F: SchemeField>(
     };
     let scheme = PlainScheme::<F>::made(fri, 0, [0; 32]);
     let known = known_of(alloc, &*all)?;
-    if !are_named::<F>(&known, &*all, asked) {
+    if !are_named::<F::Extension, Coset<F>, F, F>(&known, &*all, asked) {
         return Err(RequestError::Malformed(Place::NONE.lacks(Fault::Kept)));
     }
     if !have_matrix(asked) {
         return Err(RequestError::Malformed(Place::NONE.lacks(Fault::Matrices)));
     }
-    let (points, mut challenger) = read_asked::<F>(alloc, parameters, &known, context, asked)?;
+    let (points, mut challenger) = read_asked::<F, F::Extension>(
+        alloc, parameters, &known, context, asked,
+    )?;
     let (claims, proof) = open_kept::<F>(alloc, &scheme, &known, all, points, &mut challenger)?;
     Ok(Opening {
-        claims: claims_out::<F>(alloc, &claims)?,
+        claims: claims_out::<F::Extension, Coset<F>, F>(alloc, &claims)?,
         proof,
         preprocessing: None,
-        next_challenge: next_drawn::<F>(alloc, &mut challenger)?,
+        next_challenge: next_drawn::<F, F::Extension>(alloc, &mut challenger)?,
     })
 }
 
@@ -290,8 +303,7 @@ impl<F: SchemeField> Prover<F> {
     /// these points: the challenger begins with the whole statement of the context, the parameters,
     /// the commitments, the domains, the widths and the points.
     ///
-    /// That holds of the first opening. Whatever is opened after it is bound in the same way and
-    /// can't be false where it is verified, but no clause says that it is accepted.
+    /// What is kept stays as it was, so that it may be opened again.
     pub fn open(
         &mut self,
         alloc: Global,
@@ -319,6 +331,7 @@ impl<F: SchemeField> Prover<F> {
             batches
             → IfOk result (λ o. map (λ b. b.commitment) (map batch_listed o.claims.items)
             ≡ map (λ k. Ok k) (map (λ c. c.commitment) self.old.committed.items)) }
+        ensures kept { self.new.committed.items ≡ self.old.committed.items }
         ensures parameters { self.new.parameters ≡ self.old.parameters }
         // where it can't be opened, where the scheme refuses it
         ensures refused { (batches : List Batch) → HasCommitted ⟦<F as SchemeParts>⟧.fields

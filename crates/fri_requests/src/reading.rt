@@ -8,16 +8,20 @@ ghost use Rattle.hex.specs.Hex.{decode_of};
 ghost use Rattle.fri_schemes.specs.Rows.{FitsRows};
 ghost use Rattle.fri_records.specs.Failures.{IfMalformed};
 ghost use Rattle.fri_records.specs.Records.{AreProvers};
-ghost use Rattle.fri_requests.specs.Committed.{Lists};
-ghost use Rattle.fri_requests.specs.Prepared.{AreRead, ArePoints};
+ghost use Rattle.algebra.specs.Field.{multiple};
+ghost use Rattle.fri_requests.specs.Committed.{ListsBy};
+ghost use Rattle.fri_requests.specs.Prepared.{AreRead, AreReadBy, ArePoints, ArePointsBy};
 ghost use Rattle.fri_requests.specs.Preprocessing.{NamesPreprocessed};
-ghost use Rattle.fri_requests.specs.Requests.{IsMatrix, AllMatrices, HasPoints, AreBatches};
+ghost use Rattle.fri_requests.specs.Requests.{IsMatrixBelow, AllMatrices, HasPointsBy};
+ghost use Rattle.fri_requests.specs.Requests.{AreBatchesOf};
 ghost use Rattle.fri_requests.specs.Requests.{CanOpen};
 
+use crate::elements::Numbered;
 use crate::matrices::{batch_evaluations, batch_points};
 use crate::statement::context_of;
 use fri_records::{Batch, Fault, Misfit, Place, ReadError, Request};
 use fri_schemes::{Coset, SchemeField, SchemeParts};
+use p3_field::{PrimeField64, TwoAdicField};
 use p3_matrix::RowMajorMatrix;
 use std::alloc::Global;
 
@@ -30,18 +34,18 @@ pub(crate) struct ListedBatch<F, Domain> {
 
 /// The batches of a request.
 #[derive(Drop)]
-pub(crate) struct Batches<F: SchemeField> {
-    pub all: Vec<ListedBatch<F, Coset<F>>>,
+pub(crate) struct Batches<F, Domain> {
+    pub all: Vec<ListedBatch<F, Domain>>,
     /// The place of the preprocessed batch, if there is one.
     pub preprocessing: Option<usize>,
 }
 
 /// What is to be opened of a request.
 #[derive(Drop)]
-pub(crate) struct Asked<F: SchemeField> {
-    pub batches: Batches<F>,
+pub(crate) struct Asked<F, EF, Domain> {
+    pub batches: Batches<F, Domain>,
     /// Those of each matrix of each batch.
-    pub points: Vec<Vec<Vec<F::Extension>>>,
+    pub points: Vec<Vec<Vec<EF>>>,
     /// The context's bytes.
     pub context: Vec<u8>,
 }
@@ -73,21 +77,21 @@ fn preprocessing_of(batches: &[Batch]) -> Result<Option<usize>, Misfit>
 }
 
 /// The matrices of each batch.
-fn listed_batches<F: SchemeField>(
+fn listed_batches<F: PrimeField64 + TwoAdicField>(
     alloc: Global,
     batches: &[Batch],
     log_blowup: usize,
     hides: bool,
 ) -> Result<Vec<ListedBatch<F, Coset<F>>>, ReadError>
     requires blowup { log_blowup ≤ F.TWO_ADICITY }
-    ensures listed { IfOk result (λ all. AllZip (Lists ⟦<F as SchemeParts>⟧.fields hides
-        (λ d. d.shift) (λ d. d.log_size)) all.items batches.now) }
+    ensures listed { IfOk result (λ all. AllZip (ListsBy (λ number. multiple F.ops number)
+        (λ d. F.canonical d.shift) (λ d. d.log_size) hides) all.items batches.now) }
     ensures fit { IfOk result (λ all. All (λ b. All (λ e. FitsRows F.TWO_ADICITY hides log_blowup
         e.0.log_size e.1) b.evaluations.items) all.items) }
-    ensures well_formed { IfOk result (λ _.
-        AllMatrices (IsMatrix ⟦<F as SchemeParts>⟧.fields hides log_blowup) batches.now) }
-    ensures refused { IfErr result (IfMalformed
-        (¬ AllMatrices (IsMatrix ⟦<F as SchemeParts>⟧.fields hides log_blowup) batches.now)) }
+    ensures well_formed { IfOk result (λ _. AllMatrices
+        (IsMatrixBelow F.ORDER_U64 F.TWO_ADICITY hides log_blowup) batches.now) }
+    ensures refused { IfErr result (IfMalformed (¬ AllMatrices
+        (IsMatrixBelow F.ORDER_U64 F.TWO_ADICITY hides log_blowup) batches.now)) }
 {
     let mut all = Vec::with_capacity(alloc, batches.len())?;
     for (index, batch) in batches.iter().enumerate() {
@@ -101,19 +105,20 @@ fn listed_batches<F: SchemeField>(
 }
 
 /// What batches list.
-pub(crate) fn read_batches<F: SchemeField>(
+pub(crate) fn read_batches<F: PrimeField64 + TwoAdicField>(
     alloc: Global,
     batches: &[Batch],
     log_blowup: usize,
     hides: bool,
-) -> Result<Batches<F>, ReadError>
+) -> Result<Batches<F, Coset<F>>, ReadError>
     requires blowup { log_blowup ≤ F.TWO_ADICITY }
-    ensures read { IfOk result (λ b. AreRead ⟦<F as SchemeParts>⟧.fields hides (λ d. d.shift)
-        (λ d. d.log_size) log_blowup batches.now b.preprocessing b.all.items) }
-    ensures well_formed { IfOk result (λ _.
-        AreBatches ⟦<F as SchemeParts>⟧.fields hides log_blowup batches.now) }
-    ensures refused { IfErr result (IfMalformed
-        (¬ AreBatches ⟦<F as SchemeParts>⟧.fields hides log_blowup batches.now)) }
+    ensures read { IfOk result (λ b. AreReadBy (λ number. multiple F.ops number)
+        (λ d. F.canonical d.shift) (λ d. d.log_size) F.TWO_ADICITY hides log_blowup batches.now
+        b.preprocessing b.all.items) }
+    ensures well_formed { IfOk result (λ _. AreBatchesOf
+        (IsMatrixBelow F.ORDER_U64 F.TWO_ADICITY hides log_blowup) batches.now) }
+    ensures refused { IfErr result (IfMalformed (¬ AreBatchesOf
+        (IsMatrixBelow F.ORDER_U64 F.TWO_ADICITY hides log_blowup) batches.now)) }
 {
     let preprocessing = preprocessing_of(batches)?;
     Ok(Batches {
@@ -123,18 +128,18 @@ pub(crate) fn read_batches<F: SchemeField>(
 }
 
 /// The points of each matrix of each batch.
-pub(crate) fn points_of<F: SchemeField>(
+pub(crate) fn points_of<EF: Copy, D: Copy, N: Numbered<EF, D>>(
     alloc: Global,
     batches: &[Batch],
-) -> Result<Vec<Vec<Vec<F::Extension>>>, ReadError>
+) -> Result<Vec<Vec<Vec<EF>>>, ReadError>
     ensures points { IfOk result (λ all.
-        ArePoints ⟦<F as SchemeParts>⟧.fields (nested all.items) batches.now) }
+        ArePointsBy N.numbers_of (nested all.items) batches.now) }
     ensures refused { IfErr result (IfMalformed
-        (¬ AllMatrices (HasPoints ⟦<F as SchemeParts>⟧.fields) batches.now)) }
+        (¬ AllMatrices (HasPointsBy N.IsPoint) batches.now)) }
 {
     let mut all = Vec::with_capacity(alloc, batches.len())?;
     for (index, batch) in batches.iter().enumerate() {
-        all.push(batch_points::<F>(alloc, batch, place_of(index))?)?;
+        all.push(batch_points::<EF, D, N>(alloc, batch, place_of(index))?)?;
     }
     Ok(all)
 }
@@ -156,7 +161,7 @@ pub(crate) fn read_request<F: SchemeField>(
     alloc: Global,
     request: &Request,
     hides: bool,
-) -> Result<Asked<F>, ReadError>
+) -> Result<Asked<F, F::Extension, Coset<F>>, ReadError>
     requires provers { AreProvers F.TWO_ADICITY request.now.parameters }
     ensures read { IfOk result (λ a. AreRead ⟦<F as SchemeParts>⟧.fields hides (λ d. d.shift)
         (λ d. d.log_size) request.now.parameters.log_blowup request.now.commitments.items
@@ -170,7 +175,7 @@ pub(crate) fn read_request<F: SchemeField>(
     ensures refused { IfErr result (IfMalformed
         (¬ CanOpen ⟦<F as SchemeParts>⟧.fields hides request.now)) }
 {
-    let points = points_of::<F>(alloc, &request.commitments)?;
+    let points = points_of::<F::Extension, Coset<F>, F>(alloc, &request.commitments)?;
     let log_blowup = request.parameters.log_blowup;
     let batches = read_batches::<F>(alloc, &request.commitments, log_blowup, hides)?;
     let context = context_of(alloc, &request.context)?;

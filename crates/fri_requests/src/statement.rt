@@ -5,29 +5,33 @@ ghost use Rattle.algebra.specs.Nested.{lists, nested};
 ghost use Rattle.hex.specs.Hex.{decode_of};
 ghost use Rattle.p3_pcs.specs.Claims.{claim, matrix_claim, point_claim, zip_with};
 ghost use Rattle.fri_statement.specs.Context.{challenge_of};
+ghost use Rattle.fri_statement.specs.Numbers.{coefficient_numbers};
 ghost use Rattle.fri_statement.specs.Setting.{prime_fields, sha256_moves};
-ghost use Rattle.fri_statement.specs.Stated.{opened_matrix, opened_commitment};
-ghost use Rattle.fri_requests.specs.Bound.{IsContext, width_claimed, bound, state_bound};
+ghost use Rattle.fri_requests.specs.Bound.{IsContext, width_claimed, bound_by, state_bound};
 ghost use Rattle.fri_requests.specs.Bound.{matrix_claimed, batch_claimed};
 ghost use Rattle.fri_requests.specs.Bound.{matrix_asked, batch_asked};
-ghost use Rattle.fri_requests.specs.Claims.{point_numbers, matrix_numbers, batch_numbers};
-ghost use Rattle.fri_requests.specs.Claims.{batch_listed};
-ghost use Rattle.fri_requests.specs.Committed.{domain_of, domain_committed};
+ghost use Rattle.fri_requests.specs.Bound.{matrix_stated, commitment_stated};
+ghost use Rattle.fri_requests.specs.Claims.{point_by, matrix_by, batch_by};
+ghost use Rattle.fri_requests.specs.Claims.{batch_numbers, batch_listed};
+ghost use Rattle.fri_requests.specs.Committed.{domain_by, domain_committed};
 ghost use Rattle.fri_requests.specs.Numbers.{extension_numbers};
 ghost use Rattle.fri_requests.specs.Statements.{AreClaims};
 ghost use Rattle.fri_records.specs.Failures.{IfMalformed};
 ghost use Rattle.fri_records.specs.Records.{parameters_in};
 
-use crate::claims::{Claim, Claims, claims_in};
-use crate::elements::coefficients;
+use crate::claims::{ClaimOn, Claims, claims_in};
+use crate::elements::{Numbered, coefficients};
 use fri_records::{
     Batch, BatchClaims, Fault, Parameters, Place, ReadError, Rounds, fri_parameters,
 };
 use fri_schemes::{Coset, SchemeField, SchemeParts};
-use fri_statement::{StatedCommitment, StatedMatrix, absorb_statement, challenge_after};
+use fri_statement::{
+    StatedCommitment, StatedField, StatedMatrix, absorb_statement, challenge_after,
+};
 use hex::FromHexError;
 use p3_challenger_core::FieldChallenger;
-use p3_challenger_sha256::Sha256Challenger;
+use p3_challenger_sha256::{Sha256Challenger, Sha256Field};
+use p3_field::{ExtensionField, TwoAdicField};
 use p3_mmcs::{MatrixOpening, PointOpening};
 use p3_pcs::KnownCommitment;
 use std::alloc::{AllocError, Global};
@@ -45,10 +49,10 @@ pub(crate) fn context_of(alloc: Global, text: &str) -> Result<Vec<u8>, ReadError
 }
 
 /// The points of what is claimed of a matrix.
-fn points_claimed<F: SchemeField>(
+fn points_claimed<EF: Copy>(
     alloc: Global,
-    points: &[PointOpening<F::Extension>],
-) -> Result<Vec<F::Extension>, AllocError>
+    points: &[PointOpening<EF>],
+) -> Result<Vec<EF>, AllocError>
     ensures { IfOk result (λ v. v.items ≡ map (λ p. p.point) points.now) }
 {
     let mut all = Vec::with_capacity(alloc, points.len())?;
@@ -59,9 +63,9 @@ fn points_claimed<F: SchemeField>(
 }
 
 /// How many columns are claimed: as many as there are values at the first point.
-fn width_of<F: SchemeField>(points: &[PointOpening<F::Extension>]) -> usize
-    ensures { result ≡ width_claimed (map (point_numbers ⟦<F as SchemeParts>⟧.fields)
-        (map point_claim points.now)) }
+fn width_of<EF: Copy, D: Copy, N: Numbered<EF, D>>(points: &[PointOpening<EF>]) -> usize
+    ensures { result
+        ≡ width_claimed (map (point_by N.numbers_of) (map point_claim points.now)) }
 {
     match points.first() {
         Some(opening) => opening.values.len(),
@@ -69,47 +73,42 @@ fn width_of<F: SchemeField>(points: &[PointOpening<F::Extension>]) -> usize
     }
 }
 
-/// A matrix of a statement, and a commitment of one.
-type Stated<F> = StatedMatrix<<F as SchemeField>::Extension, Coset<F>>;
-
-type StatedUnder<F> = StatedCommitment<<F as SchemeField>::Extension, Coset<F>>;
-
 /// What claims state of matrices.
-fn matrices_claimed<F: SchemeField>(
+fn matrices_claimed<EF: Copy, D: Copy, N: Numbered<EF, D>>(
     alloc: Global,
-    matrices: &[MatrixOpening<F::Extension, Coset<F>>],
-) -> Result<Vec<Stated<F>>, AllocError>
-    ensures { IfOk result (λ v. map (opened_matrix (prime_fields ⟦<F as SchemeParts>⟧.fields)
-        (λ d. d.shift) (λ d. d.log_size)) v.items
-        ≡ map matrix_claimed (map (matrix_numbers ⟦<F as SchemeParts>⟧.fields (λ d. d.shift)
-        (λ d. d.log_size)) (map matrix_claim matrices.now))) }
+    matrices: &[MatrixOpening<EF, D>],
+) -> Result<Vec<StatedMatrix<EF, D>>, AllocError>
+    ensures { IfOk result (λ v.
+        map (matrix_stated N.numbers_of N.shift_of N.log_size_of) v.items
+        ≡ map matrix_claimed (map (matrix_by N.numbers_of N.shift_of N.log_size_of)
+        (map matrix_claim matrices.now))) }
 {
     let mut all = Vec::with_capacity(alloc, matrices.len())?;
     for matrix in matrices {
         all.push(StatedMatrix {
             domain: matrix.domain,
-            width: width_of::<F>(&matrix.points),
-            points: points_claimed::<F>(alloc, &matrix.points)?,
+            width: width_of::<EF, D, N>(&matrix.points),
+            points: points_claimed(alloc, &matrix.points)?,
         })?;
     }
     Ok(all)
 }
 
 /// What claims state.
-pub(crate) fn claims_stated<F: SchemeField>(
+fn claims_stated<EF: Copy, D: Copy, N: Numbered<EF, D>>(
     alloc: Global,
-    claims: &[Claim<F>],
-) -> Result<Vec<StatedUnder<F>>, AllocError>
-    ensures { IfOk result (λ v. map (opened_commitment (prime_fields ⟦<F as SchemeParts>⟧.fields)
-        (λ d. d.shift) (λ d. d.log_size)) v.items
-        ≡ map batch_claimed (map (batch_numbers ⟦<F as SchemeParts>⟧.fields (λ d. d.shift)
-        (λ d. d.log_size)) (map claim claims.now))) }
+    claims: &[ClaimOn<EF, D>],
+) -> Result<Vec<StatedCommitment<EF, D>>, AllocError>
+    ensures { IfOk result (λ v.
+        map (commitment_stated N.numbers_of N.shift_of N.log_size_of) v.items
+        ≡ map batch_claimed (map (batch_by N.numbers_of N.shift_of N.log_size_of)
+        (map claim claims.now))) }
 {
     let mut all = Vec::with_capacity(alloc, claims.len())?;
     for opening in claims {
         all.push(StatedCommitment {
             commitment: opening.commitment,
-            matrices: matrices_claimed::<F>(alloc, &opening.matrices)?,
+            matrices: matrices_claimed::<EF, D, N>(alloc, &opening.matrices)?,
         })?;
     }
     Ok(all)
@@ -117,20 +116,19 @@ pub(crate) fn claims_stated<F: SchemeField>(
 
 /// What a request states of the matrices of a batch, which are committed to on these domains, and
 /// have these points.
-fn matrices_asked<F: SchemeField>(
+fn matrices_asked<EF: Copy, D: Copy, N: Numbered<EF, D>>(
     alloc: Global,
     batch: &Batch,
     hides: bool,
-    domains: &[Coset<F>],
-    points: &[Vec<F::Extension>],
-) -> Result<Vec<Stated<F>>, AllocError>
-    requires domains { let f = ⟦<F as SchemeParts>⟧.fields in
-        map (λ d. domain_of f d.shift d.log_size) domains.now
+    domains: &[D],
+    points: &[Vec<EF>],
+) -> Result<Vec<StatedMatrix<EF, D>>, AllocError>
+    requires domains { map (λ d. domain_by (N.shift_of d) (N.log_size_of d)) domains.now
         ≡ map (λ m. domain_committed hides m.domain) batch.now.matrices.items }
-    requires points { map (map (extension_numbers ⟦<F as SchemeParts>⟧.fields)) (lists points.now)
+    requires points { map (map N.numbers_of) (lists points.now)
         ≡ map (λ m. lists m.points.items) batch.now.matrices.items }
-    ensures { IfOk result (λ v. map (opened_matrix (prime_fields ⟦<F as SchemeParts>⟧.fields)
-        (λ d. d.shift) (λ d. d.log_size)) v.items
+    ensures { IfOk result (λ v.
+        map (matrix_stated N.numbers_of N.shift_of N.log_size_of) v.items
         ≡ map (matrix_asked hides) batch.now.matrices.items) }
 {
     let mut all = Vec::with_capacity(alloc, batch.matrices.len())?;
@@ -145,21 +143,20 @@ fn matrices_asked<F: SchemeField>(
 }
 
 /// What a request states, whose batches have these commitments, domains and points.
-pub(crate) fn batches_stated<F: SchemeField>(
+pub(crate) fn batches_stated<EF: Copy, D: Copy, N: Numbered<EF, D>>(
     alloc: Global,
     hides: bool,
-    known: &[KnownCommitment<[u8; 32], Coset<F>>],
-    points: &[Vec<Vec<F::Extension>>],
+    known: &[KnownCommitment<[u8; 32], D>],
+    points: &[Vec<Vec<EF>>],
     batches: &[Batch],
-) -> Result<Vec<StatedUnder<F>>, AllocError>
-    requires domains { map (λ k. map (λ d. domain_of ⟦<F as SchemeParts>⟧.fields d.shift
-        d.log_size) k.domains.items) known.now
+) -> Result<Vec<StatedCommitment<EF, D>>, AllocError>
+    requires domains { map (λ k. map (λ d. domain_by (N.shift_of d) (N.log_size_of d))
+        k.domains.items) known.now
         ≡ map (λ b. map (λ m. domain_committed hides m.domain) b.matrices.items) batches.now }
-    requires points { let f = ⟦<F as SchemeParts>⟧.fields in
-        map (map (map (extension_numbers f))) (nested points.now)
+    requires points { map (map (map N.numbers_of)) (nested points.now)
         ≡ map (λ batch. map (λ m. lists m.points.items) batch.matrices.items) batches.now }
-    ensures { IfOk result (λ v. map (opened_commitment (prime_fields ⟦<F as SchemeParts>⟧.fields)
-        (λ d. d.shift) (λ d. d.log_size)) v.items
+    ensures { IfOk result (λ v.
+        map (commitment_stated N.numbers_of N.shift_of N.log_size_of) v.items
         ≡ zip_with (batch_asked hides) (map (λ k. k.commitment) known.now) batches.now) }
 {
     let mut stated = Vec::with_capacity(alloc, batches.len())?;
@@ -167,7 +164,13 @@ pub(crate) fn batches_stated<F: SchemeField>(
         let kept = &known[index];
         stated.push(StatedCommitment {
             commitment: kept.commitment,
-            matrices: matrices_asked::<F>(alloc, batch, hides, &kept.domains, &points[index])?,
+            matrices: matrices_asked::<EF, D, N>(
+                alloc,
+                batch,
+                hides,
+                &kept.domains,
+                &points[index],
+            )?,
         })?;
     }
     Ok(stated)
@@ -175,24 +178,24 @@ pub(crate) fn batches_stated<F: SchemeField>(
 
 /// The challenger, once it has absorbed a statement of this context, of these parameters and of
 /// these commitments.
-pub(crate) fn bound_challenger<F: SchemeField>(
+pub(crate) fn bound_challenger<F: Sha256Field + TwoAdicField, EF: ExtensionField<F>>(
     alloc: Global,
     begun: Sha256Challenger<F>,
     context: &[u8],
     parameters: &Parameters,
-    commitments: &[StatedUnder<F>],
+    commitments: &[StatedCommitment<EF, Coset<F>>],
 ) -> Result<Sha256Challenger<F>, AllocError>
-    ensures { IfOk result (λ c. c ≡ bound ⟦<F as SchemeParts>⟧.fields begun context.now
-        (parameters_in parameters.now) (map (opened_commitment
-        (prime_fields ⟦<F as SchemeParts>⟧.fields) (λ d. d.shift) (λ d. d.log_size))
-        commitments.now)) }
+    ensures { IfOk result (λ c. c ≡ bound_by F.ORDER_U64 F.canonical F.ops begun context.now
+        (parameters_in parameters.now)
+        (map (commitment_stated (λ x. map F.canonical (EF.coefficients x))
+        (λ d. F.canonical d.shift) (λ d. d.log_size)) commitments.now)) }
 {
     let mut challenger = begun;
-    absorb_statement::<F, F::Extension, Rounds<F::Extension>>(
+    absorb_statement::<F, EF, Rounds<EF>>(
         alloc,
         &mut challenger,
         context,
-        &fri_parameters::<F::Extension>(parameters),
+        &fri_parameters::<EF>(parameters),
         commitments,
     )?;
     Ok(challenger)
@@ -217,10 +220,10 @@ pub(crate) fn read_statement<F: SchemeField>(
     ensures refused { IfErr result (IfMalformed
         (¬ (IsContext context.now × AreClaims ⟦<F as SchemeParts>⟧.fields records.now))) }
 {
-    let claims = claims_in::<F>(alloc, records)?;
-    let stated = claims_stated::<F>(alloc, &claims)?;
+    let claims = claims_in::<F::Extension, Coset<F>, F>(alloc, records)?;
+    let stated = claims_stated::<F::Extension, Coset<F>, F>(alloc, &claims)?;
     let bytes = context_of(alloc, context)?;
-    let challenger = bound_challenger::<F>(alloc, begun, &bytes, parameters, &stated)?;
+    let challenger = bound_challenger(alloc, begun, &bytes, parameters, &stated)?;
     Ok((claims, challenger))
 }
 
@@ -232,17 +235,17 @@ pub fn challenge<F: SchemeField>(alloc: Global, context: &[u8]) -> Result<Vec<u6
         v.items ≡ extension_numbers f (challenge_of (prime_fields f) context.now)) }
 {
     let challenge = challenge_after::<F, F::Extension>(alloc, context)?;
-    coefficients::<F>(alloc, challenge)
+    coefficients::<F, F::Extension>(alloc, challenge)
 }
 
 /// The coefficients' numbers of the element of the extension that the challenger draws next.
-pub(crate) fn next_drawn<F: SchemeField>(
+pub(crate) fn next_drawn<F: Sha256Field, EF: ExtensionField<F>>(
     alloc: Global,
     challenger: &mut Sha256Challenger<F>,
 ) -> Result<Vec<u64>, AllocError>
-    ensures { let f = ⟦<F as SchemeParts>⟧.fields in IfOk result (λ v. v.items ≡ extension_numbers f
-        ((sha256_moves (prime_fields f)).draw_element challenger.old).value) }
+    ensures { let f = ⟦<EF as StatedField<F>>⟧.prime_fields in IfOk result (λ v. v.items
+        ≡ coefficient_numbers f ((sha256_moves f).draw_element challenger.old).value) }
 {
-    let next: F::Extension = FieldChallenger::<F>::sample_algebra_element(challenger);
-    coefficients::<F>(alloc, next)
+    let next: EF = FieldChallenger::<F>::sample_algebra_element(challenger);
+    coefficients::<F, EF>(alloc, next)
 }

@@ -82,5 +82,5 @@ pub fn verify<F: SchemeField, P: MadeScheme<F, F::Extension, Coset<F>>>(
         &mut challenger,
         preprocessing,
     )?;
-    Ok(next_drawn(alloc, &mut challenger)?)
+    Ok(next_drawn::<F, F::Extension>(alloc, &mut challenger)?)
 }

@@ -8,38 +8,13 @@ use Rattle.fri_requests.specs.Keeping.{AskFor, batches_at}
 use Rattle.fri_requests.specs.Openings.{IsOpened}
 use Rattle.fri_statement.specs.Setting.{SchemeFields}
 use Rattle.fri_requests.proofs.Fields.{fields_of}
-use Rattle.fri_flat.specs.Asked.{AskNothing}
-use Rattle.fri_flat.specs.Layouts.{layout_of}
 use Rattle.fri_flat.proofs.ProofNumbers.{numbers-proof_of}
 use Rattle.fri_flat.proofs.kept.open_kept.Given.{Over}
 use Rattle.fri_flat.proofs.kept.open_kept.Goals as goal
-use Rattle.fri_flat.proofs.kept.open_kept.Goals.{In_ok-asked}
 
 abbrev fields : (g : Over) → SchemeFields g.row.F.Denot g.row.F-Extension.Denot
 fields g = fields_of g.F.Field g.F.PrimeField64 g.F.TwoAdicField g.F.ElementBytes
     g.F.Extension.Field g.F.Extension.ExtensionField g.F.Extension.ElementBytes
-
--- bytes that were read ask for something
-read : (g : Over) (c : In_ok-asked g) → AskNothing (layout_of (fields g)) c.args.bytes.now → ⊥
-read g c nothing = nothing c.in_ok-asked.asked
-    (rw c.layout_of-layout.ensures at c.in_ok-asked.ensures.form)
-    (rw c.layout_of-layout.ensures at c.in_ok-asked.ensures.whole)
-
-pub returns-in-Err-clause-unread : goal.returns-in-Err-clause-unread
-returns-in-Err-clause-unread g c =
-    λ nothing. absurd (read g (goal.at.returns-in-Err-clause-unread g c).In_ok-asked nothing)
-
-pub returns-in_err-to_plain-clause-unread : goal.returns-in_err-to_plain-clause-unread
-returns-in_err-to_plain-clause-unread g c = λ nothing.
-    absurd (read g (goal.at.returns-in_err-to_plain-clause-unread g c).In_ok-asked nothing)
-
-pub returns-in_err-answer-clause-unread : goal.returns-in_err-answer-clause-unread
-returns-in_err-answer-clause-unread g c = λ nothing.
-    absurd (read g (goal.at.returns-in_err-answer-clause-unread g c).In_ok-asked nothing)
-
-pub returns-clause-unread : goal.returns-clause-unread
-returns-clause-unread g c =
-    λ nothing. absurd (read g (goal.at.returns-clause-unread g c).In_ok-asked nothing)
 
 pub returns-clause-answered : goal.returns-clause-answered
 returns-clause-answered g c =

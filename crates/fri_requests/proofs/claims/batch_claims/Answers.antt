@@ -1,15 +1,14 @@
 use Rattle.std.proofs.Common.{◌≡◌, ◌<◌, length, get_or, subst}
 use Rattle.std.proofs.lemmas.Result.{IfOk-from_err}
 use Rattle.p3_pcs.specs.Claims.{matrix_claim}
-use Rattle.fri_requests.specs.Claims.{matrix_numbers, matrix_listed}
+use Rattle.fri_requests.specs.Claims.{matrix_by, matrix_listed}
 use Rattle.fri_requests.proofs.Images.{of_image_more}
-use Rattle.fri_requests.proofs.claims.batch_claims.Invariants.{fields}
 use Rattle.fri_requests.proofs.claims.batch_claims.Goals as goal
 
 pub loop-matrix-preserved : goal.loop-matrix-preserved
 loop-matrix-preserved g c =
     let whole = c.deref-matrix-items.ensures.value in
-    of_image_more (matrix_numbers (fields g) (λ d. d.shift) (λ d. d.log_size)) matrix_claim matrix_listed
+    of_image_more (matrix_by g.N.Numbered.numbers_of g.N.Numbered.shift_of g.N.Numbered.log_size_of) matrix_claim matrix_listed
     c.loop-matrix.matrices.items c.push.new.self.items c.args.opening.now.matrices.items
     c.loop-matrix.matrix-index c.in_ok-matrix_claims.field-0 c.matrix-item.result
     (subst (λ ys. c.loop-matrix.matrix-index < length ys) whole c.loop-matrix-test.true)

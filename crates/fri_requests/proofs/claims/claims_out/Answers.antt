@@ -1,15 +1,14 @@
 use Rattle.std.proofs.Common.{◌≡◌, ◌<◌, ◌≤◌, map, length, get_or, subst}
 use Rattle.std.proofs.lemmas.Result.{IfOk-from_err}
 use Rattle.p3_pcs.specs.Claims.{claim}
-use Rattle.fri_requests.specs.Claims.{batch_numbers, batch_listed}
+use Rattle.fri_requests.specs.Claims.{batch_by, batch_listed}
 use Rattle.fri_requests.proofs.Images.{of_image_more, image_all}
-use Rattle.fri_requests.proofs.claims.claims_out.Invariants.{fields}
 use Rattle.fri_requests.proofs.claims.claims_out.Goals as goal
 
 pub loop-opening-preserved : goal.loop-opening-preserved
 loop-opening-preserved g c =
     let whole = c.deref-opening-items.ensures.value in
-    of_image_more (batch_numbers (fields g) (λ d. d.shift) (λ d. d.log_size)) claim batch_listed
+    of_image_more (batch_by g.N.Numbered.numbers_of g.N.Numbered.shift_of g.N.Numbered.log_size_of) claim batch_listed
     c.loop-opening.batches.items c.push.new.self.items c.args.claims.now.items
     c.loop-opening.opening-index c.in_ok-batch_claims.field-0 c.opening-item.result
     (subst (λ ys. c.loop-opening.opening-index < length ys) whole c.loop-opening-test.true)
@@ -19,7 +18,7 @@ loop-opening-preserved g c =
 
 pub returns : goal.returns
 returns g c =
-    image_all (λ ys. map (batch_numbers (fields g) (λ d. d.shift) (λ d. d.log_size)) (map claim ys))
+    image_all (λ ys. map (batch_by g.N.Numbered.numbers_of g.N.Numbered.shift_of g.N.Numbered.log_size_of) (map claim ys))
     c.args.claims.now.items c.loop-opening.opening-index
     (subst (λ ys. length ys ≤ c.loop-opening.opening-index) c.deref-opening-items.ensures.value
     c.loop-opening-test.false)

@@ -1,16 +1,9 @@
 use Rattle.std.proofs.Common.{◌≡◌, map, take}
 use Rattle.p3_pcs.specs.Claims.{claim}
-use Rattle.fri_requests.specs.Claims.{batch_numbers, batch_listed}
-use Rattle.fri_statement.specs.Setting.{SchemeFields}
-use Rattle.fri_requests.proofs.Fields.{fields_of}
+use Rattle.fri_requests.specs.Claims.{batch_by, batch_listed}
 use Rattle.fri_requests.proofs.claims.claims_out.Given as goal
-
--- both fields
-abbrev pub fields : (g : goal.Over) → SchemeFields g.row.F.Denot g.row.F-Extension.Denot
-fields g = fields_of g.F.Field g.F.PrimeField64 g.F.TwoAdicField g.F.ElementBytes
-    g.F.Extension.Field g.F.Extension.ExtensionField g.F.Extension.ElementBytes
 
 abbrev pub invariant-loop-opening : goal.invariant-loop-opening
 invariant-loop-opening g l = map batch_listed l.batches.items
-    ≡ map (batch_numbers (fields g) (λ d. d.shift) (λ d. d.log_size))
+    ≡ map (batch_by g.N.Numbered.numbers_of g.N.Numbered.shift_of g.N.Numbered.log_size_of)
     (map claim (take l.opening-index l.claims.items))

@@ -1,12 +1,11 @@
 use Rattle.std.proofs.Common.{◌≡◌, ◌<◌, All, map, length, get_or, subst, sym}
 use Rattle.std.proofs.lemmas.Result.{IfOk-from_err}
 use Rattle.p3_pcs.specs.Claims.{matrix_claim}
-use Rattle.fri_requests.specs.Claims.{matrix_numbers, matrix_listed}
-use Rattle.fri_requests.specs.Statements.{IsMatrixClaim}
+use Rattle.fri_requests.specs.Claims.{matrix_by, matrix_listed}
+use Rattle.fri_requests.specs.Statements.{IsMatrixClaimBy}
 use Rattle.fri_requests.proofs.Failed.{malformed_part, read_wants}
 use Rattle.fri_requests.proofs.Images.{image_more}
 use Rattle.fri_requests.proofs.Listed.{not_all}
-use Rattle.fri_requests.proofs.claims.commitment_opening.Invariants.{fields}
 use Rattle.fri_requests.proofs.claims.commitment_opening.Goals as goal
 
 pub returns-in_err-matrix_opening-clause-refused :
@@ -14,14 +13,14 @@ pub returns-in_err-matrix_opening-clause-refused :
 returns-in_err-matrix_opening-clause-refused g c =
     malformed_part _ _ _ _ c.from_residual-in_err-matrix_opening.ensures.1
     c.in_err-matrix_opening.ensures.refused
-    (λ fails whole. not_all (IsMatrixClaim (fields g)) matrix_listed _ c.loop-index.index c.matrix-item.result
+    (λ fails whole. not_all (IsMatrixClaimBy g.N.Numbered.IsPoint g.N.Numbered.IsDomain) matrix_listed _ c.loop-index.index c.matrix-item.result
     c.loop-index-test.true c.matrix-item.is fails
-    (subst (λ ms. All (IsMatrixClaim (fields g)) (map matrix_listed ms)) (sym c.deref-matrix-items.ensures.value) whole.matrices))
+    (subst (λ ms. All (IsMatrixClaimBy g.N.Numbered.IsPoint g.N.Numbered.IsDomain) (map matrix_listed ms)) (sym c.deref-matrix-items.ensures.value) whole.matrices))
 
 pub loop-index-preserved : goal.loop-index-preserved
 loop-index-preserved g c =
     let whole = c.deref-matrix-items.ensures.value in
-    image_more (matrix_numbers (fields g) (λ d. d.shift) (λ d. d.log_size)) matrix_claim matrix_listed
+    image_more (matrix_by g.N.Numbered.numbers_of g.N.Numbered.shift_of g.N.Numbered.log_size_of) matrix_claim matrix_listed
     c.loop-index.matrices.items c.push.new.self.items c.args.claims.now.matrices.items
     c.loop-index.index c.in_ok-matrix_opening.field-0 c.matrix-item.result
     (subst (λ ys. c.loop-index.index < length ys) whole c.loop-index-test.true)

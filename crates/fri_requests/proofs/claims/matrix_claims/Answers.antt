@@ -1,15 +1,14 @@
 use Rattle.std.proofs.Common.{◌≡◌, ◌<◌, ◌≤◌, length, map, get_or, subst}
 use Rattle.std.proofs.lemmas.Result.{IfOk-from_err}
 use Rattle.p3_pcs.specs.Claims.{point_claim}
-use Rattle.fri_requests.specs.Claims.{point_numbers, point_listed}
+use Rattle.fri_requests.specs.Claims.{point_by, point_listed}
 use Rattle.fri_requests.proofs.Images.{of_image_more, image_all, same_numbers}
-use Rattle.fri_requests.proofs.claims.matrix_claims.Invariants.{fields}
 use Rattle.fri_requests.proofs.claims.matrix_claims.Goals as goal
 
 pub loop-point-preserved : goal.loop-point-preserved
 loop-point-preserved g c =
     let whole = c.deref-point-items.ensures.value in
-    of_image_more (point_numbers (fields g)) point_claim point_listed c.loop-point.points.items
+    of_image_more (point_by g.N.Numbered.numbers_of) point_claim point_listed c.loop-point.points.items
     c.push.new.self.items c.args.opening.now.points.items c.loop-point.point-index
     c.in_ok-point_claims.field-0 c.point-item.result
     (subst (λ ys. c.loop-point.point-index < length ys) whole c.loop-point-test.true)
@@ -19,8 +18,8 @@ loop-point-preserved g c =
 
 pub returns : goal.returns
 returns g c =
-    same_numbers c.domain.ensures.shift c.domain.ensures.log_size
-    (image_all (λ ys. map (point_numbers (fields g)) (map point_claim ys)) c.args.opening.now.points.items
+    same_numbers c.domain_numbers.ensures.shift c.domain_numbers.ensures.log_size
+    (image_all (λ ys. map (point_by g.N.Numbered.numbers_of) (map point_claim ys)) c.args.opening.now.points.items
     c.loop-point.point-index
     (subst (λ ys. length ys ≤ c.loop-point.point-index) c.deref-point-items.ensures.value
     c.loop-point-test.false)

@@ -1,33 +1,30 @@
 use Rattle.std.proofs.Common.{◌≡◌, ◌<◌, All, map, length, get_or, subst, sym}
 use Rattle.std.proofs.lemmas.Result.{IfOk-from_err}
 use Rattle.p3_pcs.specs.Claims.{point_claim}
-use Rattle.fri_requests.specs.Claims.{point_numbers, point_listed}
-use Rattle.fri_requests.specs.Statements.{IsCoset, IsPointClaim}
+use Rattle.fri_requests.specs.Claims.{point_by, point_listed}
+use Rattle.fri_requests.specs.Statements.{IsPointClaimBy}
 use Rattle.fri_requests.proofs.Failed.{malformed_part, read_wants, malformed}
 use Rattle.fri_requests.proofs.Images.{image_more}
 use Rattle.fri_requests.proofs.Listed.{not_all}
-use Rattle.fri_requests.proofs.claims.matrix_opening.Invariants.{fields}
 use Rattle.fri_requests.proofs.claims.matrix_opening.Goals as goal
 
 pub returns-in_err-domain-clause-refused : goal.returns-in_err-domain-clause-refused
 returns-in_err-domain-clause-refused g c =
     malformed _ _ _ c.from_residual.ensures.1
-    (λ whole. c.in_err-domain.ensures.refused
-    (subst (λ n. IsCoset (fields g) n c.args.claims.now.domain.shift c.args.claims.now.domain.log_size)
-    (sym c.TWO_ADICITY.ensures) whole.domain))
+    (λ whole. c.in_err-domain.ensures.refused whole.domain)
 
 pub returns-in_err-point_opening-clause-refused : goal.returns-in_err-point_opening-clause-refused
 returns-in_err-point_opening-clause-refused g c =
     malformed_part _ _ _ _ c.from_residual-in_err-point_opening.ensures.1
     c.in_err-point_opening.ensures.refused
-    (λ fails whole. not_all (IsPointClaim (fields g)) point_listed _ c.loop-index.index c.point-item.result
+    (λ fails whole. not_all (IsPointClaimBy g.N.Numbered.IsPoint) point_listed _ c.loop-index.index c.point-item.result
     c.loop-index-test.true c.point-item.is fails
-    (subst (λ ps. All (IsPointClaim (fields g)) (map point_listed ps)) (sym c.deref-point-items.ensures.value) whole.points))
+    (subst (λ ps. All (IsPointClaimBy g.N.Numbered.IsPoint) (map point_listed ps)) (sym c.deref-point-items.ensures.value) whole.points))
 
 pub loop-index-preserved : goal.loop-index-preserved
 loop-index-preserved g c =
     let whole = c.deref-point-items.ensures.value in
-    image_more (point_numbers (fields g)) point_claim point_listed c.loop-index.points.items
+    image_more (point_by g.N.Numbered.numbers_of) point_claim point_listed c.loop-index.points.items
     c.push.new.self.items c.args.claims.now.points.items c.loop-index.index
     c.in_ok-point_opening.field-0 c.point-item.result
     (subst (λ ys. c.loop-index.index < length ys) whole c.loop-index-test.true)

@@ -3,4 +3,4 @@ use Rattle.fri_requests.proofs.elements.extension_element.Given as goal
 
 abbrev pub invariant-loop-index : goal.invariant-loop-index
 invariant-loop-index g l = map g.F.PrimeField64.canonical
-    (take l.index (g.F.Extension.ExtensionField.coefficients l.element)) ≡ take l.index l.numbers
+    (take l.index (g.EF.ExtensionField.coefficients l.element)) ≡ take l.index l.numbers

@@ -1,21 +1,15 @@
 use Rattle.std.proofs.Common.{All, take}
 use Rattle.std.specs.List.{AllZip}
+use Rattle.algebra.specs.Field.{multiple}
 use Rattle.fri_schemes.specs.Rows.{FitsRows}
-use Rattle.fri_requests.specs.Committed.{IsListed}
-use Rattle.fri_requests.specs.Requests.{IsMatrix}
-use Rattle.fri_statement.specs.Setting.{SchemeFields}
-use Rattle.fri_requests.proofs.Fields.{fields_of}
+use Rattle.fri_requests.specs.Committed.{IsListedBy}
+use Rattle.fri_requests.specs.Requests.{IsMatrixBelow}
 use Rattle.fri_requests.proofs.matrices.batch_evaluations.Given as goal
-
--- both fields
-abbrev pub fields : (g : goal.Over) → SchemeFields g.row.F.Denot g.row.F-Extension.Denot
-fields g = fields_of g.F.Field g.F.PrimeField64 g.F.TwoAdicField g.F.ElementBytes
-    g.F.Extension.Field g.F.Extension.ExtensionField g.F.Extension.ElementBytes
 
 abbrev pub invariant-loop-index : goal.invariant-loop-index
 invariant-loop-index g l = record {
   fit : All (λ e. FitsRows g.F.TwoAdicField.TWO_ADICITY l.hides l.log_blowup e.0.log_size e.1) l.all.items;
-  listed : AllZip (IsListed (fields g) l.hides (λ d. d.shift) (λ d. d.log_size)) l.all.items
+  listed : AllZip (IsListedBy (λ n. multiple g.F.Field.ops n) (λ d. g.F.PrimeField64.canonical d.shift) (λ d. d.log_size) l.hides) l.all.items
       (take l.index l.batch.matrices.items);
-  well_formed : All (IsMatrix (fields g) l.hides l.log_blowup) (take l.index l.batch.matrices.items);
+  well_formed : All (IsMatrixBelow g.F.PrimeField64.ORDER_U64 g.F.TwoAdicField.TWO_ADICITY l.hides l.log_blowup) (take l.index l.batch.matrices.items);
 }

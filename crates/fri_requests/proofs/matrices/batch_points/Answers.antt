@@ -3,10 +3,8 @@ use Rattle.fri_requests.proofs.Failed.{read_wants, malformed_part}
 use Rattle.std.proofs.Common.{◌≡◌, ◌≢◌, ◌<◌, ◌≤◌, [], All, map, length, get_or, subst, sym}
 use Rattle.algebra.specs.Nested.{lists}
 use Rattle.p3_fri_openings.proofs.First.{at_item}
-use Rattle.fri_requests.specs.Numbers.{extension_numbers}
-use Rattle.fri_requests.specs.Requests.{HasPoints}
+use Rattle.fri_requests.specs.Requests.{HasPointsBy}
 use Rattle.fri_requests.proofs.Images.{image_more, image_all, holds_more}
-use Rattle.fri_requests.proofs.matrices.batch_points.Invariants.{fields}
 use Rattle.fri_requests.proofs.matrices.batch_points.Goals as goal
 
 pub loop-index-preserved : goal.loop-index-preserved
@@ -17,7 +15,7 @@ loop-index-preserved g c =
       some = holds_more (λ zs. zs ≢ []) (λ v. v.items) c.loop-index.all.items c.push.new.self.items
           c.in_ok-points.field-0 c.in_ok-push.ensures.items c.loop-index.invariant.some
           c.in_ok-points.ensures.some;
-      numbers = image_more (map (extension_numbers (fields g))) (λ v. v.items) (λ m. lists m.points.items)
+      numbers = image_more (map g.N.Numbered.numbers_of) (λ v. v.items) (λ m. lists m.points.items)
           c.loop-index.all.items c.push.new.self.items c.args.batch.now.matrices.items i
           c.in_ok-points.field-0 c.matrix-item.result
           (subst (λ ys. i < length ys) whole c.loop-index-test.true)
@@ -36,9 +34,9 @@ returns-clause-numbers g c =
 pub returns-in_err-points-clause-refused : goal.returns-in_err-points-clause-refused
 returns-in_err-points-clause-refused g c =
     malformed_part _ _ _ _ c.from_residual-in_err-points.ensures.1 c.in_err-points.ensures.refused
-    (λ fails whole. fails (at_item (HasPoints (fields g)) c.deref-matrix-items.result.now c.loop-index.index
+    (λ fails whole. fails (at_item (HasPointsBy g.N.Numbered.IsPoint) c.deref-matrix-items.result.now c.loop-index.index
     c.matrix-item.result c.loop-index-test.true c.matrix-item.is
-    (subst (λ ms. All (HasPoints (fields g)) ms) (sym c.deref-matrix-items.ensures.value) whole)))
+    (subst (λ ms. All (HasPointsBy g.N.Numbered.IsPoint) ms) (sym c.deref-matrix-items.ensures.value) whole)))
 
 -- where nothing is answered nothing is said of the answer
 pub returns-in_err-all-clause-some : goal.returns-in_err-all-clause-some

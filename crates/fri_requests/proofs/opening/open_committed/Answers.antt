@@ -11,30 +11,36 @@ open_requests-requires-clause-shape g c =
     subst (λ qs. (g.P.UnivariateStarkPcs.stark_rules c.args.scheme.now).CanOpenAt c.args.preprocessing qs)
     (sym (ap (λ rs. map request rs) c.as_mut_slice.ensures.value ∙ c.in_ok-requests.ensures)) c.requires.shape
 
-pub open_requests-requires-clause-honest : goal.open_requests-requires-clause-honest
-open_requests-requires-clause-honest g c =
-    subst (λ qs. AreHonestIn (g.P.Pcs.rules c.args.scheme.now) qs)
-    (sym (ap (λ rs. map request rs) c.as_mut_slice.ensures.value ∙ c.in_ok-requests.ensures)) c.requires.honest
-
-pub open_requests-requires-clause-commitments : goal.open_requests-requires-clause-commitments
-open_requests-requires-clause-commitments g c =
-    let r = g.P.Pcs.rules c.args.scheme.now in
-    c.requires.commitments
-    ∙ ap (λ qs. map (λ q. r.commitment_of q.datum) qs)
-    (sym (ap (λ rs. map request rs) c.as_mut_slice.ensures.value ∙ c.in_ok-requests.ensures))
-    ∙ map-map (λ q. r.commitment_of q.datum) request c.as_mut_slice.result.now
-
-pub open_requests-requires-clause-domains : goal.open_requests-requires-clause-domains
-open_requests-requires-clause-domains g c =
-    subst (λ qs. FitRequests (g.P.Pcs.rules c.args.scheme.now) (map (λ k. k.domains.items) c.args.known.now) qs)
-    (sym (ap (λ rs. map request rs) c.as_mut_slice.ensures.value ∙ c.in_ok-requests.ensures)) c.requires.domains
-
 pub returns-clause-claims : goal.returns-clause-claims
 returns-clause-claims g c =
+    let r = g.P.Pcs.rules c.args.scheme.now in
     let is = ap (λ rs. map request rs) c.as_mut_slice.ensures.value ∙ c.in_ok-requests.ensures in
     IfOk-weaker c.open_requests.result _ _
-    (λ o e. e ∙ ap (λ qs. claims_asked (g.P.Pcs.rules c.args.scheme.now) (map (λ k. k.domains.items) c.args.known.now) qs) is)
-    c.open_requests.ensures.claims
+    (λ o e. e ∙ ap (λ qs. claims_asked r (map (λ k. k.domains.items) c.args.known.now) qs) is)
+    (c.open_requests.ensures.claims
+    (subst (λ qs. AreHonestIn r qs) (sym is) c.requires.honest)
+    (c.requires.commitments ∙ ap (λ qs. map (λ q. r.commitment_of q.datum) qs) (sym is)
+    ∙ map-map (λ q. r.commitment_of q.datum) request c.as_mut_slice.result.now))
+
+pub returns-clause-accepted : goal.returns-clause-accepted
+returns-clause-accepted g c =
+    let r = g.P.Pcs.rules c.args.scheme.now in
+    let is = ap (λ rs. map request rs) c.as_mut_slice.ensures.value ∙ c.in_ok-requests.ensures in
+    c.open_requests.ensures.accepted
+    (subst (λ qs. AreHonestIn r qs) (sym is) c.requires.honest)
+    (c.requires.commitments ∙ ap (λ qs. map (λ q. r.commitment_of q.datum) qs) (sym is)
+    ∙ map-map (λ q. r.commitment_of q.datum) request c.as_mut_slice.result.now)
+    (subst (λ qs. FitRequests r (map (λ k. k.domains.items) c.args.known.now) qs) (sym is) c.requires.domains)
+
+pub returns-clause-state : goal.returns-clause-state
+returns-clause-state g c =
+    let r = g.P.Pcs.rules c.args.scheme.now in
+    let is = ap (λ rs. map request rs) c.as_mut_slice.ensures.value ∙ c.in_ok-requests.ensures in
+    c.open_requests.ensures.state
+    (subst (λ qs. AreHonestIn r qs) (sym is) c.requires.honest)
+    (c.requires.commitments ∙ ap (λ qs. map (λ q. r.commitment_of q.datum) qs) (sym is)
+    ∙ map-map (λ q. r.commitment_of q.datum) request c.as_mut_slice.result.now)
+    (subst (λ qs. FitRequests r (map (λ k. k.domains.items) c.args.known.now) qs) (sym is) c.requires.domains)
 
 pub returns-clause-refused : goal.returns-clause-refused
 returns-clause-refused g c =

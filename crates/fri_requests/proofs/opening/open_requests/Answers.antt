@@ -1,40 +1,40 @@
-use Rattle.std.proofs.Common.{◌≡◌, map, refl, sym, subst}
+use Rattle.std.proofs.Common.{◌≡◌, map, refl, sym, subst, inl, inr}
 use Rattle.p3_pcs.specs.Requests.{request}
 use Rattle.p3_pcs.proofs.Honest.{claims_honest}
 use Rattle.fri_requests.proofs.Failed.{request_weaker}
 use Rattle.fri_requests.proofs.opening.open_requests.Goals as goal
 
 pub returns-clause-claims : goal.returns-clause-claims
-returns-clause-claims g c =
+returns-clause-claims g c = λ honest commits.
     let r = g.P.Pcs.rules c.args.scheme.now in
     claims_honest r.commitment_of r.committed_polynomials r.after_opening
-    c.args.known.now c.args.requests.now _ _ _ c.requires.commitments
+    c.args.known.now c.args.requests.now _ _ _ commits
     (c.in-Ok.ensures.opened (c.in-Ok.ensures.checked refl))
-    (c.in-Ok.ensures.values c.requires.honest)
+    (c.in-Ok.ensures.values honest)
     (rw c.as_slice.ensures.value at c.in_ok-claims.ensures)
 
 pub returns-clause-accepted : goal.returns-clause-accepted
-returns-clause-accepted g c =
+returns-clause-accepted g c = λ honest commits fit.
     let r = g.P.Pcs.rules c.args.scheme.now in
     let is = claims_honest r.commitment_of r.committed_polynomials r.after_opening
-    c.args.known.now c.args.requests.now _ _ _ c.requires.commitments
+    c.args.known.now c.args.requests.now _ _ _ commits
     (c.in-Ok.ensures.opened (c.in-Ok.ensures.checked refl))
-    (c.in-Ok.ensures.values c.requires.honest)
+    (c.in-Ok.ensures.values honest)
     (rw c.as_slice.ensures.value at c.in_ok-claims.ensures) in
     subst (λ cs. r.Accepts c.args.preprocessing c.args.challenger.now cs c.in-Ok.opening.1) (sym is)
-    (c.in-Ok.ensures.accepted c.requires.honest _ c.requires.domains)
+    (c.in-Ok.ensures.accepted honest _ fit)
 
 pub returns-clause-state : goal.returns-clause-state
-returns-clause-state g c =
+returns-clause-state g c = λ honest commits fit.
     let r = g.P.Pcs.rules c.args.scheme.now in
     let is = claims_honest r.commitment_of r.committed_polynomials r.after_opening
-    c.args.known.now c.args.requests.now _ _ _ c.requires.commitments
+    c.args.known.now c.args.requests.now _ _ _ commits
     (c.in-Ok.ensures.opened (c.in-Ok.ensures.checked refl))
-    (c.in-Ok.ensures.values c.requires.honest)
+    (c.in-Ok.ensures.values honest)
     (rw c.as_slice.ensures.value at c.in_ok-claims.ensures) in
     subst (λ cs. c.open_with_preprocessing-opened.new.challenger
     ≡ r.last_state c.args.preprocessing c.args.challenger.now cs c.in-Ok.opening.1) (sym is)
-    (c.in-Ok.ensures.state c.requires.honest _ c.requires.domains)
+    (c.in-Ok.ensures.state honest _ fit)
 
 pub returns-in-Err-clause-refused : goal.returns-in-Err-clause-refused
 returns-in-Err-clause-refused g c =
@@ -45,3 +45,16 @@ returns-in-Err-clause-refused g c =
           c.in-Err.ensures.refused,
       h.1,
     )) c.refusal.result c.refusal.ensures
+
+pub returns-clause-lent : goal.returns-clause-lent
+returns-clause-lent g c = λ cases. inl (c.in-Ok.ensures.opened (c.in-Ok.ensures.checked refl))
+
+pub returns-in_err-claims-clause-lent : goal.returns-in_err-claims-clause-lent
+returns-in_err-claims-clause-lent g c = λ cases. inl (c.in-Ok.ensures.opened (c.in-Ok.ensures.checked refl))
+
+pub returns-in-Err-clause-lent : goal.returns-in-Err-clause-lent
+returns-in-Err-clause-lent g c = λ cases.
+    elim (cases c.in-Err.error c.in-Err.ensures.refused) [
+      | inl passes ↦ inl (c.in-Err.ensures.opened passes)
+      | inr leaves ↦ inr (c.in-Err.ensures.untouched leaves)
+    ]

@@ -1,4 +1,4 @@
-use Rattle.std.proofs.Common.{◌≡◌, ◌^◌, List, map, All, Ok, refl, sym, subst, ap, ◌∙◌, true, false}
+use Rattle.std.proofs.Common.{◌≡◌, ◌^◌, List, map, All, Ok, refl, sym, subst, ap, ◌∙◌, false}
 use Rattle.std.specs.List.{AllZip}
 use Rattle.algebra.specs.Nested.{nested}
 use Rattle.algebra.proofs.Lists.{map-map}
@@ -23,7 +23,7 @@ use Rattle.fri_requests.specs.Keeping.{IsKept, HasCommitted, AskFor, CanAsk, bat
 use Rattle.fri_requests.specs.Openings.{IsOpened, requests_for}
 use Rattle.fri_requests.specs.Requests.{sha256_opening, points_listed}
 use Rattle.fri_requests.proofs.Asked.{have_points, points_again}
-use Rattle.fri_requests.proofs.Failed.{request_part}
+use Rattle.fri_requests.proofs.Failed.{no_truth, request_part}
 use Rattle.fri_requests.proofs.Fields.{fields_of}
 use Rattle.fri_requests.proofs.Listed.{HaveNumbers, is_coset, are_claims, claims_again}
 use Rattle.fri_requests.proofs.Reopened.{domains_kept, widths_kept, honest_at, roots_at, fits_at, opened_at}
@@ -196,12 +196,9 @@ returns-clause-opened g c = λ batches kept. opened g (goal.at.returns-clause-op
 pub returns-clause-well_formed : goal.returns-clause-well_formed
 returns-clause-well_formed g c = λ batches kept. can_ask g (goal.at.returns-clause-well_formed g c).In_ok-next_drawn batches kept
 
-never : false ≡ true → ⊥
-never e = cc
-
 pub returns-then-not-are_named-clause-refused : goal.returns-then-not-are_named-clause-refused
 returns-then-not-are_named-clause-refused g c = λ batches kept can.
-    never (c.if-not-are_named.ensures.otherwise
+    no_truth (c.if-not-are_named.ensures.otherwise
     (ap (λ ks. map (λ k. map (λ d. domain_of (fields g) d.shift d.log_size) k.domains.items) ks) c.deref.ensures.value
     ∙ sym (map-map (map (λ d. domain_of (fields g) d.shift d.log_size)) (λ k. k.domains.items) c.in_ok-known.known.items)
     ∙ ap (λ ds. map (map (λ d. domain_of (fields g) d.shift d.log_size)) ds) c.in_ok-known.ensures.domains

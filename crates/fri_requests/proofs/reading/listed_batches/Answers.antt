@@ -3,28 +3,28 @@ use Rattle.std.specs.List.{AllZip}
 use Rattle.std.proofs.lemmas.List.Elements.{All-push}
 use Rattle.p3_fri_openings.proofs.First.{one_more, to_the_end, at_item}
 use Rattle.fri_records.specs.declared.records.Batch.{Batch}
+use Rattle.algebra.specs.Field.{multiple}
 use Rattle.fri_schemes.specs.Rows.{FitsRows}
-use Rattle.fri_requests.specs.Committed.{Lists}
-use Rattle.fri_requests.specs.Requests.{IsMatrix}
+use Rattle.fri_requests.specs.Committed.{ListsBy}
+use Rattle.fri_requests.specs.Requests.{IsMatrixBelow}
 use Rattle.fri_requests.proofs.Failed.{malformed_part}
 use Rattle.fri_requests.proofs.Kept.{pairs_more, pairs_done}
-use Rattle.fri_requests.proofs.reading.listed_batches.Invariants.{fields}
 use Rattle.fri_requests.proofs.reading.listed_batches.Goals as goal
 
 pub loop-index-preserved : goal.loop-index-preserved
 loop-index-preserved g c =
     let batch = c.index-batches-index.result in
     record {
-      listed = subst (λ all. AllZip (Lists (fields g) c.args.hides (λ d. d.shift) (λ d. d.log_size)) all (take (c.loop-index.index + 1) c.args.batches.now))
+      listed = subst (λ all. AllZip (ListsBy (λ n. multiple g.F.Field.ops n) (λ d. g.F.PrimeField64.canonical d.shift) (λ d. d.log_size) c.args.hides) all (take (c.loop-index.index + 1) c.args.batches.now))
           (sym c.in_ok-push.ensures.items)
-          (pairs_more (Lists (fields g) c.args.hides (λ d. d.shift) (λ d. d.log_size)) c.loop-index.all.items c.args.batches.now c.loop-index.index
+          (pairs_more (ListsBy (λ n. multiple g.F.Field.ops n) (λ d. g.F.PrimeField64.canonical d.shift) (λ d. d.log_size) c.args.hides) c.loop-index.all.items c.args.batches.now c.loop-index.index
           _ batch c.loop-index-test.true c.index-batches-index.is c.loop-index.invariant.listed
           (record { evaluations = c.in_ok-batch_evaluations.ensures.listed; preprocessed = refl }));
       fit = subst (λ all. All (λ b. All (λ e. FitsRows g.F.TwoAdicField.TWO_ADICITY c.args.hides c.args.log_blowup e.0.log_size e.1) b.evaluations.items) all)
           (sym c.in_ok-push.ensures.items)
           (All-push (λ b. All (λ e. FitsRows g.F.TwoAdicField.TWO_ADICITY c.args.hides c.args.log_blowup e.0.log_size e.1) b.evaluations.items)
           c.loop-index.all.items _ c.loop-index.invariant.fit c.in_ok-batch_evaluations.ensures.fit);
-      well_formed = one_more (λ (b : Batch). All (IsMatrix (fields g) c.args.hides c.args.log_blowup) b.matrices.items) c.args.batches.now
+      well_formed = one_more (λ (b : Batch). All (IsMatrixBelow g.F.PrimeField64.ORDER_U64 g.F.TwoAdicField.TWO_ADICITY c.args.hides c.args.log_blowup) b.matrices.items) c.args.batches.now
           c.loop-index.index batch c.loop-index-test.true c.index-batches-index.is
           c.loop-index.invariant.well_formed c.in_ok-batch_evaluations.ensures.well_formed;
     }
@@ -33,15 +33,15 @@ pub returns-in_err-batch_evaluations-clause-refused : goal.returns-in_err-batch_
 returns-in_err-batch_evaluations-clause-refused g c =
     malformed_part _ _ _ _ c.from_residual-in_err-batch_evaluations.ensures.1
     c.in_err-batch_evaluations.ensures.refused
-    (λ fails whole. fails (at_item (λ (b : Batch). All (IsMatrix (fields g) c.args.hides c.args.log_blowup) b.matrices.items) c.args.batches.now
+    (λ fails whole. fails (at_item (λ (b : Batch). All (IsMatrixBelow g.F.PrimeField64.ORDER_U64 g.F.TwoAdicField.TWO_ADICITY c.args.hides c.args.log_blowup) b.matrices.items) c.args.batches.now
     c.loop-index.index c.index-batches-index.result c.loop-index-test.true c.index-batches-index.is whole))
 
 pub returns-clause-listed : goal.returns-clause-listed
 returns-clause-listed g c =
-    pairs_done (Lists (fields g) c.args.hides (λ d. d.shift) (λ d. d.log_size)) c.loop-index.all.items c.args.batches.now c.loop-index.index
+    pairs_done (ListsBy (λ n. multiple g.F.Field.ops n) (λ d. g.F.PrimeField64.canonical d.shift) (λ d. d.log_size) c.args.hides) c.loop-index.all.items c.args.batches.now c.loop-index.index
     c.loop-index-test.false c.loop-index.invariant.listed
 
 pub returns-clause-well_formed : goal.returns-clause-well_formed
 returns-clause-well_formed g c =
-    to_the_end (λ (b : Batch). All (IsMatrix (fields g) c.args.hides c.args.log_blowup) b.matrices.items) c.args.batches.now
+    to_the_end (λ (b : Batch). All (IsMatrixBelow g.F.PrimeField64.ORDER_U64 g.F.TwoAdicField.TWO_ADICITY c.args.hides c.args.log_blowup) b.matrices.items) c.args.batches.now
     c.loop-index.index c.loop-index-test.false c.loop-index.invariant.well_formed

@@ -3,10 +3,8 @@ use Rattle.std.proofs.Common.{◌≢◌, [], All, map}
 use Rattle.algebra.specs.Nested.{lists}
 use Rattle.p3_fri_openings.proofs.First.{at_item}
 use Rattle.fri_records.specs.declared.records.Batch.{Batch}
-use Rattle.fri_requests.specs.Numbers.{extension_numbers}
-use Rattle.fri_requests.specs.Requests.{HasPoints}
+use Rattle.fri_requests.specs.Requests.{HasPointsBy}
 use Rattle.fri_requests.proofs.Images.{image_more, image_all, holds_more}
-use Rattle.fri_requests.proofs.reading.points_of.Invariants.{fields}
 use Rattle.fri_requests.proofs.reading.points_of.Goals as goal
 
 pub loop-index-preserved : goal.loop-index-preserved
@@ -14,7 +12,7 @@ loop-index-preserved g c = record {
   some_points = holds_more (λ ps. All (λ zs. zs ≢ []) ps) (λ v. lists v.items) c.loop-index.all.items
       c.push.new.self.items c.in_ok-batch_points.field-0 c.in_ok-push.ensures.items
       c.loop-index.invariant.some_points c.in_ok-batch_points.ensures.some;
-  numbers = image_more (map (map (extension_numbers (fields g)))) (λ v. lists v.items)
+  numbers = image_more (map (map g.N.Numbered.numbers_of)) (λ v. lists v.items)
       (λ batch. map (λ m. lists m.points.items) batch.matrices.items) c.loop-index.all.items
       c.push.new.self.items c.args.batches.now c.loop-index.index c.in_ok-batch_points.field-0
       c.index-batches-index.result c.loop-index-test.true c.index-batches-index.is
@@ -32,6 +30,6 @@ pub returns-in_err-batch_points-clause-refused : goal.returns-in_err-batch_point
 returns-in_err-batch_points-clause-refused g c =
     malformed_part _ _ _ _ c.from_residual-in_err-batch_points.ensures.1
     c.in_err-batch_points.ensures.refused
-    (λ fails whole. fails (at_item (λ (b : Batch). All (HasPoints (fields g)) b.matrices.items) c.args.batches.now
+    (λ fails whole. fails (at_item (λ (b : Batch). All (HasPointsBy g.N.Numbered.IsPoint) b.matrices.items) c.args.batches.now
     c.loop-index.index c.index-batches-index.result c.loop-index-test.true c.index-batches-index.is
     whole))

@@ -1,30 +1,27 @@
 use Rattle.std.proofs.Common.{map, ap, ◌∙◌}
 use Rattle.std.proofs.lemmas.Result.{IfOk-from_err}
-use Rattle.fri_statement.specs.Setting.{prime_fields}
-use Rattle.fri_statement.specs.Stated.{opened_commitment}
 use Rattle.fri_requests.proofs.Bound.{claims_ended}
 use Rattle.p3_pcs.specs.Claims.{claim, matrix_claim}
-use Rattle.fri_requests.specs.Bound.{batch_claimed, matrix_claimed}
-use Rattle.fri_requests.specs.Claims.{batch_numbers, matrix_numbers}
+use Rattle.fri_requests.specs.Bound.{batch_claimed, matrix_claimed, commitment_stated}
+use Rattle.fri_requests.specs.Claims.{batch_by, matrix_by}
 use Rattle.fri_requests.proofs.Kept.{same_more}
-use Rattle.fri_requests.proofs.statement.claims_stated.Invariants.{fields}
 use Rattle.fri_requests.proofs.statement.claims_stated.Goals as goal
 
 pub loop-opening-preserved : goal.loop-opening-preserved
 loop-opening-preserved g c =
     let o = c.opening-item.result in
-    same_more (opened_commitment (prime_fields (fields g)) (λ d. d.shift) (λ d. d.log_size))
-    (λ n. batch_claimed (batch_numbers (fields g) (λ d. d.shift) (λ d. d.log_size) (claim n)))
+    same_more (commitment_stated g.N.Numbered.numbers_of g.N.Numbered.shift_of g.N.Numbered.log_size_of)
+    (λ n. batch_claimed (batch_by g.N.Numbered.numbers_of g.N.Numbered.shift_of g.N.Numbered.log_size_of (claim n)))
     c.loop-opening.all.items c.push.new.self.items c.args.claims.now c.loop-opening.opening-index _ o
     c.loop-opening-test.true c.opening-item.is c.in_ok-push.ensures.items
     (ap (λ ms. record { digest = o.commitment; matrices = ms })
     (c.in_ok-matrices_claimed.ensures
-    ∙ ap (λ ms. map matrix_claimed (map (matrix_numbers (fields g) (λ d. d.shift) (λ d. d.log_size)) (map matrix_claim ms)))
+    ∙ ap (λ ms. map matrix_claimed (map (matrix_by g.N.Numbered.numbers_of g.N.Numbered.shift_of g.N.Numbered.log_size_of) (map matrix_claim ms)))
     c.deref.ensures.value))
     c.loop-opening.invariant
 
 pub returns : goal.returns
-returns g c = claims_ended (fields g) (λ d. d.shift) (λ d. d.log_size) (map (opened_commitment (prime_fields (fields g)) (λ d. d.shift) (λ d. d.log_size)) c.loop-opening.all.items) c.args.claims.now
+returns g c = claims_ended g.N.Numbered.numbers_of g.N.Numbered.shift_of g.N.Numbered.log_size_of (map (commitment_stated g.N.Numbered.numbers_of g.N.Numbered.shift_of g.N.Numbered.log_size_of) c.loop-opening.all.items) c.args.claims.now
     c.loop-opening.opening-index c.loop-opening-test.false c.loop-opening.invariant
 
 -- where nothing is answered nothing is said of the answer

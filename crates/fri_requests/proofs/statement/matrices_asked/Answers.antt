@@ -3,15 +3,11 @@ use Rattle.std.proofs.lemmas.List.{take_all}
 use Rattle.std.proofs.lemmas.Result.{IfOk-from_err}
 use Rattle.algebra.specs.Nested.{lists}
 use Rattle.algebra.proofs.Lists.{map-map}
-use Rattle.fri_requests.specs.Numbers.{extension_numbers}
-use Rattle.fri_statement.specs.Setting.{prime_fields}
-use Rattle.fri_statement.specs.Stated.{opened_matrix}
 use Rattle.fri_records.specs.declared.records.Domain.{Domain}
-use Rattle.fri_requests.specs.Bound.{matrix_asked}
-use Rattle.fri_requests.specs.Committed.{domain_of, domain_committed}
+use Rattle.fri_requests.specs.Bound.{matrix_asked, matrix_stated}
+use Rattle.fri_requests.specs.Committed.{domain_by, domain_committed}
 use Rattle.fri_requests.proofs.Bound.{entries_alike}
 use Rattle.fri_requests.proofs.Kept.{same_more}
-use Rattle.fri_requests.proofs.statement.matrices_asked.Invariants.{fields}
 use Rattle.fri_requests.proofs.statement.matrices_asked.Goals as goal
 
 pub loop-index-preserved : goal.loop-index-preserved
@@ -19,15 +15,15 @@ loop-index-preserved g c =
     let m = c.matrix-item.result in
     let ms = c.deref-matrix-items.result.now in
     let i = c.loop-index.index in
-    same_more (opened_matrix (prime_fields (fields g)) (λ d. d.shift) (λ d. d.log_size)) (matrix_asked c.args.hides) c.loop-index.all.items c.push.new.self.items ms i _ m
+    same_more (matrix_stated g.N.Numbered.numbers_of g.N.Numbered.shift_of g.N.Numbered.log_size_of) (matrix_asked c.args.hides) c.loop-index.all.items c.push.new.self.items ms i _ m
     c.loop-index-test.true c.matrix-item.is c.in_ok-push.ensures.items
     (ap₂ (λ (x : Domain) zs. record { shift = x.shift; log_size = x.log_size; width = m.width; points = zs })
-    (entries_alike (λ d. domain_of (fields g) d.shift d.log_size) (λ n. domain_committed c.args.hides n.domain) c.args.domains.now ms i c.index-domains-index.result m
+    (entries_alike (λ d. domain_by (g.N.Numbered.shift_of d) (g.N.Numbered.log_size_of d)) (λ n. domain_committed c.args.hides n.domain) c.args.domains.now ms i c.index-domains-index.result m
     (c.requires.domains ∙ ap (λ ns. map (λ n. domain_committed c.args.hides n.domain) ns) (sym c.deref-matrix-items.ensures.value))
     c.loop-index-test.true c.index-domains-index.is c.matrix-item.is)
-    (ap (λ zs. map (extension_numbers (fields g)) zs) (c.in_ok-from_slice.ensures.items ∙ c.deref.ensures.value)
-    ∙ entries_alike (λ v. map (extension_numbers (fields g)) v.items) (λ n. lists n.points.items) c.args.points.now ms i c.index-points-index.result m
-    (sym (map-map (map (extension_numbers (fields g))) (λ v. v.items) c.args.points.now) ∙ c.requires.points
+    (ap (λ zs. map g.N.Numbered.numbers_of zs) (c.in_ok-from_slice.ensures.items ∙ c.deref.ensures.value)
+    ∙ entries_alike (λ v. map g.N.Numbered.numbers_of v.items) (λ n. lists n.points.items) c.args.points.now ms i c.index-points-index.result m
+    (sym (map-map (map g.N.Numbered.numbers_of) (λ v. v.items) c.args.points.now) ∙ c.requires.points
     ∙ ap (λ ns. map (λ n. lists n.points.items) ns) (sym c.deref-matrix-items.ensures.value))
     c.loop-index-test.true c.index-points-index.is c.matrix-item.is))
     c.loop-index.invariant

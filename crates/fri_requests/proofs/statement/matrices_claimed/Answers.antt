@@ -1,31 +1,27 @@
 use Rattle.std.proofs.Common.{ap, ◌∙◌, map}
 use Rattle.std.proofs.lemmas.Result.{IfOk-from_err}
 use Rattle.p3_pcs.specs.Claims.{point_claim, matrix_claim}
-use Rattle.fri_requests.specs.Numbers.{extension_numbers}
-use Rattle.fri_statement.specs.Setting.{prime_fields}
-use Rattle.fri_statement.specs.Stated.{opened_matrix}
-use Rattle.fri_requests.specs.Bound.{width_claimed, matrix_claimed}
-use Rattle.fri_requests.specs.Claims.{point_numbers, matrix_numbers}
+use Rattle.fri_requests.specs.Bound.{width_claimed, matrix_claimed, matrix_stated}
+use Rattle.fri_requests.specs.Claims.{point_by, matrix_by}
 use Rattle.fri_requests.proofs.Bound.{points_stated, opened_same, matrices_ended}
 use Rattle.fri_requests.proofs.Kept.{same_more}
-use Rattle.fri_requests.proofs.statement.matrices_claimed.Invariants.{fields}
 use Rattle.fri_requests.proofs.statement.matrices_claimed.Goals as goal
 
 pub loop-matrix-preserved : goal.loop-matrix-preserved
 loop-matrix-preserved g c =
     let m = c.matrix-item.result in
-    same_more (opened_matrix (prime_fields (fields g)) (λ d. d.shift) (λ d. d.log_size)) (λ n. matrix_claimed (matrix_numbers (fields g) (λ d. d.shift) (λ d. d.log_size) (matrix_claim n)))
+    same_more (matrix_stated g.N.Numbered.numbers_of g.N.Numbered.shift_of g.N.Numbered.log_size_of) (λ n. matrix_claimed (matrix_by g.N.Numbered.numbers_of g.N.Numbered.shift_of g.N.Numbered.log_size_of (matrix_claim n)))
     c.loop-matrix.all.items c.push.new.self.items c.args.matrices.now c.loop-matrix.matrix-index _ m
     c.loop-matrix-test.true c.matrix-item.is c.in_ok-push.ensures.items
-    (opened_same (g.F.PrimeField64.canonical m.domain.shift) m.domain.log_size _ _ _ _
-    (c.width_of.ensures ∙ ap (λ ps. width_claimed (map (point_numbers (fields g)) (map point_claim ps))) c.deref.ensures.value)
-    (ap (λ ps. map (extension_numbers (fields g)) ps) (c.in_ok-points_claimed.ensures
+    (opened_same (g.N.Numbered.shift_of m.domain) (g.N.Numbered.log_size_of m.domain) _ _ _ _
+    (c.width_of.ensures ∙ ap (λ ps. width_claimed (map (point_by g.N.Numbered.numbers_of) (map point_claim ps))) c.deref.ensures.value)
+    (ap (λ ps. map g.N.Numbered.numbers_of ps) (c.in_ok-points_claimed.ensures
     ∙ ap (λ ps. map (λ p. p.point) ps) c.deref-in-loop-matrix.ensures.value)
-    ∙ points_stated (fields g) m.points.items))
+    ∙ points_stated g.N.Numbered.numbers_of m.points.items))
     c.loop-matrix.invariant
 
 pub returns : goal.returns
-returns g c = matrices_ended (fields g) (λ d. d.shift) (λ d. d.log_size) (map (opened_matrix (prime_fields (fields g)) (λ d. d.shift) (λ d. d.log_size)) c.loop-matrix.all.items) c.args.matrices.now
+returns g c = matrices_ended g.N.Numbered.numbers_of g.N.Numbered.shift_of g.N.Numbered.log_size_of (map (matrix_stated g.N.Numbered.numbers_of g.N.Numbered.shift_of g.N.Numbered.log_size_of) c.loop-matrix.all.items) c.args.matrices.now
     c.loop-matrix.matrix-index c.loop-matrix-test.false c.loop-matrix.invariant
 
 -- where nothing is answered nothing is said of the answer
