@@ -23,10 +23,10 @@
  *
  * The caller owns all memory that is passed; no pointer is kept once a call returns. A pointer
  * whose length is 0 may be null; `needed` is never null, and `answer` and `needed` overlap
- * nothing. Memory inside a call comes from malloc, and is given back before it returns. No call
- * stops the program. Calls share nothing, so threads may call at once; a signal handler, or the
- * child of a fork in a program with threads, may not call. How long a call takes follows from
- * the request, which docs/USE.md describes. */
+ * nothing. Memory inside a call comes from malloc, and but for a prover's is given back before it
+ * returns. No call stops the program. Calls share nothing but a prover's handle, so threads may
+ * call at once; a signal handler, or the child of a fork in a program with threads, may not call.
+ * How long a call takes follows from the request, which docs/USE.md describes. */
 #ifndef P3_FRI_H
 #define P3_FRI_H
 
@@ -80,6 +80,40 @@ uint8_t p3_fri_verify(uint32_t field, const uint8_t *statement, size_t statement
  * the context, any bytes, are the whole request. */
 uint8_t p3_fri_challenge(uint32_t field, const uint8_t *context, size_t context_length,
                          uint8_t *answer, size_t answer_length, size_t *needed);
+
+/* A handle of a prover that keeps what it committed to, so that an opening commits to nothing again.
+ * It is all zero bytes before it is first begun, and its fields are the library's. It may be moved,
+ * and not copied; any thread may pass it on, to one call at a time. Its prover has memory from
+ * malloc, some `2^log_blowup` times what was committed to, until the handle is closed or begun
+ * anew. A handle that wasn't begun, or is closed, has no prover, and is malformed. */
+typedef struct p3_fri_prover {
+    void *at;
+    uint8_t is_open;
+} p3_fri_prover;
+
+/* Gives a handle a prover of parameters, seven numbers, which has committed to nothing. The answer
+ * is empty. What the handle had is freed; where there is no answer, it has no prover. */
+uint8_t p3_fri_prover_begin(uint32_t field, const uint8_t *parameters, size_t parameters_length,
+                            p3_fri_prover *prover,
+                            uint8_t *answer, size_t answer_length, size_t *needed);
+
+/* Commits to the matrices under one commitment, a list as in a request, and keeps what opens them:
+ * 32 bytes. Points say nothing here. What isn't answered isn't kept. A challenge that the next
+ * matrices depend on is drawn by `p3_fri_challenge`, from the bytes of what was sent. */
+uint8_t p3_fri_prover_commit(p3_fri_prover *prover,
+                             const uint8_t *batch, size_t batch_length,
+                             uint8_t *answer, size_t answer_length, size_t *needed);
+
+/* Opens all that the prover keeps, and answers as `p3_fri_open` of a request of the same matrices
+ * with these points. What is asked is a context, and the list of commitments as in a request but
+ * for the matrices' values, which aren't there. Other domains or widths than those committed to are
+ * malformed. What is kept stays as it was, and a call for a longer buffer answers the same. */
+uint8_t p3_fri_prover_open(p3_fri_prover *prover,
+                           const uint8_t *asked, size_t asked_length,
+                           uint8_t *answer, size_t answer_length, size_t *needed);
+
+/* Frees a handle's prover, if it has one. */
+void p3_fri_prover_close(p3_fri_prover *prover);
 
 /* The scheme that hides: what is committed to is masked by random columns and rows, so that an
  * opening shows nothing of it beyond the claimed values. That it hides isn't proved; what an

@@ -38,10 +38,13 @@ its own. Nothing is hidden: a proof shows rows of what is committed to, but for 
 `hiding` has the scheme that masks what is committed to. `stark` proves that there is a table which satisfies a constraint
 system, and verifies such proofs.
 
+A `Prover` keeps what it committed to, so that it commits to nothing again where it opens.
+
 Calls share nothing, and Python's lock isn't held inside of one, so threads may call at once.
 """
 from . import hiding, stark
 from .errors import Error, Malformed, OutOfMemory, ProcessorTooOld, Refused
+from .prover import Prover
 from .scheme import challenge, commit, open, verify
 from .transcript import Transcript
 from .types import (
@@ -80,6 +83,7 @@ __all__ = [
     "Parameters",
     "PointClaims",
     "ProcessorTooOld",
+    "Prover",
     "Refused",
     "Transcript",
     "challenge",

@@ -70,6 +70,15 @@ def number_of_values(values: Sequence[int]) -> int:
     return values.size if hasattr(values, "astype") else len(values)
 
 
+def compare_sizes(matrices: Sequence[Matrix], place: str) -> None:
+    """That each matrix under a commitment has as many values as its size says: the form takes their number from there."""
+    for matrix, it in enumerate(matrices):
+        if number_of_values(it.values) != it.width << min(it.domain.log_size, 64):
+            raise Malformed(
+                f"Values: {place}.matrices[{matrix}].values: expected as many values as the domain has points, times the width"
+            )
+
+
 class Writer:
     """Bytes that grow at their end."""
 
@@ -108,23 +117,34 @@ class Writer:
             self.numbers([preprocessed], "preprocessed")
 
     def matrix(self, matrix: Matrix, place: str) -> None:
-        domain = matrix.domain
-        log_size = min(domain.log_size, 64)
-        if number_of_values(matrix.values) != matrix.width << log_size:
-            raise Malformed(f"Values: {place}.values: expected as many values as the domain has points, times the width")
-        self.elements([domain.shift], place)
-        self.numbers([domain.log_size, matrix.width, len(matrix.points)], place)
+        """A matrix, whose values may be left out where they are kept."""
+        self.elements([matrix.domain.shift], place)
+        self.numbers([matrix.domain.log_size, matrix.width, len(matrix.points)], place)
         self.elements(matrix.values, place)
         self.extension_elements(matrix.points, place)
 
-    def request(self, parameters: Parameters, context: bytes, commitments: Sequence[Sequence[Matrix]]) -> None:
-        self.context(context)
-        self.parameters(parameters)
+    def batch(self, matrices: Sequence[Matrix], place: str) -> None:
+        """The matrices under one commitment."""
+        self.numbers([len(matrices)], f"{place}.matrices")
+        for matrix, it in enumerate(matrices):
+            self.matrix(it, f"{place}.matrices[{matrix}]")
+
+    def batches(self, commitments: Sequence[Sequence[Matrix]]) -> None:
         self.numbers([len(commitments)], "commitments")
         for commitment, matrices in enumerate(commitments):
-            self.numbers([len(matrices)], f"commitments[{commitment}].matrices")
-            for matrix, it in enumerate(matrices):
-                self.matrix(it, f"commitments[{commitment}].matrices[{matrix}]")
+            self.batch(matrices, f"commitments[{commitment}]")
+
+    def request(self, parameters: Parameters, context: bytes, commitments: Sequence[Sequence[Matrix]]) -> None:
+        for commitment, matrices in enumerate(commitments):
+            compare_sizes(matrices, f"commitments[{commitment}]")
+        self.context(context)
+        self.parameters(parameters)
+        self.batches(commitments)
+
+    def asked(self, context: bytes, commitments: Sequence[Sequence[Matrix]]) -> None:
+        """Under which context and at which points what is kept is opened: its values aren't there."""
+        self.context(context)
+        self.batches(commitments)
 
     def matrix_claims(self, claims: MatrixClaims, place: str) -> None:
         self.elements([claims.domain.shift], place)

@@ -32,6 +32,14 @@ TEXT_CALLS = {
     "stark_verify_hiding": 3,
 }
 
+
+
+class Handle(ctypes.Structure):
+    """What the library knows a prover by. Its fields are the library's; all zeros it has none."""
+
+    _fields_ = [("at", ctypes.c_void_p), ("is_open", ctypes.c_uint8)]
+
+
 ANSWERED, REFUSED, MALFORMED, OUT_OF_MEMORY, BUFFER_TOO_SHORT = range(5)
 
 
@@ -64,10 +72,15 @@ def library() -> ctypes.CDLL:
     size = ctypes.c_size_t
     arguments = {call: [ctypes.c_uint32] + [ctypes.c_char_p, size] for call in FIELD_CALLS}
     arguments.update({call: [ctypes.c_char_p, size] * texts for call, texts in TEXT_CALLS.items()})
+    handle = ctypes.POINTER(Handle)
+    arguments["prover_begin"] = [ctypes.c_uint32, ctypes.c_char_p, size, handle]
+    arguments.update({call: [handle, ctypes.c_char_p, size] for call in ("prover_commit", "prover_open")})
     for call, types in arguments.items():
         function = getattr(loaded, f"p3_fri_{call}")
         function.argtypes = [*types, ctypes.c_char_p, size, ctypes.POINTER(size)]
         function.restype = ctypes.c_uint8
+    loaded.p3_fri_prover_close.argtypes = [handle]
+    loaded.p3_fri_prover_close.restype = None
     return loaded
 
 
@@ -79,6 +92,21 @@ def answer_over(field: Field, call: str, request: bytes, room: int = ROOM_FOR_TE
 def answer(call: str, *texts: bytes, room: int = ROOM_FOR_TEXT) -> bytes:
     """What a function answers to texts."""
     return _answered(call, [part for text in texts for part in (text, len(text))], room)
+
+
+def begin(field: Field, parameters: bytes, handle: Handle) -> None:
+    """Gives a handle a prover over a field."""
+    _answered("prover_begin", [field.number, parameters, len(parameters), ctypes.byref(handle)], ROOM_FOR_TEXT)
+
+
+def answer_of(handle: Handle, call: str, request: bytes, room: int = ROOM_FOR_TEXT) -> bytes:
+    """What a handle's prover answers to a request."""
+    return _answered(call, [ctypes.byref(handle), request, len(request)], room)
+
+
+def close(handle: Handle) -> None:
+    """Frees a handle's prover, if it has one."""
+    library().p3_fri_prover_close(ctypes.byref(handle))
 
 
 def _answered(call: str, passed: List[object], room: int) -> bytes:

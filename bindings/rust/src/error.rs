@@ -164,7 +164,7 @@ names! {
 names! {
     /// What isn't well formed.
     pub enum Fault {
-        /// `log_blowup` isn't from 1 to 27.
+        /// `log_blowup` isn't from 1 to the field's two-adicity.
         LogBlowup,
         /// `log_blowup` and `log_final_poly_len` aren't below 64 together.
         LogFinalPolyLen,
@@ -176,7 +176,7 @@ names! {
         ProofOfWorkBits,
         /// There is no matrix.
         Matrices,
-        /// A `log_size` is past 27, with `log_blowup` where it is committed to.
+        /// A `log_size` is past the two-adicity, with `log_blowup` where it is committed to.
         LogSize,
         /// A shift is 0, or no element.
         Shift,
@@ -194,6 +194,8 @@ names! {
         BytesLeft,
         /// A list, the context or an index is too long or great for a number of 32 bits.
         NoForm,
+        /// Of a [`Prover`](crate::Prover): other matrices were committed to.
+        Kept,
         /// Of [`hiding`](crate::hiding): no commitment has the index of the preprocessed one.
         NoCommitment,
         /// A text isn't JSON, or not of its record: of the bytes of a STARK's proof.

@@ -12,6 +12,7 @@ use crate::Error;
 use std::fmt::Debug;
 use std::hash::Hash;
 
+pub use crate::prover::Prover;
 pub use crate::types::over::{
     CommitmentClaims, Domain, Matrix, MatrixClaims, Opening, PointClaims,
 };
@@ -44,7 +45,8 @@ pub(crate) mod number {
     {
         const ONE: Self;
 
-        fn write(self, bytes: &mut Vec<u8>);
+        /// Writes the number over as many bytes as it has.
+        fn write(self, bytes: &mut [u8]);
 
         /// The number in the first of the bytes that are left.
         fn read(left: &mut &[u8]) -> Option<Self>;
@@ -53,8 +55,8 @@ pub(crate) mod number {
     impl Number for u32 {
         const ONE: u32 = 1;
 
-        fn write(self, bytes: &mut Vec<u8>) {
-            bytes.extend_from_slice(&self.to_le_bytes());
+        fn write(self, bytes: &mut [u8]) {
+            bytes.copy_from_slice(&self.to_le_bytes());
         }
 
         fn read(left: &mut &[u8]) -> Option<u32> {
@@ -65,8 +67,8 @@ pub(crate) mod number {
     impl Number for u64 {
         const ONE: u64 = 1;
 
-        fn write(self, bytes: &mut Vec<u8>) {
-            bytes.extend_from_slice(&self.to_le_bytes());
+        fn write(self, bytes: &mut [u8]) {
+            bytes.copy_from_slice(&self.to_le_bytes());
         }
 
         fn read(left: &mut &[u8]) -> Option<u64> {

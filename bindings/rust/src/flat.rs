@@ -7,6 +7,7 @@ use crate::field::Field;
 use crate::hiding::Masking;
 use crate::types::over::{CommitmentClaims, Domain, Matrix, MatrixClaims, Opening, PointClaims};
 use crate::types::{Digest, Parameters, Proof};
+use std::mem::size_of;
 
 /// Bytes that grow at their end.
 #[derive(Default)]
@@ -37,9 +38,12 @@ impl Writer {
         }
     }
 
-    fn elements<F: Field>(&mut self, elements: &[F::Element]) {
-        for element in elements {
-            element.write(&mut self.bytes);
+    /// Elements one after another.
+    pub fn elements<F: Field>(&mut self, elements: &[F::Element]) {
+        let (start, size) = (self.bytes.len(), size_of::<F::Element>());
+        self.bytes.resize(start + size * elements.len(), 0);
+        for (bytes, element) in self.bytes[start..].chunks_exact_mut(size).zip(elements) {
+            element.write(bytes);
         }
     }
 
@@ -60,7 +64,8 @@ impl Writer {
         Ok(())
     }
 
-    fn parameters(&mut self, parameters: &Parameters) {
+    /// Parameters.
+    pub fn parameters(&mut self, parameters: &Parameters) {
         self.numbers(&[
             parameters.log_blowup,
             parameters.log_final_poly_len,
@@ -73,7 +78,7 @@ impl Writer {
     }
 
     fn domain<F: Field>(&mut self, domain: Domain<F>) {
-        domain.shift.write(&mut self.bytes);
+        self.elements::<F>(&[domain.shift]);
         self.number(domain.log_size);
     }
 
@@ -113,6 +118,34 @@ impl Writer {
         self.index(preprocessed)
     }
 
+    /// The matrices under one commitment.
+    pub fn batch<F: Field>(&mut self, matrices: &[Matrix<F>]) -> Result<(), Error> {
+        self.count(matrices.len())?;
+        for matrix in matrices {
+            self.matrix(matrix)?;
+        }
+        Ok(())
+    }
+
+    /// Under which context and at which points what is kept is opened: a request without parameters
+    /// and without values, of which the matrices must have none.
+    pub fn asked<F: Field>(
+        &mut self,
+        context: &[u8],
+        commitments: &[Vec<Matrix<F>>],
+    ) -> Result<(), Error> {
+        self.context(context)?;
+        self.batches(commitments)
+    }
+
+    fn batches<F: Field>(&mut self, commitments: &[Vec<Matrix<F>>]) -> Result<(), Error> {
+        self.count(commitments.len())?;
+        for matrices in commitments {
+            self.batch(matrices)?;
+        }
+        Ok(())
+    }
+
     /// A request.
     pub fn request<F: Field>(
         &mut self,
@@ -122,14 +155,7 @@ impl Writer {
     ) -> Result<(), Error> {
         self.context(context)?;
         self.parameters(parameters);
-        self.count(commitments.len())?;
-        for matrices in commitments {
-            self.count(matrices.len())?;
-            for matrix in matrices {
-                self.matrix(matrix)?;
-            }
-        }
-        Ok(())
+        self.batches(commitments)
     }
 
     fn matrix_claims<F: Field>(&mut self, claims: &MatrixClaims<F>) -> Result<(), Error> {

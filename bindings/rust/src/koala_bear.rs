@@ -48,6 +48,9 @@ pub type CommitmentClaims = field::CommitmentClaims<KoalaBear>;
 /// What comes of opening matrices.
 pub type Opening = field::Opening<KoalaBear>;
 
+/// A prover that keeps what it committed to.
+pub type Prover = field::Prover<KoalaBear>;
+
 /// The element of the extension that is drawn after a context, of any bytes.
 ///
 /// # Errors

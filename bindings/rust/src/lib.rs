@@ -92,6 +92,7 @@ pub mod koala_bear;
 mod processor;
 #[cfg(feature = "serde")]
 mod proof_serde;
+mod prover;
 mod raw;
 mod room;
 mod scheme;
@@ -104,5 +105,5 @@ pub use crate::scheme::{challenge, commit, open, verify};
 pub use crate::transcript::Transcript;
 pub use crate::types::{
     CommitmentClaims, Digest, Domain, Element, ExtensionElement, Matrix, MatrixClaims, Opening,
-    Parameters, PointClaims, Proof, ORDER,
+    Parameters, PointClaims, Proof, Prover, ORDER,
 };

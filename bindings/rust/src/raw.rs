@@ -123,15 +123,15 @@ impl Call {
 /// Calls a function of the library, which writes an answer and how much room that needs, with so
 /// much room, or where that is too short, once more with as much as it says.
 pub(crate) fn answer(
-    call: impl Fn(&mut [u8], &mut usize) -> u8,
+    mut call: impl FnMut(&mut [u8], &mut usize) -> u8,
     room: usize,
 ) -> Result<Vec<u8>, Error> {
     if !runs_library() {
         return Err(Error::ProcessorTooOld);
     }
-    let (mut status, mut answer, needed) = answer_once(&call, room)?;
+    let (mut status, mut answer, needed) = answer_once(&mut call, room)?;
     if status == BUFFER_TOO_SHORT {
-        (status, answer, _) = answer_once(&call, needed)?;
+        (status, answer, _) = answer_once(&mut call, needed)?;
     }
     match status {
         ANSWERED => Ok(answer),
@@ -143,7 +143,7 @@ pub(crate) fn answer(
 
 /// Calls a function once: the status, what it wrote, and how much that needs.
 fn answer_once(
-    call: impl Fn(&mut [u8], &mut usize) -> u8,
+    mut call: impl FnMut(&mut [u8], &mut usize) -> u8,
     room: usize,
 ) -> Result<(u8, Vec<u8>, usize), Error> {
     let mut answer = Vec::new();

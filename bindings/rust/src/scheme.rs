@@ -8,22 +8,32 @@ use crate::room::{room_for_answer, ROOM_FOR_TEXT};
 use crate::types::over::{CommitmentClaims, Matrix, Opening};
 use crate::types::{Digest, ExtensionElement, Parameters, Proof};
 
-/// That each matrix has as many values as its size says: the form takes their number from there.
+/// That each matrix under the commitment at this place has as many values as its size says: the
+/// form takes their number from there.
+pub(crate) fn compare_batch<F: Field>(
+    commitment: usize,
+    matrices: &[Matrix<F>],
+) -> Result<(), Error> {
+    for (matrix, it) in matrices.iter().enumerate() {
+        let count = 1u64.checked_shl(it.domain.log_size).map(u128::from);
+        let count = count.map(|size| size * u128::from(it.width));
+        if count != Some(it.values.len() as u128) {
+            return Err(Error::Malformed {
+                fault: Fault::Values,
+                text: format!(
+                    "Values: commitments[{commitment}].matrices[{matrix}].values: expected as many \
+                     values as the domain has points, times the width"
+                ),
+            });
+        }
+    }
+    Ok(())
+}
+
+/// And each under any commitment.
 pub(crate) fn compare_sizes<F: Field>(commitments: &[Vec<Matrix<F>>]) -> Result<(), Error> {
     for (commitment, matrices) in commitments.iter().enumerate() {
-        for (matrix, it) in matrices.iter().enumerate() {
-            let count = 1u64.checked_shl(it.domain.log_size).map(u128::from);
-            let count = count.map(|size| size * u128::from(it.width));
-            if count != Some(it.values.len() as u128) {
-                return Err(Error::Malformed {
-                    fault: Fault::Values,
-                    text: format!(
-                        "Values: commitments[{commitment}].matrices[{matrix}].values: expected as many \
-                         values as the domain has points, times the width"
-                    ),
-                });
-            }
-        }
+        compare_batch(commitment, matrices)?;
     }
     Ok(())
 }
@@ -92,7 +102,8 @@ pub fn commit<F: Field>(
 /// The context is what the application absorbed before, as the bytes of a
 /// [`Transcript`](crate::Transcript); it may be empty. Points have to be drawn after each
 /// commitment was absorbed. An opening takes no commitment that was made before: it commits anew,
-/// to the same digests where parameters and matrices are the same.
+/// to the same digests where parameters and matrices are the same. A [`Prover`](crate::Prover)
+/// commits once.
 ///
 /// # Errors
 ///

@@ -1,8 +1,8 @@
 //! A transcript of an application: what it absorbs and draws before an opening.
 
 use crate::error::Error;
-use crate::field::number::Number;
 use crate::field::{challenge, BabyBear, Field};
+use crate::flat::Writer;
 use crate::types::ExtensionElement;
 
 /// The part is the label, with which every transcript begins.
@@ -164,11 +164,9 @@ impl Transcript {
     }
 
     fn push_drawn<F: Field>(&mut self, drawn: &F::ExtensionElement) {
-        let mut bytes = Vec::new();
-        for number in drawn.as_ref() {
-            number.write(&mut bytes);
-        }
-        self.push(DRAWN, &bytes);
+        let mut writer = Writer::default();
+        writer.elements::<F>(drawn.as_ref());
+        self.push(DRAWN, &writer.bytes);
     }
 }
 

@@ -149,6 +149,9 @@ pub type CommitmentClaims = over::CommitmentClaims<BabyBear>;
 /// What comes of opening matrices over BabyBear.
 pub type Opening = over::Opening<BabyBear>;
 
+/// A prover over BabyBear that keeps what it committed to.
+pub type Prover = crate::prover::Prover<BabyBear>;
+
 /// What is passed and answered over a field.
 pub(crate) mod over {
     use super::{Digest, Proof};

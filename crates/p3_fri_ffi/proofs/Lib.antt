@@ -1,1 +1,3 @@
+pub mod AsBox
 pub mod Outcomes
+pub mod Provers

@@ -1,2 +1,4 @@
 pub mod Fields
+pub mod Held
+pub mod Provers
 pub mod Reply

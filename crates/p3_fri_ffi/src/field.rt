@@ -29,8 +29,16 @@ pub(crate) trait Call<F: SchemeField> {
 pub(crate) enum Refusal {
     /// No field has this number.
     UnknownField { number: u32 },
+    /// The handle was not begun, or is closed.
+    NoProver,
     /// The call over the field has none.
     Call(Failure),
+}
+
+impl From<Failure> for Refusal {
+    fn from(failure: Failure) -> Refusal {
+        Refusal::Call(failure)
+    }
 }
 
 impl fmt::Display for Refusal {
@@ -42,6 +50,7 @@ impl fmt::Display for Refusal {
                     "UnknownField {{ number: {number} }}: no field has this number"
                 )
             },
+            Refusal::NoProver => f.write_str("NoProver: the handle has no prover"),
             Refusal::Call(failure) => write!(f, "{failure}"),
         }
     }

@@ -1,11 +1,14 @@
 //! Both schemes, and a STARK in both, for callers that aren't Rattle: functions over bytes. Nothing
-//! is required of what the bytes are, no call halts, and none keeps a pointer.
+//! is required of what the bytes are, no call halts, and none keeps a pointer of the caller's.
 //!
 //! Four functions of the plain scheme and three of the one that hides take the flat form, over the
 //! field of a number: 0 BabyBear, 1 KoalaBear, 2 Goldilocks. A proof is bound to the whole
 //! statement: its context, parameters, commitments, domains, widths and points, and by what it
 //! hides. A point that has to be random is drawn after the commitments, by `p3_fri_challenge` from
 //! the bytes of what was sent, which are then the context.
+//!
+//! Four functions more are of a prover of the plain scheme that keeps what it committed to, so that
+//! an opening commits to nothing again. It is behind a handle of the caller's.
 //!
 //! Five functions of a STARK take texts in JSON. A proof is accepted of the system and the public
 //! values that the verifier passes.
@@ -17,9 +20,14 @@ ghost use Rattle.fri_flat.specs.Answers.{drawn_after};
 ghost use Rattle.p3_fri_ffi.specs.Fields.{OverField};
 ghost use Rattle.p3_fri_ffi.specs.Reply.{IsReply};
 
+mod any_prover;
 mod calls;
 mod field;
+mod held;
 mod hiding;
+mod kept;
+mod parts;
+mod prover;
 mod reply;
 mod stark;
 

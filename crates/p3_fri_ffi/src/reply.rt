@@ -27,8 +27,15 @@ impl Reason for Refusal {
     fn status(&self) -> u8 {
         match self {
             Refusal::UnknownField { number: _ } => MALFORMED,
+            Refusal::NoProver => MALFORMED,
             Refusal::Call(failure) => failure.status(),
         }
+    }
+}
+
+impl Reason for fri_flat::Failure {
+    fn status(&self) -> u8 {
+        fri_flat::Failure::status(self)
     }
 }
 
@@ -57,7 +64,7 @@ fn fill(bytes: &[u8], status: u8, buffer: &mut [u8], needed: &mut usize) -> u8
 }
 
 /// Writes bytes to the front of a buffer that has room for them, with a status below 4.
-fn place(bytes: &[u8], status: u8, buffer: &mut [u8], needed: &mut usize) -> u8
+pub(crate) fn place(bytes: &[u8], status: u8, buffer: &mut [u8], needed: &mut usize) -> u8
     requires { status < 4 }
     ensures reply { IsReply buffer.old buffer.new needed.new result }
     ensures status { result ≢ 4 → result ≡ status }
@@ -68,7 +75,12 @@ fn place(bytes: &[u8], status: u8, buffer: &mut [u8], needed: &mut usize) -> u8
 }
 
 /// Writes why there is no answer, and gives the status.
-fn refuse<R: Reason>(alloc: Global, reason: R, buffer: &mut [u8], needed: &mut usize) -> u8
+pub(crate) fn refuse<R: Reason>(
+    alloc: Global,
+    reason: R,
+    buffer: &mut [u8],
+    needed: &mut usize,
+) -> u8
     ensures reply { IsReply buffer.old buffer.new needed.new result }
     ensures status { result ≢ 0 }
 {

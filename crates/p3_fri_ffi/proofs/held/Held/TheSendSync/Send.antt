@@ -1,0 +1,37 @@
+-- A handle may go to another thread where its prover may: whoever has the block may free it.
+use Rattle.std.proofs.Common.{Option, None, Some}
+use mir.Raw.{raw}
+use base.Fraction.{full_share}
+use base.Shift.{Keyless}
+use denote.Exit.{Exit, unchanged, leaves, hidden, under}
+use denote.Memory.{lone}
+use denote.RattleType.{RattleType}
+use denote.RawPtr.{Ptr, block_ptr, null_ptr, lies_at}
+use denote.Struct.Struct.{exits_of}
+use denote.Struct.Owning.{shape, fields, to}
+use denote.Param.Send.{IsSend, AllSend, Quiet, part_keyless, owning_send, struct_send, sendable}
+use Rattle.std.proofs.Crossing as heap
+use Rattle.std.proofs.alloc.Global.TheSendSync as handle
+use Rattle.std.specs.Global.{Global}
+use Rattle.p3_fri_ffi.specs.contracts.any_prover.AnyProver as Any
+use Rattle.p3_fri_ffi.proofs.any_prover.AnyProver.TheSendSync.{the_send as any}
+use Rattle.p3_fri_ffi.specs.Held.{held_owns}
+use Rattle.p3_fri_ffi.specs.contracts.held.Held.{the_row, the_type}
+
+quiet : {D X : Type 0} (to : D → X) (e : Exit X) → Quiet e → Quiet (hidden (under to e))
+quiet to unchanged q = λ x w. tt
+quiet to (leaves L l S s r₀) q = λ d. q (to d)
+
+lies : (R : RattleType) → IsSend R → (p : Ptr) (x : R.Denot) → Keyless (lies_at R full_share p x)
+lies R s (block_ptr b o) x = part_keyless R s full_share x b o
+lies R s null_ptr x = tt
+
+keyless : (alloc : Global) (p : Ptr) (s : Option Any.the_row.Denot) → Keyless (held_owns alloc p s)
+keyless alloc p None = tt
+keyless alloc p (Some x) = (lies Any.the_row any p x, heap.frees.frees alloc (raw (lone Any.the_row.mir)) p)
+
+pub send : IsSend the_row
+send =
+    let all : AllSend (fields the_type) = (search sendable, (handle.the_field_send, tt)) in
+    owning_send the_type all (λ d. keyless d.alloc d.at d.prover)
+    (λ k. quiet (to the_type) (exits_of k (fields the_type)) ((struct_send (shape the_type) all).leaving k))
