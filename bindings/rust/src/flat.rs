@@ -40,10 +40,15 @@ impl Writer {
 
     /// Elements one after another.
     pub fn elements<F: Field>(&mut self, elements: &[F::Element]) {
-        let (start, size) = (self.bytes.len(), size_of::<F::Element>());
-        self.bytes.resize(start + size * elements.len(), 0);
-        for (bytes, element) in self.bytes[start..].chunks_exact_mut(size).zip(elements) {
-            element.write(bytes);
+        let size = size_of::<F::Element>();
+        self.bytes.reserve(size * elements.len());
+        // block by block, so that no memory of a large matrix is written twice
+        let mut block = [0; 256];
+        for some in elements.chunks(block.len() / size) {
+            for (bytes, element) in block.chunks_exact_mut(size).zip(some) {
+                element.write(bytes);
+            }
+            self.bytes.extend_from_slice(&block[..size * some.len()]);
         }
     }
 
