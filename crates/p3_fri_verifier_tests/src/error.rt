@@ -28,8 +28,8 @@ fn refused(failure: &Failure) -> Result<(), Refusal> {
     Ok(())
 }
 
-/// Failures, and how what they become prints: those of the test keep their numbers, and those around
-/// it are of its phase.
+/// Failures, and how what they become prints: those of the test keep their numbers, and those
+/// around it are of its phase.
 static FAILURES: [(Failure, &str); 11] = [
     (
         Failure::Test(TranscriptFailure::PowWitness(PowPhase::CommitPhase)),

@@ -1,6 +1,6 @@
 //! Proofs made by hand, at a blowup of 2, of four columns that hold `X`. What is claimed of each at
-//! the point 2 is 2, so each quotient is 1 everywhere, and the words of all rounds are one constant.
-//! Or they hold the number 9: then each quotient is zero.
+//! the point 2 is 2, so each quotient is 1 everywhere, and the words of all rounds are one
+//! constant. Or they hold the number 9: then each quotient is zero.
 
 ghost use Rattle.std.specs.Prelude.{◌≡◌, ◌≤◌, ◌<◌};
 
@@ -69,8 +69,8 @@ pub(crate) fn parameters_of(setting: &Setting) -> Parameters
     parameters
 }
 
-/// The matrix of this log height that has in each row `width` times the point that it stands for, or
-/// the number 9.
+/// The matrix of this log height that has in each row `width` times the point that it stands for,
+/// or the number 9.
 fn columns(
     rt: &impl Abort,
     alloc: Global,
