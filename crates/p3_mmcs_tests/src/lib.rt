@@ -2,10 +2,6 @@
 #![tactic(auto)]
 
 #[cfg(test)]
-mod cases;
-#[cfg(test)]
-mod many_openings;
-#[cfg(test)]
 mod openings;
 #[cfg(test)]
 mod refusals;

@@ -1,177 +1,258 @@
-//! The rows and the proof of an opening, and altered ones.
+//! Openings of trees at many indices, which are verified eight at a time and one by one, against
+//! the tree's root, and altered ones.
 
-use crate::cases::first_wrong;
-use crate::sha256_mmcs::{
-    TWO_DIMENSIONS, Verdict, commitment_to, element, opening_at, two_matrices, verdict_on,
-};
-use p3_field::BabyBear;
+use crate::sha256_mmcs::{Verdict, element, opened, verdict_on};
+use crate::trees::{TREES, Tree, matrices_of};
+use p3_field::{BabyBear, PrimeField64};
 use p3_mmcs::laws::{opens_law, path_law, shape_law};
 use p3_mmcs::{Sha256Mmcs, Sha256MmcsError};
 use std::alloc::Global;
 use std::process::Abort;
 
-/// Rows of the two matrices at the indices 3, 0 and 3, by set and matrix.
-static ROWS: [(usize, usize, &[u64]); 3] = [
-    (0, 0, &[7, 8]),
-    (0, 1, &[2_013_265_920]),
-    (1, 1, &[9]),
-];
+/// What is wrong in the opening at an index.
+#[derive(Clone, Copy)]
+pub(crate) enum Alteration {
+    /// There is a set of rows less than paths, the last.
+    Sets,
+    /// The set lacks its last row.
+    Rows,
+    /// The row of this matrix has one entry more.
+    Longer(usize),
+    /// The row of this matrix lacks its last entry.
+    Shorter(usize),
+    /// The first entry in the row of this matrix is another.
+    Entry(usize),
+    /// The path lacks its last digest.
+    Levels,
+    /// A digest of the path is another.
+    Digest,
+}
 
-/// What verification says to altered rows, of which each is altered once more.
-static ALTERED_ROWS: [(&str, Verdict); 4] = [
-    ("a longer row", Err(Sha256MmcsError::RowWidth)),
-    ("another entry", Err(Sha256MmcsError::RootMismatch)),
+/// Alters a set of rows.
+fn alter_rows(rt: &impl Abort, set: &mut Vec<Vec<BabyBear>>, alteration: Alteration) {
+    match alteration {
+        Alteration::Longer(matrix) => {
+            let row = set.get_mut(matrix).expect(rt, "no such row");
+            row.push(element(5)).expect(rt, "memory");
+        }
+        Alteration::Shorter(matrix) => {
+            let _entry = set.get_mut(matrix).expect(rt, "no such row").pop();
+        }
+        Alteration::Entry(matrix) => {
+            let row = set.get_mut(matrix).expect(rt, "no such row");
+            *row.get_mut(0).expect(rt, "no entry") = element(0);
+        }
+        _ => {
+            let _row = set.pop();
+        }
+    }
+}
+
+/// Alters the opening at this place among the indices.
+fn alter(
+    rt: &impl Abort,
+    place: usize,
+    alteration: Alteration,
+    rows: &mut Vec<Vec<Vec<BabyBear>>>,
+    paths: &mut Vec<Vec<[u8; 32]>>,
+) {
+    match alteration {
+        Alteration::Sets => {
+            let _set = rows.pop();
+        }
+        Alteration::Levels => {
+            let _digest = paths.get_mut(place).expect(rt, "no such path").pop();
+        }
+        Alteration::Digest => {
+            let path = paths.get_mut(place).expect(rt, "no such path");
+            *path.get_mut(place % 5).expect(rt, "no such level") = [0; 32];
+        }
+        _ => alter_rows(
+            rt,
+            rows.get_mut(place).expect(rt, "no such set"),
+            alteration,
+        ),
+    }
+}
+
+/// The numbers of all rows, set after set.
+fn numbers_of(rt: &impl Abort, alloc: Global, rows: &[Vec<Vec<BabyBear>>]) -> Vec<u64> {
+    let mut numbers = Vec::new(alloc);
+    for set in rows {
+        for row in set {
+            for entry in row {
+                numbers.push(entry.as_canonical_u64()).expect(rt, "memory");
+            }
+        }
+    }
+    numbers
+}
+
+/// The numbers of the rows that are opened at these indices, and what verification at others
+/// answers on the opening that is altered at these places.
+pub(crate) fn ask(
+    rt: &impl Abort,
+    alloc: Global,
+    tree: &Tree,
+    indices: &[usize],
+    verified_at: &[usize],
+    alterations: &[(usize, Alteration)],
+) -> (Vec<u64>, Verdict) {
+    let scheme = Sha256Mmcs::new();
+    let matrices = matrices_of(rt, alloc, tree);
+    let (known, dimensions, mut rows, mut paths) = opened(rt, alloc, &scheme, matrices, indices);
+    assert!(rt;
+        known == (tree.root, tree.max_height, tree.matrices.len()),
+        "{}",
+        tree.name
+    );
+    let numbers = numbers_of(rt, alloc, &rows);
+    for (place, alteration) in alterations {
+        alter(rt, *place, *alteration, &mut rows, &mut paths);
+    }
+    let root = &tree.root;
+    let verdict = verdict_on(rt, &scheme, root, &dimensions, verified_at, &rows, &paths);
+    (numbers, verdict)
+}
+
+/// The tree's opening at its indices that is altered at these places, verified at others.
+static OF_TWO: [(&str, &[(usize, Alteration)], &[usize], Verdict); 7] = [
+    ("as it is", &[], &[3, 0, 3], Ok(())),
     (
-        "the entry as it was, but a set of fewer rows",
+        "another index",
+        &[],
+        &[3, 1, 3],
+        Err(Sha256MmcsError::RootMismatch),
+    ),
+    (
+        "a shorter path",
+        &[(1, Alteration::Levels)],
+        &[3, 0, 3],
+        Err(Sha256MmcsError::PathLength),
+    ),
+    (
+        "a longer row",
+        &[(1, Alteration::Longer(1))],
+        &[3, 0, 3],
+        Err(Sha256MmcsError::RowWidth),
+    ),
+    (
+        "another entry",
+        &[(1, Alteration::Entry(1))],
+        &[3, 0, 3],
+        Err(Sha256MmcsError::RootMismatch),
+    ),
+    (
+        "a set of fewer rows",
+        &[(2, Alteration::Rows)],
+        &[3, 0, 3],
         Err(Sha256MmcsError::MatrixCount),
     ),
-    ("fewer sets", Err(Sha256MmcsError::QueryCount)),
+    (
+        "fewer sets",
+        &[(2, Alteration::Sets)],
+        &[3, 0, 3],
+        Err(Sha256MmcsError::QueryCount),
+    ),
 ];
 
-/// Whether the elements are those of these numbers.
-fn are_numbers(elements: &[BabyBear], numbers: &[u64]) -> bool {
-    if elements.len() != numbers.len() {
-        return false;
-    }
-    for i in 0..elements.len() {
-        if elements[i] != element(numbers[i]) {
-            return false;
-        }
-    }
-    true
-}
-
-/// The two matrices opened at the indices 3, 0 and 3.
-#[derive(Drop)]
-struct Opened {
-    root: [u8; 32],
-    rows: Vec<Vec<Vec<BabyBear>>>,
-    paths: Vec<Vec<[u8; 32]>>,
-}
-
-impl Opened {
-    fn new(rt: &impl Abort, alloc: Global) -> Self {
-        let scheme = Sha256Mmcs::new();
-        let (root, data) = commitment_to(rt, alloc, &scheme, two_matrices(rt, alloc));
-        let (rows, paths) = opening_at(rt, alloc, &scheme, &data, &[3, 0, 3]);
-        Opened { root, rows, paths }
-    }
-
-    /// What verification at these indices answers.
-    fn verdict_at(&self, rt: &impl Abort, indices: &[usize]) -> Verdict {
-        let scheme = Sha256Mmcs::new();
-        verdict_on(
-            rt,
-            &scheme,
-            &self.root,
-            &TWO_DIMENSIONS,
-            indices,
-            &self.rows,
-            &self.paths,
-        )
-    }
-
-    fn verdict(&self, rt: &impl Abort) -> Verdict {
-        self.verdict_at(rt, &[3, 0, 3])
-    }
-
-    /// The number of rows in this set, if it is there.
-    fn row_count(&self, set: usize) -> Option<usize> {
-        Some(self.rows.get(set)?.len())
-    }
-
-    /// Whether the row of this matrix in this set is there, and of these numbers.
-    fn has_row(&self, set: usize, matrix: usize, numbers: &[u64]) -> bool {
-        match self.rows.get(set) {
-            Some(rows) => rows
-                .get(matrix)
-                .is_some_and(|row| are_numbers(row, numbers)),
-            None => false,
-        }
-    }
-
-    /// Makes the row of the second matrix in the second set longer by this element.
-    fn lengthen_row(&mut self, rt: &impl Abort, element: BabyBear) {
-        if let Some(rows) = self.rows.get_mut(1) {
-            if let Some(row) = rows.get_mut(1) {
-                row.push(element).expect(rt, "memory");
-            }
-        }
-    }
-
-    /// Makes this element the only one of that row.
-    fn replace_row(&mut self, element: BabyBear) {
-        if let Some(rows) = self.rows.get_mut(1) {
-            if let Some(row) = rows.get_mut(1) {
-                row.truncate(1);
-                if let Some(entry) = row.get_mut(0) {
-                    *entry = element;
-                }
-            }
-        }
-    }
-
-    /// Takes the last row out of the third set.
-    fn remove_row(&mut self) {
-        if let Some(rows) = self.rows.get_mut(2) {
-            let _row = rows.pop();
-        }
-    }
-
-    /// Takes the last digest out of the second path.
-    fn take_digest(&mut self) -> Option<[u8; 32]> {
-        self.paths.get_mut(1)?.pop()
-    }
-
-    /// Makes this digest the last of that path.
-    fn put_digest(&mut self, rt: &impl Abort, digest: [u8; 32]) {
-        if let Some(path) = self.paths.get_mut(1) {
-            path.push(digest).expect(rt, "memory");
-        }
-    }
-}
-
 #[test]
-fn opens_rows_of_two_heights(rt: HostRuntime) {
-    let opened = Opened::new(&rt, rt.alloc());
-    let counts = (opened.rows.len(), opened.row_count(0), opened.row_count(1));
-    assert!(rt; counts == (3, Some(2), Some(2)));
-    for (set, matrix, numbers) in &ROWS {
-        assert!(rt;
-            opened.has_row(*set, *matrix, *numbers),
-            "row {matrix} of set {set}"
+fn openings_of_two_heights(rt: HostRuntime) {
+    for (name, alterations, verified_at, wanted) in &OF_TWO {
+        let (_, verdict) = ask(
+            &rt,
+            rt.alloc(),
+            &TREES[1],
+            &[3, 0, 3],
+            *verified_at,
+            *alterations,
         );
+        assert!(rt; verdict == *wanted, "{name}");
     }
-    assert!(rt; opened.verdict(&rt) == Ok(()));
-    assert!(rt; opened.verdict_at(&rt, &[3, 1, 3]) == Err(Sha256MmcsError::RootMismatch));
     path_law();
     opens_law::<BabyBear>();
     shape_law::<BabyBear>();
 }
 
-#[test]
-fn refuses_altered_paths(rt: HostRuntime) {
-    let mut opened = Opened::new(&rt, rt.alloc());
-    assert!(rt; opened.paths.len() == 3);
-    let digest = opened.take_digest().expect(&rt, "no digest");
-    assert!(rt; opened.verdict(&rt) == Err(Sha256MmcsError::PathLength));
-    opened.put_digest(&rt, digest);
-    assert!(rt; opened.verdict(&rt) == Ok(()));
+/// Nineteen indices of 32: twice eight, and three.
+static INDICES: [usize; 19] = [
+    31, 0, 5, 5, 16, 17, 30, 1, 2, 8, 24, 9, 12, 31, 7, 6, 3, 29, 10,
+];
+
+/// What verification answers on the last tree's opening at these indices that is altered at these
+/// places among them.
+fn of_many(rt: &impl Abort, alloc: Global, alterations: &[(usize, Alteration)]) -> Verdict {
+    let (_, verdict) = ask(rt, alloc, &TREES[8], &INDICES, &INDICES, alterations);
+    verdict
 }
 
+/// How one alteration is refused.
+static REFUSALS: [(&str, Alteration, Sha256MmcsError); 5] = [
+    ("fewer rows", Alteration::Rows, Sha256MmcsError::MatrixCount),
+    (
+        "a shorter row",
+        Alteration::Shorter(0),
+        Sha256MmcsError::RowWidth,
+    ),
+    (
+        "a shorter path",
+        Alteration::Levels,
+        Sha256MmcsError::PathLength,
+    ),
+    (
+        "another entry",
+        Alteration::Entry(0),
+        Sha256MmcsError::RootMismatch,
+    ),
+    (
+        "another digest",
+        Alteration::Digest,
+        Sha256MmcsError::RootMismatch,
+    ),
+];
+
+/// Two alterations, and which of them is named.
+static PAIRS: [(&str, &[(usize, Alteration)], Sha256MmcsError); 5] = [
+    (
+        "an entry before a path, both in the second eight",
+        &[(9, Alteration::Entry(0)), (11, Alteration::Levels)],
+        Sha256MmcsError::RootMismatch,
+    ),
+    (
+        "a path before an entry",
+        &[(13, Alteration::Entry(0)), (11, Alteration::Levels)],
+        Sha256MmcsError::PathLength,
+    ),
+    (
+        "a row before a set",
+        &[(7, Alteration::Rows), (0, Alteration::Shorter(0))],
+        Sha256MmcsError::RowWidth,
+    ),
+    (
+        "a digest before a row",
+        &[(17, Alteration::Shorter(0)), (2, Alteration::Digest)],
+        Sha256MmcsError::RootMismatch,
+    ),
+    (
+        "a digest and a set at one index",
+        &[(18, Alteration::Digest), (18, Alteration::Rows)],
+        Sha256MmcsError::MatrixCount,
+    ),
+];
+
 #[test]
-fn refuses_altered_rows(rt: HostRuntime) {
-    let mut opened = Opened::new(&rt, rt.alloc());
-    assert!(rt; (opened.rows.len(), opened.row_count(1)) == (3, Some(2)));
-    opened.lengthen_row(&rt, element(5));
-    let longer = opened.verdict(&rt);
-    opened.replace_row(element(10));
-    let another = opened.verdict(&rt);
-    opened.remove_row();
-    opened.replace_row(element(9));
-    let fewer_rows = opened.verdict(&rt);
-    let _set = opened.rows.pop();
-    let found = [longer, another, fewer_rows, opened.verdict(&rt)];
-    let wrong = first_wrong(&found, &ALTERED_ROWS);
-    assert!(rt; wrong.is_none(), "{wrong:?}");
+fn one_or_two_faults_of_many_openings(rt: HostRuntime) {
+    assert!(rt; of_many(&rt, rt.alloc(), &[]) == Ok(()));
+    for place in 0..INDICES.len() {
+        for (name, alteration, refusal) in &REFUSALS {
+            let verdict = of_many(&rt, rt.alloc(), &[(place, *alteration)]);
+            assert!(rt; verdict == Err(*refusal), "{name} at {place}");
+        }
+    }
+    for (name, alterations, refusal) in &PAIRS {
+        assert!(rt;
+            of_many(&rt, rt.alloc(), *alterations) == Err(*refusal),
+            "{name}"
+        );
+    }
 }

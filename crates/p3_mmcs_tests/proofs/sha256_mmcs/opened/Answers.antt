@@ -1,6 +1,6 @@
 use Rattle.std.proofs.Common.{subst, ap, ◌∙◌, rules}
 use Rattle.p3_mmcs.specs.Batch.{HavePowerHeights, dimensions_of}
-use Rattle.p3_mmcs_tests.proofs.sha256_mmcs.commitment_to.Goals as goal
+use Rattle.p3_mmcs_tests.proofs.sha256_mmcs.opened.Goals as goal
 
 pub commit-requires : goal.commit-requires
 commit-requires g c =
