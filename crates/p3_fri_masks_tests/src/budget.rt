@@ -37,7 +37,7 @@ const FEW_CODEWORDS: HidingFriProverError = HidingFriProverError::InsufficientRa
     got: 3,
 };
 
-const CASES: [Case; 13] = [
+static CASES: [Case; 13] = [
     ([4, 2, 4, 8, 1], Err(LOW)),
     ([4, 2, 4, 16, 1], Ok(())),
     ([4, 2, 4, 16, 2], Err(TWO_POINTS)),
@@ -68,12 +68,15 @@ fn the_budget_is_met_or_refused(rt: HostRuntime) {
     for (numbers, answer) in &CASES {
         let [codewords, queries, degree, height, points] = *numbers;
         let found = check_hiding_budget(codewords, queries, degree, height, points);
-        assert!(rt; found == *answer, "{numbers:?}");
+        assert!(rt;
+            found == *answer,
+            "{queries} queries, {points} points, {height} rows"
+        );
     }
 }
 
 /// Heights and log blowups of extensions, with the heights of their masks.
-const EXTENSIONS: [(usize, usize, usize); 7] = [
+static EXTENSIONS: [(usize, usize, usize); 7] = [
     (64, 2, 8),
     (64, 0, 32),
     (2, 0, 1),
@@ -86,15 +89,13 @@ const EXTENSIONS: [(usize, usize, usize); 7] = [
 #[test]
 fn masks_are_half_as_high_as_the_matrix(rt: HostRuntime) {
     for (height, log_blowup, masks) in &EXTENSIONS {
-        assert!(rt;
-            lde_mask_height(*height, *log_blowup) == *masks,
-            "{height}, {log_blowup}"
-        );
+        let found = lde_mask_height(*height, *log_blowup);
+        assert!(rt; found == *masks, "{height} rows, log blowup {log_blowup}");
     }
 }
 
 /// Refusals, and how they are printed.
-const TEXTS: [(HidingFriProverError, &str); 4] = [
+static TEXTS: [(HidingFriProverError, &str); 4] = [
     (
         HidingFriProverError::Fri(FriProverError::OutOfMemory),
         "out of memory",

@@ -3,7 +3,7 @@
 ghost use Rattle.std.specs.Prelude.{◌≡◌, IsTrue, map};
 ghost use Rattle.p3_fri_masks.specs.QuotientMasks.{AreDisjoint};
 
-use crate::matrices::{Entries, Example, have_entries, matrix};
+use crate::matrices::{Entries, have_entries, matrix};
 use p3_field::{BabyBear, Field, TwoAdicField, TwoAdicMultiplicativeCoset};
 use p3_fri_masks::are_disjoint;
 use p3_fri_masks::quotient_draws::chunks_with_random_cols;
@@ -65,41 +65,39 @@ pub(crate) fn are_apart<F: TwoAdicField>(
     are_disjoint(&domains)
 }
 
-/// Chunks of two rows beside the shifts of their cosets, and what each is with 2 random columns by
-/// the words of one generator whose seed is `[9; 32]`.
-const WIDER: Example = Example {
-    given: &[(3, (1, &[1, 2])), (5, (1, &[3, 4])), (7, (1, &[5, 6]))],
-    wanted: &[
-        (
+/// Chunks of two rows beside the shifts of their cosets.
+static GIVEN: [(u64, Entries); 3] = [(3, (1, &[1, 2])), (5, (1, &[3, 4])), (7, (1, &[5, 6]))];
+
+/// What each is with 2 random columns by the words of one generator whose seed is `[9; 32]`.
+static WIDER: [Entries; 3] = [
+    (
+        3,
+        &[1, 127_051_834, 747_866_774, 2, 1_316_534_259, 1_277_982_000],
+    ),
+    (
+        3,
+        &[
             3,
-            &[1, 127_051_834, 747_866_774, 2, 1_316_534_259, 1_277_982_000],
-        ),
-        (
-            3,
-            &[
-                3,
-                1_067_978_113,
-                1_128_847_239,
-                4,
-                1_391_540_510,
-                1_164_139_008,
-            ],
-        ),
-        (
-            3,
-            &[5, 1_593_306_639, 499_248_801, 6, 973_327_965, 944_022_664],
-        ),
-    ],
-};
+            1_067_978_113,
+            1_128_847_239,
+            4,
+            1_391_540_510,
+            1_164_139_008,
+        ],
+    ),
+    (
+        3,
+        &[5, 1_593_306_639, 499_248_801, 6, 973_327_965, 944_022_664],
+    ),
+];
 
 /// The word that the generator gives after these.
 const NEXT_WORD: u64 = 13_282_377_015_058_816_477;
 
 #[test]
 fn random_columns_are_the_next_words(rt: HostRuntime) {
-    let chunks = chunks(&rt, rt.alloc(), 1, WIDER.given);
+    let chunks = chunks(&rt, rt.alloc(), 1, &GIVEN);
     let mut rng = ChaCha20Rng::from_seed([9; 32]);
     let wider = chunks_with_random_cols(rt.alloc(), &chunks, 2, &mut rng).expect(&rt, "memory");
-    assert!(rt; have_entries(&wider, WIDER.wanted));
-    assert!(rt; rng.next_u64() == NEXT_WORD);
+    assert!(rt; have_entries(&wider, &WIDER) && rng.next_u64() == NEXT_WORD);
 }

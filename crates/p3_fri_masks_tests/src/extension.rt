@@ -20,7 +20,7 @@ struct Case {
     words: Entries,
 }
 
-const CASES: [Case; 3] = [
+static CASES: [Case; 3] = [
     Case {
         shift: 5,
         log_size: 1,
@@ -97,13 +97,9 @@ fn has_words(rt: &impl Abort, alloc: Global, case: &Case) -> bool {
     let domain = coset(rt, case.shift, case.log_size);
     let chunk = matrix(rt, alloc, case.chunk);
     let mask = elements(rt, alloc, case.mask);
-    if case.log_blowup > 8
-        || domain.log_size() > 8
-        || chunk.height() != domain.size()
-        || chunk.height().checked_mul(chunk.width()) != Some(mask.len())
-    {
-        panic!(rt; "not a chunk on its domain with its mask, or too large a coset");
-    }
+    assert!(rt; case.log_blowup <= 8 && domain.log_size() <= 8);
+    assert!(rt; chunk.height() == domain.size());
+    assert!(rt; chunk.height().checked_mul(chunk.width()) == Some(mask.len()));
     let dft = Radix2Dit::default();
     let words = masked_extension(&dft, alloc, case.log_blowup, domain, chunk, &mask);
     has_entries(&words.expect(rt, "memory"), case.words)

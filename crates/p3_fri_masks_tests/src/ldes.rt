@@ -52,7 +52,7 @@ struct Case {
     next_word: u64,
 }
 
-const CASES: [Case; 3] = [
+static CASES: [Case; 3] = [
     Case {
         log_size: 0,
         chunks: &[(31, (2, &[10, 20])), (2, (2, &[30, 40]))],

@@ -2,17 +2,19 @@
 //! the generator's standard.
 
 use crate::chunks::{Chunks, chunks};
-use crate::matrices::{Entries, Example, has_entries};
+use crate::matrices::{Entries, has_entries};
 use p3_field::{BabyBear, Field};
 use p3_fri_masks::{mask_each, pad_each};
 use rand_chacha::ChaCha20Rng;
 use rand_core::{Rng, SeedableRng};
 
-/// Matrices of two rows beside the shifts of their domains of four points, and what each is with 2
-/// random codewords, by the words of one generator whose seed is `[7; 32]`.
-const MASKED: Example = Example {
-    given: &[(1, (3, &[1, 2, 3, 4, 5, 6])), (31, (1, &[7, 8]))],
-    wanted: &[
+/// Matrices of two rows beside the shifts of their domains of four points.
+static GIVEN: [(u64, Entries); 2] = [(1, (3, &[1, 2, 3, 4, 5, 6])), (31, (1, &[7, 8]))];
+
+/// What each is with 2 random codewords, by the words of one generator whose seed is `[7; 32]`.
+static MASKED: [(u64, Entries); 2] = [
+    (
+        1,
         (
             5,
             &[
@@ -38,6 +40,9 @@ const MASKED: Example = Example {
                 1_276_576_820,
             ],
         ),
+    ),
+    (
+        31,
         (
             3,
             &[
@@ -55,57 +60,47 @@ const MASKED: Example = Example {
                 985_619_093,
             ],
         ),
-    ],
-};
+    ),
+];
 
 /// The word that the generator gives after these.
 const NEXT_WORD: u64 = 7_908_424_972_651_386_999;
 
 /// The same matrices, padded.
-const PADDED: [Entries; 2] = [
-    (3, &[1, 2, 3, 0, 0, 0, 4, 5, 6, 0, 0, 0]),
-    (1, &[7, 0, 8, 0]),
+static PADDED: [(u64, Entries); 2] = [
+    (1, (3, &[1, 2, 3, 0, 0, 0, 4, 5, 6, 0, 0, 0])),
+    (31, (1, &[7, 0, 8, 0])),
 ];
 
-/// Whether these matrices, in order, have these entries, each beside its own domain.
-fn have_entries(found: &Chunks, wanted: &[Entries]) -> bool {
-    if found.len() != MASKED.given.len() || wanted.len() != found.len() {
-        return false;
+/// Whether these matrices, in order, have these entries, each beside the domain of its shift.
+fn have_entries(found: &Chunks, wanted: &[(u64, Entries)]) -> bool {
+    let mut same = found.len() == wanted.len();
+    for ((domain, matrix), (shift, entries)) in found.iter().zip(wanted) {
+        same = same
+            && domain.shift() == BabyBear::from_u64(*shift)
+            && domain.log_size() == 2
+            && has_entries(matrix, *entries);
     }
-    for (index, (shift, _)) in MASKED.given.iter().enumerate() {
-        let (domain, matrix) = &found[index];
-        if domain.shift() != BabyBear::from_u64(*shift)
-            || domain.log_size() != 2
-            || !has_entries(matrix, wanted[index])
-        {
-            return false;
-        }
-    }
-    true
+    same
 }
 
 #[test]
 fn masks_are_the_next_words(rt: HostRuntime) {
+    let alloc = rt.alloc();
     let mut rng = ChaCha20Rng::from_seed([7; 32]);
-    let evaluations = chunks(&rt, rt.alloc(), 2, MASKED.given);
-    let masked = mask_each(rt.alloc(), evaluations, 2, &mut rng).expect(&rt, "memory");
-    assert!(rt; have_entries(&masked, MASKED.wanted));
-    assert!(rt; rng.next_u64() == NEXT_WORD);
-}
-
-/// No row holds so many random values.
-#[test]
-fn a_refused_width_takes_no_words(rt: HostRuntime) {
-    let mut rng = ChaCha20Rng::from_seed([7; 32]);
-    let mut unused = ChaCha20Rng::from_seed([7; 32]);
-    let evaluations = chunks(&rt, rt.alloc(), 2, MASKED.given);
-    let masked = mask_each(rt.alloc(), evaluations, usize::MAX, &mut rng);
-    assert!(rt; masked.is_err() && rng.next_u64() == unused.next_u64());
+    // no row holds so many random values, and no word is taken
+    let refused = mask_each(alloc, chunks(&rt, alloc, 2, &GIVEN), usize::MAX, &mut rng);
+    let masked = mask_each(alloc, chunks(&rt, alloc, 2, &GIVEN), 2, &mut rng).expect(&rt, "memory");
+    let found = (
+        refused.is_err(),
+        have_entries(&masked, &MASKED),
+        rng.next_u64(),
+    );
+    assert!(rt; found == (true, true, NEXT_WORD));
 }
 
 #[test]
 fn preprocessing_has_rows_of_zeros_between(rt: HostRuntime) {
-    let evaluations = chunks(&rt, rt.alloc(), 2, MASKED.given);
-    let padded = pad_each(rt.alloc(), evaluations).expect(&rt, "memory");
+    let padded = pad_each(rt.alloc(), chunks(&rt, rt.alloc(), 2, &GIVEN)).expect(&rt, "memory");
     assert!(rt; have_entries(&padded, &PADDED));
 }

@@ -8,13 +8,6 @@ use std::process::Abort;
 /// A matrix's width and values, row by row.
 pub(crate) type Entries = (usize, &'static [u64]);
 
-/// Matrices beside the shifts of their cosets, and what comes of them.
-#[derive(Clone, Copy)]
-pub(crate) struct Example {
-    pub given: &'static [(u64, Entries)],
-    pub wanted: &'static [Entries],
-}
-
 /// Elements that are these numbers.
 pub(crate) fn elements(rt: &impl Abort, alloc: Global, numbers: &[u64]) -> Vec<BabyBear> {
     let mut elements = Vec::new(alloc);
@@ -30,31 +23,26 @@ pub(crate) fn elements(rt: &impl Abort, alloc: Global, numbers: &[u64]) -> Vec<B
 pub(crate) fn matrix(rt: &impl Abort, alloc: Global, entries: Entries) -> RowMajorMatrix<BabyBear> {
     let (width, numbers) = entries;
     let values = elements(rt, alloc, numbers);
-    assert!(rt;
-        width != 0 && values.len() % width == 0,
-        "the values aren't whole rows"
-    );
+    assert!(rt; width != 0 && values.len() % width == 0);
     RowMajorMatrix::new(values, width)
 }
 
 /// Whether the elements are these numbers.
 pub(crate) fn are_numbers(elements: &[BabyBear], numbers: &[u64]) -> bool {
+    let mut same = elements.len() == numbers.len();
     for (element, number) in elements.iter().zip(numbers) {
-        if *element != BabyBear::from_u64(*number) {
-            return false;
-        }
+        same = same && *element == BabyBear::from_u64(*number);
     }
-    elements.len() == numbers.len()
+    same
 }
 
 /// Whether each of these lists has its numbers.
 pub(crate) fn are_lists(lists: &[Vec<BabyBear>], each: &[&[u64]]) -> bool {
+    let mut same = lists.len() == each.len();
     for (list, numbers) in lists.iter().zip(each) {
-        if !are_numbers(list, *numbers) {
-            return false;
-        }
+        same = same && are_numbers(list, *numbers);
     }
-    lists.len() == each.len()
+    same
 }
 
 /// Whether the matrix has this width and these values.
@@ -65,10 +53,9 @@ pub(crate) fn has_entries(matrix: &RowMajorMatrix<BabyBear>, entries: Entries) -
 
 /// Whether these matrices, in order, have these entries.
 pub(crate) fn have_entries(matrices: &[RowMajorMatrix<BabyBear>], each: &[Entries]) -> bool {
+    let mut same = matrices.len() == each.len();
     for (matrix, entries) in matrices.iter().zip(each) {
-        if !has_entries(matrix, *entries) {
-            return false;
-        }
+        same = same && has_entries(matrix, *entries);
     }
-    matrices.len() == each.len()
+    same
 }

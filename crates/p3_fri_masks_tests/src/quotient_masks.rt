@@ -1,7 +1,7 @@
 //! The factors of masks, and the masks of a quotient's chunks, against another program's.
 
-use crate::chunks::{Chunks, are_apart, coset};
-use crate::matrices::{are_lists, are_numbers, matrix};
+use crate::chunks::{are_apart, chunks};
+use crate::matrices::{Entries, are_lists, are_numbers};
 use p3_fri_masks::factors::mask_factors;
 use p3_fri_masks::quotient_masks;
 use rand_chacha::ChaCha20Rng;
@@ -9,64 +9,64 @@ use rand_core::{Rng, SeedableRng};
 use std::alloc::Global;
 use std::process::Abort;
 
-/// The base-2 logarithm of the size of disjoint cosets, their shifts, and for each but the last its
-/// factor.
+/// A chunk of which only the coset counts.
+const ZERO: Entries = (1, &[0]);
+
+/// The base-2 logarithm of the size of disjoint cosets, chunks beside their shifts, and for each
+/// but the last its factor.
 #[derive(Clone, Copy)]
 struct Factors {
+    name: &'static str,
     log_size: usize,
-    shifts: &'static [u64],
+    chunks: &'static [(u64, Entries)],
     factors: &'static [u64],
 }
 
-const FACTORS: [Factors; 5] = [
+static FACTORS: [Factors; 5] = [
     Factors {
+        name: "one coset",
         log_size: 3,
-        shifts: &[31],
+        chunks: &[(31, ZERO)],
         factors: &[],
     },
-    // the two halves of a coset of 32 points
+    // of 32 points
     Factors {
+        name: "two halves of a coset",
         log_size: 4,
-        shifts: &[31, 1_414_256_219],
+        chunks: &[(31, ZERO), (1_414_256_219, ZERO)],
         factors: &[1],
     },
     // at 1, 2, 3 and 4 the products over the others are -1/4, 1/6, -1/4 and 1
     Factors {
+        name: "four points",
         log_size: 0,
-        shifts: &[1, 2, 3, 4],
+        chunks: &[(1, ZERO), (2, ZERO), (3, ZERO), (4, ZERO)],
         factors: &[2_013_265_917, 6, 2_013_265_917],
     },
     Factors {
+        name: "three cosets",
         log_size: 1,
-        shifts: &[3, 5, 7],
+        chunks: &[(3, ZERO), (5, ZERO), (7, ZERO)],
         factors: &[1_677_721_609, 1_811_939_324],
     },
-    // the four quarters of a coset of 8 points
+    // of 8 points
     Factors {
+        name: "four quarters of a coset",
         log_size: 1,
-        shifts: &[31, 1_044_970_530, 1_235_625_957, 523_621_251],
+        chunks: &[
+            (31, ZERO),
+            (1_044_970_530, ZERO),
+            (1_235_625_957, ZERO),
+            (523_621_251, ZERO),
+        ],
         factors: &[1, 1, 1],
     },
 ];
 
-/// Chunks of zeros on the cosets of these shifts.
-fn zeros(rt: &impl Abort, alloc: Global, log_size: usize, shifts: &[u64]) -> Chunks {
-    let mut all = Vec::new(alloc);
-    for shift in shifts {
-        let domain = coset(rt, *shift, log_size);
-        all.push((domain, matrix(rt, alloc, (1, &[0]))))
-            .expect(rt, "memory");
-    }
-    all
-}
-
 /// Whether these are the factors.
 fn has_factors(rt: &impl Abort, alloc: Global, case: &Factors) -> bool {
-    let chunks = zeros(rt, alloc, case.log_size, case.shifts);
-    assert!(rt;
-        !chunks.is_empty() && are_apart(rt, alloc, &chunks),
-        "the cosets aren't disjoint"
-    );
+    let chunks = chunks(rt, alloc, case.log_size, case.chunks);
+    assert!(rt; !chunks.is_empty() && are_apart(rt, alloc, &chunks));
     let factors = mask_factors(alloc, &chunks).expect(rt, "memory");
     are_numbers(&factors, case.factors)
 }
@@ -74,35 +74,39 @@ fn has_factors(rt: &impl Abort, alloc: Global, case: &Factors) -> bool {
 #[test]
 fn factors_are_quotients_of_weights(rt: HostRuntime) {
     for case in &FACTORS {
-        assert!(rt; has_factors(&rt, rt.alloc(), case), "{:?}", case.shifts);
+        assert!(rt; has_factors(&rt, rt.alloc(), case), "{}", case.name);
     }
 }
 
-/// Shifts of disjoint cosets of two points, how many coefficients a mask has, the masks by the
-/// words of a generator whose seed is `[9; 32]`, and its next word.
+/// Chunks beside the shifts of disjoint cosets of two points, how many coefficients a mask has, the
+/// masks by the words of a generator whose seed is `[9; 32]`, and its next word.
 #[derive(Clone, Copy)]
 struct Masks {
-    shifts: &'static [u64],
+    name: &'static str,
+    chunks: &'static [(u64, Entries)],
     size: usize,
     masks: &'static [&'static [u64]],
     next_word: u64,
 }
 
-const MASKS: [Masks; 3] = [
+static MASKS: [Masks; 3] = [
     Masks {
-        shifts: &[31],
+        name: "one coset",
+        chunks: &[(31, ZERO)],
         size: 2,
         masks: &[&[0, 0]],
         next_word: 10_566_790_388_464_068_594,
     },
     Masks {
-        shifts: &[31, 1_235_625_957],
+        name: "two halves of a coset",
+        chunks: &[(31, ZERO), (1_235_625_957, ZERO)],
         size: 2,
         masks: &[&[127_051_834, 747_866_774], &[1_886_214_087, 1_265_399_147]],
         next_word: 15_082_324_987_131_953_635,
     },
     Masks {
-        shifts: &[3, 5, 7],
+        name: "three cosets",
+        chunks: &[(3, ZERO), (5, ZERO), (7, ZERO)],
         size: 4,
         masks: &[
             &[127_051_834, 747_866_774, 1_316_534_259, 1_277_982_000],
@@ -115,11 +119,8 @@ const MASKS: [Masks; 3] = [
 
 /// Whether these are the masks, and the generator stands just past them.
 fn has_masks(rt: &impl Abort, alloc: Global, case: &Masks) -> bool {
-    let chunks = zeros(rt, alloc, 1, case.shifts);
-    assert!(rt;
-        !chunks.is_empty() && are_apart(rt, alloc, &chunks),
-        "the cosets aren't disjoint"
-    );
+    let chunks = chunks(rt, alloc, 1, case.chunks);
+    assert!(rt; !chunks.is_empty() && are_apart(rt, alloc, &chunks));
     let mut rng = ChaCha20Rng::from_seed([9; 32]);
     let masks = quotient_masks(alloc, &chunks, case.size, &mut rng).expect(rt, "memory");
     are_lists(&masks, case.masks) && rng.next_u64() == case.next_word
@@ -128,6 +129,6 @@ fn has_masks(rt: &impl Abort, alloc: Global, case: &Masks) -> bool {
 #[test]
 fn the_last_mask_makes_up_for_the_others(rt: HostRuntime) {
     for case in &MASKS {
-        assert!(rt; has_masks(&rt, rt.alloc(), case), "{:?}", case.shifts);
+        assert!(rt; has_masks(&rt, rt.alloc(), case), "{}", case.name);
     }
 }
