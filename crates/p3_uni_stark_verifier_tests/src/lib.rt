@@ -5,8 +5,6 @@ mod belief;
 #[cfg(test)]
 mod believing;
 #[cfg(test)]
-mod changes;
-#[cfg(test)]
 mod made;
 #[cfg(test)]
 mod numbers;

@@ -26,11 +26,19 @@ fn node_of<F: Field>(node: Node<u64>) -> Node<F> {
     }
 }
 
-/// The nodes of elements.
-fn nodes_of<F: Field>(rt: &impl Abort, alloc: Global, each: &[Node<u64>]) -> Vec<Node<F>> {
+/// The nodes of elements, and so many behind a lone one, each the square of the one before.
+fn nodes_of<F: Field>(
+    rt: &impl Abort,
+    alloc: Global,
+    each: &[Node<u64>],
+    squares: usize,
+) -> Vec<Node<F>> {
     let mut nodes = Vec::new(alloc);
     for node in each {
         nodes.push(node_of(*node)).expect(rt, "memory");
+    }
+    for index in 0..squares {
+        nodes.push(Node::Mul(index, index)).expect(rt, "memory");
     }
     nodes
 }
@@ -70,7 +78,7 @@ pub(crate) fn parts_of<F: Field, EF: ExtensionField<F>>(
     Parts {
         air: Air {
             layout: shown.layout,
-            nodes: nodes_of(rt, alloc, shown.nodes),
+            nodes: nodes_of(rt, alloc, shown.nodes, shown.squares),
             constraints: Vec::from_slice(alloc, shown.constraints).expect(rt, "memory"),
         },
         public_values: elements(rt, alloc, shown.public_values),

@@ -11,6 +11,8 @@ pub(crate) struct Shown {
     pub(crate) hides: bool,
     pub(crate) layout: AirLayout,
     pub(crate) nodes: &'static [Node<u64>],
+    /// How many nodes follow where there is one, each the square of the one before.
+    pub(crate) squares: usize,
     pub(crate) constraints: &'static [Constraint],
     pub(crate) public_values: &'static [u64],
     pub(crate) periodic: &'static [&'static [u64]],
@@ -118,10 +120,11 @@ const CUBES_CONSTRAINTS: [Constraint; 2] = [
 ];
 
 /// Fibonacci numbers, eight rows.
-const FIBONACCI: Shown = Shown {
+pub(crate) const FIBONACCI: Shown = Shown {
     hides: false,
     layout: FIBONACCI_LAYOUT,
     nodes: &FIBONACCI_NODES,
+    squares: 0,
     constraints: &FIBONACCI_CONSTRAINTS,
     public_values: &[1, 1, 34],
     periodic: &[],
@@ -159,10 +162,11 @@ pub(crate) const FIRST_CHUNK: &[[u64; 4]] = &[
 ];
 
 /// Cubes with a summand on selected rows and a periodic one, four rows.
-const CUBES: Shown = Shown {
+pub(crate) const CUBES: Shown = Shown {
     hides: false,
     layout: CUBES_LAYOUT,
     nodes: &CUBES_NODES,
+    squares: 0,
     constraints: &CUBES_CONSTRAINTS,
     public_values: &[2, 7],
     periodic: &[&[3, 5]],
@@ -193,10 +197,11 @@ const CUBES: Shown = Shown {
 
 /// The same by a scheme that hides: the degrees ask for twice as many chunks, and there are
 /// twice as many again.
-const HIDDEN_CUBES: Shown = Shown {
+pub(crate) const HIDDEN_CUBES: Shown = Shown {
     hides: true,
     layout: CUBES_LAYOUT,
     nodes: &CUBES_NODES,
+    squares: 0,
     constraints: &CUBES_CONSTRAINTS,
     public_values: &[2, 7],
     periodic: &[&[3, 5]],
@@ -265,20 +270,3 @@ const HIDDEN_CUBES: Shown = Shown {
     random_values: &[[5, 6, 7, 8]; 4],
     claims: 4,
 };
-
-/// Which of them is shown.
-#[derive(Clone, Copy)]
-pub(crate) enum Proven {
-    Fibonacci,
-    Cubes,
-    HiddenCubes,
-}
-
-/// What is shown. The tables are named here alone, since each mention of one is proved anew.
-pub(crate) fn shown_of(proven: Proven) -> Shown {
-    match proven {
-        Proven::Fibonacci => FIBONACCI,
-        Proven::Cubes => CUBES,
-        Proven::HiddenCubes => HIDDEN_CUBES,
-    }
-}

@@ -2,7 +2,7 @@
 
 use crate::made::{Parts, parts_of};
 use crate::numbers::extension;
-use crate::shown::{Proven, shown_of};
+use crate::shown::{CUBES, FIBONACCI, HIDDEN_CUBES, Shown};
 use p3_challenger::{CanObserve, FieldChallenger, Sha256Challenger};
 use p3_field::{BabyBear, BabyBear4, ExtensionField, PrimeField64};
 use p3_uni_stark_transcript::{StarkCommitments, StarkInstance, replay_stark};
@@ -73,22 +73,19 @@ fn are_drawn<F: PrimeField64, EF: ExtensionField<F>, C: FieldChallenger<F> + Can
         && next == extension::<F, EF>(drawn.next)
 }
 
-/// Whether these are drawn of what is shown, over BabyBear and by SHA-256.
-fn is_drawn(rt: &impl Abort, alloc: Global, proven: Proven, drawn: &Drawn) -> bool {
-    let parts = parts_of::<BabyBear, BabyBear4>(rt, alloc, &shown_of(proven));
-    are_drawn(rt, alloc, &mut Sha256Challenger::new(), &parts, drawn)
-}
-
-/// What is shown, and what is drawn of it.
-const CASES: [(Proven, Drawn); 3] = [
-    (Proven::Fibonacci, OF_FIBONACCI),
-    (Proven::Cubes, OF_CUBES),
-    (Proven::HiddenCubes, OF_HIDDEN_CUBES),
+/// What is shown, and what is drawn of it over BabyBear and by SHA-256.
+static CASES: [(&str, Shown, Drawn); 3] = [
+    ("Fibonacci numbers", FIBONACCI, OF_FIBONACCI),
+    ("cubes", CUBES, OF_CUBES),
+    ("hidden cubes", HIDDEN_CUBES, OF_HIDDEN_CUBES),
 ];
 
 #[test]
 fn challenges_are_drawn(rt: HostRuntime) {
-    for (index, (proven, drawn)) in CASES.iter().enumerate() {
-        assert!(rt; is_drawn(&rt, rt.alloc(), *proven, drawn), "case {index}");
+    for (name, shown, drawn) in &CASES {
+        let parts = parts_of::<BabyBear, BabyBear4>(&rt, rt.alloc(), shown);
+        let mut challenger = Sha256Challenger::new();
+        let right = are_drawn(&rt, rt.alloc(), &mut challenger, &parts, drawn);
+        assert!(rt; right, "{name}");
     }
 }

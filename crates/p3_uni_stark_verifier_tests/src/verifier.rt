@@ -2,13 +2,13 @@
 
 use crate::belief::Disbelief;
 use crate::believing::Believing;
-use crate::changes::{Change, change_shown};
-use crate::made::{Parts, parts_of};
-use crate::shown::{Proven, shown_of};
+use crate::made::parts_of;
+use crate::shown::{CUBES, FIBONACCI, FIRST_CHUNK, HIDDEN_CUBES, Shown};
+use p3_air::Node;
 use p3_challenger::Sha256Challenger;
 use p3_dft::Radix2Dit;
 use p3_field::{BabyBear, BabyBear4};
-use p3_uni_stark_verifier::{Statement, VerificationError, verify};
+use p3_uni_stark_verifier::{PreprocessedVerifierKey, Statement, VerificationError, verify};
 use std::alloc::Global;
 use std::marker::PhantomData;
 use std::process::Abort;
@@ -50,8 +50,9 @@ fn verdict_of(answer: &Result<(), VerificationError<Disbelief>>) -> Verdict {
     }
 }
 
-/// What the verifier says, by a scheme that hides or doesn't.
-fn judge_by<const HIDES: bool>(alloc: Global, parts: &Parts<BabyBear, BabyBear4>) -> Verdict {
+/// What the verifier says of what is shown, by a scheme that hides or doesn't.
+fn judge<const HIDES: bool>(rt: &impl Abort, alloc: Global, shown: &Shown) -> Verdict {
+    let parts = parts_of::<BabyBear, BabyBear4>(rt, alloc, shown);
     let statement = Statement {
         air: &parts.air,
         preprocessed: parts.preprocessed,
@@ -74,189 +75,182 @@ fn judge_by<const HIDES: bool>(alloc: Global, parts: &Parts<BabyBear, BabyBear4>
     verdict_of(&answer)
 }
 
-/// The same, where this says whether the scheme hides.
-fn judge(alloc: Global, parts: &Parts<BabyBear, BabyBear4>, hides: bool) -> Verdict {
-    if hides {
-        judge_by::<true>(alloc, parts)
-    } else {
-        judge_by::<false>(alloc, parts)
-    }
-}
+/// A name, what is shown, and what the verifier says.
+type Case = (&'static str, Shown, Verdict);
 
-/// A name, what is shown, a change of it, and what the verifier says.
-type Case = (&'static str, Proven, Change, Verdict);
-
-/// The verifier says of each case what it names.
-fn assert_judged(rt: &impl Abort, alloc: Global, cases: &[Case]) {
-    for (name, proven, change, verdict) in cases {
-        let mut shown = shown_of(*proven);
-        change_shown(&mut shown, *change);
-        let parts = parts_of(rt, alloc, &shown);
-        assert!(rt; judge(alloc, &parts, shown.hides) == *verdict, "{name}");
-    }
-}
-
-const HONEST: [Case; 3] = [
-    (
-        "Fibonacci numbers",
-        Proven::Fibonacci,
-        Change::Nothing,
-        Verdict::Accepted,
-    ),
-    ("cubes", Proven::Cubes, Change::Nothing, Verdict::Accepted),
-    (
-        "hidden cubes",
-        Proven::HiddenCubes,
-        Change::Nothing,
-        Verdict::Accepted,
-    ),
-];
-
-#[test]
-fn honest_proofs_are_accepted(rt: HostRuntime) {
-    assert_judged(&rt, rt.alloc(), &HONEST);
-}
-
-const STATEMENTS: [Case; 9] = [
+static CASES: [Case; 22] = [
+    ("Fibonacci numbers", FIBONACCI, Verdict::Accepted),
+    ("cubes", CUBES, Verdict::Accepted),
+    ("hidden cubes", HIDDEN_CUBES, Verdict::Accepted),
     (
         "a node of itself",
-        Proven::Cubes,
-        Change::NodeOfItself,
+        Shown {
+            nodes: &[Node::Neg(0)],
+            ..CUBES
+        },
         Verdict::InvalidAir,
     ),
     (
         "one public value",
-        Proven::Cubes,
-        Change::OnePublicValue,
+        Shown {
+            public_values: &[2],
+            ..CUBES
+        },
         Verdict::InvalidPublicValues,
     ),
     (
         "another public value",
-        Proven::Cubes,
-        Change::OtherPublicValue,
+        Shown {
+            public_values: &[2, 8],
+            ..CUBES
+        },
         Verdict::OodEvaluationMismatch,
     ),
     (
         "no periodic column",
-        Proven::Cubes,
-        Change::NoPeriodicColumn,
+        Shown {
+            periodic: &[],
+            ..CUBES
+        },
         Verdict::InvalidPeriodicCount,
     ),
     (
         "a period of three",
-        Proven::Cubes,
-        Change::PeriodOfThree,
+        Shown {
+            periodic: &[&[3, 5, 3]],
+            ..CUBES
+        },
         Verdict::InvalidPeriodicColumns,
     ),
     (
         "another periodic column",
-        Proven::Cubes,
-        Change::OtherPeriodicColumn,
+        Shown {
+            periodic: &[&[3, 6]],
+            ..CUBES
+        },
         Verdict::OodEvaluationMismatch,
     ),
     (
         "no key",
-        Proven::Cubes,
-        Change::NoKey,
+        Shown {
+            preprocessed: None,
+            ..CUBES
+        },
         Verdict::InvalidPreprocessed,
     ),
     (
         "a key of another height",
-        Proven::Cubes,
-        Change::KeyOfOtherHeight,
+        Shown {
+            preprocessed: Some(PreprocessedVerifierKey {
+                commitment: [3; 32],
+                log_height: 3,
+            }),
+            ..CUBES
+        },
         Verdict::InvalidProofShape,
     ),
     (
         "another key",
-        Proven::Cubes,
-        Change::OtherKey,
+        Shown {
+            preprocessed: Some(PreprocessedVerifierKey {
+                commitment: [5; 32],
+                log_height: 2,
+            }),
+            ..CUBES
+        },
         Verdict::OodEvaluationMismatch,
     ),
-];
-
-#[test]
-fn changed_statements_are_refused_by_name(rt: HostRuntime) {
-    assert_judged(&rt, rt.alloc(), &STATEMENTS);
-}
-
-const PROOFS: [Case; 7] = [
     (
         "a height past the two-adicity",
-        Proven::Cubes,
-        Change::HeightPastTwoAdicity,
+        Shown {
+            log_height: 28,
+            ..CUBES
+        },
         Verdict::InvalidProofShape,
     ),
     (
         "a chunk too few",
-        Proven::Cubes,
-        Change::ChunkTooFew,
+        Shown {
+            quotient_chunks: &[FIRST_CHUNK],
+            ..CUBES
+        },
         Verdict::InvalidProofShape,
     ),
     (
         "a random value",
-        Proven::Cubes,
-        Change::RandomValue,
+        Shown {
+            random_values: &[[1, 2, 3, 4]],
+            ..CUBES
+        },
         Verdict::InvalidProofShape,
     ),
     (
         "random polynomials",
-        Proven::Cubes,
-        Change::RandomPolynomials,
+        Shown {
+            random: Some([4; 32]),
+            ..CUBES
+        },
         Verdict::RandomizationError,
     ),
     (
         "another number of claims",
-        Proven::Cubes,
-        Change::OtherNumberOfClaims,
+        Shown { claims: 4, ..CUBES },
         Verdict::InvalidOpeningArgument,
     ),
     (
         "another trace",
-        Proven::Cubes,
-        Change::OtherTrace,
+        Shown {
+            trace: [5; 32],
+            ..CUBES
+        },
         Verdict::OodEvaluationMismatch,
     ),
     (
         "another next row",
-        Proven::Cubes,
-        Change::OtherNextRow,
+        Shown {
+            trace_next: &[[1, 2, 3, 4]],
+            ..CUBES
+        },
         Verdict::OodEvaluationMismatch,
     ),
-];
-
-#[test]
-fn changed_proofs_are_refused_by_name(rt: HostRuntime) {
-    assert_judged(&rt, rt.alloc(), &PROOFS);
-}
-
-const HIDING: [Case; 1] = [(
-    "no random polynomials",
-    Proven::HiddenCubes,
-    Change::NoRandomPolynomials,
-    Verdict::RandomizationError,
-)];
-
-#[test]
-fn a_scheme_that_hides_asks_for_random_polynomials(rt: HostRuntime) {
-    assert_judged(&rt, rt.alloc(), &HIDING);
-}
-
-const DEGREES: [Case; 2] = [
+    (
+        "no random polynomials",
+        Shown {
+            random: None,
+            ..HIDDEN_CUBES
+        },
+        Verdict::RandomizationError,
+    ),
     (
         "62 squares",
-        Proven::Fibonacci,
-        Change::SixtyTwoSquares,
+        Shown {
+            nodes: &[Node::Local(0)],
+            squares: 62,
+            constraints: &[],
+            ..FIBONACCI
+        },
         Verdict::OodEvaluationMismatch,
     ),
     (
         "63 squares",
-        Proven::Fibonacci,
-        Change::SixtyThreeSquares,
+        Shown {
+            nodes: &[Node::Local(0)],
+            squares: 63,
+            constraints: &[],
+            ..FIBONACCI
+        },
         Verdict::DegreeTooLarge,
     ),
 ];
 
 #[test]
-fn degrees_are_below_two_to_63(rt: HostRuntime) {
-    assert_judged(&rt, rt.alloc(), &DEGREES);
+fn proofs_are_accepted_or_refused_by_name(rt: HostRuntime) {
+    for (name, shown, verdict) in &CASES {
+        let found = if shown.hides {
+            judge::<true>(&rt, rt.alloc(), shown)
+        } else {
+            judge::<false>(&rt, rt.alloc(), shown)
+        };
+        assert!(rt; found == *verdict, "{name}");
+    }
 }
