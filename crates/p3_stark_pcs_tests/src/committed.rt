@@ -5,7 +5,7 @@ ghost use Rattle.std.specs.Prelude.{◌≡◌, length};
 use crate::columns::{are_columns, column, columns, coset, listed};
 use crate::headline::is_shown;
 use crate::opened::is_opened;
-use crate::parts::{Part, holds};
+use crate::parts::Part;
 use crate::tested::Tested;
 use p3_pcs::KnownCommitment;
 use std::alloc::Global;
@@ -60,11 +60,6 @@ pub(crate) fn is_line_met<P: Tested>(
     }
 }
 
-#[test]
-fn preprocessed_columns_are_extended(rt: HostRuntime) {
-    assert!(rt; holds(&rt, rt.alloc(), Part::Line(OfLine::Held)));
-}
-
 /// Columns of a quotient, the words that are expected of them, and the index with which the
 /// commitment to these is opened, if it is.
 #[derive(Clone, Copy)]
@@ -72,15 +67,6 @@ pub(crate) struct OfWords {
     each: &'static [(u64, &'static [u64])],
     expected: &'static [&'static [u64]],
     opened: Option<Option<usize>>,
-}
-
-/// `2 - X` from one coset, opened with this index.
-pub(crate) fn words_opened(index: Option<usize>) -> OfWords {
-    OfWords {
-        each: &[ON_COSET],
-        expected: &[&WORD],
-        opened: Some(index),
-    }
 }
 
 /// Whether these are the words, and are committed to, or opened where that is asked. They are known
@@ -120,14 +106,34 @@ pub(crate) fn are_words_met<P: Tested>(
     }
 }
 
-/// `2 - X` from two cosets.
-const FROM_TWO_COSETS: OfWords = OfWords {
-    each: &[LINE, ON_COSET],
-    expected: &[&WORD, &WORD],
-    opened: None,
+/// `2 - X` from one coset, opened without an index.
+const FROM_ONE_COSET: OfWords = OfWords {
+    each: &[ON_COSET],
+    expected: &[&WORD],
+    opened: Some(None),
 };
 
-#[test]
-fn quotients_are_extended_from_their_cosets(rt: HostRuntime) {
-    assert!(rt; holds(&rt, rt.alloc(), Part::Words(FROM_TWO_COSETS)));
-}
+/// A preprocessed column is extended, opened, and opened and verified by one function, with whatever
+/// index; quotients are extended from their cosets and opened.
+pub(crate) static PARTS: [Part; 10] = [
+    Part::Line(OfLine::Held),
+    Part::Line(OfLine::Opened(None)),
+    Part::Line(OfLine::Opened(Some(0))),
+    Part::Line(OfLine::Shown(None)),
+    Part::Line(OfLine::Shown(Some(0))),
+    Part::Line(OfLine::Shown(Some(7))),
+    Part::Words(OfWords {
+        each: &[LINE, ON_COSET],
+        expected: &[&WORD, &WORD],
+        opened: None,
+    }),
+    Part::Words(FROM_ONE_COSET),
+    Part::Words(OfWords {
+        opened: Some(Some(0)),
+        ..FROM_ONE_COSET
+    }),
+    Part::Words(OfWords {
+        opened: Some(Some(7)),
+        ..FROM_ONE_COSET
+    }),
+];

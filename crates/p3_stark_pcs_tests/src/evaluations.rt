@@ -1,13 +1,13 @@
 //! Committed columns read on other domains.
 
 use crate::columns::{columns, coset, is_column};
-use crate::parts::{Part, holds};
+use crate::parts::Part;
 use crate::tested::Tested;
 use std::alloc::Global;
 use std::process::Abort;
 
 /// `2 - X` by two values, and `1 + X^3` by four on the coset of 3.
-const COMMITTED: [(u64, &[u64]); 2] = [
+static COMMITTED: [(u64, &[u64]); 2] = [
     (1, &[1, 3]),
     (3, &[28, 1_651_460_254, 2_013_265_895, 361_805_669]),
 ];
@@ -21,52 +21,52 @@ pub(crate) struct Reading {
 }
 
 /// On the domain that it was committed on, on others of that size, on larger and on smaller ones.
-const READINGS: [Reading; 9] = [
-    Reading {
+pub(crate) static PARTS: [Part; 9] = [
+    Part::Read(Reading {
         index: 0,
         shift: 1,
         values: &[1, 3],
-    },
-    Reading {
+    }),
+    Part::Read(Reading {
         index: 0,
         shift: 3,
         values: &[2_013_265_920, 5],
-    },
-    Reading {
+    }),
+    Part::Read(Reading {
         index: 0,
         shift: 3,
         values: &[2_013_265_920, 854_584_226, 5, 1_158_681_699],
-    },
-    Reading {
+    }),
+    Part::Read(Reading {
         index: 0,
         shift: 31,
         values: &[2_013_265_892, 777_639_966, 33, 1_235_625_959],
-    },
-    Reading {
+    }),
+    Part::Read(Reading {
         index: 0,
         shift: 1,
         values: &[1],
-    },
-    Reading {
+    }),
+    Part::Read(Reading {
         index: 1,
         shift: 3,
         values: &[28, 1_651_460_254, 2_013_265_895, 361_805_669],
-    },
-    Reading {
+    }),
+    Part::Read(Reading {
         index: 1,
         shift: 1,
         values: &[2, 284_861_409, 0, 1_728_404_514],
-    },
-    Reading {
+    }),
+    Part::Read(Reading {
         index: 1,
         shift: 1,
         values: &[2, 0],
-    },
-    Reading {
+    }),
+    Part::Read(Reading {
         index: 1,
         shift: 2,
         values: &[9],
-    },
+    }),
 ];
 
 /// Whether both calls, with and without columns that only hide others, read these values of the
@@ -96,15 +96,5 @@ pub(crate) fn is_read<P: Tested>(
     match (shown, whole) {
         (Ok(shown), Ok(whole)) => is_column(&shown, values) && is_column(&whole, values),
         _ => panic!(rt; "memory was refused"),
-    }
-}
-
-#[test]
-fn committed_columns_are_read_on_other_domains(rt: HostRuntime) {
-    for (index, reading) in READINGS.iter().enumerate() {
-        assert!(rt;
-            holds(&rt, rt.alloc(), Part::Read(*reading)),
-            "reading {index}"
-        );
     }
 }

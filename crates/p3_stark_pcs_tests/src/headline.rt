@@ -4,8 +4,6 @@
 ghost use Rattle.std.specs.Prelude.{◌≡◌, length, map};
 
 use crate::columns::listed;
-use crate::committed::OfLine;
-use crate::parts::{Part, holds};
 use crate::scheme::Domain;
 use crate::tested::Tested;
 use crate::values::{MINUS_THREE, are_opened_alike, element};
@@ -58,14 +56,4 @@ pub(crate) fn is_shown<P: Tested>(
         &challenger,
         &verified.challenger,
     )
-}
-
-#[test]
-fn a_preprocessed_column_is_opened_and_verified(rt: HostRuntime) {
-    for index in [None, Some(0), Some(7)] {
-        assert!(rt;
-            holds(&rt, rt.alloc(), Part::Line(OfLine::Shown(index))),
-            "{index:?}"
-        );
-    }
 }

@@ -10,8 +10,6 @@ mod evaluations;
 #[cfg(test)]
 mod headline;
 #[cfg(test)]
-mod offered;
-#[cfg(test)]
 mod opened;
 #[cfg(test)]
 mod parts;

@@ -3,8 +3,6 @@
 ghost use Rattle.std.specs.Prelude.{◌≡◌, length};
 
 use crate::columns::listed;
-use crate::committed::{OfLine, words_opened};
-use crate::parts::{Part, holds};
 use crate::scheme::Domain;
 use crate::tested::Tested;
 use crate::values::{MINUS_THREE, are_opened_alike, element};
@@ -50,24 +48,4 @@ pub(crate) fn is_opened<P: Tested>(
     let mut verifier = Sha256Challenger::new();
     let answer = scheme.verify_with_preprocessing(alloc, claims, &proof, &mut verifier, verified);
     answer.is_ok() && are_opened_alike(&values, MINUS_THREE, &challenger, &verifier)
-}
-
-#[test]
-fn committed_words_are_opened(rt: HostRuntime) {
-    for index in [None, Some(0), Some(7)] {
-        assert!(rt;
-            holds(&rt, rt.alloc(), Part::Words(words_opened(index))),
-            "{index:?}"
-        );
-    }
-}
-
-#[test]
-fn preprocessed_columns_are_opened(rt: HostRuntime) {
-    for index in [None, Some(0)] {
-        assert!(rt;
-            holds(&rt, rt.alloc(), Part::Line(OfLine::Opened(index))),
-            "{index:?}"
-        );
-    }
 }

@@ -8,11 +8,11 @@ use crate::periodic::{Table, is_tabulated};
 use crate::scheme::Scheme;
 use crate::stark::{Case, are_opened};
 use crate::tested::Tested;
+use crate::{committed, evaluations, periodic, stark};
 use std::alloc::Global;
 use std::process::Abort;
 
 /// What is tested, and by which case.
-#[derive(Clone, Copy)]
 pub(crate) enum Part {
     Line(OfLine),
     Words(OfWords),
@@ -25,14 +25,17 @@ pub(crate) enum Part {
     Stark(Case),
 }
 
+/// What the scheme offers to a STARK.
+static OFFERED: [Part; 2] = [Part::Heights, Part::NoneRandom];
+
 /// Whether it holds of a scheme.
-fn holds_of<P: Tested>(rt: &impl Abort, alloc: Global, part: Part) -> bool {
+fn holds_of<P: Tested>(rt: &impl Abort, alloc: Global, part: &Part) -> bool {
     let mut scheme = P::made();
     match part {
-        Part::Line(asked) => is_line_met(rt, alloc, scheme, asked),
-        Part::Words(asked) => are_words_met(rt, alloc, scheme, &asked),
-        Part::Read(reading) => is_read(rt, alloc, scheme, &reading),
-        Part::Periodic(table) => is_tabulated(rt, alloc, scheme, &table),
+        Part::Line(asked) => is_line_met(rt, alloc, scheme, *asked),
+        Part::Words(asked) => are_words_met(rt, alloc, scheme, asked),
+        Part::Read(reading) => is_read(rt, alloc, scheme, reading),
+        Part::Periodic(table) => is_tabulated(rt, alloc, scheme, table),
         Part::Heights => {
             let least = scheme.log_min_trace_height();
             let greatest = scheme.log_max_trace_height();
@@ -45,11 +48,28 @@ fn holds_of<P: Tested>(rt: &impl Abort, alloc: Global, part: Part) -> bool {
                 Err(_) => panic!(rt; "memory was refused"),
             }
         },
-        Part::Stark(case) => are_opened(rt, alloc, scheme, &case),
+        Part::Stark(case) => are_opened(rt, alloc, scheme, case),
     }
 }
 
 /// Whether it holds of the scheme over two-adic fields.
-pub(crate) fn holds(rt: &impl Abort, alloc: Global, part: Part) -> bool {
+fn holds(rt: &impl Abort, alloc: Global, part: &Part) -> bool {
     holds_of::<Scheme>(rt, alloc, part)
+}
+
+/// Asserts that each of these does.
+fn assert_all(rt: &impl Abort, alloc: Global, name: &str, parts: &[Part]) {
+    for (index, part) in parts.iter().enumerate() {
+        assert!(rt; holds(rt, alloc, part), "{name}, part {index}");
+    }
+}
+
+#[test]
+fn parts_hold_of_the_scheme(rt: HostRuntime) {
+    let alloc = rt.alloc();
+    assert_all(&rt, alloc, "offered", &OFFERED);
+    assert_all(&rt, alloc, "committed", &committed::PARTS);
+    assert_all(&rt, alloc, "evaluations", &evaluations::PARTS);
+    assert_all(&rt, alloc, "periodic", &periodic::PARTS);
+    assert_all(&rt, alloc, "stark", &stark::PARTS);
 }

@@ -1,7 +1,7 @@
 //! Tables of periodic columns along a trace of 8 rows, on the coset of 31 of 16 points.
 
 use crate::columns::coset;
-use crate::parts::{Part, holds};
+use crate::parts::Part;
 use crate::tested::Tested;
 use p3_field::{BabyBear, Field};
 use p3_periodic::{PeriodicError, PeriodicLdeTable};
@@ -11,7 +11,6 @@ use std::process::Abort;
 /// Columns, and what comes of them.
 #[derive(Clone, Copy)]
 pub(crate) struct Table {
-    name: &'static str,
     columns: &'static [&'static [u64]],
     outcome: Outcome,
 }
@@ -23,10 +22,10 @@ enum Outcome {
     Refused(PeriodicError),
 }
 
-const TABLES: [Table; 3] = [
+pub(crate) static PARTS: [Part; 5] = [
     // at the points 31 and -31 times a root of order 4 the values are `2 - 31^4` and `2 + 31^4`
-    Table {
-        name: "a column of two",
+    // a column of two
+    Part::Periodic(Table {
         columns: &[&[1, 3]],
         outcome: Outcome::Made(
             4,
@@ -37,37 +36,34 @@ const TABLES: [Table; 3] = [
                 (0, 1, None),
             ],
         ),
-    },
-    Table {
-        name: "a constant",
+    }),
+    // a constant
+    Part::Periodic(Table {
         columns: &[&[5]],
         outcome: Outcome::Made(2, &[(0, 0, Some(5)), (1, 0, Some(5))]),
-    },
-    Table {
-        name: "no columns",
+    }),
+    // no columns
+    Part::Periodic(Table {
         columns: &[],
         outcome: Outcome::Made(0, &[(0, 0, None)]),
-    },
-];
-
-const MALFORMED: [Table; 2] = [
-    Table {
-        name: "a length that isn't a power of two",
+    }),
+    // a length that isn't a power of two
+    Part::Periodic(Table {
         columns: &[&[1, 2, 3]],
         outcome: Outcome::Refused(PeriodicError::NotPowerOfTwo {
             column: 0,
             length: 3,
         }),
-    },
-    Table {
-        name: "a length that doesn't divide the trace's height",
+    }),
+    // a length that doesn't divide the trace's height
+    Part::Periodic(Table {
         columns: &[&[5], &[1; 16], &[]],
         outcome: Outcome::Refused(PeriodicError::DoesNotDivide {
             column: 1,
             length: 16,
             trace_height: 8,
         }),
-    },
+    }),
 ];
 
 /// Columns of these numbers.
@@ -131,21 +127,4 @@ pub(crate) fn is_tabulated<P: Tested>(
     );
     let made = scheme.build_periodic_lde_table(alloc, &columns, trace, domain);
     is_outcome(made, table.outcome)
-}
-
-/// Each comes of its columns.
-fn assert_all(rt: &impl Abort, alloc: Global, tables: &[Table]) {
-    for table in tables {
-        assert!(rt; holds(rt, alloc, Part::Periodic(*table)), "{}", table.name);
-    }
-}
-
-#[test]
-fn tables_of_periodic_columns(rt: HostRuntime) {
-    assert_all(&rt, rt.alloc(), &TABLES);
-}
-
-#[test]
-fn a_malformed_periodic_column(rt: HostRuntime) {
-    assert_all(&rt, rt.alloc(), &MALFORMED);
 }

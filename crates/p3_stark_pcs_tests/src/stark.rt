@@ -4,7 +4,7 @@ ghost use Rattle.std.specs.Prelude.{◌≡◌, ◌≢◌, [], All, map};
 ghost use Rattle.p3_fri_extensions.specs.Extension.{FitsDomain};
 
 use crate::columns::{columns, domains_of};
-use crate::parts::{Part, holds};
+use crate::parts::Part;
 use crate::scheme::Domain;
 use crate::tested::Tested;
 use crate::values::{Coefficients, Values, are_opened_alike, element};
@@ -15,13 +15,13 @@ use std::alloc::Global;
 use std::process::Abort;
 
 /// `2 - X` as a preprocessed column.
-const PREPROCESSED: [(u64, &[u64]); 1] = [(1, &[1, 3])];
+static PREPROCESSED: [(u64, &[u64]); 1] = [(1, &[1, 3])];
 
 /// `7 + X` and `1 + X^3`.
-const TRACE: [(u64, &[u64]); 2] = [(1, &[8, 6]), (1, &[2, 284_861_409, 0, 1_728_404_514])];
+static TRACE: [(u64, &[u64]); 2] = [(1, &[8, 6]), (1, &[2, 284_861_409, 0, 1_728_404_514])];
 
 /// `2 - X` on the coset of 3 of two points, and `4 + 2 * X` on the other half of that of four.
-const QUOTIENT: [(u64, &[u64]); 2] = [
+static QUOTIENT: [(u64, &[u64]); 2] = [
     (3, &[2_013_265_920, 5]),
     (1_158_681_697, &[304_097_477, 1_709_168_452]),
 ];
@@ -90,8 +90,8 @@ pub(crate) fn are_opened<P: Tested>(
 }
 
 /// At 5 and at `X`, with 1728404513 the root of unity of order 4 that leads to the successor.
-const CASES: [Case; 2] = [
-    Case {
+pub(crate) static PARTS: [Part; 2] = [
+    Part::Stark(Case {
         point: [5, 0, 0, 0],
         successor: [588_958_881, 0, 0, 0],
         values: &[
@@ -102,8 +102,8 @@ const CASES: [Case; 2] = [
             ],
             &[&[[2_013_265_918, 0, 0, 0]], &[[14, 0, 0, 0]]],
         ],
-    },
-    Case {
+    }),
+    Part::Stark(Case {
         point: [0, 1, 0, 0],
         successor: [0, 1_728_404_513, 0, 0],
         values: &[
@@ -114,16 +114,5 @@ const CASES: [Case; 2] = [
             ],
             &[&[[2, 2_013_265_920, 0, 0]], &[[4, 2, 0, 0]]],
         ],
-    },
+    }),
 ];
-
-#[test]
-fn columns_of_a_stark_are_opened(rt: HostRuntime) {
-    for case in &CASES {
-        assert!(rt;
-            holds(&rt, rt.alloc(), Part::Stark(*case)),
-            "{:?}",
-            case.point
-        );
-    }
-}
