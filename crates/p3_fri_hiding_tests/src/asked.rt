@@ -1,7 +1,7 @@
 //! What tests ask of the hiding scheme, by one function: what names a scheme takes long to prove.
 
 use crate::committable::column;
-use crate::matrices::SHORT_PI;
+use crate::matrices::SHORT_PI_COLUMN;
 use crate::openings::both::are_both_accepted;
 use crate::openings::cases::{Asked, are_met};
 use crate::openings::headline::is_column_accepted;
@@ -59,12 +59,11 @@ pub(crate) fn ask(rt: &impl Abort, alloc: Global, question: Question<'_>) -> boo
     match question {
         Question::IsWorkNamed(work) => {
             let setting = Setting { work, ..SMALL };
-            let mut scheme = scheme_of(setting);
-            let masked = column(rt, alloc, &SHORT_PI, 2);
-            let (hiding, held) = commit_and_open::<Scheme>(rt, &mut scheme, alloc, masked);
-            let mut plain_scheme = plain_scheme_of(setting);
-            let bare = column(rt, alloc, &SHORT_PI, 1);
-            let (plain, _held) = commit_and_open::<PlainScheme>(rt, &mut plain_scheme, alloc, bare);
+            let masked = column(rt, alloc, &SHORT_PI_COLUMN, 2);
+            let (hiding, held) = commit_and_open::<Scheme>(rt, scheme_of(setting), alloc, masked);
+            let bare = column(rt, alloc, &SHORT_PI_COLUMN, 1);
+            let plain_scheme = plain_scheme_of(setting);
+            let (plain, _held) = commit_and_open::<PlainScheme>(rt, plain_scheme, alloc, bare);
             held.is_opened() && is_named(work, hiding, plain)
         }
         _ => answer_of::<Scheme>(rt, alloc, question),

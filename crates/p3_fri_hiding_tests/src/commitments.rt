@@ -1,13 +1,13 @@
 //! Whatever a scheme commits to.
 
-ghost use Rattle.std.specs.Prelude.{All, length};
+ghost use Rattle.std.specs.Prelude.{All};
 ghost use Rattle.p3_fri_two_adic.specs.Ldes.{HasLdeHeight};
 ghost use Rattle.p3_fri_hiding_tests.specs.Fits.{Fits};
 
 use crate::committable::{chunks, domains_of, words};
 use crate::kind::Kind;
 use crate::matrices::{Entries, coset, evaluations};
-use crate::scheme::{Domain, Evaluations, Setting};
+use crate::scheme::{Domain, Setting};
 use crate::tested::Tested;
 use p3_fri_masks::HidingFriProverError;
 use std::alloc::Global;
@@ -24,26 +24,6 @@ fn commits_law<P: Tested>(_scheme: &P, _setting: Setting)
     ensures words { (ws : _) → All (HasLdeHeight 27 2) ws
         → (P.stark_rules _scheme.now).CanCommitLdes ws }
 {}
-
-/// The words of chunks, committed to.
-fn commit_chunks<P: Tested>(
-    rt: &impl Abort,
-    scheme: &mut P,
-    alloc: Global,
-    chunks: Evaluations,
-) -> Commitment<P::ProverData>
-    requires { (P.stark_rules scheme.old).CanExtend chunks.items (length chunks.items) }
-    ensures { P.Keeps scheme.old scheme.new }
-{
-    let count = chunks.len();
-    match scheme.get_quotient_ldes(alloc, chunks, count) {
-        Ok(words) => match scheme.commit_ldes(alloc, words) {
-            Ok(committed) => Ok(committed),
-            Err(_) => panic!(rt; "the words are refused"),
-        },
-        Err(refusal) => Err(refusal),
-    }
-}
 
 /// Commits so to the matrices of these entries, by a scheme of that setting: those of a trace, and
 /// those on whose domains random polynomials are, stand beside domains of twice as many points.
@@ -74,7 +54,14 @@ pub(crate) fn commit_to<P: Tested>(
         },
         Kind::Chunks => {
             let chunks = chunks(rt, alloc, each);
-            commit_chunks(rt, scheme, alloc, chunks)
+            let count = chunks.len();
+            match scheme.get_quotient_ldes(alloc, chunks, count) {
+                Ok(words) => match scheme.commit_ldes(alloc, words) {
+                    Ok(committed) => Ok(committed),
+                    Err(_) => panic!(rt; "the words are refused"),
+                },
+                Err(refusal) => Err(refusal),
+            }
         },
         Kind::Random => {
             let columns = evaluations(rt, alloc, each, 2);

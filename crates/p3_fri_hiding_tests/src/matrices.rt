@@ -1,6 +1,6 @@
 //! Matrices of small numbers, the domains beside them, and points.
 
-ghost use Rattle.std.specs.Prelude.{◌≡◌, All, IsTrue};
+ghost use Rattle.std.specs.Prelude.{◌≡◌, All};
 ghost use Rattle.p3_fri_hiding_tests.specs.Fits.{Fits};
 
 use crate::scheme::{Domain, Evaluations};
@@ -36,6 +36,15 @@ pub(crate) const LATE_E: [u64; 16] = [2, 3, 5, 3, 6, 0, 2, 8, 7, 4, 7, 1, 3, 5, 
 /// The first 16 of them.
 pub(crate) const SHORT_E: [u64; 16] = [2, 7, 1, 8, 2, 8, 1, 8, 2, 8, 4, 5, 9, 0, 4, 5];
 
+/// What functions read of them, since a constant is written out in each.
+pub(crate) static PI_COLUMN: [u64; 32] = PI;
+
+pub(crate) static SHORT_PI_COLUMN: [u64; 16] = SHORT_PI;
+
+pub(crate) static E_COLUMN: [u64; 32] = E;
+
+pub(crate) static LATE_E_COLUMN: [u64; 16] = LATE_E;
+
 /// Elements that are these numbers.
 pub(crate) fn elements(rt: &impl Abort, alloc: Global, numbers: &[u64]) -> Vec<BabyBear> {
     let mut elements = Vec::with_capacity(alloc, numbers.len()).expect(rt, "memory");
@@ -54,17 +63,6 @@ pub(crate) fn coset(rt: &impl Abort, shift: u64, log_size: usize) -> Domain
     TwoAdicMultiplicativeCoset::new(BabyBear::from_u64(shift), log_size).expect(rt, "not a domain")
 }
 
-/// Whether the domain has so many times as many points as the matrix has rows, and is small.
-fn is_fit(domain: Domain, matrix: &RowMajorMatrix<BabyBear>, factor: usize) -> bool
-    ensures { IsTrue result → Fits factor domain.log_size matrix.now }
-{
-    let (height, log_size) = (matrix.height(), domain.log_size());
-    if log_size < 2 || log_size > 8 || height > 256 || factor > 2 {
-        return false;
-    }
-    factor * height == domain.size()
-}
-
 /// The matrix of these entries, beside the coset of so many times as many points as it has rows.
 pub(crate) fn evaluation(
     rt: &impl Abort,
@@ -80,9 +78,14 @@ pub(crate) fn evaluation(
         "the numbers aren't whole rows"
     );
     let matrix = RowMajorMatrix::new(values, entries.width);
-    let num_points = matrix.height().wrapping_mul(factor);
-    let domain = coset(rt, entries.shift, num_points.trailing_zeros() as usize);
-    if !is_fit(domain, &matrix, factor) {
+    let height = matrix.height();
+    if height > 256 || factor > 2 {
+        panic!(rt; "too high a matrix");
+    }
+    let num_points = factor * height;
+    let log_size = num_points.trailing_zeros() as usize;
+    let domain = coset(rt, entries.shift, log_size);
+    if log_size < 2 || log_size > 8 || domain.size() != num_points {
         panic!(rt; "not on its domain");
     }
     (domain, matrix)
@@ -107,9 +110,11 @@ pub(crate) fn evaluations(
 
 /// Coefficients of the points `5 + X^2` and `X`, which aren't elements of the base field, and so
 /// lie outside of each coset.
-pub(crate) const POINTS: [[u64; 4]; 2] = [POINT, [0, 1, 0, 0]];
+pub(crate) const POINTS: [[u64; 4]; 2] = [POINT, OTHER_POINT];
 
 pub(crate) const POINT: [u64; 4] = [5, 0, 1, 0];
+
+pub(crate) const OTHER_POINT: [u64; 4] = [0, 1, 0, 0];
 
 /// The element with these coefficients, that of one first.
 pub(crate) fn element(coefficients: [u64; 4]) -> BabyBear4 {
@@ -120,13 +125,4 @@ pub(crate) fn element(coefficients: [u64; 4]) -> BabyBear4 {
         BabyBear::from_u64(quadratic),
         BabyBear::from_u64(cubic),
     ])
-}
-
-/// The points with these coefficients.
-pub(crate) fn points(rt: &impl Abort, alloc: Global, coefficients: &[[u64; 4]]) -> Vec<BabyBear4> {
-    let mut points = Vec::with_capacity(alloc, coefficients.len()).expect(rt, "memory");
-    for coefficients in coefficients {
-        points.push(element(*coefficients)).expect(rt, "memory");
-    }
-    points
 }

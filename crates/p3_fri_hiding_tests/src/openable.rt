@@ -13,27 +13,17 @@ use p3_matrix::RowMajorMatrix;
 use p3_mmcs::Mmcs;
 use p3_pcs::OpeningRequest;
 
-/// Whether the matrix is as high as a coset is large.
-fn has_coset(matrix: &RowMajorMatrix<BabyBear>) -> bool
-    ensures { IsTrue result → HasCoset 27 matrix.now }
-{
-    let height = matrix.height();
-    let log_height = height.trailing_zeros() as usize;
-    let Some(coset) = TwoAdicMultiplicativeCoset::new(BabyBear::ONE, log_height) else {
-        return false;
-    };
-    if coset.size() != height {
-        return false;
-    }
-    true
-}
-
-/// Whether each is.
+/// Whether each matrix is as high as a coset is large.
 fn have_cosets(matrices: &[RowMajorMatrix<BabyBear>]) -> bool
     ensures { IsTrue result → All (HasCoset 27) matrices.now }
 {
     for matrix in matrices {
-        if !has_coset(matrix) {
+        let height = matrix.height();
+        let log_height = height.trailing_zeros() as usize;
+        let Some(coset) = TwoAdicMultiplicativeCoset::new(BabyBear::ONE, log_height) else {
+            return false;
+        };
+        if coset.size() != height {
             return false;
         }
     }

@@ -1,24 +1,12 @@
 //! The table of a periodic column along a trace of 8 rows, on the coset of 31 of 16 points.
 
-ghost use Rattle.std.specs.Prelude.{◌≡◌, ◌≤◌};
-
-use crate::asked::{Question, hold};
 use crate::lists::one;
 use crate::matrices::{coset, elements};
-use crate::scheme::{Domain, SMALL, Setting};
+use crate::scheme::SMALL;
 use crate::tested::Tested;
 use p3_field::{BabyBear, Field};
 use std::alloc::Global;
 use std::process::Abort;
-
-/// A domain of 16 points isn't smaller than one of 8, as a scheme of that setting has it.
-fn larger_law<P: Tested>(_scheme: &P, _setting: Setting, _trace: Domain, _domain: Domain)
-    requires of_setting { P.IsOf _setting _scheme.now }
-    requires trace { _trace.log_size ≡ 3 }
-    requires domain { _domain.log_size ≡ 4 }
-    ensures { (P.rules _scheme.now).domain_size _trace
-        ≤ (P.rules _scheme.now).domain_size _domain }
-{}
 
 /// Whether the table of a column of 1 and 3 has four rows. At the points 31 and -31 times a root of
 /// order 4 the values are `2 - 31^4` and `2 + 31^4`.
@@ -27,7 +15,6 @@ pub(crate) fn has_entries<P: Tested>(rt: &impl Abort, alloc: Global) -> bool {
     let trace = coset(rt, 1, 3);
     let domain = coset(rt, 31, 4);
     let scheme = P::of(SMALL);
-    larger_law(&scheme, SMALL, trace, domain);
     match scheme.build_periodic_lde_table(alloc, &columns, trace, domain) {
         Ok(table) => {
             table.height() == 4
@@ -36,9 +23,4 @@ pub(crate) fn has_entries<P: Tested>(rt: &impl Abort, alloc: Global) -> bool {
         }
         Err(_) => panic!(rt; "no table"),
     }
-}
-
-#[test]
-fn a_periodic_column_has_a_table(rt: HostRuntime) {
-    hold(&rt, rt.alloc(), &[Question::HasPeriodicTable]);
 }

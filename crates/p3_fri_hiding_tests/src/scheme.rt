@@ -5,14 +5,14 @@ ghost use Rattle.std.specs.Prelude.{◌≡◌, ◌<◌, ◌≤◌};
 ghost use Rattle.p3_fri_relation.specs.Views.{parameters_of};
 ghost use Rattle.p3_fri_two_adic.specs.Ranges.{InProverRange, InVerifierRange};
 
-use p3_field::{BabyBear, BabyBear4, Field, TwoAdicMultiplicativeCoset};
+use p3_field::{BabyBear, BabyBear4, TwoAdicMultiplicativeCoset};
 use p3_fri_folding::{FriParameters, PowPhase};
 use p3_fri_relation::error::FriError;
 use p3_fri_relation::proof::{BatchMultiOpening, FriProof};
 use p3_matrix::RowMajorMatrix;
 use p3_mmcs::{Mmcs, OpenedValues, Sha256Mmcs};
 use rand_chacha::ChaCha20Rng;
-use rand_core::{Rng, SeedableRng};
+use rand_core::SeedableRng;
 
 pub(crate) type Inputs = Sha256Mmcs<BabyBear>;
 
@@ -37,11 +37,6 @@ pub(crate) type VerifierError = FriError<
 /// The generator that the scheme begins with.
 pub(crate) fn generator() -> ChaCha20Rng {
     ChaCha20Rng::from_seed([8; 32])
-}
-
-/// The element of the generator's next word.
-pub(crate) fn next_element(rng: &mut ChaCha20Rng) -> BabyBear {
-    BabyBear::from_u64(rng.next_u64() % 2_013_265_921)
 }
 
 /// What tests set of a scheme of a blowup of 4 that folds by two.

@@ -78,10 +78,11 @@ impl Tested for Scheme {
         is_first_preprocessed: bool,
     ) -> bool {
         let codewords = setting.num_random_codewords;
+        let mmcs = Inputs::new();
         match requests.split_first() {
             Some((first, others)) => {
-                is_openable(&Inputs::new(), first, codewords, is_first_preprocessed)
-                    && are_private(&Inputs::new(), others, codewords)
+                is_openable(&mmcs, first, codewords, is_first_preprocessed)
+                    && are_private(&mmcs, others, codewords)
             }
             None => false,
         }

@@ -25,32 +25,6 @@ pub(crate) struct Turn<'a> {
     pub wanted: Wanted,
 }
 
-/// What is read of each matrix on the domain of its index.
-fn readings<P: Tested>(
-    rt: &impl Abort,
-    scheme: &P,
-    alloc: Global,
-    setting: Setting,
-    held: &P::ProverData,
-    domains: &[(u64, usize)],
-) -> Vec<Reading>
-    requires { P.IsOf setting scheme.now }
-{
-    let mut all = Vec::new(alloc);
-    for index in 0..domains.len() {
-        assert!(rt; scheme.can_read(setting, held, index), "no such matrix");
-        let domain = coset(rt, domains[index].0, domains[index].1);
-        let shown = scheme.get_evaluations_on_domain(alloc, held, index, domain);
-        let whole = scheme.get_evaluations_on_domain_no_random(alloc, held, index, domain);
-        let reading = Reading {
-            shown: shown.expect(rt, "no columns"),
-            whole: whole.expect(rt, "no columns with those that hide them"),
-        };
-        all.push(reading).expect(rt, "memory");
-    }
-    all
-}
-
 /// Whether the data is new, of that call, and of a scheme of so many random codewords.
 fn is_new(state: DataState, kind: Kind, num_random_codewords: usize) -> bool {
     !state.is_opened
@@ -75,7 +49,18 @@ fn is_met<P: Tested>(
     match commit_to(rt, &mut *scheme, alloc, setting, turn.kind, turn.each) {
         Ok(pair) => {
             let (_commitment, held) = pair;
-            let readings = readings(rt, &*scheme, alloc, setting, &held, turn.domains);
+            let mut readings = Vec::new(alloc);
+            for index in 0..turn.domains.len() {
+                assert!(rt; scheme.can_read(setting, &held, index), "no such matrix");
+                let domain = coset(rt, turn.domains[index].0, turn.domains[index].1);
+                let shown = scheme.get_evaluations_on_domain(alloc, &held, index, domain);
+                let whole = scheme.get_evaluations_on_domain_no_random(alloc, &held, index, domain);
+                let reading = Reading {
+                    shown: shown.expect(rt, "no columns"),
+                    whole: whole.expect(rt, "no columns with those that hide them"),
+                };
+                readings.push(reading).expect(rt, "memory");
+            }
             turn.refusal.is_none()
                 && is_new(P::state_of(&held), turn.kind, setting.num_random_codewords)
                 && are_read(&readings, &turn.wanted, words)
@@ -107,10 +92,11 @@ pub(crate) fn are_met_by_forks<P: Tested>(
     turns: &[Turn<'_>; 3],
 ) -> bool {
     let mut words = generator();
-    let mut scheme = P::of(SMALL);
+    let setting = SMALL;
+    let mut scheme = P::of(setting);
     let mut first = scheme.forked().expect(rt, "memory");
     let mut second = scheme.forked().expect(rt, "memory");
-    is_met(rt, &mut scheme, alloc, SMALL, &turns[0], &mut words)
-        && is_met(rt, &mut second, alloc, SMALL, &turns[1], &mut words)
-        && is_met(rt, &mut first, alloc, SMALL, &turns[2], &mut words)
+    is_met(rt, &mut scheme, alloc, setting, &turns[0], &mut words)
+        && is_met(rt, &mut second, alloc, setting, &turns[1], &mut words)
+        && is_met(rt, &mut first, alloc, setting, &turns[2], &mut words)
 }

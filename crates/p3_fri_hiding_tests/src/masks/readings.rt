@@ -1,9 +1,9 @@
 //! What stands between the rows of committed matrices and beside their columns.
 
-use crate::scheme::next_element;
 use p3_field::{BabyBear, Field};
 use p3_matrix::RowMajorMatrix;
 use rand_chacha::ChaCha20Rng;
+use rand_core::Rng;
 
 /// The values of a matrix on a domain: without the columns that only hide others, and with them.
 #[derive(Drop)]
@@ -59,7 +59,7 @@ fn is_masked(reading: &Reading, masked: &Masked, masks: Masks, words: &mut ChaCh
                 }
             } else {
                 match masks {
-                    Masks::Words => Some(next_element(words)),
+                    Masks::Words => Some(BabyBear::from_u64(words.next_u64() % 2_013_265_921)),
                     Masks::Zeros => Some(BabyBear::ZERO),
                     Masks::Any => None,
                 }
@@ -80,7 +80,7 @@ fn is_masked(reading: &Reading, masked: &Masked, masks: Masks, words: &mut ChaCh
 }
 
 /// What the chunks' values at 5 are multiplied by where they are recombined.
-const FACTORS_AT_FIVE: [u64; 2] = [198_688_671, 1_814_577_251];
+static FACTORS_AT_FIVE: [u64; 2] = [198_688_671, 1_814_577_251];
 
 /// Whether these are two chunks whose two shown columns' values at 5 recombine to these numbers.
 fn recombine(readings: &[Reading], wanted: [u64; 2]) -> bool {

@@ -4,7 +4,7 @@ ghost use Rattle.p3_fri_hiding_tests.specs.Batches.{AreBothReady};
 
 use crate::committable::column;
 use crate::lists::{one, two};
-use crate::matrices::{LATE_E, POINT, SHORT_PI, element};
+use crate::matrices::{LATE_E_COLUMN, POINT, SHORT_PI_COLUMN, element};
 use crate::openings::cases::are_moved;
 use crate::scheme::{Domain, SMALL, Setting};
 use crate::tested::Tested;
@@ -36,7 +36,7 @@ fn commit_both<P: Tested>(
     ensures ready { AreBothReady (P.rules scheme.new) (P.stark_rules scheme.new)
         result.known.items result.preprocessed result.private }
 {
-    let public = column(rt, alloc, &SHORT_PI, 2);
+    let public = column(rt, alloc, &SHORT_PI_COLUMN, 2);
     let domains = one(rt, alloc, public.0);
     let columns = one(rt, alloc, public);
     match scheme.commit_preprocessing(alloc, columns) {
@@ -46,7 +46,7 @@ fn commit_both<P: Tested>(
                 commitment,
                 domains,
             };
-            let column = column(rt, alloc, &LATE_E, 2);
+            let column = column(rt, alloc, &LATE_E_COLUMN, 2);
             match commit_one::<BabyBear4, Sha256Challenger, P>(&mut *scheme, alloc, column) {
                 Ok(other) => {
                     let (second, private) = other;

@@ -103,17 +103,6 @@ pub(crate) fn are_moved(prover: &Sha256Challenger, verifier: &Sha256Challenger) 
     *verifier == *prover && *prover != Sha256Challenger::new()
 }
 
-/// Whether this is printed so: `accepted` or the refusal.
-fn is_printed(alloc: Global, answer: &Result<(), VerifierError>, wanted: &str) -> bool {
-    match answer {
-        Ok(()) => wanted == "accepted",
-        Err(refusal) => match format!(in alloc; "{refusal:?}") {
-            Ok(text) => text.as_str() == wanted,
-            Err(_) => false,
-        },
-    }
-}
-
 /// Whether the values are those that are wanted, and the verifier answers so. It ends as the prover
 /// where it accepts, and else leaves its challenger as it was.
 fn is_answered(
@@ -123,15 +112,16 @@ fn is_answered(
     prover: &Sha256Challenger,
     verifier: &Sha256Challenger,
 ) -> bool {
-    let is_left = if asked.answer == "accepted" {
-        are_moved(prover, verifier)
-    } else {
-        *verifier == Sha256Challenger::new()
+    let is_as_said = match &judged.answer {
+        Ok(()) => asked.answer == "accepted" && are_moved(prover, verifier),
+        Err(refusal) => match format!(in alloc; "{refusal:?}") {
+            Ok(text) => { text.as_str() == asked.answer && *verifier == Sha256Challenger::new() }
+            Err(_) => false,
+        },
     };
-    is_left
+    is_as_said
         && are_opened_so(&judged.values, asked.values, asked.firsts)
         && judged.has_random_values
-        && is_printed(alloc, &judged.answer, asked.answer)
 }
 
 /// Whether the data of each commitment counts as opened so.

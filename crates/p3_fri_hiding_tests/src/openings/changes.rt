@@ -1,6 +1,6 @@
 //! What is changed in an opening of preprocessing and a private column.
 
-use crate::matrices::{POINTS, element};
+use crate::matrices::{POINT, element};
 use crate::scheme::Domain;
 use p3_field::{BabyBear4, Field};
 use p3_mmcs::{CommitmentOpening, OpenedValues, PointOpening};
@@ -84,7 +84,7 @@ pub(crate) fn change_claims(
             match change {
                 Change::SecondPoint => {
                     let more = PointOpening {
-                        point: element(POINTS[0]),
+                        point: element(POINT),
                         values: Vec::new(alloc),
                     };
                     let _pushed = matrix.points.push(more).is_ok();

@@ -1,10 +1,11 @@
-//! The headline at a scheme that hides.
+//! The headline at a scheme that hides, and what else a STARK asks of it.
 
 use crate::asked::{Question, hold};
 use crate::committable::column;
 use crate::lists::two;
-use crate::matrices::{E, POINTS, element};
+use crate::matrices::{E_COLUMN, OTHER_POINT, POINT, element};
 use crate::openings::cases::are_moved;
+use crate::openings::quotient::{AT_ONE, BATCHES};
 use crate::scheme::SMALL;
 use crate::tested::Tested;
 use p3_challenger::Sha256Challenger;
@@ -17,8 +18,8 @@ use std::process::Abort;
 pub(crate) fn is_column_accepted<P: Tested>(rt: &impl Abort, alloc: Global) -> bool {
     let mut challenger = Sha256Challenger::new();
     let mut scheme = P::of(SMALL);
-    let column = column(rt, alloc, &E, 2);
-    let points = two(rt, alloc, element(POINTS[0]), element(POINTS[1]));
+    let column = column(rt, alloc, &E_COLUMN, 2);
+    let points = two(rt, alloc, element(POINT), element(OTHER_POINT));
     match commit_and_show(&mut scheme, alloc, column, points, &mut challenger) {
         Ok(shown) => {
             P::state_of(&shown.1).is_opened && are_moved(&challenger, &shown.0.challenger)
@@ -27,9 +28,17 @@ pub(crate) fn is_column_accepted<P: Tested>(rt: &impl Abort, alloc: Global) -> b
     }
 }
 
-/// A column, and preprocessing beside a private column.
+/// A column, preprocessing beside a private column, a quotient beside its trace and random
+/// polynomials, these polynomials beside the columns of a STARK, and a periodic column.
+static QUESTIONS: [Question<'static>; 5] = [
+    Question::IsColumnAccepted,
+    Question::AreBothAccepted,
+    Question::Openings(&BATCHES, &[AT_ONE]),
+    Question::AreStarkColumnsOpened,
+    Question::HasPeriodicTable,
+];
+
 #[test]
-fn what_is_opened_is_accepted(rt: HostRuntime) {
-    let questions = [Question::IsColumnAccepted, Question::AreBothAccepted];
-    hold(&rt, rt.alloc(), &questions);
+fn what_a_stark_asks_is_answered(rt: HostRuntime) {
+    hold(&rt, rt.alloc(), &QUESTIONS);
 }

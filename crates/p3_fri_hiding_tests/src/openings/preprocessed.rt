@@ -49,7 +49,7 @@ const UNCHANGED: Asked = Asked {
     ..ACCEPTED
 };
 
-static CHANGES: [Question<'static>; 17] = [
+static CASES: [Question<'static>; 18] = [
     Question::Openings(&BOTH, &[UNCHANGED]),
     Question::Openings(
         &BOTH,
@@ -206,6 +206,8 @@ static CHANGES: [Question<'static>; 17] = [
             ..UNCHANGED
         }],
     ),
+    // what was opened so may be opened again
+    Question::Openings(&ZEROS, &[OF_ZEROS, OF_ZEROS]),
 ];
 
 /// Preprocessing of zeros.
@@ -234,15 +236,7 @@ const OF_ZEROS: Asked = Asked {
     ..ACCEPTED
 };
 
-/// What was opened so may be opened again.
-static TWICE: [Question<'static>; 1] = [Question::Openings(&ZEROS, &[OF_ZEROS, OF_ZEROS])];
-
 #[test]
-fn changed_openings_are_refused(rt: HostRuntime) {
-    hold(&rt, rt.alloc(), &CHANGES);
-}
-
-#[test]
-fn preprocessing_is_opened_twice(rt: HostRuntime) {
-    hold(&rt, rt.alloc(), &TWICE);
+fn openings_of_preprocessing_are_answered(rt: HostRuntime) {
+    hold(&rt, rt.alloc(), &CASES);
 }

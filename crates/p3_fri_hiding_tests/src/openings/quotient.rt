@@ -1,6 +1,5 @@
 //! The words of a quotient's chunks, opened beside a trace and random polynomials.
 
-use crate::asked::{Question, hold};
 use crate::kind::Kind;
 use crate::matrices::{Entries, SHORT_E, SHORT_PI};
 use crate::openings::cases::{ACCEPTED, Asked, Call};
@@ -36,7 +35,7 @@ const TRACE: [Entries; 1] = [Entries {
 }];
 
 /// Random polynomials on the trace's domain, the trace, and the chunks.
-const BATCHES: Batches = Batches {
+pub(crate) const BATCHES: Batches = Batches {
     setting: SMALL,
     is_preprocessed: false,
     each: &[
@@ -59,7 +58,7 @@ const BATCHES: Batches = Batches {
 };
 
 /// They are opened at 1: the trace has its first row there.
-const AT_ONE: Asked = Asked {
+pub(crate) const AT_ONE: Asked = Asked {
     points: &[[1, 0, 0, 0]],
     is_opened: &[true, true, true],
     values: &[[1, 1, 4], [1, 1, 1], [2, 1, 1]],
@@ -73,10 +72,3 @@ const AT_ONE: Asked = Asked {
     call: Call::VerifyWithPreprocessing(None),
     ..ACCEPTED
 };
-
-static QUESTIONS: [Question<'static>; 1] = [Question::Openings(&BATCHES, &[AT_ONE])];
-
-#[test]
-fn a_quotient_is_opened_beside_its_trace_and_random_polynomials(rt: HostRuntime) {
-    hold(&rt, rt.alloc(), &QUESTIONS);
-}

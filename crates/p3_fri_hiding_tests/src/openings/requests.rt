@@ -4,7 +4,7 @@ ghost use Rattle.std.specs.Prelude.{◌<◌};
 
 use crate::commitments::{commit_to, cosets};
 use crate::kind::Kind;
-use crate::matrices::{Entries, points};
+use crate::matrices::{Entries, element};
 use crate::scheme::{Domain, Setting};
 use crate::tested::Tested;
 use p3_challenger::Sha256Challenger;
@@ -82,7 +82,7 @@ pub(crate) fn commit_each<P: Tested>(
     Committed { known, data }
 }
 
-/// For each of so many matrices a list of these points.
+/// For each of so many matrices a list of the points with these coefficients.
 fn points_for(
     rt: &impl Abort,
     alloc: Global,
@@ -91,8 +91,11 @@ fn points_for(
 ) -> Vec<Vec<BabyBear4>> {
     let mut all = Vec::with_capacity(alloc, count).expect(rt, "memory");
     for _index in 0..count {
-        all.push(points(rt, alloc, coefficients))
-            .expect(rt, "memory");
+        let mut points = Vec::with_capacity(alloc, coefficients.len()).expect(rt, "memory");
+        for each in coefficients {
+            points.push(element(*each)).expect(rt, "memory");
+        }
+        all.push(points).expect(rt, "memory");
     }
     all
 }

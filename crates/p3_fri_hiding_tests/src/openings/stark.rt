@@ -5,14 +5,13 @@ ghost use Rattle.std.specs.Prelude.{◌≡◌, ◌≢◌, ◌*◌, ◌^◌, [], 
 ghost use Rattle.p3_fri_hiding.specs.Quotients.{CanExtend};
 ghost use Rattle.p3_fri_hiding_tests.specs.Fits.{Fits};
 
-use crate::asked::{Question, hold};
 use crate::committable::{chunks, column, doubled};
 use crate::lists::one;
-use crate::matrices::{E, PI, element};
+use crate::matrices::{E, E_COLUMN, Entries, PI, PI_COLUMN, element};
 use crate::openings::cases::are_moved;
 use crate::openings::changes::Change;
 use crate::openings::quotient::{CHUNKS, FIRST_CHUNK, SECOND_CHUNK};
-use crate::openings::shapes::{First, are_opened_so};
+use crate::openings::shapes::{Counts, First, are_opened_so};
 use crate::scheme::{Domain, SMALL};
 use crate::tested::Tested;
 use p3_challenger::Sha256Challenger;
@@ -23,6 +22,13 @@ use std::process::Abort;
 
 /// The root of unity of order 32, by which the rows of the trace are apart.
 const GENERATOR: [u64; 4] = [760_005_850, 0, 0, 0];
+
+static QUOTIENT: [Entries; 2] = CHUNKS;
+
+/// How many values are opened, and how many random ones beside the proof.
+static COUNTS: [Counts; 4] = [[1, 2, 1], [1, 2, 1], [2, 1, 1], [1, 1, 4]];
+
+static RANDOM_COUNTS: [Counts; 4] = [[1, 2, 0], [1, 2, 4], [2, 1, 4], [1, 1, 4]];
 
 /// Preprocessing and trace have their first two rows, and the chunks recombine.
 static FIRSTS: [First; 7] = [
@@ -46,9 +52,9 @@ fn stark_columns(rt: &impl Abort, alloc: Global) -> StarkColumns<Domain, BabyBea
     ensures quotient_domains { map (λ d. 2 ^ d.log_size) result.quotient_domains.items
         ≡ map (λ e. 2 * 2 ^ e.0.log_size) result.quotient.items }
 {
-    let preprocessed = one(rt, alloc, column(rt, alloc, &E, 2));
-    let trace = one(rt, alloc, column(rt, alloc, &PI, 2));
-    let quotient = chunks(rt, alloc, &CHUNKS);
+    let preprocessed = one(rt, alloc, column(rt, alloc, &E_COLUMN, 2));
+    let trace = one(rt, alloc, column(rt, alloc, &PI_COLUMN, 2));
+    let quotient = chunks(rt, alloc, &QUOTIENT);
     let quotient_domains = doubled(rt, alloc, &quotient);
     StarkColumns {
         preprocessed,
@@ -75,24 +81,14 @@ pub(crate) fn are_stark_columns_opened<P: Tested>(rt: &impl Abort, alloc: Global
     );
     match answer {
         Ok(mut opened) => {
-            let counts = [[1, 2, 0], [1, 2, 4], [2, 1, 4], [1, 1, 4]];
             let proof = &mut opened.verified.proof;
-            let has_random_values = P::change_random_values(proof, &counts, Change::Nothing);
+            let has_random_values = P::change_random_values(proof, &RANDOM_COUNTS, Change::Nothing);
             let values = &opened.verified.values;
             opened.known.len() == 4
-                && are_opened_so(
-                    values,
-                    &[[1, 2, 1], [1, 2, 1], [2, 1, 1], [1, 1, 4]],
-                    &FIRSTS,
-                )
+                && are_opened_so(values, &COUNTS, &FIRSTS)
                 && has_random_values
                 && are_moved(&challenger, &opened.verified.challenger)
         }
         Err(_) => panic!(rt; "not accepted"),
     }
-}
-
-#[test]
-fn random_polynomials_are_opened_beside_the_columns_of_a_stark(rt: HostRuntime) {
-    hold(&rt, rt.alloc(), &[Question::AreStarkColumnsOpened]);
 }

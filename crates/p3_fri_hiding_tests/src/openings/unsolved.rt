@@ -3,7 +3,8 @@
 ghost use Rattle.std.specs.Prelude.{◌∷◌, []};
 
 use crate::asked::{Question, hold};
-use crate::matrices::{POINTS, points};
+use crate::lists::one;
+use crate::matrices::{POINT, element};
 use p3_field::BabyBear4;
 use p3_fri_folding::{FriProverError, PowPhase};
 use p3_fri_masks::HidingFriProverError;
@@ -15,25 +16,25 @@ use std::alloc::Global;
 use std::process::Abort;
 
 /// Why a matrix that is committed to isn't opened at a point, and what that leaves of its data.
-pub(crate) fn commit_and_open<P: Pcs<BabyBear4, AlwaysOne>>(
+pub(crate) fn commit_and_open<P: Pcs<BabyBear4, AlwaysOne> + Drop>(
     rt: &impl Abort,
-    scheme: &mut P,
+    mut scheme: P,
     alloc: Global,
     evaluation: (P::Domain, RowMajorMatrix<P::Val>),
 ) -> (Option<P::ProverError>, P::ProverData)
-    requires prover { (P.rules scheme.old).InProverRange }
-    requires committable { (P.rules scheme.old).CanCommit (evaluation ∷ []) }
+    requires prover { (P.rules scheme).InProverRange }
+    requires committable { (P.rules scheme).CanCommit (evaluation ∷ []) }
 {
-    let points = points(rt, alloc, &POINTS[..1]);
+    let points = one(rt, alloc, element(POINT));
     let (known, mut held) = match commit_one::<BabyBear4, AlwaysOne, P>(
-        &mut *scheme,
+        &mut scheme,
         alloc,
         evaluation,
     ) {
         Ok(pair) => pair,
         Err(_) => panic!(rt; "the commitment is refused"),
     };
-    match open_one(&*scheme, alloc, known, &mut held, points, &mut AlwaysOne {}) {
+    match open_one(&scheme, alloc, known, &mut held, points, &mut AlwaysOne {}) {
         Ok(answer) => (answer.err(), held),
         Err(_) => panic!(rt; "memory"),
     }

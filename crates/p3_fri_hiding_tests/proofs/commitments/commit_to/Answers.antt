@@ -1,9 +1,14 @@
 use Rattle.std.proofs.Common.{map, sym, subst, ap, ◌∙◌}
 use Rattle.p3_fri_hiding_tests.proofs.commitments.commit_to.Goals as goal
 
-pub commit_chunks-requires : goal.commit_chunks-requires
-commit_chunks-requires g c =
-    (g.met.P.Tested.commits_law _ _ c.requires).chunks _ c.chunks-chunks.ensures
+pub get_quotient_ldes-requires : goal.get_quotient_ldes-requires
+get_quotient_ldes-requires g c =
+    let chunks = c.chunks-chunks.result in
+    let rules = g.P.UnivariateStarkPcs.stark_rules c.args.scheme.now in
+    record {
+      room = subst (λ n. rules.CanExtend chunks.items n) (sym (c.len-count.ensures ∙ chunks.ok.0))
+          ((g.met.P.Tested.commits_law _ _ c.requires).chunks _ c.chunks-chunks.ensures);
+    }
 
 pub get_opt_randomization_poly_commitment-requires :
     goal.get_opt_randomization_poly_commitment-requires

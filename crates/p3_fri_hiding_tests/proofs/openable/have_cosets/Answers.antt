@@ -1,12 +1,23 @@
+use Rattle.std.proofs.Common.{◌≡◌, ◌≤◌, ◌^◌, length, sym, subst, ◌∙◌}
+use Rattle.p3_matrix.specs.Matrix.{rows}
 use Rattle.p3_fri_openings.specs.Rounds.{HasCoset}
+use Rattle.p3_fri_openings.proofs.Log2.{log2_is}
 use Rattle.p3_fri_hiding_tests.proofs.Each.{one_more, to_the_end}
 use Rattle.p3_fri_hiding_tests.proofs.openable.have_cosets.Goals as goal
 
 pub loop-matrix-preserved : goal.loop-matrix-preserved
 loop-matrix-preserved c =
-    one_more (HasCoset 27) c.args.matrices.now c.loop-matrix.matrix-index c.matrix-item.result
+    let matrix = c.matrix-item.result in
+    let k = c.in-Some.coset.log_size in
+    let size : 2 ^ k ≡ length (rows matrix) =
+    sym c.size.ensures ∙ c.if-size-height.false ∙ c.height-height.ensures in
+    one_more (HasCoset 27) c.args.matrices.now c.loop-matrix.matrix-index matrix
     c.loop-matrix-test.true c.matrix-item.is c.loop-matrix.invariant
-    (c.has_coset.ensures c.if-not-has_coset.false)
+    (record {
+      power = (k, sym size);
+      within = subst (λ n. n ≤ 27) (log2_is (length (rows matrix)) k size)
+          c.in-Some.coset.within_two_adicity;
+    })
 
 pub returns : goal.returns
 returns c = λ t.
