@@ -1,10 +1,11 @@
+use Rattle.std.proofs.lemmas.Result.{IfOk-from_err}
 use Rattle.std.proofs.Common.{get_or, map, sym, subst, ap, ◌∙◌}
 use Rattle.std.specs.List.{AllZip}
 use Rattle.fri_statement.specs.Setting.{SchemeFields}
 use Rattle.fri_requests.specs.Committed.{IsCommittedTo, Lists}
 use Rattle.fri_requests.specs.Requests.{AreBatches}
 use Rattle.fri_requests.proofs.Asked.{are_provers}
-use Rattle.fri_requests.proofs.Failed.{unread_part, request_part}
+use Rattle.fri_requests.proofs.Failed.{unread_part, request_part, request_wants}
 use Rattle.fri_requests.proofs.Fits.{fits_as}
 use Rattle.fri_requests.proofs.Opened.{all_keep, are_commitments, refuses_of, refuses_batch}
 use Rattle.fri_requests.proofs.Fields.{fields_of}
@@ -99,3 +100,25 @@ returns-in_err-all-clause-refused g c =
             kept = kept;
           }) c.in_ok-batches.batches.all.items h);
     })
+
+-- where nothing is answered nothing is said of the answer
+pub returns-in_err-batches-clause-committed : goal.returns-in_err-batches-clause-committed
+returns-in_err-batches-clause-committed g c = IfOk-from_err c.from_residual.result _ c.from_residual.ensures.0
+
+pub returns-in_err-batches-clause-well_formed : goal.returns-in_err-batches-clause-well_formed
+returns-in_err-batches-clause-well_formed g c = IfOk-from_err c.from_residual.result _ c.from_residual.ensures.0
+
+pub returns-in_err-all-clause-committed : goal.returns-in_err-all-clause-committed
+returns-in_err-all-clause-committed g c = IfOk-from_err c.from_residual-in_err-all.result _ c.from_residual-in_err-all.ensures.0
+
+pub returns-in_err-all-clause-well_formed : goal.returns-in_err-all-clause-well_formed
+returns-in_err-all-clause-well_formed g c = IfOk-from_err c.from_residual-in_err-all.result _ c.from_residual-in_err-all.ensures.0
+
+pub returns-in_err-commitments_of-clause-committed : goal.returns-in_err-commitments_of-clause-committed
+returns-in_err-commitments_of-clause-committed g c = IfOk-from_err c.from_residual-in_err-commitments_of.result _ c.from_residual-in_err-commitments_of.ensures.0
+
+pub returns-in_err-commitments_of-clause-well_formed : goal.returns-in_err-commitments_of-clause-well_formed
+returns-in_err-commitments_of-clause-well_formed g c = IfOk-from_err c.from_residual-in_err-commitments_of.result _ c.from_residual-in_err-commitments_of.ensures.0
+
+pub returns-in_err-commitments_of-clause-refused : goal.returns-in_err-commitments_of-clause-refused
+returns-in_err-commitments_of-clause-refused g c = request_wants c.from_residual-in_err-commitments_of.result _ _ c.from_residual-in_err-commitments_of.ensures.1

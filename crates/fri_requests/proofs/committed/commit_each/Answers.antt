@@ -1,9 +1,10 @@
+use Rattle.std.proofs.lemmas.Result.{IfOk-from_err}
 use Rattle.std.proofs.Common.{◌++◌, ◌∷◌, [], All, length, append_assoc, ap, sym, ◌∙◌, arith, subst}
 use Rattle.std.specs.List.{AllZip}
 use Rattle.algebra.proofs.Lists.{all_zip-push}
 use Rattle.p3_fri_extensions.proofs.Batches.{in_middle, nothing_left}
 use Rattle.fri_requests.specs.Committed.{KeepsRead}
-use Rattle.fri_requests.proofs.Failed.{request_part}
+use Rattle.fri_requests.proofs.Failed.{request_part, request_wants}
 use Rattle.fri_requests.proofs.Opened.{keeps_on}
 use Rattle.fri_requests.proofs.committed.commit_each.Goals as goal
 
@@ -86,3 +87,19 @@ returns-in_err-commit_batch-clause-refused g c =
       refused = h;
       not_memory = λ never. never;
     })
+
+-- where nothing is answered nothing is said of the answer
+pub returns-in_err-all-clause-committed : goal.returns-in_err-all-clause-committed
+returns-in_err-all-clause-committed g c = IfOk-from_err c.from_residual.result _ c.from_residual.ensures.0
+
+pub returns-in_err-all-clause-refused : goal.returns-in_err-all-clause-refused
+returns-in_err-all-clause-refused g c = request_wants c.from_residual.result _ _ c.from_residual.ensures.1
+
+pub returns-in_err-commit_batch-clause-committed : goal.returns-in_err-commit_batch-clause-committed
+returns-in_err-commit_batch-clause-committed g c = IfOk-from_err c.from_residual-in_err-commit_batch.result _ c.from_residual-in_err-commit_batch.ensures.0
+
+pub returns-in_err-push-clause-committed : goal.returns-in_err-push-clause-committed
+returns-in_err-push-clause-committed g c = IfOk-from_err c.from_residual-in_err-push.result _ c.from_residual-in_err-push.ensures.0
+
+pub returns-in_err-push-clause-refused : goal.returns-in_err-push-clause-refused
+returns-in_err-push-clause-refused g c = request_wants c.from_residual-in_err-push.result _ _ c.from_residual-in_err-push.ensures.1

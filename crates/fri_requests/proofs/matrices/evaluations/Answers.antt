@@ -1,3 +1,4 @@
+use Rattle.std.proofs.lemmas.Result.{IfOk-from_err}
 use Rattle.std.proofs.Common.{◌*◌, ◌^◌, ◌<◌, All, map, arith, subst, sym, ap, ap₂, ◌∙◌}
 use Rattle.p3_matrix.specs.Rows.{rows_of}
 use Rattle.fri_requests.specs.Committed.{domain_by}
@@ -43,3 +44,22 @@ returns-clause-well_formed g c =
       elements = subst (λ ns. All (λ n. n < g.F.PrimeField64.ORDER_U64) ns) (c.in_ok-values.ensures.numbers ∙ c.deref.ensures.value)
           (every_is_element g.F.Field.ops g.F.PrimeField64.ORDER_U64 g.F.PrimeField64.canonical (numbered g) c.in_ok-values.values.items);
     }
+
+-- where nothing is answered nothing is said of the answer
+pub returns-in_err-domain-clause-fits : goal.returns-in_err-domain-clause-fits
+returns-in_err-domain-clause-fits g c = IfOk-from_err c.from_residual.result _ c.from_residual.ensures.0
+
+pub returns-in_err-domain-clause-listed : goal.returns-in_err-domain-clause-listed
+returns-in_err-domain-clause-listed g c = IfOk-from_err c.from_residual.result _ c.from_residual.ensures.0
+
+pub returns-in_err-domain-clause-well_formed : goal.returns-in_err-domain-clause-well_formed
+returns-in_err-domain-clause-well_formed g c = IfOk-from_err c.from_residual.result _ c.from_residual.ensures.0
+
+pub returns-in_err-values-clause-fits : goal.returns-in_err-values-clause-fits
+returns-in_err-values-clause-fits g c = IfOk-from_err c.from_residual-in_err-values.result _ c.from_residual-in_err-values.ensures.0
+
+pub returns-in_err-values-clause-listed : goal.returns-in_err-values-clause-listed
+returns-in_err-values-clause-listed g c = IfOk-from_err c.from_residual-in_err-values.result _ c.from_residual-in_err-values.ensures.0
+
+pub returns-in_err-values-clause-well_formed : goal.returns-in_err-values-clause-well_formed
+returns-in_err-values-clause-well_formed g c = IfOk-from_err c.from_residual-in_err-values.result _ c.from_residual-in_err-values.ensures.0

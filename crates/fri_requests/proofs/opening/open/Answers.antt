@@ -1,3 +1,4 @@
+use Rattle.std.proofs.lemmas.Result.{IfOk-from_err}
 use Rattle.std.proofs.Common.{All, map, sym, subst, ap, ◌∙◌, inl, inr}
 use Rattle.std.specs.Prelude.{string_bytes}
 use Rattle.std.specs.List.{AllZip}
@@ -14,7 +15,7 @@ use Rattle.fri_requests.specs.Openings.{IsOpenedBy, requests_for}
 use Rattle.fri_requests.specs.Requests.{points_listed}
 use Rattle.fri_requests.proofs.Answered.{accepted_by}
 use Rattle.fri_requests.proofs.Asked.{are_provers, points_again}
-use Rattle.fri_requests.proofs.Failed.{request_part}
+use Rattle.fri_requests.proofs.Failed.{request_part, request_wants}
 use Rattle.fri_requests.proofs.Listed.{HaveNumbers, is_coset, are_claims}
 use Rattle.fri_requests.proofs.Opened.{count_same, can_open, honest, roots, fits, opened_each, stated_all, refuses_batch_of}
 use Rattle.fri_requests.proofs.Fields.{fields_of}
@@ -217,3 +218,58 @@ returns-in_err-claims-clause-refused g c =
         not_memory = h.1;
       });
     })
+
+-- where nothing is answered nothing is said of the answer
+pub returns-in_err-prepared-clause-accepted : goal.returns-in_err-prepared-clause-accepted
+returns-in_err-prepared-clause-accepted g c = IfOk-from_err c.from_residual.result _ c.from_residual.ensures.0
+
+pub returns-in_err-prepared-clause-opened : goal.returns-in_err-prepared-clause-opened
+returns-in_err-prepared-clause-opened g c = IfOk-from_err c.from_residual.result _ c.from_residual.ensures.0
+
+pub returns-in_err-prepared-clause-named : goal.returns-in_err-prepared-clause-named
+returns-in_err-prepared-clause-named g c = IfOk-from_err c.from_residual.result _ c.from_residual.ensures.0
+
+pub returns-in_err-prepared-clause-well_formed : goal.returns-in_err-prepared-clause-well_formed
+returns-in_err-prepared-clause-well_formed g c = IfOk-from_err c.from_residual.result _ c.from_residual.ensures.0
+
+pub returns-in_err-claims-clause-accepted : goal.returns-in_err-claims-clause-accepted
+returns-in_err-claims-clause-accepted g c = IfOk-from_err c.from_residual-in_err-claims.result _ c.from_residual-in_err-claims.ensures.0
+
+pub returns-in_err-claims-clause-opened : goal.returns-in_err-claims-clause-opened
+returns-in_err-claims-clause-opened g c = IfOk-from_err c.from_residual-in_err-claims.result _ c.from_residual-in_err-claims.ensures.0
+
+pub returns-in_err-claims-clause-named : goal.returns-in_err-claims-clause-named
+returns-in_err-claims-clause-named g c = IfOk-from_err c.from_residual-in_err-claims.result _ c.from_residual-in_err-claims.ensures.0
+
+pub returns-in_err-claims-clause-well_formed : goal.returns-in_err-claims-clause-well_formed
+returns-in_err-claims-clause-well_formed g c = IfOk-from_err c.from_residual-in_err-claims.result _ c.from_residual-in_err-claims.ensures.0
+
+pub returns-in_err-claims_out-clause-accepted : goal.returns-in_err-claims_out-clause-accepted
+returns-in_err-claims_out-clause-accepted g c = IfOk-from_err c.from_residual-in_err-claims_out.result _ c.from_residual-in_err-claims_out.ensures.0
+
+pub returns-in_err-claims_out-clause-opened : goal.returns-in_err-claims_out-clause-opened
+returns-in_err-claims_out-clause-opened g c = IfOk-from_err c.from_residual-in_err-claims_out.result _ c.from_residual-in_err-claims_out.ensures.0
+
+pub returns-in_err-claims_out-clause-named : goal.returns-in_err-claims_out-clause-named
+returns-in_err-claims_out-clause-named g c = IfOk-from_err c.from_residual-in_err-claims_out.result _ c.from_residual-in_err-claims_out.ensures.0
+
+pub returns-in_err-claims_out-clause-well_formed : goal.returns-in_err-claims_out-clause-well_formed
+returns-in_err-claims_out-clause-well_formed g c = IfOk-from_err c.from_residual-in_err-claims_out.result _ c.from_residual-in_err-claims_out.ensures.0
+
+pub returns-in_err-claims_out-clause-refused : goal.returns-in_err-claims_out-clause-refused
+returns-in_err-claims_out-clause-refused g c = request_wants c.from_residual-in_err-claims_out.result _ _ c.from_residual-in_err-claims_out.ensures.1
+
+pub returns-in_err-next_drawn-clause-accepted : goal.returns-in_err-next_drawn-clause-accepted
+returns-in_err-next_drawn-clause-accepted g c = IfOk-from_err c.from_residual-in_err-next_drawn.result _ c.from_residual-in_err-next_drawn.ensures.0
+
+pub returns-in_err-next_drawn-clause-opened : goal.returns-in_err-next_drawn-clause-opened
+returns-in_err-next_drawn-clause-opened g c = IfOk-from_err c.from_residual-in_err-next_drawn.result _ c.from_residual-in_err-next_drawn.ensures.0
+
+pub returns-in_err-next_drawn-clause-named : goal.returns-in_err-next_drawn-clause-named
+returns-in_err-next_drawn-clause-named g c = IfOk-from_err c.from_residual-in_err-next_drawn.result _ c.from_residual-in_err-next_drawn.ensures.0
+
+pub returns-in_err-next_drawn-clause-well_formed : goal.returns-in_err-next_drawn-clause-well_formed
+returns-in_err-next_drawn-clause-well_formed g c = IfOk-from_err c.from_residual-in_err-next_drawn.result _ c.from_residual-in_err-next_drawn.ensures.0
+
+pub returns-in_err-next_drawn-clause-refused : goal.returns-in_err-next_drawn-clause-refused
+returns-in_err-next_drawn-clause-refused g c = request_wants c.from_residual-in_err-next_drawn.result _ _ c.from_residual-in_err-next_drawn.ensures.1

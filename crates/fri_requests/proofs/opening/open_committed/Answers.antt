@@ -1,9 +1,10 @@
+use Rattle.std.proofs.lemmas.Result.{IfOk-from_err}
 use Rattle.std.proofs.Common.{map, sym, subst, ap, ◌∙◌}
 use Rattle.std.proofs.lemmas.Result.{IfOk-weaker, IfErr-weaker}
 use Rattle.algebra.proofs.Lists.{map-map}
 use Rattle.p3_pcs.specs.Requests.{request}
 use Rattle.p3_pcs.specs.Scheme.{AreHonestIn, FitRequests, claims_asked}
-use Rattle.fri_requests.proofs.Failed.{request_weaker}
+use Rattle.fri_requests.proofs.Failed.{request_weaker, request_wants}
 use Rattle.fri_requests.proofs.opening.open_committed.Goals as goal
 
 pub open_requests-requires-clause-shape : goal.open_requests-requires-clause-shape
@@ -49,3 +50,16 @@ returns-clause-refused g c =
     (request_weaker _ _ _ _ (λ never. never)
     (λ e h. (subst (λ qs. (g.P.Pcs.rules c.args.scheme.now).Refuses c.args.preprocessing c.args.challenger.now qs e) is h.0, h.1)))
     c.open_requests.ensures.refused
+
+-- where nothing is answered nothing is said of the answer
+pub returns-in_err-requests-clause-claims : goal.returns-in_err-requests-clause-claims
+returns-in_err-requests-clause-claims g c = IfOk-from_err c.from_residual.result _ c.from_residual.ensures.0
+
+pub returns-in_err-requests-clause-accepted : goal.returns-in_err-requests-clause-accepted
+returns-in_err-requests-clause-accepted g c = IfOk-from_err c.from_residual.result _ c.from_residual.ensures.0
+
+pub returns-in_err-requests-clause-state : goal.returns-in_err-requests-clause-state
+returns-in_err-requests-clause-state g c = IfOk-from_err c.from_residual.result _ c.from_residual.ensures.0
+
+pub returns-in_err-requests-clause-refused : goal.returns-in_err-requests-clause-refused
+returns-in_err-requests-clause-refused g c = request_wants c.from_residual.result _ _ c.from_residual.ensures.1

@@ -1,7 +1,8 @@
+use Rattle.std.proofs.lemmas.Result.{IfOk-from_err}
 use Rattle.std.proofs.Common.{◌≡◌, map, refl, sym, subst, inl, inr}
 use Rattle.p3_pcs.specs.Requests.{request}
 use Rattle.p3_pcs.proofs.Honest.{claims_honest}
-use Rattle.fri_requests.proofs.Failed.{request_weaker}
+use Rattle.fri_requests.proofs.Failed.{request_weaker, request_wants}
 use Rattle.fri_requests.proofs.opening.open_requests.Goals as goal
 
 pub returns-clause-claims : goal.returns-clause-claims
@@ -58,3 +59,16 @@ returns-in-Err-clause-lent g c = λ cases.
       | inl passes ↦ inl (c.in-Err.ensures.opened passes)
       | inr leaves ↦ inr (c.in-Err.ensures.untouched leaves)
     ]
+
+-- where nothing is answered nothing is said of the answer
+pub returns-in_err-claims-clause-claims : goal.returns-in_err-claims-clause-claims
+returns-in_err-claims-clause-claims g c = λ _ _. IfOk-from_err c.from_residual.result _ c.from_residual.ensures.0
+
+pub returns-in_err-claims-clause-accepted : goal.returns-in_err-claims-clause-accepted
+returns-in_err-claims-clause-accepted g c = λ _ _ _. IfOk-from_err c.from_residual.result _ c.from_residual.ensures.0
+
+pub returns-in_err-claims-clause-state : goal.returns-in_err-claims-clause-state
+returns-in_err-claims-clause-state g c = λ _ _ _. IfOk-from_err c.from_residual.result _ c.from_residual.ensures.0
+
+pub returns-in_err-claims-clause-refused : goal.returns-in_err-claims-clause-refused
+returns-in_err-claims-clause-refused g c = request_wants c.from_residual.result _ _ c.from_residual.ensures.1

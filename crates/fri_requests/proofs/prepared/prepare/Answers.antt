@@ -1,3 +1,4 @@
+use Rattle.std.proofs.lemmas.Result.{IfOk-from_err}
 use Rattle.std.proofs.Common.{get_or, map, refl, sym, subst, ap, ap₂, ◌∙◌}
 use Rattle.std.specs.List.{AllZip}
 use Rattle.algebra.specs.Nested.{lists, nested}
@@ -10,7 +11,7 @@ use Rattle.fri_requests.specs.Committed.{domain_of, domain_committed, Lists}
 use Rattle.fri_requests.specs.Numbers.{extension_numbers}
 use Rattle.fri_requests.specs.Requests.{CanOpen}
 use Rattle.fri_requests.proofs.Bound.{request_state}
-use Rattle.fri_requests.proofs.Failed.{unread_part, request_part}
+use Rattle.fri_requests.proofs.Failed.{unread_part, request_part, request_wants}
 use Rattle.fri_requests.proofs.Fits.{fits_as}
 use Rattle.fri_requests.proofs.Opened.{all_keep, domains_known, refuses_batch}
 use Rattle.fri_requests.proofs.Fields.{fields_of}
@@ -113,3 +114,142 @@ returns-in_err-committed-clause-refused g c =
           (subst (λ h. AllZip (Lists (fields g) h (λ d. d.shift) (λ d. d.log_size)) c.in_ok-asked.asked.batches.all.items
           c.args.request.now.commitments.items) c.ZK-hides.ensures c.in_ok-asked.ensures.read.listed) h,
     ))
+
+-- where nothing is answered nothing is said of the answer
+pub returns-in_err-asked-clause-keeps : goal.returns-in_err-asked-clause-keeps
+returns-in_err-asked-clause-keeps g c = IfOk-from_err c.from_residual.result _ c.from_residual.ensures.0
+
+pub returns-in_err-asked-clause-commitments : goal.returns-in_err-asked-clause-commitments
+returns-in_err-asked-clause-commitments g c = IfOk-from_err c.from_residual.result _ c.from_residual.ensures.0
+
+pub returns-in_err-asked-clause-domains : goal.returns-in_err-asked-clause-domains
+returns-in_err-asked-clause-domains g c = IfOk-from_err c.from_residual.result _ c.from_residual.ensures.0
+
+pub returns-in_err-asked-clause-points : goal.returns-in_err-asked-clause-points
+returns-in_err-asked-clause-points g c = IfOk-from_err c.from_residual.result _ c.from_residual.ensures.0
+
+pub returns-in_err-asked-clause-named : goal.returns-in_err-asked-clause-named
+returns-in_err-asked-clause-named g c = IfOk-from_err c.from_residual.result _ c.from_residual.ensures.0
+
+pub returns-in_err-asked-clause-state : goal.returns-in_err-asked-clause-state
+returns-in_err-asked-clause-state g c = IfOk-from_err c.from_residual.result _ c.from_residual.ensures.0
+
+pub returns-in_err-asked-clause-well_formed : goal.returns-in_err-asked-clause-well_formed
+returns-in_err-asked-clause-well_formed g c = IfOk-from_err c.from_residual.result _ c.from_residual.ensures.0
+
+pub returns-in_err-committed-clause-keeps : goal.returns-in_err-committed-clause-keeps
+returns-in_err-committed-clause-keeps g c = IfOk-from_err c.from_residual-in_err-committed.result _ c.from_residual-in_err-committed.ensures.0
+
+pub returns-in_err-committed-clause-commitments : goal.returns-in_err-committed-clause-commitments
+returns-in_err-committed-clause-commitments g c = IfOk-from_err c.from_residual-in_err-committed.result _ c.from_residual-in_err-committed.ensures.0
+
+pub returns-in_err-committed-clause-domains : goal.returns-in_err-committed-clause-domains
+returns-in_err-committed-clause-domains g c = IfOk-from_err c.from_residual-in_err-committed.result _ c.from_residual-in_err-committed.ensures.0
+
+pub returns-in_err-committed-clause-points : goal.returns-in_err-committed-clause-points
+returns-in_err-committed-clause-points g c = IfOk-from_err c.from_residual-in_err-committed.result _ c.from_residual-in_err-committed.ensures.0
+
+pub returns-in_err-committed-clause-named : goal.returns-in_err-committed-clause-named
+returns-in_err-committed-clause-named g c = IfOk-from_err c.from_residual-in_err-committed.result _ c.from_residual-in_err-committed.ensures.0
+
+pub returns-in_err-committed-clause-state : goal.returns-in_err-committed-clause-state
+returns-in_err-committed-clause-state g c = IfOk-from_err c.from_residual-in_err-committed.result _ c.from_residual-in_err-committed.ensures.0
+
+pub returns-in_err-committed-clause-well_formed : goal.returns-in_err-committed-clause-well_formed
+returns-in_err-committed-clause-well_formed g c = IfOk-from_err c.from_residual-in_err-committed.result _ c.from_residual-in_err-committed.ensures.0
+
+pub returns-in_err-known-clause-keeps : goal.returns-in_err-known-clause-keeps
+returns-in_err-known-clause-keeps g c = IfOk-from_err c.from_residual-in_err-known.result _ c.from_residual-in_err-known.ensures.0
+
+pub returns-in_err-known-clause-commitments : goal.returns-in_err-known-clause-commitments
+returns-in_err-known-clause-commitments g c = IfOk-from_err c.from_residual-in_err-known.result _ c.from_residual-in_err-known.ensures.0
+
+pub returns-in_err-known-clause-domains : goal.returns-in_err-known-clause-domains
+returns-in_err-known-clause-domains g c = IfOk-from_err c.from_residual-in_err-known.result _ c.from_residual-in_err-known.ensures.0
+
+pub returns-in_err-known-clause-points : goal.returns-in_err-known-clause-points
+returns-in_err-known-clause-points g c = IfOk-from_err c.from_residual-in_err-known.result _ c.from_residual-in_err-known.ensures.0
+
+pub returns-in_err-known-clause-named : goal.returns-in_err-known-clause-named
+returns-in_err-known-clause-named g c = IfOk-from_err c.from_residual-in_err-known.result _ c.from_residual-in_err-known.ensures.0
+
+pub returns-in_err-known-clause-state : goal.returns-in_err-known-clause-state
+returns-in_err-known-clause-state g c = IfOk-from_err c.from_residual-in_err-known.result _ c.from_residual-in_err-known.ensures.0
+
+pub returns-in_err-known-clause-well_formed : goal.returns-in_err-known-clause-well_formed
+returns-in_err-known-clause-well_formed g c = IfOk-from_err c.from_residual-in_err-known.result _ c.from_residual-in_err-known.ensures.0
+
+pub returns-in_err-known-clause-refused : goal.returns-in_err-known-clause-refused
+returns-in_err-known-clause-refused g c = request_wants c.from_residual-in_err-known.result _ _ c.from_residual-in_err-known.ensures.1
+
+pub returns-in_err-stated-clause-keeps : goal.returns-in_err-stated-clause-keeps
+returns-in_err-stated-clause-keeps g c = IfOk-from_err c.from_residual-in_err-stated.result _ c.from_residual-in_err-stated.ensures.0
+
+pub returns-in_err-stated-clause-commitments : goal.returns-in_err-stated-clause-commitments
+returns-in_err-stated-clause-commitments g c = IfOk-from_err c.from_residual-in_err-stated.result _ c.from_residual-in_err-stated.ensures.0
+
+pub returns-in_err-stated-clause-domains : goal.returns-in_err-stated-clause-domains
+returns-in_err-stated-clause-domains g c = IfOk-from_err c.from_residual-in_err-stated.result _ c.from_residual-in_err-stated.ensures.0
+
+pub returns-in_err-stated-clause-points : goal.returns-in_err-stated-clause-points
+returns-in_err-stated-clause-points g c = IfOk-from_err c.from_residual-in_err-stated.result _ c.from_residual-in_err-stated.ensures.0
+
+pub returns-in_err-stated-clause-named : goal.returns-in_err-stated-clause-named
+returns-in_err-stated-clause-named g c = IfOk-from_err c.from_residual-in_err-stated.result _ c.from_residual-in_err-stated.ensures.0
+
+pub returns-in_err-stated-clause-state : goal.returns-in_err-stated-clause-state
+returns-in_err-stated-clause-state g c = IfOk-from_err c.from_residual-in_err-stated.result _ c.from_residual-in_err-stated.ensures.0
+
+pub returns-in_err-stated-clause-well_formed : goal.returns-in_err-stated-clause-well_formed
+returns-in_err-stated-clause-well_formed g c = IfOk-from_err c.from_residual-in_err-stated.result _ c.from_residual-in_err-stated.ensures.0
+
+pub returns-in_err-stated-clause-refused : goal.returns-in_err-stated-clause-refused
+returns-in_err-stated-clause-refused g c = request_wants c.from_residual-in_err-stated.result _ _ c.from_residual-in_err-stated.ensures.1
+
+pub returns-in_err-begun-clause-keeps : goal.returns-in_err-begun-clause-keeps
+returns-in_err-begun-clause-keeps g c = IfOk-from_err c.from_residual-in_err-begun.result _ c.from_residual-in_err-begun.ensures.0
+
+pub returns-in_err-begun-clause-commitments : goal.returns-in_err-begun-clause-commitments
+returns-in_err-begun-clause-commitments g c = IfOk-from_err c.from_residual-in_err-begun.result _ c.from_residual-in_err-begun.ensures.0
+
+pub returns-in_err-begun-clause-domains : goal.returns-in_err-begun-clause-domains
+returns-in_err-begun-clause-domains g c = IfOk-from_err c.from_residual-in_err-begun.result _ c.from_residual-in_err-begun.ensures.0
+
+pub returns-in_err-begun-clause-points : goal.returns-in_err-begun-clause-points
+returns-in_err-begun-clause-points g c = IfOk-from_err c.from_residual-in_err-begun.result _ c.from_residual-in_err-begun.ensures.0
+
+pub returns-in_err-begun-clause-named : goal.returns-in_err-begun-clause-named
+returns-in_err-begun-clause-named g c = IfOk-from_err c.from_residual-in_err-begun.result _ c.from_residual-in_err-begun.ensures.0
+
+pub returns-in_err-begun-clause-state : goal.returns-in_err-begun-clause-state
+returns-in_err-begun-clause-state g c = IfOk-from_err c.from_residual-in_err-begun.result _ c.from_residual-in_err-begun.ensures.0
+
+pub returns-in_err-begun-clause-well_formed : goal.returns-in_err-begun-clause-well_formed
+returns-in_err-begun-clause-well_formed g c = IfOk-from_err c.from_residual-in_err-begun.result _ c.from_residual-in_err-begun.ensures.0
+
+pub returns-in_err-begun-clause-refused : goal.returns-in_err-begun-clause-refused
+returns-in_err-begun-clause-refused g c = request_wants c.from_residual-in_err-begun.result _ _ c.from_residual-in_err-begun.ensures.1
+
+pub returns-in_err-challenger-clause-keeps : goal.returns-in_err-challenger-clause-keeps
+returns-in_err-challenger-clause-keeps g c = IfOk-from_err c.from_residual-in_err-challenger.result _ c.from_residual-in_err-challenger.ensures.0
+
+pub returns-in_err-challenger-clause-commitments : goal.returns-in_err-challenger-clause-commitments
+returns-in_err-challenger-clause-commitments g c = IfOk-from_err c.from_residual-in_err-challenger.result _ c.from_residual-in_err-challenger.ensures.0
+
+pub returns-in_err-challenger-clause-domains : goal.returns-in_err-challenger-clause-domains
+returns-in_err-challenger-clause-domains g c = IfOk-from_err c.from_residual-in_err-challenger.result _ c.from_residual-in_err-challenger.ensures.0
+
+pub returns-in_err-challenger-clause-points : goal.returns-in_err-challenger-clause-points
+returns-in_err-challenger-clause-points g c = IfOk-from_err c.from_residual-in_err-challenger.result _ c.from_residual-in_err-challenger.ensures.0
+
+pub returns-in_err-challenger-clause-named : goal.returns-in_err-challenger-clause-named
+returns-in_err-challenger-clause-named g c = IfOk-from_err c.from_residual-in_err-challenger.result _ c.from_residual-in_err-challenger.ensures.0
+
+pub returns-in_err-challenger-clause-state : goal.returns-in_err-challenger-clause-state
+returns-in_err-challenger-clause-state g c = IfOk-from_err c.from_residual-in_err-challenger.result _ c.from_residual-in_err-challenger.ensures.0
+
+pub returns-in_err-challenger-clause-well_formed : goal.returns-in_err-challenger-clause-well_formed
+returns-in_err-challenger-clause-well_formed g c = IfOk-from_err c.from_residual-in_err-challenger.result _ c.from_residual-in_err-challenger.ensures.0
+
+pub returns-in_err-challenger-clause-refused : goal.returns-in_err-challenger-clause-refused
+returns-in_err-challenger-clause-refused g c = request_wants c.from_residual-in_err-challenger.result _ _ c.from_residual-in_err-challenger.ensures.1

@@ -1,3 +1,4 @@
+use Rattle.std.proofs.lemmas.Result.{IfOk-from_err}
 use Rattle.std.proofs.Common.{◌≡◌, ◌^◌, List, map, All, Ok, refl, sym, subst, ap, ◌∙◌, false}
 use Rattle.std.specs.List.{AllZip}
 use Rattle.algebra.specs.Nested.{nested}
@@ -23,7 +24,7 @@ use Rattle.fri_requests.specs.Keeping.{IsKept, HasCommitted, AskFor, CanAsk, bat
 use Rattle.fri_requests.specs.Openings.{IsOpened, requests_for}
 use Rattle.fri_requests.specs.Requests.{sha256_opening, points_listed}
 use Rattle.fri_requests.proofs.Asked.{have_points, points_again}
-use Rattle.fri_requests.proofs.Failed.{no_truth, request_part}
+use Rattle.fri_requests.proofs.Failed.{no_truth, request_part, request_wants}
 use Rattle.fri_requests.proofs.Fields.{fields_of}
 use Rattle.fri_requests.proofs.Listed.{HaveNumbers, is_coset, are_claims, claims_again}
 use Rattle.fri_requests.proofs.Reopened.{domains_kept, widths_kept, honest_at, roots_at, fits_at, opened_at}
@@ -244,3 +245,73 @@ returns-in_err-claims-clause-refused g c = λ batches kept.
 pub returns-clause-commitments : goal.returns-clause-commitments
 returns-clause-commitments g c =
     λ batches kept. commitments g (goal.at.returns-clause-commitments g c).In_ok-next_drawn batches kept
+
+-- where nothing is answered nothing is said of the answer
+pub returns-in_err-known-clause-accepted : goal.returns-in_err-known-clause-accepted
+returns-in_err-known-clause-accepted g c = λ _ _. IfOk-from_err c.from_residual.result _ c.from_residual.ensures.0
+
+pub returns-in_err-known-clause-opened : goal.returns-in_err-known-clause-opened
+returns-in_err-known-clause-opened g c = λ _ _. IfOk-from_err c.from_residual.result _ c.from_residual.ensures.0
+
+pub returns-in_err-known-clause-well_formed : goal.returns-in_err-known-clause-well_formed
+returns-in_err-known-clause-well_formed g c = λ _ _. IfOk-from_err c.from_residual.result _ c.from_residual.ensures.0
+
+pub returns-in_err-known-clause-commitments : goal.returns-in_err-known-clause-commitments
+returns-in_err-known-clause-commitments g c = λ _ _. IfOk-from_err c.from_residual.result _ c.from_residual.ensures.0
+
+pub returns-in_err-known-clause-refused : goal.returns-in_err-known-clause-refused
+returns-in_err-known-clause-refused g c = λ _ _. request_wants c.from_residual.result _ _ c.from_residual.ensures.1
+
+pub returns-in_err-points-clause-accepted : goal.returns-in_err-points-clause-accepted
+returns-in_err-points-clause-accepted g c = λ _ _. IfOk-from_err c.from_residual-in_err-points.result _ c.from_residual-in_err-points.ensures.0
+
+pub returns-in_err-points-clause-opened : goal.returns-in_err-points-clause-opened
+returns-in_err-points-clause-opened g c = λ _ _. IfOk-from_err c.from_residual-in_err-points.result _ c.from_residual-in_err-points.ensures.0
+
+pub returns-in_err-points-clause-well_formed : goal.returns-in_err-points-clause-well_formed
+returns-in_err-points-clause-well_formed g c = λ _ _. IfOk-from_err c.from_residual-in_err-points.result _ c.from_residual-in_err-points.ensures.0
+
+pub returns-in_err-points-clause-commitments : goal.returns-in_err-points-clause-commitments
+returns-in_err-points-clause-commitments g c = λ _ _. IfOk-from_err c.from_residual-in_err-points.result _ c.from_residual-in_err-points.ensures.0
+
+pub returns-in_err-claims-clause-accepted : goal.returns-in_err-claims-clause-accepted
+returns-in_err-claims-clause-accepted g c = λ _ _. IfOk-from_err c.from_residual-in_err-claims.result _ c.from_residual-in_err-claims.ensures.0
+
+pub returns-in_err-claims-clause-opened : goal.returns-in_err-claims-clause-opened
+returns-in_err-claims-clause-opened g c = λ _ _. IfOk-from_err c.from_residual-in_err-claims.result _ c.from_residual-in_err-claims.ensures.0
+
+pub returns-in_err-claims-clause-well_formed : goal.returns-in_err-claims-clause-well_formed
+returns-in_err-claims-clause-well_formed g c = λ _ _. IfOk-from_err c.from_residual-in_err-claims.result _ c.from_residual-in_err-claims.ensures.0
+
+pub returns-in_err-claims-clause-commitments : goal.returns-in_err-claims-clause-commitments
+returns-in_err-claims-clause-commitments g c = λ _ _. IfOk-from_err c.from_residual-in_err-claims.result _ c.from_residual-in_err-claims.ensures.0
+
+pub returns-in_err-claims_out-clause-accepted : goal.returns-in_err-claims_out-clause-accepted
+returns-in_err-claims_out-clause-accepted g c = λ _ _. IfOk-from_err c.from_residual-in_err-claims_out.result _ c.from_residual-in_err-claims_out.ensures.0
+
+pub returns-in_err-claims_out-clause-opened : goal.returns-in_err-claims_out-clause-opened
+returns-in_err-claims_out-clause-opened g c = λ _ _. IfOk-from_err c.from_residual-in_err-claims_out.result _ c.from_residual-in_err-claims_out.ensures.0
+
+pub returns-in_err-claims_out-clause-well_formed : goal.returns-in_err-claims_out-clause-well_formed
+returns-in_err-claims_out-clause-well_formed g c = λ _ _. IfOk-from_err c.from_residual-in_err-claims_out.result _ c.from_residual-in_err-claims_out.ensures.0
+
+pub returns-in_err-claims_out-clause-commitments : goal.returns-in_err-claims_out-clause-commitments
+returns-in_err-claims_out-clause-commitments g c = λ _ _. IfOk-from_err c.from_residual-in_err-claims_out.result _ c.from_residual-in_err-claims_out.ensures.0
+
+pub returns-in_err-claims_out-clause-refused : goal.returns-in_err-claims_out-clause-refused
+returns-in_err-claims_out-clause-refused g c = λ _ _. request_wants c.from_residual-in_err-claims_out.result _ _ c.from_residual-in_err-claims_out.ensures.1
+
+pub returns-in_err-next_drawn-clause-accepted : goal.returns-in_err-next_drawn-clause-accepted
+returns-in_err-next_drawn-clause-accepted g c = λ _ _. IfOk-from_err c.from_residual-in_err-next_drawn.result _ c.from_residual-in_err-next_drawn.ensures.0
+
+pub returns-in_err-next_drawn-clause-opened : goal.returns-in_err-next_drawn-clause-opened
+returns-in_err-next_drawn-clause-opened g c = λ _ _. IfOk-from_err c.from_residual-in_err-next_drawn.result _ c.from_residual-in_err-next_drawn.ensures.0
+
+pub returns-in_err-next_drawn-clause-well_formed : goal.returns-in_err-next_drawn-clause-well_formed
+returns-in_err-next_drawn-clause-well_formed g c = λ _ _. IfOk-from_err c.from_residual-in_err-next_drawn.result _ c.from_residual-in_err-next_drawn.ensures.0
+
+pub returns-in_err-next_drawn-clause-commitments : goal.returns-in_err-next_drawn-clause-commitments
+returns-in_err-next_drawn-clause-commitments g c = λ _ _. IfOk-from_err c.from_residual-in_err-next_drawn.result _ c.from_residual-in_err-next_drawn.ensures.0
+
+pub returns-in_err-next_drawn-clause-refused : goal.returns-in_err-next_drawn-clause-refused
+returns-in_err-next_drawn-clause-refused g c = λ _ _. request_wants c.from_residual-in_err-next_drawn.result _ _ c.from_residual-in_err-next_drawn.ensures.1

@@ -1,3 +1,4 @@
+use Rattle.std.proofs.lemmas.Result.{IfOk-from_err}
 use Rattle.std.proofs.Common.{◌≡◌, ◌^◌, All, length, map, sym, subst, ap, ap₂, ◌∙◌}
 use Rattle.std.proofs.lemmas.Result.{IfOk-weaker, IfErr-weaker}
 use Rattle.algebra.specs.Nested.{nested}
@@ -12,7 +13,7 @@ use Rattle.fri_statement.specs.Setting.{SchemeFields}
 use Rattle.fri_requests.specs.Lent.{taken_from}
 use Rattle.fri_requests.specs.Openings.{requests_for}
 use Rattle.fri_requests.specs.Requests.{sha256_opening}
-use Rattle.fri_requests.proofs.Failed.{request_weaker}
+use Rattle.fri_requests.proofs.Failed.{request_weaker, request_wants}
 use Rattle.fri_requests.proofs.Fields.{fields_of}
 use Rattle.fri_requests.proofs.Swaps.{taken_back, requests_lent}
 use Rattle.fri_requests.proofs.prover.open_kept.Given.{Over}
@@ -86,3 +87,28 @@ returns-clause-refused g c =
       h.1,
     )))
     c.open_lent-opened.ensures.refused
+
+-- where nothing is answered nothing is said of the answer
+pub returns-in_err-spares-clause-claims : goal.returns-in_err-spares-clause-claims
+returns-in_err-spares-clause-claims g c = λ _ _. IfOk-from_err c.from_residual.result _ c.from_residual.ensures.0
+
+pub returns-in_err-spares-clause-accepted : goal.returns-in_err-spares-clause-accepted
+returns-in_err-spares-clause-accepted g c = λ _ _ _. IfOk-from_err c.from_residual.result _ c.from_residual.ensures.0
+
+pub returns-in_err-spares-clause-state : goal.returns-in_err-spares-clause-state
+returns-in_err-spares-clause-state g c = λ _ _ _. IfOk-from_err c.from_residual.result _ c.from_residual.ensures.0
+
+pub returns-in_err-spares-clause-refused : goal.returns-in_err-spares-clause-refused
+returns-in_err-spares-clause-refused g c = request_wants c.from_residual.result _ _ c.from_residual.ensures.1
+
+pub returns-in_err-requests-clause-claims : goal.returns-in_err-requests-clause-claims
+returns-in_err-requests-clause-claims g c = λ _ _. IfOk-from_err c.from_residual-in_err-requests.result _ c.from_residual-in_err-requests.ensures.0
+
+pub returns-in_err-requests-clause-accepted : goal.returns-in_err-requests-clause-accepted
+returns-in_err-requests-clause-accepted g c = λ _ _ _. IfOk-from_err c.from_residual-in_err-requests.result _ c.from_residual-in_err-requests.ensures.0
+
+pub returns-in_err-requests-clause-state : goal.returns-in_err-requests-clause-state
+returns-in_err-requests-clause-state g c = λ _ _ _. IfOk-from_err c.from_residual-in_err-requests.result _ c.from_residual-in_err-requests.ensures.0
+
+pub returns-in_err-requests-clause-refused : goal.returns-in_err-requests-clause-refused
+returns-in_err-requests-clause-refused g c = request_wants c.from_residual-in_err-requests.result _ _ c.from_residual-in_err-requests.ensures.1

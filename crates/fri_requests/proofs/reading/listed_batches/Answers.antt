@@ -1,3 +1,4 @@
+use Rattle.std.proofs.lemmas.Result.{IfOk-from_err}
 use Rattle.std.proofs.Common.{All, take, ◌+◌, refl, subst, sym}
 use Rattle.std.specs.List.{AllZip}
 use Rattle.std.proofs.lemmas.List.Elements.{All-push}
@@ -7,7 +8,7 @@ use Rattle.algebra.specs.Field.{multiple}
 use Rattle.fri_schemes.specs.Rows.{FitsRows}
 use Rattle.fri_requests.specs.Committed.{ListsBy}
 use Rattle.fri_requests.specs.Requests.{IsMatrixBelow}
-use Rattle.fri_requests.proofs.Failed.{malformed_part}
+use Rattle.fri_requests.proofs.Failed.{malformed_part, read_wants}
 use Rattle.fri_requests.proofs.Kept.{pairs_more, pairs_done}
 use Rattle.fri_requests.proofs.reading.listed_batches.Goals as goal
 
@@ -45,3 +46,37 @@ pub returns-clause-well_formed : goal.returns-clause-well_formed
 returns-clause-well_formed g c =
     to_the_end (λ (b : Batch). All (IsMatrixBelow g.F.PrimeField64.ORDER_U64 g.F.TwoAdicField.TWO_ADICITY c.args.hides c.args.log_blowup) b.matrices.items) c.args.batches.now
     c.loop-index.index c.loop-index-test.false c.loop-index.invariant.well_formed
+
+-- where nothing is answered nothing is said of the answer
+pub returns-in_err-all-clause-listed : goal.returns-in_err-all-clause-listed
+returns-in_err-all-clause-listed g c = IfOk-from_err c.from_residual.result _ c.from_residual.ensures.0
+
+pub returns-in_err-all-clause-fit : goal.returns-in_err-all-clause-fit
+returns-in_err-all-clause-fit g c = IfOk-from_err c.from_residual.result _ c.from_residual.ensures.0
+
+pub returns-in_err-all-clause-well_formed : goal.returns-in_err-all-clause-well_formed
+returns-in_err-all-clause-well_formed g c = IfOk-from_err c.from_residual.result _ c.from_residual.ensures.0
+
+pub returns-in_err-all-clause-refused : goal.returns-in_err-all-clause-refused
+returns-in_err-all-clause-refused g c = read_wants c.from_residual.result _ c.from_residual.ensures.1
+
+pub returns-in_err-batch_evaluations-clause-listed : goal.returns-in_err-batch_evaluations-clause-listed
+returns-in_err-batch_evaluations-clause-listed g c = IfOk-from_err c.from_residual-in_err-batch_evaluations.result _ c.from_residual-in_err-batch_evaluations.ensures.0
+
+pub returns-in_err-batch_evaluations-clause-fit : goal.returns-in_err-batch_evaluations-clause-fit
+returns-in_err-batch_evaluations-clause-fit g c = IfOk-from_err c.from_residual-in_err-batch_evaluations.result _ c.from_residual-in_err-batch_evaluations.ensures.0
+
+pub returns-in_err-batch_evaluations-clause-well_formed : goal.returns-in_err-batch_evaluations-clause-well_formed
+returns-in_err-batch_evaluations-clause-well_formed g c = IfOk-from_err c.from_residual-in_err-batch_evaluations.result _ c.from_residual-in_err-batch_evaluations.ensures.0
+
+pub returns-in_err-push-clause-listed : goal.returns-in_err-push-clause-listed
+returns-in_err-push-clause-listed g c = IfOk-from_err c.from_residual-in_err-push.result _ c.from_residual-in_err-push.ensures.0
+
+pub returns-in_err-push-clause-fit : goal.returns-in_err-push-clause-fit
+returns-in_err-push-clause-fit g c = IfOk-from_err c.from_residual-in_err-push.result _ c.from_residual-in_err-push.ensures.0
+
+pub returns-in_err-push-clause-well_formed : goal.returns-in_err-push-clause-well_formed
+returns-in_err-push-clause-well_formed g c = IfOk-from_err c.from_residual-in_err-push.result _ c.from_residual-in_err-push.ensures.0
+
+pub returns-in_err-push-clause-refused : goal.returns-in_err-push-clause-refused
+returns-in_err-push-clause-refused g c = read_wants c.from_residual-in_err-push.result _ c.from_residual-in_err-push.ensures.1

@@ -1,4 +1,5 @@
-use Rattle.fri_requests.proofs.Failed.{malformed_part}
+use Rattle.std.proofs.lemmas.Result.{IfOk-from_err}
+use Rattle.fri_requests.proofs.Failed.{malformed_part, read_wants}
 use Rattle.std.proofs.Common.{◌≢◌, [], All, map}
 use Rattle.algebra.specs.Nested.{lists}
 use Rattle.p3_fri_openings.proofs.First.{at_item}
@@ -33,3 +34,19 @@ returns-in_err-batch_points-clause-refused g c =
     (λ fails whole. fails (at_item (λ (b : Batch). All (HasPointsBy g.N.Numbered.IsPoint) b.matrices.items) c.args.batches.now
     c.loop-index.index c.index-batches-index.result c.loop-index-test.true c.index-batches-index.is
     whole))
+
+-- where nothing is answered nothing is said of the answer
+pub returns-in_err-all-clause-points : goal.returns-in_err-all-clause-points
+returns-in_err-all-clause-points g c = IfOk-from_err c.from_residual.result _ c.from_residual.ensures.0
+
+pub returns-in_err-all-clause-refused : goal.returns-in_err-all-clause-refused
+returns-in_err-all-clause-refused g c = read_wants c.from_residual.result _ c.from_residual.ensures.1
+
+pub returns-in_err-batch_points-clause-points : goal.returns-in_err-batch_points-clause-points
+returns-in_err-batch_points-clause-points g c = IfOk-from_err c.from_residual-in_err-batch_points.result _ c.from_residual-in_err-batch_points.ensures.0
+
+pub returns-in_err-push-clause-points : goal.returns-in_err-push-clause-points
+returns-in_err-push-clause-points g c = IfOk-from_err c.from_residual-in_err-push.result _ c.from_residual-in_err-push.ensures.0
+
+pub returns-in_err-push-clause-refused : goal.returns-in_err-push-clause-refused
+returns-in_err-push-clause-refused g c = read_wants c.from_residual-in_err-push.result _ c.from_residual-in_err-push.ensures.1

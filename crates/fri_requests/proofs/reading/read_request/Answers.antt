@@ -1,3 +1,4 @@
+use Rattle.std.proofs.lemmas.Result.{IfOk-from_err}
 use Rattle.std.proofs.Common.{◌≢◌, [], refl, sym, subst}
 use Rattle.std.specs.Prelude.{IsOk}
 use Rattle.std.specs.List.{flat_map}
@@ -45,3 +46,40 @@ returns-clause-well_formed g c =
       some_matrix = subst (λ bs. flat_map (λ b. b.matrices.items) bs ≢ []) c.deref-4.ensures.value
           (c.have_matrix.ensures.0 c.if-not-have_matrix.false);
     }
+
+-- where nothing is answered nothing is said of the answer
+pub returns-in_err-points-clause-read : goal.returns-in_err-points-clause-read
+returns-in_err-points-clause-read g c = IfOk-from_err c.from_residual.result _ c.from_residual.ensures.0
+
+pub returns-in_err-points-clause-points : goal.returns-in_err-points-clause-points
+returns-in_err-points-clause-points g c = IfOk-from_err c.from_residual.result _ c.from_residual.ensures.0
+
+pub returns-in_err-points-clause-context : goal.returns-in_err-points-clause-context
+returns-in_err-points-clause-context g c = IfOk-from_err c.from_residual.result _ c.from_residual.ensures.0
+
+pub returns-in_err-points-clause-well_formed : goal.returns-in_err-points-clause-well_formed
+returns-in_err-points-clause-well_formed g c = IfOk-from_err c.from_residual.result _ c.from_residual.ensures.0
+
+pub returns-in_err-batches-clause-read : goal.returns-in_err-batches-clause-read
+returns-in_err-batches-clause-read g c = IfOk-from_err c.from_residual-in_err-batches.result _ c.from_residual-in_err-batches.ensures.0
+
+pub returns-in_err-batches-clause-points : goal.returns-in_err-batches-clause-points
+returns-in_err-batches-clause-points g c = IfOk-from_err c.from_residual-in_err-batches.result _ c.from_residual-in_err-batches.ensures.0
+
+pub returns-in_err-batches-clause-context : goal.returns-in_err-batches-clause-context
+returns-in_err-batches-clause-context g c = IfOk-from_err c.from_residual-in_err-batches.result _ c.from_residual-in_err-batches.ensures.0
+
+pub returns-in_err-batches-clause-well_formed : goal.returns-in_err-batches-clause-well_formed
+returns-in_err-batches-clause-well_formed g c = IfOk-from_err c.from_residual-in_err-batches.result _ c.from_residual-in_err-batches.ensures.0
+
+pub returns-in_err-context-clause-read : goal.returns-in_err-context-clause-read
+returns-in_err-context-clause-read g c = IfOk-from_err c.from_residual-in_err-context.result _ c.from_residual-in_err-context.ensures.0
+
+pub returns-in_err-context-clause-points : goal.returns-in_err-context-clause-points
+returns-in_err-context-clause-points g c = IfOk-from_err c.from_residual-in_err-context.result _ c.from_residual-in_err-context.ensures.0
+
+pub returns-in_err-context-clause-context : goal.returns-in_err-context-clause-context
+returns-in_err-context-clause-context g c = IfOk-from_err c.from_residual-in_err-context.result _ c.from_residual-in_err-context.ensures.0
+
+pub returns-in_err-context-clause-well_formed : goal.returns-in_err-context-clause-well_formed
+returns-in_err-context-clause-well_formed g c = IfOk-from_err c.from_residual-in_err-context.result _ c.from_residual-in_err-context.ensures.0

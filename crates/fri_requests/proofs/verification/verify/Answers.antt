@@ -1,3 +1,4 @@
+use Rattle.std.proofs.lemmas.Result.{IfOk-from_err}
 use Rattle.std.proofs.Common.{refl, subst, ap, ◌∙◌, map}
 use Rattle.std.specs.Prelude.{replicate}
 use Rattle.p3_pcs.specs.Claims.{claim}
@@ -7,7 +8,7 @@ use Rattle.fri_statement.specs.Setting.{SchemeFields}
 use Rattle.fri_requests.specs.Bound.{state_bound}
 use Rattle.fri_requests.specs.Verdicts.{IsMadeFor}
 use Rattle.fri_requests.proofs.Answered.{accepted_by, refused_by}
-use Rattle.fri_requests.proofs.Failed.{refused_part}
+use Rattle.fri_requests.proofs.Failed.{refused_part, statement_wants}
 use Rattle.fri_requests.proofs.Fields.{fields_of}
 use Rattle.fri_requests.proofs.verification.verify.Given.{Over}
 use Rattle.fri_requests.proofs.verification.verify.Goals as goal
@@ -60,3 +61,22 @@ returns-in_err-verify_claims-clause-refused g c =
     (map claim c.in_ok-claims.claims.items) c.in_ok-claims.ensures.numbers c.in_ok-claims.challenger
     (c.in_ok-claims.ensures.state
     ∙ ap (λ b. state_bound (fields g) b c.args.context.now c.args.parameters.now records) c.in_ok-begun.ensures))
+
+-- where nothing is answered nothing is said of the answer
+pub returns-in_err-begun-clause-accepted : goal.returns-in_err-begun-clause-accepted
+returns-in_err-begun-clause-accepted g c = IfOk-from_err c.from_residual.result _ c.from_residual.ensures.0
+
+pub returns-in_err-begun-clause-refused : goal.returns-in_err-begun-clause-refused
+returns-in_err-begun-clause-refused g c = statement_wants c.from_residual.result _ _ c.from_residual.ensures.1
+
+pub returns-in_err-claims-clause-accepted : goal.returns-in_err-claims-clause-accepted
+returns-in_err-claims-clause-accepted g c = IfOk-from_err c.from_residual-in_err-claims.result _ c.from_residual-in_err-claims.ensures.0
+
+pub returns-in_err-verify_claims-clause-accepted : goal.returns-in_err-verify_claims-clause-accepted
+returns-in_err-verify_claims-clause-accepted g c = IfOk-from_err c.from_residual-in_err-verify_claims.result _ c.from_residual-in_err-verify_claims.ensures.0
+
+pub returns-in_err-next_drawn-clause-accepted : goal.returns-in_err-next_drawn-clause-accepted
+returns-in_err-next_drawn-clause-accepted g c = IfOk-from_err c.from_residual-in_err-next_drawn.result _ c.from_residual-in_err-next_drawn.ensures.0
+
+pub returns-in_err-next_drawn-clause-refused : goal.returns-in_err-next_drawn-clause-refused
+returns-in_err-next_drawn-clause-refused g c = statement_wants c.from_residual-in_err-next_drawn.result _ _ c.from_residual-in_err-next_drawn.ensures.1

@@ -1,3 +1,4 @@
+use Rattle.std.proofs.lemmas.Result.{IfOk-from_err}
 use Rattle.std.proofs.Common.{◌++◌, [], ◌∷◌, map, refl, sym, subst, ap, ◌∙◌}
 use Rattle.std.specs.List.{AllZip}
 use Rattle.std.proofs.lemmas.List.{map-append}
@@ -10,6 +11,7 @@ use Rattle.fri_requests.proofs.Listed.{HaveNumbers}
 use Rattle.fri_requests.proofs.PlainRules.{is_kept}
 use Rattle.fri_requests.proofs.Reopened.{is_commitment}
 use Rattle.fri_requests.proofs.prover.Prover.commit.Given.{Over}
+use Rattle.fri_requests.proofs.Failed.{request_wants}
 use Rattle.fri_requests.proofs.prover.Prover.commit.Goals as goal
 use Rattle.fri_requests.proofs.prover.Prover.commit.Goals.{In_ok-committed}
 
@@ -65,3 +67,34 @@ pub returns-clause-commitments : goal.returns-clause-commitments
 returns-clause-commitments g c =
     ap (λ cs. map (λ k. k.commitment) cs) c.in_ok-push.ensures.items
     ∙ map-append (λ k. k.commitment) c.args.self.now.committed.items (c.in_ok-committed.committed ∷ [])
+
+-- where nothing is answered nothing is said of the answer
+pub returns-in_err-evaluations-clause-committed : goal.returns-in_err-evaluations-clause-committed
+returns-in_err-evaluations-clause-committed g c = IfOk-from_err c.from_residual.result _ c.from_residual.ensures.0
+
+pub returns-in_err-evaluations-clause-kept : goal.returns-in_err-evaluations-clause-kept
+returns-in_err-evaluations-clause-kept g c = λ _ _. IfOk-from_err c.from_residual.result _ c.from_residual.ensures.0
+
+pub returns-in_err-evaluations-clause-commitments : goal.returns-in_err-evaluations-clause-commitments
+returns-in_err-evaluations-clause-commitments g c = IfOk-from_err c.from_residual.result _ c.from_residual.ensures.0
+
+pub returns-in_err-committed-clause-committed : goal.returns-in_err-committed-clause-committed
+returns-in_err-committed-clause-committed g c = IfOk-from_err c.from_residual-in_err-committed.result _ c.from_residual-in_err-committed.ensures.0
+
+pub returns-in_err-committed-clause-kept : goal.returns-in_err-committed-clause-kept
+returns-in_err-committed-clause-kept g c = λ _ _. IfOk-from_err c.from_residual-in_err-committed.result _ c.from_residual-in_err-committed.ensures.0
+
+pub returns-in_err-committed-clause-commitments : goal.returns-in_err-committed-clause-commitments
+returns-in_err-committed-clause-commitments g c = IfOk-from_err c.from_residual-in_err-committed.result _ c.from_residual-in_err-committed.ensures.0
+
+pub returns-in_err-push-clause-committed : goal.returns-in_err-push-clause-committed
+returns-in_err-push-clause-committed g c = IfOk-from_err c.from_residual-in_err-push.result _ c.from_residual-in_err-push.ensures.0
+
+pub returns-in_err-push-clause-kept : goal.returns-in_err-push-clause-kept
+returns-in_err-push-clause-kept g c = λ _ _. IfOk-from_err c.from_residual-in_err-push.result _ c.from_residual-in_err-push.ensures.0
+
+pub returns-in_err-push-clause-commitments : goal.returns-in_err-push-clause-commitments
+returns-in_err-push-clause-commitments g c = IfOk-from_err c.from_residual-in_err-push.result _ c.from_residual-in_err-push.ensures.0
+
+pub returns-in_err-push-clause-refused : goal.returns-in_err-push-clause-refused
+returns-in_err-push-clause-refused g c = request_wants c.from_residual-in_err-push.result _ _ c.from_residual-in_err-push.ensures.1
