@@ -113,8 +113,8 @@ const FROM_ONE_COSET: OfWords = OfWords {
     opened: Some(None),
 };
 
-/// A preprocessed column is extended, opened, and opened and verified by one function, with whatever
-/// index; quotients are extended from their cosets and opened.
+/// A preprocessed column is extended, opened, and opened and verified by one function, with
+/// whatever index; quotients are extended from their cosets and opened.
 pub(crate) static PARTS: [Part; 10] = [
     Part::Line(OfLine::Held),
     Part::Line(OfLine::Opened(None)),
