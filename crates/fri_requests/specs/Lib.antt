@@ -11,6 +11,7 @@ pub mod Openings
 pub mod Prepared
 pub mod Preprocessing
 pub mod Refusals
+pub mod Reopening
 pub mod Requests
 pub mod Statements
 pub mod Verdicts

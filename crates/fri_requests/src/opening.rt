@@ -6,6 +6,9 @@ ghost use Rattle.p3_pcs.specs.Claims.{claim};
 ghost use Rattle.p3_pcs.specs.Requests.{request, with_data};
 ghost use Rattle.p3_pcs.specs.Scheme.{AreHonestIn, FitRequests, claims_asked};
 ghost use Rattle.fri_records.specs.Failures.{MatchRequestError};
+ghost use Rattle.fri_statement.specs.Numbers.{coefficient_numbers};
+ghost use Rattle.fri_statement.specs.Setting.{prime_fields, sha256_moves};
+ghost use Rattle.fri_requests.specs.Claims.{batch_listed, batch_numbers};
 ghost use Rattle.fri_requests.specs.Openings.{requests_for};
 ghost use Rattle.fri_requests.specs.Preprocessing.{NamesPreprocessed};
 ghost use Rattle.fri_requests.specs.Refusals.{IsUnopened};
@@ -131,6 +134,24 @@ fn open_committed<F: SchemeField, P: MadeScheme<F, F::Extension, Coset<F>>>(
     )
 }
 
+/// Claims as records, and the numbers of what the challenger draws next.
+pub(crate) fn answered<F: SchemeField>(
+    alloc: Global,
+    claims: &Claims<F>,
+    challenger: &mut Sha256Challenger<F>,
+) -> Result<(Vec<BatchClaims>, Vec<u64>), AllocError>
+    ensures claims { IfOk result (λ answered. map batch_listed answered.0.items
+        ≡ map (batch_numbers ⟦<F as SchemeParts>⟧.fields (λ d. d.shift) (λ d. d.log_size))
+        (map claim claims.now.items)) }
+    ensures next { let f = prime_fields ⟦<F as SchemeParts>⟧.fields in
+        IfOk result (λ answered. answered.1.items
+        ≡ coefficient_numbers f ((sha256_moves f).draw_element challenger.old).value) }
+{
+    let records = claims_out::<F::Extension, Coset<F>, F>(alloc, claims)?;
+    let next_challenge = next_drawn::<F, F::Extension>(alloc, challenger)?;
+    Ok((records, next_challenge))
+}
+
 /// What comes of opening a request.
 #[derive(Drop)]
 pub struct Opening<Proof> {
@@ -193,10 +214,11 @@ pub fn open<F: SchemeField, P: MadeScheme<F, F::Extension, Coset<F>>>(
         prepared.preprocessing,
         &mut prepared.challenger,
     )?;
+    let (records, next_challenge) = answered::<F>(alloc, &claims, &mut prepared.challenger)?;
     Ok(Opening {
-        claims: claims_out::<F::Extension, Coset<F>, F>(alloc, &claims)?,
+        claims: records,
         proof,
         preprocessing: prepared.preprocessing,
-        next_challenge: next_drawn::<F, F::Extension>(alloc, &mut prepared.challenger)?,
+        next_challenge,
     })
 }

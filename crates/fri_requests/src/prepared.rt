@@ -1,14 +1,10 @@
 //! Requests whose matrices are committed to and whose statement is absorbed.
 
 ghost use Rattle.std.specs.Prelude.{◌≡◌, IfOk, IfErr, map};
-ghost use Rattle.std.specs.List.{AllZip};
-ghost use Rattle.algebra.specs.Nested.{nested};
 ghost use Rattle.fri_schemes.specs.Rows.{CommitsRows};
 ghost use Rattle.fri_records.specs.Failures.{MatchRequestError};
 ghost use Rattle.fri_records.specs.Records.{AreProvers};
-ghost use Rattle.fri_requests.specs.Committed.{Keeps};
-ghost use Rattle.fri_requests.specs.Prepared.{ArePoints, state_asked};
-ghost use Rattle.fri_requests.specs.Preprocessing.{NamesPreprocessed};
+ghost use Rattle.fri_requests.specs.Prepared.{IsPrepared};
 ghost use Rattle.fri_requests.specs.Refusals.{RefusesBatch};
 ghost use Rattle.fri_requests.specs.Requests.{CanOpen};
 
@@ -71,22 +67,9 @@ pub(crate) fn prepare<F: SchemeField, P: MadeScheme<F, F::Extension, Coset<F>>>(
     requires room { CommitsRows (P.rules scheme.old) F.TWO_ADICITY (λ d. d.log_size)
         P.ZK request.now.parameters.log_blowup }
     ensures kept { P.Keeps scheme.old scheme.new }
-    ensures keeps { IfOk result (λ p. AllZip (Keeps ⟦<F as SchemeParts>⟧.fields
-        (P.rules scheme.new) (P.stark_rules scheme.new) P.ZK (λ d. d.shift) (λ d. d.log_size))
-        p.committed.items request.now.commitments.items) }
-    ensures commitments { IfOk result (λ p.
-        map (λ k. k.commitment) p.known.items ≡ map (λ c. c.commitment) p.committed.items) }
-    ensures domains { IfOk result (λ p. map (λ k. k.domains.items) p.known.items
-        ≡ map (λ c. c.domains.items) p.committed.items) }
-    ensures points { IfOk result (λ p. ArePoints ⟦<F as SchemeParts>⟧.fields
-        (nested p.points.items) request.now.commitments.items) }
-    ensures named { IfOk result (λ p.
-        NamesPreprocessed p.preprocessing request.now.commitments.items) }
-    ensures state { IfOk result (λ p. p.challenger ≡ state_asked ⟦<F as SchemeParts>⟧.fields P.ZK
-        (P.begun num_random_codewords p.preprocessing) request.now
-        (map (λ c. c.commitment) p.committed.items)) }
-    ensures well_formed { IfOk result (λ _.
-        CanOpen ⟦<F as SchemeParts>⟧.fields P.ZK request.now) }
+    ensures prepared { IfOk result (λ p. IsPrepared ⟦<F as SchemeParts>⟧.fields
+        (P.rules scheme.new) (P.stark_rules scheme.new) P.ZK (λ d. d.shift) (λ d. d.log_size)
+        (λ index. P.begun num_random_codewords index) request.now p) }
     ensures refused { IfErr result (MatchRequestError
         (¬ CanOpen ⟦<F as SchemeParts>⟧.fields P.ZK request.now)
         (λ e. CanOpen ⟦<F as SchemeParts>⟧.fields P.ZK request.now × RefusesBatch

@@ -20,18 +20,18 @@ ghost use Rattle.fri_requests.specs.Committed.{KeepsRead, RefusesMatrices};
 ghost use Rattle.fri_requests.specs.Keeping.{HasCommitted, CommitsBatch, batches_at, CanAsk};
 ghost use Rattle.fri_requests.specs.Keeping.{RefusesAsked};
 ghost use Rattle.fri_requests.specs.Openings.{IsOpened, requests_for};
+ghost use Rattle.fri_requests.specs.Reopening.{OpensAsked};
 
-use crate::claims::{Claims, claims_out};
+use crate::claims::Claims;
 use crate::committed::{Committed, commit_batch};
 use crate::lending::{spares, swap_data};
 use crate::matrices::batch_evaluations;
 use crate::naming::{Data, are_named, read_asked};
-use crate::opening::{Opening, open_requests, requests_of};
+use crate::opening::{Opening, answered, open_requests, requests_of};
 use crate::plain::Proof;
 use crate::prepared::known_of;
 use crate::reading::{ListedBatch, have_matrix};
 use crate::refusal::refusal;
-use crate::statement::next_drawn;
 use fri_records::{Batch, Fault, Parameters, Place, RequestError, prover_parameters};
 use fri_schemes::{Coset, Inputs, MadeScheme, PlainScheme, SchemeField, SchemeParts};
 use p3_challenger_sha256::Sha256Challenger;
@@ -171,27 +171,12 @@ fn open_all<F: SchemeField>(
     context: &str,
     asked: &[Batch],
 ) -> Result<Opening<Proof<F>>, RequestError<FriProverError>>
-    ensures accepted { (batches : List Batch)
-        → HasCommitted ⟦<F as SchemeParts>⟧.fields F.LEN (λ d. d.shift)
-        (λ d. d.log_size) parameters.now all.old batches
-        → IfOk result (λ o. IsAccepted ⟦<F as SchemeParts>⟧.fields context.now
-        parameters.now o.claims.items (proof_of o.proof) o.next_challenge.items) }
     ensures opened { (batches : List Batch)
         → HasCommitted ⟦<F as SchemeParts>⟧.fields F.LEN (λ d. d.shift)
         (λ d. d.log_size) parameters.now all.old batches
-        → IfOk result (λ o. AllZip (IsOpened ⟦<F as SchemeParts>⟧.fields
-        parameters.now.log_blowup)
-        (map batch_listed o.claims.items) (batches_at batches asked.now)) }
-    ensures well_formed { (batches : List Batch)
-        → HasCommitted ⟦<F as SchemeParts>⟧.fields F.LEN (λ d. d.shift)
-        (λ d. d.log_size) parameters.now all.old batches
-        → IfOk result (λ _.
-        CanAsk ⟦<F as SchemeParts>⟧.fields batches context.now asked.now) }
-    ensures commitments { (batches : List Batch)
-        → HasCommitted ⟦<F as SchemeParts>⟧.fields F.LEN (λ d. d.shift)
-        (λ d. d.log_size) parameters.now all.old batches
-        → IfOk result (λ o. map (λ b. b.commitment) (map batch_listed o.claims.items)
-        ≡ map (λ k. Ok k) (map (λ c. c.commitment) all.old)) }
+        → IfOk result (λ o. OpensAsked ⟦<F as SchemeParts>⟧.fields parameters.now
+        (map (λ c. c.commitment) all.old) batches context.now asked.now o.claims.items
+        (proof_of o.proof) o.next_challenge.items) }
     // where it can't be opened, where the scheme refuses it
     ensures refused { (batches : List Batch)
         → HasCommitted ⟦<F as SchemeParts>⟧.fields F.LEN (λ d. d.shift)
@@ -218,11 +203,12 @@ fn open_all<F: SchemeField>(
         alloc, parameters, &known, context, asked,
     )?;
     let (claims, proof) = open_kept::<F>(alloc, &scheme, &known, all, points, &mut challenger)?;
+    let (records, next_challenge) = answered::<F>(alloc, &claims, &mut challenger)?;
     Ok(Opening {
-        claims: claims_out::<F::Extension, Coset<F>, F>(alloc, &claims)?,
+        claims: records,
         proof,
         preprocessing: None,
-        next_challenge: next_drawn::<F, F::Extension>(alloc, &mut challenger)?,
+        next_challenge,
     })
 }
 

@@ -56,7 +56,7 @@ open_committed-requires-clause-shape g c =
     let s = c.prepare.new.scheme in
     let t = g.P.UnivariateStarkPcs.stark_rules s in
     let p = c.in_ok-prepared.prepared in
-    let is = c.in_ok-prepared.ensures in
+    let is = c.in_ok-prepared.ensures.prepared in
     subst (λ ks. t.CanOpenAt p.preprocessing (requests_for ks (nested p.points.items))) (sym c.as_mut_slice.ensures.value)
     (can_open (fields g) (g.P.Pcs.rules s) t g.P.UnivariateStarkPcs.ZK (λ d. d.shift) (λ d. d.log_size)
     (g.met.P.UnivariateStarkPcs.stark_law s) p.preprocessing p.committed.items (nested p.points.items)
@@ -67,7 +67,7 @@ open_committed-requires-clause-honest g c =
     let s = c.prepare.new.scheme in
     let r = g.P.Pcs.rules s in
     let p = c.in_ok-prepared.prepared in
-    let is = c.in_ok-prepared.ensures in
+    let is = c.in_ok-prepared.ensures.prepared in
     subst (λ ks. AreHonestIn r (requests_for ks (nested p.points.items))) (sym c.as_mut_slice.ensures.value)
     (honest (fields g) r (g.P.UnivariateStarkPcs.stark_rules s) g.P.UnivariateStarkPcs.ZK (λ d. d.shift) (λ d. d.log_size)
     p.committed.items (nested p.points.items) c.args.request.now.commitments.items is.keeps is.points.some_points)
@@ -78,7 +78,7 @@ open_committed-requires-clause-commitments g c =
     let r = g.P.Pcs.rules s in
     let t = g.P.UnivariateStarkPcs.stark_rules s in
     let p = c.in_ok-prepared.prepared in
-    let is = c.in_ok-prepared.ensures in
+    let is = c.in_ok-prepared.ensures.prepared in
     let batches = c.args.request.now.commitments.items in
     let points = nested p.points.items in
     ap (λ ks. map (λ k. k.commitment) ks) c.deref.ensures.value ∙ is.commitments
@@ -93,7 +93,7 @@ open_committed-requires-clause-domains g c =
     let r = g.P.Pcs.rules s in
     let t = g.P.UnivariateStarkPcs.stark_rules s in
     let p = c.in_ok-prepared.prepared in
-    let is = c.in_ok-prepared.ensures in
+    let is = c.in_ok-prepared.ensures.prepared in
     let batches = c.args.request.now.commitments.items in
     let points = nested p.points.items in
     subst (λ ks. FitRequests r (map (λ k. k.domains.items) c.deref.result.now) (requests_for ks points))
@@ -111,10 +111,10 @@ returns-clause-opened g c =
     let t = g.P.UnivariateStarkPcs.stark_rules s in
     let hides = g.P.UnivariateStarkPcs.ZK in
     let p = c.in_ok-prepared.prepared in
-    let is = c.in_ok-prepared.ensures in
+    let is = c.in_ok-prepared.ensures.prepared in
     let batches = c.args.request.now.commitments.items in
     let points = nested p.points.items in
-    let listed = c.in_ok-claims_out.ensures
+    let listed = c.in_ok-records.ensures.claims
     ∙ ap (λ cs. map (batch_numbers (fields g) (λ d. d.shift) (λ d. d.log_size)) cs)
     (c.in_ok-claims.ensures.claims
     ∙ ap (λ ds. claims_asked r ds (requests_for c.as_mut_slice.result.now points))
@@ -126,7 +126,7 @@ returns-clause-opened g c =
         made = c.made-scheme.result;
         is_made = subst (λ q. g.P.MadeScheme.IsMade q c.args.masking.num_random_codewords c.args.masking.seed c.made-scheme.result)
             c.in-Ok.ensures.parameters c.made-scheme.ensures;
-        kept = is.kept;
+        kept = c.in_ok-prepared.ensures.kept;
       };
       opened = subst (λ ns. AllZip (IsOpenedBy (fields g) r t hides (λ d. d.shift) (λ d. d.log_size)) ns batches) (sym listed)
           (opened_each (fields g) r t hides (λ d. d.shift) (λ d. d.log_size) (numbered g) p.committed.items points batches is.keeps is.points.numbers);
@@ -141,12 +141,12 @@ returns-clause-accepted g c =
     let hides = g.P.UnivariateStarkPcs.ZK in
     let request = c.args.request.now in
     let p = c.in_ok-prepared.prepared in
-    let is = c.in_ok-prepared.ensures in
+    let is = c.in_ok-prepared.ensures.prepared in
     let batches = request.commitments.items in
     let points = nested p.points.items in
     let begun = g.P.MadeScheme.begun c.args.masking.num_random_codewords p.preprocessing in
-    let records = c.in_ok-claims_out.field-0.items in
-    let listed = c.in_ok-claims_out.ensures
+    let records = c.in_ok-records.records.items in
+    let listed = c.in_ok-records.ensures.claims
     ∙ ap (λ cs. map (batch_numbers (fields g) (λ d. d.shift) (λ d. d.log_size)) cs)
     (c.in_ok-claims.ensures.claims
     ∙ ap (λ ds. claims_asked r ds (requests_for c.as_mut_slice.result.now points))
@@ -161,18 +161,18 @@ returns-clause-accepted g c =
       bytes = is.well_formed.context;
       range = subst (λ q. InVerifierRange q g.F.TwoAdicField.TWO_ADICITY 63) c.in-Ok.ensures.parameters
           (g.met.P.MadeScheme.accepted_law _ _ _ made c.made-scheme.ensures c.in-Ok.ensures.range p.preprocessing _ _ _
-          ((g.met.P.MadeScheme.alike_law made s is.kept).accepts _ _ _ _ c.in_ok-claims.ensures.accepted));
+          ((g.met.P.MadeScheme.alike_law made s c.in_ok-prepared.ensures.kept).accepts _ _ _ _ c.in_ok-claims.ensures.accepted));
       claims = are_claims (fields g) (numbered g) (λ d. d.shift) (λ d. d.log_size)
           (λ d. is_coset (fields g) (numbered g) g.F.TwoAdicField.TWO_ADICITY d.shift d.log_size d.nonzero d.within_two_adicity)
-          (map claim c.in_ok-claims.claims.items) records (sym c.in_ok-claims_out.ensures);
+          (map claim c.in_ok-claims.claims.items) records (sym c.in_ok-records.ensures.claims);
     })
-    (map claim c.in_ok-claims.claims.items) (sym c.in_ok-claims_out.ensures) p.challenger
+    (map claim c.in_ok-claims.claims.items) (sym c.in_ok-records.ensures.claims) p.challenger
     (is.state ∙ ap (λ os. bound (fields g) begun (context_listed (string_bytes request.context)) (parameters_in request.parameters) os)
     (sym (ap (λ ns. map batch_claimed ns) listed
     ∙ stated_all (fields g) r t hides (λ d. d.shift) (λ d. d.log_size) (numbered g) (g.met.P.MadeScheme.columns_law s) p.committed.items points batches
     is.keeps is.points.numbers is.well_formed.points)))
-    s (g.met.P.MadeScheme.alike_law made s is.kept) _ _ c.in_ok-claims.ensures.accepted c.in_ok-claims.ensures.state
-    c.in_ok-next_drawn.ensures
+    s (g.met.P.MadeScheme.alike_law made s c.in_ok-prepared.ensures.kept) _ _ c.in_ok-claims.ensures.accepted c.in_ok-claims.ensures.state
+    c.in_ok-records.ensures.next
 
 pub returns-in_err-prepared-clause-refused : goal.returns-in_err-prepared-clause-refused
 returns-in_err-prepared-clause-refused g c =
@@ -192,7 +192,7 @@ pub returns-in_err-claims-clause-refused : goal.returns-in_err-claims-clause-ref
 returns-in_err-claims-clause-refused g c =
     let s = c.prepare.new.scheme in
     let p = c.in_ok-prepared.prepared in
-    let is = c.in_ok-prepared.ensures in
+    let is = c.in_ok-prepared.ensures.prepared in
     let request = c.args.request.now in
     request_part _ _ _ _ _ _ c.from_residual-in_err-claims.ensures.1 c.in_err-claims.ensures.refused (λ never. absurd never)
     (λ e h. record {
@@ -203,7 +203,7 @@ returns-in_err-claims-clause-refused g c =
           made = c.made-scheme.result;
           is_made = subst (λ q. g.P.MadeScheme.IsMade q c.args.masking.num_random_codewords c.args.masking.seed c.made-scheme.result)
               c.in-Ok.ensures.parameters c.made-scheme.ensures;
-          kept = is.kept;
+          kept = c.in_ok-prepared.ensures.kept;
         };
         index = p.preprocessing;
         named = is.named;
@@ -244,32 +244,17 @@ returns-in_err-claims-clause-named g c = IfOk-from_err c.from_residual-in_err-cl
 pub returns-in_err-claims-clause-well_formed : goal.returns-in_err-claims-clause-well_formed
 returns-in_err-claims-clause-well_formed g c = IfOk-from_err c.from_residual-in_err-claims.result _ c.from_residual-in_err-claims.ensures.0
 
-pub returns-in_err-claims_out-clause-accepted : goal.returns-in_err-claims_out-clause-accepted
-returns-in_err-claims_out-clause-accepted g c = IfOk-from_err c.from_residual-in_err-claims_out.result _ c.from_residual-in_err-claims_out.ensures.0
+pub returns-in_err-records-clause-accepted : goal.returns-in_err-records-clause-accepted
+returns-in_err-records-clause-accepted g c = IfOk-from_err c.from_residual-in_err-records.result _ c.from_residual-in_err-records.ensures.0
 
-pub returns-in_err-claims_out-clause-opened : goal.returns-in_err-claims_out-clause-opened
-returns-in_err-claims_out-clause-opened g c = IfOk-from_err c.from_residual-in_err-claims_out.result _ c.from_residual-in_err-claims_out.ensures.0
+pub returns-in_err-records-clause-opened : goal.returns-in_err-records-clause-opened
+returns-in_err-records-clause-opened g c = IfOk-from_err c.from_residual-in_err-records.result _ c.from_residual-in_err-records.ensures.0
 
-pub returns-in_err-claims_out-clause-named : goal.returns-in_err-claims_out-clause-named
-returns-in_err-claims_out-clause-named g c = IfOk-from_err c.from_residual-in_err-claims_out.result _ c.from_residual-in_err-claims_out.ensures.0
+pub returns-in_err-records-clause-named : goal.returns-in_err-records-clause-named
+returns-in_err-records-clause-named g c = IfOk-from_err c.from_residual-in_err-records.result _ c.from_residual-in_err-records.ensures.0
 
-pub returns-in_err-claims_out-clause-well_formed : goal.returns-in_err-claims_out-clause-well_formed
-returns-in_err-claims_out-clause-well_formed g c = IfOk-from_err c.from_residual-in_err-claims_out.result _ c.from_residual-in_err-claims_out.ensures.0
+pub returns-in_err-records-clause-well_formed : goal.returns-in_err-records-clause-well_formed
+returns-in_err-records-clause-well_formed g c = IfOk-from_err c.from_residual-in_err-records.result _ c.from_residual-in_err-records.ensures.0
 
-pub returns-in_err-claims_out-clause-refused : goal.returns-in_err-claims_out-clause-refused
-returns-in_err-claims_out-clause-refused g c = request_wants c.from_residual-in_err-claims_out.result _ _ c.from_residual-in_err-claims_out.ensures.1
-
-pub returns-in_err-next_drawn-clause-accepted : goal.returns-in_err-next_drawn-clause-accepted
-returns-in_err-next_drawn-clause-accepted g c = IfOk-from_err c.from_residual-in_err-next_drawn.result _ c.from_residual-in_err-next_drawn.ensures.0
-
-pub returns-in_err-next_drawn-clause-opened : goal.returns-in_err-next_drawn-clause-opened
-returns-in_err-next_drawn-clause-opened g c = IfOk-from_err c.from_residual-in_err-next_drawn.result _ c.from_residual-in_err-next_drawn.ensures.0
-
-pub returns-in_err-next_drawn-clause-named : goal.returns-in_err-next_drawn-clause-named
-returns-in_err-next_drawn-clause-named g c = IfOk-from_err c.from_residual-in_err-next_drawn.result _ c.from_residual-in_err-next_drawn.ensures.0
-
-pub returns-in_err-next_drawn-clause-well_formed : goal.returns-in_err-next_drawn-clause-well_formed
-returns-in_err-next_drawn-clause-well_formed g c = IfOk-from_err c.from_residual-in_err-next_drawn.result _ c.from_residual-in_err-next_drawn.ensures.0
-
-pub returns-in_err-next_drawn-clause-refused : goal.returns-in_err-next_drawn-clause-refused
-returns-in_err-next_drawn-clause-refused g c = request_wants c.from_residual-in_err-next_drawn.result _ _ c.from_residual-in_err-next_drawn.ensures.1
+pub returns-in_err-records-clause-refused : goal.returns-in_err-records-clause-refused
+returns-in_err-records-clause-refused g c = request_wants c.from_residual-in_err-records.result _ _ c.from_residual-in_err-records.ensures.1

@@ -58,49 +58,10 @@ batches_stated-requires-clause-points g c =
     ∙ c.in_ok-asked.ensures.points.numbers
     ∙ ap (λ bs. map (λ batch. map (λ m. lists m.points.items) batch.matrices.items) bs) (sym c.deref-4.ensures.value)
 
-pub returns-clause-keeps : goal.returns-clause-keeps
-returns-clause-keeps g c =
-    let s = c.commit_all.new.scheme in
-    all_keep (fields g) (g.P.Pcs.rules s) (g.P.UnivariateStarkPcs.stark_rules s) g.P.UnivariateStarkPcs.ZK (λ d. d.shift)
-    (λ d. d.log_size) (g.met.P.Pcs.rules_law s) c.in_ok-committed.committed.items
-    c.in_ok-asked.asked.batches.all.items c.args.request.now.commitments.items c.in_ok-committed.ensures.committed
-    (subst (λ h. AllZip (Lists (fields g) h (λ d. d.shift) (λ d. d.log_size)) c.in_ok-asked.asked.batches.all.items
-    c.args.request.now.commitments.items) c.ZK-hides.ensures c.in_ok-asked.ensures.read.listed)
-
-pub returns-clause-commitments : goal.returns-clause-commitments
-returns-clause-commitments g c =
-    c.in_ok-known.ensures.commitments ∙ ap (λ ks. map (λ k. k.commitment) ks) c.deref.ensures.value
-
-pub returns-clause-domains : goal.returns-clause-domains
-returns-clause-domains g c =
-    c.in_ok-known.ensures.domains ∙ ap (λ ks. map (λ k. k.domains.items) ks) c.deref.ensures.value
-
-pub returns-clause-state : goal.returns-clause-state
-returns-clause-state g c =
-    let hides = g.P.UnivariateStarkPcs.ZK in
-    let request = c.args.request.now in
-    request_state (fields g) hides _ c.in_ok-begun.begun request c.in_ok-asked.asked.context.items
-    (map (opened_commitment (prime_fields (fields g)) (λ d. d.shift) (λ d. d.log_size)) c.in_ok-stated.stated.items) (map (λ k. k.commitment) c.in_ok-known.known.items) _
-    c.in_ok-challenger.challenger
-    (c.in_ok-challenger.ensures
-    ∙ ap₂ (λ bs ss. bound (fields g) c.in_ok-begun.begun bs (parameters_in request.parameters) (map (opened_commitment (prime_fields (fields g)) (λ d. d.shift) (λ d. d.log_size)) ss))
-    c.deref-5.ensures.value c.deref-6.ensures.value)
-    c.in_ok-begun.ensures c.in_ok-asked.ensures.context
-    (c.in_ok-stated.ensures
-    ∙ ap₂ (λ ks bs. zip_with (batch_asked c.ZK-hides.result) (map (λ k. k.commitment) ks) bs) c.deref-2.ensures.value
-    c.deref-4.ensures.value
-    ∙ ap (λ h. zip_with (batch_asked h) (map (λ k. k.commitment) c.in_ok-known.known.items) request.commitments.items)
-    c.ZK-hides.ensures)
-    (c.in_ok-known.ensures.commitments ∙ ap (λ ks. map (λ k. k.commitment) ks) c.deref.ensures.value)
-
 pub returns-in_err-asked-clause-refused : goal.returns-in_err-asked-clause-refused
 returns-in_err-asked-clause-refused g c =
     unread_part _ _ _ _ _ c.from_residual.ensures.1 c.in_err-asked.ensures.refused
     (λ fails can. fails (subst (λ h. CanOpen (fields g) h c.args.request.now) (sym c.ZK-hides.ensures) can))
-
-pub returns-clause-well_formed : goal.returns-clause-well_formed
-returns-clause-well_formed g c =
-    subst (λ h. CanOpen (fields g) h c.args.request.now) c.ZK-hides.ensures c.in_ok-asked.ensures.well_formed
 
 pub returns-in_err-committed-clause-refused : goal.returns-in_err-committed-clause-refused
 returns-in_err-committed-clause-refused g c =
@@ -115,141 +76,64 @@ returns-in_err-committed-clause-refused g c =
           c.args.request.now.commitments.items) c.ZK-hides.ensures c.in_ok-asked.ensures.read.listed) h,
     ))
 
+pub returns-clause-prepared : goal.returns-clause-prepared
+returns-clause-prepared g c =
+    let s = c.commit_all.new.scheme in
+    let hides = g.P.UnivariateStarkPcs.ZK in
+    let request = c.args.request.now in
+    record {
+      well_formed = subst (λ h. CanOpen (fields g) h request) c.ZK-hides.ensures c.in_ok-asked.ensures.well_formed;
+      keeps = all_keep (fields g) (g.P.Pcs.rules s) (g.P.UnivariateStarkPcs.stark_rules s) hides (λ d. d.shift)
+          (λ d. d.log_size) (g.met.P.Pcs.rules_law s) c.in_ok-committed.committed.items
+          c.in_ok-asked.asked.batches.all.items request.commitments.items c.in_ok-committed.ensures.committed
+          (subst (λ h. AllZip (Lists (fields g) h (λ d. d.shift) (λ d. d.log_size)) c.in_ok-asked.asked.batches.all.items
+          request.commitments.items) c.ZK-hides.ensures c.in_ok-asked.ensures.read.listed);
+      commitments = c.in_ok-known.ensures.commitments ∙ ap (λ ks. map (λ k. k.commitment) ks) c.deref.ensures.value;
+      domains = c.in_ok-known.ensures.domains ∙ ap (λ ks. map (λ k. k.domains.items) ks) c.deref.ensures.value;
+      points = c.in_ok-asked.ensures.points;
+      named = c.in_ok-asked.ensures.read.named;
+      state = request_state (fields g) hides _ c.in_ok-begun.begun request c.in_ok-asked.asked.context.items
+          (map (opened_commitment (prime_fields (fields g)) (λ d. d.shift) (λ d. d.log_size)) c.in_ok-stated.stated.items) (map (λ k. k.commitment) c.in_ok-known.known.items) _
+          c.in_ok-challenger.challenger
+          (c.in_ok-challenger.ensures
+          ∙ ap₂ (λ bs ss. bound (fields g) c.in_ok-begun.begun bs (parameters_in request.parameters) (map (opened_commitment (prime_fields (fields g)) (λ d. d.shift) (λ d. d.log_size)) ss))
+          c.deref-5.ensures.value c.deref-6.ensures.value)
+          c.in_ok-begun.ensures c.in_ok-asked.ensures.context
+          (c.in_ok-stated.ensures
+          ∙ ap₂ (λ ks bs. zip_with (batch_asked c.ZK-hides.result) (map (λ k. k.commitment) ks) bs) c.deref-2.ensures.value
+          c.deref-4.ensures.value
+          ∙ ap (λ h. zip_with (batch_asked h) (map (λ k. k.commitment) c.in_ok-known.known.items) request.commitments.items)
+          c.ZK-hides.ensures)
+          (c.in_ok-known.ensures.commitments ∙ ap (λ ks. map (λ k. k.commitment) ks) c.deref.ensures.value);
+    }
+
 -- where nothing is answered nothing is said of the answer
-pub returns-in_err-asked-clause-keeps : goal.returns-in_err-asked-clause-keeps
-returns-in_err-asked-clause-keeps g c = IfOk-from_err c.from_residual.result _ c.from_residual.ensures.0
+pub returns-in_err-asked-clause-prepared : goal.returns-in_err-asked-clause-prepared
+returns-in_err-asked-clause-prepared g c = IfOk-from_err c.from_residual.result _ c.from_residual.ensures.0
 
-pub returns-in_err-asked-clause-commitments : goal.returns-in_err-asked-clause-commitments
-returns-in_err-asked-clause-commitments g c = IfOk-from_err c.from_residual.result _ c.from_residual.ensures.0
+pub returns-in_err-committed-clause-prepared : goal.returns-in_err-committed-clause-prepared
+returns-in_err-committed-clause-prepared g c = IfOk-from_err c.from_residual-in_err-committed.result _ c.from_residual-in_err-committed.ensures.0
 
-pub returns-in_err-asked-clause-domains : goal.returns-in_err-asked-clause-domains
-returns-in_err-asked-clause-domains g c = IfOk-from_err c.from_residual.result _ c.from_residual.ensures.0
-
-pub returns-in_err-asked-clause-points : goal.returns-in_err-asked-clause-points
-returns-in_err-asked-clause-points g c = IfOk-from_err c.from_residual.result _ c.from_residual.ensures.0
-
-pub returns-in_err-asked-clause-named : goal.returns-in_err-asked-clause-named
-returns-in_err-asked-clause-named g c = IfOk-from_err c.from_residual.result _ c.from_residual.ensures.0
-
-pub returns-in_err-asked-clause-state : goal.returns-in_err-asked-clause-state
-returns-in_err-asked-clause-state g c = IfOk-from_err c.from_residual.result _ c.from_residual.ensures.0
-
-pub returns-in_err-asked-clause-well_formed : goal.returns-in_err-asked-clause-well_formed
-returns-in_err-asked-clause-well_formed g c = IfOk-from_err c.from_residual.result _ c.from_residual.ensures.0
-
-pub returns-in_err-committed-clause-keeps : goal.returns-in_err-committed-clause-keeps
-returns-in_err-committed-clause-keeps g c = IfOk-from_err c.from_residual-in_err-committed.result _ c.from_residual-in_err-committed.ensures.0
-
-pub returns-in_err-committed-clause-commitments : goal.returns-in_err-committed-clause-commitments
-returns-in_err-committed-clause-commitments g c = IfOk-from_err c.from_residual-in_err-committed.result _ c.from_residual-in_err-committed.ensures.0
-
-pub returns-in_err-committed-clause-domains : goal.returns-in_err-committed-clause-domains
-returns-in_err-committed-clause-domains g c = IfOk-from_err c.from_residual-in_err-committed.result _ c.from_residual-in_err-committed.ensures.0
-
-pub returns-in_err-committed-clause-points : goal.returns-in_err-committed-clause-points
-returns-in_err-committed-clause-points g c = IfOk-from_err c.from_residual-in_err-committed.result _ c.from_residual-in_err-committed.ensures.0
-
-pub returns-in_err-committed-clause-named : goal.returns-in_err-committed-clause-named
-returns-in_err-committed-clause-named g c = IfOk-from_err c.from_residual-in_err-committed.result _ c.from_residual-in_err-committed.ensures.0
-
-pub returns-in_err-committed-clause-state : goal.returns-in_err-committed-clause-state
-returns-in_err-committed-clause-state g c = IfOk-from_err c.from_residual-in_err-committed.result _ c.from_residual-in_err-committed.ensures.0
-
-pub returns-in_err-committed-clause-well_formed : goal.returns-in_err-committed-clause-well_formed
-returns-in_err-committed-clause-well_formed g c = IfOk-from_err c.from_residual-in_err-committed.result _ c.from_residual-in_err-committed.ensures.0
-
-pub returns-in_err-known-clause-keeps : goal.returns-in_err-known-clause-keeps
-returns-in_err-known-clause-keeps g c = IfOk-from_err c.from_residual-in_err-known.result _ c.from_residual-in_err-known.ensures.0
-
-pub returns-in_err-known-clause-commitments : goal.returns-in_err-known-clause-commitments
-returns-in_err-known-clause-commitments g c = IfOk-from_err c.from_residual-in_err-known.result _ c.from_residual-in_err-known.ensures.0
-
-pub returns-in_err-known-clause-domains : goal.returns-in_err-known-clause-domains
-returns-in_err-known-clause-domains g c = IfOk-from_err c.from_residual-in_err-known.result _ c.from_residual-in_err-known.ensures.0
-
-pub returns-in_err-known-clause-points : goal.returns-in_err-known-clause-points
-returns-in_err-known-clause-points g c = IfOk-from_err c.from_residual-in_err-known.result _ c.from_residual-in_err-known.ensures.0
-
-pub returns-in_err-known-clause-named : goal.returns-in_err-known-clause-named
-returns-in_err-known-clause-named g c = IfOk-from_err c.from_residual-in_err-known.result _ c.from_residual-in_err-known.ensures.0
-
-pub returns-in_err-known-clause-state : goal.returns-in_err-known-clause-state
-returns-in_err-known-clause-state g c = IfOk-from_err c.from_residual-in_err-known.result _ c.from_residual-in_err-known.ensures.0
-
-pub returns-in_err-known-clause-well_formed : goal.returns-in_err-known-clause-well_formed
-returns-in_err-known-clause-well_formed g c = IfOk-from_err c.from_residual-in_err-known.result _ c.from_residual-in_err-known.ensures.0
+pub returns-in_err-known-clause-prepared : goal.returns-in_err-known-clause-prepared
+returns-in_err-known-clause-prepared g c = IfOk-from_err c.from_residual-in_err-known.result _ c.from_residual-in_err-known.ensures.0
 
 pub returns-in_err-known-clause-refused : goal.returns-in_err-known-clause-refused
 returns-in_err-known-clause-refused g c = request_wants c.from_residual-in_err-known.result _ _ c.from_residual-in_err-known.ensures.1
 
-pub returns-in_err-stated-clause-keeps : goal.returns-in_err-stated-clause-keeps
-returns-in_err-stated-clause-keeps g c = IfOk-from_err c.from_residual-in_err-stated.result _ c.from_residual-in_err-stated.ensures.0
-
-pub returns-in_err-stated-clause-commitments : goal.returns-in_err-stated-clause-commitments
-returns-in_err-stated-clause-commitments g c = IfOk-from_err c.from_residual-in_err-stated.result _ c.from_residual-in_err-stated.ensures.0
-
-pub returns-in_err-stated-clause-domains : goal.returns-in_err-stated-clause-domains
-returns-in_err-stated-clause-domains g c = IfOk-from_err c.from_residual-in_err-stated.result _ c.from_residual-in_err-stated.ensures.0
-
-pub returns-in_err-stated-clause-points : goal.returns-in_err-stated-clause-points
-returns-in_err-stated-clause-points g c = IfOk-from_err c.from_residual-in_err-stated.result _ c.from_residual-in_err-stated.ensures.0
-
-pub returns-in_err-stated-clause-named : goal.returns-in_err-stated-clause-named
-returns-in_err-stated-clause-named g c = IfOk-from_err c.from_residual-in_err-stated.result _ c.from_residual-in_err-stated.ensures.0
-
-pub returns-in_err-stated-clause-state : goal.returns-in_err-stated-clause-state
-returns-in_err-stated-clause-state g c = IfOk-from_err c.from_residual-in_err-stated.result _ c.from_residual-in_err-stated.ensures.0
-
-pub returns-in_err-stated-clause-well_formed : goal.returns-in_err-stated-clause-well_formed
-returns-in_err-stated-clause-well_formed g c = IfOk-from_err c.from_residual-in_err-stated.result _ c.from_residual-in_err-stated.ensures.0
+pub returns-in_err-stated-clause-prepared : goal.returns-in_err-stated-clause-prepared
+returns-in_err-stated-clause-prepared g c = IfOk-from_err c.from_residual-in_err-stated.result _ c.from_residual-in_err-stated.ensures.0
 
 pub returns-in_err-stated-clause-refused : goal.returns-in_err-stated-clause-refused
 returns-in_err-stated-clause-refused g c = request_wants c.from_residual-in_err-stated.result _ _ c.from_residual-in_err-stated.ensures.1
 
-pub returns-in_err-begun-clause-keeps : goal.returns-in_err-begun-clause-keeps
-returns-in_err-begun-clause-keeps g c = IfOk-from_err c.from_residual-in_err-begun.result _ c.from_residual-in_err-begun.ensures.0
-
-pub returns-in_err-begun-clause-commitments : goal.returns-in_err-begun-clause-commitments
-returns-in_err-begun-clause-commitments g c = IfOk-from_err c.from_residual-in_err-begun.result _ c.from_residual-in_err-begun.ensures.0
-
-pub returns-in_err-begun-clause-domains : goal.returns-in_err-begun-clause-domains
-returns-in_err-begun-clause-domains g c = IfOk-from_err c.from_residual-in_err-begun.result _ c.from_residual-in_err-begun.ensures.0
-
-pub returns-in_err-begun-clause-points : goal.returns-in_err-begun-clause-points
-returns-in_err-begun-clause-points g c = IfOk-from_err c.from_residual-in_err-begun.result _ c.from_residual-in_err-begun.ensures.0
-
-pub returns-in_err-begun-clause-named : goal.returns-in_err-begun-clause-named
-returns-in_err-begun-clause-named g c = IfOk-from_err c.from_residual-in_err-begun.result _ c.from_residual-in_err-begun.ensures.0
-
-pub returns-in_err-begun-clause-state : goal.returns-in_err-begun-clause-state
-returns-in_err-begun-clause-state g c = IfOk-from_err c.from_residual-in_err-begun.result _ c.from_residual-in_err-begun.ensures.0
-
-pub returns-in_err-begun-clause-well_formed : goal.returns-in_err-begun-clause-well_formed
-returns-in_err-begun-clause-well_formed g c = IfOk-from_err c.from_residual-in_err-begun.result _ c.from_residual-in_err-begun.ensures.0
+pub returns-in_err-begun-clause-prepared : goal.returns-in_err-begun-clause-prepared
+returns-in_err-begun-clause-prepared g c = IfOk-from_err c.from_residual-in_err-begun.result _ c.from_residual-in_err-begun.ensures.0
 
 pub returns-in_err-begun-clause-refused : goal.returns-in_err-begun-clause-refused
 returns-in_err-begun-clause-refused g c = request_wants c.from_residual-in_err-begun.result _ _ c.from_residual-in_err-begun.ensures.1
 
-pub returns-in_err-challenger-clause-keeps : goal.returns-in_err-challenger-clause-keeps
-returns-in_err-challenger-clause-keeps g c = IfOk-from_err c.from_residual-in_err-challenger.result _ c.from_residual-in_err-challenger.ensures.0
-
-pub returns-in_err-challenger-clause-commitments : goal.returns-in_err-challenger-clause-commitments
-returns-in_err-challenger-clause-commitments g c = IfOk-from_err c.from_residual-in_err-challenger.result _ c.from_residual-in_err-challenger.ensures.0
-
-pub returns-in_err-challenger-clause-domains : goal.returns-in_err-challenger-clause-domains
-returns-in_err-challenger-clause-domains g c = IfOk-from_err c.from_residual-in_err-challenger.result _ c.from_residual-in_err-challenger.ensures.0
-
-pub returns-in_err-challenger-clause-points : goal.returns-in_err-challenger-clause-points
-returns-in_err-challenger-clause-points g c = IfOk-from_err c.from_residual-in_err-challenger.result _ c.from_residual-in_err-challenger.ensures.0
-
-pub returns-in_err-challenger-clause-named : goal.returns-in_err-challenger-clause-named
-returns-in_err-challenger-clause-named g c = IfOk-from_err c.from_residual-in_err-challenger.result _ c.from_residual-in_err-challenger.ensures.0
-
-pub returns-in_err-challenger-clause-state : goal.returns-in_err-challenger-clause-state
-returns-in_err-challenger-clause-state g c = IfOk-from_err c.from_residual-in_err-challenger.result _ c.from_residual-in_err-challenger.ensures.0
-
-pub returns-in_err-challenger-clause-well_formed : goal.returns-in_err-challenger-clause-well_formed
-returns-in_err-challenger-clause-well_formed g c = IfOk-from_err c.from_residual-in_err-challenger.result _ c.from_residual-in_err-challenger.ensures.0
+pub returns-in_err-challenger-clause-prepared : goal.returns-in_err-challenger-clause-prepared
+returns-in_err-challenger-clause-prepared g c = IfOk-from_err c.from_residual-in_err-challenger.result _ c.from_residual-in_err-challenger.ensures.0
 
 pub returns-in_err-challenger-clause-refused : goal.returns-in_err-challenger-clause-refused
 returns-in_err-challenger-clause-refused g c = request_wants c.from_residual-in_err-challenger.result _ _ c.from_residual-in_err-challenger.ensures.1

@@ -33,7 +33,7 @@ use Rattle.fri_requests.proofs.Stated.{accepted}
 use Rattle.fri_requests.specs.Accepted.{IsAccepted}
 use Rattle.fri_requests.proofs.prover.open_all.Given.{Over}
 use Rattle.fri_requests.proofs.prover.open_all.Goals as goal
-use Rattle.fri_requests.proofs.prover.open_all.Goals.{In_ok-next_drawn}
+use Rattle.fri_requests.proofs.prover.open_all.Goals.{In_ok-records}
 
 abbrev fields : (g : Over) → SchemeFields g.row.F.Denot g.row.F-Extension.Denot
 fields g = fields_of g.F.Field g.F.PrimeField64 g.F.TwoAdicField g.F.ElementBytes
@@ -55,7 +55,7 @@ open_kept-requires g c = record {
 }
 
 -- what is known of what is opened, once it is answered
-module _ (g : Over) (c : In_ok-next_drawn g) (batches : List Batch)
+module _ (g : Over) (c : In_ok-records g) (batches : List Batch)
     (kept : HasCommitted (fields g) g.F.ElementBytes.LEN (λ d. d.shift) (λ d. d.log_size)
     c.args.parameters.now c.args.all.now batches) where
   abbrev Made : setting.Parameters
@@ -122,29 +122,29 @@ module _ (g : Over) (c : In_ok-next_drawn g) (batches : List Batch)
       c.args.asked.now kept_made asks (nested c.in_ok-points.points.items) c.in_ok-points.ensures.points
 
   -- the records list the claims of the requests
-  listed : map batch_listed c.in_ok-claims_out.field-0.items
+  listed : map batch_listed c.in_ok-records.records.items
       ≡ map (batch_numbers (fields g) (λ d. d.shift) (λ d. d.log_size))
       (honest_claims (held_of (fields g).relation matrices_of c.made-scheme.result.fri.log_blowup) root_over
       (map (λ k. k.domains.items) c.args.all.now)
       (requests_for c.args.all.now (nested c.in_ok-points.points.items)))
   listed =
-      c.in_ok-claims_out.ensures
+      c.in_ok-records.ensures.claims
       ∙ ap (λ cs. map (batch_numbers (fields g) (λ d. d.shift) (λ d. d.log_size)) cs)
       (c.in_ok-claims.ensures.claims honest roots
       ∙ ap (λ ds. honest_claims (held_of (fields g).relation matrices_of c.made-scheme.result.fri.log_blowup) root_over ds
       (requests_for c.args.all.now (nested c.in_ok-points.points.items))) domains)
 
-  pub opened : AllZip (IsOpened (fields g) c.args.parameters.now.log_blowup) (map batch_listed c.in_ok-claims_out.field-0.items)
+  pub opened : AllZip (IsOpened (fields g) c.args.parameters.now.log_blowup) (map batch_listed c.in_ok-records.records.items)
       (batches_at batches c.args.asked.now)
   opened =
-      subst (λ n. AllZip (IsOpened (fields g) n) (map batch_listed c.in_ok-claims_out.field-0.items)
+      subst (λ n. AllZip (IsOpened (fields g) n) (map batch_listed c.in_ok-records.records.items)
       (batches_at batches c.args.asked.now)) same_blowup
       (subst (λ ns. AllZip (IsOpened (fields g) c.made-scheme.result.fri.log_blowup) ns (batches_at batches c.args.asked.now))
       (sym listed)
       (opened_at (fields g) (numbered g) g.F.ElementBytes.LEN (λ d. d.shift) (λ d. d.log_size) c.made-scheme.result.fri.log_blowup c.args.all.now batches
       c.args.asked.now kept_made asks (nested c.in_ok-points.points.items) c.in_ok-points.ensures.points))
 
-  pub commitments : map (λ n. n.commitment) (map batch_listed c.in_ok-claims_out.field-0.items)
+  pub commitments : map (λ n. n.commitment) (map batch_listed c.in_ok-records.records.items)
       ≡ map (λ k. Ok k) (map (λ k. k.commitment) c.args.all.now)
   commitments =
       ap (λ ns. map (λ n. n.commitment) ns) listed
@@ -152,7 +152,7 @@ module _ (g : Over) (c : In_ok-next_drawn g) (batches : List Batch)
       c.args.asked.now kept_made asks (nested c.in_ok-points.points.items) c.in_ok-points.ensures.points
 
   begins : c.in_ok-points.challenger
-      ≡ state_bound (fields g) start c.args.context.now c.args.parameters.now c.in_ok-claims_out.field-0.items
+      ≡ state_bound (fields g) start c.args.context.now c.args.parameters.now c.in_ok-records.records.items
   begins =
       c.in_ok-points.ensures.state
       ∙ ap (λ os. bound (fields g) start (context_listed c.args.context.now) (parameters_in c.args.parameters.now) os)
@@ -170,32 +170,23 @@ module _ (g : Over) (c : In_ok-next_drawn g) (batches : List Batch)
       (subst (λ q. InProverRange q g.F.TwoAdicField.TWO_ADICITY 63) c.in-Ok.ensures.parameters c.in-Ok.ensures.range)
       (c.in_ok-claims.ensures.accepted honest roots fit)
 
-  pub is_accepted : IsAccepted (fields g) c.args.context.now c.args.parameters.now c.in_ok-claims_out.field-0.items
-      (proof_of c.in_ok-claims.proof) c.in_ok-next_drawn.field-0.items
+  pub is_accepted : IsAccepted (fields g) c.args.context.now c.args.parameters.now c.in_ok-records.records.items
+      (proof_of c.in_ok-claims.proof) c.in_ok-records.next_challenge.items
   is_accepted =
-      accepted (fields g) c.args.context.now c.args.parameters.now c.in_ok-claims_out.field-0.items
+      accepted (fields g) c.args.context.now c.args.parameters.now c.in_ok-records.records.items
       (proof_of c.in_ok-claims.proof) Made
       (relation_claims (λ d. d.log_size) (map claim c.in_ok-claims.claims.items)) c.in_ok-points.challenger same
       (claims_again (fields g) (numbered g) (λ d. d.shift) (λ d. d.log_size) (map claim c.in_ok-claims.claims.items)
-      c.in_ok-claims_out.field-0.items (sym c.in_ok-claims_out.ensures)) begins
+      c.in_ok-records.records.items (sym c.in_ok-records.ensures.claims)) begins
       (record {
         bytes = c.in_ok-points.ensures.context;
         range = range;
         claims = are_claims (fields g) (numbered g) (λ d. d.shift) (λ d. d.log_size)
             (λ d. is_coset (fields g) (numbered g) g.F.TwoAdicField.TWO_ADICITY d.shift d.log_size d.nonzero d.within_two_adicity)
-            (map claim c.in_ok-claims.claims.items) c.in_ok-claims_out.field-0.items (sym c.in_ok-claims_out.ensures);
+            (map claim c.in_ok-claims.claims.items) c.in_ok-records.records.items (sym c.in_ok-records.ensures.claims);
       })
-      c.open_kept.new.challenger c.in_ok-next_drawn.field-0.items (c.in_ok-claims.ensures.accepted honest roots fit)
-      (c.in_ok-claims.ensures.state honest roots fit) c.in_ok-next_drawn.ensures
-
-pub returns-clause-accepted : goal.returns-clause-accepted
-returns-clause-accepted g c = λ batches kept. is_accepted g (goal.at.returns-clause-accepted g c).In_ok-next_drawn batches kept
-
-pub returns-clause-opened : goal.returns-clause-opened
-returns-clause-opened g c = λ batches kept. opened g (goal.at.returns-clause-opened g c).In_ok-next_drawn batches kept
-
-pub returns-clause-well_formed : goal.returns-clause-well_formed
-returns-clause-well_formed g c = λ batches kept. can_ask g (goal.at.returns-clause-well_formed g c).In_ok-next_drawn batches kept
+      c.open_kept.new.challenger c.in_ok-records.next_challenge.items (c.in_ok-claims.ensures.accepted honest roots fit)
+      (c.in_ok-claims.ensures.state honest roots fit) c.in_ok-records.ensures.next
 
 pub returns-then-not-are_named-clause-refused : goal.returns-then-not-are_named-clause-refused
 returns-then-not-are_named-clause-refused g c = λ batches kept can.
@@ -242,76 +233,31 @@ returns-in_err-claims-clause-refused g c = λ batches kept.
       };
     })
 
-pub returns-clause-commitments : goal.returns-clause-commitments
-returns-clause-commitments g c =
-    λ batches kept. commitments g (goal.at.returns-clause-commitments g c).In_ok-next_drawn batches kept
+pub returns-clause-opened : goal.returns-clause-opened
+returns-clause-opened g c = λ batches kept.
+    let at = (goal.at.returns-clause-opened g c).In_ok-records in
+    record {
+      asks = can_ask g at batches kept;
+      opened = opened g at batches kept;
+      commitments = commitments g at batches kept;
+      accepted = is_accepted g at batches kept;
+    }
 
 -- where nothing is answered nothing is said of the answer
-pub returns-in_err-known-clause-accepted : goal.returns-in_err-known-clause-accepted
-returns-in_err-known-clause-accepted g c = λ _ _. IfOk-from_err c.from_residual.result _ c.from_residual.ensures.0
-
 pub returns-in_err-known-clause-opened : goal.returns-in_err-known-clause-opened
 returns-in_err-known-clause-opened g c = λ _ _. IfOk-from_err c.from_residual.result _ c.from_residual.ensures.0
-
-pub returns-in_err-known-clause-well_formed : goal.returns-in_err-known-clause-well_formed
-returns-in_err-known-clause-well_formed g c = λ _ _. IfOk-from_err c.from_residual.result _ c.from_residual.ensures.0
-
-pub returns-in_err-known-clause-commitments : goal.returns-in_err-known-clause-commitments
-returns-in_err-known-clause-commitments g c = λ _ _. IfOk-from_err c.from_residual.result _ c.from_residual.ensures.0
 
 pub returns-in_err-known-clause-refused : goal.returns-in_err-known-clause-refused
 returns-in_err-known-clause-refused g c = λ _ _. request_wants c.from_residual.result _ _ c.from_residual.ensures.1
 
-pub returns-in_err-points-clause-accepted : goal.returns-in_err-points-clause-accepted
-returns-in_err-points-clause-accepted g c = λ _ _. IfOk-from_err c.from_residual-in_err-points.result _ c.from_residual-in_err-points.ensures.0
-
 pub returns-in_err-points-clause-opened : goal.returns-in_err-points-clause-opened
 returns-in_err-points-clause-opened g c = λ _ _. IfOk-from_err c.from_residual-in_err-points.result _ c.from_residual-in_err-points.ensures.0
-
-pub returns-in_err-points-clause-well_formed : goal.returns-in_err-points-clause-well_formed
-returns-in_err-points-clause-well_formed g c = λ _ _. IfOk-from_err c.from_residual-in_err-points.result _ c.from_residual-in_err-points.ensures.0
-
-pub returns-in_err-points-clause-commitments : goal.returns-in_err-points-clause-commitments
-returns-in_err-points-clause-commitments g c = λ _ _. IfOk-from_err c.from_residual-in_err-points.result _ c.from_residual-in_err-points.ensures.0
-
-pub returns-in_err-claims-clause-accepted : goal.returns-in_err-claims-clause-accepted
-returns-in_err-claims-clause-accepted g c = λ _ _. IfOk-from_err c.from_residual-in_err-claims.result _ c.from_residual-in_err-claims.ensures.0
 
 pub returns-in_err-claims-clause-opened : goal.returns-in_err-claims-clause-opened
 returns-in_err-claims-clause-opened g c = λ _ _. IfOk-from_err c.from_residual-in_err-claims.result _ c.from_residual-in_err-claims.ensures.0
 
-pub returns-in_err-claims-clause-well_formed : goal.returns-in_err-claims-clause-well_formed
-returns-in_err-claims-clause-well_formed g c = λ _ _. IfOk-from_err c.from_residual-in_err-claims.result _ c.from_residual-in_err-claims.ensures.0
+pub returns-in_err-records-clause-opened : goal.returns-in_err-records-clause-opened
+returns-in_err-records-clause-opened g c = λ _ _. IfOk-from_err c.from_residual-in_err-records.result _ c.from_residual-in_err-records.ensures.0
 
-pub returns-in_err-claims-clause-commitments : goal.returns-in_err-claims-clause-commitments
-returns-in_err-claims-clause-commitments g c = λ _ _. IfOk-from_err c.from_residual-in_err-claims.result _ c.from_residual-in_err-claims.ensures.0
-
-pub returns-in_err-claims_out-clause-accepted : goal.returns-in_err-claims_out-clause-accepted
-returns-in_err-claims_out-clause-accepted g c = λ _ _. IfOk-from_err c.from_residual-in_err-claims_out.result _ c.from_residual-in_err-claims_out.ensures.0
-
-pub returns-in_err-claims_out-clause-opened : goal.returns-in_err-claims_out-clause-opened
-returns-in_err-claims_out-clause-opened g c = λ _ _. IfOk-from_err c.from_residual-in_err-claims_out.result _ c.from_residual-in_err-claims_out.ensures.0
-
-pub returns-in_err-claims_out-clause-well_formed : goal.returns-in_err-claims_out-clause-well_formed
-returns-in_err-claims_out-clause-well_formed g c = λ _ _. IfOk-from_err c.from_residual-in_err-claims_out.result _ c.from_residual-in_err-claims_out.ensures.0
-
-pub returns-in_err-claims_out-clause-commitments : goal.returns-in_err-claims_out-clause-commitments
-returns-in_err-claims_out-clause-commitments g c = λ _ _. IfOk-from_err c.from_residual-in_err-claims_out.result _ c.from_residual-in_err-claims_out.ensures.0
-
-pub returns-in_err-claims_out-clause-refused : goal.returns-in_err-claims_out-clause-refused
-returns-in_err-claims_out-clause-refused g c = λ _ _. request_wants c.from_residual-in_err-claims_out.result _ _ c.from_residual-in_err-claims_out.ensures.1
-
-pub returns-in_err-next_drawn-clause-accepted : goal.returns-in_err-next_drawn-clause-accepted
-returns-in_err-next_drawn-clause-accepted g c = λ _ _. IfOk-from_err c.from_residual-in_err-next_drawn.result _ c.from_residual-in_err-next_drawn.ensures.0
-
-pub returns-in_err-next_drawn-clause-opened : goal.returns-in_err-next_drawn-clause-opened
-returns-in_err-next_drawn-clause-opened g c = λ _ _. IfOk-from_err c.from_residual-in_err-next_drawn.result _ c.from_residual-in_err-next_drawn.ensures.0
-
-pub returns-in_err-next_drawn-clause-well_formed : goal.returns-in_err-next_drawn-clause-well_formed
-returns-in_err-next_drawn-clause-well_formed g c = λ _ _. IfOk-from_err c.from_residual-in_err-next_drawn.result _ c.from_residual-in_err-next_drawn.ensures.0
-
-pub returns-in_err-next_drawn-clause-commitments : goal.returns-in_err-next_drawn-clause-commitments
-returns-in_err-next_drawn-clause-commitments g c = λ _ _. IfOk-from_err c.from_residual-in_err-next_drawn.result _ c.from_residual-in_err-next_drawn.ensures.0
-
-pub returns-in_err-next_drawn-clause-refused : goal.returns-in_err-next_drawn-clause-refused
-returns-in_err-next_drawn-clause-refused g c = λ _ _. request_wants c.from_residual-in_err-next_drawn.result _ _ c.from_residual-in_err-next_drawn.ensures.1
+pub returns-in_err-records-clause-refused : goal.returns-in_err-records-clause-refused
+returns-in_err-records-clause-refused g c = λ _ _. request_wants c.from_residual-in_err-records.result _ _ c.from_residual-in_err-records.ensures.1
