@@ -1,9 +1,10 @@
 use Rattle.std.proofs.Common.{map}
 use Rattle.std.proofs.lemmas.Result.{IfOk-from_err}
-use Rattle.fri_requests.specs.Claims.{batch_listed}
+use Rattle.p3_pcs.specs.Claims.{claim}
+use Rattle.fri_requests.specs.Claims.{batch_by, batch_listed}
 use Rattle.fri_requests.specs.Statements.{IsClaimBy}
 use Rattle.fri_requests.proofs.Failed.{malformed_part, read_wants}
-use Rattle.fri_requests.proofs.Images.{image_all}
+use Rattle.fri_requests.proofs.Images.{image_all, image_more}
 use Rattle.fri_requests.proofs.Listed.{not_all}
 use Rattle.fri_requests.proofs.claims.claims_in.Goals as goal
 
@@ -19,6 +20,13 @@ pub returns-clause-numbers : goal.returns-clause-numbers
 returns-clause-numbers g c =
     image_all (map batch_listed) c.args.claims.now c.loop-index.index c.loop-index-test.false
     c.loop-index.invariant
+
+pub loop-index-preserved : goal.loop-index-preserved
+loop-index-preserved g c =
+    image_more (batch_by g.N.Numbered.numbers_of g.N.Numbered.shift_of g.N.Numbered.log_size_of) claim batch_listed
+    c.loop-index.openings.items c.push.new.self.items c.args.claims.now c.loop-index.index
+    c.in_ok-commitment_opening.field-0 c.index-claims-index.result c.loop-index-test.true c.index-claims-index.is
+    c.in_ok-push.ensures.items c.in_ok-commitment_opening.ensures.numbers c.loop-index.invariant
 
 -- where nothing is answered nothing is said of the answer
 pub returns-in_err-openings-clause-numbers : goal.returns-in_err-openings-clause-numbers

@@ -1,10 +1,10 @@
-use Rattle.std.proofs.Common.{◌≡◌, ◌<◌, All, map, length, get_or, subst, sym}
+use Rattle.std.proofs.Common.{◌≡◌, ◌<◌, ◌≤◌, All, map, length, get_or, subst, sym}
 use Rattle.std.proofs.lemmas.Result.{IfOk-from_err}
 use Rattle.p3_pcs.specs.Claims.{point_claim}
 use Rattle.fri_requests.specs.Claims.{point_by, point_listed}
 use Rattle.fri_requests.specs.Statements.{IsPointClaimBy}
 use Rattle.fri_requests.proofs.Failed.{malformed_part, read_wants, malformed}
-use Rattle.fri_requests.proofs.Images.{image_more}
+use Rattle.fri_requests.proofs.Images.{image_all, image_more, same_numbers}
 use Rattle.fri_requests.proofs.Listed.{not_all}
 use Rattle.fri_requests.proofs.claims.matrix_opening.Goals as goal
 
@@ -31,6 +31,13 @@ loop-index-preserved g c =
     (subst (λ ys. c.point-item.result ≡ get_or ys c.loop-index.index c.point-item.result) whole
     c.point-item.is)
     c.in_ok-push.ensures.items c.in_ok-point_opening.ensures.numbers c.loop-index.invariant
+
+pub returns-clause-numbers : goal.returns-clause-numbers
+returns-clause-numbers g c =
+    same_numbers c.in_ok-domain.ensures.shift c.in_ok-domain.ensures.log_size
+    (image_all (map point_listed) c.args.claims.now.points.items c.loop-index.index
+    (subst (λ ys. length ys ≤ c.loop-index.index) c.deref-point-items.ensures.value c.loop-index-test.false)
+    c.loop-index.invariant)
 
 -- where nothing is answered nothing is said of the answer
 pub returns-in_err-domain-clause-numbers : goal.returns-in_err-domain-clause-numbers

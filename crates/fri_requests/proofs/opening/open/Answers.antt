@@ -219,6 +219,12 @@ returns-in_err-claims-clause-refused g c =
       });
     })
 
+pub returns-clause-named : goal.returns-clause-named
+returns-clause-named g c = c.in_ok-prepared.ensures.prepared.named
+
+pub returns-clause-well_formed : goal.returns-clause-well_formed
+returns-clause-well_formed g c = c.in_ok-prepared.ensures.prepared.well_formed
+
 -- where nothing is answered nothing is said of the answer
 pub returns-in_err-prepared-clause-accepted : goal.returns-in_err-prepared-clause-accepted
 returns-in_err-prepared-clause-accepted g c = IfOk-from_err c.from_residual.result _ c.from_residual.ensures.0
