@@ -1,12 +1,13 @@
-use Rattle.std.proofs.Common.{◌<◌, ◌≤◌, ◌++◌, length, sym, subst, ap, ap₂, ◌∙◌, arith}
+use Rattle.std.proofs.Common.{◌<◌, ◌≤◌, ◌++◌, length, map, sym, subst, ap, ap₂, ◌∙◌, arith}
 use Rattle.std.proofs.lemmas.List.{length-map, take_all}
 use Rattle.std.proofs.lemmas.Slice.Zip.{AllZip-long}
 use Rattle.algebra.specs.Nested.{nested, joined}
 use Rattle.p3_pcs.specs.Claims.{opened_values}
 use Rattle.p3_pcs.proofs.Zipped.{entry_of_zip_with, within_zip_with, length_of_zip_with}
 use Rattle.p3_fri_openings.specs.Denominators.{ArePointsCovered}
+use Rattle.p3_fri_openings.specs.Rounds.{IsRound}
 use Rattle.p3_fri_openings.proofs.First.{at_item}
-use Rattle.p3_fri_batch.specs.Rounds.{HaveValues, opened_in, opened_by_round}
+use Rattle.p3_fri_batch.specs.Rounds.{HaveValues, as_opened, opened_in, opened_by_round}
 use Rattle.p3_fri_batch.proofs.Collected.{all_zip_at, joined_more}
 use Rattle.algebra.proofs.Lists.{entry_of_map}
 use Rattle.p3_fri_batch.proofs.opened.opened_matrices.Goals as goal
@@ -76,3 +77,16 @@ returns-clause-opened g c =
     c.loop-index.invariant.opened
     ∙ ap joined (take_all c.loop-index.index (opened_by_round rounds values)
     (length_of_zip_with opened_in rounds values c.loop-index.index (omega (arith, last))))
+
+pub loop-index-init : goal.loop-index-init
+loop-index-init g c =
+    let none = c.new-opened.ensures.items in
+    record {
+      opened = ap (map as_opened) none;
+      ready = λ _ _ k d l. absurd (omega (arith, l, ap length none));
+    }
+
+pub push_round-requires-clause-round : goal.push_round-requires-clause-round
+push_round-requires-clause-round g c =
+    at_item (IsRound g.F.TwoAdicField.TWO_ADICITY) c.args.rounds.now c.loop-index.index c.index-rounds-index.result
+    c.loop-index-test.true c.index-rounds-index.is c.requires.rounds

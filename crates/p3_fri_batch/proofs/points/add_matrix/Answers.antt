@@ -1,4 +1,4 @@
-use Rattle.std.proofs.Common.{◌<◌, [], List, length, map, get_or, ap, ◌∙◌, arith}
+use Rattle.std.proofs.Common.{◌<◌, [], List, length, map, get_or, ap, sym, ◌∙◌, arith}
 use Rattle.std.proofs.Math.ListN.{get_or-map}
 use Rattle.std.proofs.lemmas.List.{length-map, get_or_default}
 use Rattle.algebra.specs.Polynomial.{val}
@@ -21,3 +21,11 @@ returns-clause-sums g c =
     ∙ get_or_default (map f all) i d (f []) (omega (arith, below, length-map all f))
     ∙ get_or-map f all i [])
     st wo
+
+pub add_opened_points-requires-clause-compressed : goal.add_opened_points-requires-clause-compressed
+add_opened_points-requires-clause-compressed g c = 
+    let all = rows c.args.opened.now.matrix.now in
+    let f : List g.row.F.Denot → g.row.EF.Denot =
+    λ row. val g.EF.Field.ops (map g.EF.ExtensionField.lift row) c.args.ladder.now.alpha in
+    ap length (c.deref.ensures.value ∙ c.in_ok-compressed.ensures) ∙ length-map all f
+    ∙ sym c.requires.height

@@ -164,3 +164,6 @@ returns g c =
       step = λ m e. c.loop-point.invariant.steps m e
           ∙ ap (λ k. pow K alpha (m + k * matrix_width c.args.opened.now.matrix.now)) whole;
     }
+
+pub mul-step-requires : goal.mul-step-requires
+mul-step-requires g c = g.met.EF.Field.can_mul_law _ _

@@ -1,6 +1,7 @@
 use Rattle.std.proofs.Common.{◌≡◌, ◌^◌, ◌+◌, ◌*◌, length, IsOk, refl, sym, subst, ap, ◌∙◌, arith}
 use Rattle.std.proofs.lemmas.Bool.{eqb-true, eq-eqb, false≢true}
 use Rattle.std.proofs.lemmas.Result.{IfOk-at_ok}
+use Rattle.std.proofs.lemmas.List.{length-map}
 use Rattle.std.specs.Prelude.{All}
 use Rattle.algebra.specs.Field.{pow}
 use Rattle.algebra.specs.Nested.{lists}
@@ -91,3 +92,7 @@ returns g c =
     ∙ ap (λ k. pow K alpha (n + k * matrix_width m))
     (sym (claims_count o.points.now (lists o.values.now) c.requires.ready.values.counts)))
     so_far)
+
+pub add_matrix-requires-clause-counts : goal.add_matrix-requires-clause-counts
+add_matrix-requires-clause-counts g c =
+    sym (length-map c.args.opened.now.values.now (λ v. v.items)) ∙ c.requires.ready.values.counts
