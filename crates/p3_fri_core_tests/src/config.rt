@@ -16,7 +16,7 @@ struct Schedule {
     rounds: &'static [usize],
 }
 
-const SCHEDULES: [Schedule; 8] = [
+static SCHEDULES: [Schedule; 8] = [
     Schedule {
         name: "one input",
         heights: &[10],
@@ -67,7 +67,7 @@ const SCHEDULES: [Schedule; 8] = [
     },
 ];
 
-const HEIGHTS: [(&str, &[usize], bool); 4] = [
+static HEIGHTS: [(&str, &[usize], bool); 4] = [
     ("no heights fall", &[], true),
     ("heights fall", &[10, 6, 0], true),
     ("equal heights", &[10, 10], false),
@@ -81,7 +81,8 @@ fn schedules_stop_where_an_input_joins(rt: HostRuntime) {
     }
     for case in &SCHEDULES {
         let (heights, most) = (case.heights, case.max_log_arity);
-        assert!(rt; is_strictly_falling(heights) && most != 0, "{}", case.name);
+        assert!(rt; is_strictly_falling(heights), "{}", case.name);
+        assert!(rt; most != 0, "{}", case.name);
         let schedule = fold_schedule(rt.alloc(), heights, 2, most).expect(&rt, case.name);
         assert!(rt; schedule.as_slice() == case.rounds, "{}", case.name);
     }
@@ -129,7 +130,7 @@ struct Constructed {
     regime: [usize; 6],
 }
 
-const CONSTRUCTED: [Constructed; 7] = [
+static CONSTRUCTED: [Constructed; 7] = [
     Constructed {
         name: "for tests",
         preset: Preset::Testing(0),
@@ -186,9 +187,8 @@ fn is_constructed(case: &Constructed) -> bool {
         regime.commit_pow_bits,
         regime.query_pow_bits,
     ];
-    parameters.conjectured_soundness_bits() == case.bits
-        && numbers == case.regime
-        && parameters.mmcs == 7
+    let bits = parameters.conjectured_soundness_bits();
+    (bits == case.bits) & (numbers == case.regime) & (parameters.mmcs == 7)
 }
 
 /// The blowup, the length of the final polynomial and the arity of parameters for tests, and the
@@ -211,11 +211,11 @@ fn the_batch_bits_are_a_site_of_their_own() -> bool {
     let sites = GrindingSites {
         batch_combination: 7,
     };
-    without == GrindingSites::NONE && parameters.grinding_sites() == sites
+    (without == GrindingSites::NONE) & (parameters.grinding_sites() == sites)
 }
 
 /// How parameters are printed.
-const PRINTED: &str = "FriParameters { log_blowup: 2, log_final_poly_len: 0, max_log_arity: 1, \
+static PRINTED: &str = "FriParameters { log_blowup: 2, log_final_poly_len: 0, max_log_arity: 1, \
     num_queries: 100, batch_proof_of_work_bits: 10, commit_proof_of_work_bits: 0, \
     query_proof_of_work_bits: 16, mmcs: 7 }";
 

@@ -3,7 +3,7 @@
 ghost use Rattle.std.specs.Prelude.{◌≡◌, ◌+◌, ◌<◌, ◌≤◌, ◌^◌, length};
 ghost use Rattle.p3_matrix.specs.Matrix.{rows, matrix_width};
 
-use p3_field::{BabyBear, BabyBear4, ExtensionField, Field, TwoAdicMultiplicativeCoset};
+use p3_field::{BabyBear, BabyBear4, ExtensionField, Field};
 use p3_fri_core::{FriFoldingStrategy, TwoAdicFriFolding, WithExtraBits};
 use p3_matrix::RowMajorMatrix;
 use std::alloc::Global;
@@ -14,136 +14,211 @@ type Folding = TwoAdicFriFolding<(), ()>;
 
 const FOLDING: Folding = TwoAdicFriFolding(PhantomData);
 
-/// Elements of the base field.
-#[derive(Clone, Copy)]
-enum Values {
-    /// These numbers.
-    Listed(&'static [u64]),
-    /// The numbers from 0 on.
-    Counted,
-    /// The points of the subgroup of their number, in bit-reversed order, each to a power, times a
-    /// factor.
-    Powers { exponent: u64, factor: u64 },
-}
+/// The points of the subgroup of order 32, in bit-reversed order. These and the next numbers were
+/// computed in Python from the root 440564289 of order `2^27`.
+const POINTS: &[u64] = &[
+    1, 2013265920, 1728404513, 284861408, 1592366214, 420899707, 211723194, 1801542727, 196396260,
+    1816869661, 1400279418, 612986503, 78945800, 1934320121, 1446056615, 567209306, 760005850,
+    1253260071, 889310574, 1123955347, 177390144, 1835875777, 1424376889, 588889032, 1240658731,
+    772607190, 1561292356, 451973565, 1399190761, 614075160, 740045640, 1273220281,
+];
 
-/// Values as `2^log_height` rows of `2^log_arity`, for each pair of these, and the word that they
-/// fold to at beta, or at the field's generator. The word isn't compared if none is listed.
+/// The fifth powers of the points of the subgroup of order 64, in that order.
+const FIFTH_POWERS: &[u64] = &[
+    1, 2013265920, 1728404513, 284861408, 420899707, 1592366214, 1801542727, 211723194, 1400279418,
+    612986503, 1816869661, 196396260, 567209306, 1446056615, 78945800, 1934320121, 177390144,
+    1835875777, 1424376889, 588889032, 1123955347, 889310574, 760005850, 1253260071, 740045640,
+    1273220281, 614075160, 1399190761, 1240658731, 772607190, 1561292356, 451973565, 492152090,
+    1521113831, 95586718, 1917679203, 406991886, 1606274035, 1957706687, 55559234, 686375053,
+    1326890868, 602251207, 1411014714, 1721589904, 291676017, 1941224298, 72041623, 918899846,
+    1094366075, 1351065666, 662200255, 1171812390, 841453531, 939236864, 1074029057, 1141518129,
+    871747792, 1724976031, 288289890, 328902512, 1684363409, 1333217202, 680048719,
+];
+
+/// The points of the subgroup of order 16, in that order, times 7.
+const SEVENFOLD_POINTS: &[u64] = &[
+    7, 2013265914, 19236065, 1994029856, 1080233893, 933032028, 1482062358, 531203563, 1374773820,
+    638492101, 1748892242, 264373679, 552620600, 1460645321, 56066700, 1957199221,
+];
+
+/// Numbers as `2^log_height` rows of `2^log_arity`, or if none are listed those from 0 on, and the
+/// word that they fold to at beta, or at the field's generator. The word isn't compared if none is
+/// listed.
 #[derive(Clone, Copy)]
 struct Fold {
     name: &'static str,
-    values: Values,
-    log_heights: &'static [usize],
-    log_arities: &'static [usize],
+    values: &'static [u64],
+    log_height: usize,
+    log_arity: usize,
     beta: Option<u64>,
-    word: Values,
+    word: &'static [u64],
 }
 
-const FOLDS: [Fold; 7] = [
+/// The numbers from 0 on, at the field's generator.
+const COUNTED: Fold = Fold {
+    name: "the numbers from 0 on",
+    values: &[],
+    log_height: 0,
+    log_arity: 1,
+    beta: None,
+    word: &[],
+};
+
+static FOLDS: [Fold; 26] = [
     Fold {
         name: "a matrix of one row",
-        values: Values::Listed(&[5, 3]),
-        log_heights: &[0],
-        log_arities: &[1],
+        values: &[5, 3],
+        log_height: 0,
+        log_arity: 1,
         beta: Some(7),
-        word: Values::Listed(&[11]),
+        word: &[11],
     },
     Fold {
         name: "the first power",
-        values: Values::Powers {
-            exponent: 1,
-            factor: 1,
-        },
-        log_heights: &[4],
-        log_arities: &[1],
+        values: POINTS,
+        log_height: 4,
+        log_arity: 1,
         beta: Some(7),
-        word: Values::Powers {
-            exponent: 0,
-            factor: 7,
-        },
+        word: &[7; 16],
     },
     Fold {
         // in a row whose points have the fourth power s, X^5 is s X
         name: "the fifth power",
-        values: Values::Powers {
-            exponent: 5,
-            factor: 1,
-        },
-        log_heights: &[4],
-        log_arities: &[2],
+        values: FIFTH_POWERS,
+        log_height: 4,
+        log_arity: 2,
         beta: Some(7),
-        word: Values::Powers {
-            exponent: 1,
-            factor: 7,
-        },
+        word: SEVENFOLD_POINTS,
     },
     Fold {
         // at the points 1 and -1 the line is 4 + X, at w and -w, for the root w = 1728404513 of
         // order 4, it is 4 + X / w; beta is 7 w
         name: "two lines",
-        values: Values::Listed(&[5, 3, 5, 3]),
-        log_heights: &[1],
-        log_arities: &[1],
+        values: &[5, 3, 5, 3],
+        log_height: 1,
+        log_arity: 1,
         beta: Some(19_236_065),
-        word: Values::Listed(&[19_236_069, 11]),
+        word: &[19_236_069, 11],
     },
     Fold {
         // at the points 1, -1, i and -i the polynomial is X^2
         name: "a row of four at 3",
-        values: Values::Listed(&[1, 1, 2_013_265_920, 2_013_265_920]),
-        log_heights: &[0],
-        log_arities: &[2],
+        values: &[1, 1, 2_013_265_920, 2_013_265_920],
+        log_height: 0,
+        log_arity: 2,
         beta: Some(3),
-        word: Values::Listed(&[9]),
+        word: &[9],
     },
     Fold {
         name: "a row of four at 1",
-        values: Values::Listed(&[1, 1, 2_013_265_920, 2_013_265_920]),
-        log_heights: &[0],
-        log_arities: &[2],
+        values: &[1, 1, 2_013_265_920, 2_013_265_920],
+        log_height: 0,
+        log_arity: 2,
         beta: Some(1),
-        word: Values::Listed(&[1]),
+        word: &[1],
+    },
+    COUNTED,
+    Fold {
+        log_arity: 2,
+        ..COUNTED
     },
     Fold {
-        name: "the numbers from 0 on",
-        values: Values::Counted,
-        log_heights: &[0, 2, 3, 4, 6],
-        log_arities: &[1, 2, 3, 4],
-        beta: None,
-        word: Values::Listed(&[]),
+        log_arity: 3,
+        ..COUNTED
+    },
+    Fold {
+        log_arity: 4,
+        ..COUNTED
+    },
+    Fold {
+        log_height: 2,
+        ..COUNTED
+    },
+    Fold {
+        log_height: 2,
+        log_arity: 2,
+        ..COUNTED
+    },
+    Fold {
+        log_height: 2,
+        log_arity: 3,
+        ..COUNTED
+    },
+    Fold {
+        log_height: 2,
+        log_arity: 4,
+        ..COUNTED
+    },
+    Fold {
+        log_height: 3,
+        ..COUNTED
+    },
+    Fold {
+        log_height: 3,
+        log_arity: 2,
+        ..COUNTED
+    },
+    Fold {
+        log_height: 3,
+        log_arity: 3,
+        ..COUNTED
+    },
+    Fold {
+        log_height: 3,
+        log_arity: 4,
+        ..COUNTED
+    },
+    Fold {
+        log_height: 4,
+        ..COUNTED
+    },
+    Fold {
+        log_height: 4,
+        log_arity: 2,
+        ..COUNTED
+    },
+    Fold {
+        log_height: 4,
+        log_arity: 3,
+        ..COUNTED
+    },
+    Fold {
+        log_height: 4,
+        log_arity: 4,
+        ..COUNTED
+    },
+    Fold {
+        log_height: 6,
+        ..COUNTED
+    },
+    Fold {
+        log_height: 6,
+        log_arity: 2,
+        ..COUNTED
+    },
+    Fold {
+        log_height: 6,
+        log_arity: 3,
+        ..COUNTED
+    },
+    Fold {
+        log_height: 6,
+        log_arity: 4,
+        ..COUNTED
     },
 ];
 
-/// The values, which are `2^log_count` unless they are listed.
-fn values_of<EF: ExtensionField<BabyBear>>(
-    rt: &impl Abort,
-    alloc: Global,
-    values: Values,
-    log_count: usize,
-) -> Vec<EF>
-    requires { log_count < 28 }
-{
-    let mut list = Vec::new(alloc);
-    match values {
-        Values::Listed(numbers) => {
-            for number in numbers {
-                list.push(EF::from_u64(*number)).expect(rt, "memory");
-            }
-        }
-        Values::Counted => {
-            for number in 0..(1u64 << log_count) {
-                list.push(EF::from_u64(number)).expect(rt, "memory");
-            }
-        }
-        Values::Powers { exponent, factor } => {
-            let subgroup = TwoAdicMultiplicativeCoset::new(BabyBear::ONE, log_count);
-            let subgroup = subgroup.expect(rt, "no such subgroup");
-            for point in &subgroup.bit_reversed_points(alloc).expect(rt, "memory") {
-                let value = point.exp_u64(exponent) * BabyBear::from_u64(factor);
-                list.push(EF::from_base(value)).expect(rt, "memory");
-            }
-        }
+/// So many elements: those of the numbers, and at later places that of the place.
+fn elements<EF: Field>(rt: &impl Abort, alloc: Global, numbers: &[u64], count: usize) -> Vec<EF> {
+    let mut elements = Vec::new(alloc);
+    for place in 0..count {
+        let number = match numbers.get(place) {
+            Some(number) => *number,
+            None => place as u64,
+        };
+        elements.push(EF::from_u64(number)).expect(rt, "memory");
     }
-    list
+    elements
 }
 
 /// The values, of which there are so many, as `2^log_height` rows of `2^log_arity`.
@@ -181,41 +256,38 @@ fn rows_fold_to<EF: ExtensionField<BabyBear>, S: FriFoldingStrategy<BabyBear, EF
     requires width { matrix_width matrix.now ≡ 2 ^ log_arity }
     requires within_max_height { log_height + log_arity ≤ S.max_log_height folding.now }
 {
+    let mut is_right = word.len() == matrix.height();
     for index in 0..matrix.height() {
         let fold = folding.fold_row(index, log_height, log_arity, beta, matrix.row(index));
-        if word.get(index) != Some(&fold) {
-            return false;
-        }
+        is_right &= word.get(index) == Some(&fold);
     }
-    word.len() == matrix.height()
+    is_right
 }
 
-/// Whether the values fold to the word at this height and arity, as a matrix and row by row.
+/// Whether the values fold to the word, as a matrix and row by row.
 fn is_folded<EF: ExtensionField<BabyBear>, S: FriFoldingStrategy<BabyBear, EF>>(
     rt: &impl Abort,
     alloc: Global,
     folding: &S,
     fold: &Fold,
-    log_height: usize,
-    log_arity: usize,
 ) -> bool
     requires { S.max_log_height folding.now ≡ 27 }
 {
-    if log_height > 20 || log_arity == 0 || log_arity > 4 {
-        return false;
-    }
+    let (log_height, log_arity) = (fold.log_height, fold.log_arity);
+    assert!(rt; log_height <= 20, "a greater height");
+    assert!(rt; 1 <= log_arity, "no arity");
+    assert!(rt; log_arity <= 4, "a greater arity");
     let beta = match fold.beta {
         Some(number) => EF::from_u64(number),
         None => EF::GENERATOR,
     };
-    let wanted: Vec<EF> = values_of(rt, alloc, fold.word, log_height);
-    let values = values_of(rt, alloc, fold.values, log_height + log_arity);
+    let values = elements(rt, alloc, fold.values, 1 << (log_height + log_arity));
     let matrix = rows_of(rt, values, log_height, log_arity);
-    let word = folding
-        .fold_matrix(alloc, beta, log_arity, &matrix)
-        .expect(rt, "memory");
-    rows_fold_to(folding, &matrix, log_height, log_arity, beta, &word)
-        && (wanted.is_empty() || word == wanted)
+    let word = folding.fold_matrix(alloc, beta, log_arity, &matrix);
+    let word = word.expect(rt, "memory");
+    let wanted: Vec<EF> = elements(rt, alloc, fold.word, fold.word.len());
+    let are_folds = rows_fold_to(folding, &matrix, log_height, log_arity, beta, &word);
+    are_folds & (wanted.is_empty() | (word == wanted))
 }
 
 /// Whether a line that is 4 + X at the points 1 and -1 folds to its value at 7 at each height.
@@ -226,17 +298,14 @@ fn first_rows_fold<EF: ExtensionField<BabyBear>, S: FriFoldingStrategy<BabyBear,
 ) -> bool
     requires { S.max_log_height folding.now ≡ 27 }
 {
-    let line: Vec<EF> = values_of(rt, alloc, Values::Listed(&[5, 3]), 1);
-    if line.len() != 2 {
-        rt.panic("the line has another number of values");
-    }
+    let line: Vec<EF> = elements(rt, alloc, &[5, 3], 2);
+    assert!(rt; line.len() == 2, "the line has another number of values");
     let (seven, eleven) = (EF::from_u64(7), EF::from_u64(11));
+    let mut is_right = true;
     for log_height in 0..27 {
-        if folding.fold_row(0, log_height, 1, seven, line.as_slice()) != eleven {
-            return false;
-        }
+        is_right &= folding.fold_row(0, log_height, 1, seven, &line) == eleven;
     }
-    true
+    is_right
 }
 
 /// Asserts that all folds are right by a strategy over the whole two-adicity with so many extra
@@ -247,20 +316,25 @@ fn assert_folds<EF: ExtensionField<BabyBear>, S: FriFoldingStrategy<BabyBear, EF
     folding: &S,
     extra_bits: usize,
 ) {
-    if folding.max_log_height() != 27 || folding.extra_query_index_bits() != extra_bits {
+    if folding.max_log_height() != 27 {
         rt.panic("the whole two-adicity");
     }
+    assert!(rt;
+        folding.extra_query_index_bits() == extra_bits,
+        "extra bits"
+    );
     assert!(rt;
         first_rows_fold(rt, alloc, folding),
         "the first row of each height"
     );
     for fold in &FOLDS {
-        for log_height in fold.log_heights {
-            for log_arity in fold.log_arities {
-                let is_right = is_folded(rt, alloc, folding, fold, *log_height, *log_arity);
-                assert!(rt; is_right, "{}, {log_height}, {log_arity}", fold.name);
-            }
-        }
+        assert!(rt;
+            is_folded(rt, alloc, folding, fold),
+            "{}, {}, {}",
+            fold.name,
+            fold.log_height,
+            fold.log_arity
+        );
     }
 }
 

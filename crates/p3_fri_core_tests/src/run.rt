@@ -4,7 +4,6 @@
 ghost use Rattle.std.specs.Prelude.{◌≡◌};
 ghost use Rattle.p3_fri_transcript.specs.Shapes.{fri_shape};
 
-use p3_challenger::Sha256Challenger;
 use p3_field::{BabyBear, BabyBear4, ExtensionField, Field};
 use p3_fri_core::transcript::{FriShape, PlayedFri};
 use std::alloc::Global;
@@ -44,43 +43,29 @@ pub(crate) fn shape_of(
 
 /// What both sides draw along a test of one round, and the prover's witnesses.
 #[derive(Drop)]
-pub(crate) struct Run<F, EF> {
-    pub beta: EF,
+pub(crate) struct Run {
+    pub beta: BabyBear4,
     pub indices: [usize; 4],
-    pub commit_witness: F,
-    pub query_witness: F,
+    pub commit_witness: BabyBear,
+    pub query_witness: BabyBear,
 }
 
-impl<F: Field, EF: ExtensionField<F>> Run<F, EF> {
+impl Run {
     /// Whether these are the challenge of its round and its indices.
-    pub(crate) fn draws(&self, betas: &[EF], indices: &[usize]) -> bool {
+    pub(crate) fn draws(&self, betas: &[BabyBear4], indices: &[usize]) -> bool {
         match betas {
-            [beta] => *beta == self.beta && indices == self.indices.as_slice(),
+            [beta] => (*beta == self.beta) & (indices == self.indices.as_slice()),
             _ => false,
         }
     }
 
-    /// Whether a prover's steps draw these, and find these witnesses of the round and the queries.
-    pub(crate) fn finds(
-        &self,
-        beta: EF,
-        commit_witness: Option<F>,
-        indices: &[usize],
-        query_witness: Option<F>,
-    ) -> bool {
-        beta == self.beta
-            && indices == self.indices.as_slice()
-            && commit_witness == Some(self.commit_witness)
-            && query_witness == Some(self.query_witness)
-    }
-
     /// Whether a prover's whole transcript is this run.
-    pub(crate) fn is_played(&self, played: &PlayedFri<F, EF>) -> bool {
+    pub(crate) fn is_played(&self, played: &PlayedFri<BabyBear, BabyBear4>) -> bool {
         match played.commit_witnesses.as_slice() {
             [witness] => {
-                *witness == self.commit_witness
-                    && played.query_witness == self.query_witness
-                    && self.draws(&played.betas, &played.indices)
+                (*witness == self.commit_witness)
+                    & (played.query_witness == self.query_witness)
+                    & self.draws(&played.betas, &played.indices)
             }
             _ => false,
         }
@@ -99,24 +84,9 @@ pub(crate) fn element(coefficients: [u64; 4]) -> BabyBear4 {
 }
 
 /// The element of a witness, if there is one.
-pub(crate) fn witness_of<F: Field>(number: Option<u64>) -> Option<F> {
+pub(crate) fn witness_of(number: Option<u64>) -> Option<BabyBear> {
     match number {
-        Some(number) => Some(F::from_u64(number)),
+        Some(number) => Some(BabyBear::from_u64(number)),
         None => None,
-    }
-}
-
-/// A challenger for each side.
-#[derive(Drop)]
-pub(crate) struct Sides<C> {
-    pub prover: C,
-    pub verifier: C,
-}
-
-/// Two new challengers.
-pub(crate) fn new_sides() -> Sides<Sha256Challenger> {
-    Sides {
-        prover: Sha256Challenger::new(),
-        verifier: Sha256Challenger::new(),
     }
 }

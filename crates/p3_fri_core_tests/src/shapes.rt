@@ -16,7 +16,7 @@ fn stream_of(rt: &impl Abort, alloc: Global, shape: &FriShape) -> Vec<u8> {
         .expect(rt, "memory")
 }
 
-const STREAM_WITHOUT_ROUNDS: [u8; 142] = [
+static STREAM_WITHOUT_ROUNDS: [u8; 142] = [
     0x01, 0x00, 0x00, 0x00, 0x00, 0x00, 0x00, 0x00, 0x06, 0x70, 0x33, 0x2d, 0x66, 0x72, 0x69, 0x00,
     0x00, 0x00, 0x00, 0x00, 0x00, 0x00, 0x02, 0x00, 0x00, 0x01, 0x00, 0x00, 0x00, 0x00, 0x00, 0x00,
     0x00, 0x04, 0x00, 0x00, 0x00, 0x00, 0x00, 0x00, 0x00, 0x0a, 0x66, 0x69, 0x6e, 0x61, 0x6c, 0x5f,
@@ -27,24 +27,6 @@ const STREAM_WITHOUT_ROUNDS: [u8; 142] = [
     0x00, 0x00, 0x00, 0x00, 0x00, 0x08, 0x00, 0x00, 0x00, 0x00, 0x00, 0x00, 0x00, 0x01, 0x00, 0x00,
     0x00, 0x00, 0x00, 0x00, 0x00, 0x08, 0x00, 0x00, 0x00, 0x00, 0x00, 0x00, 0x00, 0x01,
 ];
-
-/// Whether the shape of two queries without rounds, with so many bits of proof of work in the
-/// commit phase, has the stream above.
-fn has_stream_without_rounds(rt: &impl Abort, alloc: Global, commit_pow_bits: usize) -> bool {
-    let mut shape = shape_of(rt, alloc, &[], commit_pow_bits, 0);
-    shape.num_queries = 2;
-    shape.index_bits = 1;
-    shape.max_log_arity = 1;
-    stream_of(rt, alloc, &shape).as_slice() == STREAM_WITHOUT_ROUNDS.as_slice()
-}
-
-/// Whether rounds of these log arities, one after the other and the other way round, have streams
-/// of their own.
-fn streams_tell_the_order_of_rounds(rt: &impl Abort, alloc: Global) -> bool {
-    let falling = shape_of(rt, alloc, &[3, 3, 2], 0, 0);
-    let rising = shape_of(rt, alloc, &[2, 3, 3], 0, 0);
-    stream_of(rt, alloc, &falling) != stream_of(rt, alloc, &rising)
-}
 
 /// Whether the shape of parameters has three rounds and twelve steps, and is its clone and the
 /// scheduled one.
@@ -58,22 +40,28 @@ fn parameters_have_their_shape(rt: &impl Abort, alloc: Global) -> bool {
         .expect(rt, "memory");
     let rounds = Vec::from_slice(alloc, &[3, 3, 2]).expect(rt, "memory");
     let scheduled = FriShape::with_schedule(&parameters, rounds, 12);
-    shape.log_arities.as_slice() == [3, 3, 2].as_slice()
-        && copy == shape
-        && scheduled == shape
-        && pattern.steps().len() == 12
+    (shape.log_arities.as_slice() == [3, 3, 2].as_slice())
+        & (copy == shape)
+        & (scheduled == shape)
+        & (pattern.steps().len() == 12)
 }
 
 #[test]
 fn shapes(rt: HostRuntime) {
-    assert!(rt; has_stream_without_rounds(&rt, rt.alloc(), 0), "a stream");
-    assert!(rt;
-        has_stream_without_rounds(&rt, rt.alloc(), 5),
-        "bits without rounds"
-    );
-    assert!(rt;
-        streams_tell_the_order_of_rounds(&rt, rt.alloc()),
-        "rounds in order"
-    );
-    assert!(rt; parameters_have_their_shape(&rt, rt.alloc()), "parameters");
+    let alloc = rt.alloc();
+    for commit_pow_bits in &[0, 5] {
+        let mut shape = shape_of(&rt, alloc, &[], *commit_pow_bits, 0);
+        shape.num_queries = 2;
+        shape.index_bits = 1;
+        shape.max_log_arity = 1;
+        let stream = stream_of(&rt, alloc, &shape);
+        assert!(rt;
+            stream.as_slice() == STREAM_WITHOUT_ROUNDS.as_slice(),
+            "a stream without rounds, {commit_pow_bits} bits"
+        );
+    }
+    let falling = stream_of(&rt, alloc, &shape_of(&rt, alloc, &[3, 3, 2], 0, 0));
+    let rising = stream_of(&rt, alloc, &shape_of(&rt, alloc, &[2, 3, 3], 0, 0));
+    assert!(rt; falling != rising, "rounds in order");
+    assert!(rt; parameters_have_their_shape(&rt, alloc), "parameters");
 }

@@ -7,7 +7,7 @@ use p3_fri_core::pcs_transcript::{PcsFailure, PcsTranscriptFailure};
 use p3_fri_core::transcript::{Refusal, TranscriptFailure};
 use p3_mmcs::CommitmentOpening;
 
-pub(crate) type Claim<EF> = CommitmentOpening<EF, [u8; 32], ()>;
+pub(crate) type Claim = CommitmentOpening<BabyBear4, [u8; 32], ()>;
 
 /// Whether the run is drawn, or why the verifier refuses.
 pub(crate) type Answer = Result<bool, Refusal<PcsFailure>>;
@@ -74,7 +74,7 @@ const WHOLE: Case = Case {
     ..STEPS
 };
 
-pub(crate) const CASES: [Case; 12] = [
+pub(crate) static CASES: [Case; 12] = [
     Case {
         name: "a refused `new` leaves the challenger",
         described: &[&[&[3, 1]], &[&[2]]],
@@ -149,7 +149,7 @@ pub(crate) const CASES: [Case; 12] = [
 ];
 
 /// What is drawn and found behind so many bits, none or four.
-pub(crate) fn run_behind(bits: usize) -> PcsRun<BabyBear, BabyBear4> {
+pub(crate) fn run_behind(bits: usize) -> PcsRun {
     let test = Run {
         beta: element([115_710_677, 823_049_067, 281_331_580, 1_749_275_461]),
         indices: [6, 5, 3, 1],
@@ -173,8 +173,8 @@ pub(crate) fn run_behind(bits: usize) -> PcsRun<BabyBear, BabyBear4> {
 
 /// What both sides draw along an opening, and the prover's witness before the batching challenge.
 #[derive(Drop)]
-pub(crate) struct PcsRun<F, EF> {
-    pub alpha: EF,
-    pub batch_witness: Option<F>,
-    pub test: Run<F, EF>,
+pub(crate) struct PcsRun {
+    pub alpha: BabyBear4,
+    pub batch_witness: Option<BabyBear>,
+    pub test: Run,
 }

@@ -40,24 +40,33 @@ pub(crate) fn one_value(rt: &impl Abort, alloc: Global) -> OpenedValues<BabyBear
 }
 
 /// The claim of so many values at one point of one matrix, or none at all.
-pub(crate) fn claims_of(rt: &impl Abort, alloc: Global, count: usize) -> Vec<Claim<BabyBear4>> {
-    let values = [BabyBear4::ONE, BabyBear4::ZERO, BabyBear4::ONE];
-    if count == 0 || count > 3 {
-        return Vec::new(alloc);
+pub(crate) fn claims_of(rt: &impl Abort, alloc: Global, count: usize) -> Vec<Claim> {
+    let mut claims = Vec::new(alloc);
+    if count != 0 {
+        let mut values = Vec::new(alloc);
+        for index in 0..count {
+            let value = if index == 1 {
+                BabyBear4::ZERO
+            } else {
+                BabyBear4::ONE
+            };
+            values.push(value).expect(rt, "memory");
+        }
+        let point = PointOpening {
+            point: BabyBear4::ZERO,
+            values,
+        };
+        let matrix = MatrixOpening {
+            domain: (),
+            points: listed(rt, alloc, point),
+        };
+        let claim = CommitmentOpening {
+            commitment: [7u8; 32],
+            matrices: listed(rt, alloc, matrix),
+        };
+        claims.push(claim).expect(rt, "memory");
     }
-    let point = PointOpening {
-        point: BabyBear4::ZERO,
-        values: Vec::from_slice(alloc, &values[..count]).expect(rt, "memory"),
-    };
-    let matrix = MatrixOpening {
-        domain: (),
-        points: listed(rt, alloc, point),
-    };
-    let claim = CommitmentOpening {
-        commitment: [7u8; 32],
-        matrices: listed(rt, alloc, matrix),
-    };
-    listed(rt, alloc, claim)
+    claims
 }
 
 /// A list of lists.
@@ -100,14 +109,19 @@ const TWO_POINTS: Counts = &[&[&[3, 3]]];
 const TWO_COMMITMENTS: Counts = &[&[&[3]], &[&[3]]];
 
 /// Two shapes.
-const GROUPINGS: [(&str, Counts, Counts); 3] = [
+static GROUPINGS: [(&str, Counts, Counts); 3] = [
     ("matrices and points", TWO_MATRICES, TWO_POINTS),
     ("commitments and matrices", TWO_COMMITMENTS, TWO_MATRICES),
     ("commitments and points", TWO_COMMITMENTS, TWO_POINTS),
 ];
 
 /// Numbers of claimed values at one point of one matrix, and the numbers of their shape.
-const CLAIMED: [(usize, Counts); 4] = [(0, &[]), (1, &[&[&[1]]]), (2, &[&[&[2]]]), (3, &[&[&[3]]])];
+static CLAIMED: [(usize, Counts); 4] = [
+    (0, &[]),
+    (1, &[&[&[1]]]),
+    (2, &[&[&[2]]]),
+    (3, &[&[&[3]]]),
+];
 
 /// Whether so many claimed values have the shape of these counts.
 fn claims_have_shape(rt: &impl Abort, alloc: Global, claimed: usize, counts: Counts) -> bool {
@@ -123,7 +137,7 @@ fn shapes_have_their_openings(rt: &impl Abort, alloc: Global) -> bool {
     let pattern = shape
         .pattern::<BabyBear, BabyBear4>(alloc)
         .expect(rt, "memory");
-    copy == shape && shape.num_openings() == 3 && pattern.steps().len() == 6
+    (copy == shape) & (shape.num_openings() == 3) & (pattern.steps().len() == 6)
 }
 
 #[test]

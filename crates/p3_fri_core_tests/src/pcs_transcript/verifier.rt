@@ -5,27 +5,25 @@ ghost use Rattle.std.specs.Prelude.{◌≤◌};
 use crate::pcs_transcript::cases::{Answer, Claim, Counts, PcsRun};
 use crate::pcs_transcript::shapes::{parameters, shape_of};
 use crate::run::shape_of as test_of;
-use p3_challenger::{CanObserve, FieldChallenger, GrindingChallenger};
-use p3_field::{ExtensionField, Field};
+use p3_challenger::Sha256Challenger;
+use p3_field::{BabyBear, BabyBear4};
 use p3_fri_core::pcs_transcript::{PcsFailure, PcsShape, PcsVerifierTranscript, replay_pcs};
 use p3_fri_core::transcript::{FriMessages, Refusal};
 use std::alloc::Global;
 use std::process::Abort;
 
 /// What the verifier returns for claims where these counts are described.
-pub(crate) fn compare<
-    F: Field,
-    EF: ExtensionField<F>,
-    C: FieldChallenger<F> + GrindingChallenger<Witness = F>,
->(
+pub(crate) fn compare(
     rt: &impl Abort,
     alloc: Global,
-    challenger: &mut C,
+    challenger: &mut Sha256Challenger,
     described: Counts,
-    claims: &[Claim<EF>],
+    claims: &[Claim],
 ) -> Answer {
     let shape = shape_of(rt, alloc, described);
-    let Ok(mut transcript) = PcsVerifierTranscript::<C, F, EF>::new(alloc, challenger, shape) else {
+    let Ok(mut transcript) = PcsVerifierTranscript::<Sha256Challenger, BabyBear, BabyBear4>::new(
+        alloc, challenger, shape,
+    ) else {
         return Err(Refusal::Seed);
     };
     let answer = transcript.claimed_openings(claims);
@@ -37,26 +35,22 @@ pub(crate) fn compare<
 }
 
 /// The verifier's steps, with nothing inside the bracket. The claims are those described.
-pub(crate) fn verify_in_steps<
-    F: Field,
-    EF: ExtensionField<F>,
-    C: FieldChallenger<F> + GrindingChallenger<Witness = F>,
->(
+pub(crate) fn verify_in_steps(
     rt: &impl Abort,
     alloc: Global,
-    challenger: &mut C,
+    challenger: &mut Sha256Challenger,
     bits: usize,
-    claims: &[Claim<EF>],
-    witness: Option<F>,
-    run: &PcsRun<F, EF>,
+    claims: &[Claim],
+    witness: Option<BabyBear>,
+    run: &PcsRun,
 ) -> Answer
-    requires widths { 63 ≤ C.MAX_SAMPLE_BITS }
     requires bits { bits ≤ 63 }
 {
-    let Ok(shape) = PcsShape::from_claims(alloc, &parameters(bits), claims) else {
-        rt.panic("memory");
-    };
-    let Ok(mut transcript) = PcsVerifierTranscript::<C, F, EF>::new(alloc, challenger, shape) else {
+    let shape = PcsShape::from_claims(alloc, &parameters(bits), claims);
+    let shape = shape.expect(rt, "memory");
+    let Ok(mut transcript) = PcsVerifierTranscript::<Sha256Challenger, BabyBear, BabyBear4>::new(
+        alloc, challenger, shape,
+    ) else {
         rt.panic("memory");
     };
     let Ok(()) = transcript.claimed_openings(claims) else {
@@ -77,28 +71,21 @@ pub(crate) fn verify_in_steps<
 }
 
 /// The verifier's whole opening behind four bits, with a test of one round.
-pub(crate) fn verify_as_a_whole<
-    F: Field,
-    EF: ExtensionField<F>,
-    C: FieldChallenger<F> + GrindingChallenger<Witness = F> + CanObserve<[u8; 32]>,
->(
+pub(crate) fn verify_as_a_whole(
     rt: &impl Abort,
     alloc: Global,
-    challenger: &mut C,
-    claims: &[Claim<EF>],
-    witness: Option<F>,
-    sent: FriMessages<'_, F, EF, [u8; 32]>,
-    run: &PcsRun<F, EF>,
-) -> Answer
-    requires { 4 ≤ C.MAX_SAMPLE_BITS }
-{
-    let Ok(shape) = PcsShape::from_claims(alloc, &parameters(4), claims) else {
-        rt.panic("memory");
-    };
+    challenger: &mut Sha256Challenger,
+    claims: &[Claim],
+    witness: Option<BabyBear>,
+    sent: FriMessages<'_, BabyBear, BabyBear4, [u8; 32]>,
+    run: &PcsRun,
+) -> Answer {
+    let shape = PcsShape::from_claims(alloc, &parameters(4), claims);
+    let shape = shape.expect(rt, "memory");
     let test = test_of(rt, alloc, &[3], 2, 3);
     match replay_pcs(alloc, challenger, shape, claims, witness, test, sent) {
         Ok(replayed) => Ok(
-            replayed.alpha == run.alpha && run.test.draws(&replayed.betas, &replayed.indices),
+            (replayed.alpha == run.alpha) & run.test.draws(&replayed.betas, &replayed.indices),
         ),
         Err(refusal) => Err(refusal),
     }

