@@ -40,29 +40,3 @@ pub(crate) fn first_length<F: Field>(polys: &[Vec<F>]) -> usize
         [first, ..] => first.len(),
     }
 }
-
-/// Whether the elements are those of these numbers.
-pub(crate) fn are_numbers<F: Field>(elements: &[F], numbers: &[u64]) -> bool {
-    if elements.len() != numbers.len() {
-        return false;
-    }
-    for i in 0..elements.len() {
-        if elements[i] != F::from_u64(numbers[i]) {
-            return false;
-        }
-    }
-    true
-}
-
-/// Whether the polynomials have these coefficients.
-pub(crate) fn are_polynomials<F: Field>(polys: &[Vec<F>], wanted: &[&[u64]]) -> bool {
-    if polys.len() != wanted.len() {
-        return false;
-    }
-    for i in 0..polys.len() {
-        if !are_numbers(&polys[i], wanted[i]) {
-            return false;
-        }
-    }
-    true
-}

@@ -1,6 +1,6 @@
 //! Trees of rounds.
 
-use crate::lists::{are_numbers, are_polynomials, elements};
+use crate::lists::{elements, polynomials};
 use p3_converse::{
     FoldTree, challenges_fit, leaf_length, leaves_fit, log_arities_fit, log_arity_sum, paths_fit,
     unfold_tree, unfolds_within_range,
@@ -9,131 +9,133 @@ use p3_field::{BabyBear, Field};
 use std::alloc::Global;
 use std::process::Abort;
 
-/// A leaf with these coefficients, under a challenge.
-fn leaf(
-    rt: &impl Abort,
-    alloc: Global,
-    beta: u64,
-    numbers: &[u64],
-) -> (BabyBear, FoldTree<BabyBear>) {
-    let leaf = FoldTree::Leaf(elements::<BabyBear>(rt, alloc, numbers));
-    (BabyBear::from_u64(beta), leaf)
+/// Challenges, each with the coefficients of a leaf.
+type Leaves = &'static [(u64, &'static [u64])];
+
+/// What stands under a challenge of a tree's first round.
+#[derive(Clone, Copy)]
+enum Below {
+    Leaf(&'static [u64]),
+    Round(Leaves),
 }
 
-/// Leaves with these coefficients under two challenges.
-fn leaves(
-    rt: &impl Abort,
-    alloc: Global,
-    betas: [u64; 2],
-    coefficients: [&[u64]; 2],
-) -> FoldTree<BabyBear> {
-    let first = leaf(rt, alloc, betas[0], coefficients[0]);
-    let second = leaf(rt, alloc, betas[1], coefficients[1]);
-    FoldTree::Node(vec![in alloc; first, second].expect(rt, "memory"))
+/// A tree by its challenges and what stands under each, rounds, whether its paths, its challenges
+/// and the lengths of its leaves are those of the rounds, and what it unfolds to if all are: the
+/// word's polynomial, and that of each input.
+#[derive(Clone, Copy)]
+struct Case {
+    name: &'static str,
+    tree: &'static [(u64, Below)],
+    rounds: &'static [(usize, bool)],
+    fits: (bool, bool, bool),
+    unfolded: Option<(&'static [u64], &'static [&'static [u64]])>,
 }
 
-/// A tree of two rounds over these challenges, with each pair of constants at leaves under 0 and 1.
-fn two_rounds(
-    rt: &impl Abort,
-    alloc: Global,
-    betas: &[u64],
-    constants: &[[u64; 2]],
-) -> FoldTree<BabyBear> {
+static CASES: [Case; 5] = [
+    Case {
+        name: "two rounds",
+        tree: &[
+            (0, Below::Round(&[(0, &[1]), (1, &[3])])),
+            (1, Below::Round(&[(0, &[4]), (1, &[10])])),
+        ],
+        rounds: &[(1, false), (1, false)],
+        fits: (true, true, true),
+        unfolded: Some((&[1, 3, 2, 4], &[])),
+    },
+    Case {
+        name: "two rounds with an input",
+        tree: &[
+            (0, Below::Round(&[(0, &[5]), (1, &[5])])),
+            (1, Below::Round(&[(0, &[35]), (1, &[35])])),
+            (2, Below::Round(&[(0, &[63]), (1, &[63])])),
+        ],
+        rounds: &[(1, true), (1, false)],
+        fits: (true, true, true),
+        unfolded: Some((&[5, 31, 0, 0], &[&[2_013_265_920, 0]])),
+    },
+    Case {
+        name: "a repeated challenge",
+        tree: &[(7, Below::Leaf(&[1])), (7, Below::Leaf(&[2]))],
+        rounds: &[(1, false)],
+        fits: (true, false, true),
+        unfolded: None,
+    },
+    Case {
+        name: "leaves of two lengths",
+        tree: &[(0, Below::Leaf(&[1])), (1, Below::Leaf(&[2, 3]))],
+        rounds: &[(1, false)],
+        fits: (true, true, false),
+        unfolded: None,
+    },
+    Case {
+        name: "one round on a path and two on the other",
+        tree: &[
+            (0, Below::Round(&[(0, &[1]), (1, &[3])])),
+            (1, Below::Leaf(&[4])),
+        ],
+        rounds: &[(1, false), (1, false)],
+        fits: (false, true, true),
+        unfolded: None,
+    },
+];
+
+/// The tree of these challenges.
+fn tree_of(rt: &impl Abort, alloc: Global, tree: &[(u64, Below)]) -> FoldTree<BabyBear> {
     let mut subtrees = Vec::new(alloc);
-    for (beta, [first, second]) in betas.iter().zip(constants) {
-        let tree = leaves(rt, alloc, [0, 1], [&[*first], &[*second]]);
+    for (beta, below) in tree {
+        let subtree = match below {
+            Below::Leaf(numbers) => FoldTree::Leaf(elements(rt, alloc, *numbers)),
+            Below::Round(leaves) => {
+                let mut round = Vec::new(alloc);
+                for (beta, numbers) in *leaves {
+                    let leaf = FoldTree::Leaf(elements(rt, alloc, *numbers));
+                    round
+                        .push((BabyBear::from_u64(*beta), leaf))
+                        .expect(rt, "memory");
+                }
+                FoldTree::Node(round)
+            },
+        };
         subtrees
-            .push((BabyBear::from_u64(*beta), tree))
+            .push((BabyBear::from_u64(*beta), subtree))
             .expect(rt, "memory");
     }
     FoldTree::Node(subtrees)
 }
 
-/// Challenges of the first round, the constants at the leaves, the rounds, and what they unfold to:
-/// the word's polynomial, and that of each input.
-#[derive(Clone, Copy)]
-struct Case {
-    name: &'static str,
-    betas: &'static [u64],
-    constants: &'static [[u64; 2]],
-    rounds: &'static [(usize, bool)],
-    word: &'static [u64],
-    inputs: &'static [&'static [u64]],
-}
-
-static CASES: [Case; 2] = [
-    Case {
-        name: "two rounds",
-        betas: &[0, 1],
-        constants: &[[1, 3], [4, 10]],
-        rounds: &[(1, false), (1, false)],
-        word: &[1, 3, 2, 4],
-        inputs: &[],
-    },
-    Case {
-        name: "two rounds with an input",
-        betas: &[0, 1, 2],
-        constants: &[[5, 5], [35, 35], [63, 63]],
-        rounds: &[(1, true), (1, false)],
-        word: &[5, 31, 0, 0],
-        inputs: &[&[2_013_265_920, 0]],
-    },
-];
-
-/// Whether the case's tree unfolds so.
-fn unfolds(rt: &impl Abort, alloc: Global, case: &Case) -> bool {
+/// Whether the case's tree fits the rounds as it says, and unfolds so.
+fn is_met(rt: &impl Abort, alloc: Global, case: &Case) -> bool {
     let rounds = case.rounds;
-    let tree = two_rounds(rt, alloc, case.betas, case.constants);
-    assert!(rt;
-        log_arities_fit(rounds) && paths_fit(rounds, &tree),
-        "not the tree's rounds"
-    );
+    let tree = tree_of(rt, alloc, case.tree);
     let length = leaf_length(&tree);
-    assert!(rt;
-        leaves_fit(length, &tree) && unfolds_within_range(length, log_arity_sum(rounds)),
-        "not leaves of one length"
-    );
+    let have_paths = paths_fit(rounds, &tree);
     let have_challenges = challenges_fit(alloc, rounds, &tree).expect(rt, "memory");
-    assert!(rt; have_challenges, "not the rounds' challenges");
-    let (word, inputs) = unfold_tree(alloc, rounds, &tree).expect(rt, "memory");
-    are_numbers(&word, case.word) && are_polynomials(&inputs, case.inputs)
-}
-
-/// Whether a tree with one round on a path and two on the other passes for one of two rounds.
-fn an_uneven_tree_fits(rt: &impl Abort, alloc: Global) -> bool {
-    let two_rounds = (BabyBear::ZERO, leaves(rt, alloc, [0, 1], [&[1], &[3]]));
-    let one_round = leaf(rt, alloc, 1, &[4]);
-    let subtrees = vec![in alloc; two_rounds, one_round].expect(rt, "memory");
-    paths_fit(&[(1, false), (1, false)], &FoldTree::Node(subtrees))
-}
-
-/// Of leaves under two challenges: whether paths and challenges are those of one round, and whether
-/// the leaves have one length.
-fn leaves_pass(
-    rt: &impl Abort,
-    alloc: Global,
-    betas: [u64; 2],
-    coefficients: [&[u64]; 2],
-) -> (bool, bool, bool) {
-    let round = [(1, false)];
-    let tree = leaves(rt, alloc, betas, coefficients);
-    (
-        paths_fit(&round, &tree),
-        challenges_fit(alloc, &round, &tree).expect(rt, "memory"),
-        leaves_fit(leaf_length(&tree), &tree),
-    )
+    let have_length = leaves_fit(length, &tree);
+    let is_fit = (have_paths, have_challenges, have_length) == case.fits;
+    match case.unfolded {
+        Some((word, inputs)) => {
+            if !have_paths
+                || !have_challenges
+                || !have_length
+                || !log_arities_fit(rounds)
+                || !unfolds_within_range(length, log_arity_sum(rounds))
+            {
+                rt.panic(case.name);
+            }
+            let (found, found_inputs) = unfold_tree(alloc, rounds, &tree).expect(rt, "memory");
+            is_fit
+                & (found == elements(rt, alloc, word))
+                & (found_inputs == polynomials(rt, alloc, inputs))
+        },
+        None => is_fit,
+    }
 }
 
 #[test]
 fn trees_unfold_or_are_caught(rt: HostRuntime) {
     for case in &CASES {
-        assert!(rt; unfolds(&rt, rt.alloc(), case), "{}", case.name);
+        assert!(rt; is_met(&rt, rt.alloc(), case), "{}", case.name);
     }
-    let repeated_challenge = leaves_pass(&rt, rt.alloc(), [7, 7], [&[1], &[2]]);
-    assert!(rt; repeated_challenge == (true, false, true));
-    let two_lengths = leaves_pass(&rt, rt.alloc(), [0, 1], [&[1], &[2, 3]]);
-    assert!(rt; two_lengths == (true, true, false));
-    assert!(rt; !an_uneven_tree_fits(&rt, rt.alloc()));
     let are_within_range = [
         log_arities_fit(&[(1, false), (0, true)]),
         log_arities_fit(&[(60, false), (4, true)]),

@@ -2,7 +2,7 @@
 
 ghost use Rattle.std.specs.Prelude.{◌≡◌, ◌+◌, ◌^◌, ◌<◌, IsTrue};
 
-use crate::lists::{are_polynomials, elements, first_length, polynomials};
+use crate::lists::{elements, first_length, polynomials};
 use p3_converse::{
     are_distinct, have_one_length, unbatch, unfold, unfold_with_input, unfolds_within_range,
     unquotient,
@@ -121,68 +121,48 @@ fn is_count(count: usize, log_arity: usize, more: usize) -> bool
     count - more == 1 << log_arity
 }
 
-/// The polynomial of which this is the quotient, unless the shift is zero.
-fn unquotiented<F: Field>(
-    rt: &impl Abort,
-    alloc: Global,
-    shift: F,
-    point: F,
-    claim: F,
-    quotient: &[F],
-) -> Vec<Vec<F>> {
-    let mut undone = Vec::new(alloc);
-    if !shift.is_zero() && quotient.len() < 100 {
-        let poly = unquotient(alloc, shift, point, claim, quotient).expect(rt, "memory");
-        undone.push(poly).expect(rt, "memory");
-    }
-    undone
-}
-
 /// What the case's polynomials come from.
 fn undone<F: Field>(rt: &impl Abort, alloc: Global, case: &Case) -> Vec<Vec<F>> {
-    let name = case.name;
     let points = elements::<F>(rt, alloc, case.challenges);
     let polys = polynomials::<F>(rt, alloc, case.polys);
     let (count, length) = (points.len(), first_length(&polys));
-    assert!(rt;
-        count > 0 && polys.len() == count && are_distinct(&points) && have_one_length(&polys),
-        "{name}"
-    );
+    if count == 0 || polys.len() != count || !are_distinct(&points) || !have_one_length(&polys) {
+        rt.panic(case.name);
+    }
     match case.call {
         Call::Unfold(log_arity) => {
-            assert!(rt;
-                is_count(count, log_arity, 0) && unfolds_within_range(length, log_arity),
-                "{name}"
-            );
+            if !is_count(count, log_arity, 0) || !unfolds_within_range(length, log_arity) {
+                rt.panic(case.name);
+            }
             let word = unfold(alloc, log_arity, &points, &polys).expect(rt, "memory");
             vec![in alloc; word].expect(rt, "memory")
         },
         Call::UnfoldWithInput(log_arity) => {
-            assert!(rt;
-                is_count(count, log_arity, 1) && unfolds_within_range(length, log_arity),
-                "{name}"
-            );
+            if !is_count(count, log_arity, 1) || !unfolds_within_range(length, log_arity) {
+                rt.panic(case.name);
+            }
             let unfolded = unfold_with_input(alloc, log_arity, &points, &polys);
             let (word, input) = unfolded.expect(rt, "memory");
             vec![in alloc; word, input].expect(rt, "memory")
         },
         Call::Unbatch => unbatch(alloc, &points, &polys).expect(rt, "memory"),
-        Call::Unquotient { shift, claim } => unquotiented(
-            rt,
-            alloc,
-            F::from_u64(shift),
-            points[0],
-            F::from_u64(claim),
-            &polys[0],
-        ),
+        Call::Unquotient { shift, claim } => {
+            let (shift, claim) = (F::from_u64(shift), F::from_u64(claim));
+            let mut undone = Vec::new(alloc);
+            if !shift.is_zero() && polys[0].len() < 100 {
+                let poly = unquotient(alloc, shift, points[0], claim, &polys[0]);
+                undone.push(poly.expect(rt, "memory")).expect(rt, "memory");
+            }
+            undone
+        },
     }
 }
 
 /// Asserts of each case that it comes from what it says.
 fn assert_undone<F: Field>(rt: &impl Abort, alloc: Global) {
     for case in &CASES {
-        let undone = undone::<F>(rt, alloc, case);
-        assert!(rt; are_polynomials(&undone, case.undone), "{}", case.name);
+        let wanted = polynomials::<F>(rt, alloc, case.undone);
+        assert!(rt; undone::<F>(rt, alloc, case) == wanted, "{}", case.name);
     }
 }
 

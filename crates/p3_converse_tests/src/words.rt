@@ -79,65 +79,43 @@ fn eight_folds<F: TwoAdicField + PackableField, EF: PackableExtension<F>>(
     folds
 }
 
-/// The polynomial, of four coefficients, behind the folds at `beta` of the word of log height 4 of
-/// the polynomial.
-fn behind_folds<F: TwoAdicField + PackableField, EF: PackableExtension<F>>(
-    rt: &impl Abort,
-    alloc: Global,
-    coefficients: &[EF],
-    beta: EF,
-) -> Vec<EF>
-    requires within_two_adicity { 4 ≤ F.TWO_ADICITY }
-{
-    let folds = eight_folds::<F, EF>(rt, alloc, coefficients, beta);
-    four_coefficients::<F, EF>(rt, alloc, &folds)
-}
-
-/// Whether the polynomials, folds at the betas, unfold to these coefficients.
-fn unfold_to<EF: Field>(
-    rt: &impl Abort,
-    alloc: Global,
-    betas: &[EF],
-    polys: &[Vec<EF>],
-    coefficients: &[EF],
-) -> bool {
-    assert!(rt;
-        betas.len() == 2
-            && polys.len() == 2
-            && are_distinct(betas)
-            && have_one_length(polys)
-            && unfolds_within_range(first_length(polys), 1),
-        "nothing to unfold"
-    );
-    let unfolded = unfold(alloc, 1, betas, polys).expect(rt, "memory");
-    unfolded.as_slice() == coefficients
-}
-
 /// Whether the polynomial of eight coefficients comes back from the folds, at two betas, of its
 /// word.
 fn comes_back<F: TwoAdicField + PackableField, EF: PackableExtension<F>>(
     rt: &impl Abort,
     alloc: Global,
     coefficients: &[EF],
-    betas: [EF; 2],
+    betas: &[EF],
 ) -> bool
     requires within_two_adicity { 4 ≤ F.TWO_ADICITY }
 {
-    let first = behind_folds::<F, EF>(rt, alloc, coefficients, betas[0]);
-    let second = behind_folds::<F, EF>(rt, alloc, coefficients, betas[1]);
-    let polys = vec![in alloc; first, second].expect(rt, "memory");
-    unfold_to(rt, alloc, &betas, &polys, coefficients)
+    let mut polys = Vec::new(alloc);
+    for beta in betas {
+        let folds = eight_folds::<F, EF>(rt, alloc, coefficients, *beta);
+        let poly = four_coefficients::<F, EF>(rt, alloc, &folds);
+        polys.push(poly).expect(rt, "memory");
+    }
+    if betas.len() != 2
+        || polys.len() != 2
+        || !are_distinct(betas)
+        || !have_one_length(&polys)
+        || !unfolds_within_range(first_length(&polys), 1)
+    {
+        rt.panic("nothing to unfold");
+    }
+    let unfolded = unfold(alloc, 1, betas, &polys).expect(rt, "memory");
+    unfolded.as_slice() == coefficients
 }
 
 #[test]
 fn words_come_back_from_their_folds(rt: HostRuntime) {
     let coefficients = [3, 1, 4, 1, 5, 9, 2, 6].map(BabyBear::from_u64);
     let betas = [BabyBear::GENERATOR, BabyBear::from_u64(1234567890)];
-    assert!(rt; comes_back::<BabyBear, BabyBear>(&rt, rt.alloc(), &coefficients, betas));
+    assert!(rt; comes_back::<BabyBear, BabyBear>(&rt, rt.alloc(), &coefficients, &betas));
 
     let mut coefficients = [1, 4, 1, 5, 9, 2, 6, 0].map(BabyBear4::from_u64);
     coefficients[7] = BabyBear4::GENERATOR;
     let betas = [BabyBear4::GENERATOR, BabyBear4::GENERATOR.square()];
-    assert!(rt; comes_back::<BabyBear, BabyBear4>(&rt, rt.alloc(), &coefficients, betas));
+    assert!(rt; comes_back::<BabyBear, BabyBear4>(&rt, rt.alloc(), &coefficients, &betas));
     lifted_roots_law::<BabyBear, BabyBear4>();
 }
