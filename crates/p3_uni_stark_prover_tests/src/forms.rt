@@ -13,7 +13,7 @@ pub(crate) struct Form {
 
 /// The first row is the first two public values, each next row has the second entry and the sum of
 /// both, and the last entry is the third public value.
-pub(crate) const FIBONACCI: Form = Form {
+pub(crate) static FIBONACCI: Form = Form {
     layout: PlainLayout {
         width: 2,
         preprocessed_width: 0,
@@ -45,7 +45,7 @@ pub(crate) const FIBONACCI: Form = Form {
 };
 
 /// The first entry is the number below four whose bits are the other two, the lower one first.
-pub(crate) const RANGE_CHECK: Form = Form {
+pub(crate) static RANGE_CHECK: Form = Form {
     layout: PlainLayout {
         width: 3,
         preprocessed_width: 0,
@@ -73,7 +73,7 @@ pub(crate) const RANGE_CHECK: Form = Form {
 
 /// The first entry is the first public value, and each next one is the cube of this one, a periodic
 /// column's entry and, where the preprocessed column is one, the second public value.
-pub(crate) const CUBES: Form = Form {
+pub(crate) static CUBES: Form = Form {
     layout: PlainLayout {
         width: 1,
         preprocessed_width: 1,
@@ -100,7 +100,7 @@ pub(crate) const CUBES: Form = Form {
 
 /// Each next entry is the seventh power of this one plus one, the first comes after the last, and
 /// the next row of the preprocessed column has its negative.
-pub(crate) const POWERS: Form = Form {
+pub(crate) static POWERS: Form = Form {
     layout: PlainLayout {
         width: 1,
         preprocessed_width: 1,
@@ -125,7 +125,7 @@ pub(crate) const POWERS: Form = Form {
 };
 
 /// Nothing is asked of one column.
-pub(crate) const NO_CONSTRAINTS: Form = Form {
+pub(crate) static NO_CONSTRAINTS: Form = Form {
     layout: PlainLayout {
         width: 1,
         preprocessed_width: 0,

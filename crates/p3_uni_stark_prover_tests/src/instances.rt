@@ -28,13 +28,13 @@ pub(crate) struct Instance {
 }
 
 /// The parts of the system.
-fn form_of(system: System) -> Form {
+fn form_of(system: System) -> &'static Form {
     match system {
-        System::Fibonacci => FIBONACCI,
-        System::RangeCheck => RANGE_CHECK,
-        System::Cubes => CUBES,
-        System::Powers => POWERS,
-        System::Empty => NO_CONSTRAINTS,
+        System::Fibonacci => &FIBONACCI,
+        System::RangeCheck => &RANGE_CHECK,
+        System::Cubes => &CUBES,
+        System::Powers => &POWERS,
+        System::Empty => &NO_CONSTRAINTS,
     }
 }
 
@@ -193,7 +193,7 @@ fn fill_known(
 pub(crate) fn instance_of(rt: &impl Abort, alloc: Global, system: System, height: usize) -> Instance
     ensures well_formed { IsWellFormed result.air }
 {
-    let air = air_of(rt, alloc, &form_of(system));
+    let air = air_of(rt, alloc, form_of(system));
     let mut given = OwnedAssignment {
         trace: Vec::new(alloc),
         preprocessed: Vec::new(alloc),

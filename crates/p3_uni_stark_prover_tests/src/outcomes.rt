@@ -34,6 +34,8 @@ pub(crate) enum Change {
 /// What comes of it.
 #[derive(Clone, Copy, PartialEq, Eq)]
 pub(crate) enum Outcome {
+    /// The trace is committed to.
+    Committed,
     /// The trace satisfies its constraints, the proof is accepted, and both challengers are in one
     /// state, which draws this next.
     Accepted(usize),

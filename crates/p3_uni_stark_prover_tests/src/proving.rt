@@ -109,8 +109,12 @@ pub(crate) fn commit_preprocessed<P: Tested>(
     }
     let rows = instance.given.preprocessed.as_slice();
     assert!(rt;
-        rows.len() == instance.given.trace.len() && have_width(rows, width),
-        "the preprocessed columns have another shape"
+        rows.len() == instance.given.trace.len(),
+        "the preprocessed columns have another height"
+    );
+    assert!(rt;
+        have_width(rows, width),
+        "the preprocessed columns have another width"
     );
     let log_height = log2_strict_usize(rows.len());
     let columns = matrix_of_rows(alloc, rows, width).expect(rt, "memory");
@@ -158,13 +162,16 @@ pub(crate) fn prove_instance<P: Tested>(
     let layout = instance.air.layout;
     let rows = instance.given.trace.as_slice();
     assert!(rt;
-        instance.given.public_values.len() == layout.num_public_values
-            && instance.given.periodic.len() == layout.num_periodic_columns
-            && key.is_some() != (layout.preprocessed_width == 0)
-            && layout.width != 0
-            && have_width(rows, layout.width),
-        "the statement is ill-formed"
+        instance.given.public_values.len() == layout.num_public_values,
+        "public values"
     );
+    assert!(rt;
+        instance.given.periodic.len() == layout.num_periodic_columns,
+        "periodic columns"
+    );
+    assert!(rt; key.is_some() != (layout.preprocessed_width == 0), "a key");
+    assert!(rt; layout.width != 0, "no columns");
+    assert!(rt; have_width(rows, layout.width), "rows");
     let trace = matrix_of_rows(alloc, rows, layout.width).expect(rt, "memory");
     prove::<BabyBear, BabyBear4, [u8; 32], Sha256Challenger, P>(
         scheme,
