@@ -1,5 +1,4 @@
-//! What a test of a transcript runs by: a shape, what both sides draw along it, and a challenger
-//! for each of them.
+//! What a test of a transcript runs by: a shape, and what both sides draw along it.
 
 ghost use Rattle.std.specs.Prelude.{◌≡◌};
 ghost use Rattle.p3_fri_transcript.specs.Shapes.{fri_shape};
